@@ -1,0 +1,3 @@
+pub mod BlockLists
+pub mod Kept
+pub mod Names

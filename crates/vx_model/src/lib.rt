@@ -1,0 +1,28 @@
+//! The types and definitions that every other crate of the volume manager speaks of.
+//!
+//! Blocks are 512 bytes. Sites, volumes and disks go by numbers from 0, writes by numbers from 1.
+#![tactic(auto)]
+
+mod block_list;
+mod bytes;
+mod call;
+mod errors;
+mod history;
+mod link;
+mod name;
+mod no;
+mod site;
+mod state;
+mod units;
+
+pub use block_list::Blocks;
+pub use bytes::Bytes;
+pub use call::{Call, Reply, Update};
+pub use errors::{OutOfMemory, Stop};
+pub use history::Line;
+pub use link::{Link, Mode, Phase, Prot, SyncMode};
+pub use name::Name;
+pub use no::{Counted, Named, No, SiteName};
+pub use site::{Mark, PlexState, Role, SPhase};
+pub use state::{KeptLink, KeptLinks, KeptMode, State};
+pub use units::{Units, VolumeUnits};
