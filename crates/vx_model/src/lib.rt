@@ -23,6 +23,6 @@ pub use history::Line;
 pub use link::{Link, Mode, Phase, Prot, SyncMode};
 pub use name::Name;
 pub use no::{Counted, Named, No, SiteName};
-pub use site::{Mark, PlexState, Role, SPhase};
+pub use site::{Mark, PlexState, Role, SPhase, SiteState};
 pub use state::{KeptLink, KeptLinks, KeptMode, State};
 pub use units::{Units, VolumeUnits};
