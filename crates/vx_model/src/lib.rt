@@ -8,6 +8,7 @@ mod bytes;
 mod call;
 mod errors;
 mod history;
+pub mod laws;
 mod link;
 mod name;
 mod no;
