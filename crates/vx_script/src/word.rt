@@ -1,10 +1,6 @@
 // Values that stand for one word each.
 ghost use Rattle.std.specs.Prelude.{◌≡◌, List, ℕ};
-ghost use Rattle.vx_script.specs.Words.{Gives, next};
 ghost use Rattle.vx_script.specs.Keywords.{pick_of};
-
-use crate::Wrong;
-use crate::scan::{skip_spaces, split_word};
 
 /// A value that one word stands for.
 pub trait Word: Copy {
@@ -20,16 +16,4 @@ pub fn find_word<W: Word>(table: &[W], word: &[u8]) -> Option<W>
     ensures { result ≡ pick_of W.word_text table.now word.now }
 {
     table.iter().copied().find(|w| word == w.text())
-}
-
-/// The next word as a value in the table.
-pub fn next_of<'a, W: Word>(table: &[W], bytes: &'a [u8]) -> Result<(W, &'a [u8]), Wrong>
-    ensures { Gives (λ x. (x.0, x.1.now)) result (next (pick_of W.word_text table.now) bytes.now) }
-{
-    let here = skip_spaces(bytes);
-    let (word, rest) = split_word(here);
-    match find_word(table, word) {
-        Some(value) => Ok((value, rest)),
-        None => Err(Wrong::Left(here.len())),
-    }
 }
