@@ -1,7 +1,8 @@
 -- The lines of a script, how they are spelt, and the column at which a line is wrong.
-use Rattle.std.specs.Prelude.{ℕ, ◌+◌, ◌-◌, Bool, true, List, [], ◌∷◌, length, Option, Some, None, Result, Ok, Err, nat_lt, ◌==◌, if◌then◌else◌, codes}
+use Rattle.std.specs.Prelude.{◌≡◌, ℕ, ◌+◌, ◌-◌, Bool, true, List, [], ◌∷◌, length, Option, Some, None, Result, Ok, Err, nat_lt, ◌==◌, if◌then◌else◌, codes}
 use Rattle.vx_model.specs.declared.link.Prot.{Prot}
 use Rattle.vx_model.specs.declared.link.SyncMode.{SyncMode}
+use Rattle.vx_script.specs.Lines.{begins_with}
 use Rattle.vx_script.specs.Words.{Reading, after_spaces, word_of, after_word}
 use Rattle.vx_script.specs.Tokens.{Token, Key, Named, Number, Hex, NameList, SpellAll, words_of, joined}
 use Rattle.vx_script.specs.Keywords.{keyword_of}
@@ -99,6 +100,11 @@ tokens End = Key (codes "end") ∷ []
 -- the line says so
 abbrev pub IsLine : List ℕ → ScriptLine → Type 0
 IsLine bytes line = SpellAll (tokens line) (words_of bytes)
+
+-- an empty line, a line of spaces alone, or a comment
+abbrev pub IsQuiet : List (List ℕ) → Type 0
+IsQuiet [] = Unit {0}
+IsQuiet (word ∷ words) = begins_with 35 word ≡ true
 
 -- the printed line
 abbrev pub spelling : ScriptLine → List ℕ

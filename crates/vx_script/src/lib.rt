@@ -4,6 +4,7 @@
 mod choice;
 mod errors;
 mod keyword;
+mod laws;
 mod line;
 mod lines;
 mod names;
@@ -20,6 +21,7 @@ mod writer;
 mod wrong;
 
 pub use errors::LineErr;
+pub use laws::{grammar, printed_reads};
 pub use line::{DiskState, Layout, ReadPolicy, ScriptLine, VolumeLog, VolumeMap};
 pub use names::Names;
 pub use parser::parse;
