@@ -1,14 +1,17 @@
 -- How a format is read, for every format.
-use Rattle.std.proofs.Common.{◌≡◌, ℕ, Bool, true, false, cond, List, [], ◌∷◌, Option, Some, None, Ok, Err, refl, ap, sym, subst, ◌∙◌, inl, inr, ⊎_elim}
-use Rattle.std.specs.Prelude.{◌⊎◌}
+use Rattle.std.proofs.Common.{◌≡◌, ℕ, Bool, true, false, cond, List, [], ◌∷◌, ◌++◌, Option, Some, None, Ok, Err, refl, ap, sym, subst, ◌∙◌, inl, inr, ⊎_elim}
+use Rattle.std.specs.Prelude.{◌⊎◌, ◌&&◌, codes}
+use Rattle.std.specs.List.{list_all}
+use Rattle.std.proofs.lemmas.List.Folds.{list_all-append}
 use Rattle.std.specs.Str.{bytes_eq}
 use Rattle.std.proofs.lemmas.Slice.Eq.{bytes_eq-Decides}
-use Rattle.vx_script.specs.Words.{Reading, and_then, next, end_of, name_of, number_of, labelled, names_of}
+use Rattle.vx_script.specs.Words.{Reading, and_then, next, end_of, name_of, number_of, labelled, names_of, is_visible}
 use Rattle.vx_script.specs.Tokens.{Token, Spells, SpellAll, words_of}
 use Rattle.vx_script.specs.Keywords.{pick_of}
 use Rattle.vx_script.specs.Formats.{Place, Format, Done, Then, ended, read, name_after, number_after, names_after, pick}
 use Rattle.vx_script.specs.Grammar.{tokens}
 use Rattle.vx_script.specs.declared.line.ScriptLine.{ScriptLine}
+use Rattle.vx_script.proofs.SpellLemmas.{labelled_again}
 use Rattle.vx_script.proofs.WordLemmas.{next_only, end_only, next_found, end_found}
 
 pub spell_cons : (token : Token) (others : List Token) (words : List (List ℕ)) → SpellAll (token ∷ others) words
@@ -55,6 +58,10 @@ pub record IsPlace {V : Type 0} (place : Place V) : Type 0 where
   pub only : (word : List ℕ) (x : V) → Spells (place.token x) word → place.value word ≡ Some x
   pub found : (word : List ℕ) (x : V) → place.value word ≡ Some x → Spells (place.token x) word
   pub empty : place.value [] ≡ None
+  pub sample : V
+  pub word : List ℕ
+  pub fits : place.value word ≡ Some sample
+  pub shown : list_all is_visible word ≡ true
 
 -- whatever a format reads, its places are those of the line that it gives
 abbrev pub Faithful : Format → (List Token → List Token) → Type 0
@@ -126,18 +133,65 @@ unfolding labelled
 labelled_empty [] value e = e
 labelled_empty (c ∷ cs) value e = refl
 
-pub name_place : (label : List ℕ) → IsPlace (name_after label)
-name_place label = record { only = λ w x h. h; found = λ w x h. h; empty = labelled_empty label name_of no_name }
+label_shown : (label word : List ℕ) → list_all is_visible label ≡ true → list_all is_visible word ≡ true → list_all is_visible (label ++ word) ≡ true
+label_shown label word l w = list_all-append is_visible label word ∙ ap (λ (t : Bool). t && list_all is_visible word) l ∙ w
 
-pub number_place : (label : List ℕ) → IsPlace (number_after label)
-number_place label = record { only = λ w x h. h; found = λ w x h. h; empty = labelled_empty label number_of no_number }
+name_a : name_of (codes "a") ≡ Some (codes "a")
+unfolding name_of
+name_a = refl
+
+number_0 : number_of (codes "0") ≡ Some 0
+unfolding number_of
+number_0 = refl
+
+names_a : names_of (codes "a") ≡ Some (codes "a" ∷ [])
+unfolding names_of name_of
+names_a = refl
+
+pub name_place : (label : List ℕ) → list_all is_visible label ≡ true → IsPlace (name_after label)
+name_place label e = record {
+  only = λ w x h. h;
+  found = λ w x h. h;
+  empty = labelled_empty label name_of no_name;
+  sample = codes "a";
+  word = label ++ codes "a";
+  fits = labelled_again label name_of (codes "a") ∙ name_a;
+  shown = label_shown label (codes "a") e refl;
+}
+
+pub number_place : (label : List ℕ) → list_all is_visible label ≡ true → IsPlace (number_after label)
+number_place label e = record {
+  only = λ w x h. h;
+  found = λ w x h. h;
+  empty = labelled_empty label number_of no_number;
+  sample = 0;
+  word = label ++ codes "0";
+  fits = labelled_again label number_of (codes "0") ∙ number_0;
+  shown = label_shown label (codes "0") e refl;
+}
 
 no_names : names_of [] ≡ None
 unfolding names_of name_of
 no_names = refl
 
-pub names_place : (label : List ℕ) → IsPlace (names_after label)
-names_place label = record { only = λ w x h. h; found = λ w x h. h; empty = labelled_empty label names_of no_names }
+pub names_place : (label : List ℕ) → list_all is_visible label ≡ true → IsPlace (names_after label)
+names_place label e = record {
+  only = λ w x h. h;
+  found = λ w x h. h;
+  empty = labelled_empty label names_of no_names;
+  sample = codes "a" ∷ [];
+  word = label ++ codes "a";
+  fits = labelled_again label names_of (codes "a") ∙ names_a;
+  shown = label_shown label (codes "a") e refl;
+}
 
-pub pick_place : {V : Type 0} (text : V → List ℕ) (all : List V) → ((x : V) → pick_of text all (text x) ≡ Some x) → pick_of text all [] ≡ None → IsPlace (pick text all)
-pick_place text all again empty = record { only = λ w x h. ap (pick_of text all) h ∙ again x; found = λ w x e. picked text all w x e; empty = empty }
+pub pick_place : {V : Type 0} (text : V → List ℕ) (all : List V) (sample : V) → ((x : V) → pick_of text all (text x) ≡ Some x) → pick_of text all [] ≡ None → list_all is_visible (text sample) ≡ true → IsPlace (pick text all)
+pick_place text all sample again empty shown = record {
+  only = λ w x h. ap (pick_of text all) h ∙ again x;
+  found = λ w x e. picked text all w x e;
+  empty = empty;
+  sample = sample;
+  word = text sample;
+  fits = again sample;
+  shown = shown;
+}

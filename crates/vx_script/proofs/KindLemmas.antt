@@ -53,12 +53,12 @@ layout_faithful : (site volume : List ℕ) (blocks mirrors : ℕ) (word : Layout
 unfolding layout_format
 layout_faithful site volume blocks mirrors IsConcat = tail_faithful site volume blocks mirrors Concat
 layout_faithful site volume blocks mirrors IsStripe =
-    (number_place (codes "ncol="), λ columns. (number_place (codes "width="), λ width. tail_faithful site volume blocks mirrors (Stripe columns width)))
+    (number_place (codes "ncol=") refl, λ columns. (number_place (codes "width=") refl, λ width. tail_faithful site volume blocks mirrors (Stripe columns width)))
 
 call_faithful : (thread : ℕ) (verb : CallVerb) → Faithful (call_more thread verb) (λ ts. Key (codes "t") ∷ Number [] thread ∷ Key (call_text verb) ∷ ts)
 unfolding call_more
-call_faithful thread CallsWrite = (name_place [], λ volume. (number_place [], λ block. (number_place [], λ count. (byte_place, λ fill. refl))))
-call_faithful thread CallsRead = (name_place [], λ volume. (number_place [], λ block. refl))
+call_faithful thread CallsWrite = (name_place [] refl, λ volume. (number_place [] refl, λ block. (number_place [] refl, λ count. (byte_place, λ fill. refl))))
+call_faithful thread CallsRead = (name_place [] refl, λ volume. (number_place [] refl, λ block. refl))
 
 site_tokens : (verb : SiteVerb) (a : List ℕ) → tokens (site_line verb a) ≡ one_site (site_text verb) a
 site_tokens RawVerb a = refl
@@ -107,23 +107,23 @@ plex_tokens AttachPlex a b n = refl
 
 faithful : (k : Keyword) → Faithful (format_of k) (λ ts. Key (text_of k) ∷ ts)
 unfolding site_format disk_format fuse_format group_format volume_format plex_format rvg_format write_format put_format deliver_format call_format end_format of_site_format of_number_format of_span_format of_link_format of_pair_format
-faithful SiteKey = (name_place [], λ site. (number_place [], λ disks. (number_place [], λ blocks. refl)))
-faithful DiskKey = (name_place [], λ site. (number_place [], λ disk. (disk_state_place, λ state. refl)))
-faithful FuseKey = (name_place [], λ site. (number_place [], λ writes. (number_place [], λ bits. refl)))
-faithful GroupKey = (name_place [], λ site. (group_place, λ verb. group_tokens verb site))
-faithful VolumeKey = (name_place [], λ site. (name_place [], λ volume. (number_place [], λ blocks. (number_place (codes "mirrors="), λ mirrors. (layout_place, λ word. layout_faithful site volume blocks mirrors word)))))
-faithful PlexKey = (name_place [], λ site. (name_place [], λ volume. (number_place [], λ plex. (plex_place, λ verb. plex_tokens verb site volume plex))))
-faithful RvgKey = (name_place [], λ site. (name_place (codes "srl="), λ srl. (name_place (codes "dcm="), λ dcm. (names_place (codes "vols="), λ volumes. refl))))
-faithful WriteKey = (name_place [], λ site. (name_place [], λ volume. (number_place [], λ start. (number_place [], λ count. (byte_place, λ fill. refl)))))
-faithful PutKey = (name_place [], λ site. (name_place [], λ volume. (number_place [], λ start. (block_place, λ bytes. refl))))
-faithful DeliverKey = (number_place [], λ packet. refl)
-faithful CallKey = (number_place [], λ thread. (call_place, λ verb. call_faithful thread verb))
+faithful SiteKey = (name_place [] refl, λ site. (number_place [] refl, λ disks. (number_place [] refl, λ blocks. refl)))
+faithful DiskKey = (name_place [] refl, λ site. (number_place [] refl, λ disk. (disk_state_place, λ state. refl)))
+faithful FuseKey = (name_place [] refl, λ site. (number_place [] refl, λ writes. (number_place [] refl, λ bits. refl)))
+faithful GroupKey = (name_place [] refl, λ site. (group_place, λ verb. group_tokens verb site))
+faithful VolumeKey = (name_place [] refl, λ site. (name_place [] refl, λ volume. (number_place [] refl, λ blocks. (number_place (codes "mirrors=") refl, λ mirrors. (layout_place, λ word. layout_faithful site volume blocks mirrors word)))))
+faithful PlexKey = (name_place [] refl, λ site. (name_place [] refl, λ volume. (number_place [] refl, λ plex. (plex_place, λ verb. plex_tokens verb site volume plex))))
+faithful RvgKey = (name_place [] refl, λ site. (name_place (codes "srl=") refl, λ srl. (name_place (codes "dcm=") refl, λ dcm. (names_place (codes "vols=") refl, λ volumes. refl))))
+faithful WriteKey = (name_place [] refl, λ site. (name_place [] refl, λ volume. (number_place [] refl, λ start. (number_place [] refl, λ count. (byte_place, λ fill. refl)))))
+faithful PutKey = (name_place [] refl, λ site. (name_place [] refl, λ volume. (number_place [] refl, λ start. (block_place, λ bytes. refl))))
+faithful DeliverKey = (number_place [] refl, λ packet. refl)
+faithful CallKey = (number_place [] refl, λ thread. (call_place, λ verb. call_faithful thread verb))
 faithful EndKey = refl
-faithful (SiteKeys verb) = (name_place [], λ site. site_tokens verb site)
-faithful (NumberKeys verb) = (name_place [], λ site. (number_place [], λ n. number_tokens verb site n))
-faithful (SpanKeys verb) = (name_place [], λ site. (name_place [], λ volume. (number_place [], λ start. (number_place [], λ count. span_tokens verb site volume start count))))
-faithful (LinkKeys verb) = (name_place [], λ first. (name_place [], λ second. (sync_place, λ sync. (prot_place, λ prot. link_tokens verb first second sync prot))))
-faithful (PairKeys verb) = (name_place [], λ first. (name_place [], λ second. pair_tokens verb first second))
+faithful (SiteKeys verb) = (name_place [] refl, λ site. site_tokens verb site)
+faithful (NumberKeys verb) = (name_place [] refl, λ site. (number_place [] refl, λ n. number_tokens verb site n))
+faithful (SpanKeys verb) = (name_place [] refl, λ site. (name_place [] refl, λ volume. (number_place [] refl, λ start. (number_place [] refl, λ count. span_tokens verb site volume start count))))
+faithful (LinkKeys verb) = (name_place [] refl, λ first. (name_place [] refl, λ second. (sync_place, λ sync. (prot_place, λ prot. link_tokens verb first second sync prot))))
+faithful (PairKeys verb) = (name_place [] refl, λ first. (name_place [] refl, λ second. pair_tokens verb first second))
 
 -- the keyword of a line, and its other places
 record Kind (line : ScriptLine) : Type 0 where

@@ -7,4 +7,5 @@ pub mod LineLemmas
 pub mod NamesLemmas
 pub mod PlaceLemmas
 pub mod PrintLemmas
+pub mod SpellLemmas
 pub mod WordLemmas

@@ -1,10 +1,12 @@
 -- The laws of the places that take one of a few words or digits, and of the keywords.
-use Rattle.std.proofs.Common.{◌≡◌, ℕ, ◌<◌, Bool, true, false, not, cond, List, [], ◌∷◌, length, Option, Some, None, Result, Ok, Err, refl, arith, ap, sym, subst, ◌∙◌, ⊎_elim}
+use Rattle.std.proofs.Common.{◌≡◌, ℕ, zero, suc, ◌<◌, Bool, true, false, not, cond, List, [], ◌∷◌, length, replicate, Option, Some, None, Result, Ok, Err, refl, arith, ap, sym, subst, ◌∙◌, ⊎_elim}
 use Rattle.std.specs.Prelude.{codes, ◌&&◌}
 use Rattle.std.specs.List.{list_all, find}
 use Rattle.std.specs.Str.{bytes_eq}
 use Rattle.std.proofs.lemmas.Slice.Eq.{bytes_eq-Decides}
-use Rattle.hex.specs.Hex.{decode_sized}
+use Rattle.hex.specs.Hex.{decode_sized, encode_lower, IsBytes}
+use Rattle.hex.proofs.OnLiterals.{hex_on_literals}
+use Rattle.vx_script.proofs.SpellLemmas.{hex_again, hex_visible}
 use Rattle.hex.specs.declared.error.FromHexError.{FromHexError}
 use Rattle.vx_model.specs.declared.link.SyncMode.{SyncMode}
 use Rattle.vx_model.specs.declared.link.SyncMode.TheVariants.{Off as SyncOff, Override as SyncOverride, Fail as SyncFail}
@@ -48,7 +50,7 @@ disk_state_again Fail = refl
 disk_state_again Work = refl
 
 pub disk_state_place : IsPlace (pick disk_state_text DISK_STATES)
-disk_state_place = pick_place disk_state_text DISK_STATES disk_state_again refl
+disk_state_place = pick_place disk_state_text DISK_STATES Fail disk_state_again refl refl
 
 group_again : (x : GroupVerb) → pick_of group_text GROUP_VERBS (group_text x) ≡ Some x
 group_again Init = refl
@@ -56,35 +58,35 @@ group_again Deport = refl
 group_again Import = refl
 
 pub group_place : IsPlace (pick group_text GROUP_VERBS)
-group_place = pick_place group_text GROUP_VERBS group_again refl
+group_place = pick_place group_text GROUP_VERBS Init group_again refl refl
 
 plex_again : (x : PlexVerb) → pick_of plex_text PLEX_VERBS (plex_text x) ≡ Some x
 plex_again DetachPlex = refl
 plex_again AttachPlex = refl
 
 pub plex_place : IsPlace (pick plex_text PLEX_VERBS)
-plex_place = pick_place plex_text PLEX_VERBS plex_again refl
+plex_place = pick_place plex_text PLEX_VERBS DetachPlex plex_again refl refl
 
 layout_again : (x : LayoutWord) → pick_of layout_text LAYOUT_WORDS (layout_text x) ≡ Some x
 layout_again IsConcat = refl
 layout_again IsStripe = refl
 
 pub layout_place : IsPlace (pick layout_text LAYOUT_WORDS)
-layout_place = pick_place layout_text LAYOUT_WORDS layout_again refl
+layout_place = pick_place layout_text LAYOUT_WORDS IsConcat layout_again refl refl
 
 log_again : (x : VolumeLog) → pick_of log_text VOLUME_LOGS (log_text x) ≡ Some x
 log_again NoLog = refl
 log_again Drl = refl
 
 pub log_place : IsPlace (pick log_text VOLUME_LOGS)
-log_place = pick_place log_text VOLUME_LOGS log_again refl
+log_place = pick_place log_text VOLUME_LOGS NoLog log_again refl refl
 
 map_again : (x : VolumeMap) → pick_of map_text VOLUME_MAPS (map_text x) ≡ Some x
 map_again NoMap = refl
 map_again Fmr = refl
 
 pub map_place : IsPlace (pick map_text VOLUME_MAPS)
-map_place = pick_place map_text VOLUME_MAPS map_again refl
+map_place = pick_place map_text VOLUME_MAPS NoMap map_again refl refl
 
 sync_again : (x : SyncMode) → pick_of sync_text SYNC_MODES (sync_text x) ≡ Some x
 sync_again SyncOff = refl
@@ -92,7 +94,7 @@ sync_again SyncOverride = refl
 sync_again SyncFail = refl
 
 pub sync_place : IsPlace (pick sync_text SYNC_MODES)
-sync_place = pick_place sync_text SYNC_MODES sync_again refl
+sync_place = pick_place sync_text SYNC_MODES SyncOff sync_again refl refl
 
 prot_again : (x : Prot) → pick_of prot_text PROTS (prot_text x) ≡ Some x
 prot_again ProtOff = refl
@@ -102,14 +104,14 @@ prot_again ProtDcm = refl
 prot_again ProtAutodcm = refl
 
 pub prot_place : IsPlace (pick prot_text PROTS)
-prot_place = pick_place prot_text PROTS prot_again refl
+prot_place = pick_place prot_text PROTS ProtOff prot_again refl refl
 
 call_again : (x : CallVerb) → pick_of call_text CALL_VERBS (call_text x) ≡ Some x
 call_again CallsWrite = refl
 call_again CallsRead = refl
 
 pub call_place : IsPlace (pick call_text CALL_VERBS)
-call_place = pick_place call_text CALL_VERBS call_again refl
+call_place = pick_place call_text CALL_VERBS CallsWrite call_again refl refl
 
 -- digits
 only_byte_is : (r : Result (List ℕ) FromHexError) (b : ℕ) → only_byte r ≡ Some b → r ≡ Ok (b ∷ [])
@@ -122,13 +124,32 @@ decoded_is : (r : Result (List ℕ) FromHexError) (bytes : List ℕ) → decoded
 decoded_is (Ok x) bytes e = ap (λ (y : List ℕ). Ok y) (some_same x bytes e)
 decoded_is (Err x) bytes e = absurd (cc)
 
+zero_byte : only_byte (decode_sized (codes "00") 1) ≡ Some 0
+unfolding hex_on_literals
+zero_byte = refl
+
 pub byte_place : IsPlace byte
 unfolding byte_of
-byte_place = record { only = λ w x h. ap only_byte h; found = λ w x e. only_byte_is (decode_sized w 1) x e; empty = refl }
+byte_place = record { only = λ w x h. ap only_byte h; found = λ w x e. only_byte_is (decode_sized w 1) x e; empty = refl; sample = 0; word = codes "00"; fits = zero_byte; shown = refl }
+
+-- the digits of zeros
+unfoldable zeros : ℕ → List ℕ
+zeros n = replicate n 0
+
+zeros_bytes : (n : ℕ) → IsBytes (zeros n)
+unfolding zeros
+zeros_bytes zero i = omega arith
+zeros_bytes (suc n) zero = omega arith
+zeros_bytes (suc n) (suc i) = zeros_bytes n i
+
+length_zeros : (n : ℕ) → length (zeros n) ≡ n
+unfolding zeros
+length_zeros zero = refl
+length_zeros (suc n) = ap (λ (k : ℕ). suc k) (length_zeros n)
 
 pub block_place : IsPlace block
 unfolding block_of
-block_place = record { only = λ w x h. ap decoded h; found = λ w x e. decoded_is (decode_sized w 512) x e; empty = refl }
+block_place = record { only = λ w x h. ap decoded h; found = λ w x e. decoded_is (decode_sized w 512) x e; empty = refl; sample = zeros 512; word = encode_lower (zeros 512); fits = ap decoded (hex_again 512 (zeros 512) (length_zeros 512) (zeros_bytes 512)); shown = hex_visible (zeros 512) (zeros_bytes 512) }
 
 pub keyword_again : (k : Keyword) → keyword_of (text_of k) ≡ Some k
 unfolding keyword_of
@@ -245,5 +266,17 @@ policy_empty : policy_of [] ≡ None
 unfolding policy_of
 policy_empty = ap preferred (labelled_empty (codes "rdpol=prefer:") number_of no_number)
 
+policy_round : policy_of (codes "rdpol=round") ≡ Some Round
+unfolding policy_of
+policy_round = refl
+
 pub policy_is_place : IsPlace policy_place
-policy_is_place = record { only = policy_only; found = policy_found; empty = policy_empty }
+policy_is_place = record {
+  only = policy_only;
+  found = policy_found;
+  empty = policy_empty;
+  sample = Round;
+  word = codes "rdpol=round";
+  fits = policy_round;
+  shown = refl;
+}

@@ -16,6 +16,7 @@ use Rattle.vx_script.specs.Grammar.{line_at, tokens, spelling}
 use Rattle.vx_script.specs.Tokens.{Token, Key, Named, Number, Hex, NameList, Spells, SpellAll, words_of, before_word, is_in_word, printed, spaced, joined, IsWord, FitsToken, FitAll}
 use Rattle.vx_script.specs.declared.line.ScriptLine.{ScriptLine}
 use Rattle.vx_script.proofs.KindLemmas.{line_only}
+use Rattle.vx_script.proofs.SpellLemmas.{both, word_from, word_cons, visible, labelled_again, hex_word, hex_again}
 
 cond_false : {A : Type 0} (t : Bool) (x y : A) → t ≡ false → cond t x y ≡ y
 cond_false t x y e = ap (λ (b : Bool). cond b x y) e
@@ -26,10 +27,6 @@ cond_true t x y e = ap (λ (b : Bool). cond b x y) e
 goes : (c : ℕ) (bytes : List ℕ) → IsWord (c ∷ bytes) → cond (eqb c 32) false true ≡ true
 goes c [] is = cond_false (eqb c 32) false true is
 goes c (d ∷ bytes) is = cond_false (eqb c 32) false true is.0
-
-both : (a b : Bool) → (a && b) ≡ true → (a ≡ true) × (b ≡ true)
-both true b e = (refl, e)
-both false b e = absurd (cc)
 
 -- a word and then a space, or nothing
 words_of_word : (word rest : List ℕ) → IsWord word → is_in_word rest ≡ false → words_of (word ++ rest) ≡ word ∷ words_of rest
@@ -44,13 +41,6 @@ words_of_word (b ∷ c ∷ bytes) rest is ends =
 spaced_ends : (places : List Token) → is_in_word (spaced places) ≡ false
 spaced_ends [] = refl
 spaced_ends (place ∷ places) = refl
-
--- bytes that are all of a kind without the space are a word
-word_from : (p : ℕ → Bool) → ((b : ℕ) → p b ≡ true → eqb b 32 ≡ false) → (word : List ℕ) → 0 < length word → list_all p word ≡ true → IsWord word
-word_from p apart [] some all = absurd (omega arith)
-word_from p apart (b ∷ []) some all = apart b (both (p b) true all).0
-word_from p apart (b ∷ c ∷ bytes) some all =
-    let e = both (p b) (list_all p (c ∷ bytes)) all in (apart b e.0, word_from p apart (c ∷ bytes) (omega arith) e.1)
 
 digits_after_push : (n : ℕ) (ds : List ℕ) (d : ℕ) → digits_after n (ds ++ d ∷ []) ≡ 10 * digits_after n ds + (d - 48)
 digits_after_push n [] d = refl
@@ -109,32 +99,11 @@ name_word name e =
     word_from is_name_byte name_apart name (grind arith) a.1
 
 -- a label before a word
-word_cons : (b : ℕ) (rest : List ℕ) → eqb b 32 ≡ false → IsWord rest → IsWord (b ∷ rest)
-word_cons b [] e is = e
-word_cons b (c ∷ rest) e is = (e, is)
-
-visible : (b : ℕ) → is_visible b ≡ true → eqb b 32 ≡ false
-visible b e = grind arith
-
 label_word : (label word : List ℕ) → list_all is_visible label ≡ true → IsWord word → IsWord (label ++ word)
 label_word [] word all is = is
 label_word (b ∷ label) word all is =
     let a = both (is_visible b) (list_all is_visible label) all in
     word_cons b (label ++ word) (visible b a.0) (label_word label word a.1 is)
-
-take_label : (label word : List ℕ) → take (length label) (label ++ word) ≡ label
-take_label [] word = refl
-take_label (b ∷ label) word = ap (λ (l : List ℕ). b ∷ l) (take_label label word)
-
-drop_label : (label word : List ℕ) → drop (length label) (label ++ word) ≡ word
-drop_label [] word = refl
-drop_label (b ∷ label) word = drop_label label word
-
-labelled_again : {V : Type 0} (label : List ℕ) (value : List ℕ → Option V) (word : List ℕ) → labelled label value (label ++ word) ≡ value word
-unfolding labelled
-labelled_again label value word =
-    let same : bytes_eq (take (length label) (label ++ word)) label ≡ true = (bytes_eq-Decides (take (length label) (label ++ word)) label).1 (take_label label word) in
-    cond_true (bytes_eq (take (length label) (label ++ word)) label) (value (drop (length label) (label ++ word))) None same ∙ ap value (drop_label label word)
 
 -- names with commas between are a word, and are read again
 word_append : (a b : List ℕ) → IsWord a → IsWord b → IsWord (a ++ b)
@@ -168,25 +137,6 @@ names_again (name ∷ next ∷ names) some all =
     ap all_names (slice_split_at is_comma name 44 (join_with_byte 44 (next ∷ names)) (no_comma name (name_bytes name a.0)) refl)
     ∙ ap (λ o. both_names o (all_names (slice_split is_comma (join_with_byte 44 (next ∷ names))))) (name_again name a.0)
     ∙ ap (both_names (Some name)) (names_again (next ∷ names) more a.1)
-
--- the digits of bytes are a word, and are read again
-digit_visible : (x d : ℕ) → hex_digit_value x ≡ Some d → eqb x 32 ≡ false
-digit_visible x d e = grind arith
-
-lower_visible : (d : ℕ) → d < 16 → eqb (slice_index lower_digits d) 32 ≡ false
-lower_visible d small = digit_visible (slice_index lower_digits d) d (IsDigits-lower_digits d small)
-
-hex_word : (bytes : List ℕ) → 0 < length bytes → IsBytes bytes → IsWord (encode_lower bytes)
-unfolding encode_with
-hex_word [] some fits = absurd (omega arith)
-hex_word (b ∷ []) some fits = let small : b < 256 = fits 0 in (lower_visible (b / 16) (omega arith), lower_visible (b % 16) (omega arith))
-hex_word (b ∷ c ∷ bytes) some fits =
-    let small : b < 256 = fits 0 in
-    (lower_visible (b / 16) (omega arith), (lower_visible (b % 16) (omega arith), hex_word (c ∷ bytes) (omega arith) (λ k. fits (suc k))))
-
-hex_again : (n : ℕ) (bytes : List ℕ) → length bytes ≡ n → IsBytes bytes → decode_sized (encode_lower bytes) n ≡ Ok bytes
-hex_again n bytes len fits =
-    decode_sized-twice (encode_lower bytes) n (omega (arith, length-encode_with lower_digits bytes)) ∙ decode_of-encode_lower bytes fits
 
 -- each place is printed as a word that spells it
 printed_word : (place : Token) → FitsToken place → IsWord (printed place)
