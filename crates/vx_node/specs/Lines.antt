@@ -1,0 +1,31 @@
+-- The lines that are built today.
+use Rattle.std.specs.Prelude.{ℕ, List, Bool, true, false, Option, Some, None, Result, Ok, Err}
+use Rattle.vx_script.specs.Grammar.{line_of}
+use Rattle.vx_script.specs.declared.line.ScriptLine.{ScriptLine}
+use Rattle.vx_script.specs.declared.line.ScriptLine.TheVariants.{Site, Raw, Disk, Write, Put, Read, Show, Status}
+
+-- whether lines of this kind are built
+abbrev pub is_built : ScriptLine → Bool
+is_built (Site _ _ _) = true
+is_built (Raw _) = true
+is_built (Disk _ _ _) = true
+is_built (Write _ _ _ _ _) = true
+is_built (Put _ _ _ _) = true
+is_built (Read _ _ _ _) = true
+is_built (Show _ _ _ _) = true
+is_built (Status _) = true
+is_built _ = false
+
+abbrev pub if_built : Bool → ScriptLine → Result (Option ScriptLine) ℕ
+if_built true line = Ok (Some line)
+if_built false line = Err 1
+
+-- a line of the grammar whose kind is not built is wrong at column 1
+abbrev pub only_built : Result (Option ScriptLine) ℕ → Result (Option ScriptLine) ℕ
+only_built (Err column) = Err column
+only_built (Ok None) = Ok None
+only_built (Ok (Some line)) = if_built (is_built line) line
+
+-- what these bytes say: a line, or nothing where they are empty or a comment, or the column at which they are wrong
+unfoldable pub script_line : List ℕ → Result (Option ScriptLine) ℕ
+script_line bytes = only_built (line_of bytes)

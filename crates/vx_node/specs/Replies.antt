@@ -1,0 +1,21 @@
+-- The text of each reply.
+use Rattle.std.specs.Prelude.{ℕ, zero, suc, ◌+◌, List, [], ◌∷◌, ◌++◌, codes}
+use Rattle.std.specs.Fmt.{decimal}
+use Rattle.vx_model.specs.Content.{block_of, blocks_in}
+use Rattle.vx_node.specs.declared.said.Said.{Said}
+use Rattle.vx_node.specs.declared.said.Said.TheVariants.{Done, DoneAt, Got, Shown, Refused}
+use Rattle.vx_report.specs.BlockText.{block_text}
+use Rattle.vx_report.specs.Refusals.{refusal_text}
+use Rattle.vx_report.specs.Statuses.{status_text}
+
+-- a line for each of so many blocks of these bytes, from block k on
+abbrev pub blocks_text : List ℕ → ℕ → ℕ → List ℕ
+blocks_text bytes k zero = []
+blocks_text bytes k (suc n) = block_text (block_of bytes k) ++ blocks_text bytes (k + 1) n
+
+abbrev pub text_of : Said → List ℕ
+text_of Done = codes "done" ++ 10 ∷ []
+text_of (DoneAt number) = codes "done " ++ decimal number ++ 10 ∷ []
+text_of (Got bytes) = blocks_text bytes 0 (blocks_in bytes)
+text_of (Shown view) = status_text view
+text_of (Refused why) = refusal_text why

@@ -1,0 +1,107 @@
+-- What a yard stands for: how its racks and what it keeps of each site agree with the world.
+use Rattle.std.specs.Prelude.{◌≡◌, ℕ, ◌+◌, ◌-◌, ◌<◌, ◌≤◌, ◌==◌, ◌&&◌, min, List, length, count_by, Option, Some, None, slice_get, IsTrue, IsFalse}
+use Rattle.vx_model.specs.Content.{zero_block}
+use Rattle.vx_model.specs.World.{Node, World}
+use Rattle.vx_model.specs.declared.site.SiteState.TheVariants.{Bare as IsBare, Up as IsUp}
+use Rattle.vx_model.specs.declared.units.Units.{Units}
+use Rattle.vx_disk.specs.Shelf.{Meaning, Keeps}
+use Rattle.vx_disk.specs.declared.shelf.Shelf.{Ghosts}
+use Rattle.vx_rvg.specs.Views.{Core}
+use Rattle.vx_rvg.specs.Volumes.{Stands}
+use Rattle.vx_node.specs.declared.engine.Engine.{Engine}
+use Rattle.vx_node.specs.declared.engine.Engine.TheVariants.{Bare, Up, Gone}
+use Rattle.vx_node.specs.Facts.{values_from}
+use Rattle.vx_node.specs.Steps.{Fails}
+
+-- a rack that is not fitted, is up, and has no fuse
+pub record IsUnfitted (m : Meaning) : Type 0 where
+  pub units : m.units ≡ 0
+  pub up : IsFalse m.down
+  pub unarmed : IsFalse m.armed
+
+-- a rack with so many disks of so many blocks, which is up and has no fuse
+pub record IsFitted (disks blocks : ℕ) (m : Meaning) : Type 0 where
+  pub units : m.units ≡ disks
+  pub size : (u : ℕ) → u < disks → m.size u ≡ blocks
+  pub up : IsFalse m.down
+  pub unarmed : IsFalse m.armed
+
+-- the disks of a bare site: those between the first and the last hold zeros
+pub record IsBareAt (n : Node) (m : Meaning) : Type 0 where
+  pub state : n.state ≡ IsBare
+  pub fitted : IsFitted n.disks n.blocks m
+  pub some : 8 ≤ n.blocks
+  pub blank : (u b : ℕ) → 0 < u → u + 1 < n.disks → b < n.blocks → Keeps m u b zero_block
+
+-- the units of a raw set: its log on disk 0, its maps on the last disk, and a volume on each disk between
+abbrev pub raw_units : ℕ → Units
+raw_units disks = record { srl = 0; maps = disks - 1; vols = values_from (λ k. k) 1 (disks - 2) }
+
+-- the disks of a raw set under its replicated volume group
+pub record IsUpAt (n : Node) (c : Core) (m : Meaning) : Type 0 where
+  pub state : n.state ≡ IsUp
+  pub fitted : IsFitted n.disks n.blocks m
+  pub disks : 3 ≤ n.disks
+  pub units : c.units ≡ raw_units n.disks
+  pub ring : c.log.ring ≡ n.ring
+  pub session : c.log.session ≡ n.session
+  pub head : c.head ≡ n.safe
+  pub halted : c.halted ≡ n.halted
+  pub volumes : length n.volumes ≡ n.disks - 2
+  pub sizes : (v : ℕ) → v < n.disks - 2 → n.base.size v ≡ n.blocks
+  -- while no write failed, whatever a crash leaves has the content
+  pub content : n.halted ≡ None → Stands c.units.vols n.base m
+
+module _ {R : Type 0} {g : Ghosts R} where
+  abbrev pub StandsAt : Node → Engine R g → Type 0
+  StandsAt n (Bare rack) = IsBareAt n (g.meaning rack)
+  StandsAt n (Up rvg) = IsUpAt n rvg.core (g.meaning rvg.shelf)
+  StandsAt n Gone = ⊥
+
+  -- the engine of a number that no site has
+  abbrev pub IsUnused : Engine R g → Type 0
+  IsUnused (Bare rack) = IsUnfitted (g.meaning rack)
+  IsUnused (Up rvg) = ⊥
+  IsUnused Gone = ⊥
+
+  -- whether the contents of its disks are told
+  abbrev pub IsToldAt : Engine R g → Type 0
+  IsToldAt (Bare rack) = IsTrue (g.meaning rack).tells
+  IsToldAt (Up rvg) = IsTrue (g.meaning rvg.shelf).tells
+  IsToldAt Gone = ⊥
+
+  -- the count of the faults of a disk
+  abbrev pub faults_at : Engine R g → ℕ → ℕ
+  faults_at (Bare rack) d = (g.meaning rack).disk_faults d
+  faults_at (Up rvg) d = (g.meaning rvg.shelf).disk_faults d
+  faults_at Gone d = 0
+
+  abbrev pub fault_count : Option (Engine R g) → ℕ → ℕ
+  fault_count None d = 0
+  fault_count (Some engine) d = faults_at engine d
+
+  -- the count of a disk of a site
+  abbrev pub faults_of : List (Engine R g) → ℕ → ℕ → ℕ
+  faults_of engines s d = fault_count (slice_get engines s) d
+
+  pub record AreTold (engines : List (Engine R g)) : Type 0 where
+    pub each : (s : ℕ) (e : Engine R g) → slice_get engines s ≡ Some e → IsToldAt e
+
+  -- each site of the world has its engine, and the engines of other numbers are not used
+  pub record EnginesStand (w : World) (engines : List (Engine R g)) : Type 0 where
+    pub eight : length engines ≡ 8
+    pub few : w.sites ≤ 8
+    pub sites : (s : ℕ) (e : Engine R g) → s < w.sites → slice_get engines s ≡ Some e → StandsAt (w.nodes s) e
+    pub others : (s : ℕ) (e : Engine R g) → w.sites ≤ s → slice_get engines s ≡ Some e → IsUnused e
+
+-- how often a disk of a site is named
+abbrev pub times : Fails → ℕ → ℕ → ℕ
+times fails s d = count_by (λ f. (f.0 == s) && (f.1 == d)) fails
+
+-- a count rose by so much, or stands at its greatest value
+abbrev pub RoseBy : ℕ → ℕ → ℕ → Type 0
+RoseBy n before now = min (before + n) 0xffff_ffff_ffff_ffff ≤ now
+
+-- Each count of a disk of a site rose by as much as the list names it, or stands at its greatest value.
+pub record RoseAll (fails : Fails) (old new : ℕ → ℕ → ℕ) : Type 0 where
+  pub each : (s d : ℕ) → RoseBy (times fails s d) (old s d) (new s d)

@@ -1,0 +1,100 @@
+-- What a line does to the world, by cases on the line.
+use Rattle.std.specs.Prelude.{◌≡◌, ◌⊎◌, ℕ, ◌+◌, ◌*◌, ◌<◌, ◌≤◌, List, [], ◌∷◌, length, replicate, Option, Some, None, Result, Ok, Err, Bool, true, false, nat_le, nat_lt, if◌then◌else◌}
+use Rattle.vx_model.specs.Content.{Content, Write, block_of}
+use Rattle.vx_model.specs.World.{Node, World}
+use Rattle.vx_model.specs.Steps.{site_made, raw_made, written, half_written}
+use Rattle.vx_model.specs.declared.no.No.{No}
+use Rattle.vx_model.specs.declared.no.No.TheVariants.{Device, Limit}
+use Rattle.vx_model.specs.declared.no.Counted.TheVariants.{Number}
+use Rattle.vx_script.specs.declared.line.ScriptLine.{ScriptLine}
+use Rattle.vx_script.specs.declared.line.ScriptLine.TheVariants.{Site, Raw, Disk, Write as WriteLine, Put as PutLine, Read, Show, Status}
+use Rattle.vx_order.specs.Order.{refusal_of}
+use Rattle.vx_rvg.specs.Volumes.{Shows}
+use Rattle.vx_node.specs.declared.said.Said.{Said}
+use Rattle.vx_node.specs.declared.said.Said.TheVariants.{Done, DoneAt, Got, Shown, Refused}
+use Rattle.vx_node.specs.Facts.{facts_of, site_number, volume_number}
+use Rattle.vx_node.specs.Views.{view_of}
+use Rattle.vx_node.specs.Lines.{script_line}
+use Rattle.vx_node.specs.Replies.{text_of}
+
+-- the failed calls of a line: for each its site and its disk
+abbrev pub Fails : Type 0
+Fails = List (ℕ × ℕ)
+
+-- no disk failed, and the line is answered so
+pub record Cleanly (fails : Fails) (said reply : Said) (new next : World) : Type 0 where
+  pub none : fails ≡ []
+  pub says : said ≡ reply
+  pub leads : new ≡ next
+
+-- this disk of the site failed, and the reply says so
+pub record FailsAt (site disk : ℕ) (fails : Fails) (said : Said) (new next : World) : Type 0 where
+  pub one : fails ≡ (site, disk) ∷ []
+  pub says : said ≡ Refused (Device disk)
+  pub leads : new ≡ next
+
+-- some disk of the site failed, and nothing else changed
+pub record OnlyFails (site : ℕ) (fails : Fails) (said : Said) (new next : World) : Type 0 where
+  pub disk : ℕ
+  pub fails_at : FailsAt site disk fails said new next
+
+-- a write that is not refused: its number, or none is left, or a disk failed
+pub data Puts (w : World) (site : ℕ) (x : Write) (fails : Fails) (said : Said) (new : World) : Type 0 where
+  IsPut : (w.nodes site).safe < 0x7fff_ffff_ffff_ffff → Cleanly fails said (DoneAt ((w.nodes site).safe + 1)) new (written w site x) → Puts w site x fails said new
+  NoNumber : 0x7fff_ffff_ffff_ffff ≤ (w.nodes site).safe → Cleanly fails said (Refused (Limit Number 0x7fff_ffff_ffff_ffff)) new w → Puts w site x fails said new
+  PutFails : (disk : ℕ) → FailsAt site disk fails said new (half_written w site x disk) → Puts w site x fails said new
+
+-- so many blocks were read, which are those of the content where contents are told
+pub record Gets (told : Type 0) (c : Content) (volume start count : ℕ) (fails : Fails) (said : Said) (new next : World) : Type 0 where
+  pub bytes : List ℕ
+  pub size : length bytes ≡ 512 * count
+  pub shows : told → Shows c volume start count bytes
+  pub cleanly : Cleanly fails said (Got bytes) new next
+
+abbrev pub Fetches : Type 0 → World → List ℕ → List ℕ → ℕ → ℕ → Fails → Said → World → Type 0
+Fetches told w site volume start count fails said new =
+    let s = site_number w site in
+    Gets told (w.nodes s).base (volume_number (w.nodes s) volume) start count fails said new w ⊎ OnlyFails s fails said new w
+
+abbrev pub write_of : World → List ℕ → List ℕ → ℕ → List ℕ → Write
+write_of w site volume start bytes = record { volume = volume_number (w.nodes (site_number w site)) volume; start = start; bytes = bytes }
+
+-- a line that is not refused before it works
+abbrev pub Works : Type 0 → World → ScriptLine → Fails → Said → World → Type 0
+Works told w (Site name disks blocks) fails said new =
+    Cleanly fails said Done new (site_made w name disks blocks) ⊎ OnlyFails w.sites fails said new w
+Works told w (Raw site) fails said new =
+    let s = site_number w site in Cleanly fails said Done new (raw_made w s) ⊎ OnlyFails s fails said new w
+Works told w (Disk site disk state) fails said new = Cleanly fails said Done new w
+Works told w (WriteLine site volume start count fill) fails said new =
+    Puts w (site_number w site) (write_of w site volume start (replicate (512 * count) fill)) fails said new
+Works told w (PutLine site volume start bytes) fails said new =
+    Puts w (site_number w site) (write_of w site volume start bytes) fails said new
+Works told w (Read site volume start count) fails said new = Fetches told w site volume start count fails said new
+Works told w (Show site volume start count) fails said new = Fetches told w site volume start count fails said new
+Works told w (Status site) fails said new = Cleanly fails said (Shown (view_of w (w.nodes (site_number w site)))) new w
+Works told w other fails said new = ⊥
+
+abbrev pub StepBy : Option No → Type 0 → World → ScriptLine → Fails → Said → World → Type 0
+StepBy (Some why) told w line fails said new = Cleanly fails said (Refused why) new w
+StepBy None told w line fails said new = Works told w line fails said new
+
+-- The first refusal that holds in the one order is the reply, and nothing changes. Where there is none, the line works.
+abbrev pub Step : Type 0 → Bool → World → ScriptLine → Fails → Said → World → Type 0
+Step told files w line fails said new = StepBy (refusal_of (facts_of w) files line) told w line fails said new
+
+-- a line makes a step, and its reply is printed
+pub record Prints (told : Type 0) (files : Bool) (w : World) (line : ScriptLine) (fails : Fails) (text : List ℕ) (new : World) : Type 0 where
+  pub said : Said
+  pub step : Step told files w line fails said new
+  pub is : text ≡ text_of said
+
+-- an empty line or a comment is passed over
+abbrev pub SaidStep : Type 0 → Bool → World → Result (Option ScriptLine) ℕ → Fails → List ℕ → World → Type 0
+SaidStep told files w (Ok None) fails text new = (fails ≡ []) × (text ≡ []) × (new ≡ w)
+SaidStep told files w (Ok (Some line)) fails text new = Prints told files w line fails text new
+SaidStep told files w (Err column) fails text new = ⊥
+
+-- what the bytes of a line do to the world, with the failed calls in it, and the text that answers it
+abbrev pub LineStep : Type 0 → Bool → World → List ℕ → Fails → List ℕ → World → Type 0
+LineStep told files w bytes fails text new = SaidStep told files w (script_line bytes) fails text new

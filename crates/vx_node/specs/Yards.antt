@@ -1,0 +1,56 @@
+-- A yard, and what its calls promise.
+use Rattle.std.specs.Prelude.{◌≡◌, ◌≢◌, ◌⊎◌, ℕ, ◌≤◌, List, [], ◌++◌, length, Option, Some, Result, Ok, Err, Bool, is_some, slice_get}
+use Rattle.std.specs.Vec.{vec_capacity}
+use Rattle.std.specs.Io.KnownBytes.{Appends}
+use Rattle.vx_model.specs.World.{World}
+use Rattle.vx_disk.specs.declared.shelf.Shelf.{Ghosts}
+use Rattle.vx_script.specs.declared.line.ScriptLine.{ScriptLine}
+use Rattle.vx_node.specs.declared.yard.Yard.{Yard}
+use Rattle.vx_node.specs.declared.errors.LineStop.{LineStop}
+use Rattle.vx_node.specs.declared.errors.LineStop.TheVariants.{WriteFault, OutOfMemory}
+use Rattle.vx_node.specs.Facts.{facts_of}
+use Rattle.vx_node.specs.Replies.{text_of}
+use Rattle.vx_node.specs.Stands.{EnginesStand, AreTold, RoseAll, faults_of}
+use Rattle.vx_node.specs.Steps.{Fails, Prints}
+
+module _ {R : Type 0} {g : Ghosts R} where
+  -- whether its disks are kept in files
+  abbrev pub in_files : Yard R g → Bool
+  in_files y = is_some y.dir
+
+  -- the count of faults of a disk of a site
+  abbrev pub count_of : Yard R g → ℕ → ℕ → ℕ
+  count_of y = faults_of y.engines.items
+
+  -- the contents of all its disks are told
+  abbrev pub IsTold : Yard R g → Type 0
+  IsTold y = AreTold y.engines.items
+
+  -- the yard stands for this world: it keeps what the tests of a line see of it, and its engines agree with it
+  pub record YardStands (w : World) (y : Yard R g) : Type 0 where
+    pub facts : y.facts.items ≡ facts_of w
+    pub engines : EnginesStand w y.engines.items
+    -- room for the racks as they come back
+    pub none : y.racks.items ≡ []
+    pub room : 8 ≤ vec_capacity y.racks
+
+  -- the line made a step, by which the yard stands for a new world; its text is `text`
+  pub record Steps (w : World) (line : ScriptLine) (old new : Yard R g) (text : List ℕ) : Type 0 where
+    pub world : World
+    pub fails : Fails
+    pub prints : Prints (IsTold new) (in_files old) w line fails text world
+    pub stands : YardStands world new
+    pub rose : RoseAll fails (count_of old) (count_of new)
+
+  -- nothing of the line was done
+  pub record StaysFor (w : World) (old new : Yard R g) : Type 0 where
+    pub stands : YardStands w new
+    pub rose : RoseAll [] (count_of old) (count_of new)
+
+  -- The whole text was written. Or the sink failed, and a part of it is missing. Or memory ran out, and nothing was written.
+  abbrev pub LineIs : World → ScriptLine → Yard R g → Yard R g → Option (List ℕ) → Option (List ℕ) → Result (Unit {0}) LineStop → Type 0
+  LineIs w line old new written now (Ok done) = (text : List ℕ) × Steps w line old new text × Appends written now text
+  LineIs w line old new written now (Err WriteFault) =
+      (text : List ℕ) × (sent : List ℕ) × (unsent : List ℕ) × Steps w line old new text × (text ≡ sent ++ unsent) × (unsent ≢ []) × Appends written now sent
+  LineIs w line old new written now (Err OutOfMemory) =
+      (StaysFor w old new ⊎ ((text : List ℕ) × Steps w line old new text)) × Appends written now []

@@ -1,0 +1,61 @@
+// The calls of a yard.
+ghost use Rattle.std.specs.Prelude.{◌≡◌, ◌≤◌, ℕ, IfOk, IfErr, is_some};
+ghost use Rattle.vx_model.specs.World.{World, empty_world};
+ghost use Rattle.vx_node.specs.Holds.{AreFresh, RacksHold, RacksTell, rack_faults};
+ghost use Rattle.vx_node.specs.Stands.{RoseAll};
+ghost use Rattle.vx_node.specs.Yards.{YardStands, LineIs, IsTold, count_of, in_files};
+ghost use Rattle.vx_stream.specs.Causes.{Rose};
+
+use crate::{LineStop, Yard};
+use std::alloc::Global;
+use vx_disk::Rack;
+use vx_model::OutOfMemory;
+use vx_script::ScriptLine;
+use vx_stream::Sink;
+
+impl<R: Rack> Yard<R> {
+    /// A yard without sites, over eight racks.
+    pub fn new(
+        alloc: Global,
+        racks: Vec<R>,
+        dir: Option<&str>,
+    ) -> Result<Yard<R>, (Vec<R>, OutOfMemory)>
+        requires { AreFresh R.meaning racks.items }
+        ensures stands { IfOk result (λ y. YardStands empty_world y) }
+        ensures files { IfOk result (λ y. in_files y ≡ is_some dir.entry) }
+        ensures counts { IfOk result (λ y. (s d : ℕ) → count_of y s d ≡ rack_faults R.meaning racks.items s d) }
+        ensures back { IfErr result (λ e. e.0 ≡ racks) }
+    {
+        let _dir = dir;
+        let _alloc = alloc;
+        Err((racks, OutOfMemory))
+    }
+
+    /// Answers a line of a kind that is built, and writes its reply.
+    pub fn line<O: Sink>(
+        &mut self,
+        alloc: Global,
+        words: &ScriptLine,
+        out: &mut O,
+    ) -> Result<(), LineStop>
+        ensures line { (w : World) → YardStands w self.old → LineIs w words.now self.old self.new (O.written out.old) (O.written out.new) result }
+        ensures told { IsTold self.new → IsTold self.old }
+        ensures files { in_files self.new ≡ in_files self.old }
+        ensures later { O.faults out.old ≤ O.faults out.new }
+        ensures cause { result ≡ Err LineStop.WriteFault → Rose (O.faults out.old) (O.faults out.new) }
+    {
+        let _alloc = alloc;
+        let _words = words;
+        let _out = out;
+        Err(LineStop::OutOfMemory)
+    }
+
+    /// The racks, in the order of the sites.
+    pub fn into_racks(self) -> Vec<R>
+        ensures holds { (w : World) → YardStands w self → RacksHold R.meaning w result.items }
+        ensures counts { (w : World) → YardStands w self → (s d : ℕ) → rack_faults R.meaning result.items s d ≡ count_of self s d }
+        ensures told { (w : World) → YardStands w self → RacksTell R.meaning result.items → IsTold self }
+    {
+        self.racks
+    }
+}

@@ -1,0 +1,13 @@
+//! The sites of a run: their disks, and what each line of a script does to them.
+#![tactic(auto)]
+
+mod calls;
+mod engine;
+mod errors;
+mod said;
+mod yard;
+
+pub use engine::Engine;
+pub use errors::LineStop;
+pub use said::Said;
+pub use yard::Yard;

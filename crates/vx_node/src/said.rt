@@ -1,0 +1,15 @@
+// What a line is answered, before it is text.
+use vx_model::{Blocks, No};
+use vx_report::SiteView;
+
+/// The reply of a line.
+#[derive(Drop)]
+pub enum Said {
+    Done,
+    /// The number of a write.
+    DoneAt(u64),
+    /// Blocks that were read.
+    Got(Blocks),
+    Shown(SiteView),
+    Refused(No),
+}

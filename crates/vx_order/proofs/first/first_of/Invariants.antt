@@ -1,0 +1,6 @@
+use Rattle.std.proofs.Common.{◌≡◌, drop}
+use Rattle.vx_order.specs.Tests.{first_of}
+use Rattle.vx_order.proofs.first.first_of.Given as goal
+
+abbrev pub invariant-loop-test : goal.invariant-loop-test
+invariant-loop-test l = first_of (drop l.test-index l.tests) ≡ first_of l.tests

@@ -1,0 +1,7 @@
+pub mod Calls
+pub mod Order
+pub mod Shapes
+pub mod Sites
+pub mod Spans
+pub mod Subject
+pub mod Tests

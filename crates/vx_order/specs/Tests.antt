@@ -1,0 +1,14 @@
+-- Tests of a line, each the refusal that it gives where it holds.
+use Rattle.std.specs.Prelude.{Bool, true, false, List, [], ◌∷◌, Option, Some, None}
+use Rattle.vx_model.specs.declared.no.No.{No}
+
+-- the refusal, where the condition holds
+abbrev pub when : Bool → No → Option No
+when true refused = Some refused
+when false refused = None
+
+-- the first test that holds
+unfoldable pub first_of : List (Option No) → Option No
+first_of [] = None
+first_of (None ∷ tests) = first_of tests
+first_of (Some refused ∷ tests) = Some refused

@@ -1,0 +1,98 @@
+// What the tests of a line look at.
+ghost use Rattle.std.specs.Prelude.{◌≡◌, ◌++◌, ◌∷◌, [], OnOk};
+
+use std::alloc::Global;
+use std::marker::Model;
+use vx_model::{Line, Mark, Name, OutOfMemory, Role, SiteState};
+
+/// What a volume is to the replicated volume group of its site.
+#[derive(Clone, Copy, Debug, PartialEq, Eq)]
+pub enum VolumeKind {
+    /// One of its data volumes.
+    Data,
+    /// Its log.
+    Srl,
+    /// Its maps.
+    Map,
+    /// Nothing.
+    Plain,
+}
+
+/// A volume. `blocks` are of 512 bytes.
+#[derive(Clone, Copy)]
+pub struct VolumeFacts {
+    pub name: Name,
+    pub blocks: u64,
+    pub kind: VolumeKind,
+}
+
+/// The replicated volume group of a site, or its log as a bunker.
+#[derive(Clone, Copy)]
+pub struct RvgFacts {
+    pub role: Role,
+    pub line: Line,
+    pub parent: Line,
+    pub mark: Mark,
+    /// The lowest number that the log holds.
+    pub low: u64,
+    /// The last number that was logged or received.
+    pub last: u64,
+    /// The blocks of the log's ring.
+    pub ring: u64,
+    /// The disk on which a log, map or data write failed since the last recovery.
+    pub halted: Option<u32>,
+}
+
+/// A site. Only an up site has volumes and a replicated volume group.
+#[derive(Drop)]
+pub struct SiteFacts {
+    pub name: Name,
+    pub state: SiteState,
+    /// How many disks it has.
+    pub disks: u32,
+    /// How many blocks each of them has.
+    pub blocks: u64,
+    pub volumes: VolumeTable,
+    pub rvg: Option<RvgFacts>,
+}
+
+/// The volumes of a site. Contracts see their list.
+#[derive(Drop)]
+pub struct VolumeTable {
+    volumes: Vec<VolumeFacts>,
+}
+
+impl Model for VolumeTable {
+    ghost use Rattle.std.specs.Prelude.{List};
+    ghost use Rattle.vx_order.specs.declared.facts.VolumeFacts.{VolumeFacts};
+
+    ghost Value = { List VolumeFacts };
+
+    ghost view = { λ v. v.volumes.items };
+}
+
+impl VolumeTable {
+    /// No volumes.
+    pub fn new(alloc: Global) -> VolumeTable
+        ensures { result ≡ [] }
+    {
+        VolumeTable {
+            volumes: Vec::new(alloc),
+        }
+    }
+
+    /// Adds a volume after the others.
+    pub fn push(&mut self, volume: VolumeFacts) -> Result<(), OutOfMemory>
+        ensures { OnOk result (self.new ≡ self.old ++ volume ∷ []) }
+    {
+        self.volumes.push(volume)?;
+        Ok(())
+    }
+
+    /// The volumes, in order.
+    pub fn as_slice(&self) -> &[VolumeFacts]
+        ensures { result.now ≡ self.now }
+    {
+        &self.volumes
+    }
+}

@@ -1,0 +1,19 @@
+//! The tests of a script line, in the one order of refusals.
+//!
+//! Complete are the lines `site`, `raw`, `disk`, `write`, `put`, `read`, `show` and `status`, but for what a write is
+//! refused for its site's links. Of every other line the tests for unknown sites, for sites that are not up and for
+//! halted sites stand.
+#![tactic(auto)]
+
+mod calls;
+mod facts;
+mod first;
+mod order;
+mod shape;
+mod sites;
+mod span;
+mod subject;
+
+pub use facts::{RvgFacts, SiteFacts, VolumeFacts, VolumeKind, VolumeTable};
+pub use order::refuse;
+pub use shape::ring_blocks;

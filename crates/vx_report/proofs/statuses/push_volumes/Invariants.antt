@@ -1,0 +1,7 @@
+use Rattle.std.proofs.Common.{◌≡◌, ◌++◌, take}
+use Rattle.std.specs.List.{flat_map}
+use Rattle.vx_report.specs.Statuses.{volume_lines}
+use Rattle.vx_report.proofs.statuses.push_volumes.Given as goal
+
+abbrev pub invariant-loop-volume : goal.invariant-loop-volume
+invariant-loop-volume l = l.out.items ≡ l.initial.out.items ++ flat_map volume_lines (take l.volume-index l.volumes)

@@ -1,0 +1,5 @@
+pub mod BlockText
+pub mod Refusals
+pub mod StatusWords
+pub mod Statuses
+pub mod Words

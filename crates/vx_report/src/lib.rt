@@ -1,0 +1,19 @@
+//! What the program answers: the words of every refusal, of a block and of a site's status.
+//!
+//! Each text is one or more lines, each of which ends with a newline.
+#![tactic(auto)]
+
+mod blocks;
+mod refusals;
+mod statuses;
+mod view;
+mod words;
+
+pub use blocks::{block, push_block};
+pub use refusals::{push_refusal, refusal};
+pub use statuses::{push_status, status};
+pub use view::{
+    DiskViews, LinkView, LinkViews, PlexViews, RvgView, SiteView, VolumeView, VolumeViews,
+};
+pub use vx_model::{SiteName, SiteState};
+pub use words::{push_number, push_text};
