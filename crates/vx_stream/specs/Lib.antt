@@ -1,3 +1,4 @@
 pub mod Causes
 pub mod Host
 pub mod Memory
+pub mod Sending

@@ -4,7 +4,9 @@
 mod ends;
 mod host;
 mod memory;
+mod sending;
 
 pub use ends::{Failed, Sink, Source};
 pub use host::{HostSink, HostSource};
 pub use memory::{MemSink, MemSource};
+pub use sending::send;
