@@ -1,6 +1,9 @@
+pub mod Changes
+pub mod Engines
 pub mod Facts
 pub mod Holds
 pub mod Lines
+pub mod Racks
 pub mod Replies
 pub mod Stands
 pub mod Steps

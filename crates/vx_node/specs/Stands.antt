@@ -1,7 +1,7 @@
 -- What a yard stands for: how its racks and what it keeps of each site agree with the world.
 use Rattle.std.specs.Prelude.{◌≡◌, ℕ, ◌+◌, ◌-◌, ◌<◌, ◌≤◌, ◌==◌, ◌&&◌, min, List, length, count_by, Option, Some, None, slice_get, IsTrue, IsFalse}
 use Rattle.vx_model.specs.Content.{zero_block}
-use Rattle.vx_model.specs.World.{Node, World}
+use Rattle.vx_model.specs.World.{Node, World, no_line}
 use Rattle.vx_model.specs.declared.site.SiteState.TheVariants.{Bare as IsBare, Up as IsUp}
 use Rattle.vx_model.specs.declared.units.Units.{Units}
 use Rattle.vx_disk.specs.Shelf.{Meaning, Keeps}
@@ -30,6 +30,9 @@ pub record IsFitted (disks blocks : ℕ) (m : Meaning) : Type 0 where
 pub record IsBareAt (n : Node) (m : Meaning) : Type 0 where
   pub state : n.state ≡ IsBare
   pub fitted : IsFitted n.disks n.blocks m
+  pub few : n.disks ≤ 8
+  pub parent : n.parent ≡ no_line
+  pub low : n.low ≡ 1
   pub some : 8 ≤ n.blocks
   pub blank : (u b : ℕ) → 0 < u → u + 1 < n.disks → b < n.blocks → Keeps m u b zero_block
 

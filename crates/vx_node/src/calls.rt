@@ -6,6 +6,7 @@ ghost use Rattle.vx_node.specs.Stands.{RoseAll};
 ghost use Rattle.vx_node.specs.Yards.{YardStands, LineIs, IsTold, count_of, in_files};
 ghost use Rattle.vx_stream.specs.Causes.{Rose};
 
+use crate::racks::take_racks;
 use crate::{LineStop, Yard};
 use std::alloc::Global;
 use vx_disk::Rack;
@@ -56,6 +57,6 @@ impl<R: Rack> Yard<R> {
         ensures counts { (w : World) → YardStands w self → (s d : ℕ) → rack_faults R.meaning result.items s d ≡ count_of self s d }
         ensures told { (w : World) → YardStands w self → RacksTell R.meaning result.items → IsTold self }
     {
-        self.racks
+        take_racks(self.racks, self.engines)
     }
 }

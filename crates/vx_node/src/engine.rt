@@ -1,5 +1,10 @@
 // The disks of a site, and what is made of them.
+ghost use Rattle.std.specs.Prelude.{◌≡◌, ◌≤◌, ◌<◌, ◌+◌, ◌*◌, ◌%◌, ℕ, length};
+
+use crate::units::raw_units;
+use std::alloc::Global;
 use vx_disk::Rack;
+use vx_model::{No, State, Stop};
 use vx_rvg::Rvg;
 
 /// The rack of a site number, by itself or under a replicated volume group.
@@ -10,4 +15,121 @@ pub enum Engine<R: Rack> {
     Up(Rvg<R>),
     /// It was taken out, and comes back within the same line.
     Gone,
+}
+
+impl<R: Rack> Engine<R> {
+    ghost use Rattle.vx_model.specs.World.{Node};
+    ghost use Rattle.vx_model.specs.Content.{blocks_in};
+    ghost use Rattle.vx_node.specs.Stands.{StandsAt, IsUnused};
+    ghost use Rattle.vx_node.specs.Engines.{Later, FitIs, CanWrite, CanRead, WroteAt, ReadAt, MadeIs};
+    ghost use Rattle.vx_model.specs.declared.site.SiteState.TheVariants.{Bare as BareState, Up as UpState};
+
+    /// Makes the disks of a site that has none.
+    pub fn fit(
+        &mut self,
+        alloc: Global,
+        dir: Option<&str>,
+        site: u32,
+        disks: u32,
+        blocks: u64,
+    ) -> Result<(), Stop>
+        requires some { 1 ≤ disks }
+        requires few { disks ≤ 8 }
+        requires large { 8 ≤ blocks }
+        ensures fits { IsUnused self.old → FitIs dir.entry disks blocks self.old self.new result }
+        ensures later { Later self.old self.new }
+    {
+        match self {
+            Engine::Bare(rack) if rack.units() == 0 && !rack.is_down() => {
+                rack.fit(alloc, dir, site, disks, blocks)
+            }
+            _ => Err(Stop::No(No::Role)),
+        }
+    }
+
+    /// Makes a bare site's disks a raw set: disk 0 the log, the last disk the maps, and each disk between a volume.
+    pub fn make_raw(self, alloc: Global, site: u32) -> (Engine<R>, Result<(), Stop>)
+        ensures made { (n : Node) → StandsAt n self → n.state ≡ BareState → 3 ≤ n.disks → MadeIs site n self result.0 result.1 }
+        ensures later { Later self result.0 }
+    {
+        match self {
+            Engine::Bare(rack) => {
+                let disks = rack.units();
+                if disks < 3 || disks > 8 {
+                    return (Engine::Bare(rack), Err(Stop::No(No::Role)));
+                }
+                match Rvg::create(alloc, rack, &raw_units(disks), &State::first(site)) {
+                    Ok(rvg) => (Engine::Up(rvg), Ok(())),
+                    Err((rack, stop)) => (Engine::Bare(rack), Err(stop)),
+                }
+            }
+            other => (other, Err(Stop::No(No::Role))),
+        }
+    }
+
+    /// Writes whole blocks to a data volume, by its number. Answers the number of the write.
+    #[tactic(auto, using(crate::proofs::Engines::up_volumes))]
+    pub fn write(&mut self, volume: u32, start: u64, bytes: &[u8]) -> Result<u64, No>
+        requires some { 0 < length bytes.now }
+        requires few { length bytes.now ≤ 8192 }
+        requires whole { length bytes.now % 512 ≡ 0 }
+        ensures wrote { (n : Node) → StandsAt n self.old → CanWrite n volume start (blocks_in bytes.now)
+            → WroteAt n (record { volume = volume; start = start; bytes = bytes.now }) self.old self.new result }
+        ensures later { Later self.old self.new }
+    {
+        match self {
+            Engine::Up(rvg) => {
+                if volume < rvg.volumes() {
+                    rvg.write(volume, start, bytes, 0)
+                } else {
+                    Err(No::Role)
+                }
+            }
+            Engine::Bare(_) | Engine::Gone => Err(No::Role),
+        }
+    }
+
+    /// Reads whole blocks of a data volume, by its number.
+    #[tactic(auto, using(crate::proofs::Engines::up_volumes))]
+    pub fn read(&mut self, volume: u32, start: u64, into: &mut [u8]) -> Result<(), No>
+        requires some { 0 < length into.old }
+        requires few { length into.old ≤ 8192 }
+        requires whole { length into.old % 512 ≡ 0 }
+        ensures read { (n : Node) → StandsAt n self.old → CanRead n volume start (blocks_in into.old)
+            → ReadAt n volume start (blocks_in into.old) into.new self.old self.new result }
+        ensures later { Later self.old self.new }
+    {
+        match self {
+            Engine::Up(rvg) => {
+                if volume < rvg.volumes() {
+                    rvg.read(volume, start, into)
+                } else {
+                    Err(No::Role)
+                }
+            }
+            Engine::Bare(_) | Engine::Gone => Err(No::Role),
+        }
+    }
+
+    /// Makes each later call on a disk fail, or ends that.
+    pub fn fail(&mut self, disk: u32, on: bool)
+        ensures stands { (n : Node) → StandsAt n self.old → StandsAt n self.new }
+        ensures later { Later self.old self.new }
+    {
+        match self {
+            Engine::Bare(rack) if disk < rack.units() => rack.fail(disk, on),
+            Engine::Up(rvg) if disk < rvg.shelf.units() => rvg.shelf.fail(disk, on),
+            _ => {}
+        }
+    }
+
+    /// The session of a site that is up.
+    pub fn session(&self) -> u64
+        ensures { (n : Node) → StandsAt n self.now → n.state ≡ UpState → result ≡ n.session }
+    {
+        match self {
+            Engine::Up(rvg) => rvg.session(),
+            _ => 0,
+        }
+    }
 }

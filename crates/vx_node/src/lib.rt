@@ -4,7 +4,10 @@
 mod calls;
 mod engine;
 mod errors;
+mod facts;
+mod racks;
 mod said;
+mod units;
 mod yard;
 
 pub use engine::Engine;

@@ -1,7 +1,13 @@
 // All sites of a run.
-use crate::Engine;
+ghost use Rattle.std.specs.Prelude.{◌≡◌, ℕ};
+ghost use Rattle.vx_node.specs.Facts.{seat_of};
+
+use crate::{Engine, facts};
+use std::alloc::Global;
 use vx_disk::Rack;
-use vx_order::SiteFacts;
+use vx_model::{Name, SiteName, SiteState};
+use vx_order::{RvgFacts, SiteFacts};
+use vx_report::{DiskViews, LinkViews, RvgView, SiteView, VolumeViews};
 
 /// The sites of a run: for each what the tests of a line look at, and its disks.
 #[derive(Drop)]
@@ -11,4 +17,13 @@ pub struct Yard<R: Rack> {
     pub(crate) engines: Vec<Engine<R>>,
     // Empty, with room for all racks as they come back.
     pub(crate) racks: Vec<R>,
+}
+
+/// The number of the site of this name.
+pub fn seat(sites: &[SiteFacts], name: &Name) -> Option<usize>
+    ensures { result ≡ seat_of sites.now name.now }
+{
+    sites
+        .iter()
+        .position(|site| site.name.as_bytes() == name.as_bytes())
 }

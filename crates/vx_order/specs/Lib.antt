@@ -1,4 +1,5 @@
 pub mod Calls
+pub mod Kinds
 pub mod Order
 pub mod Shapes
 pub mod Sites

@@ -8,6 +8,7 @@
 mod calls;
 mod facts;
 mod first;
+mod laws;
 mod order;
 mod shape;
 mod sites;
@@ -15,5 +16,8 @@ mod span;
 mod subject;
 
 pub use facts::{RvgFacts, SiteFacts, VolumeFacts, VolumeKind, VolumeTable};
+pub use laws::{
+    disk_lines, put_lines, raw_lines, read_lines, show_lines, site_lines, status_lines, write_lines,
+};
 pub use order::refuse;
 pub use shape::ring_blocks;

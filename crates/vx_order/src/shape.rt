@@ -5,7 +5,8 @@ ghost use Rattle.vx_order.specs.Shapes.{most_blocks, map_blocks, is_raw_set, tak
 
 use crate::facts::SiteFacts;
 use crate::sites::find_site;
-use vx_model::{Counted, Named, No, SiteState};
+use vx_model::{Counted, Named, No};
+use vx_model::SiteState;
 use vx_script::ScriptLine;
 
 /// How many blocks of the ring a log unit of so many blocks has: all but the two headers, of at most 65,536.
@@ -139,4 +140,16 @@ fn maps(blocks: u64) -> u64
     ensures few { result ≤ 70368744177664 }
 {
     blocks.div_ceil(64).div_ceil(4096)
+}
+
+#[cfg(test)]
+mod tests {
+    use super::*;
+
+    #[test]
+    fn uses_part_of_a_long_unit(rt: HostRuntime) {
+        for (unit, ring) in [(8, 6), (65536, 65534), (65537, 65534)] {
+            assert_eq!(rt; ring_blocks(unit), ring);
+        }
+    }
 }

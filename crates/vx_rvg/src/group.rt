@@ -43,6 +43,13 @@ impl RvgCore {
         self.units.vols.as_slice()[vol as usize]
     }
 
+    /// How many data volumes there are.
+    pub(crate) fn volumes(&self) -> u32
+        ensures { result ≡ length self.now.units.vols }
+    {
+        self.units.vols.as_slice().len() as u32
+    }
+
     /// Why a write of so many blocks to a volume of `size` blocks is refused before it begins.
     pub(crate) fn write_refusal(&self, size: u64, start: u64, count: u64) -> Option<No>
         requires { count ≤ 16 }
@@ -163,6 +170,13 @@ impl<S: Shelf> Rvg<S> {
             Ok(()) => Ok(()),
             Err(error) => Err(refusal(error)),
         }
+    }
+
+    /// How many data volumes it has, at most 30.
+    pub fn volumes(&self) -> u32
+        ensures { result ≡ length self.now.core.units.vols }
+    {
+        self.core.volumes()
     }
 
     /// The number of the last write that was answered.

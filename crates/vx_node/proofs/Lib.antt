@@ -1,0 +1,7 @@
+pub mod Backs
+pub mod Changing
+pub mod Engines
+pub mod Lists
+pub mod Refused
+pub mod Tables
+pub mod Values

@@ -1,0 +1,38 @@
+-- Lists with another element at one place.
+use Rattle.std.proofs.Common.{◌≡◌, ◌∙◌, ◌+◌, ◌<◌, ℕ, zero, suc, List, [], ◌∷◌, ◌++◌, length, ap, sym, refl, arith}
+use Rattle.std.specs.Prelude.{Option, Some, None, slice_get, slice_set}
+use Rattle.vx_node.specs.Facts.{values_from}
+
+pub get-set_same : {A : Type 0} (xs : List A) (i : ℕ) (x : A) → i < length xs → slice_get (slice_set xs i x) i ≡ Some x
+get-set_same [] i x h = absurd (omega arith)
+get-set_same (y ∷ xs) zero x h = refl
+get-set_same (y ∷ xs) (suc i) x h = get-set_same xs i x (omega arith)
+
+pub get-set_other : {A : Type 0} (xs : List A) (i j : ℕ) (x : A) → (j ≡ i → ⊥) → slice_get (slice_set xs i x) j ≡ slice_get xs j
+get-set_other [] i j x apart = refl
+get-set_other (y ∷ xs) zero zero x apart = absurd (apart refl)
+get-set_other (y ∷ xs) zero (suc j) x apart = refl
+get-set_other (y ∷ xs) (suc i) zero x apart = refl
+get-set_other (y ∷ xs) (suc i) (suc j) x apart = get-set_other xs i j x (λ e. apart (ap suc e))
+
+pub length-set : {A : Type 0} (xs : List A) (i : ℕ) (x : A) → length (slice_set xs i x) ≡ length xs
+length-set [] i x = refl
+length-set (y ∷ xs) zero x = refl
+length-set (y ∷ xs) (suc i) x = ap suc (length-set xs i x)
+
+-- the values of a function that differs at one place
+pub values_from-set : {A : Type 0} (f h : ℕ → A) (k n i : ℕ) (x : A) → h (k + i) ≡ x → ((j : ℕ) → (j ≡ k + i → ⊥) → h j ≡ f j) → values_from h k n ≡ slice_set (values_from f k n) i x
+values_from-set f h k zero i x here there = refl
+values_from-set f h k (suc n) zero x here there =
+    let e : k + 0 ≡ k = omega arith in
+    ap (λ y. y ∷ values_from h (k + 1) n) (ap h (sym e) ∙ here)
+    ∙ ap (λ ys. x ∷ ys) (values_from-same f h (k + 1) n (λ j past. there j (omega arith)))
+  where
+    values_from-same : {A : Type 0} (f h : ℕ → A) (k n : ℕ) → ((j : ℕ) → k < j + 1 → h j ≡ f j) → values_from h k n ≡ values_from f k n
+    values_from-same f h k zero same = refl
+    values_from-same f h k (suc n) same =
+        ap (λ y. y ∷ values_from h (k + 1) n) (same k (omega arith)) ∙ ap (λ ys. f k ∷ ys) (values_from-same f h (k + 1) n (λ j past. same j (omega arith)))
+values_from-set f h k (suc n) (suc i) x here there =
+    let e : (k + 1) + i ≡ k + suc i = omega arith in
+    ap (λ y. y ∷ values_from h (k + 1) n) (there k (omega arith))
+    ∙ ap (λ ys. f k ∷ ys) (values_from-set f h (k + 1) n i x (ap h e ∙ here) (λ j apart. there j (λ is. apart (is ∙ sym e))))

@@ -1,0 +1,77 @@
+-- What the calls on the disks of a site promise.
+use Rattle.std.specs.Prelude.{◌≡◌, ℕ, ◌+◌, ◌-◌, ◌<◌, ◌≤◌, ◌++◌, ◌∷◌, [], Option, Some, None, Result, Ok, Err, List}
+use Rattle.vx_model.specs.Content.{Write}
+use Rattle.vx_model.specs.World.{Node, bare_site}
+use Rattle.vx_model.specs.Steps.{logged, raw_set}
+use Rattle.vx_model.specs.declared.site.SiteState.TheVariants.{Up as IsUp}
+use Rattle.vx_model.specs.declared.errors.Stop.{Stop}
+use Rattle.vx_model.specs.declared.errors.Stop.TheVariants.{No as Refused, OutOfMemory}
+use Rattle.vx_model.specs.declared.no.No.{No}
+use Rattle.vx_model.specs.declared.no.No.TheVariants.{Device, Limit}
+use Rattle.vx_model.specs.declared.no.Counted.TheVariants.{Number}
+use Rattle.vx_disk.specs.Counts.{Rose}
+use Rattle.vx_disk.specs.Racks.{most_blocks}
+use Rattle.vx_disk.specs.declared.shelf.Shelf.{Ghosts}
+use Rattle.vx_rvg.specs.Volumes.{Shows}
+use Rattle.vx_srl.specs.Views.{most_number}
+use Rattle.vx_node.specs.declared.engine.Engine.{Engine}
+use Rattle.vx_node.specs.Stands.{StandsAt, IsUnused, IsToldAt, faults_at}
+
+-- a write that nothing but a failing disk or want of a number can refuse
+pub record CanWrite (n : Node) (volume start count : ℕ) : Type 0 where
+  pub up : n.state ≡ IsUp
+  pub running : n.halted ≡ None
+  pub volume_exists : volume < n.disks - 2
+  pub fits : count + 1 ≤ n.ring
+  pub within : start + count ≤ n.blocks
+
+-- the same of a read
+pub record CanRead (n : Node) (volume start count : ℕ) : Type 0 where
+  pub up : n.state ≡ IsUp
+  pub running : n.halted ≡ None
+  pub volume_exists : volume < n.disks - 2
+  pub within : start + count ≤ n.blocks
+
+-- a site with a write that met this failing disk
+abbrev pub halted_with : Node → Write → ℕ → Node
+halted_with n x disk = record n { log = n.log ++ x ∷ []; halted = Some disk }
+
+abbrev pub no_number : No
+no_number = Limit Number most_number
+
+module _ {R : Type 0} {g : Ghosts R} where
+  -- no count of a disk falls, and contents that are told now were told before
+  pub record Later (old new : Engine R g) : Type 0 where
+    pub counts : (d : ℕ) → faults_at old d ≤ faults_at new d
+    pub told : IsToldAt new → IsToldAt old
+
+  -- the count of this disk rose
+  abbrev pub RoseAt : Engine R g → Engine R g → ℕ → Type 0
+  RoseAt old new disk = Rose (faults_at old disk) (faults_at new disk)
+
+  -- the disks of a new site, whatever its name; or a failing disk, want of memory, or more blocks than there may be
+  abbrev pub FitIs : {T : Type 0} → Option T → ℕ → ℕ → Engine R g → Engine R g → Result (Unit {0}) Stop → Type 0
+  FitIs dir disks blocks old new (Ok done) = (name : List ℕ) → StandsAt (bare_site name disks blocks) new
+  FitIs dir disks blocks old new (Err OutOfMemory) = IsUnused new
+  FitIs dir disks blocks old new (Err (Refused (Device disk))) = IsUnused new × RoseAt old new disk
+  FitIs dir disks blocks old new (Err (Refused other)) = most_blocks dir < blocks
+
+  -- the disks of a bare site as a raw set, or as they were, with a failing disk or want of memory
+  abbrev pub MadeIs : ℕ → Node → Engine R g → Engine R g → Result (Unit {0}) Stop → Type 0
+  MadeIs site n old new (Ok done) = StandsAt (raw_set site n) new
+  MadeIs site n old new (Err OutOfMemory) = StandsAt n new
+  MadeIs site n old new (Err (Refused (Device disk))) = StandsAt n new × RoseAt old new disk
+  MadeIs site n old new (Err (Refused other)) = ⊥
+
+  -- the next number, or a failing disk, or want of a number
+  abbrev pub WroteAt : Node → Write → Engine R g → Engine R g → Result ℕ No → Type 0
+  WroteAt n x old new (Ok number) = (number ≡ n.safe + 1) × (n.safe < most_number) × StandsAt (logged n x) new
+  WroteAt n x old new (Err (Device disk)) = StandsAt (halted_with n x disk) new × RoseAt old new disk
+  WroteAt n x old new (Err (Limit what most)) = (Limit what most ≡ no_number) × (most_number ≤ n.safe) × StandsAt n new
+  WroteAt n x old new (Err other) = ⊥
+
+  -- the blocks, which are those of the content where it is told, or a failing disk
+  abbrev pub ReadAt : Node → ℕ → ℕ → ℕ → List ℕ → Engine R g → Engine R g → Result (Unit {0}) No → Type 0
+  ReadAt n volume start count bytes old new (Ok done) = (IsToldAt new → Shows n.base volume start count bytes) × StandsAt n new
+  ReadAt n volume start count bytes old new (Err (Device disk)) = StandsAt n new × RoseAt old new disk
+  ReadAt n volume start count bytes old new (Err other) = ⊥

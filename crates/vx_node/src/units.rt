@@ -1,0 +1,22 @@
+// The units of a raw set.
+ghost use Rattle.std.specs.Prelude.{◌≡◌, ◌≤◌};
+ghost use Rattle.vx_node.specs.Stands.{raw_units as units_of};
+
+use vx_model::{Units, VolumeUnits};
+
+/// Those of 3 to 8 disks: the log on disk 0, the maps on the last disk, and a volume on each disk between.
+pub fn raw_units(disks: u32) -> Units
+    requires some { 3 ≤ disks }
+    requires few { disks ≤ 8 }
+    ensures { result ≡ units_of disks }
+{
+    let mut vols = VolumeUnits::new();
+    for k in 1..disks - 1 {
+        vols.push(k);
+    }
+    Units {
+        srl: 0,
+        maps: disks - 1,
+        vols,
+    }
+}

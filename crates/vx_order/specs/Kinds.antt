@@ -1,0 +1,62 @@
+-- What the complete kinds of line are refused, each kind by itself.
+use Rattle.std.specs.Prelude.{ℕ, ◌+◌, Bool, not, ◌&&◌, ◌||◌, ◌==◌, nat_lt, nat_le, List, length, Option, Some, None, is_some, if◌then◌else◌}
+use Rattle.vx_model.specs.declared.no.No.{No}
+use Rattle.vx_model.specs.declared.no.No.TheVariants.{Unknown, Exists, Range, Size, Role, Down, Limit}
+use Rattle.vx_model.specs.declared.no.Named.TheVariants.{Of, Number}
+use Rattle.vx_model.specs.declared.no.Counted.TheVariants.{Sites, Disks, Blocks}
+use Rattle.vx_order.specs.declared.facts.SiteFacts.{SiteFacts}
+use Rattle.vx_order.specs.declared.facts.VolumeFacts.{VolumeFacts}
+use Rattle.vx_order.specs.declared.facts.RvgFacts.{RvgFacts}
+use Rattle.vx_order.specs.declared.span.Span.{Span}
+use Rattle.vx_order.specs.Sites.{site_named, site_gone, is_bare, volume_of, rvg_of, halted_one}
+use Rattle.vx_order.specs.Shapes.{most_blocks, is_raw_set}
+use Rattle.vx_order.specs.Calls.{takes_calls, asks_role, is_write, outgrows}
+
+-- a `site` line of this name, number of disks and blocks of each
+abbrev pub site_refusal : List SiteFacts → Bool → List ℕ → ℕ → ℕ → Option No
+site_refusal sites files name disks blocks =
+    if is_some (site_named sites name) then Some (Exists name)
+    else if nat_le 8 (length sites) then Some (Limit Sites 8)
+    else if nat_lt 8 disks then Some (Limit Disks 8)
+    else if nat_lt (most_blocks files) blocks then Some (Limit Blocks (most_blocks files))
+    else if disks == 0 || nat_lt blocks 8 then Some Size
+    else None
+
+-- a `raw` line of the site of this name
+abbrev pub raw_refusal : Option SiteFacts → List ℕ → Option No
+raw_refusal None name = Some (Unknown (Of name))
+raw_refusal (Some site) name =
+    if not (is_bare site.state) then Some Role
+    else if not (is_raw_set site.disks site.blocks) then Some Size
+    else None
+
+-- a `disk` line of the site of this name
+abbrev pub disk_refusal : Option SiteFacts → List ℕ → ℕ → Option No
+disk_refusal None name disk = Some (Unknown (Of name))
+disk_refusal (Some site) name disk = if nat_le site.disks disk then Some (Unknown (Number disk)) else None
+
+-- a `status` line of the site of this name
+abbrev pub status_refusal : Option SiteFacts → List ℕ → Option No
+status_refusal None name = Some (Unknown (Of name))
+status_refusal (Some site) name = None
+
+-- a run of blocks of a volume, at a site that is not halted
+abbrev pub call_on : Option RvgFacts → Option VolumeFacts → Span → Option No
+call_on rvg None span = Some (Unknown (Of span.volume))
+call_on rvg (Some volume) span =
+    if asks_role span.way && not (takes_calls volume.kind rvg) then Some Role
+    else if span.count == 0 || nat_lt 16 span.count || (is_write span.way && outgrows rvg (Some volume) span.count) then Some Size
+    else if nat_lt volume.blocks (span.start + span.count) then Some Range
+    else None
+
+-- the first refusal, or else the other
+abbrev pub before : Option No → Option No → Option No
+before None other = other
+before (Some refused) other = Some refused
+
+-- a `write`, `put`, `read` or `show` line of the site of this name
+abbrev pub call_refusal : Option SiteFacts → List ℕ → Span → Option No
+call_refusal None name span = Some (Unknown (Of name))
+call_refusal (Some site) name span =
+    if site_gone (Some site) then Some Down
+    else before (halted_one (Some site)) (call_on (rvg_of (Some site)) (volume_of (Some site) span.volume) span)
