@@ -3,10 +3,15 @@
 //! A block is 512 bytes. Units and blocks go by numbers from 0.
 #![tactic(auto)]
 
+mod disks;
+mod moment;
+mod plan;
 mod rack;
 mod shelf;
 mod steps;
+mod unit;
 
+pub use plan::FaultPlan;
 pub use rack::Rack;
 pub use shelf::{Shelf, ShelfError};
 pub use steps::put;
