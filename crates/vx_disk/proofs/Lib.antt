@@ -4,6 +4,7 @@ pub mod Causing
 pub mod Changes
 pub mod Crashes
 pub mod DiskChanges
+pub mod Fits
 pub mod Flags
 pub mod Moving
 pub mod Pasts

@@ -144,6 +144,7 @@ pub record IsZeroed (blocks : ℕ) (m : MemUnit) : Type 0 where
   pub latest : m.latest.items ≡ replicate (512 * blocks) 0
   pub loose : m.loose.items ≡ replicate blocks false
   pub none : m.faults ≡ 0
+  pub works : m.failing ≡ false
 
 pub record AllZeroed (disks blocks : ℕ) (units : List MemUnit) : Type 0 where
   pub number : length units ≡ disks

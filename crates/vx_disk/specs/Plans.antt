@@ -1,6 +1,7 @@
 -- The numbers of calls on a shelf in memory.
-use Rattle.std.specs.Prelude.{◌≡◌, ◌⊎◌, ℕ, ◌+◌, ◌-◌, ◌^◌, min, Bool, true, false, nat_eq, List, Result, Ok, Err}
+use Rattle.std.specs.Prelude.{◌≡◌, ◌⊎◌, ℕ, ◌+◌, ◌-◌, ◌^◌, min, Bool, true, false, nat_eq, List, Option, Some, None, Result, Ok, Err}
 use Rattle.std.specs.List.{list_any}
+use Rattle.vx_disk.specs.Disks.{Disks}
 use Rattle.vx_disk.specs.declared.shelf.ShelfError.{ShelfError}
 use Rattle.vx_disk.specs.declared.shelf.ShelfError.TheVariants.{Fault, Down}
 
@@ -27,3 +28,8 @@ abbrev pub Numbered : {T : Type 0} → Plan → Plan → Bool → Result T Shelf
 Numbered old new failing (Ok _) = CallCounted old new × (is_due old ≡ false) × (failing ≡ false)
 Numbered old new failing (Err (Fault disk)) = CallCounted old new × ((is_due old ≡ true) ⊎ (failing ≡ true))
 Numbered old new failing (Err Down) = new ≡ old
+
+-- whether calls on this disk of a rack are made to fail
+abbrev pub is_made_to_fail : Option Disks → ℕ → Bool
+is_made_to_fail None unit = false
+is_made_to_fail (Some disks) unit = disks.failing unit

@@ -1,16 +1,18 @@
 // The disks of a shelf in memory.
-ghost use Rattle.std.specs.Prelude.{◌≡◌, ◌≢◌, ◌≤◌, ◌<◌, ◌⊎◌, ℕ, IsTrue, IsFalse, true, false, length, OnOk, IfOk, [], None, Some};
+ghost use Rattle.std.specs.Prelude.{◌≡◌, ◌≢◌, ◌≤◌, ◌<◌, ◌⊎◌, ℕ, IsTrue, IsFalse, true, false, length, OnOk, IfOk, IfErr, [], None, Some};
 ghost use Rattle.vx_disk.specs.Counts.{Rose};
 ghost use Rattle.vx_disk.specs.Disks.{Burns, Crashed, RanOut, SameBlocks, Untouched};
-ghost use Rattle.vx_disk.specs.Memory.{NoneLoose, Settled, faults_of, failing_of, size_of};
+ghost use Rattle.vx_disk.specs.Memory.{AllZeroed, NoneLoose, Settled, faults_of, failing_of, size_of};
 ghost use Rattle.vx_disk.specs.Moments.{moments_of};
-ghost use Rattle.vx_disk.specs.Racks.{Alike, Stopped};
+ghost use Rattle.vx_disk.specs.Racks.{Alike, Fitted, Stopped, Unfitted};
+ghost use Rattle.vx_model.specs.declared.errors.Stop.TheVariants.{OutOfMemory as MemoryStop};
 ghost use Rattle.vx_disk.specs.Shelf.{DisksFlushed, DisksWrote, Fits, Flushed, Goes, Nothing, Read, Written, Wrote};
 
 use crate::moment::{Moment, none, note};
 use crate::unit::MemUnit;
 use std::alloc::Global;
 use std::snapshot::Snapshot;
+use vx_model::Stop;
 
 /// Disks that stop and start together.
 #[derive(Drop)]
@@ -40,6 +42,43 @@ impl MemDisks {
             down: false,
             fuse: None,
         }
+    }
+
+    /// Makes so many disks of so many zeroed blocks. Where memory runs out nothing changes.
+    pub fn fit(&mut self, alloc: Global, disks: u32, blocks: usize) -> Result<(), Stop>
+        requires unfitted { length self.old.units.items ≡ 0 }
+        requires up { IsFalse self.old.down }
+        requires disks { disks ≤ 8 }
+        requires blocks { blocks ≤ 4194304 }
+        ensures fitted { OnOk result (Fitted disks blocks (meaning_in self.old) (meaning_in self.new)) }
+        ensures memory { IfErr result (λ stop. stop ≡ MemoryStop) }
+        ensures unchanged { IfErr result (Unfitted (meaning_in self.old) (meaning_in self.new)) }
+    {
+        let units = zeroed(alloc, disks, blocks)?;
+        note(&mut self.past, &self.units);
+        self.units = units;
+        Ok(())
+    }
+
+    /// Lets that many writes and flushes pass.
+    pub fn set_fuse(&mut self, calls: u64, pick: u64)
+        ensures alike { Alike (meaning_in self.old) (meaning_in self.new) }
+        ensures down { self.new.down ≡ self.old.down }
+        ensures disks { SameBlocks (disks_in self.old) (disks_in self.new) }
+        ensures fuse { self.new.fuse ≡ Some (calls, pick) }
+        ensures failing { (u : ℕ) → failing_of self.new.units.items u ≡ failing_of self.old.units.items u }
+    {
+        self.fuse = Some((calls, pick));
+    }
+
+    /// Starts the disks again.
+    pub fn revive(&mut self)
+        ensures alike { Alike (meaning_in self.old) (meaning_in self.new) }
+        ensures up { IsFalse self.new.down }
+        ensures disks { Untouched (disks_in self.old) (disks_in self.new) }
+        ensures failing { (u : ℕ) → failing_of self.new.units.items u ≡ failing_of self.old.units.items u }
+    {
+        self.down = false;
     }
 
     /// Counts a fault of a disk.
@@ -139,6 +178,19 @@ impl MemDisks {
     {
         self.units[disk as usize].make_fail(on);
     }
+}
+
+fn zeroed(alloc: Global, disks: u32, blocks: usize) -> Result<Vec<MemUnit>, Stop>
+    requires disks { disks ≤ 8 }
+    requires blocks { blocks ≤ 4194304 }
+    ensures zeroed { IfOk result (λ units. AllZeroed disks blocks units.items) }
+    ensures memory { IfErr result (λ e. e ≡ MemoryStop) }
+{
+    let mut units = Vec::new(alloc);
+    for _unit in 0..disks {
+        units.push(MemUnit::new(alloc, blocks)?)?;
+    }
+    Ok(units)
 }
 
 // Each unit's loose blocks keep one of their values, numbered over all units.

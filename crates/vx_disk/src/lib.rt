@@ -4,6 +4,7 @@
 #![tactic(auto)]
 
 mod disks;
+mod memory;
 mod moment;
 mod plan;
 mod rack;
@@ -11,6 +12,7 @@ mod shelf;
 mod steps;
 mod unit;
 
+pub use memory::MemShelf;
 pub use plan::FaultPlan;
 pub use rack::Rack;
 pub use shelf::{Shelf, ShelfError};
