@@ -8,7 +8,7 @@ use Rattle.vx_disk.proofs.Blocks.{block-over_in, block-over_before, block-over_a
 use Rattle.vx_disk.proofs.Pasts.{States, was-since, since-was}
 use Rattle.vx_disk.specs.declared.unit.MemUnit.{MemUnit}
 use Rattle.vx_disk.specs.Counts.{Rose}
-use Rattle.vx_disk.specs.Shelf.{Image, Values, Or, Goes, Nothing, Covers, Written, piece, Wrote, Flushed, Read}
+use Rattle.vx_disk.specs.Shelf.{Values, Or, Goes, Nothing, Covers, Written, piece, Wrote, Flushed, Read}
 use Rattle.vx_disk.specs.Memory.{size_of, faults_of, gives, may_keep, Since, meaning_of}
 
 -- what has to be shown of a change, where the state before it has joined the past
@@ -190,4 +190,3 @@ module _ (units : List MemUnit) (u : ℕ) (y : MemUnit) (exists : u < length uni
         ∙ piece-take y.latest.items block b n k whole covers.first (omega (arith, covers.last, size))
         ∙ ap (λ l. block_at l b) (sym (map_was units u y y exists was (λ m. m.latest.items) []));
   }
-

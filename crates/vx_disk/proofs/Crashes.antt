@@ -1,5 +1,5 @@
 -- Which values a crash of disks in memory keeps.
-use Rattle.std.proofs.Common.{◌≡◌, inl, inr, ℕ, zero, suc, ◌<◌, ◌≤◌, ◌+◌, ◌%◌, Option, None, Bool, true, false, cond, List, [], ◌∷◌, length, map, get_or, take, sym, refl, ◌∙◌, ap, arith, add-one}
+use Rattle.std.proofs.Common.{◌≡◌, inl, inr, ℕ, zero, suc, ◌<◌, ◌≤◌, ◌+◌, ◌%◌, Option, None, Bool, false, cond, List, [], ◌∷◌, length, map, get_or, take, sym, refl, ◌∙◌, ap, arith, add-one}
 use Rattle.std.proofs.lemmas.List.{length-map, get_or-map, get_or_past, take_all}
 use Rattle.std.proofs.lemmas.List.Sums.{fold_more}
 use Rattle.std.proofs.lemmas.Bool.{cases_lt}
@@ -122,4 +122,3 @@ module _ (old new : List MemUnit) (pick : ℕ) (fuse : Option (ℕ × ℕ)) (set
 
   pub settled-NoneLoose : NoneLoose new
   settled-NoneLoose = settled-Crashed.loose
-

@@ -6,7 +6,7 @@ use Rattle.std.proofs.lemmas.Bool.{cases_lt}
 use Rattle.vx_disk.specs.Blocks.{block_at, kept, bit_at, trues}
 use Rattle.vx_disk.specs.declared.unit.MemUnit.{MemUnit}
 use Rattle.vx_disk.specs.Racks.{Stopped}
-use Rattle.vx_disk.specs.Memory.{size_of, faults_of, gives, may_keep, Since, meaning_of, Settled, SettledUnit, loose_before}
+use Rattle.vx_disk.specs.Memory.{size_of, faults_of, may_keep, Since, meaning_of, Settled, SettledUnit, loose_before}
 use Rattle.vx_disk.proofs.Pasts.{States, was-since, since-was}
 
 -- all units settled

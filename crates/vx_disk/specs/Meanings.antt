@@ -1,4 +1,5 @@
 -- What the disks of a shelf in memory mean.
+use Rattle.vx_disk.specs.declared.memory.MemShelf.{MemShelf}
 use Rattle.vx_disk.specs.declared.disks.MemDisks.{MemDisks}
 use Rattle.vx_disk.specs.Disks.{Disks}
 use Rattle.vx_disk.specs.Memory.{disks_of, meaning_of}
@@ -12,3 +13,7 @@ meaning_in m = meaning_of m.units.items (moments_of m.past.value) m.down m.fuse
 -- what is told of them as a rack
 abbrev pub disks_in : MemDisks → Disks
 disks_in m = disks_of m.units.items m.fuse
+
+-- the meaning of a shelf in memory
+abbrev pub shelf_meaning : MemShelf → Meaning
+shelf_meaning m = meaning_in m.disks

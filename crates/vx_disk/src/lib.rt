@@ -10,6 +10,8 @@ mod plan;
 mod rack;
 mod shelf;
 mod steps;
+#[cfg(test)]
+mod tests;
 mod unit;
 
 pub use memory::MemShelf;

@@ -5,7 +5,7 @@ ghost use Rattle.vx_model.specs.declared.no.Counted.TheVariants.{Disks, Blocks};
 ghost use Rattle.vx_model.specs.declared.no.No.TheVariants.{Limit};
 ghost use Rattle.vx_disk.specs.Causes.{Calls, Cause, Names, OnDisks, WithDisks, Works};
 ghost use Rattle.vx_disk.specs.Disks.{Burns, Crashed, SameBlocks, Untouched};
-ghost use Rattle.vx_disk.specs.Meanings.{disks_in, meaning_in};
+ghost use Rattle.vx_disk.specs.Meanings.{disks_in, meaning_in, shelf_meaning};
 ghost use Rattle.vx_disk.specs.Memory.{failing_of, meaning-IsRack, meaning-Lawful};
 ghost use Rattle.vx_disk.specs.Moments.{moments_of};
 ghost use Rattle.vx_disk.specs.Plans.{Numbered, is_made_to_fail};
@@ -81,7 +81,7 @@ impl MemShelf {
 }
 
 impl Shelf for MemShelf {
-    ghost meaning = { λ m. meaning_in m.disks };
+    ghost meaning = { shelf_meaning };
 
     ghost lawful = { λ m. meaning-Lawful m.disks.units.items (moments_of m.disks.past.value) m.disks.down m.disks.fuse m.disks.few };
 

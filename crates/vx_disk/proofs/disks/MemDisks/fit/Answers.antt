@@ -1,5 +1,5 @@
-use Rattle.std.proofs.Common.{refl, arith}
-use Rattle.vx_disk.proofs.Fits.{zeroed-Fitted, same_Unfitted}
+use Rattle.std.proofs.Common.{refl}
+use Rattle.vx_disk.proofs.Fits.{zeroed-Fitted}
 use Rattle.vx_disk.proofs.disks.MemDisks.fit.Goals as goal
 
 pub returns-clause-fitted : goal.returns-clause-fitted

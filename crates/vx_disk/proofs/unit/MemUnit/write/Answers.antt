@@ -1,4 +1,4 @@
-use Rattle.std.proofs.Common.{◌≡◌, ℕ, ◌*◌, ◌+◌, ◌/◌, ◌∙◌, true, false, get_or, length, replicate, sym, ap, arith}
+use Rattle.std.proofs.Common.{◌≡◌, ℕ, ◌*◌, ◌/◌, ◌∙◌, true, false, get_or, length, replicate, sym, ap, arith}
 use Rattle.std.proofs.lemmas.List.{with_items_is}
 use Rattle.vx_disk.specs.Blocks.{block_at, over}
 use Rattle.vx_disk.proofs.Flags.{clean-write}
