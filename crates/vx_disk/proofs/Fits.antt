@@ -12,15 +12,16 @@ use Rattle.vx_disk.specs.Memory.{stable_of, latest_of, loose_of, size_of, faults
 use Rattle.vx_disk.proofs.Flags.{no_loose}
 use Rattle.vx_disk.proofs.Pasts.{States, was-since}
 
-zero_block : (blocks b : ℕ) → b < blocks → block_at (replicate (512 * blocks) 0) b ≡ replicate 512 0
-zero_block blocks b below =
-    let rest = 512 * (blocks - b - 1) in
-    let split : 512 * blocks ≡ 512 * b + (512 + rest) = omega arith in
-    ap (λ (n : ℕ). block_at (replicate n 0) b) split
+zero_at : (n b rest : ℕ) → n ≡ 512 * b + (512 + rest) → block_at (replicate n 0) b ≡ replicate 512 0
+zero_at n b rest split =
+    ap (λ (k : ℕ). block_at (replicate k 0) b) split
     ∙ ap (λ l. take 512 (drop (512 * b) l)) (sym (replicate-append-replicate (512 * b) (512 + rest) 0))
     ∙ ap (take 512) (drop_at (replicate {A = ℕ} (512 * b) 0) (replicate {A = ℕ} (512 + rest) 0) (512 * b) (length-replicate {A = ℕ} (512 * b) 0))
     ∙ ap (take 512) (sym (replicate-append-replicate 512 rest 0))
     ∙ take_at (replicate {A = ℕ} 512 0) (replicate {A = ℕ} rest 0) 512 (length-replicate {A = ℕ} 512 0)
+
+zero_block : (blocks b : ℕ) → b < blocks → block_at (replicate (512 * blocks) 0) b ≡ replicate 512 0
+zero_block blocks b below = zero_at (512 * blocks) b (512 * (blocks - b - 1)) (omega arith)
 
 some_unit : (units : List MemUnit) (u : ℕ) → u < length units → MemUnit
 some_unit [] u below = absurd (omega arith)

@@ -8,6 +8,7 @@ use Rattle.vx_disk.specs.Disks.{Disks, is_set}
 use Rattle.vx_disk.specs.Racks.{IsRack}
 use Rattle.vx_disk.specs.Shelf.{Meaning, Image, Each, Values, Lawful}
 
+-- of a disk the stable and the latest bytes, the size in blocks, the count of faults, which blocks are loose, and whether it is made to fail
 abbrev pub stable_of : List MemUnit → ℕ → List ℕ
 stable_of units u = slice_index_or (map (λ m. m.stable.items) units) u []
 
@@ -26,6 +27,7 @@ loose_of units u = slice_index_or (map (λ m. m.loose.items) units) u []
 abbrev pub failing_of : List MemUnit → ℕ → Bool
 failing_of units u = slice_index_or (map (λ m. m.failing) units) u false
 
+-- what is told of them as a rack
 abbrev pub disks_of : List MemUnit → Option (ℕ × ℕ) → Disks
 disks_of units fuse = record {
   stable = λ u b. block_at (stable_of units u) b;
@@ -35,9 +37,11 @@ disks_of units fuse = record {
   failing = failing_of units;
 }
 
+-- a read gives the latest value
 abbrev pub gives : List MemUnit → Values
 gives units u b v = v ≡ block_at (latest_of units u) b
 
+-- a crash may leave the stable value or the latest
 abbrev pub may_keep : List MemUnit → Values
 may_keep units u b v = (v ≡ block_at (stable_of units u) b) ⊎ (v ≡ block_at (latest_of units u) b)
 
@@ -46,9 +50,11 @@ abbrev pub Was : List (Vec MemUnit Global) → Image → Type 0
 Was [] i = ⊥
 Was (state ∷ states) i = Each (may_keep state.items) i ⊎ Was states i
 
+-- the state now, or one from this number on, may have left this image
 abbrev pub Since : List MemUnit → List (Vec MemUnit Global) → ℕ → Image → Type 0
 Since units past t i = Each (may_keep units) i ⊎ Was (drop t past) i
 
+-- their meaning as a shelf
 abbrev pub meaning_of : List MemUnit → List (Vec MemUnit Global) → Bool → Option (ℕ × ℕ) → Meaning
 meaning_of units past down fuse = record {
   units = length units;
@@ -99,6 +105,7 @@ small_sizes [] u = lit< tt
 small_sizes (m ∷ units) zero = omega arith
 small_sizes (m ∷ units) (suc u) = small_sizes units u
 
+-- it obeys the laws of a shelf
 pub meaning-Lawful : (units : List MemUnit) (past : List (Vec MemUnit Global)) (down : Bool) (fuse : Option (ℕ × ℕ)) → length units ≤ 8 → Lawful (meaning_of units past down fuse)
 meaning-Lawful units past down fuse few = record {
   few = omega (arith, few);
@@ -126,6 +133,7 @@ clean_units [] u b not_loose = refl
 clean_units (m ∷ units) zero b not_loose = m.clean b not_loose
 clean_units (m ∷ units) (suc u) b not_loose = clean_units units u b not_loose
 
+-- and that of a rack
 pub meaning-IsRack : (units : List MemUnit) (past : List (Vec MemUnit Global)) (down : Bool) (fuse : Option (ℕ × ℕ)) → (down ≡ true → NoneLoose units) → IsRack (meaning_of units past down fuse)
 meaning-IsRack units past down fuse at_rest = record {
   told = disks_of units fuse;
@@ -146,6 +154,7 @@ pub record IsZeroed (blocks : ℕ) (m : MemUnit) : Type 0 where
   pub none : m.faults ≡ 0
   pub works : m.failing ≡ false
 
+-- so many new disks
 pub record AllZeroed (disks blocks : ℕ) (units : List MemUnit) : Type 0 where
   pub number : length units ≡ disks
   pub each : (u : ℕ) (d : MemUnit) → u < disks → IsZeroed blocks (slice_index_or units u d)
