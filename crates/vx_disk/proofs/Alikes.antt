@@ -1,8 +1,11 @@
 -- What stands after a call that belongs to racks alone.
-use Rattle.std.proofs.Common.{◌≡◌, ◌∙◌, inl, ℕ, List, sym, arith}
-use Rattle.vx_disk.specs.Moves.{Blocks, Surely, Settled}
-use Rattle.vx_disk.specs.Racks.{Alike, SameContents, Stopped}
-use Rattle.vx_disk.specs.Shelf.{Values, Meaning, Goes, Holds, Keeps}
+use Rattle.std.proofs.Common.{◌≡◌, ◌∙◌, inl, inr, ℕ, ◌%◌, List, IsTrue, cond, false, sym, ap, arith}
+use Rattle.std.proofs.lemmas.Bool.{cases_Bool}
+use Rattle.vx_disk.specs.Blocks.{bit_at}
+use Rattle.vx_disk.specs.Disks.{Disks, picked, place}
+use Rattle.vx_disk.specs.Moves.{Blocks, Surely, Settled, Everywhere}
+use Rattle.vx_disk.specs.Racks.{Alike, IsRack, SameContents, Stopped}
+use Rattle.vx_disk.specs.Shelf.{Values, Meaning, Lawful, Goes, Holds, Keeps}
 
 -- where nothing changed, the fuse and the down state neither, it is a call that writes nothing
 pub alike_Goes : (written : Values) (old new : Meaning) → Alike old new → new.down ≡ old.down → new.armed ≡ old.armed → Goes written old new
@@ -50,3 +53,17 @@ module _ (old new : Meaning) (stopped : Stopped old new) where
 
   pub crash_Settled : (mine : Blocks) → Settled old mine → Settled new mine
   crash_Settled mine settled = record { each = λ u b v w is left other. settled.each u b v w is (stopped.leaves u b v left) (stopped.leaves u b w other) }
+
+-- a crash keeps the stable value of a block that is not loose
+pub picked_stable : (size : ℕ → ℕ) (d : Disks) (pick u b : ℕ) → d.loose u b ≡ false → picked size d pick u b ≡ d.stable u b
+unfolding picked
+picked_stable size d pick u b is = ap (λ l. cond l (cond (bit_at pick (place size d.loose u b % 64)) (d.latest u b) (d.stable u b)) (d.stable u b)) is
+
+-- where a rack is down, a crash leaves one value of each block
+pub rest_Settled : (m : Meaning) → Lawful m → IsRack m → IsTrue m.down → Settled m Everywhere
+rest_Settled m lawful rack down = record {
+  each = λ u b v w here left other. elim (cases_Bool m.tells) [
+    | inl tells ↦ rack.latest tells u b v (rack.at_rest down u b v left) ∙ sym (rack.latest tells u b w (rack.at_rest down u b w other))
+    | inr not ↦ absurd (lawful.none not u b v left)
+  ];
+}

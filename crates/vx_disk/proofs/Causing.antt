@@ -1,5 +1,5 @@
 -- What a caller knows of an answer.
-use Rattle.std.proofs.Common.{ℕ, ◌≤◌, Result, Ok, Err, OnOk, inl, inr, ⊎_elim, arith}
+use Rattle.std.proofs.Common.{◌≡◌, refl, ℕ, ◌≤◌, Result, Ok, Err, OnOk, inl, inr, ⊎_elim, arith}
 use Rattle.vx_disk.specs.declared.shelf.ShelfError.{ShelfError}
 use Rattle.vx_disk.specs.declared.shelf.ShelfError.TheVariants.{Fault, Down}
 use Rattle.vx_disk.specs.Causes.{Cause, StaysUp}
@@ -10,6 +10,12 @@ use Rattle.vx_disk.specs.Shelf.{Meaning}
 pub ok_up : {T : Type 0} (old new : Meaning) (unit : ℕ) (r : Result T ShelfError) → Cause old new unit r → OnOk r (StaysUp old new)
 ok_up old new unit (Ok x) cause = cause
 ok_up old new unit (Err e) cause = tt
+
+-- and so it is after a fault
+pub not_Down_up : {T : Type 0} (old new : Meaning) (unit : ℕ) (r : Result T ShelfError) → Cause old new unit r → (r ≡ Err Down → ⊥) → StaysUp old new
+not_Down_up old new unit (Ok x) cause not = cause
+not_Down_up old new unit (Err (Fault disk)) cause not = cause.1
+not_Down_up old new unit (Err Down) cause not = absurd (not refl)
 
 -- a count that rose in the second of two calls rose in both
 pub Rose_before : (first mid last : ℕ) → first ≤ mid → Rose mid last → Rose first last

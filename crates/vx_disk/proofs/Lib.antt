@@ -1,4 +1,12 @@
 pub mod Alikes
+pub mod Blocks
 pub mod Causing
+pub mod Changes
+pub mod Crashes
+pub mod DiskChanges
+pub mod Fits
+pub mod Flags
 pub mod Moving
+pub mod Pasts
 pub mod Runs
+pub mod Stops

@@ -1,7 +1,7 @@
 -- How calls that move a shelf go on from each other.
-use Rattle.std.proofs.Common.{◌≡◌, ◌⊎◌, inl, inr, ⊎_elim, ℕ, ◌≤◌, List, IsTrue, refl, ◌∙◌, arith}
-use Rattle.vx_disk.specs.Shelf.{Image, Values, Meaning, Each, Lawful, Or, Goes, Keeps, Holds, LeavesOnly}
-use Rattle.vx_disk.specs.Moves.{Blocks, Says, Beside, Moves, Along, Surely, Settled}
+use Rattle.std.proofs.Common.{◌≡◌, ◌⊎◌, inl, inr, ⊎_elim, ℕ, ◌≤◌, List, IsTrue, refl, ◌∙◌, arith, ◌%◌, ◌/◌, length}
+use Rattle.vx_disk.specs.Shelf.{Image, Values, Meaning, Each, Lawful, Or, Nothing, Written, Goes, Keeps, Holds, LeavesOnly}
+use Rattle.vx_disk.specs.Moves.{Blocks, Says, Run, Beside, Moves, Along, Surely, Settled, Anything, Nowhere}
 
 pub still : (mine : Blocks) (P : Says) (m : Meaning) → Moves mine P m m
 still mine P m = record {
@@ -111,6 +111,19 @@ leaves_only mine P Q old new moves lawful before during = record {
     | inr now ↦ during i now.1
   ];
 }
+
+-- a call that writes nothing
+pub of_nothing : (old new : Meaning) → Goes Nothing old new → Moves Nowhere Anything old new
+of_nothing old new goes = of_goes Nowhere Anything Nothing old new goes (λ u b v none. none) (λ i each. tt)
+
+-- what is written lies in a run of as many blocks
+pub Written_Run : (unit block : ℕ) (bytes : List ℕ) → length bytes % 512 ≡ 0 → (u b : ℕ) (v : List ℕ) → Written unit block bytes u b v → Run unit block (length bytes / 512) u b
+Written_Run unit block bytes whole u b v written = record { there = written.covers.there; first = written.covers.first; last = omega (arith, whole, written.covers.first, written.covers.last) }
+
+-- a write of whole blocks, or a write and a flush of them
+pub of_written : (P : Says) (unit block : ℕ) (bytes : List ℕ) (old new : Meaning) → length bytes % 512 ≡ 0 → Goes (Written unit block bytes) old new
+    → ((i : Image) → Each (Or old.leaves (Written unit block bytes)) i → P i) → Moves (Run unit block (length bytes / 512)) P old new
+of_written P unit block bytes old new whole goes here = of_goes (Run unit block (length bytes / 512)) P (Written unit block bytes) old new goes (Written_Run unit block bytes whole) here
 
 -- the sentence of a call may be weaker, and its blocks more
 pub wider : (mine big : Blocks) (P Q : Says) (old new : Meaning) → Moves mine P old new → ((u b : ℕ) → mine u b → big u b)

@@ -157,3 +157,7 @@ both_Goes p q first mid last one two = record {
 -- a call that writes nothing after one that writes
 pub then_nothing : (p : Values) (first mid last : Meaning) → Goes p first mid → Goes Nothing mid last → Goes p first last
 then_nothing p first mid last one two = weaker (Or p Nothing) p first last (both_Goes p Nothing first mid last one two) (λ u b v. ⊎_elim (λ put. put) (λ none. absurd none))
+
+-- and before one
+pub nothing_then : (p : Values) (first mid last : Meaning) → Goes Nothing first mid → Goes p mid last → Goes p first last
+nothing_then p first mid last one two = weaker (Or Nothing p) p first last (both_Goes Nothing p first mid last one two) (λ u b v. ⊎_elim (λ none. absurd none) (λ put. put))

@@ -2,6 +2,10 @@ pub mod Blocks
 pub mod Causes
 pub mod Counts
 pub mod Disks
+pub mod Meanings
+pub mod Memory
+pub mod Moments
 pub mod Moves
+pub mod Plans
 pub mod Racks
 pub mod Shelf

@@ -38,6 +38,14 @@ pub record SameContents (old new : Meaning) : Type 0 where
   pub since : (t : ℕ) (i : Image) → new.left_since t i → old.left_since t i
   pub keeps : (t : ℕ) (i : Image) → old.left_since t i → new.left_since t i
 
+-- a rack that is not fitted, tells its contents, is up, and had no fault
+pub record Bare (m : Meaning) : Type 0 where
+  pub units : m.units ≡ 0
+  pub tells : IsTrue m.tells
+  pub up : IsFalse m.down
+  pub unarmed : IsFalse m.armed
+  pub no_faults : (d : ℕ) → m.disk_faults d ≡ 0
+
 -- no count of faults changed
 pub record SameCounts (old new : Meaning) : Type 0 where
   pub faults : (u : ℕ) → new.faults u ≡ old.faults u

@@ -3,10 +3,19 @@
 //! A block is 512 bytes. Units and blocks go by numbers from 0.
 #![tactic(auto)]
 
+mod disks;
+mod memory;
+mod moment;
+mod plan;
 mod rack;
 mod shelf;
 mod steps;
+#[cfg(test)]
+mod tests;
+mod unit;
 
+pub use memory::MemShelf;
+pub use plan::FaultPlan;
 pub use rack::Rack;
 pub use shelf::{Shelf, ShelfError};
 pub use steps::put;
