@@ -8,4 +8,5 @@ pub mod Replies
 pub mod Stands
 pub mod Steps
 pub mod Views
+pub mod Working
 pub mod Yards

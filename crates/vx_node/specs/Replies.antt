@@ -4,6 +4,10 @@ use Rattle.std.specs.Fmt.{decimal}
 use Rattle.vx_model.specs.Content.{block_of, blocks_in}
 use Rattle.vx_node.specs.declared.said.Said.{Said}
 use Rattle.vx_node.specs.declared.said.Said.TheVariants.{Done, DoneAt, Got, Shown, Refused}
+use Rattle.vx_model.specs.declared.errors.Stop.{Stop}
+use Rattle.vx_model.specs.declared.errors.Stop.TheVariants.{No, OutOfMemory as MemoryStop}
+use Rattle.vx_model.specs.declared.errors.OutOfMemory.{OutOfMemory}
+use Rattle.std.specs.Prelude.{Result, Ok, Err}
 use Rattle.vx_report.specs.BlockText.{block_text}
 use Rattle.vx_report.specs.Refusals.{refusal_text}
 use Rattle.vx_report.specs.Statuses.{status_text}
@@ -19,3 +23,8 @@ text_of (DoneAt number) = codes "done " ++ decimal number ++ 10 ∷ []
 text_of (Got bytes) = blocks_text bytes 0 (blocks_in bytes)
 text_of (Shown view) = status_text view
 text_of (Refused why) = refusal_text why
+
+-- what a refusal of the disks is to the line
+abbrev pub reply_to : Stop → Result Said OutOfMemory
+reply_to (No why) = Ok (Refused why)
+reply_to MemoryStop = Err (record {})

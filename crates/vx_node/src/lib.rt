@@ -8,6 +8,7 @@ mod facts;
 mod racks;
 mod said;
 mod units;
+mod work;
 mod yard;
 
 pub use engine::Engine;

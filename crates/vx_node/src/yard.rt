@@ -1,13 +1,11 @@
 // All sites of a run.
-ghost use Rattle.std.specs.Prelude.{◌≡◌, ℕ};
+ghost use Rattle.std.specs.Prelude.{◌≡◌, is_some};
 ghost use Rattle.vx_node.specs.Facts.{seat_of};
 
-use crate::{Engine, facts};
-use std::alloc::Global;
+use crate::Engine;
 use vx_disk::Rack;
-use vx_model::{Name, SiteName, SiteState};
-use vx_order::{RvgFacts, SiteFacts};
-use vx_report::{DiskViews, LinkViews, RvgView, SiteView, VolumeViews};
+use vx_model::Name;
+use vx_order::SiteFacts;
 
 /// The sites of a run: for each what the tests of a line look at, and its disks.
 #[derive(Drop)]
@@ -26,4 +24,14 @@ pub fn seat(sites: &[SiteFacts], name: &Name) -> Option<usize>
     sites
         .iter()
         .position(|site| site.name.as_bytes() == name.as_bytes())
+}
+
+/// The folder of the files, if there is one.
+pub fn folder(dir: &Option<String>) -> Option<&str>
+    ensures { is_some result ≡ is_some dir.now }
+{
+    match dir {
+        Some(dir) => Some(dir.as_str()),
+        None => None,
+    }
 }
