@@ -1,0 +1,5 @@
+pub mod Codes
+pub mod Headers
+pub mod HeaderReading
+pub mod Records
+pub mod RecordReading
