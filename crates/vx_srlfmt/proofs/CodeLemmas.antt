@@ -30,8 +30,8 @@ Agrees-if false r s other h k = k
 pub Agrees-role_of : (n other : ℕ) → Agrees (role_of n other) other
 Agrees-role_of n other =
     Agrees-if (n == 0) role.Primary (if n == 1 then role.Secondary else if n == 2 then role.Handing other else role.Bunker) other tt
-      (Agrees-if (n == 1) role.Secondary (if n == 2 then role.Handing other else role.Bunker) other tt
-        (Agrees-if (n == 2) (role.Handing other) role.Bunker other refl tt))
+    (Agrees-if (n == 1) role.Secondary (if n == 2 then role.Handing other else role.Bunker) other tt
+    (Agrees-if (n == 2) (role.Handing other) role.Bunker other refl tt))
 
 pub role_code-lt : (x : Role) → role_code x < 256 ^ 1
 role_code-lt role.Primary = lit< tt

@@ -9,22 +9,13 @@ use Rattle.vx_model.specs.declared.state.State.{State}
 use Rattle.vx_wire.specs.Fields.{spelled, zeros}
 use Rattle.vx_wire.specs.Seals.{sealed, filled, digest_of}
 use Rattle.vx_wire.specs.Numbers.{be_bytes, number_at}
-use Rattle.vx_wire.proofs.NumberLemmas.{number_at-be_bytes}
+use Rattle.vx_srlfmt.proofs.Numbers.{read, number_at-behind}
 use Rattle.vx_srlfmt.specs.Codes.{role_code, mark_code, phase_code, mode_code, sync_code, prot_code, flags_code, role_of, mark_of, phase_of, mode_of, sync_of, prot_of, attached_of, bunker_of}
 use Rattle.vx_srlfmt.specs.HeaderReading.{line_at, link_at, links_at, state_in, header_in}
-use Rattle.vx_srlfmt.specs.Headers.{header_table, link_table, link_bytes, header_fields, header_block, Agrees, CanSpellLink, CanSpellState, CanSpell, IsTypedState, IsHeader}
+use Rattle.vx_srlfmt.specs.Headers.{header_magic, header_table, link_table, link_bytes, header_fields, header_block, Agrees, CanSpellLink, CanSpellState, CanSpell, IsTypedState, IsHeader}
 use Rattle.vx_srlfmt.specs.declared.header.Header.{Header}
 use Rattle.vx_srlfmt.proofs.Lengths.{length-header_table, length-link_bytes}
 use Rattle.vx_srlfmt.proofs.CodeLemmas.{Agrees-role_of, role_of-role_code, role_code-lt, mark_of-mark_code, mark_code-lt, phase_of-phase_code, phase_code-lt, mode_of-mode_code, mode_code-lt, sync_of-sync_code, sync_code-lt, prot_of-prot_code, prot_code-lt, attached_of-flags_code, bunker_of-flags_code, flags_code-lt}
-
--- a number that is spelled is read
-read : (w n : ℕ) → n < 256 ^ w → number_at w 0 (be_bytes w n ++ []) ≡ n
-read w n lt = number_at-be_bytes w n [] [] lt
-
--- a number behind other bytes
-number_at-behind : (w k : ℕ) (before xs : List ℕ) → number_at w (length before + k) (before ++ xs) ≡ number_at w k xs
-unfolding number_at
-number_at-behind w k before xs = rw (← drop-drop k (length before) (before ++ xs), drop_at before xs (length before) refl) refl
 
 -- the numbers of a link
 record HasLink (xs : List ℕ) (l : KeptLink) : Type 0 where
@@ -55,7 +46,7 @@ link_at-has xs l h =
 link_at-behind : (before xs : List ℕ) → link_at (length before) (before ++ xs) ≡ link_at 0 xs
 link_at-behind before xs =
     let site : number_at 4 (length before) (before ++ xs) ≡ number_at 4 0 xs =
-      ap (λ (k : ℕ). number_at 4 k (before ++ xs)) (sym (add-zero (length before))) ∙ number_at-behind 4 0 before xs in
+    ap (λ (k : ℕ). number_at 4 k (before ++ xs)) (sym (add-zero (length before))) ∙ number_at-behind 4 0 before xs in
     rw (site, number_at-behind 1 4 before xs, number_at-behind 1 5 before xs, number_at-behind 1 6 before xs, number_at-behind 1 7 before xs, number_at-behind 8 8 before xs, number_at-behind 8 16 before xs) refl
 
 -- the links that stand one behind the other
@@ -66,13 +57,13 @@ links_at-again [] at before rest same can typed = refl
 links_at-again (l ∷ ls) at before rest same can typed =
     let others : List ℕ = flat_map link_bytes ls ++ rest in
     let grouped : before ++ (flat_map link_bytes (l ∷ ls) ++ rest) ≡ before ++ (link_bytes l ++ others) =
-      ap (λ (t : List ℕ). before ++ t) (append_assoc (link_bytes l) (flat_map link_bytes ls) rest) in
+    ap (λ (t : List ℕ). before ++ t) (append_assoc (link_bytes l) (flat_map link_bytes ls) rest) in
     let first : link_at at (before ++ (link_bytes l ++ others)) ≡ l =
-      ap (λ (n : ℕ). link_at n (before ++ (link_bytes l ++ others))) same ∙ link_at-behind before (link_bytes l ++ others)
-      ∙ link_at-has (link_bytes l ++ others) l (HasLink-link_bytes l others can.0 typed.0) in
+    ap (λ (n : ℕ). link_at n (before ++ (link_bytes l ++ others))) same ∙ link_at-behind before (link_bytes l ++ others)
+    ∙ link_at-has (link_bytes l ++ others) l (HasLink-link_bytes l others can.0 typed.0) in
     let next : at + 24 ≡ length (before ++ link_bytes l) = omega (arith, length-append before (link_bytes l), length-link_bytes l) in
     let second : links_at (length ls) (at + 24) (before ++ (link_bytes l ++ others)) ≡ ls =
-      ap (links_at (length ls) (at + 24)) (sym (append_assoc before (link_bytes l) others)) ∙ links_at-again ls (at + 24) (before ++ link_bytes l) rest next can.1 typed.1 in
+    ap (links_at (length ls) (at + 24)) (sym (append_assoc before (link_bytes l) others)) ∙ links_at-again ls (at + 24) (before ++ link_bytes l) rest next can.1 typed.1 in
     ap (λ (b : List ℕ). link_at at b ∷ links_at (length ls) (at + 24) b) grouped
     ∙ ap (λ (m : KeptLink). m ∷ links_at (length ls) (at + 24) (before ++ (link_bytes l ++ others))) first
     ∙ ap (λ (ms : List KeptLink). l ∷ ms) second
@@ -161,9 +152,9 @@ header_in-header_block h can typed place =
     let rest : List ℕ = flat_map link_bytes h.state.links ++ tail in
     let table : List ℕ = spelled (header_table h) in
     let links : links_at (length h.state.links) 124 (table ++ rest) ≡ h.state.links =
-      links_at-again h.state.links 124 table tail (sym (length-header_table h)) (recursion_from_All CanSpellLink h.state.links can.state.links) (recursion_from_All (λ l. l.site < 2 ^ 32) h.state.links typed.sites) in
+    links_at-again h.state.links 124 table tail (sym (length-header_table h)) (recursion_from_All CanSpellLink h.state.links can.state.links) (recursion_from_All (λ l. l.site < 2 ^ 32) h.state.links typed.sites) in
     let state : state_in (table ++ rest) ≡ h.state =
-      state_in-has (table ++ rest) h.state (HasState-table h rest can.state typed) can.state.role can.state.few links in
+    state_in-has (table ++ rest) h.state (HasState-table h rest can.state typed) can.state.role can.state.few links in
     ap header_in (split h).1 ∙ header_in-has (table ++ rest) h (HasHeader-table h rest can place) state
 
 -- one block is the spelling of one header
@@ -183,3 +174,11 @@ Agrees-header_in block = Agrees-role_of (number_at 1 80 block) (number_at 4 99 b
 pub few-header_in : (block : List ℕ) → length (header_in block).state.links ≤ 4
 unfolding header_in state_in
 few-header_in block = omega (arith, length-links_at (min (number_at 1 123 block) 4) 124 block)
+
+-- a header's block begins with its magic
+begins_table : (h : Header) (rest : List ℕ) → take 8 (spelled (header_table h) ++ rest) ≡ be_bytes 8 header_magic
+unfolding be_bytes spelled header_table
+begins_table h rest = refl
+
+pub begins_header : (block : List ℕ) (h : Header) → IsHeader block h → take 8 block ≡ be_bytes 8 header_magic
+begins_header block h is = ap (take 8) (is.is ∙ (split h).1) ∙ begins_table h (flat_map link_bytes h.state.links ++ (split h).0)

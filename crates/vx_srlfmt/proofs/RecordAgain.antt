@@ -5,7 +5,7 @@ use Rattle.vx_wire.specs.Fields.{spelled, zeros}
 use Rattle.vx_wire.specs.Numbers.{be_bytes, number_at}
 use Rattle.vx_wire.specs.Places.{cut}
 use Rattle.vx_wire.specs.Seals.{sealed, filled, digest_of, IsSealed}
-use Rattle.vx_wire.proofs.NumberLemmas.{number_at-be_bytes}
+use Rattle.vx_srlfmt.proofs.Numbers.{read}
 use Rattle.vx_srlfmt.specs.RecordReading.{head_in}
 use Rattle.vx_srlfmt.specs.Records.{record_magic, record_table, record_fields, record_block, CanSpellHead, IsTypedHead, IsRecord}
 use Rattle.vx_srlfmt.specs.declared.record.RecordHead.{RecordHead}
@@ -17,10 +17,6 @@ length-record_table r = refl
 pub length-record_fields : (r : RecordHead) → IsTypedHead r → length (record_fields r) ≡ 108
 unfolding record_fields
 length-record_fields r typed = omega (arith, length-append (spelled (record_table r)) (r.digest ++ r.firsts), length-append r.digest r.firsts, length-record_table r, typed.digest, typed.firsts)
-
--- a number that is spelled is read
-pub read : (w n : ℕ) → n < 256 ^ w → number_at w 0 (be_bytes w n ++ []) ≡ n
-read w n lt = number_at-be_bytes w n [] [] lt
 
 -- the numbers of a record header
 record HasNumbers (block : List ℕ) (r : RecordHead) : Type 0 where
@@ -68,7 +64,7 @@ head_in-record_block r can typed =
     let ends : List ℕ = r.digest ++ (r.firsts ++ tail) in
     let behind : drop 60 (table ++ ends) ≡ ends = drop_at table ends 60 (length-record_table r) in
     let behind_digest : drop 92 (table ++ ends) ≡ r.firsts ++ tail =
-      sym (drop-drop 32 60 (table ++ ends)) ∙ ap (drop 32) behind ∙ drop_at r.digest (r.firsts ++ tail) 32 typed.digest in
+    sym (drop-drop 32 60 (table ++ ends)) ∙ ap (drop 32) behind ∙ drop_at r.digest (r.firsts ++ tail) 32 typed.digest in
     let digest : cut 60 32 (table ++ ends) ≡ r.digest = ap (take 32) behind ∙ take_at r.digest (r.firsts ++ tail) 32 typed.digest in
     let firsts : cut 92 16 (table ++ ends) ≡ r.firsts = ap (take 16) behind_digest ∙ take_at r.firsts tail 16 typed.firsts in
     ap head_in (split r).1 ∙ head_in-has (table ++ ends) r (HasNumbers-table r ends can typed) digest firsts

@@ -8,7 +8,7 @@ use Rattle.vx_srlfmt.specs.Records.{record_magic, record_fields, record_block, I
 use Rattle.vx_srlfmt.specs.declared.record.RecordHead.{RecordHead}
 use Rattle.vx_srlfmt.specs.declared.record.Seen.{Seen}
 use Rattle.vx_srlfmt.specs.declared.record.Seen.TheVariants as seen
-use Rattle.vx_srlfmt.proofs.RecordAgain.{read, length-record_fields, head_in-is}
+use Rattle.vx_srlfmt.proofs.RecordAgain.{length-record_fields, head_in-is}
 
 -- a record header's block has its fields and a good digest
 pub front_record : (block : List ℕ) (r : RecordHead) → IsRecord block r → (take 480 block ≡ filled (record_fields r)) × IsSealed block
@@ -27,8 +27,3 @@ seen_damaged block (seen.Record q) told is = absurd (is.broken (front_record blo
 seen_damaged block (seen.Damaged stored computed) told is =
     ap (λ (d : List ℕ). seen.Damaged d computed) told.stored ∙ ap (λ (d : List ℕ). seen.Damaged (drop 480 block) d) told.computed
 seen_damaged block seen.Other told is = absurd (told.1 is)
-
--- a block that begins with these eight bytes has this number there
-pub magic_is : (n m : ℕ) (block : List ℕ) → n < 256 ^ 8 → m < 256 ^ 8 → be_bytes 8 n ≡ take 8 block → take 8 block ≡ be_bytes 8 m → n ≡ m
-magic_is n m block small low first second =
-    sym (read 8 n small) ∙ ap (λ (b : List ℕ). number_at 8 0 (b ++ [])) (first ∙ second) ∙ read 8 m low

@@ -1,5 +1,5 @@
 -- The header of a log, as a block.
-use Rattle.std.specs.Prelude.{◌≡◌, ℕ, ◌<◌, ◌≤◌, ◌^◌, List, [], ◌∷◌, ◌++◌, length, flat_map, All}
+use Rattle.std.specs.Prelude.{◌≡◌, ℕ, ◌<◌, ◌≤◌, ◌^◌, List, [], ◌∷◌, ◌++◌, length, take, flat_map, All}
 use Rattle.vx_model.specs.declared.site.Role.{Role}
 use Rattle.vx_model.specs.declared.site.Role.TheVariants as role
 use Rattle.vx_model.specs.declared.state.KeptLink.{KeptLink}
@@ -7,7 +7,8 @@ use Rattle.vx_model.specs.declared.state.State.{State}
 use Rattle.vx_wire.specs.declared.field.Field.{Field}
 use Rattle.vx_wire.specs.declared.field.Field.TheVariants.{U8, U32, U64}
 use Rattle.vx_wire.specs.Fields.{spelled}
-use Rattle.vx_wire.specs.Seals.{sealed}
+use Rattle.vx_wire.specs.Numbers.{be_bytes}
+use Rattle.vx_wire.specs.Seals.{sealed, IsSealed}
 use Rattle.vx_srlfmt.specs.Codes.{role_code, mark_code, phase_code, mode_code, sync_code, prot_code, flags_code}
 use Rattle.vx_srlfmt.specs.declared.header.Header.{Header}
 
@@ -104,6 +105,11 @@ pub record IsTypedState (s : State) : Type 0 where
   pub other : s.other < 2 ^ 32
   pub parent : s.parent.origin < 2 ^ 32
   pub sites : All (λ l. l.site < 2 ^ 32) s.links
+
+-- the block begins as a header does, and its digest fails
+pub record IsDamagedHeader (block : List ℕ) : Type 0 where
+  pub begins : take 8 block ≡ be_bytes 8 header_magic
+  pub broken : IsSealed block → ⊥
 
 -- the block is the spelling of the header
 pub record IsHeader (block : List ℕ) (h : Header) : Type 0 where

@@ -3,3 +3,4 @@ pub mod Headers
 pub mod HeaderReading
 pub mod Records
 pub mod RecordReading
+pub mod Kinds

@@ -5,16 +5,16 @@ ghost use Rattle.vx_srlfmt.specs.declared.header.Header.{Header as HeaderValue};
 ghost use Rattle.vx_wire.specs.Places.{put_at};
 ghost use Rattle.vx_wire.specs.Seals.{filled};
 
-use crate::header_codes::{flags_code, mark_code, mode_code, phase_code, prot_code, role_code, sync_code};
+use crate::header_codes::{
+    flags_code, mark_code, mode_code, phase_code, prot_code, role_code, sync_code,
+};
 use crate::header_reading::read_header;
+use crate::limit::GREATEST;
 use vx_model::{KeptLink, State};
-use vx_wire::{broken_seal, put_fields, put_zeros, seal, Field};
+use vx_wire::{Field, broken_seal, put_fields, put_zeros, seal};
 
 /// The bytes "VXSRLH01", with which a header begins.
 pub const HEADER_MAGIC: u64 = 0x565853524c483031;
-
-// The greatest stamp, incarnation, run, generation, record number and replay number.
-const GREATEST: u64 = 0x7fff_ffff_ffff_ffff;
 
 /// What a header keeps: the state of its site, and where the log begins.
 #[derive(Drop)]

@@ -8,31 +8,50 @@ use crate::header_codes::{
     attached_of, bunker_of, mark_of, mode_of, phase_of, prot_of, role_of, sync_of,
 };
 use vx_model::{KeptLink, KeptLinks, State};
-use vx_wire::{get_line, get_u32, get_u64, get_u8};
+use vx_wire::{get_line, get_u8, get_u32, get_u64};
 
 // The places of the fields, in the order in which they stand.
 const STAMP: usize = 8;
+
 const LINE: usize = 16;
+
 const TOP: usize = 28;
+
 const INCARNATION: usize = 36;
+
 const FLOOR: usize = 44;
+
 const RUN: usize = 52;
+
 const LOW: usize = 60;
+
 const PLACE: usize = 68;
+
 const APPLIED: usize = 72;
+
 const ROLE: usize = 80;
+
 const MARK: usize = 81;
+
 const PHASE: usize = 82;
+
 const REPLAY: usize = 83;
+
 const END: usize = 91;
+
 const OTHER: usize = 99;
+
 const PARENT: usize = 103;
+
 const FORK: usize = 115;
+
 const LINK_COUNT: usize = 123;
+
 const LINKS: usize = 124;
 
 // So many bytes has a link, and so many links has a header at most.
 const LINK_BYTES: usize = 24;
+
 const MOST_LINKS: u8 = 4;
 
 fn read_link(block: &[u8; 512], at: usize) -> KeptLink

@@ -6,7 +6,15 @@
 mod header;
 mod header_codes;
 mod header_reading;
+mod kind;
+mod limit;
 mod record;
 
-pub use header::{get_header, put_header, Header};
-pub use record::{get_record, put_record, RecordHead, Seen};
+pub use header::{HEADER_MAGIC, Header, get_header, put_header};
+pub use kind::kinds;
+pub use record::{RECORD_MAGIC, RecordHead, Seen, get_record, put_record};
+
+#[cfg(test)]
+mod test_blocks;
+#[cfg(test)]
+mod tests;

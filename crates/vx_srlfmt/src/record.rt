@@ -7,28 +7,35 @@ ghost use Rattle.vx_wire.specs.Fields.{zeros};
 ghost use Rattle.vx_wire.specs.Places.{put_at};
 ghost use Rattle.vx_wire.specs.Seals.{filled, digest_of, IsSealed};
 
+use crate::limit::GREATEST;
 use vx_model::Line;
 use vx_wire::{
-    broken_seal, get_bytes, get_line, get_u32, get_u64, is_zero, put_bytes, put_fields, put_zeros,
-    seal, Field,
+    Field, broken_seal, get_bytes, get_line, get_u32, get_u64, is_zero, put_bytes, put_fields,
+    put_zeros, seal,
 };
 
 /// The bytes "VXSRLR01", with which a record header begins.
 pub const RECORD_MAGIC: u64 = 0x565853524c523031;
 
-// The greatest incarnation, run, generation and record number.
-const GREATEST: u64 = 0x7fff_ffff_ffff_ffff;
-
 // The places of the fields, in the order in which they stand.
 const INCARNATION: usize = 8;
+
 const RUN: usize = 16;
+
 const LINE: usize = 24;
+
 const NUMBER: usize = 36;
+
 const VOL: usize = 44;
+
 const BLOCK: usize = 48;
+
 const COUNT: usize = 56;
+
 const DIGEST: usize = 60;
+
 const FIRSTS: usize = 92;
+
 const FRONT: usize = 108;
 
 /// What stands before the blocks of a logged write.

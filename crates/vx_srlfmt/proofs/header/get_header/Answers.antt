@@ -7,7 +7,7 @@ use Rattle.vx_srlfmt.specs.Headers.{header_fields, header_block, Agrees, CanSpel
 use Rattle.vx_srlfmt.specs.declared.header.Header.{Header}
 use Rattle.vx_srlfmt.proofs.HeaderAgain.{Agrees-header_in, few-header_in, header_in-is}
 use Rattle.vx_srlfmt.proofs.Lengths.{length-header_fields}
-use Rattle.vx_srlfmt.proofs.Tests.{sealed_from, from_sealed, sealed-is, not_both}
+use Rattle.vx_srlfmt.proofs.Told.{sealed_from, from_sealed, sealed-is, not_both}
 use Rattle.vx_srlfmt.proofs.header.get_header.Goals.{else-can_spell-via-then-can_spell+then-is_spelled+else-is_none, else-can_spell-via-then-can_spell+else-is_spelled, else-can_spell-via-else-can_spell}
 use Rattle.vx_srlfmt.proofs.header.get_header.Goals as goal
 

@@ -43,9 +43,9 @@ loop-link-preserved c =
     record {
       next = c.put_fields-place-in-loop-link.ensures.next ∙ omega (arith, ap length same, ap length more, c.loop-link.invariant.next, length-append (front_of c.args.h.now (take i links)) (link_bytes link));
       written = c.put_fields-place-in-loop-link.ensures.written ∙ ap (put_at c.loop-link.place new) c.loop-link.invariant.written
-        ∙ put_at-put_at 0 c.loop-link.place (front_of c.args.h.now (take i links)) new c.args.into.now (c.loop-link.invariant.next ∙ omega arith) (omega arith)
-        ∙ ap (λ (b : List ℕ). put_at 0 (front_of c.args.h.now (take i links) ++ b) c.args.into.now) same
-        ∙ ap (λ (b : List ℕ). put_at 0 b c.args.into.now) (sym more);
+          ∙ put_at-put_at 0 c.loop-link.place (front_of c.args.h.now (take i links)) new c.args.into.now (c.loop-link.invariant.next ∙ omega arith) (omega arith)
+          ∙ ap (λ (b : List ℕ). put_at 0 (front_of c.args.h.now (take i links) ++ b) c.args.into.now) same
+          ∙ ap (λ (b : List ℕ). put_at 0 b c.args.into.now) (sym more);
     }
 
 pub overflow_sub-place : goal.overflow_sub-place

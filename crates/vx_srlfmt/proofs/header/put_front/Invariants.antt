@@ -7,8 +7,8 @@ use Rattle.vx_srlfmt.proofs.header.put_front.Given as goal
 
 abbrev pub invariant-loop-link : goal.invariant-loop-link
 invariant-loop-link l =
-  let so_far = spelled (header_table l.h) ++ flat_map link_bytes (take l.link-index l.h.state.links) in
-  record {
-    next : l.place ≡ length so_far;
-    written : l.into ≡ put_at 0 so_far l.fn.into;
-  }
+    let so_far = spelled (header_table l.h) ++ flat_map link_bytes (take l.link-index l.h.state.links) in
+    record {
+      next : l.place ≡ length so_far;
+      written : l.into ≡ put_at 0 so_far l.fn.into;
+    }

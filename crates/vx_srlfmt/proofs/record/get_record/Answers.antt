@@ -3,7 +3,8 @@ use Rattle.vx_wire.specs.Numbers.{be_bytes}
 use Rattle.vx_srlfmt.specs.Records.{record_magic, IsRecord, IsDamaged, IsSeen}
 use Rattle.vx_srlfmt.specs.declared.record.RecordHead.{RecordHead}
 use Rattle.vx_srlfmt.proofs.RecordAgain.{begins_record}
-use Rattle.vx_srlfmt.proofs.RecordLaws.{front_record, seen_only, seen_damaged, magic_is}
+use Rattle.vx_srlfmt.proofs.Numbers.{magic_is}
+use Rattle.vx_srlfmt.proofs.RecordLaws.{front_record, seen_only, seen_damaged}
 use Rattle.vx_srlfmt.proofs.record.get_record.Goals as goal
 
 pub returns-then-get_u64-ne-RECORD_MAGIC-clause-seen : goal.returns-then-get_u64-ne-RECORD_MAGIC-clause-seen

@@ -15,6 +15,7 @@ returns c =
     let front : List ℕ = filled (record_fields c.args.h.now) in
     let few : length (record_fields c.args.h.now) ≤ 480 = omega (arith, length-record_fields c.args.h.now c.requires) in
     let again : c.put_front.new.into ≡ front = c.put_front.ensures ∙ put_at-whole front (replicate 480 0) (length-filled (record_fields c.args.h.now) few) in
-    let told : c.eq.result ≡ pointwise nat_eq front (take 480 c.args.block.now) = c.eq.ensures ∙ ap (λ (a : List ℕ). pointwise nat_eq a (take 480 c.args.block.now)) again in
-    (λ yes. sym (same_text front (take 480 c.args.block.now) (sym yes ∙ told)),
-     λ same. told ∙ ap (λ (a : List ℕ). pointwise nat_eq front a) same ∙ nat_list_eq_equiv.refl front)
+    let told : c.eq.result ≡ pointwise nat_eq front (take 480 c.args.block.now) = c.eq.ensures ∙ ap (λ (a : List ℕ). pointwise nat_eq a (take 480 c.args.block.now)) again in (
+      λ yes. sym (same_text front (take 480 c.args.block.now) (sym yes ∙ told)),
+      λ same. told ∙ ap (λ (a : List ℕ). pointwise nat_eq front a) same ∙ nat_list_eq_equiv.refl front,
+    )

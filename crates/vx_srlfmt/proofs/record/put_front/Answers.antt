@@ -29,9 +29,9 @@ returns c =
     let three : length fields ≡ 108 = omega (arith, ap length (sym grouped), length-append (table ++ digest) firsts) in
     let first : c.put_fields.new.bytes ≡ put_at 0 table old = c.put_fields.ensures.written ∙ ap (λ t. put_at 0 (spelled t) old) c.table.ensures in
     let second : c.put_bytes.new.bytes ≡ put_at 0 (table ++ digest) old =
-      c.put_bytes.ensures ∙ ap (put_at 60 digest) first ∙ put_at-put_at 0 60 table digest old (omega arith) (omega arith) in
+    c.put_bytes.ensures ∙ ap (put_at 60 digest) first ∙ put_at-put_at 0 60 table digest old (omega arith) (omega arith) in
     let third : c.put_bytes-2.new.bytes ≡ put_at 0 fields old =
-      c.put_bytes-2.ensures ∙ ap (put_at 92 firsts) second ∙ put_at-put_at 0 92 (table ++ digest) firsts old (omega arith) (omega arith) ∙ ap (λ (t : List ℕ). put_at 0 t old) grouped in
+    c.put_bytes-2.ensures ∙ ap (put_at 92 firsts) second ∙ put_at-put_at 0 92 (table ++ digest) firsts old (omega arith) (omega arith) ∙ ap (λ (t : List ℕ). put_at 0 t old) grouped in
     let left : 480 - length fields ≡ 372 = omega arith in
     let rest : zeros (480 - length fields) ≡ zeros 372 = ap zeros left in
     c.put_zeros.ensures ∙ ap (put_at 108 (zeros 372)) third ∙ put_at-put_at 0 108 fields (zeros 372) old (omega arith) (omega arith)
