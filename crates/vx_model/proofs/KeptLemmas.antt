@@ -1,5 +1,5 @@
 -- Bytes put over the front of zeros.
-use Rattle.std.proofs.Common.{◌≡◌, ◌≤◌, ◌<◌, ◌%◌, ℕ, ◌-◌, List, ◌++◌, length, take, drop, replicate, arith, length-append, sym, ap}
+use Rattle.std.proofs.Common.{◌≡◌, ◌≤◌, ◌<◌, ◌%◌, ℕ, List, ◌++◌, length, drop, replicate, arith, length-append}
 use Rattle.std.proofs.lemmas.List.{take_at, drop-replicate, length-replicate}
 use Rattle.vx_model.specs.Kept.{IsPadded}
 use Rattle.vx_model.specs.BlockLists.{IsBlockList}

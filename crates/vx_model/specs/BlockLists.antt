@@ -1,6 +1,6 @@
 -- The blocks of a read or write, as the program keeps them.
 use Rattle.std.specs.Prelude.{◌≡◌, ℕ, ◌<◌, ◌%◌, List, length}
-use Rattle.std.proofs.Common.{◌≤◌, ap, sym, arith, take, refl}
+use Rattle.std.proofs.Common.{◌≤◌, ap, sym, arith, take}
 use Rattle.std.proofs.lemmas.List.{length-take}
 use Rattle.vx_model.specs.Kept.{front, padded, IsPadded}
 use Rattle.vx_model.specs.declared.block_list.Blocks.TheInside.{Inside}

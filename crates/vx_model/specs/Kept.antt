@@ -1,5 +1,5 @@
 -- A short list as the program keeps it in an array: its items, then zeros.
-use Rattle.std.specs.Prelude.{◌≡◌, ℕ, ◌-◌, ◌<◌, ◌≤◌, List, ◌++◌, length, replicate, take}
+use Rattle.std.specs.Prelude.{◌≡◌, ℕ, ◌-◌, ◌≤◌, List, ◌++◌, length, replicate, take}
 
 -- the first `len` of these
 abbrev pub front : ℕ → List ℕ → List ℕ

@@ -1,3 +1,9 @@
+pub mod Answer
 pub mod BlockLists
+pub mod Content
+pub mod Good
 pub mod Kept
 pub mod Names
+pub mod States
+pub mod Steps
+pub mod World

@@ -1,6 +1,6 @@
 -- A name as the program keeps it.
 use Rattle.std.specs.Prelude.{◌≡◌, ℕ, ◌<◌, List, length}
-use Rattle.std.proofs.Common.{◌≤◌, ap, sym, arith, take, replicate, ◌++◌, ◌-◌, refl}
+use Rattle.std.proofs.Common.{◌≤◌, ap, sym, arith, take}
 use Rattle.std.proofs.lemmas.List.{length-take}
 use Rattle.vx_model.specs.Kept.{front, padded, IsPadded}
 use Rattle.vx_model.specs.declared.name.Name.TheInside.{Inside}

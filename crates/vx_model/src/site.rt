@@ -1,4 +1,16 @@
-// What a site is to others.
+// What a site is, by itself and to others.
+
+/// Whether a site can work.
+#[derive(Clone, Copy, Debug, PartialEq, Eq)]
+pub enum SiteState {
+    /// It has disks, and nothing is made of them.
+    Bare,
+    Up,
+    /// Its disk group was deported.
+    Deported,
+    /// It crashed.
+    Down,
+}
 
 /// What part a site has in replication.
 #[derive(Clone, Copy, Debug, PartialEq, Eq)]

@@ -103,8 +103,12 @@ pub struct State {
 }
 
 impl State {
-    /// That of a site that begins its first line.
-    pub fn first(site: u32) -> State {
+    ghost use Rattle.vx_model.specs.States.{first_state};
+
+    /// That of a primary on its first line, with no links.
+    pub fn first(site: u32) -> State
+        ensures { result ≡ first_state site }
+    {
         State {
             line: Line {
                 generation: 1,

@@ -1,4 +1,4 @@
-ghost use Rattle.std.specs.Prelude.{◌≤◌, length};
+ghost use Rattle.std.specs.Prelude.{◌<◌, ◌≤◌, ◌^◌, length};
 ghost use Rattle.vx_srlfmt.specs.Headers.{CanSpell};
 ghost use Rattle.vx_srlfmt.specs.Records.{CanSpellHead};
 
@@ -21,7 +21,17 @@ fn block_of(fields: &[u8], digest: &[u8; 32]) -> [u8; 512]
     block
 }
 
-fn new_header(stamp: u64) -> Header {
+// The block with this byte at a place below 512.
+fn changed(block: [u8; 512], at: usize, byte: u8) -> [u8; 512] {
+    let mut block = block;
+    block[at % 512] = byte;
+    block
+}
+
+fn new_header(stamp: u64) -> Header
+    requires { stamp < 2 ^ 63 }
+    ensures { CanSpell result }
+{
     Header {
         stamp,
         state: State::first(0),
@@ -117,8 +127,7 @@ fn each_field_has_a_greatest_value(rt: HostRuntime) {
         assert_eq!(rt; link.mode, KeptMode::Stale);
     }
     for (at, byte, digest) in OUTSIDE {
-        let mut outside = block_of(&MOST, &digest);
-        outside[at] = byte;
+        let outside = changed(block_of(&MOST, &digest), at, byte);
         assert!(rt; get_header(&outside).is_none(), "at {at}");
     }
 }
@@ -152,8 +161,7 @@ fn a_record_of_one_block(rt: HostRuntime) {
     assert!(rt; block == block_of(&RECORD, &RECORD_DIGEST));
     assert_eq!(rt; get_record(&block), Seen::Record(head));
     for (at, byte, digest) in OUTSIDE_RECORD {
-        let mut outside = block_of(&RECORD, &digest);
-        outside[at] = byte;
+        let outside = changed(block_of(&RECORD, &digest), at, byte);
         assert_eq!(rt; get_record(&outside), Seen::Other, "at {at}");
     }
     let most = block_of(&MOST_RECORD, &MOST_RECORD_DIGEST);

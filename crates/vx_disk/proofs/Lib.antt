@@ -1,0 +1,4 @@
+pub mod Alikes
+pub mod Causing
+pub mod Moving
+pub mod Runs

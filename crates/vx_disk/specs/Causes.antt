@@ -1,0 +1,52 @@
+-- Why a call on a shelf failed, and what is told of the disks of a rack beside.
+use Rattle.std.specs.Prelude.{◌≡◌, ◌⊎◌, ℕ, Option, Some, None, IsTrue, false, Result, Ok, Err}
+use Rattle.vx_disk.specs.declared.shelf.ShelfError.{ShelfError}
+use Rattle.vx_disk.specs.declared.shelf.ShelfError.TheVariants.{Fault, Down}
+use Rattle.vx_disk.specs.Counts.{Rose}
+use Rattle.vx_disk.specs.Disks.{Disks, SameBlocks, Untouched, Burns, RanOut}
+use Rattle.vx_disk.specs.Shelf.{Meaning}
+
+-- both counts rose in the call
+pub record Faulted (old new : Meaning) (unit disk : ℕ) : Type 0 where
+  pub count : Rose (old.faults unit) (new.faults unit)
+  pub disk_count : Rose (old.disk_faults disk) (new.disk_faults disk)
+
+-- it is up before the call and after it
+pub record StaysUp (old new : Meaning) : Type 0 where
+  pub before : IsTrue old.down → ⊥
+  pub after : IsTrue new.down → ⊥
+
+-- a fault comes only where both counts rose, and Down exactly where the shelf is then down
+abbrev pub Cause : {T : Type 0} → Meaning → Meaning → ℕ → Result T ShelfError → Type 0
+Cause old new unit (Ok _) = StaysUp old new
+Cause old new unit (Err (Fault disk)) = Faulted old new unit disk × StaysUp old new
+Cause old new unit (Err Down) = IsTrue new.down
+
+-- a write or a flush of a rack, where `step` is what it does if it answers Ok
+abbrev pub Calls : {T : Type 0} → Meaning → (Disks → Disks → Type 0) → Disks → Disks → Result T ShelfError → Type 0
+Calls m step old new (Ok _) = (IsTrue m.tells → step old new) × Burns old.fuse new.fuse
+Calls m step old new (Err (Fault disk)) = SameBlocks old new × Burns old.fuse new.fuse
+Calls m step old new (Err Down) = (IsTrue m.down × Untouched old new) ⊎ RanOut m.size old new
+
+-- of anything but a rack this says nothing
+abbrev pub WithDisks : Option Disks → Option Disks → (Disks → Disks → Type 0) → Type 0
+WithDisks None None P = Unit {0}
+WithDisks None (Some new) P = ⊥
+WithDisks (Some old) None P = ⊥
+WithDisks (Some old) (Some new) P = P old new
+
+-- the same of a call that leaves alone which disks are made to fail
+abbrev pub OnDisks : Option Disks → Option Disks → (Disks → Disks → Type 0) → Type 0
+OnDisks old new P = WithDisks old new (λ o n. P o n × ((u : ℕ) → n.failing u ≡ o.failing u))
+
+-- the disk is not made to fail: on a rack an Ok comes only there
+abbrev pub Works : Option Disks → ℕ → Type 0
+Works None unit = Unit {0}
+Works (Some disks) unit = disks.failing unit ≡ false
+
+-- on a rack the disk of a fault is the unit
+abbrev pub Names : {T : Type 0} → Option Disks → ℕ → Result T ShelfError → Type 0
+Names None unit result = Unit {0}
+Names (Some disks) unit (Ok _) = Unit {0}
+Names (Some disks) unit (Err (Fault disk)) = disk ≡ unit
+Names (Some disks) unit (Err Down) = Unit {0}

@@ -1,0 +1,12 @@
+//! The disks below: shelves of units of blocks, and racks, which are shelves whose units are disks.
+//!
+//! A block is 512 bytes. Units and blocks go by numbers from 0.
+#![tactic(auto)]
+
+mod rack;
+mod shelf;
+mod steps;
+
+pub use rack::Rack;
+pub use shelf::{Shelf, ShelfError};
+pub use steps::put;

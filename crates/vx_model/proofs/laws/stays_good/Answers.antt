@@ -1,0 +1,5 @@
+use Rattle.vx_model.proofs.GoodLemmas.{good_empty, good_site, good_raw, good_written, good_half_written}
+use Rattle.vx_model.proofs.laws.stays_good.Goals as goal
+
+pub returns : goal.returns
+returns c = record { empty = good_empty; site = good_site; raw = good_raw; write = good_written; fault = good_half_written }

@@ -1,0 +1,70 @@
+-- What the events of a primary without links make of the world.
+use Rattle.std.specs.Prelude.{ℕ, ◌+◌, ◌-◌, min, List, [], ◌∷◌, ◌++◌, length, ltb, if◌then◌else◌, Some, None, codes, zero, suc}
+use Rattle.std.specs.Fmt.{decimal}
+use Rattle.vx_model.specs.Content.{Write, Content, put, zeros}
+use Rattle.vx_model.specs.World.{Node, History, World, Volume, bare_site, no_line, updated, with_node, with_history}
+use Rattle.vx_model.specs.declared.history.Line.{Line}
+use Rattle.vx_model.specs.declared.site.Role.TheVariants.{Primary}
+use Rattle.vx_model.specs.declared.site.Mark.TheVariants.{Consistent}
+use Rattle.vx_model.specs.declared.site.SiteState.TheVariants.{Up}
+
+-- a further site, of which nothing is made yet
+abbrev pub site_made : World → List ℕ → ℕ → ℕ → World
+site_made w name disks blocks = record w { sites = w.sites + 1; nodes = updated w.nodes w.sites (bare_site name disks blocks) }
+
+-- so many volumes d1, d2 and so on, the first of them with number k, each as large as a disk
+abbrev pub raw_volumes : ℕ → ℕ → ℕ → List Volume
+raw_volumes k zero blocks = []
+raw_volumes k (suc n) blocks = record { name = codes "d" ++ decimal k; blocks = blocks } ∷ raw_volumes (k + 1) n blocks
+
+-- the blocks of a log unit that hold records: all but its two headers, and no more than 65,536 blocks are used
+abbrev pub ring_of : ℕ → ℕ
+ring_of blocks = min blocks 65536 - 2
+
+-- the content of a raw set's volumes as they are made
+abbrev pub raw_content : ℕ → ℕ → Content
+raw_content disks blocks = zeros (λ v. if ltb v (disks - 2) then blocks else 0)
+
+-- the first line of a site
+abbrev pub first_line : ℕ → Line
+first_line site = record { generation = 1; origin = site }
+
+-- a bare site as a raw set: disk 0 is its log, the last disk its maps, and each disk between a volume of zeros
+abbrev pub raw_set : ℕ → Node → Node
+raw_set site n = record n {
+  state = Up;
+  ring = ring_of n.blocks;
+  volumes = raw_volumes 1 (n.disks - 2) n.blocks;
+  role = Primary;
+  mark = Consistent;
+  line = first_line site;
+  top = 1;
+  session = 1;
+  start = raw_content n.disks n.blocks;
+  base = raw_content n.disks n.blocks;
+  log = [];
+  safe = 0;
+  halted = None;
+}
+
+abbrev pub raw_history : Node → History
+raw_history n = record { parent = no_line; fork = 0; start = raw_content n.disks n.blocks; held = []; told = 0 }
+
+abbrev pub raw_made : World → ℕ → World
+raw_made w s = with_history w s (raw_set s (w.nodes s)) (raw_history (w.nodes s))
+
+-- a site with one more write, which is durable
+abbrev pub logged : Node → Write → Node
+logged n x = record n { base = put n.base x; log = n.log ++ x ∷ []; safe = n.safe + 1 }
+
+-- its line with that write, which was answered
+abbrev pub told_of : History → Write → History
+told_of h x = record h { held = h.held ++ x ∷ []; told = length h.held + 1 }
+
+-- a write that was answered with its number
+abbrev pub written : World → ℕ → Write → World
+written w s x = let n = w.nodes s in with_history w s (logged n x) (told_of (w.lines n.line) x)
+
+-- a write that met a failing disk: whether it stands is not known, and the site is halted
+abbrev pub half_written : World → ℕ → Write → ℕ → World
+half_written w s x disk = let n = w.nodes s in with_node w s (record n { log = n.log ++ x ∷ []; halted = Some disk })

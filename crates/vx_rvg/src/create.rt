@@ -1,0 +1,51 @@
+// The making of a group.
+ghost use Rattle.std.specs.Prelude.{◌≡◌, ◌<◌, ◌≤◌, Err, IfOk, IfErr, IsTrue};
+ghost use Rattle.vx_disk.specs.Moves.{Moves, Run, Anything};
+ghost use Rattle.vx_model.specs.Steps.{ring_of};
+ghost use Rattle.vx_model.specs.declared.errors.Stop.TheVariants.{No as Refused};
+ghost use Rattle.vx_model.specs.declared.no.No.TheVariants.{Size};
+ghost use Rattle.vx_rvg.specs.Groups.{new_core, MakeCause};
+ghost use Rattle.vx_rvg.specs.Views.{Placed};
+ghost use Rattle.vx_srl.specs.Logs.{IsBlank};
+
+use crate::{Rvg, RvgCore};
+use std::alloc::Global;
+use vx_disk::Shelf;
+use vx_model::{State, Stop, Units};
+use vx_srl::Srl;
+
+impl<S: Shelf> Rvg<S> {
+    /// Makes a group with an empty log over these units, of which the data volumes stay as they are.
+    ///
+    /// Answers 4 exactly where the log's unit has fewer than 8 blocks, and changes nothing then; else 7 where a device call failed,
+    /// 6 where the shelf is down, or want of memory. Whatever it refuses, the shelf comes back.
+    pub fn create(
+        alloc: Global,
+        shelf: S,
+        units: &Units,
+        state: &State,
+    ) -> Result<Rvg<S>, (S, Stop)>
+        requires placed { Placed units.now (S.meaning shelf) }
+        ensures small { (S.meaning shelf).size units.now.srl < 8 → result ≡ Err (shelf, Refused Size) }
+        ensures core { IfOk result (λ g. g.core ≡ new_core units.now state.now (ring_of ((S.meaning shelf).size units.now.srl))) }
+        ensures blank { IfOk result (λ g. IsBlank g.core.log (S.meaning g.shelf)) }
+        ensures up { IfOk result (λ g. IsTrue (S.meaning g.shelf).down → ⊥) }
+        ensures moves { IfOk result (λ g. Moves (Run units.now.srl 0 ((S.meaning shelf).size units.now.srl)) Anything (S.meaning shelf) (S.meaning g.shelf)) }
+        ensures cause { 8 ≤ (S.meaning shelf).size units.now.srl → IfErr result (λ e. MakeCause (S.meaning shelf) (S.meaning e.0) e.1) }
+        ensures left { IfErr result (λ e. Moves (Run units.now.srl 0 ((S.meaning shelf).size units.now.srl)) Anything (S.meaning shelf) (S.meaning e.0)) }
+    {
+        let mut shelf = shelf;
+        match Srl::create(alloc, &mut shelf, units.srl, state, 0) {
+            Ok(srl) => Ok(Rvg {
+                shelf,
+                core: RvgCore {
+                    units: units.copy(),
+                    srl,
+                    head: 0,
+                    halted: None,
+                },
+            }),
+            Err(stop) => Err((shelf, stop)),
+        }
+    }
+}

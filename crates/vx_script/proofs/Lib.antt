@@ -1,0 +1,11 @@
+pub mod FitLemmas
+pub mod FormatLemmas
+pub mod GrammarLemmas
+pub mod KindLemmas
+pub mod LayoutLemmas
+pub mod LineLemmas
+pub mod NamesLemmas
+pub mod PlaceLemmas
+pub mod PrintLemmas
+pub mod SpellLemmas
+pub mod WordLemmas

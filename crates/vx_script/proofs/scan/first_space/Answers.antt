@@ -1,0 +1,13 @@
+use Rattle.std.proofs.Common.{◌≡◌, true, length, get_or, sym, arith}
+use Rattle.std.proofs.lemmas.List.Sums.{position_or_len_is}
+use Rattle.vx_script.specs.Words.{is_space}
+use Rattle.vx_script.proofs.scan.first_space.Goals as goal
+
+pub returns-then-b-eq32-clause-value : goal.returns-then-b-eq32-clause-value
+returns-then-b-eq32-clause-value c =
+    let here : is_space (get_or c.args.bytes.now c.loop-i.i 0) ≡ true = grind arith in
+    sym (position_or_len_is is_space c.args.bytes.now c.loop-i.i 0 (omega arith) c.loop-i.invariant (λ _. here))
+
+pub returns-clause-value : goal.returns-clause-value
+returns-clause-value c =
+    sym (position_or_len_is is_space c.args.bytes.now (length c.args.bytes.now) 0 (omega arith) (λ k below. c.loop-i.invariant k (omega arith)) (λ past. absurd (omega arith)))

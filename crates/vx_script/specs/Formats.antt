@@ -1,0 +1,328 @@
+-- The places of each kind of line, as they are read.
+use Rattle.std.specs.Prelude.{ℕ, List, [], ◌∷◌, Option, Some, None, Ok, Err, codes, if◌then◌else◌}
+use Rattle.std.specs.Str.{bytes_eq}
+use Rattle.vx_model.specs.declared.link.Prot.{Prot}
+use Rattle.vx_model.specs.declared.link.SyncMode.{SyncMode}
+use Rattle.vx_script.specs.Words.{Reading, and_then, next, end_of, name_of, number_of, byte_of, block_of, labelled, names_of}
+use Rattle.vx_script.specs.Tokens.{Token, Key, Named, Number, Hex, NameList}
+use Rattle.vx_script.specs.Keywords.{pick_of}
+use Rattle.vx_script.specs.Choices.{disk_state_text, group_text, plex_text, layout_text, log_text, map_text, sync_text, prot_text, call_text}
+use Rattle.vx_script.specs.declared.choice.TheConstants.{DISK_STATES, GROUP_VERBS, PLEX_VERBS, LAYOUT_WORDS, VOLUME_LOGS, VOLUME_MAPS, SYNC_MODES, PROTS, CALL_VERBS}
+use Rattle.vx_script.specs.declared.choice.GroupVerb.{GroupVerb}
+use Rattle.vx_script.specs.declared.choice.GroupVerb.TheVariants.{Init as InitVerb, Deport as DeportVerb, Import as ImportVerb}
+use Rattle.vx_script.specs.declared.choice.PlexVerb.{PlexVerb}
+use Rattle.vx_script.specs.declared.choice.PlexVerb.TheVariants.{Detach as DetachPlex, Attach as AttachPlex}
+use Rattle.vx_script.specs.declared.choice.LayoutWord.{LayoutWord}
+use Rattle.vx_script.specs.declared.choice.LayoutWord.TheVariants.{IsConcat, IsStripe}
+use Rattle.vx_script.specs.declared.choice.CallVerb.{CallVerb}
+use Rattle.vx_script.specs.declared.choice.CallVerb.TheVariants.{CallsWrite, CallsRead}
+use Rattle.vx_script.specs.declared.keyword.SiteVerb.{SiteVerb}
+use Rattle.vx_script.specs.declared.keyword.SiteVerb.TheVariants.{Raw as RawVerb, Recover as RecoverVerb, Takeover as TakeoverVerb, Status as StatusVerb}
+use Rattle.vx_script.specs.declared.keyword.NumberVerb.{NumberVerb}
+use Rattle.vx_script.specs.declared.keyword.NumberVerb.TheVariants.{Crash as CrashVerb, Apply as ApplyVerb, Wait as WaitVerb, Burst as BurstVerb}
+use Rattle.vx_script.specs.declared.keyword.SpanVerb.{SpanVerb}
+use Rattle.vx_script.specs.declared.keyword.SpanVerb.TheVariants.{Read as ReadVerb, Show as ShowVerb}
+use Rattle.vx_script.specs.declared.keyword.LinkVerb.{LinkVerb}
+use Rattle.vx_script.specs.declared.keyword.LinkVerb.TheVariants.{Link as SetLinkVerb, Set as SetVerb, Bunker as BunkerVerb}
+use Rattle.vx_script.specs.declared.keyword.PairVerb.{PairVerb}
+use Rattle.vx_script.specs.declared.keyword.PairVerb.TheVariants.{Attach as AttachVerb, Detach as DetachVerb, Pause as PauseVerb, Resume as ResumeVerb, Connect as ConnectVerb, Cut as CutVerb, Pump as PumpVerb, Tick as TickVerb, Settle as SettleVerb, Resync as ResyncVerb, Migrate as MigrateVerb, Failback as FailbackVerb, Activate as ActivateVerb}
+use Rattle.vx_script.specs.declared.keyword.Keyword.{Keyword}
+use Rattle.vx_script.specs.declared.keyword.Keyword.TheVariants.{Site as SiteKey, Disk as DiskKey, Fuse as FuseKey, Group as GroupKey, Volume as VolumeKey, Plex as PlexKey, Rvg as RvgKey, Write as WriteKey, Put as PutKey, Deliver as DeliverKey, Call as CallKey, End as EndKey, OfSite as SiteKeys, OfNumber as NumberKeys, OfSpan as SpanKeys, OfLink as LinkKeys, OfPair as PairKeys}
+use Rattle.vx_script.specs.declared.line.Layout.{Layout}
+use Rattle.vx_script.specs.declared.line.Layout.TheVariants.{Concat, Stripe}
+use Rattle.vx_script.specs.declared.line.ReadPolicy.{ReadPolicy}
+use Rattle.vx_script.specs.declared.line.ReadPolicy.TheVariants.{Round, Prefer}
+use Rattle.vx_script.specs.declared.line.ScriptLine.{ScriptLine}
+use Rattle.vx_script.specs.declared.line.ScriptLine.TheVariants.{Site, Raw, Disk, Crash, Fuse, Recover, GroupInit, GroupDeport, GroupImport, Volume, PlexDetach, PlexAttach, Rvg, Write, Put, Read, Show, Apply, Wait, Link, Set, Attach, Detach, Pause, Resume, Connect, Cut, Pump, Tick, Deliver, Settle, Resync, Migrate, Takeover, Failback, Bunker, Activate, Burst, Status, CallWrite, CallRead, End}
+
+-- a place: what a word says there, and the token that stands for a value
+pub record Place (V : Type 0) : Type 0 where
+  pub value : List ℕ → Option V
+  pub token : V → Token
+
+-- a place and then the rest of the line, which may depend on its value
+pub data Format : Type 1 where
+  Done : ScriptLine → Format
+  Then : {V : Type 0} → Place V → (V → Format) → Format
+
+infixl 10 ◌>>=◌
+abbrev pub ◌>>=◌ : {V : Type 0} → Place V → (V → Format) → Format
+place >>= more = Then place more
+
+-- a line that ends where it should
+abbrev pub ended : ScriptLine → Reading (Unit {0}) → Reading ScriptLine
+ended line (Ok u) = Ok line
+ended line (Err left) = Err left
+
+-- how a line is read
+abbrev pub read : Format → List ℕ → Reading ScriptLine
+read (Done line) bytes = ended line (end_of bytes)
+read (Then place more) bytes = and_then (next place.value bytes) (λ x. read (more x.0) x.1)
+
+-- a name behind a label
+abbrev pub name_after : List ℕ → Place (List ℕ)
+name_after label = record { value = labelled label name_of; token = Named label }
+
+-- a number behind a label
+abbrev pub number_after : List ℕ → Place ℕ
+number_after label = record { value = labelled label number_of; token = Number label }
+
+-- names behind a label
+abbrev pub names_after : List ℕ → Place (List (List ℕ))
+names_after label = record { value = labelled label names_of; token = NameList label }
+
+-- a name
+abbrev pub name : Place (List ℕ)
+name = name_after []
+
+-- a number
+abbrev pub number : Place ℕ
+number = number_after []
+
+-- the digits of a byte
+abbrev pub byte : Place ℕ
+byte = record { value = byte_of; token = λ b. Hex 1 (b ∷ []) }
+
+-- the digits of a block
+abbrev pub block : Place (List ℕ)
+block = record { value = block_of; token = Hex 512 }
+
+-- one of a few words
+abbrev pub pick : {V : Type 0} → (V → List ℕ) → List V → Place V
+pick text all = record { value = pick_of text all; token = λ v. Key (text v) }
+
+-- the plex that a volume is to be read from
+abbrev pub preferred : Option ℕ → Option ReadPolicy
+preferred None = None
+preferred (Some plex) = Some (Prefer plex)
+
+-- what a word says of the reading of a volume
+unfoldable pub policy_of : List ℕ → Option ReadPolicy
+policy_of word = if bytes_eq word (codes "rdpol=round") then Some Round else preferred (labelled (codes "rdpol=prefer:") number_of word)
+
+-- the place of a reading policy
+abbrev pub policy_token : ReadPolicy → Token
+policy_token Round = Key (codes "rdpol=round")
+policy_token (Prefer plex) = Number (codes "rdpol=prefer:") plex
+
+-- how a volume is read
+abbrev pub policy_place : Place ReadPolicy
+policy_place = record { value = policy_of; token = policy_token }
+
+-- the lines of one site
+abbrev pub site_line : SiteVerb → List ℕ → ScriptLine
+site_line RawVerb site = Raw site
+site_line RecoverVerb site = Recover site
+site_line TakeoverVerb site = Takeover site
+site_line StatusVerb site = Status site
+
+-- the lines of a site and a number
+abbrev pub number_line : NumberVerb → List ℕ → ℕ → ScriptLine
+number_line CrashVerb site n = Crash site n
+number_line ApplyVerb site n = Apply site n
+number_line WaitVerb site n = Wait site n
+number_line BurstVerb site n = Burst site n
+
+-- the lines of a run of blocks
+abbrev pub span_line : SpanVerb → List ℕ → List ℕ → ℕ → ℕ → ScriptLine
+span_line ReadVerb site volume start count = Read site volume start count
+span_line ShowVerb site volume start count = Show site volume start count
+
+-- the lines that set a link's modes
+abbrev pub link_line : LinkVerb → List ℕ → List ℕ → SyncMode → Prot → ScriptLine
+link_line SetLinkVerb first second sync prot = Link first second sync prot
+link_line SetVerb first second sync prot = Set first second sync prot
+link_line BunkerVerb first second sync prot = Bunker first second sync prot
+
+-- the lines of two sites
+abbrev pub pair_line : PairVerb → List ℕ → List ℕ → ScriptLine
+pair_line AttachVerb first second = Attach first second
+pair_line DetachVerb first second = Detach first second
+pair_line PauseVerb first second = Pause first second
+pair_line ResumeVerb first second = Resume first second
+pair_line ConnectVerb first second = Connect first second
+pair_line CutVerb first second = Cut first second
+pair_line PumpVerb first second = Pump first second
+pair_line TickVerb first second = Tick first second
+pair_line SettleVerb first second = Settle first second
+pair_line ResyncVerb first second = Resync first second
+pair_line MigrateVerb first second = Migrate first second
+pair_line FailbackVerb first second = Failback first second
+pair_line ActivateVerb first second = Activate first second
+
+-- the lines of a group
+abbrev pub group_line : GroupVerb → List ℕ → ScriptLine
+group_line InitVerb site = GroupInit site
+group_line DeportVerb site = GroupDeport site
+group_line ImportVerb site = GroupImport site
+
+-- the lines of a plex
+abbrev pub plex_line : PlexVerb → List ℕ → List ℕ → ℕ → ScriptLine
+plex_line DetachPlex site volume plex = PlexDetach site volume plex
+plex_line AttachPlex site volume plex = PlexAttach site volume plex
+
+-- what follows the first word of each kind of line
+unfoldable pub site_format : Format
+site_format = do
+  site ← name
+  disks ← number
+  blocks ← number
+  Done (Site site disks blocks)
+
+unfoldable pub disk_format : Format
+disk_format = do
+  site ← name
+  disk ← number
+  state ← pick disk_state_text DISK_STATES
+  Done (Disk site disk state)
+
+unfoldable pub fuse_format : Format
+fuse_format = do
+  site ← name
+  writes ← number
+  bits ← number
+  Done (Fuse site writes bits)
+
+unfoldable pub group_format : Format
+group_format = do
+  site ← name
+  verb ← pick group_text GROUP_VERBS
+  Done (group_line verb site)
+
+-- a volume's last options
+unfoldable pub volume_tail : List ℕ → List ℕ → ℕ → ℕ → Layout → Format
+volume_tail site volume blocks mirrors layout = do
+  log ← pick log_text VOLUME_LOGS
+  map ← pick map_text VOLUME_MAPS
+  policy ← policy_place
+  Done (Volume site volume blocks mirrors layout log map policy)
+
+-- a volume's options behind the first word of its layout
+unfoldable pub layout_format : List ℕ → List ℕ → ℕ → ℕ → LayoutWord → Format
+layout_format site volume blocks mirrors IsConcat = volume_tail site volume blocks mirrors Concat
+layout_format site volume blocks mirrors IsStripe = do
+  columns ← number_after (codes "ncol=")
+  width ← number_after (codes "width=")
+  volume_tail site volume blocks mirrors (Stripe columns width)
+
+unfoldable pub volume_format : Format
+volume_format = do
+  site ← name
+  volume ← name
+  blocks ← number
+  mirrors ← number_after (codes "mirrors=")
+  word ← pick layout_text LAYOUT_WORDS
+  layout_format site volume blocks mirrors word
+
+unfoldable pub plex_format : Format
+plex_format = do
+  site ← name
+  volume ← name
+  plex ← number
+  verb ← pick plex_text PLEX_VERBS
+  Done (plex_line verb site volume plex)
+
+unfoldable pub rvg_format : Format
+rvg_format = do
+  site ← name
+  srl ← name_after (codes "srl=")
+  dcm ← name_after (codes "dcm=")
+  volumes ← names_after (codes "vols=")
+  Done (Rvg site srl dcm volumes)
+
+unfoldable pub write_format : Format
+write_format = do
+  site ← name
+  volume ← name
+  start ← number
+  count ← number
+  fill ← byte
+  Done (Write site volume start count fill)
+
+unfoldable pub put_format : Format
+put_format = do
+  site ← name
+  volume ← name
+  start ← number
+  bytes ← block
+  Done (Put site volume start bytes)
+
+unfoldable pub deliver_format : Format
+deliver_format = do
+  packet ← number
+  Done (Deliver packet)
+
+-- a burst's call behind its verb
+unfoldable pub call_more : ℕ → CallVerb → Format
+call_more thread CallsWrite = do
+  volume ← name
+  start ← number
+  count ← number
+  fill ← byte
+  Done (CallWrite thread volume start count fill)
+call_more thread CallsRead = do
+  volume ← name
+  start ← number
+  Done (CallRead thread volume start)
+
+unfoldable pub call_format : Format
+call_format = do
+  thread ← number
+  verb ← pick call_text CALL_VERBS
+  call_more thread verb
+
+unfoldable pub end_format : Format
+end_format = Done End
+
+unfoldable pub of_site_format : SiteVerb → Format
+of_site_format verb = do
+  site ← name
+  Done (site_line verb site)
+
+unfoldable pub of_number_format : NumberVerb → Format
+of_number_format verb = do
+  site ← name
+  n ← number
+  Done (number_line verb site n)
+
+unfoldable pub of_span_format : SpanVerb → Format
+of_span_format verb = do
+  site ← name
+  volume ← name
+  start ← number
+  count ← number
+  Done (span_line verb site volume start count)
+
+unfoldable pub of_link_format : LinkVerb → Format
+of_link_format verb = do
+  first ← name
+  second ← name
+  sync ← pick sync_text SYNC_MODES
+  prot ← pick prot_text PROTS
+  Done (link_line verb first second sync prot)
+
+unfoldable pub of_pair_format : PairVerb → Format
+of_pair_format verb = do
+  first ← name
+  second ← name
+  Done (pair_line verb first second)
+
+-- what follows a keyword
+abbrev pub format_of : Keyword → Format
+format_of SiteKey = site_format
+format_of DiskKey = disk_format
+format_of FuseKey = fuse_format
+format_of GroupKey = group_format
+format_of VolumeKey = volume_format
+format_of PlexKey = plex_format
+format_of RvgKey = rvg_format
+format_of WriteKey = write_format
+format_of PutKey = put_format
+format_of DeliverKey = deliver_format
+format_of CallKey = call_format
+format_of EndKey = end_format
+format_of (SiteKeys verb) = of_site_format verb
+format_of (NumberKeys verb) = of_number_format verb
+format_of (SpanKeys verb) = of_span_format verb
+format_of (LinkKeys verb) = of_link_format verb
+format_of (PairKeys verb) = of_pair_format verb

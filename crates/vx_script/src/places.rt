@@ -1,0 +1,88 @@
+// The next word of a line, as a place takes it. The reading stops at a word that does not fit.
+ghost use Rattle.std.specs.Prelude.{◌≡◌};
+ghost use Rattle.vx_script.specs.Words.{Gives, next, labelled, name_of, number_of, names_of, byte_of, block_of};
+ghost use Rattle.vx_script.specs.Keywords.{pick_of};
+ghost use Rattle.vx_script.specs.Formats.{policy_of};
+
+use crate::line::ReadPolicy;
+use crate::scan::Words;
+use crate::values::{as_block, as_byte, name_after, names_after, number_after};
+use crate::word::{Word, find_word};
+use crate::{Names, Wrong};
+use std::alloc::Global;
+use vx_model::{Blocks, Name};
+
+#[tactic(auto, unfolding(crate::specs::Formats::policy_of))]
+fn as_policy(word: &[u8]) -> Option<ReadPolicy>
+    ensures { result ≡ policy_of word.now }
+{
+    if word == b"rdpol=round".as_slice() {
+        return Some(ReadPolicy::Round);
+    }
+    match number_after(b"rdpol=prefer:", word) {
+        Some(plex) => Some(ReadPolicy::Prefer { plex }),
+        None => None,
+    }
+}
+
+impl<'a> Words<'a> {
+    /// A name behind a label.
+    pub fn name(&mut self, label: &[u8]) -> Result<Name, Wrong>
+        ensures { Gives (λ x. (x, self.new.left.now)) result (next (labelled label.now name_of) self.old.left.now) }
+    {
+        let (word, left) = self.next();
+        name_after(label, word).ok_or(Wrong::Left(left))
+    }
+
+    /// A number behind a label.
+    pub fn number(&mut self, label: &[u8]) -> Result<u64, Wrong>
+        ensures { Gives (λ x. (x, self.new.left.now)) result (next (labelled label.now number_of) self.old.left.now) }
+    {
+        let (word, left) = self.next();
+        number_after(label, word).ok_or(Wrong::Left(left))
+    }
+
+    /// Names behind a label.
+    pub fn names(&mut self, alloc: Global, label: &[u8]) -> Result<Names, Wrong>
+        ensures { Gives (λ x. (x, self.new.left.now)) result (next (labelled label.now names_of) self.old.left.now) }
+    {
+        let (word, left) = self.next();
+        match names_after(alloc, label, word) {
+            Ok(Some(names)) => Ok(names),
+            Ok(None) => Err(Wrong::Left(left)),
+            Err(_) => Err(Wrong::Memory),
+        }
+    }
+
+    /// The digits of a byte.
+    pub fn byte(&mut self) -> Result<u8, Wrong>
+        ensures { Gives (λ x. (x, self.new.left.now)) result (next byte_of self.old.left.now) }
+    {
+        let (word, left) = self.next();
+        as_byte(word).ok_or(Wrong::Left(left))
+    }
+
+    /// The digits of a block.
+    pub fn block(&mut self) -> Result<Blocks, Wrong>
+        ensures { Gives (λ x. (x, self.new.left.now)) result (next block_of self.old.left.now) }
+    {
+        let (word, left) = self.next();
+        as_block(word).ok_or(Wrong::Left(left))
+    }
+
+    /// A reading policy.
+    pub fn policy(&mut self) -> Result<ReadPolicy, Wrong>
+        ensures { Gives (λ x. (x, self.new.left.now)) result (next policy_of self.old.left.now) }
+    {
+        let (word, left) = self.next();
+        as_policy(word).ok_or(Wrong::Left(left))
+    }
+
+    /// A value in the table.
+    pub fn one_of<W: Word>(&mut self, table: &[W]) -> Result<W, Wrong>
+        ensures { Gives (λ x. (x, self.new.left.now)) result (next (pick_of W.word_text table.now) self.old.left.now) }
+    {
+        let (word, left) = self.next();
+        find_word(table, word).ok_or(Wrong::Left(left))
+    }
+}

@@ -1,0 +1,77 @@
+// Where words begin and end.
+ghost use Rattle.std.specs.Prelude.{◌≡◌, ◌≤◌, length};
+ghost use Rattle.std.specs.List.{position_or_len};
+ghost use Rattle.vx_script.specs.Words.{is_visible, is_space, after_spaces, word_of, after_word, end_of, Gives};
+
+use crate::Wrong;
+
+/// What is left of a line.
+#[derive(Drop)]
+pub struct Words<'a> {
+    pub left: &'a [u8],
+}
+
+fn first_visible(bytes: &[u8]) -> usize
+    ensures value { result ≡ position_or_len is_visible bytes.now }
+    ensures bound { result ≤ length bytes.now }
+{
+    for (i, b) in bytes.iter().enumerate() {
+        if *b != b' ' {
+            return i;
+        }
+    }
+    bytes.len()
+}
+
+fn first_space(bytes: &[u8]) -> usize
+    ensures value { result ≡ position_or_len is_space bytes.now }
+    ensures bound { result ≤ length bytes.now }
+{
+    for (i, b) in bytes.iter().enumerate() {
+        if *b == b' ' {
+            return i;
+        }
+    }
+    bytes.len()
+}
+
+fn skip_spaces(bytes: &[u8]) -> &[u8]
+    ensures { result.now ≡ after_spaces bytes.now }
+{
+    let start = first_visible(bytes);
+    &bytes[start..]
+}
+
+fn split_word(bytes: &[u8]) -> (&[u8], &[u8])
+    ensures word { result.0.now ≡ word_of bytes.now }
+    ensures rest { result.1.now ≡ after_word bytes.now }
+{
+    let end = first_space(bytes);
+    bytes.split_at(end)
+}
+
+impl<'a> Words<'a> {
+    /// The next word, and how many bytes are left from its first one on.
+    pub fn next(&mut self) -> (&'a [u8], usize)
+        ensures word { result.0.now ≡ word_of (after_spaces self.old.left.now) }
+        ensures place { result.1 ≡ length (after_spaces self.old.left.now) }
+        ensures rest { self.new.left.now ≡ after_word (after_spaces self.old.left.now) }
+    {
+        let here = skip_spaces(self.left);
+        let (word, rest) = split_word(here);
+        self.left = rest;
+        (word, here.len())
+    }
+
+    /// No word is left.
+    pub fn end(&self) -> Result<(), Wrong>
+        ensures { Gives (λ x. x) result (end_of self.now.left.now) }
+    {
+        let here = skip_spaces(self.left);
+        if here.is_empty() {
+            Ok(())
+        } else {
+            Err(Wrong::Left(here.len()))
+        }
+    }
+}

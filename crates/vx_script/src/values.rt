@@ -1,0 +1,171 @@
+// What a word says: a name, a number, names, bytes.
+ghost use Rattle.std.specs.Prelude.{◌≡◌, ◌≤◌, ℕ, length, ◌<◌, ◌+◌, MatchOption, take, drop};
+ghost use Rattle.std.specs.List.{position_or_len, list_all};
+ghost use Rattle.vx_script.specs.Words.{is_digit, digits_after, name_of, number_of, byte_of, block_of, is_name_byte, labelled, names_of, Says, is_comma};
+
+use crate::Names;
+use std::alloc::Global;
+use vx_model::{Blocks, Name, OutOfMemory};
+
+fn is_name_text(word: &[u8]) -> bool
+    ensures { result ≡ list_all is_name_byte word.now }
+{
+    for b in word {
+        if !b.is_ascii_lowercase() && !b.is_ascii_digit() {
+            return false;
+        }
+    }
+    true
+}
+
+fn is_decimal(word: &[u8]) -> bool
+    ensures { result ≡ list_all is_digit word.now }
+{
+    for b in word {
+        if !b.is_ascii_digit() {
+            return false;
+        }
+    }
+    true
+}
+
+#[tactic(auto, unfolding(crate::specs::Words::name_of))]
+fn as_name(word: &[u8]) -> Option<Name>
+    ensures { result ≡ name_of word.now }
+{
+    if word.is_empty() || word.len() > 8 || !word[0].is_ascii_lowercase() {
+        return None;
+    }
+    if is_name_text(word) {
+        Some(Name::new(word))
+    } else {
+        None
+    }
+}
+
+fn value_of(word: &[u8]) -> u128
+    requires { length word.now ≤ 20 }
+    ensures { result ≡ digits_after 0 word.now }
+{
+    let mut value: u128 = 0;
+    for b in word {
+        value = value * 10 + u128::from(b.saturating_sub(b'0'));
+    }
+    value
+}
+
+#[tactic(auto, unfolding(crate::specs::Words::number_of))]
+fn as_number(word: &[u8]) -> Option<u64>
+    ensures { result ≡ number_of word.now }
+{
+    if word.is_empty() || word.len() > 20 || !is_decimal(word) {
+        return None;
+    }
+    let value = value_of(word);
+    if value < 0x1_0000_0000_0000_0000 {
+        Some(value as u64)
+    } else {
+        None
+    }
+}
+
+/// The byte that two hexadecimal digits are.
+#[tactic(auto, unfolding(crate::specs::Words::byte_of))]
+pub fn as_byte(word: &[u8]) -> Option<u8>
+    ensures { result ≡ byte_of word.now }
+{
+    let mut bytes = [0; 1];
+    match hex::decode_to_slice(word, &mut bytes) {
+        Ok(()) => Some(bytes[0]),
+        Err(_) => None,
+    }
+}
+
+/// The block that 1,024 hexadecimal digits are.
+#[tactic(auto, unfolding(crate::specs::Words::block_of))]
+pub fn as_block(word: &[u8]) -> Option<Blocks>
+    ensures { result ≡ block_of word.now }
+{
+    let mut bytes = [0; 512];
+    match hex::decode_to_slice(word, &mut bytes) {
+        Ok(()) => Some(Blocks::new(&bytes)),
+        Err(_) => None,
+    }
+}
+
+/// The name behind a label.
+#[tactic(auto, unfolding(crate::specs::Words::labelled))]
+pub fn name_after(label: &[u8], word: &[u8]) -> Option<Name>
+    ensures { result ≡ labelled label.now name_of word.now }
+{
+    match word.strip_prefix(label) {
+        Some(text) => as_name(text),
+        None => None,
+    }
+}
+
+/// The number behind a label.
+#[tactic(auto, unfolding(crate::specs::Words::labelled))]
+pub fn number_after(label: &[u8], word: &[u8]) -> Option<u64>
+    ensures { result ≡ labelled label.now number_of word.now }
+{
+    match word.strip_prefix(label) {
+        Some(text) => as_number(text),
+        None => None,
+    }
+}
+
+fn first_comma(bytes: &[u8]) -> usize
+    ensures value { result ≡ position_or_len is_comma bytes.now }
+    ensures bound { result ≤ length bytes.now }
+{
+    for (i, b) in bytes.iter().enumerate() {
+        if *b == b',' {
+            return i;
+        }
+    }
+    bytes.len()
+}
+
+// The part up to the first comma, and what follows the comma.
+fn split_comma(bytes: &[u8]) -> (&[u8], Option<&[u8]>)
+    ensures part { result.0.now ≡ take (position_or_len is_comma bytes.now) bytes.now }
+    ensures more { MatchOption result.1 (position_or_len is_comma bytes.now ≡ length bytes.now) (λ r. (position_or_len is_comma bytes.now < length bytes.now) × (r.now ≡ drop (position_or_len is_comma bytes.now + 1) bytes.now)) }
+{
+    let end = first_comma(bytes);
+    let part = &bytes[..end];
+    if end < bytes.len() {
+        (part, Some(&bytes[end + 1..]))
+    } else {
+        (part, None)
+    }
+}
+
+fn as_names(alloc: Global, word: &[u8]) -> Result<Option<Names>, OutOfMemory>
+    ensures { Says (λ v. v) result (names_of word.now) }
+{
+    let mut names = Names::new(alloc);
+    let mut rest = word;
+    'parts: loop {
+        let (part, more) = split_comma(rest);
+        match as_name(part) {
+            Some(name) => names.push(name)?,
+            None => return Ok(None),
+        }
+        match more {
+            Some(others) => rest = others,
+            None => return Ok(Some(names)),
+        }
+    }
+}
+
+/// The names behind a label.
+#[tactic(auto, unfolding(crate::specs::Words::labelled))]
+pub fn names_after(alloc: Global, label: &[u8], word: &[u8]) -> Result<Option<Names>, OutOfMemory>
+    ensures { Says (λ v. v) result (labelled label.now names_of word.now) }
+{
+    match word.strip_prefix(label) {
+        Some(text) => as_names(alloc, text),
+        None => Ok(None),
+    }
+}

@@ -1,0 +1,77 @@
+// What follows the word `vol`.
+ghost use Rattle.vx_script.specs.Words.{Gives};
+ghost use Rattle.vx_script.specs.Formats.{read, volume_tail, layout_format, volume_format};
+
+use crate::choice::{LAYOUT_WORDS, LayoutWord, VOLUME_LOGS, VOLUME_MAPS};
+use crate::line::Layout;
+use crate::scan::Words;
+use crate::{ScriptLine, Wrong};
+use vx_model::Name;
+
+#[tactic(auto, unfolding(crate::specs::Formats::volume_tail))]
+fn volume_end(
+    site: Name,
+    volume: Name,
+    blocks: u64,
+    mirrors: u64,
+    layout: Layout,
+    words: &mut Words,
+) -> Result<ScriptLine, Wrong>
+    ensures { Gives (λ x. x) result (read (volume_tail site volume blocks mirrors layout) words.old.left.now) }
+{
+    let log = words.one_of(&VOLUME_LOGS)?;
+    let map = words.one_of(&VOLUME_MAPS)?;
+    let policy = words.policy()?;
+    words.end()?;
+    Ok(ScriptLine::Volume {
+        site,
+        volume,
+        blocks,
+        mirrors,
+        layout,
+        log,
+        map,
+        policy,
+    })
+}
+
+#[tactic(auto, unfolding(crate::specs::Formats::layout_format))]
+fn volume_layout(
+    site: Name,
+    volume: Name,
+    blocks: u64,
+    mirrors: u64,
+    word: LayoutWord,
+    words: &mut Words,
+) -> Result<ScriptLine, Wrong>
+    ensures { Gives (λ x. x) result (read (layout_format site volume blocks mirrors word) words.old.left.now) }
+{
+    match word {
+        LayoutWord::IsConcat => volume_end(site, volume, blocks, mirrors, Layout::Concat, words),
+        LayoutWord::IsStripe => {
+            let columns = words.number(b"ncol=")?;
+            let width = words.number(b"width=")?;
+            volume_end(
+                site,
+                volume,
+                blocks,
+                mirrors,
+                Layout::Stripe { columns, width },
+                words,
+            )
+        }
+    }
+}
+
+/// A volume's line.
+#[tactic(auto, unfolding(crate::specs::Formats::volume_format))]
+pub fn volume(words: &mut Words) -> Result<ScriptLine, Wrong>
+    ensures { Gives (λ x. x) result (read volume_format words.old.left.now) }
+{
+    let site = words.name(b"")?;
+    let volume = words.name(b"")?;
+    let blocks = words.number(b"")?;
+    let mirrors = words.number(b"mirrors=")?;
+    let word = words.one_of(&LAYOUT_WORDS)?;
+    volume_layout(site, volume, blocks, mirrors, word, words)
+}

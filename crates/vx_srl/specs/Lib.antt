@@ -1,0 +1,4 @@
+pub mod Causes
+pub mod Logs
+pub mod Records
+pub mod Views
