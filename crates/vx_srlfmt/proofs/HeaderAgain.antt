@@ -1,17 +1,17 @@
 -- A header that is spelled is read again.
-use Rattle.std.proofs.Common.{◌≡◌, ◌≤◌, ℕ, zero, suc, ◌+◌, ◌-◌, ◌*◌, ◌^◌, ◌<◌, min, List, [], ◌∷◌, ◌++◌, length, take, drop, get_or, refl, ap, sym, append_assoc, ◌∙◌, arith, add-zero}
-use Rattle.std.specs.Prelude.{flat_map, All}
+use Rattle.std.proofs.Common.{◌≡◌, ◌≤◌, ℕ, zero, suc, ◌+◌, ◌-◌, ◌^◌, ◌<◌, min, List, [], ◌∷◌, ◌++◌, length, take, refl, ap, sym, append_assoc, ◌∙◌, arith, add-zero}
+use Rattle.std.specs.Prelude.{flat_map}
 use Rattle.std.specs.List.{AllByRecursion}
 use Rattle.std.proofs.lemmas.List.Elements.{recursion_from_All}
-use Rattle.std.proofs.lemmas.List.{drop-drop, drop_at, length-append}
+use Rattle.std.proofs.lemmas.List.{length-append}
 use Rattle.vx_model.specs.declared.state.KeptLink.{KeptLink}
 use Rattle.vx_model.specs.declared.state.State.{State}
 use Rattle.vx_wire.specs.Fields.{spelled, zeros}
 use Rattle.vx_wire.specs.Seals.{sealed, filled, digest_of}
 use Rattle.vx_wire.specs.Numbers.{be_bytes, number_at}
 use Rattle.vx_srlfmt.proofs.Numbers.{read, number_at-behind}
-use Rattle.vx_srlfmt.specs.Codes.{role_code, mark_code, phase_code, mode_code, sync_code, prot_code, flags_code, role_of, mark_of, phase_of, mode_of, sync_of, prot_of, attached_of, bunker_of}
-use Rattle.vx_srlfmt.specs.HeaderReading.{line_at, link_at, links_at, state_in, header_in}
+use Rattle.vx_srlfmt.specs.Codes.{role_code, mark_code, phase_code, mode_code, sync_code, prot_code, flags_code, role_of}
+use Rattle.vx_srlfmt.specs.HeaderReading.{link_at, links_at, state_in, header_in}
 use Rattle.vx_srlfmt.specs.Headers.{header_magic, header_table, link_table, link_bytes, header_fields, header_block, Agrees, CanSpellLink, CanSpellState, CanSpell, IsTypedState, IsHeader}
 use Rattle.vx_srlfmt.specs.declared.header.Header.{Header}
 use Rattle.vx_srlfmt.proofs.Lengths.{length-header_table, length-link_bytes}

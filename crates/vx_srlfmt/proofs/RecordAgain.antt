@@ -1,10 +1,10 @@
 -- A record header that is spelled is read again.
-use Rattle.std.proofs.Common.{◌≡◌, ◌≤◌, ℕ, ◌+◌, ◌-◌, ◌^◌, ◌<◌, List, [], ◌∷◌, ◌++◌, length, take, drop, refl, ap, sym, append_assoc, ◌∙◌, arith}
-use Rattle.std.proofs.lemmas.List.{drop-drop, drop_at, take_at, length-append, append-nil}
+use Rattle.std.proofs.Common.{◌≡◌, ℕ, ◌-◌, List, ◌++◌, length, take, drop, refl, ap, sym, append_assoc, ◌∙◌, arith}
+use Rattle.std.proofs.lemmas.List.{drop-drop, drop_at, take_at, length-append}
 use Rattle.vx_wire.specs.Fields.{spelled, zeros}
 use Rattle.vx_wire.specs.Numbers.{be_bytes, number_at}
 use Rattle.vx_wire.specs.Places.{cut}
-use Rattle.vx_wire.specs.Seals.{sealed, filled, digest_of, IsSealed}
+use Rattle.vx_wire.specs.Seals.{sealed, filled, digest_of}
 use Rattle.vx_srlfmt.proofs.Numbers.{read}
 use Rattle.vx_srlfmt.specs.RecordReading.{head_in}
 use Rattle.vx_srlfmt.specs.Records.{record_magic, record_table, record_fields, record_block, CanSpellHead, IsTypedHead, IsRecord}

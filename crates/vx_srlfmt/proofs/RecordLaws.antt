@@ -1,10 +1,8 @@
 -- A block is at most one of the things that it may be seen as.
-use Rattle.std.proofs.Common.{◌≡◌, ◌≤◌, ℕ, ◌^◌, ◌<◌, List, [], ◌++◌, length, take, drop, ap, sym, subst, ◌∙◌, arith, append-nil}
-use Rattle.std.proofs.Common.{lit<}
-use Rattle.vx_wire.specs.Numbers.{be_bytes, number_at}
+use Rattle.std.proofs.Common.{◌≡◌, ◌≤◌, ℕ, List, length, take, drop, ap, sym, subst, ◌∙◌, arith}
 use Rattle.vx_wire.specs.Seals.{filled, digest_of, IsSealed}
 use Rattle.vx_wire.proofs.SealLemmas.{take-sealed, IsSealed-sealed}
-use Rattle.vx_srlfmt.specs.Records.{record_magic, record_fields, record_block, IsRecord, IsDamaged, IsSeen}
+use Rattle.vx_srlfmt.specs.Records.{record_fields, record_block, IsRecord, IsDamaged, IsSeen}
 use Rattle.vx_srlfmt.specs.declared.record.RecordHead.{RecordHead}
 use Rattle.vx_srlfmt.specs.declared.record.Seen.{Seen}
 use Rattle.vx_srlfmt.specs.declared.record.Seen.TheVariants as seen

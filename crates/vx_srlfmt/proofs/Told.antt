@@ -1,6 +1,6 @@
 -- What a test has told.
-use Rattle.std.proofs.Common.{◌≡◌, ◌∙◌, ap, sym, ℕ, List, length, ◌++◌, take, drop, Bool, true, false, Option, Some, None, refl}
-use Rattle.std.specs.Prelude.{IsTrue, MatchOption}
+use Rattle.std.proofs.Common.{◌≡◌, ◌∙◌, ap, sym, ℕ, List, ◌++◌, take, true, false, Option, Some, None, refl}
+use Rattle.std.specs.Prelude.{MatchOption}
 use Rattle.std.specs.Option.{is_some}
 use Rattle.std.proofs.lemmas.List.{take-append-drop}
 use Rattle.vx_wire.specs.declared.sealed.BrokenSeal.{BrokenSeal}

@@ -1,5 +1,5 @@
 -- The codes of a header's enums and flags, and what a code is read as.
-use Rattle.std.specs.Prelude.{ℕ, ◌+◌, ◌*◌, Bool, true, false, bit_and, ◌==◌, if◌then◌else◌}
+use Rattle.std.specs.Prelude.{ℕ, ◌+◌, Bool, bit_and, ◌==◌, if◌then◌else◌}
 use Rattle.vx_model.specs.declared.link.Prot.{Prot}
 use Rattle.vx_model.specs.declared.link.Prot.TheVariants as prot
 use Rattle.vx_model.specs.declared.link.SyncMode.{SyncMode}

@@ -1,5 +1,5 @@
 -- What a block of a log is, each block one thing.
-use Rattle.std.specs.Prelude.{◌≡◌, ℕ, ◌^◌, Bool, ◌&&◌, not, nat_lt, ◌==◌, if◌then◌else◌, List, [], ◌∷◌, ◌++◌, length, ◌-◌, take, drop, slice_index, bytes_eq}
+use Rattle.std.specs.Prelude.{◌≡◌, ℕ, ◌^◌, Bool, ◌&&◌, not, nat_lt, ◌==◌, if◌then◌else◌, List, [], ◌∷◌, length, ◌-◌, take, drop, slice_index, bytes_eq}
 use Rattle.std.specs.List.{list_all}
 use Rattle.vx_model.specs.declared.state.KeptLink.{KeptLink}
 use Rattle.vx_wire.specs.Fields.{zeros}

@@ -1,9 +1,8 @@
-use Rattle.std.proofs.Common.{arith, ◌≡◌, ◌≤◌, ◌∙◌, ap, sym, subst, List, ℕ, length, take, true, false, Some, refl}
+use Rattle.std.proofs.Common.{arith, ◌≡◌, ◌≤◌, ◌∙◌, ap, sym, subst, List, ℕ, length, take, false, Some, refl}
 use Rattle.std.specs.Option.{is_some}
 use Rattle.vx_wire.specs.Seals.{filled, IsSealed}
 use Rattle.vx_wire.proofs.SealLemmas.{take-sealed, IsSealed-sealed}
-use Rattle.vx_srlfmt.specs.HeaderReading.{header_in}
-use Rattle.vx_srlfmt.specs.Headers.{header_fields, header_block, Agrees, CanSpell, IsHeader}
+use Rattle.vx_srlfmt.specs.Headers.{header_fields, header_block, CanSpell, IsHeader}
 use Rattle.vx_srlfmt.specs.declared.header.Header.{Header}
 use Rattle.vx_srlfmt.proofs.HeaderAgain.{Agrees-header_in, few-header_in, header_in-is}
 use Rattle.vx_srlfmt.proofs.Lengths.{length-header_fields}

@@ -1,11 +1,11 @@
-use Rattle.std.proofs.Common.{arith, ◌≡◌, ◌≤◌, ◌<◌, ◌+◌, ◌-◌, ◌*◌, ◌∙◌, ◌++◌, ap, sym, List, ℕ, length, get_or, take, append_assoc}
+use Rattle.std.proofs.Common.{arith, ◌≡◌, ◌<◌, ◌+◌, ◌-◌, ◌∙◌, ◌++◌, ap, sym, List, ℕ, length, get_or, take}
 use Rattle.std.proofs.lemmas.List.{length-take, length-append, append-nil}
 use Rattle.vx_model.specs.declared.state.KeptLink.{KeptLink}
 use Rattle.vx_wire.specs.Fields.{spelled, zeros}
 use Rattle.vx_wire.specs.Places.{put_at}
 use Rattle.vx_wire.specs.Seals.{filled}
 use Rattle.vx_wire.proofs.PlaceLemmas.{put_at-put_at}
-use Rattle.vx_srlfmt.specs.Headers.{header_table, link_table, link_bytes, header_fields}
+use Rattle.vx_srlfmt.specs.Headers.{header_table, link_bytes, header_fields}
 use Rattle.vx_srlfmt.proofs.Lengths.{no_link, length-header_table, length-link_bytes, front_of, length-front_of, front_of-more, front_of-all}
 use Rattle.vx_srlfmt.proofs.header.put_front.Goals as goal
 

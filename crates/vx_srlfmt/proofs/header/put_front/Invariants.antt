@@ -1,4 +1,4 @@
-use Rattle.std.proofs.Common.{◌≡◌, ◌+◌, ◌++◌, length, take}
+use Rattle.std.proofs.Common.{◌≡◌, ◌++◌, length, take}
 use Rattle.std.specs.Prelude.{flat_map}
 use Rattle.vx_wire.specs.Fields.{spelled}
 use Rattle.vx_wire.specs.Places.{put_at}

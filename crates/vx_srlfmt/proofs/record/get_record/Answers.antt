@@ -1,7 +1,6 @@
-use Rattle.std.proofs.Common.{arith, ◌≡◌, ◌≢◌, ◌∙◌, ap, sym, List, ℕ, take}
+use Rattle.std.proofs.Common.{arith, ◌≡◌, take}
 use Rattle.vx_wire.specs.Numbers.{be_bytes}
-use Rattle.vx_srlfmt.specs.Records.{record_magic, IsRecord, IsDamaged, IsSeen}
-use Rattle.vx_srlfmt.specs.declared.record.RecordHead.{RecordHead}
+use Rattle.vx_srlfmt.specs.Records.{record_magic}
 use Rattle.vx_srlfmt.proofs.RecordAgain.{begins_record}
 use Rattle.vx_srlfmt.proofs.Numbers.{magic_is}
 use Rattle.vx_srlfmt.proofs.RecordLaws.{front_record, seen_only, seen_damaged}

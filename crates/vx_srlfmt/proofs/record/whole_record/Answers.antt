@@ -1,6 +1,6 @@
-use Rattle.std.proofs.Common.{arith, ◌≡◌, ◌∙◌, ap, sym, subst, List, ℕ, take, refl}
+use Rattle.std.proofs.Common.{◌≡◌, ◌∙◌, ap, sym, subst, refl}
 use Rattle.vx_wire.specs.Seals.{filled}
-use Rattle.vx_srlfmt.specs.Records.{record_fields, record_block, CanSpellHead, IsRecord, IsDamaged}
+use Rattle.vx_srlfmt.specs.Records.{record_fields, record_block, CanSpellHead}
 use Rattle.vx_srlfmt.specs.declared.record.RecordHead.{RecordHead}
 use Rattle.vx_srlfmt.proofs.RecordAgain.{head_in-is}
 use Rattle.vx_srlfmt.proofs.RecordLaws.{front_record}
