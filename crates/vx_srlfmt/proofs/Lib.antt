@@ -1,0 +1,9 @@
+pub mod Numbers
+pub mod Lengths
+pub mod Links
+pub mod CodeLemmas
+pub mod HeaderAgain
+pub mod Told
+pub mod RecordAgain
+pub mod RecordLaws
+pub mod KindLaws

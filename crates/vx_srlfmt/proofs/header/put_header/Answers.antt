@@ -1,0 +1,20 @@
+use Rattle.std.proofs.Common.{arith, ◌≡◌, ◌≤◌, ◌∙◌, ◌++◌, ap, List, ℕ, length, take}
+use Rattle.vx_wire.specs.Seals.{filled, sealed, digest_of}
+use Rattle.vx_wire.proofs.SealLemmas.{length-filled}
+use Rattle.vx_srlfmt.specs.Headers.{header_fields, header_block}
+use Rattle.vx_srlfmt.proofs.Lengths.{length-header_fields, take-put_at}
+use Rattle.vx_srlfmt.proofs.header.put_header.Goals as goal
+
+pub returns : goal.returns
+unfolding header_block sealed
+returns c =
+    let front : List ℕ = filled (header_fields c.args.h.now) in
+    let few : length (header_fields c.args.h.now) ≤ 480 = omega (arith, length-header_fields c.args.h.now) in
+    let len : length front ≡ 480 = length-filled (header_fields c.args.h.now) few in
+    let put : take 480 c.put_front.new.into ≡ front = ap (take 480) c.put_front.ensures ∙ take-put_at 480 front c.args.into.now len in
+    record {
+      can = c.requires;
+      typed = c.is_typed.ensures.state;
+      place = c.is_typed.ensures.place;
+      is = c.seal.ensures ∙ ap (λ (t : List ℕ). t ++ digest_of t) put;
+    }

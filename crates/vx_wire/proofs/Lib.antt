@@ -1,0 +1,4 @@
+pub mod NumberLemmas
+pub mod PlaceLemmas
+pub mod FieldLemmas
+pub mod SealLemmas

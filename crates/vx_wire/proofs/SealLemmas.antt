@@ -1,0 +1,29 @@
+-- Digests and sealed blocks.
+use Rattle.std.proofs.Common.{◌≡◌, ◌≤◌, ℕ, ◌-◌, List, length, take, drop, sym, ap, ◌∙◌, arith}
+use Rattle.std.proofs.lemmas.List.{length-append, length-replicate, take_at, drop_at}
+use Rattle.sha2.proofs.Facts256.{length-sha256}
+use Rattle.vx_wire.specs.Fields.{zeros}
+use Rattle.vx_wire.specs.Seals.{digest_of, filled, sealed, IsSealed}
+
+pub length-digest_of : (bytes : List ℕ) → length (digest_of bytes) ≡ 32
+unfolding digest_of
+length-digest_of bytes = length-sha256 bytes
+
+pub length-filled : (fields : List ℕ) → length fields ≤ 480 → length (filled fields) ≡ 480
+unfolding filled
+length-filled fields few = omega (arith, length-append fields (zeros (480 - length fields)), length-replicate {A = ℕ} (480 - length fields) 0)
+
+pub length-sealed : (fields : List ℕ) → length fields ≤ 480 → length (sealed fields) ≡ 512
+unfolding sealed
+length-sealed fields few = omega (arith, length-append (filled fields) (digest_of (filled fields)), length-filled fields few, length-digest_of (filled fields))
+
+pub take-sealed : (fields : List ℕ) → length fields ≤ 480 → take 480 (sealed fields) ≡ filled fields
+unfolding sealed
+take-sealed fields few = take_at (filled fields) (digest_of (filled fields)) 480 (length-filled fields few)
+
+pub drop-sealed : (fields : List ℕ) → length fields ≤ 480 → drop 480 (sealed fields) ≡ digest_of (filled fields)
+unfolding sealed
+drop-sealed fields few = drop_at (filled fields) (digest_of (filled fields)) 480 (length-filled fields few)
+
+pub IsSealed-sealed : (fields : List ℕ) → length fields ≤ 480 → IsSealed (sealed fields)
+IsSealed-sealed fields few = drop-sealed fields few ∙ ap digest_of (sym (take-sealed fields few))
