@@ -175,3 +175,21 @@ module _ {R : Type 0} {g : Ghosts R} where
             (subst (StandsAt n) (same (sym (get-set_same es w.sites new inside) ∙ ap (slice_get (slice_set es w.sites new)) (sym same_site) ∙ is)) at)))
         (λ apart. subst (λ (m : Node). StandsAt m e) (sym (updated_other w.nodes w.sites k n apart)) (stand.sites k e (omega arith) (sym (get-set_other es w.sites k new apart) ∙ is)))
         (cases_eq k w.sites)
+
+  -- the engines with another one in an unused place, which is unused too
+  pub engines_unused : (w : World) (es : List (Engine R g)) (s : ℕ) (new : Engine R g) → w.sites ≤ s → s < 8 → EnginesStand w es → IsUnused new → EnginesStand w (slice_set es s new)
+  engines_unused w es s new past few stand unused = record {
+      eight = length-set es s new ∙ stand.eight;
+      few = stand.few;
+      sites = λ k e below is. stand.sites k e below (sym (get-set_other es s k new (λ e. omega (arith, past, below, e))) ∙ is);
+      others = λ k e above is. ⊎_elim
+        (λ same_place. subst IsUnused (same (sym (get-set_same es s new inside) ∙ ap (slice_get (slice_set es s new)) (sym same_place) ∙ is)) unused)
+        (λ apart. stand.others k e above (sym (get-set_other es s k new apart) ∙ is))
+        (cases_eq k s);
+    }
+    where
+      same : {a b : Engine R g} → Some a ≡ Some b → a ≡ b
+      same e = cc
+
+      inside : s < length es
+      inside = omega (arith, stand.eight, few)

@@ -1,5 +1,5 @@
 -- Lists with another element at one place.
-use Rattle.std.proofs.Common.{◌≡◌, ◌∙◌, ◌+◌, ◌<◌, ℕ, zero, suc, List, [], ◌∷◌, ◌++◌, length, ap, sym, refl, arith}
+use Rattle.std.proofs.Common.{◌≡◌, ◌∙◌, ◌+◌, ◌<◌, ℕ, zero, suc, List, [], ◌∷◌, ◌++◌, length, take, get_or, ap, sym, refl, arith}
 use Rattle.std.specs.Prelude.{Option, Some, None, slice_get, slice_set}
 use Rattle.vx_node.specs.Facts.{values_from}
 
@@ -36,3 +36,13 @@ values_from-set f h k (suc n) (suc i) x here there =
     let e : (k + 1) + i ≡ k + suc i = omega arith in
     ap (λ y. y ∷ values_from h (k + 1) n) (there k (omega arith))
     ∙ ap (λ ys. f k ∷ ys) (values_from-set f h (k + 1) n i x (ap h e ∙ here) (λ j apart. there j (λ is. apart (is ∙ sym e))))
+
+-- an element that an index gave
+pub get_at : {A : Type 0} (xs : List A) (i : ℕ) (x : A) → i < length xs → x ≡ get_or xs i x → slice_get xs i ≡ Some x
+get_at [] i x h e = absurd (omega arith)
+get_at (y ∷ xs) zero x h e = ap (λ z. Some z) (sym e)
+get_at (y ∷ xs) (suc i) x h e = get_at xs i x (omega arith) e
+
+pub take_pushed : {A : Type 0} (xs : List A) (x : A) → take (length xs) (xs ++ x ∷ []) ≡ xs
+take_pushed [] x = refl
+take_pushed (y ∷ xs) x = ap (λ ys. y ∷ ys) (take_pushed xs x)

@@ -1,27 +1,30 @@
 -- What is known of a line that is not refused before it works.
-use Rattle.std.proofs.Common.{◌≡◌, ◌∙◌, ◌+◌, ◌<◌, ◌≤◌, ℕ, zero, suc, List, [], ◌∷◌, length, ap, sym, subst, refl, arith, Bool, true, false}
-use Rattle.std.specs.Prelude.{Option, Some, None, slice_get, cond, not, ◌&&◌, ◌||◌, ◌==◌, nat_lt, nat_le, is_some, is_none, unwrap_or, if◌then◌else◌}
+use Rattle.std.proofs.Common.{◌≡◌, ◌∙◌, ◌+◌, ◌<◌, ◌≤◌, ℕ, zero, suc, List, [], ◌∷◌, length, ap, subst, refl, arith, Bool, true, false}
+use Rattle.std.specs.Prelude.{◌-◌, ◌*◌, Option, Some, None, slice_get, cond, not, ◌&&◌, ◌||◌, ◌==◌, nat_lt, nat_le, if◌then◌else◌}
 use Rattle.std.specs.List.{find, position, position_from}
-use Rattle.std.specs.Option.{option_or}
 use Rattle.std.specs.Str.{bytes_eq}
 use Rattle.std.proofs.lemmas.Bool.Decides.{nat_tests}
 use Rattle.std.proofs.lemmas.Iterator.Adapters.{position_from-zero}
 use Rattle.vx_model.specs.declared.no.No.{No}
-use Rattle.vx_model.specs.declared.site.Role.TheVariants.{Primary}
+use Rattle.vx_model.specs.declared.site.SiteState.{SiteState}
 use Rattle.vx_model.specs.declared.site.SiteState.TheVariants.{Bare, Up, Deported, Down}
 use Rattle.vx_script.specs.declared.line.ScriptLine.{ScriptLine}
 use Rattle.vx_script.specs.declared.line.ScriptLine.TheVariants.{Site, Raw, Disk, Write, Put, Read, Show, Status}
 use Rattle.vx_order.specs.declared.facts.SiteFacts.{SiteFacts}
 use Rattle.vx_order.specs.declared.facts.VolumeFacts.{VolumeFacts}
 use Rattle.vx_order.specs.declared.facts.RvgFacts.{RvgFacts}
+use Rattle.vx_order.specs.declared.facts.VolumeKind.{VolumeKind}
 use Rattle.vx_order.specs.declared.facts.VolumeKind.TheVariants.{Data}
-use Rattle.vx_order.specs.Order.{refusal_of, tests_of}
+use Rattle.vx_order.specs.declared.span.Span.{Span}
+use Rattle.vx_order.specs.declared.span.Way.{Way}
+use Rattle.vx_order.specs.declared.span.Way.TheVariants.{Writes, Reads, Shows}
+use Rattle.vx_order.specs.Order.{refusal_of}
 use Rattle.vx_order.specs.Tests.{when, first_of}
 use Rattle.vx_order.specs.Subject.{first_name, second_name, need_of, halt_of}
 use Rattle.vx_order.specs.Spans.{span_of}
-use Rattle.vx_order.specs.Sites.{facts_of, site_named, unknown_one, down_by, halted_by}
-use Rattle.vx_order.specs.Shapes.{line_role, line_unknown, taken, over_limit, wrong_size, site_limit, most_blocks, is_raw_set}
-use Rattle.vx_order.specs.Calls.{span_role, span_unknown, span_size, span_range}
+use Rattle.vx_order.specs.Sites.{facts_of, site_named, unknown_one, down_by, halted_by, is_up, is_bare, volume_of, rvg_of, halted_disk, halted_rvg, halted_one}
+use Rattle.vx_order.specs.Shapes.{line_role, line_unknown, taken, over_limit, wrong_size, site_limit, most_blocks, is_raw_set, raw_role, raw_size, disk_unknown, map_blocks}
+use Rattle.vx_order.specs.Calls.{span_role, span_unknown, span_size, span_range, call_unknown, call_size, call_range, outgrows, is_data, is_write}
 
 -- none of the tests of a line holds
 pub record Passes (sites : List SiteFacts) (files : Bool) (line : ScriptLine) (first second : Option SiteFacts) : Type 0 where
@@ -82,6 +85,31 @@ when_none : (b : Bool) (why : No) → when b why ≡ None → b ≡ false
 when_none true why e = absurd (cc)
 when_none false why e = refl
 
+-- what tests say of numbers and of each other
+lt_false : (a b : ℕ) → nat_lt a b ≡ false → b ≤ a
+lt_false a b e = grind (arith, nat_tests)
+
+le_false : (a b : ℕ) → nat_le a b ≡ false → b < a
+le_false a b e = grind (arith, nat_tests)
+
+le_true : (a b : ℕ) → nat_le a b ≡ true → a ≤ b
+le_true a b e = grind (arith, nat_tests)
+
+some_of : (a : ℕ) → (a == 0) ≡ false → 1 ≤ a
+some_of a e = grind (arith, nat_tests)
+
+not_false : (b : Bool) → not b ≡ false → b ≡ true
+not_false true e = refl
+not_false false e = absurd (cc)
+
+neither : (a b : Bool) → (a || b) ≡ false → (a ≡ false) × (b ≡ false)
+neither true b e = absurd (cc)
+neither false b e = (refl, e)
+
+both : (a b : Bool) → (a && b) ≡ true → (a ≡ true) × (b ≡ true)
+both true b e = (refl, e)
+both false b e = absurd (cc)
+
 -- an element that passes is found at its place
 place_by : {A : Type 0} (p : A → Bool) (k : ℕ) (y : A) (xs : List A) (x : A) (b : Bool) → p y ≡ b → cond b (Some y) (find p xs) ≡ Some x
     → (find p xs ≡ Some x → (i : ℕ) × (position_from p (k + 1) xs ≡ Some ((k + 1) + i)) × (slice_get xs i ≡ Some x))
@@ -133,8 +161,16 @@ pub record SiteMay (sites : List SiteFacts) (files : Bool) (disks blocks : ℕ) 
   pub some_disks : 1 ≤ disks
   pub some_blocks : 8 ≤ blocks
 
+no_limit : (a b c : Bool) (x y z : No) → (if a then Some x else if b then Some y else if c then Some z else None) ≡ None → (a ≡ false) × (b ≡ false) × (c ≡ false)
+no_limit true b c x y z e = absurd (cc)
+no_limit false true c x y z e = absurd (cc)
+no_limit false false true x y z e = absurd (cc)
+no_limit false false false x y z e = (refl, refl, refl)
+
 limit_none : (sites : ℕ) (files : Bool) (disks blocks : ℕ) → site_limit sites files disks blocks ≡ None → (sites < 8) × (disks ≤ 8) × (blocks ≤ most_blocks files)
-limit_none sites files disks blocks e = ?
+limit_none sites files disks blocks e =
+    let tests = no_limit (nat_le 8 sites) (nat_lt 8 disks) (nat_lt (most_blocks files) blocks) _ _ _ e in
+    (le_false 8 sites tests.0, lt_false 8 disks tests.1, lt_false (most_blocks files) blocks tests.2)
 
 pub site_may : (sites : List SiteFacts) (files : Bool) (name : List ℕ) (disks blocks : ℕ) → refusal_of sites files (Site name disks blocks) ≡ None → SiteMay sites files disks blocks
 unfolding over_limit wrong_size
@@ -142,13 +178,49 @@ site_may sites files name disks blocks e =
     let p = passes sites files (Site name disks blocks) e in
     let limits = limit_none (length sites) files disks blocks p.limit in
     let sizes : (disks == 0 || nat_lt blocks 8) ≡ false = when_none (disks == 0 || nat_lt blocks 8) _ p.size in
-    record { few_sites = limits.0; few_disks = limits.1; few_blocks = limits.2; some_disks = ?; some_blocks = ? }
+    let parts = neither (disks == 0) (nat_lt blocks 8) sizes in
+    record { few_sites = limits.0; few_disks = limits.1; few_blocks = limits.2; some_disks = some_of disks parts.0; some_blocks = lt_false blocks 8 parts.1 }
+
+bare_by : (state : SiteState) → is_bare state ≡ true → state ≡ Bare
+bare_by Bare e = refl
+bare_by Up e = absurd (cc)
+bare_by Deported e = absurd (cc)
+bare_by Down e = absurd (cc)
+
+raw_role_none : (site : SiteFacts) → raw_role (Some site) ≡ None → site.state ≡ Bare
+raw_role_none site e = bare_by site.state (not_false (is_bare site.state) (when_none (not (is_bare site.state)) _ e))
+
+raw_set : (disks blocks : ℕ) → is_raw_set disks blocks ≡ true → (3 ≤ disks) × (8 ≤ blocks)
+unfolding is_raw_set
+raw_set disks blocks e =
+    let all = both (nat_le 3 disks && nat_le disks 32 && nat_le 8 blocks) (nat_le (8 * (disks - 2) * map_blocks blocks) blocks) e in
+    let most = both (nat_le 3 disks && nat_le disks 32) (nat_le 8 blocks) all.0 in
+    let few = both (nat_le 3 disks) (nat_le disks 32) most.0 in
+    (le_true 3 disks few.0, le_true 8 blocks most.1)
+
+raw_size_none : (site : SiteFacts) → raw_size (Some site) ≡ None → (3 ≤ site.disks) × (8 ≤ site.blocks)
+raw_size_none site e = raw_set site.disks site.blocks (not_false (is_raw_set site.disks site.blocks) (when_none (not (is_raw_set site.disks site.blocks)) _ e))
+
+disk_none : (disk : ℕ) (site : SiteFacts) → disk_unknown disk (Some site) ≡ None → disk < site.disks
+disk_none disk site e = le_false site.disks disk (when_none (nat_le site.disks disk) _ e)
 
 pub raw_may : (sites : List SiteFacts) (files : Bool) (name : List ℕ) → refusal_of sites files (Raw name) ≡ None → (site : Named sites name) × (site.facts.state ≡ Bare) × (3 ≤ site.facts.disks) × (8 ≤ site.facts.blocks)
-raw_may sites files name e = ?
+unfolding first_name line_role wrong_size
+raw_may sites files name e =
+    let p = passes sites files (Raw name) e in
+    let site = named sites name p.known in
+    let role : raw_role (Some site.facts) ≡ None = subst (λ (o : Option SiteFacts). raw_role o ≡ None) site.found p.role in
+    let size : raw_size (Some site.facts) ≡ None = subst (λ (o : Option SiteFacts). raw_size o ≡ None) site.found p.size in
+    let sizes = raw_size_none site.facts size in
+    (site, raw_role_none site.facts role, sizes.0, sizes.1)
 
 pub disk_may : (sites : List SiteFacts) (files : Bool) (name : List ℕ) (disk : ℕ) (state : _) → refusal_of sites files (Disk name disk state) ≡ None → (site : Named sites name) × (disk < site.facts.disks)
-disk_may sites files name disk state e = ?
+unfolding first_name line_unknown
+disk_may sites files name disk state e =
+    let p = passes sites files (Disk name disk state) e in
+    let site = named sites name p.known in
+    let other : disk_unknown disk (Some site.facts) ≡ None = subst (λ (o : Option SiteFacts). disk_unknown disk o ≡ None) site.found p.other in
+    (site, disk_none disk site.facts other)
 
 -- what is known of a read or write of blocks
 pub record CallMay (sites : List SiteFacts) (name volume : List ℕ) (start count : ℕ) : Type 0 where
@@ -166,17 +238,137 @@ pub record WriteMay (sites : List SiteFacts) (name volume : List ℕ) (start cou
   pub call : CallMay sites name volume start count
   pub fits : (rvg : RvgFacts) → call.site.facts.rvg ≡ Some rvg → call.found.kind ≡ Data → count + 1 ≤ rvg.ring
 
+-- only an up site has volumes
+found_up : (state : SiteState) (found : Option VolumeFacts) (name : List ℕ) → call_unknown (if is_up state then found else None) name ≡ None
+    → (state ≡ Up) × (v : VolumeFacts) × (found ≡ Some v)
+found_up Up None name e = absurd (cc)
+found_up Up (Some v) name e = (refl, v, refl)
+found_up Bare found name e = absurd (cc)
+found_up Deported found name e = absurd (cc)
+found_up Down found name e = absurd (cc)
+
+not_halted : (disk : Option ℕ) → halted_disk disk ≡ None → disk ≡ None
+not_halted None e = refl
+not_halted (Some disk) e = absurd (cc)
+
+-- what the tests of a run of blocks say of its volume
+record Calling (site : SiteFacts) (span : Span) : Type 0 where
+  up : site.state ≡ Up
+  rvg_is : rvg_of (Some site) ≡ site.rvg
+  volume : VolumeFacts
+  volume_is : volume_of (Some site) span.volume ≡ Some volume
+  found : find (λ (v : VolumeFacts). bytes_eq v.name span.volume) site.volumes ≡ Some volume
+
+calling : (site : SiteFacts) (span : Span) → span_unknown (Some site) (Some span) ≡ None → Calling site span
+calling site span e =
+    let found : Option VolumeFacts = find (λ (v : VolumeFacts). bytes_eq v.name span.volume) site.volumes in
+    let is = found_up site.state found span.volume e in
+    record {
+      up = is.0;
+      rvg_is = ap (λ (s : SiteState). if is_up s then site.rvg else None) is.0;
+      volume = is.1;
+      volume_is = ap (λ (s : SiteState). if is_up s then found else None) is.0 ∙ is.2;
+      found = is.2;
+    }
+
+running_by : (site : SiteFacts) (rvg : RvgFacts) → halted_one (Some site) ≡ None → rvg_of (Some site) ≡ site.rvg → site.rvg ≡ Some rvg → rvg.halted ≡ None
+running_by site rvg e same is = not_halted rvg.halted (subst (λ (o : Option RvgFacts). halted_rvg o ≡ None) (same ∙ is) e)
+
+-- what the test of a run's size says
+record Sized (rvg : Option RvgFacts) (volume : Option VolumeFacts) (span : Span) : Type 0 where
+  some : 1 ≤ span.count
+  few : span.count ≤ 16
+  fits : (is_write span.way && outgrows rvg volume span.count) ≡ false
+
+sized : (rvg : Option RvgFacts) (volume : Option VolumeFacts) (span : Span) → call_size rvg volume span ≡ None → Sized rvg volume span
+sized rvg volume span e =
+    let all = when_none (span.count == 0 || nat_lt 16 span.count || (is_write span.way && outgrows rvg volume span.count)) _ e in
+    let parts = neither (span.count == 0 || nat_lt 16 span.count) (is_write span.way && outgrows rvg volume span.count) all in
+    let counts = neither (span.count == 0) (nat_lt 16 span.count) parts.0 in
+    record { some = some_of span.count counts.0; few = lt_false 16 span.count counts.1; fits = parts.1 }
+
+fits_by : (rvg : RvgFacts) (volume : VolumeFacts) (count : ℕ) → outgrows (Some rvg) (Some volume) count ≡ false → volume.kind ≡ Data → count + 1 ≤ rvg.ring
+fits_by rvg volume count e is =
+    lt_false rvg.ring (count + 1) (subst (λ (kind : VolumeKind). (is_data kind && nat_lt rvg.ring (count + 1)) ≡ false) is e)
+
+range_by : (volume : VolumeFacts) (span : Span) → call_range (Some volume) span ≡ None → span.start + span.count ≤ volume.blocks
+range_by volume span e = lt_false volume.blocks (span.start + span.count) (when_none (nat_lt volume.blocks (span.start + span.count)) _ e)
+
+-- the tests of a line with a run of blocks
+record Run (sites : List SiteFacts) (name : List ℕ) (span : Span) : Type 0 where
+  site : Named sites name
+  running : halted_one (Some site.facts) ≡ None
+  volume : span_unknown (Some site.facts) (Some span) ≡ None
+  call_size : span_size (Some site.facts) (Some span) ≡ None
+  range : span_range (Some site.facts) (Some span) ≡ None
+
+run_of : (sites : List SiteFacts) (name : List ℕ) (span : Span) (site : Named sites name) → halted_one (site_named sites name) ≡ None → span_unknown (site_named sites name) (Some span) ≡ None
+    → span_size (site_named sites name) (Some span) ≡ None → span_range (site_named sites name) (Some span) ≡ None → Run sites name span
+run_of sites name span site running volume size range = record {
+  site = site;
+  running = subst (λ (o : Option SiteFacts). halted_one o ≡ None) site.found running;
+  volume = subst (λ (o : Option SiteFacts). span_unknown o (Some span) ≡ None) site.found volume;
+  call_size = subst (λ (o : Option SiteFacts). span_size o (Some span) ≡ None) site.found size;
+  range = subst (λ (o : Option SiteFacts). span_range o (Some span) ≡ None) site.found range;
+}
+
+abbrev call_by : (sites : List SiteFacts) (name : List ℕ) (span : Span) (run : Run sites name span) → Calling run.site.facts span → CallMay sites name span.volume span.start span.count
+call_by sites name span run c = record {
+  site = run.site;
+  up = c.up;
+  running = λ rvg is. running_by run.site.facts rvg run.running c.rvg_is is;
+  found = c.volume;
+  at = found_at (λ (v : VolumeFacts). bytes_eq v.name span.volume) run.site.facts.volumes c.volume c.found;
+  some = (sized _ _ span run.call_size).some;
+  few = (sized _ _ span run.call_size).few;
+  range = range_by c.volume span (subst (λ (o : Option VolumeFacts). call_range o span ≡ None) c.volume_is run.range);
+}
+
+call_of : (sites : List SiteFacts) (name : List ℕ) (span : Span) → Run sites name span → CallMay sites name span.volume span.start span.count
+call_of sites name span run = call_by sites name span run (calling run.site.facts span run.volume)
+
+fits_of : (site : SiteFacts) (span : Span) (c : Calling site span) → span_size (Some site) (Some span) ≡ None → span.way ≡ Writes
+    → (rvg : RvgFacts) → site.rvg ≡ Some rvg → c.volume.kind ≡ Data → span.count + 1 ≤ rvg.ring
+fits_of site span c size way rvg is kind =
+    let fits = (sized (rvg_of (Some site)) (volume_of (Some site) span.volume) span size).fits in
+    let writes : outgrows (rvg_of (Some site)) (volume_of (Some site) span.volume) span.count ≡ false =
+    subst (λ (w : Way). (is_write w && outgrows (rvg_of (Some site)) (volume_of (Some site) span.volume) span.count) ≡ false) way fits in
+    let led : outgrows (Some rvg) (volume_of (Some site) span.volume) span.count ≡ false =
+    subst (λ (o : Option RvgFacts). outgrows o (volume_of (Some site) span.volume) span.count ≡ false) (c.rvg_is ∙ is) writes in
+    fits_by rvg c.volume span.count (subst (λ (o : Option VolumeFacts). outgrows (Some rvg) o span.count ≡ false) c.volume_is led) kind
+
+write_of : (sites : List SiteFacts) (name : List ℕ) (span : Span) → span.way ≡ Writes → Run sites name span → WriteMay sites name span.volume span.start span.count
+write_of sites name span way run =
+    let c = calling run.site.facts span run.volume in
+    record { call = call_by sites name span run c; fits = λ rvg is kind. fits_of run.site.facts span c run.call_size way rvg is kind }
+
 pub write_may : (sites : List SiteFacts) (files : Bool) (name volume : List ℕ) (start count fill : ℕ) → refusal_of sites files (Write name volume start count fill) ≡ None → WriteMay sites name volume start count
-write_may sites files name volume start count fill e = ?
+unfolding first_name span_of halt_of
+write_may sites files name volume start count fill e =
+    let p = passes sites files (Write name volume start count fill) e in
+    let span : Span = record { volume = volume; start = start; count = count; way = Writes } in
+    write_of sites name span refl (run_of sites name span (named sites name p.known) p.running p.volume p.call_size p.range)
 
 pub put_may : (sites : List SiteFacts) (files : Bool) (name volume : List ℕ) (start : ℕ) (bytes : List ℕ) → refusal_of sites files (Put name volume start bytes) ≡ None → WriteMay sites name volume start 1
-put_may sites files name volume start bytes e = ?
+unfolding first_name span_of halt_of
+put_may sites files name volume start bytes e =
+    let p = passes sites files (Put name volume start bytes) e in
+    let span : Span = record { volume = volume; start = start; count = 1; way = Writes } in
+    write_of sites name span refl (run_of sites name span (named sites name p.known) p.running p.volume p.call_size p.range)
 
 pub read_may : (sites : List SiteFacts) (files : Bool) (name volume : List ℕ) (start count : ℕ) → refusal_of sites files (Read name volume start count) ≡ None → CallMay sites name volume start count
-read_may sites files name volume start count e = ?
+unfolding first_name span_of halt_of
+read_may sites files name volume start count e =
+    let p = passes sites files (Read name volume start count) e in
+    let span : Span = record { volume = volume; start = start; count = count; way = Reads } in
+    call_of sites name span (run_of sites name span (named sites name p.known) p.running p.volume p.call_size p.range)
 
 pub show_may : (sites : List SiteFacts) (files : Bool) (name volume : List ℕ) (start count : ℕ) → refusal_of sites files (Show name volume start count) ≡ None → CallMay sites name volume start count
-show_may sites files name volume start count e = ?
+unfolding first_name span_of halt_of
+show_may sites files name volume start count e =
+    let p = passes sites files (Show name volume start count) e in
+    let span : Span = record { volume = volume; start = start; count = count; way = Shows } in
+    call_of sites name span (run_of sites name span (named sites name p.known) p.running p.volume p.call_size p.range)
 
 pub status_may : (sites : List SiteFacts) (files : Bool) (name : List ℕ) → refusal_of sites files (Status name) ≡ None → Named sites name
 unfolding first_name
