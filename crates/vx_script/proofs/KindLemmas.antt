@@ -105,7 +105,7 @@ plex_tokens : (verb : PlexVerb) (a b : List ℕ) (n : ℕ) → tokens (plex_line
 plex_tokens DetachPlex a b n = refl
 plex_tokens AttachPlex a b n = refl
 
-faithful : (k : Keyword) → Faithful (format_of k) (λ ts. Key (text_of k) ∷ ts)
+pub faithful : (k : Keyword) → Faithful (format_of k) (λ ts. Key (text_of k) ∷ ts)
 unfolding site_format disk_format fuse_format group_format volume_format plex_format rvg_format write_format put_format deliver_format call_format end_format of_site_format of_number_format of_span_format of_link_format of_pair_format
 faithful SiteKey = (name_place [] refl, λ site. (number_place [] refl, λ disks. (number_place [] refl, λ blocks. refl)))
 faithful DiskKey = (name_place [] refl, λ site. (number_place [] refl, λ disk. (disk_state_place, λ state. refl)))

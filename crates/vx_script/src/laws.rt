@@ -1,5 +1,6 @@
 // What holds of every line: laws about the definitions that `parse` and `print` are proved to follow.
-ghost use Rattle.std.specs.Prelude.{◌≡◌, ◌≤◌, ◌↔◌, ℕ, List, Ok, Some, None, length};
+ghost use Rattle.std.specs.Prelude.{◌≡◌, ◌≤◌, ◌<◌, ◌↔◌, ◌⊎◌, ℕ, List, Ok, Err, Some, None, length};
+ghost use Rattle.vx_script.specs.Columns.{WrongAt};
 ghost use Rattle.vx_script.specs.Grammar.{line_of, spelling, IsLine, IsQuiet};
 ghost use Rattle.vx_script.specs.Tokens.{words_of};
 ghost use Rattle.vx_script.specs.declared.line.ScriptLine.{ScriptLine};
@@ -13,4 +14,10 @@ pub fn grammar()
 /// What is printed of a line that was read is no longer, and is read as the same line again.
 pub fn printed_reads()
     ensures { (bytes : List ℕ) (line : ScriptLine) → line_of bytes ≡ Ok (Some line) → (length (spelling line) ≤ length bytes) × (line_of (spelling line) ≡ Ok (Some line)) }
+{}
+
+/// A line is wrong at its first wrong word: the words before it begin a line, and with it they begin none. Where
+/// words are missing, at one past its last byte; where it is too long, at 4097.
+pub fn wrong_place()
+    ensures { (bytes : List ℕ) (column : ℕ) → line_of bytes ≡ Err column → ((4096 < length bytes) × (column ≡ 4097)) ⊎ WrongAt bytes column }
 {}
