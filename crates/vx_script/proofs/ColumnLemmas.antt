@@ -1,20 +1,20 @@
 -- Where a line is wrong: the words before that place begin a line, and with the word there they do not.
-use Rattle.std.proofs.Common.{◌≡◌, ℕ, zero, suc, ◌+◌, ◌-◌, ◌<◌, ◌≤◌, Bool, true, false, not, cond, ltb, List, [], ◌∷◌, ◌++◌, length, replicate, Option, Some, None, Result, Ok, Err, refl, arith, ap, sym, subst, ◌∙◌, eqb, inl, inr, ⊎_elim, append_assoc, length-append}
-use Rattle.std.specs.Prelude.{◌&&◌, ◌⊎◌}
+use Rattle.std.proofs.Common.{◌≡◌, ℕ, zero, suc, ◌+◌, ◌-◌, ◌<◌, Bool, true, false, cond, ltb, List, [], ◌∷◌, ◌++◌, length, replicate, Option, Some, None, Ok, Err, refl, arith, ap, sym, subst, ◌∙◌, eqb, inl, inr, ⊎_elim, append_assoc, length-append}
+use Rattle.std.specs.Prelude.{◌⊎◌}
 use Rattle.std.specs.List.{list_all}
 use Rattle.std.proofs.Math.Dec.{eqb-suc-zero}
-use Rattle.std.proofs.lemmas.Bool.{ltb-true, ltb-false}
-use Rattle.vx_script.specs.Words.{Reading, and_then, placed, next, end_of, is_visible, after_spaces, word_of, after_word}
+use Rattle.std.proofs.lemmas.Bool.{ltb-true}
+use Rattle.vx_script.specs.Words.{Reading, and_then, placed, is_visible, after_spaces, word_of, after_word}
 use Rattle.vx_script.specs.Tokens.{Token, Key, is_in_word}
 use Rattle.vx_script.specs.Keywords.{text_of, keyword_of}
 use Rattle.vx_script.specs.Formats.{Place, Format, Done, Then, read, ended, format_of, end_format}
-use Rattle.vx_script.specs.Grammar.{line_of, line_at, line_by, line_of_keyword, some_line, is_silent, at_column, IsLine}
-use Rattle.vx_script.specs.Columns.{Begins, IsApart, IsWrongWord, AreMissing, WrongAt}
+use Rattle.vx_script.specs.Grammar.{line_of, line_at, line_by, line_of_keyword, some_line, is_silent, at_column}
+use Rattle.vx_script.specs.Columns.{Begins, IsApart, IsWrongWord, WrongAt}
 use Rattle.vx_script.specs.declared.keyword.Keyword.{Keyword}
 use Rattle.vx_script.specs.declared.keyword.Keyword.TheVariants.{End as EndKey}
 use Rattle.vx_script.specs.declared.line.ScriptLine.{ScriptLine}
 use Rattle.vx_script.specs.declared.line.ScriptLine.TheVariants.{End}
-use Rattle.vx_script.proofs.FormatLemmas.{IsPlace, Faithful, either}
+use Rattle.vx_script.proofs.FormatLemmas.{Faithful, either}
 use Rattle.vx_script.proofs.KindLemmas.{faithful, line_only, line_found}
 use Rattle.vx_script.proofs.SpotLemmas.{after_led, after_kept, word_then, tail_then, Blank, At, spot}
 

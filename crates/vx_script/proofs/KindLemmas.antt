@@ -31,8 +31,6 @@ use Rattle.vx_script.specs.declared.keyword.Keyword.{Keyword}
 use Rattle.vx_script.specs.declared.keyword.Keyword.TheVariants.{Site as SiteKey, Disk as DiskKey, Fuse as FuseKey, Group as GroupKey, Volume as VolumeKey, Plex as PlexKey, Rvg as RvgKey, Write as WriteKey, Put as PutKey, Deliver as DeliverKey, Call as CallKey, End as EndKey, OfSite as SiteKeys, OfNumber as NumberKeys, OfSpan as SpanKeys, OfLink as LinkKeys, OfPair as PairKeys}
 use Rattle.vx_script.specs.declared.line.Layout.{Layout}
 use Rattle.vx_script.specs.declared.line.Layout.TheVariants.{Concat, Stripe}
-use Rattle.vx_script.specs.declared.line.ReadPolicy.{ReadPolicy}
-use Rattle.vx_script.specs.declared.line.ReadPolicy.TheVariants.{Round, Prefer}
 use Rattle.vx_script.specs.declared.line.ScriptLine.{ScriptLine}
 use Rattle.vx_script.specs.declared.line.ScriptLine.TheVariants.{Site, Raw, Disk, Crash, Fuse, Recover, GroupInit, GroupDeport, GroupImport, Volume, PlexDetach, PlexAttach, Rvg, Write, Put, Read, Show, Apply, Wait, Link, Set, Attach, Detach, Pause, Resume, Connect, Cut, Pump, Tick, Deliver, Settle, Resync, Migrate, Takeover, Failback, Bunker, Activate, Burst, Status, CallWrite, CallRead, End}
 use Rattle.vx_script.proofs.WordLemmas.{first_is, first_found}
