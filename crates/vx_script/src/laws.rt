@@ -20,7 +20,8 @@ pub fn printed_reads()
 /// A line is wrong at its first wrong word: the words before it begin a line, and with it they begin none. Where
 /// words are missing, at one past its last byte; where it is too long, at 4097.
 pub fn wrong_place()
-    ensures { (bytes : List ℕ) (column : ℕ) → line_of bytes ≡ Err column → ((4096 < length bytes) × (column ≡ 4097)) ⊎ WrongAt bytes column }
+    ensures long { (bytes : List ℕ) → 4096 < length bytes → line_of bytes ≡ Err 4097 }
+    ensures wrong { (bytes : List ℕ) (column : ℕ) → line_of bytes ≡ Err column → ((4096 < length bytes) × (column ≡ 4097)) ⊎ WrongAt bytes column }
 {}
 
 /// The lines of an input end at each newline, without a carriage return right before it; what is left of the
