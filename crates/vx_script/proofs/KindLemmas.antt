@@ -31,8 +31,6 @@ use Rattle.vx_script.specs.declared.keyword.Keyword.{Keyword}
 use Rattle.vx_script.specs.declared.keyword.Keyword.TheVariants.{Site as SiteKey, Disk as DiskKey, Fuse as FuseKey, Group as GroupKey, Volume as VolumeKey, Plex as PlexKey, Rvg as RvgKey, Write as WriteKey, Put as PutKey, Deliver as DeliverKey, Call as CallKey, End as EndKey, OfSite as SiteKeys, OfNumber as NumberKeys, OfSpan as SpanKeys, OfLink as LinkKeys, OfPair as PairKeys}
 use Rattle.vx_script.specs.declared.line.Layout.{Layout}
 use Rattle.vx_script.specs.declared.line.Layout.TheVariants.{Concat, Stripe}
-use Rattle.vx_script.specs.declared.line.ReadPolicy.{ReadPolicy}
-use Rattle.vx_script.specs.declared.line.ReadPolicy.TheVariants.{Round, Prefer}
 use Rattle.vx_script.specs.declared.line.ScriptLine.{ScriptLine}
 use Rattle.vx_script.specs.declared.line.ScriptLine.TheVariants.{Site, Raw, Disk, Crash, Fuse, Recover, GroupInit, GroupDeport, GroupImport, Volume, PlexDetach, PlexAttach, Rvg, Write, Put, Read, Show, Apply, Wait, Link, Set, Attach, Detach, Pause, Resume, Connect, Cut, Pump, Tick, Deliver, Settle, Resync, Migrate, Takeover, Failback, Bunker, Activate, Burst, Status, CallWrite, CallRead, End}
 use Rattle.vx_script.proofs.WordLemmas.{first_is, first_found}
@@ -105,7 +103,7 @@ plex_tokens : (verb : PlexVerb) (a b : List ℕ) (n : ℕ) → tokens (plex_line
 plex_tokens DetachPlex a b n = refl
 plex_tokens AttachPlex a b n = refl
 
-faithful : (k : Keyword) → Faithful (format_of k) (λ ts. Key (text_of k) ∷ ts)
+pub faithful : (k : Keyword) → Faithful (format_of k) (λ ts. Key (text_of k) ∷ ts)
 unfolding site_format disk_format fuse_format group_format volume_format plex_format rvg_format write_format put_format deliver_format call_format end_format of_site_format of_number_format of_span_format of_link_format of_pair_format
 faithful SiteKey = (name_place [] refl, λ site. (number_place [] refl, λ disks. (number_place [] refl, λ blocks. refl)))
 faithful DiskKey = (name_place [] refl, λ site. (number_place [] refl, λ disk. (disk_state_place, λ state. refl)))

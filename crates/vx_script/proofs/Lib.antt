@@ -1,3 +1,4 @@
+pub mod ColumnLemmas
 pub mod FitLemmas
 pub mod FormatLemmas
 pub mod GrammarLemmas
@@ -8,4 +9,5 @@ pub mod NamesLemmas
 pub mod PlaceLemmas
 pub mod PrintLemmas
 pub mod SpellLemmas
+pub mod SpotLemmas
 pub mod WordLemmas

@@ -1,17 +1,13 @@
 -- What is printed is read again.
-use Rattle.std.proofs.Common.{◌≡◌, ℕ, suc, ◌+◌, ◌-◌, ◌*◌, ◌/◌, ◌%◌, ◌<◌, ◌≤◌, ◌^◌, Bool, true, false, cond, List, [], ◌∷◌, ◌++◌, length, Some, None, Ok, ◌≢◌, refl, arith, ap, sym, subst, ◌∙◌, eqb, ltb, leb, get_or, slice_index, length-append, take, drop, Option}
+use Rattle.std.proofs.Common.{◌≡◌, ℕ, ◌+◌, ◌-◌, ◌*◌, ◌/◌, ◌%◌, ◌<◌, ◌≤◌, ◌^◌, Bool, true, false, cond, List, [], ◌∷◌, ◌++◌, length, Some, None, Ok, ◌≢◌, refl, arith, ap, sym, subst, ◌∙◌, eqb, ltb, leb, get_or, length-append}
 use Rattle.std.specs.Prelude.{◌&&◌}
 use Rattle.std.specs.List.{list_all, join_with_byte, slice_split, All}
 use Rattle.std.proofs.lemmas.List.Splits.{slice_split_none, slice_split_at}
 use Rattle.std.specs.Fmt.{decimal}
-use Rattle.std.specs.Str.{bytes_eq}
-use Rattle.std.proofs.lemmas.Slice.Eq.{bytes_eq-Decides}
 use Rattle.std.proofs.lemmas.Fmt.{decimal_by_steps, length-decimal-le}
 use Rattle.std.proofs.lemmas.List.Folds.{list_all-append}
 use Rattle.std.proofs.lemmas.List.Sums.{AllPass-from_list_all}
-use Rattle.hex.specs.Hex.{decode_sized, encode_with, encode_lower, lower_digits, hex_digit_value, IsBytes}
-use Rattle.hex.proofs.HexLemmas.{length-encode_with, decode_sized-twice, decode_of-encode_lower, IsDigits-lower_digits}
-use Rattle.vx_script.specs.Words.{is_digit, is_letter, is_name_byte, is_name, name_of, digits_after, is_number, number_of, is_visible, labelled, is_comma, both_names, all_names, names_of}
+use Rattle.vx_script.specs.Words.{is_digit, is_letter, is_name_byte, is_name, name_of, digits_after, is_number, number_of, is_visible, is_comma, both_names, all_names, names_of}
 use Rattle.vx_script.specs.Grammar.{line_at, tokens, spelling}
 use Rattle.vx_script.specs.Tokens.{Token, Key, Named, Number, Hex, NameList, Spells, SpellAll, words_of, before_word, is_in_word, printed, spaced, joined, IsWord, FitsToken, FitAll}
 use Rattle.vx_script.specs.declared.line.ScriptLine.{ScriptLine}

@@ -16,19 +16,19 @@ one_more : (n : ℕ) → 1 + n ≡ suc n
 one_more n = omega arith
 
 -- the byte at the front is a space, or not
-skip_space : (b : ℕ) (bytes : List ℕ) → eqb b 32 ≡ true → after_spaces (b ∷ bytes) ≡ after_spaces bytes
+pub skip_space : (b : ℕ) (bytes : List ℕ) → eqb b 32 ≡ true → after_spaces (b ∷ bytes) ≡ after_spaces bytes
 skip_space b bytes e =
     ap (λ (n : ℕ). drop n (b ∷ bytes))
     (cond_true (not (not (eqb b 32))) (1 + position_or_len is_visible bytes) 0 (ap (λ (t : Bool). not (not t)) e) ∙ one_more (position_or_len is_visible bytes))
 
-skip_none : (b : ℕ) (bytes : List ℕ) → eqb b 32 ≡ false → after_spaces (b ∷ bytes) ≡ b ∷ bytes
+pub skip_none : (b : ℕ) (bytes : List ℕ) → eqb b 32 ≡ false → after_spaces (b ∷ bytes) ≡ b ∷ bytes
 skip_none b bytes e =
     ap (λ (n : ℕ). drop n (b ∷ bytes)) (cond_false (not (not (eqb b 32))) (1 + position_or_len is_visible bytes) 0 (ap (λ (t : Bool). not (not t)) e))
 
-word_space : (b : ℕ) (bytes : List ℕ) → eqb b 32 ≡ true → position_or_len is_space (b ∷ bytes) ≡ 0
+pub word_space : (b : ℕ) (bytes : List ℕ) → eqb b 32 ≡ true → position_or_len is_space (b ∷ bytes) ≡ 0
 word_space b bytes e = cond_false (not (eqb b 32)) (1 + position_or_len is_space bytes) 0 (ap not e)
 
-word_more : (b : ℕ) (bytes : List ℕ) → eqb b 32 ≡ false → position_or_len is_space (b ∷ bytes) ≡ suc (position_or_len is_space bytes)
+pub word_more : (b : ℕ) (bytes : List ℕ) → eqb b 32 ≡ false → position_or_len is_space (b ∷ bytes) ≡ suc (position_or_len is_space bytes)
 word_more b bytes e = cond_true (not (eqb b 32)) (1 + position_or_len is_space bytes) 0 (ap not e) ∙ one_more (position_or_len is_space bytes)
 
 either : (t : Bool) → (t ≡ true) ⊎ (t ≡ false)

@@ -45,6 +45,7 @@ pub data Format : Type 1 where
   Done : ScriptLine → Format
   Then : {V : Type 0} → Place V → (V → Format) → Format
 
+-- a place before the rest, so that `do` writes a format
 infixl 10 ◌>>=◌
 abbrev pub ◌>>=◌ : {V : Type 0} → Place V → (V → Format) → Format
 place >>= more = Then place more
@@ -161,7 +162,9 @@ abbrev pub plex_line : PlexVerb → List ℕ → List ℕ → ℕ → ScriptLine
 plex_line DetachPlex site volume plex = PlexDetach site volume plex
 plex_line AttachPlex site volume plex = PlexAttach site volume plex
 
--- what follows the first word of each kind of line
+-- What follows the first word of each kind of line; in the comments the whole line.
+
+-- site S D B
 unfoldable pub site_format : Format
 site_format = do
   site ← name
@@ -169,6 +172,7 @@ site_format = do
   blocks ← number
   Done (Site site disks blocks)
 
+-- disk S D fail, or ok
 unfoldable pub disk_format : Format
 disk_format = do
   site ← name
@@ -176,6 +180,7 @@ disk_format = do
   state ← pick disk_state_text DISK_STATES
   Done (Disk site disk state)
 
+-- fuse S K PICK
 unfoldable pub fuse_format : Format
 fuse_format = do
   site ← name
@@ -183,6 +188,7 @@ fuse_format = do
   bits ← number
   Done (Fuse site writes bits)
 
+-- dg S init, deport or import
 unfoldable pub group_format : Format
 group_format = do
   site ← name
@@ -205,6 +211,7 @@ layout_format site volume blocks mirrors IsStripe = do
   width ← number_after (codes "width=")
   volume_tail site volume blocks mirrors (Stripe columns width)
 
+-- vol S V BLOCKS mirrors=K layout=.. ..
 unfoldable pub volume_format : Format
 volume_format = do
   site ← name
@@ -214,6 +221,7 @@ volume_format = do
   word ← pick layout_text LAYOUT_WORDS
   layout_format site volume blocks mirrors word
 
+-- plex S V P det, or att
 unfoldable pub plex_format : Format
 plex_format = do
   site ← name
@@ -222,6 +230,7 @@ plex_format = do
   verb ← pick plex_text PLEX_VERBS
   Done (plex_line verb site volume plex)
 
+-- rvg S srl=V dcm=V vols=V,V
 unfoldable pub rvg_format : Format
 rvg_format = do
   site ← name
@@ -230,6 +239,7 @@ rvg_format = do
   volumes ← names_after (codes "vols=")
   Done (Rvg site srl dcm volumes)
 
+-- write S V BLOCK COUNT XX
 unfoldable pub write_format : Format
 write_format = do
   site ← name
@@ -239,6 +249,7 @@ write_format = do
   fill ← byte
   Done (Write site volume start count fill)
 
+-- put S V BLOCK HEX
 unfoldable pub put_format : Format
 put_format = do
   site ← name
@@ -247,6 +258,7 @@ put_format = do
   bytes ← block
   Done (Put site volume start bytes)
 
+-- deliver K
 unfoldable pub deliver_format : Format
 deliver_format = do
   packet ← number
@@ -265,26 +277,31 @@ call_more thread CallsRead = do
   start ← number
   Done (CallRead thread volume start)
 
+-- t K write .., or read ..
 unfoldable pub call_format : Format
 call_format = do
   thread ← number
   verb ← pick call_text CALL_VERBS
   call_more thread verb
 
+-- end
 unfoldable pub end_format : Format
 end_format = Done End
 
+-- raw S, and the like
 unfoldable pub of_site_format : SiteVerb → Format
 of_site_format verb = do
   site ← name
   Done (site_line verb site)
 
+-- crash S PICK, and the like
 unfoldable pub of_number_format : NumberVerb → Format
 of_number_format verb = do
   site ← name
   n ← number
   Done (number_line verb site n)
 
+-- read S V BLOCK COUNT, and the like
 unfoldable pub of_span_format : SpanVerb → Format
 of_span_format verb = do
   site ← name
@@ -293,6 +310,7 @@ of_span_format verb = do
   count ← number
   Done (span_line verb site volume start count)
 
+-- link P S synchronous=X srlprot=Y, and the like
 unfoldable pub of_link_format : LinkVerb → Format
 of_link_format verb = do
   first ← name
@@ -301,6 +319,7 @@ of_link_format verb = do
   prot ← pick prot_text PROTS
   Done (link_line verb first second sync prot)
 
+-- attach P S, and the like
 unfoldable pub of_pair_format : PairVerb → Format
 of_pair_format verb = do
   first ← name

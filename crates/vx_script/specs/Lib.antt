@@ -1,4 +1,5 @@
 pub mod Choices
+pub mod Columns
 pub mod Formats
 pub mod Grammar
 pub mod Keywords

@@ -21,7 +21,7 @@ mod writer;
 mod wrong;
 
 pub use errors::LineErr;
-pub use laws::{grammar, printed_reads};
+pub use laws::{grammar, line_ends, printed_reads, wrong_place};
 pub use line::{DiskState, Layout, ReadPolicy, ScriptLine, VolumeLog, VolumeMap};
 pub use names::Names;
 pub use parser::parse;
