@@ -3,8 +3,7 @@ ghost use Rattle.std.specs.Prelude.{◌≡◌, ◌++◌, ◌∷◌, [], OnOk};
 
 use std::alloc::Global;
 use std::marker::Model;
-use vx_model::{Line, Mark, Name, OutOfMemory, Role};
-use vx_model::SiteState;
+use vx_model::{Line, Mark, Name, OutOfMemory, Role, SiteState};
 
 /// What a volume is to the replicated volume group of its site.
 #[derive(Clone, Copy, Debug, PartialEq, Eq)]

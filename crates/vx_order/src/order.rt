@@ -43,8 +43,7 @@ mod tests {
     use crate::facts::{RvgFacts, VolumeFacts, VolumeKind, VolumeTable};
     use std::alloc::Global;
     use std::test::Fail;
-    use vx_model::{Counted, Line, Mark, Name, Named, OutOfMemory, Role};
-    use vx_model::SiteState;
+    use vx_model::{Counted, Line, Mark, Name, Named, OutOfMemory, Role, SiteState};
     use vx_script::DiskState;
 
     fn bare(alloc: Global, name: Name, disks: u32, blocks: u64) -> SiteFacts {

@@ -5,8 +5,7 @@ ghost use Rattle.vx_order.specs.Shapes.{most_blocks, map_blocks, is_raw_set, tak
 
 use crate::facts::SiteFacts;
 use crate::sites::find_site;
-use vx_model::{Counted, Named, No};
-use vx_model::SiteState;
+use vx_model::{Counted, Named, No, SiteState};
 use vx_script::ScriptLine;
 
 /// How many blocks of the ring a log unit of so many blocks has: all but the two headers, of at most 65,536.

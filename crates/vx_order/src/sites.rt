@@ -8,8 +8,7 @@ ghost use Rattle.vx_order.specs.Sites.{site_named, facts_of, site_off, site_gone
 use crate::facts::{RvgFacts, SiteFacts, VolumeFacts};
 use crate::first::first_of;
 use crate::subject::{Halt, Need};
-use vx_model::{Name, Named, No};
-use vx_model::SiteState;
+use vx_model::{Name, Named, No, SiteState};
 
 /// The facts of the site of this name.
 pub fn find_site<'a>(sites: &'a [SiteFacts], name: &Name) -> Option<&'a SiteFacts>
