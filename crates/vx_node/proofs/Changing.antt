@@ -193,3 +193,22 @@ module _ {R : Type 0} {g : Ghosts R} where
 
       inside : s < length es
       inside = omega (arith, stand.eight, few)
+
+  -- the engines with another one in the place of a site's, which stands for the same node
+  pub engines_same : (w : World) (es : List (Engine R g)) (s : ℕ) (new : Engine R g) → s < w.sites → EnginesStand w es → StandsAt (w.nodes s) new → EnginesStand w (slice_set es s new)
+  engines_same w es s new there stand at = record {
+      eight = length-set es s new ∙ stand.eight;
+      few = stand.few;
+      sites = λ k e below is. ⊎_elim
+        (λ same_site. subst (λ (j : ℕ). StandsAt (w.nodes j) e) (sym same_site)
+          (subst (StandsAt (w.nodes s)) (same (sym (get-set_same es s new inside) ∙ ap (slice_get (slice_set es s new)) (sym same_site) ∙ is)) at))
+        (λ apart. stand.sites k e below (sym (get-set_other es s k new apart) ∙ is))
+        (cases_eq k s);
+      others = λ k e past is. stand.others k e past (sym (get-set_other es s k new (λ e. omega (arith, past, there, e))) ∙ is);
+    }
+    where
+      same : {a b : Engine R g} → Some a ≡ Some b → a ≡ b
+      same e = cc
+
+      inside : s < length es
+      inside = omega (arith, stand.eight, stand.few, there)

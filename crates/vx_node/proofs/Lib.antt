@@ -2,7 +2,9 @@ pub mod Backs
 pub mod Changing
 pub mod Engines
 pub mod Lists
+pub mod Raws
 pub mod Refused
+pub mod Seats
 pub mod Sites
 pub mod Tables
 pub mod Values

@@ -1,5 +1,5 @@
 -- Lists with another element at one place.
-use Rattle.std.proofs.Common.{◌≡◌, ◌∙◌, ◌+◌, ◌<◌, ℕ, zero, suc, List, [], ◌∷◌, ◌++◌, length, take, get_or, ap, sym, refl, arith}
+use Rattle.std.proofs.Common.{◌≡◌, ◌∙◌, ◌+◌, ◌<◌, ℕ, zero, suc, List, [], ◌∷◌, ◌++◌, length, take, get_or, ap, sym, refl, arith, ◌-◌, length-append}
 use Rattle.std.specs.Prelude.{Option, Some, None, slice_get, slice_set}
 use Rattle.vx_node.specs.Facts.{values_from}
 
@@ -46,3 +46,9 @@ get_at (y ∷ xs) (suc i) x h e = get_at xs i x (omega arith) e
 pub take_pushed : {A : Type 0} (xs : List A) (x : A) → take (length xs) (xs ++ x ∷ []) ≡ xs
 take_pushed [] x = refl
 take_pushed (y ∷ xs) x = ap (λ ys. y ∷ ys) (take_pushed xs x)
+
+-- a list that got one more element, and lost it again
+pub pop_pushed : {A : Type 0} (xs mid new : List A) (x : A) (len : ℕ) → mid ≡ xs ++ x ∷ [] → len ≡ length mid → new ≡ take (len - 1) mid → new ≡ xs
+pop_pushed xs mid new x len pushed many popped =
+    let count : len - 1 ≡ length xs = omega (arith, many, ap length pushed, length-append xs (x ∷ [])) in
+    popped ∙ ap (λ (n : ℕ). take n mid) count ∙ ap (λ ys. take (length xs) ys) pushed ∙ take_pushed xs x

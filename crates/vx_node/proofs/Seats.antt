@@ -1,0 +1,63 @@
+-- The site that a line names.
+use Rattle.std.proofs.Common.{◌≡◌, ◌∙◌, ◌+◌, ◌<◌, ◌≤◌, ℕ, zero, suc, List, [], ◌∷◌, length, ap, sym, subst, refl, arith, Bool, true, false, IsTrue}
+use Rattle.std.specs.Prelude.{Option, Some, None, slice_get, cond, nat_lt, unwrap_or, map}
+use Rattle.std.specs.List.{position, position_or_len}
+use Rattle.std.specs.Str.{bytes_eq}
+use Rattle.std.proofs.lemmas.Bool.Decides.{nat_tests}
+use Rattle.vx_model.specs.World.{Node, World}
+use Rattle.vx_disk.specs.declared.shelf.Shelf.{Ghosts}
+use Rattle.vx_order.specs.declared.facts.SiteFacts.{SiteFacts}
+use Rattle.vx_node.specs.declared.yard.Yard.{Yard}
+use Rattle.vx_node.specs.Facts.{site_fact, facts_of, seat_of, site_number, values_from}
+use Rattle.vx_node.specs.Yards.{YardStands}
+use Rattle.vx_node.proofs.Refused.{Named, FoundAt}
+use Rattle.vx_node.proofs.Values.{length-values_from, slice_get-values_from}
+
+pub some_same : {A : Type 0} {a b : A} → Some a ≡ Some b → a ≡ b
+some_same e = cc
+
+pub never_some : {A : Type 0} {a : A} → None ≡ Some a → ⊥
+never_some e = cc
+
+within_by : (b : Bool) (n i : ℕ) → cond b (Some n) None ≡ Some i → (b ≡ true) × (n ≡ i)
+within_by true n i e = (refl, cc)
+within_by false n i e = absurd (cc)
+
+-- a place that was found lies in the list
+pub position_within : {A : Type 0} (p : A → Bool) (xs : List A) (i : ℕ) → position p xs ≡ Some i → i < length xs
+position_within p xs i e =
+    let both = within_by (nat_lt (position_or_len p xs) (length xs)) (position_or_len p xs) i e in
+    below (position_or_len p xs) (length xs) i both.0 both.1
+  where
+    below : (n len i : ℕ) → nat_lt n len ≡ true → n ≡ i → i < len
+    below n len i a b = grind (arith, nat_tests)
+
+module _ {R : Type 0} {g : Ghosts R} where
+  -- the site of this number is the one of that name
+  pub record Seated (w : World) (y : Yard R g) (name : List ℕ) (s : ℕ) : Type 0 where
+    pub below : s < w.sites
+    pub number : site_number w name ≡ s
+    pub fact : slice_get y.facts.items s ≡ Some (site_fact (w.nodes s))
+
+  pub seated : (w : World) (y : Yard R g) (name : List ℕ) (s : ℕ) → YardStands w y → seat_of y.facts.items name ≡ Some s → Seated w y name s
+  seated w y name s stands is =
+      let many : length (facts_of w) ≡ w.sites = length-values_from (λ i. site_fact (w.nodes i)) 0 w.sites in
+      let seat : seat_of (facts_of w) name ≡ Some s = ap (λ (fs : List SiteFacts). seat_of fs name) (sym stands.facts) ∙ is in
+      let inside : s < length (facts_of w) = position_within (λ site. bytes_eq site.name name) (facts_of w) s seat in
+      let start : 0 + s ≡ s = omega arith in
+      record {
+        below = omega (arith, many, inside);
+        number = ap (λ (o : Option ℕ). unwrap_or o 0) seat;
+        fact = ap (λ (fs : List SiteFacts). slice_get fs s) stands.facts ∙ slice_get-values_from (λ i. site_fact (w.nodes i)) 0 w.sites s (omega (arith, many, inside))
+          ∙ ap (λ (i : ℕ). Some (site_fact (w.nodes i))) start;
+      }
+
+  -- what the tests found of it
+  pub named_fact : (w : World) (y : Yard R g) (name : List ℕ) (s : ℕ) → Seated w y name s → seat_of y.facts.items name ≡ Some s → (n : Named y.facts.items name) → n.facts ≡ site_fact (w.nodes s)
+  named_fact w y name s seat is n =
+      let place : n.at.place ≡ s = some_same (sym n.at.is ∙ is) in
+      some_same (sym n.at.there ∙ ap (slice_get y.facts.items) place ∙ seat.fact)
+
+  -- a line that names no site is refused
+  pub named_none : (y : Yard R g) (name : List ℕ) → seat_of y.facts.items name ≡ None → Named y.facts.items name → ⊥
+  named_none y name is n = never_some (sym is ∙ n.at.is)
