@@ -1,5 +1,6 @@
 pub mod Backs
 pub mod Changing
+pub mod Disks
 pub mod Engines
 pub mod Lists
 pub mod Raws
