@@ -5,6 +5,7 @@ pub mod Holds
 pub mod Lines
 pub mod Racks
 pub mod Replies
+pub mod Seen
 pub mod Stands
 pub mod Steps
 pub mod Views
