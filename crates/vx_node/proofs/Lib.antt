@@ -4,6 +4,7 @@ pub mod Disks
 pub mod Engines
 pub mod Lists
 pub mod Raws
+pub mod Readings
 pub mod Refused
 pub mod Seats
 pub mod Sites

@@ -6,6 +6,7 @@ mod engine;
 mod errors;
 mod facts;
 mod racks;
+mod reads;
 mod said;
 mod units;
 mod work;
