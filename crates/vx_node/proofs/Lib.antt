@@ -5,6 +5,7 @@ pub mod Engines
 pub mod Goods
 pub mod Lists
 pub mod Raws
+pub mod Readings
 pub mod Refused
 pub mod Seats
 pub mod Sites

@@ -7,6 +7,7 @@ mod engine;
 mod errors;
 mod facts;
 mod racks;
+mod reads;
 mod said;
 mod status;
 mod text;
