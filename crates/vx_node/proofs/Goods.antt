@@ -1,6 +1,6 @@
 -- A line leaves a good world good.
-use Rattle.std.proofs.Common.{◌≡◌, ◌∙◌, ◌+◌, ◌<◌, ◌≤◌, ℕ, zero, suc, List, [], ◌∷◌, length, ap, sym, subst, refl, arith, inl, inr}
-use Rattle.std.specs.Prelude.{◌⊎◌, ◌*◌, Option, Some, None, Bool, true, false, slice_get, replicate, map, unwrap_or, cond, if◌then◌else◌, ◌&&◌, not}
+use Rattle.std.proofs.Common.{◌≡◌, ◌∙◌, ◌+◌, ◌<◌, ℕ, List, [], ◌∷◌, length, ap, sym, subst, refl, arith, inl, inr}
+use Rattle.std.specs.Prelude.{◌*◌, Option, Some, None, Bool, true, false, replicate, map, unwrap_or, cond, if◌then◌else◌, ◌&&◌, not}
 use Rattle.std.specs.List.{find}
 use Rattle.std.specs.Str.{bytes_eq}
 use Rattle.vx_model.specs.Content.{Write as WriteOf}
@@ -13,7 +13,7 @@ use Rattle.vx_model.specs.declared.no.No.TheVariants.{Role as WrongRole}
 use Rattle.vx_model.specs.declared.site.Role.{Role}
 use Rattle.vx_model.specs.declared.site.Role.TheVariants.{Primary, Secondary, Handing, Bunker as IsBunker}
 use Rattle.vx_model.specs.declared.site.SiteState.{SiteState}
-use Rattle.vx_model.specs.declared.site.SiteState.TheVariants.{Bare, Up, Deported, Down}
+use Rattle.vx_model.specs.declared.site.SiteState.TheVariants.{Up}
 use Rattle.vx_script.specs.declared.line.ScriptLine.{ScriptLine}
 use Rattle.vx_script.specs.declared.line.ScriptLine.TheVariants.{Site, Raw, Disk, Write, Put, Read, Show, Status}
 use Rattle.vx_order.specs.declared.facts.SiteFacts.{SiteFacts}
@@ -29,7 +29,7 @@ use Rattle.vx_order.specs.Spans.{span_of}
 use Rattle.vx_order.specs.Subject.{first_name}
 use Rattle.vx_order.specs.Tests.{when}
 use Rattle.vx_node.specs.Facts.{site_fact, facts_of, site_number, volume_fact, group_by, group_fact}
-use Rattle.vx_node.specs.Steps.{Fails, Cleanly, OnlyFails, Puts, IsPut, NoNumber, PutFails, Gets, Works, StepBy, Prints, write_of}
+use Rattle.vx_node.specs.Steps.{Fails, Puts, IsPut, NoNumber, PutFails, Works, StepBy, Prints, write_of}
 use Rattle.vx_node.specs.declared.said.Said.{Said}
 use Rattle.vx_node.proofs.Refused.{Named, WriteMay, passes, raw_may, write_may, put_may}
 use Rattle.vx_node.proofs.Seats.{position_within, some_same}

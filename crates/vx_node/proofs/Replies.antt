@@ -1,5 +1,5 @@
 -- The text of blocks.
-use Rattle.std.proofs.Common.{◌≡◌, ◌∙◌, ◌+◌, ◌-◌, ◌*◌, ◌≤◌, ℕ, zero, suc, List, [], ◌∷◌, ◌++◌, length, take, drop, ap, sym, refl, arith}
+use Rattle.std.proofs.Common.{◌≡◌, ◌∙◌, ◌+◌, ◌-◌, ◌*◌, ◌≤◌, ℕ, zero, suc, List, ◌++◌, length, take, drop, ap, sym, arith}
 use Rattle.std.proofs.lemmas.List.{append_assoc, append-nil, length-take-le, length-drop}
 use Rattle.vx_model.specs.Content.{block_of}
 use Rattle.vx_report.specs.BlockText.{block_text}
