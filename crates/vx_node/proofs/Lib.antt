@@ -4,6 +4,7 @@ pub mod Disks
 pub mod Engines
 pub mod Goods
 pub mod Lists
+pub mod News
 pub mod Raws
 pub mod Readings
 pub mod Refused

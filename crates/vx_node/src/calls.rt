@@ -7,13 +7,14 @@ ghost use Rattle.vx_node.specs.Yards.{YardStands, LineIs, IsTold, count_of, in_f
 ghost use Rattle.vx_stream.specs.Causes.{Rose};
 
 use crate::racks::{put_racks, take_racks};
+use crate::text::push_said;
 use crate::yard::copied;
 use crate::{LineStop, Yard};
 use std::alloc::Global;
 use vx_disk::Rack;
 use vx_model::OutOfMemory;
 use vx_script::ScriptLine;
-use vx_stream::Sink;
+use vx_stream::{Sink, send};
 
 impl<R: Rack> Yard<R> {
     /// A yard without sites, over eight racks.
@@ -56,10 +57,17 @@ impl<R: Rack> Yard<R> {
         ensures later { O.faults out.old ≤ O.faults out.new }
         ensures cause { result ≡ Err LineStop.WriteFault → Rose (O.faults out.old) (O.faults out.new) }
     {
-        let _alloc = alloc;
-        let _words = words;
-        let _out = out;
-        Err(LineStop::OutOfMemory)
+        let Ok(said) = self.answer(alloc, words) else {
+            return Err(LineStop::OutOfMemory);
+        };
+        let mut text = Vec::new(alloc);
+        let Ok(()) = push_said(&mut text, &said) else {
+            return Err(LineStop::OutOfMemory);
+        };
+        match send(out, &text) {
+            Ok(()) => Ok(()),
+            Err(_) => Err(LineStop::WriteFault),
+        }
     }
 
     /// The racks, in the order of the sites.

@@ -1,6 +1,7 @@
 //! The sites of a run: their disks, and what each line of a script does to them.
 #![tactic(auto)]
 
+mod answer;
 mod built;
 mod calls;
 mod engine;

@@ -1,0 +1,71 @@
+// What a line is answered.
+ghost use Rattle.std.specs.Prelude.{◌≡◌};
+ghost use Rattle.vx_model.specs.World.{World};
+ghost use Rattle.vx_node.specs.Working.{WorkIs, AnswerIs, IsFree};
+ghost use Rattle.vx_node.specs.Yards.{YardStands, IsTold, in_files};
+
+use crate::{Said, Yard};
+use std::alloc::Global;
+use vx_disk::Rack;
+use vx_model::OutOfMemory;
+use vx_script::ScriptLine;
+
+impl<R: Rack> Yard<R> {
+    // Does a line that no test refuses.
+    fn work(&mut self, alloc: Global, words: &ScriptLine) -> Result<Said, OutOfMemory>
+        requires free { IsFree self.old words.now }
+        ensures works { (w : World) → YardStands w self.old → WorkIs w words.now self.old self.new result }
+        ensures told { IsTold self.new → IsTold self.old }
+        ensures files { in_files self.new ≡ in_files self.old }
+    {
+        match words {
+            ScriptLine::Site {
+                site,
+                disks,
+                blocks,
+            } => self.make_site(alloc, site, *disks, *blocks),
+            ScriptLine::Raw { site } => self.make_raw(alloc, site),
+            ScriptLine::Disk { site, disk, state } => Ok(self.set_disk(site, *disk, *state)),
+            ScriptLine::Write {
+                site,
+                volume,
+                block,
+                count,
+                fill,
+            } => Ok(self.write_line(site, volume, *block, *count, *fill)),
+            ScriptLine::Put {
+                site,
+                volume,
+                block,
+                bytes,
+            } => Ok(self.put_line(site, volume, *block, bytes)),
+            ScriptLine::Read {
+                site,
+                volume,
+                block,
+                count,
+            } => Ok(self.read_line(site, volume, *block, *count)),
+            ScriptLine::Show {
+                site,
+                volume,
+                block,
+                count,
+            } => Ok(self.show_line(site, volume, *block, *count)),
+            ScriptLine::Status { site } => Ok(self.status_line(alloc, site)),
+            _ => Err(OutOfMemory),
+        }
+    }
+
+    /// What a line is answered: its first refusal in the one order, or what it works.
+    pub(crate) fn answer(&mut self, alloc: Global, words: &ScriptLine) -> Result<Said, OutOfMemory>
+        ensures answers { (w : World) → YardStands w self.old → AnswerIs w words.now self.old self.new result }
+        ensures told { IsTold self.new → IsTold self.old }
+        ensures files { in_files self.new ≡ in_files self.old }
+    {
+        let files = self.dir.is_some();
+        match vx_order::refuse(&self.facts, files, words) {
+            Some(no) => Ok(Said::Refused(no)),
+            None => self.work(alloc, words),
+        }
+    }
+}
