@@ -1,1 +1,4 @@
+pub mod EndsLemmas
 pub mod ReaderLemmas
+pub mod StepLemmas
+pub mod TurnLemmas

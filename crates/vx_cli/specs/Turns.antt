@@ -39,8 +39,8 @@ module _ {R : Type 0} {g : Ghosts R} where
 
   -- the sink failed at a reply, or at the line that says where the script is wrong
   pub data WriteStops (n : ℕ) (w : World) (line : List ℕ) (old new : Yard R g) (written now : Option (List ℕ)) : Type 0 where
-    AtReply : (text sent : List ℕ) → Did w line old new text → IsCut text sent → Appends written now sent → WriteStops n w line old new written now
-    AtBad : (column : ℕ) (sent : List ℕ) → script_line line ≡ Err column → StaysFor w old new → IsCut (bad_text (n + 1) column) sent → Appends written now sent
+    StopsAtReply : (text sent : List ℕ) → Did w line old new text → IsCut text sent → Appends written now sent → WriteStops n w line old new written now
+    StopsAtBad : (column : ℕ) (sent : List ℕ) → script_line line ≡ Err column → StaysFor w old new → IsCut (bad_text (n + 1) column) sent → Appends written now sent
         → WriteStops n w line old new written now
 
   -- one line was answered, or the run ended at it
