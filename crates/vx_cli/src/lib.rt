@@ -3,10 +3,14 @@
 
 mod gate;
 mod line;
+mod main_call;
 mod reader;
+mod run;
 mod status;
 mod texts;
+mod turn;
 mod words;
 
 pub use gate::{Gate, OpenGate};
+pub use main_call::vx_main;
 pub use status::Status;

@@ -18,6 +18,7 @@ fn bad_line(alloc: Global, line: u64, column: u64) -> Result<Vec<u8>, AllocError
 /// Writes the line that says where the script is wrong.
 pub fn bad<O: Sink>(alloc: Global, sink: &mut O, line: u64, column: u64) -> Status
     ensures bad { BadIs line column result (O.written sink.old) (O.written sink.new) }
+    ensures reading { result ≡ Status.ReadFault → ⊥ }
     ensures later { O.faults sink.old ≤ O.faults sink.new }
     ensures cause { result ≡ Status.WriteFault → Rose (O.faults sink.old) (O.faults sink.new) }
 {
