@@ -47,6 +47,11 @@ module _ {R : Type 0} {g : Ghosts R} where
     rose = steps.rose;
   }
 
+  pub memory_answer : (w : World) (line : List ℕ) (words : ScriptLine) (old new : Yard R g) → script_line line ≡ Ok (Some words) → StaysFor w old new ⊎ ((text : List ℕ) × Steps w words old new text)
+      → StaysFor w old new ⊎ ((text : List ℕ) × Did w line old new text)
+  memory_answer w line words old new e (inl same) = inl same
+  memory_answer w line words old new e (inr did) = inr (did.0, did_line w line words old new did.0 e did.1)
+
   pub bad_answer : (n : ℕ) (w : World) (line : List ℕ) (column : ℕ) (status : Status) (y : Yard R g) (w0 w1 : Option (List ℕ))
       → script_line line ≡ Err column → YardStands w y → BadIs (n + 1) column status w0 w1 → AnswerIs n w line (Some status) y y w0 w1
   bad_answer n w line column (BadLine l c) y w0 w1 e stands is = (
@@ -185,8 +190,9 @@ module _ {R : Type 0} {g : Ghosts R} where
       }
 
   -- where the loop begins, and where it stands after one more line
-  pub reaches_first : (y : Yard R g) (held : List ℕ) (left written : Option (List ℕ)) → YardStands empty_world y → Reaches 0 y y held held left left written written
-  reaches_first y held left written stands = record { world = empty_world; stands = stands; goes = λ last status last_left last_written told rest. rest }
+  pub reaches_first : (y : Yard R g) (held : List ℕ) (left written : Option (List ℕ)) → YardStands empty_world y → held ≡ [] → Reaches 0 y y [] held left left written written
+  reaches_first y held left written stands none = subst (λ (h : List ℕ). Reaches 0 y y [] h left left written written) (sym none)
+      (record { world = empty_world; stands = stands; goes = λ last status last_left last_written told rest. rest })
 
   pub reaches_more : (n : ℕ) (first old new : Yard R g) (held0 held now_held : List ℕ) (left0 left now_left w0 w1 w2 : Option (List ℕ))
       → (at : Reaches n first old held0 held left0 left w0 w1) → TurnIs n at.world held left None old new now_held now_left w1 w2
