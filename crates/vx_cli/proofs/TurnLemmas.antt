@@ -205,3 +205,9 @@ module _ {R : Type 0} {g : Ghosts R} where
         goes = λ last status last_left last_written knows rest. at.goes last status last_left last_written (λ t. told (knows t))
             (comes_more n at.world held left is.1 is.0 is.4.0 now_held now_left status old new last last_left w1 w2 last_written is.2 is.3 did is.4.2 knows files rest);
       }
+
+  -- the run ends in the middle of the loop
+  pub reaches_end : (n : ℕ) (first now last : Yard R g) (held0 held : List ℕ) (left0 left w0 w1 : Option (List ℕ)) (status : Status) (last_left w2 : Option (List ℕ))
+      → (at : Reaches n first now held0 held left0 left w0 w1) → (IsTold last → IsTold now) → YardComes n at.world held left status now last last_left w1 w2
+      → YardComes 0 empty_world held0 left0 status first last last_left w0 w2
+  reaches_end n first now last held0 held left0 left w0 w1 status last_left w2 at told rest = at.goes last status last_left w2 told rest
