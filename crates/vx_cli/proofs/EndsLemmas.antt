@@ -1,5 +1,5 @@
 -- How the parts of a run are put together.
-use Rattle.std.proofs.Common.{◌≡◌, ◌≤◌, ◌<◌, ℕ, suc, ◌+◌, Bool, List, [], ◌∷◌, ◌++◌, length, Option, Some, None, Result, Ok, Err, refl, arith, ap, sym, subst, ◌∙◌, append_assoc, append-nil}
+use Rattle.std.proofs.Common.{◌≡◌, ◌≤◌, ◌<◌, ℕ, suc, ◌+◌, Bool, List, [], ◌∷◌, ◌++◌, length, Option, Err, refl, arith, ap, sym, subst, ◌∙◌, append_assoc, append-nil}
 use Rattle.std.specs.List.{concat}
 use Rattle.std.specs.Io.KnownBytes.{Appends}
 use Rattle.vx_model.specs.World.{World}
@@ -11,7 +11,7 @@ use Rattle.vx_node.specs.Steps.{Fails, LineStep}
 use Rattle.vx_cli.specs.declared.status.Status.{Status}
 use Rattle.vx_cli.specs.declared.status.Status.TheVariants.{Done, Usage, BadLine, ReadFault, WriteFault, OutOfMemory, TooLong}
 use Rattle.vx_cli.specs.Reading.{IsWhole}
-use Rattle.vx_cli.specs.Runs.{Run, all_fails}
+use Rattle.vx_cli.specs.Runs.{all_fails}
 use Rattle.vx_cli.specs.Texts.{bad_text, IsCut}
 use Rattle.vx_cli.specs.Ends.{IsBadNext, Part, WriteEnds, AtReply, AtBad, MemoryEnds, ReadEnds, Ends, Outcome}
 use Rattle.vx_cli.proofs.StepLemmas.{rose_more}

@@ -1,11 +1,9 @@
 -- The reader of lines, over plain lists.
-use Rattle.std.proofs.Common.{◌≡◌, ◌≤◌, ◌<◌, ℕ, zero, suc, ◌+◌, ◌-◌, Bool, true, false, List, [], ◌∷◌, ◌++◌, length, take, drop, get_or, Option, Some, None, Result, Ok, Err, refl, arith, ◌∙◌, ap, eqb, sym, subst, append_assoc, append-nil}
-use Rattle.std.specs.Prelude.{nat_lt}
-use Rattle.std.specs.Io.KnownBytes.{Consumes, Keeps, IsAtEnd}
+use Rattle.std.proofs.Common.{◌≡◌, ◌≤◌, ◌<◌, ℕ, ◌+◌, ◌-◌, Bool, true, false, List, [], ◌∷◌, ◌++◌, length, take, drop, get_or, Option, Some, None, Result, Ok, Err, refl, arith, ◌∙◌, ap, eqb, sym, subst, append_assoc}
 use Rattle.std.proofs.lemmas.List.{take-append-drop, drop_more, get_or-take, length-take}
 use Rattle.vx_script.specs.Lines.{lines_of, whole_lines_of, without_return, IsPlain}
 use Rattle.vx_script.proofs.LineLemmas.{plain_from, lines_of_line, whole_lines_of_line, lines_of_last, lines_of_long, BeginsLong, without_return_strips, without_return_keeps}
-use Rattle.vx_cli.specs.Reading.{MayHave, Ahead, Follows, FillIs, CutIs, IsWhole, IsLast, IsLong, NextIs, IsMore, MoreIs}
+use Rattle.vx_cli.specs.Reading.{Ahead, Follows, FillIs, CutIs, NextIs, IsMore, MoreIs}
 use Rattle.vx_cli.specs.declared.reader.ReadError.{ReadError}
 use Rattle.vx_cli.specs.declared.reader.ReadError.TheVariants.{Fault, Memory}
 use Rattle.vx_cli.specs.declared.reader.Next.TheVariants.{Line, Last, End, Long}

@@ -1,6 +1,5 @@
 -- A run, and the racks that come back from it.
-use Rattle.std.proofs.Common.{◌≡◌, ◌<◌, ℕ, Bool, List, [], ◌∷◌, Option, Some, None, Result, Ok, Err, refl, arith, ap, sym, subst, ◌∙◌}
-use Rattle.std.specs.Prelude.{slice_get, length}
+use Rattle.std.proofs.Common.{◌≡◌, ℕ, Bool, List, [], ◌∷◌, Option, Some, None, Result, Ok, Err, refl, arith, sym, subst}
 use Rattle.vx_model.specs.World.{World, empty_world}
 use Rattle.vx_model.specs.Good.{Good}
 use Rattle.vx_model.proofs.GoodLemmas.{good_empty}
@@ -10,15 +9,15 @@ use Rattle.vx_script.specs.declared.line.ScriptLine.{ScriptLine}
 use Rattle.vx_stream.proofs.SendLemmas.{appends_none}
 use Rattle.vx_node.proofs.Goods.{step_good}
 use Rattle.vx_node.specs.declared.yard.Yard.{Yard}
-use Rattle.vx_node.specs.Holds.{AreFresh, RacksHold, RacksTell, rack_faults}
+use Rattle.vx_node.specs.Holds.{AreFresh, RacksHold, rack_faults}
 use Rattle.vx_node.specs.Lines.{script_line}
 use Rattle.vx_node.specs.Steps.{Fails, SaidStep}
 use Rattle.vx_node.specs.Yards.{YardStands, IsTold, count_of, in_files}
 use Rattle.vx_cli.specs.declared.status.Status.{Status}
 use Rattle.vx_cli.specs.declared.status.Status.TheVariants.{OutOfMemory}
-use Rattle.vx_cli.specs.Reading.{MayHave, Ahead}
+use Rattle.vx_cli.specs.Reading.{MayHave}
 use Rattle.vx_cli.specs.Runs.{Run, Leaves, all_fails}
-use Rattle.vx_cli.specs.Ends.{Outcome, RunIs}
+use Rattle.vx_cli.specs.Ends.{RunIs}
 use Rattle.vx_cli.specs.Turns.{YardComes}
 use Rattle.vx_cli.proofs.EndsLemmas.{ends_here}
 use Rattle.vx_cli.proofs.ReaderLemmas.{ahead_some}

@@ -1,5 +1,5 @@
 -- Steps of lines, and the counts of the disks.
-use Rattle.std.proofs.Common.{◌≡◌, ◌≤◌, ℕ, ◌+◌, Bool, List, [], ◌∷◌, ◌++◌, ◌<◌, length, Option, Some, None, Result, Ok, Err, refl, arith, ap, sym, subst, inl, inr, ◌⊎◌}
+use Rattle.std.proofs.Common.{◌≡◌, ℕ, ◌+◌, Bool, List, [], ◌++◌, ◌<◌, length, Option, Some, None, Result, Ok, Err, arith, ap, inl, inr, ◌⊎◌}
 use Rattle.std.proofs.lemmas.List.Sums.{sum_by-append}
 use Rattle.vx_model.specs.Content.{Content}
 use Rattle.vx_model.specs.World.{World}
@@ -7,13 +7,12 @@ use Rattle.vx_model.specs.declared.no.No.{No}
 use Rattle.vx_order.specs.Order.{refusal_of}
 use Rattle.vx_script.specs.declared.line.ScriptLine.{ScriptLine}
 use Rattle.vx_script.specs.declared.line.ScriptLine.TheVariants.{Site, Raw, Disk, Write, Put, Read, Show, Status}
-use Rattle.vx_script.specs.Grammar.{line_of}
 use Rattle.vx_script.proofs.GrammarLemmas.{line_of_long}
 use Rattle.vx_node.specs.declared.said.Said.{Said}
 use Rattle.vx_node.specs.Facts.{facts_of}
 use Rattle.vx_node.specs.Lines.{script_line, only_built}
 use Rattle.vx_node.specs.Stands.{RoseAll, times}
-use Rattle.vx_node.specs.Steps.{Fails, Gets, Fetches, OnlyFails, Works, StepBy, Step, Prints, SaidStep, LineStep}
+use Rattle.vx_node.specs.Steps.{Fails, Gets, Works, StepBy, SaidStep, LineStep}
 
 -- a line of more than 4,096 bytes is wrong behind them
 pub script_line_long : (line : List ℕ) → 4096 < length line → script_line line ≡ Err 4097

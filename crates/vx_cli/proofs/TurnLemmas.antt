@@ -1,5 +1,5 @@
 -- One turn of the loop, and the loop.
-use Rattle.std.proofs.Common.{◌≡◌, ◌≤◌, ◌<◌, ℕ, ◌+◌, Bool, List, [], ◌∷◌, ◌++◌, length, Option, Some, None, Result, Ok, Err, refl, arith, ap, sym, subst, ◌∙◌, append-nil, inl, inr, ◌⊎◌}
+use Rattle.std.proofs.Common.{◌≡◌, ◌≤◌, ◌<◌, ℕ, ◌+◌, Bool, List, [], ◌∷◌, ◌++◌, Option, Some, None, Result, Ok, Err, refl, arith, ap, sym, subst, ◌∙◌, append-nil, inl, inr, ◌⊎◌}
 use Rattle.std.specs.Io.KnownBytes.{Appends}
 use Rattle.vx_model.specs.World.{World, empty_world}
 use Rattle.vx_disk.specs.declared.shelf.Shelf.{Ghosts}
@@ -15,7 +15,7 @@ use Rattle.vx_cli.specs.declared.reader.Next.TheVariants as nexts
 use Rattle.vx_cli.specs.declared.status.Status.{Status}
 use Rattle.vx_cli.specs.declared.status.Status.TheVariants.{Done, Usage, BadLine, ReadFault, WriteFault, OutOfMemory, TooLong}
 use Rattle.vx_cli.specs.Reading.{MayHave, Ahead, Follows, IsWhole, IsLong, IsMore, NextIs}
-use Rattle.vx_cli.specs.Texts.{bad_text, IsCut}
+use Rattle.vx_cli.specs.Texts.{bad_text}
 use Rattle.vx_cli.specs.Ends.{IsNonEmpty, AtReply, AtBad, Ends, Outcome}
 use Rattle.vx_cli.specs.Turns.{BadIs, Did, WriteStops, StopsAtReply, StopsAtBad, AnswerIs, YardComes, TurnIs, Reaches}
 use Rattle.vx_cli.proofs.StepLemmas.{script_line_long, rose_none, line_told}

@@ -36,8 +36,8 @@ pub fn vx_main<H: Threads + Wait + Sync, I: Source, O: Sink, R: Rack, G: Gate>(
     // disks, and the world that the racks then hold. Blocks that were read are as the world has them where the racks tell.
     ensures run { (files : Bool) → run_of (map string_bytes words.now) ≡ Some files
         → RunIs (RacksTell R.meaning racks.new.items) files (Leaves R.meaning racks.new.items) result
-            (I.left source.old) (I.left source.new) (O.written sink.old) (O.written sink.new)
-            (rack_faults R.meaning racks.old.items) (rack_faults R.meaning racks.new.items) }
+        (I.left source.old) (I.left source.new) (O.written sink.old) (O.written sink.new)
+        (rack_faults R.meaning racks.old.items) (rack_faults R.meaning racks.new.items) }
     ensures usage { (result ≡ Status.Usage) ↔ (run_of (map string_bytes words.now) ≡ None) }
     // Then nothing is read, written or changed.
     ensures untouched { result ≡ Status.Usage → (source.new ≡ source.old) × (sink.new ≡ sink.old) × (racks.new ≡ racks.old) }

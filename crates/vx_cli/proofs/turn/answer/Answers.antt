@@ -1,4 +1,4 @@
-use Rattle.std.proofs.Common.{◌≡◌, [], ℕ, Ok, ap, sym, subst, ◌∙◌, inl, inr, ◌⊎◌}
+use Rattle.std.proofs.Common.{[], ℕ, Ok, ap, subst, ◌∙◌}
 use Rattle.vx_stream.proofs.SendLemmas.{appends_none}
 use Rattle.vx_cli.specs.Turns.{BadIs, StopsAtReply}
 use Rattle.vx_cli.proofs.TurnLemmas.{did_nothing, did_line, bad_answer, memory_answer}
