@@ -1,0 +1,6 @@
+pub mod CompleteLemmas
+pub mod EndsLemmas
+pub mod ReaderLemmas
+pub mod RunLemmas
+pub mod StepLemmas
+pub mod TurnLemmas

@@ -1,0 +1,79 @@
+-- Which end a run comes to, where nothing cuts it off.
+use Rattle.std.specs.Prelude.{◌≡◌, ◌⊎◌, ℕ, ◌+◌, ◌≤◌, ◌<◌, Bool, List, [], ◌∷◌, ◌++◌, length, map, Option, Err}
+use Rattle.std.specs.List.{concat}
+use Rattle.std.specs.Io.KnownBytes.{Appends}
+use Rattle.vx_model.specs.World.{World, empty_world}
+use Rattle.vx_node.specs.Lines.{script_line}
+use Rattle.vx_node.specs.Steps.{Fails}
+use Rattle.vx_script.specs.Lines.{lines_of}
+use Rattle.vx_cli.specs.Runs.{Run}
+use Rattle.vx_cli.specs.declared.status.Status.{Status}
+use Rattle.vx_cli.specs.declared.status.Status.TheVariants.{Done, Usage, BadLine, ReadFault, WriteFault, OutOfMemory, TooLong}
+
+-- a line of the grammar whose kind is built, or an empty one or a comment
+abbrev pub IsGood : List ℕ → Type 0
+IsGood line = (column : ℕ) → script_line line ≡ Err column → ⊥
+
+abbrev pub AllGood : List (List ℕ) → Type 0
+AllGood [] = Unit {0}
+AllGood (line ∷ lines) = IsGood line × AllGood lines
+
+-- the run was not cut off by a fault of its ends or by want of memory
+abbrev pub IsUncut : Status → Type 0
+IsUncut Done = Unit {0}
+IsUncut Usage = Unit {0}
+IsUncut (BadLine line column) = Unit {0}
+IsUncut TooLong = Unit {0}
+IsUncut ReadFault = ⊥
+IsUncut WriteFault = ⊥
+IsUncut OutOfMemory = ⊥
+
+-- each line is good, and they are at most 1,000,000
+pub record IsGoodScript (input : List ℕ) : Type 0 where
+  pub good : AllGood (lines_of input)
+  pub few : length (lines_of input) ≤ 1000000
+
+-- the first line that is wrong, and from which column on
+pub record FirstBad (input : List ℕ) (line column : ℕ) : Type 0 where
+  pub before : List (List ℕ)
+  pub bad : List ℕ
+  pub others : List (List ℕ)
+  pub split : lines_of input ≡ before ++ bad ∷ others
+  pub good : AllGood before
+  pub wrong : script_line bad ≡ Err column
+  pub number : line ≡ length before + 1
+  pub few : length before < 1000000
+
+-- 1,000,000 lines are good, and another follows
+pub record IsTooLong (input : List ℕ) : Type 0 where
+  pub before : List (List ℕ)
+  pub next : List ℕ
+  pub others : List (List ℕ)
+  pub split : lines_of input ≡ before ++ next ∷ others
+  pub good : AllGood before
+  pub number : length before ≡ 1000000
+
+-- a count that did not rise, and that does not stand at its greatest value
+pub record IsStill (before now : ℕ) : Type 0 where
+  pub same : now ≡ before
+  pub below : now < 0xffff_ffff_ffff_ffff
+
+-- the counts of all disks
+pub record AreStill (before now : ℕ → ℕ → ℕ) : Type 0 where
+  pub each : (s d : ℕ) → IsStill (before s d) (now s d)
+
+-- no call failed in any line
+abbrev pub no_fails : List (List ℕ) → List Fails
+no_fails lines = map (λ line. []) lines
+
+-- All lines were done, no call failed in them, and each reply was written.
+pub record CleanRun (told : Type 0) (files : Bool) (Leaves : World → Type 0) (lines : List (List ℕ)) (written now : Option (List ℕ)) : Type 0 where
+  pub texts : List (List ℕ)
+  pub world : World
+  pub run : Run told files empty_world lines (no_fails lines) texts world
+  pub appends : Appends written now (concat texts)
+  pub leaves : Leaves world
+
+-- such a run was done, or memory ran out
+abbrev pub IsClean : Type 0 → Bool → (World → Type 0) → Status → List (List ℕ) → Option (List ℕ) → Option (List ℕ) → Type 0
+IsClean told files Leaves status lines written now = ((status ≡ Done) × CleanRun told files Leaves lines written now) ⊎ (status ≡ OutOfMemory)

@@ -1,0 +1,28 @@
+-- Whole runs: the lines, the failed calls in each, and the text of each.
+use Rattle.std.specs.Prelude.{◌≡◌, ℕ, Bool, List, [], ◌∷◌, ◌++◌}
+use Rattle.vx_model.specs.World.{World}
+use Rattle.vx_model.specs.Good.{Good}
+use Rattle.vx_disk.specs.Shelf.{Meaning}
+use Rattle.vx_node.specs.Holds.{RacksHold}
+use Rattle.vx_node.specs.Steps.{Fails, LineStep}
+
+-- the lines, one after another, each a step from the world that the line before it left
+abbrev pub Run : Type 0 → Bool → World → List (List ℕ) → List Fails → List (List ℕ) → World → Type 0
+Run told files w [] [] [] new = new ≡ w
+Run told files w (line ∷ lines) (fails ∷ failures) (text ∷ texts) new =
+    (mid : World) × LineStep told files w line fails text mid × Run told files mid lines failures texts new
+Run told files w [] [] (text ∷ texts) new = ⊥
+Run told files w [] (fails ∷ failures) texts new = ⊥
+Run told files w (line ∷ lines) [] texts new = ⊥
+Run told files w (line ∷ lines) (fails ∷ failures) [] new = ⊥
+
+-- the failed calls of all lines
+abbrev pub all_fails : List Fails → Fails
+all_fails [] = []
+all_fails (fails ∷ failures) = fails ++ all_fails failures
+
+module _ {R : Type 0} (meaning : R → Meaning) where
+  -- the world at the end of a run: it is good, and the racks hold it
+  pub record Leaves (racks : List R) (w : World) : Type 0 where
+    pub good : Good w
+    pub holds : RacksHold meaning w racks

@@ -1,0 +1,45 @@
+// What a line says, where its kind is built.
+ghost use Rattle.std.specs.Prelude.{◌≡◌};
+ghost use Rattle.vx_script.specs.Parsed.{IsParsed};
+ghost use Rattle.vx_node.specs.Lines.{is_built, script_line};
+
+use std::alloc::Global;
+use vx_script::{LineErr, ScriptLine, parse};
+
+fn is_built(line: &ScriptLine) -> bool
+    ensures { result ≡ is_built line.now }
+{
+    match line {
+        ScriptLine::Site { .. }
+        | ScriptLine::Raw { .. }
+        | ScriptLine::Disk { .. }
+        | ScriptLine::Write { .. }
+        | ScriptLine::Put { .. }
+        | ScriptLine::Read { .. }
+        | ScriptLine::Show { .. }
+        | ScriptLine::Status { .. } => true,
+        _ => false,
+    }
+}
+
+/// What line `number` says: nothing for an empty line or a comment. A line that is not in the grammar is `Bad` at its
+/// first wrong byte, and one of a kind that is not built at its first.
+#[tactic(auto, unfolding(vx_node::specs::Lines::script_line))]
+pub fn line_of(alloc: Global, bytes: &[u8], number: u64) -> Result<Option<ScriptLine>, LineErr>
+    ensures { IsParsed number result (script_line bytes.now) }
+{
+    match parse(alloc, bytes, number) {
+        Ok(Some(line)) => {
+            if is_built(&line) {
+                Ok(Some(line))
+            } else {
+                Err(LineErr::Bad {
+                    line: number,
+                    column: 1,
+                })
+            }
+        }
+        Ok(None) => Ok(None),
+        Err(e) => Err(e),
+    }
+}
