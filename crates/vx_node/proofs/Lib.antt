@@ -8,3 +8,4 @@ pub mod Seats
 pub mod Sites
 pub mod Tables
 pub mod Values
+pub mod Writing

@@ -1,7 +1,7 @@
 -- What a yard stands for: how its racks and what it keeps of each site agree with the world.
 use Rattle.std.specs.Prelude.{◌≡◌, ℕ, ◌+◌, ◌-◌, ◌<◌, ◌≤◌, ◌==◌, ◌&&◌, min, List, length, count_by, Option, Some, None, slice_get, IsTrue, IsFalse}
 use Rattle.vx_model.specs.Content.{zero_block}
-use Rattle.vx_model.specs.World.{Node, World, no_line}
+use Rattle.vx_model.specs.World.{Node, World, Volume, no_line}
 use Rattle.vx_model.specs.declared.site.SiteState.TheVariants.{Bare as IsBare, Up as IsUp}
 use Rattle.vx_model.specs.declared.units.Units.{Units}
 use Rattle.vx_disk.specs.Shelf.{Meaning, Keeps}
@@ -50,7 +50,9 @@ pub record IsUpAt (n : Node) (c : Core) (m : Meaning) : Type 0 where
   pub session : c.log.session ≡ n.session
   pub head : c.head ≡ n.safe
   pub halted : c.halted ≡ n.halted
+  pub few : n.disks ≤ 8
   pub volumes : length n.volumes ≡ n.disks - 2
+  pub blocks : (v : ℕ) (x : Volume) → slice_get n.volumes v ≡ Some x → x.blocks ≡ n.blocks
   pub sizes : (v : ℕ) → v < n.disks - 2 → n.base.size v ≡ n.blocks
   -- while no write failed, whatever a crash leaves has the content
   pub content : n.halted ≡ None → Stands c.units.vols n.base m

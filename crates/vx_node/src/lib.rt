@@ -9,6 +9,7 @@ mod racks;
 mod said;
 mod units;
 mod work;
+mod writes;
 mod yard;
 
 pub use engine::Engine;
