@@ -1,6 +1,7 @@
 -- What stands after calls that change no contents, and of a raw set as it is made.
 use Rattle.std.proofs.Common.{◌≡◌, ◌∙◌, ◌+◌, ◌-◌, ◌<◌, ◌≤◌, ℕ, zero, suc, List, length, ap, ⊎_elim, sym, subst, refl, arith, Bool, true, false, IsTrue}
-use Rattle.std.specs.Prelude.{IsFalse, Some, slice_get}
+use Rattle.std.specs.Prelude.{IsFalse, Some, slice_get, codes, ◌++◌}
+use Rattle.std.specs.Fmt.{decimal}
 use Rattle.std.proofs.lemmas.Bool.Decides.{nat_tests}
 use Rattle.vx_model.specs.World.{Node, Volume}
 use Rattle.vx_model.specs.Content.{zero_block}
@@ -98,13 +99,10 @@ length-raw_volumes : (k n blocks : ℕ) → length (raw_volumes k n blocks) ≡ 
 length-raw_volumes k zero blocks = refl
 length-raw_volumes k (suc n) blocks = ap suc (length-raw_volumes (k + 1) n blocks)
 
-blocks-raw_volumes : (k n blocks v : ℕ) (x : Volume) → slice_get (raw_volumes k n blocks) v ≡ Some x → x.blocks ≡ blocks
-blocks-raw_volumes k zero blocks v x at = absurd (cc)
-blocks-raw_volumes k (suc n) blocks zero x at = same at
-  where
-    same : {a b : Volume} → Some a ≡ Some b → b.blocks ≡ a.blocks
-    same e = cc
-blocks-raw_volumes k (suc n) blocks (suc v) x at = blocks-raw_volumes (k + 1) n blocks v x at
+raw_volumes-whole : (k n blocks v : ℕ) (x : Volume) → slice_get (raw_volumes k n blocks) v ≡ Some x → x.blocks ≡ blocks
+raw_volumes-whole k zero blocks v x e = absurd (cc)
+raw_volumes-whole k (suc n) blocks zero x e = ap (λ (y : Volume). y.blocks) (let is : x ≡ record { name = codes "d" ++ decimal k; blocks = blocks } = cc in is)
+raw_volumes-whole k (suc n) blocks (suc v) x e = raw_volumes-whole (k + 1) n blocks v x e
 
 raw_size : (disks blocks v : ℕ) → v < disks - 2 → (raw_content disks blocks).size v ≡ blocks
 raw_size disks blocks v h = grind (arith, nat_tests)
@@ -123,7 +121,7 @@ raw_stands site n c state m new bare some is moves = record {
     halted = ap (λ (k : Core). k.halted) is;
     few = bare.few;
     volumes = length-raw_volumes 1 (n.disks - 2) n.blocks;
-    blocks = λ v x at. blocks-raw_volumes 1 (n.disks - 2) n.blocks v x at;
+    whole = λ v x at. raw_volumes-whole 1 (n.disks - 2) n.blocks v x at;
     sizes = λ v there. raw_size n.disks n.blocks v there;
     content = λ _. subst (λ (k : Core). Stands k.units.vols (raw_content n.disks n.blocks) new) (sym is) (record {
       sizes = λ v there. let in_set = inside v there in raw_size n.disks n.blocks v in_set ∙ sym (at_size v in_set);

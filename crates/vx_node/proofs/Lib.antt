@@ -1,11 +1,16 @@
 pub mod Backs
 pub mod Changing
+pub mod Disks
 pub mod Engines
+pub mod Goods
 pub mod Lists
 pub mod Raws
+pub mod Readings
 pub mod Refused
 pub mod Seats
 pub mod Sites
+pub mod Replies
+pub mod Statuses
 pub mod Tables
 pub mod Values
 pub mod Writing

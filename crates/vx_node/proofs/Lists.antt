@@ -20,6 +20,11 @@ length-set [] i x = refl
 length-set (y ∷ xs) zero x = refl
 length-set (y ∷ xs) (suc i) x = ap suc (length-set xs i x)
 
+pub set_twice : {A : Type 0} (xs : List A) (i : ℕ) (x y : A) → slice_set (slice_set xs i x) i y ≡ slice_set xs i y
+set_twice [] i x y = refl
+set_twice (z ∷ xs) zero x y = refl
+set_twice (z ∷ xs) (suc i) x y = ap (λ ys. z ∷ ys) (set_twice xs i x y)
+
 -- the values of a function that differs at one place
 pub values_from-set : {A : Type 0} (f h : ℕ → A) (k n i : ℕ) (x : A) → h (k + i) ≡ x → ((j : ℕ) → (j ≡ k + i → ⊥) → h j ≡ f j) → values_from h k n ≡ slice_set (values_from f k n) i x
 values_from-set f h k zero i x here there = refl

@@ -32,6 +32,9 @@ position_within p xs i e =
     below : (n len i : ℕ) → nat_lt n len ≡ true → n ≡ i → i < len
     below n len i a b = grind (arith, nat_tests)
 
+pub seat_within : (fs : List SiteFacts) (name : List ℕ) (s : ℕ) → seat_of fs name ≡ Some s → s < length fs
+seat_within fs name s is = position_within (λ site. bytes_eq site.name name) fs s is
+
 module _ {R : Type 0} {g : Ghosts R} where
   -- the site of this number is the one of that name
   pub record Seated (w : World) (y : Yard R g) (name : List ℕ) (s : ℕ) : Type 0 where
@@ -61,3 +64,7 @@ module _ {R : Type 0} {g : Ghosts R} where
   -- a line that names no site is refused
   pub named_none : (y : Yard R g) (name : List ℕ) → seat_of y.facts.items name ≡ None → Named y.facts.items name → ⊥
   named_none y name is n = never_some (sym is ∙ n.at.is)
+
+  -- its engine is one of the eight
+  pub seat_below : (w : World) (y : Yard R g) (name : List ℕ) (s len : ℕ) → YardStands w y → seat_of y.facts.items name ≡ Some s → len ≡ length y.engines.items → s < len
+  seat_below w y name s len stands is many = omega (arith, (seated w y name s stands is).below, stands.engines.few, stands.engines.eight, many)

@@ -15,6 +15,8 @@ use Rattle.vx_order.specs.Shapes.{most_blocks as most_of}
 use Rattle.vx_order.specs.declared.facts.SiteFacts.{SiteFacts}
 use Rattle.vx_script.specs.declared.line.ScriptLine.TheVariants.{Site}
 use Rattle.vx_node.specs.declared.engine.Engine.{Engine}
+use Rattle.vx_model.specs.declared.errors.OutOfMemory.{OutOfMemory as OutOfMemory'}
+use Rattle.vx_node.specs.declared.said.Said.{Said}
 use Rattle.vx_node.specs.declared.said.Said.TheVariants.{Done}
 use Rattle.vx_node.specs.declared.yard.Yard.{Yard}
 use Rattle.vx_node.specs.Changes.{bare_facts}
@@ -103,3 +105,10 @@ module _ {R : Type 0} {g : Ghosts R} where
                 (counts_rose old.engines.items (length old.facts.items) disk before after at h.1)));
         }
       by_stop (Refused other) h = absurd (omega (arith, h, may.few_blocks, most_same dir (in_files old) files))
+
+  pub site_said : {T : Type 0} (dir : Option T) (stop : Stop) (said : Result Said OutOfMemory') (w : World) (old new : Yard R g) (name : List ℕ) (disks blocks : ℕ) (before after : Engine R g) → said ≡ reply_to stop → YardStands w old → IsFree old (Site name disks blocks)
+      → is_some dir ≡ in_files old → slice_get old.engines.items (length old.facts.items) ≡ Some before → Later before after → FitIs dir disks blocks before after (Err stop)
+      → new.facts.items ≡ old.facts.items → new.engines.items ≡ slice_set old.engines.items (length old.facts.items) after → new.racks ≡ old.racks
+      → WorkIs w (Site name disks blocks) old new said
+  site_said dir stop said w old new name disks blocks before after is stands free files at later fits facts engines racks =
+      subst (λ r. WorkIs w (Site name disks blocks) old new r) (sym is) (site_failed dir stop w old new name disks blocks before after stands free files at later fits facts engines racks)

@@ -77,7 +77,7 @@ the_write v start bytes = record { volume = v; start = start; bytes = bytes }
 module _ {R : Type 0} {g : Ghosts R} where
   sized : (n : Node) (e : Engine R g) → StandsAt n e → n.state ≡ IsUp → Sized n
   sized n (Bare rack) h up = absurd (let e : IsBare ≡ IsUp = sym h.state ∙ up in cc)
-  sized n (Up rvg) h up = record { few = h.few; volumes = h.volumes; blocks = h.blocks }
+  sized n (Up rvg) h up = record { few = h.few; volumes = h.volumes; blocks = h.whole }
   sized n Gone h up = absurd h
 
   pub may_write : (y : Yard R g) (name volume : List ℕ) (start : ℕ) (bytes : List ℕ) → WriteFree y name volume start bytes → WriteMay y.facts.items name volume start (blocks_in bytes)

@@ -1,10 +1,12 @@
 pub mod Changes
 pub mod Engines
 pub mod Facts
+pub mod Fetching
 pub mod Holds
 pub mod Lines
 pub mod Racks
 pub mod Replies
+pub mod Seen
 pub mod Stands
 pub mod Steps
 pub mod Views

@@ -52,7 +52,7 @@ pub record IsUpAt (n : Node) (c : Core) (m : Meaning) : Type 0 where
   pub halted : c.halted ≡ n.halted
   pub few : n.disks ≤ 8
   pub volumes : length n.volumes ≡ n.disks - 2
-  pub blocks : (v : ℕ) (x : Volume) → slice_get n.volumes v ≡ Some x → x.blocks ≡ n.blocks
+  pub whole : (v : ℕ) (x : Volume) → slice_get n.volumes v ≡ Some x → x.blocks ≡ n.blocks
   pub sizes : (v : ℕ) → v < n.disks - 2 → n.base.size v ≡ n.blocks
   -- while no write failed, whatever a crash leaves has the content
   pub content : n.halted ≡ None → Stands c.units.vols n.base m

@@ -6,7 +6,8 @@ ghost use Rattle.vx_node.specs.Stands.{RoseAll};
 ghost use Rattle.vx_node.specs.Yards.{YardStands, LineIs, IsTold, count_of, in_files};
 ghost use Rattle.vx_stream.specs.Causes.{Rose};
 
-use crate::racks::take_racks;
+use crate::racks::{put_racks, take_racks};
+use crate::yard::copied;
 use crate::{LineStop, Yard};
 use std::alloc::Global;
 use vx_disk::Rack;
@@ -27,9 +28,19 @@ impl<R: Rack> Yard<R> {
         ensures counts { IfOk result (λ y. (s d : ℕ) → count_of y s d ≡ rack_faults R.meaning racks.items s d) }
         ensures back { IfErr result (λ e. e.0 ≡ racks) }
     {
-        let _dir = dir;
-        let _alloc = alloc;
-        Err((racks, OutOfMemory))
+        let Ok(engines) = Vec::with_capacity(alloc, 8) else {
+            return Err((racks, OutOfMemory));
+        };
+        let Ok(dir) = copied(alloc, dir) else {
+            return Err((racks, OutOfMemory));
+        };
+        let (racks, engines) = put_racks(racks, engines);
+        Ok(Yard {
+            dir,
+            facts: Vec::new(alloc),
+            engines,
+            racks,
+        })
     }
 
     /// Answers a line of a kind that is built, and writes its reply.

@@ -112,13 +112,13 @@ impl<R: Rack> Engine<R> {
     }
 
     /// Makes each later call on a disk fail, or ends that.
-    pub fn fail(&mut self, disk: u32, on: bool)
+    pub fn fail(&mut self, disk: u64, on: bool)
         ensures stands { (n : Node) → StandsAt n self.old → StandsAt n self.new }
         ensures later { Later self.old self.new }
     {
         match self {
-            Engine::Bare(rack) if disk < rack.units() => rack.fail(disk, on),
-            Engine::Up(rvg) if disk < rvg.shelf.units() => rvg.shelf.fail(disk, on),
+            Engine::Bare(rack) if disk < rack.units() as u64 => rack.fail(disk as u32, on),
+            Engine::Up(rvg) if disk < rvg.shelf.units() as u64 => rvg.shelf.fail(disk as u32, on),
             _ => {}
         }
     }

@@ -1,12 +1,16 @@
 //! The sites of a run: their disks, and what each line of a script does to them.
 #![tactic(auto)]
 
+mod built;
 mod calls;
 mod engine;
 mod errors;
 mod facts;
 mod racks;
+mod reads;
 mod said;
+mod status;
+mod text;
 mod units;
 mod work;
 mod writes;

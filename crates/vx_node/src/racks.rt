@@ -1,5 +1,5 @@
 // The racks of the engines, as they come back.
-ghost use Rattle.std.specs.Prelude.{◌≡◌, ◌≤◌, ◌<◌, ◌++◌, [], vec_len};
+ghost use Rattle.std.specs.Prelude.{◌≡◌, ◌≤◌, ◌<◌, ◌++◌, [], map, vec_len};
 ghost use Rattle.std.specs.Vec.{vec_capacity};
 ghost use Rattle.vx_node.specs.Racks.{rack_in, racks_in};
 
@@ -33,4 +33,20 @@ pub fn take_racks<R: Rack>(racks: Vec<R>, engines: Vec<Engine<R>>) -> Vec<R>
         give_back(&mut racks, engine);
     }
     racks
+}
+
+/// Fills an empty list, which has room for them, with an engine for each of these racks, in order. The emptied list of the
+/// racks keeps its room.
+pub fn put_racks<R: Rack>(racks: Vec<R>, engines: Vec<Engine<R>>) -> (Vec<R>, Vec<Engine<R>>)
+    ensures engines { engines.items ≡ [] → vec_len racks ≤ vec_capacity engines → result.1.items ≡ map (λ r. Engine.Bare r) racks.items }
+    ensures none { result.0.items ≡ [] }
+    ensures room { vec_capacity racks ≤ vec_capacity result.0 }
+{
+    let mut racks = racks;
+    let mut engines = engines;
+    racks.reverse();
+    while let Some(rack) = racks.pop() {
+        let _ = engines.push(Engine::Bare(rack));
+    }
+    (racks, engines)
 }

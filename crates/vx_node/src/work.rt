@@ -104,10 +104,10 @@ impl<R: Rack> Yard<R> {
         let Some(site) = seat(&self.facts, name) else {
             return unknown(name);
         };
-        if site >= self.engines.len() || disk >= 8 {
+        if site >= self.engines.len() {
             return Said::Refused(No::Role);
         }
-        self.engines[site].fail(disk as u32, matches!(state, DiskWord::Fail));
+        self.engines[site].fail(disk, matches!(state, DiskWord::Fail));
         Said::Done
     }
 }

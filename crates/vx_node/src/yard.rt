@@ -1,10 +1,11 @@
 // All sites of a run.
-ghost use Rattle.std.specs.Prelude.{◌≡◌, is_some};
+ghost use Rattle.std.specs.Prelude.{◌≡◌, IfOk, is_some};
 ghost use Rattle.vx_node.specs.Facts.{seat_of};
 
 use crate::Engine;
+use std::alloc::Global;
 use vx_disk::Rack;
-use vx_model::Name;
+use vx_model::{Name, OutOfMemory};
 use vx_order::SiteFacts;
 
 /// The sites of a run: for each what the tests of a line look at, and its disks.
@@ -33,5 +34,15 @@ pub fn folder(dir: &Option<String>) -> Option<&str>
     match dir {
         Some(dir) => Some(dir.as_str()),
         None => None,
+    }
+}
+
+/// A copy of the path of a folder, if there is one.
+pub fn copied(alloc: Global, dir: Option<&str>) -> Result<Option<String>, OutOfMemory>
+    ensures { IfOk result (λ path. is_some path ≡ is_some dir.entry) }
+{
+    match dir {
+        Some(dir) => Ok(Some(String::from_str(alloc, dir)?)),
+        None => Ok(None),
     }
 }

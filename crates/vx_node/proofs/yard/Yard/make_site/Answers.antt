@@ -6,7 +6,7 @@ use Rattle.vx_node.specs.Working.{WorkIs}
 use Rattle.vx_node.proofs.Changing.{told_before}
 use Rattle.vx_node.proofs.Lists.{get_at, pop_pushed}
 use Rattle.vx_node.proofs.Refused.{site_may}
-use Rattle.vx_node.proofs.Sites.{site_done, site_failed, sites_many}
+use Rattle.vx_node.proofs.Sites.{site_done, site_said, sites_many}
 use Rattle.vx_node.specs.Yards.{in_files}
 use Rattle.vx_node.proofs.yard.Yard.make_site.Goals.{then-site-len-via-then-site-len, then-site-len-via-else-site-len+then-site-ge8}
 use Rattle.vx_node.proofs.yard.Yard.make_site.Goals as goal
@@ -30,13 +30,12 @@ returns-in-Err-clause-works g c = λ w stands free.
     let site : c.len-site.result ≡ length c.args.self.now.facts.items = omega (arith, c.len-site.ensures, c.args.self.now.facts.ok) in
     let at = ap (slice_get c.args.self.now.engines.items) (sym site)
           ∙ get_at c.args.self.now.engines.items c.len-site.result c.index_mut.result.now (omega (arith, c.if-site-len.false, c.len.ensures, c.args.self.now.engines.ok)) c.index_mut.ensures.value in
-    subst (λ r. WorkIs w (Site c.args.name.now c.args.disks c.args.blocks) c.args.self.now _ r) (sym c.stopped.ensures)
-      (site_failed c.folder.result c.in-Err.stop w c.args.self.now _ c.args.name.now c.args.disks c.args.blocks c.index_mut.result.now c.fit-made.new.self stands free
+    site_said c.folder.result c.in-Err.stop c.stopped.result w c.args.self.now _ c.args.name.now c.args.disks c.args.blocks c.index_mut.result.now c.fit-made.new.self c.stopped.ensures stands free
         c.folder.ensures at c.in-Err.ensures.later
         (c.in-Err.ensures.fits (stands.engines.others (length c.args.self.now.facts.items) c.index_mut.result.now (omega (arith, many)) at))
         (pop_pushed c.args.self.now.facts.items c.push.new.self.items c.pop.new.self.items c.bare.result (vec_len c.push.new.self) c.in_ok-push.ensures.items (omega (arith, c.push.new.self.ok)) c.pop.ensures.rest)
         (ap (λ (k : ℕ). slice_set c.args.self.now.engines.items k c.fit-made.new.self) site)
-        refl)
+        refl
 
 pub returns-in-Ok-clause-told : goal.returns-in-Ok-clause-told
 returns-in-Ok-clause-told g c = told_before c.args.self.now.engines.items c.len-site.result c.index_mut.result.now c.fit-made.new.self

@@ -1,0 +1,36 @@
+-- What a line that makes a disk fail, or ends that, comes to.
+use Rattle.std.proofs.Common.{◌≡◌, ◌∙◌, ◌+◌, ◌<◌, ◌≤◌, ℕ, List, [], ◌∷◌, length, ap, sym, subst, refl, arith}
+use Rattle.std.specs.Prelude.{Some, slice_get, slice_set}
+use Rattle.vx_model.specs.World.{Node, World}
+use Rattle.vx_disk.specs.declared.shelf.Shelf.{Ghosts}
+use Rattle.vx_script.specs.declared.line.DiskState.{DiskState}
+use Rattle.vx_script.specs.declared.line.ScriptLine.TheVariants.{Disk}
+use Rattle.vx_node.specs.declared.engine.Engine.{Engine}
+use Rattle.vx_node.specs.declared.said.Said.TheVariants.{Done}
+use Rattle.vx_node.specs.declared.yard.Yard.{Yard}
+use Rattle.vx_node.specs.Engines.{Later}
+use Rattle.vx_node.specs.Facts.{seat_of}
+use Rattle.vx_node.specs.Stands.{EnginesStand, StandsAt, RoseAll, faults_of}
+use Rattle.vx_node.specs.Working.{Worked}
+use Rattle.vx_node.specs.Yards.{YardStands, count_of}
+use Rattle.vx_node.proofs.Changing.{rose_none, counts_later, engines_same}
+use Rattle.vx_node.proofs.Seats.{seated}
+use Rattle.vx_node.proofs.Sites.{stands_new}
+
+module _ {R : Type 0} {g : Ghosts R} where
+  pub disk_done : (w : World) (old new : Yard R g) (name : List ℕ) (disk : ℕ) (state : DiskState) (s : ℕ) (before after : Engine R g) → YardStands w old → seat_of old.facts.items name ≡ Some s
+      → slice_get old.engines.items s ≡ Some before → Later before after → ((n : Node) → StandsAt n before → StandsAt n after)
+      → new.facts ≡ old.facts → new.engines.items ≡ slice_set old.engines.items s after → new.racks ≡ old.racks
+      → Worked w (Disk name disk state) Done old new
+  disk_done w old new name disk state s before after stands is at later still facts engines racks =
+      let seat = seated w old name s stands is in
+      record {
+        world = w;
+        fails = [];
+        works = record { none = refl; says = refl; leads = refl };
+        stands = stands_new w w old new stands (ap (λ fs. fs.items) facts ∙ stands.facts)
+          (subst (λ es. EnginesStand w es) (sym engines) (engines_same w old.engines.items s after seat.below stands.engines (still (w.nodes s) (stands.engines.sites s before seat.below at))))
+          racks;
+        rose = subst (λ es. RoseAll [] (count_of old) (faults_of es)) (sym engines)
+          (rose_none (count_of old) (faults_of (slice_set old.engines.items s after)) (λ s' d. counts_later old.engines.items s before after at later s' d));
+      }

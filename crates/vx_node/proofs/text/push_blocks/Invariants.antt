@@ -1,0 +1,6 @@
+use Rattle.std.proofs.Common.{◌≡◌, ◌++◌}
+use Rattle.vx_node.specs.Replies.{blocks_text}
+use Rattle.vx_node.proofs.text.push_blocks.Given as goal
+
+abbrev pub invariant-loop-k : goal.invariant-loop-k
+invariant-loop-k l = l.out.items ≡ l.initial.out.items ++ blocks_text l.bytes 0 l.k

@@ -1,0 +1,41 @@
+-- What the yard promises of a line that reads blocks.
+use Rattle.std.specs.Prelude.{◌≡◌, ◌⊎◌, ℕ, ◌*◌, List, length, Result, Ok, Err}
+use Rattle.vx_model.specs.World.{Node, World}
+use Rattle.vx_model.specs.declared.no.No.{No}
+use Rattle.vx_model.specs.declared.no.No.TheVariants.{Device}
+use Rattle.vx_disk.specs.declared.shelf.Shelf.{Ghosts}
+use Rattle.vx_rvg.specs.Volumes.{Shows}
+use Rattle.vx_script.specs.declared.line.ScriptLine.TheVariants.{Read, Show}
+use Rattle.vx_node.specs.declared.engine.Engine.{Engine}
+use Rattle.vx_node.specs.declared.said.Said.{Said}
+use Rattle.vx_node.specs.declared.yard.Yard.{Yard}
+use Rattle.vx_node.specs.Engines.{RoseAt}
+use Rattle.vx_node.specs.Stands.{StandsAt, IsToldAt, RoseAll}
+use Rattle.vx_node.specs.Steps.{Fails, Fetches}
+use Rattle.vx_node.specs.Working.{IsFree}
+use Rattle.vx_node.specs.Yards.{YardStands, IsTold, count_of}
+
+module _ {R : Type 0} {g : Ghosts R} where
+  -- so many blocks, which are those of the content where it is told
+  pub record Gave (n : Node) (volume start count : ℕ) (bytes : List ℕ) (new : Engine R g) : Type 0 where
+    pub size : length bytes ≡ 512 * count
+    pub shows : IsToldAt new → Shows n.base volume start count bytes
+    pub stands : StandsAt n new
+
+  -- the blocks, or a failing disk
+  abbrev pub GaveAt : Node → ℕ → ℕ → ℕ → Engine R g → Engine R g → Result (List ℕ) No → Type 0
+  GaveAt n volume start count old new (Ok bytes) = Gave n volume start count bytes new
+  GaveAt n volume start count old new (Err (Device disk)) = StandsAt n new × RoseAt old new disk
+  GaveAt n volume start count old new (Err other) = ⊥
+
+  -- blocks that a line may read, whichever of the two it is
+  abbrev pub IsReadFree : Yard R g → List ℕ → List ℕ → ℕ → ℕ → Type 0
+  IsReadFree y name volume start count = IsFree y (Read name volume start count) ⊎ IsFree y (Show name volume start count)
+
+  -- the blocks were read, or a disk failed
+  pub record Fetched (w : World) (name volume : List ℕ) (start count : ℕ) (said : Said) (old new : Yard R g) : Type 0 where
+    pub world : World
+    pub fails : Fails
+    pub fetches : Fetches (IsTold new) w name volume start count fails said world
+    pub stands : YardStands world new
+    pub rose : RoseAll fails (count_of old) (count_of new)

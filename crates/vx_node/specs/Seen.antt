@@ -1,0 +1,36 @@
+-- What the status of a site is made from.
+use Rattle.std.specs.Prelude.{ℕ, List, Option, Some, None, slice_get}
+use Rattle.vx_model.specs.declared.no.SiteName.{SiteName}
+use Rattle.vx_model.specs.declared.no.SiteName.TheVariants.{Known, Number}
+use Rattle.vx_model.specs.declared.site.SiteState.{SiteState}
+use Rattle.vx_model.specs.declared.site.SiteState.TheVariants.{Bare, Up, Deported, Down}
+use Rattle.vx_order.specs.declared.facts.SiteFacts.{SiteFacts}
+use Rattle.vx_order.specs.declared.facts.RvgFacts.{RvgFacts}
+use Rattle.vx_report.specs.declared.view.RvgView.{RvgView}
+
+-- the name in these facts, or this number where there are none
+abbrev pub name_at : Option SiteFacts → ℕ → SiteName
+name_at None i = Number i
+name_at (Some site) i = Known site.name
+
+abbrev pub group_seen : List SiteFacts → ℕ → RvgFacts → RvgView
+group_seen sites session rvg = record {
+  role = rvg.role;
+  generation = rvg.line.generation;
+  origin = name_at (slice_get sites rvg.line.origin) rvg.line.origin;
+  head = rvg.last;
+  mark = rvg.mark;
+  session = session;
+  halted = rvg.halted;
+}
+
+abbrev pub group_in : List SiteFacts → ℕ → Option RvgFacts → Option RvgView
+group_in sites session None = None
+group_in sites session (Some rvg) = Some (group_seen sites session rvg)
+
+-- the group of a site that is up
+abbrev pub group_at : SiteState → List SiteFacts → ℕ → Option RvgFacts → Option RvgView
+group_at Bare sites session rvg = None
+group_at Up sites session rvg = group_in sites session rvg
+group_at Deported sites session rvg = None
+group_at Down sites session rvg = None

@@ -1,0 +1,78 @@
+// The lines that read blocks.
+ghost use Rattle.std.specs.Prelude.{◌≡◌, ◌≤◌, ◌<◌};
+ghost use Rattle.vx_model.specs.World.{World, Node};
+ghost use Rattle.vx_script.specs.declared.line.ScriptLine.TheVariants.{Read as ReadLine, Show as ShowLine};
+ghost use Rattle.vx_node.specs.Engines.{CanRead, Later};
+ghost use Rattle.vx_node.specs.Fetching.{GaveAt, IsReadFree, Fetched};
+ghost use Rattle.vx_node.specs.Stands.{StandsAt};
+ghost use Rattle.vx_node.specs.Working.{Worked, IsFree};
+ghost use Rattle.vx_node.specs.Yards.{YardStands, IsTold, in_files};
+
+use crate::yard::{Yard, seat};
+use crate::{Engine, Said, facts};
+use vx_disk::Rack;
+use vx_model::{Blocks, Name, Named, No};
+
+// So many blocks of a volume, by its number.
+fn blocks_of<R: Rack>(
+    engine: &mut Engine<R>,
+    volume: u32,
+    start: u64,
+    count: u64,
+) -> Result<Blocks, No>
+    requires some { 0 < count }
+    requires few { count ≤ 16 }
+    ensures read { (n : Node) → StandsAt n engine.old → CanRead n volume start count → GaveAt n volume start count engine.old engine.new result }
+    ensures later { Later engine.old engine.new }
+{
+    let size = 512 * count as usize;
+    let mut held = [0; 8192];
+    engine.read(volume, start, &mut held[..size])?;
+    Ok(Blocks::new(&held[..size]))
+}
+
+impl<R: Rack> Yard<R> {
+    /// Reads blocks of a volume, as a `read` line asks.
+    pub(crate) fn read_line(&mut self, name: &Name, volume: &Name, start: u64, count: u64) -> Said
+        ensures works { (w : World) → YardStands w self.old → IsFree self.old (ReadLine name.now volume.now start count) → Worked w (ReadLine name.now volume.now start count) result self.old self.new }
+        ensures told { IsTold self.new → IsTold self.old }
+        ensures files { in_files self.new ≡ in_files self.old }
+    {
+        self.fetch(name, volume, start, count)
+    }
+
+    /// Reads blocks of a volume, as a `show` line asks.
+    pub(crate) fn show_line(&mut self, name: &Name, volume: &Name, start: u64, count: u64) -> Said
+        ensures works { (w : World) → YardStands w self.old → IsFree self.old (ShowLine name.now volume.now start count) → Worked w (ShowLine name.now volume.now start count) result self.old self.new }
+        ensures told { IsTold self.new → IsTold self.old }
+        ensures files { in_files self.new ≡ in_files self.old }
+    {
+        self.fetch(name, volume, start, count)
+    }
+
+    // Reads blocks of a volume. The tests of the line left no other case than that all of it is there.
+    fn fetch(&mut self, name: &Name, volume: &Name, start: u64, count: u64) -> Said
+        ensures works { (w : World) → YardStands w self.old → IsReadFree self.old name.now volume.now start count → Fetched w name.now volume.now start count result self.old self.new }
+        ensures told { IsTold self.new → IsTold self.old }
+        ensures files { in_files self.new ≡ in_files self.old }
+    {
+        let Some(site) = seat(&self.facts, name) else {
+            return Said::Refused(No::Unknown {
+                what: Named::Of(*name),
+            });
+        };
+        let disks = self.facts[site].disks;
+        let Some(place) = facts::place(&self.facts[site], volume) else {
+            return Said::Refused(No::Unknown {
+                what: Named::Of(*volume),
+            });
+        };
+        if site >= self.engines.len() || place >= disks as usize || count == 0 || count > 16 {
+            return Said::Refused(No::Role);
+        }
+        match blocks_of(&mut self.engines[site], place as u32, start, count) {
+            Ok(blocks) => Said::Got(blocks),
+            Err(no) => Said::Refused(no),
+        }
+    }
+}

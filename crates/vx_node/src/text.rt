@@ -1,0 +1,48 @@
+// The text of a reply.
+ghost use Rattle.std.specs.Prelude.{◌≡◌, ◌≤◌, ◌+◌, ◌*◌, ◌++◌, ◌∷◌, [], OnOk, codes, length};
+ghost use Rattle.std.specs.Fmt.{decimal};
+ghost use Rattle.vx_model.specs.Content.{block_of, blocks_in};
+ghost use Rattle.vx_node.specs.Replies.{text_of, blocks_text};
+
+use crate::Said;
+use vx_model::OutOfMemory;
+use vx_report::{push_block, push_number, push_refusal, push_status, push_text};
+
+/// Appends the lines of a reply.
+pub fn push_said(out: &mut Vec<u8>, said: &Said) -> Result<(), OutOfMemory>
+    ensures { OnOk result (out.new.items ≡ out.old.items ++ text_of said.now) }
+{
+    match said {
+        Said::Done => push_text(out, b"done\n"),
+        Said::DoneAt(number) => push_done_at(out, *number),
+        Said::Got(blocks) => push_blocks(out, blocks.as_bytes()),
+        Said::Shown(view) => push_status(out, view),
+        Said::Refused(no) => push_refusal(out, no),
+    }
+}
+
+fn push_done_at(out: &mut Vec<u8>, number: u64) -> Result<(), OutOfMemory>
+    ensures { OnOk result (out.new.items ≡ out.old.items ++ (codes "done " ++ decimal number ++ 10 ∷ [])) }
+{
+    push_text(out, b"done ")?;
+    push_number(out, number)?;
+    push_text(out, b"\n")
+}
+
+// A line for each whole block.
+fn push_blocks(out: &mut Vec<u8>, bytes: &[u8]) -> Result<(), OutOfMemory>
+    ensures { OnOk result (out.new.items ≡ out.old.items ++ blocks_text bytes.now 0 (blocks_in bytes.now)) }
+{
+    for k in 0..bytes.len() / 512 {
+        push_block(out, block_at(bytes, k))?;
+    }
+    Ok(())
+}
+
+fn block_at(bytes: &[u8], k: usize) -> &[u8]
+    requires { 512 * k + 512 ≤ length bytes.now }
+    ensures shows { result.now ≡ block_of bytes.now k }
+    ensures size { length result.now ≡ 512 }
+{
+    &bytes[512 * k..512 * k + 512]
+}
