@@ -119,6 +119,7 @@ raw_stands site n c state m new bare some is moves = record {
     session = ap (λ (k : Core). k.log.session) is;
     head = ap (λ (k : Core). k.head) is;
     halted = ap (λ (k : Core). k.halted) is;
+    few = bare.few;
     volumes = length-raw_volumes 1 (n.disks - 2) n.blocks;
     whole = λ v x at. raw_volumes-whole 1 (n.disks - 2) n.blocks v x at;
     sizes = λ v there. raw_size n.disks n.blocks v there;

@@ -14,3 +14,4 @@ pub mod Replies
 pub mod Statuses
 pub mod Tables
 pub mod Values
+pub mod Writing

@@ -11,4 +11,5 @@ pub mod Stands
 pub mod Steps
 pub mod Views
 pub mod Working
+pub mod Writes
 pub mod Yards

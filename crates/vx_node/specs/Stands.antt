@@ -50,6 +50,7 @@ pub record IsUpAt (n : Node) (c : Core) (m : Meaning) : Type 0 where
   pub session : c.log.session ≡ n.session
   pub head : c.head ≡ n.safe
   pub halted : c.halted ≡ n.halted
+  pub few : n.disks ≤ 8
   pub volumes : length n.volumes ≡ n.disks - 2
   pub whole : (v : ℕ) (x : Volume) → slice_get n.volumes v ≡ Some x → x.blocks ≡ n.blocks
   pub sizes : (v : ℕ) → v < n.disks - 2 → n.base.size v ≡ n.blocks

@@ -14,6 +14,7 @@ mod status;
 mod text;
 mod units;
 mod work;
+mod writes;
 mod yard;
 
 pub use engine::Engine;

@@ -1,0 +1,90 @@
+// What a line that writes blocks does.
+ghost use Rattle.std.specs.Prelude.{◌≡◌, ◌≤◌, ◌<◌, ◌%◌, length};
+ghost use Rattle.vx_model.specs.World.{World};
+ghost use Rattle.vx_script.specs.declared.line.ScriptLine.TheVariants.{Write as WriteLine, Put as PutLine};
+ghost use Rattle.vx_node.specs.declared.said.Said.TheVariants.{Refused};
+ghost use Rattle.vx_node.specs.Working.{Worked, IsFree};
+ghost use Rattle.vx_node.specs.Writes.{WriteFree, PutsIs, noted_facts};
+ghost use Rattle.vx_node.specs.Yards.{YardStands, IsTold, in_files};
+
+use crate::yard::{Yard, seat};
+use crate::{Said, facts};
+use vx_disk::Rack;
+use vx_model::{Blocks, Name, No};
+use vx_order::SiteFacts;
+
+// A write was refused: where its disk failed, the site is halted.
+fn refused(facts: &mut SiteFacts, no: No) -> Said
+    ensures noted { facts.new ≡ noted_facts no facts.old }
+    ensures said { result ≡ Refused no }
+{
+    if let No::Device { disk } = no {
+        facts::set_halted(facts, disk);
+    }
+    Said::Refused(no)
+}
+
+impl<R: Rack> Yard<R> {
+    /// Writes whole blocks to a volume. The tests of the line found the site and the volume, and the blocks lie within it.
+    fn write_blocks(&mut self, name: &Name, volume: &Name, start: u64, bytes: &[u8]) -> Said
+        requires some { 0 < length bytes.now }
+        requires few { length bytes.now ≤ 8192 }
+        requires whole { length bytes.now % 512 ≡ 0 }
+        ensures works { (w : World) → YardStands w self.old → WriteFree self.old name.now volume.now start bytes.now → PutsIs w name.now volume.now start bytes.now result self.old self.new }
+        ensures told { IsTold self.new → IsTold self.old }
+        ensures files { in_files self.new ≡ in_files self.old }
+    {
+        let Some(site) = seat(&self.facts, name) else {
+            return Said::Refused(No::Role);
+        };
+        let Some(place) = facts::place(&self.facts[site], volume) else {
+            return Said::Refused(No::Role);
+        };
+        if site >= self.engines.len() || place >= 8 {
+            return Said::Refused(No::Role);
+        }
+        match self.engines[site].write(place as u32, start, bytes) {
+            Ok(number) => {
+                facts::set_last(&mut self.facts[site], number);
+                Said::DoneAt(number)
+            }
+            Err(no) => refused(&mut self.facts[site], no),
+        }
+    }
+
+    /// Writes blocks that are filled with one byte.
+    pub(crate) fn write_line(
+        &mut self,
+        name: &Name,
+        volume: &Name,
+        start: u64,
+        count: u64,
+        fill: u8,
+    ) -> Said
+        ensures works { (w : World) → YardStands w self.old → IsFree self.old (WriteLine name.now volume.now start count fill) → Worked w (WriteLine name.now volume.now start count fill) result self.old self.new }
+        ensures told { IsTold self.new → IsTold self.old }
+        ensures files { in_files self.new ≡ in_files self.old }
+    {
+        if count < 1 || count > 16 {
+            return Said::Refused(No::Size);
+        }
+        let blocks = Blocks::filled(count, fill);
+        self.write_blocks(name, volume, start, blocks.as_bytes())
+    }
+
+    /// Writes one block of these bytes.
+    pub(crate) fn put_line(
+        &mut self,
+        name: &Name,
+        volume: &Name,
+        start: u64,
+        bytes: &Blocks,
+    ) -> Said
+        requires one { length bytes.now ≡ 512 }
+        ensures works { (w : World) → YardStands w self.old → IsFree self.old (PutLine name.now volume.now start bytes.now) → Worked w (PutLine name.now volume.now start bytes.now) result self.old self.new }
+        ensures told { IsTold self.new → IsTold self.old }
+        ensures files { in_files self.new ≡ in_files self.old }
+    {
+        self.write_blocks(name, volume, start, bytes.as_bytes())
+    }
+}
