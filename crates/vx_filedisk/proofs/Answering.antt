@@ -1,41 +1,21 @@
 -- What a call answers, and what the rack's counts and disks are after it.
-use Rattle.std.proofs.Common.{◌≡◌, refl, sym, subst, inl, inr, ⊎_elim, ℕ, ◌≤◌, IsTrue, Option, None, Some, Result, Ok, Err, OnOk, arith}
+use Rattle.std.proofs.Common.{◌≡◌, sym, subst, inl, inr, ⊎_elim, ℕ, ◌≤◌, Option, None, Some, Result, Ok, Err, OnOk, arith}
 use Rattle.vx_disk.specs.declared.shelf.ShelfError.{ShelfError}
 use Rattle.vx_disk.specs.declared.shelf.ShelfError.TheVariants.{Fault, Down}
-use Rattle.vx_disk.specs.Causes.{Calls, Cause, Names, StaysUp, Works}
-use Rattle.vx_disk.specs.Counts.{Rose}
+use Rattle.std.proofs.lemmas.Bool.{cases_eq}
+use Rattle.vx_disk.specs.Causes.{Calls, OnDisks}
 use Rattle.vx_disk.specs.Disks.{Disks}
-use Rattle.vx_disk.specs.Shelf.{Meaning}
+use Rattle.vx_disk.specs.Shelf.{Goes, Meaning, Values}
 use Rattle.vx_filedisk.specs.declared.files.DiskFiles.{DiskFiles}
-use Rattle.vx_filedisk.specs.Counting.{Counted, Kept, Raised}
+use Rattle.vx_filedisk.specs.Counting.{Noted}
 use Rattle.vx_filedisk.specs.Following.{Follows}
-use Rattle.vx_filedisk.specs.Hosts.{blank, host_meaning}
+use Rattle.vx_filedisk.specs.Hosts.{blank, host_meaning, shown}
 use Rattle.vx_filedisk.specs.Laws.{never}
-use Rattle.vx_filedisk.proofs.Hosts.{blank_Crashed, blank_SameBlocks, blank_Untouched}
-
-pub kept_grew : (c d : ℕ → ℕ) → Kept c d → (u : ℕ) → c u ≤ d u
-kept_grew c d kept u = omega (arith, kept.same u)
+use Rattle.vx_filedisk.proofs.Hosts.{blank_Crashed, blank_SameBlocks, blank_Untouched, memory_Goes}
 
 pub on_ok : {T E : Type 0} {P Q : Type 0} (r : Result T E) → OnOk r P → (P → Q) → OnOk r Q
 on_ok (Ok x) p f = f p
 on_ok (Err e) p f = tt
-
-pub at_ok : {T E : Type 0} {P : Type 0} (r : Result T E) → P → OnOk r P
-at_ok (Ok x) p = p
-at_ok (Err e) p = tt
-
--- a fault has its cause in the rack's own count
-pub host_Cause : {T : Type 0} (files : Option DiskFiles) (c d : ℕ → ℕ) (a b : Meaning) (disks : Disks) (unit : ℕ) (r : Result T ShelfError)
-    → Cause a b unit r → Names (Some disks) unit r → Counted unit r c d → Cause (host_meaning files c a) (host_meaning files d b) unit r
-host_Cause files c d a b disks unit (Ok x) cause names counted = record { before = cause.before; after = cause.after }
-host_Cause files c d a b disks unit (Err (Fault disk)) cause names counted =
-    (record { count = counted.rose; disk_count = subst (λ u. Rose (c u) (d u)) (sym names) counted.rose }, record { before = cause.1.before; after = cause.1.after })
-host_Cause files c d a b disks unit (Err Down) cause names counted = cause
-
-pub memory_Calls : {T : Type 0} (c : ℕ → ℕ) (a : Meaning) (step : Disks → Disks → Type 0) (o n : Disks) (r : Result T ShelfError) → Calls a step o n r → Calls (host_meaning None c a) step o n r
-memory_Calls c a step o n (Ok x) calls = calls
-memory_Calls c a step o n (Err (Fault disk)) calls = calls
-memory_Calls c a step o n (Err Down) calls = calls
 
 pub files_Calls : {T : Type 0} (f : DiskFiles) (c : ℕ → ℕ) (a : Meaning) (step untold : Disks → Disks → Type 0) (o n : Disks) (r : Result T ShelfError) → Calls a step o n r
     → Calls (host_meaning (Some f) c a) untold (blank o) (blank n) r
@@ -55,25 +35,24 @@ module _ {T : Type 0} (unit : ℕ) where
   follow_Calls f c a step untold o n (Err e) (Err g) follows calls =
       subst (λ x. Calls {T = T} (host_meaning (Some f) c a) untold (blank o) (blank n) (Err x)) (sym follows) (files_Calls {T = T} f c a step untold o n (Err e) calls)
 
-  pub follow_Names : (disks : Disks) (passed r : Result T ShelfError) → Follows unit passed r → Names (Some disks) unit passed → Names (Some disks) unit r
-  follow_Names disks (Ok x) (Ok y) follows names = tt
-  follow_Names disks (Ok x) (Err (Fault disk)) follows names = follows
-  follow_Names disks (Ok x) (Err Down) follows names = absurd follows
-  follow_Names disks (Err e) (Ok y) follows names = absurd follows
-  follow_Names disks (Err e) (Err g) follows names = subst (λ x. Names {T = T} (Some disks) unit (Err x)) (sym follows) names
+-- no count fell
+pub counted_grew : {T : Type 0} (unit : ℕ) (r : Result T ShelfError) (c d : ℕ → ℕ) → Noted unit r c d → (u : ℕ) → c u ≤ d u
+counted_grew unit (Ok x) c d counted u = omega (arith, counted.same u)
+counted_grew unit (Err (Fault disk)) c d counted u = elim (cases_eq u unit) [
+  | inl here ↦ subst (λ n. c n ≤ d n) (sym here) counted.rose.fell_not
+  | inr other ↦ omega (arith, counted.others u other)
+]
+counted_grew unit (Err Down) c d counted u = omega (arith, counted.same u)
 
-  pub follow_Works : (disks : Disks) (passed r : Result T ShelfError) → Follows unit passed r → OnOk passed (Works (Some disks) unit) → OnOk r (Works (Some disks) unit)
-  follow_Works disks (Ok x) (Ok y) follows works = works
-  follow_Works disks (Ok x) (Err e) follows works = tt
-  follow_Works disks (Err e) (Ok y) follows works = absurd follows
-  follow_Works disks (Err e) (Err g) follows works = tt
+-- the same of a rack that is known to be in memory, or in files
+pub in_memory_Goes : {T : Type 0} (files : Option DiskFiles) → files ≡ None → (c d : ℕ → ℕ) (a b : Meaning) (written : Values) (unit : ℕ) (r : Result T ShelfError) → Goes written a b
+    → Noted unit r c d → Goes written (host_meaning files c a) (host_meaning files d b)
+in_memory_Goes files is c d a b written unit r goes counted =
+    subst (λ f. Goes written (host_meaning f c a) (host_meaning f d b)) (sym is) (memory_Goes c d a b written goes (counted_grew unit r c d counted))
 
-  pub follow_Cause : (f : DiskFiles) (c d : ℕ → ℕ) (a b : Meaning) (disks : Disks) (passed r : Result T ShelfError) → Follows unit passed r → Cause a b unit passed
-      → Names (Some disks) unit passed → Counted unit r c d → Cause (host_meaning (Some f) c a) (host_meaning (Some f) d b) unit r
-  follow_Cause f c d a b disks (Ok x) (Ok y) follows cause names counted = record { before = cause.before; after = cause.after }
-  follow_Cause f c d a b disks (Ok x) (Err (Fault disk)) follows cause names counted =
-      (record { count = counted.rose; disk_count = subst (λ u. Rose (c u) (d u)) (sym follows) counted.rose }, record { before = cause.before; after = cause.after })
-  follow_Cause f c d a b disks (Ok x) (Err Down) follows cause names counted = absurd follows
-  follow_Cause f c d a b disks (Err e) (Ok y) follows cause names counted = absurd follows
-  follow_Cause f c d a b disks (Err e) (Err g) follows cause names counted =
-      host_Cause {T = T} (Some f) c d a b disks unit (Err g) (subst (λ x. Cause {T = T} a b unit (Err x)) (sym follows) cause) (subst (λ x. Names {T = T} (Some disks) unit (Err x)) (sym follows) names) counted
+pub in_files_disks : {T : Type 0} (files : Option DiskFiles) (f : DiskFiles) → files ≡ Some f → (c : ℕ → ℕ) (a : Meaning) (step untold : Disks → Disks → Type 0) (o n : Disks) (unit : ℕ)
+    (passed r : Result T ShelfError) → Follows unit passed r → Calls a step o n passed × ((u : ℕ) → n.failing u ≡ o.failing u)
+    → OnDisks (shown files (Some o)) (shown files (Some n)) (λ p q. Calls (host_meaning files c a) untold p q r)
+in_files_disks files f is c a step untold o n unit passed r follows calls =
+    subst (λ fs. OnDisks (shown fs (Some o)) (shown fs (Some n)) (λ p q. Calls (host_meaning fs c a) untold p q r)) (sym is)
+    (follow_Calls unit f c a step untold o n passed r follows calls.0, calls.1)

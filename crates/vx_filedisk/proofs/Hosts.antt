@@ -1,14 +1,13 @@
 -- What the shelf within a rack did, the rack did.
-use Rattle.std.proofs.Common.{◌≡◌, ◌≢◌, ◌∙◌, refl, sym, ap, subst, inl, inr, ⊎_elim, ℕ, ◌<◌, ◌≤◌, IsTrue, IsFalse, false, Option, None, Some, List, [], arith, length}
+use Rattle.std.proofs.Common.{◌≡◌, refl, sym, inl, ℕ, ◌≤◌, Option, None, Some, Result, Ok, Err, IfErr, arith}
 use Rattle.vx_disk.specs.Causes.{OnDisks}
-use Rattle.vx_disk.specs.Disks.{Crashed, Disks, Fresh, SameBlocks, Untouched}
-use Rattle.vx_disk.specs.Racks.{Alike, Fitted, SameContents, SameCounts, Stopped, Unfitted}
-use Rattle.vx_disk.specs.Shelf.{Flushed, Goes, Meaning, Nothing, Read, Values, Wrote}
+use Rattle.vx_disk.specs.Disks.{Crashed, Disks, SameBlocks, Untouched}
+use Rattle.vx_disk.specs.Racks.{Fitted, SameContents, Unfitted}
+use Rattle.vx_disk.specs.Shelf.{Goes, Meaning, Values}
 use Rattle.vx_disk.proofs.Alikes.{picked_stable}
 use Rattle.vx_model.specs.declared.errors.Stop.{Stop}
 use Rattle.vx_filedisk.specs.declared.files.DiskFiles.{DiskFiles}
-use Rattle.vx_filedisk.specs.Hosts.{blank, host_meaning, shown}
-use Rattle.vx_filedisk.specs.Laws.{never}
+use Rattle.vx_filedisk.specs.Hosts.{AsMany, blank, host_meaning, shown}
 
 -- a call on a shelf in memory
 module _ (c d : ℕ → ℕ) (a b : Meaning) where
@@ -28,43 +27,6 @@ module _ (c d : ℕ → ℕ) (a b : Meaning) where
     unarmed = goes.unarmed;
     safe = goes.safe;
   }
-
-  pub memory_Read : (unit block : ℕ) (bytes : List ℕ) → Read a unit block bytes → Read (host_meaning None c a) unit block bytes
-  memory_Read unit block bytes read = record { each = read.each }
-
-  pub memory_Wrote : (unit block : ℕ) (bytes : List ℕ) → Wrote unit block bytes a b → Wrote unit block bytes (host_meaning None c a) (host_meaning None d b)
-  memory_Wrote unit block bytes wrote = record { each = wrote.each }
-
-  pub memory_Flushed : (unit : ℕ) → Flushed unit a b → Flushed unit (host_meaning None c a) (host_meaning None d b)
-  memory_Flushed unit flushed = record { each = flushed.each }
-
--- a call on files, of whose contents nothing is told
-module _ (f : DiskFiles) (c d : ℕ → ℕ) (a b : Meaning) where
-  pub files_Goes : (passed written : Values) → Goes passed a b → ((u : ℕ) → c u ≤ d u) → Goes written (host_meaning (Some f) c a) (host_meaning (Some f) d b)
-  files_Goes passed written goes grew = record {
-    units = goes.units;
-    size = λ u. refl;
-    tells = refl;
-    reads = λ u b v is. absurd is;
-    leaves = λ u b v left. absurd left;
-    later = goes.later;
-    since = λ t i le left. absurd left;
-    keeps = λ t i le left. left;
-    faults = grew;
-    disk_faults = grew;
-    falls = goes.falls;
-    unarmed = goes.unarmed;
-    safe = goes.safe;
-  }
-
-  pub files_Read : (unit block : ℕ) (bytes : List ℕ) → Read (host_meaning (Some f) c a) unit block bytes
-  files_Read unit block bytes = record { each = λ tells. never tells }
-
-  pub files_Wrote : (unit block : ℕ) (bytes : List ℕ) → Wrote unit block bytes (host_meaning (Some f) c a) (host_meaning (Some f) d b)
-  files_Wrote unit block bytes = record { each = λ u b v is. absurd is }
-
-  pub files_Flushed : (unit : ℕ) → Flushed unit (host_meaning (Some f) c a) (host_meaning (Some f) d b)
-  files_Flushed unit = record { each = λ b v left. absurd left }
 
 pub blank_SameBlocks : (o n : Disks) → SameBlocks (blank o) (blank n)
 blank_SameBlocks o n = record { stable = λ u b. refl; latest = λ u b. refl; loose = λ u b. refl }
@@ -118,46 +80,6 @@ host_SameContents (Some f) c d a b same = record {
   keeps = λ t i is. is;
 }
 
-pub host_Alike : (files : Option DiskFiles) (c : ℕ → ℕ) (a b : Meaning) → Alike a b → Alike (host_meaning files c a) (host_meaning files c b)
-host_Alike files c a b alike = record {
-  contents = host_SameContents files c c a b alike.contents;
-  counts = record { faults = λ u. refl; disk_faults = λ u. refl };
-}
-
-pub host_Nothing : (files : Option DiskFiles) (c d : ℕ → ℕ) (a b : Meaning) → Goes Nothing a b → ((u : ℕ) → c u ≤ d u) → Goes Nothing (host_meaning files c a) (host_meaning files d b)
-host_Nothing None c d a b goes grew = memory_Goes c d a b Nothing goes grew
-host_Nothing (Some f) c d a b goes grew = files_Goes f c d a b Nothing Nothing goes grew
-
-pub host_Stopped : (files : Option DiskFiles) (c : ℕ → ℕ) (a b : Meaning) → Stopped a b → Stopped (host_meaning files c a) (host_meaning files c b)
-host_Stopped None c a b stopped = record {
-  units = stopped.units;
-  size = stopped.size;
-  tells = stopped.tells;
-  reads = stopped.reads;
-  leaves = stopped.leaves;
-  now = stopped.now;
-  later = stopped.later;
-  since = stopped.since;
-  keeps = stopped.keeps;
-  counts = record { faults = λ u. refl; disk_faults = λ u. refl };
-  down = stopped.down;
-  unarmed = stopped.unarmed;
-}
-host_Stopped (Some f) c a b stopped = record {
-  units = stopped.units;
-  size = λ u. refl;
-  tells = refl;
-  reads = λ u b v is. is;
-  leaves = λ u b v is. is;
-  now = λ i is. is;
-  later = stopped.later;
-  since = λ t i le is. is;
-  keeps = λ t i le is. is;
-  counts = record { faults = λ u. refl; disk_faults = λ u. refl };
-  down = stopped.down;
-  unarmed = stopped.unarmed;
-}
-
 pub host_Crashed : (files : Option DiskFiles) (c : ℕ → ℕ) (a : Meaning) (pick : ℕ) (o n : Option Disks) → OnDisks o n (Crashed a.size pick)
     → OnDisks (shown files o) (shown files n) (Crashed (host_meaning files c a).size pick)
 host_Crashed None c a pick o n crashed = crashed
@@ -165,3 +87,42 @@ host_Crashed (Some f) c a pick None None crashed = tt
 host_Crashed (Some f) c a pick None (Some n) crashed = crashed
 host_Crashed (Some f) c a pick (Some o) None crashed = crashed
 host_Crashed (Some f) c a pick (Some o) (Some n) crashed = (blank_Crashed a.size (λ u. f.blocks) pick o n crashed.0, crashed.1)
+
+-- a rack that is not fitted is one in memory
+pub bare_None : (files : Option DiskFiles) (m : Meaning) → AsMany files m → m.units ≡ 0 → files ≡ None
+bare_None None m many bare = refl
+bare_None (Some f) m many bare = absurd (omega (arith, (many f refl).1, bare))
+
+pub memory_Fitted : (c : ℕ → ℕ) (a b : Meaning) (disks blocks : ℕ) → Fitted disks blocks a b → Fitted disks blocks (host_meaning None c a) (host_meaning None c b)
+memory_Fitted c a b disks blocks fitted = record {
+  units = fitted.units;
+  size = fitted.size;
+  zero_reads = fitted.zero_reads;
+  zeroed = fitted.zeroed;
+  later = fitted.later;
+  since = fitted.since;
+  faults = λ u. omega arith;
+  disk_faults = λ u. omega arith;
+  up = fitted.up;
+  armed = fitted.armed;
+  told = fitted.told;
+}
+
+-- where a fit stopped and no count rose
+pub host_Unfitted : (files : Option DiskFiles) (c : ℕ → ℕ) (a b : Meaning) (stop other : Stop) → Unfitted a b stop → Unfitted (host_meaning files c a) (host_meaning files c b) other
+host_Unfitted files c a b stop other bare = record {
+  contents = host_SameContents files c c a b bare.contents;
+  counts = λ d. inl refl;
+  fell_not = λ d. omega arith;
+  down = bare.down;
+  armed = bare.armed;
+  told = host_Untouched files _ _ bare.told;
+}
+
+pub same_err : {T : Type 0} (files : Option DiskFiles) (c : ℕ → ℕ) (a b : Meaning) (r : Result T Stop) → IfErr r (Unfitted a b) → IfErr r (Unfitted (host_meaning files c a) (host_meaning files c b))
+same_err files c a b (Ok x) bare = tt
+same_err files c a b (Err stop) bare = host_Unfitted files c a b stop stop bare
+
+pub any_err : {T : Type 0} (files : Option DiskFiles) (c : ℕ → ℕ) (a b : Meaning) (stop : Stop) (r : Result T Stop) → Unfitted a b stop → IfErr r (Unfitted (host_meaning files c a) (host_meaning files c b))
+any_err files c a b stop (Ok x) bare = tt
+any_err files c a b stop (Err other) bare = host_Unfitted files c a b stop other bare

@@ -19,7 +19,7 @@ pub record Kept (old new : ℕ → ℕ) : Type 0 where
   pub same : (d : ℕ) → new d ≡ old d
 
 -- a call on the disk was counted exactly where it was answered with a fault
-abbrev pub Counted : {T : Type 0} → ℕ → Result T ShelfError → (ℕ → ℕ) → (ℕ → ℕ) → Type 0
-Counted disk (Ok _) old new = Kept old new
-Counted disk (Err (Fault named)) old new = Raised disk old new
-Counted disk (Err Down) old new = Kept old new
+abbrev pub Noted : {T : Type 0} → ℕ → Result T ShelfError → (ℕ → ℕ) → (ℕ → ℕ) → Type 0
+Noted disk (Ok _) old new = Kept old new
+Noted disk (Err (Fault named)) old new = Raised disk old new
+Noted disk (Err Down) old new = Kept old new

@@ -1,5 +1,5 @@
 -- What a rack in memory or in files means, by the shelf in memory within it.
-use Rattle.std.specs.Prelude.{◌≡◌, ℕ, ◌<◌, ◌≤◌, Bool, false, Option, None, Some, List, [], length}
+use Rattle.std.specs.Prelude.{◌≡◌, ℕ, ◌<◌, ◌≤◌, Bool, false, Option, None, Some, [], length}
 use Rattle.std.specs.Option.{ForSome}
 use Rattle.vx_disk.specs.Disks.{Disks}
 use Rattle.vx_disk.specs.Shelf.{Image, Meaning, Values}

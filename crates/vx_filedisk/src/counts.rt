@@ -1,7 +1,7 @@
 // The failed calls on each of a rack's disks.
 ghost use Rattle.std.specs.Prelude.{◌≡◌, ◌≢◌, ◌<◌, ℕ};
 ghost use Rattle.vx_disk.specs.Counts.{Rose};
-ghost use Rattle.vx_filedisk.specs.Counting.{Counted, counts_of};
+ghost use Rattle.vx_filedisk.specs.Counting.{Noted, counts_of};
 
 use vx_disk::ShelfError;
 
@@ -40,7 +40,7 @@ impl Counts {
     /// A call on the disk was answered so.
     pub fn note(&mut self, disk: u32, answer: &Result<(), ShelfError>)
         requires { disk < 8 }
-        ensures { Counted disk answer.now (counts_of self.old) (counts_of self.new) }
+        ensures { Noted disk answer.now (counts_of self.old) (counts_of self.new) }
     {
         if let Err(ShelfError::Fault { disk: _ }) = answer {
             self.raise(disk);

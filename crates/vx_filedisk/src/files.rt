@@ -29,7 +29,10 @@ impl DiskFiles {
         ensures { Follows unit passed result }
     {
         passed?;
-        told(unit, self.files[unit as usize].read_exact_at(into, 512 * block))
+        told(
+            unit,
+            self.files[unit as usize].read_exact_at(into, 512 * block),
+        )
     }
 
     /// Writes whole blocks, where the call may pass.
@@ -45,7 +48,10 @@ impl DiskFiles {
         ensures { Follows unit passed result }
     {
         passed?;
-        told(unit, self.files[unit as usize].write_all_at(bytes, 512 * block))
+        told(
+            unit,
+            self.files[unit as usize].write_all_at(bytes, 512 * block),
+        )
     }
 
     /// Brings to the device what was written, where the call may pass.

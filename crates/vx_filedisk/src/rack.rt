@@ -1,11 +1,15 @@
 // The calls of a shelf and of a rack on the disks of a site.
-ghost use Rattle.std.specs.Prelude.{◌≡◌, ◌≤◌, ◌<◌, IsFalse, Err, OnOk, IfErr, Some};
+ghost use Rattle.std.specs.Prelude.{◌≡◌, ◌≤◌, ◌<◌, IsFalse, Err, OnOk, OnSome, IfErr, length};
 ghost use Rattle.vx_model.specs.declared.errors.Stop.TheVariants.{No as Refused};
 ghost use Rattle.vx_model.specs.declared.no.Counted.TheVariants.{Disks, Blocks};
 ghost use Rattle.vx_model.specs.declared.no.No.TheVariants.{Limit};
-ghost use Rattle.vx_disk.specs.Racks.{Fitted, FitStops, Unfitted};
+ghost use Rattle.vx_disk.specs.Causes.{Calls, Cause, Names, OnDisks, Works};
+ghost use Rattle.vx_disk.specs.Disks.{Untouched};
+ghost use Rattle.vx_disk.specs.Racks.{Fitted, FitStops, Telling, Unfitted, most_blocks};
+ghost use Rattle.vx_disk.specs.Shelf.{DisksFlushed, DisksWrote, Fits, Flushed, Goes, Nothing, Read, Written, Wrote};
+ghost use Rattle.vx_filedisk.specs.Counting.{Kept, Noted};
+ghost use Rattle.vx_filedisk.specs.Laws.{rack-IsRack, rack-Lawful};
 ghost use Rattle.vx_filedisk.specs.Meanings.{rack_meaning};
-ghost use Rattle.vx_filedisk.specs.Laws.{rack-Lawful, rack-IsRack};
 
 use crate::HostRack;
 use crate::files::DiskFiles;
@@ -30,7 +34,17 @@ impl Shelf for HostRack {
         }
     }
 
-    fn read(&mut self, unit: u32, block: u64, into: &mut [u8]) -> Result<(), ShelfError> {
+    fn read(&mut self, unit: u32, block: u64, into: &mut [u8]) -> Result<(), ShelfError>
+        requires { Fits (⟦<HostRack as Shelf>⟧.meaning self.old) unit block (length into.old) }
+        ensures goes { Goes Nothing (⟦<HostRack as Shelf>⟧.meaning self.old) (⟦<HostRack as Shelf>⟧.meaning self.new) }
+        ensures ok { OnOk result (Read (⟦<HostRack as Shelf>⟧.meaning self.old) unit block into.new) }
+        ensures down { (⟦<HostRack as Shelf>⟧.meaning self.new).down ≡ (⟦<HostRack as Shelf>⟧.meaning self.old).down }
+        ensures cause { Cause (⟦<HostRack as Shelf>⟧.meaning self.old) (⟦<HostRack as Shelf>⟧.meaning self.new) unit result }
+        ensures names { Names (⟦<HostRack as Shelf>⟧.meaning self.old).disks unit result }
+        ensures works { OnOk result (Works (⟦<HostRack as Shelf>⟧.meaning self.old).disks unit) }
+        ensures disks { OnDisks (⟦<HostRack as Shelf>⟧.meaning self.old).disks (⟦<HostRack as Shelf>⟧.meaning self.new).disks Untouched }
+        ensures counted { Noted unit result (⟦<HostRack as Shelf>⟧.meaning self.old).faults (⟦<HostRack as Shelf>⟧.meaning self.new).faults }
+    {
         let Some(files) = &self.files else {
             let answer = self.memory.read(unit, block, into);
             self.counts.note(unit, &answer);
@@ -42,7 +56,16 @@ impl Shelf for HostRack {
         answer
     }
 
-    fn write(&mut self, unit: u32, block: u64, bytes: &[u8]) -> Result<(), ShelfError> {
+    fn write(&mut self, unit: u32, block: u64, bytes: &[u8]) -> Result<(), ShelfError>
+        requires { Fits (⟦<HostRack as Shelf>⟧.meaning self.old) unit block (length bytes.now) }
+        ensures goes { Goes (Written unit block bytes.now) (⟦<HostRack as Shelf>⟧.meaning self.old) (⟦<HostRack as Shelf>⟧.meaning self.new) }
+        ensures ok { OnOk result (Wrote unit block bytes.now (⟦<HostRack as Shelf>⟧.meaning self.old) (⟦<HostRack as Shelf>⟧.meaning self.new)) }
+        ensures cause { Cause (⟦<HostRack as Shelf>⟧.meaning self.old) (⟦<HostRack as Shelf>⟧.meaning self.new) unit result }
+        ensures names { Names (⟦<HostRack as Shelf>⟧.meaning self.old).disks unit result }
+        ensures works { OnOk result (Works (⟦<HostRack as Shelf>⟧.meaning self.old).disks unit) }
+        ensures disks { OnDisks (⟦<HostRack as Shelf>⟧.meaning self.old).disks (⟦<HostRack as Shelf>⟧.meaning self.new).disks (λ o n. Calls (⟦<HostRack as Shelf>⟧.meaning self.old) (DisksWrote unit block bytes.now) o n result) }
+        ensures counted { Noted unit result (⟦<HostRack as Shelf>⟧.meaning self.old).faults (⟦<HostRack as Shelf>⟧.meaning self.new).faults }
+    {
         let Some(files) = &self.files else {
             let answer = self.memory.write(unit, block, bytes);
             self.counts.note(unit, &answer);
@@ -54,7 +77,16 @@ impl Shelf for HostRack {
         answer
     }
 
-    fn flush(&mut self, unit: u32) -> Result<(), ShelfError> {
+    fn flush(&mut self, unit: u32) -> Result<(), ShelfError>
+        requires { unit < (⟦<HostRack as Shelf>⟧.meaning self.old).units }
+        ensures goes { Goes Nothing (⟦<HostRack as Shelf>⟧.meaning self.old) (⟦<HostRack as Shelf>⟧.meaning self.new) }
+        ensures ok { OnOk result (Flushed unit (⟦<HostRack as Shelf>⟧.meaning self.old) (⟦<HostRack as Shelf>⟧.meaning self.new)) }
+        ensures cause { Cause (⟦<HostRack as Shelf>⟧.meaning self.old) (⟦<HostRack as Shelf>⟧.meaning self.new) unit result }
+        ensures names { Names (⟦<HostRack as Shelf>⟧.meaning self.old).disks unit result }
+        ensures works { OnOk result (Works (⟦<HostRack as Shelf>⟧.meaning self.old).disks unit) }
+        ensures disks { OnDisks (⟦<HostRack as Shelf>⟧.meaning self.old).disks (⟦<HostRack as Shelf>⟧.meaning self.new).disks (λ o n. Calls (⟦<HostRack as Shelf>⟧.meaning self.old) (DisksFlushed unit) o n result) }
+        ensures counted { Noted unit result (⟦<HostRack as Shelf>⟧.meaning self.old).faults (⟦<HostRack as Shelf>⟧.meaning self.new).faults }
+    {
         let Some(files) = &self.files else {
             let answer = self.memory.flush(unit);
             self.counts.note(unit, &answer);
@@ -85,7 +117,20 @@ impl Rack for HostRack {
         site: u32,
         disks: u32,
         blocks: u64,
-    ) -> Result<(), Stop> {
+    ) -> Result<(), Stop>
+        requires unfitted { (⟦<HostRack as Shelf>⟧.meaning self.old).units ≡ 0 }
+        requires some_disks { 1 ≤ disks }
+        requires some_blocks { 8 ≤ blocks }
+        requires up { IsFalse (⟦<HostRack as Shelf>⟧.meaning self.old).down }
+        ensures fitted { OnOk result (Fitted disks blocks (⟦<HostRack as Shelf>⟧.meaning self.old) (⟦<HostRack as Shelf>⟧.meaning self.new)) }
+        ensures tells { Telling dir.entry (⟦<HostRack as Shelf>⟧.meaning self.old) (⟦<HostRack as Shelf>⟧.meaning self.new) }
+        ensures many_disks { 8 < disks → result ≡ Err (Refused (Limit Disks 8)) }
+        ensures many_blocks { disks ≤ 8 → most_blocks dir.entry < blocks → result ≡ Err (Refused (Limit Blocks (most_blocks dir.entry))) }
+        ensures stops { disks ≤ 8 → blocks ≤ most_blocks dir.entry → IfErr result (FitStops disks (⟦<HostRack as Shelf>⟧.meaning self.old) (⟦<HostRack as Shelf>⟧.meaning self.new)) }
+        ensures unchanged { IfErr result (Unfitted (⟦<HostRack as Shelf>⟧.meaning self.old) (⟦<HostRack as Shelf>⟧.meaning self.new)) }
+        ensures untold { OnOk result (OnSome dir.entry (IsFalse (⟦<HostRack as Shelf>⟧.meaning self.new).tells)) }
+        ensures kept { OnOk result (Kept (⟦<HostRack as Shelf>⟧.meaning self.old).faults (⟦<HostRack as Shelf>⟧.meaning self.new).faults) }
+    {
         match dir {
             None => self.memory.fit(alloc, None, site, disks, blocks),
             Some(dir) => self.fit_files(alloc, dir, site, disks, blocks),
@@ -124,6 +169,7 @@ impl HostRack {
         requires up { IsFalse (rack_meaning self.old).down }
         ensures fitted { OnOk result (Fitted disks blocks (rack_meaning self.old) (rack_meaning self.new)) }
         ensures untold { OnOk result (IsFalse (rack_meaning self.new).tells) }
+        ensures kept { OnOk result (Kept (rack_meaning self.old).faults (rack_meaning self.new).faults) }
         ensures many_disks { 8 < disks → result ≡ Err (Refused (Limit Disks 8)) }
         ensures many_blocks { disks ≤ 8 → 4194304 < blocks → result ≡ Err (Refused (Limit Blocks 4194304)) }
         ensures stops { disks ≤ 8 → blocks ≤ 4194304 → IfErr result (FitStops disks (rack_meaning self.old) (rack_meaning self.new)) }
