@@ -38,9 +38,7 @@ impl<R: Rack> Yard<R> {
                 volume,
                 block,
                 bytes,
-            } if bytes.as_bytes().len() == 512 => {
-                Ok(self.put_line(site, volume, *block, bytes))
-            }
+            } if bytes.as_bytes().len() == 512 => { Ok(self.put_line(site, volume, *block, bytes)) }
             ScriptLine::Read {
                 site,
                 volume,

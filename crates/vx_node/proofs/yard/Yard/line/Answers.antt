@@ -1,5 +1,5 @@
 -- A line, answered and sent.
-use Rattle.std.proofs.Common.{◌≡◌, ◌∙◌, ◌++◌, inr, ap, sym, subst}
+use Rattle.std.proofs.Common.{◌∙◌, ◌++◌, inr, ap, sym}
 use Rattle.vx_node.specs.Replies.{text_of}
 use Rattle.vx_stream.proofs.SendLemmas.{appends_none}
 use Rattle.vx_node.proofs.Answering.{steps_of}
@@ -11,6 +11,12 @@ returns-in_default-push_said-clause-line g c = λ w stands.
 
 pub returns-clause-line : goal.returns-clause-line
 returns-clause-line g c = λ w stands.
-    let bytes = c.in-Err.ensures.bytes in
-    (text_of c.in-Ok.said, bytes.0, bytes.1, steps_of w c.args.words.now c.args.self.now c.answer.new.self c.in-Ok.said (c.in-Ok.ensures.answers w stands),
-      sym (c.deref.ensures.value ∙ c.in-Ok-push_said.ensures ∙ ap (λ xs. xs ++ text_of c.in-Ok.said) c.new-text.ensures.items) ∙ bytes.2, bytes.3, bytes.4)
+    let bytes = c.in-Err.ensures.bytes in (
+      text_of c.in-Ok.said,
+      bytes.0,
+      bytes.1,
+      steps_of w c.args.words.now c.args.self.now c.answer.new.self c.in-Ok.said (c.in-Ok.ensures.answers w stands),
+      sym (c.deref.ensures.value ∙ c.in-Ok-push_said.ensures ∙ ap (λ xs. xs ++ text_of c.in-Ok.said) c.new-text.ensures.items) ∙ bytes.2,
+      bytes.3,
+      bytes.4,
+    )

@@ -1,5 +1,5 @@
 -- The work of a line that no test refuses.
-use Rattle.std.proofs.Common.{◌≡◌, ◌≤◌, ap, sym, subst}
+use Rattle.std.proofs.Common.{subst}
 use Rattle.vx_node.specs.Working.{IsFree}
 use Rattle.vx_node.specs.Yards.{in_files}
 use Rattle.vx_node.proofs.Refused.{site_may}
