@@ -36,7 +36,7 @@ run_told f files w (line ∷ lines) (fails ∷ failures) (text ∷ texts) new ru
 
 said_good : (told : Type 0) (files : Bool) (w : World) (r : Result (Option ScriptLine) ℕ) (fails : Fails) (text : List ℕ) (new : World) → Good w → SaidStep told files w r fails text new → Good new
 said_good told files w (Ok None) fails text new good step = subst Good (sym step.2) good
-said_good told files w (Ok (Some line)) fails text new good step = step_good told files w line fails text new good step
+said_good told files w (Ok (Some line)) fails text new good step = step_good files w line fails text new good step
 said_good told files w (Err column) fails text new good step = absurd step
 
 -- each world of a run is good

@@ -1,18 +1,18 @@
 -- The racks as they come back from their engines.
-use Rattle.std.proofs.Common.{◌≡◌, ◌∙◌, ◌+◌, ◌-◌, ◌<◌, ◌≤◌, ◌++◌, ℕ, zero, suc, List, [], ◌∷◌, length, ap, sym, subst, refl, arith, IsTrue, get_or}
+use Rattle.std.proofs.Common.{◌≡◌, ◌∙◌, ◌+◌, ◌-◌, ◌<◌, ℕ, zero, suc, List, [], ◌∷◌, length, ap, sym, subst, refl, arith, IsTrue}
 use Rattle.std.specs.Prelude.{Option, Some, None, slice_get}
 use Rattle.std.specs.Option.{option_and_then}
 use Rattle.vx_model.specs.World.{Node, World}
 use Rattle.vx_model.specs.declared.site.SiteState.TheVariants.{Bare as IsBare, Up as IsUp}
-use Rattle.vx_disk.specs.Shelf.{Meaning, Lawful, Image}
+use Rattle.vx_disk.specs.Shelf.{Meaning, Lawful}
 use Rattle.vx_disk.specs.declared.shelf.Shelf.{Ghosts}
 use Rattle.vx_rvg.specs.Views.{Core, unit_of}
 use Rattle.vx_node.specs.declared.engine.Engine.{Engine}
 use Rattle.vx_node.specs.declared.engine.Engine.TheVariants.{Bare, Up, Gone}
-use Rattle.vx_node.specs.Holds.{Holds, HasContent, RacksHold, RacksTell, rack_count, rack_faults}
-use Rattle.vx_node.specs.Racks.{rack_in, racks_in}
-use Rattle.vx_node.specs.Stands.{EnginesStand, StandsAt, IsUnused, IsUpAt, IsToldAt, AreTold, fault_count, faults_of, raw_units}
-use Rattle.vx_node.proofs.Values.{slice_index-values_from, length-values_from}
+use Rattle.vx_node.specs.Holds.{Holds, RacksHold, RacksTell, rack_count, rack_faults}
+use Rattle.vx_node.specs.Racks.{racks_in}
+use Rattle.vx_node.specs.Stands.{EnginesStand, StandsAt, IsUnused, IsUpAt, IsToldAt, AreTold, fault_count, faults_of}
+use Rattle.vx_node.proofs.Values.{slice_index-values_from}
 use Rattle.vx_node.proofs.Engines.{up_volumes}
 use Rattle.vx_model.specs.declared.units.Units.{Units}
 use Rattle.std.proofs.lemmas.Bool.{cases_lt}
@@ -21,15 +21,15 @@ use Rattle.std.proofs.Common.{⊎_elim}
 -- a site that is up holds its content
 pub up_holds : (n : Node) (c : Core) (m : Meaning) → Lawful m → IsUpAt n c m → Holds n m
 up_holds n c m lawful up = record {
-    content = λ _ running i now. record {
-      each = λ v b there below.
+  content = λ _ running i now. record {
+    each = λ v b there below.
         let in_set : v < n.disks - 2 = omega (arith, there, up.volumes) in
         let in_list : v < length c.units.vols = omega (arith, in_set, up_volumes n c m up) in
         let unit : unit_of c.units.vols v ≡ v + 1 = at_unit v in_set in
         subst (λ (u : ℕ). i u b ≡ n.base.block v b) unit
-          (((up.content running).blocks v b in_list below).only (i (unit_of c.units.vols v) b) (lawful.within i now (unit_of c.units.vols v) b));
-    };
-  }
+        (((up.content running).blocks v b in_list below).only (i (unit_of c.units.vols v) b) (lawful.within i now (unit_of c.units.vols v) b));
+  };
+}
   where
     at_unit : (v : ℕ) → v < n.disks - 2 → unit_of c.units.vols v ≡ v + 1
     at_unit v in_set =
@@ -107,9 +107,9 @@ module _ {R : Type 0} {g : Ghosts R} where
 
   pub racks_hold : (lawful : (r : R) → Lawful (g.meaning r)) (w : World) (es : List (Engine R g)) → EnginesStand w es → RacksHold g.meaning w (racks_in es)
   racks_hold lawful w es stand = record {
-      eight = length-racks_in es (engines_there w es stand) ∙ stand.eight;
-      each = λ s r below at. site_holds lawful (w.nodes s) (slice_get es s) r (λ e is. stand.sites s e below is) (sym (slice_get-racks_in es (engines_there w es stand) s) ∙ at);
-    }
+    eight = length-racks_in es (engines_there w es stand) ∙ stand.eight;
+    each = λ s r below at. site_holds lawful (w.nodes s) (slice_get es s) r (λ e is. stand.sites s e below is) (sym (slice_get-racks_in es (engines_there w es stand) s) ∙ at);
+  }
 
   tells_at : (e : Engine R g) → IsThere e → ((r : R) → rack_of e ≡ Some r → IsTrue (g.meaning r).tells) → IsToldAt e
   tells_at (Bare rack) there f = f rack refl
@@ -118,7 +118,7 @@ module _ {R : Type 0} {g : Ghosts R} where
 
   pub racks_tell : (w : World) (es : List (Engine R g)) → EnginesStand w es → RacksTell g.meaning (racks_in es) → AreTold es
   racks_tell w es stand tell = record {
-      each = λ s e at. tells_at e
+    each = λ s e at. tells_at e
         (⊎_elim (λ below. stands_there (w.nodes s) e (stand.sites s e below at)) (λ past. unused_there e (stand.others s e past at)) (cases_lt s w.sites))
         (λ r is. tell.each s r (slice_get-racks_in es (engines_there w es stand) s ∙ ap (λ (x : Option (Engine R g)). option_and_then rack_of x) at ∙ is));
-    }
+  }

@@ -1,24 +1,23 @@
 -- How the tests' facts, the engines and the counts follow a change of one site.
-use Rattle.std.proofs.Common.{◌≡◌, ◌∙◌, ◌+◌, ◌-◌, ◌^◌, ◌<◌, ◌≤◌, ℕ, zero, suc, List, [], ◌∷◌, ◌++◌, length, ap, sym, subst, refl, arith, ⊎_elim, inl, inr, ◌⊎◌, Bool, true, false}
-use Rattle.std.specs.Prelude.{Option, Some, None, slice_get, slice_set, eqb, ◌&&◌, min}
-use Rattle.std.proofs.lemmas.Bool.{cases_eq, cases_lt}
+use Rattle.std.proofs.Common.{◌≡◌, ◌∙◌, ◌+◌, ◌-◌, ◌^◌, ◌<◌, ◌≤◌, ℕ, zero, suc, List, [], ◌∷◌, ◌++◌, length, ap, sym, subst, refl, arith, ⊎_elim}
+use Rattle.std.specs.Prelude.{Option, Some, slice_get, slice_set, eqb}
+use Rattle.std.proofs.lemmas.Bool.{cases_eq}
 use Rattle.std.proofs.lemmas.Bool.Decides.{nat_tests}
 use Rattle.std.proofs.lemmas.Option.{slice_get_within}
 use Rattle.vx_model.specs.Content.{Write}
-use Rattle.vx_model.specs.World.{Node, World, updated, bare_site}
-use Rattle.vx_model.specs.Steps.{logged, raw_set, raw_volumes}
-use Rattle.vx_model.proofs.Updates.{by_test, at_place, eqb_equal, eqb_apart}
+use Rattle.vx_model.specs.World.{Node, World, updated}
+use Rattle.vx_model.specs.Steps.{logged}
+use Rattle.vx_model.proofs.Updates.{by_test, at_place, eqb_equal}
 use Rattle.vx_model.specs.declared.site.SiteState.{SiteState}
 use Rattle.vx_model.specs.declared.site.SiteState.TheVariants.{Bare as IsBare, Up as IsUp, Deported, Down}
 use Rattle.vx_disk.specs.Counts.{Rose}
 use Rattle.vx_disk.specs.declared.shelf.Shelf.{Ghosts}
 use Rattle.vx_order.specs.declared.facts.SiteFacts.{SiteFacts}
 use Rattle.vx_node.specs.declared.engine.Engine.{Engine}
-use Rattle.vx_node.specs.Changes.{bare_facts, raw_facts, last_facts, last_group, halted_facts, halted_group}
+use Rattle.vx_node.specs.Changes.{last_facts, last_group, halted_facts, halted_group}
 use Rattle.vx_node.specs.Engines.{Later, halted_with}
-use Rattle.vx_node.specs.Facts.{site_fact, facts_of, group_by, values_from, volume_fact}
+use Rattle.vx_node.specs.Facts.{site_fact, group_by, values_from}
 use Rattle.vx_node.specs.Stands.{EnginesStand, StandsAt, IsUnused, AreTold, IsToldAt, RoseAll, RoseBy, faults_of, faults_at, fault_count, times}
-use Rattle.vx_node.specs.Steps.{Fails}
 use Rattle.vx_node.proofs.Lists.{get-set_same, get-set_other, length-set, values_from-set}
 use Rattle.vx_node.proofs.Values.{values_from-push}
 
@@ -30,8 +29,8 @@ pub facts-updated : (nodes : ℕ → Node) (sites s : ℕ) (n : Node) → values
 facts-updated nodes sites s n =
     let start : 0 + s ≡ s = omega arith in
     values_from-set (λ i. site_fact (nodes i)) (λ i. site_fact (updated nodes s n i)) 0 sites s (site_fact n)
-      (ap (λ (i : ℕ). site_fact (updated nodes s n i)) start ∙ ap site_fact (at_place nodes s n))
-      (λ j apart. ap site_fact (updated_other nodes s j n (λ e. apart (e ∙ sym start))))
+    (ap (λ (i : ℕ). site_fact (updated nodes s n i)) start ∙ ap site_fact (at_place nodes s n))
+    (λ j apart. ap site_fact (updated_other nodes s j n (λ e. apart (e ∙ sym start))))
 
 -- the facts with one site more
 pub facts-made : (nodes : ℕ → Node) (sites : ℕ) (n : Node) → values_from (λ i. site_fact (updated nodes sites n i)) 0 (sites + 1) ≡ values_from (λ i. site_fact (nodes i)) 0 sites ++ site_fact n ∷ []
@@ -92,21 +91,21 @@ rose_one s d old new later rose = record { each = each }
   where
     each : (s' d' : ℕ) → RoseBy (times ((s, d) ∷ []) s' d') (old s' d') (new s' d')
     each s' d' = ⊎_elim
-      (λ (same_site : s ≡ s'). ⊎_elim
+        (λ (same_site : s ≡ s'). ⊎_elim
         (λ (same_disk : d ≡ d'). rose_here (times ((s, d) ∷ []) s' d') (old s' d') (new s' d') (one_time s d s' d')
-          (subst (λ (i : ℕ). Rose (old i d') (new i d')) same_site (subst (λ (j : ℕ). Rose (old s j) (new s j)) same_disk rose)))
+        (subst (λ (i : ℕ). Rose (old i d') (new i d')) same_site (subst (λ (j : ℕ). Rose (old s j) (new s j)) same_disk rose)))
         (λ apart. rose_else (times ((s, d) ∷ []) s' d') (old s' d') (new s' d') (other_disk s d s' d' apart) (later s' d'))
         (cases_eq d d'))
-      (λ apart. rose_else (times ((s, d) ∷ []) s' d') (old s' d') (new s' d') (other_site s d s' d' apart) (later s' d'))
-      (cases_eq s s')
+        (λ apart. rose_else (times ((s, d) ∷ []) s' d') (old s' d') (new s' d') (other_site s d s' d' apart) (later s' d'))
+        (cases_eq s s')
 
 module _ {R : Type 0} {g : Ghosts R} where
   -- the counts with another engine in the place of one
   pub counts_later : (es : List (Engine R g)) (s : ℕ) (e new : Engine R g) → slice_get es s ≡ Some e → Later e new → (s' d : ℕ) → faults_of es s' d ≤ faults_of (slice_set es s new) s' d
   counts_later es s e new at later s' d = ⊎_elim
-    (λ is. subst (λ (k : ℕ). faults_of es k d ≤ faults_of (slice_set es s new) k d) (sym is) here)
-    (λ apart. omega (arith, ap (λ (x : Option (Engine R g)). fault_count x d) (get-set_other es s s' new apart)))
-    (cases_eq s' s)
+      (λ is. subst (λ (k : ℕ). faults_of es k d ≤ faults_of (slice_set es s new) k d) (sym is) here)
+      (λ apart. omega (arith, ap (λ (x : Option (Engine R g)). fault_count x d) (get-set_other es s s' new apart)))
+      (cases_eq s' s)
     where
       here : faults_of es s d ≤ faults_of (slice_set es s new) s d
       here = omega (arith, later.counts d, ap (λ (x : Option (Engine R g)). fault_count x d) at, ap (λ (x : Option (Engine R g)). fault_count x d) (get-set_same es s new (slice_get_within es s e at)))
@@ -114,7 +113,7 @@ module _ {R : Type 0} {g : Ghosts R} where
   pub counts_rose : (es : List (Engine R g)) (s d : ℕ) (e new : Engine R g) → slice_get es s ≡ Some e → Rose (faults_at e d) (faults_at new d) → Rose (faults_of es s d) (faults_of (slice_set es s new) s d)
   counts_rose es s d e new at rose =
       subst (λ (a : ℕ). Rose a (faults_of (slice_set es s new) s d)) (sym (ap (λ (x : Option (Engine R g)). fault_count x d) at))
-        (subst (λ (b : ℕ). Rose (faults_at e d) b) (sym (ap (λ (x : Option (Engine R g)). fault_count x d) (get-set_same es s new (slice_get_within es s e at)))) rose)
+      (subst (λ (b : ℕ). Rose (faults_at e d) b) (sym (ap (λ (x : Option (Engine R g)). fault_count x d) (get-set_same es s new (slice_get_within es s e at)))) rose)
 
   pub told_before : (es : List (Engine R g)) (s : ℕ) (e new : Engine R g) → slice_get es s ≡ Some e → Later e new → AreTold (slice_set es s new) → AreTold es
   told_before es s e new at later told = record { each = each }
@@ -124,19 +123,19 @@ module _ {R : Type 0} {g : Ghosts R} where
 
       each : (s' : ℕ) (e' : Engine R g) → slice_get es s' ≡ Some e' → IsToldAt e'
       each s' e' at' = ⊎_elim
-        (λ is. subst IsToldAt (same (sym at ∙ ap (slice_get es) (sym is) ∙ at')) (later.told (told.each s new (get-set_same es s new (slice_get_within es s e at)))))
-        (λ apart. told.each s' e' (get-set_other es s s' new apart ∙ at'))
-        (cases_eq s' s)
+          (λ is. subst IsToldAt (same (sym at ∙ ap (slice_get es) (sym is) ∙ at')) (later.told (told.each s new (get-set_same es s new (slice_get_within es s e at)))))
+          (λ apart. told.each s' e' (get-set_other es s s' new apart ∙ at'))
+          (cases_eq s' s)
 
   -- the engines with another one in the place of a site's, which then stands for this node
   pub engines_set : (w w' : World) (es : List (Engine R g)) (s : ℕ) (n : Node) (new : Engine R g) → w'.sites ≡ w.sites → ((k : ℕ) → w'.nodes k ≡ updated w.nodes s n k) → s < w.sites
       → EnginesStand w es → StandsAt n new → EnginesStand w' (slice_set es s new)
   engines_set w w' es s n new sites nodes there stand at = record {
-      eight = length-set es s new ∙ stand.eight;
-      few = omega (arith, stand.few, sites);
-      sites = λ k e below is. subst (λ (m : Node). StandsAt m e) (sym (nodes k)) (site k e (omega (arith, below, sites)) is);
-      others = λ k e past is. stand.others k e (omega (arith, past, sites)) (sym (get-set_other es s k new (λ e. omega (arith, past, sites, e))) ∙ is);
-    }
+    eight = length-set es s new ∙ stand.eight;
+    few = omega (arith, stand.few, sites);
+    sites = λ k e below is. subst (λ (m : Node). StandsAt m e) (sym (nodes k)) (site k e (omega (arith, below, sites)) is);
+    others = λ k e past is. stand.others k e (omega (arith, past, sites)) (sym (get-set_other es s k new (λ e. omega (arith, past, sites, e))) ∙ is);
+  }
     where
       same : {a b : Engine R g} → Some a ≡ Some b → a ≡ b
       same e = cc
@@ -146,21 +145,21 @@ module _ {R : Type 0} {g : Ghosts R} where
 
       site : (k : ℕ) (e : Engine R g) → k < w.sites → slice_get (slice_set es s new) k ≡ Some e → StandsAt (updated w.nodes s n k) e
       site k e below is = ⊎_elim
-        (λ same_site. subst (λ (j : ℕ). StandsAt (updated w.nodes s n j) e) (sym same_site)
+          (λ same_site. subst (λ (j : ℕ). StandsAt (updated w.nodes s n j) e) (sym same_site)
           (subst (λ (m : Node). StandsAt m e) (sym (at_place w.nodes s n))
-            (subst (StandsAt n) (same (sym (get-set_same es s new inside) ∙ ap (slice_get (slice_set es s new)) (sym same_site) ∙ is)) at)))
-        (λ apart. subst (λ (m : Node). StandsAt m e) (sym (updated_other w.nodes s k n apart)) (stand.sites k e below (sym (get-set_other es s k new apart) ∙ is)))
-        (cases_eq k s)
+          (subst (StandsAt n) (same (sym (get-set_same es s new inside) ∙ ap (slice_get (slice_set es s new)) (sym same_site) ∙ is)) at)))
+          (λ apart. subst (λ (m : Node). StandsAt m e) (sym (updated_other w.nodes s k n apart)) (stand.sites k e below (sym (get-set_other es s k new apart) ∙ is)))
+          (cases_eq k s)
 
   -- the engines with that of a new site
   pub engines_made : (w w' : World) (es : List (Engine R g)) (n : Node) (new : Engine R g) → w'.sites ≡ w.sites + 1 → ((k : ℕ) → w'.nodes k ≡ updated w.nodes w.sites n k) → w.sites < 8
       → EnginesStand w es → StandsAt n new → EnginesStand w' (slice_set es w.sites new)
   engines_made w w' es n new sites nodes few stand at = record {
-      eight = length-set es w.sites new ∙ stand.eight;
-      few = omega (arith, few, sites);
-      sites = λ k e below is. subst (λ (m : Node). StandsAt m e) (sym (nodes k)) (site k e (omega (arith, below, sites)) is);
-      others = λ k e past is. stand.others k e (omega (arith, past, sites)) (sym (get-set_other es w.sites k new (λ e. omega (arith, past, sites, e))) ∙ is);
-    }
+    eight = length-set es w.sites new ∙ stand.eight;
+    few = omega (arith, few, sites);
+    sites = λ k e below is. subst (λ (m : Node). StandsAt m e) (sym (nodes k)) (site k e (omega (arith, below, sites)) is);
+    others = λ k e past is. stand.others k e (omega (arith, past, sites)) (sym (get-set_other es w.sites k new (λ e. omega (arith, past, sites, e))) ∙ is);
+  }
     where
       same : {a b : Engine R g} → Some a ≡ Some b → a ≡ b
       same e = cc
@@ -170,23 +169,23 @@ module _ {R : Type 0} {g : Ghosts R} where
 
       site : (k : ℕ) (e : Engine R g) → k < w.sites + 1 → slice_get (slice_set es w.sites new) k ≡ Some e → StandsAt (updated w.nodes w.sites n k) e
       site k e below is = ⊎_elim
-        (λ same_site. subst (λ (j : ℕ). StandsAt (updated w.nodes w.sites n j) e) (sym same_site)
+          (λ same_site. subst (λ (j : ℕ). StandsAt (updated w.nodes w.sites n j) e) (sym same_site)
           (subst (λ (m : Node). StandsAt m e) (sym (at_place w.nodes w.sites n))
-            (subst (StandsAt n) (same (sym (get-set_same es w.sites new inside) ∙ ap (slice_get (slice_set es w.sites new)) (sym same_site) ∙ is)) at)))
-        (λ apart. subst (λ (m : Node). StandsAt m e) (sym (updated_other w.nodes w.sites k n apart)) (stand.sites k e (omega arith) (sym (get-set_other es w.sites k new apart) ∙ is)))
-        (cases_eq k w.sites)
+          (subst (StandsAt n) (same (sym (get-set_same es w.sites new inside) ∙ ap (slice_get (slice_set es w.sites new)) (sym same_site) ∙ is)) at)))
+          (λ apart. subst (λ (m : Node). StandsAt m e) (sym (updated_other w.nodes w.sites k n apart)) (stand.sites k e (omega arith) (sym (get-set_other es w.sites k new apart) ∙ is)))
+          (cases_eq k w.sites)
 
   -- the engines with another one in an unused place, which is unused too
   pub engines_unused : (w : World) (es : List (Engine R g)) (s : ℕ) (new : Engine R g) → w.sites ≤ s → s < 8 → EnginesStand w es → IsUnused new → EnginesStand w (slice_set es s new)
   engines_unused w es s new past few stand unused = record {
-      eight = length-set es s new ∙ stand.eight;
-      few = stand.few;
-      sites = λ k e below is. stand.sites k e below (sym (get-set_other es s k new (λ e. omega (arith, past, below, e))) ∙ is);
-      others = λ k e above is. ⊎_elim
+    eight = length-set es s new ∙ stand.eight;
+    few = stand.few;
+    sites = λ k e below is. stand.sites k e below (sym (get-set_other es s k new (λ e. omega (arith, past, below, e))) ∙ is);
+    others = λ k e above is. ⊎_elim
         (λ same_place. subst IsUnused (same (sym (get-set_same es s new inside) ∙ ap (slice_get (slice_set es s new)) (sym same_place) ∙ is)) unused)
         (λ apart. stand.others k e above (sym (get-set_other es s k new apart) ∙ is))
         (cases_eq k s);
-    }
+  }
     where
       same : {a b : Engine R g} → Some a ≡ Some b → a ≡ b
       same e = cc
@@ -197,15 +196,15 @@ module _ {R : Type 0} {g : Ghosts R} where
   -- the engines with another one in the place of a site's, which stands for the same node
   pub engines_same : (w : World) (es : List (Engine R g)) (s : ℕ) (new : Engine R g) → s < w.sites → EnginesStand w es → StandsAt (w.nodes s) new → EnginesStand w (slice_set es s new)
   engines_same w es s new there stand at = record {
-      eight = length-set es s new ∙ stand.eight;
-      few = stand.few;
-      sites = λ k e below is. ⊎_elim
+    eight = length-set es s new ∙ stand.eight;
+    few = stand.few;
+    sites = λ k e below is. ⊎_elim
         (λ same_site. subst (λ (j : ℕ). StandsAt (w.nodes j) e) (sym same_site)
-          (subst (StandsAt (w.nodes s)) (same (sym (get-set_same es s new inside) ∙ ap (slice_get (slice_set es s new)) (sym same_site) ∙ is)) at))
+        (subst (StandsAt (w.nodes s)) (same (sym (get-set_same es s new inside) ∙ ap (slice_get (slice_set es s new)) (sym same_site) ∙ is)) at))
         (λ apart. stand.sites k e below (sym (get-set_other es s k new apart) ∙ is))
         (cases_eq k s);
-      others = λ k e past is. stand.others k e past (sym (get-set_other es s k new (λ e. omega (arith, past, there, e))) ∙ is);
-    }
+    others = λ k e past is. stand.others k e past (sym (get-set_other es s k new (λ e. omega (arith, past, there, e))) ∙ is);
+  }
     where
       same : {a b : Engine R g} → Some a ≡ Some b → a ≡ b
       same e = cc

@@ -1,5 +1,5 @@
 -- What a line that makes a disk fail, or ends that, comes to.
-use Rattle.std.proofs.Common.{◌≡◌, ◌∙◌, ◌+◌, ◌<◌, ◌≤◌, ℕ, List, [], ◌∷◌, length, ap, sym, subst, refl, arith}
+use Rattle.std.proofs.Common.{◌≡◌, ◌∙◌, ℕ, List, [], ap, sym, subst, refl}
 use Rattle.std.specs.Prelude.{Some, slice_get, slice_set}
 use Rattle.vx_model.specs.World.{Node, World}
 use Rattle.vx_disk.specs.declared.shelf.Shelf.{Ghosts}
@@ -29,8 +29,8 @@ module _ {R : Type 0} {g : Ghosts R} where
         fails = [];
         works = record { none = refl; says = refl; leads = refl };
         stands = stands_new w w old new stands (ap (λ fs. fs.items) facts ∙ stands.facts)
-          (subst (λ es. EnginesStand w es) (sym engines) (engines_same w old.engines.items s after seat.below stands.engines (still (w.nodes s) (stands.engines.sites s before seat.below at))))
-          racks;
+            (subst (λ es. EnginesStand w es) (sym engines) (engines_same w old.engines.items s after seat.below stands.engines (still (w.nodes s) (stands.engines.sites s before seat.below at))))
+            racks;
         rose = subst (λ es. RoseAll [] (count_of old) (faults_of es)) (sym engines)
-          (rose_none (count_of old) (faults_of (slice_set old.engines.items s after)) (λ s' d. counts_later old.engines.items s before after at later s' d));
+            (rose_none (count_of old) (faults_of (slice_set old.engines.items s after)) (λ s' d. counts_later old.engines.items s before after at later s' d));
       }

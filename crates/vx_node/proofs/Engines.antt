@@ -31,22 +31,22 @@ keeps_still m new u b x goes keeps = record { only = λ v left. ⊎_elim (λ was
 
 pub fitted_still : (disks blocks : ℕ) (m new : Meaning) → Goes Nothing m new → new.down ≡ m.down → new.armed ≡ m.armed → IsFitted disks blocks m → IsFitted disks blocks new
 fitted_still disks blocks m new goes down armed fitted = record {
-    units = goes.units ∙ fitted.units;
-    size = λ u there. goes.size u ∙ fitted.size u there;
-    up = down ∙ fitted.up;
-    unarmed = armed ∙ fitted.unarmed;
-  }
+  units = goes.units ∙ fitted.units;
+  size = λ u there. goes.size u ∙ fitted.size u there;
+  up = down ∙ fitted.up;
+  unarmed = armed ∙ fitted.unarmed;
+}
 
 pub bare_still : (n : Node) (m new : Meaning) → Goes Nothing m new → new.down ≡ m.down → new.armed ≡ m.armed → IsBareAt n m → IsBareAt n new
 bare_still n m new goes down armed bare = record {
-    state = bare.state;
-    fitted = fitted_still n.disks n.blocks m new goes down armed bare.fitted;
-    few = bare.few;
-    parent = bare.parent;
-    low = bare.low;
-    some = bare.some;
-    blank = λ u b some last below. keeps_still m new u b _ goes (bare.blank u b some last below);
-  }
+  state = bare.state;
+  fitted = fitted_still n.disks n.blocks m new goes down armed bare.fitted;
+  few = bare.few;
+  parent = bare.parent;
+  low = bare.low;
+  some = bare.some;
+  blank = λ u b some last below. keeps_still m new u b _ goes (bare.blank u b some last below);
+}
 
 -- the volumes of a raw set are its disks but the first and the last
 pub up_volumes : (n : Node) (c : Core) (m : Meaning) → IsUpAt n c m → length c.units.vols ≡ n.disks - 2
@@ -65,32 +65,32 @@ moves_up mine P m new moves unarmed up = not_true new.down (λ down. never_both 
 
 pub fitted_moved : (disks blocks : ℕ) (mine : Blocks) (P : Says) (m new : Meaning) → Moves mine P m new → IsFitted disks blocks m → IsFitted disks blocks new
 fitted_moved disks blocks mine P m new moves fitted = record {
-    units = moves.units ∙ fitted.units;
-    size = λ u there. moves.size u ∙ fitted.size u there;
-    up = moves_up mine P m new moves fitted.unarmed fitted.up;
-    unarmed = moves.unarmed fitted.unarmed;
-  }
+  units = moves.units ∙ fitted.units;
+  size = λ u there. moves.size u ∙ fitted.size u there;
+  up = moves_up mine P m new moves fitted.unarmed fitted.up;
+  unarmed = moves.unarmed fitted.unarmed;
+}
 
 -- what was done to disk 0 alone leaves a bare site bare
 pub bare_moved : (n : Node) (count : ℕ) (m new : Meaning) → Moves (Run 0 0 count) Anything m new → IsBareAt n m → IsBareAt n new
 bare_moved n count m new moves bare = record {
-    state = bare.state;
-    fitted = fitted_moved n.disks n.blocks (Run 0 0 count) Anything m new moves bare.fitted;
-    few = bare.few;
-    parent = bare.parent;
-    low = bare.low;
-    some = bare.some;
-    blank = λ u b some last below. kept_beside (Run 0 0 count) Anything m new moves u b (λ mine. omega (arith, mine.there, some)) zero_block (bare.blank u b some last below);
-  }
+  state = bare.state;
+  fitted = fitted_moved n.disks n.blocks (Run 0 0 count) Anything m new moves bare.fitted;
+  few = bare.few;
+  parent = bare.parent;
+  low = bare.low;
+  some = bare.some;
+  blank = λ u b some last below. kept_beside (Run 0 0 count) Anything m new moves u b (λ mine. omega (arith, mine.there, some)) zero_block (bare.blank u b some last below);
+}
 
 -- the units of a raw set are there, and none is another
 pub placed_raw : (disks : ℕ) (m : Meaning) → disks ≡ m.units → 3 ≤ disks → Placed (raw_units disks) m
 placed_raw disks m is some = record {
-    log_exists = omega arith;
-    exist = λ v there. let at = unit_at v there in omega (arith, at, length-values_from (λ (j : ℕ). j) 1 (disks - 2), there, is);
-    apart = λ v there e. let at = unit_at v there in omega (arith, at, e);
-    distinct = λ v w v_there w_there e. let at = unit_at v v_there in let at' = unit_at w w_there in omega (arith, at, at', e);
-  }
+  log_exists = omega arith;
+  exist = λ v there. let at = unit_at v there in omega (arith, at, length-values_from (λ (j : ℕ). j) 1 (disks - 2), there, is);
+  apart = λ v there e. let at = unit_at v there in omega (arith, at, e);
+  distinct = λ v w v_there w_there e. let at = unit_at v v_there in let at' = unit_at w w_there in omega (arith, at, at', e);
+}
   where
     unit_at : (v : ℕ) → v < length (raw_units disks).vols → unit_of (raw_units disks).vols v ≡ 1 + v
     unit_at v there = slice_index-values_from 1 (disks - 2) v (omega (arith, there, length-values_from (λ (j : ℕ). j) 1 (disks - 2)))
@@ -111,25 +111,25 @@ raw_size disks blocks v h = grind (arith, nat_tests)
 pub raw_stands : (site : ℕ) (n : Node) (c : Core) (state : State) (m new : Meaning) → IsBareAt n m → 3 ≤ n.disks → c ≡ new_core (raw_units n.disks) state (ring_of (m.size 0))
     → Moves (Run 0 0 (m.size 0)) Anything m new → IsUpAt (raw_set site n) c new
 raw_stands site n c state m new bare some is moves = record {
-    state = refl;
-    fitted = fitted_moved n.disks n.blocks (Run 0 0 (m.size 0)) Anything m new moves bare.fitted;
-    disks = some;
-    units = ap (λ (k : Core). k.units) is;
-    ring = ap (λ (k : Core). k.log.ring) is ∙ ap ring_of (bare.fitted.size 0 (omega (arith, some)));
-    session = ap (λ (k : Core). k.log.session) is;
-    head = ap (λ (k : Core). k.head) is;
-    halted = ap (λ (k : Core). k.halted) is;
-    few = bare.few;
-    volumes = length-raw_volumes 1 (n.disks - 2) n.blocks;
-    whole = λ v x at. raw_volumes-whole 1 (n.disks - 2) n.blocks v x at;
-    sizes = λ v there. raw_size n.disks n.blocks v there;
-    content = λ _. subst (λ (k : Core). Stands k.units.vols (raw_content n.disks n.blocks) new) (sym is) (record {
-      sizes = λ v there. let in_set = inside v there in raw_size n.disks n.blocks v in_set ∙ sym (at_size v in_set);
-      blocks = λ v b there below. let in_set = inside v there in subst (λ (u : ℕ). Keeps new u b zero_block) (sym (unit_is v in_set))
+  state = refl;
+  fitted = fitted_moved n.disks n.blocks (Run 0 0 (m.size 0)) Anything m new moves bare.fitted;
+  disks = some;
+  units = ap (λ (k : Core). k.units) is;
+  ring = ap (λ (k : Core). k.log.ring) is ∙ ap ring_of (bare.fitted.size 0 (omega (arith, some)));
+  session = ap (λ (k : Core). k.log.session) is;
+  head = ap (λ (k : Core). k.head) is;
+  halted = ap (λ (k : Core). k.halted) is;
+  few = bare.few;
+  volumes = length-raw_volumes 1 (n.disks - 2) n.blocks;
+  whole = λ v x at. raw_volumes-whole 1 (n.disks - 2) n.blocks v x at;
+  sizes = λ v there. raw_size n.disks n.blocks v there;
+  content = λ _. subst (λ (k : Core). Stands k.units.vols (raw_content n.disks n.blocks) new) (sym is) (record {
+    sizes = λ v there. let in_set = inside v there in raw_size n.disks n.blocks v in_set ∙ sym (at_size v in_set);
+    blocks = λ v b there below. let in_set = inside v there in subst (λ (u : ℕ). Keeps new u b zero_block) (sym (unit_is v in_set))
         (kept_beside (Run 0 0 (m.size 0)) Anything m new moves (1 + v) b (λ mine. omega (arith, mine.there)) zero_block
-          (bare.blank (1 + v) b (omega arith) (omega (arith, in_set, some)) (omega (arith, below, raw_size n.disks n.blocks v in_set))));
-    });
-  }
+        (bare.blank (1 + v) b (omega arith) (omega (arith, in_set, some)) (omega (arith, below, raw_size n.disks n.blocks v in_set))));
+  });
+}
   where
     inside : (v : ℕ) → v < length (raw_units n.disks).vols → v < n.disks - 2
     inside v there = omega (arith, there, length-values_from (λ (j : ℕ). j) 1 (n.disks - 2))
@@ -140,15 +140,14 @@ raw_stands site n c state m new bare some is moves = record {
     at_size : (v : ℕ) → v < n.disks - 2 → new.size (unit_of (raw_units n.disks).vols v) ≡ n.blocks
     at_size v in_set = ap new.size (unit_is v in_set) ∙ moves.size (1 + v) ∙ bare.fitted.size (1 + v) (omega (arith, in_set, some))
 
-
 -- the same with the units as they were made
 pub made_stands : (site d : ℕ) (n : Node) (c : Core) (units : Units) (state : State) (m new : Meaning) → units ≡ raw_units d → d ≡ m.units → IsBareAt n m → 3 ≤ n.disks
     → c ≡ new_core units state (ring_of (m.size units.srl)) → Moves (Run units.srl 0 (m.size units.srl)) Anything m new → IsUpAt (raw_set site n) c new
 made_stands site d n c units state m new units_is d_is bare some core moves =
     let is : units ≡ raw_units n.disks = units_is ∙ ap raw_units (d_is ∙ bare.fitted.units) in
     raw_stands site n c state m new bare some
-      (subst (λ (u : Units). c ≡ new_core u state (ring_of (m.size u.srl))) is core)
-      (subst (λ (u : Units). Moves (Run u.srl 0 (m.size u.srl)) Anything m new) is moves)
+    (subst (λ (u : Units). c ≡ new_core u state (ring_of (m.size u.srl))) is core)
+    (subst (λ (u : Units). Moves (Run u.srl 0 (m.size u.srl)) Anything m new) is moves)
 
 module _ {R : Type 0} {g : Ghosts R} where
   -- a raw set that was not made

@@ -1,3 +1,4 @@
+pub mod Answering
 pub mod Backs
 pub mod Changing
 pub mod Disks

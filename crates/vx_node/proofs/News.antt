@@ -1,7 +1,7 @@
 -- A yard without sites.
-use Rattle.std.proofs.Common.{◌≡◌, ◌∙◌, ◌+◌, ◌<◌, ◌≤◌, ℕ, zero, suc, List, [], ◌∷◌, length, ap, sym, subst, refl, arith}
-use Rattle.std.specs.Prelude.{Option, Some, None, slice_get, map, IsTrue, IsFalse}
-use Rattle.vx_model.specs.World.{World, empty_world}
+use Rattle.std.proofs.Common.{◌≡◌, ◌∙◌, ℕ, zero, suc, List, [], ◌∷◌, length, ap, sym, subst, refl, arith}
+use Rattle.std.specs.Prelude.{Some, None, slice_get, map}
+use Rattle.vx_model.specs.World.{empty_world}
 use Rattle.vx_disk.specs.declared.shelf.Shelf.{Ghosts}
 use Rattle.vx_node.specs.declared.engine.Engine.{Engine}
 use Rattle.vx_node.specs.declared.engine.Engine.TheVariants.{Bare}
@@ -33,12 +33,12 @@ module _ {R : Type 0} {g : Ghosts R} where
   -- fresh racks are the engines of numbers that no site has
   pub engines_new : (rs : List R) → AreFresh g.meaning rs → EnginesStand empty_world (map (λ (r : R). let e : Engine R g = Bare r in e) rs)
   engines_new rs fresh = record {
-      eight = length-bare (λ (r : R). let e : Engine R g = Bare r in e) rs ∙ fresh.eight;
-      few = omega arith;
-      sites = λ s e below is. absurd (omega (arith, below));
-      others = λ s e past is. let found = rack_of rs s e is in subst IsUnused (sym found.2) (record {
-          units = fresh.units s found.0 found.1;
-          up = not_true (g.meaning found.0).down (fresh.up s found.0 found.1);
-          unarmed = not_true (g.meaning found.0).armed (fresh.unarmed s found.0 found.1);
-        });
-    }
+    eight = length-bare (λ (r : R). let e : Engine R g = Bare r in e) rs ∙ fresh.eight;
+    few = omega arith;
+    sites = λ s e below is. absurd (omega (arith, below));
+    others = λ s e past is. let found = rack_of rs s e is in subst IsUnused (sym found.2) (record {
+      units = fresh.units s found.0 found.1;
+      up = not_true (g.meaning found.0).down (fresh.up s found.0 found.1);
+      unarmed = not_true (g.meaning found.0).armed (fresh.unarmed s found.0 found.1);
+    });
+  }

@@ -1,6 +1,6 @@
 -- What a line that makes a raw set comes to.
-use Rattle.std.proofs.Common.{◌≡◌, ◌∙◌, ◌+◌, ◌-◌, ◌<◌, ◌≤◌, ℕ, zero, suc, List, [], ◌∷◌, length, ap, sym, subst, refl, arith, inl, inr}
-use Rattle.std.specs.Prelude.{Option, Some, None, slice_get, slice_set, Result, Ok, Err, map}
+use Rattle.std.proofs.Common.{◌≡◌, ◌∙◌, ◌-◌, ◌<◌, ◌≤◌, ℕ, zero, suc, List, [], ◌∷◌, length, ap, sym, subst, refl, arith, inl, inr}
+use Rattle.std.specs.Prelude.{Some, None, slice_get, slice_set, Result, Ok, Err, map}
 use Rattle.vx_model.specs.World.{Node, World, no_line}
 use Rattle.vx_model.specs.Steps.{raw_made, raw_set, raw_volumes, first_line, ring_of}
 use Rattle.vx_model.specs.declared.history.Line.{Line}
@@ -13,7 +13,6 @@ use Rattle.vx_model.specs.declared.site.Role.TheVariants.{Primary}
 use Rattle.vx_model.specs.declared.site.Mark.TheVariants.{Consistent}
 use Rattle.vx_disk.specs.declared.shelf.Shelf.{Ghosts}
 use Rattle.vx_order.specs.declared.facts.SiteFacts.{SiteFacts}
-use Rattle.vx_order.specs.declared.facts.RvgFacts.{RvgFacts}
 use Rattle.vx_order.specs.declared.facts.VolumeFacts.{VolumeFacts}
 use Rattle.vx_script.specs.declared.line.ScriptLine.TheVariants.{Raw}
 use Rattle.vx_node.specs.declared.engine.Engine.{Engine}
@@ -23,14 +22,14 @@ use Rattle.vx_node.specs.declared.said.Said.TheVariants.{Done}
 use Rattle.vx_node.specs.declared.yard.Yard.{Yard}
 use Rattle.vx_node.specs.Changes.{raw_facts}
 use Rattle.vx_node.specs.Engines.{Later, MadeIs}
-use Rattle.vx_node.specs.Facts.{site_fact, facts_of, volume_fact, seat_of, site_number}
+use Rattle.vx_node.specs.Facts.{site_fact, volume_fact, seat_of}
 use Rattle.vx_node.specs.Replies.{reply_to}
 use Rattle.vx_node.specs.Stands.{EnginesStand, StandsAt, RoseAll, AreTold, faults_of}
 use Rattle.vx_node.specs.Working.{WorkIs, Worked, IsFree}
 use Rattle.vx_node.specs.Yards.{YardStands, in_files, count_of}
 use Rattle.vx_node.proofs.Changing.{facts-updated, rose_none, rose_one, counts_later, counts_rose, engines_set, engines_same, told_before}
 use Rattle.vx_node.proofs.Lists.{set_twice}
-use Rattle.vx_node.proofs.Refused.{Named, raw_may}
+use Rattle.vx_node.proofs.Refused.{raw_may}
 use Rattle.vx_node.proofs.Seats.{Seated, seated, named_fact, some_same}
 use Rattle.vx_node.proofs.Sites.{stands_new}
 
@@ -41,8 +40,8 @@ raw_fact_by site n parent low a b d e =
   where
     made : Line → ℕ → SiteFacts
     made p k = record (raw_facts site (map volume_fact (raw_volumes 1 (n.disks - 2) n.blocks)) (site_fact n)) {
-        rvg = Some (record { role = Primary; line = first_line site; parent = p; mark = Consistent; low = k; last = 0; ring = ring_of n.blocks; halted = None });
-      }
+      rvg = Some (record { role = Primary; line = first_line site; parent = p; mark = Consistent; low = k; last = 0; ring = ring_of n.blocks; halted = None });
+    }
 
 got : {A : Type 0} (xs : List A) (i : ℕ) → i < length xs → (x : A) × (slice_get xs i ≡ Some x)
 got [] i h = absurd (omega arith)
@@ -118,21 +117,21 @@ module _ {R : Type 0} {g : Ghosts R} where
       let engines : new.engines.items ≡ slice_set old.engines.items s after = twice ∙ set_twice old.engines.items s Gone after in
       let told : volumes ≡ map volume_fact (raw_volumes 1 (n.disks - 2) n.blocks) = table ∙ ap (λ (f : SiteFacts). map volume_fact (raw_volumes 1 (f.disks - 2) f.blocks)) found.fact in
       let fact : raw_facts s volumes site ≡ site_fact (raw_set s n) =
-            ap (λ (vs : List VolumeFacts). raw_facts s vs site) told
-            ∙ ap (λ (f : SiteFacts). raw_facts s (map volume_fact (raw_volumes 1 (n.disks - 2) n.blocks)) f) found.fact
-            ∙ raw_fact_by s n n.parent n.low refl refl parts.0 parts.1 in
+      ap (λ (vs : List VolumeFacts). raw_facts s vs site) told
+      ∙ ap (λ (f : SiteFacts). raw_facts s (map volume_fact (raw_volumes 1 (n.disks - 2) n.blocks)) f) found.fact
+      ∙ raw_fact_by s n n.parent n.low refl refl parts.0 parts.1 in
       record {
         world = raw_made w s;
         fails = [];
         works = inl (record { none = refl; says = refl; leads = ap (raw_made w) (sym found.seat.number) });
         stands = stands_new w (raw_made w s) old new stands
-          (facts ∙ ap (slice_set old.facts.items s) fact ∙ ap (λ (fs : List SiteFacts). slice_set fs s (site_fact (raw_set s n))) stands.facts ∙ sym (facts-updated w.nodes w.sites s (raw_set s n)))
-          (subst (λ es. EnginesStand (raw_made w s) es) (sym engines)
+            (facts ∙ ap (slice_set old.facts.items s) fact ∙ ap (λ (fs : List SiteFacts). slice_set fs s (site_fact (raw_set s n))) stands.facts ∙ sym (facts-updated w.nodes w.sites s (raw_set s n)))
+            (subst (λ es. EnginesStand (raw_made w s) es) (sym engines)
             (engines_set w (raw_made w s) old.engines.items s (raw_set s n) after refl (λ k. refl) found.seat.below stands.engines
-              (subst (MadeIs s n before after) ok (made n stood found.bare found.disks))))
-          racks;
+            (subst (MadeIs s n before after) ok (made n stood found.bare found.disks))))
+            racks;
         rose = subst (λ es. RoseAll [] (count_of old) (faults_of es)) (sym engines)
-          (rose_none (count_of old) (faults_of (slice_set old.engines.items s after)) (λ s' d. counts_later old.engines.items s before after at later s' d));
+            (rose_none (count_of old) (faults_of (slice_set old.engines.items s after)) (λ s' d. counts_later old.engines.items s before after at later s' d));
       }
 
   pub raw_failed : (stop : Stop) (said : Result Said MemoryError) (w : World) (old new : Yard R g) (name : List ℕ) (s : ℕ) (site : SiteFacts) (before after : Engine R g) (r : Result (Unit {0}) Stop) → said ≡ reply_to stop → YardStands w old → IsFree old (Raw name)
@@ -162,18 +161,18 @@ module _ {R : Type 0} {g : Ghosts R} where
 
       by_stop : (stop : Stop) → MadeIs s (w.nodes s) before after (Err stop) → WorkIs w (Raw name) old new (reply_to stop)
       by_stop OutOfMemory same = record {
-          stands = stays same;
-          rose = subst (λ es. RoseAll [] (count_of old) (faults_of es)) (sym engines) (rose_none (count_of old) (faults_of (slice_set old.engines.items s after)) later_all);
-        }
+        stands = stays same;
+        rose = subst (λ es. RoseAll [] (count_of old) (faults_of es)) (sym engines) (rose_none (count_of old) (faults_of (slice_set old.engines.items s after)) later_all);
+      }
       by_stop (Refused (Device disk)) h = record {
-          world = w;
-          fails = (s, disk) ∷ [];
-          works = inr (record { disk = disk; fails_at = record { one = ap (λ (k : ℕ). let fs : List (ℕ × ℕ) = (k, disk) ∷ [] in fs) (sym found.seat.number); says = refl; leads = refl } });
-          stands = stays h.0;
-          rose = subst (λ es. RoseAll ((s, disk) ∷ []) (count_of old) (faults_of es)) (sym engines)
-              (rose_one s disk (count_of old) (faults_of (slice_set old.engines.items s after)) later_all
-                (counts_rose old.engines.items s disk before after at h.1));
-        }
+        world = w;
+        fails = (s, disk) ∷ [];
+        works = inr (record { disk = disk; fails_at = record { one = ap (λ (k : ℕ). let fs : List (ℕ × ℕ) = (k, disk) ∷ [] in fs) (sym found.seat.number); says = refl; leads = refl } });
+        stands = stays h.0;
+        rose = subst (λ es. RoseAll ((s, disk) ∷ []) (count_of old) (faults_of es)) (sym engines)
+            (rose_one s disk (count_of old) (faults_of (slice_set old.engines.items s after)) later_all
+            (counts_rose old.engines.items s disk before after at h.1));
+      }
       by_stop (Refused other) h = absurd h
 
   pub raw_told : (es new : List (Engine R g)) (s : ℕ) (before after : Engine R g) → slice_get es s ≡ Some before → Later before after → new ≡ slice_set (slice_set es s Gone) s after → AreTold new → AreTold es

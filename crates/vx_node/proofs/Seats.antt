@@ -1,16 +1,16 @@
 -- The site that a line names.
-use Rattle.std.proofs.Common.{◌≡◌, ◌∙◌, ◌+◌, ◌<◌, ◌≤◌, ℕ, zero, suc, List, [], ◌∷◌, length, ap, sym, subst, refl, arith, Bool, true, false, IsTrue}
-use Rattle.std.specs.Prelude.{Option, Some, None, slice_get, cond, nat_lt, unwrap_or, map}
+use Rattle.std.proofs.Common.{◌≡◌, ◌∙◌, ◌+◌, ◌<◌, ℕ, List, length, ap, sym, refl, arith, Bool, true, false}
+use Rattle.std.specs.Prelude.{Option, Some, None, slice_get, cond, nat_lt, unwrap_or}
 use Rattle.std.specs.List.{position, position_or_len}
 use Rattle.std.specs.Str.{bytes_eq}
 use Rattle.std.proofs.lemmas.Bool.Decides.{nat_tests}
-use Rattle.vx_model.specs.World.{Node, World}
+use Rattle.vx_model.specs.World.{World}
 use Rattle.vx_disk.specs.declared.shelf.Shelf.{Ghosts}
 use Rattle.vx_order.specs.declared.facts.SiteFacts.{SiteFacts}
 use Rattle.vx_node.specs.declared.yard.Yard.{Yard}
-use Rattle.vx_node.specs.Facts.{site_fact, facts_of, seat_of, site_number, values_from}
+use Rattle.vx_node.specs.Facts.{site_fact, facts_of, seat_of, site_number}
 use Rattle.vx_node.specs.Yards.{YardStands}
-use Rattle.vx_node.proofs.Refused.{Named, FoundAt}
+use Rattle.vx_node.proofs.Refused.{Named}
 use Rattle.vx_node.proofs.Values.{length-values_from, slice_get-values_from}
 
 pub some_same : {A : Type 0} {a b : A} → Some a ≡ Some b → a ≡ b
@@ -52,7 +52,7 @@ module _ {R : Type 0} {g : Ghosts R} where
         below = omega (arith, many, inside);
         number = ap (λ (o : Option ℕ). unwrap_or o 0) seat;
         fact = ap (λ (fs : List SiteFacts). slice_get fs s) stands.facts ∙ slice_get-values_from (λ i. site_fact (w.nodes i)) 0 w.sites s (omega (arith, many, inside))
-          ∙ ap (λ (i : ℕ). Some (site_fact (w.nodes i))) start;
+            ∙ ap (λ (i : ℕ). Some (site_fact (w.nodes i))) start;
       }
 
   -- what the tests found of it

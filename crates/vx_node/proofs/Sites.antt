@@ -1,14 +1,12 @@
 -- What a line that makes a site comes to.
-use Rattle.std.proofs.Common.{◌≡◌, ◌∙◌, ◌+◌, ◌<◌, ◌≤◌, ℕ, List, [], ◌∷◌, ◌++◌, length, get_or, ap, sym, subst, refl, arith, inl, inr, take}
-use Rattle.std.specs.Prelude.{Option, Some, None, slice_get, slice_set, is_some, Result, Ok, Err, Bool, true, false}
+use Rattle.std.proofs.Common.{◌≡◌, ◌∙◌, ◌≤◌, ℕ, List, [], ◌∷◌, ◌++◌, length, ap, sym, subst, refl, arith, inl, inr}
+use Rattle.std.specs.Prelude.{Option, Some, None, slice_get, slice_set, is_some, Result, Err, Bool, true, false}
 use Rattle.std.specs.Vec.{vec_capacity}
-use Rattle.vx_model.specs.World.{Node, World, bare_site}
+use Rattle.vx_model.specs.World.{World, bare_site}
 use Rattle.vx_model.specs.Steps.{site_made}
 use Rattle.vx_model.specs.declared.errors.Stop.{Stop}
 use Rattle.vx_model.specs.declared.errors.Stop.TheVariants.{No as Refused, OutOfMemory}
-use Rattle.vx_model.specs.declared.no.No.{No}
 use Rattle.vx_model.specs.declared.no.No.TheVariants.{Device}
-use Rattle.vx_disk.specs.Counts.{Rose}
 use Rattle.vx_disk.specs.Racks.{most_blocks}
 use Rattle.vx_disk.specs.declared.shelf.Shelf.{Ghosts}
 use Rattle.vx_order.specs.Shapes.{most_blocks as most_of}
@@ -20,13 +18,13 @@ use Rattle.vx_node.specs.declared.said.Said.{Said}
 use Rattle.vx_node.specs.declared.said.Said.TheVariants.{Done}
 use Rattle.vx_node.specs.declared.yard.Yard.{Yard}
 use Rattle.vx_node.specs.Changes.{bare_facts}
-use Rattle.vx_node.specs.Engines.{Later, FitIs, RoseAt}
+use Rattle.vx_node.specs.Engines.{Later, FitIs}
 use Rattle.vx_node.specs.Facts.{site_fact, facts_of}
 use Rattle.vx_node.specs.Replies.{reply_to}
 use Rattle.vx_node.specs.Stands.{EnginesStand, StandsAt, IsUnused, RoseAll, faults_of}
 use Rattle.vx_node.specs.Working.{WorkIs, Worked, IsFree}
-use Rattle.vx_node.specs.Yards.{YardStands, StaysFor, IsTold, in_files, count_of}
-use Rattle.vx_node.proofs.Changing.{facts-made, rose_none, rose_one, counts_later, counts_rose, engines_made, engines_unused, told_before}
+use Rattle.vx_node.specs.Yards.{YardStands, in_files, count_of}
+use Rattle.vx_node.proofs.Changing.{facts-made, rose_none, rose_one, counts_later, counts_rose, engines_made, engines_unused}
 use Rattle.vx_node.proofs.Refused.{SiteMay, site_may}
 use Rattle.vx_node.proofs.Values.{length-values_from}
 
@@ -40,11 +38,11 @@ module _ {R : Type 0} {g : Ghosts R} where
   -- the yard with the facts and engines of another world
   pub stands_new : (w w' : World) (old new : Yard R g) → YardStands w old → new.facts.items ≡ facts_of w' → EnginesStand w' new.engines.items → new.racks ≡ old.racks → YardStands w' new
   stands_new w w' old new stands facts engines racks = record {
-      facts = facts;
-      engines = engines;
-      none = ap (λ r. r.items) racks ∙ stands.none;
-      room = omega (arith, stands.room, ap (λ r. vec_capacity r) racks);
-    }
+    facts = facts;
+    engines = engines;
+    none = ap (λ r. r.items) racks ∙ stands.none;
+    room = omega (arith, stands.room, ap (λ r. vec_capacity r) racks);
+  }
 
   -- the number of a new site is free
   pub sites_many : (w : World) (y : Yard R g) → YardStands w y → length y.facts.items ≡ w.sites
@@ -63,12 +61,12 @@ module _ {R : Type 0} {g : Ghosts R} where
         fails = [];
         works = inl (record { none = refl; says = refl; leads = refl });
         stands = stands_new w (site_made w name disks blocks) old new stands
-          (facts ∙ ap (λ (fs : List SiteFacts). fs ++ bare_facts name disks blocks ∷ []) stands.facts ∙ sym (facts-made w.nodes w.sites (bare_site name disks blocks)))
-          (subst (λ es. EnginesStand (site_made w name disks blocks) es) (sym engines')
+            (facts ∙ ap (λ (fs : List SiteFacts). fs ++ bare_facts name disks blocks ∷ []) stands.facts ∙ sym (facts-made w.nodes w.sites (bare_site name disks blocks)))
+            (subst (λ es. EnginesStand (site_made w name disks blocks) es) (sym engines')
             (engines_made w (site_made w name disks blocks) old.engines.items (bare_site name disks blocks) after refl (λ k. refl) (omega (arith, may.few_sites, many)) stands.engines (fits name)))
-          racks;
+            racks;
         rose = subst (λ es. RoseAll [] (count_of old) (faults_of es)) (sym engines)
-          (rose_none (count_of old) (faults_of (slice_set old.engines.items (length old.facts.items) after)) (λ s d. counts_later old.engines.items (length old.facts.items) before after at later s d));
+            (rose_none (count_of old) (faults_of (slice_set old.engines.items (length old.facts.items) after)) (λ s d. counts_later old.engines.items (length old.facts.items) before after at later s d));
       }
 
   pub site_failed : {T : Type 0} (dir : Option T) (stop : Stop) (w : World) (old new : Yard R g) (name : List ℕ) (disks blocks : ℕ) (before after : Engine R g) → YardStands w old → IsFree old (Site name disks blocks)
@@ -83,7 +81,7 @@ module _ {R : Type 0} {g : Ghosts R} where
       stays : IsUnused after → YardStands w new
       stays unused = stands_new w w old new stands (facts ∙ stands.facts)
           (subst (λ es. EnginesStand w es) (sym engines)
-            (engines_unused w old.engines.items (length old.facts.items) after (omega (arith, sites_many w old stands)) may.few_sites stands.engines unused))
+          (engines_unused w old.engines.items (length old.facts.items) after (omega (arith, sites_many w old stands)) may.few_sites stands.engines unused))
           racks
 
       later_all : (s d : ℕ) → count_of old s d ≤ faults_of (slice_set old.engines.items (length old.facts.items) after) s d
@@ -91,19 +89,19 @@ module _ {R : Type 0} {g : Ghosts R} where
 
       by_stop : (s : Stop) → FitIs dir disks blocks before after (Err s) → WorkIs w (Site name disks blocks) old new (reply_to s)
       by_stop OutOfMemory unused = record {
-          stands = stays unused;
-          rose = subst (λ es. RoseAll [] (count_of old) (faults_of es)) (sym engines) (rose_none (count_of old) (faults_of (slice_set old.engines.items (length old.facts.items) after)) later_all);
-        }
+        stands = stays unused;
+        rose = subst (λ es. RoseAll [] (count_of old) (faults_of es)) (sym engines) (rose_none (count_of old) (faults_of (slice_set old.engines.items (length old.facts.items) after)) later_all);
+      }
       by_stop (Refused (Device disk)) h = record {
-          world = w;
-          fails = (w.sites, disk) ∷ [];
-          works = inr (record { disk = disk; fails_at = record { one = refl; says = refl; leads = refl } });
-          stands = stays h.0;
-          rose = subst (λ (k : ℕ). RoseAll ((k, disk) ∷ []) (count_of old) (count_of new)) (sites_many w old stands)
+        world = w;
+        fails = (w.sites, disk) ∷ [];
+        works = inr (record { disk = disk; fails_at = record { one = refl; says = refl; leads = refl } });
+        stands = stays h.0;
+        rose = subst (λ (k : ℕ). RoseAll ((k, disk) ∷ []) (count_of old) (count_of new)) (sites_many w old stands)
             (subst (λ es. RoseAll ((length old.facts.items, disk) ∷ []) (count_of old) (faults_of es)) (sym engines)
-              (rose_one (length old.facts.items) disk (count_of old) (faults_of (slice_set old.engines.items (length old.facts.items) after)) later_all
-                (counts_rose old.engines.items (length old.facts.items) disk before after at h.1)));
-        }
+            (rose_one (length old.facts.items) disk (count_of old) (faults_of (slice_set old.engines.items (length old.facts.items) after)) later_all
+            (counts_rose old.engines.items (length old.facts.items) disk before after at h.1)));
+      }
       by_stop (Refused other) h = absurd (omega (arith, h, may.few_blocks, most_same dir (in_files old) files))
 
   pub site_said : {T : Type 0} (dir : Option T) (stop : Stop) (said : Result Said OutOfMemory') (w : World) (old new : Yard R g) (name : List ℕ) (disks blocks : ℕ) (before after : Engine R g) → said ≡ reply_to stop → YardStands w old → IsFree old (Site name disks blocks)

@@ -6,7 +6,6 @@ use Rattle.std.proofs.lemmas.Fmt.{decimal_digit}
 use Rattle.vx_model.specs.Steps.{raw_volumes}
 use Rattle.vx_model.specs.World.{Volume}
 use Rattle.vx_order.specs.declared.facts.VolumeFacts.{VolumeFacts}
-use Rattle.vx_order.specs.declared.facts.VolumeKind.TheVariants.{Data}
 use Rattle.vx_node.specs.Changes.{raw_volume_fact}
 use Rattle.vx_node.specs.Facts.{volume_fact}
 
@@ -18,7 +17,7 @@ raw_volumes-push j zero blocks = ap (λ (k : ℕ). volume_named (codes "d" ++ de
 raw_volumes-push j (suc n) blocks =
     let e : (j + 1) + n ≡ j + suc n = omega arith in
     ap (λ vs. volume_named (codes "d" ++ decimal j) blocks ∷ vs)
-      (raw_volumes-push (j + 1) n blocks ∙ ap (λ (k : ℕ). raw_volumes (j + 1) n blocks ++ volume_named (codes "d" ++ decimal k) blocks ∷ []) e)
+    (raw_volumes-push (j + 1) n blocks ∙ ap (λ (k : ℕ). raw_volumes (j + 1) n blocks ++ volume_named (codes "d" ++ decimal k) blocks ∷ []) e)
 
 map-push : {A B : Type 0} (f : A → B) (xs : List A) (x : A) → map f (xs ++ x ∷ []) ≡ map f xs ++ f x ∷ []
 map-push f [] x = refl

@@ -19,15 +19,15 @@ raw_volume_fact k blocks = record { name = 100 ∷ (49 + k) ∷ []; blocks = blo
 
 abbrev pub first_group : ℕ → ℕ → RvgFacts
 first_group site blocks = record {
-    role = Primary;
-    line = first_line site;
-    parent = no_line;
-    mark = Consistent;
-    low = 1;
-    last = 0;
-    ring = ring_of blocks;
-    halted = None;
-  }
+  role = Primary;
+  line = first_line site;
+  parent = no_line;
+  mark = Consistent;
+  low = 1;
+  last = 0;
+  ring = ring_of blocks;
+  halted = None;
+}
 
 abbrev pub raw_facts : ℕ → List VolumeFacts → SiteFacts → SiteFacts
 raw_facts site volumes f = record f { state = Up; volumes = volumes; rvg = Some (first_group site f.blocks) }

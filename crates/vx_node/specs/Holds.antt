@@ -1,5 +1,5 @@
 -- What the disks hold of a site, whatever a crash at this moment leaves on them.
-use Rattle.std.specs.Prelude.{◌≡◌, ℕ, ◌+◌, ◌<◌, ◌≤◌, List, length, None, Option, Some, slice_get, IsTrue}
+use Rattle.std.specs.Prelude.{◌≡◌, ℕ, ◌+◌, ◌<◌, List, length, None, Option, Some, slice_get, IsTrue}
 use Rattle.vx_model.specs.World.{Node, World}
 use Rattle.vx_model.specs.declared.site.SiteState.TheVariants.{Up}
 use Rattle.vx_disk.specs.Shelf.{Meaning, Image}

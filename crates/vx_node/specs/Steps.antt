@@ -1,7 +1,7 @@
 -- What a line does to the world, by cases on the line.
-use Rattle.std.specs.Prelude.{◌≡◌, ◌⊎◌, ℕ, ◌+◌, ◌*◌, ◌<◌, ◌≤◌, List, [], ◌∷◌, length, replicate, Option, Some, None, Result, Ok, Err, Bool, true, false, nat_le, nat_lt, if◌then◌else◌}
-use Rattle.vx_model.specs.Content.{Content, Write, block_of}
-use Rattle.vx_model.specs.World.{Node, World}
+use Rattle.std.specs.Prelude.{◌≡◌, ◌⊎◌, ℕ, ◌+◌, ◌*◌, ◌<◌, ◌≤◌, List, [], ◌∷◌, length, replicate, Option, Some, None, Result, Ok, Err, Bool}
+use Rattle.vx_model.specs.Content.{Content, Write}
+use Rattle.vx_model.specs.World.{World}
 use Rattle.vx_model.specs.Steps.{site_made, raw_made, written, half_written}
 use Rattle.vx_model.specs.declared.no.No.{No}
 use Rattle.vx_model.specs.declared.no.No.TheVariants.{Device, Limit}

@@ -1,5 +1,5 @@
 -- What the status of a site shows of the world.
-use Rattle.std.specs.Prelude.{ℕ, List, [], Option, Some, None, nat_lt, if◌then◌else◌}
+use Rattle.std.specs.Prelude.{ℕ, [], Option, Some, None, nat_lt, if◌then◌else◌}
 use Rattle.vx_model.specs.World.{Node, World}
 use Rattle.vx_model.specs.declared.no.SiteName.{SiteName}
 use Rattle.vx_model.specs.declared.no.SiteName.TheVariants.{Known, Number}

@@ -1,5 +1,5 @@
 -- A yard, and what its calls promise.
-use Rattle.std.specs.Prelude.{◌≡◌, ◌≢◌, ◌⊎◌, ℕ, ◌≤◌, List, [], ◌++◌, length, Option, Some, Result, Ok, Err, Bool, is_some, slice_get}
+use Rattle.std.specs.Prelude.{◌≡◌, ◌≢◌, ◌⊎◌, ℕ, ◌≤◌, List, [], ◌++◌, Option, Result, Ok, Err, Bool, is_some}
 use Rattle.std.specs.Vec.{vec_capacity}
 use Rattle.std.specs.Io.KnownBytes.{Appends}
 use Rattle.vx_model.specs.World.{World}
@@ -9,7 +9,6 @@ use Rattle.vx_node.specs.declared.yard.Yard.{Yard}
 use Rattle.vx_node.specs.declared.errors.LineStop.{LineStop}
 use Rattle.vx_node.specs.declared.errors.LineStop.TheVariants.{WriteFault, OutOfMemory}
 use Rattle.vx_node.specs.Facts.{facts_of}
-use Rattle.vx_node.specs.Replies.{text_of}
 use Rattle.vx_node.specs.Stands.{EnginesStand, AreTold, RoseAll, faults_of}
 use Rattle.vx_node.specs.Steps.{Fails, Prints}
 

@@ -38,7 +38,7 @@ impl<R: Rack> Yard<R> {
                 volume,
                 block,
                 bytes,
-            } => Ok(self.put_line(site, volume, *block, bytes)),
+            } if bytes.as_bytes().len() == 512 => { Ok(self.put_line(site, volume, *block, bytes)) }
             ScriptLine::Read {
                 site,
                 volume,
@@ -52,6 +52,7 @@ impl<R: Rack> Yard<R> {
                 count,
             } => Ok(self.show_line(site, volume, *block, *count)),
             ScriptLine::Status { site } => Ok(self.status_line(alloc, site)),
+            // A line that is not built, or bytes that are not one block: no script gives these.
             _ => Err(OutOfMemory),
         }
     }

@@ -2,7 +2,6 @@
 #![tactic(auto)]
 
 mod answer;
-mod built;
 mod calls;
 mod engine;
 mod errors;

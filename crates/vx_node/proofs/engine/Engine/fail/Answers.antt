@@ -1,5 +1,4 @@
-use Rattle.std.proofs.Common.{ℕ, subst}
-use Rattle.vx_model.specs.World.{Node}
+use Rattle.std.proofs.Common.{subst}
 use Rattle.vx_node.specs.Stands.{StandsAt}
 use Rattle.vx_node.proofs.Engines.{bare_still}
 use Rattle.vx_node.proofs.engine.Engine.fail.Goals as goal

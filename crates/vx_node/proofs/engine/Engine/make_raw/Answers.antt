@@ -1,4 +1,4 @@
-use Rattle.std.proofs.Common.{ℕ, subst, sym, ap, ◌∙◌, arith}
+use Rattle.std.proofs.Common.{subst, sym}
 use Rattle.vx_model.specs.declared.units.Units.{Units}
 use Rattle.vx_rvg.specs.Views.{Placed}
 use Rattle.vx_node.specs.Stands.{StandsAt}
@@ -7,9 +7,9 @@ use Rattle.vx_node.proofs.engine.Engine.make_raw.Goals as goal
 
 pub create-requires : goal.create-requires
 create-requires g c = record {
-    placed = subst (λ (u : Units). Placed u (g.R.Shelf.meaning c.in-Bare.rack)) (sym c.raw_units.ensures)
+  placed = subst (λ (u : Units). Placed u (g.R.Shelf.meaning c.in-Bare.rack)) (sym c.raw_units.ensures)
       (placed_raw c.units-disks.result (g.R.Shelf.meaning c.in-Bare.rack) c.units-disks.ensures c.if-disks-lt3.false);
-  }
+}
 
 pub returns-in-Ok-clause-made : goal.returns-in-Ok-clause-made
 returns-in-Ok-clause-made g c = λ n stands bare some.

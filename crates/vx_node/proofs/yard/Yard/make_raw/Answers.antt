@@ -1,6 +1,6 @@
 -- Each case of a line that makes a raw set.
-use Rattle.std.proofs.Common.{◌≡◌, ◌∙◌, ◌+◌, ◌<◌, ◌≤◌, ℕ, List, length, ap, sym, subst, refl, arith}
-use Rattle.std.specs.Prelude.{slice_get, slice_set, Some, map, ◌-◌}
+use Rattle.std.proofs.Common.{◌≡◌, ◌∙◌, ap, sym, refl, arith}
+use Rattle.std.specs.Prelude.{slice_set, Some, map, ◌-◌}
 use Rattle.vx_model.specs.Steps.{raw_volumes}
 use Rattle.vx_order.specs.declared.facts.SiteFacts.{SiteFacts}
 use Rattle.vx_node.specs.Facts.{seat_of, volume_fact}
@@ -29,21 +29,21 @@ returns-in-Ok-clause-works g c = λ w stands free.
     let three = get_at facts s c.index_mut-in-Ok.result.now within c.index_mut-in-Ok.ensures.value in
     let at = get_at engines s c.index_mut.result.now (omega (arith, c.if-site-len.false, c.len.ensures, c.args.self.now.engines.ok)) c.index_mut.ensures.value in
     raw_done w c.args.self.now _ c.args.name.now s c.index_mut-in-Ok.result.now c.in_ok-volumes.volumes c.replace-engine.result c.make_raw-engine.result.0 c.make_raw-engine.result.1 c.in-Ok.field-0 stands free is three
-      (c.in_ok-volumes.ensures
-        ∙ ap (λ (f : SiteFacts). map volume_fact (raw_volumes 1 (f.disks - 2) c.index-2.result.now.blocks)) (some_same (sym one ∙ three))
-        ∙ ap (λ (f : SiteFacts). map volume_fact (raw_volumes 1 (c.index_mut-in-Ok.result.now.disks - 2) f.blocks)) (some_same (sym two ∙ three)))
-      (at ∙ ap (λ e. Some e) (sym c.replace-engine.ensures.value))
-      c.make_raw-engine.ensures.later c.in-Ok.is c.make_raw-engine.ensures.made
-      (ap (λ (f : SiteFacts). slice_set facts s f) c.make_raw.ensures)
-      (ap (λ e. slice_set (slice_set engines s e) s c.make_raw-engine.result.0) c.replace-engine.ensures.after)
-      refl
+    (c.in_ok-volumes.ensures
+    ∙ ap (λ (f : SiteFacts). map volume_fact (raw_volumes 1 (f.disks - 2) c.index-2.result.now.blocks)) (some_same (sym one ∙ three))
+    ∙ ap (λ (f : SiteFacts). map volume_fact (raw_volumes 1 (c.index_mut-in-Ok.result.now.disks - 2) f.blocks)) (some_same (sym two ∙ three)))
+    (at ∙ ap (λ e. Some e) (sym c.replace-engine.ensures.value))
+    c.make_raw-engine.ensures.later c.in-Ok.is c.make_raw-engine.ensures.made
+    (ap (λ (f : SiteFacts). slice_set facts s f) c.make_raw.ensures)
+    (ap (λ e. slice_set (slice_set engines s e) s c.make_raw-engine.result.0) c.replace-engine.ensures.after)
+    refl
 
 pub returns-in-Ok-clause-told : goal.returns-in-Ok-clause-told
 returns-in-Ok-clause-told g c =
     let engines = c.args.self.now.engines.items in
     let at = get_at engines c.in-Some.site c.index_mut.result.now (omega (arith, c.if-site-len.false, c.len.ensures, c.args.self.now.engines.ok)) c.index_mut.ensures.value in
     raw_told engines _ c.in-Some.site c.replace-engine.result c.make_raw-engine.result.0 (at ∙ ap (λ e. Some e) (sym c.replace-engine.ensures.value)) c.make_raw-engine.ensures.later
-      (ap (λ e. slice_set (slice_set engines c.in-Some.site e) c.in-Some.site c.make_raw-engine.result.0) c.replace-engine.ensures.after)
+    (ap (λ e. slice_set (slice_set engines c.in-Some.site e) c.in-Some.site c.make_raw-engine.result.0) c.replace-engine.ensures.after)
 
 pub returns-in-Err-clause-works : goal.returns-in-Err-clause-works
 returns-in-Err-clause-works g c = λ w stands free.
@@ -53,19 +53,19 @@ returns-in-Err-clause-works g c = λ w stands free.
     let is : seat_of facts c.args.name.now ≡ Some s = ap (λ fs. seat_of fs c.args.name.now) (sym c.deref.ensures.value) ∙ sym c.seat.ensures ∙ c.in-Some.is in
     let at = get_at engines s c.index_mut.result.now (omega (arith, c.if-site-len.false, c.len.ensures, c.args.self.now.engines.ok)) c.index_mut.ensures.value in
     raw_failed c.in-Err.stop c.stopped.result w c.args.self.now _ c.args.name.now s c.index.result.now c.replace-engine.result c.make_raw-engine.result.0 c.make_raw-engine.result.1 c.stopped.ensures stands free is
-      (get_at facts s c.index.result.now (seat_within facts c.args.name.now s is) c.index.ensures)
-      (at ∙ ap (λ e. Some e) (sym c.replace-engine.ensures.value))
-      c.make_raw-engine.ensures.later c.in-Err.is c.make_raw-engine.ensures.made
-      refl
-      (ap (λ e. slice_set (slice_set engines s e) s c.make_raw-engine.result.0) c.replace-engine.ensures.after)
-      refl
+    (get_at facts s c.index.result.now (seat_within facts c.args.name.now s is) c.index.ensures)
+    (at ∙ ap (λ e. Some e) (sym c.replace-engine.ensures.value))
+    c.make_raw-engine.ensures.later c.in-Err.is c.make_raw-engine.ensures.made
+    refl
+    (ap (λ e. slice_set (slice_set engines s e) s c.make_raw-engine.result.0) c.replace-engine.ensures.after)
+    refl
 
 pub returns-in-Err-clause-told : goal.returns-in-Err-clause-told
 returns-in-Err-clause-told g c =
     let engines = c.args.self.now.engines.items in
     let at = get_at engines c.in-Some.site c.index_mut.result.now (omega (arith, c.if-site-len.false, c.len.ensures, c.args.self.now.engines.ok)) c.index_mut.ensures.value in
     raw_told engines _ c.in-Some.site c.replace-engine.result c.make_raw-engine.result.0 (at ∙ ap (λ e. Some e) (sym c.replace-engine.ensures.value)) c.make_raw-engine.ensures.later
-      (ap (λ e. slice_set (slice_set engines c.in-Some.site e) c.in-Some.site c.make_raw-engine.result.0) c.replace-engine.ensures.after)
+    (ap (λ e. slice_set (slice_set engines c.in-Some.site e) c.in-Some.site c.make_raw-engine.result.0) c.replace-engine.ensures.after)
 
 pub returns-then-site-len-clause-works : goal.returns-then-site-len-clause-works
 returns-then-site-len-clause-works g c = λ w stands free.

@@ -1,8 +1,6 @@
-use Rattle.std.proofs.Common.{◌≡◌, ◌∙◌, ◌++◌, ◌∷◌, [], ◌<◌, ◌≤◌, ℕ, length, ap, sym, subst, arith, refl, vec_len}
-use Rattle.std.specs.Prelude.{slice_get, slice_set, Some}
+use Rattle.std.proofs.Common.{◌≡◌, ◌∙◌, ◌++◌, ◌∷◌, [], ◌<◌, ℕ, length, ap, sym, arith, refl, vec_len}
+use Rattle.std.specs.Prelude.{slice_get, slice_set}
 use Rattle.vx_order.specs.declared.facts.SiteFacts.{SiteFacts}
-use Rattle.vx_script.specs.declared.line.ScriptLine.TheVariants.{Site}
-use Rattle.vx_node.specs.Working.{WorkIs}
 use Rattle.vx_node.proofs.Changing.{told_before}
 use Rattle.vx_node.proofs.Lists.{get_at, pop_pushed}
 use Rattle.vx_node.proofs.Refused.{site_may}
@@ -16,26 +14,26 @@ returns-in-Ok-clause-works g c = λ w stands free.
     let many = sites_many w c.args.self.now stands in
     let site : c.len-site.result ≡ length c.args.self.now.facts.items = omega (arith, c.len-site.ensures, c.args.self.now.facts.ok) in
     let at = ap (slice_get c.args.self.now.engines.items) (sym site)
-          ∙ get_at c.args.self.now.engines.items c.len-site.result c.index_mut.result.now (omega (arith, c.if-site-len.false, c.len.ensures, c.args.self.now.engines.ok)) c.index_mut.ensures.value in
+    ∙ get_at c.args.self.now.engines.items c.len-site.result c.index_mut.result.now (omega (arith, c.if-site-len.false, c.len.ensures, c.args.self.now.engines.ok)) c.index_mut.ensures.value in
     site_done w c.args.self.now _ c.args.name.now c.args.disks c.args.blocks c.index_mut.result.now c.fit-made.new.self stands free
-      at c.in-Ok.ensures.later
-      (c.in-Ok.ensures.fits (stands.engines.others (length c.args.self.now.facts.items) c.index_mut.result.now (omega (arith, many)) at))
-      (c.in_ok-push.ensures.items ∙ ap (λ (f : SiteFacts). c.args.self.now.facts.items ++ f ∷ []) c.bare.ensures)
-      (ap (λ (k : ℕ). slice_set c.args.self.now.engines.items k c.fit-made.new.self) site)
-      refl
+    at c.in-Ok.ensures.later
+    (c.in-Ok.ensures.fits (stands.engines.others (length c.args.self.now.facts.items) c.index_mut.result.now (omega (arith, many)) at))
+    (c.in_ok-push.ensures.items ∙ ap (λ (f : SiteFacts). c.args.self.now.facts.items ++ f ∷ []) c.bare.ensures)
+    (ap (λ (k : ℕ). slice_set c.args.self.now.engines.items k c.fit-made.new.self) site)
+    refl
 
 pub returns-in-Err-clause-works : goal.returns-in-Err-clause-works
 returns-in-Err-clause-works g c = λ w stands free.
     let many = sites_many w c.args.self.now stands in
     let site : c.len-site.result ≡ length c.args.self.now.facts.items = omega (arith, c.len-site.ensures, c.args.self.now.facts.ok) in
     let at = ap (slice_get c.args.self.now.engines.items) (sym site)
-          ∙ get_at c.args.self.now.engines.items c.len-site.result c.index_mut.result.now (omega (arith, c.if-site-len.false, c.len.ensures, c.args.self.now.engines.ok)) c.index_mut.ensures.value in
+    ∙ get_at c.args.self.now.engines.items c.len-site.result c.index_mut.result.now (omega (arith, c.if-site-len.false, c.len.ensures, c.args.self.now.engines.ok)) c.index_mut.ensures.value in
     site_said c.folder.result c.in-Err.stop c.stopped.result w c.args.self.now _ c.args.name.now c.args.disks c.args.blocks c.index_mut.result.now c.fit-made.new.self c.stopped.ensures stands free
-        c.folder.ensures at c.in-Err.ensures.later
-        (c.in-Err.ensures.fits (stands.engines.others (length c.args.self.now.facts.items) c.index_mut.result.now (omega (arith, many)) at))
-        (pop_pushed c.args.self.now.facts.items c.push.new.self.items c.pop.new.self.items c.bare.result (vec_len c.push.new.self) c.in_ok-push.ensures.items (omega (arith, c.push.new.self.ok)) c.pop.ensures.rest)
-        (ap (λ (k : ℕ). slice_set c.args.self.now.engines.items k c.fit-made.new.self) site)
-        refl
+    c.folder.ensures at c.in-Err.ensures.later
+    (c.in-Err.ensures.fits (stands.engines.others (length c.args.self.now.facts.items) c.index_mut.result.now (omega (arith, many)) at))
+    (pop_pushed c.args.self.now.facts.items c.push.new.self.items c.pop.new.self.items c.bare.result (vec_len c.push.new.self) c.in_ok-push.ensures.items (omega (arith, c.push.new.self.ok)) c.pop.ensures.rest)
+    (ap (λ (k : ℕ). slice_set c.args.self.now.engines.items k c.fit-made.new.self) site)
+    refl
 
 pub returns-in-Ok-clause-told : goal.returns-in-Ok-clause-told
 returns-in-Ok-clause-told g c = told_before c.args.self.now.engines.items c.len-site.result c.index_mut.result.now c.fit-made.new.self

@@ -1,6 +1,5 @@
 -- Each case of a line that makes a disk fail, or ends that.
-use Rattle.std.proofs.Common.{◌≡◌, ◌∙◌, ◌+◌, ◌<◌, ◌≤◌, ℕ, List, length, ap, sym, refl, arith}
-use Rattle.std.specs.Prelude.{Some}
+use Rattle.std.proofs.Common.{◌∙◌, ap, sym, refl, arith}
 use Rattle.vx_node.specs.Facts.{seat_of}
 use Rattle.vx_node.specs.Yards.{in_files}
 use Rattle.vx_node.proofs.Changing.{told_before}
@@ -14,7 +13,7 @@ pub returns-in_default-clause-works : goal.returns-in_default-clause-works
 returns-in_default-clause-works g c = λ w stands free.
     let is = sym c.seat.ensures ∙ c.in_default.is in
     absurd (named_none c.args.self.now c.args.name.now (ap (λ fs. seat_of fs c.args.name.now) (sym c.deref.ensures.value) ∙ is)
-      (disk_may c.args.self.now.facts.items (in_files c.args.self.now) c.args.name.now c.args.disk c.args.state free).0)
+    (disk_may c.args.self.now.facts.items (in_files c.args.self.now) c.args.name.now c.args.disk c.args.state free).0)
 
 pub returns-then-site-len-clause-works : goal.returns-then-site-len-clause-works
 returns-then-site-len-clause-works g c = λ w stands free.
@@ -32,4 +31,4 @@ pub returns-clause-told : goal.returns-clause-told
 returns-clause-told g c =
     let engines = c.args.self.now.engines.items in
     told_before engines c.in-Some.site c.index_mut.result.now c.fail.new.self
-      (get_at engines c.in-Some.site c.index_mut.result.now (omega (arith, c.if-site-len.false, c.len.ensures, c.args.self.now.engines.ok)) c.index_mut.ensures.value) c.fail.ensures.later
+    (get_at engines c.in-Some.site c.index_mut.result.now (omega (arith, c.if-site-len.false, c.len.ensures, c.args.self.now.engines.ok)) c.index_mut.ensures.value) c.fail.ensures.later
