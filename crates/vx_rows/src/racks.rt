@@ -12,7 +12,7 @@ pub fn fresh_racks(alloc: Global, fails: &[u64]) -> Result<Vec<MemShelf>, OutOfM
     ensures { IfOk result (λ racks. AreFresh shelf_meaning racks.items) }
 {
     let mut racks = Vec::new(alloc);
-    for _ in 0..8 {
+    for _step in 0..8u32 {
         racks.push(MemShelf::new(alloc, fails)?)?;
     }
     Ok(racks)

@@ -6,6 +6,6 @@ use Rattle.vx.proofs.racks.fresh_racks.Given as goal
 
 abbrev pub invariant-loop-step : goal.invariant-loop-step
 invariant-loop-step l = record {
-  count : length l.racks.items ≡ l.step;
+  count : length l.racks.items ≡ l._step;
   bare : All (λ r. Bare (rack_meaning r)) l.racks.items;
 }
