@@ -1,0 +1,14 @@
+//! The disks of a site in memory or in files: the trusted edge.
+//!
+//! In files one disk is one file of 512 bytes a block.
+#![tactic(auto)]
+
+mod counts;
+mod files;
+mod fit;
+mod host;
+mod rack;
+#[cfg(test)]
+mod tests;
+
+pub use host::HostRack;

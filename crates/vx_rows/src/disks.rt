@@ -1,0 +1,32 @@
+// Disks that fail.
+use crate::answers::{answers, answers_with};
+use std::test::Fail;
+use vx_cli::Status;
+
+// The first call on the disks is the log's, on disk 0.
+#[test]
+fn a_device_call_that_fails_is_named(rt: HostRuntime) -> Result<(), Fail> {
+    let answer = answers_with(&rt, rt.alloc(), &[1], b"site a 3 64\nraw a\n")?;
+    assert!(rt; answer.is(Status::Done, "done\nno 7 device 0\n"));
+    Ok(())
+}
+
+#[test]
+fn a_set_whose_disk_failed_is_halted(rt: HostRuntime) -> Result<(), Fail> {
+    let script =
+        b"site a 3 64\nraw a\ndisk a 1 fail\nwrite a d1 0 1 05\nwrite a d1 0 1 05\nread a d1 0 1\n";
+    let answer = answers(&rt, rt.alloc(), script)?;
+    let wanted = "done\ndone\ndone\nno 7 device 1\nno 20 halted 1\nno 20 halted 1\n";
+    assert!(rt; answer.is(Status::Done, wanted));
+    Ok(())
+}
+
+// A read that fails halts nothing.
+#[test]
+fn a_read_of_a_failing_disk_is_refused(rt: HostRuntime) -> Result<(), Fail> {
+    let script = b"site a 3 64\nraw a\ndisk a 1 fail\nread a d1 0 1\ndisk a 1 ok\nread a d1 0 1\n";
+    let answer = answers(&rt, rt.alloc(), script)?;
+    let wanted = "done\ndone\ndone\nno 7 device 1\ndone\n00\n";
+    assert!(rt; answer.is(Status::Done, wanted));
+    Ok(())
+}

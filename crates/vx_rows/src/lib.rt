@@ -1,0 +1,20 @@
+//! Tests of the whole call, from the words to the replies, each by a short script whose replies were worked out by hand.
+#![tactic(auto)]
+
+#[cfg(test)]
+mod answers;
+#[cfg(test)]
+mod bytes;
+#[cfg(test)]
+mod disks;
+#[cfg(test)]
+mod ends;
+#[cfg(test)]
+mod lines;
+mod racks;
+#[cfg(test)]
+mod statuses;
+#[cfg(test)]
+mod wrong;
+
+pub use racks::fresh_racks;

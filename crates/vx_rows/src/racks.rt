@@ -1,0 +1,19 @@
+// The disks of the sites, in memory.
+ghost use Rattle.std.specs.Prelude.{IfOk};
+ghost use Rattle.vx_disk.specs.Meanings.{shelf_meaning};
+ghost use Rattle.vx_node.specs.Holds.{AreFresh};
+
+use std::alloc::Global;
+use vx_disk::MemShelf;
+use vx_model::OutOfMemory;
+
+/// Eight racks in memory, none of them fitted. On each the calls of these numbers, from 1, are to fail.
+pub fn fresh_racks(alloc: Global, fails: &[u64]) -> Result<Vec<MemShelf>, OutOfMemory>
+    ensures { IfOk result (λ racks. AreFresh shelf_meaning racks.items) }
+{
+    let mut racks = Vec::new(alloc);
+    for _ in 0..8 {
+        racks.push(MemShelf::new(alloc, fails)?)?;
+    }
+    Ok(racks)
+}

@@ -1,0 +1,34 @@
+// Lines that are wrong, and the last line.
+use crate::answers::answers;
+use std::test::Fail;
+use vx_cli::Status;
+
+#[test]
+fn a_command_that_is_not_known_ends_the_run(rt: HostRuntime) -> Result<(), Fail> {
+    let answer = answers(&rt, rt.alloc(), b"site a 3 64\nfoo\nraw a\n")?;
+    assert!(rt; answer.is(Status::BadLine { line: 2, column: 1 }, "done\nbad 2 1\n"));
+    Ok(())
+}
+
+// A line has 4,096 bytes at most.
+#[test]
+fn a_long_line_ends_the_run(rt: HostRuntime) -> Result<(), Fail> {
+    let alloc = rt.alloc();
+    for (count, line, wanted) in [(4096, 1, "bad 1 1\n"), (4097, 1, "bad 1 4097\n")] {
+        let script = vec![in alloc; b'x'; count]?;
+        let answer = answers(&rt, alloc, &script)?;
+        let column = if count == 4096 { 1 } else { 4097 };
+        assert!(rt;
+            answer.is(Status::BadLine { line, column }, wanted),
+            "at {count}"
+        );
+    }
+    Ok(())
+}
+
+#[test]
+fn the_last_line_needs_no_end(rt: HostRuntime) -> Result<(), Fail> {
+    let answer = answers(&rt, rt.alloc(), b"site a 3 64\nraw a")?;
+    assert!(rt; answer.is(Status::Done, "done\ndone\n"));
+    Ok(())
+}
