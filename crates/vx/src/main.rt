@@ -6,6 +6,8 @@ mod racks;
 mod words;
 
 ghost use Rattle.std.specs.Prelude.{◌≡◌};
+ghost use Rattle.std.specs.Process.{exit_status};
+ghost use Rattle.vx_cli.specs.Codes.{code_of};
 
 use crate::racks::fresh_racks;
 use crate::words::words;
@@ -23,6 +25,12 @@ fn main(rt: HostRuntime) -> ExitCode {
     if let Some(trouble) = trouble(status) {
         let _ = eprintln!(rt; "vx: {trouble}");
     }
+    ended(status)
+}
+
+fn ended(status: Status) -> ExitCode
+    ensures { exit_status result ≡ code_of status }
+{
     ExitCode::from(status.code())
 }
 

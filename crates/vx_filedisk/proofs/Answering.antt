@@ -1,8 +1,8 @@
 -- What a call answers, and what the rack's counts and disks are after it.
 use Rattle.std.proofs.Common.{◌≡◌, sym, subst, inl, inr, ⊎_elim, ℕ, ◌≤◌, Option, None, Some, Result, Ok, Err, OnOk, arith}
+use Rattle.std.proofs.lemmas.Bool.{cases_eq}
 use Rattle.vx_disk.specs.declared.shelf.ShelfError.{ShelfError}
 use Rattle.vx_disk.specs.declared.shelf.ShelfError.TheVariants.{Fault, Down}
-use Rattle.std.proofs.lemmas.Bool.{cases_eq}
 use Rattle.vx_disk.specs.Causes.{Calls, OnDisks}
 use Rattle.vx_disk.specs.Disks.{Disks}
 use Rattle.vx_disk.specs.Shelf.{Goes, Meaning, Values}
@@ -13,10 +13,12 @@ use Rattle.vx_filedisk.specs.Hosts.{blank, host_meaning, shown}
 use Rattle.vx_filedisk.specs.Laws.{never}
 use Rattle.vx_filedisk.proofs.Hosts.{blank_Crashed, blank_SameBlocks, blank_Untouched, memory_Goes}
 
+-- what follows from an Ok
 pub on_ok : {T E : Type 0} {P Q : Type 0} (r : Result T E) → OnOk r P → (P → Q) → OnOk r Q
 on_ok (Ok x) p f = f p
 on_ok (Err e) p f = tt
 
+-- of a call on files the fuse is told, and nothing of blocks
 pub files_Calls : {T : Type 0} (f : DiskFiles) (c : ℕ → ℕ) (a : Meaning) (step untold : Disks → Disks → Type 0) (o n : Disks) (r : Result T ShelfError) → Calls a step o n r
     → Calls (host_meaning (Some f) c a) untold (blank o) (blank n) r
 files_Calls f c a step untold o n (Ok x) calls = ((λ tells. never tells), calls.1)

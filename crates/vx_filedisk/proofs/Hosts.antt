@@ -28,6 +28,7 @@ module _ (c d : ℕ → ℕ) (a b : Meaning) where
     safe = goes.safe;
   }
 
+-- the blocks of files look the same whatever was done
 pub blank_SameBlocks : (o n : Disks) → SameBlocks (blank o) (blank n)
 blank_SameBlocks o n = record { stable = λ u b. refl; latest = λ u b. refl; loose = λ u b. refl }
 
@@ -50,6 +51,7 @@ host_Untouched (Some f) None (Some n) same = same
 host_Untouched (Some f) (Some o) None same = same
 host_Untouched (Some f) (Some o) (Some n) same = (blank_Untouched o n same.0, same.1)
 
+-- contents that are the same in memory are so in files
 pub host_SameContents : (files : Option DiskFiles) (c d : ℕ → ℕ) (a b : Meaning) → SameContents a b → SameContents (host_meaning files c a) (host_meaning files d b)
 host_SameContents None c d a b same = record {
   units = same.units;
@@ -80,6 +82,7 @@ host_SameContents (Some f) c d a b same = record {
   keeps = λ t i is. is;
 }
 
+-- a crash is one of the rack
 pub host_Crashed : (files : Option DiskFiles) (c : ℕ → ℕ) (a : Meaning) (pick : ℕ) (o n : Option Disks) → OnDisks o n (Crashed a.size pick)
     → OnDisks (shown files o) (shown files n) (Crashed (host_meaning files c a).size pick)
 host_Crashed None c a pick o n crashed = crashed
@@ -93,6 +96,7 @@ pub bare_None : (files : Option DiskFiles) (m : Meaning) → AsMany files m → 
 bare_None None m many bare = refl
 bare_None (Some f) m many bare = absurd (omega (arith, (many f refl).1, bare))
 
+-- and a fit of one in memory
 pub memory_Fitted : (c : ℕ → ℕ) (a b : Meaning) (disks blocks : ℕ) → Fitted disks blocks a b → Fitted disks blocks (host_meaning None c a) (host_meaning None c b)
 memory_Fitted c a b disks blocks fitted = record {
   units = fitted.units;
@@ -119,6 +123,7 @@ host_Unfitted files c a b stop other bare = record {
   told = host_Untouched files _ _ bare.told;
 }
 
+-- the same of an answer, and of one that names another cause
 pub same_err : {T : Type 0} (files : Option DiskFiles) (c : ℕ → ℕ) (a b : Meaning) (r : Result T Stop) → IfErr r (Unfitted a b) → IfErr r (Unfitted (host_meaning files c a) (host_meaning files c b))
 same_err files c a b (Ok x) bare = tt
 same_err files c a b (Err stop) bare = host_Unfitted files c a b stop stop bare

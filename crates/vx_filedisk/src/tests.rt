@@ -93,6 +93,15 @@ fn files_keep_what_was_written(rt: HostRuntime) -> Result<(), Fail> {
     drop(second);
     let mut longer = fitted(rt, rt.alloc(), Some("."), 9)?;
     assert_eq!(rt; last_byte(&mut longer, 1, 3), Ok(0));
+    // Another cuts the file short under it.
+    assert!(rt; fs::write(&rt, "./901-1.vxd", "").is_ok());
+    assert_eq!(rt;
+        last_byte(&mut longer, 1, 3),
+        Err(ShelfError::Fault { disk: 1 })
+    );
+    assert_eq!(rt; last_byte(&mut longer, 0, 3), Ok(0));
+    assert_eq!(rt; faults(&longer, 1), 1);
+    assert_eq!(rt; faults(&longer, 0), 0);
     remove(&rt);
     Ok(())
 }

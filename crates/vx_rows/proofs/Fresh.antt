@@ -11,7 +11,7 @@ module _ {R : Type 0} (meaning : R → Meaning) where
   bare_at : (racks : List R) → All (λ (r : R). Bare (meaning r)) racks → (s : ℕ) (r : R) → slice_get racks s ≡ Some r → Bare (meaning r)
   bare_at racks all s r at =
       subst (λ (x : R). Bare (meaning x)) (get_or_from_slice_get racks s r r at)
-        (All-get_or (λ (x : R). Bare (meaning x)) racks s r (slice_get_within racks s r at) all)
+      (All-get_or (λ (x : R). Bare (meaning x)) racks s r (slice_get_within racks s r at) all)
 
   pub fresh : (racks : List R) → length racks ≡ 8 → All (λ (r : R). Bare (meaning r)) racks → AreFresh meaning racks
   fresh racks eight all = record {

@@ -38,3 +38,14 @@ fn sites_are_apart(rt: HostRuntime) -> Result<(), Fail> {
     assert!(rt; answer.is(Status::Done, wanted));
     Ok(())
 }
+
+#[test]
+fn sites_and_sets_are_refused(rt: HostRuntime) -> Result<(), Fail> {
+    let script =
+        b"site a 3 64\nraw a\nraw a\nsite a 3 64\nsite c 9 64\nsite c 2 64\nraw c\nstatus d\n";
+    let answer = answers(&rt, rt.alloc(), script)?;
+    let wanted =
+        "done\ndone\nno 5 role\nno 2 exists a\nno 19 limit disks 8\ndone\nno 4 size\nno 1 unknown d\n";
+    assert!(rt; answer.is(Status::Done, wanted));
+    Ok(())
+}

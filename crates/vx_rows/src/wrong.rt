@@ -32,3 +32,10 @@ fn the_last_line_needs_no_end(rt: HostRuntime) -> Result<(), Fail> {
     assert!(rt; answer.is(Status::Done, "done\ndone\n"));
     Ok(())
 }
+
+#[test]
+fn a_kind_that_is_not_built_is_wrong(rt: HostRuntime) -> Result<(), Fail> {
+    let answer = answers(&rt, rt.alloc(), b"site a 3 64\ntakeover a\n")?;
+    assert!(rt; answer.is(Status::BadLine { line: 2, column: 1 }, "done\nbad 2 1\n"));
+    Ok(())
+}

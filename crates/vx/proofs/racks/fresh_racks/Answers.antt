@@ -1,6 +1,6 @@
 use Rattle.std.proofs.Common.{◌≡◌, ◌∷◌, [], List, ap, arith, length, length-append, subst, sym}
 use Rattle.std.specs.List.{All}
-use Rattle.std.proofs.lemmas.List.Elements.{All-push, All-nil}
+use Rattle.std.proofs.lemmas.List.Elements.{All-push}
 use Rattle.vx_disk.specs.Racks.{Bare}
 use Rattle.vx_filedisk.specs.Meanings.{rack_meaning}
 use Rattle.vx_filedisk.specs.declared.host.HostRack.{HostRack}

@@ -1,6 +1,7 @@
-use Rattle.std.proofs.Common.{◌≡◌, ◌∷◌, [], List, ap, arith, length, length-append, subst, sym}
+use Rattle.std.proofs.Common.{◌≡◌, List, ap, arith, length, subst, sym}
 use Rattle.std.specs.List.{All}
-use Rattle.std.proofs.lemmas.List.Elements.{All-push, All-nil}
+use Rattle.std.proofs.lemmas.List.{length_push}
+use Rattle.std.proofs.lemmas.List.Elements.{All-push}
 use Rattle.vx_disk.specs.Racks.{Bare}
 use Rattle.vx_disk.specs.Meanings.{shelf_meaning}
 use Rattle.vx_disk.specs.declared.memory.MemShelf.{MemShelf}
@@ -9,7 +10,7 @@ use Rattle.vx_rows.proofs.racks.fresh_racks.Goals as goal
 
 pub loop-step-preserved : goal.loop-step-preserved
 loop-step-preserved c = record {
-  count = omega (arith, ap (λ (racks : List MemShelf). length racks) c.in_ok-push.ensures.items, length-append c.loop-step.racks.items (c.in_ok-new.field-0 ∷ []), c.loop-step.invariant.count);
+  count = omega (arith, ap (λ (racks : List MemShelf). length racks) c.in_ok-push.ensures.items, length_push c.loop-step.racks.items c.in_ok-new.field-0, c.loop-step.invariant.count);
   bare = subst (λ (racks : List MemShelf). All (λ (r : MemShelf). Bare (shelf_meaning r)) racks) (sym c.in_ok-push.ensures.items)
       (All-push (λ (r : MemShelf). Bare (shelf_meaning r)) _ _ c.loop-step.invariant.bare c.in_ok-new.ensures.bare);
 }
