@@ -9,4 +9,5 @@ pub mod Flags
 pub mod Moving
 pub mod Pasts
 pub mod Runs
+pub mod Same
 pub mod Stops

@@ -76,7 +76,7 @@ impl MemUnit {
         ensures faults { self.new.faults ≡ self.old.faults }
         ensures failing { self.new.failing ≡ self.old.failing }
     {
-        self.stable.copy_from_slice(&self.latest);
+        keep_loose(&mut self.stable, &self.latest, &self.loose);
         self.loose.fill(false);
     }
 
@@ -156,6 +156,29 @@ fn settle_block(
         keep_block(stable, latest, b);
     }
     (number + 1) % 64
+}
+
+// Keeps the latest value of each loose block.
+fn keep_loose(stable: &mut [u8], latest: &[u8], loose: &[bool])
+    requires stable { length stable.old ≡ 512 * length loose.now }
+    requires latest { length latest.now ≡ 512 * length loose.now }
+    ensures kept { (b : ℕ) → block_at stable.new b ≡ cond (slice_index_or loose.now b false) (block_at latest.now b) (block_at stable.old b) }
+{
+    for b in 0..loose.len() {
+        keep_where(stable, latest, loose[b], b);
+    }
+}
+
+// Keeps the latest value of block b, if it is loose.
+fn keep_where(stable: &mut [u8], latest: &[u8], loose: bool, b: usize)
+    requires in_stable { 512 * b + 512 ≤ length stable.old }
+    requires in_latest { 512 * b + 512 ≤ length latest.now }
+    ensures here { block_at stable.new b ≡ cond loose (block_at latest.now b) (block_at stable.old b) }
+    ensures elsewhere { (k : ℕ) → k ≢ b → block_at stable.new k ≡ block_at stable.old k }
+{
+    if loose {
+        keep_block(stable, latest, b);
+    }
 }
 
 fn bit(pick: u64, number: u32) -> bool
