@@ -61,9 +61,9 @@ pub fn answers<H: Threads + Wait + Sync>(
 
 #[test]
 fn the_first_run_is_answered(rt: HostRuntime) -> Result<(), Fail> {
-    let script = b"site a 3 64\nraw a\nwrite a d1 3 1 5a\nread a d1 3 1\n";
+    let script = b"site a 3 64\nraw a\nwrite a d1 3 1 5a\nread a d1 3 1\nread a d1 4 1\n";
     let answer = answers(&rt, rt.alloc(), script)?;
-    assert!(rt; answer.is(Status::Done, "done\ndone\ndone 1\n5a\n"));
+    assert!(rt; answer.is(Status::Done, "done\ndone\ndone 1\n5a\n00\n"));
     Ok(())
 }
 

@@ -33,7 +33,7 @@ fn a_read_of_a_failing_disk_is_refused(rt: HostRuntime) -> Result<(), Fail> {
 
 #[test]
 fn a_log_that_failed_halts_the_set(rt: HostRuntime) -> Result<(), Fail> {
-    let script = b"site a 3 64\nraw a\ndisk a 0 fail\nwrite a d1 0 1 05\nwrite a d1 0 1 05\n";
+    let script = b"site a 3 64\nraw a\ndisk a 0 fail\nwrite a d1 0 1 11\nread a d1 0 1\n";
     let answer = answers(&rt, rt.alloc(), script)?;
     let wanted = "done\ndone\ndone\nno 7 device 0\nno 20 halted 0\n";
     assert!(rt; answer.is(Status::Done, wanted));

@@ -39,3 +39,17 @@ fn a_kind_that_is_not_built_is_wrong(rt: HostRuntime) -> Result<(), Fail> {
     assert!(rt; answer.is(Status::BadLine { line: 2, column: 1 }, "done\nbad 2 1\n"));
     Ok(())
 }
+
+#[test]
+fn a_long_second_line_is_named(rt: HostRuntime) -> Result<(), Fail> {
+    let alloc = rt.alloc();
+    let mut script = b"site a 3 64\n".to_vec(alloc)?;
+    script.extend_from_slice(&vec![in alloc; b'x'; 4097]?)?;
+    let answer = answers(&rt, alloc, &script)?;
+    let status = Status::BadLine {
+        line: 2,
+        column: 4097,
+    };
+    assert!(rt; answer.is(status, "done\nbad 2 4097\n"));
+    Ok(())
+}
