@@ -1,6 +1,6 @@
 // The first words of lines.
 ghost use Rattle.std.specs.Prelude.{◌≡◌};
-ghost use Rattle.vx_script.specs.Keywords.{site_text, number_text, span_text, link_text, pair_text, text_of, keyword_of};
+ghost use Rattle.vx_script.specs.Keywords.{pair_text, text_of, keyword_of};
 
 use crate::word::{Word, find_word};
 
@@ -118,55 +118,6 @@ pub const KEYWORDS: [Keyword; 38] = [
     Keyword::OfPair(PairVerb::Activate),
 ];
 
-impl SiteVerb {
-    fn text(self) -> &'static [u8]
-        ensures { result.now ≡ site_text self }
-    {
-        match self {
-            SiteVerb::Raw => b"raw",
-            SiteVerb::Recover => b"recover",
-            SiteVerb::Takeover => b"takeover",
-            SiteVerb::Status => b"status",
-        }
-    }
-}
-
-impl NumberVerb {
-    fn text(self) -> &'static [u8]
-        ensures { result.now ≡ number_text self }
-    {
-        match self {
-            NumberVerb::Crash => b"crash",
-            NumberVerb::Apply => b"apply",
-            NumberVerb::Wait => b"wait",
-            NumberVerb::Burst => b"burst",
-        }
-    }
-}
-
-impl SpanVerb {
-    fn text(self) -> &'static [u8]
-        ensures { result.now ≡ span_text self }
-    {
-        match self {
-            SpanVerb::Read => b"read",
-            SpanVerb::Show => b"show",
-        }
-    }
-}
-
-impl LinkVerb {
-    fn text(self) -> &'static [u8]
-        ensures { result.now ≡ link_text self }
-    {
-        match self {
-            LinkVerb::Link => b"link",
-            LinkVerb::Set => b"set",
-            LinkVerb::Bunker => b"bunker",
-        }
-    }
-}
-
 impl PairVerb {
     fn text(self) -> &'static [u8]
         ensures { result.now ≡ pair_text self }
@@ -206,10 +157,19 @@ impl Word for Keyword {
             Keyword::Deliver => b"deliver",
             Keyword::Call => b"t",
             Keyword::End => b"end",
-            Keyword::OfSite(verb) => verb.text(),
-            Keyword::OfNumber(verb) => verb.text(),
-            Keyword::OfSpan(verb) => verb.text(),
-            Keyword::OfLink(verb) => verb.text(),
+            Keyword::OfSite(SiteVerb::Raw) => b"raw",
+            Keyword::OfSite(SiteVerb::Recover) => b"recover",
+            Keyword::OfSite(SiteVerb::Takeover) => b"takeover",
+            Keyword::OfSite(SiteVerb::Status) => b"status",
+            Keyword::OfNumber(NumberVerb::Crash) => b"crash",
+            Keyword::OfNumber(NumberVerb::Apply) => b"apply",
+            Keyword::OfNumber(NumberVerb::Wait) => b"wait",
+            Keyword::OfNumber(NumberVerb::Burst) => b"burst",
+            Keyword::OfSpan(SpanVerb::Read) => b"read",
+            Keyword::OfSpan(SpanVerb::Show) => b"show",
+            Keyword::OfLink(LinkVerb::Link) => b"link",
+            Keyword::OfLink(LinkVerb::Set) => b"set",
+            Keyword::OfLink(LinkVerb::Bunker) => b"bunker",
             Keyword::OfPair(verb) => verb.text(),
         }
     }

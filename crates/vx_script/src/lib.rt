@@ -6,7 +6,6 @@ mod errors;
 mod keyword;
 mod laws;
 mod line;
-mod lines;
 mod names;
 mod parser;
 mod places;

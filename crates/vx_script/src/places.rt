@@ -6,7 +6,7 @@ ghost use Rattle.vx_script.specs.Formats.{policy_of};
 
 use crate::line::ReadPolicy;
 use crate::scan::Words;
-use crate::values::{as_block, as_byte, name_after, names_after, number_after};
+use crate::values::{as_block, as_byte, as_name, as_names, number_after};
 use crate::word::{Word, find_word};
 use crate::{Names, Wrong};
 use std::alloc::Global;
@@ -27,11 +27,15 @@ fn as_policy(word: &[u8]) -> Option<ReadPolicy>
 
 impl<'a> Words<'a> {
     /// A name behind a label.
+    #[tactic(auto, unfolding(crate::specs::Words::labelled))]
     pub fn name(&mut self, label: &[u8]) -> Result<Name, Wrong>
         ensures { Gives (λ x. (x, self.new.left.now)) result (next (labelled label.now name_of) self.old.left.now) }
     {
         let (word, left) = self.next();
-        name_after(label, word).ok_or(Wrong::Left(left))
+        match word.strip_prefix(label) {
+            Some(text) => as_name(text).ok_or(Wrong::Left(left)),
+            None => Err(Wrong::Left(left)),
+        }
     }
 
     /// A number behind a label.
@@ -43,11 +47,15 @@ impl<'a> Words<'a> {
     }
 
     /// Names behind a label.
+    #[tactic(auto, unfolding(crate::specs::Words::labelled))]
     pub fn names(&mut self, alloc: Global, label: &[u8]) -> Result<Names, Wrong>
         ensures { Gives (λ x. (x, self.new.left.now)) result (next (labelled label.now names_of) self.old.left.now) }
     {
         let (word, left) = self.next();
-        match names_after(alloc, label, word) {
+        let Some(text) = word.strip_prefix(label) else {
+            return Err(Wrong::Left(left));
+        };
+        match as_names(alloc, text) {
             Ok(Some(names)) => Ok(names),
             Ok(None) => Err(Wrong::Left(left)),
             Err(_) => Err(Wrong::Memory),

@@ -151,7 +151,7 @@ fn text_of_line(alloc: Global, line: &ScriptLine) -> Result<Vec<u8>, OutOfMemory
             volume,
             block,
         } => print_call_read(alloc, *thread, volume, *block),
-        ScriptLine::End => print_end(alloc),
+        ScriptLine::End => Ok(Vec::from_slice(alloc, b"end")?),
     }
 }
 

@@ -263,10 +263,3 @@ pub fn print_volume(
     push_options(alloc, &mut out, layout, log, map, policy)?;
     Ok(out)
 }
-
-pub fn print_end(alloc: Global) -> Result<Vec<u8>, OutOfMemory>
-    ensures { IfOk result (λ text. text.items ≡ spelling ScriptLine.End) }
-{
-    let out = Vec::from_slice(alloc, b"end")?;
-    Ok(out)
-}

@@ -1,9 +1,10 @@
 // What follows the first word of each kind of line.
 ghost use Rattle.vx_script.specs.Words.{Gives};
-ghost use Rattle.vx_script.specs.Formats.{read, format_of, site_format, disk_format, fuse_format, group_format, plex_format, rvg_format, write_format, put_format, deliver_format, call_more, call_format, end_format, of_site_format, of_number_format, of_span_format, of_link_format, of_pair_format};
+ghost use Rattle.vx_script.specs.Formats.{read, format_of, site_format, disk_format, fuse_format, group_format, plex_format, rvg_format, write_format, put_format, deliver_format, call_format, of_site_format, of_number_format, of_span_format, of_link_format, of_pair_format};
 
 use crate::choice::{
-    CALL_VERBS, CallVerb, DISK_STATES, GROUP_VERBS, PLEX_VERBS, PROTS, SYNC_MODES,
+    CALL_VERBS, CallVerb, DISK_STATES, GROUP_VERBS, GroupVerb, PLEX_VERBS, PROTS, PlexVerb,
+    SYNC_MODES,
 };
 use crate::keyword::{Keyword, LinkVerb, NumberVerb, PairVerb, SiteVerb, SpanVerb};
 use crate::scan::Words;
@@ -55,7 +56,11 @@ fn group(words: &mut Words) -> Result<ScriptLine, Wrong>
     let site = words.name(b"")?;
     let verb = words.one_of(&GROUP_VERBS)?;
     words.end()?;
-    Ok(verb.line(site))
+    Ok(match verb {
+        GroupVerb::Init => ScriptLine::GroupInit { site },
+        GroupVerb::Deport => ScriptLine::GroupDeport { site },
+        GroupVerb::Import => ScriptLine::GroupImport { site },
+    })
 }
 
 #[tactic(auto, unfolding(crate::specs::Formats::plex_format))]
@@ -67,7 +72,10 @@ fn plex(words: &mut Words) -> Result<ScriptLine, Wrong>
     let plex = words.number(b"")?;
     let verb = words.one_of(&PLEX_VERBS)?;
     words.end()?;
-    Ok(verb.line(site, volume, plex))
+    Ok(match verb {
+        PlexVerb::Detach => ScriptLine::PlexDetach { site, volume, plex },
+        PlexVerb::Attach => ScriptLine::PlexAttach { site, volume, plex },
+    })
 }
 
 #[tactic(auto, unfolding(crate::specs::Formats::rvg_format))]
@@ -138,7 +146,12 @@ fn of_site(verb: SiteVerb, words: &mut Words) -> Result<ScriptLine, Wrong>
 {
     let site = words.name(b"")?;
     words.end()?;
-    Ok(verb.line(site))
+    Ok(match verb {
+        SiteVerb::Raw => ScriptLine::Raw { site },
+        SiteVerb::Recover => ScriptLine::Recover { site },
+        SiteVerb::Takeover => ScriptLine::Takeover { site },
+        SiteVerb::Status => ScriptLine::Status { site },
+    })
 }
 
 #[tactic(auto, unfolding(crate::specs::Formats::of_number_format))]
@@ -148,7 +161,18 @@ fn of_number(verb: NumberVerb, words: &mut Words) -> Result<ScriptLine, Wrong>
     let site = words.name(b"")?;
     let number = words.number(b"")?;
     words.end()?;
-    Ok(verb.line(site, number))
+    Ok(match verb {
+        NumberVerb::Crash => ScriptLine::Crash { site, pick: number },
+        NumberVerb::Apply => ScriptLine::Apply {
+            site,
+            count: number,
+        },
+        NumberVerb::Wait => ScriptLine::Wait { site, number },
+        NumberVerb::Burst => ScriptLine::Burst {
+            site,
+            threads: number,
+        },
+    })
 }
 
 #[tactic(auto, unfolding(crate::specs::Formats::of_span_format))]
@@ -160,7 +184,20 @@ fn of_span(verb: SpanVerb, words: &mut Words) -> Result<ScriptLine, Wrong>
     let block = words.number(b"")?;
     let count = words.number(b"")?;
     words.end()?;
-    Ok(verb.line(site, volume, block, count))
+    Ok(match verb {
+        SpanVerb::Read => ScriptLine::Read {
+            site,
+            volume,
+            block,
+            count,
+        },
+        SpanVerb::Show => ScriptLine::Show {
+            site,
+            volume,
+            block,
+            count,
+        },
+    })
 }
 
 #[tactic(auto, unfolding(crate::specs::Formats::of_link_format))]
@@ -172,72 +209,92 @@ fn of_link(verb: LinkVerb, words: &mut Words) -> Result<ScriptLine, Wrong>
     let sync = words.one_of(&SYNC_MODES)?;
     let prot = words.one_of(&PROTS)?;
     words.end()?;
-    Ok(verb.line(primary, other, sync, prot))
+    Ok(match verb {
+        LinkVerb::Link => ScriptLine::Link {
+            primary,
+            secondary: other,
+            sync,
+            prot,
+        },
+        LinkVerb::Set => ScriptLine::Set {
+            primary,
+            secondary: other,
+            sync,
+            prot,
+        },
+        LinkVerb::Bunker => ScriptLine::Bunker {
+            primary,
+            bunker: other,
+            sync,
+            prot,
+        },
+    })
 }
 
 #[tactic(auto, unfolding(crate::specs::Formats::of_pair_format))]
 fn of_pair(verb: PairVerb, words: &mut Words) -> Result<ScriptLine, Wrong>
     ensures { Gives (λ x. x) result (read (of_pair_format verb) words.old.left.now) }
 {
-    let first = words.name(b"")?;
-    let second = words.name(b"")?;
+    let primary = words.name(b"")?;
+    let secondary = words.name(b"")?;
     words.end()?;
-    Ok(verb.line(first, second))
-}
-
-#[tactic(auto, unfolding(crate::specs::Formats::call_more))]
-fn call_write(thread: u64, words: &mut Words) -> Result<ScriptLine, Wrong>
-    ensures { Gives (λ x. x) result (read (call_more thread CallVerb.CallsWrite) words.old.left.now) }
-{
-    let volume = words.name(b"")?;
-    let block = words.number(b"")?;
-    let count = words.number(b"")?;
-    let fill = words.byte()?;
-    words.end()?;
-    Ok(ScriptLine::CallWrite {
-        thread,
-        volume,
-        block,
-        count,
-        fill,
+    Ok(match verb {
+        PairVerb::Attach => ScriptLine::Attach { primary, secondary },
+        PairVerb::Detach => ScriptLine::Detach { primary, secondary },
+        PairVerb::Pause => ScriptLine::Pause { primary, secondary },
+        PairVerb::Resume => ScriptLine::Resume { primary, secondary },
+        PairVerb::Connect => ScriptLine::Connect { primary, secondary },
+        PairVerb::Cut => ScriptLine::Cut { primary, secondary },
+        PairVerb::Pump => ScriptLine::Pump { primary, secondary },
+        PairVerb::Tick => ScriptLine::Tick { primary, secondary },
+        PairVerb::Settle => ScriptLine::Settle { primary, secondary },
+        PairVerb::Resync => ScriptLine::Resync { primary, secondary },
+        PairVerb::Migrate => ScriptLine::Migrate { primary, secondary },
+        PairVerb::Failback => ScriptLine::Failback {
+            new: primary,
+            old: secondary,
+        },
+        PairVerb::Activate => ScriptLine::Activate {
+            bunker: primary,
+            secondary,
+        },
     })
 }
 
-#[tactic(auto, unfolding(crate::specs::Formats::call_more))]
-fn call_read(thread: u64, words: &mut Words) -> Result<ScriptLine, Wrong>
-    ensures { Gives (λ x. x) result (read (call_more thread CallVerb.CallsRead) words.old.left.now) }
-{
-    let volume = words.name(b"")?;
-    let block = words.number(b"")?;
-    words.end()?;
-    Ok(ScriptLine::CallRead {
-        thread,
-        volume,
-        block,
-    })
-}
-
-#[tactic(auto, unfolding(crate::specs::Formats::call_format))]
+#[tactic(auto, unfolding(crate::specs::Formats::call_format, crate::specs::Formats::call_more))]
 fn call(words: &mut Words) -> Result<ScriptLine, Wrong>
     ensures { Gives (λ x. x) result (read call_format words.old.left.now) }
 {
     let thread = words.number(b"")?;
     let verb = words.one_of(&CALL_VERBS)?;
+    let volume = words.name(b"")?;
+    let block = words.number(b"")?;
     match verb {
-        CallVerb::CallsWrite => call_write(thread, words),
-        CallVerb::CallsRead => call_read(thread, words),
+        CallVerb::CallsWrite => {
+            let count = words.number(b"")?;
+            let fill = words.byte()?;
+            words.end()?;
+            Ok(ScriptLine::CallWrite {
+                thread,
+                volume,
+                block,
+                count,
+                fill,
+            })
+        }
+        CallVerb::CallsRead => {
+            words.end()?;
+            Ok(ScriptLine::CallRead {
+                thread,
+                volume,
+                block,
+            })
+        }
     }
 }
 
-#[tactic(auto, unfolding(crate::specs::Formats::end_format))]
-fn end_line(words: &mut Words) -> Result<ScriptLine, Wrong>
-    ensures { Gives (λ x. x) result (read end_format words.old.left.now) }
-{
-    words.end()?;
-    Ok(ScriptLine::End)
-}
-
 /// What follows a keyword.
+#[tactic(auto, unfolding(crate::specs::Formats::end_format))]
 pub fn after_keyword(
     alloc: Global,
     keyword: Keyword,
@@ -257,7 +314,10 @@ pub fn after_keyword(
         Keyword::Put => put(words),
         Keyword::Deliver => deliver(words),
         Keyword::Call => call(words),
-        Keyword::End => end_line(words),
+        Keyword::End => {
+            words.end()?;
+            Ok(ScriptLine::End)
+        }
         Keyword::OfSite(verb) => of_site(verb, words),
         Keyword::OfNumber(verb) => of_number(verb, words),
         Keyword::OfSpan(verb) => of_span(verb, words),

@@ -1,7 +1,7 @@
 // Where words begin and end.
-ghost use Rattle.std.specs.Prelude.{◌≡◌, ◌≤◌, length};
+ghost use Rattle.std.specs.Prelude.{◌≡◌, ◌==◌, ◌≤◌, length};
 ghost use Rattle.std.specs.List.{position_or_len};
-ghost use Rattle.vx_script.specs.Words.{is_visible, is_space, after_spaces, word_of, after_word, end_of, Gives};
+ghost use Rattle.vx_script.specs.Words.{is_visible, after_spaces, word_of, after_word, end_of, Gives};
 
 use crate::Wrong;
 
@@ -23,12 +23,13 @@ fn first_visible(bytes: &[u8]) -> usize
     bytes.len()
 }
 
-fn first_space(bytes: &[u8]) -> usize
-    ensures value { result ≡ position_or_len is_space bytes.now }
+/// How many bytes stand before the first that is this one.
+pub fn first_of(bytes: &[u8], byte: u8) -> usize
+    ensures value { result ≡ position_or_len (λ b. b == byte) bytes.now }
     ensures bound { result ≤ length bytes.now }
 {
     for (i, b) in bytes.iter().enumerate() {
-        if *b == b' ' {
+        if *b == byte {
             return i;
         }
     }
@@ -42,14 +43,6 @@ fn skip_spaces(bytes: &[u8]) -> &[u8]
     &bytes[start..]
 }
 
-fn split_word(bytes: &[u8]) -> (&[u8], &[u8])
-    ensures word { result.0.now ≡ word_of bytes.now }
-    ensures rest { result.1.now ≡ after_word bytes.now }
-{
-    let end = first_space(bytes);
-    bytes.split_at(end)
-}
-
 impl<'a> Words<'a> {
     /// The next word, and how many bytes are left from its first one on.
     pub fn next(&mut self) -> (&'a [u8], usize)
@@ -58,7 +51,7 @@ impl<'a> Words<'a> {
         ensures rest { self.new.left.now ≡ after_word (after_spaces self.old.left.now) }
     {
         let here = skip_spaces(self.left);
-        let (word, rest) = split_word(here);
+        let (word, rest) = here.split_at(first_of(here, b' '));
         self.left = rest;
         (word, here.len())
     }

@@ -1,36 +1,29 @@
 // What a word says: a name, a number, names, bytes.
-ghost use Rattle.std.specs.Prelude.{◌≡◌, ◌≤◌, ℕ, length, ◌<◌, ◌+◌, MatchOption, take, drop};
+ghost use Rattle.std.specs.Prelude.{◌≡◌, ◌≤◌, length, ◌<◌, ◌+◌, MatchOption, take, drop};
 ghost use Rattle.std.specs.List.{position_or_len, list_all};
 ghost use Rattle.vx_script.specs.Words.{is_digit, digits_after, name_of, number_of, byte_of, block_of, is_name_byte, labelled, names_of, Says, is_comma};
 
 use crate::Names;
+use crate::scan::first_of;
 use std::alloc::Global;
 use vx_model::{Blocks, Name, OutOfMemory};
 
 fn is_name_text(word: &[u8]) -> bool
     ensures { result ≡ list_all is_name_byte word.now }
 {
-    for b in word {
-        if !b.is_ascii_lowercase() && !b.is_ascii_digit() {
-            return false;
-        }
-    }
-    true
+    word.iter()
+        .all(|b| b.is_ascii_lowercase() || b.is_ascii_digit())
 }
 
 fn is_decimal(word: &[u8]) -> bool
     ensures { result ≡ list_all is_digit word.now }
 {
-    for b in word {
-        if !b.is_ascii_digit() {
-            return false;
-        }
-    }
-    true
+    word.iter().all(|b| b.is_ascii_digit())
 }
 
+/// The name that a word is.
 #[tactic(auto, unfolding(crate::specs::Words::name_of))]
-fn as_name(word: &[u8]) -> Option<Name>
+pub fn as_name(word: &[u8]) -> Option<Name>
     ensures { result ≡ name_of word.now }
 {
     if word.is_empty() || word.len() > 8 || !word[0].is_ascii_lowercase() {
@@ -93,17 +86,6 @@ pub fn as_block(word: &[u8]) -> Option<Blocks>
     }
 }
 
-/// The name behind a label.
-#[tactic(auto, unfolding(crate::specs::Words::labelled))]
-pub fn name_after(label: &[u8], word: &[u8]) -> Option<Name>
-    ensures { result ≡ labelled label.now name_of word.now }
-{
-    match word.strip_prefix(label) {
-        Some(text) => as_name(text),
-        None => None,
-    }
-}
-
 /// The number behind a label.
 #[tactic(auto, unfolding(crate::specs::Words::labelled))]
 pub fn number_after(label: &[u8], word: &[u8]) -> Option<u64>
@@ -115,24 +97,12 @@ pub fn number_after(label: &[u8], word: &[u8]) -> Option<u64>
     }
 }
 
-fn first_comma(bytes: &[u8]) -> usize
-    ensures value { result ≡ position_or_len is_comma bytes.now }
-    ensures bound { result ≤ length bytes.now }
-{
-    for (i, b) in bytes.iter().enumerate() {
-        if *b == b',' {
-            return i;
-        }
-    }
-    bytes.len()
-}
-
 // The part up to the first comma, and what follows the comma.
 fn split_comma(bytes: &[u8]) -> (&[u8], Option<&[u8]>)
     ensures part { result.0.now ≡ take (position_or_len is_comma bytes.now) bytes.now }
     ensures more { MatchOption result.1 (position_or_len is_comma bytes.now ≡ length bytes.now) (λ r. (position_or_len is_comma bytes.now < length bytes.now) × (r.now ≡ drop (position_or_len is_comma bytes.now + 1) bytes.now)) }
 {
-    let end = first_comma(bytes);
+    let end = first_of(bytes, b',');
     let part = &bytes[..end];
     if end < bytes.len() {
         (part, Some(&bytes[end + 1..]))
@@ -141,7 +111,8 @@ fn split_comma(bytes: &[u8]) -> (&[u8], Option<&[u8]>)
     }
 }
 
-fn as_names(alloc: Global, word: &[u8]) -> Result<Option<Names>, OutOfMemory>
+/// The names that a word is, with commas between.
+pub fn as_names(alloc: Global, word: &[u8]) -> Result<Option<Names>, OutOfMemory>
     ensures { Says (λ v. v) result (names_of word.now) }
 {
     let mut names = Names::new(alloc);
@@ -156,16 +127,5 @@ fn as_names(alloc: Global, word: &[u8]) -> Result<Option<Names>, OutOfMemory>
             Some(others) => rest = others,
             None => return Ok(Some(names)),
         }
-    }
-}
-
-/// The names behind a label.
-#[tactic(auto, unfolding(crate::specs::Words::labelled))]
-pub fn names_after(alloc: Global, label: &[u8], word: &[u8]) -> Result<Option<Names>, OutOfMemory>
-    ensures { Says (λ v. v) result (labelled label.now names_of word.now) }
-{
-    match word.strip_prefix(label) {
-        Some(text) => as_names(alloc, text),
-        None => Ok(None),
     }
 }

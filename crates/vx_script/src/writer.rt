@@ -7,7 +7,6 @@ ghost use Rattle.vx_script.specs.Tokens.{comma_name, Key, spaced};
 ghost use Rattle.vx_script.specs.Formats.{policy_token};
 ghost use Rattle.vx_script.specs.Choices.{log_text, map_text};
 ghost use Rattle.vx_script.specs.Grammar.{layout_tokens};
-ghost use Rattle.vx_script.specs.declared.line.Layout.TheVariants.{Stripe};
 
 use crate::line::{Layout, ReadPolicy, VolumeLog, VolumeMap};
 use crate::word::Word;
@@ -85,26 +84,17 @@ fn push_policy(alloc: Global, out: &mut Vec<u8>, policy: ReadPolicy) -> Result<(
     }
 }
 
-fn push_stripe(
-    alloc: Global,
-    out: &mut Vec<u8>,
-    columns: u64,
-    width: u64,
-) -> Result<(), OutOfMemory>
-    ensures { OnOk result (out.new.items ≡ out.old.items ++ spaced (layout_tokens (Stripe columns width) [])) }
-{
-    push_word(out, b"layout=stripe")?;
-    push_number(alloc, out, b"ncol=", columns)?;
-    push_number(alloc, out, b"width=", width)?;
-    Ok(())
-}
-
 fn push_layout(alloc: Global, out: &mut Vec<u8>, layout: Layout) -> Result<(), OutOfMemory>
     ensures { OnOk result (out.new.items ≡ out.old.items ++ spaced (layout_tokens layout [])) }
 {
     match layout {
         Layout::Concat => push_word(out, b"layout=concat"),
-        Layout::Stripe { columns, width } => push_stripe(alloc, out, columns, width),
+        Layout::Stripe { columns, width } => {
+            push_word(out, b"layout=stripe")?;
+            push_number(alloc, out, b"ncol=", columns)?;
+            push_number(alloc, out, b"width=", width)?;
+            Ok(())
+        }
     }
 }
 
