@@ -12,19 +12,6 @@ use crate::{Names, Wrong};
 use std::alloc::Global;
 use vx_model::{Blocks, Name};
 
-#[tactic(auto, unfolding(crate::specs::Formats::policy_of))]
-fn as_policy(word: &[u8]) -> Option<ReadPolicy>
-    ensures { result ≡ policy_of word.now }
-{
-    if word == b"rdpol=round".as_slice() {
-        return Some(ReadPolicy::Round);
-    }
-    match number_after(b"rdpol=prefer:", word) {
-        Some(plex) => Some(ReadPolicy::Prefer { plex }),
-        None => None,
-    }
-}
-
 impl<'a> Words<'a> {
     /// A name behind a label.
     #[tactic(auto, unfolding(crate::specs::Words::labelled))]
@@ -79,11 +66,18 @@ impl<'a> Words<'a> {
     }
 
     /// A reading policy.
+    #[tactic(auto, unfolding(crate::specs::Formats::policy_of))]
     pub fn policy(&mut self) -> Result<ReadPolicy, Wrong>
         ensures { Gives (λ x. (x, self.new.left.now)) result (next policy_of self.old.left.now) }
     {
         let (word, left) = self.next();
-        as_policy(word).ok_or(Wrong::Left(left))
+        if word == b"rdpol=round".as_slice() {
+            return Ok(ReadPolicy::Round);
+        }
+        match number_after(b"rdpol=prefer:", word) {
+            Some(plex) => Ok(ReadPolicy::Prefer { plex }),
+            None => Err(Wrong::Left(left)),
+        }
     }
 
     /// A value in the table.

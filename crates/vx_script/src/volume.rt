@@ -1,6 +1,6 @@
 // What follows the word `vol`.
 ghost use Rattle.vx_script.specs.Words.{Gives};
-ghost use Rattle.vx_script.specs.Formats.{read, volume_tail, layout_format, volume_format};
+ghost use Rattle.vx_script.specs.Formats.{read, volume_tail, volume_format};
 
 use crate::choice::{LAYOUT_WORDS, LayoutWord, VOLUME_LOGS, VOLUME_MAPS};
 use crate::line::Layout;
@@ -35,17 +35,16 @@ fn volume_end(
     })
 }
 
-#[tactic(auto, unfolding(crate::specs::Formats::layout_format))]
-fn volume_layout(
-    site: Name,
-    volume: Name,
-    blocks: u64,
-    mirrors: u64,
-    word: LayoutWord,
-    words: &mut Words,
-) -> Result<ScriptLine, Wrong>
-    ensures { Gives (λ x. x) result (read (layout_format site volume blocks mirrors word) words.old.left.now) }
+/// A volume's line.
+#[tactic(auto, unfolding(crate::specs::Formats::volume_format, crate::specs::Formats::layout_format))]
+pub fn volume(words: &mut Words) -> Result<ScriptLine, Wrong>
+    ensures { Gives (λ x. x) result (read volume_format words.old.left.now) }
 {
+    let site = words.name(b"")?;
+    let volume = words.name(b"")?;
+    let blocks = words.number(b"")?;
+    let mirrors = words.number(b"mirrors=")?;
+    let word = words.one_of(&LAYOUT_WORDS)?;
     match word {
         LayoutWord::IsConcat => volume_end(site, volume, blocks, mirrors, Layout::Concat, words),
         LayoutWord::IsStripe => {
@@ -61,17 +60,4 @@ fn volume_layout(
             )
         }
     }
-}
-
-/// A volume's line.
-#[tactic(auto, unfolding(crate::specs::Formats::volume_format))]
-pub fn volume(words: &mut Words) -> Result<ScriptLine, Wrong>
-    ensures { Gives (λ x. x) result (read volume_format words.old.left.now) }
-{
-    let site = words.name(b"")?;
-    let volume = words.name(b"")?;
-    let blocks = words.number(b"")?;
-    let mirrors = words.number(b"mirrors=")?;
-    let word = words.one_of(&LAYOUT_WORDS)?;
-    volume_layout(site, volume, blocks, mirrors, word, words)
 }

@@ -98,20 +98,6 @@ fn push_layout(alloc: Global, out: &mut Vec<u8>, layout: Layout) -> Result<(), O
     }
 }
 
-fn push_volume_end(
-    alloc: Global,
-    out: &mut Vec<u8>,
-    log: VolumeLog,
-    map: VolumeMap,
-    policy: ReadPolicy,
-) -> Result<(), OutOfMemory>
-    ensures { OnOk result (out.new.items ≡ out.old.items ++ spaced (Key (log_text log) ∷ Key (map_text map) ∷ policy_token policy ∷ [])) }
-{
-    push_word(out, log.text())?;
-    push_word(out, map.text())?;
-    push_policy(alloc, out, policy)
-}
-
 /// A volume's options.
 #[tactic(auto, using(crate::proofs::LayoutLemmas::layout_spaced))]
 pub fn push_options(
@@ -125,6 +111,8 @@ pub fn push_options(
     ensures { OnOk result (out.new.items ≡ out.old.items ++ spaced (layout_tokens layout (Key (log_text log) ∷ Key (map_text map) ∷ policy_token policy ∷ []))) }
 {
     push_layout(alloc, out, layout)?;
-    push_volume_end(alloc, out, log, map, policy)?;
+    push_word(out, log.text())?;
+    push_word(out, map.text())?;
+    push_policy(alloc, out, policy)?;
     Ok(())
 }
