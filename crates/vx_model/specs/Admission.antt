@@ -1,5 +1,9 @@
 -- Whether a write is let in: by the links of its site in the order of their making, and the room that each leaves in the log.
 use Rattle.std.specs.Prelude.{ℕ, ◌+◌, Bool, true, false, not, ◌&&◌, ltb, List, [], ◌∷◌, zip, Option, Some, None, if◌then◌else◌}
+use Rattle.vx_model.specs.declared.admission.FullLog.{FullLog}
+use Rattle.vx_model.specs.declared.admission.FullLog.TheVariants.{Stalls, Fails, TurnsStale, TurnsDcm}
+use Rattle.vx_model.specs.declared.admission.Change.{Change}
+use Rattle.vx_model.specs.declared.admission.Change.TheVariants.{Stays, ToStale, ToDcm}
 use Rattle.vx_model.specs.declared.link.Link.{Link}
 use Rattle.vx_model.specs.declared.link.SyncMode.{SyncMode}
 use Rattle.vx_model.specs.declared.link.SyncMode.TheVariants.{Off as NeverWaits, Override as WaitsIfLive, Fail as FailsIfNotLive}
@@ -63,26 +67,19 @@ hold l = mode_hold l.mode l.stored
 abbrev pub blocks : (need room : ℕ) → Link → (used : ℕ) → Bool
 blocks need room l used = is_holding l && ltb room (need + used)
 
--- what becomes of a write or of a link where the link leaves too little room
-pub data Cell : Type 0 where
-  Stalls : Cell
-  Fails : Cell
-  Turns_stale : Cell
-  Turns_dcm : Cell
-
 -- by what the link says of a full log, and whether it is live
-abbrev pub cell : Prot → (live : Bool) → Cell
-cell Off live = Turns_stale
-cell Override true = Stalls
-cell Override false = Turns_stale
-cell Fail true = Stalls
-cell Fail false = Fails
-cell MapIfCut true = Stalls
-cell MapIfCut false = Turns_dcm
-cell Autodcm live = Turns_dcm
+abbrev pub full_log : Prot → (live : Bool) → FullLog
+full_log Off live = TurnsStale
+full_log Override true = Stalls
+full_log Override false = TurnsStale
+full_log Fail true = Stalls
+full_log Fail false = Fails
+full_log MapIfCut true = Stalls
+full_log MapIfCut false = TurnsDcm
+full_log Autodcm live = TurnsDcm
 
-abbrev pub cell_of : Link → Cell
-cell_of l = cell l.prot (is_live l)
+abbrev pub full_log_of : Link → FullLog
+full_log_of l = full_log l.prot (is_live l)
 
 -- why a write is not let in, and the number of the link's site
 pub data Held : Type 0 where
@@ -90,12 +87,7 @@ pub data Held : Type 0 where
   Log_is_full : (site : ℕ) → Held
   Log_stalls : (site : ℕ) → Held
 
--- what becomes of a link as a write is let in
-pub data Change : Type 0 where
-  Stays : Change
-  To_stale : Change
-  To_dcm : Change
-
+-- a write is held, or it is let in with these changes of the links, in their order
 pub data Admitted : Type 0 where
   Held_by : (why : Held) → Admitted
   Goes : (changes : List Change) → Admitted
@@ -105,34 +97,34 @@ abbrev pub first_down : List Link → Option Held
 first_down [] = None
 first_down (l ∷ ls) = if is_down l then Some (Link_is_down l.site) else first_down ls
 
-abbrev pub held_by_cell : Cell → (site : ℕ) → Option Held
-held_by_cell Stalls site = Some (Log_stalls site)
-held_by_cell Fails site = Some (Log_is_full site)
-held_by_cell Turns_stale site = None
-held_by_cell Turns_dcm site = None
+abbrev pub held_when_full : FullLog → (site : ℕ) → Option Held
+held_when_full Stalls site = Some (Log_stalls site)
+held_when_full Fails site = Some (Log_is_full site)
+held_when_full TurnsStale site = None
+held_when_full TurnsDcm site = None
 
 abbrev pub held_by_room : (need room : ℕ) → Link → (used : ℕ) → Option Held
-held_by_room need room l used = if blocks need room l used then held_by_cell (cell_of l) l.site else None
+held_by_room need room l used = if blocks need room l used then held_when_full (full_log_of l) l.site else None
 
 abbrev pub or_else : Option Held → Option Held → Option Held
 or_else (Some why) other = Some why
 or_else None other = other
 
--- the first link that blocks and whose cell says stall or fail; each link stands beside the blocks of the numbers above its hold
+-- the first link that blocks and that says stall or fail; each link stands beside the blocks of the numbers above its hold
 abbrev pub first_full : (need room : ℕ) → List (Link × ℕ) → Option Held
 first_full need room [] = None
 first_full need room ((l, used) ∷ rest) = or_else (held_by_room need room l used) (first_full need room rest)
 
 -- a bunker keeps no map
-abbrev pub change_by_cell : Cell → (bunker : Bool) → Change
-change_by_cell Stalls bunker = Stays
-change_by_cell Fails bunker = Stays
-change_by_cell Turns_stale bunker = To_stale
-change_by_cell Turns_dcm true = To_stale
-change_by_cell Turns_dcm false = To_dcm
+abbrev pub change_by : FullLog → (bunker : Bool) → Change
+change_by Stalls bunker = Stays
+change_by Fails bunker = Stays
+change_by TurnsStale bunker = ToStale
+change_by TurnsDcm true = ToStale
+change_by TurnsDcm false = ToDcm
 
 abbrev pub change : (need room : ℕ) → Link → (used : ℕ) → Change
-change need room l used = if blocks need room l used then change_by_cell (cell_of l) l.bunker else Stays
+change need room l used = if blocks need room l used then change_by (full_log_of l) l.bunker else Stays
 
 abbrev pub changes : (need room : ℕ) → List (Link × ℕ) → List Change
 changes need room [] = []
@@ -143,7 +135,7 @@ abbrev pub unless_held : Option Held → Admitted → Admitted
 unless_held (Some why) other = Held_by why
 unless_held None other = other
 
--- The rule: first a link that is down holds the write, then a link without room whose cell says so; else all links without
+-- The rule: first a link that is down holds the write, then a link without room that says so; else all links without
 -- room are changed, and the write is let in. `need` is the blocks of the write and one more, `room` those of the ring.
 abbrev pub admit : (need room : ℕ) → List Link → (used : List ℕ) → Admitted
 admit need room links used =
@@ -153,8 +145,8 @@ admit need room links used =
 -- the mode of a link after a write was let in
 abbrev pub changed_mode : Change → Mode → Mode
 changed_mode Stays mode = mode
-changed_mode To_stale mode = Stale
-changed_mode To_dcm mode = Dcm
+changed_mode ToStale mode = Stale
+changed_mode ToDcm mode = Dcm
 
 abbrev pub changed : Change → Link → Link
 changed c l = record l { mode = changed_mode c l.mode }

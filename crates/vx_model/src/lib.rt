@@ -3,6 +3,7 @@
 //! Blocks are 512 bytes. Sites, volumes and disks go by numbers from 0, writes by numbers from 1.
 #![tactic(auto)]
 
+mod admission;
 mod block_list;
 mod bytes;
 mod call;
@@ -18,6 +19,7 @@ mod site;
 mod state;
 mod units;
 
+pub use admission::{Change, FullLog};
 pub use block_list::Blocks;
 pub use bytes::Bytes;
 pub use call::{Call, Reply, Update};
