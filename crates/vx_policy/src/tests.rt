@@ -66,30 +66,32 @@ const DOWN: Verdict = Verdict::Refuse(No::LinkDown {
     link: SiteName::Number(1),
 });
 
+// What the link says of a full log, whether it is live, what then becomes of a write, and what at a bunker's link.
 #[test]
 fn the_table(rt: HostRuntime) {
-    for (prot, live, not_live) in [
-        (Prot::Off, STALE, STALE),
-        (Prot::Override, STALLED, STALE),
-        (Prot::Fail, STALLED, FULL),
-        (Prot::Dcm, STALLED, DCM),
-        (Prot::Autodcm, DCM, DCM),
+    for (prot, state, wanted, wanted_of_bunker) in [
+        (Prot::Off, State::Live, STALE, STALE),
+        (Prot::Off, State::Cut, STALE, STALE),
+        (Prot::Override, State::Live, STALLED, STALLED),
+        (Prot::Override, State::Cut, STALE, STALE),
+        (Prot::Fail, State::Live, STALLED, STALLED),
+        (Prot::Fail, State::Cut, FULL, FULL),
+        (Prot::Fail, State::Paused, FULL, FULL),
+        (Prot::Dcm, State::Live, STALLED, STALLED),
+        (Prot::Dcm, State::Cut, DCM, STALE),
+        (Prot::Dcm, State::Paused, DCM, STALE),
+        (Prot::Autodcm, State::Live, DCM, STALE),
+        (Prot::Autodcm, State::Cut, DCM, STALE),
     ] {
-        for (state, wanted) in [
-            (State::Live, live),
-            (State::Cut, not_live),
-            (State::Paused, not_live),
-        ] {
-            let full = decide(&[link(1, prot, state)], &facts([7; 8]));
-            assert_eq!(rt; full, wanted);
-            let fits = decide(&[link(1, prot, state)], &facts([6; 8]));
-            assert_eq!(rt; fits, NONE);
-            let mut bunker = link(1, prot, state);
-            bunker.bunker = true;
-            let wanted_of_bunker = if wanted == DCM { STALE } else { wanted };
-            let full = decide(&[bunker], &facts([7; 8]));
-            assert_eq!(rt; full, wanted_of_bunker);
-        }
+        let plain = link(1, prot, state);
+        let full = decide(&[plain], &facts([7; 8]));
+        assert_eq!(rt; full, wanted);
+        let fits = decide(&[plain], &facts([6; 8]));
+        assert_eq!(rt; fits, NONE);
+        let mut bunker = plain;
+        bunker.bunker = true;
+        let full = decide(&[bunker], &facts([7; 8]));
+        assert_eq!(rt; full, wanted_of_bunker);
     }
 }
 

@@ -1,5 +1,5 @@
 -- The link that was read is the first of those that are left.
-use Rattle.std.proofs.Common.{◌≡◌, ◌∙◌, sym, arith}
+use Rattle.std.proofs.Common.{◌∙◌, sym, arith}
 use Rattle.vx_policy.proofs.Rest.{full-step, full-here}
 use Rattle.vx_policy.proofs.decision.refuse_first_full.Goals as goal
 
