@@ -3,6 +3,7 @@
 //! Records go by numbers from 1. The rule itself stands in `vx_model` (`Receiving`). No call takes memory.
 #![tactic(auto)]
 
+pub mod laws;
 mod machine;
 #[cfg(test)]
 mod tests;

@@ -3,6 +3,7 @@
 //! Writes go by numbers from 1. The rule itself stands in `vx_model` (`Sending`). No call takes memory.
 #![tactic(auto)]
 
+pub mod laws;
 mod machine;
 mod messages;
 #[cfg(test)]
