@@ -6,6 +6,7 @@
 
 mod decision;
 mod full;
+pub mod laws;
 #[cfg(test)]
 mod tests;
 mod verdict;
