@@ -1,9 +1,13 @@
+pub mod Admission
 pub mod Answer
 pub mod BlockLists
 pub mod Content
 pub mod Good
 pub mod Kept
+pub mod LinkForms
 pub mod Names
+pub mod Receiving
+pub mod Sending
 pub mod States
 pub mod Steps
 pub mod World

@@ -3,6 +3,7 @@
 //! Blocks are 512 bytes. Sites, volumes and disks go by numbers from 0, writes by numbers from 1.
 #![tactic(auto)]
 
+mod admission;
 mod block_list;
 mod bytes;
 mod call;
@@ -12,10 +13,13 @@ pub mod laws;
 mod link;
 mod name;
 mod no;
+mod receiver;
+mod sender;
 mod site;
 mod state;
 mod units;
 
+pub use admission::{Change, FullLog};
 pub use block_list::Blocks;
 pub use bytes::Bytes;
 pub use call::{Call, Reply, Update};
@@ -24,6 +28,8 @@ pub use history::Line;
 pub use link::{Link, Mode, Phase, Prot, SyncMode};
 pub use name::Name;
 pub use no::{Counted, Named, No, SiteName};
+pub use receiver::{RAction, REvent, RState};
+pub use sender::{Action, SEvent, SFacts};
 pub use site::{Mark, PlexState, Role, SPhase, SiteState};
 pub use state::{KeptLink, KeptLinks, KeptMode, State};
 pub use units::{Units, VolumeUnits};

@@ -1,0 +1,42 @@
+-- The verdict on a write, as the program hands it out.
+use Rattle.std.specs.Prelude.{ℕ, ◌+◌, ◌*◌, Bool, true, false, List, [], ◌∷◌, Option, Some, None, if◌then◌else◌}
+use Rattle.vx_model.specs.declared.admission.Change.{Change}
+use Rattle.vx_model.specs.declared.admission.Change.TheVariants.{Stays, ToStale, ToDcm}
+use Rattle.vx_model.specs.declared.no.No.{No}
+use Rattle.vx_model.specs.declared.no.No.TheVariants.{LogFull, Stalled, LinkDown}
+use Rattle.vx_model.specs.declared.no.SiteName.TheVariants.{Number}
+use Rattle.vx_model.specs.Admission.{Held, Link_is_down, Log_is_full, Log_stalls, Admitted, Held_by, Goes}
+use Rattle.vx_policy.specs.declared.verdict.Verdict.{Verdict}
+use Rattle.vx_policy.specs.declared.verdict.Verdict.TheVariants.{Go, Refuse}
+
+-- the refusal of a write that is held; it names the link's site by its number
+abbrev pub refusal : Held → No
+refusal (Link_is_down site) = LinkDown (Number site)
+refusal (Log_is_full site) = LogFull (Number site)
+refusal (Log_stalls site) = Stalled (Number site)
+
+abbrev pub refusal_if : Option Held → Option No
+refusal_if None = None
+refusal_if (Some why) = Some (refusal why)
+
+abbrev pub goes_stale : Change → Bool
+goes_stale Stays = false
+goes_stale ToStale = true
+goes_stale ToDcm = false
+
+abbrev pub goes_dcm : Change → Bool
+goes_dcm Stays = false
+goes_dcm ToStale = false
+goes_dcm ToDcm = true
+
+abbrev pub bit : Bool → ℕ
+bit b = if b then 1 else 0
+
+-- a set of places as a number: the first place is the lowest bit
+unfoldable pub bits : (Change → Bool) → List Change → ℕ
+bits test [] = 0
+bits test (c ∷ cs) = bit (test c) + 2 * bits test cs
+
+abbrev pub verdict : Admitted → Verdict
+verdict (Held_by why) = Refuse (refusal why)
+verdict (Goes changes) = Go (bits goes_stale changes) (bits goes_dcm changes)

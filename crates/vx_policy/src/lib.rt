@@ -1,0 +1,16 @@
+//! Whether a write is let in, by the links of its site and the room that each leaves in the log.
+//!
+//! Room is in blocks of 512 bytes of the ring; a write of c blocks takes c + 1 of them. The rule itself stands in `vx_model`
+//! (`Admission`). No call takes memory.
+#![tactic(auto)]
+
+mod decision;
+mod full;
+pub mod laws;
+#[cfg(test)]
+mod tests;
+mod verdict;
+
+pub use decision::decide;
+pub use full::hold_of;
+pub use verdict::{Facts, Verdict};

@@ -1,0 +1,13 @@
+//! The sending end of a link, without its site: what each event makes of the link, and what is then to be done.
+//!
+//! Writes go by numbers from 1. The rule itself stands in `vx_model` (`Sending`). No call takes memory.
+#![tactic(auto)]
+
+pub mod laws;
+mod machine;
+mod messages;
+#[cfg(test)]
+mod tests;
+
+pub use machine::step;
+pub use vx_model::{Action, SEvent, SFacts};
