@@ -1,0 +1,16 @@
+//! The messages that sites send to each other, and the packets that carry them.
+//!
+//! A packet is at most 1,072 bytes: 48 of header, and up to 1,024 of a message's payload. Memory is taken by
+//! `Assembly::new` alone.
+#![tactic(auto)]
+
+mod limit;
+mod map_bytes;
+mod message;
+mod region_bytes;
+mod row;
+mod spelling;
+
+pub use map_bytes::MapBytes;
+pub use message::{Envelope, Message};
+pub use region_bytes::RegionBytes;
