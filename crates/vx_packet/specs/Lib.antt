@@ -1,3 +1,5 @@
 pub mod Buffers
 pub mod Messages
 pub mod Rows
+pub mod Packets
+pub mod PacketReading

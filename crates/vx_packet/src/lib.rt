@@ -4,13 +4,18 @@
 //! `Assembly::new` alone.
 #![tactic(auto)]
 
+mod encoding;
 mod limit;
 mod map_bytes;
 mod message;
+mod part;
+mod payload;
 mod region_bytes;
 mod row;
 mod spelling;
 
+pub use encoding::{encode, parts};
 pub use map_bytes::MapBytes;
 pub use message::{Envelope, Message};
+pub use part::{Part, decode};
 pub use region_bytes::RegionBytes;

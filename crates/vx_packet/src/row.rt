@@ -1,5 +1,5 @@
 // The table of kinds, as the code reads it.
-ghost use Rattle.std.specs.Prelude.{◌≡◌, ◌+◌, ◌/◌, ◌≤◌, length};
+ghost use Rattle.std.specs.Prelude.{◌≡◌, ◌+◌, ◌/◌, ◌≤◌, length, take};
 ghost use Rattle.vx_packet.specs.Messages.{row as row_is, region_number as region_number_is, IsTyped};
 ghost use Rattle.vx_packet.specs.Rows.{IsRow, numbers_list};
 ghost use Rattle.vx_wire.specs.Fields.{spelled};
@@ -36,8 +36,18 @@ impl Numbers {
     }
 }
 
+/// Writes the numbers into room for three, and answers how many bytes they are.
+pub fn put_front(numbers: Numbers, into: &mut [u8; 24]) -> usize
+    ensures length { result ≡ length (spelled (numbers_list numbers)) }
+    ensures few { result ≤ 24 }
+    ensures written { take result into.new ≡ spelled (numbers_list numbers) }
+{
+    numbers.put(into, 0)
+}
+
 /// What a packet says of a message: its kind, the two fields of the header, and the payload, which is numbers and bytes
 /// behind them.
+#[derive(Clone, Copy)]
 pub struct Row<'a> {
     pub kind: u8,
     pub session: u64,
@@ -64,6 +74,7 @@ fn block_count(bytes: &Blocks) -> u32
 pub fn row_of(m: &Message) -> Row<'_>
     ensures row { IsRow result (row_is m.now) }
     ensures typed { IsTyped m.now }
+    ensures few { length result.bytes.now ≤ 65536 }
 {
     match m {
         Message::Hello { session, number, stored } => Row {

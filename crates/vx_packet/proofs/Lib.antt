@@ -1,0 +1,5 @@
+pub mod Numbers
+pub mod PartLemmas
+pub mod ChunkLemmas
+pub mod RowLemmas
+pub mod PacketLemmas

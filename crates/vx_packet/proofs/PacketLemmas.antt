@@ -1,0 +1,74 @@
+-- The packets of a message.
+use Rattle.std.proofs.Common.{◌≡◌, ◌≤◌, ℕ, ◌+◌, ◌-◌, ◌*◌, ◌/◌, ◌^◌, ◌<◌, min, max, List, [], ◌++◌, length, take, drop, refl, ap, sym, ◌∙◌, arith}
+use Rattle.std.proofs.lemmas.List.{length-append, take_all, drop_at}
+use Rattle.vx_wire.specs.Fields.{spelled}
+use Rattle.vx_packet.specs.Messages.{row, payload_of, parts_of, part_count, chunk, CanSpell, IsTyped, IsCounted}
+use Rattle.vx_packet.specs.Packets.{header_table, packet_bytes, payload_in, part_of, packet_of, HasLength, CanCarry, IsTypedPart, IsPacket}
+use Rattle.vx_packet.specs.declared.message.Envelope.{Envelope}
+use Rattle.vx_packet.specs.declared.message.Message.{Message}
+use Rattle.vx_packet.specs.declared.part.Part.{Part}
+use Rattle.vx_packet.proofs.ChunkLemmas.{length-chunk}
+use Rattle.vx_packet.proofs.PartLemmas.{length-header_table}
+use Rattle.vx_packet.proofs.RowLemmas.{fits-row, typed-row, IsTypedRow}
+
+-- a header and the payload that it tells of are a packet
+pub IsPacket-packet_bytes : (p : Part) (payload : List ℕ) → CanCarry p → IsTypedPart p → p.start ≡ 48 → length payload ≡ p.length → IsPacket (packet_bytes p payload) p
+unfolding packet_bytes
+IsPacket-packet_bytes p payload can typed start len =
+    let table : List ℕ = spelled (header_table p) in
+    let carried : payload_in p (table ++ payload) ≡ payload =
+    ap (λ (n : ℕ). take p.length (drop n (table ++ payload))) start ∙ ap (take p.length) (drop_at table payload 48 (length-header_table p)) ∙ take_all p.length payload (omega (arith, len)) in record {
+      can = can;
+      typed = typed;
+      start = start;
+      whole = omega (arith, length-append table payload, length-header_table p);
+      is = ap (λ (t : List ℕ). table ++ t) (sym carried);
+    }
+
+-- a part of so many bytes
+HasLength-of : (k n : ℕ) (p : Part) → p.part ≡ k → p.parts ≡ part_count n → p.length ≡ min 1024 (n - 1024 * k) → k < part_count n → HasLength p
+HasLength-of k n p part parts len lt = record {
+  whole = λ h. omega arith;
+  few = omega arith;
+  some = λ h. omega arith;
+}
+
+pub parts_of-few : (m : Message) → length (payload_of m) ≤ 65560 → parts_of m ≤ 65
+unfolding parts_of
+parts_of-few m few = omega arith
+
+same_parts : (m : Message) → parts_of m ≡ part_count (length (payload_of m))
+unfolding parts_of
+same_parts m = refl
+
+-- the numbers of an envelope are of their types
+pub record IsTypedEnvelope (e : Envelope) : Type 0 where
+  pub source : e.source < 2 ^ 32
+  pub target : e.target < 2 ^ 32
+  pub origin : e.line.origin < 2 ^ 32
+
+pub IsPacket-packet_of : (e : Envelope) (m : Message) (k : ℕ) → IsCounted e.line.generation → IsTypedEnvelope e → CanSpell m → IsTyped m → length (payload_of m) ≤ 65560 → k < parts_of m
+    → IsPacket (packet_of e m k) (part_of e m k)
+unfolding packet_of part_of
+IsPacket-packet_of e m k generation envelope can typed few lt =
+    let t : IsTypedRow (row m) = typed-row m can typed in
+    let most : parts_of m ≤ 65 = parts_of-few m few in
+    let parts : parts_of m ≡ part_count (length (payload_of m)) = same_parts m in
+    IsPacket-packet_bytes (part_of e m k) (chunk k (payload_of m))
+    (record {
+      kind = fits-row m can;
+      generation = generation;
+      part = lt;
+      length = HasLength-of k (length (payload_of m)) (part_of e m k) refl parts (length-chunk k (payload_of m)) (omega arith);
+    })
+    (record {
+      kind = t.kind;
+      source = envelope.source;
+      target = envelope.target;
+      origin = envelope.origin;
+      session = t.session;
+      number = t.number;
+      parts = omega arith;
+    })
+    refl
+    refl
