@@ -3,3 +3,4 @@ pub mod PartLemmas
 pub mod ChunkLemmas
 pub mod RowLemmas
 pub mod PacketLemmas
+pub mod EncodeLemmas

@@ -3,7 +3,7 @@ use Rattle.std.proofs.Common.{◌≡◌, ◌≤◌, ℕ, ◌+◌, ◌-◌, ◌*�
 use Rattle.std.proofs.lemmas.List.{length-append, take_all, drop_at}
 use Rattle.vx_wire.specs.Fields.{spelled}
 use Rattle.vx_packet.specs.Messages.{row, payload_of, parts_of, part_count, chunk, CanSpell, IsTyped, IsCounted}
-use Rattle.vx_packet.specs.Packets.{header_table, packet_bytes, payload_in, part_of, packet_of, HasLength, CanCarry, IsTypedPart, IsPacket}
+use Rattle.vx_packet.specs.Packets.{header_table, packet_bytes, payload_in, part_of, packet_of, IsTypedEnvelope, HasLength, CanCarry, IsTypedPart, IsPacket}
 use Rattle.vx_packet.specs.declared.message.Envelope.{Envelope}
 use Rattle.vx_packet.specs.declared.message.Message.{Message}
 use Rattle.vx_packet.specs.declared.part.Part.{Part}
@@ -37,15 +37,9 @@ pub parts_of-few : (m : Message) → length (payload_of m) ≤ 65560 → parts_o
 unfolding parts_of
 parts_of-few m few = omega arith
 
-same_parts : (m : Message) → parts_of m ≡ part_count (length (payload_of m))
+pub same_parts : (m : Message) → parts_of m ≡ part_count (length (payload_of m))
 unfolding parts_of
 same_parts m = refl
-
--- the numbers of an envelope are of their types
-pub record IsTypedEnvelope (e : Envelope) : Type 0 where
-  pub source : e.source < 2 ^ 32
-  pub target : e.target < 2 ^ 32
-  pub origin : e.line.origin < 2 ^ 32
 
 pub IsPacket-packet_of : (e : Envelope) (m : Message) (k : ℕ) → IsCounted e.line.generation → IsTypedEnvelope e → CanSpell m → IsTyped m → length (payload_of m) ≤ 65560 → k < parts_of m
     → IsPacket (packet_of e m k) (part_of e m k)

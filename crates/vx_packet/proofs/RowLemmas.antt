@@ -80,3 +80,8 @@ typed-row (Fork fork parent) can typed = record { kind = omega arith; session = 
 typed-row (ForkMap vol regions bytes) can typed = record { kind = omega arith; session = omega arith; number = omega (arith, typed.0) }
 typed-row (Handover head) can typed = record { kind = omega arith; session = omega arith; number = omega (arith, can) }
 typed-row (Trim number) can typed = record { kind = omega arith; session = omega arith; number = omega (arith, can) }
+
+-- how many bytes a payload has
+pub length-payload : (found : RowValue) (m : Message) (n : ℕ) → IsRow found (row m) → n ≡ length (spelled (numbers_list found.numbers)) → n + length found.bytes.now ≡ length (payload_of m)
+length-payload found m n is same =
+    omega (arith, ap length (sym (payload-row found m (spelled (numbers_list found.numbers)) is refl)), length-append (spelled (numbers_list found.numbers)) found.bytes.now)

@@ -108,6 +108,12 @@ pub record IsTypedPart (p : Part) : Type 0 where
   pub number : p.number < 2 ^ 64
   pub parts : p.parts < 2 ^ 16
 
+-- the numbers of an envelope are of their types
+pub record IsTypedEnvelope (e : Envelope) : Type 0 where
+  pub source : e.source < 2 ^ 32
+  pub target : e.target < 2 ^ 32
+  pub origin : e.line.origin < 2 ^ 32
+
 -- the payload that a packet carries
 abbrev pub payload_in : Part → List ℕ → List ℕ
 payload_in p bytes = cut p.start p.length bytes

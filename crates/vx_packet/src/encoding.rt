@@ -1,7 +1,7 @@
 // From messages to packets.
 ghost use Rattle.std.specs.Prelude.{◌≡◌, ◌<◌, take, drop, length};
 ghost use Rattle.vx_packet.specs.Messages.{CanSpell, IsCounted, parts_of};
-ghost use Rattle.vx_packet.specs.Packets.{part_of, packet_of, IsPacket};
+ghost use Rattle.vx_packet.specs.Packets.{part_of, packet_of, IsTypedEnvelope, IsPacket};
 
 use crate::part::{HEADER, table};
 use crate::payload::{PART_BYTES, part_count, put_chunk};
@@ -19,6 +19,15 @@ pub fn parts(m: &Message) -> u32
     part_count(len + row.bytes.len())
 }
 
+// The numbers of an envelope are of their types, which a contract learns where they are read.
+fn is_typed(e: &Envelope)
+    ensures { IsTypedEnvelope e.now }
+{
+    let _source = e.source;
+    let _target = e.target;
+    let _origin = e.line.origin;
+}
+
 /// Writes the packet of a message's part, counted from 0, and answers how many bytes it has. What is behind them stays.
 pub fn encode(e: &Envelope, m: &Message, part: u32, into: &mut [u8; 1072]) -> usize
     requires generation { IsCounted e.now.line.generation }
@@ -29,6 +38,7 @@ pub fn encode(e: &Envelope, m: &Message, part: u32, into: &mut [u8; 1072]) -> us
     ensures behind { drop result into.new ≡ drop result into.old }
     ensures packet { IsPacket (packet_of e.now m.now part) (part_of e.now m.now part) }
 {
+    is_typed(e);
     let row = row_of(m);
     let mut front = [0; 24];
     let len = put_front(row.numbers, &mut front);
