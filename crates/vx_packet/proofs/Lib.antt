@@ -4,3 +4,5 @@ pub mod ChunkLemmas
 pub mod RowLemmas
 pub mod PacketLemmas
 pub mod EncodeLemmas
+pub mod Runs
+pub mod MessageAgain

@@ -3,3 +3,4 @@ pub mod Messages
 pub mod Rows
 pub mod Packets
 pub mod PacketReading
+pub mod MessageReading

@@ -95,11 +95,15 @@ parts_of m = part_count (length (payload_of m))
 abbrev pub chunk : ℕ → List ℕ → List ℕ
 chunk k payload = cut (1024 * k) 1024 payload
 
--- a message of this kind, with these fields of the header and this payload
-pub record IsMessage (kind session number : ℕ) (payload : List ℕ) (m : Message) : Type 0 where
-  pub can : CanSpell m
-  pub typed : IsTyped m
+-- a message is spelled by this kind, these fields of the header and this payload
+pub record IsSpelled (kind session number : ℕ) (payload : List ℕ) (m : Message) : Type 0 where
   pub kind_is : (row m).kind ≡ kind
   pub session_is : (row m).session ≡ session
   pub number_is : (row m).number ≡ number
   pub payload_is : payload_of m ≡ payload
+
+-- a message that the table can spell is spelled so
+pub record IsMessage (kind session number : ℕ) (payload : List ℕ) (m : Message) : Type 0 where
+  pub can : CanSpell m
+  pub typed : IsTyped m
+  pub spelled : IsSpelled kind session number payload m

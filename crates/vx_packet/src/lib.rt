@@ -10,6 +10,7 @@ mod map_bytes;
 mod message;
 mod part;
 mod payload;
+mod reading;
 mod region_bytes;
 mod row;
 mod spelling;
