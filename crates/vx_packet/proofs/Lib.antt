@@ -6,3 +6,5 @@ pub mod PacketLemmas
 pub mod EncodeLemmas
 pub mod Runs
 pub mod MessageAgain
+pub mod PutLemmas
+pub mod GatherLemmas

@@ -4,3 +4,5 @@ pub mod Rows
 pub mod Packets
 pub mod PacketReading
 pub mod MessageReading
+pub mod Gathering
+pub mod Assemblies

@@ -4,7 +4,10 @@
 //! `Assembly::new` alone.
 #![tactic(auto)]
 
+mod assembly;
 mod encoding;
+mod gathered;
+mod key;
 mod limit;
 mod map_bytes;
 mod message;
@@ -15,7 +18,9 @@ mod region_bytes;
 mod row;
 mod spelling;
 
+pub use assembly::{Assembly, Taken};
 pub use encoding::{encode, parts};
+pub use key::Key;
 pub use map_bytes::MapBytes;
 pub use message::{Envelope, Message};
 pub use part::{Part, decode};
