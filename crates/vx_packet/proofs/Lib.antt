@@ -8,3 +8,5 @@ pub mod Runs
 pub mod MessageAgain
 pub mod PutLemmas
 pub mod GatherLemmas
+pub mod KeyLemmas
+pub mod AssemblyLemmas

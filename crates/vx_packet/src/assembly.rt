@@ -1,6 +1,6 @@
 // One message in assembly.
 ghost use Rattle.std.specs.Prelude.{◌≡◌, Some, None, IfOk, IsSome};
-ghost use Rattle.vx_packet.specs.Assemblies.{Takes};
+ghost use Rattle.vx_packet.specs.Assemblies.{parts_before, Takes};
 ghost use Rattle.vx_packet.specs.Packets.{payload_in, IsPacket};
 
 use crate::gathered::Gathered;
@@ -60,7 +60,9 @@ impl Assembly {
     }
 
     // Begins with a message of this key, if it is not in assembly.
-    fn begin(&mut self, key: &Key) {
+    fn begin(&mut self, key: &Key)
+        ensures { self.new.held ≡ Some (record { key = key.now; parts = parts_before self.old.held key.now }) }
+    {
         let held = match &self.key {
             Some(held) => held.is(key),
             None => false,
