@@ -59,4 +59,3 @@ abbrev pub whole_length : List (Option ℕ) → ℕ
 whole_length [] = 0
 whole_length (n ∷ []) = unwrap_or n 0
 whole_length (n ∷ m ∷ rest) = 1024 + whole_length (m ∷ rest)
-

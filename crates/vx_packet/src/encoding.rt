@@ -1,5 +1,5 @@
 // From messages to packets.
-ghost use Rattle.std.specs.Prelude.{◌≡◌, ◌<◌, take, drop, length};
+ghost use Rattle.std.specs.Prelude.{◌≡◌, ◌<◌, ◌≤◌, take, drop, length};
 ghost use Rattle.vx_packet.specs.Messages.{CanSpell, IsCounted, parts_of};
 ghost use Rattle.vx_packet.specs.Packets.{part_of, packet_of, IsTypedEnvelope, IsPacket};
 
@@ -34,6 +34,7 @@ pub fn encode(e: &Envelope, m: &Message, part: u32, into: &mut [u8; 1072]) -> us
     requires message { CanSpell m.now }
     requires part { part < parts_of m.now }
     ensures length { result ≡ length (packet_of e.now m.now part) }
+    ensures few { result ≤ 1072 }
     ensures bytes { take result into.new ≡ packet_of e.now m.now part }
     ensures behind { drop result into.new ≡ drop result into.old }
     ensures packet { IsPacket (packet_of e.now m.now part) (part_of e.now m.now part) }

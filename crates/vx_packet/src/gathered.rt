@@ -56,13 +56,7 @@ fn clear(lengths: &mut [Option<u16>], count: usize)
 }
 
 // Keeps a part of so many.
-fn keep(
-    lengths: &mut [Option<u16>],
-    count: usize,
-    buffer: &mut [u8],
-    part: usize,
-    payload: &[u8],
-)
+fn keep(lengths: &mut [Option<u16>], count: usize, buffer: &mut [u8], part: usize, payload: &[u8])
     requires part { part < count }
     requires count { count ≤ length lengths.old }
     requires few { length payload.now ≤ 1024 }

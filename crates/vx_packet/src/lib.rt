@@ -25,3 +25,6 @@ pub use map_bytes::MapBytes;
 pub use message::{Envelope, Message};
 pub use part::{Part, decode};
 pub use region_bytes::RegionBytes;
+
+#[cfg(test)]
+mod tests;

@@ -82,7 +82,11 @@ fn read_hello(session: u64, number: u64, payload: &[u8]) -> Option<Message>
     if payload.len() < 8 {
         None
     } else {
-        Some(Message::Hello { session, number, stored: get_u64(payload, 0) })
+        Some(Message::Hello {
+            session,
+            number,
+            stored: get_u64(payload, 0),
+        })
     }
 }
 
@@ -92,7 +96,10 @@ fn read_start(number: u64, payload: &[u8]) -> Option<Message>
     if payload.len() < 8 {
         None
     } else {
-        Some(Message::ReplayStart { id: number, start: get_u64(payload, 0) })
+        Some(Message::ReplayStart {
+            id: number,
+            start: get_u64(payload, 0),
+        })
     }
 }
 
@@ -102,7 +109,11 @@ fn read_done(number: u64, payload: &[u8]) -> Option<Message>
     if payload.len() < 16 {
         None
     } else {
-        Some(Message::RegionsDone { id: number, start: get_u64(payload, 0), end: get_u64(payload, 8) })
+        Some(Message::RegionsDone {
+            id: number,
+            start: get_u64(payload, 0),
+            end: get_u64(payload, 8),
+        })
     }
 }
 

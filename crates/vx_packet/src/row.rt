@@ -77,14 +77,23 @@ pub fn row_of(m: &Message) -> Row<'_>
     ensures few { length result.bytes.now ≤ 65536 }
 {
     match m {
-        Message::Hello { session, number, stored } => Row {
+        Message::Hello {
+            session,
+            number,
+            stored,
+        } => Row {
             kind: 1,
             session: *session,
             number: *number,
             numbers: Numbers::One(Field::U64(*stored)),
             bytes: b"",
         },
-        Message::Update { number, vol, block, bytes } => Row {
+        Message::Update {
+            number,
+            vol,
+            block,
+            bytes,
+        } => Row {
             kind: 2,
             session: 0,
             number: *number,
@@ -116,7 +125,12 @@ pub fn row_of(m: &Message) -> Row<'_>
             numbers: Numbers::One(Field::U64(*start)),
             bytes: b"",
         },
-        Message::Region { id, vol, region, bytes } => Row {
+        Message::Region {
+            id,
+            vol,
+            region,
+            bytes,
+        } => Row {
             kind: 6,
             session: region_number(*vol, *region),
             number: *id,
@@ -130,7 +144,12 @@ pub fn row_of(m: &Message) -> Row<'_>
             numbers: Numbers::Two(Field::U64(*start), Field::U64(*end)),
             bytes: b"",
         },
-        Message::RegionAck { id, vol, region, kind } => Row {
+        Message::RegionAck {
+            id,
+            vol,
+            region,
+            kind,
+        } => Row {
             kind: 8,
             session: region_number(*vol, *region),
             number: *id,
@@ -147,7 +166,11 @@ pub fn row_of(m: &Message) -> Row<'_>
                 bytes: b"",
             }
         }
-        Message::ForkMap { vol, regions, bytes } => Row {
+        Message::ForkMap {
+            vol,
+            regions,
+            bytes,
+        } => Row {
             kind: 10,
             session: 0,
             number: *vol,

@@ -34,28 +34,47 @@ pub fn can_spell(m: &Message) -> bool
     ensures { IsTrue result ↔ CanSpell m.now }
 {
     match m {
-        Message::Hello { session, number, stored } => {
-            *session <= GREATEST && *number <= GREATEST && *stored <= GREATEST
-        }
-        Message::Update { number, vol: _, block: _, bytes } => {
+        Message::Hello {
+            session,
+            number,
+            stored,
+        } => { *session <= GREATEST && *number <= GREATEST && *stored <= GREATEST }
+        Message::Update {
+            number,
+            vol: _,
+            block: _,
+            bytes,
+        } => {
             let _blocks = bytes.as_bytes();
             *number <= GREATEST
         }
         Message::NetAck { session, number } => *session <= GREATEST && *number <= GREATEST,
         Message::DataAck { number } => *number <= GREATEST,
         Message::ReplayStart { id, start } => *id <= GREATEST && *start <= GREATEST,
-        Message::Region { id, vol: _, region: _, bytes } => {
+        Message::Region {
+            id,
+            vol: _,
+            region: _,
+            bytes,
+        } => {
             let _blocks = bytes.as_bytes();
             *id <= GREATEST
         }
         Message::RegionsDone { id, start, end } => {
             *id <= GREATEST && *start <= GREATEST && *end <= GREATEST
         }
-        Message::RegionAck { id, vol, region, kind } => {
-            *id <= GREATEST && is_ack(*kind, *vol, *region)
-        }
+        Message::RegionAck {
+            id,
+            vol,
+            region,
+            kind,
+        } => { *id <= GREATEST && is_ack(*kind, *vol, *region) }
         Message::Fork { fork, parent } => *fork <= GREATEST && parent.generation <= GREATEST,
-        Message::ForkMap { vol: _, regions, bytes } => is_map(*regions, bytes),
+        Message::ForkMap {
+            vol: _,
+            regions,
+            bytes,
+        } => is_map(*regions, bytes),
         Message::Handover { head } => *head <= GREATEST,
         Message::Trim { number } => *number <= GREATEST,
     }

@@ -60,6 +60,7 @@ returns c =
     let written : IsWritten (packet_of e m k) c.args.into.now c.put_chunk.new.into (48 + c.min-length.result) =
     IsWritten-parts e m k (48 + c.min-length.result) (spelled c.table.result) (chunk k (front ++ found.bytes.now)) c.args.into.now c.put_fields.new.bytes c.put_chunk.new.into header payload (omega (arith, ap length payload, long)) c.put_fields.ensures.written c.put_chunk.ensures in record {
       length = written.length;
+      few = omega arith;
       bytes = written.bytes;
       behind = written.behind;
       packet = IsPacket-packet_of e m k c.requires.generation c.is_typed.ensures c.requires.message c.row_of-row.ensures.typed few c.requires.part;
