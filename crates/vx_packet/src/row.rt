@@ -56,6 +56,24 @@ pub struct Row<'a> {
     pub bytes: &'a [u8],
 }
 
+impl<'a> Row<'a> {
+    fn new(kind: u8, session: u64, number: u64, numbers: Numbers, bytes: &'a [u8]) -> Row<'a>
+        ensures kind { result.kind ≡ kind }
+        ensures session { result.session ≡ session }
+        ensures number { result.number ≡ number }
+        ensures numbers { result.numbers ≡ numbers }
+        ensures bytes { result.bytes.now ≡ bytes.now }
+    {
+        Row {
+            kind,
+            session,
+            number,
+            numbers,
+            bytes,
+        }
+    }
+}
+
 // A region of a volume as one number.
 fn region_number(vol: u32, region: u32) -> u64
     ensures { result ≡ region_number_is vol region }
@@ -81,115 +99,70 @@ pub fn row_of(m: &Message) -> Row<'_>
             session,
             number,
             stored,
-        } => Row {
-            kind: 1,
-            session: *session,
-            number: *number,
-            numbers: Numbers::One(Field::U64(*stored)),
-            bytes: b"",
-        },
+        } => { Row::new(1, *session, *number, Numbers::One(Field::U64(*stored)), b"") }
         Message::Update {
             number,
             vol,
             block,
             bytes,
-        } => Row {
-            kind: 2,
-            session: 0,
-            number: *number,
-            numbers: Numbers::Three(
-                Field::U32(*vol),
-                Field::U64(*block),
-                Field::U32(block_count(bytes)),
-            ),
-            bytes: bytes.as_bytes(),
-        },
-        Message::NetAck { session, number } => Row {
-            kind: 3,
-            session: *session,
-            number: *number,
-            numbers: Numbers::None,
-            bytes: b"",
-        },
-        Message::DataAck { number } => Row {
-            kind: 4,
-            session: 0,
-            number: *number,
-            numbers: Numbers::None,
-            bytes: b"",
-        },
-        Message::ReplayStart { id, start } => Row {
-            kind: 5,
-            session: 0,
-            number: *id,
-            numbers: Numbers::One(Field::U64(*start)),
-            bytes: b"",
-        },
+        } => {
+            let count = Field::U32(block_count(bytes));
+            let numbers = Numbers::Three(Field::U32(*vol), Field::U64(*block), count);
+            Row::new(2, 0, *number, numbers, bytes.as_bytes())
+        }
+        Message::NetAck { session, number } => {
+            Row::new(3, *session, *number, Numbers::None, b"")
+        }
+        Message::DataAck { number } => Row::new(4, 0, *number, Numbers::None, b""),
+        Message::ReplayStart { id, start } => {
+            Row::new(5, 0, *id, Numbers::One(Field::U64(*start)), b"")
+        }
         Message::Region {
             id,
             vol,
             region,
             bytes,
-        } => Row {
-            kind: 6,
-            session: region_number(*vol, *region),
-            number: *id,
-            numbers: Numbers::None,
-            bytes: bytes.as_bytes(),
-        },
-        Message::RegionsDone { id, start, end } => Row {
-            kind: 7,
-            session: 0,
-            number: *id,
-            numbers: Numbers::Two(Field::U64(*start), Field::U64(*end)),
-            bytes: b"",
-        },
+        } => {
+            let session = region_number(*vol, *region);
+            Row::new(6, session, *id, Numbers::None, bytes.as_bytes())
+        }
+        Message::RegionsDone { id, start, end } => {
+            Row::new(
+                7,
+                0,
+                *id,
+                Numbers::Two(Field::U64(*start), Field::U64(*end)),
+                b"",
+            )
+        }
         Message::RegionAck {
             id,
             vol,
             region,
             kind,
-        } => Row {
-            kind: 8,
-            session: region_number(*vol, *region),
-            number: *id,
-            numbers: Numbers::One(Field::U8(*kind)),
-            bytes: b"",
-        },
+        } => {
+            let session = region_number(*vol, *region);
+            Row::new(8, session, *id, Numbers::One(Field::U8(*kind)), b"")
+        }
         Message::Fork { fork, parent } => {
             let (generation, origin) = (parent.generation, parent.origin);
-            Row {
-                kind: 9,
-                session: 0,
-                number: *fork,
-                numbers: Numbers::Two(Field::U64(generation), Field::U32(origin)),
-                bytes: b"",
-            }
+            let numbers = Numbers::Two(Field::U64(generation), Field::U32(origin));
+            Row::new(9, 0, *fork, numbers, b"")
         }
         Message::ForkMap {
             vol,
             regions,
             bytes,
-        } => Row {
-            kind: 10,
-            session: 0,
-            number: *vol,
-            numbers: Numbers::One(Field::U64(*regions)),
-            bytes: bytes.as_bytes(),
-        },
-        Message::Handover { head } => Row {
-            kind: 11,
-            session: 0,
-            number: *head,
-            numbers: Numbers::None,
-            bytes: b"",
-        },
-        Message::Trim { number } => Row {
-            kind: 12,
-            session: 0,
-            number: *number,
-            numbers: Numbers::None,
-            bytes: b"",
-        },
+        } => {
+            Row::new(
+                10,
+                0,
+                *vol,
+                Numbers::One(Field::U64(*regions)),
+                bytes.as_bytes(),
+            )
+        }
+        Message::Handover { head } => Row::new(11, 0, *head, Numbers::None, b""),
+        Message::Trim { number } => Row::new(12, 0, *number, Numbers::None, b""),
     }
 }
