@@ -10,3 +10,4 @@ pub mod PutLemmas
 pub mod GatherLemmas
 pub mod KeyLemmas
 pub mod AssemblyLemmas
+pub mod TakingLemmas

@@ -6,3 +6,4 @@ pub mod PacketReading
 pub mod MessageReading
 pub mod Gathering
 pub mod Assemblies
+pub mod Takings

@@ -8,6 +8,7 @@ mod assembly;
 mod encoding;
 mod gathered;
 mod key;
+pub mod laws;
 mod limit;
 mod map_bytes;
 mod message;
