@@ -91,7 +91,7 @@ whole_length-last (m ∷ l ∷ rest) zero count = absurd (omega arith)
 whole_length-last (m ∷ l ∷ rest) (suc k) count = omega (arith, whole_length-last (l ∷ rest) k (omega arith))
 
 -- the first m bytes and then the next n
-take-sum : (m n : ℕ) (xs : List ℕ) → take m xs ++ take n (drop m xs) ≡ take (m + n) xs
+pub take-sum : (m n : ℕ) (xs : List ℕ) → take m xs ++ take n (drop m xs) ≡ take (m + n) xs
 take-sum m n xs = ap (λ (t : List ℕ). take m xs ++ t) (sym (drop-take m n xs)) ∙ ap (λ (t : List ℕ). t ++ drop m (take (m + n) xs)) (sym (take-take m (m + n) xs (omega arith))) ∙ take-append-drop m (take (m + n) xs)
 
 -- where every part has come, the payloads are the front of the buffer

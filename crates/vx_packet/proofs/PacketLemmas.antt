@@ -11,13 +11,19 @@ use Rattle.vx_packet.proofs.ChunkLemmas.{length-chunk}
 use Rattle.vx_packet.proofs.PartLemmas.{length-header_table}
 use Rattle.vx_packet.proofs.RowLemmas.{fits-row, typed-row, IsTypedRow}
 
+-- the payload behind a header
+pub payload_in-packet_bytes : (p : Part) (payload : List ℕ) → p.start ≡ 48 → length payload ≡ p.length → payload_in p (packet_bytes p payload) ≡ payload
+unfolding packet_bytes
+payload_in-packet_bytes p payload start len =
+    let table : List ℕ = spelled (header_table p) in
+    ap (λ (n : ℕ). take p.length (drop n (table ++ payload))) start ∙ ap (take p.length) (drop_at table payload 48 (length-header_table p)) ∙ take_all p.length payload (omega (arith, len))
+
 -- a header and the payload that it tells of are a packet
 pub IsPacket-packet_bytes : (p : Part) (payload : List ℕ) → CanCarry p → IsTypedPart p → p.start ≡ 48 → length payload ≡ p.length → IsPacket (packet_bytes p payload) p
 unfolding packet_bytes
 IsPacket-packet_bytes p payload can typed start len =
     let table : List ℕ = spelled (header_table p) in
-    let carried : payload_in p (table ++ payload) ≡ payload =
-    ap (λ (n : ℕ). take p.length (drop n (table ++ payload))) start ∙ ap (take p.length) (drop_at table payload 48 (length-header_table p)) ∙ take_all p.length payload (omega (arith, len)) in record {
+    let carried : payload_in p (table ++ payload) ≡ payload = payload_in-packet_bytes p payload start len in record {
       can = can;
       typed = typed;
       start = start;
@@ -66,3 +72,13 @@ IsPacket-packet_of e m k generation envelope can typed few lt =
     })
     refl
     refl
+
+-- a packet carries its part of the message
+pub payload_in-packet_of : (e : Envelope) (m : Message) (k : ℕ) → payload_in (part_of e m k) (packet_of e m k) ≡ chunk k (payload_of m)
+unfolding packet_of part_of
+payload_in-packet_of e m k = payload_in-packet_bytes (part_of e m k) (chunk k (payload_of m)) refl refl
+
+-- and is the one that does
+pub packet_of-is : (bytes : List ℕ) (e : Envelope) (m : Message) (k : ℕ) → IsPacket bytes (part_of e m k) → payload_in (part_of e m k) bytes ≡ chunk k (payload_of m) → bytes ≡ packet_of e m k
+unfolding packet_of
+packet_of-is bytes e m k is same = is.is ∙ ap (packet_bytes (part_of e m k)) same

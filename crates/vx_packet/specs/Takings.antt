@@ -1,5 +1,5 @@
 -- The parts of one message, taken one after the other.
-use Rattle.std.specs.Prelude.{◌≡◌, ℕ, ◌<◌, false, List, [], ◌∷◌, length, Option, Some, None, slice_index_or}
+use Rattle.std.specs.Prelude.{◌≡◌, ℕ, ◌<◌, ◌⊎◌, false, List, [], ◌∷◌, length, Option, Some, None, slice_index_or}
 use Rattle.vx_packet.specs.Assemblies.{Assembled, parts_before, Takes}
 use Rattle.vx_packet.specs.Gathering.{Parts, all_came}
 use Rattle.vx_packet.specs.Messages.{row, payload_of, parts_of, chunk}
