@@ -20,6 +20,7 @@ use Rattle.vx_packet.specs.declared.message.Message.{Message}
 use Rattle.vx_packet.specs.declared.message.Message.TheVariants.{Hello, Update, NetAck, DataAck, ReplayStart, Region, RegionsDone, RegionAck, Fork, ForkMap, Handover, Trim}
 use Rattle.vx_packet.specs.declared.part.Part.{Part}
 use Rattle.vx_packet.proofs.GatherLemmas.{take-sum, kept-in}
+use Rattle.vx_packet.proofs.KeyLemmas.{same_key-is}
 use Rattle.vx_packet.proofs.MessageAgain.{message_in-is, some_same}
 use Rattle.vx_packet.proofs.Numbers.{not_both}
 use Rattle.vx_packet.proofs.PacketLemmas.{parts_of-few, same_parts}
@@ -166,6 +167,10 @@ step-bad e m a new k can typed holds lt is =
     is.none m (subst (λ (t : List ℕ). IsMessage p.kind p.session p.number t m) (sym payload) (IsMessage-self e m k can typed))
 
 -- nothing in assembly
+is_or_not : (b : Bool) → (b ≡ true) ⊎ (b ≡ false)
+is_or_not true = inl refl
+is_or_not false = inr refl
+
 some-part : (m : Message) → 0 < parts_of m
 unfolding parts_of
 some-part m = omega arith
@@ -174,21 +179,29 @@ missing-replicate : (n : ℕ) → 0 < n → all_came (replicate n None) ≡ fals
 missing-replicate zero h = absurd (omega arith)
 missing-replicate (suc n) h = refl
 
-pub fresh : (e : Envelope) (m : Message) (a : Assembled) → a.held ≡ None → HoldsSome e m a
-fresh e m a none =
-    let now : parts_in e m a ≡ replicate (parts_of m) None = ap (λ (h : Option Held). parts_before h (message_key e m)) none ∙ ap (λ (n : ℕ). replicate n None) (parts-key e m) in record {
+none-before : (o : Option Held) (key : Key) → ((h : Held) → o ≡ Some h → h.key ≡ key → ⊥) → parts_before o key ≡ replicate key.parts None
+none-before None key other = refl
+none-before (Some h) key other = elim (is_or_not (same_key h.key key)) [ inl same ↦ absurd (other h refl (same_key-is h.key key same)) | inr unlike ↦ rw unlike refl ]
+
+pub fresh : (e : Envelope) (m : Message) (a : Assembled) → ((h : Held) → a.held ≡ Some h → h.key ≡ message_key e m → ⊥) → HoldsSome e m a
+fresh e m a other =
+    let now : parts_in e m a ≡ replicate (parts_of m) None = none-before a.held (message_key e m) other ∙ ap (λ (n : ℕ). replicate n None) (parts-key e m) in record {
       count = ap length now ∙ length-replicate {A = Option (List ℕ)} (parts_of m) None;
       only = λ k below.
           subst (λ (o : Option (List ℕ)). IsChunk (payload_of m) k o) (sym (ap (λ (ps : Parts). get_or ps k None) now ∙ get_or-replicate {A = Option (List ℕ)} (parts_of m) k None None below)) tt;
       missing = ap all_came now ∙ missing-replicate (parts_of m) (some-part m);
     }
 
+-- an empty place holds no other message
+pub nothing-held : (o : Option Held) (key : Key) → o ≡ None → (h : Held) → o ≡ Some h → h.key ≡ key → ⊥
+nothing-held o key none h some same = absurd cc
+
 pub none-bad : (e : Envelope) (m : Message) (old new : Assembled) (ks : List ℕ) (ts : List Taken) → CanSpell m → IsTyped m → HoldsSome e m old → AreNumbers (parts_of m) ks → Takings e m old ks ts new → NoneBad ts
 none-bad e m old new [] [] can typed holds numbers run = tt
 none-bad e m old new [] (t ∷ ts) can typed holds numbers run = absurd run
 none-bad e m old new (k ∷ ks) [] can typed holds numbers run = absurd run
 none-bad e m old new (k ∷ ks) (taken.Whole ∷ ts) can typed holds numbers run =
-    none-bad e m run.0 new ks ts can typed (fresh e m run.0 run.1.held) numbers.1 run.2
+    none-bad e m run.0 new ks ts can typed (fresh e m run.0 (nothing-held run.0.held (message_key e m) run.1.held)) numbers.1 run.2
 none-bad e m old new (k ∷ ks) (taken.Kept ∷ ts) can typed holds numbers run =
     none-bad e m run.0 new ks ts can typed (step-kept e m old run.0 k can numbers.0 holds run.1) numbers.1 run.2
 none-bad e m old new (k ∷ ks) (taken.Bad ∷ ts) can typed holds numbers run = step-bad e m old run.0 k can typed holds numbers.0 run.1

@@ -1,9 +1,9 @@
 // What the definitions of packets and of assembly promise.
-ghost use Rattle.std.specs.Prelude.{◌≡◌, ℕ, ◌<◌, ◌≤◌, List, length, Some, None};
-ghost use Rattle.vx_packet.specs.Assemblies.{Assembled, Takes};
+ghost use Rattle.std.specs.Prelude.{◌≡◌, ℕ, ◌<◌, ◌≤◌, List, length, Some};
+ghost use Rattle.vx_packet.specs.Assemblies.{Held, Assembled, Takes};
 ghost use Rattle.vx_packet.specs.Messages.{payload_of, parts_of, chunk, CanSpell, IsTyped, IsMessage};
 ghost use Rattle.vx_packet.specs.Packets.{payload_in, part_of, packet_of, IsPacket};
-ghost use Rattle.vx_packet.specs.Takings.{HoldsSome, Takings, AreNumbers, Includes, NoneBad, SomeWhole};
+ghost use Rattle.vx_packet.specs.Takings.{message_key, HoldsSome, Takings, AreNumbers, Includes, NoneBad, SomeWhole};
 ghost use Rattle.vx_packet.specs.declared.assembly.Taken.{Taken};
 ghost use Rattle.vx_packet.specs.declared.assembly.Taken.TheVariants.{Whole};
 ghost use Rattle.vx_packet.specs.declared.message.Envelope.{Envelope};
@@ -20,10 +20,11 @@ pub fn one_spelling()
     ensures payload { (e : Envelope) (m : Message) (k : ℕ) → payload_in (part_of e m k) (packet_of e m k) ≡ chunk k (payload_of m) }
 {}
 
-/// The parts of a message may be taken in any order, and any of them again. None of the answers is `Bad`. Once each part was
-/// taken, one of them was `Whole`, and what is whole then is the message.
+/// The parts of a message may be taken in any order, and any of them again, from where no message or another one is in
+/// assembly. None of the answers is `Bad`. Once each part was taken, one of them was `Whole`, and what is whole then is the
+/// message.
 pub fn any_order()
-    ensures fresh { (e : Envelope) (m : Message) (a : Assembled) → a.held ≡ None → HoldsSome e m a }
+    ensures fresh { (e : Envelope) (m : Message) (a : Assembled) → ((h : Held) → a.held ≡ Some h → h.key ≡ message_key e m → ⊥) → HoldsSome e m a }
     ensures none_bad { (e : Envelope) (m : Message) (old new : Assembled) (ks : List ℕ) (ts : List Taken) → CanSpell m → IsTyped m → HoldsSome e m old → AreNumbers (parts_of m) ks → Takings e m old ks ts new → NoneBad ts }
     ensures whole { (e : Envelope) (m : Message) (old new : Assembled) (ks : List ℕ) (ts : List Taken) → CanSpell m → IsTyped m → HoldsSome e m old → AreNumbers (parts_of m) ks → ((k : ℕ) → k < parts_of m → Includes ks k) → Takings e m old ks ts new → SomeWhole ts }
     ensures message { (e : Envelope) (m : Message) (old new : Assembled) (k : ℕ) → CanSpell m → IsTyped m → HoldsSome e m old → k < parts_of m → Takes old (part_of e m k) (chunk k (payload_of m)) Whole new → new.whole ≡ Some m }
