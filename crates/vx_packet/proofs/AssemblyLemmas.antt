@@ -1,13 +1,13 @@
 -- What an assembly has after a part.
-use Rattle.std.proofs.Common.{◌≡◌, ◌<◌, ℕ, ◌+◌, ◌-◌, Bool, true, false, List, length, set, take, drop, replicate, refl, ap, sym, subst, ◌∙◌, arith, Option, Some, None}
-use Rattle.vx_packet.specs.Assemblies.{Held, Assembled, key_of, parts_before, parts_after, held_of, HasParts, IsKept, IsWhole, IsBad}
+use Rattle.std.proofs.Common.{◌≡◌, ℕ, ◌+◌, ◌-◌, true, false, List, set, take, drop, refl, ap, sym, subst, ◌∙◌, arith, Option, Some, None}
+use Rattle.vx_packet.specs.Assemblies.{Held, key_of, parts_before, parts_after, held_of, IsKept, IsWhole, IsBad}
 use Rattle.vx_packet.specs.Gathering.{Parts, kept, all_came, joined}
 use Rattle.vx_packet.specs.Messages.{IsMessage}
 use Rattle.vx_packet.specs.Packets.{payload_in}
 use Rattle.vx_packet.specs.declared.key.Key.{Key}
 use Rattle.vx_packet.specs.declared.message.Message.{Message}
 use Rattle.vx_packet.specs.declared.part.Part.{Part}
-use Rattle.vx_packet.proofs.KeyLemmas.{held_of-key, held_of-parts, HasParts-held}
+use Rattle.vx_packet.proofs.KeyLemmas.{held_of-key, held_of-parts}
 
 -- the place is the message's that the part is of
 abbrev pub begun : Option Held → Part → Held

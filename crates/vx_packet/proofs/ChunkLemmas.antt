@@ -1,9 +1,8 @@
 -- Parts of a payload that is two runs of bytes.
-use Rattle.std.proofs.Common.{◌≡◌, ◌≤◌, ℕ, ◌+◌, ◌-◌, ◌*◌, ◌<◌, min, max, List, ◌++◌, length, take, drop, refl, ap, sym, ◌∙◌, arith}
+use Rattle.std.proofs.Common.{◌≡◌, ◌≤◌, ℕ, ◌+◌, ◌-◌, ◌*◌, min, List, ◌++◌, length, take, drop, ap, sym, ◌∙◌, arith}
 use Rattle.std.proofs.lemmas.List.{take_min, length-take, length-drop}
 use Rattle.std.proofs.Math.Seq.{take-append-add, drop-append-add}
-use Rattle.vx_wire.specs.Places.{put_at}
-use Rattle.vx_packet.specs.Messages.{chunk, part_count}
+use Rattle.vx_packet.specs.Messages.{chunk}
 
 -- the first part is the first run and the front of the second
 pub first_chunk : (k end : ℕ) (front bytes : List ℕ) → k ≡ 0 → length front ≤ 1024 → end ≡ min (length bytes) (1024 - length front) → chunk k (front ++ bytes) ≡ front ++ take end bytes

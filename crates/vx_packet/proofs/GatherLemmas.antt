@@ -1,12 +1,12 @@
 -- Parts that are kept in a buffer.
-use Rattle.std.proofs.Common.{◌≡◌, ◌≤◌, ◌<◌, ℕ, zero, suc, ◌+◌, ◌-◌, ◌*◌, Bool, true, false, List, [], ◌∷◌, ◌++◌, length, take, drop, set, get_or, replicate, refl, ap, sym, ◌∙◌, arith, Option, Some, None}
+use Rattle.std.proofs.Common.{◌≡◌, ◌≤◌, ◌<◌, ℕ, zero, suc, ◌+◌, ◌*◌, Bool, true, List, [], ◌∷◌, ◌++◌, length, take, drop, set, get_or, replicate, refl, ap, sym, ◌∙◌, arith, Option, Some, None}
 use Rattle.std.specs.Prelude.{◌&&◌, unwrap_or}
 use Rattle.std.specs.List.{list_all}
 use Rattle.std.specs.Option.{is_some}
-use Rattle.std.proofs.lemmas.List.{take_at, take_all, take-take, drop_all, take-append-drop, length-drop, drop-append-le, drop-take, append-nil}
+use Rattle.std.proofs.lemmas.List.{take_at, take_all, take-take, drop_all, take-append-drop, length-drop, drop-take, append-nil}
 use Rattle.std.proofs.lemmas.Slice.{drop-append-drop}
 use Rattle.vx_wire.specs.Places.{put_at}
-use Rattle.vx_packet.specs.Gathering.{Parts, kept, all_came, bytes_of, joined, slot, came, IsAtMost, IsFull, AreFull, whole_length}
+use Rattle.vx_packet.specs.Gathering.{Parts, kept, all_came, joined, slot, came, AreFull, whole_length}
 use Rattle.vx_packet.proofs.Numbers.{not_both}
 use Rattle.std.proofs.lemmas.Bool.{le-ltb}
 use Rattle.vx_packet.proofs.RowLemmas.{lt_true}

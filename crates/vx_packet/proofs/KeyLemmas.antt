@@ -1,10 +1,9 @@
 -- Keys, and the message that one stands for.
-use Rattle.std.proofs.Common.{◌≡◌, ℕ, Bool, true, false, List, length, replicate, refl, ap, sym, ◌∙◌, arith, Option, Some, None, subst}
+use Rattle.std.proofs.Common.{◌≡◌, ℕ, Bool, true, false, length, refl, arith, Option, Some, None}
 use Rattle.std.specs.Prelude.{◌&&◌, ◌==◌}
 use Rattle.std.proofs.lemmas.Bool.Decides.{nat_tests}
-use Rattle.std.proofs.lemmas.List.{length-replicate}
 use Rattle.vx_packet.specs.Gathering.{Parts}
-use Rattle.vx_packet.specs.Assemblies.{Held, same_key, parts_before, held_of, HasParts}
+use Rattle.vx_packet.specs.Assemblies.{Held, same_key, held_of, HasParts}
 use Rattle.vx_packet.specs.declared.key.Key.{Key}
 use Rattle.vx_packet.proofs.Numbers.{not_both}
 

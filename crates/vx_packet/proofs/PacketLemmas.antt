@@ -1,5 +1,5 @@
 -- The packets of a message.
-use Rattle.std.proofs.Common.{◌≡◌, ◌≤◌, ℕ, ◌+◌, ◌-◌, ◌*◌, ◌/◌, ◌^◌, ◌<◌, min, max, List, [], ◌++◌, length, take, drop, refl, ap, sym, ◌∙◌, arith}
+use Rattle.std.proofs.Common.{◌≡◌, ◌≤◌, ℕ, ◌-◌, ◌*◌, ◌<◌, min, List, ◌++◌, length, take, drop, refl, ap, sym, ◌∙◌, arith}
 use Rattle.std.proofs.lemmas.List.{length-append, take_all, drop_at}
 use Rattle.vx_wire.specs.Fields.{spelled}
 use Rattle.vx_packet.specs.Messages.{row, payload_of, parts_of, part_count, chunk, CanSpell, IsTyped, IsCounted}

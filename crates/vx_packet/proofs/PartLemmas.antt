@@ -1,13 +1,12 @@
 -- A header that is spelled is read again.
-use Rattle.std.proofs.Common.{◌≡◌, ◌≤◌, ℕ, ◌+◌, ◌-◌, ◌^◌, ◌<◌, List, [], ◌++◌, length, take, drop, refl, ap, sym, subst, ◌∙◌, arith}
-use Rattle.std.proofs.lemmas.List.{length-append, take_at, drop_at, take_all, length-drop, take-append-drop}
-use Rattle.std.specs.Prelude.{IsTrue}
+use Rattle.std.proofs.Common.{◌≡◌, ℕ, ◌+◌, List, ◌++◌, length, take, drop, refl, ap, sym, ◌∙◌, arith}
+use Rattle.std.proofs.lemmas.List.{take_at, take_all, length-drop, take-append-drop}
 use Rattle.vx_wire.specs.Fields.{spelled}
 use Rattle.vx_wire.specs.Numbers.{be_bytes, number_at}
 use Rattle.vx_wire.specs.Places.{put_at}
 use Rattle.std.proofs.lemmas.List.{append-nil, drop_all}
 use Rattle.vx_packet.specs.PacketReading.{part_in}
-use Rattle.vx_packet.specs.Packets.{header_table, packet_bytes, payload_in, fits_kind, CanCarry, IsTypedPart, IsPacket}
+use Rattle.vx_packet.specs.Packets.{header_table, packet_bytes, payload_in, CanCarry, IsTypedPart, IsPacket}
 use Rattle.vx_packet.specs.declared.part.Part.{Part}
 use Rattle.vx_packet.proofs.Numbers.{read}
 

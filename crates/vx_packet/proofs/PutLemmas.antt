@@ -1,6 +1,6 @@
 -- Bytes put at a place, seen from a later start.
-use Rattle.std.proofs.Common.{◌≡◌, ◌≤◌, ℕ, ◌+◌, ◌-◌, List, [], ◌++◌, length, take, drop, refl, ap, sym, ◌∙◌, arith}
-use Rattle.std.proofs.lemmas.List.{drop-append-le, take-append-le, take-take, drop-take, drop-drop, length-take, drop_all}
+use Rattle.std.proofs.Common.{◌≡◌, ◌≤◌, ℕ, ◌+◌, List, ◌++◌, length, take, drop, ap, sym, ◌∙◌, arith}
+use Rattle.std.proofs.lemmas.List.{drop-append-le, take-append-le, take-take, drop-take, drop-drop, length-take}
 use Rattle.vx_wire.specs.Places.{put_at}
 
 -- a front that ends before the place

@@ -1,15 +1,15 @@
 -- The parts of one message come whole.
-use Rattle.std.proofs.Common.{◌≡◌, ◌≤◌, ◌<◌, ℕ, zero, suc, ◌+◌, ◌*◌, Bool, true, false, List, [], ◌∷◌, ◌++◌, length, take, drop, set, get_or, replicate, refl, ap, sym, subst, ◌∙◌, arith, Option, Some, None, inl, inr, get_or-set_same, get_or-set_other, length-append}
-use Rattle.std.specs.Prelude.{◌&&◌, ◌==◌, ◌⊎◌}
+use Rattle.std.proofs.Common.{◌≡◌, ◌≤◌, ◌<◌, ℕ, zero, suc, ◌+◌, ◌*◌, Bool, true, false, List, [], ◌∷◌, ◌++◌, length, take, drop, set, get_or, replicate, refl, ap, sym, subst, ◌∙◌, arith, Option, Some, None, inl, inr, get_or-set_same, get_or-set_other}
+use Rattle.std.specs.Prelude.{◌==◌, ◌⊎◌}
 use Rattle.std.specs.Option.{is_some}
 use Rattle.std.proofs.lemmas.List.{drop-drop, take_all, length-set, length-replicate, get_or-replicate}
 use Rattle.std.proofs.lemmas.Bool.{cases_eq}
 use Rattle.std.proofs.lemmas.Bool.Decides.{nat_tests}
 use Rattle.vx_wire.specs.Fields.{spelled}
 use Rattle.vx_wire.specs.Numbers.{be_bytes}
-use Rattle.vx_packet.specs.Assemblies.{Held, Assembled, key_of, same_key, parts_before, parts_after, IsKept, IsWhole, IsBad, Takes}
-use Rattle.vx_packet.specs.Gathering.{Parts, kept, all_came, bytes_of, joined}
-use Rattle.vx_packet.specs.Messages.{row, payload_of, parts_of, part_count, chunk, CanSpell, IsTyped, IsMessage}
+use Rattle.vx_packet.specs.Assemblies.{Held, Assembled, key_of, same_key, parts_before, parts_after, IsKept, IsWhole, IsBad}
+use Rattle.vx_packet.specs.Gathering.{Parts, kept, all_came, joined}
+use Rattle.vx_packet.specs.Messages.{payload_of, parts_of, chunk, CanSpell, IsTyped, IsMessage}
 use Rattle.vx_packet.specs.Packets.{part_of}
 use Rattle.vx_packet.specs.Takings.{message_key, parts_in, IsChunk, HoldsSome, Takings, AreNumbers, Includes, NoneBad, SomeWhole}
 use Rattle.vx_packet.specs.declared.assembly.Taken.{Taken}
@@ -21,7 +21,7 @@ use Rattle.vx_packet.specs.declared.message.Message.TheVariants.{Hello, Update, 
 use Rattle.vx_packet.specs.declared.part.Part.{Part}
 use Rattle.vx_packet.proofs.GatherLemmas.{take-sum, kept-in}
 use Rattle.vx_packet.proofs.KeyLemmas.{same_key-is}
-use Rattle.vx_packet.proofs.MessageAgain.{message_in-is, some_same}
+use Rattle.vx_packet.proofs.MessageAgain.{message_in-is}
 use Rattle.vx_packet.proofs.Numbers.{not_both}
 use Rattle.vx_packet.proofs.PacketLemmas.{parts_of-few, same_parts}
 

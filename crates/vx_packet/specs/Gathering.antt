@@ -1,5 +1,5 @@
 -- The parts of one message that have come, and the buffer that they are kept in.
-use Rattle.std.specs.Prelude.{◌≡◌, ℕ, Bool, ◌+◌, ◌*◌, ◌≤◌, nat_lt, if◌then◌else◌, unwrap_or, List, [], ◌∷◌, length, take, drop, flat_map, Option, Some, None}
+use Rattle.std.specs.Prelude.{◌≡◌, ℕ, Bool, ◌+◌, ◌≤◌, nat_lt, if◌then◌else◌, unwrap_or, List, [], ◌∷◌, length, take, drop, flat_map, Option, Some, None}
 use Rattle.std.specs.List.{list_all}
 use Rattle.std.specs.Option.{is_some}
 

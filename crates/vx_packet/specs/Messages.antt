@@ -1,5 +1,5 @@
 -- Messages, as the table of kinds spells them.
-use Rattle.std.specs.Prelude.{◌≡◌, ℕ, ◌+◌, ◌*◌, ◌/◌, ◌%◌, ◌^◌, ◌<◌, ◌≤◌, ◌≢◌, max, List, [], ◌∷◌, ◌++◌, length, slice_index, All}
+use Rattle.std.specs.Prelude.{◌≡◌, ℕ, ◌+◌, ◌*◌, ◌/◌, ◌%◌, ◌^◌, ◌<◌, ◌≤◌, ◌≢◌, max, List, [], ◌∷◌, ◌++◌, length, slice_index}
 use Rattle.vx_wire.specs.declared.field.Field.{Field}
 use Rattle.vx_wire.specs.declared.field.Field.TheVariants.{U8, U32, U64}
 use Rattle.vx_wire.specs.Fields.{spelled}

@@ -1,5 +1,5 @@
 -- The rows of the table, as the code has them.
-use Rattle.std.specs.Prelude.{◌≡◌, ℕ, List, [], ◌∷◌}
+use Rattle.std.specs.Prelude.{◌≡◌, List, [], ◌∷◌}
 use Rattle.vx_wire.specs.declared.field.Field.{Field}
 use Rattle.vx_packet.specs.Messages.{Row}
 use Rattle.vx_packet.specs.declared.row.Numbers.{Numbers}

@@ -1,5 +1,4 @@
-use Rattle.std.proofs.Common.{arith, ◌≡◌, ◌≤◌, ◌+◌, ◌++◌, ◌∙◌, ap, sym, take, length, ℕ, List, refl}
-use Rattle.std.proofs.lemmas.List.{length-append}
+use Rattle.std.proofs.Common.{arith, ◌≡◌, ◌≤◌, ◌+◌, ◌++◌, ◌∙◌, ap, sym, take, length, ℕ, List}
 use Rattle.vx_wire.specs.Fields.{spelled}
 use Rattle.vx_packet.specs.Messages.{parts_of, payload_of, part_count, chunk}
 use Rattle.vx_packet.specs.Packets.{header_table, part_of, packet_of}

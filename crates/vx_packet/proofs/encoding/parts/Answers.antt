@@ -1,4 +1,4 @@
-use Rattle.std.proofs.Common.{arith, ◌≡◌, ◌+◌, ◌++◌, ◌∙◌, ap, sym, take, length, ℕ, List}
+use Rattle.std.proofs.Common.{arith, ◌≡◌, ◌+◌, ◌∙◌, ap, sym, take, length, ℕ, List}
 use Rattle.std.proofs.lemmas.List.{length-append}
 use Rattle.vx_packet.specs.Messages.{parts_of, payload_of, part_count}
 use Rattle.vx_packet.proofs.RowLemmas.{payload-row}

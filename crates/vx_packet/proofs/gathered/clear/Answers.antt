@@ -1,6 +1,6 @@
 use Rattle.std.proofs.Common.{arith, ◌≡◌, ◌∙◌, ◌++◌, ap, sym, subst, ℕ, List, Option, None, length, take, drop, replicate}
 use Rattle.std.proofs.lemmas.List.{take_at, length-take, length-append, length-drop, length-replicate}
-use Rattle.vx_packet.specs.Gathering.{Parts, came, AreFull}
+use Rattle.vx_packet.specs.Gathering.{came, AreFull}
 use Rattle.vx_packet.proofs.GatherLemmas.{came-none, AreFull-none}
 use Rattle.vx_packet.proofs.gathered.clear.Goals as goal
 

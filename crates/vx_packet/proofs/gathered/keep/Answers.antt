@@ -1,7 +1,7 @@
 use Rattle.std.proofs.Common.{arith, ◌≡◌, ◌<◌, ◌+◌, ◌∙◌, ap, sym, subst, List, ℕ, Option, Some, length, take, set}
 use Rattle.std.proofs.Math.Seq.{take-set-lt}
 use Rattle.std.proofs.lemmas.List.{length-take}
-use Rattle.vx_packet.specs.Gathering.{Parts, came, AreFull}
+use Rattle.vx_packet.specs.Gathering.{came, AreFull}
 use Rattle.vx_packet.proofs.GatherLemmas.{came-put, came-told, kept-in, kept-past, AreFull-set}
 use Rattle.vx_packet.proofs.gathered.keep.Goals as goal
 

@@ -1,7 +1,7 @@
-use Rattle.std.proofs.Common.{arith, ◌≡◌, ◌∙◌, ◌+◌, ap, sym, subst, List, ℕ, length, take, Some, refl}
+use Rattle.std.proofs.Common.{arith, ◌≡◌, ◌∙◌, ◌+◌, ap, sym, subst, List, ℕ, length, Some, refl}
 use Rattle.vx_wire.specs.Fields.{spelled}
 use Rattle.vx_packet.specs.PacketReading.{part_in}
-use Rattle.vx_packet.specs.Packets.{header_table, CanCarry, IsPacket}
+use Rattle.vx_packet.specs.Packets.{header_table, CanCarry}
 use Rattle.vx_packet.specs.declared.part.Part.{Part}
 use Rattle.vx_packet.proofs.Numbers.{not_both}
 use Rattle.vx_packet.proofs.PartLemmas.{part_in-is, front_packet, packet_from}

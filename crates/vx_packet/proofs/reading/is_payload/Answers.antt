@@ -1,4 +1,4 @@
-use Rattle.std.proofs.Common.{◌≡◌, ◌∙◌, sym, false, refl}
+use Rattle.std.proofs.Common.{◌∙◌, sym}
 use Rattle.vx_packet.proofs.Numbers.{not_both}
 use Rattle.vx_packet.proofs.Runs.{equal-text, text-equal, runs-join, runs-first, runs-second}
 use Rattle.vx_packet.proofs.reading.is_payload.Goals as goal

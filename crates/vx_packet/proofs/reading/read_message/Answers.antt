@@ -1,6 +1,5 @@
-use Rattle.std.proofs.Common.{◌≡◌, ◌∙◌, sym, ap, subst, Some, None}
-use Rattle.vx_packet.specs.MessageReading.{message_in}
-use Rattle.vx_packet.specs.Messages.{CanSpell, IsSpelled, IsMessage}
+use Rattle.std.proofs.Common.{◌≡◌, ◌∙◌, sym, subst}
+use Rattle.vx_packet.specs.Messages.{CanSpell, IsSpelled}
 use Rattle.vx_packet.specs.declared.message.Message.{Message}
 use Rattle.vx_packet.proofs.MessageAgain.{message_in-is, some_same}
 use Rattle.vx_packet.proofs.Numbers.{not_both}

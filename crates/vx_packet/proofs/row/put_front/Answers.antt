@@ -1,4 +1,4 @@
-use Rattle.std.proofs.Common.{arith, ◌∙◌, ap, take, length, replicate}
+use Rattle.std.proofs.Common.{arith, ◌∙◌, ap, take}
 use Rattle.std.proofs.lemmas.List.{take_at}
 use Rattle.vx_wire.specs.Fields.{spelled}
 use Rattle.vx_wire.specs.Places.{put_at}

@@ -1,7 +1,7 @@
-use Rattle.std.proofs.Common.{arith, ◌≡◌, ◌∙◌, ◌-◌, ◌+◌, ap, sym, ℕ, List, Option, Some, length, take, drop}
+use Rattle.std.proofs.Common.{arith, ◌≡◌, ◌∙◌, ◌-◌, ◌+◌, ap, Option, Some, length, take, drop}
 use Rattle.std.proofs.lemmas.List.{length-take, length-drop}
 use Rattle.std.proofs.lemmas.List.{length-set}
-use Rattle.vx_packet.specs.Assemblies.{Held, Assembled, key_of, parts_before, parts_after, held_of}
+use Rattle.vx_packet.specs.Assemblies.{Held, Assembled, key_of, parts_before}
 use Rattle.vx_packet.specs.Gathering.{kept}
 use Rattle.vx_packet.specs.Packets.{payload_in}
 use Rattle.vx_packet.specs.declared.key.Key.{Key}
