@@ -1,0 +1,54 @@
+-- What an assembly has after a part.
+use Rattle.std.proofs.Common.{◌≡◌, ℕ, ◌+◌, ◌-◌, true, false, List, set, take, drop, refl, ap, sym, subst, ◌∙◌, arith, Option, Some, None}
+use Rattle.vx_packet.specs.Assemblies.{Held, key_of, parts_before, parts_after, held_of, IsKept, IsWhole, IsBad}
+use Rattle.vx_packet.specs.Gathering.{Parts, kept, all_came, joined}
+use Rattle.vx_packet.specs.Messages.{IsMessage}
+use Rattle.vx_packet.specs.Packets.{payload_in}
+use Rattle.vx_packet.specs.declared.key.Key.{Key}
+use Rattle.vx_packet.specs.declared.message.Message.{Message}
+use Rattle.vx_packet.specs.declared.part.Part.{Part}
+use Rattle.vx_packet.proofs.KeyLemmas.{held_of-key, held_of-parts}
+
+-- the place is the message's that the part is of
+abbrev pub begun : Option Held → Part → Held
+begun old p = record { key = key_of p; parts = parts_before old (key_of p) }
+
+-- the slice that is taken is the payload
+pub slice-payload : (p : Part) (bytes : List ℕ) → take (p.start + p.length - p.start) (drop p.start bytes) ≡ payload_in p bytes
+slice-payload p bytes = ap (λ (n : ℕ). take n (drop p.start bytes)) (omega arith)
+
+-- the parts with the new one
+pub after-put : (old : Option Held) (p : Part) (k : Option Key) (ps new : Parts) (slice payload : List ℕ) → held_of k ps ≡ Some (begun old p) → slice ≡ payload → new ≡ set ps p.part (Some (kept p.part slice))
+    → new ≡ parts_after old p payload
+after-put old p k ps new slice payload is same put =
+    put ∙ ap (λ (t : Parts). set t p.part (Some (kept p.part slice))) (held_of-parts k ps (begun old p) is) ∙ ap (λ (t : List ℕ). set (parts_before old (key_of p)) p.part (Some (kept p.part t))) same
+
+pub kept-after : (old : Option Held) (p : Part) (k : Option Key) (ps new : Parts) (payload : List ℕ) → held_of k ps ≡ Some (begun old p) → new ≡ parts_after old p payload → all_came new ≡ false
+    → IsKept p (parts_after old p payload) (record { held = held_of k new; whole = None })
+kept-after old p k ps new payload is same missing = record {
+  missing = ap all_came (sym same) ∙ missing;
+  held = ap (λ (q : Option Key). held_of q new) (held_of-key k ps (begun old p) is) ∙ ap (λ (t : Parts). Some (record { key = key_of p; parts = t })) same;
+  whole = refl;
+}
+
+pub whole-after : (old : Option Held) (p : Part) (new : Parts) (payload whole : List ℕ) (m : Message) → new ≡ parts_after old p payload → all_came new ≡ true → whole ≡ joined new
+    → IsMessage p.kind p.session p.number whole m → IsWhole p (parts_after old p payload) (record { held = None; whole = Some m })
+whole-after old p new payload whole m same all join is = record {
+  all = ap all_came (sym same) ∙ all;
+  message = m;
+  is = subst (λ (t : List ℕ). IsMessage p.kind p.session p.number t m) (join ∙ ap joined same) is;
+  held = refl;
+  whole = refl;
+}
+
+pub bad-after : (old : Option Held) (p : Part) (new : Parts) (payload whole : List ℕ) → new ≡ parts_after old p payload → all_came new ≡ true → whole ≡ joined new
+    → ((m : Message) → IsMessage p.kind p.session p.number whole m → ⊥) → IsBad p (parts_after old p payload) (record { held = None; whole = None })
+bad-after old p new payload whole same all join none = record {
+  all = ap all_came (sym same) ∙ all;
+  none = λ m is. none m (subst (λ (t : List ℕ). IsMessage p.kind p.session p.number t m) (sym (join ∙ ap joined same)) is);
+  held = refl;
+  whole = refl;
+}
+
+pub none_some : (m : Message) → None ≡ Some m → ⊥
+none_some m h = cc

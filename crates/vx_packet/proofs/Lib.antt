@@ -1,0 +1,13 @@
+pub mod Numbers
+pub mod PartLemmas
+pub mod ChunkLemmas
+pub mod RowLemmas
+pub mod PacketLemmas
+pub mod EncodeLemmas
+pub mod Runs
+pub mod MessageAgain
+pub mod PutLemmas
+pub mod GatherLemmas
+pub mod KeyLemmas
+pub mod AssemblyLemmas
+pub mod TakingLemmas

@@ -1,0 +1,10 @@
+use Rattle.vx_packet.proofs.TakingLemmas.{fresh, none-bad, whole-comes, step-whole}
+use Rattle.vx_packet.proofs.laws.any_order.Goals as goal
+
+pub returns : goal.returns
+returns c = record {
+  fresh = fresh;
+  none_bad = none-bad;
+  whole = whole-comes;
+  message = λ e m old new k can typed holds below is. step-whole e m old new k can typed holds below is;
+}

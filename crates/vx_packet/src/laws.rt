@@ -1,0 +1,31 @@
+// What the definitions of packets and of assembly promise.
+ghost use Rattle.std.specs.Prelude.{◌≡◌, ℕ, ◌<◌, ◌≤◌, List, length, Some};
+ghost use Rattle.vx_packet.specs.Assemblies.{Held, Assembled, Takes};
+ghost use Rattle.vx_packet.specs.Messages.{payload_of, parts_of, chunk, CanSpell, IsTyped, IsMessage};
+ghost use Rattle.vx_packet.specs.Packets.{payload_in, part_of, packet_of, IsPacket};
+ghost use Rattle.vx_packet.specs.Takings.{message_key, HoldsSome, Takings, AreNumbers, Includes, NoneBad, SomeWhole};
+ghost use Rattle.vx_packet.specs.declared.assembly.Taken.{Taken};
+ghost use Rattle.vx_packet.specs.declared.assembly.Taken.TheVariants.{Whole};
+ghost use Rattle.vx_packet.specs.declared.message.Envelope.{Envelope};
+ghost use Rattle.vx_packet.specs.declared.message.Message.{Message};
+ghost use Rattle.vx_packet.specs.declared.part.Part.{Part};
+
+/// Bytes carry at most one part, and a payload is at most one message of its kind, of at most 65,544 bytes. A packet is the
+/// one of each message whose part and payload it carries, and the packet of a message's part carries that part of its payload.
+pub fn one_spelling()
+    ensures part { (bytes : List ℕ) (p q : Part) → IsPacket bytes p → IsPacket bytes q → p ≡ q }
+    ensures message { (kind session number : ℕ) (payload : List ℕ) (m n : Message) → IsMessage kind session number payload m → IsMessage kind session number payload n → m ≡ n }
+    ensures few { (m : Message) → CanSpell m → length (payload_of m) ≤ 65544 }
+    ensures packet { (bytes : List ℕ) (e : Envelope) (m : Message) (k : ℕ) → IsPacket bytes (part_of e m k) → payload_in (part_of e m k) bytes ≡ chunk k (payload_of m) → bytes ≡ packet_of e m k }
+    ensures payload { (e : Envelope) (m : Message) (k : ℕ) → payload_in (part_of e m k) (packet_of e m k) ≡ chunk k (payload_of m) }
+{}
+
+/// The parts of a message may be taken in any order, and any of them again, from where no message or another one is in
+/// assembly. None of the answers is `Bad`. Once each part was taken, one of them was `Whole`, and what is whole then is the
+/// message.
+pub fn any_order()
+    ensures fresh { (e : Envelope) (m : Message) (a : Assembled) → ((h : Held) → a.held ≡ Some h → h.key ≡ message_key e m → ⊥) → HoldsSome e m a }
+    ensures none_bad { (e : Envelope) (m : Message) (old new : Assembled) (ks : List ℕ) (ts : List Taken) → CanSpell m → IsTyped m → HoldsSome e m old → AreNumbers (parts_of m) ks → Takings e m old ks ts new → NoneBad ts }
+    ensures whole { (e : Envelope) (m : Message) (old new : Assembled) (ks : List ℕ) (ts : List Taken) → CanSpell m → IsTyped m → HoldsSome e m old → AreNumbers (parts_of m) ks → ((k : ℕ) → k < parts_of m → Includes ks k) → Takings e m old ks ts new → SomeWhole ts }
+    ensures message { (e : Envelope) (m : Message) (old new : Assembled) (k : ℕ) → CanSpell m → IsTyped m → HoldsSome e m old → k < parts_of m → Takes old (part_of e m k) (chunk k (payload_of m)) Whole new → new.whole ≡ Some m }
+{}

@@ -1,0 +1,31 @@
+//! The messages that sites send to each other, and the packets that carry them.
+//!
+//! A packet is at most 1,072 bytes: 48 of header, and up to 1,024 of a message's payload. Memory is taken by
+//! `Assembly::new` alone.
+#![tactic(auto)]
+
+mod assembly;
+mod encoding;
+mod gathered;
+mod key;
+pub mod laws;
+mod limit;
+mod map_bytes;
+mod message;
+mod part;
+mod payload;
+mod reading;
+mod region_bytes;
+mod row;
+mod spelling;
+
+pub use assembly::{Assembly, Taken};
+pub use encoding::{encode, parts};
+pub use key::Key;
+pub use map_bytes::MapBytes;
+pub use message::{Envelope, Message};
+pub use part::{Part, decode};
+pub use region_bytes::RegionBytes;
+
+#[cfg(test)]
+mod tests;

@@ -1,0 +1,81 @@
+// Which messages the table can spell.
+ghost use Rattle.std.specs.Prelude.{◌≡◌, ◌↔◌, ◌+◌, ◌/◌, ◌%◌, ◌^◌, length, slice_index, IsTrue};
+ghost use Rattle.vx_packet.specs.Messages.{CanSpell, IsAck, IsMap};
+
+use crate::limit::GREATEST;
+use crate::{MapBytes, Message};
+
+// Whether an acknowledgement of a replay is one: the start, a region, or the end.
+fn is_ack(kind: u8, vol: u32, region: u32) -> bool
+    ensures { IsTrue result ↔ IsAck kind vol region }
+{
+    kind == 1 || (kind == 0 || kind == 2) && vol == 0 && region == 0
+}
+
+// Whether the bits behind the last of so many regions are zero.
+fn has_unused(regions: u64, bytes: &[u8]) -> bool
+    requires { length bytes.now ≡ (regions + 7) / 8 }
+    ensures { IsTrue result ↔ (slice_index bytes.now (regions / 8) / 2 ^ (regions % 8) ≡ 0) }
+{
+    let used = regions % 8;
+    used == 0 || bytes[(regions / 8) as usize] >> used == 0
+}
+
+// Whether there is a bit for each of so many regions, and zeros behind them in the last byte.
+fn is_map(regions: u64, bytes: &MapBytes) -> bool
+    ensures { IsTrue result ↔ IsMap regions bytes.now }
+{
+    let bytes = bytes.as_bytes();
+    bytes.len() as u64 == regions.div_ceil(8) && has_unused(regions, bytes)
+}
+
+/// Whether a message is one that the table can spell.
+pub fn can_spell(m: &Message) -> bool
+    ensures { IsTrue result ↔ CanSpell m.now }
+{
+    match m {
+        Message::Hello {
+            session,
+            number,
+            stored,
+        } => { *session <= GREATEST && *number <= GREATEST && *stored <= GREATEST }
+        Message::Update {
+            number,
+            vol: _,
+            block: _,
+            bytes,
+        } => {
+            let _blocks = bytes.as_bytes();
+            *number <= GREATEST
+        }
+        Message::NetAck { session, number } => *session <= GREATEST && *number <= GREATEST,
+        Message::DataAck { number } => *number <= GREATEST,
+        Message::ReplayStart { id, start } => *id <= GREATEST && *start <= GREATEST,
+        Message::Region {
+            id,
+            vol: _,
+            region: _,
+            bytes,
+        } => {
+            let _blocks = bytes.as_bytes();
+            *id <= GREATEST
+        }
+        Message::RegionsDone { id, start, end } => {
+            *id <= GREATEST && *start <= GREATEST && *end <= GREATEST
+        }
+        Message::RegionAck {
+            id,
+            vol,
+            region,
+            kind,
+        } => { *id <= GREATEST && is_ack(*kind, *vol, *region) }
+        Message::Fork { fork, parent } => *fork <= GREATEST && parent.generation <= GREATEST,
+        Message::ForkMap {
+            vol: _,
+            regions,
+            bytes,
+        } => is_map(*regions, bytes),
+        Message::Handover { head } => *head <= GREATEST,
+        Message::Trim { number } => *number <= GREATEST,
+    }
+}
