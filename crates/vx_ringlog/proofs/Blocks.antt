@@ -1,12 +1,12 @@
 -- The blocks of a record, as given and on disk.
-use Rattle.std.proofs.Common.{◌≡◌, ℕ, suc, ◌+◌, ◌-◌, ◌≤◌, List, [], ◌∷◌, ◌++◌, length, drop, slice_index, All, refl, sym, ◌∙◌, ap, subst, arith}
+use Rattle.std.proofs.Common.{◌≡◌, ℕ, suc, ◌-◌, List, [], ◌∷◌, ◌++◌, length, drop, slice_index, All, refl, ◌∙◌, ap, subst, arith}
 use Rattle.std.specs.List.{concat}
 use Rattle.std.proofs.lemmas.List.{length-append, length-replicate}
 use Rattle.std.proofs.lemmas.List.Elements.{All-nil, All-cons, All-head, All-tail}
 use Rattle.std.proofs.Math.Seq.{drop-append_seam}
 use Rattle.vx_wire.specs.Fields.{zeros}
 use Rattle.vx_srlfmt.specs.Kinds.{body_byte, IsBody}
-use Rattle.vx_ringlog.specs.Records.{Record, with_firsts, given, on_disk, first_bytes, firsts_of, KeepsBlocks, IsWhole, GivenComesBack, StandOnDisk, BlocksStand}
+use Rattle.vx_ringlog.specs.Records.{with_firsts, on_disk, first_bytes, firsts_of, IsWhole, GivenComesBack, BlocksStand}
 
 -- a block is its first byte and the rest of it
 own_first : (block : List ℕ) → IsWhole block → slice_index block 0 ∷ drop 1 block ≡ block

@@ -13,3 +13,4 @@ pub mod Starting
 pub mod Runs
 pub mod Passed
 pub mod Rest
+pub mod Worked

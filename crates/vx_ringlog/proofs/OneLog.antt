@@ -4,7 +4,7 @@ use Rattle.vx_srlfmt.specs.declared.header.Header.{Header}
 use Rattle.vx_srlfmt.specs.declared.record.RecordHead.{RecordHead}
 use Rattle.vx_ringlog.specs.Cells.{Image}
 use Rattle.vx_ringlog.specs.Records.{Era, era_of, Record}
-use Rattle.vx_ringlog.specs.Chain.{block, width, Counts, HasBody, LogIsUnique, Scan}
+use Rattle.vx_ringlog.specs.Chain.{width, Counts, HasBody, LogIsUnique, Scan}
 
 counts_unique : (i : Image) (h g : Header) → Counts i h → Counts i g → h ≡ g
 counts_unique i h g (inl a) (inl b) = cc (a.0, b.0)

@@ -1,9 +1,8 @@
 -- A start from what a crash left.
-use Rattle.std.proofs.Common.{◌≡◌, ◌⊎◌, inl, inr, ⊎_elim, ℕ, zero, suc, ◌+◌, ◌<◌, List, [], ◌∷◌, ◌++◌, length, take, refl, sym, ◌∙◌, ap, subst, arith}
+use Rattle.std.proofs.Common.{◌≡◌, ◌⊎◌, inl, inr, ⊎_elim, ℕ, zero, suc, ◌+◌, ◌<◌, List, [], ◌∷◌, ◌++◌, take, refl, sym, ◌∙◌, ap, subst, arith}
 use Rattle.std.proofs.lemmas.List.{append-nil}
 use Rattle.vx_srlfmt.specs.Kinds.{Kind, Top}
 use Rattle.vx_srlfmt.specs.declared.header.Header.{Header}
-use Rattle.vx_srlfmt.specs.declared.record.RecordHead.{RecordHead}
 use Rattle.vx_ringlog.specs.Cells.{Always, Image, IsImage, Leaves, May, flush, run_all, still, write}
 use Rattle.vx_ringlog.specs.Records.{Era, Record, era_of}
 use Rattle.vx_ringlog.specs.Chain.{Bounded, Counts, HasBody, Recovers, Scan, Stops, Takes, block, width}
@@ -11,8 +10,8 @@ use Rattle.vx_ringlog.specs.Ready.{Fits, Ready, SureAll, SureBody, TameValue, af
 use Rattle.vx_ringlog.specs.Acts.{head_acts}
 use Rattle.vx_ringlog.specs.Heads.{Heads, StandsAt}
 use Rattle.vx_ringlog.specs.Logs.{Found, IsLog, MaySave, Save, State}
-use Rattle.vx_ringlog.specs.Starting.{Raises, Repeats, SameLog, started, StartIsSafe}
-use Rattle.vx_ringlog.proofs.CellLemmas.{flush_may, may_write}
+use Rattle.vx_ringlog.specs.Starting.{Raises, Repeats, SameLog, started, StartIsSafe, StartIsStill}
+use Rattle.vx_ringlog.proofs.CellLemmas.{always_append, always_more, flush_may, may_write}
 use Rattle.vx_ringlog.proofs.Staging.{ready_flush, ready_top}
 use Rattle.vx_ringlog.proofs.HeadLemmas.{counts, counts_either, heads_written, slots_low}
 use Rattle.vx_ringlog.proofs.Calls.{after_is, call_safe, ready_like, tame_top}
@@ -188,15 +187,15 @@ first_log : (size : ℕ) (h g again : Header) (rs : List Record) (j : Image) →
 first_log size h g again rs j (inl old) = inl old
 first_log size h g again rs j (inr new) = inr (inl new)
 
+pub start_still : StartIsStill
+start_still i here other g again rs = refl
+
 pub start_safe : StartIsSafe
 start_safe size i here other h g again rs may rec =
     let first = first_header size i here other h g rs may.stands rec may.raises in
     let second = call_safe size (raised i here other g rs) (Save again [] rs) first.1 (may_repeat size i here other g again rs may.repeats) in
-    let to = first_log size h g again rs in
-    let on = same_log size i here other h g again rs in (
-      (
-        (λ j img. to j (first.0.0 j img)),
-        ((λ j img. to j (first.0.1.0 j img)), ((λ j img. to j (first.0.1.1 j img)), ((λ j img. on j (second.0.1.0 j img)), (λ j img. on j (second.0.1.1 j img))))),
-      ),
+    let old = always_more (λ j. Recovers size j h rs ⊎ Recovers size j g rs) (SameLog size h g again rs) (first_log size h g again rs) (still i) (head_acts other g) first.0 in
+    let new = always_more (Found size (raised i here other g rs) (Save again [] rs)) (SameLog size h g again rs) (same_log size i here other h g again rs) (run_all (still i) (head_acts other g)) (head_acts here again) second.0 in (
+      always_append (Leaves (SameLog size h g again rs)) (still i) (head_acts other g) (head_acts here again) old new,
       subst (λ (x : ℕ). IsLog size (record (started i here other g again rs) { base = x })) (sym may.repeats.place) second.1,
     )
