@@ -1,12 +1,15 @@
 -- The blocks of a record, as given and on disk.
-use Rattle.std.proofs.Common.{◌≡◌, ℕ, suc, ◌-◌, List, [], ◌∷◌, ◌++◌, length, drop, slice_index, All, refl, ◌∙◌, ap, subst, arith}
+use Rattle.std.proofs.Common.{◌≡◌, ℕ, zero, suc, ◌-◌, ◌*◌, ◌%◌, List, [], ◌∷◌, ◌++◌, length, take, drop, slice_index, All, refl, sym, ◌∙◌, ap, subst, arith}
 use Rattle.std.specs.List.{concat}
-use Rattle.std.proofs.lemmas.List.{length-append, length-replicate}
+use Rattle.std.proofs.lemmas.List.{length-append, length-drop, length-replicate, length-take, take-append-drop}
+use Rattle.std.proofs.lemmas.Nat.{div-add-mod'}
 use Rattle.std.proofs.lemmas.List.Elements.{All-nil, All-cons, All-head, All-tail}
 use Rattle.std.proofs.Math.Seq.{drop-append_seam}
+use Rattle.vx_model.specs.Content.{Write, blocks_in}
+use Rattle.vx_wire.specs.Seals.{digest_of}
 use Rattle.vx_wire.specs.Fields.{zeros}
 use Rattle.vx_srlfmt.specs.Kinds.{body_byte, IsBody}
-use Rattle.vx_ringlog.specs.Records.{with_firsts, on_disk, first_bytes, firsts_of, IsWhole, GivenComesBack, BlocksStand}
+use Rattle.vx_ringlog.specs.Records.{Era, with_firsts, given, on_disk, first_bytes, firsts_of, IsWhole, GivenComesBack, StandOnDisk, BlocksStand, blocks_of, write_blocks, record_of, LogsWrite, WriteComesBack}
 
 -- a block is its first byte and the rest of it
 own_first : (block : List ℕ) → IsWhole block → slice_index block 0 ∷ drop 1 block ≡ block
@@ -51,3 +54,45 @@ blocks_stand blocks whole = record {
   firsts = λ few. omega (arith, length-append (first_bytes blocks) (zeros (16 - length blocks)), bytes_of blocks, length-replicate {A = ℕ} (16 - length blocks) 0);
   zeros = subst (λ (n : ℕ). drop n (firsts_of blocks) ≡ zeros (16 - length blocks)) (bytes_of blocks) (drop-append_seam (first_bytes blocks) (zeros (16 - length blocks)));
 }
+
+cut_count : (n : ℕ) (bytes : List ℕ) → length (blocks_of n bytes) ≡ n
+cut_count zero bytes = refl
+cut_count (suc n) bytes = ap suc (cut_count n (drop 512 bytes))
+
+cut_whole : (n : ℕ) (bytes : List ℕ) → length bytes ≡ 512 * n → All IsWhole (blocks_of n bytes)
+cut_whole zero bytes is = All-nil IsWhole
+cut_whole (suc n) bytes is = All-cons IsWhole (take 512 bytes) (blocks_of n (drop 512 bytes)) (omega (arith, is, length-take 512 bytes)) (cut_whole n (drop 512 bytes) (omega (arith, is, length-drop 512 bytes)))
+
+cut_back : (n : ℕ) (bytes : List ℕ) → length bytes ≡ 512 * n → concat (blocks_of n bytes) ≡ bytes
+cut_back zero [] is = refl
+cut_back zero (b ∷ bs) is = absurd (omega (arith, is))
+cut_back (suc n) bytes is = ap (λ (x : List ℕ). take 512 bytes ++ x) (cut_back n (drop 512 bytes) (omega (arith, is, length-drop 512 bytes))) ∙ take-append-drop 512 bytes
+
+module _ (e : Era) (number : ℕ) (x : Write) (whole : length x.bytes % 512 ≡ 0) where
+  all : length x.bytes ≡ 512 * blocks_in x.bytes
+  all = omega (arith, whole, div-add-mod' (length x.bytes) 512)
+
+  blocks_whole : All IsWhole (write_blocks x)
+  blocks_whole = cut_whole (blocks_in x.bytes) x.bytes all
+
+  count_is : length (write_blocks x) ≡ blocks_in x.bytes
+  count_is = cut_count (blocks_in x.bytes) x.bytes
+
+  given_is : given (record_of e number x) ≡ x.bytes
+  given_is = given_comes_back (record_of e number x) (write_blocks x) blocks_whole (record { firsts = refl; body = refl }) ∙ cut_back (blocks_in x.bytes) x.bytes all
+
+  stand : StandOnDisk (write_blocks x)
+  stand = blocks_stand (write_blocks x) blocks_whole
+
+  logs : LogsWrite (record_of e number x) x
+  logs = record {
+    write = ap (λ (b : List ℕ). record { volume = x.volume; start = x.start; bytes = b }) given_is;
+    genuine = record { count = sym (stand.count ∙ count_is); digest = ap digest_of (sym given_is) };
+    whole = stand.whole;
+    body = stand.body;
+    firsts = λ few. stand.firsts (omega (arith, few, count_is, all));
+    zeros = subst (λ (n : ℕ). drop n (firsts_of (write_blocks x)) ≡ zeros (16 - n)) count_is stand.zeros;
+  }
+
+pub write_comes_back : WriteComesBack
+write_comes_back e number x whole = logs e number x whole

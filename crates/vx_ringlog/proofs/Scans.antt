@@ -1,5 +1,5 @@
 -- Scans of images whose records stand.
-use Rattle.std.proofs.Common.{◌⊎◌, inl, inr, ⊎_elim, ℕ, suc, ◌+◌, List, [], ◌∷◌, ◌++◌, take}
+use Rattle.std.proofs.Common.{◌⊎◌, inl, inr, ⊎_elim, ℕ, suc, ◌+◌, List, [], ◌∷◌, ◌++◌, take, arith}
 use Rattle.vx_ringlog.specs.Cells.{Cells, Image, IsImage, Leaves}
 use Rattle.vx_ringlog.specs.Records.{Era, Record}
 use Rattle.vx_ringlog.specs.Chain.{Bounded, HasBody, Scan, Stops, Takes, block, width}
@@ -41,7 +41,7 @@ has_body size u i img p (b ∷ bs) sure = (sure.0 (i (block size p)) (img (block
 pub has_all : (size : ℕ) (u : Cells) (i : Image) → IsImage u i → (e : Era) (p n prev : ℕ) (rs : List Record) → SureAll size u p rs → Fits e n prev rs → HasAll size i e p n prev rs
 has_all size u i img e p n prev [] sure fits = tt
 has_all size u i img e p n prev (r ∷ rs) sure fits = (
-  (record { is = sure.0 (i (block size p)) (img (block size p)); number = fits.0; run = fits.1; line = fits.2.line; not_below = fits.3; not_above = fits.4 }, fits.2.genuine),
+  (record { is = sure.0 (i (block size p)) (img (block size p)); number = fits.0; run = fits.1; line = fits.2.line; not_below = omega (arith, fits.3); not_above = fits.4 }, fits.2.genuine),
   has_body size u i img (suc p) r.body sure.1,
   has_all size u i img e (p + width r) (suc n) r.incarnation rs sure.2 fits.5,
 )
@@ -50,7 +50,7 @@ pub is_partly : (size : ℕ) (u : Cells) (i : Image) → IsImage u i → (e : Er
 is_partly size u i img e p n prev [] prepared fits = prepared (i (block size p)) (img (block size p))
 is_partly size u i img e p n prev (s ∷ ss) prepared fits = ⊎_elim
     (λ is. inl (
-      (record { is = is; number = fits.0; run = fits.1; line = fits.2.line; not_below = fits.3; not_above = fits.4 }, fits.2.genuine),
+      (record { is = is; number = fits.0; run = fits.1; line = fits.2.line; not_below = omega (arith, fits.3); not_above = fits.4 }, fits.2.genuine),
       has_body size u i img (suc p) s.body prepared.1,
       is_partly size u i img e (p + width s) (suc n) s.incarnation ss prepared.2 fits.5,
     ))

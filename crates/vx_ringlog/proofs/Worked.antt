@@ -1,16 +1,16 @@
 -- The log of an image on small rings, worked by hand: two records whose seal was cut off at its last flush, with the header of
 -- the second one alone, and the same ring when the log was started and one record was sealed.
 use Rattle.std.proofs.Common.{◌≡◌, inl, ℕ, zero, suc, ◌<◌, List, [], ◌∷◌, replicate, refl, subst, arith}
-use Rattle.std.specs.List.{concat}
+use Rattle.vx_model.specs.Content.{Write}
 use Rattle.vx_model.specs.States.{first_state}
 use Rattle.vx_model.specs.Steps.{first_line}
-use Rattle.vx_wire.specs.Seals.{digest_of}
 use Rattle.vx_srlfmt.specs.Kinds.{Top, Front, Body, Other, body_byte}
 use Rattle.vx_srlfmt.specs.declared.header.Header.{Header}
 use Rattle.vx_srlfmt.specs.declared.record.RecordHead.{RecordHead}
 use Rattle.vx_ringlog.specs.Cells.{Image}
-use Rattle.vx_ringlog.specs.Records.{Era, era_of, Record, given, Genuine, write_of, on_disk, firsts_of}
+use Rattle.vx_ringlog.specs.Records.{Era, era_of, Record, given, Genuine, write_of, on_disk, firsts_of, record_of}
 use Rattle.vx_ringlog.specs.Chain.{block, Stops, Starts}
+use Rattle.vx_ringlog.proofs.Blocks.{write_comes_back}
 use Rattle.vx_ringlog.specs.Starting.{Raises, Repeats}
 
 -- places of a ring of eight blocks
@@ -36,31 +36,27 @@ filled_on_disk = refl
 filled_firsts : firsts_of (filled 0x11) ≡ 0x11 ∷ replicate 15 0
 filled_firsts = refl
 
--- a write of that block to block 5 of volume 0, as a record
-abbrev record_of : ℕ → ℕ → ℕ → Record
-record_of incarnation number byte = record {
-  head = record {
-    incarnation = incarnation;
-    run = 1;
-    line = first_line 0;
-    number = number;
-    vol = 0;
-    block = 5;
-    count = 1;
-    digest = digest_of (concat (filled byte));
-    firsts = firsts_of (filled byte);
-  };
-  body = stands byte ∷ [];
-}
+-- that block, written to block 5 of volume 0 of a first line
+abbrev put_of : ℕ → Write
+put_of byte = record { volume = 0; start = 5; bytes = replicate 512 byte }
 
-is_given : given (record_of 1 1 0x11) ≡ replicate 512 0x11
+abbrev logged : ℕ → ℕ → ℕ → Record
+logged incarnation number byte = record_of (record { incarnation = incarnation; run = 1; line = first_line 0 }) number (put_of byte)
+
+count_of : (logged 1 2 0x22).head.count ≡ 1
+count_of = refl
+
+body_of : (logged 1 2 0x22).body ≡ stands 0x22 ∷ []
+body_of = refl
+
+is_given : given (logged 1 2 0x22) ≡ replicate 512 0x22
 is_given = refl
 
-is_write : write_of (record_of 1 1 0x11) ≡ record { volume = 0; start = 5; bytes = replicate 512 0x11 }
+is_write : write_of (logged 1 2 0x22) ≡ put_of 0x22
 is_write = refl
 
-is_genuine : (incarnation : ℕ) → Genuine (record_of incarnation 1 0x11)
-is_genuine incarnation = record { count = refl; digest = refl }
+is_genuine : (incarnation number byte : ℕ) → Genuine (logged incarnation number byte)
+is_genuine incarnation number byte = (write_comes_back (record { incarnation = incarnation; run = 1; line = first_line 0 }) number (put_of byte) refl).genuine
 
 abbrev header_of : ℕ → ℕ → Header
 header_of stamp incarnation = record { stamp = stamp; state = first_state 0; incarnation = incarnation; floor = 0; run = 1; low = 1; place = 0; applied = 0 }
@@ -78,7 +74,7 @@ cut zero = Top (header_of 2 1)
 cut (suc zero) = Top (header_of 1 1)
 cut (suc (suc zero)) = Other
 cut (suc (suc (suc zero))) = Body (stands 0x11)
-cut (suc (suc (suc (suc zero)))) = Front (record_of 1 2 0x22).head
+cut (suc (suc (suc (suc zero)))) = Front (logged 1 2 0x22).head
 cut (suc (suc (suc (suc (suc zero))))) = Body (stands 0x22)
 cut (suc (suc (suc (suc (suc (suc b)))))) = Other
 
@@ -86,9 +82,9 @@ cut (suc (suc (suc (suc (suc (suc b)))))) = Other
 abbrev sealed_again : Image
 sealed_again zero = Top (header_of 4 2)
 sealed_again (suc zero) = Top (header_of 3 2)
-sealed_again (suc (suc zero)) = Front (record_of 2 1 0x11).head
+sealed_again (suc (suc zero)) = Front (logged 2 1 0x11).head
 sealed_again (suc (suc (suc zero))) = Body (stands 0x11)
-sealed_again (suc (suc (suc (suc zero)))) = Front (record_of 1 2 0x22).head
+sealed_again (suc (suc (suc (suc zero)))) = Front (logged 1 2 0x22).head
 sealed_again (suc (suc (suc (suc (suc zero))))) = Body (stands 0x22)
 sealed_again (suc (suc (suc (suc (suc (suc b)))))) = Other
 
@@ -103,20 +99,20 @@ none_found : Starts 8 cut (header_of 2 1) []
 none_found = record { counts = inl (refl, λ f is. less_top (header_of 1 1) f 2 is (omega arith)); scan = other_stops (era_of (header_of 2 1)) 1 0 }
 
 -- a header of record 2 of incarnation 1 is not taken behind a record of incarnation 2
-earlier_stops : Stops (era_of (header_of 4 2)) 2 2 (Front (record_of 1 2 0x22).head)
+earlier_stops : Stops (era_of (header_of 4 2)) 2 2 (Front (logged 1 2 0x22).head)
 earlier_stops = (
   (λ r t.
-      let same : (record_of 1 2 0x22).head ≡ r = cc (t.is) in
+      let same : (logged 1 2 0x22).head ≡ r = cc (t.is) in
       let low : r.incarnation ≡ 1 = subst (λ (x : RecordHead). x.incarnation ≡ 1) same refl in omega (arith, low, t.not_below)),
   (λ is. cc),
 )
 
 -- the new one is found, and the header of the old second one is not taken behind it
-one_found : Starts 8 sealed_again (header_of 4 2) (record_of 2 1 0x11 ∷ [])
+one_found : Starts 8 sealed_again (header_of 4 2) (logged 2 1 0x11 ∷ [])
 one_found = record {
   counts = inl (refl, λ f is. less_top (header_of 3 2) f 4 is (omega arith));
   scan = (
-    (record { is = refl; number = refl; run = refl; line = refl; not_below = omega arith; not_above = omega arith }, is_genuine 2),
+    (record { is = refl; number = refl; run = refl; line = refl; not_below = omega arith; not_above = omega arith }, is_genuine 2 1 0x11),
     (refl, tt),
     earlier_stops,
   );
