@@ -10,7 +10,7 @@ use Rattle.vx_ringlog.specs.Ready.{TameValue}
 use Rattle.vx_ringlog.specs.Acts.{start_acts}
 use Rattle.vx_ringlog.specs.Logs.{Allowed, Call, Found, Restart, Save, Seal, Stage, State, acts_of, done}
 use Rattle.vx_ringlog.specs.Starting.{Made, SameLog}
-use Rattle.vx_ringlog.specs.Runs.{Account, Begins, Books, BooksCall, BooksCrash, Calls, Crashes, Down, Fails, Goes, Happening, MadeIsSafe, Node, RunIsSafe, StandsFor, Up, cut, emptied}
+use Rattle.vx_ringlog.specs.Runs.{Account, Begins, Books, BooksCall, BooksCrash, Calls, Crashes, Down, Fails, Goes, Happening, MadeIsSafe, Condition, RunIsSafe, StandsFor, Up, cut, emptied}
 use Rattle.vx_ringlog.proofs.Calls.{call_safe}
 use Rattle.vx_ringlog.proofs.OneLog.{log_unique}
 use Rattle.vx_ringlog.proofs.Starting.{may_still, start_safe}
@@ -104,27 +104,27 @@ same_account size a h g again rs j owns none (inl r) = ((h, rs, r, owns), none)
 same_account size a h g again rs j owns none (inr (inl r)) = ((g, rs, r, owns), none)
 same_account size a h g again rs j owns none (inr (inr r)) = ((again, rs, r, owns), none)
 
-step : (size : ℕ) (x : Happening) (m n : Node) (a : Account) → StandsFor size m a → Goes size x m n → (b : Account) × Books x a b × StandsFor size n b
+step : (size : ℕ) (x : Happening) (m n : Condition) (a : Account) → StandsFor size m a → Goes size x m n → (b : Account) × Books x a b × StandsFor size n b
 step size (Calls c) (Up s) n a st goes =
-    let r = called size s c a st goes.0 in (r.0, r.1, subst (λ (y : Node). StandsFor size y r.0) (sym goes.1) r.2)
+    let r = called size s c a st goes.0 in (r.0, r.1, subst (λ (y : Condition). StandsFor size y r.0) (sym goes.1) r.2)
 step size (Crashes c i) (Up s) n a st goes =
-    let r = crashed size s c i a st goes.0 goes.1 in (r.0, r.1, subst (λ (y : Node). StandsFor size y r.0) (sym goes.2) r.2)
+    let r = crashed size s c i a st goes.0 goes.1 in (r.0, r.1, subst (λ (y : Condition). StandsFor size y r.0) (sym goes.2) r.2)
 step size (Begins here other h g again rs) (Down i) n a st goes =
     let kept = recovered size i a h rs st goes.1 in
     let safe = start_safe size i here other h g again rs goes.0 kept.0 in
-    (a, refl, subst (λ (y : Node). StandsFor size y a) (sym goes.2) (safe.1, kept.1, st.1))
+    (a, refl, subst (λ (y : Condition). StandsFor size y a) (sym goes.2) (safe.1, kept.1, st.1))
 step size (Fails here other h g again rs j) (Down i) n a st goes =
     let kept = recovered size i a h rs st goes.1 in
     let safe = start_safe size i here other h g again rs goes.0 kept.0 in
     let there = same_account size a h g again rs j kept.1 st.1 (left (SameLog size h g again rs) (still i) (start_acts here other g again) j safe.0 goes.2) in
-    (a, refl, subst (λ (y : Node). StandsFor size y a) (sym goes.3) there)
+    (a, refl, subst (λ (y : Condition). StandsFor size y a) (sym goes.3) there)
 step size (Calls c) (Down i) n a st goes = absurd goes
 step size (Crashes c j) (Down i) n a st goes = absurd goes
 step size (Begins here other h g again rs) (Up s) n a st goes = absurd goes
 step size (Fails here other h g again rs j) (Up s) n a st goes = absurd goes
 
 pub run_safe : RunIsSafe
-run_safe size [] m n a st goes = (a, refl, subst (λ (y : Node). StandsFor size y a) (sym goes) st)
+run_safe size [] m n a st goes = (a, refl, subst (λ (y : Condition). StandsFor size y a) (sym goes) st)
 run_safe size (x ∷ xs) m n a st goes =
     let one = step size x m goes.0 a st goes.1 in
     let rest = run_safe size xs goes.0 n one.0 one.2 goes.2 in

@@ -15,6 +15,7 @@ pub record Era : Type 0 where
   pub run : ℕ
   pub line : Line
 
+-- the era of a header
 abbrev pub era_of : Header → Era
 era_of h = record { incarnation = h.incarnation; run = h.run; line = h.state.line }
 
@@ -77,6 +78,7 @@ pub record StandOnDisk (blocks : List (List ℕ)) : Type 0 where
   pub firsts : length blocks ≤ 16 → length (firsts_of blocks) ≡ 16
   pub zeros : drop (length blocks) (firsts_of blocks) ≡ zeros (16 - length blocks)
 
+-- so it is of all whole blocks
 abbrev pub BlocksStand : Type 0
 BlocksStand = (blocks : List (List ℕ)) → All IsWhole blocks → StandOnDisk blocks
 
