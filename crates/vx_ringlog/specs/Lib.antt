@@ -1,0 +1,9 @@
+pub mod Cells
+pub mod Records
+pub mod Chain
+pub mod Ready
+pub mod Acts
+pub mod Heads
+pub mod Logs
+pub mod Starting
+pub mod Runs
