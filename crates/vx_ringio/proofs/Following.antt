@@ -111,7 +111,7 @@ module _ (unit ring : ℕ) (old new : Meaning) (goes : Goes Nothing old new) whe
       (λ i each. record { each = λ u tracks. now_left unit ring u old i tracks (λ w b. at_rest old w b (i w b) (each w b)) })
 
 -- a read gives what it gave
-still_read : (old new : Meaning) → Goes Nothing old new → (IsTrue new.down → ⊥) → (u b : ℕ) (v : List ℕ) → new.reads u b v → old.reads u b v
+pub still_read : (old new : Meaning) → Goes Nothing old new → (IsTrue new.down → ⊥) → (u b : ℕ) (v : List ℕ) → new.reads u b v → old.reads u b v
 still_read old new goes up u b v reads =
     ⊎_elim (λ or. ⊎_elim (λ was. was) (λ no. absurd no) or) (λ down. absurd (up down)) (goes.reads u b v reads)
 
@@ -161,7 +161,7 @@ not_top : (t : Bool) (h : Header) (x : List ℕ) → (if t then Top h else Other
 not_top true h x is = cc
 not_top false h x is = cc
 
-narrowed_body : (ring : ℕ) (k : Kind) (x : List ℕ) → narrowed ring k ≡ Body x → k ≡ Body x
+pub narrowed_body : (ring : ℕ) (k : Kind) (x : List ℕ) → narrowed ring k ≡ Body x → k ≡ Body x
 narrowed_body ring (Top h) x is = absurd (not_top (is_of_ring ring h) h x is)
 narrowed_body ring (Front r) x is = is
 narrowed_body ring (Body bytes) x is = is

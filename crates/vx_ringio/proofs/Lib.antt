@@ -1,2 +1,5 @@
 pub mod Bodies
+pub mod Classing
 pub mod Following
+pub mod Outcomes
+pub mod Writing
