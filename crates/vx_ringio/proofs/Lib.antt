@@ -2,4 +2,5 @@ pub mod Bodies
 pub mod Classing
 pub mod Following
 pub mod Outcomes
+pub mod Parts
 pub mod Writing
