@@ -3,4 +3,5 @@ pub mod Classing
 pub mod Following
 pub mod Outcomes
 pub mod Parts
+pub mod Seeing
 pub mod Writing

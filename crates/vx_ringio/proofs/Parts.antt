@@ -83,15 +83,15 @@ pub record InParts (ring place : ℕ) (one two : List ℕ) : Type 0 where
   pub whole : length one % 512 ≡ 0
   pub ends : (length two ≡ 0) ⊎ (place % ring + length one / 512 ≡ ring)
 
-pub in_parts : (ring place n : ℕ) (one two : List ℕ) → 0 < ring → n ≡ min (ring - place % ring) (length (one ++ two) / 512) → length one ≡ 512 * n → length (one ++ two) % 512 ≡ 0
+pub in_parts : (ring place n total : ℕ) (one two : List ℕ) → 0 < ring → n ≡ min (ring - place % ring) (total / 512) → length one ≡ 512 * n → length two + 512 * n ≡ total → total % 512 ≡ 0
     → InParts ring place one two
-in_parts ring place n one two some is size whole = record {
+in_parts ring place n total one two some is size rest whole = record {
   ring_is = some;
   whole = omega (arith, size);
   ends = ⊎_elim
-      (λ (all : length (one ++ two) / 512 < ring - place % ring). inl (omega (arith, all, is, size, whole, length-append one two)))
-      (λ (more : ring - place % ring ≤ length (one ++ two) / 512). inr (omega (arith, more, is, size, some)))
-      (cases_lt (length (one ++ two) / 512) (ring - place % ring));
+      (λ (all : total / 512 < ring - place % ring). inl (omega (arith, all, is, size, rest, whole)))
+      (λ (more : ring - place % ring ≤ total / 512). inr (omega (arith, more, is, size, some)))
+      (cases_lt (total / 512) (ring - place % ring));
 }
 
 none_blocks : (two : List ℕ) → length two ≡ 0 → all_blocks two ≡ []
@@ -174,3 +174,7 @@ shows_parts ring place one two c parts first second =
     go : (bs : List (List ℕ)) → (bs ≡ []) ⊎ ((place + length (all_blocks one)) % ring ≡ 0 % ring) → ShowsBlocks ring c 0 bs → ShowsBlocks ring c (place + length (all_blocks one)) bs
     go bs (inl none) shows = subst (λ (xs : List (List ℕ)). ShowsBlocks ring c (place + length (all_blocks one)) xs) (sym none) tt
     go bs (inr at) shows = shows_same ring c 0 (place + length (all_blocks one)) bs (sym at) shows
+
+pub shows_first : (ring place : ℕ) (one two : List ℕ) (c : Image) → InParts ring place one two → length two ≡ 0 → ShowsBlocks ring c (place % ring) (all_blocks one) → ShowsBlocks ring c place (all_blocks (one ++ two))
+shows_first ring place one two c parts none first =
+    shows_parts ring place one two c parts first (subst (λ (bs : List (List ℕ)). ShowsBlocks ring c 0 bs) (sym (none_blocks two none)) tt)

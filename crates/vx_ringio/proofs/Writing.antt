@@ -17,13 +17,13 @@ put_acts ring b zero bytes = []
 put_acts ring b (suc n) bytes = Write b (class_of ring (take 512 bytes)) ∷ put_acts ring (suc b) n (drop 512 bytes)
 
 -- block k of these bytes
-abbrev nth : List ℕ → ℕ → List ℕ
+abbrev pub nth : List ℕ → ℕ → List ℕ
 nth bytes k = take 512 (drop (512 * k) bytes)
 
 nth_zero : (bytes : List ℕ) → nth bytes 0 ≡ take 512 bytes
 nth_zero bytes = refl
 
-nth_more : (bytes : List ℕ) (k : ℕ) → nth (drop 512 bytes) k ≡ nth bytes (suc k)
+pub nth_more : (bytes : List ℕ) (k : ℕ) → nth (drop 512 bytes) k ≡ nth bytes (suc k)
 nth_more bytes k =
     let at : 512 + 512 * k ≡ 512 * suc k = omega arith in
     ap (λ (rest : List ℕ). take 512 rest) (drop-drop (512 * k) 512 bytes ∙ ap (λ (n : ℕ). drop n bytes) at)
