@@ -111,11 +111,11 @@ firsts_all (suc k) firsts (b ∷ bs) all = ap (λ (rest : List ℕ). (slice_inde
 -- the first k blocks are masked
 pub record Masked (k : ℕ) (given bytes firsts : List ℕ) : Type 0 where
   pub blocks : blocks_of (length given / 512) bytes ≡ put_byte 0x42 k (all_blocks given)
-  pub firsts : firsts ≡ some_firsts k (all_blocks given) ++ zeros (16 - k)
+  pub taken : firsts ≡ some_firsts k (all_blocks given) ++ zeros (16 - k)
   pub size : length bytes ≡ length given
 
 pub mask_none : (given : List ℕ) → Masked 0 given given (zeros 16)
-mask_none given = record { blocks = refl; firsts = refl; size = refl }
+mask_none given = record { blocks = refl; taken = refl; size = refl }
 
 pub mask_more : (k : ℕ) (given bytes firsts : List ℕ) → k < length given / 512 → length given % 512 ≡ 0 → length given ≤ 8192 → Masked k given bytes firsts
     → Masked (k + 1) given (set bytes (512 * k) 0x42) (set firsts k (slice_index bytes (512 * k)))
@@ -129,8 +129,8 @@ mask_more k given bytes firsts low whole few masked =
     record {
       blocks = block_set n k 0x42 bytes low (omega (arith, whole, masked.size)) ∙ ap (λ (bs : List (List ℕ)). set bs k (0x42 ∷ drop 1 (get_or bs k []))) masked.blocks
           ∙ byte_more 0x42 k (all_blocks given) (omega (arith, low, count)) ∙ ap (λ (m : ℕ). put_byte 0x42 m (all_blocks given)) next;
-      firsts = ap (λ (v : ℕ). set firsts k v) byte
-          ∙ ap (λ (fs : List ℕ). set fs k (slice_index (get_or (all_blocks given) k []) 0)) (masked.firsts ∙ ap (λ (m : ℕ). some_firsts k (all_blocks given) ++ zeros m) more)
+      taken = ap (λ (v : ℕ). set firsts k v) byte
+          ∙ ap (λ (fs : List ℕ). set fs k (slice_index (get_or (all_blocks given) k []) 0)) (masked.taken ∙ ap (λ (m : ℕ). some_firsts k (all_blocks given) ++ zeros m) more)
           ∙ some_more k (16 - suc k) (all_blocks given) (omega (arith, low, count))
           ∙ ap (λ (m : ℕ). some_firsts m (all_blocks given) ++ zeros (16 - m)) next;
       size = length-set bytes (512 * k) 0x42 ∙ masked.size;
@@ -147,7 +147,7 @@ module _ (k : ℕ) (given bytes firsts : List ℕ) (all : length given / 512 ≤
   pub masked_firsts : firsts ≡ firsts_of (all_blocks given)
   masked_firsts =
       let same : k ≡ length (all_blocks given) = omega (arith, all, few, count) in
-      masked.firsts ∙ ap (λ (fs : List ℕ). fs ++ zeros (16 - k)) (some_all k (all_blocks given) (omega (arith, all, count)))
+      masked.taken ∙ ap (λ (fs : List ℕ). fs ++ zeros (16 - k)) (some_all k (all_blocks given) (omega (arith, all, count)))
       ∙ ap (λ (m : ℕ). first_bytes (all_blocks given) ++ zeros (16 - m)) same
 
 -- the first k blocks have their bytes again
