@@ -1,5 +1,5 @@
 -- Zeros written over a log's unit, some blocks at a time.
-use Rattle.std.proofs.Common.{◌≡◌, ℕ, ◌+◌, ◌-◌, ◌*◌, ◌<◌, ◌≤◌, Bool, List, length, take, drop, get_or, replicate, min, IsTrue, refl, sym, ap, ◌∙◌, ⊎_elim, subst, arith}
+use Rattle.std.proofs.Common.{◌≡◌, ℕ, ◌+◌, ◌-◌, ◌*◌, ◌<◌, ◌≤◌, Bool, List, length, take, replicate, min, IsTrue, refl, sym, ap, ◌∙◌, ⊎_elim, subst, arith}
 use Rattle.std.specs.Prelude.{slice_index}
 use Rattle.std.proofs.lemmas.Bool.{cases_lt}
 use Rattle.std.proofs.lemmas.List.{length-replicate, drop-replicate, take-replicate, get_or-take}
@@ -9,7 +9,7 @@ use Rattle.vx_srlfmt.specs.Kinds.{IsBody, Other}
 use Rattle.vx_srlfmt.specs.Records.{record_magic}
 use Rattle.vx_srlfmt.proofs.HeaderAgain.{begins_header}
 use Rattle.vx_srlfmt.proofs.RecordAgain.{begins_record}
-use Rattle.vx_disk.specs.Shelf.{Meaning, Wrote, Flushed, Goes, Nothing, Covers, piece}
+use Rattle.vx_disk.specs.Shelf.{Meaning, Wrote, Flushed, Goes, Nothing, piece}
 use Rattle.vx_disk.specs.Moves.{Moves, Run, Anything}
 use Rattle.vx_disk.proofs.Moving.{goes_on}
 use Rattle.vx_model.specs.Content.{zero_block}

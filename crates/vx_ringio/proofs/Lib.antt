@@ -3,7 +3,6 @@ pub mod Bodies
 pub mod Classing
 pub mod Following
 pub mod Masks
-pub mod Outcomes
 pub mod Parts
 pub mod Seeing
 pub mod Writing
