@@ -1,0 +1,4 @@
+pub mod Bodies
+pub mod Classes
+pub mod Reading
+pub mod Tracks

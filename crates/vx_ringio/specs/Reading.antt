@@ -1,0 +1,67 @@
+-- What reads of a log's blocks show.
+use Rattle.std.specs.Prelude.{◌≡◌, ℕ, suc, ◌+◌, ◌<◌, ◌≤◌, IsTrue, List, [], ◌∷◌, drop, take}
+use Rattle.vx_wire.specs.Seals.{digest_of}
+use Rattle.vx_srlfmt.specs.Headers.{IsDamagedHeader}
+use Rattle.vx_srlfmt.specs.Kinds.{Kind, Top, Front, Damaged, Other}
+use Rattle.vx_srlfmt.specs.declared.header.Header.{Header}
+use Rattle.vx_srlfmt.specs.declared.record.RecordHead.{RecordHead}
+use Rattle.vx_srlfmt.specs.declared.record.Seen.{Seen}
+use Rattle.vx_srlfmt.specs.declared.record.Seen.TheVariants as seen
+use Rattle.vx_disk.specs.Shelf.{Meaning, Holds}
+use Rattle.vx_model.specs.Content.{zero_block}
+use Rattle.vx_ringlog.specs.Cells.{Image}
+use Rattle.vx_ringlog.specs.Chain.{block}
+use Rattle.vx_ringio.specs.Classes.{class_of}
+use Rattle.vx_ringio.specs.declared.top.TopSeen.{TopSeen}
+use Rattle.vx_ringio.specs.declared.top.TopSeen.TheVariants as top
+
+-- the shelf tells its contents, and reads give blocks of these classes
+pub record ReadsAs (unit ring : ℕ) (c : Image) (m : Meaning) : Type 0 where
+  pub tells : IsTrue m.tells
+  pub each : (b : ℕ) (v : List ℕ) → b < ring + 2 → m.reads unit b v → class_of ring v ≡ c b
+
+-- the same of whatever a crash leaves
+pub record LeavesAs (unit ring : ℕ) (c : Image) (m : Meaning) : Type 0 where
+  pub tells : IsTrue m.tells
+  pub each : (b : ℕ) (v : List ℕ) → b < ring + 2 → m.leaves unit b v → class_of ring v ≡ c b
+  pub beyond : (b : ℕ) → ring + 2 ≤ b → c b ≡ Other
+
+-- reads give zeros in the blocks below `upto`
+pub record ReadsZero (unit upto : ℕ) (m : Meaning) : Type 0 where
+  pub each : (b : ℕ) → b < upto → Holds m unit b zero_block
+
+-- what a block is as a header of the log: a broken one begins as a header and its digest fails
+abbrev pub IsTop : ℕ → List ℕ → TopSeen → Type 0
+IsTop ring bytes (top.Valid h) = class_of ring bytes ≡ Top h
+IsTop ring bytes (top.Broken stored computed) =
+    ((h : Header) → class_of ring bytes ≡ Top h → ⊥) × IsDamagedHeader bytes × (stored ≡ drop 480 bytes) × (computed ≡ digest_of (take 480 bytes))
+IsTop ring bytes top.Other = ((h : Header) → class_of ring bytes ≡ Top h → ⊥) × (IsDamagedHeader bytes → ⊥)
+
+-- a read gave a block that is this as a header
+pub record SeesTop (unit ring block : ℕ) (m : Meaning) (seen : TopSeen) : Type 0 where
+  pub bytes : List ℕ
+  pub read : m.reads unit block bytes
+  pub is : IsTop ring bytes seen
+
+-- the digests of a broken header differ
+abbrev pub DigestsDiffer : TopSeen → Type 0
+DigestsDiffer (top.Valid h) = Unit {0}
+DigestsDiffer (top.Broken stored computed) = stored ≡ computed → ⊥
+DigestsDiffer top.Other = Unit {0}
+
+-- what a block is as the header of a record
+abbrev pub ShowsFront : Seen → Kind → Type 0
+ShowsFront (seen.Record r) v = v ≡ Front r
+ShowsFront (seen.Damaged stored computed) v = v ≡ Damaged
+ShowsFront seen.Other v = ((r : RecordHead) → v ≡ Front r → ⊥) × (v ≡ Damaged → ⊥)
+
+-- the digests of a damaged one differ
+abbrev pub FrontDigestsDiffer : Seen → Type 0
+FrontDigestsDiffer (seen.Record r) = Unit {0}
+FrontDigestsDiffer (seen.Damaged stored computed) = stored ≡ computed → ⊥
+FrontDigestsDiffer seen.Other = Unit {0}
+
+-- blocks that were read from place p on
+abbrev pub ShowsBlocks : ℕ → Image → ℕ → List (List ℕ) → Type 0
+ShowsBlocks ring c p [] = Unit {0}
+ShowsBlocks ring c p (b ∷ bs) = (class_of ring b ≡ c (block ring p)) × ShowsBlocks ring c (suc p) bs

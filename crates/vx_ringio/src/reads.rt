@@ -1,0 +1,124 @@
+// The reads of a log.
+ghost use Rattle.std.specs.Prelude.{◌≡◌, ◌+◌, ◌*◌, ◌/◌, ◌%◌, ◌<◌, ◌≤◌, ℕ, length, IsTrue, OnOk, IfOk};
+ghost use Rattle.vx_disk.specs.Causes.{Cause};
+ghost use Rattle.vx_disk.specs.Shelf.{Goes, Nothing};
+ghost use Rattle.vx_ringio.specs.Bodies.{IsBlocks, all_blocks};
+ghost use Rattle.vx_ringio.specs.Reading.{ReadsAs, IsTop, SeesTop, DigestsDiffer, ShowsFront, FrontDigestsDiffer, ShowsBlocks};
+ghost use Rattle.vx_ringio.specs.Tracks.{Lies};
+ghost use Rattle.vx_ringlog.specs.Cells.{Image};
+ghost use Rattle.vx_ringlog.specs.Chain.{block as block_of_place};
+
+use crate::TopSeen;
+use vx_disk::{Shelf, ShelfError};
+use vx_srlfmt::{HEADER_MAGIC, Seen, get_header, get_record};
+use vx_wire::{broken_seal, get_u64};
+
+// What a block is as a header of a ring of so many blocks.
+fn top_of(ring: u64, block: &[u8; 512]) -> TopSeen
+    ensures is { IsTop ring block.now result }
+    ensures differ { DigestsDiffer result }
+{
+    if let Some(header) = get_header(block) {
+        if (header.place as u64) < ring && header.low > 0 {
+            return TopSeen::Valid(header);
+        }
+        return TopSeen::Other;
+    }
+    if get_u64(block, 0) != HEADER_MAGIC {
+        return TopSeen::Other;
+    }
+    match broken_seal(block) {
+        Some(broken) => {
+            let (stored, computed) = (broken.stored, broken.computed);
+            TopSeen::Broken { stored, computed }
+        }
+        None => TopSeen::Other,
+    }
+}
+
+/// Reads header block 0 or 1 of the log.
+pub fn read_top<S: Shelf>(
+    shelf: &mut S,
+    unit: u32,
+    ring: u64,
+    block: u64,
+) -> Result<TopSeen, ShelfError>
+    requires lies { Lies unit ring (S.meaning shelf.old) }
+    requires header { block < 2 }
+    ensures sees { IfOk result (λ seen. IsTrue (S.meaning shelf.old).tells → SeesTop unit ring block (S.meaning shelf.old) seen) }
+    ensures differ { IfOk result DigestsDiffer }
+    ensures goes { Goes Nothing (S.meaning shelf.old) (S.meaning shelf.new) }
+    ensures cause { Cause (S.meaning shelf.old) (S.meaning shelf.new) unit result }
+{
+    let mut bytes = [0; 512];
+    shelf.read(unit, block, &mut bytes)?;
+    Ok(top_of(ring, &bytes))
+}
+
+/// Reads the block of a place as the header of a record.
+pub fn read_front<S: Shelf>(
+    shelf: &mut S,
+    unit: u32,
+    ring: u64,
+    place: u64,
+) -> Result<Seen, ShelfError>
+    requires lies { Lies unit ring (S.meaning shelf.old) }
+    requires some { 0 < ring }
+    requires few { ring ≤ 65534 }
+    ensures shows { IfOk result (λ seen. (c : Image) → ReadsAs unit ring c (S.meaning shelf.old) → ShowsFront seen (c (block_of_place ring place))) }
+    ensures differ { IfOk result FrontDigestsDiffer }
+    ensures goes { Goes Nothing (S.meaning shelf.old) (S.meaning shelf.new) }
+    ensures cause { Cause (S.meaning shelf.old) (S.meaning shelf.new) unit result }
+{
+    let mut bytes = [0; 512];
+    shelf.read(unit, 2 + place % ring, &mut bytes)?;
+    Ok(get_record(&bytes))
+}
+
+// Reads body blocks from a place within the ring on, of which none passes the ring's end.
+fn read_part<S: Shelf>(
+    shelf: &mut S,
+    unit: u32,
+    ring: u64,
+    first: u64,
+    into: &mut [u8],
+) -> Result<(), ShelfError>
+    requires lies { Lies unit ring (S.meaning shelf.old) }
+    requires few { ring ≤ 65534 }
+    requires blocks { IsBlocks into.old }
+    requires room { first + length into.old / 512 ≤ ring }
+    ensures shows { OnOk result ((c : Image) → ReadsAs unit ring c (S.meaning shelf.old) → ShowsBlocks ring c first (all_blocks into.new)) }
+    ensures size { length into.new ≡ length into.old }
+    ensures goes { Goes Nothing (S.meaning shelf.old) (S.meaning shelf.new) }
+    ensures cause { Cause (S.meaning shelf.old) (S.meaning shelf.new) unit result }
+{
+    shelf.read(unit, 2 + first, into)
+}
+
+/// Reads 1 to 16 body blocks, as they stand on disk, from a place on. They take two calls where they pass the ring's end.
+pub fn read_body<S: Shelf>(
+    shelf: &mut S,
+    unit: u32,
+    ring: u64,
+    place: u64,
+    into: &mut [u8],
+) -> Result<(), ShelfError>
+    requires lies { Lies unit ring (S.meaning shelf.old) }
+    requires few { ring ≤ 65534 }
+    requires blocks { IsBlocks into.old }
+    requires room { length into.old / 512 ≤ ring }
+    ensures shows { OnOk result ((c : Image) → ReadsAs unit ring c (S.meaning shelf.old) → ShowsBlocks ring c place (all_blocks into.new)) }
+    ensures size { length into.new ≡ length into.old }
+    ensures goes { Goes Nothing (S.meaning shelf.old) (S.meaning shelf.new) }
+    ensures cause { Cause (S.meaning shelf.old) (S.meaning shelf.new) unit result }
+{
+    let first = place % ring;
+    let before_end = (ring - first).min(into.len() as u64 / 512);
+    let (one, two) = into.split_at_mut(512 * before_end as usize);
+    read_part(shelf, unit, ring, first, one)?;
+    if two.is_empty() {
+        Ok(())
+    } else {
+        read_part(shelf, unit, ring, 0, two)
+    }
+}
