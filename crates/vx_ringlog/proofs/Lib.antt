@@ -1,0 +1,16 @@
+pub mod Blocks
+pub mod Places
+pub mod CellLemmas
+pub mod Scans
+pub mod Keeps
+pub mod Preparing
+pub mod Sealing
+pub mod Staging
+pub mod HeadLemmas
+pub mod Calls
+pub mod OneLog
+pub mod Starting
+pub mod Runs
+pub mod Passed
+pub mod Rest
+pub mod Worked

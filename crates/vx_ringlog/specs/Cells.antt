@@ -38,17 +38,20 @@ pub data Act : Type 0 where
   Write : ℕ → Kind → Act
   Flush : Act
 
+-- the unit after the write of one block
 abbrev pub write : Cells → ℕ → Kind → Cells
 write u b v = record { stable = u.stable; loose = (b, v) ∷ u.loose }
 
+-- after a flush: what is read is durable
 abbrev pub flush : Cells → Cells
 flush u = record { stable = read u; loose = [] }
 
+-- after a device call
 abbrev pub act : Cells → Act → Cells
 act u (Write b v) = write u b v
 act u Flush = flush u
 
--- the unit after these calls
+-- after these calls, one after another
 abbrev pub run_all : Cells → List Act → Cells
 run_all u [] = u
 run_all u (a ∷ rest) = run_all (act u a) rest

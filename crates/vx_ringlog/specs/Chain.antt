@@ -14,6 +14,7 @@ block size p = 2 + p % size
 abbrev pub width : Record → ℕ
 width r = suc (length r.body)
 
+-- how many blocks these records take
 abbrev pub total : List Record → ℕ
 total [] = 0
 total (r ∷ rs) = width r + total rs

@@ -8,6 +8,7 @@ use Rattle.vx_ringlog.specs.Ready.{after, next, last, Ready}
 use Rattle.vx_ringlog.specs.Acts.{stage_acts, seal_acts, head_acts}
 use Rattle.vx_ringlog.specs.Heads.{Heads}
 
+-- the record is one of these
 abbrev pub In : Record → List Record → Type 0
 In r [] = ⊥
 In r (x ∷ xs) = (r ≡ x) ⊎ In r xs
@@ -77,6 +78,7 @@ pub record MayRestart (s : State) (g : Header) : Type 0 where
   pub run : g.run ≡ suc s.header.run
   pub floor : g.floor ≡ s.header.incarnation
 
+-- what a call asks for
 abbrev pub Allowed : ℕ → State → Call → Type 0
 Allowed size s (Stage r) = MayStage size s r
 Allowed size s Seal = Unit {0}

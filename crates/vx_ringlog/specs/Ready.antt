@@ -40,6 +40,7 @@ abbrev pub SureAll : ℕ → Cells → ℕ → List Record → Type 0
 SureAll size u p [] = Unit {0}
 SureAll size u p (r ∷ rs) = Sure u (block size p) (Front r.head) × SureBody size u (suc p) r.body × SureAll size u (p + width r) rs
 
+-- the record is of the era's line, and its body is the one of its header
 pub record OfLine (e : Era) (r : Record) : Type 0 where
   pub line : r.line ≡ e.line
   pub genuine : Genuine r

@@ -1,7 +1,7 @@
 -- The records of a log: a logged write with what stands before its blocks on disk.
-use Rattle.std.specs.Prelude.{◌≡◌, ℕ, ◌-◌, ◌≤◌, List, [], ◌∷◌, ◌++◌, length, drop, slice_index, All}
+use Rattle.std.specs.Prelude.{◌≡◌, ℕ, zero, suc, ◌-◌, ◌%◌, ◌≤◌, List, [], ◌∷◌, ◌++◌, length, take, drop, slice_index, All}
 use Rattle.std.specs.List.{concat}
-use Rattle.vx_model.specs.Content.{Write}
+use Rattle.vx_model.specs.Content.{Write, blocks_in}
 use Rattle.vx_model.specs.declared.history.Line.{Line}
 use Rattle.vx_wire.specs.Fields.{zeros}
 use Rattle.vx_wire.specs.Seals.{digest_of}
@@ -15,6 +15,7 @@ pub record Era : Type 0 where
   pub run : ℕ
   pub line : Line
 
+-- the era of a header
 abbrev pub era_of : Header → Era
 era_of h = record { incarnation = h.incarnation; run = h.run; line = h.state.line }
 
@@ -77,5 +78,45 @@ pub record StandOnDisk (blocks : List (List ℕ)) : Type 0 where
   pub firsts : length blocks ≤ 16 → length (firsts_of blocks) ≡ 16
   pub zeros : drop (length blocks) (firsts_of blocks) ≡ zeros (16 - length blocks)
 
+-- so it is of all whole blocks
 abbrev pub BlocksStand : Type 0
 BlocksStand = (blocks : List (List ℕ)) → All IsWhole blocks → StandOnDisk blocks
+
+-- the first n blocks of these bytes
+abbrev pub blocks_of : ℕ → List ℕ → List (List ℕ)
+blocks_of zero bytes = []
+blocks_of (suc n) bytes = take 512 bytes ∷ blocks_of n (drop 512 bytes)
+
+-- all blocks of a write
+abbrev pub write_blocks : Write → List (List ℕ)
+write_blocks x = blocks_of (blocks_in x.bytes) x.bytes
+
+-- the record that logs a write under a number
+abbrev pub record_of : Era → ℕ → Write → Record
+record_of e number x = record {
+  head = record {
+    incarnation = e.incarnation;
+    run = e.run;
+    line = e.line;
+    number = number;
+    vol = x.volume;
+    block = x.start;
+    count = blocks_in x.bytes;
+    digest = digest_of x.bytes;
+    firsts = firsts_of (write_blocks x);
+  };
+  body = on_disk (write_blocks x);
+}
+
+-- the record logs the write, and its header fits its body, which is whole body blocks
+pub record LogsWrite (r : Record) (x : Write) : Type 0 where
+  pub write : write_of r ≡ x
+  pub genuine : Genuine r
+  pub whole : All IsWhole r.body
+  pub body : All IsBody r.body
+  pub firsts : length x.bytes ≤ 8192 → length r.head.firsts ≡ 16
+  pub zeros : drop r.head.count r.head.firsts ≡ zeros (16 - r.head.count)
+
+-- a write of whole blocks comes back from its record
+abbrev pub WriteComesBack : Type 0
+WriteComesBack = (e : Era) (number : ℕ) (x : Write) → length x.bytes % 512 ≡ 0 → LogsWrite (record_of e number x) x

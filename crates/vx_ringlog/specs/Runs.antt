@@ -9,10 +9,10 @@ use Rattle.vx_ringlog.specs.Acts.{start_acts}
 use Rattle.vx_ringlog.specs.Logs.{In, State, IsLog, Call, Stage, Seal, Save, Restart, acts_of, done, Allowed}
 use Rattle.vx_ringlog.specs.Starting.{MayStart, started, Made, made}
 
--- a site's log: it runs, or a crash left this image
-pub data Node : Type 0 where
-  Up : State → Node
-  Down : Image → Node
+-- a log runs, or a crash left this image of it
+pub data Condition : Type 0 where
+  Up : State → Condition
+  Down : Image → Condition
 
 -- a call; a crash in it; a start, from what its scan finds; a crash in it
 pub data Happening : Type 0 where
@@ -21,8 +21,8 @@ pub data Happening : Type 0 where
   Begins : ℕ → ℕ → Header → Header → Header → List Record → Happening
   Fails : ℕ → ℕ → Header → Header → Header → List Record → Image → Happening
 
--- it leads from one node to the other
-abbrev pub Goes : ℕ → Happening → Node → Node → Type 0
+-- it leads from one condition to the other
+abbrev pub Goes : ℕ → Happening → Condition → Condition → Type 0
 Goes size (Calls c) (Up s) n = Allowed size s c × (n ≡ Up (done size s c))
 Goes size (Crashes c i) (Up s) n = Allowed size s c × LeftBy s.unit (acts_of size s c) i × (n ≡ Down i)
 Goes size (Begins here other h g again rs) (Down i) n = MayStart i here other h g again × Starts size i h rs × (n ≡ Up (started i here other g again rs))
@@ -32,15 +32,17 @@ Goes size (Crashes c j) (Down i) n = ⊥
 Goes size (Begins here other h g again rs) (Up s) n = ⊥
 Goes size (Fails here other h g again rs j) (Up s) n = ⊥
 
-abbrev pub GoesAll : ℕ → List Happening → Node → Node → Type 0
+-- one after another
+abbrev pub GoesAll : ℕ → List Happening → Condition → Condition → Type 0
 GoesAll size [] m n = n ≡ m
-GoesAll size (x ∷ xs) m n = (o : Node) × Goes size x m o × GoesAll size xs o n
+GoesAll size (x ∷ xs) m n = (o : Condition) × Goes size x m o × GoesAll size xs o n
 
 -- what was sealed, or found by a start, since the log was last emptied, and what is staged
 pub record Account : Type 0 where
   pub kept : List Record
   pub pending : List Record
 
+-- that of a log that was emptied
 abbrev pub emptied : Account
 emptied = record { kept = []; pending = [] }
 
@@ -48,6 +50,7 @@ emptied = record { kept = []; pending = [] }
 abbrev pub cut : ℕ → Account → Account
 cut k a = record { kept = a.kept ++ take k a.pending; pending = [] }
 
+-- what a call makes of it
 abbrev pub BooksCall : Call → Account → Account → Type 0
 BooksCall (Stage r) a b = b ≡ record { kept = a.kept; pending = a.pending ++ r ∷ [] }
 BooksCall Seal a b = b ≡ record { kept = a.kept ++ a.pending; pending = [] }
@@ -61,25 +64,26 @@ BooksCrash Seal a b = (k : ℕ) × (b ≡ cut k a)
 BooksCrash (Save g gone kept) a b = (k : ℕ) × (b ≡ cut k a)
 BooksCrash (Restart g) a b = ((k : ℕ) × (b ≡ cut k a)) ⊎ (b ≡ emptied)
 
--- a start changes no account, and one that a crash cut off changes none
+-- a start changes no account, and neither does one that a crash cut off
 abbrev pub Books : Happening → Account → Account → Type 0
 Books (Calls c) a b = BooksCall c a b
 Books (Crashes c i) a b = BooksCrash c a b
 Books (Begins here other h g again rs) a b = b ≡ a
 Books (Fails here other h g again rs j) a b = b ≡ a
 
+-- what all of these make of it
 abbrev pub BooksAll : List Happening → Account → Account → Type 0
 BooksAll [] a b = b ≡ a
 BooksAll (x ∷ xs) a b = (c : Account) × Books x a c × BooksAll xs c b
 
 -- the log has a last part of what was kept, the rest having been reclaimed, and what is staged
-abbrev pub StandsFor : ℕ → Node → Account → Type 0
+abbrev pub StandsFor : ℕ → Condition → Account → Type 0
 StandsFor size (Up s) a = IsLog size s × ((gone : List Record) × (a.kept ≡ gone ++ s.held)) × (a.pending ≡ s.staged)
 StandsFor size (Down i) a = ((h : Header) × (rs : List Record) × Recovers size i h rs × ((gone : List Record) × (a.kept ≡ gone ++ rs))) × (a.pending ≡ [])
 
 -- whatever happens to a log, it stands for its account
 abbrev pub RunIsSafe : Type 0
-RunIsSafe = (size : ℕ) (xs : List Happening) (m n : Node) (a : Account) → StandsFor size m a → GoesAll size xs m n → (b : Account) × BooksAll xs a b × StandsFor size n b
+RunIsSafe = (size : ℕ) (xs : List Happening) (m n : Condition) (a : Account) → StandsFor size m a → GoesAll size xs m n → (b : Account) × BooksAll xs a b × StandsFor size n b
 
 -- a new log is one in which nothing is held, and its first record has the number behind `head`
 abbrev pub MadeIsSafe : Type 0

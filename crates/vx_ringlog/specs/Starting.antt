@@ -46,6 +46,10 @@ abbrev pub StartIsSafe : Type 0
 StartIsSafe = (size : ℕ) (i : Image) (here other : ℕ) (h g again : Header) (rs : List Record) → MayStart i here other h g again → Recovers size i h rs
     → Always (Leaves (SameLog size h g again rs)) (still i) (start_acts here other g again) × IsLog size (started i here other g again rs)
 
+-- a start leaves nothing loose
+abbrev pub StartIsStill : Type 0
+StartIsStill = (i : Image) (here other : ℕ) (g again : Header) (rs : List Record) → (started i here other g again rs).unit.loose ≡ []
+
 -- a new log, of which `head` is the number before its first record
 pub record Made (head : ℕ) (i : Image) (h g : Header) : Type 0 where
   pub first : i 0 ≡ Top h

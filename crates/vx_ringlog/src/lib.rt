@@ -5,17 +5,19 @@
 //! crate: its functions carry the laws as their contracts.
 #![tactic(auto)]
 
-ghost use Rattle.vx_ringlog.specs.Records.{GivenComesBack, BlocksStand};
+ghost use Rattle.vx_ringlog.specs.Records.{GivenComesBack, BlocksStand, WriteComesBack};
 ghost use Rattle.vx_ringlog.specs.Chain.{LogIsUnique};
 ghost use Rattle.vx_ringlog.specs.Logs.{CallIsSafe};
-ghost use Rattle.vx_ringlog.specs.Starting.{StartIsSafe};
+ghost use Rattle.vx_ringlog.specs.Starting.{StartIsSafe, StartIsStill};
 ghost use Rattle.vx_ringlog.specs.Runs.{RunIsSafe, MadeIsSafe, NonePassedOver, RestIsStill, NothingLoose};
 
 /// A record that keeps given blocks of 512 bytes has their bytes, one block after another. On disk they are as many
-/// whole blocks, each of which begins with the byte of a body block.
+/// whole blocks, each of which begins with the byte of a body block. So a write of whole blocks comes back from the
+/// record that logs it.
 pub fn blocks_come_back()
     ensures given { GivenComesBack }
     ensures on_disk { BlocksStand }
+    ensures write { WriteComesBack }
 {}
 
 /// An image has one log: the header of the greater stamp, and the records of the scan from it.
@@ -34,10 +36,12 @@ pub fn calls_are_safe()
 {}
 
 /// A new log has no record, and its first one has the number behind that with which it was made. A start writes both
-/// headers; at each moment of it a crash leaves the records that it found, and behind it they are held.
+/// headers; at each moment of it a crash leaves the records that it found, and behind it they are held and
+/// nothing is loose.
 pub fn starts_are_safe()
     ensures made { MadeIsSafe }
     ensures starts { StartIsSafe }
+    ensures still { StartIsStill }
 {}
 
 /// Over calls, crashes at any moment and starts, in any order, the log has what was sealed since it was last emptied,
