@@ -1,0 +1,7 @@
+pub mod Bodies
+pub mod Classing
+pub mod Following
+pub mod Outcomes
+pub mod Parts
+pub mod Seeing
+pub mod Writing

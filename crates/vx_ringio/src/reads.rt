@@ -75,6 +75,26 @@ pub fn read_front<S: Shelf>(
     Ok(get_record(&bytes))
 }
 
+// Reads body blocks from a place within the ring on, of which none passes the ring's end.
+fn read_part<S: Shelf>(
+    shelf: &mut S,
+    unit: u32,
+    ring: u64,
+    first: u64,
+    into: &mut [u8],
+) -> Result<(), ShelfError>
+    requires lies { Lies unit ring (S.meaning shelf.old) }
+    requires few { ring ≤ 65534 }
+    requires blocks { IsBlocks into.old }
+    requires room { first + length into.old / 512 ≤ ring }
+    ensures shows { OnOk result ((c : Image) → ReadsAs unit ring c (S.meaning shelf.old) → ShowsBlocks ring c first (all_blocks into.new)) }
+    ensures size { length into.new ≡ length into.old }
+    ensures goes { Goes Nothing (S.meaning shelf.old) (S.meaning shelf.new) }
+    ensures cause { Cause (S.meaning shelf.old) (S.meaning shelf.new) unit result }
+{
+    shelf.read(unit, 2 + first, into)
+}
+
 /// Reads 1 to 16 body blocks, as they stand on disk, from a place on. They take two calls where they pass the ring's end.
 pub fn read_body<S: Shelf>(
     shelf: &mut S,
@@ -95,10 +115,10 @@ pub fn read_body<S: Shelf>(
     let first = place % ring;
     let before_end = (ring - first).min(into.len() as u64 / 512);
     let (one, two) = into.split_at_mut(512 * before_end as usize);
-    shelf.read(unit, 2 + first, one)?;
+    read_part(shelf, unit, ring, first, one)?;
     if two.is_empty() {
         Ok(())
     } else {
-        shelf.read(unit, 2, two)
+        read_part(shelf, unit, ring, 0, two)
     }
 }

@@ -65,6 +65,26 @@ pub fn write_header<S: Shelf>(
     shelf.flush(unit)
 }
 
+// Writes blocks of a body from a place within the ring on, of which none passes the ring's end.
+fn write_part<S: Shelf>(
+    shelf: &mut S,
+    unit: u32,
+    ring: u64,
+    first: u64,
+    bytes: &[u8],
+) -> Result<(), ShelfError>
+    requires lies { Lies unit ring (S.meaning shelf.old) }
+    requires few { ring ≤ 65534 }
+    requires blocks { IsBlocks bytes.now }
+    requires room { first + length bytes.now / 512 ≤ ring }
+    requires body { All IsBody (all_blocks bytes.now) }
+    ensures follows { Follows unit ring (body_acts ring first (all_blocks bytes.now)) (S.meaning shelf.old) (S.meaning shelf.new) }
+    ensures arrives { OnOk result (Arrives unit ring (body_acts ring first (all_blocks bytes.now)) (S.meaning shelf.old) (S.meaning shelf.new)) }
+    ensures cause { Cause (S.meaning shelf.old) (S.meaning shelf.new) unit result }
+{
+    shelf.write(unit, 2 + first, bytes)
+}
+
 /// Writes the 1 to 16 blocks of a body, as they stand on disk, from a place on. They take two calls where they pass the ring's end.
 pub fn write_body<S: Shelf>(
     shelf: &mut S,
@@ -85,10 +105,10 @@ pub fn write_body<S: Shelf>(
     let first = place % ring;
     let before_end = (ring - first).min(bytes.len() as u64 / 512);
     let (one, two) = bytes.split_at(512 * before_end as usize);
-    shelf.write(unit, 2 + first, one)?;
+    write_part(shelf, unit, ring, first, one)?;
     if two.is_empty() {
         Ok(())
     } else {
-        shelf.write(unit, 2, two)
+        write_part(shelf, unit, ring, 0, two)
     }
 }

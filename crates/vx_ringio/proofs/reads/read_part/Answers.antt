@@ -1,0 +1,7 @@
+use Rattle.std.proofs.Common.{arith}
+use Rattle.std.proofs.lemmas.Result.{on_ok_weaker}
+use Rattle.vx_ringio.proofs.Seeing.{part_shows}
+use Rattle.vx_ringio.proofs.reads.read_part.Goals as goal
+
+pub returns-clause-shows : goal.returns-clause-shows
+returns-clause-shows g c = on_ok_weaker c.read.result (part_shows _ c.args.ring c.args.first _ _ _ (omega arith) (omega arith)) c.read.ensures.ok

@@ -1,0 +1,12 @@
+use Rattle.std.proofs.lemmas.Result.{on_ok_weaker}
+use Rattle.std.proofs.Common.{arith}
+use Rattle.vx_ringio.proofs.Classing.{part_follows, part_arrives}
+use Rattle.vx_ringio.proofs.writes.write_part.Goals as goal
+
+pub returns-clause-follows : goal.returns-clause-follows
+returns-clause-follows g c = part_follows c.args.unit c.args.ring c.args.first _ _ (omega arith) c.requires.room c.requires.body _ _ c.write.ensures.goes
+
+pub returns-clause-arrives : goal.returns-clause-arrives
+returns-clause-arrives g c = on_ok_weaker c.write.result
+    (part_arrives c.args.unit c.args.ring c.args.first _ _ (omega arith) c.requires.room c.requires.body _ _ c.write.ensures.goes)
+    c.write.ensures.ok
