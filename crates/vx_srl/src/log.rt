@@ -42,7 +42,14 @@ impl Model for Srl {
 
 impl Srl {
     /// A log of which nothing is staged.
-    pub(crate) fn made(unit: u32, ring: u64, header: Header, records: VecDeque<Kept>, end: u32, used: u64) -> Srl
+    pub(crate) fn made(
+        unit: u32,
+        ring: u64,
+        header: Header,
+        records: VecDeque<Kept>,
+        end: u32,
+        used: u64,
+    ) -> Srl
         requires { IsKept ring header records.items (deque_capacity records) (length records.items) end used }
         ensures { result ≡ record { unit = unit; ring = ring; header = header; held = records.items; staged = [] } }
     {

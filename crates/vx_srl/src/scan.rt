@@ -176,11 +176,13 @@ pub(crate) fn scan<S: Shelf>(
         match look(shelf, unit, ring, header, place, number, last, left) {
             Err(error) => return Err(refusal(error)),
             Ok(Found::End) => break,
-            Ok(Found::Broken {
-                block,
-                stored,
-                computed,
-            }) => {
+            Ok(
+                Found::Broken {
+                    block,
+                    stored,
+                    computed,
+                },
+            ) => {
                 return Err(No::Damaged {
                     unit,
                     block,
