@@ -2,7 +2,7 @@
 use Rattle.std.specs.Prelude.{◌≡◌, ℕ, suc, ◌+◌, ◌<◌, ◌≤◌, IsTrue, List, [], ◌∷◌, drop, take}
 use Rattle.vx_wire.specs.Seals.{digest_of}
 use Rattle.vx_srlfmt.specs.Headers.{IsDamagedHeader}
-use Rattle.vx_srlfmt.specs.Kinds.{Kind, Top, Front, Body, Damaged, Other}
+use Rattle.vx_srlfmt.specs.Kinds.{Kind, Top, Front, Damaged, Other}
 use Rattle.vx_srlfmt.specs.declared.header.Header.{Header}
 use Rattle.vx_srlfmt.specs.declared.record.RecordHead.{RecordHead}
 use Rattle.vx_srlfmt.specs.declared.record.Seen.{Seen}
