@@ -18,7 +18,7 @@ use Rattle.vx_srl.specs.Headers.{new_header}
 use Rattle.vx_srl.specs.Views.{Log, most_number, head_of, kept_of}
 use Rattle.vx_srl.specs.declared.errors.SrlNo.{SrlNo}
 use Rattle.vx_srl.specs.declared.errors.SrlNo.TheVariants.{Other}
-use Rattle.vx_rvg.specs.Contents.{entries_at}
+use Rattle.vx_overlay.specs.Writes.{entries_at}
 use Rattle.vx_rvg.specs.Views.{Core, last_of}
 
 -- a halted group answers 20 first

@@ -14,7 +14,8 @@ use Rattle.vx_ringlog.specs.Records.{Record}
 use Rattle.vx_ringio.specs.Classes.{classes}
 use Rattle.vx_ringio.specs.Reading.{LeavesAs}
 use Rattle.vx_srl.specs.Rings.{RingOn}
-use Rattle.vx_rvg.specs.Contents.{writes_of, entries_of, HasSizes, KeepsContent, HasContent}
+use Rattle.vx_overlay.specs.Writes.{entries_of}
+use Rattle.vx_rvg.specs.Contents.{writes_of, HasSizes, KeepsContent, HasContent}
 use Rattle.vx_rvg.specs.Views.{Core, unit_of, last_of, applied_count}
 
 -- The log stands, nothing of it is staged, and the volumes with its writes over them have the content. What waits are the blocks of

@@ -5,13 +5,13 @@
 #![tactic(auto)]
 
 mod apply;
-mod core;
 mod create;
 mod group;
 mod header;
 mod patch;
+mod rvg_core;
 mod start;
 mod write;
 
-pub use core::RvgCore;
 pub use group::Rvg;
+pub use rvg_core::RvgCore;

@@ -2,7 +2,7 @@
 ghost use Rattle.std.specs.Prelude.{◌≡◌, ◌+◌, ◌<◌, ◌≤◌, ◌++◌, ◌^◌, length};
 ghost use Rattle.vx_model.specs.Content.{blocks_in};
 ghost use Rattle.vx_ringio.specs.Bodies.{IsBlocks};
-ghost use Rattle.vx_rvg.specs.Contents.{entries_at};
+ghost use Rattle.vx_overlay.specs.Writes.{entries_at};
 ghost use Rattle.vx_rvg.specs.Groups.{IsPatched};
 
 use vx_overlay::Overlay;
