@@ -12,7 +12,7 @@ use Rattle.vx_model.specs.declared.no.Counted.TheVariants.{Number}
 use Rattle.vx_disk.specs.Counts.{Rose}
 use Rattle.vx_disk.specs.Racks.{most_blocks}
 use Rattle.vx_disk.specs.declared.shelf.Shelf.{Ghosts}
-use Rattle.vx_rvg.specs.Volumes.{Shows}
+use Rattle.vx_rvg.specs.Contents.{Shows}
 use Rattle.vx_srl.specs.Views.{most_number}
 use Rattle.vx_node.specs.declared.engine.Engine.{Engine}
 use Rattle.vx_node.specs.Stands.{StandsAt, IsUnused, IsToldAt, faults_at}

@@ -9,7 +9,7 @@ use Rattle.vx_model.specs.declared.no.Counted.TheVariants.{Number}
 use Rattle.vx_script.specs.declared.line.ScriptLine.{ScriptLine}
 use Rattle.vx_script.specs.declared.line.ScriptLine.TheVariants.{Site, Raw, Disk, Write as WriteLine, Put as PutLine, Read, Show, Status}
 use Rattle.vx_order.specs.Order.{refusal_of}
-use Rattle.vx_rvg.specs.Volumes.{Shows}
+use Rattle.vx_rvg.specs.Contents.{Shows}
 use Rattle.vx_node.specs.declared.said.Said.{Said}
 use Rattle.vx_node.specs.declared.said.Said.TheVariants.{Done, DoneAt, Got, Shown, Refused}
 use Rattle.vx_node.specs.Facts.{facts_of, site_number, volume_number}

@@ -17,6 +17,23 @@ pub enum Engine<R: Rack> {
     Gone,
 }
 
+// Gives up what the log no longer needs, where a write of so many blocks has no room. All that is logged is applied first.
+fn make_room<R: Rack>(rvg: &mut Rvg<R>, count: u64) -> Result<(), No>
+{
+    if rvg.free() > count {
+        return Ok(());
+    }
+    let applied = rvg.apply(rvg.head())?;
+    rvg.reclaim(applied)
+}
+
+// Writes whole blocks to a volume of a group that has no links.
+fn write_group<R: Rack>(rvg: &mut Rvg<R>, volume: u32, start: u64, bytes: &[u8]) -> Result<u64, No>
+{
+    make_room(rvg, bytes.len() as u64 / 512)?;
+    rvg.write(volume, start, bytes, 0)
+}
+
 impl<R: Rack> Engine<R> {
     ghost use Rattle.vx_model.specs.World.{Node};
     ghost use Rattle.vx_model.specs.Content.{blocks_in};
@@ -80,7 +97,7 @@ impl<R: Rack> Engine<R> {
         match self {
             Engine::Up(rvg) => {
                 if volume < rvg.volumes() {
-                    rvg.write(volume, start, bytes, 0)
+                    write_group(rvg, volume, start, bytes)
                 } else {
                     Err(No::Role)
                 }
