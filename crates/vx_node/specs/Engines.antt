@@ -15,6 +15,7 @@ use Rattle.vx_disk.specs.declared.shelf.Shelf.{Ghosts}
 use Rattle.vx_rvg.specs.Contents.{Shows}
 use Rattle.vx_srl.specs.Views.{most_number}
 use Rattle.vx_node.specs.declared.engine.Engine.{Engine}
+use Rattle.vx_node.specs.Holds.{most_stamp}
 use Rattle.vx_node.specs.Stands.{StandsAt, IsUnused, IsToldAt, faults_at}
 
 -- a write that nothing but a failing disk or want of a number can refuse
@@ -67,7 +68,7 @@ module _ {R : Type 0} {g : Ghosts R} where
   abbrev pub WroteAt : Node → Write → Engine R g → Engine R g → Result ℕ No → Type 0
   WroteAt n x old new (Ok number) = (number ≡ n.safe + 1) × (n.safe < most_number) × StandsAt (logged n x) new
   WroteAt n x old new (Err (Device disk)) = StandsAt (halted_with n x disk) new × RoseAt old new disk
-  WroteAt n x old new (Err (Limit what most)) = (Limit what most ≡ no_number) × (most_number ≤ n.safe) × StandsAt n new
+  WroteAt n x old new (Err (Limit what most)) = (Limit what most ≡ no_number) × (most_number ≤ most_stamp n) × StandsAt n new
   WroteAt n x old new (Err other) = ⊥
 
   -- the blocks, which are those of the content where it is told, or a failing disk

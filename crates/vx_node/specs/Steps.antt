@@ -12,6 +12,7 @@ use Rattle.vx_order.specs.Order.{refusal_of}
 use Rattle.vx_rvg.specs.Contents.{Shows}
 use Rattle.vx_node.specs.declared.said.Said.{Said}
 use Rattle.vx_node.specs.declared.said.Said.TheVariants.{Done, DoneAt, Got, Shown, Refused}
+use Rattle.vx_node.specs.Holds.{most_stamp}
 use Rattle.vx_node.specs.Facts.{facts_of, site_number, volume_number}
 use Rattle.vx_node.specs.Views.{view_of}
 use Rattle.vx_node.specs.Lines.{script_line}
@@ -41,7 +42,7 @@ pub record OnlyFails (site : ℕ) (fails : Fails) (said : Said) (new next : Worl
 -- a write that is not refused: its number, or none is left, or a disk failed
 pub data Puts (w : World) (site : ℕ) (x : Write) (fails : Fails) (said : Said) (new : World) : Type 0 where
   IsPut : (w.nodes site).safe < 0x7fff_ffff_ffff_ffff → Cleanly fails said (DoneAt ((w.nodes site).safe + 1)) new (written w site x) → Puts w site x fails said new
-  NoNumber : 0x7fff_ffff_ffff_ffff ≤ (w.nodes site).safe → Cleanly fails said (Refused (Limit Number 0x7fff_ffff_ffff_ffff)) new w → Puts w site x fails said new
+  NoNumber : 0x7fff_ffff_ffff_ffff ≤ most_stamp (w.nodes site) → Cleanly fails said (Refused (Limit Number 0x7fff_ffff_ffff_ffff)) new w → Puts w site x fails said new
   PutFails : (disk : ℕ) → FailsAt site disk fails said new (half_written w site x disk) → Puts w site x fails said new
 
 -- so many blocks were read, which are those of the content where contents are told
