@@ -1,8 +1,8 @@
 -- What the calls on the disks of a site promise.
-use Rattle.std.specs.Prelude.{◌≡◌, ℕ, ◌+◌, ◌-◌, ◌<◌, ◌≤◌, ◌++◌, ◌∷◌, [], Option, Some, None, Result, Ok, Err, List}
+use Rattle.std.specs.Prelude.{◌≡◌, ℕ, ◌+◌, ◌-◌, ◌<◌, ◌≤◌, ◌++◌, ◌∷◌, [], ◌⊎◌, min, length, Option, Some, None, Result, Ok, Err, List}
 use Rattle.vx_model.specs.Content.{Write}
 use Rattle.vx_model.specs.World.{Node, bare_site}
-use Rattle.vx_model.specs.Steps.{logged, raw_set}
+use Rattle.vx_model.specs.Steps.{logged, raw_set, crashed, recovered}
 use Rattle.vx_model.specs.declared.site.SiteState.TheVariants.{Up as IsUp}
 use Rattle.vx_model.specs.declared.errors.Stop.{Stop}
 use Rattle.vx_model.specs.declared.errors.Stop.TheVariants.{No as Refused, OutOfMemory}
@@ -40,6 +40,11 @@ halted_with n x disk = record n { log = n.log ++ x ∷ []; halted = Some disk }
 abbrev pub no_number : No
 no_number = Limit Number most_number
 
+-- an apply that nothing but a failing disk can refuse
+pub record CanApply (n : Node) : Type 0 where
+  pub up : n.state ≡ IsUp
+  pub running : n.halted ≡ None
+
 module _ {R : Type 0} {g : Ghosts R} where
   -- no count of a disk falls, and contents that are told now were told before
   pub record Later (old new : Engine R g) : Type 0 where
@@ -76,3 +81,23 @@ module _ {R : Type 0} {g : Ghosts R} where
   ReadAt n volume start count bytes old new (Ok done) = (IsToldAt new → Shows n.base volume start count bytes) × StandsAt n new
   ReadAt n volume start count bytes old new (Err (Device disk)) = StandsAt n new × RoseAt old new disk
   ReadAt n volume start count bytes old new (Err other) = ⊥
+
+  -- a site that crashed, with one of the numbers of writes that a crash may keep
+  pub record CrashedAt (n : Node) (new : Engine R g) : Type 0 where
+    pub count : ℕ
+    pub least : n.safe ≤ count
+    pub most : count ≤ length n.log
+    pub stands : StandsAt (crashed n count) new
+
+  -- a site that came up, or that stays down, maybe in the next session, since a disk failed or no number is left
+  abbrev pub CameUpIs : Node → Engine R g → Engine R g → Result (Unit {0}) No → Type 0
+  CameUpIs n old new (Ok done) = StandsAt (recovered n) new
+  CameUpIs n old new (Err (Device disk)) = (StandsAt n new ⊎ StandsAt (record n { session = n.session + 1 }) new) × RoseAt old new disk
+  CameUpIs n old new (Err (Limit what most)) = (Limit what most ≡ no_number) × (most_number ≤ most_stamp n + 2) × StandsAt n new
+  CameUpIs n old new (Err other) = IsToldAt new → ⊥
+
+  -- the number up to which all writes are in their volumes, or a failing disk
+  abbrev pub AppliedAt : Node → ℕ → Engine R g → Engine R g → Result ℕ No → Type 0
+  AppliedAt n to old new (Ok number) = (min to n.safe ≤ number) × (number ≤ n.safe) × StandsAt n new
+  AppliedAt n to old new (Err (Device disk)) = StandsAt (record n { halted = Some disk }) new × RoseAt old new disk
+  AppliedAt n to old new (Err other) = ⊥

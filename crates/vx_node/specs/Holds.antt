@@ -4,7 +4,7 @@ use Rattle.vx_model.specs.Content.{fold_writes}
 use Rattle.vx_model.specs.World.{Node, World}
 use Rattle.vx_model.specs.declared.state.State.{State}
 use Rattle.vx_model.specs.declared.units.Units.{Units}
-use Rattle.vx_model.specs.declared.site.SiteState.TheVariants.{Up}
+use Rattle.vx_model.specs.declared.site.SiteState.TheVariants.{Up, Down}
 use Rattle.vx_disk.specs.Shelf.{Meaning, Image}
 use Rattle.vx_rvg.specs.Stands.{Found}
 use Rattle.vx_node.specs.Facts.{values_from}
@@ -31,7 +31,7 @@ state_of n = record {
 
 -- no header of its log has a greater stamp
 abbrev pub most_stamp : Node → ℕ
-most_stamp n = 4 * n.session + length n.log + 2
+most_stamp n = 4 * n.session + n.safe + 3
 
 -- On these disks stands the site's log, with its state and session, up to one of the numbers that a crash may keep; and the volumes
 -- with the log over them have the site's content with the writes up to that number.
@@ -41,9 +41,10 @@ pub record HasWrites (n : Node) (i : Image) : Type 0 where
   pub most : count ≤ length n.log
   pub found : Found (raw_units n.disks) n.ring (state_of n) n.session (most_stamp n) i count (fold_writes n.base (drop n.safe (take count n.log)))
 
--- while a site is up
+-- while a site is up or down
 pub record Holds (n : Node) (m : Meaning) : Type 0 where
-  pub content : n.state ≡ Up → (i : Image) → m.now i → HasWrites n i
+  pub up : n.state ≡ Up → (i : Image) → m.now i → HasWrites n i
+  pub down : n.state ≡ Down → (i : Image) → m.now i → HasWrites n i
 
 module _ {R : Type 0} (meaning : R → Meaning) where
   -- the rack of each site holds it
