@@ -60,13 +60,15 @@ pub data Begins (w : World) (site : ℕ) (mid : World) : Type 0 where
 
 -- A recovery: the site comes up with its log in its next session; or a disk failed, and the site is down, maybe in that session; or no
 -- number is left; or nothing was made of its disks yet.
-pub data Recovers (w : World) (site : ℕ) (fails : Fails) (said : Said) (new : World) : Type 0 where
+-- Of disks that tell no contents nothing is said.
+pub data Recovers (told : Type 0) (w : World) (site : ℕ) (fails : Fails) (said : Said) (new : World) : Type 0 where
   ComesUp : (mid : World) → Begins w site mid
-      → Cleanly fails said (Recovered (mid.nodes site).safe (view_of (came_up mid site) (recovered (mid.nodes site)))) new (came_up mid site) → Recovers w site fails said new
-  StaysDown : (mid : World) (disk : ℕ) → Begins w site mid → FailsAt site disk fails said new mid ⊎ FailsAt site disk fails said new (session_begun mid site) → Recovers w site fails said new
+      → Cleanly fails said (Recovered (mid.nodes site).safe (view_of (came_up mid site) (recovered (mid.nodes site)))) new (came_up mid site) → Recovers told w site fails said new
+  StaysDown : (mid : World) (disk : ℕ) → Begins w site mid → FailsAt site disk fails said new mid ⊎ FailsAt site disk fails said new (session_begun mid site) → Recovers told w site fails said new
   NoSession : (mid : World) → Begins w site mid → 0x7fff_ffff_ffff_ffff ≤ most_stamp (mid.nodes site) + 2
-      → Cleanly fails said (Refused (Limit Number 0x7fff_ffff_ffff_ffff)) new mid → Recovers w site fails said new
-  IsBareStill : (w.nodes site).state ≡ Bare → Cleanly fails said (Refused NoConfig) new w → Recovers w site fails said new
+      → Cleanly fails said (Refused (Limit Number 0x7fff_ffff_ffff_ffff)) new mid → Recovers told w site fails said new
+  Untold : (told → ⊥) → Recovers told w site fails said new
+  IsBareStill : (w.nodes site).state ≡ Bare → Cleanly fails said (Refused NoConfig) new w → Recovers told w site fails said new
 
 -- logged writes are brought into their volumes, up to the number that was asked for or further; or a disk failed
 pub data Applies (w : World) (site to : ℕ) (fails : Fails) (said : Said) (new : World) : Type 0 where
@@ -97,7 +99,7 @@ Works told w (Raw site) fails said new =
 Works told w (Disk site disk state) fails said new = Cleanly fails said Done new w
 Works told w (Crash site pick) fails said new =
     let s = site_number w site in (mid : World) × Crashes w s mid × Cleanly fails said Done new mid
-Works told w (Recover site) fails said new = Recovers w (site_number w site) fails said new
+Works told w (Recover site) fails said new = Recovers told w (site_number w site) fails said new
 Works told w (WriteLine site volume start count fill) fails said new =
     Puts w (site_number w site) (write_of w site volume start (replicate (512 * count) fill)) fails said new
 Works told w (PutLine site volume start bytes) fails said new =
