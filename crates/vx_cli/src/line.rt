@@ -13,10 +13,13 @@ fn is_built(line: &ScriptLine) -> bool
         ScriptLine::Site { .. }
         | ScriptLine::Raw { .. }
         | ScriptLine::Disk { .. }
+        | ScriptLine::Crash { .. }
+        | ScriptLine::Recover { .. }
         | ScriptLine::Write { .. }
         | ScriptLine::Put { .. }
         | ScriptLine::Read { .. }
         | ScriptLine::Show { .. }
+        | ScriptLine::Apply { .. }
         | ScriptLine::Status { .. } => true,
         _ => false,
     }

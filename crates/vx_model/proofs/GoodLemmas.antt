@@ -124,11 +124,11 @@ good_raw w i s given bare =
     (λ k _ made e. absurd (subst (λ (l : Line). IsMade (w.nodes l.origin)) e (s.begun k made) bare))
     given
 
-fold_append : (c : Content) (xs ys : List Write) → fold_writes c (xs ++ ys) ≡ fold_writes (fold_writes c xs) ys
+pub fold_append : (c : Content) (xs ys : List Write) → fold_writes c (xs ++ ys) ≡ fold_writes (fold_writes c xs) ys
 fold_append c [] ys = refl
 fold_append c (x ∷ xs) ys = fold_append (put c x) xs ys
 
-prefix_push : (xs ys zs : List Write) → IsPrefixOf xs ys → IsPrefixOf xs (ys ++ zs)
+pub prefix_push : (xs ys zs : List Write) → IsPrefixOf xs ys → IsPrefixOf xs (ys ++ zs)
 unfolding IsPrefixOf
 prefix_push xs ys zs (rest, e) = (rest ++ zs, sym (append_assoc xs rest zs) ∙ ap (λ (t : List Write). t ++ zs) e)
 

@@ -1,3 +1,4 @@
 pub mod KeptLemmas
 pub mod GoodLemmas
+pub mod CrashLemmas
 pub mod Updates

@@ -1,12 +1,12 @@
 -- What the events of a primary without links make of the world.
-use Rattle.std.specs.Prelude.{ℕ, ◌+◌, ◌-◌, min, List, [], ◌∷◌, ◌++◌, length, ltb, if◌then◌else◌, Some, None, codes, zero, suc}
+use Rattle.std.specs.Prelude.{ℕ, ◌+◌, ◌-◌, min, List, [], ◌∷◌, ◌++◌, length, take, drop, ltb, if◌then◌else◌, Some, None, codes, zero, suc}
 use Rattle.std.specs.Fmt.{decimal}
-use Rattle.vx_model.specs.Content.{Write, Content, put, zeros}
+use Rattle.vx_model.specs.Content.{Write, Content, put, fold_writes, zeros}
 use Rattle.vx_model.specs.World.{Node, History, World, Volume, bare_site, no_line, updated, with_node, with_history}
 use Rattle.vx_model.specs.declared.history.Line.{Line}
 use Rattle.vx_model.specs.declared.site.Role.TheVariants.{Primary}
 use Rattle.vx_model.specs.declared.site.Mark.TheVariants.{Consistent}
-use Rattle.vx_model.specs.declared.site.SiteState.TheVariants.{Up}
+use Rattle.vx_model.specs.declared.site.SiteState.TheVariants.{Up, Down}
 
 -- a further site, of which nothing is made yet
 abbrev pub site_made : World → List ℕ → ℕ → ℕ → World
@@ -68,3 +68,29 @@ written w s x = let n = w.nodes s in with_history w s (logged n x) (told_of (w.l
 -- a write that met a failing disk: whether it stands is not known, and the site is halted
 abbrev pub half_written : World → ℕ → Write → ℕ → World
 half_written w s x disk = let n = w.nodes s in with_node w s (record n { log = n.log ++ x ∷ []; halted = Some disk })
+
+-- a site that crashed and kept its first k writes
+abbrev pub crashed : Node → ℕ → Node
+crashed n k = record n { state = Down; base = fold_writes n.base (drop n.safe (take k n.log)); log = take k n.log; safe = k }
+
+-- its line holds them
+abbrev pub kept_by : History → Node → ℕ → History
+kept_by h n k = record h { held = take k n.log }
+
+abbrev pub crash_left : World → ℕ → ℕ → World
+crash_left w s k = let n = w.nodes s in with_history w s (crashed n k) (kept_by (w.lines n.line) n k)
+
+-- a site that came up again, in its next session
+abbrev pub recovered : Node → Node
+recovered n = record n { state = Up; session = n.session + 1; halted = None }
+
+abbrev pub came_up : World → ℕ → World
+came_up w s = with_node w s (recovered (w.nodes s))
+
+-- a site whose recovery failed after its log had begun its next session
+abbrev pub session_begun : World → ℕ → World
+session_begun w s = let n = w.nodes s in with_node w s (record n { session = n.session + 1 })
+
+-- a site that a failing disk halted in a line that writes nothing new
+abbrev pub stopped_by : World → ℕ → ℕ → World
+stopped_by w s disk = with_node w s (record (w.nodes s) { halted = Some disk })

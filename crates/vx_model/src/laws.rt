@@ -2,8 +2,8 @@
 ghost use Rattle.std.specs.Prelude.{◌≡◌, ◌≤◌, ◌<◌, ℕ, List, length, None, IsTrue, true};
 ghost use Rattle.vx_model.specs.Content.{Write};
 ghost use Rattle.vx_model.specs.World.{World, empty_world, is_origin};
-ghost use Rattle.vx_model.specs.Steps.{site_made, raw_made, written, half_written};
-ghost use Rattle.vx_model.specs.Good.{Good, IsWorking};
+ghost use Rattle.vx_model.specs.Steps.{site_made, raw_made, written, half_written, crash_left, came_up, session_begun, stopped_by};
+ghost use Rattle.vx_model.specs.Good.{Good, IsMade, IsWorking};
 ghost use Rattle.vx_model.specs.declared.site.SiteState.TheVariants.{Bare};
 
 /// A world in which no site is made is good, and each event of a primary without links leaves a good world good.
@@ -13,4 +13,8 @@ pub fn stays_good()
     ensures raw { (w : World) (s : ℕ) → Good w → s < w.sites → (w.nodes s).state ≡ Bare → Good (raw_made w s) }
     ensures write { (w : World) (s : ℕ) (x : Write) → Good w → IsWorking (w.nodes s) → Good (written w s x) }
     ensures fault { (w : World) (s : ℕ) (x : Write) (disk : ℕ) → Good w → IsWorking (w.nodes s) → Good (half_written w s x disk) }
+    ensures crash { (w : World) (s k : ℕ) → Good w → IsMade (w.nodes s) → is_origin (w.nodes s).role ≡ true → (w.nodes s).safe ≤ k → k ≤ length (w.nodes s).log → Good (crash_left w s k) }
+    ensures recovery { (w : World) (s : ℕ) → Good w → IsMade (w.nodes s) → length (w.nodes s).log ≤ (w.nodes s).safe → Good (came_up w s) }
+    ensures refused { (w : World) (s : ℕ) → Good w → IsMade (w.nodes s) → Good (session_begun w s) }
+    ensures halt { (w : World) (s disk : ℕ) → Good w → IsMade (w.nodes s) → Good (stopped_by w s disk) }
 {}

@@ -12,7 +12,7 @@ use Rattle.vx_disk.specs.declared.shelf.Shelf.{Ghosts}
 use Rattle.vx_order.specs.declared.facts.SiteFacts.{SiteFacts}
 use Rattle.vx_order.specs.declared.facts.RvgFacts.{RvgFacts}
 use Rattle.vx_order.specs.declared.facts.VolumeFacts.{VolumeFacts}
-use Rattle.vx_rvg.specs.Volumes.{Shows}
+use Rattle.vx_rvg.specs.Contents.{Shows}
 use Rattle.vx_node.specs.declared.engine.Engine.{Engine}
 use Rattle.vx_node.specs.declared.engine.Engine.TheVariants.{Bare, Up, Gone}
 use Rattle.vx_node.specs.declared.said.Said.TheVariants.{Got, Refused}

@@ -2,7 +2,8 @@
 use Rattle.std.specs.Prelude.{ℕ, ◌+◌, List, [], ◌∷◌, Option, Some, None}
 use Rattle.vx_model.specs.Steps.{first_line, ring_of}
 use Rattle.vx_model.specs.World.{no_line}
-use Rattle.vx_model.specs.declared.site.SiteState.TheVariants.{Bare, Up}
+use Rattle.vx_model.specs.declared.site.SiteState.TheVariants.{Bare, Up, Down}
+use Rattle.vx_model.specs.declared.state.State.{State}
 use Rattle.vx_model.specs.declared.site.Role.TheVariants.{Primary}
 use Rattle.vx_model.specs.declared.site.Mark.TheVariants.{Consistent}
 use Rattle.vx_order.specs.declared.facts.SiteFacts.{SiteFacts}
@@ -45,3 +46,23 @@ halted_group disk (Some rvg) = Some (record rvg { halted = Some disk })
 
 abbrev pub halted_facts : ℕ → SiteFacts → SiteFacts
 halted_facts disk f = record f { rvg = halted_group disk f.rvg }
+
+-- a site that went down shows no group
+abbrev pub down_facts : SiteFacts → SiteFacts
+down_facts f = record f { state = Down; rvg = None }
+
+-- the group of a site that came up with this state, up to this number
+abbrev pub up_group : State → ℕ → ℕ → RvgFacts
+up_group state last blocks = record {
+  role = state.role;
+  line = state.line;
+  parent = state.parent;
+  mark = state.mark;
+  low = 1;
+  last = last;
+  ring = ring_of blocks;
+  halted = None;
+}
+
+abbrev pub up_facts : State → ℕ → SiteFacts → SiteFacts
+up_facts state last f = record f { state = Up; rvg = Some (up_group state last f.blocks) }

@@ -1,8 +1,8 @@
 -- What the calls on the disks of a site promise.
-use Rattle.std.specs.Prelude.{◌≡◌, ℕ, ◌+◌, ◌-◌, ◌<◌, ◌≤◌, ◌++◌, ◌∷◌, [], Option, Some, None, Result, Ok, Err, List}
+use Rattle.std.specs.Prelude.{◌≡◌, ℕ, ◌+◌, ◌-◌, ◌<◌, ◌≤◌, ◌++◌, ◌∷◌, [], ◌⊎◌, min, length, Option, Some, None, Result, Ok, Err, List}
 use Rattle.vx_model.specs.Content.{Write}
 use Rattle.vx_model.specs.World.{Node, bare_site}
-use Rattle.vx_model.specs.Steps.{logged, raw_set}
+use Rattle.vx_model.specs.Steps.{logged, raw_set, crashed, recovered}
 use Rattle.vx_model.specs.declared.site.SiteState.TheVariants.{Up as IsUp}
 use Rattle.vx_model.specs.declared.errors.Stop.{Stop}
 use Rattle.vx_model.specs.declared.errors.Stop.TheVariants.{No as Refused, OutOfMemory}
@@ -12,9 +12,10 @@ use Rattle.vx_model.specs.declared.no.Counted.TheVariants.{Number}
 use Rattle.vx_disk.specs.Counts.{Rose}
 use Rattle.vx_disk.specs.Racks.{most_blocks}
 use Rattle.vx_disk.specs.declared.shelf.Shelf.{Ghosts}
-use Rattle.vx_rvg.specs.Volumes.{Shows}
+use Rattle.vx_rvg.specs.Contents.{Shows}
 use Rattle.vx_srl.specs.Views.{most_number}
 use Rattle.vx_node.specs.declared.engine.Engine.{Engine}
+use Rattle.vx_node.specs.Holds.{most_stamp}
 use Rattle.vx_node.specs.Stands.{StandsAt, IsUnused, IsToldAt, faults_at}
 
 -- a write that nothing but a failing disk or want of a number can refuse
@@ -38,6 +39,11 @@ halted_with n x disk = record n { log = n.log ++ x ∷ []; halted = Some disk }
 
 abbrev pub no_number : No
 no_number = Limit Number most_number
+
+-- an apply that nothing but a failing disk can refuse
+pub record CanApply (n : Node) : Type 0 where
+  pub up : n.state ≡ IsUp
+  pub running : n.halted ≡ None
 
 module _ {R : Type 0} {g : Ghosts R} where
   -- no count of a disk falls, and contents that are told now were told before
@@ -67,7 +73,7 @@ module _ {R : Type 0} {g : Ghosts R} where
   abbrev pub WroteAt : Node → Write → Engine R g → Engine R g → Result ℕ No → Type 0
   WroteAt n x old new (Ok number) = (number ≡ n.safe + 1) × (n.safe < most_number) × StandsAt (logged n x) new
   WroteAt n x old new (Err (Device disk)) = StandsAt (halted_with n x disk) new × RoseAt old new disk
-  WroteAt n x old new (Err (Limit what most)) = (Limit what most ≡ no_number) × (most_number ≤ n.safe) × StandsAt n new
+  WroteAt n x old new (Err (Limit what most)) = (Limit what most ≡ no_number) × (most_number ≤ most_stamp n) × StandsAt n new
   WroteAt n x old new (Err other) = ⊥
 
   -- the blocks, which are those of the content where it is told, or a failing disk
@@ -75,3 +81,23 @@ module _ {R : Type 0} {g : Ghosts R} where
   ReadAt n volume start count bytes old new (Ok done) = (IsToldAt new → Shows n.base volume start count bytes) × StandsAt n new
   ReadAt n volume start count bytes old new (Err (Device disk)) = StandsAt n new × RoseAt old new disk
   ReadAt n volume start count bytes old new (Err other) = ⊥
+
+  -- a site that crashed, with one of the numbers of writes that a crash may keep
+  pub record CrashedAt (n : Node) (new : Engine R g) : Type 0 where
+    pub count : ℕ
+    pub least : n.safe ≤ count
+    pub most : count ≤ length n.log
+    pub stands : StandsAt (crashed n count) new
+
+  -- a site that came up, or that stays down, maybe in the next session, since a disk failed or no number is left
+  abbrev pub CameUpIs : Node → Engine R g → Engine R g → Result (Unit {0}) No → Type 0
+  CameUpIs n old new (Ok done) = StandsAt (recovered n) new
+  CameUpIs n old new (Err (Device disk)) = (StandsAt n new ⊎ StandsAt (record n { session = n.session + 1 }) new) × RoseAt old new disk
+  CameUpIs n old new (Err (Limit what most)) = (Limit what most ≡ no_number) × (most_number ≤ most_stamp n + 2) × StandsAt n new
+  CameUpIs n old new (Err other) = IsToldAt new → ⊥
+
+  -- the number up to which all writes are in their volumes, or a failing disk
+  abbrev pub AppliedAt : Node → ℕ → Engine R g → Engine R g → Result ℕ No → Type 0
+  AppliedAt n to old new (Ok number) = (min to n.safe ≤ number) × (number ≤ n.safe) × StandsAt n new
+  AppliedAt n to old new (Err (Device disk)) = StandsAt (record n { halted = Some disk }) new × RoseAt old new disk
+  AppliedAt n to old new (Err other) = ⊥

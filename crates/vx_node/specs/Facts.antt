@@ -26,12 +26,12 @@ group_fact n = record {
   halted = n.halted;
 }
 
--- a bare site has no replicated volume group
+-- only a site that is up shows its replicated volume group
 abbrev pub group_by : SiteState → Node → Option RvgFacts
 group_by Bare n = None
 group_by Up n = Some (group_fact n)
-group_by Deported n = Some (group_fact n)
-group_by Down n = Some (group_fact n)
+group_by Deported n = None
+group_by Down n = None
 
 abbrev pub site_fact : Node → SiteFacts
 site_fact n = record {

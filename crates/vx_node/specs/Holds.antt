@@ -1,16 +1,50 @@
 -- What the disks hold of a site, whatever a crash at this moment leaves on them.
-use Rattle.std.specs.Prelude.{◌≡◌, ℕ, ◌+◌, ◌<◌, List, length, None, Option, Some, slice_get, IsTrue}
+use Rattle.std.specs.Prelude.{◌≡◌, ℕ, ◌+◌, ◌-◌, ◌*◌, ◌<◌, ◌≤◌, List, [], length, take, drop, None, Option, Some, slice_get, IsTrue}
+use Rattle.vx_model.specs.Content.{fold_writes}
 use Rattle.vx_model.specs.World.{Node, World}
-use Rattle.vx_model.specs.declared.site.SiteState.TheVariants.{Up}
+use Rattle.vx_model.specs.declared.state.State.{State}
+use Rattle.vx_model.specs.declared.units.Units.{Units}
+use Rattle.vx_model.specs.declared.site.SiteState.TheVariants.{Up, Down}
 use Rattle.vx_disk.specs.Shelf.{Meaning, Image}
+use Rattle.vx_rvg.specs.Stands.{Found}
+use Rattle.vx_node.specs.Facts.{values_from}
 
--- on these disks each data volume has the site's content: the first of them lies on disk 1, the next on disk 2, and so on
-pub record HasContent (n : Node) (i : Image) : Type 0 where
-  pub each : (v b : ℕ) → v < length n.volumes → b < n.base.size v → i (v + 1) b ≡ n.base.block v b
+-- the units of a raw set: its log on disk 0, its maps on the last disk, and a volume on each disk between
+abbrev pub raw_units : ℕ → Units
+raw_units disks = record { srl = 0; maps = disks - 1; vols = values_from (λ k. k) 1 (disks - 2) }
 
--- while a site is up and no write of it failed
+-- what the header of its log keeps of a site
+abbrev pub state_of : Node → State
+state_of n = record {
+  line = n.line;
+  top = n.top;
+  role = n.role;
+  mark = n.mark;
+  phase = n.phase;
+  replay = n.replay;
+  end = n.end;
+  other = n.other;
+  parent = n.parent;
+  fork = n.fork;
+  links = [];
+}
+
+-- no header of its log has a greater stamp
+abbrev pub most_stamp : Node → ℕ
+most_stamp n = 4 * n.session + n.safe + 3
+
+-- On these disks stands the site's log, with its state and session, up to one of the numbers that a crash may keep; and the volumes
+-- with the log over them have the site's content with the writes up to that number.
+pub record HasWrites (n : Node) (i : Image) : Type 0 where
+  pub count : ℕ
+  pub least : n.safe ≤ count
+  pub most : count ≤ length n.log
+  pub found : Found (raw_units n.disks) n.ring (state_of n) n.session (most_stamp n) i count (fold_writes n.base (drop n.safe (take count n.log)))
+
+-- while a site is up or down
 pub record Holds (n : Node) (m : Meaning) : Type 0 where
-  pub content : n.state ≡ Up → n.halted ≡ None → (i : Image) → m.now i → HasContent n i
+  pub up : n.state ≡ Up → (i : Image) → m.now i → HasWrites n i
+  pub down : n.state ≡ Down → (i : Image) → m.now i → HasWrites n i
 
 module _ {R : Type 0} (meaning : R → Meaning) where
   -- the rack of each site holds it

@@ -2,17 +2,20 @@
 use Rattle.std.specs.Prelude.{ℕ, List, Bool, true, false, Option, Some, None, Result, Ok, Err}
 use Rattle.vx_script.specs.Grammar.{line_of}
 use Rattle.vx_script.specs.declared.line.ScriptLine.{ScriptLine}
-use Rattle.vx_script.specs.declared.line.ScriptLine.TheVariants.{Site, Raw, Disk, Write, Put, Read, Show, Status}
+use Rattle.vx_script.specs.declared.line.ScriptLine.TheVariants.{Site, Raw, Disk, Crash, Recover, Write, Put, Read, Show, Apply, Status}
 
 -- whether lines of this kind are built
 abbrev pub is_built : ScriptLine → Bool
 is_built (Site _ _ _) = true
 is_built (Raw _) = true
 is_built (Disk _ _ _) = true
+is_built (Crash _ _) = true
+is_built (Recover _) = true
 is_built (Write _ _ _ _ _) = true
 is_built (Put _ _ _ _) = true
 is_built (Read _ _ _ _) = true
 is_built (Show _ _ _ _) = true
+is_built (Apply _ _) = true
 is_built (Status _) = true
 is_built _ = false
 

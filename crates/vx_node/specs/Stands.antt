@@ -1,16 +1,16 @@
 -- What a yard stands for: how its racks and what it keeps of each site agree with the world.
 use Rattle.std.specs.Prelude.{◌≡◌, ℕ, ◌+◌, ◌-◌, ◌<◌, ◌≤◌, ◌==◌, ◌&&◌, min, List, length, count_by, Option, Some, None, slice_get, IsTrue, IsFalse}
 use Rattle.vx_model.specs.Content.{zero_block}
-use Rattle.vx_model.specs.World.{Node, World, Volume, no_line}
-use Rattle.vx_model.specs.declared.site.SiteState.TheVariants.{Bare as IsBare, Up as IsUp}
-use Rattle.vx_model.specs.declared.units.Units.{Units}
-use Rattle.vx_disk.specs.Shelf.{Meaning, Keeps}
+use Rattle.vx_model.specs.Steps.{ring_of}
+use Rattle.vx_model.specs.World.{Node, World, Volume, bare_site}
+use Rattle.vx_model.specs.declared.site.SiteState.TheVariants.{Up as IsUp, Down as IsDown}
+use Rattle.vx_disk.specs.Shelf.{Meaning, Image, Keeps}
 use Rattle.vx_disk.specs.declared.shelf.Shelf.{Ghosts}
-use Rattle.vx_rvg.specs.Views.{Core}
-use Rattle.vx_rvg.specs.Volumes.{Stands}
+use Rattle.vx_rvg.specs.Stands.{Left, Stands}
+use Rattle.vx_rvg.specs.Views.{Core, last_of}
 use Rattle.vx_node.specs.declared.engine.Engine.{Engine}
-use Rattle.vx_node.specs.declared.engine.Engine.TheVariants.{Bare, Up, Gone}
-use Rattle.vx_node.specs.Facts.{values_from}
+use Rattle.vx_node.specs.declared.engine.Engine.TheVariants.{Bare, Up, Down, Gone}
+use Rattle.vx_node.specs.Holds.{HasWrites, raw_units, state_of, most_stamp}
 use Rattle.vx_node.specs.Steps.{Fails}
 
 -- a rack that is not fitted, is up, and has no fuse
@@ -28,17 +28,11 @@ pub record IsFitted (disks blocks : ℕ) (m : Meaning) : Type 0 where
 
 -- the disks of a bare site: those between the first and the last hold zeros
 pub record IsBareAt (n : Node) (m : Meaning) : Type 0 where
-  pub state : n.state ≡ IsBare
+  pub is : n ≡ bare_site n.name n.disks n.blocks
   pub fitted : IsFitted n.disks n.blocks m
   pub few : n.disks ≤ 8
-  pub parent : n.parent ≡ no_line
-  pub low : n.low ≡ 1
   pub some : 8 ≤ n.blocks
   pub blank : (u b : ℕ) → 0 < u → u + 1 < n.disks → b < n.blocks → Keeps m u b zero_block
-
--- the units of a raw set: its log on disk 0, its maps on the last disk, and a volume on each disk between
-abbrev pub raw_units : ℕ → Units
-raw_units disks = record { srl = 0; maps = disks - 1; vols = values_from (λ k. k) 1 (disks - 2) }
 
 -- the disks of a raw set under its replicated volume group
 pub record IsUpAt (n : Node) (c : Core) (m : Meaning) : Type 0 where
@@ -47,38 +41,69 @@ pub record IsUpAt (n : Node) (c : Core) (m : Meaning) : Type 0 where
   pub disks : 3 ≤ n.disks
   pub units : c.units ≡ raw_units n.disks
   pub ring : c.log.ring ≡ n.ring
-  pub session : c.log.session ≡ n.session
-  pub head : c.head ≡ n.safe
+  pub ring_is : n.ring ≡ ring_of n.blocks
+  pub some : 8 ≤ n.blocks
+  pub low : n.low ≡ 1
+  pub kept : c.log.header.state ≡ state_of n
+  pub session : c.log.header.incarnation ≡ n.session
+  pub stamp : n.halted ≡ None → c.log.header.stamp + 1 ≤ most_stamp n
+  pub head : last_of c ≡ n.safe
   pub halted : c.halted ≡ n.halted
+  pub logged : n.safe ≤ length n.log
+  -- while no write failed all are durable
+  pub durable : n.halted ≡ None → length n.log ≤ n.safe
   pub few : n.disks ≤ 8
   pub volumes : length n.volumes ≡ n.disks - 2
   pub whole : (v : ℕ) (x : Volume) → slice_get n.volumes v ≡ Some x → x.blocks ≡ n.blocks
   pub sizes : (v : ℕ) → v < n.disks - 2 → n.base.size v ≡ n.blocks
-  -- while no write failed, whatever a crash leaves has the content
-  pub content : n.halted ≡ None → Stands c.units.vols n.base m
+  -- while no write failed, it has the content; and whatever a crash leaves has the writes that it may keep
+  pub content : n.halted ≡ None → IsTrue m.tells → Stands c n.base m
+  pub left : (i : Image) → m.now i → HasWrites n i
+
+-- the disks of a raw set that crashed: they have one log and one content, that of the site
+pub record IsDownAt (n : Node) (m : Meaning) : Type 0 where
+  pub state : n.state ≡ IsDown
+  pub units : m.units ≡ n.disks
+  pub size : (u : ℕ) → u < n.disks → m.size u ≡ n.blocks
+  pub down : IsTrue m.down
+  pub unarmed : IsFalse m.armed
+  pub disks : 3 ≤ n.disks
+  pub few : n.disks ≤ 8
+  pub some : 8 ≤ n.blocks
+  pub ring : n.ring ≡ ring_of n.blocks
+  pub logged : length n.log ≡ n.safe
+  pub low : n.low ≡ 1
+  pub volumes : length n.volumes ≡ n.disks - 2
+  pub whole : (v : ℕ) (x : Volume) → slice_get n.volumes v ≡ Some x → x.blocks ≡ n.blocks
+  pub sizes : (v : ℕ) → v < n.disks - 2 → n.base.size v ≡ n.blocks
+  pub left : IsTrue m.tells → Left (raw_units n.disks) n.ring (state_of n) n.session (most_stamp n) n.safe n.base m
 
 module _ {R : Type 0} {g : Ghosts R} where
   abbrev pub StandsAt : Node → Engine R g → Type 0
   StandsAt n (Bare rack) = IsBareAt n (g.meaning rack)
   StandsAt n (Up rvg) = IsUpAt n rvg.core (g.meaning rvg.shelf)
+  StandsAt n (Down rack) = IsDownAt n (g.meaning rack)
   StandsAt n Gone = ⊥
 
   -- the engine of a number that no site has
   abbrev pub IsUnused : Engine R g → Type 0
   IsUnused (Bare rack) = IsUnfitted (g.meaning rack)
   IsUnused (Up rvg) = ⊥
+  IsUnused (Down rack) = ⊥
   IsUnused Gone = ⊥
 
   -- whether the contents of its disks are told
   abbrev pub IsToldAt : Engine R g → Type 0
   IsToldAt (Bare rack) = IsTrue (g.meaning rack).tells
   IsToldAt (Up rvg) = IsTrue (g.meaning rvg.shelf).tells
+  IsToldAt (Down rack) = IsTrue (g.meaning rack).tells
   IsToldAt Gone = ⊥
 
   -- the count of the faults of a disk
   abbrev pub faults_at : Engine R g → ℕ → ℕ
   faults_at (Bare rack) d = (g.meaning rack).disk_faults d
   faults_at (Up rvg) d = (g.meaning rvg.shelf).disk_faults d
+  faults_at (Down rack) d = (g.meaning rack).disk_faults d
   faults_at Gone d = 0
 
   abbrev pub fault_count : Option (Engine R g) → ℕ → ℕ

@@ -1,17 +1,19 @@
 -- What a line does to the world, by cases on the line.
-use Rattle.std.specs.Prelude.{◌≡◌, ◌⊎◌, ℕ, ◌+◌, ◌*◌, ◌<◌, ◌≤◌, List, [], ◌∷◌, length, replicate, Option, Some, None, Result, Ok, Err, Bool}
+use Rattle.std.specs.Prelude.{◌≡◌, ◌⊎◌, ℕ, ◌+◌, ◌*◌, ◌<◌, ◌≤◌, min, List, [], ◌∷◌, length, replicate, Option, Some, None, Result, Ok, Err, Bool}
 use Rattle.vx_model.specs.Content.{Content, Write}
 use Rattle.vx_model.specs.World.{World}
-use Rattle.vx_model.specs.Steps.{site_made, raw_made, written, half_written}
+use Rattle.vx_model.specs.Steps.{site_made, raw_made, written, half_written, crash_left, recovered, came_up, session_begun, stopped_by}
+use Rattle.vx_model.specs.declared.site.SiteState.TheVariants.{Bare, Up, Down}
 use Rattle.vx_model.specs.declared.no.No.{No}
-use Rattle.vx_model.specs.declared.no.No.TheVariants.{Device, Limit}
+use Rattle.vx_model.specs.declared.no.No.TheVariants.{Device, Limit, NoConfig}
 use Rattle.vx_model.specs.declared.no.Counted.TheVariants.{Number}
 use Rattle.vx_script.specs.declared.line.ScriptLine.{ScriptLine}
-use Rattle.vx_script.specs.declared.line.ScriptLine.TheVariants.{Site, Raw, Disk, Write as WriteLine, Put as PutLine, Read, Show, Status}
+use Rattle.vx_script.specs.declared.line.ScriptLine.TheVariants.{Site, Raw, Disk, Crash, Recover, Write as WriteLine, Put as PutLine, Read, Show, Apply, Status}
 use Rattle.vx_order.specs.Order.{refusal_of}
-use Rattle.vx_rvg.specs.Volumes.{Shows}
+use Rattle.vx_rvg.specs.Contents.{Shows}
 use Rattle.vx_node.specs.declared.said.Said.{Said}
-use Rattle.vx_node.specs.declared.said.Said.TheVariants.{Done, DoneAt, Got, Shown, Refused}
+use Rattle.vx_node.specs.declared.said.Said.TheVariants.{Done, DoneAt, Got, Shown, Recovered, Refused}
+use Rattle.vx_node.specs.Holds.{most_stamp}
 use Rattle.vx_node.specs.Facts.{facts_of, site_number, volume_number}
 use Rattle.vx_node.specs.Views.{view_of}
 use Rattle.vx_node.specs.Lines.{script_line}
@@ -41,8 +43,37 @@ pub record OnlyFails (site : ℕ) (fails : Fails) (said : Said) (new next : Worl
 -- a write that is not refused: its number, or none is left, or a disk failed
 pub data Puts (w : World) (site : ℕ) (x : Write) (fails : Fails) (said : Said) (new : World) : Type 0 where
   IsPut : (w.nodes site).safe < 0x7fff_ffff_ffff_ffff → Cleanly fails said (DoneAt ((w.nodes site).safe + 1)) new (written w site x) → Puts w site x fails said new
-  NoNumber : 0x7fff_ffff_ffff_ffff ≤ (w.nodes site).safe → Cleanly fails said (Refused (Limit Number 0x7fff_ffff_ffff_ffff)) new w → Puts w site x fails said new
+  NoNumber : 0x7fff_ffff_ffff_ffff ≤ most_stamp (w.nodes site) → Cleanly fails said (Refused (Limit Number 0x7fff_ffff_ffff_ffff)) new w → Puts w site x fails said new
   PutFails : (disk : ℕ) → FailsAt site disk fails said new (half_written w site x disk) → Puts w site x fails said new
+
+-- a crash keeps the writes that are durable, and maybe the one that was not finished
+pub record Crashes (w : World) (site : ℕ) (new : World) : Type 0 where
+  pub count : ℕ
+  pub least : (w.nodes site).safe ≤ count
+  pub most : count ≤ length (w.nodes site).log
+  pub leads : new ≡ crash_left w site count
+
+-- the world from which a site is recovered: one that is up crashes first
+pub data Begins (w : World) (site : ℕ) (mid : World) : Type 0 where
+  CrashesFirst : (w.nodes site).state ≡ Up → Crashes w site mid → Begins w site mid
+  IsDown : (w.nodes site).state ≡ Down → mid ≡ w → Begins w site mid
+
+-- A recovery: the site comes up with its log in its next session; or a disk failed, and the site is down, maybe in that session; or no
+-- number is left; or nothing was made of its disks yet.
+-- Of disks that tell no contents nothing is said.
+pub data Recovers (told : Type 0) (w : World) (site : ℕ) (fails : Fails) (said : Said) (new : World) : Type 0 where
+  ComesUp : (mid : World) → Begins w site mid
+      → Cleanly fails said (Recovered (mid.nodes site).safe (view_of (came_up mid site) (recovered (mid.nodes site)))) new (came_up mid site) → Recovers told w site fails said new
+  StaysDown : (mid : World) (disk : ℕ) → Begins w site mid → FailsAt site disk fails said new mid ⊎ FailsAt site disk fails said new (session_begun mid site) → Recovers told w site fails said new
+  NoSession : (mid : World) → Begins w site mid → 0x7fff_ffff_ffff_ffff ≤ most_stamp (mid.nodes site) + 2
+      → Cleanly fails said (Refused (Limit Number 0x7fff_ffff_ffff_ffff)) new mid → Recovers told w site fails said new
+  Untold : (told → ⊥) → Recovers told w site fails said new
+  IsBareStill : (w.nodes site).state ≡ Bare → Cleanly fails said (Refused NoConfig) new w → Recovers told w site fails said new
+
+-- logged writes are brought into their volumes, up to the number that was asked for or further; or a disk failed
+pub data Applies (w : World) (site to : ℕ) (fails : Fails) (said : Said) (new : World) : Type 0 where
+  IsApplied : (number : ℕ) → min to (w.nodes site).safe ≤ number → number ≤ (w.nodes site).safe → Cleanly fails said (DoneAt number) new w → Applies w site to fails said new
+  ApplyFails : (disk : ℕ) → FailsAt site disk fails said new (stopped_by w site disk) → Applies w site to fails said new
 
 -- so many blocks were read, which are those of the content where contents are told
 pub record Gets (told : Type 0) (c : Content) (volume start count : ℕ) (fails : Fails) (said : Said) (new next : World) : Type 0 where
@@ -66,12 +97,16 @@ Works told w (Site name disks blocks) fails said new =
 Works told w (Raw site) fails said new =
     let s = site_number w site in Cleanly fails said Done new (raw_made w s) ⊎ OnlyFails s fails said new w
 Works told w (Disk site disk state) fails said new = Cleanly fails said Done new w
+Works told w (Crash site pick) fails said new =
+    let s = site_number w site in (mid : World) × Crashes w s mid × Cleanly fails said Done new mid
+Works told w (Recover site) fails said new = Recovers told w (site_number w site) fails said new
 Works told w (WriteLine site volume start count fill) fails said new =
     Puts w (site_number w site) (write_of w site volume start (replicate (512 * count) fill)) fails said new
 Works told w (PutLine site volume start bytes) fails said new =
     Puts w (site_number w site) (write_of w site volume start bytes) fails said new
 Works told w (Read site volume start count) fails said new = Fetches told w site volume start count fails said new
 Works told w (Show site volume start count) fails said new = Fetches told w site volume start count fails said new
+Works told w (Apply site to) fails said new = Applies w (site_number w site) to fails said new
 Works told w (Status site) fails said new = Cleanly fails said (Shown (view_of w (w.nodes (site_number w site)))) new w
 Works told w other fails said new = ⊥
 

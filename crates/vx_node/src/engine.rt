@@ -5,7 +5,7 @@ use crate::units::raw_units;
 use std::alloc::Global;
 use vx_disk::Rack;
 use vx_model::{No, State, Stop};
-use vx_rvg::Rvg;
+use vx_rvg::{Rvg, StartRoom};
 
 /// The rack of a site number, by itself or under a replicated volume group.
 #[derive(Drop)]
@@ -13,16 +13,35 @@ pub enum Engine<R: Rack> {
     /// Its disks alone, if it has any yet.
     Bare(R),
     Up(Rvg<R>),
+    /// The disks of a raw set that crashed.
+    Down(R),
     /// It was taken out, and comes back within the same line.
     Gone,
+}
+
+// Gives up what the log no longer needs, where a write of so many blocks has no room. All that is logged is applied first.
+fn make_room<R: Rack>(rvg: &mut Rvg<R>, count: u64) -> Result<(), No>
+{
+    if rvg.free() > count {
+        return Ok(());
+    }
+    let applied = rvg.apply(rvg.head())?;
+    rvg.reclaim(applied)
+}
+
+// Writes whole blocks to a volume of a group that has no links.
+fn write_group<R: Rack>(rvg: &mut Rvg<R>, volume: u32, start: u64, bytes: &[u8]) -> Result<u64, No>
+{
+    make_room(rvg, bytes.len() as u64 / 512)?;
+    rvg.write(volume, start, bytes, 0)
 }
 
 impl<R: Rack> Engine<R> {
     ghost use Rattle.vx_model.specs.World.{Node};
     ghost use Rattle.vx_model.specs.Content.{blocks_in};
     ghost use Rattle.vx_node.specs.Stands.{StandsAt, IsUnused};
-    ghost use Rattle.vx_node.specs.Engines.{Later, FitIs, CanWrite, CanRead, WroteAt, ReadAt, MadeIs};
-    ghost use Rattle.vx_model.specs.declared.site.SiteState.TheVariants.{Bare as BareState, Up as UpState};
+    ghost use Rattle.vx_node.specs.Engines.{Later, FitIs, CanWrite, CanRead, CanApply, WroteAt, ReadAt, AppliedAt, MadeIs, CrashedAt, CameUpIs};
+    ghost use Rattle.vx_model.specs.declared.site.SiteState.TheVariants.{Bare as BareState, Up as UpState, Down as DownState};
 
     /// Makes the disks of a site that has none.
     pub fn fit(
@@ -80,12 +99,12 @@ impl<R: Rack> Engine<R> {
         match self {
             Engine::Up(rvg) => {
                 if volume < rvg.volumes() {
-                    rvg.write(volume, start, bytes, 0)
+                    write_group(rvg, volume, start, bytes)
                 } else {
                     Err(No::Role)
                 }
             }
-            Engine::Bare(_) | Engine::Gone => Err(No::Role),
+            Engine::Bare(_) | Engine::Down(_) | Engine::Gone => Err(No::Role),
         }
     }
 
@@ -107,7 +126,7 @@ impl<R: Rack> Engine<R> {
                     Err(No::Role)
                 }
             }
-            Engine::Bare(_) | Engine::Gone => Err(No::Role),
+            Engine::Bare(_) | Engine::Down(_) | Engine::Gone => Err(No::Role),
         }
     }
 
@@ -119,7 +138,70 @@ impl<R: Rack> Engine<R> {
         match self {
             Engine::Bare(rack) if disk < rack.units() as u64 => rack.fail(disk as u32, on),
             Engine::Up(rvg) if disk < rvg.shelf.units() as u64 => rvg.shelf.fail(disk as u32, on),
+            Engine::Down(rack) if disk < rack.units() as u64 => rack.fail(disk as u32, on),
             _ => {}
+        }
+    }
+
+    /// Crashes a site that is up: of the loose blocks each takes its latest value where its bit in `pick` is 1.
+    pub fn crash(self, pick: u64) -> Engine<R>
+        ensures crashed { (n : Node) → StandsAt n self → n.state ≡ UpState → CrashedAt n result }
+        ensures later { Later self result }
+    {
+        match self {
+            Engine::Up(rvg) => {
+                let mut rack = rvg.into_shelf();
+                rack.crash(pick);
+                Engine::Down(rack)
+            }
+            other => other,
+        }
+    }
+
+    /// Starts what stands on the disks of a site that crashed, with room taken before. Where it is refused, the disks crash again.
+    pub fn recover(self, room: StartRoom) -> (Engine<R>, Result<(), No>)
+        ensures recovered { (n : Node) → StandsAt n self → n.state ≡ DownState → room.ring ≡ n.ring → CameUpIs n self result.0 result.1 }
+        ensures later { Later self result.0 }
+    {
+        match self {
+            Engine::Down(rack) => {
+                let mut rack = rack;
+                let disks = rack.units();
+                if disks < 3 || disks > 8 || !rack.is_down() {
+                    return (Engine::Down(rack), Err(No::Role));
+                }
+                rack.revive();
+                match Rvg::start_in(room, rack, &raw_units(disks)) {
+                    Ok(rvg) => (Engine::Up(rvg), Ok(())),
+                    Err((rack, no)) => {
+                        let mut rack = rack;
+                        rack.crash(u64::MAX);
+                        (Engine::Down(rack), Err(no))
+                    }
+                }
+            }
+            other => (other, Err(No::Role)),
+        }
+    }
+
+    /// Brings the logged writes up to a number into their volumes. Answers the number up to which all are there now.
+    pub fn apply(&mut self, to: u64) -> Result<u64, No>
+        ensures applied { (n : Node) → StandsAt n self.old → CanApply n → AppliedAt n to self.old self.new result }
+        ensures later { Later self.old self.new }
+    {
+        match self {
+            Engine::Up(rvg) => rvg.apply(to),
+            Engine::Bare(_) | Engine::Down(_) | Engine::Gone => Err(No::Role),
+        }
+    }
+
+    /// The number of the last write of a site that is up.
+    pub fn last(&self) -> u64
+        ensures { (n : Node) → StandsAt n self.now → n.state ≡ UpState → result ≡ n.safe }
+    {
+        match self {
+            Engine::Up(rvg) => rvg.head(),
+            _ => 0,
         }
     }
 

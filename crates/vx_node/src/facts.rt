@@ -1,11 +1,11 @@
 // What the tests of a line look at, as it changes.
 ghost use Rattle.std.specs.Prelude.{◌≡◌, ◌≤◌, ◌<◌, IfOk, map};
 ghost use Rattle.vx_model.specs.Steps.{raw_volumes};
-ghost use Rattle.vx_node.specs.Changes.{bare_facts, raw_volume_fact, last_facts, halted_facts, raw_facts};
+ghost use Rattle.vx_node.specs.Changes.{bare_facts, raw_volume_fact, last_facts, halted_facts, raw_facts, down_facts, up_facts};
 ghost use Rattle.vx_node.specs.Facts.{volume_fact, place_of};
 
 use std::alloc::Global;
-use vx_model::{Line, Mark, Name, OutOfMemory, Role, SiteState};
+use vx_model::{Line, Mark, Name, OutOfMemory, Role, SiteState, State};
 use vx_order::{RvgFacts, SiteFacts, VolumeFacts, VolumeKind, VolumeTable, ring_blocks};
 
 /// A site of which nothing is made yet.
@@ -90,6 +90,32 @@ pub fn set_halted(facts: &mut SiteFacts, disk: u32)
             ..rvg
         });
     }
+}
+
+/// The site crashed.
+pub fn go_down(facts: &mut SiteFacts)
+    ensures { facts.new ≡ down_facts facts.old }
+{
+    facts.state = SiteState::Down;
+    facts.rvg = None;
+}
+
+/// The site came up with a log of this state, up to this number.
+pub fn come_up(facts: &mut SiteFacts, state: &State, last: u64)
+    requires { 8 ≤ facts.old.blocks }
+    ensures { facts.new ≡ up_facts state.now last facts.old }
+{
+    facts.state = SiteState::Up;
+    facts.rvg = Some(RvgFacts {
+        role: state.role,
+        line: state.line,
+        parent: state.parent,
+        mark: state.mark,
+        low: 1,
+        last,
+        ring: ring_blocks(facts.blocks),
+        halted: None,
+    });
 }
 
 /// The number of the volume of this name.

@@ -11,5 +11,7 @@ pub enum Said {
     /// Blocks that were read.
     Got(Blocks),
     Shown(SiteView),
+    /// The last number of the log that a site came up with, and how the site stands.
+    Recovered(u64, SiteView),
     Refused(No),
 }

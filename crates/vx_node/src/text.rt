@@ -2,11 +2,11 @@
 ghost use Rattle.std.specs.Prelude.{◌≡◌, ◌≤◌, ◌+◌, ◌*◌, ◌++◌, ◌∷◌, [], OnOk, codes, length};
 ghost use Rattle.std.specs.Fmt.{decimal};
 ghost use Rattle.vx_model.specs.Content.{block_of, blocks_in};
-ghost use Rattle.vx_node.specs.Replies.{text_of, blocks_text};
+ghost use Rattle.vx_node.specs.Replies.{text_of, blocks_text, recovered_text};
 
 use crate::Said;
 use vx_model::OutOfMemory;
-use vx_report::{push_block, push_number, push_refusal, push_status, push_text};
+use vx_report::{SiteView, push_block, push_number, push_refusal, push_status, push_text};
 
 /// Appends the lines of a reply.
 pub fn push_said(out: &mut Vec<u8>, said: &Said) -> Result<(), OutOfMemory>
@@ -17,6 +17,7 @@ pub fn push_said(out: &mut Vec<u8>, said: &Said) -> Result<(), OutOfMemory>
         Said::DoneAt(number) => push_done_at(out, *number),
         Said::Got(blocks) => push_blocks(out, blocks.as_bytes()),
         Said::Shown(view) => push_status(out, view),
+        Said::Recovered(last, view) => push_recovered(out, *last, view),
         Said::Refused(no) => push_refusal(out, no),
     }
 }
@@ -27,6 +28,16 @@ fn push_done_at(out: &mut Vec<u8>, number: u64) -> Result<(), OutOfMemory>
     push_text(out, b"done ")?;
     push_number(out, number)?;
     push_text(out, b"\n")
+}
+
+// The last number, and then the lines of the status.
+fn push_recovered(out: &mut Vec<u8>, last: u64, view: &SiteView) -> Result<(), OutOfMemory>
+    ensures { OnOk result (out.new.items ≡ out.old.items ++ recovered_text last view.now) }
+{
+    push_text(out, b"recovered ")?;
+    push_number(out, last)?;
+    push_text(out, b"\n")?;
+    push_status(out, view)
 }
 
 // A line for each whole block.

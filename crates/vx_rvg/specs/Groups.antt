@@ -1,6 +1,7 @@
 -- What the calls of a replicated volume group answer.
-use Rattle.std.specs.Prelude.{◌≡◌, ℕ, ◌+◌, Option, Some, None, Result, Ok, Err, List, ltb, leb, if◌then◌else◌, IsTrue}
+use Rattle.std.specs.Prelude.{◌≡◌, ◌⊎◌, ℕ, ◌+◌, ◌*◌, ◌/◌, ◌≤◌, ◌<◌, min, max, Option, Some, None, Result, Ok, Err, List, [], ◌∷◌, ◌++◌, length, drop, ltb, leb, if◌then◌else◌, MatchOption, IsTrue}
 use Rattle.vx_model.specs.Answer.{is_too_large}
+use Rattle.vx_model.specs.Content.{blocks_in, block_of}
 use Rattle.vx_model.specs.declared.no.No.{No}
 use Rattle.vx_model.specs.declared.no.No.TheVariants.{Halted, Size, Range, Limit, Device, Down}
 use Rattle.vx_model.specs.declared.no.Counted.TheVariants.{Number}
@@ -8,13 +9,17 @@ use Rattle.vx_model.specs.declared.errors.Stop.{Stop}
 use Rattle.vx_model.specs.declared.errors.Stop.TheVariants.{No as Refused, OutOfMemory}
 use Rattle.vx_model.specs.declared.state.State.{State}
 use Rattle.vx_model.specs.declared.units.Units.{Units}
-use Rattle.vx_model.specs.Steps.{ring_of}
 use Rattle.vx_disk.specs.Shelf.{Meaning}
+use Rattle.vx_overlay.specs.Pending.{Pending, newest}
+use Rattle.vx_overlay.specs.declared.entry.Entry.{Entry}
+use Rattle.vx_srl.specs.Calls.{sealed, staged_with}
 use Rattle.vx_srl.specs.Causes.{DeviceCause}
-use Rattle.vx_srl.specs.Views.{Log, most_number}
+use Rattle.vx_srl.specs.Headers.{new_header}
+use Rattle.vx_srl.specs.Views.{Log, most_number, head_of, kept_of}
 use Rattle.vx_srl.specs.declared.errors.SrlNo.{SrlNo}
 use Rattle.vx_srl.specs.declared.errors.SrlNo.TheVariants.{Other}
-use Rattle.vx_rvg.specs.Views.{Core}
+use Rattle.vx_overlay.specs.Writes.{entries_at}
+use Rattle.vx_rvg.specs.Views.{Core, last_of}
 
 -- a halted group answers 20 first
 abbrev pub unless_halted : Option ℕ → Option No → Option No
@@ -27,16 +32,22 @@ write_refusal c size start count =
     unless_halted c.halted
     (if is_too_large c.log.ring count then Some Size
     else if ltb size (start + count) then Some Range
-    else if leb most_number c.head then Some (Limit Number most_number)
+    else if leb most_number (last_of c) then Some (Limit Number most_number)
     else None)
 
--- the same of a read
+-- the same of a read, and of blocks that are stored without the log
 abbrev pub read_refusal : Core → ℕ → ℕ → ℕ → Option No
 read_refusal c size start count = unless_halted c.halted (if ltb size (start + count) then Some Range else None)
 
--- the group with one write more
-abbrev pub advanced : Core → Core
-advanced c = record c { log = record c.log { head = c.log.head + 1 }; head = c.head + 1 }
+-- the log with one write more, and the blocks that wait with its blocks behind them
+abbrev pub logged : Log → ℕ → ℕ → List ℕ → Log
+logged l vol start bytes = sealed (staged_with l (kept_of l vol start bytes))
+
+abbrev pub with_write : Core → ℕ → ℕ → List ℕ → Core
+with_write c vol start bytes = record c {
+  log = logged c.log vol start bytes;
+  pending = record c.pending { entries = c.pending.entries ++ entries_at vol start (blocks_in bytes) bytes };
+}
 
 -- a refusal of the log as one of the group
 abbrev pub no_of : SrlNo → No
@@ -48,38 +59,32 @@ abbrev pub halted_by : No → Core → Core
 halted_by (Device disk) c = record c { halted = Some disk }
 halted_by other c = c
 
--- the group after a write that a device call ended: nothing of it changed but its log, and that it may be halted
+-- a group after a call that a device call ended: it may be halted, and something may be staged in its log
 pub record Ended (c : Core) (halted : Option ℕ) (c' : Core) : Type 0 where
   pub units : c'.units ≡ c.units
-  pub head : c'.head ≡ c.head
   pub ring : c'.log.ring ≡ c.log.ring
-  pub session : c'.log.session ≡ c.log.session
-  pub state : c'.log.state ≡ c.log.state
+  pub header : c'.log.header ≡ c.log.header
+  pub held : c'.log.held ≡ c.log.held
+  pub pending : c'.pending ≡ c.pending
+  pub applied : c'.applied ≡ c.applied
   pub halted_is : c'.halted ≡ halted
 
--- the log after the device calls of a write: the next number, or what it was but for its records
-pub record LogStays (l l' : Log) : Type 0 where
-  pub unit : l'.unit ≡ l.unit
-  pub ring : l'.ring ≡ l.ring
-  pub session : l'.session ≡ l.session
-  pub state : l'.state ≡ l.state
+-- a device call failed: a 7 halts the group, and after a 6 the shelf is down
+abbrev pub Fails : Core → Meaning → Meaning → Core → No → Type 0
+Fails c old new c' (Device disk) = Ended c (Some disk) c' × DeviceCause old new (Device disk)
+Fails c old new c' Down = Ended c c.halted c' × DeviceCause old new Down
+Fails c old new c' other = ⊥
 
-abbrev pub Logs : Log → Meaning → Meaning → Log → Result (Unit {0}) No → Type 0
-Logs l old new l' (Ok done) = (l' ≡ record l { head = l.head + 1 }) × (IsTrue new.down → ⊥)
-Logs l old new l' (Err why) = LogStays l l' × DeviceCause old new why
+-- a write that is not refused: its number, or a device call failed
+abbrev pub Writes : Core → ℕ → ℕ → List ℕ → Meaning → Meaning → Core → Result ℕ No → Type 0
+Writes c vol start bytes old new c' (Ok number) = (number ≡ last_of c + 1) × (c' ≡ with_write c vol start bytes) × (IsTrue new.down → ⊥)
+Writes c vol start bytes old new c' (Err why) = Fails c old new c' why
 
--- a write that is not refused: its number, or the disk that failed, which halts the group, or that the shelf is down
-abbrev pub Writes : Core → Meaning → Meaning → Core → Result ℕ No → Type 0
-Writes c old new c' (Ok number) = (number ≡ c.head + 1) × (c' ≡ advanced c) × (IsTrue new.down → ⊥)
-Writes c old new c' (Err (Device disk)) = Ended c (Some disk) c' × DeviceCause old new (Device disk)
-Writes c old new c' (Err Down) = Ended c None c' × DeviceCause old new Down
-Writes c old new c' (Err other) = ⊥
+abbrev pub WriteIs : Option No → Core → ℕ → ℕ → List ℕ → Meaning → Meaning → Core → Result ℕ No → Type 0
+WriteIs (Some why) c vol start bytes old new c' result = (result ≡ Err why) × (c' ≡ c)
+WriteIs None c vol start bytes old new c' result = Writes c vol start bytes old new c' result
 
-abbrev pub WriteIs : Option No → Core → Meaning → Meaning → Core → Result ℕ No → Type 0
-WriteIs (Some why) c old new c' result = (result ≡ Err why) × (c' ≡ c)
-WriteIs None c old new c' result = Writes c old new c' result
-
--- a read that is not refused: the blocks, or the disk that failed, or that the shelf is down
+-- a read that is not refused: the blocks, or a device call failed
 abbrev pub Reads : Meaning → Meaning → Result (Unit {0}) No → Type 0
 Reads old new (Ok done) = IsTrue new.down → ⊥
 Reads old new (Err why) = DeviceCause old new why
@@ -88,12 +93,35 @@ abbrev pub ReadIs : Option No → Meaning → Meaning → Result (Unit {0}) No �
 ReadIs (Some why) old new result = result ≡ Err why
 ReadIs None old new result = Reads old new result
 
+-- the newest of the blocks that wait stands over what was read, block by block
+pub record IsPatched (entries : List Entry) (vol start : ℕ) (old new : List ℕ) : Type 0 where
+  pub size : length new ≡ length old
+  pub each : (k : ℕ) → k < blocks_in old → MatchOption (newest entries vol (start + k)) (block_of new k ≡ block_of old k) (λ bytes. block_of new k ≡ bytes)
+
+-- the number up to which an apply brings the writes into the volumes
+abbrev pub applied_to : Core → ℕ → ℕ
+applied_to c count = max c.applied (min count (last_of c))
+
+-- with the first n of the blocks that wait in their volumes, up to a number
+abbrev pub with_applied : Core → ℕ → ℕ → Core
+with_applied c to n = record c { pending = record c.pending { entries = drop n c.pending.entries }; applied = to }
+
+-- an apply that is not refused: the number, with so many blocks brought in; or a device call failed
+abbrev pub Applies : Core → ℕ → Meaning → Meaning → Core → Result ℕ No → Type 0
+Applies c count old new c' (Ok number) = (number ≡ applied_to c count) × ((n : ℕ) × (c' ≡ with_applied c number n))
+Applies c count old new c' (Err why) = Fails c old new c' why
+
+abbrev pub ApplyIs : Option No → Core → ℕ → Meaning → Meaning → Core → Result ℕ No → Type 0
+ApplyIs (Some why) c count old new c' result = (result ≡ Err why) × (c' ≡ c)
+ApplyIs None c count old new c' result = Applies c count old new c' result
+
 -- a group with nothing logged
 abbrev pub new_core : Units → State → ℕ → Core
 new_core units state ring = record {
   units = units;
-  log = record { unit = units.srl; ring = ring; head = 0; session = 1; staged = None; state = state };
-  head = 0;
+  log = record { unit = units.srl; ring = ring; header = new_header state 0; held = []; staged = [] };
+  pending = record { capacity = ring; entries = [] };
+  applied = 0;
   halted = None;
 }
 

@@ -1,3 +1,7 @@
+pub mod Contents
 pub mod Groups
+pub mod Logging
+pub mod Saves
+pub mod Stands
+pub mod Starts
 pub mod Views
-pub mod Volumes

@@ -1,17 +1,20 @@
 // The making of a group.
-ghost use Rattle.std.specs.Prelude.{◌≡◌, ◌<◌, ◌≤◌, Err, IfOk, IfErr, IsTrue};
+ghost use Rattle.std.specs.Prelude.{◌≡◌, ◌+◌, ◌<◌, ◌≤◌, Err, IfOk, IfErr, IsTrue};
 ghost use Rattle.vx_disk.specs.Moves.{Moves, Run, Anything};
+ghost use Rattle.vx_model.specs.Content.{Content};
 ghost use Rattle.vx_model.specs.Steps.{ring_of};
 ghost use Rattle.vx_model.specs.declared.errors.Stop.TheVariants.{No as Refused};
 ghost use Rattle.vx_model.specs.declared.no.No.TheVariants.{Size};
 ghost use Rattle.vx_rvg.specs.Groups.{new_core, MakeCause};
+ghost use Rattle.vx_rvg.specs.Stands.{Holds, Stands};
 ghost use Rattle.vx_rvg.specs.Views.{Placed};
-ghost use Rattle.vx_srl.specs.Logs.{IsBlank};
+ghost use Rattle.vx_srlfmt.specs.Headers.{CanSpellState};
 
 use crate::{Rvg, RvgCore};
 use std::alloc::Global;
 use vx_disk::Shelf;
 use vx_model::{State, Stop, Units};
+use vx_overlay::Overlay;
 use vx_srl::Srl;
 
 impl<S: Shelf> Rvg<S> {
@@ -26,22 +29,29 @@ impl<S: Shelf> Rvg<S> {
         state: &State,
     ) -> Result<Rvg<S>, (S, Stop)>
         requires placed { Placed units.now (S.meaning shelf) }
+        requires state { CanSpellState state.now }
         ensures small { (S.meaning shelf).size units.now.srl < 8 → result ≡ Err (shelf, Refused Size) }
         ensures core { IfOk result (λ g. g.core ≡ new_core units.now state.now (ring_of ((S.meaning shelf).size units.now.srl))) }
-        ensures blank { IfOk result (λ g. IsBlank g.core.log (S.meaning g.shelf)) }
+        ensures stands { IfOk result (λ g. IsTrue (S.meaning shelf).tells → (c : Content) → Holds units.now.vols c (S.meaning shelf) → Stands g.core c (S.meaning g.shelf)) }
         ensures up { IfOk result (λ g. IsTrue (S.meaning g.shelf).down → ⊥) }
-        ensures moves { IfOk result (λ g. Moves (Run units.now.srl 0 ((S.meaning shelf).size units.now.srl)) Anything (S.meaning shelf) (S.meaning g.shelf)) }
+        ensures moves { IfOk result (λ g. Moves (Run units.now.srl 0 (ring_of ((S.meaning shelf).size units.now.srl) + 2)) Anything (S.meaning shelf) (S.meaning g.shelf)) }
         ensures cause { 8 ≤ (S.meaning shelf).size units.now.srl → IfErr result (λ e. MakeCause (S.meaning shelf) (S.meaning e.0) e.1) }
-        ensures left { IfErr result (λ e. Moves (Run units.now.srl 0 ((S.meaning shelf).size units.now.srl)) Anything (S.meaning shelf) (S.meaning e.0)) }
+        ensures left { IfErr result (λ e. Moves (Run units.now.srl 0 (ring_of ((S.meaning shelf).size units.now.srl) + 2)) Anything (S.meaning shelf) (S.meaning e.0)) }
     {
         let mut shelf = shelf;
+        let room = shelf.size(units.srl).min(65536).saturating_sub(2);
+        let pending = match Overlay::new(alloc, room) {
+            Ok(pending) => pending,
+            Err(_) => return Err((shelf, Stop::OutOfMemory)),
+        };
         match Srl::create(alloc, &mut shelf, units.srl, state, 0) {
             Ok(srl) => Ok(Rvg {
                 shelf,
                 core: RvgCore {
                     units: units.copy(),
                     srl,
-                    head: 0,
+                    pending,
+                    applied: 0,
                     halted: None,
                 },
             }),

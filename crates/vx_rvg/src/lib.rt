@@ -1,8 +1,17 @@
 //! A replicated volume group: data volumes whose writes go to a log first.
+//!
+//! A write is durable once it is in the log. Its blocks wait in memory until `apply` brings them to their volumes; `read` looks at
+//! what waits first. Memory is taken by `create` and `start` alone.
 #![tactic(auto)]
 
-mod commit;
+mod apply;
 mod create;
 mod group;
+mod header;
+mod patch;
+mod rvg_core;
+mod start;
+mod write;
 
-pub use group::{Rvg, RvgCore};
+pub use group::Rvg;
+pub use rvg_core::RvgCore;

@@ -1,5 +1,5 @@
 -- Why a call on a log or on the volumes below it is refused.
-use Rattle.std.specs.Prelude.{◌≡◌, ℕ, IsTrue}
+use Rattle.std.specs.Prelude.{◌≡◌, ℕ, IsTrue, Result, Ok, Err}
 use Rattle.vx_disk.specs.declared.shelf.ShelfError.{ShelfError}
 use Rattle.vx_disk.specs.declared.shelf.ShelfError.TheVariants.{Fault, Down as IsDown}
 use Rattle.vx_disk.specs.Counts.{Rose}
@@ -16,3 +16,8 @@ abbrev pub DeviceCause : Meaning → Meaning → No → Type 0
 DeviceCause old new (Device disk) = Rose (old.disk_faults disk) (new.disk_faults disk)
 DeviceCause old new Down = IsTrue new.down
 DeviceCause old new other = ⊥
+
+-- a call on the shelf, or several, or none: it stays up, or one of them failed
+abbrev pub Stopped : {T : Type 0} → Meaning → Meaning → Result T ShelfError → Type 0
+Stopped old new (Ok x) = (IsTrue old.down → ⊥) → IsTrue new.down → ⊥
+Stopped old new (Err error) = DeviceCause old new (refusal_of error)

@@ -1,4 +1,10 @@
+pub mod Calls
 pub mod Causes
-pub mod Logs
-pub mod Records
+pub mod Fronts
+pub mod Headers
+pub mod Kepts
+pub mod Rings
+pub mod Scans
+pub mod Standings
+pub mod Starts
 pub mod Views

@@ -1,65 +1,79 @@
 // The making of a log.
-ghost use Rattle.std.specs.Prelude.{◌≡◌, ◌+◌, ◌*◌, ◌<◌, ◌≤◌, min, Err, OnOk};
+ghost use Rattle.std.specs.Prelude.{◌≡◌, ◌⊎◌, ◌+◌, ◌<◌, ◌≤◌, ◌%◌, ℕ, true, Err, OnOk, IfOk};
 ghost use Rattle.vx_disk.specs.Moves.{Moves, Run, Anything};
+ghost use Rattle.vx_model.specs.Steps.{ring_of};
 ghost use Rattle.vx_model.specs.declared.errors.Stop.TheVariants.{No as Refused};
-ghost use Rattle.vx_model.specs.declared.no.No.TheVariants.{Size};
-ghost use Rattle.vx_srl.specs.Logs.{Makes, ReadsZero, ShelfCause};
+ghost use Rattle.vx_model.specs.declared.no.No.TheVariants.{Size, Limit};
+ghost use Rattle.vx_model.specs.declared.no.Counted.TheVariants.{Number};
+ghost use Rattle.vx_ringio.specs.Classes.{is_of_ring};
+ghost use Rattle.vx_ringio.specs.Tracks.{Lies};
+ghost use Rattle.vx_srl.specs.Causes.{Stopped};
+ghost use Rattle.vx_srl.specs.Headers.{new_header};
+ghost use Rattle.vx_srl.specs.Starts.{Makes, HasNewHeaders};
 ghost use Rattle.vx_srl.specs.Views.{most_number};
+ghost use Rattle.vx_srlfmt.specs.Headers.{CanSpell, CanSpellState};
 
+use crate::log::MOST;
 use crate::{Srl, refusal};
 use std::alloc::Global;
+use std::collections::VecDeque;
 use vx_disk::{Shelf, ShelfError};
-use vx_model::{No, State, Stop};
+use vx_model::{Counted, No, State, Stop};
+use vx_ringio::{blank_ring, write_header};
+use vx_srlfmt::Header;
 
-fn blank_some<S: Shelf>(shelf: &mut S, unit: u32, first: u64, count: u64) -> Result<(), ShelfError>
-    requires exists { unit < (S.meaning shelf.old).units }
-    requires some { 0 < count }
-    requires few { count ≤ 16 }
-    requires within { first + count ≤ (S.meaning shelf.old).size unit }
-    ensures moves { Moves (Run unit first count) Anything (S.meaning shelf.old) (S.meaning shelf.new) }
-    ensures ok { OnOk result (ReadsZero unit first (S.meaning shelf.old) → ReadsZero unit (first + count) (S.meaning shelf.new)) }
-    ensures cause { ShelfCause (S.meaning shelf.old) (S.meaning shelf.new) result }
+// The header of a new log, with this stamp.
+fn new_header(state: &State, head: u64, stamp: u64) -> Header
+    requires number { head < most_number }
+    requires state { CanSpellState state.now }
+    requires stamp { stamp ≤ 2 }
+    ensures is { result ≡ record (new_header state.now head) { stamp = stamp } }
+    ensures spell { CanSpell result }
+    ensures of_ring { (ring : ℕ) → 0 < ring → is_of_ring ring result ≡ true }
 {
-    let zeros = [0; 8192];
-    shelf.write(unit, first, &zeros[..512 * count as usize])
-}
-
-// The blocks of one chunk of 16, or those of the last one.
-fn blank_chunk<S: Shelf>(shelf: &mut S, unit: u32, used: u64, chunk: u64) -> Result<(), ShelfError>
-    requires exists { unit < (S.meaning shelf.old).units }
-    requires few { used ≤ 65536 }
-    requires within { used ≤ (S.meaning shelf.old).size unit }
-    requires chunk { 16 * chunk < used }
-    ensures moves { Moves (Run unit 0 used) Anything (S.meaning shelf.old) (S.meaning shelf.new) }
-    ensures ok { OnOk result (ReadsZero unit (16 * chunk) (S.meaning shelf.old) → ReadsZero unit (min (16 * (chunk + 1)) used) (S.meaning shelf.new)) }
-    ensures cause { ShelfCause (S.meaning shelf.old) (S.meaning shelf.new) result }
-{
-    let first = 16 * chunk;
-    let count = (used - first).min(16);
-    blank_some(shelf, unit, first, count)
-}
-
-fn blank<S: Shelf>(shelf: &mut S, unit: u32, used: u64) -> Result<(), ShelfError>
-    requires exists { unit < (S.meaning shelf.old).units }
-    requires few { used ≤ 65536 }
-    requires within { used ≤ (S.meaning shelf.old).size unit }
-    ensures moves { Moves (Run unit 0 used) Anything (S.meaning shelf.old) (S.meaning shelf.new) }
-    ensures ok { OnOk result (ReadsZero unit used (S.meaning shelf.new)) }
-    ensures cause { ShelfCause (S.meaning shelf.old) (S.meaning shelf.new) result }
-{
-    for chunk in 0..used.div_ceil(16) {
-        blank_chunk(shelf, unit, used, chunk)?;
+    Header {
+        stamp,
+        state: state.copy(),
+        incarnation: 1,
+        floor: 0,
+        run: 1,
+        low: head + 1,
+        place: 0,
+        applied: head,
     }
-    Ok(())
+}
+
+// Zeros, and over them both headers.
+fn write_new<S: Shelf>(
+    shelf: &mut S,
+    unit: u32,
+    ring: u64,
+    first: &Header,
+    second: &Header,
+) -> Result<(), ShelfError>
+    requires lies { Lies unit ring (S.meaning shelf.old) }
+    requires some { 0 < ring }
+    requires few { ring ≤ 65534 }
+    requires spell { CanSpell first.now }
+    requires spell_second { CanSpell second.now }
+    requires of_ring { is_of_ring ring first.now ≡ true }
+    requires second_of_ring { is_of_ring ring second.now ≡ true }
+    ensures moves { Moves (Run unit 0 (ring + 2)) Anything (S.meaning shelf.old) (S.meaning shelf.new) }
+    ensures written { OnOk result (HasNewHeaders unit ring first.now second.now (S.meaning shelf.old) (S.meaning shelf.new)) }
+    ensures cause { Stopped (S.meaning shelf.old) (S.meaning shelf.new) result }
+{
+    blank_ring(shelf, unit, ring)?;
+    write_header(shelf, unit, ring, second)?;
+    write_header(shelf, unit, ring, first)
 }
 
 impl Srl {
     /// Makes an empty log in a unit of at least 8 blocks, of which at most 65,536 are used: two for headers, and the others as a
     /// ring, which is written with zeros first. `head` is the number before its first record.
     ///
-    /// Answers 4 exactly where the unit is smaller, else 7, 6, or want of memory.
+    /// Answers 4 exactly where the unit is smaller, then 19 exactly where no number is left, else 7, 6, or want of memory.
     pub fn create<S: Shelf>(
-        _alloc: Global,
+        alloc: Global,
         shelf: &mut S,
         unit: u32,
         state: &State,
@@ -67,22 +81,31 @@ impl Srl {
     ) -> Result<Srl, Stop>
         requires exists { unit < (S.meaning shelf.old).units }
         requires number { head ≤ most_number }
+        requires state { CanSpellState state.now }
         ensures small { (S.meaning shelf.old).size unit < 8 → result ≡ Err (Refused Size) }
-        ensures unchanged { (S.meaning shelf.old).size unit < 8 → shelf.new ≡ shelf.old }
-        ensures makes { 8 ≤ (S.meaning shelf.old).size unit → Makes unit head state.now (S.meaning shelf.old) (S.meaning shelf.new) result }
-        ensures moves { Moves (Run unit 0 ((S.meaning shelf.old).size unit)) Anything (S.meaning shelf.old) (S.meaning shelf.new) }
+        ensures limit { 8 ≤ (S.meaning shelf.old).size unit → most_number ≤ head → result ≡ Err (Refused (Limit Number most_number)) }
+        ensures unchanged { ((S.meaning shelf.old).size unit < 8) ⊎ (most_number ≤ head) → shelf.new ≡ shelf.old }
+        ensures makes { 8 ≤ (S.meaning shelf.old).size unit → head < most_number
+            → Makes unit (ring_of ((S.meaning shelf.old).size unit)) head state.now (S.meaning shelf.old) (S.meaning shelf.new) result }
+        ensures moves { Moves (Run unit 0 (ring_of ((S.meaning shelf.old).size unit) + 2)) Anything (S.meaning shelf.old) (S.meaning shelf.new) }
     {
         let size = shelf.size(unit);
         if size < 8 {
             return Err(Stop::No(No::Size));
         }
-        let used = size.min(65536);
-        if let Err(error) = blank(shelf, unit, used) {
+        if head >= MOST {
+            return Err(Stop::No(No::Limit {
+                what: Counted::Number,
+                most: MOST,
+            }));
+        }
+        let ring = size.min(65536) - 2;
+        let records = VecDeque::with_capacity(alloc, (ring as usize).div_ceil(2))?;
+        let second = new_header(state, head, 1);
+        let first = new_header(state, head, 2);
+        if let Err(error) = write_new(shelf, unit, ring, &first, &second) {
             return Err(Stop::No(refusal(error)));
         }
-        if let Err(error) = shelf.flush(unit) {
-            return Err(Stop::No(refusal(error)));
-        }
-        Ok(Srl::made(unit, used - 2, head, state.copy()))
+        Ok(Srl::made(unit, ring, first, records, 0, 0))
     }
 }

@@ -1,0 +1,84 @@
+// The bringing of logged writes into their volumes.
+ghost use Rattle.std.specs.Prelude.{◌≡◌, ◌+◌, ◌<◌, ◌≤◌, length, Some, None, IsTrue, IsFalse, OnOk, IsSome};
+ghost use Rattle.vx_disk.specs.Moves.{Moves};
+ghost use Rattle.vx_model.specs.Content.{Content};
+ghost use Rattle.vx_rvg.specs.Groups.{unless_halted, ApplyIs};
+ghost use Rattle.vx_rvg.specs.Stands.{Stands, Resting, Rests};
+ghost use Rattle.vx_rvg.specs.Views.{IsSound, Waits};
+
+use crate::patch::patch;
+use crate::{Rvg, RvgCore};
+use vx_disk::{Shelf, ShelfError};
+use vx_model::No;
+use vx_srl::refusal;
+
+// Writes the newest blocks of the places of one record, and answers how many; none where it does not end within its volume.
+fn bring_one<S: Shelf>(shelf: &mut S, core: &RvgCore, n: u64) -> Result<u64, ShelfError> {
+    let head = core.srl.front(n);
+    if head.vol >= core.volumes() {
+        return Ok(0);
+    }
+    let unit = core.unit(head.vol);
+    let size = shelf.size(unit);
+    let count = head.count as u64;
+    if size < count || size - count < head.block {
+        return Ok(0);
+    }
+    let mut room = [0; 8192];
+    let bytes = &mut room[..512 * head.count as usize];
+    patch(&core.pending, head.vol, head.block, bytes);
+    shelf.write(unit, head.block, bytes)?;
+    Ok(count)
+}
+
+// Makes each data volume durable.
+fn flush_volumes<S: Shelf>(shelf: &mut S, core: &RvgCore) -> Result<(), ShelfError> {
+    for vol in 0..core.volumes() {
+        shelf.flush(core.unit(vol))?;
+    }
+    Ok(())
+}
+
+// Brings the records up to a number into their volumes, durably, and answers how many blocks they are.
+fn bring<S: Shelf>(shelf: &mut S, core: &RvgCore, to: u64) -> Result<u64, ShelfError> {
+    let mut count = 0;
+    for n in core.applied + 1..to + 1 {
+        count += bring_one(shelf, core, n)?;
+    }
+    flush_volumes(shelf, core)?;
+    Ok(count)
+}
+
+impl<S: Shelf> Rvg<S> {
+    /// Brings the logged writes up to a number into their volumes, durably. Answers the number up to which all are there now.
+    ///
+    /// It changes neither the content nor the log. Refusals: 20 where a call answered 7 before, which changes nothing; 7 where a device
+    /// call failed: then the group is halted. 6 where the shelf is down.
+    pub fn apply(&mut self, count: u64) -> Result<u64, No>
+        ensures answers { ApplyIs (unless_halted self.old.core.halted None) self.old.core count (S.meaning self.old.shelf) (S.meaning self.new.shelf) self.new.core result }
+        ensures unchanged { IsSome (unless_halted self.old.core.halted None) → self.new.shelf ≡ self.old.shelf }
+        ensures nothing { count ≤ self.old.core.applied → self.new.shelf ≡ self.old.shelf }
+        ensures stands { OnOk result (Rests self.old.core self.new.core (S.meaning self.old.shelf) (S.meaning self.new.shelf)) }
+        ensures moves { Moves (Waits self.old.core (S.meaning self.old.shelf)) (Resting self.old.core (S.meaning self.old.shelf)) (S.meaning self.old.shelf) (S.meaning self.new.shelf) }
+    {
+        if let Some(disk) = self.core.halted {
+            return Err(No::Halted { disk });
+        }
+        let to = count.min(self.core.srl.head());
+        if to <= self.core.applied {
+            return Ok(self.core.applied);
+        }
+        match bring(&mut self.shelf, &self.core, to) {
+            Ok(blocks) => {
+                self.core.pending.drop_oldest(blocks);
+                self.core.applied = to;
+                Ok(to)
+            }
+            Err(error) => {
+                let no = refusal(error);
+                self.core.halt(&no);
+                Err(no)
+            }
+        }
+    }
+}

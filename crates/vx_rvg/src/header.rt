@@ -1,0 +1,87 @@
+// The calls that write a header of the log, and the reading of a logged write.
+ghost use Rattle.std.specs.Prelude.{◌≡◌, ◌+◌, ◌<◌, ◌≤◌, ℕ, Some, None, Ok, Err, OnOk, OnErr, IfErr, IsSome};
+ghost use Rattle.vx_disk.specs.Moves.{Moves, Run};
+ghost use Rattle.vx_disk.specs.Shelf.{Goes, Nothing};
+ghost use Rattle.vx_model.specs.Content.{Content};
+ghost use Rattle.vx_model.specs.declared.no.No.TheVariants.{Halted};
+ghost use Rattle.vx_rvg.specs.Saves.{reclaim_refusal, reclaimed, change_refusal, with_new_state, SaveIs};
+ghost use Rattle.vx_rvg.specs.Stands.{Stands, Saving, Rests};
+ghost use Rattle.vx_rvg.specs.Views.{last_of};
+ghost use Rattle.vx_srl.specs.Calls.{Fetches, FetchCause};
+ghost use Rattle.vx_srlfmt.specs.Headers.{CanSpellState};
+
+use crate::Rvg;
+use crate::write::refused;
+use vx_disk::Shelf;
+use vx_model::{No, State, Update};
+use vx_srl::SrlNo;
+
+impl<S: Shelf> Rvg<S> {
+    /// Gives up the records up to a number that is applied, durably, and their blocks are free from then on.
+    ///
+    /// Refusals: 20 where a call answered 7 before, 19 exactly where no stamp or number is left; these change nothing. 7 where a device
+    /// call failed: then the group is halted. 6 where the shelf is down.
+    pub fn reclaim(&mut self, to: u64) -> Result<(), No>
+        requires applied { to ≤ self.old.core.applied }
+        ensures answers { SaveIs (reclaim_refusal self.old.core to) self.old.core (reclaimed self.old.core to) (S.meaning self.old.shelf) (S.meaning self.new.shelf) self.new.core result }
+        ensures unchanged { IsSome (reclaim_refusal self.old.core to) → self.new.shelf ≡ self.old.shelf }
+        ensures nothing { to < self.old.core.log.header.low → self.new.shelf ≡ self.old.shelf }
+        ensures stands { OnOk result (Rests self.old.core self.new.core (S.meaning self.old.shelf) (S.meaning self.new.shelf)) }
+        ensures moves { Moves (Run self.old.core.units.srl 0 (self.old.core.log.ring + 2))
+            (Saving self.old.core (reclaimed self.old.core to) (S.meaning self.old.shelf)) (S.meaning self.old.shelf) (S.meaning self.new.shelf) }
+    {
+        if let Some(disk) = self.core.halted {
+            return Err(No::Halted { disk });
+        }
+        if let Err(why) = self.core.srl.reclaim(&mut self.shelf, to) {
+            let no = refused(why);
+            self.core.halt(&no);
+            return Err(no);
+        }
+        Ok(())
+    }
+
+    /// Makes a state durable that stands on the log's line.
+    ///
+    /// Refusals: 20 where a call answered 7 before, 19 exactly where no stamp is left; these change nothing. 7 where a device call
+    /// failed: then the group is halted. 6 where the shelf is down.
+    pub fn set_state(&mut self, state: &State) -> Result<(), No>
+        requires state { CanSpellState state.now }
+        requires line { state.now.line ≡ self.old.core.log.header.state.line }
+        ensures answers { SaveIs (change_refusal self.old.core) self.old.core (with_new_state self.old.core state.now) (S.meaning self.old.shelf) (S.meaning self.new.shelf) self.new.core result }
+        ensures unchanged { IsSome (change_refusal self.old.core) → self.new.shelf ≡ self.old.shelf }
+        ensures stands { OnOk result (Rests self.old.core self.new.core (S.meaning self.old.shelf) (S.meaning self.new.shelf)) }
+        ensures moves { Moves (Run self.old.core.units.srl 0 (self.old.core.log.ring + 2))
+            (Saving self.old.core (with_new_state self.old.core state.now) (S.meaning self.old.shelf)) (S.meaning self.old.shelf) (S.meaning self.new.shelf) }
+    {
+        if let Some(disk) = self.core.halted {
+            return Err(No::Halted { disk });
+        }
+        if let Err(why) = self.core.srl.set_state(&mut self.shelf, state) {
+            let no = refused(why);
+            self.core.halt(&no);
+            return Err(no);
+        }
+        Ok(())
+    }
+
+    /// The write under a number up to the head. It changes nothing.
+    ///
+    /// Refusals: 20 where a call answered 7 before; `Overrun` exactly where the log no longer holds the number; 7, 6, and 22 only where
+    /// the digest of the record and the one computed of its blocks differ.
+    pub fn fetch(&mut self, n: u64, into: &mut Update) -> Result<(), SrlNo>
+        requires held { n ≤ last_of self.old.core }
+        ensures halted { (disk : ℕ) → self.old.core.halted ≡ Some disk → (result ≡ Err (SrlNo.Other (Halted disk))) × (self.new.shelf ≡ self.old.shelf) }
+        ensures overrun { self.old.core.halted ≡ None → n < self.old.core.log.header.low → (result ≡ Err (SrlNo.Overrun self.old.core.log.header.low)) × (self.new.shelf ≡ self.old.shelf) }
+        ensures gives { OnOk result (Fetches self.old.core.log n (S.meaning self.old.shelf) into.new) }
+        ensures cause { self.old.core.halted ≡ None → self.old.core.log.header.low ≤ n → IfErr result (λ why. FetchCause self.old.core.log (S.meaning self.old.shelf) (S.meaning self.new.shelf) why) }
+        ensures unchanged { OnErr result (into.new ≡ into.old) }
+        ensures core { self.new.core ≡ self.old.core }
+        ensures goes { Goes Nothing (S.meaning self.old.shelf) (S.meaning self.new.shelf) }
+    {
+        if let Some(disk) = self.core.halted {
+            return Err(SrlNo::Other(No::Halted { disk }));
+        }
+        self.core.srl.fetch(&mut self.shelf, n, into)
+    }
+}

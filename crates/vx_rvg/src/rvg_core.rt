@@ -1,0 +1,92 @@
+// What a group is beside its shelf.
+ghost use Rattle.std.specs.Prelude.{◌≡◌, ◌+◌, ◌<◌, ◌≤◌, length};
+ghost use Rattle.vx_rvg.specs.Groups.{write_refusal, read_refusal, halted_by};
+ghost use Rattle.vx_rvg.specs.Views.{unit_of};
+
+use std::marker::Model;
+use vx_model::{Counted, No, Units};
+use vx_overlay::Overlay;
+use vx_srl::Srl;
+
+const MOST: u64 = 0x7fff_ffff_ffff_ffff;
+
+/// What a group is beside its shelf.
+#[derive(Drop)]
+pub struct RvgCore {
+    pub(crate) units: Units,
+    pub(crate) srl: Srl,
+    pub(crate) pending: Overlay,
+    pub(crate) applied: u64,
+    pub(crate) halted: Option<u32>,
+}
+
+impl Model for RvgCore {
+    ghost use Rattle.vx_rvg.specs.Views.{Core};
+
+    ghost Value = { Core };
+
+    ghost view = { λ c. record { units = c.units; log = c.srl; pending = c.pending; applied = c.applied; halted = c.halted } };
+}
+
+impl RvgCore {
+    /// The unit of a data volume.
+    pub(crate) fn unit(&self, vol: u32) -> u32
+        requires { vol < length self.now.units.vols }
+        ensures { result ≡ unit_of self.now.units.vols vol }
+    {
+        self.units.vols.as_slice()[vol as usize]
+    }
+
+    /// How many data volumes there are.
+    pub(crate) fn volumes(&self) -> u32
+        ensures { result ≡ length self.now.units.vols }
+    {
+        self.units.vols.as_slice().len() as u32
+    }
+
+    /// Why a write of so many blocks to a volume of `size` blocks is refused before it begins.
+    pub(crate) fn write_refusal(&self, size: u64, start: u64, count: u64) -> Option<No>
+        requires { count ≤ 16 }
+        ensures { result ≡ write_refusal self.now size start count }
+    {
+        if let Some(disk) = self.halted {
+            return Some(No::Halted { disk });
+        }
+        if self.srl.ring() < count + 1 {
+            return Some(No::Size);
+        }
+        if size < count || size - count < start {
+            return Some(No::Range);
+        }
+        if self.srl.head() >= MOST {
+            return Some(No::Limit {
+                what: Counted::Number,
+                most: MOST,
+            });
+        }
+        None
+    }
+
+    /// The same of a read.
+    pub(crate) fn read_refusal(&self, size: u64, start: u64, count: u64) -> Option<No>
+        requires { count ≤ 64 }
+        ensures { result ≡ read_refusal self.now size start count }
+    {
+        if let Some(disk) = self.halted {
+            return Some(No::Halted { disk });
+        }
+        if size < count || size - count < start {
+            return Some(No::Range);
+        }
+        None
+    }
+
+    /// After a refusal of a device call: the disk of a 7 halts the group.
+    pub(crate) fn halt(&mut self, no: &No)
+        ensures { self.new ≡ halted_by no.now self.old }
+    {
+        if let No::Device { disk } = no {
+            self.halted = Some(*disk);
+        }
+    }
+}

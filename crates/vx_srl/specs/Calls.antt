@@ -1,0 +1,84 @@
+-- What the calls of a log do.
+use Rattle.std.specs.Prelude.{◌≡◌, ◌⊎◌, ℕ, ◌+◌, ◌-◌, ◌≤◌, ◌<◌, Option, Some, Result, Ok, Err, List, [], ◌∷◌, ◌++◌, take, drop, slice_get, IsTrue}
+use Rattle.vx_model.specs.declared.call.Update.{Update}
+use Rattle.vx_model.specs.declared.no.No.{No}
+use Rattle.vx_model.specs.declared.no.No.TheVariants.{Damaged, Limit}
+use Rattle.vx_model.specs.declared.no.Counted.TheVariants.{Number}
+use Rattle.vx_model.specs.declared.state.State.{State as SiteState}
+use Rattle.vx_srlfmt.specs.declared.header.Header.{Header}
+use Rattle.vx_disk.specs.Shelf.{Meaning}
+use Rattle.vx_ringlog.specs.Logs.{State, Call, Stage, Seal, Save, Restart}
+use Rattle.vx_ringlog.specs.Records.{Record, given}
+use Rattle.vx_srl.specs.Causes.{DeviceCause}
+use Rattle.vx_srl.specs.Rings.{RingOn}
+use Rattle.vx_srl.specs.Views.{Log, head_of, next_of, most_number}
+use Rattle.vx_srl.specs.declared.errors.SrlNo.{SrlNo}
+use Rattle.vx_srl.specs.declared.errors.SrlNo.TheVariants.{NoRoom, Overrun, Other}
+use Rattle.vx_srl.specs.declared.kept.Kept.{Kept}
+
+-- the calls, of whatever log stands on the shelf
+abbrev pub staging : Record → State → Call
+staging r s = Stage r
+
+abbrev pub sealing : State → Call
+sealing s = Seal
+
+-- a header that keeps all but the first n records
+abbrev pub saving : Header → ℕ → State → Call
+saving g n s = Save g (take n s.held) (drop n s.held)
+
+abbrev pub restarting : Header → State → Call
+restarting g s = Restart g
+
+-- a device call failed; nothing else refuses a call that writes the log once it has begun
+abbrev pub LogCause : Meaning → Meaning → SrlNo → Type 0
+LogCause old new (Other why) = DeviceCause old new why
+LogCause old new other = ⊥
+
+-- a number would go past its limit
+abbrev pub no_number : SrlNo
+no_number = Other (Limit Number most_number)
+
+-- with one more record staged
+abbrev pub staged_with : Log → Kept → Log
+staged_with l k = record l { staged = l.staged ++ k ∷ [] }
+
+-- the record was staged under the next number, or a device call failed
+abbrev pub Stages : Log → Kept → Meaning → Meaning → Log → Result ℕ SrlNo → Type 0
+Stages l k old new l' (Ok number) = (number ≡ next_of l) × (l' ≡ staged_with l k) × (IsTrue new.down → ⊥)
+Stages l k old new l' (Err why) = (l' ≡ l) × LogCause old new why
+
+-- with all that is staged as part of the log
+abbrev pub sealed : Log → Log
+sealed l = record l { held = l.held ++ l.staged; staged = [] }
+
+abbrev pub Seals : Log → Meaning → Meaning → Log → Result ℕ SrlNo → Type 0
+Seals l old new l' (Ok number) = (number ≡ head_of (sealed l)) × (l' ≡ sealed l) × (IsTrue new.down → ⊥)
+Seals l old new l' (Err why) = (l' ≡ l) × LogCause old new why
+
+-- with a new header, and without the first n records
+abbrev pub saved : Log → Header → ℕ → Log
+saved l g n = record l { header = g; held = drop n l.held }
+
+abbrev pub restarted : Log → Header → Log
+restarted l g = record l { header = g; held = []; staged = [] }
+
+-- the header was written, or a device call failed
+abbrev pub Saves : Log → Log → Meaning → Meaning → Log → Result (Unit {0}) SrlNo → Type 0
+Saves l after old new l' (Ok done) = (l' ≡ after) × (IsTrue new.down → ⊥)
+Saves l after old new l' (Err why) = (l' ≡ l) × LogCause old new why
+
+-- an update that has this record
+abbrev pub update_of : Record → Update
+update_of r = record { line = r.head.line; number = r.head.number; vol = r.head.vol; block = r.head.block; bytes = given r }
+
+-- what a fetch of number n gives, of whatever log stands on the shelf: its record
+pub record Fetches (l : Log) (n : ℕ) (m : Meaning) (update : Update) : Type 0 where
+  pub each : (s : State) → RingOn l s m → IsTrue m.tells → (r : Record) × (slice_get s.held (n - l.header.low) ≡ Some r) × (update ≡ update_of r)
+
+-- why a fetch of a number that is held is refused: a device call failed, or the digests of its body differ, which a log that stands there does not give
+abbrev pub FetchCause : Log → Meaning → Meaning → SrlNo → Type 0
+FetchCause l old new (Other (Damaged unit block stored computed)) =
+    (unit ≡ l.unit) × (stored ≡ computed → ⊥) × ((s : State) → RingOn l s old → IsTrue old.tells → ⊥)
+FetchCause l old new (Other why) = DeviceCause old new why
+FetchCause l old new other = ⊥

@@ -1,0 +1,92 @@
+-- How a log is made and started.
+use Rattle.std.specs.Prelude.{◌≡◌, ◌⊎◌, ℕ, ◌+◌, ◌≤◌, ◌<◌, ◌++◌, Result, Ok, Err, List, [], IsTrue}
+use Rattle.vx_model.specs.declared.errors.Stop.{Stop}
+use Rattle.vx_model.specs.declared.errors.Stop.TheVariants.{No as Refused, OutOfMemory}
+use Rattle.vx_model.specs.declared.no.No.{No}
+use Rattle.vx_model.specs.declared.no.No.TheVariants.{Damaged, NoConfig, Limit}
+use Rattle.vx_model.specs.declared.no.Counted.TheVariants.{Number}
+use Rattle.vx_model.specs.declared.state.State.{State as SiteState}
+use Rattle.vx_srlfmt.specs.Kinds.{Other}
+use Rattle.vx_srlfmt.specs.declared.header.Header.{Header}
+use Rattle.vx_disk.specs.Shelf.{Meaning, Image}
+use Rattle.vx_ringlog.specs.Acts.{head_acts}
+use Rattle.vx_ringlog.specs.Cells.{Cells, Image as Kinds, run_all, still}
+use Rattle.vx_ringlog.specs.Chain.{Recovers}
+use Rattle.vx_ringlog.specs.Logs.{State}
+use Rattle.vx_ringlog.specs.Records.{Record}
+use Rattle.vx_ringio.specs.Classes.{classes}
+use Rattle.vx_ringio.specs.Reading.{LeavesAs, SeesTop}
+use Rattle.vx_ringio.specs.Tracks.{Tracks}
+use Rattle.vx_ringio.specs.declared.top.TopSeen.TheVariants as top
+use Rattle.vx_srl.specs.Causes.{DeviceCause}
+use Rattle.vx_srl.specs.Headers.{new_header, raised}
+use Rattle.vx_srl.specs.Rings.{RingOn}
+use Rattle.vx_srl.specs.Views.{Log, most_number}
+
+-- nothing is held or staged, on the shelf and in memory
+pub record IsNew (unit ring head : ℕ) (state : SiteState) (l : Log) (m : Meaning) : Type 0 where
+  pub is : l ≡ record { unit = unit; ring = ring; header = new_header state head; held = []; staged = [] }
+  pub stands : IsTrue m.tells → (s : State) × RingOn l s m × (s.held ≡ []) × (s.staged ≡ [])
+
+-- behind the zeros and both headers of a new log the cells of its unit are these
+abbrev pub new_cells : Header → Header → Cells
+new_cells first second = run_all (still (λ b. Other)) (head_acts 1 second ++ head_acts 0 first)
+
+-- where the shelf tells its contents, the unit has both headers of a new log and nothing else
+pub record HasNewHeaders (unit ring : ℕ) (first second : Header) (old new : Meaning) : Type 0 where
+  pub each : IsTrue old.tells → first.stamp ≡ 2 → second.stamp ≡ 1 → Tracks unit ring (new_cells first second) new
+
+-- a log was made, or a device call failed, or memory ran out
+abbrev pub Makes : ℕ → ℕ → ℕ → SiteState → Meaning → Meaning → Result Log Stop → Type 0
+Makes unit ring head state old new (Ok l) = IsNew unit ring head state l new × (IsTrue new.down → ⊥)
+Makes unit ring head state old new (Err (Refused why)) = DeviceCause old new why
+Makes unit ring head state old new (Err OutOfMemory) = Unit {0}
+
+-- whatever a crash leaves on the unit, a start finds this header and these records
+pub record LeavesLog (unit ring : ℕ) (h : Header) (rs : List Record) (m : Meaning) : Type 0 where
+  pub kinds : Kinds
+  pub leaves : LeavesAs unit ring kinds m
+  pub recovers : Recovers ring kinds h rs
+
+-- the header that was found, or one that a start writes
+abbrev pub IsRaised : Header → Header → Type 0
+IsRaised h g = (by : ℕ) × (0 < by) × (by ≤ 3) × (g ≡ raised h by)
+
+-- an image in a start has the same records as before it, behind the header that was found or one that the start writes
+pub record Restarting (unit ring : ℕ) (m : Meaning) (i : Image) : Type 0 where
+  pub each : (h : Header) (rs : List Record) → LeavesLog unit ring h rs m
+      → (g : Header) × ((g ≡ h) ⊎ IsRaised h g) × Recovers ring (classes unit ring i) g rs
+
+-- the log that a start gives holds the records that were left
+pub record IsStarted (unit ring : ℕ) (l : Log) (old new : Meaning) : Type 0 where
+  pub unit_is : l.unit ≡ unit
+  pub ring_is : l.ring ≡ ring
+  pub nothing_staged : l.staged ≡ []
+  pub each : (h : Header) (rs : List Record) → LeavesLog unit ring h rs old
+      → IsRaised h l.header × ((s : State) × RingOn l s new × (s.held ≡ rs) × (s.staged ≡ []) × (s.found ≡ rs))
+
+-- neither header block is a header, and the lower one that is broken, if any, has these digests
+pub record NoHeader (unit ring : ℕ) (m : Meaning) : Type 0 where
+  pub first : SeesTop unit ring 0 m top.Other
+  pub second : SeesTop unit ring 1 m top.Other
+
+-- no log was left that a start should have found
+abbrev pub NoneLeft : ℕ → ℕ → Meaning → Type 0
+NoneLeft unit ring m = (h : Header) (rs : List Record) → LeavesLog unit ring h rs m → ⊥
+
+-- where a log was left, its stamp or incarnation is at its limit
+abbrev pub AtLimit : ℕ → ℕ → Meaning → Type 0
+AtLimit unit ring m = (h : Header) (rs : List Record) → LeavesLog unit ring h rs m → (most_number ≤ h.stamp + 2) ⊎ (most_number ≤ h.incarnation)
+
+-- why a start is refused: nothing is a header; a block is damaged; a number would go past its limit; or a device call failed
+abbrev pub StartCause : ℕ → ℕ → Meaning → Meaning → No → Type 0
+StartCause unit ring old new NoConfig = (IsTrue old.tells → NoHeader unit ring old) × NoneLeft unit ring old
+StartCause unit ring old new (Damaged u block stored computed) = (u ≡ unit) × (stored ≡ computed → ⊥) × NoneLeft unit ring old
+StartCause unit ring old new (Limit what most) = (what ≡ Number) × (most ≡ most_number) × AtLimit unit ring old
+StartCause unit ring old new why = DeviceCause old new why
+
+-- the log was started, or the start was refused, or memory ran out
+abbrev pub StartIs : ℕ → ℕ → Meaning → Meaning → Result Log Stop → Type 0
+StartIs unit ring old new (Ok l) = IsStarted unit ring l old new × (IsTrue new.down → ⊥)
+StartIs unit ring old new (Err (Refused why)) = StartCause unit ring old new why
+StartIs unit ring old new (Err OutOfMemory) = Unit {0}

@@ -1,0 +1,106 @@
+// The staging of a record: its blocks are written, and its header is not.
+ghost use Rattle.std.specs.Prelude.{◌≡◌, ◌⊎◌, ◌+◌, ◌<◌, ◌≤◌, ◌/◌, length, Err, OnOk, All};
+ghost use Rattle.vx_ringio.specs.Bodies.{IsBlocks, all_blocks};
+ghost use Rattle.vx_ringio.specs.Tracks.{Lies};
+ghost use Rattle.vx_ringlog.specs.Records.{on_disk};
+ghost use Rattle.vx_srl.specs.Calls.{Stages, staging, staged_with, no_number};
+ghost use Rattle.vx_srl.specs.Rings.{Goes, LeadsTo};
+ghost use Rattle.vx_srl.specs.Views.{free_of, need_of, next_of, most_number, record_of, kept_of};
+
+use crate::log::MOST;
+use crate::{Kept, Srl, SrlNo, refusal};
+use vx_disk::Shelf;
+use vx_model::{Counted, No};
+use vx_ringio::{mask_body, write_body};
+use vx_srlfmt::RecordHead;
+use vx_wire::digest;
+
+/// Refusal 19 for a number that would go past its limit.
+pub(crate) fn no_number_left() -> SrlNo
+    ensures { result ≡ no_number }
+{
+    SrlNo::Other(No::Limit {
+        what: Counted::Number,
+        most: MOST,
+    })
+}
+
+impl Srl {
+    // The header of the next record, and its blocks as they stand on disk.
+    fn next_front(&self, vol: u32, block: u64, bytes: &[u8], disk: &mut [u8]) -> RecordHead
+        requires blocks { IsBlocks bytes.now }
+        requires size { length disk.old ≡ length bytes.now }
+        ensures front { result ≡ (record_of self.now vol block bytes.now).head }
+        ensures body { all_blocks disk.new ≡ on_disk (all_blocks bytes.now) }
+        ensures size { length disk.new ≡ length bytes.now }
+    {
+        disk.copy_from_slice(bytes);
+        let firsts = mask_body(disk);
+        RecordHead {
+            incarnation: self.header.incarnation,
+            run: self.header.run,
+            line: self.header.state.line,
+            number: self.header.low + self.records.len() as u64,
+            vol,
+            block,
+            count: (bytes.len() / 512) as u32,
+            digest: digest(bytes),
+            firsts,
+        }
+    }
+
+    // Keeps a record that was staged.
+    fn keep(&mut self, vol: u32, block: u64, bytes: &[u8], head: RecordHead)
+        requires blocks { IsBlocks bytes.now }
+        requires front { head ≡ (record_of self.old vol block bytes.now).head }
+        requires room { need_of bytes.now ≤ free_of self.old }
+        requires number { next_of self.old ≤ most_number }
+        ensures { self.new ≡ staged_with self.old (kept_of self.old vol block bytes.now) }
+    {
+        let need = head.count as u64 + 1;
+        let place = self.end;
+        self.records.push_back_reserved(Kept { place, head });
+        self.end = ((place as u64 + need) % self.ring) as u32;
+        self.used += need;
+    }
+
+    /// Writes the 1 to 16 blocks of a record, which becomes part of the log by the next `seal`. Answers its number.
+    ///
+    /// Refusals: `NoRoom` exactly where the record takes more blocks than are free, then 19 exactly where no number is left; both
+    /// change nothing. After 6 or 7 nothing is staged, and the log has to be started again.
+    pub fn stage<S: Shelf>(
+        &mut self,
+        shelf: &mut S,
+        vol: u32,
+        block: u64,
+        bytes: &[u8],
+    ) -> Result<u64, SrlNo>
+        requires lies { Lies self.old.unit self.old.ring (S.meaning shelf.old) }
+        requires blocks { IsBlocks bytes.now }
+        ensures no_room { free_of self.old < need_of bytes.now → result ≡ Err (SrlNo.NoRoom (need_of bytes.now) (free_of self.old)) }
+        ensures no_number { need_of bytes.now ≤ free_of self.old → most_number < next_of self.old → result ≡ Err no_number }
+        ensures unchanged { (free_of self.old < need_of bytes.now) ⊎ (most_number < next_of self.old) → (self.new ≡ self.old) × (shelf.new ≡ shelf.old) }
+        ensures stages { need_of bytes.now ≤ free_of self.old → next_of self.old ≤ most_number
+            → Stages self.old (kept_of self.old vol block bytes.now) (S.meaning shelf.old) (S.meaning shelf.new) self.new result }
+        ensures goes { Goes self.old (staging (record_of self.old vol block bytes.now)) (S.meaning shelf.old) (S.meaning shelf.new) }
+        ensures leads { OnOk result (LeadsTo self.old (staging (record_of self.old vol block bytes.now)) self.new (S.meaning shelf.old) (S.meaning shelf.new)) }
+    {
+        let need = bytes.len() as u64 / 512 + 1;
+        let free = self.free();
+        if free < need {
+            return Err(SrlNo::NoRoom { need, free });
+        }
+        let number = self.header.low + self.records.len() as u64;
+        if number > MOST {
+            return Err(no_number_left());
+        }
+        let mut room = [0; 8192];
+        let disk = &mut room[..bytes.len()];
+        let head = self.next_front(vol, block, bytes, disk);
+        if let Err(error) = write_body(shelf, self.unit, self.ring, self.end as u64 + 1, disk) {
+            return Err(SrlNo::Other(refusal(error)));
+        }
+        self.keep(vol, block, bytes, head);
+        Ok(number)
+    }
+}

@@ -1,0 +1,208 @@
+// The start of a log from what stands on its unit.
+ghost use Rattle.std.specs.Prelude.{◌≡◌, ◌⊎◌, ◌+◌, ◌-◌, ◌<◌, ◌≤◌, ◌%◌, ℕ, List, true, IsTrue, IfOk, IfErr, OnOk};
+ghost use Rattle.vx_disk.specs.Moves.{Moves, Run};
+ghost use Rattle.vx_disk.specs.Shelf.{Goes, Nothing};
+ghost use Rattle.vx_model.specs.Steps.{ring_of};
+ghost use Rattle.vx_ringio.specs.Classes.{is_of_ring};
+ghost use Rattle.vx_ringio.specs.Reading.{IsTop, DigestsDiffer};
+ghost use Rattle.vx_ringio.specs.Tracks.{Lies, Follows, Arrives};
+ghost use Rattle.vx_ringlog.specs.Acts.{head_acts};
+ghost use Rattle.vx_srl.specs.Causes.{Stopped};
+ghost use Rattle.vx_srl.specs.Headers.{raised};
+ghost use Rattle.vx_srl.specs.Standings.{IsPicked, IsStanding, StandingCause, TakeOverCause, taken_over, taking_over, first_step_of};
+ghost use Rattle.vx_srl.specs.Starts.{Restarting, StartIs};
+ghost use Rattle.vx_srl.specs.Views.{most_number};
+ghost use Rattle.vx_srlfmt.specs.Headers.{CanSpell};
+
+use crate::log::MOST;
+use crate::scan::scan;
+use crate::{Srl, refusal};
+use std::alloc::Global;
+use std::collections::VecDeque;
+use vx_disk::{Shelf, ShelfError};
+use vx_model::{Counted, No, Stop};
+use vx_ringio::{TopSeen, read_top, write_header};
+use vx_srlfmt::Header;
+
+/// The header that counts, and its block.
+#[derive(Drop)]
+pub(crate) struct Standing {
+    pub header: Header,
+    pub block: u64,
+}
+
+/// What both header blocks are.
+#[derive(Drop)]
+pub(crate) enum Picked {
+    Stands(Standing),
+    /// Neither is a header, and the lower one that is broken has these digests.
+    Broken {
+        block: u64,
+        stored: [u8; 32],
+        computed: [u8; 32],
+    },
+    Nothing,
+}
+
+// The header of block 0, unless the other one has a stamp as great.
+fn pick(first: TopSeen, second: TopSeen) -> Picked
+    ensures { IsPicked first second result }
+{
+    match (first, second) {
+        (TopSeen::Valid(one), TopSeen::Valid(two)) => {
+            if two.stamp < one.stamp {
+                Picked::Stands(Standing {
+                    header: one,
+                    block: 0,
+                })
+            } else {
+                Picked::Stands(Standing {
+                    header: two,
+                    block: 1,
+                })
+            }
+        }
+        (TopSeen::Valid(header), _) => Picked::Stands(Standing { header, block: 0 }),
+        (_, TopSeen::Valid(header)) => Picked::Stands(Standing { header, block: 1 }),
+        (TopSeen::Broken { stored, computed }, _) => Picked::Broken {
+            block: 0,
+            stored,
+            computed,
+        },
+        (_, TopSeen::Broken { stored, computed }) => Picked::Broken {
+            block: 1,
+            stored,
+            computed,
+        },
+        (TopSeen::Other, TopSeen::Other) => Picked::Nothing,
+    }
+}
+
+// The header that counts.
+fn find_header<S: Shelf>(shelf: &mut S, unit: u32, ring: u64) -> Result<Standing, No>
+    requires lies { Lies unit ring (S.meaning shelf.old) }
+    ensures found { IfOk result (λ standing. IsStanding unit ring standing (S.meaning shelf.old)) }
+    ensures goes { Goes Nothing (S.meaning shelf.old) (S.meaning shelf.new) }
+    ensures cause { IfErr result (λ why. StandingCause unit ring (S.meaning shelf.old) (S.meaning shelf.new) why) }
+{
+    let first = match read_top(shelf, unit, ring, 0) {
+        Ok(top) => top,
+        Err(error) => return Err(refusal(error)),
+    };
+    let second = match read_top(shelf, unit, ring, 1) {
+        Ok(top) => top,
+        Err(error) => return Err(refusal(error)),
+    };
+    match pick(first, second) {
+        Picked::Stands(standing) => Ok(standing),
+        Picked::Broken {
+            block,
+            stored,
+            computed,
+        } => Err(No::Damaged {
+            unit,
+            block,
+            stored,
+            computed,
+        }),
+        Picked::Nothing => Err(No::NoConfig),
+    }
+}
+
+// The header that a start writes: of the next incarnation, with a stamp that is so much greater.
+fn raise(header: &Header, by: u64) -> Header
+    requires stamp { header.now.stamp + by ≤ most_number }
+    requires incarnation { header.now.incarnation < most_number }
+    requires spell { CanSpell header.now }
+    ensures is { result ≡ raised header.now by }
+    ensures spell { CanSpell result }
+    ensures of_ring { (ring : ℕ) → is_of_ring ring header.now ≡ true → is_of_ring ring result ≡ true }
+{
+    Header {
+        stamp: header.stamp + by,
+        state: header.state.copy(),
+        incarnation: header.incarnation + 1,
+        floor: header.floor,
+        run: header.run,
+        low: header.low,
+        place: header.place,
+        applied: header.applied,
+    }
+}
+
+// By how much the stamp of the first header that a start writes is greater, so that it does not stand over the one that counts.
+fn first_step(stamp: u64, block: u64) -> u64
+    requires block { block < 2 }
+    ensures is { result ≡ first_step_of stamp block }
+    ensures other { (stamp + result) % 2 ≡ 1 - block }
+{
+    if stamp % 2 == block { 1 } else { 2 }
+}
+
+// Writes both headers, each of the next incarnation, first over the one that does not count. Gives the second.
+fn take_over<S: Shelf>(
+    shelf: &mut S,
+    unit: u32,
+    ring: u64,
+    standing: &Standing,
+) -> Result<Header, No>
+    requires lies { Lies unit ring (S.meaning shelf.old) }
+    requires block { standing.now.block < 2 }
+    requires spell { CanSpell standing.now.header }
+    requires of_ring { is_of_ring ring standing.now.header ≡ true }
+    ensures header { IfOk result (λ header. header ≡ taken_over standing.now) }
+    ensures spell { IfOk result CanSpell }
+    ensures of_ring { IfOk result (λ header. is_of_ring ring header ≡ true) }
+    ensures follows { Follows unit ring (taking_over standing.now) (S.meaning shelf.old) (S.meaning shelf.new) }
+    ensures arrives { OnOk result (Arrives unit ring (taking_over standing.now) (S.meaning shelf.old) (S.meaning shelf.new)) }
+    ensures up { OnOk result (IsTrue (S.meaning shelf.new).down → ⊥) }
+    ensures cause { IfErr result (λ why. TakeOverCause standing.now.header (S.meaning shelf.old) (S.meaning shelf.new) why) }
+{
+    let header = &standing.header;
+    if header.stamp > MOST - 3 || header.incarnation >= MOST {
+        return Err(No::Limit {
+            what: Counted::Number,
+            most: MOST,
+        });
+    }
+    let step = first_step(header.stamp, standing.block);
+    let raised = raise(header, step);
+    if let Err(error) = write_header(shelf, unit, ring, &raised) {
+        return Err(refusal(error));
+    }
+    let again = raise(header, step + 1);
+    if let Err(error) = write_header(shelf, unit, ring, &again) {
+        return Err(refusal(error));
+    }
+    Ok(again)
+}
+
+impl Srl {
+    /// Starts the log that stands on a unit of at least 8 blocks: it takes up the records that were sealed, or a first part of those
+    /// that were being sealed, and raises its incarnation, durably, before anything can be staged. Both header blocks are written.
+    ///
+    /// Refusals: 9 where neither header block is a header of the log, or 22 for the lower one whose digest differs; 22 for a record
+    /// whose header or body has another digest; 19 where no stamp or incarnation is left; 7 and 6. Of the blocks of a log nothing
+    /// changes but its headers.
+    pub fn start<S: Shelf>(alloc: Global, shelf: &mut S, unit: u32) -> Result<Srl, Stop>
+        requires exists { unit < (S.meaning shelf.old).units }
+        requires large { 8 ≤ (S.meaning shelf.old).size unit }
+        ensures starts { StartIs unit (ring_of ((S.meaning shelf.old).size unit)) (S.meaning shelf.old) (S.meaning shelf.new) result }
+        ensures moves { Moves (Run unit 0 (ring_of ((S.meaning shelf.old).size unit) + 2)) (Restarting unit (ring_of ((S.meaning shelf.old).size unit)) (S.meaning shelf.old)) (S.meaning shelf.old) (S.meaning shelf.new) }
+    {
+        let ring = shelf.size(unit).min(65536) - 2;
+        let mut records = VecDeque::with_capacity(alloc, (ring as usize).div_ceil(2))?;
+        let standing = match find_header(shelf, unit, ring) {
+            Ok(standing) => standing,
+            Err(no) => return Err(Stop::No(no)),
+        };
+        let scanned = match scan(shelf, unit, ring, &standing.header, &mut records) {
+            Ok(scanned) => scanned,
+            Err(no) => return Err(Stop::No(no)),
+        };
+        match take_over(shelf, unit, ring, &standing) {
+            Ok(header) => Ok(Srl::made(unit, ring, header, records, scanned.end, scanned.used)),
+            Err(no) => Err(Stop::No(no)),
+        }
+    }
+}
