@@ -53,7 +53,7 @@ impl<R: Rack> Yard<R> {
                 block,
                 count,
             } => Ok(self.show_line(site, volume, *block, *count)),
-            ScriptLine::Apply { site, number } => Ok(self.apply_line(site, *number)),
+            ScriptLine::Apply { site, count } => Ok(self.apply_line(site, *count)),
             ScriptLine::Status { site } => Ok(self.status_line(alloc, site)),
             // A line that is not built, or bytes that are not one block: no script gives these.
             _ => Err(OutOfMemory),
