@@ -1,1 +1,4 @@
+pub mod Calling
+pub mod SaveLaws
+pub mod SealLaws
 pub mod Shared_S1
