@@ -1,4 +1,6 @@
 pub mod Calling
+pub mod LogLists
 pub mod SaveLaws
+pub mod Saving
 pub mod SealLaws
 pub mod Shared_S1
