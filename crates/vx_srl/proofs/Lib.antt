@@ -1,5 +1,6 @@
 pub mod Calling
 pub mod LogLists
+pub mod SaveKept
 pub mod SaveLaws
 pub mod Saving
 pub mod SealLaws

@@ -69,7 +69,7 @@ some_behind n ks d low = omega (arith, first_width n ks d low)
 
 -- the first ones are gone, and the header says so
 pub ordered_behind : (ring : ℕ) (h g : Header) (n : ℕ) (ks : List Kept) → n ≤ length ks → CanSpell g → is_of_ring ring g ≡ true
-    → g.low ≡ h.low + n → g.place ≡ place_after ring h.place (take n ks) → IsOrdered ring h ks → IsOrdered ring g (drop n ks)
+    → g.low ≤ h.low + n → g.place ≡ place_after ring h.place (take n ks) → IsOrdered ring h ks → IsOrdered ring g (drop n ks)
 ordered_behind ring h g n ks few spell of_ring low place ordered = record {
   some = ordered.some;
   few = ordered.few;

@@ -78,3 +78,13 @@ module _ (v l : Log) (same : v ≡ l) (h : Header) (old new : Meaning) where
       (λ his.
         subst (λ (a : Log). LeadsTo v (restarting (emptied v state head)) a old new) (sym (after_is ∙ ap (λ (g : Header). restarted v g) his))
         (restart_leads v (emptied v state head) (emptied_empties v state head) old new (subst (λ (g : Header). Arrives v.unit v.ring (head_acts (g.stamp % 2) g) old new) his wrote))) is
+
+-- ---- the header of a reclaim
+
+pub without_is : (v l : Log) (to : ℕ) (state : SiteState) (floor place : ℕ) → v ≡ l → state ≡ v.header.state → floor ≡ (without v to).floor → place ≡ (without v to).place
+    → record { stamp = v.header.stamp + 1; state = state; incarnation = v.header.incarnation; floor = floor; run = v.header.run; low = to + 1; place = place; applied = to } ≡ without l to
+without_is v l to state floor place same state_is floor_is place_is =
+    ap (λ (x : SiteState). record { stamp = v.header.stamp + 1; state = x; incarnation = v.header.incarnation; floor = floor; run = v.header.run; low = to + 1; place = place; applied = to }) state_is
+    ∙ ap (λ (x : ℕ). record { stamp = v.header.stamp + 1; state = v.header.state; incarnation = v.header.incarnation; floor = x; run = v.header.run; low = to + 1; place = place; applied = to }) floor_is
+    ∙ ap (λ (x : ℕ). record { stamp = v.header.stamp + 1; state = v.header.state; incarnation = v.header.incarnation; floor = (without v to).floor; run = v.header.run; low = to + 1; place = x; applied = to }) place_is
+    ∙ ap (λ (x : Log). without x to) same
