@@ -1,4 +1,5 @@
 pub mod Calling
+pub mod FrontLaws
 pub mod LogLists
 pub mod SaveKept
 pub mod SaveLaws

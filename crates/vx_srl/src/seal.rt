@@ -25,6 +25,7 @@ fn write_fronts<S: Shelf>(
     requires some { 0 < ring }
     requires few { ring ≤ 65534 }
     requires spell { All (λ k. CanSpellHead k.head) records.now.items }
+    requires places { All (λ k. k.place < ring) records.now.items }
     requires from { from ≤ length records.now.items }
     ensures follows { Follows unit ring (fronts_written ring (drop from records.now.items)) (S.meaning shelf.old) (S.meaning shelf.new) }
     ensures arrives { OnOk result (Arrives unit ring (fronts_written ring (drop from records.now.items)) (S.meaning shelf.old) (S.meaning shelf.new)) }
