@@ -13,7 +13,7 @@ use Rattle.vx_ringlog.specs.Cells.{Act, Flush, Write}
 use Rattle.vx_ringlog.specs.Chain.{block}
 use Rattle.vx_ringio.specs.Tracks.{Arrives, Follows, Lies}
 use Rattle.vx_ringio.proofs.Following.{nothing_arrives, nothing_follows, sooner, then_arrives, then_follows}
-use Rattle.vx_srl.specs.Causes.{DeviceCause, refusal_of}
+use Rattle.vx_srl.specs.Causes.{DeviceCause, Ended, refusal_of}
 use Rattle.vx_srl.specs.Fronts.{fronts_written, seal_written}
 use Rattle.vx_srl.specs.Views.{PlacedFrom, width_of}
 use Rattle.vx_srl.specs.declared.kept.Kept.{Kept}
@@ -142,3 +142,12 @@ module _ (unit ring : ℕ) (ks : List Kept) (old : Meaning) where
 
       pub seal_arrives : (new : Meaning) → Arrives unit ring (Flush ∷ []) late new → Arrives unit ring (seal_written ring ks) old new
       seal_arrives new last = then_arrives unit ring (Flush ∷ Fronts) (Flush ∷ []) old late new two_arrive last
+
+-- ---- causes
+
+pub ended_last : (T : Type 0) (unit ring : ℕ) (acts : List Act) (old late new : Meaning) (r : Result T ShelfError) → Follows unit ring acts old late → Cause late new unit r → Ended old new r
+ended_last T unit ring acts old late new (Ok x) follows cause = cause.after
+ended_last T unit ring acts old late new (Err e) follows cause = later_cause T unit ring acts old late new e follows cause
+
+pub ended_err : (T : Type 0) (unit ring : ℕ) (acts : List Act) (old mid new : Meaning) (r : Result T ShelfError) (e : ShelfError) → r ≡ Err e → Follows unit ring acts old mid → DeviceCause mid new (refusal_of e) → Ended old new r
+ended_err T unit ring acts old mid new r e is follows cause = subst (λ (x : Result T ShelfError). Ended old new x) (sym is) (later_device unit ring acts old mid new e follows cause)
