@@ -5,4 +5,5 @@ pub mod SaveKept
 pub mod SaveLaws
 pub mod Saving
 pub mod SealLaws
+pub mod Sealing
 pub mod Shared_S1
