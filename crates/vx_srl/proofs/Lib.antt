@@ -1,0 +1,9 @@
+pub mod Calling
+pub mod FrontLaws
+pub mod LogLists
+pub mod SaveKept
+pub mod SaveLaws
+pub mod Saving
+pub mod SealLaws
+pub mod Sealing
+pub mod Shared_S1
