@@ -2,6 +2,7 @@ pub mod Blanks
 pub mod Bodies
 pub mod Classing
 pub mod Following
+pub mod Masks
 pub mod Outcomes
 pub mod Parts
 pub mod Seeing
