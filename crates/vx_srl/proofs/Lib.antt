@@ -1,0 +1,2 @@
+pub mod Shared_S1
+pub mod MakeNew
