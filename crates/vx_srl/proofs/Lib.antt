@@ -1,2 +1,5 @@
 pub mod Shared_S1
 pub mod MakeNew
+pub mod MakeLog
+pub mod StageRecord
+pub mod StageKept

@@ -23,14 +23,14 @@ Same (r ∷ rs) (k ∷ ks) = (r.head ≡ k.head) × (width r ≡ width_of k) × 
 
 -- ---- from equal headers
 
-head_is : (a b : RecordHead) (as bs : List RecordHead) → a ∷ as ≡ b ∷ bs → a ≡ b
-head_is a b as bs is = cc
+head_is : (a b : RecordHead) (xs ys : List RecordHead) → a ∷ xs ≡ b ∷ ys → a ≡ b
+head_is a b xs ys is = cc
 
-tail_is : (a b : RecordHead) (as bs : List RecordHead) → a ∷ as ≡ b ∷ bs → as ≡ bs
-tail_is a b as bs is = cc
+tail_is : (a b : RecordHead) (xs ys : List RecordHead) → a ∷ xs ≡ b ∷ ys → xs ≡ ys
+tail_is a b xs ys is = cc
 
-no_head : (a : RecordHead) (as : List RecordHead) → a ∷ as ≡ [] → ⊥
-no_head a as is = cc
+no_head : (a : RecordHead) (xs : List RecordHead) → a ∷ xs ≡ [] → ⊥
+no_head a xs is = cc
 
 pub same_of : (e : Era) (n prev : ℕ) (rs : List Record) (ks : List Kept) → Fits e n prev rs → heads_of rs ≡ kept_heads ks → Same rs ks
 same_of e n prev [] [] fits is = tt
@@ -134,7 +134,7 @@ same_append (r ∷ rs) ss [] ls same more = absurd same
 same_append (r ∷ rs) ss (k ∷ ks) ls same more = (same.0, same.1, same_append rs ss ks ls same.2 more)
 
 pub widths_append : (ks ls : List Kept) → widths (ks ++ ls) ≡ widths ks + widths ls
-widths_append [] ls = refl
+widths_append [] ls = omega arith
 widths_append (k ∷ ks) ls = omega (arith, widths_append ks ls)
 
 pub last_kept_append : (floor : ℕ) (ks ls : List Kept) → last_incarnation floor (ks ++ ls) ≡ last_incarnation (last_incarnation floor ks) ls

@@ -1,5 +1,5 @@
 // The making of a log.
-ghost use Rattle.std.specs.Prelude.{◌≡◌, ◌⊎◌, ◌+◌, ◌<◌, ◌≤◌, ◌%◌, ℕ, true, Err, OnOk, IfOk};
+ghost use Rattle.std.specs.Prelude.{◌≡◌, ◌⊎◌, ◌+◌, ◌<◌, ◌≤◌, ◌%◌, ℕ, true, IsTrue, Err, OnOk, IfOk};
 ghost use Rattle.vx_disk.specs.Moves.{Moves, Run, Anything};
 ghost use Rattle.vx_model.specs.Steps.{ring_of};
 ghost use Rattle.vx_model.specs.declared.errors.Stop.TheVariants.{No as Refused};
@@ -61,6 +61,7 @@ fn write_new<S: Shelf>(
     ensures moves { Moves (Run unit 0 (ring + 2)) Anything (S.meaning shelf.old) (S.meaning shelf.new) }
     ensures written { OnOk result (HasNewHeaders unit ring first.now second.now (S.meaning shelf.old) (S.meaning shelf.new)) }
     ensures cause { Stopped (S.meaning shelf.old) (S.meaning shelf.new) result }
+    ensures up { OnOk result (IsTrue (S.meaning shelf.new).down → ⊥) }
 {
     blank_ring(shelf, unit, ring)?;
     write_header(shelf, unit, ring, second)?;
