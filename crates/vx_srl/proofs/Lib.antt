@@ -3,3 +3,4 @@ pub mod MakeNew
 pub mod MakeLog
 pub mod StageRecord
 pub mod StageKept
+pub mod FetchRecord

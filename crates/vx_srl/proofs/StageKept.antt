@@ -90,9 +90,24 @@ module _ (unit ring : ℕ) (header : Header) (records : List Kept) (capacity sea
         numbers = numbers_with;
       }
 
+      kept_more : IsKept ring header (records ++ record { place = end; head = (record_of (seen unit ring header records sealed) vol block bytes).head } ∷ []) capacity sealed
+          ((end + (blocks_in bytes + 1)) % ring) (used + (blocks_in bytes + 1))
+      kept_more =
+          let one : List Kept = record { place = end; head = (record_of (seen unit ring header records sealed) vol block bytes).head } ∷ [] in
+          record {
+            ordered = ordered_with;
+            room = kept.room;
+            few = omega (arith, kept.few, length-append records one);
+            end_is = ap (λ (p : ℕ). (p + (blocks_in bytes + 1)) % ring) kept.end_is ∙ sym (place_append ring header.place records one);
+            used_is = omega (arith, kept.used_is, widths_append records one);
+          }
+
       pub kept_with : (head : RecordHead) (items : List Kept) (capacity' : ℕ) → head ≡ (record_of (seen unit ring header records sealed) vol block bytes).head
           → items ≡ records ++ record { place = end; head = head } ∷ [] → capacity' ≡ capacity → IsKept ring header items capacity' sealed ((end + (head.count + 1)) % ring) (used + (head.count + 1))
-      kept_with head items capacity' is grown same = ?
+      kept_with head items capacity' is grown same =
+          subst (λ (n : ℕ). IsKept ring header items n sealed ((end + (head.count + 1)) % ring) (used + (head.count + 1))) (sym same)
+          (subst (λ (xs : List Kept). IsKept ring header xs capacity sealed ((end + (head.count + 1)) % ring) (used + (head.count + 1))) (sym grown)
+          (subst (λ (h : RecordHead). IsKept ring header (records ++ record { place = end; head = h } ∷ []) capacity sealed ((end + (h.count + 1)) % ring) (used + (h.count + 1))) (sym is) kept_more))
 
 -- ---- the call
 
