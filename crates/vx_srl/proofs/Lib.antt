@@ -4,3 +4,4 @@ pub mod MakeLog
 pub mod StageRecord
 pub mod StageKept
 pub mod FetchRecord
+pub mod FetchKept

@@ -1,18 +1,29 @@
-use Rattle.std.proofs.Common.{rules, ◌≡◌, ◌+◌, ◌<◌, ◌≤◌, Err, OnOk, OnErr, IfErr, ℕ, ◌-◌, ◌*◌, length, ◌/◌, ◌%◌, Bool, true, false, nat_eq, nat_lt, List, [], ◌∷◌, ◌++◌, slice_index_or, slice_set, bit_and, bit_or, Fits, w8, w32, w64, Bor, MutBor}
-use Rattle.vx_disk.specs.Shelf.{Goes, Nothing}
-use Rattle.vx_ringio.specs.Tracks.{Lies}
-use Rattle.vx_srl.specs.Calls.{Fetches, FetchCause}
-use Rattle.vx_srl.specs.Views.{head_of}
+use Rattle.std.proofs.Common.{◌≡◌, ℕ, ◌*◌, ◌/◌, ◌≤◌, ◌∙◌, List, ap, arith, length, take, length-take}
+use Rattle.vx_srl.specs.Views.{Log}
+use Rattle.vx_srl.proofs.FetchKept.{count_within, count_few, never_differ, fetched}
 use Rattle.vx_srl.proofs.log.Srl.fetch.Goals as goal
 
--- src/fetch.rt:35:29
+short : (count ring : ℕ) (xs : List ℕ) → count ≤ ring → length (take (512 * count) xs) / 512 ≤ ring
+short count ring xs few = omega (arith, length-take (512 * count) xs, few)
+
 pub read_body-requires-clause-room : goal.read_body-requires-clause-room
-read_body-requires-clause-room g c = ?
+read_body-requires-clause-room g c =
+    short _ _ _ (count_within c.self.inside.unit _ _ _ _ _ _ _ c.self.invariant c.args.self.now c.self.view_is c.args.n c.if-n-self.false c.requires.held c.index-kept.result.now c.index-kept.ensures)
 
--- src/fetch.rt:39:13
 pub returns-in-Differs-clause-cause : goal.returns-in-Differs-clause-cause
-returns-in-Differs-clause-cause g c = ?
+returns-in-Differs-clause-cause g c =
+    let few : c.index-kept.result.now.head.count ≤ 16 =
+        count_few c.self.inside.unit _ _ _ _ _ _ _ c.self.invariant c.args.self.now c.self.view_is c.args.n c.if-n-self.false c.requires.held c.index-kept.result.now c.index-kept.ensures in
+    λ low. (
+      ap (λ (l : Log). l.unit) c.self.view_is,
+      c.in-Differs.ensures.is.2,
+      never_differ c.self.inside.unit _ _ _ _ _ _ _ c.self.invariant c.args.self.now c.self.view_is c.args.n c.if-n-self.false c.requires.held c.index-kept.result.now c.index-kept.ensures
+      _ c.read_body.new.into (omega (arith, c.read_body.ensures.size, length-take {A = ℕ})) c.in_default.ensures.shows c.in-Differs.stored c.in-Differs.computed c.unmask_body.new.bytes c.in-Differs.ensures.is,
+    )
 
--- src/fetch.rt:18:5
 pub returns-clause-gives : goal.returns-clause-gives
-returns-clause-gives g c = ?
+returns-clause-gives g c =
+    let few : c.index-kept.result.now.head.count ≤ 16 =
+        count_few c.self.inside.unit _ _ _ _ _ _ _ c.self.invariant c.args.self.now c.self.view_is c.args.n c.if-n-self.false c.requires.held c.index-kept.result.now c.index-kept.ensures in
+    fetched c.self.inside.unit _ _ _ _ _ _ _ c.self.invariant c.args.self.now c.self.view_is c.args.n c.if-n-self.false c.requires.held c.index-kept.result.now c.index-kept.ensures
+    _ c.read_body.new.into (omega (arith, c.read_body.ensures.size, length-take {A = ℕ})) c.in_default.ensures.shows c.new.result (c.new.ensures ∙ c.in_default-unmask_body.ensures.is.0)
