@@ -5,16 +5,18 @@ use Rattle.std.proofs.lemmas.Bool.{ltb-true}
 use Rattle.std.proofs.lemmas.Option.{slice_get_read}
 use Rattle.std.proofs.lemmas.List.Elements.{recursion_from_All}
 use Rattle.std.specs.List.{AllByRecursion}
+use Rattle.vx_wire.specs.Seals.{digest_of}
 use Rattle.vx_srlfmt.specs.Kinds.{Kind}
 use Rattle.vx_srlfmt.specs.Records.{CanSpellHead}
 use Rattle.vx_srlfmt.specs.declared.header.Header.{Header}
 use Rattle.vx_disk.specs.Shelf.{Meaning}
+use Rattle.vx_ringlog.specs.Chain.{block}
 use Rattle.vx_ringlog.specs.Logs.{State}
 use Rattle.vx_ringio.specs.Bodies.{BodyIs, all_blocks, given_of}
 use Rattle.vx_ringio.specs.Classes.{is_of_ring}
 use Rattle.vx_ringio.specs.Reading.{ReadsAs, ShowsBlocks}
 use Rattle.vx_ringio.specs.declared.body.Body.TheVariants.{Differs}
-use Rattle.vx_srl.specs.Calls.{Fetches}
+use Rattle.vx_srl.specs.Calls.{Fetches, Agrees}
 use Rattle.vx_srl.specs.Kepts.{IsKept}
 use Rattle.vx_srl.specs.Rings.{RingOn}
 use Rattle.vx_srl.specs.Views.{Log, PlacedFrom, head_of, width_of, widths}
@@ -76,6 +78,23 @@ module _ (unit ring : ℕ) (header : Header) (records : List Kept) (capacity sea
 
   pub count_few : one.head.count ≤ 16
   count_few = (spelled_each records (n - header.low) one (recursion_from_All (λ k. CanSpellHead k.head) records kept.ordered.heads) in_records).few
+
+  pub agrees : (bytes : List ℕ) → length bytes ≡ 512 * one.head.count → one.head.digest ≡ digest_of bytes
+      → Agrees l n (record { line = one.head.line; number = n; vol = one.head.vol; block = one.head.block; bytes = bytes })
+  agrees bytes size digest = record {
+    head = one.head;
+    front = record { kept = one; there = in_held; is = refl };
+    line = refl;
+    number = refl;
+    vol = refl;
+    block = refl;
+    size = size;
+    digest = digest;
+  }
+
+  pub names : (stored : List ℕ) → stored ≡ one.head.digest
+      → (k : Kept) × (slice_get l.held (n - l.header.low) ≡ Some k) × (2 + (one.place + 1) % ring ≡ block l.ring (k.place + 1)) × (stored ≡ k.head.digest)
+  names stored same = (one, in_held, ap (λ (x : Log). 2 + (one.place + 1) % x.ring) is, same)
 
   module _ (m : Meaning) (disk : List ℕ) (size : length disk ≡ 512 * one.head.count)
       (shows : (c : ℕ → Kind) → ReadsAs unit ring c m → ShowsBlocks ring c (one.place + 1) (all_blocks disk)) where

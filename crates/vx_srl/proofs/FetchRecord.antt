@@ -63,8 +63,8 @@ found ring u e n prev p q (r ∷ rs) (x ∷ ks) zero kept same fits sure placed 
     }
 found ring u e n prev p q (r ∷ rs) (x ∷ ks) (suc k) kept same fits sure placed wraps is =
     let more : At ring u (suc n) rs k kept =
-        found ring u e (suc n) r.incarnation (p + width r) ((q + width_of x) % ring) rs ks k kept same.2 fits.5 sure.2 placed.1
-        (wrapped ring p q (width r) wraps ∙ ap (λ (w : ℕ). (q + w) % ring) same.1) is in
+    found ring u e (suc n) r.incarnation (p + width r) ((q + width_of x) % ring) rs ks k kept same.2 fits.5 sure.2 placed.1
+    (wrapped ring p q (width r) wraps ∙ ap (λ (w : ℕ). (q + w) % ring) same.1) is in
     record {
       one = more.one;
       there = more.there;

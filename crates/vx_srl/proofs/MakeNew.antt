@@ -23,7 +23,7 @@ pub new_headers : (unit ring : ℕ) (first second : Header) (old zeros one new :
 new_headers unit ring first second old zeros one new lawful leaves two_arrives one_arrives = record {
   each = λ tells two is_one.
       let both : Arrives unit ring (head_acts (second.stamp % 2) second ++ head_acts (first.stamp % 2) first) zeros new =
-          then_arrives unit ring (head_acts (second.stamp % 2) second) (head_acts (first.stamp % 2) first) zeros one new two_arrives one_arrives in
+      then_arrives unit ring (head_acts (second.stamp % 2) second) (head_acts (first.stamp % 2) first) zeros one new two_arrives one_arrives in
       let odd : second.stamp % 2 ≡ 1 = ap (λ (n : ℕ). n % 2) is_one in
       let even : first.stamp % 2 ≡ 0 = ap (λ (n : ℕ). n % 2) two in
       subst (λ (a : ℕ). Tracks unit ring (run_all (still (λ b. Other)) (head_acts a second ++ head_acts 0 first)) new) odd

@@ -6,7 +6,7 @@ use Rattle.vx_srl.proofs.log.Srl.keep.Goals as goal
 pub push_back_reserved-requires : goal.push_back_reserved-requires
 push_back_reserved-requires c =
     let less : length c.self.inside.records.items < deque_capacity c.self.inside.records =
-        room_kept c.self.inside.unit _ _ _ _ _ _ _ c.self.invariant c.args.bytes.now c.requires.blocks (subst (λ (x : Log). need_of c.args.bytes.now ≤ free_of x) (sym c.self.view_is) c.requires.room) in
+    room_kept c.self.inside.unit _ _ _ _ _ _ _ c.self.invariant c.args.bytes.now c.requires.blocks (subst (λ (x : Log). need_of c.args.bytes.now ≤ free_of x) (sym c.self.view_is) c.requires.room) in
     omega (arith, c.self.inside.records.ok)
 
 pub invariant_of-self : goal.invariant_of-self
