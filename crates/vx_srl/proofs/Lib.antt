@@ -1,4 +1,11 @@
 pub mod Shared_S1
+pub mod Calling
+pub mod FrontLaws
+pub mod LogLists
+pub mod SaveKept
+pub mod SaveLaws
+pub mod Saving
+pub mod SealLaws
 pub mod MakeNew
 pub mod MakeLog
 pub mod StageRecord
