@@ -8,5 +8,5 @@ returns-clause-makes g c = λ big low. (
   makes_new c.args.unit _ (c.min-ring.result - 2) c.args.head c.args.state.now c.new_header-first.result c.new_header-second.result c.in_ok-records.records.items c.made.result _ _
       (omega (arith, c.min-ring.ensures, c.size-size.ensures)) c.new_header-first.ensures.is (ap (λ (h : Header). h.stamp) c.new_header-second.ensures.is) (omega (arith, c.min-ring.ensures, c.size-size.ensures))
       c.in_ok-records.ensures.items c.made.ensures c.in_default.ensures.written c.write_new.ensures.moves.tells,
-  c.in_default.ensures.up,
+  c.in_default.ensures.cause,
 )
