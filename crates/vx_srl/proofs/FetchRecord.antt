@@ -1,22 +1,21 @@
 -- The record that stands under a number, and what a read of its blocks shows.
-use Rattle.std.proofs.Common.{◌≡◌, ℕ, zero, suc, ◌+◌, ◌-◌, ◌*◌, ◌/◌, ◌%◌, ◌<◌, ◌≤◌, Option, Some, None, List, [], ◌∷◌, ◌++◌, IsTrue, length, take, drop, refl, sym, ◌∙◌, ap, subst, arith}
+use Rattle.std.proofs.Common.{◌≡◌, ℕ, zero, suc, ◌+◌, ◌-◌, ◌*◌, ◌/◌, ◌%◌, ◌≤◌, Some, None, List, [], ◌∷◌, IsTrue, length, refl, sym, ◌∙◌, ap, subst, arith}
 use Rattle.std.specs.Prelude.{slice_get}
 use Rattle.vx_wire.specs.Seals.{digest_of}
-use Rattle.vx_srlfmt.specs.Kinds.{Kind, Front, Body}
+use Rattle.vx_srlfmt.specs.Kinds.{Kind, Body}
 use Rattle.vx_srlfmt.specs.declared.header.Header.{Header}
 use Rattle.vx_srlfmt.specs.declared.record.RecordHead.{RecordHead}
 use Rattle.vx_disk.specs.Shelf.{Meaning}
-use Rattle.vx_model.specs.declared.call.Update.{Update}
 use Rattle.vx_ringlog.specs.Cells.{Cells, read}
 use Rattle.vx_ringlog.specs.Chain.{block, width}
 use Rattle.vx_ringlog.specs.Logs.{State}
-use Rattle.vx_ringlog.specs.Ready.{Fits, Sure, SureBody, SureAll}
+use Rattle.vx_ringlog.specs.Ready.{Fits, SureBody, SureAll}
 use Rattle.vx_ringlog.specs.Records.{Era, era_of, Record, Genuine, given, with_firsts}
 use Rattle.vx_ringlog.proofs.CellLemmas.{may_read}
-use Rattle.vx_ringio.specs.Bodies.{BodyIs, IsBlocks, all_blocks, given_of}
+use Rattle.vx_ringio.specs.Bodies.{BodyIs, all_blocks, given_of}
 use Rattle.vx_ringio.specs.Classes.{class_of}
 use Rattle.vx_ringio.specs.Reading.{ReadsAs, ShowsBlocks}
-use Rattle.vx_ringio.specs.declared.body.Body.TheVariants.{Whole, Differs}
+use Rattle.vx_ringio.specs.declared.body.Body.TheVariants.{Differs}
 use Rattle.vx_ringio.proofs.Bodies.{count_blocks}
 use Rattle.vx_ringio.proofs.Following.{body_same, tracks_read}
 use Rattle.vx_srl.specs.Calls.{Fetches, update_of}

@@ -1,16 +1,16 @@
 -- What stands on the unit of a new log.
-use Rattle.std.proofs.Common.{◌≡◌, ℕ, ◌+◌, ◌%◌, ◌++◌, IsTrue, sym, ◌∙◌, ap, subst}
+use Rattle.std.proofs.Common.{◌≡◌, ℕ, ◌%◌, ◌++◌, IsTrue, ap, subst}
 use Rattle.vx_srlfmt.specs.Kinds.{Other}
 use Rattle.vx_srlfmt.specs.declared.header.Header.{Header}
 use Rattle.vx_disk.specs.Moves.{Blocks, Says, Moves, Anything}
 use Rattle.vx_disk.specs.Shelf.{Lawful, Meaning}
 use Rattle.vx_disk.proofs.Moving.{goes_on}
 use Rattle.vx_ringlog.specs.Acts.{head_acts}
-use Rattle.vx_ringlog.specs.Cells.{Cells, run_all, still}
+use Rattle.vx_ringlog.specs.Cells.{run_all, still}
 use Rattle.vx_ringio.specs.Reading.{LeavesAs}
 use Rattle.vx_ringio.specs.Tracks.{Tracks, Arrives}
 use Rattle.vx_ringio.proofs.Following.{left_tracks, then_arrives}
-use Rattle.vx_srl.specs.Starts.{HasNewHeaders, new_cells}
+use Rattle.vx_srl.specs.Starts.{HasNewHeaders}
 
 -- one more call, of which nothing is said
 pub then_any : (mine : Blocks) (P : Says) (old mid new : Meaning) → Moves mine Anything old mid → Moves mine P mid new → Moves mine Anything old new

@@ -1,19 +1,18 @@
 -- The record of a write may be staged, and its blocks are the body that the call writes.
-use Rattle.std.proofs.Common.{◌≡◌, ℕ, suc, ◌+◌, ◌-◌, ◌*◌, ◌/◌, ◌%◌, ◌<◌, ◌≤◌, List, [], ◌∷◌, ◌++◌, length, refl, sym, ◌∙◌, ap, subst, arith}
+use Rattle.std.proofs.Common.{◌≡◌, ℕ, suc, ◌+◌, ◌*◌, ◌/◌, ◌≤◌, List, [], ◌∷◌, ◌++◌, length, refl, sym, ◌∙◌, ap, subst, arith}
 use Rattle.std.specs.Prelude.{All}
 use Rattle.std.proofs.lemmas.List.{map-append}
-use Rattle.std.specs.List.{concat}
 use Rattle.vx_model.specs.Content.{blocks_in}
 use Rattle.vx_wire.specs.Seals.{digest_of}
 use Rattle.vx_srlfmt.specs.Kinds.{IsBody}
 use Rattle.vx_srlfmt.specs.declared.header.Header.{Header}
 use Rattle.vx_srlfmt.specs.declared.record.RecordHead.{RecordHead}
-use Rattle.vx_disk.specs.Shelf.{Meaning, Image}
+use Rattle.vx_disk.specs.Shelf.{Meaning}
 use Rattle.vx_ringlog.specs.Acts.{body_acts}
-use Rattle.vx_ringlog.specs.Cells.{Act, Cells, run_all, LeftBy}
-use Rattle.vx_ringlog.specs.Logs.{State, Stage, MayStage, Found, done, acts_of}
+use Rattle.vx_ringlog.specs.Cells.{Act, run_all, LeftBy}
+use Rattle.vx_ringlog.specs.Logs.{State, Stage, MayStage, Found, acts_of}
 use Rattle.vx_ringlog.specs.Ready.{after}
-use Rattle.vx_ringlog.specs.Records.{Record, Genuine, IsWhole, on_disk, given, firsts_of}
+use Rattle.vx_ringlog.specs.Records.{Record, Genuine, IsWhole, on_disk, given}
 use Rattle.vx_ringlog.proofs.Blocks.{blocks_stand, given_comes_back}
 use Rattle.vx_ringlog.proofs.Calls.{call_safe}
 use Rattle.vx_ringio.specs.Bodies.{IsBlocks, all_blocks}
@@ -23,7 +22,7 @@ use Rattle.vx_ringio.proofs.Bodies.{count_blocks, whole_blocks, concat_blocks}
 use Rattle.vx_ringio.proofs.Following.{following_gives, always_left}
 use Rattle.vx_srl.specs.Calls.{staging, staged_with}
 use Rattle.vx_srl.specs.Rings.{RingOn, Finding, Goes, LeadsTo, heads_of, kept_heads}
-use Rattle.vx_srl.specs.Views.{Log, all_of, end_of, free_of, need_of, next_of, record_of, kept_of, widths}
+use Rattle.vx_srl.specs.Views.{Log, end_of, free_of, need_of, record_of, kept_of}
 use Rattle.vx_srl.specs.declared.kept.Kept.{Kept}
 use Rattle.vx_srl.proofs.Shared_S1.{all_end, all_next, all_total, body_wraps, wrapped}
 

@@ -1,10 +1,8 @@
 -- What the calls of a log do.
-use Rattle.std.specs.Prelude.{◌≡◌, ◌⊎◌, ℕ, ◌+◌, ◌-◌, ◌*◌, ◌≤◌, ◌<◌, Option, Some, Result, Ok, Err, List, length, [], ◌∷◌, ◌++◌, take, drop, slice_get, IsTrue}
+use Rattle.std.specs.Prelude.{◌≡◌, ℕ, ◌+◌, ◌-◌, ◌*◌, Some, Result, Ok, Err, length, [], ◌∷◌, ◌++◌, take, drop, slice_get, IsTrue}
 use Rattle.vx_model.specs.declared.call.Update.{Update}
-use Rattle.vx_model.specs.declared.no.No.{No}
 use Rattle.vx_model.specs.declared.no.No.TheVariants.{Damaged, Limit}
 use Rattle.vx_model.specs.declared.no.Counted.TheVariants.{Number}
-use Rattle.vx_model.specs.declared.state.State.{State as SiteState}
 use Rattle.vx_wire.specs.Seals.{digest_of}
 use Rattle.vx_srlfmt.specs.declared.header.Header.{Header}
 use Rattle.vx_srlfmt.specs.declared.record.RecordHead.{RecordHead}
@@ -16,7 +14,7 @@ use Rattle.vx_srl.specs.Causes.{DeviceCause}
 use Rattle.vx_srl.specs.Rings.{RingOn}
 use Rattle.vx_srl.specs.Views.{Log, IsFront, head_of, next_of, most_number}
 use Rattle.vx_srl.specs.declared.errors.SrlNo.{SrlNo}
-use Rattle.vx_srl.specs.declared.errors.SrlNo.TheVariants.{NoRoom, Overrun, Other}
+use Rattle.vx_srl.specs.declared.errors.SrlNo.TheVariants.{Other}
 use Rattle.vx_srl.specs.declared.kept.Kept.{Kept}
 
 -- the calls, of whatever log stands on the shelf

@@ -1,4 +1,4 @@
-use Rattle.std.proofs.Common.{◌≡◌, ℕ, ◌*◌, ◌/◌, ◌≤◌, ◌∙◌, List, ap, sym, arith, length, take, length-take}
+use Rattle.std.proofs.Common.{ℕ, ◌*◌, ◌/◌, ◌≤◌, ◌∙◌, List, ap, sym, arith, length, take, length-take}
 use Rattle.vx_wire.specs.Seals.{digest_of}
 use Rattle.vx_srl.specs.Views.{Log}
 use Rattle.vx_srl.proofs.FetchKept.{count_within, count_few, never_differ, fetched, agrees, names}
