@@ -1,9 +1,15 @@
 pub mod Calling
+pub mod FetchKept
+pub mod FetchRecord
 pub mod FrontLaws
 pub mod LogLists
+pub mod MakeLog
+pub mod MakeNew
 pub mod SaveKept
 pub mod SaveLaws
 pub mod Saving
 pub mod SealLaws
 pub mod Sealing
 pub mod Shared_S1
+pub mod StageKept
+pub mod StageRecord
