@@ -1,0 +1,2 @@
+pub mod ScanBodies
+pub mod ScanLooks
