@@ -1,5 +1,5 @@
 -- What blocks are, and blocks that are written.
-use Rattle.std.proofs.Common.{◌≡◌, ℕ, zero, suc, ◌+◌, ◌*◌, ◌/◌, ◌%◌, ◌<◌, ◌≤◌, Bool, true, false, List, [], ◌∷◌, length, take, drop, IsTrue, refl, sym, ◌∙◌, ap, subst, arith}
+use Rattle.std.proofs.Common.{◌≡◌, ℕ, zero, suc, ◌+◌, ◌*◌, ◌%◌, ◌<◌, ◌≤◌, Bool, true, false, List, [], ◌∷◌, length, take, drop, refl, sym, ◌∙◌, ap, subst, arith}
 use Rattle.std.specs.Prelude.{All, if◌then◌else◌}
 use Rattle.std.specs.List.{AllByRecursion}
 use Rattle.std.proofs.Math.Nat.{mod-add-mod, mod-eq_of_lt}
@@ -11,15 +11,15 @@ use Rattle.vx_srlfmt.specs.Records.{IsRecord, IsDamaged}
 use Rattle.vx_srlfmt.specs.declared.header.Header.{Header}
 use Rattle.vx_srlfmt.specs.declared.record.RecordHead.{RecordHead}
 use Rattle.vx_srlfmt.proofs.KindLaws.{kind_of-is, kind_of-only}
-use Rattle.vx_disk.specs.Shelf.{Meaning, Written, Nothing, Goes, Wrote, Flushed}
-use Rattle.vx_ringlog.specs.Acts.{body_acts, head_acts}
+use Rattle.vx_disk.specs.Shelf.{Meaning, Written, Goes, Wrote}
+use Rattle.vx_ringlog.specs.Acts.{body_acts}
 use Rattle.vx_ringlog.specs.Cells.{Act, Write, Flush}
 use Rattle.vx_ringlog.specs.Chain.{block}
 use Rattle.vx_ringio.specs.Bodies.{blocks_of}
 use Rattle.vx_ringio.specs.Classes.{class_of, narrowed, is_of_ring}
 use Rattle.vx_ringio.specs.Tracks.{Follows, Arrives}
-use Rattle.vx_ringio.proofs.Following.{sooner, rest_follows, then_follows, then_arrives, narrowed_body}
-use Rattle.vx_ringio.proofs.Writing.{put_acts, put_follows, put_arrives, flush_arrives}
+use Rattle.vx_ringio.proofs.Following.{then_follows, then_arrives}
+use Rattle.vx_ringio.proofs.Writing.{put_acts, put_follows, put_arrives}
 
 -- ---- what a block is
 
@@ -97,16 +97,12 @@ module _ (unit ring b : ℕ) (bytes : List ℕ) (v : Kind) (size : length bytes 
   pub one_arrives : Wrote unit b bytes m m' → Arrives unit ring (Write b v ∷ []) m m'
   one_arrives wrote = subst (λ (acts : List Act). Arrives unit ring acts m m') (one_acts ring b bytes v size is) (put_arrives unit ring b 1 bytes size (omega arith) m m' goes wrote)
 
-  -- and the flush behind it
-  module _ (m'' : Meaning) (wrote : Wrote unit b bytes m m') (rest : Goes Nothing m' m'') where
-    pub flushed_follows : Follows unit ring (Write b v ∷ Flush ∷ []) m m''
-    flushed_follows =
-        then_follows unit ring (Write b v ∷ []) (Flush ∷ []) m m' m'' one_follows (one_arrives wrote)
-        (sooner unit ring [] (Flush ∷ []) m' m'' (rest_follows unit ring m' m'' rest))
+  -- and a flush behind it
+  pub flushed_follows : (m'' : Meaning) → Wrote unit b bytes m m' → Follows unit ring (Flush ∷ []) m' m'' → Follows unit ring (Write b v ∷ Flush ∷ []) m m''
+  flushed_follows m'' wrote flush = then_follows unit ring (Write b v ∷ []) (Flush ∷ []) m m' m'' one_follows (one_arrives wrote) flush
 
-    pub flushed_arrives : (IsTrue m''.down → ⊥) → Flushed unit m' m'' → Arrives unit ring (Write b v ∷ Flush ∷ []) m m''
-    flushed_arrives up flushed =
-        then_arrives unit ring (Write b v ∷ []) (Flush ∷ []) m m' m'' (one_arrives wrote) (flush_arrives unit ring m' m'' rest up flushed)
+  pub flushed_arrives : (m'' : Meaning) → Wrote unit b bytes m m' → Arrives unit ring (Flush ∷ []) m' m'' → Arrives unit ring (Write b v ∷ Flush ∷ []) m m''
+  flushed_arrives m'' wrote flush = then_arrives unit ring (Write b v ∷ []) (Flush ∷ []) m m' m'' (one_arrives wrote) flush
 
 -- ---- the blocks of a body
 

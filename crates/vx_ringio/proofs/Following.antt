@@ -1,11 +1,11 @@
 -- How the cells of a log follow its unit, call by call.
-use Rattle.std.proofs.Common.{◌≡◌, inl, inr, ⊎_elim, ℕ, ◌+◌, ◌<◌, ◌≤◌, Bool, true, false, List, [], ◌∷◌, ◌++◌, IsTrue, refl, sym, ◌∙◌, ap, subst, arith}
-use Rattle.std.specs.Prelude.{if◌then◌else◌, nat_lt, ◌&&◌}
+use Rattle.std.proofs.Common.{◌≡◌, inl, inr, ⊎_elim, ℕ, ◌+◌, ◌<◌, ◌≤◌, Bool, true, false, List, [], ◌∷◌, ◌++◌, IsTrue, refl, sym, ◌∙◌, subst}
+use Rattle.std.specs.Prelude.{if◌then◌else◌}
 use Rattle.std.proofs.lemmas.Bool.{cases_lt, lt-ltb, le-ltb}
 use Rattle.vx_srlfmt.specs.Kinds.{Kind, Top, Front, Body, Damaged, Other, IsKind, kind_of}
 use Rattle.vx_srlfmt.proofs.KindLaws.{kind_of-is}
 use Rattle.vx_srlfmt.specs.declared.header.Header.{Header}
-use Rattle.vx_disk.specs.Shelf.{Meaning, Image, Each, Lawful, Or, Nothing, Goes}
+use Rattle.vx_disk.specs.Shelf.{Meaning, Image, Each, Lawful, Nothing, Goes}
 use Rattle.vx_disk.specs.Moves.{Moves, Run, Blocks, Says, Beside}
 use Rattle.vx_disk.proofs.Moving.{goes_on, of_goes, wider, still as still_moves}
 use Rattle.vx_disk.proofs.Runs.{at_rest}

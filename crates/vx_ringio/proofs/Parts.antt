@@ -6,13 +6,12 @@ use Rattle.std.proofs.Math.Nat.{mod-add-mod, mod-eq_of_lt, mod_self}
 use Rattle.std.proofs.lemmas.Bool.{cases_lt}
 use Rattle.std.proofs.lemmas.List.{take-append-le, drop-append-le}
 use Rattle.std.proofs.lemmas.List.Elements.{All-from_recursion, recursion_from_All}
-use Rattle.vx_srlfmt.specs.Kinds.{Kind, IsBody, Body}
+use Rattle.vx_srlfmt.specs.Kinds.{IsBody, Body}
 use Rattle.vx_disk.specs.Shelf.{Meaning}
 use Rattle.vx_ringlog.specs.Acts.{body_acts}
 use Rattle.vx_ringlog.specs.Cells.{Act, Write, Image}
 use Rattle.vx_ringlog.specs.Chain.{block}
-use Rattle.vx_ringio.specs.Bodies.{IsBlocks, blocks_of, all_blocks}
-use Rattle.vx_ringio.specs.Classes.{class_of}
+use Rattle.vx_ringio.specs.Bodies.{blocks_of, all_blocks}
 use Rattle.vx_ringio.specs.Reading.{ShowsBlocks}
 use Rattle.vx_ringio.specs.Tracks.{Follows, Arrives}
 use Rattle.vx_ringio.proofs.Bodies.{count_blocks}

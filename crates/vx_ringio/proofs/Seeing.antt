@@ -1,9 +1,8 @@
 -- What reads of a log's blocks show.
-use Rattle.std.proofs.Common.{◌≡◌, ◌⊎◌, inl, inr, ⊎_elim, ℕ, zero, suc, ◌+◌, ◌-◌, ◌*◌, ◌%◌, ◌<◌, ◌≤◌, ◌^◌, Bool, true, false, ◌&&◌, List, [], ◌∷◌, ◌++◌, length, take, drop, IsTrue, refl, sym, ◌∙◌, ap, subst, arith, lit<, append-nil}
+use Rattle.std.proofs.Common.{◌≡◌, ◌⊎◌, inl, inr, ⊎_elim, ℕ, zero, suc, ◌+◌, ◌-◌, ◌*◌, ◌%◌, ◌<◌, ◌≤◌, Bool, true, false, ◌&&◌, List, [], length, take, drop, IsTrue, refl, sym, ◌∙◌, ap, subst, arith, lit<, append-nil}
 use Rattle.std.specs.Prelude.{nat_lt}
 use Rattle.std.proofs.Math.Nat.{mod-eq_of_lt}
 use Rattle.std.proofs.lemmas.Bool.{lt-ltb, le-ltb, and_from}
-use Rattle.std.proofs.lemmas.List.{drop-drop}
 use Rattle.vx_wire.specs.Numbers.{be_bytes, number_at}
 use Rattle.vx_wire.specs.Places.{cut}
 use Rattle.vx_wire.specs.Seals.{IsSealed, IsBroken, digest_of}
@@ -11,10 +10,9 @@ use Rattle.vx_wire.specs.declared.sealed.BrokenSeal.{BrokenSeal}
 use Rattle.vx_wire.proofs.NumberLemmas.{number_at-be_bytes, number_at-cut}
 use Rattle.vx_wire.proofs.SealLemmas.{IsSealed-sealed}
 use Rattle.vx_srlfmt.specs.Headers.{header_magic, header_fields, header_block, IsHeader, IsDamagedHeader}
-use Rattle.vx_srlfmt.specs.Kinds.{Kind, Top, Front, Damaged, Other}
-use Rattle.vx_srlfmt.specs.Records.{IsRecord, IsDamaged, IsSeen, HasDigests}
+use Rattle.vx_srlfmt.specs.Kinds.{Kind, Top, Damaged, Other}
+use Rattle.vx_srlfmt.specs.Records.{IsSeen}
 use Rattle.vx_srlfmt.specs.declared.header.Header.{Header}
-use Rattle.vx_srlfmt.specs.declared.record.RecordHead.{RecordHead}
 use Rattle.vx_srlfmt.specs.declared.record.Seen.{Seen}
 use Rattle.vx_srlfmt.specs.declared.record.Seen.TheVariants as seen
 use Rattle.vx_srlfmt.proofs.Lengths.{length-header_fields}
@@ -24,9 +22,8 @@ use Rattle.vx_ringlog.specs.Cells.{Image}
 use Rattle.vx_ringlog.specs.Chain.{block}
 use Rattle.vx_ringio.specs.Bodies.{blocks_of}
 use Rattle.vx_ringio.specs.Classes.{class_of, is_of_ring}
-use Rattle.vx_ringio.specs.Reading.{ReadsAs, ShowsFront, ShowsBlocks, SeesTop, IsTop}
-use Rattle.vx_ringio.specs.declared.top.TopSeen.{TopSeen}
-use Rattle.vx_ringio.proofs.Classing.{class_is, class_front, class_top, class_no_top, front_class, damaged_class, top_class}
+use Rattle.vx_ringio.specs.Reading.{ReadsAs, ShowsFront, ShowsBlocks}
+use Rattle.vx_ringio.proofs.Classing.{class_is, class_front, class_no_top, front_class, damaged_class, top_class}
 use Rattle.vx_ringio.proofs.Writing.{nth, nth_more}
 
 -- ---- headers of the log
@@ -102,7 +99,7 @@ shows_each ring c p zero bytes each = tt
 shows_each ring c p (suc n) bytes each = (
   each 0 (omega arith) ∙ ap (λ (q : ℕ). c (block ring q)) (omega arith),
   shows_each ring c (suc p) n (drop 512 bytes) (λ k low.
-  ap (λ (x : List ℕ). class_of ring x) (nth_more bytes k) ∙ each (suc k) (omega arith) ∙ ap (λ (q : ℕ). c (block ring q)) (omega arith)),
+      ap (λ (x : List ℕ). class_of ring x) (nth_more bytes k) ∙ each (suc k) (omega arith) ∙ ap (λ (q : ℕ). c (block ring q)) (omega arith)),
 )
 
 pub part_shows : (unit ring first n : ℕ) (bytes : List ℕ) (m : Meaning) → length bytes ≡ 512 * n → first + n ≤ ring → Read m unit (2 + first) bytes

@@ -1,15 +1,15 @@
 -- A write of whole blocks, as acts on the cells that follow the unit.
-use Rattle.std.proofs.Common.{◌≡◌, inl, inr, ⊎_elim, ℕ, zero, suc, ◌+◌, ◌-◌, ◌*◌, ◌<◌, ◌≤◌, List, [], ◌∷◌, length, take, drop, IsTrue, refl, sym, ◌∙◌, ap, subst, arith}
-use Rattle.std.proofs.lemmas.Bool.{eq-eqb, ne_eqb, cases_lt}
+use Rattle.std.proofs.Common.{◌≡◌, inl, inr, ⊎_elim, ℕ, zero, suc, ◌+◌, ◌-◌, ◌*◌, ◌<◌, ◌≤◌, List, [], ◌∷◌, length, take, drop, refl, sym, ◌∙◌, ap, subst, arith}
+use Rattle.std.proofs.lemmas.Bool.{eq-eqb, ne_eqb}
 use Rattle.std.proofs.lemmas.List.{drop-drop}
 use Rattle.vx_srlfmt.specs.Kinds.{Kind, Other}
-use Rattle.vx_disk.specs.Shelf.{Meaning, Image, Each, Or, Covers, Written, Nothing, Goes, Wrote, Flushed, piece}
+use Rattle.vx_disk.specs.Shelf.{Meaning, Image, Each, Or, Covers, Written, Goes, Wrote}
 use Rattle.vx_disk.specs.Moves.{Run}
 use Rattle.vx_disk.proofs.Moving.{of_goes}
-use Rattle.vx_ringlog.specs.Cells.{Cells, May, IsImage, read, Act, Write, Flush, act, run_all, write, flush}
+use Rattle.vx_ringlog.specs.Cells.{Cells, May, IsImage, read, Act, Write, run_all, write}
 use Rattle.vx_ringio.specs.Classes.{class_of, classes}
 use Rattle.vx_ringio.specs.Tracks.{Tracks, Amid, Follows, Arrives}
-use Rattle.vx_ringio.proofs.Following.{image_is, left_last, still_read}
+use Rattle.vx_ringio.proofs.Following.{image_is, left_last}
 
 -- the writes of n blocks of these bytes, from block b on
 abbrev pub put_acts : ℕ → ℕ → ℕ → List ℕ → List Act
@@ -124,14 +124,3 @@ module _ (unit ring b n : ℕ) (bytes : List ℕ) (size : length bytes ≡ 512 *
 
   pub put_arrives : (m m' : Meaning) → Goes (Written unit b bytes) m m' → Wrote unit b bytes m m' → Arrives unit ring (put_acts ring b n bytes) m m'
   put_arrives m m' goes wrote = record { each = λ u tracks. put_tracks u m tracks m' goes wrote }
-
--- a flush
-pub flush_arrives : (unit ring : ℕ) (m m' : Meaning) → Goes Nothing m m' → (IsTrue m'.down → ⊥) → Flushed unit m m' → Arrives unit ring (Flush ∷ []) m m'
-flush_arrives unit ring m m' goes up flushed = record {
-  each = λ u tracks. record {
-    leaves = λ b v low left. inl (tracks.reads b v low (flushed.each b v left));
-    reads = λ b v low is. tracks.reads b v low (still_read m m' goes up unit b v is);
-    beyond = tracks.beyond_read;
-    beyond_read = tracks.beyond_read;
-  };
-}

@@ -1,7 +1,6 @@
 -- The body of a record, as bytes.
-use Rattle.std.specs.Prelude.{◌≡◌, ℕ, zero, suc, ◌/◌, ◌*◌, ◌≤◌, ◌<◌, ◌%◌, List, [], ◌∷◌, length, take, drop, All}
+use Rattle.std.specs.Prelude.{◌≡◌, ℕ, zero, suc, ◌/◌, ◌≤◌, ◌<◌, ◌%◌, List, [], ◌∷◌, length, take, drop}
 use Rattle.vx_wire.specs.Seals.{digest_of}
-use Rattle.vx_srlfmt.specs.Kinds.{IsBody}
 use Rattle.vx_srlfmt.specs.declared.record.RecordHead.{RecordHead}
 use Rattle.vx_ringlog.specs.Records.{with_firsts}
 use Rattle.vx_ringio.specs.declared.body.Body.{Body}

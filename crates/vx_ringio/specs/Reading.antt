@@ -2,7 +2,7 @@
 use Rattle.std.specs.Prelude.{◌≡◌, ℕ, suc, ◌+◌, ◌<◌, ◌≤◌, true, IsTrue, List, [], ◌∷◌, drop, take}
 use Rattle.vx_wire.specs.Seals.{digest_of}
 use Rattle.vx_srlfmt.specs.Headers.{IsDamagedHeader, CanSpell}
-use Rattle.vx_srlfmt.specs.Kinds.{Kind, Top, Front, Body, Damaged, Other}
+use Rattle.vx_srlfmt.specs.Kinds.{Kind, Top, Front, Damaged, Other}
 use Rattle.vx_srlfmt.specs.Records.{CanSpellHead}
 use Rattle.vx_srlfmt.specs.declared.header.Header.{Header}
 use Rattle.vx_srlfmt.specs.declared.record.RecordHead.{RecordHead}

@@ -62,7 +62,7 @@ pub fn write_header<S: Shelf>(
     let mut bytes = [0; 512];
     put_header(header, &mut bytes);
     shelf.write(unit, header.stamp % 2, &bytes)?;
-    shelf.flush(unit)
+    flush_ring(shelf, unit)
 }
 
 // Writes blocks of a body from a place within the ring on, of which none passes the ring's end.

@@ -1,7 +1,7 @@
 use Rattle.std.proofs.Common.{arith}
+use Rattle.std.proofs.lemmas.Result.{on_ok_weaker}
 use Rattle.vx_ringio.proofs.Classing.{class_top, one_follows, flushed_follows, flushed_arrives}
 use Rattle.vx_ringio.proofs.Following.{sooner}
-use Rattle.vx_ringio.proofs.Outcomes.{ok_and_up}
 use Rattle.vx_ringio.proofs.writes.write_header.Goals as goal
 
 pub returns-in_err-write-clause-follows : goal.returns-in_err-write-clause-follows
@@ -12,9 +12,10 @@ returns-in_err-write-clause-follows g c =
 pub returns-clause-follows : goal.returns-clause-follows
 returns-clause-follows g c =
     flushed_follows c.args.unit c.args.ring _ _ _ c.put_header.array_long (omega arith) (class_top c.args.ring _ _ c.put_header.ensures c.requires.of_ring) _ _ c.write.ensures.goes
-    _ c.in_ok-write.ensures.ok c.flush.ensures.goes
+    _ c.in_ok-write.ensures.ok (c.flush_ring.ensures.follows c.args.ring)
 
 pub returns-clause-arrives : goal.returns-clause-arrives
-returns-clause-arrives g c = ok_and_up _ _ _ c.flush.result c.flush.ensures.ok c.flush.ensures.cause
-    (flushed_arrives c.args.unit c.args.ring _ _ _ c.put_header.array_long (omega arith) (class_top c.args.ring _ _ c.put_header.ensures c.requires.of_ring) _ _ c.write.ensures.goes
-    _ c.in_ok-write.ensures.ok c.flush.ensures.goes)
+returns-clause-arrives g c = on_ok_weaker c.flush_ring.result
+    (λ flush. flushed_arrives c.args.unit c.args.ring _ _ _ c.put_header.array_long (omega arith) (class_top c.args.ring _ _ c.put_header.ensures c.requires.of_ring) _ _ c.write.ensures.goes
+    _ c.in_ok-write.ensures.ok (flush c.args.ring))
+    c.flush_ring.ensures.arrives

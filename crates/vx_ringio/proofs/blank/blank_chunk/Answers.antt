@@ -1,0 +1,6 @@
+use Rattle.std.proofs.lemmas.Result.{on_ok_weaker}
+use Rattle.vx_ringio.proofs.Blanks.{chunk_more}
+use Rattle.vx_ringio.proofs.blank.blank_chunk.Goals as goal
+
+pub returns-clause-ok : goal.returns-clause-ok
+returns-clause-ok g c = on_ok_weaker c.write.result (chunk_more c.args.unit c.args.used c.args.chunk _ _ _ c.min-count.ensures c.requires.chunk) c.write.ensures.ok
