@@ -1,2 +1,5 @@
 pub mod ScanBodies
+pub mod ScanCauses
 pub mod ScanLooks
+pub mod ScanLoops
+pub mod StartPlaces
