@@ -2,4 +2,8 @@ pub mod ScanBodies
 pub mod ScanCauses
 pub mod ScanLooks
 pub mod ScanLoops
+pub mod StartCauses
+pub mod StartHeaders
+pub mod StartLogs
 pub mod StartPlaces
+pub mod StartTakeOver

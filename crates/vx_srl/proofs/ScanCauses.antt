@@ -14,7 +14,7 @@ use Rattle.vx_srl.specs.Scans.{ScanCause}
 pub lies_still : (unit ring : ℕ) (old new : Meaning) → Goes Nothing old new → Lies unit ring old → Lies unit ring new
 lies_still unit ring old new goes lies = record { exists = omega (arith, goes.units, lies.exists); within = omega (arith, goes.size unit, lies.within) }
 
-rose_since : (a b d : ℕ) → a ≤ b → Rose b d → Rose a d
+pub rose_since : (a b d : ℕ) → a ≤ b → Rose b d → Rose a d
 rose_since a b d le rose = record { fell_not = omega (arith, le, rose.fell_not); rose = ⊎_elim (λ more. inl (omega (arith, more, le))) (λ most. inr most) rose.rose }
 
 -- a failed read behind others
