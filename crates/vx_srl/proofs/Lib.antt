@@ -8,8 +8,17 @@ pub mod MakeNew
 pub mod SaveKept
 pub mod SaveLaws
 pub mod Saving
+pub mod ScanBodies
+pub mod ScanCauses
+pub mod ScanLooks
+pub mod ScanLoops
 pub mod SealLaws
 pub mod Sealing
 pub mod Shared_S1
 pub mod StageKept
 pub mod StageRecord
+pub mod StartCauses
+pub mod StartHeaders
+pub mod StartLogs
+pub mod StartPlaces
+pub mod StartTakeOver

@@ -83,6 +83,7 @@ fn find_header<S: Shelf>(shelf: &mut S, unit: u32, ring: u64) -> Result<Standing
     requires lies { Lies unit ring (S.meaning shelf.old) }
     ensures found { IfOk result (λ standing. IsStanding unit ring standing (S.meaning shelf.old)) }
     ensures goes { Goes Nothing (S.meaning shelf.old) (S.meaning shelf.new) }
+    ensures up { OnOk result (IsTrue (S.meaning shelf.new).down → ⊥) }
     ensures cause { IfErr result (λ why. StandingCause unit ring (S.meaning shelf.old) (S.meaning shelf.new) why) }
 {
     let first = match read_top(shelf, unit, ring, 0) {
