@@ -21,14 +21,8 @@ use Rattle.vx_srl.specs.Kepts.{IsKept}
 use Rattle.vx_srl.specs.Rings.{RingOn}
 use Rattle.vx_srl.specs.Views.{Log, PlacedFrom, head_of, width_of, widths}
 use Rattle.vx_srl.specs.declared.kept.Kept.{Kept}
-use Rattle.vx_srl.proofs.FetchRecord.{none_differ, fetches}
+use Rattle.vx_srl.proofs.FetchRecord.{some_is, none_is, none_differ, fetches}
 use Rattle.vx_srl.proofs.StageKept.{seen}
-
-some_is : (a b : Kept) → Some a ≡ Some b → a ≡ b
-some_is a b is = cc
-
-none_is : (b : Kept) → None ≡ Some b → ⊥
-none_is b is = cc
 
 first_part : (n : ℕ) (ks : List Kept) (k : ℕ) (x : Kept) → k < n → slice_get ks k ≡ Some x → slice_get (take n ks) k ≡ Some x
 first_part zero ks k x low is = absurd (omega (arith, low))

@@ -37,10 +37,10 @@ pub record At (ring : ℕ) (u : Cells) (n : ℕ) (rs : List Record) (k : ℕ) (k
   pub wraps : place % ring ≡ kept.place
   pub sure : SureBody ring u (suc place) one.body
 
-some_is : (a b : Kept) → Some a ≡ Some b → a ≡ b
+pub some_is : (a b : Kept) → Some a ≡ Some b → a ≡ b
 some_is a b is = cc
 
-none_is : (b : Kept) → None ≡ Some b → ⊥
+pub none_is : (b : Kept) → None ≡ Some b → ⊥
 none_is b is = cc
 
 pub found : (ring : ℕ) (u : Cells) (e : Era) (n prev p q : ℕ) (rs : List Record) (ks : List Kept) (k : ℕ) (kept : Kept) → Same rs ks → Fits e n prev rs → SureAll ring u p rs → PlacedFrom ring q ks
