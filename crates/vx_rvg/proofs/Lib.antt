@@ -1,0 +1,2 @@
+pub mod ContentFacts
+pub mod PatchFacts
