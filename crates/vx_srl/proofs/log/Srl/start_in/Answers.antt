@@ -39,13 +39,6 @@ returns-in-Ok-take_over-clause-starts g c =
           (is_started c.args.unit (c.room.inside.ring) c.in-Ok.standing _ (g.met.S.Shelf.lawful c.args.shelf.now) c.in-Ok.ensures.found _ (g.met.S.Shelf.lawful c.scan.new.shelf) goes _ c.scan.new.records.items
           (λ rs h left. c.in-Ok-scan.ensures.finds rs
           (scans_left c.args.unit (c.room.inside.ring) c.in-Ok.standing _ (g.met.S.Shelf.lawful c.args.shelf.now) c.in-Ok.ensures.found _ c.find_header.ensures.goes c.in-Ok.ensures.up h rs left))
-
-    let ring_is : c.min-ring.result - 2 ≡ ring_of ((g.S.Shelf.meaning c.args.shelf.now).size c.args.unit) = omega arith in
-    let goes : Goes Nothing (g.S.Shelf.meaning c.args.shelf.now) (g.S.Shelf.meaning c.scan.new.shelf) = then_nothing Nothing _ _ _ c.find_header.ensures.goes c.scan.ensures.goes in (
-      subst (λ (r : ℕ). IsStarted c.args.unit r c.made.result (g.S.Shelf.meaning c.args.shelf.now) (g.S.Shelf.meaning c.take_over.new.shelf)) ring_is
-          (is_started c.args.unit (c.min-ring.result - 2) c.in-Ok.standing _ (g.met.S.Shelf.lawful c.args.shelf.now) c.in-Ok.ensures.found _ (g.met.S.Shelf.lawful c.scan.new.shelf) goes _ c.scan.new.records.items
-          (λ rs h left. c.in-Ok-scan.ensures.finds rs
-          (scans_left c.args.unit (c.min-ring.result - 2) c.in-Ok.standing _ (g.met.S.Shelf.lawful c.args.shelf.now) c.in-Ok.ensures.found _ c.find_header.ensures.goes c.in-Ok.ensures.up h rs left))
           c.in-Ok-take_over.ensures.arrives c.in-Ok-take_over.header c.made.result c.in-Ok-take_over.ensures.header c.made.ensures),
       c.in-Ok-take_over.ensures.up,
     )
