@@ -3,3 +3,4 @@ pub mod PatchFacts
 pub mod WriteContent
 pub mod WriteLog
 pub mod WriteStands
+pub mod MakeStands
