@@ -26,6 +26,8 @@ impl<R: Rack> Yard<R> {
             } => self.make_site(alloc, site, *disks, *blocks),
             ScriptLine::Raw { site } => self.make_raw(alloc, site),
             ScriptLine::Disk { site, disk, state } => Ok(self.set_disk(site, *disk, *state)),
+            ScriptLine::Crash { site, pick } => Ok(self.crash_line(site, *pick)),
+            ScriptLine::Recover { site } => self.recover_line(alloc, site),
             ScriptLine::Write {
                 site,
                 volume,
@@ -51,6 +53,7 @@ impl<R: Rack> Yard<R> {
                 block,
                 count,
             } => Ok(self.show_line(site, volume, *block, *count)),
+            ScriptLine::Apply { site, count } => Ok(self.apply_line(site, *count)),
             ScriptLine::Status { site } => Ok(self.status_line(alloc, site)),
             // A line that is not built, or bytes that are not one block: no script gives these.
             _ => Err(OutOfMemory),

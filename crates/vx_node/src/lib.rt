@@ -3,6 +3,7 @@
 
 mod answer;
 mod calls;
+mod crashes;
 mod engine;
 mod errors;
 mod facts;

@@ -1,8 +1,9 @@
 // What the status of a site shows.
-ghost use Rattle.std.specs.Prelude.{◌≡◌, [], slice_get};
+ghost use Rattle.std.specs.Prelude.{◌≡◌, ◌<◌, [], length, slice_get};
 ghost use Rattle.vx_model.specs.World.{World};
 ghost use Rattle.vx_script.specs.declared.line.ScriptLine.TheVariants.{Status as StatusLine};
 ghost use Rattle.vx_node.specs.Seen.{name_at, group_seen, group_at};
+ghost use Rattle.vx_node.specs.Views.{view_of};
 ghost use Rattle.vx_node.specs.Working.{Worked, IsFree};
 ghost use Rattle.vx_node.specs.Yards.{YardStands};
 
@@ -65,6 +66,16 @@ fn view(alloc: Global, sites: &[SiteFacts], session: u64, site: &SiteFacts) -> S
 }
 
 impl<R: Rack> Yard<R> {
+    /// How a site stands.
+    pub(crate) fn view_at(&self, alloc: Global, site: usize) -> SiteView
+        requires site { site < length self.now.facts.items }
+        requires engine { site < length self.now.engines.items }
+        ensures { (w : World) → YardStands w self.now → site < w.sites → result ≡ view_of w (w.nodes site) }
+    {
+        let session = self.engines[site].session();
+        view(alloc, &self.facts, session, &self.facts[site])
+    }
+
     /// The status of a site.
     pub(crate) fn status_line(&self, alloc: Global, name: &Name) -> Said
         ensures works { (w : World) → YardStands w self.now → IsFree self.now (StatusLine name.now) → Worked w (StatusLine name.now) result self.now self.now }
@@ -75,7 +86,6 @@ impl<R: Rack> Yard<R> {
         if site >= self.facts.len() || site >= self.engines.len() {
             return Said::Refused(No::Role);
         }
-        let session = self.engines[site].session();
-        Said::Shown(view(alloc, &self.facts, session, &self.facts[site]))
+        Said::Shown(self.view_at(alloc, site))
     }
 }

@@ -11,3 +11,4 @@ pub mod GatherLemmas
 pub mod KeyLemmas
 pub mod AssemblyLemmas
 pub mod TakingLemmas
+pub mod CarriedLemmas

@@ -7,3 +7,4 @@ pub mod MessageReading
 pub mod Gathering
 pub mod Assemblies
 pub mod Takings
+pub mod Carried

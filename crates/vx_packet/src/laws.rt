@@ -1,6 +1,7 @@
 // What the definitions of packets and of assembly promise.
-ghost use Rattle.std.specs.Prelude.{◌≡◌, ℕ, ◌<◌, ◌≤◌, List, length, Some};
+ghost use Rattle.std.specs.Prelude.{◌≡◌, ℕ, ◌<◌, ◌≤◌, List, length, Some, None};
 ghost use Rattle.vx_packet.specs.Assemblies.{Held, Assembled, Takes};
+ghost use Rattle.vx_packet.specs.Carried.{CameInPackets, envelope_of};
 ghost use Rattle.vx_packet.specs.Messages.{payload_of, parts_of, chunk, CanSpell, IsTyped, IsMessage};
 ghost use Rattle.vx_packet.specs.Packets.{payload_in, part_of, packet_of, IsPacket};
 ghost use Rattle.vx_packet.specs.Takings.{message_key, HoldsSome, Takings, AreNumbers, Includes, NoneBad, SomeWhole};
@@ -28,4 +29,12 @@ pub fn any_order()
     ensures none_bad { (e : Envelope) (m : Message) (old new : Assembled) (ks : List ℕ) (ts : List Taken) → CanSpell m → IsTyped m → HoldsSome e m old → AreNumbers (parts_of m) ks → Takings e m old ks ts new → NoneBad ts }
     ensures whole { (e : Envelope) (m : Message) (old new : Assembled) (ks : List ℕ) (ts : List Taken) → CanSpell m → IsTyped m → HoldsSome e m old → AreNumbers (parts_of m) ks → ((k : ℕ) → k < parts_of m → Includes ks k) → Takings e m old ks ts new → SomeWhole ts }
     ensures message { (e : Envelope) (m : Message) (old new : Assembled) (k : ℕ) → CanSpell m → IsTyped m → HoldsSome e m old → k < parts_of m → Takes old (part_of e m k) (chunk k (payload_of m)) Whole new → new.whole ≡ Some m }
+{}
+
+/// Where all that an assembly has came in packets, a packet that completes a message is the one of that message and part,
+/// with the sites and the line of the part.
+pub fn whole_again()
+    ensures fresh { (a : Assembled) → a.held ≡ None → CameInPackets a }
+    ensures stays { (old new : Assembled) (bytes : List ℕ) (p : Part) (t : Taken) → CameInPackets old → IsPacket bytes p → Takes old p (payload_in p bytes) t new → CameInPackets new }
+    ensures again { (old new : Assembled) (bytes : List ℕ) (p : Part) (m : Message) → CameInPackets old → IsPacket bytes p → Takes old p (payload_in p bytes) Whole new → new.whole ≡ Some m → bytes ≡ packet_of (envelope_of p) m p.part }
 {}

@@ -1,8 +1,9 @@
 -- What reads of a log's blocks show.
-use Rattle.std.specs.Prelude.{◌≡◌, ℕ, suc, ◌+◌, ◌<◌, ◌≤◌, IsTrue, List, [], ◌∷◌, drop, take}
+use Rattle.std.specs.Prelude.{◌≡◌, ℕ, suc, ◌+◌, ◌<◌, ◌≤◌, true, IsTrue, List, [], ◌∷◌, drop, take}
 use Rattle.vx_wire.specs.Seals.{digest_of}
-use Rattle.vx_srlfmt.specs.Headers.{IsDamagedHeader}
+use Rattle.vx_srlfmt.specs.Headers.{IsDamagedHeader, CanSpell}
 use Rattle.vx_srlfmt.specs.Kinds.{Kind, Top, Front, Damaged, Other}
+use Rattle.vx_srlfmt.specs.Records.{CanSpellHead}
 use Rattle.vx_srlfmt.specs.declared.header.Header.{Header}
 use Rattle.vx_srlfmt.specs.declared.record.RecordHead.{RecordHead}
 use Rattle.vx_srlfmt.specs.declared.record.Seen.{Seen}
@@ -11,7 +12,7 @@ use Rattle.vx_disk.specs.Shelf.{Meaning, Holds}
 use Rattle.vx_model.specs.Content.{zero_block}
 use Rattle.vx_ringlog.specs.Cells.{Image}
 use Rattle.vx_ringlog.specs.Chain.{block}
-use Rattle.vx_ringio.specs.Classes.{class_of}
+use Rattle.vx_ringio.specs.Classes.{class_of, is_of_ring}
 use Rattle.vx_ringio.specs.declared.top.TopSeen.{TopSeen}
 use Rattle.vx_ringio.specs.declared.top.TopSeen.TheVariants as top
 
@@ -37,6 +38,12 @@ IsTop ring bytes (top.Broken stored computed) =
     ((h : Header) → class_of ring bytes ≡ Top h → ⊥) × IsDamagedHeader bytes × (stored ≡ drop 480 bytes) × (computed ≡ digest_of (take 480 bytes))
 IsTop ring bytes top.Other = ((h : Header) → class_of ring bytes ≡ Top h → ⊥) × (IsDamagedHeader bytes → ⊥)
 
+-- a header that was read is one of the ring, and can be spelled
+abbrev pub TopIsOfRing : ℕ → TopSeen → Type 0
+TopIsOfRing ring (top.Valid h) = CanSpell h × (is_of_ring ring h ≡ true)
+TopIsOfRing ring (top.Broken stored computed) = Unit {0}
+TopIsOfRing ring top.Other = Unit {0}
+
 -- a read gave a block that is this as a header
 pub record SeesTop (unit ring block : ℕ) (m : Meaning) (seen : TopSeen) : Type 0 where
   pub bytes : List ℕ
@@ -60,6 +67,12 @@ abbrev pub FrontDigestsDiffer : Seen → Type 0
 FrontDigestsDiffer (seen.Record r) = Unit {0}
 FrontDigestsDiffer (seen.Damaged stored computed) = stored ≡ computed → ⊥
 FrontDigestsDiffer seen.Other = Unit {0}
+
+-- the header of a record that was read can be spelled
+abbrev pub FrontCanSpell : Seen → Type 0
+FrontCanSpell (seen.Record r) = CanSpellHead r
+FrontCanSpell (seen.Damaged stored computed) = Unit {0}
+FrontCanSpell seen.Other = Unit {0}
 
 -- blocks that were read from place p on
 abbrev pub ShowsBlocks : ℕ → Image → ℕ → List (List ℕ) → Type 0

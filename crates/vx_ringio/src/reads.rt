@@ -3,7 +3,7 @@ ghost use Rattle.std.specs.Prelude.{◌≡◌, ◌+◌, ◌*◌, ◌/◌, ◌%�
 ghost use Rattle.vx_disk.specs.Causes.{Cause};
 ghost use Rattle.vx_disk.specs.Shelf.{Goes, Nothing};
 ghost use Rattle.vx_ringio.specs.Bodies.{IsBlocks, all_blocks};
-ghost use Rattle.vx_ringio.specs.Reading.{ReadsAs, IsTop, SeesTop, DigestsDiffer, ShowsFront, FrontDigestsDiffer, ShowsBlocks};
+ghost use Rattle.vx_ringio.specs.Reading.{ReadsAs, IsTop, SeesTop, DigestsDiffer, TopIsOfRing, ShowsFront, FrontDigestsDiffer, FrontCanSpell, ShowsBlocks};
 ghost use Rattle.vx_ringio.specs.Tracks.{Lies};
 ghost use Rattle.vx_ringlog.specs.Cells.{Image};
 ghost use Rattle.vx_ringlog.specs.Chain.{block as block_of_place};
@@ -17,6 +17,7 @@ use vx_wire::{broken_seal, get_u64};
 fn top_of(ring: u64, block: &[u8; 512]) -> TopSeen
     ensures is { IsTop ring block.now result }
     ensures differ { DigestsDiffer result }
+    ensures of_ring { TopIsOfRing ring result }
 {
     if let Some(header) = get_header(block) {
         if (header.place as u64) < ring && header.low > 0 {
@@ -47,6 +48,7 @@ pub fn read_top<S: Shelf>(
     requires header { block < 2 }
     ensures sees { IfOk result (λ seen. IsTrue (S.meaning shelf.old).tells → SeesTop unit ring block (S.meaning shelf.old) seen) }
     ensures differ { IfOk result DigestsDiffer }
+    ensures of_ring { IfOk result (TopIsOfRing ring) }
     ensures goes { Goes Nothing (S.meaning shelf.old) (S.meaning shelf.new) }
     ensures cause { Cause (S.meaning shelf.old) (S.meaning shelf.new) unit result }
 {
@@ -67,6 +69,7 @@ pub fn read_front<S: Shelf>(
     requires few { ring ≤ 65534 }
     ensures shows { IfOk result (λ seen. (c : Image) → ReadsAs unit ring c (S.meaning shelf.old) → ShowsFront seen (c (block_of_place ring place))) }
     ensures differ { IfOk result FrontDigestsDiffer }
+    ensures spell { IfOk result FrontCanSpell }
     ensures goes { Goes Nothing (S.meaning shelf.old) (S.meaning shelf.new) }
     ensures cause { Cause (S.meaning shelf.old) (S.meaning shelf.new) unit result }
 {

@@ -1,5 +1,5 @@
 -- How a group is started from what stands on its shelf.
-use Rattle.std.specs.Prelude.{◌≡◌, ◌⊎◌, ℕ, ◌+◌, ◌≤◌, IsTrue, None}
+use Rattle.std.specs.Prelude.{◌≡◌, ◌⊎◌, ℕ, ◌+◌, ◌≤◌, IsTrue, None, []}
 use Rattle.vx_model.specs.Content.{Content}
 use Rattle.vx_model.specs.Steps.{ring_of}
 use Rattle.vx_model.specs.declared.errors.Stop.{Stop}
@@ -10,6 +10,7 @@ use Rattle.vx_model.specs.declared.no.Counted.TheVariants.{Number}
 use Rattle.vx_model.specs.declared.state.State.{State as SiteState}
 use Rattle.vx_model.specs.declared.units.Units.{Units}
 use Rattle.vx_disk.specs.Shelf.{Meaning, Image}
+use Rattle.vx_overlay.specs.Pending.{Pending}
 use Rattle.vx_srl.specs.Causes.{DeviceCause}
 use Rattle.vx_srl.specs.Starts.{NoHeader}
 use Rattle.vx_srl.specs.Views.{most_number}
@@ -49,3 +50,12 @@ StartCause units old new why = DeviceCause old new why
 abbrev pub StartStop : Units → Meaning → Meaning → Stop → Type 0
 StartStop units old new (Refused why) = StartCause units old new why
 StartStop units old new OutOfMemory = Unit {0}
+
+-- memory for a start, as callers see it
+pub record Room : Type 0 where
+  pub ring : ℕ
+
+-- nothing waits, and there is room for as many blocks as the ring has
+pub record IsRoom (ring : ℕ) (pending : Pending) : Type 0 where
+  pub none : pending.entries ≡ []
+  pub room : pending.capacity ≡ ring

@@ -15,3 +15,4 @@ mod write;
 
 pub use group::Rvg;
 pub use rvg_core::RvgCore;
+pub use start::StartRoom;

@@ -3,17 +3,18 @@ ghost use Rattle.std.specs.Prelude.{◌≡◌, ◌⊎◌, ◌+◌, ◌<◌, ◌�
 ghost use Rattle.vx_disk.specs.Moves.{Moves, Run};
 ghost use Rattle.vx_disk.specs.Shelf.{Goes, Nothing};
 ghost use Rattle.vx_model.specs.Steps.{ring_of};
-ghost use Rattle.vx_rvg.specs.Starts.{Starting, IsStarted, StartStop};
+ghost use Rattle.vx_rvg.specs.Starts.{Starting, IsStarted, StartCause, StartStop, ring_in};
 ghost use Rattle.vx_rvg.specs.Views.{Placed};
 
 use crate::patch::add_all;
 use crate::write::refused;
 use crate::{Rvg, RvgCore};
 use std::alloc::Global;
+use std::marker::Model;
 use vx_disk::Shelf;
-use vx_model::{Blocks, Line, No, Stop, Units, Update};
+use vx_model::{Blocks, Line, No, OutOfMemory, Stop, Units, Update};
 use vx_overlay::Overlay;
-use vx_srl::Srl;
+use vx_srl::{LogRoom, Srl};
 
 // Adds the blocks of a write, unless it does not end within its volume.
 fn add_within<S: Shelf>(shelf: &S, units: &Units, pending: &mut Overlay, update: &Update) {
@@ -52,33 +53,61 @@ fn fill<S: Shelf>(
     Ok(())
 }
 
+/// Memory for the start of a group: for its log, and for the blocks that wait.
+#[derive(Drop)]
+pub struct StartRoom {
+    log: LogRoom,
+    pending: Overlay,
+}
+
+impl Model for StartRoom {
+    ghost use Rattle.std.specs.Prelude.{◌≡◌, []};
+    ghost use Rattle.vx_rvg.specs.Starts.{Room, IsRoom};
+
+    ghost Value = { Room };
+
+    ghost view = { λ r. record { ring = r.log.ring } };
+
+    ghost invariant = { λ r. IsRoom r.log.ring r.pending };
+}
+
+impl StartRoom {
+    /// For a log whose unit has so many blocks.
+    pub fn new(alloc: Global, blocks: u64) -> Result<StartRoom, OutOfMemory>
+        requires { 8 ≤ blocks }
+        ensures { IfOk result (λ room. room.ring ≡ ring_of blocks) }
+    {
+        let log = LogRoom::new(alloc, blocks)?;
+        let pending = Overlay::new(alloc, blocks.min(65536) - 2)?;
+        Ok(StartRoom { log, pending })
+    }
+}
+
 impl<S: Shelf> Rvg<S> {
-    /// Starts the group that stands on these units: it takes up the log, whose writes wait for their volumes again.
+    /// Starts the group that stands on these units, with memory taken before: it takes up the log, whose writes wait for their
+    /// volumes again.
     ///
     /// Refusals: 9 where neither header block of the log is a header, or 22 for the lower one whose digest differs; 22 for a record
     /// whose header or body has another digest; 19 where no stamp or incarnation is left; 7 and 6. Whatever it refuses, the shelf
     /// comes back, and has what it had but for the headers of the log.
-    pub fn start(alloc: Global, shelf: S, units: &Units) -> Result<Rvg<S>, (S, Stop)>
+    pub fn start_in(room: StartRoom, shelf: S, units: &Units) -> Result<Rvg<S>, (S, No)>
         requires placed { Placed units.now (S.meaning shelf) }
         requires large { 8 ≤ (S.meaning shelf).size units.now.srl }
+        requires room { room.ring ≡ ring_in units.now (S.meaning shelf) }
         ensures starts { IfOk result (λ g. IsStarted units.now (S.meaning shelf) g.core (S.meaning g.shelf)) }
         ensures up { IfOk result (λ g. IsTrue (S.meaning g.shelf).down → ⊥) }
-        ensures moves { IfOk result (λ g. Moves (Run units.now.srl 0 (ring_of ((S.meaning shelf).size units.now.srl) + 2)) (Starting units.now (S.meaning shelf)) (S.meaning shelf) (S.meaning g.shelf)) }
-        ensures cause { IfErr result (λ e. StartStop units.now (S.meaning shelf) (S.meaning e.0) e.1) }
-        ensures left { IfErr result (λ e. Moves (Run units.now.srl 0 (ring_of ((S.meaning shelf).size units.now.srl) + 2)) (Starting units.now (S.meaning shelf)) (S.meaning shelf) (S.meaning e.0)) }
+        ensures moves { IfOk result (λ g. Moves (Run units.now.srl 0 (ring_in units.now (S.meaning shelf) + 2)) (Starting units.now (S.meaning shelf)) (S.meaning shelf) (S.meaning g.shelf)) }
+        ensures cause { IfErr result (λ e. StartCause units.now (S.meaning shelf) (S.meaning e.0) e.1) }
+        ensures left { IfErr result (λ e. Moves (Run units.now.srl 0 (ring_in units.now (S.meaning shelf) + 2)) (Starting units.now (S.meaning shelf)) (S.meaning shelf) (S.meaning e.0)) }
     {
         let mut shelf = shelf;
-        let room = shelf.size(units.srl).min(65536) - 2;
-        let mut pending = match Overlay::new(alloc, room) {
-            Ok(pending) => pending,
-            Err(_) => return Err((shelf, Stop::OutOfMemory)),
-        };
-        let srl = match Srl::start(alloc, &mut shelf, units.srl) {
+        let StartRoom { log, mut pending } = room;
+        let srl = match Srl::start_in(log, &mut shelf, units.srl) {
             Ok(srl) => srl,
-            Err(stop) => return Err((shelf, stop)),
+            Err(no) => return Err((shelf, no)),
         };
         if let Err(no) = fill(&mut shelf, &srl, units, &mut pending) {
-            return Err((shelf, Stop::No(no)));
+            return Err((shelf, no));
         }
         let applied = srl.low() - 1;
         Ok(Rvg {
@@ -91,5 +120,24 @@ impl<S: Shelf> Rvg<S> {
                 halted: None,
             },
         })
+    }
+
+    /// The same, or want of memory, which changes nothing.
+    pub fn start(alloc: Global, shelf: S, units: &Units) -> Result<Rvg<S>, (S, Stop)>
+        requires placed { Placed units.now (S.meaning shelf) }
+        requires large { 8 ≤ (S.meaning shelf).size units.now.srl }
+        ensures starts { IfOk result (λ g. IsStarted units.now (S.meaning shelf) g.core (S.meaning g.shelf)) }
+        ensures up { IfOk result (λ g. IsTrue (S.meaning g.shelf).down → ⊥) }
+        ensures moves { IfOk result (λ g. Moves (Run units.now.srl 0 (ring_in units.now (S.meaning shelf) + 2)) (Starting units.now (S.meaning shelf)) (S.meaning shelf) (S.meaning g.shelf)) }
+        ensures cause { IfErr result (λ e. StartStop units.now (S.meaning shelf) (S.meaning e.0) e.1) }
+        ensures left { IfErr result (λ e. Moves (Run units.now.srl 0 (ring_in units.now (S.meaning shelf) + 2)) (Starting units.now (S.meaning shelf)) (S.meaning shelf) (S.meaning e.0)) }
+    {
+        let Ok(room) = StartRoom::new(alloc, shelf.size(units.srl)) else {
+            return Err((shelf, Stop::OutOfMemory));
+        };
+        match Rvg::start_in(room, shelf, units) {
+            Ok(rvg) => Ok(rvg),
+            Err((shelf, no)) => Err((shelf, Stop::No(no))),
+        }
     }
 }

@@ -1,19 +1,20 @@
 -- What the calls of a log do.
-use Rattle.std.specs.Prelude.{◌≡◌, ◌⊎◌, ℕ, ◌+◌, ◌-◌, ◌≤◌, ◌<◌, Option, Some, Result, Ok, Err, List, [], ◌∷◌, ◌++◌, take, drop, slice_get, IsTrue}
+use Rattle.std.specs.Prelude.{◌≡◌, ℕ, ◌+◌, ◌-◌, ◌*◌, Some, Result, Ok, Err, length, [], ◌∷◌, ◌++◌, take, drop, slice_get, IsTrue}
 use Rattle.vx_model.specs.declared.call.Update.{Update}
-use Rattle.vx_model.specs.declared.no.No.{No}
 use Rattle.vx_model.specs.declared.no.No.TheVariants.{Damaged, Limit}
 use Rattle.vx_model.specs.declared.no.Counted.TheVariants.{Number}
-use Rattle.vx_model.specs.declared.state.State.{State as SiteState}
+use Rattle.vx_wire.specs.Seals.{digest_of}
 use Rattle.vx_srlfmt.specs.declared.header.Header.{Header}
+use Rattle.vx_srlfmt.specs.declared.record.RecordHead.{RecordHead}
 use Rattle.vx_disk.specs.Shelf.{Meaning}
+use Rattle.vx_ringlog.specs.Chain.{block as block_of}
 use Rattle.vx_ringlog.specs.Logs.{State, Call, Stage, Seal, Save, Restart}
 use Rattle.vx_ringlog.specs.Records.{Record, given}
 use Rattle.vx_srl.specs.Causes.{DeviceCause}
 use Rattle.vx_srl.specs.Rings.{RingOn}
-use Rattle.vx_srl.specs.Views.{Log, head_of, next_of, most_number}
+use Rattle.vx_srl.specs.Views.{Log, IsFront, head_of, next_of, most_number}
 use Rattle.vx_srl.specs.declared.errors.SrlNo.{SrlNo}
-use Rattle.vx_srl.specs.declared.errors.SrlNo.TheVariants.{NoRoom, Overrun, Other}
+use Rattle.vx_srl.specs.declared.errors.SrlNo.TheVariants.{Other}
 use Rattle.vx_srl.specs.declared.kept.Kept.{Kept}
 
 -- the calls, of whatever log stands on the shelf
@@ -75,6 +76,23 @@ update_of r = record { line = r.head.line; number = r.head.number; vol = r.head.
 -- what a fetch of number n gives, of whatever log stands on the shelf: its record
 pub record Fetches (l : Log) (n : ℕ) (m : Meaning) (update : Update) : Type 0 where
   pub each : (s : State) → RingOn l s m → IsTrue m.tells → (r : Record) × (slice_get s.held (n - l.header.low) ≡ Some r) × (update ≡ update_of r)
+
+-- whatever stands on the shelf, an update that is given agrees with the header that is kept of it, and has its digest
+pub record Agrees (l : Log) (n : ℕ) (update : Update) : Type 0 where
+  pub head : RecordHead
+  pub front : IsFront l n head
+  pub line : update.line ≡ head.line
+  pub number : update.number ≡ n
+  pub vol : update.vol ≡ head.vol
+  pub block : update.block ≡ head.block
+  pub size : length update.bytes ≡ 512 * head.count
+  pub digest : head.digest ≡ digest_of update.bytes
+
+-- a body that differs is named by its first block and by the digest that is kept of it
+abbrev pub NamesBody : Log → ℕ → SrlNo → Type 0
+NamesBody l n (Other (Damaged unit block stored computed)) =
+    (kept : Kept) × (slice_get l.held (n - l.header.low) ≡ Some kept) × (block ≡ block_of l.ring (kept.place + 1)) × (stored ≡ kept.head.digest)
+NamesBody l n other = Unit {0}
 
 -- why a fetch of a number that is held is refused: a device call failed, or the digests of its body differ, which a log that stands there does not give
 abbrev pub FetchCause : Log → Meaning → Meaning → SrlNo → Type 0

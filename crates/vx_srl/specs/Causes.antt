@@ -21,3 +21,8 @@ DeviceCause old new other = ⊥
 abbrev pub Stopped : {T : Type 0} → Meaning → Meaning → Result T ShelfError → Type 0
 Stopped old new (Ok x) = (IsTrue old.down → ⊥) → IsTrue new.down → ⊥
 Stopped old new (Err error) = DeviceCause old new (refusal_of error)
+
+-- calls on the shelf, one at least: it is up behind them, or one of them failed
+abbrev pub Ended : {T : Type 0} → Meaning → Meaning → Result T ShelfError → Type 0
+Ended old new (Ok x) = IsTrue new.down → ⊥
+Ended old new (Err error) = DeviceCause old new (refusal_of error)

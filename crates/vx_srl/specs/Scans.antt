@@ -55,11 +55,11 @@ Differ (Taken head) = Unit {0}
 Differ End = Unit {0}
 Differ (Broken at stored computed) = stored ≡ computed → ⊥
 
--- a record that is taken ends before the place of the first one
-abbrev pub TakenFits : ℕ → Found → Type 0
-TakenFits left (Taken head) = CanSpellHead head × (head.count < left)
-TakenFits left End = Unit {0}
-TakenFits left (Broken at stored computed) = Unit {0}
+-- a record that is taken has the number n, and ends before the place of the first one
+abbrev pub TakenFits : ℕ → ℕ → Found → Type 0
+TakenFits left n (Taken head) = CanSpellHead head × (head.number ≡ n) × (head.count < left)
+TakenFits left n End = Unit {0}
+TakenFits left n (Broken at stored computed) = Unit {0}
 
 -- these records stand one behind another, each with its body
 abbrev pub Chained : ℕ → Kinds → Era → ℕ → ℕ → ℕ → List Record → Type 0

@@ -7,7 +7,7 @@ ghost use Rattle.vx_model.specs.declared.no.No.TheVariants.{Size, Limit};
 ghost use Rattle.vx_model.specs.declared.no.Counted.TheVariants.{Number};
 ghost use Rattle.vx_ringio.specs.Classes.{is_of_ring};
 ghost use Rattle.vx_ringio.specs.Tracks.{Lies};
-ghost use Rattle.vx_srl.specs.Causes.{Stopped};
+ghost use Rattle.vx_srl.specs.Causes.{Ended};
 ghost use Rattle.vx_srl.specs.Headers.{new_header};
 ghost use Rattle.vx_srl.specs.Starts.{Makes, HasNewHeaders};
 ghost use Rattle.vx_srl.specs.Views.{most_number};
@@ -60,7 +60,7 @@ fn write_new<S: Shelf>(
     requires second_of_ring { is_of_ring ring second.now ≡ true }
     ensures moves { Moves (Run unit 0 (ring + 2)) Anything (S.meaning shelf.old) (S.meaning shelf.new) }
     ensures written { OnOk result (HasNewHeaders unit ring first.now second.now (S.meaning shelf.old) (S.meaning shelf.new)) }
-    ensures cause { Stopped (S.meaning shelf.old) (S.meaning shelf.new) result }
+    ensures cause { Ended (S.meaning shelf.old) (S.meaning shelf.new) result }
 {
     blank_ring(shelf, unit, ring)?;
     write_header(shelf, unit, ring, second)?;

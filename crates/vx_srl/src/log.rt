@@ -124,7 +124,8 @@ impl Srl {
         requires known { above < next_of self.now }
         ensures { result ≡ used_above self.now above }
     {
-        let gone = (above + 1 - self.header.low) as usize;
+        let low = self.header.low;
+        let gone = (above + 1 - low) as usize;
         if gone == self.records.len() {
             return 0;
         }

@@ -55,7 +55,12 @@ fn is_body(bytes: &[u8]) -> bool
     requires { IsBlocks bytes.now }
     ensures { IsTrue result ↔ All IsBody (all_blocks bytes.now) }
 {
-    bytes.chunks_exact(512).all(|block| block[0] == 0x42)
+    for k in 0..bytes.len() / 512 {
+        if bytes[512 * k] != 0x42 {
+            return false;
+        }
+    }
+    true
 }
 
 // A record whose header is taken: its body is read, and its digest compared.
@@ -117,7 +122,7 @@ fn look<S: Shelf>(
     ensures agrees { IfOk result (λ found. (c : Image) (rs : List Record) → ReadsAs unit ring c (S.meaning shelf.old)
         → Scan ring c (era_of header.now) place number last rs → total rs ≤ left → Agrees rs found) }
     ensures stands { IfOk result (λ found. (c : Image) → ReadsAs unit ring c (S.meaning shelf.old) → StandsThere ring c (era_of header.now) place number last found) }
-    ensures fits { IfOk result (λ found. TakenFits left found) }
+    ensures fits { IfOk result (λ found. TakenFits left number found) }
     ensures differ { IfOk result Differ }
     ensures goes { Goes Nothing (S.meaning shelf.old) (S.meaning shelf.new) }
     ensures cause { Cause (S.meaning shelf.old) (S.meaning shelf.new) unit result }

@@ -1,9 +1,8 @@
 // The sealing of what is staged: it becomes part of the log.
 ghost use Rattle.std.specs.Prelude.{◌≡◌, ◌≤◌, ◌<◌, [], length, drop, All, Ok, OnOk};
-ghost use Rattle.vx_disk.specs.Causes.{Cause};
 ghost use Rattle.vx_ringio.specs.Tracks.{Lies, Follows, Arrives};
 ghost use Rattle.vx_srl.specs.Calls.{Seals, sealing};
-ghost use Rattle.vx_srl.specs.Causes.{Stopped};
+ghost use Rattle.vx_srl.specs.Causes.{Ended, Stopped};
 ghost use Rattle.vx_srl.specs.Fronts.{fronts_written, seal_written};
 ghost use Rattle.vx_srl.specs.Rings.{Goes, LeadsTo};
 ghost use Rattle.vx_srl.specs.Views.{head_of};
@@ -26,6 +25,7 @@ fn write_fronts<S: Shelf>(
     requires some { 0 < ring }
     requires few { ring ≤ 65534 }
     requires spell { All (λ k. CanSpellHead k.head) records.now.items }
+    requires places { All (λ k. k.place < ring) records.now.items }
     requires from { from ≤ length records.now.items }
     ensures follows { Follows unit ring (fronts_written ring (drop from records.now.items)) (S.meaning shelf.old) (S.meaning shelf.new) }
     ensures arrives { OnOk result (Arrives unit ring (fronts_written ring (drop from records.now.items)) (S.meaning shelf.old) (S.meaning shelf.new)) }
@@ -44,7 +44,7 @@ impl Srl {
         requires lies { Lies self.now.unit self.now.ring (S.meaning shelf.old) }
         ensures follows { Follows self.now.unit self.now.ring (seal_written self.now.ring self.now.staged) (S.meaning shelf.old) (S.meaning shelf.new) }
         ensures arrives { OnOk result (Arrives self.now.unit self.now.ring (seal_written self.now.ring self.now.staged) (S.meaning shelf.old) (S.meaning shelf.new)) }
-        ensures cause { Cause (S.meaning shelf.old) (S.meaning shelf.new) self.now.unit result }
+        ensures cause { Ended (S.meaning shelf.old) (S.meaning shelf.new) result }
     {
         flush_ring(shelf, self.unit)?;
         write_fronts(shelf, self.unit, self.ring, &self.records, self.sealed)?;

@@ -1,0 +1,101 @@
+// What a line does that crashes a site, recovers it, or applies what is logged.
+ghost use Rattle.std.specs.Prelude.{◌≡◌};
+ghost use Rattle.vx_model.specs.World.{World};
+ghost use Rattle.vx_script.specs.declared.line.ScriptLine.TheVariants.{Crash, Recover, Apply};
+ghost use Rattle.vx_node.specs.Working.{WorkIs, Worked, IsFree};
+ghost use Rattle.vx_node.specs.Yards.{YardStands, IsTold, in_files};
+
+use crate::yard::{Yard, seat};
+use crate::{Engine, Said, facts};
+use std::alloc::Global;
+use std::mem;
+use vx_disk::Rack;
+use vx_model::{Name, No, OutOfMemory, SiteState};
+use vx_rvg::StartRoom;
+
+impl<R: Rack> Yard<R> {
+    // Crashes the disks of a site that is up.
+    fn go_down(&mut self, site: usize, pick: u64) {
+        let engine = mem::replace(&mut self.engines[site], Engine::Gone);
+        self.engines[site] = engine.crash(pick);
+        facts::go_down(&mut self.facts[site]);
+    }
+
+    /// Crashes a site that is up.
+    pub(crate) fn crash_line(&mut self, name: &Name, pick: u64) -> Said
+        ensures works { (w : World) → YardStands w self.old → IsFree self.old (Crash name.now pick) → Worked w (Crash name.now pick) result self.old self.new }
+        ensures told { IsTold self.new → IsTold self.old }
+        ensures files { in_files self.new ≡ in_files self.old }
+    {
+        let Some(site) = seat(&self.facts, name) else {
+            return Said::Refused(No::Role);
+        };
+        if site >= self.engines.len() {
+            return Said::Refused(No::Role);
+        }
+        self.go_down(site, pick);
+        Said::Done
+    }
+
+    // Starts the group of a site that is down, and says how it stands.
+    fn come_up(&mut self, alloc: Global, site: usize, room: StartRoom) -> Said {
+        let engine = mem::replace(&mut self.engines[site], Engine::Gone);
+        let (engine, came) = engine.recover(room);
+        self.engines[site] = engine;
+        match came {
+            Ok(()) => {
+                let last = self.engines[site].last();
+                if let Some(state) = self.engines[site].state() {
+                    facts::come_up(&mut self.facts[site], state, last);
+                }
+                Said::Recovered(last, self.view_at(alloc, site))
+            }
+            Err(no) => Said::Refused(no),
+        }
+    }
+
+    /// Recovers a site: one that is up crashes first. Nothing was made of the disks of a bare site.
+    pub(crate) fn recover_line(&mut self, alloc: Global, name: &Name) -> Result<Said, OutOfMemory>
+        ensures works { (w : World) → YardStands w self.old → IsFree self.old (Recover name.now) → WorkIs w (Recover name.now) self.old self.new result }
+        ensures told { IsTold self.new → IsTold self.old }
+        ensures files { in_files self.new ≡ in_files self.old }
+    {
+        let Some(site) = seat(&self.facts, name) else {
+            return Ok(Said::Refused(No::Role));
+        };
+        if site >= self.engines.len() || self.facts[site].blocks < 8 {
+            return Ok(Said::Refused(No::Role));
+        }
+        if self.facts[site].state == SiteState::Bare {
+            return Ok(Said::Refused(No::NoConfig));
+        }
+        let room = StartRoom::new(alloc, self.facts[site].blocks)?;
+        if self.facts[site].state == SiteState::Up {
+            self.go_down(site, u64::MAX);
+        }
+        Ok(self.come_up(alloc, site, room))
+    }
+
+    /// Brings the logged writes of a site up to a number into their volumes.
+    pub(crate) fn apply_line(&mut self, name: &Name, to: u64) -> Said
+        ensures works { (w : World) → YardStands w self.old → IsFree self.old (Apply name.now to) → Worked w (Apply name.now to) result self.old self.new }
+        ensures told { IsTold self.new → IsTold self.old }
+        ensures files { in_files self.new ≡ in_files self.old }
+    {
+        let Some(site) = seat(&self.facts, name) else {
+            return Said::Refused(No::Role);
+        };
+        if site >= self.engines.len() {
+            return Said::Refused(No::Role);
+        }
+        match self.engines[site].apply(to) {
+            Ok(number) => Said::DoneAt(number),
+            Err(no) => {
+                if let No::Device { disk } = no {
+                    facts::set_halted(&mut self.facts[site], disk);
+                }
+                Said::Refused(no)
+            }
+        }
+    }
+}

@@ -1,0 +1,11 @@
+use Rattle.std.proofs.lemmas.Result.{on_ok_weaker}
+use Rattle.vx_srl.proofs.MakeNew.{then_any, new_headers}
+use Rattle.vx_srl.proofs.create.write_new.Goals as goal
+
+pub returns-clause-moves : goal.returns-clause-moves
+returns-clause-moves g c = then_any _ _ _ _ _ (then_any _ _ _ _ _ c.blank_ring.ensures.moves c.write_header.ensures.follows) c.write_header-2.ensures.follows
+
+pub returns-clause-written : goal.returns-clause-written
+returns-clause-written g c = on_ok_weaker c.write_header-2.result
+    (new_headers c.args.unit c.args.ring _ _ _ _ _ _ (g.met.S.Shelf.lawful c.blank_ring.new.shelf) c.in_ok-blank_ring.ensures.leaves c.in_ok-write_header.ensures.arrives)
+    c.write_header-2.ensures.arrives

@@ -1,0 +1,43 @@
+use Rattle.std.proofs.Common.{ℕ, ◌*◌, ◌/◌, ◌≤◌, ◌∙◌, List, ap, sym, arith, length, take, length-take}
+use Rattle.vx_wire.specs.Seals.{digest_of}
+use Rattle.vx_srl.specs.Views.{Log}
+use Rattle.vx_srl.proofs.FetchKept.{count_within, count_few, never_differ, fetched, agrees, names}
+use Rattle.vx_srl.proofs.log.Srl.fetch.Goals as goal
+
+short : (count ring : ℕ) (xs : List ℕ) → count ≤ ring → length (take (512 * count) xs) / 512 ≤ ring
+short count ring xs few = omega (arith, length-take (512 * count) xs, few)
+
+pub read_body-requires-clause-room : goal.read_body-requires-clause-room
+read_body-requires-clause-room g c =
+    short _ _ _ (count_within c.self.inside.unit _ _ _ _ _ _ _ c.self.invariant c.args.self.now c.self.view_is c.args.n c.if-n-self.false c.requires.held c.index-kept.result.now c.index-kept.ensures)
+
+pub returns-in-Differs-clause-cause : goal.returns-in-Differs-clause-cause
+returns-in-Differs-clause-cause g c =
+    let few : c.index-kept.result.now.head.count ≤ 16 =
+    count_few c.self.inside.unit _ _ _ _ _ _ _ c.self.invariant c.args.self.now c.self.view_is c.args.n c.if-n-self.false c.requires.held c.index-kept.result.now c.index-kept.ensures in
+    λ low. (
+      ap (λ (l : Log). l.unit) c.self.view_is,
+      c.in-Differs.ensures.is.2,
+      never_differ c.self.inside.unit _ _ _ _ _ _ _ c.self.invariant c.args.self.now c.self.view_is c.args.n c.if-n-self.false c.requires.held c.index-kept.result.now c.index-kept.ensures
+          _ c.read_body.new.into (omega (arith, c.read_body.ensures.size, length-take {A = ℕ})) c.in_default.ensures.shows c.in-Differs.stored c.in-Differs.computed c.unmask_body.new.bytes c.in-Differs.ensures.is,
+    )
+
+pub returns-clause-gives : goal.returns-clause-gives
+returns-clause-gives g c =
+    let few : c.index-kept.result.now.head.count ≤ 16 =
+    count_few c.self.inside.unit _ _ _ _ _ _ _ c.self.invariant c.args.self.now c.self.view_is c.args.n c.if-n-self.false c.requires.held c.index-kept.result.now c.index-kept.ensures in
+    fetched c.self.inside.unit _ _ _ _ _ _ _ c.self.invariant c.args.self.now c.self.view_is c.args.n c.if-n-self.false c.requires.held c.index-kept.result.now c.index-kept.ensures
+    _ c.read_body.new.into (omega (arith, c.read_body.ensures.size, length-take {A = ℕ})) c.in_default.ensures.shows c.new.result (c.new.ensures ∙ c.in_default-unmask_body.ensures.is.0)
+
+pub returns-clause-agrees : goal.returns-clause-agrees
+returns-clause-agrees g c =
+    let few : c.index-kept.result.now.head.count ≤ 16 =
+    count_few c.self.inside.unit _ _ _ _ _ _ _ c.self.invariant c.args.self.now c.self.view_is c.args.n c.if-n-self.false c.requires.held c.index-kept.result.now c.index-kept.ensures in
+    agrees c.self.inside.unit _ _ _ _ _ _ _ c.self.invariant c.args.self.now c.self.view_is c.args.n c.if-n-self.false c.requires.held c.index-kept.result.now c.index-kept.ensures
+    c.new.result (omega (arith, c.read_body.ensures.size, c.unmask_body.ensures.size, ap (λ (bytes : List ℕ). length bytes) c.new.ensures, length-take {A = ℕ}))
+    (c.in_default-unmask_body.ensures.is.1 ∙ ap (λ (bytes : List ℕ). digest_of bytes) (sym c.new.ensures))
+
+pub returns-in-Differs-clause-names : goal.returns-in-Differs-clause-names
+returns-in-Differs-clause-names g c =
+    λ low. names c.self.inside.unit _ _ _ _ _ _ _ c.self.invariant c.args.self.now c.self.view_is c.args.n c.if-n-self.false c.requires.held c.index-kept.result.now c.index-kept.ensures
+    c.in-Differs.stored c.in-Differs.ensures.is.0

@@ -1,0 +1,17 @@
+use Rattle.std.proofs.Common.{◌≡◌, take, drop, refl, ap, ◌∙◌, List, []}
+use Rattle.vx_srl.specs.Views.{Log}
+use Rattle.vx_srl.specs.declared.kept.Kept.{Kept}
+use Rattle.vx_srl.proofs.Saving.{emptied_goes, emptied_leads}
+use Rattle.vx_srl.proofs.log.Srl.restart.Goals as goal
+
+pub returns-in-Err-clause-goes : goal.returns-in-Err-clause-goes
+returns-in-Err-clause-goes g c = emptied_goes _ _ c.self.view_is c.header_emptied-header.result _ _ c.args.state.now c.args.head c.header_emptied-header.ensures.is c.write_header.ensures.follows
+
+pub returns-clause-goes : goal.returns-clause-goes
+returns-clause-goes g c = emptied_goes _ _ c.self.view_is c.header_emptied-header.result _ _ c.args.state.now c.args.head c.header_emptied-header.ensures.is c.write_header.ensures.follows
+
+pub returns-clause-leads : goal.returns-clause-leads
+returns-clause-leads g c =
+    emptied_leads _ _ c.self.view_is c.header_emptied-header.result _ _ c.args.state.now c.args.head _ c.header_emptied-header.ensures.is
+    (ap (λ (x : List Kept). record { unit = c.self.inside.unit; ring = c.self.inside.ring; header = c.header_emptied-header.result; held = take 0 x; staged = drop 0 x }) c.clear.ensures.items)
+    c.in_default.ensures.arrives

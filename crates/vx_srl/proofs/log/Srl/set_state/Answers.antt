@@ -1,0 +1,12 @@
+use Rattle.vx_srl.proofs.Saving.{state_goes, state_leads}
+use Rattle.std.proofs.lemmas.Result.{on_ok_weaker}
+use Rattle.vx_srl.proofs.log.Srl.set_state.Goals as goal
+
+pub returns-in-Err-clause-goes : goal.returns-in-Err-clause-goes
+returns-in-Err-clause-goes g c = state_goes _ _ c.self.view_is c.header_with-header.result _ _ c.args.state.now c.header_with-header.ensures.is c.requires.line c.write_header.ensures.follows
+
+pub returns-clause-goes : goal.returns-clause-goes
+returns-clause-goes g c = state_goes _ _ c.self.view_is c.header_with-header.result _ _ c.args.state.now c.header_with-header.ensures.is c.requires.line c.write_header.ensures.follows
+
+pub returns-clause-leads : goal.returns-clause-leads
+returns-clause-leads g c = state_leads _ _ c.self.view_is c.header_with-header.result _ _ c.args.state.now c.header_with-header.ensures.is c.requires.line c.in_default.ensures.arrives

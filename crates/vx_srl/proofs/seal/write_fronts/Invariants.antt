@@ -1,0 +1,5 @@
+use Rattle.vx_srl.proofs.FrontLaws.{Written}
+use Rattle.vx_srl.proofs.seal.write_fronts.Given as goal
+
+abbrev pub invariant-loop-k : goal.invariant-loop-k
+invariant-loop-k g l = Written l.unit l.ring l.records.items l.from l.k (g.S.Shelf.meaning l.initial.shelf) (g.S.Shelf.meaning l.shelf)

@@ -1,0 +1,22 @@
+use Rattle.vx_srl.proofs.StartTakeOver.{first_follows, again_raised, both_follow, both_arrive}
+use Rattle.vx_srl.proofs.start.take_over.Goals as goal
+
+pub returns-in-Err-clause-follows : goal.returns-in-Err-clause-follows
+returns-in-Err-clause-follows g c =
+    first_follows c.args.unit c.args.ring c.args.standing.now c.requires.block c.first_step-step.result c.first_step-step.ensures.is c.first_step-step.ensures.other c.raise-raised.result c.raise-raised.ensures.is _ _
+    c.write_header.ensures.follows
+
+pub returns-in-Err-write_header-clause-follows : goal.returns-in-Err-write_header-clause-follows
+returns-in-Err-write_header-clause-follows g c =
+    both_follow c.args.unit c.args.ring c.args.standing.now c.requires.block c.first_step-step.result c.first_step-step.ensures.is c.first_step-step.ensures.other c.raise-raised.result c.raise-raised.ensures.is _ _
+    c.raise-again.result c.raise-again.ensures.is _ c.in_default.ensures.arrives c.write_header.ensures.follows c.write_header-2.ensures.follows
+
+pub returns-clause-follows : goal.returns-clause-follows
+returns-clause-follows g c =
+    both_follow c.args.unit c.args.ring c.args.standing.now c.requires.block c.first_step-step.result c.first_step-step.ensures.is c.first_step-step.ensures.other c.raise-raised.result c.raise-raised.ensures.is _ _
+    c.raise-again.result c.raise-again.ensures.is _ c.in_default.ensures.arrives c.write_header.ensures.follows c.write_header-2.ensures.follows
+
+pub returns-clause-arrives : goal.returns-clause-arrives
+returns-clause-arrives g c =
+    both_arrive c.args.unit c.args.ring c.args.standing.now c.requires.block c.first_step-step.result c.first_step-step.ensures.is c.first_step-step.ensures.other c.raise-raised.result c.raise-raised.ensures.is _ _
+    c.raise-again.result c.raise-again.ensures.is _ c.in_default.ensures.arrives c.in_default-write_header.ensures.arrives
