@@ -1,6 +1,8 @@
 pub mod ContentFacts
 pub mod PatchFacts
+pub mod WriteCommit
 pub mod WriteContent
 pub mod WriteLog
+pub mod WriteSound
 pub mod WriteStands
 pub mod MakeStands

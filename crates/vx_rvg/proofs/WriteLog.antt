@@ -111,3 +111,24 @@ module _ (l : Log) (vol start : ℕ) (bytes : List ℕ) where
       let staged : length (l.staged ++ kept_of l vol start bytes ∷ []) ≡ 1 = ap (λ (ks : List Kept). length (ks ++ kept_of l vol start bytes ∷ [])) idle in
       let all : _ = length-append l.held (l.staged ++ kept_of l vol start bytes ∷ []) in
       (omega (arith, seals.0, some, staged, all), seals.1, seals.2)
+
+-- ---- the two calls of the log as one
+
+pub next_free : (l : Log) (most : ℕ) → l.staged ≡ [] → l.header.low + length l.held ≤ most → l.header.low + length (all_of l) ≤ most
+next_free l most idle le = let none : length l.staged ≡ 0 = ap (λ (ks : List Kept). length ks) idle in omega (arith, le, none, length-append l.held l.staged)
+
+module _ (l : Log) (vol start : ℕ) (bytes : List ℕ) (old mid new : Meaning) (l1 l' : Log) (number : ℕ) (stages : Stages l (kept_of l vol start bytes) old mid l1 (Ok number))
+    (leads : LeadsTo l (staging (record_of l vol start bytes)) l1 old mid) where
+  one_staged : 0 < length l1.staged
+  one_staged =
+      let is : length l1.staged ≡ length (l.staged ++ kept_of l vol start bytes ∷ []) = ap (λ (x : Log). length x.staged) stages.1 in
+      omega (arith, is, length-append l.staged (kept_of l vol start bytes ∷ []))
+
+  staged_leads : LeadsTo l (staging (record_of l vol start bytes)) (staged_with l (kept_of l vol start bytes)) old mid
+  staged_leads = subst (λ (x : Log). LeadsTo l (staging (record_of l vol start bytes)) x old mid) stages.1 leads
+
+  pub both_move : Goes l (staging (record_of l vol start bytes)) old mid → Goes l1 sealing mid new → LogMoves l vol start bytes old new
+  both_move one two = seal_moves l vol start bytes old mid new one staged_leads (subst (λ (x : Log). Goes x sealing mid new) stages.1 two)
+
+  pub both_lead : (0 < length l1.staged → LeadsTo l1 sealing l' mid new) → LogsTo l vol start bytes l' old new
+  both_lead two = seal_leads l vol start bytes old mid new l' staged_leads (subst (λ (x : Log). LeadsTo x sealing l' mid new) stages.1 (two one_staged))
