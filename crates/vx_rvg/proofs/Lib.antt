@@ -1,5 +1,6 @@
 pub mod ContentFacts
 pub mod PatchFacts
+pub mod ReadAnswers
 pub mod ReadStands
 pub mod WriteCommit
 pub mod WriteContent
