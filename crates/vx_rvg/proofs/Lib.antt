@@ -7,3 +7,4 @@ pub mod WriteContent
 pub mod WriteLog
 pub mod WriteSound
 pub mod WriteStands
+pub mod MakeStands
