@@ -5,11 +5,11 @@ use Rattle.std.proofs.lemmas.List.{take_more, take-append-drop}
 use Rattle.vx_overlay.specs.declared.entry.Entry.{Entry}
 use Rattle.vx_overlay.specs.Pending.{IsNewest, newest, or_else, bytes_for, entry_of}
 
-or-assoc : (x y z : Option (List ℕ)) → or_else (or_else x y) z ≡ or_else x (or_else y z)
+pub or-assoc : (x y z : Option (List ℕ)) → or_else (or_else x y) z ≡ or_else x (or_else y z)
 or-assoc (Some x) y z = refl
 or-assoc None y z = refl
 
-or-none : (x : Option (List ℕ)) → or_else x None ≡ x
+pub or-none : (x : Option (List ℕ)) → or_else x None ≡ x
 or-none (Some x) = refl
 or-none None = refl
 
