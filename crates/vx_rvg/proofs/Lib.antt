@@ -1,0 +1,5 @@
+pub mod ContentFacts
+pub mod PatchFacts
+pub mod WriteContent
+pub mod WriteLog
+pub mod WriteStands

@@ -1,0 +1,146 @@
+-- What a group that stands leaves in each image, and where its log begins and ends.
+use Rattle.std.proofs.Common.{◌≡◌, ◌⊎◌, inl, inr, ⊎_elim, ℕ, zero, suc, ◌+◌, ◌-◌, ◌<◌, ◌≤◌, Bool, true, false, List, [], ◌∷◌, ◌++◌, length, take, drop, Option, Some, None, IsTrue, MatchOption, refl, sym, ◌∙◌, ap, subst, arith, append-nil}
+use Rattle.std.specs.Prelude.{if◌then◌else◌, nat_lt, ◌&&◌, map}
+use Rattle.std.proofs.lemmas.Bool.{cases_lt}
+use Rattle.std.proofs.lemmas.Bool.Decides.{nat_tests}
+use Rattle.vx_model.specs.Content.{Content, Write}
+use Rattle.vx_srlfmt.specs.Kinds.{Kind, Top, Front, Body, Damaged, Other, kind_of}
+use Rattle.vx_srlfmt.specs.declared.header.Header.{Header}
+use Rattle.vx_srlfmt.specs.declared.record.RecordHead.{RecordHead}
+use Rattle.vx_disk.specs.Shelf.{Meaning, Image, Each, Lawful, Keeps}
+use Rattle.vx_disk.specs.Moves.{Blocks, Beside, Run}
+use Rattle.vx_disk.proofs.Moving.{left_beside}
+use Rattle.vx_overlay.specs.Writes.{newest_of}
+use Rattle.vx_ringlog.specs.Cells.{IsImage}
+use Rattle.vx_ringlog.specs.Cells as cells
+use Rattle.vx_ringlog.specs.Chain.{Counts, Recovers}
+use Rattle.vx_ringlog.specs.Logs.{State, Seal, IsLog, Found as LogFound}
+use Rattle.vx_ringlog.specs.Records.{Record, write_of}
+use Rattle.vx_ringlog.proofs.Calls.{call_safe}
+use Rattle.vx_ringio.specs.Classes.{class_of, classes, is_of_ring, narrowed}
+use Rattle.vx_ringio.proofs.Following.{now_left, class_here}
+use Rattle.vx_srl.specs.Rings.{RingOn, Describes, heads_of, kept_heads}
+use Rattle.vx_srl.specs.Views.{Log, head_of, next_of, all_of}
+use Rattle.vx_srl.specs.declared.kept.Kept.{Kept}
+use Rattle.vx_rvg.specs.Contents.{writes_of, KeepsContent, HasContent, HasSizes}
+use Rattle.vx_rvg.specs.Stands.{Ready, Stands, Found, FoundAs}
+use Rattle.vx_rvg.specs.Views.{Core, unit_of, last_of}
+
+-- ---- what an image has
+
+keeps_option : (m : Meaning) (i : Image) (u b : ℕ) (bytes : List ℕ) (o : Option (List ℕ)) → m.leaves u b (i u b)
+    → MatchOption o (Keeps m u b bytes) (λ new. new ≡ bytes) → MatchOption o (i u b ≡ bytes) (λ new. new ≡ bytes)
+keeps_option m i u b bytes (Some new) left is = is
+keeps_option m i u b bytes None left keeps = keeps.only (i u b) left
+
+-- the volumes of an image, where each block that the list names is one that a crash may leave
+pub has_content_at : (vols : List ℕ) (c : Content) (xs : List Write) (m : Meaning) (i : Image) → KeepsContent vols c xs m
+    → ((v b : ℕ) → b < c.size v → m.leaves (unit_of vols v) b (i (unit_of vols v) b)) → HasContent vols c xs i
+has_content_at vols c xs m i keeps left = record {
+  each = λ v b low. keeps_option m i (unit_of vols v) b (c.block v b) (newest_of c.size xs v b) (left v b low) (keeps.each v b low);
+}
+
+pub has_content : (vols : List ℕ) (c : Content) (xs : List Write) (m : Meaning) (i : Image) → KeepsContent vols c xs m → Each m.leaves i → HasContent vols c xs i
+has_content vols c xs m i keeps each = has_content_at vols c xs m i keeps (λ v b low. each (unit_of vols v) b)
+
+-- the same in a call that changes none of their blocks
+pub has_content_beside : (mine : Blocks) (vols : List ℕ) (c : Content) (xs : List Write) (m : Meaning) (i : Image)
+    → ((v b : ℕ) → b < c.size v → mine (unit_of vols v) b → ⊥) → KeepsContent vols c xs m → Beside mine m.leaves i → HasContent vols c xs i
+has_content_beside mine vols c xs m i apart keeps beside =
+    has_content_at vols c xs m i keeps (λ v b low. left_beside mine m (unit_of vols v) b (apart v b low) i beside)
+
+-- ---- the header that counts has a first number
+
+kept_top : (t : Bool) (h g : Header) → (if t then Top h else Other) ≡ Top g → t ≡ true
+kept_top true h g is = refl
+kept_top false h g is = cc
+
+same_top : (t : Bool) (h g : Header) → (if t then Top h else Other) ≡ Top g → h ≡ g
+same_top true h g is = cc
+same_top false h g is = cc
+
+narrowed_of : (ring : ℕ) (k : Kind) (g : Header) → narrowed ring k ≡ Top g → is_of_ring ring g ≡ true
+narrowed_of ring (Top h) g is = subst (λ (x : Header). is_of_ring ring x ≡ true) (same_top (is_of_ring ring h) h g is) (kept_top (is_of_ring ring h) h g is)
+narrowed_of ring (Front q) g is = cc
+narrowed_of ring (Body bytes) g is = cc
+narrowed_of ring Damaged g is = cc
+narrowed_of ring Other g is = cc
+
+class_of_ring : (ring : ℕ) (b : List ℕ) (g : Header) → class_of ring b ≡ Top g → is_of_ring ring g ≡ true
+unfolding class_of
+class_of_ring ring b g is = narrowed_of ring (kind_of b) g is
+
+of_ring_low : (ring : ℕ) (h : Header) → is_of_ring ring h ≡ true → 0 < h.low
+of_ring_low ring h is = grind (arith, nat_tests)
+
+top_low : (unit ring : ℕ) (i : Image) (b : ℕ) (h : Header) → b < 2 → classes unit ring i b ≡ Top h → 0 < h.low
+top_low unit ring i b h small is = of_ring_low ring h (class_of_ring ring (i unit b) h (sym (class_here unit ring i b (omega (arith, small))) ∙ is))
+
+pub counts_low : (unit ring : ℕ) (i : Image) (h : Header) → Counts (classes unit ring i) h → 0 < h.low
+counts_low unit ring i h (inl first) = top_low unit ring i 0 h (omega arith) first.0
+counts_low unit ring i h (inr second) = top_low unit ring i 1 h (omega arith) second.0
+
+pub recovers_low : (unit ring : ℕ) (i : Image) (h : Header) (rs : List Record) → Recovers ring (classes unit ring i) h rs → 0 < h.low
+recovers_low unit ring i h rs recovers = counts_low unit ring i h recovers.starts.counts
+
+-- ---- as many records as are kept
+
+head_is : (a b : RecordHead) (xs ys : List RecordHead) → a ∷ xs ≡ b ∷ ys → xs ≡ ys
+head_is a b xs ys is = cc
+
+pub heads_length : (rs : List Record) (ks : List Kept) → heads_of rs ≡ kept_heads ks → length rs ≡ length ks
+heads_length [] [] is = refl
+heads_length [] (k ∷ ks) is = cc
+heads_length (r ∷ rs) [] is = cc
+heads_length (r ∷ rs) (k ∷ ks) is = ap suc (heads_length rs ks (head_is r.head k.head (heads_of rs) (kept_heads ks) is))
+
+pub held_length : (l : Log) (s : State) (m : Meaning) → RingOn l s m → length s.held ≡ length l.held
+held_length l s m on = heads_length s.held l.held on.describes.held
+
+-- the number behind the last one
+pub head_is_last : (l : Log) → 0 < l.header.low → l.header.low + length l.held ≡ head_of l + 1
+head_is_last l some = omega (arith, some)
+
+-- ---- what a crash leaves between calls
+
+no_more : (rs ss : List Record) (k : ℕ) → ss ≡ [] → rs ++ take k ss ≡ rs
+no_more rs ss k none = ap (λ (l : List Record). rs ++ take k l) none ∙ ap (λ (l : List Record). rs ++ l) (take_none k) ∙ append-nil rs
+  where
+    take_none : (k : ℕ) → take {A = Record} k [] ≡ []
+    take_none zero = refl
+    take_none (suc k) = refl
+
+found_held : (ring : ℕ) (s : State) (i : cells.Image) → s.staged ≡ [] → LogFound ring s Seal i → Recovers ring i s.header s.held
+found_held ring s i idle (inl found) = subst (λ (l : List Record). Recovers ring i s.header l) (no_more s.held s.staged found.0 idle) found.1
+found_held ring s i idle (inr none) = absurd none
+
+-- the log that stands, in an image of which each block is one that a crash may leave
+pub ring_left : (l : Log) (s : State) (m : Meaning) (i : Image) → RingOn l s m → s.staged ≡ [] → Each m.leaves i → Recovers l.ring (classes l.unit l.ring i) s.header s.held
+ring_left l s m i on idle each =
+    found_held l.ring s (classes l.unit l.ring i) idle
+    ((call_safe l.ring s Seal on.is_log tt).0.0 (classes l.unit l.ring i) (now_left l.unit l.ring s.unit m i on.tracks each))
+
+module _ (core : Core) (c : Content) (m : Meaning) (i : Image) (unit_is : core.log.unit ≡ core.units.srl) where
+  -- an image with the log that stands and its content
+  pub found_as : (s : State) → Ready core c s m → Recovers core.log.ring (classes core.log.unit core.log.ring i) s.header s.held
+      → HasContent core.units.vols c (writes_of s.held) i → FoundAs core i (last_of core) c
+  found_as s ready recovers content = record {
+    header = s.header;
+    records = s.held;
+    recovers = subst (λ (u : ℕ). Recovers core.log.ring (classes u core.log.ring i) s.header s.held) unit_is recovers;
+    state_is = ap (λ (h : Header). h.state) ready.ring.describes.header;
+    session_is = ap (λ (h : Header). h.incarnation) ready.ring.describes.header;
+    stamp_most = omega (arith, ap (λ (h : Header). h.stamp) ready.ring.describes.header);
+    some = recovers_low core.log.unit core.log.ring i s.header s.held recovers;
+    last_is = omega (arith, recovers_low core.log.unit core.log.ring i s.header s.held recovers, ap (λ (h : Header). h.low) ready.ring.describes.header, held_length core.log s m ready.ring);
+    content = content;
+  }
+
+  pub left_found : Stands core c m → Each m.leaves i → FoundAs core i (last_of core) c
+  left_found stands each =
+      found_as stands.log stands.ready (ring_left core.log stands.log m i stands.ready.ring stands.ready.idle each)
+      (has_content core.units.vols c (writes_of stands.log.held) m i stands.ready.content each)
+
+  -- a group that stands has its content in each image that a crash now leaves
+  pub stands_found : Lawful m → Stands core c m → m.now i → FoundAs core i (last_of core) c
+  stands_found lawful stands now = left_found stands (lawful.within i now)
