@@ -24,7 +24,7 @@ use Rattle.vx_srl.specs.Views.{Log, head_of, next_of, all_of}
 use Rattle.vx_srl.specs.declared.kept.Kept.{Kept}
 use Rattle.vx_rvg.specs.Contents.{writes_of, KeepsContent, HasContent, HasSizes}
 use Rattle.vx_rvg.specs.Stands.{Ready, Stands, Found, FoundAs}
-use Rattle.vx_rvg.specs.Views.{Core, unit_of, last_of}
+use Rattle.vx_rvg.specs.Views.{Core, Placed, unit_of, last_of}
 
 -- ---- what an image has
 
@@ -144,3 +144,12 @@ module _ (core : Core) (c : Content) (m : Meaning) (i : Image) (unit_is : core.l
   -- a group that stands has its content in each image that a crash now leaves
   pub stands_found : Lawful m → Stands core c m → m.now i → FoundAs core i (last_of core) c
   stands_found lawful stands now = left_found stands (lawful.within i now)
+
+-- ---- the volumes lie beside the log
+
+pub volume_there : (vols : List ℕ) (c : Content) (m : Meaning) (v b : ℕ) → HasSizes vols c m → b < c.size v → v < length vols
+volume_there vols c m v b sizes low = ⊎_elim (λ is. is) (λ high. absurd (omega (arith, low, sizes.none v high))) (cases_lt v (length vols))
+
+pub volumes_beside : (core : Core) (c : Content) (m : Meaning) → Placed core.units m → core.log.unit ≡ core.units.srl → HasSizes core.units.vols c m
+    → (v b : ℕ) → b < c.size v → Run core.log.unit 0 (core.log.ring + 2) (unit_of core.units.vols v) b → ⊥
+volumes_beside core c m placed unit_is sizes v b low run = placed.apart v (volume_there core.units.vols c m v b sizes low) (run.there ∙ unit_is)

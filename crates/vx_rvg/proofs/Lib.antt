@@ -2,4 +2,5 @@ pub mod ContentFacts
 pub mod PatchFacts
 pub mod WriteContent
 pub mod WriteLog
+pub mod WriteSound
 pub mod WriteStands

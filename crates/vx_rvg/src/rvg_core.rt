@@ -1,5 +1,5 @@
 // What a group is beside its shelf.
-ghost use Rattle.std.specs.Prelude.{◌≡◌, ◌+◌, ◌<◌, ◌≤◌, length};
+ghost use Rattle.std.specs.Prelude.{◌≡◌, ◌+◌, ◌<◌, ◌≤◌, length, None};
 ghost use Rattle.vx_rvg.specs.Groups.{write_refusal, read_refusal, halted_by};
 ghost use Rattle.vx_rvg.specs.Views.{unit_of};
 
@@ -47,7 +47,8 @@ impl RvgCore {
     /// Why a write of so many blocks to a volume of `size` blocks is refused before it begins.
     pub(crate) fn write_refusal(&self, size: u64, start: u64, count: u64) -> Option<No>
         requires { count ≤ 16 }
-        ensures { result ≡ write_refusal self.now size start count }
+        ensures is { result ≡ write_refusal self.now size start count }
+        ensures some { result ≡ None → 0 < self.now.log.header.low }
     {
         if let Some(disk) = self.halted {
             return Some(No::Halted { disk });

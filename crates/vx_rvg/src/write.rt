@@ -38,6 +38,7 @@ fn log_record<S: Shelf>(
 ) -> Result<u64, No>
     requires lies { Lies srl.old.unit srl.old.ring (S.meaning shelf.old) }
     requires blocks { IsBlocks bytes.now }
+    requires some { 0 < srl.old.header.low }
     requires idle { srl.old.staged ≡ [] }
     requires room { need_of bytes.now ≤ free_of srl.old }
     requires number { srl.old.header.low + length srl.old.held ≤ most_number }
@@ -63,6 +64,7 @@ pub(crate) fn commit<S: Shelf>(
     bytes: &[u8],
 ) -> Result<u64, No>
     requires sound { IsSound core.old (S.meaning shelf.old) }
+    requires some { 0 < core.old.log.header.low }
     requires running { core.old.halted ≡ None }
     requires up { IsFalse (S.meaning shelf.old).down }
     requires volume { vol < length core.old.units.vols }

@@ -24,10 +24,12 @@ goes_nowhere l call m = still (Run l.unit 0 (l.ring + 2)) (Finding l call m) m
 pub makes_goes : (l : Log) (call : State → Call) (acts : List Act) (old new : Meaning) → Makes l call acts old → Follows l.unit l.ring acts old new → Goes l call old new
 makes_goes l call acts old new makes follows =
     following_gives l.unit l.ring acts (Finding l call old) old new follows
-    (λ i amid. record { each = λ s on.
-      let safe : Always (Leaves (Found l.ring s (call s))) s.unit acts
+    (λ i amid. record {
+      each = λ s on.
+          let safe : Always (Leaves (Found l.ring s (call s))) s.unit acts
           = subst (λ (x : List Act). Always (Leaves (Found l.ring s (call s))) s.unit x) (makes.acts_are s on) (call_safe l.ring s (call s) on.is_log (makes.allowed s on)).0 in
-      always_left (Found l.ring s (call s)) s.unit acts (classes l.unit l.ring i) safe (amid.each s.unit on.tracks) })
+          always_left (Found l.ring s (call s)) s.unit acts (classes l.unit l.ring i) safe (amid.each s.unit on.tracks);
+    })
 
 -- the cells behind a call are those behind its acts
 pub done_unit : (ring : ℕ) (s : State) (c : Call) → (done ring s c).unit ≡ run_all s.unit (acts_of ring s c)

@@ -41,7 +41,7 @@ module _ (unit ring : ℕ) (h g : Header) (ks : List Kept) (capacity s end used 
           let mine : is_of_ring ring g ≡ true = subst (λ (r : ℕ). is_of_ring r g ≡ true) (sym (ap (λ (x : Log). x.ring) same)) of_ring in
           record {
             ordered = subst (λ (r : ℕ). IsOrdered r g new_ks) (sym ring_is) (subst (λ (xs : List Kept). IsOrdered ring g xs) (sym ks_is)
-              (ordered_behind ring h g n ks (within kept.few) spell mine (reclaim_low View l g n same n_is) place kept.ordered));
+                (ordered_behind ring h g n ks (within kept.few) spell mine (reclaim_low View l g n same n_is) place kept.ordered));
             room = omega (arith, kept.room, ring_is, capacity_is);
             few = omega (arith, kept.few, s_is, few, ap (λ (xs : List Kept). length xs) ks_is, length-drop n ks);
             end_is = end_is ∙ kept.end_is ∙ end_behind ring h g n ks place ∙ ap (λ (xs : List Kept). place_after ring g.place xs) (sym ks_is) ∙ ap (λ (r : ℕ). place_after r g.place new_ks) (sym ring_is);

@@ -51,8 +51,8 @@ module _ (v l : Log) (same : v ≡ l) (h : Header) (old new : Meaning) where
   state_leads state is line wrote =
       subst (λ (x : Log). h ≡ with_state x state → state.line ≡ x.header.state.line → LeadsTo x (saving (with_state x state) 0) (saved v h 0) old new) same
       (λ his at.
-        subst (λ (g : Header). LeadsTo v (saving (with_state v state) 0) (saved v g 0) old new) (sym his)
-        (save_leads v (with_state v state) 0 (state_keeps v state at) old new (subst (λ (g : Header). Arrives v.unit v.ring (head_acts (g.stamp % 2) g) old new) his wrote))) is line
+      subst (λ (g : Header). LeadsTo v (saving (with_state v state) 0) (saved v g 0) old new) (sym his)
+      (save_leads v (with_state v state) 0 (state_keeps v state at) old new (subst (λ (g : Header). Arrives v.unit v.ring (head_acts (g.stamp % 2) g) old new) his wrote))) is line
 
   pub without_goes : (to : ℕ) → h ≡ without l to → 0 < l.header.low → l.header.low ≤ to → to ≤ head_of l → Writes → Goes l (saving (without l to) (count_to l to)) old new
   without_goes to is some low held writes =
@@ -64,8 +64,8 @@ module _ (v l : Log) (same : v ≡ l) (h : Header) (old new : Meaning) where
   without_leads to after is some low held after_is wrote =
       subst (λ (x : Log). h ≡ without x to → 0 < x.header.low → x.header.low ≤ to → to ≤ head_of x → after ≡ saved x h (count_to x to) → LeadsTo x (saving (without x to) (count_to x to)) after old new) same
       (λ his positive at most behind.
-        subst (λ (a : Log). LeadsTo v (saving (without v to) (count_to v to)) a old new) (sym (behind ∙ ap (λ (g : Header). saved v g (count_to v to)) his))
-        (save_leads v (without v to) (count_to v to) (without_keeps v to positive at most) old new (subst (λ (g : Header). Arrives v.unit v.ring (head_acts (g.stamp % 2) g) old new) his wrote))) is some low held after_is
+      subst (λ (a : Log). LeadsTo v (saving (without v to) (count_to v to)) a old new) (sym (behind ∙ ap (λ (g : Header). saved v g (count_to v to)) his))
+      (save_leads v (without v to) (count_to v to) (without_keeps v to positive at most) old new (subst (λ (g : Header). Arrives v.unit v.ring (head_acts (g.stamp % 2) g) old new) his wrote))) is some low held after_is
 
   pub emptied_goes : (state : SiteState) (head : ℕ) → h ≡ emptied l state head → Writes → Goes l (restarting (emptied l state head)) old new
   emptied_goes state head is writes =
@@ -76,8 +76,8 @@ module _ (v l : Log) (same : v ≡ l) (h : Header) (old new : Meaning) where
   emptied_leads state head after is after_is wrote =
       subst (λ (x : Log). h ≡ emptied x state head → LeadsTo x (restarting (emptied x state head)) after old new) same
       (λ his.
-        subst (λ (a : Log). LeadsTo v (restarting (emptied v state head)) a old new) (sym (after_is ∙ ap (λ (g : Header). restarted v g) his))
-        (restart_leads v (emptied v state head) (emptied_empties v state head) old new (subst (λ (g : Header). Arrives v.unit v.ring (head_acts (g.stamp % 2) g) old new) his wrote))) is
+      subst (λ (a : Log). LeadsTo v (restarting (emptied v state head)) a old new) (sym (after_is ∙ ap (λ (g : Header). restarted v g) his))
+      (restart_leads v (emptied v state head) (emptied_empties v state head) old new (subst (λ (g : Header). Arrives v.unit v.ring (head_acts (g.stamp % 2) g) old new) his wrote))) is
 
 -- ---- the header of a reclaim
 

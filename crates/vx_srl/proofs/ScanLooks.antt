@@ -56,8 +56,8 @@ taken_stands ring c e p n prev head (Taken taken) is may stands of =
     let next : p + 1 ≡ suc p = omega arith in
     let front : c (block ring p) ≡ Front stands.0.head = is ∙ ap (λ (h : RecordHead). Front h) same in
     let accepts : Accepts e n prev (c (block ring p)) stands.0.head =
-        subst (λ (h : RecordHead). Accepts e n prev (c (block ring p)) h) same
-        (record { is = is; number = may.number; run = may.run; line = may.line; not_below = may.not_below; not_above = may.not_above }) in
+    subst (λ (h : RecordHead). Accepts e n prev (c (block ring p)) h) same
+    (record { is = is; number = may.number; run = may.run; line = may.line; not_below = may.not_below; not_above = may.not_above }) in
     (stands.0, stands.1, (accepts, stands.2), subst (λ (q : ℕ). HasBody ring c q stands.0.body) next stands.3)
 taken_stands ring c e p n prev head End is may stands of = tt
 taken_stands ring c e p n prev head (Broken at stored computed) is may stands of = tt

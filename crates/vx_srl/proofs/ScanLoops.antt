@@ -254,7 +254,7 @@ module _ (unit ring : ℕ) (h : Header) (old now : Meaning) (found : List Kept) 
             let at : (place + width r) % ring ≡ next % ring = ap (λ (x : ℕ). (place + x) % ring) count ∙ twice (place + (head.count + 1)) in
             let incarnation : r.incarnation ≡ head.incarnation = sym (ap (λ (x : RecordHead). x.incarnation) agrees) in
             let moved : Scan ring c (era_of h) next (suc (h.low + length found)) r.incarnation rest =
-                scan_at ring c (era_of h) (place + width r) next (suc (h.low + length found)) r.incarnation rest at here.2 in
+            scan_at ring c (era_of h) (place + width r) next (suc (h.low + length found)) r.incarnation rest at here.2 in
             record {
               rest = rest;
               whole = ap (λ (hs : List RecordHead). hs ++ heads_of rest) (kept_more found k) ∙ append_assoc (kept_heads found) (head ∷ []) (heads_of rest)
@@ -271,7 +271,7 @@ module _ (unit ring : ℕ) (h : Header) (old now : Meaning) (found : List Kept) 
         let r = there.0 in
         let count : width r ≡ head.count + 1 = (let size : r.head.count ≡ head.count = ap (λ (x : RecordHead). x.count) there.1 in omega (arith, there.2.1.count)) in
         let takes : Takes (era_of h) (h.low + length found) (last h.floor b.rs) (c (block ring place)) r =
-            subst (λ (i : ℕ). Takes (era_of h) (h.low + length found) i (c (block ring place)) r) (sym b.last_is) there.2 in
+        subst (λ (i : ℕ). Takes (era_of h) (h.low + length found) i (c (block ring place)) r) (sym b.last_is) there.2 in
         record {
           rs = b.rs ++ r ∷ [];
           heads = heads_more b.rs r ∙ ap (λ (hs : List RecordHead). hs ++ r.head ∷ []) b.heads ∙ ap (λ (x : RecordHead). kept_heads found ++ x ∷ []) there.1 ∙ sym (kept_more found k);

@@ -1,5 +1,5 @@
 -- A log as the program keeps it.
-use Rattle.std.specs.Prelude.{◌≡◌, ℕ, ◌*◌, ◌≤◌, List, length}
+use Rattle.std.specs.Prelude.{◌≡◌, ℕ, ◌*◌, ◌≤◌, List, [], length}
 use Rattle.vx_srlfmt.specs.declared.header.Header.{Header}
 use Rattle.vx_srl.specs.Views.{IsOrdered, place_after, widths}
 use Rattle.vx_srl.specs.declared.kept.Kept.{Kept}
@@ -11,3 +11,8 @@ pub record IsKept (ring : ℕ) (header : Header) (records : List Kept) (capacity
   pub few : sealed ≤ length records
   pub end_is : end ≡ place_after ring header.place records
   pub used_is : used ≡ widths records
+
+-- memory for the records of a ring
+pub record IsEmptyRoom (ring : ℕ) (records : List Kept) (capacity : ℕ) : Type 0 where
+  pub none : records ≡ []
+  pub room : ring ≤ 2 * capacity

@@ -90,3 +90,12 @@ abbrev pub StartIs : ℕ → ℕ → Meaning → Meaning → Result Log Stop →
 StartIs unit ring old new (Ok l) = IsStarted unit ring l old new × (IsTrue new.down → ⊥)
 StartIs unit ring old new (Err (Refused why)) = StartCause unit ring old new why
 StartIs unit ring old new (Err OutOfMemory) = Unit {0}
+
+-- the same where memory was taken before
+abbrev pub StartInIs : ℕ → ℕ → Meaning → Meaning → Result Log No → Type 0
+StartInIs unit ring old new (Ok l) = IsStarted unit ring l old new × (IsTrue new.down → ⊥)
+StartInIs unit ring old new (Err why) = StartCause unit ring old new why
+
+-- memory for a start, as callers see it
+pub record Room : Type 0 where
+  pub ring : ℕ

@@ -19,3 +19,4 @@ mod start;
 pub use errors::{SrlNo, refusal};
 pub use kept::Kept;
 pub use log::Srl;
+pub use start::LogRoom;

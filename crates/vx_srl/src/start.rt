@@ -10,17 +10,18 @@ ghost use Rattle.vx_ringlog.specs.Acts.{head_acts};
 ghost use Rattle.vx_srl.specs.Causes.{Stopped};
 ghost use Rattle.vx_srl.specs.Headers.{raised};
 ghost use Rattle.vx_srl.specs.Standings.{IsPicked, IsStanding, StandingCause, TakeOverCause, taken_over, taking_over, first_step_of};
-ghost use Rattle.vx_srl.specs.Starts.{Restarting, StartIs};
+ghost use Rattle.vx_srl.specs.Starts.{Restarting, StartInIs, StartIs};
 ghost use Rattle.vx_srl.specs.Views.{most_number};
 ghost use Rattle.vx_srlfmt.specs.Headers.{CanSpell};
 
 use crate::log::MOST;
 use crate::scan::scan;
-use crate::{Srl, refusal};
+use crate::{Kept, Srl, refusal};
 use std::alloc::Global;
 use std::collections::VecDeque;
+use std::marker::Model;
 use vx_disk::{Shelf, ShelfError};
-use vx_model::{Counted, No, Stop};
+use vx_model::{Counted, No, OutOfMemory, Stop};
 use vx_ringio::{TopSeen, read_top, write_header};
 use vx_srlfmt::Header;
 
@@ -178,31 +179,79 @@ fn take_over<S: Shelf>(
     Ok(again)
 }
 
+/// Memory for the start of a log: for as many records as its ring may have.
+#[derive(Drop)]
+pub struct LogRoom {
+    ring: u64,
+    records: VecDeque<Kept>,
+}
+
+impl Model for LogRoom {
+    ghost use Rattle.std.specs.VecDeque.{deque_capacity};
+    ghost use Rattle.vx_srl.specs.Kepts.{IsEmptyRoom};
+    ghost use Rattle.vx_srl.specs.Starts.{Room};
+
+    ghost Value = { Room };
+
+    ghost view = { λ r. record { ring = r.ring } };
+
+    ghost invariant = { λ r. IsEmptyRoom r.ring r.records.items (deque_capacity r.records) };
+}
+
+impl LogRoom {
+    /// For a log in a unit of so many blocks.
+    pub fn new(alloc: Global, blocks: u64) -> Result<LogRoom, OutOfMemory>
+        requires { 8 ≤ blocks }
+        ensures { IfOk result (λ room. room.ring ≡ ring_of blocks) }
+    {
+        let ring = blocks.min(65536) - 2;
+        let records = VecDeque::with_capacity(alloc, (ring as usize).div_ceil(2))?;
+        Ok(LogRoom { ring, records })
+    }
+}
+
 impl Srl {
-    /// Starts the log that stands on a unit of at least 8 blocks: it takes up the records that were sealed, or a first part of those
-    /// that were being sealed, and raises its incarnation, durably, before anything can be staged. Both header blocks are written.
+    /// Starts the log that stands on a unit of at least 8 blocks, with memory taken before: it takes up the records that were sealed, or
+    /// a first part of those that were being sealed, and raises its incarnation, durably, before anything can be staged. Both header
+    /// blocks are written.
     ///
     /// Refusals: 9 where neither header block is a header of the log, or 22 for the lower one whose digest differs; 22 for a record
     /// whose header or body has another digest; 19 where no stamp or incarnation is left; 7 and 6. Of the blocks of a log nothing
     /// changes but its headers.
+    pub fn start_in<S: Shelf>(room: LogRoom, shelf: &mut S, unit: u32) -> Result<Srl, No>
+        requires exists { unit < (S.meaning shelf.old).units }
+        requires large { 8 ≤ (S.meaning shelf.old).size unit }
+        requires room { room.ring ≡ ring_of ((S.meaning shelf.old).size unit) }
+        ensures starts { StartInIs unit (ring_of ((S.meaning shelf.old).size unit)) (S.meaning shelf.old) (S.meaning shelf.new) result }
+        ensures moves { Moves (Run unit 0 (ring_of ((S.meaning shelf.old).size unit) + 2)) (Restarting unit (ring_of ((S.meaning shelf.old).size unit)) (S.meaning shelf.old)) (S.meaning shelf.old) (S.meaning shelf.new) }
+    {
+        let LogRoom { ring, mut records } = room;
+        let standing = match find_header(shelf, unit, ring) {
+            Ok(standing) => standing,
+            Err(no) => return Err(no),
+        };
+        let scanned = match scan(shelf, unit, ring, &standing.header, &mut records) {
+            Ok(scanned) => scanned,
+            Err(no) => return Err(no),
+        };
+        match take_over(shelf, unit, ring, &standing) {
+            Ok(header) => Ok(Srl::made(unit, ring, header, records, scanned.end, scanned.used)),
+            Err(no) => Err(no),
+        }
+    }
+
+    /// The same, or want of memory, which changes nothing.
     pub fn start<S: Shelf>(alloc: Global, shelf: &mut S, unit: u32) -> Result<Srl, Stop>
         requires exists { unit < (S.meaning shelf.old).units }
         requires large { 8 ≤ (S.meaning shelf.old).size unit }
         ensures starts { StartIs unit (ring_of ((S.meaning shelf.old).size unit)) (S.meaning shelf.old) (S.meaning shelf.new) result }
         ensures moves { Moves (Run unit 0 (ring_of ((S.meaning shelf.old).size unit) + 2)) (Restarting unit (ring_of ((S.meaning shelf.old).size unit)) (S.meaning shelf.old)) (S.meaning shelf.old) (S.meaning shelf.new) }
     {
-        let ring = shelf.size(unit).min(65536) - 2;
-        let mut records = VecDeque::with_capacity(alloc, (ring as usize).div_ceil(2))?;
-        let standing = match find_header(shelf, unit, ring) {
-            Ok(standing) => standing,
-            Err(no) => return Err(Stop::No(no)),
+        let Ok(room) = LogRoom::new(alloc, shelf.size(unit)) else {
+            return Err(Stop::OutOfMemory);
         };
-        let scanned = match scan(shelf, unit, ring, &standing.header, &mut records) {
-            Ok(scanned) => scanned,
-            Err(no) => return Err(Stop::No(no)),
-        };
-        match take_over(shelf, unit, ring, &standing) {
-            Ok(header) => Ok(Srl::made(unit, ring, header, records, scanned.end, scanned.used)),
+        match Srl::start_in(room, shelf, unit) {
+            Ok(srl) => Ok(srl),
             Err(no) => Err(Stop::No(no)),
         }
     }

@@ -12,9 +12,13 @@ overflow_sub-result c =
     let ks = c.self.inside.records.items in
     let gone = c.args.above + 1 - c.self.inside.header.low in
     let at : gone < length ks = omega (arith, c.requires.known, ap next_of c.self.view_is, part_length c.self.inside.sealed ks) in
-    omega (arith, c.self.invariant.used_is, split_widths gone ks,
+    omega (
+      arith,
+      c.self.invariant.used_is,
+      split_widths gone ks,
       record_before c.self.inside.ring c.self.inside.header.place gone ks c.index.result.now c.index.ensures (place_low c.self.inside.ring c.self.inside.header c.self.invariant.ordered.of_ring)
-      c.self.invariant.ordered.placed c.self.invariant.ordered.fits at)
+          c.self.invariant.ordered.placed c.self.invariant.ordered.fits at,
+    )
 
 pub returns : goal.returns
 returns c =
@@ -22,4 +26,4 @@ returns c =
     let gone = c.args.above + 1 - c.self.inside.header.low in
     let at : gone < length ks = omega (arith, c.requires.known, ap next_of c.self.view_is, part_length c.self.inside.sealed ks) in
     rw (sym c.self.view_is) (blocks_behind c.self.inside.ring c.self.inside.header.place gone c.self.inside.sealed ks c.index.result.now c.self.inside.used c.self.invariant.used_is c.index.ensures
-      (place_low c.self.inside.ring c.self.inside.header c.self.invariant.ordered.of_ring) c.self.invariant.ordered.placed c.self.invariant.ordered.fits at)
+    (place_low c.self.inside.ring c.self.inside.header c.self.invariant.ordered.of_ring) c.self.invariant.ordered.placed c.self.invariant.ordered.fits at)

@@ -26,7 +26,7 @@ returns-in_err-write_fronts-clause-follows g c =
     (fronts_cut c.self.inside.unit c.self.inside.ring _ _ _ (c.flush_ring.ensures.follows c.self.inside.ring) (c.in_ok-flush_ring.ensures.arrives c.self.inside.ring) _ c.write_fronts.ensures.follows)
 
 pub returns-in_err-write_fronts-clause-cause : goal.returns-in_err-write_fronts-clause-cause
-returns-in_err-write_fronts-clause-cause g c = 
+returns-in_err-write_fronts-clause-cause g c =
     let p = err_from_is_err_and c.from_residual-in_err-write_fronts.result c.from_residual-in_err-write_fronts.ensures.1 in
     ended_err _ c.self.inside.unit c.self.inside.ring _ _ (g.S.Shelf.meaning c.flush_ring.new.shelf) (g.S.Shelf.meaning c.write_fronts.new.shelf) c.from_residual-in_err-write_fronts.result p.0 p.1 (c.flush_ring.ensures.follows c.self.inside.ring)
     (rw p.2 c.in_err-write_fronts.ensures.cause)
@@ -40,17 +40,17 @@ pub returns-clause-follows : goal.returns-clause-follows
 returns-clause-follows g c =
     subst (λ (x : Log). Follows x.unit x.ring (seal_written x.ring x.staged) (g.S.Shelf.meaning c.args.shelf.now) (g.S.Shelf.meaning c.flush_ring-2.new.shelf)) c.self.view_is
     (seal_follows c.self.inside.unit c.self.inside.ring _ _ _ (c.flush_ring.ensures.follows c.self.inside.ring) (c.in_ok-flush_ring.ensures.arrives c.self.inside.ring)
-      _ c.write_fronts.ensures.follows c.in_ok-write_fronts.ensures.arrives _ (c.flush_ring-2.ensures.follows c.self.inside.ring))
+    _ c.write_fronts.ensures.follows c.in_ok-write_fronts.ensures.arrives _ (c.flush_ring-2.ensures.follows c.self.inside.ring))
 
 pub returns-clause-arrives : goal.returns-clause-arrives
 returns-clause-arrives g c =
     on_ok_weaker c.flush_ring-2.result
     (λ last. subst (λ (x : Log). Arrives x.unit x.ring (seal_written x.ring x.staged) (g.S.Shelf.meaning c.args.shelf.now) (g.S.Shelf.meaning c.flush_ring-2.new.shelf)) c.self.view_is
-      (seal_arrives c.self.inside.unit c.self.inside.ring _ _ _ (c.flush_ring.ensures.follows c.self.inside.ring) (c.in_ok-flush_ring.ensures.arrives c.self.inside.ring)
-        _ c.write_fronts.ensures.follows c.in_ok-write_fronts.ensures.arrives _ (last c.self.inside.ring)))
+    (seal_arrives c.self.inside.unit c.self.inside.ring _ _ _ (c.flush_ring.ensures.follows c.self.inside.ring) (c.in_ok-flush_ring.ensures.arrives c.self.inside.ring)
+    _ c.write_fronts.ensures.follows c.in_ok-write_fronts.ensures.arrives _ (last c.self.inside.ring)))
     c.flush_ring-2.ensures.arrives
 
 pub returns-clause-cause : goal.returns-clause-cause
-returns-clause-cause g c = 
+returns-clause-cause g c =
     let first = fronts_follow c.self.inside.unit c.self.inside.ring _ _ _ (c.flush_ring.ensures.follows c.self.inside.ring) (c.in_ok-flush_ring.ensures.arrives c.self.inside.ring) _ c.write_fronts.ensures.follows in
     ended_last _ c.self.inside.unit c.self.inside.ring _ _ _ _ c.flush_ring-2.result first c.flush_ring-2.ensures.cause

@@ -1,0 +1,151 @@
+-- A group stays sound over a call on its log.
+use Rattle.std.proofs.Common.{◌≡◌, ◌≢◌, ℕ, ◌+◌, ◌-◌, ◌<◌, ◌≤◌, Bool, true, false, List, [], ◌∷◌, ◌++◌, length, drop, Option, Some, None, IsTrue, IsFalse, refl, sym, ◌∙◌, ap, subst, arith, length-append, append-nil}
+use Rattle.std.specs.Prelude.{if◌then◌else◌, leb, ltb}
+use Rattle.std.proofs.lemmas.Bool.Decides.{nat_tests}
+use Rattle.std.proofs.lemmas.List.{drop-append-le}
+use Rattle.std.proofs.lemmas.Option.{none-some}
+use Rattle.vx_model.specs.Content.{blocks_in}
+use Rattle.vx_model.specs.declared.no.No.{No}
+use Rattle.vx_model.specs.declared.no.No.TheVariants as no
+use Rattle.vx_model.specs.declared.units.Units.{Units}
+use Rattle.vx_srlfmt.specs.declared.header.Header.{Header}
+use Rattle.vx_disk.specs.Moves.{Blocks, Moves, Says}
+use Rattle.vx_disk.specs.Shelf.{Meaning}
+use Rattle.vx_overlay.specs.declared.entry.Entry.{Entry}
+use Rattle.vx_overlay.specs.Writes.{entries_at}
+use Rattle.vx_overlay.proofs.WriteLemmas.{entries_at_length}
+use Rattle.vx_ringio.specs.Tracks.{Lies}
+use Rattle.vx_srl.specs.Causes.{DeviceCause}
+use Rattle.vx_srl.specs.Views.{Log, head_of, kept_of}
+use Rattle.vx_srl.specs.declared.kept.Kept.{Kept}
+use Rattle.vx_rvg.specs.Groups.{Ended, Fails, halted_by, logged, with_write}
+use Rattle.vx_rvg.specs.Logging.{LogEnded}
+use Rattle.vx_rvg.specs.Views.{Core, IsSound, Placed, applied_count, blocks_within, unit_of, volume_size}
+
+-- ---- sizes that a call leaves
+
+-- units and sizes are as they were
+pub record SameSizes (m m' : Meaning) : Type 0 where
+  pub units : m'.units ≡ m.units
+  pub size : (u : ℕ) → m'.size u ≡ m.size u
+
+pub moved_sizes : (mine : Blocks) (P : Says) (m m' : Meaning) → Moves mine P m m' → SameSizes m m'
+moved_sizes mine P m m' moves = record { units = moves.units; size = moves.size }
+
+pub placed_same : (units : Units) (m m' : Meaning) → SameSizes m m' → Placed units m → Placed units m'
+placed_same units m m' same placed = record {
+  log_exists = omega (arith, same.units, placed.log_exists);
+  exist = λ v low. omega (arith, same.units, placed.exist v low);
+  apart = placed.apart;
+  distinct = placed.distinct;
+}
+
+pub lies_same : (unit ring : ℕ) (m m' : Meaning) → SameSizes m m' → Lies unit ring m → Lies unit ring m'
+lies_same unit ring m m' same lies = record { exists = omega (arith, same.units, lies.exists); within = omega (arith, same.size unit, lies.within) }
+
+pub volume_same : (vols : List ℕ) (m m' : Meaning) → SameSizes m m' → (v : ℕ) → volume_size vols m' v ≡ volume_size vols m v
+volume_same vols m m' same v = ap (λ (n : ℕ). if ltb v (length vols) then n else 0) (same.size (unit_of vols v))
+
+pub within_same : (one two : ℕ → ℕ) → ((v : ℕ) → two v ≡ one v) → (ks : List Kept) → blocks_within two ks ≡ blocks_within one ks
+within_same one two same [] = refl
+within_same one two same (k ∷ ks) =
+    let here : (if leb (k.head.block + k.head.count) (two k.head.vol) then k.head.count else 0) ≡ (if leb (k.head.block + k.head.count) (one k.head.vol) then k.head.count else 0)
+        = ap (λ (n : ℕ). if leb (k.head.block + k.head.count) n then k.head.count else 0) (same k.head.vol) in
+    omega (arith, here, within_same one two same ks)
+
+pub within_append : (size : ℕ → ℕ) (ks ls : List Kept) → blocks_within size (ks ++ ls) ≡ blocks_within size ks + blocks_within size ls
+within_append size [] ls = omega arith
+within_append size (k ∷ ks) ls = omega (arith, within_append size ks ls)
+
+-- ---- behind a call that failed
+
+same_log : (u r : ℕ) (h : Header) (hs st : List Kept) (l : Log) → u ≡ l.unit → r ≡ l.ring → h ≡ l.header → hs ≡ l.held
+    → record l { staged = st } ≡ record { unit = u; ring = r; header = h; held = hs; staged = st }
+same_log u r h hs st l unit ring header held = rw (unit, ring, header, held) refl
+
+pub ended_log : (l l' : Log) → LogEnded l l' → record l { staged = l'.staged } ≡ l'
+ended_log l l' ended = same_log l'.unit l'.ring l'.header l'.held l'.staged l ended.unit ended.ring ended.header ended.held
+
+staged_sound : (core : Core) (staged : List Kept) (halted : Option ℕ) (m m' : Meaning) → SameSizes m m' → IsSound core m → (halted ≡ None → IsFalse m'.down → staged ≡ [])
+    → IsSound (record core { log = record core.log { staged = staged }; halted = halted }) m'
+staged_sound core staged halted m m' same sound idle = record {
+  placed = placed_same core.units m m' same sound.placed;
+  log_unit = sound.log_unit;
+  lies = lies_same core.log.unit core.log.ring m m' same sound.lies;
+  idle = idle;
+  low = sound.low;
+  known = sound.known;
+  room = sound.room;
+  waiting = sound.waiting ∙ sym (within_same (volume_size core.units.vols m) (volume_size core.units.vols m') (volume_same core.units.vols m m' same) (drop (applied_count core) core.log.held));
+}
+
+pub ended_sound : (core : Core) (l' : Log) (halted : Option ℕ) (m m' : Meaning) → SameSizes m m' → IsSound core m → LogEnded core.log l'
+    → (halted ≡ None → IsFalse m'.down → l'.staged ≡ []) → IsSound (record core { log = l'; halted = halted }) m'
+ended_sound core l' halted m m' same sound ended idle =
+    subst (λ (l : Log). IsSound (record core { log = l; halted = halted }) m') (ended_log core.log l' ended) (staged_sound core l'.staged halted m m' same sound idle)
+
+pub core_ended : (core : Core) (l' : Log) (halted : Option ℕ) → LogEnded core.log l' → Ended core halted (record core { log = l'; halted = halted })
+core_ended core l' halted ended = record { units = refl; ring = ended.ring; header = ended.header; held = ended.held; pending = refl; applied = refl; halted_is = refl }
+
+up_or_down : (down : Bool) → IsTrue down → IsFalse down → ⊥
+up_or_down true is not = let wrong : true ≡ false = not in cc
+up_or_down false is not = let wrong : false ≡ true = is in cc
+
+-- a call on the log that a device call ended
+pub log_failed : (core : Core) (l' : Log) (m m' : Meaning) (why : No) → LogEnded core.log l' → DeviceCause m m' why → Fails core m m' (halted_by why (record core { log = l' })) why
+log_failed core l' m m' (no.Device disk) ended cause = (core_ended core l' (Some disk) ended, cause)
+log_failed core l' m m' no.Down ended cause = (core_ended core l' core.halted ended, cause)
+log_failed core l' m m' other ended cause = absurd cause
+
+pub failed_sound : (core : Core) (l' : Log) (m m' : Meaning) (why : No) → SameSizes m m' → IsSound core m → LogEnded core.log l' → DeviceCause m m' why → IsSound (halted_by why (record core { log = l' })) m'
+failed_sound core l' m m' (no.Device disk) same sound ended cause =
+    ended_sound core l' (Some disk) m m' same sound ended (λ none up. absurd (none-some disk (sym none)))
+failed_sound core l' m m' no.Down same sound ended cause =
+    ended_sound core l' core.halted m m' same sound ended (λ none up. absurd (up_or_down m'.down cause up))
+failed_sound core l' m m' other same sound ended cause = absurd cause
+
+-- ---- behind a write
+
+fits : (a b : ℕ) → a ≤ b → leb a b ≡ true
+fits a b le = grind (arith, nat_tests)
+
+pub applied_few : (core : Core) (m : Meaning) → IsSound core m → 0 < core.log.header.low → applied_count core ≤ length core.log.held
+applied_few core m sound some = omega (arith, sound.known, sound.low, some)
+
+module _ (core : Core) (vol start : ℕ) (bytes : List ℕ) (m m' : Meaning) (same : SameSizes m m') (sound : IsSound core m) (some : 0 < core.log.header.low) (idle : core.log.staged ≡ [])
+    (within : start + blocks_in bytes ≤ volume_size core.units.vols m vol) where
+  abbrev own : Kept
+  own = kept_of core.log vol start bytes
+
+  one_more : (size : ℕ → ℕ) → start + blocks_in bytes ≤ size vol → blocks_within size (own ∷ []) ≡ blocks_in bytes
+  one_more size inside =
+      let here : (if leb (start + blocks_in bytes) (size vol) then blocks_in bytes else 0) ≡ blocks_in bytes = ap (λ (w : Bool). if w then blocks_in bytes else 0) (fits (start + blocks_in bytes) (size vol) inside) in
+      omega (arith, here)
+
+  held_is : core.log.held ++ (core.log.staged ++ own ∷ []) ≡ core.log.held ++ own ∷ []
+  held_is = ap (λ (ks : List Kept). core.log.held ++ (ks ++ own ∷ [])) idle
+
+  pub write_sound : IsSound (with_write core vol start bytes) m'
+  write_sound =
+      let n : ℕ = applied_count core in
+      let size : ℕ → ℕ = volume_size core.units.vols m in
+      let rest : drop n (core.log.held ++ (core.log.staged ++ own ∷ [])) ≡ drop n core.log.held ++ own ∷ []
+          = ap (λ (ks : List Kept). drop n ks) held_is ∙ drop-append-le n core.log.held (own ∷ []) (applied_few core m sound some) in
+      let more : blocks_within size (drop n core.log.held ++ own ∷ []) ≡ blocks_within size (drop n core.log.held) + blocks_in bytes
+          = within_append size (drop n core.log.held) (own ∷ []) ∙ ap (λ (k : ℕ). blocks_within size (drop n core.log.held) + k) (one_more size within) in
+      record {
+        placed = placed_same core.units m m' same sound.placed;
+        log_unit = sound.log_unit;
+        lies = lies_same core.log.unit core.log.ring m m' same sound.lies;
+        idle = λ none up. refl;
+        low = sound.low;
+        known = omega (arith, sound.known, length-append core.log.held (core.log.staged ++ own ∷ []));
+        room = sound.room;
+        waiting =
+            length-append core.pending.entries (entries_at vol start (blocks_in bytes) bytes)
+            ∙ ap (λ (k : ℕ). length core.pending.entries + k) (entries_at_length vol start (blocks_in bytes) bytes)
+            ∙ ap (λ (k : ℕ). k + blocks_in bytes) sound.waiting
+            ∙ sym more
+            ∙ sym (within_same size (volume_size core.units.vols m') (volume_same core.units.vols m m' same) (drop n core.log.held ++ own ∷ []))
+            ∙ ap (λ (ks : List Kept). blocks_within (volume_size core.units.vols m') ks) (sym rest);
+      }
