@@ -1,5 +1,5 @@
 -- What a read answers, from what its parts are.
-use Rattle.std.proofs.Common.{◌≡◌, ℕ, zero, suc, ◌+◌, ◌*◌, ◌<◌, ◌≤◌, Bool, true, false, List, length, Option, Some, None, Result, Ok, Err, OnOk, IsTrue, refl, sym, ◌∙◌, ap, subst, arith}
+use Rattle.std.proofs.Common.{◌≡◌, ℕ, ◌+◌, ◌<◌, ◌≤◌, Bool, true, false, List, length, Option, Some, None, Result, Ok, Err, OnOk, IsTrue, refl, sym, ◌∙◌, ap, subst, arith}
 use Rattle.std.specs.Prelude.{if◌then◌else◌, ltb}
 use Rattle.std.proofs.lemmas.Bool.Decides.{nat_tests}
 use Rattle.std.proofs.lemmas.Option.{none-some}
@@ -34,9 +34,10 @@ read_fits core size start count is =
 -- ---- what it gives
 
 pub shows_at : (core : Core) (c : Content) (m : Meaning) → Stands core c m → Lawful m → IsTrue m.tells → (vol start unit size : ℕ) → vol < length core.units.vols → (old mid new : List ℕ) → IsBlocks old
-    → length mid ≡ length old → unit ≡ unit_of core.units.vols vol → size ≡ m.size unit → read_refusal core size start (blocks_in old) ≡ None → Read m unit start mid
+    → length mid ≡ length old → unit ≡ unit_of core.units.vols vol → size ≡ m.size unit → (refused : Option No) → refused ≡ read_refusal core size start (blocks_in old) → refused ≡ None → Read m unit start mid
     → IsPatched core.pending.entries vol start mid new → Shows c vol start (blocks_in old) new
-shows_at core c m stands lawful tells vol start unit size exists old mid new blocks same unit_is size_is free read patched =
+shows_at core c m stands lawful tells vol start unit size exists old mid new blocks same unit_is size_is refused refused_is none read patched =
+    let free : read_refusal core size start (blocks_in old) ≡ None = sym refused_is ∙ none in
     shows core c m stands lawful tells vol start exists old mid new blocks same
     (omega (arith, read_fits core size start (blocks_in old) free, size_is, ap (λ (u : ℕ). m.size u) unit_is)) (subst (λ (u : ℕ). Read m u start mid) unit_is read) patched
 

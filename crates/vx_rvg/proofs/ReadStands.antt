@@ -1,24 +1,22 @@
 -- A read: what waits over what the volumes show is the content, and the group stands as before.
-use Rattle.std.proofs.Common.{◌≡◌, ◌⊎◌, inl, inr, ⊎_elim, ℕ, zero, suc, ◌+◌, ◌-◌, ◌*◌, ◌/◌, ◌%◌, ◌<◌, ◌≤◌, Bool, true, false, List, [], ◌∷◌, ◌++◌, length, take, drop, Option, Some, None, IsTrue, IsFalse, MatchOption, All, refl, sym, ◌∙◌, ap, subst, arith}
-use Rattle.std.specs.Prelude.{map}
+use Rattle.std.proofs.Common.{◌≡◌, ℕ, zero, suc, ◌+◌, ◌-◌, ◌<◌, ◌≤◌, Bool, true, false, List, [], ◌∷◌, length, drop, Option, Some, None, IsTrue, IsFalse, MatchOption, All, refl, sym, ◌∙◌, ap, subst, arith}
 use Rattle.std.proofs.lemmas.List.Elements.{All-nil, All-cons, All-head, All-tail}
 use Rattle.std.proofs.lemmas.Nat.{div-add-mod'}
 use Rattle.vx_model.specs.Content.{Content, Write, blocks_in, block_of}
-use Rattle.vx_disk.specs.Shelf.{Covers, Fits, Goes, Keeps, Lawful, Meaning, Nothing, Read, piece}
-use Rattle.vx_disk.proofs.Moving.{of_nothing}
+use Rattle.vx_disk.specs.Shelf.{Covers, Goes, Keeps, Lawful, Meaning, Nothing, Read}
 use Rattle.vx_disk.proofs.Runs.{at_rest}
 use Rattle.vx_overlay.specs.declared.entry.Entry.{Entry}
 use Rattle.vx_overlay.specs.Pending.{newest}
-use Rattle.vx_overlay.specs.Writes.{IsWholeWrite, entries_of, newest_of}
+use Rattle.vx_overlay.specs.Writes.{IsWholeWrite, newest_of}
 use Rattle.vx_overlay.proofs.WriteLemmas.{newest_drop, newest_entries}
 use Rattle.vx_ringlog.specs.Records.{Record, write_of}
 use Rattle.vx_ringio.specs.Bodies.{IsBlocks}
 use Rattle.vx_ringio.proofs.Following.{rest_tracks}
 use Rattle.vx_srl.specs.Rings.{RingOn}
-use Rattle.vx_rvg.specs.Contents.{HasSizes, KeepsContent, Shows, writes_of}
+use Rattle.vx_rvg.specs.Contents.{Shows, writes_of}
 use Rattle.vx_rvg.specs.Groups.{IsPatched}
 use Rattle.vx_rvg.specs.Stands.{IsWholeRecord, Ready, Stands}
-use Rattle.vx_rvg.specs.Views.{Core, IsSound, Placed, applied_count, unit_of}
+use Rattle.vx_rvg.specs.Views.{Core, IsSound, applied_count, unit_of}
 use Rattle.vx_rvg.proofs.WriteSound.{SameSizes, ended_sound}
 
 -- ---- the group behind a call that writes nothing
@@ -95,9 +93,9 @@ waits_content core c m stands v b bytes low is =
     let rs : List Record = stands.log.held in
     let ready : Ready core c stands.log m = stands.ready in
     let among : newest_of c.size (drop n (writes_of rs)) v b ≡ Some bytes
-        = ap (λ (ws : List Write). newest_of c.size ws v b) (sym (writes_drop n rs))
-        ∙ sym (newest_entries c.size (writes_of (drop n rs)) v b (whole_writes (drop n rs) (whole_drop n rs ready.whole)))
-        ∙ ap (λ (es : List Entry). newest es v b) (sym ready.waiting) ∙ is in
+    = ap (λ (ws : List Write). newest_of c.size ws v b) (sym (writes_drop n rs))
+    ∙ sym (newest_entries c.size (writes_of (drop n rs)) v b (whole_writes (drop n rs) (whole_drop n rs ready.whole)))
+    ∙ ap (λ (es : List Entry). newest es v b) (sym ready.waiting) ∙ is in
     matched (newest_of c.size (writes_of rs) v b) bytes (c.block v b) (Keeps m (unit_of core.units.vols v) b (c.block v b)) (newest_drop c.size n (writes_of rs) v b bytes among) (ready.content.each v b low)
 
 -- ---- a block that was read and patched
@@ -111,10 +109,10 @@ module _ (core : Core) (c : Content) (m : Meaning) (stands : Stands core c m) (l
   from_volume : (k : ℕ) → k < blocks_in old → newest core.pending.entries vol (start + k) ≡ None → block_of mid k ≡ c.block vol (start + k)
   from_volume k low none =
       let covers : Covers (unit_of core.units.vols vol) start mid (unit_of core.units.vols vol) (start + k)
-          = record { there = refl; first = omega arith; last = omega (arith, low, same, blocks.whole, div-add-mod' (length old) 512) } in
+      = record { there = refl; first = omega arith; last = omega (arith, low, same, blocks.whole, div-add-mod' (length old) 512) } in
       let at : start + k - start ≡ k = omega arith in
       let shown : m.reads (unit_of core.units.vols vol) (start + k) (block_of mid k)
-          = subst (λ (j : ℕ). m.reads (unit_of core.units.vols vol) (start + k) (block_of mid j)) at (read.each tells (start + k) covers) in
+      = subst (λ (j : ℕ). m.reads (unit_of core.units.vols vol) (start + k) (block_of mid j)) at (read.each tells (start + k) covers) in
       (stands.ready.settled vol (start + k) (inside k low) none).only (block_of mid k) (lawful.shown (unit_of core.units.vols vol) (start + k) (block_of mid k) shown)
 
   one_block : (k : ℕ) → k < blocks_in old → (o : Option (List ℕ)) → newest core.pending.entries vol (start + k) ≡ o
