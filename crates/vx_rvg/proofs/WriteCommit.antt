@@ -1,5 +1,5 @@
 -- The group behind a write, from what its parts are.
-use Rattle.std.proofs.Common.{◌≡◌, ℕ, zero, suc, ◌+◌, ◌-◌, ◌<◌, ◌≤◌, Bool, true, false, List, [], ◌∷◌, ◌++◌, length, drop, Option, None, IsFalse, refl, sym, ◌∙◌, ap, subst, arith}
+use Rattle.std.proofs.Common.{◌≡◌, ℕ, zero, suc, ◌+◌, ◌<◌, ◌≤◌, Bool, true, false, List, [], ◌∷◌, ◌++◌, length, drop, sym, ◌∙◌, ap, subst, arith}
 use Rattle.std.specs.Prelude.{if◌then◌else◌, leb}
 use Rattle.vx_model.specs.Content.{Content, put, blocks_in}
 use Rattle.vx_model.specs.declared.no.No.{No}
@@ -10,7 +10,7 @@ use Rattle.vx_overlay.specs.Pending.{Pending}
 use Rattle.vx_overlay.specs.Writes.{entries_at}
 use Rattle.vx_ringio.specs.Bodies.{IsBlocks}
 use Rattle.vx_srl.specs.Causes.{DeviceCause}
-use Rattle.vx_srl.specs.Views.{Log, free_of, kept_of, need_of, widths}
+use Rattle.vx_srl.specs.Views.{Log, free_of, need_of, widths}
 use Rattle.vx_srl.specs.declared.kept.Kept.{Kept}
 use Rattle.vx_rvg.specs.Groups.{halted_by, logged, with_write}
 use Rattle.vx_rvg.specs.Logging.{LogEnded, LogFound, LogMoves, LogsTo}
@@ -77,7 +77,7 @@ module _ (held core : Core) (is : held ≡ core) (vol start : ℕ) (bytes : List
     commit_stands leads c stands =
         let log_made : log ≡ (with_write core vol start bytes).log = log_is ∙ ap (λ (k : Core). logged k.log vol start bytes) is in
         let core_leads : LogsTo core.log vol start bytes (with_write core vol start bytes).log m m'
-            = subst (λ (k : Core). LogsTo k.log vol start bytes (with_write core vol start bytes).log m m') is (subst (λ (l : Log). LogsTo held.log vol start bytes l m m') log_made leads) in
+        = subst (λ (k : Core). LogsTo k.log vol start bytes (with_write core vol start bytes).log m m') is (subst (λ (l : Log). LogsTo held.log vol start bytes l m m') log_made leads) in
         subst (λ (k : Core). Stands k (put c (write_at vol start bytes)) m') (sym made)
         (write_stands core vol start bytes m m' sound.placed sound.log_unit exists blocks within core_moves (applied_few core m sound some) core_leads c stands)
 

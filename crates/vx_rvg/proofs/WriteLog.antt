@@ -1,25 +1,25 @@
 -- A record that is staged and sealed, as one call on the log.
-use Rattle.std.proofs.Common.{◌≡◌, ◌⊎◌, inl, inr, ⊎_elim, ℕ, zero, suc, ◌+◌, ◌-◌, ◌≤◌, ◌<◌, List, [], ◌∷◌, ◌++◌, length, take, Result, Ok, Err, IsTrue, refl, sym, ◌∙◌, ap, subst, arith, length-append, append-nil}
+use Rattle.std.proofs.Common.{◌≡◌, ◌⊎◌, inl, inr, ⊎_elim, ℕ, zero, suc, ◌+◌, ◌≤◌, ◌<◌, List, [], ◌∷◌, ◌++◌, length, take, Ok, Err, refl, ◌∙◌, ap, subst, arith, length-append, append-nil}
 use Rattle.vx_model.specs.declared.no.No.{No}
 use Rattle.vx_model.specs.declared.no.No.TheVariants as no
 use Rattle.vx_disk.specs.Counts.{Rose}
-use Rattle.vx_disk.specs.Moves.{Moves, Run}
-use Rattle.vx_disk.specs.Shelf.{Meaning, Image}
+use Rattle.vx_disk.specs.Moves.{Run}
+use Rattle.vx_disk.specs.Shelf.{Meaning}
 use Rattle.vx_disk.proofs.Moving.{goes_on, wider}
 use Rattle.vx_ringlog.specs.Cells as cells
 use Rattle.vx_ringlog.specs.Chain.{Recovers}
 use Rattle.vx_ringlog.specs.Logs.{State, Stage, Seal, Found, done}
 use Rattle.vx_ringlog.specs.Records.{Record}
 use Rattle.vx_ringio.specs.Classes.{classes}
-use Rattle.vx_srl.specs.Calls.{LogCause, Stages, Seals, sealed, sealing, staged_with, staging}
+use Rattle.vx_srl.specs.Calls.{LogCause, Stages, Seals, sealing, staged_with, staging}
 use Rattle.vx_srl.specs.Causes.{DeviceCause}
-use Rattle.vx_srl.specs.Rings.{Finding, Goes, LeadsTo, RingOn}
-use Rattle.vx_srl.specs.Views.{Log, all_of, head_of, kept_of, record_of}
+use Rattle.vx_srl.specs.Rings.{Finding, Goes, LeadsTo}
+use Rattle.vx_srl.specs.Views.{Log, all_of, kept_of, record_of}
 use Rattle.vx_srl.specs.declared.errors.SrlNo.{SrlNo}
 use Rattle.vx_srl.specs.declared.errors.SrlNo.TheVariants.{NoRoom, Overrun, Other}
 use Rattle.vx_srl.specs.declared.kept.Kept.{Kept}
-use Rattle.vx_rvg.specs.Groups.{logged, no_of}
-use Rattle.vx_rvg.specs.Logging.{LogEnded, LogFound, LogMoves, Logs, LogsTo, with_record}
+use Rattle.vx_rvg.specs.Groups.{no_of}
+use Rattle.vx_rvg.specs.Logging.{LogEnded, LogFound, LogMoves, Logs, LogsTo}
 
 -- ---- refusals
 

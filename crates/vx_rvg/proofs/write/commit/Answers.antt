@@ -1,5 +1,5 @@
 -- The group behind the logging of a write.
-use Rattle.std.proofs.Common.{◌≡◌, ◌≤◌, ◌+◌, length, sym, ap, subst, [], arith}
+use Rattle.std.proofs.Common.{◌≤◌, ◌+◌, length, sym, subst}
 use Rattle.vx_model.specs.Content.{blocks_in}
 use Rattle.vx_rvg.specs.Views.{Core, IsSound}
 use Rattle.vx_rvg.proofs.WriteCommit.{commit_failed, commit_moves, commit_sound, commit_stands, waiting_room}

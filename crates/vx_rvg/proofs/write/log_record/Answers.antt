@@ -1,5 +1,4 @@
 -- The staging and the sealing of a record are one call.
-use Rattle.std.proofs.Common.{arith}
 use Rattle.vx_srl.specs.Views.{most_number}
 use Rattle.vx_rvg.proofs.WriteLog.{both_lead, both_move, next_free}
 use Rattle.vx_rvg.proofs.write.log_record.Goals as goal

@@ -1,6 +1,5 @@
-use Rattle.std.proofs.Common.{◌<◌, ◌≤◌, ◌≡◌, ◌+◌, ◌-◌, ℕ, arith}
+use Rattle.std.proofs.Common.{◌≤◌, arith}
 use Rattle.vx_disk.specs.Moves.{Anything}
-use Rattle.vx_model.specs.Steps.{ring_of}
 use Rattle.vx_rvg.proofs.MakeStands.{new_stands}
 use Rattle.vx_rvg.proofs.group.Rvg.create.Goals as goal
 
