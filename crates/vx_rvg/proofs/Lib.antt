@@ -1,3 +1,4 @@
+pub mod ApplyFlush
 pub mod ContentFacts
 pub mod PatchFacts
 pub mod WriteCommit

@@ -1,9 +1,11 @@
 -- A group that stands, with a write behind the others.
 use Rattle.std.proofs.Common.{◌≡◌, ◌⊎◌, inl, inr, ⊎_elim, ℕ, ◌+◌, ◌-◌, ◌<◌, ◌≤◌, Bool, true, false, List, [], ◌∷◌, ◌++◌, length, drop, Option, Some, None, refl, sym, ◌∙◌, ap, subst, arith, length-append, append-nil}
-use Rattle.std.specs.Prelude.{if◌then◌else◌, leb}
+use Rattle.std.specs.Prelude.{if◌then◌else◌, leb, ◌*◌, All}
 use Rattle.std.proofs.lemmas.Bool.{lt-ltb}
 use Rattle.std.proofs.lemmas.Bool.Decides.{nat_tests}
 use Rattle.std.proofs.lemmas.List.{drop-append-le}
+use Rattle.std.proofs.lemmas.List.Elements.{All-push}
+use Rattle.std.proofs.lemmas.Nat.{div-add-mod'}
 use Rattle.std.proofs.lemmas.Option.{none-some}
 use Rattle.vx_model.specs.Content.{Content, Write, put, blocks_in}
 use Rattle.vx_srlfmt.specs.declared.header.Header.{Header}
@@ -24,7 +26,7 @@ use Rattle.vx_srl.specs.Views.{Log, head_of, record_of}
 use Rattle.vx_rvg.specs.Contents.{writes_of, HasContent, HasSizes, KeepsContent}
 use Rattle.vx_rvg.specs.Groups.{with_write}
 use Rattle.vx_rvg.specs.Logging.{LogFound, LogMoves, LogsTo, with_record}
-use Rattle.vx_rvg.specs.Stands.{Found, FoundAs, Ready, Stands, Writing}
+use Rattle.vx_rvg.specs.Stands.{Found, FoundAs, IsWholeRecord, Ready, Stands, Writing}
 use Rattle.vx_rvg.specs.Views.{Core, Placed, applied_count, last_of, unit_of, volume_size}
 use Rattle.vx_rvg.proofs.ContentFacts.{found_as, has_content_beside, held_length, recovers_low, volumes_beside}
 use Rattle.vx_rvg.proofs.WriteContent.{put_aside, put_has, put_keeps, record_writes, writes_more}
@@ -66,6 +68,9 @@ module _ (core : Core) (c : Content) (vol start : ℕ) (bytes : List ℕ) (m : M
   writes : write_of front ≡ own
   writes = record_writes core.log vol start bytes blocks
 
+  own_whole : IsWholeRecord front
+  own_whole = ap (λ (x : Write). length x.bytes) writes ∙ omega (arith, blocks.whole, div-add-mod' (length bytes) 512)
+
   held_is : (with_record core.log.ring s front).held ≡ s.held ++ front ∷ []
   held_is = ap (λ (rs : List Record). s.held ++ (rs ++ front ∷ [])) ready.idle
 
@@ -105,6 +110,7 @@ module _ (core : Core) (c : Content) (vol start : ℕ) (bytes : List ℕ) (m : M
     write_ready few leads = record {
       ring = leads.each s ready.ring ready.idle;
       idle = refl;
+      whole = subst (λ (rs : List Record). All IsWholeRecord rs) (sym held_is) (All-push IsWholeRecord s.held front ready.whole own_whole);
       sizes = record { each = λ v low. ready.sizes.each v low ∙ sym (moves.size (unit_of core.units.vols v)); none = ready.sizes.none };
       content = subst (λ (ws : List Write). KeepsContent core.units.vols (put c own) ws m') (sym writes_are) (put_keeps core.units.vols c own (writes_of s.held) m m' kept ready.content);
       waiting = waits few;

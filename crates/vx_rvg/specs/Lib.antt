@@ -1,3 +1,4 @@
+pub mod Brings
 pub mod Contents
 pub mod Groups
 pub mod Logging

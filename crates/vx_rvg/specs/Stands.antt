@@ -1,5 +1,5 @@
 -- A group that stands on its shelf with a content, and what a crash leaves of it.
-use Rattle.std.specs.Prelude.{◌≡◌, ◌⊎◌, ℕ, ◌+◌, ◌<◌, ◌≤◌, List, [], length, drop, None}
+use Rattle.std.specs.Prelude.{◌≡◌, ◌⊎◌, ℕ, ◌+◌, ◌*◌, ◌<◌, ◌≤◌, List, [], length, drop, None, All}
 use Rattle.vx_model.specs.Content.{Content, Write, put}
 use Rattle.vx_model.specs.declared.state.State.{State as SiteState}
 use Rattle.vx_model.specs.declared.units.Units.{Units}
@@ -10,7 +10,7 @@ use Rattle.vx_overlay.specs.Pending.{newest}
 use Rattle.vx_ringlog.specs.Cells.{Image as Kinds}
 use Rattle.vx_ringlog.specs.Chain.{Recovers}
 use Rattle.vx_ringlog.specs.Logs.{State}
-use Rattle.vx_ringlog.specs.Records.{Record}
+use Rattle.vx_ringlog.specs.Records.{Record, given}
 use Rattle.vx_ringio.specs.Classes.{classes}
 use Rattle.vx_ringio.specs.Reading.{LeavesAs}
 use Rattle.vx_srl.specs.Rings.{RingOn}
@@ -18,11 +18,16 @@ use Rattle.vx_overlay.specs.Writes.{entries_of}
 use Rattle.vx_rvg.specs.Contents.{writes_of, HasSizes, KeepsContent, HasContent}
 use Rattle.vx_rvg.specs.Views.{Core, unit_of, last_of, applied_count}
 
--- The log stands, nothing of it is staged, and the volumes with its writes over them have the content. What waits are the blocks of
+-- the record has as many whole blocks as its header says
+abbrev pub IsWholeRecord : Record → Type 0
+IsWholeRecord r = length (given r) ≡ 512 * r.head.count
+
+-- The log stands, nothing of it is staged, each record of it is whole, and the volumes with its writes over them have the content. What waits are the blocks of
 -- the writes that are not applied, and each other block of a volume has the content by itself.
 pub record Ready (core : Core) (c : Content) (s : State) (m : Meaning) : Type 0 where
   pub ring : RingOn core.log s m
   pub idle : s.staged ≡ []
+  pub whole : All IsWholeRecord s.held
   pub sizes : HasSizes core.units.vols c m
   pub content : KeepsContent core.units.vols c (writes_of s.held) m
   pub waiting : core.pending.entries ≡ entries_of c.size (writes_of (drop (applied_count core) s.held))

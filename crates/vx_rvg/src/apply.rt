@@ -1,10 +1,12 @@
 // The bringing of logged writes into their volumes.
 ghost use Rattle.std.specs.Prelude.{◌≡◌, ◌+◌, ◌<◌, ◌≤◌, length, Some, None, IsTrue, IsFalse, OnOk, IsSome};
-ghost use Rattle.vx_disk.specs.Moves.{Moves};
+ghost use Rattle.vx_disk.specs.Moves.{Moves, Anything, Nowhere};
 ghost use Rattle.vx_model.specs.Content.{Content};
+ghost use Rattle.vx_rvg.specs.Brings.{Brings, BringsOne, VolumesFlushed};
 ghost use Rattle.vx_rvg.specs.Groups.{unless_halted, ApplyIs};
 ghost use Rattle.vx_rvg.specs.Stands.{Stands, Resting, Rests};
-ghost use Rattle.vx_rvg.specs.Views.{IsSound, Waits};
+ghost use Rattle.vx_srl.specs.Causes.{Stopped};
+ghost use Rattle.vx_rvg.specs.Views.{Placed, Waits, last_of};
 
 use crate::patch::patch;
 use crate::{Rvg, RvgCore};
@@ -13,8 +15,18 @@ use vx_model::No;
 use vx_srl::refusal;
 
 // Writes the newest blocks of the places of one record, and answers how many; none where it does not end within its volume.
-fn bring_one<S: Shelf>(shelf: &mut S, core: &RvgCore, n: u64) -> Result<u64, ShelfError> {
-    let head = core.srl.front(n);
+fn bring_one<S: Shelf>(shelf: &mut S, core: &RvgCore, n: u64) -> Result<u64, ShelfError>
+    requires placed { Placed core.now.units (S.meaning shelf.old) }
+    requires low { core.now.log.header.low ≤ core.now.applied + 1 }
+    requires waits { core.now.applied < n }
+    requires held { n ≤ last_of core.now }
+    ensures brings { OnOk result (BringsOne core.now n (S.meaning shelf.old) (S.meaning shelf.new)) }
+    ensures moves { Moves (Waits core.now (S.meaning shelf.old)) Anything (S.meaning shelf.old) (S.meaning shelf.new) }
+    ensures stopped { Stopped (S.meaning shelf.old) (S.meaning shelf.new) result }
+{
+    // A log bounds the blocks of its records by its ring.
+    let _ring = core.srl.ring();
+    let head = *core.srl.front(n);
     if head.vol >= core.volumes() {
         return Ok(0);
     }
@@ -32,7 +44,12 @@ fn bring_one<S: Shelf>(shelf: &mut S, core: &RvgCore, n: u64) -> Result<u64, She
 }
 
 // Makes each data volume durable.
-fn flush_volumes<S: Shelf>(shelf: &mut S, core: &RvgCore) -> Result<(), ShelfError> {
+fn flush_volumes<S: Shelf>(shelf: &mut S, core: &RvgCore) -> Result<(), ShelfError>
+    requires placed { Placed core.now.units (S.meaning shelf.old) }
+    ensures flushed { OnOk result (VolumesFlushed core.now.units.vols (S.meaning shelf.old) (S.meaning shelf.new)) }
+    ensures moves { Moves Nowhere Anything (S.meaning shelf.old) (S.meaning shelf.new) }
+    ensures stopped { Stopped (S.meaning shelf.old) (S.meaning shelf.new) result }
+{
     for vol in 0..core.volumes() {
         shelf.flush(core.unit(vol))?;
     }
@@ -40,10 +57,17 @@ fn flush_volumes<S: Shelf>(shelf: &mut S, core: &RvgCore) -> Result<(), ShelfErr
 }
 
 // Brings the records up to a number into their volumes, durably, and answers how many blocks they are.
-fn bring<S: Shelf>(shelf: &mut S, core: &RvgCore, to: u64) -> Result<u64, ShelfError> {
+fn bring<S: Shelf>(shelf: &mut S, core: &RvgCore, to: u64) -> Result<u64, ShelfError>
+    requires placed { Placed core.now.units (S.meaning shelf.old) }
+    requires low { core.now.log.header.low ≤ core.now.applied + 1 }
+    requires held { to ≤ last_of core.now }
+    ensures brings { OnOk result (Brings core.now to (S.meaning shelf.old) (S.meaning shelf.new)) }
+    ensures moves { Moves (Waits core.now (S.meaning shelf.old)) Anything (S.meaning shelf.old) (S.meaning shelf.new) }
+    ensures stopped { Stopped (S.meaning shelf.old) (S.meaning shelf.new) result }
+{
     let mut count = 0;
-    for n in core.applied + 1..to + 1 {
-        count += bring_one(shelf, core, n)?;
+    for n in core.applied..to {
+        count += bring_one(shelf, core, n + 1)?;
     }
     flush_volumes(shelf, core)?;
     Ok(count)
@@ -67,6 +91,9 @@ impl<S: Shelf> Rvg<S> {
         let to = count.min(self.core.srl.head());
         if to <= self.core.applied {
             return Ok(self.core.applied);
+        }
+        if self.shelf.is_down() {
+            return Err(No::Down);
         }
         match bring(&mut self.shelf, &self.core, to) {
             Ok(blocks) => {
