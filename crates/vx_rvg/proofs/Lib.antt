@@ -1,6 +1,8 @@
 pub mod ApplyFlush
 pub mod ContentFacts
 pub mod PatchFacts
+pub mod ReadAnswers
+pub mod ReadStands
 pub mod WriteCommit
 pub mod WriteContent
 pub mod WriteLog
