@@ -1,7 +1,9 @@
 -- A new group stands with the content that its volumes have by themselves.
 use Rattle.std.proofs.Common.{◌≡◌, ◌≢◌, None, ℕ, ◌+◌, ◌-◌, ◌<◌, ◌≤◌, List, [], length, drop, IsTrue, refl, sym, ◌∙◌, ap, subst, arith, ⊎_elim}
 use Rattle.std.proofs.Math.Seq.{drop-nil}
+use Rattle.std.specs.Prelude.{All}
 use Rattle.std.proofs.lemmas.Bool.{cases_lt}
+use Rattle.std.proofs.lemmas.List.Elements.{All-nil}
 use Rattle.vx_model.specs.Content.{Content}
 use Rattle.vx_model.specs.declared.state.State.{State as SiteState}
 use Rattle.vx_model.specs.declared.units.Units.{Units}
@@ -16,7 +18,7 @@ use Rattle.vx_srl.specs.Rings.{RingOn}
 use Rattle.vx_srl.specs.Starts.{IsNew}
 use Rattle.vx_srl.specs.Views.{Log}
 use Rattle.vx_rvg.specs.Contents.{writes_of, HasSizes, KeepsContent}
-use Rattle.vx_rvg.specs.Stands.{Holds, Ready, Stands}
+use Rattle.vx_rvg.specs.Stands.{Holds, IsWholeRecord, Ready, Stands}
 use Rattle.vx_rvg.specs.Views.{Core, Placed, unit_of}
 
 -- a block of a volume lies within those that exist
@@ -57,6 +59,7 @@ new_stands units kept state ring count P c l pending old new placed same made no
     ready = record {
       ring = stood.1;
       idle = stood.3;
+      whole = subst (λ (rs : List Record). All IsWholeRecord rs) (sym held) (All-nil IsWholeRecord);
       sizes = sizes_moved units.vols c old new moves.size holds.sizes;
       content = subst (λ (rs : List Record). KeepsContent units.vols c (writes_of rs) new) (sym held)
           (record { each = λ v b below. volume_kept units count P c old new placed moves holds.sizes v b below (holds.blocks v b below) });
