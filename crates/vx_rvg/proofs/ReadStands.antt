@@ -95,9 +95,9 @@ waits_content core c m stands v b bytes low is =
     let rs : List Record = stands.log.held in
     let ready : Ready core c stands.log m = stands.ready in
     let among : newest_of c.size (drop n (writes_of rs)) v b ≡ Some bytes
-        = ap (λ (ws : List Write). newest_of c.size ws v b) (sym (writes_drop n rs))
-        ∙ sym (newest_entries c.size (writes_of (drop n rs)) v b (whole_writes (drop n rs) (whole_drop n rs ready.whole)))
-        ∙ ap (λ (es : List Entry). newest es v b) (sym ready.waiting) ∙ is in
+    = ap (λ (ws : List Write). newest_of c.size ws v b) (sym (writes_drop n rs))
+    ∙ sym (newest_entries c.size (writes_of (drop n rs)) v b (whole_writes (drop n rs) (whole_drop n rs ready.whole)))
+    ∙ ap (λ (es : List Entry). newest es v b) (sym ready.waiting) ∙ is in
     matched (newest_of c.size (writes_of rs) v b) bytes (c.block v b) (Keeps m (unit_of core.units.vols v) b (c.block v b)) (newest_drop c.size n (writes_of rs) v b bytes among) (ready.content.each v b low)
 
 -- ---- a block that was read and patched
@@ -111,10 +111,10 @@ module _ (core : Core) (c : Content) (m : Meaning) (stands : Stands core c m) (l
   from_volume : (k : ℕ) → k < blocks_in old → newest core.pending.entries vol (start + k) ≡ None → block_of mid k ≡ c.block vol (start + k)
   from_volume k low none =
       let covers : Covers (unit_of core.units.vols vol) start mid (unit_of core.units.vols vol) (start + k)
-          = record { there = refl; first = omega arith; last = omega (arith, low, same, blocks.whole, div-add-mod' (length old) 512) } in
+      = record { there = refl; first = omega arith; last = omega (arith, low, same, blocks.whole, div-add-mod' (length old) 512) } in
       let at : start + k - start ≡ k = omega arith in
       let shown : m.reads (unit_of core.units.vols vol) (start + k) (block_of mid k)
-          = subst (λ (j : ℕ). m.reads (unit_of core.units.vols vol) (start + k) (block_of mid j)) at (read.each tells (start + k) covers) in
+      = subst (λ (j : ℕ). m.reads (unit_of core.units.vols vol) (start + k) (block_of mid j)) at (read.each tells (start + k) covers) in
       (stands.ready.settled vol (start + k) (inside k low) none).only (block_of mid k) (lawful.shown (unit_of core.units.vols vol) (start + k) (block_of mid k) shown)
 
   one_block : (k : ℕ) → k < blocks_in old → (o : Option (List ℕ)) → newest core.pending.entries vol (start + k) ≡ o

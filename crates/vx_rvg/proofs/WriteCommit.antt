@@ -77,7 +77,7 @@ module _ (held core : Core) (is : held ≡ core) (vol start : ℕ) (bytes : List
     commit_stands leads c stands =
         let log_made : log ≡ (with_write core vol start bytes).log = log_is ∙ ap (λ (k : Core). logged k.log vol start bytes) is in
         let core_leads : LogsTo core.log vol start bytes (with_write core vol start bytes).log m m'
-            = subst (λ (k : Core). LogsTo k.log vol start bytes (with_write core vol start bytes).log m m') is (subst (λ (l : Log). LogsTo held.log vol start bytes l m m') log_made leads) in
+        = subst (λ (k : Core). LogsTo k.log vol start bytes (with_write core vol start bytes).log m m') is (subst (λ (l : Log). LogsTo held.log vol start bytes l m m') log_made leads) in
         subst (λ (k : Core). Stands k (put c (write_at vol start bytes)) m') (sym made)
         (write_stands core vol start bytes m m' sound.placed sound.log_unit exists blocks within core_moves (applied_few core m sound some) core_leads c stands)
 

@@ -50,7 +50,7 @@ pub within_same : (one two : ℕ → ℕ) → ((v : ℕ) → two v ≡ one v) �
 within_same one two same [] = refl
 within_same one two same (k ∷ ks) =
     let here : (if leb (k.head.block + k.head.count) (two k.head.vol) then k.head.count else 0) ≡ (if leb (k.head.block + k.head.count) (one k.head.vol) then k.head.count else 0)
-        = ap (λ (n : ℕ). if leb (k.head.block + k.head.count) n then k.head.count else 0) (same k.head.vol) in
+    = ap (λ (n : ℕ). if leb (k.head.block + k.head.count) n then k.head.count else 0) (same k.head.vol) in
     omega (arith, here, within_same one two same ks)
 
 pub within_append : (size : ℕ → ℕ) (ks ls : List Kept) → blocks_within size (ks ++ ls) ≡ blocks_within size ks + blocks_within size ls
@@ -130,9 +130,9 @@ module _ (core : Core) (vol start : ℕ) (bytes : List ℕ) (m m' : Meaning) (sa
       let n : ℕ = applied_count core in
       let size : ℕ → ℕ = volume_size core.units.vols m in
       let rest : drop n (core.log.held ++ (core.log.staged ++ own ∷ [])) ≡ drop n core.log.held ++ own ∷ []
-          = ap (λ (ks : List Kept). drop n ks) held_is ∙ drop-append-le n core.log.held (own ∷ []) (applied_few core m sound some) in
+      = ap (λ (ks : List Kept). drop n ks) held_is ∙ drop-append-le n core.log.held (own ∷ []) (applied_few core m sound some) in
       let more : blocks_within size (drop n core.log.held ++ own ∷ []) ≡ blocks_within size (drop n core.log.held) + blocks_in bytes
-          = within_append size (drop n core.log.held) (own ∷ []) ∙ ap (λ (k : ℕ). blocks_within size (drop n core.log.held) + k) (one_more size within) in
+      = within_append size (drop n core.log.held) (own ∷ []) ∙ ap (λ (k : ℕ). blocks_within size (drop n core.log.held) + k) (one_more size within) in
       record {
         placed = placed_same core.units m m' same sound.placed;
         log_unit = sound.log_unit;

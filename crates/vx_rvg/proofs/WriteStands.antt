@@ -100,7 +100,7 @@ module _ (core : Core) (c : Content) (vol start : ℕ) (bytes : List ℕ) (m : M
         → Keeps m' (unit_of core.units.vols v) b ((put c own).block v b)
     settles v b low none =
         let both : _ = both_none (newest (entries_at vol start (blocks_in bytes) bytes) v b) (newest core.pending.entries v b)
-            (sym (newest-append core.pending.entries (entries_at vol start (blocks_in bytes) bytes) v b) ∙ none) in
+        (sym (newest-append core.pending.entries (entries_at vol start (blocks_in bytes) bytes) v b) ∙ none) in
         let aside : put_there c.size own v b ≡ None = sym (its_newest c.size own v b blocks.whole) ∙ ap (λ (es : List Entry). newest es v b) (its_own c.size own inside) ∙ both.0 in
         subst (λ (y : List ℕ). Keeps m' (unit_of core.units.vols v) b y) (sym (put_aside c own v b aside)) (kept v b (c.block v b) low (ready.settled v b low both.1))
 
