@@ -25,8 +25,6 @@ returns-clause-gives g c =
           (shows_at _ x (g.S.Shelf.meaning c.self.inside.0.0) stands (g.met.S.Shelf.lawful c.self.inside.0.0) tells c.args.vol c.args.start c.unit-unit.result c.size-size.result
           (subst (λ (r : Rvg g.row.S.Denot g.S.Shelf). c.args.vol < length r.core.units.vols) (sym c.self.view_is) c.requires.volume)
           c.args.into.now c.read.new.into w.patch.new.into c.requires.blocks c.read.auto.into c.unit-unit.ensures c.size-size.ensures c.read_refusal.result c.read_refusal.ensures c.in_default.is w.in-Ok.ensures.ok w.patch.ensures)))
-
-          c.args.into.now c.read.new.into w.patch.new.into c.requires.blocks c.read.auto.into c.unit-unit.ensures c.size-size.ensures (sym c.read_refusal.ensures ∙ c.in_default.is) w.in-Ok.ensures.ok w.patch.ensures)))
       | in-Err w ↦ on_err c.match-read.result w.refusal.result gives w.result-is
     ]
 
