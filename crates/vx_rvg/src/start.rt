@@ -40,12 +40,7 @@ fn add_within<S: Shelf>(shelf: &S, units: &Units, pending: &mut Overlay, update:
 }
 
 // Adds the blocks of each write of the log.
-fn fill<S: Shelf>(
-    shelf: &mut S,
-    srl: &Srl,
-    units: &Units,
-    pending: &mut Overlay,
-) -> Result<(), No>
+fn fill<S: Shelf>(shelf: &mut S, srl: &Srl, units: &Units, pending: &mut Overlay) -> Result<(), No>
     requires placed { Placed units.now (S.meaning shelf.old) }
     requires lies { Lies srl.now.unit srl.now.ring (S.meaning shelf.old) }
     requires up { IsTrue (S.meaning shelf.old).down → ⊥ }
