@@ -5,6 +5,7 @@ pub mod PatchFacts
 pub mod ReadAnswers
 pub mod ReadStands
 pub mod StartFill
+pub mod StartStands
 pub mod WriteCommit
 pub mod WriteContent
 pub mod WriteLog
