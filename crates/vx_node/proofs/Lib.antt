@@ -1,6 +1,7 @@
 pub mod Answering
 pub mod Backs
 pub mod Changing
+pub mod Crashing
 pub mod Disks
 pub mod Engines
 pub mod Goods
