@@ -2,6 +2,8 @@ pub mod Answering
 pub mod Backs
 pub mod Changing
 pub mod Crashing
+pub mod Staying
+pub mod Applying
 pub mod Disks
 pub mod Engines
 pub mod Goods
