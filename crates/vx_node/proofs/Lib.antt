@@ -4,6 +4,7 @@ pub mod Changing
 pub mod Crashing
 pub mod Staying
 pub mod Applying
+pub mod Recovering
 pub mod Disks
 pub mod Engines
 pub mod Goods
