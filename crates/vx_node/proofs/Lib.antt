@@ -5,6 +5,7 @@ pub mod Crashing
 pub mod Staying
 pub mod Applying
 pub mod Recovering
+pub mod Falling
 pub mod Disks
 pub mod Engines
 pub mod Goods
