@@ -6,6 +6,7 @@ pub mod Staying
 pub mod Applying
 pub mod Recovering
 pub mod Falling
+pub mod Rising
 pub mod Disks
 pub mod Engines
 pub mod Goods

@@ -3,7 +3,7 @@ ghost use Rattle.std.specs.Prelude.{◌≡◌, ◌<◌, length};
 ghost use Rattle.vx_model.specs.World.{World};
 ghost use Rattle.vx_model.specs.declared.site.SiteState.TheVariants.{Up as UpState, Down as DownState};
 ghost use Rattle.vx_script.specs.declared.line.ScriptLine.TheVariants.{Crash, Recover, Apply};
-ghost use Rattle.vx_node.specs.Rising.{Fell, Recovering};
+ghost use Rattle.vx_node.specs.Rising.{Fell, NotesUp, Recovering};
 ghost use Rattle.vx_node.specs.Steps.{Begins};
 ghost use Rattle.vx_node.specs.Working.{WorkIs, Worked, IsFree};
 ghost use Rattle.vx_node.specs.Yards.{YardStands, IsTold, in_files};
@@ -49,6 +49,23 @@ impl<R: Rack> Yard<R> {
         Said::Done
     }
 
+    // Takes into what the tests look at what the group of a site that came up keeps. Answers its last number.
+    fn note_up(&mut self, site: usize, ring: u64) -> u64
+        requires facts { site < length self.old.facts.items }
+        requires engine { site < length self.old.engines.items }
+        ensures notes { NotesUp site ring result self.old self.new }
+        ensures facts { length self.new.facts.items ≡ length self.old.facts.items }
+        ensures engines { self.new.engines ≡ self.old.engines }
+        ensures racks { self.new.racks ≡ self.old.racks }
+        ensures dir { self.new.dir ≡ self.old.dir }
+    {
+        let last = self.engines[site].last();
+        if let Some(state) = self.engines[site].state() {
+            facts::come_up(&mut self.facts[site], state, last, ring);
+        }
+        last
+    }
+
     // Starts the group of a site that is down, with a log of so many ring blocks, and says how it stands.
     fn come_up(&mut self, alloc: Global, site: usize, ring: u64, room: StartRoom) -> Said
         requires facts { site < length self.old.facts.items }
@@ -63,10 +80,7 @@ impl<R: Rack> Yard<R> {
         self.engines[site] = engine;
         match came {
             Ok(()) => {
-                let last = self.engines[site].last();
-                if let Some(state) = self.engines[site].state() {
-                    facts::come_up(&mut self.facts[site], state, last, ring);
-                }
+                let last = self.note_up(site, ring);
                 Said::Recovered(last, self.view_at(alloc, site))
             }
             Err(no) => Said::Refused(no),
