@@ -1,6 +1,12 @@
 pub mod Answering
 pub mod Backs
 pub mod Changing
+pub mod Crashing
+pub mod Staying
+pub mod Applying
+pub mod Recovering
+pub mod Falling
+pub mod Rising
 pub mod Disks
 pub mod Engines
 pub mod Goods
