@@ -3,6 +3,7 @@ pub mod Backs
 pub mod Changing
 pub mod Disks
 pub mod Engines
+pub mod Founds
 pub mod Goods
 pub mod Lists
 pub mod News

@@ -47,6 +47,7 @@ pub record IsUpAt (n : Node) (c : Core) (m : Meaning) : Type 0 where
   pub kept : c.log.header.state ≡ state_of n
   pub session : c.log.header.incarnation ≡ n.session
   pub stamp : n.halted ≡ None → c.log.header.stamp + 1 ≤ most_stamp n
+  pub first : 0 < c.log.header.low
   pub head : last_of c ≡ n.safe
   pub halted : c.halted ≡ n.halted
   pub logged : n.safe ≤ length n.log
