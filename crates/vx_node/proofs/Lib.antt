@@ -1,6 +1,8 @@
 pub mod Answering
+pub mod Applying
 pub mod Backs
 pub mod Changing
+pub mod Crashing
 pub mod Disks
 pub mod Engines
 pub mod Founds
@@ -9,11 +11,13 @@ pub mod Lists
 pub mod News
 pub mod Raws
 pub mod Readings
+pub mod Recovering
 pub mod Refused
+pub mod Replies
 pub mod Seats
 pub mod Sites
-pub mod Replies
 pub mod Statuses
+pub mod Staying
 pub mod Tables
 pub mod Values
 pub mod Writing
