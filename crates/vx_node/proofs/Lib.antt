@@ -8,11 +8,13 @@ pub mod Engines
 pub mod Founds
 pub mod Goods
 pub mod Lists
+pub mod Logging
 pub mod News
 pub mod Raws
 pub mod Readings
 pub mod Recovering
 pub mod Refused
+pub mod Rooming
 pub mod Replies
 pub mod Seats
 pub mod Sites
