@@ -5,6 +5,7 @@ pub mod Changing
 pub mod Crashing
 pub mod Disks
 pub mod Engines
+pub mod Falling
 pub mod Founds
 pub mod Goods
 pub mod Lists
@@ -14,8 +15,9 @@ pub mod Raws
 pub mod Readings
 pub mod Recovering
 pub mod Refused
-pub mod Rooming
 pub mod Replies
+pub mod Rising
+pub mod Rooming
 pub mod Seats
 pub mod Sites
 pub mod Statuses

@@ -6,6 +6,7 @@ pub mod Holds
 pub mod Lines
 pub mod Racks
 pub mod Replies
+pub mod Rising
 pub mod Rooms
 pub mod Seen
 pub mod Stands
