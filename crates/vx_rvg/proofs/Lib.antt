@@ -1,11 +1,13 @@
 pub mod ApplyFlush
 pub mod ContentFacts
+pub mod MakeStands
 pub mod PatchFacts
 pub mod ReadAnswers
 pub mod ReadStands
+pub mod StartFill
+pub mod StartStands
 pub mod WriteCommit
 pub mod WriteContent
 pub mod WriteLog
 pub mod WriteSound
 pub mod WriteStands
-pub mod MakeStands
