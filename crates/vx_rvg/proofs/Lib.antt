@@ -1,4 +1,5 @@
 pub mod ApplyFlush
+pub mod ApplyOne
 pub mod ContentFacts
 pub mod PatchFacts
 pub mod WriteContent

@@ -1,5 +1,5 @@
 // The bringing of logged writes into their volumes.
-ghost use Rattle.std.specs.Prelude.{◌≡◌, ◌+◌, ◌<◌, ◌≤◌, length, Some, None, IsTrue, IsFalse, OnOk, IsSome};
+ghost use Rattle.std.specs.Prelude.{◌≡◌, ◌+◌, ◌<◌, ◌≤◌, length, Some, None, IsTrue, IsFalse, IfOk, OnOk, IsSome};
 ghost use Rattle.vx_disk.specs.Moves.{Moves, Anything, Nowhere};
 ghost use Rattle.vx_model.specs.Content.{Content};
 ghost use Rattle.vx_rvg.specs.Brings.{Brings, BringsOne, VolumesFlushed};
@@ -20,7 +20,7 @@ fn bring_one<S: Shelf>(shelf: &mut S, core: &RvgCore, n: u64) -> Result<u64, She
     requires low { core.now.log.header.low ≤ core.now.applied + 1 }
     requires waits { core.now.applied < n }
     requires held { n ≤ last_of core.now }
-    ensures brings { OnOk result (BringsOne core.now n (S.meaning shelf.old) (S.meaning shelf.new)) }
+    ensures brings { IfOk result (BringsOne core.now n (S.meaning shelf.old) (S.meaning shelf.new)) }
     ensures moves { Moves (Waits core.now (S.meaning shelf.old)) Anything (S.meaning shelf.old) (S.meaning shelf.new) }
     ensures stopped { Stopped (S.meaning shelf.old) (S.meaning shelf.new) result }
 {
@@ -61,7 +61,7 @@ fn bring<S: Shelf>(shelf: &mut S, core: &RvgCore, to: u64) -> Result<u64, ShelfE
     requires placed { Placed core.now.units (S.meaning shelf.old) }
     requires low { core.now.log.header.low ≤ core.now.applied + 1 }
     requires held { to ≤ last_of core.now }
-    ensures brings { OnOk result (Brings core.now to (S.meaning shelf.old) (S.meaning shelf.new)) }
+    ensures brings { IfOk result (Brings core.now to (S.meaning shelf.old) (S.meaning shelf.new)) }
     ensures moves { Moves (Waits core.now (S.meaning shelf.old)) Anything (S.meaning shelf.old) (S.meaning shelf.new) }
     ensures stopped { Stopped (S.meaning shelf.old) (S.meaning shelf.new) result }
 {
