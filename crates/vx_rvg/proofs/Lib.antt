@@ -1,3 +1,4 @@
+pub mod ApplyAll
 pub mod ApplyFlush
 pub mod ApplyOne
 pub mod ContentFacts

@@ -60,11 +60,14 @@ fn flush_volumes<S: Shelf>(shelf: &mut S, core: &RvgCore) -> Result<(), ShelfErr
 fn bring<S: Shelf>(shelf: &mut S, core: &RvgCore, to: u64) -> Result<u64, ShelfError>
     requires placed { Placed core.now.units (S.meaning shelf.old) }
     requires low { core.now.log.header.low ≤ core.now.applied + 1 }
+    requires applied { core.now.applied ≤ to }
     requires held { to ≤ last_of core.now }
     ensures brings { IfOk result (Brings core.now to (S.meaning shelf.old) (S.meaning shelf.new)) }
     ensures moves { Moves (Waits core.now (S.meaning shelf.old)) Anything (S.meaning shelf.old) (S.meaning shelf.new) }
     ensures stopped { Stopped (S.meaning shelf.old) (S.meaning shelf.new) result }
 {
+    // A log bounds the blocks of its records by its ring.
+    let _ring = core.srl.ring();
     let mut count = 0;
     for n in core.applied..to {
         count += bring_one(shelf, core, n + 1)?;
