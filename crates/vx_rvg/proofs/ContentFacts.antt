@@ -1,6 +1,6 @@
 -- What a group that stands leaves in each image, and where its log begins and ends.
-use Rattle.std.proofs.Common.{◌≡◌, ◌⊎◌, inl, inr, ⊎_elim, ℕ, zero, suc, ◌+◌, ◌-◌, ◌<◌, ◌≤◌, Bool, true, false, List, [], ◌∷◌, ◌++◌, length, take, drop, Option, Some, None, IsTrue, MatchOption, refl, sym, ◌∙◌, ap, subst, arith, append-nil}
-use Rattle.std.specs.Prelude.{if◌then◌else◌, nat_lt, ◌&&◌, map}
+use Rattle.std.proofs.Common.{◌≡◌, inl, inr, ⊎_elim, ℕ, zero, suc, ◌+◌, ◌<◌, Bool, true, false, List, [], ◌∷◌, ◌++◌, length, take, Option, Some, None, MatchOption, refl, sym, ◌∙◌, ap, subst, arith, append-nil}
+use Rattle.std.specs.Prelude.{if◌then◌else◌}
 use Rattle.std.proofs.lemmas.Bool.{cases_lt}
 use Rattle.std.proofs.lemmas.Bool.Decides.{nat_tests}
 use Rattle.vx_model.specs.Content.{Content, Write}
@@ -14,16 +14,16 @@ use Rattle.vx_overlay.specs.Writes.{newest_of}
 use Rattle.vx_ringlog.specs.Cells.{IsImage}
 use Rattle.vx_ringlog.specs.Cells as cells
 use Rattle.vx_ringlog.specs.Chain.{Counts, Recovers}
-use Rattle.vx_ringlog.specs.Logs.{State, Seal, IsLog, Found as LogFound}
-use Rattle.vx_ringlog.specs.Records.{Record, write_of}
+use Rattle.vx_ringlog.specs.Logs.{State, Seal, Found as LogFound}
+use Rattle.vx_ringlog.specs.Records.{Record}
 use Rattle.vx_ringlog.proofs.Calls.{call_safe}
 use Rattle.vx_ringio.specs.Classes.{class_of, classes, is_of_ring, narrowed}
 use Rattle.vx_ringio.proofs.Following.{now_left, class_here}
-use Rattle.vx_srl.specs.Rings.{RingOn, Describes, heads_of, kept_heads}
-use Rattle.vx_srl.specs.Views.{Log, head_of, next_of, all_of}
+use Rattle.vx_srl.specs.Rings.{RingOn, heads_of, kept_heads}
+use Rattle.vx_srl.specs.Views.{Log, head_of}
 use Rattle.vx_srl.specs.declared.kept.Kept.{Kept}
 use Rattle.vx_rvg.specs.Contents.{writes_of, KeepsContent, HasContent, HasSizes}
-use Rattle.vx_rvg.specs.Stands.{Ready, Stands, Found, FoundAs}
+use Rattle.vx_rvg.specs.Stands.{Ready, Stands, FoundAs}
 use Rattle.vx_rvg.specs.Views.{Core, Placed, unit_of, last_of}
 
 -- ---- what an image has

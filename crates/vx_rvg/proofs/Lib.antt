@@ -3,7 +3,11 @@ pub mod ApplyFlush
 pub mod ApplyOne
 pub mod ContentFacts
 pub mod PatchFacts
+pub mod ReadAnswers
+pub mod ReadStands
+pub mod WriteCommit
 pub mod WriteContent
 pub mod WriteLog
 pub mod WriteSound
 pub mod WriteStands
+pub mod MakeStands

@@ -1,13 +1,11 @@
 -- What a write makes of a content, block by block.
-use Rattle.std.proofs.Common.{◌≡◌, ℕ, zero, suc, ◌+◌, ◌*◌, ◌/◌, ◌%◌, ◌<◌, ◌≤◌, List, [], ◌∷◌, ◌++◌, length, Option, Some, None, MatchOption, refl, sym, ◌∙◌, ap, subst, arith}
-use Rattle.std.specs.Prelude.{unwrap_or, map, All}
-use Rattle.std.specs.List.{concat}
+use Rattle.std.proofs.Common.{◌≡◌, ℕ, ◌*◌, ◌/◌, ◌<◌, List, [], ◌∷◌, ◌++◌, length, Option, Some, None, MatchOption, refl, sym, ◌∙◌, ap, subst, arith}
+use Rattle.std.specs.Prelude.{unwrap_or}
 use Rattle.std.proofs.lemmas.List.{map-append}
 use Rattle.std.proofs.lemmas.Nat.{div-add-mod'}
-use Rattle.std.proofs.lemmas.Option.{none-some}
-use Rattle.vx_model.specs.Content.{Content, Write, put, blocks_in}
+use Rattle.vx_model.specs.Content.{Content, Write, put}
 use Rattle.vx_disk.specs.Shelf.{Meaning, Image, Keeps}
-use Rattle.vx_ringlog.specs.Records.{Record, IsWhole, given, write_of}
+use Rattle.vx_ringlog.specs.Records.{Record, write_of}
 use Rattle.vx_ringlog.proofs.Blocks.{given_comes_back}
 use Rattle.vx_ringio.specs.Bodies.{IsBlocks, all_blocks}
 use Rattle.vx_ringio.proofs.Bodies.{whole_blocks, concat_blocks}

@@ -1,25 +1,25 @@
 -- A record that is staged and sealed, as one call on the log.
-use Rattle.std.proofs.Common.{◌≡◌, ◌⊎◌, inl, inr, ⊎_elim, ℕ, zero, suc, ◌+◌, ◌-◌, ◌≤◌, ◌<◌, List, [], ◌∷◌, ◌++◌, length, take, Result, Ok, Err, IsTrue, refl, sym, ◌∙◌, ap, subst, arith, length-append, append-nil}
+use Rattle.std.proofs.Common.{◌≡◌, ◌⊎◌, inl, inr, ⊎_elim, ℕ, zero, suc, ◌+◌, ◌≤◌, ◌<◌, List, [], ◌∷◌, ◌++◌, length, take, Ok, Err, refl, ◌∙◌, ap, subst, arith, length-append, append-nil}
 use Rattle.vx_model.specs.declared.no.No.{No}
 use Rattle.vx_model.specs.declared.no.No.TheVariants as no
 use Rattle.vx_disk.specs.Counts.{Rose}
-use Rattle.vx_disk.specs.Moves.{Moves, Run}
-use Rattle.vx_disk.specs.Shelf.{Meaning, Image}
+use Rattle.vx_disk.specs.Moves.{Run}
+use Rattle.vx_disk.specs.Shelf.{Meaning}
 use Rattle.vx_disk.proofs.Moving.{goes_on, wider}
 use Rattle.vx_ringlog.specs.Cells as cells
 use Rattle.vx_ringlog.specs.Chain.{Recovers}
 use Rattle.vx_ringlog.specs.Logs.{State, Stage, Seal, Found, done}
 use Rattle.vx_ringlog.specs.Records.{Record}
 use Rattle.vx_ringio.specs.Classes.{classes}
-use Rattle.vx_srl.specs.Calls.{LogCause, Stages, Seals, sealed, sealing, staged_with, staging}
+use Rattle.vx_srl.specs.Calls.{LogCause, Stages, Seals, sealing, staged_with, staging}
 use Rattle.vx_srl.specs.Causes.{DeviceCause}
-use Rattle.vx_srl.specs.Rings.{Finding, Goes, LeadsTo, RingOn}
-use Rattle.vx_srl.specs.Views.{Log, all_of, head_of, kept_of, record_of}
+use Rattle.vx_srl.specs.Rings.{Finding, Goes, LeadsTo}
+use Rattle.vx_srl.specs.Views.{Log, all_of, kept_of, record_of}
 use Rattle.vx_srl.specs.declared.errors.SrlNo.{SrlNo}
 use Rattle.vx_srl.specs.declared.errors.SrlNo.TheVariants.{NoRoom, Overrun, Other}
 use Rattle.vx_srl.specs.declared.kept.Kept.{Kept}
-use Rattle.vx_rvg.specs.Groups.{logged, no_of}
-use Rattle.vx_rvg.specs.Logging.{LogEnded, LogFound, LogMoves, Logs, LogsTo, with_record}
+use Rattle.vx_rvg.specs.Groups.{no_of}
+use Rattle.vx_rvg.specs.Logging.{LogEnded, LogFound, LogMoves, Logs, LogsTo}
 
 -- ---- refusals
 
@@ -111,3 +111,24 @@ module _ (l : Log) (vol start : ℕ) (bytes : List ℕ) where
       let staged : length (l.staged ++ kept_of l vol start bytes ∷ []) ≡ 1 = ap (λ (ks : List Kept). length (ks ++ kept_of l vol start bytes ∷ [])) idle in
       let all : _ = length-append l.held (l.staged ++ kept_of l vol start bytes ∷ []) in
       (omega (arith, seals.0, some, staged, all), seals.1, seals.2)
+
+-- ---- the two calls of the log as one
+
+pub next_free : (l : Log) (most : ℕ) → l.staged ≡ [] → l.header.low + length l.held ≤ most → l.header.low + length (all_of l) ≤ most
+next_free l most idle le = let none : length l.staged ≡ 0 = ap (λ (ks : List Kept). length ks) idle in omega (arith, le, none, length-append l.held l.staged)
+
+module _ (l : Log) (vol start : ℕ) (bytes : List ℕ) (old mid new : Meaning) (l1 l' : Log) (number : ℕ) (stages : Stages l (kept_of l vol start bytes) old mid l1 (Ok number))
+    (leads : LeadsTo l (staging (record_of l vol start bytes)) l1 old mid) where
+  one_staged : 0 < length l1.staged
+  one_staged =
+      let is : length l1.staged ≡ length (l.staged ++ kept_of l vol start bytes ∷ []) = ap (λ (x : Log). length x.staged) stages.1 in
+      omega (arith, is, length-append l.staged (kept_of l vol start bytes ∷ []))
+
+  staged_leads : LeadsTo l (staging (record_of l vol start bytes)) (staged_with l (kept_of l vol start bytes)) old mid
+  staged_leads = subst (λ (x : Log). LeadsTo l (staging (record_of l vol start bytes)) x old mid) stages.1 leads
+
+  pub both_move : Goes l (staging (record_of l vol start bytes)) old mid → Goes l1 sealing mid new → LogMoves l vol start bytes old new
+  both_move one two = seal_moves l vol start bytes old mid new one staged_leads (subst (λ (x : Log). Goes x sealing mid new) stages.1 two)
+
+  pub both_lead : (0 < length l1.staged → LeadsTo l1 sealing l' mid new) → LogsTo l vol start bytes l' old new
+  both_lead two = seal_leads l vol start bytes old mid new l' staged_leads (subst (λ (x : Log). LeadsTo x sealing l' mid new) stages.1 (two one_staged))

@@ -1,5 +1,5 @@
 -- A group stays sound over a call on its log.
-use Rattle.std.proofs.Common.{◌≡◌, ◌≢◌, ℕ, ◌+◌, ◌-◌, ◌<◌, ◌≤◌, Bool, true, false, List, [], ◌∷◌, ◌++◌, length, drop, Option, Some, None, IsTrue, IsFalse, refl, sym, ◌∙◌, ap, subst, arith, length-append, append-nil}
+use Rattle.std.proofs.Common.{◌≡◌, ℕ, ◌+◌, ◌<◌, ◌≤◌, Bool, true, false, List, [], ◌∷◌, ◌++◌, length, drop, Option, Some, None, IsTrue, IsFalse, refl, sym, ◌∙◌, ap, subst, arith, length-append}
 use Rattle.std.specs.Prelude.{if◌then◌else◌, leb, ltb}
 use Rattle.std.proofs.lemmas.Bool.Decides.{nat_tests}
 use Rattle.std.proofs.lemmas.List.{drop-append-le}
@@ -11,14 +11,13 @@ use Rattle.vx_model.specs.declared.units.Units.{Units}
 use Rattle.vx_srlfmt.specs.declared.header.Header.{Header}
 use Rattle.vx_disk.specs.Moves.{Blocks, Moves, Says}
 use Rattle.vx_disk.specs.Shelf.{Meaning}
-use Rattle.vx_overlay.specs.declared.entry.Entry.{Entry}
 use Rattle.vx_overlay.specs.Writes.{entries_at}
 use Rattle.vx_overlay.proofs.WriteLemmas.{entries_at_length}
 use Rattle.vx_ringio.specs.Tracks.{Lies}
 use Rattle.vx_srl.specs.Causes.{DeviceCause}
-use Rattle.vx_srl.specs.Views.{Log, head_of, kept_of}
+use Rattle.vx_srl.specs.Views.{Log, kept_of}
 use Rattle.vx_srl.specs.declared.kept.Kept.{Kept}
-use Rattle.vx_rvg.specs.Groups.{Ended, Fails, halted_by, logged, with_write}
+use Rattle.vx_rvg.specs.Groups.{Ended, Fails, halted_by, with_write}
 use Rattle.vx_rvg.specs.Logging.{LogEnded}
 use Rattle.vx_rvg.specs.Views.{Core, IsSound, Placed, applied_count, blocks_within, unit_of, volume_size}
 
@@ -50,7 +49,7 @@ pub within_same : (one two : ℕ → ℕ) → ((v : ℕ) → two v ≡ one v) �
 within_same one two same [] = refl
 within_same one two same (k ∷ ks) =
     let here : (if leb (k.head.block + k.head.count) (two k.head.vol) then k.head.count else 0) ≡ (if leb (k.head.block + k.head.count) (one k.head.vol) then k.head.count else 0)
-        = ap (λ (n : ℕ). if leb (k.head.block + k.head.count) n then k.head.count else 0) (same k.head.vol) in
+    = ap (λ (n : ℕ). if leb (k.head.block + k.head.count) n then k.head.count else 0) (same k.head.vol) in
     omega (arith, here, within_same one two same ks)
 
 pub within_append : (size : ℕ → ℕ) (ks ls : List Kept) → blocks_within size (ks ++ ls) ≡ blocks_within size ks + blocks_within size ls
@@ -130,9 +129,9 @@ module _ (core : Core) (vol start : ℕ) (bytes : List ℕ) (m m' : Meaning) (sa
       let n : ℕ = applied_count core in
       let size : ℕ → ℕ = volume_size core.units.vols m in
       let rest : drop n (core.log.held ++ (core.log.staged ++ own ∷ [])) ≡ drop n core.log.held ++ own ∷ []
-          = ap (λ (ks : List Kept). drop n ks) held_is ∙ drop-append-le n core.log.held (own ∷ []) (applied_few core m sound some) in
+      = ap (λ (ks : List Kept). drop n ks) held_is ∙ drop-append-le n core.log.held (own ∷ []) (applied_few core m sound some) in
       let more : blocks_within size (drop n core.log.held ++ own ∷ []) ≡ blocks_within size (drop n core.log.held) + blocks_in bytes
-          = within_append size (drop n core.log.held) (own ∷ []) ∙ ap (λ (k : ℕ). blocks_within size (drop n core.log.held) + k) (one_more size within) in
+      = within_append size (drop n core.log.held) (own ∷ []) ∙ ap (λ (k : ℕ). blocks_within size (drop n core.log.held) + k) (one_more size within) in
       record {
         placed = placed_same core.units m m' same sound.placed;
         log_unit = sound.log_unit;

@@ -1,6 +1,6 @@
 -- A group that stands, with a write behind the others.
-use Rattle.std.proofs.Common.{◌≡◌, ◌⊎◌, inl, inr, ⊎_elim, ℕ, ◌+◌, ◌-◌, ◌<◌, ◌≤◌, Bool, true, false, List, [], ◌∷◌, ◌++◌, length, drop, Option, Some, None, refl, sym, ◌∙◌, ap, subst, arith, length-append, append-nil}
-use Rattle.std.specs.Prelude.{if◌then◌else◌, leb, ◌*◌, All}
+use Rattle.std.proofs.Common.{◌≡◌, ◌⊎◌, inl, inr, ⊎_elim, ℕ, ◌+◌, ◌<◌, ◌≤◌, Bool, true, List, [], ◌∷◌, ◌++◌, length, drop, Option, Some, None, refl, sym, ◌∙◌, ap, subst, arith, length-append, append-nil}
+use Rattle.std.specs.Prelude.{if◌then◌else◌, leb, All}
 use Rattle.std.proofs.lemmas.Bool.{lt-ltb}
 use Rattle.std.proofs.lemmas.Bool.Decides.{nat_tests}
 use Rattle.std.proofs.lemmas.List.{drop-append-le}
@@ -22,11 +22,11 @@ use Rattle.vx_ringlog.specs.Logs.{State}
 use Rattle.vx_ringlog.specs.Records.{Record, write_of}
 use Rattle.vx_ringio.specs.Bodies.{IsBlocks}
 use Rattle.vx_ringio.specs.Classes.{classes}
-use Rattle.vx_srl.specs.Views.{Log, head_of, record_of}
-use Rattle.vx_rvg.specs.Contents.{writes_of, HasContent, HasSizes, KeepsContent}
+use Rattle.vx_srl.specs.Views.{record_of}
+use Rattle.vx_rvg.specs.Contents.{writes_of, HasContent, KeepsContent}
 use Rattle.vx_rvg.specs.Groups.{with_write}
 use Rattle.vx_rvg.specs.Logging.{LogFound, LogMoves, LogsTo, with_record}
-use Rattle.vx_rvg.specs.Stands.{Found, FoundAs, IsWholeRecord, Ready, Stands, Writing}
+use Rattle.vx_rvg.specs.Stands.{FoundAs, IsWholeRecord, Ready, Stands, Writing}
 use Rattle.vx_rvg.specs.Views.{Core, Placed, applied_count, last_of, unit_of, volume_size}
 use Rattle.vx_rvg.proofs.ContentFacts.{found_as, has_content_beside, held_length, recovers_low, volumes_beside}
 use Rattle.vx_rvg.proofs.WriteContent.{put_aside, put_has, put_keeps, record_writes, writes_more}
@@ -100,7 +100,7 @@ module _ (core : Core) (c : Content) (vol start : ℕ) (bytes : List ℕ) (m : M
         → Keeps m' (unit_of core.units.vols v) b ((put c own).block v b)
     settles v b low none =
         let both : _ = both_none (newest (entries_at vol start (blocks_in bytes) bytes) v b) (newest core.pending.entries v b)
-            (sym (newest-append core.pending.entries (entries_at vol start (blocks_in bytes) bytes) v b) ∙ none) in
+        (sym (newest-append core.pending.entries (entries_at vol start (blocks_in bytes) bytes) v b) ∙ none) in
         let aside : put_there c.size own v b ≡ None = sym (its_newest c.size own v b blocks.whole) ∙ ap (λ (es : List Entry). newest es v b) (its_own c.size own inside) ∙ both.0 in
         subst (λ (y : List ℕ). Keeps m' (unit_of core.units.vols v) b y) (sym (put_aside c own v b aside)) (kept v b (c.block v b) low (ready.settled v b low both.1))
 

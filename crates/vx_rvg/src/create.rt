@@ -13,7 +13,7 @@ ghost use Rattle.vx_srlfmt.specs.Headers.{CanSpellState};
 use crate::{Rvg, RvgCore};
 use std::alloc::Global;
 use vx_disk::Shelf;
-use vx_model::{State, Stop, Units};
+use vx_model::{No, State, Stop, Units};
 use vx_overlay::Overlay;
 use vx_srl::Srl;
 
@@ -39,7 +39,11 @@ impl<S: Shelf> Rvg<S> {
         ensures left { IfErr result (λ e. Moves (Run units.now.srl 0 (ring_of ((S.meaning shelf).size units.now.srl) + 2)) Anything (S.meaning shelf) (S.meaning e.0)) }
     {
         let mut shelf = shelf;
-        let room = shelf.size(units.srl).min(65536).saturating_sub(2);
+        let blocks = shelf.size(units.srl);
+        if blocks < 8 {
+            return Err((shelf, Stop::No(No::Size)));
+        }
+        let room = blocks.min(65536) - 2;
         let pending = match Overlay::new(alloc, room) {
             Ok(pending) => pending,
             Err(_) => return Err((shelf, Stop::OutOfMemory)),

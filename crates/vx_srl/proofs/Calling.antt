@@ -1,13 +1,13 @@
 -- A call on a log, by the acts that it makes on the shelf.
-use Rattle.std.proofs.Common.{◌≡◌, ℕ, ◌+◌, List, [], IsTrue, refl, sym, subst}
+use Rattle.std.proofs.Common.{◌≡◌, ℕ, ◌+◌, List, refl, sym, subst}
 use Rattle.vx_disk.specs.Moves.{Run}
-use Rattle.vx_disk.specs.Shelf.{Meaning, Image}
+use Rattle.vx_disk.specs.Shelf.{Meaning}
 use Rattle.vx_disk.proofs.Moving.{still}
-use Rattle.vx_ringlog.specs.Cells.{Act, Always, Cells, LeftBy, Leaves, run_all}
+use Rattle.vx_ringlog.specs.Cells.{Act, Always, Cells, Leaves, run_all}
 use Rattle.vx_ringlog.specs.Logs.{Allowed, Call, Found, IsLog, Restart, Save, Seal, Stage, State, acts_of, done}
 use Rattle.vx_ringlog.proofs.Calls.{call_safe}
 use Rattle.vx_ringio.specs.Classes.{classes}
-use Rattle.vx_ringio.specs.Tracks.{Amid, Arrives, Follows, Tracks}
+use Rattle.vx_ringio.specs.Tracks.{Arrives, Follows, Tracks}
 use Rattle.vx_ringio.proofs.Following.{always_left, following_gives}
 use Rattle.vx_srl.specs.Rings.{Describes, Finding, Goes, LeadsTo, RingOn}
 use Rattle.vx_srl.specs.Views.{Log}

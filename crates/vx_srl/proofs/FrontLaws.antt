@@ -1,5 +1,5 @@
 -- The headers of records, written one after another.
-use Rattle.std.proofs.Common.{◌≡◌, ℕ, zero, suc, ◌+◌, ◌-◌, ◌%◌, ◌<◌, ◌≤◌, List, [], ◌∷◌, ◌++◌, length, take, drop, get_or, inl, inr, ⊎_elim, All, Result, Ok, Err, IsTrue, refl, sym, ◌∙◌, ap, subst, arith, length-drop}
+use Rattle.std.proofs.Common.{◌≡◌, ℕ, ◌+◌, ◌-◌, ◌%◌, ◌<◌, ◌≤◌, List, [], ◌∷◌, ◌++◌, length, take, drop, get_or, inl, inr, ⊎_elim, All, Result, Ok, Err, IsTrue, refl, sym, ◌∙◌, ap, subst, arith, length-drop}
 use Rattle.std.proofs.Math.Nat.{mod-lt}
 use Rattle.std.proofs.lemmas.List.{get_or-drop, take-append-drop, take_all, take_more}
 use Rattle.std.proofs.lemmas.List.Elements.{All-cons, All-nil}

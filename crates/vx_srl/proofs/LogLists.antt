@@ -1,6 +1,6 @@
 -- Records of a log in memory, and the first of them given up.
-use Rattle.std.proofs.Common.{◌≡◌, ℕ, zero, suc, ◌+◌, ◌-◌, ◌*◌, ◌%◌, ◌<◌, ◌≤◌, Bool, true, List, [], ◌∷◌, ◌++◌, length, take, drop, get_or, refl, sym, ◌∙◌, ap, subst, inl, inr, arith, length-append, length-take, length-drop, nat_lt}
-use Rattle.std.proofs.Math.Nat.{add-mod-mod, add-mod_right, mod-add-mod, mod-eq_of_lt, mod-lt}
+use Rattle.std.proofs.Common.{◌≡◌, ℕ, zero, suc, ◌+◌, ◌-◌, ◌%◌, ◌<◌, ◌≤◌, true, List, [], ◌∷◌, ◌++◌, length, take, drop, get_or, refl, sym, ◌∙◌, ap, subst, inl, inr, arith, length-drop, nat_lt}
+use Rattle.std.proofs.Math.Nat.{add-mod_right, mod-add-mod, mod-eq_of_lt, mod-lt}
 use Rattle.std.proofs.lemmas.Bool.{and_parts, cases_lt, ltb-true}
 use Rattle.std.proofs.lemmas.List.{drop-drop, drop-take, drop_more, take-append-drop, take-take, take_all}
 use Rattle.std.proofs.lemmas.List.Elements.{All-drop}
@@ -8,7 +8,6 @@ use Rattle.vx_srlfmt.specs.Headers.{CanSpell}
 use Rattle.vx_srlfmt.specs.Records.{CanSpellHead}
 use Rattle.vx_srlfmt.specs.declared.header.Header.{Header}
 use Rattle.vx_ringio.specs.Classes.{is_of_ring}
-use Rattle.vx_ringio.proofs.Seeing.{is_of}
 use Rattle.vx_srl.specs.Views.{IsOrdered, PlacedFrom, last_incarnation, place_after, width_of, widths}
 use Rattle.vx_srl.specs.declared.kept.Kept.{Kept}
 use Rattle.vx_srl.proofs.Shared_S1.{place_append, widths_append}

@@ -1,5 +1,5 @@
 -- What memory keeps of a log behind a reclaim.
-use Rattle.std.proofs.Common.{◌≡◌, ℕ, ◌+◌, ◌-◌, ◌*◌, ◌<◌, ◌≤◌, true, List, length, take, drop, sym, ◌∙◌, ap, subst, arith, length-drop, length-take}
+use Rattle.std.proofs.Common.{◌≡◌, ℕ, ◌+◌, ◌-◌, ◌≤◌, true, List, length, take, drop, sym, ◌∙◌, ap, subst, arith, length-drop, length-take}
 use Rattle.vx_srlfmt.specs.Headers.{CanSpell}
 use Rattle.vx_srlfmt.specs.declared.header.Header.{Header}
 use Rattle.vx_ringio.specs.Classes.{is_of_ring}

@@ -1,14 +1,12 @@
 -- The write of a header, as a call of the log.
-use Rattle.std.proofs.Common.{◌≡◌, ℕ, suc, ◌+◌, ◌%◌, ◌<◌, ◌≤◌, List, [], ◌++◌, length, take, drop, refl, sym, ◌∙◌, ap, subst, arith}
+use Rattle.std.proofs.Common.{◌≡◌, ℕ, ◌+◌, ◌%◌, ◌<◌, length, take, drop, refl, sym, ◌∙◌, ap, arith}
 use Rattle.std.proofs.Math.Nat.{mod-mod, zero-mod}
 use Rattle.std.proofs.lemmas.List.{take-append-drop}
 use Rattle.vx_srlfmt.specs.declared.header.Header.{Header}
 use Rattle.vx_disk.specs.Shelf.{Meaning}
 use Rattle.vx_ringlog.specs.Acts.{head_acts}
-use Rattle.vx_ringlog.specs.Cells.{Act}
-use Rattle.vx_ringlog.specs.Chain.{block}
-use Rattle.vx_ringlog.specs.Logs.{Call, MayRestart, MaySave, State, done}
-use Rattle.vx_ringlog.specs.Ready.{after, last, next}
+use Rattle.vx_ringlog.specs.Logs.{MayRestart, MaySave, State, done}
+use Rattle.vx_ringlog.specs.Ready.{after}
 use Rattle.vx_ringlog.specs.Records.{era_of}
 use Rattle.vx_ringio.specs.Tracks.{Arrives, Follows}
 use Rattle.vx_srl.specs.Calls.{restarted, restarting, saved, saving}

@@ -1,11 +1,10 @@
 -- What the calls that write a header make of the log that memory keeps.
-use Rattle.std.proofs.Common.{◌≡◌, ℕ, ◌+◌, ◌-◌, ◌%◌, ◌<◌, ◌≤◌, List, [], length, take, drop, refl, sym, ◌∙◌, ap, subst, arith, length-take}
+use Rattle.std.proofs.Common.{◌≡◌, ℕ, ◌+◌, ◌%◌, ◌<◌, ◌≤◌, refl, sym, ◌∙◌, ap, subst, arith, length-take}
 use Rattle.vx_model.specs.declared.history.Line.{Line}
 use Rattle.vx_model.specs.declared.state.State.{State as SiteState}
 use Rattle.vx_srlfmt.specs.declared.header.Header.{Header}
 use Rattle.vx_disk.specs.Shelf.{Meaning}
 use Rattle.vx_ringlog.specs.Acts.{head_acts}
-use Rattle.vx_ringlog.specs.Records.{era_of, Era}
 use Rattle.vx_ringio.specs.Tracks.{Arrives, Follows}
 use Rattle.vx_srl.specs.Calls.{restarted, restarting, saved, saving}
 use Rattle.vx_srl.specs.Headers.{with_state, without, emptied}

@@ -4,7 +4,7 @@ use Rattle.std.proofs.Math.Nat.{mod-mod}
 use Rattle.vx_srlfmt.specs.Kinds.{Front}
 use Rattle.vx_srlfmt.specs.declared.record.RecordHead.{RecordHead}
 use Rattle.vx_disk.specs.Shelf.{Meaning}
-use Rattle.vx_ringlog.specs.Acts.{fronts_of, seal_acts}
+use Rattle.vx_ringlog.specs.Acts.{fronts_of}
 use Rattle.vx_ringlog.specs.Cells.{Act, Flush, Write}
 use Rattle.vx_ringlog.specs.Chain.{block, width}
 use Rattle.vx_ringlog.specs.Logs.{State, done}

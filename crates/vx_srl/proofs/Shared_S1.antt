@@ -1,5 +1,5 @@
 -- What is kept of a log in memory, beside the records that stand on its unit.
-use Rattle.std.proofs.Common.{◌≡◌, ℕ, zero, suc, ◌+◌, ◌%◌, ◌≤◌, List, [], ◌∷◌, ◌++◌, length, take, drop, refl, sym, ◌∙◌, ap, arith, length-append}
+use Rattle.std.proofs.Common.{◌≡◌, ℕ, zero, suc, ◌+◌, ◌%◌, List, [], ◌∷◌, ◌++◌, length, take, drop, refl, sym, ◌∙◌, ap, arith, length-append}
 use Rattle.std.proofs.Math.Nat.{mod-add-mod}
 use Rattle.vx_srlfmt.specs.Kinds.{Body}
 use Rattle.vx_srlfmt.specs.declared.record.RecordHead.{RecordHead}
@@ -11,7 +11,7 @@ use Rattle.vx_ringlog.specs.Ready.{after, next, last, Fits}
 use Rattle.vx_ringlog.specs.Acts.{body_acts}
 use Rattle.vx_ringlog.specs.Logs.{State}
 use Rattle.vx_srl.specs.Rings.{RingOn, heads_of, kept_heads}
-use Rattle.vx_srl.specs.Views.{Log, width_of, widths, place_after, last_incarnation, all_of, end_of, head_of, next_of}
+use Rattle.vx_srl.specs.Views.{Log, width_of, widths, place_after, last_incarnation, all_of, end_of, next_of}
 use Rattle.vx_srl.specs.declared.kept.Kept.{Kept}
 
 -- one kept record for each that stands, with its header and its width

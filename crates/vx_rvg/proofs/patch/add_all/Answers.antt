@@ -1,4 +1,4 @@
-use Rattle.std.proofs.Common.{◌≡◌, ◌∙◌, ℕ, ◌+◌, arith}
+use Rattle.std.proofs.Common.{◌∙◌, arith}
 use Rattle.vx_rvg.proofs.PatchFacts.{added, added_few, cut}
 use Rattle.vx_rvg.proofs.patch.add_all.Goals as goal
 
@@ -10,6 +10,6 @@ insert-requires c =
 pub loop-k-preserved : goal.loop-k-preserved
 loop-k-preserved c = (
   added c.args.pending.now.entries c.loop-k.pending.entries c.insert.new.self.entries c.args.vol c.args.start c.loop-k.k c.args.bytes.now c.copy_from_slice.new.self
-  c.loop-k.invariant.0 c.insert.ensures.entries (cut c.loop-k.k c.args.bytes.now c.copy_from_slice.new.self c.copy_from_slice.ensures.after),
+      c.loop-k.invariant.0 c.insert.ensures.entries (cut c.loop-k.k c.args.bytes.now c.copy_from_slice.new.self c.copy_from_slice.ensures.after),
   c.insert.ensures.capacity ∙ c.loop-k.invariant.1,
 )

@@ -1,4 +1,3 @@
-use Rattle.std.proofs.Common.{◌≡◌, length}
 use Rattle.vx_rvg.proofs.PatchFacts.{IsPatchedTo}
 use Rattle.vx_rvg.proofs.patch.patch.Given as goal
 

@@ -1,5 +1,4 @@
-use Rattle.std.proofs.Common.{◌≡◌, take, drop, refl, ap, ◌∙◌, List, []}
-use Rattle.vx_srl.specs.Views.{Log}
+use Rattle.std.proofs.Common.{take, drop, ap, List}
 use Rattle.vx_srl.specs.declared.kept.Kept.{Kept}
 use Rattle.vx_srl.proofs.Saving.{emptied_goes, emptied_leads}
 use Rattle.vx_srl.proofs.log.Srl.restart.Goals as goal

@@ -1,5 +1,4 @@
 use Rattle.vx_srl.proofs.Saving.{state_goes, state_leads}
-use Rattle.std.proofs.lemmas.Result.{on_ok_weaker}
 use Rattle.vx_srl.proofs.log.Srl.set_state.Goals as goal
 
 pub returns-in-Err-clause-goes : goal.returns-in-Err-clause-goes

@@ -1,7 +1,6 @@
 use Rattle.std.proofs.Common.{◌<◌, ◌+◌, ◌-◌, length, ap, sym, arith}
 use Rattle.vx_srl.specs.Views.{next_of}
 use Rattle.vx_srl.proofs.LogLists.{blocks_behind, part_length, place_low, record_before, split_widths}
-use Rattle.vx_srl.proofs.Saving.{state_goes}
 use Rattle.vx_srl.proofs.log.Srl.used.Goals as goal
 
 pub overflow_add-gone : goal.overflow_add-gone

@@ -1,0 +1,22 @@
+-- The staging and the sealing of a record are one call.
+use Rattle.vx_srl.specs.Views.{most_number}
+use Rattle.vx_rvg.proofs.WriteLog.{both_lead, both_move, next_free}
+use Rattle.vx_rvg.proofs.write.log_record.Goals as goal
+
+pub returns-in-Ok-clause-leads : goal.returns-in-Ok-clause-leads
+returns-in-Ok-clause-leads g c =
+    both_lead c.args.srl.now c.args.vol c.args.start c.args.bytes.now (g.S.Shelf.meaning c.args.shelf.now) (g.S.Shelf.meaning c.stage.new.shelf) (g.S.Shelf.meaning c.seal.new.shelf)
+    c.stage.new.self c.seal.new.self c.in_default.field-0
+    (c.in_default.ensures.stages c.requires.room (next_free c.args.srl.now most_number c.requires.idle c.requires.number)) c.in_default.ensures.leads c.in-Ok.ensures.leads
+
+pub returns-in-Ok-clause-moves : goal.returns-in-Ok-clause-moves
+returns-in-Ok-clause-moves g c =
+    both_move c.args.srl.now c.args.vol c.args.start c.args.bytes.now (g.S.Shelf.meaning c.args.shelf.now) (g.S.Shelf.meaning c.stage.new.shelf) (g.S.Shelf.meaning c.seal.new.shelf)
+    c.stage.new.self c.seal.new.self c.in_default.field-0
+    (c.in_default.ensures.stages c.requires.room (next_free c.args.srl.now most_number c.requires.idle c.requires.number)) c.in_default.ensures.leads c.in_default.ensures.goes c.in-Ok.ensures.goes
+
+pub returns-in-Err-seal-clause-moves : goal.returns-in-Err-seal-clause-moves
+returns-in-Err-seal-clause-moves g c =
+    both_move c.args.srl.now c.args.vol c.args.start c.args.bytes.now (g.S.Shelf.meaning c.args.shelf.now) (g.S.Shelf.meaning c.stage.new.shelf) (g.S.Shelf.meaning c.seal.new.shelf)
+    c.stage.new.self c.seal.new.self c.in_default.field-0
+    (c.in_default.ensures.stages c.requires.room (next_free c.args.srl.now most_number c.requires.idle c.requires.number)) c.in_default.ensures.leads c.in_default.ensures.goes c.in-Err-seal.ensures.goes
