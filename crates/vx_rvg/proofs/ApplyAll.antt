@@ -1,19 +1,21 @@
 -- Records whose blocks are written to their volumes, one after another, and then made durable.
-use Rattle.std.proofs.Common.{◌≡◌, ◌⊎◌, inl, inr, ⊎_elim, ℕ, ◌+◌, ◌-◌, ◌<◌, ◌≤◌, Bool, true, false, List, [], ◌∷◌, ◌++◌, length, take, drop, get_or, Some, All, IsTrue, refl, sym, ◌∙◌, ap, subst, arith, length-drop}
+use Rattle.std.proofs.Common.{◌≡◌, ◌⊎◌, inl, inr, ⊎_elim, ℕ, ◌+◌, ◌-◌, ◌<◌, ◌≤◌, Bool, true, false, List, [], ◌∷◌, ◌++◌, length, take, drop, get_or, Some, All, IsTrue, IsFalse, refl, sym, ◌∙◌, ap, subst, arith, length-drop}
 use Rattle.std.specs.Prelude.{if◌then◌else◌, leb, slice_get}
-use Rattle.std.proofs.lemmas.List.{get_or-drop, take-append-drop, take_more}
+use Rattle.std.proofs.lemmas.List.{drop-drop, get_or-drop, take-append-drop, take_more}
 use Rattle.std.proofs.lemmas.List.Elements.{All-nil, All-push, All-weaker}
 use Rattle.std.proofs.lemmas.Option.{get_or_from_slice_get, slice_get_within}
-use Rattle.vx_disk.specs.Moves.{Anything, Moves, Nowhere}
+use Rattle.vx_disk.specs.Moves.{Anything, Blocks, Moves, Nowhere, Says}
 use Rattle.vx_disk.specs.Shelf.{Holds, Meaning}
 use Rattle.vx_disk.proofs.Moving.{goes_on, still}
-use Rattle.vx_overlay.specs.Pending.{newest}
-use Rattle.vx_srl.specs.Views.{IsOrdered, Log, all_of, widths}
+use Rattle.vx_overlay.specs.declared.entry.Entry.{Entry}
+use Rattle.vx_overlay.specs.Pending.{Pending, newest}
+use Rattle.vx_srl.specs.Views.{IsOrdered, Log, all_of, count_to, widths}
 use Rattle.vx_srl.specs.declared.kept.Kept.{Kept}
 use Rattle.vx_rvg.specs.Brings.{Brings, BringsOne, IsPut, KeepsNewest, ReadsNewest, VolumesFlushed, due}
-use Rattle.vx_rvg.specs.Views.{Core, Waits, applied_count, blocks_within, unit_of, volume_size}
+use Rattle.vx_rvg.specs.Groups.{with_applied}
+use Rattle.vx_rvg.specs.Views.{Core, IsSound, Waits, applied_count, blocks_within, last_of, unit_of, volume_size}
 use Rattle.vx_rvg.proofs.ApplyOne.{put_there_is}
-use Rattle.vx_rvg.proofs.WriteSound.{SameSizes, moved_sizes, volume_same, within_append, within_same}
+use Rattle.vx_rvg.proofs.WriteSound.{SameSizes, lies_same, moved_sizes, placed_same, volume_same, within_append, within_same}
 
 -- ---- how many blocks they are
 
@@ -38,6 +40,10 @@ pub due_few : (core : Core) (size : ℕ → ℕ) (k : ℕ) → IsOrdered core.lo
 due_few core size k ordered =
     omega (arith, within_first size (k - core.applied) (drop (applied_count core) core.log.held), within_rest size (applied_count core) core.log.held,
     within_append size core.log.held core.log.staged, within_few size (all_of core.log), ordered.fits, ordered.few)
+
+was_up : (before after : Bool) → (IsTrue before → IsTrue after) → IsFalse after → IsFalse before
+was_up false after falls not = refl
+was_up true after falls not = let wrong : false ≡ true = sym not ∙ falls refl in cc
 
 -- ---- the same sizes
 
@@ -139,3 +145,45 @@ module _ (core : Core) (k : ℕ) (old mid new : Meaning) (count : ℕ) (brought 
               };
             }) (due core k) brought.each;
       })
+
+-- ---- the group behind them
+
+module _ (core : Core) (m m' : Meaning) (sound : IsSound core m) (to count : ℕ) (from : core.applied ≤ to) (brings : Brings core to m m' count) where
+  abbrev size : ℕ → ℕ
+  size = volume_size core.units.vols m
+
+  all_waiting : length core.pending.entries ≡ count + blocks_within size (drop (to - core.applied) (drop (applied_count core) core.log.held))
+  all_waiting =
+      let j : ℕ = to - core.applied in
+      let xs : List Kept = drop (applied_count core) core.log.held in
+      omega (arith, sound.waiting, brings.count_is, within_append size (take j xs) (drop j xs), ap (λ (ks : List Kept). blocks_within size ks) (take-append-drop j xs))
+
+  -- no more than wait
+  pub bring_few : count ≤ length core.pending.entries
+  bring_few = omega (arith, all_waiting)
+
+  pub apply_sound : (mine : Blocks) (P : Says) → Moves mine P m m' → to ≤ last_of core → IsSound (with_applied core to count) m'
+  apply_sound mine P moves known =
+      let same : SameSizes m m' = moved_sizes mine P m m' moves in
+      let at : applied_count core + (to - core.applied) ≡ count_to core.log to = omega (arith, sound.low, from) in
+      let rest : drop (to - core.applied) (drop (applied_count core) core.log.held) ≡ drop (count_to core.log to) core.log.held
+          = drop-drop (to - core.applied) (applied_count core) core.log.held ∙ ap (λ (n : ℕ). drop n core.log.held) at in
+      record {
+        placed = placed_same core.units m m' same sound.placed;
+        log_unit = sound.log_unit;
+        lies = lies_same core.log.unit core.log.ring m m' same sound.lies;
+        idle = λ running up. sound.idle running (was_up m.down m'.down moves.falls up);
+        low = omega (arith, sound.low, from);
+        known = known;
+        room = sound.room;
+        waiting =
+            omega (arith, length-drop count core.pending.entries, all_waiting, ap (λ (ks : List Kept). blocks_within size ks) rest,
+            within_same size (volume_size core.units.vols m') (volume_same core.units.vols m m' same) (drop (count_to core.log to) core.log.held));
+      }
+
+-- the group as the code leaves it
+pub applied_core : (v : Core) (to count : ℕ) (p : Pending) → p.entries ≡ drop count v.pending.entries → p.capacity ≡ v.pending.capacity
+    → record v { pending = p; applied = to } ≡ with_applied v to count
+applied_core v to count p entries capacity =
+    ap (λ (es : List Entry). record v { pending = record { capacity = p.capacity; entries = es }; applied = to }) entries
+    ∙ ap (λ (n : ℕ). record v { pending = record { capacity = n; entries = drop count v.pending.entries }; applied = to }) capacity

@@ -21,7 +21,7 @@ use Rattle.vx_rvg.specs.Groups.{IsPatched}
 use Rattle.vx_rvg.specs.Views.{Core, Placed, Waits, applied_count, blocks_within, unit_of, volume_size}
 use Rattle.vx_rvg.proofs.WriteStands.{volume_size_is}
 
-none_there : (vols : List ℕ) (m : Meaning) (v : ℕ) → length vols ≤ v → volume_size vols m v ≡ 0
+pub none_there : (vols : List ℕ) (m : Meaning) (v : ℕ) → length vols ≤ v → volume_size vols m v ≡ 0
 none_there vols m v high = ap (λ (t : Bool). if t then m.size (unit_of vols v) else 0) (le-ltb v (length vols) high)
 
 -- the volume of a block that a record puts is there

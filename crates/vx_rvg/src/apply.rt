@@ -3,10 +3,10 @@ ghost use Rattle.std.specs.Prelude.{◌≡◌, ◌+◌, ◌<◌, ◌≤◌, leng
 ghost use Rattle.vx_disk.specs.Moves.{Moves, Anything, Nowhere};
 ghost use Rattle.vx_model.specs.Content.{Content};
 ghost use Rattle.vx_rvg.specs.Brings.{Brings, BringsOne, VolumesFlushed};
-ghost use Rattle.vx_rvg.specs.Groups.{unless_halted, ApplyIs};
+ghost use Rattle.vx_rvg.specs.Groups.{unless_halted, Applies, ApplyIs};
 ghost use Rattle.vx_rvg.specs.Stands.{Stands, Resting, Rests};
 ghost use Rattle.vx_srl.specs.Causes.{Stopped};
-ghost use Rattle.vx_rvg.specs.Views.{Placed, Waits, last_of};
+ghost use Rattle.vx_rvg.specs.Views.{IsSound, Placed, Waits, last_of};
 
 use crate::patch::patch;
 use crate::{Rvg, RvgCore};
@@ -76,6 +76,36 @@ fn bring<S: Shelf>(shelf: &mut S, core: &RvgCore, to: u64) -> Result<u64, ShelfE
     Ok(count)
 }
 
+// The same of the records that wait, up to a number, and they wait no longer. A device call that fails halts the group.
+fn bring_to<S: Shelf>(shelf: &mut S, core: &mut RvgCore, count: u64) -> Result<u64, No>
+    requires sound { IsSound core.old (S.meaning shelf.old) }
+    ensures answers { Applies core.old count (S.meaning shelf.old) (S.meaning shelf.new) core.new result }
+    ensures nothing { count ≤ core.old.applied → shelf.new ≡ shelf.old }
+    ensures sound { IsSound core.new (S.meaning shelf.new) }
+    ensures stands { OnOk result (Rests core.old core.new (S.meaning shelf.old) (S.meaning shelf.new)) }
+    ensures moves { Moves (Waits core.old (S.meaning shelf.old)) (Resting core.old (S.meaning shelf.old)) (S.meaning shelf.old) (S.meaning shelf.new) }
+{
+    let to = core.applied_to(count);
+    if to == core.applied {
+        return Ok(to);
+    }
+    if shelf.is_down() {
+        return Err(No::Down);
+    }
+    match bring(shelf, core, to) {
+        Ok(blocks) => {
+            core.pending.drop_oldest(blocks);
+            core.applied = to;
+            Ok(to)
+        }
+        Err(error) => {
+            let no = refusal(error);
+            core.halt(&no);
+            Err(no)
+        }
+    }
+}
+
 impl<S: Shelf> Rvg<S> {
     /// Brings the logged writes up to a number into their volumes, durably. Answers the number up to which all are there now.
     ///
@@ -91,24 +121,6 @@ impl<S: Shelf> Rvg<S> {
         if let Some(disk) = self.core.halted {
             return Err(No::Halted { disk });
         }
-        let to = count.min(self.core.srl.head());
-        if to <= self.core.applied {
-            return Ok(self.core.applied);
-        }
-        if self.shelf.is_down() {
-            return Err(No::Down);
-        }
-        match bring(&mut self.shelf, &self.core, to) {
-            Ok(blocks) => {
-                self.core.pending.drop_oldest(blocks);
-                self.core.applied = to;
-                Ok(to)
-            }
-            Err(error) => {
-                let no = refusal(error);
-                self.core.halt(&no);
-                Err(no)
-            }
-        }
+        bring_to(&mut self.shelf, &mut self.core, count)
     }
 }
