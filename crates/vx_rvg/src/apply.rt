@@ -3,7 +3,7 @@ ghost use Rattle.std.specs.Prelude.{◌≡◌, ◌+◌, ◌<◌, ◌≤◌, leng
 ghost use Rattle.vx_disk.specs.Moves.{Moves, Anything, Nowhere};
 ghost use Rattle.vx_model.specs.Content.{Content};
 ghost use Rattle.vx_rvg.specs.Brings.{Brings, BringsOne, VolumesFlushed};
-ghost use Rattle.vx_rvg.specs.Groups.{unless_halted, Applies, ApplyIs};
+ghost use Rattle.vx_rvg.specs.Groups.{unless_halted, ApplyIs};
 ghost use Rattle.vx_rvg.specs.Stands.{Stands, Resting, Rests};
 ghost use Rattle.vx_srl.specs.Causes.{Stopped};
 ghost use Rattle.vx_rvg.specs.Views.{IsSound, Placed, Waits, last_of};
@@ -76,15 +76,19 @@ fn bring<S: Shelf>(shelf: &mut S, core: &RvgCore, to: u64) -> Result<u64, ShelfE
     Ok(count)
 }
 
-// The same of the records that wait, up to a number, and they wait no longer. A device call that fails halts the group.
-fn bring_to<S: Shelf>(shelf: &mut S, core: &mut RvgCore, count: u64) -> Result<u64, No>
+// Brings the records up to a number into their volumes, and they wait no longer. A device call that fails halts the group.
+fn apply_to<S: Shelf>(shelf: &mut S, core: &mut RvgCore, count: u64) -> Result<u64, No>
     requires sound { IsSound core.old (S.meaning shelf.old) }
-    ensures answers { Applies core.old count (S.meaning shelf.old) (S.meaning shelf.new) core.new result }
+    ensures answers { ApplyIs (unless_halted core.old.halted None) core.old count (S.meaning shelf.old) (S.meaning shelf.new) core.new result }
+    ensures unchanged { IsSome (unless_halted core.old.halted None) → shelf.new ≡ shelf.old }
     ensures nothing { count ≤ core.old.applied → shelf.new ≡ shelf.old }
     ensures sound { IsSound core.new (S.meaning shelf.new) }
     ensures stands { OnOk result (Rests core.old core.new (S.meaning shelf.old) (S.meaning shelf.new)) }
     ensures moves { Moves (Waits core.old (S.meaning shelf.old)) (Resting core.old (S.meaning shelf.old)) (S.meaning shelf.old) (S.meaning shelf.new) }
 {
+    if let Some(disk) = core.halted {
+        return Err(No::Halted { disk });
+    }
     let to = core.applied_to(count);
     if to == core.applied {
         return Ok(to);
@@ -118,9 +122,6 @@ impl<S: Shelf> Rvg<S> {
         ensures stands { OnOk result (Rests self.old.core self.new.core (S.meaning self.old.shelf) (S.meaning self.new.shelf)) }
         ensures moves { Moves (Waits self.old.core (S.meaning self.old.shelf)) (Resting self.old.core (S.meaning self.old.shelf)) (S.meaning self.old.shelf) (S.meaning self.new.shelf) }
     {
-        if let Some(disk) = self.core.halted {
-            return Err(No::Halted { disk });
-        }
-        bring_to(&mut self.shelf, &mut self.core, count)
+        apply_to(&mut self.shelf, &mut self.core, count)
     }
 }

@@ -3,7 +3,7 @@ use Rattle.vx_model.specs.declared.no.No.{No}
 use Rattle.vx_srl.specs.Causes.{DeviceCause}
 use Rattle.vx_rvg.specs.Views.{Core, IsSound, last_of}
 use Rattle.vx_rvg.proofs.ApplyStands.{apply_failed, apply_moves, few_wait, new_rests, new_sound, still_running}
-use Rattle.vx_rvg.proofs.apply.bring_to.Goals as goal
+use Rattle.vx_rvg.proofs.apply.apply_to.Goals as goal
 
 pub drop_oldest-requires : goal.drop_oldest-requires
 drop_oldest-requires g c = record {
