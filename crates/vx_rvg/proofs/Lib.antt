@@ -4,12 +4,14 @@ pub mod ApplyOne
 pub mod ApplyPuts
 pub mod ApplyStands
 pub mod ContentFacts
+pub mod MakeStands
 pub mod PatchFacts
 pub mod ReadAnswers
 pub mod ReadStands
+pub mod StartFill
+pub mod StartStands
 pub mod WriteCommit
 pub mod WriteContent
 pub mod WriteLog
 pub mod WriteSound
 pub mod WriteStands
-pub mod MakeStands
