@@ -158,6 +158,7 @@ module _ (n : Node) (m up : Meaning) (is : IsDownAt n m) (alike : Alike m up) (r
       unlinked = unlinked;
       session = incarnation;
       stamp = λ tells _. stamp tells;
+      first = omega (arith, started.applied);
       head = head;
       halted = started.running;
       logged = omega (arith, logged);

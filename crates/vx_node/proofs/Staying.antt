@@ -52,7 +52,7 @@ drop-take_none zero (x ∷ xs) = refl
 drop-take_none (suc k) [] = refl
 drop-take_none (suc k) (x ∷ xs) = drop-take_none k xs
 
-found_same : (u u' : Units) (r r' : ℕ) (state state' : State) (session session' stamp stamp' last last' : ℕ) (c c' : Content) (i : Image)
+pub found_same : (u u' : Units) (r r' : ℕ) (state state' : State) (session session' stamp stamp' last last' : ℕ) (c c' : Content) (i : Image)
     → u ≡ u' → r ≡ r' → state ≡ state' → session ≡ session' → stamp ≤ stamp' → last ≡ last' → c ≡ c' → Found u r state session stamp i last c → Found u' r' state' session' stamp' i last' c'
 found_same u u' r r' state state' session session' stamp stamp' last last' c c' i eu er es en le el ec found =
     subst (λ (x : Units). Found x r' state' session' stamp' i last' c') eu
@@ -122,6 +122,7 @@ up_with n c c' m new h mine P moves up same halted running content left = record
   unlinked = λ told. up.unlinked (sym moves.tells ∙ told);
   session = ap (λ (x : Header). x.incarnation) same.header ∙ up.session;
   stamp = λ told none. let t = up.stamp (sym moves.tells ∙ told) (running none) in omega (arith, t, ap (λ (x : Header). x.stamp) same.header);
+  first = omega (arith, up.first, ap (λ (x : Header). x.low) same.header);
   head = omega (arith, up.head, ap (λ (x : Header). x.low) same.header, ap (λ (xs : List Kept). length xs) same.held);
   halted = halted;
   logged = up.logged;

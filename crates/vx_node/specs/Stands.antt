@@ -51,6 +51,7 @@ pub record IsUpAt (n : Node) (c : Core) (m : Meaning) : Type 0 where
   pub unlinked : IsTrue m.tells → links ≡ []
   pub session : c.log.header.incarnation ≡ n.session
   pub stamp : IsTrue m.tells → n.halted ≡ None → c.log.header.stamp + 1 ≤ most_stamp n
+  pub first : 0 < c.log.header.low
   pub head : last_of c ≡ n.safe
   pub halted : c.halted ≡ n.halted
   pub logged : n.safe ≤ length n.log
