@@ -4,6 +4,7 @@ pub mod MakeStands
 pub mod PatchFacts
 pub mod ReadAnswers
 pub mod ReadStands
+pub mod SaveStands
 pub mod StartFill
 pub mod StartStands
 pub mod WriteCommit
@@ -11,3 +12,4 @@ pub mod WriteContent
 pub mod WriteLog
 pub mod WriteSound
 pub mod WriteStands
+pub mod SaveCalls
