@@ -1,4 +1,8 @@
+pub mod ApplyAll
 pub mod ApplyFlush
+pub mod ApplyOne
+pub mod ApplyPuts
+pub mod ApplyStands
 pub mod ContentFacts
 pub mod MakeStands
 pub mod PatchFacts
