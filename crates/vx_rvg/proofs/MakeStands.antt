@@ -1,5 +1,5 @@
 -- A new group stands with the content that its volumes have by themselves.
-use Rattle.std.proofs.Common.{◌≡◌, ◌≢◌, None, ℕ, ◌+◌, ◌-◌, ◌<◌, ◌≤◌, List, [], length, drop, IsTrue, refl, sym, ◌∙◌, ap, subst, arith, ⊎_elim}
+use Rattle.std.proofs.Common.{◌≡◌, None, ℕ, ◌-◌, ◌<◌, ◌≤◌, List, [], length, drop, IsTrue, sym, ◌∙◌, ap, subst, arith, ⊎_elim}
 use Rattle.std.proofs.Math.Seq.{drop-nil}
 use Rattle.std.specs.Prelude.{All}
 use Rattle.std.proofs.lemmas.Bool.{cases_lt}
@@ -19,7 +19,7 @@ use Rattle.vx_srl.specs.Starts.{IsNew}
 use Rattle.vx_srl.specs.Views.{Log}
 use Rattle.vx_rvg.specs.Contents.{writes_of, HasSizes, KeepsContent}
 use Rattle.vx_rvg.specs.Stands.{Holds, IsWholeRecord, Ready, Stands}
-use Rattle.vx_rvg.specs.Views.{Core, Placed, unit_of}
+use Rattle.vx_rvg.specs.Views.{Placed, unit_of}
 
 -- a block of a volume lies within those that exist
 pub in_volumes : (vols : List ℕ) (c : Content) (m : Meaning) (v b : ℕ) → HasSizes vols c m → b < c.size v → v < length vols
