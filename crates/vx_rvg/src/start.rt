@@ -65,6 +65,7 @@ fn fill<S: Shelf>(shelf: &mut S, srl: &Srl, units: &Units, pending: &mut Overlay
         if let Err(why) = srl.fetch(shelf, before + 1, &mut update) {
             return Err(refused(why));
         }
+        // What is read next is told only of a shelf that is up.
         if shelf.is_down() {
             return Err(No::Down);
         }
