@@ -130,10 +130,12 @@ module _ (n : Node) (volume start : ℕ) (bytes : List ℕ) (c0 c c' : Core) (m0
       ∙ pushed c.log.header.low c.log.held c.log.staged (kept_of c.log volume start bytes) roomy.first (ap (λ (ks : List Kept). length ks) (sound.idle roomy.running roomy.fitted.up))
 
   by_writes : (result : Result ℕ No) → last_of c < most_number → Writes c volume start bytes m new c' result → OnOk result ((k : Content) → Stands c k m → Stands c' (put k x) new) → WroteAs n x m c' new result
-  by_writes (Ok number) below is stands =
-      (is.0 ∙ ap (λ (k : ℕ). k + 1) roomy.head, omega (arith, below, roomy.head),
-      up_logged n x c0 c c' m0 m new up can.running roomy after sound'.log_unit moves.tells fitted_new (ap (λ (k : Core). k.units) is.1) (ap (λ (k : Core). k.log.ring) is.1)
-      (ap (λ (k : Core). k.log.header) is.1) (ap (λ (k : Core). k.halted) is.1) (head_more is.1) (λ told. stands n.base (roomy.content (sym moves.tells ∙ told))))
+  by_writes (Ok number) below is stands = (
+    is.0 ∙ ap (λ (k : ℕ). k + 1) roomy.head,
+    omega (arith, below, roomy.head),
+    up_logged n x c0 c c' m0 m new up can.running roomy after sound'.log_unit moves.tells fitted_new (ap (λ (k : Core). k.units) is.1) (ap (λ (k : Core). k.log.ring) is.1)
+        (ap (λ (k : Core). k.log.header) is.1) (ap (λ (k : Core). k.halted) is.1) (head_more is.1) (λ told. stands n.base (roomy.content (sym moves.tells ∙ told))),
+  )
   by_writes (Err (Device disk)) below is stands = (up_half n x disk c0 c c' m0 m new up roomy moves.tells fitted_new (ended_log c (Some disk) c' is.0) is.0.halted_is (half_left disk), is.1)
   by_writes (Err Down) below is stands = still_up is.1
   by_writes (Err (Limit what most)) below is stands = absurd is
@@ -145,9 +147,11 @@ module _ (n : Node) (volume start : ℕ) (bytes : List ℕ) (c0 c c' : Core) (m0
   by_number o result (NoneLeft past is_some) is unchanged stands =
       let refused = subst (λ (k : Option No). WriteIs k c volume start bytes m new c' result) is_some is in
       let stays : new ≡ m = unchanged (subst (λ (k : Option No). IsSome k) (sym is_some) refl) in
-      subst (λ (r : Result ℕ No). WroteAs n x m c' new r) (sym refused.0)
-      (refl, (λ told. omega (arith, past, roomy.head)),
-      subst (λ (k : Core). IsUpAt n k new) (sym refused.1) (subst (λ (k : Meaning). IsUpAt n c k) (sym stays) (up_roomy (λ told. roomy.unused told (omega (arith, past, roomy.head))))))
+      subst (λ (r : Result ℕ No). WroteAs n x m c' new r) (sym refused.0) (
+        refl,
+        (λ told. omega (arith, past, roomy.head)),
+        subst (λ (k : Core). IsUpAt n k new) (sym refused.1) (subst (λ (k : Meaning). IsUpAt n c k) (sym stays) (up_roomy (λ told. roomy.unused told (omega (arith, past, roomy.head))))),
+      )
 
   -- what a write answers
   pub written_as : (result : Result ℕ No) → WriteIs (write_refusal c (m.size (unit_of c.units.vols volume)) start (blocks_in bytes)) c volume start bytes m new c' result

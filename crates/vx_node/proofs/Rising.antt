@@ -7,6 +7,7 @@ use Rattle.vx_model.specs.Steps.{recovered, came_up, session_begun, crash_left, 
 use Rattle.vx_model.specs.declared.no.No.{No}
 use Rattle.vx_model.specs.declared.no.No.TheVariants.{Device, Limit, NoConfig}
 use Rattle.vx_model.specs.declared.no.Counted.TheVariants.{Number}
+use Rattle.vx_model.specs.declared.state.State.{State}
 use Rattle.vx_model.specs.declared.site.SiteState.{SiteState}
 use Rattle.vx_model.specs.declared.site.SiteState.TheVariants.{Bare as IsBare, Up as IsUp, Deported, Down as IsDown}
 use Rattle.vx_model.proofs.Updates.{at_place}
@@ -24,8 +25,8 @@ use Rattle.vx_node.specs.declared.yard.Yard.{Yard}
 use Rattle.vx_node.specs.Changes.{up_facts}
 use Rattle.vx_node.specs.Engines.{Later, RoseAt, SameDisks, CameUp, CameUpIs, StillDown, no_number}
 use Rattle.vx_node.specs.Facts.{site_fact, group_fact, group_by, volume_fact, facts_of, seat_of, site_number}
-use Rattle.vx_node.specs.Holds.{state_of, most_stamp}
-use Rattle.vx_node.specs.Rising.{Fell, NotedUp, Recovering}
+use Rattle.vx_node.specs.Holds.{state_of, state_with, most_stamp}
+use Rattle.vx_node.specs.Rising.{Fell, NotedUp, NotesUp, Recovering}
 use Rattle.vx_node.specs.Stands.{EnginesStand, StandsAt, IsToldAt, AreTold, RoseAll, RoseBy, times, faults_of}
 use Rattle.vx_node.specs.Steps.{Fails, Crashes, Begins, CrashesFirst, IsDown as DownBefore, Recovers, ComesUp, StaysDown, NoSession, Untold, IsBareStill, FailsAt}
 use Rattle.vx_node.specs.Views.{view_of}
@@ -130,6 +131,24 @@ module _ {R : Type 0} {g : Ghosts R} where
   not_all es s old after new there is untold all = untold (all.each s after (ap (λ xs. slice_get xs s) is ∙ get-set_same es s after (slice_get_within es s old there)))
 
   -- ---- a site that comes up
+
+  -- what was taken of the group into what the tests see
+  pub noted_up : (y new : Yard R g) (s ring last : ℕ) (one two : Engine R g) (state : State) (f f' : SiteFacts) → slice_get y.engines.items s ≡ Some one → slice_get y.engines.items s ≡ Some two
+      → slice_get y.facts.items s ≡ Some f → ((n : Node) → StandsAt n one → n.state ≡ IsUp → last ≡ n.safe) → ((n : Node) → StandsAt n two → n.state ≡ IsUp → state ≡ state_with n state.links)
+      → f' ≡ up_facts state last ring f → new.facts.items ≡ slice_set y.facts.items s f' → NotesUp s ring last y new
+  noted_up y new s ring last one two state f f' at_one at_two at last_is kept is facts = record {
+    each = λ e n there stands up.
+        let safe : last ≡ n.safe = last_is n (subst (StandsAt n) (some_same (sym there ∙ at_one)) stands) up in
+        let state_is : state ≡ state_with n state.links = kept n (subst (StandsAt n) (some_same (sym there ∙ at_two)) stands) up in
+        record {
+          last_is = safe;
+          facts = λ x x_at. facts ∙ ap (slice_set y.facts.items s) (is ∙ ap (λ (t : State). up_facts t last ring f) state_is ∙ ap (λ (k : ℕ). up_facts (state_of n) k ring f) safe
+              ∙ ap (up_facts (state_of n) n.safe ring) (some_same (sym at ∙ x_at)));
+        };
+  }
+
+  pub not_noted : (y new : Yard R g) (s ring last : ℕ) (e : Engine R g) → slice_get y.engines.items s ≡ Some e → ((n : Node) → StandsAt n e → n.state ≡ IsUp → ⊥) → NotesUp s ring last y new
+  not_noted y new s ring last e at none = record { each = λ x n there stands up. absurd (none n (subst (StandsAt n) (some_same (sym there ∙ at)) stands) up) }
 
   module _ (w mid : World) (old new : Yard R g) (s : ℕ) (before after : Engine R g) (stands : YardStands mid old) (below : s < mid.sites) (begins : Begins w s mid) (down : (mid.nodes s).state ≡ IsDown)
       (there : slice_get old.engines.items s ≡ Some before) (later : Later before after) (engines : new.engines.items ≡ slice_set old.engines.items s after) (racks : new.racks ≡ old.racks) where

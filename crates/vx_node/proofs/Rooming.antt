@@ -171,10 +171,11 @@ module _ (n : Node) (c c' : Core) (m new : Meaning) (up : IsUpAt n c m) (none : 
       let same : answer ≡ why = (let e : Err answer ≡ Err why = is.0 in cc) in
       let limit : IsLimit c.log.header.stamp n.safe (Some why) = subst (λ (o : Option No). IsLimit c.log.header.stamp n.safe o) r_is (limits c.log.header.low c.log.header.stamp n.safe) in
       let stays : new ≡ m = unchanged refl in
-      subst (λ (k : No). RoomIs n m c' new (Err k)) (sym (same ∙ limit.0))
-      (refl,
-      (λ told. let t = up.stamp (sym moves.tells ∙ told) none in ⊎_elim (λ (a : most_number ≤ c.log.header.stamp). omega (arith, t, a)) (λ (b : most_number ≤ n.safe). omega (arith, b)) limit.1),
-      subst (λ (k : Core). IsUpAt n k new) (sym is.1) (subst (λ (k : Meaning). IsUpAt n c k) (sym stays) up))
+      subst (λ (k : No). RoomIs n m c' new (Err k)) (sym (same ∙ limit.0)) (
+        refl,
+        (λ told. let t = up.stamp (sym moves.tells ∙ told) none in ⊎_elim (λ (a : most_number ≤ c.log.header.stamp). omega (arith, t, a)) (λ (b : most_number ≤ n.safe). omega (arith, b)) limit.1),
+        subst (λ (k : Core). IsUpAt n k new) (sym is.1) (subst (λ (k : Meaning). IsUpAt n c k) (sym stays) up),
+      )
   by_answer None (Ok done) r_is is unchanged rests = roomy_reclaimed is r_is rests
   by_answer None (Err (Device disk)) r_is is unchanged rests = (reclaim_halted disk is.0, is.1)
   by_answer None (Err Down) r_is is unchanged rests = still_up is.1

@@ -8,6 +8,7 @@ ghost use Rattle.vx_node.specs.Steps.{Begins};
 ghost use Rattle.vx_node.specs.Working.{WorkIs, Worked, IsFree};
 ghost use Rattle.vx_node.specs.Yards.{YardStands, IsTold, in_files};
 
+use crate::writes::refused;
 use crate::yard::{Yard, seat};
 use crate::{Engine, Said, facts};
 use std::alloc::Global;
@@ -124,12 +125,7 @@ impl<R: Rack> Yard<R> {
         }
         match self.engines[site].apply(to) {
             Ok(number) => Said::DoneAt(number),
-            Err(no) => {
-                if let No::Device { disk } = no {
-                    facts::set_halted(&mut self.facts[site], disk);
-                }
-                Said::Refused(no)
-            }
+            Err(no) => refused(&mut self.facts[site], no),
         }
     }
 }

@@ -1,10 +1,12 @@
 // The disks of a site, and what is made of them.
-ghost use Rattle.std.specs.Prelude.{◌≡◌, ◌≤◌, ◌<◌, ◌+◌, ◌*◌, ◌%◌, ℕ, length, IfSome, IsSome};
+ghost use Rattle.std.specs.Prelude.{◌≡◌, ◌≤◌, ◌<◌, ◌+◌, ◌*◌, ◌%◌, ℕ, length, IfSome, IsSome, IsTrue};
+ghost use Rattle.vx_node.specs.Engines.{CanStart};
 
 use crate::units::raw_units;
 use std::alloc::Global;
 use vx_disk::Rack;
 use vx_model::{No, State, Stop};
+use vx_order::ring_blocks;
 use vx_rvg::{Rvg, StartRoom};
 
 /// The rack of a site number, by itself or under a replicated volume group.
@@ -20,8 +22,7 @@ pub enum Engine<R: Rack> {
 }
 
 // Gives up what the log no longer needs, where a write of so many blocks has no room. All that is logged is applied first.
-fn make_room<R: Rack>(rvg: &mut Rvg<R>, count: u64) -> Result<(), No>
-{
+fn make_room<R: Rack>(rvg: &mut Rvg<R>, count: u64) -> Result<(), No> {
     if rvg.free() > count {
         return Ok(());
     }
@@ -30,10 +31,27 @@ fn make_room<R: Rack>(rvg: &mut Rvg<R>, count: u64) -> Result<(), No>
 }
 
 // Writes whole blocks to a volume of a group that has no links.
-fn write_group<R: Rack>(rvg: &mut Rvg<R>, volume: u32, start: u64, bytes: &[u8]) -> Result<u64, No>
-{
+fn write_group<R: Rack>(
+    rvg: &mut Rvg<R>,
+    volume: u32,
+    start: u64,
+    bytes: &[u8],
+) -> Result<u64, No> {
     make_room(rvg, bytes.len() as u64 / 512)?;
     rvg.write(volume, start, bytes, 0)
+}
+
+// Whether these are the disks of a raw set that is down, in whose log there is this room.
+fn can_start<R: Rack>(rack: &R, room: &StartRoom) -> bool
+    ensures is { IsTrue result → CanStart room.now.ring (R.meaning rack.now) }
+    ensures all { CanStart room.now.ring (R.meaning rack.now) → IsTrue result }
+{
+    let disks = rack.units();
+    if disks < 3 || disks > 8 || !rack.is_down() {
+        return false;
+    }
+    let blocks = rack.size(0);
+    blocks >= 8 && room.ring() == ring_blocks(blocks)
 }
 
 impl<R: Rack> Engine<R> {
@@ -167,12 +185,12 @@ impl<R: Rack> Engine<R> {
         match self {
             Engine::Down(rack) => {
                 let mut rack = rack;
-                let disks = rack.units();
-                if disks < 3 || disks > 8 || !rack.is_down() {
+                if !can_start(&rack, &room) {
                     return (Engine::Down(rack), Err(No::Role));
                 }
                 rack.revive();
-                match Rvg::start_in(room, rack, &raw_units(disks)) {
+                let units = raw_units(rack.units());
+                match Rvg::start_in(room, rack, &units) {
                     Ok(rvg) => (Engine::Up(rvg), Ok(())),
                     Err((rack, no)) => {
                         let mut rack = rack;
