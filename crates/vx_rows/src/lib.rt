@@ -13,6 +13,8 @@ mod ends;
 mod lines;
 mod racks;
 #[cfg(test)]
+mod recovery;
+#[cfg(test)]
 mod statuses;
 #[cfg(test)]
 mod wrong;

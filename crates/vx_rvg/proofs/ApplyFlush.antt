@@ -35,4 +35,3 @@ pub record FlushedTo (vols : List ℕ) (k : ℕ) (old new : Meaning) : Type 0 wh
   pub each : (v b : ℕ) (bytes : List ℕ) → v < k → new.leaves (unit_of vols v) b bytes → old.reads (unit_of vols v) b bytes
   pub moves : Moves Nowhere Anything old new
   pub up : (IsTrue old.down → ⊥) → IsTrue new.down → ⊥
-

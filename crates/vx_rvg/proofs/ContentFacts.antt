@@ -103,14 +103,14 @@ head_is_last l some = omega (arith, some)
 
 -- ---- what a crash leaves between calls
 
-no_more : (rs ss : List Record) (k : ℕ) → ss ≡ [] → rs ++ take k ss ≡ rs
+pub no_more : (rs ss : List Record) (k : ℕ) → ss ≡ [] → rs ++ take k ss ≡ rs
 no_more rs ss k none = ap (λ (l : List Record). rs ++ take k l) none ∙ ap (λ (l : List Record). rs ++ l) (take_none k) ∙ append-nil rs
   where
     take_none : (k : ℕ) → take {A = Record} k [] ≡ []
     take_none zero = refl
     take_none (suc k) = refl
 
-found_held : (ring : ℕ) (s : State) (i : cells.Image) → s.staged ≡ [] → LogFound ring s Seal i → Recovers ring i s.header s.held
+pub found_held : (ring : ℕ) (s : State) (i : cells.Image) → s.staged ≡ [] → LogFound ring s Seal i → Recovers ring i s.header s.held
 found_held ring s i idle (inl found) = subst (λ (l : List Record). Recovers ring i s.header l) (no_more s.held s.staged found.0 idle) found.1
 found_held ring s i idle (inr none) = absurd none
 

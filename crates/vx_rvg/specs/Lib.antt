@@ -1,5 +1,6 @@
 pub mod Brings
 pub mod Contents
+pub mod Fills
 pub mod Groups
 pub mod Logging
 pub mod Saves

@@ -1,12 +1,12 @@
 // The bringing of logged writes into their volumes.
-ghost use Rattle.std.specs.Prelude.{◌≡◌, ◌+◌, ◌<◌, ◌≤◌, length, Some, None, IsTrue, IsFalse, OnOk, IsSome};
+ghost use Rattle.std.specs.Prelude.{◌≡◌, ◌+◌, ◌<◌, ◌≤◌, length, Some, None, IsTrue, IsFalse, IfOk, OnOk, IsSome};
 ghost use Rattle.vx_disk.specs.Moves.{Moves, Anything, Nowhere};
 ghost use Rattle.vx_model.specs.Content.{Content};
 ghost use Rattle.vx_rvg.specs.Brings.{Brings, BringsOne, VolumesFlushed};
 ghost use Rattle.vx_rvg.specs.Groups.{unless_halted, ApplyIs};
 ghost use Rattle.vx_rvg.specs.Stands.{Stands, Resting, Rests};
 ghost use Rattle.vx_srl.specs.Causes.{Stopped};
-ghost use Rattle.vx_rvg.specs.Views.{Placed, Waits, last_of};
+ghost use Rattle.vx_rvg.specs.Views.{IsSound, Placed, Waits, last_of};
 
 use crate::patch::patch;
 use crate::{Rvg, RvgCore};
@@ -20,7 +20,7 @@ fn bring_one<S: Shelf>(shelf: &mut S, core: &RvgCore, n: u64) -> Result<u64, She
     requires low { core.now.log.header.low ≤ core.now.applied + 1 }
     requires waits { core.now.applied < n }
     requires held { n ≤ last_of core.now }
-    ensures brings { OnOk result (BringsOne core.now n (S.meaning shelf.old) (S.meaning shelf.new)) }
+    ensures brings { IfOk result (BringsOne core.now n (S.meaning shelf.old) (S.meaning shelf.new)) }
     ensures moves { Moves (Waits core.now (S.meaning shelf.old)) Anything (S.meaning shelf.old) (S.meaning shelf.new) }
     ensures stopped { Stopped (S.meaning shelf.old) (S.meaning shelf.new) result }
 {
@@ -60,17 +60,54 @@ fn flush_volumes<S: Shelf>(shelf: &mut S, core: &RvgCore) -> Result<(), ShelfErr
 fn bring<S: Shelf>(shelf: &mut S, core: &RvgCore, to: u64) -> Result<u64, ShelfError>
     requires placed { Placed core.now.units (S.meaning shelf.old) }
     requires low { core.now.log.header.low ≤ core.now.applied + 1 }
+    requires applied { core.now.applied ≤ to }
     requires held { to ≤ last_of core.now }
-    ensures brings { OnOk result (Brings core.now to (S.meaning shelf.old) (S.meaning shelf.new)) }
+    ensures brings { IfOk result (Brings core.now to (S.meaning shelf.old) (S.meaning shelf.new)) }
     ensures moves { Moves (Waits core.now (S.meaning shelf.old)) Anything (S.meaning shelf.old) (S.meaning shelf.new) }
     ensures stopped { Stopped (S.meaning shelf.old) (S.meaning shelf.new) result }
 {
+    // A log bounds the blocks of its records by its ring.
+    let _ring = core.srl.ring();
     let mut count = 0;
     for n in core.applied..to {
         count += bring_one(shelf, core, n + 1)?;
     }
     flush_volumes(shelf, core)?;
     Ok(count)
+}
+
+// Brings the records up to a number into their volumes, and they wait no longer. A device call that fails halts the group.
+fn apply_to<S: Shelf>(shelf: &mut S, core: &mut RvgCore, count: u64) -> Result<u64, No>
+    requires sound { IsSound core.old (S.meaning shelf.old) }
+    ensures answers { ApplyIs (unless_halted core.old.halted None) core.old count (S.meaning shelf.old) (S.meaning shelf.new) core.new result }
+    ensures unchanged { IsSome (unless_halted core.old.halted None) → shelf.new ≡ shelf.old }
+    ensures nothing { count ≤ core.old.applied → shelf.new ≡ shelf.old }
+    ensures sound { IsSound core.new (S.meaning shelf.new) }
+    ensures stands { OnOk result (Rests core.old core.new (S.meaning shelf.old) (S.meaning shelf.new)) }
+    ensures moves { Moves (Waits core.old (S.meaning shelf.old)) (Resting core.old (S.meaning shelf.old)) (S.meaning shelf.old) (S.meaning shelf.new) }
+{
+    if let Some(disk) = core.halted {
+        return Err(No::Halted { disk });
+    }
+    let to = core.applied_to(count);
+    if to == core.applied {
+        return Ok(to);
+    }
+    if shelf.is_down() {
+        return Err(No::Down);
+    }
+    match bring(shelf, core, to) {
+        Ok(blocks) => {
+            core.pending.drop_oldest(blocks);
+            core.applied = to;
+            Ok(to)
+        }
+        Err(error) => {
+            let no = refusal(error);
+            core.halt(&no);
+            Err(no)
+        }
+    }
 }
 
 impl<S: Shelf> Rvg<S> {
@@ -85,27 +122,6 @@ impl<S: Shelf> Rvg<S> {
         ensures stands { OnOk result (Rests self.old.core self.new.core (S.meaning self.old.shelf) (S.meaning self.new.shelf)) }
         ensures moves { Moves (Waits self.old.core (S.meaning self.old.shelf)) (Resting self.old.core (S.meaning self.old.shelf)) (S.meaning self.old.shelf) (S.meaning self.new.shelf) }
     {
-        if let Some(disk) = self.core.halted {
-            return Err(No::Halted { disk });
-        }
-        let to = count.min(self.core.srl.head());
-        if to <= self.core.applied {
-            return Ok(self.core.applied);
-        }
-        if self.shelf.is_down() {
-            return Err(No::Down);
-        }
-        match bring(&mut self.shelf, &self.core, to) {
-            Ok(blocks) => {
-                self.core.pending.drop_oldest(blocks);
-                self.core.applied = to;
-                Ok(to)
-            }
-            Err(error) => {
-                let no = refusal(error);
-                self.core.halt(&no);
-                Err(no)
-            }
-        }
+        apply_to(&mut self.shelf, &mut self.core, count)
     }
 }

@@ -1,6 +1,6 @@
 // What a group is beside its shelf.
 ghost use Rattle.std.specs.Prelude.{◌≡◌, ◌+◌, ◌<◌, ◌≤◌, length, None};
-ghost use Rattle.vx_rvg.specs.Groups.{write_refusal, read_refusal, halted_by};
+ghost use Rattle.vx_rvg.specs.Groups.{write_refusal, read_refusal, applied_to, halted_by};
 ghost use Rattle.vx_rvg.specs.Views.{unit_of};
 
 use std::marker::Model;
@@ -80,6 +80,13 @@ impl RvgCore {
             return Some(No::Range);
         }
         None
+    }
+
+    /// The number up to which an apply brings the writes into the volumes.
+    pub(crate) fn applied_to(&self, count: u64) -> u64
+        ensures { result ≡ applied_to self.now count }
+    {
+        self.applied.max(count.min(self.srl.head()))
     }
 
     /// After a refusal of a device call: the disk of a 7 halts the group.

@@ -1,10 +1,14 @@
 // The start of a group from what stands on its shelf.
-ghost use Rattle.std.specs.Prelude.{◌≡◌, ◌⊎◌, ◌+◌, ◌<◌, ◌≤◌, ℕ, IfOk, IfErr, IsTrue, OnOk};
+ghost use Rattle.std.specs.Prelude.{◌≡◌, ◌+◌, ◌≤◌, [], ◌∷◌, ◌++◌, length, IfOk, IfErr, IsTrue, OnOk};
 ghost use Rattle.vx_disk.specs.Moves.{Moves, Run};
 ghost use Rattle.vx_disk.specs.Shelf.{Goes, Nothing};
+ghost use Rattle.vx_model.specs.Content.{blocks_in};
 ghost use Rattle.vx_model.specs.Steps.{ring_of};
+ghost use Rattle.vx_overlay.specs.Writes.{entries_of};
+ghost use Rattle.vx_ringio.specs.Tracks.{Lies};
+ghost use Rattle.vx_rvg.specs.Fills.{FillCause, IsFilled, logged_by};
 ghost use Rattle.vx_rvg.specs.Starts.{Starting, IsStarted, StartCause, StartStop, ring_in};
-ghost use Rattle.vx_rvg.specs.Views.{Placed};
+ghost use Rattle.vx_rvg.specs.Views.{Placed, volume_size};
 
 use crate::patch::add_all;
 use crate::write::refused;
@@ -17,7 +21,12 @@ use vx_overlay::Overlay;
 use vx_srl::{LogRoom, Srl};
 
 // Adds the blocks of a write, unless it does not end within its volume.
-fn add_within<S: Shelf>(shelf: &S, units: &Units, pending: &mut Overlay, update: &Update) {
+fn add_within<S: Shelf>(shelf: &S, units: &Units, pending: &mut Overlay, update: &Update)
+    requires placed { Placed units.now (S.meaning shelf.now) }
+    requires room { length pending.old.entries + blocks_in update.now.bytes ≤ pending.old.capacity }
+    ensures entries { pending.new.entries ≡ pending.old.entries ++ entries_of (volume_size units.now.vols (S.meaning shelf.now)) (logged_by update.now ∷ []) }
+    ensures capacity { pending.new.capacity ≡ pending.old.capacity }
+{
     let vols = units.vols.as_slice();
     if update.vol as usize >= vols.len() {
         return;
@@ -31,12 +40,20 @@ fn add_within<S: Shelf>(shelf: &S, units: &Units, pending: &mut Overlay, update:
 }
 
 // Adds the blocks of each write of the log.
-fn fill<S: Shelf>(
-    shelf: &mut S,
-    srl: &Srl,
-    units: &Units,
-    pending: &mut Overlay,
-) -> Result<(), No> {
+fn fill<S: Shelf>(shelf: &mut S, srl: &Srl, units: &Units, pending: &mut Overlay) -> Result<(), No>
+    requires placed { Placed units.now (S.meaning shelf.old) }
+    requires lies { Lies srl.now.unit srl.now.ring (S.meaning shelf.old) }
+    requires up { IsTrue (S.meaning shelf.old).down → ⊥ }
+    requires none { pending.old.entries ≡ [] }
+    requires room { pending.old.capacity ≡ srl.now.ring }
+    ensures filled { OnOk result (IsFilled srl.now (volume_size units.now.vols (S.meaning shelf.old)) (S.meaning shelf.old) (length srl.now.held) pending.new.entries) }
+    ensures capacity { pending.new.capacity ≡ pending.old.capacity }
+    ensures up { OnOk result (IsTrue (S.meaning shelf.new).down → ⊥) }
+    ensures cause { IfErr result (λ why. FillCause srl.now (S.meaning shelf.old) (S.meaning shelf.new) why) }
+    ensures goes { Goes Nothing (S.meaning shelf.old) (S.meaning shelf.new) }
+{
+    // The ring has room for all that is held.
+    let _ring = srl.ring();
     let mut update = Update {
         line: Line::default(),
         number: 0,
@@ -44,9 +61,13 @@ fn fill<S: Shelf>(
         block: 0,
         bytes: Blocks::filled(1, 0),
     };
-    for n in srl.low()..srl.head() + 1 {
-        if let Err(why) = srl.fetch(shelf, n, &mut update) {
+    for before in srl.low() - 1..srl.head() {
+        if let Err(why) = srl.fetch(shelf, before + 1, &mut update) {
             return Err(refused(why));
+        }
+        // What is read next is told only of a shelf that is up.
+        if shelf.is_down() {
+            return Err(No::Down);
         }
         add_within(shelf, units, pending, &update);
     }

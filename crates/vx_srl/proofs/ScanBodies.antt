@@ -1,5 +1,5 @@
 -- The bodies that a scan reads.
-use Rattle.std.proofs.Common.{◌≡◌, ℕ, zero, suc, ◌+◌, ◌*◌, ◌/◌, ◌%◌, ◌<◌, ◌≤◌, List, [], ◌∷◌, length, take, drop, get_or, refl, sym, ◌∙◌, ap, subst, arith}
+use Rattle.std.proofs.Common.{◌≡◌, ℕ, zero, suc, ◌+◌, ◌*◌, ◌/◌, ◌<◌, List, [], ◌∷◌, length, take, drop, get_or, refl, sym, ◌∙◌, ap, subst, arith}
 use Rattle.std.specs.Prelude.{All, slice_index}
 use Rattle.std.specs.List.{AllByRecursion}
 use Rattle.std.proofs.lemmas.List.{get_or-drop, get_or-take}
@@ -8,9 +8,8 @@ use Rattle.vx_srlfmt.specs.Kinds.{Kind, Body, IsKind, IsBody, body_byte, kind_of
 use Rattle.vx_srlfmt.proofs.KindLaws.{kind_of-is}
 use Rattle.vx_srlfmt.specs.declared.record.RecordHead.{RecordHead}
 use Rattle.vx_wire.specs.Seals.{digest_of}
-use Rattle.vx_disk.specs.Shelf.{Meaning}
 use Rattle.vx_ringlog.specs.Cells.{Image}
-use Rattle.vx_ringlog.specs.Chain.{block, HasBody}
+use Rattle.vx_ringlog.specs.Chain.{HasBody}
 use Rattle.vx_ringlog.specs.Records.{Record, Genuine, with_firsts}
 use Rattle.vx_ringio.specs.Bodies.{blocks_of, all_blocks, given_of}
 use Rattle.vx_ringio.specs.Classes.{class_of}

@@ -1,5 +1,5 @@
 -- Why a scan is refused, and what is known of a shelf behind several reads.
-use Rattle.std.proofs.Common.{◌≡◌, inl, inr, ⊎_elim, ℕ, ◌≤◌, Result, Err, List, IsTrue, sym, subst, arith}
+use Rattle.std.proofs.Common.{◌≡◌, inl, inr, ⊎_elim, ℕ, ◌≤◌, Err, sym, subst, arith}
 use Rattle.vx_disk.specs.Causes.{Cause}
 use Rattle.vx_disk.specs.Counts.{Rose}
 use Rattle.vx_disk.specs.Shelf.{Meaning, Nothing, Goes}

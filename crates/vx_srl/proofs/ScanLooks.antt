@@ -1,12 +1,12 @@
 -- What stands at a place of the ring, by the records that a scan from there takes.
-use Rattle.std.proofs.Common.{◌≡◌, ◌⊎◌, inl, inr, ⊎_elim, ℕ, suc, ◌+◌, ◌%◌, ◌<◌, ◌≤◌, List, [], ◌∷◌, length, Result, Ok, Err, IfOk, IsTrue, refl, sym, ◌∙◌, ap, subst, arith}
+use Rattle.std.proofs.Common.{◌≡◌, ℕ, suc, ◌+◌, ◌<◌, ◌≤◌, List, [], ◌∷◌, length, Result, Ok, Err, IfOk, sym, ◌∙◌, ap, subst, arith}
 use Rattle.vx_disk.specs.declared.shelf.ShelfError.{ShelfError}
 use Rattle.vx_disk.specs.Shelf.{Meaning}
 use Rattle.vx_srlfmt.specs.Kinds.{Kind, Front, Damaged}
 use Rattle.vx_srlfmt.specs.Records.{CanSpellHead}
 use Rattle.vx_srlfmt.specs.declared.record.RecordHead.{RecordHead}
 use Rattle.vx_ringlog.specs.Cells.{Image}
-use Rattle.vx_ringlog.specs.Chain.{block, width, total, Accepts, Takes, HasBody, Scan}
+use Rattle.vx_ringlog.specs.Chain.{block, total, Accepts, HasBody, Scan}
 use Rattle.vx_ringlog.specs.Records.{Era, Record, Genuine}
 use Rattle.vx_ringio.specs.Reading.{ReadsAs}
 use Rattle.vx_srl.specs.Scans.{MayFollow, BodyStands, IsOf, Agrees, StandsThere, TakenFits}

@@ -1,16 +1,14 @@
 -- Why a start is refused.
-use Rattle.std.proofs.Common.{◌≡◌, ◌⊎◌, inl, inr, ⊎_elim, ℕ, ◌+◌, ◌≤◌, List, IsTrue, subst, arith}
-use Rattle.vx_disk.specs.Counts.{Rose}
+use Rattle.std.proofs.Common.{◌≡◌, ◌⊎◌, ℕ, ◌+◌, ◌≤◌, List, subst}
 use Rattle.vx_disk.specs.Shelf.{Meaning, Lawful, Nothing, Goes}
 use Rattle.vx_model.specs.declared.no.No.{No}
 use Rattle.vx_model.specs.declared.no.No.TheVariants.{Damaged, NoConfig, Limit, Device, Down}
 use Rattle.vx_ringlog.specs.Records.{Record}
 use Rattle.vx_ringio.proofs.Following.{leaves_read}
 use Rattle.vx_srlfmt.specs.declared.header.Header.{Header}
-use Rattle.vx_srl.specs.Causes.{DeviceCause}
 use Rattle.vx_srl.specs.Scans.{Scans, ScanCause}
 use Rattle.vx_srl.specs.Standings.{NoneCounts, StandingCause, TakeOverCause}
-use Rattle.vx_srl.specs.Starts.{LeavesLog, NoneLeft, AtLimit, StartCause}
+use Rattle.vx_srl.specs.Starts.{LeavesLog, NoneLeft, StartCause}
 use Rattle.vx_srl.specs.Views.{most_number}
 use Rattle.vx_srl.proofs.ScanCauses.{rose_since}
 

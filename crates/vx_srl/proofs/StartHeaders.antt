@@ -1,9 +1,9 @@
 -- The header with which a start begins.
-use Rattle.std.proofs.Common.{◌≡◌, ◌⊎◌, inl, inr, ⊎_elim, ℕ, ◌+◌, ◌-◌, ◌<◌, ◌≤◌, Bool, true, List, IsTrue, refl, sym, ◌∙◌, subst, arith}
+use Rattle.std.proofs.Common.{◌≡◌, inl, inr, ⊎_elim, ℕ, ◌-◌, ◌<◌, ◌≤◌, Bool, true, List, IsTrue, refl, sym, ◌∙◌, subst, arith}
 use Rattle.vx_disk.specs.Shelf.{Meaning, Nothing, Goes}
 use Rattle.vx_ringlog.specs.Cells.{Image as Kinds}
 use Rattle.vx_ringlog.specs.Chain.{Counts}
-use Rattle.vx_ringlog.specs.Heads.{Slots, StandsAt}
+use Rattle.vx_ringlog.specs.Heads.{StandsAt}
 use Rattle.vx_ringio.specs.Classes.{class_of, is_of_ring}
 use Rattle.vx_ringio.specs.Reading.{ReadsAs, IsTop, SeesTop, DigestsDiffer, TopIsOfRing}
 use Rattle.vx_ringio.specs.declared.top.TopSeen.{TopSeen}

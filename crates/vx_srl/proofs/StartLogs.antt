@@ -1,5 +1,5 @@
 -- The log behind a start, and what a crash in it leaves.
-use Rattle.std.proofs.Common.{◌≡◌, ◌⊎◌, inl, inr, ⊎_elim, ℕ, suc, ◌+◌, ◌-◌, ◌%◌, ◌<◌, ◌≤◌, ◌==◌, Bool, true, false, List, [], IsTrue, refl, sym, ◌∙◌, ap, subst, arith}
+use Rattle.std.proofs.Common.{◌≡◌, ◌⊎◌, inl, inr, ℕ, ◌+◌, ◌-◌, ◌%◌, ◌<◌, ◌≤◌, ◌==◌, Bool, true, false, List, [], IsTrue, refl, sym, ◌∙◌, ap, subst, arith}
 use Rattle.std.specs.Prelude.{if◌then◌else◌}
 use Rattle.std.proofs.Math.Nat.{mod-eq_of_lt}
 use Rattle.std.proofs.lemmas.Bool.{eqb-true, eqb-false}
@@ -10,12 +10,11 @@ use Rattle.vx_ringlog.specs.Acts.{start_acts}
 use Rattle.vx_ringlog.specs.Cells.{Image as Kinds, Always, Leaves, LeftBy, still}
 use Rattle.vx_ringlog.specs.Chain.{Counts, Recovers}
 use Rattle.vx_ringlog.specs.Heads.{StandsAt}
-use Rattle.vx_ringlog.specs.Logs.{State, IsLog}
+use Rattle.vx_ringlog.specs.Logs.{IsLog}
 use Rattle.vx_ringlog.specs.Records.{Record}
-use Rattle.vx_ringlog.specs.Starting.{Raises, Repeats, MayStart, SameLog, started}
+use Rattle.vx_ringlog.specs.Starting.{Raises, Repeats, SameLog, started}
 use Rattle.vx_ringlog.proofs.Starting.{start_safe}
 use Rattle.vx_ringio.specs.Classes.{classes, is_of_ring}
-use Rattle.vx_ringio.specs.Reading.{ReadsAs}
 use Rattle.vx_ringio.specs.Tracks.{Tracks, Amid, Follows, Arrives}
 use Rattle.vx_ringio.proofs.Following.{left_now, always_left, following_gives, rest_follows, reads_stay, leaves_stay, leaves_read, left_tracks}
 use Rattle.vx_srlfmt.specs.Headers.{CanSpell}

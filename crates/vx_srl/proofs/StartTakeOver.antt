@@ -1,5 +1,5 @@
 -- The two headers with which a start takes a log over.
-use Rattle.std.proofs.Common.{◌≡◌, ℕ, ◌+◌, ◌-◌, ◌%◌, ◌<◌, List, ◌++◌, sym, ◌∙◌, ap, subst, arith}
+use Rattle.std.proofs.Common.{◌≡◌, ℕ, ◌+◌, ◌-◌, ◌%◌, ◌<◌, List, sym, ◌∙◌, ap, subst, arith}
 use Rattle.vx_disk.specs.Shelf.{Meaning}
 use Rattle.vx_ringlog.specs.Acts.{head_acts}
 use Rattle.vx_ringlog.specs.Cells.{Act}

@@ -1,5 +1,5 @@
 -- What a start looks at: records of the ring, one after another.
-use Rattle.std.specs.Prelude.{◌≡◌, ℕ, suc, ◌+◌, ◌≤◌, ◌<◌, Bool, true, ◌↔◌, List, [], ◌∷◌}
+use Rattle.std.specs.Prelude.{◌≡◌, ℕ, suc, ◌+◌, ◌≤◌, ◌<◌, List, [], ◌∷◌}
 use Rattle.vx_model.specs.declared.no.No.{No}
 use Rattle.vx_model.specs.declared.no.No.TheVariants.{Damaged as DamagedNo}
 use Rattle.vx_srlfmt.specs.Records.{CanSpellHead}
@@ -7,7 +7,7 @@ use Rattle.vx_srlfmt.specs.declared.header.Header.{Header}
 use Rattle.vx_srlfmt.specs.declared.record.RecordHead.{RecordHead}
 use Rattle.vx_disk.specs.Shelf.{Meaning}
 use Rattle.vx_ringlog.specs.Cells.{Image as Kinds}
-use Rattle.vx_ringlog.specs.Chain.{block, width, total, Accepts, Takes, HasBody, Scan}
+use Rattle.vx_ringlog.specs.Chain.{block, width, total, Takes, HasBody, Scan}
 use Rattle.vx_ringlog.specs.Records.{Era, era_of, Record, Genuine}
 use Rattle.vx_ringio.specs.Reading.{ReadsAs}
 use Rattle.vx_srl.specs.Causes.{DeviceCause}

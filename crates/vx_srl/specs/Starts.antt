@@ -65,7 +65,7 @@ pub record IsStarted (unit ring : ℕ) (l : Log) (old new : Meaning) : Type 0 wh
   pub each : (h : Header) (rs : List Record) → LeavesLog unit ring h rs old
       → IsRaised h l.header × ((s : State) × RingOn l s new × (s.held ≡ rs) × (s.staged ≡ []) × (s.found ≡ rs))
 
--- neither header block is a header, and the lower one that is broken, if any, has these digests
+-- neither header block is a header, and neither begins as one and is broken
 pub record NoHeader (unit ring : ℕ) (m : Meaning) : Type 0 where
   pub first : SeesTop unit ring 0 m top.Other
   pub second : SeesTop unit ring 1 m top.Other

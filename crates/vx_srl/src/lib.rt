@@ -20,3 +20,6 @@ pub use errors::{SrlNo, refusal};
 pub use kept::Kept;
 pub use log::Srl;
 pub use start::LogRoom;
+
+#[cfg(test)]
+mod tests;

@@ -1,4 +1,4 @@
-use Rattle.std.proofs.Common.{arith, refl, ◌≡◌, subst, IsTrue, false}
+use Rattle.std.proofs.Common.{arith, refl, subst, IsTrue, false}
 use Rattle.vx_ringlog.specs.Chain.{block}
 use Rattle.vx_ringlog.specs.Records.{era_of}
 use Rattle.vx_ringio.specs.Reading.{ShowsFront, FrontCanSpell}

@@ -1,10 +1,8 @@
-use Rattle.std.proofs.Common.{arith, ◌≡◌, ◌+◌, ℕ, List, ◌∷◌, [], ◌++◌, length, refl, sym, ap, subst}
-use Rattle.std.specs.VecDeque.{deque_capacity}
-use Rattle.vx_disk.specs.Shelf.{Goes, Nothing}
+use Rattle.std.proofs.Common.{arith, refl}
+use Rattle.vx_disk.specs.Shelf.{Nothing}
 use Rattle.vx_disk.proofs.Runs.{then_nothing}
-use Rattle.vx_srl.specs.declared.kept.Kept.{Kept}
-use Rattle.vx_srl.proofs.ScanCauses.{lies_still, scan_stops}
-use Rattle.vx_srl.proofs.ScanLoops.{Scanning, begun, ended, emptied, undamaged, found_kept, found_chained, went_on}
+use Rattle.vx_srl.proofs.ScanCauses.{lies_still}
+use Rattle.vx_srl.proofs.ScanLoops.{begun, ended, emptied, found_kept, found_chained, went_on}
 use Rattle.vx_srl.proofs.StartPlaces.{place_of_ring}
 use Rattle.vx_srl.proofs.scan.scan.Goals.{else-loop-test, then-loop-test+in-Ok-End}
 use Rattle.vx_srl.proofs.scan.scan.Goals as goal

@@ -1,4 +1,4 @@
-use Rattle.std.proofs.Common.{rules, arith, sym, refl, ap, ◌≡◌, ℕ, List, ◌*◌, ◌∙◌, length, IsTrue, false}
+use Rattle.std.proofs.Common.{rules, sym, refl, ap, ◌≡◌, ℕ, List, ◌*◌, ◌∙◌, length, IsTrue, false}
 use Rattle.vx_wire.specs.Seals.{digest_of}
 use Rattle.vx_srl.proofs.ScanBodies.{read_are_bodies, read_digest, read_stands}
 use Rattle.vx_srl.proofs.scan.take.Goals as goal

@@ -1,4 +1,4 @@
-use Rattle.vx_srl.proofs.StartTakeOver.{first_follows, again_raised, both_follow, both_arrive}
+use Rattle.vx_srl.proofs.StartTakeOver.{first_follows, both_follow, both_arrive}
 use Rattle.vx_srl.proofs.start.take_over.Goals as goal
 
 pub returns-in-Err-clause-follows : goal.returns-in-Err-clause-follows

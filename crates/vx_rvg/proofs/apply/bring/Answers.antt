@@ -1,0 +1,33 @@
+use Rattle.std.proofs.Common.{◌≡◌, ℕ, ◌≤◌, ◌+◌, subst, arith, refl}
+use Rattle.vx_srl.specs.Views.{IsOrdered, all_of}
+use Rattle.vx_rvg.specs.Views.{Core, volume_size}
+use Rattle.vx_rvg.proofs.ApplyAll.{BroughtTo, all_bring, due_few, more_moves, one_brought, rest_moves}
+use Rattle.vx_rvg.proofs.apply.bring.Goals as goal
+
+pub returns-in_err-count-clause-moves : goal.returns-in_err-count-clause-moves
+returns-in_err-count-clause-moves g c = more_moves c.args.core.now c.loop-n.n _ _ _ c.loop-n.count c.loop-n.invariant.0 c.in_err-count.ensures.moves
+
+pub overflow_add-count : goal.overflow_add-count
+overflow_add-count g c =
+    let brought : _
+    = one_brought c.args.core.now c.loop-n.n _ _ _ c.loop-n.count c.loop-n.invariant.0 c.in_ok-count.field-0 c.requires.low (subst (λ (x : Core). x.applied ≤ c.loop-n.n) c.core.view_is c.loop-n.auto.n) c.in_ok-count.ensures.brings c.in_ok-count.ensures.moves
+    (c.in_ok-count.ensures.stopped) in
+    let ordered : _ = subst (λ (x : Core). IsOrdered x.log.ring x.log.header (all_of x.log)) c.core.view_is c.ring-ring.ensures.ordered in
+    omega (arith, brought.count_is, due_few c.args.core.now (volume_size c.args.core.now.units.vols (g.S.Shelf.meaning c.args.shelf.now)) (c.loop-n.n + 1) ordered)
+
+pub loop-n-preserved : goal.loop-n-preserved
+loop-n-preserved g c = (
+  one_brought c.args.core.now c.loop-n.n _ _ _ c.loop-n.count c.loop-n.invariant.0 c.in_ok-count.field-0 c.requires.low (subst (λ (x : Core). x.applied ≤ c.loop-n.n) c.core.view_is c.loop-n.auto.n) c.in_ok-count.ensures.brings c.in_ok-count.ensures.moves
+      (c.in_ok-count.ensures.stopped),
+  omega (arith, c.loop-n-test.true),
+)
+
+pub returns-in_err-flush_volumes-clause-moves : goal.returns-in_err-flush_volumes-clause-moves
+returns-in_err-flush_volumes-clause-moves g c = rest_moves c.args.core.now c.loop-n.n _ _ _ c.loop-n.count c.loop-n.invariant.0 c.flush_volumes.ensures.moves
+
+pub returns-clause-brings : goal.returns-clause-brings
+returns-clause-brings g c =
+    all_bring c.args.core.now c.loop-n.n _ _ _ c.loop-n.count c.loop-n.invariant.0 c.args.to (omega (arith, c.loop-n-test.false, c.loop-n.invariant.1)) c.in_ok-flush_volumes.ensures.flushed
+
+pub returns-clause-moves : goal.returns-clause-moves
+returns-clause-moves g c = rest_moves c.args.core.now c.loop-n.n _ _ _ c.loop-n.count c.loop-n.invariant.0 c.flush_volumes.ensures.moves

@@ -1,0 +1,28 @@
+use Rattle.std.proofs.Common.{◌≡◌, ℕ, ap, sym, subst, ◌∙◌, arith}
+use Rattle.std.proofs.lemmas.List.{length-take-le}
+use Rattle.vx_rvg.proofs.ApplyOne.{count_few, kept_at, kept_there, one_brings, one_moves, patched_in}
+use Rattle.vx_rvg.proofs.apply.bring_one.Goals as goal
+
+pub returns-in_err-write-clause-moves : goal.returns-in_err-write-clause-moves
+returns-in_err-write-clause-moves g c =
+    one_moves c.args.core.now c.args.n _ _ (kept_at _ _ _ c.front-head.ensures) c.requires.placed (kept_there _ c.args.core.now c.args.n _ c.front-head.ensures c.core.view_is)
+    (omega (arith, c.if-head-volumes.false, c.volumes.ensures))
+    (omega (arith, c.if-size-count.false, c.if-size-count-2.false, c.size-size.ensures, ap (λ (u : ℕ). (g.S.Shelf.meaning c.args.shelf.now).size u) c.unit-unit.ensures))
+    c.unit-unit.result c.unit-unit.ensures _ c.patch.new.into (patched_in _ c.args.core.now _ _ _ _ c.core.view_is c.patch.ensures)
+    (length-take-le _ _ (omega (arith, count_few _ c.args.n _ c.front-head.ensures c.ring-ring.ensures.ordered))) c.requires.low c.requires.waits c.write.ensures.goes
+
+pub returns-clause-moves : goal.returns-clause-moves
+returns-clause-moves g c =
+    one_moves c.args.core.now c.args.n _ _ (kept_at _ _ _ c.front-head.ensures) c.requires.placed (kept_there _ c.args.core.now c.args.n _ c.front-head.ensures c.core.view_is)
+    (omega (arith, c.if-head-volumes.false, c.volumes.ensures))
+    (omega (arith, c.if-size-count.false, c.if-size-count-2.false, c.size-size.ensures, ap (λ (u : ℕ). (g.S.Shelf.meaning c.args.shelf.now).size u) c.unit-unit.ensures))
+    c.unit-unit.result c.unit-unit.ensures _ c.patch.new.into (patched_in _ c.args.core.now _ _ _ _ c.core.view_is c.patch.ensures)
+    (length-take-le _ _ (omega (arith, count_few _ c.args.n _ c.front-head.ensures c.ring-ring.ensures.ordered))) c.requires.low c.requires.waits c.write.ensures.goes
+
+pub returns-clause-brings : goal.returns-clause-brings
+returns-clause-brings g c =
+    one_brings c.args.core.now c.args.n _ _ (kept_at _ _ _ c.front-head.ensures) c.requires.placed (kept_there _ c.args.core.now c.args.n _ c.front-head.ensures c.core.view_is)
+    (omega (arith, c.if-head-volumes.false, c.volumes.ensures))
+    (omega (arith, c.if-size-count.false, c.if-size-count-2.false, c.size-size.ensures, ap (λ (u : ℕ). (g.S.Shelf.meaning c.args.shelf.now).size u) c.unit-unit.ensures))
+    c.unit-unit.result c.unit-unit.ensures _ c.patch.new.into (patched_in _ c.args.core.now _ _ _ _ c.core.view_is c.patch.ensures)
+    (length-take-le _ _ (omega (arith, count_few _ c.args.n _ c.front-head.ensures c.ring-ring.ensures.ordered))) (c.in_ok-write.ensures.ok)

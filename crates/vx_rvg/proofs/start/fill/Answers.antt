@@ -1,0 +1,20 @@
+use Rattle.std.proofs.Common.{arith, ◌+◌, ◌≡◌, ◌∙◌, sym, true, false}
+use Rattle.vx_disk.specs.Shelf.{Nothing}
+use Rattle.vx_disk.proofs.Runs.{then_nothing}
+use Rattle.vx_rvg.proofs.StartFill.{room_for, went_on}
+use Rattle.vx_rvg.proofs.start.fill.Goals as goal
+
+pub returns-in-Err-clause-goes : goal.returns-in-Err-clause-goes
+returns-in-Err-clause-goes g c = then_nothing Nothing _ _ _ c.loop-before.invariant.goes c.fetch.ensures.goes
+
+pub add_within-requires-clause-room : goal.add_within-requires-clause-room
+add_within-requires-clause-room g c =
+    room_for c.args.srl.now c.args.units.now.vols (g.S.Shelf.meaning c.args.shelf.now) (g.S.Shelf.meaning c.loop-before.shelf) (g.S.Shelf.meaning c.fetch.new.shelf) _ _ c.loop-before.pending
+    c.loop-before.invariant (c.loop-before.before + 1) (omega arith) c.fetch.new.into c.in_default.ensures.agrees c.ring-ring.ensures.ordered (omega arith)
+
+pub loop-before-preserved : goal.loop-before-preserved
+loop-before-preserved g c =
+    went_on c.args.srl.now c.args.units.now.vols (g.S.Shelf.meaning c.args.shelf.now) (g.S.Shelf.meaning c.loop-before.shelf) (g.S.Shelf.meaning c.fetch.new.shelf) _ _ c.loop-before.pending
+    c.loop-before.invariant (c.loop-before.before + 1) (omega arith) c.fetch.new.into c.in_default.ensures.agrees c.in_default.ensures.gives c.fetch.ensures.goes
+    (λ down. (let wrong : false ≡ true = sym c.if-is_down.false ∙ c.is_down.ensures ∙ down in cc))
+    c.add_within.new.pending c.add_within.ensures.entries c.add_within.ensures.capacity _ (omega arith)

@@ -1,0 +1,32 @@
+-- What waits once the writes of a log are taken up, one after another.
+use Rattle.std.specs.Prelude.{◌≡◌, ℕ, IsTrue, List, length, take, All}
+use Rattle.vx_model.specs.Content.{Write}
+use Rattle.vx_model.specs.declared.call.Update.{Update}
+use Rattle.vx_model.specs.declared.no.No.{No}
+use Rattle.vx_model.specs.declared.no.No.TheVariants.{Damaged}
+use Rattle.vx_disk.specs.Shelf.{Meaning}
+use Rattle.vx_overlay.specs.Writes.{entries_of}
+use Rattle.vx_overlay.specs.declared.entry.Entry.{Entry}
+use Rattle.vx_ringlog.specs.Logs.{State}
+use Rattle.vx_srl.specs.Causes.{DeviceCause}
+use Rattle.vx_srl.specs.Rings.{RingOn}
+use Rattle.vx_srl.specs.Views.{Log}
+use Rattle.vx_rvg.specs.Contents.{writes_of}
+use Rattle.vx_rvg.specs.Stands.{IsWholeRecord}
+use Rattle.vx_rvg.specs.Views.{blocks_within}
+
+-- the write that is read from a log
+abbrev pub logged_by : Update → Write
+logged_by u = record { volume = u.vol; start = u.block; bytes = u.bytes }
+
+-- As many blocks wait as the first k records put within their volumes. Of whatever log stands on the shelf, they are the blocks of its
+-- first k writes, which are whole.
+pub record IsFilled (l : Log) (size : ℕ → ℕ) (m : Meaning) (k : ℕ) (entries : List Entry) : Type 0 where
+  pub count : length entries ≡ blocks_within size (take k l.held)
+  pub entries_are : (s : State) → RingOn l s m → IsTrue m.tells → entries ≡ entries_of size (writes_of (take k s.held))
+  pub whole : (s : State) → RingOn l s m → IsTrue m.tells → All IsWholeRecord (take k s.held)
+
+-- why a log is not read to its end: a body is damaged, which a log that stands there does not give, or a device call failed
+abbrev pub FillCause : Log → Meaning → Meaning → No → Type 0
+FillCause l old new (Damaged unit block stored computed) = (stored ≡ computed → ⊥) × ((s : State) → RingOn l s old → IsTrue old.tells → ⊥)
+FillCause l old new other = DeviceCause old new other
