@@ -1,40 +1,54 @@
 -- The racks as they come back from their engines.
-use Rattle.std.proofs.Common.{◌≡◌, ◌∙◌, ◌+◌, ◌-◌, ◌<◌, ℕ, zero, suc, List, [], ◌∷◌, length, ap, sym, subst, refl, arith, IsTrue}
+use Rattle.std.proofs.Common.{◌≡◌, ◌∙◌, ℕ, zero, suc, List, [], ◌∷◌, length, ap, sym, subst, refl, arith, IsTrue}
 use Rattle.std.specs.Prelude.{Option, Some, None, slice_get}
 use Rattle.std.specs.Option.{option_and_then}
 use Rattle.vx_model.specs.World.{Node, World}
-use Rattle.vx_model.specs.declared.site.SiteState.TheVariants.{Bare as IsBare, Up as IsUp}
+use Rattle.vx_model.specs.declared.site.SiteState.TheVariants.{Bare as IsBare, Up as IsUp, Down as IsDown}
+use Rattle.vx_model.specs.declared.site.SiteState.{SiteState}
+use Rattle.vx_model.specs.Content.{Content}
 use Rattle.vx_disk.specs.Shelf.{Meaning, Lawful}
 use Rattle.vx_disk.specs.declared.shelf.Shelf.{Ghosts}
-use Rattle.vx_rvg.specs.Views.{Core, unit_of}
+use Rattle.vx_rvg.specs.Stands.{Found}
+use Rattle.vx_rvg.specs.Views.{Core}
 use Rattle.vx_node.specs.declared.engine.Engine.{Engine}
-use Rattle.vx_node.specs.declared.engine.Engine.TheVariants.{Bare, Up, Gone}
-use Rattle.vx_node.specs.Holds.{Holds, RacksHold, RacksTell, rack_count, rack_faults}
+use Rattle.vx_node.specs.declared.engine.Engine.TheVariants.{Bare, Up, Down, Gone}
+use Rattle.vx_node.specs.Holds.{Holds, raw_units, state_of, most_stamp, RacksHold, RacksTell, rack_count, rack_faults}
 use Rattle.vx_node.specs.Racks.{racks_in}
-use Rattle.vx_node.specs.Stands.{EnginesStand, StandsAt, IsUnused, IsUpAt, IsToldAt, AreTold, fault_count, faults_of}
-use Rattle.vx_node.proofs.Values.{slice_index-values_from}
-use Rattle.vx_node.proofs.Engines.{up_volumes}
-use Rattle.vx_model.specs.declared.units.Units.{Units}
+use Rattle.vx_node.specs.Stands.{EnginesStand, StandsAt, IsUnused, IsBareAt, IsUpAt, IsDownAt, IsToldAt, AreTold, fault_count, faults_of}
+use Rattle.vx_node.proofs.Crashing.{left_found}
+use Rattle.vx_node.proofs.Staying.{told_now, durable_content}
 use Rattle.std.proofs.lemmas.Bool.{cases_lt}
 use Rattle.std.proofs.Common.{⊎_elim}
 
--- a site that is up holds its content
-pub up_holds : (n : Node) (c : Core) (m : Meaning) → Lawful m → IsUpAt n c m → Holds n m
-up_holds n c m lawful up = record {
-  content = λ _ running i now. record {
-    each = λ v b there below.
-        let in_set : v < n.disks - 2 = omega (arith, there, up.volumes) in
-        let in_list : v < length c.units.vols = omega (arith, in_set, up_volumes n c m up) in
-        let unit : unit_of c.units.vols v ≡ v + 1 = at_unit v in_set in
-        subst (λ (u : ℕ). i u b ≡ n.base.block v b) unit
-        (((up.content running).blocks v b in_list below).only (i (unit_of c.units.vols v) b) (lawful.within i now (unit_of c.units.vols v) b));
+never_both : {x : SiteState} → x ≡ IsUp → x ≡ IsDown → ⊥
+never_both a b = let e : IsUp ≡ IsDown = sym a ∙ b in cc
+
+-- a site that is up
+up_holds : (n : Node) (c : Core) (m : Meaning) → IsUpAt n c m → Holds n m
+up_holds n c m up = record { up = λ _ i now. up.left i now; down = λ down. absurd (never_both up.state down) }
+
+-- a site that is down
+down_holds : (n : Node) (m : Meaning) → Lawful m → IsDownAt n m → Holds n m
+down_holds n m lawful is = record {
+  up = λ up. absurd (never_both up is.state);
+  down = λ _ i now. record {
+    count = n.safe;
+    least = omega arith;
+    most = omega (arith, is.logged);
+    found = subst (λ (c : Content). Found (raw_units n.disks) n.ring (state_of n) n.session (most_stamp n) i n.safe c) (durable_content n)
+        (left_found (raw_units n.disks) n.ring (state_of n) n.session (most_stamp n) n.safe n.base m i lawful now (is.left (told_now m i lawful now)));
   };
 }
+
+-- nothing is made of a bare site
+bare_holds : (n : Node) (m : Meaning) → IsBareAt n m → Holds n m
+bare_holds n m bare = record {
+  up = λ up. absurd (let e : IsBare ≡ IsUp = sym state ∙ up in cc);
+  down = λ down. absurd (let e : IsBare ≡ IsDown = sym state ∙ down in cc);
+}
   where
-    at_unit : (v : ℕ) → v < n.disks - 2 → unit_of c.units.vols v ≡ v + 1
-    at_unit v in_set =
-        let turn : 1 + v ≡ v + 1 = omega arith in
-        ap (λ (u : Units). unit_of u.vols v) up.units ∙ slice_index-values_from 1 (n.disks - 2) v in_set ∙ turn
+    state : n.state ≡ IsBare
+    state = ap (λ (k : Node). k.state) bare.is
 
 some_same : {A : Type 0} {a b : A} → Some a ≡ Some b → a ≡ b
 some_same e = cc
@@ -43,11 +57,13 @@ module _ {R : Type 0} {g : Ghosts R} where
   abbrev rack_of : Engine R g → Option R
   rack_of (Bare rack) = Some rack
   rack_of (Up rvg) = Some rvg.shelf
+  rack_of (Down rack) = Some rack
   rack_of Gone = None
 
   abbrev IsThere : Engine R g → Type 0
   IsThere (Bare rack) = Unit {0}
   IsThere (Up rvg) = Unit {0}
+  IsThere (Down rack) = Unit {0}
   IsThere Gone = ⊥
 
   abbrev AllThere : List (Engine R g) → Type 0
@@ -62,25 +78,30 @@ module _ {R : Type 0} {g : Ghosts R} where
   slice_get-racks_in [] all s = refl
   slice_get-racks_in (Bare rack ∷ es) all zero = refl
   slice_get-racks_in (Up rvg ∷ es) all zero = refl
+  slice_get-racks_in (Down rack ∷ es) all zero = refl
   slice_get-racks_in (Gone ∷ es) all zero = absurd all.0
   slice_get-racks_in (Bare rack ∷ es) all (suc s) = slice_get-racks_in es all.1 s
   slice_get-racks_in (Up rvg ∷ es) all (suc s) = slice_get-racks_in es all.1 s
+  slice_get-racks_in (Down rack ∷ es) all (suc s) = slice_get-racks_in es all.1 s
   slice_get-racks_in (Gone ∷ es) all (suc s) = absurd all.0
 
   length-racks_in : (es : List (Engine R g)) → AllThere es → length (racks_in es) ≡ length es
   length-racks_in [] all = refl
   length-racks_in (Bare rack ∷ es) all = ap suc (length-racks_in es all.1)
   length-racks_in (Up rvg ∷ es) all = ap suc (length-racks_in es all.1)
+  length-racks_in (Down rack ∷ es) all = ap suc (length-racks_in es all.1)
   length-racks_in (Gone ∷ es) all = absurd all.0
 
   stands_there : (n : Node) (e : Engine R g) → StandsAt n e → IsThere e
   stands_there n (Bare rack) h = tt
   stands_there n (Up rvg) h = tt
+  stands_there n (Down rack) h = tt
   stands_there n Gone h = h
 
   unused_there : (e : Engine R g) → IsUnused e → IsThere e
   unused_there (Bare rack) h = tt
   unused_there (Up rvg) h = tt
+  unused_there (Down rack) h = tt
   unused_there Gone h = h
 
   pub engines_there : (w : World) (es : List (Engine R g)) → EnginesStand w es → AllThere es
@@ -90,6 +111,7 @@ module _ {R : Type 0} {g : Ghosts R} where
   counts_as None d = refl
   counts_as (Some (Bare rack)) d = refl
   counts_as (Some (Up rvg)) d = refl
+  counts_as (Some (Down rack)) d = refl
   counts_as (Some Gone) d = refl
 
   pub racks_count : (w : World) (es : List (Engine R g)) → EnginesStand w es → (s d : ℕ) → rack_faults g.meaning (racks_in es) s d ≡ faults_of es s d
@@ -98,11 +120,11 @@ module _ {R : Type 0} {g : Ghosts R} where
   site_holds : (lawful : (r : R) → Lawful (g.meaning r)) (n : Node) (x : Option (Engine R g)) (r : R) → ((e : Engine R g) → x ≡ Some e → StandsAt n e) → option_and_then rack_of x ≡ Some r → Holds n (g.meaning r)
   site_holds lawful n None r stands is = absurd (cc)
   site_holds lawful n (Some (Bare rack)) r stands is =
-      let bare = stands (Bare rack) refl in
-      record { content = λ up _ i now. absurd (let e : IsBare ≡ IsUp = sym bare.state ∙ up in cc) }
+      subst (λ (k : R). Holds n (g.meaning k)) (some_same is) (bare_holds n (g.meaning rack) (stands (Bare rack) refl))
   site_holds lawful n (Some (Up rvg)) r stands is =
-      let same : rvg.shelf ≡ r = some_same is in
-      subst (λ (k : R). Holds n (g.meaning k)) same (up_holds n rvg.core (g.meaning rvg.shelf) (lawful rvg.shelf) (stands (Up rvg) refl))
+      subst (λ (k : R). Holds n (g.meaning k)) (some_same is) (up_holds n rvg.core (g.meaning rvg.shelf) (stands (Up rvg) refl))
+  site_holds lawful n (Some (Down rack)) r stands is =
+      subst (λ (k : R). Holds n (g.meaning k)) (some_same is) (down_holds n (g.meaning rack) (lawful rack) (stands (Down rack) refl))
   site_holds lawful n (Some Gone) r stands is = absurd (cc)
 
   pub racks_hold : (lawful : (r : R) → Lawful (g.meaning r)) (w : World) (es : List (Engine R g)) → EnginesStand w es → RacksHold g.meaning w (racks_in es)
@@ -114,6 +136,7 @@ module _ {R : Type 0} {g : Ghosts R} where
   tells_at : (e : Engine R g) → IsThere e → ((r : R) → rack_of e ≡ Some r → IsTrue (g.meaning r).tells) → IsToldAt e
   tells_at (Bare rack) there f = f rack refl
   tells_at (Up rvg) there f = f rvg.shelf refl
+  tells_at (Down rack) there f = f rack refl
   tells_at Gone there f = there
 
   pub racks_tell : (w : World) (es : List (Engine R g)) → EnginesStand w es → RacksTell g.meaning (racks_in es) → AreTold es

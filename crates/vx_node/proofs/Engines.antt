@@ -1,17 +1,19 @@
 -- What stands after calls that change no contents, and of a raw set as it is made.
-use Rattle.std.proofs.Common.{◌≡◌, ◌∙◌, ◌+◌, ◌-◌, ◌<◌, ◌≤◌, ℕ, zero, suc, List, length, ap, ⊎_elim, sym, subst, refl, arith, Bool, true, false, IsTrue}
+use Rattle.std.proofs.Common.{◌≡◌, ◌∙◌, ◌+◌, ◌-◌, ◌<◌, ◌≤◌, ℕ, zero, suc, List, [], length, ap, ⊎_elim, sym, subst, refl, arith, Bool, true, false, IsTrue}
 use Rattle.std.specs.Prelude.{IsFalse, Some, slice_get, codes, ◌++◌}
 use Rattle.std.specs.Fmt.{decimal}
+use Rattle.std.proofs.lemmas.Bool.{cases_lt}
 use Rattle.std.proofs.lemmas.Bool.Decides.{nat_tests}
-use Rattle.vx_model.specs.World.{Node, Volume}
-use Rattle.vx_model.specs.Content.{zero_block}
+use Rattle.vx_model.specs.World.{Node, Volume, bare_site}
+use Rattle.vx_model.specs.Content.{Content, zero_block}
 use Rattle.vx_model.specs.Steps.{raw_set, raw_content, raw_volumes, ring_of}
+use Rattle.vx_model.specs.States.{first_state}
 use Rattle.vx_model.specs.declared.units.Units.{Units}
 use Rattle.vx_model.specs.declared.state.State.{State}
-use Rattle.vx_disk.specs.Shelf.{Meaning, Goes, Nothing, Keeps}
-use Rattle.vx_disk.specs.Moves.{Blocks, Says, Moves, Run, Anything}
+use Rattle.vx_disk.specs.Shelf.{Meaning, Image, Lawful, Goes, Nothing, Keeps}
+use Rattle.vx_disk.specs.Moves.{Moves, Run, Anything}
 use Rattle.vx_disk.proofs.Moving.{kept_beside}
-use Rattle.vx_rvg.specs.Views.{Core, Placed, unit_of}
+use Rattle.vx_rvg.specs.Views.{Core, Placed, unit_of, last_of}
 use Rattle.vx_rvg.specs.Groups.{new_core, MakeCause}
 use Rattle.vx_disk.specs.Counts.{Rose}
 use Rattle.vx_disk.specs.declared.shelf.Shelf.{Ghosts}
@@ -22,8 +24,13 @@ use Rattle.vx_node.specs.declared.engine.Engine.{Engine}
 use Rattle.vx_node.specs.declared.engine.Engine.TheVariants.{Bare}
 use Rattle.vx_node.specs.Engines.{MadeIs}
 use Rattle.std.specs.Prelude.{Err}
-use Rattle.vx_rvg.specs.Volumes.{Stands}
-use Rattle.vx_node.specs.Stands.{IsFitted, IsBareAt, IsUpAt, raw_units, faults_at}
+use Rattle.vx_rvg.specs.Stands.{Holds, Stands}
+use Rattle.vx_rvg.proofs.ContentFacts.{stands_found}
+use Rattle.vx_rvg.proofs.ReadStands.{rest_stands}
+use Rattle.vx_node.proofs.Crashing.{site_sizes}
+use Rattle.vx_node.proofs.Staying.{never_both, told_now, fitted_moved, writes_found}
+use Rattle.vx_node.specs.Holds.{raw_units, state_of}
+use Rattle.vx_node.specs.Stands.{IsFitted, IsBareAt, IsUpAt, faults_at}
 use Rattle.vx_node.proofs.Values.{length-values_from, slice_index-values_from}
 
 pub keeps_still : (m new : Meaning) (u b : ℕ) (x : List ℕ) → Goes Nothing m new → Keeps m u b x → Keeps new u b x
@@ -39,46 +46,55 @@ fitted_still disks blocks m new goes down armed fitted = record {
 
 pub bare_still : (n : Node) (m new : Meaning) → Goes Nothing m new → new.down ≡ m.down → new.armed ≡ m.armed → IsBareAt n m → IsBareAt n new
 bare_still n m new goes down armed bare = record {
-  state = bare.state;
+  is = bare.is;
   fitted = fitted_still n.disks n.blocks m new goes down armed bare.fitted;
   few = bare.few;
-  parent = bare.parent;
-  low = bare.low;
   some = bare.some;
   blank = λ u b some last below. keeps_still m new u b _ goes (bare.blank u b some last below);
 }
+
+-- a site that is up stays so over calls that change no contents
+pub up_still : (n : Node) (c : Core) (m new : Meaning) → Goes Nothing m new → ((i : Image) → new.now i → m.now i) → new.down ≡ m.down → new.armed ≡ m.armed → IsUpAt n c m → IsUpAt n c new
+up_still n c m new goes now down armed up =
+    let fitted = fitted_still n.disks n.blocks m new goes down armed up.fitted in
+    record {
+      state = up.state;
+      fitted = fitted;
+      disks = up.disks;
+      units = up.units;
+      ring = up.ring;
+      ring_is = up.ring_is;
+      some = up.some;
+      low = up.low;
+      links = up.links;
+      kept = up.kept;
+      unlinked = λ told. up.unlinked (sym goes.tells ∙ told);
+      session = up.session;
+      stamp = λ told none. up.stamp (sym goes.tells ∙ told) none;
+      first = up.first;
+      head = up.head;
+      halted = up.halted;
+      logged = up.logged;
+      durable = up.durable;
+      few = up.few;
+      volumes = up.volumes;
+      whole = up.whole;
+      sizes = up.sizes;
+      others = up.others;
+      content = λ none told. rest_stands c m new goes fitted.up n.base (up.content none (sym goes.tells ∙ told));
+      left = λ i is. up.left i (now i is);
+    }
 
 -- the volumes of a raw set are its disks but the first and the last
 pub up_volumes : (n : Node) (c : Core) (m : Meaning) → IsUpAt n c m → length c.units.vols ≡ n.disks - 2
 up_volumes n c m up = ap (λ (u : Units). length u.vols) up.units ∙ length-values_from (λ j. j) 1 (n.disks - 2)
 
-pub not_true : (b : Bool) → (IsTrue b → ⊥) → IsFalse b
-not_true true h = absurd (h refl)
-not_true false h = refl
-
-pub never_both : (b : Bool) → IsTrue b → IsFalse b → ⊥
-never_both b is not = cc
-
--- a call on a shelf without a fuse does not bring it down
-pub moves_up : (mine : Blocks) (P : Says) (m new : Meaning) → Moves mine P m new → IsFalse m.armed → IsFalse m.down → IsFalse new.down
-moves_up mine P m new moves unarmed up = not_true new.down (λ down. never_both m.down (moves.safe unarmed down) up)
-
-pub fitted_moved : (disks blocks : ℕ) (mine : Blocks) (P : Says) (m new : Meaning) → Moves mine P m new → IsFitted disks blocks m → IsFitted disks blocks new
-fitted_moved disks blocks mine P m new moves fitted = record {
-  units = moves.units ∙ fitted.units;
-  size = λ u there. moves.size u ∙ fitted.size u there;
-  up = moves_up mine P m new moves fitted.unarmed fitted.up;
-  unarmed = moves.unarmed fitted.unarmed;
-}
-
 -- what was done to disk 0 alone leaves a bare site bare
 pub bare_moved : (n : Node) (count : ℕ) (m new : Meaning) → Moves (Run 0 0 count) Anything m new → IsBareAt n m → IsBareAt n new
 bare_moved n count m new moves bare = record {
-  state = bare.state;
+  is = bare.is;
   fitted = fitted_moved n.disks n.blocks (Run 0 0 count) Anything m new moves bare.fitted;
   few = bare.few;
-  parent = bare.parent;
-  low = bare.low;
   some = bare.some;
   blank = λ u b some last below. kept_beside (Run 0 0 count) Anything m new moves u b (λ mine. omega (arith, mine.there, some)) zero_block (bare.blank u b some last below);
 }
@@ -107,53 +123,86 @@ raw_volumes-whole k (suc n) blocks (suc v) x e = raw_volumes-whole (k + 1) n blo
 raw_size : (disks blocks v : ℕ) → v < disks - 2 → (raw_content disks blocks).size v ≡ blocks
 raw_size disks blocks v h = grind (arith, nat_tests)
 
+raw_none : (disks blocks v : ℕ) → disks - 2 ≤ v → (raw_content disks blocks).size v ≡ 0
+raw_none disks blocks v h = grind (arith, nat_tests)
+
+-- what the header of the log of a raw set keeps
+raw_state : (site : ℕ) (n : Node) → n ≡ bare_site n.name n.disks n.blocks → first_state site ≡ state_of (raw_set site n)
+raw_state site n is = sym (ap (λ (k : Node). state_of (raw_set site k)) is)
+
+-- the volumes of a bare site hold zeros
+raw_holds : (n : Node) (m : Meaning) → IsBareAt n m → 3 ≤ n.disks → Holds (raw_units n.disks).vols (raw_content n.disks n.blocks) m
+raw_holds n m bare some = record {
+  sizes = site_sizes n.disks n.blocks (raw_content n.disks n.blocks) m some bare.fitted.size (raw_size n.disks n.blocks) (raw_none n.disks n.blocks);
+  blocks = λ v b below. ⊎_elim
+      (λ in_set. subst (λ (u : ℕ). Keeps m u b zero_block) (sym (slice_index-values_from 1 (n.disks - 2) v in_set))
+      (bare.blank (1 + v) b (omega arith) (omega (arith, in_set, some)) (omega (arith, below, raw_size n.disks n.blocks v in_set))))
+      (λ past. absurd (omega (arith, below, raw_none n.disks n.blocks v past)))
+      (cases_lt v (n.disks - 2));
+}
+
 -- a raw set as it is made
-pub raw_stands : (site : ℕ) (n : Node) (c : Core) (state : State) (m new : Meaning) → IsBareAt n m → 3 ≤ n.disks → c ≡ new_core (raw_units n.disks) state (ring_of (m.size 0))
-    → Moves (Run 0 0 (m.size 0)) Anything m new → IsUpAt (raw_set site n) c new
-raw_stands site n c state m new bare some is moves = record {
+pub raw_stands : (site : ℕ) (n : Node) (c : Core) (m new : Meaning) → Lawful new → c.log.unit ≡ c.units.srl → IsBareAt n m → 3 ≤ n.disks → c ≡ new_core (raw_units n.disks) (first_state site) (ring_of (m.size 0))
+    → Moves (Run 0 0 (ring_of (m.size 0) + 2)) Anything m new → (IsTrue m.tells → (k : Content) → Holds (raw_units n.disks).vols k m → Stands c k new) → IsUpAt (raw_set site n) c new
+raw_stands site n c m new lawful unit_is bare some is moves stands = record {
   state = refl;
-  fitted = fitted_moved n.disks n.blocks (Run 0 0 (m.size 0)) Anything m new moves bare.fitted;
+  fitted = fitted_moved n.disks n.blocks (Run 0 0 (ring_of (m.size 0) + 2)) Anything m new moves bare.fitted;
   disks = some;
   units = ap (λ (k : Core). k.units) is;
-  ring = ap (λ (k : Core). k.log.ring) is ∙ ap ring_of (bare.fitted.size 0 (omega (arith, some)));
-  session = ap (λ (k : Core). k.log.session) is;
-  head = ap (λ (k : Core). k.head) is;
+  ring = ring_here;
+  ring_is = refl;
+  some = bare.some;
+  low = ap (λ (k : Node). k.low) bare.is;
+  links = [];
+  kept = kept_here;
+  unlinked = λ told. refl;
+  session = ap (λ (k : Core). k.log.header.incarnation) is;
+  stamp = λ told none. omega (arith, ap (λ (k : Core). k.log.header.stamp) is);
+  first = omega (arith, ap (λ (k : Core). k.log.header.low) is);
+  head = head_here;
   halted = ap (λ (k : Core). k.halted) is;
+  logged = omega arith;
+  durable = λ _. omega arith;
   few = bare.few;
   volumes = length-raw_volumes 1 (n.disks - 2) n.blocks;
   whole = λ v x at. raw_volumes-whole 1 (n.disks - 2) n.blocks v x at;
-  sizes = λ v there. raw_size n.disks n.blocks v there;
-  content = λ _. subst (λ (k : Core). Stands k.units.vols (raw_content n.disks n.blocks) new) (sym is) (record {
-    sizes = λ v there. let in_set = inside v there in raw_size n.disks n.blocks v in_set ∙ sym (at_size v in_set);
-    blocks = λ v b there below. let in_set = inside v there in subst (λ (u : ℕ). Keeps new u b zero_block) (sym (unit_is v in_set))
-        (kept_beside (Run 0 0 (m.size 0)) Anything m new moves (1 + v) b (λ mine. omega (arith, mine.there)) zero_block
-        (bare.blank (1 + v) b (omega arith) (omega (arith, in_set, some)) (omega (arith, below, raw_size n.disks n.blocks v in_set))));
-  });
+  sizes = raw_size n.disks n.blocks;
+  others = raw_none n.disks n.blocks;
+  content = λ _ told. content told;
+  left = λ i now.
+      let told = told_now new i lawful now in
+      writes_found (raw_set site n) c i (ap (λ (k : Core). k.units) is) ring_here kept_here (ap (λ (k : Core). k.log.header.incarnation) is)
+      (omega (arith, ap (λ (k : Core). k.log.header.stamp) is)) head_here (omega arith) (stands_found c (raw_content n.disks n.blocks) new i unit_is lawful (content told) now);
 }
   where
-    inside : (v : ℕ) → v < length (raw_units n.disks).vols → v < n.disks - 2
-    inside v there = omega (arith, there, length-values_from (λ (j : ℕ). j) 1 (n.disks - 2))
+    ring_here : c.log.ring ≡ ring_of n.blocks
+    ring_here = ap (λ (k : Core). k.log.ring) is ∙ ap ring_of (bare.fitted.size 0 (omega (arith, some)))
 
-    unit_is : (v : ℕ) → v < n.disks - 2 → unit_of (raw_units n.disks).vols v ≡ 1 + v
-    unit_is v in_set = slice_index-values_from 1 (n.disks - 2) v in_set
+    kept_here : c.log.header.state ≡ state_of (raw_set site n)
+    kept_here = ap (λ (k : Core). k.log.header.state) is ∙ raw_state site n bare.is
 
-    at_size : (v : ℕ) → v < n.disks - 2 → new.size (unit_of (raw_units n.disks).vols v) ≡ n.blocks
-    at_size v in_set = ap new.size (unit_is v in_set) ∙ moves.size (1 + v) ∙ bare.fitted.size (1 + v) (omega (arith, in_set, some))
+    head_here : last_of c ≡ 0
+    head_here = ap (λ (k : Core). last_of k) is
+
+    content : IsTrue new.tells → Stands c (raw_content n.disks n.blocks) new
+    content told = stands (sym moves.tells ∙ told) (raw_content n.disks n.blocks) (raw_holds n m bare some)
 
 -- the same with the units as they were made
-pub made_stands : (site d : ℕ) (n : Node) (c : Core) (units : Units) (state : State) (m new : Meaning) → units ≡ raw_units d → d ≡ m.units → IsBareAt n m → 3 ≤ n.disks
-    → c ≡ new_core units state (ring_of (m.size units.srl)) → Moves (Run units.srl 0 (m.size units.srl)) Anything m new → IsUpAt (raw_set site n) c new
-made_stands site d n c units state m new units_is d_is bare some core moves =
+pub made_stands : (site d : ℕ) (n : Node) (c : Core) (units : Units) (state : State) (m new : Meaning) → units ≡ raw_units d → state ≡ first_state site → d ≡ m.units → Lawful new → c.log.unit ≡ c.units.srl
+    → IsBareAt n m → 3 ≤ n.disks → c ≡ new_core units state (ring_of (m.size units.srl)) → Moves (Run units.srl 0 (ring_of (m.size units.srl) + 2)) Anything m new
+    → (IsTrue m.tells → (k : Content) → Holds units.vols k m → Stands c k new) → IsUpAt (raw_set site n) c new
+made_stands site d n c units state m new units_is state_is d_is lawful unit_is bare some core moves stands =
     let is : units ≡ raw_units n.disks = units_is ∙ ap raw_units (d_is ∙ bare.fitted.units) in
-    raw_stands site n c state m new bare some
-    (subst (λ (u : Units). c ≡ new_core u state (ring_of (m.size u.srl))) is core)
-    (subst (λ (u : Units). Moves (Run u.srl 0 (m.size u.srl)) Anything m new) is moves)
+    raw_stands site n c m new lawful unit_is bare some
+    (subst (λ (s : State). c ≡ new_core (raw_units n.disks) s (ring_of (m.size 0))) state_is (subst (λ (u : Units). c ≡ new_core u state (ring_of (m.size u.srl))) is core))
+    (subst (λ (u : Units). Moves (Run u.srl 0 (ring_of (m.size u.srl) + 2)) Anything m new) is moves)
+    (subst (λ (u : Units). IsTrue m.tells → (k : Content) → Holds u.vols k m → Stands c k new) is stands)
 
 module _ {R : Type 0} {g : Ghosts R} where
   -- a raw set that was not made
   pub raw_failed : (site d : ℕ) (n : Node) (old : Engine R g) (rack back : R) (units : Units) (stop : Stop) → old ≡ Bare rack → units ≡ raw_units d → IsBareAt n (g.meaning rack)
       → (8 ≤ (g.meaning rack).size units.srl → MakeCause (g.meaning rack) (g.meaning back) stop) → 3 ≤ n.disks
-      → Moves (Run units.srl 0 ((g.meaning rack).size units.srl)) Anything (g.meaning rack) (g.meaning back) → MadeIs site n old (Bare back) (Err stop)
+      → Moves (Run units.srl 0 (ring_of ((g.meaning rack).size units.srl) + 2)) Anything (g.meaning rack) (g.meaning back) → MadeIs site n old (Bare back) (Err stop)
   raw_failed site d n old rack back units stop is units_is bare cause some moves = why stop (cause large)
     where
       srl : units.srl ≡ 0
@@ -163,7 +212,8 @@ module _ {R : Type 0} {g : Ghosts R} where
       large = omega (arith, ap (g.meaning rack).size srl, bare.fitted.size 0 (omega (arith, some)), bare.some)
 
       stays : IsBareAt n (g.meaning back)
-      stays = bare_moved n ((g.meaning rack).size 0) (g.meaning rack) (g.meaning back) (subst (λ (u : ℕ). Moves (Run u 0 ((g.meaning rack).size u)) Anything (g.meaning rack) (g.meaning back)) srl moves) bare
+      stays = bare_moved n (ring_of ((g.meaning rack).size 0) + 2) (g.meaning rack) (g.meaning back)
+          (subst (λ (u : ℕ). Moves (Run u 0 (ring_of ((g.meaning rack).size u) + 2)) Anything (g.meaning rack) (g.meaning back)) srl moves) bare
 
       why : (s : Stop) → MakeCause (g.meaning rack) (g.meaning back) s → MadeIs site n old (Bare back) (Err s)
       why (Refused (Device disk)) h = (stays, subst (λ (e : Engine R g). Rose (faults_at e disk) ((g.meaning back).disk_faults disk)) (sym is) h)

@@ -1,21 +1,23 @@
 -- A line leaves a good world good.
 use Rattle.std.proofs.Common.{◌≡◌, ◌∙◌, ◌+◌, ◌<◌, ℕ, List, [], ◌∷◌, length, ap, sym, subst, refl, arith, inl, inr}
-use Rattle.std.specs.Prelude.{◌*◌, Option, Some, None, Bool, true, false, replicate, map, unwrap_or, cond, if◌then◌else◌, ◌&&◌, not}
+use Rattle.std.specs.Prelude.{◌*◌, ◌≤◌, Option, Some, None, Bool, true, false, replicate, map, unwrap_or, cond, if◌then◌else◌, ◌&&◌, not}
 use Rattle.std.specs.List.{find}
 use Rattle.std.specs.Str.{bytes_eq}
 use Rattle.vx_model.specs.Content.{Write as WriteOf}
-use Rattle.vx_model.specs.World.{Node, World, Volume, is_origin}
-use Rattle.vx_model.specs.Good.{Good, IsWorking}
-use Rattle.vx_model.specs.Steps.{site_made, raw_made, written, half_written}
-use Rattle.vx_model.proofs.GoodLemmas.{good_site, good_raw, good_written, good_half_written}
+use Rattle.vx_model.specs.World.{Node, World, Volume, bare_site, empty_world, is_origin, updated}
+use Rattle.vx_model.specs.Good.{Good, IsMade, IsWorking}
+use Rattle.vx_model.specs.Steps.{site_made, raw_made, raw_set, logged, written, half_written, crashed, crash_left, recovered, came_up, session_begun, stopped_by}
+use Rattle.vx_model.proofs.CrashLemmas.{kept_length, good_crashed, good_recovered, good_session_begun, good_stopped}
+use Rattle.vx_model.proofs.GoodLemmas.{good_empty, good_site, good_raw, good_written, good_half_written, up_is_made}
+use Rattle.vx_model.proofs.Updates.{all_updated, at_place}
 use Rattle.vx_model.specs.declared.no.No.{No}
 use Rattle.vx_model.specs.declared.no.No.TheVariants.{Role as WrongRole}
 use Rattle.vx_model.specs.declared.site.Role.{Role}
 use Rattle.vx_model.specs.declared.site.Role.TheVariants.{Primary, Secondary, Handing, Bunker as IsBunker}
 use Rattle.vx_model.specs.declared.site.SiteState.{SiteState}
-use Rattle.vx_model.specs.declared.site.SiteState.TheVariants.{Up}
+use Rattle.vx_model.specs.declared.site.SiteState.TheVariants.{Bare, Up, Down}
 use Rattle.vx_script.specs.declared.line.ScriptLine.{ScriptLine}
-use Rattle.vx_script.specs.declared.line.ScriptLine.TheVariants.{Site, Raw, Disk, Write, Put, Read, Show, Status}
+use Rattle.vx_script.specs.declared.line.ScriptLine.TheVariants.{Site, Raw, Disk, Crash, Recover, Write, Put, Read, Show, Apply, Status}
 use Rattle.vx_order.specs.declared.facts.SiteFacts.{SiteFacts}
 use Rattle.vx_order.specs.declared.facts.VolumeFacts.{VolumeFacts}
 use Rattle.vx_order.specs.declared.facts.RvgFacts.{RvgFacts}
@@ -29,20 +31,42 @@ use Rattle.vx_order.specs.Spans.{span_of}
 use Rattle.vx_order.specs.Subject.{first_name}
 use Rattle.vx_order.specs.Tests.{when}
 use Rattle.vx_node.specs.Facts.{site_fact, facts_of, site_number, volume_fact, group_by, group_fact}
-use Rattle.vx_node.specs.Steps.{Fails, Puts, IsPut, NoNumber, PutFails, Works, StepBy, Prints, write_of}
+use Rattle.vx_node.specs.Engines.{halted_with}
+use Rattle.vx_node.specs.Steps.{Fails, Puts, IsPut, NoNumber, PutFails, Crashes, Begins, CrashesFirst, IsDown, Recovers, ComesUp, StaysDown, NoSession, Untold, IsBareStill, Applies, IsApplied, ApplyFails, Works, StepBy, Prints, write_of}
 use Rattle.vx_node.specs.declared.said.Said.{Said}
-use Rattle.vx_node.proofs.Refused.{Named, WriteMay, passes, raw_may, write_may, put_may}
+use Rattle.vx_node.proofs.Refused.{Named, WriteMay, passes, raw_may, crash_may, apply_may, write_may, put_may}
 use Rattle.vx_node.proofs.Seats.{position_within, some_same}
 use Rattle.vx_node.proofs.Values.{length-values_from, slice_get-values_from}
 
--- nothing changed, or what a write makes of it
-good_as : (new next : World) → new ≡ next → Good next → Good new
-good_as new next e good = subst (λ (w : World). Good w) (sym e) good
+-- A good world of primaries alone, in which a site that is down has no write that is not durable.
+pub record Sound (w : World) : Type 0 where
+  pub good : Good w
+  pub origins : (i : ℕ) → is_origin (w.nodes i).role ≡ true
+  pub whole : (i : ℕ) → (w.nodes i).state ≡ Down → length (w.nodes i).log ≤ (w.nodes i).safe
 
-good_puts : (w : World) (s : ℕ) (x : WriteOf) (fails : Fails) (said : Said) (new : World) → Good w → IsWorking (w.nodes s) → Puts w s x fails said new → Good new
-good_puts w s x fails said new good working (IsPut below done) = good_as new (written w s x) done.leads (good_written w s x good working)
-good_puts w s x fails said new good working (NoNumber past done) = good_as new w done.leads good
-good_puts w s x fails said new good working (PutFails disk done) = good_as new (half_written w s x disk) done.leads (good_half_written w s x disk good working)
+pub sound_empty : Sound empty_world
+sound_empty = record { good = good_empty; origins = λ i. refl; whole = λ i down. omega arith }
+
+sound_as : (new next : World) → new ≡ next → Sound next → Sound new
+sound_as new next e sound = subst (λ (w : World). Sound w) (sym e) sound
+
+up_not_down : {s : SiteState} → s ≡ Up → s ≡ Down → ⊥
+up_not_down up down = let e : Up ≡ Down = sym up ∙ down in cc
+
+-- one site changed
+sound_changed : (w w' : World) (i : ℕ) (n : Node) → Sound w → Good w' → ((k : ℕ) → w'.nodes k ≡ updated w.nodes i n k) → is_origin n.role ≡ true → (n.state ≡ Down → length n.log ≤ n.safe) → Sound w'
+sound_changed w w' i n sound good nodes origin whole = record {
+  good = good;
+  origins = λ k. subst (λ (m : Node). is_origin m.role ≡ true) (sym (nodes k)) (all_updated (λ _ m. is_origin m.role ≡ true) w.nodes i n origin (λ j apart. sound.origins j) k);
+  whole = λ k. subst (λ (m : Node). m.state ≡ Down → length m.log ≤ m.safe) (sym (nodes k)) (all_updated (λ _ m. m.state ≡ Down → length m.log ≤ m.safe) w.nodes i n whole (λ j apart. sound.whole j) k);
+}
+
+good_puts : (told : Type 0) (w : World) (s : ℕ) (x : WriteOf) (fails : Fails) (said : Said) (new : World) → Sound w → IsWorking (w.nodes s) → Puts told w s x fails said new → Sound new
+good_puts told w s x fails said new sound working (IsPut below done) = sound_as new (written w s x) done.leads
+    (sound_changed w (written w s x) s (logged (w.nodes s) x) sound (good_written w s x sound.good working) (λ k. refl) working.origin (λ down. absurd (up_not_down working.up down)))
+good_puts told w s x fails said new sound working (NoNumber past done) = sound_as new w done.leads sound
+good_puts told w s x fails said new sound working (PutFails disk done) = sound_as new (half_written w s x disk) done.leads
+    (sound_changed w (half_written w s x disk) s (halted_with (w.nodes s) x disk) sound (good_half_written w s x disk sound.good working) (λ k. refl) working.origin (λ down. absurd (up_not_down working.up down)))
 
 -- the site of a name
 seat_in : (w : World) (name : List ℕ) (n : Named (facts_of w) name) → (site_number w name < w.sites) × (n.facts ≡ site_fact (w.nodes (site_number w name)))
@@ -125,28 +149,91 @@ put_working w files name volume start bytes free =
     let p = passes (facts_of w) files (Put name volume start bytes) free in
     working_in w name volume start 1 (put_may (facts_of w) files name volume start bytes free) p.volume p.call_role
 
+-- ---- crashes and recoveries
+
+crashed_sound : (w : World) (s : ℕ) (new : World) → Sound w → (w.nodes s).state ≡ Up → Crashes w s new → Sound new
+crashed_sound w s new sound up crash = sound_as new (crash_left w s crash.count) crash.leads
+    (sound_changed w (crash_left w s crash.count) s (crashed (w.nodes s) crash.count) sound
+    (good_crashed w s crash.count sound.good (up_is_made (w.nodes s) up) (sound.origins s) crash.least crash.most) (λ k. refl) (sound.origins s)
+    (λ _. omega (arith, kept_length (w.nodes s) crash.count crash.least crash.most)))
+
+-- a site from which a recovery begins is down
+record Begun (mid : World) (s : ℕ) : Type 0 where
+  sound : Sound mid
+  down : (mid.nodes s).state ≡ Down
+
+begun : (w : World) (s : ℕ) (mid : World) → Sound w → Begins w s mid → Begun mid s
+begun w s mid sound (CrashesFirst up crash) = record {
+  sound = crashed_sound w s mid sound up crash;
+  down = ap (λ (v : World). (v.nodes s).state) crash.leads ∙ ap (λ (n : Node). n.state) (at_place w.nodes s (crashed (w.nodes s) crash.count));
+}
+begun w s mid sound (IsDown down same) = record {
+  sound = sound_as mid w same sound;
+  down = ap (λ (v : World). (v.nodes s).state) same ∙ down;
+}
+
+down_is_made : (n : Node) → n.state ≡ Down → IsMade n
+down_is_made n down bare = let e : Down ≡ Bare = sym down ∙ bare in cc
+
+came_sound : (mid : World) (s : ℕ) → Begun mid s → Sound (came_up mid s)
+came_sound mid s b =
+    sound_changed mid (came_up mid s) s (recovered (mid.nodes s)) b.sound
+    (good_recovered mid s b.sound.good (down_is_made (mid.nodes s) b.down) (b.sound.whole s b.down)) (λ k. refl) (b.sound.origins s) (λ down. absurd (up_not_down refl down))
+
+session_sound : (mid : World) (s : ℕ) → Begun mid s → Sound (session_begun mid s)
+session_sound mid s b =
+    sound_changed mid (session_begun mid s) s (record (mid.nodes s) { session = (mid.nodes s).session + 1 }) b.sound
+    (good_session_begun mid s b.sound.good (down_is_made (mid.nodes s) b.down)) (λ k. refl) (b.sound.origins s) (b.sound.whole s)
+
+good_recovers : (told : Type 0) → told → (w : World) (s : ℕ) (fails : Fails) (said : Said) (new : World) → Sound w → Recovers told w s fails said new → Sound new
+good_recovers told is w s fails said new sound (ComesUp mid begins done) = sound_as new (came_up mid s) done.leads (came_sound mid s (begun w s mid sound begins))
+good_recovers told is w s fails said new sound (StaysDown mid disk begins (inl failed)) = sound_as new mid failed.leads (begun w s mid sound begins).sound
+good_recovers told is w s fails said new sound (StaysDown mid disk begins (inr failed)) = sound_as new (session_begun mid s) failed.leads (session_sound mid s (begun w s mid sound begins))
+good_recovers told is w s fails said new sound (NoSession mid begins past (inl done)) = sound_as new mid done.leads (begun w s mid sound begins).sound
+good_recovers told is w s fails said new sound (NoSession mid begins past (inr done)) = sound_as new (session_begun mid s) done.leads (session_sound mid s (begun w s mid sound begins))
+good_recovers told is w s fails said new sound (Untold untold) = absurd (untold is)
+good_recovers told is w s fails said new sound (IsBareStill bare done) = sound_as new w done.leads sound
+
+good_applies : (w : World) (s to : ℕ) (fails : Fails) (said : Said) (new : World) → Sound w → (w.nodes s).state ≡ Up → Applies w s to fails said new → Sound new
+good_applies w s to fails said new sound up (IsApplied number least most done) = sound_as new w done.leads sound
+good_applies w s to fails said new sound up (ApplyFails disk failed) = sound_as new (stopped_by w s disk) failed.leads
+    (sound_changed w (stopped_by w s disk) s (record (w.nodes s) { halted = Some disk }) sound (good_stopped w s disk sound.good (up_is_made (w.nodes s) up)) (λ k. refl) (sound.origins s) (sound.whole s))
+
+site_up : (w : World) (name : List ℕ) (n : Named (facts_of w) name) → n.facts.state ≡ Up → (w.nodes (site_number w name)).state ≡ Up
+site_up w name n up = sym (ap (λ (f : SiteFacts). f.state) (seat_in w name n).1) ∙ up
+
 -- what a line that is not refused makes of a good world
-good_works : (told : Type 0) (files : Bool) (w : World) (line : ScriptLine) (fails : Fails) (said : Said) (new : World) → Good w → refusal_of (facts_of w) files line ≡ None → Works told w line fails said new → Good new
-good_works told files w (Site name disks blocks) fails said new good free (inl done) = good_as new (site_made w name disks blocks) done.leads (good_site w name disks blocks good)
-good_works told files w (Site name disks blocks) fails said new good free (inr failed) = good_as new w failed.fails_at.leads good
-good_works told files w (Raw name) fails said new good free (inl done) = good_as new (raw_made w (site_number w name)) done.leads (good_raw_line w files name good free)
-good_works told files w (Raw name) fails said new good free (inr failed) = good_as new w failed.fails_at.leads good
-good_works told files w (Disk name disk state) fails said new good free done = good_as new w done.leads good
-good_works told files w (Write name volume start count fill) fails said new good free puts =
-    good_puts w (site_number w name) (write_of w name volume start (replicate (512 * count) fill)) fails said new good (write_working w files name volume start count fill free) puts
-good_works told files w (Put name volume start bytes) fails said new good free puts =
-    good_puts w (site_number w name) (write_of w name volume start bytes) fails said new good (put_working w files name volume start bytes free) puts
-good_works told files w (Read name volume start count) fails said new good free (inl gets) = good_as new w gets.cleanly.leads good
-good_works told files w (Read name volume start count) fails said new good free (inr failed) = good_as new w failed.fails_at.leads good
-good_works told files w (Show name volume start count) fails said new good free (inl gets) = good_as new w gets.cleanly.leads good
-good_works told files w (Show name volume start count) fails said new good free (inr failed) = good_as new w failed.fails_at.leads good
-good_works told files w (Status name) fails said new good free done = good_as new w done.leads good
-good_works told files w other fails said new good free never = absurd never
+good_works : (told : Type 0) → told → (files : Bool) (w : World) (line : ScriptLine) (fails : Fails) (said : Said) (new : World) → Sound w → refusal_of (facts_of w) files line ≡ None → Works told w line fails said new → Sound new
+good_works told is files w (Site name disks blocks) fails said new sound free (inl done) = sound_as new (site_made w name disks blocks) done.leads
+    (sound_changed w (site_made w name disks blocks) w.sites (bare_site name disks blocks) sound (good_site w name disks blocks sound.good) (λ k. refl) refl (λ down. absurd (cc)))
+good_works told is files w (Site name disks blocks) fails said new sound free (inr failed) = sound_as new w failed.fails_at.leads sound
+good_works told is files w (Raw name) fails said new sound free (inl done) = sound_as new (raw_made w (site_number w name)) done.leads
+    (sound_changed w (raw_made w (site_number w name)) (site_number w name) (raw_set (site_number w name) (w.nodes (site_number w name))) sound (good_raw_line w files name sound.good free) (λ k. refl) refl
+    (λ down. absurd (up_not_down refl down)))
+good_works told is files w (Raw name) fails said new sound free (inr failed) = sound_as new w failed.fails_at.leads sound
+good_works told is files w (Disk name disk state) fails said new sound free done = sound_as new w done.leads sound
+good_works told is files w (Crash name pick) fails said new sound free works =
+    let may = crash_may (facts_of w) files name pick free in
+    sound_as new works.0 works.2.leads (crashed_sound w (site_number w name) works.0 sound (site_up w name may.0 may.1) works.1)
+good_works told is files w (Recover name) fails said new sound free recovers = good_recovers told is w (site_number w name) fails said new sound recovers
+good_works told is files w (Write name volume start count fill) fails said new sound free puts =
+    good_puts told w (site_number w name) (write_of w name volume start (replicate (512 * count) fill)) fails said new sound (write_working w files name volume start count fill free) puts
+good_works told is files w (Put name volume start bytes) fails said new sound free puts =
+    good_puts told w (site_number w name) (write_of w name volume start bytes) fails said new sound (put_working w files name volume start bytes free) puts
+good_works told is files w (Read name volume start count) fails said new sound free (inl gets) = sound_as new w gets.cleanly.leads sound
+good_works told is files w (Read name volume start count) fails said new sound free (inr failed) = sound_as new w failed.fails_at.leads sound
+good_works told is files w (Show name volume start count) fails said new sound free (inl gets) = sound_as new w gets.cleanly.leads sound
+good_works told is files w (Show name volume start count) fails said new sound free (inr failed) = sound_as new w failed.fails_at.leads sound
+good_works told is files w (Apply name to) fails said new sound free applies =
+    let may = apply_may (facts_of w) files name to free in
+    good_applies w (site_number w name) to fails said new sound (site_up w name may.site may.up) applies
+good_works told is files w (Status name) fails said new sound free done = sound_as new w done.leads sound
+good_works told is files w other fails said new sound free never = absurd never
 
-good_step : (told : Type 0) (files : Bool) (w : World) (line : ScriptLine) (fails : Fails) (said : Said) (new : World) (refused : Option No) → Good w → refusal_of (facts_of w) files line ≡ refused → StepBy refused told w line fails said new → Good new
-good_step told files w line fails said new (Some why) good is done = good_as new w done.leads good
-good_step told files w line fails said new None good is works = good_works told files w line fails said new good is works
+good_step : (told : Type 0) → told → (files : Bool) (w : World) (line : ScriptLine) (fails : Fails) (said : Said) (new : World) (refused : Option No) → Sound w → refusal_of (facts_of w) files line ≡ refused → StepBy refused told w line fails said new → Sound new
+good_step told is files w line fails said new (Some why) sound e done = sound_as new w done.leads sound
+good_step told is files w line fails said new None sound e works = good_works told is files w line fails said new sound e works
 
--- a line that is answered leaves a good world good
-pub step_good : {told : Type 0} (files : Bool) (w : World) (line : ScriptLine) (fails : Fails) (text : List ℕ) (new : World) → Good w → Prints told files w line fails text new → Good new
-step_good {told = told} files w line fails text new good prints = good_step told files w line fails prints.said new (refusal_of (facts_of w) files line) good refl prints.step
+-- a line that is answered leaves a good world good, where contents are told
+pub step_good : {told : Type 0} → told → (files : Bool) (w : World) (line : ScriptLine) (fails : Fails) (text : List ℕ) (new : World) → Sound w → Prints told files w line fails text new → Sound new
+step_good {told = told} is files w line fails text new sound prints = good_step told is files w line fails prints.said new (refusal_of (facts_of w) files line) sound refl prints.step

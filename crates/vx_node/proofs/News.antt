@@ -7,7 +7,7 @@ use Rattle.vx_node.specs.declared.engine.Engine.{Engine}
 use Rattle.vx_node.specs.declared.engine.Engine.TheVariants.{Bare}
 use Rattle.vx_node.specs.Holds.{AreFresh, rack_faults}
 use Rattle.vx_node.specs.Stands.{EnginesStand, IsUnused, faults_of}
-use Rattle.vx_node.proofs.Engines.{not_true}
+use Rattle.vx_node.proofs.Staying.{not_true}
 
 length-bare : {A B : Type 0} (f : A → B) (rs : List A) → length (map f rs) ≡ length rs
 length-bare f [] = refl

@@ -8,7 +8,7 @@ use Rattle.vx_model.specs.declared.errors.OutOfMemory.{OutOfMemory as MemoryErro
 use Rattle.vx_model.specs.declared.errors.Stop.{Stop}
 use Rattle.vx_model.specs.declared.errors.Stop.TheVariants.{No as Refused, OutOfMemory}
 use Rattle.vx_model.specs.declared.no.No.TheVariants.{Device}
-use Rattle.vx_model.specs.declared.site.SiteState.TheVariants.{Bare as IsBare, Up as IsUp}
+use Rattle.vx_model.specs.declared.site.SiteState.TheVariants.{Bare as IsBare, Up as IsUp, Down as IsDown}
 use Rattle.vx_model.specs.declared.site.Role.TheVariants.{Primary}
 use Rattle.vx_model.specs.declared.site.Mark.TheVariants.{Consistent}
 use Rattle.vx_disk.specs.declared.shelf.Shelf.{Ghosts}
@@ -16,7 +16,7 @@ use Rattle.vx_order.specs.declared.facts.SiteFacts.{SiteFacts}
 use Rattle.vx_order.specs.declared.facts.VolumeFacts.{VolumeFacts}
 use Rattle.vx_script.specs.declared.line.ScriptLine.TheVariants.{Raw}
 use Rattle.vx_node.specs.declared.engine.Engine.{Engine}
-use Rattle.vx_node.specs.declared.engine.Engine.TheVariants.{Bare, Up, Gone}
+use Rattle.vx_node.specs.declared.engine.Engine.TheVariants.{Bare, Up, Down, Gone}
 use Rattle.vx_node.specs.declared.said.Said.{Said}
 use Rattle.vx_node.specs.declared.said.Said.TheVariants.{Done}
 use Rattle.vx_node.specs.declared.yard.Yard.{Yard}
@@ -57,10 +57,14 @@ pub record RawShape (s : ℕ) (site : SiteFacts) : Type 0 where
 
 module _ {R : Type 0} {g : Ghosts R} where
   bare_parts : (n : Node) (e : Engine R g) → StandsAt n e → n.state ≡ IsBare → (n.parent ≡ no_line) × (n.low ≡ 1)
-  bare_parts n (Bare rack) stands is = (stands.parent, stands.low)
+  bare_parts n (Bare rack) stands is = (ap (λ (k : Node). k.parent) stands.is, ap (λ (k : Node). k.low) stands.is)
   bare_parts n (Up rvg) stands is = absurd (never (sym is ∙ stands.state))
     where
       never : IsBare ≡ IsUp → ⊥
+      never e = cc
+  bare_parts n (Down rack) stands is = absurd (never (sym is ∙ stands.state))
+    where
+      never : IsBare ≡ IsDown → ⊥
       never e = cc
   bare_parts n Gone stands is = absurd stands
 
@@ -89,6 +93,7 @@ module _ {R : Type 0} {g : Ghosts R} where
     where
       never : IsBare ≡ IsUp → ⊥
       never e = cc
+  stood_few n (Down rack) stands is = stands.few
   stood_few n Gone stands is = absurd stands
 
   pub raw_shape : (w : World) (y : Yard R g) (name : List ℕ) (s : ℕ) (site : SiteFacts) → YardStands w y → IsFree y (Raw name) → seat_of y.facts.items name ≡ Some s → slice_get y.facts.items s ≡ Some site → RawShape s site

@@ -6,10 +6,11 @@ use Rattle.std.specs.Str.{bytes_eq}
 use Rattle.std.proofs.lemmas.Bool.Decides.{nat_tests}
 use Rattle.std.proofs.lemmas.Iterator.Adapters.{position_from-zero}
 use Rattle.vx_model.specs.declared.no.No.{No}
+use Rattle.vx_model.specs.declared.no.No.TheVariants.{Down as NotUp}
 use Rattle.vx_model.specs.declared.site.SiteState.{SiteState}
 use Rattle.vx_model.specs.declared.site.SiteState.TheVariants.{Bare, Up, Deported, Down}
 use Rattle.vx_script.specs.declared.line.ScriptLine.{ScriptLine}
-use Rattle.vx_script.specs.declared.line.ScriptLine.TheVariants.{Site, Raw, Disk, Write, Put, Read, Show, Status}
+use Rattle.vx_script.specs.declared.line.ScriptLine.TheVariants.{Site, Raw, Disk, Crash, Recover, Write, Put, Read, Show, Apply, Status}
 use Rattle.vx_order.specs.declared.facts.SiteFacts.{SiteFacts}
 use Rattle.vx_order.specs.declared.facts.VolumeFacts.{VolumeFacts}
 use Rattle.vx_order.specs.declared.facts.RvgFacts.{RvgFacts}
@@ -22,7 +23,7 @@ use Rattle.vx_order.specs.Order.{refusal_of}
 use Rattle.vx_order.specs.Tests.{when, first_of}
 use Rattle.vx_order.specs.Subject.{first_name, second_name, need_of, halt_of}
 use Rattle.vx_order.specs.Spans.{span_of}
-use Rattle.vx_order.specs.Sites.{facts_of, site_named, unknown_one, down_by, halted_by, is_up, is_bare, volume_of, rvg_of, halted_disk, halted_rvg, halted_one}
+use Rattle.vx_order.specs.Sites.{facts_of, site_named, unknown_one, down_by, halted_by, site_off, is_up, is_bare, volume_of, rvg_of, halted_disk, halted_rvg, halted_one}
 use Rattle.vx_order.specs.Shapes.{line_role, line_unknown, taken, over_limit, wrong_size, site_limit, most_blocks, is_raw_set, raw_role, raw_size, disk_unknown, map_blocks}
 use Rattle.vx_order.specs.Calls.{span_role, span_unknown, span_size, span_range, call_unknown, call_size, call_range, outgrows, is_data, is_write}
 
@@ -373,3 +374,43 @@ show_may sites files name volume start count e =
 pub status_may : (sites : List SiteFacts) (files : Bool) (name : List ℕ) → refusal_of sites files (Status name) ≡ None → Named sites name
 unfolding first_name
 status_may sites files name e = named sites name (passes sites files (Status name) e).known
+
+-- a site that has to be up is
+up_by : (state : SiteState) → is_up state ≡ true → state ≡ Up
+up_by Up e = refl
+up_by Bare e = absurd (cc)
+up_by Deported e = absurd (cc)
+up_by Down e = absurd (cc)
+
+not_off : (site : SiteFacts) → when (site_off (Some site)) NotUp ≡ None → site.state ≡ Up
+not_off site e = up_by site.state (not_false (is_up site.state) (when_none (not (is_up site.state)) _ e))
+
+pub crash_may : (sites : List SiteFacts) (files : Bool) (name : List ℕ) (pick : ℕ) → refusal_of sites files (Crash name pick) ≡ None → (site : Named sites name) × (site.facts.state ≡ Up)
+unfolding first_name need_of
+crash_may sites files name pick e =
+    let p = passes sites files (Crash name pick) e in
+    let site = named sites name p.known in
+    (site, not_off site.facts (subst (λ (o : Option SiteFacts). when (site_off o) NotUp ≡ None) site.found p.up))
+
+pub recover_may : (sites : List SiteFacts) (files : Bool) (name : List ℕ) → refusal_of sites files (Recover name) ≡ None → Named sites name
+unfolding first_name
+recover_may sites files name e = named sites name (passes sites files (Recover name) e).known
+
+-- what is known of a site whose log may be applied
+pub record ApplyMay (sites : List SiteFacts) (name : List ℕ) : Type 0 where
+  pub site : Named sites name
+  pub up : site.facts.state ≡ Up
+  pub running : (rvg : RvgFacts) → site.facts.rvg ≡ Some rvg → rvg.halted ≡ None
+
+pub apply_may : (sites : List SiteFacts) (files : Bool) (name : List ℕ) (to : ℕ) → refusal_of sites files (Apply name to) ≡ None → ApplyMay sites name
+unfolding first_name need_of halt_of
+apply_may sites files name to e =
+    let p = passes sites files (Apply name to) e in
+    let site = named sites name p.known in
+    let up = not_off site.facts (subst (λ (o : Option SiteFacts). when (site_off o) NotUp ≡ None) site.found p.up) in
+    record {
+      site = site;
+      up = up;
+      running = λ rvg is. running_by site.facts rvg (subst (λ (o : Option SiteFacts). halted_one o ≡ None) site.found p.running)
+          (ap (λ (s : SiteState). if is_up s then site.facts.rvg else None) up) is;
+    }

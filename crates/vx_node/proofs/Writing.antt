@@ -18,7 +18,7 @@ use Rattle.vx_order.specs.declared.facts.VolumeFacts.{VolumeFacts}
 use Rattle.vx_order.specs.declared.facts.VolumeKind.TheVariants.{Data}
 use Rattle.vx_script.specs.declared.line.ScriptLine.TheVariants.{Write as WriteLine, Put as PutLine}
 use Rattle.vx_node.specs.declared.engine.Engine.{Engine}
-use Rattle.vx_node.specs.declared.engine.Engine.TheVariants.{Bare, Up, Gone}
+use Rattle.vx_node.specs.declared.engine.Engine.TheVariants.{Bare, Up, Down, Gone}
 use Rattle.vx_node.specs.declared.said.Said.{Said}
 use Rattle.vx_node.specs.declared.said.Said.TheVariants.{DoneAt, Refused}
 use Rattle.vx_node.specs.declared.yard.Yard.{Yard}
@@ -32,7 +32,7 @@ use Rattle.vx_node.specs.Writes.WriteFree.{ByWrite, ByPut}
 use Rattle.vx_node.specs.Steps.Puts.{IsPut, NoNumber, PutFails}
 use Rattle.vx_node.specs.Yards.{YardStands, in_files, count_of}
 use Rattle.vx_node.proofs.Changing.{facts-updated, last_fact, halted_fact, rose_none, rose_one, counts_later, counts_rose, engines_set, engines_same}
-use Rattle.vx_node.proofs.Lists.{get_at}
+use Rattle.vx_node.proofs.Lists.{get_at, get-set_same}
 use Rattle.vx_node.proofs.Refused.{WriteMay, write_may, put_may}
 use Rattle.vx_node.proofs.Seats.{Seated, seated, named_fact, named_none, some_same, never_some, position_within}
 use Rattle.vx_node.proofs.Sites.{stands_new}
@@ -76,8 +76,9 @@ the_write v start bytes = record { volume = v; start = start; bytes = bytes }
 
 module _ {R : Type 0} {g : Ghosts R} where
   sized : (n : Node) (e : Engine R g) → StandsAt n e → n.state ≡ IsUp → Sized n
-  sized n (Bare rack) h up = absurd (let e : IsBare ≡ IsUp = sym h.state ∙ up in cc)
+  sized n (Bare rack) h up = absurd (let e : IsBare ≡ IsUp = sym (ap (λ (k : Node). k.state) h.is) ∙ up in cc)
   sized n (Up rvg) h up = record { few = h.few; volumes = h.volumes; blocks = h.whole }
+  sized n (Down rack) h up = record { few = h.few; volumes = h.volumes; blocks = h.whole }
   sized n Gone h up = absurd h
 
   pub may_write : (y : Yard R g) (name volume : List ℕ) (start : ℕ) (bytes : List ℕ) → WriteFree y name volume start bytes → WriteMay y.facts.items name volume start (blocks_in bytes)
@@ -222,7 +223,7 @@ module _ {R : Type 0} {g : Ghosts R} where
   failed_at w old new s (Limit what most) x f' e after stands below fact there later wrote is facts engines racks = record {
     world = w;
     fails = [];
-    puts = NoNumber wrote.1 (record { none = refl; says = ap (λ (k : No). Refused k) wrote.0; leads = refl });
+    puts = NoNumber (λ told. wrote.1 (told.each s after (ap (λ es. slice_get es s) engines ∙ get-set_same old.engines.items s after (slice_get_within old.engines.items s e there)))) (record { none = refl; says = ap (λ (k : No). Refused k) wrote.0; leads = refl });
     stands = stands_new w w old new stands
         (facts ∙ ap (λ (f : SiteFacts). slice_set old.facts.items s f) is ∙ set_same old.facts.items s (site_fact (w.nodes s)) fact ∙ stands.facts)
         (subst (λ es. EnginesStand w es) (sym engines) (engines_same w old.engines.items s after below stands.engines wrote.2))

@@ -51,18 +51,18 @@ halted_facts disk f = record f { rvg = halted_group disk f.rvg }
 abbrev pub down_facts : SiteFacts → SiteFacts
 down_facts f = record f { state = Down; rvg = None }
 
--- the group of a site that came up with this state, up to this number
+-- the group of a site that came up with this state, up to this number, with this ring
 abbrev pub up_group : State → ℕ → ℕ → RvgFacts
-up_group state last blocks = record {
+up_group state last ring = record {
   role = state.role;
   line = state.line;
   parent = state.parent;
   mark = state.mark;
   low = 1;
   last = last;
-  ring = ring_of blocks;
+  ring = ring;
   halted = None;
 }
 
-abbrev pub up_facts : State → ℕ → SiteFacts → SiteFacts
-up_facts state last f = record f { state = Up; rvg = Some (up_group state last f.blocks) }
+abbrev pub up_facts : State → ℕ → ℕ → SiteFacts → SiteFacts
+up_facts state last ring f = record f { state = Up; rvg = Some (up_group state last ring) }

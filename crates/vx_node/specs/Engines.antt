@@ -45,6 +45,15 @@ pub record CanApply (n : Node) : Type 0 where
   pub up : n.state ≡ IsUp
   pub running : n.halted ≡ None
 
+-- the same disks and volumes, up and running
+pub record SameDisks (n k : Node) : Type 0 where
+  pub name : k.name ≡ n.name
+  pub disks : k.disks ≡ n.disks
+  pub blocks : k.blocks ≡ n.blocks
+  pub volumes : k.volumes ≡ n.volumes
+  pub up : k.state ≡ IsUp
+  pub running : k.halted ≡ None
+
 module _ {R : Type 0} {g : Ghosts R} where
   -- no count of a disk falls, and contents that are told now were told before
   pub record Later (old new : Engine R g) : Type 0 where
@@ -73,7 +82,7 @@ module _ {R : Type 0} {g : Ghosts R} where
   abbrev pub WroteAt : Node → Write → Engine R g → Engine R g → Result ℕ No → Type 0
   WroteAt n x old new (Ok number) = (number ≡ n.safe + 1) × (n.safe < most_number) × StandsAt (logged n x) new
   WroteAt n x old new (Err (Device disk)) = StandsAt (halted_with n x disk) new × RoseAt old new disk
-  WroteAt n x old new (Err (Limit what most)) = (Limit what most ≡ no_number) × (most_number ≤ most_stamp n) × StandsAt n new
+  WroteAt n x old new (Err (Limit what most)) = (Limit what most ≡ no_number) × (IsToldAt new → most_number ≤ most_stamp n) × StandsAt n new
   WroteAt n x old new (Err other) = ⊥
 
   -- the blocks, which are those of the content where it is told, or a failing disk
@@ -89,12 +98,23 @@ module _ {R : Type 0} {g : Ghosts R} where
     pub most : count ≤ length n.log
     pub stands : StandsAt (crashed n count) new
 
-  -- a site that came up, or that stays down, maybe in the next session, since a disk failed or no number is left
+  -- A site that came up: in its next session, where contents are told, and else with whatever stands on its disks.
+  pub record CameUp (n : Node) (new : Engine R g) : Type 0 where
+    pub node : Node
+    pub is : IsToldAt new → node ≡ recovered n
+    pub same : SameDisks n node
+    pub stands : StandsAt node new
+
+  -- a site that stays down, maybe in the next session
+  abbrev pub StillDown : Node → Engine R g → Type 0
+  StillDown n new = StandsAt n new ⊎ StandsAt (record n { session = n.session + 1 }) new
+
+  -- it came up, or a disk failed, or no number is left; nothing else where contents are told
   abbrev pub CameUpIs : Node → Engine R g → Engine R g → Result (Unit {0}) No → Type 0
-  CameUpIs n old new (Ok done) = StandsAt (recovered n) new
-  CameUpIs n old new (Err (Device disk)) = (StandsAt n new ⊎ StandsAt (record n { session = n.session + 1 }) new) × RoseAt old new disk
-  CameUpIs n old new (Err (Limit what most)) = (Limit what most ≡ no_number) × (most_number ≤ most_stamp n + 2) × StandsAt n new
-  CameUpIs n old new (Err other) = IsToldAt new → ⊥
+  CameUpIs n old new (Ok done) = CameUp n new
+  CameUpIs n old new (Err (Device disk)) = StillDown n new × RoseAt old new disk
+  CameUpIs n old new (Err (Limit what most)) = (Limit what most ≡ no_number) × (IsToldAt new → most_number ≤ most_stamp n + 2) × StillDown n new
+  CameUpIs n old new (Err other) = (IsToldAt new → ⊥) × StandsAt n new
 
   -- the number up to which all writes are in their volumes, or a failing disk
   abbrev pub AppliedAt : Node → ℕ → Engine R g → Engine R g → Result ℕ No → Type 0

@@ -3,6 +3,7 @@ use Rattle.std.specs.Prelude.{◌≡◌, ℕ, ◌+◌, ◌-◌, ◌*◌, ◌<◌
 use Rattle.vx_model.specs.Content.{fold_writes}
 use Rattle.vx_model.specs.World.{Node, World}
 use Rattle.vx_model.specs.declared.state.State.{State}
+use Rattle.vx_model.specs.declared.state.KeptLink.{KeptLink}
 use Rattle.vx_model.specs.declared.units.Units.{Units}
 use Rattle.vx_model.specs.declared.site.SiteState.TheVariants.{Up, Down}
 use Rattle.vx_disk.specs.Shelf.{Meaning, Image}
@@ -13,9 +14,9 @@ use Rattle.vx_node.specs.Facts.{values_from}
 abbrev pub raw_units : ℕ → Units
 raw_units disks = record { srl = 0; maps = disks - 1; vols = values_from (λ k. k) 1 (disks - 2) }
 
--- what the header of its log keeps of a site
-abbrev pub state_of : Node → State
-state_of n = record {
+-- what the header of its log keeps of a site, with these links
+abbrev pub state_with : Node → List KeptLink → State
+state_with n links = record {
   line = n.line;
   top = n.top;
   role = n.role;
@@ -26,8 +27,12 @@ state_of n = record {
   other = n.other;
   parent = n.parent;
   fork = n.fork;
-  links = [];
+  links = links;
 }
+
+-- a site has no links
+abbrev pub state_of : Node → State
+state_of n = state_with n []
 
 -- no header of its log has a greater stamp
 abbrev pub most_stamp : Node → ℕ

@@ -6,6 +6,8 @@ pub mod Holds
 pub mod Lines
 pub mod Racks
 pub mod Replies
+pub mod Rising
+pub mod Rooms
 pub mod Seen
 pub mod Stands
 pub mod Steps

@@ -1,8 +1,9 @@
 -- What a yard stands for: how its racks and what it keeps of each site agree with the world.
-use Rattle.std.specs.Prelude.{◌≡◌, ℕ, ◌+◌, ◌-◌, ◌<◌, ◌≤◌, ◌==◌, ◌&&◌, min, List, length, count_by, Option, Some, None, slice_get, IsTrue, IsFalse}
+use Rattle.std.specs.Prelude.{◌≡◌, ℕ, ◌+◌, ◌-◌, ◌<◌, ◌≤◌, ◌==◌, ◌&&◌, min, List, [], length, count_by, Option, Some, None, slice_get, IsTrue, IsFalse}
 use Rattle.vx_model.specs.Content.{zero_block}
 use Rattle.vx_model.specs.Steps.{ring_of}
 use Rattle.vx_model.specs.World.{Node, World, Volume, bare_site}
+use Rattle.vx_model.specs.declared.state.KeptLink.{KeptLink}
 use Rattle.vx_model.specs.declared.site.SiteState.TheVariants.{Up as IsUp, Down as IsDown}
 use Rattle.vx_disk.specs.Shelf.{Meaning, Image, Keeps}
 use Rattle.vx_disk.specs.declared.shelf.Shelf.{Ghosts}
@@ -10,7 +11,7 @@ use Rattle.vx_rvg.specs.Stands.{Left, Stands}
 use Rattle.vx_rvg.specs.Views.{Core, last_of}
 use Rattle.vx_node.specs.declared.engine.Engine.{Engine}
 use Rattle.vx_node.specs.declared.engine.Engine.TheVariants.{Bare, Up, Down, Gone}
-use Rattle.vx_node.specs.Holds.{HasWrites, raw_units, state_of, most_stamp}
+use Rattle.vx_node.specs.Holds.{HasWrites, raw_units, state_of, state_with, most_stamp}
 use Rattle.vx_node.specs.Steps.{Fails}
 
 -- a rack that is not fitted, is up, and has no fuse
@@ -44,9 +45,13 @@ pub record IsUpAt (n : Node) (c : Core) (m : Meaning) : Type 0 where
   pub ring_is : n.ring ≡ ring_of n.blocks
   pub some : 8 ≤ n.blocks
   pub low : n.low ≡ 1
-  pub kept : c.log.header.state ≡ state_of n
+  -- it has no links; of disks that tell no contents that is not known, nor how great its stamp is
+  pub links : List KeptLink
+  pub kept : c.log.header.state ≡ state_with n links
+  pub unlinked : IsTrue m.tells → links ≡ []
   pub session : c.log.header.incarnation ≡ n.session
-  pub stamp : n.halted ≡ None → c.log.header.stamp + 1 ≤ most_stamp n
+  pub stamp : IsTrue m.tells → n.halted ≡ None → c.log.header.stamp + 1 ≤ most_stamp n
+  pub first : 0 < c.log.header.low
   pub head : last_of c ≡ n.safe
   pub halted : c.halted ≡ n.halted
   pub logged : n.safe ≤ length n.log
@@ -56,6 +61,7 @@ pub record IsUpAt (n : Node) (c : Core) (m : Meaning) : Type 0 where
   pub volumes : length n.volumes ≡ n.disks - 2
   pub whole : (v : ℕ) (x : Volume) → slice_get n.volumes v ≡ Some x → x.blocks ≡ n.blocks
   pub sizes : (v : ℕ) → v < n.disks - 2 → n.base.size v ≡ n.blocks
+  pub others : (v : ℕ) → n.disks - 2 ≤ v → n.base.size v ≡ 0
   -- while no write failed, it has the content; and whatever a crash leaves has the writes that it may keep
   pub content : n.halted ≡ None → IsTrue m.tells → Stands c n.base m
   pub left : (i : Image) → m.now i → HasWrites n i
@@ -76,6 +82,7 @@ pub record IsDownAt (n : Node) (m : Meaning) : Type 0 where
   pub volumes : length n.volumes ≡ n.disks - 2
   pub whole : (v : ℕ) (x : Volume) → slice_get n.volumes v ≡ Some x → x.blocks ≡ n.blocks
   pub sizes : (v : ℕ) → v < n.disks - 2 → n.base.size v ≡ n.blocks
+  pub others : (v : ℕ) → n.disks - 2 ≤ v → n.base.size v ≡ 0
   pub left : IsTrue m.tells → Left (raw_units n.disks) n.ring (state_of n) n.session (most_stamp n) n.safe n.base m
 
 module _ {R : Type 0} {g : Ghosts R} where

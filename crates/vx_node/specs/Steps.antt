@@ -40,11 +40,12 @@ pub record OnlyFails (site : ℕ) (fails : Fails) (said : Said) (new next : Worl
   pub disk : ℕ
   pub fails_at : FailsAt site disk fails said new next
 
--- a write that is not refused: its number, or none is left, or a disk failed
-pub data Puts (w : World) (site : ℕ) (x : Write) (fails : Fails) (said : Said) (new : World) : Type 0 where
-  IsPut : (w.nodes site).safe < 0x7fff_ffff_ffff_ffff → Cleanly fails said (DoneAt ((w.nodes site).safe + 1)) new (written w site x) → Puts w site x fails said new
-  NoNumber : 0x7fff_ffff_ffff_ffff ≤ most_stamp (w.nodes site) → Cleanly fails said (Refused (Limit Number 0x7fff_ffff_ffff_ffff)) new w → Puts w site x fails said new
-  PutFails : (disk : ℕ) → FailsAt site disk fails said new (half_written w site x disk) → Puts w site x fails said new
+-- A write that is not refused: its number, or none is left, or a disk failed. Of disks that tell no contents it is not known how many
+-- numbers are left.
+pub data Puts (told : Type 0) (w : World) (site : ℕ) (x : Write) (fails : Fails) (said : Said) (new : World) : Type 0 where
+  IsPut : (w.nodes site).safe < 0x7fff_ffff_ffff_ffff → Cleanly fails said (DoneAt ((w.nodes site).safe + 1)) new (written w site x) → Puts told w site x fails said new
+  NoNumber : (told → 0x7fff_ffff_ffff_ffff ≤ most_stamp (w.nodes site)) → Cleanly fails said (Refused (Limit Number 0x7fff_ffff_ffff_ffff)) new w → Puts told w site x fails said new
+  PutFails : (disk : ℕ) → FailsAt site disk fails said new (half_written w site x disk) → Puts told w site x fails said new
 
 -- a crash keeps the writes that are durable, and maybe the one that was not finished
 pub record Crashes (w : World) (site : ℕ) (new : World) : Type 0 where
@@ -59,14 +60,15 @@ pub data Begins (w : World) (site : ℕ) (mid : World) : Type 0 where
   IsDown : (w.nodes site).state ≡ Down → mid ≡ w → Begins w site mid
 
 -- A recovery: the site comes up with its log in its next session; or a disk failed, and the site is down, maybe in that session; or no
--- number is left; or nothing was made of its disks yet.
+-- number is left, and the site is down; or nothing was made of its disks yet.
 -- Of disks that tell no contents nothing is said.
 pub data Recovers (told : Type 0) (w : World) (site : ℕ) (fails : Fails) (said : Said) (new : World) : Type 0 where
   ComesUp : (mid : World) → Begins w site mid
       → Cleanly fails said (Recovered (mid.nodes site).safe (view_of (came_up mid site) (recovered (mid.nodes site)))) new (came_up mid site) → Recovers told w site fails said new
   StaysDown : (mid : World) (disk : ℕ) → Begins w site mid → FailsAt site disk fails said new mid ⊎ FailsAt site disk fails said new (session_begun mid site) → Recovers told w site fails said new
   NoSession : (mid : World) → Begins w site mid → 0x7fff_ffff_ffff_ffff ≤ most_stamp (mid.nodes site) + 2
-      → Cleanly fails said (Refused (Limit Number 0x7fff_ffff_ffff_ffff)) new mid → Recovers told w site fails said new
+      → Cleanly fails said (Refused (Limit Number 0x7fff_ffff_ffff_ffff)) new mid ⊎ Cleanly fails said (Refused (Limit Number 0x7fff_ffff_ffff_ffff)) new (session_begun mid site)
+      → Recovers told w site fails said new
   Untold : (told → ⊥) → Recovers told w site fails said new
   IsBareStill : (w.nodes site).state ≡ Bare → Cleanly fails said (Refused NoConfig) new w → Recovers told w site fails said new
 
@@ -101,9 +103,9 @@ Works told w (Crash site pick) fails said new =
     let s = site_number w site in (mid : World) × Crashes w s mid × Cleanly fails said Done new mid
 Works told w (Recover site) fails said new = Recovers told w (site_number w site) fails said new
 Works told w (WriteLine site volume start count fill) fails said new =
-    Puts w (site_number w site) (write_of w site volume start (replicate (512 * count) fill)) fails said new
+    Puts told w (site_number w site) (write_of w site volume start (replicate (512 * count) fill)) fails said new
 Works told w (PutLine site volume start bytes) fails said new =
-    Puts w (site_number w site) (write_of w site volume start bytes) fails said new
+    Puts told w (site_number w site) (write_of w site volume start bytes) fails said new
 Works told w (Read site volume start count) fails said new = Fetches told w site volume start count fails said new
 Works told w (Show site volume start count) fails said new = Fetches told w site volume start count fails said new
 Works told w (Apply site to) fails said new = Applies w (site_number w site) to fails said new

@@ -14,7 +14,7 @@ use Rattle.vx_node.specs.Facts.{site_number}
 use Rattle.vx_node.specs.Stands.{RoseAll}
 use Rattle.vx_node.specs.Steps.{Fails, Puts, write_of}
 use Rattle.vx_node.specs.Working.{IsFree}
-use Rattle.vx_node.specs.Yards.{YardStands, count_of}
+use Rattle.vx_node.specs.Yards.{YardStands, IsTold, count_of}
 
 -- what the tests see of a site after a write was refused so
 abbrev pub noted_facts : No → SiteFacts → SiteFacts
@@ -31,7 +31,7 @@ module _ {R : Type 0} {g : Ghosts R} where
   pub record PutsAt (w : World) (site : ℕ) (x : Write) (said : Said) (old new : Yard R g) : Type 0 where
     pub world : World
     pub fails : Fails
-    pub puts : Puts w site x fails said world
+    pub puts : Puts (IsTold new) w site x fails said world
     pub stands : YardStands world new
     pub rose : RoseAll fails (count_of old) (count_of new)
 

@@ -1,7 +1,10 @@
 // What a line does that crashes a site, recovers it, or applies what is logged.
-ghost use Rattle.std.specs.Prelude.{◌≡◌};
+ghost use Rattle.std.specs.Prelude.{◌≡◌, ◌<◌, length};
 ghost use Rattle.vx_model.specs.World.{World};
+ghost use Rattle.vx_model.specs.declared.site.SiteState.TheVariants.{Up as UpState, Down as DownState};
 ghost use Rattle.vx_script.specs.declared.line.ScriptLine.TheVariants.{Crash, Recover, Apply};
+ghost use Rattle.vx_node.specs.Rising.{Fell, NotesUp, Recovering};
+ghost use Rattle.vx_node.specs.Steps.{Begins};
 ghost use Rattle.vx_node.specs.Working.{WorkIs, Worked, IsFree};
 ghost use Rattle.vx_node.specs.Yards.{YardStands, IsTold, in_files};
 
@@ -11,11 +14,20 @@ use std::alloc::Global;
 use std::mem;
 use vx_disk::Rack;
 use vx_model::{Name, No, OutOfMemory, SiteState};
+use vx_order::ring_blocks;
 use vx_rvg::StartRoom;
 
 impl<R: Rack> Yard<R> {
     // Crashes the disks of a site that is up.
-    fn go_down(&mut self, site: usize, pick: u64) {
+    fn go_down(&mut self, site: usize, pick: u64)
+        requires facts { site < length self.old.facts.items }
+        requires engine { site < length self.old.engines.items }
+        ensures fell { (w : World) → YardStands w self.old → site < w.sites → (w.nodes site).state ≡ UpState → Fell w site self.old self.new }
+        ensures facts { length self.new.facts.items ≡ length self.old.facts.items }
+        ensures engines { length self.new.engines.items ≡ length self.old.engines.items }
+        ensures told { IsTold self.new → IsTold self.old }
+        ensures files { in_files self.new ≡ in_files self.old }
+    {
         let engine = mem::replace(&mut self.engines[site], Engine::Gone);
         self.engines[site] = engine.crash(pick);
         facts::go_down(&mut self.facts[site]);
@@ -37,17 +49,38 @@ impl<R: Rack> Yard<R> {
         Said::Done
     }
 
-    // Starts the group of a site that is down, and says how it stands.
-    fn come_up(&mut self, alloc: Global, site: usize, room: StartRoom) -> Said {
+    // Takes into what the tests look at what the group of a site that came up keeps. Answers its last number.
+    fn note_up(&mut self, site: usize, ring: u64) -> u64
+        requires facts { site < length self.old.facts.items }
+        requires engine { site < length self.old.engines.items }
+        ensures notes { NotesUp site ring result self.old self.new }
+        ensures facts { length self.new.facts.items ≡ length self.old.facts.items }
+        ensures engines { self.new.engines ≡ self.old.engines }
+        ensures racks { self.new.racks ≡ self.old.racks }
+        ensures dir { self.new.dir ≡ self.old.dir }
+    {
+        let last = self.engines[site].last();
+        if let Some(state) = self.engines[site].state() {
+            facts::come_up(&mut self.facts[site], state, last, ring);
+        }
+        last
+    }
+
+    // Starts the group of a site that is down, with a log of so many ring blocks, and says how it stands.
+    fn come_up(&mut self, alloc: Global, site: usize, ring: u64, room: StartRoom) -> Said
+        requires facts { site < length self.old.facts.items }
+        requires engine { site < length self.old.engines.items }
+        ensures rises { (w mid : World) → YardStands mid self.old → site < mid.sites → Begins w site mid → (mid.nodes site).state ≡ DownState
+            → ring ≡ (mid.nodes site).ring → room.ring ≡ ring → Recovering w site result self.old self.new }
+        ensures told { IsTold self.new → IsTold self.old }
+        ensures files { in_files self.new ≡ in_files self.old }
+    {
         let engine = mem::replace(&mut self.engines[site], Engine::Gone);
         let (engine, came) = engine.recover(room);
         self.engines[site] = engine;
         match came {
             Ok(()) => {
-                let last = self.engines[site].last();
-                if let Some(state) = self.engines[site].state() {
-                    facts::come_up(&mut self.facts[site], state, last);
-                }
+                let last = self.note_up(site, ring);
                 Said::Recovered(last, self.view_at(alloc, site))
             }
             Err(no) => Said::Refused(no),
@@ -69,11 +102,12 @@ impl<R: Rack> Yard<R> {
         if self.facts[site].state == SiteState::Bare {
             return Ok(Said::Refused(No::NoConfig));
         }
-        let room = StartRoom::new(alloc, self.facts[site].blocks)?;
+        let blocks = self.facts[site].blocks;
+        let room = StartRoom::new(alloc, blocks)?;
         if self.facts[site].state == SiteState::Up {
             self.go_down(site, u64::MAX);
         }
-        Ok(self.come_up(alloc, site, room))
+        Ok(self.come_up(alloc, site, ring_blocks(blocks), room))
     }
 
     /// Brings the logged writes of a site up to a number into their volumes.

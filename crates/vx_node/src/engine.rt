@@ -39,7 +39,7 @@ fn write_group<R: Rack>(rvg: &mut Rvg<R>, volume: u32, start: u64, bytes: &[u8])
 impl<R: Rack> Engine<R> {
     ghost use Rattle.vx_model.specs.World.{Node};
     ghost use Rattle.vx_model.specs.Content.{blocks_in};
-    ghost use Rattle.vx_node.specs.Holds.{state_of};
+    ghost use Rattle.vx_node.specs.Holds.{state_with};
     ghost use Rattle.vx_node.specs.Stands.{StandsAt, IsUnused};
     ghost use Rattle.vx_node.specs.Engines.{Later, FitIs, CanWrite, CanRead, CanApply, WroteAt, ReadAt, AppliedAt, MadeIs, CrashedAt, CameUpIs};
     ghost use Rattle.vx_model.specs.declared.site.SiteState.TheVariants.{Bare as BareState, Up as UpState, Down as DownState};
@@ -206,9 +206,9 @@ impl<R: Rack> Engine<R> {
         }
     }
 
-    /// What the log of a site that is up keeps of it.
+    /// What the log of a site that is up keeps of it, where nothing is said of links.
     pub fn state(&self) -> Option<&State>
-        ensures { (n : Node) → StandsAt n self.now → n.state ≡ UpState → IfSome result (λ state. state.now ≡ state_of n) × IsSome result }
+        ensures { (n : Node) → StandsAt n self.now → n.state ≡ UpState → IfSome result (λ state. state.now ≡ state_with n state.now.links) × IsSome result }
     {
         match self {
             Engine::Up(rvg) => Some(rvg.state()),

@@ -100,10 +100,9 @@ pub fn go_down(facts: &mut SiteFacts)
     facts.rvg = None;
 }
 
-/// The site came up with a log of this state, up to this number.
-pub fn come_up(facts: &mut SiteFacts, state: &State, last: u64)
-    requires { 8 ≤ facts.old.blocks }
-    ensures { facts.new ≡ up_facts state.now last facts.old }
+/// The site came up with a log of this state, up to this number, in a ring of so many blocks.
+pub fn come_up(facts: &mut SiteFacts, state: &State, last: u64, ring: u64)
+    ensures { facts.new ≡ up_facts state.now last ring facts.old }
 {
     facts.state = SiteState::Up;
     facts.rvg = Some(RvgFacts {
@@ -113,7 +112,7 @@ pub fn come_up(facts: &mut SiteFacts, state: &State, last: u64)
         mark: state.mark,
         low: 1,
         last,
-        ring: ring_blocks(facts.blocks),
+        ring,
         halted: None,
     });
 }

@@ -1,6 +1,6 @@
 // The units of a raw set.
 ghost use Rattle.std.specs.Prelude.{◌≡◌, ◌≤◌};
-ghost use Rattle.vx_node.specs.Stands.{raw_units as units_of};
+ghost use Rattle.vx_node.specs.Holds.{raw_units as units_of};
 
 use vx_model::{Units, VolumeUnits};
 

@@ -102,6 +102,13 @@ impl StartRoom {
         let pending = Overlay::new(alloc, blocks.min(65536) - 2)?;
         Ok(StartRoom { log, pending })
     }
+
+    /// The blocks of the ring for which it is.
+    pub fn ring(&self) -> u64
+        ensures { result ≡ self.now.ring }
+    {
+        self.pending.spare()
+    }
 }
 
 impl<S: Shelf> Rvg<S> {

@@ -1,0 +1,194 @@
+-- What a crash leaves of a site that was up.
+use Rattle.std.proofs.Common.{◌≡◌, ◌⊎◌, inl, inr, ⊎_elim, ℕ, zero, suc, ◌+◌, ◌-◌, ◌*◌, ◌<◌, ◌≤◌, Bool, true, false, List, [], ◌∷◌, length, take, drop, Option, Some, None, IsTrue, MatchOption, refl, sym, ◌∙◌, ap, subst, arith}
+use Rattle.std.proofs.lemmas.Bool.{cases_lt}
+use Rattle.std.proofs.lemmas.List.{length-take}
+use Rattle.std.specs.Prelude.{IsFalse, slice_get}
+use Rattle.vx_model.specs.Content.{Content, Write, put, fold_writes}
+use Rattle.vx_model.specs.World.{Node, Volume}
+use Rattle.vx_model.specs.Steps.{crashed}
+use Rattle.vx_model.specs.declared.state.State.{State}
+use Rattle.vx_model.specs.declared.units.Units.{Units}
+use Rattle.vx_srlfmt.specs.Kinds.{Kind}
+use Rattle.vx_disk.specs.Racks.{IsRack, Stopped}
+use Rattle.vx_disk.specs.Shelf.{Meaning, Image, Keeps, Lawful}
+use Rattle.vx_overlay.specs.Writes.{newest_of}
+use Rattle.vx_ringio.specs.Classes.{class_of, classes}
+use Rattle.vx_ringio.specs.Reading.{LeavesAs}
+use Rattle.vx_ringio.proofs.Following.{class_here, class_beyond, left_image}
+use Rattle.vx_ringlog.specs.Chain.{Recovers}
+use Rattle.vx_rvg.specs.Contents.{writes_of, HasSizes, KeepsContent, HasContent}
+use Rattle.vx_rvg.specs.Stands.{Found, Left}
+use Rattle.vx_rvg.specs.Views.{Core, unit_of}
+use Rattle.vx_rvg.proofs.ContentFacts.{has_content}
+use Rattle.vx_node.specs.Holds.{HasWrites, raw_units, state_of, most_stamp}
+use Rattle.vx_node.specs.Stands.{IsUpAt, IsDownAt}
+use Rattle.vx_node.proofs.Values.{length-values_from, slice_index-values_from}
+
+-- ---- a rack that crashed has one value in each block
+
+-- what an image has of a block is all that may be left there
+pub one_value : (m : Meaning) (i : Image) (u b : ℕ) → Lawful m → IsRack m → IsTrue m.down → IsTrue m.tells → m.now i → Keeps m u b (i u b)
+one_value m i u b lawful rack down tells now = record {
+  only = λ v left. latest v left ∙ sym (latest (i u b) (lawful.within i now u b));
+}
+  where
+    latest : (v : List ℕ) → m.leaves u b v → v ≡ rack.told.latest u b
+    latest v left = rack.latest tells u b v (rack.at_rest down u b v left)
+
+-- ---- one image says what is left
+
+keeps_option : (m : Meaning) (u b : ℕ) (here bytes : List ℕ) (o : Option (List ℕ)) → Keeps m u b here
+    → MatchOption o (here ≡ bytes) (λ new. new ≡ bytes) → MatchOption o (Keeps m u b bytes) (λ new. new ≡ bytes)
+keeps_option m u b here bytes (Some new) keeps is = is
+keeps_option m u b here bytes None keeps is = record { only = λ v left. keeps.only v left ∙ is }
+
+pub found_left : (units : Units) (ring : ℕ) (state : State) (session stamp last : ℕ) (c : Content) (m : Meaning) (i : Image) → IsTrue m.tells
+    → ((u b : ℕ) → Keeps m u b (i u b)) → HasSizes units.vols c m → Found units ring state session stamp i last c → Left units ring state session stamp last c m
+found_left units ring state session stamp last c m i tells one sizes found = record {
+  header = found.header;
+  records = found.records;
+  kinds = classes units.srl ring i;
+  leaves = record {
+    tells = tells;
+    each = λ b v low left. ap (class_of ring) ((one units.srl b).only v left) ∙ sym (class_here units.srl ring i b low);
+    beyond = λ b high. class_beyond units.srl ring i b high;
+  };
+  recovers = found.recovers;
+  state_is = found.state_is;
+  session_is = found.session_is;
+  stamp_most = found.stamp_most;
+  some = found.some;
+  last_is = found.last_is;
+  sizes = sizes;
+  content = record {
+    each = λ v b low. keeps_option m (unit_of units.vols v) b (i (unit_of units.vols v) b) (c.block v b) (newest_of c.size (writes_of found.records) v b)
+        (one (unit_of units.vols v) b) (found.content.each v b low);
+  };
+}
+
+-- and what is left says what each image has
+pub left_found : (units : Units) (ring : ℕ) (state : State) (session stamp last : ℕ) (c : Content) (m : Meaning) (i : Image) → Lawful m → m.now i
+    → Left units ring state session stamp last c m → Found units ring state session stamp i last c
+left_found units ring state session stamp last c m i lawful now left = record {
+  header = left.header;
+  records = left.records;
+  recovers = subst (λ (k : ℕ → Kind). Recovers ring k left.header left.records) (λ j. λ b. same b j) left.recovers;
+  state_is = left.state_is;
+  session_is = left.session_is;
+  stamp_most = left.stamp_most;
+  some = left.some;
+  last_is = left.last_is;
+  content = has_content units.vols c (writes_of left.records) m i left.content (lawful.within i now);
+}
+  where
+    same : (b : ℕ) → left.kinds b ≡ classes units.srl ring i b
+    same b = sym (left_image units.srl ring left.kinds m i left.leaves (lawful.within i now) b)
+
+-- a greater stamp is one that no header has either
+pub found_below : (units : Units) (ring : ℕ) (state : State) (session stamp most last : ℕ) (c : Content) (i : Image) → stamp ≤ most
+    → Found units ring state session stamp i last c → Found units ring state session most i last c
+found_below units ring state session stamp most last c i le found = record {
+  header = found.header;
+  records = found.records;
+  recovers = found.recovers;
+  state_is = found.state_is;
+  session_is = found.session_is;
+  stamp_most = omega (arith, found.stamp_most, le);
+  some = found.some;
+  last_is = found.last_is;
+  content = found.content;
+}
+
+-- ---- the sizes of a site's volumes
+
+pub folded_size : (c : Content) (xs : List Write) (v : ℕ) → (fold_writes c xs).size v ≡ c.size v
+folded_size c [] v = refl
+folded_size c (x ∷ xs) v = folded_size (put c x) xs v
+
+-- the volumes lie on the disks between the first and the last
+pub site_sizes : (disks blocks : ℕ) (c : Content) (m : Meaning) → 3 ≤ disks → ((u : ℕ) → u < disks → m.size u ≡ blocks)
+    → ((v : ℕ) → v < disks - 2 → c.size v ≡ blocks) → ((v : ℕ) → disks - 2 ≤ v → c.size v ≡ 0) → HasSizes (raw_units disks).vols c m
+site_sizes disks blocks c m some size here none = record {
+  each = λ v there.
+      let inside : v < disks - 2 = omega (arith, there, length-values_from (λ (k : ℕ). k) 1 (disks - 2)) in
+      here v inside ∙ sym (ap m.size (slice_index-values_from 1 (disks - 2) v inside) ∙ size (1 + v) (omega (arith, inside, some)));
+  none = λ v past. none v (omega (arith, past, length-values_from (λ (k : ℕ). k) 1 (disks - 2)));
+}
+
+-- ---- the crash of a site that is up
+
+-- how many writes a crash kept, with what it left of them where contents are told
+record Kept (n : Node) (m : Meaning) : Type 0 where
+  count : ℕ
+  least : n.safe ≤ count
+  most : count ≤ length n.log
+  left : IsTrue m.tells → Left (raw_units n.disks) n.ring (state_of n) n.session (most_stamp n) count (fold_writes n.base (drop n.safe (take count n.log))) m
+
+module _ (n : Node) (c : Core) (m new : Meaning) (up : IsUpAt n c m) (lawful : Lawful new) (rack : IsRack new) (stopped : Stopped m new) where
+  kept : (b : Bool) → new.tells ≡ b → Kept n new
+  kept true tells =
+      let i = lawful.image tells in
+      let has = up.left i.0 (stopped.now i.0 i.1) in
+      record {
+        count = has.count;
+        least = has.least;
+        most = has.most;
+        left = λ _. found_left (raw_units n.disks) n.ring (state_of n) n.session (most_stamp n) has.count (fold_writes n.base (drop n.safe (take has.count n.log))) new i.0 tells
+            (λ u b. one_value new i.0 u b lawful rack stopped.down tells i.1)
+            (site_sizes n.disks n.blocks (fold_writes n.base (drop n.safe (take has.count n.log))) new up.disks
+            (λ u there. stopped.size u ∙ up.fitted.size u there)
+            (λ v inside. folded_size n.base (drop n.safe (take has.count n.log)) v ∙ up.sizes v inside)
+            (λ v past. folded_size n.base (drop n.safe (take has.count n.log)) v ∙ up.others v past))
+            has.found;
+      }
+  kept false untold = record {
+    count = n.safe;
+    least = omega arith;
+    most = up.logged;
+    left = λ tells. absurd (never tells untold);
+  }
+    where
+      never : {b : Bool} → b ≡ true → b ≡ false → ⊥
+      never is not = cc
+
+  -- a site that was up is down with one of the numbers that a crash may keep
+  pub crash_down : (count : ℕ) × (n.safe ≤ count) × (count ≤ length n.log) × IsDownAt (crashed n count) new
+  crash_down =
+      let k = kept new.tells refl in (
+        k.count,
+        k.least,
+        k.most,
+        record {
+          state = refl;
+          units = stopped.units ∙ up.fitted.units;
+          size = λ u there. stopped.size u ∙ up.fitted.size u there;
+          down = stopped.down;
+          unarmed = stopped.unarmed;
+          disks = up.disks;
+          few = up.few;
+          some = up.some;
+          ring = up.ring_is;
+          logged = omega (arith, length-take k.count n.log, k.most);
+          low = up.low;
+          volumes = up.volumes;
+          whole = up.whole;
+          sizes = λ v inside. folded_size n.base (drop n.safe (take k.count n.log)) v ∙ up.sizes v inside;
+          others = λ v past. folded_size n.base (drop n.safe (take k.count n.log)) v ∙ up.others v past;
+          left = λ tells.
+              let l = k.left tells in
+              record {
+                header = l.header;
+                records = l.records;
+                kinds = l.kinds;
+                leaves = l.leaves;
+                recovers = l.recovers;
+                state_is = l.state_is;
+                session_is = l.session_is;
+                stamp_most = omega (arith, l.stamp_most, k.least);
+                some = l.some;
+                last_is = l.last_is;
+                sizes = l.sizes;
+                content = l.content;
+              };
+        },
+      )

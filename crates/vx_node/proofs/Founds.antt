@@ -1,0 +1,169 @@
+-- What a write leaves of a site that is up.
+use Rattle.std.proofs.Common.{◌≡◌, ◌∙◌, ◌+◌, ◌-◌, ◌<◌, ◌≤◌, ℕ, zero, suc, List, [], ◌∷◌, ◌++◌, length, take, drop, ap, sym, subst, refl, arith, IsTrue, length-append}
+use Rattle.std.specs.Prelude.{Some, None}
+use Rattle.std.proofs.lemmas.List.{take-append-le}
+use Rattle.vx_model.specs.Content.{Content, Write, put, fold_writes}
+use Rattle.vx_model.specs.World.{Node}
+use Rattle.vx_model.specs.Steps.{logged}
+use Rattle.vx_model.specs.declared.state.State.{State}
+use Rattle.vx_model.specs.declared.state.KeptLink.{KeptLink}
+use Rattle.vx_srlfmt.specs.declared.header.Header.{Header}
+use Rattle.vx_disk.specs.Shelf.{Meaning, Image, Lawful}
+use Rattle.vx_rvg.specs.Stands.{Found, FoundAs, Stands}
+use Rattle.vx_rvg.specs.Views.{Core, last_of}
+use Rattle.vx_rvg.proofs.ContentFacts.{stands_found}
+use Rattle.vx_node.specs.Engines.{halted_with}
+use Rattle.vx_node.specs.Holds.{HasWrites, raw_units, state_of, state_with, most_stamp}
+use Rattle.vx_node.specs.Rooms.{IsRoomy}
+use Rattle.vx_node.specs.Stands.{IsFitted, IsUpAt}
+use Rattle.vx_node.proofs.Staying.{told_now, found_same, writes_found, SameLog}
+
+last_pushed : (xs : List Write) (x : Write) → drop (length xs) (take (suc (length xs)) (xs ++ x ∷ [])) ≡ x ∷ []
+last_pushed [] x = refl
+last_pushed (y ∷ xs) x = last_pushed xs x
+
+-- one more write behind durable ones
+content_pushed : (n : Node) (x : Write) → length n.log ≡ n.safe → put n.base x ≡ fold_writes n.base (drop n.safe (take (n.safe + 1) (n.log ++ x ∷ [])))
+content_pushed n x many =
+    let more : suc n.safe ≡ n.safe + 1 = omega arith in
+    ap (λ (ws : List Write). fold_writes n.base ws)
+    (sym (subst (λ (k : ℕ). drop k (take (suc k) (n.log ++ x ∷ [])) ≡ x ∷ []) many (last_pushed n.log x))
+    ∙ ap (λ (k : ℕ). drop n.safe (take k (n.log ++ x ∷ []))) more)
+
+-- an image with the site's writes, where one more may stand or not
+pub has_half : (n : Node) (x : Write) (disk : ℕ) (i : Image) → HasWrites n i → HasWrites (halted_with n x disk) i
+has_half n x disk i has = record {
+  count = has.count;
+  least = has.least;
+  most = omega (arith, has.most, length-append n.log (x ∷ []));
+  found = subst (λ (ws : List Write). Found (raw_units n.disks) n.ring (state_of n) n.session (most_stamp n) i has.count (fold_writes n.base (drop n.safe ws)))
+      (sym (take-append-le has.count n.log (x ∷ []) has.most)) has.found;
+}
+
+-- what the header of a log keeps, where contents are told
+pub roomy_kept : (n : Node) (c : Core) (m : Meaning) → IsRoomy n c m → IsTrue m.tells → c.log.header.state ≡ state_of n
+roomy_kept n c m roomy told = roomy.kept ∙ ap (λ (ls : List KeptLink). state_with n ls) (roomy.unlinked told)
+
+-- an image in a write that has it
+pub has_whole : (n : Node) (c : Core) (m : Meaning) (x : Write) (disk : ℕ) (i : Image) → IsRoomy n c m → IsTrue m.tells → length n.log ≡ n.safe → FoundAs c i (last_of c + 1) (put n.base x) → HasWrites (halted_with n x disk) i
+has_whole n c m x disk i roomy told many found = record {
+  count = n.safe + 1;
+  least = omega arith;
+  most = omega (arith, many, length-append n.log (x ∷ []));
+  found = found_same c.units (raw_units n.disks) c.log.ring n.ring c.log.header.state (state_of n) c.log.header.incarnation n.session c.log.header.stamp (most_stamp n)
+      (last_of c + 1) (n.safe + 1) (put n.base x) (fold_writes n.base (drop n.safe (take (n.safe + 1) (n.log ++ x ∷ [])))) i
+      roomy.units roomy.ring (roomy_kept n c m roomy told) roomy.session (roomy.stamp told) (ap (λ (k : ℕ). k + 1) roomy.head) (content_pushed n x many) found;
+}
+
+-- or that does not
+pub has_safe : (n : Node) (c : Core) (m : Meaning) (i : Image) → IsRoomy n c m → IsTrue m.tells → n.safe ≤ length n.log → FoundAs c i (last_of c) n.base → HasWrites n i
+has_safe n c m i roomy told logged found =
+    writes_found n c i roomy.units roomy.ring (roomy_kept n c m roomy told) roomy.session (roomy.stamp told) roomy.head logged found
+
+never_none : {k : ℕ} → Some k ≡ None → ⊥
+never_none e = cc
+
+-- a site that a disk halted in a write
+module _ (n : Node) (x : Write) (disk : ℕ) where
+  -- before anything of the write was logged
+  pub half_of : (c : Core) (m : Meaning) → IsUpAt (record n { halted = Some disk }) c m → IsUpAt (halted_with n x disk) c m
+  half_of c m up = record {
+    state = up.state;
+    fitted = up.fitted;
+    disks = up.disks;
+    units = up.units;
+    ring = up.ring;
+    ring_is = up.ring_is;
+    some = up.some;
+    low = up.low;
+    links = up.links;
+    kept = up.kept;
+    unlinked = up.unlinked;
+    session = up.session;
+    stamp = λ told none. absurd (never_none none);
+    first = up.first;
+    head = up.head;
+    halted = up.halted;
+    logged = omega (arith, up.logged, length-append n.log (x ∷ []));
+    durable = λ none. absurd (never_none none);
+    few = up.few;
+    volumes = up.volumes;
+    whole = up.whole;
+    sizes = up.sizes;
+    others = up.others;
+    content = λ none. absurd (never_none none);
+    left = λ i now. has_half n x disk i (let has = up.left i now in record { count = has.count; least = has.least; most = has.most; found = has.found });
+  }
+
+  -- while it was logged
+  pub up_half : (c0 c c' : Core) (m0 m new : Meaning) → IsUpAt n c0 m0 → IsRoomy n c m → new.tells ≡ m.tells → IsFitted n.disks n.blocks new → SameLog c c' → c'.halted ≡ Some disk
+      → ((i : Image) → new.now i → HasWrites (halted_with n x disk) i) → IsUpAt (halted_with n x disk) c' new
+  up_half c0 c c' m0 m new up roomy tells fitted same halted left = record {
+    state = up.state;
+    fitted = fitted;
+    disks = up.disks;
+    units = same.units ∙ roomy.units;
+    ring = same.ring ∙ roomy.ring;
+    ring_is = up.ring_is;
+    some = up.some;
+    low = up.low;
+    links = roomy.links;
+    kept = ap (λ (h : Header). h.state) same.header ∙ roomy.kept;
+    unlinked = λ told. roomy.unlinked (sym tells ∙ told);
+    session = ap (λ (h : Header). h.incarnation) same.header ∙ roomy.session;
+    stamp = λ told none. absurd (never_none none);
+    first = omega (arith, roomy.first, ap (λ (h : Header). h.low) same.header);
+    head = omega (arith, roomy.head, ap (λ (h : Header). h.low) same.header, ap (λ ks. length ks) same.held);
+    halted = halted;
+    logged = omega (arith, up.logged, length-append n.log (x ∷ []));
+    durable = λ none. absurd (never_none none);
+    few = up.few;
+    volumes = up.volumes;
+    whole = up.whole;
+    sizes = up.sizes;
+    others = up.others;
+    content = λ none. absurd (never_none none);
+    left = left;
+  }
+
+-- a site with one more write
+pub up_logged : (n : Node) (x : Write) (c0 c c' : Core) (m0 m new : Meaning) → IsUpAt n c0 m0 → n.halted ≡ None → IsRoomy n c m → Lawful new → c'.log.unit ≡ c'.units.srl → new.tells ≡ m.tells
+    → IsFitted n.disks n.blocks new → c'.units ≡ c.units → c'.log.ring ≡ c.log.ring → c'.log.header ≡ c.log.header → c'.halted ≡ c.halted → last_of c' ≡ last_of c + 1
+    → (IsTrue new.tells → Stands c' (put n.base x) new) → IsUpAt (logged n x) c' new
+up_logged n x c0 c c' m0 m new up none roomy lawful unit_is tells fitted units ring header halted head content = record {
+  state = up.state;
+  fitted = fitted;
+  disks = up.disks;
+  units = units ∙ roomy.units;
+  ring = ring ∙ roomy.ring;
+  ring_is = up.ring_is;
+  some = up.some;
+  low = up.low;
+  links = roomy.links;
+  kept = ap (λ (h : Header). h.state) header ∙ roomy.kept;
+  unlinked = λ told. roomy.unlinked (sym tells ∙ told);
+  session = ap (λ (h : Header). h.incarnation) header ∙ roomy.session;
+  stamp = λ told _. stamped told;
+  first = omega (arith, roomy.first, ap (λ (h : Header). h.low) header);
+  head = head_is;
+  halted = halted ∙ roomy.running ∙ sym none;
+  logged = omega (arith, up.logged, length-append n.log (x ∷ []));
+  durable = λ _. omega (arith, up.durable none, length-append n.log (x ∷ []));
+  few = up.few;
+  volumes = up.volumes;
+  whole = up.whole;
+  sizes = up.sizes;
+  others = up.others;
+  content = λ _ told. content told;
+  left = λ i now.
+      let told = told_now new i lawful now in
+      writes_found (logged n x) c' i (units ∙ roomy.units) (ring ∙ roomy.ring) (ap (λ (h : Header). h.state) header ∙ roomy_kept n c m roomy (sym tells ∙ told))
+      (ap (λ (h : Header). h.incarnation) header ∙ roomy.session) (omega (arith, stamped told)) head_is (omega (arith, up.logged, length-append n.log (x ∷ [])))
+      (stands_found c' (put n.base x) new i unit_is lawful (content told) now);
+}
+  where
+    stamped : IsTrue new.tells → c'.log.header.stamp + 1 ≤ most_stamp (logged n x)
+    stamped told = let t = roomy.stamp (sym tells ∙ told) in omega (arith, t, ap (λ (h : Header). h.stamp) header)
+
+    head_is : last_of c' ≡ n.safe + 1
+    head_is = omega (arith, head, roomy.head)

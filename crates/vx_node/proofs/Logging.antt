@@ -1,0 +1,168 @@
+-- What a write of a site whose log has room answers.
+use Rattle.std.proofs.Common.{◌≡◌, ◌∙◌, ◌⊎◌, inl, inr, ⊎_elim, ◌+◌, ◌-◌, ◌<◌, ◌≤◌, ℕ, Bool, true, false, List, [], ◌∷◌, ◌++◌, length, ap, sym, subst, refl, arith, IsTrue, length-append}
+use Rattle.std.specs.Prelude.{IsFalse, Option, Some, None, Result, Ok, Err, OnOk, IsSome, leb, ltb, ◌&&◌, ◌||◌, if◌then◌else◌}
+use Rattle.std.proofs.lemmas.Bool.Decides.{nat_tests}
+use Rattle.vx_model.specs.Answer.{is_too_large}
+use Rattle.vx_model.specs.Content.{Content, Write, blocks_in, put}
+use Rattle.vx_model.specs.Steps.{logged}
+use Rattle.vx_model.specs.World.{Node}
+use Rattle.vx_model.specs.declared.no.No.{No}
+use Rattle.vx_model.specs.declared.no.No.TheVariants.{Device, Limit, Down, Size, Range}
+use Rattle.vx_model.specs.declared.units.Units.{Units}
+use Rattle.vx_srl.specs.Views.{most_number, kept_of}
+use Rattle.vx_srl.specs.declared.kept.Kept.{Kept}
+use Rattle.vx_disk.specs.Counts.{Rose}
+use Rattle.vx_disk.specs.Shelf.{Meaning, Image, Lawful}
+use Rattle.vx_disk.specs.Moves.{Moves, Run}
+use Rattle.vx_rvg.specs.Groups.{Fails, Ended, unless_halted, write_refusal, WriteIs, Writes, with_write}
+use Rattle.vx_rvg.specs.Stands.{FoundAs, Writing, Stands}
+use Rattle.vx_rvg.specs.Views.{Core, IsSound, last_of, unit_of}
+use Rattle.vx_rvg.proofs.ContentFacts.{stands_found}
+use Rattle.vx_node.specs.Engines.{CanWrite, halted_with, no_number}
+use Rattle.vx_node.specs.Holds.{HasWrites, raw_units, most_stamp}
+use Rattle.vx_node.specs.Rooms.{IsRoomy, RoomIs}
+use Rattle.vx_node.specs.Stands.{IsFitted, IsUpAt}
+use Rattle.vx_node.proofs.Applying.{ended_log}
+use Rattle.vx_node.proofs.Founds.{has_half, has_whole, has_safe, half_of, up_half, up_logged}
+use Rattle.vx_node.proofs.Staying.{told_now, never_both, left_moved, fitted_moved, SameLog}
+use Rattle.vx_node.proofs.Values.{slice_index-values_from}
+
+-- what a write answers of a site
+abbrev pub WroteAs : Node → Write → Meaning → Core → Meaning → Result ℕ No → Type 0
+WroteAs n x m c' new (Ok number) = (number ≡ n.safe + 1) × (n.safe < most_number) × IsUpAt (logged n x) c' new
+WroteAs n x m c' new (Err (Device disk)) = IsUpAt (halted_with n x disk) c' new × Rose (m.disk_faults disk) (new.disk_faults disk)
+WroteAs n x m c' new (Err (Limit what most)) = (Limit what most ≡ no_number) × (IsTrue new.tells → most_number ≤ most_stamp n) × IsUpAt n c' new
+WroteAs n x m c' new (Err other) = ⊥
+
+-- the tests of a write of which only the number is not known to pass
+abbrev tests : ℕ → ℕ → ℕ → ℕ → ℕ → Option No
+tests ring size start count last =
+    if is_too_large ring count then Some Size else if ltb size (start + count) then Some Range else if leb most_number last then Some no_number else None
+
+abbrev number_test : ℕ → Option No
+number_test last = if leb most_number last then Some no_number else None
+
+tests_by : (a b : Bool) (rest : Option No) → a ≡ false → b ≡ false → (if a then Some Size else if b then Some Range else rest) ≡ rest
+tests_by false false rest ea eb = refl
+tests_by true b rest ea eb = absurd (cc)
+tests_by false true rest ea eb = absurd (cc)
+
+tests_pass : (ring size start count last : ℕ) → count + 1 ≤ ring → start + count ≤ size → tests ring size start count last ≡ number_test last
+tests_pass ring size start count last fits within = tests_by (ltb ring (count + 1)) (ltb size (start + count)) (number_test last) (grind (arith, nat_tests)) (grind (arith, nat_tests))
+
+data Number (last : ℕ) (o : Option No) : Type 0 where
+  NoneLeft : most_number ≤ last → o ≡ Some no_number → Number last o
+  SomeLeft : last < most_number → o ≡ None → Number last o
+
+number_by : (last : ℕ) (b : Bool) → leb most_number last ≡ b → Number last (if b then Some no_number else None)
+number_by last true is = NoneLeft (grind (arith, nat_tests)) refl
+number_by last false is = SomeLeft (grind (arith, nat_tests)) refl
+
+-- the number of the last record, with one more
+pushed : (low : ℕ) (held staged : List Kept) (k : Kept) → 0 < low → length staged ≡ 0 → low + length (held ++ (staged ++ k ∷ [])) - 1 ≡ low + length held - 1 + 1
+pushed low held staged k first idle = omega (arith, first, idle, length-append held (staged ++ k ∷ []), length-append staged (k ∷ []))
+
+module _ (n : Node) (volume start : ℕ) (bytes : List ℕ) (c0 c c' : Core) (m0 m new : Meaning) (up : IsUpAt n c0 m0) (can : CanWrite n volume start (blocks_in bytes)) (roomy : IsRoomy n c m)
+    (lawful : Lawful m) (after : Lawful new) (sound : IsSound c m) (sound' : IsSound c' new)
+    (moves : Moves (Run c.units.srl 0 (c.log.ring + 2)) (Writing c (record { volume = volume; start = start; bytes = bytes }) m) m new) where
+  abbrev x : Write
+  x = record { volume = volume; start = start; bytes = bytes }
+
+  many : length n.log ≡ n.safe
+  many = omega (arith, up.logged, up.durable can.running)
+
+  -- the unit of the volume has the blocks of a disk
+  size : m.size (unit_of c.units.vols volume) ≡ n.blocks
+  size = ap m.size (ap (λ (u : Units). unit_of u.vols volume) roomy.units ∙ slice_index-values_from 1 (n.disks - 2) volume can.volume_exists)
+      ∙ roomy.fitted.size (1 + volume) (omega (arith, can.volume_exists))
+
+  -- it is up, and its log has used no stamp
+  up_roomy : (IsTrue m.tells → c.log.header.stamp + 1 ≤ most_stamp n) → IsUpAt n c m
+  up_roomy stamp = record {
+    state = up.state;
+    fitted = roomy.fitted;
+    disks = up.disks;
+    units = roomy.units;
+    ring = roomy.ring;
+    ring_is = up.ring_is;
+    some = up.some;
+    low = up.low;
+    links = roomy.links;
+    kept = roomy.kept;
+    unlinked = roomy.unlinked;
+    session = roomy.session;
+    stamp = λ told _. stamp told;
+    first = roomy.first;
+    head = roomy.head;
+    halted = roomy.running ∙ sym can.running;
+    logged = up.logged;
+    durable = up.durable;
+    few = up.few;
+    volumes = up.volumes;
+    whole = up.whole;
+    sizes = up.sizes;
+    others = up.others;
+    content = λ _ told. roomy.content told;
+    left = λ i now. let told = told_now m i lawful now in has_safe n c m i roomy told up.logged (stands_found c n.base m i sound.log_unit lawful (roomy.content told) now);
+  }
+
+  fitted_new : IsFitted n.disks n.blocks new
+  fitted_new = fitted_moved n.disks n.blocks (Run c.units.srl 0 (c.log.ring + 2)) (Writing c x m) m new moves roomy.fitted
+
+  -- what a crash leaves of a write that a disk ended
+  half_left : (disk : ℕ) (i : Image) → new.now i → HasWrites (halted_with n x disk) i
+  half_left disk i now =
+      let told : IsTrue m.tells = sym moves.tells ∙ told_now new i after now in
+      ⊎_elim
+      (λ was. has_half n x disk i (has_safe n c m i roomy told up.logged (stands_found c n.base m i sound.log_unit lawful (roomy.content told) was)))
+      (λ writing. ⊎_elim
+      (λ old. has_half n x disk i (has_safe n c m i roomy told up.logged old))
+      (λ whole. has_whole n c m x disk i roomy told many whole)
+      (writing.each n.base (roomy.content told)))
+      (left_moved (Run c.units.srl 0 (c.log.ring + 2)) (Writing c x m) m new i lawful after moves now)
+
+  still_up : IsTrue new.down → ⊥
+  still_up down = never_both new.down down fitted_new.up
+
+  head_more : c' ≡ with_write c volume start bytes → last_of c' ≡ last_of c + 1
+  head_more is =
+      ap (λ (k : Core). last_of k) is
+      ∙ pushed c.log.header.low c.log.held c.log.staged (kept_of c.log volume start bytes) roomy.first (ap (λ (ks : List Kept). length ks) (sound.idle roomy.running roomy.fitted.up))
+
+  by_writes : (result : Result ℕ No) → last_of c < most_number → Writes c volume start bytes m new c' result → OnOk result ((k : Content) → Stands c k m → Stands c' (put k x) new) → WroteAs n x m c' new result
+  by_writes (Ok number) below is stands =
+      (is.0 ∙ ap (λ (k : ℕ). k + 1) roomy.head, omega (arith, below, roomy.head),
+      up_logged n x c0 c c' m0 m new up can.running roomy after sound'.log_unit moves.tells fitted_new (ap (λ (k : Core). k.units) is.1) (ap (λ (k : Core). k.log.ring) is.1)
+      (ap (λ (k : Core). k.log.header) is.1) (ap (λ (k : Core). k.halted) is.1) (head_more is.1) (λ told. stands n.base (roomy.content (sym moves.tells ∙ told))))
+  by_writes (Err (Device disk)) below is stands = (up_half n x disk c0 c c' m0 m new up roomy moves.tells fitted_new (ended_log c (Some disk) c' is.0) is.0.halted_is (half_left disk), is.1)
+  by_writes (Err Down) below is stands = still_up is.1
+  by_writes (Err (Limit what most)) below is stands = absurd is
+  by_writes (Err other) below is stands = is
+
+  by_number : (o : Option No) (result : Result ℕ No) → Number (last_of c) o → WriteIs o c volume start bytes m new c' result → (IsSome o → new ≡ m)
+      → OnOk result ((k : Content) → Stands c k m → Stands c' (put k x) new) → WroteAs n x m c' new result
+  by_number o result (SomeLeft below is_none) is unchanged stands = by_writes result below (subst (λ (k : Option No). WriteIs k c volume start bytes m new c' result) is_none is) stands
+  by_number o result (NoneLeft past is_some) is unchanged stands =
+      let refused = subst (λ (k : Option No). WriteIs k c volume start bytes m new c' result) is_some is in
+      let stays : new ≡ m = unchanged (subst (λ (k : Option No). IsSome k) (sym is_some) refl) in
+      subst (λ (r : Result ℕ No). WroteAs n x m c' new r) (sym refused.0)
+      (refl, (λ told. omega (arith, past, roomy.head)),
+      subst (λ (k : Core). IsUpAt n k new) (sym refused.1) (subst (λ (k : Meaning). IsUpAt n c k) (sym stays) (up_roomy (λ told. roomy.unused told (omega (arith, past, roomy.head))))))
+
+  -- what a write answers
+  pub written_as : (result : Result ℕ No) → WriteIs (write_refusal c (m.size (unit_of c.units.vols volume)) start (blocks_in bytes)) c volume start bytes m new c' result
+      → (IsSome (write_refusal c (m.size (unit_of c.units.vols volume)) start (blocks_in bytes)) → new ≡ m)
+      → OnOk result ((k : Content) → Stands c k m → Stands c' (put k x) new) → WroteAs n x m c' new result
+  written_as result is unchanged stands =
+      let refusal : write_refusal c (m.size (unit_of c.units.vols volume)) start (blocks_in bytes) ≡ number_test (last_of c)
+      = ap (λ (h : Option ℕ). unless_halted h (tests c.log.ring (m.size (unit_of c.units.vols volume)) start (blocks_in bytes) (last_of c))) roomy.running
+      ∙ tests_pass c.log.ring (m.size (unit_of c.units.vols volume)) start (blocks_in bytes) (last_of c) (omega (arith, can.fits, roomy.ring)) (omega (arith, can.within, size)) in
+      by_number (number_test (last_of c)) result (number_by (last_of c) (leb most_number (last_of c)) refl)
+      (subst (λ (o : Option No). WriteIs o c volume start bytes m new c' result) refusal is)
+      (subst (λ (o : Option No). IsSome o → new ≡ m) refusal unchanged) stands
+
+-- room that was not made refuses the write
+pub unroomed : (n : Node) (x : Write) (c' : Core) (m new : Meaning) (no : No) → RoomIs n m c' new (Err no) → WroteAs n x m c' new (Err no)
+unroomed n x c' m new (Device disk) is = (half_of n x disk c' new is.0, is.1)
+unroomed n x c' m new (Limit what most) is = is
+unroomed n x c' m new other is = is

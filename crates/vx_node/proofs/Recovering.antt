@@ -1,0 +1,293 @@
+-- What the start of a site that crashed leaves of it.
+use Rattle.std.proofs.Common.{◌≡◌, ◌⊎◌, inl, inr, ⊎_elim, ℕ, ◌+◌, ◌-◌, ◌*◌, ◌<◌, ◌≤◌, Bool, true, false, List, [], length, replicate, take, drop, Option, None, IsTrue, refl, sym, ◌∙◌, ap, subst, arith}
+use Rattle.std.proofs.lemmas.List.{length-replicate}
+use Rattle.std.specs.Prelude.{IsFalse}
+use Rattle.vx_model.specs.Content.{Content, Write}
+use Rattle.vx_model.specs.World.{Node}
+use Rattle.vx_model.specs.Steps.{recovered, ring_of}
+use Rattle.vx_model.specs.declared.no.Counted.{Counted}
+use Rattle.vx_model.specs.declared.no.No.{No}
+use Rattle.vx_model.specs.declared.no.No.TheVariants.{Device, Limit, NoConfig, Damaged, Down}
+use Rattle.vx_model.specs.declared.site.SiteState.TheVariants.{Up as IsUp}
+use Rattle.vx_model.specs.declared.state.State.{State}
+use Rattle.vx_model.specs.declared.state.KeptLink.{KeptLink}
+use Rattle.vx_model.specs.declared.units.Units.{Units}
+use Rattle.vx_disk.specs.Counts.{Rose}
+use Rattle.vx_disk.specs.Moves.{Moves, Run}
+use Rattle.vx_disk.specs.Racks.{IsRack, Alike, Stopped}
+use Rattle.vx_disk.specs.Shelf.{Meaning, Image, Keeps, Lawful, Goes, Nothing}
+use Rattle.vx_overlay.specs.Writes.{newest_of}
+use Rattle.std.specs.Prelude.{MatchOption, Some}
+use Rattle.vx_rvg.specs.Contents.{writes_of}
+use Rattle.vx_rvg.specs.Stands.{Found, Left, Stands}
+use Rattle.vx_rvg.specs.Starts.{IsStarted, Starting, StartCause, NothingLeft, ring_in}
+use Rattle.vx_rvg.specs.Views.{Core, last_of, unit_of}
+use Rattle.vx_rvg.proofs.ContentFacts.{stands_found}
+use Rattle.vx_srl.specs.Views.{most_number}
+use Rattle.vx_node.specs.Engines.{SameDisks, no_number}
+use Rattle.vx_node.specs.Holds.{HasWrites, raw_units, state_of, state_with, most_stamp}
+use Rattle.vx_node.specs.Stands.{IsUpAt, IsDownAt}
+use Rattle.vx_node.proofs.Crashing.{one_value, found_left, left_found, found_below, site_sizes}
+use Rattle.vx_node.proofs.Staying.{not_true, never_both, told_now, left_moved, writes_found}
+
+-- ---- calls that change no contents
+
+keeps_less : (m new : Meaning) (u b : ℕ) (bytes : List ℕ) (o : Option (List ℕ)) → ((v : List ℕ) → new.leaves u b v → m.leaves u b v)
+    → MatchOption o (Keeps m u b bytes) (λ x. x ≡ bytes) → MatchOption o (Keeps new u b bytes) (λ x. x ≡ bytes)
+keeps_less m new u b bytes (Some x) less is = is
+keeps_less m new u b bytes None less keeps = record { only = λ v left. keeps.only v (less v left) }
+
+pub left_still : (units : Units) (ring : ℕ) (state : State) (session stamp last : ℕ) (c : Content) (m new : Meaning) → new.tells ≡ m.tells → ((u : ℕ) → new.size u ≡ m.size u)
+    → ((u b : ℕ) (v : List ℕ) → new.leaves u b v → m.leaves u b v) → Left units ring state session stamp last c m → Left units ring state session stamp last c new
+left_still units ring state session stamp last c m new tells size less left = record {
+  header = left.header;
+  records = left.records;
+  kinds = left.kinds;
+  leaves = record {
+    tells = tells ∙ left.leaves.tells;
+    each = λ b v low is. left.leaves.each b v low (less units.srl b v is);
+    beyond = left.leaves.beyond;
+  };
+  recovers = left.recovers;
+  state_is = left.state_is;
+  session_is = left.session_is;
+  stamp_most = left.stamp_most;
+  some = left.some;
+  last_is = left.last_is;
+  sizes = record { each = λ v there. left.sizes.each v there ∙ sym (size (unit_of units.vols v)); none = left.sizes.none };
+  content = record {
+    each = λ v b low. keeps_less m new (unit_of units.vols v) b (c.block v b) (newest_of c.size (writes_of left.records) v b) (less (unit_of units.vols v) b) (left.content.each v b low);
+  };
+}
+
+-- a site that is down stays so
+pub down_still : (n : Node) (m new : Meaning) → Goes Nothing m new → new.down ≡ m.down → new.armed ≡ m.armed → IsDownAt n m → IsDownAt n new
+down_still n m new goes down armed is = record {
+  state = is.state;
+  units = goes.units ∙ is.units;
+  size = λ u there. goes.size u ∙ is.size u there;
+  down = down ∙ is.down;
+  unarmed = armed ∙ is.unarmed;
+  disks = is.disks;
+  few = is.few;
+  some = is.some;
+  ring = is.ring;
+  logged = is.logged;
+  low = is.low;
+  volumes = is.volumes;
+  whole = is.whole;
+  sizes = is.sizes;
+  others = is.others;
+  left = λ tells. left_still (raw_units n.disks) n.ring (state_of n) n.session (most_stamp n) n.safe n.base m new goes.tells goes.size
+      (λ u b v left. ⊎_elim (λ was. was) (λ none. absurd none) (goes.leaves u b v left)) (is.left (sym goes.tells ∙ tells));
+}
+
+-- ---- a site with what stands on its disks
+
+abbrev pub found_site : Node → State → ℕ → ℕ → List Write → Node
+found_site n state session last log = record n {
+  state = IsUp;
+  role = state.role;
+  line = state.line;
+  parent = state.parent;
+  fork = state.fork;
+  top = state.top;
+  session = session;
+  mark = state.mark;
+  phase = state.phase;
+  replay = state.replay;
+  end = state.end;
+  other = state.other;
+  log = log;
+  safe = last;
+  halted = None;
+}
+
+-- a site that came up, as a start has it
+pub record Came (n : Node) (core : Core) (m : Meaning) : Type 0 where
+  pub node : Node
+  pub is : IsTrue m.tells → node ≡ recovered n
+  pub same : SameDisks n node
+  pub stands : IsUpAt node core m
+
+never_untold : {b : Bool} → b ≡ true → b ≡ false → ⊥
+never_untold is not = cc
+
+-- a site that is down, revived and started
+module _ (n : Node) (m up : Meaning) (is : IsDownAt n m) (alike : Alike m up) (risen : IsFalse up.down) (armed : up.armed ≡ m.armed) where
+  abbrev units : Units
+  units = raw_units n.disks
+
+  ring_here : ring_in units up ≡ n.ring
+  ring_here = ap ring_of (alike.contents.size 0 ∙ is.size 0 (omega (arith, is.disks))) ∙ sym is.ring
+
+  left_up : IsTrue up.tells → Left units (ring_in units up) (state_of n) n.session (most_stamp n) n.safe n.base up
+  left_up tells =
+      subst (λ (r : ℕ). Left units r (state_of n) n.session (most_stamp n) n.safe n.base up) (sym ring_here)
+      (left_still units n.ring (state_of n) n.session (most_stamp n) n.safe n.base m up alike.contents.tells alike.contents.size alike.contents.leaves (is.left (sym alike.contents.tells ∙ tells)))
+
+  module _ (new : Meaning) (lawful : Lawful up) (after : Lawful new)
+      (moves : Moves (Run units.srl 0 (ring_in units up + 2)) (Starting units up) up new) where
+    unarmed : IsFalse up.armed
+    unarmed = armed ∙ is.unarmed
+
+    still_up : IsTrue new.down → ⊥
+    still_up down = never_both up.down (moves.safe unarmed down) risen
+
+    -- with the log that a start took up
+    started_up : (core : Core) (state : State) (session last : ℕ) (log : List Write) → IsStarted units up core new → core.log.header.state ≡ state → (IsTrue new.tells → state.links ≡ [])
+        → core.log.header.incarnation ≡ session → (IsTrue new.tells → core.log.header.stamp + 1 ≤ most_stamp (found_site n state session last log)) → last_of core ≡ last → length log ≡ last
+        → (IsTrue new.tells → Stands core n.base new) → ((i : Image) → new.now i → HasWrites (found_site n state session last log) i)
+        → IsUpAt (found_site n state session last log) core new
+    started_up core state session last log started kept unlinked incarnation stamp head logged content left = record {
+      state = refl;
+      fitted = record {
+        units = moves.units ∙ alike.contents.units ∙ is.units;
+        size = λ u there. moves.size u ∙ alike.contents.size u ∙ is.size u there;
+        up = not_true new.down still_up;
+        unarmed = moves.unarmed unarmed;
+      };
+      disks = is.disks;
+      units = started.units_are;
+      ring = started.ring_is ∙ ring_here;
+      ring_is = is.ring;
+      some = is.some;
+      low = is.low;
+      links = state.links;
+      kept = kept;
+      unlinked = unlinked;
+      session = incarnation;
+      stamp = λ tells _. stamp tells;
+      first = omega (arith, started.applied);
+      head = head;
+      halted = started.running;
+      logged = omega (arith, logged);
+      durable = λ _. omega (arith, logged);
+      few = is.few;
+      volumes = is.volumes;
+      whole = is.whole;
+      sizes = is.sizes;
+      others = is.others;
+      content = λ _ tells. content tells;
+      left = left;
+    }
+
+    same_disks : (state : State) (session last : ℕ) (log : List Write) → SameDisks n (found_site n state session last log)
+    same_disks state session last log = record { name = refl; disks = refl; blocks = refl; volumes = refl; up = refl; running = refl }
+
+    came_by : (b : Bool) → new.tells ≡ b → (core : Core) → core.log.unit ≡ core.units.srl → IsStarted units up core new → Came n core new
+    came_by true tells core unit_is started =
+        let told : IsTrue up.tells = sym moves.tells ∙ tells in
+        let has = started.each (state_of n) n.session (most_stamp n) n.safe n.base (left_up told) in
+        record {
+          node = recovered n;
+          is = λ _. refl;
+          same = same_disks (state_of n) (n.session + 1) n.safe n.log;
+          stands = started_up core (state_of n) (n.session + 1) n.safe n.log started has.0 (λ _. refl) has.1 (λ _. omega (arith, has.2)) has.3 is.logged (λ _. has.4)
+              (λ i now. writes_found (recovered n) core i started.units_are (started.ring_is ∙ ring_here) has.0 has.1 (omega (arith, has.2)) has.3 (omega (arith, is.logged))
+              (stands_found core n.base new i unit_is after has.4 now));
+        }
+    came_by false untold core unit_is started = record {
+      node = found_site n core.log.header.state core.log.header.incarnation (last_of core) (replicate (last_of core) nothing);
+      is = λ tells. absurd (never_untold tells untold);
+      same = same_disks core.log.header.state core.log.header.incarnation (last_of core) (replicate (last_of core) nothing);
+      stands = started_up core core.log.header.state core.log.header.incarnation (last_of core) (replicate (last_of core) nothing) started refl (λ tells. absurd (never_untold tells untold)) refl
+          (λ tells. absurd (never_untold tells untold)) refl (length-replicate {A = Write} (last_of core) nothing) (λ tells. absurd (never_untold tells untold))
+          (λ i now. absurd (never_untold (told_now new i after now) untold));
+    }
+      where
+        nothing : Write
+        nothing = record { volume = 0; start = 0; bytes = [] }
+
+    -- a start that was answered
+    pub came : (core : Core) → core.log.unit ≡ core.units.srl → IsStarted units up core new → Came n core new
+    came core unit_is started = came_by new.tells refl core unit_is started
+
+-- ---- a start that was refused, and the crash behind it
+
+-- why a site stays down
+abbrev pub RefusedAs : Node → Meaning → Meaning → No → Type 0
+RefusedAs n m last (Device disk) = (IsDownAt n last ⊎ IsDownAt (record n { session = n.session + 1 }) last) × Rose (m.disk_faults disk) (last.disk_faults disk)
+RefusedAs n m last (Limit what most) =
+    (Limit what most ≡ no_number) × (IsTrue last.tells → most_number ≤ most_stamp n + 2) × (IsDownAt n last ⊎ IsDownAt (record n { session = n.session + 1 }) last)
+RefusedAs n m last other = (IsTrue last.tells → ⊥) × IsDownAt n last
+
+limit_same : {a b : Counted} {x y : ℕ} → a ≡ b → x ≡ y → Limit a x ≡ Limit b y
+limit_same e f = λ i. Limit (e i) (f i)
+
+module _ (n : Node) (m up new last : Meaning) (is : IsDownAt n m) (alike : Alike m up) (risen : IsFalse up.down) (armed : up.armed ≡ m.armed) (lawful : Lawful up) (after : Lawful new)
+    (moves : Moves (Run (raw_units n.disks).srl 0 (ring_in (raw_units n.disks) up + 2)) (Starting (raw_units n.disks) up) up new)
+    (stopped : Stopped new last) (law : Lawful last) (rack : IsRack last) where
+  told_up : IsTrue last.tells → IsTrue up.tells
+  told_up tells = sym moves.tells ∙ sym stopped.tells ∙ tells
+
+  left_here : IsTrue last.tells → Left (raw_units n.disks) (ring_in (raw_units n.disks) up) (state_of n) n.session (most_stamp n) n.safe n.base up
+  left_here tells = left_up n m up is alike risen armed (told_up tells)
+
+  -- down in a session, with what is left there where contents are told
+  down_with : (session : ℕ) → (IsTrue last.tells → Left (raw_units n.disks) n.ring (state_of n) session (most_stamp (record n { session = session })) n.safe n.base last)
+      → IsDownAt (record n { session = session }) last
+  down_with session left = record {
+    state = is.state;
+    units = stopped.units ∙ moves.units ∙ alike.contents.units ∙ is.units;
+    size = λ u there. stopped.size u ∙ moves.size u ∙ alike.contents.size u ∙ is.size u there;
+    down = stopped.down;
+    unarmed = stopped.unarmed;
+    disks = is.disks;
+    few = is.few;
+    some = is.some;
+    ring = is.ring;
+    logged = is.logged;
+    low = is.low;
+    volumes = is.volumes;
+    whole = is.whole;
+    sizes = is.sizes;
+    others = is.others;
+    left = left;
+  }
+
+  still_down : (b : Bool) → last.tells ≡ b → IsDownAt n last ⊎ IsDownAt (record n { session = n.session + 1 }) last
+  still_down true tells =
+      let i = law.image tells in
+      ⊎_elim
+      (λ was. inl (down_with n.session (λ _. at n.session (most_stamp n) i.0 i.1
+      (left_found (raw_units n.disks) (ring_in (raw_units n.disks) up) (state_of n) n.session (most_stamp n) n.safe n.base up i.0 lawful was (left_here tells)))))
+      (λ starting. ⊎_elim
+      (λ old. inl (down_with n.session (λ _. at n.session (most_stamp n) i.0 i.1 old)))
+      (λ next. inr (down_with (n.session + 1) (λ _. at (n.session + 1) (most_stamp (record n { session = n.session + 1 })) i.0 i.1
+      (found_below (raw_units n.disks) (ring_in (raw_units n.disks) up) (state_of n) (n.session + 1) (most_stamp n + 3) (most_stamp (record n { session = n.session + 1 })) n.safe n.base i.0 (omega arith) next))))
+      (starting.each (state_of n) n.session (most_stamp n) n.safe n.base (left_here tells)))
+      (left_moved (Run (raw_units n.disks).srl 0 (ring_in (raw_units n.disks) up + 2)) (Starting (raw_units n.disks) up) up new i.0 lawful after moves (stopped.now i.0 i.1))
+    where
+      at : (session stamp : ℕ) (i : Image) → last.now i → Found (raw_units n.disks) (ring_in (raw_units n.disks) up) (state_of n) session stamp i n.safe n.base
+          → Left (raw_units n.disks) n.ring (state_of n) session stamp n.safe n.base last
+      at session stamp i now found =
+          subst (λ (r : ℕ). Left (raw_units n.disks) r (state_of n) session stamp n.safe n.base last) (ring_here n m up is alike risen armed)
+          (found_left (raw_units n.disks) (ring_in (raw_units n.disks) up) (state_of n) session stamp n.safe n.base last i tells
+          (λ u b. one_value last i u b law rack stopped.down tells now)
+          (site_sizes n.disks n.blocks n.base last is.disks (λ u there. stopped.size u ∙ moves.size u ∙ alike.contents.size u ∙ is.size u there) is.sizes is.others) found)
+  still_down false untold = inl (down_with n.session (λ tells. absurd (never_untold tells untold)))
+
+  rose : (disk : ℕ) → Rose (up.disk_faults disk) (new.disk_faults disk) → Rose (m.disk_faults disk) (last.disk_faults disk)
+  rose disk r =
+      subst (λ (k : ℕ). Rose k (last.disk_faults disk)) (alike.counts.disk_faults disk)
+      (subst (λ (k : ℕ). Rose (up.disk_faults disk) k) (sym (stopped.counts.disk_faults disk)) r)
+
+  -- where something was left, no start finds that nothing was
+  nothing_left : NothingLeft (raw_units n.disks) up → (IsTrue last.tells → ⊥) × IsDownAt n last
+  nothing_left none =
+      let untold : IsTrue last.tells → ⊥ = λ tells. none (state_of n) n.session (most_stamp n) n.safe n.base (left_here tells) in
+      (untold, down_with n.session (λ tells. absurd (untold tells)))
+
+  pub refused_as : (why : No) → StartCause (raw_units n.disks) up new why → RefusedAs n m last why
+  refused_as NoConfig h = nothing_left h.1
+  refused_as (Damaged u b stored computed) h = nothing_left h.1
+  refused_as (Limit what most) h = (
+    limit_same h.0 h.1,
+    λ tells. ⊎_elim (λ (stamp : most_number ≤ most_stamp n + 2). stamp) (λ (session : most_number ≤ n.session). let more : most_number ≤ most_stamp n + 2 = omega arith in more)
+        (h.2 (state_of n) n.session (most_stamp n) n.safe n.base (left_here tells)),
+    still_down last.tells refl,
+  )
+  refused_as (Device disk) h = (still_down last.tells refl, rose disk h)
+  refused_as Down h = absurd (never_both up.down (moves.safe (armed ∙ is.unarmed) h) risen)
+  refused_as other h = absurd h

@@ -1,0 +1,326 @@
+-- What a line comes to that recovers a site.
+use Rattle.std.proofs.Common.{◌≡◌, ◌⊎◌, inl, inr, ⊎_elim, ◌∙◌, ◌+◌, ◌-◌, ◌<◌, ◌≤◌, ℕ, zero, suc, Bool, true, false, List, [], ◌∷◌, length, ap, sym, subst, refl, arith, IsTrue}
+use Rattle.std.specs.Prelude.{min, map, Option, Some, None, slice_get, slice_set, Result, Ok, Err}
+use Rattle.std.proofs.lemmas.Option.{slice_get_within}
+use Rattle.vx_model.specs.World.{Node, World, bare_site, updated, with_node}
+use Rattle.vx_model.specs.Steps.{recovered, came_up, session_begun, crash_left, crashed, ring_of}
+use Rattle.vx_model.specs.declared.no.No.{No}
+use Rattle.vx_model.specs.declared.no.No.TheVariants.{Device, Limit, NoConfig}
+use Rattle.vx_model.specs.declared.no.Counted.TheVariants.{Number}
+use Rattle.vx_model.specs.declared.site.SiteState.{SiteState}
+use Rattle.vx_model.specs.declared.site.SiteState.TheVariants.{Bare as IsBare, Up as IsUp, Deported, Down as IsDown}
+use Rattle.vx_model.proofs.Updates.{at_place}
+use Rattle.vx_disk.specs.declared.shelf.Shelf.{Ghosts}
+use Rattle.vx_order.specs.declared.facts.SiteFacts.{SiteFacts}
+use Rattle.vx_order.specs.declared.facts.RvgFacts.{RvgFacts}
+use Rattle.vx_report.specs.declared.view.SiteView.{SiteView}
+use Rattle.vx_script.specs.declared.line.ScriptLine.TheVariants.{Recover}
+use Rattle.vx_srl.specs.Views.{most_number}
+use Rattle.vx_node.specs.declared.engine.Engine.{Engine}
+use Rattle.vx_node.specs.declared.engine.Engine.TheVariants.{Bare, Up, Down, Gone}
+use Rattle.vx_node.specs.declared.said.Said.{Said}
+use Rattle.vx_node.specs.declared.said.Said.TheVariants.{Recovered, Refused}
+use Rattle.vx_node.specs.declared.yard.Yard.{Yard}
+use Rattle.vx_node.specs.Changes.{up_facts}
+use Rattle.vx_node.specs.Engines.{Later, RoseAt, SameDisks, CameUp, CameUpIs, StillDown, no_number}
+use Rattle.vx_node.specs.Facts.{site_fact, group_fact, group_by, volume_fact, facts_of, seat_of, site_number}
+use Rattle.vx_node.specs.Holds.{state_of, most_stamp}
+use Rattle.vx_node.specs.Rising.{Fell, NotedUp, Recovering}
+use Rattle.vx_node.specs.Stands.{EnginesStand, StandsAt, IsToldAt, AreTold, RoseAll, RoseBy, times, faults_of}
+use Rattle.vx_node.specs.Steps.{Fails, Crashes, Begins, CrashesFirst, IsDown as DownBefore, Recovers, ComesUp, StaysDown, NoSession, Untold, IsBareStill, FailsAt}
+use Rattle.vx_node.specs.Views.{view_of}
+use Rattle.vx_node.specs.Working.{Worked, IsFree}
+use Rattle.vx_node.specs.Yards.{YardStands, IsTold, in_files, count_of}
+use Rattle.vx_node.proofs.Changing.{engines_same, rose_none, rose_one, counts_later, counts_rose}
+use Rattle.vx_node.proofs.Falling.{fact_there, stands_set, rose_still}
+use Rattle.vx_node.proofs.Lists.{set_twice, get-set_same}
+use Rattle.vx_node.proofs.Refused.{recover_may}
+use Rattle.vx_node.proofs.Sites.{stands_new}
+use Rattle.vx_node.proofs.Seats.{Seated, seated, some_same}
+
+-- ---- what the tests see of a site that came up
+
+-- the facts of a site with the same disks, up in a ring of its size
+pub up_fact : (n k : Node) (ring : ℕ) → SameDisks n k → k.low ≡ 1 → k.ring ≡ ring → up_facts (state_of k) k.safe ring (site_fact n) ≡ site_fact k
+up_fact n k ring same low ring_is = shown ∙ sym (ap (λ (t : SiteState). let f : SiteFacts = record (site_fact k) { state = t; rvg = group_by t k } in f) same.up)
+  where
+    shown : up_facts (state_of k) k.safe ring (site_fact n) ≡ record (site_fact k) { state = IsUp; rvg = Some (group_fact k) }
+    shown = λ i. let f : SiteFacts = record {
+      name = sym same.name i;
+      state = IsUp;
+      disks = sym same.disks i;
+      blocks = sym same.blocks i;
+      volumes = map volume_fact (sym same.volumes i);
+      rvg = Some (let r : RvgFacts = record {
+        role = k.role;
+        line = k.line;
+        parent = k.parent;
+        mark = k.mark;
+        low = sym low i;
+        last = k.safe;
+        ring = sym ring_is i;
+        halted = sym same.running i;
+      } in r);
+    } in f
+
+-- a session more is not seen
+session_fact : (n : Node) → site_fact n ≡ site_fact (record n { session = n.session + 1 })
+session_fact n = ap (λ r. let f : SiteFacts = record (site_fact n) { rvg = r } in f) (seen n.state)
+  where
+    seen : (t : SiteState) → group_by t n ≡ group_by t (record n { session = n.session + 1 })
+    seen IsBare = refl
+    seen IsUp = refl
+    seen Deported = refl
+    seen IsDown = refl
+
+set_there : {A : Type 0} (xs : List A) (i : ℕ) (x : A) → slice_get xs i ≡ Some x → xs ≡ slice_set xs i x
+set_there [] i x at = refl
+set_there (y ∷ xs) zero x at = ap (λ z. z ∷ xs) (some_same at)
+set_there (y ∷ xs) (suc i) x at = ap (λ zs. y ∷ zs) (set_there xs i x at)
+
+-- counts that did not fall and then rose
+rose_by : (n a b c : ℕ) → RoseBy 0 a b → RoseBy n b c → RoseBy n a c
+rose_by n a b c one two = omega (arith, one, two)
+
+pub rose_then : (fails : Fails) (old mid new : ℕ → ℕ → ℕ) → RoseAll [] old mid → RoseAll fails mid new → RoseAll fails old new
+rose_then fails old mid new one two = record { each = λ s d. rose_by (times fails s d) (old s d) (mid s d) (new s d) (one.each s d) (two.each s d) }
+
+get_some : {A : Type 0} (xs : List A) (i : ℕ) → i < length xs → (x : A) × (slice_get xs i ≡ Some x)
+get_some [] i h = absurd (omega arith)
+get_some (x ∷ xs) zero h = (x, refl)
+get_some (x ∷ xs) (suc i) h = get_some xs i (omega arith)
+
+bare_up : IsBare ≡ IsUp → ⊥
+bare_up e = cc
+
+down_up : IsDown ≡ IsUp → ⊥
+down_up e = cc
+
+bare_down : IsBare ≡ IsDown → ⊥
+bare_down e = cc
+
+up_down : IsUp ≡ IsDown → ⊥
+up_down e = cc
+
+true_or : (b : Bool) → IsTrue b ⊎ (IsTrue b → ⊥)
+true_or true = inl refl
+true_or false = inr (λ e. cc)
+
+module _ {R : Type 0} {g : Ghosts R} where
+  told_or : (e : Engine R g) → IsToldAt e ⊎ (IsToldAt e → ⊥)
+  told_or (Bare rack) = true_or (g.meaning rack).tells
+  told_or (Up rvg) = true_or (g.meaning rvg.shelf).tells
+  told_or (Down rack) = true_or (g.meaning rack).tells
+  told_or Gone = inr (λ none. none)
+
+  up_parts : (k : Node) (e : Engine R g) → StandsAt k e → k.state ≡ IsUp → (k.low ≡ 1) × (k.ring ≡ ring_of k.blocks)
+  up_parts k (Bare rack) h up = absurd (bare_up (sym (ap (λ (n : Node). n.state) h.is) ∙ up))
+  up_parts k (Up rvg) h up = (h.low, h.ring_is)
+  up_parts k (Down rack) h up = absurd (down_up (sym h.state ∙ up))
+  up_parts k Gone h up = absurd h
+
+  down_ring : (n : Node) (e : Engine R g) → StandsAt n e → n.state ≡ IsDown → n.ring ≡ ring_of n.blocks
+  down_ring n (Bare rack) h down = absurd (bare_down (sym (ap (λ (n : Node). n.state) h.is) ∙ down))
+  down_ring n (Up rvg) h down = absurd (up_down (sym h.state ∙ down))
+  down_ring n (Down rack) h down = h.ring
+  down_ring n Gone h down = absurd h
+
+  -- not all contents are told where those of one engine are not
+  not_all : (es : List (Engine R g)) (s : ℕ) (old after : Engine R g) (new : List (Engine R g)) → slice_get es s ≡ Some old → new ≡ slice_set es s after → (IsToldAt after → ⊥) → AreTold new → ⊥
+  not_all es s old after new there is untold all = untold (all.each s after (ap (λ xs. slice_get xs s) is ∙ get-set_same es s after (slice_get_within es s old there)))
+
+  -- ---- a site that comes up
+
+  module _ (w mid : World) (old new : Yard R g) (s : ℕ) (before after : Engine R g) (stands : YardStands mid old) (below : s < mid.sites) (begins : Begins w s mid) (down : (mid.nodes s).state ≡ IsDown)
+      (there : slice_get old.engines.items s ≡ Some before) (later : Later before after) (engines : new.engines.items ≡ slice_set old.engines.items s after) (racks : new.racks ≡ old.racks) where
+    abbrev node : Node
+    node = mid.nodes s
+
+    stood : StandsAt node before
+    stood = stands.engines.sites s before below there
+
+    -- the yard stands for the world with this site in its place
+    risen_stands : (ring : ℕ) (k : Node) → ring ≡ node.ring → SameDisks node k → StandsAt k after
+        → new.facts.items ≡ slice_set old.facts.items s (up_facts (state_of k) k.safe ring (site_fact node)) → YardStands (with_node mid s k) new
+    risen_stands ring k ring_is same at facts =
+        let parts = up_parts k after at same.up in
+        stands_set mid (with_node mid s k) old new s k (up_facts (state_of k) k.safe ring (site_fact node)) after stands below refl (λ j. refl) at
+        (up_fact node k ring same parts.0 (parts.1 ∙ ap ring_of same.blocks ∙ sym (down_ring node before stood down) ∙ sym ring_is)) refl facts engines racks
+
+    rose_here : RoseAll [] (count_of old) (count_of new)
+    rose_here = rose_still old new s before after there later engines
+
+    risen_by : IsToldAt after ⊎ (IsToldAt after → ⊥) → (ring last : ℕ) (view : SiteView) (came : CameUp node after) → ring ≡ node.ring → last ≡ came.node.safe
+        → YardStands (with_node mid s came.node) new → ((w' : World) → YardStands w' new → s < w'.sites → view ≡ view_of w' (w'.nodes s)) → Recovering w s (Recovered last view) old new
+    risen_by (inl told) ring last view came ring_is last_is up shows =
+        let is = came.is told in
+        let up_there : YardStands (came_up mid s) new = subst (λ (k : Node). YardStands (with_node mid s k) new) is up in
+        record {
+          world = came_up mid s;
+          fails = [];
+          recovers = ComesUp mid begins (record {
+            none = refl;
+            says = ap (λ (v : SiteView). Recovered last v) (shows (came_up mid s) up_there below ∙ ap (view_of (came_up mid s)) (at_place mid.nodes s (recovered node)))
+                ∙ ap (λ (k : ℕ). Recovered k (view_of (came_up mid s) (recovered node))) (last_is ∙ ap (λ (k : Node). k.safe) is);
+            leads = refl;
+          });
+          stands = up_there;
+          rose = rose_here;
+        }
+    risen_by (inr untold) ring last view came ring_is last_is up shows = record {
+      world = with_node mid s came.node;
+      fails = [];
+      recovers = Untold (not_all old.engines.items s before after new.engines.items there engines untold);
+      stands = up;
+      rose = rose_here;
+    }
+
+    pub risen : (ring last : ℕ) (view : SiteView) → CameUp node after → ring ≡ node.ring
+        → ((k : Node) → StandsAt k after → k.state ≡ IsUp → NotedUp k s ring last old new)
+        → ((w' : World) → YardStands w' new → s < w'.sites → view ≡ view_of w' (w'.nodes s)) → Recovering w s (Recovered last view) old new
+    risen ring last view came ring_is notes shows =
+        let noted = notes came.node came.stands came.same.up in
+        risen_by (told_or after) ring last view came ring_is noted.last_is
+        (risen_stands ring came.node ring_is came.same came.stands (noted.facts (site_fact node) (fact_there mid old s stands below))) shows
+
+    -- ---- a site that stays down
+
+    module _ (facts : new.facts.items ≡ old.facts.items) where
+      stays : StandsAt node after → YardStands mid new
+      stays at =
+          stands_new mid mid old new stands (facts ∙ stands.facts)
+          (subst (λ es. EnginesStand mid es) (sym engines) (engines_same mid old.engines.items s after below stands.engines at)) racks
+
+      begun : StandsAt (record node { session = node.session + 1 }) after → YardStands (session_begun mid s) new
+      begun at =
+          stands_set mid (session_begun mid s) old new s (record node { session = node.session + 1 }) (site_fact node) after stands below refl (λ k. refl) at (session_fact node) refl
+          (facts ∙ set_there old.facts.items s (site_fact node) (fact_there mid old s stands below)) engines racks
+
+      rose_there : (disk : ℕ) → RoseAt before after disk → RoseAll ((s, disk) ∷ []) (count_of old) (count_of new)
+      rose_there disk rose =
+          subst (λ es. RoseAll ((s, disk) ∷ []) (count_of old) (faults_of es)) (sym engines)
+          (rose_one s disk (count_of old) (faults_of (slice_set old.engines.items s after)) (λ i d. counts_later old.engines.items s before after there later i d)
+          (counts_rose old.engines.items s disk before after there rose))
+
+      failed : (disk : ℕ) → RoseAt before after disk → StillDown node after → Recovering w s (Refused (Device disk)) old new
+      failed disk rose (inl at) = record {
+        world = mid;
+        fails = (s, disk) ∷ [];
+        recovers = StaysDown mid disk begins (inl (record { one = refl; says = refl; leads = refl }));
+        stands = stays at;
+        rose = rose_there disk rose;
+      }
+      failed disk rose (inr at) = record {
+        world = session_begun mid s;
+        fails = (s, disk) ∷ [];
+        recovers = StaysDown mid disk begins (inr (record { one = refl; says = refl; leads = refl }));
+        stands = begun at;
+        rose = rose_there disk rose;
+      }
+
+      limited : (why : No) → why ≡ no_number → StillDown node after → (IsToldAt after → most_number ≤ most_stamp node + 2) → IsToldAt after ⊎ (IsToldAt after → ⊥) → Recovering w s (Refused why) old new
+      limited why is (inl at) most (inl told) = record {
+        world = mid;
+        fails = [];
+        recovers = NoSession mid begins (most told) (inl (record { none = refl; says = ap (λ (k : No). Refused k) is; leads = refl }));
+        stands = stays at;
+        rose = rose_here;
+      }
+      limited why is (inr at) most (inl told) = record {
+        world = session_begun mid s;
+        fails = [];
+        recovers = NoSession mid begins (most told) (inr (record { none = refl; says = ap (λ (k : No). Refused k) is; leads = refl }));
+        stands = begun at;
+        rose = rose_here;
+      }
+      limited why is (inl at) most (inr untold) = record {
+        world = mid;
+        fails = [];
+        recovers = Untold (not_all old.engines.items s before after new.engines.items there engines untold);
+        stands = stays at;
+        rose = rose_here;
+      }
+      limited why is (inr at) most (inr untold) = record {
+        world = session_begun mid s;
+        fails = [];
+        recovers = Untold (not_all old.engines.items s before after new.engines.items there engines untold);
+        stands = begun at;
+        rose = rose_here;
+      }
+
+      untold_still : (why : No) → (IsToldAt after → ⊥) × StandsAt node after → Recovering w s (Refused why) old new
+      untold_still why h = record {
+        world = mid;
+        fails = [];
+        recovers = Untold (not_all old.engines.items s before after new.engines.items there engines h.0);
+        stands = stays h.1;
+        rose = rose_here;
+      }
+
+      pub stays_down : (why : No) → CameUpIs node before after (Err why) → Recovering w s (Refused why) old new
+      stays_down (Device disk) h = failed disk h.1 h.0
+      stays_down (Limit what most) h = limited (Limit what most) h.0 h.2 h.1 (told_or after)
+      stays_down other h = untold_still other h
+
+  -- ---- the line
+
+  pub recover_worked : (w : World) (old new : Yard R g) (name : List ℕ) (s : ℕ) (said : Said) → YardStands w old → seat_of old.facts.items name ≡ Some s → Recovering w s said old new → Worked w (Recover name) said old new
+  recover_worked w old new name s said stands seat r =
+      let here = seated w old name s stands seat in
+      record {
+        world = r.world;
+        fails = r.fails;
+        works = subst (λ (k : ℕ). Recovers (IsTold new) w k r.fails said r.world) (sym here.number) r.recovers;
+        stands = r.stands;
+        rose = r.rose;
+      }
+
+  -- nothing was made of its disks yet
+  pub recover_bare : (w : World) (y : Yard R g) (name : List ℕ) (s : ℕ) (f : SiteFacts) → YardStands w y → seat_of y.facts.items name ≡ Some s → slice_get y.facts.items s ≡ Some f → f.state ≡ IsBare
+      → Worked w (Recover name) (Refused NoConfig) y y
+  recover_bare w y name s f stands seat at bare =
+      let here = seated w y name s stands seat in
+      let is : (w.nodes s).state ≡ IsBare = sym (ap (λ (k : SiteFacts). k.state) (some_same (sym at ∙ here.fact))) ∙ bare in
+      recover_worked w y y name s (Refused NoConfig) stands seat (record {
+        world = w;
+        fails = [];
+        recovers = IsBareStill is (record { none = refl; says = refl; leads = refl });
+        stands = stands;
+        rose = rose_none (count_of y) (count_of y) (λ i d. omega arith);
+      })
+
+  -- a site that was down is started
+  pub recover_down : (w : World) (y new : Yard R g) (name : List ℕ) (s ring : ℕ) (said : Said) (f : SiteFacts) → YardStands w y → seat_of y.facts.items name ≡ Some s → slice_get y.facts.items s ≡ Some f
+      → f.state ≡ IsDown → ring ≡ ring_of f.blocks
+      → ((w mid : World) → YardStands mid y → s < mid.sites → Begins w s mid → (mid.nodes s).state ≡ IsDown → ring ≡ (mid.nodes s).ring → Recovering w s said y new) → Worked w (Recover name) said y new
+  recover_down w y new name s ring said f stands seat at down ring_is rises =
+      let here = seated w y name s stands seat in
+      let same : f ≡ site_fact (w.nodes s) = some_same (sym at ∙ here.fact) in
+      let is : (w.nodes s).state ≡ IsDown = sym (ap (λ (k : SiteFacts). k.state) same) ∙ down in
+      let e = get_some y.engines.items s (omega (arith, here.below, stands.engines.few, stands.engines.eight)) in
+      recover_worked w y new name s said stands seat
+      (rises w w stands here.below (DownBefore is refl) is
+      (ring_is ∙ ap (λ (k : SiteFacts). ring_of k.blocks) same ∙ sym (down_ring (w.nodes s) e.0 (stands.engines.sites s e.0 here.below e.1) is)))
+
+  -- a site that was up crashes first
+  pub recover_up : (w : World) (y mid new : Yard R g) (name : List ℕ) (s ring : ℕ) (said : Said) (f : SiteFacts) → YardStands w y → seat_of y.facts.items name ≡ Some s → slice_get y.facts.items s ≡ Some f
+      → f.state ≡ IsUp → ring ≡ ring_of f.blocks → ((w : World) → YardStands w y → s < w.sites → (w.nodes s).state ≡ IsUp → Fell w s y mid)
+      → ((w m : World) → YardStands m mid → s < m.sites → Begins w s m → (m.nodes s).state ≡ IsDown → ring ≡ (m.nodes s).ring → Recovering w s said mid new) → Worked w (Recover name) said y new
+  recover_up w y mid new name s ring said f stands seat at up ring_is falls rises =
+      let here = seated w y name s stands seat in
+      let same : f ≡ site_fact (w.nodes s) = some_same (sym at ∙ here.fact) in
+      let is : (w.nodes s).state ≡ IsUp = sym (ap (λ (k : SiteFacts). k.state) same) ∙ up in
+      let e = get_some y.engines.items s (omega (arith, here.below, stands.engines.few, stands.engines.eight)) in
+      let ring_here : ring ≡ (w.nodes s).ring = ring_is ∙ ap (λ (k : SiteFacts). ring_of k.blocks) same ∙ sym (up_parts (w.nodes s) e.0 (stands.engines.sites s e.0 here.below e.1) is).1 in
+      let fell = falls w stands here.below is in
+      let there : fell.world.nodes s ≡ crashed (w.nodes s) fell.crashes.count =
+      ap (λ (x : World). x.nodes s) fell.crashes.leads ∙ at_place w.nodes s (crashed (w.nodes s) fell.crashes.count) in
+      let r = rises w fell.world fell.stands (omega (arith, here.below, ap (λ (x : World). x.sites) fell.crashes.leads)) (CrashesFirst is fell.crashes)
+      (ap (λ (n : Node). n.state) there) (ring_here ∙ sym (ap (λ (n : Node). n.ring) there)) in
+      recover_worked w y new name s said stands seat (record {
+        world = r.world;
+        fails = r.fails;
+        recovers = r.recovers;
+        stands = r.stands;
+        rose = rose_then r.fails (count_of y) (count_of mid) (count_of new) fell.rose r.rose;
+      })

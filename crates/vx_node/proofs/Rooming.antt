@@ -1,0 +1,216 @@
+-- How the log of a site that is up gets room for a write.
+use Rattle.std.proofs.Common.{◌≡◌, ◌∙◌, ◌⊎◌, inl, inr, ⊎_elim, ◌+◌, ◌-◌, ◌<◌, ◌≤◌, ◌^◌, ℕ, zero, suc, Bool, true, false, List, [], ◌∷◌, ◌++◌, length, take, drop, ap, sym, subst, refl, arith, IsTrue, length-append}
+use Rattle.std.specs.Prelude.{IsFalse, Option, Some, None, Result, Ok, Err, OnOk, IsSome, leb, ltb, ◌&&◌, ◌||◌, if◌then◌else◌}
+use Rattle.std.proofs.lemmas.Bool.Decides.{nat_tests}
+use Rattle.std.proofs.lemmas.List.{length-drop}
+use Rattle.vx_model.specs.World.{Node}
+use Rattle.vx_model.specs.declared.no.No.{No}
+use Rattle.vx_model.specs.declared.no.No.TheVariants.{Device, Limit, Down, Halted}
+use Rattle.vx_model.specs.declared.state.State.{State}
+use Rattle.vx_srlfmt.specs.declared.header.Header.{Header}
+use Rattle.vx_srl.specs.Calls.{saved}
+use Rattle.vx_srl.specs.Headers.{without}
+use Rattle.vx_srl.specs.Views.{Log, most_number, count_to, head_of, free_of, widths, all_of}
+use Rattle.vx_srl.specs.declared.kept.Kept.{Kept}
+use Rattle.vx_disk.specs.Counts.{Rose}
+use Rattle.vx_disk.specs.Shelf.{Meaning, Image, Lawful}
+use Rattle.vx_disk.specs.Moves.{Moves, Run}
+use Rattle.vx_rvg.specs.Groups.{Fails, Ended, unless_halted}
+use Rattle.vx_rvg.specs.Saves.{SaveIs, Saves, reclaim_refusal, reclaimed, log_without}
+use Rattle.vx_rvg.specs.Stands.{FoundAs, Saving, Rests, Stands}
+use Rattle.vx_rvg.specs.Views.{Core, IsSound, last_of}
+use Rattle.vx_node.specs.Engines.{no_number}
+use Rattle.vx_node.specs.Holds.{HasWrites, raw_units, state_of, most_stamp}
+use Rattle.vx_node.specs.Rooms.{IsRoomy, RoomIs}
+use Rattle.vx_node.specs.Stands.{IsUpAt}
+use Rattle.vx_node.proofs.Applying.{AppliedAs, ended_log}
+use Rattle.vx_node.proofs.Staying.{told_now, never_both, left_moved, fitted_moved, kept_whole, up_found, writes_found, up_with}
+
+-- a log that uses no stamp
+pub roomy_now : (n : Node) (c : Core) (m : Meaning) → IsUpAt n c m → n.halted ≡ None → IsRoomy n c m
+roomy_now n c m up none = record {
+  fitted = up.fitted;
+  units = up.units;
+  ring = up.ring;
+  links = up.links;
+  kept = up.kept;
+  unlinked = up.unlinked;
+  session = up.session;
+  first = up.first;
+  head = up.head;
+  running = up.halted ∙ none;
+  stamp = λ told. let t = up.stamp told none in omega (arith, t);
+  unused = λ told _. up.stamp told none;
+  content = up.content none;
+}
+
+-- ---- a log that is given up as a whole
+
+record Emptied (l l' : Log) (to : ℕ) : Type 0 where
+  ring : l'.ring ≡ l.ring
+  state : l'.header.state ≡ l.header.state
+  incarnation : l'.header.incarnation ≡ l.header.incarnation
+  first : 0 < l'.header.low
+  head : head_of l' ≡ head_of l
+  none : length l'.held ≡ 0
+  stamp : (l'.header.stamp ≡ l.header.stamp) ⊎ ((l.header.low ≤ to) × (l'.header.stamp ≡ l.header.stamp + 1))
+
+emptied_by : (l : Log) (to : ℕ) (b : Bool) → leb l.header.low to ≡ b → 0 < l.header.low → head_of l ≡ to → Emptied l (if b then saved l (without l to) (count_to l to) else l) to
+emptied_by l to true is first head =
+    let low : l.header.low ≤ to = grind (arith, nat_tests) in
+    let less = length-drop (count_to l to) l.held in
+    record {
+      ring = refl;
+      state = refl;
+      incarnation = refl;
+      first = omega arith;
+      head = omega (arith, less, head, first, low);
+      none = omega (arith, less, head, first, low);
+      stamp = inr (low, refl);
+    }
+emptied_by l to false is first head =
+    let high : to < l.header.low = grind (arith, nat_tests) in
+    record {
+      ring = refl;
+      state = refl;
+      incarnation = refl;
+      first = first;
+      head = refl;
+      none = omega (arith, head, first, high);
+      stamp = inl refl;
+    }
+
+emptied : (l : Log) (to : ℕ) → 0 < l.header.low → head_of l ≡ to → Emptied l (log_without l to) to
+emptied l to first head = emptied_by l to (leb l.header.low to) refl first head
+
+-- why it is refused
+abbrev reclaim_no : ℕ → ℕ → ℕ → Option No
+reclaim_no low stamp to = if leb low to && (leb most_number stamp || leb most_number to) then Some no_number else None
+
+passes : (low stamp to : ℕ) → reclaim_no low stamp to ≡ None → low ≤ to → most_number ≤ to → ⊥
+passes low stamp to none in_log past = grind (arith, nat_tests)
+
+abbrev IsLimit : ℕ → ℕ → Option No → Type 0
+IsLimit stamp to None = Unit {0}
+IsLimit stamp to (Some why) = (why ≡ no_number) × ((most_number ≤ stamp) ⊎ (most_number ≤ to))
+
+limit_by : (b s t : Bool) (stamp to : ℕ) → leb most_number stamp ≡ s → leb most_number to ≡ t → IsLimit stamp to (if b && (s || t) then Some no_number else None)
+limit_by false s t stamp to es et = tt
+limit_by true false false stamp to es et = tt
+limit_by true true t stamp to es et = (refl, inl (let le : most_number ≤ stamp = grind (arith, nat_tests) in le))
+limit_by true false true stamp to es et = (refl, inr (let le : most_number ≤ to = grind (arith, nat_tests) in le))
+
+limits : (low stamp to : ℕ) → IsLimit stamp to (reclaim_no low stamp to)
+limits low stamp to = limit_by (leb low to) (leb most_number stamp) (leb most_number to) stamp to refl refl
+
+-- no record takes blocks
+widths_none : (ks : List Kept) → length ks ≡ 0 → widths ks ≡ 0
+widths_none [] is = refl
+widths_none (k ∷ ks) is = absurd (omega (arith, is))
+
+all_free : (l : Log) → length l.held ≡ 0 → l.staged ≡ [] → free_of l ≡ l.ring
+all_free l none idle = let w = widths_none (all_of l) (omega (arith, none, ap (λ (ks : List Kept). length ks) idle, length-append l.held l.staged)) in omega (arith, w)
+
+module _ (n : Node) (c c' : Core) (m new : Meaning) (up : IsUpAt n c m) (none : n.halted ≡ None) (lawful : Lawful m) (after : Lawful new)
+    (moves : Moves (Run c.units.srl 0 (c.log.ring + 2)) (Saving c (reclaimed c n.safe) m) m new) where
+  log : Emptied c.log (log_without c.log n.safe) n.safe
+  log = emptied c.log n.safe up.first up.head
+
+  -- the log gave up all that it held
+  pub roomy_reclaimed : c' ≡ reclaimed c n.safe → reclaim_no c.log.header.low c.log.header.stamp n.safe ≡ None → Rests c c' m new → IsRoomy n c' new
+  roomy_reclaimed is passed rests = subst (λ (k : Core). IsRoomy n k new) (sym is) (record {
+    fitted = fitted_moved n.disks n.blocks (Run c.units.srl 0 (c.log.ring + 2)) (Saving c (reclaimed c n.safe) m) m new moves up.fitted;
+    units = up.units;
+    ring = log.ring ∙ up.ring;
+    links = up.links;
+    kept = log.state ∙ up.kept;
+    unlinked = λ told. up.unlinked (sym moves.tells ∙ told);
+    session = log.incarnation ∙ up.session;
+    first = log.first;
+    head = log.head ∙ up.head;
+    running = up.halted ∙ none;
+    stamp = λ told. let t = up.stamp (sym moves.tells ∙ told) none in ⊎_elim (λ (same : (log_without c.log n.safe).header.stamp ≡ c.log.header.stamp). omega (arith, t, same)) (λ (more : (c.log.header.low ≤ n.safe) × ((log_without c.log n.safe).header.stamp ≡ c.log.header.stamp + 1)). omega (arith, t, more.1)) log.stamp;
+    unused = λ told past. let t = up.stamp (sym moves.tells ∙ told) none in ⊎_elim (λ (same : (log_without c.log n.safe).header.stamp ≡ c.log.header.stamp). omega (arith, t, same))
+        (λ more. absurd (passes c.log.header.low c.log.header.stamp n.safe passed more.0 past)) log.stamp;
+    content = λ told. subst (λ (k : Core). Stands k n.base new) is (rests.each n.base (up.content none (sym moves.tells ∙ told)));
+  })
+
+  -- and all its blocks are free
+  pub free_reclaimed : c' ≡ reclaimed c n.safe → IsSound c' new → free_of c'.log ≡ n.ring
+  free_reclaimed is sound =
+      let running : c'.halted ≡ None = ap (λ (k : Core). k.halted) is ∙ up.halted ∙ none in
+      let still = fitted_moved n.disks n.blocks (Run c.units.srl 0 (c.log.ring + 2)) (Saving c (reclaimed c n.safe) m) m new moves up.fitted in
+      all_free c'.log (ap (λ (k : Core). length k.log.held) is ∙ log.none) (sound.idle running still.up) ∙ ap (λ (k : Core). k.log.ring) is ∙ log.ring ∙ up.ring
+
+  -- an image in it has the site's writes
+  saving_found : (i : Image) → IsTrue m.tells → Saving c (reclaimed c n.safe) m i → HasWrites n i
+  saving_found i told saving = ⊎_elim
+      (λ old. up_found n c m i up none told old)
+      (λ next. writes_found n (reclaimed c n.safe) i up.units (log.ring ∙ up.ring) (log.state ∙ kept_whole n c m up told) (log.incarnation ∙ up.session)
+      (let t = up.stamp told none in ⊎_elim (λ (same : (log_without c.log n.safe).header.stamp ≡ c.log.header.stamp). omega (arith, t, same)) (λ (more : (c.log.header.low ≤ n.safe) × ((log_without c.log n.safe).header.stamp ≡ c.log.header.stamp + 1)). omega (arith, t, more.1)) log.stamp)
+      (log.head ∙ up.head) up.logged next)
+      (saving.each n.base (up.content none told))
+
+  -- or a disk failed
+  pub reclaim_halted : (disk : ℕ) → Ended c (Some disk) c' → IsUpAt (record n { halted = Some disk }) c' new
+  reclaim_halted disk ended =
+      up_with n c c' m new (Some disk) (Run c.units.srl 0 (c.log.ring + 2)) (Saving c (reclaimed c n.safe) m) moves up (ended_log c (Some disk) c' ended) ended.halted_is (λ e. absurd (never e)) (λ e. absurd (never e))
+      (λ i now. ⊎_elim (λ was. up.left i was) (λ saving. saving_found i (sym moves.tells ∙ told_now new i after now) saving)
+      (left_moved (Run c.units.srl 0 (c.log.ring + 2)) (Saving c (reclaimed c n.safe) m) m new i lawful after moves now))
+    where
+      never : {k : ℕ} → Some k ≡ None → ⊥
+      never e = cc
+
+  still_up : IsTrue new.down → ⊥
+  still_up down = never_both new.down down (fitted_moved n.disks n.blocks (Run c.units.srl 0 (c.log.ring + 2)) (Saving c (reclaimed c n.safe) m) m new moves up.fitted).up
+
+  by_answer : (r : Option No) (result : Result (Unit {0}) No) → reclaim_no c.log.header.low c.log.header.stamp n.safe ≡ r → SaveIs r c (reclaimed c n.safe) m new c' result
+      → (IsSome r → new ≡ m) → OnOk result (Rests c c' m new) → RoomIs n m c' new result
+  by_answer (Some why) (Ok done) r_is is unchanged rests = absurd (let e : Ok done ≡ Err why = is.0 in cc)
+  by_answer (Some why) (Err answer) r_is is unchanged rests =
+      let same : answer ≡ why = (let e : Err answer ≡ Err why = is.0 in cc) in
+      let limit : IsLimit c.log.header.stamp n.safe (Some why) = subst (λ (o : Option No). IsLimit c.log.header.stamp n.safe o) r_is (limits c.log.header.low c.log.header.stamp n.safe) in
+      let stays : new ≡ m = unchanged refl in
+      subst (λ (k : No). RoomIs n m c' new (Err k)) (sym (same ∙ limit.0))
+      (refl,
+      (λ told. let t = up.stamp (sym moves.tells ∙ told) none in ⊎_elim (λ (a : most_number ≤ c.log.header.stamp). omega (arith, t, a)) (λ (b : most_number ≤ n.safe). omega (arith, b)) limit.1),
+      subst (λ (k : Core). IsUpAt n k new) (sym is.1) (subst (λ (k : Meaning). IsUpAt n c k) (sym stays) up))
+  by_answer None (Ok done) r_is is unchanged rests = roomy_reclaimed is r_is rests
+  by_answer None (Err (Device disk)) r_is is unchanged rests = (reclaim_halted disk is.0, is.1)
+  by_answer None (Err Down) r_is is unchanged rests = still_up is.1
+  by_answer None (Err (Limit what most)) r_is is unchanged rests = absurd is
+  by_answer None (Err other) r_is is unchanged rests = is
+
+  -- what a reclaim of all that the site has answers
+  pub reclaimed_as : (result : Result (Unit {0}) No) → SaveIs (reclaim_refusal c n.safe) c (reclaimed c n.safe) m new c' result → (IsSome (reclaim_refusal c n.safe) → new ≡ m)
+      → OnOk result (Rests c c' m new) → RoomIs n m c' new result
+  reclaimed_as result is unchanged rests =
+      let runs : c.halted ≡ None = up.halted ∙ none in
+      by_answer (reclaim_no c.log.header.low c.log.header.stamp n.safe) result refl
+      (subst (λ (h : Option ℕ). SaveIs (unless_halted h (reclaim_no c.log.header.low c.log.header.stamp n.safe)) c (reclaimed c n.safe) m new c' result) runs is)
+      (subst (λ (h : Option ℕ). IsSome (unless_halted h (reclaim_no c.log.header.low c.log.header.stamp n.safe)) → new ≡ m) runs unchanged) rests
+
+-- ---- the whole of it
+
+rose_later : (old mid new : ℕ) → old ≤ mid → Rose mid new → Rose old new
+rose_later old mid new le rose = record {
+  fell_not = omega (arith, le, rose.fell_not);
+  rose = ⊎_elim (λ (less : mid < new). let f : (old < new) ⊎ (2 ^ 64 - 1 ≤ new) = inl (omega (arith, le, less)) in f) (λ (most : 2 ^ 64 - 1 ≤ new). inr most) rose.rose;
+}
+
+-- an apply that was refused
+pub room_unapplied : (n : Node) (to : ℕ) (c' : Core) (m new : Meaning) (no : No) → AppliedAs n to c' m new (Err no) → RoomIs n m c' new (Err no)
+room_unapplied n to c' m new (Device disk) is = is
+room_unapplied n to c' m new (Limit what most) is = absurd is
+room_unapplied n to c' m new other is = is
+
+-- an apply of all that the site has
+pub all_applied : (n : Node) (last number : ℕ) (c' : Core) (m new : Meaning) → last ≡ n.safe → AppliedAs n last c' m new (Ok number) → number ≡ n.safe
+all_applied n last number c' m new is applied = omega (arith, is, applied.0, applied.1)
+
+-- a call that moved the shelf, and then a reclaim
+pub room_later : (n : Node) (c' : Core) (m mid new : Meaning) (result : Result (Unit {0}) No) → ((d : ℕ) → m.disk_faults d ≤ mid.disk_faults d) → RoomIs n mid c' new result → RoomIs n m c' new result
+room_later n c' m mid new (Ok done) later is = is
+room_later n c' m mid new (Err (Device disk)) later is = (is.0, rose_later (m.disk_faults disk) (mid.disk_faults disk) (new.disk_faults disk) (later disk) is.1)
+room_later n c' m mid new (Err (Limit what most)) later is = is
+room_later n c' m mid new (Err other) later is = is

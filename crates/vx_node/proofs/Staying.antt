@@ -1,0 +1,137 @@
+-- A site that is up stays so over calls on its group.
+use Rattle.std.proofs.Common.{◌≡◌, ◌⊎◌, inl, inr, ⊎_elim, ℕ, zero, suc, ◌+◌, ◌-◌, ◌≤◌, Bool, true, false, List, [], ◌∷◌, length, take, drop, Option, None, IsTrue, refl, sym, ◌∙◌, ap, subst, arith}
+use Rattle.std.specs.Prelude.{IsFalse}
+use Rattle.vx_model.specs.Content.{Content, Write, fold_writes}
+use Rattle.vx_model.specs.World.{Node}
+use Rattle.vx_model.specs.declared.state.State.{State}
+use Rattle.vx_model.specs.declared.units.Units.{Units}
+use Rattle.vx_srlfmt.specs.declared.header.Header.{Header}
+use Rattle.vx_srl.specs.declared.kept.Kept.{Kept}
+use Rattle.vx_disk.specs.Shelf.{Meaning, Image, Lawful}
+use Rattle.vx_disk.specs.Moves.{Blocks, Says, Beside, Moves}
+use Rattle.vx_rvg.specs.Stands.{Found, FoundAs, Stands}
+use Rattle.vx_rvg.specs.Views.{Core, last_of}
+use Rattle.vx_node.specs.Holds.{HasWrites, raw_units, state_of, state_with, most_stamp}
+use Rattle.vx_node.specs.Stands.{IsFitted, IsUpAt}
+
+pub not_true : (b : Bool) → (IsTrue b → ⊥) → IsFalse b
+not_true true h = absurd (h refl)
+not_true false h = refl
+
+pub not_false : (b : Bool) → (IsFalse b → ⊥) → IsTrue b
+not_false true h = refl
+not_false false h = absurd (h refl)
+
+pub never_both : (b : Bool) → IsTrue b → IsFalse b → ⊥
+never_both b is not = cc
+
+-- a shelf that has an image tells its contents
+pub told_now : (m : Meaning) (i : Image) → Lawful m → m.now i → IsTrue m.tells
+told_now m i lawful now = not_false m.tells (λ untold. lawful.never untold m.moment i (lawful.counts_now m.moment i (omega arith) now))
+
+-- what is left behind a call was left before it, or in it
+pub left_moved : (mine : Blocks) (P : Says) (m new : Meaning) (i : Image) → Lawful m → Lawful new → Moves mine P m new → new.now i → m.now i ⊎ P i
+left_moved mine P m new i lawful after moves now =
+    ⊎_elim (λ was. inl (lawful.only_now i was)) (λ during. inr during.1)
+    (moves.since m.moment i (omega arith) (after.counts_now m.moment i moves.later now))
+
+-- a call on a shelf without a fuse does not bring it down
+pub fitted_moved : (disks blocks : ℕ) (mine : Blocks) (P : Says) (m new : Meaning) → Moves mine P m new → IsFitted disks blocks m → IsFitted disks blocks new
+fitted_moved disks blocks mine P m new moves fitted = record {
+  units = moves.units ∙ fitted.units;
+  size = λ u there. moves.size u ∙ fitted.size u there;
+  up = not_true new.down (λ down. never_both m.down (moves.safe fitted.unarmed down) fitted.up);
+  unarmed = moves.unarmed fitted.unarmed;
+}
+
+-- ---- an image with the group's content has the site's
+
+pub drop-take_none : {A : Type 0} (k : ℕ) (xs : List A) → drop k (take k xs) ≡ []
+drop-take_none zero [] = refl
+drop-take_none zero (x ∷ xs) = refl
+drop-take_none (suc k) [] = refl
+drop-take_none (suc k) (x ∷ xs) = drop-take_none k xs
+
+pub found_same : (u u' : Units) (r r' : ℕ) (state state' : State) (session session' stamp stamp' last last' : ℕ) (c c' : Content) (i : Image)
+    → u ≡ u' → r ≡ r' → state ≡ state' → session ≡ session' → stamp ≤ stamp' → last ≡ last' → c ≡ c' → Found u r state session stamp i last c → Found u' r' state' session' stamp' i last' c'
+found_same u u' r r' state state' session session' stamp stamp' last last' c c' i eu er es en le el ec found =
+    subst (λ (x : Units). Found x r' state' session' stamp' i last' c') eu
+    (subst (λ (x : ℕ). Found u x state' session' stamp' i last' c') er
+    (subst (λ (x : State). Found u r x session' stamp' i last' c') es
+    (subst (λ (x : ℕ). Found u r state x stamp' i last' c') en
+    (subst (λ (x : ℕ). Found u r state session stamp' i x c') el
+    (subst (λ (x : Content). Found u r state session stamp' i last x) ec
+    (record {
+      header = found.header;
+      records = found.records;
+      recovers = found.recovers;
+      state_is = found.state_is;
+      session_is = found.session_is;
+      stamp_most = omega (arith, found.stamp_most, le);
+      some = found.some;
+      last_is = found.last_is;
+      content = found.content;
+    }))))))
+
+-- the content with the writes that are durable and none beside
+pub durable_content : (n : Node) → n.base ≡ fold_writes n.base (drop n.safe (take n.safe n.log))
+durable_content n = ap (λ (xs : List Write). fold_writes n.base xs) (sym (drop-take_none n.safe n.log))
+
+pub writes_found : (n : Node) (core : Core) (i : Image) → core.units ≡ raw_units n.disks → core.log.ring ≡ n.ring → core.log.header.state ≡ state_of n → core.log.header.incarnation ≡ n.session
+    → core.log.header.stamp ≤ most_stamp n → last_of core ≡ n.safe → n.safe ≤ length n.log → FoundAs core i (last_of core) n.base → HasWrites n i
+writes_found n core i units ring state session stamp last logged found = record {
+  count = n.safe;
+  least = omega arith;
+  most = logged;
+  found = found_same core.units (raw_units n.disks) core.log.ring n.ring core.log.header.state (state_of n) core.log.header.incarnation n.session core.log.header.stamp (most_stamp n)
+      (last_of core) n.safe n.base (fold_writes n.base (drop n.safe (take n.safe n.log))) i units ring state session stamp last (durable_content n) found;
+}
+
+-- what the header keeps, where contents are told
+pub kept_whole : (n : Node) (c : Core) (m : Meaning) → IsUpAt n c m → IsTrue m.tells → c.log.header.state ≡ state_of n
+kept_whole n c m up told = up.kept ∙ ap (state_with n) (up.unlinked told)
+
+-- an image in a call on a running group that changes no content
+pub up_found : (n : Node) (c : Core) (m : Meaning) (i : Image) → IsUpAt n c m → n.halted ≡ None → IsTrue m.tells → FoundAs c i (last_of c) n.base → HasWrites n i
+up_found n c m i up running told found =
+    writes_found n c i up.units up.ring (kept_whole n c m up told) up.session (let t = up.stamp told running in omega (arith, t)) up.head up.logged found
+
+-- ---- the site behind a call
+
+-- its log is the same as before
+pub record SameLog (c c' : Core) : Type 0 where
+  pub units : c'.units ≡ c.units
+  pub ring : c'.log.ring ≡ c.log.ring
+  pub header : c'.log.header ≡ c.log.header
+  pub held : c'.log.held ≡ c.log.held
+
+-- a site that is up after a call that leaves its log alone, maybe halted by it
+pub up_with : (n : Node) (c c' : Core) (m new : Meaning) (h : Option ℕ) (mine : Blocks) (P : Says) → Moves mine P m new → IsUpAt n c m → SameLog c c' → c'.halted ≡ h → (h ≡ None → n.halted ≡ None)
+    → (h ≡ None → IsTrue new.tells → Stands c' n.base new) → ((i : Image) → new.now i → HasWrites n i) → IsUpAt (record n { halted = h }) c' new
+up_with n c c' m new h mine P moves up same halted running content left = record {
+  state = up.state;
+  fitted = fitted_moved n.disks n.blocks mine P m new moves up.fitted;
+  disks = up.disks;
+  units = same.units ∙ up.units;
+  ring = same.ring ∙ up.ring;
+  ring_is = up.ring_is;
+  some = up.some;
+  low = up.low;
+  links = up.links;
+  kept = ap (λ (x : Header). x.state) same.header ∙ up.kept;
+  unlinked = λ told. up.unlinked (sym moves.tells ∙ told);
+  session = ap (λ (x : Header). x.incarnation) same.header ∙ up.session;
+  stamp = λ told none. let t = up.stamp (sym moves.tells ∙ told) (running none) in omega (arith, t, ap (λ (x : Header). x.stamp) same.header);
+  first = omega (arith, up.first, ap (λ (x : Header). x.low) same.header);
+  head = omega (arith, up.head, ap (λ (x : Header). x.low) same.header, ap (λ (xs : List Kept). length xs) same.held);
+  halted = halted;
+  logged = up.logged;
+  durable = λ none. up.durable (running none);
+  few = up.few;
+  volumes = up.volumes;
+  whole = up.whole;
+  sizes = up.sizes;
+  others = up.others;
+  content = content;
+  left = λ i now. let has = left i now in record { count = has.count; least = has.least; most = has.most; found = has.found };
+}

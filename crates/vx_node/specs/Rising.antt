@@ -1,0 +1,39 @@
+-- What the yard promises where a site goes down, and where one that is down is started.
+use Rattle.std.specs.Prelude.{◌≡◌, ℕ, [], Some, slice_get, slice_set}
+use Rattle.vx_model.specs.World.{Node, World}
+use Rattle.vx_model.specs.declared.site.SiteState.TheVariants.{Up as IsUp}
+use Rattle.vx_disk.specs.declared.shelf.Shelf.{Ghosts}
+use Rattle.vx_order.specs.declared.facts.SiteFacts.{SiteFacts}
+use Rattle.vx_node.specs.declared.engine.Engine.{Engine}
+use Rattle.vx_node.specs.declared.said.Said.{Said}
+use Rattle.vx_node.specs.declared.yard.Yard.{Yard}
+use Rattle.vx_node.specs.Changes.{up_facts}
+use Rattle.vx_node.specs.Holds.{state_of}
+use Rattle.vx_node.specs.Stands.{StandsAt, RoseAll}
+use Rattle.vx_node.specs.Steps.{Fails, Crashes, Recovers}
+use Rattle.vx_node.specs.Yards.{YardStands, IsTold, count_of}
+
+module _ {R : Type 0} {g : Ghosts R} where
+  -- the site crashed
+  pub record Fell (w : World) (site : ℕ) (old new : Yard R g) : Type 0 where
+    pub world : World
+    pub crashes : Crashes w site world
+    pub stands : YardStands world new
+    pub rose : RoseAll [] (count_of old) (count_of new)
+
+  -- the last number of a site that came up, and what the tests see of it
+  pub record NotedUp (n : Node) (site ring last : ℕ) (old new : Yard R g) : Type 0 where
+    pub last_is : last ≡ n.safe
+    pub facts : (f : SiteFacts) → slice_get old.facts.items site ≡ Some f → new.facts.items ≡ slice_set old.facts.items site (up_facts (state_of n) n.safe ring f)
+
+  -- the same of each site for which its engine stands
+  pub record NotesUp (site ring last : ℕ) (old new : Yard R g) : Type 0 where
+    pub each : (e : Engine R g) (n : Node) → slice_get old.engines.items site ≡ Some e → StandsAt n e → n.state ≡ IsUp → NotedUp n site ring last old new
+
+  -- a recovery that began in this world was answered so
+  pub record Recovering (w : World) (site : ℕ) (said : Said) (old new : Yard R g) : Type 0 where
+    pub world : World
+    pub fails : Fails
+    pub recovers : Recovers (IsTold new) w site fails said world
+    pub stands : YardStands world new
+    pub rose : RoseAll fails (count_of old) (count_of new)
