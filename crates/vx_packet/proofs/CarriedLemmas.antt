@@ -1,14 +1,14 @@
 -- What was put together is cut into the same packets again.
-use Rattle.std.proofs.Common.{◌≡◌, ◌≤◌, ◌<◌, ℕ, zero, suc, ◌+◌, ◌*◌, ◌-◌, Bool, true, false, List, [], ◌∷◌, ◌++◌, length, take, drop, set, get_or, replicate, refl, ap, sym, subst, ◌∙◌, arith, Option, Some, None, inl, inr, get_or-set_same, get_or-set_other, length-append}
+use Rattle.std.proofs.Common.{◌≡◌, ◌≤◌, ◌<◌, ℕ, zero, suc, ◌+◌, ◌*◌, ◌-◌, Bool, true, false, List, [], ◌∷◌, ◌++◌, length, take, drop, get_or, replicate, refl, ap, sym, subst, ◌∙◌, arith, Option, Some, None, inl, inr, get_or-set_same, get_or-set_other, length-append}
 use Rattle.std.specs.Prelude.{◌⊎◌}
 use Rattle.std.proofs.lemmas.List.{take_all, take_at, length-set, length-replicate, length-take, length-drop, append-nil, get_or-replicate, get_or_past}
 use Rattle.std.proofs.lemmas.Bool.{cases_eq, cases_lt}
 use Rattle.std.proofs.Math.Seq.{drop-append-add}
-use Rattle.vx_packet.specs.Assemblies.{Held, Assembled, key_of, same_key, parts_before, parts_after, IsKept, IsWhole, IsBad, Takes}
+use Rattle.vx_packet.specs.Assemblies.{Held, Assembled, key_of, same_key, parts_before, parts_after, Takes}
 use Rattle.vx_packet.specs.Carried.{IsCarried, MayCarry, CameInPackets, envelope_of}
 use Rattle.vx_packet.specs.Gathering.{Parts, kept, all_came, bytes_of, joined}
-use Rattle.vx_packet.specs.Messages.{row, payload_of, parts_of, part_count, chunk, IsMessage}
-use Rattle.vx_packet.specs.Packets.{payload_in, part_of, packet_of, HasLength, IsPacket}
+use Rattle.vx_packet.specs.Messages.{payload_of, parts_of, part_count, chunk, IsMessage}
+use Rattle.vx_packet.specs.Packets.{payload_in, part_of, packet_of, IsPacket}
 use Rattle.vx_packet.specs.declared.assembly.Taken.{Taken}
 use Rattle.vx_packet.specs.declared.assembly.Taken.TheVariants as taken
 use Rattle.vx_packet.specs.declared.key.Key.{Key}

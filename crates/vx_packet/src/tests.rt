@@ -112,25 +112,22 @@ fn changed(at: usize, byte: u8) -> [u8; 56]
 #[test]
 fn other_bytes_are_no_packet(rt: HostRuntime) {
     assert_eq!(rt; decode(&HELLO[..55]), None);
-    assert_eq!(rt; decode(&HELLO[..47]), None);
-    assert_eq!(rt; decode(b""), None);
     // The magic, the version, a kind that is none, twice.
     assert_eq!(rt; decode(&changed(0, 0x57)), None);
     assert_eq!(rt; decode(&changed(4, 2)), None);
     assert_eq!(rt; decode(&changed(5, 0)), None);
     assert_eq!(rt; decode(&changed(5, 13)), None);
-    // A generation and a session of 2^63, a session where there is none.
+    // A generation and a session of 2^63, and a session where the kind has none.
     assert_eq!(rt; decode(&changed(14, 0x80)), None);
     assert_eq!(rt; decode(&changed(26, 0x80)), None);
     assert_eq!(rt; decode(&changed(5, 2)), None);
     // The part is equal to the parts, and there are no parts.
     assert_eq!(rt; decode(&changed(43, 1)), None);
     assert_eq!(rt; decode(&changed(45, 0)), None);
-    // A byte behind the packet.
+    // A byte behind the packet, and a part before the last with fewer than 1,024 bytes.
     let mut longer = [0; 57];
     longer[..56].copy_from_slice(&HELLO);
     assert_eq!(rt; decode(&longer), None);
-    // A part before the last with fewer than 1,024 bytes.
     assert_eq!(rt; decode(&changed(45, 2)), None);
 }
 
@@ -147,7 +144,7 @@ fn a_part_has_at_most_1024_bytes(rt: HostRuntime) {
 
 #[test]
 fn a_fork_map_of_too_few_bytes_is_bad(rt: HostRuntime) -> Result<(), Fail> {
-    // Kind 10, no session, the volume 0, one part, 9 regions, and bytes of which there should be two.
+    // Kind 10, no session, the volume 0, one part, and 9 regions, of which the map has two bytes.
     let mut packet = [0; 59];
     packet[..56].copy_from_slice(&HELLO);
     packet[5] = 10;
@@ -378,7 +375,6 @@ fn another_message_takes_the_place(rt: HostRuntime) -> Result<(), Fail> {
     assert_eq!(rt; taken(&mut assembly, &last[..len]), Some(Taken::Kept));
     let (last, len) = packet_of(&rt, &one, 1);
     assert_eq!(rt; taken(&mut assembly, &last[..len]), Some(Taken::Kept));
-    let (first, len) = packet_of(&rt, &one, 0);
     assert_eq!(rt; taken(&mut assembly, &first[..len]), Some(Taken::Whole));
     Ok(())
 }

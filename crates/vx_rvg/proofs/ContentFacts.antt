@@ -103,7 +103,7 @@ head_is_last l some = omega (arith, some)
 
 -- ---- what a crash leaves between calls
 
-no_more : (rs ss : List Record) (k : ℕ) → ss ≡ [] → rs ++ take k ss ≡ rs
+pub no_more : (rs ss : List Record) (k : ℕ) → ss ≡ [] → rs ++ take k ss ≡ rs
 no_more rs ss k none = ap (λ (l : List Record). rs ++ take k l) none ∙ ap (λ (l : List Record). rs ++ l) (take_none k) ∙ append-nil rs
   where
     take_none : (k : ℕ) → take {A = Record} k [] ≡ []

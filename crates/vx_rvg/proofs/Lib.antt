@@ -8,6 +8,7 @@ pub mod MakeStands
 pub mod PatchFacts
 pub mod ReadAnswers
 pub mod ReadStands
+pub mod SaveStands
 pub mod StartFill
 pub mod StartStands
 pub mod WriteCommit
@@ -15,3 +16,4 @@ pub mod WriteContent
 pub mod WriteLog
 pub mod WriteSound
 pub mod WriteStands
+pub mod SaveCalls

@@ -1,27 +1,25 @@
 -- The writes of a log are taken up, one after another.
-use Rattle.std.proofs.Common.{◌≡◌, ℕ, zero, suc, ◌+◌, ◌-◌, ◌*◌, ◌/◌, ◌<◌, ◌≤◌, Bool, true, false, List, [], ◌∷◌, ◌++◌, length, take, drop, Some, None, IsTrue, refl, sym, ◌∙◌, ap, subst, arith, length-append}
-use Rattle.std.specs.Prelude.{if◌then◌else◌, leb, slice_get, map, All}
+use Rattle.std.proofs.Common.{◌≡◌, ℕ, zero, suc, ◌+◌, ◌-◌, ◌≤◌, Bool, true, false, List, [], ◌∷◌, ◌++◌, length, take, drop, Some, None, IsTrue, sym, ◌∙◌, ap, subst, arith, length-append}
+use Rattle.std.specs.Prelude.{if◌then◌else◌, leb, slice_get, All}
 use Rattle.std.proofs.lemmas.List.{map-append, take-append-drop}
 use Rattle.std.proofs.lemmas.List.Elements.{All-nil, All-push}
 use Rattle.vx_model.specs.Content.{Write, blocks_in}
 use Rattle.vx_model.specs.declared.call.Update.{Update}
 use Rattle.vx_model.specs.declared.no.No.{No}
 use Rattle.vx_model.specs.declared.no.No.TheVariants as no
-use Rattle.vx_srlfmt.specs.declared.header.Header.{Header}
 use Rattle.vx_srlfmt.specs.declared.record.RecordHead.{RecordHead}
 use Rattle.vx_disk.specs.Shelf.{Goes, Meaning, Nothing}
 use Rattle.vx_disk.proofs.Runs.{same_Goes, then_nothing}
 use Rattle.vx_overlay.specs.Pending.{Pending}
-use Rattle.vx_overlay.specs.Writes.{entries_of, entries_at, blocks_within_of}
+use Rattle.vx_overlay.specs.Writes.{entries_of, entries_at}
 use Rattle.vx_overlay.specs.declared.entry.Entry.{Entry}
 use Rattle.vx_overlay.proofs.WriteLemmas.{entries_append, entries_count}
 use Rattle.vx_ringlog.specs.Logs.{State}
 use Rattle.vx_ringlog.specs.Records.{Record, given, write_of}
 use Rattle.vx_ringio.proofs.Following.{rest_tracks}
 use Rattle.vx_srl.specs.Calls.{Agrees, FetchCause, Fetches, update_of}
-use Rattle.vx_srl.specs.Causes.{DeviceCause}
 use Rattle.vx_srl.specs.Rings.{RingOn}
-use Rattle.vx_srl.specs.Views.{IsOrdered, Log, all_of, width_of, widths}
+use Rattle.vx_srl.specs.Views.{IsOrdered, Log, all_of, widths}
 use Rattle.vx_srl.specs.declared.errors.SrlNo.{SrlNo}
 use Rattle.vx_srl.specs.declared.errors.SrlNo.TheVariants.{NoRoom, Other, Overrun}
 use Rattle.vx_srl.specs.declared.kept.Kept.{Kept}

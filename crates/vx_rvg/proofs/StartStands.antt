@@ -1,6 +1,6 @@
 -- A group that is started stands with what was left.
-use Rattle.std.proofs.Common.{◌≡◌, ◌⊎◌, inl, inr, ⊎_elim, ℕ, ◌+◌, ◌-◌, ◌<◌, ◌≤◌, Bool, true, false, List, [], ◌∷◌, ◌++◌, length, take, drop, Option, Some, None, IsTrue, MatchOption, refl, sym, ◌∙◌, ap, subst, arith}
-use Rattle.std.specs.Prelude.{if◌then◌else◌, leb, ltb, min, All}
+use Rattle.std.proofs.Common.{◌≡◌, inl, inr, ⊎_elim, ℕ, ◌+◌, ◌<◌, ◌≤◌, Bool, List, [], ◌∷◌, ◌++◌, length, take, drop, Option, Some, None, IsTrue, MatchOption, refl, sym, ◌∙◌, ap, subst, arith}
+use Rattle.std.specs.Prelude.{if◌then◌else◌, leb, All}
 use Rattle.std.proofs.lemmas.Bool.{cases_lt, lt-ltb, le-ltb}
 use Rattle.std.proofs.lemmas.List.{take_all}
 use Rattle.vx_model.specs.Content.{Content, Write, blocks_in}
@@ -23,15 +23,14 @@ use Rattle.vx_ringlog.specs.Logs.{State}
 use Rattle.vx_ringlog.specs.Records.{Record}
 use Rattle.vx_ringio.specs.Classes.{classes}
 use Rattle.vx_ringio.specs.Tracks.{Lies}
-use Rattle.vx_srl.specs.Headers.{raised}
 use Rattle.vx_srl.specs.Rings.{RingOn}
 use Rattle.vx_srl.specs.Starts.{IsRaised, LeavesLog, Restarting}
 use Rattle.vx_srl.specs.Starts as srl
-use Rattle.vx_srl.specs.Views.{Log, head_of, most_number}
+use Rattle.vx_srl.specs.Views.{Log}
 use Rattle.vx_rvg.specs.Contents.{HasContent, HasSizes, KeepsContent, writes_of}
 use Rattle.vx_rvg.specs.Fills.{FillCause, IsFilled}
 use Rattle.vx_rvg.specs.Stands.{Found, IsWholeRecord, Left, Ready, Stands}
-use Rattle.vx_rvg.specs.Starts.{IsStarted, NothingLeft, StartCause, Starting, ring_in}
+use Rattle.vx_rvg.specs.Starts.{IsStarted, StartCause, Starting, ring_in}
 use Rattle.vx_rvg.specs.Views.{Core, IsSound, Placed, applied_count, blocks_within, last_of, unit_of, volume_size}
 use Rattle.vx_rvg.proofs.ContentFacts.{has_content, has_content_beside, held_length, ring_left}
 use Rattle.vx_rvg.proofs.MakeStands.{in_volumes, sizes_moved, volume_kept}

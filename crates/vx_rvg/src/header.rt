@@ -33,6 +33,9 @@ impl<S: Shelf> Rvg<S> {
         if let Some(disk) = self.core.halted {
             return Err(No::Halted { disk });
         }
+        if to < self.core.srl.low() {
+            return Ok(());
+        }
         if let Err(why) = self.core.srl.reclaim(&mut self.shelf, to) {
             let no = refused(why);
             self.core.halt(&no);
@@ -57,6 +60,8 @@ impl<S: Shelf> Rvg<S> {
         if let Some(disk) = self.core.halted {
             return Err(No::Halted { disk });
         }
+        // Numbers begin at 1.
+        let _low = self.core.srl.low();
         if let Err(why) = self.core.srl.set_state(&mut self.shelf, state) {
             let no = refused(why);
             self.core.halt(&no);

@@ -65,6 +65,7 @@ fn fill<S: Shelf>(shelf: &mut S, srl: &Srl, units: &Units, pending: &mut Overlay
         if let Err(why) = srl.fetch(shelf, before + 1, &mut update) {
             return Err(refused(why));
         }
+        // What is read next is told only of a shelf that is up.
         if shelf.is_down() {
             return Err(No::Down);
         }
@@ -100,6 +101,13 @@ impl StartRoom {
         let log = LogRoom::new(alloc, blocks)?;
         let pending = Overlay::new(alloc, blocks.min(65536) - 2)?;
         Ok(StartRoom { log, pending })
+    }
+
+    /// The blocks of the ring for which it is.
+    pub fn ring(&self) -> u64
+        ensures { result ≡ self.now.ring }
+    {
+        self.pending.spare()
     }
 }
 

@@ -1,0 +1,115 @@
+-- What the calls of the log that write a header make of a group.
+use Rattle.std.proofs.Common.{◌≡◌, ◌⊎◌, inl, inr, ⊎_elim, ℕ, ◌+◌, ◌-◌, ◌<◌, ◌≤◌, Bool, true, false, List, [], length, IsTrue, IsFalse, None, Result, Ok, Err, refl, sym, ◌∙◌, ap, subst, arith}
+use Rattle.std.specs.Prelude.{if◌then◌else◌, leb}
+use Rattle.std.proofs.lemmas.Bool.{cases_lt}
+use Rattle.std.proofs.lemmas.Bool.Decides.{nat_tests}
+use Rattle.vx_model.specs.declared.state.State.{State as SiteState}
+use Rattle.vx_srlfmt.specs.declared.header.Header.{Header}
+use Rattle.vx_disk.specs.Moves.{Blocks, Says, Moves, Run}
+use Rattle.vx_disk.specs.Shelf.{Meaning}
+use Rattle.vx_srl.specs.Calls.{Saves, saved, saving, no_number}
+use Rattle.vx_srl.specs.Headers.{with_state, without}
+use Rattle.vx_srl.specs.Rings.{Goes, LeadsTo}
+use Rattle.vx_srl.specs.Views.{Log, count_to, head_of, most_number}
+use Rattle.vx_srl.specs.declared.errors.SrlNo.{SrlNo}
+use Rattle.vx_rvg.specs.Saves.{log_without, reclaimed}
+use Rattle.vx_rvg.specs.Stands.{Saving, Rests}
+use Rattle.vx_rvg.specs.Views.{Core, IsSound, applied_count}
+use Rattle.vx_rvg.proofs.SaveStands.{save_sound, save_moves, save_rests}
+use Rattle.vx_rvg.proofs.WriteSound.{SameSizes, ended_sound, moved_sizes}
+
+-- the log is as it was, or has the new header
+saves_cases : (l after l' : Log) (m m' : Meaning) (r : Result (Unit {0}) SrlNo) → Saves l after m m' l' r → (l' ≡ l) ⊎ (l' ≡ after)
+saves_cases l after l' m m' (Ok done) is = inr is.0
+saves_cases l after l' m m' (Err why) is = inl is.0
+
+pub set_cases : {X : Type 0} (l l' : Log) (state : SiteState) (m m' : Meaning) (r : Result (Unit {0}) SrlNo) (x x' : X)
+    → (most_number ≤ l.header.stamp → (r ≡ Err no_number) × (l' ≡ l) × (x' ≡ x)) → (l.header.stamp < most_number → Saves l (saved l (with_state l state) 0) m m' l' r)
+    → (l' ≡ l) ⊎ (l' ≡ saved l (with_state l state) 0)
+set_cases l l' state m m' r x x' limit saves =
+    ⊎_elim (λ below. saves_cases l (saved l (with_state l state) 0) l' m m' r (saves below)) (λ past. inl (limit past).1) (cases_lt l.header.stamp most_number)
+
+pub reclaim_cases : {X : Type 0} (l l' : Log) (to : ℕ) (m m' : Meaning) (r : Result (Unit {0}) SrlNo) (x x' : X) → l.header.low ≤ to
+    → (l.header.low ≤ to → (most_number ≤ l.header.stamp) ⊎ (most_number ≤ to) → (r ≡ Err no_number) × (l' ≡ l) × (x' ≡ x))
+    → (l.header.low ≤ to → l.header.stamp < most_number → to < most_number → Saves l (saved l (without l to) (count_to l to)) m m' l' r)
+    → (l' ≡ l) ⊎ (l' ≡ saved l (without l to) (count_to l to))
+reclaim_cases l l' to m m' r x x' low limit saves =
+    ⊎_elim
+    (λ below. ⊎_elim
+    (λ under. saves_cases l (saved l (without l to) (count_to l to)) l' m m' r (saves low below under))
+    (λ past. inl (limit low (inr past)).1)
+    (cases_lt to most_number))
+    (λ past. inl (limit low (inl past)).1)
+    (cases_lt l.header.stamp most_number)
+
+was_up : (before after : Bool) → (IsTrue before → IsTrue after) → IsFalse after → IsFalse before
+was_up false after falls not = refl
+was_up true after falls not = let wrong : false ≡ true = sym not ∙ falls refl in cc
+
+pub still_up : (mine : Blocks) (P : Says) (m m' : Meaning) → Moves mine P m m' → IsFalse m'.down → IsFalse m.down
+still_up mine P m m' moves up = was_up m.down m'.down moves.falls up
+
+pub same_sound : (core : Core) (l' : Log) (mine : Blocks) (P : Says) (m m' : Meaning) → Moves mine P m m' → IsSound core m → l' ≡ core.log → IsSound (record core { log = l' }) m'
+same_sound core l' mine P m m' moves sound is =
+    subst (λ (l : Log). IsSound (record core { log = l }) m') (sym is)
+    (ended_sound core core.log core.halted m m' (moved_sizes mine P m m' moves) sound (record { unit = refl; ring = refl; header = refl; held = refl })
+    (λ running up. sound.idle running (still_up mine P m m' moves up)))
+
+pub saved_sound : (core : Core) (g : Header) (n : ℕ) (l' : Log) (mine : Blocks) (P : Says) (m m' : Meaning) → Moves mine P m m' → g.low ≡ core.log.header.low + n → n ≤ applied_count core
+    → 0 < core.log.header.low → IsSound core m → (l' ≡ core.log) ⊎ (l' ≡ saved core.log g n) → IsSound (record core { log = l' }) m'
+saved_sound core g n l' mine P m m' moves low_is fewer some sound cases =
+    ⊎_elim (λ is. same_sound core l' mine P m m' moves sound is)
+    (λ is. subst (λ (l : Log). IsSound (record core { log = l }) m') (sym is)
+    (save_sound core g n low_is fewer some m m' (moved_sizes mine P m m' moves) sound (still_up mine P m m' moves)))
+    cases
+
+-- the numbers of a reclaim
+pub without_low : (l : Log) (to : ℕ) → l.header.low ≤ to → (without l to).low ≡ l.header.low + count_to l to
+without_low l to low = omega (arith, low)
+
+pub state_low : (l : Log) (state : SiteState) → (with_state l state).low ≡ l.header.low + 0
+state_low l state = omega arith
+
+pub reclaim_fewer : (core : Core) (to : ℕ) → to ≤ core.applied → count_to core.log to ≤ applied_count core
+reclaim_fewer core to le = omega (arith, le)
+
+taken : {A : Type 0} (t : Bool) (a b : A) → t ≡ true → (if t then a else b) ≡ a
+taken true a b is = refl
+taken false a b is = cc
+
+reclaimed_log : (l : Log) (to : ℕ) → l.header.low ≤ to → log_without l to ≡ saved l (without l to) (count_to l to)
+reclaimed_log l to low = taken (leb l.header.low to) (saved l (without l to) (count_to l to)) l (grind (arith, nat_tests))
+
+pub reclaimed_moves : (core : Core) (to : ℕ) (m m' : Meaning) → core.log.header.low ≤ to → to ≤ core.applied → 0 < core.log.header.low → IsSound core m
+    → Goes core.log (saving (without core.log to) (count_to core.log to)) m m' → Moves (Run core.units.srl 0 (core.log.ring + 2)) (Saving core (reclaimed core to) m) m m'
+reclaimed_moves core to m m' low applied some sound goes =
+    subst (λ (l : Log). Moves (Run core.units.srl 0 (core.log.ring + 2)) (Saving core (record core { log = l }) m) m m') (sym (reclaimed_log core.log to low))
+    (save_moves core (without core.log to) (count_to core.log to) (without_low core.log to low) (reclaim_fewer core to applied) some m m' sound goes)
+
+pub reclaimed_rests : (core : Core) (to : ℕ) (l' : Log) (m m' : Meaning) → core.log.header.low ≤ to → to ≤ core.applied → 0 < core.log.header.low → IsSound core m
+    → (P : Says) → Moves (Run core.log.unit 0 (core.log.ring + 2)) P m m' → LeadsTo core.log (saving (without core.log to) (count_to core.log to)) l' m m'
+    → l' ≡ saved core.log (without core.log to) (count_to core.log to) → Rests core (record core { log = l' }) m m'
+reclaimed_rests core to l' m m' low applied some sound P moves leads is =
+    subst (λ (l : Log). Rests core (record core { log = l }) m m') (sym is)
+    (save_rests core (without core.log to) (count_to core.log to) (without_low core.log to low) (reclaim_fewer core to applied) some m m' sound P moves
+    (subst (λ (l : Log). LeadsTo core.log (saving (without core.log to) (count_to core.log to)) l m m') is leads))
+
+saves_done : (l after l' : Log) (m m' : Meaning) (r : Result (Unit {0}) SrlNo) (done : Unit {0}) → r ≡ Ok done → Saves l after m m' l' r → l' ≡ after
+saves_done l after l' m m' (Ok x) done is saves = saves.0
+saves_done l after l' m m' (Err why) done is saves = cc
+
+refused_done : (r : Result (Unit {0}) SrlNo) (done : Unit {0}) (P : Type 0) → r ≡ Ok done → r ≡ Err no_number → P
+refused_done r done P is not = let e : Ok done ≡ Err no_number = sym is ∙ not in cc
+
+pub reclaim_done : {X : Type 0} (l l' : Log) (to : ℕ) (m m' : Meaning) (r : Result (Unit {0}) SrlNo) (x x' : X) (done : Unit {0}) → r ≡ Ok done → l.header.low ≤ to
+    → (l.header.low ≤ to → (most_number ≤ l.header.stamp) ⊎ (most_number ≤ to) → (r ≡ Err no_number) × (l' ≡ l) × (x' ≡ x))
+    → (l.header.low ≤ to → l.header.stamp < most_number → to < most_number → Saves l (saved l (without l to) (count_to l to)) m m' l' r)
+    → l' ≡ saved l (without l to) (count_to l to)
+reclaim_done l l' to m m' r x x' done is low limit saves =
+    ⊎_elim
+    (λ below. ⊎_elim
+    (λ under. saves_done l (saved l (without l to) (count_to l to)) l' m m' r done is (saves low below under))
+    (λ past. refused_done r done (l' ≡ saved l (without l to) (count_to l to)) is (limit low (inr past)).0)
+    (cases_lt to most_number))
+    (λ past. refused_done r done (l' ≡ saved l (without l to) (count_to l to)) is (limit low (inl past)).0)
+    (cases_lt l.header.stamp most_number)
