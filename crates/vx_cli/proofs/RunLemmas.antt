@@ -1,15 +1,14 @@
 -- A run, and the racks that come back from it.
 use Rattle.std.proofs.Common.{◌≡◌, ℕ, Bool, List, [], ◌∷◌, Option, Some, None, Result, Ok, Err, refl, arith, sym, subst}
 use Rattle.vx_model.specs.World.{World, empty_world}
-use Rattle.vx_model.specs.Good.{Good}
 use Rattle.vx_model.proofs.GoodLemmas.{good_empty}
 use Rattle.vx_disk.specs.Shelf.{Meaning}
 use Rattle.vx_disk.specs.declared.shelf.Shelf.{Ghosts}
 use Rattle.vx_script.specs.declared.line.ScriptLine.{ScriptLine}
 use Rattle.vx_stream.proofs.SendLemmas.{appends_none}
-use Rattle.vx_node.proofs.Goods.{step_good}
+use Rattle.vx_node.proofs.Goods.{Sound, sound_empty, step_good}
 use Rattle.vx_node.specs.declared.yard.Yard.{Yard}
-use Rattle.vx_node.specs.Holds.{AreFresh, RacksHold, rack_faults}
+use Rattle.vx_node.specs.Holds.{AreFresh, RacksHold, RacksTell, rack_faults}
 use Rattle.vx_node.specs.Lines.{script_line}
 use Rattle.vx_node.specs.Steps.{Fails, SaidStep}
 use Rattle.vx_node.specs.Yards.{YardStands, IsTold, count_of, in_files}
@@ -34,30 +33,30 @@ run_told f files w (line ∷ lines) (fails ∷ failures) [] new run = run
 run_told f files w (line ∷ lines) (fails ∷ failures) (text ∷ texts) new run =
     (run.0, line_told f files w line fails text run.0 run.1, run_told f files run.0 lines failures texts new run.2)
 
-said_good : (told : Type 0) (files : Bool) (w : World) (r : Result (Option ScriptLine) ℕ) (fails : Fails) (text : List ℕ) (new : World) → Good w → SaidStep told files w r fails text new → Good new
-said_good told files w (Ok None) fails text new good step = subst Good (sym step.2) good
-said_good told files w (Ok (Some line)) fails text new good step = step_good files w line fails text new good step
-said_good told files w (Err column) fails text new good step = absurd step
+said_sound : (told : Type 0) → told → (files : Bool) (w : World) (r : Result (Option ScriptLine) ℕ) (fails : Fails) (text : List ℕ) (new : World) → Sound w → SaidStep told files w r fails text new → Sound new
+said_sound told is files w (Ok None) fails text new sound step = subst Sound (sym step.2) sound
+said_sound told is files w (Ok (Some line)) fails text new sound step = step_good is files w line fails text new sound step
+said_sound told is files w (Err column) fails text new sound step = absurd step
 
 -- each world of a run is good
-world_good : (told : Type 0) (files : Bool) (w : World) (lines : List (List ℕ)) (failures : List Fails) (texts : List (List ℕ)) (new : World)
-    → Good w → Run told files w lines failures texts new → Good new
-world_good told files w [] [] [] new good run = subst Good (sym run) good
-world_good told files w [] [] (text ∷ texts) new good run = absurd run
-world_good told files w [] (fails ∷ failures) texts new good run = absurd run
-world_good told files w (line ∷ lines) [] texts new good run = absurd run
-world_good told files w (line ∷ lines) (fails ∷ failures) [] new good run = absurd run
-world_good told files w (line ∷ lines) (fails ∷ failures) (text ∷ texts) new good run =
-    world_good told files run.0 lines failures texts new (said_good told files w (script_line line) fails text run.0 good run.1) run.2
+world_sound : (told : Type 0) → told → (files : Bool) (w : World) (lines : List (List ℕ)) (failures : List Fails) (texts : List (List ℕ)) (new : World)
+    → Sound w → Run told files w lines failures texts new → Sound new
+world_sound told is files w [] [] [] new sound run = subst Sound (sym run) sound
+world_sound told is files w [] [] (text ∷ texts) new sound run = absurd run
+world_sound told is files w [] (fails ∷ failures) texts new sound run = absurd run
+world_sound told is files w (line ∷ lines) [] texts new sound run = absurd run
+world_sound told is files w (line ∷ lines) (fails ∷ failures) [] new sound run = absurd run
+world_sound told is files w (line ∷ lines) (fails ∷ failures) (text ∷ texts) new sound run =
+    world_sound told is files run.0 lines failures texts new (said_sound told is files w (script_line line) fails text run.0 sound run.1) run.2
 
 module _ {R : Type 0} {g : Ghosts R} where
   -- what a run of a yard came to, with the racks that come back from it
-  pub run_is : (T : Type 0) (files : Bool) (racks : List R) (status : Status) (old new : Yard R g) (left now_left w0 w1 : Option (List ℕ)) (f0 f1 : ℕ → ℕ → ℕ)
+  pub run_is : (files : Bool) (racks : List R) (status : Status) (old new : Yard R g) (left now_left w0 w1 : Option (List ℕ)) (f0 f1 : ℕ → ℕ → ℕ)
       → YardComes 0 empty_world [] left status old new now_left w0 w1 → in_files old ≡ files
-      → ((w : World) → YardStands w new → RacksHold g.meaning w racks) → ((w : World) → YardStands w new → T → IsTold new)
+      → ((w : World) → YardStands w new → RacksHold g.meaning w racks) → ((w : World) → YardStands w new → RacksTell g.meaning racks → IsTold new)
       → ((s d : ℕ) → count_of old s d ≡ f0 s d) → ((w : World) → YardStands w new → (s d : ℕ) → f1 s d ≡ count_of new s d)
-      → RunIs T files (Leaves g.meaning racks) status left now_left w0 w1 f0 f1
-  run_is T files racks status old new left now_left w0 w1 f0 f1 comes kept holds told counts after =
+      → RunIs (RacksTell g.meaning racks) files (Leaves g.meaning racks) status left now_left w0 w1 f0 f1
+  run_is files racks status old new left now_left w0 w1 f0 f1 comes kept holds told counts after =
       let o = comes.outcome in
       record {
         input = comes.bytes;
@@ -68,13 +67,13 @@ module _ {R : Type 0} {g : Ghosts R} where
           out = o.out;
           split = o.split;
           few = o.few;
-          run = subst (λ (f : Bool). Run T f empty_world o.part.lines o.part.failures o.part.texts o.world) kept
+          run = subst (λ (f : Bool). Run (RacksTell g.meaning racks) f empty_world o.part.lines o.part.failures o.part.texts o.world) kept
               (run_told (told o.world o.leaves) (in_files old) empty_world o.part.lines o.part.failures o.part.texts o.world o.run);
           ends = o.ends;
           appends = o.appends;
           rose = rose_same (all_fails o.part.failures) (count_of old) (count_of new) f0 f1 (λ s d. sym (counts s d)) (after o.world o.leaves) o.rose;
           leaves = record {
-            good = world_good (IsTold new) (in_files old) empty_world o.part.lines o.part.failures o.part.texts o.world good_empty o.run;
+            good = λ tells. (world_sound (IsTold new) (told o.world o.leaves tells) (in_files old) empty_world o.part.lines o.part.failures o.part.texts o.world sound_empty o.run).good;
             holds = holds o.world o.leaves;
           };
         };
@@ -83,7 +82,7 @@ module _ {R : Type 0} {g : Ghosts R} where
 module _ {R : Type 0} (meaning : R → Meaning) where
   -- the racks of a world without sites hold it
   fresh_leave : (racks : List R) → AreFresh meaning racks → Leaves meaning racks empty_world
-  fresh_leave racks fresh = record { good = good_empty; holds = record { eight = fresh.eight; each = λ s r below at. absurd (omega arith) } }
+  fresh_leave racks fresh = record { good = λ _. good_empty; holds = record { eight = fresh.eight; each = λ s r below at. absurd (omega arith) } }
 
   -- memory ran out before the run began
   pub run_stops : (T : Type 0) (files : Bool) (racks now : List R) (left w0 : Option (List ℕ)) → AreFresh meaning racks → now ≡ racks

@@ -1,18 +1,18 @@
 -- Steps of lines, and the counts of the disks.
 use Rattle.std.proofs.Common.{◌≡◌, ℕ, ◌+◌, Bool, List, [], ◌++◌, ◌<◌, length, Option, Some, None, Result, Ok, Err, arith, ap, inl, inr, ◌⊎◌}
 use Rattle.std.proofs.lemmas.List.Sums.{sum_by-append}
-use Rattle.vx_model.specs.Content.{Content}
+use Rattle.vx_model.specs.Content.{Content, Write as WriteOf}
 use Rattle.vx_model.specs.World.{World}
 use Rattle.vx_model.specs.declared.no.No.{No}
 use Rattle.vx_order.specs.Order.{refusal_of}
 use Rattle.vx_script.specs.declared.line.ScriptLine.{ScriptLine}
-use Rattle.vx_script.specs.declared.line.ScriptLine.TheVariants.{Site, Raw, Disk, Write, Put, Read, Show, Status}
+use Rattle.vx_script.specs.declared.line.ScriptLine.TheVariants.{Site, Raw, Disk, Crash, Recover, Write, Put, Read, Show, Apply, Status}
 use Rattle.vx_script.proofs.GrammarLemmas.{line_of_long}
 use Rattle.vx_node.specs.declared.said.Said.{Said}
 use Rattle.vx_node.specs.Facts.{facts_of}
 use Rattle.vx_node.specs.Lines.{script_line, only_built}
 use Rattle.vx_node.specs.Stands.{RoseAll, times}
-use Rattle.vx_node.specs.Steps.{Fails, Gets, Works, StepBy, SaidStep, LineStep}
+use Rattle.vx_node.specs.Steps.{Fails, Gets, Puts, IsPut, NoNumber, PutFails, Recovers, ComesUp, StaysDown, NoSession, Untold, IsBareStill, Works, StepBy, SaidStep, LineStep}
 
 -- a line of more than 4,096 bytes is wrong behind them
 pub script_line_long : (line : List ℕ) → 4096 < length line → script_line line ≡ Err 4097
@@ -41,14 +41,29 @@ module _ {T U : Type 0} (f : U → T) where
   gets_told : (c : Content) (volume start count : ℕ) (fails : Fails) (said : Said) (new next : World) → Gets T c volume start count fails said new next → Gets U c volume start count fails said new next
   gets_told c volume start count fails said new next x = record { bytes = x.bytes; size = x.size; shows = λ u. x.shows (f u); cleanly = x.cleanly }
 
+  puts_told : (w : World) (site : ℕ) (x : WriteOf) (fails : Fails) (said : Said) (new : World) → Puts T w site x fails said new → Puts U w site x fails said new
+  puts_told w site x fails said new (IsPut below done) = IsPut below done
+  puts_told w site x fails said new (NoNumber none done) = NoNumber (λ u. none (f u)) done
+  puts_told w site x fails said new (PutFails disk fails_at) = PutFails disk fails_at
+
+  recovers_told : (w : World) (site : ℕ) (fails : Fails) (said : Said) (new : World) → Recovers T w site fails said new → Recovers U w site fails said new
+  recovers_told w site fails said new (ComesUp mid begins done) = ComesUp mid begins done
+  recovers_told w site fails said new (StaysDown mid disk begins fails_at) = StaysDown mid disk begins fails_at
+  recovers_told w site fails said new (NoSession mid begins none done) = NoSession mid begins none done
+  recovers_told w site fails said new (Untold never) = Untold (λ u. never (f u))
+  recovers_told w site fails said new (IsBareStill bare done) = IsBareStill bare done
+
   works_told : (w : World) (line : ScriptLine) (fails : Fails) (said : Said) (new : World) → Works T w line fails said new → Works U w line fails said new
   works_told w (Site name disks blocks) fails said new x = x
   works_told w (Raw site) fails said new x = x
   works_told w (Disk site disk state) fails said new x = x
-  works_told w (Write site volume start count fill) fails said new x = x
-  works_told w (Put site volume start bytes) fails said new x = x
+  works_told w (Crash site pick) fails said new x = x
+  works_told w (Recover site) fails said new x = recovers_told _ _ _ _ _ x
+  works_told w (Write site volume start count fill) fails said new x = puts_told _ _ _ _ _ _ x
+  works_told w (Put site volume start bytes) fails said new x = puts_told _ _ _ _ _ _ x
   works_told w (Read site volume start count) fails said new x = left_side (gets_told _ _ _ _ _ _ _ _) x
   works_told w (Show site volume start count) fails said new x = left_side (gets_told _ _ _ _ _ _ _ _) x
+  works_told w (Apply site to) fails said new x = x
   works_told w (Status site) fails said new x = x
   works_told w other fails said new x = absurd x
 

@@ -3,7 +3,7 @@ use Rattle.std.specs.Prelude.{◌≡◌, ℕ, Bool, List, [], ◌∷◌, ◌++�
 use Rattle.vx_model.specs.World.{World}
 use Rattle.vx_model.specs.Good.{Good}
 use Rattle.vx_disk.specs.Shelf.{Meaning}
-use Rattle.vx_node.specs.Holds.{RacksHold}
+use Rattle.vx_node.specs.Holds.{RacksHold, RacksTell}
 use Rattle.vx_node.specs.Steps.{Fails, LineStep}
 
 -- the lines, one after another, each a step from the world that the line before it left
@@ -22,7 +22,7 @@ all_fails [] = []
 all_fails (fails ∷ failures) = fails ++ all_fails failures
 
 module _ {R : Type 0} (meaning : R → Meaning) where
-  -- the world at the end of a run: it is good, and the racks hold it
+  -- the world at the end of a run: the racks hold it, and where they tell their contents it is good
   pub record Leaves (racks : List R) (w : World) : Type 0 where
-    pub good : Good w
+    pub good : RacksTell meaning racks → Good w
     pub holds : RacksHold meaning w racks

@@ -7,6 +7,8 @@ use Rattle.std.proofs.lemmas.Bool.Decides.{nat_tests}
 use Rattle.vx_model.specs.World.{Node, Volume, bare_site}
 use Rattle.vx_model.specs.Content.{Content, zero_block}
 use Rattle.vx_model.specs.Steps.{raw_set, raw_content, raw_volumes, ring_of}
+use Rattle.std.proofs.lemmas.List.Elements.{All-nil}
+use Rattle.vx_srlfmt.specs.Headers.{CanSpellState, CanSpellLink}
 use Rattle.vx_model.specs.States.{first_state}
 use Rattle.vx_model.specs.declared.units.Units.{Units}
 use Rattle.vx_model.specs.declared.state.State.{State}
@@ -125,6 +127,20 @@ raw_size disks blocks v h = grind (arith, nat_tests)
 
 raw_none : (disks blocks v : ℕ) → disks - 2 ≤ v → (raw_content disks blocks).size v ≡ 0
 raw_none disks blocks v h = grind (arith, nat_tests)
+
+-- the table can spell it
+pub first_spells : (site : ℕ) (s : State) → s ≡ first_state site → CanSpellState s
+first_spells site s is = subst (λ (t : State). CanSpellState t) (sym is) (record {
+  generation = omega arith;
+  top = omega arith;
+  role = tt;
+  replay = omega arith;
+  end = omega arith;
+  parent = omega arith;
+  fork = omega arith;
+  few = omega arith;
+  links = All-nil CanSpellLink;
+})
 
 -- what the header of the log of a raw set keeps
 raw_state : (site : ℕ) (n : Node) → n ≡ bare_site n.name n.disks n.blocks → first_state site ≡ state_of (raw_set site n)

@@ -1,6 +1,11 @@
 // The disks of a site, and what is made of them.
-ghost use Rattle.std.specs.Prelude.{◌≡◌, ◌≤◌, ◌<◌, ◌+◌, ◌*◌, ◌%◌, ℕ, length, IfSome, IsSome, IsTrue};
-ghost use Rattle.vx_node.specs.Engines.{CanStart};
+ghost use Rattle.std.specs.Prelude.{◌≡◌, ◌≤◌, ◌<◌, ◌+◌, ◌*◌, ◌%◌, ℕ, length, None, IfSome, IsSome, IsTrue, OnOk};
+ghost use Rattle.vx_model.specs.Content.{blocks_in};
+ghost use Rattle.vx_model.specs.World.{Node};
+ghost use Rattle.vx_srl.specs.Views.{free_of};
+ghost use Rattle.vx_node.specs.Engines.{Later, CanWrite, WroteAt, CanStart};
+ghost use Rattle.vx_node.specs.Rooms.{RoomIs};
+ghost use Rattle.vx_node.specs.Stands.{IsUpAt, StandsAt};
 
 use crate::units::raw_units;
 use std::alloc::Global;
@@ -21,22 +26,36 @@ pub enum Engine<R: Rack> {
     Gone,
 }
 
-// Gives up what the log no longer needs, where a write of so many blocks has no room. All that is logged is applied first.
-fn make_room<R: Rack>(rvg: &mut Rvg<R>, count: u64) -> Result<(), No> {
+// Makes room in the log for a write of so many blocks: what it holds is applied, and then given up.
+fn make_room<R: Rack>(rvg: &mut Rvg<R>, count: u64) -> Result<(), No>
+    ensures room { OnOk result (count < free_of rvg.new.core.log) }
+    ensures made { (n : Node) → IsUpAt n rvg.old.core (R.meaning rvg.old.shelf) → n.halted ≡ None → count + 1 ≤ n.ring
+        → RoomIs n (R.meaning rvg.old.shelf) rvg.new.core (R.meaning rvg.new.shelf) result }
+    ensures units { rvg.new.core.units ≡ rvg.old.core.units }
+    ensures later { Later (Engine.Up rvg.old) (Engine.Up rvg.new) }
+{
     if rvg.free() > count {
         return Ok(());
     }
     let applied = rvg.apply(rvg.head())?;
-    rvg.reclaim(applied)
+    rvg.reclaim(applied)?;
+    if rvg.free() > count {
+        Ok(())
+    } else {
+        Err(No::Size)
+    }
 }
 
 // Writes whole blocks to a volume of a group that has no links.
-fn write_group<R: Rack>(
-    rvg: &mut Rvg<R>,
-    volume: u32,
-    start: u64,
-    bytes: &[u8],
-) -> Result<u64, No> {
+fn write_group<R: Rack>(rvg: &mut Rvg<R>, volume: u32, start: u64, bytes: &[u8]) -> Result<u64, No>
+    requires volume { volume < length rvg.old.core.units.vols }
+    requires some { 0 < length bytes.now }
+    requires few { length bytes.now ≤ 8192 }
+    requires whole { length bytes.now % 512 ≡ 0 }
+    ensures wrote { (n : Node) → StandsAt n (Engine.Up rvg.old) → CanWrite n volume start (blocks_in bytes.now)
+        → WroteAt n (record { volume = volume; start = start; bytes = bytes.now }) (Engine.Up rvg.old) (Engine.Up rvg.new) result }
+    ensures later { Later (Engine.Up rvg.old) (Engine.Up rvg.new) }
+{
     make_room(rvg, bytes.len() as u64 / 512)?;
     rvg.write(volume, start, bytes, 0)
 }
@@ -55,11 +74,9 @@ fn can_start<R: Rack>(rack: &R, room: &StartRoom) -> bool
 }
 
 impl<R: Rack> Engine<R> {
-    ghost use Rattle.vx_model.specs.World.{Node};
-    ghost use Rattle.vx_model.specs.Content.{blocks_in};
     ghost use Rattle.vx_node.specs.Holds.{state_with};
-    ghost use Rattle.vx_node.specs.Stands.{StandsAt, IsUnused};
-    ghost use Rattle.vx_node.specs.Engines.{Later, FitIs, CanWrite, CanRead, CanApply, WroteAt, ReadAt, AppliedAt, MadeIs, CrashedAt, CameUpIs};
+    ghost use Rattle.vx_node.specs.Stands.{IsUnused};
+    ghost use Rattle.vx_node.specs.Engines.{FitIs, CanRead, CanApply, ReadAt, AppliedAt, MadeIs, CrashedAt, CameUpIs};
     ghost use Rattle.vx_model.specs.declared.site.SiteState.TheVariants.{Bare as BareState, Up as UpState, Down as DownState};
 
     /// Makes the disks of a site that has none.

@@ -38,8 +38,15 @@ within_rest size n ks =
 
 pub due_few : (core : Core) (size : ℕ → ℕ) (k : ℕ) → IsOrdered core.log.ring core.log.header (all_of core.log) → blocks_within size (due core k) ≤ 65534
 due_few core size k ordered =
-    omega (arith, within_first size (k - core.applied) (drop (applied_count core) core.log.held), within_rest size (applied_count core) core.log.held,
-    within_append size core.log.held core.log.staged, within_few size (all_of core.log), ordered.fits, ordered.few)
+    omega (
+      arith,
+      within_first size (k - core.applied) (drop (applied_count core) core.log.held),
+      within_rest size (applied_count core) core.log.held,
+      within_append size core.log.held core.log.staged,
+      within_few size (all_of core.log),
+      ordered.fits,
+      ordered.few,
+    )
 
 was_up : (before after : Bool) → (IsTrue before → IsTrue after) → IsFalse after → IsFalse before
 was_up false after falls not = refl
@@ -99,7 +106,7 @@ due_more core k one low from there =
     let count : k + 1 - core.applied ≡ (k - core.applied) + 1 = omega (arith, from) in
     let at : a + (k - core.applied) ≡ k + 1 - core.log.header.low = omega (arith, low, from) in
     let item : get_or (drop a core.log.held) (k - core.applied) one ≡ one
-        = get_or-drop a core.log.held (k - core.applied) one ∙ ap (λ (j : ℕ). get_or core.log.held j one) at ∙ get_or_from_slice_get core.log.held (k + 1 - core.log.header.low) one one there in
+    = get_or-drop a core.log.held (k - core.applied) one ∙ ap (λ (j : ℕ). get_or core.log.held j one) at ∙ get_or_from_slice_get core.log.held (k + 1 - core.log.header.low) one one there in
     ap (λ (n : ℕ). take n (drop a core.log.held)) count
     ∙ take_more (drop a core.log.held) (k - core.applied) one (omega (arith, low, from, slice_get_within core.log.held (k + 1 - core.log.header.low) one there, length-drop a core.log.held))
     ∙ ap (λ (y : Kept). take (k - core.applied) (drop a core.log.held) ++ y ∷ []) item
@@ -118,8 +125,14 @@ module _ (core : Core) (k : ℕ) (old mid new : Meaning) (count : ℕ) (brought 
       let is : due core (k + 1) ≡ due core k ++ brings.kept ∷ [] = due_more core k brings.kept low from brings.there in
       record {
         count_is =
-            omega (arith, brought.count_is, brings.count_is, within_same size (volume_size core.units.vols mid) (volume_same core.units.vols old mid same_mid) (brings.kept ∷ []),
-            within_append size (due core k) (brings.kept ∷ []), ap (λ (ks : List Kept). blocks_within size ks) is);
+            omega (
+              arith,
+              brought.count_is,
+              brings.count_is,
+              within_same size (volume_size core.units.vols mid) (volume_same core.units.vols old mid same_mid) (brings.kept ∷ []),
+              within_append size (due core k) (brings.kept ∷ []),
+              ap (λ (ks : List Kept). blocks_within size ks) is,
+            );
         each = subst (λ (ks : List Kept). All (ReadsNewest core size new) ks) (sym is)
             (All-push (ReadsNewest core size new) (due core k) brings.kept
             (All-weaker (ReadsNewest core size mid) (ReadsNewest core size new)
@@ -167,7 +180,7 @@ module _ (core : Core) (m m' : Meaning) (sound : IsSound core m) (to count : ℕ
       let same : SameSizes m m' = moved_sizes mine P m m' moves in
       let at : applied_count core + (to - core.applied) ≡ count_to core.log to = omega (arith, sound.low, from) in
       let rest : drop (to - core.applied) (drop (applied_count core) core.log.held) ≡ drop (count_to core.log to) core.log.held
-          = drop-drop (to - core.applied) (applied_count core) core.log.held ∙ ap (λ (n : ℕ). drop n core.log.held) at in
+      = drop-drop (to - core.applied) (applied_count core) core.log.held ∙ ap (λ (n : ℕ). drop n core.log.held) at in
       record {
         placed = placed_same core.units m m' same sound.placed;
         log_unit = sound.log_unit;
@@ -177,8 +190,13 @@ module _ (core : Core) (m m' : Meaning) (sound : IsSound core m) (to count : ℕ
         known = known;
         room = sound.room;
         waiting =
-            omega (arith, length-drop count core.pending.entries, all_waiting, ap (λ (ks : List Kept). blocks_within size ks) rest,
-            within_same size (volume_size core.units.vols m') (volume_same core.units.vols m m' same) (drop (count_to core.log to) core.log.held));
+            omega (
+              arith,
+              length-drop count core.pending.entries,
+              all_waiting,
+              ap (λ (ks : List Kept). blocks_within size ks) rest,
+              within_same size (volume_size core.units.vols m') (volume_same core.units.vols m m' same) (drop (count_to core.log to) core.log.held),
+            );
       }
 
 -- the group as the code leaves it

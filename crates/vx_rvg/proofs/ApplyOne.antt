@@ -47,7 +47,7 @@ kept_at l n head front = record { place = front.kept.place; head = head }
 pub count_few : (l : Log) (n : ℕ) (head : RecordHead) → IsFront l n head → IsOrdered l.ring l.header (all_of l) → head.count ≤ 16
 count_few l n head front ordered =
     let can : CanSpellHead front.kept.head
-        = All-contains (λ k. CanSpellHead k.head) (all_of l) front.kept ordered.heads (Contains-append_left l.held l.staged front.kept (among_rest l.held 0 (n - l.header.low) front.kept (omega arith) front.there)) in
+    = All-contains (λ k. CanSpellHead k.head) (all_of l) front.kept ordered.heads (Contains-append_left l.held l.staged front.kept (among_rest l.held 0 (n - l.header.low) front.kept (omega arith) front.there)) in
     omega (arith, can.few, ap (λ (h : RecordHead). h.count) front.is)
 
 -- v is the group as the code has it
@@ -84,7 +84,7 @@ module _ (core : Core) (n : ℕ) (old new : Meaning) (k : Kept) (placed : Placed
   newest_here v b x fresh same is written =
       let at : k.head.block + (b - k.head.block) ≡ b = omega (arith, written.covers.first) in
       let some : newest core.pending.entries k.head.vol (k.head.block + (b - k.head.block)) ≡ Some fresh
-          = ap (λ (j : ℕ). newest core.pending.entries k.head.vol j) at ∙ ap (λ (w : ℕ). newest core.pending.entries w b) (sym same) ∙ is in
+      = ap (λ (j : ℕ). newest core.pending.entries k.head.vol j) at ∙ ap (λ (w : ℕ). newest core.pending.entries w b) (sym same) ∙ is in
       written.value
       ∙ subst (λ (o : Option (List ℕ)). MatchOption o (block_of bytes (b - k.head.block) ≡ block_of before (b - k.head.block)) (λ y. block_of bytes (b - k.head.block) ≡ y)) some
       (patched.each (b - k.head.block) (omega (arith, written.covers.last, patched.size, long)))
@@ -123,7 +123,7 @@ module _ (core : Core) (n : ℕ) (old new : Meaning) (k : Kept) (placed : Placed
       there = there;
       count_is =
           let one : (if leb (k.head.block + k.head.count) (volume_size core.units.vols old k.head.vol) then k.head.count else 0) ≡ k.head.count
-              = ap (λ (t : Bool). if t then k.head.count else 0) (fits (k.head.block + k.head.count) (volume_size core.units.vols old k.head.vol) inside) in
+          = ap (λ (t : Bool). if t then k.head.count else 0) (fits (k.head.block + k.head.count) (volume_size core.units.vols old k.head.vol) inside) in
           omega (arith, one);
       here = here;
       others = others;

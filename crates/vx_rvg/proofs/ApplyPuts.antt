@@ -98,7 +98,7 @@ module _ (vols : List ℕ) (c : Content) (m : Meaning) (sizes : HasSizes vols c 
       let whole_r : IsWholeRecord r = All-head IsWholeRecord r rs whole in
       let count : blocks_in (given r) ≡ k.head.count = its_count r k same.0 whole_r 0 0 in
       let first : (if leb (r.head.block + blocks_in (given r)) (c.size r.head.vol) then blocks_in (given r) else 0) ≡ (if leb (k.head.block + k.head.count) (volume_size vols m k.head.vol) then k.head.count else 0)
-          = ap (λ (n : ℕ). if leb (r.head.block + n) (c.size r.head.vol) then n else 0) count
-            ∙ ap (λ (n : ℕ). if leb (n + k.head.count) (c.size r.head.vol) then k.head.count else 0) (its_block r k same.0 whole_r 0 0)
-            ∙ ap (λ (n : ℕ). if leb (k.head.block + k.head.count) n then k.head.count else 0) (its_size r k same.0 whole_r 0 0) in
+      = ap (λ (n : ℕ). if leb (r.head.block + n) (c.size r.head.vol) then n else 0) count
+      ∙ ap (λ (n : ℕ). if leb (n + k.head.count) (c.size r.head.vol) then k.head.count else 0) (its_block r k same.0 whole_r 0 0)
+      ∙ ap (λ (n : ℕ). if leb (k.head.block + k.head.count) n then k.head.count else 0) (its_size r k same.0 whole_r 0 0) in
       omega (arith, first, within_count rs ks same.2 (All-tail IsWholeRecord r rs whole))

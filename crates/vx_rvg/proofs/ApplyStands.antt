@@ -65,7 +65,7 @@ module _ (core : Core) (c : Content) (m : Meaning) (s : State) (ready : Ready co
         let exists : v < length core.units.vols = volume_there core.units.vols c m v b ready.sizes low in
         let volume : v ≡ waits.kept.head.vol = sound.placed.distinct v waits.kept.head.vol exists waits.exists waits.there in
         let within : waits.kept.head.block + waits.kept.head.count ≤ volume_size core.units.vols m v
-            = omega (arith, waits.within, ap (λ (w : ℕ). volume_size core.units.vols m w) volume) in
+        = omega (arith, waits.within, ap (λ (w : ℕ). volume_size core.units.vols m w) volume) in
         All-contains (λ k. IsPut (volume_size core.units.vols m) k v b → ⊥) (drop a core.log.held) waits.kept
         (none_put core.units.vols c m ready.sizes (drop a s.held) (drop a core.log.held) v b (same_drop a s.held core.log.held (held_same core.log s m ready.ring)) (whole_drop a s.held ready.whole)
         (sym (newest_is v b) ∙ none)) waits.among
@@ -149,8 +149,8 @@ module _ (core : Core) (c : Content) (m : Meaning) (s : State) (ready : Ready co
             → newest_of c.size (writes_of came) v b ≡ None → ⊥
         came_some v b bytes is none not =
             none-some bytes (sym (
-              newest_is v b ∙ ap (λ (ws : List Write). newest_of c.size ws v b) both ∙ newest_append c.size (writes_of came) (writes_of rest) v b
-              ∙ ap (λ (o : Option (List ℕ)). or_else o (newest_of c.size (writes_of came) v b)) (rest_none v b none) ∙ not) ∙ is)
+            newest_is v b ∙ ap (λ (ws : List Write). newest_of c.size ws v b) both ∙ newest_append c.size (writes_of came) (writes_of rest) v b
+            ∙ ap (λ (o : Option (List ℕ)). or_else o (newest_of c.size (writes_of came) v b)) (rest_none v b none) ∙ not) ∙ is)
 
         settles : (v b : ℕ) → b < c.size v → newest (drop count core.pending.entries) v b ≡ None → (o : Option (List ℕ)) → newest core.pending.entries v b ≡ o
             → Keeps m' (unit_of core.units.vols v) b (c.block v b)

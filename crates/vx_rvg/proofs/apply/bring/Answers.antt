@@ -10,15 +10,15 @@ returns-in_err-count-clause-moves g c = more_moves c.args.core.now c.loop-n.n _ 
 pub overflow_add-count : goal.overflow_add-count
 overflow_add-count g c =
     let brought : _
-        = one_brought c.args.core.now c.loop-n.n _ _ _ c.loop-n.count c.loop-n.invariant.0 c.in_ok-count.field-0 c.requires.low (subst (λ (x : Core). x.applied ≤ c.loop-n.n) c.core.view_is c.loop-n.auto.n) c.in_ok-count.ensures.brings c.in_ok-count.ensures.moves
-        (c.in_ok-count.ensures.stopped) in
+    = one_brought c.args.core.now c.loop-n.n _ _ _ c.loop-n.count c.loop-n.invariant.0 c.in_ok-count.field-0 c.requires.low (subst (λ (x : Core). x.applied ≤ c.loop-n.n) c.core.view_is c.loop-n.auto.n) c.in_ok-count.ensures.brings c.in_ok-count.ensures.moves
+    (c.in_ok-count.ensures.stopped) in
     let ordered : _ = subst (λ (x : Core). IsOrdered x.log.ring x.log.header (all_of x.log)) c.core.view_is c.ring-ring.ensures.ordered in
     omega (arith, brought.count_is, due_few c.args.core.now (volume_size c.args.core.now.units.vols (g.S.Shelf.meaning c.args.shelf.now)) (c.loop-n.n + 1) ordered)
 
 pub loop-n-preserved : goal.loop-n-preserved
 loop-n-preserved g c = (
   one_brought c.args.core.now c.loop-n.n _ _ _ c.loop-n.count c.loop-n.invariant.0 c.in_ok-count.field-0 c.requires.low (subst (λ (x : Core). x.applied ≤ c.loop-n.n) c.core.view_is c.loop-n.auto.n) c.in_ok-count.ensures.brings c.in_ok-count.ensures.moves
-  (c.in_ok-count.ensures.stopped),
+      (c.in_ok-count.ensures.stopped),
   omega (arith, c.loop-n-test.true),
 )
 
