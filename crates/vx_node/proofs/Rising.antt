@@ -281,6 +281,54 @@ module _ {R : Type 0} {g : Ghosts R} where
       stays_down (Limit what most) h = limited (Limit what most) h.0 h.2 h.1 (told_or after)
       stays_down other h = untold_still other h
 
+  -- what a start that was answered comes to, with what was taken of its group
+  pub risen_line : (w mid : World) (old y new : Yard R g) (s ring last : ℕ) (view : SiteView) (before after : Engine R g) (answer : Result (Unit {0}) No) (done : Unit {0}) → YardStands mid old → s < mid.sites → Begins w s mid
+      → (mid.nodes s).state ≡ IsDown → slice_get old.engines.items s ≡ Some before → Later before after → answer ≡ Ok done → ((n : Node) → StandsAt n before → n.state ≡ IsDown → ring ≡ n.ring → CameUpIs n before after answer)
+      → ring ≡ (mid.nodes s).ring → y.facts ≡ old.facts → y.engines.items ≡ slice_set (slice_set old.engines.items s Gone) s after → y.racks ≡ old.racks
+      → NotesUp s ring last y new → new.engines ≡ y.engines → new.racks ≡ y.racks → ((w' : World) → YardStands w' new → s < w'.sites → view ≡ view_of w' (w'.nodes s)) → Recovering w s (Recovered last view) old new
+  risen_line w mid old y new s ring last view before after answer done stands below begins down there later is came ring_is facts engines racks notes engines_same' racks_same shows =
+      let set : y.engines.items ≡ slice_set old.engines.items s after = engines ∙ set_twice old.engines.items s Gone after in
+      let at : slice_get y.engines.items s ≡ Some after = ap (λ es. slice_get es s) set ∙ get-set_same old.engines.items s after (slice_get_within old.engines.items s before there) in
+      risen w mid old new s before after stands below begins down there later (ap (λ es. es.items) engines_same' ∙ set) (racks_same ∙ racks) ring last view
+      (subst (CameUpIs (mid.nodes s) before after) is (came (mid.nodes s) (stands.engines.sites s before below there) down ring_is)) ring_is
+      (λ k at_k up.
+      let noted = notes.each after k at at_k up in
+      record {
+        last_is = noted.last_is;
+        facts = λ f f_at. noted.facts f (ap (λ fs. slice_get fs.items s) facts ∙ f_at) ∙ ap (λ fs. slice_set fs.items s (up_facts (state_of k) k.safe ring f)) facts;
+      })
+      shows
+
+  -- and what one that was refused
+  pub stayed_line : (w mid : World) (old new : Yard R g) (s ring : ℕ) (before after : Engine R g) (answer : Result (Unit {0}) No) (why : No) → YardStands mid old → s < mid.sites → Begins w s mid
+      → (mid.nodes s).state ≡ IsDown → slice_get old.engines.items s ≡ Some before → Later before after → answer ≡ Err why → ((n : Node) → StandsAt n before → n.state ≡ IsDown → ring ≡ n.ring → CameUpIs n before after answer)
+      → ring ≡ (mid.nodes s).ring → new.facts ≡ old.facts → new.engines.items ≡ slice_set (slice_set old.engines.items s Gone) s after → new.racks ≡ old.racks → Recovering w s (Refused why) old new
+  stayed_line w mid old new s ring before after answer why stands below begins down there later is came ring_is facts engines racks =
+      stays_down w mid old new s before after stands below begins down there later (engines ∙ set_twice old.engines.items s Gone after) racks (ap (λ fs. fs.items) facts) why
+      (subst (CameUpIs (mid.nodes s) before after) is (came (mid.nodes s) (stands.engines.sites s before below there) down ring_is))
+
+  -- ---- what the tests see of a site that stands
+
+  some_blocks : (n : Node) (e : Engine R g) → StandsAt n e → 8 ≤ n.blocks
+  some_blocks n (Bare rack) h = h.some
+  some_blocks n (Up rvg) h = h.some
+  some_blocks n (Down rack) h = h.some
+  some_blocks n Gone h = absurd h
+
+  never_deported : (n : Node) (e : Engine R g) → StandsAt n e → n.state ≡ Deported → ⊥
+  never_deported n (Bare rack) h is = let e : IsBare ≡ Deported = sym (ap (λ (x : Node). x.state) h.is) ∙ is in absurd (cc)
+  never_deported n (Up rvg) h is = let e : IsUp ≡ Deported = sym h.state ∙ is in absurd (cc)
+  never_deported n (Down rack) h is = let e : IsDown ≡ Deported = sym h.state ∙ is in absurd (cc)
+  never_deported n Gone h is = h
+
+  pub shown_there : (w : World) (y : Yard R g) (name : List ℕ) (s : ℕ) (f : SiteFacts) → YardStands w y → seat_of y.facts.items name ≡ Some s → slice_get y.facts.items s ≡ Some f → (8 ≤ f.blocks) × (f.state ≡ Deported → ⊥)
+  shown_there w y name s f stands seat at =
+      let here = seated w y name s stands seat in
+      let same : f ≡ site_fact (w.nodes s) = some_same (sym at ∙ here.fact) in
+      let e = get_some y.engines.items s (omega (arith, here.below, stands.engines.few, stands.engines.eight)) in
+      let stood = stands.engines.sites s e.0 here.below e.1 in
+      (omega (arith, some_blocks (w.nodes s) e.0 stood, ap (λ (k : SiteFacts). k.blocks) same), λ is. never_deported (w.nodes s) e.0 stood (sym (ap (λ (k : SiteFacts). k.state) same) ∙ is))
+
   -- ---- the line
 
   pub recover_worked : (w : World) (old new : Yard R g) (name : List ℕ) (s : ℕ) (said : Said) → YardStands w old → seat_of old.facts.items name ≡ Some s → Recovering w s said old new → Worked w (Recover name) said old new

@@ -1,6 +1,6 @@
 use Rattle.vx_node.proofs.Lists.{get_at}
 use Rattle.vx_node.proofs.Rising.{noted_up, not_noted}
-use Rattle.std.proofs.Common.{refl, arith}
+use Rattle.std.proofs.Common.{◌≡◌, refl, false, true}
 use Rattle.vx_node.proofs.yard.Yard.note_up.Goals as goal
 
 pub returns-in-Some-clause-notes : goal.returns-in-Some-clause-notes
@@ -16,4 +16,4 @@ pub returns-in_default-clause-notes : goal.returns-in_default-clause-notes
 returns-in_default-clause-notes g c =
     not_noted c.args.self.now _ c.args.site c.args.ring c.last-last.result c.index-2.result.now
     (get_at c.args.self.now.engines.items c.args.site c.index-2.result.now c.requires.engine c.index-2.ensures)
-    (λ n stands up. ?)
+    (λ n stands up. let e : false ≡ true = (c.in_default.ensures n stands up).1 in cc)
