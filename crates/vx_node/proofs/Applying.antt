@@ -12,6 +12,7 @@ use Rattle.vx_disk.specs.declared.shelf.Shelf.{Ghosts}
 use Rattle.vx_rvg.specs.Groups.{ApplyIs, Applies, Fails, Ended, unless_halted, with_applied}
 use Rattle.vx_rvg.specs.Stands.{Resting, Rests}
 use Rattle.vx_rvg.specs.Views.{Core, IsSound, Waits, last_of}
+use Rattle.vx_rvg.specs.declared.group.Rvg.{Rvg}
 use Rattle.vx_node.specs.declared.engine.Engine.{Engine}
 use Rattle.vx_node.specs.declared.engine.Engine.TheVariants.{Bare, Up, Down as IsDown, Gone}
 use Rattle.vx_node.specs.Engines.{CanApply, AppliedAt}
@@ -82,3 +83,19 @@ pub applied_as : (n : Node) (to : ℕ) (c c' : Core) (m new : Meaning) (result :
 applied_as n to c c' m new result up can sound lawful after is rests moves =
     by_result n to c c' m new result up can sound lawful after
     (subst (λ (o : Option ℕ). ApplyIs (unless_halted o None) c to m new c' result) (up.halted ∙ can.running) is) rests moves
+
+module _ {R : Type 0} {g : Ghosts R} where
+  by_engine : (n : Node) (to : ℕ) (rvg new : Rvg R g) (result : Result ℕ No) → AppliedAs n to new.core (g.meaning rvg.shelf) (g.meaning new.shelf) result → AppliedAt n to (Up rvg) (Up new) result
+  by_engine n to rvg new (Ok number) h = h
+  by_engine n to rvg new (Err (Device disk)) h = h
+  by_engine n to rvg new (Err other) h = h
+
+  -- the engine of a site whose log is applied
+  pub applied_at : (n : Node) (to : ℕ) (old : Engine R g) (rvg new : Rvg R g) (result : Result ℕ No) → old ≡ Up rvg → StandsAt n old → CanApply n → Lawful (g.meaning rvg.shelf) → Lawful (g.meaning new.shelf)
+      → ApplyIs (unless_halted rvg.core.halted None) rvg.core to (g.meaning rvg.shelf) (g.meaning new.shelf) new.core result
+      → OnOk result (Rests rvg.core new.core (g.meaning rvg.shelf) (g.meaning new.shelf))
+      → Moves (Waits rvg.core (g.meaning rvg.shelf)) (Resting rvg.core (g.meaning rvg.shelf)) (g.meaning rvg.shelf) (g.meaning new.shelf) → AppliedAt n to old (Up new) result
+  applied_at n to old rvg new result is stands can lawful after answers rests moves =
+      subst (λ (e : Engine R g). AppliedAt n to e (Up new) result) (sym is)
+      (by_engine n to rvg new result
+      (applied_as n to rvg.core new.core (g.meaning rvg.shelf) (g.meaning new.shelf) result (subst (StandsAt n) is stands) can rvg.sound lawful after answers rests moves))

@@ -20,6 +20,9 @@ use Rattle.vx_rvg.specs.Contents.{writes_of, HasSizes, KeepsContent, HasContent}
 use Rattle.vx_rvg.specs.Stands.{Found, Left}
 use Rattle.vx_rvg.specs.Views.{Core, unit_of}
 use Rattle.vx_rvg.proofs.ContentFacts.{has_content}
+use Rattle.vx_disk.specs.declared.shelf.Shelf.{Ghosts}
+use Rattle.vx_node.specs.declared.engine.Engine.TheVariants.{Down}
+use Rattle.vx_node.specs.Engines.{CrashedAt}
 use Rattle.vx_node.specs.Holds.{HasWrites, raw_units, state_of, most_stamp}
 use Rattle.vx_node.specs.Stands.{IsUpAt, IsDownAt}
 use Rattle.vx_node.proofs.Values.{length-values_from, slice_index-values_from}
@@ -192,3 +195,11 @@ module _ (n : Node) (c : Core) (m new : Meaning) (up : IsUpAt n c m) (lawful : L
               };
         },
       )
+
+module _ {R : Type 0} {g : Ghosts R} where
+  -- the engine of a site that crashed
+  pub crashed_at : (n : Node) (core : Core) (old shelf new : R) → shelf ≡ old → IsUpAt n core (g.meaning old) → Lawful (g.meaning new) → IsRack (g.meaning new) → Stopped (g.meaning shelf) (g.meaning new)
+      → CrashedAt {g = g} n (Down new)
+  crashed_at n core old shelf new is up lawful rack stopped =
+      let k = crash_down n core (g.meaning old) (g.meaning new) up lawful rack (subst (λ (r : R). Stopped (g.meaning r) (g.meaning new)) is stopped) in
+      record { count = k.0; least = k.1; most = k.2; stands = k.3 }

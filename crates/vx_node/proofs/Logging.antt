@@ -12,26 +12,24 @@ use Rattle.vx_model.specs.declared.units.Units.{Units}
 use Rattle.vx_srl.specs.Views.{most_number, kept_of}
 use Rattle.vx_srl.specs.declared.kept.Kept.{Kept}
 use Rattle.vx_disk.specs.Counts.{Rose}
-use Rattle.vx_disk.specs.Shelf.{Meaning, Image, Lawful, Goes, Nothing}
-use Rattle.vx_disk.specs.Moves.{Moves, Run, Nowhere, Anything}
+use Rattle.vx_disk.specs.Shelf.{Meaning, Image, Lawful}
+use Rattle.vx_disk.specs.Moves.{Moves, Run}
 use Rattle.vx_disk.specs.declared.shelf.Shelf.{Ghosts}
-use Rattle.vx_disk.proofs.Moving.{of_nothing}
-use Rattle.vx_rvg.specs.Contents.{Shows}
 use Rattle.vx_rvg.specs.declared.group.Rvg.{Rvg}
 use Rattle.vx_node.specs.declared.engine.Engine.{Engine}
 use Rattle.vx_node.specs.declared.engine.Engine.TheVariants.{Up}
-use Rattle.vx_rvg.specs.Groups.{Fails, Ended, unless_halted, write_refusal, read_refusal, WriteIs, Writes, ReadIs, Reads, with_write}
+use Rattle.vx_rvg.specs.Groups.{Fails, Ended, unless_halted, write_refusal, WriteIs, Writes, with_write}
 use Rattle.vx_rvg.specs.Stands.{FoundAs, Writing, Stands}
 use Rattle.vx_rvg.specs.Views.{Core, IsSound, last_of, unit_of}
 use Rattle.vx_rvg.proofs.ContentFacts.{stands_found}
-use Rattle.vx_node.specs.Engines.{CanWrite, CanRead, WroteAt, ReadAt, halted_with, no_number}
+use Rattle.vx_node.specs.Engines.{CanWrite, WroteAt, halted_with, no_number}
 use Rattle.vx_node.specs.Holds.{HasWrites, raw_units, most_stamp}
 use Rattle.vx_node.specs.Rooms.{IsRoomy, RoomIs}
-use Rattle.vx_node.specs.Stands.{IsFitted, IsUpAt, faults_at}
+use Rattle.vx_node.specs.Stands.{IsFitted, IsUpAt}
 use Rattle.vx_node.proofs.Applying.{ended_log}
 use Rattle.vx_node.proofs.Founds.{has_half, has_whole, has_safe, half_of, up_half, up_logged}
 use Rattle.vx_node.proofs.Rooming.{rose_later}
-use Rattle.vx_node.proofs.Staying.{told_now, never_both, left_moved, fitted_moved, up_found, up_with, SameLog}
+use Rattle.vx_node.proofs.Staying.{told_now, never_both, left_moved, fitted_moved, SameLog}
 use Rattle.vx_node.proofs.Values.{slice_index-values_from}
 
 -- what a write answers of a site
@@ -185,57 +183,6 @@ wrote_later n x c' m mid new (Err (Device disk)) later is = (is.0, rose_later (m
 wrote_later n x c' m mid new (Err (Limit what most)) later is = is
 wrote_later n x c' m mid new (Err other) later is = is
 
--- ---- a read
-
--- what a read answers of a site
-abbrev pub ReadAs : Node → ℕ → ℕ → ℕ → List ℕ → Meaning → Core → Meaning → Result (Unit {0}) No → Type 0
-ReadAs n volume start count bytes m c' new (Ok done) = (IsTrue new.tells → Shows n.base volume start count bytes) × IsUpAt n c' new
-ReadAs n volume start count bytes m c' new (Err (Device disk)) = IsUpAt n c' new × Rose (m.disk_faults disk) (new.disk_faults disk)
-ReadAs n volume start count bytes m c' new (Err other) = ⊥
-
-module _ (n : Node) (volume start count : ℕ) (bytes : List ℕ) (c c' : Core) (m new : Meaning) (up : IsUpAt n c m) (can : CanRead n volume start count)
-    (after : Lawful new) (sound : IsSound c m) (same : c' ≡ c) (goes : Goes Nothing m new) (stands : (k : Content) → Stands c k m → IsFalse new.down → Stands c' k new) where
-  moved : Moves Nowhere Anything m new
-  moved = of_nothing m new goes
-
-  still : IsFitted n.disks n.blocks new
-  still = fitted_moved n.disks n.blocks Nowhere Anything m new moved up.fitted
-
-  content : IsTrue new.tells → Stands c n.base new
-  content told = subst (λ (k : Core). Stands k n.base new) same (stands n.base (up.content can.running (sym goes.tells ∙ told)) still.up)
-
-  -- it is up as before
-  up_read : IsUpAt n c' new
-  up_read = subst (λ (k : Core). IsUpAt n k new) (sym same)
-      (up_with n c c m new n.halted Nowhere Anything moved up (record { units = refl; ring = refl; header = refl; held = refl }) up.halted (λ none. none) (λ _ told. content told)
-      (λ i now. let told = told_now new i after now in up_found n c m i up can.running (sym goes.tells ∙ told) (stands_found c n.base new i sound.log_unit after (content told) now)))
-
-  read_size : m.size (unit_of c.units.vols volume) ≡ n.blocks
-  read_size = ap m.size (ap (λ (u : Units). unit_of u.vols volume) up.units ∙ slice_index-values_from 1 (n.disks - 2) volume can.volume_exists)
-      ∙ up.fitted.size (1 + volume) (omega (arith, can.volume_exists))
-
-  by_read : (result : Result (Unit {0}) No) → Reads m new result → OnOk result ((k : Content) → Stands c k m → IsTrue m.tells → Shows k volume start count bytes) → ReadAs n volume start count bytes m c' new result
-  by_read (Ok done) is gives = ((λ told. gives n.base (up.content can.running (sym goes.tells ∙ told)) (sym goes.tells ∙ told)), up_read)
-  by_read (Err (Device disk)) is gives = (up_read, is)
-  by_read (Err Down) is gives = never_both new.down is still.up
-  by_read (Err (Limit what most)) is gives = absurd is
-  by_read (Err other) is gives = is
-
-  pub read_as : (result : Result (Unit {0}) No) → ReadIs (read_refusal c (m.size (unit_of c.units.vols volume)) start count) m new result
-      → OnOk result ((k : Content) → Stands c k m → IsTrue m.tells → Shows k volume start count bytes) → ReadAs n volume start count bytes m c' new result
-  read_as result is gives =
-      by_read result
-      (subst (λ (o : Option No). ReadIs o m new result)
-      (ap (λ (h : Option ℕ). unless_halted h (if ltb (m.size (unit_of c.units.vols volume)) (start + count) then Some Range else None)) (up.halted ∙ can.running)
-      ∙ in_range (m.size (unit_of c.units.vols volume)) (start + count) (omega (arith, can.within, read_size))) is) gives
-    where
-      range_by : (b : Bool) → b ≡ false → (if b then Some Range else None) ≡ None
-      range_by true e = absurd (cc)
-      range_by false e = refl
-
-      in_range : (size past : ℕ) → past ≤ size → (if ltb size past then Some Range else None) ≡ None
-      in_range size past le = range_by (ltb size past) (grind (arith, nat_tests))
-
 -- ---- the same of engines
 
 module _ {R : Type 0} {g : Ghosts R} where
@@ -244,10 +191,3 @@ module _ {R : Type 0} {g : Ghosts R} where
   wrote_at n x old new (Err (Device disk)) is = is
   wrote_at n x old new (Err (Limit what most)) is = is
   wrote_at n x old new (Err other) is = is
-
-  pub read_at : (n : Node) (volume start count : ℕ) (bytes : List ℕ) (e : Engine R g) (old new : Rvg R g) (result : Result (Unit {0}) No) → e ≡ Up old
-      → ReadAs n volume start count bytes (g.meaning old.shelf) new.core (g.meaning new.shelf) result → ReadAt n volume start count bytes e (Up new) result
-  read_at n volume start count bytes e old new (Ok done) same is = is
-  read_at n volume start count bytes e old new (Err (Device disk)) same is = (is.0, subst (λ (k : Engine R g). Rose (faults_at k disk) ((g.meaning new.shelf).disk_faults disk)) (sym same) is.1)
-  read_at n volume start count bytes e old new (Err (Limit what most)) same is = absurd is
-  read_at n volume start count bytes e old new (Err other) same is = is

@@ -7,8 +7,8 @@ use Rattle.vx_model.specs.World.{Node}
 use Rattle.vx_model.specs.Steps.{recovered, ring_of}
 use Rattle.vx_model.specs.declared.no.Counted.{Counted}
 use Rattle.vx_model.specs.declared.no.No.{No}
-use Rattle.vx_model.specs.declared.no.No.TheVariants.{Device, Limit, NoConfig, Damaged, Down}
-use Rattle.vx_model.specs.declared.site.SiteState.TheVariants.{Up as IsUp}
+use Rattle.vx_model.specs.declared.no.No.TheVariants.{Device, Limit, NoConfig, Damaged, Down as IsOff}
+use Rattle.vx_model.specs.declared.site.SiteState.TheVariants.{Bare as IsBare, Up as IsUp, Down as IsDown}
 use Rattle.vx_model.specs.declared.state.State.{State}
 use Rattle.vx_model.specs.declared.state.KeptLink.{KeptLink}
 use Rattle.vx_model.specs.declared.units.Units.{Units}
@@ -17,16 +17,21 @@ use Rattle.vx_disk.specs.Moves.{Moves, Run}
 use Rattle.vx_disk.specs.Racks.{IsRack, Alike, Stopped}
 use Rattle.vx_disk.specs.Shelf.{Meaning, Image, Keeps, Lawful, Goes, Nothing}
 use Rattle.vx_overlay.specs.Writes.{newest_of}
-use Rattle.std.specs.Prelude.{MatchOption, Some}
+use Rattle.std.specs.Prelude.{MatchOption, Some, Err}
 use Rattle.vx_rvg.specs.Contents.{writes_of}
 use Rattle.vx_rvg.specs.Stands.{Found, Left, Stands}
 use Rattle.vx_rvg.specs.Starts.{IsStarted, Starting, StartCause, NothingLeft, ring_in}
-use Rattle.vx_rvg.specs.Views.{Core, last_of, unit_of}
+use Rattle.vx_rvg.specs.Views.{Core, Placed, last_of, unit_of}
 use Rattle.vx_rvg.proofs.ContentFacts.{stands_found}
 use Rattle.vx_srl.specs.Views.{most_number}
-use Rattle.vx_node.specs.Engines.{SameDisks, no_number}
+use Rattle.vx_rvg.specs.declared.group.Rvg.{Rvg}
+use Rattle.vx_disk.specs.declared.shelf.Shelf.{Ghosts}
+use Rattle.vx_node.specs.declared.engine.Engine.{Engine}
+use Rattle.vx_node.specs.declared.engine.Engine.TheVariants.{Bare, Up, Down, Gone}
+use Rattle.vx_node.proofs.Engines.{placed_raw}
+use Rattle.vx_node.specs.Engines.{SameDisks, CanStart, CameUp, CameUpIs, no_number}
 use Rattle.vx_node.specs.Holds.{HasWrites, raw_units, state_of, state_with, most_stamp}
-use Rattle.vx_node.specs.Stands.{IsUpAt, IsDownAt}
+use Rattle.vx_node.specs.Stands.{IsUpAt, IsDownAt, StandsAt, faults_at}
 use Rattle.vx_node.proofs.Crashing.{one_value, found_left, left_found, found_below, site_sizes}
 use Rattle.vx_node.proofs.Staying.{not_true, never_both, told_now, left_moved, writes_found}
 
@@ -289,5 +294,67 @@ module _ (n : Node) (m up new last : Meaning) (is : IsDownAt n m) (alike : Alike
     still_down last.tells refl,
   )
   refused_as (Device disk) h = (still_down last.tells refl, rose disk h)
-  refused_as Down h = absurd (never_both up.down (moves.safe (armed ∙ is.unarmed) h) risen)
+  refused_as IsOff h = absurd (never_both up.down (moves.safe (armed ∙ is.unarmed) h) risen)
   refused_as other h = absurd h
+
+-- ---- the engine of the site
+
+-- a site that is down can be started
+pub can_start : (n : Node) (m : Meaning) (ring : ℕ) → IsDownAt n m → ring ≡ n.ring → CanStart ring m
+can_start n m ring is ring_is =
+    let size : m.size 0 ≡ n.blocks = is.size 0 (omega (arith, is.disks)) in
+    record {
+      some = omega (arith, is.units, is.disks);
+      few = omega (arith, is.units, is.few);
+      down = is.down;
+      large = omega (arith, size, is.some);
+      is_ring = ring_is ∙ is.ring ∙ sym (ap ring_of size);
+    }
+
+-- what a start needs
+pub start_needs : (disks ring : ℕ) (units : Units) (m up : Meaning) → CanStart ring m → Alike m up → units ≡ raw_units disks → disks ≡ up.units
+    → Placed units up × (8 ≤ up.size units.srl) × (ring ≡ ring_in units up)
+start_needs disks ring units m up can alike is disks_is =
+    let size : up.size units.srl ≡ m.size 0 = ap (λ (u : Units). up.size u.srl) is ∙ alike.contents.size 0 in (
+      subst (λ (u : Units). Placed u up) (sym is) (placed_raw disks up disks_is (omega (arith, disks_is, alike.contents.units, can.some))),
+      omega (arith, size, can.large),
+      can.is_ring ∙ sym (ap ring_of size),
+    )
+
+module _ {R : Type 0} {g : Ghosts R} where
+  never_down : (n : Node) (e : Engine R g) → StandsAt n e → n.state ≡ IsDown → ((rack : R) → e ≡ Down rack → ⊥) → ⊥
+  never_down n (Bare rack) h down none = let e : IsBare ≡ IsDown = sym (ap (λ (x : Node). x.state) h.is) ∙ down in absurd (cc)
+  never_down n (Up rvg) h down none = let e : IsUp ≡ IsDown = sym h.state ∙ down in absurd (cc)
+  never_down n (Down rack) h down none = none rack refl
+  never_down n Gone h down none = h
+
+  pub came_at : (n : Node) (disks : ℕ) (units : Units) (rack up : R) (rvg : Rvg R g) → units ≡ raw_units disks → disks ≡ (g.meaning up).units → IsDownAt n (g.meaning rack)
+      → Alike (g.meaning rack) (g.meaning up) → IsFalse (g.meaning up).down → (g.meaning up).armed ≡ (g.meaning rack).armed → Lawful (g.meaning up) → Lawful (g.meaning rvg.shelf)
+      → IsStarted units (g.meaning up) rvg.core (g.meaning rvg.shelf) → Moves (Run units.srl 0 (ring_in units (g.meaning up) + 2)) (Starting units (g.meaning up)) (g.meaning up) (g.meaning rvg.shelf)
+      → CameUp n (Up rvg)
+  came_at n disks units rack up rvg is disks_is down alike risen armed lawful after started moves =
+      let same : units ≡ raw_units n.disks = is ∙ ap raw_units (disks_is ∙ alike.contents.units ∙ down.units) in
+      let c = came n (g.meaning rack) (g.meaning up) down alike risen armed (g.meaning rvg.shelf) lawful after
+      (subst (λ (u : Units). Moves (Run u.srl 0 (ring_in u (g.meaning up) + 2)) (Starting u (g.meaning up)) (g.meaning up) (g.meaning rvg.shelf)) same moves)
+      rvg.core rvg.sound.log_unit (subst (λ (u : Units). IsStarted u (g.meaning up) rvg.core (g.meaning rvg.shelf)) same started) in
+      record { node = c.node; is = c.is; same = c.same; stands = c.stands }
+
+  down_as : (n : Node) (old : Engine R g) (rack last : R) (why : No) → old ≡ Down rack → RefusedAs n (g.meaning rack) (g.meaning last) why → CameUpIs n old (Down last) (Err why)
+  down_as n old rack last (Device disk) is h = (h.0, subst (λ (e : Engine R g). Rose (faults_at e disk) ((g.meaning last).disk_faults disk)) (sym is) h.1)
+  down_as n old rack last (Limit what most) is h = h
+  down_as n old rack last other is h = h
+
+  pub refused_at : (n : Node) (disks : ℕ) (units : Units) (old : Engine R g) (rack up back last : R) (why : No) → old ≡ Down rack → units ≡ raw_units disks → disks ≡ (g.meaning up).units → IsDownAt n (g.meaning rack)
+      → Alike (g.meaning rack) (g.meaning up) → IsFalse (g.meaning up).down → (g.meaning up).armed ≡ (g.meaning rack).armed → Lawful (g.meaning up) → Lawful (g.meaning back)
+      → StartCause units (g.meaning up) (g.meaning back) why → Moves (Run units.srl 0 (ring_in units (g.meaning up) + 2)) (Starting units (g.meaning up)) (g.meaning up) (g.meaning back)
+      → Stopped (g.meaning back) (g.meaning last) → Lawful (g.meaning last) → IsRack (g.meaning last) → CameUpIs n old (Down last) (Err why)
+  refused_at n disks units old rack up back last why old_is is disks_is down alike risen armed lawful after cause moves stopped law is_rack =
+      let same : units ≡ raw_units n.disks = is ∙ ap raw_units (disks_is ∙ alike.contents.units ∙ down.units) in
+      down_as n old rack last why old_is
+      (refused_as n (g.meaning rack) (g.meaning up) (g.meaning back) (g.meaning last) down alike risen armed lawful after
+      (subst (λ (u : Units). Moves (Run u.srl 0 (ring_in u (g.meaning up) + 2)) (Starting u (g.meaning up)) (g.meaning up) (g.meaning back)) same moves)
+      stopped law is_rack why (subst (λ (u : Units). StartCause u (g.meaning up) (g.meaning back) why) same cause))
+
+  -- no site that is down has another engine, or disks that cannot be started
+  pub not_started : (n : Node) (e new : Engine R g) (why : No) → StandsAt n e → n.state ≡ IsDown → ((rack : R) → e ≡ Down rack → ⊥) → CameUpIs n e new (Err why)
+  not_started n e new why h down none = absurd (never_down n e h down none)

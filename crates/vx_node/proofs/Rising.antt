@@ -7,6 +7,7 @@ use Rattle.vx_model.specs.Steps.{recovered, came_up, session_begun, crash_left, 
 use Rattle.vx_model.specs.declared.no.No.{No}
 use Rattle.vx_model.specs.declared.no.No.TheVariants.{Device, Limit, NoConfig}
 use Rattle.vx_model.specs.declared.no.Counted.TheVariants.{Number}
+use Rattle.vx_model.specs.declared.state.State.{State}
 use Rattle.vx_model.specs.declared.site.SiteState.{SiteState}
 use Rattle.vx_model.specs.declared.site.SiteState.TheVariants.{Bare as IsBare, Up as IsUp, Deported, Down as IsDown}
 use Rattle.vx_model.proofs.Updates.{at_place}
@@ -24,8 +25,8 @@ use Rattle.vx_node.specs.declared.yard.Yard.{Yard}
 use Rattle.vx_node.specs.Changes.{up_facts}
 use Rattle.vx_node.specs.Engines.{Later, RoseAt, SameDisks, CameUp, CameUpIs, StillDown, no_number}
 use Rattle.vx_node.specs.Facts.{site_fact, group_fact, group_by, volume_fact, facts_of, seat_of, site_number}
-use Rattle.vx_node.specs.Holds.{state_of, most_stamp}
-use Rattle.vx_node.specs.Rising.{Fell, NotedUp, Recovering}
+use Rattle.vx_node.specs.Holds.{state_of, state_with, most_stamp}
+use Rattle.vx_node.specs.Rising.{Fell, NotedUp, NotesUp, Recovering}
 use Rattle.vx_node.specs.Stands.{EnginesStand, StandsAt, IsToldAt, AreTold, RoseAll, RoseBy, times, faults_of}
 use Rattle.vx_node.specs.Steps.{Fails, Crashes, Begins, CrashesFirst, IsDown as DownBefore, Recovers, ComesUp, StaysDown, NoSession, Untold, IsBareStill, FailsAt}
 use Rattle.vx_node.specs.Views.{view_of}
@@ -130,6 +131,24 @@ module _ {R : Type 0} {g : Ghosts R} where
   not_all es s old after new there is untold all = untold (all.each s after (ap (λ xs. slice_get xs s) is ∙ get-set_same es s after (slice_get_within es s old there)))
 
   -- ---- a site that comes up
+
+  -- what was taken of the group into what the tests see
+  pub noted_up : (y new : Yard R g) (s ring last : ℕ) (one two : Engine R g) (state : State) (f f' : SiteFacts) → slice_get y.engines.items s ≡ Some one → slice_get y.engines.items s ≡ Some two
+      → slice_get y.facts.items s ≡ Some f → ((n : Node) → StandsAt n one → n.state ≡ IsUp → last ≡ n.safe) → ((n : Node) → StandsAt n two → n.state ≡ IsUp → state ≡ state_with n state.links)
+      → f' ≡ up_facts state last ring f → new.facts.items ≡ slice_set y.facts.items s f' → NotesUp s ring last y new
+  noted_up y new s ring last one two state f f' at_one at_two at last_is kept is facts = record {
+    each = λ e n there stands up.
+        let safe : last ≡ n.safe = last_is n (subst (StandsAt n) (some_same (sym there ∙ at_one)) stands) up in
+        let state_is : state ≡ state_with n state.links = kept n (subst (StandsAt n) (some_same (sym there ∙ at_two)) stands) up in
+        record {
+          last_is = safe;
+          facts = λ x x_at. facts ∙ ap (slice_set y.facts.items s) (is ∙ ap (λ (t : State). up_facts t last ring f) state_is ∙ ap (λ (k : ℕ). up_facts (state_of n) k ring f) safe
+              ∙ ap (up_facts (state_of n) n.safe ring) (some_same (sym at ∙ x_at)));
+        };
+  }
+
+  pub not_noted : (y new : Yard R g) (s ring last : ℕ) (e : Engine R g) → slice_get y.engines.items s ≡ Some e → ((n : Node) → StandsAt n e → n.state ≡ IsUp → ⊥) → NotesUp s ring last y new
+  not_noted y new s ring last e at none = record { each = λ x n there stands up. absurd (none n (subst (StandsAt n) (some_same (sym there ∙ at)) stands) up) }
 
   module _ (w mid : World) (old new : Yard R g) (s : ℕ) (before after : Engine R g) (stands : YardStands mid old) (below : s < mid.sites) (begins : Begins w s mid) (down : (mid.nodes s).state ≡ IsDown)
       (there : slice_get old.engines.items s ≡ Some before) (later : Later before after) (engines : new.engines.items ≡ slice_set old.engines.items s after) (racks : new.racks ≡ old.racks) where
@@ -261,6 +280,54 @@ module _ {R : Type 0} {g : Ghosts R} where
       stays_down (Device disk) h = failed disk h.1 h.0
       stays_down (Limit what most) h = limited (Limit what most) h.0 h.2 h.1 (told_or after)
       stays_down other h = untold_still other h
+
+  -- what a start that was answered comes to, with what was taken of its group
+  pub risen_line : (w mid : World) (old y new : Yard R g) (s ring last : ℕ) (view : SiteView) (before after : Engine R g) (answer : Result (Unit {0}) No) (done : Unit {0}) → YardStands mid old → s < mid.sites → Begins w s mid
+      → (mid.nodes s).state ≡ IsDown → slice_get old.engines.items s ≡ Some before → Later before after → answer ≡ Ok done → ((n : Node) → StandsAt n before → n.state ≡ IsDown → ring ≡ n.ring → CameUpIs n before after answer)
+      → ring ≡ (mid.nodes s).ring → y.facts ≡ old.facts → y.engines.items ≡ slice_set (slice_set old.engines.items s Gone) s after → y.racks ≡ old.racks
+      → NotesUp s ring last y new → new.engines ≡ y.engines → new.racks ≡ y.racks → ((w' : World) → YardStands w' new → s < w'.sites → view ≡ view_of w' (w'.nodes s)) → Recovering w s (Recovered last view) old new
+  risen_line w mid old y new s ring last view before after answer done stands below begins down there later is came ring_is facts engines racks notes engines_same' racks_same shows =
+      let set : y.engines.items ≡ slice_set old.engines.items s after = engines ∙ set_twice old.engines.items s Gone after in
+      let at : slice_get y.engines.items s ≡ Some after = ap (λ es. slice_get es s) set ∙ get-set_same old.engines.items s after (slice_get_within old.engines.items s before there) in
+      risen w mid old new s before after stands below begins down there later (ap (λ es. es.items) engines_same' ∙ set) (racks_same ∙ racks) ring last view
+      (subst (CameUpIs (mid.nodes s) before after) is (came (mid.nodes s) (stands.engines.sites s before below there) down ring_is)) ring_is
+      (λ k at_k up.
+      let noted = notes.each after k at at_k up in
+      record {
+        last_is = noted.last_is;
+        facts = λ f f_at. noted.facts f (ap (λ fs. slice_get fs.items s) facts ∙ f_at) ∙ ap (λ fs. slice_set fs.items s (up_facts (state_of k) k.safe ring f)) facts;
+      })
+      shows
+
+  -- and what one that was refused
+  pub stayed_line : (w mid : World) (old new : Yard R g) (s ring : ℕ) (before after : Engine R g) (answer : Result (Unit {0}) No) (why : No) → YardStands mid old → s < mid.sites → Begins w s mid
+      → (mid.nodes s).state ≡ IsDown → slice_get old.engines.items s ≡ Some before → Later before after → answer ≡ Err why → ((n : Node) → StandsAt n before → n.state ≡ IsDown → ring ≡ n.ring → CameUpIs n before after answer)
+      → ring ≡ (mid.nodes s).ring → new.facts ≡ old.facts → new.engines.items ≡ slice_set (slice_set old.engines.items s Gone) s after → new.racks ≡ old.racks → Recovering w s (Refused why) old new
+  stayed_line w mid old new s ring before after answer why stands below begins down there later is came ring_is facts engines racks =
+      stays_down w mid old new s before after stands below begins down there later (engines ∙ set_twice old.engines.items s Gone after) racks (ap (λ fs. fs.items) facts) why
+      (subst (CameUpIs (mid.nodes s) before after) is (came (mid.nodes s) (stands.engines.sites s before below there) down ring_is))
+
+  -- ---- what the tests see of a site that stands
+
+  some_blocks : (n : Node) (e : Engine R g) → StandsAt n e → 8 ≤ n.blocks
+  some_blocks n (Bare rack) h = h.some
+  some_blocks n (Up rvg) h = h.some
+  some_blocks n (Down rack) h = h.some
+  some_blocks n Gone h = absurd h
+
+  never_deported : (n : Node) (e : Engine R g) → StandsAt n e → n.state ≡ Deported → ⊥
+  never_deported n (Bare rack) h is = let e : IsBare ≡ Deported = sym (ap (λ (x : Node). x.state) h.is) ∙ is in absurd (cc)
+  never_deported n (Up rvg) h is = let e : IsUp ≡ Deported = sym h.state ∙ is in absurd (cc)
+  never_deported n (Down rack) h is = let e : IsDown ≡ Deported = sym h.state ∙ is in absurd (cc)
+  never_deported n Gone h is = h
+
+  pub shown_there : (w : World) (y : Yard R g) (name : List ℕ) (s : ℕ) (f : SiteFacts) → YardStands w y → seat_of y.facts.items name ≡ Some s → slice_get y.facts.items s ≡ Some f → (8 ≤ f.blocks) × (f.state ≡ Deported → ⊥)
+  shown_there w y name s f stands seat at =
+      let here = seated w y name s stands seat in
+      let same : f ≡ site_fact (w.nodes s) = some_same (sym at ∙ here.fact) in
+      let e = get_some y.engines.items s (omega (arith, here.below, stands.engines.few, stands.engines.eight)) in
+      let stood = stands.engines.sites s e.0 here.below e.1 in
+      (omega (arith, some_blocks (w.nodes s) e.0 stood, ap (λ (k : SiteFacts). k.blocks) same), λ is. never_deported (w.nodes s) e.0 stood (sym (ap (λ (k : SiteFacts). k.state) same) ∙ is))
 
   -- ---- the line
 

@@ -75,26 +75,26 @@ view_same : (w : World) (n : Node) (session : ℕ) → (n.state ≡ Up → sessi
 view_same w n session is = ap (λ (g : Option RvgView). view_with n g) (shown_same n.state w n session is)
 
 module _ {R : Type 0} {g : Ghosts R} where
-  -- how a site stands
+  -- what is shown of the facts of a site is how it stands
   pub view_is : (w : World) (y : Yard R g) (s session : ℕ) (site : SiteFacts) (engine : Engine R g) (view : SiteView) → YardStands w y → s < w.sites
       → slice_get y.facts.items s ≡ Some site → slice_get y.engines.items s ≡ Some engine → ((n : Node) → StandsAt n engine → n.state ≡ Up → session ≡ n.session)
       → view ≡ view_seen y.facts.items session site → view ≡ view_of w (w.nodes s)
   view_is w y s session site engine view stands below site_at engine_at session_is is =
       let start : 0 + s ≡ s = omega arith in
-      let fact : site ≡ site_fact (w.nodes s) = some_same (sym site_at ∙ ap (λ (fs : List SiteFacts). slice_get fs s) stands.facts ∙ slice_get-values_from (λ j. site_fact (w.nodes j)) 0 w.sites s below)
-      ∙ ap (λ (j : ℕ). site_fact (w.nodes j)) start in
+      let place = ap (λ (fs : List SiteFacts). slice_get fs s) stands.facts ∙ slice_get-values_from (λ j. site_fact (w.nodes j)) 0 w.sites s below in
+      let fact : site ≡ site_fact (w.nodes s) = some_same (sym site_at ∙ place) ∙ ap (λ (j : ℕ). site_fact (w.nodes j)) start in
       is ∙ ap (λ (f : SiteFacts). view_seen y.facts.items session f) fact
       ∙ ap (λ (fs : List SiteFacts). view_seen fs session (site_fact (w.nodes s))) stands.facts
       ∙ view_same w (w.nodes s) session (session_is (w.nodes s) (stands.engines.sites s engine below engine_at))
 
   pub status_done : (w : World) (y : Yard R g) (name : List ℕ) (s : ℕ) (view : SiteView) → YardStands w y → seat_of y.facts.items name ≡ Some s
-      → (s < w.sites → view ≡ view_of w (w.nodes s)) → Worked w (Status name) (Shown view) y y
+      → ((v : World) → YardStands v y → s < v.sites → view ≡ view_of v (v.nodes s)) → Worked w (Status name) (Shown view) y y
   status_done w y name s view stands at is =
       let seat = seated w y name s stands at in
       record {
         world = w;
         fails = [];
-        works = record { none = refl; says = ap (λ (v : SiteView). Shown v) (is seat.below ∙ ap (λ (i : ℕ). view_of w (w.nodes i)) (sym seat.number)); leads = refl };
+        works = record { none = refl; says = ap (λ (v : SiteView). Shown v) (is w stands seat.below ∙ ap (λ (i : ℕ). view_of w (w.nodes i)) (sym seat.number)); leads = refl };
         stands = stands;
         rose = rose_none (count_of y) (count_of y) (λ i d. omega arith);
       }

@@ -1,8 +1,8 @@
 -- What the calls on the disks of a site promise.
-use Rattle.std.specs.Prelude.{◌≡◌, ℕ, ◌+◌, ◌-◌, ◌<◌, ◌≤◌, ◌++◌, ◌∷◌, [], ◌⊎◌, min, length, Option, Some, None, Result, Ok, Err, List}
+use Rattle.std.specs.Prelude.{◌≡◌, ℕ, ◌+◌, ◌-◌, ◌<◌, ◌≤◌, ◌++◌, ◌∷◌, [], ◌⊎◌, min, length, Option, Some, None, Result, Ok, Err, List, IsTrue}
 use Rattle.vx_model.specs.Content.{Write}
 use Rattle.vx_model.specs.World.{Node, bare_site}
-use Rattle.vx_model.specs.Steps.{logged, raw_set, crashed, recovered}
+use Rattle.vx_model.specs.Steps.{logged, raw_set, crashed, recovered, ring_of}
 use Rattle.vx_model.specs.declared.site.SiteState.TheVariants.{Up as IsUp}
 use Rattle.vx_model.specs.declared.errors.Stop.{Stop}
 use Rattle.vx_model.specs.declared.errors.Stop.TheVariants.{No as Refused, OutOfMemory}
@@ -11,6 +11,7 @@ use Rattle.vx_model.specs.declared.no.No.TheVariants.{Device, Limit}
 use Rattle.vx_model.specs.declared.no.Counted.TheVariants.{Number}
 use Rattle.vx_disk.specs.Counts.{Rose}
 use Rattle.vx_disk.specs.Racks.{most_blocks}
+use Rattle.vx_disk.specs.Shelf.{Meaning}
 use Rattle.vx_disk.specs.declared.shelf.Shelf.{Ghosts}
 use Rattle.vx_rvg.specs.Contents.{Shows}
 use Rattle.vx_srl.specs.Views.{most_number}
@@ -44,6 +45,14 @@ no_number = Limit Number most_number
 pub record CanApply (n : Node) : Type 0 where
   pub up : n.state ≡ IsUp
   pub running : n.halted ≡ None
+
+-- the disks of a raw set that is down, in whose log there are so many ring blocks
+pub record CanStart (ring : ℕ) (m : Meaning) : Type 0 where
+  pub some : 3 ≤ m.units
+  pub few : m.units ≤ 8
+  pub down : IsTrue m.down
+  pub large : 8 ≤ m.size 0
+  pub is_ring : ring ≡ ring_of (m.size 0)
 
 -- the same disks and volumes, up and running
 pub record SameDisks (n k : Node) : Type 0 where

@@ -8,6 +8,7 @@ ghost use Rattle.vx_node.specs.Steps.{Begins};
 ghost use Rattle.vx_node.specs.Working.{WorkIs, Worked, IsFree};
 ghost use Rattle.vx_node.specs.Yards.{YardStands, IsTold, in_files};
 
+use crate::writes::refused;
 use crate::yard::{Yard, seat};
 use crate::{Engine, Said, facts};
 use std::alloc::Global;
@@ -99,15 +100,20 @@ impl<R: Rack> Yard<R> {
         if site >= self.engines.len() || self.facts[site].blocks < 8 {
             return Ok(Said::Refused(No::Role));
         }
-        if self.facts[site].state == SiteState::Bare {
-            return Ok(Said::Refused(No::NoConfig));
-        }
         let blocks = self.facts[site].blocks;
-        let room = StartRoom::new(alloc, blocks)?;
-        if self.facts[site].state == SiteState::Up {
-            self.go_down(site, u64::MAX);
+        match self.facts[site].state {
+            SiteState::Bare => Ok(Said::Refused(No::NoConfig)),
+            SiteState::Deported => Ok(Said::Refused(No::Role)),
+            SiteState::Up => {
+                let room = StartRoom::new(alloc, blocks)?;
+                self.go_down(site, u64::MAX);
+                Ok(self.come_up(alloc, site, ring_blocks(blocks), room))
+            }
+            SiteState::Down => {
+                let room = StartRoom::new(alloc, blocks)?;
+                Ok(self.come_up(alloc, site, ring_blocks(blocks), room))
+            }
         }
-        Ok(self.come_up(alloc, site, ring_blocks(blocks), room))
     }
 
     /// Brings the logged writes of a site up to a number into their volumes.
@@ -124,12 +130,7 @@ impl<R: Rack> Yard<R> {
         }
         match self.engines[site].apply(to) {
             Ok(number) => Said::DoneAt(number),
-            Err(no) => {
-                if let No::Device { disk } = no {
-                    facts::set_halted(&mut self.facts[site], disk);
-                }
-                Said::Refused(no)
-            }
+            Err(no) => refused(&mut self.facts[site], no),
         }
     }
 }

@@ -1,9 +1,9 @@
 // The disks of a site, and what is made of them.
-ghost use Rattle.std.specs.Prelude.{◌≡◌, ◌≤◌, ◌<◌, ◌+◌, ◌*◌, ◌%◌, ℕ, length, None, IfSome, IsSome, OnOk};
+ghost use Rattle.std.specs.Prelude.{◌≡◌, ◌≤◌, ◌<◌, ◌+◌, ◌*◌, ◌%◌, ℕ, length, None, IfSome, IsSome, IsTrue, OnOk};
 ghost use Rattle.vx_model.specs.Content.{blocks_in};
 ghost use Rattle.vx_model.specs.World.{Node};
 ghost use Rattle.vx_srl.specs.Views.{free_of};
-ghost use Rattle.vx_node.specs.Engines.{Later, CanWrite, WroteAt};
+ghost use Rattle.vx_node.specs.Engines.{Later, CanStart, CanWrite, WroteAt};
 ghost use Rattle.vx_node.specs.Rooms.{RoomIs};
 ghost use Rattle.vx_node.specs.Stands.{IsUpAt, StandsAt};
 
@@ -11,6 +11,7 @@ use crate::units::raw_units;
 use std::alloc::Global;
 use vx_disk::Rack;
 use vx_model::{No, State, Stop};
+use vx_order::ring_blocks;
 use vx_rvg::{Rvg, StartRoom};
 
 /// The rack of a site number, by itself or under a replicated volume group.
@@ -57,6 +58,19 @@ fn write_group<R: Rack>(rvg: &mut Rvg<R>, volume: u32, start: u64, bytes: &[u8])
 {
     make_room(rvg, bytes.len() as u64 / 512)?;
     rvg.write(volume, start, bytes, 0)
+}
+
+// Whether these are the disks of a raw set that is down, in whose log there is this room.
+fn can_start<R: Rack>(rack: &R, room: &StartRoom) -> bool
+    ensures is { IsTrue result → CanStart room.now.ring (R.meaning rack.now) }
+    ensures all { CanStart room.now.ring (R.meaning rack.now) → IsTrue result }
+{
+    let disks = rack.units();
+    if disks < 3 || disks > 8 || !rack.is_down() {
+        return false;
+    }
+    let blocks = rack.size(0);
+    blocks >= 8 && room.ring() == ring_blocks(blocks)
 }
 
 impl<R: Rack> Engine<R> {
@@ -188,12 +202,12 @@ impl<R: Rack> Engine<R> {
         match self {
             Engine::Down(rack) => {
                 let mut rack = rack;
-                let disks = rack.units();
-                if disks < 3 || disks > 8 || !rack.is_down() {
+                if !can_start(&rack, &room) {
                     return (Engine::Down(rack), Err(No::Role));
                 }
                 rack.revive();
-                match Rvg::start_in(room, rack, &raw_units(disks)) {
+                let units = raw_units(rack.units());
+                match Rvg::start_in(room, rack, &units) {
                     Ok(rvg) => (Engine::Up(rvg), Ok(())),
                     Err((rack, no)) => {
                         let mut rack = rack;

@@ -13,8 +13,8 @@ use vx_disk::Rack;
 use vx_model::{Blocks, Name, No};
 use vx_order::SiteFacts;
 
-// A write was refused: where its disk failed, the site is halted.
-fn refused(facts: &mut SiteFacts, no: No) -> Said
+/// A line on the group of a site was refused: where its disk failed, the site is halted.
+pub(crate) fn refused(facts: &mut SiteFacts, no: No) -> Said
     ensures noted { facts.new ≡ noted_facts no facts.old }
     ensures said { result ≡ Refused no }
 {

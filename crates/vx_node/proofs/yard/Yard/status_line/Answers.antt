@@ -19,5 +19,5 @@ returns g c = record {
   works = λ w stands free.
       status_done w c.args.self.now c.args.name.now c.in-Some.site c.view_at.result stands
       (ap (λ (fs : List SiteFacts). seat_of fs c.args.name.now) (sym c.deref.ensures.value) ∙ sym c.seat.ensures ∙ c.in-Some.is)
-      (c.view_at.ensures w stands);
+      c.view_at.ensures;
 }

@@ -1,5 +1,4 @@
--- How a site stands.
-use Rattle.std.proofs.Common.{◌∙◌, ap, arith, List}
+use Rattle.std.proofs.Common.{◌∙◌, ap, List}
 use Rattle.vx_order.specs.declared.facts.SiteFacts.{SiteFacts}
 use Rattle.vx_node.proofs.Lists.{get_at}
 use Rattle.vx_node.proofs.Statuses.{view_is, view_seen}

@@ -1,0 +1,98 @@
+-- What a read gives of a site that is up.
+use Rattle.std.proofs.Common.{◌≡◌, ◌∙◌, ℕ, ◌+◌, ◌-◌, ◌<◌, ◌≤◌, Bool, true, false, List, length, ap, sym, subst, refl, arith}
+use Rattle.std.specs.Prelude.{Option, Some, None, Result, Ok, Err, OnOk, IsTrue, ltb, if◌then◌else◌}
+use Rattle.std.proofs.lemmas.Bool.Decides.{nat_tests}
+use Rattle.vx_model.specs.Content.{Content, blocks_in}
+use Rattle.vx_model.specs.World.{Node}
+use Rattle.vx_model.specs.declared.no.No.{No}
+use Rattle.vx_model.specs.declared.no.No.TheVariants.{Range, Device, Down as IsOff}
+use Rattle.vx_model.specs.declared.units.Units.{Units}
+use Rattle.vx_disk.specs.Counts.{Rose}
+use Rattle.vx_disk.specs.Moves.{Moves, Anything, Nowhere}
+use Rattle.vx_disk.specs.Shelf.{Meaning, Image, Lawful, Goes, Nothing}
+use Rattle.vx_disk.specs.declared.shelf.Shelf.{Ghosts}
+use Rattle.vx_disk.proofs.Moving.{of_nothing}
+use Rattle.vx_rvg.specs.Contents.{Shows}
+use Rattle.vx_rvg.specs.Groups.{unless_halted, read_refusal, ReadIs, Reads}
+use Rattle.vx_rvg.specs.Stands.{Stands}
+use Rattle.vx_rvg.specs.Views.{Core, unit_of}
+use Rattle.vx_rvg.specs.declared.group.Rvg.{Rvg}
+use Rattle.vx_rvg.proofs.ContentFacts.{stands_found}
+use Rattle.vx_rvg.proofs.ReadStands.{rest_stands}
+use Rattle.vx_node.specs.declared.engine.Engine.{Engine}
+use Rattle.vx_node.specs.declared.engine.Engine.TheVariants.{Up}
+use Rattle.vx_node.specs.Engines.{CanRead, ReadAt}
+use Rattle.vx_node.specs.Holds.{HasWrites, raw_units}
+use Rattle.vx_node.specs.Stands.{IsFitted, IsUpAt, StandsAt}
+use Rattle.vx_node.proofs.Staying.{told_now, never_both, fitted_moved, up_found, up_with}
+use Rattle.vx_node.proofs.Values.{slice_index-values_from}
+
+-- what a read answers of a site
+abbrev ReadAs : Node → ℕ → ℕ → ℕ → List ℕ → Core → Meaning → Meaning → Result (Unit {0}) No → Type 0
+ReadAs n volume start count bytes c' m new (Ok done) = (IsTrue new.tells → Shows n.base volume start count bytes) × IsUpAt n c' new
+ReadAs n volume start count bytes c' m new (Err (Device disk)) = IsUpAt n c' new × Rose (m.disk_faults disk) (new.disk_faults disk)
+ReadAs n volume start count bytes c' m new (Err other) = ⊥
+
+range_by : (b : Bool) → b ≡ false → (if b then Some Range else None) ≡ None
+range_by false e = refl
+range_by true e = absurd (cc)
+
+in_range : (size last : ℕ) → last ≤ size → (if ltb size last then Some Range else None) ≡ None
+in_range size last within = range_by (ltb size last) (grind (arith, nat_tests))
+
+module _ (n : Node) (c : Core) (m new : Meaning) (volume start count : ℕ) (bytes : List ℕ) (up : IsUpAt n c m) (can : CanRead n volume start count) (lawful : Lawful m) (after : Lawful new)
+    (unit_is : c.log.unit ≡ c.units.srl) (goes : Goes Nothing m new) where
+  moves : Moves Nowhere Anything m new
+  moves = of_nothing m new goes
+
+  fitted : IsFitted n.disks n.blocks new
+  fitted = fitted_moved n.disks n.blocks Nowhere Anything m new moves up.fitted
+
+  content : IsTrue new.tells → Stands c n.base new
+  content told = rest_stands c m new goes fitted.up n.base (up.content can.running (sym goes.tells ∙ told))
+
+  left : (i : Image) → new.now i → HasWrites n i
+  left i now =
+      let told = told_now new i after now in
+      up_found n c m i up can.running (sym goes.tells ∙ told) (stands_found c n.base new i unit_is after (content told) now)
+
+  read_up : IsUpAt n c new
+  read_up = up_with n c c m new n.halted Nowhere Anything moves up (record { units = refl; ring = refl; header = refl; held = refl }) up.halted (λ none. none) (λ none told. content told) left
+
+  size : m.size (unit_of c.units.vols volume) ≡ n.blocks
+  size =
+      let at : unit_of c.units.vols volume ≡ 1 + volume = ap (λ (u : Units). unit_of u.vols volume) up.units ∙ slice_index-values_from 1 (n.disks - 2) volume can.volume_exists in
+      ap m.size at ∙ up.fitted.size (1 + volume) (omega (arith, can.volume_exists))
+
+  by_reads : (result : Result (Unit {0}) No) → Reads m new result → OnOk result ((k : Content) → Stands c k m → IsTrue m.tells → Shows k volume start count bytes) → ReadAs n volume start count bytes c m new result
+  by_reads (Ok done) reads gives = ((λ told. gives n.base (up.content can.running (sym goes.tells ∙ told)) (sym goes.tells ∙ told)), read_up)
+  by_reads (Err (Device disk)) reads gives = (read_up, reads)
+  by_reads (Err IsOff) reads gives = never_both new.down reads fitted.up
+  by_reads (Err other) reads gives = reads
+
+  pub read_as : (result : Result (Unit {0}) No) → ReadIs (read_refusal c (m.size (unit_of c.units.vols volume)) start count) m new result
+      → OnOk result ((k : Content) → Stands c k m → IsTrue m.tells → Shows k volume start count bytes) → ReadAs n volume start count bytes c m new result
+  read_as result is gives =
+      let range = in_range (m.size (unit_of c.units.vols volume)) (start + count) (omega (arith, can.within, size)) in
+      let refusal : read_refusal c (m.size (unit_of c.units.vols volume)) start count ≡ None
+      = ap (λ (h : Option ℕ). unless_halted h (if ltb (m.size (unit_of c.units.vols volume)) (start + count) then Some Range else None)) (up.halted ∙ can.running) ∙ range in
+      by_reads result (subst (λ (o : Option No). ReadIs o m new result) refusal is) gives
+
+module _ {R : Type 0} {g : Ghosts R} where
+  by_engine : (n : Node) (volume start count : ℕ) (bytes : List ℕ) (rvg new : Rvg R g) (result : Result (Unit {0}) No)
+      → ReadAs n volume start count bytes new.core (g.meaning rvg.shelf) (g.meaning new.shelf) result → ReadAt n volume start count bytes (Up rvg) (Up new) result
+  by_engine n volume start count bytes rvg new (Ok done) h = h
+  by_engine n volume start count bytes rvg new (Err (Device disk)) h = h
+  by_engine n volume start count bytes rvg new (Err other) h = h
+
+  -- the engine of a site whose blocks are read
+  pub read_at : (n : Node) (volume start count : ℕ) (bytes : List ℕ) (old : Engine R g) (rvg new : Rvg R g) (result : Result (Unit {0}) No) → old ≡ Up rvg → StandsAt n old
+      → CanRead n volume start count → Lawful (g.meaning rvg.shelf) → Lawful (g.meaning new.shelf) → new.core ≡ rvg.core
+      → ReadIs (read_refusal rvg.core ((g.meaning rvg.shelf).size (unit_of rvg.core.units.vols volume)) start count) (g.meaning rvg.shelf) (g.meaning new.shelf) result
+      → OnOk result ((k : Content) → Stands rvg.core k (g.meaning rvg.shelf) → IsTrue (g.meaning rvg.shelf).tells → Shows k volume start count bytes)
+      → Goes Nothing (g.meaning rvg.shelf) (g.meaning new.shelf) → ReadAt n volume start count bytes old (Up new) result
+  read_at n volume start count bytes old rvg new result is stands can lawful after same answers gives goes =
+      subst (λ (e : Engine R g). ReadAt n volume start count bytes e (Up new) result) (sym is)
+      (by_engine n volume start count bytes rvg new result
+      (subst (λ (k : Core). ReadAs n volume start count bytes k (g.meaning rvg.shelf) (g.meaning new.shelf) result) (sym same)
+      (read_as n rvg.core (g.meaning rvg.shelf) (g.meaning new.shelf) volume start count bytes (subst (StandsAt n) is stands) can lawful after rvg.sound.log_unit goes result answers gives)))
