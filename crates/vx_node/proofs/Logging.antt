@@ -14,16 +14,21 @@ use Rattle.vx_srl.specs.declared.kept.Kept.{Kept}
 use Rattle.vx_disk.specs.Counts.{Rose}
 use Rattle.vx_disk.specs.Shelf.{Meaning, Image, Lawful}
 use Rattle.vx_disk.specs.Moves.{Moves, Run}
+use Rattle.vx_disk.specs.declared.shelf.Shelf.{Ghosts}
+use Rattle.vx_rvg.specs.declared.group.Rvg.{Rvg}
+use Rattle.vx_node.specs.declared.engine.Engine.{Engine}
+use Rattle.vx_node.specs.declared.engine.Engine.TheVariants.{Up}
 use Rattle.vx_rvg.specs.Groups.{Fails, Ended, unless_halted, write_refusal, WriteIs, Writes, with_write}
 use Rattle.vx_rvg.specs.Stands.{FoundAs, Writing, Stands}
 use Rattle.vx_rvg.specs.Views.{Core, IsSound, last_of, unit_of}
 use Rattle.vx_rvg.proofs.ContentFacts.{stands_found}
-use Rattle.vx_node.specs.Engines.{CanWrite, halted_with, no_number}
+use Rattle.vx_node.specs.Engines.{CanWrite, WroteAt, halted_with, no_number}
 use Rattle.vx_node.specs.Holds.{HasWrites, raw_units, most_stamp}
 use Rattle.vx_node.specs.Rooms.{IsRoomy, RoomIs}
 use Rattle.vx_node.specs.Stands.{IsFitted, IsUpAt}
 use Rattle.vx_node.proofs.Applying.{ended_log}
 use Rattle.vx_node.proofs.Founds.{has_half, has_whole, has_safe, half_of, up_half, up_logged}
+use Rattle.vx_node.proofs.Rooming.{rose_later}
 use Rattle.vx_node.proofs.Staying.{told_now, never_both, left_moved, fitted_moved, SameLog}
 use Rattle.vx_node.proofs.Values.{slice_index-values_from}
 
@@ -170,3 +175,19 @@ pub unroomed : (n : Node) (x : Write) (c' : Core) (m new : Meaning) (no : No) �
 unroomed n x c' m new (Device disk) is = (half_of n x disk c' new is.0, is.1)
 unroomed n x c' m new (Limit what most) is = is
 unroomed n x c' m new other is = is
+
+-- a call that moved the shelf, and then the write
+pub wrote_later : (n : Node) (x : Write) (c' : Core) (m mid new : Meaning) (result : Result ℕ No) → ((d : ℕ) → m.disk_faults d ≤ mid.disk_faults d) → WroteAs n x mid c' new result → WroteAs n x m c' new result
+wrote_later n x c' m mid new (Ok number) later is = is
+wrote_later n x c' m mid new (Err (Device disk)) later is = (is.0, rose_later (m.disk_faults disk) (mid.disk_faults disk) (new.disk_faults disk) (later disk) is.1)
+wrote_later n x c' m mid new (Err (Limit what most)) later is = is
+wrote_later n x c' m mid new (Err other) later is = is
+
+-- ---- the same of engines
+
+module _ {R : Type 0} {g : Ghosts R} where
+  pub wrote_at : (n : Node) (x : Write) (old new : Rvg R g) (result : Result ℕ No) → WroteAs n x (g.meaning old.shelf) new.core (g.meaning new.shelf) result → WroteAt n x (Up old) (Up new) result
+  wrote_at n x old new (Ok number) is = is
+  wrote_at n x old new (Err (Device disk)) is = is
+  wrote_at n x old new (Err (Limit what most)) is = is
+  wrote_at n x old new (Err other) is = is

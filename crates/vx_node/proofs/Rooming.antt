@@ -15,7 +15,7 @@ use Rattle.vx_srl.specs.declared.kept.Kept.{Kept}
 use Rattle.vx_disk.specs.Counts.{Rose}
 use Rattle.vx_disk.specs.Shelf.{Meaning, Image, Lawful}
 use Rattle.vx_disk.specs.Moves.{Moves, Run}
-use Rattle.vx_rvg.specs.Groups.{Fails, Ended, unless_halted}
+use Rattle.vx_rvg.specs.Groups.{ApplyIs, Fails, Ended, unless_halted}
 use Rattle.vx_rvg.specs.Saves.{SaveIs, Saves, reclaim_refusal, reclaimed, log_without}
 use Rattle.vx_rvg.specs.Stands.{FoundAs, Saving, Rests, Stands}
 use Rattle.vx_rvg.specs.Views.{Core, IsSound, last_of}
@@ -193,7 +193,7 @@ module _ (n : Node) (c c' : Core) (m new : Meaning) (up : IsUpAt n c m) (none : 
 
 -- ---- the whole of it
 
-rose_later : (old mid new : ℕ) → old ≤ mid → Rose mid new → Rose old new
+pub rose_later : (old mid new : ℕ) → old ≤ mid → Rose mid new → Rose old new
 rose_later old mid new le rose = record {
   fell_not = omega (arith, le, rose.fell_not);
   rose = ⊎_elim (λ (less : mid < new). let f : (old < new) ⊎ (2 ^ 64 - 1 ≤ new) = inl (omega (arith, le, less)) in f) (λ (most : 2 ^ 64 - 1 ≤ new). inr most) rose.rose;
@@ -215,3 +215,42 @@ room_later n c' m mid new (Ok done) later is = is
 room_later n c' m mid new (Err (Device disk)) later is = (is.0, rose_later (m.disk_faults disk) (mid.disk_faults disk) (new.disk_faults disk) (later disk) is.1)
 room_later n c' m mid new (Err (Limit what most)) later is = is
 room_later n c' m mid new (Err other) later is = is
+
+-- a reclaim up to the number that an apply answered
+pub reclaimed_at : (n : Node) (c c' : Core) (m new : Meaning) (number : ℕ) → IsUpAt n c m → n.halted ≡ None → Lawful m → Lawful new → number ≡ n.safe
+    → Moves (Run c.units.srl 0 (c.log.ring + 2)) (Saving c (reclaimed c number) m) m new → (result : Result (Unit {0}) No) → SaveIs (reclaim_refusal c number) c (reclaimed c number) m new c' result
+    → (IsSome (reclaim_refusal c number) → new ≡ m) → OnOk result (Rests c c' m new) → RoomIs n m c' new result
+reclaimed_at n c c' m new number up none lawful after is =
+    subst (λ (k : ℕ). Moves (Run c.units.srl 0 (c.log.ring + 2)) (Saving c (reclaimed c k) m) m new → (result : Result (Unit {0}) No) → SaveIs (reclaim_refusal c k) c (reclaimed c k) m new c' result
+    → (IsSome (reclaim_refusal c k) → new ≡ m) → OnOk result (Rests c c' m new) → RoomIs n m c' new result) (sym is)
+    (λ moves. reclaimed_as n c c' m new up none lawful after moves)
+
+saved_by : (r : Option No) (c after : Core) (m new : Meaning) (c' : Core) (done : Unit {0}) → SaveIs r c after m new c' (Ok done) → c' ≡ after
+saved_by None c after m new c' done is = is
+saved_by (Some why) c after m new c' done is = absurd (let e : Ok done ≡ Err why = is.0 in cc)
+
+-- leaves all blocks free
+pub freed_at : (n : Node) (c c' : Core) (m new : Meaning) (number : ℕ) → IsUpAt n c m → n.halted ≡ None → Lawful m → Lawful new → number ≡ n.safe
+    → Moves (Run c.units.srl 0 (c.log.ring + 2)) (Saving c (reclaimed c number) m) m new → (done : Unit {0}) → SaveIs (reclaim_refusal c number) c (reclaimed c number) m new c' (Ok done)
+    → IsSound c' new → free_of c'.log ≡ n.ring
+freed_at n c c' m new number up none lawful after is =
+    subst (λ (k : ℕ). Moves (Run c.units.srl 0 (c.log.ring + 2)) (Saving c (reclaimed c k) m) m new → (done : Unit {0}) → SaveIs (reclaim_refusal c k) c (reclaimed c k) m new c' (Ok done)
+    → IsSound c' new → free_of c'.log ≡ n.ring) (sym is)
+    (λ moves done saves sound. free_reclaimed n c c' m new up none lawful after moves (saved_by (reclaim_refusal c n.safe) c (reclaimed c n.safe) m new c' done saves) sound)
+
+-- the units stay
+fails_units : (c c' : Core) (m new : Meaning) (why : No) → Fails c m new c' why → c'.units ≡ c.units
+fails_units c c' m new (Device disk) is = is.0.units
+fails_units c c' m new Down is = is.0.units
+fails_units c c' m new (Limit what most) is = absurd is
+fails_units c c' m new other is = absurd is
+
+pub apply_units : (r : Option No) (c : Core) (count : ℕ) (m new : Meaning) (c' : Core) (result : Result ℕ No) → ApplyIs r c count m new c' result → c'.units ≡ c.units
+apply_units (Some why) c count m new c' result is = ap (λ (k : Core). k.units) is.1
+apply_units None c count m new c' (Ok number) is = ap (λ (k : Core). k.units) is.1.1
+apply_units None c count m new c' (Err why) is = fails_units c c' m new why is
+
+pub save_units : (r : Option No) (c after : Core) (m new : Meaning) (c' : Core) (result : Result (Unit {0}) No) → after.units ≡ c.units → SaveIs r c after m new c' result → c'.units ≡ c.units
+save_units (Some why) c after m new c' result same is = ap (λ (k : Core). k.units) is.1
+save_units None c after m new c' (Ok done) same is = ap (λ (k : Core). k.units) is ∙ same
+save_units None c after m new c' (Err why) same is = fails_units c c' m new why is

@@ -3,7 +3,7 @@ ghost use Rattle.std.specs.Prelude.{◌≡◌, ◌≤◌, ◌<◌, ◌+◌, ◌*
 ghost use Rattle.vx_model.specs.Content.{blocks_in};
 ghost use Rattle.vx_model.specs.World.{Node};
 ghost use Rattle.vx_srl.specs.Views.{free_of};
-ghost use Rattle.vx_node.specs.Engines.{Later, CanWrite, WroteAt, CanStart};
+ghost use Rattle.vx_node.specs.Engines.{Later, CanStart, CanWrite, WroteAt};
 ghost use Rattle.vx_node.specs.Rooms.{RoomIs};
 ghost use Rattle.vx_node.specs.Stands.{IsUpAt, StandsAt};
 
