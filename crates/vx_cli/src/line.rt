@@ -14,6 +14,7 @@ fn is_built(line: &ScriptLine) -> bool
         | ScriptLine::Raw { .. }
         | ScriptLine::Disk { .. }
         | ScriptLine::Crash { .. }
+        | ScriptLine::Fuse { .. }
         | ScriptLine::Recover { .. }
         | ScriptLine::Write { .. }
         | ScriptLine::Put { .. }

@@ -1,12 +1,13 @@
 -- Crashes, and sites that come up again, leave a good world good.
-use Rattle.std.proofs.Common.{◌≡◌, ℕ, ◌+◌, ◌-◌, ◌≤◌, List, [], ◌∷◌, ◌++◌, length, take, drop, refl, ap, sym, ◌∙◌, subst, inl, arith, true, false}
+use Rattle.std.proofs.Common.{◌≡◌, ℕ, ◌+◌, ◌-◌, ◌≤◌, List, [], ◌∷◌, ◌++◌, length, take, drop, refl, ap, sym, ◌∙◌, subst, inl, arith, length-append, true, false}
 use Rattle.std.specs.Prelude.{min, Some}
-use Rattle.std.proofs.lemmas.List.{length-take, take-take, take-append-drop}
+use Rattle.std.proofs.lemmas.List.{length-take, take-take, take-append-drop, take-append-le}
 use Rattle.vx_model.specs.Content.{Write, Content, put, fold_writes, IsPrefixOf}
-use Rattle.vx_model.specs.World.{Node, History, World, is_origin, with_node, with_history}
-use Rattle.vx_model.specs.Steps.{crashed, kept_by, crash_left, recovered, came_up, session_begun, stopped_by}
+use Rattle.vx_model.specs.World.{Node, History, World, Fuse, FuseSet, is_origin, with_node, with_history}
+use Rattle.vx_model.specs.Steps.{crashed, kept_by, crash_left, half_begun, cut_write, recovered, came_up, session_begun, stopped_by, worked_on, fused, burned}
 use Rattle.vx_model.specs.Good.{GoodNode, Good, IsMade, IsWorking}
 use Rattle.vx_model.specs.declared.history.Line.{Line}
+use Rattle.vx_model.specs.declared.site.Mark.TheVariants.{Consistent}
 use Rattle.vx_model.specs.declared.site.SiteState.TheVariants.{Bare, Up, Down}
 use Rattle.vx_model.proofs.GoodLemmas.{up_is_made, made_is_given, good_changed, good_stays, fold_append, prefix_push}
 
@@ -37,40 +38,59 @@ prefix_longer n k xs held least e most prefix =
     subst (λ (t : List Write). IsPrefixOf xs t) (kept_parts n k least most)
     (prefix_push xs (take n.safe n.log) (drop n.safe (take k n.log)) (subst (λ (t : List Write). IsPrefixOf xs t) (sym e) prefix))
 
+-- a site that crashed with its log, or with a write more that it had begun, and kept the first k
+module _ (w : World) (i k : ℕ) (s : Good w) (made : IsMade (w.nodes i)) (origin : is_origin (w.nodes i).role ≡ true) (n : Node) (same : n.line ≡ (w.nodes i).line)
+    (least : n.safe ≤ k) (most : k ≤ length n.log) (held : take n.safe n.log ≡ (w.lines n.line).held) (role : is_origin n.role ≡ true) (mark : n.mark ≡ Consistent)
+    (content : n.base ≡ fold_writes n.start (take n.safe n.log)) where
+  own : n.line.origin ≡ i
+  own = ap (λ (l : Line). l.origin) same ∙ (s.nodes i).own_line made origin
+
+  here : GoodNode (kept_by (w.lines n.line) n k) i (crashed n k)
+  here = record {
+    safe_fits = omega (arith, kept_length n k least most);
+    own_line = λ _ _. own;
+    receiver_log = λ _ not. absurd (let e : true ≡ false = sym role ∙ not in cc);
+    origin_log = λ _ _. take-take k k n.log (omega arith);
+    origin_whole = λ _ _. omega (arith, kept_length n k least most);
+    origin_mark = λ _. mark;
+    content = kept_content n k least most content;
+  }
+
+  there : (j : ℕ) → (j ≡ i → ⊥) → IsMade (w.nodes j) → (w.nodes j).line ≡ n.line → GoodNode (kept_by (w.lines n.line) n k) j (w.nodes j)
+  there j apart is e =
+      let good : GoodNode (w.lines n.line) j (w.nodes j) = subst (λ (l : Line). GoodNode (w.lines l) j (w.nodes j)) e (s.nodes j) in
+      record {
+        safe_fits = good.safe_fits;
+        own_line = good.own_line;
+        receiver_log = λ is_made not. prefix_longer n k (w.nodes j).log (w.lines n.line).held least held most (good.receiver_log is_made not);
+        origin_log = λ is_made is_origin'. absurd (apart (sym (good.own_line is_made is_origin') ∙ ap (λ (l : Line). l.origin) e ∙ own));
+        origin_whole = good.origin_whole;
+        origin_mark = good.origin_mark;
+        content = good.content;
+      }
+
+  good_down : Good (with_history w i (crashed n k) (kept_by (w.lines n.line) n k))
+  good_down =
+      good_changed w i (crashed n k) (kept_by (w.lines n.line) n k) s here
+      (λ e. cc) own
+      (omega (arith, s.told n.line, ap (λ (t : List Write). length t) held, length-take n.safe n.log, kept_length n k least most, least))
+      there
+      (made_is_given w i s made)
+
 pub good_crashed : (w : World) (i k : ℕ) → Good w → IsMade (w.nodes i) → is_origin (w.nodes i).role ≡ true → (w.nodes i).safe ≤ k → k ≤ length (w.nodes i).log → Good (crash_left w i k)
 good_crashed w i k s made origin least most =
     let n : Node = w.nodes i in
-    let h : History = w.lines n.line in
-    let good : GoodNode h i n = s.nodes i in
-    let held : take n.safe n.log ≡ h.held = good.origin_log made origin in
-    good_changed w i (crashed n k) (kept_by h n k) s
-    (record {
-      safe_fits = omega (arith, kept_length n k least most);
-      own_line = λ _ is. good.own_line made is;
-      receiver_log = λ _ not. absurd (let e : true ≡ false = sym origin ∙ not in cc);
-      origin_log = λ _ _. take-take k k n.log (omega arith);
-      origin_whole = λ _ _. omega (arith, kept_length n k least most);
-      origin_mark = good.origin_mark;
-      content = kept_content n k least most good.content;
-    })
-    (λ e. cc) (good.own_line made origin)
-    (omega (arith, s.told n.line, ap (λ (t : List Write). length t) held, length-take n.safe n.log, kept_length n k least most, least))
-    (λ j apart is e. other j apart is e)
-    (made_is_given w i s made)
-  where
-    other : (j : ℕ) → (j ≡ i → ⊥) → IsMade (w.nodes j) → (w.nodes j).line ≡ (w.nodes i).line → GoodNode (kept_by (w.lines (w.nodes i).line) (w.nodes i) k) j (w.nodes j)
-    other j apart is e =
-        let good : GoodNode (w.lines (w.nodes i).line) j (w.nodes j) = subst (λ (l : Line). GoodNode (w.lines l) j (w.nodes j)) e (s.nodes j) in
-        let own : (w.nodes i).line.origin ≡ i = (s.nodes i).own_line made origin in
-        record {
-          safe_fits = good.safe_fits;
-          own_line = good.own_line;
-          receiver_log = λ is_made not. prefix_longer (w.nodes i) k (w.nodes j).log (w.lines (w.nodes i).line).held least ((s.nodes i).origin_log made origin) most (good.receiver_log is_made not);
-          origin_log = λ is_made is_origin'. absurd (apart (sym (good.own_line is_made is_origin') ∙ ap (λ (l : Line). l.origin) e ∙ own));
-          origin_whole = good.origin_whole;
-          origin_mark = good.origin_mark;
-          content = good.content;
-        }
+    let good = s.nodes i in
+    good_down w i k s made origin n refl least most (good.origin_log made origin) origin (good.origin_mark origin) good.content
+
+-- the same where it had begun a write
+pub good_cut : (w : World) (i : ℕ) (x : Write) (k : ℕ) → Good w → IsMade (w.nodes i) → is_origin (w.nodes i).role ≡ true → (w.nodes i).safe ≤ k → k ≤ length (w.nodes i).log + 1 → Good (cut_write w i x k)
+good_cut w i x k s made origin least most =
+    let n : Node = w.nodes i in
+    let good = s.nodes i in
+    let front : take n.safe (n.log ++ x ∷ []) ≡ take n.safe n.log = take-append-le n.safe n.log (x ∷ []) good.safe_fits in
+    good_down w i k s made origin (half_begun n x) refl least (omega (arith, most, length-append n.log (x ∷ []))) (front ∙ good.origin_log made origin) origin (good.origin_mark origin)
+    (good.content ∙ ap (λ (t : List Write). fold_writes n.start t) (sym front))
 
 -- a site of which only the state, the session or the halt changed, and that has no write that is not durable or is halted
 stays_node : (w : World) (i : ℕ) (n : Node) → Good w → IsMade (w.nodes i) → n.line ≡ (w.nodes i).line → GoodNode (w.lines n.line) i n → IsMade n → Good (with_node w i n)
@@ -111,7 +131,7 @@ good_session_begun w i s made =
 pub good_stopped : (w : World) (i disk : ℕ) → Good w → IsMade (w.nodes i) → Good (stopped_by w i disk)
 good_stopped w i disk s made =
     let good = s.nodes i in
-    stays_node w i (record (w.nodes i) { halted = Some disk }) s made refl
+    stays_node w i (record (w.nodes i) { halted = Some disk; fuse = burned (w.nodes i).fuse }) s made refl
     (record {
       safe_fits = good.safe_fits;
       own_line = good.own_line;
@@ -122,3 +142,25 @@ good_stopped w i disk s made =
       content = good.content;
     })
     made
+
+-- what a fuse is changes nothing else
+good_fuse : (w : World) (i : ℕ) (fuse : Fuse) → Good w → IsMade (w.nodes i) → Good (with_node w i (record (w.nodes i) { fuse = fuse }))
+good_fuse w i fuse s made =
+    let good = s.nodes i in
+    stays_node w i (record (w.nodes i) { fuse = fuse }) s made refl
+    (record {
+      safe_fits = good.safe_fits;
+      own_line = good.own_line;
+      receiver_log = good.receiver_log;
+      origin_log = good.origin_log;
+      origin_whole = good.origin_whole;
+      origin_mark = good.origin_mark;
+      content = good.content;
+    })
+    made
+
+pub good_worked : (w : World) (i : ℕ) → Good w → IsMade (w.nodes i) → Good (worked_on w i)
+good_worked w i s made = good_fuse w i (burned (w.nodes i).fuse) s made
+
+pub good_fused : (w : World) (i calls : ℕ) → Good w → IsMade (w.nodes i) → Good (fused w i calls)
+good_fused w i calls s made = good_fuse w i (FuseSet calls) s made

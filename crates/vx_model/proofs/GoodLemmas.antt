@@ -5,7 +5,7 @@ use Rattle.std.proofs.lemmas.Bool.{cases_lt}
 use Rattle.std.proofs.lemmas.List.{take_all, take-append-le}
 use Rattle.vx_model.specs.Content.{Write, Content, put, fold_writes, IsPrefixOf}
 use Rattle.vx_model.specs.World.{Node, History, World, same_line, updated, line_updated, with_node, with_history, empty_world, bare_site}
-use Rattle.vx_model.specs.Steps.{site_made, raw_made, raw_set, raw_history, logged, told_of, written, half_written}
+use Rattle.vx_model.specs.Steps.{site_made, raw_made, raw_set, raw_history, logged, told_of, written, half_written, burned}
 use Rattle.vx_model.specs.Good.{GoodNode, Good, IsMade, IsWorking}
 use Rattle.vx_model.specs.declared.history.Line.{Line}
 use Rattle.vx_model.specs.declared.site.SiteState.{SiteState}
@@ -192,7 +192,7 @@ good_half_written w i x disk s working =
     let good : GoodNode (w.lines n.line) i n = s.nodes i in
     let made : IsMade n = up_is_made n working.up in
     let front : take n.safe (n.log ++ x ∷ []) ≡ take n.safe n.log = take_front n.safe n.log (x ∷ []) good.safe_fits in
-    good_stays w i (record n { log = n.log ++ x ∷ []; halted = Some disk }) s
+    good_stays w i (record n { log = n.log ++ x ∷ []; halted = Some disk; fuse = burned n.fuse }) s
     (record {
       safe_fits = omega (arith, good.safe_fits, length-append n.log (x ∷ []));
       own_line = good.own_line;

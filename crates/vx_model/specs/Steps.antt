@@ -2,7 +2,7 @@
 use Rattle.std.specs.Prelude.{ℕ, ◌+◌, ◌-◌, min, List, [], ◌∷◌, ◌++◌, length, take, drop, ltb, if◌then◌else◌, Some, None, codes, zero, suc}
 use Rattle.std.specs.Fmt.{decimal}
 use Rattle.vx_model.specs.Content.{Write, Content, put, fold_writes, zeros}
-use Rattle.vx_model.specs.World.{Node, History, World, Volume, bare_site, no_line, updated, with_node, with_history}
+use Rattle.vx_model.specs.World.{Node, History, World, Volume, Fuse, NoFuse, FuseSet, FuseLit, bare_site, no_line, updated, with_node, with_history}
 use Rattle.vx_model.specs.declared.history.Line.{Line}
 use Rattle.vx_model.specs.declared.site.Role.TheVariants.{Primary}
 use Rattle.vx_model.specs.declared.site.Mark.TheVariants.{Consistent}
@@ -53,9 +53,15 @@ raw_history n = record { parent = no_line; fork = 0; start = raw_content n.disks
 abbrev pub raw_made : World → ℕ → World
 raw_made w s = with_history w s (raw_set s (w.nodes s)) (raw_history (w.nodes s))
 
+-- a fuse behind a line that may write or flush
+abbrev pub burned : Fuse → Fuse
+burned NoFuse = NoFuse
+burned (FuseSet calls) = FuseLit
+burned FuseLit = FuseLit
+
 -- a site with one more write, which is durable
 abbrev pub logged : Node → Write → Node
-logged n x = record n { base = put n.base x; log = n.log ++ x ∷ []; safe = n.safe + 1 }
+logged n x = record n { base = put n.base x; log = n.log ++ x ∷ []; safe = n.safe + 1; fuse = burned n.fuse }
 
 -- its line with that write, which was answered
 abbrev pub told_of : History → Write → History
@@ -67,11 +73,11 @@ written w s x = let n = w.nodes s in with_history w s (logged n x) (told_of (w.l
 
 -- a write that met a failing disk: whether it stands is not known, and the site is halted
 abbrev pub half_written : World → ℕ → Write → ℕ → World
-half_written w s x disk = let n = w.nodes s in with_node w s (record n { log = n.log ++ x ∷ []; halted = Some disk })
+half_written w s x disk = let n = w.nodes s in with_node w s (record n { log = n.log ++ x ∷ []; halted = Some disk; fuse = burned n.fuse })
 
 -- a site that crashed and kept its first k writes
 abbrev pub crashed : Node → ℕ → Node
-crashed n k = record n { state = Down; base = fold_writes n.base (drop n.safe (take k n.log)); log = take k n.log; safe = k }
+crashed n k = record n { state = Down; base = fold_writes n.base (drop n.safe (take k n.log)); log = take k n.log; safe = k; halted = None; fuse = NoFuse }
 
 -- its line holds them
 abbrev pub kept_by : History → Node → ℕ → History
@@ -79,6 +85,14 @@ kept_by h n k = record h { held = take k n.log }
 
 abbrev pub crash_left : World → ℕ → ℕ → World
 crash_left w s k = let n = w.nodes s in with_history w s (crashed n k) (kept_by (w.lines n.line) n k)
+
+-- a site with a write that was begun
+abbrev pub half_begun : Node → Write → Node
+half_begun n x = record n { log = n.log ++ x ∷ [] }
+
+-- a site whose fuse ran out in a write: a crash that kept its first k writes
+abbrev pub cut_write : World → ℕ → Write → ℕ → World
+cut_write w s x k = let n = w.nodes s in with_history w s (crashed (half_begun n x) k) (kept_by (w.lines n.line) (half_begun n x) k)
 
 -- a site that came up again, in its next session
 abbrev pub recovered : Node → Node
@@ -93,4 +107,12 @@ session_begun w s = let n = w.nodes s in with_node w s (record n { session = n.s
 
 -- a site that a failing disk halted in a line that writes nothing new
 abbrev pub stopped_by : World → ℕ → ℕ → World
-stopped_by w s disk = with_node w s (record (w.nodes s) { halted = Some disk })
+stopped_by w s disk = let n = w.nodes s in with_node w s (record n { halted = Some disk; fuse = burned n.fuse })
+
+-- a site whose disks may have been written and flushed, with nothing changed beside
+abbrev pub worked_on : World → ℕ → World
+worked_on w s = let n = w.nodes s in with_node w s (record n { fuse = burned n.fuse })
+
+-- a site whose disks have a fuse that lets so many writes and flushes pass
+abbrev pub fused : World → ℕ → ℕ → World
+fused w s calls = with_node w s (record (w.nodes s) { fuse = FuseSet calls })

@@ -48,6 +48,12 @@ Regions = ℕ → ℕ → Bool
 abbrev pub no_regions : Regions
 no_regions v r = false
 
+-- The fuse of a site's disks: none is set; or it was just set, and lets so many writes and flushes pass; or some may have passed.
+pub data Fuse : Type 0 where
+  NoFuse : Fuse
+  FuseSet : (calls : ℕ) → Fuse
+  FuseLit : Fuse
+
 pub record Node : Type 0 where
   pub name : List ℕ
   pub state : SiteState
@@ -84,6 +90,8 @@ pub record Node : Type 0 where
   pub halted : Option ℕ
   -- the map that it keeps of a fork
   pub fork_map : Option Regions
+  -- the fuse of its disks
+  pub fuse : Fuse
 
 -- a link, and the place in which it was made among those of its site
 pub record Link : Type 0 where
@@ -169,6 +177,7 @@ bare_site name disks blocks = record {
   low = 1;
   halted = None;
   fork_map = None;
+  fuse = NoFuse;
 }
 
 abbrev pub no_link : Link

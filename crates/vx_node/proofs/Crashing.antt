@@ -2,10 +2,10 @@
 use Rattle.std.proofs.Common.{◌≡◌, ◌⊎◌, inl, inr, ⊎_elim, ℕ, zero, suc, ◌+◌, ◌-◌, ◌*◌, ◌<◌, ◌≤◌, Bool, true, false, List, [], ◌∷◌, length, take, drop, Option, Some, None, IsTrue, MatchOption, refl, sym, ◌∙◌, ap, subst, arith}
 use Rattle.std.proofs.lemmas.Bool.{cases_lt}
 use Rattle.std.proofs.lemmas.List.{length-take}
-use Rattle.std.specs.Prelude.{IsFalse, slice_get}
+use Rattle.std.specs.Prelude.{IsFalse, slice_get, Err}
 use Rattle.vx_model.specs.Content.{Content, Write, put, fold_writes}
 use Rattle.vx_model.specs.World.{Node, Volume}
-use Rattle.vx_model.specs.Steps.{crashed}
+use Rattle.vx_model.specs.Steps.{crashed, half_begun}
 use Rattle.vx_model.specs.declared.state.State.{State}
 use Rattle.vx_model.specs.declared.units.Units.{Units}
 use Rattle.vx_srlfmt.specs.Kinds.{Kind}
@@ -21,10 +21,15 @@ use Rattle.vx_rvg.specs.Stands.{Found, Left}
 use Rattle.vx_rvg.specs.Views.{Core, unit_of}
 use Rattle.vx_rvg.proofs.ContentFacts.{has_content}
 use Rattle.vx_disk.specs.declared.shelf.Shelf.{Ghosts}
-use Rattle.vx_node.specs.declared.engine.Engine.TheVariants.{Down}
-use Rattle.vx_node.specs.Engines.{CrashedAt}
+use Rattle.vx_node.specs.declared.engine.Engine.{Engine}
+use Rattle.vx_node.specs.declared.engine.Engine.TheVariants.{Up, Bare as IsBare, Down, Gone}
+use Rattle.vx_rvg.specs.declared.group.Rvg.{Rvg}
+use Rattle.vx_node.specs.Engines.{CrashedAt, WroteUp, WroteAt, AppliedUp, AppliedAt, is_off}
+use Rattle.vx_model.specs.declared.no.No.{No}
+use Rattle.vx_model.specs.declared.no.No.TheVariants.{Device, Limit, Down as Off}
 use Rattle.vx_node.specs.Holds.{HasWrites, raw_units, state_of, most_stamp}
-use Rattle.vx_node.specs.Stands.{IsUpAt, IsDownAt}
+use Rattle.vx_node.specs.Stands.{IsUpAt, IsHeldAt, IsDownAt, CutAt}
+use Rattle.vx_node.proofs.Staying.{held_up}
 use Rattle.vx_node.proofs.Values.{length-values_from, slice_index-values_from}
 
 -- ---- a rack that crashed has one value in each block
@@ -127,7 +132,7 @@ record Kept (n : Node) (m : Meaning) : Type 0 where
   most : count ≤ length n.log
   left : IsTrue m.tells → Left (raw_units n.disks) n.ring (state_of n) n.session (most_stamp n) count (fold_writes n.base (drop n.safe (take count n.log))) m
 
-module _ (n : Node) (c : Core) (m new : Meaning) (up : IsUpAt n c m) (lawful : Lawful new) (rack : IsRack new) (stopped : Stopped m new) where
+module _ (n : Node) (m new : Meaning) (up : IsHeldAt n m) (lawful : Lawful new) (rack : IsRack new) (stopped : Stopped m new) where
   kept : (b : Bool) → new.tells ≡ b → Kept n new
   kept true tells =
       let i = lawful.image tells in
@@ -139,7 +144,7 @@ module _ (n : Node) (c : Core) (m new : Meaning) (up : IsUpAt n c m) (lawful : L
         left = λ _. found_left (raw_units n.disks) n.ring (state_of n) n.session (most_stamp n) has.count (fold_writes n.base (drop n.safe (take has.count n.log))) new i.0 tells
             (λ u b. one_value new i.0 u b lawful rack stopped.down tells i.1)
             (site_sizes n.disks n.blocks (fold_writes n.base (drop n.safe (take has.count n.log))) new up.disks
-            (λ u there. stopped.size u ∙ up.fitted.size u there)
+            (λ u there. stopped.size u ∙ up.size u there)
             (λ v inside. folded_size n.base (drop n.safe (take has.count n.log)) v ∙ up.sizes v inside)
             (λ v past. folded_size n.base (drop n.safe (take has.count n.log)) v ∙ up.others v past))
             has.found;
@@ -163,14 +168,15 @@ module _ (n : Node) (c : Core) (m new : Meaning) (up : IsUpAt n c m) (lawful : L
         k.most,
         record {
           state = refl;
-          units = stopped.units ∙ up.fitted.units;
-          size = λ u there. stopped.size u ∙ up.fitted.size u there;
+          unfused = refl;
+          units = stopped.units ∙ up.units;
+          size = λ u there. stopped.size u ∙ up.size u there;
           down = stopped.down;
           unarmed = stopped.unarmed;
           disks = up.disks;
           few = up.few;
           some = up.some;
-          ring = up.ring_is;
+          ring = up.ring;
           logged = omega (arith, length-take k.count n.log, k.most);
           low = up.low;
           volumes = up.volumes;
@@ -197,9 +203,37 @@ module _ (n : Node) (c : Core) (m new : Meaning) (up : IsUpAt n c m) (lawful : L
       )
 
 module _ {R : Type 0} {g : Ghosts R} where
+  held_crashed : (n : Node) (old shelf new : R) → shelf ≡ old → IsHeldAt n (g.meaning old) → Lawful (g.meaning new) → IsRack (g.meaning new) → Stopped (g.meaning shelf) (g.meaning new) → CrashedAt {g = g} n (Down new)
+  held_crashed n old shelf new is held lawful rack stopped =
+      let k = crash_down n (g.meaning old) (g.meaning new) held lawful rack (subst (λ (r : R). Stopped (g.meaning r) (g.meaning new)) is stopped) in
+      record { count = k.0; least = k.1; most = k.2; stands = k.3 }
+
   -- the engine of a site that crashed
   pub crashed_at : (n : Node) (core : Core) (old shelf new : R) → shelf ≡ old → IsUpAt n core (g.meaning old) → Lawful (g.meaning new) → IsRack (g.meaning new) → Stopped (g.meaning shelf) (g.meaning new)
       → CrashedAt {g = g} n (Down new)
-  crashed_at n core old shelf new is up lawful rack stopped =
-      let k = crash_down n core (g.meaning old) (g.meaning new) up lawful rack (subst (λ (r : R). Stopped (g.meaning r) (g.meaning new)) is stopped) in
-      record { count = k.0; least = k.1; most = k.2; stands = k.3 }
+  crashed_at n core old shelf new is up lawful rack stopped = held_crashed n old shelf new is (held_up n core (g.meaning old) up) lawful rack stopped
+
+  -- the same where its fuse ran out before
+  pub cut_crashed : (n : Node) (e : Engine R g) (rvg : Rvg R g) (shelf new : R) → e ≡ Up rvg → shelf ≡ rvg.shelf → CutAt n e → Lawful (g.meaning new) → IsRack (g.meaning new) → Stopped (g.meaning shelf) (g.meaning new)
+      → CrashedAt {g = g} n (Down new)
+  cut_crashed n e rvg shelf new is same cut lawful rack stopped = held_crashed n rvg.shelf shelf new same (subst (CutAt n) is cut) lawful rack stopped
+
+  -- a write or an apply whose fuse ran out, and the crash behind it
+  pub wrote_off : (n : Node) (x : Write) (old mid new : Engine R g) (why : No) → is_off why ≡ true → WroteUp n x old mid (Err why) → (CutAt (half_begun n x) mid → CrashedAt (half_begun n x) new) → WroteAt n x old new (Err why)
+  wrote_off n x old mid new Off off is falls = (is.0, falls is.1)
+  wrote_off n x old mid new other off is falls = absurd (cc)
+
+  pub wrote_on : (n : Node) (x : Write) (old new : Engine R g) (why : No) → is_off why ≡ false → WroteUp n x old new (Err why) → WroteAt n x old new (Err why)
+  wrote_on n x old new Off off is = absurd (cc)
+  wrote_on n x old new (Device disk) off is = is
+  wrote_on n x old new (Limit what most) off is = is
+  wrote_on n x old new other off is = is
+
+  pub applied_off : (n : Node) (to : ℕ) (old mid new : Engine R g) (why : No) → is_off why ≡ true → AppliedUp n to old mid (Err why) → (CutAt n mid → CrashedAt n new) → AppliedAt n to old new (Err why)
+  applied_off n to old mid new Off off is falls = (is.0, falls is.1)
+  applied_off n to old mid new other off is falls = absurd (cc)
+
+  pub applied_on : (n : Node) (to : ℕ) (old new : Engine R g) (why : No) → is_off why ≡ false → AppliedUp n to old new (Err why) → AppliedAt n to old new (Err why)
+  applied_on n to old new Off off is = absurd (cc)
+  applied_on n to old new (Device disk) off is = is
+  applied_on n to old new other off is = is

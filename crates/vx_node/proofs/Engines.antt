@@ -1,10 +1,13 @@
 -- What stands after calls that change no contents, and of a raw set as it is made.
 use Rattle.std.proofs.Common.{◌≡◌, ◌∙◌, ◌+◌, ◌-◌, ◌<◌, ◌≤◌, ℕ, zero, suc, List, [], length, ap, ⊎_elim, sym, subst, refl, arith, Bool, true, false, IsTrue}
-use Rattle.std.specs.Prelude.{IsFalse, Some, slice_get, codes, ◌++◌}
+use Rattle.std.specs.Prelude.{IsFalse, Option, Some, None, slice_get, codes, ◌++◌}
+use Rattle.vx_disk.specs.Causes.{WithDisks, OnDisks}
+use Rattle.vx_disk.specs.Disks.{Disks, Untouched, is_set}
+use Rattle.vx_disk.specs.Racks.{IsRack, Alike}
 use Rattle.std.specs.Fmt.{decimal}
 use Rattle.std.proofs.lemmas.Bool.{cases_lt}
 use Rattle.std.proofs.lemmas.Bool.Decides.{nat_tests}
-use Rattle.vx_model.specs.World.{Node, Volume, bare_site}
+use Rattle.vx_model.specs.World.{Node, Volume, Fuse, NoFuse, FuseSet, FuseLit, bare_site}
 use Rattle.vx_model.specs.Content.{Content, zero_block}
 use Rattle.vx_model.specs.Steps.{raw_set, raw_content, raw_volumes, ring_of}
 use Rattle.std.proofs.lemmas.List.Elements.{All-nil}
@@ -30,38 +33,63 @@ use Rattle.vx_rvg.specs.Stands.{Holds, Stands}
 use Rattle.vx_rvg.proofs.ContentFacts.{stands_found}
 use Rattle.vx_rvg.proofs.ReadStands.{rest_stands}
 use Rattle.vx_node.proofs.Crashing.{site_sizes}
-use Rattle.vx_node.proofs.Staying.{never_both, told_now, fitted_moved, writes_found}
+use Rattle.vx_node.proofs.Staying.{never_both, told_now, fitted_moved, stays_up, writes_found}
 use Rattle.vx_node.specs.Holds.{raw_units, state_of}
+use Rattle.vx_node.specs.Fuses.{HasFuse, LetsPass}
 use Rattle.vx_node.specs.Stands.{IsFitted, IsBareAt, IsUpAt, faults_at}
 use Rattle.vx_node.proofs.Values.{length-values_from, slice_index-values_from}
 
 pub keeps_still : (m new : Meaning) (u b : ℕ) (x : List ℕ) → Goes Nothing m new → Keeps m u b x → Keeps new u b x
 keeps_still m new u b x goes keeps = record { only = λ v left. ⊎_elim (λ was. keeps.only v was) (λ none. absurd none) (goes.leaves u b v left) }
 
-pub fitted_still : (disks blocks : ℕ) (m new : Meaning) → Goes Nothing m new → new.down ≡ m.down → new.armed ≡ m.armed → IsFitted disks blocks m → IsFitted disks blocks new
-fitted_still disks blocks m new goes down armed fitted = record {
+pub fitted_still : (disks blocks : ℕ) (m new : Meaning) → Goes Nothing m new → new.down ≡ m.down → IsFitted disks blocks m → IsFitted disks blocks new
+fitted_still disks blocks m new goes down fitted = record {
   units = goes.units ∙ fitted.units;
   size = λ u there. goes.size u ∙ fitted.size u there;
   up = down ∙ fitted.up;
-  unarmed = armed ∙ fitted.unarmed;
 }
+
+lets_still : (calls : ℕ) (old new : Option Disks) (P : Disks → Disks → Type 0) → ((o n : Disks) → P o n → n.fuse ≡ o.fuse) → WithDisks old new P → LetsPass calls old → LetsPass calls new
+lets_still calls None new P same with lets = absurd lets
+lets_still calls (Some o) None P same with lets = absurd with
+lets_still calls (Some o) (Some n) P same with lets = (lets.0, same o n with ∙ lets.1)
+
+-- a fuse that no call touched
+pub fuse_still : (f : Fuse) (m new : Meaning) (P : Disks → Disks → Type 0) → ((o n : Disks) → P o n → n.fuse ≡ o.fuse) → new.armed ≡ m.armed → WithDisks m.disks new.disks P → HasFuse f m → HasFuse f new
+fuse_still NoFuse m new P same armed with has = armed ∙ has
+fuse_still (FuseSet calls) m new P same armed with has = lets_still calls m.disks new.disks P same with has
+fuse_still FuseLit m new P same armed with has = tt
+
+-- behind a call that only reads
+pub fuse_untouched : (f : Fuse) (m new : Meaning) → OnDisks m.disks new.disks Untouched → IsRack m → IsRack new → HasFuse f m → HasFuse f new
+fuse_untouched f m new disks rack rack' has =
+    fuse_still f m new (λ o n. Untouched o n × ((u : ℕ) → n.failing u ≡ o.failing u)) (λ o n is. is.0.fuse) armed disks has
+  where
+    told : WithDisks (Some rack.told) (Some rack'.told) (λ o n. Untouched o n × ((u : ℕ) → n.failing u ≡ o.failing u))
+    told = subst (λ (o : Option Disks). WithDisks (Some rack.told) o (λ o n. Untouched o n × ((u : ℕ) → n.failing u ≡ o.failing u))) rack'.is
+        (subst (λ (o : Option Disks). WithDisks o new.disks (λ o n. Untouched o n × ((u : ℕ) → n.failing u ≡ o.failing u))) rack.is disks)
+
+    armed : new.armed ≡ m.armed
+    armed = rack'.armed ∙ ap (λ (f : Option (ℕ × ℕ)). is_set f) told.0.fuse ∙ sym rack.armed
 
 pub bare_still : (n : Node) (m new : Meaning) → Goes Nothing m new → new.down ≡ m.down → new.armed ≡ m.armed → IsBareAt n m → IsBareAt n new
 bare_still n m new goes down armed bare = record {
   is = bare.is;
-  fitted = fitted_still n.disks n.blocks m new goes down armed bare.fitted;
+  fitted = fitted_still n.disks n.blocks m new goes down bare.fitted;
+  unarmed = armed ∙ bare.unarmed;
   few = bare.few;
   some = bare.some;
   blank = λ u b some last below. keeps_still m new u b _ goes (bare.blank u b some last below);
 }
 
 -- a site that is up stays so over calls that change no contents
-pub up_still : (n : Node) (c : Core) (m new : Meaning) → Goes Nothing m new → ((i : Image) → new.now i → m.now i) → new.down ≡ m.down → new.armed ≡ m.armed → IsUpAt n c m → IsUpAt n c new
-up_still n c m new goes now down armed up =
-    let fitted = fitted_still n.disks n.blocks m new goes down armed up.fitted in
+pub up_still : (n : Node) (c : Core) (m new : Meaning) → Goes Nothing m new → ((i : Image) → new.now i → m.now i) → new.down ≡ m.down → HasFuse n.fuse new → IsUpAt n c m → IsUpAt n c new
+up_still n c m new goes now down fuse up =
+    let fitted = fitted_still n.disks n.blocks m new goes down up.fitted in
     record {
       state = up.state;
       fitted = fitted;
+      fuse = fuse;
       disks = up.disks;
       units = up.units;
       ring = up.ring;
@@ -95,7 +123,8 @@ up_volumes n c m up = ap (λ (u : Units). length u.vols) up.units ∙ length-val
 pub bare_moved : (n : Node) (count : ℕ) (m new : Meaning) → Moves (Run 0 0 count) Anything m new → IsBareAt n m → IsBareAt n new
 bare_moved n count m new moves bare = record {
   is = bare.is;
-  fitted = fitted_moved n.disks n.blocks (Run 0 0 count) Anything m new moves bare.fitted;
+  fitted = fitted_moved n.disks n.blocks (Run 0 0 count) Anything m new moves bare.fitted (stays_up (Run 0 0 count) Anything m new moves bare.unarmed bare.fitted.up);
+  unarmed = moves.unarmed bare.unarmed;
   few = bare.few;
   some = bare.some;
   blank = λ u b some last below. kept_beside (Run 0 0 count) Anything m new moves u b (λ mine. omega (arith, mine.there, some)) zero_block (bare.blank u b some last below);
@@ -162,7 +191,8 @@ pub raw_stands : (site : ℕ) (n : Node) (c : Core) (m new : Meaning) → Lawful
     → Moves (Run 0 0 (ring_of (m.size 0) + 2)) Anything m new → (IsTrue m.tells → (k : Content) → Holds (raw_units n.disks).vols k m → Stands c k new) → IsUpAt (raw_set site n) c new
 raw_stands site n c m new lawful unit_is bare some is moves stands = record {
   state = refl;
-  fitted = fitted_moved n.disks n.blocks (Run 0 0 (ring_of (m.size 0) + 2)) Anything m new moves bare.fitted;
+  fitted = fitted_moved n.disks n.blocks (Run 0 0 (ring_of (m.size 0) + 2)) Anything m new moves bare.fitted (stays_up (Run 0 0 (ring_of (m.size 0) + 2)) Anything m new moves bare.unarmed bare.fitted.up);
+  fuse = subst (λ (k : Node). HasFuse k.fuse new) (sym bare.is) (moves.unarmed bare.unarmed);
   disks = some;
   units = ap (λ (k : Core). k.units) is;
   ring = ring_here;

@@ -1,10 +1,10 @@
 -- What a line comes to that crashes a site, or that applies what is logged.
 use Rattle.std.proofs.Common.{◌≡◌, ◌∙◌, ◌+◌, ◌-◌, ◌<◌, ◌≤◌, ℕ, List, [], ◌∷◌, length, ap, sym, subst, refl, arith}
 use Rattle.std.specs.Prelude.{min, Option, Some, None, slice_get, slice_set, Result, Ok, Err}
-use Rattle.vx_model.specs.World.{Node, World, updated}
-use Rattle.vx_model.specs.Steps.{crashed, crash_left, stopped_by}
+use Rattle.vx_model.specs.World.{Node, World, Fuse, updated}
+use Rattle.vx_model.specs.Steps.{crashed, crash_left, stopped_by, worked_on, burned}
 use Rattle.vx_model.specs.declared.no.No.{No}
-use Rattle.vx_model.specs.declared.no.No.TheVariants.{Device}
+use Rattle.vx_model.specs.declared.no.No.TheVariants.{Device, Down as Off}
 use Rattle.vx_model.specs.declared.site.SiteState.{SiteState}
 use Rattle.vx_model.specs.declared.site.SiteState.TheVariants.{Bare as IsBare, Up as IsUp, Deported, Down as IsDown}
 use Rattle.vx_disk.specs.declared.shelf.Shelf.{Ghosts}
@@ -17,16 +17,16 @@ use Rattle.vx_node.specs.declared.said.Said.{Said}
 use Rattle.vx_node.specs.declared.said.Said.TheVariants.{Done, DoneAt, Refused}
 use Rattle.vx_node.specs.declared.yard.Yard.{Yard}
 use Rattle.vx_node.specs.Changes.{down_facts, halted_facts, halted_group}
-use Rattle.vx_node.specs.Engines.{Later, CrashedAt, CanApply, AppliedAt}
+use Rattle.vx_node.specs.Engines.{Later, CrashedAt, CanApply, AppliedAt, halted_at, worked}
 use Rattle.vx_node.specs.Facts.{site_fact, group_fact, group_by, facts_of, seat_of, site_number}
 use Rattle.vx_node.specs.Rising.{Fell}
 use Rattle.vx_node.specs.Stands.{EnginesStand, StandsAt, RoseAll, faults_of}
-use Rattle.vx_node.specs.Steps.{Crashes, Applies, IsApplied, ApplyFails, Cleanly}
+use Rattle.vx_node.specs.Steps.{Crashes, Applies, IsApplied, ApplyFails, ApplyCut, Cleanly}
 use Rattle.vx_node.specs.Working.{Worked, IsFree}
 use Rattle.vx_node.specs.Writes.{noted_facts}
 use Rattle.vx_node.specs.Yards.{YardStands, in_files, count_of}
-use Rattle.vx_node.proofs.Changing.{facts-updated, rose_none, rose_one, counts_later, counts_rose, engines_set, engines_same}
-use Rattle.vx_node.proofs.Lists.{set_twice}
+use Rattle.vx_node.proofs.Changing.{facts-updated, rose_none, rose_one, counts_later, counts_rose, engines_set}
+use Rattle.vx_node.proofs.Lists.{set_twice, set_same}
 use Rattle.vx_node.proofs.Refused.{Named, crash_may, apply_may}
 use Rattle.vx_node.proofs.Seats.{Seated, seated, named_fact, some_same}
 use Rattle.vx_node.proofs.Sites.{stands_new}
@@ -38,14 +38,24 @@ can_apply n f is up running =
     let n_up : n.state ≡ IsUp = sym (ap (λ (k : SiteFacts). k.state) is) ∙ up in
     record { up = n_up; running = running (group_fact n) (ap (λ (k : SiteFacts). k.rvg) is ∙ ap (λ (t : SiteState). group_by t n) n_up) }
 
-halted_as : (state : SiteState) (n : Node) (disk : ℕ) → halted_group disk (group_by state n) ≡ group_by state (record n { halted = Some disk })
+halted_as : (state : SiteState) (n : Node) (disk : ℕ) → halted_group disk (group_by state n) ≡ group_by state (halted_at n disk)
 halted_as IsBare n disk = refl
 halted_as IsUp n disk = refl
 halted_as Deported n disk = refl
 halted_as IsDown n disk = refl
 
-stopped_fact : (n : Node) (disk : ℕ) → halted_facts disk (site_fact n) ≡ site_fact (record n { halted = Some disk })
+stopped_fact : (n : Node) (disk : ℕ) → halted_facts disk (site_fact n) ≡ site_fact (halted_at n disk)
 stopped_fact n disk = ap (λ r. let f : SiteFacts = record (site_fact n) { rvg = r } in f) (halted_as n.state n disk)
+
+fuse_as : (state : SiteState) (n : Node) (f : Fuse) → group_by state (record n { fuse = f }) ≡ group_by state n
+fuse_as IsBare n f = refl
+fuse_as IsUp n f = refl
+fuse_as Deported n f = refl
+fuse_as IsDown n f = refl
+
+-- the tests see no fuse
+pub fuse_fact : (n : Node) (f : Fuse) → site_fact (record n { fuse = f }) ≡ site_fact n
+fuse_fact n f = ap (λ r. let x : SiteFacts = record (site_fact n) { rvg = r } in x) (fuse_as n.state n f)
 
 module _ {R : Type 0} {g : Ghosts R} where
   -- what the tests see of a site
@@ -64,6 +74,14 @@ module _ {R : Type 0} {g : Ghosts R} where
       (facts ∙ ap (λ (fs : List SiteFacts). slice_set fs s f) stands.facts ∙ ap (λ (x : SiteFacts). slice_set (facts_of w) s x) fact ∙ sym (facts-updated w.nodes w.sites s n) ∙ sym same)
       (subst (λ es. EnginesStand w' es) (sym engines) (engines_set w w' old.engines.items s n after sites nodes below stands.engines at))
       racks
+
+  -- the yard with another engine of a site of which the tests see nothing new
+  pub stands_same : (w w' : World) (old new : Yard R g) (s : ℕ) (n : Node) (after : Engine R g) → YardStands w old → s < w.sites → w'.sites ≡ w.sites → ((k : ℕ) → w'.nodes k ≡ updated w.nodes s n k)
+      → StandsAt n after → site_fact n ≡ site_fact (w.nodes s) → facts_of w' ≡ facts_of (record w { nodes = updated w.nodes s n })
+      → new.facts.items ≡ old.facts.items → new.engines.items ≡ slice_set old.engines.items s after → new.racks ≡ old.racks → YardStands w' new
+  stands_same w w' old new s n after stands below sites nodes at fact same facts engines racks =
+      stands_set w w' old new s n (site_fact n) after stands below sites nodes at refl same
+      (facts ∙ sym (set_same old.facts.items s (site_fact n) (fact_there w old s stands below ∙ ap (λ (f : SiteFacts). Some f) (sym fact)))) engines racks
 
   pub rose_still : (old new : Yard R g) (s : ℕ) (e after : Engine R g) → slice_get old.engines.items s ≡ Some e → Later e after → new.engines.items ≡ slice_set old.engines.items s after → RoseAll [] (count_of old) (count_of new)
   rose_still old new s e after there later engines =
@@ -122,12 +140,11 @@ module _ {R : Type 0} {g : Ghosts R} where
       let here = apply_at w old name to s stands free seat in
       let applied = apply (w.nodes s) (stands.engines.sites s before here.seat.below there) here.can in
       record {
-        world = w;
+        world = worked_on w s;
         fails = [];
-        works = subst (λ (k : ℕ). Applies w k to [] (DoneAt number) w) (sym here.seat.number) (IsApplied number applied.0 applied.1 (record { none = refl; says = refl; leads = refl }));
-        stands = stands_new w w old new stands (ap (λ fs. fs.items) facts ∙ stands.facts)
-            (subst (λ es. EnginesStand w es) (sym engines) (engines_same w old.engines.items s after here.seat.below stands.engines applied.2))
-            racks;
+        works = subst (λ (k : ℕ). Applies w k to [] (DoneAt number) (worked_on w s)) (sym here.seat.number) (IsApplied number applied.0 applied.1 (record { none = refl; says = refl; leads = refl }));
+        stands = stands_same w (worked_on w s) old new s (worked (w.nodes s)) after stands here.seat.below refl (λ k. refl) applied.2
+            (fuse_fact (w.nodes s) (burned (w.nodes s).fuse)) refl (ap (λ fs. fs.items) facts) engines racks;
         rose = rose_still old new s before after there later engines;
       }
 
@@ -138,12 +155,23 @@ module _ {R : Type 0} {g : Ghosts R} where
     world = stopped_by w s disk;
     fails = (s, disk) ∷ [];
     works = subst (λ (k : ℕ). Applies w k to ((s, disk) ∷ []) (Refused (Device disk)) (stopped_by w s disk)) (sym seat.number) (ApplyFails disk (record { one = refl; says = refl; leads = refl }));
-    stands = stands_set w (stopped_by w s disk) old new s (record (w.nodes s) { halted = Some disk }) f' after stands seat.below refl (λ k. refl) applied.0
+    stands = stands_set w (stopped_by w s disk) old new s (halted_at (w.nodes s) disk) f' after stands seat.below refl (λ k. refl) applied.0
         (is ∙ ap (halted_facts disk) (some_same (sym at ∙ seat.fact)) ∙ stopped_fact (w.nodes s) disk) refl facts engines racks;
     rose = subst (λ es. RoseAll ((s, disk) ∷ []) (count_of old) (faults_of es)) (sym engines)
         (rose_one s disk (count_of old) (faults_of (slice_set old.engines.items s after)) (λ i d. counts_later old.engines.items s before after there later i d)
         (counts_rose old.engines.items s disk before after there applied.1));
   }
+  apply_by w old new s to Off f f' before after name stands seat at there later applied is facts engines racks =
+      let has = applied.1 in
+      record {
+        world = crash_left w s has.count;
+        fails = [];
+        works = subst (λ (k : ℕ). Applies w k to [] (Refused Off) (crash_left w s has.count)) (sym seat.number)
+            (ApplyCut (crash_left w s has.count) applied.0 (record { count = has.count; least = has.least; most = has.most; leads = refl }) (record { none = refl; says = refl; leads = refl }));
+        stands = stands_set w (crash_left w s has.count) old new s (crashed (w.nodes s) has.count) f' after stands seat.below refl (λ k. refl) has.stands
+            (is ∙ ap down_facts (some_same (sym at ∙ seat.fact))) refl facts engines racks;
+        rose = rose_still old new s before after there later engines;
+      }
   apply_by w old new s to other f f' before after name stands seat at there later applied is facts engines racks = absurd applied
 
   pub apply_failed : (w : World) (old new : Yard R g) (name : List ℕ) (to s : ℕ) (why : No) (said : Said) (f f' : SiteFacts) (before after : Engine R g) → YardStands w old → IsFree old (Apply name to)

@@ -4,7 +4,7 @@ use Rattle.std.specs.Prelude.{Some, None}
 use Rattle.std.proofs.lemmas.List.{take-append-le}
 use Rattle.vx_model.specs.Content.{Content, Write, put, fold_writes}
 use Rattle.vx_model.specs.World.{Node}
-use Rattle.vx_model.specs.Steps.{logged}
+use Rattle.vx_model.specs.Steps.{logged, half_begun, burned}
 use Rattle.vx_model.specs.declared.state.State.{State}
 use Rattle.vx_model.specs.declared.state.KeptLink.{KeptLink}
 use Rattle.vx_srlfmt.specs.declared.header.Header.{Header}
@@ -12,9 +12,10 @@ use Rattle.vx_disk.specs.Shelf.{Meaning, Image, Lawful}
 use Rattle.vx_rvg.specs.Stands.{Found, FoundAs, Stands}
 use Rattle.vx_rvg.specs.Views.{Core, last_of}
 use Rattle.vx_rvg.proofs.ContentFacts.{stands_found}
-use Rattle.vx_node.specs.Engines.{halted_with}
+use Rattle.vx_node.specs.Engines.{halted_with, halted_at}
 use Rattle.vx_node.specs.Holds.{HasWrites, raw_units, state_of, state_with, most_stamp}
 use Rattle.vx_node.specs.Rooms.{IsRoomy}
+use Rattle.vx_node.specs.Fuses.{HasFuse}
 use Rattle.vx_node.specs.Stands.{IsFitted, IsUpAt}
 use Rattle.vx_node.proofs.Staying.{told_now, found_same, writes_found, SameLog}
 
@@ -29,6 +30,20 @@ content_pushed n x many =
     ap (λ (ws : List Write). fold_writes n.base ws)
     (sym (subst (λ (k : ℕ). drop k (take (suc k) (n.log ++ x ∷ [])) ≡ x ∷ []) many (last_pushed n.log x))
     ∙ ap (λ (k : ℕ). drop n.safe (take k (n.log ++ x ∷ []))) more)
+
+-- an image with the site's writes, where one more was begun
+pub has_begun : (n : Node) (x : Write) (i : Image) → HasWrites n i → HasWrites (half_begun n x) i
+has_begun n x i has = record {
+  count = has.count;
+  least = has.least;
+  most = omega (arith, has.most, length-append n.log (x ∷ []));
+  found = subst (λ (ws : List Write). Found (raw_units n.disks) n.ring (state_of n) n.session (most_stamp n) i has.count (fold_writes n.base (drop n.safe ws)))
+      (sym (take-append-le has.count n.log (x ∷ []) has.most)) has.found;
+}
+
+-- the same of one that a disk halted
+pub half_begins : (n : Node) (x : Write) (disk : ℕ) (i : Image) → HasWrites (halted_with n x disk) i → HasWrites (half_begun n x) i
+half_begins n x disk i has = record { count = has.count; least = has.least; most = has.most; found = has.found }
 
 -- an image with the site's writes, where one more may stand or not
 pub has_half : (n : Node) (x : Write) (disk : ℕ) (i : Image) → HasWrites n i → HasWrites (halted_with n x disk) i
@@ -66,10 +81,11 @@ never_none e = cc
 -- a site that a disk halted in a write
 module _ (n : Node) (x : Write) (disk : ℕ) where
   -- before anything of the write was logged
-  pub half_of : (c : Core) (m : Meaning) → IsUpAt (record n { halted = Some disk }) c m → IsUpAt (halted_with n x disk) c m
+  pub half_of : (c : Core) (m : Meaning) → IsUpAt (halted_at n disk) c m → IsUpAt (halted_with n x disk) c m
   half_of c m up = record {
     state = up.state;
     fitted = up.fitted;
+    fuse = up.fuse;
     disks = up.disks;
     units = up.units;
     ring = up.ring;
@@ -96,11 +112,12 @@ module _ (n : Node) (x : Write) (disk : ℕ) where
   }
 
   -- while it was logged
-  pub up_half : (c0 c c' : Core) (m0 m new : Meaning) → IsUpAt n c0 m0 → IsRoomy n c m → new.tells ≡ m.tells → IsFitted n.disks n.blocks new → SameLog c c' → c'.halted ≡ Some disk
+  pub up_half : (c0 c c' : Core) (m0 m new : Meaning) → IsUpAt n c0 m0 → IsRoomy n c m → new.tells ≡ m.tells → IsFitted n.disks n.blocks new → HasFuse (burned n.fuse) new → SameLog c c' → c'.halted ≡ Some disk
       → ((i : Image) → new.now i → HasWrites (halted_with n x disk) i) → IsUpAt (halted_with n x disk) c' new
-  up_half c0 c c' m0 m new up roomy tells fitted same halted left = record {
+  up_half c0 c c' m0 m new up roomy tells fitted fuse same halted left = record {
     state = up.state;
     fitted = fitted;
+    fuse = fuse;
     disks = up.disks;
     units = same.units ∙ roomy.units;
     ring = same.ring ∙ roomy.ring;
@@ -128,11 +145,12 @@ module _ (n : Node) (x : Write) (disk : ℕ) where
 
 -- a site with one more write
 pub up_logged : (n : Node) (x : Write) (c0 c c' : Core) (m0 m new : Meaning) → IsUpAt n c0 m0 → n.halted ≡ None → IsRoomy n c m → Lawful new → c'.log.unit ≡ c'.units.srl → new.tells ≡ m.tells
-    → IsFitted n.disks n.blocks new → c'.units ≡ c.units → c'.log.ring ≡ c.log.ring → c'.log.header ≡ c.log.header → c'.halted ≡ c.halted → last_of c' ≡ last_of c + 1
+    → IsFitted n.disks n.blocks new → HasFuse (burned n.fuse) new → c'.units ≡ c.units → c'.log.ring ≡ c.log.ring → c'.log.header ≡ c.log.header → c'.halted ≡ c.halted → last_of c' ≡ last_of c + 1
     → (IsTrue new.tells → Stands c' (put n.base x) new) → IsUpAt (logged n x) c' new
-up_logged n x c0 c c' m0 m new up none roomy lawful unit_is tells fitted units ring header halted head content = record {
+up_logged n x c0 c c' m0 m new up none roomy lawful unit_is tells fitted fuse units ring header halted head content = record {
   state = up.state;
   fitted = fitted;
+  fuse = fuse;
   disks = up.disks;
   units = units ∙ roomy.units;
   ring = ring ∙ roomy.ring;

@@ -9,6 +9,9 @@ use Rattle.vx_model.specs.declared.no.No.TheVariants.{Range, Device, Down as IsO
 use Rattle.vx_model.specs.declared.units.Units.{Units}
 use Rattle.vx_disk.specs.Counts.{Rose}
 use Rattle.vx_disk.specs.Moves.{Moves, Anything, Nowhere}
+use Rattle.vx_disk.specs.Causes.{OnDisks}
+use Rattle.vx_disk.specs.Disks.{Untouched}
+use Rattle.vx_disk.specs.Racks.{IsRack}
 use Rattle.vx_disk.specs.Shelf.{Meaning, Image, Lawful, Goes, Nothing}
 use Rattle.vx_disk.specs.declared.shelf.Shelf.{Ghosts}
 use Rattle.vx_disk.proofs.Moving.{of_nothing}
@@ -23,7 +26,9 @@ use Rattle.vx_node.specs.declared.engine.Engine.{Engine}
 use Rattle.vx_node.specs.declared.engine.Engine.TheVariants.{Up}
 use Rattle.vx_node.specs.Engines.{CanRead, ReadAt}
 use Rattle.vx_node.specs.Holds.{HasWrites, raw_units}
+use Rattle.vx_node.specs.Fuses.{HasFuse}
 use Rattle.vx_node.specs.Stands.{IsFitted, IsUpAt, StandsAt}
+use Rattle.vx_node.proofs.Engines.{fuse_untouched}
 use Rattle.vx_node.proofs.Staying.{told_now, never_both, fitted_moved, up_found, up_with}
 use Rattle.vx_node.proofs.Values.{slice_index-values_from}
 
@@ -41,12 +46,12 @@ in_range : (size last : ℕ) → last ≤ size → (if ltb size last then Some R
 in_range size last within = range_by (ltb size last) (grind (arith, nat_tests))
 
 module _ (n : Node) (c : Core) (m new : Meaning) (volume start count : ℕ) (bytes : List ℕ) (up : IsUpAt n c m) (can : CanRead n volume start count) (lawful : Lawful m) (after : Lawful new)
-    (unit_is : c.log.unit ≡ c.units.srl) (goes : Goes Nothing m new) where
+    (unit_is : c.log.unit ≡ c.units.srl) (goes : Goes Nothing m new) (down : new.down ≡ m.down) (fuse : HasFuse n.fuse new) where
   moves : Moves Nowhere Anything m new
   moves = of_nothing m new goes
 
   fitted : IsFitted n.disks n.blocks new
-  fitted = fitted_moved n.disks n.blocks Nowhere Anything m new moves up.fitted
+  fitted = fitted_moved n.disks n.blocks Nowhere Anything m new moves up.fitted (down ∙ up.fitted.up)
 
   content : IsTrue new.tells → Stands c n.base new
   content told = rest_stands c m new goes fitted.up n.base (up.content can.running (sym goes.tells ∙ told))
@@ -57,7 +62,7 @@ module _ (n : Node) (c : Core) (m new : Meaning) (volume start count : ℕ) (byt
       up_found n c m i up can.running (sym goes.tells ∙ told) (stands_found c n.base new i unit_is after (content told) now)
 
   read_up : IsUpAt n c new
-  read_up = up_with n c c m new n.halted Nowhere Anything moves up (record { units = refl; ring = refl; header = refl; held = refl }) up.halted (λ none. none) (λ none told. content told) left
+  read_up = up_with n c c m new n.halted n.fuse Nowhere Anything moves fitted.up fuse up (record { units = refl; ring = refl; header = refl; held = refl }) up.halted (λ none. none) (λ none told. content told) left
 
   size : m.size (unit_of c.units.vols volume) ≡ n.blocks
   size =
@@ -90,9 +95,11 @@ module _ {R : Type 0} {g : Ghosts R} where
       → CanRead n volume start count → Lawful (g.meaning rvg.shelf) → Lawful (g.meaning new.shelf) → new.core ≡ rvg.core
       → ReadIs (read_refusal rvg.core ((g.meaning rvg.shelf).size (unit_of rvg.core.units.vols volume)) start count) (g.meaning rvg.shelf) (g.meaning new.shelf) result
       → OnOk result ((k : Content) → Stands rvg.core k (g.meaning rvg.shelf) → IsTrue (g.meaning rvg.shelf).tells → Shows k volume start count bytes)
-      → Goes Nothing (g.meaning rvg.shelf) (g.meaning new.shelf) → ReadAt n volume start count bytes old (Up new) result
-  read_at n volume start count bytes old rvg new result is stands can lawful after same answers gives goes =
+      → Goes Nothing (g.meaning rvg.shelf) (g.meaning new.shelf) → (g.meaning new.shelf).down ≡ (g.meaning rvg.shelf).down
+      → OnDisks (g.meaning rvg.shelf).disks (g.meaning new.shelf).disks Untouched → IsRack (g.meaning rvg.shelf) → IsRack (g.meaning new.shelf) → ReadAt n volume start count bytes old (Up new) result
+  read_at n volume start count bytes old rvg new result is stands can lawful after same answers gives goes down disks rack rack' =
+      let up = subst (StandsAt n) is stands in
       subst (λ (e : Engine R g). ReadAt n volume start count bytes e (Up new) result) (sym is)
       (by_engine n volume start count bytes rvg new result
       (subst (λ (k : Core). ReadAs n volume start count bytes k (g.meaning rvg.shelf) (g.meaning new.shelf) result) (sym same)
-      (read_as n rvg.core (g.meaning rvg.shelf) (g.meaning new.shelf) volume start count bytes (subst (StandsAt n) is stands) can lawful after rvg.sound.log_unit goes result answers gives)))
+      (read_as n rvg.core (g.meaning rvg.shelf) (g.meaning new.shelf) volume start count bytes up can lawful after rvg.sound.log_unit goes down (fuse_untouched n.fuse (g.meaning rvg.shelf) (g.meaning new.shelf) disks rack rack' up.fuse) result answers gives)))

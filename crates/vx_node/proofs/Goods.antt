@@ -1,13 +1,13 @@
 -- A line leaves a good world good.
-use Rattle.std.proofs.Common.{◌≡◌, ◌∙◌, ◌+◌, ◌<◌, ℕ, List, [], ◌∷◌, length, ap, sym, subst, refl, arith, inl, inr}
+use Rattle.std.proofs.Common.{◌≡◌, ◌∙◌, ◌+◌, ◌<◌, ℕ, List, [], ◌∷◌, length, ap, sym, subst, refl, arith, inl, inr, length-append}
 use Rattle.std.specs.Prelude.{◌*◌, ◌≤◌, Option, Some, None, Bool, true, false, replicate, map, unwrap_or, cond, if◌then◌else◌, ◌&&◌, not}
 use Rattle.std.specs.List.{find}
 use Rattle.std.specs.Str.{bytes_eq}
 use Rattle.vx_model.specs.Content.{Write as WriteOf}
-use Rattle.vx_model.specs.World.{Node, World, Volume, bare_site, empty_world, is_origin, updated}
+use Rattle.vx_model.specs.World.{Node, World, Volume, Fuse as FuseOf, FuseSet, bare_site, empty_world, is_origin, updated, with_node}
 use Rattle.vx_model.specs.Good.{Good, IsMade, IsWorking}
-use Rattle.vx_model.specs.Steps.{site_made, raw_made, raw_set, logged, written, half_written, crashed, crash_left, recovered, came_up, session_begun, stopped_by}
-use Rattle.vx_model.proofs.CrashLemmas.{kept_length, good_crashed, good_recovered, good_session_begun, good_stopped}
+use Rattle.vx_model.specs.Steps.{site_made, raw_made, raw_set, logged, written, half_written, half_begun, cut_write, crashed, crash_left, recovered, came_up, session_begun, stopped_by, worked_on, fused, burned}
+use Rattle.vx_model.proofs.CrashLemmas.{kept_length, good_crashed, good_cut, good_recovered, good_session_begun, good_stopped, good_worked, good_fused}
 use Rattle.vx_model.proofs.GoodLemmas.{good_empty, good_site, good_raw, good_written, good_half_written, up_is_made}
 use Rattle.vx_model.proofs.Updates.{all_updated, at_place}
 use Rattle.vx_model.specs.declared.no.No.{No}
@@ -17,7 +17,7 @@ use Rattle.vx_model.specs.declared.site.Role.TheVariants.{Primary, Secondary, Ha
 use Rattle.vx_model.specs.declared.site.SiteState.{SiteState}
 use Rattle.vx_model.specs.declared.site.SiteState.TheVariants.{Bare, Up, Down}
 use Rattle.vx_script.specs.declared.line.ScriptLine.{ScriptLine}
-use Rattle.vx_script.specs.declared.line.ScriptLine.TheVariants.{Site, Raw, Disk, Crash, Recover, Write, Put, Read, Show, Apply, Status}
+use Rattle.vx_script.specs.declared.line.ScriptLine.TheVariants.{Site, Raw, Disk, Crash, Fuse, Recover, Write, Put, Read, Show, Apply, Status}
 use Rattle.vx_order.specs.declared.facts.SiteFacts.{SiteFacts}
 use Rattle.vx_order.specs.declared.facts.VolumeFacts.{VolumeFacts}
 use Rattle.vx_order.specs.declared.facts.RvgFacts.{RvgFacts}
@@ -31,10 +31,10 @@ use Rattle.vx_order.specs.Spans.{span_of}
 use Rattle.vx_order.specs.Subject.{first_name}
 use Rattle.vx_order.specs.Tests.{when}
 use Rattle.vx_node.specs.Facts.{site_fact, facts_of, site_number, volume_fact, group_by, group_fact}
-use Rattle.vx_node.specs.Engines.{halted_with}
-use Rattle.vx_node.specs.Steps.{Fails, Puts, IsPut, NoNumber, PutFails, Crashes, Begins, CrashesFirst, IsDown, Recovers, ComesUp, StaysDown, NoSession, Untold, IsBareStill, Applies, IsApplied, ApplyFails, Works, StepBy, Prints, write_of}
+use Rattle.vx_node.specs.Engines.{halted_with, halted_at}
+use Rattle.vx_node.specs.Steps.{Fails, Puts, IsPut, NoNumber, PutFails, PutCut, Crashes, Begins, CrashesFirst, IsDown, Recovers, ComesUp, StaysDown, NoSession, Untold, IsBareStill, Applies, IsApplied, ApplyFails, ApplyCut, Works, StepBy, Prints, write_of}
 use Rattle.vx_node.specs.declared.said.Said.{Said}
-use Rattle.vx_node.proofs.Refused.{Named, WriteMay, passes, raw_may, crash_may, apply_may, write_may, put_may}
+use Rattle.vx_node.proofs.Refused.{Named, WriteMay, passes, raw_may, crash_may, fuse_may, apply_may, write_may, put_may}
 use Rattle.vx_node.proofs.Seats.{position_within, some_same}
 use Rattle.vx_node.proofs.Values.{length-values_from, slice_get-values_from}
 
@@ -61,12 +61,24 @@ sound_changed w w' i n sound good nodes origin whole = record {
   whole = λ k. subst (λ (m : Node). m.state ≡ Down → length m.log ≤ m.safe) (sym (nodes k)) (all_updated (λ _ m. m.state ≡ Down → length m.log ≤ m.safe) w.nodes i n whole (λ j apart. sound.whole j) k);
 }
 
+-- only the fuse of a site that is up changed
+fuse_sound : (w : World) (s : ℕ) (f : FuseOf) → Sound w → (w.nodes s).state ≡ Up → Good (with_node w s (record (w.nodes s) { fuse = f })) → Sound (with_node w s (record (w.nodes s) { fuse = f }))
+fuse_sound w s f sound up good = sound_changed w (with_node w s (record (w.nodes s) { fuse = f })) s (record (w.nodes s) { fuse = f }) sound good (λ k. refl) (sound.origins s) (λ down. absurd (up_not_down up down))
+
+worked_sound : (w : World) (s : ℕ) → Sound w → (w.nodes s).state ≡ Up → Sound (worked_on w s)
+worked_sound w s sound up = fuse_sound w s (burned (w.nodes s).fuse) sound up (good_worked w s sound.good (up_is_made (w.nodes s) up))
+
 good_puts : (told : Type 0) (w : World) (s : ℕ) (x : WriteOf) (fails : Fails) (said : Said) (new : World) → Sound w → IsWorking (w.nodes s) → Puts told w s x fails said new → Sound new
 good_puts told w s x fails said new sound working (IsPut below done) = sound_as new (written w s x) done.leads
     (sound_changed w (written w s x) s (logged (w.nodes s) x) sound (good_written w s x sound.good working) (λ k. refl) working.origin (λ down. absurd (up_not_down working.up down)))
-good_puts told w s x fails said new sound working (NoNumber past done) = sound_as new w done.leads sound
+good_puts told w s x fails said new sound working (NoNumber past done) = sound_as new (worked_on w s) done.leads (worked_sound w s sound working.up)
 good_puts told w s x fails said new sound working (PutFails disk done) = sound_as new (half_written w s x disk) done.leads
     (sound_changed w (half_written w s x disk) s (halted_with (w.nodes s) x disk) sound (good_half_written w s x disk sound.good working) (λ k. refl) working.origin (λ down. absurd (up_not_down working.up down)))
+
+good_puts told w s x fails said new sound working (PutCut count fused least most done) = sound_as new (cut_write w s x count) done.leads
+    (sound_changed w (cut_write w s x count) s (crashed (half_begun (w.nodes s) x) count) sound
+    (good_cut w s x count sound.good (up_is_made (w.nodes s) working.up) working.origin least most) (λ k. refl) working.origin
+    (λ _. omega (arith, kept_length (half_begun (w.nodes s) x) count least (omega (arith, most, length-append (w.nodes s).log (x ∷ []))))))
 
 -- the site of a name
 seat_in : (w : World) (name : List ℕ) (n : Named (facts_of w) name) → (site_number w name < w.sites) × (n.facts ≡ site_fact (w.nodes (site_number w name)))
@@ -195,9 +207,10 @@ good_recovers told is w s fails said new sound (Untold untold) = absurd (untold 
 good_recovers told is w s fails said new sound (IsBareStill bare done) = sound_as new w done.leads sound
 
 good_applies : (w : World) (s to : ℕ) (fails : Fails) (said : Said) (new : World) → Sound w → (w.nodes s).state ≡ Up → Applies w s to fails said new → Sound new
-good_applies w s to fails said new sound up (IsApplied number least most done) = sound_as new w done.leads sound
+good_applies w s to fails said new sound up (IsApplied number least most done) = sound_as new (worked_on w s) done.leads (worked_sound w s sound up)
+good_applies w s to fails said new sound up (ApplyCut mid fused crash done) = sound_as new mid done.leads (crashed_sound w s mid sound up crash)
 good_applies w s to fails said new sound up (ApplyFails disk failed) = sound_as new (stopped_by w s disk) failed.leads
-    (sound_changed w (stopped_by w s disk) s (record (w.nodes s) { halted = Some disk }) sound (good_stopped w s disk sound.good (up_is_made (w.nodes s) up)) (λ k. refl) (sound.origins s) (sound.whole s))
+    (sound_changed w (stopped_by w s disk) s (halted_at (w.nodes s) disk) sound (good_stopped w s disk sound.good (up_is_made (w.nodes s) up)) (λ k. refl) (sound.origins s) (sound.whole s))
 
 site_up : (w : World) (name : List ℕ) (n : Named (facts_of w) name) → n.facts.state ≡ Up → (w.nodes (site_number w name)).state ≡ Up
 site_up w name n up = sym (ap (λ (f : SiteFacts). f.state) (seat_in w name n).1) ∙ up
@@ -215,6 +228,10 @@ good_works told is files w (Disk name disk state) fails said new sound free done
 good_works told is files w (Crash name pick) fails said new sound free works =
     let may = crash_may (facts_of w) files name pick free in
     sound_as new works.0 works.2.leads (crashed_sound w (site_number w name) works.0 sound (site_up w name may.0 may.1) works.1)
+good_works told is files w (Fuse name calls pick) fails said new sound free done =
+    let may = fuse_may (facts_of w) files name calls pick free in
+    let up = site_up w name may.0 may.1 in
+    sound_as new (fused w (site_number w name) calls) done.leads (fuse_sound w (site_number w name) (FuseSet calls) sound up (good_fused w (site_number w name) calls sound.good (up_is_made (w.nodes (site_number w name)) up)))
 good_works told is files w (Recover name) fails said new sound free recovers = good_recovers told is w (site_number w name) fails said new sound recovers
 good_works told is files w (Write name volume start count fill) fails said new sound free puts =
     good_puts told w (site_number w name) (write_of w name volume start (replicate (512 * count) fill)) fails said new sound (write_working w files name volume start count fill free) puts

@@ -7,6 +7,7 @@ pub mod Disks
 pub mod Engines
 pub mod Falling
 pub mod Founds
+pub mod Fusing
 pub mod Getting
 pub mod Goods
 pub mod Lists

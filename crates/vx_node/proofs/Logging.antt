@@ -4,8 +4,8 @@ use Rattle.std.specs.Prelude.{IsFalse, Option, Some, None, Result, Ok, Err, OnOk
 use Rattle.std.proofs.lemmas.Bool.Decides.{nat_tests}
 use Rattle.vx_model.specs.Answer.{is_too_large}
 use Rattle.vx_model.specs.Content.{Content, Write, blocks_in, put}
-use Rattle.vx_model.specs.Steps.{logged}
-use Rattle.vx_model.specs.World.{Node}
+use Rattle.vx_model.specs.Steps.{logged, half_begun, burned}
+use Rattle.vx_model.specs.World.{Node, Fuse}
 use Rattle.vx_model.specs.declared.no.No.{No}
 use Rattle.vx_model.specs.declared.no.No.TheVariants.{Device, Limit, Down, Size, Range}
 use Rattle.vx_model.specs.declared.units.Units.{Units}
@@ -22,21 +22,23 @@ use Rattle.vx_rvg.specs.Groups.{Fails, Ended, unless_halted, write_refusal, Writ
 use Rattle.vx_rvg.specs.Stands.{FoundAs, Writing, Stands}
 use Rattle.vx_rvg.specs.Views.{Core, IsSound, last_of, unit_of}
 use Rattle.vx_rvg.proofs.ContentFacts.{stands_found}
-use Rattle.vx_node.specs.Engines.{CanWrite, WroteAt, halted_with, no_number}
+use Rattle.vx_node.specs.Engines.{CanWrite, WroteUp, halted_with, worked, no_number}
 use Rattle.vx_node.specs.Holds.{HasWrites, raw_units, most_stamp}
 use Rattle.vx_node.specs.Rooms.{IsRoomy, RoomIs}
-use Rattle.vx_node.specs.Stands.{IsFitted, IsUpAt}
+use Rattle.vx_node.specs.Fuses.{IsFused, HasFuse}
+use Rattle.vx_node.specs.Stands.{IsFitted, IsUpAt, IsHeldAt}
 use Rattle.vx_node.proofs.Applying.{ended_log}
-use Rattle.vx_node.proofs.Founds.{has_half, has_whole, has_safe, half_of, up_half, up_logged}
+use Rattle.vx_node.proofs.Founds.{has_begun, half_begins, has_half, has_whole, has_safe, half_of, up_half, up_logged}
 use Rattle.vx_node.proofs.Rooming.{rose_later}
-use Rattle.vx_node.proofs.Staying.{told_now, never_both, left_moved, fitted_moved, SameLog}
+use Rattle.vx_node.proofs.Staying.{told_now, never_both, left_moved, fitted_moved, fused_by, fuse_moved, burned_twice, fused_before, SameLog}
 use Rattle.vx_node.proofs.Values.{slice_index-values_from}
 
 -- what a write answers of a site
 abbrev pub WroteAs : Node → Write → Meaning → Core → Meaning → Result ℕ No → Type 0
 WroteAs n x m c' new (Ok number) = (number ≡ n.safe + 1) × (n.safe < most_number) × IsUpAt (logged n x) c' new
 WroteAs n x m c' new (Err (Device disk)) = IsUpAt (halted_with n x disk) c' new × Rose (m.disk_faults disk) (new.disk_faults disk)
-WroteAs n x m c' new (Err (Limit what most)) = (Limit what most ≡ no_number) × (IsTrue new.tells → most_number ≤ most_stamp n) × IsUpAt n c' new
+WroteAs n x m c' new (Err (Limit what most)) = (Limit what most ≡ no_number) × (IsTrue new.tells → most_number ≤ most_stamp n) × IsUpAt (worked n) c' new
+WroteAs n x m c' new (Err Down) = IsFused n.fuse × IsHeldAt (half_begun n x) new
 WroteAs n x m c' new (Err other) = ⊥
 
 -- the tests of a write of which only the number is not known to pass
@@ -82,10 +84,11 @@ module _ (n : Node) (volume start : ℕ) (bytes : List ℕ) (c0 c c' : Core) (m0
       ∙ roomy.fitted.size (1 + volume) (omega (arith, can.volume_exists))
 
   -- it is up, and its log has used no stamp
-  up_roomy : (IsTrue m.tells → c.log.header.stamp + 1 ≤ most_stamp n) → IsUpAt n c m
+  up_roomy : (IsTrue m.tells → c.log.header.stamp + 1 ≤ most_stamp n) → IsUpAt (worked n) c m
   up_roomy stamp = record {
     state = up.state;
     fitted = roomy.fitted;
+    fuse = roomy.fuse;
     disks = up.disks;
     units = roomy.units;
     ring = roomy.ring;
@@ -108,11 +111,12 @@ module _ (n : Node) (volume start : ℕ) (bytes : List ℕ) (c0 c c' : Core) (m0
     sizes = up.sizes;
     others = up.others;
     content = λ _ told. roomy.content told;
-    left = λ i now. let told = told_now m i lawful now in has_safe n c m i roomy told up.logged (stands_found c n.base m i sound.log_unit lawful (roomy.content told) now);
+    left = λ i now. let told = told_now m i lawful now in let has = has_safe n c m i roomy told up.logged (stands_found c n.base m i sound.log_unit lawful (roomy.content told) now) in
+        record { count = has.count; least = has.least; most = has.most; found = has.found };
   }
 
-  fitted_new : IsFitted n.disks n.blocks new
-  fitted_new = fitted_moved n.disks n.blocks (Run c.units.srl 0 (c.log.ring + 2)) (Writing c x m) m new moves roomy.fitted
+  fuse_new : HasFuse (burned n.fuse) new
+  fuse_new = subst (λ (f : Fuse). HasFuse f new) (burned_twice n.fuse) (fuse_moved (burned n.fuse) (Run c.units.srl 0 (c.log.ring + 2)) (Writing c x m) m new moves roomy.fuse)
 
   -- what a crash leaves of a write that a disk ended
   half_left : (disk : ℕ) (i : Image) → new.now i → HasWrites (halted_with n x disk) i
@@ -126,54 +130,95 @@ module _ (n : Node) (volume start : ℕ) (bytes : List ℕ) (c0 c c' : Core) (m0
       (writing.each n.base (roomy.content told)))
       (left_moved (Run c.units.srl 0 (c.log.ring + 2)) (Writing c x m) m new i lawful after moves now)
 
-  still_up : IsTrue new.down → ⊥
-  still_up down = never_both new.down down fitted_new.up
+  -- its fuse ran out
+  pub write_cut : IsTrue new.down → IsFused n.fuse × IsHeldAt (half_begun n x) new
+  write_cut down = (
+    fused_before n.fuse (fused_by (burned n.fuse) (Run c.units.srl 0 (c.log.ring + 2)) (Writing c x m) m new moves roomy.fuse roomy.fitted.up down),
+    record {
+      units = moves.units ∙ roomy.fitted.units;
+      size = λ u there. moves.size u ∙ roomy.fitted.size u there;
+      disks = up.disks;
+      few = up.few;
+      some = up.some;
+      ring = up.ring_is;
+      logged = omega (arith, up.logged, length-append n.log (x ∷ []));
+      low = up.low;
+      volumes = up.volumes;
+      whole = up.whole;
+      sizes = up.sizes;
+      others = up.others;
+      left = λ i now. half_begins n x 0 i (half_left 0 i now);
+    },
+  )
 
   head_more : c' ≡ with_write c volume start bytes → last_of c' ≡ last_of c + 1
   head_more is =
       ap (λ (k : Core). last_of k) is
       ∙ pushed c.log.header.low c.log.held c.log.staged (kept_of c.log volume start bytes) roomy.first (ap (λ (ks : List Kept). length ks) (sound.idle roomy.running roomy.fitted.up))
 
-  by_writes : (result : Result ℕ No) → last_of c < most_number → Writes c volume start bytes m new c' result → OnOk result ((k : Content) → Stands c k m → Stands c' (put k x) new) → WroteAs n x m c' new result
-  by_writes (Ok number) below is stands = (
-    is.0 ∙ ap (λ (k : ℕ). k + 1) roomy.head,
-    omega (arith, below, roomy.head),
-    up_logged n x c0 c c' m0 m new up can.running roomy after sound'.log_unit moves.tells fitted_new (ap (λ (k : Core). k.units) is.1) (ap (λ (k : Core). k.log.ring) is.1)
-        (ap (λ (k : Core). k.log.header) is.1) (ap (λ (k : Core). k.halted) is.1) (head_more is.1) (λ told. stands n.base (roomy.content (sym moves.tells ∙ told))),
-  )
-  by_writes (Err (Device disk)) below is stands = (up_half n x disk c0 c c' m0 m new up roomy moves.tells fitted_new (ended_log c (Some disk) c' is.0) is.0.halted_is (half_left disk), is.1)
-  by_writes (Err Down) below is stands = still_up is.1
-  by_writes (Err (Limit what most)) below is stands = absurd is
-  by_writes (Err other) below is stands = is
+  -- the shelf is up behind it
+  module _ (still : IsFalse new.down) where
+    fitted_new : IsFitted n.disks n.blocks new
+    fitted_new = fitted_moved n.disks n.blocks (Run c.units.srl 0 (c.log.ring + 2)) (Writing c x m) m new moves roomy.fitted still
 
-  by_number : (o : Option No) (result : Result ℕ No) → Number (last_of c) o → WriteIs o c volume start bytes m new c' result → (IsSome o → new ≡ m)
-      → OnOk result ((k : Content) → Stands c k m → Stands c' (put k x) new) → WroteAs n x m c' new result
-  by_number o result (SomeLeft below is_none) is unchanged stands = by_writes result below (subst (λ (k : Option No). WriteIs k c volume start bytes m new c' result) is_none is) stands
-  by_number o result (NoneLeft past is_some) is unchanged stands =
-      let refused = subst (λ (k : Option No). WriteIs k c volume start bytes m new c' result) is_some is in
-      let stays : new ≡ m = unchanged (subst (λ (k : Option No). IsSome k) (sym is_some) refl) in
-      subst (λ (r : Result ℕ No). WroteAs n x m c' new r) (sym refused.0) (
-        refl,
-        (λ told. omega (arith, past, roomy.head)),
-        subst (λ (k : Core). IsUpAt n k new) (sym refused.1) (subst (λ (k : Meaning). IsUpAt n c k) (sym stays) (up_roomy (λ told. roomy.unused told (omega (arith, past, roomy.head))))),
-      )
+    by_writes : (result : Result ℕ No) → last_of c < most_number → Writes c volume start bytes m new c' result → OnOk result ((k : Content) → Stands c k m → Stands c' (put k x) new) → WroteAs n x m c' new result
+    by_writes (Ok number) below is stands = (
+      is.0 ∙ ap (λ (k : ℕ). k + 1) roomy.head,
+      omega (arith, below, roomy.head),
+      up_logged n x c0 c c' m0 m new up can.running roomy after sound'.log_unit moves.tells fitted_new fuse_new (ap (λ (k : Core). k.units) is.1) (ap (λ (k : Core). k.log.ring) is.1)
+          (ap (λ (k : Core). k.log.header) is.1) (ap (λ (k : Core). k.halted) is.1) (head_more is.1) (λ told. stands n.base (roomy.content (sym moves.tells ∙ told))),
+    )
+    by_writes (Err (Device disk)) below is stands = (up_half n x disk c0 c c' m0 m new up roomy moves.tells fitted_new fuse_new (ended_log c (Some disk) c' is.0) is.0.halted_is (half_left disk), is.1)
+    by_writes (Err Down) below is stands = absurd (never_both new.down is.1 still)
+    by_writes (Err (Limit what most)) below is stands = absurd is
+    by_writes (Err other) below is stands = is
 
-  -- what a write answers
-  pub written_as : (result : Result ℕ No) → WriteIs (write_refusal c (m.size (unit_of c.units.vols volume)) start (blocks_in bytes)) c volume start bytes m new c' result
-      → (IsSome (write_refusal c (m.size (unit_of c.units.vols volume)) start (blocks_in bytes)) → new ≡ m)
-      → OnOk result ((k : Content) → Stands c k m → Stands c' (put k x) new) → WroteAs n x m c' new result
-  written_as result is unchanged stands =
-      let refusal : write_refusal c (m.size (unit_of c.units.vols volume)) start (blocks_in bytes) ≡ number_test (last_of c)
-      = ap (λ (h : Option ℕ). unless_halted h (tests c.log.ring (m.size (unit_of c.units.vols volume)) start (blocks_in bytes) (last_of c))) roomy.running
-      ∙ tests_pass c.log.ring (m.size (unit_of c.units.vols volume)) start (blocks_in bytes) (last_of c) (omega (arith, can.fits, roomy.ring)) (omega (arith, can.within, size)) in
-      by_number (number_test (last_of c)) result (number_by (last_of c) (leb most_number (last_of c)) refl)
-      (subst (λ (o : Option No). WriteIs o c volume start bytes m new c' result) refusal is)
-      (subst (λ (o : Option No). IsSome o → new ≡ m) refusal unchanged) stands
+    by_number : (o : Option No) (result : Result ℕ No) → Number (last_of c) o → WriteIs o c volume start bytes m new c' result → (IsSome o → new ≡ m)
+        → OnOk result ((k : Content) → Stands c k m → Stands c' (put k x) new) → WroteAs n x m c' new result
+    by_number o result (SomeLeft below is_none) is unchanged stands = by_writes result below (subst (λ (k : Option No). WriteIs k c volume start bytes m new c' result) is_none is) stands
+    by_number o result (NoneLeft past is_some) is unchanged stands =
+        let refused = subst (λ (k : Option No). WriteIs k c volume start bytes m new c' result) is_some is in
+        let stays : new ≡ m = unchanged (subst (λ (k : Option No). IsSome k) (sym is_some) refl) in
+        subst (λ (r : Result ℕ No). WroteAs n x m c' new r) (sym refused.0) (
+          refl,
+          (λ told. omega (arith, past, roomy.head)),
+          subst (λ (k : Core). IsUpAt (worked n) k new) (sym refused.1) (subst (λ (k : Meaning). IsUpAt (worked n) c k) (sym stays) (up_roomy (λ told. roomy.unused told (omega (arith, past, roomy.head))))),
+        )
+
+    -- what a write answers
+    pub written_as : (result : Result ℕ No) → WriteIs (write_refusal c (m.size (unit_of c.units.vols volume)) start (blocks_in bytes)) c volume start bytes m new c' result
+        → (IsSome (write_refusal c (m.size (unit_of c.units.vols volume)) start (blocks_in bytes)) → new ≡ m)
+        → OnOk result ((k : Content) → Stands c k m → Stands c' (put k x) new) → WroteAs n x m c' new result
+    written_as result is unchanged stands =
+        let refusal : write_refusal c (m.size (unit_of c.units.vols volume)) start (blocks_in bytes) ≡ number_test (last_of c)
+        = ap (λ (h : Option ℕ). unless_halted h (tests c.log.ring (m.size (unit_of c.units.vols volume)) start (blocks_in bytes) (last_of c))) roomy.running
+        ∙ tests_pass c.log.ring (m.size (unit_of c.units.vols volume)) start (blocks_in bytes) (last_of c) (omega (arith, can.fits, roomy.ring)) (omega (arith, can.within, size)) in
+        by_number (number_test (last_of c)) result (number_by (last_of c) (leb most_number (last_of c)) refl)
+        (subst (λ (o : Option No). WriteIs o c volume start bytes m new c' result) refusal is)
+        (subst (λ (o : Option No). IsSome o → new ≡ m) refusal unchanged) stands
+
+held_begun : (n : Node) (x : Write) (m : Meaning) → IsHeldAt n m → IsHeldAt (half_begun n x) m
+held_begun n x m held = record {
+  units = held.units;
+  size = held.size;
+  disks = held.disks;
+  few = held.few;
+  some = held.some;
+  ring = held.ring;
+  logged = omega (arith, held.logged, length-append n.log (x ∷ []));
+  low = held.low;
+  volumes = held.volumes;
+  whole = held.whole;
+  sizes = held.sizes;
+  others = held.others;
+  left = λ i now. has_begun n x i (held.left i now);
+}
 
 -- room that was not made refuses the write
 pub unroomed : (n : Node) (x : Write) (c' : Core) (m new : Meaning) (no : No) → RoomIs n m c' new (Err no) → WroteAs n x m c' new (Err no)
 unroomed n x c' m new (Device disk) is = (half_of n x disk c' new is.0, is.1)
 unroomed n x c' m new (Limit what most) is = is
+unroomed n x c' m new Down is = (is.0, held_begun n x new is.1)
 unroomed n x c' m new other is = is
 
 -- a call that moved the shelf, and then the write
@@ -181,13 +226,15 @@ pub wrote_later : (n : Node) (x : Write) (c' : Core) (m mid new : Meaning) (resu
 wrote_later n x c' m mid new (Ok number) later is = is
 wrote_later n x c' m mid new (Err (Device disk)) later is = (is.0, rose_later (m.disk_faults disk) (mid.disk_faults disk) (new.disk_faults disk) (later disk) is.1)
 wrote_later n x c' m mid new (Err (Limit what most)) later is = is
+wrote_later n x c' m mid new (Err Down) later is = is
 wrote_later n x c' m mid new (Err other) later is = is
 
 -- ---- the same of engines
 
 module _ {R : Type 0} {g : Ghosts R} where
-  pub wrote_at : (n : Node) (x : Write) (old new : Rvg R g) (result : Result ℕ No) → WroteAs n x (g.meaning old.shelf) new.core (g.meaning new.shelf) result → WroteAt n x (Up old) (Up new) result
+  pub wrote_at : (n : Node) (x : Write) (old new : Rvg R g) (result : Result ℕ No) → WroteAs n x (g.meaning old.shelf) new.core (g.meaning new.shelf) result → WroteUp n x (Up old) (Up new) result
   wrote_at n x old new (Ok number) is = is
   wrote_at n x old new (Err (Device disk)) is = is
   wrote_at n x old new (Err (Limit what most)) is = is
+  wrote_at n x old new (Err Down) is = is
   wrote_at n x old new (Err other) is = is

@@ -3,7 +3,7 @@ use Rattle.std.proofs.Common.{◌≡◌, ◌⊎◌, inl, inr, ⊎_elim, ℕ, ◌
 use Rattle.std.proofs.lemmas.List.{length-replicate}
 use Rattle.std.specs.Prelude.{IsFalse}
 use Rattle.vx_model.specs.Content.{Content, Write}
-use Rattle.vx_model.specs.World.{Node}
+use Rattle.vx_model.specs.World.{Node, Fuse}
 use Rattle.vx_model.specs.Steps.{recovered, ring_of}
 use Rattle.vx_model.specs.declared.no.Counted.{Counted}
 use Rattle.vx_model.specs.declared.no.No.{No}
@@ -31,6 +31,7 @@ use Rattle.vx_node.specs.declared.engine.Engine.TheVariants.{Bare, Up, Down, Gon
 use Rattle.vx_node.proofs.Engines.{placed_raw}
 use Rattle.vx_node.specs.Engines.{SameDisks, CanStart, CameUp, CameUpIs, no_number}
 use Rattle.vx_node.specs.Holds.{HasWrites, raw_units, state_of, state_with, most_stamp}
+use Rattle.vx_node.specs.Fuses.{HasFuse}
 use Rattle.vx_node.specs.Stands.{IsUpAt, IsDownAt, StandsAt, faults_at}
 use Rattle.vx_node.proofs.Crashing.{one_value, found_left, left_found, found_below, site_sizes}
 use Rattle.vx_node.proofs.Staying.{not_true, never_both, told_now, left_moved, writes_found}
@@ -69,6 +70,7 @@ left_still units ring state session stamp last c m new tells size less left = re
 pub down_still : (n : Node) (m new : Meaning) → Goes Nothing m new → new.down ≡ m.down → new.armed ≡ m.armed → IsDownAt n m → IsDownAt n new
 down_still n m new goes down armed is = record {
   state = is.state;
+  unfused = is.unfused;
   units = goes.units ∙ is.units;
   size = λ u there. goes.size u ∙ is.size u there;
   down = down ∙ is.down;
@@ -150,8 +152,8 @@ module _ (n : Node) (m up : Meaning) (is : IsDownAt n m) (alike : Alike m up) (r
         units = moves.units ∙ alike.contents.units ∙ is.units;
         size = λ u there. moves.size u ∙ alike.contents.size u ∙ is.size u there;
         up = not_true new.down still_up;
-        unarmed = moves.unarmed unarmed;
       };
+      fuse = subst (λ (f : Fuse). HasFuse f new) (sym is.unfused) (moves.unarmed unarmed);
       disks = is.disks;
       units = started.units_are;
       ring = started.ring_is ∙ ring_here;
@@ -234,6 +236,7 @@ module _ (n : Node) (m up new last : Meaning) (is : IsDownAt n m) (alike : Alike
       → IsDownAt (record n { session = session }) last
   down_with session left = record {
     state = is.state;
+    unfused = is.unfused;
     units = stopped.units ∙ moves.units ∙ alike.contents.units ∙ is.units;
     size = λ u there. stopped.size u ∙ moves.size u ∙ alike.contents.size u ∙ is.size u there;
     down = stopped.down;

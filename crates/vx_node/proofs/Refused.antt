@@ -10,7 +10,7 @@ use Rattle.vx_model.specs.declared.no.No.TheVariants.{Down as NotUp}
 use Rattle.vx_model.specs.declared.site.SiteState.{SiteState}
 use Rattle.vx_model.specs.declared.site.SiteState.TheVariants.{Bare, Up, Deported, Down}
 use Rattle.vx_script.specs.declared.line.ScriptLine.{ScriptLine}
-use Rattle.vx_script.specs.declared.line.ScriptLine.TheVariants.{Site, Raw, Disk, Crash, Recover, Write, Put, Read, Show, Apply, Status}
+use Rattle.vx_script.specs.declared.line.ScriptLine.TheVariants.{Site, Raw, Disk, Crash, Fuse, Recover, Write, Put, Read, Show, Apply, Status}
 use Rattle.vx_order.specs.declared.facts.SiteFacts.{SiteFacts}
 use Rattle.vx_order.specs.declared.facts.VolumeFacts.{VolumeFacts}
 use Rattle.vx_order.specs.declared.facts.RvgFacts.{RvgFacts}
@@ -389,6 +389,13 @@ pub crash_may : (sites : List SiteFacts) (files : Bool) (name : List ℕ) (pick 
 unfolding first_name need_of
 crash_may sites files name pick e =
     let p = passes sites files (Crash name pick) e in
+    let site = named sites name p.known in
+    (site, not_off site.facts (subst (λ (o : Option SiteFacts). when (site_off o) NotUp ≡ None) site.found p.up))
+
+pub fuse_may : (sites : List SiteFacts) (files : Bool) (name : List ℕ) (calls pick : ℕ) → refusal_of sites files (Fuse name calls pick) ≡ None → (site : Named sites name) × (site.facts.state ≡ Up)
+unfolding first_name need_of
+fuse_may sites files name calls pick e =
+    let p = passes sites files (Fuse name calls pick) e in
     let site = named sites name p.known in
     (site, not_off site.facts (subst (λ (o : Option SiteFacts). when (site_off o) NotUp ≡ None) site.found p.up))
 

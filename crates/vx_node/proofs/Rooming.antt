@@ -3,7 +3,8 @@ use Rattle.std.proofs.Common.{◌≡◌, ◌∙◌, ◌⊎◌, inl, inr, ⊎_eli
 use Rattle.std.specs.Prelude.{IsFalse, Option, Some, None, Result, Ok, Err, OnOk, IsSome, leb, ltb, ◌&&◌, ◌||◌, if◌then◌else◌}
 use Rattle.std.proofs.lemmas.Bool.Decides.{nat_tests}
 use Rattle.std.proofs.lemmas.List.{length-drop}
-use Rattle.vx_model.specs.World.{Node}
+use Rattle.vx_model.specs.World.{Node, Fuse}
+use Rattle.vx_model.specs.Steps.{burned}
 use Rattle.vx_model.specs.declared.no.No.{No}
 use Rattle.vx_model.specs.declared.no.No.TheVariants.{Device, Limit, Down, Halted}
 use Rattle.vx_model.specs.declared.state.State.{State}
@@ -19,17 +20,19 @@ use Rattle.vx_rvg.specs.Groups.{ApplyIs, Fails, Ended, unless_halted}
 use Rattle.vx_rvg.specs.Saves.{SaveIs, Saves, reclaim_refusal, reclaimed, log_without}
 use Rattle.vx_rvg.specs.Stands.{FoundAs, Saving, Rests, Stands}
 use Rattle.vx_rvg.specs.Views.{Core, IsSound, last_of}
-use Rattle.vx_node.specs.Engines.{no_number}
+use Rattle.vx_node.specs.Engines.{no_number, halted_at, worked}
 use Rattle.vx_node.specs.Holds.{HasWrites, raw_units, state_of, most_stamp}
-use Rattle.vx_node.specs.Rooms.{IsRoomy, RoomIs}
-use Rattle.vx_node.specs.Stands.{IsUpAt}
-use Rattle.vx_node.proofs.Applying.{AppliedAs, ended_log}
-use Rattle.vx_node.proofs.Staying.{told_now, never_both, left_moved, fitted_moved, kept_whole, up_found, writes_found, up_with}
+use Rattle.vx_node.specs.Rooms.{AppliedAs, IsRoomy, RoomIs}
+use Rattle.vx_node.specs.Fuses.{IsFused, HasFuse}
+use Rattle.vx_node.specs.Stands.{IsUpAt, IsHeldAt}
+use Rattle.vx_node.proofs.Applying.{ended_log}
+use Rattle.vx_node.proofs.Staying.{told_now, never_both, left_moved, fitted_moved, kept_whole, up_found, writes_found, up_with, up_worked, held_moved, fused_by, fuse_moved, fuse_burned, burned_twice, fused_before}
 
 -- a log that uses no stamp
 pub roomy_now : (n : Node) (c : Core) (m : Meaning) → IsUpAt n c m → n.halted ≡ None → IsRoomy n c m
 roomy_now n c m up none = record {
   fitted = up.fitted;
+  fuse = fuse_burned n.fuse m up.fuse;
   units = up.units;
   ring = up.ring;
   links = up.links;
@@ -111,27 +114,41 @@ widths_none (k ∷ ks) is = absurd (omega (arith, is))
 all_free : (l : Log) → length l.held ≡ 0 → l.staged ≡ [] → free_of l ≡ l.ring
 all_free l none idle = let w = widths_none (all_of l) (omega (arith, none, ap (λ (ks : List Kept). length ks) idle, length-append l.held l.staged)) in omega (arith, w)
 
-module _ (n : Node) (c c' : Core) (m new : Meaning) (up : IsUpAt n c m) (none : n.halted ≡ None) (lawful : Lawful m) (after : Lawful new)
-    (moves : Moves (Run c.units.srl 0 (c.log.ring + 2)) (Saving c (reclaimed c n.safe) m) m new) where
+module _ (n : Node) (c : Core) (m : Meaning) (up : IsUpAt n c m) where
   log : Emptied c.log (log_without c.log n.safe) n.safe
   log = emptied c.log n.safe up.first up.head
+
+  -- an image in it has the site's writes
+  pub saving_found : n.halted ≡ None → (i : Image) → IsTrue m.tells → Saving c (reclaimed c n.safe) m i → HasWrites n i
+  saving_found none i told saving = ⊎_elim
+      (λ old. up_found n c m i up none told old)
+      (λ next. writes_found n (reclaimed c n.safe) i up.units (log.ring ∙ up.ring) (log.state ∙ kept_whole n c m up told) (log.incarnation ∙ up.session)
+      (let t = up.stamp told none in ⊎_elim (λ (same : (log_without c.log n.safe).header.stamp ≡ c.log.header.stamp). omega (arith, t, same)) (λ (more : (c.log.header.low ≤ n.safe) × ((log_without c.log n.safe).header.stamp ≡ c.log.header.stamp + 1)). omega (arith, t, more.1)) log.stamp)
+      (log.head ∙ up.head) up.logged next)
+      (saving.each n.base (up.content none told))
+
+module _ (n : Node) (c c' : Core) (m new : Meaning) (up : IsUpAt n c m) (none : n.halted ≡ None) (lawful : Lawful m) (after : Lawful new)
+    (moves : Moves (Run c.units.srl 0 (c.log.ring + 2)) (Saving c (reclaimed c n.safe) m) m new) (still : IsFalse new.down) where
+  fuse_here : HasFuse (burned n.fuse) new
+  fuse_here = fuse_moved n.fuse (Run c.units.srl 0 (c.log.ring + 2)) (Saving c (reclaimed c n.safe) m) m new moves up.fuse
 
   -- the log gave up all that it held
   pub roomy_reclaimed : c' ≡ reclaimed c n.safe → reclaim_no c.log.header.low c.log.header.stamp n.safe ≡ None → Rests c c' m new → IsRoomy n c' new
   roomy_reclaimed is passed rests = subst (λ (k : Core). IsRoomy n k new) (sym is) (record {
-    fitted = fitted_moved n.disks n.blocks (Run c.units.srl 0 (c.log.ring + 2)) (Saving c (reclaimed c n.safe) m) m new moves up.fitted;
+    fitted = fitted_moved n.disks n.blocks (Run c.units.srl 0 (c.log.ring + 2)) (Saving c (reclaimed c n.safe) m) m new moves up.fitted still;
+    fuse = fuse_here;
     units = up.units;
-    ring = log.ring ∙ up.ring;
+    ring = (log n c m up).ring ∙ up.ring;
     links = up.links;
-    kept = log.state ∙ up.kept;
+    kept = (log n c m up).state ∙ up.kept;
     unlinked = λ told. up.unlinked (sym moves.tells ∙ told);
-    session = log.incarnation ∙ up.session;
-    first = log.first;
-    head = log.head ∙ up.head;
+    session = (log n c m up).incarnation ∙ up.session;
+    first = (log n c m up).first;
+    head = (log n c m up).head ∙ up.head;
     running = up.halted ∙ none;
-    stamp = λ told. let t = up.stamp (sym moves.tells ∙ told) none in ⊎_elim (λ (same : (log_without c.log n.safe).header.stamp ≡ c.log.header.stamp). omega (arith, t, same)) (λ (more : (c.log.header.low ≤ n.safe) × ((log_without c.log n.safe).header.stamp ≡ c.log.header.stamp + 1)). omega (arith, t, more.1)) log.stamp;
+    stamp = λ told. let t = up.stamp (sym moves.tells ∙ told) none in ⊎_elim (λ (same : (log_without c.log n.safe).header.stamp ≡ c.log.header.stamp). omega (arith, t, same)) (λ (more : (c.log.header.low ≤ n.safe) × ((log_without c.log n.safe).header.stamp ≡ c.log.header.stamp + 1)). omega (arith, t, more.1)) (log n c m up).stamp;
     unused = λ told past. let t = up.stamp (sym moves.tells ∙ told) none in ⊎_elim (λ (same : (log_without c.log n.safe).header.stamp ≡ c.log.header.stamp). omega (arith, t, same))
-        (λ more. absurd (passes c.log.header.low c.log.header.stamp n.safe passed more.0 past)) log.stamp;
+        (λ more. absurd (passes c.log.header.low c.log.header.stamp n.safe passed more.0 past)) (log n c m up).stamp;
     content = λ told. subst (λ (k : Core). Stands k n.base new) is (rests.each n.base (up.content none (sym moves.tells ∙ told)));
   })
 
@@ -139,30 +156,20 @@ module _ (n : Node) (c c' : Core) (m new : Meaning) (up : IsUpAt n c m) (none : 
   pub free_reclaimed : c' ≡ reclaimed c n.safe → IsSound c' new → free_of c'.log ≡ n.ring
   free_reclaimed is sound =
       let running : c'.halted ≡ None = ap (λ (k : Core). k.halted) is ∙ up.halted ∙ none in
-      let still = fitted_moved n.disks n.blocks (Run c.units.srl 0 (c.log.ring + 2)) (Saving c (reclaimed c n.safe) m) m new moves up.fitted in
-      all_free c'.log (ap (λ (k : Core). length k.log.held) is ∙ log.none) (sound.idle running still.up) ∙ ap (λ (k : Core). k.log.ring) is ∙ log.ring ∙ up.ring
+      all_free c'.log (ap (λ (k : Core). length k.log.held) is ∙ (log n c m up).none) (sound.idle running still) ∙ ap (λ (k : Core). k.log.ring) is ∙ (log n c m up).ring ∙ up.ring
 
-  -- an image in it has the site's writes
-  saving_found : (i : Image) → IsTrue m.tells → Saving c (reclaimed c n.safe) m i → HasWrites n i
-  saving_found i told saving = ⊎_elim
-      (λ old. up_found n c m i up none told old)
-      (λ next. writes_found n (reclaimed c n.safe) i up.units (log.ring ∙ up.ring) (log.state ∙ kept_whole n c m up told) (log.incarnation ∙ up.session)
-      (let t = up.stamp told none in ⊎_elim (λ (same : (log_without c.log n.safe).header.stamp ≡ c.log.header.stamp). omega (arith, t, same)) (λ (more : (c.log.header.low ≤ n.safe) × ((log_without c.log n.safe).header.stamp ≡ c.log.header.stamp + 1)). omega (arith, t, more.1)) log.stamp)
-      (log.head ∙ up.head) up.logged next)
-      (saving.each n.base (up.content none told))
+  saved_left : (i : Image) → new.now i → HasWrites n i
+  saved_left i now = ⊎_elim (λ was. up.left i was) (λ saving. saving_found n c m up none i (sym moves.tells ∙ told_now new i after now) saving)
+      (left_moved (Run c.units.srl 0 (c.log.ring + 2)) (Saving c (reclaimed c n.safe) m) m new i lawful after moves now)
 
   -- or a disk failed
-  pub reclaim_halted : (disk : ℕ) → Ended c (Some disk) c' → IsUpAt (record n { halted = Some disk }) c' new
+  pub reclaim_halted : (disk : ℕ) → Ended c (Some disk) c' → IsUpAt (halted_at n disk) c' new
   reclaim_halted disk ended =
-      up_with n c c' m new (Some disk) (Run c.units.srl 0 (c.log.ring + 2)) (Saving c (reclaimed c n.safe) m) moves up (ended_log c (Some disk) c' ended) ended.halted_is (λ e. absurd (never e)) (λ e. absurd (never e))
-      (λ i now. ⊎_elim (λ was. up.left i was) (λ saving. saving_found i (sym moves.tells ∙ told_now new i after now) saving)
-      (left_moved (Run c.units.srl 0 (c.log.ring + 2)) (Saving c (reclaimed c n.safe) m) m new i lawful after moves now))
+      up_with n c c' m new (Some disk) (burned n.fuse) (Run c.units.srl 0 (c.log.ring + 2)) (Saving c (reclaimed c n.safe) m) moves still fuse_here up (ended_log c (Some disk) c' ended) ended.halted_is (λ e. absurd (never e)) (λ e. absurd (never e))
+      saved_left
     where
       never : {k : ℕ} → Some k ≡ None → ⊥
       never e = cc
-
-  still_up : IsTrue new.down → ⊥
-  still_up down = never_both new.down down (fitted_moved n.disks n.blocks (Run c.units.srl 0 (c.log.ring + 2)) (Saving c (reclaimed c n.safe) m) m new moves up.fitted).up
 
   by_answer : (r : Option No) (result : Result (Unit {0}) No) → reclaim_no c.log.header.low c.log.header.stamp n.safe ≡ r → SaveIs r c (reclaimed c n.safe) m new c' result
       → (IsSome r → new ≡ m) → OnOk result (Rests c c' m new) → RoomIs n m c' new result
@@ -174,11 +181,11 @@ module _ (n : Node) (c c' : Core) (m new : Meaning) (up : IsUpAt n c m) (none : 
       subst (λ (k : No). RoomIs n m c' new (Err k)) (sym (same ∙ limit.0)) (
         refl,
         (λ told. let t = up.stamp (sym moves.tells ∙ told) none in ⊎_elim (λ (a : most_number ≤ c.log.header.stamp). omega (arith, t, a)) (λ (b : most_number ≤ n.safe). omega (arith, b)) limit.1),
-        subst (λ (k : Core). IsUpAt n k new) (sym is.1) (subst (λ (k : Meaning). IsUpAt n c k) (sym stays) up),
+        subst (λ (k : Core). IsUpAt (worked n) k new) (sym is.1) (subst (λ (k : Meaning). IsUpAt (worked n) c k) (sym stays) (up_worked n c m up)),
       )
   by_answer None (Ok done) r_is is unchanged rests = roomy_reclaimed is r_is rests
   by_answer None (Err (Device disk)) r_is is unchanged rests = (reclaim_halted disk is.0, is.1)
-  by_answer None (Err Down) r_is is unchanged rests = still_up is.1
+  by_answer None (Err Down) r_is is unchanged rests = absurd (never_both new.down is.1 still)
   by_answer None (Err (Limit what most)) r_is is unchanged rests = absurd is
   by_answer None (Err other) r_is is unchanged rests = is
 
@@ -190,6 +197,16 @@ module _ (n : Node) (c c' : Core) (m new : Meaning) (up : IsUpAt n c m) (none : 
       by_answer (reclaim_no c.log.header.low c.log.header.stamp n.safe) result refl
       (subst (λ (h : Option ℕ). SaveIs (unless_halted h (reclaim_no c.log.header.low c.log.header.stamp n.safe)) c (reclaimed c n.safe) m new c' result) runs is)
       (subst (λ (h : Option ℕ). IsSome (unless_halted h (reclaim_no c.log.header.low c.log.header.stamp n.safe)) → new ≡ m) runs unchanged) rests
+
+-- a reclaim whose fuse ran out
+pub reclaim_cut : (n : Node) (c : Core) (m new : Meaning) → IsUpAt n c m → n.halted ≡ None → Lawful m → Lawful new
+    → Moves (Run c.units.srl 0 (c.log.ring + 2)) (Saving c (reclaimed c n.safe) m) m new → IsTrue new.down → IsFused n.fuse × IsHeldAt n new
+reclaim_cut n c m new up none lawful after moves down = (
+  fused_by n.fuse (Run c.units.srl 0 (c.log.ring + 2)) (Saving c (reclaimed c n.safe) m) m new moves up.fuse up.fitted.up down,
+  held_moved n c m new (Run c.units.srl 0 (c.log.ring + 2)) (Saving c (reclaimed c n.safe) m) moves up
+      (λ i now. ⊎_elim (λ was. up.left i was) (λ saving. saving_found n c m up none i (sym moves.tells ∙ told_now new i after now) saving)
+      (left_moved (Run c.units.srl 0 (c.log.ring + 2)) (Saving c (reclaimed c n.safe) m) m new i lawful after moves now)),
+)
 
 -- ---- the whole of it
 
@@ -203,6 +220,7 @@ rose_later old mid new le rose = record {
 pub room_unapplied : (n : Node) (to : ℕ) (c' : Core) (m new : Meaning) (no : No) → AppliedAs n to c' m new (Err no) → RoomIs n m c' new (Err no)
 room_unapplied n to c' m new (Device disk) is = is
 room_unapplied n to c' m new (Limit what most) is = absurd is
+room_unapplied n to c' m new Down is = is
 room_unapplied n to c' m new other is = is
 
 -- an apply of all that the site has
@@ -214,16 +232,24 @@ pub room_later : (n : Node) (c' : Core) (m mid new : Meaning) (result : Result (
 room_later n c' m mid new (Ok done) later is = is
 room_later n c' m mid new (Err (Device disk)) later is = (is.0, rose_later (m.disk_faults disk) (mid.disk_faults disk) (new.disk_faults disk) (later disk) is.1)
 room_later n c' m mid new (Err (Limit what most)) later is = is
+room_later n c' m mid new (Err Down) later is = is
 room_later n c' m mid new (Err other) later is = is
 
 -- a reclaim up to the number that an apply answered
 pub reclaimed_at : (n : Node) (c c' : Core) (m new : Meaning) (number : ℕ) → IsUpAt n c m → n.halted ≡ None → Lawful m → Lawful new → number ≡ n.safe
-    → Moves (Run c.units.srl 0 (c.log.ring + 2)) (Saving c (reclaimed c number) m) m new → (result : Result (Unit {0}) No) → SaveIs (reclaim_refusal c number) c (reclaimed c number) m new c' result
+    → Moves (Run c.units.srl 0 (c.log.ring + 2)) (Saving c (reclaimed c number) m) m new → IsFalse new.down → (result : Result (Unit {0}) No) → SaveIs (reclaim_refusal c number) c (reclaimed c number) m new c' result
     → (IsSome (reclaim_refusal c number) → new ≡ m) → OnOk result (Rests c c' m new) → RoomIs n m c' new result
 reclaimed_at n c c' m new number up none lawful after is =
-    subst (λ (k : ℕ). Moves (Run c.units.srl 0 (c.log.ring + 2)) (Saving c (reclaimed c k) m) m new → (result : Result (Unit {0}) No) → SaveIs (reclaim_refusal c k) c (reclaimed c k) m new c' result
+    subst (λ (k : ℕ). Moves (Run c.units.srl 0 (c.log.ring + 2)) (Saving c (reclaimed c k) m) m new → IsFalse new.down → (result : Result (Unit {0}) No) → SaveIs (reclaim_refusal c k) c (reclaimed c k) m new c' result
     → (IsSome (reclaim_refusal c k) → new ≡ m) → OnOk result (Rests c c' m new) → RoomIs n m c' new result) (sym is)
-    (λ moves. reclaimed_as n c c' m new up none lawful after moves)
+    (λ moves still. reclaimed_as n c c' m new up none lawful after moves still)
+
+-- whose fuse ran out
+pub reclaimed_cut : (n : Node) (c : Core) (m new : Meaning) (number : ℕ) → IsUpAt n c m → n.halted ≡ None → Lawful m → Lawful new → number ≡ n.safe
+    → Moves (Run c.units.srl 0 (c.log.ring + 2)) (Saving c (reclaimed c number) m) m new → IsTrue new.down → IsFused n.fuse × IsHeldAt n new
+reclaimed_cut n c m new number up none lawful after is =
+    subst (λ (k : ℕ). Moves (Run c.units.srl 0 (c.log.ring + 2)) (Saving c (reclaimed c k) m) m new → IsTrue new.down → IsFused n.fuse × IsHeldAt n new) (sym is)
+    (λ moves down. reclaim_cut n c m new up none lawful after moves down)
 
 saved_by : (r : Option No) (c after : Core) (m new : Meaning) (c' : Core) (done : Unit {0}) → SaveIs r c after m new c' (Ok done) → c' ≡ after
 saved_by None c after m new c' done is = is
@@ -231,12 +257,61 @@ saved_by (Some why) c after m new c' done is = absurd (let e : Ok done ≡ Err w
 
 -- leaves all blocks free
 pub freed_at : (n : Node) (c c' : Core) (m new : Meaning) (number : ℕ) → IsUpAt n c m → n.halted ≡ None → Lawful m → Lawful new → number ≡ n.safe
-    → Moves (Run c.units.srl 0 (c.log.ring + 2)) (Saving c (reclaimed c number) m) m new → (done : Unit {0}) → SaveIs (reclaim_refusal c number) c (reclaimed c number) m new c' (Ok done)
-    → IsSound c' new → free_of c'.log ≡ n.ring
+    → Moves (Run c.units.srl 0 (c.log.ring + 2)) (Saving c (reclaimed c number) m) m new → IsFalse new.down → (result : Result (Unit {0}) No) → SaveIs (reclaim_refusal c number) c (reclaimed c number) m new c' result
+    → IsSound c' new → OnOk result (free_of c'.log ≡ n.ring)
 freed_at n c c' m new number up none lawful after is =
-    subst (λ (k : ℕ). Moves (Run c.units.srl 0 (c.log.ring + 2)) (Saving c (reclaimed c k) m) m new → (done : Unit {0}) → SaveIs (reclaim_refusal c k) c (reclaimed c k) m new c' (Ok done)
-    → IsSound c' new → free_of c'.log ≡ n.ring) (sym is)
-    (λ moves done saves sound. free_reclaimed n c c' m new up none lawful after moves (saved_by (reclaim_refusal c n.safe) c (reclaimed c n.safe) m new c' done saves) sound)
+    subst (λ (k : ℕ). Moves (Run c.units.srl 0 (c.log.ring + 2)) (Saving c (reclaimed c k) m) m new → IsFalse new.down → (result : Result (Unit {0}) No) → SaveIs (reclaim_refusal c k) c (reclaimed c k) m new c' result
+    → IsSound c' new → OnOk result (free_of c'.log ≡ n.ring)) (sym is)
+    (λ moves still result saves sound. by result moves still saves sound)
+  where
+    by : (result : Result (Unit {0}) No) → Moves (Run c.units.srl 0 (c.log.ring + 2)) (Saving c (reclaimed c n.safe) m) m new → IsFalse new.down → SaveIs (reclaim_refusal c n.safe) c (reclaimed c n.safe) m new c' result
+        → IsSound c' new → OnOk result (free_of c'.log ≡ n.ring)
+    by (Ok done) moves still saves sound = free_reclaimed n c c' m new up none lawful after moves still (saved_by (reclaim_refusal c n.safe) c (reclaimed c n.safe) m new c' done saves) sound
+    by (Err why) moves still saves sound = tt
+
+-- ---- a site whose fuse burns twice
+
+held_again : (n : Node) (m : Meaning) → IsHeldAt (worked n) m → IsHeldAt n m
+held_again n m held = record {
+  units = held.units;
+  size = held.size;
+  disks = held.disks;
+  few = held.few;
+  some = held.some;
+  ring = held.ring;
+  logged = held.logged;
+  low = held.low;
+  volumes = held.volumes;
+  whole = held.whole;
+  sizes = held.sizes;
+  others = held.others;
+  left = λ i now. let has = held.left i now in record { count = has.count; least = has.least; most = has.most; found = has.found };
+}
+
+roomy_again : (n : Node) (c : Core) (m : Meaning) → IsRoomy (worked n) c m → IsRoomy n c m
+roomy_again n c m roomy = record {
+  fitted = roomy.fitted;
+  fuse = subst (λ (f : Fuse). HasFuse f m) (burned_twice n.fuse) roomy.fuse;
+  units = roomy.units;
+  ring = roomy.ring;
+  links = roomy.links;
+  kept = roomy.kept;
+  unlinked = roomy.unlinked;
+  session = roomy.session;
+  first = roomy.first;
+  head = roomy.head;
+  running = roomy.running;
+  stamp = roomy.stamp;
+  unused = roomy.unused;
+  content = roomy.content;
+}
+
+pub room_again : (n : Node) (c' : Core) (m new : Meaning) (result : Result (Unit {0}) No) → RoomIs (worked n) m c' new result → RoomIs n m c' new result
+room_again n c' m new (Ok done) is = roomy_again n c' new is
+room_again n c' m new (Err (Device disk)) is = (subst (λ (f : Fuse). IsUpAt (record n { halted = Some disk; fuse = f }) c' new) (burned_twice n.fuse) is.0, is.1)
+room_again n c' m new (Err (Limit what most)) is = (is.0, is.1, subst (λ (f : Fuse). IsUpAt (record n { fuse = f }) c' new) (burned_twice n.fuse) is.2)
+room_again n c' m new (Err Down) is = (fused_before n.fuse is.0, held_again n new is.1)
+room_again n c' m new (Err other) is = is
 
 -- the units stay
 fails_units : (c c' : Core) (m new : Meaning) (why : No) → Fails c m new c' why → c'.units ≡ c.units

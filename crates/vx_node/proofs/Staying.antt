@@ -2,7 +2,8 @@
 use Rattle.std.proofs.Common.{◌≡◌, ◌⊎◌, inl, inr, ⊎_elim, ℕ, zero, suc, ◌+◌, ◌-◌, ◌≤◌, Bool, true, false, List, [], ◌∷◌, length, take, drop, Option, None, IsTrue, refl, sym, ◌∙◌, ap, subst, arith}
 use Rattle.std.specs.Prelude.{IsFalse}
 use Rattle.vx_model.specs.Content.{Content, Write, fold_writes}
-use Rattle.vx_model.specs.World.{Node}
+use Rattle.vx_model.specs.World.{Node, Fuse, NoFuse, FuseSet, FuseLit}
+use Rattle.vx_model.specs.Steps.{burned}
 use Rattle.vx_model.specs.declared.state.State.{State}
 use Rattle.vx_model.specs.declared.units.Units.{Units}
 use Rattle.vx_srlfmt.specs.declared.header.Header.{Header}
@@ -12,7 +13,9 @@ use Rattle.vx_disk.specs.Moves.{Blocks, Says, Beside, Moves}
 use Rattle.vx_rvg.specs.Stands.{Found, FoundAs, Stands}
 use Rattle.vx_rvg.specs.Views.{Core, last_of}
 use Rattle.vx_node.specs.Holds.{HasWrites, raw_units, state_of, state_with, most_stamp}
-use Rattle.vx_node.specs.Stands.{IsFitted, IsUpAt}
+use Rattle.vx_node.specs.Engines.{worked}
+use Rattle.vx_node.specs.Fuses.{IsFused, HasFuse}
+use Rattle.vx_node.specs.Stands.{IsFitted, IsUpAt, IsHeldAt}
 
 pub not_true : (b : Bool) → (IsTrue b → ⊥) → IsFalse b
 not_true true h = absurd (h refl)
@@ -35,14 +38,44 @@ left_moved mine P m new i lawful after moves now =
     ⊎_elim (λ was. inl (lawful.only_now i was)) (λ during. inr during.1)
     (moves.since m.moment i (omega arith) (after.counts_now m.moment i moves.later now))
 
--- a call on a shelf without a fuse does not bring it down
-pub fitted_moved : (disks blocks : ℕ) (mine : Blocks) (P : Says) (m new : Meaning) → Moves mine P m new → IsFitted disks blocks m → IsFitted disks blocks new
-fitted_moved disks blocks mine P m new moves fitted = record {
+-- a call on a shelf that stays up
+pub fitted_moved : (disks blocks : ℕ) (mine : Blocks) (P : Says) (m new : Meaning) → Moves mine P m new → IsFitted disks blocks m → IsFalse new.down → IsFitted disks blocks new
+fitted_moved disks blocks mine P m new moves fitted up = record {
   units = moves.units ∙ fitted.units;
   size = λ u there. moves.size u ∙ fitted.size u there;
-  up = not_true new.down (λ down. never_both m.down (moves.safe fitted.unarmed down) fitted.up);
-  unarmed = moves.unarmed fitted.unarmed;
+  up = up;
 }
+
+-- a call on a shelf without a fuse does not bring it down
+pub stays_up : (mine : Blocks) (P : Says) (m new : Meaning) → Moves mine P m new → IsFalse m.armed → IsFalse m.down → IsFalse new.down
+stays_up mine P m new moves unarmed up = not_true new.down (λ down. never_both m.down (moves.safe unarmed down) up)
+
+-- a call that brings a shelf down ran out its fuse
+pub fused_by : (f : Fuse) (mine : Blocks) (P : Says) (m new : Meaning) → Moves mine P m new → HasFuse f m → IsFalse m.down → IsTrue new.down → IsFused f
+fused_by NoFuse mine P m new moves unarmed up down = never_both m.down (moves.safe unarmed down) up
+fused_by (FuseSet calls) mine P m new moves has up down = tt
+fused_by FuseLit mine P m new moves has up down = tt
+
+-- a fuse behind a call that may write and flush
+pub fuse_moved : (f : Fuse) (mine : Blocks) (P : Says) (m new : Meaning) → Moves mine P m new → HasFuse f m → HasFuse (burned f) new
+fuse_moved NoFuse mine P m new moves unarmed = moves.unarmed unarmed
+fuse_moved (FuseSet calls) mine P m new moves has = tt
+fuse_moved FuseLit mine P m new moves has = tt
+
+pub fuse_burned : (f : Fuse) (m : Meaning) → HasFuse f m → HasFuse (burned f) m
+fuse_burned NoFuse m has = has
+fuse_burned (FuseSet calls) m has = tt
+fuse_burned FuseLit m has = tt
+
+pub burned_twice : (f : Fuse) → burned (burned f) ≡ burned f
+burned_twice NoFuse = refl
+burned_twice (FuseSet calls) = refl
+burned_twice FuseLit = refl
+
+pub fused_before : (f : Fuse) → IsFused (burned f) → IsFused f
+fused_before NoFuse is = is
+fused_before (FuseSet calls) is = tt
+fused_before FuseLit is = tt
 
 -- ---- an image with the group's content has the site's
 
@@ -106,11 +139,12 @@ pub record SameLog (c c' : Core) : Type 0 where
   pub held : c'.log.held ≡ c.log.held
 
 -- a site that is up after a call that leaves its log alone, maybe halted by it
-pub up_with : (n : Node) (c c' : Core) (m new : Meaning) (h : Option ℕ) (mine : Blocks) (P : Says) → Moves mine P m new → IsUpAt n c m → SameLog c c' → c'.halted ≡ h → (h ≡ None → n.halted ≡ None)
-    → (h ≡ None → IsTrue new.tells → Stands c' n.base new) → ((i : Image) → new.now i → HasWrites n i) → IsUpAt (record n { halted = h }) c' new
-up_with n c c' m new h mine P moves up same halted running content left = record {
+pub up_with : (n : Node) (c c' : Core) (m new : Meaning) (h : Option ℕ) (f : Fuse) (mine : Blocks) (P : Says) → Moves mine P m new → IsFalse new.down → HasFuse f new → IsUpAt n c m → SameLog c c' → c'.halted ≡ h
+    → (h ≡ None → n.halted ≡ None) → (h ≡ None → IsTrue new.tells → Stands c' n.base new) → ((i : Image) → new.now i → HasWrites n i) → IsUpAt (record n { halted = h; fuse = f }) c' new
+up_with n c c' m new h f mine P moves still fuse up same halted running content left = record {
   state = up.state;
-  fitted = fitted_moved n.disks n.blocks mine P m new moves up.fitted;
+  fitted = fitted_moved n.disks n.blocks mine P m new moves up.fitted still;
+  fuse = fuse;
   disks = up.disks;
   units = same.units ∙ up.units;
   ring = same.ring ∙ up.ring;
@@ -134,4 +168,71 @@ up_with n c c' m new h mine P moves up same halted running content left = record
   others = up.others;
   content = content;
   left = λ i now. let has = left i now in record { count = has.count; least = has.least; most = has.most; found = has.found };
+}
+
+-- a site that is up, with a fuse of which less is known
+pub up_worked : (n : Node) (c : Core) (m : Meaning) → IsUpAt n c m → IsUpAt (worked n) c m
+up_worked n c m up = record {
+  state = up.state;
+  fitted = up.fitted;
+  fuse = fuse_burned n.fuse m up.fuse;
+  disks = up.disks;
+  units = up.units;
+  ring = up.ring;
+  ring_is = up.ring_is;
+  some = up.some;
+  low = up.low;
+  links = up.links;
+  kept = up.kept;
+  unlinked = up.unlinked;
+  session = up.session;
+  stamp = up.stamp;
+  first = up.first;
+  head = up.head;
+  halted = up.halted;
+  logged = up.logged;
+  durable = up.durable;
+  few = up.few;
+  volumes = up.volumes;
+  whole = up.whole;
+  sizes = up.sizes;
+  others = up.others;
+  content = up.content;
+  left = λ i now. let has = up.left i now in record { count = has.count; least = has.least; most = has.most; found = has.found };
+}
+
+-- ---- whatever befell the disks of a site that was up
+
+pub held_moved : (n : Node) (c : Core) (m new : Meaning) (mine : Blocks) (P : Says) → Moves mine P m new → IsUpAt n c m → ((i : Image) → new.now i → HasWrites n i) → IsHeldAt n new
+held_moved n c m new mine P moves up left = record {
+  units = moves.units ∙ up.fitted.units;
+  size = λ u there. moves.size u ∙ up.fitted.size u there;
+  disks = up.disks;
+  few = up.few;
+  some = up.some;
+  ring = up.ring_is;
+  logged = up.logged;
+  low = up.low;
+  volumes = up.volumes;
+  whole = up.whole;
+  sizes = up.sizes;
+  others = up.others;
+  left = left;
+}
+
+pub held_up : (n : Node) (c : Core) (m : Meaning) → IsUpAt n c m → IsHeldAt n m
+held_up n c m up = record {
+  units = up.fitted.units;
+  size = up.fitted.size;
+  disks = up.disks;
+  few = up.few;
+  some = up.some;
+  ring = up.ring_is;
+  logged = up.logged;
+  low = up.low;
+  volumes = up.volumes;
+  whole = up.whole;
+  sizes = up.sizes;
+  others = up.others;
+  left = up.left;
 }

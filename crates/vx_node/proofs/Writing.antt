@@ -1,5 +1,5 @@
 -- What a write of blocks comes to.
-use Rattle.std.proofs.Common.{◌≡◌, ◌∙◌, ◌-◌, ◌*◌, ◌<◌, ◌≤◌, ℕ, zero, suc, List, [], ◌∷◌, length, get_or, ap, sym, subst, refl, arith}
+use Rattle.std.proofs.Common.{◌≡◌, ◌∙◌, ◌-◌, ◌*◌, ◌<◌, ◌≤◌, ℕ, zero, suc, List, [], ◌∷◌, length, get_or, ap, sym, subst, refl, arith, length-append}
 use Rattle.std.specs.Prelude.{Option, Some, None, slice_get, slice_set, Ok, Err, map, replicate, unwrap_or}
 use Rattle.std.specs.Option.{option_map}
 use Rattle.std.specs.Str.{bytes_eq}
@@ -7,9 +7,9 @@ use Rattle.std.proofs.lemmas.List.{length-replicate, length-map}
 use Rattle.std.proofs.lemmas.Option.{slice_get-map, slice_get_within}
 use Rattle.vx_model.specs.Content.{Write, blocks_in}
 use Rattle.vx_model.specs.World.{Node, World, Volume}
-use Rattle.vx_model.specs.Steps.{written, half_written, logged}
+use Rattle.vx_model.specs.Steps.{written, half_written, logged, half_begun, crashed, cut_write, worked_on, burned}
 use Rattle.vx_model.specs.declared.no.No.{No}
-use Rattle.vx_model.specs.declared.no.No.TheVariants.{Device, Limit}
+use Rattle.vx_model.specs.declared.no.No.TheVariants.{Device, Limit, Down as Off}
 use Rattle.vx_model.specs.declared.site.SiteState.{SiteState}
 use Rattle.vx_model.specs.declared.site.SiteState.TheVariants.{Bare as IsBare, Up as IsUp}
 use Rattle.vx_disk.specs.declared.shelf.Shelf.{Ghosts}
@@ -23,25 +23,20 @@ use Rattle.vx_node.specs.declared.said.Said.{Said}
 use Rattle.vx_node.specs.declared.said.Said.TheVariants.{DoneAt, Refused}
 use Rattle.vx_node.specs.declared.yard.Yard.{Yard}
 use Rattle.vx_node.specs.Changes.{last_facts}
-use Rattle.vx_node.specs.Engines.{Later, CanWrite, WroteAt, halted_with}
+use Rattle.vx_node.specs.Engines.{Later, CanWrite, WroteAt, halted_with, worked}
 use Rattle.vx_node.specs.Facts.{site_fact, facts_of, volume_fact, group_by, group_fact, seat_of, place_of, site_number, volume_number}
 use Rattle.vx_node.specs.Stands.{EnginesStand, StandsAt, RoseAll, faults_of}
 use Rattle.vx_node.specs.Working.{Worked, IsFree}
 use Rattle.vx_node.specs.Writes.{WriteFree, PutsAt, PutsIs, noted_facts}
 use Rattle.vx_node.specs.Writes.WriteFree.{ByWrite, ByPut}
-use Rattle.vx_node.specs.Steps.Puts.{IsPut, NoNumber, PutFails}
+use Rattle.vx_node.specs.Steps.Puts.{IsPut, NoNumber, PutFails, PutCut}
+use Rattle.vx_node.proofs.Falling.{stands_set, stands_same, fuse_fact}
 use Rattle.vx_node.specs.Yards.{YardStands, in_files, count_of}
 use Rattle.vx_node.proofs.Changing.{facts-updated, last_fact, halted_fact, rose_none, rose_one, counts_later, counts_rose, engines_set, engines_same}
-use Rattle.vx_node.proofs.Lists.{get_at, get-set_same}
+use Rattle.vx_node.proofs.Lists.{get_at, get-set_same, set_same}
 use Rattle.vx_node.proofs.Refused.{WriteMay, write_may, put_may}
 use Rattle.vx_node.proofs.Seats.{Seated, seated, named_fact, named_none, some_same, never_some, position_within}
 use Rattle.vx_node.proofs.Sites.{stands_new}
-
--- a list with the element that it has
-set_same : {A : Type 0} (xs : List A) (i : ℕ) (x : A) → slice_get xs i ≡ Some x → slice_set xs i x ≡ xs
-set_same [] i x at = refl
-set_same (y ∷ xs) zero x at = ap (λ z. z ∷ xs) (sym (some_same at))
-set_same (y ∷ xs) (suc i) x at = ap (λ zs. y ∷ zs) (set_same xs i x at)
 
 get_there : {A : Type 0} (xs : List A) (i : ℕ) → i < length xs → (x : A) × (slice_get xs i ≡ Some x)
 get_there [] i below = absurd (omega (arith, below))
@@ -221,15 +216,22 @@ module _ {R : Type 0} {g : Ghosts R} where
         (counts_rose old.engines.items s disk e after there wrote.1));
   }
   failed_at w old new s (Limit what most) x f' e after stands below fact there later wrote is facts engines racks = record {
-    world = w;
+    world = worked_on w s;
     fails = [];
     puts = NoNumber (λ told. wrote.1 (told.each s after (ap (λ es. slice_get es s) engines ∙ get-set_same old.engines.items s after (slice_get_within old.engines.items s e there)))) (record { none = refl; says = ap (λ (k : No). Refused k) wrote.0; leads = refl });
-    stands = stands_new w w old new stands
-        (facts ∙ ap (λ (f : SiteFacts). slice_set old.facts.items s f) is ∙ set_same old.facts.items s (site_fact (w.nodes s)) fact ∙ stands.facts)
-        (subst (λ es. EnginesStand w es) (sym engines) (engines_same w old.engines.items s after below stands.engines wrote.2))
-        racks;
+    stands = stands_same w (worked_on w s) old new s (worked (w.nodes s)) after stands below refl (λ k. refl) wrote.2 (fuse_fact (w.nodes s) (burned (w.nodes s).fuse)) refl
+        (facts ∙ ap (λ (f : SiteFacts). slice_set old.facts.items s f) is ∙ set_same old.facts.items s (site_fact (w.nodes s)) fact) engines racks;
     rose = rose_still old new s e after there later engines;
   }
+  failed_at w old new s Off x f' e after stands below fact there later wrote is facts engines racks =
+      let has = wrote.1 in
+      record {
+        world = cut_write w s x has.count;
+        fails = [];
+        puts = PutCut has.count wrote.0 has.least (omega (arith, has.most, length-append (w.nodes s).log (x ∷ []))) (record { none = refl; says = refl; leads = refl });
+        stands = stands_set w (cut_write w s x has.count) old new s (crashed (half_begun (w.nodes s) x) has.count) f' after stands below refl (λ k. refl) has.stands is refl facts engines racks;
+        rose = rose_still old new s e after there later engines;
+      }
   failed_at w old new s other x f' e after stands below fact there later wrote is facts engines racks = absurd wrote
 
   pub write_done : (w : World) (old new : Yard R g) (name volume : List ℕ) (start : ℕ) (bytes : List ℕ) (s v number : ℕ) (f f' : SiteFacts) (e after : Engine R g) → YardStands w old

@@ -1,13 +1,13 @@
 -- What the calls on the disks of a site promise.
-use Rattle.std.specs.Prelude.{◌≡◌, ℕ, ◌+◌, ◌-◌, ◌<◌, ◌≤◌, ◌++◌, ◌∷◌, [], ◌⊎◌, min, length, Option, Some, None, Result, Ok, Err, List, IsTrue}
+use Rattle.std.specs.Prelude.{◌≡◌, ℕ, ◌+◌, ◌-◌, ◌<◌, ◌≤◌, ◌++◌, ◌∷◌, [], ◌⊎◌, min, length, Option, Some, None, Result, Ok, Err, List, IsTrue, Bool, true, false}
 use Rattle.vx_model.specs.Content.{Write}
 use Rattle.vx_model.specs.World.{Node, bare_site}
-use Rattle.vx_model.specs.Steps.{logged, raw_set, crashed, recovered, ring_of}
+use Rattle.vx_model.specs.Steps.{logged, raw_set, half_begun, crashed, recovered, ring_of, burned}
 use Rattle.vx_model.specs.declared.site.SiteState.TheVariants.{Up as IsUp}
 use Rattle.vx_model.specs.declared.errors.Stop.{Stop}
 use Rattle.vx_model.specs.declared.errors.Stop.TheVariants.{No as Refused, OutOfMemory}
 use Rattle.vx_model.specs.declared.no.No.{No}
-use Rattle.vx_model.specs.declared.no.No.TheVariants.{Device, Limit}
+use Rattle.vx_model.specs.declared.no.No.TheVariants.{Device, Limit, Down as IsDown}
 use Rattle.vx_model.specs.declared.no.Counted.TheVariants.{Number}
 use Rattle.vx_disk.specs.Counts.{Rose}
 use Rattle.vx_disk.specs.Racks.{most_blocks}
@@ -17,7 +17,8 @@ use Rattle.vx_rvg.specs.Contents.{Shows}
 use Rattle.vx_srl.specs.Views.{most_number}
 use Rattle.vx_node.specs.declared.engine.Engine.{Engine}
 use Rattle.vx_node.specs.Holds.{most_stamp}
-use Rattle.vx_node.specs.Stands.{StandsAt, IsUnused, IsToldAt, faults_at}
+use Rattle.vx_node.specs.Fuses.{IsFused}
+use Rattle.vx_node.specs.Stands.{StandsAt, CutAt, IsUnused, IsToldAt, faults_at}
 
 -- a write that nothing but a failing disk or want of a number can refuse
 pub record CanWrite (n : Node) (volume start count : ℕ) : Type 0 where
@@ -36,10 +37,23 @@ pub record CanRead (n : Node) (volume start count : ℕ) : Type 0 where
 
 -- a site with a write that met this failing disk
 abbrev pub halted_with : Node → Write → ℕ → Node
-halted_with n x disk = record n { log = n.log ++ x ∷ []; halted = Some disk }
+halted_with n x disk = record n { log = n.log ++ x ∷ []; halted = Some disk; fuse = burned n.fuse }
+
+-- a site that a failing disk halted
+abbrev pub halted_at : Node → ℕ → Node
+halted_at n disk = record n { halted = Some disk; fuse = burned n.fuse }
+
+-- a site whose disks may have been written and flushed
+abbrev pub worked : Node → Node
+worked n = record n { fuse = burned n.fuse }
 
 abbrev pub no_number : No
 no_number = Limit Number most_number
+
+-- whether a shelf that is down refused so
+abbrev pub is_off : No → Bool
+is_off IsDown = true
+is_off other = false
 
 -- an apply that nothing but a failing disk can refuse
 pub record CanApply (n : Node) : Type 0 where
@@ -87,25 +101,34 @@ module _ {R : Type 0} {g : Ghosts R} where
   MadeIs site n old new (Err (Refused (Device disk))) = StandsAt n new × RoseAt old new disk
   MadeIs site n old new (Err (Refused other)) = ⊥
 
-  -- the next number, or a failing disk, or want of a number
-  abbrev pub WroteAt : Node → Write → Engine R g → Engine R g → Result ℕ No → Type 0
-  WroteAt n x old new (Ok number) = (number ≡ n.safe + 1) × (n.safe < most_number) × StandsAt (logged n x) new
-  WroteAt n x old new (Err (Device disk)) = StandsAt (halted_with n x disk) new × RoseAt old new disk
-  WroteAt n x old new (Err (Limit what most)) = (Limit what most ≡ no_number) × (IsToldAt new → most_number ≤ most_stamp n) × StandsAt n new
-  WroteAt n x old new (Err other) = ⊥
-
-  -- the blocks, which are those of the content where it is told, or a failing disk
-  abbrev pub ReadAt : Node → ℕ → ℕ → ℕ → List ℕ → Engine R g → Engine R g → Result (Unit {0}) No → Type 0
-  ReadAt n volume start count bytes old new (Ok done) = (IsToldAt new → Shows n.base volume start count bytes) × StandsAt n new
-  ReadAt n volume start count bytes old new (Err (Device disk)) = StandsAt n new × RoseAt old new disk
-  ReadAt n volume start count bytes old new (Err other) = ⊥
-
   -- a site that crashed, with one of the numbers of writes that a crash may keep
   pub record CrashedAt (n : Node) (new : Engine R g) : Type 0 where
     pub count : ℕ
     pub least : n.safe ≤ count
     pub most : count ≤ length n.log
     pub stands : StandsAt (crashed n count) new
+
+  -- the next number, or a failing disk, or want of a number; or its fuse ran out, and it crashed
+  abbrev pub WroteAt : Node → Write → Engine R g → Engine R g → Result ℕ No → Type 0
+  WroteAt n x old new (Ok number) = (number ≡ n.safe + 1) × (n.safe < most_number) × StandsAt (logged n x) new
+  WroteAt n x old new (Err (Device disk)) = StandsAt (halted_with n x disk) new × RoseAt old new disk
+  WroteAt n x old new (Err (Limit what most)) = (Limit what most ≡ no_number) × (IsToldAt new → most_number ≤ most_stamp n) × StandsAt (worked n) new
+  WroteAt n x old new (Err IsDown) = IsFused n.fuse × CrashedAt (half_begun n x) new
+  WroteAt n x old new (Err other) = ⊥
+
+  -- the same where the fuse ran out, and it has not crashed yet
+  abbrev pub WroteUp : Node → Write → Engine R g → Engine R g → Result ℕ No → Type 0
+  WroteUp n x old new (Ok number) = (number ≡ n.safe + 1) × (n.safe < most_number) × StandsAt (logged n x) new
+  WroteUp n x old new (Err (Device disk)) = StandsAt (halted_with n x disk) new × RoseAt old new disk
+  WroteUp n x old new (Err (Limit what most)) = (Limit what most ≡ no_number) × (IsToldAt new → most_number ≤ most_stamp n) × StandsAt (worked n) new
+  WroteUp n x old new (Err IsDown) = IsFused n.fuse × CutAt (half_begun n x) new
+  WroteUp n x old new (Err other) = ⊥
+
+  -- the blocks, which are those of the content where it is told, or a failing disk
+  abbrev pub ReadAt : Node → ℕ → ℕ → ℕ → List ℕ → Engine R g → Engine R g → Result (Unit {0}) No → Type 0
+  ReadAt n volume start count bytes old new (Ok done) = (IsToldAt new → Shows n.base volume start count bytes) × StandsAt n new
+  ReadAt n volume start count bytes old new (Err (Device disk)) = StandsAt n new × RoseAt old new disk
+  ReadAt n volume start count bytes old new (Err other) = ⊥
 
   -- A site that came up: in its next session, where contents are told, and else with whatever stands on its disks.
   pub record CameUp (n : Node) (new : Engine R g) : Type 0 where
@@ -125,8 +148,16 @@ module _ {R : Type 0} {g : Ghosts R} where
   CameUpIs n old new (Err (Limit what most)) = (Limit what most ≡ no_number) × (IsToldAt new → most_number ≤ most_stamp n + 2) × StillDown n new
   CameUpIs n old new (Err other) = (IsToldAt new → ⊥) × StandsAt n new
 
-  -- the number up to which all writes are in their volumes, or a failing disk
+  -- the number up to which all writes are in their volumes, or a failing disk; or its fuse ran out, and it crashed
   abbrev pub AppliedAt : Node → ℕ → Engine R g → Engine R g → Result ℕ No → Type 0
-  AppliedAt n to old new (Ok number) = (min to n.safe ≤ number) × (number ≤ n.safe) × StandsAt n new
-  AppliedAt n to old new (Err (Device disk)) = StandsAt (record n { halted = Some disk }) new × RoseAt old new disk
+  AppliedAt n to old new (Ok number) = (min to n.safe ≤ number) × (number ≤ n.safe) × StandsAt (worked n) new
+  AppliedAt n to old new (Err (Device disk)) = StandsAt (halted_at n disk) new × RoseAt old new disk
+  AppliedAt n to old new (Err IsDown) = IsFused n.fuse × CrashedAt n new
   AppliedAt n to old new (Err other) = ⊥
+
+  -- the same where the fuse ran out, and it has not crashed yet
+  abbrev pub AppliedUp : Node → ℕ → Engine R g → Engine R g → Result ℕ No → Type 0
+  AppliedUp n to old new (Ok number) = (min to n.safe ≤ number) × (number ≤ n.safe) × StandsAt (worked n) new
+  AppliedUp n to old new (Err (Device disk)) = StandsAt (halted_at n disk) new × RoseAt old new disk
+  AppliedUp n to old new (Err IsDown) = IsFused n.fuse × CutAt n new
+  AppliedUp n to old new (Err other) = ⊥

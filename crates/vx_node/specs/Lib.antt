@@ -2,6 +2,7 @@ pub mod Changes
 pub mod Engines
 pub mod Facts
 pub mod Fetching
+pub mod Fuses
 pub mod Holds
 pub mod Lines
 pub mod Racks

@@ -2,7 +2,7 @@
 use Rattle.std.specs.Prelude.{ℕ, List, Bool, true, false, Option, Some, None, Result, Ok, Err}
 use Rattle.vx_script.specs.Grammar.{line_of}
 use Rattle.vx_script.specs.declared.line.ScriptLine.{ScriptLine}
-use Rattle.vx_script.specs.declared.line.ScriptLine.TheVariants.{Site, Raw, Disk, Crash, Recover, Write, Put, Read, Show, Apply, Status}
+use Rattle.vx_script.specs.declared.line.ScriptLine.TheVariants.{Site, Raw, Disk, Crash, Fuse, Recover, Write, Put, Read, Show, Apply, Status}
 
 -- whether lines of this kind are built
 abbrev pub is_built : ScriptLine → Bool
@@ -10,6 +10,7 @@ is_built (Site _ _ _) = true
 is_built (Raw _) = true
 is_built (Disk _ _ _) = true
 is_built (Crash _ _) = true
+is_built (Fuse _ _ _) = true
 is_built (Recover _) = true
 is_built (Write _ _ _ _ _) = true
 is_built (Put _ _ _ _) = true

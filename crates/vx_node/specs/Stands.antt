@@ -2,7 +2,7 @@
 use Rattle.std.specs.Prelude.{◌≡◌, ℕ, ◌+◌, ◌-◌, ◌<◌, ◌≤◌, ◌==◌, ◌&&◌, min, List, [], length, count_by, Option, Some, None, slice_get, IsTrue, IsFalse}
 use Rattle.vx_model.specs.Content.{zero_block}
 use Rattle.vx_model.specs.Steps.{ring_of}
-use Rattle.vx_model.specs.World.{Node, World, Volume, bare_site}
+use Rattle.vx_model.specs.World.{Node, World, Volume, NoFuse, bare_site}
 use Rattle.vx_model.specs.declared.state.KeptLink.{KeptLink}
 use Rattle.vx_model.specs.declared.site.SiteState.TheVariants.{Up as IsUp, Down as IsDown}
 use Rattle.vx_disk.specs.Shelf.{Meaning, Image, Keeps}
@@ -11,6 +11,7 @@ use Rattle.vx_rvg.specs.Stands.{Left, Stands}
 use Rattle.vx_rvg.specs.Views.{Core, last_of}
 use Rattle.vx_node.specs.declared.engine.Engine.{Engine}
 use Rattle.vx_node.specs.declared.engine.Engine.TheVariants.{Bare, Up, Down, Gone}
+use Rattle.vx_node.specs.Fuses.{HasFuse}
 use Rattle.vx_node.specs.Holds.{HasWrites, raw_units, state_of, state_with, most_stamp}
 use Rattle.vx_node.specs.Steps.{Fails}
 
@@ -20,17 +21,17 @@ pub record IsUnfitted (m : Meaning) : Type 0 where
   pub up : IsFalse m.down
   pub unarmed : IsFalse m.armed
 
--- a rack with so many disks of so many blocks, which is up and has no fuse
+-- a rack with so many disks of so many blocks, which is up
 pub record IsFitted (disks blocks : ℕ) (m : Meaning) : Type 0 where
   pub units : m.units ≡ disks
   pub size : (u : ℕ) → u < disks → m.size u ≡ blocks
   pub up : IsFalse m.down
-  pub unarmed : IsFalse m.armed
 
 -- the disks of a bare site: those between the first and the last hold zeros
 pub record IsBareAt (n : Node) (m : Meaning) : Type 0 where
   pub is : n ≡ bare_site n.name n.disks n.blocks
   pub fitted : IsFitted n.disks n.blocks m
+  pub unarmed : IsFalse m.armed
   pub few : n.disks ≤ 8
   pub some : 8 ≤ n.blocks
   pub blank : (u b : ℕ) → 0 < u → u + 1 < n.disks → b < n.blocks → Keeps m u b zero_block
@@ -39,6 +40,7 @@ pub record IsBareAt (n : Node) (m : Meaning) : Type 0 where
 pub record IsUpAt (n : Node) (c : Core) (m : Meaning) : Type 0 where
   pub state : n.state ≡ IsUp
   pub fitted : IsFitted n.disks n.blocks m
+  pub fuse : HasFuse n.fuse m
   pub disks : 3 ≤ n.disks
   pub units : c.units ≡ raw_units n.disks
   pub ring : c.log.ring ≡ n.ring
@@ -66,9 +68,26 @@ pub record IsUpAt (n : Node) (c : Core) (m : Meaning) : Type 0 where
   pub content : n.halted ≡ None → IsTrue m.tells → Stands c n.base m
   pub left : (i : Image) → m.now i → HasWrites n i
 
+-- the disks of a raw set, up or down: a crash leaves its writes on them
+pub record IsHeldAt (n : Node) (m : Meaning) : Type 0 where
+  pub units : m.units ≡ n.disks
+  pub size : (u : ℕ) → u < n.disks → m.size u ≡ n.blocks
+  pub disks : 3 ≤ n.disks
+  pub few : n.disks ≤ 8
+  pub some : 8 ≤ n.blocks
+  pub ring : n.ring ≡ ring_of n.blocks
+  pub logged : n.safe ≤ length n.log
+  pub low : n.low ≡ 1
+  pub volumes : length n.volumes ≡ n.disks - 2
+  pub whole : (v : ℕ) (x : Volume) → slice_get n.volumes v ≡ Some x → x.blocks ≡ n.blocks
+  pub sizes : (v : ℕ) → v < n.disks - 2 → n.base.size v ≡ n.blocks
+  pub others : (v : ℕ) → n.disks - 2 ≤ v → n.base.size v ≡ 0
+  pub left : (i : Image) → m.now i → HasWrites n i
+
 -- the disks of a raw set that crashed: they have one log and one content, that of the site
 pub record IsDownAt (n : Node) (m : Meaning) : Type 0 where
   pub state : n.state ≡ IsDown
+  pub unfused : n.fuse ≡ NoFuse
   pub units : m.units ≡ n.disks
   pub size : (u : ℕ) → u < n.disks → m.size u ≡ n.blocks
   pub down : IsTrue m.down
@@ -91,6 +110,13 @@ module _ {R : Type 0} {g : Ghosts R} where
   StandsAt n (Up rvg) = IsUpAt n rvg.core (g.meaning rvg.shelf)
   StandsAt n (Down rack) = IsDownAt n (g.meaning rack)
   StandsAt n Gone = ⊥
+
+  -- a group whose shelf is down: a crash leaves the site's writes on its disks
+  abbrev pub CutAt : Node → Engine R g → Type 0
+  CutAt n (Bare rack) = ⊥
+  CutAt n (Up rvg) = IsHeldAt n (g.meaning rvg.shelf)
+  CutAt n (Down rack) = ⊥
+  CutAt n Gone = ⊥
 
   -- the engine of a number that no site has
   abbrev pub IsUnused : Engine R g → Type 0

@@ -2,18 +2,19 @@
 use Rattle.std.specs.Prelude.{◌≡◌, ◌⊎◌, ℕ, ◌+◌, ◌*◌, ◌<◌, ◌≤◌, min, List, [], ◌∷◌, length, replicate, Option, Some, None, Result, Ok, Err, Bool}
 use Rattle.vx_model.specs.Content.{Content, Write}
 use Rattle.vx_model.specs.World.{World}
-use Rattle.vx_model.specs.Steps.{site_made, raw_made, written, half_written, crash_left, recovered, came_up, session_begun, stopped_by}
+use Rattle.vx_model.specs.Steps.{site_made, raw_made, written, half_written, crash_left, cut_write, recovered, came_up, session_begun, stopped_by, worked_on, fused}
 use Rattle.vx_model.specs.declared.site.SiteState.TheVariants.{Bare, Up, Down}
 use Rattle.vx_model.specs.declared.no.No.{No}
-use Rattle.vx_model.specs.declared.no.No.TheVariants.{Device, Limit, NoConfig}
+use Rattle.vx_model.specs.declared.no.No.TheVariants.{Device, Limit, NoConfig, Down as IsOff}
 use Rattle.vx_model.specs.declared.no.Counted.TheVariants.{Number}
 use Rattle.vx_script.specs.declared.line.ScriptLine.{ScriptLine}
-use Rattle.vx_script.specs.declared.line.ScriptLine.TheVariants.{Site, Raw, Disk, Crash, Recover, Write as WriteLine, Put as PutLine, Read, Show, Apply, Status}
+use Rattle.vx_script.specs.declared.line.ScriptLine.TheVariants.{Site, Raw, Disk, Crash, Fuse, Recover, Write as WriteLine, Put as PutLine, Read, Show, Apply, Status}
 use Rattle.vx_order.specs.Order.{refusal_of}
 use Rattle.vx_rvg.specs.Contents.{Shows}
 use Rattle.vx_node.specs.declared.said.Said.{Said}
 use Rattle.vx_node.specs.declared.said.Said.TheVariants.{Done, DoneAt, Got, Shown, Recovered, Refused}
 use Rattle.vx_node.specs.Holds.{most_stamp}
+use Rattle.vx_node.specs.Fuses.{IsFused}
 use Rattle.vx_node.specs.Facts.{facts_of, site_number, volume_number}
 use Rattle.vx_node.specs.Views.{view_of}
 use Rattle.vx_node.specs.Lines.{script_line}
@@ -40,12 +41,14 @@ pub record OnlyFails (site : ℕ) (fails : Fails) (said : Said) (new next : Worl
   pub disk : ℕ
   pub fails_at : FailsAt site disk fails said new next
 
--- A write that is not refused: its number, or none is left, or a disk failed. Of disks that tell no contents it is not known how many
--- numbers are left.
+-- A write that is not refused: its number, or none is left, or a disk failed; or the fuse of the disks ran out in it, and the crash kept it
+-- or not. Of disks that tell no contents it is not known how many numbers are left.
 pub data Puts (told : Type 0) (w : World) (site : ℕ) (x : Write) (fails : Fails) (said : Said) (new : World) : Type 0 where
   IsPut : (w.nodes site).safe < 0x7fff_ffff_ffff_ffff → Cleanly fails said (DoneAt ((w.nodes site).safe + 1)) new (written w site x) → Puts told w site x fails said new
-  NoNumber : (told → 0x7fff_ffff_ffff_ffff ≤ most_stamp (w.nodes site)) → Cleanly fails said (Refused (Limit Number 0x7fff_ffff_ffff_ffff)) new w → Puts told w site x fails said new
+  NoNumber : (told → 0x7fff_ffff_ffff_ffff ≤ most_stamp (w.nodes site)) → Cleanly fails said (Refused (Limit Number 0x7fff_ffff_ffff_ffff)) new (worked_on w site) → Puts told w site x fails said new
   PutFails : (disk : ℕ) → FailsAt site disk fails said new (half_written w site x disk) → Puts told w site x fails said new
+  PutCut : (count : ℕ) → IsFused (w.nodes site).fuse → (w.nodes site).safe ≤ count → count ≤ length (w.nodes site).log + 1
+      → Cleanly fails said (Refused IsOff) new (cut_write w site x count) → Puts told w site x fails said new
 
 -- a crash keeps the writes that are durable, and maybe the one that was not finished
 pub record Crashes (w : World) (site : ℕ) (new : World) : Type 0 where
@@ -72,10 +75,12 @@ pub data Recovers (told : Type 0) (w : World) (site : ℕ) (fails : Fails) (said
   Untold : (told → ⊥) → Recovers told w site fails said new
   IsBareStill : (w.nodes site).state ≡ Bare → Cleanly fails said (Refused NoConfig) new w → Recovers told w site fails said new
 
--- logged writes are brought into their volumes, up to the number that was asked for or further; or a disk failed
+-- logged writes are brought into their volumes, up to the number that was asked for or further; or a disk failed; or the fuse of the disks
+-- ran out in it
 pub data Applies (w : World) (site to : ℕ) (fails : Fails) (said : Said) (new : World) : Type 0 where
-  IsApplied : (number : ℕ) → min to (w.nodes site).safe ≤ number → number ≤ (w.nodes site).safe → Cleanly fails said (DoneAt number) new w → Applies w site to fails said new
+  IsApplied : (number : ℕ) → min to (w.nodes site).safe ≤ number → number ≤ (w.nodes site).safe → Cleanly fails said (DoneAt number) new (worked_on w site) → Applies w site to fails said new
   ApplyFails : (disk : ℕ) → FailsAt site disk fails said new (stopped_by w site disk) → Applies w site to fails said new
+  ApplyCut : (mid : World) → IsFused (w.nodes site).fuse → Crashes w site mid → Cleanly fails said (Refused IsOff) new mid → Applies w site to fails said new
 
 -- so many blocks were read, which are those of the content where contents are told
 pub record Gets (told : Type 0) (c : Content) (volume start count : ℕ) (fails : Fails) (said : Said) (new next : World) : Type 0 where
@@ -101,6 +106,7 @@ Works told w (Raw site) fails said new =
 Works told w (Disk site disk state) fails said new = Cleanly fails said Done new w
 Works told w (Crash site pick) fails said new =
     let s = site_number w site in (mid : World) × Crashes w s mid × Cleanly fails said Done new mid
+Works told w (Fuse site calls pick) fails said new = Cleanly fails said Done new (fused w (site_number w site) calls)
 Works told w (Recover site) fails said new = Recovers told w (site_number w site) fails said new
 Works told w (WriteLine site volume start count fill) fails said new =
     Puts told w (site_number w site) (write_of w site volume start (replicate (512 * count) fill)) fails said new

@@ -3,13 +3,13 @@ use Rattle.std.specs.Prelude.{◌≡◌, ℕ, ◌*◌, List, length, replicate}
 use Rattle.vx_model.specs.Content.{Write}
 use Rattle.vx_model.specs.World.{World}
 use Rattle.vx_model.specs.declared.no.No.{No}
-use Rattle.vx_model.specs.declared.no.No.TheVariants.{Device}
+use Rattle.vx_model.specs.declared.no.No.TheVariants.{Device, Down}
 use Rattle.vx_disk.specs.declared.shelf.Shelf.{Ghosts}
 use Rattle.vx_order.specs.declared.facts.SiteFacts.{SiteFacts}
 use Rattle.vx_script.specs.declared.line.ScriptLine.TheVariants.{Write as WriteLine, Put as PutLine}
 use Rattle.vx_node.specs.declared.said.Said.{Said}
 use Rattle.vx_node.specs.declared.yard.Yard.{Yard}
-use Rattle.vx_node.specs.Changes.{halted_facts}
+use Rattle.vx_node.specs.Changes.{halted_facts, down_facts}
 use Rattle.vx_node.specs.Facts.{site_number}
 use Rattle.vx_node.specs.Stands.{RoseAll}
 use Rattle.vx_node.specs.Steps.{Fails, Puts, write_of}
@@ -19,6 +19,7 @@ use Rattle.vx_node.specs.Yards.{YardStands, IsTold, count_of}
 -- what the tests see of a site after a write was refused so
 abbrev pub noted_facts : No → SiteFacts → SiteFacts
 noted_facts (Device disk) f = halted_facts disk f
+noted_facts Down f = down_facts f
 noted_facts other f = f
 
 module _ {R : Type 0} {g : Ghosts R} where

@@ -27,6 +27,7 @@ impl<R: Rack> Yard<R> {
             ScriptLine::Raw { site } => self.make_raw(alloc, site),
             ScriptLine::Disk { site, disk, state } => Ok(self.set_disk(site, *disk, *state)),
             ScriptLine::Crash { site, pick } => Ok(self.crash_line(site, *pick)),
+            ScriptLine::Fuse { site, writes, pick } => Ok(self.fuse_line(site, *writes, *pick)),
             ScriptLine::Recover { site } => self.recover_line(alloc, site),
             ScriptLine::Write {
                 site,

@@ -1,8 +1,8 @@
-// What a line does that crashes a site, recovers it, or applies what is logged.
+// What a line does that crashes a site, sets its fuse, recovers it, or applies what is logged.
 ghost use Rattle.std.specs.Prelude.{◌≡◌, ◌<◌, length};
 ghost use Rattle.vx_model.specs.World.{World};
 ghost use Rattle.vx_model.specs.declared.site.SiteState.TheVariants.{Up as UpState, Down as DownState};
-ghost use Rattle.vx_script.specs.declared.line.ScriptLine.TheVariants.{Crash, Recover, Apply};
+ghost use Rattle.vx_script.specs.declared.line.ScriptLine.TheVariants.{Crash, Fuse, Recover, Apply};
 ghost use Rattle.vx_node.specs.Rising.{Fell, NotesUp, Recovering};
 ghost use Rattle.vx_node.specs.Steps.{Begins};
 ghost use Rattle.vx_node.specs.Working.{WorkIs, Worked, IsFree};
@@ -47,6 +47,22 @@ impl<R: Rack> Yard<R> {
             return Said::Refused(No::Role);
         }
         self.go_down(site, pick);
+        Said::Done
+    }
+
+    /// Sets the fuse of a site that is up.
+    pub(crate) fn fuse_line(&mut self, name: &Name, calls: u64, pick: u64) -> Said
+        ensures works { (w : World) → YardStands w self.old → IsFree self.old (Fuse name.now calls pick) → Worked w (Fuse name.now calls pick) result self.old self.new }
+        ensures told { IsTold self.new → IsTold self.old }
+        ensures files { in_files self.new ≡ in_files self.old }
+    {
+        let Some(site) = seat(&self.facts, name) else {
+            return Said::Refused(No::Role);
+        };
+        if site >= self.engines.len() {
+            return Said::Refused(No::Role);
+        }
+        self.engines[site].fuse(calls, pick);
         Said::Done
     }
 

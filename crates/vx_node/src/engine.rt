@@ -1,14 +1,15 @@
 // The disks of a site, and what is made of them.
-ghost use Rattle.std.specs.Prelude.{◌≡◌, ◌≤◌, ◌<◌, ◌+◌, ◌*◌, ◌%◌, ℕ, length, None, IfSome, IsSome, IsTrue, OnOk};
+ghost use Rattle.std.specs.Prelude.{◌≡◌, ◌≤◌, ◌<◌, ◌+◌, ◌*◌, ◌%◌, ℕ, length, None, IfSome, IfOk, IsSome, IsTrue, OnOk};
 ghost use Rattle.vx_model.specs.Content.{blocks_in};
 ghost use Rattle.vx_model.specs.World.{Node};
 ghost use Rattle.vx_srl.specs.Views.{free_of};
-ghost use Rattle.vx_node.specs.Engines.{Later, CanStart, CanWrite, WroteAt};
-ghost use Rattle.vx_node.specs.Rooms.{RoomIs};
+ghost use Rattle.vx_node.specs.Engines.{Later, CanStart, CanWrite, WroteUp, is_off};
+ghost use Rattle.vx_node.specs.Rooms.{AppliedAs, RoomIs};
 ghost use Rattle.vx_node.specs.Stands.{IsUpAt, StandsAt};
 
 use crate::units::raw_units;
 use std::alloc::Global;
+use std::mem;
 use vx_disk::Rack;
 use vx_model::{No, State, Stop};
 use vx_order::ring_blocks;
@@ -26,6 +27,45 @@ pub enum Engine<R: Rack> {
     Gone,
 }
 
+// Whether the shelf was found down.
+fn is_off(no: &No) -> bool
+    ensures { result ≡ is_off no.now }
+{
+    matches!(no, No::Down)
+}
+
+// Brings logged writes into their volumes. A shelf that is down behind it answers so.
+fn apply_group<R: Rack>(rvg: &mut Rvg<R>, to: u64) -> Result<u64, No>
+    ensures applied { (n : Node) → IsUpAt n rvg.old.core (R.meaning rvg.old.shelf) → n.halted ≡ None
+        → AppliedAs n to rvg.new.core (R.meaning rvg.old.shelf) (R.meaning rvg.new.shelf) result }
+    ensures reached { IfOk result (λ number. rvg.new.core.applied ≡ number) }
+    ensures units { rvg.new.core.units ≡ rvg.old.core.units }
+    ensures later { Later (Engine.Up rvg.old) (Engine.Up rvg.new) }
+{
+    let answer = rvg.apply(to);
+    if rvg.shelf.is_down() {
+        return Err(No::Down);
+    }
+    answer
+}
+
+// Gives up all that the log holds, where all of it is in the volumes. A shelf that is down behind it answers so.
+fn reclaim_group<R: Rack>(rvg: &mut Rvg<R>) -> Result<(), No>
+    ensures made { (n : Node) → IsUpAt n rvg.old.core (R.meaning rvg.old.shelf) → n.halted ≡ None → rvg.old.core.applied ≡ n.safe
+        → RoomIs n (R.meaning rvg.old.shelf) rvg.new.core (R.meaning rvg.new.shelf) result }
+    ensures free { (n : Node) → IsUpAt n rvg.old.core (R.meaning rvg.old.shelf) → n.halted ≡ None → rvg.old.core.applied ≡ n.safe
+        → OnOk result (free_of rvg.new.core.log ≡ n.ring) }
+    ensures units { rvg.new.core.units ≡ rvg.old.core.units }
+    ensures later { Later (Engine.Up rvg.old) (Engine.Up rvg.new) }
+{
+    let to = rvg.applied();
+    let answer = rvg.reclaim(to);
+    if rvg.shelf.is_down() {
+        return Err(No::Down);
+    }
+    answer
+}
+
 // Makes room in the log for a write of so many blocks: what it holds is applied, and then given up.
 fn make_room<R: Rack>(rvg: &mut Rvg<R>, count: u64) -> Result<(), No>
     ensures room { OnOk result (count < free_of rvg.new.core.log) }
@@ -37,8 +77,9 @@ fn make_room<R: Rack>(rvg: &mut Rvg<R>, count: u64) -> Result<(), No>
     if rvg.free() > count {
         return Ok(());
     }
-    let applied = rvg.apply(rvg.head())?;
-    rvg.reclaim(applied)?;
+    let last = rvg.head();
+    apply_group(rvg, last)?;
+    reclaim_group(rvg)?;
     if rvg.free() > count {
         Ok(())
     } else {
@@ -46,18 +87,22 @@ fn make_room<R: Rack>(rvg: &mut Rvg<R>, count: u64) -> Result<(), No>
     }
 }
 
-// Writes whole blocks to a volume of a group that has no links.
+// Writes whole blocks to a volume of a group that has no links. A shelf that is down behind it answers so.
 fn write_group<R: Rack>(rvg: &mut Rvg<R>, volume: u32, start: u64, bytes: &[u8]) -> Result<u64, No>
     requires volume { volume < length rvg.old.core.units.vols }
     requires some { 0 < length bytes.now }
     requires few { length bytes.now ≤ 8192 }
     requires whole { length bytes.now % 512 ≡ 0 }
     ensures wrote { (n : Node) → StandsAt n (Engine.Up rvg.old) → CanWrite n volume start (blocks_in bytes.now)
-        → WroteAt n (record { volume = volume; start = start; bytes = bytes.now }) (Engine.Up rvg.old) (Engine.Up rvg.new) result }
+        → WroteUp n (record { volume = volume; start = start; bytes = bytes.now }) (Engine.Up rvg.old) (Engine.Up rvg.new) result }
     ensures later { Later (Engine.Up rvg.old) (Engine.Up rvg.new) }
 {
     make_room(rvg, bytes.len() as u64 / 512)?;
-    rvg.write(volume, start, bytes, 0)
+    let answer = rvg.write(volume, start, bytes, 0);
+    if rvg.shelf.is_down() {
+        return Err(No::Down);
+    }
+    answer
 }
 
 // Whether these are the disks of a raw set that is down, in whose log there is this room.
@@ -75,8 +120,9 @@ fn can_start<R: Rack>(rack: &R, room: &StartRoom) -> bool
 
 impl<R: Rack> Engine<R> {
     ghost use Rattle.vx_node.specs.Holds.{state_with};
-    ghost use Rattle.vx_node.specs.Stands.{IsUnused};
-    ghost use Rattle.vx_node.specs.Engines.{FitIs, CanRead, CanApply, ReadAt, AppliedAt, MadeIs, CrashedAt, CameUpIs};
+    ghost use Rattle.vx_node.specs.Stands.{CutAt, IsUnused};
+    ghost use Rattle.vx_model.specs.World.{FuseSet};
+    ghost use Rattle.vx_node.specs.Engines.{FitIs, CanRead, CanApply, ReadAt, WroteAt, AppliedUp, AppliedAt, MadeIs, CrashedAt, CameUpIs};
     ghost use Rattle.vx_model.specs.declared.site.SiteState.TheVariants.{Bare as BareState, Up as UpState, Down as DownState};
 
     /// Makes the disks of a site that has none.
@@ -122,14 +168,44 @@ impl<R: Rack> Engine<R> {
         }
     }
 
-    /// Writes whole blocks to a data volume, by its number. Answers the number of the write.
-    #[tactic(auto, using(crate::proofs::Engines::up_volumes))]
+    // Crashes the disks of a group whose shelf is down.
+    fn fall(&mut self)
+        ensures falls { (n : Node) → CutAt n self.old → CrashedAt n self.new }
+        ensures later { Later self.old self.new }
+    {
+        let engine = mem::replace(self, Engine::Gone);
+        *self = engine.crash(u64::MAX);
+    }
+
+    /// Writes whole blocks to a data volume, by its number. Answers the number of the write. A site whose fuse runs out crashes.
     pub fn write(&mut self, volume: u32, start: u64, bytes: &[u8]) -> Result<u64, No>
         requires some { 0 < length bytes.now }
         requires few { length bytes.now ≤ 8192 }
         requires whole { length bytes.now % 512 ≡ 0 }
         ensures wrote { (n : Node) → StandsAt n self.old → CanWrite n volume start (blocks_in bytes.now)
             → WroteAt n (record { volume = volume; start = start; bytes = bytes.now }) self.old self.new result }
+        ensures later { Later self.old self.new }
+    {
+        match self.write_up(volume, start, bytes) {
+            Ok(number) => Ok(number),
+            Err(no) => {
+                if is_off(&no) {
+                    self.fall();
+                    return Err(no);
+                }
+                Err(no)
+            }
+        }
+    }
+
+    // The same, before it crashes.
+    #[tactic(auto, using(crate::proofs::Engines::up_volumes))]
+    fn write_up(&mut self, volume: u32, start: u64, bytes: &[u8]) -> Result<u64, No>
+        requires some { 0 < length bytes.now }
+        requires few { length bytes.now ≤ 8192 }
+        requires whole { length bytes.now % 512 ≡ 0 }
+        ensures wrote { (n : Node) → StandsAt n self.old → CanWrite n volume start (blocks_in bytes.now)
+            → WroteUp n (record { volume = volume; start = start; bytes = bytes.now }) self.old self.new result }
         ensures later { Later self.old self.new }
     {
         match self {
@@ -179,9 +255,20 @@ impl<R: Rack> Engine<R> {
         }
     }
 
+    /// Sets the fuse of a site that is up: so many writes and flushes pass, and the next is a crash.
+    pub fn fuse(&mut self, calls: u64, pick: u64)
+        ensures fused { (n : Node) → StandsAt n self.old → n.state ≡ UpState → StandsAt (record n { fuse = FuseSet calls }) self.new }
+        ensures later { Later self.old self.new }
+    {
+        if let Engine::Up(rvg) = self {
+            rvg.shelf.fuse(calls, pick);
+        }
+    }
+
     /// Crashes a site that is up: of the loose blocks each takes its latest value where its bit in `pick` is 1.
     pub fn crash(self, pick: u64) -> Engine<R>
         ensures crashed { (n : Node) → StandsAt n self → n.state ≡ UpState → CrashedAt n result }
+        ensures cut { (n : Node) → CutAt n self → CrashedAt n result }
         ensures later { Later self result }
     {
         match self {
@@ -220,13 +307,31 @@ impl<R: Rack> Engine<R> {
         }
     }
 
-    /// Brings the logged writes up to a number into their volumes. Answers the number up to which all are there now.
+    /// Brings the logged writes up to a number into their volumes. Answers the number up to which all are there now. A site whose fuse
+    /// runs out crashes.
     pub fn apply(&mut self, to: u64) -> Result<u64, No>
         ensures applied { (n : Node) → StandsAt n self.old → CanApply n → AppliedAt n to self.old self.new result }
         ensures later { Later self.old self.new }
     {
+        match self.apply_up(to) {
+            Ok(number) => Ok(number),
+            Err(no) => {
+                if is_off(&no) {
+                    self.fall();
+                    return Err(no);
+                }
+                Err(no)
+            }
+        }
+    }
+
+    // The same, before it crashes.
+    fn apply_up(&mut self, to: u64) -> Result<u64, No>
+        ensures applied { (n : Node) → StandsAt n self.old → CanApply n → AppliedUp n to self.old self.new result }
+        ensures later { Later self.old self.new }
+    {
         match self {
-            Engine::Up(rvg) => rvg.apply(to),
+            Engine::Up(rvg) => apply_group(rvg, to),
             Engine::Bare(_) | Engine::Down(_) | Engine::Gone => Err(No::Role),
         }
     }

@@ -13,13 +13,15 @@ use vx_disk::Rack;
 use vx_model::{Blocks, Name, No};
 use vx_order::SiteFacts;
 
-/// A line on the group of a site was refused: where its disk failed, the site is halted.
+/// A line on the group of a site was refused: where its disk failed, the site is halted, and where its fuse ran out, it is down.
 pub(crate) fn refused(facts: &mut SiteFacts, no: No) -> Said
     ensures noted { facts.new ≡ noted_facts no facts.old }
     ensures said { result ≡ Refused no }
 {
-    if let No::Device { disk } = no {
-        facts::set_halted(facts, disk);
+    match no {
+        No::Device { disk } => facts::set_halted(facts, disk),
+        No::Down => facts::go_down(facts),
+        _ => {}
     }
     Said::Refused(no)
 }

@@ -1,5 +1,7 @@
 // A replicated volume group: what it answers, and its reads and writes.
 ghost use Rattle.std.specs.Prelude.{◌≡◌, ◌+◌, ◌<◌, ◌≤◌, ◌%◌, length, Some, None, IsTrue, IsFalse, OnOk, IsSome};
+ghost use Rattle.vx_disk.specs.Causes.{OnDisks};
+ghost use Rattle.vx_disk.specs.Disks.{Untouched};
 ghost use Rattle.vx_disk.specs.Moves.{Moves, Run};
 ghost use Rattle.vx_disk.specs.Shelf.{Goes, Nothing};
 ghost use Rattle.vx_model.specs.Content.{Content, Write, put, blocks_in};
@@ -77,6 +79,8 @@ impl<S: Shelf> Rvg<S> {
         ensures stands { (c : Content) → Stands self.old.core c (S.meaning self.old.shelf) → IsFalse (S.meaning self.new.shelf).down → Stands self.new.core c (S.meaning self.new.shelf) }
         ensures core { self.new.core ≡ self.old.core }
         ensures goes { Goes Nothing (S.meaning self.old.shelf) (S.meaning self.new.shelf) }
+        ensures down { (S.meaning self.new.shelf).down ≡ (S.meaning self.old.shelf).down }
+        ensures disks { OnDisks (S.meaning self.old.shelf).disks (S.meaning self.new.shelf).disks Untouched }
     {
         let unit = self.core.unit(vol);
         let size = self.shelf.size(unit);

@@ -1,8 +1,8 @@
 -- A write of a group, case by case.
-use Rattle.std.proofs.Common.{ap, arith}
+use Rattle.std.proofs.Common.{◌∙◌, ap, arith, sym}
 use Rattle.std.specs.Prelude.{Err}
 use Rattle.std.proofs.lemmas.Result.{err_from_is_err_and}
-use Rattle.vx_node.proofs.Logging.{unroomed, written_as, wrote_later, wrote_at}
+use Rattle.vx_node.proofs.Logging.{unroomed, written_as, write_cut, wrote_later, wrote_at}
 use Rattle.vx_node.proofs.engine.write_group.Goals as goal
 
 pub returns-in_err-make_room-clause-wrote : goal.returns-in_err-make_room-clause-wrote
@@ -12,12 +12,21 @@ returns-in_err-make_room-clause-wrote g c = λ n stands can.
     (wrote_at n (record { volume = c.args.volume; start = c.args.start; bytes = c.args.bytes.now }) c.args.rvg.now c.make_room.new.rvg (Err c.in_err-make_room.field-0.0)
     (unroomed n (record { volume = c.args.volume; start = c.args.start; bytes = c.args.bytes.now }) c.make_room.new.rvg.core (g.R.Shelf.meaning c.args.rvg.now.shelf) (g.R.Shelf.meaning c.make_room.new.rvg.shelf) c.in_err-make_room.field-0.0 (c.in_err-make_room.ensures.made n stands can.running (omega (arith, can.fits)))))
 
+pub returns-then-is_down-clause-wrote : goal.returns-then-is_down-clause-wrote
+returns-then-is_down-clause-wrote g c = λ n stands can.
+    let lawful = (g.met.R.Shelf g.world.𝓛 g.world.𝓜 g.world.𝓡 ((λ s x. x), (λ x. x), (λ x. x), λ x. x)).lawful in
+    let roomy = c.in_ok-make_room.ensures.made n stands can.running (omega (arith, can.fits)) in
+    write_cut n c.args.volume c.args.start c.args.bytes.now c.args.rvg.now.core c.make_room.new.rvg.core c.write-answer.new.self.core (g.R.Shelf.meaning c.args.rvg.now.shelf) (g.R.Shelf.meaning c.make_room.new.rvg.shelf) (g.R.Shelf.meaning c.write-answer.new.self.shelf)
+    stands can roomy (lawful c.make_room.new.rvg.shelf) (lawful c.write-answer.new.self.shelf) c.make_room.new.rvg.sound c.write-answer.new.self.sound c.write-answer.ensures.moves
+    (sym c.is_down.ensures ∙ c.if-is_down.true)
+
 pub returns-clause-wrote : goal.returns-clause-wrote
 returns-clause-wrote g c = λ n stands can.
     let lawful = (g.met.R.Shelf g.world.𝓛 g.world.𝓜 g.world.𝓡 ((λ s x. x), (λ x. x), (λ x. x), λ x. x)).lawful in
     let roomy = c.in_ok-make_room.ensures.made n stands can.running (omega (arith, can.fits)) in
-    wrote_at n (record { volume = c.args.volume; start = c.args.start; bytes = c.args.bytes.now }) c.args.rvg.now c.write.new.self c.write.result
-    (wrote_later n (record { volume = c.args.volume; start = c.args.start; bytes = c.args.bytes.now }) c.write.new.self.core (g.R.Shelf.meaning c.args.rvg.now.shelf) (g.R.Shelf.meaning c.make_room.new.rvg.shelf) (g.R.Shelf.meaning c.write.new.self.shelf) c.write.result c.make_room.ensures.later.counts
-    (written_as n c.args.volume c.args.start c.args.bytes.now c.args.rvg.now.core c.make_room.new.rvg.core c.write.new.self.core (g.R.Shelf.meaning c.args.rvg.now.shelf) (g.R.Shelf.meaning c.make_room.new.rvg.shelf) (g.R.Shelf.meaning c.write.new.self.shelf)
-    stands can roomy (lawful c.make_room.new.rvg.shelf) (lawful c.write.new.self.shelf) c.make_room.new.rvg.sound c.write.new.self.sound c.write.ensures.moves
-    c.write.result c.write.ensures.answers (λ some. ap g.R.Shelf.meaning (c.write.ensures.unchanged some)) c.write.ensures.stands))
+    wrote_at n (record { volume = c.args.volume; start = c.args.start; bytes = c.args.bytes.now }) c.args.rvg.now c.write-answer.new.self c.write-answer.result
+    (wrote_later n (record { volume = c.args.volume; start = c.args.start; bytes = c.args.bytes.now }) c.write-answer.new.self.core (g.R.Shelf.meaning c.args.rvg.now.shelf) (g.R.Shelf.meaning c.make_room.new.rvg.shelf) (g.R.Shelf.meaning c.write-answer.new.self.shelf) c.write-answer.result c.make_room.ensures.later.counts
+    (written_as n c.args.volume c.args.start c.args.bytes.now c.args.rvg.now.core c.make_room.new.rvg.core c.write-answer.new.self.core (g.R.Shelf.meaning c.args.rvg.now.shelf) (g.R.Shelf.meaning c.make_room.new.rvg.shelf) (g.R.Shelf.meaning c.write-answer.new.self.shelf)
+    stands can roomy (lawful c.make_room.new.rvg.shelf) (lawful c.write-answer.new.self.shelf) c.make_room.new.rvg.sound c.write-answer.new.self.sound c.write-answer.ensures.moves
+    (sym c.is_down.ensures ∙ c.if-is_down.false)
+    c.write-answer.result c.write-answer.ensures.answers (λ some. ap g.R.Shelf.meaning (c.write-answer.ensures.unchanged some)) c.write-answer.ensures.stands))

@@ -1,8 +1,11 @@
-use Rattle.vx_node.proofs.Applying.{applied_at}
+use Rattle.std.proofs.Common.{sym, ◌∙◌}
+use Rattle.vx_node.proofs.Crashing.{applied_off, applied_on}
 use Rattle.vx_node.proofs.engine.Engine.apply.Goals as goal
 
-pub returns-in-Up-clause-applied : goal.returns-in-Up-clause-applied
-returns-in-Up-clause-applied g c = λ n stands can.
-    let lawful = (g.met.R.Shelf g.world.𝓛 g.world.𝓜 g.world.𝓡 ((λ s x. x), (λ x. x), (λ x. x), λ x. x)).lawful in
-    applied_at n c.args.to c.args.self.now c.in-Up.rvg c.apply.new.self c.apply.result c.in-Up.is stands can
-    (lawful c.in-Up.rvg.shelf) (lawful c.apply.new.self.shelf) c.apply.ensures.answers c.apply.ensures.stands c.apply.ensures.moves
+pub returns-then-is_off-clause-applied : goal.returns-then-is_off-clause-applied
+returns-then-is_off-clause-applied g c = λ n stands can.
+    applied_off n c.args.to c.args.self.now c.apply_up.new.self c.fall.new.self c.in-Err.no (sym c.is_off.ensures ∙ c.if-is_off.true) (c.in-Err.ensures.applied n stands can) (c.fall.ensures.falls n)
+
+pub returns-else-is_off-clause-applied : goal.returns-else-is_off-clause-applied
+returns-else-is_off-clause-applied g c = λ n stands can.
+    applied_on n c.args.to c.args.self.now c.apply_up.new.self c.in-Err.no (sym c.is_off.ensures ∙ c.if-is_off.false) (c.in-Err.ensures.applied n stands can)

@@ -1,7 +1,7 @@
 use Rattle.std.proofs.Common.{subst}
 use Rattle.vx_rvg.proofs.ReadStands.{rest_sound}
 use Rattle.vx_node.specs.Stands.{StandsAt}
-use Rattle.vx_node.proofs.Engines.{bare_still, up_still}
+use Rattle.vx_node.proofs.Engines.{bare_still, up_still, fuse_still}
 use Rattle.vx_node.proofs.Recovering.{down_still}
 use Rattle.vx_node.proofs.engine.Engine.fail.Goals as goal
 
@@ -13,7 +13,9 @@ returns-in-Bare-clause-stands g c = λ n stands. bare_still _ _ _ c.fail.ensures
 
 pub returns-in-Up-clause-stands : goal.returns-in-Up-clause-stands
 returns-in-Up-clause-stands g c = λ n stands.
-    up_still n c.in-Up.rvg.core _ _ c.fail-in-Up.ensures.goes c.fail-in-Up.ensures.alike.contents.now c.fail-in-Up.ensures.down c.fail-in-Up.ensures.armed (subst (λ e. StandsAt n e) c.in-Up.is stands)
+    let up = subst (λ e. StandsAt n e) c.in-Up.is stands in
+    up_still n c.in-Up.rvg.core _ _ c.fail-in-Up.ensures.goes c.fail-in-Up.ensures.alike.contents.now c.fail-in-Up.ensures.down
+    (fuse_still n.fuse _ _ _ (λ o k is. is.0.fuse) c.fail-in-Up.ensures.armed c.fail-in-Up.ensures.disks up.fuse) up
 
 pub returns-in-Down-clause-stands : goal.returns-in-Down-clause-stands
 returns-in-Down-clause-stands g c = λ n stands. down_still n _ _ c.fail-in-Down.ensures.goes c.fail-in-Down.ensures.down c.fail-in-Down.ensures.armed (subst (λ e. StandsAt n e) c.in-Down.is stands)

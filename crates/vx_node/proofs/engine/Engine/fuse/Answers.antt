@@ -1,0 +1,9 @@
+use Rattle.std.proofs.Common.{subst}
+use Rattle.vx_node.specs.Stands.{StandsAt}
+use Rattle.vx_node.proofs.Fusing.{alike_sound, up_fused}
+use Rattle.vx_node.proofs.engine.Engine.fuse.Goals as goal
+
+pub returns-in-Up-clause-fused : goal.returns-in-Up-clause-fused
+returns-in-Up-clause-fused g c = λ n stands state.
+    let is_rack = (g.met.R.Rack g.world.𝓛 g.world.𝓜 g.world.𝓡 ((λ s x. x), (λ x. x), (λ x. x), λ x. x)).rack in
+    up_fused n c.in-Up.rvg.core _ _ c.args.calls c.args.pick (is_rack c.fuse.new.self) c.fuse.ensures.alike c.fuse.ensures.down c.fuse.ensures.disks (subst (λ e. StandsAt n e) c.in-Up.is stands)
