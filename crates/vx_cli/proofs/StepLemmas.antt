@@ -6,13 +6,13 @@ use Rattle.vx_model.specs.World.{World}
 use Rattle.vx_model.specs.declared.no.No.{No}
 use Rattle.vx_order.specs.Order.{refusal_of}
 use Rattle.vx_script.specs.declared.line.ScriptLine.{ScriptLine}
-use Rattle.vx_script.specs.declared.line.ScriptLine.TheVariants.{Site, Raw, Disk, Crash, Recover, Write, Put, Read, Show, Apply, Status}
+use Rattle.vx_script.specs.declared.line.ScriptLine.TheVariants.{Site, Raw, Disk, Crash, Fuse, Recover, Write, Put, Read, Show, Apply, Status}
 use Rattle.vx_script.proofs.GrammarLemmas.{line_of_long}
 use Rattle.vx_node.specs.declared.said.Said.{Said}
 use Rattle.vx_node.specs.Facts.{facts_of}
 use Rattle.vx_node.specs.Lines.{script_line, only_built}
 use Rattle.vx_node.specs.Stands.{RoseAll, times}
-use Rattle.vx_node.specs.Steps.{Fails, Gets, Puts, IsPut, NoNumber, PutFails, Recovers, ComesUp, StaysDown, NoSession, Untold, IsBareStill, Works, StepBy, SaidStep, LineStep}
+use Rattle.vx_node.specs.Steps.{Fails, Gets, Puts, IsPut, NoNumber, PutFails, PutCut, Recovers, ComesUp, StaysDown, NoSession, Untold, IsBareStill, Works, StepBy, SaidStep, LineStep}
 
 -- a line of more than 4,096 bytes is wrong behind them
 pub script_line_long : (line : List ℕ) → 4096 < length line → script_line line ≡ Err 4097
@@ -45,6 +45,7 @@ module _ {T U : Type 0} (f : U → T) where
   puts_told w site x fails said new (IsPut below done) = IsPut below done
   puts_told w site x fails said new (NoNumber none done) = NoNumber (λ u. none (f u)) done
   puts_told w site x fails said new (PutFails disk fails_at) = PutFails disk fails_at
+  puts_told w site x fails said new (PutCut count fused least most done) = PutCut count fused least most done
 
   recovers_told : (w : World) (site : ℕ) (fails : Fails) (said : Said) (new : World) → Recovers T w site fails said new → Recovers U w site fails said new
   recovers_told w site fails said new (ComesUp mid begins done) = ComesUp mid begins done
@@ -58,6 +59,7 @@ module _ {T U : Type 0} (f : U → T) where
   works_told w (Raw site) fails said new x = x
   works_told w (Disk site disk state) fails said new x = x
   works_told w (Crash site pick) fails said new x = x
+  works_told w (Fuse site calls pick) fails said new x = x
   works_told w (Recover site) fails said new x = recovers_told _ _ _ _ _ x
   works_told w (Write site volume start count fill) fails said new x = puts_told _ _ _ _ _ _ x
   works_told w (Put site volume start bytes) fails said new x = puts_told _ _ _ _ _ _ x

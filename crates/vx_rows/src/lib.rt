@@ -9,6 +9,7 @@ mod bytes;
 mod disks;
 #[cfg(test)]
 mod ends;
+mod fuses;
 #[cfg(test)]
 mod lines;
 mod racks;
