@@ -5,12 +5,14 @@
 #![tactic(auto)]
 
 mod apply;
+mod change;
 mod create;
 mod group;
 mod header;
 mod patch;
 mod rvg_core;
 mod start;
+mod store;
 mod write;
 
 pub use group::Rvg;
