@@ -18,3 +18,6 @@ mod write;
 pub use group::Rvg;
 pub use rvg_core::RvgCore;
 pub use start::StartRoom;
+
+#[cfg(test)]
+mod tests;
