@@ -121,10 +121,10 @@ ring_left l s m i on idle each =
     ((call_safe l.ring s Seal on.is_log tt).0.0 (classes l.unit l.ring i) (now_left l.unit l.ring s.unit m i on.tracks each))
 
 module _ (core : Core) (c : Content) (m : Meaning) (i : Image) (unit_is : core.log.unit ≡ core.units.srl) where
-  -- an image with the log that stands and its content
-  pub found_as : (s : State) → Ready core c s m → Recovers core.log.ring (classes core.log.unit core.log.ring i) s.header s.held
-      → HasContent core.units.vols c (writes_of s.held) i → FoundAs core i (last_of core) c
-  found_as s ready recovers content = record {
+  -- an image with the log that stands and any content
+  pub found_with : (s : State) → Ready core c s m → Recovers core.log.ring (classes core.log.unit core.log.ring i) s.header s.held
+      → (d : Content) → HasContent core.units.vols d (writes_of s.held) i → FoundAs core i (last_of core) d
+  found_with s ready recovers d content = record {
     header = s.header;
     records = s.held;
     recovers = subst (λ (u : ℕ). Recovers core.log.ring (classes u core.log.ring i) s.header s.held) unit_is recovers;
@@ -135,6 +135,11 @@ module _ (core : Core) (c : Content) (m : Meaning) (i : Image) (unit_is : core.l
     last_is = omega (arith, recovers_low core.log.unit core.log.ring i s.header s.held recovers, ap (λ (h : Header). h.low) ready.ring.describes.header, held_length core.log s m ready.ring);
     content = content;
   }
+
+  -- an image with the log that stands and its content
+  pub found_as : (s : State) → Ready core c s m → Recovers core.log.ring (classes core.log.unit core.log.ring i) s.header s.held
+      → HasContent core.units.vols c (writes_of s.held) i → FoundAs core i (last_of core) c
+  found_as s ready recovers content = found_with s ready recovers c content
 
   pub left_found : Stands core c m → Each m.leaves i → FoundAs core i (last_of core) c
   left_found stands each =

@@ -4,13 +4,16 @@ pub mod ApplyOne
 pub mod ApplyPuts
 pub mod ApplyStands
 pub mod ContentFacts
+pub mod EmptyStands
 pub mod MakeStands
 pub mod PatchFacts
 pub mod ReadAnswers
 pub mod ReadStands
+pub mod RestartMoves
 pub mod SaveStands
 pub mod StartFill
 pub mod StartStands
+pub mod StoreStands
 pub mod WriteCommit
 pub mod WriteContent
 pub mod WriteLog

@@ -6,4 +6,5 @@ pub mod Logging
 pub mod Saves
 pub mod Stands
 pub mod Starts
+pub mod Stores
 pub mod Views

@@ -1,15 +1,16 @@
 -- The calls of a group that write a header of its log.
-use Rattle.std.specs.Prelude.{◌≡◌, ◌⊎◌, ℕ, ◌+◌, ◌<◌, ◌≤◌, Option, Some, None, Result, Ok, Err, IsTrue, leb, ltb, ◌||◌, ◌&&◌, if◌then◌else◌}
+use Rattle.std.specs.Prelude.{◌≡◌, ◌⊎◌, ℕ, ◌+◌, ◌<◌, ◌≤◌, Option, Some, None, Result, Ok, Err, [], IsTrue, leb, ltb, ◌||◌, ◌&&◌, if◌then◌else◌}
 use Rattle.vx_model.specs.declared.no.No.{No}
 use Rattle.vx_model.specs.declared.no.No.TheVariants.{Limit}
 use Rattle.vx_model.specs.declared.no.Counted.TheVariants.{Number}
 use Rattle.vx_model.specs.declared.state.State.{State}
+use Rattle.vx_disk.specs.Moves.{Blocks, Run, Union}
 use Rattle.vx_disk.specs.Shelf.{Meaning}
-use Rattle.vx_srl.specs.Calls.{saved, restarted}
+use Rattle.vx_srl.specs.Calls.{can_restart, saved, restarted}
 use Rattle.vx_srl.specs.Headers.{with_state, without, emptied}
 use Rattle.vx_srl.specs.Views.{Log, most_number, count_to}
-use Rattle.vx_rvg.specs.Groups.{Fails, unless_halted}
-use Rattle.vx_rvg.specs.Views.{Core}
+use Rattle.vx_rvg.specs.Groups.{Fails, unless_halted, with_applied}
+use Rattle.vx_rvg.specs.Views.{Core, Waits, last_of}
 
 -- why the records up to a number are not given up
 abbrev pub reclaim_refusal : Core → ℕ → Option No
@@ -39,3 +40,43 @@ Saves c after old new c' (Err why) = Fails c old new c' why
 abbrev pub SaveIs : Option No → Core → Core → Meaning → Meaning → Core → Result (Unit {0}) No → Type 0
 SaveIs (Some why) c after old new c' result = (result ≡ Err why) × (c' ≡ c)
 SaveIs None c after old new c' result = Saves c after old new c' result
+
+-- why the log is not emptied behind a record of this number
+abbrev pub restart_refusal : Core → ℕ → Option No
+restart_refusal c head = unless_halted c.halted (if can_restart c.log head then None else Some (Limit Number most_number))
+
+-- with all writes in the volumes, and behind them an empty log that has another state
+abbrev pub with_restart : Core → State → ℕ → Core
+with_restart c state head = record c { log = restarted c.log (emptied c.log state head); pending = record c.pending { entries = [] }; applied = head }
+
+-- the log was emptied, or a device call failed
+abbrev pub Empties : Core → Core → Meaning → Meaning → Core → Result (Unit {0}) No → Type 0
+Empties c after old new c' (Ok done) = (c' ≡ after) × (IsTrue new.down → ⊥)
+Empties c after old new c' (Err why) = Fails c old new c' why
+
+-- The same where writes were brought into their volumes first. A device call that failed may be one behind them.
+abbrev pub Restarts : Core → Core → Meaning → Meaning → Core → Result (Unit {0}) No → Type 0
+Restarts c after old new c' (Ok done) = (c' ≡ after) × (IsTrue new.down → ⊥)
+Restarts c after old new c' (Err why) = Fails c old new c' why ⊎ ((n : ℕ) × Fails (with_applied c (last_of c) n) old new c' why)
+
+abbrev pub RestartIs : Option No → Core → Core → Meaning → Meaning → Core → Result (Unit {0}) No → Type 0
+RestartIs (Some why) c after old new c' result = (result ≡ Err why) × (c' ≡ c)
+RestartIs None c after old new c' result = Restarts c after old new c' result
+
+-- A change sets a state, and where it is given a number it empties the log behind a record of this number.
+abbrev pub refusal_of_change : Core → Option ℕ → Option No
+refusal_of_change c None = change_refusal c
+refusal_of_change c (Some head) = restart_refusal c head
+
+abbrev pub changed : Core → State → Option ℕ → Core
+changed c state None = with_new_state c state
+changed c state (Some head) = with_restart c state head
+
+abbrev pub ChangeIs : Option ℕ → Core → State → Meaning → Meaning → Core → Result (Unit {0}) No → Type 0
+ChangeIs None c state old new c' result = SaveIs (change_refusal c) c (with_new_state c state) old new c' result
+ChangeIs (Some head) c state old new c' result = RestartIs (restart_refusal c head) c (with_restart c state head) old new c' result
+
+-- the blocks that a change may write: the log's, and with a number those that wait for their volumes too
+abbrev pub change_blocks : Option ℕ → Core → Meaning → Blocks
+change_blocks None c m = Run c.units.srl 0 (c.log.ring + 2)
+change_blocks (Some head) c m = Union (Waits c m) (Run c.units.srl 0 (c.log.ring + 2))

@@ -6,11 +6,12 @@ ghost use Rattle.vx_disk.specs.Moves.{Moves, Run};
 ghost use Rattle.vx_disk.specs.Shelf.{Goes, Nothing};
 ghost use Rattle.vx_model.specs.Content.{Content, Write, put, blocks_in};
 ghost use Rattle.vx_ringio.specs.Bodies.{IsBlocks};
+ghost use Rattle.vx_ringio.specs.Burns.{MakesCalls};
 ghost use Rattle.vx_rvg.specs.Contents.{Shows};
 ghost use Rattle.vx_rvg.specs.Groups.{write_refusal, read_refusal, WriteIs, ReadIs};
 ghost use Rattle.vx_rvg.specs.Stands.{Stands, Writing};
 ghost use Rattle.vx_rvg.specs.Views.{IsSound, unit_of, last_of};
-ghost use Rattle.vx_srl.specs.Views.{free_of, need_of, next_of, used_above};
+ghost use Rattle.vx_srl.specs.Views.{BodyFits, free_of, need_of, next_of, used_above};
 
 use crate::RvgCore;
 use crate::patch::patch;
@@ -28,7 +29,8 @@ pub struct Rvg<S: Shelf> {
 }
 
 impl<S: Shelf> Rvg<S> {
-    /// Logs 1 to 16 blocks, durably. Answers the number of the write. `marks` names no maps.
+    /// Logs 1 to 16 blocks, durably. Answers the number of the write. `marks` names no maps. Where the blocks do not pass the end of the
+    /// log's ring it is four writes and flushes: the blocks, a flush, the header of the record, a flush.
     ///
     /// There has to be room in the log, for the blocks and one more. Refusals, in this order: 20 where a call answered 7 before, 4
     /// where the record is larger than the ring of the log, 3 where the blocks end past the volume, 19 where no number is left; these
@@ -48,6 +50,7 @@ impl<S: Shelf> Rvg<S> {
             → Stands self.new.core (put c (record { volume = vol; start = start; bytes = bytes.now })) (S.meaning self.new.shelf)) }
         ensures moves { Moves (Run self.old.core.units.srl 0 (self.old.core.log.ring + 2))
             (Writing self.old.core (record { volume = vol; start = start; bytes = bytes.now }) (S.meaning self.old.shelf)) (S.meaning self.old.shelf) (S.meaning self.new.shelf) }
+        ensures calls { OnOk result (BodyFits self.old.core.log bytes.now → MakesCalls 4 (S.meaning self.old.shelf) (S.meaning self.new.shelf)) }
     {
         let unit = self.core.unit(vol);
         let size = self.shelf.size(unit);

@@ -5,14 +5,19 @@
 #![tactic(auto)]
 
 mod apply;
+mod change;
 mod create;
 mod group;
 mod header;
 mod patch;
 mod rvg_core;
 mod start;
+mod store;
 mod write;
 
 pub use group::Rvg;
 pub use rvg_core::RvgCore;
 pub use start::StartRoom;
+
+#[cfg(test)]
+mod tests;

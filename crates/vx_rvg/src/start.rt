@@ -9,6 +9,7 @@ ghost use Rattle.vx_ringio.specs.Tracks.{Lies};
 ghost use Rattle.vx_rvg.specs.Fills.{FillCause, IsFilled, logged_by};
 ghost use Rattle.vx_rvg.specs.Starts.{Starting, IsStarted, StartCause, StartStop, ring_in};
 ghost use Rattle.vx_rvg.specs.Views.{Placed, volume_size};
+ghost use Rattle.vx_srl.specs.Starts.{ReadsAtLimit, StopReadsAtLimit};
 
 use crate::patch::add_all;
 use crate::write::refused;
@@ -65,10 +66,6 @@ fn fill<S: Shelf>(shelf: &mut S, srl: &Srl, units: &Units, pending: &mut Overlay
         if let Err(why) = srl.fetch(shelf, before + 1, &mut update) {
             return Err(refused(why));
         }
-        // What is read next is told only of a shelf that is up.
-        if shelf.is_down() {
-            return Err(No::Down);
-        }
         add_within(shelf, units, pending, &update);
     }
     Ok(())
@@ -116,8 +113,8 @@ impl<S: Shelf> Rvg<S> {
     /// volumes again.
     ///
     /// Refusals: 9 where neither header block of the log is a header, or 22 for the lower one whose digest differs; 22 for a record
-    /// whose header or body has another digest; 19 where no stamp or incarnation is left; 7 and 6. Whatever it refuses, the shelf
-    /// comes back, and has what it had but for the headers of the log.
+    /// whose header or body has another digest; 19 where no stamp or incarnation is left, which changes nothing; 7 and 6. Whatever
+    /// it refuses, the shelf comes back, and has what it had but for the headers of the log.
     pub fn start_in(room: StartRoom, shelf: S, units: &Units) -> Result<Rvg<S>, (S, No)>
         requires placed { Placed units.now (S.meaning shelf) }
         requires large { 8 ≤ (S.meaning shelf).size units.now.srl }
@@ -126,6 +123,7 @@ impl<S: Shelf> Rvg<S> {
         ensures up { IfOk result (λ g. IsTrue (S.meaning g.shelf).down → ⊥) }
         ensures moves { IfOk result (λ g. Moves (Run units.now.srl 0 (ring_in units.now (S.meaning shelf) + 2)) (Starting units.now (S.meaning shelf)) (S.meaning shelf) (S.meaning g.shelf)) }
         ensures cause { IfErr result (λ e. StartCause units.now (S.meaning shelf) (S.meaning e.0) e.1) }
+        ensures limit { IfErr result (λ e. ReadsAtLimit (S.meaning shelf) (S.meaning e.0) e.1) }
         ensures left { IfErr result (λ e. Moves (Run units.now.srl 0 (ring_in units.now (S.meaning shelf) + 2)) (Starting units.now (S.meaning shelf)) (S.meaning shelf) (S.meaning e.0)) }
     {
         let mut shelf = shelf;
@@ -158,6 +156,7 @@ impl<S: Shelf> Rvg<S> {
         ensures up { IfOk result (λ g. IsTrue (S.meaning g.shelf).down → ⊥) }
         ensures moves { IfOk result (λ g. Moves (Run units.now.srl 0 (ring_in units.now (S.meaning shelf) + 2)) (Starting units.now (S.meaning shelf)) (S.meaning shelf) (S.meaning g.shelf)) }
         ensures cause { IfErr result (λ e. StartStop units.now (S.meaning shelf) (S.meaning e.0) e.1) }
+        ensures limit { IfErr result (λ e. StopReadsAtLimit (S.meaning shelf) (S.meaning e.0) e.1) }
         ensures left { IfErr result (λ e. Moves (Run units.now.srl 0 (ring_in units.now (S.meaning shelf) + 2)) (Starting units.now (S.meaning shelf)) (S.meaning shelf) (S.meaning e.0)) }
     {
         let Ok(room) = StartRoom::new(alloc, shelf.size(units.srl)) else {

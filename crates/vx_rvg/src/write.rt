@@ -3,9 +3,10 @@ ghost use Rattle.std.specs.Prelude.{◌≡◌, ◌+◌, ◌<◌, ◌≤◌, [], 
 ghost use Rattle.vx_disk.specs.Moves.{Moves, Run};
 ghost use Rattle.vx_model.specs.Content.{Content, Write, put, blocks_in};
 ghost use Rattle.vx_ringio.specs.Bodies.{IsBlocks};
+ghost use Rattle.vx_ringio.specs.Burns.{MakesCalls};
 ghost use Rattle.vx_ringio.specs.Tracks.{Lies};
 ghost use Rattle.vx_srl.specs.Calls.{staging, sealing};
-ghost use Rattle.vx_srl.specs.Views.{free_of, need_of, most_number, record_of};
+ghost use Rattle.vx_srl.specs.Views.{BodyFits, free_of, need_of, most_number, record_of};
 ghost use Rattle.vx_rvg.specs.Groups.{Writes, no_of};
 ghost use Rattle.vx_rvg.specs.Logging.{Logs, LogsTo, LogMoves};
 ghost use Rattle.vx_rvg.specs.Stands.{Stands, Writing};
@@ -45,6 +46,7 @@ fn log_record<S: Shelf>(
     ensures logs { Logs srl.old vol start bytes.now (S.meaning shelf.old) (S.meaning shelf.new) srl.new result }
     ensures leads { OnOk result (LogsTo srl.old vol start bytes.now srl.new (S.meaning shelf.old) (S.meaning shelf.new)) }
     ensures moves { LogMoves srl.old vol start bytes.now (S.meaning shelf.old) (S.meaning shelf.new) }
+    ensures calls { OnOk result (BodyFits srl.old bytes.now → MakesCalls 4 (S.meaning shelf.old) (S.meaning shelf.new)) }
 {
     if let Err(why) = srl.stage(shelf, vol, start, bytes) {
         return Err(refused(why));
@@ -79,6 +81,7 @@ pub(crate) fn commit<S: Shelf>(
     ensures moves { Moves (Run core.old.units.srl 0 (core.old.log.ring + 2))
         (Writing core.old (record { volume = vol; start = start; bytes = bytes.now }) (S.meaning shelf.old))
         (S.meaning shelf.old) (S.meaning shelf.new) }
+    ensures calls { OnOk result (BodyFits core.old.log bytes.now → MakesCalls 4 (S.meaning shelf.old) (S.meaning shelf.new)) }
 {
     match log_record(shelf, &mut core.srl, vol, start, bytes) {
         Ok(number) => {

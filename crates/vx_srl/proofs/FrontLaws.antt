@@ -11,7 +11,9 @@ use Rattle.vx_disk.specs.declared.shelf.ShelfError.{ShelfError}
 use Rattle.vx_disk.specs.declared.shelf.ShelfError.TheVariants.{Fault, Down}
 use Rattle.vx_ringlog.specs.Cells.{Act, Flush, Write}
 use Rattle.vx_ringlog.specs.Chain.{block}
+use Rattle.vx_ringio.specs.Burns.{MakesCalls}
 use Rattle.vx_ringio.specs.Tracks.{Arrives, Follows, Lies}
+use Rattle.vx_ringio.proofs.Burning.{then_calls}
 use Rattle.vx_ringio.proofs.Following.{nothing_arrives, nothing_follows, sooner, then_arrives, then_follows}
 use Rattle.vx_srl.specs.Causes.{DeviceCause, Ended, refusal_of}
 use Rattle.vx_srl.specs.Fronts.{fronts_written, seal_written}
@@ -151,3 +153,11 @@ ended_last T unit ring acts old late new (Err e) follows cause = later_cause T u
 
 pub ended_err : (T : Type 0) (unit ring : ℕ) (acts : List Act) (old mid new : Meaning) (r : Result T ShelfError) (e : ShelfError) → r ≡ Err e → Follows unit ring acts old mid → DeviceCause mid new (refusal_of e) → Ended old new r
 ended_err T unit ring acts old mid new r e is follows cause = subst (λ (x : Result T ShelfError). Ended old new x) (sym is) (later_device unit ring acts old mid new e follows cause)
+
+-- ---- how many calls they are
+
+-- one header more
+pub one_more : (from k k' : ℕ) → from ≤ k → k' ≡ k + 1 → (old mid new : Meaning) → MakesCalls (k - from) old mid → MakesCalls 1 mid new → MakesCalls (k' - from) old new
+one_more from k k' le next old mid new before one =
+    let sum : (k - from) + 1 ≡ k' - from = omega (arith, le, next) in
+    subst (λ (n : ℕ). MakesCalls n old new) sum (then_calls (k - from) 1 old mid new before one)

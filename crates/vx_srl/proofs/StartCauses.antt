@@ -4,11 +4,12 @@ use Rattle.vx_disk.specs.Shelf.{Meaning, Lawful, Nothing, Goes}
 use Rattle.vx_model.specs.declared.no.No.{No}
 use Rattle.vx_model.specs.declared.no.No.TheVariants.{Damaged, NoConfig, Limit, Device, Down}
 use Rattle.vx_ringlog.specs.Records.{Record}
+use Rattle.vx_disk.proofs.Runs.{then_nothing}
 use Rattle.vx_ringio.proofs.Following.{leaves_read}
 use Rattle.vx_srlfmt.specs.declared.header.Header.{Header}
 use Rattle.vx_srl.specs.Scans.{Scans, ScanCause}
 use Rattle.vx_srl.specs.Standings.{NoneCounts, StandingCause, TakeOverCause}
-use Rattle.vx_srl.specs.Starts.{LeavesLog, NoneLeft, StartCause}
+use Rattle.vx_srl.specs.Starts.{LeavesLog, NoneLeft, ReadsAtLimit, StartCause}
 use Rattle.vx_srl.specs.Views.{most_number}
 use Rattle.vx_srl.proofs.ScanCauses.{rose_since}
 
@@ -35,3 +36,7 @@ take_over_cause unit ring h old now new goes same (Limit what most) cause =
 take_over_cause unit ring h old now new goes same (Device disk) cause = rose_since (old.disk_faults disk) (now.disk_faults disk) (new.disk_faults disk) (goes.disk_faults disk) cause
 take_over_cause unit ring h old now new goes same Down cause = cause
 take_over_cause unit ring h old now new goes same other cause = absurd cause
+
+pub limit_since : (old mid new : Meaning) → Goes Nothing old mid → (why : No) → ReadsAtLimit mid new why → ReadsAtLimit old new why
+limit_since old mid new goes (Limit what most) limit = then_nothing Nothing old mid new goes limit
+limit_since old mid new goes other limit = tt

@@ -1,5 +1,5 @@
 -- What the calls of a log do.
-use Rattle.std.specs.Prelude.{◌≡◌, ℕ, ◌+◌, ◌-◌, ◌*◌, Some, Result, Ok, Err, length, [], ◌∷◌, ◌++◌, take, drop, slice_get, IsTrue}
+use Rattle.std.specs.Prelude.{◌≡◌, ℕ, ◌+◌, ◌-◌, ◌*◌, Bool, ltb, ◌&&◌, Some, Result, Ok, Err, length, [], ◌∷◌, ◌++◌, take, drop, slice_get, IsTrue}
 use Rattle.vx_model.specs.declared.call.Update.{Update}
 use Rattle.vx_model.specs.declared.no.No.TheVariants.{Damaged, Limit}
 use Rattle.vx_model.specs.declared.no.Counted.TheVariants.{Number}
@@ -39,6 +39,10 @@ LogCause old new other = ⊥
 -- a number would go past its limit
 abbrev pub no_number : SrlNo
 no_number = Other (Limit Number most_number)
+
+-- whether a stamp, a run and a number are left for an emptied log behind a record of this number
+abbrev pub can_restart : Log → ℕ → Bool
+can_restart l head = ltb l.header.stamp most_number && (ltb l.header.run most_number && ltb head most_number)
 
 -- with one more record staged
 abbrev pub staged_with : Log → Kept → Log

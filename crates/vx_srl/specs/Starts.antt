@@ -8,7 +8,7 @@ use Rattle.vx_model.specs.declared.no.Counted.TheVariants.{Number}
 use Rattle.vx_model.specs.declared.state.State.{State as SiteState}
 use Rattle.vx_srlfmt.specs.Kinds.{Other}
 use Rattle.vx_srlfmt.specs.declared.header.Header.{Header}
-use Rattle.vx_disk.specs.Shelf.{Meaning, Image}
+use Rattle.vx_disk.specs.Shelf.{Meaning, Image, Goes, Nothing}
 use Rattle.vx_ringlog.specs.Acts.{head_acts}
 use Rattle.vx_ringlog.specs.Cells.{Cells, Image as Kinds, run_all, still}
 use Rattle.vx_ringlog.specs.Chain.{Recovers}
@@ -84,6 +84,15 @@ StartCause unit ring old new NoConfig = (IsTrue old.tells → NoHeader unit ring
 StartCause unit ring old new (Damaged u block stored computed) = (u ≡ unit) × (stored ≡ computed → ⊥) × NoneLeft unit ring old
 StartCause unit ring old new (Limit what most) = (what ≡ Number) × (most ≡ most_number) × AtLimit unit ring old
 StartCause unit ring old new why = DeviceCause old new why
+
+-- a start that is refused for want of a number has only read
+abbrev pub ReadsAtLimit : Meaning → Meaning → No → Type 0
+ReadsAtLimit old new (Limit what most) = Goes Nothing old new
+ReadsAtLimit old new other = Unit {0}
+
+abbrev pub StopReadsAtLimit : Meaning → Meaning → Stop → Type 0
+StopReadsAtLimit old new (Refused why) = ReadsAtLimit old new why
+StopReadsAtLimit old new OutOfMemory = Goes Nothing old new
 
 -- the log was started, or the start was refused, or memory ran out
 abbrev pub StartIs : ℕ → ℕ → Meaning → Meaning → Result Log Stop → Type 0

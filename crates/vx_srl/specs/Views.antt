@@ -70,6 +70,10 @@ place_after ring p (k ∷ ks) = place_after ring ((p + width_of k) % ring) ks
 abbrev pub end_of : Log → ℕ
 end_of l = place_after l.ring l.header.place (all_of l)
 
+-- the body of a record with these bytes, staged next, does not pass the ring's end
+abbrev pub BodyFits : Log → List ℕ → Type 0
+BodyFits l bytes = (end_of l + 1) % l.ring + blocks_in bytes ≤ l.ring
+
 -- each of these records has its place behind the one before
 abbrev pub PlacedFrom : ℕ → ℕ → List Kept → Type 0
 PlacedFrom ring p [] = Unit {0}

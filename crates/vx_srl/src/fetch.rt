@@ -1,5 +1,5 @@
 // The reading of a record that is held.
-ghost use Rattle.std.specs.Prelude.{◌≡◌, ◌+◌, ◌<◌, ◌≤◌, Err, OnOk, OnErr, IfErr};
+ghost use Rattle.std.specs.Prelude.{◌≡◌, ◌+◌, ◌<◌, ◌≤◌, Err, IsTrue, OnOk, OnErr, IfErr};
 ghost use Rattle.vx_disk.specs.Shelf.{Goes, Nothing};
 ghost use Rattle.vx_ringio.specs.Tracks.{Lies};
 ghost use Rattle.vx_srl.specs.Calls.{Fetches, FetchCause, Agrees, NamesBody};
@@ -21,6 +21,7 @@ impl Srl {
         ensures overrun { n < self.now.header.low → (result ≡ Err (SrlNo.Overrun self.now.header.low)) × (shelf.new ≡ shelf.old) }
         ensures gives { OnOk result (Fetches self.now n (S.meaning shelf.old) into.new) }
         ensures agrees { OnOk result (Agrees self.now n into.new) }
+        ensures up { OnOk result (IsTrue (S.meaning shelf.new).down → ⊥) }
         ensures cause { self.now.header.low ≤ n → IfErr result (λ why. FetchCause self.now (S.meaning shelf.old) (S.meaning shelf.new) why) }
         ensures names { self.now.header.low ≤ n → IfErr result (NamesBody self.now n) }
         ensures unchanged { OnErr result (into.new ≡ into.old) }

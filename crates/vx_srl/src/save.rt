@@ -3,7 +3,7 @@ ghost use Rattle.std.specs.Prelude.{◌≡◌, ◌⊎◌, ◌+◌, ◌-◌, ◌<
 ghost use Rattle.vx_ringio.specs.Classes.{is_of_ring};
 ghost use Rattle.vx_ringio.specs.Tracks.{Lies, Follows, Arrives};
 ghost use Rattle.vx_ringlog.specs.Acts.{head_acts};
-ghost use Rattle.vx_srl.specs.Calls.{Saves, saving, restarting, saved, restarted, no_number};
+ghost use Rattle.vx_srl.specs.Calls.{Saves, can_restart, saving, restarting, saved, restarted, no_number};
 ghost use Rattle.vx_srl.specs.Headers.{with_state, without, emptied};
 ghost use Rattle.vx_srl.specs.Rings.{Goes, LeadsTo};
 ghost use Rattle.vx_srl.specs.Views.{head_of, count_to, most_number};
@@ -159,6 +159,13 @@ impl Srl {
         let gone = (to + 1 - self.header.low) as usize;
         self.give_up(gone, header);
         Ok(())
+    }
+
+    /// Whether a stamp, a run and a number are left, so that the log can be emptied behind a record of this number.
+    pub fn can_restart(&self, head: u64) -> bool
+        ensures { result ≡ can_restart self.now head }
+    {
+        self.header.stamp < MOST && self.header.run < MOST && head < MOST
     }
 
     /// Empties the log, and sets its state and the number of its last record, in one write of the header.

@@ -1,5 +1,6 @@
 // The sealing of what is staged: it becomes part of the log.
-ghost use Rattle.std.specs.Prelude.{◌≡◌, ◌≤◌, ◌<◌, [], length, drop, All, Ok, OnOk};
+ghost use Rattle.std.specs.Prelude.{◌≡◌, ◌+◌, ◌-◌, ◌≤◌, ◌<◌, [], length, drop, All, Ok, OnOk};
+ghost use Rattle.vx_ringio.specs.Burns.{MakesCalls};
 ghost use Rattle.vx_ringio.specs.Tracks.{Lies, Follows, Arrives};
 ghost use Rattle.vx_srl.specs.Calls.{Seals, sealing};
 ghost use Rattle.vx_srl.specs.Causes.{Ended, Stopped};
@@ -30,6 +31,7 @@ fn write_fronts<S: Shelf>(
     ensures follows { Follows unit ring (fronts_written ring (drop from records.now.items)) (S.meaning shelf.old) (S.meaning shelf.new) }
     ensures arrives { OnOk result (Arrives unit ring (fronts_written ring (drop from records.now.items)) (S.meaning shelf.old) (S.meaning shelf.new)) }
     ensures cause { Stopped (S.meaning shelf.old) (S.meaning shelf.new) result }
+    ensures calls { OnOk result (MakesCalls (length records.now.items - from) (S.meaning shelf.old) (S.meaning shelf.new)) }
 {
     for k in from..records.len() {
         let kept = records[k];
@@ -45,6 +47,7 @@ impl Srl {
         ensures follows { Follows self.now.unit self.now.ring (seal_written self.now.ring self.now.staged) (S.meaning shelf.old) (S.meaning shelf.new) }
         ensures arrives { OnOk result (Arrives self.now.unit self.now.ring (seal_written self.now.ring self.now.staged) (S.meaning shelf.old) (S.meaning shelf.new)) }
         ensures cause { Ended (S.meaning shelf.old) (S.meaning shelf.new) result }
+        ensures calls { OnOk result (MakesCalls (length self.now.staged + 2) (S.meaning shelf.old) (S.meaning shelf.new)) }
     {
         flush_ring(shelf, self.unit)?;
         write_fronts(shelf, self.unit, self.ring, &self.records, self.sealed)?;
@@ -53,13 +56,15 @@ impl Srl {
 
     /// Makes what is staged part of the log, and durable. Answers the number of the last record of the log.
     ///
-    /// Where nothing is staged it makes no call on the shelf. Refusals: 7 and 6; then the log has to be started again.
+    /// It is a flush, a write for each header, and a flush. Where nothing is staged it makes no call on the shelf. Refusals: 7 and 6;
+    /// then the log has to be started again.
     pub fn seal<S: Shelf>(&mut self, shelf: &mut S) -> Result<u64, SrlNo>
         requires lies { Lies self.old.unit self.old.ring (S.meaning shelf.old) }
         ensures nothing { self.old.staged ≡ [] → (result ≡ Ok (head_of self.old)) × (self.new ≡ self.old) × (shelf.new ≡ shelf.old) }
         ensures seals { 0 < length self.old.staged → Seals self.old (S.meaning shelf.old) (S.meaning shelf.new) self.new result }
         ensures goes { Goes self.old sealing (S.meaning shelf.old) (S.meaning shelf.new) }
         ensures leads { OnOk result (0 < length self.old.staged → LeadsTo self.old sealing self.new (S.meaning shelf.old) (S.meaning shelf.new)) }
+        ensures calls { OnOk result (0 < length self.old.staged → MakesCalls (length self.old.staged + 2) (S.meaning shelf.old) (S.meaning shelf.new)) }
     {
         if self.sealed == self.records.len() {
             return Ok(self.head());

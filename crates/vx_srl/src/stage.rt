@@ -1,11 +1,12 @@
 // The staging of a record: its blocks are written, and its header is not.
 ghost use Rattle.std.specs.Prelude.{◌≡◌, ◌⊎◌, ◌+◌, ◌<◌, ◌≤◌, ◌/◌, length, Err, OnOk, All};
 ghost use Rattle.vx_ringio.specs.Bodies.{IsBlocks, all_blocks};
+ghost use Rattle.vx_ringio.specs.Burns.{MakesCalls};
 ghost use Rattle.vx_ringio.specs.Tracks.{Lies};
 ghost use Rattle.vx_ringlog.specs.Records.{on_disk};
 ghost use Rattle.vx_srl.specs.Calls.{Stages, staging, staged_with, no_number};
 ghost use Rattle.vx_srl.specs.Rings.{Goes, LeadsTo};
-ghost use Rattle.vx_srl.specs.Views.{free_of, need_of, next_of, most_number, record_of, kept_of};
+ghost use Rattle.vx_srl.specs.Views.{BodyFits, free_of, need_of, next_of, most_number, record_of, kept_of};
 
 use crate::log::MOST;
 use crate::{Kept, Srl, SrlNo, refusal};
@@ -64,7 +65,8 @@ impl Srl {
         self.used += need;
     }
 
-    /// Writes the 1 to 16 blocks of a record, which becomes part of the log by the next `seal`. Answers its number.
+    /// Writes the 1 to 16 blocks of a record, which becomes part of the log by the next `seal`. Answers its number. It is one call on
+    /// the shelf, or two where the blocks pass the ring's end.
     ///
     /// Refusals: `NoRoom` exactly where the record takes more blocks than are free, then 19 exactly where no number is left; both
     /// change nothing. After 6 or 7 nothing is staged, and the log has to be started again.
@@ -84,6 +86,7 @@ impl Srl {
             → Stages self.old (kept_of self.old vol block bytes.now) (S.meaning shelf.old) (S.meaning shelf.new) self.new result }
         ensures goes { Goes self.old (staging (record_of self.old vol block bytes.now)) (S.meaning shelf.old) (S.meaning shelf.new) }
         ensures leads { OnOk result (LeadsTo self.old (staging (record_of self.old vol block bytes.now)) self.new (S.meaning shelf.old) (S.meaning shelf.new)) }
+        ensures calls { OnOk result (BodyFits self.old bytes.now → MakesCalls 1 (S.meaning shelf.old) (S.meaning shelf.new)) }
     {
         let need = bytes.len() as u64 / 512 + 1;
         let free = self.free();

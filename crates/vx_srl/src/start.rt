@@ -10,7 +10,7 @@ ghost use Rattle.vx_ringlog.specs.Acts.{head_acts};
 ghost use Rattle.vx_srl.specs.Causes.{Stopped};
 ghost use Rattle.vx_srl.specs.Headers.{raised};
 ghost use Rattle.vx_srl.specs.Standings.{IsPicked, IsStanding, StandingCause, TakeOverCause, taken_over, taking_over, first_step_of};
-ghost use Rattle.vx_srl.specs.Starts.{Restarting, StartInIs, StartIs};
+ghost use Rattle.vx_srl.specs.Starts.{ReadsAtLimit, Restarting, StartInIs, StartIs, StopReadsAtLimit};
 ghost use Rattle.vx_srl.specs.Views.{most_number};
 ghost use Rattle.vx_srlfmt.specs.Headers.{CanSpell};
 
@@ -159,6 +159,7 @@ fn take_over<S: Shelf>(
     ensures arrives { OnOk result (Arrives unit ring (taking_over standing.now) (S.meaning shelf.old) (S.meaning shelf.new)) }
     ensures up { OnOk result (IsTrue (S.meaning shelf.new).down → ⊥) }
     ensures cause { IfErr result (λ why. TakeOverCause standing.now.header (S.meaning shelf.old) (S.meaning shelf.new) why) }
+    ensures limit { IfErr result (λ why. ReadsAtLimit (S.meaning shelf.old) (S.meaning shelf.new) why) }
 {
     let header = &standing.header;
     if header.stamp > MOST - 3 || header.incarnation >= MOST {
@@ -216,13 +217,14 @@ impl Srl {
     /// blocks are written.
     ///
     /// Refusals: 9 where neither header block is a header of the log, or 22 for the lower one whose digest differs; 22 for a record
-    /// whose header or body has another digest; 19 where no stamp or incarnation is left; 7 and 6. Of the blocks of a log nothing
-    /// changes but its headers.
+    /// whose header or body has another digest; 19 where no stamp or incarnation is left, which changes nothing; 7 and 6. Of the
+    /// blocks of a log nothing changes but its headers.
     pub fn start_in<S: Shelf>(room: LogRoom, shelf: &mut S, unit: u32) -> Result<Srl, No>
         requires exists { unit < (S.meaning shelf.old).units }
         requires large { 8 ≤ (S.meaning shelf.old).size unit }
         requires room { room.ring ≡ ring_of ((S.meaning shelf.old).size unit) }
         ensures starts { StartInIs unit (ring_of ((S.meaning shelf.old).size unit)) (S.meaning shelf.old) (S.meaning shelf.new) result }
+        ensures limit { IfErr result (λ why. ReadsAtLimit (S.meaning shelf.old) (S.meaning shelf.new) why) }
         ensures moves { Moves (Run unit 0 (ring_of ((S.meaning shelf.old).size unit) + 2)) (Restarting unit (ring_of ((S.meaning shelf.old).size unit)) (S.meaning shelf.old)) (S.meaning shelf.old) (S.meaning shelf.new) }
     {
         let LogRoom { ring, mut records } = room;
@@ -245,6 +247,7 @@ impl Srl {
         requires exists { unit < (S.meaning shelf.old).units }
         requires large { 8 ≤ (S.meaning shelf.old).size unit }
         ensures starts { StartIs unit (ring_of ((S.meaning shelf.old).size unit)) (S.meaning shelf.old) (S.meaning shelf.new) result }
+        ensures limit { IfErr result (λ stop. StopReadsAtLimit (S.meaning shelf.old) (S.meaning shelf.new) stop) }
         ensures moves { Moves (Run unit 0 (ring_of ((S.meaning shelf.old).size unit) + 2)) (Restarting unit (ring_of ((S.meaning shelf.old).size unit)) (S.meaning shelf.old)) (S.meaning shelf.old) (S.meaning shelf.new) }
     {
         let Ok(room) = LogRoom::new(alloc, shelf.size(unit)) else {

@@ -1,4 +1,4 @@
-use Rattle.std.proofs.Common.{arith, ◌+◌, ◌≡◌, ◌∙◌, sym, true, false}
+use Rattle.std.proofs.Common.{arith, ◌+◌}
 use Rattle.vx_disk.specs.Shelf.{Nothing}
 use Rattle.vx_disk.proofs.Runs.{then_nothing}
 use Rattle.vx_rvg.proofs.StartFill.{room_for, went_on}
@@ -16,5 +16,5 @@ pub loop-before-preserved : goal.loop-before-preserved
 loop-before-preserved g c =
     went_on c.args.srl.now c.args.units.now.vols (g.S.Shelf.meaning c.args.shelf.now) (g.S.Shelf.meaning c.loop-before.shelf) (g.S.Shelf.meaning c.fetch.new.shelf) _ _ c.loop-before.pending
     c.loop-before.invariant (c.loop-before.before + 1) (omega arith) c.fetch.new.into c.in_default.ensures.agrees c.in_default.ensures.gives c.fetch.ensures.goes
-    (λ down. (let wrong : false ≡ true = sym c.if-is_down.false ∙ c.is_down.ensures ∙ down in cc))
+    c.in_default.ensures.up
     c.add_within.new.pending c.add_within.ensures.entries c.add_within.ensures.capacity _ (omega arith)

@@ -1,13 +1,15 @@
 use Rattle.std.proofs.Common.{arith}
-use Rattle.vx_srl.proofs.FrontLaws.{cut_follows, one_written}
+use Rattle.vx_srl.proofs.FrontLaws.{cut_follows, one_more, one_written}
 use Rattle.vx_srl.proofs.seal.write_fronts.Goals as goal
 
 pub returns-in_err-write_front-clause-follows : goal.returns-in_err-write_front-clause-follows
 returns-in_err-write_front-clause-follows g c =
     cut_follows c.args.unit c.args.ring c.args.records.now.items c.args.from c.loop-k.k c.index.result.now c.loop-k.auto.k (omega (arith, c.loop-k-test.true, c.len-k-end.ensures)) c.index.ensures
-    _ _ _ c.loop-k.invariant c.write_front.ensures.follows
+    _ _ _ c.loop-k.invariant.0 c.write_front.ensures.follows
 
 pub loop-k-preserved : goal.loop-k-preserved
-loop-k-preserved g c =
-    one_written c.args.unit c.args.ring c.args.records.now.items c.args.from c.loop-k.k c.index.result.now c.loop-k.auto.k (omega (arith, c.loop-k-test.true, c.len-k-end.ensures)) c.index.ensures
-    _ _ _ c.loop-k.invariant c.in_ok-write_front.ensures.follows c.in_ok-write_front.ensures.arrives c.in_ok-write_front.ensures.cause.after
+loop-k-preserved g c = (
+  one_written c.args.unit c.args.ring c.args.records.now.items c.args.from c.loop-k.k c.index.result.now c.loop-k.auto.k (omega (arith, c.loop-k-test.true, c.len-k-end.ensures)) c.index.ensures
+      _ _ _ c.loop-k.invariant.0 c.in_ok-write_front.ensures.follows c.in_ok-write_front.ensures.arrives c.in_ok-write_front.ensures.cause.after,
+  one_more c.args.from c.loop-k.k _ c.loop-k.auto.k (omega arith) _ _ _ c.loop-k.invariant.1 c.in_ok-write_front.ensures.calls,
+)

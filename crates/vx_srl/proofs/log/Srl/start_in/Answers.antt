@@ -4,7 +4,7 @@ use Rattle.vx_disk.specs.Shelf.{Goes, Nothing}
 use Rattle.vx_disk.proofs.Runs.{then_nothing}
 use Rattle.vx_model.specs.Steps.{ring_of}
 use Rattle.vx_srl.specs.Starts.{StartCause, Restarting, IsStarted, Room}
-use Rattle.vx_srl.proofs.StartCauses.{no_header_cause, scan_cause, take_over_cause}
+use Rattle.vx_srl.proofs.StartCauses.{limit_since, no_header_cause, scan_cause, take_over_cause}
 use Rattle.vx_srl.proofs.StartLogs.{rests, header_left, scans_left, goes_over, is_started}
 use Rattle.vx_srl.proofs.log.Srl.start_in.Goals as goal
 
@@ -65,3 +65,7 @@ returns-in-Err-take_over-clause-moves g c =
     let goes : Goes Nothing (g.S.Shelf.meaning c.args.shelf.now) (g.S.Shelf.meaning c.scan.new.shelf) = then_nothing Nothing _ _ _ c.find_header.ensures.goes c.scan.ensures.goes in
     subst (λ (r : ℕ). Moves (Run c.args.unit 0 (r + 2)) (Restarting c.args.unit r (g.S.Shelf.meaning c.args.shelf.now)) (g.S.Shelf.meaning c.args.shelf.now) (g.S.Shelf.meaning c.take_over.new.shelf)) ring_is
     (goes_over c.args.unit (c.room.inside.ring) c.in-Ok.standing _ (g.met.S.Shelf.lawful c.args.shelf.now) c.in-Ok.ensures.found _ (g.met.S.Shelf.lawful c.scan.new.shelf) goes _ c.take_over.ensures.follows)
+
+pub returns-in-Err-take_over-clause-limit : goal.returns-in-Err-take_over-clause-limit
+returns-in-Err-take_over-clause-limit g c =
+    limit_since _ _ _ (then_nothing Nothing _ _ _ c.find_header.ensures.goes c.scan.ensures.goes) c.in-Err-take_over.no c.in-Err-take_over.ensures.limit
