@@ -201,8 +201,7 @@ good_recovers : (told : Type 0) → told → (w : World) (s : ℕ) (fails : Fail
 good_recovers told is w s fails said new sound (ComesUp mid begins done) = sound_as new (came_up mid s) done.leads (came_sound mid s (begun w s mid sound begins))
 good_recovers told is w s fails said new sound (StaysDown mid disk begins (inl failed)) = sound_as new mid failed.leads (begun w s mid sound begins).sound
 good_recovers told is w s fails said new sound (StaysDown mid disk begins (inr failed)) = sound_as new (session_begun mid s) failed.leads (session_sound mid s (begun w s mid sound begins))
-good_recovers told is w s fails said new sound (NoSession mid begins past (inl done)) = sound_as new mid done.leads (begun w s mid sound begins).sound
-good_recovers told is w s fails said new sound (NoSession mid begins past (inr done)) = sound_as new (session_begun mid s) done.leads (session_sound mid s (begun w s mid sound begins))
+good_recovers told is w s fails said new sound (NoSession mid begins past done) = sound_as new mid done.leads (begun w s mid sound begins).sound
 good_recovers told is w s fails said new sound (Untold untold) = absurd (untold is)
 good_recovers told is w s fails said new sound (IsBareStill bare done) = sound_as new w done.leads sound
 

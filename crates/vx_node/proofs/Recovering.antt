@@ -23,6 +23,7 @@ use Rattle.vx_rvg.specs.Stands.{Found, Left, Stands}
 use Rattle.vx_rvg.specs.Starts.{IsStarted, Starting, StartCause, NothingLeft, ring_in}
 use Rattle.vx_rvg.specs.Views.{Core, Placed, last_of, unit_of}
 use Rattle.vx_rvg.proofs.ContentFacts.{stands_found}
+use Rattle.vx_srl.specs.Starts.{ReadsAtLimit}
 use Rattle.vx_srl.specs.Views.{most_number}
 use Rattle.vx_rvg.specs.declared.group.Rvg.{Rvg}
 use Rattle.vx_disk.specs.declared.shelf.Shelf.{Ghosts}
@@ -216,7 +217,7 @@ module _ (n : Node) (m up : Meaning) (is : IsDownAt n m) (alike : Alike m up) (r
 abbrev pub RefusedAs : Node → Meaning → Meaning → No → Type 0
 RefusedAs n m last (Device disk) = (IsDownAt n last ⊎ IsDownAt (record n { session = n.session + 1 }) last) × Rose (m.disk_faults disk) (last.disk_faults disk)
 RefusedAs n m last (Limit what most) =
-    (Limit what most ≡ no_number) × (IsTrue last.tells → most_number ≤ most_stamp n + 2) × (IsDownAt n last ⊎ IsDownAt (record n { session = n.session + 1 }) last)
+    (Limit what most ≡ no_number) × (IsTrue last.tells → most_number ≤ most_stamp n + 2) × IsDownAt n last
 RefusedAs n m last other = (IsTrue last.tells → ⊥) × IsDownAt n last
 
 limit_same : {a b : Counted} {x y : ℕ} → a ≡ b → x ≡ y → Limit a x ≡ Limit b y
@@ -287,18 +288,25 @@ module _ (n : Node) (m up new last : Meaning) (is : IsDownAt n m) (alike : Alike
       let untold : IsTrue last.tells → ⊥ = λ tells. none (state_of n) n.session (most_stamp n) n.safe n.base (left_here tells) in
       (untold, down_with n.session (λ tells. absurd (untold tells)))
 
-  pub refused_as : (why : No) → StartCause (raw_units n.disks) up new why → RefusedAs n m last why
-  refused_as NoConfig h = nothing_left h.1
-  refused_as (Damaged u b stored computed) h = nothing_left h.1
-  refused_as (Limit what most) h = (
+  -- its disks were only read
+  only_read : Goes Nothing up new → IsDownAt n last
+  only_read goes = down_with n.session (λ tells.
+      subst (λ (r : ℕ). Left (raw_units n.disks) r (state_of n) n.session (most_stamp n) n.safe n.base last) (ring_here n m up is alike risen armed)
+      (left_still (raw_units n.disks) (ring_in (raw_units n.disks) up) (state_of n) n.session (most_stamp n) n.safe n.base up last (stopped.tells ∙ goes.tells) (λ u. stopped.size u ∙ goes.size u)
+      (λ u b v left. ⊎_elim (λ was. was) (λ none. absurd none) (goes.leaves u b v (stopped.leaves u b v left))) (left_here tells)))
+
+  pub refused_as : (why : No) → StartCause (raw_units n.disks) up new why → ReadsAtLimit up new why → RefusedAs n m last why
+  refused_as NoConfig h read = nothing_left h.1
+  refused_as (Damaged u b stored computed) h read = nothing_left h.1
+  refused_as (Limit what most) h read = (
     limit_same h.0 h.1,
     λ tells. ⊎_elim (λ (stamp : most_number ≤ most_stamp n + 2). stamp) (λ (session : most_number ≤ n.session). let more : most_number ≤ most_stamp n + 2 = omega arith in more)
         (h.2 (state_of n) n.session (most_stamp n) n.safe n.base (left_here tells)),
-    still_down last.tells refl,
+    only_read read,
   )
-  refused_as (Device disk) h = (still_down last.tells refl, rose disk h)
-  refused_as IsOff h = absurd (never_both up.down (moves.safe (armed ∙ is.unarmed) h) risen)
-  refused_as other h = absurd h
+  refused_as (Device disk) h read = (still_down last.tells refl, rose disk h)
+  refused_as IsOff h read = absurd (never_both up.down (moves.safe (armed ∙ is.unarmed) h) risen)
+  refused_as other h read = absurd h
 
 -- ---- the engine of the site
 
@@ -349,14 +357,14 @@ module _ {R : Type 0} {g : Ghosts R} where
 
   pub refused_at : (n : Node) (disks : ℕ) (units : Units) (old : Engine R g) (rack up back last : R) (why : No) → old ≡ Down rack → units ≡ raw_units disks → disks ≡ (g.meaning up).units → IsDownAt n (g.meaning rack)
       → Alike (g.meaning rack) (g.meaning up) → IsFalse (g.meaning up).down → (g.meaning up).armed ≡ (g.meaning rack).armed → Lawful (g.meaning up) → Lawful (g.meaning back)
-      → StartCause units (g.meaning up) (g.meaning back) why → Moves (Run units.srl 0 (ring_in units (g.meaning up) + 2)) (Starting units (g.meaning up)) (g.meaning up) (g.meaning back)
+      → StartCause units (g.meaning up) (g.meaning back) why → ReadsAtLimit (g.meaning up) (g.meaning back) why → Moves (Run units.srl 0 (ring_in units (g.meaning up) + 2)) (Starting units (g.meaning up)) (g.meaning up) (g.meaning back)
       → Stopped (g.meaning back) (g.meaning last) → Lawful (g.meaning last) → IsRack (g.meaning last) → CameUpIs n old (Down last) (Err why)
-  refused_at n disks units old rack up back last why old_is is disks_is down alike risen armed lawful after cause moves stopped law is_rack =
+  refused_at n disks units old rack up back last why old_is is disks_is down alike risen armed lawful after cause read moves stopped law is_rack =
       let same : units ≡ raw_units n.disks = is ∙ ap raw_units (disks_is ∙ alike.contents.units ∙ down.units) in
       down_as n old rack last why old_is
       (refused_as n (g.meaning rack) (g.meaning up) (g.meaning back) (g.meaning last) down alike risen armed lawful after
       (subst (λ (u : Units). Moves (Run u.srl 0 (ring_in u (g.meaning up) + 2)) (Starting u (g.meaning up)) (g.meaning up) (g.meaning back)) same moves)
-      stopped law is_rack why (subst (λ (u : Units). StartCause u (g.meaning up) (g.meaning back) why) same cause))
+      stopped law is_rack why (subst (λ (u : Units). StartCause u (g.meaning up) (g.meaning back) why) same cause) read)
 
   -- no site that is down has another engine, or disks that cannot be started
   pub not_started : (n : Node) (e new : Engine R g) (why : No) → StandsAt n e → n.state ≡ IsDown → ((rack : R) → e ≡ Down rack → ⊥) → CameUpIs n e new (Err why)

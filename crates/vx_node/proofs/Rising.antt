@@ -237,33 +237,19 @@ module _ {R : Type 0} {g : Ghosts R} where
         rose = rose_there disk rose;
       }
 
-      limited : (why : No) → why ≡ no_number → StillDown node after → (IsToldAt after → most_number ≤ most_stamp node + 2) → IsToldAt after ⊎ (IsToldAt after → ⊥) → Recovering w s (Refused why) old new
-      limited why is (inl at) most (inl told) = record {
+      limited : (why : No) → why ≡ no_number → StandsAt node after → (IsToldAt after → most_number ≤ most_stamp node + 2) → IsToldAt after ⊎ (IsToldAt after → ⊥) → Recovering w s (Refused why) old new
+      limited why is at most (inl told) = record {
         world = mid;
         fails = [];
-        recovers = NoSession mid begins (most told) (inl (record { none = refl; says = ap (λ (k : No). Refused k) is; leads = refl }));
+        recovers = NoSession mid begins (most told) (record { none = refl; says = ap (λ (k : No). Refused k) is; leads = refl });
         stands = stays at;
         rose = rose_here;
       }
-      limited why is (inr at) most (inl told) = record {
-        world = session_begun mid s;
-        fails = [];
-        recovers = NoSession mid begins (most told) (inr (record { none = refl; says = ap (λ (k : No). Refused k) is; leads = refl }));
-        stands = begun at;
-        rose = rose_here;
-      }
-      limited why is (inl at) most (inr untold) = record {
+      limited why is at most (inr untold) = record {
         world = mid;
         fails = [];
         recovers = Untold (not_all old.engines.items s before after new.engines.items there engines untold);
         stands = stays at;
-        rose = rose_here;
-      }
-      limited why is (inr at) most (inr untold) = record {
-        world = session_begun mid s;
-        fails = [];
-        recovers = Untold (not_all old.engines.items s before after new.engines.items there engines untold);
-        stands = begun at;
         rose = rose_here;
       }
 

@@ -145,7 +145,7 @@ module _ {R : Type 0} {g : Ghosts R} where
   abbrev pub CameUpIs : Node → Engine R g → Engine R g → Result (Unit {0}) No → Type 0
   CameUpIs n old new (Ok done) = CameUp n new
   CameUpIs n old new (Err (Device disk)) = StillDown n new × RoseAt old new disk
-  CameUpIs n old new (Err (Limit what most)) = (Limit what most ≡ no_number) × (IsToldAt new → most_number ≤ most_stamp n + 2) × StillDown n new
+  CameUpIs n old new (Err (Limit what most)) = (Limit what most ≡ no_number) × (IsToldAt new → most_number ≤ most_stamp n + 2) × StandsAt n new
   CameUpIs n old new (Err other) = (IsToldAt new → ⊥) × StandsAt n new
 
   -- the number up to which all writes are in their volumes, or a failing disk; or its fuse ran out, and it crashed

@@ -70,8 +70,7 @@ pub data Recovers (told : Type 0) (w : World) (site : ℕ) (fails : Fails) (said
       → Cleanly fails said (Recovered (mid.nodes site).safe (view_of (came_up mid site) (recovered (mid.nodes site)))) new (came_up mid site) → Recovers told w site fails said new
   StaysDown : (mid : World) (disk : ℕ) → Begins w site mid → FailsAt site disk fails said new mid ⊎ FailsAt site disk fails said new (session_begun mid site) → Recovers told w site fails said new
   NoSession : (mid : World) → Begins w site mid → 0x7fff_ffff_ffff_ffff ≤ most_stamp (mid.nodes site) + 2
-      → Cleanly fails said (Refused (Limit Number 0x7fff_ffff_ffff_ffff)) new mid ⊎ Cleanly fails said (Refused (Limit Number 0x7fff_ffff_ffff_ffff)) new (session_begun mid site)
-      → Recovers told w site fails said new
+      → Cleanly fails said (Refused (Limit Number 0x7fff_ffff_ffff_ffff)) new mid → Recovers told w site fails said new
   Untold : (told → ⊥) → Recovers told w site fails said new
   IsBareStill : (w.nodes site).state ≡ Bare → Cleanly fails said (Refused NoConfig) new w → Recovers told w site fails said new
 

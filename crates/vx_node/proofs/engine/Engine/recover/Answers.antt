@@ -22,4 +22,4 @@ returns-in-Err-clause-recovered g c = λ n stands down ring.
     let is_rack = (g.met.R.Rack g.world.𝓛 g.world.𝓜 g.world.𝓡 ((λ s x. x), (λ x. x), (λ x. x), λ x. x)).rack in
     refused_at n c.units.result c.raw_units-units.result c.args.self c.in-Down.rack c.revive.new.self c.in-Err.rack c.crash.new.self c.in-Err.no c.in-Down.is c.raw_units-units.ensures c.units.ensures
     (subst (λ e. StandsAt n e) c.in-Down.is stands) c.revive.ensures.alike c.revive.ensures.up c.revive.ensures.armed (lawful c.revive.new.self) (lawful c.in-Err.rack)
-    c.in-Err.ensures.cause c.in-Err.ensures.left c.crash.ensures.stopped (lawful c.crash.new.self) (is_rack c.crash.new.self)
+    c.in-Err.ensures.cause c.in-Err.ensures.limit c.in-Err.ensures.left c.crash.ensures.stopped (lawful c.crash.new.self) (is_rack c.crash.new.self)
