@@ -42,10 +42,10 @@ module _ {T U : Type 0} (f : U → T) where
   gets_told c volume start count fails said new next x = record { bytes = x.bytes; size = x.size; shows = λ u. x.shows (f u); cleanly = x.cleanly }
 
   puts_told : (w : World) (site : ℕ) (x : WriteOf) (fails : Fails) (said : Said) (new : World) → Puts T w site x fails said new → Puts U w site x fails said new
-  puts_told w site x fails said new (IsPut below done) = IsPut below done
+  puts_told w site x fails said new (IsPut below exact done) = IsPut below (λ calls u. exact calls (f u)) done
   puts_told w site x fails said new (NoNumber none done) = NoNumber (λ u. none (f u)) done
   puts_told w site x fails said new (PutFails disk fails_at) = PutFails disk fails_at
-  puts_told w site x fails said new (PutCut count fused least most done) = PutCut count fused least most done
+  puts_told w site x fails said new (PutCut count fused least most exact done) = PutCut count fused least most (λ calls u. exact calls (f u)) done
 
   recovers_told : (w : World) (site : ℕ) (fails : Fails) (said : Said) (new : World) → Recovers T w site fails said new → Recovers U w site fails said new
   recovers_told w site fails said new (ComesUp mid begins done) = ComesUp mid begins done

@@ -28,7 +28,7 @@ use Rattle.vx_node.specs.Engines.{CrashedAt, WroteUp, WroteAt, AppliedUp, Applie
 use Rattle.vx_model.specs.declared.no.No.{No}
 use Rattle.vx_model.specs.declared.no.No.TheVariants.{Device, Limit, Down as Off}
 use Rattle.vx_node.specs.Holds.{HasWrites, raw_units, state_of, most_stamp}
-use Rattle.vx_node.specs.Stands.{IsUpAt, IsHeldAt, IsDownAt, CutAt}
+use Rattle.vx_node.specs.Stands.{IsUpAt, IsHeldAt, IsDownAt, CutAt, IsToldAt}
 use Rattle.vx_node.proofs.Staying.{held_up}
 use Rattle.vx_node.proofs.Values.{length-values_from, slice_index-values_from}
 
@@ -183,6 +183,7 @@ module _ (n : Node) (m new : Meaning) (up : IsHeldAt n m) (lawful : Lawful new) 
           whole = up.whole;
           sizes = λ v inside. folded_size n.base (drop n.safe (take k.count n.log)) v ∙ up.sizes v inside;
           others = λ v past. folded_size n.base (drop n.safe (take k.count n.log)) v ∙ up.others v past;
+          begun = λ tells. up.begun (sym stopped.tells ∙ tells);
           left = λ tells.
               let l = k.left tells in
               record {
@@ -219,9 +220,9 @@ module _ {R : Type 0} {g : Ghosts R} where
   cut_crashed n e rvg shelf new is same cut lawful rack stopped = held_crashed n rvg.shelf shelf new same (subst (CutAt n) is cut) lawful rack stopped
 
   -- a write or an apply whose fuse ran out, and the crash behind it
-  pub wrote_off : (n : Node) (x : Write) (old mid new : Engine R g) (why : No) → is_off why ≡ true → WroteUp n x old mid (Err why) → (CutAt (half_begun n x) mid → CrashedAt (half_begun n x) new) → WroteAt n x old new (Err why)
-  wrote_off n x old mid new Off off is falls = (is.0, falls is.1)
-  wrote_off n x old mid new other off is falls = absurd (cc)
+  pub wrote_off : (n : Node) (x : Write) (old mid new : Engine R g) (why : No) → is_off why ≡ true → WroteUp n x old mid (Err why) → (CutAt (half_begun n x) mid → CrashedAt (half_begun n x) new) → (IsToldAt new → IsToldAt mid) → WroteAt n x old new (Err why)
+  wrote_off n x old mid new Off off is falls later = (is.0, falls is.1, λ calls told exact. is.2 calls (later told) exact)
+  wrote_off n x old mid new other off is falls later = absurd (cc)
 
   pub wrote_on : (n : Node) (x : Write) (old new : Engine R g) (why : No) → is_off why ≡ false → WroteUp n x old new (Err why) → WroteAt n x old new (Err why)
   wrote_on n x old new Off off is = absurd (cc)

@@ -20,6 +20,7 @@ use Rattle.vx_disk.specs.Moves.{Moves, Run, Anything}
 use Rattle.vx_disk.proofs.Moving.{kept_beside}
 use Rattle.vx_rvg.specs.Views.{Core, Placed, unit_of, last_of}
 use Rattle.vx_rvg.specs.Groups.{new_core, MakeCause}
+use Rattle.vx_srl.specs.Views.{widths}
 use Rattle.vx_disk.specs.Counts.{Rose}
 use Rattle.vx_disk.specs.declared.shelf.Shelf.{Ghosts}
 use Rattle.vx_model.specs.declared.errors.Stop.{Stop}
@@ -100,7 +101,9 @@ up_still n c m new goes now down fuse up =
       kept = up.kept;
       unlinked = λ told. up.unlinked (sym goes.tells ∙ told);
       session = up.session;
+      begun = λ told. up.begun (sym goes.tells ∙ told);
       stamp = λ told none. up.stamp (sym goes.tells ∙ told) none;
+      fresh = λ told none first room. up.fresh (sym goes.tells ∙ told) none first room;
       first = up.first;
       head = up.head;
       halted = up.halted;
@@ -203,7 +206,9 @@ raw_stands site n c m new lawful unit_is bare some is moves stands = record {
   kept = kept_here;
   unlinked = λ told. refl;
   session = ap (λ (k : Core). k.log.header.incarnation) is;
+  begun = λ told. omega arith;
   stamp = λ told none. omega (arith, ap (λ (k : Core). k.log.header.stamp) is);
+  fresh = λ told none one room. record { place = ap (λ (k : Core). k.log.header.place) is; widths_are = ap (λ (k : Core). widths k.log.held) is };
   first = omega (arith, ap (λ (k : Core). k.log.header.low) is);
   head = head_here;
   halted = ap (λ (k : Core). k.halted) is;

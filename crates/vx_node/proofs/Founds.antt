@@ -15,7 +15,7 @@ use Rattle.vx_rvg.proofs.ContentFacts.{stands_found}
 use Rattle.vx_node.specs.Engines.{halted_with, halted_at}
 use Rattle.vx_node.specs.Holds.{HasWrites, raw_units, state_of, state_with, most_stamp}
 use Rattle.vx_node.specs.Rooms.{IsRoomy}
-use Rattle.vx_node.specs.Fuses.{HasFuse}
+use Rattle.vx_node.specs.Fuses.{HasFuse, IsFirst, taken}
 use Rattle.vx_node.specs.Stands.{IsFitted, IsUpAt}
 use Rattle.vx_node.proofs.Staying.{told_now, found_same, writes_found, SameLog}
 
@@ -96,7 +96,9 @@ module _ (n : Node) (x : Write) (disk : ℕ) where
     kept = up.kept;
     unlinked = up.unlinked;
     session = up.session;
+    begun = up.begun;
     stamp = λ told none. absurd (never_none none);
+    fresh = λ told none. absurd (never_none none);
     first = up.first;
     head = up.head;
     halted = up.halted;
@@ -112,9 +114,9 @@ module _ (n : Node) (x : Write) (disk : ℕ) where
   }
 
   -- while it was logged
-  pub up_half : (c0 c c' : Core) (m0 m new : Meaning) → IsUpAt n c0 m0 → IsRoomy n c m → new.tells ≡ m.tells → IsFitted n.disks n.blocks new → HasFuse (burned n.fuse) new → SameLog c c' → c'.halted ≡ Some disk
+  pub up_half : (c0 c c' : Core) (m0 m new : Meaning) → IsUpAt n c0 m0 → IsRoomy n c m → new.tells ≡ m.tells → IsFitted n.disks n.blocks new → HasFuse (burned n.fuse) new → (IsTrue new.tells → 0 < n.session) → SameLog c c' → c'.halted ≡ Some disk
       → ((i : Image) → new.now i → HasWrites (halted_with n x disk) i) → IsUpAt (halted_with n x disk) c' new
-  up_half c0 c c' m0 m new up roomy tells fitted fuse same halted left = record {
+  up_half c0 c c' m0 m new up roomy tells fitted fuse begun same halted left = record {
     state = up.state;
     fitted = fitted;
     fuse = fuse;
@@ -128,7 +130,9 @@ module _ (n : Node) (x : Write) (disk : ℕ) where
     kept = ap (λ (h : Header). h.state) same.header ∙ roomy.kept;
     unlinked = λ told. roomy.unlinked (sym tells ∙ told);
     session = ap (λ (h : Header). h.incarnation) same.header ∙ roomy.session;
+    begun = begun;
     stamp = λ told none. absurd (never_none none);
+    fresh = λ told none. absurd (never_none none);
     first = omega (arith, roomy.first, ap (λ (h : Header). h.low) same.header);
     head = omega (arith, roomy.head, ap (λ (h : Header). h.low) same.header, ap (λ ks. length ks) same.held);
     halted = halted;
@@ -145,9 +149,9 @@ module _ (n : Node) (x : Write) (disk : ℕ) where
 
 -- a site with one more write
 pub up_logged : (n : Node) (x : Write) (c0 c c' : Core) (m0 m new : Meaning) → IsUpAt n c0 m0 → n.halted ≡ None → IsRoomy n c m → Lawful new → c'.log.unit ≡ c'.units.srl → new.tells ≡ m.tells
-    → IsFitted n.disks n.blocks new → HasFuse (burned n.fuse) new → c'.units ≡ c.units → c'.log.ring ≡ c.log.ring → c'.log.header ≡ c.log.header → c'.halted ≡ c.halted → last_of c' ≡ last_of c + 1
+    → IsFitted n.disks n.blocks new → HasFuse (burned n.fuse) new → (IsTrue new.tells → 0 < n.session) → (IsTrue new.tells → n.session ≡ 1 → taken (n.log ++ x ∷ []) ≤ n.ring → IsFirst c'.log (n.log ++ x ∷ [])) → c'.units ≡ c.units → c'.log.ring ≡ c.log.ring → c'.log.header ≡ c.log.header → c'.halted ≡ c.halted → last_of c' ≡ last_of c + 1
     → (IsTrue new.tells → Stands c' (put n.base x) new) → IsUpAt (logged n x) c' new
-up_logged n x c0 c c' m0 m new up none roomy lawful unit_is tells fitted fuse units ring header halted head content = record {
+up_logged n x c0 c c' m0 m new up none roomy lawful unit_is tells fitted fuse begun fresh units ring header halted head content = record {
   state = up.state;
   fitted = fitted;
   fuse = fuse;
@@ -161,7 +165,9 @@ up_logged n x c0 c c' m0 m new up none roomy lawful unit_is tells fitted fuse un
   kept = ap (λ (h : Header). h.state) header ∙ roomy.kept;
   unlinked = λ told. roomy.unlinked (sym tells ∙ told);
   session = ap (λ (h : Header). h.incarnation) header ∙ roomy.session;
+  begun = begun;
   stamp = λ told _. stamped told;
+  fresh = λ told _ one room. fresh told one room;
   first = omega (arith, roomy.first, ap (λ (h : Header). h.low) header);
   head = head_is;
   halted = halted ∙ roomy.running ∙ sym none;

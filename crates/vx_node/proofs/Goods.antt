@@ -69,13 +69,13 @@ worked_sound : (w : World) (s : ℕ) → Sound w → (w.nodes s).state ≡ Up �
 worked_sound w s sound up = fuse_sound w s (burned (w.nodes s).fuse) sound up (good_worked w s sound.good (up_is_made (w.nodes s) up))
 
 good_puts : (told : Type 0) (w : World) (s : ℕ) (x : WriteOf) (fails : Fails) (said : Said) (new : World) → Sound w → IsWorking (w.nodes s) → Puts told w s x fails said new → Sound new
-good_puts told w s x fails said new sound working (IsPut below done) = sound_as new (written w s x) done.leads
+good_puts told w s x fails said new sound working (IsPut below exact done) = sound_as new (written w s x) done.leads
     (sound_changed w (written w s x) s (logged (w.nodes s) x) sound (good_written w s x sound.good working) (λ k. refl) working.origin (λ down. absurd (up_not_down working.up down)))
 good_puts told w s x fails said new sound working (NoNumber past done) = sound_as new (worked_on w s) done.leads (worked_sound w s sound working.up)
 good_puts told w s x fails said new sound working (PutFails disk done) = sound_as new (half_written w s x disk) done.leads
     (sound_changed w (half_written w s x disk) s (halted_with (w.nodes s) x disk) sound (good_half_written w s x disk sound.good working) (λ k. refl) working.origin (λ down. absurd (up_not_down working.up down)))
 
-good_puts told w s x fails said new sound working (PutCut count fused least most done) = sound_as new (cut_write w s x count) done.leads
+good_puts told w s x fails said new sound working (PutCut count fused least most exact done) = sound_as new (cut_write w s x count) done.leads
     (sound_changed w (cut_write w s x count) s (crashed (half_begun (w.nodes s) x) count) sound
     (good_cut w s x count sound.good (up_is_made (w.nodes s) working.up) working.origin least most) (λ k. refl) working.origin
     (λ _. omega (arith, kept_length (half_begun (w.nodes s) x) count least (omega (arith, most, length-append (w.nodes s).log (x ∷ []))))))

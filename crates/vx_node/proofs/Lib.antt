@@ -5,6 +5,7 @@ pub mod Changing
 pub mod Crashing
 pub mod Disks
 pub mod Engines
+pub mod Exacting
 pub mod Falling
 pub mod Founds
 pub mod Fusing

@@ -25,9 +25,10 @@ use Rattle.vx_rvg.proofs.ContentFacts.{stands_found}
 use Rattle.vx_node.specs.Engines.{CanWrite, WroteUp, halted_with, worked, no_number}
 use Rattle.vx_node.specs.Holds.{HasWrites, raw_units, most_stamp}
 use Rattle.vx_node.specs.Rooms.{IsRoomy, RoomIs}
-use Rattle.vx_node.specs.Fuses.{IsFused, HasFuse}
+use Rattle.vx_node.specs.Fuses.{HasFuse, IsFused, IsExact, IsFirst, taken}
 use Rattle.vx_node.specs.Stands.{IsFitted, IsUpAt, IsHeldAt}
 use Rattle.vx_node.proofs.Applying.{ended_log}
+use Rattle.vx_node.proofs.Exacting.{first_pushed, taken_many, taken_push}
 use Rattle.vx_node.proofs.Founds.{has_begun, half_begins, has_half, has_whole, has_safe, half_of, up_half, up_logged}
 use Rattle.vx_node.proofs.Rooming.{rose_later}
 use Rattle.vx_node.proofs.Staying.{told_now, never_both, left_moved, fitted_moved, fused_by, fuse_moved, burned_twice, fused_before, SameLog}
@@ -35,10 +36,10 @@ use Rattle.vx_node.proofs.Values.{slice_index-values_from}
 
 -- what a write answers of a site
 abbrev pub WroteAs : Node → Write → Meaning → Core → Meaning → Result ℕ No → Type 0
-WroteAs n x m c' new (Ok number) = (number ≡ n.safe + 1) × (n.safe < most_number) × IsUpAt (logged n x) c' new
+WroteAs n x m c' new (Ok number) = (number ≡ n.safe + 1) × (n.safe < most_number) × IsUpAt (logged n x) c' new × ((calls : ℕ) → IsTrue new.tells → IsExact n x calls → 4 ≤ calls)
 WroteAs n x m c' new (Err (Device disk)) = IsUpAt (halted_with n x disk) c' new × Rose (m.disk_faults disk) (new.disk_faults disk)
 WroteAs n x m c' new (Err (Limit what most)) = (Limit what most ≡ no_number) × (IsTrue new.tells → most_number ≤ most_stamp n) × IsUpAt (worked n) c' new
-WroteAs n x m c' new (Err Down) = IsFused n.fuse × IsHeldAt (half_begun n x) new
+WroteAs n x m c' new (Err Down) = IsFused n.fuse × IsHeldAt (half_begun n x) new × ((calls : ℕ) → IsTrue new.tells → IsExact n x calls → calls < 4)
 WroteAs n x m c' new (Err other) = ⊥
 
 -- the tests of a write of which only the number is not known to pass
@@ -70,7 +71,7 @@ pushed : (low : ℕ) (held staged : List Kept) (k : Kept) → 0 < low → length
 pushed low held staged k first idle = omega (arith, first, idle, length-append held (staged ++ k ∷ []), length-append staged (k ∷ []))
 
 module _ (n : Node) (volume start : ℕ) (bytes : List ℕ) (c0 c c' : Core) (m0 m new : Meaning) (up : IsUpAt n c0 m0) (can : CanWrite n volume start (blocks_in bytes)) (roomy : IsRoomy n c m)
-    (lawful : Lawful m) (after : Lawful new) (sound : IsSound c m) (sound' : IsSound c' new)
+    (before : IsTrue m.tells → IsTrue m0.tells) (lawful : Lawful m) (after : Lawful new) (sound : IsSound c m) (sound' : IsSound c' new)
     (moves : Moves (Run c.units.srl 0 (c.log.ring + 2)) (Writing c (record { volume = volume; start = start; bytes = bytes }) m) m new) where
   abbrev x : Write
   x = record { volume = volume; start = start; bytes = bytes }
@@ -84,8 +85,8 @@ module _ (n : Node) (volume start : ℕ) (bytes : List ℕ) (c0 c c' : Core) (m0
       ∙ roomy.fitted.size (1 + volume) (omega (arith, can.volume_exists))
 
   -- it is up, and its log has used no stamp
-  up_roomy : (IsTrue m.tells → c.log.header.stamp + 1 ≤ most_stamp n) → IsUpAt (worked n) c m
-  up_roomy stamp = record {
+  up_roomy : most_number ≤ n.safe → (IsTrue m.tells → c.log.header.stamp + 1 ≤ most_stamp n) → IsUpAt (worked n) c m
+  up_roomy past stamp = record {
     state = up.state;
     fitted = roomy.fitted;
     fuse = roomy.fuse;
@@ -99,7 +100,9 @@ module _ (n : Node) (volume start : ℕ) (bytes : List ℕ) (c0 c c' : Core) (m0
     kept = roomy.kept;
     unlinked = roomy.unlinked;
     session = roomy.session;
+    begun = λ told. up.begun (before told);
     stamp = λ told _. stamp told;
+    fresh = λ told none one room. absurd (omega (arith, past, many, taken_many n.log, room, up.ring_is));
     first = roomy.first;
     head = roomy.head;
     halted = roomy.running ∙ sym can.running;
@@ -130,6 +133,9 @@ module _ (n : Node) (volume start : ℕ) (bytes : List ℕ) (c0 c c' : Core) (m0
       (writing.each n.base (roomy.content told)))
       (left_moved (Run c.units.srl 0 (c.log.ring + 2)) (Writing c x m) m new i lawful after moves now)
 
+  begun_new : IsTrue new.tells → 0 < n.session
+  begun_new told = up.begun (before (sym moves.tells ∙ told))
+
   -- its fuse ran out
   pub write_cut : IsTrue new.down → IsFused n.fuse × IsHeldAt (half_begun n x) new
   write_cut down = (
@@ -147,6 +153,7 @@ module _ (n : Node) (volume start : ℕ) (bytes : List ℕ) (c0 c c' : Core) (m0
       whole = up.whole;
       sizes = up.sizes;
       others = up.others;
+      begun = begun_new;
       left = λ i now. half_begins n x 0 i (half_left 0 i now);
     },
   )
@@ -157,45 +164,49 @@ module _ (n : Node) (volume start : ℕ) (bytes : List ℕ) (c0 c c' : Core) (m0
       ∙ pushed c.log.header.low c.log.held c.log.staged (kept_of c.log volume start bytes) roomy.first (ap (λ (ks : List Kept). length ks) (sound.idle roomy.running roomy.fitted.up))
 
   -- the shelf is up behind it
-  module _ (still : IsFalse new.down) where
+  module _ (still : IsFalse new.down) (first : IsTrue m.tells → n.session ≡ 1 → taken n.log + (blocks_in bytes + 1) ≤ n.ring → IsFirst c.log n.log) where
     fitted_new : IsFitted n.disks n.blocks new
     fitted_new = fitted_moved n.disks n.blocks (Run c.units.srl 0 (c.log.ring + 2)) (Writing c x m) m new moves roomy.fitted still
 
-    by_writes : (result : Result ℕ No) → last_of c < most_number → Writes c volume start bytes m new c' result → OnOk result ((k : Content) → Stands c k m → Stands c' (put k x) new) → WroteAs n x m c' new result
-    by_writes (Ok number) below is stands = (
+    by_writes : (result : Result ℕ No) → last_of c < most_number → Writes c volume start bytes m new c' result → OnOk result ((k : Content) → Stands c k m → Stands c' (put k x) new)
+        → ((calls : ℕ) → IsTrue new.tells → IsExact n x calls → OnOk result (4 ≤ calls)) → WroteAs n x m c' new result
+    by_writes (Ok number) below is stands exact = (
       is.0 ∙ ap (λ (k : ℕ). k + 1) roomy.head,
       omega (arith, below, roomy.head),
-      up_logged n x c0 c c' m0 m new up can.running roomy after sound'.log_unit moves.tells fitted_new fuse_new (ap (λ (k : Core). k.units) is.1) (ap (λ (k : Core). k.log.ring) is.1)
+      up_logged n x c0 c c' m0 m new up can.running roomy after sound'.log_unit moves.tells fitted_new fuse_new begun_new
+          (λ told one room. first_pushed c c' n.log volume start bytes is.1 (sound.idle roomy.running roomy.fitted.up) (first (sym moves.tells ∙ told) one (let more = taken_push n.log x in omega (arith, room, more))))
+          (ap (λ (k : Core). k.units) is.1) (ap (λ (k : Core). k.log.ring) is.1)
           (ap (λ (k : Core). k.log.header) is.1) (ap (λ (k : Core). k.halted) is.1) (head_more is.1) (λ told. stands n.base (roomy.content (sym moves.tells ∙ told))),
+      exact,
     )
-    by_writes (Err (Device disk)) below is stands = (up_half n x disk c0 c c' m0 m new up roomy moves.tells fitted_new fuse_new (ended_log c (Some disk) c' is.0) is.0.halted_is (half_left disk), is.1)
-    by_writes (Err Down) below is stands = absurd (never_both new.down is.1 still)
-    by_writes (Err (Limit what most)) below is stands = absurd is
-    by_writes (Err other) below is stands = is
+    by_writes (Err (Device disk)) below is stands exact = (up_half n x disk c0 c c' m0 m new up roomy moves.tells fitted_new fuse_new begun_new (ended_log c (Some disk) c' is.0) is.0.halted_is (half_left disk), is.1)
+    by_writes (Err Down) below is stands exact = absurd (never_both new.down is.1 still)
+    by_writes (Err (Limit what most)) below is stands exact = absurd is
+    by_writes (Err other) below is stands exact = is
 
     by_number : (o : Option No) (result : Result ℕ No) → Number (last_of c) o → WriteIs o c volume start bytes m new c' result → (IsSome o → new ≡ m)
-        → OnOk result ((k : Content) → Stands c k m → Stands c' (put k x) new) → WroteAs n x m c' new result
-    by_number o result (SomeLeft below is_none) is unchanged stands = by_writes result below (subst (λ (k : Option No). WriteIs k c volume start bytes m new c' result) is_none is) stands
-    by_number o result (NoneLeft past is_some) is unchanged stands =
+        → OnOk result ((k : Content) → Stands c k m → Stands c' (put k x) new) → ((calls : ℕ) → IsTrue new.tells → IsExact n x calls → OnOk result (4 ≤ calls)) → WroteAs n x m c' new result
+    by_number o result (SomeLeft below is_none) is unchanged stands exact = by_writes result below (subst (λ (k : Option No). WriteIs k c volume start bytes m new c' result) is_none is) stands exact
+    by_number o result (NoneLeft past is_some) is unchanged stands exact =
         let refused = subst (λ (k : Option No). WriteIs k c volume start bytes m new c' result) is_some is in
         let stays : new ≡ m = unchanged (subst (λ (k : Option No). IsSome k) (sym is_some) refl) in
         subst (λ (r : Result ℕ No). WroteAs n x m c' new r) (sym refused.0) (
           refl,
           (λ told. omega (arith, past, roomy.head)),
-          subst (λ (k : Core). IsUpAt (worked n) k new) (sym refused.1) (subst (λ (k : Meaning). IsUpAt (worked n) c k) (sym stays) (up_roomy (λ told. roomy.unused told (omega (arith, past, roomy.head))))),
+          subst (λ (k : Core). IsUpAt (worked n) k new) (sym refused.1) (subst (λ (k : Meaning). IsUpAt (worked n) c k) (sym stays) (up_roomy (omega (arith, past, roomy.head)) (λ told. roomy.unused told (omega (arith, past, roomy.head))))),
         )
 
     -- what a write answers
     pub written_as : (result : Result ℕ No) → WriteIs (write_refusal c (m.size (unit_of c.units.vols volume)) start (blocks_in bytes)) c volume start bytes m new c' result
         → (IsSome (write_refusal c (m.size (unit_of c.units.vols volume)) start (blocks_in bytes)) → new ≡ m)
-        → OnOk result ((k : Content) → Stands c k m → Stands c' (put k x) new) → WroteAs n x m c' new result
-    written_as result is unchanged stands =
+        → OnOk result ((k : Content) → Stands c k m → Stands c' (put k x) new) → ((calls : ℕ) → IsTrue new.tells → IsExact n x calls → OnOk result (4 ≤ calls)) → WroteAs n x m c' new result
+    written_as result is unchanged stands exact =
         let refusal : write_refusal c (m.size (unit_of c.units.vols volume)) start (blocks_in bytes) ≡ number_test (last_of c)
         = ap (λ (h : Option ℕ). unless_halted h (tests c.log.ring (m.size (unit_of c.units.vols volume)) start (blocks_in bytes) (last_of c))) roomy.running
         ∙ tests_pass c.log.ring (m.size (unit_of c.units.vols volume)) start (blocks_in bytes) (last_of c) (omega (arith, can.fits, roomy.ring)) (omega (arith, can.within, size)) in
         by_number (number_test (last_of c)) result (number_by (last_of c) (leb most_number (last_of c)) refl)
         (subst (λ (o : Option No). WriteIs o c volume start bytes m new c' result) refusal is)
-        (subst (λ (o : Option No). IsSome o → new ≡ m) refusal unchanged) stands
+        (subst (λ (o : Option No). IsSome o → new ≡ m) refusal unchanged) stands exact
 
 held_begun : (n : Node) (x : Write) (m : Meaning) → IsHeldAt n m → IsHeldAt (half_begun n x) m
 held_begun n x m held = record {
@@ -211,15 +222,16 @@ held_begun n x m held = record {
   whole = held.whole;
   sizes = held.sizes;
   others = held.others;
+  begun = held.begun;
   left = λ i now. has_begun n x i (held.left i now);
 }
 
 -- room that was not made refuses the write
-pub unroomed : (n : Node) (x : Write) (c' : Core) (m new : Meaning) (no : No) → RoomIs n m c' new (Err no) → WroteAs n x m c' new (Err no)
-unroomed n x c' m new (Device disk) is = (half_of n x disk c' new is.0, is.1)
-unroomed n x c' m new (Limit what most) is = is
-unroomed n x c' m new Down is = (is.0, held_begun n x new is.1)
-unroomed n x c' m new other is = is
+pub unroomed : (n : Node) (x : Write) (c' : Core) (m new : Meaning) (no : No) → ((calls : ℕ) → IsTrue new.tells → IsExact n x calls → ⊥) → RoomIs n m c' new (Err no) → WroteAs n x m c' new (Err no)
+unroomed n x c' m new (Device disk) never is = (half_of n x disk c' new is.0, is.1)
+unroomed n x c' m new (Limit what most) never is = is
+unroomed n x c' m new Down never is = (is.0, held_begun n x new is.1, λ calls told exact. absurd (never calls told exact))
+unroomed n x c' m new other never is = is
 
 -- a call that moved the shelf, and then the write
 pub wrote_later : (n : Node) (x : Write) (c' : Core) (m mid new : Meaning) (result : Result ℕ No) → ((d : ℕ) → m.disk_faults d ≤ mid.disk_faults d) → WroteAs n x mid c' new result → WroteAs n x m c' new result

@@ -86,6 +86,7 @@ down_still n m new goes down armed is = record {
   whole = is.whole;
   sizes = is.sizes;
   others = is.others;
+  begun = λ tells. is.begun (sym goes.tells ∙ tells);
   left = λ tells. left_still (raw_units n.disks) n.ring (state_of n) n.session (most_stamp n) n.safe n.base m new goes.tells goes.size
       (λ u b v left. ⊎_elim (λ was. was) (λ none. absurd none) (goes.leaves u b v left)) (is.left (sym goes.tells ∙ tells));
 }
@@ -143,11 +144,11 @@ module _ (n : Node) (m up : Meaning) (is : IsDownAt n m) (alike : Alike m up) (r
     still_up down = never_both up.down (moves.safe unarmed down) risen
 
     -- with the log that a start took up
-    started_up : (core : Core) (state : State) (session last : ℕ) (log : List Write) → IsStarted units up core new → core.log.header.state ≡ state → (IsTrue new.tells → state.links ≡ [])
+    started_up : (core : Core) (state : State) (session last : ℕ) (log : List Write) → (IsTrue new.tells → 1 < session) → IsStarted units up core new → core.log.header.state ≡ state → (IsTrue new.tells → state.links ≡ [])
         → core.log.header.incarnation ≡ session → (IsTrue new.tells → core.log.header.stamp + 1 ≤ most_stamp (found_site n state session last log)) → last_of core ≡ last → length log ≡ last
         → (IsTrue new.tells → Stands core n.base new) → ((i : Image) → new.now i → HasWrites (found_site n state session last log) i)
         → IsUpAt (found_site n state session last log) core new
-    started_up core state session last log started kept unlinked incarnation stamp head logged content left = record {
+    started_up core state session last log begun started kept unlinked incarnation stamp head logged content left = record {
       state = refl;
       fitted = record {
         units = moves.units ∙ alike.contents.units ∙ is.units;
@@ -165,7 +166,9 @@ module _ (n : Node) (m up : Meaning) (is : IsDownAt n m) (alike : Alike m up) (r
       kept = kept;
       unlinked = unlinked;
       session = incarnation;
+      begun = λ tells. let more = begun tells in omega (arith, more);
       stamp = λ tells _. stamp tells;
+      fresh = λ tells _ one room. let more = begun tells in absurd (omega (arith, more, one));
       first = omega (arith, started.applied);
       head = head;
       halted = started.running;
@@ -191,7 +194,7 @@ module _ (n : Node) (m up : Meaning) (is : IsDownAt n m) (alike : Alike m up) (r
           node = recovered n;
           is = λ _. refl;
           same = same_disks (state_of n) (n.session + 1) n.safe n.log;
-          stands = started_up core (state_of n) (n.session + 1) n.safe n.log started has.0 (λ _. refl) has.1 (λ _. omega (arith, has.2)) has.3 is.logged (λ _. has.4)
+          stands = started_up core (state_of n) (n.session + 1) n.safe n.log (λ _. let some = is.begun (sym alike.contents.tells ∙ told) in omega (arith, some)) started has.0 (λ _. refl) has.1 (λ _. omega (arith, has.2)) has.3 is.logged (λ _. has.4)
               (λ i now. writes_found (recovered n) core i started.units_are (started.ring_is ∙ ring_here) has.0 has.1 (omega (arith, has.2)) has.3 (omega (arith, is.logged))
               (stands_found core n.base new i unit_is after has.4 now));
         }
@@ -199,7 +202,7 @@ module _ (n : Node) (m up : Meaning) (is : IsDownAt n m) (alike : Alike m up) (r
       node = found_site n core.log.header.state core.log.header.incarnation (last_of core) (replicate (last_of core) nothing);
       is = λ tells. absurd (never_untold tells untold);
       same = same_disks core.log.header.state core.log.header.incarnation (last_of core) (replicate (last_of core) nothing);
-      stands = started_up core core.log.header.state core.log.header.incarnation (last_of core) (replicate (last_of core) nothing) started refl (λ tells. absurd (never_untold tells untold)) refl
+      stands = started_up core core.log.header.state core.log.header.incarnation (last_of core) (replicate (last_of core) nothing) (λ tells. absurd (never_untold tells untold)) started refl (λ tells. absurd (never_untold tells untold)) refl
           (λ tells. absurd (never_untold tells untold)) refl (length-replicate {A = Write} (last_of core) nothing) (λ tells. absurd (never_untold tells untold))
           (λ i now. absurd (never_untold (told_now new i after now) untold));
     }
@@ -232,10 +235,13 @@ module _ (n : Node) (m up new last : Meaning) (is : IsDownAt n m) (alike : Alike
   left_here : IsTrue last.tells → Left (raw_units n.disks) (ring_in (raw_units n.disks) up) (state_of n) n.session (most_stamp n) n.safe n.base up
   left_here tells = left_up n m up is alike risen armed (told_up tells)
 
+  begun_here : IsTrue last.tells → 0 < n.session
+  begun_here tells = is.begun (sym alike.contents.tells ∙ told_up tells)
+
   -- down in a session, with what is left there where contents are told
-  down_with : (session : ℕ) → (IsTrue last.tells → Left (raw_units n.disks) n.ring (state_of n) session (most_stamp (record n { session = session })) n.safe n.base last)
+  down_with : (session : ℕ) → (IsTrue last.tells → 0 < session) → (IsTrue last.tells → Left (raw_units n.disks) n.ring (state_of n) session (most_stamp (record n { session = session })) n.safe n.base last)
       → IsDownAt (record n { session = session }) last
-  down_with session left = record {
+  down_with session begun left = record {
     state = is.state;
     unfused = is.unfused;
     units = stopped.units ∙ moves.units ∙ alike.contents.units ∙ is.units;
@@ -252,6 +258,7 @@ module _ (n : Node) (m up new last : Meaning) (is : IsDownAt n m) (alike : Alike
     whole = is.whole;
     sizes = is.sizes;
     others = is.others;
+    begun = begun;
     left = left;
   }
 
@@ -259,11 +266,11 @@ module _ (n : Node) (m up new last : Meaning) (is : IsDownAt n m) (alike : Alike
   still_down true tells =
       let i = law.image tells in
       ⊎_elim
-      (λ was. inl (down_with n.session (λ _. at n.session (most_stamp n) i.0 i.1
+      (λ was. inl (down_with n.session begun_here (λ _. at n.session (most_stamp n) i.0 i.1
       (left_found (raw_units n.disks) (ring_in (raw_units n.disks) up) (state_of n) n.session (most_stamp n) n.safe n.base up i.0 lawful was (left_here tells)))))
       (λ starting. ⊎_elim
-      (λ old. inl (down_with n.session (λ _. at n.session (most_stamp n) i.0 i.1 old)))
-      (λ next. inr (down_with (n.session + 1) (λ _. at (n.session + 1) (most_stamp (record n { session = n.session + 1 })) i.0 i.1
+      (λ old. inl (down_with n.session begun_here (λ _. at n.session (most_stamp n) i.0 i.1 old)))
+      (λ next. inr (down_with (n.session + 1) (λ _. omega arith) (λ _. at (n.session + 1) (most_stamp (record n { session = n.session + 1 })) i.0 i.1
       (found_below (raw_units n.disks) (ring_in (raw_units n.disks) up) (state_of n) (n.session + 1) (most_stamp n + 3) (most_stamp (record n { session = n.session + 1 })) n.safe n.base i.0 (omega arith) next))))
       (starting.each (state_of n) n.session (most_stamp n) n.safe n.base (left_here tells)))
       (left_moved (Run (raw_units n.disks).srl 0 (ring_in (raw_units n.disks) up + 2)) (Starting (raw_units n.disks) up) up new i.0 lawful after moves (stopped.now i.0 i.1))
@@ -275,7 +282,7 @@ module _ (n : Node) (m up new last : Meaning) (is : IsDownAt n m) (alike : Alike
           (found_left (raw_units n.disks) (ring_in (raw_units n.disks) up) (state_of n) session stamp n.safe n.base last i tells
           (λ u b. one_value last i u b law rack stopped.down tells now)
           (site_sizes n.disks n.blocks n.base last is.disks (λ u there. stopped.size u ∙ moves.size u ∙ alike.contents.size u ∙ is.size u there) is.sizes is.others) found)
-  still_down false untold = inl (down_with n.session (λ tells. absurd (never_untold tells untold)))
+  still_down false untold = inl (down_with n.session begun_here (λ tells. absurd (never_untold tells untold)))
 
   rose : (disk : ℕ) → Rose (up.disk_faults disk) (new.disk_faults disk) → Rose (m.disk_faults disk) (last.disk_faults disk)
   rose disk r =
@@ -286,11 +293,11 @@ module _ (n : Node) (m up new last : Meaning) (is : IsDownAt n m) (alike : Alike
   nothing_left : NothingLeft (raw_units n.disks) up → (IsTrue last.tells → ⊥) × IsDownAt n last
   nothing_left none =
       let untold : IsTrue last.tells → ⊥ = λ tells. none (state_of n) n.session (most_stamp n) n.safe n.base (left_here tells) in
-      (untold, down_with n.session (λ tells. absurd (untold tells)))
+      (untold, down_with n.session begun_here (λ tells. absurd (untold tells)))
 
   -- its disks were only read
   only_read : Goes Nothing up new → IsDownAt n last
-  only_read goes = down_with n.session (λ tells.
+  only_read goes = down_with n.session begun_here (λ tells.
       subst (λ (r : ℕ). Left (raw_units n.disks) r (state_of n) n.session (most_stamp n) n.safe n.base last) (ring_here n m up is alike risen armed)
       (left_still (raw_units n.disks) (ring_in (raw_units n.disks) up) (state_of n) n.session (most_stamp n) n.safe n.base up last (stopped.tells ∙ goes.tells) (λ u. stopped.size u ∙ goes.size u)
       (λ u b v left. ⊎_elim (λ was. was) (λ none. absurd none) (goes.leaves u b v (stopped.leaves u b v left))) (left_here tells)))

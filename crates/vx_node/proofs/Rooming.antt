@@ -285,6 +285,7 @@ held_again n m held = record {
   whole = held.whole;
   sizes = held.sizes;
   others = held.others;
+  begun = held.begun;
   left = λ i now. let has = held.left i now in record { count = has.count; least = has.least; most = has.most; found = has.found };
 }
 

@@ -7,6 +7,7 @@ use Rattle.vx_model.specs.Steps.{burned}
 use Rattle.vx_model.specs.declared.state.State.{State}
 use Rattle.vx_model.specs.declared.units.Units.{Units}
 use Rattle.vx_srlfmt.specs.declared.header.Header.{Header}
+use Rattle.vx_srl.specs.Views.{widths}
 use Rattle.vx_srl.specs.declared.kept.Kept.{Kept}
 use Rattle.vx_disk.specs.Shelf.{Meaning, Image, Lawful}
 use Rattle.vx_disk.specs.Moves.{Blocks, Says, Beside, Moves}
@@ -155,7 +156,10 @@ up_with n c c' m new h f mine P moves still fuse up same halted running content 
   kept = ap (λ (x : Header). x.state) same.header ∙ up.kept;
   unlinked = λ told. up.unlinked (sym moves.tells ∙ told);
   session = ap (λ (x : Header). x.incarnation) same.header ∙ up.session;
+  begun = λ told. up.begun (sym moves.tells ∙ told);
   stamp = λ told none. let t = up.stamp (sym moves.tells ∙ told) (running none) in omega (arith, t, ap (λ (x : Header). x.stamp) same.header);
+  fresh = λ told none first room. let f = up.fresh (sym moves.tells ∙ told) (running none) first room in
+      record { place = ap (λ (x : Header). x.place) same.header ∙ f.place; widths_are = ap widths same.held ∙ f.widths_are };
   first = omega (arith, up.first, ap (λ (x : Header). x.low) same.header);
   head = omega (arith, up.head, ap (λ (x : Header). x.low) same.header, ap (λ (xs : List Kept). length xs) same.held);
   halted = halted;
@@ -186,7 +190,9 @@ up_worked n c m up = record {
   kept = up.kept;
   unlinked = up.unlinked;
   session = up.session;
+  begun = up.begun;
   stamp = up.stamp;
+  fresh = up.fresh;
   first = up.first;
   head = up.head;
   halted = up.halted;
@@ -217,6 +223,7 @@ held_moved n c m new mine P moves up left = record {
   whole = up.whole;
   sizes = up.sizes;
   others = up.others;
+  begun = λ told. up.begun (sym moves.tells ∙ told);
   left = left;
 }
 
@@ -234,5 +241,6 @@ held_up n c m up = record {
   whole = up.whole;
   sizes = up.sizes;
   others = up.others;
+  begun = up.begun;
   left = up.left;
 }

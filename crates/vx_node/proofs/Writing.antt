@@ -186,7 +186,7 @@ module _ {R : Type 0} {g : Ghosts R} where
   done_at w old new s number x f' e after stands below there later wrote is facts engines racks = record {
     world = written w s x;
     fails = [];
-    puts = IsPut wrote.1 (record { none = refl; says = ap (λ (k : ℕ). DoneAt k) wrote.0; leads = refl });
+    puts = IsPut wrote.1 (λ calls told. wrote.3 calls (told.each s after (ap (λ es. slice_get es s) engines ∙ get-set_same old.engines.items s after (slice_get_within old.engines.items s e there)))) (record { none = refl; says = ap (λ (k : ℕ). DoneAt k) wrote.0; leads = refl });
     stands = stands_new w (written w s x) old new stands
         (facts ∙ ap (λ (fs : List SiteFacts). slice_set fs s f') stands.facts
         ∙ ap (λ (f : SiteFacts). slice_set (facts_of w) s f) (is ∙ ap (λ (k : ℕ). last_facts k (site_fact (w.nodes s))) wrote.0 ∙ last_fact (w.nodes s) x)
@@ -228,7 +228,9 @@ module _ {R : Type 0} {g : Ghosts R} where
       record {
         world = cut_write w s x has.count;
         fails = [];
-        puts = PutCut has.count wrote.0 has.least (omega (arith, has.most, length-append (w.nodes s).log (x ∷ []))) (record { none = refl; says = refl; leads = refl });
+        puts = PutCut has.count wrote.0 has.least (omega (arith, has.most, length-append (w.nodes s).log (x ∷ [])))
+            (λ calls told. wrote.2 calls (told.each s after (ap (λ es. slice_get es s) engines ∙ get-set_same old.engines.items s after (slice_get_within old.engines.items s e there))))
+            (record { none = refl; says = refl; leads = refl });
         stands = stands_set w (cut_write w s x has.count) old new s (crashed (half_begun (w.nodes s) x) has.count) f' after stands below refl (λ k. refl) has.stands is refl facts engines racks;
         rose = rose_still old new s e after there later engines;
       }

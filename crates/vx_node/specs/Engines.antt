@@ -17,7 +17,7 @@ use Rattle.vx_rvg.specs.Contents.{Shows}
 use Rattle.vx_srl.specs.Views.{most_number}
 use Rattle.vx_node.specs.declared.engine.Engine.{Engine}
 use Rattle.vx_node.specs.Holds.{most_stamp}
-use Rattle.vx_node.specs.Fuses.{IsFused}
+use Rattle.vx_node.specs.Fuses.{IsFused, IsExact}
 use Rattle.vx_node.specs.Stands.{StandsAt, CutAt, IsUnused, IsToldAt, faults_at}
 
 -- a write that nothing but a failing disk or want of a number can refuse
@@ -110,18 +110,18 @@ module _ {R : Type 0} {g : Ghosts R} where
 
   -- the next number, or a failing disk, or want of a number; or its fuse ran out, and it crashed
   abbrev pub WroteAt : Node → Write → Engine R g → Engine R g → Result ℕ No → Type 0
-  WroteAt n x old new (Ok number) = (number ≡ n.safe + 1) × (n.safe < most_number) × StandsAt (logged n x) new
+  WroteAt n x old new (Ok number) = (number ≡ n.safe + 1) × (n.safe < most_number) × StandsAt (logged n x) new × ((calls : ℕ) → IsToldAt new → IsExact n x calls → 4 ≤ calls)
   WroteAt n x old new (Err (Device disk)) = StandsAt (halted_with n x disk) new × RoseAt old new disk
   WroteAt n x old new (Err (Limit what most)) = (Limit what most ≡ no_number) × (IsToldAt new → most_number ≤ most_stamp n) × StandsAt (worked n) new
-  WroteAt n x old new (Err IsDown) = IsFused n.fuse × CrashedAt (half_begun n x) new
+  WroteAt n x old new (Err IsDown) = IsFused n.fuse × CrashedAt (half_begun n x) new × ((calls : ℕ) → IsToldAt new → IsExact n x calls → calls < 4)
   WroteAt n x old new (Err other) = ⊥
 
   -- the same where the fuse ran out, and it has not crashed yet
   abbrev pub WroteUp : Node → Write → Engine R g → Engine R g → Result ℕ No → Type 0
-  WroteUp n x old new (Ok number) = (number ≡ n.safe + 1) × (n.safe < most_number) × StandsAt (logged n x) new
+  WroteUp n x old new (Ok number) = (number ≡ n.safe + 1) × (n.safe < most_number) × StandsAt (logged n x) new × ((calls : ℕ) → IsToldAt new → IsExact n x calls → 4 ≤ calls)
   WroteUp n x old new (Err (Device disk)) = StandsAt (halted_with n x disk) new × RoseAt old new disk
   WroteUp n x old new (Err (Limit what most)) = (Limit what most ≡ no_number) × (IsToldAt new → most_number ≤ most_stamp n) × StandsAt (worked n) new
-  WroteUp n x old new (Err IsDown) = IsFused n.fuse × CutAt (half_begun n x) new
+  WroteUp n x old new (Err IsDown) = IsFused n.fuse × CutAt (half_begun n x) new × ((calls : ℕ) → IsToldAt new → IsExact n x calls → calls < 4)
   WroteUp n x old new (Err other) = ⊥
 
   -- the blocks, which are those of the content where it is told, or a failing disk

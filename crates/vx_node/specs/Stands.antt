@@ -11,7 +11,7 @@ use Rattle.vx_rvg.specs.Stands.{Left, Stands}
 use Rattle.vx_rvg.specs.Views.{Core, last_of}
 use Rattle.vx_node.specs.declared.engine.Engine.{Engine}
 use Rattle.vx_node.specs.declared.engine.Engine.TheVariants.{Bare, Up, Down, Gone}
-use Rattle.vx_node.specs.Fuses.{HasFuse}
+use Rattle.vx_node.specs.Fuses.{HasFuse, IsFirst, taken}
 use Rattle.vx_node.specs.Holds.{HasWrites, raw_units, state_of, state_with, most_stamp}
 use Rattle.vx_node.specs.Steps.{Fails}
 
@@ -52,7 +52,10 @@ pub record IsUpAt (n : Node) (c : Core) (m : Meaning) : Type 0 where
   pub kept : c.log.header.state ≡ state_with n links
   pub unlinked : IsTrue m.tells → links ≡ []
   pub session : c.log.header.incarnation ≡ n.session
+  pub begun : IsTrue m.tells → 0 < n.session
   pub stamp : IsTrue m.tells → n.halted ≡ None → c.log.header.stamp + 1 ≤ most_stamp n
+  -- in its first session its log begins with the site's first write, as long as it did not go round
+  pub fresh : IsTrue m.tells → n.halted ≡ None → n.session ≡ 1 → taken n.log ≤ n.ring → IsFirst c.log n.log
   pub first : 0 < c.log.header.low
   pub head : last_of c ≡ n.safe
   pub halted : c.halted ≡ n.halted
@@ -82,6 +85,7 @@ pub record IsHeldAt (n : Node) (m : Meaning) : Type 0 where
   pub whole : (v : ℕ) (x : Volume) → slice_get n.volumes v ≡ Some x → x.blocks ≡ n.blocks
   pub sizes : (v : ℕ) → v < n.disks - 2 → n.base.size v ≡ n.blocks
   pub others : (v : ℕ) → n.disks - 2 ≤ v → n.base.size v ≡ 0
+  pub begun : IsTrue m.tells → 0 < n.session
   pub left : (i : Image) → m.now i → HasWrites n i
 
 -- the disks of a raw set that crashed: they have one log and one content, that of the site
@@ -102,6 +106,7 @@ pub record IsDownAt (n : Node) (m : Meaning) : Type 0 where
   pub whole : (v : ℕ) (x : Volume) → slice_get n.volumes v ≡ Some x → x.blocks ≡ n.blocks
   pub sizes : (v : ℕ) → v < n.disks - 2 → n.base.size v ≡ n.blocks
   pub others : (v : ℕ) → n.disks - 2 ≤ v → n.base.size v ≡ 0
+  pub begun : IsTrue m.tells → 0 < n.session
   pub left : IsTrue m.tells → Left (raw_units n.disks) n.ring (state_of n) n.session (most_stamp n) n.safe n.base m
 
 module _ {R : Type 0} {g : Ghosts R} where

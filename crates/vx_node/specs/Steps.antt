@@ -14,7 +14,7 @@ use Rattle.vx_rvg.specs.Contents.{Shows}
 use Rattle.vx_node.specs.declared.said.Said.{Said}
 use Rattle.vx_node.specs.declared.said.Said.TheVariants.{Done, DoneAt, Got, Shown, Recovered, Refused}
 use Rattle.vx_node.specs.Holds.{most_stamp}
-use Rattle.vx_node.specs.Fuses.{IsFused}
+use Rattle.vx_node.specs.Fuses.{IsFused, IsExact}
 use Rattle.vx_node.specs.Facts.{facts_of, site_number, volume_number}
 use Rattle.vx_node.specs.Views.{view_of}
 use Rattle.vx_node.specs.Lines.{script_line}
@@ -42,13 +42,13 @@ pub record OnlyFails (site : ℕ) (fails : Fails) (said : Said) (new next : Worl
   pub fails_at : FailsAt site disk fails said new next
 
 -- A write that is not refused: its number, or none is left, or a disk failed; or the fuse of the disks ran out in it, and the crash kept it
--- or not. Of disks that tell no contents it is not known how many numbers are left.
+-- or not. Of disks that tell no contents it is not known how many numbers are left, nor how many calls a write is.
 pub data Puts (told : Type 0) (w : World) (site : ℕ) (x : Write) (fails : Fails) (said : Said) (new : World) : Type 0 where
-  IsPut : (w.nodes site).safe < 0x7fff_ffff_ffff_ffff → Cleanly fails said (DoneAt ((w.nodes site).safe + 1)) new (written w site x) → Puts told w site x fails said new
+  IsPut : (w.nodes site).safe < 0x7fff_ffff_ffff_ffff → ((calls : ℕ) → told → IsExact (w.nodes site) x calls → 4 ≤ calls) → Cleanly fails said (DoneAt ((w.nodes site).safe + 1)) new (written w site x) → Puts told w site x fails said new
   NoNumber : (told → 0x7fff_ffff_ffff_ffff ≤ most_stamp (w.nodes site)) → Cleanly fails said (Refused (Limit Number 0x7fff_ffff_ffff_ffff)) new (worked_on w site) → Puts told w site x fails said new
   PutFails : (disk : ℕ) → FailsAt site disk fails said new (half_written w site x disk) → Puts told w site x fails said new
   PutCut : (count : ℕ) → IsFused (w.nodes site).fuse → (w.nodes site).safe ≤ count → count ≤ length (w.nodes site).log + 1
-      → Cleanly fails said (Refused IsOff) new (cut_write w site x count) → Puts told w site x fails said new
+      → ((calls : ℕ) → told → IsExact (w.nodes site) x calls → calls < 4) → Cleanly fails said (Refused IsOff) new (cut_write w site x count) → Puts told w site x fails said new
 
 -- a crash keeps the writes that are durable, and maybe the one that was not finished
 pub record Crashes (w : World) (site : ℕ) (new : World) : Type 0 where

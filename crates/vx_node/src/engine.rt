@@ -1,5 +1,5 @@
 // The disks of a site, and what is made of them.
-ghost use Rattle.std.specs.Prelude.{◌≡◌, ◌≤◌, ◌<◌, ◌+◌, ◌*◌, ◌%◌, ℕ, length, None, IfSome, IfOk, IsSome, IsTrue, OnOk};
+ghost use Rattle.std.specs.Prelude.{◌≡◌, ◌≤◌, ◌<◌, ◌+◌, ◌*◌, ◌%◌, ℕ, length, None, IfSome, IfOk, IfErr, IsSome, IsTrue, OnOk};
 ghost use Rattle.vx_model.specs.Content.{blocks_in};
 ghost use Rattle.vx_model.specs.World.{Node};
 ghost use Rattle.vx_srl.specs.Views.{free_of};
@@ -71,6 +71,7 @@ fn make_room<R: Rack>(rvg: &mut Rvg<R>, count: u64) -> Result<(), No>
     ensures room { OnOk result (count < free_of rvg.new.core.log) }
     ensures made { (n : Node) → IsUpAt n rvg.old.core (R.meaning rvg.old.shelf) → n.halted ≡ None → count + 1 ≤ n.ring
         → RoomIs n (R.meaning rvg.old.shelf) rvg.new.core (R.meaning rvg.new.shelf) result }
+    ensures idle { count < free_of rvg.old.core.log → IfErr result (λ no. ⊥) × (rvg.new ≡ rvg.old) }
     ensures units { rvg.new.core.units ≡ rvg.old.core.units }
     ensures later { Later (Engine.Up rvg.old) (Engine.Up rvg.new) }
 {
