@@ -1,11 +1,11 @@
 -- Calls that are made one after another.
-use Rattle.std.proofs.Common.{◌≡◌, ℕ, ◌+◌, ◌-◌, ◌≤◌, ◌<◌, Option, Some, None, Result, Ok, Err, OnOk, refl, sym, ◌∙◌, ap, subst, arith}
+use Rattle.std.proofs.Common.{◌≡◌, ℕ, ◌+◌, ◌-◌, ◌≤◌, ◌<◌, Option, Some, None, Result, Ok, Err, OnOk, Bool, true, false, IsTrue, IsFalse, refl, sym, ◌∙◌, ap, subst, arith}
 use Rattle.std.proofs.lemmas.Option.{none-some}
 use Rattle.vx_disk.specs.declared.shelf.ShelfError.{ShelfError}
 use Rattle.vx_disk.specs.Causes.{Calls, OnDisks, WithDisks}
 use Rattle.vx_disk.specs.Disks.{Burns, Disks}
 use Rattle.vx_disk.specs.Shelf.{Meaning}
-use Rattle.vx_ringio.specs.Burns.{FewerLeft, MakesCalls}
+use Rattle.vx_ringio.specs.Burns.{FallsShort, FewerLeft, IsShort, MakesCalls, RackIsShort}
 
 one_fewer : (old new : Option (ℕ × ℕ)) → Burns old new → FewerLeft 1 old new
 one_fewer None new burns = burns
@@ -66,3 +66,52 @@ both_on j k (Some old) (Some mid) (Some new) one two = both_fewer j k old.fuse m
 
 pub then_calls : (j k : ℕ) (old mid new : Meaning) → MakesCalls j old mid → MakesCalls k mid new → MakesCalls (j + k) old new
 then_calls j k old mid new one two = record { fuses = both_on j k old.disks mid.disks new.disks one.fuses two.fuses }
+
+-- ---- a shelf that falls
+
+both_ways : (b : Bool) → IsFalse b → IsTrue b → ⊥
+both_ways b up down = cc
+
+-- none
+pub no_fall : (n : ℕ) (m : Meaning) → FallsShort n m m
+no_fall n m = record { left = λ up down. absurd (both_ways m.down up down) }
+
+-- of more calls
+more_fuse : (j n : ℕ) → j ≤ n → (fuse : Option (ℕ × ℕ)) → IsShort j fuse → IsShort n fuse
+more_fuse j n le None short = absurd short
+more_fuse j n le (Some f) short = omega (arith, le, short)
+
+more_rack : (j n : ℕ) → j ≤ n → (disks : Option Disks) → RackIsShort j disks → RackIsShort n disks
+more_rack j n le None short = tt
+more_rack j n le (Some d) short = more_fuse j n le d.fuse short
+
+pub sooner_short : (j n : ℕ) → j ≤ n → (old new : Meaning) → FallsShort j old new → FallsShort n old new
+sooner_short j n le old new falls = record { left = λ up down. more_rack j n le old.disks (falls.left up down) }
+
+-- two after each other
+then_fuse : (j k : ℕ) (old mid : Option (ℕ × ℕ)) → FewerLeft j old mid → IsShort k mid → IsShort (j + k) old
+then_fuse j k None None fewer short = absurd short
+then_fuse j k None (Some g) fewer short = absurd (none-some g (sym fewer))
+then_fuse j k (Some f) None fewer short = absurd short
+then_fuse j k (Some f) (Some g) fewer short =
+    let left : g.0 ≡ f.0 - j = ap (λ (x : ℕ × ℕ). x.0) (some_same g (f.0 - j, f.1) fewer.1) in
+    omega (arith, fewer.0, left, short)
+
+then_rack : (j k : ℕ) (old mid : Option Disks) → WithDisks old mid (λ o n. FewerLeft j o.fuse n.fuse) → RackIsShort k mid → RackIsShort (j + k) old
+then_rack j k None mid fewer short = tt
+then_rack j k (Some old) None fewer short = absurd fewer
+then_rack j k (Some old) (Some mid) fewer short = then_fuse j k old.fuse mid.fuse fewer short
+
+then_left : (j k : ℕ) (old mid new : Meaning) (b : Bool) → mid.down ≡ b → FallsShort j old mid → MakesCalls j old mid → FallsShort k mid new → IsFalse old.down → IsTrue new.down → RackIsShort (j + k) old.disks
+then_left j k old mid new true is first made second up down = more_rack j (j + k) (omega arith) old.disks (first.left up is)
+then_left j k old mid new false is first made second up down = then_rack j k old.disks mid.disks made.fuses (second.left is down)
+
+pub then_short : (j k : ℕ) (old mid new : Meaning) → FallsShort j old mid → MakesCalls j old mid → FallsShort k mid new → FallsShort (j + k) old new
+then_short j k old mid new first made second = record { left = then_left j k old mid new mid.down refl first made second }
+
+-- what it says of a rack with a fuse
+pub left_fewer : (n : ℕ) (old new : Meaning) → FallsShort n old new → IsFalse old.down → IsTrue new.down
+    → (d : Disks) → old.disks ≡ Some d → (calls pick : ℕ) → d.fuse ≡ Some (calls, pick) → calls < n
+left_fewer n old new falls up down d is calls pick set =
+    let short : RackIsShort n (Some d) = subst (λ (x : Option Disks). RackIsShort n x) is (falls.left up down) in
+    subst (λ (f : Option (ℕ × ℕ)). IsShort n f) set short

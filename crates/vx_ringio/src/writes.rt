@@ -2,7 +2,7 @@
 ghost use Rattle.std.specs.Prelude.{◌≡◌, ◌+◌, ◌*◌, ◌/◌, ◌%◌, ◌<◌, ◌≤◌, ◌^◌, ℕ, [], ◌∷◌, ◌++◌, length, true, All, OnOk};
 ghost use Rattle.vx_disk.specs.Causes.{Cause};
 ghost use Rattle.vx_ringio.specs.Bodies.{IsBlocks, all_blocks};
-ghost use Rattle.vx_ringio.specs.Burns.{MakesCalls};
+ghost use Rattle.vx_ringio.specs.Burns.{FallsShort, MakesCalls};
 ghost use Rattle.vx_ringio.specs.Classes.{is_of_ring};
 ghost use Rattle.vx_ringio.specs.Tracks.{Lies, Follows, Arrives};
 ghost use Rattle.vx_ringlog.specs.Acts.{body_acts, head_acts};
@@ -22,6 +22,7 @@ pub fn flush_ring<S: Shelf>(shelf: &mut S, unit: u32) -> Result<(), ShelfError>
     ensures arrives { OnOk result ((ring : ℕ) → Arrives unit ring (Flush ∷ []) (S.meaning shelf.old) (S.meaning shelf.new)) }
     ensures cause { Cause (S.meaning shelf.old) (S.meaning shelf.new) unit result }
     ensures calls { OnOk result (MakesCalls 1 (S.meaning shelf.old) (S.meaning shelf.new)) }
+    ensures short { FallsShort 1 (S.meaning shelf.old) (S.meaning shelf.new) }
 {
     shelf.flush(unit)
 }
@@ -42,6 +43,7 @@ pub fn write_front<S: Shelf>(
     ensures arrives { OnOk result (Arrives unit ring (WriteAct (block ring place) (Front head.now) ∷ []) (S.meaning shelf.old) (S.meaning shelf.new)) }
     ensures cause { Cause (S.meaning shelf.old) (S.meaning shelf.new) unit result }
     ensures calls { OnOk result (MakesCalls 1 (S.meaning shelf.old) (S.meaning shelf.new)) }
+    ensures short { FallsShort 1 (S.meaning shelf.old) (S.meaning shelf.new) }
 {
     let mut bytes = [0; 512];
     put_record(head, &mut bytes);
@@ -62,6 +64,7 @@ pub fn write_header<S: Shelf>(
     ensures arrives { OnOk result (Arrives unit ring (head_acts (header.now.stamp % 2) header.now) (S.meaning shelf.old) (S.meaning shelf.new)) }
     ensures cause { Cause (S.meaning shelf.old) (S.meaning shelf.new) unit result }
     ensures calls { OnOk result (MakesCalls 2 (S.meaning shelf.old) (S.meaning shelf.new)) }
+    ensures short { FallsShort 2 (S.meaning shelf.old) (S.meaning shelf.new) }
 {
     let mut bytes = [0; 512];
     put_header(header, &mut bytes);
@@ -86,6 +89,7 @@ fn write_part<S: Shelf>(
     ensures arrives { OnOk result (Arrives unit ring (body_acts ring first (all_blocks bytes.now)) (S.meaning shelf.old) (S.meaning shelf.new)) }
     ensures cause { Cause (S.meaning shelf.old) (S.meaning shelf.new) unit result }
     ensures calls { OnOk result (MakesCalls 1 (S.meaning shelf.old) (S.meaning shelf.new)) }
+    ensures short { FallsShort 1 (S.meaning shelf.old) (S.meaning shelf.new) }
 {
     shelf.write(unit, 2 + first, bytes)
 }
@@ -107,6 +111,7 @@ pub fn write_body<S: Shelf>(
     ensures arrives { OnOk result (Arrives unit ring (body_acts ring place (all_blocks bytes.now)) (S.meaning shelf.old) (S.meaning shelf.new)) }
     ensures cause { Cause (S.meaning shelf.old) (S.meaning shelf.new) unit result }
     ensures calls { OnOk result (place % ring + length bytes.now / 512 ≤ ring → MakesCalls 1 (S.meaning shelf.old) (S.meaning shelf.new)) }
+    ensures short { place % ring + length bytes.now / 512 ≤ ring → FallsShort 1 (S.meaning shelf.old) (S.meaning shelf.new) }
 {
     let first = place % ring;
     let before_end = (ring - first).min(bytes.len() as u64 / 512);

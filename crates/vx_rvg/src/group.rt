@@ -6,7 +6,7 @@ ghost use Rattle.vx_disk.specs.Moves.{Moves, Run};
 ghost use Rattle.vx_disk.specs.Shelf.{Goes, Nothing};
 ghost use Rattle.vx_model.specs.Content.{Content, Write, put, blocks_in};
 ghost use Rattle.vx_ringio.specs.Bodies.{IsBlocks};
-ghost use Rattle.vx_ringio.specs.Burns.{MakesCalls};
+ghost use Rattle.vx_ringio.specs.Burns.{FallsShort, MakesCalls};
 ghost use Rattle.vx_rvg.specs.Contents.{Shows};
 ghost use Rattle.vx_rvg.specs.Groups.{write_refusal, read_refusal, WriteIs, ReadIs};
 ghost use Rattle.vx_rvg.specs.Stands.{Stands, Writing};
@@ -51,6 +51,7 @@ impl<S: Shelf> Rvg<S> {
         ensures moves { Moves (Run self.old.core.units.srl 0 (self.old.core.log.ring + 2))
             (Writing self.old.core (record { volume = vol; start = start; bytes = bytes.now }) (S.meaning self.old.shelf)) (S.meaning self.old.shelf) (S.meaning self.new.shelf) }
         ensures calls { OnOk result (BodyFits self.old.core.log bytes.now → MakesCalls 4 (S.meaning self.old.shelf) (S.meaning self.new.shelf)) }
+        ensures short { BodyFits self.old.core.log bytes.now → FallsShort 4 (S.meaning self.old.shelf) (S.meaning self.new.shelf) }
     {
         let unit = self.core.unit(vol);
         let size = self.shelf.size(unit);

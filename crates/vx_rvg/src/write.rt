@@ -3,7 +3,7 @@ ghost use Rattle.std.specs.Prelude.{◌≡◌, ◌+◌, ◌<◌, ◌≤◌, [], 
 ghost use Rattle.vx_disk.specs.Moves.{Moves, Run};
 ghost use Rattle.vx_model.specs.Content.{Content, Write, put, blocks_in};
 ghost use Rattle.vx_ringio.specs.Bodies.{IsBlocks};
-ghost use Rattle.vx_ringio.specs.Burns.{MakesCalls};
+ghost use Rattle.vx_ringio.specs.Burns.{FallsShort, MakesCalls};
 ghost use Rattle.vx_ringio.specs.Tracks.{Lies};
 ghost use Rattle.vx_srl.specs.Calls.{staging, sealing};
 ghost use Rattle.vx_srl.specs.Views.{BodyFits, free_of, need_of, most_number, record_of};
@@ -47,6 +47,7 @@ fn log_record<S: Shelf>(
     ensures leads { OnOk result (LogsTo srl.old vol start bytes.now srl.new (S.meaning shelf.old) (S.meaning shelf.new)) }
     ensures moves { LogMoves srl.old vol start bytes.now (S.meaning shelf.old) (S.meaning shelf.new) }
     ensures calls { OnOk result (BodyFits srl.old bytes.now → MakesCalls 4 (S.meaning shelf.old) (S.meaning shelf.new)) }
+    ensures short { BodyFits srl.old bytes.now → FallsShort 4 (S.meaning shelf.old) (S.meaning shelf.new) }
 {
     if let Err(why) = srl.stage(shelf, vol, start, bytes) {
         return Err(refused(why));
@@ -82,6 +83,7 @@ pub(crate) fn commit<S: Shelf>(
         (Writing core.old (record { volume = vol; start = start; bytes = bytes.now }) (S.meaning shelf.old))
         (S.meaning shelf.old) (S.meaning shelf.new) }
     ensures calls { OnOk result (BodyFits core.old.log bytes.now → MakesCalls 4 (S.meaning shelf.old) (S.meaning shelf.new)) }
+    ensures short { BodyFits core.old.log bytes.now → FallsShort 4 (S.meaning shelf.old) (S.meaning shelf.new) }
 {
     match log_record(shelf, &mut core.srl, vol, start, bytes) {
         Ok(number) => {

@@ -11,9 +11,9 @@ use Rattle.vx_disk.specs.declared.shelf.ShelfError.{ShelfError}
 use Rattle.vx_disk.specs.declared.shelf.ShelfError.TheVariants.{Fault, Down}
 use Rattle.vx_ringlog.specs.Cells.{Act, Flush, Write}
 use Rattle.vx_ringlog.specs.Chain.{block}
-use Rattle.vx_ringio.specs.Burns.{MakesCalls}
+use Rattle.vx_ringio.specs.Burns.{FallsShort, MakesCalls}
 use Rattle.vx_ringio.specs.Tracks.{Arrives, Follows, Lies}
-use Rattle.vx_ringio.proofs.Burning.{then_calls}
+use Rattle.vx_ringio.proofs.Burning.{sooner_short, then_calls, then_short}
 use Rattle.vx_ringio.proofs.Following.{nothing_arrives, nothing_follows, sooner, then_arrives, then_follows}
 use Rattle.vx_srl.specs.Causes.{DeviceCause, Ended, refusal_of}
 use Rattle.vx_srl.specs.Fronts.{fronts_written, seal_written}
@@ -161,3 +161,13 @@ pub one_more : (from k k' : ℕ) → from ≤ k → k' ≡ k + 1 → (old mid ne
 one_more from k k' le next old mid new before one =
     let sum : (k - from) + 1 ≡ k' - from = omega (arith, le, next) in
     subst (λ (n : ℕ). MakesCalls n old new) sum (then_calls (k - from) 1 old mid new before one)
+
+-- the same of how many were left where the shelf fell: of one header more, and of one that is not the last
+pub short_more : (from k k' : ℕ) → from ≤ k → k' ≡ k + 1 → (old mid new : Meaning) → MakesCalls (k - from) old mid → FallsShort (k - from) old mid → FallsShort 1 mid new → FallsShort (k' - from) old new
+short_more from k k' le next old mid new before short one =
+    let sum : (k - from) + 1 ≡ k' - from = omega (arith, le, next) in
+    subst (λ (n : ℕ). FallsShort n old new) sum (then_short (k - from) 1 old mid new short before one)
+
+pub short_cut : (from k len : ℕ) → from ≤ k → k < len → (old mid new : Meaning) → MakesCalls (k - from) old mid → FallsShort (k - from) old mid → FallsShort 1 mid new → FallsShort (len - from) old new
+short_cut from k len le low old mid new before short one =
+    sooner_short ((k - from) + 1) (len - from) (omega (arith, le, low)) old new (then_short (k - from) 1 old mid new short before one)

@@ -1,6 +1,6 @@
 // The sealing of what is staged: it becomes part of the log.
 ghost use Rattle.std.specs.Prelude.{◌≡◌, ◌+◌, ◌-◌, ◌≤◌, ◌<◌, [], length, drop, All, Ok, OnOk};
-ghost use Rattle.vx_ringio.specs.Burns.{MakesCalls};
+ghost use Rattle.vx_ringio.specs.Burns.{FallsShort, MakesCalls};
 ghost use Rattle.vx_ringio.specs.Tracks.{Lies, Follows, Arrives};
 ghost use Rattle.vx_srl.specs.Calls.{Seals, sealing};
 ghost use Rattle.vx_srl.specs.Causes.{Ended, Stopped};
@@ -32,6 +32,7 @@ fn write_fronts<S: Shelf>(
     ensures arrives { OnOk result (Arrives unit ring (fronts_written ring (drop from records.now.items)) (S.meaning shelf.old) (S.meaning shelf.new)) }
     ensures cause { Stopped (S.meaning shelf.old) (S.meaning shelf.new) result }
     ensures calls { OnOk result (MakesCalls (length records.now.items - from) (S.meaning shelf.old) (S.meaning shelf.new)) }
+    ensures short { FallsShort (length records.now.items - from) (S.meaning shelf.old) (S.meaning shelf.new) }
 {
     for k in from..records.len() {
         let kept = records[k];
@@ -48,6 +49,7 @@ impl Srl {
         ensures arrives { OnOk result (Arrives self.now.unit self.now.ring (seal_written self.now.ring self.now.staged) (S.meaning shelf.old) (S.meaning shelf.new)) }
         ensures cause { Ended (S.meaning shelf.old) (S.meaning shelf.new) result }
         ensures calls { OnOk result (MakesCalls (length self.now.staged + 2) (S.meaning shelf.old) (S.meaning shelf.new)) }
+        ensures short { FallsShort (length self.now.staged + 2) (S.meaning shelf.old) (S.meaning shelf.new) }
     {
         flush_ring(shelf, self.unit)?;
         write_fronts(shelf, self.unit, self.ring, &self.records, self.sealed)?;
@@ -65,6 +67,7 @@ impl Srl {
         ensures goes { Goes self.old sealing (S.meaning shelf.old) (S.meaning shelf.new) }
         ensures leads { OnOk result (0 < length self.old.staged → LeadsTo self.old sealing self.new (S.meaning shelf.old) (S.meaning shelf.new)) }
         ensures calls { OnOk result (0 < length self.old.staged → MakesCalls (length self.old.staged + 2) (S.meaning shelf.old) (S.meaning shelf.new)) }
+        ensures short { FallsShort (length self.old.staged + 2) (S.meaning shelf.old) (S.meaning shelf.new) }
     {
         if self.sealed == self.records.len() {
             return Ok(self.head());

@@ -1,5 +1,5 @@
 use Rattle.std.proofs.Common.{arith}
-use Rattle.vx_srl.proofs.FrontLaws.{cut_follows, one_more, one_written}
+use Rattle.vx_srl.proofs.FrontLaws.{cut_follows, one_more, one_written, short_cut, short_more}
 use Rattle.vx_srl.proofs.seal.write_fronts.Goals as goal
 
 pub returns-in_err-write_front-clause-follows : goal.returns-in_err-write_front-clause-follows
@@ -7,9 +7,14 @@ returns-in_err-write_front-clause-follows g c =
     cut_follows c.args.unit c.args.ring c.args.records.now.items c.args.from c.loop-k.k c.index.result.now c.loop-k.auto.k (omega (arith, c.loop-k-test.true, c.len-k-end.ensures)) c.index.ensures
     _ _ _ c.loop-k.invariant.0 c.write_front.ensures.follows
 
+pub returns-in_err-write_front-clause-short : goal.returns-in_err-write_front-clause-short
+returns-in_err-write_front-clause-short g c =
+    short_cut c.args.from c.loop-k.k _ c.loop-k.auto.k (omega (arith, c.loop-k-test.true, c.len-k-end.ensures)) _ _ _ c.loop-k.invariant.1 c.loop-k.invariant.2 c.write_front.ensures.short
+
 pub loop-k-preserved : goal.loop-k-preserved
 loop-k-preserved g c = (
   one_written c.args.unit c.args.ring c.args.records.now.items c.args.from c.loop-k.k c.index.result.now c.loop-k.auto.k (omega (arith, c.loop-k-test.true, c.len-k-end.ensures)) c.index.ensures
       _ _ _ c.loop-k.invariant.0 c.in_ok-write_front.ensures.follows c.in_ok-write_front.ensures.arrives c.in_ok-write_front.ensures.cause.after,
   one_more c.args.from c.loop-k.k _ c.loop-k.auto.k (omega arith) _ _ _ c.loop-k.invariant.1 c.in_ok-write_front.ensures.calls,
+  short_more c.args.from c.loop-k.k _ c.loop-k.auto.k (omega arith) _ _ _ c.loop-k.invariant.1 c.loop-k.invariant.2 c.in_ok-write_front.ensures.short,
 )
