@@ -30,19 +30,15 @@ fn wanted(rt: HostRuntime) -> Option<u64> {
     }
 }
 
-// Prints one line: nanoseconds and calls of a write, and nanoseconds of its digest, each the least of five rounds.
+// Prints one line: nanoseconds and calls of a write, and nanoseconds of its digest.
 fn line(rt: HostRuntime, alloc: Global, disk: u64, bytes: &[u8], count: u64)
     requires some { 8 ≤ disk }
     requires few { disk ≤ 16384 }
     requires blocks { IsBlocks bytes.now }
 {
     let blocks = bytes.len() / 512;
-    let mut write = u64::MAX;
-    let mut hash = u64::MAX;
-    for _ in 0..5 {
-        write = write.min(writing(rt, alloc, disk, bytes, count));
-        hash = hash.min(hashing(rt, bytes, count));
-    }
+    let write = writing(rt, alloc, disk, bytes, count);
+    let hash = hashing(rt, bytes, count);
     let calls = calls_of(alloc, bytes);
     let _ = println!(rt; "disks of {disk} blocks, {blocks} a write: {write} ns, {calls} calls, SHA-256 {hash} ns");
 }

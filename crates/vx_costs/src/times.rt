@@ -14,8 +14,7 @@ fn nanos(time: Duration) -> u64 {
         .saturating_add(time.subsec_nanos() as u64)
 }
 
-/// Nanoseconds of one of so many writes, or the greatest number where one failed. The time in which the log is given room is not
-/// counted.
+/// Nanoseconds of the fastest of so many writes, or the greatest number where one failed.
 pub fn writing(rt: HostRuntime, alloc: Global, disk: u64, bytes: &[u8], count: u64) -> u64
     requires some { 8 ≤ disk }
     requires few { disk ≤ 16384 }
@@ -24,7 +23,7 @@ pub fn writing(rt: HostRuntime, alloc: Global, disk: u64, bytes: &[u8], count: u
     let Some(mut rvg) = group(alloc, disk, u64::MAX) else {
         return u64::MAX;
     };
-    let mut spent: u64 = 0;
+    let mut least = u64::MAX;
     for _ in 0..count {
         if rvg.free() < bytes.len() as u64 / 512 + 1 && !make_room(&mut rvg) {
             return u64::MAX;
@@ -38,26 +37,25 @@ pub fn writing(rt: HostRuntime, alloc: Global, disk: u64, bytes: &[u8], count: u
         let Ok(time) = start.elapsed(&rt) else {
             return u64::MAX;
         };
-        spent = spent.saturating_add(nanos(time));
+        least = least.min(nanos(time));
     }
-    spent / count.max(1)
+    least
 }
 
-/// Nanoseconds of the digest of these bytes, over so many.
+/// Nanoseconds of the fastest of so many digests of these bytes.
 pub fn hashing(rt: HostRuntime, bytes: &[u8], count: u64) -> u64 {
-    let mut sum: u64 = 0;
-    let Ok(start) = Instant::now(&rt) else {
-        return u64::MAX;
-    };
+    let mut least = u64::MAX;
+    let mut sum: u8 = 0;
     for _ in 0..count {
+        let Ok(start) = Instant::now(&rt) else {
+            return u64::MAX;
+        };
         // A digest that is not looked at could be left out by the compiler.
-        sum = sum.wrapping_add(digest(bytes)[0] as u64);
+        sum ^= digest(bytes)[0];
+        let Ok(time) = start.elapsed(&rt) else {
+            return u64::MAX;
+        };
+        least = least.min(nanos(time));
     }
-    let Ok(time) = start.elapsed(&rt) else {
-        return u64::MAX;
-    };
-    if sum == u64::MAX {
-        return u64::MAX;
-    }
-    nanos(time) / count.max(1)
+    least.saturating_add((sum >> 7) as u64)
 }
