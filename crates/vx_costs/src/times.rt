@@ -31,7 +31,7 @@ pub fn writing(rt: HostRuntime, alloc: Global, disk: u64, bytes: &[u8], count: u
         let Ok(start) = Instant::now(&rt) else {
             return u64::MAX;
         };
-        if !write(&mut rvg, bytes) {
+        if !write(&mut rvg, 0, bytes) {
             return u64::MAX;
         }
         let Ok(time) = start.elapsed(&rt) else {
@@ -58,4 +58,37 @@ pub fn hashing(rt: HostRuntime, bytes: &[u8], count: u64) -> u64 {
         least = least.min(nanos(time));
     }
     least.saturating_add((sum >> 7) as u64)
+}
+
+/// Nanoseconds in which one of the writes of a full log comes into its volume, and is given up. They lie one behind the other.
+pub fn bringing(rt: HostRuntime, alloc: Global, disk: u64, bytes: &[u8]) -> u64
+    requires some { 8 ≤ disk }
+    requires few { disk ≤ 16384 }
+    requires blocks { IsBlocks bytes.now }
+{
+    let Some(mut rvg) = group(alloc, disk, u64::MAX) else {
+        return u64::MAX;
+    };
+    let blocks = bytes.len() as u64 / 512;
+    let mut writes: u64 = 0;
+    for k in 0..disk {
+        if rvg.free() <= blocks {
+            break;
+        }
+        let start = k.wrapping_mul(blocks) % disk.saturating_sub(15).max(1);
+        if !write(&mut rvg, start, bytes) {
+            return u64::MAX;
+        }
+        writes = writes.saturating_add(1);
+    }
+    let Ok(start) = Instant::now(&rt) else {
+        return u64::MAX;
+    };
+    if !make_room(&mut rvg) {
+        return u64::MAX;
+    }
+    match start.elapsed(&rt) {
+        Ok(time) => nanos(time) / writes.max(1),
+        Err(_) => u64::MAX,
+    }
 }
