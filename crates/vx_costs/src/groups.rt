@@ -41,14 +41,14 @@ pub fn group(alloc: Global, disk: u64, fuse: u64) -> Option<Rvg<MemShelf>>
     }
 }
 
-/// Logs a write at block 0. False where it is refused.
-pub fn write(rvg: &mut Rvg<MemShelf>, bytes: &[u8]) -> bool
+/// Logs a write. False where it is refused.
+pub fn write(rvg: &mut Rvg<MemShelf>, start: u64, bytes: &[u8]) -> bool
     requires blocks { IsBlocks bytes.now }
 {
     if rvg.volumes() == 0 || rvg.free() < bytes.len() as u64 / 512 + 1 {
         return false;
     }
-    rvg.write(0, 0, bytes, 0).is_ok()
+    rvg.write(0, start, bytes, 0).is_ok()
 }
 
 /// Brings all writes into the volume, and gives their records up. False where it is refused.
@@ -69,7 +69,7 @@ pub fn calls_of(alloc: Global, bytes: &[u8]) -> u64
     let mut calls: u64 = 0;
     for fuse in 0..100 {
         if let Some(mut rvg) = group(alloc, 64, fuse) {
-            if write(&mut rvg, bytes) {
+            if write(&mut rvg, 0, bytes) {
                 return calls;
             }
             calls = calls.saturating_add(1);

@@ -9,7 +9,7 @@ ghost use Rattle.std.specs.Prelude.{◌≤◌};
 ghost use Rattle.vx_ringio.specs.Bodies.{IsBlocks};
 
 use crate::groups::calls_of;
-use crate::times::{hashing, writing};
+use crate::times::{bringing, hashing, writing};
 use std::alloc::Global;
 use std::env;
 
@@ -30,21 +30,18 @@ fn wanted(rt: HostRuntime) -> Option<u64> {
     }
 }
 
-// Prints one line: nanoseconds and calls of a write, and nanoseconds of its digest, each the least of five rounds.
+// Prints one line: nanoseconds and calls of a write, nanoseconds of its digest, and those in which it comes into its volume.
 fn line(rt: HostRuntime, alloc: Global, disk: u64, bytes: &[u8], count: u64)
     requires some { 8 ≤ disk }
     requires few { disk ≤ 16384 }
     requires blocks { IsBlocks bytes.now }
 {
     let blocks = bytes.len() / 512;
-    let mut write = u64::MAX;
-    let mut hash = u64::MAX;
-    for _ in 0..5 {
-        write = write.min(writing(rt, alloc, disk, bytes, count));
-        hash = hash.min(hashing(rt, bytes, count));
-    }
+    let write = writing(rt, alloc, disk, bytes, count);
+    let hash = hashing(rt, bytes, count);
+    let room = bringing(rt, alloc, disk, bytes);
     let calls = calls_of(alloc, bytes);
-    let _ = println!(rt; "disks of {disk} blocks, {blocks} a write: {write} ns, {calls} calls, SHA-256 {hash} ns");
+    let _ = println!(rt; "disks of {disk} blocks, {blocks} a write: {write} ns, {calls} calls, SHA-256 {hash} ns, into its volume {room} ns");
 }
 
 fn main(rt: HostRuntime) {

@@ -59,26 +59,6 @@ bytes-hit e v b p q = grind (arith, p, q)
 pub bytes-miss : (e : Entry) (v b : ℕ) → (e.volume ≡ v → e.block ≡ b → ⊥) → bytes_for e v b ≡ None
 bytes-miss e v b h = grind (arith, h)
 
-step : (xs : List Entry) (back at : ℕ) (e : Entry) (v b : ℕ) → at + 1 + back ≡ length xs → get_or xs at e ≡ e
-    → newest (take (length xs - back) xs) v b ≡ or_else (bytes_for e v b) (newest (take (length xs - (back + 1)) xs) v b)
-step xs back at e v b sum is =
-    let next : length xs - back ≡ at + 1 = omega (arith, sum) in
-    let here : length xs - (back + 1) ≡ at = omega (arith, sum) in
-    rw next (rw here (newest-take xs at e v b (omega (arith, sum)) ∙ ap (λ (x : Entry). or_else (bytes_for x v b) (newest (take at xs) v b)) is))
-
-pub found : (xs : List Entry) (back at : ℕ) (e : Entry) (v b : ℕ) → at + 1 + back ≡ length xs → get_or xs at e ≡ e
-    → newest (take (length xs - back) xs) v b ≡ newest xs v b → e.volume ≡ v → e.block ≡ b → newest xs v b ≡ Some e.bytes
-found xs back at e v b sum is same p q =
-    sym same ∙ step xs back at e v b sum is
-    ∙ ap (λ (o : Option (List ℕ)). or_else o (newest (take (length xs - (back + 1)) xs) v b)) (bytes-hit e v b p q)
-
-pub passed : (xs : List Entry) (back at : ℕ) (e : Entry) (v b : ℕ) → at + 1 + back ≡ length xs → get_or xs at e ≡ e
-    → newest (take (length xs - back) xs) v b ≡ newest xs v b → (e.volume ≡ v → e.block ≡ b → ⊥)
-    → newest (take (length xs - (back + 1)) xs) v b ≡ newest xs v b
-passed xs back at e v b sum is same h =
-    sym (ap (λ (o : Option (List ℕ)). or_else o (newest (take (length xs - (back + 1)) xs) v b)) (bytes-miss e v b h))
-    ∙ sym (step xs back at e v b sum is) ∙ same
-
 or-is : (x y z : Option (List ℕ)) (bytes : List ℕ) → y ≡ Some bytes → IsSome (or_else (or_else x y) z)
 or-is (Some x) y z bytes h = refl
 or-is None y z bytes h = rw h refl

@@ -4,6 +4,7 @@
 #![tactic(auto)]
 
 mod entry;
+mod index;
 pub mod laws;
 mod overlay;
 #[cfg(test)]

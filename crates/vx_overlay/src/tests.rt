@@ -39,3 +39,21 @@ fn room_comes_back(rt: HostRuntime) -> Result<(), Fail> {
     assert_eq!(rt; overlay.spare(), 2);
     Ok(())
 }
+
+// Blocks 1, 4 and 7 of one volume have the same of three buckets.
+#[test]
+fn blocks_of_one_bucket_are_told_apart(rt: HostRuntime) -> Result<(), Fail> {
+    let mut overlay = Overlay::new(rt.alloc(), 3)?;
+    overlay.insert(0, 1, &[1; 512]);
+    overlay.insert(0, 4, &[2; 512]);
+    overlay.insert(0, 1, &[3; 512]);
+    assert_eq!(rt; ends(&overlay, 0, 1), (true, 3, 3));
+    assert_eq!(rt; ends(&overlay, 0, 4), (true, 2, 2));
+    assert_eq!(rt; ends(&overlay, 0, 7), (false, 99, 99));
+    overlay.drop_oldest(2);
+    overlay.insert(0, 7, &[4; 512]);
+    assert_eq!(rt; ends(&overlay, 0, 1), (true, 3, 3));
+    assert_eq!(rt; ends(&overlay, 0, 4), (false, 99, 99));
+    assert_eq!(rt; ends(&overlay, 0, 7), (true, 4, 4));
+    Ok(())
+}
