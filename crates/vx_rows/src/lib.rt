@@ -9,6 +9,10 @@ mod bytes;
 mod disks;
 #[cfg(test)]
 mod ends;
+mod file_racks;
+#[cfg(test)]
+mod files;
+#[cfg(test)]
 mod fuses;
 #[cfg(test)]
 mod lines;
@@ -20,4 +24,5 @@ mod statuses;
 #[cfg(test)]
 mod wrong;
 
+pub use file_racks::fresh_file_racks;
 pub use racks::fresh_racks;

@@ -1,0 +1,11 @@
+use Rattle.std.proofs.Common.{◌≡◌, length}
+use Rattle.std.specs.List.{All}
+use Rattle.vx_disk.specs.Racks.{Bare}
+use Rattle.vx_filedisk.specs.Meanings.{rack_meaning}
+use Rattle.vx_rows.proofs.file_racks.fresh_file_racks.Given as goal
+
+abbrev pub invariant-loop-step : goal.invariant-loop-step
+invariant-loop-step l = record {
+  count : length l.racks.items ≡ l._step;
+  bare : All (λ r. Bare (rack_meaning r)) l.racks.items;
+}

@@ -1,0 +1,19 @@
+// The disks of the sites, in files.
+ghost use Rattle.std.specs.Prelude.{IfOk};
+ghost use Rattle.vx_filedisk.specs.Meanings.{rack_meaning};
+ghost use Rattle.vx_node.specs.Holds.{AreFresh};
+
+use std::alloc::Global;
+use vx_filedisk::HostRack;
+use vx_model::OutOfMemory;
+
+/// Eight racks for disks in the files of a folder, none of them fitted.
+pub fn fresh_file_racks(rt: HostRuntime, alloc: Global) -> Result<Vec<HostRack>, OutOfMemory>
+    ensures { IfOk result (λ racks. AreFresh rack_meaning racks.items) }
+{
+    let mut racks = Vec::new(alloc);
+    for _step in 0..8u32 {
+        racks.push(HostRack::new(rt, alloc)?)?;
+    }
+    Ok(racks)
+}

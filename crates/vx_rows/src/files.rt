@@ -1,0 +1,179 @@
+// Disks in files: as each write is answered, another rack over the same files finds it in the log.
+ghost use Rattle.std.specs.Prelude.{◌≡◌, [], ◌∷◌};
+
+use crate::fresh_file_racks;
+use std::alloc::Global;
+use std::fs;
+use std::str::from_utf8;
+use std::test::Fail;
+use vx_cli::{OpenGate, Status, vx_main};
+use vx_disk::{MemShelf, Rack, Shelf};
+use vx_filedisk::HostRack;
+use vx_model::{Units, VolumeUnits};
+use vx_rvg::Rvg;
+use vx_stream::{Failed, MemSink, MemSource, Sink};
+
+// A sink that starts a group over a copy of the files at each reply `done N`. It tells contracts nothing of its bytes.
+#[derive(Drop)]
+struct Watch {
+    inner: MemSink,
+    rt: HostRuntime,
+    alloc: Global,
+    // How many groups were to be started, and how many of them did not have N as the number of their last write.
+    copies: u64,
+    misses: u64,
+}
+
+impl Sink for Watch {
+    ghost use Rattle.std.specs.Prelude.{None};
+
+    ghost written = { λ _. None };
+
+    ghost faults = { λ s. s.inner.faults };
+
+    fn put(&mut self, bytes: &[u8]) -> Result<usize, Failed> {
+        let count = self.inner.put(bytes)?;
+        if let Some(number) = last_done(self.inner.written()) {
+            self.copies = self.copies.saturating_add(1);
+            if head_in_files(self.rt, self.alloc) != Some(number) {
+                self.misses = self.misses.saturating_add(1);
+            }
+        }
+        Ok(count)
+    }
+
+    fn faults(&self) -> u64 {
+        self.inner.faults()
+    }
+}
+
+// N, where the bytes end with a line `done N`.
+fn last_done(bytes: &[u8]) -> Option<u64> {
+    let Ok(text) = from_utf8(bytes) else {
+        return None;
+    };
+    let lines = text.strip_suffix("\n")?;
+    let line = match lines.rsplit_once("\n") {
+        Some((_, last)) => last,
+        None => lines,
+    };
+    match line.strip_prefix("done ")?.parse() {
+        Ok(number) => Some(number),
+        Err(_) => None,
+    }
+}
+
+// The number of the last write in the files of the first site, as a start over a copy of them finds it.
+fn head_in_files(rt: HostRuntime, alloc: Global) -> Option<u64> {
+    let shelf = copy_of_files(rt, alloc)?;
+    if shelf.units() != 3 || shelf.size(0) < 8 {
+        return None;
+    }
+    match Rvg::start(alloc, shelf, &three_units()) {
+        Ok(rvg) => Some(rvg.head()),
+        Err(_) => None,
+    }
+}
+
+// The log on disk 0, one volume on disk 1, and the maps on disk 2.
+fn three_units() -> Units
+    ensures { result ≡ record { srl = 0; maps = 2; vols = 1 ∷ [] } }
+{
+    let mut vols = VolumeUnits::new();
+    vols.push(1);
+    Units {
+        srl: 0,
+        maps: 2,
+        vols,
+    }
+}
+
+// The first site's three disks of 64 blocks, in memory.
+fn copy_of_files(rt: HostRuntime, alloc: Global) -> Option<MemShelf> {
+    let Ok(mut files) = HostRack::new(rt, alloc) else {
+        return None;
+    };
+    let Ok(mut copy) = MemShelf::new(alloc, &[]) else {
+        return None;
+    };
+    if files.fit(alloc, Some("."), 0, 3, 64).is_err() || copy.fit(alloc, None, 0, 3, 64).is_err() {
+        return None;
+    }
+    for disk in 0..3u32 {
+        copy_disk(&mut files, &mut copy, disk)?;
+    }
+    Some(copy)
+}
+
+// Copies 64 blocks, and flushes them.
+fn copy_disk(files: &mut HostRack, copy: &mut MemShelf, disk: u32) -> Option<()> {
+    for block in 0..64u64 {
+        copy_block(files, copy, disk, block)?;
+    }
+    if copy.units() <= disk || copy.flush(disk).is_err() {
+        return None;
+    }
+    Some(())
+}
+
+fn copy_block(files: &mut HostRack, copy: &mut MemShelf, disk: u32, block: u64) -> Option<()> {
+    let mut bytes = [0; 512];
+    if files.units() <= disk || files.size(disk) <= block {
+        return None;
+    }
+    if files.read(disk, block, &mut bytes).is_err() {
+        return None;
+    }
+    if copy.units() <= disk || copy.size(disk) <= block {
+        return None;
+    }
+    if copy.write(disk, block, &bytes).is_err() {
+        return None;
+    }
+    Some(())
+}
+
+fn remove(rt: &HostRuntime) {
+    let _ = fs::remove_file(rt, "./0-0.vxd");
+    let _ = fs::remove_file(rt, "./0-1.vxd");
+    let _ = fs::remove_file(rt, "./0-2.vxd");
+}
+
+#[test]
+fn a_write_that_is_answered_is_in_the_files(rt: HostRuntime) -> Result<(), Fail> {
+    remove(&rt);
+    let alloc = rt.alloc();
+    let script =
+        b"site a 3 64\nraw a\nwrite a d1 0 1 11\nwrite a d1 5 1 22\nwrite a d1 63 1 33\nwrite a d1 1 1 44\nwrite a d1 32 1 55\nwrite a d1 7 1 66\nwrite a d1 2 1 77\nwrite a d1 40 1 88\nwrite a d1 9 1 99\nwrite a d1 3 1 aa\n";
+    let mut words = Vec::new(alloc);
+    for word in ["run", "--dir", "."] {
+        words.push(String::from_str(alloc, word)?)?;
+    }
+    let mut source = MemSource::new(alloc, script, &[])?;
+    let mut sink = Watch {
+        inner: MemSink::new(alloc, 4096, &[])?,
+        rt,
+        alloc,
+        copies: 0,
+        misses: 0,
+    };
+    let mut racks = fresh_file_racks(rt, alloc)?;
+    let status = vx_main(
+        &rt,
+        alloc,
+        &words,
+        &mut source,
+        &mut sink,
+        &mut racks,
+        &OpenGate,
+    );
+    assert_eq!(rt; status, Status::Done);
+    assert_eq!(rt;
+        sink.inner.written(),
+        b"done\ndone\ndone 1\ndone 2\ndone 3\ndone 4\ndone 5\ndone 6\ndone 7\ndone 8\ndone 9\ndone 10\n".as_slice()
+    );
+    assert_eq!(rt; sink.copies, 10);
+    assert_eq!(rt; sink.misses, 0);
+    remove(&rt);
+    Ok(())
+}
