@@ -167,6 +167,7 @@ fn a_write_that_is_answered_is_in_the_files(rt: HostRuntime) -> Result<(), Fail>
         &mut racks,
         &OpenGate,
     );
+    remove(&rt);
     assert_eq!(rt; status, Status::Done);
     assert_eq!(rt;
         sink.inner.written(),
@@ -174,6 +175,5 @@ fn a_write_that_is_answered_is_in_the_files(rt: HostRuntime) -> Result<(), Fail>
     );
     assert_eq!(rt; sink.copies, 10);
     assert_eq!(rt; sink.misses, 0);
-    remove(&rt);
     Ok(())
 }
