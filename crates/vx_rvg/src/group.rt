@@ -35,7 +35,7 @@ impl<S: Shelf> Rvg<S> {
     /// There has to be room in the log, for the blocks and one more. Refusals, in this order: 20 where a call answered 7 before, 4
     /// where the record is larger than the ring of the log, 3 where the blocks end past the volume, 19 where no number is left; these
     /// change nothing. 7 where a device call failed: then a start finds the log with the write or without it, and the group is halted.
-    /// 6 where the shelf is down.
+    /// 6 where the shelf is down. A rack that was up falls in those four calls only where its fuse had fewer than four left.
     pub fn write(&mut self, vol: u32, start: u64, bytes: &[u8], marks: u8) -> Result<u64, No>
         requires volume { vol < length self.old.core.units.vols }
         requires blocks { IsBlocks bytes.now }
