@@ -1,5 +1,6 @@
 -- A write of a group, case by case.
-use Rattle.std.proofs.Common.{◌∙◌, ap, arith, sym}
+use Rattle.std.proofs.Common.{◌∙◌, ◌<◌, ap, arith, sym}
+use Rattle.vx_model.specs.Content.{blocks_in}
 use Rattle.std.specs.Prelude.{Err}
 use Rattle.std.proofs.lemmas.Result.{err_from_is_err_and}
 use Rattle.vx_node.proofs.Exacting.{hand_here, first_after, cut_less, exact_is}
@@ -24,15 +25,15 @@ returns-then-is_down-clause-wrote g c = λ n stands can.
     stands can roomy c.make_room.ensures.later.told (lawful c.make_room.new.rvg.shelf) (lawful c.write-answer.new.self.shelf) c.make_room.new.rvg.sound c.write-answer.new.self.sound c.write-answer.ensures.moves
     (sym c.is_down.ensures ∙ c.if-is_down.true) in
     (cut.0, cut.1, λ calls told exact.
-    cut_less n c.args.rvg.now c.make_room.new.rvg c.args.volume c.args.start c.args.bytes.now (g.R.Shelf.meaning c.write-answer.new.self.shelf) stands can.running
-    (c.make_room.ensures.later.told (sym c.write-answer.ensures.moves.tells ∙ told)) (omega (arith, c.requires.some, c.requires.whole)) calls exact
+    cut_less n c.args.rvg.now c.make_room.new.rvg c.args.volume c.args.start c.args.bytes.now stands can.running
+    (c.make_room.ensures.later.told (sym c.write-answer.ensures.moves.tells ∙ told)) (omega (arith, c.requires.some, c.requires.whole)) (g.R.Shelf.meaning c.write-answer.new.self.shelf) calls exact
     (λ hand. (c.in_ok-make_room.ensures.idle hand).1) c.write-answer.ensures.short (sym c.is_down.ensures ∙ c.if-is_down.true))
 
 pub returns-clause-wrote : goal.returns-clause-wrote
 returns-clause-wrote g c = λ n stands can.
     let lawful = (g.met.R.Shelf g.world.𝓛 g.world.𝓜 g.world.𝓡 ((λ s x. x), (λ x. x), (λ x. x), λ x. x)).lawful in
     let roomy = c.in_ok-make_room.ensures.made n stands can.running (omega (arith, can.fits)) in
-    let some = omega (arith, c.requires.some, c.requires.whole) in
+    let some : 0 < blocks_in c.args.bytes.now = omega (arith, c.requires.some, c.requires.whole) in
     wrote_at n (record { volume = c.args.volume; start = c.args.start; bytes = c.args.bytes.now }) c.args.rvg.now c.write-answer.new.self c.write-answer.result
     (wrote_later n (record { volume = c.args.volume; start = c.args.start; bytes = c.args.bytes.now }) c.write-answer.new.self.core (g.R.Shelf.meaning c.args.rvg.now.shelf) (g.R.Shelf.meaning c.make_room.new.rvg.shelf) (g.R.Shelf.meaning c.write-answer.new.self.shelf) c.write-answer.result c.make_room.ensures.later.counts
     (written_as n c.args.volume c.args.start c.args.bytes.now c.args.rvg.now.core c.make_room.new.rvg.core c.write-answer.new.self.core (g.R.Shelf.meaning c.args.rvg.now.shelf) (g.R.Shelf.meaning c.make_room.new.rvg.shelf) (g.R.Shelf.meaning c.write-answer.new.self.shelf)
@@ -40,6 +41,6 @@ returns-clause-wrote g c = λ n stands can.
     (sym c.is_down.ensures ∙ c.if-is_down.false)
     (λ told one room. first_after n c.args.rvg.now c.make_room.new.rvg c.args.volume c.args.start c.args.bytes.now stands can.running (c.make_room.ensures.later.told told) some one room (λ hand. (c.in_ok-make_room.ensures.idle hand).1))
     c.write-answer.result c.write-answer.ensures.answers (λ some. ap g.R.Shelf.meaning (c.write-answer.ensures.unchanged some)) c.write-answer.ensures.stands
-    (λ calls told exact. exact_is n c.args.rvg.now c.make_room.new.rvg c.args.volume c.args.start c.args.bytes.now (g.R.Shelf.meaning c.write-answer.new.self.shelf) stands can.running
-    (c.make_room.ensures.later.told (sym c.write-answer.ensures.moves.tells ∙ told)) some calls exact
+    (λ calls told exact. exact_is n c.args.rvg.now c.make_room.new.rvg c.args.volume c.args.start c.args.bytes.now stands can.running
+    (c.make_room.ensures.later.told (sym c.write-answer.ensures.moves.tells ∙ told)) some (g.R.Shelf.meaning c.write-answer.new.self.shelf) calls exact
     (λ hand. (c.in_ok-make_room.ensures.idle hand).1) c.write-answer.result c.write-answer.ensures.calls)))
