@@ -1,5 +1,5 @@
 -- The newest bytes in a list to which one is added, and in a list without its oldest.
-use Rattle.std.proofs.Common.{IsSome, ◌≡◌, ℕ, List, [], ◌∷◌, ◌++◌, Option, Some, None, refl, ap, ◌∙◌, sym, arith, drop, take, ◌<◌, length, get_or, ◌+◌, ◌-◌}
+use Rattle.std.proofs.Common.{IsSome, ◌≡◌, ℕ, List, [], ◌∷◌, ◌++◌, Option, Some, None, refl, ap, ◌∙◌, sym, arith, drop, take, ◌<◌, length, get_or, ◌+◌}
 use Rattle.std.proofs.lemmas.Option.{none-some}
 use Rattle.std.proofs.lemmas.List.{take_more, take-append-drop}
 use Rattle.vx_overlay.specs.declared.entry.Entry.{Entry}

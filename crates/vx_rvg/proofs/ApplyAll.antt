@@ -1,19 +1,19 @@
 -- Records whose blocks are written to their volumes, one after another, and then made durable.
-use Rattle.std.proofs.Common.{◌≡◌, ◌⊎◌, inl, inr, ⊎_elim, ℕ, ◌+◌, ◌-◌, ◌<◌, ◌≤◌, Bool, true, false, List, [], ◌∷◌, ◌++◌, length, take, drop, get_or, Some, All, IsTrue, IsFalse, refl, sym, ◌∙◌, ap, subst, arith, length-drop}
+use Rattle.std.proofs.Common.{◌≡◌, ℕ, ◌+◌, ◌-◌, ◌≤◌, Bool, true, false, List, [], ◌∷◌, ◌++◌, length, take, drop, get_or, Some, All, IsTrue, IsFalse, refl, sym, ◌∙◌, ap, subst, arith, length-drop}
 use Rattle.std.specs.Prelude.{if◌then◌else◌, leb, slice_get}
 use Rattle.std.proofs.lemmas.List.{drop-drop, get_or-drop, take-append-drop, take_more}
 use Rattle.std.proofs.lemmas.List.Elements.{All-nil, All-push, All-weaker}
 use Rattle.std.proofs.lemmas.Option.{get_or_from_slice_get, slice_get_within}
 use Rattle.vx_disk.specs.Moves.{Anything, Blocks, Moves, Nowhere, Says}
-use Rattle.vx_disk.specs.Shelf.{Holds, Meaning}
+use Rattle.vx_disk.specs.Shelf.{Meaning}
 use Rattle.vx_disk.proofs.Moving.{goes_on, still}
 use Rattle.vx_overlay.specs.declared.entry.Entry.{Entry}
-use Rattle.vx_overlay.specs.Pending.{Pending, newest}
-use Rattle.vx_srl.specs.Views.{IsOrdered, Log, all_of, count_to, widths}
+use Rattle.vx_overlay.specs.Pending.{Pending}
+use Rattle.vx_srl.specs.Views.{IsOrdered, all_of, count_to, widths}
 use Rattle.vx_srl.specs.declared.kept.Kept.{Kept}
 use Rattle.vx_rvg.specs.Brings.{Brings, BringsOne, IsPut, KeepsNewest, ReadsNewest, VolumesFlushed, due}
 use Rattle.vx_rvg.specs.Groups.{with_applied}
-use Rattle.vx_rvg.specs.Views.{Core, IsSound, Waits, applied_count, blocks_within, last_of, unit_of, volume_size}
+use Rattle.vx_rvg.specs.Views.{Core, IsSound, Waits, applied_count, blocks_within, last_of, volume_size}
 use Rattle.vx_rvg.proofs.ApplyOne.{put_there_is}
 use Rattle.vx_rvg.proofs.WriteSound.{SameSizes, lies_same, moved_sizes, placed_same, volume_same, within_append, within_same}
 

@@ -1,15 +1,12 @@
 -- Data volumes that are flushed, one after another.
-use Rattle.std.proofs.Common.{◌≡◌, ◌⊎◌, inl, inr, ⊎_elim, ℕ, ◌+◌, ◌<◌, ◌≤◌, List, length, Result, Ok, Err, IsTrue, refl, sym, ◌∙◌, ap, subst, arith}
-use Rattle.std.proofs.lemmas.Bool.{cases_lt}
-use Rattle.vx_disk.specs.Causes.{Cause, Faulted, StaysUp}
-use Rattle.vx_disk.specs.Counts.{Rose}
+use Rattle.std.proofs.Common.{ℕ, ◌<◌, List, Err, IsTrue}
+use Rattle.vx_disk.specs.Causes.{Cause}
 use Rattle.vx_disk.specs.Moves.{Anything, Blocks, Moves, Nowhere}
-use Rattle.vx_disk.specs.Shelf.{Flushed, Goes, Meaning, Nothing}
+use Rattle.vx_disk.specs.Shelf.{Goes, Meaning, Nothing}
 use Rattle.vx_disk.specs.declared.shelf.ShelfError.{ShelfError}
 use Rattle.vx_disk.specs.declared.shelf.ShelfError.TheVariants.{Fault, Down}
-use Rattle.vx_disk.proofs.Moving.{still, then_goes}
-use Rattle.vx_srl.specs.Causes.{DeviceCause, Stopped, refusal_of}
-use Rattle.vx_rvg.specs.Brings.{VolumesFlushed}
+use Rattle.vx_disk.proofs.Moving.{then_goes}
+use Rattle.vx_srl.specs.Causes.{DeviceCause, refusal_of}
 use Rattle.vx_rvg.specs.Views.{unit_of}
 use Rattle.vx_rvg.proofs.WriteLog.{cause_from, rose_from}
 

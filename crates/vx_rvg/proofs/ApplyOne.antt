@@ -1,24 +1,23 @@
 -- One record whose blocks are written to their volume.
-use Rattle.std.proofs.Common.{◌≡◌, ◌⊎◌, inl, inr, ⊎_elim, ℕ, ◌+◌, ◌-◌, ◌*◌, ◌/◌, ◌<◌, ◌≤◌, Bool, true, List, [], ◌∷◌, length, drop, get_or, Option, Some, None, MatchOption, Contains, refl, sym, ◌∙◌, ap, subst, arith, length-drop}
+use Rattle.std.proofs.Common.{◌≡◌, ⊎_elim, ℕ, ◌+◌, ◌-◌, ◌*◌, ◌<◌, ◌≤◌, Bool, true, List, length, drop, get_or, Option, Some, MatchOption, Contains, sym, ◌∙◌, ap, subst, arith, length-drop}
 use Rattle.std.specs.Prelude.{if◌then◌else◌, leb, slice_get}
 use Rattle.std.proofs.lemmas.Bool.{cases_lt, le-ltb}
 use Rattle.std.proofs.lemmas.Bool.Decides.{nat_tests}
 use Rattle.std.proofs.lemmas.List.{get_or-drop}
 use Rattle.std.proofs.lemmas.List.Elements.{All-contains, Contains-append_left, Contains-get_or}
 use Rattle.std.proofs.lemmas.Option.{get_or_from_slice_get, slice_get_within}
-use Rattle.vx_model.specs.Content.{block_of, blocks_in}
+use Rattle.vx_model.specs.Content.{block_of}
 use Rattle.vx_srlfmt.specs.Records.{CanSpellHead}
 use Rattle.vx_srlfmt.specs.declared.record.RecordHead.{RecordHead}
 use Rattle.vx_disk.specs.Moves.{Anything, Moves}
-use Rattle.vx_disk.specs.Shelf.{Covers, Goes, Holds, Meaning, Wrote, Written}
+use Rattle.vx_disk.specs.Shelf.{Covers, Goes, Meaning, Wrote, Written}
 use Rattle.vx_disk.proofs.Moving.{of_goes}
-use Rattle.vx_overlay.specs.declared.entry.Entry.{Entry}
 use Rattle.vx_overlay.specs.Pending.{newest}
 use Rattle.vx_srl.specs.Views.{IsFront, IsOrdered, Log, all_of}
 use Rattle.vx_srl.specs.declared.kept.Kept.{Kept}
 use Rattle.vx_rvg.specs.Brings.{BringsOne, IsPut, ReadsNewest}
 use Rattle.vx_rvg.specs.Groups.{IsPatched}
-use Rattle.vx_rvg.specs.Views.{Core, Placed, Waits, applied_count, blocks_within, unit_of, volume_size}
+use Rattle.vx_rvg.specs.Views.{Core, Placed, Waits, applied_count, unit_of, volume_size}
 use Rattle.vx_rvg.proofs.WriteStands.{volume_size_is}
 
 pub none_there : (vols : List ℕ) (m : Meaning) (v : ℕ) → length vols ≤ v → volume_size vols m v ≡ 0

@@ -1,6 +1,5 @@
 -- A group that stands, while blocks that wait come into their volumes.
-use Rattle.std.proofs.Common.{◌≡◌, ◌⊎◌, inl, inr, ⊎_elim, ℕ, ◌+◌, ◌-◌, ◌<◌, ◌≤◌, List, [], ◌∷◌, ◌++◌, length, take, drop, Option, Some, None, MatchOption, All, Bool, true, false, IsTrue, IsFalse, refl, sym, ◌∙◌, ap, subst, arith}
-use Rattle.std.specs.Prelude.{Contains}
+use Rattle.std.proofs.Common.{◌≡◌, ℕ, ◌+◌, ◌-◌, ◌<◌, ◌≤◌, List, ◌++◌, length, take, drop, Option, Some, None, MatchOption, All, Bool, true, false, IsTrue, IsFalse, refl, sym, ◌∙◌, ap, subst, arith}
 use Rattle.std.proofs.lemmas.List.{drop-drop, map-append, take-append-drop}
 use Rattle.std.proofs.lemmas.List.Elements.{All-contains, All-take}
 use Rattle.std.proofs.lemmas.Option.{none-some}
@@ -21,12 +20,11 @@ use Rattle.vx_ringio.specs.Classes.{classes}
 use Rattle.vx_ringio.proofs.Following.{image_beside, tracks_beside}
 use Rattle.vx_srl.specs.Causes.{DeviceCause}
 use Rattle.vx_srl.specs.Views.{count_to}
-use Rattle.vx_srl.specs.declared.kept.Kept.{Kept}
 use Rattle.vx_srl.proofs.Shared_S1.{Same, held_same, same_drop, same_take}
 use Rattle.vx_rvg.specs.Brings.{Brings, IsPut, due}
 use Rattle.vx_rvg.specs.Contents.{HasContent, KeepsContent, writes_of}
 use Rattle.vx_rvg.specs.Groups.{halted_by, with_applied}
-use Rattle.vx_rvg.specs.Stands.{IsWholeRecord, Ready, Resting, Rests, Stands}
+use Rattle.vx_rvg.specs.Stands.{IsWholeRecord, Ready, Resting, Rests}
 use Rattle.vx_rvg.specs.Views.{Core, IsSound, Waits, applied_count, last_of, unit_of, volume_size}
 use Rattle.vx_rvg.proofs.ApplyAll.{applied_core, apply_sound, bring_few}
 use Rattle.vx_rvg.proofs.ApplyPuts.{none_put, put_kept, within_count}

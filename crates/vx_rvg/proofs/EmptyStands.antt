@@ -1,5 +1,5 @@
 -- A group over a call that empties its log, all of whose writes are in the volumes.
-use Rattle.std.proofs.Common.{◌≡◌, ◌⊎◌, inl, inr, ℕ, ◌+◌, ◌<◌, ◌≤◌, ◌&&◌, Bool, true, List, [], ◌∷◌, length, drop, ltb, IsTrue, refl, sym, ◌∙◌, ap, subst, arith}
+use Rattle.std.proofs.Common.{◌≡◌, ◌⊎◌, inl, inr, ℕ, ◌+◌, ◌<◌, ◌≤◌, ◌&&◌, true, List, [], ◌∷◌, length, drop, ltb, refl, sym, ◌∙◌, ap, subst, arith}
 use Rattle.std.proofs.lemmas.Bool.Decides.{nat_tests}
 use Rattle.std.proofs.lemmas.List.{drop_all}
 use Rattle.std.proofs.lemmas.List.Elements.{All-nil}
@@ -14,7 +14,7 @@ use Rattle.vx_overlay.specs.declared.entry.Entry.{Entry}
 use Rattle.vx_overlay.specs.Pending.{newest}
 use Rattle.vx_overlay.specs.Writes.{entries_of}
 use Rattle.vx_ringlog.specs.Chain.{Recovers}
-use Rattle.vx_ringlog.specs.Logs.{State, Restart, Found as LogFound, done}
+use Rattle.vx_ringlog.specs.Logs.{State, Found as LogFound, done}
 use Rattle.vx_ringlog.specs.Records.{Record}
 use Rattle.vx_ringio.specs.Classes.{classes}
 use Rattle.vx_srl.specs.Calls.{can_restart, restarted, restarting}
@@ -28,7 +28,7 @@ use Rattle.vx_rvg.specs.Groups.{halted_by}
 use Rattle.vx_rvg.specs.Saves.{with_restart}
 use Rattle.vx_rvg.specs.Stands.{FoundAs, IsWholeRecord, Ready, Rests, Saving}
 use Rattle.vx_rvg.specs.Views.{Core, IsSound, applied_count, blocks_within, last_of, unit_of, volume_size}
-use Rattle.vx_rvg.proofs.ContentFacts.{found_as, has_content_beside, no_more, recovers_low, volumes_beside}
+use Rattle.vx_rvg.proofs.ContentFacts.{found_as, has_content_beside, no_more, volumes_beside}
 use Rattle.vx_rvg.proofs.WriteSound.{SameSizes, failed_sound, lies_same, moved_sizes, placed_same}
 
 no_items : {X : Type 0} → (xs : List X) → length xs ≡ 0 → xs ≡ []

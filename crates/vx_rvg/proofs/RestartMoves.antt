@@ -1,6 +1,5 @@
 -- A group whose writes come into their volumes and whose log is emptied behind them, as one call.
-use Rattle.std.proofs.Common.{◌≡◌, ◌⊎◌, inl, inr, ℕ, ◌+◌, Option, Some, None, Ok, Err, sym, ◌∙◌, subst}
-use Rattle.vx_model.specs.declared.no.No.{No}
+use Rattle.std.proofs.Common.{◌≡◌, ◌⊎◌, inl, inr, ℕ, ◌+◌, Option, Some, None, Ok, subst}
 use Rattle.vx_model.specs.declared.state.State.{State as SiteState}
 use Rattle.vx_disk.specs.Moves.{Blocks, Moves, Run, Union}
 use Rattle.vx_disk.specs.Shelf.{Image, Meaning}

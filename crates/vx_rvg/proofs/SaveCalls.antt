@@ -1,5 +1,5 @@
 -- What the calls of the log that write a header make of a group.
-use Rattle.std.proofs.Common.{◌≡◌, ◌⊎◌, inl, inr, ⊎_elim, ℕ, ◌+◌, ◌-◌, ◌<◌, ◌≤◌, Bool, true, false, List, [], length, IsTrue, IsFalse, None, Result, Ok, Err, refl, sym, ◌∙◌, ap, subst, arith}
+use Rattle.std.proofs.Common.{◌≡◌, ◌⊎◌, inl, inr, ⊎_elim, ℕ, ◌+◌, ◌<◌, ◌≤◌, Bool, true, false, IsTrue, IsFalse, Result, Ok, Err, refl, sym, ◌∙◌, subst, arith}
 use Rattle.std.specs.Prelude.{if◌then◌else◌, leb}
 use Rattle.std.proofs.lemmas.Bool.{cases_lt}
 use Rattle.std.proofs.lemmas.Bool.Decides.{nat_tests}
@@ -10,13 +10,13 @@ use Rattle.vx_disk.specs.Shelf.{Meaning}
 use Rattle.vx_srl.specs.Calls.{Saves, saved, saving, no_number}
 use Rattle.vx_srl.specs.Headers.{with_state, without}
 use Rattle.vx_srl.specs.Rings.{Goes, LeadsTo}
-use Rattle.vx_srl.specs.Views.{Log, count_to, head_of, most_number}
+use Rattle.vx_srl.specs.Views.{Log, count_to, most_number}
 use Rattle.vx_srl.specs.declared.errors.SrlNo.{SrlNo}
 use Rattle.vx_rvg.specs.Saves.{log_without, reclaimed}
 use Rattle.vx_rvg.specs.Stands.{Saving, Rests}
 use Rattle.vx_rvg.specs.Views.{Core, IsSound, applied_count}
 use Rattle.vx_rvg.proofs.SaveStands.{save_sound, save_moves, save_rests}
-use Rattle.vx_rvg.proofs.WriteSound.{SameSizes, ended_sound, moved_sizes}
+use Rattle.vx_rvg.proofs.WriteSound.{ended_sound, moved_sizes}
 
 -- the log is as it was, or has the new header
 saves_cases : (l after l' : Log) (m m' : Meaning) (r : Result (Unit {0}) SrlNo) → Saves l after m m' l' r → (l' ≡ l) ⊎ (l' ≡ after)

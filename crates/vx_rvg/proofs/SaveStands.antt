@@ -1,10 +1,9 @@
 -- A group over a call that writes a header of its log and gives up the first records, all of which are in the volumes.
-use Rattle.std.proofs.Common.{◌≡◌, ◌⊎◌, inl, inr, ⊎_elim, ℕ, ◌+◌, ◌-◌, ◌<◌, ◌≤◌, Bool, true, false, List, [], ◌++◌, length, take, drop, Option, Some, None, IsTrue, IsFalse, MatchOption, refl, sym, ◌∙◌, ap, subst, arith, append-nil}
+use Rattle.std.proofs.Common.{◌≡◌, ◌⊎◌, inl, inr, ℕ, ◌+◌, ◌<◌, ◌≤◌, List, length, drop, Option, Some, None, IsFalse, MatchOption, refl, sym, ◌∙◌, ap, subst, arith}
 use Rattle.std.proofs.lemmas.List.{drop-drop, length-drop}
-use Rattle.std.proofs.lemmas.List.Elements.{All-drop}
 use Rattle.vx_model.specs.Content.{Content, Write}
 use Rattle.vx_srlfmt.specs.declared.header.Header.{Header}
-use Rattle.vx_disk.specs.Moves.{Blocks, Says, Moves, Run, Beside}
+use Rattle.vx_disk.specs.Moves.{Says, Moves, Run, Beside}
 use Rattle.vx_disk.specs.Shelf.{Meaning, Image, Keeps}
 use Rattle.vx_disk.proofs.Moving.{kept_beside, wider}
 use Rattle.vx_overlay.specs.declared.entry.Entry.{Entry}
@@ -12,15 +11,14 @@ use Rattle.vx_overlay.specs.Pending.{newest}
 use Rattle.vx_overlay.specs.Writes.{newest_of, entries_of}
 use Rattle.vx_overlay.proofs.WriteLemmas.{newest_drop, newest_drop_none, newest_entries}
 use Rattle.vx_ringlog.specs.Chain.{Recovers}
-use Rattle.vx_ringlog.specs.Logs.{State, Save, Found as LogFound, done}
+use Rattle.vx_ringlog.specs.Logs.{State, Found as LogFound, done}
 use Rattle.vx_ringlog.specs.Records.{Record}
 use Rattle.vx_ringio.specs.Classes.{classes}
 use Rattle.vx_srl.specs.Calls.{saving, saved}
-use Rattle.vx_srl.specs.Rings.{RingOn, Finding, Goes, LeadsTo}
-use Rattle.vx_srl.specs.Views.{Log, head_of}
+use Rattle.vx_srl.specs.Rings.{Finding, Goes, LeadsTo}
 use Rattle.vx_srl.specs.declared.kept.Kept.{Kept}
 use Rattle.vx_rvg.specs.Contents.{writes_of, HasContent, KeepsContent}
-use Rattle.vx_rvg.specs.Stands.{FoundAs, IsWholeRecord, Ready, Stands, Saving, Rests}
+use Rattle.vx_rvg.specs.Stands.{FoundAs, Ready, Saving, Rests}
 use Rattle.vx_rvg.specs.Views.{Core, IsSound, Placed, applied_count, blocks_within, last_of, unit_of, volume_size}
 use Rattle.vx_rvg.proofs.ContentFacts.{found_as, has_content_beside, held_length, recovers_low, volumes_beside, no_more}
 use Rattle.vx_rvg.proofs.ReadStands.{whole_writes, whole_drop, writes_drop}

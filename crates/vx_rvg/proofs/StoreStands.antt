@@ -1,5 +1,5 @@
 -- A group over a call that puts blocks into a volume without the log.
-use Rattle.std.proofs.Common.{◌≡◌, ◌⊎◌, inl, inr, ⊎_elim, ℕ, ◌+◌, ◌-◌, ◌*◌, ◌/◌, ◌<◌, ◌≤◌, ◌&&◌, Bool, true, false, List, [], ◌∷◌, length, eqb, leb, ltb, IsTrue, refl, sym, ◌∙◌, ap, subst, arith}
+use Rattle.std.proofs.Common.{◌≡◌, ◌⊎◌, inl, inr, ⊎_elim, ℕ, ◌+◌, ◌-◌, ◌*◌, ◌<◌, ◌≤◌, ◌&&◌, Bool, true, false, List, [], ◌∷◌, length, eqb, leb, ltb, IsTrue, refl, sym, ◌∙◌, ap, subst, arith}
 use Rattle.std.specs.Prelude.{if◌then◌else◌, Err}
 use Rattle.std.proofs.lemmas.Bool.Decides.{nat_tests}
 use Rattle.vx_model.specs.Content.{Content, Write, put, block_of, blocks_in, touches}
@@ -10,7 +10,6 @@ use Rattle.vx_disk.specs.declared.shelf.ShelfError.TheVariants.{Down, Fault}
 use Rattle.vx_disk.specs.Moves.{Beside, Moves, Run, Says}
 use Rattle.vx_disk.specs.Shelf.{Covers, Each, Goes, Image, Keeps, KeepsAll, Meaning, Or, Written}
 use Rattle.vx_disk.proofs.Moving.{Written_Run, kept_beside, of_written}
-use Rattle.vx_overlay.specs.Writes.{entries_of}
 use Rattle.vx_ringlog.specs.Chain.{Recovers}
 use Rattle.vx_ringlog.specs.Logs.{State, Seal}
 use Rattle.vx_ringlog.specs.Records.{Record}

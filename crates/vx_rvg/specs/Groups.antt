@@ -1,5 +1,5 @@
 -- What the calls of a replicated volume group answer.
-use Rattle.std.specs.Prelude.{◌≡◌, ◌⊎◌, ℕ, ◌+◌, ◌*◌, ◌/◌, ◌≤◌, ◌<◌, min, max, Option, Some, None, Result, Ok, Err, List, [], ◌∷◌, ◌++◌, length, drop, ltb, leb, if◌then◌else◌, MatchOption, IsTrue}
+use Rattle.std.specs.Prelude.{◌≡◌, ℕ, ◌+◌, ◌<◌, min, max, Option, Some, None, Result, Ok, Err, List, [], ◌++◌, length, drop, ltb, leb, if◌then◌else◌, MatchOption, IsTrue}
 use Rattle.vx_model.specs.Answer.{is_too_large}
 use Rattle.vx_model.specs.Content.{blocks_in, block_of}
 use Rattle.vx_model.specs.declared.no.No.{No}
@@ -10,12 +10,12 @@ use Rattle.vx_model.specs.declared.errors.Stop.TheVariants.{No as Refused, OutOf
 use Rattle.vx_model.specs.declared.state.State.{State}
 use Rattle.vx_model.specs.declared.units.Units.{Units}
 use Rattle.vx_disk.specs.Shelf.{Meaning}
-use Rattle.vx_overlay.specs.Pending.{Pending, newest}
+use Rattle.vx_overlay.specs.Pending.{newest}
 use Rattle.vx_overlay.specs.declared.entry.Entry.{Entry}
 use Rattle.vx_srl.specs.Calls.{sealed, staged_with}
 use Rattle.vx_srl.specs.Causes.{DeviceCause}
 use Rattle.vx_srl.specs.Headers.{new_header}
-use Rattle.vx_srl.specs.Views.{Log, most_number, head_of, kept_of}
+use Rattle.vx_srl.specs.Views.{Log, most_number, kept_of}
 use Rattle.vx_srl.specs.declared.errors.SrlNo.{SrlNo}
 use Rattle.vx_srl.specs.declared.errors.SrlNo.TheVariants.{Other}
 use Rattle.vx_overlay.specs.Writes.{entries_at}

@@ -4,7 +4,6 @@ use Rattle.vx_model.specs.Content.{Content, Write, put}
 use Rattle.vx_model.specs.declared.state.State.{State as SiteState}
 use Rattle.vx_model.specs.declared.units.Units.{Units}
 use Rattle.vx_srlfmt.specs.declared.header.Header.{Header}
-use Rattle.vx_disk.specs.Moves.{Says}
 use Rattle.vx_disk.specs.Shelf.{Meaning, Image, Keeps}
 use Rattle.vx_overlay.specs.Pending.{newest}
 use Rattle.vx_ringlog.specs.Cells.{Image as Kinds}

@@ -1,5 +1,5 @@
 -- Why a call on a log or on the volumes below it is refused.
-use Rattle.std.specs.Prelude.{◌≡◌, ℕ, IsTrue, Result, Ok, Err}
+use Rattle.std.specs.Prelude.{IsTrue, Result, Ok, Err}
 use Rattle.vx_disk.specs.declared.shelf.ShelfError.{ShelfError}
 use Rattle.vx_disk.specs.declared.shelf.ShelfError.TheVariants.{Fault, Down as IsDown}
 use Rattle.vx_disk.specs.Counts.{Rose}

@@ -1,5 +1,5 @@
 -- The headers that a log writes.
-use Rattle.std.specs.Prelude.{ℕ, ◌+◌, ◌%◌, take}
+use Rattle.std.specs.Prelude.{ℕ, ◌+◌, take}
 use Rattle.vx_model.specs.declared.state.State.{State}
 use Rattle.vx_srlfmt.specs.declared.header.Header.{Header}
 use Rattle.vx_srl.specs.Views.{Log, count_to, place_after, last_incarnation}

@@ -1,7 +1,7 @@
 -- A log that stands on the shelf, and what a call leaves of it.
-use Rattle.std.specs.Prelude.{◌≡◌, ℕ, ◌+◌, ◌%◌, List, map}
+use Rattle.std.specs.Prelude.{◌≡◌, ◌+◌, ◌%◌, List, map}
 use Rattle.vx_srlfmt.specs.declared.record.RecordHead.{RecordHead}
-use Rattle.vx_disk.specs.Moves.{Moves, Run, Says}
+use Rattle.vx_disk.specs.Moves.{Moves, Run}
 use Rattle.vx_disk.specs.Shelf.{Meaning, Image}
 use Rattle.vx_ringlog.specs.Logs.{State, Call, IsLog, Found, done}
 use Rattle.vx_ringlog.specs.Records.{Record}

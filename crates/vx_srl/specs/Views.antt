@@ -1,7 +1,6 @@
 -- A log as its callers see it.
-use Rattle.std.specs.Prelude.{◌≡◌, ℕ, ◌+◌, ◌-◌, ◌*◌, ◌%◌, ◌≤◌, ◌<◌, List, [], ◌∷◌, ◌++◌, length, take, drop, slice_get, Some, All, true}
+use Rattle.std.specs.Prelude.{◌≡◌, ℕ, ◌+◌, ◌-◌, ◌%◌, ◌≤◌, List, [], ◌∷◌, ◌++◌, length, drop, slice_get, Some, All, true}
 use Rattle.vx_model.specs.Content.{blocks_in}
-use Rattle.vx_model.specs.declared.state.State.{State}
 use Rattle.vx_wire.specs.Seals.{digest_of}
 use Rattle.vx_srlfmt.specs.Headers.{CanSpell}
 use Rattle.vx_srlfmt.specs.Records.{CanSpellHead}

@@ -1,6 +1,5 @@
 -- Each step of the search.
-use Rattle.std.proofs.Common.{◌≡◌, ◌≤◌, ◌<◌, ◌+◌, ◌-◌, min, ℕ, List, Some, length, take, get_or, refl, sym, ◌∙◌, ap, arith}
-use Rattle.std.specs.Prelude.{slice_get}
+use Rattle.std.proofs.Common.{◌≡◌, ◌<◌, ◌+◌, ◌-◌, min, ℕ, length, take, get_or, refl, sym, ◌∙◌, ap, arith}
 use Rattle.std.proofs.lemmas.Option.{slice_get_read}
 use Rattle.vx_overlay.specs.Pending.{newest}
 use Rattle.vx_overlay.proofs.Indexing.{begins, begins_all, goes_along_at, goes_back_at, hit_at}

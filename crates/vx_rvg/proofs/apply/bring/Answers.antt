@@ -1,7 +1,7 @@
-use Rattle.std.proofs.Common.{◌≡◌, ℕ, ◌≤◌, ◌+◌, subst, arith, refl}
+use Rattle.std.proofs.Common.{◌≤◌, ◌+◌, subst, arith}
 use Rattle.vx_srl.specs.Views.{IsOrdered, all_of}
 use Rattle.vx_rvg.specs.Views.{Core, volume_size}
-use Rattle.vx_rvg.proofs.ApplyAll.{BroughtTo, all_bring, due_few, more_moves, one_brought, rest_moves}
+use Rattle.vx_rvg.proofs.ApplyAll.{all_bring, due_few, more_moves, one_brought, rest_moves}
 use Rattle.vx_rvg.proofs.apply.bring.Goals as goal
 
 pub returns-in_err-count-clause-moves : goal.returns-in_err-count-clause-moves

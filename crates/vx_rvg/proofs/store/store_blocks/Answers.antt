@@ -1,7 +1,5 @@
 -- The group behind blocks that were put into a volume.
 use Rattle.std.proofs.Common.{sym, subst}
-use Rattle.vx_model.specs.declared.no.No.{No}
-use Rattle.vx_srl.specs.Causes.{DeviceCause}
 use Rattle.vx_rvg.specs.Views.{Core, IsSound}
 use Rattle.vx_rvg.proofs.StoreStands.{put_cause, store_fails, store_moves, store_stands}
 use Rattle.vx_rvg.proofs.store.store_blocks.Goals as goal

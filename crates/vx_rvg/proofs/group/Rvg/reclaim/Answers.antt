@@ -1,7 +1,6 @@
 -- The group behind a reclaim.
-use Rattle.std.proofs.Common.{◌≡◌, ◌≤◌, ◌+◌, ℕ, arith, subst, sym, ap}
+use Rattle.std.proofs.Common.{◌≤◌, ◌+◌, arith, subst, sym}
 use Rattle.vx_disk.specs.Moves.{Moves, Run}
-use Rattle.vx_disk.specs.Shelf.{Meaning}
 use Rattle.vx_srl.specs.Headers.{without}
 use Rattle.vx_srl.specs.Views.{count_to}
 use Rattle.vx_rvg.specs.Saves.{reclaimed}

@@ -1,7 +1,6 @@
 -- The group behind a new state.
 use Rattle.std.proofs.Common.{arith, subst, ◌+◌}
 use Rattle.vx_disk.specs.Moves.{Moves, Run}
-use Rattle.vx_disk.specs.Shelf.{Meaning}
 use Rattle.vx_srl.specs.Headers.{with_state}
 use Rattle.vx_rvg.specs.Saves.{with_new_state}
 use Rattle.vx_rvg.specs.Stands.{Saving}
