@@ -1,1 +1,4 @@
 pub mod PageLemmas
+pub mod ManyLemmas
+pub mod FormLaws
+pub mod TableLaws

@@ -12,4 +12,4 @@ pub onto-onto : (x a b : List ℕ) → onto (onto x a) b ≡ onto x (a ++ b)
 unfolding onto
 onto-onto x a b = cut-cut room (x ++ a) b ∙ ap (take room) (append_assoc x a b)
 
-pub ruleset joined = onto-onto, append_assoc
+pub ruleset joined = (onto-onto, append_assoc)
