@@ -2,3 +2,4 @@ pub mod PageLemmas
 pub mod ManyLemmas
 pub mod FormLaws
 pub mod TableLaws
+pub mod DecodeLemmas
