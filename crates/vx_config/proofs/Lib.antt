@@ -3,3 +3,5 @@ pub mod ManyLemmas
 pub mod FormLaws
 pub mod TableLaws
 pub mod DecodeLemmas
+pub mod FitLemmas
+pub mod LengthLemmas
