@@ -1,8 +1,8 @@
 // The runs of blocks that subdisks and logs take, side by side.
-ghost use Rattle.std.specs.Prelude.{◌≡◌, ◌+◌, ◌*◌, ◌<◌, ◌≤◌, ◌++◌, length, flat_map, sum_by};
+ghost use Rattle.std.specs.Prelude.{◌≡◌, ◌+◌, ◌<◌, ◌≤◌, ◌++◌, length, flat_map, sum_by};
 ghost use Rattle.std.specs.List.{list_all};
-ghost use Rattle.vx_config.specs.Checks.{pairwise, are_apart as are_apart_is, in_region as in_region_is, are_placed as are_placed_is, log_run as log_run_is, log_runs, plex_runs, volume_runs, runs as runs_is};
-ghost use Rattle.vx_config.specs.Configs.{plex_subdisks, volume_subdisks, subdisk_count};
+ghost use Rattle.vx_config.specs.Checks.{pairwise, are_apart as are_apart_is, in_region as in_region_is, are_placed as are_placed_is, log_run as log_run_is, log_runs, plex_runs, volume_runs, volume_room, runs as runs_is};
+ghost use Rattle.vx_config.specs.Configs.{plex_subdisks, subdisk_count};
 
 use crate::{Config, DiskEntry, LogEntry, PlexEntry, Subdisk, VolumeEntry};
 use arrayvec::ArrayVec;
@@ -48,7 +48,7 @@ fn push_plexes(runs: &mut Runs, plexes: &[PlexEntry])
 }
 
 fn push_volume(runs: &mut Runs, volume: &VolumeEntry)
-    requires { length runs.old.items + (volume_subdisks volume.now + 2) ≤ 1088 }
+    requires { length runs.old.items + volume_room volume.now ≤ 1088 }
     ensures { runs.new.items ≡ runs.old.items ++ volume_runs volume.now }
 {
     push_plexes(runs, volume.plexes.as_slice());
@@ -57,7 +57,7 @@ fn push_volume(runs: &mut Runs, volume: &VolumeEntry)
 }
 
 fn push_volumes(runs: &mut Runs, volumes: &[VolumeEntry])
-    requires { length runs.old.items + (sum_by volume_subdisks volumes.now + 2 * length volumes.now) ≤ 1088 }
+    requires { length runs.old.items + sum_by volume_room volumes.now ≤ 1088 }
     ensures { runs.new.items ≡ runs.old.items ++ flat_map volume_runs volumes.now }
 {
     for volume in volumes {

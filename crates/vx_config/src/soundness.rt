@@ -1,7 +1,7 @@
 // The tests of one volume.
 ghost use Rattle.std.specs.Prelude.{◌≡◌, ◌*◌, ◌<◌, ◌≤◌, length};
 ghost use Rattle.std.specs.List.{list_all, list_any};
-ghost use Rattle.vx_config.specs.Checks.{map_blocks as map_blocks_is, column_blocks as column_blocks_is, fill, plex_fills as plex_fills_is, log_has as log_has_is, preferred_is as preferred_is_is, is_live as is_live_is, has_shape as has_shape_is, has_logs as has_logs_is, has_plexes as has_plexes_is, is_volume as is_volume_is};
+ghost use Rattle.vx_config.specs.Checks.{map_blocks as map_blocks_is, column_blocks as column_blocks_is, next_room as next_room_is, fill, plex_fills as plex_fills_is, log_has as log_has_is, preferred_is as preferred_is_is, is_live as is_live_is, has_shape as has_shape_is, has_logs as has_logs_is, has_plexes as has_plexes_is, is_volume as is_volume_is};
 
 use crate::{LogEntry, PlexEntry, Subdisk, VolumeEntry};
 use vx_model::PlexState;
@@ -28,6 +28,13 @@ fn column_blocks(volume: &VolumeEntry) -> u128
     }
 }
 
+// The room of the next column, where there is one.
+fn next_room(column: u128, columns: u8) -> u128
+    ensures { result ≡ next_room_is column columns }
+{
+    if columns <= 1 { 0 } else { column }
+}
+
 fn fills(column: u128, ncol: u8, subdisks: &[Subdisk]) -> bool
     ensures { result ≡ fill column ncol column subdisks.now }
 {
@@ -39,7 +46,7 @@ fn fills(column: u128, ncol: u8, subdisks: &[Subdisk]) -> bool
             return false;
         }
         if blocks == room {
-            room = if columns <= 1 { 0 } else { column };
+            room = next_room(column, columns);
             columns = columns.saturating_sub(1);
         } else {
             room -= blocks;
