@@ -35,4 +35,8 @@ pub use plexes::Plexes;
 pub use stop::ConfigStop;
 pub use subdisks::Subdisks;
 pub use volumes::Volumes;
+pub use vx_model::PlexState;
 use wrong::Wrong;
+
+#[cfg(test)]
+mod tests;

@@ -13,5 +13,13 @@ push_log-requires c =
 pub push_log-requires-2 : goal.push_log-requires-2
 push_log-requires-2 c =
     let same : sum_by plex_subdisks c.as_slice.result.now ≡ volume_subdisks c.args.volume.now = ap (sum_by plex_subdisks) c.as_slice.ensures.plexes in
-    omega (arith, ap length c.push_plexes.ensures, length-append c.args.runs.now.items (flat_map plex_runs c.as_slice.result.now), plexes-room c.as_slice.result.now, same,
-      ap length c.push_log.ensures, length-append c.push_plexes.new.runs.items (log_runs c.args.volume.now.drl), log-room c.args.volume.now.drl)
+    omega (
+      arith,
+      ap length c.push_plexes.ensures,
+      length-append c.args.runs.now.items (flat_map plex_runs c.as_slice.result.now),
+      plexes-room c.as_slice.result.now,
+      same,
+      ap length c.push_log.ensures,
+      length-append c.push_plexes.new.runs.items (log_runs c.args.volume.now.drl),
+      log-room c.args.volume.now.drl,
+    )

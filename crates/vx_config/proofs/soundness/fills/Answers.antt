@@ -11,9 +11,9 @@ pub loop-subdisk-preserved : goal.loop-subdisk-preserved
 loop-subdisk-preserved c =
     elim c.if-blocks-room-2.branch [
       | then-blocks-room-2 w ↦ rw (w.columns-is, w.room-is, w.saturating_sub-columns.ensures, w.next_room-room.ensures)
-        (fill-full c.args.column c.loop-subdisk.columns c.loop-subdisk.room c.from-blocks.result c.args.subdisks.now c.loop-subdisk.subdisk-index (fill c.args.column c.args.ncol c.args.column c.args.subdisks.now) c.loop-subdisk-test.true c.from-blocks.ensures w.if-blocks-room-2.true c.loop-subdisk.invariant)
+          (fill-full c.args.column c.loop-subdisk.columns c.loop-subdisk.room c.from-blocks.result c.args.subdisks.now c.loop-subdisk.subdisk-index (fill c.args.column c.args.ncol c.args.column c.args.subdisks.now) c.loop-subdisk-test.true c.from-blocks.ensures w.if-blocks-room-2.true c.loop-subdisk.invariant)
       | else-blocks-room-2 w ↦ rw (w.columns-is, w.room-is)
-        (fill-part c.args.column c.loop-subdisk.columns c.loop-subdisk.room c.from-blocks.result c.args.subdisks.now c.loop-subdisk.subdisk-index (fill c.args.column c.args.ncol c.args.column c.args.subdisks.now) c.loop-subdisk-test.true c.from-blocks.ensures c.if-blocks-room.false w.if-blocks-room-2.false c.loop-subdisk.invariant)
+          (fill-part c.args.column c.loop-subdisk.columns c.loop-subdisk.room c.from-blocks.result c.args.subdisks.now c.loop-subdisk.subdisk-index (fill c.args.column c.args.ncol c.args.column c.args.subdisks.now) c.loop-subdisk-test.true c.from-blocks.ensures c.if-blocks-room.false w.if-blocks-room-2.false c.loop-subdisk.invariant)
     ]
 
 pub returns-then-columns-eq0 : goal.returns-then-columns-eq0
