@@ -116,7 +116,7 @@ fn spells_a_mirror(rt: HostRuntime) -> Result<(), Fail> {
     let mut into = [0xff; 65024];
     is_short(&config);
     assert_eq!(rt; encode_into(&config, &mut into), 117);
-    assert_eq!(rt; &into[..117], MIRROR.as_slice());
+    assert!(rt; into.starts_with(&MIRROR));
     assert_eq!(rt; into[117], 0xff);
     Ok(())
 }
@@ -154,7 +154,7 @@ fn reads_a_group(rt: HostRuntime) -> Result<(), Fail> {
     let (config, len) = decode(rt.alloc(), &GROUP)?;
     assert_eq!(rt; len, 32);
     assert!(rt; !check(&config));
-    match config.rvg {
+    match &config.rvg {
         Some(units) => {
             assert_eq!(rt; units.srl, 0);
             assert_eq!(rt; units.maps, 1);
@@ -186,7 +186,9 @@ fn finds_the_first_wrong_field(rt: HostRuntime) {
         (116, 2, 116),
     ] {
         let mut bytes = MIRROR;
-        bytes[place] = byte;
+        if place < bytes.len() {
+            bytes[place] = byte;
+        }
         match decode(rt.alloc(), &bytes) {
             Err(ConfigStop::BadConfig { at }) => assert_eq!(rt; at, wanted),
             _ => assert!(rt; false),
