@@ -60,7 +60,7 @@ guard_ok : {A : Type 0} (b : Bool) (left : ℕ) (x y : A × List ℕ) → cond b
 guard_ok true left x y e = absurd cc
 guard_ok false left x y e = (refl, ok_is x y e)
 
-guard_err : {A : Type 0} (b : Bool) (k left : ℕ) (x : A × List ℕ) → cond b (failed k) (Ok x) ≡ Err left → k ≡ left
+pub guard_err : {A : Type 0} (b : Bool) (k left : ℕ) (x : A × List ℕ) → cond b (failed k) (Ok x) ≡ Err left → k ≡ left
 guard_err {A} true k left x e = err_is {A = A} k left e
 guard_err false k left x e = absurd cc
 
@@ -136,7 +136,7 @@ coded_ok : {A : Type 0} (left : ℕ) (rest : List ℕ) (o : Option A) (x : A × 
 coded_ok left rest None x e = absurd cc
 coded_ok {A} left rest (Some a) x e = (ap (λ (y : A × List ℕ). Some y.0) (ok_is (a, rest) x e), ap (λ (y : A × List ℕ). y.1) (ok_is (a, rest) x e))
 
-coded_err : {A : Type 0} (k left : ℕ) (rest : List ℕ) (o : Option A) → coded_or k rest o ≡ Err left → k ≡ left
+pub coded_err : {A : Type 0} (k left : ℕ) (rest : List ℕ) (o : Option A) → coded_or k rest o ≡ Err left → k ≡ left
 coded_err {A} k left rest None e = err_is {A = A} k left e
 coded_err k left rest (Some a) e = absurd cc
 
@@ -332,7 +332,7 @@ keyed-IsForm {K} {A} key first form is_first is_form tells = record {
 
 -- ---- many values
 
-many-takes : {A : Type 0} (form : Form A) → IsForm form → (n : ℕ) (bytes : List ℕ) (x : List A × List ℕ) → AreBytes bytes → read_many form n bytes ≡ Ok x
+pub many-takes : {A : Type 0} (form : Form A) → IsForm form → (n : ℕ) (bytes : List ℕ) (x : List A × List ℕ) → AreBytes bytes → read_many form n bytes ≡ Ok x
     → Takes bytes (flat_map form.spell x.0) x.1 × ((length x.0 ≡ n) × AllByRecursion form.Fits x.0)
 unfolding read_many
 many-takes {A} form is zero bytes x h e =
@@ -363,7 +363,7 @@ many-again {A} form is (x ∷ xs) rest fits =
     let two : read_many form (length xs) more ≡ Ok (xs, rest) = many-again form is xs rest fits.1 in
     ap (read_many form (suc (length xs))) regrouped ∙ rw (one, two) refl
 
-many-stops : {A : Type 0} (form : Form A) → IsForm form → (n : ℕ) (bytes : List ℕ) (left : ℕ) → AreBytes bytes → read_many form n bytes ≡ Err left → left ≤ length bytes
+pub many-stops : {A : Type 0} (form : Form A) → IsForm form → (n : ℕ) (bytes : List ℕ) (left : ℕ) → AreBytes bytes → read_many form n bytes ≡ Err left → left ≤ length bytes
 unfolding read_many
 many-stops form is zero bytes left h e = absurd cc
 many-stops {A} form is (suc n) bytes left h e =
@@ -437,7 +437,7 @@ if-again form is (Some a) rest fits =
     let one : form.read (form.spell a ++ rest) ≡ Ok (a, rest) = is.again a rest fits in
     rw one refl
 
-if-stops : {A : Type 0} (form : Form A) → IsForm form → (b : Bool) (bytes : List ℕ) (left : ℕ) → AreBytes bytes → read_if form b bytes ≡ Err left → left ≤ length bytes
+pub if-stops : {A : Type 0} (form : Form A) → IsForm form → (b : Bool) (bytes : List ℕ) (left : ℕ) → AreBytes bytes → read_if form b bytes ≡ Err left → left ≤ length bytes
 if-stops form is false bytes left h e = absurd cc
 if-stops {A} form is true bytes left h e =
     let join : A × List ℕ → Reading (Option A) = λ a. Ok (Some a.0, a.1) in

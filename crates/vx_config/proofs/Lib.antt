@@ -5,6 +5,8 @@ pub mod TableLaws
 pub mod DecodeLemmas
 pub mod FitLemmas
 pub mod LengthLemmas
+pub mod BeforeLaws
+pub mod BeforeTable
 pub mod CountLemmas
 pub mod PairLemmas
 pub mod RunLemmas

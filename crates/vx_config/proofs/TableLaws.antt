@@ -95,19 +95,29 @@ preferred-IsForm policy = record {
       (λ wrong. (within-IsForm 1 0 (most_preferred policy)).stops bytes left h wrong) (λ p pe none. absurd cc);
 }
 
-abbrev flags : Form (Bool × (Bool × Bool))
+abbrev pub flags_of : Ways → Bool × (Bool × Bool)
+flags_of w = (is_some w.1.0, (is_some w.1.1, is_some w.0))
+
+abbrev pub flags : Form (Bool × (Bool × Bool))
 flags = pair flag (pair flag flag)
 
-abbrev behind_flags : Bool × (Bool × Bool) → Form Ways
+abbrev pub behind_flags : Bool × (Bool × Bool) → Form Ways
 behind_flags k = pair (preferred k.1.1) (pair (where_flag log k.0) (where_flag log k.1.0))
+
+pub flags-IsForm : IsForm flags
+flags-IsForm = pair-IsForm flag (pair flag flag) flag-IsForm (pair-IsForm flag flag flag-IsForm flag-IsForm)
+
+pub behind_flags-IsForm : (k : Bool × (Bool × Bool)) → IsForm (behind_flags k)
+behind_flags-IsForm k = pair-IsForm (preferred k.1.1) (pair (where_flag log k.0) (where_flag log k.1.0)) (preferred-IsForm k.1.1)
+    (pair-IsForm (where_flag log k.0) (where_flag log k.1.0) (where_flag-IsForm log k.0 log-IsForm) (where_flag-IsForm log k.1.0 log-IsForm))
+
+-- the flags of what has a spelling behind them
+pub ways-tell : (k : Bool × (Bool × Bool)) (a : Ways) → (behind_flags k).Fits a → flags_of a ≡ k
+ways-tell k a fits = let p : is_some a.0 ≡ k.1.1 = fits.0.0 in let d : is_some a.1.0 ≡ k.0 = fits.1.0.0 in let f : is_some a.1.1 ≡ k.1.0 = fits.1.1.0 in rw (d, f, p) refl
 
 pub ways-IsForm : IsForm ways
 unfolding ways
-ways-IsForm = keyed-IsForm (λ w. (is_some w.1.0, (is_some w.1.1, is_some w.0))) flags behind_flags
-    (pair-IsForm flag (pair flag flag) flag-IsForm (pair-IsForm flag flag flag-IsForm flag-IsForm))
-    (λ k. pair-IsForm (preferred k.1.1) (pair (where_flag log k.0) (where_flag log k.1.0)) (preferred-IsForm k.1.1)
-    (pair-IsForm (where_flag log k.0) (where_flag log k.1.0) (where_flag-IsForm log k.0 log-IsForm) (where_flag-IsForm log k.1.0 log-IsForm)))
-    (λ k a fits. let p : is_some a.0 ≡ k.1.1 = fits.0.0 in let d : is_some a.1.0 ≡ k.0 = fits.1.0.0 in let f : is_some a.1.1 ≡ k.1.0 = fits.1.1.0 in rw (d, f, p) refl)
+ways-IsForm = keyed-IsForm flags_of flags behind_flags flags-IsForm behind_flags-IsForm ways-tell
 
 pub volume-IsForm : IsForm volume
 unfolding volume

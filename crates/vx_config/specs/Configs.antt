@@ -30,11 +30,18 @@ pub record HasFront (bytes : List ℕ) : Type 0 where
   pub has : HasSpelling value
   pub is : bytes ≡ spelled value ++ rest
 
+-- some configuration is spelled as the bytes are, up to this byte
+pub record AgreesUpTo (at : ℕ) (bytes : List ℕ) : Type 0 where
+  pub value : Config
+  pub has : HasSpelling value
+  pub same : take at (spelled value) ≡ take at bytes
+
 -- read from the left, the first field that is wrong or missing begins at this byte
 pub record IsFirstWrong (at : ℕ) (bytes : List ℕ) : Type 0 where
   pub left : ℕ
   pub inside : at + left ≡ length bytes
   pub wrong : config.read bytes ≡ Err left
+  pub before : AgreesUpTo at bytes
 
 -- the numbers of a replicated volume group fit their fields
 pub record UnitsFit (u : Units) : Type 0 where

@@ -13,6 +13,7 @@ mod encoding;
 mod entry;
 mod fits;
 mod group;
+pub mod laws;
 mod page;
 mod plexes;
 mod reading;
