@@ -1,12 +1,12 @@
 -- All before the first wrong field is right: some value is spelled as the bytes are up to there.
-use Rattle.std.proofs.Common.{◌≡◌, ℕ, zero, suc, ◌+◌, ◌-◌, ◌^◌, ◌<◌, ◌≤◌, Bool, true, false, cond, ◌&&◌, ◌||◌, List, [], ◌∷◌, ◌++◌, length, take, drop, Option, Some, None, Result, Ok, Err, refl, sym, ap, subst, ◌∙◌, append_assoc, arith}
+use Rattle.std.proofs.Common.{◌≡◌, ℕ, zero, suc, ◌+◌, ◌-◌, ◌^◌, ◌<◌, ◌≤◌, Bool, true, false, ◌&&◌, ◌||◌, List, [], ◌∷◌, ◌++◌, length, take, drop, Option, Some, None, Ok, Err, refl, sym, ap, subst, ◌∙◌, arith}
 use Rattle.std.specs.Prelude.{flat_map, is_some, nat_lt, nat_le, ◌==◌, if◌then◌else◌}
 use Rattle.std.specs.List.{AllByRecursion}
-use Rattle.std.proofs.lemmas.List.{take_at, drop_at, take-append-drop, take-append-le, take-take, drop-take, length-append, length-take, append-nil}
+use Rattle.std.proofs.lemmas.List.{take_at, drop_at, take-append-drop, take-append-le, take-take, drop-take, length-append, length-take}
 use Rattle.std.proofs.lemmas.List.Concat.{flat_map-cons}
 use Rattle.vx_wire.specs.Numbers.{be_bytes, AreBytes, number_at}
 use Rattle.vx_config.specs.Forms.{Reading, ◌>>=◌, Form, number, within, coded_or, coded, flag, flag_code, flag_of, read_name, name, pair, made_of, keyed, read_many, counted, spell_if, read_if, FitsIf, optional, same_flag, where_flag}
-use Rattle.vx_config.proofs.FormLaws.{bind_ok, bind_err, ok_is, err_is, test_err, Takes, IsForm, number-IsForm, within-IsForm, IsCode, coded-IsForm, coded_err, guard_err, flag-IsForm, flag-IsCode, flag_fits, pair-IsForm, many-takes, many-stops, behind_flag, spell_if-is, if-stops}
+use Rattle.vx_config.proofs.FormLaws.{bind_err, err_is, test_err, IsForm, within-IsForm, coded_err, guard_err, flag-IsForm, flag_fits, many-stops, if-stops}
 
 -- ---- fronts
 
@@ -73,8 +73,8 @@ within-IsField w least most = record {
   starts = λ bytes left e.
       let test : ℕ × List ℕ → Reading ℕ = λ n. if nat_le least n.0 && nat_le n.0 most then Ok n else Err (length bytes) in
       bind_err ((number w).read bytes) test left (left ≡ length bytes) e
-        (λ first. (number-IsField w).starts bytes left first)
-        (λ n ne second. test_err (nat_le least n.0 && nat_le n.0 most) (length bytes) left (Ok n) (left ≡ length bytes) second (λ k. sym k) (λ t wrong. absurd cc));
+      (λ first. (number-IsField w).starts bytes left first)
+      (λ n ne second. test_err (nat_le least n.0 && nat_le n.0 most) (length bytes) left (Ok n) (left ≡ length bytes) second (λ k. sym k) (λ t wrong. absurd cc));
 }
 
 coded-IsField : {A : Type 0} (code : A → ℕ) (of : ℕ → Option A) → IsField (coded code of)
@@ -82,8 +82,8 @@ coded-IsField {A} code of = record {
   starts = λ bytes left e.
       let choose : ℕ × List ℕ → Reading A = λ n. coded_or (length bytes) n.1 (of n.0) in
       bind_err ((number 1).read bytes) choose left (left ≡ length bytes) e
-        (λ first. (number-IsField 1).starts bytes left first)
-        (λ n ne second. sym (coded_err (length bytes) left n.1 (of n.0) second));
+      (λ first. (number-IsField 1).starts bytes left first)
+      (λ n ne second. sym (coded_err (length bytes) left n.1 (of n.0) second));
 }
 
 flag-IsField : IsField flag
@@ -119,18 +119,18 @@ pair-IsFull {A} {B} f g is_f is_g full_f full_g = record {
   before = λ bytes left h e.
       let more : A × List ℕ → Reading (A × B) = λ a. g.read a.1 >>= λ b. Ok ((a.0, b.0), b.1) in
       bind_err (f.read bytes) more left (Before (pair f g) bytes left) e
-        (λ first.
-          let b : Before f bytes left = full_f.before bytes left h first in
-          record { value = (b.value, full_g.one); fits = (b.fits, full_g.fits); same = front-take (length bytes - left) (f.spell b.value) (g.spell full_g.one) bytes (omega arith) b.same })
-        (λ a ae second.
-          let taken = is_f.takes bytes a h ae in
-          let join : B × List ℕ → Reading (A × B) = λ b. Ok ((a.0, b.0), b.1) in
-          bind_err (g.read a.1) join left (Before (pair f g) bytes left) second
-            (λ wrong.
-              let b : Before g a.1 left = full_g.before a.1 left taken.0.behind wrong in
-              let inside : left ≤ length a.1 = is_g.stops a.1 left taken.0.behind wrong in
-              record { value = (a.0, b.value); fits = (taken.1, b.fits); same = behind-take bytes (f.spell a.0) a.1 (g.spell b.value) left taken.0.parts inside b.same })
-            (λ b be none. absurd cc));
+      (λ first.
+      let b : Before f bytes left = full_f.before bytes left h first in
+      record { value = (b.value, full_g.one); fits = (b.fits, full_g.fits); same = front-take (length bytes - left) (f.spell b.value) (g.spell full_g.one) bytes (omega arith) b.same })
+      (λ a ae second.
+      let taken = is_f.takes bytes a h ae in
+      let join : B × List ℕ → Reading (A × B) = λ b. Ok ((a.0, b.0), b.1) in
+      bind_err (g.read a.1) join left (Before (pair f g) bytes left) second
+      (λ wrong.
+      let b : Before g a.1 left = full_g.before a.1 left taken.0.behind wrong in
+      let inside : left ≤ length a.1 = is_g.stops a.1 left taken.0.behind wrong in
+      record { value = (a.0, b.value); fits = (taken.1, b.fits); same = behind-take bytes (f.spell a.0) a.1 (g.spell b.value) left taken.0.parts inside b.same })
+      (λ b be none. absurd cc));
 }
 
 pub made_of-IsFull : {A B : Type 0} (make : A → B) (parts : B → A) (form : Form A) → ((a : A) → parts (make a) ≡ a) → IsFull form → IsFull (made_of make parts form)
@@ -140,11 +140,11 @@ made_of-IsFull {A} {B} make parts form there full = record {
   before = λ bytes left h e.
       let join : A × List ℕ → Reading B = λ a. Ok (make a.0, a.1) in
       bind_err (form.read bytes) join left (Before (made_of make parts form) bytes left) e
-        (λ first.
-          let b : Before form bytes left = full.before bytes left h first in
-          let same : form.spell (parts (make b.value)) ≡ form.spell b.value = ap form.spell (there b.value) in
-          record { value = make b.value; fits = subst form.Fits (sym (there b.value)) b.fits; same = ap (take (length bytes - left)) same ∙ b.same })
-        (λ a ae none. absurd cc);
+      (λ first.
+      let b : Before form bytes left = full.before bytes left h first in
+      let same : form.spell (parts (make b.value)) ≡ form.spell b.value = ap form.spell (there b.value) in
+      record { value = make b.value; fits = subst form.Fits (sym (there b.value)) b.fits; same = ap (take (length bytes - left)) same ∙ b.same })
+      (λ a ae none. absurd cc);
 }
 
 pub keyed-IsFull : {K A : Type 0} (key : A → K) (first : Form K) (form : K → Form A) → IsForm first → ((k : K) → IsForm (form k)) → ((k : K) (a : A) → (form k).Fits a → key a ≡ k) → IsFull first → ((k : K) → IsFull (form k)) → IsFull (keyed key first form)
@@ -154,20 +154,20 @@ keyed-IsFull {K} {A} key first form is_first is_form tells full_first full_form 
   before = λ bytes left h e.
       let more : K × List ℕ → Reading A = λ k. (form k.0).read k.1 in
       bind_err (first.read bytes) more left (Before (keyed key first form) bytes left) e
-        (λ wrong.
-          let b : Before first bytes left = full_first.before bytes left h wrong in
-          let a : A = (full_form b.value).one in
-          let same : key a ≡ b.value = tells b.value a (full_form b.value).fits in
-          let front : take (length bytes - left) (first.spell (key a)) ≡ take (length bytes - left) bytes = ap (λ (k : K). take (length bytes - left) (first.spell k)) same ∙ b.same in
-          record { value = a; fits = fits_at b.value a b.fits (full_form b.value).fits; same = front-take (length bytes - left) (first.spell (key a)) ((form (key a)).spell a) bytes (omega arith) front })
-        (λ k ke wrong.
-          let taken = is_first.takes bytes k h ke in
-          let b : Before (form k.0) k.1 left = (full_form k.0).before k.1 left taken.0.behind wrong in
-          let inside : left ≤ length k.1 = (is_form k.0).stops k.1 left taken.0.behind wrong in
-          let same : k.0 ≡ key b.value = sym (tells k.0 b.value b.fits) in
-          let P : K → Type 0 = λ v. take (length bytes - left) (first.spell v ++ (form v).spell b.value) ≡ take (length bytes - left) bytes in
-          let whole : P k.0 = behind-take bytes (first.spell k.0) k.1 ((form k.0).spell b.value) left taken.0.parts inside b.same in
-          record { value = b.value; fits = fits_at k.0 b.value taken.1 b.fits; same = subst P same whole });
+      (λ wrong.
+      let b : Before first bytes left = full_first.before bytes left h wrong in
+      let a : A = (full_form b.value).one in
+      let same : key a ≡ b.value = tells b.value a (full_form b.value).fits in
+      let front : take (length bytes - left) (first.spell (key a)) ≡ take (length bytes - left) bytes = ap (λ (k : K). take (length bytes - left) (first.spell k)) same ∙ b.same in
+      record { value = a; fits = fits_at b.value a b.fits (full_form b.value).fits; same = front-take (length bytes - left) (first.spell (key a)) ((form (key a)).spell a) bytes (omega arith) front })
+      (λ k ke wrong.
+      let taken = is_first.takes bytes k h ke in
+      let b : Before (form k.0) k.1 left = (full_form k.0).before k.1 left taken.0.behind wrong in
+      let inside : left ≤ length k.1 = (is_form k.0).stops k.1 left taken.0.behind wrong in
+      let same : k.0 ≡ key b.value = sym (tells k.0 b.value b.fits) in
+      let P : K → Type 0 = λ v. take (length bytes - left) (first.spell v ++ (form v).spell b.value) ≡ take (length bytes - left) bytes in
+      let whole : P k.0 = behind-take bytes (first.spell k.0) k.1 ((form k.0).spell b.value) left taken.0.parts inside b.same in
+      record { value = b.value; fits = fits_at k.0 b.value taken.1 b.fits; same = subst P same whole });
 } where
   fits_at : (k : K) (a : A) → first.Fits k → (form k).Fits a → first.Fits (key a) × (form (key a)).Fits a
   fits_at k a p q = subst (λ (v : K). first.Fits v × (form v).Fits a) (sym (tells k a q)) (p, q)
@@ -200,29 +200,29 @@ many-before form is full zero bytes left h e = absurd cc
 many-before {A} form is full (suc n) bytes left h e =
     let more : A × List ℕ → Reading (List A) = λ a. read_many form n a.1 >>= λ xs. Ok (a.0 ∷ xs.0, xs.1) in
     bind_err (form.read bytes) more left (BeforeMany form (suc n) bytes left) e
-      (λ wrong.
-        let b : Before form bytes left = full.before bytes left h wrong in
-        let others : List A = ones full.one n in
-        record {
-          values = b.value ∷ others;
-          count = ap suc (length-ones full.one n);
-          fits = (b.fits, ones-fit form.Fits full.one n full.fits);
-          same = ap (take (length bytes - left)) (flat_map-cons form.spell b.value others) ∙ front-take (length bytes - left) (form.spell b.value) (flat_map form.spell others) bytes (omega arith) b.same;
-        })
-      (λ a ae second.
-        let taken = is.takes bytes a h ae in
-        let join : List A × List ℕ → Reading (List A) = λ xs. Ok (a.0 ∷ xs.0, xs.1) in
-        bind_err (read_many form n a.1) join left (BeforeMany form (suc n) bytes left) second
-          (λ wrong.
-            let b : BeforeMany form n a.1 left = many-before form is full n a.1 left taken.0.behind wrong in
-            let inside : left ≤ length a.1 = many-stops form is n a.1 left taken.0.behind wrong in
-            record {
-              values = a.0 ∷ b.values;
-              count = ap suc b.count;
-              fits = (taken.1, b.fits);
-              same = ap (take (length bytes - left)) (flat_map-cons form.spell a.0 b.values) ∙ behind-take bytes (form.spell a.0) a.1 (flat_map form.spell b.values) left taken.0.parts inside b.same;
-            })
-          (λ xs xse none. absurd cc))
+    (λ wrong.
+    let b : Before form bytes left = full.before bytes left h wrong in
+    let others : List A = ones full.one n in
+    record {
+      values = b.value ∷ others;
+      count = ap suc (length-ones full.one n);
+      fits = (b.fits, ones-fit form.Fits full.one n full.fits);
+      same = ap (take (length bytes - left)) (flat_map-cons form.spell b.value others) ∙ front-take (length bytes - left) (form.spell b.value) (flat_map form.spell others) bytes (omega arith) b.same;
+    })
+    (λ a ae second.
+    let taken = is.takes bytes a h ae in
+    let join : List A × List ℕ → Reading (List A) = λ xs. Ok (a.0 ∷ xs.0, xs.1) in
+    bind_err (read_many form n a.1) join left (BeforeMany form (suc n) bytes left) second
+    (λ wrong.
+    let b : BeforeMany form n a.1 left = many-before form is full n a.1 left taken.0.behind wrong in
+    let inside : left ≤ length a.1 = many-stops form is n a.1 left taken.0.behind wrong in
+    record {
+      values = a.0 ∷ b.values;
+      count = ap suc b.count;
+      fits = (taken.1, b.fits);
+      same = ap (take (length bytes - left)) (flat_map-cons form.spell a.0 b.values) ∙ behind-take bytes (form.spell a.0) a.1 (flat_map form.spell b.values) left taken.0.parts inside b.same;
+    })
+    (λ xs xse none. absurd cc))
 
 pub counted-IsFull : {A : Type 0} (least most : ℕ) (form : Form A) → least ≤ most → most ≤ 255 → IsForm form → IsFull form → IsFull (counted least most form)
 counted-IsFull {A} least most form low few is full = record {
@@ -231,24 +231,24 @@ counted-IsFull {A} least most form low few is full = record {
   before = λ bytes left h e.
       let more : ℕ × List ℕ → Reading (List A) = λ n. read_many form n.0 n.1 in
       bind_err ((within 1 least most).read bytes) more left (Before (counted least most form) bytes left) e
-        (λ wrong.
-          let all : left ≡ length bytes = (within-IsField 1 least most).starts bytes left wrong in
-          record {
-            value = ones full.one least;
-            fits = (omega (arith, length-ones full.one least), omega (arith, length-ones full.one least), ones-fit form.Fits full.one least full.fits);
-            same = none-before (length bytes - left) (be_bytes 1 (length (ones full.one least)) ++ flat_map form.spell (ones full.one least)) bytes (omega arith);
-          })
-        (λ n ne wrong.
-          let taken = (within-IsForm 1 least most).takes bytes n h ne in
-          let b : BeforeMany form n.0 n.1 left = many-before form is full n.0 n.1 left taken.0.behind wrong in
-          let inside : left ≤ length n.1 = many-stops form is n.0 n.1 left taken.0.behind wrong in
-          let P : ℕ → Type 0 = λ m. take (length bytes - left) (be_bytes 1 m ++ flat_map form.spell b.values) ≡ take (length bytes - left) bytes in
-          let whole : P n.0 = behind-take bytes (be_bytes 1 n.0) n.1 (flat_map form.spell b.values) left taken.0.parts inside b.same in
-          record {
-            value = b.values;
-            fits = (omega (arith, b.count, taken.1.1), omega (arith, b.count, taken.1.2), b.fits);
-            same = subst P (sym b.count) whole;
-          });
+      (λ wrong.
+      let all : left ≡ length bytes = (within-IsField 1 least most).starts bytes left wrong in
+      record {
+        value = ones full.one least;
+        fits = (omega (arith, length-ones full.one least), omega (arith, length-ones full.one least), ones-fit form.Fits full.one least full.fits);
+        same = none-before (length bytes - left) (be_bytes 1 (length (ones full.one least)) ++ flat_map form.spell (ones full.one least)) bytes (omega arith);
+      })
+      (λ n ne wrong.
+      let taken = (within-IsForm 1 least most).takes bytes n h ne in
+      let b : BeforeMany form n.0 n.1 left = many-before form is full n.0 n.1 left taken.0.behind wrong in
+      let inside : left ≤ length n.1 = many-stops form is n.0 n.1 left taken.0.behind wrong in
+      let P : ℕ → Type 0 = λ m. take (length bytes - left) (be_bytes 1 m ++ flat_map form.spell b.values) ≡ take (length bytes - left) bytes in
+      let whole : P n.0 = behind-take bytes (be_bytes 1 n.0) n.1 (flat_map form.spell b.values) left taken.0.parts inside b.same in
+      record {
+        value = b.values;
+        fits = (omega (arith, b.count, taken.1.1), omega (arith, b.count, taken.1.2), b.fits);
+        same = subst P (sym b.count) whole;
+      });
 }
 
 -- ---- values behind a flag
@@ -278,12 +278,12 @@ optional-IsFull {A} form is full = record {
   before = λ bytes left h e.
       let more : Bool × List ℕ → Reading (Option A) = λ found. read_if form found.0 found.1 in
       bind_err (flag.read bytes) more left (Before (optional form) bytes left) e
-        (λ wrong.
-          let all : left ≡ length bytes = flag-IsField.starts bytes left wrong in
-          record { value = None; fits = tt; same = none-before (length bytes - left) (be_bytes 1 0) bytes (omega arith) })
-        (λ found fe wrong.
-          let b = flag-behind form is full bytes found left h fe wrong in
-          record { value = Some b.0; fits = b.1.0; same = b.1.1.1 });
+      (λ wrong.
+      let all : left ≡ length bytes = flag-IsField.starts bytes left wrong in
+      record { value = None; fits = tt; same = none-before (length bytes - left) (be_bytes 1 0) bytes (omega arith) })
+      (λ found fe wrong.
+      let b = flag-behind form is full bytes found left h fe wrong in
+      record { value = Some b.0; fits = b.1.0; same = b.1.1.1 });
 }
 
 -- a value of the flag
@@ -303,16 +303,17 @@ where_flag-IsFull {A} form wanted is full = record {
   before = λ bytes left h e.
       let more : Bool × List ℕ → Reading (Option A) = λ found. if same_flag wanted found.0 then read_if form found.0 found.1 else Err (length bytes) in
       bind_err (flag.read bytes) more left (Before (where_flag form wanted) bytes left) e
-        (λ wrong. first bytes left (flag-IsField.starts bytes left wrong))
-        (λ found fe second.
-          test_err (same_flag wanted found.0) (length bytes) left (read_if form found.0 found.1) (Before (where_flag form wanted) bytes left) second
-            (λ k. first bytes left (sym k))
-            (λ t wrong.
-              let b = flag-behind form is full bytes found left h fe wrong in
-              record { value = Some b.0; fits = (same_true wanted found.0 t b.1.1.0, b.1.0); same = b.1.1.1 }));
+      (λ wrong. first bytes left (flag-IsField.starts bytes left wrong))
+      (λ found fe second.
+      test_err (same_flag wanted found.0) (length bytes) left (read_if form found.0 found.1) (Before (where_flag form wanted) bytes left) second
+      (λ k. first bytes left (sym k))
+      (λ t wrong.
+      let b = flag-behind form is full bytes found left h fe wrong in
+      record { value = Some b.0; fits = (same_true wanted found.0 t b.1.1.0, b.1.0); same = b.1.1.1 }));
 } where
   default : (v : Bool) → (is_some (of_flag full.one v) ≡ v) × FitsIf form (of_flag full.one v)
   default false = (refl, tt)
   default true = (refl, full.fits)
+
   first : (bytes : List ℕ) (left : ℕ) → left ≡ length bytes → Before (where_flag form wanted) bytes left
   first bytes left all = record { value = of_flag full.one wanted; fits = default wanted; same = none-before (length bytes - left) (spell_if form (of_flag full.one wanted)) bytes (omega arith) }

@@ -1,8 +1,8 @@
 -- What a reading of a whole configuration says.
-use Rattle.std.proofs.Common.{◌≡◌, ℕ, ◌+◌, ◌-◌, ◌≤◌, List, ◌++◌, length, take, Result, Ok, Err, refl, sym, ap, ◌∙◌, arith}
+use Rattle.std.proofs.Common.{◌≡◌, ℕ, ◌-◌, ◌≤◌, List, ◌++◌, length, take, Result, Ok, Err, refl, sym, ap, ◌∙◌, arith}
 use Rattle.std.proofs.lemmas.List.{length-append, take_at}
 use Rattle.vx_wire.specs.Numbers.{AreBytes}
-use Rattle.vx_config.specs.Configs.{spelled, HasSpelling, IsSpelling, HasFront, AgreesUpTo, IsFirstWrong, IsRefused, Stops, Reads, stop_of}
+use Rattle.vx_config.specs.Configs.{spelled, HasSpelling, IsSpelling, AgreesUpTo, IsRefused, Stops, Reads, stop_of}
 use Rattle.vx_config.specs.Forms.{Reading, Gives}
 use Rattle.vx_config.specs.declared.stop.ConfigStop.{ConfigStop}
 use Rattle.vx_config.specs.declared.wrong.Wrong.{Wrong}
@@ -10,7 +10,7 @@ use Rattle.vx_config.specs.declared.wrong.Wrong.TheVariants.{Left, Memory}
 use Rattle.vx_config.specs.Table.{config}
 use Rattle.vx_config.specs.declared.config.Config.{Config}
 use Rattle.vx_config.proofs.BeforeTable.{config-before}
-use Rattle.vx_config.proofs.FormLaws.{ok_is, Takes, Takes-shorter, IsForm}
+use Rattle.vx_config.proofs.FormLaws.{ok_is, Takes-shorter}
 use Rattle.vx_config.proofs.TableLaws.{config-IsForm}
 
 abbrev gives : Config → List ℕ → Reading Config

@@ -1,14 +1,13 @@
 -- What is read is spelled so, and what is spelled is read, for each kind of form.
-use Rattle.std.proofs.Common.{◌≡◌, ℕ, zero, suc, ◌+◌, ◌-◌, ◌^◌, ◌<◌, ◌≤◌, Bool, true, false, cond, ◌||◌, ◌&&◌, ltb, leb, List, [], ◌∷◌, ◌++◌, length, get_or, take, drop, Option, Some, None, Result, Ok, Err, refl, sym, ap, subst, ◌∙◌, append_assoc, arith, ◌⊎◌, inl, inr, not}
+use Rattle.std.proofs.Common.{◌≡◌, ℕ, zero, suc, ◌^◌, ◌<◌, ◌≤◌, Bool, true, false, cond, ◌||◌, ◌&&◌, List, [], ◌∷◌, ◌++◌, length, take, drop, Option, Some, None, Ok, Err, refl, sym, ap, subst, ◌∙◌, append_assoc, arith, ◌⊎◌, inl, inr}
 use Rattle.std.specs.Prelude.{flat_map, is_some, nat_lt, nat_le, ◌==◌, if◌then◌else◌}
 use Rattle.std.specs.List.{AllByRecursion}
-use Rattle.std.proofs.lemmas.Bool.{cases_lt, ltb-false, le-ltb, leb-true, le-leb, eqb-true, eqb-false}
-use Rattle.std.proofs.lemmas.List.{take_at, drop_at, take-append-drop, length-append, length-take, length-drop, append-nil}
+use Rattle.std.proofs.lemmas.Bool.{ltb-false, le-ltb, leb-true, le-leb, eqb-true, eqb-false}
+use Rattle.std.proofs.lemmas.List.{take_at, drop_at, take-append-drop, length-append, length-take, append-nil}
 use Rattle.std.proofs.lemmas.List.Concat.{flat_map-cons}
 use Rattle.vx_wire.specs.Fields.{name_bytes}
 use Rattle.vx_wire.specs.Numbers.{be_bytes, number_at, AreBytes}
-use Rattle.vx_wire.specs.Places.{cut}
-use Rattle.vx_wire.proofs.NumberLemmas.{length-be_bytes, AreBytes-rest, AreBytes-drop, number_at-be_bytes, number_at-spelled, number_at-lt, be_bytes-byte}
+use Rattle.vx_wire.proofs.NumberLemmas.{length-be_bytes, AreBytes-rest, AreBytes-drop, number_at-be_bytes, number_at-spelled, number_at-lt}
 use Rattle.vx_config.specs.Forms.{Reading, ◌>>=◌, Form, number, within, coded_or, coded, flag_code, flag_of, flag, read_name, name, pair, made_of, keyed, read_many, counted, spell_if, read_if, FitsIf, optional, same_flag, where_flag}
 
 -- ---- readings

@@ -1,16 +1,15 @@
 -- How many bytes a configuration has.
-use Rattle.std.proofs.Common.{◌≡◌, ◌<◌, ◌≤◌, ℕ, zero, suc, ◌+◌, ◌*◌, List, [], ◌∷◌, ◌++◌, length, refl, ap, sym, ◌∙◌, arith, Option, Some, None, Bool, true, false}
+use Rattle.std.proofs.Common.{◌≡◌, ◌≤◌, ℕ, ◌+◌, ◌*◌, List, [], ◌∷◌, ◌++◌, length, ap, arith, Option, Some, None, Bool}
 use Rattle.std.specs.Prelude.{flat_map, sum_by, is_some}
 use Rattle.std.specs.List.{AllByRecursion}
 use Rattle.std.proofs.lemmas.List.{length-append}
 use Rattle.std.proofs.lemmas.List.Concat.{flat_map-cons}
 use Rattle.std.proofs.lemmas.List.Sums.{sum_by-cons}
 use Rattle.vx_model.specs.declared.units.Units.{Units}
-use Rattle.vx_wire.specs.Fields.{name_bytes}
 use Rattle.vx_wire.specs.Numbers.{be_bytes}
 use Rattle.vx_wire.proofs.NumberLemmas.{length-be_bytes}
 use Rattle.vx_config.specs.Configs.{spelled, HasSpelling, plex_subdisks, volume_subdisks, subdisk_count}
-use Rattle.vx_config.specs.Forms.{Form, number, flag, flag_code, name, counted, spell_if, FitsIf, optional}
+use Rattle.vx_config.specs.Forms.{Form, number, flag, flag_code, name, spell_if, FitsIf}
 use Rattle.vx_config.specs.Table.{disk, subdisk, log, state_code, state, plex, preferred_number, ways, Ways, volume, units, format_1, config}
 use Rattle.vx_config.specs.declared.config.Config.{Config}
 use Rattle.vx_config.specs.declared.entry.DiskEntry.{DiskEntry}

@@ -1,15 +1,14 @@
 -- What is read is spelled so, and what is spelled is read, for each row of the table.
-use Rattle.std.proofs.Common.{◌≡◌, ℕ, zero, suc, ◌+◌, ◌-◌, ◌^◌, ◌<◌, ◌≤◌, Bool, true, false, List, [], ◌∷◌, ◌++◌, length, Option, Some, None, Result, Ok, Err, refl, sym, ap, subst, ◌∙◌, append_assoc, arith, ◌⊎◌, inl, inr, cond}
+use Rattle.std.proofs.Common.{◌≡◌, ℕ, ◌<◌, ◌≤◌, Bool, true, false, List, ◌++◌, length, Option, Some, None, Ok, refl, sym, ap, subst, ◌∙◌, append_assoc, arith, inl, inr}
 use Rattle.std.specs.Prelude.{is_some, ◌==◌, if◌then◌else◌}
 use Rattle.std.proofs.lemmas.Bool.{eqb-true}
-use Rattle.std.proofs.lemmas.List.{length-append}
 use Rattle.vx_model.specs.declared.site.PlexState.{PlexState}
 use Rattle.vx_model.specs.declared.site.PlexState.TheVariants.{Active, Clean, Stale}
-use Rattle.vx_wire.specs.Numbers.{be_bytes, AreBytes}
-use Rattle.vx_config.specs.Forms.{Reading, ◌>>=◌, Form, number, within, coded, flag, name, pair, made_of, keyed, counted, optional, where_flag}
+use Rattle.vx_wire.specs.Numbers.{be_bytes}
+use Rattle.vx_config.specs.Forms.{Reading, Form, number, within, flag, name, pair, counted, optional, where_flag}
 use Rattle.vx_config.specs.Table.{disk, subdisk, log, state_code, state_of, state, plex, preferred_number, preferred_where, most_preferred, preferred, Ways, ways, volume, units, greatest, format_1, behind_version, config}
 use Rattle.vx_config.specs.declared.config.Config.{Config}
-use Rattle.vx_config.proofs.FormLaws.{bind_ok, bind_err, ok_is, err_is, chosen, test_ok, test_err, Takes, Takes-then, Takes-shorter, IsForm, number-IsForm, within-IsForm, IsCode, coded-IsForm, flag-IsForm, name-IsForm, pair-IsForm, made_of-IsForm, keyed-IsForm, counted-IsForm, optional-IsForm, where_flag-IsForm}
+use Rattle.vx_config.proofs.FormLaws.{bind_ok, bind_err, ok_is, chosen, test_ok, test_err, Takes, Takes-then, Takes-shorter, IsForm, number-IsForm, within-IsForm, coded-IsForm, flag-IsForm, name-IsForm, pair-IsForm, made_of-IsForm, keyed-IsForm, counted-IsForm, optional-IsForm, where_flag-IsForm}
 
 pub disk-IsForm : IsForm disk
 unfolding disk

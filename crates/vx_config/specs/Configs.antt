@@ -1,5 +1,5 @@
 -- A configuration as bytes.
-use Rattle.std.specs.Prelude.{◌≡◌, ℕ, ◌+◌, ◌-◌, ◌<◌, ◌≤◌, ◌^◌, List, ◌++◌, length, All, IfSome, Ok, Err, Result, Option, Some, None, nat_le, if◌then◌else◌, sum_by, take}
+use Rattle.std.specs.Prelude.{◌≡◌, ℕ, ◌+◌, ◌-◌, ◌<◌, ◌≤◌, List, ◌++◌, length, All, IfSome, Ok, Err, Result, Option, Some, None, nat_le, if◌then◌else◌, sum_by, take}
 use Rattle.vx_model.specs.declared.units.Units.{Units}
 use Rattle.vx_config.specs.Table.{config, greatest}
 use Rattle.vx_config.specs.declared.config.Config.{Config}

@@ -1,4 +1,4 @@
-use Rattle.std.proofs.Common.{◌≡◌, ◌+◌, ◌-◌, length, take, drop, subst, true, false, Bool}
+use Rattle.std.proofs.Common.{◌≡◌, ◌+◌, ◌-◌, length, take, drop, subst, true, false}
 use Rattle.std.specs.List.{list_all}
 use Rattle.vx_config.specs.Checks.{differ}
 use Rattle.vx_config.specs.declared.entry.VolumeEntry.{VolumeEntry}

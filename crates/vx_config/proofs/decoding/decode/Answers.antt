@@ -1,6 +1,4 @@
-use Rattle.std.proofs.Common.{rules, ℕ, List, ◌≡◌, ◌≤◌, ◌++◌, length, take, arith}
-use Rattle.vx_config.specs.Configs.{HasSpelling, IsSpelling, Stops, Reads, spelled}
-use Rattle.vx_config.specs.declared.config.Config.{Config as ConfigValue}
+use Rattle.std.proofs.Common.{arith}
 use Rattle.vx_config.proofs.DecodeLemmas.{rest-shorter, read-spelled, read-same, none-read, stops-read}
 use Rattle.vx_config.proofs.decoding.decode.Goals as goal
 

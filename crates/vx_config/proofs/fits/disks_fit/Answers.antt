@@ -1,6 +1,4 @@
-use Rattle.std.proofs.Common.{subst}
 use Rattle.vx_config.specs.Table.{disk}
-use Rattle.vx_config.specs.declared.entry.DiskEntry.{DiskEntry}
 use Rattle.vx_config.proofs.FitLemmas.{fit-more, fit-all}
 use Rattle.vx_config.proofs.fits.disks_fit.Goals as goal
 

@@ -1,6 +1,4 @@
-use Rattle.std.proofs.Common.{subst}
 use Rattle.vx_config.specs.Table.{subdisk}
-use Rattle.vx_config.specs.declared.entry.Subdisk.{Subdisk}
 use Rattle.vx_config.proofs.FitLemmas.{fit-more, fit-all}
 use Rattle.vx_config.proofs.fits.subdisks_fit.Goals as goal
 

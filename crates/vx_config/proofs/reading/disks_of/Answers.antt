@@ -1,4 +1,4 @@
-use Rattle.std.proofs.Common.{◌∷◌, [], length, length-append, arith}
+use Rattle.std.proofs.Common.{◌∷◌, [], length-append, arith}
 use Rattle.std.proofs.lemmas.Result.{err_from_is_err_and}
 use Rattle.vx_config.specs.Forms.{read_many}
 use Rattle.vx_config.specs.Table.{disk}

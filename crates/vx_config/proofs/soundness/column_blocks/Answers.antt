@@ -1,5 +1,4 @@
-use Rattle.std.proofs.Common.{◌≡◌, ℕ, ◌*◌, refl, ap, ◌∙◌, true, false, Bool}
-use Rattle.std.specs.Int.{div_ceil}
+use Rattle.std.proofs.Common.{◌≡◌, refl, false}
 use Rattle.std.specs.Prelude.{◌==◌}
 use Rattle.vx_config.specs.Checks.{column_blocks}
 use Rattle.vx_config.proofs.FillLemmas.{not-zero}
