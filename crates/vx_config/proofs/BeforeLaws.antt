@@ -6,7 +6,8 @@ use Rattle.std.proofs.lemmas.List.{take_at, drop_at, take-append-drop, take-appe
 use Rattle.std.proofs.lemmas.List.Concat.{flat_map-cons}
 use Rattle.vx_wire.specs.Numbers.{be_bytes, AreBytes, number_at}
 use Rattle.vx_config.specs.Forms.{Reading, ◌>>=◌, Form, number, within, coded_or, coded, flag, flag_code, flag_of, read_name, name, pair, made_of, keyed, read_many, counted, spell_if, read_if, FitsIf, optional, same_flag, where_flag}
-use Rattle.vx_config.proofs.FormLaws.{bind_err, err_is, test_err, IsForm, within-IsForm, coded_err, guard_err, flag-IsForm, flag_fits, many-stops, if-stops}
+use Rattle.vx_config.proofs.FormLaws.{bind_err, err_is, test_err, IsForm, within-IsForm, coded_err, guard_err, flag-IsForm, flag_fits}
+use Rattle.vx_config.proofs.PartLaws.{many-stops, if-stops}
 
 -- ---- fronts
 

@@ -8,7 +8,8 @@ use Rattle.vx_config.specs.Forms.{Reading, Form, number, within, flag, name, pai
 use Rattle.vx_config.specs.Table.{disk, subdisk, log, state_code, state_of, state, plex, preferred_where, most_preferred, preferred, ways, volume, units, greatest, format_1, behind_version, config}
 use Rattle.vx_config.specs.declared.config.Config.{Config}
 use Rattle.vx_config.specs.declared.entry.PlexEntry.{PlexEntry}
-use Rattle.vx_config.proofs.FormLaws.{bind_err, test_err, IsForm, number-IsForm, within-IsForm, flag-IsForm, name-IsForm, pair-IsForm, counted-IsForm, optional-IsForm, where_flag-IsForm}
+use Rattle.vx_config.proofs.FormLaws.{bind_err, test_err, IsForm, number-IsForm, within-IsForm, flag-IsForm, name-IsForm, pair-IsForm}
+use Rattle.vx_config.proofs.PartLaws.{counted-IsForm, optional-IsForm, where_flag-IsForm}
 use Rattle.vx_config.proofs.TableLaws.{flags, behind_flags, disk-IsForm, subdisk-IsForm, log-IsForm, state-IsForm, plex-IsForm, preferred-IsForm, ways-IsForm, flags-IsForm, behind_flags-IsForm, ways-tell, volume-IsForm, units-IsForm, format_1-IsForm}
 use Rattle.vx_config.proofs.BeforeLaws.{none-before, behind-take, Before, IsFull, IsField, field-full, within-IsField, number-IsField, number-IsFull, within-IsFull, coded-IsFull, flag-IsFull, name-IsFull, pair-IsFull, made_of-IsFull, keyed-IsFull, counted-IsFull, optional-IsFull, where_flag-IsFull}
 

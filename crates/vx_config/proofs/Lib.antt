@@ -1,6 +1,7 @@
 pub mod PageLemmas
 pub mod ManyLemmas
 pub mod FormLaws
+pub mod PartLaws
 pub mod TableLaws
 pub mod DecodeLemmas
 pub mod FitLemmas

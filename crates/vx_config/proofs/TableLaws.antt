@@ -8,7 +8,8 @@ use Rattle.vx_wire.specs.Numbers.{be_bytes}
 use Rattle.vx_config.specs.Forms.{Reading, Form, number, within, flag, name, pair, counted, optional, where_flag}
 use Rattle.vx_config.specs.Table.{disk, subdisk, log, state_code, state_of, state, plex, preferred_number, preferred_where, most_preferred, preferred, Ways, ways, volume, units, greatest, format_1, behind_version, config}
 use Rattle.vx_config.specs.declared.config.Config.{Config}
-use Rattle.vx_config.proofs.FormLaws.{bind_ok, bind_err, ok_is, chosen, test_ok, test_err, Takes, Takes-then, Takes-shorter, IsForm, number-IsForm, within-IsForm, coded-IsForm, flag-IsForm, name-IsForm, pair-IsForm, made_of-IsForm, keyed-IsForm, counted-IsForm, optional-IsForm, where_flag-IsForm}
+use Rattle.vx_config.proofs.FormLaws.{bind_ok, bind_err, ok_is, chosen, test_ok, test_err, Takes, Takes-then, Takes-shorter, IsForm, number-IsForm, within-IsForm, coded-IsForm, flag-IsForm, name-IsForm, pair-IsForm, made_of-IsForm, keyed-IsForm}
+use Rattle.vx_config.proofs.PartLaws.{counted-IsForm, optional-IsForm, where_flag-IsForm}
 
 pub disk-IsForm : IsForm disk
 unfolding disk
