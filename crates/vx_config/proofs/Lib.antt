@@ -1,0 +1,14 @@
+pub mod PageLemmas
+pub mod ManyLemmas
+pub mod FormLaws
+pub mod PartLaws
+pub mod TableLaws
+pub mod DecodeLemmas
+pub mod FitLemmas
+pub mod LengthLemmas
+pub mod BeforeLaws
+pub mod BeforeTable
+pub mod CountLemmas
+pub mod PairLemmas
+pub mod RunLemmas
+pub mod FillLemmas

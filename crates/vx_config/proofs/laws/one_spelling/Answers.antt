@@ -1,0 +1,5 @@
+use Rattle.vx_config.proofs.DecodeLemmas.{one-spelling}
+use Rattle.vx_config.proofs.laws.one_spelling.Goals as goal
+
+pub returns : goal.returns
+returns c = one-spelling
