@@ -1,0 +1,12 @@
+pub mod Lists
+pub mod Carry
+pub mod Nodes
+pub mod Links
+pub mod Moves
+pub mod Tests
+pub mod Changes
+pub mod Feeds
+pub mod Crashes
+pub mod Joins
+pub mod Stays
+pub mod Words

@@ -1,0 +1,5 @@
+pub mod Events
+pub mod Refusals
+pub mod Sends
+pub mod Sound
+pub mod Step
