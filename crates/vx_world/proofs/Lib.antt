@@ -10,3 +10,4 @@ pub mod Crashes
 pub mod Joins
 pub mod Stays
 pub mod Words
+pub mod Rows
