@@ -1,9 +1,10 @@
 -- What was said of sites before stays true of later states of them.
-use Rattle.std.proofs.Common.{◌≡◌, ℕ, ◌≤◌, List, length, arith, refl, sym, ◌∙◌}
+use Rattle.std.proofs.Common.{◌≡◌, ℕ, ◌≤◌, List, length, arith, refl, sym, ap, ◌∙◌}
 use Rattle.std.specs.List.{AllByRecursion}
 use Rattle.vx_model.specs.Content.{Write, IsPrefixOf}
 use Rattle.vx_model.specs.World.{Node, Link, History, Packet, Promise, Message, Surety, is_origin, Hello, Update, NetAck, DataAck, Durable, InSession}
 use Rattle.vx_model.specs.Good.{IsMade}
+use Rattle.vx_model.specs.Receiving.{phase_takes}
 use Rattle.vx_model.specs.declared.history.Line.{Line}
 use Rattle.vx_model.specs.declared.site.Mark.TheVariants.{Consistent}
 use Rattle.vx_model.specs.declared.site.SiteState.TheVariants.{Up}
@@ -19,9 +20,11 @@ pub record IsLater (a b : Node) : Type 0 where
   pub present : b.state ≡ Up → b.session ≡ a.session → (a.state ≡ Up) × (length a.log ≤ length b.log)
   pub mark : a.mark ≡ Consistent → b.mark ≡ Consistent
   pub made : IsMade a → IsMade b
+  pub phase : b.phase ≡ a.phase
+  pub other : b.other ≡ a.other
 
 pub later_same : (a : Node) → IsLater a a
-later_same a = record { line = refl; origin = refl; session = omega arith; safe = omega arith; present = λ up _. (up, omega arith); mark = λ m. m; made = λ m. m }
+later_same a = record { line = refl; origin = refl; session = omega arith; safe = omega arith; present = λ up _. (up, omega arith); mark = λ m. m; made = λ m. m; phase = refl; other = refl }
 
 -- a number that was in memory in some session is in memory while that session lasts
 module _ (a b : Node) (later : IsLater a b) where
@@ -54,6 +57,7 @@ link_later p s a b c d l later_a later_b good = record {
       let still = later_b.present up old in
       omega (arith, still.1, good.net (is, sym later_a.origin ∙ o, sym later_b.origin ∙ r, sym later_b.line ∙ e ∙ later_a.line) (still.0, sym old ∙ same));
   log = λ (is, o, r, e) m. later_b.mark (good.log (is, sym later_a.origin ∙ o, sym later_b.origin ∙ r, sym later_b.line ∙ e ∙ later_a.line) m);
+  takes = λ (is, o, r, e) m. ap phase_takes later_b.phase ∙ good.takes (is, sym later_a.origin ∙ o, sym later_b.origin ∙ r, sym later_b.line ∙ e ∙ later_a.line) m;
 }
 
 -- who is no stranger stays none

@@ -4,6 +4,7 @@ use Rattle.std.specs.Prelude.{if◌then◌else◌, eqb, leb, not, ◌&&◌, ◌|
 use Rattle.std.proofs.lemmas.Bool.{eq-eqb}
 use Rattle.std.proofs.lemmas.Bool.Decides.{nat_tests}
 use Rattle.vx_model.specs.World.{World, Node, History, is_origin, same_line, line_updated, with_node, bare_site}
+use Rattle.vx_model.specs.Receiving.{phase_takes}
 use Rattle.vx_model.specs.Steps.{site_made, raw_made, raw_set, raw_history, first_line}
 use Rattle.vx_model.specs.Good.{IsMade}
 use Rattle.vx_model.specs.declared.history.Line.{Line}
@@ -37,7 +38,7 @@ site_keeps w name disks blocks s =
     (λ _ _. refl)
     (good_site w name disks blocks s.good)
     (λ _. omega arith)
-    (λ _. refl)
+    refl
 
 pub may_be_site_keeps : (w : World) (name : List ℕ) (disks blocks : ℕ) → Sound w → Keeps (may_be_site w name disks blocks (done (site_made w name disks blocks)))
 may_be_site_keeps w name disks blocks s =
@@ -59,7 +60,7 @@ raw_keeps w q s there bare =
     (λ _. refl))
     (good_raw w q s.good there bare)
     (up_whole n refl)
-    (λ _. refl)
+    refl
 
 -- ## The events of a link
 
@@ -102,6 +103,7 @@ join_keeps w p q s up_p up_q o other unlinked alone =
     made_q made_q (omega arith) alone
     (good_stays w q n s.good (Nodes.good_joined (w.lines a.line) q p a (w.nodes q)) (λ _. inl (s.good.begun p made_p)) (λ is. is) (given w q n s.good made_q))
     (up_whole n up_q)
+    (λ _. sym own)
     (omega arith)
 
 may_join_keeps : (w : World) (p q : ℕ) → Sound w → (w.nodes p).state ≡ Up → (w.nodes q).state ≡ Up → Keeps (may_join w p q (done (with_node w q (joined (w.nodes p) p (w.nodes q)))))
@@ -141,6 +143,7 @@ make_keeps w p q place sync s up_p up_q o r =
       stored = λ _. omega arith;
       net = λ _ _. omega arith;
       log = λ _ m. absurd (cc);
+      takes = λ _ m. absurd (cc);
     })
     (λ _. refl)
 
@@ -158,8 +161,8 @@ consistent_is : (m : Mark) → is_consistent m ≡ true → m ≡ Consistent
 consistent_is Consistent e = refl
 consistent_is Inconsistent e = absurd (cc)
 
-open_keeps : (w : World) (p q : ℕ) → Sound w → is_empty (w.nodes p).log ≡ true → is_consistent (w.nodes q).mark ≡ true → Sound (with_link w p q (opened (w.links p q) (w.nodes p).safe))
-open_keeps w p q s empty marked =
+open_keeps : (w : World) (p q : ℕ) → Sound w → is_empty (w.nodes p).log ≡ true → phase_takes (w.nodes q).phase ≡ true → is_consistent (w.nodes q).mark ≡ true → Sound (with_link w p q (opened (w.links p q) (w.nodes p).safe))
+open_keeps w p q s empty taken marked =
     let none : (w.nodes p).safe ≤ 0 = omega (arith, (s.good.nodes p).safe_fits, equal (length (w.nodes p).log) 0 empty) in
     let old = s.links p q in
     sound_with_link w p q (opened (w.links p q) (w.nodes p).safe) s
@@ -171,6 +174,7 @@ open_keeps w p q s empty marked =
       stored = λ _. omega (arith, none);
       net = λ _ _. omega (arith, none);
       log = λ _ _. consistent_is (w.nodes q).mark marked;
+      takes = λ _ _. taken;
     })
     (λ is. is)
   where
@@ -196,7 +200,8 @@ link_part_keeps Marked w p q sync s up_p up_q =
 link_part_keeps Opened w p q sync s up_p up_q =
     let a : Node = w.nodes p in
     let marked : Bool = is_consistent (w.nodes q).mark in
-    let stale : Bool = is_stale (w.links p q).mode && marked in
+    let taken : Bool = phase_takes (w.nodes q).phase in
+    let stale : Bool = is_stale (w.links p q).mode && (taken && marked) in
     let empty : Bool = is_empty a.log && stale in
     let linked : Bool = is_linked (w.links p q) && empty in
     let followed : Bool = follows w p q && linked in
@@ -204,4 +209,5 @@ link_part_keeps Opened w p q sync s up_p up_q =
     unless_keeps (not test) WrongRole w (done (with_link w p q (opened (w.links p q) a.safe))) s
     (λ c.
     let all : empty ≡ true = and_right (is_linked (w.links p q)) empty (and_right (follows w p q) linked (and_right (is_primary a.role) followed (not_false test c))) in
-    open_keeps w p q s (and_left (is_empty a.log) stale all) (and_right (is_stale (w.links p q).mode) marked (and_right (is_empty a.log) stale all)))
+    let last : (taken && marked) ≡ true = and_right (is_stale (w.links p q).mode) (taken && marked) (and_right (is_empty a.log) stale all) in
+    open_keeps w p q s (and_left (is_empty a.log) stale all) (and_left taken marked last) (and_right taken marked last))

@@ -37,6 +37,7 @@ link_like p s a b l m linked session net stored mode good = record {
   stored = λ (is, o, r, e). omega (arith, stored, good.stored (sym linked ∙ is, o, r, e));
   net = λ (is, o, r, e) present. omega (arith, net, good.net (sym linked ∙ is, o, r, e) (subst (λ k. IsPresent b k) session present));
   log = λ (is, o, r, e) m. good.log (sym linked ∙ is, o, r, e) (mode m);
+  takes = λ (is, o, r, e) m. good.takes (sym linked ∙ is, o, r, e) (mode m);
 }
 
 -- what is acknowledged is only what is stored
@@ -49,6 +50,7 @@ forgotten h p s a b l m node linked session net stored mode good = record {
   stored = λ (is, o, r, e). omega (arith, stored, good.stored (sym linked ∙ is, o, r, e));
   net = λ (is, o, r, e) present. omega (arith, net, good.stored (sym linked ∙ is, o, r, e), node.safe_fits);
   log = λ (is, o, r, e) m. good.log (sym linked ∙ is, o, r, e) (mode m);
+  takes = λ (is, o, r, e) m. good.takes (sym linked ∙ is, o, r, e) (mode m);
 }
 
 restarted_by_log : (m : Mode) → mode_restarted m ≡ Log → m ≡ Log
@@ -84,6 +86,7 @@ link_lost h p s a b l node good = record {
   stored = good.stored;
   net = λ v _. omega (arith, good.stored v, node.safe_fits);
   log = good.log;
+  takes = good.takes;
 }
 
 pub link_changed : (p s : ℕ) (a b n : Node) (x : Write) (l : Link) → GoodLink p s a b l → GoodLink p s a b (link_after n x s l)
@@ -116,6 +119,7 @@ module _ (h : History) (p s : ℕ) (a b : Node) (l : Link) (line : Line) (node :
         stored = λ v. omega (arith, good.stored v, disk (v.3 ∙ sym e));
         net = λ v present. omega (arith, memory (v.3 ∙ sym e) present, good.stored v, disk (v.3 ∙ sym e), node.safe_fits);
         log = good.log;
+        takes = good.takes;
       })
       (λ not_new. record {
         ends = good.ends;
@@ -125,6 +129,7 @@ module _ (h : History) (p s : ℕ) (a b : Node) (l : Link) (line : Line) (node :
         stored = λ v. omega (arith, good.stored v, disk (v.3 ∙ sym e));
         net = λ v present. omega (arith, good.net v present, memory (v.3 ∙ sym e) (present.0, present.1 ∙ between_both l.session session not_new not_old));
         log = good.log;
+        takes = good.takes;
       }))
       (λ _. by_test (λ (r : PlainLink). After (with_taken r)) (ltb l.session session) _ _
       (λ _. forgotten h p s a b l _ node refl old refl refl (overtaken_by_log l.mode number) good)
@@ -145,6 +150,7 @@ module _ (h : History) (p s : ℕ) (a b : Node) (l : Link) (line : Line) (node :
         stored = good.stored;
         net = λ v present. memory (v.3 ∙ sym e) (present.0, present.1 ∙ sym (is_same session l.session (and_left _ _ (and_right _ _ t))));
         log = good.log;
+        takes = good.takes;
       })
       (λ _. same))
     where
@@ -163,6 +169,7 @@ module _ (h : History) (p s : ℕ) (a b : Node) (l : Link) (line : Line) (node :
         stored = λ v. disk (v.3 ∙ sym e);
         net = λ v present. omega (arith, good.net v present, disk (v.3 ∙ sym e), node.safe_fits);
         log = good.log;
+        takes = good.takes;
       })
       (λ _. same))
 

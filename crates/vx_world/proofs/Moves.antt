@@ -10,7 +10,7 @@ use Rattle.vx_model.specs.declared.site.SiteState.TheVariants.{Bare}
 use Rattle.vx_model.proofs.Updates.{all_updated, all_lines, by_test, eqb_equal, at_place}
 use Rattle.vx_model.proofs.GoodLemmas.{good_stays}
 use Rattle.vx_world.specs.Sends.{is_linked, with_links, with_link, sending, promising}
-use Rattle.vx_world.specs.Sound.{IsWhole, GoodLink, GoodMessage, GoodPacket, GoodPromise, IsKept, IsStranger, StrangerSays, IsBegun, KnownNode, Sound}
+use Rattle.vx_world.specs.Sound.{IsWhole, IsFed, GoodLink, GoodMessage, GoodPacket, GoodPromise, IsKept, IsStranger, StrangerSays, IsBegun, KnownNode, Sound}
 use Rattle.vx_world.proofs.Lists.{each_append, each_weaker, prefix_refl, refuted, not_both}
 use Rattle.vx_world.proofs.Carry.{IsLater, later_same, link_later, says_later, packets_later, promises_later}
 
@@ -23,6 +23,7 @@ pub sound_sending : (w : World) (ps : List Packet) → Sound w → AllByRecursio
 sound_sending w ps s h = record {
   good = good_of w w.links (w.packets ++ ps) w.promised s.good;
   whole = s.whole;
+  fed = s.fed;
   links = s.links;
   packets = each_append (GoodPacket w.nodes w.links w.lines) w.packets ps s.packets h;
   promised = s.promised;
@@ -34,6 +35,7 @@ pub sound_promising : (w : World) (es : List Promise) → Sound w → AllByRecur
 sound_promising w es s h = record {
   good = good_of w w.links w.packets (w.promised ++ es) s.good;
   whole = s.whole;
+  fed = s.fed;
   links = s.links;
   packets = s.packets;
   promised = each_append (GoodPromise w.nodes w.links) w.promised es s.promised h;
@@ -50,6 +52,7 @@ sound_links w f s h made =
     record {
       good = good_of w f w.packets w.promised s.good;
       whole = s.whole;
+      fed = s.fed;
       links = h;
       packets = packets_later w.nodes w.nodes w.links f (λ i. later_same (w.nodes i)) before w.lines w.lines (λ l. prefix_refl (w.lines l).held) w.packets s.packets;
       promised = promises_later w.nodes w.nodes w.links f (λ i. later_same (w.nodes i)) before w.promised s.promised;
@@ -85,6 +88,7 @@ sound_later w f h s later grow good whole known =
     record {
       good = good;
       whole = whole;
+      fed = λ i r. (later i).other ∙ s.fed i (sym (later i).origin ∙ r) ∙ ap (λ (l : Line). l.origin) (sym (later i).line);
       links = λ p q. link_later p q (w.nodes p) (w.nodes q) (f p) (f q) (w.links p q) (later p) (later q) (s.links p q);
       packets = packets_later w.nodes f w.links w.links later before w.lines h grow w.packets s.packets;
       promised = promises_later w.nodes f w.links w.links later before w.promised s.promised;
@@ -138,6 +142,7 @@ unlinked_good p q a b l none = record {
   stored = λ v. absurd (none v.0);
   net = λ v _. absurd (none v.0);
   log = λ v _. absurd (none v.0);
+  takes = λ v _. absurd (none v.0);
 }
 
 -- who is a stranger behind a change of one site on its line was one before
@@ -191,12 +196,14 @@ module _ (w : World) (i : ℕ) (n : Node) (s : Sound w) (stranger : IsStranger w
     stored = λ v. absurd (unlinked p v.0 v.1 v.3);
     net = λ v _. absurd (unlinked p v.0 v.1 v.3);
     log = λ v _. absurd (unlinked p v.0 v.1 v.3);
+    takes = λ v _. absurd (unlinked p v.0 v.1 v.3);
   }
 
-  pub sound_joining : Good (with_node w i n) → IsWhole n → length n.log ≤ 0 → Sound (with_node w i n)
-  sound_joining good whole empty = record {
+  pub sound_joining : Good (with_node w i n) → IsWhole n → IsFed n → length n.log ≤ 0 → Sound (with_node w i n)
+  sound_joining good whole fed empty = record {
     good = good;
     whole = all_updated (λ k (m : Node). IsWhole m) w.nodes i n whole (λ k _. s.whole k);
+    fed = all_updated (λ k (m : Node). IsFed m) w.nodes i n fed (λ k _. s.fed k);
     links =
         all_updated (λ p (a : Node). (q : ℕ) → GoodLink p q a (joined_nodes q) (w.links p q)) w.nodes i n
         (λ q. unlinked_good i q n (joined_nodes q) (w.links i q) (alone q))
@@ -243,10 +250,11 @@ module _ (w : World) (i sites : ℕ) (n : Node) (h : Line → History) (s : Soun
   stranger_was : (l : Line) (k : ℕ) → IsMade (w.nodes l.origin) → IsStranger founded_nodes w.links l k → IsStranger w.nodes w.links l k
   stranger_was l k made q = (subst (λ (m : Node). m.line ≡ l) (sym (same_elsewhere l.origin made)) q.0, q.1)
 
-  pub sound_founding : Good (record w { sites = sites; nodes = founded_nodes; lines = h }) → IsWhole n → (IsMade n → is_origin n.role ≡ true) → Sound (record w { sites = sites; nodes = founded_nodes; lines = h })
+  pub sound_founding : Good (record w { sites = sites; nodes = founded_nodes; lines = h }) → IsWhole n → is_origin n.role ≡ true → Sound (record w { sites = sites; nodes = founded_nodes; lines = h })
   sound_founding good whole origin = record {
     good = good;
     whole = all_updated (λ k (m : Node). IsWhole m) w.nodes i n whole (λ k _. s.whole k);
+    fed = all_updated (λ k (m : Node). IsFed m) w.nodes i n (λ r. not_both (is_origin n.role) origin r) (λ k _. s.fed k);
     links =
         all_updated (λ p (a : Node). (q : ℕ) → GoodLink p q a (founded_nodes q) (w.links p q)) w.nodes i n
         (λ q. unlinked_good i q n (founded_nodes q) (w.links i q) (λ e. made_elsewhere i ((s.links i q).ends e).0 refl))
@@ -271,6 +279,6 @@ module _ (w : World) (i sites : ℕ) (n : Node) (h : Line → History) (s : Soun
         })
         w.promised s.promised;
     known = all_updated (λ k (m : Node). KnownNode founded_nodes w.links k m) w.nodes i n
-        (λ made r. not_both (is_origin n.role) (origin made) r)
+        (λ made r. not_both (is_origin n.role) origin r)
         (λ k _ made r q. s.known k made r (stranger_was (w.nodes k).line k (s.good.begun k made) q));
   }

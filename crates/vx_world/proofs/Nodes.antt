@@ -28,6 +28,8 @@ later_logged n x = record {
   present = λ up _. (up, omega (arith, length-append n.log (x ∷ [])));
   mark = λ m. m;
   made = λ m. m;
+  phase = refl;
+  other = refl;
 }
 
 -- one more write, whatever is known of it
@@ -40,6 +42,8 @@ later_longer n x halted = record {
   present = λ up _. (up, omega (arith, length-append n.log (x ∷ [])));
   mark = λ m. m;
   made = λ m. m;
+  phase = refl;
+  other = refl;
 }
 
 -- an update that a receiver takes
@@ -75,7 +79,7 @@ good_applied h s k mark n r least most good = record {
 
 pub later_applied : (n : Node) (k : ℕ) (mark : Mark) → n.safe ≤ k → (n.mark ≡ Consistent → mark ≡ Consistent) → IsLater n (applied n k mark)
 later_applied n k mark least marks =
-    record { line = refl; origin = refl; session = omega arith; safe = least; present = λ up _. (up, omega arith); mark = marks; made = λ m. m }
+    record { line = refl; origin = refl; session = omega arith; safe = least; present = λ up _. (up, omega arith); mark = marks; made = λ m. m; phase = refl; other = refl }
 
 -- a crash of a receiver
 pub good_dropped : (h : History) (s k : ℕ) (n : Node) → IsMade n → is_origin n.role ≡ false → n.safe ≤ k → k ≤ length n.log → GoodNode h s n → GoodNode h s (crashed n k)
@@ -91,7 +95,7 @@ good_dropped h s k n made r least most good = record {
 
 pub later_crashed : (n : Node) (k : ℕ) → n.safe ≤ k → IsMade n → IsLater n (crashed n k)
 later_crashed n k least made =
-    record { line = refl; origin = refl; session = omega arith; safe = least; present = λ up _. absurd (cc); mark = λ m. m; made = λ _ e. cc }
+    record { line = refl; origin = refl; session = omega arith; safe = least; present = λ up _. absurd (cc); mark = λ m. m; made = λ _ e. cc; phase = refl; other = refl }
 
 -- what a crash keeps
 pub kept_least : (n : Node) (k : ℕ) → n.safe ≤ length n.log → n.safe ≤ kept_of n k
@@ -139,6 +143,8 @@ later_risen n mark marks = record {
   present = λ _ e. absurd (omega (arith, e));
   mark = marks;
   made = λ _ e. cc;
+  phase = refl;
+  other = refl;
 }
 
 -- a session that began at a site that stays down
@@ -151,10 +157,12 @@ later_begun n down = record {
   present = λ up _. absurd (let e : Down ≡ Up = sym down ∙ up in cc);
   mark = λ m. m;
   made = λ m. m;
+  phase = refl;
+  other = refl;
 }
 
 pub later_halted : (n : Node) (disk : ℕ) → IsLater n (record n { halted = Some disk })
-later_halted n disk = record { line = refl; origin = refl; session = omega arith; safe = omega arith; present = λ up _. (up, omega arith); mark = λ m. m; made = λ m. m }
+later_halted n disk = record { line = refl; origin = refl; session = omega arith; safe = omega arith; present = λ up _. (up, omega arith); mark = λ m. m; made = λ m. m; phase = refl; other = refl }
 
 pub good_marked : (h : History) (s : ℕ) (n : Node) → GoodNode h s n → GoodNode h s (record n { mark = Consistent })
 good_marked h s n good = record {
@@ -168,7 +176,7 @@ good_marked h s n good = record {
 }
 
 pub later_marked : (n : Node) → IsLater n (record n { mark = Consistent })
-later_marked n = record { line = refl; origin = refl; session = omega arith; safe = omega arith; present = λ up _. (up, omega arith); mark = λ _. refl; made = λ m. m }
+later_marked n = record { line = refl; origin = refl; session = omega arith; safe = omega arith; present = λ up _. (up, omega arith); mark = λ _. refl; made = λ m. m; phase = refl; other = refl }
 
 pub good_joined : (h : History) (s p : ℕ) (a n : Node) → GoodNode h s (joined a p n)
 good_joined h s p a n = record {

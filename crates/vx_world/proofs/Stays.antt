@@ -97,6 +97,7 @@ pub empty_sound : Sound empty_world
 empty_sound = record {
   good = good_empty;
   whole = λ _ _. omega arith;
+  fed = λ _ r. absurd (cc);
   links = λ p q. unlinked_good p q (empty_world.nodes p) (empty_world.nodes q) (empty_world.links p q) (λ e. cc);
   packets = tt;
   promised = tt;

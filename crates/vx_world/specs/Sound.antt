@@ -3,6 +3,7 @@ use Rattle.std.specs.Prelude.{◌≡◌, ◌≢◌, ℕ, ◌≤◌, true, false,
 use Rattle.std.specs.List.{AllByRecursion}
 use Rattle.vx_model.specs.Content.{Write, IsNumber}
 use Rattle.vx_model.specs.World.{Node, Link, History, Message, Packet, Promise, Surety, World, Hello, Update, NetAck, DataAck, Durable, InSession, is_origin}
+use Rattle.vx_model.specs.Receiving.{phase_takes}
 use Rattle.vx_model.specs.Good.{Good, IsMade}
 use Rattle.vx_model.specs.declared.history.Line.{Line}
 use Rattle.vx_model.specs.declared.site.Mark.TheVariants.{Consistent}
@@ -18,6 +19,10 @@ IsPresent n session = (n.state ≡ Up) × (n.session ≡ session)
 -- A site that is down has no write that a further crash could lose: as it comes up it is not halted, and then an origin has none.
 abbrev pub IsWhole : Node → Type 0
 IsWhole n = n.state ≡ Down → length n.log ≤ n.safe
+
+-- A receiver's primary is the site that began its line: so its acknowledgements go to the site that sends it updates.
+abbrev pub IsFed : Node → Type 0
+IsFed n = is_origin n.role ≡ false → n.other ≡ n.line.origin
 
 -- ## Links
 
@@ -39,6 +44,8 @@ pub record GoodLink (p s : ℕ) (a b : Node) (l : Link) : Type 0 where
   pub net : IsFollowed a b l → IsPresent b l.session → l.net ≤ length b.log
   -- by the log only a consistent site is fed
   pub log : IsFollowed a b l → l.mode ≡ Log → b.mark ≡ Consistent
+  -- and one that takes updates: else settling would not come to an end
+  pub takes : IsFollowed a b l → l.mode ≡ Log → phase_takes b.phase ≡ true
 
 -- ## Packets
 
@@ -98,6 +105,7 @@ KnownNode nodes links i n = IsMade n → is_origin n.role ≡ false → IsStrang
 pub record Sound (w : World) : Type 0 where
   pub good : Good w
   pub whole : (i : ℕ) → IsWhole (w.nodes i)
+  pub fed : (i : ℕ) → IsFed (w.nodes i)
   pub links : (p s : ℕ) → GoodLink p s (w.nodes p) (w.nodes s) (w.links p s)
   pub packets : AllByRecursion (GoodPacket w.nodes w.links w.lines) w.packets
   pub promised : AllByRecursion (GoodPromise w.nodes w.links) w.promised

@@ -3,6 +3,7 @@ use Rattle.std.specs.Prelude.{ℕ, Bool, not, ◌&&◌, List, [], ◌∷◌, ◌
 use Rattle.vx_model.specs.Content.{Write, blocks_in, blocks_from}
 use Rattle.vx_model.specs.World.{World, is_origin, with_node}
 use Rattle.vx_model.specs.Answer.{is_too_large}
+use Rattle.vx_model.specs.Receiving.{phase_takes}
 use Rattle.vx_model.specs.Steps.{site_made, raw_made, stopped_by}
 use Rattle.vx_model.specs.declared.site.Mark.TheVariants.{Consistent}
 use Rattle.vx_model.specs.declared.link.SyncMode.{SyncMode}
@@ -45,7 +46,7 @@ link_part Marked w p s sync =
     unless (not (is_primary (w.nodes p).role && (follows w p s && (is_linked (w.links p s) && is_empty (w.nodes p).log)))) WrongRole w
     (done (with_node w s (record (w.nodes s) { mark = Consistent })))
 link_part Opened w p s sync =
-    unless (not (is_primary (w.nodes p).role && (follows w p s && (is_linked (w.links p s) && (is_empty (w.nodes p).log && (is_stale (w.links p s).mode && is_consistent (w.nodes s).mark)))))) WrongRole w
+    unless (not (is_primary (w.nodes p).role && (follows w p s && (is_linked (w.links p s) && (is_empty (w.nodes p).log && (is_stale (w.links p s).mode && (phase_takes (w.nodes s).phase && is_consistent (w.nodes s).mark))))))) WrongRole w
     (done (with_link w p s (opened (w.links p s) (w.nodes p).safe)))
 
 abbrev pub step : World → Event → Outcome
