@@ -11,3 +11,8 @@ pub mod Joins
 pub mod Stays
 pub mod Words
 pub mod Rows
+pub mod Pair
+pub mod Told
+pub mod Batches
+pub mod Turns
+pub mod Settles

@@ -1,10 +1,10 @@
 -- Small runs of the world, and what is said in them.
-use Rattle.std.proofs.Common.{◌≡◌, ℕ, List, [], ◌∷◌, ◌++◌, length, refl, true, false}
-use Rattle.std.specs.Prelude.{replicate, Some, None}
+use Rattle.std.proofs.Common.{◌≡◌, ℕ, List, [], ◌∷◌, ◌++◌, refl, true, false}
+use Rattle.std.specs.Prelude.{replicate, None}
 use Rattle.vx_model.specs.World.{World, empty_world}
 use Rattle.vx_model.specs.declared.link.SyncMode.{SyncMode}
 use Rattle.vx_model.specs.declared.link.SyncMode.TheVariants.{Off as NeverWaits, Fail as FailsIfNotLive}
-use Rattle.vx_model.specs.declared.no.No.TheVariants.{Unknown, Role as WrongRole, Unconfirmed, LinkDown, LogFull, Stalled, Limit}
+use Rattle.vx_model.specs.declared.no.No.TheVariants.{Unknown, Unconfirmed, LinkDown, LogFull, Stalled, Limit}
 use Rattle.vx_model.specs.declared.no.Named.TheVariants.{Number as ByNumber}
 use Rattle.vx_model.specs.declared.no.SiteName.TheVariants.{Number as SiteNumber}
 use Rattle.vx_model.specs.declared.no.Counted.TheVariants.{Links}
@@ -12,7 +12,8 @@ use Rattle.vx_world.specs.declared.event.Said.{Said}
 use Rattle.vx_world.specs.declared.event.Said.TheVariants.{Done, DoneAt, Logged, Pending, Taken, Ignored, Recovered, Refused}
 use Rattle.vx_world.specs.declared.event.LinkPart.TheVariants.{Joins, Made, Marked, Opened}
 use Rattle.vx_world.specs.declared.event.Event.{Event}
-use Rattle.vx_world.specs.declared.event.Event.TheVariants.{Site, Raw, Write, Pump, Deliver, Connect, Cut, Wait, Link, Crash, Recover, Apply}
+use Rattle.vx_world.specs.declared.event.Event.TheVariants.{Site, Raw, Write, Pump, Tick, Deliver, Connect, Cut, Wait, Link, Crash, Recover, Apply}
+use Rattle.vx_world.specs.Settling.{settling}
 use Rattle.vx_world.specs.Step.{step, run}
 
 -- what is said of each event in turn
@@ -75,3 +76,15 @@ link_to s = Link 0 s NeverWaits Joins ∷ Link 0 s NeverWaits Made ∷ Link 0 s 
 links_row : sayings (run empty_world (site_of 97 0 ++ site_of 98 1 ++ site_of 99 2 ++ site_of 100 3 ++ site_of 101 4 ++ site_of 102 5 ++ link_to 1 ++ link_to 2 ++ link_to 3 ++ link_to 4)) (Link 0 5 NeverWaits Joins ∷ [])
     ≡ Refused (Limit Links 4) ∷ []
 links_row = refl
+
+-- settling brings three writes, the last of two blocks, to the receiver, in packets 2 to 10
+abbrev before_settling : World
+before_settling = run empty_world (linked 10 NeverWaits ++ filled)
+
+settling_row : settling before_settling 0 1
+    ≡ Connect 0 1 ∷ Deliver 2 true
+    ∷ Tick 0 1 ∷ Pump 0 1 ∷ Deliver 3 true ∷ Deliver 4 true ∷ Deliver 5 false ∷ Deliver 6 true ∷ Deliver 7 true ∷ Deliver 8 true ∷ Deliver 9 true ∷ Apply 1 3 0 ∷ Deliver 10 true ∷ []
+settling_row = refl
+
+settled_link : ((run before_settling (settling before_settling 0 1)).links 0 1).stored ≡ 3
+settled_link = refl

@@ -1,9 +1,10 @@
 // What holds of every world, whatever happens to it.
-ghost use Rattle.std.specs.Prelude.{◌≡◌, ℕ, ◌≤◌, List, length, take, drop, slice_get, Some, true, false};
+ghost use Rattle.std.specs.Prelude.{◌≡◌, ℕ, ◌≤◌, ◌<◌, List, length, take, drop, slice_get, Some, true, false};
 ghost use Rattle.vx_model.specs.Content.{Write, IsPrefixOf, IsNumber, fold_writes};
 ghost use Rattle.vx_model.specs.Good.{IsMade};
 ghost use Rattle.vx_model.specs.World.{World, Packet, Promise, Update, empty_world, is_origin};
 ghost use Rattle.vx_world.specs.declared.event.Event.{Event};
+ghost use Rattle.vx_world.specs.Settling.{MaySettle, IsMet, greeting_events, turn, settling};
 ghost use Rattle.vx_world.specs.Sound.{Sound, IsKept};
 ghost use Rattle.vx_world.specs.Step.{step, run};
 
@@ -26,4 +27,14 @@ pub fn in_order()
     ensures answered { (w : World) (events : List Event) (i : ℕ) → Sound w → IsMade ((run w events).nodes i) → is_origin ((run w events).nodes i).role ≡ true → ((run w events).lines ((run w events).nodes i).line).told ≤ ((run w events).nodes i).safe }
     ensures promised { (w : World) (events : List Event) (k : ℕ) (e : Promise) → Sound w → slice_get (run w events).promised k ≡ Some e → IsKept ((run w events).nodes e.site) e.line e.number e.surety }
     ensures updates { (w : World) (events : List Event) (k number : ℕ) (p : Packet) (x : Write) → Sound w → slice_get (run w events).packets k ≡ Some p → p.message ≡ Update number x → IsNumber ((run w events).lines p.line).held number x }
+{}
+
+/// Settling a link brings all that is durable at its site to its receiver's disks. The receiver's greeting lets the two meet, each turn
+/// raises what is stored as long as that is below the head, and at the end it is the head, which has not changed.
+pub fn settles()
+    ensures meets { (w : World) (p s : ℕ) → Sound w → MaySettle w p s → IsMet (run w (greeting_events w p s)) p s }
+    ensures raises { (w : World) (p s : ℕ) → Sound w → IsMet w p s → (w.links p s).stored < (w.nodes p).safe → (w.links p s).stored < ((run w (turn w p s)).links p s).stored }
+    ensures meets_again { (w : World) (p s : ℕ) → Sound w → IsMet w p s → (w.links p s).stored < (w.nodes p).safe → IsMet (run w (turn w p s)) p s }
+    ensures ends { (w : World) (p s : ℕ) → Sound w → MaySettle w p s → ((run w (settling w p s)).links p s).stored ≡ ((run w (settling w p s)).nodes p).safe }
+    ensures head { (w : World) (p s : ℕ) → Sound w → MaySettle w p s → ((run w (settling w p s)).nodes p).safe ≡ (w.nodes p).safe }
 {}
