@@ -34,7 +34,7 @@ origin_known w i n o = λ _ r _. not_both (is_origin n.role) o r
 pub up_whole : (n : Node) → n.state ≡ Up → IsWhole n
 up_whole n up down = absurd (let e : Up ≡ Down = sym up ∙ down in cc)
 
-links_changed_keeps : (w : World) (p : ℕ) (x : Write) → Sound w → Sound (Events.links_changed w p x)
+pub links_changed_keeps : (w : World) (p : ℕ) (x : Write) → Sound w → Sound (Events.links_changed w p x)
 links_changed_keeps w p x s =
     sound_with_links w p (λ k. Events.link_after (w.nodes p) x k (w.links p k)) s
     (λ k. Links.link_changed p k (w.nodes p) (w.nodes k) (w.nodes p) x (w.links p k) (s.links p k))

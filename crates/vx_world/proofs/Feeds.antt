@@ -28,7 +28,8 @@ use Rattle.vx_world.specs.Events
 use Rattle.vx_world.specs.Sound.{GoodLink, GoodMessage, GoodPacket, IsStranger, StrangerSays, Sound}
 use Rattle.vx_world.proofs.Lists.{prefix_refl, each_found, not_true, not_both}
 use Rattle.vx_world.proofs.Moves.{sound_sending, sound_promising, sound_with_link, sound_with_node, good_later, stranger_of_links, still_linked}
-use Rattle.vx_world.proofs.Tests.{Keeps, unless_keeps, up_is}
+use Rattle.vx_world.proofs.Tests.{Keeps, unless_keeps}
+use Rattle.vx_world.proofs.Guards.{up_is}
 use Rattle.vx_world.proofs.Changes.{greeting_good, memory_good, up_whole}
 use Rattle.vx_world.proofs.Nodes
 use Rattle.vx_world.proofs.Links

@@ -25,7 +25,8 @@ use Rattle.vx_world.specs.Step.{done, link_part}
 use Rattle.vx_world.specs.Sound.{Sound}
 use Rattle.vx_world.proofs.Lists.{not_true, not_false, not_both, or_left, or_right}
 use Rattle.vx_world.proofs.Moves.{sound_with_node, sound_with_link, sound_joining, sound_founding, good_later, given}
-use Rattle.vx_world.proofs.Tests.{Keeps, unless_keeps, primary_origin}
+use Rattle.vx_world.proofs.Tests.{Keeps, unless_keeps}
+use Rattle.vx_world.proofs.Guards.{primary_origin}
 use Rattle.vx_world.proofs.Changes.{up_whole}
 use Rattle.vx_world.proofs.Nodes
 

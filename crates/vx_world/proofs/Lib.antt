@@ -3,6 +3,7 @@ pub mod Carry
 pub mod Nodes
 pub mod Links
 pub mod Moves
+pub mod Guards
 pub mod Tests
 pub mod Changes
 pub mod Feeds
@@ -16,3 +17,4 @@ pub mod Told
 pub mod Batches
 pub mod Turns
 pub mod Settles
+pub mod Grows

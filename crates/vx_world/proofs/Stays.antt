@@ -21,7 +21,8 @@ use Rattle.vx_world.specs.Sends.{with_link}
 use Rattle.vx_world.specs.Sound.{Sound}
 use Rattle.vx_world.proofs.Lists.{not_false}
 use Rattle.vx_world.proofs.Moves.{sound_with_link, unlinked_good}
-use Rattle.vx_world.proofs.Tests.{Keeps, unless_keeps, at_site_keeps, at_work_keeps, both_keeps, on_link_keeps, when_live_keeps, on_volume_keeps, primary_origin, up_is, bare_is}
+use Rattle.vx_world.proofs.Tests.{Keeps, unless_keeps, at_site_keeps, at_work_keeps, both_keeps, on_link_keeps, when_live_keeps, on_volume_keeps}
+use Rattle.vx_world.proofs.Guards.{primary_origin, up_is, bare_is}
 use Rattle.vx_world.proofs.Changes.{written_if_keeps, apply_keeps}
 use Rattle.vx_world.proofs.Feeds.{quiet_keeps, pump_keeps, connect_keeps, deliver_keeps, wait_keeps}
 use Rattle.vx_world.proofs.Crashes.{crash_keeps, recover_keeps, fault_keeps}

@@ -1,4 +1,4 @@
--- What is refused leaves the world sound, and what goes past a test is known of it.
+-- What is refused leaves the world sound.
 use Rattle.std.proofs.Common.{◌≡◌, ℕ, ◌≤◌, Bool, true, false, refl, arith, length}
 use Rattle.std.specs.Prelude.{not, ◌&&◌, ◌||◌, leb, Option, Some, None}
 use Rattle.std.proofs.lemmas.Bool.Decides.{nat_tests}
@@ -17,76 +17,32 @@ use Rattle.vx_world.specs.Sends.{is_linked}
 use Rattle.vx_world.specs.Refusals.{Outcome, refused, unless, unless_halted, is_up, is_bare, is_primary, at_site, at_work, both_at_work, on_link_if, when_live, on_volume}
 use Rattle.vx_world.specs.Sound.{Sound}
 use Rattle.vx_world.proofs.Lists.{not_false}
+use Rattle.vx_world.proofs.Guards
 
 -- the world that an outcome leaves is sound
 abbrev pub Keeps : Outcome → Type 0
 Keeps o = Sound o.world
 
-pub up_is : (s : SiteState) → is_up s ≡ true → s ≡ Up
-up_is Bare e = absurd (cc)
-up_is Up e = refl
-up_is Deported e = absurd (cc)
-up_is Down e = absurd (cc)
-
-pub bare_is : (s : SiteState) → is_bare s ≡ true → s ≡ Bare
-bare_is Bare e = refl
-bare_is Up e = absurd (cc)
-bare_is Deported e = absurd (cc)
-bare_is Down e = absurd (cc)
-
-pub primary_origin : (r : Role) → is_primary r ≡ true → is_origin r ≡ true
-primary_origin Primary e = refl
-primary_origin Secondary e = absurd (cc)
-primary_origin (Handing to) e = refl
-primary_origin Bunker e = absurd (cc)
-
-pub below_is : (a b : ℕ) → leb a b ≡ false → b ≤ a
-below_is a b e = grind (arith, nat_tests)
-
 pub unless_keeps : (b : Bool) (why : No) (w : World) (o : Outcome) → Sound w → (b ≡ false → Keeps o) → Keeps (unless b why w o)
-unless_keeps b why w o s k = by_test Keeps b (refused w why) o (λ _. s) k
+unless_keeps = Guards.unless_holds Sound
 
 pub halted_keeps : (halted : Option ℕ) (w : World) (o : Outcome) → Sound w → (halted ≡ None → Keeps o) → Keeps (unless_halted halted w o)
-halted_keeps None w o s k = k refl
-halted_keeps (Some disk) w o s k = s
+halted_keeps = Guards.halted_holds Sound
 
 pub at_site_keeps : (w : World) (p : ℕ) (o : Outcome) → Sound w → (leb w.sites p ≡ false → Keeps o) → Keeps (at_site w p o)
-at_site_keeps w p o s k = unless_keeps (leb w.sites p) (Unknown (ByNumber p)) w o s k
+at_site_keeps = Guards.at_site_holds Sound
 
 pub at_work_keeps : (w : World) (p : ℕ) (o : Outcome) → Sound w → ((w.nodes p).state ≡ Up → (w.nodes p).halted ≡ None → Keeps o) → Keeps (at_work w p o)
-at_work_keeps w p o s k =
-    unless_keeps (not (is_up (w.nodes p).state)) NotUp w (unless_halted (w.nodes p).halted w o) s
-    (λ u. halted_keeps (w.nodes p).halted w o s (k (up_is (w.nodes p).state (not_false (is_up (w.nodes p).state) u))))
+at_work_keeps = Guards.at_work_holds Sound
 
 pub both_keeps : (w : World) (p q : ℕ) (o : Outcome) → Sound w → ((w.nodes p).state ≡ Up → (w.nodes q).state ≡ Up → (w.nodes p).halted ≡ None → Keeps o) → Keeps (both_at_work w p q o)
-both_keeps w p q o s k =
-    unless_keeps (not (is_up (w.nodes p).state && is_up (w.nodes q).state)) NotUp w (unless_halted (w.nodes p).halted w (unless_halted (w.nodes q).halted w o)) s
-    (λ u.
-    let both : (is_up (w.nodes p).state && is_up (w.nodes q).state) ≡ true = not_false (is_up (w.nodes p).state && is_up (w.nodes q).state) u in
-    halted_keeps (w.nodes p).halted w (unless_halted (w.nodes q).halted w o) s
-    (λ none. halted_keeps (w.nodes q).halted w o s
-    (λ _. k (up_is (w.nodes p).state (and_left (is_up (w.nodes p).state) (is_up (w.nodes q).state) both)) (up_is (w.nodes q).state (and_right (is_up (w.nodes p).state) (is_up (w.nodes q).state) both)) none)))
+both_keeps = Guards.both_holds Sound
 
 pub on_link_keeps : (test : Role → Bool) (w : World) (p q : ℕ) (o : Outcome) → Sound w → ((w.nodes p).state ≡ Up → test (w.nodes p).role ≡ true → is_linked (w.links p q) ≡ true → Keeps o) → Keeps (on_link_if test w p q o)
-on_link_keeps test w p q o s k =
-    at_site_keeps w p _ s
-    (λ _. at_site_keeps w q _ s
-    (λ _. at_work_keeps w p _ s
-    (λ up _. unless_keeps (not (test (w.nodes p).role)) WrongRole w (unless (not (is_linked (w.links p q))) (Unknown (ByNumber q)) w o) s
-    (λ r. unless_keeps (not (is_linked (w.links p q))) (Unknown (ByNumber q)) w o s
-    (λ m. k up (not_false (test (w.nodes p).role) r) (not_false (is_linked (w.links p q)) m))))))
+on_link_keeps = Guards.on_link_holds Sound
 
 pub when_live_keeps : (w : World) (q : ℕ) (l : Link) (o : Outcome) → Sound w → Keeps o → Keeps (when_live w q l o)
-when_live_keeps w q l o s k =
-    unless_keeps (not (l.attached && l.connected)) (LinkDown (SiteNumber q)) w (unless l.paused Paused w o) s (λ _. unless_keeps l.paused Paused w o s (λ _. k))
+when_live_keeps = Guards.when_live_holds Sound
 
 pub on_volume_keeps : (w : World) (p volume start count : ℕ) (too_large : Bool) (o : Outcome) → Sound w → ((w.nodes p).state ≡ Up → (w.nodes p).halted ≡ None → is_primary (w.nodes p).role ≡ true → Keeps o) → Keeps (on_volume w p volume start count too_large o)
-on_volume_keeps w p volume start count too_large o s k =
-    at_site_keeps w p _ s
-    (λ _. unless_keeps (is_bare (w.nodes p).state) (Unknown (ByNumber volume)) w _ s
-    (λ _. at_work_keeps w p _ s
-    (λ up runs. unless_keeps (not (is_primary (w.nodes p).role)) WrongRole w _ s
-    (λ r. unless_keeps (leb (length (w.nodes p).volumes) volume) (Unknown (ByNumber volume)) w _ s
-    (λ _. unless_keeps (is_wrong_count count || too_large) Size w _ s
-    (λ _. unless_keeps (is_past (w.nodes p).base volume start count) Range w o s
-    (λ _. k up runs (not_false (is_primary (w.nodes p).role) r))))))))
+on_volume_keeps = Guards.on_volume_holds Sound

@@ -1,4 +1,5 @@
 pub mod Events
+pub mod Grown
 pub mod Refusals
 pub mod Sends
 pub mod Settling

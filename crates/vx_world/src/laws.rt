@@ -3,7 +3,9 @@ ghost use Rattle.std.specs.Prelude.{◌≡◌, ℕ, ◌≤◌, ◌<◌, List, le
 ghost use Rattle.vx_model.specs.Content.{Write, IsPrefixOf, IsNumber, fold_writes};
 ghost use Rattle.vx_model.specs.Good.{IsMade};
 ghost use Rattle.vx_model.specs.World.{World, Packet, Promise, Update, empty_world, is_origin};
+ghost use Rattle.vx_model.specs.declared.history.Line.{Line};
 ghost use Rattle.vx_world.specs.declared.event.Event.{Event};
+ghost use Rattle.vx_world.specs.Grown.{Grown};
 ghost use Rattle.vx_world.specs.Settling.{MaySettle, IsMet, greeting_events, turn, settling};
 ghost use Rattle.vx_world.specs.Sound.{Sound, IsKept};
 ghost use Rattle.vx_world.specs.Step.{step, run};
@@ -27,6 +29,13 @@ pub fn in_order()
     ensures answered { (w : World) (events : List Event) (i : ℕ) → Sound w → IsMade ((run w events).nodes i) → is_origin ((run w events).nodes i).role ≡ true → ((run w events).lines ((run w events).nodes i).line).told ≤ ((run w events).nodes i).safe }
     ensures promised { (w : World) (events : List Event) (k : ℕ) (e : Promise) → Sound w → slice_get (run w events).promised k ≡ Some e → IsKept ((run w events).nodes e.site) e.line e.number e.surety }
     ensures updates { (w : World) (events : List Event) (k number : ℕ) (p : Packet) (x : Write) → Sound w → slice_get (run w events).packets k ≡ Some p → p.message ≡ Update number x → IsNumber ((run w events).lines p.line).held number x }
+{}
+
+/// What a line holds only grows, what was answered on it only rises, and no packet and no promise is forgotten, whatever happens. So a
+/// write that its line holds under a number is held under that number from then on.
+pub fn forgets_nothing()
+    ensures run { (w : World) (events : List Event) → Sound w → Grown w (run w events) }
+    ensures number { (w : World) (events : List Event) (l : Line) (n : ℕ) (x : Write) → Sound w → IsMade (w.nodes l.origin) → IsNumber (w.lines l).held n x → IsNumber ((run w events).lines l).held n x }
 {}
 
 /// Settling a link brings all that is durable at its site to its receiver's disks. The receiver's greeting lets the two meet, each turn
