@@ -21,7 +21,7 @@ use Rattle.vx_model.specs.declared.no.No.TheVariants.{Unknown, Unconfirmed}
 use Rattle.vx_model.specs.declared.no.Named.TheVariants.{Number as ByNumber}
 use Rattle.vx_model.proofs.Updates.{by_test, and_left, and_right, same_line_equal, at_place, eqb_equal}
 use Rattle.vx_model.proofs.GoodLemmas.{up_is_made}
-use Rattle.vx_world.specs.declared.event.Said.TheVariants.{Ignored as IsIgnored, Taken as IsTaken, Pending, DoneAt}
+use Rattle.vx_world.specs.declared.event.Said.TheVariants.{Ignored as IsIgnored, Pending, DoneAt}
 use Rattle.vx_world.specs.Sends.{is_linked, with_link, sending, promising, packets_of, greeting, sent_by}
 use Rattle.vx_world.specs.Refusals.{Outcome, says, unless, is_running, is_up, keeps_links, some_below, is_unconfirmed, holds_back}
 use Rattle.vx_world.specs.Events
@@ -163,7 +163,7 @@ heard_keeps w p (DataAck number) s up h known =
 handed_keeps : (w : World) (p : Packet) (whole : Bool) → Sound w → GoodPacket w.nodes w.links w.lines p → Keeps (Events.handed w p whole)
 handed_keeps w p whole s good =
     by_test Keeps (is_up (w.nodes p.target).state && is_running (w.nodes p.target).halted) _ (says w IsIgnored)
-    (λ c. by_test Keeps whole (Events.heard w p p.message) (says w IsTaken)
+    (λ c. by_test Keeps whole (Events.heard w p p.message) (says w (Events.said_of_part (w.nodes p.target) p.line p.message))
     (λ _. heard_keeps w p p.message s (up_is (w.nodes p.target).state (and_left (is_up (w.nodes p.target).state) (is_running (w.nodes p.target).halted) c)) good.said good.known)
     (λ _. s))
     (λ _. s)

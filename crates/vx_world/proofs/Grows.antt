@@ -1,17 +1,15 @@
 -- Every event leaves what lines hold, what was answered, sent and promised.
-use Rattle.std.proofs.Common.{◌≡◌, ℕ, ◌+◌, ◌≤◌, ◌<◌, List, [], ◌∷◌, ◌++◌, length, take, refl, ap, sym, ◌∙◌, subst, arith, append_assoc, Bool, true, false}
-use Rattle.std.specs.Prelude.{leb, not, if◌then◌else◌, Option, Some, None, slice_get, zero, suc, eqb, ltb, ◌&&◌, ◌||◌, bytes_eq}
+use Rattle.std.proofs.Common.{◌≡◌, ℕ, ◌+◌, ◌≤◌, List, [], ◌∷◌, ◌++◌, take, refl, ap, sym, ◌∙◌, subst, arith, append_assoc, Bool, false}
+use Rattle.std.specs.Prelude.{leb, not, if◌then◌else◌, Option, Some, None, eqb, ltb, ◌&&◌, ◌||◌, bytes_eq}
 use Rattle.std.proofs.lemmas.List.{take-take}
 use Rattle.vx_model.specs.Content.{Write, IsPrefixOf, blocks_in}
 use Rattle.vx_model.specs.Answer.{is_too_large}
 use Rattle.vx_model.specs.Admission.{Admitted, Held_by, Goes}
 use Rattle.vx_model.specs.Receiving.{Received, received_step}
-use Rattle.vx_model.specs.LinkForms.{plain_receiver, plain_link, with_plain}
-use Rattle.vx_model.specs.Sending.{sent_step}
-use Rattle.vx_model.specs.World.{World, Node, Link as LinkRecord, History, Packet, Promise, Message, Hello, Update, NetAck, DataAck, is_origin, same_line, updated, line_updated, with_node, with_history, bare_site}
+use Rattle.vx_model.specs.LinkForms.{plain_receiver, with_plain}
+use Rattle.vx_model.specs.World.{World, Node, Link as LinkRecord, History, Packet, Promise, Message, Hello, Update, NetAck, DataAck, is_origin, with_node, with_history, bare_site}
 use Rattle.vx_model.specs.Steps.{logged, told_of, written, half_written, crashed, crash_left, site_made, raw_made, raw_set, raw_history, stopped_by}
 use Rattle.vx_model.specs.Good.{IsMade}
-use Rattle.vx_model.specs.declared.history.Line.{Line}
 use Rattle.vx_model.specs.declared.link.SyncMode.{SyncMode}
 use Rattle.vx_model.specs.declared.link.Prot.TheVariants.{Fail as FailsWhenFull}
 use Rattle.vx_model.specs.declared.site.Mark.TheVariants.{Consistent}
@@ -26,16 +24,16 @@ use Rattle.vx_model.specs.declared.receiver.RAction.TheVariants.{Nothing as Does
 use Rattle.vx_model.specs.declared.no.No.TheVariants.{Size, Role as WrongRole, Down as NotUp, Exists, Limit, Unknown, Unconfirmed}
 use Rattle.vx_model.specs.declared.no.Named.TheVariants.{Number as ByNumber}
 use Rattle.vx_model.specs.declared.no.Counted.TheVariants.{Sites, Disks, Links}
-use Rattle.vx_model.proofs.Updates.{all_updated, all_lines, by_test, same_line_equal}
+use Rattle.vx_model.proofs.Updates.{all_updated, all_lines, by_test}
 use Rattle.vx_model.proofs.GoodLemmas.{up_is_made}
 use Rattle.vx_world.specs.declared.event.LinkPart.{LinkPart}
 use Rattle.vx_world.specs.declared.event.LinkPart.TheVariants.{Joins, Made, Marked, Opened}
 use Rattle.vx_world.specs.declared.event.Event.{Event}
 use Rattle.vx_world.specs.declared.event.Event.TheVariants.{Site, Raw, Write as WriteAt, Read, Apply, Pump, Tick, Deliver, Connect, Cut, Pause, Resume, Wait, Link, Set, Crash, Recover, Fault}
-use Rattle.vx_world.specs.declared.event.Said.TheVariants.{Ignored as IsIgnored, Taken as IsTaken, Pending, DoneAt}
-use Rattle.vx_world.specs.Refusals.{Outcome, says, unless, at_work, on_link, is_up, is_bare, is_raw_shape, keeps_links, is_primary, is_running, is_empty, is_stale, is_consistent, follows, some_below, is_unconfirmed, holds_back, may_link, agree, rings_fit, links_of, most_links, most_sites, most_disks}
+use Rattle.vx_world.specs.declared.event.Said.TheVariants.{Ignored as IsIgnored, Pending, DoneAt}
+use Rattle.vx_world.specs.Refusals.{Outcome, says, unless, at_work, on_link, is_up, is_bare, is_raw_shape, keeps_links, is_primary, is_running, follows, some_below, is_unconfirmed, holds_back, may_link, agree, rings_fit, links_of, most_links, most_sites, most_disks}
 use Rattle.vx_world.specs.Events
-use Rattle.vx_world.specs.Step.{done, step, run, link_part, write_at}
+use Rattle.vx_world.specs.Step.{done, step, run, link_part}
 use Rattle.vx_world.specs.Sends.{is_linked, with_link, with_links, sending, promising, sent_by}
 use Rattle.vx_world.specs.Sound.{Sound}
 use Rattle.vx_world.specs.Grown.{Grown}
@@ -167,7 +165,7 @@ delivered_grows : (w : World) (number : ℕ) (whole : Bool) (p : Option Packet) 
 delivered_grows w number whole None = grown_same w
 delivered_grows w number whole (Some p) =
     by_test (Leaves w) (is_up (w.nodes p.target).state && is_running (w.nodes p.target).halted) _ (says w IsIgnored)
-    (λ _. by_test (Leaves w) whole (Events.heard w p p.message) (says w IsTaken) (λ _. heard_grows w p p.message) (λ _. grown_same w))
+    (λ _. by_test (Leaves w) whole (Events.heard w p p.message) (says w (Events.said_of_part (w.nodes p.target) p.line p.message)) (λ _. heard_grows w p p.message) (λ _. grown_same w))
     (λ _. grown_same w)
 
 crash_grows : (w : World) (q k : ℕ) → Sound w → (w.nodes q).state ≡ Up → (w.nodes q).safe ≤ k → Grown w (Events.crash_at w q k)

@@ -1,22 +1,13 @@
 -- What is refused leaves the world sound.
-use Rattle.std.proofs.Common.{◌≡◌, ℕ, ◌≤◌, Bool, true, false, refl, arith, length}
-use Rattle.std.specs.Prelude.{not, ◌&&◌, ◌||◌, leb, Option, Some, None}
-use Rattle.std.proofs.lemmas.Bool.Decides.{nat_tests}
-use Rattle.vx_model.specs.World.{World, Link, is_origin}
+use Rattle.std.proofs.Common.{◌≡◌, ℕ, Bool, true, false}
+use Rattle.std.specs.Prelude.{leb, Option, None}
+use Rattle.vx_model.specs.World.{World, Link}
 use Rattle.vx_model.specs.declared.site.Role.{Role}
-use Rattle.vx_model.specs.declared.site.Role.TheVariants.{Primary, Secondary, Handing, Bunker}
-use Rattle.vx_model.specs.declared.site.SiteState.{SiteState}
-use Rattle.vx_model.specs.declared.site.SiteState.TheVariants.{Bare, Up, Deported, Down}
+use Rattle.vx_model.specs.declared.site.SiteState.TheVariants.{Up}
 use Rattle.vx_model.specs.declared.no.No.{No}
-use Rattle.vx_model.specs.declared.no.No.TheVariants.{Unknown, Role as WrongRole, Down as NotUp, LinkDown, Paused, Size, Range}
-use Rattle.vx_model.specs.declared.no.Named.TheVariants.{Number as ByNumber}
-use Rattle.vx_model.specs.declared.no.SiteName.TheVariants.{Number as SiteNumber}
-use Rattle.vx_model.specs.Answer.{is_wrong_count, is_past}
-use Rattle.vx_model.proofs.Updates.{by_test, and_left, and_right}
 use Rattle.vx_world.specs.Sends.{is_linked}
-use Rattle.vx_world.specs.Refusals.{Outcome, refused, unless, unless_halted, is_up, is_bare, is_primary, at_site, at_work, both_at_work, on_link_if, when_live, on_volume}
+use Rattle.vx_world.specs.Refusals.{Outcome, unless, unless_halted, is_primary, at_site, at_work, both_at_work, on_link_if, when_live, on_volume}
 use Rattle.vx_world.specs.Sound.{Sound}
-use Rattle.vx_world.proofs.Lists.{not_false}
 use Rattle.vx_world.proofs.Guards
 
 -- the world that an outcome leaves is sound

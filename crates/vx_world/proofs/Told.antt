@@ -20,7 +20,7 @@ use Rattle.vx_model.specs.declared.receiver.RAction.{RAction}
 use Rattle.vx_model.specs.declared.receiver.RAction.TheVariants.{Ignored as Ignores, IgnoredAck, Take}
 use Rattle.vx_model.proofs.Updates.{by_test, same_line_self}
 use Rattle.vx_world.specs.declared.event.Event.TheVariants.{Apply, Pump, Tick, Deliver, Connect}
-use Rattle.vx_world.specs.declared.event.Said.TheVariants.{Ignored as IsIgnored, Taken as IsTaken, DoneAt}
+use Rattle.vx_world.specs.declared.event.Said.TheVariants.{Ignored as IsIgnored, DoneAt}
 use Rattle.vx_world.specs.Sends.{is_linked, with_link, sending, packet, packets_of, updates, between, greeting, sent_by}
 use Rattle.vx_world.specs.Refusals.{Outcome, says, when_live, on_link, keeps_links, is_up, is_running}
 use Rattle.vx_world.specs.Events
@@ -104,7 +104,7 @@ module _ (v : World) (p s : ℕ) (a b : Node) (l : Link) (ps : List Packet) (at 
   pub part_at : (k : ℕ) (q : Packet) → slice_get ps k ≡ Some q → At (step v (Deliver (suc k) false)).world p s a b l ps
   part_at k q e =
       subst (λ (o : Outcome). At o.world p s a b l ps) (sym (delivered_is k false q e))
-      (by_test (λ (o : Outcome). At o.world p s a b l ps) (is_up (v.nodes q.target).state && is_running (v.nodes q.target).halted) (says v IsTaken) (says v IsIgnored) (λ _. at) (λ _. at))
+      (by_test (λ (o : Outcome). At o.world p s a b l ps) (is_up (v.nodes q.target).state && is_running (v.nodes q.target).halted) (says v (Events.said_of_part (v.nodes q.target) q.line q.message)) (says v IsIgnored) (λ _. at) (λ _. at))
 
   handed_is : (q : Packet) (n : Node) → v.nodes q.target ≡ n → n.state ≡ Up → n.halted ≡ None → Events.handed v q true ≡ Events.heard v q q.message
   handed_is q n e up none = by_true (is_up (v.nodes q.target).state && is_running (v.nodes q.target).halted) _ _ (hears v p s a b l ps at q.target n e up none)

@@ -5,7 +5,7 @@ use Rattle.vx_model.specs.World.{Node, Link, Message, Packet, Promise, World, He
 use Rattle.vx_model.specs.Steps.{crashed, crash_left, recovered, session_begun, written, half_written}
 use Rattle.vx_model.specs.Admission.{is_fail, hold, change, changed_mode, admit, Admitted, Held_by, Goes}
 use Rattle.vx_model.specs.Sending.{Sent, sent_step}
-use Rattle.vx_model.specs.Receiving.{received_step}
+use Rattle.vx_model.specs.Receiving.{received_step, takes}
 use Rattle.vx_model.specs.LinkForms.{plain_link, with_plain, plain_receiver}
 use Rattle.vx_model.specs.declared.history.Line.{Line}
 use Rattle.vx_model.specs.declared.site.Role.TheVariants.{Secondary}
@@ -194,12 +194,19 @@ heard w p (Update number x) = update_heard w p number x
 heard w p (NetAck session number) = link_heard w p (HearNetAck session number)
 heard w p (DataAck number) = link_heard w p (HearDataAck number)
 
+-- a part of an update that could be taken is kept, and any other ignored: messages of one packet are whole with it
+abbrev pub said_of_part : Node → Line → Message → Said
+said_of_part n line (Hello session number stored) = IsIgnored
+said_of_part n line (Update number x) = if not (is_origin n.role) && takes (plain_receiver n) line number then IsTaken else IsIgnored
+said_of_part n line (NetAck session number) = IsIgnored
+said_of_part n line (DataAck number) = IsIgnored
+
 -- A packet is ignored where its target is not up or is halted. One that leaves its message without another part changes nothing
 -- but what is in assembly.
 abbrev pub handed : World → Packet → Bool → Outcome
 handed w p whole =
     if is_up (w.nodes p.target).state && is_running (w.nodes p.target).halted
-    then (if whole then heard w p p.message else says w IsTaken)
+    then (if whole then heard w p p.message else says w (said_of_part (w.nodes p.target) p.line p.message))
     else says w IsIgnored
 
 abbrev pub delivered : World → (number : ℕ) → Bool → Option Packet → Outcome
