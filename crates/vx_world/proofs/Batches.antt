@@ -17,10 +17,10 @@ use Rattle.vx_world.proofs.Told.{append-nil, part_at, taken_at, ignored_at, memo
 abbrev pub IsIn : List Packet → ℕ → List Packet → Type 0
 IsIn ps k qs = (j : ℕ) (q : Packet) → slice_get qs j ≡ Some q → slice_get ps (k + j) ≡ Some q
 
-in_head : (ps : List Packet) (k : ℕ) (q : Packet) (qs : List Packet) → IsIn ps k (q ∷ qs) → slice_get ps k ≡ Some q
+pub in_head : (ps : List Packet) (k : ℕ) (q : Packet) (qs : List Packet) → IsIn ps k (q ∷ qs) → slice_get ps k ≡ Some q
 in_head ps k q qs h = subst (λ i. slice_get ps i ≡ Some q) (let e : k + zero ≡ k = omega arith in e) (h zero q refl)
 
-in_tail : (ps : List Packet) (k : ℕ) (q : Packet) (qs : List Packet) → IsIn ps k (q ∷ qs) → IsIn ps (suc k) qs
+pub in_tail : (ps : List Packet) (k : ℕ) (q : Packet) (qs : List Packet) → IsIn ps k (q ∷ qs) → IsIn ps (suc k) qs
 in_tail ps k q qs h j x e = subst (λ i. slice_get ps i ≡ Some x) (let f : k + suc j ≡ suc k + j = omega arith in f) (h (suc j) x e)
 
 kept_get : (xs more : List Packet) (k : ℕ) (x : Packet) → slice_get xs k ≡ Some x → slice_get (xs ++ more) k ≡ Some x

@@ -18,3 +18,4 @@ pub mod Batches
 pub mod Turns
 pub mod Settles
 pub mod Grows
+pub mod Quiet

@@ -32,7 +32,7 @@ new_is old w ps more e f =
     ∙ ap (λ (x : List Packet). deliver_each (length ps) 0 x) (drop_front ps more)
 
 -- nothing is new
-nothing_new : (old w : World) (ps : List Packet) → old.packets ≡ ps → w.packets ≡ ps → deliver_new old w ≡ []
+pub nothing_new : (old w : World) (ps : List Packet) → old.packets ≡ ps → w.packets ≡ ps → deliver_new old w ≡ []
 nothing_new old w ps e f = new_is old w ps [] e (f ∙ sym (append-nil ps))
 
 length_between : (low high : ℕ) (log : List Write) → low < high → high ≤ length log → 0 < length (between (low + 1) high log)

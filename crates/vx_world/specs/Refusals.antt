@@ -174,9 +174,9 @@ may_be_site w name disks blocks o =
 abbrev pub map_blocks : ℕ → ℕ
 map_blocks blocks = ((blocks + 63) / 64 + 4095) / 4096
 
--- a raw set has a log of at least 8 blocks, a data volume and a map unit at least, and room for eight maps of each volume
+-- a raw set has a log of at least 8 blocks, 1 to 30 data volumes, and a map unit with room for eight maps of each
 abbrev pub is_raw_shape : (disks blocks : ℕ) → Bool
-is_raw_shape disks blocks = leb 3 disks && (leb 8 blocks && leb (8 * (disks - 2) * map_blocks blocks) blocks)
+is_raw_shape disks blocks = leb 3 disks && (leb disks 32 && (leb 8 blocks && leb (8 * (disks - 2) * map_blocks blocks) blocks))
 
 -- volumes of the same number and sizes
 abbrev pub agree : List Volume → List Volume → Bool

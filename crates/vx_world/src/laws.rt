@@ -1,12 +1,12 @@
 // What holds of every world, whatever happens to it.
-ghost use Rattle.std.specs.Prelude.{◌≡◌, ℕ, ◌≤◌, ◌<◌, List, length, take, drop, slice_get, Some, true, false};
+ghost use Rattle.std.specs.Prelude.{◌≡◌, ℕ, ◌≤◌, ◌<◌, List, [], length, take, drop, slice_get, Some, true, false};
 ghost use Rattle.vx_model.specs.Content.{Write, IsPrefixOf, IsNumber, fold_writes};
 ghost use Rattle.vx_model.specs.Good.{IsMade};
 ghost use Rattle.vx_model.specs.World.{World, Packet, Promise, Update, empty_world, is_origin};
 ghost use Rattle.vx_model.specs.declared.history.Line.{Line};
 ghost use Rattle.vx_world.specs.declared.event.Event.{Event};
 ghost use Rattle.vx_world.specs.Grown.{Grown};
-ghost use Rattle.vx_world.specs.Settling.{MaySettle, IsMet, greeting_events, turn, settling};
+ghost use Rattle.vx_world.specs.Settling.{MaySettle, IsMet, deliver_new, delivery, greeting_events, turn, settling};
 ghost use Rattle.vx_world.specs.Sound.{Sound, IsKept};
 ghost use Rattle.vx_world.specs.Step.{step, run};
 
@@ -39,11 +39,13 @@ pub fn forgets_nothing()
 {}
 
 /// Settling a link brings all that is durable at its site to its receiver's disks. The receiver's greeting lets the two meet, each turn
-/// raises what is stored as long as that is below the head, and at the end it is the head, which has not changed.
+/// raises what is stored as long as that is below the head, and at the end it is the head, which has not changed. Where packets are
+/// delivered, with what is sent in answer, none is left.
 pub fn settles()
     ensures meets { (w : World) (p s : ℕ) → Sound w → MaySettle w p s → IsMet (run w (greeting_events w p s)) p s }
     ensures raises { (w : World) (p s : ℕ) → Sound w → IsMet w p s → (w.links p s).stored < (w.nodes p).safe → (w.links p s).stored < ((run w (turn w p s)).links p s).stored }
     ensures meets_again { (w : World) (p s : ℕ) → Sound w → IsMet w p s → (w.links p s).stored < (w.nodes p).safe → IsMet (run w (turn w p s)) p s }
     ensures ends { (w : World) (p s : ℕ) → Sound w → MaySettle w p s → ((run w (settling w p s)).links p s).stored ≡ ((run w (settling w p s)).nodes p).safe }
+    ensures none_left { (old w : World) → deliver_new (run w (deliver_new old w)) (run w (delivery old w)) ≡ [] }
     ensures head { (w : World) (p s : ℕ) → Sound w → MaySettle w p s → ((run w (settling w p s)).nodes p).safe ≡ (w.nodes p).safe }
 {}
