@@ -1,0 +1,136 @@
+-- Each event keeps what holds of the world.
+use Rattle.std.proofs.Common.{◌≡◌, ℕ, ◌-◌, ◌≤◌, ◌++◌, [], ◌∷◌, length, refl, sym, ◌∙◌, subst, arith, true, false}
+use Rattle.std.specs.Prelude.{eqb, min, Some, None, Option}
+use Rattle.std.specs.List.{AllByRecursion}
+use Rattle.vx_model.specs.Content.{Write}
+use Rattle.vx_model.specs.World.{World, Node, Hello, NetAck, DataAck, is_origin, updated, with_node}
+use Rattle.vx_model.specs.Steps.{logged, told_of, written, half_written}
+use Rattle.vx_model.specs.Good.{IsMade, IsWorking}
+use Rattle.vx_model.specs.Admission.{Admitted, Held_by, Goes}
+use Rattle.vx_model.specs.Receiving.{Received, with_applied, applied_to}
+use Rattle.vx_model.specs.LinkForms.{plain_receiver}
+use Rattle.vx_model.specs.declared.site.Mark.{Mark}
+use Rattle.vx_model.specs.declared.site.Mark.TheVariants.{Consistent}
+use Rattle.vx_model.specs.declared.site.SiteState.TheVariants.{Up, Down}
+use Rattle.vx_model.specs.declared.receiver.RState.{RState}
+use Rattle.vx_model.specs.declared.receiver.RAction.TheVariants.{Nothing as DoesNothing}
+use Rattle.vx_model.proofs.Updates.{by_test, at_place}
+use Rattle.vx_model.proofs.GoodLemmas.{good_written, good_half_written, up_is_made, prefix_push}
+use Rattle.vx_world.specs.Sends.{packets_of, greeting}
+use Rattle.vx_world.specs.Events
+use Rattle.vx_world.specs.Sound.{IsWhole, GoodPacket, IsBegun, KnownNode, Sound}
+use Rattle.vx_world.proofs.Lists.{prefix_refl, not_both}
+use Rattle.vx_world.proofs.Moves.{sound_sending, sound_with_links, sound_with_node, sound_with_history, good_later, at_changed}
+use Rattle.vx_world.proofs.Tests.{Keeps, unless_keeps}
+use Rattle.vx_world.proofs.Nodes
+use Rattle.vx_world.proofs.Links
+
+-- ## Writes
+
+-- an origin says nothing as a receiver
+pub origin_known : (w : World) (i : ℕ) (n : Node) → is_origin n.role ≡ true → KnownNode w.nodes w.links i n
+origin_known w i n o = λ _ r _. not_both (is_origin n.role) o r
+
+pub up_whole : (n : Node) → n.state ≡ Up → IsWhole n
+up_whole n up down = absurd (let e : Up ≡ Down = sym up ∙ down in cc)
+
+pub links_changed_keeps : (w : World) (p : ℕ) (x : Write) → Sound w → Sound (Events.links_changed w p x)
+links_changed_keeps w p x s =
+    sound_with_links w p (λ k. Events.link_after (w.nodes p) x k (w.links p k)) s
+    (λ k. Links.link_changed p k (w.nodes p) (w.nodes k) (w.nodes p) x (w.links p k) (s.links p k))
+    (λ k is. is)
+
+written_keeps : (w : World) (p : ℕ) (x : Write) → Sound w → IsWorking (w.nodes p) → Sound (written w p x)
+written_keeps w p x s works =
+    let n : Node = w.nodes p in
+    sound_with_history w p (logged n x) (told_of (w.lines n.line) x) s
+    (good_written w p x s.good works)
+    (Nodes.later_logged n x)
+    (prefix_push (w.lines n.line).held (w.lines n.line).held (x ∷ []) (prefix_refl (w.lines n.line).held))
+    (up_whole (logged n x) works.up)
+    (origin_known w p (logged n x) works.origin)
+
+half_written_keeps : (w : World) (p : ℕ) (x : Write) (disk : ℕ) → Sound w → IsWorking (w.nodes p) → Sound (half_written w p x disk)
+half_written_keeps w p x disk s works =
+    let m : Node = record (w.nodes p) { log = (w.nodes p).log ++ x ∷ []; halted = Some disk } in
+    sound_with_node w p m s
+    (good_half_written w p x disk s.good works)
+    (Nodes.later_longer (w.nodes p) x (Some disk))
+    (up_whole m works.up)
+    (origin_known w p m works.origin)
+
+put_in_keeps : (w : World) (p : ℕ) (x : Write) (fails : Option ℕ) → Sound w → IsWorking (w.nodes p) → Keeps (Events.put_in w p x fails)
+put_in_keeps w p x None s works = written_keeps w p x s works
+put_in_keeps w p x (Some disk) s works = half_written_keeps w p x disk s works
+
+pub written_if_keeps : (admitted : Admitted) (w : World) (p : ℕ) (x : Write) (fails : Option ℕ) → Sound w → IsWorking (w.nodes p) → Keeps (Events.written_if admitted w p x fails)
+written_if_keeps (Held_by why) w p x fails s works = s
+written_if_keeps (Goes changes) w p x fails s works =
+    unless_keeps _ _ w _ s (λ _. put_in_keeps (Events.links_changed w p x) p x fails (links_changed_keeps w p x s) works)
+
+-- ## What sites say
+
+module _ (v : World) (q t : ℕ) (s : Sound v) (made : IsMade (v.nodes q)) where
+  line_begun : IsBegun v.nodes (v.nodes q).line q
+  line_begun = (made, s.good.begun q made)
+
+  -- a receiver tells what it has
+  pub greeting_good : is_origin (v.nodes q).role ≡ false → AllByRecursion (GoodPacket v.nodes v.links v.lines) (greeting q t (v.nodes q))
+  greeting_good r =
+      Links.each_packet (GoodPacket v.nodes v.links v.lines) q t (v.nodes q).line (Hello (v.nodes q).session (length (v.nodes q).log) (v.nodes q).safe)
+      (record {
+        said = (omega arith, λ _ _. omega arith, λ _. omega arith);
+        known = λ g. (s.known q made r g, omega (arith, (s.good.nodes q).safe_fits, s.known q made r g));
+        begun = line_begun;
+      })
+
+  -- and acknowledges what it has on disk, or in memory
+  pub disk_good : is_origin (v.nodes q).role ≡ false → AllByRecursion (GoodPacket v.nodes v.links v.lines) (packets_of q t (v.nodes q).line (DataAck (v.nodes q).safe))
+  disk_good r =
+      Links.each_packet (GoodPacket v.nodes v.links v.lines) q t (v.nodes q).line (DataAck (v.nodes q).safe)
+      (record {
+        said = λ _. omega arith;
+        known = λ g. omega (arith, (s.good.nodes q).safe_fits, s.known q made r g);
+        begun = line_begun;
+      })
+
+  pub memory_good : (number : ℕ) → is_origin (v.nodes q).role ≡ false → number ≤ length (v.nodes q).log → AllByRecursion (GoodPacket v.nodes v.links v.lines) (packets_of q t (v.nodes q).line (NetAck (v.nodes q).session number))
+  memory_good number r has =
+      Links.each_packet (GoodPacket v.nodes v.links v.lines) q t (v.nodes q).line (NetAck (v.nodes q).session number)
+      (record {
+        said = (omega arith, λ _ _. has);
+        known = λ g. omega (arith, has, s.known q made r g);
+        begun = line_begun;
+      })
+
+-- ## Records that are applied
+
+acknowledged_keeps : (w : World) (q : ℕ) (n : Node) → Sound w → Sound (with_node w q n) → IsMade n → is_origin n.role ≡ false → Sound (Events.acknowledged w q n)
+acknowledged_keeps w q n s v made r =
+    sound_sending (with_node w q n) (packets_of q n.other n.line (DataAck n.safe)) v
+    (subst (λ (x : Node). AllByRecursion (GoodPacket (updated w.nodes q n) w.links w.lines) (packets_of q n.other x.line (DataAck x.safe))) (at_place w.nodes q n)
+    (disk_good (with_node w q n) q n.other v (at_changed IsMade w.nodes q n made) (at_changed (λ (x : Node). is_origin x.role ≡ false) w.nodes q n r)))
+
+pub apply_keeps : (w : World) (q count : ℕ) → Sound w → (w.nodes q).state ≡ Up → is_origin (w.nodes q).role ≡ false → Keeps (Events.apply_at w q count)
+apply_keeps w q count s up r =
+    let n : Node = w.nodes q in
+    let p : RState = plain_receiver n in
+    let left : ℕ = p.waiting - count in
+    by_test (λ (x : Received). Keeps (Events.applied_by w q x.state x.action)) (eqb (min count p.waiting) 0) (record { state = p; action = DoesNothing }) (with_applied p left)
+    (λ _. s)
+    (λ _. Nodes.mark_rises (record p { waiting = left }) (applied_to p.last left) (λ (x : RState). Sound (Events.acknowledged w q (Events.applied n (applied_to p.last left) x.mark)))
+    (λ mark marks. each mark marks (omega (arith, (s.good.nodes q).safe_fits)) (omega arith)))
+  where
+    each : (mark : Mark) → ((w.nodes q).mark ≡ Consistent → mark ≡ Consistent) → (w.nodes q).safe ≤ applied_to (length (w.nodes q).log) (length (w.nodes q).log - (w.nodes q).safe - count) → applied_to (length (w.nodes q).log) (length (w.nodes q).log - (w.nodes q).safe - count) ≤ length (w.nodes q).log → Sound (Events.acknowledged w q (Events.applied (w.nodes q) (applied_to (length (w.nodes q).log) (length (w.nodes q).log - (w.nodes q).safe - count)) mark))
+    each mark marks least most =
+        let n : Node = w.nodes q in
+        let k : ℕ = applied_to (length n.log) (length n.log - n.safe - count) in
+        let made : IsMade n = up_is_made n up in
+        let m : Node = Events.applied n k mark in
+        acknowledged_keeps w q m s
+        (sound_with_node w q m s
+        (good_later w q m s.good made refl (λ is. is) (Nodes.good_applied (w.lines n.line) q k mark n r least most (s.good.nodes q)))
+        (Nodes.later_applied n k mark least marks)
+        (up_whole m up)
+        (λ is not g. s.known q made not g))
+        made r

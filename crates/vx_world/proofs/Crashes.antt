@@ -1,0 +1,121 @@
+-- Crashes, recoveries and halts keep what holds of the world.
+use Rattle.std.proofs.Common.{◌≡◌, ℕ, ◌+◌, ◌≤◌, [], length, take, refl, sym, ◌∙◌, subst, arith, true, false}
+use Rattle.std.specs.Prelude.{Option, Some, None}
+use Rattle.std.specs.List.{AllByRecursion}
+use Rattle.std.proofs.lemmas.List.{length-take, take-take}
+use Rattle.vx_model.specs.Content.{IsPrefixOf}
+use Rattle.vx_model.specs.World.{World, Node, is_origin, with_node}
+use Rattle.vx_model.specs.Steps.{crashed, crash_left, stopped_by}
+use Rattle.vx_model.specs.Good.{IsMade}
+use Rattle.vx_model.specs.declared.site.Mark.{Mark}
+use Rattle.vx_model.specs.declared.site.Mark.TheVariants.{Consistent}
+use Rattle.vx_model.specs.declared.site.SiteState.{SiteState}
+use Rattle.vx_model.specs.declared.site.SiteState.TheVariants.{Bare, Up, Deported, Down}
+use Rattle.vx_model.proofs.Updates.{by_test, at_place}
+use Rattle.vx_model.proofs.GoodLemmas.{up_is_made}
+use Rattle.vx_model.proofs.CrashLemmas.{good_crashed, good_session_begun, good_stopped, kept_length}
+use Rattle.vx_world.specs.Sends.{with_links, sending, greeting}
+use Rattle.vx_world.specs.Events
+use Rattle.vx_world.specs.Sound.{GoodPacket, IsWhole, Sound}
+use Rattle.vx_world.proofs.Lists.{prefix_take}
+use Rattle.vx_world.proofs.Carry.{IsLater}
+use Rattle.vx_world.proofs.Moves.{sound_sending, sound_with_links, sound_with_node, sound_with_history, good_later}
+use Rattle.vx_world.proofs.Tests.{Keeps, unless_keeps}
+use Rattle.vx_world.proofs.Changes.{greeting_good, up_whole, origin_known}
+use Rattle.vx_world.proofs.Nodes
+use Rattle.vx_world.proofs.Links
+
+-- the links of a site that crashed
+lost_keeps : (v : World) (q : ℕ) → Sound v → Sound (with_links v q (λ k. Events.lost_touch (v.links q k)))
+lost_keeps v q s =
+    sound_with_links v q (λ k. Events.lost_touch (v.links q k)) s
+    (λ k. Links.link_lost (v.lines (v.nodes k).line) q k (v.nodes q) (v.nodes k) (v.links q k) (s.good.nodes k) (s.links q k))
+    (λ k is. is)
+
+crashed_whole : (n : Node) (k : ℕ) → n.safe ≤ k → k ≤ length n.log → IsWhole (crashed n k)
+crashed_whole n k least most = λ _. omega (arith, kept_length n k least most)
+
+origin_crash_keeps : (w : World) (q k : ℕ) → Sound w → IsMade (w.nodes q) → is_origin (w.nodes q).role ≡ true → (w.nodes q).safe ≤ k → k ≤ length (w.nodes q).log → Sound (crash_left w q k)
+origin_crash_keeps w q k s made o least most =
+    let n : Node = w.nodes q in
+    sound_with_history w q (crashed n k) (record (w.lines n.line) { held = take k n.log }) s
+    (good_crashed w q k s.good made o least most)
+    (Nodes.later_crashed n k least made)
+    (subst (λ t. IsPrefixOf t (take k n.log)) (take-take n.safe k n.log least ∙ (s.good.nodes q).origin_log made o) (prefix_take n.safe (take k n.log)))
+    (crashed_whole n k least most)
+    (origin_known w q (crashed n k) o)
+
+receiver_crash_keeps : (w : World) (q k : ℕ) → Sound w → IsMade (w.nodes q) → is_origin (w.nodes q).role ≡ false → (w.nodes q).safe ≤ k → k ≤ length (w.nodes q).log → Sound (with_node w q (crashed (w.nodes q) k))
+receiver_crash_keeps w q k s made r least most =
+    let n : Node = w.nodes q in
+    let later : IsLater n (crashed n k) = Nodes.later_crashed n k least made in
+    sound_with_node w q (crashed n k) s
+    (good_later w q (crashed n k) s.good made refl later.made (Nodes.good_dropped (w.lines n.line) q k n made r least most (s.good.nodes q)))
+    later
+    (crashed_whole n k least most)
+    (λ _ _ g. omega (arith, s.known q made r g, length-take k n.log))
+
+pub crash_keeps : (w : World) (q kept : ℕ) → Sound w → (w.nodes q).state ≡ Up → Sound (Events.crash_at w q (Events.kept_of (w.nodes q) kept))
+crash_keeps w q kept s up =
+    let n : Node = w.nodes q in
+    let k : ℕ = Events.kept_of n kept in
+    let made : IsMade n = up_is_made n up in
+    let least : n.safe ≤ k = Nodes.kept_least n kept (s.good.nodes q).safe_fits in
+    let most : k ≤ length n.log = Nodes.kept_most n kept in
+    by_test (λ (v : World). Sound (with_links v q (λ to. Events.lost_touch (w.links q to)))) (is_origin n.role) (crash_left w q k) (with_node w q (crashed n k))
+    (λ o. lost_keeps (crash_left w q k) q (origin_crash_keeps w q k s made o least most))
+    (λ r. lost_keeps (with_node w q (crashed n k)) q (receiver_crash_keeps w q k s made r least most))
+
+-- the world of a site that has risen with this mark, with its links and its greeting
+abbrev pub RisenWorld : World → ℕ → Node → World
+RisenWorld w q m = sending (with_links (with_node w q m) q (λ to. Events.restarted_link m to (w.links q to))) (Events.recovery_greeting q m)
+
+risen_keeps : (w : World) (q : ℕ) (mark : Mark) → Sound w → (w.nodes q).state ≡ Down → ((w.nodes q).mark ≡ Consistent → mark ≡ Consistent) → (is_origin (w.nodes q).role ≡ true → mark ≡ (w.nodes q).mark) → Sound (RisenWorld w q (Nodes.risen (w.nodes q) mark))
+risen_keeps w q mark s down marks same =
+    let n : Node = w.nodes q in
+    let m : Node = Nodes.risen n mark in
+    let made : IsMade n = λ bare. let e : Down ≡ Bare = sym down ∙ bare in cc in
+    let later : IsLater n m = Nodes.later_risen n mark marks in
+    let u : World = with_node w q m in
+    let sound_u : Sound u = sound_with_node w q m s
+    (good_later w q m s.good made refl later.made (Nodes.good_risen (w.lines n.line) q mark n made same (s.whole q down) (s.good.nodes q)))
+    later
+    (up_whole m refl)
+    (λ _ r g. s.known q made r g) in
+    let v : World = with_links u q (λ to. Events.restarted_link m to (w.links q to)) in
+    let sound_v : Sound v = sound_with_links u q (λ to. Events.restarted_link m to (w.links q to)) sound_u
+    (λ k. Links.link_restarted (u.lines (u.nodes k).line) q k (u.nodes q) (u.nodes k) m (w.links q k) (sound_u.good.nodes k) (sound_u.links q k))
+    (λ k is. is) in
+    let here : v.nodes q ≡ m = at_place w.nodes q m in
+    sound_sending v (Events.recovery_greeting q m) sound_v
+    (by_test (AllByRecursion (GoodPacket v.nodes v.links v.lines)) (is_origin m.role) [] (greeting q m.other m)
+    (λ _. tt)
+    (λ r. subst (λ (x : Node). AllByRecursion (GoodPacket v.nodes v.links v.lines) (greeting q m.other x)) here
+    (greeting_good v q m.other sound_v (subst IsMade (sym here) (later.made made)) (subst (λ (x : Node). is_origin x.role ≡ false) (sym here) r))))
+
+recovery_keeps : (w : World) (q : ℕ) (fails : Option ℕ) → Sound w → (w.nodes q).state ≡ Down → Keeps (Events.recovery w q fails)
+recovery_keeps w q None s down =
+    Nodes.back_by (λ (m : Node). Sound (RisenWorld w q m)) (w.nodes q) (λ mark marks same. risen_keeps w q mark s down marks same)
+recovery_keeps w q (Some disk) s down =
+    let n : Node = w.nodes q in
+    let made : IsMade n = λ bare. let e : Down ≡ Bare = sym down ∙ bare in cc in
+    sound_with_node w q (record n { session = n.session + 1 }) s
+    (good_session_begun w q s.good made)
+    (Nodes.later_begun n down)
+    (s.whole q)
+    (s.known q)
+
+pub recover_keeps : (w : World) (q : ℕ) (state : SiteState) (fails : Option ℕ) → Sound w → (w.nodes q).state ≡ state → Keeps (Events.recover_from state w q fails)
+recover_keeps w q Bare fails s e = s
+recover_keeps w q Up fails s e = s
+recover_keeps w q Deported fails s e = s
+recover_keeps w q Down fails s e = unless_keeps _ _ w (Events.recovery w q fails) s (λ _. recovery_keeps w q fails s e)
+
+pub fault_keeps : (w : World) (q disk : ℕ) → Sound w → (w.nodes q).state ≡ Up → Sound (stopped_by w q disk)
+fault_keeps w q disk s up =
+    let n : Node = w.nodes q in
+    sound_with_node w q (record n { halted = Some disk }) s
+    (good_stopped w q disk s.good (up_is_made n up))
+    (Nodes.later_halted n disk)
+    (s.whole q)
+    (s.known q)

@@ -1,0 +1,214 @@
+-- Sites that are made, and the events of a link, keep what holds of the world.
+use Rattle.std.proofs.Common.{◌≡◌, ℕ, ◌+◌, ◌≤◌, ◌<◌, List, length, refl, ap, sym, ◌∙◌, subst, arith, Bool, true, false, inl}
+use Rattle.std.specs.Prelude.{if◌then◌else◌, eqb, leb, not, ◌&&◌, ◌||◌, zero, suc, bytes_eq, ltb}
+use Rattle.std.proofs.lemmas.Bool.{eq-eqb}
+use Rattle.std.proofs.lemmas.Bool.Decides.{nat_tests}
+use Rattle.vx_model.specs.World.{World, Node, History, is_origin, same_line, line_updated, with_node, bare_site}
+use Rattle.vx_model.specs.Receiving.{phase_takes}
+use Rattle.vx_model.specs.Steps.{site_made, raw_made, raw_set, raw_history, first_line}
+use Rattle.vx_model.specs.Good.{IsMade}
+use Rattle.vx_model.specs.declared.history.Line.{Line}
+use Rattle.vx_model.specs.declared.site.Mark.{Mark}
+use Rattle.vx_model.specs.declared.site.Mark.TheVariants.{Consistent, Inconsistent}
+use Rattle.vx_model.specs.declared.site.SiteState.TheVariants.{Bare, Up}
+use Rattle.vx_model.specs.declared.link.SyncMode.{SyncMode}
+use Rattle.vx_model.specs.declared.no.No.TheVariants.{Exists, Size, Role as WrongRole, Limit}
+use Rattle.vx_model.specs.declared.no.Counted.TheVariants.{Sites, Disks, Links}
+use Rattle.vx_model.proofs.Updates.{by_test, and_left, and_right, same_line_equal}
+use Rattle.vx_model.proofs.GoodLemmas.{good_site, good_raw, good_stays, made_is_given, up_is_made}
+use Rattle.vx_world.specs.declared.event.LinkPart.{LinkPart}
+use Rattle.vx_world.specs.declared.event.LinkPart.TheVariants.{Joins, Made, Marked, Opened}
+use Rattle.vx_world.specs.Sends.{is_linked, with_link}
+use Rattle.vx_world.specs.Refusals.{Outcome, unless, some_below, is_primary, is_consistent, is_stale, is_empty, is_fresh, may_link, may_join, may_be_site, agree, rings_fit, links_of, most_links, most_sites, most_disks, follows}
+use Rattle.vx_world.specs.Events.{joined, new_link, opened}
+use Rattle.vx_world.specs.Step.{done, link_part}
+use Rattle.vx_world.specs.Sound.{Sound}
+use Rattle.vx_world.proofs.Lists.{not_true, not_false, not_both, or_left, or_right}
+use Rattle.vx_world.proofs.Moves.{sound_with_node, sound_with_link, sound_joining, sound_founding, good_later, given}
+use Rattle.vx_world.proofs.Tests.{Keeps, unless_keeps}
+use Rattle.vx_world.proofs.Guards.{primary_origin}
+use Rattle.vx_world.proofs.Changes.{up_whole}
+use Rattle.vx_world.proofs.Nodes
+
+-- ## Sites
+
+site_keeps : (w : World) (name : List ℕ) (disks blocks : ℕ) → Sound w → Sound (site_made w name disks blocks)
+site_keeps w name disks blocks s =
+    sound_founding w w.sites (w.sites + 1) (bare_site name disks blocks) w.lines s
+    (s.good.later w.sites (omega arith))
+    (λ _ _. refl)
+    (good_site w name disks blocks s.good)
+    (λ _. omega arith)
+    refl
+
+pub may_be_site_keeps : (w : World) (name : List ℕ) (disks blocks : ℕ) → Sound w → Keeps (may_be_site w name disks blocks (done (site_made w name disks blocks)))
+may_be_site_keeps w name disks blocks s =
+    let o : Outcome = done (site_made w name disks blocks) in
+    let few : Outcome = unless (eqb disks 0 || ltb blocks 8) Size w o in
+    let some : Outcome = unless (ltb most_disks disks) (Limit Disks most_disks) w few in
+    unless_keeps (some_below w.sites (λ k. bytes_eq (w.nodes k).name name)) (Exists name) w (unless (leb most_sites w.sites) (Limit Sites most_sites) w some) s
+    (λ _. unless_keeps (leb most_sites w.sites) (Limit Sites most_sites) w some s
+    (λ _. unless_keeps (ltb most_disks disks) (Limit Disks most_disks) w few s
+    (λ _. unless_keeps (eqb disks 0 || ltb blocks 8) Size w o s
+    (λ _. site_keeps w name disks blocks s))))
+
+pub raw_keeps : (w : World) (q : ℕ) → Sound w → q < w.sites → (w.nodes q).state ≡ Bare → Sound (raw_made w q)
+raw_keeps w q s there bare =
+    let n : Node = raw_set q (w.nodes q) in
+    sound_founding w q w.sites n (line_updated w.lines n.line (raw_history (w.nodes q))) s bare
+    (λ l apart. by_test (λ (r : History). w.lines l ≡ r) (same_line l n.line) (raw_history (w.nodes q)) (w.lines l)
+    (λ e. absurd (apart (ap (λ (x : Line). x.origin) (same_line_equal l n.line e))))
+    (λ _. refl))
+    (good_raw w q s.good there bare)
+    (up_whole n refl)
+    refl
+
+-- ## The events of a link
+
+none_below : (k : ℕ) (test : ℕ → Bool) → some_below k test ≡ false → (i : ℕ) → i < k → test i ≡ false
+none_below zero test none i below = absurd (omega (arith, below))
+none_below (suc k) test none i below =
+    by_test (λ (b : Bool). (b ≡ eqb i k) → test i ≡ false) (eqb i k) true false
+    (λ is _. subst (λ (j : ℕ). test j ≡ false) (sym (equal i k is)) (or_left (test k) (some_below k test) none))
+    (λ is _. none_below_rest i k below is (none_below k test (or_right (test k) (some_below k test) none) i))
+    (same (eqb i k))
+  where
+    equal : (a b : ℕ) → eqb a b ≡ true → a ≡ b
+    equal a b e = grind (arith, nat_tests)
+
+    less : (a b : ℕ) → a < suc b → eqb a b ≡ false → a < b
+    less a b below e = grind (arith, nat_tests)
+
+    none_below_rest : (i k : ℕ) → i < suc k → eqb i k ≡ false → (i < k → test i ≡ false) → test i ≡ false
+    none_below_rest i k below is rest = rest (less i k below is)
+
+    same : (b : Bool) → (if b then true else false) ≡ b
+    same true = refl
+    same false = refl
+
+-- a site without links below its world's number has none
+no_links : (w : World) (q : ℕ) → Sound w → some_below w.sites (λ k. is_linked (w.links q k)) ≡ false → (k : ℕ) → is_linked (w.links q k) ≡ true → ⊥
+no_links w q s none k is =
+    not_both (is_linked (w.links q k)) is (none_below w.sites (λ k. is_linked (w.links q k)) none k (made_is_given w k s.good ((s.links q k).ends is).1))
+
+pub join_keeps : (w : World) (p q : ℕ) → Sound w → (w.nodes p).state ≡ Up → (w.nodes q).state ≡ Up → is_origin (w.nodes p).role ≡ true → eqb q p ≡ false → is_linked (w.links p q) ≡ false → ((k : ℕ) → is_linked (w.links q k) ≡ true → ⊥) → Sound (with_node w q (joined (w.nodes p) p (w.nodes q)))
+join_keeps w p q s up_p up_q o other unlinked alone =
+    let a : Node = w.nodes p in
+    let n : Node = joined a p (w.nodes q) in
+    let made_p : IsMade a = up_is_made a up_p in
+    let made_q : IsMade (w.nodes q) = up_is_made (w.nodes q) up_q in
+    let own : a.line.origin ≡ p = (s.good.nodes p).own_line made_p o in
+    sound_joining w q n s
+    (ap (λ (j : ℕ). (w.nodes j).line) own, ap (λ (j : ℕ). is_linked (w.links j q)) own ∙ unlinked)
+    (λ e. not_both (eqb q p) (eq-eqb q p (sym e ∙ own)) other)
+    made_q made_q (omega arith) alone
+    (good_stays w q n s.good (Nodes.good_joined (w.lines a.line) q p a (w.nodes q)) (λ _. inl (s.good.begun p made_p)) (λ is. is) (given w q n s.good made_q))
+    (up_whole n up_q)
+    (λ _. sym own)
+    (omega arith)
+
+may_join_keeps : (w : World) (p q : ℕ) → Sound w → (w.nodes p).state ≡ Up → (w.nodes q).state ≡ Up → Keeps (may_join w p q (done (with_node w q (joined (w.nodes p) p (w.nodes q)))))
+may_join_keeps w p q s up_p up_q =
+    let o : Outcome = done (with_node w q (joined (w.nodes p) p (w.nodes q))) in
+    let fits : Outcome = unless (not (agree (w.nodes p).volumes (w.nodes q).volumes && rings_fit (w.nodes p) (w.nodes q))) Size w o in
+    let few : Outcome = unless (leb most_links (links_of w p)) (Limit Links most_links) w fits in
+    unless_keeps (not (may_link w p q)) WrongRole w (unless (is_linked (w.links p q)) (Exists (w.nodes q).name) w few) s
+    (λ may. unless_keeps (is_linked (w.links p q)) (Exists (w.nodes q).name) w few s
+    (λ unlinked. unless_keeps (leb most_links (links_of w p)) (Limit Links most_links) w fits s
+    (λ _. unless_keeps (not (agree (w.nodes p).volumes (w.nodes q).volumes && rings_fit (w.nodes p) (w.nodes q))) Size w o s
+    (λ _. joins (not_false (may_link w p q) may) unlinked))))
+  where
+    joins : may_link w p q ≡ true → is_linked (w.links p q) ≡ false → Sound (with_node w q (joined (w.nodes p) p (w.nodes q)))
+    joins may unlinked =
+        let a : Node = w.nodes p in
+        let own : Bool = same_line a.line (first_line p) && is_fresh w q in
+        let rest : Bool = not (eqb q p) && (is_empty a.log && own) in
+        let links : Bool = some_below w.sites (λ k. is_linked (w.links q k)) in
+        let apart : rest ≡ true = and_right (is_primary a.role) rest may in
+        let fresh : is_fresh w q ≡ true = and_right (same_line a.line (first_line p)) (is_fresh w q) (and_right (is_empty a.log) own (and_right (not (eqb q p)) (is_empty a.log && own) apart)) in
+        let alone : not links ≡ true = and_right (is_empty (w.nodes q).log) (not links) (and_right (is_primary (w.nodes q).role) (is_empty (w.nodes q).log && not links) fresh) in
+        join_keeps w p q s up_p up_q
+        (primary_origin a.role (and_left (is_primary a.role) rest may))
+        (not_true (eqb q p) (and_left (not (eqb q p)) (is_empty a.log && own) apart))
+        unlinked
+        (no_links w q s (not_true links alone))
+
+make_keeps : (w : World) (p q place : ℕ) (sync : SyncMode) → Sound w → (w.nodes p).state ≡ Up → (w.nodes q).state ≡ Up → is_origin (w.nodes p).role ≡ true → is_origin (w.nodes q).role ≡ false → Sound (with_link w p q (new_link place sync (w.nodes q)))
+make_keeps w p q place sync s up_p up_q o r =
+    sound_with_link w p q (new_link place sync (w.nodes q)) s
+    (record {
+      ends = λ _. (up_is_made (w.nodes p) up_p, up_is_made (w.nodes q) up_q);
+      starts = λ _. o;
+      apart = λ _ e. not_both (is_origin (w.nodes q).role) (ap (λ (j : ℕ). is_origin (w.nodes j).role) (sym e) ∙ o) r;
+      session = λ _. omega arith;
+      stored = λ _. omega arith;
+      net = λ _ _. omega arith;
+      log = λ _ m. absurd (cc);
+      takes = λ _ m. absurd (cc);
+    })
+    (λ _. refl)
+
+mark_keeps : (w : World) (q : ℕ) → Sound w → (w.nodes q).state ≡ Up → Sound (with_node w q (record (w.nodes q) { mark = Consistent }))
+mark_keeps w q s up =
+    let n : Node = w.nodes q in
+    let m : Node = record n { mark = Consistent } in
+    sound_with_node w q m s
+    (good_later w q m s.good (up_is_made n up) refl (λ is. is) (Nodes.good_marked (w.lines n.line) q n (s.good.nodes q)))
+    (Nodes.later_marked n)
+    (up_whole m up)
+    (s.known q)
+
+consistent_is : (m : Mark) → is_consistent m ≡ true → m ≡ Consistent
+consistent_is Consistent e = refl
+consistent_is Inconsistent e = absurd (cc)
+
+open_keeps : (w : World) (p q : ℕ) → Sound w → is_empty (w.nodes p).log ≡ true → phase_takes (w.nodes q).phase ≡ true → is_consistent (w.nodes q).mark ≡ true → Sound (with_link w p q (opened (w.links p q) (w.nodes p).safe))
+open_keeps w p q s empty taken marked =
+    let none : (w.nodes p).safe ≤ 0 = omega (arith, (s.good.nodes p).safe_fits, equal (length (w.nodes p).log) 0 empty) in
+    let old = s.links p q in
+    sound_with_link w p q (opened (w.links p q) (w.nodes p).safe) s
+    (record {
+      ends = old.ends;
+      starts = old.starts;
+      apart = old.apart;
+      session = old.session;
+      stored = λ _. omega (arith, none);
+      net = λ _ _. omega (arith, none);
+      log = λ _ _. consistent_is (w.nodes q).mark marked;
+      takes = λ _ _. taken;
+    })
+    (λ is. is)
+  where
+    equal : (a b : ℕ) → eqb a b ≡ true → a ≡ b
+    equal a b e = grind (arith, nat_tests)
+
+follows_is : (w : World) (p q : ℕ) → follows w p q ≡ true → is_origin (w.nodes q).role ≡ false
+follows_is w p q f = not_true (is_origin (w.nodes q).role) (and_left (not (is_origin (w.nodes q).role)) (same_line (w.nodes q).line (w.nodes p).line) f)
+
+pub link_part_keeps : (part : LinkPart) (w : World) (p q : ℕ) (sync : SyncMode) → Sound w → (w.nodes p).state ≡ Up → (w.nodes q).state ≡ Up → Keeps (link_part part w p q sync)
+link_part_keeps Joins w p q sync s up_p up_q = may_join_keeps w p q s up_p up_q
+link_part_keeps Made w p q sync s up_p up_q =
+    let o : Outcome = done (with_link w p q (new_link (links_of w p) sync (w.nodes q))) in
+    let test : Bool = is_primary (w.nodes p).role && follows w p q in
+    unless_keeps (not test) WrongRole w (unless (is_linked (w.links p q)) (Exists (w.nodes q).name) w o) s
+    (λ c. unless_keeps (is_linked (w.links p q)) (Exists (w.nodes q).name) w o s
+    (λ _. make_keeps w p q (links_of w p) sync s up_p up_q
+    (primary_origin (w.nodes p).role (and_left (is_primary (w.nodes p).role) (follows w p q) (not_false test c)))
+    (follows_is w p q (and_right (is_primary (w.nodes p).role) (follows w p q) (not_false test c)))))
+link_part_keeps Marked w p q sync s up_p up_q =
+    unless_keeps (not (is_primary (w.nodes p).role && (follows w p q && (is_linked (w.links p q) && is_empty (w.nodes p).log)))) WrongRole w (done (with_node w q (record (w.nodes q) { mark = Consistent }))) s
+    (λ _. mark_keeps w q s up_q)
+link_part_keeps Opened w p q sync s up_p up_q =
+    let a : Node = w.nodes p in
+    let marked : Bool = is_consistent (w.nodes q).mark in
+    let taken : Bool = phase_takes (w.nodes q).phase in
+    let stale : Bool = is_stale (w.links p q).mode && (taken && marked) in
+    let empty : Bool = is_empty a.log && stale in
+    let linked : Bool = is_linked (w.links p q) && empty in
+    let followed : Bool = follows w p q && linked in
+    let test : Bool = is_primary a.role && followed in
+    unless_keeps (not test) WrongRole w (done (with_link w p q (opened (w.links p q) a.safe))) s
+    (λ c.
+    let all : empty ≡ true = and_right (is_linked (w.links p q)) empty (and_right (follows w p q) linked (and_right (is_primary a.role) followed (not_false test c))) in
+    let last : (taken && marked) ≡ true = and_right (is_stale (w.links p q).mode) (taken && marked) (and_right (is_empty a.log) stale all) in
+    open_keeps w p q s (and_left (is_empty a.log) stale all) (and_left taken marked last) (and_right taken marked last))

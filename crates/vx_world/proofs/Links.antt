@@ -1,0 +1,254 @@
+-- Each change of one link keeps what is said of it, and what is sent or promised on it is so.
+use Rattle.std.proofs.Common.{◌≡◌, ℕ, zero, suc, ◌+◌, ◌≤◌, ◌<◌, List, [], ◌∷◌, take, refl, ap, sym, ◌∙◌, subst, arith, Bool, true, false}
+use Rattle.std.specs.Prelude.{if◌then◌else◌, leb, ltb, eqb, not, max, slice_get, Some, pred, ◌&&◌}
+use Rattle.std.specs.List.{AllByRecursion}
+use Rattle.std.proofs.lemmas.Bool.{leb-true}
+use Rattle.std.proofs.lemmas.Bool.Decides.{nat_tests}
+use Rattle.std.proofs.lemmas.List.{take-take}
+use Rattle.vx_model.specs.Content.{Write, IsNumber, IsPrefixOf}
+use Rattle.vx_model.specs.World.{Node, Link, History, Packet, Message, Hello, Update, NetAck, DataAck, Durable, InSession, is_origin, same_line}
+use Rattle.vx_model.specs.Good.{GoodNode}
+use Rattle.vx_model.specs.Admission.{changed_mode, is_fail}
+use Rattle.vx_model.specs.Sending.{Sent, sent_step, greeted, greeted_anew, mode_overtaken, phase_overtaken, memory_acknowledged, disk_acknowledged, mode_restarted, by_log, with_taken, with_ignored, if_on_line}
+use Rattle.vx_model.specs.LinkForms.{plain_link, with_plain}
+use Rattle.vx_model.specs.declared.admission.Change.{Change}
+use Rattle.vx_model.specs.declared.admission.Change.TheVariants.{Stays, ToStale, ToDcm}
+use Rattle.vx_model.specs.declared.history.Line.{Line}
+use Rattle.vx_model.specs.declared.link.Link.{Link as PlainLink}
+use Rattle.vx_model.specs.declared.link.Mode.{Mode}
+use Rattle.vx_model.specs.declared.link.Mode.TheVariants.{Log, Dcm, Replay, Fork, Stale}
+use Rattle.vx_model.specs.declared.link.SyncMode.{SyncMode}
+use Rattle.vx_model.specs.declared.link.SyncMode.TheVariants.{Off, Override, Fail}
+use Rattle.vx_model.specs.declared.sender.SEvent.TheVariants.{Hello as HearHello, NetAck as HearNetAck, DataAck as HearDataAck}
+use Rattle.vx_model.proofs.Updates.{by_test, and_left, and_right, same_line_equal}
+use Rattle.vx_world.specs.Sound.{IsPresent, IsFollowed, GoodLink, GoodMessage, GoodPromise, IsKept, IsStranger, IsBegun}
+use Rattle.vx_world.specs.Sends.{is_linked, packets_of, packet, updates, between}
+use Rattle.vx_world.specs.Refusals.{holds_back, is_unconfirmed, some_below, goes, waits}
+use Rattle.vx_world.specs.Events.{facts_of, restarted_link, lost_touch, link_after, promise_of, promises_of}
+use Rattle.vx_world.proofs.Lists.{prefix_get, prefix_take, drop_get, or_left, or_right, each_append, each_replicate, prefix_trans, refuted}
+
+-- a link that differs in nothing that is said of it
+pub link_like : (p s : ℕ) (a b : Node) (l m : Link) → is_linked m ≡ is_linked l → m.session ≡ l.session → m.net ≡ l.net → m.stored ≡ l.stored → (m.mode ≡ Log → l.mode ≡ Log) → GoodLink p s a b l → GoodLink p s a b m
+link_like p s a b l m linked session net stored mode good = record {
+  ends = λ is. good.ends (sym linked ∙ is);
+  starts = λ is. good.starts (sym linked ∙ is);
+  apart = λ is. good.apart (sym linked ∙ is);
+  session = λ is. omega (arith, session, good.session (sym linked ∙ is));
+  stored = λ (is, o, r, e). omega (arith, stored, good.stored (sym linked ∙ is, o, r, e));
+  net = λ (is, o, r, e) present. omega (arith, net, good.net (sym linked ∙ is, o, r, e) (subst (λ k. IsPresent b k) session present));
+  log = λ (is, o, r, e) m. good.log (sym linked ∙ is, o, r, e) (mode m);
+  takes = λ (is, o, r, e) m. good.takes (sym linked ∙ is, o, r, e) (mode m);
+}
+
+-- what is acknowledged is only what is stored
+forgotten : (h : History) (p s : ℕ) (a b : Node) (l m : Link) → GoodNode h s b → is_linked m ≡ is_linked l → m.session ≤ b.session → m.net ≡ l.stored → m.stored ≡ l.stored → (m.mode ≡ Log → l.mode ≡ Log) → GoodLink p s a b l → GoodLink p s a b m
+forgotten h p s a b l m node linked session net stored mode good = record {
+  ends = λ is. good.ends (sym linked ∙ is);
+  starts = λ is. good.starts (sym linked ∙ is);
+  apart = λ is. good.apart (sym linked ∙ is);
+  session = λ is. session;
+  stored = λ (is, o, r, e). omega (arith, stored, good.stored (sym linked ∙ is, o, r, e));
+  net = λ (is, o, r, e) present. omega (arith, net, good.stored (sym linked ∙ is, o, r, e), node.safe_fits);
+  log = λ (is, o, r, e) m. good.log (sym linked ∙ is, o, r, e) (mode m);
+  takes = λ (is, o, r, e) m. good.takes (sym linked ∙ is, o, r, e) (mode m);
+}
+
+restarted_by_log : (m : Mode) → mode_restarted m ≡ Log → m ≡ Log
+restarted_by_log Log e = refl
+restarted_by_log Dcm e = absurd (cc)
+restarted_by_log (Replay id phase left start end) e = absurd (cc)
+restarted_by_log (Fork maps) e = absurd (cc)
+restarted_by_log Stale e = absurd (cc)
+
+overtaken_by_log : (m : Mode) (number : ℕ) → mode_overtaken m number ≡ Log → m ≡ Log
+overtaken_by_log Log number e = refl
+overtaken_by_log Dcm number e = absurd (cc)
+overtaken_by_log (Replay id phase left start end) number e =
+    absurd (by_test (λ (m : Mode). m ≡ Log → ⊥) (phase_overtaken phase && ltb start number) Dcm (Replay id phase left start end) (λ _ f. cc) (λ _ f. cc) e)
+overtaken_by_log (Fork maps) number e = absurd (cc)
+overtaken_by_log Stale number e = absurd (cc)
+
+changed_by_log : (c : Change) (m : Mode) → changed_mode c m ≡ Log → m ≡ Log
+changed_by_log Stays m e = e
+changed_by_log ToStale m e = absurd (cc)
+changed_by_log ToDcm m e = absurd (cc)
+
+pub link_restarted : (h : History) (p s : ℕ) (a b n : Node) (l : Link) → GoodNode h s b → GoodLink p s a b l → GoodLink p s a b (restarted_link n s l)
+link_restarted h p s a b n l node good =
+    forgotten h p s a b l (restarted_link n s l) node refl (omega arith) refl refl (restarted_by_log l.mode) good
+
+pub link_lost : (h : History) (p s : ℕ) (a b : Node) (l : Link) → GoodNode h s b → GoodLink p s a b l → GoodLink p s a b (lost_touch l)
+link_lost h p s a b l node good = record {
+  ends = good.ends;
+  starts = good.starts;
+  apart = good.apart;
+  session = good.session;
+  stored = good.stored;
+  net = λ v _. omega (arith, good.stored v, node.safe_fits);
+  log = good.log;
+  takes = good.takes;
+}
+
+pub link_changed : (p s : ℕ) (a b n : Node) (x : Write) (l : Link) → GoodLink p s a b l → GoodLink p s a b (link_after n x s l)
+link_changed p s a b n x l good = link_like p s a b l (link_after n x s l) refl refl refl refl (changed_by_log _ l.mode) good
+
+-- the sender's link after a message of the link's receiver that was sent on the sender's line
+module _ (h : History) (p s : ℕ) (a b : Node) (l : Link) (line : Line) (node : GoodNode h s b) (good : GoodLink p s a b l) where
+  abbrev pub After : Sent → Type 0
+  After r = GoodLink p s a b (with_plain l r.link)
+
+  same : After (with_ignored (plain_link s l))
+  same = link_like p s a b l (with_plain l (plain_link s l)) refl refl refl refl (λ e. e) good
+
+  on_line : (r : Sent) → (line ≡ a.line → After r) → After (if_on_line (facts_of a line) (plain_link s l) r)
+  on_line r heard =
+      by_test After (same_line line a.line) r (with_ignored (plain_link s l)) (λ e. heard (same_line_equal line a.line e)) (λ _. same)
+
+  pub link_hello : (held : List Write) (session number stored : ℕ) → GoodMessage held b line (Hello session number stored) → After (sent_step (plain_link s l) (HearHello session number stored) (facts_of a line))
+  link_hello held session number stored (old, memory, disk) =
+      on_line (greeted (plain_link s l) session number stored)
+      (λ e. by_test After (ltb session l.session) (with_ignored (plain_link s l)) _
+      (λ _. same)
+      (λ not_old. by_test (λ (r : PlainLink). After (with_taken r)) (by_log l.mode) _ _
+      (λ _. by_test (λ (r : PlainLink). After (with_taken r)) (ltb l.session session) (greeted_anew (plain_link s l) session number (max l.stored stored)) _
+      (λ _. record {
+        ends = good.ends;
+        starts = good.starts;
+        apart = good.apart;
+        session = λ _. old;
+        stored = λ v. omega (arith, good.stored v, disk (v.3 ∙ sym e));
+        net = λ v present. omega (arith, memory (v.3 ∙ sym e) present, good.stored v, disk (v.3 ∙ sym e), node.safe_fits);
+        log = good.log;
+        takes = good.takes;
+      })
+      (λ not_new. record {
+        ends = good.ends;
+        starts = good.starts;
+        apart = good.apart;
+        session = good.session;
+        stored = λ v. omega (arith, good.stored v, disk (v.3 ∙ sym e));
+        net = λ v present. omega (arith, good.net v present, memory (v.3 ∙ sym e) (present.0, present.1 ∙ between_both l.session session not_new not_old));
+        log = good.log;
+        takes = good.takes;
+      }))
+      (λ _. by_test (λ (r : PlainLink). After (with_taken r)) (ltb l.session session) _ _
+      (λ _. forgotten h p s a b l _ node refl old refl refl (overtaken_by_log l.mode number) good)
+      (λ _. link_like p s a b l _ refl refl refl refl (overtaken_by_log l.mode number) good))))
+    where
+      between_both : (m n : ℕ) → ltb m n ≡ false → ltb n m ≡ false → m ≡ n
+      between_both m n f g = grind (arith, nat_tests)
+
+  pub link_net_ack : (held : List Write) (session number : ℕ) → GoodMessage held b line (NetAck session number) → After (sent_step (plain_link s l) (HearNetAck session number) (facts_of a line))
+  link_net_ack held session number (old, memory) =
+      on_line (memory_acknowledged (plain_link s l) session number)
+      (λ e. by_test After (by_log l.mode && (eqb session l.session && ltb l.net number)) _ (with_ignored (plain_link s l))
+      (λ t. record {
+        ends = good.ends;
+        starts = good.starts;
+        apart = good.apart;
+        session = good.session;
+        stored = good.stored;
+        net = λ v present. memory (v.3 ∙ sym e) (present.0, present.1 ∙ sym (is_same session l.session (and_left _ _ (and_right _ _ t))));
+        log = good.log;
+        takes = good.takes;
+      })
+      (λ _. same))
+    where
+      is_same : (m n : ℕ) → eqb m n ≡ true → m ≡ n
+      is_same m n t = grind (arith, nat_tests)
+
+  pub link_data_ack : (held : List Write) (number : ℕ) → GoodMessage held b line (DataAck number) → After (sent_step (plain_link s l) (HearDataAck number) (facts_of a line))
+  link_data_ack held number disk =
+      on_line (disk_acknowledged (plain_link s l) number)
+      (λ e. by_test After (by_log l.mode && ltb l.stored number) _ (with_ignored (plain_link s l))
+      (λ _. record {
+        ends = good.ends;
+        starts = good.starts;
+        apart = good.apart;
+        session = good.session;
+        stored = λ v. disk (v.3 ∙ sym e);
+        net = λ v present. omega (arith, good.net v present, disk (v.3 ∙ sym e), node.safe_fits);
+        log = good.log;
+        takes = good.takes;
+      })
+      (λ _. same))
+
+-- the packets of a message say what it says
+pub each_packet : (P : Packet → Type 0) (source target : ℕ) (line : Line) (m : Message) → P (packet source target line m) → AllByRecursion P (packets_of source target line m)
+each_packet P source target line m h = (h, each_replicate P _ (packet source target line m) h)
+
+-- updates of writes that stand on the line at the numbers that they carry
+updates_good : (P : Packet → Type 0) (p s : ℕ) (line : Line) (held : List Write) → ((number : ℕ) (x : Write) → IsNumber held number x → P (packet p s line (Update number x))) → (number : ℕ) (xs : List Write) → ((k : ℕ) (x : Write) → slice_get xs k ≡ Some x → IsNumber held (number + k) x) → AllByRecursion P (updates p s line number xs)
+updates_good P p s line held each number [] h = tt
+updates_good P p s line held each number (x ∷ xs) h =
+    each_append P (packets_of p s line (Update number x)) (updates p s line (number + 1) xs)
+    (each_packet P p s line (Update number x) (each number x (subst (λ n. IsNumber held n x) (omega arith) (h zero x refl))))
+    (updates_good P p s line held each (number + 1) xs (λ k y e. subst (λ n. IsNumber held n y) (omega arith) (h (suc k) y e)))
+
+-- what is sent stands on the line, if no more is sent than is durable
+pub sent_good : (P : Packet → Type 0) (p s : ℕ) (n : Node) (held : List Write) → IsPrefixOf (take n.safe n.log) held → ((number : ℕ) (x : Write) → IsNumber held number x → P (packet p s n.line (Update number x))) → (from to : ℕ) → 0 < from → to ≤ n.safe → AllByRecursion P (updates p s n.line from (between from to n.log))
+sent_good P p s n held durable each from to some most =
+    updates_good P p s n.line held each from (between from to n.log)
+    (λ k x e. (
+      omega (arith, some),
+      ap (λ j. slice_get held j) (let i : pred (from + k) ≡ pred from + k = omega (arith, some) in i)
+          ∙ prefix_get (take to n.log) held (pred from + k) x front (sym (drop_get (pred from) (take to n.log) k) ∙ e),
+    ))
+  where
+    front : IsPrefixOf (take to n.log) held
+    front = prefix_trans (take to n.log) (take n.safe n.log) held (subst (λ t. IsPrefixOf t (take n.safe n.log)) (take-take to n.safe n.log most) (prefix_take to (take n.safe n.log))) durable
+
+tangle : (a b f v g t : Bool) → a ≡ true → b ≡ true → f ≡ true → v ≡ true → (a && (b && (f && (t && not g)))) ≡ false → (a && (b && (v && (g && t)))) ≡ false → t ≡ false
+tangle true true true true true t e1 e2 e3 e4 u h = h
+tangle true true true true false true e1 e2 e3 e4 u h = absurd (cc)
+tangle true true true true false false e1 e2 e3 e4 u h = refl
+tangle true true true false g t e1 e2 e3 e4 u h = absurd (cc)
+tangle true true false v g t e1 e2 e3 e4 u h = absurd (cc)
+tangle true false f v g t e1 e2 e3 e4 u h = absurd (cc)
+tangle false b f v g t e1 e2 e3 e4 u h = absurd (cc)
+
+waits_if_fails : (m : SyncMode) → is_fail m ≡ true → waits m ≡ true
+waits_if_fails Off e = absurd (cc)
+waits_if_fails Override e = absurd (cc)
+waits_if_fails Fail e = refl
+
+-- what a link that neither fails to confirm n nor has still to says of n
+confirmed : (l : Link) (s n : ℕ) → is_linked l ≡ true → l.attached ≡ true → is_fail l.sync ≡ true → is_unconfirmed n s l ≡ false → holds_back n s l ≡ false → n ≤ l.net
+confirmed l s n made attached fail u h = reaches l.net n (tangle (is_linked l) l.attached (is_fail l.sync) (waits l.sync) (goes s l) (ltb l.net n) made attached fail (waits_if_fails l.sync fail) u h)
+  where
+    reaches : (m n : ℕ) → ltb m n ≡ false → n ≤ m
+    reaches m n e = grind (arith, nat_tests)
+
+-- a site of a link's other end that stands on an origin's line receives
+pub receives : (nodes : ℕ → Node) (lines : Line → History) (p s : ℕ) (l : Link) → ((i : ℕ) → GoodNode (lines (nodes i).line) i (nodes i)) → GoodLink p s (nodes p) (nodes s) l → is_linked l ≡ true → is_origin (nodes p).role ≡ true → (nodes s).line ≡ (nodes p).line → is_origin (nodes s).role ≡ false
+receives nodes lines p s l good link is o e =
+    refuted (is_origin (nodes s).role)
+    (λ q. link.apart is (sym ((good p).own_line (link.ends is).0 o) ∙ ap (λ (x : Line). x.origin) (sym e) ∙ (good s).own_line (link.ends is).1 q))
+
+module _ (nodes : ℕ → Node) (links : ℕ → ℕ → Link) (lines : Line → History) (good : (i : ℕ) → GoodNode (lines (nodes i).line) i (nodes i)) (p : ℕ) (n : ℕ) (o : is_origin (nodes p).role ≡ true) (known : (s : ℕ) → is_linked (links p s) ≡ true → (IsStranger nodes links (nodes p).line s → ⊥) × IsBegun nodes (nodes p).line s) where
+  promise_good : (s : ℕ) → GoodLink p s (nodes p) (nodes s) (links p s) → is_unconfirmed n s (links p s) ≡ false → holds_back n s (links p s) ≡ false → AllByRecursion (GoodPromise nodes links) (promise_of (nodes p) n s (links p s))
+  promise_good s link u h =
+      let l : Link = links p s in
+      by_test (AllByRecursion (GoodPromise nodes links)) (is_linked l && (l.attached && is_fail l.sync)) (record { line = (nodes p).line; number = n; site = s; surety = if leb n l.stored then Durable else InSession l.session } ∷ []) []
+      (λ c.
+      let made : is_linked l ≡ true = and_left (is_linked l) (l.attached && is_fail l.sync) c in
+      let rest : (l.attached && is_fail l.sync) ≡ true = and_right (is_linked l) (l.attached && is_fail l.sync) c in
+      let net : n ≤ l.net = confirmed l s n made (and_left l.attached (is_fail l.sync) rest) (and_right l.attached (is_fail l.sync) rest) u h in
+      let followed : (nodes s).line ≡ (nodes p).line → IsFollowed (nodes p) (nodes s) l = λ e. (made, o, receives nodes lines p s l good link made o e, e) in (
+        record {
+          kept = by_test (IsKept (nodes s) (nodes p).line n) (leb n l.stored) Durable (InSession l.session)
+              (λ t e. omega (arith, link.stored (followed e), leb-true n l.stored t))
+              (λ _. (link.session made, λ e q. omega (arith, net, link.net (followed e) q)));
+          known = (known s made).0;
+          begun = (known s made).1;
+        },
+        tt,
+      ))
+      (λ _. tt)
+
+  pub promises_good : ((s : ℕ) → GoodLink p s (nodes p) (nodes s) (links p s)) → (k : ℕ) → some_below k (λ s. is_unconfirmed n s (links p s)) ≡ false → some_below k (λ s. holds_back n s (links p s)) ≡ false → AllByRecursion (GoodPromise nodes links) (promises_of (nodes p) n (links p) k)
+  promises_good link zero u h = tt
+  promises_good link (suc k) u h =
+      each_append (GoodPromise nodes links) (promise_of (nodes p) n k (links p k)) (promises_of (nodes p) n (links p) k)
+      (promise_good k (link k) (or_left (is_unconfirmed n k (links p k)) (some_below k (λ s. is_unconfirmed n s (links p s))) u) (or_left (holds_back n k (links p k)) (some_below k (λ s. holds_back n s (links p s))) h))
+      (promises_good link k (or_right (is_unconfirmed n k (links p k)) (some_below k (λ s. is_unconfirmed n s (links p s))) u) (or_right (holds_back n k (links p k)) (some_below k (λ s. holds_back n s (links p s))) h))

@@ -1,0 +1,284 @@
+-- The few ways in which an event changes the world, each with what it has to show.
+use Rattle.std.proofs.Common.{◌≡◌, ℕ, ◌≤◌, List, ◌++◌, length, refl, ap, sym, ◌∙◌, subst, arith, true, inl}
+use Rattle.std.specs.Prelude.{eqb}
+use Rattle.std.specs.List.{AllByRecursion}
+use Rattle.vx_model.specs.Content.{Write, IsPrefixOf}
+use Rattle.vx_model.specs.World.{World, Node, Link, History, Packet, Promise, Message, Surety, Hello, Update, NetAck, DataAck, Durable, InSession, with_node, with_history, updated, line_updated, is_origin}
+use Rattle.vx_model.specs.Good.{GoodNode, Good, IsMade}
+use Rattle.vx_model.specs.declared.history.Line.{Line}
+use Rattle.vx_model.specs.declared.site.SiteState.TheVariants.{Bare}
+use Rattle.vx_model.proofs.Updates.{all_updated, all_lines, by_test, eqb_equal, at_place}
+use Rattle.vx_model.proofs.GoodLemmas.{good_stays}
+use Rattle.vx_world.specs.Sends.{is_linked, with_links, with_link, sending, promising}
+use Rattle.vx_world.specs.Sound.{IsWhole, IsFed, GoodLink, GoodMessage, GoodPacket, GoodPromise, IsKept, IsStranger, StrangerSays, IsBegun, KnownNode, Sound}
+use Rattle.vx_world.proofs.Lists.{each_append, each_weaker, prefix_refl, refuted, not_both}
+use Rattle.vx_world.proofs.Carry.{IsLater, later_same, link_later, says_later, packets_later, promises_later}
+
+-- what is said of sites by themselves rests on no link
+pub good_of : (w : World) (links : ℕ → ℕ → Link) (packets : List Packet) (promised : List Promise) → Good w → Good (record w { links = links; packets = packets; promised = promised })
+good_of w links packets promised s = record { nodes = s.nodes; begun = s.begun; later = s.later; told = s.told }
+
+-- packets that say what is so may be sent
+pub sound_sending : (w : World) (ps : List Packet) → Sound w → AllByRecursion (GoodPacket w.nodes w.links w.lines) ps → Sound (sending w ps)
+sound_sending w ps s h = record {
+  good = good_of w w.links (w.packets ++ ps) w.promised s.good;
+  whole = s.whole;
+  fed = s.fed;
+  links = s.links;
+  packets = each_append (GoodPacket w.nodes w.links w.lines) w.packets ps s.packets h;
+  promised = s.promised;
+  known = s.known;
+}
+
+-- numbers that are kept may be promised
+pub sound_promising : (w : World) (es : List Promise) → Sound w → AllByRecursion (GoodPromise w.nodes w.links) es → Sound (promising w es)
+sound_promising w es s h = record {
+  good = good_of w w.links w.packets (w.promised ++ es) s.good;
+  whole = s.whole;
+  fed = s.fed;
+  links = s.links;
+  packets = s.packets;
+  promised = each_append (GoodPromise w.nodes w.links) w.promised es s.promised h;
+  known = s.known;
+}
+
+-- links that are made stay made, so who is a stranger then was one before
+pub stranger_of_links : (nodes : ℕ → Node) (links more : ℕ → ℕ → Link) → ((p s : ℕ) → is_linked (links p s) ≡ true → is_linked (more p s) ≡ true) → (l : Line) (i : ℕ) → IsStranger nodes more l i → IsStranger nodes links l i
+stranger_of_links nodes links more made l i (e, none) = (e, refuted (is_linked (links l.origin i)) (λ is. not_both (is_linked (more l.origin i)) (made l.origin i is) none))
+
+sound_links : (w : World) (f : ℕ → ℕ → Link) → Sound w → ((p s : ℕ) → GoodLink p s (w.nodes p) (w.nodes s) (f p s)) → ((p s : ℕ) → is_linked (w.links p s) ≡ true → is_linked (f p s) ≡ true) → Sound (record w { links = f })
+sound_links w f s h made =
+    let before : (l : Line) (i : ℕ) → IsStranger w.nodes f l i → IsStranger w.nodes w.links l i = stranger_of_links w.nodes w.links f made in
+    record {
+      good = good_of w f w.packets w.promised s.good;
+      whole = s.whole;
+      fed = s.fed;
+      links = h;
+      packets = packets_later w.nodes w.nodes w.links f (λ i. later_same (w.nodes i)) before w.lines w.lines (λ l. prefix_refl (w.lines l).held) w.packets s.packets;
+      promised = promises_later w.nodes w.nodes w.links f (λ i. later_same (w.nodes i)) before w.promised s.promised;
+      known = λ i is r q. s.known i is r (before (w.nodes i).line i q);
+    }
+
+-- where the links of one site change
+pub still_linked_row : (w : World) (p : ℕ) (row : ℕ → Link) → ((k : ℕ) → is_linked (w.links p k) ≡ true → is_linked (row k) ≡ true) → (i k : ℕ) → is_linked (w.links i k) ≡ true → is_linked ((with_links w p row).links i k) ≡ true
+still_linked_row w p row made = all_updated (λ i (r : ℕ → Link). (k : ℕ) → is_linked (w.links i k) ≡ true → is_linked (r k) ≡ true) w.links p row made (λ _ _ _ m. m)
+
+pub still_linked : (w : World) (p q : ℕ) (l : Link) → (is_linked (w.links p q) ≡ true → is_linked l ≡ true) → (i k : ℕ) → is_linked (w.links i k) ≡ true → is_linked ((with_link w p q l).links i k) ≡ true
+still_linked w p q l made =
+    still_linked_row w p (updated (w.links p) q l) (all_updated (λ k (l : Link). is_linked (w.links p k) ≡ true → is_linked l ≡ true) (w.links p) q l made (λ _ _ m. m))
+
+-- all links of one site
+pub sound_with_links : (w : World) (p : ℕ) (row : ℕ → Link) → Sound w → ((k : ℕ) → GoodLink p k (w.nodes p) (w.nodes k) (row k)) → ((k : ℕ) → is_linked (w.links p k) ≡ true → is_linked (row k) ≡ true) → Sound (with_links w p row)
+sound_with_links w p row s h made =
+    sound_links w (updated w.links p row) s
+    (all_updated (λ i (r : ℕ → Link). (k : ℕ) → GoodLink i k (w.nodes i) (w.nodes k) (r k)) w.links p row h (λ i _. s.links i))
+    (still_linked_row w p row made)
+
+-- one link
+pub sound_with_link : (w : World) (p q : ℕ) (l : Link) → Sound w → GoodLink p q (w.nodes p) (w.nodes q) l → (is_linked (w.links p q) ≡ true → is_linked l ≡ true) → Sound (with_link w p q l)
+sound_with_link w p q l s h made =
+    sound_with_links w p (updated (w.links p) q l) s
+    (all_updated (λ k (l : Link). GoodLink p k (w.nodes p) (w.nodes k) l) (w.links p) q l h (λ k _. s.links p k))
+    (all_updated (λ k (l : Link). is_linked (w.links p k) ≡ true → is_linked l ≡ true) (w.links p) q l made (λ _ _ m. m))
+
+-- any later state of the sites and the lines
+pub sound_later : (w : World) (f : ℕ → Node) (h : Line → History) → Sound w → ((i : ℕ) → IsLater (w.nodes i) (f i)) → ((l : Line) → IsPrefixOf (w.lines l).held (h l).held) → Good (record w { nodes = f; lines = h }) → ((i : ℕ) → IsWhole (f i)) → ((i : ℕ) → KnownNode w.nodes w.links i (f i)) → Sound (record w { nodes = f; lines = h })
+sound_later w f h s later grow good whole known =
+    let before : (l : Line) (i : ℕ) → IsStranger f w.links l i → IsStranger w.nodes w.links l i = λ l i q. (sym (later l.origin).line ∙ q.0, q.1) in
+    record {
+      good = good;
+      whole = whole;
+      fed = λ i r. (later i).other ∙ s.fed i (sym (later i).origin ∙ r) ∙ ap (λ (l : Line). l.origin) (sym (later i).line);
+      links = λ p q. link_later p q (w.nodes p) (w.nodes q) (f p) (f q) (w.links p q) (later p) (later q) (s.links p q);
+      packets = packets_later w.nodes f w.links w.links later before w.lines h grow w.packets s.packets;
+      promised = promises_later w.nodes f w.links w.links later before w.promised s.promised;
+      known = λ i is r q. known i is r (before (f i).line i q);
+    }
+
+-- one site, with the lines as they are
+pub sound_with_node : (w : World) (i : ℕ) (n : Node) → Sound w → Good (with_node w i n) → IsLater (w.nodes i) n → IsWhole n → KnownNode w.nodes w.links i n → Sound (with_node w i n)
+sound_with_node w i n s good later whole known =
+    sound_later w (updated w.nodes i n) w.lines s
+    (all_updated (λ k (m : Node). IsLater (w.nodes k) m) w.nodes i n later (λ k _. later_same (w.nodes k)))
+    (λ l. prefix_refl (w.lines l).held)
+    good
+    (all_updated (λ k (m : Node). IsWhole m) w.nodes i n whole (λ k _. s.whole k))
+    (all_updated (λ k (m : Node). KnownNode w.nodes w.links k m) w.nodes i n known (λ k _. s.known k))
+
+-- one site, with its line's record
+pub sound_with_history : (w : World) (i : ℕ) (n : Node) (h : History) → Sound w → Good (with_history w i n h) → IsLater (w.nodes i) n → IsPrefixOf (w.lines n.line).held h.held → IsWhole n → KnownNode w.nodes w.links i n → Sound (with_history w i n h)
+sound_with_history w i n h s good later grow whole known =
+    sound_later w (updated w.nodes i n) (line_updated w.lines n.line h) s
+    (all_updated (λ k (m : Node). IsLater (w.nodes k) m) w.nodes i n later (λ k _. later_same (w.nodes k)))
+    (all_lines (λ l (r : History). IsPrefixOf (w.lines l).held r.held) w.lines n.line h grow (λ l _. prefix_refl (w.lines l).held))
+    good
+    (all_updated (λ k (m : Node). IsWhole m) w.nodes i n whole (λ k _. s.whole k))
+    (all_updated (λ k (m : Node). KnownNode w.nodes w.links k m) w.nodes i n known (λ k _. s.known k))
+
+-- a site that is there is given out
+pub given : (w : World) (i : ℕ) (n : Node) → Good w → IsMade (w.nodes i) → w.sites ≤ i → n.state ≡ Bare
+given w i n good made past = absurd (made (good.later i past))
+
+-- a site that stays on its line is as good as its own facts say
+pub good_later : (w : World) (i : ℕ) (n : Node) → Good w → IsMade (w.nodes i) → n.line ≡ (w.nodes i).line → (IsMade (w.nodes i) → IsMade n) → GoodNode (w.lines (w.nodes i).line) i n → Good (with_node w i n)
+good_later w i n good made line stays node =
+    good_stays w i n good
+    (subst (λ (l : Line). GoodNode (w.lines l) i n) (sym line) node)
+    (λ _. inl (subst (λ (l : Line). IsMade (w.nodes l.origin)) (sym line) (good.begun i made)))
+    stays
+    (given w i n good made)
+
+-- packets from a site that has just changed
+pub at_changed : (P : Node → Type 0) (f : ℕ → Node) (i : ℕ) (n : Node) → P n → P (updated f i n i)
+at_changed P f i n h = subst P (sym (at_place f i n)) h
+
+-- what is said of a link that is not there
+pub unlinked_good : (p q : ℕ) (a b : Node) (l : Link) → (is_linked l ≡ true → ⊥) → GoodLink p q a b l
+unlinked_good p q a b l none = record {
+  ends = λ e. absurd (none e);
+  starts = λ e. absurd (none e);
+  apart = λ e. absurd (none e);
+  session = λ e. absurd (none e);
+  stored = λ v. absurd (none v.0);
+  net = λ v _. absurd (none v.0);
+  log = λ v _. absurd (none v.0);
+  takes = λ v _. absurd (none v.0);
+}
+
+-- who is a stranger behind a change of one site on its line was one before
+pub stranger_before : (w : World) (i : ℕ) (n : Node) → IsLater (w.nodes i) n → (l : Line) (k : ℕ) → IsStranger (updated w.nodes i n) w.links l k → IsStranger w.nodes w.links l k
+stranger_before w i n later l k q =
+    (sym (all_updated (λ j (m : Node). IsLater (w.nodes j) m) w.nodes i n later (λ j _. later_same (w.nodes j)) l.origin).line ∙ q.0, q.1)
+
+-- ## A site comes to a line
+
+-- what a site said of a line to which it comes only now is that it had nothing of it
+message_joins : (held : List Write) (a n : Node) (line : Line) (to from : Type 0) → a.session ≤ n.session → (n.line ≡ line → from) → (m : Message) → GoodMessage held a line m → StrangerSays to from m → GoodMessage held n line m
+message_joins held a n line to from later stranger (Update number x) h k = h
+message_joins held a n line to from later stranger (NetAck session number) (old, _) k = (omega (arith, old, later), λ e _. omega (arith, k (stranger e)))
+message_joins held a n line to from later stranger (Hello session number stored) (old, _, _) k =
+    (omega (arith, old, later), λ e _. omega (arith, (k (stranger e)).0), λ e. omega (arith, (k (stranger e)).1))
+message_joins held a n line to from later stranger (DataAck number) h k = λ e. omega (arith, k (stranger e))
+
+promise_joins : (a n : Node) (line : Line) (number : ℕ) (from : Type 0) → a.session ≤ n.session → (n.line ≡ line → from) → (t : Surety) → IsKept a line number t → (from → ⊥) → IsKept n line number t
+promise_joins a n line number from later stranger Durable h k = λ e. absurd (k (stranger e))
+promise_joins a n line number from later stranger (InSession session) (old, _) k = (omega (arith, old, later), λ e _. absurd (k (stranger e)))
+
+-- a site comes, with nothing, to a line whose origin stands on it and keeps no link to the site
+module _ (w : World) (i : ℕ) (n : Node) (s : Sound w) (stranger : IsStranger w.nodes w.links n.line i) (apart : n.line.origin ≡ i → ⊥) (made : IsMade (w.nodes i)) (stays : IsMade n) (grows : (w.nodes i).session ≤ n.session) (alone : (k : ℕ) → is_linked (w.links i k) ≡ true → ⊥) where
+  abbrev joined_nodes : ℕ → Node
+  joined_nodes = updated w.nodes i n
+
+  stranger_at : (k : ℕ) (line : Line) → k ≡ i → n.line ≡ line → IsStranger w.nodes w.links line k
+  stranger_at k line e g = subst (λ (j : ℕ). IsStranger w.nodes w.links line j) (sym e) (subst (λ (l : Line). IsStranger w.nodes w.links l i) g stranger)
+
+  before : (l : Line) (k : ℕ) → IsStranger joined_nodes w.links l k → IsStranger w.nodes w.links l k
+  before l k q = (all_updated (λ j (m : Node). j ≡ l.origin → m.line ≡ l → (w.nodes j).line ≡ l) w.nodes i n (λ e g. absurd (apart (ap (λ (x : Line). x.origin) g ∙ sym e))) (λ j _ _ g. g) l.origin refl q.0, q.1)
+
+  still_made : (k : ℕ) → IsMade (w.nodes k) → IsMade (joined_nodes k)
+  still_made = all_updated (λ k (m : Node). IsMade (w.nodes k) → IsMade m) w.nodes i n (λ _. stays) (λ k _ is. is)
+
+  still_begun : (line : Line) (k : ℕ) → IsBegun w.nodes line k → IsBegun joined_nodes line k
+  still_begun line k (here, there) = (still_made k here, still_made line.origin there)
+
+  -- no origin on its new line has a link to it
+  unlinked : (p : ℕ) → is_linked (w.links p i) ≡ true → is_origin (w.nodes p).role ≡ true → n.line ≡ (w.nodes p).line → ⊥
+  unlinked p is o e =
+      let g : n.line.origin ≡ p = ap (λ (x : Line). x.origin) e ∙ (s.good.nodes p).own_line ((s.links p i).ends is).0 o in
+      not_both (is_linked (w.links p i)) is (ap (λ (j : ℕ). is_linked (w.links j i)) (sym g) ∙ stranger.1)
+
+  comes : (p : ℕ) → GoodLink p i (w.nodes p) n (w.links p i)
+  comes p = record {
+    ends = λ e. (((s.links p i).ends e).0, stays);
+    starts = (s.links p i).starts;
+    apart = (s.links p i).apart;
+    session = λ e. omega (arith, (s.links p i).session e, grows);
+    stored = λ v. absurd (unlinked p v.0 v.1 v.3);
+    net = λ v _. absurd (unlinked p v.0 v.1 v.3);
+    log = λ v _. absurd (unlinked p v.0 v.1 v.3);
+    takes = λ v _. absurd (unlinked p v.0 v.1 v.3);
+  }
+
+  pub sound_joining : Good (with_node w i n) → IsWhole n → IsFed n → length n.log ≤ 0 → Sound (with_node w i n)
+  sound_joining good whole fed empty = record {
+    good = good;
+    whole = all_updated (λ k (m : Node). IsWhole m) w.nodes i n whole (λ k _. s.whole k);
+    fed = all_updated (λ k (m : Node). IsFed m) w.nodes i n fed (λ k _. s.fed k);
+    links =
+        all_updated (λ p (a : Node). (q : ℕ) → GoodLink p q a (joined_nodes q) (w.links p q)) w.nodes i n
+        (λ q. unlinked_good i q n (joined_nodes q) (w.links i q) (alone q))
+        (λ p _. all_updated (λ q (b : Node). GoodLink p q (w.nodes p) b (w.links p q)) w.nodes i n (comes p) (λ q _. s.links p q));
+    packets =
+        each_weaker (GoodPacket w.nodes w.links w.lines) (GoodPacket joined_nodes w.links w.lines)
+        (λ p q. record {
+          said = all_updated (λ j (m : Node). j ≡ p.source → GoodMessage (w.lines p.line).held m p.line p.message) w.nodes i n
+              (λ e. message_joins (w.lines p.line).held (w.nodes i) n p.line _ _ grows (stranger_at p.source p.line (sym e)) p.message (subst (λ (j : ℕ). GoodMessage (w.lines p.line).held (w.nodes j) p.line p.message) (sym e) q.said) q.known)
+              (λ j _ e. subst (λ (x : ℕ). GoodMessage (w.lines p.line).held (w.nodes x) p.line p.message) (sym e) q.said) p.source refl;
+          known = says_later _ _ _ _ (before p.line p.target) (before p.line p.source) p.message q.known;
+          begun = still_begun p.line p.source q.begun;
+        })
+        w.packets s.packets;
+    promised =
+        each_weaker (GoodPromise w.nodes w.links) (GoodPromise joined_nodes w.links)
+        (λ e q. record {
+          kept = all_updated (λ j (m : Node). j ≡ e.site → IsKept m e.line e.number e.surety) w.nodes i n
+              (λ f. promise_joins (w.nodes i) n e.line e.number _ grows (stranger_at e.site e.line (sym f)) e.surety (subst (λ (j : ℕ). IsKept (w.nodes j) e.line e.number e.surety) (sym f) q.kept) q.known)
+              (λ j _ f. subst (λ (x : ℕ). IsKept (w.nodes x) e.line e.number e.surety) (sym f) q.kept) e.site refl;
+          known = λ t. q.known (before e.line e.site t);
+          begun = still_begun e.line e.site q.begun;
+        })
+        w.promised s.promised;
+    known = all_updated (λ k (m : Node). KnownNode joined_nodes w.links k m) w.nodes i n (λ _ _ _. empty) (λ k _ is o q. s.known k is o (before (w.nodes k).line k q));
+  }
+
+-- ## A bare site changes
+
+-- nothing was said of a bare site, and nothing of a line that it may begin
+module _ (w : World) (i sites : ℕ) (n : Node) (h : Line → History) (s : Sound w) (bare : (w.nodes i).state ≡ Bare) (other : (l : Line) → (l.origin ≡ i → ⊥) → w.lines l ≡ h l) where
+  abbrev founded_nodes : ℕ → Node
+  founded_nodes = updated w.nodes i n
+
+  made_elsewhere : (k : ℕ) → IsMade (w.nodes k) → k ≡ i → ⊥
+  made_elsewhere k made e = made (ap (λ (j : ℕ). (w.nodes j).state) e ∙ bare)
+
+  same_elsewhere : (k : ℕ) → IsMade (w.nodes k) → w.nodes k ≡ founded_nodes k
+  same_elsewhere k made = by_test (λ (m : Node). w.nodes k ≡ m) (eqb k i) n (w.nodes k) (λ e. absurd (made_elsewhere k made (eqb_equal k i e))) (λ _. refl)
+
+  begun_still : (line : Line) (k : ℕ) → IsBegun w.nodes line k → IsBegun founded_nodes line k
+  begun_still line k (here, there) = (subst IsMade (same_elsewhere k here) here, subst IsMade (same_elsewhere line.origin there) there)
+
+  stranger_was : (l : Line) (k : ℕ) → IsMade (w.nodes l.origin) → IsStranger founded_nodes w.links l k → IsStranger w.nodes w.links l k
+  stranger_was l k made q = (subst (λ (m : Node). m.line ≡ l) (sym (same_elsewhere l.origin made)) q.0, q.1)
+
+  pub sound_founding : Good (record w { sites = sites; nodes = founded_nodes; lines = h }) → IsWhole n → is_origin n.role ≡ true → Sound (record w { sites = sites; nodes = founded_nodes; lines = h })
+  sound_founding good whole origin = record {
+    good = good;
+    whole = all_updated (λ k (m : Node). IsWhole m) w.nodes i n whole (λ k _. s.whole k);
+    fed = all_updated (λ k (m : Node). IsFed m) w.nodes i n (λ r. not_both (is_origin n.role) origin r) (λ k _. s.fed k);
+    links =
+        all_updated (λ p (a : Node). (q : ℕ) → GoodLink p q a (founded_nodes q) (w.links p q)) w.nodes i n
+        (λ q. unlinked_good i q n (founded_nodes q) (w.links i q) (λ e. made_elsewhere i ((s.links i q).ends e).0 refl))
+        (λ p _. all_updated (λ q (b : Node). GoodLink p q (w.nodes p) b (w.links p q)) w.nodes i n
+        (unlinked_good p i (w.nodes p) n (w.links p i) (λ e. made_elsewhere i ((s.links p i).ends e).1 refl))
+        (λ q _. s.links p q));
+    packets =
+        each_weaker (GoodPacket w.nodes w.links w.lines) (GoodPacket founded_nodes w.links h)
+        (λ p q. record {
+          said = subst (λ (r : History). GoodMessage r.held (founded_nodes p.source) p.line p.message) (other p.line (made_elsewhere p.line.origin q.begun.1))
+              (subst (λ (m : Node). GoodMessage (w.lines p.line).held m p.line p.message) (same_elsewhere p.source q.begun.0) q.said);
+          known = says_later _ _ _ _ (stranger_was p.line p.target q.begun.1) (stranger_was p.line p.source q.begun.1) p.message q.known;
+          begun = begun_still p.line p.source q.begun;
+        })
+        w.packets s.packets;
+    promised =
+        each_weaker (GoodPromise w.nodes w.links) (GoodPromise founded_nodes w.links)
+        (λ e q. record {
+          kept = subst (λ (m : Node). IsKept m e.line e.number e.surety) (same_elsewhere e.site q.begun.0) q.kept;
+          known = λ t. q.known (stranger_was e.line e.site q.begun.1 t);
+          begun = begun_still e.line e.site q.begun;
+        })
+        w.promised s.promised;
+    known = all_updated (λ k (m : Node). KnownNode founded_nodes w.links k m) w.nodes i n
+        (λ made r. not_both (is_origin n.role) origin r)
+        (λ k _ made r q. s.known k made r (stranger_was (w.nodes k).line k (s.good.begun k made) q));
+  }

@@ -1,0 +1,121 @@
+-- Two sites and the link from one to the other, through the events of settling.
+use Rattle.std.proofs.Common.{◌≡◌, ℕ, List, ◌++◌, refl, ap, ◌∙◌, subst, Bool, true, false}
+use Rattle.std.specs.Prelude.{leb, eqb, not, Some, None, Option, ◌&&◌}
+use Rattle.vx_model.specs.World.{World, Node, Link, Packet, is_origin, updated, with_node}
+use Rattle.vx_model.specs.Sending.{sent_step}
+use Rattle.vx_model.specs.Receiving.{phase_takes}
+use Rattle.vx_model.specs.LinkForms.{plain_link, with_plain}
+use Rattle.vx_model.specs.declared.site.SiteState.{SiteState}
+use Rattle.vx_model.specs.declared.site.SiteState.TheVariants.{Up}
+use Rattle.vx_model.specs.declared.link.Mode.TheVariants.{Log}
+use Rattle.vx_model.specs.declared.sender.SEvent.{SEvent}
+use Rattle.vx_model.specs.declared.no.No.{No}
+use Rattle.vx_model.proofs.Updates.{at_place, by_test, eqb_equal}
+use Rattle.vx_world.specs.Sends.{is_linked, with_link, sending, sent_by}
+use Rattle.vx_world.specs.Refusals.{Outcome, unless, at_work, on_link, keeps_links, is_up, is_running, unless_halted}
+use Rattle.vx_world.specs.Events
+
+-- what stands in a world of two sites and the link, and all that was sent
+pub record At (v : World) (p s : ℕ) (a b : Node) (l : Link) (ps : List Packet) : Type 0 where
+  pub given_p : leb v.sites p ≡ false
+  pub given_s : leb v.sites s ≡ false
+  pub at_p : v.nodes p ≡ a
+  pub at_s : v.nodes s ≡ b
+  pub at_l : v.links p s ≡ l
+  pub sent : v.packets ≡ ps
+
+-- the sites and the link are such that they settle
+pub record Fit (p s : ℕ) (a b : Node) (l : Link) : Type 0 where
+  pub apart : p ≡ s → ⊥
+  pub up_a : a.state ≡ Up
+  pub up_b : b.state ≡ Up
+  pub runs_a : a.halted ≡ None
+  pub runs_b : b.halted ≡ None
+  pub sends : keeps_links a.role ≡ true
+  pub receives : is_origin b.role ≡ false
+  pub line : b.line ≡ a.line
+  pub takes : phase_takes b.phase ≡ true
+  pub other : b.other ≡ p
+  pub linked : is_linked l ≡ true
+  pub attached : l.attached ≡ true
+  pub connected : l.connected ≡ true
+  pub running : l.paused ≡ false
+  pub mode : l.mode ≡ Log
+
+-- what holds of what stands in the world itself holds of it under its names
+pub via : (v : World) (p s : ℕ) (a b : Node) (l : Link) (ps : List Packet) → At v p s a b l ps → (P : Node → Node → Link → List Packet → Type 0) → P (v.nodes p) (v.nodes s) (v.links p s) v.packets → P a b l ps
+via v p s a b l ps at P h =
+    subst (λ (x : Node). P x b l ps) at.at_p
+    (subst (λ (x : Node). P (v.nodes p) x l ps) at.at_s
+    (subst (λ (x : Link). P (v.nodes p) (v.nodes s) x ps) at.at_l
+    (subst (λ (x : List Packet). P (v.nodes p) (v.nodes s) (v.links p s) x) at.sent h)))
+
+pub itself : (v : World) (p s : ℕ) → leb v.sites p ≡ false → leb v.sites s ≡ false → At v p s (v.nodes p) (v.nodes s) (v.links p s) v.packets
+itself v p s h k = record { given_p = h; given_s = k; at_p = refl; at_s = refl; at_l = refl; sent = refl }
+
+pub passes : (b : Bool) (why : No) (w : World) (o : Outcome) → b ≡ false → unless b why w o ≡ o
+passes true why w o e = absurd (cc)
+passes false why w o e = refl
+
+runs : (halted : Option ℕ) (w : World) (o : Outcome) → halted ≡ None → unless_halted halted w o ≡ o
+runs None w o e = refl
+runs (Some disk) w o e = absurd (cc)
+
+pub falls : (b : Bool) → b ≡ true → not b ≡ false
+falls true e = refl
+falls false e = absurd (cc)
+
+pub at_link : (w : World) (p s : ℕ) (l : Link) → (with_link w p s l).links p s ≡ l
+at_link w p s l = ap (λ (row : ℕ → Link). row s) (at_place w.links p (updated (w.links p) s l)) ∙ at_place (w.links p) s l
+
+other_place : {A : Type 0} (f : ℕ → A) (i k : ℕ) (x : A) → (k ≡ i → ⊥) → updated f i x k ≡ f k
+other_place f i k x apart = by_test (λ y. y ≡ f k) (eqb k i) x (f k) (λ e. absurd (apart (eqb_equal k i e))) (λ _. refl)
+
+module _ (v : World) (p s : ℕ) (a b : Node) (l : Link) (ps : List Packet) (at : At v p s a b l ps) where
+  -- what the rule of the link makes of it
+  pub link_event_at : (e : SEvent) → At (Events.link_event v p s e) p s a b (with_plain l (sent_step (plain_link s l) e (Events.facts_of a a.line)).link) (ps ++ sent_by (sent_step (plain_link s l) e (Events.facts_of a a.line)).action p s a)
+  link_event_at e =
+      via v p s a b l ps at
+      (λ a b l ps. At (Events.link_event v p s e) p s a b (with_plain l (sent_step (plain_link s l) e (Events.facts_of a a.line)).link) (ps ++ sent_by (sent_step (plain_link s l) e (Events.facts_of a a.line)).action p s a))
+      (record {
+        given_p = at.given_p;
+        given_s = at.given_s;
+        at_p = refl;
+        at_s = refl;
+        at_l = at_link v p s (with_plain (v.links p s) (Events.link_step v p s e).link);
+        sent = refl;
+      })
+
+  pub sending_at : (more : List Packet) → At (sending v more) p s a b l (ps ++ more)
+  sending_at more = record { given_p = at.given_p; given_s = at.given_s; at_p = at.at_p; at_s = at.at_s; at_l = at.at_l; sent = ap (λ (x : List Packet). x ++ more) at.sent }
+
+  pub with_node_at : (n : Node) → (p ≡ s → ⊥) → At (with_node v s n) p s a n l ps
+  with_node_at n apart = record {
+    given_p = at.given_p;
+    given_s = at.given_s;
+    at_p = other_place v.nodes s p n apart ∙ at.at_p;
+    at_s = at_place v.nodes s n;
+    at_l = at.at_l;
+    sent = at.sent;
+  }
+
+  pub with_link_at : (m : Link) → At (with_link v p s m) p s a b m ps
+  with_link_at m = record { given_p = at.given_p; given_s = at.given_s; at_p = at.at_p; at_s = at.at_s; at_l = at_link v p s m; sent = at.sent }
+
+  pub work_passes : (q : ℕ) (n : Node) (o : Outcome) → v.nodes q ≡ n → n.state ≡ Up → n.halted ≡ None → at_work v q o ≡ o
+  work_passes q n o e up none =
+      passes (not (is_up (v.nodes q).state)) _ v (unless_halted (v.nodes q).halted v o) (falls (is_up (v.nodes q).state) (ap (λ (x : Node). is_up x.state) e ∙ ap is_up up))
+      ∙ runs (v.nodes q).halted v o (ap (λ (x : Node). x.halted) e ∙ none)
+
+  pub link_passes : (o : Outcome) → Fit p s a b l → on_link v p s o ≡ o
+  link_passes o fit =
+      passes (leb v.sites p) _ v _ at.given_p
+      ∙ passes (leb v.sites s) _ v _ at.given_s
+      ∙ work_passes p a _ at.at_p fit.up_a fit.runs_a
+      ∙ passes (not (keeps_links (v.nodes p).role)) _ v _ (falls (keeps_links (v.nodes p).role) (ap (λ (x : Node). keeps_links x.role) at.at_p ∙ fit.sends))
+      ∙ passes (not (is_linked (v.links p s))) _ v o (falls (is_linked (v.links p s)) (ap is_linked at.at_l ∙ fit.linked))
+
+  -- a site that is up and not halted hears
+  pub hears : (q : ℕ) (n : Node) → v.nodes q ≡ n → n.state ≡ Up → n.halted ≡ None → (is_up (v.nodes q).state && is_running (v.nodes q).halted) ≡ true
+  hears q n e up none =
+      ap (λ (x : Node). is_up x.state && is_running x.halted) e ∙ ap (λ (state : SiteState). is_up state && is_running n.halted) up ∙ ap is_running none

@@ -1,0 +1,121 @@
+-- Delivering what was sent, and what was sent in answer, leaves nothing to be delivered.
+use Rattle.std.proofs.Common.{◌≡◌, ℕ, suc, ◌+◌, List, [], ◌∷◌, ◌++◌, length, refl, ap, sym, ◌∙◌, subst, append_assoc, drop, Bool, true, false}
+use Rattle.std.specs.Prelude.{if◌then◌else◌, eqb, slice_get, Some, None, Option, ◌&&◌}
+use Rattle.std.specs.List.{AllByRecursion}
+use Rattle.vx_model.specs.Content.{Write}
+use Rattle.vx_model.specs.World.{World, Packet, Message, Hello, Update, NetAck, DataAck, is_origin}
+use Rattle.vx_model.specs.Receiving.{received_step}
+use Rattle.vx_model.specs.LinkForms.{plain_receiver}
+use Rattle.vx_model.specs.declared.sender.SEvent.{SEvent}
+use Rattle.vx_model.specs.declared.sender.SEvent.TheVariants.{Hello as HearHello, NetAck as HearNetAck, DataAck as HearDataAck}
+use Rattle.vx_model.specs.declared.receiver.REvent.TheVariants.{Update as HearUpdate}
+use Rattle.vx_model.specs.declared.receiver.RAction.{RAction}
+use Rattle.vx_model.specs.declared.receiver.RAction.TheVariants.{Nothing as DoesNothing, Ignored as Ignores, IgnoredAck, Take, DataAck as AcksFromDisk}
+use Rattle.vx_model.proofs.Updates.{by_test}
+use Rattle.vx_world.specs.declared.event.Event.{Event}
+use Rattle.vx_world.specs.declared.event.Event.TheVariants.{Deliver}
+use Rattle.vx_world.specs.declared.event.Said.TheVariants.{Ignored as IsIgnored}
+use Rattle.vx_world.specs.Sends.{is_linked, further_parts, packets_of}
+use Rattle.vx_world.specs.Refusals.{Outcome, says, is_up, is_running, keeps_links}
+use Rattle.vx_world.specs.Events
+use Rattle.vx_world.specs.Step.{step, run}
+use Rattle.vx_world.specs.Settling.{deliver_each, deliver_new, delivery}
+use Rattle.vx_world.proofs.Lists.{each_append}
+use Rattle.vx_world.proofs.Told.{append-nil}
+use Rattle.vx_world.proofs.Batches.{IsIn, in_head, in_tail, in_new}
+use Rattle.vx_world.proofs.Turns.{run_append, new_is, nothing_new}
+
+abbrev is_update : Message → Bool
+is_update (Hello session number stored) = false
+is_update (Update number x) = true
+is_update (NetAck session number) = false
+is_update (DataAck number) = false
+
+-- to which nothing is answered
+abbrev IsLast : Packet → Type 0
+IsLast p = is_update p.message ≡ false
+
+-- a world in which more was sent than in v, none of it to be answered
+record Adds (v w : World) : Type 0 where
+  pub more : List Packet
+  pub sent : w.packets ≡ v.packets ++ more
+  pub last : AllByRecursion IsLast more
+
+adds_none : (v w : World) → w.packets ≡ v.packets → Adds v w
+adds_none v w e = record { more = []; sent = e ∙ sym (append-nil v.packets); last = tt }
+
+-- ## One packet
+
+taken_adds : (v : World) (p : Packet) (x : Write) (action : RAction) → Adds v (Events.update_taken v p x action).world
+taken_adds v p x DoesNothing = adds_none v v refl
+taken_adds v p x Ignores = adds_none v v refl
+taken_adds v p x (IgnoredAck number) = record { more = packets_of p.target p.source (v.nodes p.target).line (NetAck (v.nodes p.target).session number); sent = refl; last = (refl, tt) }
+taken_adds v p x (Take number) = record { more = packets_of p.target p.source (v.nodes p.target).line (NetAck (v.nodes p.target).session number); sent = refl; last = (refl, tt) }
+taken_adds v p x (AcksFromDisk number) = adds_none v v refl
+
+link_heard_same : (v : World) (p : Packet) (e : SEvent) → (Events.link_heard v p e).world.packets ≡ v.packets
+link_heard_same v p e =
+    by_test (λ (o : Outcome). o.world.packets ≡ v.packets) (keeps_links (v.nodes p.target).role && is_linked (v.links p.target p.source)) _ (says v IsIgnored) (λ _. refl) (λ _. refl)
+
+heard_adds : (v : World) (p : Packet) (m : Message) → Adds v (Events.heard v p m).world
+heard_adds v p (Hello session number stored) = adds_none v _ (link_heard_same v p (HearHello session number stored))
+heard_adds v p (Update number x) =
+    by_test (λ (o : Outcome). Adds v o.world) (is_origin (v.nodes p.target).role) (says v IsIgnored) _ (λ _. adds_none v v refl) (λ _. taken_adds v p x (received_step (plain_receiver (v.nodes p.target)) (HearUpdate p.line number)).action)
+heard_adds v p (NetAck session number) = adds_none v _ (link_heard_same v p (HearNetAck session number))
+heard_adds v p (DataAck number) = adds_none v _ (link_heard_same v p (HearDataAck number))
+
+heard_same : (v : World) (p : Packet) (m : Message) → is_update m ≡ false → (Events.heard v p m).world.packets ≡ v.packets
+heard_same v p (Hello session number stored) e = link_heard_same v p (HearHello session number stored)
+heard_same v p (Update number x) e = absurd (cc)
+heard_same v p (NetAck session number) e = link_heard_same v p (HearNetAck session number)
+heard_same v p (DataAck number) e = link_heard_same v p (HearDataAck number)
+
+handed_by : (P : World → Type 0) (v : World) (p : Packet) (whole : Bool) → P v → P (Events.heard v p p.message).world → P (Events.handed v p whole).world
+handed_by P v p whole h k =
+    by_test (λ (o : Outcome). P o.world) (is_up (v.nodes p.target).state && is_running (v.nodes p.target).halted) _ (says v IsIgnored)
+    (λ _. by_test (λ (o : Outcome). P o.world) whole (Events.heard v p p.message) (says v (Events.said_of_part (v.nodes p.target) p.line p.message)) (λ _. k) (λ _. h))
+    (λ _. h)
+
+delivered_adds : (v : World) (number : ℕ) (whole : Bool) (p : Option Packet) → Adds v (Events.delivered v number whole p).world
+delivered_adds v number whole None = adds_none v v refl
+delivered_adds v number whole (Some p) = handed_by (Adds v) v p whole (adds_none v v refl) (heard_adds v p p.message)
+
+delivered_same : (v : World) (k : ℕ) (whole : Bool) (p : Packet) → slice_get v.packets k ≡ Some p → IsLast p → (step v (Deliver (suc k) whole)).world.packets ≡ v.packets
+delivered_same v k whole p e last =
+    subst (λ (q : Option Packet). (Events.delivered v (suc k) whole q).world.packets ≡ v.packets) (sym e)
+    (handed_by (λ (w : World). w.packets ≡ v.packets) v p whole refl (heard_same v p p.message last))
+
+-- ## Batches
+
+batch_adds : (ps : List Packet) (k passed : ℕ) (v : World) → Adds v (run v (deliver_each k passed ps))
+batch_adds [] k passed v = adds_none v v refl
+batch_adds (p ∷ ps) k passed v =
+    let whole : Bool = eqb passed (further_parts p.message) in
+    let u : World = (step v (Deliver (suc k) whole)).world in
+    let first : Adds v u = delivered_adds v (suc k) whole (slice_get v.packets k) in
+    let rest : Adds u (run u (deliver_each (suc k) (if whole then 0 else passed + 1) ps)) = batch_adds ps (suc k) (if whole then 0 else passed + 1) u in
+    record {
+      more = first.more ++ rest.more;
+      sent = rest.sent ∙ ap (λ (t : List Packet). t ++ rest.more) first.sent ∙ append_assoc v.packets first.more rest.more;
+      last = each_append IsLast first.more rest.more first.last rest.last;
+    }
+
+batch_same : (ps : List Packet) (k passed : ℕ) (v : World) → IsIn v.packets k ps → AllByRecursion IsLast ps → (run v (deliver_each k passed ps)).packets ≡ v.packets
+batch_same [] k passed v is last = refl
+batch_same (p ∷ ps) k passed v is (last, rest) =
+    let whole : Bool = eqb passed (further_parts p.message) in
+    let u : World = (step v (Deliver (suc k) whole)).world in
+    let same : u.packets ≡ v.packets = delivered_same v k whole p (in_head v.packets k p ps is) last in
+    batch_same ps (suc k) (if whole then 0 else passed + 1) u (subst (λ (x : List Packet). IsIn x (suc k) ps) (sym same) (in_tail v.packets k p ps is)) rest ∙ same
+
+-- behind both rounds nothing was sent that was not there behind the first
+pub none_left : (old w : World) → deliver_new (run w (deliver_new old w)) (run w (delivery old w)) ≡ []
+none_left old w =
+    let v : World = run w (deliver_new old w) in
+    let adds : Adds w v = batch_adds (drop (length old.packets) w.packets) (length old.packets) 0 w in
+    let second : deliver_new w v ≡ deliver_each (length w.packets) 0 adds.more = new_is w v w.packets adds.more refl adds.sent in
+    let same : (run v (deliver_new w v)).packets ≡ v.packets =
+    ap (λ (es : List Event). (run v es).packets) second
+    ∙ batch_same adds.more (length w.packets) 0 v (subst (λ (x : List Packet). IsIn x (length w.packets) adds.more) (sym adds.sent) (in_new w.packets adds.more)) adds.last in
+    subst (λ (x : World). deliver_new v x ≡ []) (sym (run_append w (deliver_new old w) (deliver_new w v)))
+    (nothing_new v (run v (deliver_new w v)) v.packets refl same)

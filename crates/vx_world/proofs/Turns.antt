@@ -1,0 +1,230 @@
+-- A turn of settling raises what is stored, and turns come to an end.
+use Rattle.std.proofs.Common.{◌≡◌, ℕ, ◌+◌, ◌-◌, ◌≤◌, ◌<◌, List, [], ◌∷◌, ◌++◌, length, take, drop, refl, ap, sym, ◌∙◌, subst, arith, Bool, true, false, length-append}
+use Rattle.std.specs.Prelude.{ltb, eqb, max, min, pred, slice_get, Some}
+use Rattle.std.proofs.lemmas.Bool.Decides.{nat_tests}
+use Rattle.std.proofs.lemmas.List.{length-take, length-drop}
+use Rattle.vx_model.specs.Content.{Write}
+use Rattle.vx_model.specs.World.{World, Node, Link, Packet, DataAck}
+use Rattle.vx_model.specs.declared.site.Mark.{Mark}
+use Rattle.vx_world.specs.declared.event.Event.{Event}
+use Rattle.vx_world.specs.declared.event.Event.TheVariants.{Apply, Pump, Tick}
+use Rattle.vx_world.specs.Sends.{packet, updates, between}
+use Rattle.vx_world.specs.Events.{applied}
+use Rattle.vx_world.specs.Step.{step, run}
+use Rattle.vx_world.specs.Settling.{deliver_each, deliver_new, delivery}
+use Rattle.vx_world.proofs.Pair.{At, Fit}
+use Rattle.vx_world.proofs.Told.{append-nil, tick_at, pump_at, pump_none, apply_none, apply_all, disk_at}
+use Rattle.vx_world.proofs.Batches.{in_new, acks, fit_log, fit_link, updates_run, acks_run}
+
+pub run_append : (w : World) (xs ys : List Event) → run w (xs ++ ys) ≡ run (run w xs) ys
+run_append w [] ys = refl
+run_append w (x ∷ xs) ys = run_append (step w x).world xs ys
+
+drop_front : (xs ys : List Packet) → drop (length xs) (xs ++ ys) ≡ ys
+drop_front [] ys = refl
+drop_front (x ∷ xs) ys = drop_front xs ys
+
+-- what is new is what was sent
+pub new_is : (old w : World) (ps more : List Packet) → old.packets ≡ ps → w.packets ≡ ps ++ more → deliver_new old w ≡ deliver_each (length ps) 0 more
+new_is old w ps more e f =
+    ap (λ (x : List Packet). deliver_each (length x) 0 (drop (length x) w.packets)) e
+    ∙ ap (λ (x : List Packet). deliver_each (length ps) 0 (drop (length ps) x)) f
+    ∙ ap (λ (x : List Packet). deliver_each (length ps) 0 x) (drop_front ps more)
+
+-- nothing is new
+pub nothing_new : (old w : World) (ps : List Packet) → old.packets ≡ ps → w.packets ≡ ps → deliver_new old w ≡ []
+nothing_new old w ps e f = new_is old w ps [] e (f ∙ sym (append-nil ps))
+
+length_between : (low high : ℕ) (log : List Write) → low < high → high ≤ length log → 0 < length (between (low + 1) high log)
+length_between low high log less most = some (low + 1) (take high log) (omega (arith, less, most, length-take high log)) (omega arith)
+  where
+    some : (n : ℕ) (xs : List Write) → n ≤ length xs → 0 < n → 0 < length (drop (pred n) xs)
+    some n xs h k = omega (arith, h, k, length-drop (pred n) xs)
+
+by_value : {R : Type 0} (c : Bool) → (c ≡ true → R) → (c ≡ false → R) → R
+by_value true f g = f refl
+by_value false f g = g refl
+
+is_less : (m n : ℕ) → ltb m n ≡ true → m < n
+is_less m n h = grind (arith, nat_tests)
+
+is_least : (m n : ℕ) → ltb m n ≡ false → n ≤ m
+is_least m n h = grind (arith, nat_tests)
+
+module _ (p s : ℕ) (a b : Node) (l : Link) (ps : List Packet) (fits : b.safe ≤ length b.log) (whole : a.safe ≤ length a.log) (fit : Fit p s a b l) (session : l.session ≡ b.session) (net : l.net ≡ length b.log) (stored : l.stored ≡ b.safe) where
+  -- what was sent in a turn: the updates that the receiver may lack, from its next number on
+  pub record Sent (w : World) : Type 0 where
+    pub high : ℕ
+    pub writes : List Write
+    pub at : At w p s a b (record l { sent = high; trimmed = 0 }) (ps ++ updates p s a.line (length b.log + 1) writes)
+    pub some : length b.log < a.safe → 0 < length writes
+
+  pub sends : (w : World) → At w p s a b l ps → Sent (run w (Tick p s ∷ Pump p s ∷ []))
+  sends w at =
+      let high : ℕ = min a.safe (l.net + 8) in
+      let v : World = (step w (Tick p s)).world in
+      let m : Link = record l { sent = l.net; trimmed = 0 } in
+      let at_v : At v p s a b m ps = tick_at w p s a b l ps at fit in
+      let fit_v : Fit p s a b m = fit_link p s a b l l.session l.net l.stored l.net 0 fit in
+      by_value (ltb (length b.log) high)
+      (λ less. record {
+        high = high;
+        writes = between (length b.log + 1) high a.log;
+        at = pump_at v p s a b m ps at_v fit_v (length b.log) high (omega (arith, net, stored, fits)) refl (is_less (length b.log) high less);
+        some = λ _. length_between (length b.log) high a.log (is_less (length b.log) high less) (omega (arith, whole));
+      })
+      (λ least. record {
+        high = l.net;
+        writes = [];
+        at = subst (λ (x : List Packet). At (step v (Pump p s)).world p s a b m x) (sym (append-nil ps)) (pump_none v p s a b m ps at_v fit_v (omega (arith, net, stored, fits)) (omega (arith, net, is_least (length b.log) high least)));
+        some = λ below. absurd (omega (arith, below, net, is_least (length b.log) high least));
+      })
+
+  -- what came of it: the receiver has so many writes more, and the link knows it
+  pub record Came (w : World) : Type 0 where
+    pub count : ℕ
+    pub log : List Write
+    pub high : ℕ
+    pub packets : List Packet
+    pub at : At w p s a (record b { log = log }) (record l { net = l.net + count; sent = high; trimmed = 0 }) packets
+    pub grown : length log ≡ length b.log + count
+    pub some : length b.log < a.safe → ltb (length b.log - b.safe) 16 ≡ true → 0 < count
+
+  pub comes : (v w : World) → At v p s a b l ps → Sent w → Came (run w (delivery v w))
+  comes v w at st =
+      let batch : List Packet = updates p s a.line (length b.log + 1) st.writes in
+      let m : Link = record l { sent = st.high; trimmed = 0 } in
+      let fit_m : Fit p s a b m = fit_link p s a b l l.session l.net l.stored st.high 0 fit in
+      subst Came (sym (run_append w (deliver_new v w) (deliver_new w (run w (deliver_new v w)))))
+      (subst (λ (es : List Event). Came (run (run w es) (deliver_new w (run w es)))) (sym (new_is v w ps batch at.sent st.at.sent))
+      (updates_run p s a (λ (u : World). Came (run u (deliver_new w u))) st.writes (length ps) (length b.log + 1) w b m (ps ++ batch) st.at fit_m (in_new ps batch) refl
+      (λ count u few some at_u.
+      let log : List Write = b.log ++ take count st.writes in
+      let told : List Packet = acks s p b.line b.session (length b.log + 1) count in
+      subst (λ (es : List Event). Came (run u es)) (sym (new_is w u (ps ++ batch) told st.at.sent at_u.sent))
+      (acks_run p s a Came count (length (ps ++ batch)) (length b.log + 1) u (record b { log = log }) m ((ps ++ batch) ++ told) at_u (fit_log p s a b m log fit_m) (in_new (ps ++ batch) told) session (omega (arith, net))
+      (λ x at_x. record {
+        count = count;
+        log = log;
+        high = st.high;
+        packets = (ps ++ batch) ++ told;
+        at = at_x;
+        grown = omega (arith, length-append b.log (take count st.writes), length-take count st.writes, few);
+        some = λ below room. some (st.some below) room;
+      })))))
+
+-- a turn is over: all that the receiver has is on its disks, and the link knows it
+pub record Turned (p s : ℕ) (a b : Node) (l : Link) (w : World) : Type 0 where
+  pub site : Node
+  pub link : Link
+  pub packets : List Packet
+  pub at : At w p s a site link packets
+  pub fit : Fit p s a site link
+  pub session : link.session ≡ site.session
+  pub net : link.net ≡ length site.log
+  pub stored : link.stored ≡ site.safe
+  pub whole : site.safe ≡ length site.log
+  pub grown : length b.log ≤ length site.log
+  pub some : length b.log < a.safe → ltb (length b.log - b.safe) 16 ≡ true → length b.log < length site.log
+  pub role : site.role ≡ b.role
+  pub bunker : link.bunker ≡ l.bunker
+
+pub fit_applied : (p s : ℕ) (a b : Node) (l : Link) (number : ℕ) (mark : Mark) → Fit p s a b l → Fit p s a (applied b number mark) l
+fit_applied p s a b l number mark fit = record {
+  apart = fit.apart;
+  up_a = fit.up_a;
+  up_b = fit.up_b;
+  runs_a = fit.runs_a;
+  runs_b = fit.runs_b;
+  sends = fit.sends;
+  receives = fit.receives;
+  line = fit.line;
+  takes = fit.takes;
+  other = fit.other;
+  linked = fit.linked;
+  attached = fit.attached;
+  connected = fit.connected;
+  running = fit.running;
+  mode = fit.mode;
+}
+
+module _ (p s : ℕ) (a b : Node) (l : Link) (ps : List Packet) (fits : b.safe ≤ length b.log) (whole : a.safe ≤ length a.log) (fit : Fit p s a b l) (session : l.session ≡ b.session) (net : l.net ≡ length b.log) (stored : l.stored ≡ b.safe) where
+  pub closes : (w : World) → Came p s a b l ps fits whole fit session net stored w
+      → let x = run w (Apply s (length (w.nodes s).log - (w.nodes s).safe) 0 ∷ []) in Turned p s a b l (run x (delivery w x))
+  closes w came =
+      let n : Node = record b { log = came.log } in
+      subst (λ (y : Node). let x = run w (Apply s (length y.log - y.safe) 0 ∷ []) in Turned p s a b l (run x (delivery w x))) (sym came.at.at_s)
+      (by_value (eqb (length came.log - b.safe) 0) (λ none. at_rest (is_none (length came.log - b.safe) none)) (λ some. at_work (is_some (length came.log - b.safe) some)))
+    where
+      is_none : (m : ℕ) → eqb m 0 ≡ true → m ≡ 0
+      is_none m h = grind (arith, nat_tests)
+
+      is_some : (m : ℕ) → eqb m 0 ≡ false → 0 < m
+      is_some m h = grind (arith, nat_tests)
+
+      fit_came : Fit p s a (record b { log = came.log }) (record l { net = l.net + came.count; sent = came.high; trimmed = 0 })
+      fit_came = fit_log p s a b (record l { net = l.net + came.count; sent = came.high; trimmed = 0 }) came.log (fit_link p s a b l l.session (l.net + came.count) l.stored came.high 0 fit)
+
+      at_rest : length came.log - b.safe ≡ 0 → (let x = run w (Apply s (length came.log - b.safe) 0 ∷ []) in Turned p s a b l (run x (delivery w x)))
+      at_rest none =
+          let n : Node = record b { log = came.log } in
+          let m : Link = record l { net = l.net + came.count; sent = came.high; trimmed = 0 } in
+          let x : World = run w (Apply s (length came.log - b.safe) 0 ∷ []) in
+          let at_x : At x p s a n m came.packets = apply_none w p s a n m came.packets came.at fit_came (length came.log - b.safe) none in
+          let quiet : deliver_new w x ≡ [] = nothing_new w x came.packets came.at.sent at_x.sent in
+          let over : Turned p s a b l x = record {
+            site = n;
+            link = m;
+            packets = came.packets;
+            at = at_x;
+            fit = fit_came;
+            session = session;
+            net = omega (arith, net, came.grown);
+            stored = stored;
+            whole = omega (arith, none, fits, came.grown);
+            grown = omega (arith, came.grown);
+            some = λ below room. omega (arith, came.grown, came.some below room);
+            role = refl;
+            bunker = refl;
+          } in
+          subst (λ (es : List Event). Turned p s a b l (run x (es ++ deliver_new x (run x es)))) (sym quiet)
+          (subst (λ (es : List Event). Turned p s a b l (run x es)) (sym (nothing_new x x came.packets at_x.sent at_x.sent)) over)
+
+      at_work : 0 < length came.log - b.safe → (let x = run w (Apply s (length came.log - b.safe) 0 ∷ []) in Turned p s a b l (run x (delivery w x)))
+      at_work some =
+          let n : Node = record b { log = came.log } in
+          let m : Link = record l { net = l.net + came.count; sent = came.high; trimmed = 0 } in
+          let x : World = run w (Apply s (length came.log - b.safe) 0 ∷ []) in
+          let done = apply_all w p s a n m came.packets came.at fit_came (length came.log - b.safe) refl some in
+          let mark : Mark = done.0 in
+          let z : Node = applied n (length came.log) mark in
+          let ack : Packet = packet s p b.line (DataAck (length came.log)) in
+          let at_x : At x p s a z m (came.packets ++ ack ∷ []) = done.1 in
+          let fit_x : Fit p s a z m = fit_applied p s a n m (length came.log) mark fit_came in
+          let u : World = run x (deliver_each (length came.packets) 0 (ack ∷ [])) in
+          let link : Link = record m { stored = length came.log; net = max m.net (length came.log) } in
+          let at_u : At u p s a z link (came.packets ++ ack ∷ []) =
+          disk_at x p s a z m (came.packets ++ ack ∷ []) at_x fit_x (length came.packets) (length came.log)
+          (first came.packets ack) (omega (arith, stored, some)) in
+          let over : Turned p s a b l u = record {
+            site = z;
+            link = link;
+            packets = came.packets ++ ack ∷ [];
+            at = at_u;
+            fit = fit_link p s a z m m.session (max m.net (length came.log)) (length came.log) m.sent m.trimmed fit_x;
+            session = session;
+            net = omega (arith, net, came.grown);
+            stored = refl;
+            whole = refl;
+            grown = omega (arith, came.grown);
+            some = λ below room. omega (arith, came.grown, came.some below room);
+            role = refl;
+            bunker = refl;
+          } in
+          subst (λ (es : List Event). Turned p s a b l (run x (es ++ deliver_new x (run x es)))) (sym (new_is w x came.packets (ack ∷ []) came.at.sent at_x.sent))
+          (subst (λ (v : World). Turned p s a b l v) (sym (run_append x (deliver_each (length came.packets) 0 (ack ∷ [])) (deliver_new x u)))
+          (subst (λ (es : List Event). Turned p s a b l (run u es)) (sym (nothing_new x u (came.packets ++ ack ∷ []) at_x.sent at_u.sent)) over))
+        where
+          first : (xs : List Packet) (y : Packet) → slice_get (xs ++ y ∷ []) (length xs) ≡ Some y
+          first [] y = refl
+          first (x ∷ xs) y = first xs y

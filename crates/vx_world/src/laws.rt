@@ -1,0 +1,51 @@
+// What holds of every world, whatever happens to it.
+ghost use Rattle.std.specs.Prelude.{◌≡◌, ℕ, ◌≤◌, ◌<◌, List, [], length, take, drop, slice_get, Some, true, false};
+ghost use Rattle.vx_model.specs.Content.{Write, IsPrefixOf, IsNumber, fold_writes};
+ghost use Rattle.vx_model.specs.Good.{IsMade};
+ghost use Rattle.vx_model.specs.World.{World, Packet, Promise, Update, empty_world, is_origin};
+ghost use Rattle.vx_model.specs.declared.history.Line.{Line};
+ghost use Rattle.vx_world.specs.declared.event.Event.{Event};
+ghost use Rattle.vx_world.specs.Grown.{Grown};
+ghost use Rattle.vx_world.specs.Settling.{MaySettle, IsMet, deliver_new, delivery, greeting_events, turn, settling};
+ghost use Rattle.vx_world.specs.Sound.{Sound, IsKept};
+ghost use Rattle.vx_world.specs.Step.{step, run};
+
+/// Whatever happens next, and whatever happens in turn: a sound world stays sound, and the world without sites is sound.
+pub fn stays_sound()
+    ensures empty { Sound empty_world }
+    ensures step { (w : World) (e : Event) → Sound w → Sound (step w e).world }
+    ensures run { (w : World) (events : List Event) → Sound w → Sound (run w events) }
+    ensures always { (events : List Event) → Sound (run empty_world events) }
+{}
+
+/// Whatever the network loses, repeats or reorders, and whenever sites crash: what a receiver has is a first part of what is durable at
+/// the origin of its line, and the volumes of each site hold its writes in order, and no others. An origin has on its disks every
+/// number that was answered on its line, and these are the writes that the line holds. Each promised number is kept, by the site's
+/// disks or in its session. Each update that was ever sent carries the write of its number.
+pub fn in_order()
+    ensures first_part { (w : World) (events : List Event) (i : ℕ) → Sound w → IsMade ((run w events).nodes i) → is_origin ((run w events).nodes i).role ≡ false → IsPrefixOf ((run w events).nodes i).log ((run w events).lines ((run w events).nodes i).line).held }
+    ensures content { (w : World) (events : List Event) (i : ℕ) → Sound w → fold_writes ((run w events).nodes i).base (drop ((run w events).nodes i).safe ((run w events).nodes i).log) ≡ fold_writes ((run w events).nodes i).start ((run w events).nodes i).log }
+    ensures durable { (w : World) (events : List Event) (i : ℕ) → Sound w → IsMade ((run w events).nodes i) → is_origin ((run w events).nodes i).role ≡ true → take ((run w events).nodes i).safe ((run w events).nodes i).log ≡ ((run w events).lines ((run w events).nodes i).line).held }
+    ensures answered { (w : World) (events : List Event) (i : ℕ) → Sound w → IsMade ((run w events).nodes i) → is_origin ((run w events).nodes i).role ≡ true → ((run w events).lines ((run w events).nodes i).line).told ≤ ((run w events).nodes i).safe }
+    ensures promised { (w : World) (events : List Event) (k : ℕ) (e : Promise) → Sound w → slice_get (run w events).promised k ≡ Some e → IsKept ((run w events).nodes e.site) e.line e.number e.surety }
+    ensures updates { (w : World) (events : List Event) (k number : ℕ) (p : Packet) (x : Write) → Sound w → slice_get (run w events).packets k ≡ Some p → p.message ≡ Update number x → IsNumber ((run w events).lines p.line).held number x }
+{}
+
+/// What a line holds only grows, what was answered on it only rises, and no packet and no promise is forgotten, whatever happens. So a
+/// write that its line holds under a number is held under that number from then on.
+pub fn forgets_nothing()
+    ensures run { (w : World) (events : List Event) → Sound w → Grown w (run w events) }
+    ensures number { (w : World) (events : List Event) (l : Line) (n : ℕ) (x : Write) → Sound w → IsMade (w.nodes l.origin) → IsNumber (w.lines l).held n x → IsNumber ((run w events).lines l).held n x }
+{}
+
+/// Settling a link brings all that is durable at its site to its receiver's disks. The receiver's greeting lets the two meet, each turn
+/// raises what is stored as long as that is below the head, and at the end it is the head, which has not changed. Where packets are
+/// delivered, with what is sent in answer, none is left.
+pub fn settles()
+    ensures meets { (w : World) (p s : ℕ) → Sound w → MaySettle w p s → IsMet (run w (greeting_events w p s)) p s }
+    ensures raises { (w : World) (p s : ℕ) → Sound w → IsMet w p s → (w.links p s).stored < (w.nodes p).safe → (w.links p s).stored < ((run w (turn w p s)).links p s).stored }
+    ensures meets_again { (w : World) (p s : ℕ) → Sound w → IsMet w p s → (w.links p s).stored < (w.nodes p).safe → IsMet (run w (turn w p s)) p s }
+    ensures ends { (w : World) (p s : ℕ) → Sound w → MaySettle w p s → ((run w (settling w p s)).links p s).stored ≡ ((run w (settling w p s)).nodes p).safe }
+    ensures none_left { (old w : World) → deliver_new (run w (deliver_new old w)) (run w (delivery old w)) ≡ [] }
+    ensures head { (w : World) (p s : ℕ) → Sound w → MaySettle w p s → ((run w (settling w p s)).nodes p).safe ≡ (w.nodes p).safe }
+{}
