@@ -1,0 +1,4 @@
+pub mod Told
+pub mod LabelLemmas
+pub mod AreaLemmas
+pub mod Areas
