@@ -2,3 +2,5 @@ pub mod Told
 pub mod LabelLemmas
 pub mod AreaLemmas
 pub mod Areas
+pub mod Newest
+pub mod Committing

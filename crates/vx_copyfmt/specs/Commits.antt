@@ -1,5 +1,5 @@
 -- What a commit makes of the disks, and what a crash at any moment of it leaves.
-use Rattle.std.specs.Prelude.{◌≡◌, ◌⊎◌, ℕ, ◌+◌, ◌<◌, ◌≤◌, Bool, IsTrue, IsFalse, true, nat_lt, if◌then◌else◌, Option, Some, None, List}
+use Rattle.std.specs.Prelude.{◌≡◌, ◌⊎◌, ℕ, ◌+◌, ◌<◌, ◌≤◌, Bool, true, false, nat_lt, if◌then◌else◌, Option, Some, None, List}
 use Rattle.vx_disk.specs.Shelf.{Image, Values, Each}
 use Rattle.vx_copyfmt.specs.Areas.{header_of}
 use Rattle.vx_copyfmt.specs.Copies.{Disk, Copy, Holds, area_a, area_b, copy_at, copy_of}
@@ -71,3 +71,30 @@ pub record FindsNew {C : Type 0} (reads : List ℕ → Option C) (failed : C →
 -- no copy that a crash may leave on the disk has this serial or a greater one
 pub record Older {C : Type 0} (reads : List ℕ → Option C) (serial : ℕ) (slots : Slots) : Type 0 where
   pub below : (d : Disk) (x : Copy C) → Among slots d → copy_of reads d ≡ Some x → x.serial < serial
+
+-- this configuration is found, or one of the disks is missing, or no disk has a configuration
+abbrev pub Gives : {C : Type 0} → C → Outcome C → Type 0
+Gives c (Found x) = x ≡ c
+Gives c (Missing disk) = Unit {0}
+Gives c NoConfig = Unit {0}
+Gives c (Damaged disk block stored computed) = ⊥
+Gives c (Format version) = ⊥
+
+-- what an import over the disks finds, where this is the newest committed configuration, or none was committed
+abbrev pub Answers : {C : Type 0} → Option C → Outcome C → Type 0
+Answers None o = o ≡ NoConfig
+Answers (Some c) o = Gives c o
+
+-- whatever a crash leaves and whichever disks can be read, an import finds the committed configuration or is refused with 8 or 9
+pub record Committed {C : Type 0} (reads : List ℕ → Option C) (failed : C → ℕ → Bool) (units : ℕ) (held : Option C) (leaves : Values) : Type 0 where
+  pub each : (i : Image) (readable : ℕ → Bool) → Each leaves i → Answers held (import_of reads failed units readable i)
+
+-- the disk is one that the committed configuration holds as good: each, where none was committed
+abbrev pub IsGood : {C : Type 0} → (C → ℕ → Bool) → Option C → ℕ → Type 0
+IsGood failed None disk = Unit {0}
+IsGood failed (Some c) disk = failed c disk ≡ false
+
+-- each disk that the new configuration holds as good has its copy, and the others the copies of before, or earlier ones of the call
+pub record Written {C : Type 0} (reads : List ℕ → Option C) (failed : C → ℕ → Bool) (serial : ℕ) (config : C) (units : ℕ) (i : Image) : Type 0 where
+  pub new : (u : ℕ) → u < units → failed config u ≡ false → (area : ℕ) × (copy_of reads (i u) ≡ Some (record { serial = serial; area = area; body = Holds config }))
+  pub older : (u : ℕ) (x : Copy C) → u < units → failed config u ≡ true → copy_of reads (i u) ≡ Some x → x.serial < serial
