@@ -1,0 +1,5 @@
+pub mod Forms
+pub mod Table
+pub mod Configs
+pub mod Pages
+pub mod Checks

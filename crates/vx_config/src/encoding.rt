@@ -1,0 +1,59 @@
+// From configurations to bytes.
+ghost use Rattle.std.specs.Prelude.{◌≡◌, ◌<◌, ◌≤◌, length, IfOk, IsOkUnless, Err};
+ghost use Rattle.vx_config.specs.Configs.{CanSpell, HasSpelling, IsSpelling, spelled, subdisk_count};
+ghost use Rattle.vx_model.specs.declared.errors.Stop.TheVariants.{OutOfMemory as MemoryStop, No as Refused};
+ghost use Rattle.vx_model.specs.declared.no.No.TheVariants.{Limit};
+ghost use Rattle.vx_model.specs.declared.no.Counted.TheVariants.{Subdisks};
+ghost use Rattle.vx_wire.specs.Places.{put_at};
+
+use crate::Config;
+use crate::fits::config_fits;
+use crate::shape::has_few_subdisks;
+use crate::spelling::page_of;
+use std::alloc::Global;
+use vx_model::{Bytes, Counted, No, Stop};
+use vx_wire::put_bytes;
+
+/// The bytes of a configuration. More than 1,024 subdisks are refused (19).
+pub fn encode(alloc: Global, config: &Config) -> Result<Bytes, Stop>
+    requires can { CanSpell config.now }
+    ensures spelling { IfOk result (λ bytes. IsSpelling bytes config.now) }
+    ensures many { 1024 < subdisk_count config.now → result ≡ Err (Refused (Limit Subdisks 1024)) }
+    ensures few { subdisk_count config.now ≤ 1024 → IsOkUnless result MemoryStop }
+{
+    if !has_few_subdisks(config) {
+        return Err(Stop::No(No::Limit {
+            what: Counted::Subdisks,
+            most: 1024,
+        }));
+    }
+    is_short(config);
+    config_fits(config);
+    let page = page_of(config);
+    Ok(Bytes::new(Vec::from_slice(alloc, page.as_slice())?))
+}
+
+/// Writes the bytes of a configuration from the front on, and answers how many they are. It takes no memory.
+pub fn encode_into(config: &Config, into: &mut [u8]) -> usize
+    requires can { CanSpell config.now }
+    requires few { subdisk_count config.now ≤ 1024 }
+    requires room { length (spelled config.now) ≤ length into.old }
+    ensures len { result ≡ length (spelled config.now) }
+    ensures bytes { into.new ≡ put_at 0 (spelled config.now) into.old }
+    ensures has { HasSpelling config.now }
+{
+    is_short(config);
+    config_fits(config);
+    let page = page_of(config);
+    put_bytes(into, 0, page.as_slice());
+    page.as_slice().len()
+}
+
+/// A configuration of up to 1,024 subdisks has at most 65,024 bytes, which is the room of an area.
+pub fn is_short(config: &Config)
+    requires can { CanSpell config.now }
+    requires few { subdisk_count config.now ≤ 1024 }
+    ensures { length (spelled config.now) ≤ 65024 }
+{
+    config_fits(config);
+}

@@ -1,0 +1,35 @@
+//! The configuration of a disk group: its disks, volumes, plexes, subdisks and logs, and its one spelling in bytes.
+//!
+//! Numbers are unsigned, and their highest byte stands first. Disks, plexes and volumes go by their places in their
+//! lists, from 0. Blocks are 512 bytes.
+#![tactic(auto)]
+
+mod checking;
+mod config;
+mod cursor;
+mod decoding;
+mod disks;
+mod encoding;
+mod entry;
+mod fits;
+mod page;
+mod plexes;
+mod reading;
+mod shape;
+mod spelling;
+mod stop;
+mod subdisks;
+mod volumes;
+mod wrong;
+
+pub use checking::check;
+pub use config::Config;
+pub use decoding::decode;
+pub use disks::Disks;
+pub use encoding::{encode, encode_into, is_short};
+pub use entry::{DiskEntry, LogEntry, PlexEntry, Subdisk, VolumeEntry};
+pub use plexes::Plexes;
+pub use stop::ConfigStop;
+pub use subdisks::Subdisks;
+pub use volumes::Volumes;
+use wrong::Wrong;
