@@ -3,6 +3,7 @@ use Rattle.std.proofs.Common.{◌≡◌, ◌≢◌, ◌⊎◌, inl, inr, ⊎_eli
 use Rattle.std.specs.Prelude.{nat_lt, bytes_eq, if◌then◌else◌}
 use Rattle.std.proofs.lemmas.Bool.{cases_lt, lt-ltb, le-ltb, ltb-true}
 use Rattle.vx_wire.specs.Seals.{digest_of}
+use Rattle.vx_copyfmt.proofs.Told.{alike}
 use Rattle.vx_copyfmt.specs.Areas.{header_of}
 use Rattle.vx_copyfmt.specs.Labels.{seen_in}
 use Rattle.vx_copyfmt.specs.declared.area.AreaHeader.{AreaHeader}
@@ -211,3 +212,51 @@ module _ {C : Type 0} (reads : List ℕ → Option C) where
         out_b : (area : ℕ) → IsHeaderBlock area → (area_b ≤ area) ⊎ (area + 128 ≤ area_b)
         out_b area (inl is) = inr (omega (arith, is))
         out_b area (inr is) = inl (omega (arith, is))
+
+  -- ---- once the new header stands
+
+  -- two of which the one is less
+  greater_is_second : (m : ℕ) (o : Option (Copy C)) (y : Copy C) → ((x : Copy C) → o ≡ Some x → x.serial < y.serial) → greater o (Some y) ≡ Some y
+  greater_is_second m None y below = refl
+  greater_is_second m (Some x) y below = rw (lt-ltb x.serial y.serial (below x refl)) refl
+
+  greater_is_first : (x : Copy C) (o : Option (Copy C)) → ((y : Copy C) → o ≡ Some y → y.serial < x.serial) → greater (Some x) o ≡ Some x
+  greater_is_first x None below = refl
+  greater_is_first x (Some y) below = let le : y.serial ≤ x.serial = omega (arith, below y refl) in rw (le-ltb x.serial y.serial le) refl
+
+  -- a copy goes by a header of its serial
+  copy_header : (d : Disk) (area : ℕ) (o : Option AreaHeader) → header_of (d area) ≡ o → (x : Copy C) → copy_at reads d area ≡ Some x → (h : AreaHeader) × (header_of (d area) ≡ Some h) × (x.serial ≡ h.serial)
+  copy_header d area None head x is = let none : None ≡ Some x = sym (under_none d area (header_of (d area)) head) ∙ is in absurd cc
+  copy_header d area (Some h) head x is = (h, head, serial_under d area h x head is)
+
+  judged_holds : (area : ℕ) (h : AreaHeader) (body : List ℕ) (c : C) (o : Option C) (b : Bool) → o ≡ Some c → b ≡ true → judged area h body o b ≡ Some (record { serial = h.serial; area = area; body = Holds c })
+  judged_holds area h body c o b got same = rw (got, same) refl
+
+  under_holds : (d : Disk) (area : ℕ) (h : AreaHeader) (c : C) (o : Option AreaHeader) → o ≡ Some h → digest_of (body_of d area h.length) ≡ h.digest → reads (body_of d area h.length) ≡ Some c
+      → copy_under reads d area o ≡ Some (record { serial = h.serial; area = area; body = Holds c })
+  under_holds d area h c o is digest got =
+      rw is (judged_holds area h (body_of d area h.length) c (reads (body_of d area h.length)) (bytes_eq (digest_of (body_of d area h.length)) h.digest) got (alike (digest_of (body_of d area h.length)) h.digest digest))
+
+  module _ (serial : ℕ) (slots : Slots) (tidy : Tidy reads serial slots) (d : Disk) (h : AreaHeader) (c : C) (late : serial ≤ h.serial) where
+    other_below : (area : ℕ) → IsHeaderBlock area → slots area (d area) → (x : Copy C) → copy_at reads d area ≡ Some x → x.serial < h.serial
+    other_below area one is x has =
+        let found = copy_header d area (header_of (d area)) refl x has in
+        let below : found.0.serial < serial = tidy.below area (d area) found.0 one is found.1 in
+        let same : x.serial ≡ found.0.serial = found.2 in
+        omega (arith, below, same, late)
+
+    -- with the new header over its body in one area, and what stood there in the other
+    pub becomes : (area : ℕ) → IsHeaderBlock area → ((a : ℕ) → IsHeaderBlock a → (a ≡ area → ⊥) → slots a (d a)) → header_of (d area) ≡ Some h
+        → digest_of (body_of d area h.length) ≡ h.digest → reads (body_of d area h.length) ≡ Some c → copy_of reads d ≡ Some (record { serial = h.serial; area = area; body = Holds c })
+    becomes area (inl first) other head digest got =
+        let x : Copy C = record { serial = h.serial; area = area; body = Holds c } in
+        let here : copy_at reads d area ≡ Some x = under_holds d area h c (header_of (d area)) head digest got in
+        let there : copy_at reads d area_a ≡ Some x = subst (λ (a : ℕ). copy_at reads d a ≡ Some x) first here in
+        ap (λ (o : Option (Copy C)). greater o (copy_at reads d area_b)) there
+        ∙ greater_is_first x (copy_at reads d area_b) (λ y has. other_below area_b (inr refl) (other area_b (inr refl) (λ same. omega (arith, same, first))) y has)
+    becomes area (inr second) other head digest got =
+        let y : Copy C = record { serial = h.serial; area = area; body = Holds c } in
+        let here : copy_at reads d area ≡ Some y = under_holds d area h c (header_of (d area)) head digest got in
+        let there : copy_at reads d area_b ≡ Some y = subst (λ (a : ℕ). copy_at reads d a ≡ Some y) second here in
+        ap (λ (o : Option (Copy C)). greater (copy_at reads d area_a) o) there
+        ∙ greater_is_second 0 (copy_at reads d area_a) y (λ x has. other_below area_a (inl refl) (other area_a (inl refl) (λ same. omega (arith, same, second))) x has)

@@ -27,15 +27,15 @@ BelowCopy s None = Unit {0}
 BelowCopy s (Some x) = x.serial < s
 
 module _ {C : Type 0} where
-  later_none : (o : Option (ℕ × Copy C)) → later o None ≡ o
+  pub later_none : (o : Option (ℕ × Copy C)) → later o None ≡ o
   later_none None = refl
   later_none (Some x) = refl
 
-  below_on : (s u : ℕ) (o : Option (Copy C)) → BelowCopy s o → Below s (on_disk u o)
+  pub below_on : (s u : ℕ) (o : Option (Copy C)) → BelowCopy s o → Below s (on_disk u o)
   below_on s u None below = tt
   below_on s u (Some x) below = below
 
-  below_later : (s : ℕ) (o p : Option (ℕ × Copy C)) → Below s o → Below s p → Below s (later o p)
+  pub below_later : (s : ℕ) (o p : Option (ℕ × Copy C)) → Below s o → Below s p → Below s (later o p)
   below_later s None p one two = two
   below_later s (Some x) None one two = one
   below_later s (Some x) (Some y) one two = by_test (nat_lt x.1.serial y.1.serial)
@@ -45,15 +45,15 @@ module _ {C : Type 0} where
       by_test false = one
 
   -- a greater one stays
-  later_keeps : (s : ℕ) (x : ℕ × Copy C) (o : Option (ℕ × Copy C)) → s ≤ x.1.serial → Below s o → later (Some x) o ≡ Some x
+  pub later_keeps : (s : ℕ) (x : ℕ × Copy C) (o : Option (ℕ × Copy C)) → s ≤ x.1.serial → Below s o → later (Some x) o ≡ Some x
   later_keeps s x None le below = refl
   later_keeps s x (Some y) le below = rw (le-ltb x.1.serial y.1.serial (omega (arith, le, below))) refl
 
-  later_takes : (s : ℕ) (o : Option (ℕ × Copy C)) (y : ℕ × Copy C) → s ≤ y.1.serial → Below s o → later o (Some y) ≡ Some y
+  pub later_takes : (s : ℕ) (o : Option (ℕ × Copy C)) (y : ℕ × Copy C) → s ≤ y.1.serial → Below s o → later o (Some y) ≡ Some y
   later_takes s None y le below = refl
   later_takes s (Some x) y le below = rw (lt-ltb x.1.serial y.1.serial (omega (arith, le, below))) refl
 
-  later_either : (x y : ℕ × Copy C) → (later (Some x) (Some y) ≡ Some x) ⊎ (later (Some x) (Some y) ≡ Some y)
+  pub later_either : (x y : ℕ × Copy C) → (later (Some x) (Some y) ≡ Some x) ⊎ (later (Some x) (Some y) ≡ Some y)
   later_either x y = by_test (nat_lt x.1.serial y.1.serial) refl
     where
       by_test : (b : Bool) → nat_lt x.1.serial y.1.serial ≡ b → (later (Some x) (Some y) ≡ Some x) ⊎ (later (Some x) (Some y) ≡ Some y)
@@ -154,23 +154,23 @@ module _ {C : Type 0} (reads : List ℕ → Option C) (failed : C → ℕ → Bo
 
   -- ---- the image of before
 
-  abbrev relabelled : Disk → Disk → Disk
-  relabelled d base zero = d zero
-  relabelled d base (suc b) = base (suc b)
+  abbrev relabelled : List ℕ → Disk → Disk
+  relabelled first base zero = first
+  relabelled first base (suc b) = base (suc b)
 
-  relabelled_among : (slots : Slots) (d base : Disk) → slots 0 (d 0) → Among slots base → Among slots (relabelled d base)
-  relabelled_among slots d base here among zero = here
-  relabelled_among slots d base here among (suc b) = among (suc b)
+  relabelled_among : (slots : Slots) (first : List ℕ) (base : Disk) → slots 0 first → Among slots base → Among slots (relabelled first base)
+  relabelled_among slots first base here among zero = here
+  relabelled_among slots first base here among (suc b) = among (suc b)
 
   abbrev chosen : (slots : Slots) (d base : Disk) → FromOld reads slots d ⊎ FromNew reads begun slots d → Disk
   chosen slots d base (inl old) = old.disk
-  chosen slots d base (inr new) = relabelled d base
+  chosen slots d base (inr new) = relabelled new.first base
 
   chosen_alike : (slots : Slots) (d base : Disk) → Among slots base → (from : FromOld reads slots d ⊎ FromNew reads begun slots d) → Alike reads begun slots d (chosen slots d base from)
   chosen_alike slots d base among (inl old) = record { among = old.among; label = old.label; copies = inl old.copy }
   chosen_alike slots d base among (inr new) = record {
-    among = relabelled_among slots d base new.label among;
-    label = refl;
+    among = relabelled_among slots new.first base new.there among;
+    label = new.label;
     copies = inr (record { serial = new.serial; area = new.area; body = Holds new.config }, record { serial = new.serial; config = new.config; area = new.area; made = new.made; is = refl }, new.copy);
   }
 

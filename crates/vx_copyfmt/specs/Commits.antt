@@ -48,7 +48,9 @@ pub record FromNew {C : Type 0} (reads : List ℕ → Option C) (begun : ℕ →
   pub config : C
   pub area : ℕ
   pub made : begun serial config
-  pub label : slots 0 (d 0)
+  pub first : List ℕ
+  pub there : slots 0 first
+  pub label : seen_in (d 0) ≡ seen_in first
   pub copy : copy_of reads d ≡ Some (record { serial = serial; area = area; body = Holds config })
 
 -- each disk below n is one or the other
