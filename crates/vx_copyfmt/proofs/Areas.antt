@@ -40,6 +40,15 @@ greater_first : {C : Type 0} (m : ℕ) (x : Copy C) (o : Option (Copy C)) → Ha
 greater_first m x None has le = refl
 greater_first m x (Some y) has le = rw (le-ltb x.serial y.serial (omega (arith, has, le))) refl
 
+-- a target is one of the two headers
+pub target_block : (p q : Option AreaHeader) → IsHeaderBlock (target_of p q)
+target_block None q = inl refl
+target_block (Some x) None = inr refl
+target_block (Some x) (Some y) = elim (cases_lt x.serial y.serial) [
+  | inl lt ↦ inl (rw (lt-ltb x.serial y.serial lt) refl)
+  | inr le ↦ inr (rw (le-ltb x.serial y.serial le) refl)
+]
+
 module _ {C : Type 0} (reads : List ℕ → Option C) where
   under_serial : (d : Disk) (area : ℕ) (h : AreaHeader) (o : Option AreaHeader) → o ≡ Some h → HasSerial h.serial (copy_under reads d area o)
   under_serial d area h None is = absurd cc
@@ -64,14 +73,14 @@ module _ {C : Type 0} (reads : List ℕ → Option C) where
   -- ---- while a body is written
 
   -- the disk with other blocks in the body of an area
-  abbrev mended : Disk → Disk → ℕ → Disk
+  abbrev pub mended : Disk → Disk → ℕ → Disk
   mended d base area b = if nat_lt area b then (if nat_lt b (area + 128) then base b else d b) else d b
 
-  mended_out : (d base : Disk) (area b : ℕ) → (b ≤ area) ⊎ (area + 128 ≤ b) → mended d base area b ≡ d b
+  pub mended_out : (d base : Disk) (area b : ℕ) → (b ≤ area) ⊎ (area + 128 ≤ b) → mended d base area b ≡ d b
   mended_out d base area b (inl low) = rw (le-ltb area b low) refl
   mended_out d base area b (inr high) = rw (lt-ltb area b (omega (arith, high)), le-ltb b (area + 128) high) refl
 
-  mended_in : (d base : Disk) (area b : ℕ) → area < b → b < area + 128 → mended d base area b ≡ base b
+  pub mended_in : (d base : Disk) (area b : ℕ) → area < b → b < area + 128 → mended d base area b ≡ base b
   mended_in d base area b low high = rw (lt-ltb area b low, lt-ltb b (area + 128) high) refl
 
   -- outside of the run it has one of the values
@@ -199,13 +208,6 @@ module _ {C : Type 0} (reads : List ℕ → Option C) where
         let b_is : d area_b ≡ w = tidy.settled area_b (d area_b) w (inr refl) (outside slots area area_b (d area_b) (out_b area one) (mixed area_b)) in_b in
         stays_by area (goes_where d (header_of v) (header_of w) (ap header_of a_is) (ap header_of b_is)) mixed
       where
-        target_block : (p q : Option AreaHeader) → IsHeaderBlock (target_of p q)
-        target_block None q = inl refl
-        target_block (Some x) None = inr refl
-        target_block (Some x) (Some y) = elim (cases_lt x.serial y.serial) [
-          | inl lt ↦ inl (rw (lt-ltb x.serial y.serial lt) refl)
-          | inr le ↦ inr (rw (le-ltb x.serial y.serial le) refl)
-        ]
         out_a : (area : ℕ) → IsHeaderBlock area → (area_a ≤ area) ⊎ (area + 128 ≤ area_a)
         out_a area (inl is) = inl (omega (arith, is))
         out_a area (inr is) = inl (omega (arith, is))
@@ -232,7 +234,7 @@ module _ {C : Type 0} (reads : List ℕ → Option C) where
   judged_holds : (area : ℕ) (h : AreaHeader) (body : List ℕ) (c : C) (o : Option C) (b : Bool) → o ≡ Some c → b ≡ true → judged area h body o b ≡ Some (record { serial = h.serial; area = area; body = Holds c })
   judged_holds area h body c o b got same = rw (got, same) refl
 
-  under_holds : (d : Disk) (area : ℕ) (h : AreaHeader) (c : C) (o : Option AreaHeader) → o ≡ Some h → digest_of (body_of d area h.length) ≡ h.digest → reads (body_of d area h.length) ≡ Some c
+  pub under_holds : (d : Disk) (area : ℕ) (h : AreaHeader) (c : C) (o : Option AreaHeader) → o ≡ Some h → digest_of (body_of d area h.length) ≡ h.digest → reads (body_of d area h.length) ≡ Some c
       → copy_under reads d area o ≡ Some (record { serial = h.serial; area = area; body = Holds c })
   under_holds d area h c o is digest got =
       rw is (judged_holds area h (body_of d area h.length) c (reads (body_of d area h.length)) (bytes_eq (digest_of (body_of d area h.length)) h.digest) got (alike (digest_of (body_of d area h.length)) h.digest digest))

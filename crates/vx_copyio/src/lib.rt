@@ -4,8 +4,10 @@
 //! begins at block 512. Blocks are 512 bytes. What a body says is no matter here.
 #![tactic(auto)]
 
+mod copying;
 mod errors;
 mod labelling;
 
+pub use copying::{AREA_A, AREA_B, put_copy};
 pub use errors::refusal;
 pub use labelling::label;
