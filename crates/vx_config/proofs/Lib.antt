@@ -1,1 +1,7 @@
 pub mod PageLemmas
+pub mod ManyLemmas
+pub mod FormLaws
+pub mod TableLaws
+pub mod DecodeLemmas
+pub mod FitLemmas
+pub mod LengthLemmas

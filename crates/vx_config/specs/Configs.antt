@@ -6,6 +6,8 @@ use Rattle.vx_config.specs.declared.config.Config.{Config}
 use Rattle.vx_config.specs.declared.entry.PlexEntry.{PlexEntry}
 use Rattle.vx_config.specs.declared.entry.VolumeEntry.{VolumeEntry}
 use Rattle.vx_config.specs.declared.stop.ConfigStop.{ConfigStop}
+use Rattle.vx_config.specs.declared.wrong.Wrong.{Wrong}
+use Rattle.vx_config.specs.declared.wrong.Wrong.TheVariants.{Left, Memory}
 use Rattle.vx_config.specs.declared.stop.ConfigStop.TheVariants.{BadConfig, OutOfMemory}
 
 -- the bytes of a configuration
@@ -65,6 +67,11 @@ pub record IsRefused (at : ℕ) (bytes : List ℕ) : Type 0 where
 abbrev pub Stops : List ℕ → ConfigStop → Type 0
 Stops bytes (BadConfig at) = IsRefused at bytes
 Stops bytes OutOfMemory = Unit {0}
+
+-- what is answered where so many bytes are left from the first wrong field on
+abbrev pub stop_of : Wrong → ℕ → ConfigStop
+stop_of (Left left) len = BadConfig (len - left)
+stop_of Memory len = OutOfMemory
 
 -- what is read is this configuration, in so many bytes, unless memory ran out
 abbrev pub Reads : Result (Config × ℕ) ConfigStop → Config → ℕ → Type 0

@@ -1,5 +1,5 @@
 -- The table of a configuration's fields.
-use Rattle.std.specs.Prelude.{ℕ, ◌==◌, if◌then◌else◌, Bool, true, false, List, ◌++◌, length, Option, Some, None, is_some, Ok, Err}
+use Rattle.std.specs.Prelude.{◌≡◌, ℕ, ◌==◌, if◌then◌else◌, Bool, true, false, List, ◌++◌, length, Option, Some, None, is_some, Ok, Err}
 use Rattle.vx_model.specs.declared.site.PlexState.{PlexState}
 use Rattle.vx_model.specs.declared.site.PlexState.TheVariants.{Active, Clean, Stale}
 use Rattle.vx_model.specs.declared.units.Units.{Units}

@@ -1,12 +1,24 @@
 // From bytes to configurations.
 ghost use Rattle.std.specs.Prelude.{ℕ, List, ◌≡◌, ◌≤◌, ◌++◌, length, take, IfOk, IfErr};
-ghost use Rattle.vx_config.specs.Configs.{HasSpelling, IsSpelling, Stops, Reads, spelled};
+ghost use Rattle.vx_config.specs.Configs.{stop_of as stop_of_is, HasSpelling, IsSpelling, Stops, Reads, spelled};
 ghost use Rattle.vx_config.specs.declared.config.Config.{Config as ConfigValue};
 
 use crate::cursor::Cursor;
 use crate::reading::read_config;
 use crate::{Config, ConfigStop, Wrong};
 use std::alloc::Global;
+
+// What is answered where a field of so many bytes was not read.
+fn stop_of(wrong: Wrong, len: usize) -> ConfigStop
+    ensures { result ≡ stop_of_is wrong len }
+{
+    match wrong {
+        Wrong::Left(left) => ConfigStop::BadConfig {
+            at: len.saturating_sub(left),
+        },
+        Wrong::Memory => ConfigStop::OutOfMemory,
+    }
+}
 
 /// The configuration at the front of bytes, and how many bytes it has. What follows them is not looked at.
 pub fn decode(alloc: Global, bytes: &[u8]) -> Result<(Config, usize), ConfigStop>
@@ -21,9 +33,6 @@ pub fn decode(alloc: Global, bytes: &[u8]) -> Result<(Config, usize), ConfigStop
     let mut cursor = Cursor { left: bytes };
     match read_config(alloc, &mut cursor) {
         Ok(config) => Ok((config, bytes.len() - cursor.left.len())),
-        Err(Wrong::Left(left)) => Err(ConfigStop::BadConfig {
-            at: bytes.len() - left,
-        }),
-        Err(Wrong::Memory) => Err(ConfigStop::OutOfMemory),
+        Err(wrong) => Err(stop_of(wrong, bytes.len())),
     }
 }

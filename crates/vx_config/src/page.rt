@@ -51,10 +51,7 @@ impl Page {
     pub fn byte(&mut self, byte: u8)
         ensures { self.new ≡ onto self.old (byte ∷ []) }
     {
-        if self.len < ROOM {
-            self.bytes[self.len] = byte;
-            self.len += 1;
-        }
+        self.text(&[byte]);
     }
 
     /// Puts bytes behind the others.

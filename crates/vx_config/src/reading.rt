@@ -1,5 +1,6 @@
 // The parts of a configuration, read from the left.
-ghost use Rattle.vx_config.specs.Forms.{Gives, counted, where_flag, optional, number};
+ghost use Rattle.std.specs.Prelude.{◌≤◌};
+ghost use Rattle.vx_config.specs.Forms.{Gives, read_many, counted, where_flag, optional, number};
 ghost use Rattle.vx_config.specs.Table.{disk as disk_form, subdisk as subdisk_form, log as log_form, plex as plex_form, preferred as preferred_form, volume as volume_form, units as units_form, format_1, config as config_form};
 
 use crate::cursor::Cursor;
@@ -22,15 +23,23 @@ fn disk(cursor: &mut Cursor) -> Result<DiskEntry, Wrong>
     Ok(DiskEntry { blocks, failed })
 }
 
-fn disks(cursor: &mut Cursor) -> Result<Disks, Wrong>
-    ensures { Gives result cursor.new.left.now ((counted 1 8 disk_form).read cursor.old.left.now) }
+// So many disks.
+fn disks_of(cursor: &mut Cursor, count: u8) -> Result<Disks, Wrong>
+    requires { count ≤ 8 }
+    ensures { Gives result cursor.new.left.now (read_many disk_form count cursor.old.left.now) }
 {
-    let count = cursor.count(1, 8)?;
     let mut disks = Disks::new();
     for _ in 0..count {
         disks.push(disk(cursor)?);
     }
     Ok(disks)
+}
+
+fn disks(cursor: &mut Cursor) -> Result<Disks, Wrong>
+    ensures { Gives result cursor.new.left.now ((counted 1 8 disk_form).read cursor.old.left.now) }
+{
+    let count = cursor.count(1, 8)?;
+    disks_of(cursor, count)
 }
 
 #[tactic(auto, unfolding(crate::specs::Table::subdisk))]
@@ -47,15 +56,23 @@ fn subdisk(cursor: &mut Cursor) -> Result<Subdisk, Wrong>
     })
 }
 
-fn subdisks(alloc: Global, cursor: &mut Cursor) -> Result<Subdisks, Wrong>
-    ensures { Gives result cursor.new.left.now ((counted 0 255 subdisk_form).read cursor.old.left.now) }
+// So many subdisks.
+fn subdisks_of(alloc: Global, cursor: &mut Cursor, count: u8) -> Result<Subdisks, Wrong>
+    requires { count ≤ 255 }
+    ensures { Gives result cursor.new.left.now (read_many subdisk_form count cursor.old.left.now) }
 {
-    let count = cursor.count(0, 255)?;
     let mut subdisks = Subdisks::new(alloc);
     for _ in 0..count {
         subdisks.push(subdisk(cursor)?)?;
     }
     Ok(subdisks)
+}
+
+fn subdisks(alloc: Global, cursor: &mut Cursor) -> Result<Subdisks, Wrong>
+    ensures { Gives result cursor.new.left.now ((counted 0 255 subdisk_form).read cursor.old.left.now) }
+{
+    let count = cursor.count(0, 255)?;
+    subdisks_of(alloc, cursor, count)
 }
 
 #[tactic(auto, unfolding(crate::specs::Table::plex))]
@@ -72,15 +89,23 @@ fn plex(alloc: Global, cursor: &mut Cursor) -> Result<PlexEntry, Wrong>
     })
 }
 
-fn plexes(alloc: Global, cursor: &mut Cursor) -> Result<Plexes, Wrong>
-    ensures { Gives result cursor.new.left.now ((counted 0 255 plex_form).read cursor.old.left.now) }
+// So many plexes.
+fn plexes_of(alloc: Global, cursor: &mut Cursor, count: u8) -> Result<Plexes, Wrong>
+    requires { count ≤ 255 }
+    ensures { Gives result cursor.new.left.now (read_many plex_form count cursor.old.left.now) }
 {
-    let count = cursor.count(0, 255)?;
     let mut plexes = Plexes::new(alloc);
     for _ in 0..count {
         plexes.push(plex(alloc, cursor)?)?;
     }
     Ok(plexes)
+}
+
+fn plexes(alloc: Global, cursor: &mut Cursor) -> Result<Plexes, Wrong>
+    ensures { Gives result cursor.new.left.now ((counted 0 255 plex_form).read cursor.old.left.now) }
+{
+    let count = cursor.count(0, 255)?;
+    plexes_of(alloc, cursor, count)
 }
 
 #[tactic(auto, unfolding(crate::specs::Table::log))]
@@ -154,10 +179,11 @@ fn volume(alloc: Global, cursor: &mut Cursor) -> Result<VolumeEntry, Wrong>
     })
 }
 
-fn volumes(alloc: Global, cursor: &mut Cursor) -> Result<Volumes, Wrong>
-    ensures { Gives result cursor.new.left.now ((counted 0 32 volume_form).read cursor.old.left.now) }
+// So many volumes.
+fn volumes_of(alloc: Global, cursor: &mut Cursor, count: u8) -> Result<Volumes, Wrong>
+    requires { count ≤ 32 }
+    ensures { Gives result cursor.new.left.now (read_many volume_form count cursor.old.left.now) }
 {
-    let count = cursor.count(0, 32)?;
     let mut volumes = Volumes::new(alloc);
     for _ in 0..count {
         volumes.push(volume(alloc, cursor)?)?;
@@ -165,15 +191,30 @@ fn volumes(alloc: Global, cursor: &mut Cursor) -> Result<Volumes, Wrong>
     Ok(volumes)
 }
 
-fn numbers(cursor: &mut Cursor) -> Result<VolumeUnits, Wrong>
-    ensures { Gives result cursor.new.left.now ((counted 0 30 (number 1)).read cursor.old.left.now) }
+fn volumes(alloc: Global, cursor: &mut Cursor) -> Result<Volumes, Wrong>
+    ensures { Gives result cursor.new.left.now ((counted 0 32 volume_form).read cursor.old.left.now) }
 {
-    let count = cursor.count(0, 30)?;
+    let count = cursor.count(0, 32)?;
+    volumes_of(alloc, cursor, count)
+}
+
+// So many numbers of volumes.
+fn numbers_of(cursor: &mut Cursor, count: u8) -> Result<VolumeUnits, Wrong>
+    requires { count ≤ 30 }
+    ensures { Gives result cursor.new.left.now (read_many (number 1) count cursor.old.left.now) }
+{
     let mut numbers = VolumeUnits::new();
     for _ in 0..count {
         numbers.push(u32::from(cursor.u8()?));
     }
     Ok(numbers)
+}
+
+fn numbers(cursor: &mut Cursor) -> Result<VolumeUnits, Wrong>
+    ensures { Gives result cursor.new.left.now ((counted 0 30 (number 1)).read cursor.old.left.now) }
+{
+    let count = cursor.count(0, 30)?;
+    numbers_of(cursor, count)
 }
 
 #[tactic(auto, unfolding(crate::specs::Table::units))]

@@ -1,0 +1,5 @@
+use Rattle.vx_config.proofs.LengthLemmas.{length-spelled}
+use Rattle.vx_config.proofs.encoding.is_short.Goals as goal
+
+pub returns : goal.returns
+returns c = length-spelled c.args.config.now c.config_fits.ensures c.requires.few

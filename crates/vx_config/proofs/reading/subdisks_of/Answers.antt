@@ -1,0 +1,26 @@
+use Rattle.std.proofs.Common.{◌∷◌, [], length, length-append, arith}
+use Rattle.std.proofs.lemmas.Result.{err_from_is_err_and}
+use Rattle.vx_config.specs.Forms.{read_many}
+use Rattle.vx_config.specs.Table.{subdisk}
+use Rattle.vx_config.proofs.ManyLemmas.{begins, goes_on, ends, is_done}
+use Rattle.vx_config.proofs.reading.subdisks_of.Goals as goal
+
+pub loop-init : goal.loop-init
+loop-init c = rw c.new-subdisks.ensures record {
+  so_far = begins subdisk c.args.count c.args.cursor.now.left.now;
+  len = omega arith;
+}
+
+pub returns-in_err-subdisk : goal.returns-in_err-subdisk
+returns-in_err-subdisk c =
+    let p = err_from_is_err_and c.from_residual.result c.from_residual.ensures.1 in
+    rw (p.1, p.2) (ends subdisk c.in_err-subdisk.field-0.0 c.loop.subdisks c.args.count c.loop.counter c.loop.cursor.left.now c.subdisk.new.cursor.left.now (read_many subdisk c.args.count c.args.cursor.now.left.now) c.loop-test.true c.in_err-subdisk.ensures c.loop.invariant.so_far)
+
+pub loop-preserved : goal.loop-preserved
+loop-preserved c = rw c.in_ok-push.ensures record {
+  so_far = goes_on subdisk c.loop.subdisks c.args.count c.loop.counter c.loop.cursor.left.now c.in_ok-subdisk.field-0 c.subdisk.new.cursor.left.now (read_many subdisk c.args.count c.args.cursor.now.left.now) c.loop-test.true c.in_ok-subdisk.ensures c.loop.invariant.so_far;
+  len = omega (arith, length-append c.loop.subdisks (c.in_ok-subdisk.field-0 ∷ []), c.loop.invariant.len);
+}
+
+pub returns : goal.returns
+returns c = is_done subdisk c.loop.subdisks c.args.count c.loop.counter c.loop.cursor.left.now (read_many subdisk c.args.count c.args.cursor.now.left.now) c.loop-test.false c.loop.invariant.so_far
