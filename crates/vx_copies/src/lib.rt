@@ -1,0 +1,10 @@
+//! Commits and imports: the configuration of a group as its disks keep it.
+//!
+//! Block 0 of a disk is its label, blocks 1 to 128 and 129 to 256 are the two configuration areas, and the public region
+//! begins at block 512. Blocks are 512 bytes.
+#![tactic(auto)]
+
+mod area;
+mod body;
+
+pub use vx_copyio::label;
