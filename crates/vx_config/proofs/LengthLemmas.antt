@@ -4,6 +4,7 @@ use Rattle.std.specs.Prelude.{flat_map, sum_by, is_some}
 use Rattle.std.specs.List.{AllByRecursion}
 use Rattle.std.proofs.lemmas.List.{length-append}
 use Rattle.std.proofs.lemmas.List.Concat.{flat_map-cons}
+use Rattle.std.proofs.lemmas.List.Sums.{sum_by-cons}
 use Rattle.vx_model.specs.declared.units.Units.{Units}
 use Rattle.vx_wire.specs.Fields.{name_bytes}
 use Rattle.vx_wire.specs.Numbers.{be_bytes}
@@ -64,7 +65,7 @@ length-plexes : (ps : List PlexEntry) → length (flat_map plex.spell ps) ≡ 3 
 length-plexes [] = omega arith
 length-plexes (p ∷ ps) =
     let here : length (flat_map plex.spell (p ∷ ps)) ≡ length (plex.spell p ++ flat_map plex.spell ps) = ap length (flat_map-cons plex.spell p ps) in
-    omega (arith, here, length-append (plex.spell p) (flat_map plex.spell ps), length-plex p, length-plexes ps)
+    omega (arith, here, length-append (plex.spell p) (flat_map plex.spell ps), length-plex p, length-plexes ps, sum_by-cons plex_subdisks p ps)
 
 length-ways : (w : Ways) → length (ways.spell w) ≤ 42
 unfolding ways
@@ -98,7 +99,7 @@ length-volumes : (vs : List VolumeEntry) → AllByRecursion volume.Fits vs → l
 length-volumes [] fits = omega arith
 length-volumes (v ∷ vs) fits =
     let here : length (flat_map volume.spell (v ∷ vs)) ≡ length (volume.spell v ++ flat_map volume.spell vs) = ap length (flat_map-cons volume.spell v vs) in
-    omega (arith, here, length-append (volume.spell v) (flat_map volume.spell vs), length-volume v fits.0, length-volumes vs fits.1)
+    omega (arith, here, length-append (volume.spell v) (flat_map volume.spell vs), length-volume v fits.0, length-volumes vs fits.1, sum_by-cons volume_subdisks v vs)
 
 length-units : (u : Units) → units.Fits u → length (units.spell u) ≤ 33
 unfolding units

@@ -5,3 +5,4 @@ pub mod TableLaws
 pub mod DecodeLemmas
 pub mod FitLemmas
 pub mod LengthLemmas
+pub mod CountLemmas

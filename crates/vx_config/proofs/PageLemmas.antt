@@ -25,6 +25,11 @@ pub onto-onto : (x a b : List ℕ) → onto (onto x a) b ≡ onto x (a ++ b)
 unfolding onto
 onto-onto x a b = cut-cut room (x ++ a) b ∙ ap (take room) (append_assoc x a b)
 
+-- what is put first
+pub onto-nothing : (text : List ℕ) → length text ≤ room → onto [] text ≡ text
+unfolding onto
+onto-nothing text short = take_all room text short
+
 pub ruleset joined = (onto-onto, append_assoc)
 
 -- the first m and then the next n

@@ -1,5 +1,5 @@
 -- A configuration as bytes.
-use Rattle.std.specs.Prelude.{◌≡◌, ℕ, ◌+◌, ◌-◌, ◌<◌, ◌≤◌, ◌^◌, List, ◌++◌, length, All, IfSome, Ok, Err, Result, sum_by, take}
+use Rattle.std.specs.Prelude.{◌≡◌, ℕ, ◌+◌, ◌-◌, ◌<◌, ◌≤◌, ◌^◌, List, ◌++◌, length, All, IfSome, Ok, Err, Result, Option, Some, None, nat_le, if◌then◌else◌, sum_by, take}
 use Rattle.vx_model.specs.declared.units.Units.{Units}
 use Rattle.vx_config.specs.Table.{config, greatest}
 use Rattle.vx_config.specs.declared.config.Config.{Config}
@@ -57,6 +57,10 @@ volume_subdisks v = sum_by plex_subdisks v.plexes
 -- the subdisks of all plexes
 abbrev pub subdisk_count : Config → ℕ
 subdisk_count c = sum_by volume_subdisks c.volumes
+
+-- what is left of room for so many
+abbrev pub left_of : ℕ → ℕ → Option ℕ
+left_of room n = if nat_le n room then Some (room - n) else None
 
 -- what a refusal to read says, where memory did not run out: no front of the bytes is a configuration, and where the
 -- first wrong field is

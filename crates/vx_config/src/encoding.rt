@@ -45,8 +45,9 @@ pub fn encode_into(config: &Config, into: &mut [u8]) -> usize
     is_short(config);
     config_fits(config);
     let page = page_of(config);
-    put_bytes(into, 0, page.as_slice());
-    page.as_slice().len()
+    let bytes = page.as_slice();
+    put_bytes(into, 0, bytes);
+    bytes.len()
 }
 
 /// A configuration of up to 1,024 subdisks has at most 65,024 bytes, which is the room of an area.

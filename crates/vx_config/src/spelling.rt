@@ -204,9 +204,9 @@ fn put_format_1(page: &mut Page, config: &Config)
     put_group(page, &config.rvg);
 }
 
-/// A page with the bytes of a configuration.
+// A page with the bytes of a configuration, as far as there is room.
 #[tactic(auto, unfolding(crate::specs::Configs::spelled, crate::specs::Table::config), using(crate::proofs::PageLemmas::joined))]
-pub fn page_of(config: &Config) -> Page
+fn cut_page(config: &Config) -> Page
     requires { CanSpell config.now }
     ensures { result ≡ onto [] (spelled config.now) }
 {
@@ -214,4 +214,13 @@ pub fn page_of(config: &Config) -> Page
     page.u32(VERSION);
     put_format_1(&mut page, config);
     page
+}
+
+/// A page with the bytes of a configuration, for which there is room.
+pub fn page_of(config: &Config) -> Page
+    requires can { CanSpell config.now }
+    requires short { length (spelled config.now) ≤ 65024 }
+    ensures { result ≡ spelled config.now }
+{
+    cut_page(config)
 }
