@@ -6,5 +6,9 @@
 
 mod area;
 mod body;
+mod look;
+mod seen;
+
+use seen::{AreaSeen, BodySeen, CopySeen, DiskSeen};
 
 pub use vx_copyio::label;
