@@ -37,10 +37,10 @@ pub still_read : (old new : Meaning) → StillUp old new → (u b : ℕ) (v : Li
 still_read old new still u b v is =
     ⊎_elim (λ or. ⊎_elim (λ was. was) (λ none. absurd none) or) (λ down. absurd (still.up down)) (still.goes.reads u b v is)
 
-shelf_same : (old new : Meaning) → StillUp old new → (bytes : List ℕ) → on_shelf new bytes ≡ on_shelf old bytes
+pub shelf_same : (old new : Meaning) → StillUp old new → (bytes : List ℕ) → on_shelf new bytes ≡ on_shelf old bytes
 shelf_same old new still bytes = reads-same new.units old.units new.size old.size bytes still.goes.units still.goes.size
 
-told_still : (old new : Meaning) → StillUp old new → IsTrue old.tells → IsTrue new.tells
+pub told_still : (old new : Meaning) → StillUp old new → IsTrue old.tells → IsTrue new.tells
 told_still old new still tells = subst (λ (t : Bool). IsTrue t) (sym still.goes.tells) tells
 
 -- copies by two ways of reading that agree
@@ -59,7 +59,7 @@ module _ (r s : List ℕ → Option Config) (same : (bytes : List ℕ) → r byt
   of_same d = ap (λ (o : Option (Copy Config)). greater o (copy_at r d area_b)) (at_same d area_a) ∙ ap (greater (copy_at s d area_a)) (at_same d area_b)
 
 -- some value that reads give
-abbrev filler : (m : Meaning) → Lawful m → (u b : ℕ) (t : Bool) → m.tells ≡ t → List ℕ
+abbrev pub filler : (m : Meaning) → Lawful m → (u b : ℕ) (t : Bool) → m.tells ≡ t → List ℕ
 filler m lawful u b true tells = (lawful.some tells u b).0
 filler m lawful u b false tells = []
 
@@ -67,10 +67,10 @@ filler_read : (m : Meaning) (lawful : Lawful m) (u b : ℕ) (t : Bool) (is : m.t
 filler_read m lawful u b true is tells = (lawful.some is u b).1
 filler_read m lawful u b false is tells = let clash : true ≡ false = sym tells ∙ is in absurd cc
 
-abbrev fill : (m : Meaning) → Lawful m → ℕ → Disk
+abbrev pub fill : (m : Meaning) → Lawful m → ℕ → Disk
 fill m lawful u b = filler m lawful u b m.tells refl
 
-fill_read : (m : Meaning) (lawful : Lawful m) (u b : ℕ) → IsTrue m.tells → m.reads u b (fill m lawful u b)
+pub fill_read : (m : Meaning) (lawful : Lawful m) (u b : ℕ) → IsTrue m.tells → m.reads u b (fill m lawful u b)
 fill_read m lawful u b tells = filler_read m lawful u b m.tells refl tells
 
 -- what a read of one block gave

@@ -1,5 +1,5 @@
 -- Which bodies are configurations of the disks of a shelf.
-use Rattle.std.specs.Prelude.{ℕ, suc, ◌+◌, ◌*◌, Bool, true, false, not, ◌&&◌, ◌==◌, if◌then◌else◌, Option, Some, None, Result, Ok, Err, List, [], ◌∷◌, length, map, slice_index_or}
+use Rattle.std.specs.Prelude.{ℕ, ◌+◌, ◌≤◌, Bool, true, false, ◌&&◌, ◌==◌, if◌then◌else◌, Option, Some, None, Result, Ok, Err, List, [], ◌∷◌, length, map, slice_index_or}
 use Rattle.vx_config.specs.Checks.{is_sound}
 use Rattle.vx_config.specs.Table.{config}
 use Rattle.vx_config.specs.declared.config.Config.{Config}
@@ -35,3 +35,8 @@ reads_in units size bytes = if_wanted units size (alone (config.read bytes))
 -- whether it holds a disk as failed
 abbrev pub failed_in : Config → ℕ → Bool
 failed_in c disk = slice_index_or (map (λ d. d.failed) c.disks) disk false
+
+-- a configuration that was read has at most 8 disks
+abbrev pub HasFewDisks : Option Config → Type 0
+HasFewDisks None = Unit {0}
+HasFewDisks (Some c) = length c.disks ≤ 8

@@ -25,9 +25,9 @@ abbrev pub copy_view : Option CopySeen → Option (Copy Config)
 copy_view None = None
 copy_view (Some x) = Some (record { serial = x.serial; area = x.area; body = body_view x.body })
 
--- a configuration that was seen has as many disks as there are units
+-- a configuration that was seen has as many disks as there are units, and at most 8
 abbrev pub FitsBody : ℕ → BodySeen → Type 0
-FitsBody units (body.Holds c) = length c.disks ≡ units
+FitsBody units (body.Holds c) = (length c.disks ≡ units) × (length c.disks ≤ 8)
 FitsBody units (body.Differs stored computed) = Unit {0}
 
 abbrev pub Fits : ℕ → Option CopySeen → Type 0

@@ -1,6 +1,6 @@
 // The bodies of copies.
-ghost use Rattle.std.specs.Prelude.{◌≡◌, length, IfOk};
-ghost use Rattle.vx_copies.specs.Bodies.{fits_units, is_wanted, reads_in};
+ghost use Rattle.std.specs.Prelude.{◌≡◌, ◌≤◌, length, IfOk, IsTrue};
+ghost use Rattle.vx_copies.specs.Bodies.{HasFewDisks, fits_units, is_wanted, reads_in};
 
 use std::alloc::Global;
 use vx_config::{Config, ConfigStop, check, decode};
@@ -9,7 +9,8 @@ use vx_model::OutOfMemory;
 
 // Whether a configuration has as many disks as there are units, each with its unit's blocks.
 fn fits_units<S: Shelf>(shelf: &S, config: &Config) -> bool
-    ensures { result ≡ fits_units (S.meaning shelf.now).units (S.meaning shelf.now).size config.now }
+    ensures fits { result ≡ fits_units (S.meaning shelf.now).units (S.meaning shelf.now).size config.now }
+    ensures few { length config.now.disks ≤ 8 }
 {
     let disks = config.disks.as_slice();
     if disks.len() != shelf.units() as usize {
@@ -25,7 +26,8 @@ fn fits_units<S: Shelf>(shelf: &S, config: &Config) -> bool
 
 // Whether a configuration is sound, and is one of these units.
 fn is_wanted<S: Shelf>(shelf: &S, config: &Config) -> bool
-    ensures { result ≡ is_wanted (S.meaning shelf.now).units (S.meaning shelf.now).size config.now }
+    ensures wanted { result ≡ is_wanted (S.meaning shelf.now).units (S.meaning shelf.now).size config.now }
+    ensures few { IsTrue result → length config.now.disks ≤ 8 }
 {
     check(config) && fits_units(shelf, config)
 }
@@ -36,7 +38,8 @@ pub fn read_body<S: Shelf>(
     shelf: &S,
     body: &[u8],
 ) -> Result<Option<Config>, OutOfMemory>
-    ensures { IfOk result (λ found. found ≡ reads_in (S.meaning shelf.now).units (S.meaning shelf.now).size body.now) }
+    ensures found { IfOk result (λ found. found ≡ reads_in (S.meaning shelf.now).units (S.meaning shelf.now).size body.now) }
+    ensures few { IfOk result HasFewDisks }
 {
     match decode(alloc, body) {
         Ok((config, length)) => {

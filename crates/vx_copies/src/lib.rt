@@ -6,9 +6,13 @@
 
 mod area;
 mod body;
+mod importing;
 mod look;
+mod search;
 mod seen;
+mod settle;
 
 use seen::{AreaSeen, BodySeen, CopySeen, DiskSeen};
 
+pub use importing::import;
 pub use vx_copyio::label;
