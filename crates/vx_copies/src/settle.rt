@@ -16,7 +16,8 @@ fn lowest_missing(config: &Config, readable: &[bool; 8]) -> Option<u32>
 {
     let disks = config.disks.as_slice();
     for k in 0..disks.len() {
-        if !disks[k].failed && !readable[k] {
+        let disk = disks[k];
+        if !disk.failed && !readable[k] {
             return Some(k as u32);
         }
     }
@@ -30,8 +31,8 @@ fn good_of(disks: &Disks) -> u8
     let disks = disks.as_slice();
     let mut good = 0;
     for k in 0..disks.len() {
-        let bit = if disks[disks.len() - 1 - k].failed { 0 } else { 1 };
-        good = 2 * good + bit;
+        let disk = disks[disks.len() - 1 - k];
+        good = 2 * good + if disk.failed { 0 } else { 1 };
     }
     good
 }
@@ -43,9 +44,10 @@ fn returned_disks(disks: &Disks, readable: &[bool; 8]) -> Disks
     let old = disks.as_slice();
     let mut disks = Disks::new();
     for k in 0..old.len() {
+        let disk = old[k];
         disks.push(DiskEntry {
-            blocks: old[k].blocks,
-            failed: old[k].failed && !readable[k],
+            blocks: disk.blocks,
+            failed: disk.failed && !readable[k],
         });
     }
     disks
@@ -77,6 +79,7 @@ pub fn concluded(search: Search, units: u32) -> Result<(Config, u8), No>
     requires fits { FitsBest units search.best }
     ensures { result ≡ answer_of (flag_at search.readable) (by_labels search.format (by_newest failed_in units (flag_at search.readable) (best_view search.best))) }
 {
+    let readable = search.readable;
     if let Some(version) = search.format {
         return Err(No::Format { version });
     }
@@ -85,7 +88,7 @@ pub fn concluded(search: Search, units: u32) -> Result<(Config, u8), No>
         Some(best) => {
             let (unit, block) = (best.disk, best.copy.area + 1);
             match best.copy.body {
-                BodySeen::Holds(config) => settled(config, &search.readable),
+                BodySeen::Holds(config) => settled(config, &readable),
                 BodySeen::Differs { stored, computed } => Err(No::Damaged {
                     unit,
                     block,
