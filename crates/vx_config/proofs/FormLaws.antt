@@ -122,8 +122,8 @@ within-IsForm w least most = record {
   stops = λ bytes left h e.
       let test : ℕ × List ℕ → Reading ℕ = λ n. if nat_le least n.0 && nat_le n.0 most then Ok n else Err (length bytes) in
       bind_err ((number w).read bytes) test left (left ≤ length bytes) e
-        (λ first. (number-IsForm w).stops bytes left h first)
-        (λ n ne second. test_err (nat_le least n.0 && nat_le n.0 most) (length bytes) left (Ok n) (left ≤ length bytes) second (λ k. omega arith) (λ t wrong. absurd cc));
+      (λ first. (number-IsForm w).stops bytes left h first)
+      (λ n ne second. test_err (nat_le least n.0 && nat_le n.0 most) (length bytes) left (Ok n) (left ≤ length bytes) second (λ k. omega arith) (λ t wrong. absurd cc));
 }
 
 -- a code is below 256, is read as its value, and is the only one that is
@@ -156,8 +156,8 @@ coded-IsForm {A} code of is = record {
   stops = λ bytes left h e.
       let choose : ℕ × List ℕ → Reading A = λ n. coded_or (length bytes) n.1 (of n.0) in
       bind_err ((number 1).read bytes) choose left (left ≤ length bytes) e
-        (λ first. (number-IsForm 1).stops bytes left h first)
-        (λ n ne second. let k : length bytes ≡ left = coded_err (length bytes) left n.1 (of n.0) second in omega arith);
+      (λ first. (number-IsForm 1).stops bytes left h first)
+      (λ n ne second. let k : length bytes ≡ left = coded_err (length bytes) left n.1 (of n.0) second in omega arith);
 }
 
 -- which way a choice went
@@ -190,6 +190,7 @@ flag-IsCode = record {
   flag_small : (a : Bool) → flag_code a < 256
   flag_small false = omega arith
   flag_small true = omega arith
+
   flag_read : (a : Bool) → flag_of (flag_code a) ≡ Some a
   flag_read false = refl
   flag_read true = refl
@@ -210,9 +211,9 @@ name-test n rest e =
     let few : n ≤ 8 = ltb-false 8 n first.1 in
     let long : n ≤ length rest = ltb-false (length rest) n last.1 in
     (above n some, (few, long)) where
-  above : (n : ℕ) → (n ≡ 0 → ⊥) → 0 < n
-  above zero h = absurd (h refl)
-  above (suc n) h = omega arith
+      above : (n : ℕ) → (n ≡ 0 → ⊥) → 0 < n
+      above zero h = absurd (h refl)
+      above (suc n) h = omega arith
 
 name-takes : (bytes : List ℕ) (x : List ℕ × List ℕ) → AreBytes bytes → read_name bytes ≡ Ok x → Takes bytes (name_bytes x.0) x.1 × ((0 < length x.0) × (length x.0 ≤ 8))
 name-takes [] x h e = absurd cc
@@ -273,13 +274,13 @@ pair-IsForm {A} {B} f g is_f is_g = record {
   stops = λ bytes left h e.
       let more : A × List ℕ → Reading (A × B) = λ a. g.read a.1 >>= λ b. Ok ((a.0, b.0), b.1) in
       bind_err (f.read bytes) more left (left ≤ length bytes) e
-        (λ first. is_f.stops bytes left h first)
-        (λ a ae second.
-          let taken : Takes bytes (f.spell a.0) a.1 = (is_f.takes bytes a h ae).0 in
-          let join : B × List ℕ → Reading (A × B) = λ b. Ok ((a.0, b.0), b.1) in
-          bind_err (g.read a.1) join left (left ≤ length bytes) second
-            (λ wrong. let inside : left ≤ length a.1 = is_g.stops a.1 left taken.behind wrong in omega (arith, Takes-shorter bytes (f.spell a.0) a.1 taken))
-            (λ b be none. absurd cc));
+      (λ first. is_f.stops bytes left h first)
+      (λ a ae second.
+      let taken : Takes bytes (f.spell a.0) a.1 = (is_f.takes bytes a h ae).0 in
+      let join : B × List ℕ → Reading (A × B) = λ b. Ok ((a.0, b.0), b.1) in
+      bind_err (g.read a.1) join left (left ≤ length bytes) second
+      (λ wrong. let inside : left ≤ length a.1 = is_g.stops a.1 left taken.behind wrong in omega (arith, Takes-shorter bytes (f.spell a.0) a.1 taken))
+      (λ b be none. absurd cc));
 }
 
 pub made_of-IsForm : {A B : Type 0} (make : A → B) (parts : B → A) (form : Form A) → ((a : A) → parts (make a) ≡ a) → ((b : B) → make (parts b) ≡ b) → IsForm form → IsForm (made_of make parts form)
@@ -322,11 +323,11 @@ keyed-IsForm {K} {A} key first form is_first is_form tells = record {
   stops = λ bytes left h e.
       let more : K × List ℕ → Reading A = λ k. (form k.0).read k.1 in
       bind_err (first.read bytes) more left (left ≤ length bytes) e
-        (λ wrong. is_first.stops bytes left h wrong)
-        (λ k ke wrong.
-          let taken : Takes bytes (first.spell k.0) k.1 = (is_first.takes bytes k h ke).0 in
-          let inside : left ≤ length k.1 = (is_form k.0).stops k.1 left taken.behind wrong in
-          omega (arith, Takes-shorter bytes (first.spell k.0) k.1 taken));
+      (λ wrong. is_first.stops bytes left h wrong)
+      (λ k ke wrong.
+      let taken : Takes bytes (first.spell k.0) k.1 = (is_first.takes bytes k h ke).0 in
+      let inside : left ≤ length k.1 = (is_form k.0).stops k.1 left taken.behind wrong in
+      omega (arith, Takes-shorter bytes (first.spell k.0) k.1 taken));
 }
 
 -- ---- many values
@@ -336,7 +337,7 @@ many-takes : {A : Type 0} (form : Form A) → IsForm form → (n : ℕ) (bytes :
 unfolding read_many
 many-takes {A} form is zero bytes x h e =
     subst (λ (y : List A × List ℕ). Takes bytes (flat_map form.spell y.0) y.1 × ((length y.0 ≡ 0) × AllByRecursion form.Fits y.0)) (ok_is ([], bytes) x e)
-      (record { parts = refl; behind = h }, (refl, tt))
+    (record { parts = refl; behind = h }, (refl, tt))
 many-takes {A} form is (suc n) bytes x h e =
     let more : A × List ℕ → Reading (List A) = λ a. read_many form n a.1 >>= λ xs. Ok (a.0 ∷ xs.0, xs.1) in
     let one = bind_ok (form.read bytes) more x e in
@@ -368,13 +369,13 @@ many-stops form is zero bytes left h e = absurd cc
 many-stops {A} form is (suc n) bytes left h e =
     let more : A × List ℕ → Reading (List A) = λ a. read_many form n a.1 >>= λ xs. Ok (a.0 ∷ xs.0, xs.1) in
     bind_err (form.read bytes) more left (left ≤ length bytes) e
-      (λ wrong. is.stops bytes left h wrong)
-      (λ a ae second.
-        let taken : Takes bytes (form.spell a.0) a.1 = (is.takes bytes a h ae).0 in
-        let join : List A × List ℕ → Reading (List A) = λ xs. Ok (a.0 ∷ xs.0, xs.1) in
-        bind_err (read_many form n a.1) join left (left ≤ length bytes) second
-          (λ wrong. let inside : left ≤ length a.1 = many-stops form is n a.1 left taken.behind wrong in omega (arith, Takes-shorter bytes (form.spell a.0) a.1 taken))
-          (λ xs xse wrong. absurd cc))
+    (λ wrong. is.stops bytes left h wrong)
+    (λ a ae second.
+    let taken : Takes bytes (form.spell a.0) a.1 = (is.takes bytes a h ae).0 in
+    let join : List A × List ℕ → Reading (List A) = λ xs. Ok (a.0 ∷ xs.0, xs.1) in
+    bind_err (read_many form n a.1) join left (left ≤ length bytes) second
+    (λ wrong. let inside : left ≤ length a.1 = many-stops form is n a.1 left taken.behind wrong in omega (arith, Takes-shorter bytes (form.spell a.0) a.1 taken))
+    (λ xs xse wrong. absurd cc))
 
 pub counted-IsForm : {A : Type 0} (least most : ℕ) (form : Form A) → most ≤ 255 → IsForm form → IsForm (counted least most form)
 counted-IsForm {A} least most form few is = record {
@@ -398,11 +399,11 @@ counted-IsForm {A} least most form few is = record {
   stops = λ bytes left h e.
       let more : ℕ × List ℕ → Reading (List A) = λ n. read_many form n.0 n.1 in
       bind_err ((within 1 least most).read bytes) more left (left ≤ length bytes) e
-        (λ wrong. (within-IsForm 1 least most).stops bytes left h wrong)
-        (λ n ne wrong.
-          let taken : Takes bytes (be_bytes 1 n.0) n.1 = ((within-IsForm 1 least most).takes bytes n h ne).0 in
-          let inside : left ≤ length n.1 = many-stops form is n.0 n.1 left taken.behind wrong in
-          omega (arith, Takes-shorter bytes (be_bytes 1 n.0) n.1 taken));
+      (λ wrong. (within-IsForm 1 least most).stops bytes left h wrong)
+      (λ n ne wrong.
+      let taken : Takes bytes (be_bytes 1 n.0) n.1 = ((within-IsForm 1 least most).takes bytes n h ne).0 in
+      let inside : left ≤ length n.1 = many-stops form is n.0 n.1 left taken.behind wrong in
+      omega (arith, Takes-shorter bytes (be_bytes 1 n.0) n.1 taken));
 }
 
 -- ---- values behind a flag
@@ -421,14 +422,14 @@ if-takes : {A : Type 0} (form : Form A) → IsForm form → (b : Bool) (bytes : 
     → Takes bytes (behind_flag form x.0) x.1 × ((b ≡ is_some x.0) × FitsIf form x.0)
 if-takes {A} form is false bytes x h e =
     subst (λ (y : Option A × List ℕ). Takes bytes (behind_flag form y.0) y.1 × ((false ≡ is_some y.0) × FitsIf form y.0)) (ok_is (None, bytes) x e)
-      (record { parts = refl; behind = h }, (refl, tt))
+    (record { parts = refl; behind = h }, (refl, tt))
 if-takes {A} form is true bytes x h e =
     let join : A × List ℕ → Reading (Option A) = λ a. Ok (Some a.0, a.1) in
     let one = bind_ok (form.read bytes) join x e in
     let a : A × List ℕ = one.0 in
     let taken = is.takes bytes a h one.1 in
     subst (λ (y : Option A × List ℕ). Takes bytes (behind_flag form y.0) y.1 × ((true ≡ is_some y.0) × FitsIf form y.0)) (ok_is (Some a.0, a.1) x one.2)
-      (taken.0, (refl, taken.1))
+    (taken.0, (refl, taken.1))
 
 if-again : {A : Type 0} (form : Form A) → IsForm form → (o : Option A) (rest : List ℕ) → FitsIf form o → read_if form (is_some o) (behind_flag form o ++ rest) ≡ Ok (o, rest)
 if-again form is None rest fits = refl
@@ -462,11 +463,11 @@ optional-IsForm {A} form is = record {
   stops = λ bytes left h e.
       let more : Bool × List ℕ → Reading (Option A) = λ found. read_if form found.0 found.1 in
       bind_err (flag.read bytes) more left (left ≤ length bytes) e
-        (λ wrong. flag-IsForm.stops bytes left h wrong)
-        (λ b be wrong.
-          let taken : Takes bytes (flag.spell b.0) b.1 = (flag-IsForm.takes bytes b h be).0 in
-          let inside : left ≤ length b.1 = if-stops form is b.0 b.1 left taken.behind wrong in
-          omega (arith, Takes-shorter bytes (flag.spell b.0) b.1 taken));
+      (λ wrong. flag-IsForm.stops bytes left h wrong)
+      (λ b be wrong.
+      let taken : Takes bytes (flag.spell b.0) b.1 = (flag-IsForm.takes bytes b h be).0 in
+      let inside : left ≤ length b.1 = if-stops form is b.0 b.1 left taken.behind wrong in
+      omega (arith, Takes-shorter bytes (flag.spell b.0) b.1 taken));
 }
 
 same_flag-is : (a b : Bool) → same_flag a b ≡ true → b ≡ a
@@ -502,10 +503,10 @@ where_flag-IsForm {A} form wanted is = record {
   stops = λ bytes left h e.
       let more : Bool × List ℕ → Reading (Option A) = λ found. if same_flag wanted found.0 then read_if form found.0 found.1 else Err (length bytes) in
       bind_err (flag.read bytes) more left (left ≤ length bytes) e
-        (λ wrong. flag-IsForm.stops bytes left h wrong)
-        (λ b be second.
-          let taken : Takes bytes (flag.spell b.0) b.1 = (flag-IsForm.takes bytes b h be).0 in
-          test_err (same_flag wanted b.0) (length bytes) left (read_if form b.0 b.1) (left ≤ length bytes) second
-            (λ k. omega arith)
-            (λ t wrong. let inside : left ≤ length b.1 = if-stops form is b.0 b.1 left taken.behind wrong in omega (arith, Takes-shorter bytes (flag.spell b.0) b.1 taken)));
+      (λ wrong. flag-IsForm.stops bytes left h wrong)
+      (λ b be second.
+      let taken : Takes bytes (flag.spell b.0) b.1 = (flag-IsForm.takes bytes b h be).0 in
+      test_err (same_flag wanted b.0) (length bytes) left (read_if form b.0 b.1) (left ≤ length bytes) second
+      (λ k. omega arith)
+      (λ t wrong. let inside : left ≤ length b.1 = if-stops form is b.0 b.1 left taken.behind wrong in omega (arith, Takes-shorter bytes (flag.spell b.0) b.1 taken)));
 }

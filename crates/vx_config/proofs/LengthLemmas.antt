@@ -42,8 +42,16 @@ length-subdisk s =
 length-log : (l : LogEntry) → length (log.spell l) ≡ 18
 unfolding log
 length-log l =
-    omega (arith, length-append (flag.spell l.lost) (be_bytes 1 l.disk ++ (be_bytes 8 l.start ++ be_bytes 8 l.blocks)), length-append (be_bytes 1 l.disk) (be_bytes 8 l.start ++ be_bytes 8 l.blocks),
-      length-append (be_bytes 8 l.start) (be_bytes 8 l.blocks), length-flag l.lost, length-be_bytes 1 l.disk, length-be_bytes 8 l.start, length-be_bytes 8 l.blocks)
+    omega (
+      arith,
+      length-append (flag.spell l.lost) (be_bytes 1 l.disk ++ (be_bytes 8 l.start ++ be_bytes 8 l.blocks)),
+      length-append (be_bytes 1 l.disk) (be_bytes 8 l.start ++ be_bytes 8 l.blocks),
+      length-append (be_bytes 8 l.start) (be_bytes 8 l.blocks),
+      length-flag l.lost,
+      length-be_bytes 1 l.disk,
+      length-be_bytes 8 l.start,
+      length-be_bytes 8 l.blocks,
+    )
 
 length-log_if : (o : Option LogEntry) → length (spell_if log o) ≤ 19
 length-log_if None = omega (arith, length-be_bytes 1 0)
@@ -58,8 +66,16 @@ unfolding plex
 length-plex p =
     let subs : List ℕ = flat_map subdisk.spell p.subdisks in
     let count : List ℕ = be_bytes 1 (length p.subdisks) in
-    omega (arith, length-append (state.spell p.state) (flag.spell p.whole ++ (count ++ subs)), length-append (flag.spell p.whole) (count ++ subs), length-append count subs,
-      length-state p, length-flag p.whole, length-be_bytes 1 (length p.subdisks), length-many subdisk 17 length-subdisk p.subdisks)
+    omega (
+      arith,
+      length-append (state.spell p.state) (flag.spell p.whole ++ (count ++ subs)),
+      length-append (flag.spell p.whole) (count ++ subs),
+      length-append count subs,
+      length-state p,
+      length-flag p.whole,
+      length-be_bytes 1 (length p.subdisks),
+      length-many subdisk 17 length-subdisk p.subdisks,
+    )
 
 length-plexes : (ps : List PlexEntry) → length (flat_map plex.spell ps) ≡ 3 * length ps + 17 * sum_by plex_subdisks ps
 length-plexes [] = omega arith
@@ -75,8 +91,20 @@ length-ways w =
     let policy : List ℕ = flag.spell (is_some w.0) in
     let fmr : List ℕ = flag.spell (is_some w.1.1) in
     let drl : List ℕ = flag.spell (is_some w.1.0) in
-    omega (arith, length-append (drl ++ (fmr ++ policy)) (number ++ logs), length-append drl (fmr ++ policy), length-append fmr policy, length-append number logs, length-append (spell_if log w.1.0) (spell_if log w.1.1),
-      length-flag (is_some w.0), length-flag (is_some w.1.0), length-flag (is_some w.1.1), length-be_bytes 1 (preferred_number w.0), length-log_if w.1.0, length-log_if w.1.1)
+    omega (
+      arith,
+      length-append (drl ++ (fmr ++ policy)) (number ++ logs),
+      length-append drl (fmr ++ policy),
+      length-append fmr policy,
+      length-append number logs,
+      length-append (spell_if log w.1.0) (spell_if log w.1.1),
+      length-flag (is_some w.0),
+      length-flag (is_some w.1.0),
+      length-flag (is_some w.1.1),
+      length-be_bytes 1 (preferred_number w.0),
+      length-log_if w.1.0,
+      length-log_if w.1.1,
+    )
 
 length-name : (n : List ℕ) → name.Fits n → length (name.spell n) ≤ 9
 unfolding name
@@ -89,11 +117,22 @@ length-volume v fits =
     let count : List ℕ = be_bytes 1 (length v.plexes) in
     let way : List ℕ = ways.spell (v.prefer, (v.drl, v.fmr)) in
     let few : length v.plexes ≤ 255 = fits.1.1.1.1.1.1 in
-    omega (arith, length-append (name.spell v.name) (be_bytes 8 v.blocks ++ (be_bytes 1 v.ncol ++ (be_bytes 4 v.width ++ (way ++ (count ++ plexes))))),
+    omega (
+      arith,
+      length-append (name.spell v.name) (be_bytes 8 v.blocks ++ (be_bytes 1 v.ncol ++ (be_bytes 4 v.width ++ (way ++ (count ++ plexes))))),
       length-append (be_bytes 8 v.blocks) (be_bytes 1 v.ncol ++ (be_bytes 4 v.width ++ (way ++ (count ++ plexes)))),
       length-append (be_bytes 1 v.ncol) (be_bytes 4 v.width ++ (way ++ (count ++ plexes))),
-      length-append (be_bytes 4 v.width) (way ++ (count ++ plexes)), length-append way (count ++ plexes), length-append count plexes,
-      length-name v.name fits.0, length-be_bytes 8 v.blocks, length-be_bytes 1 v.ncol, length-be_bytes 4 v.width, length-ways (v.prefer, (v.drl, v.fmr)), length-be_bytes 1 (length v.plexes), length-plexes v.plexes)
+      length-append (be_bytes 4 v.width) (way ++ (count ++ plexes)),
+      length-append way (count ++ plexes),
+      length-append count plexes,
+      length-name v.name fits.0,
+      length-be_bytes 8 v.blocks,
+      length-be_bytes 1 v.ncol,
+      length-be_bytes 4 v.width,
+      length-ways (v.prefer, (v.drl, v.fmr)),
+      length-be_bytes 1 (length v.plexes),
+      length-plexes v.plexes,
+    )
 
 length-volumes : (vs : List VolumeEntry) → AllByRecursion volume.Fits vs → length (flat_map volume.spell vs) ≤ 830 * length vs + 17 * sum_by volume_subdisks vs
 length-volumes [] fits = omega arith
@@ -107,8 +146,16 @@ length-units u fits =
     let vols : List ℕ = flat_map (be_bytes 1) u.vols in
     let count : List ℕ = be_bytes 1 (length u.vols) in
     let few : length u.vols ≤ 30 = fits.1.1.1 in
-    omega (arith, length-append (be_bytes 1 u.srl) (be_bytes 1 u.maps ++ (count ++ vols)), length-append (be_bytes 1 u.maps) (count ++ vols), length-append count vols,
-      length-be_bytes 1 u.srl, length-be_bytes 1 u.maps, length-be_bytes 1 (length u.vols), length-many (number 1) 1 (length-be_bytes 1) u.vols)
+    omega (
+      arith,
+      length-append (be_bytes 1 u.srl) (be_bytes 1 u.maps ++ (count ++ vols)),
+      length-append (be_bytes 1 u.maps) (count ++ vols),
+      length-append count vols,
+      length-be_bytes 1 u.srl,
+      length-be_bytes 1 u.maps,
+      length-be_bytes 1 (length u.vols),
+      length-many (number 1) 1 (length-be_bytes 1) u.vols,
+    )
 
 length-group : (o : Option Units) → FitsIf units o → length (spell_if units o) ≤ 34
 length-group None fits = omega (arith, length-be_bytes 1 0)
@@ -123,8 +170,21 @@ length-spelled c fits few =
     let disks : List ℕ = be_bytes 1 (length c.disks) ++ flat_map disk.spell c.disks in
     let few_disks : length c.disks ≤ 8 = fits.1.1.0.1 in
     let few_volumes : length c.volumes ≤ 32 = fits.1.1.1.0.1 in
-    omega (arith, length-append (be_bytes 4 1) (be_bytes 8 c.serial ++ (be_bytes 4 c.site ++ (disks ++ (volumes ++ group)))), length-append (be_bytes 8 c.serial) (be_bytes 4 c.site ++ (disks ++ (volumes ++ group))),
-      length-append (be_bytes 4 c.site) (disks ++ (volumes ++ group)), length-append disks (volumes ++ group), length-append volumes group,
-      length-append (be_bytes 1 (length c.volumes)) (flat_map volume.spell c.volumes), length-append (be_bytes 1 (length c.disks)) (flat_map disk.spell c.disks),
-      length-be_bytes 4 1, length-be_bytes 8 c.serial, length-be_bytes 4 c.site, length-be_bytes 1 (length c.volumes), length-be_bytes 1 (length c.disks),
-      length-many disk 9 length-disk c.disks, length-volumes c.volumes fits.1.1.1.0.2, length-group c.rvg fits.1.1.1.1)
+    omega (
+      arith,
+      length-append (be_bytes 4 1) (be_bytes 8 c.serial ++ (be_bytes 4 c.site ++ (disks ++ (volumes ++ group)))),
+      length-append (be_bytes 8 c.serial) (be_bytes 4 c.site ++ (disks ++ (volumes ++ group))),
+      length-append (be_bytes 4 c.site) (disks ++ (volumes ++ group)),
+      length-append disks (volumes ++ group),
+      length-append volumes group,
+      length-append (be_bytes 1 (length c.volumes)) (flat_map volume.spell c.volumes),
+      length-append (be_bytes 1 (length c.disks)) (flat_map disk.spell c.disks),
+      length-be_bytes 4 1,
+      length-be_bytes 8 c.serial,
+      length-be_bytes 4 c.site,
+      length-be_bytes 1 (length c.volumes),
+      length-be_bytes 1 (length c.disks),
+      length-many disk 9 length-disk c.disks,
+      length-volumes c.volumes fits.1.1.1.0.2,
+      length-group c.rvg fits.1.1.1.1,
+    )

@@ -6,3 +6,6 @@ pub mod DecodeLemmas
 pub mod FitLemmas
 pub mod LengthLemmas
 pub mod CountLemmas
+pub mod PairLemmas
+pub mod RunLemmas
+pub mod FillLemmas

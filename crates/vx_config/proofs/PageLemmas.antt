@@ -16,8 +16,8 @@ cut-cut k x b =
     elim (cases_lt (length x) k) [
       | inl lt ↦ let all : take k x ≡ x = take_all k x (omega arith) in ap (λ (t : List ℕ). take k (t ++ b)) all
       | inr le ↦
-        let len : length (take k x) ≡ k = omega (arith, length-take k x) in
-        take-append-le k (take k x) b (omega arith) ∙ take-take k k x (omega arith) ∙ sym (take-append-le k x b le)
+          let len : length (take k x) ≡ k = omega (arith, length-take k x) in
+          take-append-le k (take k x) b (omega arith) ∙ take-take k k x (omega arith) ∙ sym (take-append-le k x b le)
     ]
 
 -- what is put behind what was put

@@ -92,7 +92,7 @@ preferred-IsForm policy = record {
   stops = λ bytes left h e.
       let join : ℕ × List ℕ → Reading (Option ℕ) = λ p. Ok (preferred_where policy p.0, p.1) in
       bind_err ((within 1 0 (most_preferred policy)).read bytes) join left (left ≤ length bytes) e
-        (λ wrong. (within-IsForm 1 0 (most_preferred policy)).stops bytes left h wrong) (λ p pe none. absurd cc);
+      (λ wrong. (within-IsForm 1 0 (most_preferred policy)).stops bytes left h wrong) (λ p pe none. absurd cc);
 }
 
 abbrev flags : Form (Bool × (Bool × Bool))
@@ -106,14 +106,14 @@ unfolding ways
 ways-IsForm = keyed-IsForm (λ w. (is_some w.1.0, (is_some w.1.1, is_some w.0))) flags behind_flags
     (pair-IsForm flag (pair flag flag) flag-IsForm (pair-IsForm flag flag flag-IsForm flag-IsForm))
     (λ k. pair-IsForm (preferred k.1.1) (pair (where_flag log k.0) (where_flag log k.1.0)) (preferred-IsForm k.1.1)
-      (pair-IsForm (where_flag log k.0) (where_flag log k.1.0) (where_flag-IsForm log k.0 log-IsForm) (where_flag-IsForm log k.1.0 log-IsForm)))
+    (pair-IsForm (where_flag log k.0) (where_flag log k.1.0) (where_flag-IsForm log k.0 log-IsForm) (where_flag-IsForm log k.1.0 log-IsForm)))
     (λ k a fits. let p : is_some a.0 ≡ k.1.1 = fits.0.0 in let d : is_some a.1.0 ≡ k.0 = fits.1.0.0 in let f : is_some a.1.1 ≡ k.1.0 = fits.1.1.0 in rw (d, f, p) refl)
 
 pub volume-IsForm : IsForm volume
 unfolding volume
 volume-IsForm = made_of-IsForm _ _ _ (λ a. refl) (λ v. refl)
     (pair-IsForm name _ name-IsForm (pair-IsForm (number 8) _ (number-IsForm 8) (pair-IsForm (number 1) _ (number-IsForm 1) (pair-IsForm (number 4) _ (number-IsForm 4)
-      (pair-IsForm ways (counted 0 255 plex) ways-IsForm (counted-IsForm 0 255 plex (omega arith) plex-IsForm))))))
+    (pair-IsForm ways (counted 0 255 plex) ways-IsForm (counted-IsForm 0 255 plex (omega arith) plex-IsForm))))))
 
 pub units-IsForm : IsForm units
 unfolding units
@@ -124,8 +124,8 @@ pub format_1-IsForm : IsForm format_1
 unfolding format_1
 format_1-IsForm = made_of-IsForm _ _ _ (λ a. refl) (λ c. refl)
     (pair-IsForm (within 8 0 greatest) _ (within-IsForm 8 0 greatest) (pair-IsForm (number 4) _ (number-IsForm 4)
-      (pair-IsForm (counted 1 8 disk) _ (counted-IsForm 1 8 disk (omega arith) disk-IsForm)
-        (pair-IsForm (counted 0 32 volume) (optional units) (counted-IsForm 0 32 volume (omega arith) volume-IsForm) (optional-IsForm units units-IsForm)))))
+    (pair-IsForm (counted 1 8 disk) _ (counted-IsForm 1 8 disk (omega arith) disk-IsForm)
+    (pair-IsForm (counted 0 32 volume) (optional units) (counted-IsForm 0 32 volume (omega arith) volume-IsForm) (optional-IsForm units units-IsForm)))))
 
 pub config-IsForm : IsForm config
 unfolding config
@@ -147,10 +147,10 @@ config-IsForm = record {
   stops = λ bytes left h e.
       let more : ℕ × List ℕ → Reading Config = λ v. behind_version v.0 (length bytes) v.1 in
       bind_err ((number 4).read bytes) more left (left ≤ length bytes) e
-        (λ wrong. (number-IsForm 4).stops bytes left h wrong)
-        (λ v ve second.
-          let taken : Takes bytes (be_bytes 4 v.0) v.1 = ((number-IsForm 4).takes bytes v h ve).0 in
-          test_err (v.0 == 1) (length bytes) left (format_1.read v.1) (left ≤ length bytes) second
-            (λ k. omega arith)
-            (λ t wrong. let inside : left ≤ length v.1 = format_1-IsForm.stops v.1 left taken.behind wrong in omega (arith, Takes-shorter bytes (be_bytes 4 v.0) v.1 taken)));
+      (λ wrong. (number-IsForm 4).stops bytes left h wrong)
+      (λ v ve second.
+      let taken : Takes bytes (be_bytes 4 v.0) v.1 = ((number-IsForm 4).takes bytes v h ve).0 in
+      test_err (v.0 == 1) (length bytes) left (format_1.read v.1) (left ≤ length bytes) second
+      (λ k. omega arith)
+      (λ t wrong. let inside : left ≤ length v.1 = format_1-IsForm.stops v.1 left taken.behind wrong in omega (arith, Takes-shorter bytes (be_bytes 4 v.0) v.1 taken)));
 }

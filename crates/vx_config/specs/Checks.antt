@@ -1,5 +1,6 @@
 -- What the tests of a configuration are.
 use Rattle.std.specs.Prelude.{ℕ, ◌+◌, ◌-◌, ◌*◌, ◌/◌, Bool, true, false, not, ◌&&◌, ◌||◌, ◌==◌, nat_lt, nat_le, List, [], ◌∷◌, ◌++◌, length, map, flat_map, Option, Some, None, if◌then◌else◌, slice_get, sum_by, min, max}
+use Rattle.std.specs.Int.{div_ceil}
 use Rattle.std.specs.List.{list_all, list_any}
 use Rattle.std.specs.Str.{bytes_eq}
 use Rattle.vx_model.specs.declared.site.PlexState.{PlexState}
@@ -11,21 +12,17 @@ use Rattle.vx_config.specs.declared.entry.LogEntry.{LogEntry}
 use Rattle.vx_config.specs.declared.entry.PlexEntry.{PlexEntry}
 use Rattle.vx_config.specs.declared.entry.Subdisk.{Subdisk}
 use Rattle.vx_config.specs.declared.entry.VolumeEntry.{VolumeEntry}
-use Rattle.vx_config.specs.Configs.{subdisk_count}
+use Rattle.vx_config.specs.Configs.{volume_subdisks, subdisk_count}
 
 -- ---- numbers of blocks
 
--- n / by, rounded up
-abbrev pub rounded_up : ℕ → ℕ → ℕ
-rounded_up n by = (n + (by - 1)) / by
-
 -- the map blocks of a volume: a bit for each region of 64 blocks, 4,096 bits in a block
 abbrev pub map_blocks : ℕ → ℕ
-map_blocks blocks = rounded_up (rounded_up blocks 64) 4096
+map_blocks blocks = div_ceil (div_ceil blocks 64) 4096
 
 -- the blocks of one column of a plex; a concatenated plex has one column
 unfoldable pub column_blocks : VolumeEntry → ℕ
-column_blocks v = if v.width == 0 then v.blocks else rounded_up v.blocks (v.ncol * v.width) * v.width
+column_blocks v = if v.width == 0 then v.blocks else div_ceil v.blocks (v.ncol * v.width) * v.width
 
 -- ---- two by two
 
@@ -60,6 +57,10 @@ plex_runs p = p.subdisks
 abbrev pub volume_runs : VolumeEntry → List Subdisk
 volume_runs v = flat_map plex_runs v.plexes ++ (log_runs v.drl ++ log_runs v.fmr)
 
+-- as many runs as a volume can have
+abbrev pub volume_room : VolumeEntry → ℕ
+volume_room v = volume_subdisks v + 2
+
 -- the subdisks and logs of a group
 unfoldable pub runs : Config → List Subdisk
 runs c = flat_map volume_runs c.volumes
@@ -78,11 +79,15 @@ are_placed c = list_all (in_region c.disks) (runs c) && pairwise are_apart (runs
 
 -- ---- one volume
 
+-- the room of the next of so many columns, where there is one
+abbrev pub next_room : ℕ → ℕ → ℕ
+next_room column columns = if nat_le columns 1 then 0 else column
+
 -- Subdisks fill so many columns, one after the other, where `room` blocks are left of the first of them.
 abbrev pub fill : ℕ → ℕ → ℕ → List Subdisk → Bool
 fill column columns room [] = columns == 0 || column == 0
 fill column columns room (s ∷ ss) =
-    nat_le s.blocks room && (if s.blocks == room then fill column (columns - 1) (if nat_le columns 1 then 0 else column) ss else fill column columns (room - s.blocks) ss)
+    nat_le s.blocks room && (if s.blocks == room then fill column (columns - 1) (next_room column columns) ss else fill column columns (room - s.blocks) ss)
 
 abbrev pub plex_fills : VolumeEntry → PlexEntry → Bool
 plex_fills v p = fill (column_blocks v) v.ncol (column_blocks v) p.subdisks

@@ -12,10 +12,13 @@ mod disks;
 mod encoding;
 mod entry;
 mod fits;
+mod group;
 mod page;
 mod plexes;
 mod reading;
+mod runs;
 mod shape;
+mod soundness;
 mod spelling;
 mod stop;
 mod subdisks;
@@ -32,4 +35,8 @@ pub use plexes::Plexes;
 pub use stop::ConfigStop;
 pub use subdisks::Subdisks;
 pub use volumes::Volumes;
+pub use vx_model::PlexState;
 use wrong::Wrong;
+
+#[cfg(test)]
+mod tests;

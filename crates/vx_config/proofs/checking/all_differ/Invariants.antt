@@ -1,0 +1,6 @@
+use Rattle.std.proofs.Common.{◌≡◌, drop}
+use Rattle.vx_config.specs.Checks.{pairwise, differ}
+use Rattle.vx_config.proofs.checking.all_differ.Given as goal
+
+abbrev pub invariant-loop-i : goal.invariant-loop-i
+invariant-loop-i l = pairwise differ (drop l.i l.volumes) ≡ pairwise differ l.volumes
