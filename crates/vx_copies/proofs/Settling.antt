@@ -82,3 +82,16 @@ returned_more r so_far all ds k d x lt is one =
     append_assoc so_far (x ∷ []) (returned_from r (k + 1) (drop (k + 1) ds))
     ∙ ap (λ (y : DiskEntry). so_far ++ (y ∷ returned_from r (k + 1) (drop (k + 1) ds))) one
     ∙ sym (ap (λ (t : List DiskEntry). so_far ++ returned_from r k t) (drop_more ds k d lt)) ∙ is
+
+-- ---- tests
+
+pub not_true : (b : Bool) → not b ≡ true → b ≡ false
+not_true true is = cc
+not_true false is = refl
+
+pub not_false : (b : Bool) → not b ≡ false → b ≡ true
+not_false true is = refl
+not_false false is = cc
+
+abbrev pub no_disk : DiskEntry
+no_disk = record { blocks = 0; failed = false }

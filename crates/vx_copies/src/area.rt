@@ -19,7 +19,7 @@ use vx_wire::digest;
 fn judge<S: Shelf>(
     alloc: Global,
     shelf: &S,
-    area: u64,
+    area: u32,
     header: &AreaHeader,
     body: &[u8],
 ) -> Result<Option<CopySeen>, OutOfMemory>
@@ -47,7 +47,7 @@ fn read_copy<S: Shelf>(
     alloc: Global,
     shelf: &mut S,
     disk: u32,
-    area: u64,
+    area: u32,
     header: &AreaHeader,
     room: &mut [u8],
 ) -> Result<AreaSeen, OutOfMemory>
@@ -64,7 +64,7 @@ fn read_copy<S: Shelf>(
 {
     let length = header.length as usize;
     let filled = 512 * length.div_ceil(512);
-    match shelf.read(disk, area + 1, &mut room[..filled]) {
+    match shelf.read(disk, area as u64 + 1, &mut room[..filled]) {
         Ok(()) => match judge(alloc, shelf, area, header, &room[..length]) {
             Ok(copy) => Ok(AreaSeen::Seen(copy)),
             Err(error) => Err(error),
@@ -78,7 +78,7 @@ pub fn read_area<S: Shelf>(
     alloc: Global,
     shelf: &mut S,
     disk: u32,
-    area: u64,
+    area: u32,
     room: &mut [u8],
 ) -> Result<AreaSeen, OutOfMemory>
     requires there { disk < (S.meaning shelf.old).units }
@@ -93,7 +93,7 @@ pub fn read_area<S: Shelf>(
     ensures down { (S.meaning shelf.new).down ≡ (S.meaning shelf.old).down }
 {
     let mut block = [0; 512];
-    match shelf.read(disk, area, &mut block) {
+    match shelf.read(disk, area as u64, &mut block) {
         Ok(()) => match get_area(&block) {
             Some(header) => read_copy(alloc, shelf, disk, area, &header, room),
             None => Ok(AreaSeen::Seen(None)),

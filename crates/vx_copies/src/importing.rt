@@ -27,7 +27,10 @@ pub fn import<S: Shelf>(alloc: Global, shelf: &mut S) -> Result<(Config, u8), St
     ensures goes { Goes Nothing (S.meaning shelf.old) (S.meaning shelf.new) }
 {
     let units = shelf.units();
-    let mut room = vec![in alloc; 0; ROOM]?;
+    let mut room = match vec![in alloc; 0; ROOM] {
+        Ok(room) => room,
+        Err(_) => return Err(Stop::OutOfMemory),
+    };
     match search_all(alloc, shelf, &mut room) {
         Ok(search) => match concluded(search, units) {
             Ok(found) => Ok(found),

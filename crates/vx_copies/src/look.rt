@@ -47,12 +47,12 @@ fn look_areas<S: Shelf>(
     ensures goes { Goes Nothing (S.meaning shelf.old) (S.meaning shelf.new) }
     ensures down { (S.meaning shelf.new).down ≡ (S.meaning shelf.old).down }
 {
-    let first = match read_area(alloc, shelf, disk, AREA_A, room) {
+    let first = match read_area(alloc, shelf, disk, AREA_A as u32, room) {
         Ok(AreaSeen::Seen(copy)) => copy,
         Ok(AreaSeen::Unreadable) => return Ok(DiskSeen::Unreadable),
         Err(error) => return Err(error),
     };
-    match read_area(alloc, shelf, disk, AREA_B, room) {
+    match read_area(alloc, shelf, disk, AREA_B as u32, room) {
         Ok(AreaSeen::Seen(second)) => Ok(DiskSeen::Seen(greater(first, second))),
         Ok(AreaSeen::Unreadable) => Ok(DiskSeen::Unreadable),
         Err(error) => Err(error),

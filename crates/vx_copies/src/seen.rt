@@ -15,7 +15,7 @@ pub enum BodySeen {
 #[derive(Drop)]
 pub struct CopySeen {
     pub serial: u64,
-    pub area: u64,
+    pub area: u32,
     pub body: BodySeen,
 }
 

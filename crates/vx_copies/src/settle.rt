@@ -86,7 +86,7 @@ pub fn concluded(search: Search, units: u32) -> Result<(Config, u8), No>
     match search.best {
         None => Err(No::NoConfig),
         Some(best) => {
-            let (unit, block) = (best.disk, best.copy.area + 1);
+            let (unit, block) = (best.disk, best.copy.area as u64 + 1);
             match best.copy.body {
                 BodySeen::Holds(config) => settled(config, &readable),
                 BodySeen::Differs { stored, computed } => Err(No::Damaged {
