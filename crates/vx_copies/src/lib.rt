@@ -16,3 +16,6 @@ use seen::{AreaSeen, BodySeen, CopySeen, DiskSeen};
 
 pub use importing::import;
 pub use vx_copyio::label;
+
+#[cfg(test)]
+mod tests;

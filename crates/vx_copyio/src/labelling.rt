@@ -17,8 +17,8 @@ use vx_model::{No, Stop};
 // The fewest blocks of a disk of a group.
 const LEAST_BLOCKS: u64 = 1024;
 
-// Whether each disk is large enough for a group.
-fn are_large<S: Shelf>(shelf: &S) -> bool
+/// Whether each disk is large enough for a group: 1,024 blocks.
+pub fn are_large<S: Shelf>(shelf: &S) -> bool
     ensures large { IsTrue result → AreLarge (S.meaning shelf.now) }
     ensures small { IsFalse result → HasSmall (S.meaning shelf.now) }
 {

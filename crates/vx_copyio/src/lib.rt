@@ -10,4 +10,4 @@ mod labelling;
 
 pub use copying::{AREA_A, AREA_B, put_copy};
 pub use errors::refusal;
-pub use labelling::label;
+pub use labelling::{are_large, label};
