@@ -1,4 +1,6 @@
 // What no clause says: worked imports over a shelf in memory, and that each call succeeds.
+ghost use Rattle.std.specs.Prelude.{◌≡◌, take};
+
 use super::*;
 use std::alloc::Global;
 use std::test::*;
@@ -7,7 +9,7 @@ use vx_copyfmt::AreaHeader;
 use vx_copyio::{are_large, put_copy};
 use vx_disk::{MemShelf, Rack, Shelf, put};
 use vx_model::{No, OutOfMemory, Stop};
-use vx_wire::digest;
+use vx_wire::{digest, get_bytes, seal};
 
 // Two good disks of 1,024 blocks, and no volume, with serial 1.
 const BODY: [u8; 37] = [
@@ -40,6 +42,13 @@ fn block_of(bytes: &[u8; 37]) -> [u8; 512] {
     block
 }
 
+// The first 37 bytes of a block.
+fn front(block: &[u8; 512]) -> [u8; 37]
+    ensures { result ≡ take 37 block.now }
+{
+    get_bytes(block, 0)
+}
+
 // Writes a copy of these 37 bytes to a disk.
 fn copy<S: Shelf>(shelf: &mut S, disk: u32, serial: u64, bytes: &[u8; 37]) -> bool {
     if disk >= shelf.units() || shelf.size(disk) < 257 || serial > 100 {
@@ -49,7 +58,7 @@ fn copy<S: Shelf>(shelf: &mut S, disk: u32, serial: u64, bytes: &[u8; 37]) -> bo
     let header = AreaHeader {
         serial,
         length: 37,
-        digest: digest(&block[..37]),
+        digest: digest(&front(&block)),
     };
     put_copy(shelf, disk, &header, &block).is_ok()
 }
@@ -130,7 +139,7 @@ fn a_damaged_body_is_told(rt: HostRuntime) {
         unit: 1,
         block: 2,
         stored: digest(&BODY),
-        computed: digest(&block[..37]),
+        computed: digest(&front(&block)),
     };
     assert!(rt; found(alloc, &mut shelf) == Err(Stop::No(wanted)));
 }
@@ -157,8 +166,7 @@ fn a_label_of_another_version_is_told(rt: HostRuntime) {
     assert!(rt; copy(&mut shelf, 0, 1, &BODY));
     let mut block = [0; 512];
     block[..12].copy_from_slice(b"VXLABEL1\x00\x00\x00\x09");
-    let front = digest(&block[..480]);
-    block[480..].copy_from_slice(&front);
+    seal(&mut block);
     assert!(rt; write(&mut shelf, 1, 0, &block));
     assert!(rt; found(alloc, &mut shelf) == Err(Stop::No(No::Format { version: 9 })));
     fail(&mut shelf, 1, true);
