@@ -1,10 +1,10 @@
 -- Which configuration a body is.
-use Rattle.std.proofs.Common.{◌≡◌, ℕ, ◌+◌, ◌<◌, ◌≤◌, Bool, true, false, Option, Some, None, Result, Ok, Err, List, [], ◌∷◌, ◌++◌, length, take, drop, refl, ap, sym, subst, ◌∙◌, arith}
+use Rattle.std.proofs.Common.{◌≡◌, ℕ, ◌+◌, ◌<◌, ◌≤◌, Bool, true, false, Option, Some, None, Ok, List, [], ◌∷◌, ◌++◌, length, take, drop, refl, ap, sym, subst, ◌∙◌, arith}
 use Rattle.std.specs.Prelude.{◌&&◌, ◌==◌, if◌then◌else◌}
 use Rattle.std.proofs.lemmas.Bool.{and_parts, eqb-true}
 use Rattle.std.proofs.lemmas.List.{append-nil, take_all, take-append-drop, length-drop}
 use Rattle.vx_config.specs.Checks.{is_sound}
-use Rattle.vx_config.specs.Configs.{HasSpelling, IsRefused, IsSpelling, spelled}
+use Rattle.vx_config.specs.Configs.{IsRefused, IsSpelling, spelled}
 use Rattle.vx_config.specs.Table.{config}
 use Rattle.vx_config.specs.declared.config.Config.{Config}
 use Rattle.vx_config.specs.declared.entry.DiskEntry.{DiskEntry}
@@ -71,6 +71,7 @@ read_fits units size bytes c is = by_read (alone (config.read bytes)) is
         let two = and_parts (length x.disks == units) (have_blocks size 0 x.disks) parts.1 in
         subst (λ (k : Config). length k.disks ≡ units) (sym same) (eqb-true (length x.disks) units two.0)
     by_wanted x false wanted is_x = absurd cc
+
     by_read : (o : Option Config) → Some c ≡ if_wanted units size o → length c.disks ≡ units
     by_read None is_o = absurd cc
     by_read (Some x) is_o = by_wanted x (is_wanted units size x) refl is_o

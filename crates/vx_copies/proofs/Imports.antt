@@ -1,16 +1,16 @@
 -- The answer of an import, from what was found on all disks.
-use Rattle.std.proofs.Common.{◌≡◌, ◌⊎◌, inl, inr, ℕ, zero, suc, ◌+◌, ◌<◌, ◌≤◌, Bool, true, false, IsTrue, Option, Some, None, Result, Ok, Err, List, [], ◌∷◌, length, refl, ap, sym, subst, ◌∙◌, arith}
+use Rattle.std.proofs.Common.{◌≡◌, ◌⊎◌, inl, inr, ℕ, zero, suc, ◌+◌, ◌<◌, ◌≤◌, Bool, true, IsTrue, Option, Some, None, Result, Ok, Err, List, [], ◌∷◌, length, refl, ap, sym, subst, ◌∙◌, arith}
 use Rattle.std.specs.Prelude.{◌&&◌, ◌||◌, not, if◌then◌else◌}
 use Rattle.std.proofs.lemmas.Bool.{cases_lt}
 use Rattle.vx_model.specs.declared.errors.Stop.{Stop}
 use Rattle.vx_model.specs.declared.errors.Stop.TheVariants.{No as Refused, OutOfMemory as NoMemory}
 use Rattle.vx_model.specs.declared.no.No.{No}
-use Rattle.vx_disk.specs.Shelf.{Meaning, Image, Lawful, Each, Goes, Nothing}
+use Rattle.vx_disk.specs.Shelf.{Meaning, Image, Lawful}
 use Rattle.vx_copyfmt.specs.Copies.{Disk}
-use Rattle.vx_copyfmt.specs.Imports.{first_of, missing, or_missing, by_labels, by_newest, newest, strange, import_of}
+use Rattle.vx_copyfmt.specs.Imports.{first_of, missing, or_missing, by_labels, by_newest, newest, import_of}
 use Rattle.vx_config.specs.declared.config.Config.{Config}
 use Rattle.vx_config.specs.declared.entry.DiskEntry.{DiskEntry}
-use Rattle.vx_copies.specs.Answers.{IsAnswer, Imported, answer_of, flag_at, returned, returned_from}
+use Rattle.vx_copies.specs.Answers.{IsAnswer, Imported, answer_of, flag_at, returned_from}
 use Rattle.vx_copies.specs.Bodies.{failed_in}
 use Rattle.vx_copies.specs.Looking.{FitsBody, body_view, on_shelf}
 use Rattle.vx_copies.specs.Searching.{FitsBest, Searched, best_view}

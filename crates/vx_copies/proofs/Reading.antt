@@ -1,10 +1,9 @@
 -- What reads of a disk show, put together.
-use Rattle.std.proofs.Common.{◌≡◌, ◌⊎◌, inl, inr, ⊎_elim, ℕ, zero, suc, ◌+◌, ◌-◌, ◌*◌, ◌<◌, ◌≤◌, Bool, true, false, IsTrue, Option, Some, None, Result, Ok, Err, IfOk, List, [], ◌++◌, length, take, drop, refl, ap, sym, subst, ◌∙◌, arith}
+use Rattle.std.proofs.Common.{◌≡◌, inl, inr, ⊎_elim, ℕ, zero, suc, ◌+◌, ◌-◌, ◌*◌, ◌<◌, ◌≤◌, Bool, true, false, IsTrue, Option, Some, None, Result, Ok, Err, IfOk, List, [], length, take, drop, refl, ap, sym, subst, ◌∙◌, arith}
 use Rattle.std.specs.Prelude.{nat_lt, bytes_eq, if◌then◌else◌}
 use Rattle.std.proofs.lemmas.Bool.{cases_lt, lt-ltb, le-ltb}
 use Rattle.vx_wire.specs.Seals.{digest_of}
 use Rattle.vx_disk.specs.Shelf.{Meaning, Lawful, Covers, Goes, Nothing, Read, piece}
-use Rattle.vx_disk.specs.Counts.{Rose}
 use Rattle.vx_disk.proofs.Causing.{Rose_before}
 use Rattle.vx_disk.proofs.Runs.{covers_one, piece_one}
 use Rattle.vx_model.specs.declared.errors.OutOfMemory.{OutOfMemory}
@@ -18,7 +17,7 @@ use Rattle.vx_copyfmt.specs.declared.label.LabelSeen.TheVariants as label
 use Rattle.vx_copyfmt.proofs.Areas.{copy_at-same}
 use Rattle.vx_copyfmt.proofs.Bodies.{body_is}
 use Rattle.vx_config.specs.declared.config.Config.{Config}
-use Rattle.vx_copies.specs.Looking.{IsRead, SeesArea, SeesAreas, SeesBody, SeesDisk, ShowsArea, ShowsAreas, ShowsBody, ShowsDisk, ShowsFormat, copy_view, on_shelf}
+use Rattle.vx_copies.specs.Looking.{SeesArea, SeesAreas, SeesBody, SeesDisk, ShowsArea, ShowsAreas, ShowsBody, ShowsDisk, ShowsFormat, copy_view, on_shelf}
 use Rattle.vx_copies.specs.declared.seen.AreaSeen.{AreaSeen}
 use Rattle.vx_copies.specs.declared.seen.AreaSeen.TheVariants as area
 use Rattle.vx_copies.specs.declared.seen.CopySeen.{CopySeen}
@@ -120,7 +119,7 @@ module _ (m : Meaning) (lawful : Lawful m) (u a : ℕ) (head : List ℕ) (long :
         blocks = d;
         read = λ tells b low high. joined_read shows.bytes shows.count shows.whole (λ t k covers. still_read m mid still u k (piece (a + 1) shows.bytes k) (shows.read (told_still m mid still t) k covers)) tells b low;
         copy = ap (λ (v : List ℕ). copy_under (on_shelf m) d a (header_of v)) (joined_head shows.bytes shows.count) ∙ ap (copy_under (on_shelf m) d a) is
-        ∙ ap (λ (t : List ℕ). copy_with (on_shelf m) a h t) body ∙ sym (with_same (on_shelf mid) (on_shelf m) (shelf_same m mid still) a h (take h.length shows.bytes)) ∙ shows.copy;
+            ∙ ap (λ (t : List ℕ). copy_with (on_shelf m) a h t) body ∙ sym (with_same (on_shelf mid) (on_shelf m) (shelf_same m mid still) a h (take h.length shows.bytes)) ∙ shows.copy;
       }
 
   pub area_sees : (mid new : Meaning) → StillUp m mid → (h : AreaHeader) → header_of head ≡ Some h → (r : Result AreaSeen OutOfMemory) → IfOk r (SeesBody u a h mid new) → IfOk r (SeesArea u a m new)
@@ -147,7 +146,7 @@ both_areas u old mid x y z still one two is =
         | inr le ↦ rw (le-ltb 128 b le) (one.read tells b (omega (arith, low)) (omega (arith, le)))
       ];
       copy = ap (λ (o : Option (Copy Config)). greater o (copy_at (on_shelf old) d area_b)) (a_same ∙ one.copy)
-      ∙ ap (greater (copy_view x)) (b_same ∙ sym (at_same (on_shelf mid) (on_shelf old) (shelf_same old mid still) two.blocks area_b) ∙ two.copy) ∙ sym is;
+          ∙ ap (greater (copy_view x)) (b_same ∙ sym (at_same (on_shelf mid) (on_shelf old) (shelf_same old mid still) two.blocks area_b) ∙ two.copy) ∙ sym is;
     }
 
 -- ---- the label and both areas
@@ -196,7 +195,7 @@ module _ (u : ℕ) (m : Meaning) (lawful : Lawful m) (first : List ℕ) (long : 
         read = record { each = λ tells b. labelled_read shows.blocks (λ t k low high. still_read m mid still u k (shows.blocks k) (shows.read (told_still m mid still t) k low high)) tells b };
         label = ap strange_label (sym is) ∙ known;
         copy = ap (λ k. if is_label k then copy_of (on_shelf m) d else None) (sym is) ∙ ap (λ (b : Bool). if b then copy_of (on_shelf m) d else None) good
-        ∙ labelled_copy (on_shelf m) shows.blocks ∙ sym (of_same (on_shelf mid) (on_shelf m) (shelf_same m mid still) shows.blocks) ∙ shows.copy;
+            ∙ labelled_copy (on_shelf m) shows.blocks ∙ sym (of_same (on_shelf mid) (on_shelf m) (shelf_same m mid still) shows.blocks) ∙ shows.copy;
       }
 
   pub disk_sees : (l : LabelSeen) → l ≡ seen_in first → is_label l ≡ true → strange_label l ≡ None → (mid new : Meaning) → StillUp m mid → (r : Result DiskSeen OutOfMemory) → IfOk r (SeesAreas u mid new) → IfOk r (SeesDisk u m new)

@@ -1,5 +1,5 @@
 -- One disk more.
-use Rattle.std.proofs.Common.{◌≡◌, ◌⊎◌, inl, inr, ℕ, zero, suc, ◌+◌, ◌<◌, ◌≤◌, Bool, true, false, IsTrue, Option, Some, None, List, [], refl, ap, sym, subst, ◌∙◌, arith}
+use Rattle.std.proofs.Common.{◌≡◌, ◌⊎◌, inl, inr, ℕ, zero, suc, ◌+◌, ◌<◌, Bool, true, false, IsTrue, Option, Some, None, List, [], refl, ap, sym, subst, ◌∙◌, arith}
 use Rattle.std.specs.Prelude.{◌&&◌, ◌==◌, if◌then◌else◌}
 use Rattle.std.proofs.lemmas.Bool.{cases_lt, eq-eqb, eqb-true}
 use Rattle.vx_disk.specs.Counts.{Rose}
@@ -126,30 +126,39 @@ module _ (k : ℕ) (old mid new : Meaning) (lawful : Lawful old) (still : StillU
   read_before d is tells b = still_read old mid still k b (d b) (is.each (told_still old mid still tells) b)
 
   sees_format : (version : ℕ) → ShowsFormat k mid version → (d : Disk) × Adds k old new true d (Some version) None
-  sees_format version shows = (shows.blocks, record {
-    read = read_before shows.blocks shows.read;
-    blamed = λ no. absurd cc;
-    version = shows.label;
-    copy = rw (strange_none (seen_in (shows.blocks 0)) version shows.label) refl;
-  })
+  sees_format version shows = (
+    shows.blocks,
+    record {
+      read = read_before shows.blocks shows.read;
+      blamed = λ no. absurd cc;
+      version = shows.label;
+      copy = rw (strange_none (seen_in (shows.blocks 0)) version shows.label) refl;
+    },
+  )
 
   sees_copy : (seen : Option CopySeen) → ShowsDisk k mid seen → (d : Disk) × Adds k old new true d None (on_disk k (copy_view seen))
-  sees_copy seen shows = (shows.blocks, record {
-    read = read_before shows.blocks shows.read;
-    blamed = λ no. absurd cc;
-    version = shows.label;
-    copy = if_on (is_label (seen_in (shows.blocks 0))) k (copy_of (on_shelf old) shows.blocks)
-    ∙ ap (λ (o : Option (Copy Config)). on_disk k (if is_label (seen_in (shows.blocks 0)) then o else None)) (sym (of_same (on_shelf mid) (on_shelf old) (shelf_same old mid still) shows.blocks))
-    ∙ ap (on_disk k) shows.copy;
-  })
+  sees_copy seen shows = (
+    shows.blocks,
+    record {
+      read = read_before shows.blocks shows.read;
+      blamed = λ no. absurd cc;
+      version = shows.label;
+      copy = if_on (is_label (seen_in (shows.blocks 0))) k (copy_of (on_shelf old) shows.blocks)
+          ∙ ap (λ (o : Option (Copy Config)). on_disk k (if is_label (seen_in (shows.blocks 0)) then o else None)) (sym (of_same (on_shelf mid) (on_shelf old) (shelf_same old mid still) shows.blocks))
+          ∙ ap (on_disk k) shows.copy;
+    },
+  )
 
   adds : (seen : DiskSeen) → SeesDisk k mid new seen → (d : Disk) × Adds k old new (seen_readable seen) d (seen_format seen) (seen_view k seen)
-  adds disk.Unreadable sees = (fill old lawful k, record {
-    read = λ tells b. fill_read old lawful k b tells;
-    blamed = λ is. Rose_before (old.faults k) (mid.faults k) (new.faults k) (still.goes.faults k) sees;
-    version = refl;
-    copy = refl;
-  })
+  adds disk.Unreadable sees = (
+    fill old lawful k,
+    record {
+      read = λ tells b. fill_read old lawful k b tells;
+      blamed = λ is. Rose_before (old.faults k) (mid.faults k) (new.faults k) (still.goes.faults k) sees;
+      version = refl;
+      copy = refl;
+    },
+  )
   adds (disk.Format version) sees = sees_format version sees
   adds (disk.Seen copy) sees = sees_copy copy sees
 

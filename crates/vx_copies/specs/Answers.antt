@@ -1,5 +1,5 @@
 -- What an import answers to what it found.
-use Rattle.std.specs.Prelude.{◌≡◌, ◌⊎◌, ℕ, ◌+◌, ◌*◌, ◌<◌, Bool, not, ◌&&◌, false, IsTrue, if◌then◌else◌, Option, Result, Ok, Err, List, [], ◌∷◌, slice_index_or}
+use Rattle.std.specs.Prelude.{◌≡◌, ◌⊎◌, ℕ, ◌+◌, ◌*◌, ◌<◌, Bool, not, ◌&&◌, false, IsTrue, if◌then◌else◌, Result, Ok, Err, List, [], ◌∷◌, slice_index_or}
 use Rattle.vx_model.specs.declared.errors.Stop.{Stop}
 use Rattle.vx_model.specs.declared.errors.Stop.TheVariants.{No as Refused, OutOfMemory as NoMemory}
 use Rattle.vx_model.specs.declared.no.No.{No}

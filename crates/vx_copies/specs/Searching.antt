@@ -1,12 +1,12 @@
 -- What was found on the disks so far.
-use Rattle.std.specs.Prelude.{◌≡◌, ℕ, ◌+◌, ◌<◌, Bool, true, false, ◌==◌, if◌then◌else◌, IsTrue, Option, Some, None, List}
+use Rattle.std.specs.Prelude.{◌≡◌, ℕ, ◌<◌, Bool, true, false, IsTrue, Option, Some, None}
 use Rattle.vx_disk.specs.Counts.{Rose}
 use Rattle.vx_disk.specs.Shelf.{Meaning, Image}
 use Rattle.vx_copyfmt.specs.Copies.{Copy}
 use Rattle.vx_copyfmt.specs.Imports.{newest, on_disk, strange}
 use Rattle.vx_config.specs.declared.config.Config.{Config}
 use Rattle.vx_copies.specs.Answers.{flag_at}
-use Rattle.vx_copies.specs.Looking.{Fits, copy_view, on_shelf, body_view, FitsBody}
+use Rattle.vx_copies.specs.Looking.{copy_view, on_shelf, body_view, FitsBody}
 use Rattle.vx_copies.specs.declared.search.Best.{Best}
 use Rattle.vx_copies.specs.declared.search.Search.{Search}
 use Rattle.vx_copies.specs.declared.seen.DiskSeen.{DiskSeen}

@@ -12,9 +12,8 @@ mod search;
 mod seen;
 mod settle;
 
-use seen::{AreaSeen, BodySeen, CopySeen, DiskSeen};
-
 pub use importing::import;
+use seen::{AreaSeen, BodySeen, CopySeen, DiskSeen};
 pub use vx_copyio::label;
 
 #[cfg(test)]

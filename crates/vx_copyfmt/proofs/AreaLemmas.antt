@@ -1,5 +1,5 @@
 -- An area's header that is spelled is read again.
-use Rattle.std.proofs.Common.{◌≡◌, ◌≤◌, ℕ, ◌-◌, ◌^◌, ◌<◌, Bool, true, false, ◌&&◌, Option, Some, None, List, ◌++◌, length, take, drop, refl, ap, sym, subst, append_assoc, ◌∙◌, arith}
+use Rattle.std.proofs.Common.{◌≡◌, ◌≤◌, ℕ, ◌-◌, ◌^◌, ◌<◌, Bool, true, false, ◌&&◌, Some, None, List, ◌++◌, length, take, drop, refl, ap, sym, subst, append_assoc, ◌∙◌, arith}
 use Rattle.std.specs.Prelude.{nat_lt, ◌==◌, bytes_eq, if◌then◌else◌}
 use Rattle.std.proofs.lemmas.Bool.{and_parts, and_from, ltb-true, lt-ltb, eqb-true, eq-eqb}
 use Rattle.std.proofs.lemmas.List.{drop_at, take_at, length-append}
@@ -10,7 +10,7 @@ use Rattle.vx_wire.specs.Seals.{sealed, filled, digest_of, IsSealed}
 use Rattle.vx_wire.proofs.SealLemmas.{take-sealed, IsSealed-sealed, length-sealed}
 use Rattle.vx_copyfmt.specs.Areas.{area_table, area_fields, area_block, CanSpellArea, IsTypedArea, IsArea, area_in, is_area, header_of}
 use Rattle.vx_copyfmt.specs.declared.area.AreaHeader.{AreaHeader}
-use Rattle.vx_copyfmt.proofs.Told.{not_both, false_from, same_bytes, alike, read}
+use Rattle.vx_copyfmt.proofs.Told.{false_from, same_bytes, alike, read}
 
 pub length-area_table : (h : AreaHeader) → length (spelled (area_table h)) ≡ 20
 unfolding spelled be_bytes area_table

@@ -1,14 +1,14 @@
 -- While a body is written into the area that does not hold the greater header, a disk keeps its copy; with the new header it has the new one.
-use Rattle.std.proofs.Common.{◌≡◌, ◌≢◌, ◌⊎◌, inl, inr, ⊎_elim, ℕ, zero, suc, ◌+◌, ◌<◌, ◌≤◌, Bool, true, false, Option, Some, None, List, [], ◌++◌, take, refl, ap, sym, subst, ◌∙◌, arith}
+use Rattle.std.proofs.Common.{◌≡◌, ◌⊎◌, inl, inr, ℕ, zero, suc, ◌+◌, ◌<◌, ◌≤◌, Bool, true, false, Option, Some, None, List, ◌++◌, take, refl, ap, sym, subst, ◌∙◌, arith}
 use Rattle.std.specs.Prelude.{nat_lt, bytes_eq, if◌then◌else◌}
-use Rattle.std.proofs.lemmas.Bool.{cases_lt, lt-ltb, le-ltb, ltb-true}
+use Rattle.std.proofs.lemmas.Bool.{cases_lt, lt-ltb, le-ltb}
 use Rattle.vx_wire.specs.Seals.{digest_of}
 use Rattle.vx_copyfmt.proofs.Told.{alike}
 use Rattle.vx_copyfmt.specs.Areas.{header_of}
 use Rattle.vx_copyfmt.specs.Labels.{seen_in}
 use Rattle.vx_copyfmt.specs.declared.area.AreaHeader.{AreaHeader}
-use Rattle.vx_copyfmt.specs.Copies.{Disk, Copy, Body, Holds, Differs, run_of, body_of, area_a, area_b, greater, holding, judged, copy_with, copy_under, copy_at, copy_of}
-use Rattle.vx_copyfmt.specs.Commits.{Slots, Among, target_of, IsHeaderBlock, Tidy, Mixed, FromOld, FromNew}
+use Rattle.vx_copyfmt.specs.Copies.{Disk, Copy, Holds, run_of, body_of, area_a, area_b, greater, holding, judged, copy_with, copy_under, copy_at, copy_of}
+use Rattle.vx_copyfmt.specs.Commits.{Slots, Among, target_of, IsHeaderBlock, Tidy, Mixed, FromOld}
 
 -- ---- what an area depends on
 
@@ -177,8 +177,8 @@ module _ {C : Type 0} (reads : List ℕ → Option C) where
           among = among;
           label = ap seen_in (sym (mended_out d base area_a 0 (inl (omega arith))));
           copy = same_b d e (copy_at reads d area_a) (copy_at reads e area_a) counted.0 x.serial x.serial refl refl
-          (under_serial d area_a x (header_of (d area_a)) first) (under_serial e area_a x (header_of (e area_a)) (ap header_of head ∙ first))
-          (b_same ∙ counted.1) counted.1 below below;
+              (under_serial d area_a x (header_of (d area_a)) first) (under_serial e area_a x (header_of (e area_a)) (ap header_of head ∙ first))
+              (b_same ∙ counted.1) counted.1 below below;
         }
     stays_by area (AGreater x y is first second le) mixed =
         let e : Disk = mended d base area_b in
@@ -195,8 +195,8 @@ module _ {C : Type 0} (reads : List ℕ → Option C) where
           among = among;
           label = ap seen_in (sym (mended_out d base area_b 0 (inl (omega arith))));
           copy = same_a d e (copy_at reads d area_b) (copy_at reads e area_b) counted.0 y.serial y.serial refl refl
-          (under_serial d area_b y (header_of (d area_b)) second) (under_serial e area_b y (header_of (e area_b)) (ap header_of head ∙ second))
-          (a_same ∙ counted.1) counted.1 below below;
+              (under_serial d area_b y (header_of (d area_b)) second) (under_serial e area_b y (header_of (e area_b)) (ap header_of head ∙ second))
+              (a_same ∙ counted.1) counted.1 below below;
         }
 
     -- where the target was found by what a crash leaves in both headers
@@ -211,6 +211,7 @@ module _ {C : Type 0} (reads : List ℕ → Option C) where
         out_a : (area : ℕ) → IsHeaderBlock area → (area_a ≤ area) ⊎ (area + 128 ≤ area_a)
         out_a area (inl is) = inl (omega (arith, is))
         out_a area (inr is) = inl (omega (arith, is))
+
         out_b : (area : ℕ) → IsHeaderBlock area → (area_b ≤ area) ⊎ (area + 128 ≤ area_b)
         out_b area (inl is) = inr (omega (arith, is))
         out_b area (inr is) = inl (omega (arith, is))

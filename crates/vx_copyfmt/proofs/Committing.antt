@@ -1,12 +1,12 @@
 -- Once a commit is done, an import finds the new configuration, or is refused with 8 or 9.
 use Rattle.std.proofs.Common.{◌≡◌, ◌⊎◌, inl, inr, ℕ, zero, suc, ◌<◌, ◌≤◌, Bool, true, false, Option, Some, None, List, refl, ap, sym, subst, ◌∙◌, arith}
-use Rattle.std.specs.Prelude.{nat_lt, ◌&&◌, ◌||◌, if◌then◌else◌}
-use Rattle.std.proofs.lemmas.Bool.{cases_lt, lt-ltb, le-ltb}
-use Rattle.vx_disk.specs.Shelf.{Image, Values, Each}
+use Rattle.std.specs.Prelude.{◌&&◌, ◌||◌, if◌then◌else◌}
+use Rattle.std.proofs.lemmas.Bool.{cases_lt}
+use Rattle.vx_disk.specs.Shelf.{Image, Values}
 use Rattle.vx_copyfmt.specs.Labels.{seen_in}
 use Rattle.vx_copyfmt.specs.declared.label.LabelSeen.{LabelSeen}
 use Rattle.vx_copyfmt.specs.declared.label.LabelSeen.TheVariants as seen
-use Rattle.vx_copyfmt.specs.Copies.{Disk, Copy, Body, Holds, Differs, copy_of}
+use Rattle.vx_copyfmt.specs.Copies.{Copy, Body, Holds, Differs, copy_of}
 use Rattle.vx_copyfmt.specs.Imports.{Outcome, Found, Missing, NoConfig, Damaged, Format, is_label, strange_label, first_of, later, on_disk, strange, missing, or_missing, settle, by_body, by_newest, by_labels, newest, import_of}
 use Rattle.vx_copyfmt.specs.Commits.{FindsOld, FindsNew, Gives, Answers, Committed, IsGood, Written}
 use Rattle.vx_copyfmt.proofs.Newest.{import_new, Below, BelowCopy, later_none, later_takes, later_keeps, below_later, below_on, later_either}
@@ -127,11 +127,16 @@ module _ {C : Type 0} (failed : C → ℕ → Bool) where
         let put : Put (readable n) n ≡ on_disk n (copy_of reads (i n)) = ap (λ (t : Bool). Put t n) in_it ∙ put_all n lt in
         let below : Below serial (on_disk n (copy_of reads (i n))) = below_on serial n (copy_of reads (i n)) (older_copy n lt fails (copy_of reads (i n)) refl) in
         elim top [
-          | inl new ↦ inl (new.0, new.1,
-              ap (λ (o : Option (ℕ × Copy C)). later o (Put (readable n) n)) new.2 ∙ ap (λ (o : Option (ℕ × Copy C)). later (Some (new.0, record { serial = serial; area = new.1; body = Holds f })) o) put
-              ∙ later_keeps serial (new.0, record { serial = serial; area = new.1; body = Holds f }) (on_disk n (copy_of reads (i n))) (omega arith) below)
-          | inr old ↦ inr (subst (λ (o : Option (ℕ × Copy C)). Below serial (later (newest reads readable i n) o)) (sym put) (below_later serial (newest reads readable i n) (on_disk n (copy_of reads (i n))) old.0 below),
-              longer n old.1 (λ is. fails))
+          | inl new ↦ inl (
+            new.0,
+            new.1,
+            ap (λ (o : Option (ℕ × Copy C)). later o (Put (readable n) n)) new.2 ∙ ap (λ (o : Option (ℕ × Copy C)). later (Some (new.0, record { serial = serial; area = new.1; body = Holds f })) o) put
+                ∙ later_keeps serial (new.0, record { serial = serial; area = new.1; body = Holds f }) (on_disk n (copy_of reads (i n))) (omega arith) below,
+          )
+          | inr old ↦ inr (
+            subst (λ (o : Option (ℕ × Copy C)). Below serial (later (newest reads readable i n) o)) (sym put) (below_later serial (newest reads readable i n) (on_disk n (copy_of reads (i n))) old.0 below),
+            longer n old.1 (λ is. fails),
+          )
         ]
     taken n lt in_it false good top =
         let copy = written.new n lt good in

@@ -1,11 +1,11 @@
 -- What an import finds in an image of which each disk is as one of before, or has a copy that was made since.
 use Rattle.std.proofs.Common.{◌≡◌, ◌⊎◌, inl, inr, ℕ, zero, suc, ◌<◌, ◌≤◌, Bool, true, false, Option, Some, None, List, refl, ap, sym, subst, ◌∙◌, arith}
-use Rattle.std.specs.Prelude.{nat_lt, ◌&&◌, ◌||◌, if◌then◌else◌}
+use Rattle.std.specs.Prelude.{nat_lt, ◌&&◌, if◌then◌else◌}
 use Rattle.std.proofs.lemmas.Bool.{cases_lt, lt-ltb, le-ltb}
 use Rattle.vx_disk.specs.Shelf.{Image, Values, Each}
 use Rattle.vx_copyfmt.specs.Labels.{seen_in}
-use Rattle.vx_copyfmt.specs.Copies.{Disk, Copy, Body, Holds, Differs, copy_of}
-use Rattle.vx_copyfmt.specs.Imports.{Outcome, Found, Missing, NoConfig, Damaged, Format, is_label, strange_label, first_of, later, on_disk, strange, missing, or_missing, settle, by_body, by_newest, by_labels, newest, import_of}
+use Rattle.vx_copyfmt.specs.Copies.{Disk, Copy, Body, Holds, copy_of}
+use Rattle.vx_copyfmt.specs.Imports.{is_label, strange_label, first_of, later, on_disk, strange, settle, by_body, by_newest, by_labels, newest, import_of}
 use Rattle.vx_copyfmt.specs.Commits.{Slots, Among, FromOld, FromNew, Amid, FindsOld, FindsNew, Older}
 
 -- ---- labels
@@ -121,8 +121,8 @@ module _ {C : Type 0} (reads : List ℕ → Option C) (failed : C → ℕ → Bo
       ]) in
       subst
       (λ t. ((later (newest reads readable i n) (Put (readable n && is_label (seen_in (i n 0))) n (copy_of reads (i n))) ≡ later (newest reads readable j n) (Put (readable n && is_label t) n (copy_of reads (j n))))
-        × Below s (later (newest reads readable i n) (Put (readable n && is_label (seen_in (i n 0))) n (copy_of reads (i n)))))
-        ⊎ ((u : ℕ) × (x : Copy C) × IsMade begun x × (later (newest reads readable i n) (Put (readable n && is_label (seen_in (i n 0))) n (copy_of reads (i n))) ≡ Some (u, x))))
+      × Below s (later (newest reads readable i n) (Put (readable n && is_label (seen_in (i n 0))) n (copy_of reads (i n)))))
+      ⊎ ((u : ℕ) × (x : Copy C) × IsMade begun x × (later (newest reads readable i n) (Put (readable n && is_label (seen_in (i n 0))) n (copy_of reads (i n))) ≡ Some (u, x))))
       here.label step
     where
       below_old : (o : Option (Copy C)) → copy_of reads (i n) ≡ o → (p : Option (Copy C)) → o ≡ copy_of reads (j n) → Older reads s (leaves n) → Among (leaves n) (j n) → BelowCopy s o
@@ -197,18 +197,21 @@ module _ {C : Type 0} (reads : List ℕ → Option C) (failed : C → ℕ → Bo
       where
         alike : (u : ℕ) → u < units → Alike reads begun (leaves u) (i u) (before u)
         alike u lt = at_alike u (cases_lt u units) lt
+
         labels : strange readable i units ≡ strange readable before units
         labels = strange_same readable i before units (λ u lt. (alike u lt).label)
+
         left : Each leaves before
         left u = at_among u (cases_lt u units)
+
         by_version : (o : Option ℕ) → strange readable i units ≡ o → FindsOld reads failed units leaves readable i ⊎ FindsNew reads failed begun units readable i
         by_version (Some v) is = inl (record { image = before; left = left; same = import_format units readable i before v is (sym labels ∙ is) })
         by_version None is = elim (tops readable leaves i before units older alike) [
           | inl old ↦ inl (record { image = before; left = left; same = import_old units readable i before labels old.0 })
           | inr new ↦ inr (record {
-              serial = new.2.serial;
-              config = new.2.config;
-              made = new.2.made;
-              found = import_new units readable i new.0 new.1 new.2.config is new.3 (ap (λ (x : Copy C). x.body) new.2.is);
-            })
+            serial = new.2.serial;
+            config = new.2.config;
+            made = new.2.made;
+            found = import_new units readable i new.0 new.1 new.2.config is new.3 (ap (λ (x : Copy C). x.body) new.2.is);
+          })
         ]

@@ -4,7 +4,9 @@ ghost use Rattle.vx_copyfmt.specs.Areas.{area_table, area_fields, area_in, heade
 ghost use Rattle.vx_wire.specs.Places.{put_at};
 ghost use Rattle.vx_wire.specs.Seals.{filled};
 
-use vx_wire::{Field, broken_seal, get_bytes, get_u32, get_u64, put_bytes, put_fields, put_zeros, seal};
+use vx_wire::{
+    Field, broken_seal, get_bytes, get_u32, get_u64, put_bytes, put_fields, put_zeros, seal,
+};
 
 /// The bytes "VXAREA01", with which the header of an area begins.
 pub const AREA_MAGIC: u64 = 0x5658415245413031;

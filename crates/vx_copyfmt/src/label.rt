@@ -37,9 +37,7 @@ pub struct Label {
 pub enum LabelSeen {
     Label(Label),
     /// It begins as a label, its digest is good, and its version is another one.
-    Format {
-        version: u32,
-    },
+    Format { version: u32 },
     Other,
 }
 

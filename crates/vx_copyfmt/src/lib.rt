@@ -8,8 +8,8 @@ mod label;
 mod laws;
 
 pub use area::{AREA_MAGIC, AreaHeader, get_area, put_area};
-pub use laws::blocks_have_one_spelling;
 pub use label::{LABEL_MAGIC, Label, LabelSeen, get_label, put_label};
+pub use laws::blocks_have_one_spelling;
 
 #[cfg(test)]
 mod tests;

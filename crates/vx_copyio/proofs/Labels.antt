@@ -1,7 +1,7 @@
 -- The labels, one after the other.
-use Rattle.std.proofs.Common.{◌≡◌, inl, inr, ⊎_elim, ℕ, suc, ◌+◌, ◌<◌, ◌≤◌, List, length, take, drop, refl, ap, sym, subst, ◌∙◌, arith}
+use Rattle.std.proofs.Common.{◌≡◌, inl, inr, ⊎_elim, ℕ, ◌+◌, ◌<◌, List, length, ap, sym, subst, ◌∙◌, arith}
 use Rattle.std.proofs.lemmas.Bool.{cases_lt}
-use Rattle.vx_disk.specs.Shelf.{Meaning, Covers, Written, Or, Goes, Keeps, KeepsAll, piece}
+use Rattle.vx_disk.specs.Shelf.{Meaning, Written, Or, Goes, Keeps, KeepsAll, piece}
 use Rattle.vx_disk.proofs.Runs.{piece_one, KeepsAll_one, weaker, both_Goes, same_Goes}
 use Rattle.vx_copyfmt.specs.Labels.{label_block, IsLabel}
 use Rattle.vx_copyfmt.specs.declared.label.Label.{Label}
@@ -56,10 +56,12 @@ pub one_more : (site k : ℕ) (old mid new : Meaning) → SoFar site k old mid �
     → ((u b : ℕ) (v : List ℕ) → (u ≡ k → ⊥) → new.leaves u b v → mid.leaves u b v) → Keeps new k 0 (label_block (label_of site k (mid.size k))) → SoFar site (k + 1) old new
 one_more site k old mid new so_far goes only kept = record {
   goes = more_goes site old mid new so_far.goes goes;
-  labelled = record { each = λ u lt. elim (cases_lt u k) [
-    | inl below ↦ record { only = λ v left. (so_far.labelled.each u below).only v (only u 0 v (λ same. omega (arith, same, below)) left) }
-    | inr last ↦
-        let same : k ≡ u = omega (arith, lt, last) in
-        subst (λ (n : ℕ). Keeps new n 0 (label_block (label_of site n (old.size n)))) same (subst (λ (n : ℕ). Keeps new k 0 (label_block (label_of site k n))) (so_far.goes.size k) kept)
-  ] };
+  labelled = record {
+    each = λ u lt. elim (cases_lt u k) [
+      | inl below ↦ record { only = λ v left. (so_far.labelled.each u below).only v (only u 0 v (λ same. omega (arith, same, below)) left) }
+      | inr last ↦
+          let same : k ≡ u = omega (arith, lt, last) in
+          subst (λ (n : ℕ). Keeps new n 0 (label_block (label_of site n (old.size n)))) same (subst (λ (n : ℕ). Keeps new k 0 (label_block (label_of site k n))) (so_far.goes.size k) kept)
+    ];
+  };
 }

@@ -1,18 +1,18 @@
 -- The calls that write a copy, one after the other.
-use Rattle.std.proofs.Common.{◌≡◌, ◌≢◌, ◌⊎◌, inl, inr, ⊎_elim, ℕ, suc, ◌+◌, ◌-◌, ◌*◌, ◌<◌, ◌≤◌, Bool, true, false, IsTrue, IsFalse, List, length, take, drop, refl, ap, sym, subst, ◌∙◌, arith}
+use Rattle.std.proofs.Common.{◌≡◌, ◌⊎◌, inl, inr, ⊎_elim, ℕ, ◌+◌, ◌≤◌, Bool, true, false, IsTrue, IsFalse, List, length, take, refl, ap, sym, subst, ◌∙◌, arith}
 use Rattle.vx_wire.specs.Seals.{digest_of}
 use Rattle.vx_wire.proofs.SealLemmas.{length-digest_of}
-use Rattle.vx_disk.specs.Shelf.{Meaning, Image, Lawful, Each, Covers, Written, Or, Nothing, Goes, Keeps, KeepsAll, Read, piece}
+use Rattle.vx_disk.specs.Shelf.{Meaning, Lawful, Covers, Written, Nothing, Goes, KeepsAll, Read, piece}
 use Rattle.vx_disk.specs.Moves.{Moves, Run}
 use Rattle.vx_disk.proofs.Moving.{of_goes, then_goes}
-use Rattle.vx_disk.proofs.Runs.{at_rest, covers_one, elsewhere, nothing_then, piece_one, KeepsAll_one}
+use Rattle.vx_disk.proofs.Runs.{at_rest, covers_one, piece_one, KeepsAll_one}
 use Rattle.vx_copyfmt.specs.Areas.{CanSpellArea, area_block, header_of}
 use Rattle.vx_copyfmt.specs.Copies.{Disk, area_a, area_b}
-use Rattle.vx_copyfmt.specs.Commits.{Among, FromOld, FromNew, IsHeaderBlock, Mixed, Tidy, target_of}
+use Rattle.vx_copyfmt.specs.Commits.{Among, IsHeaderBlock, Mixed, Tidy, target_of}
 use Rattle.vx_copyfmt.specs.declared.area.AreaHeader.{AreaHeader}
 use Rattle.vx_copyfmt.proofs.AreaLemmas.{length-area_block}
 use Rattle.vx_copyfmt.proofs.Areas.{stays}
-use Rattle.vx_copyio.specs.Putting.{InImage, IsMade, IsTarget, LeavesNew, LeavesOldOrNew, OldOrNew, those}
+use Rattle.vx_copyio.specs.Putting.{InImage, IsTarget, LeavesNew, LeavesOldOrNew, OldOrNew, those}
 use Rattle.vx_copyio.proofs.Slots.{FillsBlocks, Landed, landed_new, landed_tidy, new_copy}
 
 -- ---- headers that were read
@@ -97,11 +97,13 @@ module _ (disk area : ℕ) (h : AreaHeader) (body : List ℕ) (can : CanSpellAre
 
   -- a disk of which only body blocks are other ones
   mixed_old : (d : Disk) → Mixed (old.leaves disk) area d → OldOrNew disk h body old d
-  mixed_old d mixed = record { each = λ counts tidy counted. inl (
-    let first : old.leaves disk 0 (d 0) = ⊎_elim (λ is. is) (λ (in_it : (area + 1 ≤ 0) × (0 ≤ area + 127)). absurd (omega (arith, in_it.0))) (mixed 0) in
-    let tells : IsTrue old.tells = tells_of old lawful disk 0 (d 0) first in
-    stays (those counts) h.serial (old.leaves disk) tidy (λ b. (a_disk old lawful tells disk b).0) (λ b. (a_disk old lawful tells disk b).1) d
-    target.first target.second (target.in_a tells) (target.in_b tells) (subst (λ (k : ℕ). Mixed (old.leaves disk) k d) target.is mixed)) }
+  mixed_old d mixed = record {
+    each = λ counts tidy counted. inl (
+        let first : old.leaves disk 0 (d 0) = ⊎_elim (λ is. is) (λ (in_it : (area + 1 ≤ 0) × (0 ≤ area + 127)). absurd (omega (arith, in_it.0))) (mixed 0) in
+        let tells : IsTrue old.tells = tells_of old lawful disk 0 (d 0) first in
+        stays (those counts) h.serial (old.leaves disk) tidy (λ b. (a_disk old lawful tells disk b).0) (λ b. (a_disk old lawful tells disk b).1) d
+        target.first target.second (target.in_a tells) (target.in_b tells) (subst (λ (k : ℕ). Mixed (old.leaves disk) k d) target.is mixed));
+  }
 
   body_mixed : (m : Meaning) (d : Disk) → ((b : ℕ) → old.leaves disk b (d b) ⊎ OfBody disk b (d b)) → Mixed (old.leaves disk) area d
   body_mixed m d or b = ⊎_elim (λ was. inl was) (λ put. inr (in_body disk b (d b) put)) (or b)
@@ -125,8 +127,10 @@ module _ (disk area : ℕ) (h : AreaHeader) (body : List ℕ) (can : CanSpellAre
         where
           at_mid : (b : ℕ) → (b ≡ area → ⊥) → mid.leaves disk b (d b)
           at_mid b apart = ⊎_elim (λ was. was) (λ put. absurd (apart (head_only disk b (d b) put).1)) (or b)
+
           out_of : (b : ℕ) → (b ≡ area → ⊥) → ((area + 1 ≤ b) × (b ≤ area + 127) → ⊥) → old.leaves disk b (d b)
           out_of b apart out = ⊎_elim (λ was. was) (λ put. absurd (out (in_body disk b (d b) put))) (goes.leaves disk b (d b) (at_mid b apart))
+
           other_head : (a : ℕ) → IsHeaderBlock a → (a ≡ area → ⊥) → old.leaves disk a (d a)
           other_head a is apart = out_of a apart (λ in_it. apart (no_other a is in_it.0 in_it.1))
             where
@@ -134,17 +138,21 @@ module _ (disk area : ℕ) (h : AreaHeader) (body : List ℕ) (can : CanSpellAre
               no_other k is_k low high = ⊎_elim
                   (λ (x : k ≡ area_a). ⊎_elim (λ (y : area ≡ area_a). x ∙ sym y) (λ (y : area ≡ area_b). absurd (omega (arith, x, y, low))) one)
                   (λ (x : k ≡ area_b). ⊎_elim (λ (y : area ≡ area_a). absurd (omega (arith, x, y, high))) (λ (y : area ≡ area_b). x ∙ sym y) one) is_k
+
           zero_apart : 0 ≡ area → ⊥
           zero_apart is = ⊎_elim (λ (x : area ≡ area_a). omega (arith, x, is)) (λ (x : area ≡ area_b). omega (arith, x, is)) one
+
           by_head : mid.leaves disk area (d area) ⊎ OfHeader disk area (d area) → OldOrNew disk h body old d
           by_head (inl was) = mixed_old d (body_mixed old d (λ b. goes.leaves disk b (d b) (each_mid b)))
             where
               each_mid : (b : ℕ) → mid.leaves disk b (d b)
               each_mid b = ⊎_elim (λ is. is) (λ put. subst (λ (k : ℕ). mid.leaves disk k (d k)) (sym (head_only disk b (d b) put).1) was) (or b)
-          by_head (inr put) = record { each = λ counts tidy counted. inr (
-            new_copy h body can fills long digest counts counted (old.leaves disk) tidy area one d (put.value ∙ piece_one area (area_block h) head_long)
-            (λ b low high. (kept.each b (record { there = refl; first = low; last = high })).only (d b) (at_mid b (λ is. omega (arith, is, low))))
-            other_head (out_of 0 zero_apart (λ in_it. omega (arith, in_it.0)))) }
+          by_head (inr put) = record {
+            each = λ counts tidy counted. inr (
+                new_copy h body can fills long digest counts counted (old.leaves disk) tidy area one d (put.value ∙ piece_one area (area_block h) head_long)
+                (λ b low high. (kept.each b (record { there = refl; first = low; last = high })).only (d b) (at_mid b (λ is. omega (arith, is, low))))
+                other_head (out_of 0 zero_apart (λ in_it. omega (arith, in_it.0))));
+          }
 
       module _ (new : Meaning) (last : Goes (Written disk area (area_block h)) mid new) where
         pub header_moves : Moves (Run disk 1 256) (InImage disk h body old) old new
@@ -182,6 +190,7 @@ module _ (disk area : ℕ) (h : AreaHeader) (body : List ℕ) (can : CanSpellAre
               where
                 none : (a : ℕ) (v : List ℕ) → new.leaves disk a v → ⊥
                 none a v left = lawful_new.none (last.tells ∙ goes.tells ∙ quiet) disk a v left
+
             by_tells : (counts : List ℕ → Bool) (t : Bool) → old.tells ≡ t → (IsTrue old.tells → Tidy (those counts) (h.serial + 1) (new.leaves disk)) → Tidy (those counts) (h.serial + 1) (new.leaves disk)
             by_tells counts true is make = make is
             by_tells counts false is make = blind counts is

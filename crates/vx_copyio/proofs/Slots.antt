@@ -1,14 +1,13 @@
 -- What a disk has once the body of a copy stands behind its header, or the header alone is missing.
-use Rattle.std.proofs.Common.{◌≡◌, ◌⊎◌, inl, inr, ⊎_elim, ℕ, suc, ◌+◌, ◌-◌, ◌*◌, ◌/◌, ◌%◌, ◌<◌, ◌≤◌, Bool, true, Option, Some, None, List, length, take, drop, refl, ap, sym, subst, ◌∙◌, arith}
+use Rattle.std.proofs.Common.{◌≡◌, ◌⊎◌, inl, inr, ℕ, ◌+◌, ◌-◌, ◌*◌, ◌/◌, ◌%◌, ◌<◌, ◌≤◌, Bool, true, Some, List, length, take, drop, refl, ap, sym, subst, ◌∙◌, arith}
 use Rattle.std.proofs.lemmas.Bool.{cases_lt, lt-ltb, le-ltb}
 use Rattle.std.specs.Prelude.{nat_lt, if◌then◌else◌}
 use Rattle.vx_wire.specs.Seals.{digest_of}
 use Rattle.vx_wire.proofs.SealLemmas.{length-digest_of}
 use Rattle.vx_disk.specs.Shelf.{piece}
-use Rattle.vx_copyfmt.specs.Areas.{CanSpellArea, IsArea, IsTypedArea, area_block, header_of}
-use Rattle.vx_copyfmt.specs.Copies.{Disk, Copy, Holds, area_a, area_b, body_of, copy_at, copy_of}
-use Rattle.vx_copyfmt.specs.Commits.{Slots, Among, FromOld, FromNew, IsHeaderBlock, Mixed, Tidy}
-use Rattle.vx_copyfmt.specs.Labels.{seen_in}
+use Rattle.vx_copyfmt.specs.Areas.{CanSpellArea, area_block, header_of}
+use Rattle.vx_copyfmt.specs.Copies.{Disk, Copy, Holds, body_of, copy_at}
+use Rattle.vx_copyfmt.specs.Commits.{Slots, Among, FromNew, IsHeaderBlock, Tidy}
 use Rattle.vx_copyfmt.specs.declared.area.AreaHeader.{AreaHeader}
 use Rattle.vx_copyfmt.proofs.AreaLemmas.{header_of-is}
 use Rattle.vx_copyfmt.proofs.Areas.{becomes, copy_at-same, under_holds}
@@ -123,10 +122,11 @@ module _ (h : AreaHeader) (body : List ℕ) (can : CanSpellArea h) (fills : Fill
 
   landed_counts : (base : Disk) → Among old base → (d : Disk) (a : ℕ) (g : AreaHeader) → IsHeaderBlock a → Among new d → header_of (d a) ≡ Some g → (x : Copy (List ℕ)) × (copy_at (those counts) d a ≡ Some x)
   landed_counts base has d a g is among head = elim (same_or a area) [
-    | inl same ↦
-        (record { serial = h.serial; area = area; body = Holds (take h.length body) },
-        subst (λ (k : ℕ). copy_at (those counts) d k ≡ Some (record { serial = h.serial; area = area; body = Holds (take h.length body) })) (sym same)
-        (new_counts h body can fills long digest counts counted old tidy area one d (landed.header (d area) (among area)) (λ b low high. landed.pieces b (d b) low high (among b))))
+    | inl same ↦ (
+      record { serial = h.serial; area = area; body = Holds (take h.length body) },
+      subst (λ (k : ℕ). copy_at (those counts) d k ≡ Some (record { serial = h.serial; area = area; body = Holds (take h.length body) })) (sym same)
+          (new_counts h body can fills long digest counts counted old tidy area one d (landed.header (d area) (among area)) (λ b low high. landed.pieces b (d b) low high (among b))),
+    )
     | inr apart ↦
         let e : Disk = patched a d base in
         let kept : (b : ℕ) → a ≤ b → b ≤ a + 127 → d b ≡ e b = λ b low high. sym (patched_in a d base b low high) in

@@ -1,6 +1,6 @@
-use Rattle.std.proofs.Common.{arith, ◌≡◌, ◌∙◌, sym, Some, None}
+use Rattle.std.proofs.Common.{arith, sym}
 use Rattle.vx_copyfmt.proofs.AreaLemmas.{header_of-only}
-use Rattle.vx_copies.proofs.Reading.{StillUp, area_none, area_sees}
+use Rattle.vx_copies.proofs.Reading.{area_none, area_sees}
 use Rattle.vx_copies.proofs.area.read_area.Goals as goal
 
 pub read_copy-requires-clause-can : goal.read_copy-requires-clause-can

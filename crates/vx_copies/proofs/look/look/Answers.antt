@@ -1,6 +1,6 @@
-use Rattle.std.proofs.Common.{arith, ◌≡◌, ◌∙◌, sym, refl}
+use Rattle.std.proofs.Common.{arith, refl}
 use Rattle.vx_copyfmt.specs.declared.label.LabelSeen.TheVariants as label
-use Rattle.vx_copies.proofs.Reading.{StillUp, disk_sees, shows_format, shows_other}
+use Rattle.vx_copies.proofs.Reading.{disk_sees, shows_format, shows_other}
 use Rattle.vx_copies.proofs.look.look.Goals as goal
 
 pub returns-in-Label-clause-sees : goal.returns-in-Label-clause-sees

@@ -1,8 +1,8 @@
-use Rattle.std.proofs.Common.{◌≡◌, ◌∙◌, sym, IsTrue, subst, Bool}
+use Rattle.std.proofs.Common.{IsTrue, subst, Bool}
 use Rattle.vx_disk.proofs.Runs.{then_nothing}
 use Rattle.vx_disk.specs.Shelf.{Nothing}
 use Rattle.vx_copies.specs.Looking.{SeesArea}
-use Rattle.vx_copies.proofs.Reading.{StillUp, both_areas}
+use Rattle.vx_copies.proofs.Reading.{both_areas}
 use Rattle.vx_copies.proofs.look.look_areas.Goals as goal
 
 pub returns-in-Ok-Seen-read_area-clause-sees : goal.returns-in-Ok-Seen-read_area-clause-sees

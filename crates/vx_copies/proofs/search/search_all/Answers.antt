@@ -1,7 +1,6 @@
 use Rattle.std.proofs.Common.{refl, IsTrue, subst, Bool}
 use Rattle.vx_disk.proofs.Runs.{same_Goes, then_nothing}
 use Rattle.vx_disk.specs.Shelf.{Nothing}
-use Rattle.vx_copies.proofs.Reading.{StillUp}
 use Rattle.vx_copies.proofs.Searching.{none_yet, one_more}
 use Rattle.vx_copies.proofs.search.search_all.Goals as goal
 

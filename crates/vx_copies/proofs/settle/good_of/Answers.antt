@@ -1,4 +1,4 @@
-use Rattle.std.proofs.Common.{arith, ◌≡◌, ◌≤◌, ◌<◌, ◌-◌, ℕ, drop, length, ap, sym, ◌∙◌, subst}
+use Rattle.std.proofs.Common.{arith, ◌≤◌, ◌<◌, ◌-◌, drop, length, ap}
 use Rattle.std.proofs.lemmas.List.{length-drop}
 use Rattle.vx_copies.specs.Answers.{good_set}
 use Rattle.vx_copies.proofs.Settling.{good_small}

@@ -1,4 +1,4 @@
-use Rattle.std.proofs.Common.{arith, ◌≡◌, ◌∙◌, ◌<◌, length, get_or, ap, sym, inl, inr, Bool, true, false, List, ℕ}
+use Rattle.std.proofs.Common.{arith, ◌≡◌, ◌∙◌, ◌<◌, length, get_or, ap, sym, inl, inr, List}
 use Rattle.vx_config.specs.declared.entry.DiskEntry.{DiskEntry}
 use Rattle.vx_copies.specs.Answers.{flag_at}
 use Rattle.vx_copies.specs.Bodies.{failed_in}

@@ -1,4 +1,4 @@
-use Rattle.std.proofs.Common.{arith, ◌≡◌, ◌∙◌, sym, ap, true, false, take, refl}
+use Rattle.std.proofs.Common.{arith, ◌≡◌, ◌∙◌, sym, ap, true, false}
 use Rattle.std.specs.Option.{is_some}
 use Rattle.vx_wire.specs.Numbers.{be_bytes}
 use Rattle.vx_copyfmt.specs.Labels.{label_magic, begins_label}

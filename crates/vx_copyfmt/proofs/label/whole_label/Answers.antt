@@ -1,4 +1,4 @@
-use Rattle.std.proofs.Common.{◌≡◌, ◌∙◌, sym, refl}
+use Rattle.std.proofs.Common.{◌∙◌, sym}
 use Rattle.vx_copyfmt.proofs.LabelLemmas.{seen_format, seen_label, seen_other}
 use Rattle.vx_copyfmt.proofs.Told.{not_both}
 use Rattle.vx_copyfmt.proofs.label.whole_label.Goals as goal

@@ -1,8 +1,5 @@
-use Rattle.std.proofs.Common.{arith, ◌≡◌, ℕ}
 use Rattle.std.proofs.lemmas.Result.{on_ok_weaker}
 use Rattle.vx_disk.proofs.Runs.{nothing_then}
-use Rattle.vx_disk.specs.Shelf.{Goes, Written}
-use Rattle.vx_copyio.proofs.Slots.{FillsBlocks}
 use Rattle.vx_copyio.proofs.Putting.{read_moves, read_leaves, body_moves, body_leaves, header_moves, header_leaves, header_stands}
 use Rattle.vx_copyio.proofs.copying.put_copy.Goals as goal
 
