@@ -9,7 +9,7 @@ use vx_copyfmt::AreaHeader;
 use vx_copyio::{are_large, put_copy};
 use vx_disk::{MemShelf, Rack, Shelf, put};
 use vx_model::{No, OutOfMemory, Stop};
-use vx_wire::{digest, get_bytes, seal};
+use vx_wire::{digest, get_bytes, put_bytes, seal};
 
 // Two good disks of 1,024 blocks, and no volume, with serial 1.
 const BODY: [u8; 37] = [
@@ -171,4 +171,48 @@ fn a_label_of_another_version_is_told(rt: HostRuntime) {
     assert!(rt; found(alloc, &mut shelf) == Err(Stop::No(No::Format { version: 9 })));
     fail(&mut shelf, 1, true);
     assert!(rt; found(alloc, &mut shelf) == Err(Stop::No(No::Missing { disk: 1 })));
+}
+
+// A volume of 128 blocks with one plex of two subdisks on the first disk, from blocks 512 and 576 on.
+const VOLUME: [u8; 96] = [
+    // version, serial, site
+    0, 0, 0, 1, 0, 0, 0, 0, 0, 0, 0, 1, 0, 0, 0, 7, // two disks
+    2, 0, 0, 0, 0, 0, 0, 4, 0, 0, 0, 0, 0, 0, 0, 0, 4, 0, 0, // one volume: name, blocks, ncol, width
+    1, 1, b'v', 0, 0, 0, 0, 0, 0, 0, 128, 1, 0, 0, 0, 0,
+    // no drl, no fmr, round, no preferred plex, no logs
+    0, 0, 0, 0, 0, 0, // one plex: active, not whole, two subdisks
+    1, 0, 0, 2, 0, 0, 0, 0, 0, 0, 0, 2, 0, 0, 0, 0, 0, 0, 0, 0, 64, // the second one
+    0, 0, 0, 0, 0, 0, 0, 2, 64, 0, 0, 0, 0, 0, 0, 0, 64, // no replicated volume group
+    0,
+];
+
+// The place of the last byte of the second subdisk's start.
+const START: usize = 86;
+
+// Writes a copy of a body with a volume to the first disk.
+fn copy_volume<S: Shelf>(shelf: &mut S, serial: u64, bytes: &[u8; 96]) -> bool {
+    if shelf.units() == 0 || shelf.size(0) < 257 || serial > 100 {
+        return false;
+    }
+    let mut block = [0; 512];
+    put_bytes(&mut block, 0, bytes);
+    let front: [u8; 96] = get_bytes(&block, 0);
+    let header = AreaHeader {
+        serial,
+        length: 96,
+        digest: digest(&front),
+    };
+    put_copy(shelf, 0, &header, &block).is_ok()
+}
+
+#[test]
+fn a_configuration_that_is_not_sound_does_not_count(rt: HostRuntime) {
+    let alloc = rt.alloc();
+    let mut shelf = labelled(alloc).expect(&rt, "there is memory");
+    let mut overlap = VOLUME;
+    overlap[START] = 63;
+    assert!(rt; copy_volume(&mut shelf, 1, &overlap));
+    assert!(rt; found(alloc, &mut shelf) == Err(Stop::No(No::NoConfig)));
+    assert!(rt; copy_volume(&mut shelf, 2, &VOLUME));
+    assert!(rt; found(alloc, &mut shelf) == Ok((1, 3, true)));
 }
