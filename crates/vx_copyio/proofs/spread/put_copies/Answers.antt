@@ -1,4 +1,4 @@
-use Rattle.std.proofs.Common.{arith, ◌≡◌, ◌+◌, ℕ, sym, ◌∙◌, subst}
+use Rattle.std.proofs.Common.{arith, ◌+◌, sym, subst}
 use Rattle.vx_copyio.specs.Putting.{AllNew, Copied, IsMember}
 use Rattle.vx_copyio.proofs.Spreading.{one_copied, one_new, reaches, skips_new}
 use Rattle.vx_copyio.proofs.spread.put_copies.Goals.{then-is_member+in-Ok, else-is_member}

@@ -1,6 +1,3 @@
-use Rattle.vx_disk.specs.Shelf.{Meaning}
-use Rattle.std.proofs.Common.{◌≡◌, ◌≤◌, ℕ}
-use Rattle.vx_copyio.specs.Labelling.{AreLarge}
 use Rattle.vx_copyio.specs.Putting.{AllNew, Copied, IsMember}
 use Rattle.vx_copyio.proofs.spread.put_copies.Given as goal
 
