@@ -1,0 +1,20 @@
+//! Commits and imports: the configuration of a group as its disks keep it.
+//!
+//! Block 0 of a disk is its label, blocks 1 to 128 and 129 to 256 are the two configuration areas, and the public region
+//! begins at block 512. Blocks are 512 bytes.
+#![tactic(auto)]
+
+mod area;
+mod body;
+mod importing;
+mod look;
+mod search;
+mod seen;
+mod settle;
+
+pub use importing::import;
+use seen::{AreaSeen, BodySeen, CopySeen, DiskSeen};
+pub use vx_copyio::label;
+
+#[cfg(test)]
+mod tests;

@@ -1,0 +1,21 @@
+use Rattle.std.proofs.Common.{arith, ◌≡◌, ◌≤◌, ◌∙◌, sym, ap, List, ℕ, length, take, replicate}
+use lib.Pointwise.{pointwise}
+use Rattle.std.specs.Prelude.{nat_eq}
+use Rattle.std.specs.Cmp.Lexicographic.{same_text}
+use Rattle.std.proofs.lemmas.Cmp.{nat_list_eq_equiv}
+use Rattle.vx_wire.specs.Seals.{filled}
+use Rattle.vx_wire.proofs.SealLemmas.{length-filled}
+use Rattle.vx_copyfmt.specs.Areas.{area_fields}
+use Rattle.vx_copyfmt.proofs.Told.{put_at-whole}
+use Rattle.vx_copyfmt.proofs.AreaLemmas.{length-area_fields}
+use Rattle.vx_copyfmt.proofs.area.is_spelled.Goals as goal
+
+pub returns : goal.returns
+returns c =
+    let front : List ℕ = filled (area_fields c.args.h.now) in
+    let few : length (area_fields c.args.h.now) ≤ 480 = omega (arith, length-area_fields c.args.h.now c.requires) in
+    let again : c.put_front.new.into ≡ front = c.put_front.ensures ∙ put_at-whole front (replicate 480 0) (length-filled (area_fields c.args.h.now) few) in
+    let told : c.eq.result ≡ pointwise nat_eq front (take 480 c.args.block.now) = c.eq.ensures ∙ ap (λ (a : List ℕ). pointwise nat_eq a (take 480 c.args.block.now)) again in (
+      λ yes. sym (same_text front (take 480 c.args.block.now) (sym yes ∙ told)),
+      λ same. told ∙ ap (λ (a : List ℕ). pointwise nat_eq front a) same ∙ nat_list_eq_equiv.refl front,
+    )

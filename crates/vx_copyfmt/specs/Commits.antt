@@ -1,0 +1,102 @@
+-- What a commit makes of the disks, and what a crash at any moment of it leaves.
+use Rattle.std.specs.Prelude.{◌≡◌, ◌⊎◌, ℕ, ◌+◌, ◌<◌, ◌≤◌, Bool, true, false, nat_lt, if◌then◌else◌, Option, Some, None, List}
+use Rattle.vx_disk.specs.Shelf.{Image, Values, Each}
+use Rattle.vx_copyfmt.specs.Areas.{header_of}
+use Rattle.vx_copyfmt.specs.Copies.{Disk, Copy, Holds, area_a, area_b, copy_at, copy_of}
+use Rattle.vx_copyfmt.specs.Imports.{Outcome, Found, Missing, NoConfig, Damaged, Format, import_of, settle}
+use Rattle.vx_copyfmt.specs.Labels.{seen_in}
+use Rattle.vx_copyfmt.specs.declared.area.AreaHeader.{AreaHeader}
+
+-- of each block of a disk the values that a crash may leave
+abbrev pub Slots : Type 1
+Slots = ℕ → List ℕ → Type 0
+
+-- each block of the disk has one of its values
+abbrev pub Among : Slots → Disk → Type 0
+Among slots d = (b : ℕ) → slots b (d b)
+
+-- where the next copy goes: to the area that does not hold the greater header, and to the first where there is none
+abbrev pub target_of : Option AreaHeader → Option AreaHeader → ℕ
+target_of None other = area_a
+target_of (Some x) None = area_b
+target_of (Some x) (Some y) = if nat_lt x.serial y.serial then area_a else area_b
+
+-- a block is the header of an area
+abbrev pub IsHeaderBlock : ℕ → Type 0
+IsHeaderBlock a = (a ≡ area_a) ⊎ (a ≡ area_b)
+
+-- the header of a disk in each area has one value, and counts: its body is a configuration or has another digest; its serial is below this one
+pub record Tidy {C : Type 0} (reads : List ℕ → Option C) (serial : ℕ) (slots : Slots) : Type 0 where
+  pub settled : (a : ℕ) (v w : List ℕ) → IsHeaderBlock a → slots a v → slots a w → v ≡ w
+  pub counts : (d : Disk) (a : ℕ) (h : AreaHeader) → IsHeaderBlock a → Among slots d → header_of (d a) ≡ Some h → (x : Copy C) × (copy_at reads d a ≡ Some x)
+  pub below : (a : ℕ) (v : List ℕ) (h : AreaHeader) → IsHeaderBlock a → slots a v → header_of v ≡ Some h → h.serial < serial
+
+-- every block but those of a body in this area has one of its values
+abbrev pub Mixed : Slots → ℕ → Disk → Type 0
+Mixed slots area d = (b : ℕ) → slots b (d b) ⊎ ((area + 1 ≤ b) × (b ≤ area + 127))
+
+-- the disk has the label and the copy of one that a crash before the call might have left
+pub record FromOld {C : Type 0} (reads : List ℕ → Option C) (slots : Slots) (d : Disk) : Type 0 where
+  pub disk : Disk
+  pub among : Among slots disk
+  pub label : seen_in (d 0) ≡ seen_in (disk 0)
+  pub copy : copy_of reads d ≡ copy_of reads disk
+
+-- the disk has its label, and a copy that the call made
+pub record FromNew {C : Type 0} (reads : List ℕ → Option C) (begun : ℕ → C → Type 0) (slots : Slots) (d : Disk) : Type 0 where
+  pub serial : ℕ
+  pub config : C
+  pub area : ℕ
+  pub made : begun serial config
+  pub first : List ℕ
+  pub there : slots 0 first
+  pub label : seen_in (d 0) ≡ seen_in first
+  pub copy : copy_of reads d ≡ Some (record { serial = serial; area = area; body = Holds config })
+
+-- each disk below n is one or the other
+abbrev pub Amid : {C : Type 0} → (List ℕ → Option C) → (ℕ → C → Type 0) → ℕ → Values → Image → Type 0
+Amid reads begun n leaves i = (u : ℕ) → u < n → FromOld reads (leaves u) (i u) ⊎ FromNew reads begun (leaves u) (i u)
+
+-- an import finds what it might have found before the call
+pub record FindsOld {C : Type 0} (reads : List ℕ → Option C) (failed : C → ℕ → Bool) (units : ℕ) (leaves : Values) (readable : ℕ → Bool) (i : Image) : Type 0 where
+  pub image : Image
+  pub left : Each leaves image
+  pub same : import_of reads failed units readable i ≡ import_of reads failed units readable image
+
+-- or a configuration that the call made, unless one of its disks is missing
+pub record FindsNew {C : Type 0} (reads : List ℕ → Option C) (failed : C → ℕ → Bool) (begun : ℕ → C → Type 0) (units : ℕ) (readable : ℕ → Bool) (i : Image) : Type 0 where
+  pub serial : ℕ
+  pub config : C
+  pub made : begun serial config
+  pub found : import_of reads failed units readable i ≡ settle failed units readable config
+
+-- no copy that a crash may leave on the disk has this serial or a greater one
+pub record Older {C : Type 0} (reads : List ℕ → Option C) (serial : ℕ) (slots : Slots) : Type 0 where
+  pub below : (d : Disk) (x : Copy C) → Among slots d → copy_of reads d ≡ Some x → x.serial < serial
+
+-- this configuration is found, or one of the disks is missing, or no disk has a configuration
+abbrev pub Gives : {C : Type 0} → C → Outcome C → Type 0
+Gives c (Found x) = x ≡ c
+Gives c (Missing disk) = Unit {0}
+Gives c NoConfig = Unit {0}
+Gives c (Damaged disk block stored computed) = ⊥
+Gives c (Format version) = ⊥
+
+-- what an import over the disks finds, where this is the newest committed configuration, or none was committed
+abbrev pub Answers : {C : Type 0} → Option C → Outcome C → Type 0
+Answers None o = o ≡ NoConfig
+Answers (Some c) o = Gives c o
+
+-- whatever a crash leaves and whichever disks can be read, an import finds the committed configuration or is refused with 8 or 9
+pub record Committed {C : Type 0} (reads : List ℕ → Option C) (failed : C → ℕ → Bool) (units : ℕ) (held : Option C) (leaves : Values) : Type 0 where
+  pub each : (i : Image) (readable : ℕ → Bool) → Each leaves i → Answers held (import_of reads failed units readable i)
+
+-- the disk is one that the committed configuration holds as good: each, where none was committed
+abbrev pub IsGood : {C : Type 0} → (C → ℕ → Bool) → Option C → ℕ → Type 0
+IsGood failed None disk = Unit {0}
+IsGood failed (Some c) disk = failed c disk ≡ false
+
+-- each disk that the new configuration holds as good has its copy, and the others the copies of before, or earlier ones of the call
+pub record Written {C : Type 0} (reads : List ℕ → Option C) (failed : C → ℕ → Bool) (serial : ℕ) (config : C) (units : ℕ) (i : Image) : Type 0 where
+  pub new : (u : ℕ) → u < units → failed config u ≡ false → (area : ℕ) × (copy_of reads (i u) ≡ Some (record { serial = serial; area = area; body = Holds config }))
+  pub older : (u : ℕ) (x : Copy C) → u < units → failed config u ≡ true → copy_of reads (i u) ≡ Some x → x.serial < serial

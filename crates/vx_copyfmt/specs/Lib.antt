@@ -1,0 +1,5 @@
+pub mod Labels
+pub mod Areas
+pub mod Copies
+pub mod Imports
+pub mod Commits

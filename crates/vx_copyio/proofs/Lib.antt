@@ -1,0 +1,4 @@
+pub mod Labels
+pub mod Slots
+pub mod Putting
+pub mod Spreading

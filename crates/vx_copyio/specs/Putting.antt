@@ -1,0 +1,85 @@
+-- What the writing of a copy makes of its disk.
+use Rattle.std.specs.Prelude.{◌≡◌, ◌⊎◌, ℕ, ◌+◌, ◌<◌, ◌≤◌, Bool, true, IsTrue, if◌then◌else◌, Option, Some, None, List, take}
+use Rattle.vx_disk.specs.declared.shelf.ShelfError.{ShelfError}
+use Rattle.vx_disk.specs.declared.shelf.ShelfError.TheVariants.{Fault, Down}
+use Rattle.vx_disk.specs.Blocks.{bit_at}
+use Rattle.vx_disk.specs.Counts.{Rose}
+use Rattle.vx_disk.specs.Moves.{Moves}
+use Rattle.vx_disk.specs.Shelf.{Meaning, Image}
+use Rattle.vx_copyfmt.specs.Areas.{header_of}
+use Rattle.vx_copyfmt.specs.Copies.{Disk, area_a, area_b}
+use Rattle.vx_copyfmt.specs.Commits.{Among, FromOld, FromNew, Tidy, target_of}
+use Rattle.vx_copyfmt.specs.declared.area.AreaHeader.{AreaHeader}
+use Rattle.vx_copyio.specs.declared.spread.CopyFailed.{CopyFailed}
+
+-- the bodies that count, as themselves
+abbrev pub those : (List ℕ → Bool) → List ℕ → Option (List ℕ)
+those counts body = if counts body then Some body else None
+
+-- where the next copy of a disk goes, by what reads gave of both headers
+pub record IsTarget (disk area : ℕ) (m : Meaning) : Type 0 where
+  pub first : List ℕ
+  pub second : List ℕ
+  pub in_a : IsTrue m.tells → m.leaves disk area_a first
+  pub in_b : IsTrue m.tells → m.leaves disk area_b second
+  pub is : area ≡ target_of (header_of first) (header_of second)
+
+-- this serial and this body
+pub record IsMade (h : AreaHeader) (body : List ℕ) (serial : ℕ) (found : List ℕ) : Type 0 where
+  pub serial_is : serial ≡ h.serial
+  pub body_is : found ≡ take h.length body
+
+-- Where each header of a disk counts and has one value, and a serial below the new one, and where the new body counts, the disk has
+-- the copy of before or the new one.
+pub record OldOrNew (disk : ℕ) (h : AreaHeader) (body : List ℕ) (m : Meaning) (d : Disk) : Type 0 where
+  pub each : (counts : List ℕ → Bool) → Tidy (those counts) h.serial (m.leaves disk) → counts (take h.length body) ≡ true
+      → FromOld (those counts) (m.leaves disk) d ⊎ FromNew (those counts) (IsMade h body) (m.leaves disk) d
+
+-- the same of the disk in an image
+abbrev pub InImage : ℕ → AreaHeader → List ℕ → Meaning → Image → Type 0
+InImage disk h body m i = OldOrNew disk h body m (i disk)
+
+-- whatever a crash leaves of it
+pub record LeavesOldOrNew (disk : ℕ) (h : AreaHeader) (body : List ℕ) (old new : Meaning) : Type 0 where
+  pub each : (d : Disk) → Among (new.leaves disk) d → OldOrNew disk h body old d
+
+-- whatever a crash leaves of it has the new copy, and is ready for the next one
+pub record LeavesNew (disk : ℕ) (h : AreaHeader) (body : List ℕ) (old new : Meaning) : Type 0 where
+  pub each : (counts : List ℕ → Bool) (d : Disk) → Tidy (those counts) h.serial (old.leaves disk) → counts (take h.length body) ≡ true → Among (new.leaves disk) d
+      → FromNew (those counts) (IsMade h body) (old.leaves disk) d
+  pub tidy : (counts : List ℕ → Bool) → Tidy (those counts) h.serial (old.leaves disk) → counts (take h.length body) ≡ true → Tidy (those counts) (h.serial + 1) (new.leaves disk)
+
+-- the areas of these disks
+pub record AreasOf (disks : ℕ → Type 0) (u b : ℕ) : Type 0 where
+  pub on : disks u
+  pub first : 1 ≤ b
+  pub last : b ≤ 256
+
+-- in the image each of these disks has the copy of before or the new one
+pub record InImages (disks : ℕ → Type 0) (h : AreaHeader) (body : List ℕ) (m : Meaning) (i : Image) : Type 0 where
+  pub each : (u : ℕ) → disks u → OldOrNew u h body m (i u)
+
+-- Copies are written to these disks: at each moment a crash leaves each of them with the copy of before or the new one, and the others as they
+-- were; and so it does now.
+pub record Copied (disks : ℕ → Type 0) (h : AreaHeader) (body : List ℕ) (old new : Meaning) : Type 0 where
+  pub moves : Moves (AreasOf disks) (InImages disks h body old) old new
+  pub leaves : (u : ℕ) → disks u → LeavesOldOrNew u h body old new
+
+-- each of these disks has the new copy
+pub record AllNew (disks : ℕ → Type 0) (h : AreaHeader) (body : List ℕ) (old new : Meaning) : Type 0 where
+  pub each : (u : ℕ) → disks u → LeavesNew u h body old new
+
+-- a disk below n that is a member of a set of disks, by its bit
+pub record IsMember (set n : ℕ) (u : ℕ) : Type 0 where
+  pub below : u < n
+  pub bit : bit_at set u ≡ true
+
+-- a fault of this disk, or the shelf is down
+abbrev pub FailedOn : Meaning → Meaning → ℕ → ShelfError → Type 0
+FailedOn old new u (Fault disk) = Rose (old.faults u) (new.faults u) × Rose (old.disk_faults disk) (new.disk_faults disk) × (IsTrue new.down → ⊥)
+FailedOn old new u Down = IsTrue new.down
+
+-- why a copy was not written: the disk is one of these, and its count rose, or the shelf is down
+pub record CopyStops (set n : ℕ) (old new : Meaning) (failed : CopyFailed) : Type 0 where
+  pub member : IsMember set n failed.disk
+  pub cause : FailedOn old new failed.disk failed.error

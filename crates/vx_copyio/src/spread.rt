@@ -1,0 +1,53 @@
+// The writing of copies to several disks.
+ghost use Rattle.std.specs.Prelude.{◌≡◌, ◌%◌, ◌≤◌, length, take, OnOk, IfErr};
+ghost use Rattle.vx_copyfmt.specs.Areas.{CanSpellArea};
+ghost use Rattle.vx_copyio.specs.Labelling.{AreLarge};
+ghost use Rattle.vx_copyio.specs.Putting.{AllNew, Copied, CopyStops, IsMember};
+ghost use Rattle.vx_disk.specs.Blocks.{bit_at};
+ghost use Rattle.vx_wire.specs.Seals.{digest_of};
+
+use crate::put_copy;
+use vx_copyfmt::AreaHeader;
+use vx_disk::{Shelf, ShelfError};
+
+/// The disk to which a copy could not be written, and why.
+#[derive(Clone, Copy, Debug, PartialEq, Eq)]
+pub struct CopyFailed {
+    pub disk: u32,
+    pub error: ShelfError,
+}
+
+/// Whether a disk is a member of a set: bit D says so of disk D.
+pub fn is_member(set: u8, disk: u32) -> bool
+    ensures { result ≡ bit_at set disk }
+{
+    (set as u64 >> disk.min(63)) % 2 == 1
+}
+
+/// Writes a copy to each disk of a set, in order, and stops at the first to which it cannot be written.
+pub fn put_copies<S: Shelf>(
+    shelf: &mut S,
+    set: u8,
+    header: &AreaHeader,
+    body: &[u8],
+) -> Result<(), CopyFailed>
+    requires large { AreLarge (S.meaning shelf.old) }
+    requires can { CanSpellArea header.now }
+    requires whole { length body.now % 512 ≡ 0 }
+    requires few { length body.now ≤ 65024 }
+    requires long { header.now.length ≤ length body.now }
+    requires digest { header.now.digest ≡ digest_of (take header.now.length body.now) }
+    ensures copied { Copied (IsMember set (S.meaning shelf.old).units) header.now body.now (S.meaning shelf.old) (S.meaning shelf.new) }
+    ensures ok { OnOk result (AllNew (IsMember set (S.meaning shelf.old).units) header.now body.now (S.meaning shelf.old) (S.meaning shelf.new)) }
+    ensures stops { IfErr result (CopyStops set (S.meaning shelf.old).units (S.meaning shelf.old) (S.meaning shelf.new)) }
+{
+    for disk in 0..shelf.units() {
+        if is_member(set, disk) {
+            match put_copy(shelf, disk, header, body) {
+                Ok(()) => {}
+                Err(error) => return Err(CopyFailed { disk, error }),
+            }
+        }
+    }
+    Ok(())
+}
