@@ -41,7 +41,9 @@ fn line(rt: HostRuntime, alloc: Global, disk: u64, bytes: &[u8], count: u64)
     let hash = hashing(rt, bytes, count);
     let room = bringing(rt, alloc, disk, bytes);
     let calls = calls_of(alloc, bytes);
-    let _ = println!(rt; "disks of {disk} blocks, {blocks} a write: {write} ns, {calls} calls, SHA-256 {hash} ns, into its volume {room} ns");
+    let _ = println!(rt;
+        "disks of {disk} blocks, {blocks} a write: {write} ns, {calls} calls, SHA-256 {hash} ns, into its volume {room} ns"
+    );
 }
 
 fn main(rt: HostRuntime) {

@@ -74,7 +74,6 @@ good_puts told w s x fails said new sound working (IsPut below exact done) = sou
 good_puts told w s x fails said new sound working (NoNumber past done) = sound_as new (worked_on w s) done.leads (worked_sound w s sound working.up)
 good_puts told w s x fails said new sound working (PutFails disk done) = sound_as new (half_written w s x disk) done.leads
     (sound_changed w (half_written w s x disk) s (halted_with (w.nodes s) x disk) sound (good_half_written w s x disk sound.good working) (λ k. refl) working.origin (λ down. absurd (up_not_down working.up down)))
-
 good_puts told w s x fails said new sound working (PutCut count fused least most exact done) = sound_as new (cut_write w s x count) done.leads
     (sound_changed w (cut_write w s x count) s (crashed (half_begun (w.nodes s) x) count) sound
     (good_cut w s x count sound.good (up_is_made (w.nodes s) working.up) working.origin least most) (λ k. refl) working.origin

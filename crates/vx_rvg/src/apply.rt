@@ -77,11 +77,7 @@ fn bring<S: Shelf>(shelf: &mut S, core: &RvgCore, to: u64) -> Result<u64, ShelfE
 }
 
 /// Brings the records up to a number into their volumes, and they wait no longer. A device call that fails halts the group.
-pub(crate) fn apply_to<S: Shelf>(
-    shelf: &mut S,
-    core: &mut RvgCore,
-    count: u64,
-) -> Result<u64, No>
+pub(crate) fn apply_to<S: Shelf>(shelf: &mut S, core: &mut RvgCore, count: u64) -> Result<u64, No>
     requires sound { IsSound core.old (S.meaning shelf.old) }
     ensures answers { ApplyIs (unless_halted core.old.halted None) core.old count (S.meaning shelf.old) (S.meaning shelf.new) core.new result }
     ensures unchanged { IsSome (unless_halted core.old.halted None) → shelf.new ≡ shelf.old }

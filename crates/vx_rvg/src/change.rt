@@ -18,12 +18,7 @@ use vx_model::{Counted, No, State};
 const MOST: u64 = 0x7fff_ffff_ffff_ffff;
 
 // Empties the log, all of whose writes are in the volumes.
-fn empty<S: Shelf>(
-    shelf: &mut S,
-    core: &mut RvgCore,
-    state: &State,
-    head: u64,
-) -> Result<(), No>
+fn empty<S: Shelf>(shelf: &mut S, core: &mut RvgCore, state: &State, head: u64) -> Result<(), No>
     requires sound { IsSound core.old (S.meaning shelf.old) }
     requires state { CanSpellState state.now }
     requires number { head ≤ most_number }
@@ -50,12 +45,7 @@ fn empty<S: Shelf>(
 }
 
 // Brings all writes into their volumes, and empties the log behind a record of this number.
-fn restart<S: Shelf>(
-    shelf: &mut S,
-    core: &mut RvgCore,
-    state: &State,
-    head: u64,
-) -> Result<(), No>
+fn restart<S: Shelf>(shelf: &mut S, core: &mut RvgCore, state: &State, head: u64) -> Result<(), No>
     requires sound { IsSound core.old (S.meaning shelf.old) }
     requires state { CanSpellState state.now }
     requires number { head ≤ most_number }

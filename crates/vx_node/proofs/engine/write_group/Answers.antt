@@ -13,8 +13,11 @@ returns-in_err-make_room-clause-wrote g c = λ n stands can.
     rw (p.1, p.2)
     (wrote_at n (record { volume = c.args.volume; start = c.args.start; bytes = c.args.bytes.now }) c.args.rvg.now c.make_room.new.rvg (Err c.in_err-make_room.field-0.0)
     (unroomed n (record { volume = c.args.volume; start = c.args.start; bytes = c.args.bytes.now }) c.make_room.new.rvg.core (g.R.Shelf.meaning c.args.rvg.now.shelf) (g.R.Shelf.meaning c.make_room.new.rvg.shelf) c.in_err-make_room.field-0.0
-    (λ calls told exact. (c.in_err-make_room.ensures.idle (omega (arith, hand_here n c.args.rvg.now.core (g.R.Shelf.meaning c.args.rvg.now.shelf) c.args.volume c.args.start c.args.bytes.now stands can.running c.args.rvg.now.sound
-    (c.make_room.ensures.later.told told) (omega (arith, c.requires.some, c.requires.whole)) exact.first exact.room))).0)
+    (λ calls told exact. (c.in_err-make_room.ensures.idle (omega (
+      arith,
+      hand_here n c.args.rvg.now.core (g.R.Shelf.meaning c.args.rvg.now.shelf) c.args.volume c.args.start c.args.bytes.now stands can.running c.args.rvg.now.sound
+          (c.make_room.ensures.later.told told) (omega (arith, c.requires.some, c.requires.whole)) exact.first exact.room,
+    ))).0)
     (c.in_err-make_room.ensures.made n stands can.running (omega (arith, can.fits)))))
 
 pub returns-then-is_down-clause-wrote : goal.returns-then-is_down-clause-wrote
@@ -23,11 +26,14 @@ returns-then-is_down-clause-wrote g c = λ n stands can.
     let roomy = c.in_ok-make_room.ensures.made n stands can.running (omega (arith, can.fits)) in
     let cut = write_cut n c.args.volume c.args.start c.args.bytes.now c.args.rvg.now.core c.make_room.new.rvg.core c.write-answer.new.self.core (g.R.Shelf.meaning c.args.rvg.now.shelf) (g.R.Shelf.meaning c.make_room.new.rvg.shelf) (g.R.Shelf.meaning c.write-answer.new.self.shelf)
     stands can roomy c.make_room.ensures.later.told (lawful c.make_room.new.rvg.shelf) (lawful c.write-answer.new.self.shelf) c.make_room.new.rvg.sound c.write-answer.new.self.sound c.write-answer.ensures.moves
-    (sym c.is_down.ensures ∙ c.if-is_down.true) in
-    (cut.0, cut.1, λ calls told exact.
-    cut_less n c.args.rvg.now c.make_room.new.rvg c.args.volume c.args.start c.args.bytes.now stands can.running
-    (c.make_room.ensures.later.told (sym c.write-answer.ensures.moves.tells ∙ told)) (omega (arith, c.requires.some, c.requires.whole)) (g.R.Shelf.meaning c.write-answer.new.self.shelf) calls exact
-    (λ hand. (c.in_ok-make_room.ensures.idle hand).1) c.write-answer.ensures.short (sym c.is_down.ensures ∙ c.if-is_down.true))
+    (sym c.is_down.ensures ∙ c.if-is_down.true) in (
+      cut.0,
+      cut.1,
+      λ calls told exact.
+          cut_less n c.args.rvg.now c.make_room.new.rvg c.args.volume c.args.start c.args.bytes.now stands can.running
+          (c.make_room.ensures.later.told (sym c.write-answer.ensures.moves.tells ∙ told)) (omega (arith, c.requires.some, c.requires.whole)) (g.R.Shelf.meaning c.write-answer.new.self.shelf) calls exact
+          (λ hand. (c.in_ok-make_room.ensures.idle hand).1) c.write-answer.ensures.short (sym c.is_down.ensures ∙ c.if-is_down.true),
+    )
 
 pub returns-clause-wrote : goal.returns-clause-wrote
 returns-clause-wrote g c = λ n stands can.
