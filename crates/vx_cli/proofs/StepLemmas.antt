@@ -12,7 +12,7 @@ use Rattle.vx_node.specs.declared.said.Said.{Said}
 use Rattle.vx_node.specs.Facts.{facts_of}
 use Rattle.vx_node.specs.Lines.{script_line, only_built}
 use Rattle.vx_node.specs.Stands.{RoseAll, times}
-use Rattle.vx_node.specs.Steps.{Fails, Gets, Puts, IsPut, NoNumber, PutFails, PutCut, Recovers, ComesUp, StaysDown, NoSession, Untold, IsBareStill, Works, StepBy, SaidStep, LineStep}
+use Rattle.vx_node.specs.Steps.{Fails, Gets, Puts, IsPut, NoNumber, PutFails, PutCut, Recovers, ComesUp, StaysDown, NoSession, Untold, IsBareStill, BareFails, Works, StepBy, SaidStep, LineStep}
 
 -- a line of more than 4,096 bytes is wrong behind them
 pub script_line_long : (line : List ℕ) → 4096 < length line → script_line line ≡ Err 4097
@@ -53,6 +53,7 @@ module _ {T U : Type 0} (f : U → T) where
   recovers_told w site fails said new (NoSession mid begins none done) = NoSession mid begins none done
   recovers_told w site fails said new (Untold never) = Untold (λ u. never (f u))
   recovers_told w site fails said new (IsBareStill bare done) = IsBareStill bare done
+  recovers_told w site fails said new (BareFails disk bare failed) = BareFails disk bare failed
 
   works_told : (w : World) (line : ScriptLine) (fails : Fails) (said : Said) (new : World) → Works T w line fails said new → Works U w line fails said new
   works_told w (Site name disks blocks) fails said new x = x

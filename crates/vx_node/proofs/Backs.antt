@@ -11,7 +11,7 @@ use Rattle.vx_disk.specs.declared.shelf.Shelf.{Ghosts}
 use Rattle.vx_rvg.specs.Stands.{Found}
 use Rattle.vx_rvg.specs.Views.{Core}
 use Rattle.vx_node.specs.declared.engine.Engine.{Engine}
-use Rattle.vx_node.specs.declared.engine.Engine.TheVariants.{Bare, Up, Down, Gone}
+use Rattle.vx_node.specs.declared.engine.Engine.TheVariants.{Bare, Spoiled, Up, Down, Gone}
 use Rattle.vx_node.specs.Holds.{Holds, raw_units, state_of, most_stamp, RacksHold, RacksTell, rack_count, rack_faults}
 use Rattle.vx_node.specs.Racks.{racks_in}
 use Rattle.vx_node.specs.Stands.{EnginesStand, StandsAt, IsUnused, IsBareAt, IsUpAt, IsDownAt, IsToldAt, AreTold, fault_count, faults_of}
@@ -56,12 +56,14 @@ some_same e = cc
 module _ {R : Type 0} {g : Ghosts R} where
   abbrev rack_of : Engine R g → Option R
   rack_of (Bare rack) = Some rack
+  rack_of (Spoiled rack) = Some rack
   rack_of (Up rvg) = Some rvg.shelf
   rack_of (Down rack) = Some rack
   rack_of Gone = None
 
   abbrev IsThere : Engine R g → Type 0
   IsThere (Bare rack) = Unit {0}
+  IsThere (Spoiled rack) = Unit {0}
   IsThere (Up rvg) = Unit {0}
   IsThere (Down rack) = Unit {0}
   IsThere Gone = ⊥
@@ -77,10 +79,12 @@ module _ {R : Type 0} {g : Ghosts R} where
   slice_get-racks_in : (es : List (Engine R g)) → AllThere es → (s : ℕ) → slice_get (racks_in es) s ≡ option_and_then rack_of (slice_get es s)
   slice_get-racks_in [] all s = refl
   slice_get-racks_in (Bare rack ∷ es) all zero = refl
+  slice_get-racks_in (Spoiled rack ∷ es) all zero = refl
   slice_get-racks_in (Up rvg ∷ es) all zero = refl
   slice_get-racks_in (Down rack ∷ es) all zero = refl
   slice_get-racks_in (Gone ∷ es) all zero = absurd all.0
   slice_get-racks_in (Bare rack ∷ es) all (suc s) = slice_get-racks_in es all.1 s
+  slice_get-racks_in (Spoiled rack ∷ es) all (suc s) = slice_get-racks_in es all.1 s
   slice_get-racks_in (Up rvg ∷ es) all (suc s) = slice_get-racks_in es all.1 s
   slice_get-racks_in (Down rack ∷ es) all (suc s) = slice_get-racks_in es all.1 s
   slice_get-racks_in (Gone ∷ es) all (suc s) = absurd all.0
@@ -88,18 +92,21 @@ module _ {R : Type 0} {g : Ghosts R} where
   length-racks_in : (es : List (Engine R g)) → AllThere es → length (racks_in es) ≡ length es
   length-racks_in [] all = refl
   length-racks_in (Bare rack ∷ es) all = ap suc (length-racks_in es all.1)
+  length-racks_in (Spoiled rack ∷ es) all = ap suc (length-racks_in es all.1)
   length-racks_in (Up rvg ∷ es) all = ap suc (length-racks_in es all.1)
   length-racks_in (Down rack ∷ es) all = ap suc (length-racks_in es all.1)
   length-racks_in (Gone ∷ es) all = absurd all.0
 
   stands_there : (n : Node) (e : Engine R g) → StandsAt n e → IsThere e
   stands_there n (Bare rack) h = tt
+  stands_there n (Spoiled rack) h = tt
   stands_there n (Up rvg) h = tt
   stands_there n (Down rack) h = tt
   stands_there n Gone h = h
 
   unused_there : (e : Engine R g) → IsUnused e → IsThere e
   unused_there (Bare rack) h = tt
+  unused_there (Spoiled rack) h = tt
   unused_there (Up rvg) h = tt
   unused_there (Down rack) h = tt
   unused_there Gone h = h
@@ -110,6 +117,7 @@ module _ {R : Type 0} {g : Ghosts R} where
   counts_as : (x : Option (Engine R g)) (d : ℕ) → rack_count g.meaning (option_and_then rack_of x) d ≡ fault_count x d
   counts_as None d = refl
   counts_as (Some (Bare rack)) d = refl
+  counts_as (Some (Spoiled rack)) d = refl
   counts_as (Some (Up rvg)) d = refl
   counts_as (Some (Down rack)) d = refl
   counts_as (Some Gone) d = refl
@@ -120,7 +128,9 @@ module _ {R : Type 0} {g : Ghosts R} where
   site_holds : (lawful : (r : R) → Lawful (g.meaning r)) (n : Node) (x : Option (Engine R g)) (r : R) → ((e : Engine R g) → x ≡ Some e → StandsAt n e) → option_and_then rack_of x ≡ Some r → Holds n (g.meaning r)
   site_holds lawful n None r stands is = absurd (cc)
   site_holds lawful n (Some (Bare rack)) r stands is =
-      subst (λ (k : R). Holds n (g.meaning k)) (some_same is) (bare_holds n (g.meaning rack) (stands (Bare rack) refl))
+      subst (λ (k : R). Holds n (g.meaning k)) (some_same is) (bare_holds n (g.meaning rack) (stands (Bare rack) refl).bare)
+  site_holds lawful n (Some (Spoiled rack)) r stands is =
+      subst (λ (k : R). Holds n (g.meaning k)) (some_same is) (bare_holds n (g.meaning rack) (stands (Spoiled rack) refl))
   site_holds lawful n (Some (Up rvg)) r stands is =
       subst (λ (k : R). Holds n (g.meaning k)) (some_same is) (up_holds n rvg.core (g.meaning rvg.shelf) (stands (Up rvg) refl))
   site_holds lawful n (Some (Down rack)) r stands is =
@@ -135,6 +145,7 @@ module _ {R : Type 0} {g : Ghosts R} where
 
   tells_at : (e : Engine R g) → IsThere e → ((r : R) → rack_of e ≡ Some r → IsTrue (g.meaning r).tells) → IsToldAt e
   tells_at (Bare rack) there f = f rack refl
+  tells_at (Spoiled rack) there f = f rack refl
   tells_at (Up rvg) there f = f rvg.shelf refl
   tells_at (Down rack) there f = f rack refl
   tells_at Gone there f = there

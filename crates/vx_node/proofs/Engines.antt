@@ -27,7 +27,7 @@ use Rattle.vx_model.specs.declared.errors.Stop.{Stop}
 use Rattle.vx_model.specs.declared.errors.Stop.TheVariants.{No as Refused, OutOfMemory}
 use Rattle.vx_model.specs.declared.no.No.TheVariants.{Device, Down}
 use Rattle.vx_node.specs.declared.engine.Engine.{Engine}
-use Rattle.vx_node.specs.declared.engine.Engine.TheVariants.{Bare}
+use Rattle.vx_node.specs.declared.engine.Engine.TheVariants.{Spoiled}
 use Rattle.vx_node.specs.Engines.{MadeIs}
 use Rattle.std.specs.Prelude.{Err}
 use Rattle.vx_rvg.specs.Stands.{Holds, Stands}
@@ -145,19 +145,19 @@ placed_raw disks m is some = record {
     unit_at : (v : ℕ) → v < length (raw_units disks).vols → unit_of (raw_units disks).vols v ≡ 1 + v
     unit_at v there = slice_index-values_from 1 (disks - 2) v (omega (arith, there, length-values_from (λ (j : ℕ). j) 1 (disks - 2)))
 
-length-raw_volumes : (k n blocks : ℕ) → length (raw_volumes k n blocks) ≡ n
+pub length-raw_volumes : (k n blocks : ℕ) → length (raw_volumes k n blocks) ≡ n
 length-raw_volumes k zero blocks = refl
 length-raw_volumes k (suc n) blocks = ap suc (length-raw_volumes (k + 1) n blocks)
 
-raw_volumes-whole : (k n blocks v : ℕ) (x : Volume) → slice_get (raw_volumes k n blocks) v ≡ Some x → x.blocks ≡ blocks
+pub raw_volumes-whole : (k n blocks v : ℕ) (x : Volume) → slice_get (raw_volumes k n blocks) v ≡ Some x → x.blocks ≡ blocks
 raw_volumes-whole k zero blocks v x e = absurd (cc)
 raw_volumes-whole k (suc n) blocks zero x e = ap (λ (y : Volume). y.blocks) (let is : x ≡ record { name = codes "d" ++ decimal k; blocks = blocks } = cc in is)
 raw_volumes-whole k (suc n) blocks (suc v) x e = raw_volumes-whole (k + 1) n blocks v x e
 
-raw_size : (disks blocks v : ℕ) → v < disks - 2 → (raw_content disks blocks).size v ≡ blocks
+pub raw_size : (disks blocks v : ℕ) → v < disks - 2 → (raw_content disks blocks).size v ≡ blocks
 raw_size disks blocks v h = grind (arith, nat_tests)
 
-raw_none : (disks blocks v : ℕ) → disks - 2 ≤ v → (raw_content disks blocks).size v ≡ 0
+pub raw_none : (disks blocks v : ℕ) → disks - 2 ≤ v → (raw_content disks blocks).size v ≡ 0
 raw_none disks blocks v h = grind (arith, nat_tests)
 
 -- the table can spell it
@@ -251,9 +251,9 @@ made_stands site d n c units state m new units_is state_is d_is lawful unit_is b
 
 module _ {R : Type 0} {g : Ghosts R} where
   -- a raw set that was not made
-  pub raw_failed : (site d : ℕ) (n : Node) (old : Engine R g) (rack back : R) (units : Units) (stop : Stop) → old ≡ Bare rack → units ≡ raw_units d → IsBareAt n (g.meaning rack)
+  pub raw_failed : (site d : ℕ) (n : Node) (old : Engine R g) (rack back : R) (units : Units) (stop : Stop) → old ≡ Spoiled rack → units ≡ raw_units d → IsBareAt n (g.meaning rack)
       → (8 ≤ (g.meaning rack).size units.srl → MakeCause (g.meaning rack) (g.meaning back) stop) → 3 ≤ n.disks
-      → Moves (Run units.srl 0 (ring_of ((g.meaning rack).size units.srl) + 2)) Anything (g.meaning rack) (g.meaning back) → MadeIs site n old (Bare back) (Err stop)
+      → Moves (Run units.srl 0 (ring_of ((g.meaning rack).size units.srl) + 2)) Anything (g.meaning rack) (g.meaning back) → MadeIs site n old (Spoiled back) (Err stop)
   raw_failed site d n old rack back units stop is units_is bare cause some moves = why stop (cause large)
     where
       srl : units.srl ≡ 0
@@ -266,7 +266,7 @@ module _ {R : Type 0} {g : Ghosts R} where
       stays = bare_moved n (ring_of ((g.meaning rack).size 0) + 2) (g.meaning rack) (g.meaning back)
           (subst (λ (u : ℕ). Moves (Run u 0 (ring_of ((g.meaning rack).size u) + 2)) Anything (g.meaning rack) (g.meaning back)) srl moves) bare
 
-      why : (s : Stop) → MakeCause (g.meaning rack) (g.meaning back) s → MadeIs site n old (Bare back) (Err s)
+      why : (s : Stop) → MakeCause (g.meaning rack) (g.meaning back) s → MadeIs site n old (Spoiled back) (Err s)
       why (Refused (Device disk)) h = (stays, subst (λ (e : Engine R g). Rose (faults_at e disk) ((g.meaning back).disk_faults disk)) (sym is) h)
       why (Refused Down) h = absurd (never_both (g.meaning back).down h stays.fitted.up)
       why (Refused other) h = absurd h

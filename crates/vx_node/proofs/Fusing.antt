@@ -22,7 +22,7 @@ use Rattle.vx_rvg.specs.Views.{Core, IsSound, unit_of}
 use Rattle.vx_rvg.specs.declared.group.Rvg.{Rvg}
 use Rattle.vx_rvg.proofs.WriteSound.{SameSizes, ended_sound}
 use Rattle.vx_node.specs.declared.engine.Engine.{Engine}
-use Rattle.vx_node.specs.declared.engine.Engine.TheVariants.{Bare, Up, Down, Gone}
+use Rattle.vx_node.specs.declared.engine.Engine.TheVariants.{Bare, Spoiled, Up, Down, Gone}
 use Rattle.vx_node.specs.declared.said.Said.TheVariants.{Done}
 use Rattle.vx_node.specs.declared.yard.Yard.{Yard}
 use Rattle.vx_node.specs.Engines.{Later}
@@ -121,7 +121,8 @@ up_fused n c m new calls pick rack alike down disks up = record {
 module _ {R : Type 0} {g : Ghosts R} where
   -- a site that is up has a group
   pub never_up : (n : Node) (e : Engine R g) → StandsAt n e → n.state ≡ IsUp → ((rvg : Rvg R g) → e ≡ Up rvg → ⊥) → ⊥
-  never_up n (Bare rack) h up none = let e : IsBare ≡ IsUp = sym (ap (λ (x : Node). x.state) h.is) ∙ up in absurd (cc)
+  never_up n (Bare rack) h up none = let e : IsBare ≡ IsUp = sym (ap (λ (x : Node). x.state) h.bare.is) ∙ up in absurd (cc)
+  never_up n (Spoiled rack) h up none = let e : IsBare ≡ IsUp = sym (ap (λ (x : Node). x.state) h.is) ∙ up in absurd (cc)
   never_up n (Up rvg) h up none = none rvg refl
   never_up n (Down rack) h up none = let e : IsDown ≡ IsUp = sym h.state ∙ up in absurd (cc)
   never_up n Gone h up none = h

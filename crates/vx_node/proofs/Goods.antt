@@ -32,7 +32,7 @@ use Rattle.vx_order.specs.Subject.{first_name}
 use Rattle.vx_order.specs.Tests.{when}
 use Rattle.vx_node.specs.Facts.{site_fact, facts_of, site_number, volume_fact, group_by, group_fact}
 use Rattle.vx_node.specs.Engines.{halted_with, halted_at}
-use Rattle.vx_node.specs.Steps.{Fails, Puts, IsPut, NoNumber, PutFails, PutCut, Crashes, Begins, CrashesFirst, IsDown, Recovers, ComesUp, StaysDown, NoSession, Untold, IsBareStill, Applies, IsApplied, ApplyFails, ApplyCut, Works, StepBy, Prints, write_of}
+use Rattle.vx_node.specs.Steps.{Fails, Puts, IsPut, NoNumber, PutFails, PutCut, Crashes, Begins, CrashesFirst, IsDown, Recovers, ComesUp, StaysDown, NoSession, Untold, IsBareStill, BareFails, Applies, IsApplied, ApplyFails, ApplyCut, Works, StepBy, Prints, write_of}
 use Rattle.vx_node.specs.declared.said.Said.{Said}
 use Rattle.vx_node.proofs.Refused.{Named, WriteMay, passes, raw_may, crash_may, fuse_may, apply_may, write_may, put_may}
 use Rattle.vx_node.proofs.Seats.{position_within, some_same}
@@ -203,6 +203,7 @@ good_recovers told is w s fails said new sound (StaysDown mid disk begins (inr f
 good_recovers told is w s fails said new sound (NoSession mid begins past done) = sound_as new mid done.leads (begun w s mid sound begins).sound
 good_recovers told is w s fails said new sound (Untold untold) = absurd (untold is)
 good_recovers told is w s fails said new sound (IsBareStill bare done) = sound_as new w done.leads sound
+good_recovers told is w s fails said new sound (BareFails disk bare failed) = sound_as new w failed.leads sound
 
 good_applies : (w : World) (s to : ℕ) (fails : Fails) (said : Said) (new : World) → Sound w → (w.nodes s).state ≡ Up → Applies w s to fails said new → Sound new
 good_applies w s to fails said new sound up (IsApplied number least most done) = sound_as new (worked_on w s) done.leads (worked_sound w s sound up)

@@ -1,12 +1,14 @@
 pub mod Answering
 pub mod Applying
 pub mod Backs
+pub mod Bares
 pub mod Changing
 pub mod Crashing
 pub mod Disks
 pub mod Engines
 pub mod Exacting
 pub mod Falling
+pub mod Finds
 pub mod Founds
 pub mod Fusing
 pub mod Getting

@@ -16,7 +16,7 @@ use Rattle.vx_order.specs.declared.facts.SiteFacts.{SiteFacts}
 use Rattle.vx_order.specs.declared.facts.VolumeFacts.{VolumeFacts}
 use Rattle.vx_script.specs.declared.line.ScriptLine.TheVariants.{Raw}
 use Rattle.vx_node.specs.declared.engine.Engine.{Engine}
-use Rattle.vx_node.specs.declared.engine.Engine.TheVariants.{Bare, Up, Down, Gone}
+use Rattle.vx_node.specs.declared.engine.Engine.TheVariants.{Bare, Spoiled, Up, Down, Gone}
 use Rattle.vx_node.specs.declared.said.Said.{Said}
 use Rattle.vx_node.specs.declared.said.Said.TheVariants.{Done}
 use Rattle.vx_node.specs.declared.yard.Yard.{Yard}
@@ -55,9 +55,18 @@ pub record RawShape (s : ℕ) (site : SiteFacts) : Type 0 where
   pub few : site.disks ≤ 8
   pub large : 8 ≤ site.blocks
 
+-- what the tests see of a bare site that becomes a raw set
+pub raw_fact_of : (s : ℕ) (n : Node) (site : SiteFacts) (volumes : List VolumeFacts) → site ≡ site_fact n → volumes ≡ map volume_fact (raw_volumes 1 (site.disks - 2) site.blocks) → n.parent ≡ no_line → n.low ≡ 1
+    → raw_facts s volumes site ≡ site_fact (raw_set s n)
+raw_fact_of s n site volumes is table parent low =
+    ap (λ (vs : List VolumeFacts). raw_facts s vs site) (table ∙ ap (λ (f : SiteFacts). map volume_fact (raw_volumes 1 (f.disks - 2) f.blocks)) is)
+    ∙ ap (λ (f : SiteFacts). raw_facts s (map volume_fact (raw_volumes 1 (n.disks - 2) n.blocks)) f) is
+    ∙ raw_fact_by s n n.parent n.low refl refl parent low
+
 module _ {R : Type 0} {g : Ghosts R} where
-  bare_parts : (n : Node) (e : Engine R g) → StandsAt n e → n.state ≡ IsBare → (n.parent ≡ no_line) × (n.low ≡ 1)
-  bare_parts n (Bare rack) stands is = (ap (λ (k : Node). k.parent) stands.is, ap (λ (k : Node). k.low) stands.is)
+  pub bare_parts : (n : Node) (e : Engine R g) → StandsAt n e → n.state ≡ IsBare → (n.parent ≡ no_line) × (n.low ≡ 1)
+  bare_parts n (Bare rack) stands is = (ap (λ (k : Node). k.parent) stands.bare.is, ap (λ (k : Node). k.low) stands.bare.is)
+  bare_parts n (Spoiled rack) stands is = (ap (λ (k : Node). k.parent) stands.is, ap (λ (k : Node). k.low) stands.is)
   bare_parts n (Up rvg) stands is = absurd (never (sym is ∙ stands.state))
     where
       never : IsBare ≡ IsUp → ⊥
@@ -88,7 +97,8 @@ module _ {R : Type 0} {g : Ghosts R} where
       }
 
   stood_few : (n : Node) (e : Engine R g) → StandsAt n e → n.state ≡ IsBare → n.disks ≤ 8
-  stood_few n (Bare rack) stands is = stands.few
+  stood_few n (Bare rack) stands is = stands.bare.few
+  stood_few n (Spoiled rack) stands is = stands.few
   stood_few n (Up rvg) stands is = absurd (never (sym is ∙ stands.state))
     where
       never : IsBare ≡ IsUp → ⊥

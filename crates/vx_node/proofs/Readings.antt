@@ -14,7 +14,7 @@ use Rattle.vx_order.specs.declared.facts.RvgFacts.{RvgFacts}
 use Rattle.vx_order.specs.declared.facts.VolumeFacts.{VolumeFacts}
 use Rattle.vx_rvg.specs.Contents.{Shows}
 use Rattle.vx_node.specs.declared.engine.Engine.{Engine}
-use Rattle.vx_node.specs.declared.engine.Engine.TheVariants.{Bare, Up, Down, Gone}
+use Rattle.vx_node.specs.declared.engine.Engine.TheVariants.{Bare, Spoiled, Up, Down, Gone}
 use Rattle.vx_node.specs.declared.said.Said.TheVariants.{Got, Refused}
 use Rattle.vx_node.specs.declared.yard.Yard.{Yard}
 use Rattle.vx_node.specs.Engines.{Later, CanRead}
@@ -63,7 +63,8 @@ failed_is told w name volume start count s disk number =
 
 module _ {R : Type 0} {g : Ghosts R} where
   whole_by : (n : Node) (e : Engine R g) → n.state ≡ IsUp → StandsAt n e → Whole n
-  whole_by n (Bare rack) up h = absurd (let e : IsBare ≡ IsUp = sym (ap (λ (k : Node). k.state) h.is) ∙ up in cc)
+  whole_by n (Bare rack) up h = absurd (let e : IsBare ≡ IsUp = sym (ap (λ (k : Node). k.state) h.bare.is) ∙ up in cc)
+  whole_by n (Spoiled rack) up h = absurd (let e : IsBare ≡ IsUp = sym (ap (λ (k : Node). k.state) h.is) ∙ up in cc)
   whole_by n (Up rvg) up h = record { volumes = h.volumes; blocks = h.whole }
   whole_by n (Down rack) up h = record { volumes = h.volumes; blocks = h.whole }
   whole_by n Gone up h = absurd h

@@ -28,7 +28,7 @@ use Rattle.vx_srl.specs.Views.{most_number}
 use Rattle.vx_rvg.specs.declared.group.Rvg.{Rvg}
 use Rattle.vx_disk.specs.declared.shelf.Shelf.{Ghosts}
 use Rattle.vx_node.specs.declared.engine.Engine.{Engine}
-use Rattle.vx_node.specs.declared.engine.Engine.TheVariants.{Bare, Up, Down, Gone}
+use Rattle.vx_node.specs.declared.engine.Engine.TheVariants.{Bare, Spoiled, Up, Down, Gone}
 use Rattle.vx_node.proofs.Engines.{placed_raw}
 use Rattle.vx_node.specs.Engines.{SameDisks, CanStart, CameUp, CameUpIs, no_number}
 use Rattle.vx_node.specs.Holds.{HasWrites, raw_units, state_of, state_with, most_stamp}
@@ -341,7 +341,8 @@ start_needs disks ring units m up can alike is disks_is =
 
 module _ {R : Type 0} {g : Ghosts R} where
   never_down : (n : Node) (e : Engine R g) → StandsAt n e → n.state ≡ IsDown → ((rack : R) → e ≡ Down rack → ⊥) → ⊥
-  never_down n (Bare rack) h down none = let e : IsBare ≡ IsDown = sym (ap (λ (x : Node). x.state) h.is) ∙ down in absurd (cc)
+  never_down n (Bare rack) h down none = let e : IsBare ≡ IsDown = sym (ap (λ (x : Node). x.state) h.bare.is) ∙ down in absurd (cc)
+  never_down n (Spoiled rack) h down none = let e : IsBare ≡ IsDown = sym (ap (λ (x : Node). x.state) h.is) ∙ down in absurd (cc)
   never_down n (Up rvg) h down none = let e : IsUp ≡ IsDown = sym h.state ∙ down in absurd (cc)
   never_down n (Down rack) h down none = none rack refl
   never_down n Gone h down none = h

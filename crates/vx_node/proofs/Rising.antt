@@ -18,7 +18,7 @@ use Rattle.vx_report.specs.declared.view.SiteView.{SiteView}
 use Rattle.vx_script.specs.declared.line.ScriptLine.TheVariants.{Recover}
 use Rattle.vx_srl.specs.Views.{most_number}
 use Rattle.vx_node.specs.declared.engine.Engine.{Engine}
-use Rattle.vx_node.specs.declared.engine.Engine.TheVariants.{Bare, Up, Down, Gone}
+use Rattle.vx_node.specs.declared.engine.Engine.TheVariants.{Bare, Spoiled, Up, Down, Gone}
 use Rattle.vx_node.specs.declared.said.Said.{Said}
 use Rattle.vx_node.specs.declared.said.Said.TheVariants.{Recovered, Refused}
 use Rattle.vx_node.specs.declared.yard.Yard.{Yard}
@@ -110,24 +110,27 @@ true_or false = inr (λ e. cc)
 module _ {R : Type 0} {g : Ghosts R} where
   told_or : (e : Engine R g) → IsToldAt e ⊎ (IsToldAt e → ⊥)
   told_or (Bare rack) = true_or (g.meaning rack).tells
+  told_or (Spoiled rack) = true_or (g.meaning rack).tells
   told_or (Up rvg) = true_or (g.meaning rvg.shelf).tells
   told_or (Down rack) = true_or (g.meaning rack).tells
   told_or Gone = inr (λ none. none)
 
-  up_parts : (k : Node) (e : Engine R g) → StandsAt k e → k.state ≡ IsUp → (k.low ≡ 1) × (k.ring ≡ ring_of k.blocks)
-  up_parts k (Bare rack) h up = absurd (bare_up (sym (ap (λ (n : Node). n.state) h.is) ∙ up))
+  pub up_parts : (k : Node) (e : Engine R g) → StandsAt k e → k.state ≡ IsUp → (k.low ≡ 1) × (k.ring ≡ ring_of k.blocks)
+  up_parts k (Bare rack) h up = absurd (bare_up (sym (ap (λ (n : Node). n.state) h.bare.is) ∙ up))
+  up_parts k (Spoiled rack) h up = absurd (bare_up (sym (ap (λ (n : Node). n.state) h.is) ∙ up))
   up_parts k (Up rvg) h up = (h.low, h.ring_is)
   up_parts k (Down rack) h up = absurd (down_up (sym h.state ∙ up))
   up_parts k Gone h up = absurd h
 
   down_ring : (n : Node) (e : Engine R g) → StandsAt n e → n.state ≡ IsDown → n.ring ≡ ring_of n.blocks
-  down_ring n (Bare rack) h down = absurd (bare_down (sym (ap (λ (n : Node). n.state) h.is) ∙ down))
+  down_ring n (Bare rack) h down = absurd (bare_down (sym (ap (λ (n : Node). n.state) h.bare.is) ∙ down))
+  down_ring n (Spoiled rack) h down = absurd (bare_down (sym (ap (λ (n : Node). n.state) h.is) ∙ down))
   down_ring n (Up rvg) h down = absurd (up_down (sym h.state ∙ down))
   down_ring n (Down rack) h down = h.ring
   down_ring n Gone h down = absurd h
 
   -- not all contents are told where those of one engine are not
-  not_all : (es : List (Engine R g)) (s : ℕ) (old after : Engine R g) (new : List (Engine R g)) → slice_get es s ≡ Some old → new ≡ slice_set es s after → (IsToldAt after → ⊥) → AreTold new → ⊥
+  pub not_all : (es : List (Engine R g)) (s : ℕ) (old after : Engine R g) (new : List (Engine R g)) → slice_get es s ≡ Some old → new ≡ slice_set es s after → (IsToldAt after → ⊥) → AreTold new → ⊥
   not_all es s old after new there is untold all = untold (all.each s after (ap (λ xs. slice_get xs s) is ∙ get-set_same es s after (slice_get_within es s old there)))
 
   -- ---- a site that comes up
@@ -296,13 +299,15 @@ module _ {R : Type 0} {g : Ghosts R} where
   -- ---- what the tests see of a site that stands
 
   some_blocks : (n : Node) (e : Engine R g) → StandsAt n e → 8 ≤ n.blocks
-  some_blocks n (Bare rack) h = h.some
+  some_blocks n (Bare rack) h = h.bare.some
+  some_blocks n (Spoiled rack) h = h.some
   some_blocks n (Up rvg) h = h.some
   some_blocks n (Down rack) h = h.some
   some_blocks n Gone h = absurd h
 
   never_deported : (n : Node) (e : Engine R g) → StandsAt n e → n.state ≡ Deported → ⊥
-  never_deported n (Bare rack) h is = let e : IsBare ≡ Deported = sym (ap (λ (x : Node). x.state) h.is) ∙ is in absurd (cc)
+  never_deported n (Bare rack) h is = let e : IsBare ≡ Deported = sym (ap (λ (x : Node). x.state) h.bare.is) ∙ is in absurd (cc)
+  never_deported n (Spoiled rack) h is = let e : IsBare ≡ Deported = sym (ap (λ (x : Node). x.state) h.is) ∙ is in absurd (cc)
   never_deported n (Up rvg) h is = let e : IsUp ≡ Deported = sym h.state ∙ is in absurd (cc)
   never_deported n (Down rack) h is = let e : IsDown ≡ Deported = sym h.state ∙ is in absurd (cc)
   never_deported n Gone h is = h
@@ -327,20 +332,6 @@ module _ {R : Type 0} {g : Ghosts R} where
         stands = r.stands;
         rose = r.rose;
       }
-
-  -- nothing was made of its disks yet
-  pub recover_bare : (w : World) (y : Yard R g) (name : List ℕ) (s : ℕ) (f : SiteFacts) → YardStands w y → seat_of y.facts.items name ≡ Some s → slice_get y.facts.items s ≡ Some f → f.state ≡ IsBare
-      → Worked w (Recover name) (Refused NoConfig) y y
-  recover_bare w y name s f stands seat at bare =
-      let here = seated w y name s stands seat in
-      let is : (w.nodes s).state ≡ IsBare = sym (ap (λ (k : SiteFacts). k.state) (some_same (sym at ∙ here.fact))) ∙ bare in
-      recover_worked w y y name s (Refused NoConfig) stands seat (record {
-        world = w;
-        fails = [];
-        recovers = IsBareStill is (record { none = refl; says = refl; leads = refl });
-        stands = stands;
-        rose = rose_none (count_of y) (count_of y) (λ i d. omega arith);
-      })
 
   -- a site that was down is started
   pub recover_down : (w : World) (y new : Yard R g) (name : List ℕ) (s ring : ℕ) (said : Said) (f : SiteFacts) → YardStands w y → seat_of y.facts.items name ≡ Some s → slice_get y.facts.items s ≡ Some f

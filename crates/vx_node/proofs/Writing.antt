@@ -18,7 +18,7 @@ use Rattle.vx_order.specs.declared.facts.VolumeFacts.{VolumeFacts}
 use Rattle.vx_order.specs.declared.facts.VolumeKind.TheVariants.{Data}
 use Rattle.vx_script.specs.declared.line.ScriptLine.TheVariants.{Write as WriteLine, Put as PutLine}
 use Rattle.vx_node.specs.declared.engine.Engine.{Engine}
-use Rattle.vx_node.specs.declared.engine.Engine.TheVariants.{Bare, Up, Down, Gone}
+use Rattle.vx_node.specs.declared.engine.Engine.TheVariants.{Bare, Spoiled, Up, Down, Gone}
 use Rattle.vx_node.specs.declared.said.Said.{Said}
 use Rattle.vx_node.specs.declared.said.Said.TheVariants.{DoneAt, Refused}
 use Rattle.vx_node.specs.declared.yard.Yard.{Yard}
@@ -71,7 +71,8 @@ the_write v start bytes = record { volume = v; start = start; bytes = bytes }
 
 module _ {R : Type 0} {g : Ghosts R} where
   sized : (n : Node) (e : Engine R g) → StandsAt n e → n.state ≡ IsUp → Sized n
-  sized n (Bare rack) h up = absurd (let e : IsBare ≡ IsUp = sym (ap (λ (k : Node). k.state) h.is) ∙ up in cc)
+  sized n (Bare rack) h up = absurd (let e : IsBare ≡ IsUp = sym (ap (λ (k : Node). k.state) h.bare.is) ∙ up in cc)
+  sized n (Spoiled rack) h up = absurd (let e : IsBare ≡ IsUp = sym (ap (λ (k : Node). k.state) h.is) ∙ up in cc)
   sized n (Up rvg) h up = record { few = h.few; volumes = h.volumes; blocks = h.whole }
   sized n (Down rack) h up = record { few = h.few; volumes = h.volumes; blocks = h.whole }
   sized n Gone h up = absurd h

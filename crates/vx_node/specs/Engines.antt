@@ -7,7 +7,7 @@ use Rattle.vx_model.specs.declared.site.SiteState.TheVariants.{Up as IsUp}
 use Rattle.vx_model.specs.declared.errors.Stop.{Stop}
 use Rattle.vx_model.specs.declared.errors.Stop.TheVariants.{No as Refused, OutOfMemory}
 use Rattle.vx_model.specs.declared.no.No.{No}
-use Rattle.vx_model.specs.declared.no.No.TheVariants.{Device, Limit, Down as IsDown}
+use Rattle.vx_model.specs.declared.no.No.TheVariants.{Device, Limit, NoConfig, Down as IsDown}
 use Rattle.vx_model.specs.declared.no.Counted.TheVariants.{Number}
 use Rattle.vx_disk.specs.Counts.{Rose}
 use Rattle.vx_disk.specs.Racks.{most_blocks}
@@ -65,6 +65,13 @@ pub record CanStart (ring : ℕ) (m : Meaning) : Type 0 where
   pub some : 3 ≤ m.units
   pub few : m.units ≤ 8
   pub down : IsTrue m.down
+  pub large : 8 ≤ m.size 0
+  pub is_ring : ring ≡ ring_of (m.size 0)
+
+-- disks on which a raw set can be, in whose log there are so many ring blocks
+pub record CanHold (ring : ℕ) (m : Meaning) : Type 0 where
+  pub some : 3 ≤ m.units
+  pub few : m.units ≤ 8
   pub large : 8 ≤ m.size 0
   pub is_ring : ring ≡ ring_of (m.size 0)
 
@@ -147,6 +154,20 @@ module _ {R : Type 0} {g : Ghosts R} where
   CameUpIs n old new (Err (Device disk)) = StillDown n new × RoseAt old new disk
   CameUpIs n old new (Err (Limit what most)) = (Limit what most ≡ no_number) × (IsToldAt new → most_number ≤ most_stamp n + 2) × StandsAt n new
   CameUpIs n old new (Err other) = (IsToldAt new → ⊥) × StandsAt n new
+
+  -- a raw set that an earlier run left on the disks of a bare site: contents are not told
+  pub record BareUp (n : Node) (new : Engine R g) : Type 0 where
+    pub untold : IsToldAt new → ⊥
+    pub node : Node
+    pub same : SameDisks (raw_set 0 n) node
+    pub stands : StandsAt node new
+
+  -- a bare site whose disks hold nothing, or one of which failed; or, where contents are not told, whatever stands on them
+  abbrev pub BareUpIs : Node → Engine R g → Engine R g → Result (Unit {0}) No → Type 0
+  BareUpIs n old new (Ok done) = BareUp n new
+  BareUpIs n old new (Err (Device disk)) = StandsAt n new × RoseAt old new disk
+  BareUpIs n old new (Err NoConfig) = StandsAt n new
+  BareUpIs n old new (Err other) = (IsToldAt new → ⊥) × StandsAt n new
 
   -- the number up to which all writes are in their volumes, or a failing disk; or its fuse ran out, and it crashed
   abbrev pub AppliedAt : Node → ℕ → Engine R g → Engine R g → Result ℕ No → Type 0

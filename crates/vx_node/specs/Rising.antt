@@ -1,5 +1,6 @@
 -- What the yard promises where a site goes down, and where one that is down is started.
-use Rattle.std.specs.Prelude.{◌≡◌, ℕ, [], Some, slice_get, slice_set}
+use Rattle.std.specs.Prelude.{◌≡◌, ℕ, [], Some, slice_get, slice_set, Result, Ok, Err}
+use Rattle.vx_model.specs.declared.errors.OutOfMemory.{OutOfMemory}
 use Rattle.vx_model.specs.World.{Node, World}
 use Rattle.vx_model.specs.declared.site.SiteState.TheVariants.{Up as IsUp}
 use Rattle.vx_disk.specs.declared.shelf.Shelf.{Ghosts}
@@ -11,7 +12,7 @@ use Rattle.vx_node.specs.Changes.{up_facts}
 use Rattle.vx_node.specs.Holds.{state_of}
 use Rattle.vx_node.specs.Stands.{StandsAt, RoseAll}
 use Rattle.vx_node.specs.Steps.{Fails, Crashes, Recovers}
-use Rattle.vx_node.specs.Yards.{YardStands, IsTold, count_of}
+use Rattle.vx_node.specs.Yards.{YardStands, StaysFor, IsTold, count_of}
 
 module _ {R : Type 0} {g : Ghosts R} where
   -- the site crashed
@@ -37,3 +38,8 @@ module _ {R : Type 0} {g : Ghosts R} where
     pub recovers : Recovers (IsTold new) w site fails said world
     pub stands : YardStands world new
     pub rose : RoseAll fails (count_of old) (count_of new)
+
+  -- the recovery of a bare site, or memory ran out and nothing was done
+  abbrev pub Finding : World → ℕ → Yard R g → Yard R g → Result Said OutOfMemory → Type 0
+  Finding w site old new (Ok said) = Recovering w site said old new
+  Finding w site old new (Err e) = StaysFor w old new

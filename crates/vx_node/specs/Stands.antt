@@ -10,7 +10,7 @@ use Rattle.vx_disk.specs.declared.shelf.Shelf.{Ghosts}
 use Rattle.vx_rvg.specs.Stands.{Left, Stands}
 use Rattle.vx_rvg.specs.Views.{Core, last_of}
 use Rattle.vx_node.specs.declared.engine.Engine.{Engine}
-use Rattle.vx_node.specs.declared.engine.Engine.TheVariants.{Bare, Up, Down, Gone}
+use Rattle.vx_node.specs.declared.engine.Engine.TheVariants.{Bare, Spoiled, Up, Down, Gone}
 use Rattle.vx_node.specs.Fuses.{HasFuse, IsFirst, taken}
 use Rattle.vx_node.specs.Holds.{HasWrites, raw_units, state_of, state_with, most_stamp}
 use Rattle.vx_node.specs.Steps.{Fails}
@@ -35,6 +35,11 @@ pub record IsBareAt (n : Node) (m : Meaning) : Type 0 where
   pub few : n.disks ≤ 8
   pub some : 8 ≤ n.blocks
   pub blank : (u b : ℕ) → 0 < u → u + 1 < n.disks → b < n.blocks → Keeps m u b zero_block
+
+-- the disks of a bare site of which nothing was begun: the first holds zeros too
+pub record IsCleanAt (n : Node) (m : Meaning) : Type 0 where
+  pub bare : IsBareAt n m
+  pub front : (b : ℕ) → b < n.blocks → Keeps m 0 b zero_block
 
 -- the disks of a raw set under its replicated volume group
 pub record IsUpAt (n : Node) (c : Core) (m : Meaning) : Type 0 where
@@ -111,7 +116,8 @@ pub record IsDownAt (n : Node) (m : Meaning) : Type 0 where
 
 module _ {R : Type 0} {g : Ghosts R} where
   abbrev pub StandsAt : Node → Engine R g → Type 0
-  StandsAt n (Bare rack) = IsBareAt n (g.meaning rack)
+  StandsAt n (Bare rack) = IsCleanAt n (g.meaning rack)
+  StandsAt n (Spoiled rack) = IsBareAt n (g.meaning rack)
   StandsAt n (Up rvg) = IsUpAt n rvg.core (g.meaning rvg.shelf)
   StandsAt n (Down rack) = IsDownAt n (g.meaning rack)
   StandsAt n Gone = ⊥
@@ -119,6 +125,7 @@ module _ {R : Type 0} {g : Ghosts R} where
   -- a group whose shelf is down: a crash leaves the site's writes on its disks
   abbrev pub CutAt : Node → Engine R g → Type 0
   CutAt n (Bare rack) = ⊥
+  CutAt n (Spoiled rack) = ⊥
   CutAt n (Up rvg) = IsHeldAt n (g.meaning rvg.shelf)
   CutAt n (Down rack) = ⊥
   CutAt n Gone = ⊥
@@ -126,6 +133,7 @@ module _ {R : Type 0} {g : Ghosts R} where
   -- the engine of a number that no site has
   abbrev pub IsUnused : Engine R g → Type 0
   IsUnused (Bare rack) = IsUnfitted (g.meaning rack)
+  IsUnused (Spoiled rack) = ⊥
   IsUnused (Up rvg) = ⊥
   IsUnused (Down rack) = ⊥
   IsUnused Gone = ⊥
@@ -133,6 +141,7 @@ module _ {R : Type 0} {g : Ghosts R} where
   -- whether the contents of its disks are told
   abbrev pub IsToldAt : Engine R g → Type 0
   IsToldAt (Bare rack) = IsTrue (g.meaning rack).tells
+  IsToldAt (Spoiled rack) = IsTrue (g.meaning rack).tells
   IsToldAt (Up rvg) = IsTrue (g.meaning rvg.shelf).tells
   IsToldAt (Down rack) = IsTrue (g.meaning rack).tells
   IsToldAt Gone = ⊥
@@ -140,6 +149,7 @@ module _ {R : Type 0} {g : Ghosts R} where
   -- the count of the faults of a disk
   abbrev pub faults_at : Engine R g → ℕ → ℕ
   faults_at (Bare rack) d = (g.meaning rack).disk_faults d
+  faults_at (Spoiled rack) d = (g.meaning rack).disk_faults d
   faults_at (Up rvg) d = (g.meaning rvg.shelf).disk_faults d
   faults_at (Down rack) d = (g.meaning rack).disk_faults d
   faults_at Gone d = 0

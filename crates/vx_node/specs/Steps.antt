@@ -73,6 +73,7 @@ pub data Recovers (told : Type 0) (w : World) (site : ℕ) (fails : Fails) (said
       → Cleanly fails said (Refused (Limit Number 0x7fff_ffff_ffff_ffff)) new mid → Recovers told w site fails said new
   Untold : (told → ⊥) → Recovers told w site fails said new
   IsBareStill : (w.nodes site).state ≡ Bare → Cleanly fails said (Refused NoConfig) new w → Recovers told w site fails said new
+  BareFails : (disk : ℕ) → (w.nodes site).state ≡ Bare → FailsAt site disk fails said new w → Recovers told w site fails said new
 
 -- logged writes are brought into their volumes, up to the number that was asked for or further; or a disk failed; or the fuse of the disks
 -- ran out in it

@@ -1,9 +1,9 @@
 // What a line does that crashes a site, sets its fuse, recovers it, or applies what is logged.
 ghost use Rattle.std.specs.Prelude.{◌≡◌, ◌<◌, length};
 ghost use Rattle.vx_model.specs.World.{World};
-ghost use Rattle.vx_model.specs.declared.site.SiteState.TheVariants.{Up as UpState, Down as DownState};
+ghost use Rattle.vx_model.specs.declared.site.SiteState.TheVariants.{Bare as BareState, Up as UpState, Down as DownState};
 ghost use Rattle.vx_script.specs.declared.line.ScriptLine.TheVariants.{Crash, Fuse, Recover, Apply};
-ghost use Rattle.vx_node.specs.Rising.{Fell, NotesUp, Recovering};
+ghost use Rattle.vx_node.specs.Rising.{Fell, Finding, NotesUp, Recovering};
 ghost use Rattle.vx_node.specs.Steps.{Begins};
 ghost use Rattle.vx_node.specs.Working.{WorkIs, Worked, IsFree};
 ghost use Rattle.vx_node.specs.Yards.{YardStands, IsTold, in_files};
@@ -17,6 +17,7 @@ use vx_disk::Rack;
 use vx_model::{Name, No, OutOfMemory, SiteState};
 use vx_order::ring_blocks;
 use vx_rvg::StartRoom;
+use vx_script::ScriptLine;
 
 impl<R: Rack> Yard<R> {
     // Crashes the disks of a site that is up.
@@ -104,7 +105,44 @@ impl<R: Rack> Yard<R> {
         }
     }
 
-    /// Recovers a site: one that is up crashes first. Nothing was made of the disks of a bare site.
+    // Starts what an earlier run left on the disks of a bare site, and says how it stands.
+    fn recover_bare(&mut self, alloc: Global, name: &Name, site: usize) -> Result<Said, OutOfMemory>
+        requires facts { site < length self.old.facts.items }
+        requires engine { site < length self.old.engines.items }
+        ensures found { (w : World) → YardStands w self.old → site < w.sites → (w.nodes site).state ≡ BareState → Finding w site self.old self.new result }
+        ensures told { IsTold self.new → IsTold self.old }
+        ensures files { in_files self.new ≡ in_files self.old }
+    {
+        let disks = self.facts[site].disks;
+        let blocks = self.facts[site].blocks;
+        if site >= 8 || disks < 3 || disks > 8 || blocks < 8 || self.is_refused(name) {
+            return Ok(Said::Refused(No::NoConfig));
+        }
+        let volumes = facts::raw_table(alloc, disks - 2, blocks)?;
+        let room = StartRoom::new(alloc, blocks)?;
+        let engine = mem::replace(&mut self.engines[site], Engine::Gone);
+        let (engine, came) = engine.recover_bare(room);
+        self.engines[site] = engine;
+        match came {
+            Ok(()) => {
+                facts::make_raw(&mut self.facts[site], site as u32, volumes);
+                let last = self.note_up(site, ring_blocks(blocks));
+                Ok(Said::Recovered(last, self.view_at(alloc, site)))
+            }
+            Err(no) => Ok(Said::Refused(no)),
+        }
+    }
+
+    // Whether the disks of a site are refused as a raw set.
+    fn is_refused(&self, name: &Name) -> bool {
+        let files = self.dir.is_some();
+        match vx_order::refuse(&self.facts, files, &ScriptLine::Raw { site: *name }) {
+            Some(_) => true,
+            None => false,
+        }
+    }
+
+    /// Recovers a site: one that is up crashes first, and one that is bare starts what an earlier run left on its disks.
     pub(crate) fn recover_line(&mut self, alloc: Global, name: &Name) -> Result<Said, OutOfMemory>
         ensures works { (w : World) → YardStands w self.old → IsFree self.old (Recover name.now) → WorkIs w (Recover name.now) self.old self.new result }
         ensures told { IsTold self.new → IsTold self.old }
@@ -118,7 +156,7 @@ impl<R: Rack> Yard<R> {
         }
         let blocks = self.facts[site].blocks;
         match self.facts[site].state {
-            SiteState::Bare => Ok(Said::Refused(No::NoConfig)),
+            SiteState::Bare => self.recover_bare(alloc, name, site),
             SiteState::Deported => Ok(Said::Refused(No::Role)),
             SiteState::Up => {
                 let room = StartRoom::new(alloc, blocks)?;

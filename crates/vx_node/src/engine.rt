@@ -1,25 +1,33 @@
 // The disks of a site, and what is made of them.
-ghost use Rattle.std.specs.Prelude.{◌≡◌, ◌≤◌, ◌<◌, ◌+◌, ◌*◌, ◌%◌, ℕ, length, None, IfSome, IfOk, IfErr, IsSome, IsTrue, OnOk};
-ghost use Rattle.vx_model.specs.Content.{blocks_in};
+ghost use Rattle.std.specs.Prelude.{◌≡◌, ◌≤◌, ◌<◌, ◌+◌, ◌*◌, ◌%◌, ℕ, length, None, IfSome, IfOk, IfErr, IsSome, IsTrue, IsFalse, OnOk};
+ghost use Rattle.vx_model.specs.Content.{blocks_in, zero_block};
 ghost use Rattle.vx_model.specs.World.{Node};
 ghost use Rattle.vx_srl.specs.Views.{free_of};
-ghost use Rattle.vx_node.specs.Engines.{Later, CanStart, CanWrite, WroteUp, is_off};
+ghost use Rattle.vx_node.specs.Engines.{Later, CanHold, CanStart, CanWrite, MadeIs, BareUpIs, WroteUp, is_off};
 ghost use Rattle.vx_node.specs.Rooms.{AppliedAs, RoomIs};
-ghost use Rattle.vx_node.specs.Stands.{IsUpAt, StandsAt};
+ghost use Rattle.vx_node.specs.Stands.{IsBareAt, IsCleanAt, IsUpAt, StandsAt};
+ghost use Rattle.vx_disk.specs.Shelf.{Goes, Keeps, Nothing};
+ghost use Rattle.vx_model.specs.Steps.{ring_of};
+ghost use Rattle.vx_ringio.specs.Tracks.{Lies};
+ghost use Rattle.vx_srl.specs.Causes.{DeviceCause};
 
 use crate::units::raw_units;
 use std::alloc::Global;
 use std::mem;
 use vx_disk::Rack;
-use vx_model::{No, State, Stop};
+use vx_model::{No, Role, State, Stop};
 use vx_order::ring_blocks;
+use vx_ringio::{TopSeen, read_top};
 use vx_rvg::{Rvg, StartRoom};
+use vx_srl::refusal;
 
 /// The rack of a site number, by itself or under a replicated volume group.
 #[derive(Drop)]
 pub enum Engine<R: Rack> {
     /// Its disks alone, if it has any yet.
     Bare(R),
+    /// The disks of a bare site on which a raw set was begun, and not finished.
+    Spoiled(R),
     Up(Rvg<R>),
     /// The disks of a raw set that crashed.
     Down(R),
@@ -119,11 +127,99 @@ fn can_start<R: Rack>(rack: &R, room: &StartRoom) -> bool
     blocks >= 8 && room.ring() == ring_blocks(blocks)
 }
 
+// A raw set on the disks of a bare site. Where it is not made, something of it may stand on them.
+fn make_group<R: Rack>(alloc: Global, rack: R, site: u32) -> (Engine<R>, Result<(), Stop>)
+    ensures made { (n : Node) → IsBareAt n (R.meaning rack) → 3 ≤ n.disks → MadeIs site n (Engine.Spoiled rack) result.0 result.1 }
+    ensures later { Later (Engine.Spoiled rack) result.0 }
+{
+    let disks = rack.units();
+    if disks < 3 || disks > 8 {
+        return (Engine::Spoiled(rack), Err(Stop::No(No::Role)));
+    }
+    match Rvg::create(alloc, rack, &raw_units(disks), &State::first(site)) {
+        Ok(rvg) => (Engine::Up(rvg), Ok(())),
+        Err((rack, stop)) => (Engine::Spoiled(rack), Err(stop)),
+    }
+}
+
+// Whether a header of a log stands in this block of disk 0. The log of a bunker is none of a raw set.
+fn is_log<R: Rack>(rack: &mut R, ring: u64, block: u64) -> Result<bool, No>
+    requires lies { Lies 0 ring (R.meaning rack.old) }
+    requires header { block < 2 }
+    ensures none { IfOk result (λ found. IsTrue (R.meaning rack.old).tells → Keeps (R.meaning rack.old) 0 block zero_block → IsFalse found) }
+    ensures goes { Goes Nothing (R.meaning rack.old) (R.meaning rack.new) }
+    ensures cause { IfErr result (DeviceCause (R.meaning rack.old) (R.meaning rack.new)) }
+{
+    match read_top(rack, 0, ring, block) {
+        Ok(TopSeen::Valid(header)) => Ok(!matches!(header.state.role, Role::Bunker)),
+        Ok(
+            TopSeen::Broken {
+                stored: _,
+                computed: _,
+            },
+        ) => Ok(true),
+        Ok(TopSeen::Other) => Ok(false),
+        Err(error) => Err(refusal(error)),
+    }
+}
+
+// The same of either of its header blocks.
+fn has_log<R: Rack>(rack: &mut R, ring: u64) -> Result<bool, No>
+    requires lies { Lies 0 ring (R.meaning rack.old) }
+    ensures none { IfOk result (λ found. IsTrue (R.meaning rack.old).tells → ((b : ℕ) → b < 2 → Keeps (R.meaning rack.old) 0 b zero_block) → IsFalse found) }
+    ensures goes { Goes Nothing (R.meaning rack.old) (R.meaning rack.new) }
+    ensures cause { IfErr result (DeviceCause (R.meaning rack.old) (R.meaning rack.new)) }
+{
+    if is_log(rack, ring, 0)? {
+        return Ok(true);
+    }
+    is_log(rack, ring, 1)
+}
+
+// Whether these are disks on which a raw set can be, in whose log there is this room.
+fn can_hold<R: Rack>(rack: &R, room: &StartRoom) -> bool
+    ensures is { IsTrue result → CanHold room.now.ring (R.meaning rack.now) }
+    ensures all { CanHold room.now.ring (R.meaning rack.now) → IsTrue result }
+{
+    let disks = rack.units();
+    if disks < 3 || disks > 8 {
+        return false;
+    }
+    let blocks = rack.size(0);
+    blocks >= 8 && room.ring() == ring_blocks(blocks)
+}
+
+// Starts what stands on the disks of a bare site. Where it is refused, the site stays bare.
+fn start_bare<R: Rack>(rack: R, room: StartRoom) -> (Engine<R>, Result<(), No>)
+    ensures found { (n : Node) → IsCleanAt n (R.meaning rack) → 3 ≤ n.disks → room.ring ≡ ring_of n.blocks → BareUpIs n (Engine.Bare rack) result.0 result.1 }
+    ensures later { Later (Engine.Bare rack) result.0 }
+{
+    let mut rack = rack;
+    if !can_hold(&rack, &room) {
+        return (Engine::Bare(rack), Err(No::NoConfig));
+    }
+    let units = raw_units(rack.units());
+    match has_log(&mut rack, room.ring()) {
+        Ok(true) => {}
+        Ok(false) => return (Engine::Bare(rack), Err(No::NoConfig)),
+        Err(no) => return (Engine::Bare(rack), Err(no)),
+    }
+    match Rvg::start_in(room, rack, &units) {
+        Ok(rvg) => (Engine::Up(rvg), Ok(())),
+        Err((rack, no)) => {
+            let mut rack = rack;
+            rack.crash(u64::MAX);
+            rack.revive();
+            (Engine::Bare(rack), Err(no))
+        }
+    }
+}
+
 impl<R: Rack> Engine<R> {
     ghost use Rattle.vx_node.specs.Holds.{state_with};
     ghost use Rattle.vx_node.specs.Stands.{CutAt, IsUnused};
     ghost use Rattle.vx_model.specs.World.{FuseSet};
-    ghost use Rattle.vx_node.specs.Engines.{FitIs, CanRead, CanApply, ReadAt, WroteAt, AppliedUp, AppliedAt, MadeIs, CrashedAt, CameUpIs};
+    ghost use Rattle.vx_node.specs.Engines.{FitIs, CanRead, CanApply, ReadAt, WroteAt, AppliedUp, AppliedAt, CrashedAt, CameUpIs};
     ghost use Rattle.vx_model.specs.declared.site.SiteState.TheVariants.{Bare as BareState, Up as UpState, Down as DownState};
 
     /// Makes the disks of a site that has none.
@@ -155,16 +251,8 @@ impl<R: Rack> Engine<R> {
         ensures later { Later self result.0 }
     {
         match self {
-            Engine::Bare(rack) => {
-                let disks = rack.units();
-                if disks < 3 || disks > 8 {
-                    return (Engine::Bare(rack), Err(Stop::No(No::Role)));
-                }
-                match Rvg::create(alloc, rack, &raw_units(disks), &State::first(site)) {
-                    Ok(rvg) => (Engine::Up(rvg), Ok(())),
-                    Err((rack, stop)) => (Engine::Bare(rack), Err(stop)),
-                }
-            }
+            Engine::Bare(rack) => make_group(alloc, rack, site),
+            Engine::Spoiled(rack) => make_group(alloc, rack, site),
             other => (other, Err(Stop::No(No::Role))),
         }
     }
@@ -217,7 +305,7 @@ impl<R: Rack> Engine<R> {
                     Err(No::Role)
                 }
             }
-            Engine::Bare(_) | Engine::Down(_) | Engine::Gone => Err(No::Role),
+            Engine::Bare(_) | Engine::Spoiled(_) | Engine::Down(_) | Engine::Gone => Err(No::Role),
         }
     }
 
@@ -239,7 +327,7 @@ impl<R: Rack> Engine<R> {
                     Err(No::Role)
                 }
             }
-            Engine::Bare(_) | Engine::Down(_) | Engine::Gone => Err(No::Role),
+            Engine::Bare(_) | Engine::Spoiled(_) | Engine::Down(_) | Engine::Gone => Err(No::Role),
         }
     }
 
@@ -250,6 +338,7 @@ impl<R: Rack> Engine<R> {
     {
         match self {
             Engine::Bare(rack) if disk < rack.units() as u64 => rack.fail(disk as u32, on),
+            Engine::Spoiled(rack) if disk < rack.units() as u64 => rack.fail(disk as u32, on),
             Engine::Up(rvg) if disk < rvg.shelf.units() as u64 => rvg.shelf.fail(disk as u32, on),
             Engine::Down(rack) if disk < rack.units() as u64 => rack.fail(disk as u32, on),
             _ => {}
@@ -308,6 +397,17 @@ impl<R: Rack> Engine<R> {
         }
     }
 
+    /// Starts what an earlier run left on the disks of a bare site, with room taken before. Where it is refused, the site stays bare.
+    pub fn recover_bare(self, room: StartRoom) -> (Engine<R>, Result<(), No>)
+        ensures found { (n : Node) → StandsAt n self → n.state ≡ BareState → 3 ≤ n.disks → room.ring ≡ ring_of n.blocks → BareUpIs n self result.0 result.1 }
+        ensures later { Later self result.0 }
+    {
+        match self {
+            Engine::Bare(rack) => start_bare(rack, room),
+            other => (other, Err(No::NoConfig)),
+        }
+    }
+
     /// Brings the logged writes up to a number into their volumes. Answers the number up to which all are there now. A site whose fuse
     /// runs out crashes.
     pub fn apply(&mut self, to: u64) -> Result<u64, No>
@@ -333,7 +433,7 @@ impl<R: Rack> Engine<R> {
     {
         match self {
             Engine::Up(rvg) => apply_group(rvg, to),
-            Engine::Bare(_) | Engine::Down(_) | Engine::Gone => Err(No::Role),
+            Engine::Bare(_) | Engine::Spoiled(_) | Engine::Down(_) | Engine::Gone => Err(No::Role),
         }
     }
 

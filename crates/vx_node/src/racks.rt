@@ -12,7 +12,7 @@ fn give_back<R: Rack>(racks: &mut Vec<R>, engine: Engine<R>)
     ensures room { vec_capacity racks.old ≤ vec_capacity racks.new }
 {
     match engine {
-        Engine::Bare(rack) | Engine::Down(rack) => {
+        Engine::Bare(rack) | Engine::Spoiled(rack) | Engine::Down(rack) => {
             let _ = racks.push(rack);
         }
         Engine::Up(rvg) => {

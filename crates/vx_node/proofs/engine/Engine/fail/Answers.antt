@@ -1,6 +1,7 @@
 use Rattle.std.proofs.Common.{subst}
 use Rattle.vx_rvg.proofs.ReadStands.{rest_sound}
 use Rattle.vx_node.specs.Stands.{StandsAt}
+use Rattle.vx_node.proofs.Bares.{clean_read}
 use Rattle.vx_node.proofs.Engines.{bare_still, up_still, fuse_still}
 use Rattle.vx_node.proofs.Recovering.{down_still}
 use Rattle.vx_node.proofs.engine.Engine.fail.Goals as goal
@@ -9,7 +10,10 @@ pub invariant_of-rvg : goal.invariant_of-rvg
 invariant_of-rvg g c = record { sound = rest_sound c.in-Up.rvg.core _ _ c.fail-in-Up.ensures.goes c.in-Up.rvg.sound }
 
 pub returns-in-Bare-clause-stands : goal.returns-in-Bare-clause-stands
-returns-in-Bare-clause-stands g c = λ n stands. bare_still _ _ _ c.fail.ensures.goes c.fail.ensures.down c.fail.ensures.armed (subst (λ e. StandsAt n e) c.in-Bare.is stands)
+returns-in-Bare-clause-stands g c = λ n stands. clean_read n _ _ c.fail.ensures.goes (subst (λ e. StandsAt n e) c.in-Bare.is stands)
+
+pub returns-in-Spoiled-clause-stands : goal.returns-in-Spoiled-clause-stands
+returns-in-Spoiled-clause-stands g c = λ n stands. bare_still _ _ _ c.fail-in-Spoiled.ensures.goes c.fail-in-Spoiled.ensures.down c.fail-in-Spoiled.ensures.armed (subst (λ e. StandsAt n e) c.in-Spoiled.is stands)
 
 pub returns-in-Up-clause-stands : goal.returns-in-Up-clause-stands
 returns-in-Up-clause-stands g c = λ n stands.

@@ -1,24 +1,15 @@
 use Rattle.std.proofs.Common.{subst, sym}
-use Rattle.vx_model.specs.declared.units.Units.{Units}
-use Rattle.vx_rvg.specs.Views.{Placed}
+use Rattle.vx_node.specs.Engines.{MadeIs}
 use Rattle.vx_node.specs.Stands.{StandsAt}
-use Rattle.vx_node.proofs.Engines.{placed_raw, first_spells, made_stands, raw_failed}
+use Rattle.vx_node.proofs.Bares.{made_bare}
 use Rattle.vx_node.proofs.engine.Engine.make_raw.Goals as goal
 
-pub create-requires : goal.create-requires
-create-requires g c = record {
-  placed = subst (λ (u : Units). Placed u (g.R.Shelf.meaning c.in-Bare.rack)) (sym c.raw_units.ensures)
-      (placed_raw c.units-disks.result (g.R.Shelf.meaning c.in-Bare.rack) c.units-disks.ensures c.if-disks-lt3.false);
-  state = first_spells c.args.site c.first.result c.first.ensures;
-}
+pub returns-in-Bare-clause-made : goal.returns-in-Bare-clause-made
+returns-in-Bare-clause-made g c = λ n stands bare some.
+    subst (λ e. MadeIs c.args.site n e c.make_group.result.0 c.make_group.result.1) (sym c.in-Bare.is)
+    (made_bare c.args.site n c.in-Bare.rack c.make_group.result.0 c.make_group.result.1 (c.make_group.ensures.made n (subst (λ e. StandsAt n e) c.in-Bare.is stands).bare some))
 
-pub returns-in-Ok-clause-made : goal.returns-in-Ok-clause-made
-returns-in-Ok-clause-made g c = λ n stands bare some.
-    made_stands c.args.site c.units-disks.result n c.in-Ok.rvg.core c.raw_units.result c.first.result (g.R.Shelf.meaning c.in-Bare.rack) (g.R.Shelf.meaning c.in-Ok.rvg.shelf)
-    c.raw_units.ensures c.first.ensures c.units-disks.ensures ((g.met.R.Shelf g.world.𝓛 g.world.𝓜 g.world.𝓡 ((λ s x. x), (λ x. x), (λ x. x), λ x. x)).lawful c.in-Ok.rvg.shelf) c.in-Ok.rvg.sound.log_unit
-    (subst (λ e. StandsAt n e) c.in-Bare.is stands) some c.in-Ok.ensures.core c.in-Ok.ensures.moves c.in-Ok.ensures.stands
-
-pub returns-in-Err-clause-made : goal.returns-in-Err-clause-made
-returns-in-Err-clause-made g c = λ n stands bare some.
-    raw_failed c.args.site c.units-disks.result n c.args.self c.in-Bare.rack c.in-Err.rack c.raw_units.result c.in-Err.stop
-    c.in-Bare.is c.raw_units.ensures (subst (λ e. StandsAt n e) c.in-Bare.is stands) c.in-Err.ensures.cause some c.in-Err.ensures.left
+pub returns-in-Spoiled-clause-made : goal.returns-in-Spoiled-clause-made
+returns-in-Spoiled-clause-made g c = λ n stands bare some.
+    subst (λ e. MadeIs c.args.site n e c.make_group-in-Spoiled.result.0 c.make_group-in-Spoiled.result.1) (sym c.in-Spoiled.is)
+    (c.make_group-in-Spoiled.ensures.made n (subst (λ e. StandsAt n e) c.in-Spoiled.is stands) some)

@@ -5,9 +5,10 @@ use Rattle.vx_model.specs.Steps.{ring_of}
 use Rattle.vx_order.specs.declared.facts.SiteFacts.{SiteFacts}
 use Rattle.vx_node.specs.Facts.{seat_of}
 use Rattle.vx_node.specs.Yards.{in_files}
+use Rattle.vx_node.proofs.Finds.{bare_worked}
 use Rattle.vx_node.proofs.Lists.{get_at}
 use Rattle.vx_node.proofs.Refused.{recover_may}
-use Rattle.vx_node.proofs.Rising.{recover_bare, recover_down, recover_up, shown_there}
+use Rattle.vx_node.proofs.Rising.{recover_down, recover_up, shown_there}
 use Rattle.vx_node.proofs.Seats.{named_none, seat_below, seat_within, some_same}
 use Rattle.vx_node.proofs.yard.Yard.recover_line.Goals as goal
 use Rattle.vx_node.proofs.yard.Yard.recover_line.Goals.{then-site-len-via-then-site-len, then-site-len-via-else-site-len+then-index-lt8}
@@ -38,8 +39,8 @@ pub returns-in-Bare-clause-works : goal.returns-in-Bare-clause-works
 returns-in-Bare-clause-works g c = λ w stands free.
     let facts = c.args.self.now.facts.items in
     let is : seat_of facts c.args.name.now ≡ Some c.in-Some.site = ap (λ fs. seat_of fs c.args.name.now) (sym c.deref.ensures.value) ∙ sym c.seat.ensures ∙ c.in-Some.is in
-    recover_bare w c.args.self.now c.args.name.now c.in-Some.site c.index-3.result.now stands is
-    (get_at facts c.in-Some.site c.index-3.result.now (seat_within facts c.args.name.now c.in-Some.site is) c.index-3.ensures) c.in-Bare.is
+    bare_worked w c.args.self.now c.recover_bare.new.self c.args.name.now c.in-Some.site c.index-3.result.now c.recover_bare.result stands is
+    (get_at facts c.in-Some.site c.index-3.result.now (seat_within facts c.args.name.now c.in-Some.site is) c.index-3.ensures) c.in-Bare.is c.recover_bare.ensures.found
 
 pub returns-in-Deported-clause-works : goal.returns-in-Deported-clause-works
 returns-in-Deported-clause-works g c = λ w stands free.
