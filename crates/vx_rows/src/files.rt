@@ -5,7 +5,9 @@ use crate::fresh_file_racks;
 use std::alloc::Global;
 use std::fs;
 use std::str::from_utf8;
+use std::sync::Wait;
 use std::test::Fail;
+use std::thread::Threads;
 use vx_cli::{OpenGate, Status, vx_main};
 use vx_disk::{MemShelf, Rack, Shelf};
 use vx_filedisk::HostRack;
@@ -137,43 +139,72 @@ fn remove(rt: &HostRuntime) {
     let _ = fs::remove_file(rt, "./0-0.vxd");
     let _ = fs::remove_file(rt, "./0-1.vxd");
     let _ = fs::remove_file(rt, "./0-2.vxd");
+    let _ = fs::remove_file(rt, "./1-0.vxd");
+    let _ = fs::remove_file(rt, "./1-1.vxd");
+    let _ = fs::remove_file(rt, "./1-2.vxd");
 }
 
-#[test]
-fn a_write_that_is_answered_is_in_the_files(rt: HostRuntime) -> Result<(), Fail> {
-    remove(&rt);
+// Runs a script over the files of this folder.
+fn run_in_files<H: Threads + Wait + Sync>(
+    handle: &H,
+    rt: HostRuntime,
+    script: &[u8],
+    sink: &mut Watch,
+) -> Result<Status, Fail> {
     let alloc = rt.alloc();
-    let script =
-        b"site a 3 64\nraw a\nwrite a d1 0 1 11\nwrite a d1 5 1 22\nwrite a d1 63 1 33\nwrite a d1 1 1 44\nwrite a d1 32 1 55\nwrite a d1 7 1 66\nwrite a d1 2 1 77\nwrite a d1 40 1 88\nwrite a d1 9 1 99\nwrite a d1 3 1 aa\n";
     let mut words = Vec::new(alloc);
     for word in ["run", "--dir", "."] {
         words.push(String::from_str(alloc, word)?)?;
     }
     let mut source = MemSource::new(alloc, script, &[])?;
-    let mut sink = Watch {
+    let mut racks = fresh_file_racks(rt, alloc)?;
+    Ok(vx_main(
+        handle,
+        alloc,
+        &words,
+        &mut source,
+        sink,
+        &mut racks,
+        &OpenGate,
+    ))
+}
+
+fn new_sink(rt: HostRuntime) -> Result<Watch, Fail> {
+    let alloc = rt.alloc();
+    Ok(Watch {
         inner: MemSink::new(alloc, 4096, &[])?,
         rt,
         alloc,
         copies: 0,
         misses: 0,
-    };
-    let mut racks = fresh_file_racks(rt, alloc)?;
-    let status = vx_main(
-        &rt,
-        alloc,
-        &words,
-        &mut source,
-        &mut sink,
-        &mut racks,
-        &OpenGate,
-    );
+    })
+}
+
+// A later run over the same files takes up the raw set.
+#[test]
+fn a_write_that_is_answered_is_in_the_files(rt: HostRuntime) -> Result<(), Fail> {
+    remove(&rt);
+    let script =
+        b"site a 3 64\nraw a\nwrite a d1 0 1 11\nwrite a d1 5 1 22\nwrite a d1 63 1 33\nwrite a d1 1 1 44\nwrite a d1 32 1 55\nwrite a d1 7 1 66\nwrite a d1 2 1 77\nwrite a d1 40 1 88\nwrite a d1 9 1 99\nwrite a d1 3 1 aa\n";
+    let mut first = new_sink(rt)?;
+    let status = run_in_files(&rt, rt, script, &mut first)?;
+    let later =
+        b"site a 3 64\nrecover a\nread a d1 63 1\nwrite a d1 0 1 bb\nread a d1 0 2\nsite b 3 64\nrecover b\n";
+    let mut second = new_sink(rt)?;
+    let later_status = run_in_files(&rt, rt, later, &mut second)?;
     remove(&rt);
     assert_eq!(rt; status, Status::Done);
     assert_eq!(rt;
-        sink.inner.written(),
+        first.inner.written(),
         b"done\ndone\ndone 1\ndone 2\ndone 3\ndone 4\ndone 5\ndone 6\ndone 7\ndone 8\ndone 9\ndone 10\n".as_slice()
     );
-    assert_eq!(rt; sink.copies, 10);
-    assert_eq!(rt; sink.misses, 0);
+    assert_eq!(rt; first.copies, 10);
+    assert_eq!(rt; first.misses, 0);
+    assert_eq!(rt; later_status, Status::Done);
+    assert_eq!(rt;
+        second.inner.written(),
+        b"done\nrecovered 10\nsite a up\nrvg primary 1 a head 10 mark consistent session 2\n33\ndone 11\nbb\n44\ndone\nno 9 noconfig\n".as_slice()
+    );
+    assert_eq!(rt; second.misses, 0);
     Ok(())
 }
