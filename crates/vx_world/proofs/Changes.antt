@@ -4,7 +4,7 @@ use Rattle.std.specs.Prelude.{eqb, min, Some, None, Option}
 use Rattle.std.specs.List.{AllByRecursion}
 use Rattle.vx_model.specs.Content.{Write}
 use Rattle.vx_model.specs.World.{World, Node, Hello, NetAck, DataAck, is_origin, updated, with_node}
-use Rattle.vx_model.specs.Steps.{logged, told_of, written, half_written}
+use Rattle.vx_model.specs.Steps.{burned, logged, told_of, written, half_written}
 use Rattle.vx_model.specs.Good.{IsMade, IsWorking}
 use Rattle.vx_model.specs.Admission.{Admitted, Held_by, Goes}
 use Rattle.vx_model.specs.Receiving.{Received, with_applied, applied_to}
@@ -52,10 +52,10 @@ written_keeps w p x s works =
 
 half_written_keeps : (w : World) (p : ℕ) (x : Write) (disk : ℕ) → Sound w → IsWorking (w.nodes p) → Sound (half_written w p x disk)
 half_written_keeps w p x disk s works =
-    let m : Node = record (w.nodes p) { log = (w.nodes p).log ++ x ∷ []; halted = Some disk } in
+    let m : Node = record (w.nodes p) { log = (w.nodes p).log ++ x ∷ []; halted = Some disk; fuse = burned (w.nodes p).fuse } in
     sound_with_node w p m s
     (good_half_written w p x disk s.good works)
-    (Nodes.later_longer (w.nodes p) x (Some disk))
+    (Nodes.later_longer (w.nodes p) x (Some disk) (burned (w.nodes p).fuse))
     (up_whole m works.up)
     (origin_known w p m works.origin)
 

@@ -5,7 +5,7 @@ use Rattle.std.specs.List.{AllByRecursion}
 use Rattle.std.proofs.lemmas.List.{length-take, take-take}
 use Rattle.vx_model.specs.Content.{IsPrefixOf}
 use Rattle.vx_model.specs.World.{World, Node, is_origin, with_node}
-use Rattle.vx_model.specs.Steps.{crashed, crash_left, stopped_by}
+use Rattle.vx_model.specs.Steps.{burned, crashed, crash_left, stopped_by}
 use Rattle.vx_model.specs.Good.{IsMade}
 use Rattle.vx_model.specs.declared.site.Mark.{Mark}
 use Rattle.vx_model.specs.declared.site.Mark.TheVariants.{Consistent}
@@ -114,7 +114,7 @@ recover_keeps w q Down fails s e = unless_keeps _ _ w (Events.recovery w q fails
 pub fault_keeps : (w : World) (q disk : ℕ) → Sound w → (w.nodes q).state ≡ Up → Sound (stopped_by w q disk)
 fault_keeps w q disk s up =
     let n : Node = w.nodes q in
-    sound_with_node w q (record n { halted = Some disk }) s
+    sound_with_node w q (record n { halted = Some disk; fuse = burned n.fuse }) s
     (good_stopped w q disk s.good (up_is_made n up))
     (Nodes.later_halted n disk)
     (s.whole q)

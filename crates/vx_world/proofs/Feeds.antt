@@ -143,7 +143,7 @@ update_keeps w p number x s up is known =
         let none : IsStranger w.nodes w.links n.line p.target → ⊥ = subst (λ (l : Line). IsStranger w.nodes w.links l p.target → ⊥) e known in
         let v : Sound (with_node w p.target m) = sound_with_node w p.target m s
         (good_later w p.target m s.good made refl (λ is. is) (Nodes.good_taken (w.lines n.line) p.target n x number made r here next (s.good.nodes p.target)))
-        (Nodes.later_longer n x n.halted)
+        (Nodes.later_longer n x n.halted n.fuse)
         (up_whole m up)
         (λ _ _ g. absurd (none g)) in
         from_memory_keeps (with_node w p.target m) p m number v (at_place w.nodes p.target m) made r (omega (arith, next, length-append n.log (x ∷ [])))

@@ -8,7 +8,7 @@ use Rattle.vx_model.specs.Admission.{Admitted, Held_by, Goes}
 use Rattle.vx_model.specs.Receiving.{Received, received_step}
 use Rattle.vx_model.specs.LinkForms.{plain_receiver, with_plain}
 use Rattle.vx_model.specs.World.{World, Node, Link as LinkRecord, History, Packet, Promise, Message, Hello, Update, NetAck, DataAck, is_origin, with_node, with_history, bare_site}
-use Rattle.vx_model.specs.Steps.{logged, told_of, written, half_written, crashed, crash_left, site_made, raw_made, raw_set, raw_history, stopped_by}
+use Rattle.vx_model.specs.Steps.{burned, logged, told_of, written, half_written, crashed, crash_left, site_made, raw_made, raw_set, raw_history, stopped_by}
 use Rattle.vx_model.specs.Good.{IsMade}
 use Rattle.vx_model.specs.declared.link.SyncMode.{SyncMode}
 use Rattle.vx_model.specs.declared.link.Prot.TheVariants.{Fail as FailsWhenFull}
@@ -117,7 +117,7 @@ put_grows w v p x None s g =
     grown_trans w v (written v p x) g
     (grown_history v p (logged n x) (told_of (v.lines n.line) x) (λ made. made) (λ _. (prefix_more (v.lines n.line).held (x ∷ []), omega (arith, s.good.told n.line))))
 put_grows w v p x (Some disk) s g =
-    grown_trans w v (half_written v p x disk) g (grown_node v p (record (v.nodes p) { log = (v.nodes p).log ++ x ∷ []; halted = Some disk }) (λ made. made))
+    grown_trans w v (half_written v p x disk) g (grown_node v p (record (v.nodes p) { log = (v.nodes p).log ++ x ∷ []; halted = Some disk; fuse = burned (v.nodes p).fuse }) (λ made. made))
 
 written_grows : (admitted : Admitted) (w : World) (p : ℕ) (x : Write) (fails : Option ℕ) → Sound w → Sound (Events.links_changed w p x) → Leaves w (Events.written_if admitted w p x fails)
 written_grows (Held_by why) w p x fails s v = grown_same w
@@ -295,7 +295,7 @@ step_grows w (Recover q fails) s = Guards.at_site_holds (Grown w) w q _ (grown_s
 step_grows w (Fault q disk) s =
     Guards.at_site_holds (Grown w) w q _ (grown_same w)
     (λ _. Guards.unless_holds (Grown w) (not (is_up (w.nodes q).state)) NotUp w (says (stopped_by w q disk) _) (grown_same w)
-    (λ _. grown_node w q (record (w.nodes q) { halted = Some disk }) (λ made. made)))
+    (λ _. grown_node w q (record (w.nodes q) { halted = Some disk; fuse = burned (w.nodes q).fuse }) (λ made. made)))
 
 pub run_grows : (w : World) (events : List Event) → Sound w → Grown w (run w events)
 run_grows w [] s = grown_same w

@@ -3,8 +3,8 @@ use Rattle.std.proofs.Common.{◌≡◌, ℕ, ◌+◌, ◌≤◌, ◌++◌, List
 use Rattle.std.specs.Prelude.{Option, Some, None, ◌&&◌, leb}
 use Rattle.std.proofs.lemmas.List.{take-take, take-append-le, take-append-drop}
 use Rattle.vx_model.specs.Content.{Content, Write, fold_writes, IsNumber}
-use Rattle.vx_model.specs.World.{Node, History, is_origin}
-use Rattle.vx_model.specs.Steps.{logged, crashed, recovered}
+use Rattle.vx_model.specs.World.{Node, History, Fuse, is_origin}
+use Rattle.vx_model.specs.Steps.{burned, logged, crashed, recovered}
 use Rattle.vx_model.specs.Good.{GoodNode, IsMade}
 use Rattle.vx_model.specs.Receiving.{marked_by, is_log_phase}
 use Rattle.vx_model.specs.LinkForms.{plain_receiver}
@@ -33,8 +33,8 @@ later_logged n x = record {
 }
 
 -- one more write, whatever is known of it
-pub later_longer : (n : Node) (x : Write) (halted : Option ℕ) → IsLater n (record n { log = n.log ++ x ∷ []; halted = halted })
-later_longer n x halted = record {
+pub later_longer : (n : Node) (x : Write) (halted : Option ℕ) (fuse : Fuse) → IsLater n (record n { log = n.log ++ x ∷ []; halted = halted; fuse = fuse })
+later_longer n x halted fuse = record {
   line = refl;
   origin = refl;
   session = omega arith;
@@ -161,7 +161,7 @@ later_begun n down = record {
   other = refl;
 }
 
-pub later_halted : (n : Node) (disk : ℕ) → IsLater n (record n { halted = Some disk })
+pub later_halted : (n : Node) (disk : ℕ) → IsLater n (record n { halted = Some disk; fuse = burned n.fuse })
 later_halted n disk = record { line = refl; origin = refl; session = omega arith; safe = omega arith; present = λ up _. (up, omega arith); mark = λ m. m; made = λ m. m; phase = refl; other = refl }
 
 pub good_marked : (h : History) (s : ℕ) (n : Node) → GoodNode h s n → GoodNode h s (record n { mark = Consistent })
