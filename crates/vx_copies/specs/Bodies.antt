@@ -1,6 +1,8 @@
 -- Which bodies are configurations of the disks of a shelf.
-use Rattle.std.specs.Prelude.{ℕ, ◌+◌, ◌≤◌, Bool, true, false, ◌&&◌, ◌==◌, if◌then◌else◌, Option, Some, None, Result, Ok, Err, List, [], ◌∷◌, length, map, slice_index_or}
+use Rattle.std.specs.Prelude.{ℕ, ◌+◌, ◌-◌, ◌*◌, ◌/◌, ◌≤◌, Bool, true, false, ◌&&◌, ◌==◌, if◌then◌else◌, Option, Some, None, Result, Ok, Err, List, [], ◌∷◌, ◌++◌, length, map, slice_index_or}
+use Rattle.vx_wire.specs.Fields.{zeros}
 use Rattle.vx_config.specs.Checks.{is_sound}
+use Rattle.vx_config.specs.Configs.{spelled}
 use Rattle.vx_config.specs.Table.{config}
 use Rattle.vx_config.specs.declared.config.Config.{Config}
 use Rattle.vx_config.specs.declared.entry.DiskEntry.{DiskEntry}
@@ -40,3 +42,11 @@ failed_in c disk = slice_index_or (map (λ d. d.failed) c.disks) disk false
 abbrev pub HasFewDisks : Option Config → Type 0
 HasFewDisks None = Unit {0}
 HasFewDisks (Some c) = length c.disks ≤ 8
+
+-- the bytes of the whole blocks of its body
+abbrev pub body_bytes : Config → ℕ
+body_bytes c = 512 * ((length (spelled c) + 511) / 512)
+
+-- the body of a copy: its spelling, with zeros up to whole blocks
+abbrev pub body_of : Config → List ℕ
+body_of c = spelled c ++ zeros (body_bytes c - length (spelled c))

@@ -25,7 +25,7 @@ fn fits_units<S: Shelf>(shelf: &S, config: &Config) -> bool
 }
 
 // Whether a configuration is sound, and is one of these units.
-fn is_wanted<S: Shelf>(shelf: &S, config: &Config) -> bool
+pub fn is_wanted<S: Shelf>(shelf: &S, config: &Config) -> bool
     ensures wanted { result ≡ is_wanted (S.meaning shelf.now).units (S.meaning shelf.now).size config.now }
     ensures few { IsTrue result → length config.now.disks ≤ 8 }
 {

@@ -11,9 +11,13 @@ mod look;
 mod search;
 mod seen;
 mod settle;
+mod spelling;
+mod trying;
 
 pub use importing::import;
 use seen::{AreaSeen, BodySeen, CopySeen, DiskSeen};
+pub use spelling::spell;
+pub use trying::put_config;
 pub use vx_copyio::label;
 
 #[cfg(test)]

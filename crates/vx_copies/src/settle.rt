@@ -25,7 +25,7 @@ fn lowest_missing(config: &Config, readable: &[bool; 8]) -> Option<u32>
 }
 
 // The set of the disks that are held as good, from the last one on.
-fn good_of(disks: &Disks) -> u8
+pub fn good_of(disks: &Disks) -> u8
     ensures { result ≡ good_set disks.now }
 {
     let disks = disks.as_slice();

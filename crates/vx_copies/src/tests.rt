@@ -2,9 +2,10 @@
 ghost use Rattle.std.specs.Prelude.{◌≡◌, take};
 
 use super::*;
+use crate::body::is_wanted;
 use std::alloc::Global;
 use std::test::*;
-use vx_config::Config;
+use vx_config::{Config, DiskEntry, Disks, Volumes, is_short};
 use vx_copyfmt::AreaHeader;
 use vx_copyio::{are_large, put_copy};
 use vx_disk::{MemShelf, Rack, Shelf, put};
@@ -109,6 +110,55 @@ fn the_newest_copy_is_found(rt: HostRuntime) {
     fail(&mut shelf, 0, false);
     assert!(rt; found(alloc, &mut shelf) == Err(Stop::No(No::Missing { disk: 1 })));
     fail(&mut shelf, 1, false);
+    assert!(rt; found(alloc, &mut shelf) == Ok((3, 2, true)));
+}
+
+// Writes a configuration of two disks, of which the first may be failed.
+fn put_two<S: Shelf>(
+    alloc: Global,
+    shelf: &mut S,
+    serial: u64,
+    failed: bool,
+    good: u8,
+) -> Result<bool, OutOfMemory> {
+    let mut room = vec![in alloc; 0; 65024]?;
+    let mut disks = Disks::new();
+    disks.push(DiskEntry {
+        blocks: 1024,
+        failed,
+    });
+    disks.push(DiskEntry {
+        blocks: 1024,
+        failed: false,
+    });
+    let config = Config {
+        serial: serial.min(100),
+        site: 7,
+        disks,
+        volumes: Volumes::new(alloc),
+        rvg: None,
+    };
+    is_short(&config);
+    if !are_large(shelf) || !is_wanted(shelf, &config) {
+        return Err(OutOfMemory);
+    }
+    Ok(put_config(shelf, &config, good, &mut room).is_ok())
+}
+
+#[test]
+fn a_configuration_is_written_to_its_good_disks(rt: HostRuntime) {
+    let alloc = rt.alloc();
+    let mut shelf = labelled(alloc).expect(&rt, "there is memory");
+    assert!(rt; put_two(alloc, &mut shelf, 1, false, 3) == Ok(true));
+    assert!(rt; found(alloc, &mut shelf) == Ok((1, 3, true)));
+    // The first disk fails: serial 2 stops at it, before the second one has it.
+    fail(&mut shelf, 0, true);
+    assert!(rt; put_two(alloc, &mut shelf, 2, false, 1) == Ok(false));
+    fail(&mut shelf, 0, false);
+    assert!(rt; found(alloc, &mut shelf) == Ok((1, 3, true)));
+    fail(&mut shelf, 0, true);
+    assert!(rt; put_two(alloc, &mut shelf, 3, true, 3) == Ok(true));
+    fail(&mut shelf, 0, false);
     assert!(rt; found(alloc, &mut shelf) == Ok((3, 2, true)));
 }
 

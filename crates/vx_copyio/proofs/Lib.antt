@@ -2,3 +2,4 @@ pub mod Labels
 pub mod Slots
 pub mod Putting
 pub mod Spreading
+pub mod Counting

@@ -1,17 +1,22 @@
 -- Copies written to one disk after another.
-use Rattle.std.proofs.Common.{◌≡◌, ◌⊎◌, inl, inr, ⊎_elim, ℕ, ◌+◌, ◌<◌, ◌≤◌, true, false, Option, List, refl, ap, sym, subst, ◌∙◌, arith}
-use Rattle.std.specs.Prelude.{nat_eq, ◌/◌, ◌%◌, ◌^◌}
+use Rattle.std.proofs.Common.{◌≡◌, ◌⊎◌, inl, inr, ⊎_elim, ℕ, ◌+◌, ◌<◌, ◌≤◌, Bool, true, false, Option, Result, Ok, Err, OnOk, IfErr, List, refl, ap, sym, subst, ◌∙◌, arith}
+use Rattle.std.specs.Prelude.{◌&&◌, not, nat_eq, ◌/◌, ◌%◌, ◌^◌}
 use Rattle.std.proofs.Math.Nat.{div-eq_of_lt}
 use Rattle.std.proofs.Math.Pow.{pow_mono}
 use Rattle.std.proofs.lemmas.Bool.{cases_lt}
+use Rattle.vx_disk.specs.declared.shelf.ShelfError.{ShelfError}
+use Rattle.vx_disk.specs.declared.shelf.ShelfError.TheVariants.{Fault, Down}
 use Rattle.vx_disk.specs.Blocks.{bit_at}
+use Rattle.vx_disk.specs.Causes.{Cause}
 use Rattle.vx_disk.specs.Moves.{Moves, Run}
 use Rattle.vx_disk.specs.Shelf.{Meaning}
+use Rattle.vx_disk.proofs.Causing.{Rose_before}
 use Rattle.vx_disk.proofs.Moving.{goes_on, still, wider}
 use Rattle.vx_copyfmt.specs.Copies.{Disk}
 use Rattle.vx_copyfmt.specs.Commits.{Among, FromNew, FromOld, Slots, Tidy}
 use Rattle.vx_copyfmt.specs.declared.area.AreaHeader.{AreaHeader}
-use Rattle.vx_copyio.specs.Putting.{AllNew, AreasOf, Copied, InImage, InImages, IsMade, IsMember, LeavesNew, LeavesOldOrNew, OldOrNew, those}
+use Rattle.vx_copyio.specs.declared.spread.CopyFailed.{CopyFailed}
+use Rattle.vx_copyio.specs.Putting.{AllNew, AreasOf, Copied, CopyStops, FailedOn, InImage, InImages, IsMade, IsMember, LeavesNew, LeavesOldOrNew, OldOrNew, StaysTidy, part_of, those}
 
 -- ---- fewer values
 
@@ -40,79 +45,79 @@ module _ (h : AreaHeader) (body : List ℕ) where
   as_old : (u : ℕ) (m : Meaning) (d : Disk) → Among (m.leaves u) d → OldOrNew u h body m d
   as_old u m d among = record { each = λ counts tidy counted. inl (record { disk = d; among = among; label = refl; copy = refl }) }
 
-  module _ (set : ℕ) where
+  module _ (these : ℕ → Bool) where
     below_or : (u k : ℕ) → u < k + 1 → (u < k) ⊎ (u ≡ k)
     below_or u k lt = elim (cases_lt u k) [ inl below ↦ inl below | inr le ↦ inr (omega (arith, lt, le)) ]
 
     -- a disk that is not one of these is as it was
-    out_left : (old new : Meaning) (k u : ℕ) → Copied (IsMember set k) h body old new → k ≤ u → (b : ℕ) (v : List ℕ) → new.leaves u b v → old.leaves u b v
-    out_left old new k u copied le b v left = ⊎_elim (λ was. was) (λ (mine : AreasOf (IsMember set k) u b). absurd (omega (arith, le, mine.on.below))) (copied.moves.leaves u b v left)
+    out_left : (old new : Meaning) (k u : ℕ) → Copied (IsMember these k) h body old new → k ≤ u → (b : ℕ) (v : List ℕ) → new.leaves u b v → old.leaves u b v
+    out_left old new k u copied le b v left = ⊎_elim (λ was. was) (λ (mine : AreasOf (IsMember these k) u b). absurd (omega (arith, le, mine.on.below))) (copied.moves.leaves u b v left)
 
-    pub none_copied : (m : Meaning) → Copied (IsMember set 0) h body m m
-    none_copied m = record { moves = still (AreasOf (IsMember set 0)) (InImages (IsMember set 0) h body m) m; leaves = λ u is. absurd (omega (arith, is.below)) }
+    pub none_copied : (m : Meaning) → Copied (IsMember these 0) h body m m
+    none_copied m = record { moves = still (AreasOf (IsMember these 0)) (InImages (IsMember these 0) h body m) m; leaves = λ u is. absurd (omega (arith, is.below)) }
 
-    pub none_new : (m : Meaning) → AllNew (IsMember set 0) h body m m
+    pub none_new : (m : Meaning) → AllNew (IsMember these 0) h body m m
     none_new m = record { each = λ u is. absurd (omega (arith, is.below)) }
 
-    more_moves : (old new : Meaning) (k n : ℕ) → k ≤ n → Copied (IsMember set k) h body old new → Moves (AreasOf (IsMember set n)) (InImages (IsMember set n) h body old) old new
+    more_moves : (old new : Meaning) (k n : ℕ) → k ≤ n → Copied (IsMember these k) h body old new → Moves (AreasOf (IsMember these n)) (InImages (IsMember these n) h body old) old new
     more_moves old new k n le copied =
-        wider (AreasOf (IsMember set k)) (AreasOf (IsMember set n)) (InImages (IsMember set k) h body old) (InImages (IsMember set n) h body old) old new copied.moves
-        (λ u b mine. record { on = record { below = omega (arith, mine.on.below, le); bit = mine.on.bit }; first = mine.first; last = mine.last })
+        wider (AreasOf (IsMember these k)) (AreasOf (IsMember these n)) (InImages (IsMember these k) h body old) (InImages (IsMember these n) h body old) old new copied.moves
+        (λ u b mine. record { on = record { below = omega (arith, mine.on.below, le); is = mine.on.is }; first = mine.first; last = mine.last })
         (λ i beside seen. record {
           each = λ u is. elim (cases_lt u k) [
-            | inl below ↦ seen.each u (record { below = below; bit = is.bit })
-            | inr above ↦ as_old u old (i u) (λ b. ⊎_elim (λ was. was) (λ (mine : AreasOf (IsMember set k) u b). absurd (omega (arith, above, mine.on.below))) (beside u b))
+            | inl below ↦ seen.each u (record { below = below; is = is.is })
+            | inr above ↦ as_old u old (i u) (λ b. ⊎_elim (λ was. was) (λ (mine : AreasOf (IsMember these k) u b). absurd (omega (arith, above, mine.on.below))) (beside u b))
           ];
         })
 
     -- of more disks the same may be said
-    pub reaches : (old new : Meaning) (k n : ℕ) → k ≤ n → Copied (IsMember set k) h body old new → Copied (IsMember set n) h body old new
+    pub reaches : (old new : Meaning) (k n : ℕ) → k ≤ n → Copied (IsMember these k) h body old new → Copied (IsMember these n) h body old new
     reaches old new k n le copied = record {
       moves = more_moves old new k n le copied;
       leaves = λ u is. elim (cases_lt u k) [
-        | inl below ↦ copied.leaves u (record { below = below; bit = is.bit })
+        | inl below ↦ copied.leaves u (record { below = below; is = is.is })
         | inr above ↦ record { each = λ d among. as_old u old d (λ b. out_left old new k u copied above b (d b) (among b)) }
       ];
     }
 
-    pub skips_new : (old new : Meaning) (k : ℕ) → bit_at set k ≡ false → AllNew (IsMember set k) h body old new → AllNew (IsMember set (k + 1)) h body old new
+    pub skips_new : (old new : Meaning) (k : ℕ) → these k ≡ false → AllNew (IsMember these k) h body old new → AllNew (IsMember these (k + 1)) h body old new
     skips_new old new k out all = record {
       each = λ u is. elim (below_or u k is.below) [
-        | inl below ↦ all.each u (record { below = below; bit = is.bit })
-        | inr same ↦ let clash : false ≡ true = sym out ∙ subst (λ (n : ℕ). bit_at set n ≡ true) same is.bit in absurd cc
+        | inl below ↦ all.each u (record { below = below; is = is.is })
+        | inr same ↦ let clash : false ≡ true = sym out ∙ subst (λ (n : ℕ). these n ≡ true) same is.is in absurd cc
       ];
     }
 
     -- ---- one disk more
 
-    module _ (old mid new : Meaning) (k : ℕ) (bit : bit_at set k ≡ true) (copied : Copied (IsMember set k) h body old mid) (moves : Moves (Run k 1 256) (InImage k h body mid) mid new) where
+    module _ (old mid new : Meaning) (k : ℕ) (bit : these k ≡ true) (copied : Copied (IsMember these k) h body old mid) (moves : Moves (Run k 1 256) (InImage k h body mid) mid new) where
       before : (b : ℕ) (v : List ℕ) → mid.leaves k b v → old.leaves k b v
       before b v left = out_left old mid k k copied (omega arith) b v left
 
       beside_left : (u : ℕ) → u < k → (b : ℕ) (v : List ℕ) → new.leaves u b v → mid.leaves u b v
       beside_left u lt b v left = ⊎_elim (λ was. was) (λ (mine : Run k 1 256 u b). absurd (omega (arith, lt, mine.there))) (moves.leaves u b v left)
 
-      pub one_copied : LeavesOldOrNew k h body mid new → Copied (IsMember set (k + 1)) h body old new
+      pub one_copied : LeavesOldOrNew k h body mid new → Copied (IsMember these (k + 1)) h body old new
       one_copied leaves = record {
-        moves = goes_on (AreasOf (IsMember set (k + 1))) (Run k 1 256) (InImages (IsMember set (k + 1)) h body old) (InImage k h body mid) old mid new (more_moves old mid k (k + 1) (omega arith) copied) moves
-            (λ u b run. record { on = record { below = omega (arith, run.there); bit = subst (λ (n : ℕ). bit_at set n ≡ true) (sym run.there) bit }; first = run.first; last = omega (arith, run.last) })
+        moves = goes_on (AreasOf (IsMember these (k + 1))) (Run k 1 256) (InImages (IsMember these (k + 1)) h body old) (InImage k h body mid) old mid new (more_moves old mid k (k + 1) (omega arith) copied) moves
+            (λ u b run. record { on = record { below = omega (arith, run.there); is = subst (λ (n : ℕ). these n ≡ true) (sym run.there) bit }; first = run.first; last = omega (arith, run.last) })
             (λ i beside seen. record {
               each = λ u is. elim (below_or u k is.below) [
-                | inl below ↦ (copied.leaves u (record { below = below; bit = is.bit })).each (i u) (λ b. ⊎_elim (λ was. was) (λ (mine : Run k 1 256 u b). absurd (omega (arith, below, mine.there))) (beside u b))
+                | inl below ↦ (copied.leaves u (record { below = below; is = is.is })).each (i u) (λ b. ⊎_elim (λ was. was) (λ (mine : Run k 1 256 u b). absurd (omega (arith, below, mine.there))) (beside u b))
                 | inr same ↦ subst (λ (n : ℕ). OldOrNew n h body old (i n)) (sym same) (narrow k old mid (i k) before seen)
               ];
             });
         leaves = λ u is. elim (below_or u k is.below) [
-          | inl below ↦ record { each = λ d among. (copied.leaves u (record { below = below; bit = is.bit })).each d (λ b. beside_left u below b (d b) (among b)) }
+          | inl below ↦ record { each = λ d among. (copied.leaves u (record { below = below; is = is.is })).each d (λ b. beside_left u below b (d b) (among b)) }
           | inr same ↦ subst (λ (n : ℕ). LeavesOldOrNew n h body old new) (sym same) (record { each = λ d among. narrow k old mid d before (leaves.each d among) })
         ];
       }
 
-      pub one_new : AllNew (IsMember set k) h body old mid → LeavesNew k h body mid new → AllNew (IsMember set (k + 1)) h body old new
+      pub one_new : AllNew (IsMember these k) h body old mid → LeavesNew k h body mid new → AllNew (IsMember these (k + 1)) h body old new
       one_new all stands = record {
         each = λ u is. elim (below_or u k is.below) [
           | inl below ↦
-              let was = all.each u (record { below = below; bit = is.bit }) in
+              let was = all.each u (record { below = below; is = is.is }) in
               record {
                 each = λ counts d tidy counted among. was.each counts d tidy counted (λ b. beside_left u below b (d b) (among b));
                 tidy = λ counts tidy counted. tidy_sub (those counts) (mid.leaves u) (new.leaves u) (beside_left u below) (h.serial + 1) (was.tidy counts tidy counted);
@@ -123,6 +128,214 @@ module _ (h : AreaHeader) (body : List ℕ) where
           })
         ];
       }
+
+-- ---- why a copy was not written
+
+pub on_err : {T E : Type 0} (r : Result T E) (P Q : E → Type 0) → ((e : E) → P e → Q e) → IfErr r P → IfErr r Q
+on_err (Ok x) P Q then p = p
+on_err (Err e) P Q then p = then e p
+
+-- what failed after some calls
+pub failed_from : (old mid new : Meaning) (u : ℕ) (e : ShelfError) → ((d : ℕ) → old.faults d ≤ mid.faults d) → ((d : ℕ) → old.disk_faults d ≤ mid.disk_faults d) → FailedOn mid new u e → FailedOn old new u e
+failed_from old mid new u (Fault disk) units disks (one, two, up) = (Rose_before _ _ _ (units u) one, Rose_before _ _ _ (disks disk) two, up)
+failed_from old mid new u Down units disks down = down
+
+pub failed_here : (old new : Meaning) (u : ℕ) (e : ShelfError) → Cause {T = Unit {0}} old new u (Err e) → FailedOn old new u e
+failed_here old new u (Fault disk) (faulted, up) = (faulted.count, faulted.disk_count, up.after)
+failed_here old new u Down down = down
+
+-- ---- what stays ready where a copy was not written
+
+module _ (h : AreaHeader) (body : List ℕ) where
+  tidy_more : (reads : List ℕ → Option (List ℕ)) (serial : ℕ) (slots : Slots) → Tidy reads serial slots → Tidy reads (serial + 1) slots
+  tidy_more reads serial slots tidy = record {
+    settled = tidy.settled;
+    counts = tidy.counts;
+    below = λ a v head is in_v is_head. omega (arith, tidy.below a v head is in_v is_head);
+  }
+
+  -- a disk that did not change
+  pub untouched : (u : ℕ) (old new : Meaning) → ((b : ℕ) (v : List ℕ) → new.leaves u b v → old.leaves u b v) → StaysTidy u h body old new
+  untouched u old new sub = record { tidy = λ counts tidy counted. tidy_more (those counts) h.serial (new.leaves u) (tidy_sub (those counts) (old.leaves u) (new.leaves u) sub h.serial tidy) }
+
+  -- one that did not change since
+  pub tidy_then : (u : ℕ) (old mid new : Meaning) → ((b : ℕ) (v : List ℕ) → new.leaves u b v → mid.leaves u b v) → StaysTidy u h body old mid → StaysTidy u h body old new
+  tidy_then u old mid new sub stays = record { tidy = λ counts tidy counted. tidy_sub (those counts) (mid.leaves u) (new.leaves u) sub (h.serial + 1) (stays.tidy counts tidy counted) }
+
+  -- one that did not change before
+  pub tidy_after : (u : ℕ) (old mid new : Meaning) → ((b : ℕ) (v : List ℕ) → mid.leaves u b v → old.leaves u b v) → StaysTidy u h body mid new → StaysTidy u h body old new
+  tidy_after u old mid new sub stays = record { tidy = λ counts tidy counted. stays.tidy counts (tidy_sub (those counts) (old.leaves u) (mid.leaves u) sub h.serial tidy) counted }
+
+  pub new_tidy : (u : ℕ) (old new : Meaning) → LeavesNew u h body old new → StaysTidy u h body old new
+  new_tidy u old new stands = record { tidy = stands.tidy }
+
+  -- the copies stopped at disk k
+  pub stopped_others : (these : ℕ → Bool) (old mid new : Meaning) (k n u : ℕ) → Copied (IsMember these k) h body old mid → AllNew (IsMember these k) h body old mid
+      → Moves (Run k 1 256) (InImage k h body mid) mid new → these u ≡ true → (u ≡ k → ⊥) → StaysTidy u h body old new
+  stopped_others these old mid new k n u copied all moves is other =
+      let here : (b : ℕ) (v : List ℕ) → new.leaves u b v → mid.leaves u b v = λ b v left. ⊎_elim (λ was. was) (λ (mine : Run k 1 256 u b). absurd (other mine.there)) (moves.leaves u b v left) in
+      elim (cases_lt u k) [
+        | inl below ↦ tidy_then u old mid new here (new_tidy u old mid (all.each u (record { below = below; is = is })))
+        | inr above ↦ untouched u old new (λ b v left. ⊎_elim (λ was. was) (λ (mine : AreasOf (IsMember these k) u b). absurd (omega (arith, above, mine.on.below))) (copied.moves.leaves u b v (here b v left)))
+      ]
+
+-- ---- one part of the disks, and then the other
+
+module _ (h : AreaHeader) (body : List ℕ) (one two these : ℕ → Bool) (n : ℕ)
+    (out : (u : ℕ) → one u ≡ true → two u ≡ false) (in_one : (u : ℕ) → one u ≡ true → these u ≡ true) (in_two : (u : ℕ) → two u ≡ true → these u ≡ true)
+    (cover : (u : ℕ) → these u ≡ true → (one u ≡ true) ⊎ (two u ≡ true)) where
+  not_both : (u : ℕ) → one u ≡ true → two u ≡ true → ⊥
+  not_both u is was = let clash : false ≡ true = sym (out u is) ∙ was in cc
+
+  of_one : (u : ℕ) → IsMember one n u → IsMember these n u
+  of_one u m = record { below = m.below; is = in_one u m.is }
+
+  of_two : (u : ℕ) → IsMember two n u → IsMember these n u
+  of_two u m = record { below = m.below; is = in_two u m.is }
+
+  part_of_it : (u : ℕ) → IsMember these n u → IsMember one n u ⊎ IsMember two n u
+  part_of_it u m = ⊎_elim (λ is. inl (record { below = m.below; is = is })) (λ is. inr (record { below = m.below; is = is })) (cover u m.is)
+
+  module _ (old mid : Meaning) (copied : Copied (IsMember one n) h body old mid) where
+    -- the second part is as it was
+    before_two : (u : ℕ) → two u ≡ true → (b : ℕ) (v : List ℕ) → mid.leaves u b v → old.leaves u b v
+    before_two u is b v left = ⊎_elim (λ was. was) (λ (mine : AreasOf (IsMember one n) u b). absurd (not_both u mine.on.is is)) (copied.moves.leaves u b v left)
+
+    first_moves : Moves (AreasOf (IsMember these n)) (InImages (IsMember these n) h body old) old mid
+    first_moves =
+        wider (AreasOf (IsMember one n)) (AreasOf (IsMember these n)) (InImages (IsMember one n) h body old) (InImages (IsMember these n) h body old) old mid copied.moves
+        (λ u b mine. record { on = of_one u mine.on; first = mine.first; last = mine.last })
+        (λ i beside seen. record {
+          each = λ u is. elim (part_of_it u is) [
+            | inl first ↦ seen.each u first
+            | inr second ↦ as_old h body u old (i u) (λ b. ⊎_elim (λ was. was) (λ (mine : AreasOf (IsMember one n) u b). absurd (not_both u mine.on.is second.is)) (beside u b))
+          ];
+        })
+
+    pub first_copied : Copied (IsMember these n) h body old mid
+    first_copied = record {
+      moves = first_moves;
+      leaves = λ u is. elim (part_of_it u is) [
+        | inl first ↦ copied.leaves u first
+        | inr second ↦ record { each = λ d among. as_old h body u old d (λ b. before_two u second.is b (d b) (among b)) }
+      ];
+    }
+
+    pub unreached : (u : ℕ) → two u ≡ true → StaysTidy u h body old mid
+    unreached u is = untouched h body u old mid (before_two u is)
+
+    -- the first part stopped: the second one is ready as it was
+    pub first_stops : (failed : CopyFailed) → CopyStops one n h body old mid failed → CopyStops these n h body old mid failed
+    first_stops failed stops = record {
+      member = of_one failed.disk stops.member;
+      cause = stops.cause;
+      others = λ u is other. elim (part_of_it u is) [ inl first ↦ stops.others u first other | inr second ↦ unreached u second.is ];
+    }
+
+    module _ (new : Meaning) (then : Copied (IsMember two n) h body mid new) where
+      -- the first part is as the first calls left it
+      after_one : (u : ℕ) → one u ≡ true → (b : ℕ) (v : List ℕ) → new.leaves u b v → mid.leaves u b v
+      after_one u is b v left = ⊎_elim (λ was. was) (λ (mine : AreasOf (IsMember two n) u b). absurd (not_both u is mine.on.is)) (then.moves.leaves u b v left)
+
+      both_moves : Moves (AreasOf (IsMember these n)) (InImages (IsMember these n) h body old) old new
+      both_moves =
+          goes_on (AreasOf (IsMember these n)) (AreasOf (IsMember two n)) (InImages (IsMember these n) h body old) (InImages (IsMember two n) h body mid) old mid new first_moves then.moves
+          (λ u b mine. record { on = of_two u mine.on; first = mine.first; last = mine.last })
+          (λ i beside seen. record {
+            each = λ u is. elim (part_of_it u is) [
+              | inl first ↦ (copied.leaves u first).each (i u) (λ b. ⊎_elim (λ was. was) (λ (mine : AreasOf (IsMember two n) u b). absurd (not_both u first.is mine.on.is)) (beside u b))
+              | inr second ↦ narrow h body u old mid (i u) (before_two u second.is) (seen.each u second)
+            ];
+          })
+
+      pub both_copied : Copied (IsMember these n) h body old new
+      both_copied = record {
+        moves = both_moves;
+        leaves = λ u is. elim (part_of_it u is) [
+          | inl first ↦ record { each = λ d among. (copied.leaves u first).each d (λ b. after_one u first.is b (d b) (among b)) }
+          | inr second ↦ record { each = λ d among. narrow h body u old mid d (before_two u second.is) ((then.leaves u second).each d among) }
+        ];
+      }
+
+      pub first_tidy : AllNew (IsMember one n) h body old mid → (u : ℕ) → one u ≡ true → u < n → StaysTidy u h body old new
+      first_tidy all u is below = tidy_then h body u old mid new (after_one u is) (new_tidy h body u old mid (all.each u (record { below = below; is = is })))
+
+      pub second_tidy : (u : ℕ) → two u ≡ true → StaysTidy u h body mid new → StaysTidy u h body old new
+      second_tidy u is stays = tidy_after h body u old mid new (before_two u is) stays
+
+      -- the second part stopped, where the first one was written
+      pub second_stops : AllNew (IsMember one n) h body old mid → (failed : CopyFailed) → CopyStops two n h body mid new failed → CopyStops these n h body old new failed
+      second_stops all failed stops = record {
+        member = of_two failed.disk stops.member;
+        cause = failed_from old mid new failed.disk failed.error copied.moves.faults copied.moves.disk_faults stops.cause;
+        others = λ u is other. elim (part_of_it u is) [ inl first ↦ first_tidy all u first.is first.below | inr second ↦ second_tidy u second.is (stops.others u second other) ];
+      }
+
+      -- the first part keeps its new copies
+      pub first_new : AllNew (IsMember one n) h body old mid → AllNew (IsMember one n) h body old new
+      first_new all = record {
+        each = λ u first.
+            let was = all.each u first in
+            record {
+              each = λ counts d tidy counted among. was.each counts d tidy counted (λ b. after_one u first.is b (d b) (among b));
+              tidy = λ counts tidy counted. tidy_sub (those counts) (mid.leaves u) (new.leaves u) (after_one u first.is) (h.serial + 1) (was.tidy counts tidy counted);
+            };
+      }
+
+      pub both_new : AllNew (IsMember one n) h body old mid → AllNew (IsMember two n) h body mid new → AllNew (IsMember these n) h body old new
+      both_new all more = record {
+        each = λ u is. elim (part_of_it u is) [
+          | inl first ↦ (first_new all).each u first
+          | inr second ↦
+              let now = more.each u second in
+              record {
+                each = λ counts d tidy counted among. new_sub (those counts) (old.leaves u) (mid.leaves u) (before_two u second.is) (IsMade h body) d
+                    (now.each counts d (tidy_sub (those counts) (old.leaves u) (mid.leaves u) (before_two u second.is) h.serial tidy) counted among);
+                tidy = λ counts tidy counted. now.tidy counts (tidy_sub (those counts) (old.leaves u) (mid.leaves u) (before_two u second.is) h.serial tidy) counted;
+              }
+        ];
+      }
+
+pub on_ok : {T E : Type 0} (r : Result T E) (P Q : Type 0) → (P → Q) → OnOk r P → OnOk r Q
+on_ok (Ok x) P Q then p = then p
+on_ok (Err e) P Q then p = p
+
+-- ---- the members of a set, in two parts
+
+pub part_out : (set good u : ℕ) → part_of set good true u ≡ true → part_of set good false u ≡ false
+part_out set good u is = by_bits (bit_at set u) (bit_at good u) is
+  where
+    by_bits : (a b : Bool) → (a && b) ≡ true → (a && not b) ≡ false
+    by_bits false b is = refl
+    by_bits true true is = refl
+    by_bits true false is = cc
+
+pub part_in : (set good : ℕ) (which : Bool) (u : ℕ) → part_of set good which u ≡ true → bit_at set u ≡ true
+part_in set good true u is = by_bits (bit_at set u) (bit_at good u) is
+  where
+    by_bits : (a b : Bool) → (a && b) ≡ true → a ≡ true
+    by_bits false b is = is
+    by_bits true b is = refl
+part_in set good false u is = by_bits (bit_at set u) (not (bit_at good u)) is
+  where
+    by_bits : (a b : Bool) → (a && b) ≡ true → a ≡ true
+    by_bits false b is = is
+    by_bits true b is = refl
+
+pub part_good : (set good u : ℕ) → part_of set good true u ≡ true → bit_at good u ≡ true
+part_good set good u is = by_bits (bit_at set u) (bit_at good u) is
+  where
+    by_bits : (a b : Bool) → (a && b) ≡ true → b ≡ true
+    by_bits false b is = absurd cc
+    by_bits true b is = is
+
+pub part_cover : (set good u : ℕ) → bit_at set u ≡ true → (part_of set good true u ≡ true) ⊎ (part_of set good false u ≡ true)
+part_cover set good u is = by_bits (bit_at set u) (bit_at good u) is
+  where
+    by_bits : (a b : Bool) → a ≡ true → ((a && b) ≡ true) ⊎ ((a && not b) ≡ true)
+    by_bits false b is = absurd cc
+    by_bits true true is = inl refl
+    by_bits true false is = inr refl
 
 -- ---- members of a set
 

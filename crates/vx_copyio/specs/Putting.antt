@@ -1,5 +1,5 @@
 -- What the writing of a copy makes of its disk.
-use Rattle.std.specs.Prelude.{◌≡◌, ◌⊎◌, ℕ, ◌+◌, ◌<◌, ◌≤◌, Bool, true, IsTrue, if◌then◌else◌, Option, Some, None, List, take}
+use Rattle.std.specs.Prelude.{◌≡◌, ◌⊎◌, ℕ, ◌+◌, ◌<◌, ◌≤◌, Bool, true, false, ◌&&◌, not, IsTrue, if◌then◌else◌, Option, Some, None, List, take}
 use Rattle.vx_disk.specs.declared.shelf.ShelfError.{ShelfError}
 use Rattle.vx_disk.specs.declared.shelf.ShelfError.TheVariants.{Fault, Down}
 use Rattle.vx_disk.specs.Blocks.{bit_at}
@@ -69,17 +69,31 @@ pub record Copied (disks : ℕ → Type 0) (h : AreaHeader) (body : List ℕ) (o
 pub record AllNew (disks : ℕ → Type 0) (h : AreaHeader) (body : List ℕ) (old new : Meaning) : Type 0 where
   pub each : (u : ℕ) → disks u → LeavesNew u h body old new
 
--- a disk below n that is a member of a set of disks, by its bit
-pub record IsMember (set n : ℕ) (u : ℕ) : Type 0 where
+-- a disk below n that is one of these
+pub record IsMember (these : ℕ → Bool) (n : ℕ) (u : ℕ) : Type 0 where
   pub below : u < n
-  pub bit : bit_at set u ≡ true
+  pub is : these u ≡ true
+
+-- the members of a set of disks, by their bits, that are members of the other set, or those that are not
+abbrev pub part_of : ℕ → ℕ → Bool → ℕ → Bool
+part_of set good true u = bit_at set u && bit_at good u
+part_of set good false u = bit_at set u && not (bit_at good u)
 
 -- a fault of this disk, or the shelf is down
 abbrev pub FailedOn : Meaning → Meaning → ℕ → ShelfError → Type 0
 FailedOn old new u (Fault disk) = Rose (old.faults u) (new.faults u) × Rose (old.disk_faults disk) (new.disk_faults disk) × (IsTrue new.down → ⊥)
 FailedOn old new u Down = IsTrue new.down
 
--- why a copy was not written: the disk is one of these, and its count rose, or the shelf is down
-pub record CopyStops (set n : ℕ) (old new : Meaning) (failed : CopyFailed) : Type 0 where
-  pub member : IsMember set n failed.disk
+-- a disk that was ready for a copy is ready for the next one
+pub record StaysTidy (disk : ℕ) (h : AreaHeader) (body : List ℕ) (old new : Meaning) : Type 0 where
+  pub tidy : (counts : List ℕ → Bool) → Tidy (those counts) h.serial (old.leaves disk) → counts (take h.length body) ≡ true → Tidy (those counts) (h.serial + 1) (new.leaves disk)
+
+-- why a copy was not written: the disk is one of these, and its count rose, or the shelf is down; the others of them are ready for the next copy
+pub record CopyStops (these : ℕ → Bool) (n : ℕ) (h : AreaHeader) (body : List ℕ) (old new : Meaning) (failed : CopyFailed) : Type 0 where
+  pub member : IsMember these n failed.disk
   pub cause : FailedOn old new failed.disk failed.error
+  pub others : (u : ℕ) → IsMember these n u → (u ≡ failed.disk → ⊥) → StaysTidy u h body old new
+
+-- where copies stopped at a disk that is no member of the other set, each that is one has the new copy
+pub record GoodFirst (set good n : ℕ) (h : AreaHeader) (body : List ℕ) (old new : Meaning) (failed : CopyFailed) : Type 0 where
+  pub done : bit_at good failed.disk ≡ false → AllNew (IsMember (part_of set good true) n) h body old new

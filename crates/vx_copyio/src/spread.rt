@@ -2,7 +2,7 @@
 ghost use Rattle.std.specs.Prelude.{◌≡◌, ◌%◌, ◌≤◌, length, take, OnOk, IfErr};
 ghost use Rattle.vx_copyfmt.specs.Areas.{CanSpellArea};
 ghost use Rattle.vx_copyio.specs.Labelling.{AreLarge};
-ghost use Rattle.vx_copyio.specs.Putting.{AllNew, Copied, CopyStops, IsMember};
+ghost use Rattle.vx_copyio.specs.Putting.{AllNew, Copied, CopyStops, GoodFirst, IsMember, part_of};
 ghost use Rattle.vx_disk.specs.Blocks.{bit_at};
 ghost use Rattle.vx_wire.specs.Seals.{digest_of};
 
@@ -24,10 +24,23 @@ pub fn is_member(set: u8, disk: u32) -> bool
     (set as u64 >> disk.min(63)) % 2 == 1
 }
 
-/// Writes a copy to each disk of a set, in order, and stops at the first to which it cannot be written.
-pub fn put_copies<S: Shelf>(
+// Whether a disk is a member of a set, and a member of the other set or not.
+fn is_part(set: u8, good: u8, which: bool, disk: u32) -> bool
+    ensures { result ≡ part_of set good which disk }
+{
+    if which {
+        is_member(set, disk) && is_member(good, disk)
+    } else {
+        is_member(set, disk) && !is_member(good, disk)
+    }
+}
+
+// Writes a copy to each disk of a part of a set, in order, and stops at the first to which it cannot be written.
+fn put_part<S: Shelf>(
     shelf: &mut S,
     set: u8,
+    good: u8,
+    which: bool,
     header: &AreaHeader,
     body: &[u8],
 ) -> Result<(), CopyFailed>
@@ -37,12 +50,12 @@ pub fn put_copies<S: Shelf>(
     requires few { length body.now ≤ 65024 }
     requires long { header.now.length ≤ length body.now }
     requires digest { header.now.digest ≡ digest_of (take header.now.length body.now) }
-    ensures copied { Copied (IsMember set (S.meaning shelf.old).units) header.now body.now (S.meaning shelf.old) (S.meaning shelf.new) }
-    ensures ok { OnOk result (AllNew (IsMember set (S.meaning shelf.old).units) header.now body.now (S.meaning shelf.old) (S.meaning shelf.new)) }
-    ensures stops { IfErr result (CopyStops set (S.meaning shelf.old).units (S.meaning shelf.old) (S.meaning shelf.new)) }
+    ensures copied { Copied (IsMember (part_of set good which) (S.meaning shelf.old).units) header.now body.now (S.meaning shelf.old) (S.meaning shelf.new) }
+    ensures ok { OnOk result (AllNew (IsMember (part_of set good which) (S.meaning shelf.old).units) header.now body.now (S.meaning shelf.old) (S.meaning shelf.new)) }
+    ensures stops { IfErr result (CopyStops (part_of set good which) (S.meaning shelf.old).units header.now body.now (S.meaning shelf.old) (S.meaning shelf.new)) }
 {
     for disk in 0..shelf.units() {
-        if is_member(set, disk) {
+        if is_part(set, good, which, disk) {
             match put_copy(shelf, disk, header, body) {
                 Ok(()) => {}
                 Err(error) => return Err(CopyFailed { disk, error }),
@@ -50,4 +63,31 @@ pub fn put_copies<S: Shelf>(
         }
     }
     Ok(())
+}
+
+/// Writes a copy to each disk of a set: first to those that are members of the other set too, and then to the rest, each part in
+/// order. It stops at the first disk to which it cannot be written.
+pub fn put_copies<S: Shelf>(
+    shelf: &mut S,
+    set: u8,
+    good: u8,
+    header: &AreaHeader,
+    body: &[u8],
+) -> Result<(), CopyFailed>
+    requires large { AreLarge (S.meaning shelf.old) }
+    requires can { CanSpellArea header.now }
+    requires whole { length body.now % 512 ≡ 0 }
+    requires few { length body.now ≤ 65024 }
+    requires long { header.now.length ≤ length body.now }
+    requires digest { header.now.digest ≡ digest_of (take header.now.length body.now) }
+    ensures copied { Copied (IsMember (bit_at set) (S.meaning shelf.old).units) header.now body.now (S.meaning shelf.old) (S.meaning shelf.new) }
+    ensures ok { OnOk result (AllNew (IsMember (bit_at set) (S.meaning shelf.old).units) header.now body.now (S.meaning shelf.old) (S.meaning shelf.new)) }
+    ensures first { IfErr result (GoodFirst set good (S.meaning shelf.old).units header.now body.now (S.meaning shelf.old) (S.meaning shelf.new)) }
+    ensures stops { IfErr result (CopyStops (bit_at set) (S.meaning shelf.old).units header.now body.now (S.meaning shelf.old) (S.meaning shelf.new)) }
+{
+    match put_part(shelf, set, good, true, header, body) {
+        Ok(()) => {}
+        Err(failed) => return Err(failed),
+    }
+    put_part(shelf, set, good, false, header, body)
 }

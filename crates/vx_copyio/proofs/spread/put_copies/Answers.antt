@@ -1,33 +1,81 @@
-use Rattle.std.proofs.Common.{arith, ◌+◌, sym, subst}
-use Rattle.vx_copyio.specs.Putting.{AllNew, Copied, IsMember}
-use Rattle.vx_copyio.proofs.Spreading.{one_copied, one_new, reaches, skips_new}
-use Rattle.vx_copyio.proofs.spread.put_copies.Goals.{then-is_member+in-Ok, else-is_member}
+use Rattle.std.proofs.Common.{◌≡◌, IfErr, OnOk, true, false, sym, subst, ◌∙◌}
+use Rattle.vx_disk.specs.Blocks.{bit_at}
+use Rattle.vx_disk.specs.Shelf.{Meaning}
+use Rattle.vx_copyio.specs.Putting.{AllNew, Copied, CopyStops, GoodFirst, IsMember, part_of}
+use Rattle.vx_copyio.proofs.Spreading.{both_copied, both_new, first_copied, first_new, first_stops, part_good, second_stops, on_err, on_ok, part_cover, part_in, part_out}
 use Rattle.vx_copyio.proofs.spread.put_copies.Goals as goal
 
 pub returns-in-Err-clause-copied : goal.returns-in-Err-clause-copied
 returns-in-Err-clause-copied g c =
-    reaches c.args.header.now c.args.body.now c.args.set (g.S.Shelf.meaning c.args.shelf.now) (g.S.Shelf.meaning c.put_copy.new.shelf) (c.loop-disk.disk + 1) _ (omega (arith, c.loop-disk-test.true, c.units-disk-end.ensures))
-    (one_copied c.args.header.now c.args.body.now c.args.set (g.S.Shelf.meaning c.args.shelf.now) (g.S.Shelf.meaning c.loop-disk.shelf) (g.S.Shelf.meaning c.put_copy.new.shelf) c.loop-disk.disk
-    (sym c.if-is_member.ensures) c.loop-disk.invariant.copied c.put_copy.ensures.moves c.put_copy.ensures.leaves)
+    let old : Meaning = g.S.Shelf.meaning c.args.shelf.now in
+    first_copied c.args.header.now c.args.body.now (part_of c.args.set c.args.good true) (part_of c.args.set c.args.good false) (bit_at c.args.set) old.units
+    (part_out c.args.set c.args.good) (part_in c.args.set c.args.good true) (part_in c.args.set c.args.good false) (part_cover c.args.set c.args.good)
+    old (g.S.Shelf.meaning c.put_part.new.shelf) c.put_part.ensures.copied
 
-pub loop-disk-preserved : goal.loop-disk-preserved
-loop-disk-preserved g c = record {
-  copied = elim c.if-is_member.branch [
-    | then-is_member+in-Ok w ↦
-        subst (λ s. Copied (IsMember c.args.set (c.loop-disk.disk + 1)) c.args.header.now c.args.body.now (g.S.Shelf.meaning c.args.shelf.now) (g.S.Shelf.meaning s)) (sym w.shelf-is)
-        (one_copied c.args.header.now c.args.body.now c.args.set (g.S.Shelf.meaning c.args.shelf.now) (g.S.Shelf.meaning c.loop-disk.shelf) (g.S.Shelf.meaning w.put_copy.new.shelf) c.loop-disk.disk
-        (sym w.if-is_member.ensures) c.loop-disk.invariant.copied w.put_copy.ensures.moves w.put_copy.ensures.leaves)
-    | else-is_member w ↦
-        subst (λ s. Copied (IsMember c.args.set (c.loop-disk.disk + 1)) c.args.header.now c.args.body.now (g.S.Shelf.meaning c.args.shelf.now) (g.S.Shelf.meaning s)) (sym w.shelf-is)
-        (reaches c.args.header.now c.args.body.now c.args.set (g.S.Shelf.meaning c.args.shelf.now) (g.S.Shelf.meaning c.loop-disk.shelf) c.loop-disk.disk (c.loop-disk.disk + 1) (omega arith) c.loop-disk.invariant.copied)
-  ];
-  all = elim c.if-is_member.branch [
-    | then-is_member+in-Ok w ↦
-        subst (λ s. AllNew (IsMember c.args.set (c.loop-disk.disk + 1)) c.args.header.now c.args.body.now (g.S.Shelf.meaning c.args.shelf.now) (g.S.Shelf.meaning s)) (sym w.shelf-is)
-        (one_new c.args.header.now c.args.body.now c.args.set (g.S.Shelf.meaning c.args.shelf.now) (g.S.Shelf.meaning c.loop-disk.shelf) (g.S.Shelf.meaning w.put_copy.new.shelf) c.loop-disk.disk
-        (sym w.if-is_member.ensures) c.loop-disk.invariant.copied w.put_copy.ensures.moves c.loop-disk.invariant.all w.in-Ok.ensures.ok)
-    | else-is_member w ↦
-        subst (λ s. AllNew (IsMember c.args.set (c.loop-disk.disk + 1)) c.args.header.now c.args.body.now (g.S.Shelf.meaning c.args.shelf.now) (g.S.Shelf.meaning s)) (sym w.shelf-is)
-        (skips_new c.args.header.now c.args.body.now c.args.set (g.S.Shelf.meaning c.args.shelf.now) (g.S.Shelf.meaning c.loop-disk.shelf) c.loop-disk.disk (sym w.if-is_member.ensures) c.loop-disk.invariant.all)
-  ];
+pub returns-clause-copied : goal.returns-clause-copied
+returns-clause-copied g c =
+    let old : Meaning = g.S.Shelf.meaning c.args.shelf.now in
+    let mid : Meaning = g.S.Shelf.meaning c.put_part.new.shelf in
+    let new : Meaning = g.S.Shelf.meaning c.put_part-2.new.shelf in
+    both_copied c.args.header.now c.args.body.now (part_of c.args.set c.args.good true) (part_of c.args.set c.args.good false) (bit_at c.args.set) old.units
+    (part_out c.args.set c.args.good) (part_in c.args.set c.args.good true) (part_in c.args.set c.args.good false) (part_cover c.args.set c.args.good)
+    old mid c.put_part.ensures.copied new
+    (subst (λ n. Copied (IsMember (part_of c.args.set c.args.good false) n) c.args.header.now c.args.body.now mid new) c.put_part.ensures.copied.moves.units c.put_part-2.ensures.copied)
+
+pub returns-clause-ok : goal.returns-clause-ok
+returns-clause-ok g c =
+    let old : Meaning = g.S.Shelf.meaning c.args.shelf.now in
+    let mid : Meaning = g.S.Shelf.meaning c.put_part.new.shelf in
+    let new : Meaning = g.S.Shelf.meaning c.put_part-2.new.shelf in
+    on_ok c.put_part-2.result (AllNew (IsMember (part_of c.args.set c.args.good false) old.units) c.args.header.now c.args.body.now mid new)
+    (AllNew (IsMember (bit_at c.args.set) old.units) c.args.header.now c.args.body.now old new)
+    (both_new c.args.header.now c.args.body.now (part_of c.args.set c.args.good true) (part_of c.args.set c.args.good false) (bit_at c.args.set) old.units
+    (part_out c.args.set c.args.good) (part_in c.args.set c.args.good true) (part_in c.args.set c.args.good false) (part_cover c.args.set c.args.good)
+    old mid c.put_part.ensures.copied new
+    (subst (λ n. Copied (IsMember (part_of c.args.set c.args.good false) n) c.args.header.now c.args.body.now mid new) c.put_part.ensures.copied.moves.units c.put_part-2.ensures.copied)
+    c.in-Ok.ensures.ok)
+    (subst (λ n. OnOk c.put_part-2.result (AllNew (IsMember (part_of c.args.set c.args.good false) n) c.args.header.now c.args.body.now mid new)) c.put_part.ensures.copied.moves.units c.put_part-2.ensures.ok)
+
+pub returns-in-Err-clause-stops : goal.returns-in-Err-clause-stops
+returns-in-Err-clause-stops g c =
+    let old : Meaning = g.S.Shelf.meaning c.args.shelf.now in
+    let new : Meaning = g.S.Shelf.meaning c.put_part.new.shelf in
+    first_stops c.args.header.now c.args.body.now (part_of c.args.set c.args.good true) (part_of c.args.set c.args.good false) (bit_at c.args.set) old.units
+    (part_out c.args.set c.args.good) (part_in c.args.set c.args.good true) (part_in c.args.set c.args.good false) (part_cover c.args.set c.args.good)
+    old new c.put_part.ensures.copied c.in-Err.failed c.in-Err.ensures.stops
+
+pub returns-clause-stops : goal.returns-clause-stops
+returns-clause-stops g c =
+    let old : Meaning = g.S.Shelf.meaning c.args.shelf.now in
+    let mid : Meaning = g.S.Shelf.meaning c.put_part.new.shelf in
+    let new : Meaning = g.S.Shelf.meaning c.put_part-2.new.shelf in
+    on_err c.put_part-2.result (CopyStops (part_of c.args.set c.args.good false) old.units c.args.header.now c.args.body.now mid new)
+    (CopyStops (bit_at c.args.set) old.units c.args.header.now c.args.body.now old new)
+    (second_stops c.args.header.now c.args.body.now (part_of c.args.set c.args.good true) (part_of c.args.set c.args.good false) (bit_at c.args.set) old.units
+    (part_out c.args.set c.args.good) (part_in c.args.set c.args.good true) (part_in c.args.set c.args.good false) (part_cover c.args.set c.args.good)
+    old mid c.put_part.ensures.copied new
+    (subst (λ n. Copied (IsMember (part_of c.args.set c.args.good false) n) c.args.header.now c.args.body.now mid new) c.put_part.ensures.copied.moves.units c.put_part-2.ensures.copied)
+    c.in-Ok.ensures.ok)
+    (subst (λ n. IfErr c.put_part-2.result (CopyStops (part_of c.args.set c.args.good false) n c.args.header.now c.args.body.now mid new)) c.put_part.ensures.copied.moves.units c.put_part-2.ensures.stops)
+
+pub returns-in-Err-clause-first : goal.returns-in-Err-clause-first
+returns-in-Err-clause-first g c = record {
+  done = λ out.
+      let clash : false ≡ true = sym out ∙ part_good c.args.set c.args.good c.in-Err.failed.disk c.in-Err.ensures.stops.member.is in absurd cc;
 }
+
+pub returns-clause-first : goal.returns-clause-first
+returns-clause-first g c =
+    let old : Meaning = g.S.Shelf.meaning c.args.shelf.now in
+    let mid : Meaning = g.S.Shelf.meaning c.put_part.new.shelf in
+    let new : Meaning = g.S.Shelf.meaning c.put_part-2.new.shelf in
+    on_err c.put_part-2.result (CopyStops (part_of c.args.set c.args.good false) old.units c.args.header.now c.args.body.now mid new)
+    (GoodFirst c.args.set c.args.good old.units c.args.header.now c.args.body.now old new)
+    (λ failed stops. record {
+      done = λ out. first_new c.args.header.now c.args.body.now (part_of c.args.set c.args.good true) (part_of c.args.set c.args.good false) (bit_at c.args.set) old.units
+          (part_out c.args.set c.args.good) (part_in c.args.set c.args.good true) (part_in c.args.set c.args.good false) (part_cover c.args.set c.args.good)
+          old mid c.put_part.ensures.copied new
+          (subst (λ n. Copied (IsMember (part_of c.args.set c.args.good false) n) c.args.header.now c.args.body.now mid new) c.put_part.ensures.copied.moves.units c.put_part-2.ensures.copied)
+          c.in-Ok.ensures.ok;
+    })
+    (subst (λ n. IfErr c.put_part-2.result (CopyStops (part_of c.args.set c.args.good false) n c.args.header.now c.args.body.now mid new)) c.put_part.ensures.copied.moves.units c.put_part-2.ensures.stops)
