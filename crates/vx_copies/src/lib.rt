@@ -8,6 +8,7 @@ mod area;
 mod body;
 mod importing;
 mod look;
+mod marking;
 mod search;
 mod seen;
 mod settle;
@@ -15,6 +16,7 @@ mod spelling;
 mod trying;
 
 pub use importing::import;
+pub use marking::{has_good, mark};
 use seen::{AreaSeen, BodySeen, CopySeen, DiskSeen};
 pub use spelling::spell;
 pub use trying::put_config;

@@ -1,0 +1,39 @@
+// What a failed disk changes in a configuration.
+ghost use Rattle.std.specs.Prelude.{◌≡◌, ◌<◌, ◌≤◌, ℕ, false, true, length, IsTrue, IsFalse};
+ghost use Rattle.vx_copies.specs.Answers.{good_set};
+ghost use Rattle.vx_copies.specs.Bodies.{failed_in, is_wanted};
+ghost use Rattle.vx_copies.specs.Marks.{HasGood, NoneGood, marked};
+
+use vx_config::{Config, DiskEntry, Disks};
+use vx_copyio::is_member;
+
+/// Holds a disk as failed. What is sound stays so.
+pub fn mark(config: &mut Config, disk: u32)
+    requires inside { disk < length config.old.disks }
+    ensures marked { config.new ≡ marked config.old disk }
+    ensures wanted { (units : ℕ) (size : ℕ → ℕ) → is_wanted units size config.old ≡ true → is_wanted units size config.new ≡ true }
+    ensures falls { failed_in config.old disk ≡ false → good_set config.new.disks < good_set config.old.disks }
+{
+    let blocks = config.disks.as_slice()[disk as usize].blocks;
+    config.disks.set(
+        disk as usize,
+        DiskEntry {
+            blocks,
+            failed: true,
+        },
+    );
+}
+
+/// Whether a disk of a set is held as good.
+pub fn has_good(disks: &Disks, good: u8) -> bool
+    ensures some { IsTrue result → HasGood disks.now good }
+    ensures none { IsFalse result → NoneGood disks.now (length disks.now) good }
+{
+    let disks = disks.as_slice();
+    for k in 0..disks.len() {
+        if !disks[k].failed && is_member(good, k as u32) {
+            return true;
+        }
+    }
+    false
+}
