@@ -7,6 +7,7 @@
 mod area;
 mod body;
 mod importing;
+pub mod laws;
 mod look;
 mod marking;
 mod search;
