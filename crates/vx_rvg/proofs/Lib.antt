@@ -13,6 +13,7 @@ pub mod RestartMoves
 pub mod SaveStands
 pub mod StartFill
 pub mod StartStands
+pub mod StoreMoves
 pub mod StoreStands
 pub mod WriteCommit
 pub mod WriteContent

@@ -3,6 +3,7 @@ use Rattle.std.proofs.Common.{◌≡◌, ◌⊎◌, inl, inr, ⊎_elim, ℕ, ◌
 use Rattle.std.specs.Prelude.{if◌then◌else◌, leb}
 use Rattle.std.proofs.lemmas.Bool.{cases_lt}
 use Rattle.std.proofs.lemmas.Bool.Decides.{nat_tests}
+use Rattle.vx_model.specs.declared.no.No.{No}
 use Rattle.vx_model.specs.declared.state.State.{State as SiteState}
 use Rattle.vx_srlfmt.specs.declared.header.Header.{Header}
 use Rattle.vx_disk.specs.Moves.{Blocks, Says, Moves, Run}
@@ -12,6 +13,7 @@ use Rattle.vx_srl.specs.Headers.{with_state, without}
 use Rattle.vx_srl.specs.Rings.{Goes, LeadsTo}
 use Rattle.vx_srl.specs.Views.{Log, count_to, most_number}
 use Rattle.vx_srl.specs.declared.errors.SrlNo.{SrlNo}
+use Rattle.vx_rvg.specs.Groups.{halted_by}
 use Rattle.vx_rvg.specs.Saves.{log_without, reclaimed}
 use Rattle.vx_rvg.specs.Stands.{Saving, Rests}
 use Rattle.vx_rvg.specs.Views.{Core, IsSound, applied_count}
@@ -77,7 +79,7 @@ taken : {A : Type 0} (t : Bool) (a b : A) → t ≡ true → (if t then a else b
 taken true a b is = refl
 taken false a b is = cc
 
-reclaimed_log : (l : Log) (to : ℕ) → l.header.low ≤ to → log_without l to ≡ saved l (without l to) (count_to l to)
+pub reclaimed_log : (l : Log) (to : ℕ) → l.header.low ≤ to → log_without l to ≡ saved l (without l to) (count_to l to)
 reclaimed_log l to low = taken (leb l.header.low to) (saved l (without l to) (count_to l to)) l (grind (arith, nat_tests))
 
 pub reclaimed_moves : (core : Core) (to : ℕ) (m m' : Meaning) → core.log.header.low ≤ to → to ≤ core.applied → 0 < core.log.header.low → IsSound core m
@@ -113,3 +115,44 @@ reclaim_done l l' to m m' r x x' done is low limit saves =
     (cases_lt to most_number))
     (λ past. refused_done r done (l' ≡ saved l (without l to) (count_to l to)) is (limit low (inl past)).0)
     (cases_lt l.header.stamp most_number)
+
+-- ---- of a group v as its own fields show it, which is the group `core`
+
+-- a group that is sound is sound when it is halted too
+halted_sound : (core : Core) (m : Meaning) (why : No) → IsSound core m → IsSound (halted_by why core) m
+halted_sound core m (No.Device disk) sound =
+    record {
+      placed = sound.placed;
+      log_unit = sound.log_unit;
+      lies = sound.lies;
+      idle = λ none up. cc;
+      low = sound.low;
+      known = sound.known;
+      room = sound.room;
+      waiting = sound.waiting;
+    }
+halted_sound core m other sound = sound
+
+module _ (v core : Core) (view : v ≡ core) (to : ℕ) (low : v.log.header.low ≤ to) (fits : to ≤ core.applied) (some : 0 < v.log.header.low) (m m' : Meaning) (sound : IsSound core m)
+    (goes : Goes v.log (saving (without v.log to) (count_to v.log to)) m m') where
+  fits_here : to ≤ v.applied
+  fits_here = subst (λ (k : Core). to ≤ k.applied) (sym view) fits
+
+  sound_here : IsSound v m
+  sound_here = subst (λ (k : Core). IsSound k m) (sym view) sound
+
+  pub given_up_moves : Moves (Run core.units.srl 0 (core.log.ring + 2)) (Saving core (reclaimed core to) m) m m'
+  given_up_moves =
+      subst (λ (k : Core). Moves (Run k.units.srl 0 (k.log.ring + 2)) (Saving k (reclaimed k to) m) m m') view (reclaimed_moves v to m m' low fits_here some sound_here goes)
+
+  module _ (l' : Log) where
+    pub given_up_sound : (l' ≡ v.log) ⊎ (l' ≡ saved v.log (without v.log to) (count_to v.log to)) → IsSound (record v { log = l' }) m'
+    given_up_sound cases =
+        saved_sound v (without v.log to) (count_to v.log to) l' _ _ m m' goes (without_low v.log to low) (reclaim_fewer v to fits_here) some sound_here cases
+
+    pub halted_up_sound : (why : No) → (l' ≡ v.log) ⊎ (l' ≡ saved v.log (without v.log to) (count_to v.log to)) → IsSound (halted_by why (record v { log = l' })) m'
+    halted_up_sound why cases = halted_sound (record v { log = l' }) m' why (given_up_sound cases)
+
+    pub given_up_rests : LeadsTo v.log (saving (without v.log to) (count_to v.log to)) l' m m' → l' ≡ saved v.log (without v.log to) (count_to v.log to) → Rests core (record v { log = l' }) m m'
+    given_up_rests leads is =
+        subst (λ (k : Core). Rests k (record v { log = l' }) m m') view (reclaimed_rests v to l' m m' low fits_here some sound_here _ goes leads is)

@@ -20,7 +20,7 @@ use Rattle.vx_srl.specs.Causes.{DeviceCause, refusal_of}
 use Rattle.vx_rvg.specs.Contents.{HasContent, KeepsContent, writes_of}
 use Rattle.vx_rvg.specs.Groups.{halted_by}
 use Rattle.vx_rvg.specs.Stands.{FoundAs, Ready, Stands}
-use Rattle.vx_rvg.specs.Stores.{AreBlocks, IsPartly, Storing}
+use Rattle.vx_rvg.specs.Stores.{AreBlocks, IsPartly, Putting}
 use Rattle.vx_rvg.specs.Views.{Core, IsSound, last_of, unit_of, volume_size}
 use Rattle.vx_rvg.proofs.ContentFacts.{found_held, found_with, held_length, volume_there}
 use Rattle.vx_rvg.proofs.WriteSound.{failed_sound, moved_sizes}
@@ -179,21 +179,21 @@ module _ (core : Core) (c : Content) (vol start : ℕ) (bytes : List ℕ) (m : M
 module _ (core : Core) (vol start : ℕ) (bytes : List ℕ) (m m' : Meaning) (sound : IsSound core m)
     (exists : vol < length core.units.vols) (blocks : AreBlocks bytes) (emptied : last_of core < core.log.header.low) (within : start + blocks_in bytes ≤ volume_size core.units.vols m vol)
     (u : ℕ) (unit_is : u ≡ unit_of core.units.vols vol) (goes : Goes (Written u start bytes) m m') where
-  pub store_moves : Moves (Run (unit_of core.units.vols vol) start (blocks_in bytes)) (Storing core (write_at vol start bytes) m) m m'
+  pub store_moves : Moves (Run (unit_of core.units.vols vol) start (blocks_in bytes)) (Putting core (write_at vol start bytes) m) m m'
   store_moves =
-      of_written (Storing core (write_at vol start bytes) m) (unit_of core.units.vols vol) start bytes m m' blocks.whole (subst (λ (w : ℕ). Goes (Written w start bytes) m m') unit_is goes)
+      of_written (Putting core (write_at vol start bytes) m) (unit_of core.units.vols vol) start bytes m m' blocks.whole (subst (λ (w : ℕ). Goes (Written w start bytes) m m') unit_is goes)
       (λ i each. record { each = λ c stands. store_found core c vol start bytes m stands.log stands.ready sound exists blocks emptied within i each })
 
   pub store_stands : KeepsAll m' u start bytes → (IsTrue m'.down → ⊥) → (c : Content) → Stands core c m → Stands core (put c (write_at vol start bytes)) m'
   store_stands kept up c stands = record {
     log = stands.log;
-    ready = store_ready core c vol start bytes m stands.log stands.ready sound exists blocks emptied within m' (Storing core (write_at vol start bytes) m) store_moves
+    ready = store_ready core c vol start bytes m stands.log stands.ready sound exists blocks emptied within m' (Putting core (write_at vol start bytes) m) store_moves
         (subst (λ (w : ℕ). KeepsAll m' w start bytes) unit_is kept) up;
   }
 
   pub store_fails : (why : No) → DeviceCause m m' why → IsSound (halted_by why core) m'
   store_fails why cause =
-      failed_sound core core.log m m' why (moved_sizes (Run (unit_of core.units.vols vol) start (blocks_in bytes)) (Storing core (write_at vol start bytes) m) m m' store_moves) sound
+      failed_sound core core.log m m' why (moved_sizes (Run (unit_of core.units.vols vol) start (blocks_in bytes)) (Putting core (write_at vol start bytes) m) m m' store_moves) sound
       (record { unit = refl; ring = refl; header = refl; held = refl }) cause
 
 -- why it failed

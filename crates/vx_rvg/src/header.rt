@@ -6,15 +6,41 @@ ghost use Rattle.vx_model.specs.Content.{Content};
 ghost use Rattle.vx_model.specs.declared.no.No.TheVariants.{Halted};
 ghost use Rattle.vx_rvg.specs.Saves.{reclaim_refusal, reclaimed, change_refusal, with_new_state, SaveIs};
 ghost use Rattle.vx_rvg.specs.Stands.{Stands, Saving, Rests};
-ghost use Rattle.vx_rvg.specs.Views.{last_of};
+ghost use Rattle.vx_rvg.specs.Views.{IsSound, last_of};
 ghost use Rattle.vx_srl.specs.Calls.{Fetches, FetchCause};
 ghost use Rattle.vx_srlfmt.specs.Headers.{CanSpellState};
 
-use crate::Rvg;
 use crate::write::refused;
+use crate::{Rvg, RvgCore};
 use vx_disk::Shelf;
 use vx_model::{No, State, Update};
 use vx_srl::SrlNo;
+
+// Gives up the records up to a number that is applied, durably. A device call that fails halts the group.
+pub(crate) fn give_up<S: Shelf>(shelf: &mut S, core: &mut RvgCore, to: u64) -> Result<(), No>
+    requires sound { IsSound core.old (S.meaning shelf.old) }
+    requires applied { to ≤ core.old.applied }
+    ensures answers { SaveIs (reclaim_refusal core.old to) core.old (reclaimed core.old to) (S.meaning shelf.old) (S.meaning shelf.new) core.new result }
+    ensures unchanged { IsSome (reclaim_refusal core.old to) → shelf.new ≡ shelf.old }
+    ensures nothing { to < core.old.log.header.low → shelf.new ≡ shelf.old }
+    ensures sound { IsSound core.new (S.meaning shelf.new) }
+    ensures stands { OnOk result (Rests core.old core.new (S.meaning shelf.old) (S.meaning shelf.new)) }
+    ensures moves { Moves (Run core.old.units.srl 0 (core.old.log.ring + 2))
+        (Saving core.old (reclaimed core.old to) (S.meaning shelf.old)) (S.meaning shelf.old) (S.meaning shelf.new) }
+{
+    if let Some(disk) = core.halted {
+        return Err(No::Halted { disk });
+    }
+    if to < core.srl.low() {
+        return Ok(());
+    }
+    if let Err(why) = core.srl.reclaim(shelf, to) {
+        let no = refused(why);
+        core.halt(&no);
+        return Err(no);
+    }
+    Ok(())
+}
 
 impl<S: Shelf> Rvg<S> {
     /// Gives up the records up to a number that is applied, durably, and their blocks are free from then on.
@@ -30,18 +56,7 @@ impl<S: Shelf> Rvg<S> {
         ensures moves { Moves (Run self.old.core.units.srl 0 (self.old.core.log.ring + 2))
             (Saving self.old.core (reclaimed self.old.core to) (S.meaning self.old.shelf)) (S.meaning self.old.shelf) (S.meaning self.new.shelf) }
     {
-        if let Some(disk) = self.core.halted {
-            return Err(No::Halted { disk });
-        }
-        if to < self.core.srl.low() {
-            return Ok(());
-        }
-        if let Err(why) = self.core.srl.reclaim(&mut self.shelf, to) {
-            let no = refused(why);
-            self.core.halt(&no);
-            return Err(no);
-        }
-        Ok(())
+        give_up(&mut self.shelf, &mut self.core, to)
     }
 
     /// Makes a state durable that stands on the log's line.

@@ -2,7 +2,7 @@
 use Rattle.std.proofs.Common.{sym, subst}
 use Rattle.vx_rvg.specs.Views.{Core, IsSound}
 use Rattle.vx_rvg.proofs.StoreStands.{put_cause, store_fails, store_moves, store_stands}
-use Rattle.vx_rvg.proofs.store.store_blocks.Goals as goal
+use Rattle.vx_rvg.proofs.store.put_blocks.Goals as goal
 
 pub returns-in-Ok-clause-stands : goal.returns-in-Ok-clause-stands
 returns-in-Ok-clause-stands g c =
