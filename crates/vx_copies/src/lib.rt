@@ -6,21 +6,26 @@
 
 mod area;
 mod body;
+mod calls;
+mod committing;
 mod importing;
 pub mod laws;
 mod look;
 mod marking;
+mod room;
 mod search;
 mod seen;
 mod settle;
 mod spelling;
 mod trying;
 
+pub use calls::{commit, commit_in};
 pub use importing::import;
-pub use marking::{has_good, mark};
+use marking::{has_good, mark};
+pub use room::Room;
 use seen::{AreaSeen, BodySeen, CopySeen, DiskSeen};
-pub use spelling::spell;
-pub use trying::put_config;
+use spelling::spell;
+use trying::put_config;
 pub use vx_copyio::label;
 
 #[cfg(test)]

@@ -1,15 +1,16 @@
 // What no clause says: worked imports over a shelf in memory, and that each call succeeds.
-ghost use Rattle.std.specs.Prelude.{◌≡◌, take};
+ghost use Rattle.std.specs.Prelude.{◌≡◌, ◌≤◌, take};
+ghost use Rattle.vx_config.specs.Configs.{CanSpell, subdisk_count};
 
 use super::*;
 use crate::body::is_wanted;
 use std::alloc::Global;
 use std::test::*;
-use vx_config::{Config, DiskEntry, Disks, Volumes, is_short};
+use vx_config::{Config, DiskEntry, Disks, Volumes};
 use vx_copyfmt::AreaHeader;
 use vx_copyio::{are_large, put_copy};
 use vx_disk::{MemShelf, Rack, Shelf, put};
-use vx_model::{No, OutOfMemory, Stop};
+use vx_model::{Counted, No, OutOfMemory, Stop};
 use vx_wire::{digest, get_bytes, put_bytes, seal};
 
 // Two good disks of 1,024 blocks, and no volume, with serial 1.
@@ -113,53 +114,103 @@ fn the_newest_copy_is_found(rt: HostRuntime) {
     assert!(rt; found(alloc, &mut shelf) == Ok((3, 2, true)));
 }
 
-// Writes a configuration of two disks, of which the first may be failed.
-fn put_two<S: Shelf>(
-    alloc: Global,
-    shelf: &mut S,
-    serial: u64,
-    failed: bool,
-    good: u8,
-) -> Result<bool, OutOfMemory> {
-    let mut room = vec![in alloc; 0; 65024]?;
+// Two good disks of 1,024 blocks, and no volume, with serial 0.
+fn two_disks(alloc: Global) -> Config
+    ensures can { CanSpell result }
+    ensures short { subdisk_count result ≤ 1024 }
+{
     let mut disks = Disks::new();
-    disks.push(DiskEntry {
-        blocks: 1024,
-        failed,
-    });
-    disks.push(DiskEntry {
+    let disk = DiskEntry {
         blocks: 1024,
         failed: false,
-    });
-    let config = Config {
-        serial: serial.min(100),
+    };
+    disks.push(disk);
+    disks.push(disk);
+    Config {
+        serial: 0,
         site: 7,
         disks,
         volumes: Volumes::new(alloc),
         rvg: None,
-    };
-    is_short(&config);
-    if !are_large(shelf) || !is_wanted(shelf, &config) {
-        return Err(OutOfMemory);
     }
-    Ok(put_config(shelf, &config, good, &mut room).is_ok())
+}
+
+// A commit, in a room that is made for it or not. Gives the serial, and whether each disk is held as good.
+fn committed<S: Shelf>(
+    alloc: Global,
+    shelf: &mut S,
+    config: &mut Config,
+    good: u8,
+    in_room: bool,
+) -> Result<(u64, bool), Stop>
+    requires can { CanSpell config.old }
+    requires short { subdisk_count config.old ≤ 1024 }
+    ensures can { CanSpell config.new }
+    ensures short { subdisk_count config.new ≤ 1024 }
+{
+    if !are_large(shelf) || !is_wanted(shelf, config) {
+        return Err(Stop::OutOfMemory);
+    }
+    if in_room {
+        let mut room = Room::new(alloc, config)?;
+        commit_in(shelf, config, good, &mut room)?;
+    } else {
+        commit(alloc, shelf, config, good)?;
+    }
+    Ok((config.serial, both_good(config)))
 }
 
 #[test]
-fn a_configuration_is_written_to_its_good_disks(rt: HostRuntime) {
+fn a_commit_outlives_its_disks(rt: HostRuntime) {
+    let alloc = rt.alloc();
+    for in_room in [false, true] {
+        let mut shelf = labelled(alloc).expect(&rt, "there is memory");
+        let mut config = two_disks(alloc);
+        assert!(rt; committed(alloc, &mut shelf, &mut config, 3, in_room) == Ok((1, true)));
+        assert!(rt; found(alloc, &mut shelf) == Ok((1, 3, true)));
+        // Serial 2 is begun, and stops at the first disk.
+        fail(&mut shelf, 0, true);
+        assert!(rt; committed(alloc, &mut shelf, &mut config, 3, in_room) == Ok((3, false)));
+        assert!(rt; config.disks.as_slice()[0].failed && !config.disks.as_slice()[1].failed);
+        fail(&mut shelf, 1, true);
+        let refused = Err(Stop::No(No::Device { disk: 1 }));
+        assert!(rt; committed(alloc, &mut shelf, &mut config, 2, in_room) == refused);
+        assert!(rt; config.serial == 4 && !config.disks.as_slice()[1].failed);
+        assert!(rt; found(alloc, &mut shelf) == Err(Stop::No(No::NoConfig)));
+        fail(&mut shelf, 0, false);
+        assert!(rt; found(alloc, &mut shelf) == Err(Stop::No(No::Missing { disk: 1 })));
+        fail(&mut shelf, 1, false);
+        assert!(rt; found(alloc, &mut shelf) == Ok((3, 2, true)));
+    }
+}
+
+#[test]
+fn a_commit_is_refused(rt: HostRuntime) {
     let alloc = rt.alloc();
     let mut shelf = labelled(alloc).expect(&rt, "there is memory");
-    assert!(rt; put_two(alloc, &mut shelf, 1, false, 3) == Ok(true));
-    assert!(rt; found(alloc, &mut shelf) == Ok((1, 3, true)));
-    // The first disk fails: serial 2 stops at it, before the second one has it.
+    let mut config = two_disks(alloc);
+    // Both disks of the set fail, one after the other.
     fail(&mut shelf, 0, true);
-    assert!(rt; put_two(alloc, &mut shelf, 2, false, 1) == Ok(false));
-    fail(&mut shelf, 0, false);
-    assert!(rt; found(alloc, &mut shelf) == Ok((1, 3, true)));
-    fail(&mut shelf, 0, true);
-    assert!(rt; put_two(alloc, &mut shelf, 3, true, 3) == Ok(true));
-    fail(&mut shelf, 0, false);
-    assert!(rt; found(alloc, &mut shelf) == Ok((3, 2, true)));
+    fail(&mut shelf, 1, true);
+    let refused = Err(Stop::No(No::Device { disk: 1 }));
+    assert!(rt; committed(alloc, &mut shelf, &mut config, 3, true) == refused);
+    assert!(rt; config.serial == 2 && both_good(&config));
+    // The other disk is no member of the set.
+    fail(&mut shelf, 1, false);
+    let refused = Err(Stop::No(No::Device { disk: 0 }));
+    assert!(rt; committed(alloc, &mut shelf, &mut config, 1, true) == refused);
+    assert!(rt; config.serial == 3 && both_good(&config));
+    // No serial is left.
+    config.serial = 0x7fff_ffff_ffff_ffff;
+    let refused = Err(Stop::No(No::Limit {
+        what: Counted::Number,
+        most: 0x7fff_ffff_ffff_ffff,
+    }));
+    assert!(rt; committed(alloc, &mut shelf, &mut config, 3, true) == refused);
+    config.serial = 0x7fff_ffff_ffff_fffe;
+    let refused = Err(Stop::No(No::Device { disk: 0 }));
+    assert!(rt; committed(alloc, &mut shelf, &mut config, 3, true) == refused);
+    assert!(rt; config.serial == 0x7fff_ffff_ffff_ffff && both_good(&config));
 }
 
 #[test]

@@ -1,0 +1,89 @@
+use Rattle.std.proofs.Common.{◌≡◌, ◌<◌, true, length, Err, Result, refl, ap, subst, sym, ◌∙◌, arith, List}
+use Rattle.vx_disk.specs.Shelf.{Lawful, Meaning}
+use Rattle.vx_model.specs.declared.no.No.{No}
+use Rattle.vx_config.specs.Table.{greatest}
+use Rattle.vx_config.specs.declared.config.Config.{Config}
+use Rattle.vx_config.specs.declared.entry.DiskEntry.{DiskEntry}
+use Rattle.vx_copies.specs.Bodies.{is_wanted}
+use Rattle.vx_copies.specs.Commits.{Begins, CommitEnds, Finds, IsTry, Refused}
+use Rattle.vx_copies.proofs.Found.{begins_try, finds_try, newest, restored, why_refused}
+use Rattle.vx_copies.proofs.ManyTries.{none_yet}
+use Rattle.vx_copies.proofs.OneTry.{wanted_count, wanted_same, wanted_serial}
+use Rattle.vx_copies.proofs.calls.commit_in.Goals.{in-Err, in-Ok}
+use Rattle.vx_copies.proofs.calls.commit_in.Goals as goal
+
+pub returns-then-config-ge-MOST_SERIAL-clause-begins : goal.returns-then-config-ge-MOST_SERIAL-clause-begins
+returns-then-config-ge-MOST_SERIAL-clause-begins g c =
+    begins_try c.args.config.now c.args.config.now (g.S.Shelf.meaning c.args.shelf.now) (g.S.Shelf.meaning c.args.shelf.now) (none_yet c.args.config.now (g.S.Shelf.meaning c.args.shelf.now))
+
+pub returns-then-config-ge-MOST_SERIAL-clause-finds : goal.returns-then-config-ge-MOST_SERIAL-clause-finds
+returns-then-config-ge-MOST_SERIAL-clause-finds g c =
+    finds_try c.args.config.now c.args.config.now (g.S.Shelf.meaning c.args.shelf.now) (g.S.Shelf.meaning c.args.shelf.now) (none_yet c.args.config.now (g.S.Shelf.meaning c.args.shelf.now))
+    (g.met.S.Shelf.lawful c.args.shelf.now) (g.met.S.Shelf.lawful c.args.shelf.now)
+
+pub returns-clause-wanted : goal.returns-clause-wanted
+returns-clause-wanted g c =
+    let old : Meaning = g.S.Shelf.meaning c.args.shelf.now in
+    let new : Meaning = g.S.Shelf.meaning c.try_all.new.shelf in
+    let d : Config = c.try_all.new.config in
+    elim c.match-try_all.branch [
+      | in-Ok w ↦ subst (λ (e : Config). is_wanted new.units new.size e ≡ true) (sym w.config-is) c.try_all.ensures.wanted
+      | in-Err w ↦
+          let back : c.match-try_all.config ≡ record { serial = d.serial; site = c.args.config.now.site; disks = c.args.config.now.disks; volumes = c.args.config.now.volumes; rvg = c.args.config.now.rvg } =
+          restored c.args.config.now d c.match-try_all.config old new c.try_all.ensures.underway.grown
+          (w.config-is ∙ ap (λ (ds : List DiskEntry). record { serial = d.serial; site = d.site; disks = ds; volumes = d.volumes; rvg = d.rvg }) c.copy-kept.ensures) in
+          subst (λ (e : Config). is_wanted new.units new.size e ≡ true) (sym back)
+          (wanted_same old new _ c.try_all.ensures.underway.moves.units c.try_all.ensures.underway.moves.size (wanted_serial old.units old.size c.args.config.now d.serial c.requires.wanted))
+    ]
+
+pub returns-clause-begins : goal.returns-clause-begins
+returns-clause-begins g c =
+    let old : Meaning = g.S.Shelf.meaning c.args.shelf.now in
+    let new : Meaning = g.S.Shelf.meaning c.try_all.new.shelf in
+    let begins = begins_try c.args.config.now c.try_all.new.config old new c.try_all.ensures.underway in
+    elim c.match-try_all.branch [
+      | in-Ok w ↦ subst (λ (e : Config). Begins (IsTry c.args.config.now e.serial old new) c.args.config.now old new) (sym w.config-is) begins
+      | in-Err w ↦ subst (λ (e : Config). Begins (IsTry c.args.config.now e.serial old new) c.args.config.now old new) (sym w.config-is) begins
+    ]
+
+pub returns-clause-finds : goal.returns-clause-finds
+returns-clause-finds g c =
+    let old : Meaning = g.S.Shelf.meaning c.args.shelf.now in
+    let new : Meaning = g.S.Shelf.meaning c.try_all.new.shelf in
+    let finds = finds_try c.args.config.now c.try_all.new.config old new c.try_all.ensures.underway (g.met.S.Shelf.lawful c.args.shelf.now) (g.met.S.Shelf.lawful c.try_all.new.shelf) in
+    elim c.match-try_all.branch [
+      | in-Ok w ↦ subst (λ (e : Config). Finds (IsTry c.args.config.now e.serial old new) c.args.config.now old new) (sym w.config-is) finds
+      | in-Err w ↦ subst (λ (e : Config). Finds (IsTry c.args.config.now e.serial old new) c.args.config.now old new) (sym w.config-is) finds
+    ]
+
+pub returns-clause-ends : goal.returns-clause-ends
+returns-clause-ends g c =
+    let old : Meaning = g.S.Shelf.meaning c.args.shelf.now in
+    let new : Meaning = g.S.Shelf.meaning c.try_all.new.shelf in
+    let a : Config = c.args.config.now in
+    let d : Config = c.try_all.new.config in
+    let underway = c.try_all.ensures.underway in
+    let more : a.serial < greatest = omega (arith, c.if-config-ge-MOST_SERIAL.false) in
+    elim c.match-try_all.branch [
+      | in-Ok w ↦
+          let ends = w.in-Ok.ensures.ends in
+          subst (λ (e : Config). CommitEnds c.args.good a e old new c.match-try_all.result) (sym w.config-is)
+          (subst (λ (r : Result (Unit {0}) No). CommitEnds c.args.good a d old new r) (sym w.result-is) (record {
+            later = ends.0;
+            grown = underway.grown;
+            left = ends.1;
+            ready = ends.2;
+            stands = ends.3;
+            newest = newest a d old new underway c.args.good (wanted_count old.units old.size d (wanted_same new old d (sym underway.moves.units) (λ u. sym (underway.moves.size u)) c.try_all.ensures.wanted))
+                (g.met.S.Shelf.lawful c.args.shelf.now) (g.met.S.Shelf.lawful c.try_all.new.shelf) ends.1 ends.3;
+          }))
+      | in-Err w ↦
+          let back : c.match-try_all.config ≡ record { serial = d.serial; site = a.site; disks = a.disks; volumes = a.volumes; rvg = a.rvg } =
+          restored a d c.match-try_all.config old new underway.grown (w.config-is ∙ ap (λ (ds : List DiskEntry). record { serial = d.serial; site = d.site; disks = ds; volumes = d.volumes; rvg = d.rvg }) c.copy-kept.ensures) in
+          subst (λ (e : Config). CommitEnds c.args.good a e old new c.match-try_all.result) (sym back)
+          (subst (λ (r : Result (Unit {0}) No). CommitEnds c.args.good a (record { serial = d.serial; site = a.site; disks = a.disks; volumes = a.volumes; rvg = a.rvg }) old new r) (sym w.result-is) (record {
+            cause = why_refused c.args.good a d old new w.in-Err.no more underway.grown w.in-Err.ensures.ends;
+            later = underway.serial;
+            kept = refl;
+          }))
+    ]

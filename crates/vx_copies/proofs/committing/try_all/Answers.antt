@@ -1,0 +1,59 @@
+use Rattle.std.proofs.Common.{◌≡◌, ◌<◌, length, Result, Err, inl, inr, refl, ap, subst, sym, ◌∙◌, arith, List}
+use Rattle.vx_disk.specs.declared.shelf.ShelfError.{ShelfError}
+use Rattle.vx_disk.specs.declared.shelf.ShelfError.TheVariants.{Fault}
+use Rattle.vx_disk.specs.Shelf.{Meaning}
+use Rattle.vx_disk.proofs.Causing.{Rose_before}
+use Rattle.vx_config.specs.declared.entry.DiskEntry.{DiskEntry}
+use Rattle.vx_copies.specs.Commits.{TryEnds}
+use Rattle.vx_copies.specs.Marks.{HasGood}
+use Rattle.vx_copies.proofs.ManyTries.{both_ready, both_stand, both_underway, none_yet, stays_large}
+use Rattle.vx_copies.proofs.committing.try_all.Goals as goal
+
+pub loop-shelf-init : goal.loop-shelf-init
+loop-shelf-init g c = record {
+  large = c.requires.large;
+  can = c.requires.can;
+  short = c.requires.short;
+  wanted = c.requires.wanted;
+  room = c.requires.room;
+  underway = none_yet c.args.config.now (g.S.Shelf.meaning c.args.shelf.now);
+  ready = record { ready = λ first. first };
+  device = inr (refl, c.lowest-device.ensures);
+}
+
+pub returns-in-Ok-clause-underway : goal.returns-in-Ok-clause-underway
+returns-in-Ok-clause-underway g c =
+    both_underway c.args.config.now c.loop-shelf.config c.try_next.new.config (g.S.Shelf.meaning c.args.shelf.now) (g.S.Shelf.meaning c.loop-shelf.shelf) (g.S.Shelf.meaning c.try_next.new.shelf)
+    c.loop-shelf.invariant.underway c.loop-shelf.invariant.ready c.try_next.ensures.underway
+
+pub returns-in-Err-Down-clause-underway : goal.returns-in-Err-Down-clause-underway
+returns-in-Err-Down-clause-underway g c =
+    both_underway c.args.config.now c.loop-shelf.config c.try_next.new.config (g.S.Shelf.meaning c.args.shelf.now) (g.S.Shelf.meaning c.loop-shelf.shelf) (g.S.Shelf.meaning c.try_next.new.shelf)
+    c.loop-shelf.invariant.underway c.loop-shelf.invariant.ready c.try_next.ensures.underway
+
+pub returns-in-Ok-clause-ends : goal.returns-in-Ok-clause-ends
+returns-in-Ok-clause-ends g c =
+    let ends = c.in-Ok.ensures.ends in (
+      omega (arith, c.loop-shelf.invariant.underway.serial, c.try_next.ensures.serial),
+      subst (λ (ds : List DiskEntry). HasGood ds c.args.good) (sym ends.0) (c.loop-shelf-test.ensures.may refl).0,
+      both_ready c.loop-shelf.invariant.ready ends.1,
+      both_stand c.args.config.now c.loop-shelf.config c.try_next.new.config (g.S.Shelf.meaning c.args.shelf.now) (g.S.Shelf.meaning c.loop-shelf.shelf) (g.S.Shelf.meaning c.try_next.new.shelf)
+          c.loop-shelf.invariant.underway c.loop-shelf.invariant.ready c.try_next.ensures.underway ends.2,
+    )
+
+pub loop-shelf-preserved : goal.loop-shelf-preserved
+loop-shelf-preserved g c =
+    let mid : Meaning = g.S.Shelf.meaning c.loop-shelf.shelf in
+    let new : Meaning = g.S.Shelf.meaning c.try_next.new.shelf in
+    let ends = subst (λ (e : ShelfError). TryEnds {T = Unit {0}} c.loop-shelf.config c.try_next.new.config mid new (Err e)) c.in-Err-Fault.field-0-is c.in-Err-Fault.ensures.ends in
+    record {
+      large = stays_large mid new c.try_next.ensures.underway.moves.units c.try_next.ensures.underway.moves.size c.loop-shelf.invariant.large;
+      can = c.try_next.ensures.can;
+      short = c.try_next.ensures.short;
+      wanted = c.try_next.ensures.wanted;
+      room = c.try_next.auto.room ∙ c.loop-shelf.invariant.room;
+      underway = both_underway c.args.config.now c.loop-shelf.config c.try_next.new.config (g.S.Shelf.meaning c.args.shelf.now) (g.S.Shelf.meaning c.loop-shelf.shelf) (g.S.Shelf.meaning c.try_next.new.shelf)
+          c.loop-shelf.invariant.underway c.loop-shelf.invariant.ready c.try_next.ensures.underway;
+      ready = both_ready c.loop-shelf.invariant.ready ends.1;
+      device = inl (Rose_before _ _ _ (c.loop-shelf.invariant.underway.moves.disk_faults c.in-Err-Fault.disk) ends.2);
+    }

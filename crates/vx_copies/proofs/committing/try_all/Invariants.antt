@@ -1,0 +1,23 @@
+use Rattle.std.proofs.Common.{◌≡◌, ◌≤◌, true, length}
+use Rattle.vx_config.specs.Configs.{CanSpell, subdisk_count}
+use Rattle.vx_copyio.specs.Labelling.{AreLarge}
+use Rattle.vx_copies.specs.Answers.{good_set}
+use Rattle.vx_copies.specs.Bodies.{is_wanted}
+use Rattle.vx_copies.specs.Commits.{StayReady, Underway}
+use Rattle.vx_copies.proofs.ManyTries.{Blamed}
+use Rattle.vx_copies.proofs.committing.try_all.Given as goal
+
+abbrev pub invariant-loop-shelf : goal.invariant-loop-shelf
+invariant-loop-shelf g l = record {
+  large : AreLarge (g.S.Shelf.meaning l.shelf);
+  can : CanSpell l.config;
+  short : subdisk_count l.config ≤ 1024;
+  wanted : is_wanted (g.S.Shelf.meaning l.shelf).units (g.S.Shelf.meaning l.shelf).size l.config ≡ true;
+  room : length l.room ≡ 65024;
+  underway : Underway l.initial.config l.config (g.S.Shelf.meaning l.initial.shelf) (g.S.Shelf.meaning l.shelf);
+  ready : StayReady l.initial.config l.config (g.S.Shelf.meaning l.initial.shelf) (g.S.Shelf.meaning l.shelf);
+  device : Blamed l.good l.initial.config l.config (g.S.Shelf.meaning l.initial.shelf) (g.S.Shelf.meaning l.shelf) l.device;
+}
+
+abbrev pub decreases-loop-shelf : goal.decreases-loop-shelf
+decreases-loop-shelf g l = good_set l.config.disks

@@ -1,0 +1,166 @@
+-- What a commit makes of a configuration and of the disks.
+use Rattle.std.specs.Prelude.{◌≡◌, ◌⊎◌, ℕ, ◌+◌, ◌<◌, ◌≤◌, Bool, true, false, IsTrue, Option, Some, Result, Ok, Err, List, length}
+use Rattle.std.specs.Int.{trailing_zeros, w8}
+use Rattle.vx_disk.specs.declared.shelf.ShelfError.{ShelfError}
+use Rattle.vx_disk.specs.declared.shelf.ShelfError.TheVariants.{Fault, Down as IsDown}
+use Rattle.vx_disk.specs.Blocks.{bit_at}
+use Rattle.vx_disk.specs.Counts.{Rose}
+use Rattle.vx_disk.specs.Moves.{Moves}
+use Rattle.vx_disk.specs.Shelf.{Each, Image, LeavesOnly, Meaning}
+use Rattle.vx_model.specs.declared.errors.Stop.{Stop}
+use Rattle.vx_model.specs.declared.errors.Stop.TheVariants.{No as Stopped, OutOfMemory}
+use Rattle.vx_model.specs.declared.no.Counted.TheVariants.{Number}
+use Rattle.vx_model.specs.declared.no.No.{No}
+use Rattle.vx_model.specs.declared.no.No.TheVariants as refusal
+use Rattle.vx_config.specs.Table.{greatest}
+use Rattle.vx_config.specs.declared.config.Config.{Config}
+use Rattle.vx_config.specs.declared.entry.DiskEntry.{DiskEntry}
+use Rattle.vx_copyfmt.specs.Copies.{Disk}
+use Rattle.vx_copyfmt.specs.Commits.{Among, Committed, FindsNew, FindsOld, FromNew, FromOld, IsGood, Older, Tidy, Written}
+use Rattle.vx_copyfmt.specs.Imports.{is_label}
+use Rattle.vx_copyfmt.specs.Labels.{seen_in}
+use Rattle.vx_copyio.specs.Putting.{AreasOf}
+use Rattle.vx_copies.specs.Answers.{good_set}
+use Rattle.vx_copies.specs.Bodies.{failed_in}
+use Rattle.vx_copies.specs.Looking.{on_shelf}
+use Rattle.vx_copies.specs.Marks.{HasGood, NoneGood, blocks_at, failed_at}
+
+-- a disk that the configuration holds as good
+pub record Held (c : Config) (m : Meaning) (u : ℕ) : Type 0 where
+  pub below : u < m.units
+  pub good : failed_at c.disks u ≡ false
+
+-- The disks are ready for the next serial: each header of one that is held as good counts and has one value, and neither these nor the
+-- copies of the others have a serial above that of the configuration.
+pub record Ready (c : Config) (m : Meaning) : Type 0 where
+  pub tidy : (u : ℕ) → Held c m u → Tidy (on_shelf m) (c.serial + 1) (m.leaves u)
+  pub older : (u : ℕ) → u < m.units → failed_at c.disks u ≡ true → Older (on_shelf m) (c.serial + 1) (m.leaves u)
+
+-- the same disks, of which more are held as failed: the count of each of these rose
+pub record MoreFailed (old new : Meaning) (before after : List DiskEntry) : Type 0 where
+  pub count : length after ≡ length before
+  pub blocks : (u : ℕ) → blocks_at after u ≡ blocks_at before u
+  pub stays : (u : ℕ) → failed_at before u ≡ true → failed_at after u ≡ true
+  pub blamed : (u : ℕ) → failed_at before u ≡ false → failed_at after u ≡ true → Rose (old.faults u) (new.faults u)
+
+-- the same configuration but for its serial and such disks
+pub record Grown (old new : Meaning) (c d : Config) : Type 0 where
+  pub site : d.site ≡ c.site
+  pub disks : MoreFailed old new c.disks d.disks
+  pub volumes : d.volumes ≡ c.volumes
+  pub rvg : d.rvg ≡ c.rvg
+
+-- one of the configurations that a commit may have begun, under its serial, which is at most the last one
+pub record IsTry (c : Config) (last : ℕ) (old new : Meaning) (serial : ℕ) (d : Config) : Type 0 where
+  pub serial_is : serial ≡ d.serial
+  pub above : c.serial < serial
+  pub within : serial ≤ last
+  pub grown : Grown old new c d
+
+-- one that holds no disk as failed that the last one does not
+pub record IsBefore (c last : Config) (old new : Meaning) (serial : ℕ) (d : Config) : Type 0 where
+  pub is : IsTry c last.serial old new serial d
+  pub fewer : (u : ℕ) → failed_at d.disks u ≡ true → failed_at last.disks u ≡ true
+
+-- where the disks were ready, each that was held as good has in the image its copy of before, or one that was begun
+pub record OldOrBegun (begun : ℕ → Config → Type 0) (c : Config) (m : Meaning) (i : Image) : Type 0 where
+  pub each : Ready c m → (u : ℕ) → Held c m u → FromOld (on_shelf m) (m.leaves u) (i u) ⊎ FromNew (on_shelf m) begun (m.leaves u) (i u)
+
+-- Copies were begun: at each moment a crash leaves each disk that was held as good with its copy of before or one that was begun, and every
+-- other block as it was; and so it does now.
+pub record Begins (begun : ℕ → Config → Type 0) (c : Config) (old new : Meaning) : Type 0 where
+  pub moves : Moves (AreasOf (Held c old)) (OldOrBegun begun c old) old new
+  pub leaves : (i : Image) → Each new.leaves i → OldOrBegun begun c old i
+
+-- tries were made, from one configuration to another
+pub record Underway (c d : Config) (old new : Meaning) : Type 0 where
+  pub serial : c.serial ≤ d.serial
+  pub grown : Grown old new c d
+  pub moves : Moves (AreasOf (Held c old)) (OldOrBegun (IsBefore c d old new) c old) old new
+  pub leaves : Ready c old → (u : ℕ) (e : Disk) → Held c old u → Among (new.leaves u) e → FromOld (on_shelf old) (old.leaves u) e ⊎ FromNew (on_shelf old) (IsBefore c d old new) (old.leaves u) e
+
+-- the disks are ready again
+pub record StayReady (c d : Config) (old new : Meaning) : Type 0 where
+  pub ready : Ready c old → Ready d new
+
+-- where the disks were ready, each that the configuration holds as good has its copy, and the others lesser ones
+pub record Stands (c d : Config) (old new : Meaning) : Type 0 where
+  pub each : Ready c old → (i : Image) → Each new.leaves i → Written (on_shelf old) failed_in d.serial d old.units i
+
+-- how a try ends: as it began; or with one good disk less and a fault; or with the shelf down
+abbrev pub TryEnds : {T : Type 0} → Config → Config → Meaning → Meaning → Result T ShelfError → Type 0
+TryEnds c d old new (Ok x) = (d.disks ≡ c.disks) × StayReady c d old new × Stands c d old new
+TryEnds c d old new (Err (Fault disk)) = (good_set d.disks < good_set c.disks) × StayReady c d old new × Rose (old.disk_faults disk) (new.disk_faults disk)
+TryEnds c d old new (Err IsDown) = IsTrue new.down
+
+-- a set of disks as its lowest member, and 8 where it has none
+abbrev pub lowest_member : ℕ → ℕ
+lowest_member good = trailing_zeros w8 good
+
+-- the count of the disk rose; or each disk of the set was held as failed, and it is the lowest of these
+abbrev pub IsBlamed : ℕ → Config → Meaning → Meaning → ℕ → Type 0
+IsBlamed good c old new disk = Rose (old.disk_faults disk) (new.disk_faults disk) ⊎ (NoneGood c.disks (length c.disks) good × (disk ≡ lowest_member good))
+
+-- how tries end: with the configuration on its disks, of which one is a good disk of the set; or with none of these left, or no serial; or with
+-- the shelf down
+abbrev pub TriesEnd : {T : Type 0} → ℕ → Config → Config → Meaning → Meaning → Result T No → Type 0
+TriesEnd good c d old new (Ok x) = (c.serial < d.serial) × HasGood d.disks good × StayReady c d old new × Stands c d old new
+TriesEnd good c d old new (Err (refusal.Device disk)) = IsBlamed good c old new disk × (NoneGood d.disks (length d.disks) good ⊎ (greatest ≤ d.serial))
+TriesEnd good c d old new (Err refusal.Down) = IsTrue new.down
+TriesEnd good c d old new (Err other) = ⊥
+
+-- each disk of the set was held as failed, or its count rose
+pub record AllFailed (good : ℕ) (c : Config) (old new : Meaning) : Type 0 where
+  pub each : (u : ℕ) → u < length c.disks → bit_at good u ≡ true → (failed_at c.disks u ≡ true) ⊎ Rose (old.faults u) (new.faults u)
+
+-- why a commit is refused: with 7 where each disk of the set failed or the last serial was used; with 6 where the shelf is down; with 19 where
+-- no serial was left
+abbrev pub CommitStops : ℕ → Config → ℕ → Meaning → Meaning → No → Type 0
+CommitStops good c last old new (refusal.Device disk) = (c.serial < greatest) × IsBlamed good c old new disk × (AllFailed good c old new ⊎ (greatest ≤ last))
+CommitStops good c last old new refusal.Down = (c.serial < greatest) × IsTrue new.down
+CommitStops good c last old new (refusal.Limit Number most) = (greatest ≤ c.serial) × (most ≡ greatest)
+CommitStops good c last old new other = ⊥
+
+-- a refused commit changes the serial alone, which is the last one that it began
+pub record Refused (good : ℕ) (c d : Config) (old new : Meaning) (why : No) : Type 0 where
+  pub cause : CommitStops good c d.serial old new why
+  pub later : c.serial ≤ d.serial
+  pub kept : d ≡ record { serial = d.serial; site = c.site; disks = c.disks; volumes = c.volumes; rvg = c.rvg }
+
+-- whatever a crash leaves in the first block of a disk is a label
+pub record HaveLabels (m : Meaning) : Type 0 where
+  pub each : (u : ℕ) (v : List ℕ) → u < m.units → m.leaves u 0 v → is_label (seen_in v) ≡ true
+
+-- this is the newest committed configuration, or none was committed; and the disks of the set are held as good by it
+pub record WasCommitted (good : ℕ) (held : Option Config) (m : Meaning) : Type 0 where
+  pub committed : Committed (on_shelf m) failed_in m.units held m.leaves
+  pub members : (u : ℕ) → u < m.units → bit_at good u ≡ true → IsGood failed_in held u
+
+-- whichever disks can be read, an import over the image finds what it might have found before, or one of these
+pub record MayFind (begun : ℕ → Config → Type 0) (m : Meaning) (i : Image) : Type 0 where
+  pub each : (readable : ℕ → Bool) → FindsOld (on_shelf m) failed_in m.units m.leaves readable i ⊎ FindsNew (on_shelf m) failed_in begun m.units readable i
+
+-- the same at each moment since the call began, and now, where the disks were ready
+pub record Finds (begun : ℕ → Config → Type 0) (c : Config) (old new : Meaning) : Type 0 where
+  pub since : Ready c old → LeavesOnly old new (MayFind begun old)
+  pub now : Ready c old → (i : Image) → Each new.leaves i → MayFind begun old i
+
+-- a commit is done: the configuration has a later serial and the failed disks held so, and is the newest committed one
+pub record Done (good : ℕ) (c d : Config) (old new : Meaning) : Type 0 where
+  pub later : c.serial < d.serial
+  pub grown : Grown old new c d
+  pub left : HasGood d.disks good
+  pub ready : StayReady c d old new
+  pub stands : Stands c d old new
+  pub newest : (held : Option Config) → WasCommitted good held old → Ready c old → HaveLabels old → WasCommitted (good_set d.disks) (Some d) new
+
+-- what a commit answers
+abbrev pub CommitEnds : {T : Type 0} → ℕ → Config → Config → Meaning → Meaning → Result T No → Type 0
+CommitEnds good c d old new (Ok x) = Done good c d old new
+CommitEnds good c d old new (Err why) = Refused good c d old new why
+
+-- and one that takes memory
+abbrev pub CommitStopped : {T : Type 0} → ℕ → Config → Config → Meaning → Meaning → Result T Stop → Type 0
+CommitStopped good c d old new (Ok x) = Done good c d old new
+CommitStopped good c d old new (Err (Stopped why)) = Refused good c d old new why
+CommitStopped good c d old new (Err OutOfMemory) = d ≡ c

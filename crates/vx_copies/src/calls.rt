@@ -1,0 +1,92 @@
+// Commits.
+ghost use Rattle.std.specs.Prelude.{◌≡◌, ◌⊎◌, ◌≤◌, true, Err};
+ghost use Rattle.vx_config.specs.Configs.{CanSpell, subdisk_count};
+ghost use Rattle.vx_config.specs.Table.{greatest};
+ghost use Rattle.vx_copyio.specs.Labelling.{AreLarge};
+ghost use Rattle.vx_copies.specs.Bodies.{is_wanted};
+ghost use Rattle.vx_copies.specs.Commits.{Begins, CommitEnds, CommitStopped, Finds, IsTry};
+ghost use Rattle.vx_model.specs.declared.errors.Stop.TheVariants.{OutOfMemory as MemoryStop, No as Refused};
+ghost use Rattle.vx_model.specs.declared.no.Counted.TheVariants.{Number};
+ghost use Rattle.vx_model.specs.declared.no.No.TheVariants.{Limit};
+
+use crate::Room;
+use crate::committing::{MOST_SERIAL, try_all};
+use std::alloc::Global;
+use vx_config::Config;
+use vx_disk::Shelf;
+use vx_model::{Counted, No, Stop};
+
+/// Writes a configuration under the next serial to each disk that it holds as good: first to those of a set, which are the disks that
+/// the newest committed configuration holds as good, and all of them before the first commit; then to the rest. A disk that fails is
+/// held as failed from then on, and the commit begins again with the next serial. It takes no memory.
+///
+/// At each moment of it an import over what a crash leaves finds what it might have found before, or one of the configurations that it
+/// began, and after Ok the last of these, or is refused with 8 or 9.
+///
+/// Answers 19 exactly where the serial is the greatest one, and then nothing has changed. Else 7 only where each disk of the set has
+/// failed, or the greatest serial was used: it names the disk that failed last, or, where each was held as failed before, the lowest
+/// of the set. And 6 only where the shelf is then down. After 7 and 6 the configuration is as it was, but for the serial, which is the
+/// last one that was begun.
+pub fn commit_in<S: Shelf>(
+    shelf: &mut S,
+    config: &mut Config,
+    good: u8,
+    room: &mut Room,
+) -> Result<(), No>
+    requires large { AreLarge (S.meaning shelf.old) }
+    requires can { CanSpell config.old }
+    requires short { subdisk_count config.old ≤ 1024 }
+    requires wanted { is_wanted (S.meaning shelf.old).units (S.meaning shelf.old).size config.old ≡ true }
+    ensures can { CanSpell config.new }
+    ensures short { subdisk_count config.new ≤ 1024 }
+    ensures wanted { is_wanted (S.meaning shelf.new).units (S.meaning shelf.new).size config.new ≡ true }
+    ensures begins { Begins (IsTry config.old config.new.serial (S.meaning shelf.old) (S.meaning shelf.new)) config.old (S.meaning shelf.old) (S.meaning shelf.new) }
+    ensures finds { Finds (IsTry config.old config.new.serial (S.meaning shelf.old) (S.meaning shelf.new)) config.old (S.meaning shelf.old) (S.meaning shelf.new) }
+    ensures ends { CommitEnds good config.old config.new (S.meaning shelf.old) (S.meaning shelf.new) result }
+    ensures limit { greatest ≤ config.old.serial → (result ≡ Err (Limit Number greatest)) × (config.new ≡ config.old) × (shelf.new ≡ shelf.old) }
+{
+    if config.serial >= MOST_SERIAL {
+        return Err(No::Limit {
+            what: Counted::Number,
+            most: MOST_SERIAL,
+        });
+    }
+    let kept = config.disks.copy();
+    match try_all(shelf, config, good, &mut room.bytes) {
+        Ok(()) => Ok(()),
+        Err(no) => {
+            config.disks = kept;
+            Err(no)
+        }
+    }
+}
+
+/// What `commit_in` does, in memory that it takes for this: nothing has changed where there is none.
+pub fn commit<S: Shelf>(
+    alloc: Global,
+    shelf: &mut S,
+    config: &mut Config,
+    good: u8,
+) -> Result<(), Stop>
+    requires large { AreLarge (S.meaning shelf.old) }
+    requires can { CanSpell config.old }
+    requires short { subdisk_count config.old ≤ 1024 }
+    requires wanted { is_wanted (S.meaning shelf.old).units (S.meaning shelf.old).size config.old ≡ true }
+    ensures can { CanSpell config.new }
+    ensures short { subdisk_count config.new ≤ 1024 }
+    ensures wanted { is_wanted (S.meaning shelf.new).units (S.meaning shelf.new).size config.new ≡ true }
+    ensures begins { Begins (IsTry config.old config.new.serial (S.meaning shelf.old) (S.meaning shelf.new)) config.old (S.meaning shelf.old) (S.meaning shelf.new) }
+    ensures finds { Finds (IsTry config.old config.new.serial (S.meaning shelf.old) (S.meaning shelf.new)) config.old (S.meaning shelf.old) (S.meaning shelf.new) }
+    ensures ends { CommitStopped good config.old config.new (S.meaning shelf.old) (S.meaning shelf.new) result }
+    ensures memory { result ≡ Err MemoryStop → shelf.new ≡ shelf.old }
+    ensures limit { greatest ≤ config.old.serial → (result ≡ Err MemoryStop) ⊎ (result ≡ Err (Refused (Limit Number greatest))) }
+{
+    let mut room = match Room::new(alloc, config) {
+        Ok(room) => room,
+        Err(_) => return Err(Stop::OutOfMemory),
+    };
+    match commit_in(shelf, config, good, &mut room) {
+        Ok(()) => Ok(()),
+        Err(no) => Err(Stop::No(no)),
+    }
+}

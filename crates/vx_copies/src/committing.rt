@@ -1,0 +1,95 @@
+// The tries of a commit.
+ghost use Rattle.std.specs.Prelude.{◌≡◌, ◌⊎◌, ◌+◌, ◌<◌, ◌≤◌, length, true, IsTrue, IsFalse};
+ghost use Rattle.vx_config.specs.Configs.{CanSpell, subdisk_count};
+ghost use Rattle.vx_config.specs.Table.{greatest};
+ghost use Rattle.vx_copyio.specs.Labelling.{AreLarge};
+ghost use Rattle.vx_copies.specs.Bodies.{is_wanted};
+ghost use Rattle.vx_copies.specs.Commits.{TriesEnd, TryEnds, Underway, lowest_member};
+ghost use Rattle.vx_copies.specs.Marks.{HasGood, NoneGood};
+
+use crate::{has_good, mark, put_config};
+use vx_config::{Config, is_short};
+use vx_disk::{Shelf, ShelfError};
+use vx_model::No;
+
+// The greatest serial.
+pub const MOST_SERIAL: u64 = 0x7fff_ffff_ffff_ffff;
+
+// One try under the next serial. A disk that fails is then held as failed.
+fn try_next<S: Shelf>(
+    shelf: &mut S,
+    config: &mut Config,
+    good: u8,
+    room: &mut [u8],
+) -> Result<(), ShelfError>
+    requires large { AreLarge (S.meaning shelf.old) }
+    requires can { CanSpell config.old }
+    requires short { subdisk_count config.old ≤ 1024 }
+    requires wanted { is_wanted (S.meaning shelf.old).units (S.meaning shelf.old).size config.old ≡ true }
+    requires room { length room.old ≡ 65024 }
+    requires more { config.old.serial < greatest }
+    ensures can { CanSpell config.new }
+    ensures short { subdisk_count config.new ≤ 1024 }
+    ensures wanted { is_wanted (S.meaning shelf.new).units (S.meaning shelf.new).size config.new ≡ true }
+    ensures serial { config.new.serial ≡ config.old.serial + 1 }
+    ensures underway { Underway config.old config.new (S.meaning shelf.old) (S.meaning shelf.new) }
+    ensures ends { TryEnds config.old config.new (S.meaning shelf.old) (S.meaning shelf.new) result }
+{
+    config.serial += 1;
+    is_short(config);
+    match put_config(shelf, config, good, room) {
+        Ok(()) => Ok(()),
+        Err(failed) => match failed.error {
+            ShelfError::Fault { disk } => {
+                mark(config, failed.disk);
+                Err(ShelfError::Fault { disk })
+            }
+            ShelfError::Down => Err(ShelfError::Down),
+        },
+    }
+}
+
+// The lowest disk of a set; 8 where it has none.
+fn lowest(good: u8) -> u32
+    ensures { result ≡ lowest_member good }
+{
+    good.trailing_zeros()
+}
+
+// Whether a serial is left, and a good disk of the set.
+fn may_try(config: &Config, good: u8) -> bool
+    ensures may { IsTrue result → HasGood config.now.disks good × (config.now.serial < greatest) }
+    ensures none { IsFalse result → NoneGood config.now.disks (length config.now.disks) good ⊎ (greatest ≤ config.now.serial) }
+{
+    config.serial < MOST_SERIAL && has_good(&config.disks, good)
+}
+
+// Tries under one serial after the other, until the configuration stands, or no disk of the set is left.
+pub fn try_all<S: Shelf>(
+    shelf: &mut S,
+    config: &mut Config,
+    good: u8,
+    room: &mut [u8],
+) -> Result<(), No>
+    requires large { AreLarge (S.meaning shelf.old) }
+    requires can { CanSpell config.old }
+    requires short { subdisk_count config.old ≤ 1024 }
+    requires wanted { is_wanted (S.meaning shelf.old).units (S.meaning shelf.old).size config.old ≡ true }
+    requires room { length room.old ≡ 65024 }
+    requires more { config.old.serial < greatest }
+    ensures can { CanSpell config.new }
+    ensures short { subdisk_count config.new ≤ 1024 }
+    ensures wanted { is_wanted (S.meaning shelf.new).units (S.meaning shelf.new).size config.new ≡ true }
+    ensures underway { Underway config.old config.new (S.meaning shelf.old) (S.meaning shelf.new) }
+    ensures ends { TriesEnd good config.old config.new (S.meaning shelf.old) (S.meaning shelf.new) result }
+{
+    let mut device = lowest(good);
+    while may_try(config, good) {
+        match try_next(shelf, config, good, room) {
+            Ok(()) => return Ok(()),
+            Err(ShelfError::Fault { disk }) => device = disk,
+            Err(ShelfError::Down) => return Err(No::Down),
+        }
+    }
+    Err(No::Device { disk: device })
+}
