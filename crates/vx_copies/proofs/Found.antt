@@ -1,14 +1,11 @@
 -- What an import finds in the middle of a commit, and behind it.
-use Rattle.std.proofs.Common.{◌≡◌, ◌⊎◌, inl, inr, ⊎_elim, ℕ, ◌+◌, ◌<◌, ◌≤◌, Bool, true, false, IsTrue, IsFalse, Option, Some, Err, List, length, refl, ap, sym, subst, ◌∙◌, arith}
+use Rattle.std.proofs.Common.{◌≡◌, ◌⊎◌, inl, inr, ⊎_elim, ℕ, ◌+◌, ◌<◌, ◌≤◌, Bool, true, false, IsFalse, Option, Some, Err, List, length, refl, ap, sym, subst, ◌∙◌, arith}
 use Rattle.std.specs.Prelude.{not}
-use Rattle.vx_disk.specs.Blocks.{bit_at}
-use Rattle.vx_disk.specs.Counts.{Rose}
-use Rattle.vx_disk.specs.Moves.{Beside, Moves}
-use Rattle.vx_disk.specs.Shelf.{Each, Image, Lawful, LeavesOnly, Meaning}
+use Rattle.vx_disk.specs.Moves.{Beside}
+use Rattle.vx_disk.specs.Shelf.{Each, Image, Lawful, Meaning}
 use Rattle.vx_disk.proofs.Moving.{wider}
-use Rattle.vx_copyfmt.specs.Commits.{FindsNew, FindsOld, FromNew, FromOld, Gives, IsGood, Older}
-use Rattle.vx_copyfmt.specs.Imports.{import_of, is_label}
-use Rattle.vx_copyfmt.specs.Labels.{seen_in}
+use Rattle.vx_copyfmt.specs.Commits.{FromNew, FromOld, Gives, Older}
+use Rattle.vx_copyfmt.specs.Imports.{import_of}
 use Rattle.vx_copyfmt.proofs.Newest.{amid_gives}
 use Rattle.vx_copyfmt.proofs.Committing.{commit_gives}
 use Rattle.vx_copyio.specs.Putting.{AreasOf}
@@ -18,7 +15,7 @@ use Rattle.vx_config.specs.Table.{greatest}
 use Rattle.vx_config.specs.declared.config.Config.{Config}
 use Rattle.vx_copies.specs.Answers.{good_set}
 use Rattle.vx_copies.specs.Bodies.{failed_in}
-use Rattle.vx_copies.specs.Commits.{AllFailed, Begins, CommitStops, Done, Finds, Grown, HaveLabels, Held, IsBefore, IsTry, MayFind, OldOrBegun, Ready, Stands, StayReady, TriesEnd, Underway, WasCommitted}
+use Rattle.vx_copies.specs.Commits.{AllFailed, Begins, CommitStops, Finds, Grown, HaveLabels, Held, IsBefore, IsTry, MayFind, OldOrBegun, Ready, Stands, TriesEnd, Underway, WasCommitted}
 use Rattle.vx_copies.specs.Looking.{on_shelf}
 use Rattle.vx_copies.specs.Marks.{HasGood, NoneGood, failed_at}
 use Rattle.vx_copies.proofs.Goods.{good_bit}

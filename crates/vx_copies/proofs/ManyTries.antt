@@ -1,8 +1,7 @@
 -- Tries one after the other.
-use Rattle.std.proofs.Common.{◌≡◌, ◌⊎◌, inl, inr, ⊎_elim, ℕ, ◌+◌, ◌<◌, ◌≤◌, Bool, true, false, IsTrue, Option, List, length, refl, ap, sym, subst, ◌∙◌, arith}
+use Rattle.std.proofs.Common.{◌≡◌, ◌⊎◌, inl, inr, ⊎_elim, ℕ, ◌<◌, ◌≤◌, true, Option, List, length, sym, subst, ◌∙◌, arith}
 use Rattle.vx_disk.specs.Counts.{Rose}
-use Rattle.vx_disk.specs.Moves.{Beside, Moves}
-use Rattle.vx_disk.specs.Shelf.{Each, Image, Meaning}
+use Rattle.vx_disk.specs.Shelf.{Meaning}
 use Rattle.vx_disk.proofs.Causing.{Rose_after, Rose_before}
 use Rattle.vx_disk.proofs.Moving.{goes_on, still, wider}
 use Rattle.vx_copyfmt.specs.Copies.{Disk}
@@ -13,9 +12,9 @@ use Rattle.vx_config.specs.Table.{greatest}
 use Rattle.vx_config.specs.declared.config.Config.{Config}
 use Rattle.vx_config.specs.declared.entry.DiskEntry.{DiskEntry}
 use Rattle.vx_copies.specs.Bodies.{failed_in}
-use Rattle.vx_copies.specs.Commits.{Grown, Held, IsBefore, IsBlamed, IsTry, MoreFailed, OldOrBegun, Ready, Stands, StayReady, Underway, lowest_member}
+use Rattle.vx_copies.specs.Commits.{Grown, Held, IsBefore, IsBlamed, MoreFailed, OldOrBegun, Ready, Stands, StayReady, Underway, lowest_member}
 use Rattle.vx_copies.specs.Looking.{on_shelf}
-use Rattle.vx_copies.specs.Marks.{HasGood, NoneGood, blocks_at, failed_at}
+use Rattle.vx_copies.specs.Marks.{NoneGood, failed_at}
 use Rattle.vx_copies.proofs.MarkedDisks.{serial_grown}
 use Rattle.vx_copies.proofs.OneTry.{as_before, held_or, kept_good, new_wider, not_both, shelf_same}
 

@@ -1,11 +1,11 @@
 -- Which disks a mark changes.
-use Rattle.std.proofs.Common.{◌≡◌, ℕ, zero, suc, ◌+◌, ◌<◌, true, false, List, [], ◌∷◌, length, length-set, refl, ap, sym, subst, ◌∙◌, arith}
+use Rattle.std.proofs.Common.{◌≡◌, ℕ, zero, suc, ◌<◌, true, false, List, [], ◌∷◌, length, length-set, refl, ap, sym, subst, ◌∙◌, arith}
 use Rattle.std.specs.Prelude.{slice_set}
 use Rattle.vx_disk.specs.Counts.{Rose}
 use Rattle.vx_disk.specs.Shelf.{Meaning}
 use Rattle.vx_config.specs.declared.config.Config.{Config}
 use Rattle.vx_config.specs.declared.entry.DiskEntry.{DiskEntry}
-use Rattle.vx_copies.specs.Commits.{Grown, MoreFailed}
+use Rattle.vx_copies.specs.Commits.{Grown}
 use Rattle.vx_copies.specs.Marks.{blocks_at, failed_at, marked}
 use Rattle.vx_copies.proofs.Marked.{failed_now}
 

@@ -3,24 +3,22 @@ use Rattle.std.proofs.Common.{◌≡◌, ◌⊎◌, inl, inr, ⊎_elim, ℕ, ◌
 use Rattle.std.specs.Prelude.{not, nat_eq, nat_lt, bytes_eq, if◌then◌else◌}
 use Rattle.std.proofs.lemmas.Bool.{eqb-true, and_parts}
 use Rattle.vx_disk.specs.Blocks.{bit_at}
-use Rattle.vx_disk.specs.Counts.{Rose}
-use Rattle.vx_disk.specs.Moves.{Beside, Moves}
 use Rattle.vx_disk.specs.Shelf.{Each, Image, Meaning}
 use Rattle.vx_disk.proofs.Moving.{wider}
 use Rattle.vx_wire.specs.Seals.{digest_of}
 use Rattle.vx_copyfmt.specs.Areas.{header_of}
 use Rattle.vx_copyfmt.specs.declared.area.AreaHeader.{AreaHeader}
-use Rattle.vx_copyfmt.specs.Copies.{Body, Copy, Disk, Holds, body_of, copy_at, copy_of, copy_under, greater, judged}
-use Rattle.vx_copyfmt.specs.Commits.{Among, FromNew, FromOld, Older, Slots, Tidy, Written}
+use Rattle.vx_copyfmt.specs.Copies.{Copy, Disk, Holds, body_of, copy_at, copy_of, copy_under, greater, judged}
+use Rattle.vx_copyfmt.specs.Commits.{Among, FromNew, FromOld, Older, Slots, Tidy}
 use Rattle.vx_copyio.specs.Putting.{AreasOf, IsMember}
 use Rattle.vx_config.specs.Checks.{is_sound, runs}
 use Rattle.vx_config.specs.declared.config.Config.{Config}
 use Rattle.vx_config.specs.declared.entry.DiskEntry.{DiskEntry}
 use Rattle.vx_copies.specs.Answers.{good_set}
-use Rattle.vx_copies.specs.Bodies.{failed_in, fits_units, have_blocks, is_wanted}
-use Rattle.vx_copies.specs.Commits.{Grown, Held, IsBefore, MoreFailed, OldOrBegun, Ready, Stands, StayReady, Underway}
+use Rattle.vx_copies.specs.Bodies.{fits_units, have_blocks, is_wanted}
+use Rattle.vx_copies.specs.Commits.{Grown, Held, IsBefore, OldOrBegun, Ready, Stands, StayReady, Underway}
 use Rattle.vx_copies.specs.Looking.{on_shelf}
-use Rattle.vx_copies.specs.Marks.{blocks_at, failed_at}
+use Rattle.vx_copies.specs.Marks.{failed_at}
 use Rattle.vx_copies.specs.Tries.{AllThis, IsThis, OldOrThese, OldOrThis, StaysReady, Tried}
 use Rattle.vx_copies.proofs.Bodies.{reads-same}
 use Rattle.vx_copies.proofs.Goods.{good_bit}

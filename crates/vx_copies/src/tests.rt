@@ -4,6 +4,7 @@ ghost use Rattle.vx_config.specs.Configs.{CanSpell, subdisk_count};
 
 use super::*;
 use crate::body::is_wanted;
+use crate::settle::good_of;
 use std::alloc::Global;
 use std::test::*;
 use vx_config::{Config, DiskEntry, Disks, Volumes};
@@ -171,11 +172,11 @@ fn a_commit_outlives_its_disks(rt: HostRuntime) {
         // Serial 2 is begun, and stops at the first disk.
         fail(&mut shelf, 0, true);
         assert!(rt; committed(alloc, &mut shelf, &mut config, 3, in_room) == Ok((3, false)));
-        assert!(rt; config.disks.as_slice()[0].failed && !config.disks.as_slice()[1].failed);
+        assert!(rt; good_of(&config.disks) == 2);
         fail(&mut shelf, 1, true);
         let refused = Err(Stop::No(No::Device { disk: 1 }));
         assert!(rt; committed(alloc, &mut shelf, &mut config, 2, in_room) == refused);
-        assert!(rt; config.serial == 4 && !config.disks.as_slice()[1].failed);
+        assert!(rt; config.serial == 4 && good_of(&config.disks) == 2);
         assert!(rt; found(alloc, &mut shelf) == Err(Stop::No(No::NoConfig)));
         fail(&mut shelf, 0, false);
         assert!(rt; found(alloc, &mut shelf) == Err(Stop::No(No::Missing { disk: 1 })));

@@ -1,11 +1,11 @@
-use Rattle.std.proofs.Common.{◌≡◌, ◌<◌, true, length, Err, Result, refl, ap, subst, sym, ◌∙◌, arith, List}
-use Rattle.vx_disk.specs.Shelf.{Lawful, Meaning}
+use Rattle.std.proofs.Common.{◌≡◌, ◌<◌, true, Result, refl, ap, subst, sym, ◌∙◌, arith, List}
+use Rattle.vx_disk.specs.Shelf.{Meaning}
 use Rattle.vx_model.specs.declared.no.No.{No}
 use Rattle.vx_config.specs.Table.{greatest}
 use Rattle.vx_config.specs.declared.config.Config.{Config}
 use Rattle.vx_config.specs.declared.entry.DiskEntry.{DiskEntry}
 use Rattle.vx_copies.specs.Bodies.{is_wanted}
-use Rattle.vx_copies.specs.Commits.{Begins, CommitEnds, Finds, IsTry, Refused}
+use Rattle.vx_copies.specs.Commits.{Begins, CommitEnds, Finds, IsTry}
 use Rattle.vx_copies.proofs.Found.{begins_try, finds_try, newest, restored, why_refused}
 use Rattle.vx_copies.proofs.ManyTries.{none_yet}
 use Rattle.vx_copies.proofs.OneTry.{wanted_count, wanted_same, wanted_serial}

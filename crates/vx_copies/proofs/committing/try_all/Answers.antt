@@ -1,6 +1,5 @@
-use Rattle.std.proofs.Common.{◌≡◌, ◌<◌, length, Result, Err, inl, inr, refl, ap, subst, sym, ◌∙◌, arith, List}
+use Rattle.std.proofs.Common.{Err, inl, inr, refl, subst, sym, ◌∙◌, arith, List}
 use Rattle.vx_disk.specs.declared.shelf.ShelfError.{ShelfError}
-use Rattle.vx_disk.specs.declared.shelf.ShelfError.TheVariants.{Fault}
 use Rattle.vx_disk.specs.Shelf.{Meaning}
 use Rattle.vx_disk.proofs.Causing.{Rose_before}
 use Rattle.vx_config.specs.declared.entry.DiskEntry.{DiskEntry}
