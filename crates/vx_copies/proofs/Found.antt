@@ -15,11 +15,20 @@ use Rattle.vx_config.specs.Table.{greatest}
 use Rattle.vx_config.specs.declared.config.Config.{Config}
 use Rattle.vx_copies.specs.Answers.{good_set}
 use Rattle.vx_copies.specs.Bodies.{failed_in}
-use Rattle.vx_copies.specs.Commits.{AllFailed, Begins, CommitStops, Finds, Grown, HaveLabels, Held, IsBefore, IsTry, MayFind, OldOrBegun, Ready, Stands, TriesEnd, Underway, WasCommitted}
+use Rattle.vx_copies.specs.Commits.{AllFailed, Begins, CommitStops, Finds, Grown, HaveLabels, Held, IsBefore, IsOne, IsTry, MayFind, OldOrBegun, Outcome, Ready, Stage, Stands, TriesEnd, Underway, WasCommitted}
 use Rattle.vx_copies.specs.Looking.{on_shelf}
 use Rattle.vx_copies.specs.Marks.{HasGood, NoneGood, failed_at}
 use Rattle.vx_copies.proofs.Goods.{good_bit}
+use Rattle.vx_copies.proofs.Outcomes.{outcome}
 use Rattle.vx_copies.proofs.OneTry.{as_before, held_or, new_wider, not_both, shelf_same, tidy_older}
+
+-- some image of before, where the shelf tells
+base_of : (c : Config) (old new : Meaning) → Lawful old → new.tells ≡ old.tells → (IsFalse new.tells → ⊥) → (base : Image) × Each old.leaves base
+base_of c old new lawful same never = by_tells old.tells refl
+  where
+    by_tells : (b : Bool) → old.tells ≡ b → (base : Image) × Each old.leaves base
+    by_tells true tells = let some = lawful.image tells in (some.0, lawful.within some.0 some.1)
+    by_tells false tells = absurd (never (same ∙ tells))
 
 -- ---- in the middle
 
@@ -53,53 +62,85 @@ module _ (begun : ℕ → Config → Type 0) (c : Config) (old new : Meaning) (l
   as_it_was i left = record { each = λ ready u held. inl (as_before (on_shelf old) (old.leaves u) (i u) (λ b. left u b)) }
 
   module _ (before : Lawful old) (after : Lawful new) where
-    by_tells : (b : Bool) → old.tells ≡ b → (IsFalse new.tells → ⊥) → (base : Image) × Each old.leaves base
-    by_tells true tells never = let some = before.image tells in (some.0, before.within some.0 some.1)
-    by_tells false tells never = absurd (never (begins.moves.tells ∙ tells))
-
-    since : Ready c old → (i : Image) → new.left_since old.moment i → MayFind begun old i
+    pub since : Ready c old → (i : Image) → new.left_since old.moment i → MayFind begun old i
     since ready i left =
-        let some = by_tells old.tells refl (λ none. after.never none old.moment i left) in
+        let some = base_of c old new before begins.moves.tells (λ none. after.never none old.moment i left) in
         elim (begins.moves.since old.moment i (omega arith) left) [
           | inl was ↦ let is : Each old.leaves i = before.within i (before.only_now i was) in find_of ready some.0 some.1 i (λ u b. inl (is u b)) (as_it_was i is)
           | inr now ↦ find_of ready some.0 some.1 i now.0 now.1
         ]
 
-    now : Ready c old → (i : Image) → Each new.leaves i → MayFind begun old i
+    pub now : Ready c old → (i : Image) → Each new.leaves i → MayFind begun old i
     now ready i left =
-        let some = by_tells old.tells refl (λ none. after.none none 0 0 (i 0 0) (left 0 0)) in
+        let some = base_of c old new before begins.moves.tells (λ none. after.none none 0 0 (i 0 0) (left 0 0)) in
         find_of ready some.0 some.1 i (λ u b. begins.moves.leaves u b (i u b) (left u b)) (begins.leaves i left)
-
-    pub finds : Finds begun c old new
-    finds = record { since = λ ready. record { later = begins.moves.later; each = since ready }; now = now }
 
 -- ---- what tries began
 
-module _ (c d : Config) (old new : Meaning) (underway : Underway c d old new) where
-  -- said without the last one
+module _ (good : ℕ) (c d : Config) (old new : Meaning) (underway : Underway good c d old new) where
+  one_before : (u s : ℕ) (x : Config) → IsOne c d.serial underway.tries u s x → IsBefore c d old new s x
+  one_before u s x one = subst (IsBefore c d old new s) (sym one.is) (underway.tried s one.above one.within)
+
+  one_try : (u s : ℕ) (x : Config) → IsOne c d.serial underway.tries u s x → IsTry c d.serial old new s x
+  one_try u s x one = (one_before u s x one).is
+
+  -- said of what was begun in another way
+  module _ (begun : ℕ → Config → Type 0) (wide : (u s : ℕ) (x : Config) → IsOne c d.serial underway.tries u s x → begun s x) where
+    of_stage : (i : Image) → Stage good c d.serial underway.tries old i → OldOrBegun begun c old i
+    of_stage i stage = record {
+      each = λ ready u held.
+          ⊎_elim (λ was. inl was) (λ made. inr (new_wider (on_shelf old) (IsOne c d.serial underway.tries u) begun (old.leaves u) (i u) (wide u) made)) (stage.each ready u held);
+    }
+
+    begins_so : Begins begun c old new
+    begins_so = record {
+      moves = wider (AreasOf (Held c old)) (AreasOf (Held c old)) (Stage good c d.serial underway.tries old) (OldOrBegun begun c old) old new underway.moves (λ u b mine. mine) (λ i beside seen. of_stage i seen);
+      leaves = λ i left. of_stage i (underway.now i left);
+    }
+
   pub begins_try : Begins (IsTry c d.serial old new) c old new
-  begins_try = record {
-    moves = wider (AreasOf (Held c old)) (AreasOf (Held c old)) (OldOrBegun (IsBefore c d old new) c old) (OldOrBegun (IsTry c d.serial old new) c old) old new underway.moves (λ u b mine. mine)
-        (λ i beside seen. record { each = λ ready u held. wide u (i u) (seen.each ready u held) });
-    leaves = λ i left. record { each = λ ready u held. wide u (i u) (underway.leaves ready u (i u) held (λ b. left u b)) };
-  }
-    where
-      wide : (u : ℕ) (e : ℕ → List ℕ) → FromOld (on_shelf old) (old.leaves u) e ⊎ FromNew (on_shelf old) (IsBefore c d old new) (old.leaves u) e
-          → FromOld (on_shelf old) (old.leaves u) e ⊎ FromNew (on_shelf old) (IsTry c d.serial old new) (old.leaves u) e
-      wide u e from = ⊎_elim (λ was. inl was) (λ made. inr (new_wider (on_shelf old) (IsBefore c d old new) (IsTry c d.serial old new) (old.leaves u) e (λ s x before. before.is) made)) from
+  begins_try = begins_so (IsTry c d.serial old new) one_try
 
   pub begins_before : Begins (IsBefore c d old new) c old new
-  begins_before = record { moves = underway.moves; leaves = λ i left. record { each = λ ready u held. underway.leaves ready u (i u) held (λ b. left u b) } }
+  begins_before = begins_so (IsBefore c d old new) one_before
 
-  pub finds_try : Lawful old → Lawful new → Finds (IsTry c d.serial old new) c old new
-  finds_try before after = finds (IsTry c d.serial old new) c old new (λ s x made. omega (arith, made.above)) begins_try before after
+  -- ---- one configuration for all imports
 
-  pub finds_before : Lawful old → Lawful new → Finds (IsBefore c d old new) c old new
-  finds_before before after = finds (IsBefore c d old new) c old new (λ s x made. omega (arith, made.is.above)) begins_before before after
+  module _ (before : Lawful old) (after : Lawful new) (held : Option Config) (was : WasCommitted good held old) (ready : Ready c old) (labels : HaveLabels old) where
+    outcome_since : (i : Image) → new.left_since old.moment i → Outcome (IsTry c d.serial old new) held old i
+    outcome_since i left =
+        let some = base_of c old new before underway.moves.tells (λ none. after.never none old.moment i left) in
+        elim (underway.moves.since old.moment i (omega arith) left) [
+          | inl is ↦
+              let each : Each old.leaves i = before.within i (before.only_now i is) in
+              outcome good c d old new underway held was ready labels some.0 some.1 i (λ u b. inl (each u b)) (record {
+                each = λ first u mine. inl (as_before (on_shelf old) (old.leaves u) (i u) (λ b. each u b));
+                led = λ first u mine out. inl (as_before (on_shelf old) (old.leaves u) (i u) (λ b. each u b));
+              })
+          | inr now ↦ outcome good c d old new underway held was ready labels some.0 some.1 i now.0 now.1
+        ]
+
+    outcome_now : (i : Image) → Each new.leaves i → Outcome (IsTry c d.serial old new) held old i
+    outcome_now i left =
+        let some = base_of c old new before underway.moves.tells (λ none. after.none none 0 0 (i 0 0) (left 0 0)) in
+        outcome good c d old new underway held was ready labels some.0 some.1 i (λ u b. underway.moves.leaves u b (i u b) (left u b)) (underway.now i left)
+
+  pub finds_try : Lawful old → Lawful new → Finds good (IsTry c d.serial old new) c old new
+  finds_try before after =
+      let late : (s : ℕ) (x : Config) → IsTry c d.serial old new s x → c.serial + 1 ≤ s = λ s x made. omega (arith, made.above) in
+      record {
+        since = λ ready. record { later = underway.moves.later; each = since (IsTry c d.serial old new) c old new late begins_try before after ready };
+        now = λ ready. now (IsTry c d.serial old new) c old new late begins_try before after ready;
+        outcome_since = λ held was ready labels. record { later = underway.moves.later; each = outcome_since before after held was ready labels };
+        outcome_now = λ held was ready labels. outcome_now before after held was ready labels;
+      }
+
+  found_before : Lawful old → Lawful new → Ready c old → (i : Image) → Each new.leaves i → MayFind (IsBefore c d old new) old i
+  found_before before after ready i left = now (IsBefore c d old new) c old new (λ s x made. omega (arith, made.is.above)) begins_before before after ready i left
 
   -- ---- behind it
 
-  module _ (good : ℕ) (count : length d.disks ≡ old.units) (before : Lawful old) (after : Lawful new) (left : HasGood d.disks good) (stands : Stands c d old new) where
+  module _ (count : length d.disks ≡ old.units) (before : Lawful old) (after : Lawful new) (left : HasGood d.disks good) (stands : Stands c d old new) where
     block_kept : (u : ℕ) (v : List ℕ) → new.leaves u 0 v → old.leaves u 0 v
     block_kept u v is = ⊎_elim (λ was. was) (λ (mine : AreasOf (Held c old) u 0). absurd (omega (arith, mine.first))) (underway.moves.leaves u 0 v is)
 
@@ -115,7 +156,7 @@ module _ (c d : Config) (old new : Meaning) (underway : Underway c d old new) wh
         let below : left.disk < old.units = omega (arith, left.below, count) in
         commit_gives failed_in (on_shelf old) d.serial d old.units i readable (λ u lt. labels.each u (i u 0) lt (block_kept u (i u 0) (is u 0))) (stands.each ready i is)
         held (IsBefore c d old new) old.leaves left.disk below left.held (was.members left.disk below left.member) was.committed still_good
-        (((finds_before before after).now ready i is).each readable)
+        ((found_before before after ready i is).each readable)
 
     pub newest : (held : Option Config) → WasCommitted good held old → Ready c old → HaveLabels old → WasCommitted (good_set d.disks) (Some d) new
     newest held was ready labels = record {

@@ -1,18 +1,23 @@
 -- Tries one after the other.
-use Rattle.std.proofs.Common.{◌≡◌, ◌⊎◌, inl, inr, ⊎_elim, ℕ, ◌<◌, ◌≤◌, true, Option, List, length, sym, subst, ◌∙◌, arith}
+use Rattle.std.proofs.Common.{◌≡◌, ◌⊎◌, inl, inr, ⊎_elim, ℕ, ◌<◌, ◌≤◌, Bool, true, false, Option, Some, List, length, refl, sym, subst, ◌∙◌, arith}
+use Rattle.std.specs.Prelude.{nat_lt, if◌then◌else◌}
+use Rattle.std.proofs.lemmas.Bool.{cases_lt, le-ltb, lt-ltb}
+use Rattle.vx_disk.specs.Blocks.{bit_at}
 use Rattle.vx_disk.specs.Counts.{Rose}
-use Rattle.vx_disk.specs.Shelf.{Meaning}
+use Rattle.vx_disk.specs.Moves.{Beside}
+use Rattle.vx_disk.specs.Shelf.{Each, Image, Lawful, Meaning}
 use Rattle.vx_disk.proofs.Causing.{Rose_after, Rose_before}
 use Rattle.vx_disk.proofs.Moving.{goes_on, still, wider}
-use Rattle.vx_copyfmt.specs.Copies.{Disk}
+use Rattle.vx_copyfmt.specs.Copies.{Disk, Holds, copy_of}
 use Rattle.vx_copyfmt.specs.Commits.{Among, FromNew, FromOld, Slots, Written}
+use Rattle.vx_copyfmt.specs.Labels.{seen_in}
 use Rattle.vx_copyio.specs.Labelling.{AreLarge}
 use Rattle.vx_copyio.specs.Putting.{AreasOf}
 use Rattle.vx_config.specs.Table.{greatest}
 use Rattle.vx_config.specs.declared.config.Config.{Config}
 use Rattle.vx_config.specs.declared.entry.DiskEntry.{DiskEntry}
 use Rattle.vx_copies.specs.Bodies.{failed_in}
-use Rattle.vx_copies.specs.Commits.{Grown, Held, IsBefore, IsBlamed, MoreFailed, OldOrBegun, Ready, Stands, StayReady, Underway, lowest_member}
+use Rattle.vx_copies.specs.Commits.{Behind, Grown, Held, IsBefore, IsBlamed, IsOne, MoreFailed, Ready, Stage, Stands, StayReady, Underway, lowest_member}
 use Rattle.vx_copies.specs.Looking.{on_shelf}
 use Rattle.vx_copies.specs.Marks.{NoneGood, failed_at}
 use Rattle.vx_copies.proofs.MarkedDisks.{serial_grown}
@@ -20,12 +25,19 @@ use Rattle.vx_copies.proofs.OneTry.{as_before, held_or, kept_good, new_wider, no
 
 -- ---- none yet
 
-pub none_yet : (c : Config) (m : Meaning) → Underway c c m m
-none_yet c m = record {
+pub none_yet : (good : ℕ) (c : Config) (m : Meaning) → Underway good c c m m
+none_yet good c m = record {
   serial = omega arith;
   grown = serial_grown c c.serial m m;
-  moves = still (AreasOf (Held c m)) (OldOrBegun (IsBefore c c m m) c m) m;
+  tries = λ s. c;
+  tried = λ s above within. absurd (omega (arith, above, within));
+  chain = λ s t above le within u failed. failed;
+  moves = still (AreasOf (Held c m)) (Stage good c c.serial (λ s. c) m) m;
   leaves = λ ready u e held among. inl (as_before (on_shelf m) (m.leaves u) e among);
+  now = λ i left. record {
+    each = λ ready u held. inl (as_before (on_shelf m) (m.leaves u) (i u) (λ b. left u b));
+    led = λ ready u held out. inl (as_before (on_shelf m) (m.leaves u) (i u) (λ b. left u b));
+  };
 }
 
 -- ---- more disks that are held as failed
@@ -106,10 +118,14 @@ module _ {C : Type 0} (reads : List ℕ → Option C) (P Q R : ℕ → C → Typ
 
 -- ---- two parts of the tries
 
-module _ (a c d : Config) (old mid new : Meaning) (one : Underway a c old mid) (ready : StayReady a c old mid) (two : Underway c d mid new) where
-  reads : List ℕ → Option Config
-  reads = on_shelf old
+bit_or : (good u : ℕ) → (bit_at good u ≡ true) ⊎ (bit_at good u ≡ false)
+bit_or good u = by_test (bit_at good u)
+  where
+    by_test : (b : Bool) → (b ≡ true) ⊎ (b ≡ false)
+    by_test true = inl refl
+    by_test false = inr refl
 
+module _ (good : ℕ) (a c d : Config) (old mid new : Meaning) (one : Underway good a c old mid) (ready : StayReady a c old mid) (two : Underway good c d mid new) where
   same : on_shelf old ≡ on_shelf mid
   same = shelf_same old mid one.moves.units one.moves.size
 
@@ -125,42 +141,233 @@ module _ (a c d : Config) (old mid new : Meaning) (one : Underway a c old mid) (
   before_two : (s : ℕ) (x : Config) → IsBefore c d mid new s x → IsBefore a d old new s x
   before_two = before_first old mid new one.moves.faults two.moves.faults a c d one.serial one.grown
 
-  -- a disk on which the second part wrote
-  of_two : Ready a old → (u : ℕ) (e : Disk) → Held a old u → FromOld (on_shelf mid) (mid.leaves u) e ⊎ FromNew (on_shelf mid) (IsBefore c d mid new) (mid.leaves u) e
-      → FromOld (on_shelf old) (old.leaves u) e ⊎ FromNew (on_shelf old) (IsBefore a d old new) (old.leaves u) e
+  -- ---- the table of both
+
+  abbrev tries : ℕ → Config
+  tries s = if nat_lt c.serial s then two.tries s else one.tries s
+
+  low : (s : ℕ) → s ≤ c.serial → tries s ≡ one.tries s
+  low s le = rw (le-ltb c.serial s le) refl
+
+  high : (s : ℕ) → c.serial < s → tries s ≡ two.tries s
+  high s lt = rw (lt-ltb c.serial s lt) refl
+
+  both_tried : (s : ℕ) → a.serial < s → s ≤ d.serial → IsBefore a d old new s (tries s)
+  both_tried s above within = elim (cases_lt c.serial s) [
+    | inl later ↦ subst (IsBefore a d old new s) (sym (high s later)) (before_two s (two.tries s) (two.tried s later within))
+    | inr le ↦ subst (IsBefore a d old new s) (sym (low s le)) (before_one s (one.tries s) (one.tried s above le))
+  ]
+
+  both_chain : (s t : ℕ) → a.serial < s → s ≤ t → t ≤ d.serial → (u : ℕ) → failed_at (tries s).disks u ≡ true → failed_at (tries t).disks u ≡ true
+  both_chain s t above le within u failed = elim (cases_lt c.serial s) [
+    | inl later ↦
+        let more : c.serial < t = omega (arith, later, le) in
+        let was : failed_at (two.tries s).disks u ≡ true = subst (λ (x : Config). failed_at x.disks u ≡ true) (high s later) failed in
+        subst (λ (x : Config). failed_at x.disks u ≡ true) (sym (high t more)) (two.chain s t later le within u was)
+    | inr early ↦
+        let was : failed_at (one.tries s).disks u ≡ true = subst (λ (x : Config). failed_at x.disks u ≡ true) (low s early) failed in
+        elim (cases_lt c.serial t) [
+          | inl more ↦
+              let between : failed_at c.disks u ≡ true = (one.tried s above early).fewer u was in
+              subst (λ (x : Config). failed_at x.disks u ≡ true) (sym (high t more)) ((two.tried t more within).is.grown.disks.stays u between)
+          | inr less ↦ subst (λ (x : Config). failed_at x.disks u ≡ true) (sym (low t less)) (one.chain s t above le less u was)
+        ]
+  ]
+
+  one_wide : (u s : ℕ) (x : Config) → IsOne a c.serial one.tries u s x → IsOne a d.serial tries u s x
+  one_wide u s x is = record { above = is.above; within = omega (arith, is.within, two.serial); is = is.is ∙ sym (low s is.within); holds = is.holds }
+
+  two_wide : (u s : ℕ) (x : Config) → IsOne c d.serial two.tries u s x → IsOne a d.serial tries u s x
+  two_wide u s x is = record { above = omega (arith, is.above, one.serial); within = is.within; is = is.is ∙ sym (high s is.above); holds = is.holds }
+
+  -- ---- one disk
+
+  -- what the second part wrote
+  second_new : (u : ℕ) (e : Disk) (from : FromNew (on_shelf mid) (IsOne c d.serial two.tries u) (mid.leaves u) e) → (f : FromNew (on_shelf old) (IsOne a d.serial tries u) (old.leaves u) e) × (f.serial ≡ from.serial)
+  second_new u e from = (
+    record {
+      serial = from.serial;
+      config = from.config;
+      area = from.area;
+      made = two_wide u from.serial from.config from.made;
+      first = from.first;
+      there = labels u from.first from.there;
+      label = from.label;
+      copy = subst (λ (r : List ℕ → Option Config). copy_of r e ≡ Some (record { serial = from.serial; area = from.area; body = Holds from.config })) (sym same) from.copy;
+    },
+    refl,
+  )
+
+  -- a disk on which the second part may have written
+  of_two : Ready a old → (u : ℕ) (e : Disk) → Held a old u → FromOld (on_shelf mid) (mid.leaves u) e ⊎ FromNew (on_shelf mid) (IsOne c d.serial two.tries u) (mid.leaves u) e
+      → FromOld (on_shelf old) (old.leaves u) e ⊎ FromNew (on_shelf old) (IsOne a d.serial tries u) (old.leaves u) e
   of_two first u e held from =
-      from_both (on_shelf old) (IsBefore a c old mid) (IsBefore c d mid new) (IsBefore a d old new) (old.leaves u) (mid.leaves u) (labels u) (λ f among. one.leaves first u f held among) before_one before_two e
-      (subst (λ (r : List ℕ → Option Config). FromOld r (mid.leaves u) e ⊎ FromNew r (IsBefore c d mid new) (mid.leaves u) e) (sym same) from)
+      from_both (on_shelf old) (IsOne a c.serial one.tries u) (IsOne c d.serial two.tries u) (IsOne a d.serial tries u) (old.leaves u) (mid.leaves u) (labels u) (λ f among. one.leaves first u f held among) (one_wide u) (two_wide u) e
+      (subst (λ (r : List ℕ → Option Config). FromOld r (mid.leaves u) e ⊎ FromNew r (IsOne c d.serial two.tries u) (mid.leaves u) e) (sym same) from)
 
   -- one on which it did not
-  of_one : Ready a old → (u : ℕ) (e : Disk) → Held a old u → Among (mid.leaves u) e → FromOld (on_shelf old) (old.leaves u) e ⊎ FromNew (on_shelf old) (IsBefore a d old new) (old.leaves u) e
+  of_one : Ready a old → (u : ℕ) (e : Disk) → Held a old u → Among (mid.leaves u) e → FromOld (on_shelf old) (old.leaves u) e ⊎ FromNew (on_shelf old) (IsOne a d.serial tries u) (old.leaves u) e
   of_one first u e held among =
-      ⊎_elim (λ from. inl from) (λ from. inr (new_wider (on_shelf old) (IsBefore a c old mid) (IsBefore a d old new) (old.leaves u) e before_one from)) (one.leaves first u e held among)
+      ⊎_elim (λ from. inl from) (λ from. inr (new_wider (on_shelf old) (IsOne a c.serial one.tries u) (IsOne a d.serial tries u) (old.leaves u) e (one_wide u) from)) (one.leaves first u e held among)
 
-  left_alone : (u b : ℕ) (v : List ℕ) → failed_at c.disks u ≡ true → mid.leaves u b v ⊎ AreasOf (Held c mid) u b → mid.leaves u b v
-  left_alone u b v failed (inl was) = was
-  left_alone u b v failed (inr mine) = absurd (not_both (failed_at c.disks u) mine.on.good failed)
+  left_alone : (u b : ℕ) (v : List ℕ) → (Held c mid u → ⊥) → mid.leaves u b v ⊎ AreasOf (Held c mid) u b → mid.leaves u b v
+  left_alone u b v out (inl was) = was
+  left_alone u b v out (inr mine) = absurd (out mine.on)
 
-  pub both_underway : Underway a d old new
-  both_underway = record {
-    serial = omega (arith, one.serial, two.serial);
-    grown = grown_both old mid new one.moves.faults two.moves.faults a c d one.grown two.grown;
-    moves = goes_on (AreasOf (Held a old)) (AreasOf (Held c mid)) (OldOrBegun (IsBefore a d old new) a old) (OldOrBegun (IsBefore c d mid new) c mid) old mid new
-        (wider (AreasOf (Held a old)) (AreasOf (Held a old)) (OldOrBegun (IsBefore a c old mid) a old) (OldOrBegun (IsBefore a d old new) a old) old mid one.moves (λ u b mine. mine) (λ i beside seen. record {
-          each = λ first u held.
-              ⊎_elim (λ from. inl from) (λ from. inr (new_wider (on_shelf old) (IsBefore a c old mid) (IsBefore a d old new) (old.leaves u) (i u) before_one from)) (seen.each first u held);
-        }))
-        two.moves (λ u b mine. record { on = held_first u mine.on; first = mine.first; last = mine.last }) (λ i beside seen. record {
-          each = λ first u held. elim (held_or c.disks u) [
-            | inl good ↦ of_two first u (i u) held (seen.each (ready.ready first) u (record { below = omega (arith, held.below, one.moves.units); good = good }))
-            | inr failed ↦ of_one first u (i u) held (λ b. left_alone u b (i u b) failed (beside u b))
-          ];
-        });
-    leaves = λ first u e held among. elim (held_or c.disks u) [
-      | inl good ↦ of_two first u e held (two.leaves (ready.ready first) u e (record { below = omega (arith, held.below, one.moves.units); good = good }) among)
-      | inr failed ↦ of_one first u e held (λ b. left_alone u b (e b) failed (two.moves.leaves u b (e b) (among b)))
-    ];
-  }
+  not_held : (u : ℕ) → failed_at c.disks u ≡ true → Held c mid u → ⊥
+  not_held u failed held = not_both (failed_at c.disks u) held.good failed
+
+  -- ---- an image in the second part, and one from before it
+
+  module _ (first : Ready a old) (i : Image) (beside : Beside (AreasOf (Held c mid)) mid.leaves i) (seen : Stage good c d.serial two.tries mid i) (base : Image) (has : Each mid.leaves base) where
+    -- the disk has the label and copy of one from before the second part, or one of its copies
+    abbrev Under : ℕ → Disk → Type 0
+    Under v e =
+        ((seen_in (i v 0) ≡ seen_in (e 0)) × (copy_of (on_shelf mid) (i v) ≡ copy_of (on_shelf mid) e))
+        ⊎ (FromNew (on_shelf mid) (IsOne c d.serial two.tries v) (mid.leaves v) (i v) × (bit_at good v ≡ false → Behind good c d.serial two.tries mid i v))
+
+    abbrev Below : ℕ → Type 0
+    Below v = (e : Disk) × Among (mid.leaves v) e × Under v e
+
+    of_each : (v : ℕ) → bit_at good v ≡ true → FromOld (on_shelf mid) (mid.leaves v) (i v) ⊎ FromNew (on_shelf mid) (IsOne c d.serial two.tries v) (mid.leaves v) (i v) → Below v
+    of_each v member (inl from) = (from.disk, from.among, inl (from.label, from.copy))
+    of_each v member (inr from) = (base v, (λ b. has v b), inr (from, λ out. absurd (not_both (bit_at good v) out member)))
+
+    of_led : (v : ℕ) → FromOld (on_shelf mid) (mid.leaves v) (i v) ⊎ Behind good c d.serial two.tries mid i v → Below v
+    of_led v (inl from) = (from.disk, from.among, inl (from.label, from.copy))
+    of_led v (inr behind) = (base v, (λ b. has v b), inr (behind.from, λ out. behind))
+
+    of_itself : (v : ℕ) → (Held c mid v → ⊥) → Below v
+    of_itself v out = (i v, (λ b. left_alone v b (i v b) out (beside v b)), inl (refl, refl))
+
+    below : (v : ℕ) → Below v
+    below v = elim (cases_lt v mid.units) [
+      | inr above ↦ of_itself v (λ held. omega (arith, above, held.below))
+      | inl lt ↦ elim (held_or c.disks v) [
+        | inr failed ↦ of_itself v (not_held v failed)
+        | inl held ↦ elim (bit_or good v) [
+          | inl member ↦ of_each v member (seen.each (ready.ready first) v (record { below = lt; good = held }))
+          | inr out ↦ of_led v (seen.led (ready.ready first) v (record { below = lt; good = held }) out)
+        ]
+      ]
+    ]
+
+    under : Image
+    under v = (below v).0
+
+    before : Stage good a c.serial one.tries old under
+    unfolding under below
+    before = one.now under (λ v b. (below v).1 b)
+
+    -- a copy that was begun in the first part stands, or a later one
+    carried : (v : ℕ) (n : FromNew (on_shelf old) (IsOne a c.serial one.tries v) (old.leaves v) (under v)) → Under v (under v)
+        → (f : FromNew (on_shelf old) (IsOne a d.serial tries v) (old.leaves v) (i v)) × (n.serial ≤ f.serial)
+    carried v n (inl alike) = (
+      record {
+        serial = n.serial;
+        config = n.config;
+        area = n.area;
+        made = one_wide v n.serial n.config n.made;
+        first = n.first;
+        there = n.there;
+        label = alike.0 ∙ n.label;
+        copy = subst (λ (r : List ℕ → Option Config). copy_of r (i v) ≡ copy_of r (under v)) (sym same) alike.1 ∙ n.copy;
+      },
+      omega arith,
+    )
+    carried v n (inr later) =
+        let f = second_new v (i v) later.0 in
+        (f.0, omega (arith, n.made.within, later.0.made.above, f.1))
+
+    led_one : (u : ℕ) → Under u (under u) → FromOld (on_shelf old) (old.leaves u) (under u) ⊎ Behind good a c.serial one.tries old under u → bit_at good u ≡ false
+        → FromOld (on_shelf old) (old.leaves u) (i u) ⊎ Behind good a d.serial tries old i u
+    unfolding under below
+    led_one u (inl alike) (inl from) out = inl (record {
+      disk = from.disk;
+      among = from.among;
+      label = alike.0 ∙ from.label;
+      copy = subst (λ (r : List ℕ → Option Config). copy_of r (i u) ≡ copy_of r (under u)) (sym same) alike.1 ∙ from.copy;
+    })
+    led_one u (inl alike) (inr behind) out =
+        let lead = carried behind.leader behind.front (below behind.leader).2 in
+        inr (record {
+          from = record {
+            serial = behind.from.serial;
+            config = behind.from.config;
+            area = behind.from.area;
+            made = one_wide u behind.from.serial behind.from.config behind.from.made;
+            first = behind.from.first;
+            there = behind.from.there;
+            label = alike.0 ∙ behind.from.label;
+            copy = subst (λ (r : List ℕ → Option Config). copy_of r (i u) ≡ copy_of r (under u)) (sym same) alike.1 ∙ behind.from.copy;
+          };
+          leader = behind.leader;
+          held = behind.held;
+          member = behind.member;
+          front = lead.0;
+          ahead = omega (arith, behind.ahead, lead.1);
+        })
+    led_one u (inr later) was out =
+        let behind = later.1 out in
+        let own = second_new u (i u) behind.from in
+        let lead = second_new behind.leader (i behind.leader) behind.front in
+        inr (record { from = own.0; leader = behind.leader; held = held_first behind.leader behind.held; member = behind.member; front = lead.0; ahead = omega (arith, behind.ahead, own.1, lead.1) })
+
+    each_both : (u : ℕ) → Held a old u → FromOld (on_shelf old) (old.leaves u) (i u) ⊎ FromNew (on_shelf old) (IsOne a d.serial tries u) (old.leaves u) (i u)
+    each_both u held = elim (held_or c.disks u) [
+      | inl stays ↦ of_two first u (i u) held (seen.each (ready.ready first) u (record { below = omega (arith, held.below, one.moves.units); good = stays }))
+      | inr failed ↦ of_one first u (i u) held (λ b. left_alone u b (i u b) (not_held u failed) (beside u b))
+    ]
+
+    led_both : (u : ℕ) → Held a old u → bit_at good u ≡ false → FromOld (on_shelf old) (old.leaves u) (i u) ⊎ Behind good a d.serial tries old i u
+    unfolding under below
+    led_both u held out = led_one u (below u).2 (before.led first u held out) out
+
+  module _ (lawful : Lawful mid) where
+    some_base : (i : Image) → Beside (AreasOf (Held c mid)) mid.leaves i → (base : Image) × Each mid.leaves base
+    some_base i beside = by_tells mid.tells refl
+      where
+        far : mid.leaves mid.units 0 (i mid.units 0)
+        far = left_alone mid.units 0 (i mid.units 0) (λ held. omega (arith, held.below)) (beside mid.units 0)
+
+        by_tells : (b : Bool) → mid.tells ≡ b → (base : Image) × Each mid.leaves base
+        by_tells true tells = let some = lawful.image tells in (some.0, lawful.within some.0 some.1)
+        by_tells false tells = absurd (lawful.none tells mid.units 0 (i mid.units 0) far)
+
+    stage_both : (i : Image) → Beside (AreasOf (Held c mid)) mid.leaves i → Stage good c d.serial two.tries mid i → Stage good a d.serial tries old i
+    stage_both i beside seen =
+        let some = some_base i beside in
+        record { each = λ first u held. each_both first i beside seen some.0 some.1 u held; led = λ first u held out. led_both first i beside seen some.0 some.1 u held out }
+
+    one_stage : (i : Image) → Stage good a c.serial one.tries old i → Stage good a d.serial tries old i
+    one_stage i seen = record {
+      each = λ first u held. ⊎_elim (λ from. inl from) (λ from. inr (new_wider (on_shelf old) (IsOne a c.serial one.tries u) (IsOne a d.serial tries u) (old.leaves u) (i u) (one_wide u) from)) (seen.each first u held);
+      led = λ first u held out. ⊎_elim (λ from. inl from) (λ behind. inr (record {
+        from = new_wider (on_shelf old) (IsOne a c.serial one.tries u) (IsOne a d.serial tries u) (old.leaves u) (i u) (one_wide u) behind.from;
+        leader = behind.leader;
+        held = behind.held;
+        member = behind.member;
+        front = new_wider (on_shelf old) (IsOne a c.serial one.tries behind.leader) (IsOne a d.serial tries behind.leader) (old.leaves behind.leader) (i behind.leader) (one_wide behind.leader) behind.front;
+        ahead = behind.ahead;
+      })) (seen.led first u held out);
+    }
+
+    pub both_underway : Underway good a d old new
+    both_underway = record {
+      serial = omega (arith, one.serial, two.serial);
+      grown = grown_both old mid new one.moves.faults two.moves.faults a c d one.grown two.grown;
+      tries = tries;
+      tried = both_tried;
+      chain = both_chain;
+      moves = goes_on (AreasOf (Held a old)) (AreasOf (Held c mid)) (Stage good a d.serial tries old) (Stage good c d.serial two.tries mid) old mid new
+          (wider (AreasOf (Held a old)) (AreasOf (Held a old)) (Stage good a c.serial one.tries old) (Stage good a d.serial tries old) old mid one.moves (λ u b mine. mine) (λ i beside seen. one_stage i seen))
+          two.moves (λ u b mine. record { on = held_first u mine.on; first = mine.first; last = mine.last }) stage_both;
+      leaves = λ first u e held among. elim (held_or c.disks u) [
+        | inl stays ↦ of_two first u e held (two.leaves (ready.ready first) u e (record { below = omega (arith, held.below, one.moves.units); good = stays }) among)
+        | inr failed ↦ of_one first u e held (λ b. left_alone u b (e b) (not_held u failed) (two.moves.leaves u b (e b) (among b)))
+      ];
+      now = λ i left. stage_both i (λ u b. two.moves.leaves u b (i u b) (left u b)) (two.now i left);
+    }
 
   pub both_stand : Stands c d mid new → Stands a d old new
   both_stand stands = record {

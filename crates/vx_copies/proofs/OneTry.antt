@@ -1,25 +1,26 @@
 -- What one try of a commit makes of the disks.
 use Rattle.std.proofs.Common.{◌≡◌, ◌⊎◌, inl, inr, ⊎_elim, ℕ, ◌+◌, ◌<◌, ◌≤◌, Bool, true, false, Option, Some, None, List, length, refl, ap, sym, subst, ◌∙◌, arith}
-use Rattle.std.specs.Prelude.{not, nat_eq, nat_lt, bytes_eq, if◌then◌else◌}
+use Rattle.std.specs.Prelude.{◌&&◌, not, nat_eq, nat_lt, bytes_eq, if◌then◌else◌}
 use Rattle.std.proofs.lemmas.Bool.{eqb-true, and_parts}
 use Rattle.vx_disk.specs.Blocks.{bit_at}
+use Rattle.vx_disk.specs.Moves.{Beside, Moves}
 use Rattle.vx_disk.specs.Shelf.{Each, Image, Meaning}
-use Rattle.vx_disk.proofs.Moving.{wider}
 use Rattle.vx_wire.specs.Seals.{digest_of}
 use Rattle.vx_copyfmt.specs.Areas.{header_of}
 use Rattle.vx_copyfmt.specs.declared.area.AreaHeader.{AreaHeader}
 use Rattle.vx_copyfmt.specs.Copies.{Copy, Disk, Holds, body_of, copy_at, copy_of, copy_under, greater, judged}
 use Rattle.vx_copyfmt.specs.Commits.{Among, FromNew, FromOld, Older, Slots, Tidy}
-use Rattle.vx_copyio.specs.Putting.{AreasOf, IsMember}
+use Rattle.vx_copyio.specs.Putting.{AreasOf, IsMember, part_of}
 use Rattle.vx_config.specs.Checks.{is_sound, runs}
 use Rattle.vx_config.specs.declared.config.Config.{Config}
 use Rattle.vx_config.specs.declared.entry.DiskEntry.{DiskEntry}
 use Rattle.vx_copies.specs.Answers.{good_set}
 use Rattle.vx_copies.specs.Bodies.{fits_units, have_blocks, is_wanted}
-use Rattle.vx_copies.specs.Commits.{Grown, Held, IsBefore, OldOrBegun, Ready, Stands, StayReady, Underway}
+use Rattle.vx_copies.specs.Commits.{Behind, Grown, Held, IsBefore, IsOne, Ready, Stage, Stands, StayReady, Underway}
 use Rattle.vx_copies.specs.Looking.{on_shelf}
-use Rattle.vx_copies.specs.Marks.{failed_at}
-use Rattle.vx_copies.specs.Tries.{AllThis, IsThis, OldOrThese, OldOrThis, StaysReady, Tried}
+use Rattle.vx_copies.specs.Marks.{HasGood, failed_at}
+use Rattle.vx_copies.specs.Orders.{InOrderThis, OrderedThis}
+use Rattle.vx_copies.specs.Tries.{AllThis, IsThis, OldOrThis, StaysReady, Tried}
 use Rattle.vx_copies.proofs.Bodies.{reads-same}
 use Rattle.vx_copies.proofs.Goods.{good_bit}
 
@@ -78,6 +79,15 @@ module _ (c : Config) (m : Meaning) (count : length c.disks ≡ m.units) where
   pub held_member : (u : ℕ) → Held c m u → IsMember (bit_at (good_set c.disks)) m.units u
   held_member u held = record { below = held.below; is = good_bit c.disks u (omega (arith, count, held.below)) ∙ ap not held.good }
 
+-- the parts of a set
+first_bit : (a b : Bool) → a ≡ true → b ≡ true → (a && b) ≡ true
+first_bit true b one two = two
+first_bit false b one two = one
+
+second_bit : (a b : Bool) → a ≡ true → b ≡ false → (a && not b) ≡ true
+second_bit true b one two = ap not two
+second_bit false b one two = one
+
 -- ---- serials of copies
 
 module _ {C : Type 0} (reads : List ℕ → Option C) where
@@ -118,7 +128,7 @@ module _ {C : Type 0} (reads : List ℕ → Option C) where
 
   -- ---- where a copy comes from
 
-  pub new_wider : (P Q : ℕ → C → Type 0) (slots : Slots) (d : Disk) → ((s : ℕ) (c : C) → P s c → Q s c) → FromNew reads P slots d → FromNew reads Q slots d
+  abbrev pub new_wider : (P Q : ℕ → C → Type 0) (slots : Slots) (d : Disk) → ((s : ℕ) (c : C) → P s c → Q s c) → FromNew reads P slots d → FromNew reads Q slots d
   new_wider P Q slots d more from = record {
     serial = from.serial;
     config = from.config;
@@ -162,22 +172,98 @@ module _ (c t d : Config) (old new : Meaning) (next : t.serial ≡ c.serial + 1)
     fewer = λ u failed. grown.disks.stays u (subst (λ (ds : List DiskEntry). failed_at ds u ≡ true) as_c failed);
   }
 
-  these_before : (s : ℕ) (x : Config) → IsThis t s x → IsBefore c d old new s x
-  these_before s x this =
-      subst (λ (n : ℕ). IsBefore c d old new n x) (sym this.serial_is) (subst (λ (k : Config). IsBefore c d old new t.serial k) (sym this.config_is) this_before)
+  abbrev tries : ℕ → Config
+  tries s = t
 
-  of_this : (u : ℕ) (e : Disk) → OldOrThis t u old e → Ready c old → Held c old u → FromOld reads (old.leaves u) e ⊎ FromNew reads (IsBefore c d old new) (old.leaves u) e
-  of_this u e one ready held = ⊎_elim (λ from. inl from) (λ from. inr (new_wider reads (IsThis t) (IsBefore c d old new) (old.leaves u) e these_before from)) (one.each (tidy_next ready u held))
-
-  pub try_underway : Underway c d old new
-  try_underway = record {
-    serial = omega (arith, after);
-    grown = grown;
-    moves = wider (AreasOf Mine) (AreasOf (Held c old)) (OldOrThese Mine t old) (OldOrBegun (IsBefore c d old new) c old) old new tried.moves
-        (λ u b mine. record { on = mine_held u mine.on; first = mine.first; last = mine.last })
-        (λ i beside seen. record { each = λ ready u held. of_this u (i u) (seen.each u (held_mine u held)) ready held });
-    leaves = λ ready u e held among. of_this u e (tried.leaves u e (held_mine u held) among) ready held;
+  these_one : (u : ℕ) → Held c old u → (s : ℕ) (x : Config) → IsThis t s x → IsOne c d.serial tries u s x
+  these_one u held s x this = record {
+    above = omega (arith, this.serial_is, next);
+    within = omega (arith, this.serial_is, next, after);
+    is = this.config_is;
+    holds = subst (λ (k : Config). failed_at k.disks u ≡ false) (sym this.config_is) (subst (λ (ds : List DiskEntry). failed_at ds u ≡ false) (sym as_c) held.good);
   }
+
+  of_this : (u : ℕ) (e : Disk) → OldOrThis t u old e → Ready c old → Held c old u → FromOld reads (old.leaves u) e ⊎ FromNew reads (IsOne c d.serial tries u) (old.leaves u) e
+  of_this u e one ready held = ⊎_elim (λ from. inl from) (λ from. inr (new_wider reads (IsThis t) (IsOne c d.serial tries u) (old.leaves u) e (these_one u held) from)) (one.each (tidy_next ready u held))
+
+  module _ (good : ℕ) (some : HasGood c.disks good) (order : OrderedThis (IsMember (part_of (good_set t.disks) good true) old.units) (IsMember (part_of (good_set t.disks) good false) old.units) t old new) where
+    abbrev First : ℕ → Type 0
+    First = IsMember (part_of (good_set t.disks) good true) old.units
+
+    abbrev Second : ℕ → Type 0
+    Second = IsMember (part_of (good_set t.disks) good false) old.units
+
+    second_of : (u : ℕ) → Held c old u → bit_at good u ≡ false → Second u
+    second_of u held out = let mine = held_mine u held in record { below = mine.below; is = second_bit (bit_at (good_set t.disks) u) (bit_at good u) mine.is out }
+
+    leads : Held c old some.disk
+    leads = record { below = omega (arith, some.below, count, ap (λ (ds : List DiskEntry). length ds) as_c); good = some.held }
+
+    first_of : First some.disk
+    first_of = let mine = held_mine some.disk leads in record { below = mine.below; is = first_bit (bit_at (good_set t.disks) some.disk) (bit_at good some.disk) mine.is some.member }
+
+    led_by : (i : Image) (u : ℕ) → Ready c old → FromNew reads (IsThis t) (old.leaves some.disk) (i some.disk) → FromOld reads (old.leaves u) (i u) ⊎ FromNew reads (IsOne c d.serial tries u) (old.leaves u) (i u)
+        → FromOld reads (old.leaves u) (i u) ⊎ Behind good c d.serial tries old i u
+    led_by i u ready lead (inl from) = inl from
+    led_by i u ready lead (inr from) =
+        let front : FromNew reads (IsOne c d.serial tries some.disk) (old.leaves some.disk) (i some.disk) =
+        new_wider reads (IsThis t) (IsOne c d.serial tries some.disk) (old.leaves some.disk) (i some.disk) (these_one some.disk leads) lead in
+        inr (record { from = from; leader = some.disk; held = leads; member = some.member; front = front; ahead = omega (arith, from.made.within, front.made.above, next, after) })
+
+    stage : (i : Image) → ((u : ℕ) → Mine u → OldOrThis t u old (i u)) → InOrderThis First Second t old i → Stage good c d.serial tries old i
+    stage i seen ordered = record {
+      each = λ ready u held. of_this u (i u) (seen u (held_mine u held)) ready held;
+      led = λ ready u held out. elim ordered [
+        | inl was ↦ inl (as_before reads (old.leaves u) (i u) (was u (second_of u held out)))
+        | inr new ↦ led_by i u ready (new some.disk first_of (tidy_next ready some.disk leads)) (of_this u (i u) (seen u (held_mine u held)) ready held)
+      ];
+    }
+
+    -- a crash in the try leaves such a stage
+    try_since : (s : ℕ) (i : Image) → s ≤ old.moment → new.left_since s i → old.left_since s i ⊎ (Beside (AreasOf (Held c old)) old.leaves i × Stage good c d.serial tries old i)
+    try_since s i le left = elim (tried.moves.since s i le left) [
+      | inl was ↦ inl was
+      | inr now ↦ elim (order.along.each s i le left) [
+        | inl was ↦ inl was
+        | inr ordered ↦ inr (
+          (λ u b. ⊎_elim (λ was. inl was) (λ (mine : AreasOf Mine u b). inr (record { on = mine_held u mine.on; first = mine.first; last = mine.last })) (now.0 u b)),
+          stage i (λ u mine. now.1.each u mine) ordered,
+        )
+      ]
+    ]
+
+    try_moves : Moves (AreasOf (Held c old)) (Stage good c d.serial tries old) old new
+    try_moves = record {
+      units = tried.moves.units;
+      size = tried.moves.size;
+      tells = tried.moves.tells;
+      reads = λ u b v is. elim (tried.moves.reads u b v is) [
+        | inl was ↦ inl was
+        | inr (inl mine) ↦ inr (inl (record { on = mine_held u mine.on; first = mine.first; last = mine.last }))
+        | inr (inr down) ↦ inr (inr down)
+      ];
+      leaves = λ u b v left. ⊎_elim (λ was. inl was) (λ (mine : AreasOf Mine u b). inr (record { on = mine_held u mine.on; first = mine.first; last = mine.last })) (tried.moves.leaves u b v left);
+      later = tried.moves.later;
+      since = try_since;
+      keeps = tried.moves.keeps;
+      faults = tried.moves.faults;
+      disk_faults = tried.moves.disk_faults;
+      falls = tried.moves.falls;
+      unarmed = tried.moves.unarmed;
+      safe = tried.moves.safe;
+    }
+
+    pub try_underway : Underway good c d old new
+    try_underway = record {
+      serial = omega (arith, after);
+      grown = grown;
+      tries = tries;
+      tried = λ s above within. let same : t.serial ≡ s = omega (arith, above, within, next, after) in subst (λ (n : ℕ). IsBefore c d old new n t) same this_before;
+      chain = λ s r above le within u failed. failed;
+      moves = try_moves;
+      leaves = λ ready u e held among. of_this u e (tried.leaves u e (held_mine u held) among) ready held;
+      now = λ i left. stage i (λ u mine. tried.leaves u (i u) mine (λ b. left u b)) (order.now i left);
+    }
 
   -- the copies of a disk, whichever it is
   older_next : Ready c old → (u : ℕ) → u < old.units → Older reads (d.serial + 1) (new.leaves u)
@@ -188,7 +274,7 @@ module _ (c t d : Config) (old new : Meaning) (next : t.serial ≡ c.serial + 1)
         record { below = λ e x among is. by_from e x is (of_this u e (tried.leaves u e (held_mine u held) among) ready held) held }
   ]
     where
-      by_from : (e : Disk) (x : Copy Config) → copy_of reads e ≡ Some x → FromOld reads (old.leaves u) e ⊎ FromNew reads (IsBefore c d old new) (old.leaves u) e → Held c old u → x.serial < d.serial + 1
+      by_from : (e : Disk) (x : Copy Config) → copy_of reads e ≡ Some x → FromOld reads (old.leaves u) e ⊎ FromNew reads (IsOne c d.serial tries u) (old.leaves u) e → Held c old u → x.serial < d.serial + 1
       by_from e x is (inl from) held =
           let below : x.serial < c.serial + 1 = (tidy_older reads (c.serial + 1) (old.leaves u) (ready.tidy u held)).below from.disk x from.among (sym from.copy ∙ is) in
           omega (arith, below, after)
@@ -196,7 +282,7 @@ module _ (c t d : Config) (old new : Meaning) (next : t.serial ≡ c.serial + 1)
           let same : Some (record { serial = from.serial; area = from.area; body = Holds from.config }) ≡ Some x = sym from.copy ∙ is in
           let one : record { serial = from.serial; area = from.area; body = Holds from.config } ≡ x = cc in
           let number : from.serial ≡ x.serial = ap (λ (y : Copy Config). y.serial) one in
-          omega (arith, number, from.made.is.within)
+          omega (arith, number, from.made.within)
 
   pub try_ready : ((u : ℕ) → Held d old u → StaysReady t u old new) → StayReady c d old new
   try_ready stays = record {

@@ -1,11 +1,12 @@
 -- What a try says of configurations, by what the writing of copies says of bytes.
 use Rattle.std.proofs.Common.{◌≡◌, inl, inr, ⊎_elim, ℕ, ◌+◌, Bool, true, Option, Some, List, [], ◌++◌, take, refl, sym, subst, ◌∙◌}
 use Rattle.std.proofs.lemmas.List.{append-nil}
-use Rattle.vx_disk.specs.Shelf.{Meaning}
+use Rattle.vx_disk.specs.Shelf.{Image, Meaning}
 use Rattle.vx_disk.proofs.Moving.{wider}
 use Rattle.vx_copyfmt.specs.Copies.{Disk}
 use Rattle.vx_copyfmt.specs.Commits.{Tidy}
 use Rattle.vx_copyfmt.specs.declared.area.AreaHeader.{AreaHeader}
+use Rattle.vx_copyio.specs.Orders.{InOrder, Ordered}
 use Rattle.vx_copyio.specs.Putting.{AllNew, AreasOf, Copied, CopyStops, InImages, IsMember, OldOrNew, StaysTidy, those}
 use Rattle.vx_copyio.specs.declared.spread.CopyFailed.{CopyFailed}
 use Rattle.vx_copyio.proofs.Counting.{counts, new_read, old_read, read_counts, tidy_bytes, tidy_read}
@@ -14,6 +15,7 @@ use Rattle.vx_config.specs.declared.config.Config.{Config}
 use Rattle.vx_config.proofs.DecodeLemmas.{spelled-read}
 use Rattle.vx_copies.specs.Bodies.{is_wanted, reads_in}
 use Rattle.vx_copies.specs.Looking.{on_shelf}
+use Rattle.vx_copies.specs.Orders.{InOrderThis, OrderedThis}
 use Rattle.vx_copies.specs.Tries.{AllThis, IsThis, OldOrThese, OldOrThis, StaysReady, Tried, TryStops}
 
 -- a spelling is read as its configuration
@@ -65,4 +67,15 @@ module _ (h : AreaHeader) (body : List ℕ) (c : Config) (old : Meaning) (serial
     member = stops.member;
     cause = stops.cause;
     others = λ u mine other. of_tidy u new (stops.others u mine other);
+  }
+
+  of_order : (first second : ℕ → Type 0) (i : Image) → InOrder first second h body old i → InOrderThis first second c old i
+  of_order first second i (inl was) = inl was
+  of_order first second i (inr all) =
+      inr (λ u mine tidy. new_read reads (IsThis c) h body c (old.leaves u) (i u) is this ((all u mine).each (counts reads) (ready_bytes u tidy) counted))
+
+  pub of_ordered : (first second : ℕ → Type 0) (new : Meaning) → Ordered first second h body old new → OrderedThis first second c old new
+  of_ordered first second new ordered = record {
+    along = record { each = λ t i le left. ⊎_elim (λ was. inl was) (λ now. inr (of_order first second i now)) (ordered.along.each t i le left) };
+    now = λ i left. of_order first second i (ordered.now i left);
   }

@@ -16,8 +16,8 @@ use Rattle.vx_config.specs.Table.{greatest}
 use Rattle.vx_config.specs.declared.config.Config.{Config}
 use Rattle.vx_config.specs.declared.entry.DiskEntry.{DiskEntry}
 use Rattle.vx_copyfmt.specs.Copies.{Disk}
-use Rattle.vx_copyfmt.specs.Commits.{Among, Committed, FindsNew, FindsOld, FromNew, FromOld, IsGood, Older, Tidy, Written}
-use Rattle.vx_copyfmt.specs.Imports.{is_label}
+use Rattle.vx_copyfmt.specs.Commits.{Among, Answers, Committed, FindsNew, FindsOld, FromNew, FromOld, IsGood, Older, Tidy, Written}
+use Rattle.vx_copyfmt.specs.Imports.{import_of, is_label}
 use Rattle.vx_copyfmt.specs.Labels.{seen_in}
 use Rattle.vx_copyio.specs.Putting.{AreasOf}
 use Rattle.vx_copies.specs.Answers.{good_set}
@@ -72,12 +72,38 @@ pub record Begins (begun : ℕ → Config → Type 0) (c : Config) (old new : Me
   pub moves : Moves (AreasOf (Held c old)) (OldOrBegun begun c old) old new
   pub leaves : (i : Image) → Each new.leaves i → OldOrBegun begun c old i
 
--- tries were made, from one configuration to another
-pub record Underway (c d : Config) (old new : Meaning) : Type 0 where
+-- one of the configurations that were begun, by a table of them, that holds this disk as good
+pub record IsOne (c : Config) (last : ℕ) (tries : ℕ → Config) (u serial : ℕ) (d : Config) : Type 0 where
+  pub above : c.serial < serial
+  pub within : serial ≤ last
+  pub is : d ≡ tries serial
+  pub holds : failed_at d.disks u ≡ false
+
+-- the disk has a copy that was begun, and so has a disk of the set, of this serial or a later one
+pub record Behind (good : ℕ) (c : Config) (last : ℕ) (tries : ℕ → Config) (m : Meaning) (i : Image) (u : ℕ) : Type 0 where
+  pub from : FromNew (on_shelf m) (IsOne c last tries u) (m.leaves u) (i u)
+  pub leader : ℕ
+  pub held : Held c m leader
+  pub member : bit_at good leader ≡ true
+  pub front : FromNew (on_shelf m) (IsOne c last tries leader) (m.leaves leader) (i leader)
+  pub ahead : from.serial ≤ front.serial
+
+-- Where the disks were ready, each that was held as good has in the image its copy of before, or one that was begun; and one that is no
+-- member of the set has such a copy only behind one that is.
+pub record Stage (good : ℕ) (c : Config) (last : ℕ) (tries : ℕ → Config) (m : Meaning) (i : Image) : Type 0 where
+  pub each : Ready c m → (u : ℕ) → Held c m u → FromOld (on_shelf m) (m.leaves u) (i u) ⊎ FromNew (on_shelf m) (IsOne c last tries u) (m.leaves u) (i u)
+  pub led : Ready c m → (u : ℕ) → Held c m u → bit_at good u ≡ false → FromOld (on_shelf m) (m.leaves u) (i u) ⊎ Behind good c last tries m i u
+
+-- Tries were made, from one configuration to another: under each serial one, of which a later one has no fewer failed disks.
+pub record Underway (good : ℕ) (c d : Config) (old new : Meaning) : Type 0 where
   pub serial : c.serial ≤ d.serial
   pub grown : Grown old new c d
-  pub moves : Moves (AreasOf (Held c old)) (OldOrBegun (IsBefore c d old new) c old) old new
-  pub leaves : Ready c old → (u : ℕ) (e : Disk) → Held c old u → Among (new.leaves u) e → FromOld (on_shelf old) (old.leaves u) e ⊎ FromNew (on_shelf old) (IsBefore c d old new) (old.leaves u) e
+  pub tries : ℕ → Config
+  pub tried : (s : ℕ) → c.serial < s → s ≤ d.serial → IsBefore c d old new s (tries s)
+  pub chain : (s t : ℕ) → c.serial < s → s ≤ t → t ≤ d.serial → (u : ℕ) → failed_at (tries s).disks u ≡ true → failed_at (tries t).disks u ≡ true
+  pub moves : Moves (AreasOf (Held c old)) (Stage good c d.serial tries old) old new
+  pub leaves : Ready c old → (u : ℕ) (e : Disk) → Held c old u → Among (new.leaves u) e → FromOld (on_shelf old) (old.leaves u) e ⊎ FromNew (on_shelf old) (IsOne c d.serial tries u) (old.leaves u) e
+  pub now : (i : Image) → Each new.leaves i → Stage good c d.serial tries old i
 
 -- the disks are ready again
 pub record StayReady (c d : Config) (old new : Meaning) : Type 0 where
@@ -140,10 +166,18 @@ pub record WasCommitted (good : ℕ) (held : Option Config) (m : Meaning) : Type
 pub record MayFind (begun : ℕ → Config → Type 0) (m : Meaning) (i : Image) : Type 0 where
   pub each : (readable : ℕ → Bool) → FindsOld (on_shelf m) failed_in m.units m.leaves readable i ⊎ FindsNew (on_shelf m) failed_in begun m.units readable i
 
--- the same at each moment since the call began, and now, where the disks were ready
-pub record Finds (begun : ℕ → Config → Type 0) (c : Config) (old new : Meaning) : Type 0 where
+-- whichever disks can be read, an import over the image finds one configuration, or is refused with 8 or 9: the committed one, or one of these
+pub record Outcome (begun : ℕ → Config → Type 0) (held : Option Config) (m : Meaning) (i : Image) : Type 0 where
+  pub found : Option Config
+  pub which : (found ≡ held) ⊎ ((serial : ℕ) × (d : Config) × (found ≡ Some d) × begun serial d)
+  pub each : (readable : ℕ → Bool) → Answers found (import_of (on_shelf m) failed_in m.units readable i)
+
+-- what imports find at each moment since the call began, and now, where the disks were ready
+pub record Finds (good : ℕ) (begun : ℕ → Config → Type 0) (c : Config) (old new : Meaning) : Type 0 where
   pub since : Ready c old → LeavesOnly old new (MayFind begun old)
   pub now : Ready c old → (i : Image) → Each new.leaves i → MayFind begun old i
+  pub outcome_since : (held : Option Config) → WasCommitted good held old → Ready c old → HaveLabels old → LeavesOnly old new (Outcome begun held old)
+  pub outcome_now : (held : Option Config) → WasCommitted good held old → Ready c old → HaveLabels old → (i : Image) → Each new.leaves i → Outcome begun held old i
 
 -- a commit is done: the configuration has a later serial and the failed disks held so, and is the newest committed one
 pub record Done (good : ℕ) (c d : Config) (old new : Meaning) : Type 0 where

@@ -41,7 +41,7 @@ pub fn commit_in<S: Shelf>(
     ensures short { subdisk_count config.new ≤ 1024 }
     ensures wanted { is_wanted (S.meaning shelf.new).units (S.meaning shelf.new).size config.new ≡ true }
     ensures begins { Begins (IsTry config.old config.new.serial (S.meaning shelf.old) (S.meaning shelf.new)) config.old (S.meaning shelf.old) (S.meaning shelf.new) }
-    ensures finds { Finds (IsTry config.old config.new.serial (S.meaning shelf.old) (S.meaning shelf.new)) config.old (S.meaning shelf.old) (S.meaning shelf.new) }
+    ensures finds { Finds good (IsTry config.old config.new.serial (S.meaning shelf.old) (S.meaning shelf.new)) config.old (S.meaning shelf.old) (S.meaning shelf.new) }
     ensures ends { CommitEnds good config.old config.new (S.meaning shelf.old) (S.meaning shelf.new) result }
     ensures limit { greatest ≤ config.old.serial → (result ≡ Err (Limit Number greatest)) × (config.new ≡ config.old) × (shelf.new ≡ shelf.old) }
 {
@@ -76,7 +76,7 @@ pub fn commit<S: Shelf>(
     ensures short { subdisk_count config.new ≤ 1024 }
     ensures wanted { is_wanted (S.meaning shelf.new).units (S.meaning shelf.new).size config.new ≡ true }
     ensures begins { Begins (IsTry config.old config.new.serial (S.meaning shelf.old) (S.meaning shelf.new)) config.old (S.meaning shelf.old) (S.meaning shelf.new) }
-    ensures finds { Finds (IsTry config.old config.new.serial (S.meaning shelf.old) (S.meaning shelf.new)) config.old (S.meaning shelf.old) (S.meaning shelf.new) }
+    ensures finds { Finds good (IsTry config.old config.new.serial (S.meaning shelf.old) (S.meaning shelf.new)) config.old (S.meaning shelf.old) (S.meaning shelf.new) }
     ensures ends { CommitStopped good config.old config.new (S.meaning shelf.old) (S.meaning shelf.new) result }
     ensures memory { result ≡ Err MemoryStop → shelf.new ≡ shelf.old }
     ensures limit { greatest ≤ config.old.serial → (result ≡ Err MemoryStop) ⊎ (result ≡ Err (Refused (Limit Number greatest))) }

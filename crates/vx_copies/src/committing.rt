@@ -28,11 +28,12 @@ fn try_next<S: Shelf>(
     requires wanted { is_wanted (S.meaning shelf.old).units (S.meaning shelf.old).size config.old ≡ true }
     requires room { length room.old ≡ 65024 }
     requires more { config.old.serial < greatest }
+    requires some { HasGood config.old.disks good }
     ensures can { CanSpell config.new }
     ensures short { subdisk_count config.new ≤ 1024 }
     ensures wanted { is_wanted (S.meaning shelf.new).units (S.meaning shelf.new).size config.new ≡ true }
     ensures serial { config.new.serial ≡ config.old.serial + 1 }
-    ensures underway { Underway config.old config.new (S.meaning shelf.old) (S.meaning shelf.new) }
+    ensures underway { Underway good config.old config.new (S.meaning shelf.old) (S.meaning shelf.new) }
     ensures ends { TryEnds config.old config.new (S.meaning shelf.old) (S.meaning shelf.new) result }
 {
     config.serial += 1;
@@ -80,7 +81,7 @@ pub fn try_all<S: Shelf>(
     ensures can { CanSpell config.new }
     ensures short { subdisk_count config.new ≤ 1024 }
     ensures wanted { is_wanted (S.meaning shelf.new).units (S.meaning shelf.new).size config.new ≡ true }
-    ensures underway { Underway config.old config.new (S.meaning shelf.old) (S.meaning shelf.new) }
+    ensures underway { Underway good config.old config.new (S.meaning shelf.old) (S.meaning shelf.new) }
     ensures ends { TriesEnd good config.old config.new (S.meaning shelf.old) (S.meaning shelf.new) result }
 {
     let mut device = lowest(good);

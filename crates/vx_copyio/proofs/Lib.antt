@@ -3,3 +3,4 @@ pub mod Slots
 pub mod Putting
 pub mod Spreading
 pub mod Counting
+pub mod Ordering

@@ -1,3 +1,4 @@
 pub mod Causes
 pub mod Labelling
 pub mod Putting
+pub mod Orders

@@ -1,7 +1,8 @@
 // The writing of copies to several disks.
-ghost use Rattle.std.specs.Prelude.{◌≡◌, ◌%◌, ◌≤◌, length, take, OnOk, IfErr};
+ghost use Rattle.std.specs.Prelude.{◌≡◌, ◌%◌, ◌≤◌, false, length, take, true, OnOk, IfErr};
 ghost use Rattle.vx_copyfmt.specs.Areas.{CanSpellArea};
 ghost use Rattle.vx_copyio.specs.Labelling.{AreLarge};
+ghost use Rattle.vx_copyio.specs.Orders.{Ordered};
 ghost use Rattle.vx_copyio.specs.Putting.{AllNew, Copied, CopyStops, GoodFirst, IsMember, part_of};
 ghost use Rattle.vx_disk.specs.Blocks.{bit_at};
 ghost use Rattle.vx_wire.specs.Seals.{digest_of};
@@ -84,6 +85,7 @@ pub fn put_copies<S: Shelf>(
     ensures ok { OnOk result (AllNew (IsMember (bit_at set) (S.meaning shelf.old).units) header.now body.now (S.meaning shelf.old) (S.meaning shelf.new)) }
     ensures first { IfErr result (GoodFirst set good (S.meaning shelf.old).units header.now body.now (S.meaning shelf.old) (S.meaning shelf.new)) }
     ensures stops { IfErr result (CopyStops (bit_at set) (S.meaning shelf.old).units header.now body.now (S.meaning shelf.old) (S.meaning shelf.new)) }
+    ensures order { Ordered (IsMember (part_of set good true) (S.meaning shelf.old).units) (IsMember (part_of set good false) (S.meaning shelf.old).units) header.now body.now (S.meaning shelf.old) (S.meaning shelf.new) }
 {
     match put_part(shelf, set, good, true, header, body) {
         Ok(()) => {}

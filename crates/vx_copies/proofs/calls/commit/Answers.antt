@@ -4,9 +4,9 @@ use Rattle.vx_copies.proofs.calls.commit.Goals as goal
 
 pub returns-in-Err-clause-begins : goal.returns-in-Err-clause-begins
 returns-in-Err-clause-begins g c =
-    begins_try c.args.config.now c.args.config.now (g.S.Shelf.meaning c.args.shelf.now) (g.S.Shelf.meaning c.args.shelf.now) (none_yet c.args.config.now (g.S.Shelf.meaning c.args.shelf.now))
+    begins_try c.args.good c.args.config.now c.args.config.now (g.S.Shelf.meaning c.args.shelf.now) (g.S.Shelf.meaning c.args.shelf.now) (none_yet c.args.good c.args.config.now (g.S.Shelf.meaning c.args.shelf.now))
 
 pub returns-in-Err-clause-finds : goal.returns-in-Err-clause-finds
 returns-in-Err-clause-finds g c =
-    finds_try c.args.config.now c.args.config.now (g.S.Shelf.meaning c.args.shelf.now) (g.S.Shelf.meaning c.args.shelf.now) (none_yet c.args.config.now (g.S.Shelf.meaning c.args.shelf.now))
+    finds_try c.args.good c.args.config.now c.args.config.now (g.S.Shelf.meaning c.args.shelf.now) (g.S.Shelf.meaning c.args.shelf.now) (none_yet c.args.good c.args.config.now (g.S.Shelf.meaning c.args.shelf.now))
     (g.met.S.Shelf.lawful c.args.shelf.now) (g.met.S.Shelf.lawful c.args.shelf.now)

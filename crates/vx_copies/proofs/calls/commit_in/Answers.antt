@@ -14,11 +14,11 @@ use Rattle.vx_copies.proofs.calls.commit_in.Goals as goal
 
 pub returns-then-config-ge-MOST_SERIAL-clause-begins : goal.returns-then-config-ge-MOST_SERIAL-clause-begins
 returns-then-config-ge-MOST_SERIAL-clause-begins g c =
-    begins_try c.args.config.now c.args.config.now (g.S.Shelf.meaning c.args.shelf.now) (g.S.Shelf.meaning c.args.shelf.now) (none_yet c.args.config.now (g.S.Shelf.meaning c.args.shelf.now))
+    begins_try c.args.good c.args.config.now c.args.config.now (g.S.Shelf.meaning c.args.shelf.now) (g.S.Shelf.meaning c.args.shelf.now) (none_yet c.args.good c.args.config.now (g.S.Shelf.meaning c.args.shelf.now))
 
 pub returns-then-config-ge-MOST_SERIAL-clause-finds : goal.returns-then-config-ge-MOST_SERIAL-clause-finds
 returns-then-config-ge-MOST_SERIAL-clause-finds g c =
-    finds_try c.args.config.now c.args.config.now (g.S.Shelf.meaning c.args.shelf.now) (g.S.Shelf.meaning c.args.shelf.now) (none_yet c.args.config.now (g.S.Shelf.meaning c.args.shelf.now))
+    finds_try c.args.good c.args.config.now c.args.config.now (g.S.Shelf.meaning c.args.shelf.now) (g.S.Shelf.meaning c.args.shelf.now) (none_yet c.args.good c.args.config.now (g.S.Shelf.meaning c.args.shelf.now))
     (g.met.S.Shelf.lawful c.args.shelf.now) (g.met.S.Shelf.lawful c.args.shelf.now)
 
 pub returns-clause-wanted : goal.returns-clause-wanted
@@ -40,7 +40,7 @@ pub returns-clause-begins : goal.returns-clause-begins
 returns-clause-begins g c =
     let old : Meaning = g.S.Shelf.meaning c.args.shelf.now in
     let new : Meaning = g.S.Shelf.meaning c.try_all.new.shelf in
-    let begins = begins_try c.args.config.now c.try_all.new.config old new c.try_all.ensures.underway in
+    let begins = begins_try c.args.good c.args.config.now c.try_all.new.config old new c.try_all.ensures.underway in
     elim c.match-try_all.branch [
       | in-Ok w ↦ subst (λ (e : Config). Begins (IsTry c.args.config.now e.serial old new) c.args.config.now old new) (sym w.config-is) begins
       | in-Err w ↦ subst (λ (e : Config). Begins (IsTry c.args.config.now e.serial old new) c.args.config.now old new) (sym w.config-is) begins
@@ -50,10 +50,10 @@ pub returns-clause-finds : goal.returns-clause-finds
 returns-clause-finds g c =
     let old : Meaning = g.S.Shelf.meaning c.args.shelf.now in
     let new : Meaning = g.S.Shelf.meaning c.try_all.new.shelf in
-    let finds = finds_try c.args.config.now c.try_all.new.config old new c.try_all.ensures.underway (g.met.S.Shelf.lawful c.args.shelf.now) (g.met.S.Shelf.lawful c.try_all.new.shelf) in
+    let finds = finds_try c.args.good c.args.config.now c.try_all.new.config old new c.try_all.ensures.underway (g.met.S.Shelf.lawful c.args.shelf.now) (g.met.S.Shelf.lawful c.try_all.new.shelf) in
     elim c.match-try_all.branch [
-      | in-Ok w ↦ subst (λ (e : Config). Finds (IsTry c.args.config.now e.serial old new) c.args.config.now old new) (sym w.config-is) finds
-      | in-Err w ↦ subst (λ (e : Config). Finds (IsTry c.args.config.now e.serial old new) c.args.config.now old new) (sym w.config-is) finds
+      | in-Ok w ↦ subst (λ (e : Config). Finds c.args.good (IsTry c.args.config.now e.serial old new) c.args.config.now old new) (sym w.config-is) finds
+      | in-Err w ↦ subst (λ (e : Config). Finds c.args.good (IsTry c.args.config.now e.serial old new) c.args.config.now old new) (sym w.config-is) finds
     ]
 
 pub returns-clause-ends : goal.returns-clause-ends
@@ -74,7 +74,7 @@ returns-clause-ends g c =
             left = ends.1;
             ready = ends.2;
             stands = ends.3;
-            newest = newest a d old new underway c.args.good (wanted_count old.units old.size d (wanted_same new old d (sym underway.moves.units) (λ u. sym (underway.moves.size u)) c.try_all.ensures.wanted))
+            newest = newest c.args.good a d old new underway (wanted_count old.units old.size d (wanted_same new old d (sym underway.moves.units) (λ u. sym (underway.moves.size u)) c.try_all.ensures.wanted))
                 (g.met.S.Shelf.lawful c.args.shelf.now) (g.met.S.Shelf.lawful c.try_all.new.shelf) ends.1 ends.3;
           }))
       | in-Err w ↦

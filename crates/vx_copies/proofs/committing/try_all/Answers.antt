@@ -15,20 +15,20 @@ loop-shelf-init g c = record {
   short = c.requires.short;
   wanted = c.requires.wanted;
   room = c.requires.room;
-  underway = none_yet c.args.config.now (g.S.Shelf.meaning c.args.shelf.now);
+  underway = none_yet c.args.good c.args.config.now (g.S.Shelf.meaning c.args.shelf.now);
   ready = record { ready = λ first. first };
   device = inr (refl, c.lowest-device.ensures);
 }
 
 pub returns-in-Ok-clause-underway : goal.returns-in-Ok-clause-underway
 returns-in-Ok-clause-underway g c =
-    both_underway c.args.config.now c.loop-shelf.config c.try_next.new.config (g.S.Shelf.meaning c.args.shelf.now) (g.S.Shelf.meaning c.loop-shelf.shelf) (g.S.Shelf.meaning c.try_next.new.shelf)
-    c.loop-shelf.invariant.underway c.loop-shelf.invariant.ready c.try_next.ensures.underway
+    both_underway c.args.good c.args.config.now c.loop-shelf.config c.try_next.new.config (g.S.Shelf.meaning c.args.shelf.now) (g.S.Shelf.meaning c.loop-shelf.shelf) (g.S.Shelf.meaning c.try_next.new.shelf)
+    c.loop-shelf.invariant.underway c.loop-shelf.invariant.ready c.try_next.ensures.underway (g.met.S.Shelf.lawful c.loop-shelf.shelf)
 
 pub returns-in-Err-Down-clause-underway : goal.returns-in-Err-Down-clause-underway
 returns-in-Err-Down-clause-underway g c =
-    both_underway c.args.config.now c.loop-shelf.config c.try_next.new.config (g.S.Shelf.meaning c.args.shelf.now) (g.S.Shelf.meaning c.loop-shelf.shelf) (g.S.Shelf.meaning c.try_next.new.shelf)
-    c.loop-shelf.invariant.underway c.loop-shelf.invariant.ready c.try_next.ensures.underway
+    both_underway c.args.good c.args.config.now c.loop-shelf.config c.try_next.new.config (g.S.Shelf.meaning c.args.shelf.now) (g.S.Shelf.meaning c.loop-shelf.shelf) (g.S.Shelf.meaning c.try_next.new.shelf)
+    c.loop-shelf.invariant.underway c.loop-shelf.invariant.ready c.try_next.ensures.underway (g.met.S.Shelf.lawful c.loop-shelf.shelf)
 
 pub returns-in-Ok-clause-ends : goal.returns-in-Ok-clause-ends
 returns-in-Ok-clause-ends g c =
@@ -36,7 +36,7 @@ returns-in-Ok-clause-ends g c =
       omega (arith, c.loop-shelf.invariant.underway.serial, c.try_next.ensures.serial),
       subst (λ (ds : List DiskEntry). HasGood ds c.args.good) (sym ends.0) (c.loop-shelf-test.ensures.may refl).0,
       both_ready c.loop-shelf.invariant.ready ends.1,
-      both_stand c.args.config.now c.loop-shelf.config c.try_next.new.config (g.S.Shelf.meaning c.args.shelf.now) (g.S.Shelf.meaning c.loop-shelf.shelf) (g.S.Shelf.meaning c.try_next.new.shelf)
+      both_stand c.args.good c.args.config.now c.loop-shelf.config c.try_next.new.config (g.S.Shelf.meaning c.args.shelf.now) (g.S.Shelf.meaning c.loop-shelf.shelf) (g.S.Shelf.meaning c.try_next.new.shelf)
           c.loop-shelf.invariant.underway c.loop-shelf.invariant.ready c.try_next.ensures.underway ends.2,
     )
 
@@ -51,8 +51,8 @@ loop-shelf-preserved g c =
       short = c.try_next.ensures.short;
       wanted = c.try_next.ensures.wanted;
       room = c.try_next.auto.room ∙ c.loop-shelf.invariant.room;
-      underway = both_underway c.args.config.now c.loop-shelf.config c.try_next.new.config (g.S.Shelf.meaning c.args.shelf.now) (g.S.Shelf.meaning c.loop-shelf.shelf) (g.S.Shelf.meaning c.try_next.new.shelf)
-          c.loop-shelf.invariant.underway c.loop-shelf.invariant.ready c.try_next.ensures.underway;
+      underway = both_underway c.args.good c.args.config.now c.loop-shelf.config c.try_next.new.config (g.S.Shelf.meaning c.args.shelf.now) (g.S.Shelf.meaning c.loop-shelf.shelf) (g.S.Shelf.meaning c.try_next.new.shelf)
+          c.loop-shelf.invariant.underway c.loop-shelf.invariant.ready c.try_next.ensures.underway (g.met.S.Shelf.lawful c.loop-shelf.shelf);
       ready = both_ready c.loop-shelf.invariant.ready ends.1;
       device = inl (Rose_before _ _ _ (c.loop-shelf.invariant.underway.moves.disk_faults c.in-Err-Fault.disk) ends.2);
     }

@@ -14,7 +14,7 @@ invariant-loop-shelf g l = record {
   short : subdisk_count l.config ≤ 1024;
   wanted : is_wanted (g.S.Shelf.meaning l.shelf).units (g.S.Shelf.meaning l.shelf).size l.config ≡ true;
   room : length l.room ≡ 65024;
-  underway : Underway l.initial.config l.config (g.S.Shelf.meaning l.initial.shelf) (g.S.Shelf.meaning l.shelf);
+  underway : Underway l.good l.initial.config l.config (g.S.Shelf.meaning l.initial.shelf) (g.S.Shelf.meaning l.shelf);
   ready : StayReady l.initial.config l.config (g.S.Shelf.meaning l.initial.shelf) (g.S.Shelf.meaning l.shelf);
   device : Blamed l.good l.initial.config l.config (g.S.Shelf.meaning l.initial.shelf) (g.S.Shelf.meaning l.shelf) l.device;
 }

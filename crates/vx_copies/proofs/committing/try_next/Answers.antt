@@ -43,6 +43,7 @@ returns-in-Ok-clause-underway g c =
     let new : Meaning = g.S.Shelf.meaning c.put_config.new.shelf in
     let own : Grown old new c.args.config.now (next c.args.config.now) = serial_grown c.args.config.now (c.args.config.now.serial + 1) old new in
     try_underway c.args.config.now (next c.args.config.now) (next c.args.config.now) old new refl refl refl (wanted_count old.units old.size c.args.config.now c.requires.wanted) own own c.put_config.ensures.tried
+    c.args.good c.requires.some c.put_config.ensures.order
 
 pub returns-in-Down-clause-underway : goal.returns-in-Down-clause-underway
 returns-in-Down-clause-underway g c =
@@ -50,6 +51,7 @@ returns-in-Down-clause-underway g c =
     let new : Meaning = g.S.Shelf.meaning c.put_config.new.shelf in
     let own : Grown old new c.args.config.now (next c.args.config.now) = serial_grown c.args.config.now (c.args.config.now.serial + 1) old new in
     try_underway c.args.config.now (next c.args.config.now) (next c.args.config.now) old new refl refl refl (wanted_count old.units old.size c.args.config.now c.requires.wanted) own own c.put_config.ensures.tried
+    c.args.good c.requires.some c.put_config.ensures.order
 
 pub returns-in-Ok-clause-ends : goal.returns-in-Ok-clause-ends
 returns-in-Ok-clause-ends g c =
@@ -76,6 +78,7 @@ returns-in-Fault-clause-underway g c =
     let new : Meaning = g.S.Shelf.meaning c.put_config.new.shelf in
     try_underway c.args.config.now (next c.args.config.now) c.mark.new.config old new refl refl (ap (λ (x : Config). x.serial) c.mark.ensures.marked) (wanted_count old.units old.size c.args.config.now c.requires.wanted)
     (serial_grown c.args.config.now (c.args.config.now.serial + 1) old new) (marks g c) c.put_config.ensures.tried
+    c.args.good c.requires.some c.put_config.ensures.order
 
 pub returns-in-Fault-clause-ends : goal.returns-in-Fault-clause-ends
 returns-in-Fault-clause-ends g c =

@@ -1,12 +1,13 @@
-use Rattle.std.proofs.Common.{◌≡◌, Some, true, OnOk, IfErr, List, ℕ, take, subst, ◌∙◌}
+use Rattle.std.proofs.Common.{◌≡◌, Some, false, true, OnOk, IfErr, List, ℕ, take, subst, ◌∙◌}
 use Rattle.std.proofs.lemmas.List.{take-take}
 use Rattle.vx_disk.specs.Blocks.{bit_at}
 use Rattle.vx_disk.specs.Shelf.{Meaning}
 use Rattle.vx_copyio.specs.Putting.{AllNew, CopyStops, GoodFirst, IsMember, part_of}
 use Rattle.vx_copyio.proofs.Spreading.{on_err, on_ok}
 use Rattle.vx_copies.specs.Looking.{on_shelf}
+use Rattle.vx_copies.specs.Orders.{OrderedThis}
 use Rattle.vx_copies.specs.Tries.{AllThis, GoodBefore, Tried, TryStops}
-use Rattle.vx_copies.proofs.Tried.{of_copied, of_new, of_stops, spelling_reads}
+use Rattle.vx_copies.proofs.Tried.{of_copied, of_new, of_ordered, of_stops, spelling_reads}
 use Rattle.vx_copies.proofs.trying.put_config.Goals as goal
 use Rattle.vx_copies.proofs.trying.put_config.Given.{Over}
 
@@ -55,3 +56,11 @@ returns-clause-first g c =
           (of_new c.spell-front.result.0 (body_of g c) c.args.config.now old c.spell-front.ensures.serial (reads_as g c) (IsMember (part_of c.good_of-set.result c.args.good true) old.units) new (first.done out));
     })
     c.put_copies.ensures.first
+
+pub returns-clause-order : goal.returns-clause-order
+returns-clause-order g c =
+    let old : Meaning = g.S.Shelf.meaning c.args.shelf.now in
+    let new : Meaning = g.S.Shelf.meaning c.put_copies.new.shelf in
+    subst (λ s. OrderedThis (IsMember (part_of s c.args.good true) old.units) (IsMember (part_of s c.args.good false) old.units) c.args.config.now old new) c.good_of-set.ensures
+    (of_ordered c.spell-front.result.0 (body_of g c) c.args.config.now old c.spell-front.ensures.serial (reads_as g c) (IsMember (part_of c.good_of-set.result c.args.good true) old.units)
+    (IsMember (part_of c.good_of-set.result c.args.good false) old.units) new c.put_copies.ensures.order)

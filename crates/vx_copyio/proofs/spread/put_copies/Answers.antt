@@ -1,7 +1,8 @@
-use Rattle.std.proofs.Common.{◌≡◌, IfErr, OnOk, true, false, sym, subst, ◌∙◌}
+use Rattle.std.proofs.Common.{◌≡◌, ℕ, IfErr, OnOk, true, false, sym, subst, ◌∙◌}
 use Rattle.vx_disk.specs.Blocks.{bit_at}
 use Rattle.vx_disk.specs.Shelf.{Meaning}
 use Rattle.vx_copyio.specs.Putting.{AllNew, Copied, CopyStops, GoodFirst, IsMember, part_of}
+use Rattle.vx_copyio.proofs.Ordering.{first_ordered, second_ordered}
 use Rattle.vx_copyio.proofs.Spreading.{both_copied, both_new, first_copied, first_new, first_stops, part_good, second_stops, on_err, on_ok, part_cover, part_in, part_out}
 use Rattle.vx_copyio.proofs.spread.put_copies.Goals as goal
 
@@ -79,3 +80,21 @@ returns-clause-first g c =
           c.in-Ok.ensures.ok;
     })
     (subst (λ n. IfErr c.put_part-2.result (CopyStops (part_of c.args.set c.args.good false) n c.args.header.now c.args.body.now mid new)) c.put_part.ensures.copied.moves.units c.put_part-2.ensures.stops)
+
+apart : (set good n u : ℕ) → IsMember (part_of set good true) n u → IsMember (part_of set good false) n u → ⊥
+apart set good n u one two = let clash : false ≡ true = sym (part_out set good u one.is) ∙ two.is in cc
+
+pub returns-in-Err-clause-order : goal.returns-in-Err-clause-order
+returns-in-Err-clause-order g c =
+    let old : Meaning = g.S.Shelf.meaning c.args.shelf.now in
+    first_ordered c.args.header.now c.args.body.now (IsMember (part_of c.args.set c.args.good true) old.units) (IsMember (part_of c.args.set c.args.good false) old.units) (apart c.args.set c.args.good old.units)
+    old (g.S.Shelf.meaning c.put_part.new.shelf) c.put_part.ensures.copied
+
+pub returns-clause-order : goal.returns-clause-order
+returns-clause-order g c =
+    let old : Meaning = g.S.Shelf.meaning c.args.shelf.now in
+    let mid : Meaning = g.S.Shelf.meaning c.put_part.new.shelf in
+    let new : Meaning = g.S.Shelf.meaning c.put_part-2.new.shelf in
+    second_ordered c.args.header.now c.args.body.now (IsMember (part_of c.args.set c.args.good true) old.units) (IsMember (part_of c.args.set c.args.good false) old.units) (apart c.args.set c.args.good old.units)
+    old mid c.put_part.ensures.copied c.in-Ok.ensures.ok new
+    (subst (λ n. Copied (IsMember (part_of c.args.set c.args.good false) n) c.args.header.now c.args.body.now mid new) c.put_part.ensures.copied.moves.units c.put_part-2.ensures.copied)

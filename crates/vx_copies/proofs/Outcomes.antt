@@ -1,0 +1,303 @@
+-- What all imports over one image find.
+use Rattle.std.proofs.Common.{◌≡◌, ◌⊎◌, inl, inr, ⊎_elim, ℕ, zero, suc, ◌+◌, ◌<◌, ◌≤◌, Bool, true, false, Option, Some, None, List, refl, ap, sym, subst, ◌∙◌, arith}
+use Rattle.std.specs.Prelude.{◌&&◌, if◌then◌else◌}
+use Rattle.std.proofs.lemmas.Bool.{cases_lt}
+use Rattle.vx_disk.specs.Blocks.{bit_at}
+use Rattle.vx_disk.specs.Moves.{Beside}
+use Rattle.vx_disk.specs.Shelf.{Each, Image, Meaning}
+use Rattle.vx_copyfmt.specs.Copies.{Copy, Holds, copy_of}
+use Rattle.vx_copyfmt.specs.Commits.{Answers, FromNew, FromOld, Gives, IsGood, Older}
+use Rattle.vx_copyfmt.specs.Imports.{Damaged, Format, Found, Missing, NoConfig, Outcome as Finding, import_of, is_label, later, missing, newest, on_disk, or_missing, settle}
+use Rattle.vx_copyfmt.specs.Labels.{seen_in}
+use Rattle.vx_copyfmt.proofs.Committing.{found_wants, no_strange, none_missing}
+use Rattle.vx_copyfmt.proofs.Newest.{Below, BelowCopy, amid_gives, below_later, below_on, import_new, later_either, later_keeps, later_none, later_takes}
+use Rattle.vx_copyio.specs.Putting.{AreasOf}
+use Rattle.vx_config.specs.declared.config.Config.{Config}
+use Rattle.vx_copies.specs.Bodies.{failed_in}
+use Rattle.vx_copies.specs.Commits.{Behind, HaveLabels, Held, IsOne, IsTry, Outcome, Ready, Stage, Underway, WasCommitted}
+use Rattle.vx_copies.specs.Looking.{on_shelf}
+use Rattle.vx_copies.specs.Marks.{failed_at}
+use Rattle.vx_copies.proofs.OneTry.{as_before, held_or, not_both, tidy_older}
+
+-- ---- what is settled
+
+settle_gives : (units : ℕ) (readable : ℕ → Bool) (c : Config) → Gives c (settle failed_in units readable c)
+settle_gives units readable c = by_missing (missing (failed_in c) readable units)
+  where
+    by_missing : (o : Option ℕ) → Gives c (or_missing c o)
+    by_missing None = refl
+    by_missing (Some d) = tt
+
+-- a configuration one of whose disks cannot be read is not found
+settle_misses : (units : ℕ) (readable : ℕ → Bool) (c x : Config) (g : ℕ) → g < units → failed_in c g ≡ false → readable g ≡ false → Gives x (settle failed_in units readable c)
+settle_misses units readable c x g lt good out = by_missing (missing (failed_in c) readable units) refl
+  where
+    by_missing : (o : Option ℕ) → missing (failed_in c) readable units ≡ o → Gives x (or_missing c o)
+    by_missing (Some d) is = tt
+    by_missing None is = absurd (not_both (readable g) out (none_missing (failed_in c) readable units is g lt good))
+
+-- what was committed before misses a disk of its own
+old_misses : (held : Option Config) (x : Config) (readable : ℕ → Bool) (g : ℕ) → IsGood failed_in held g → readable g ≡ false → (o : Finding Config) → Answers held o
+    → ((c : Config) → o ≡ Found c → failed_in c g ≡ false → readable g ≡ true) → Gives x o
+old_misses None x readable g was out o answers wants = subst (Gives x) (sym answers) tt
+old_misses (Some c) x readable g was out (Found y) answers wants = absurd (not_both (readable g) out (wants y refl (subst (λ (k : Config). failed_in k g ≡ false) (sym answers) was)))
+old_misses (Some c) x readable g was out (Missing d) answers wants = tt
+old_misses (Some c) x readable g was out NoConfig answers wants = tt
+old_misses (Some c) x readable g was out (Damaged d b s t) answers wants = absurd answers
+old_misses (Some c) x readable g was out (Format v) answers wants = absurd answers
+
+-- ---- the greatest copy of those that can be read
+
+module _ (reads : List ℕ → Option Config) (s : ℕ) (x : Config) (units : ℕ) (i : Image) (readable : ℕ → Bool) (labels : (u : ℕ) → u < units → is_label (seen_in (i u 0)) ≡ true)
+    (class : (u : ℕ) → u < units → ((area : ℕ) × (copy_of reads (i u) ≡ Some (record { serial = s; area = area; body = Holds x }))) ⊎ BelowCopy s (copy_of reads (i u))) where
+  -- it is this one, or each that can be read has a lesser copy
+  abbrev Top : ℕ → Option (ℕ × Copy Config) → Type 0
+  Top n o = ((u : ℕ) × (area : ℕ) × (o ≡ Some (u, record { serial = s; area = area; body = Holds x }))) ⊎ (Below s o × ((u : ℕ) → u < n → readable u ≡ true → BelowCopy s (copy_of reads (i u))))
+
+  abbrev Put : Bool → ℕ → Option (ℕ × Copy Config)
+  Put t n = if t && is_label (seen_in (i n 0)) then on_disk n (copy_of reads (i n)) else None
+
+  longer : (n : ℕ) → ((u : ℕ) → u < n → readable u ≡ true → BelowCopy s (copy_of reads (i u))) → (readable n ≡ true → BelowCopy s (copy_of reads (i n))) → (u : ℕ) → u < suc n → readable u ≡ true → BelowCopy s (copy_of reads (i u))
+  longer n before here u lt is = elim (cases_lt u n) [
+    | inl below ↦ before u below is
+    | inr last ↦ let same : n ≡ u = omega (arith, lt, last) in subst (λ (k : ℕ). BelowCopy s (copy_of reads (i k))) same (here (subst (λ (k : ℕ). readable k ≡ true) (sym same) is))
+  ]
+
+  one_more : (n : ℕ) (o : Option (ℕ × Copy Config)) → n < units → Top n o → (b : Bool) → readable n ≡ b → Top (suc n) (later o (Put b n))
+  one_more n o lt top false out =
+      let none : later o None ≡ o = later_none o in
+      elim top [
+        | inl new ↦ inl (new.0, new.1, none ∙ new.2)
+        | inr old ↦ inr (subst (Below s) (sym none) old.0, longer n old.1 (λ is. absurd (not_both (readable n) out is)))
+      ]
+  one_more n o lt top true in_it =
+      let put : Put true n ≡ on_disk n (copy_of reads (i n)) = rw (labels n lt) refl in
+      let is : later o (Put true n) ≡ later o (on_disk n (copy_of reads (i n))) = ap (λ (p : Option (ℕ × Copy Config)). later o p) put in
+      elim (class n lt) [
+        | inl copy ↦
+            let y : ℕ × Copy Config = (n, record { serial = s; area = copy.0; body = Holds x }) in
+            let here : later o (Put true n) ≡ later o (Some y) = is ∙ ap (λ (p : Option (Copy Config)). later o (on_disk n p)) copy.1 in
+            elim top [
+              | inl new ↦
+                  let z : ℕ × Copy Config = (new.0, record { serial = s; area = new.1; body = Holds x }) in
+                  let both : later o (Put true n) ≡ later (Some z) (Some y) = here ∙ ap (λ (p : Option (ℕ × Copy Config)). later p (Some y)) new.2 in
+                  elim (later_either z y) [
+                    | inl first ↦ inl (new.0, new.1, both ∙ first)
+                    | inr second ↦ inl (n, copy.0, both ∙ second)
+                  ]
+              | inr old ↦ inl (n, copy.0, here ∙ later_takes s o y (omega arith) old.0)
+            ]
+        | inr less ↦ elim top [
+          | inl new ↦
+              let z : ℕ × Copy Config = (new.0, record { serial = s; area = new.1; body = Holds x }) in
+              inl (new.0, new.1, is ∙ ap (λ (p : Option (ℕ × Copy Config)). later p (on_disk n (copy_of reads (i n)))) new.2 ∙ later_keeps s z (on_disk n (copy_of reads (i n))) (omega arith) (below_on s n (copy_of reads (i n)) less))
+          | inr old ↦ inr (
+            subst (Below s) (sym is) (below_later s o (on_disk n (copy_of reads (i n))) old.0 (below_on s n (copy_of reads (i n)) less)),
+            longer n old.1 (λ read. less),
+          )
+        ]
+      ]
+
+  next_top : (n : ℕ) → n < units → Top n (newest reads readable i n) → (b : Bool) → readable n ≡ b → Top (suc n) (newest reads readable i (suc n))
+  next_top n lt before b is = subst (λ (t : Bool). Top (suc n) (later (newest reads readable i n) (Put t n))) (sym is) (one_more n (newest reads readable i n) lt before b is)
+
+  pub top_of : (n : ℕ) → n ≤ units → Top n (newest reads readable i n)
+  top_of zero le = inr (tt, λ u lt. absurd (omega (arith, lt)))
+  top_of (suc n) le = next_top n (omega (arith, le)) (top_of n (omega (arith, le))) (readable n) refl
+
+-- ---- the tries of a commit
+
+module _ (good : ℕ) (c d : Config) (old new : Meaning) (underway : Underway good c d old new) (held : Option Config) (was : WasCommitted good held old) (ready : Ready c old) (labels : HaveLabels old)
+    (base : Image) (has : Each old.leaves base) (i : Image) (beside : Beside (AreasOf (Held c old)) old.leaves i) (stage : Stage good c d.serial underway.tries old i) where
+  abbrev reads : List ℕ → Option Config
+  reads = on_shelf old
+
+  abbrev New : ℕ → Type 0
+  New u = FromNew reads (IsOne c d.serial underway.tries u) (old.leaves u) (i u)
+
+  abbrev Old : ℕ → Type 0
+  Old u = FromOld reads (old.leaves u) (i u)
+
+  failed_left : (u b : ℕ) → (Held c old u → ⊥) → old.leaves u b (i u b)
+  failed_left u b out = ⊎_elim (λ is. is) (λ (mine : AreasOf (Held c old) u b). absurd (out mine.on)) (beside u b)
+
+  -- each disk is as one of before, or has a copy that was begun
+  kind : (u : ℕ) → u < old.units → Old u ⊎ (Held c old u × New u)
+  kind u lt = elim (held_or c.disks u) [
+    | inr failed ↦ inl (as_before reads (old.leaves u) (i u) (λ b. failed_left u b (λ mine. not_both (failed_at c.disks u) mine.good failed)))
+    | inl stays ↦
+        let mine : Held c old u = record { below = lt; good = stays } in
+        ⊎_elim (λ from. inl from) (λ from. inr (mine, from)) (stage.each ready u mine)
+  ]
+
+  labelled : (u : ℕ) → u < old.units → is_label (seen_in (i u 0)) ≡ true
+  labelled u lt = labels.each u (i u 0) lt (⊎_elim (λ is. is) (λ (mine : AreasOf (Held c old) u 0). absurd (omega (arith, mine.first))) (beside u 0))
+
+  older : (u : ℕ) → u < old.units → Older reads (c.serial + 1) (old.leaves u)
+  older u lt = elim (held_or c.disks u) [
+    | inl stays ↦ tidy_older reads (c.serial + 1) (old.leaves u) (ready.tidy u (record { below = lt; good = stays }))
+    | inr failed ↦ ready.older u lt failed
+  ]
+
+  far : (u b : ℕ) → old.units ≤ u → old.leaves u b (i u b)
+  far u b le = failed_left u b (λ mine. omega (arith, le, mine.below))
+
+  -- ---- none has such a copy
+
+  none_outcome : ((u : ℕ) → u < old.units → Old u) → Outcome (IsTry c d.serial old new) held old i
+  none_outcome all = record { found = held; which = inl refl; each = each }
+    where
+      each : (readable : ℕ → Bool) → Answers held (import_of reads failed_in old.units readable i)
+      each readable = elim (amid_gives reads failed_in (λ s x. ⊥) (c.serial + 1) (λ s x no. absurd no) old.units old.leaves i base (λ u lt. inl (all u lt)) has far older readable) [
+        | inl from ↦ subst (Answers held) (sym from.same) (was.committed.each from.image readable from.left)
+        | inr made ↦ absurd made.made
+      ]
+
+  -- ---- the greatest one
+
+  -- on this disk, and the others have no greater one
+  abbrev Crown : ℕ → Type 0
+  Crown n = (u : ℕ) × Held c old u × (from : New u) × ((v : ℕ) → v < n → Old v ⊎ ((f : New v) × (f.serial ≤ from.serial)))
+
+  extend : (n s : ℕ) → ((v : ℕ) → v < n → Old v ⊎ ((f : New v) × (f.serial ≤ s))) → Old n ⊎ ((f : New n) × (f.serial ≤ s)) → (v : ℕ) → v < suc n → Old v ⊎ ((f : New v) × (f.serial ≤ s))
+  extend n s before here v lt = elim (cases_lt v n) [
+    | inl below ↦ before v below
+    | inr last ↦ let same : n ≡ v = omega (arith, lt, last) in subst (λ (k : ℕ). Old k ⊎ ((f : New k) × (f.serial ≤ s))) same here
+  ]
+
+  higher : (v s t : ℕ) → s ≤ t → Old v ⊎ ((f : New v) × (f.serial ≤ s)) → Old v ⊎ ((f : New v) × (f.serial ≤ t))
+  higher v s t le (inl from) = inl from
+  higher v s t le (inr from) = inr (from.0, omega (arith, from.1, le))
+
+  all_old : (n : ℕ) → ((v : ℕ) → v < n → Old v) → Old n → (v : ℕ) → v < suc n → Old v
+  all_old n before here v lt = elim (cases_lt v n) [
+    | inl below ↦ before v below
+    | inr last ↦ let same : n ≡ v = omega (arith, lt, last) in subst Old same here
+  ]
+
+  crown_more : (n : ℕ) → ((v : ℕ) → v < n → Old v) ⊎ Crown n → Old n ⊎ (Held c old n × New n) → ((v : ℕ) → v < suc n → Old v) ⊎ Crown (suc n)
+  crown_more n (inl all) (inl from) = inl (all_old n all from)
+  crown_more n (inl all) (inr new_here) = inr (n, new_here.0, new_here.1, extend n new_here.1.serial (λ v lt. inl (all v lt)) (inr (new_here.1, omega arith)))
+  crown_more n (inr crown) (inl from) = inr (crown.0, crown.1, crown.2, extend n crown.2.serial crown.3 (inl from))
+  crown_more n (inr crown) (inr new_here) = elim (cases_lt crown.2.serial new_here.1.serial) [
+    | inl greater ↦ inr (n, new_here.0, new_here.1, extend n new_here.1.serial (λ v lt. higher v crown.2.serial new_here.1.serial (omega (arith, greater)) (crown.3 v lt)) (inr (new_here.1, omega arith)))
+    | inr less ↦ inr (crown.0, crown.1, crown.2, extend n crown.2.serial crown.3 (inr (new_here.1, less)))
+  ]
+
+  crown_of : (n : ℕ) → n ≤ old.units → ((v : ℕ) → v < n → Old v) ⊎ Crown n
+  crown_of zero le = inl (λ v lt. absurd (omega (arith, lt)))
+  crown_of (suc n) le = crown_more n (crown_of n (omega (arith, le))) (kind n (omega (arith, le)))
+
+  -- ---- what imports find then
+
+  module _ (u : ℕ) (mine : Held c old u) (from : New u) (most : (v : ℕ) → v < old.units → Old v ⊎ ((f : New v) × (f.serial ≤ from.serial))) where
+    class : (v : ℕ) → v < old.units → ((area : ℕ) × (copy_of reads (i v) ≡ Some (record { serial = from.serial; area = area; body = Holds from.config }))) ⊎ BelowCopy from.serial (copy_of reads (i v))
+    class v lt = elim (most v lt) [
+      | inl before ↦ inr (by_copy (copy_of reads (i v)) refl before)
+      | inr made ↦ by_serial made.0 (cases_lt made.0.serial from.serial) made.1
+    ]
+      where
+        by_copy : (o : Option (Copy Config)) → copy_of reads (i v) ≡ o → Old v → BelowCopy from.serial o
+        by_copy None is before = tt
+        by_copy (Some y) is before =
+            let below : y.serial < c.serial + 1 = (older v lt).below before.disk y before.among (sym before.copy ∙ is) in
+            omega (arith, below, from.made.above)
+
+        by_serial : (f : New v) → (f.serial < from.serial) ⊎ (from.serial ≤ f.serial) → f.serial ≤ from.serial
+            → ((area : ℕ) × (copy_of reads (i v) ≡ Some (record { serial = from.serial; area = area; body = Holds from.config }))) ⊎ BelowCopy from.serial (copy_of reads (i v))
+        by_serial f (inl less) le = inr (subst (BelowCopy from.serial) (sym f.copy) less)
+        by_serial f (inr ge) le =
+            let number : f.serial ≡ from.serial = omega (arith, ge, le) in
+            let one : f.config ≡ from.config = f.made.is ∙ ap underway.tries number ∙ sym from.made.is in
+            inl (f.area, f.copy ∙ ap (λ (n : ℕ). Some (record { serial = n; area = f.area; body = Holds f.config })) number ∙ ap (λ (y : Config). Some (record { serial = from.serial; area = f.area; body = Holds y })) one)
+
+    -- a disk with a copy as great cannot be read
+    unread : (readable : ℕ → Bool) (v : ℕ) (f : New v) → from.serial ≤ f.serial → (readable v ≡ true → BelowCopy from.serial (copy_of reads (i v))) → readable v ≡ false
+    unread readable v f le below = by_read (readable v) refl
+      where
+        by_read : (b : Bool) → readable v ≡ b → readable v ≡ false
+        by_read false is = is
+        by_read true is = let less : f.serial < from.serial = subst (BelowCopy from.serial) f.copy (below is) in absurd (omega (arith, less, le))
+
+    -- a disk of the set that has one
+    leading : (g : ℕ) × Held c old g × (bit_at good g ≡ true) × (f : New g) × (from.serial ≤ f.serial)
+    leading = by_bit (bit_at good u) refl
+      where
+        by_bit : (b : Bool) → bit_at good u ≡ b → (g : ℕ) × Held c old g × (bit_at good g ≡ true) × (f : New g) × (from.serial ≤ f.serial)
+        by_bit true is = (u, mine, is, from, omega arith)
+        by_bit false is = elim (stage.led ready u mine is) [
+          | inl before ↦ absurd (too_late (older u mine.below) before)
+          | inr behind ↦ (behind.leader, behind.held, behind.member, behind.front, as_great behind)
+        ]
+          where
+            too_late : Older reads (c.serial + 1) (old.leaves u) → Old u → ⊥
+            too_late none before =
+                let below : from.serial < c.serial + 1 = none.below before.disk (record { serial = from.serial; area = from.area; body = Holds from.config }) before.among (sym before.copy ∙ from.copy) in
+                omega (arith, below, from.made.above)
+
+            as_great : (behind : Behind good c d.serial underway.tries old i u) → from.serial ≤ behind.front.serial
+            as_great behind =
+                let p : Copy Config = record { serial = from.serial; area = from.area; body = Holds from.config } in
+                let q : Copy Config = record { serial = behind.from.serial; area = behind.from.area; body = Holds behind.from.config } in
+                let same : Some p ≡ Some q = sym from.copy ∙ behind.from.copy in
+                let one : p ≡ q = cc in
+                let number : from.serial ≡ behind.from.serial = ap (λ (y : Copy Config). y.serial) one in
+                omega (arith, number, behind.ahead)
+
+    -- what was begun up to this one
+    abbrev Begun : ℕ → Config → Type 0
+    Begun s y = (c.serial < s) × (s ≤ from.serial) × (y ≡ underway.tries s)
+
+    begun_kind : (v : ℕ) → v < old.units → Old v ⊎ FromNew reads Begun (old.leaves v) (i v)
+    begun_kind v lt = elim (most v lt) [
+      | inl before ↦ inl before
+      | inr made ↦ inr (record {
+        serial = made.0.serial;
+        config = made.0.config;
+        area = made.0.area;
+        made = (made.0.made.above, made.1, made.0.made.is);
+        first = made.0.first;
+        there = made.0.there;
+        label = made.0.label;
+        copy = made.0.copy;
+      })
+    ]
+
+    -- an earlier one holds the disk as good too
+    holds_it : (s : ℕ) (y : Config) → Begun s y → failed_in y u ≡ false
+    holds_it s y begun = elim (held_or y.disks u) [
+      | inl is ↦ is
+      | inr failed ↦
+          let early : failed_at (underway.tries s).disks u ≡ true = subst (λ (k : Config). failed_at k.disks u ≡ true) begun.2 failed in
+          let late : failed_at (underway.tries from.serial).disks u ≡ true = underway.chain s from.serial begun.0 begun.1 from.made.within u early in
+          absurd (not_both (failed_at (underway.tries from.serial).disks u) (subst (λ (k : Config). failed_at k.disks u ≡ false) from.made.is from.made.holds) late)
+    ]
+
+    each_gives : (readable : ℕ → Bool) → Gives from.config (import_of reads failed_in old.units readable i)
+    each_gives readable = elim (top_of reads from.serial from.config old.units i readable labelled class old.units (omega arith)) [
+      | inl top ↦ subst (Gives from.config) (sym (import_new reads failed_in (λ s y. ⊥) from.serial (λ s y no. absurd no) old.units readable i top.0 (record { serial = from.serial; area = top.1; body = Holds from.config }) from.config
+          (no_strange readable i old.units labelled) top.2 refl)) (settle_gives old.units readable from.config)
+      | inr rest ↦
+          let out : readable u ≡ false = unread readable u from (omega arith) (rest.1 u mine.below) in
+          let lead = leading in
+          let lead_out : readable lead.0 ≡ false = unread readable lead.0 lead.3 lead.4 (rest.1 lead.0 lead.1.below) in
+          elim (amid_gives reads failed_in Begun (c.serial + 1) (λ s y begun. omega (arith, begun.0)) old.units old.leaves i base begun_kind has far older readable) [
+            | inl before ↦ subst (Gives from.config) (sym before.same)
+                (old_misses held from.config readable lead.0 (was.members lead.0 lead.1.below lead.2) lead_out (import_of reads failed_in old.units readable before.image) (was.committed.each before.image readable before.left)
+                (found_wants failed_in reads old.units readable before.image lead.0 lead.1.below))
+            | inr made ↦ subst (Gives from.config) (sym made.found) (settle_misses old.units readable made.config from.config u mine.below (holds_it made.serial made.config made.made) out)
+          ]
+    ]
+
+    crown_outcome : Outcome (IsTry c d.serial old new) held old i
+    crown_outcome = record {
+      found = Some from.config;
+      which = inr (from.serial, from.config, refl, subst (IsTry c d.serial old new from.serial) (sym from.made.is) (underway.tried from.serial from.made.above from.made.within).is);
+      each = each_gives;
+    }
+
+  pub outcome : Outcome (IsTry c d.serial old new) held old i
+  outcome = elim (crown_of old.units (omega arith)) [
+    | inl all ↦ none_outcome all
+    | inr crown ↦ crown_outcome crown.0 crown.1 crown.2 crown.3
+  ]
