@@ -79,7 +79,7 @@ pub fn commit<S: Shelf>(
     ensures finds { Finds good (IsTry config.old config.new.serial (S.meaning shelf.old) (S.meaning shelf.new)) config.old (S.meaning shelf.old) (S.meaning shelf.new) }
     ensures ends { CommitStopped good config.old config.new (S.meaning shelf.old) (S.meaning shelf.new) result }
     ensures memory { result ≡ Err MemoryStop → shelf.new ≡ shelf.old }
-    ensures limit { greatest ≤ config.old.serial → (result ≡ Err MemoryStop) ⊎ (result ≡ Err (Refused (Limit Number greatest))) }
+    ensures limit { greatest ≤ config.old.serial → ((result ≡ Err MemoryStop) ⊎ (result ≡ Err (Refused (Limit Number greatest)))) × (config.new ≡ config.old) × (shelf.new ≡ shelf.old) }
 {
     let mut room = match Room::new(alloc, config) {
         Ok(room) => room,

@@ -214,6 +214,34 @@ fn a_commit_is_refused(rt: HostRuntime) {
     assert!(rt; config.serial == 0x7fff_ffff_ffff_ffff && both_good(&config));
 }
 
+fn revive<R: Rack>(rack: &mut R) {
+    if rack.is_down() {
+        rack.revive();
+    }
+}
+
+#[test]
+fn a_commit_is_cut(rt: HostRuntime) {
+    let alloc = rt.alloc();
+    for calls in 0..9u64 {
+        let mut shelf = labelled(alloc).expect(&rt, "there is memory");
+        let mut config = two_disks(alloc);
+        assert!(rt; committed(alloc, &mut shelf, &mut config, 3, true) == Ok((1, true)));
+        // Four writes and flushes on each disk; none of a write that was not flushed is kept.
+        shelf.fuse(calls, 0);
+        let cut = committed(alloc, &mut shelf, &mut config, 3, true);
+        if calls < 8 {
+            assert!(rt; cut == Err(Stop::No(No::Down)));
+        } else {
+            assert!(rt; cut == Ok((2, true)));
+        }
+        assert!(rt; config.serial == 2 && both_good(&config));
+        revive(&mut shelf);
+        let serial = if calls < 4 { 1 } else { 2 };
+        assert!(rt; found(alloc, &mut shelf) == Ok((serial, 3, true)));
+    }
+}
+
 #[test]
 fn a_copy_goes_over_the_lesser_one(rt: HostRuntime) {
     let alloc = rt.alloc();
