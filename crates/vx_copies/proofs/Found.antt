@@ -4,8 +4,9 @@ use Rattle.std.specs.Prelude.{not}
 use Rattle.vx_disk.specs.Moves.{Beside}
 use Rattle.vx_disk.specs.Shelf.{Each, Image, Lawful, Meaning}
 use Rattle.vx_disk.proofs.Moving.{wider}
-use Rattle.vx_copyfmt.specs.Commits.{FromNew, FromOld, Gives, Older}
+use Rattle.vx_copyfmt.specs.Commits.{FromNew, FromOld, Gives, Older, Tidy, exactly}
 use Rattle.vx_copyfmt.specs.Imports.{import_of}
+use Rattle.vx_copyfmt.proofs.Areas.{tidy_one}
 use Rattle.vx_copyfmt.proofs.Newest.{amid_gives}
 use Rattle.vx_copyfmt.proofs.Committing.{commit_gives}
 use Rattle.vx_copyio.specs.Putting.{AreasOf}
@@ -15,12 +16,12 @@ use Rattle.vx_config.specs.Table.{greatest}
 use Rattle.vx_config.specs.declared.config.Config.{Config}
 use Rattle.vx_copies.specs.Answers.{good_set}
 use Rattle.vx_copies.specs.Bodies.{failed_in}
-use Rattle.vx_copies.specs.Commits.{AllFailed, Begins, CommitStops, Finds, Grown, HaveLabels, Held, IsBefore, IsOne, IsTry, MayFind, OldOrBegun, Outcome, Ready, Stage, Stands, TriesEnd, Underway, WasCommitted}
+use Rattle.vx_copies.specs.Commits.{AllFailed, Begins, CommitStops, Finds, Grown, HaveLabels, Held, IsBefore, IsOne, IsTry, MayFind, OldOrBegun, Outcome, Ready, Stage, Stands, StayFit, TriesEnd, Underway, WasCommitted}
 use Rattle.vx_copies.specs.Looking.{on_shelf}
 use Rattle.vx_copies.specs.Marks.{HasGood, NoneGood, failed_at}
 use Rattle.vx_copies.proofs.Goods.{good_bit}
 use Rattle.vx_copies.proofs.Outcomes.{outcome}
-use Rattle.vx_copies.proofs.OneTry.{as_before, held_or, new_wider, not_both, shelf_same, tidy_older}
+use Rattle.vx_copies.proofs.OneTry.{as_before, held_or, new_wider, not_both, shelf_same, tidy_later, tidy_older}
 
 -- some image of before, where the shelf tells
 base_of : (c : Config) (old new : Meaning) → Lawful old → new.tells ≡ old.tells → (IsFalse new.tells → ⊥) → (base : Image) × Each old.leaves base
@@ -104,6 +105,24 @@ module _ (good : ℕ) (c d : Config) (old new : Meaning) (underway : Underway go
   pub begins_before : Begins (IsBefore c d old new) c old new
   begins_before = begins_so (IsBefore c d old new) one_before
 
+  -- ---- what is ready for the next serial
+
+  fit_before : Ready c old → (i : Image) → Each old.leaves i → (u : ℕ) → Held c old u → Tidy (on_shelf old) (d.serial + 1) (exactly (i u))
+  fit_before ready i each u mine =
+      tidy_later (on_shelf old) (c.serial + 1) (d.serial + 1) (exactly (i u)) (omega (arith, underway.serial)) (tidy_one (on_shelf old) (c.serial + 1) (old.leaves u) (i u) (ready.tidy u mine) (λ b. each u b))
+
+  pub fits_try : Lawful old → StayFit c d.serial old new
+  fits_try before = record {
+    since = λ ready. record {
+      later = underway.moves.later;
+      each = λ i left. elim (underway.moves.since old.moment i (omega arith) left) [
+        | inl was ↦ record { each = λ u mine. fit_before ready i (before.within i (before.only_now i was)) u mine }
+        | inr now ↦ record { each = λ u mine. now.1.fit ready u mine }
+      ];
+    };
+    now = λ ready i left. record { each = λ u mine. (underway.now i left).fit ready u mine };
+  }
+
   -- ---- one configuration for all imports
 
   module _ (before : Lawful old) (after : Lawful new) (held : Option Config) (was : WasCommitted good held old) (ready : Ready c old) (labels : HaveLabels old) where
@@ -116,6 +135,7 @@ module _ (good : ℕ) (c d : Config) (old new : Meaning) (underway : Underway go
               outcome good c d old new underway held was ready labels some.0 some.1 i (λ u b. inl (each u b)) (record {
                 each = λ first u mine. inl (as_before (on_shelf old) (old.leaves u) (i u) (λ b. each u b));
                 led = λ first u mine out. inl (as_before (on_shelf old) (old.leaves u) (i u) (λ b. each u b));
+                fit = λ first u mine. fit_before first i each u mine;
               })
           | inr now ↦ outcome good c d old new underway held was ready labels some.0 some.1 i now.0 now.1
         ]

@@ -1,5 +1,5 @@
 -- Tries one after the other.
-use Rattle.std.proofs.Common.{◌≡◌, ◌⊎◌, inl, inr, ⊎_elim, ℕ, ◌<◌, ◌≤◌, Bool, true, false, Option, Some, List, length, refl, sym, subst, ◌∙◌, arith}
+use Rattle.std.proofs.Common.{◌≡◌, ◌⊎◌, inl, inr, ⊎_elim, ℕ, ◌+◌, ◌<◌, ◌≤◌, Bool, true, false, Option, Some, List, length, refl, sym, subst, ◌∙◌, arith}
 use Rattle.std.specs.Prelude.{nat_lt, if◌then◌else◌}
 use Rattle.std.proofs.lemmas.Bool.{cases_lt, le-ltb, lt-ltb}
 use Rattle.vx_disk.specs.Blocks.{bit_at}
@@ -9,8 +9,9 @@ use Rattle.vx_disk.specs.Shelf.{Each, Image, Lawful, Meaning}
 use Rattle.vx_disk.proofs.Causing.{Rose_after, Rose_before}
 use Rattle.vx_disk.proofs.Moving.{goes_on, still, wider}
 use Rattle.vx_copyfmt.specs.Copies.{Disk, Holds, copy_of}
-use Rattle.vx_copyfmt.specs.Commits.{Among, FromNew, FromOld, Slots, Written}
+use Rattle.vx_copyfmt.specs.Commits.{Among, FromNew, FromOld, Slots, Tidy, Written, exactly}
 use Rattle.vx_copyfmt.specs.Labels.{seen_in}
+use Rattle.vx_copyfmt.proofs.Areas.{tidy_one}
 use Rattle.vx_copyio.specs.Labelling.{AreLarge}
 use Rattle.vx_copyio.specs.Putting.{AreasOf}
 use Rattle.vx_config.specs.Table.{greatest}
@@ -21,7 +22,7 @@ use Rattle.vx_copies.specs.Commits.{Behind, Grown, Held, IsBefore, IsBlamed, IsO
 use Rattle.vx_copies.specs.Looking.{on_shelf}
 use Rattle.vx_copies.specs.Marks.{NoneGood, failed_at}
 use Rattle.vx_copies.proofs.MarkedDisks.{serial_grown}
-use Rattle.vx_copies.proofs.OneTry.{as_before, held_or, kept_good, new_wider, not_both, shelf_same}
+use Rattle.vx_copies.proofs.OneTry.{as_before, held_or, kept_good, new_wider, not_both, shelf_same, tidy_later}
 
 -- ---- none yet
 
@@ -37,7 +38,9 @@ none_yet good c m = record {
   now = λ i left. record {
     each = λ ready u held. inl (as_before (on_shelf m) (m.leaves u) (i u) (λ b. left u b));
     led = λ ready u held out. inl (as_before (on_shelf m) (m.leaves u) (i u) (λ b. left u b));
+    fit = λ ready u held. tidy_one (on_shelf m) (c.serial + 1) (m.leaves u) (i u) (ready.tidy u held) (λ b. left u b);
   };
+  fits = λ ready u e held among. tidy_one (on_shelf m) (c.serial + 1) (m.leaves u) e (ready.tidy u held) among;
 }
 
 -- ---- more disks that are held as failed
@@ -217,6 +220,12 @@ module _ (good : ℕ) (a c d : Config) (old mid new : Meaning) (one : Underway g
   not_held : (u : ℕ) → failed_at c.disks u ≡ true → Held c mid u → ⊥
   not_held u failed held = not_both (failed_at c.disks u) held.good failed
 
+  fit_two : (u : ℕ) (e : Disk) → Tidy (on_shelf mid) (d.serial + 1) (exactly e) → Tidy (on_shelf old) (d.serial + 1) (exactly e)
+  fit_two u e tidy = subst (λ (r : List ℕ → Option Config). Tidy r (d.serial + 1) (exactly e)) (sym same) tidy
+
+  fit_one : Ready a old → (u : ℕ) (e : Disk) → Held a old u → Among (mid.leaves u) e → Tidy (on_shelf old) (d.serial + 1) (exactly e)
+  fit_one first u e held among = tidy_later (on_shelf old) (c.serial + 1) (d.serial + 1) (exactly e) (omega (arith, two.serial)) (one.fits first u e held among)
+
   -- ---- an image in the second part, and one from before it
 
   module _ (first : Ready a old) (i : Image) (beside : Beside (AreasOf (Held c mid)) mid.leaves i) (seen : Stage good c d.serial two.tries mid i) (base : Image) (has : Each mid.leaves base) where
@@ -319,6 +328,12 @@ module _ (good : ℕ) (a c d : Config) (old mid new : Meaning) (one : Underway g
       | inr failed ↦ of_one first u (i u) held (λ b. left_alone u b (i u b) (not_held u failed) (beside u b))
     ]
 
+    fit_both : (u : ℕ) → Held a old u → Tidy (on_shelf old) (d.serial + 1) (exactly (i u))
+    fit_both u held = elim (held_or c.disks u) [
+      | inl stays ↦ fit_two u (i u) (seen.fit (ready.ready first) u (record { below = omega (arith, held.below, one.moves.units); good = stays }))
+      | inr failed ↦ fit_one first u (i u) held (λ b. left_alone u b (i u b) (not_held u failed) (beside u b))
+    ]
+
     led_both : (u : ℕ) → Held a old u → bit_at good u ≡ false → FromOld (on_shelf old) (old.leaves u) (i u) ⊎ Behind good a d.serial tries old i u
     unfolding under below
     led_both u held out = led_one u (below u).2 (before.led first u held out) out
@@ -337,10 +352,11 @@ module _ (good : ℕ) (a c d : Config) (old mid new : Meaning) (one : Underway g
     stage_both : (i : Image) → Beside (AreasOf (Held c mid)) mid.leaves i → Stage good c d.serial two.tries mid i → Stage good a d.serial tries old i
     stage_both i beside seen =
         let some = some_base i beside in
-        record { each = λ first u held. each_both first i beside seen some.0 some.1 u held; led = λ first u held out. led_both first i beside seen some.0 some.1 u held out }
+        record { each = λ first u held. each_both first i beside seen some.0 some.1 u held; led = λ first u held out. led_both first i beside seen some.0 some.1 u held out; fit = λ first u held. fit_both first i beside seen some.0 some.1 u held }
 
     one_stage : (i : Image) → Stage good a c.serial one.tries old i → Stage good a d.serial tries old i
     one_stage i seen = record {
+      fit = λ first u held. tidy_later (on_shelf old) (c.serial + 1) (d.serial + 1) (exactly (i u)) (omega (arith, two.serial)) (seen.fit first u held);
       each = λ first u held. ⊎_elim (λ from. inl from) (λ from. inr (new_wider (on_shelf old) (IsOne a c.serial one.tries u) (IsOne a d.serial tries u) (old.leaves u) (i u) (one_wide u) from)) (seen.each first u held);
       led = λ first u held out. ⊎_elim (λ from. inl from) (λ behind. inr (record {
         from = new_wider (on_shelf old) (IsOne a c.serial one.tries u) (IsOne a d.serial tries u) (old.leaves u) (i u) (one_wide u) behind.from;
@@ -365,6 +381,10 @@ module _ (good : ℕ) (a c d : Config) (old mid new : Meaning) (one : Underway g
       leaves = λ first u e held among. elim (held_or c.disks u) [
         | inl stays ↦ of_two first u e held (two.leaves (ready.ready first) u e (record { below = omega (arith, held.below, one.moves.units); good = stays }) among)
         | inr failed ↦ of_one first u e held (λ b. left_alone u b (e b) (not_held u failed) (two.moves.leaves u b (e b) (among b)))
+      ];
+      fits = λ first u e held among. elim (held_or c.disks u) [
+        | inl stays ↦ fit_two u e (two.fits (ready.ready first) u e (record { below = omega (arith, held.below, one.moves.units); good = stays }) among)
+        | inr failed ↦ fit_one first u e held (λ b. left_alone u b (e b) (not_held u failed) (two.moves.leaves u b (e b) (among b)))
       ];
       now = λ i left. stage_both i (λ u b. two.moves.leaves u b (i u b) (left u b)) (two.now i left);
     }

@@ -9,7 +9,7 @@ use Rattle.vx_wire.specs.Seals.{digest_of}
 use Rattle.vx_copyfmt.specs.Areas.{header_of}
 use Rattle.vx_copyfmt.specs.declared.area.AreaHeader.{AreaHeader}
 use Rattle.vx_copyfmt.specs.Copies.{Copy, Disk, Holds, body_of, copy_at, copy_of, copy_under, greater, judged}
-use Rattle.vx_copyfmt.specs.Commits.{Among, FromNew, FromOld, Older, Slots, Tidy}
+use Rattle.vx_copyfmt.specs.Commits.{Among, FromNew, FromOld, Older, Slots, Tidy, exactly}
 use Rattle.vx_copyio.specs.Putting.{AreasOf, IsMember, part_of}
 use Rattle.vx_config.specs.Checks.{is_sound, runs}
 use Rattle.vx_config.specs.declared.config.Config.{Config}
@@ -126,6 +126,9 @@ module _ {C : Type 0} (reads : List ℕ → Option C) where
   pub older_sub : (s t : ℕ) (old new : Slots) → s ≤ t → ((b : ℕ) (v : List ℕ) → new b v → old b v) → Older reads s old → Older reads t new
   older_sub s t old new le sub older = record { below = λ d x among is. omega (arith, le, older.below d x (λ b. sub b (d b) (among b)) is) }
 
+  pub tidy_later : (s t : ℕ) (slots : Slots) → s ≤ t → Tidy reads s slots → Tidy reads t slots
+  tidy_later s t slots le tidy = record { settled = tidy.settled; counts = tidy.counts; below = λ a v h is in_v head. omega (arith, le, tidy.below a v h is in_v head) }
+
   -- ---- where a copy comes from
 
   abbrev pub new_wider : (P Q : ℕ → C → Type 0) (slots : Slots) (d : Disk) → ((s : ℕ) (c : C) → P s c → Q s c) → FromNew reads P slots d → FromNew reads Q slots d
@@ -186,6 +189,9 @@ module _ (c t d : Config) (old new : Meaning) (next : t.serial ≡ c.serial + 1)
   of_this : (u : ℕ) (e : Disk) → OldOrThis t u old e → Ready c old → Held c old u → FromOld reads (old.leaves u) e ⊎ FromNew reads (IsOne c d.serial tries u) (old.leaves u) e
   of_this u e one ready held = ⊎_elim (λ from. inl from) (λ from. inr (new_wider reads (IsThis t) (IsOne c d.serial tries u) (old.leaves u) e (these_one u held) from)) (one.each (tidy_next ready u held))
 
+  fit_this : (u : ℕ) (e : Disk) → OldOrThis t u old e → Ready c old → Held c old u → Tidy reads (d.serial + 1) (exactly e)
+  fit_this u e one ready held = tidy_later reads (t.serial + 1) (d.serial + 1) (exactly e) (omega (arith, next, after)) (one.fit (tidy_next ready u held))
+
   module _ (good : ℕ) (some : HasGood c.disks good) (order : OrderedThis (IsMember (part_of (good_set t.disks) good true) old.units) (IsMember (part_of (good_set t.disks) good false) old.units) t old new) where
     abbrev First : ℕ → Type 0
     First = IsMember (part_of (good_set t.disks) good true) old.units
@@ -217,6 +223,7 @@ module _ (c t d : Config) (old new : Meaning) (next : t.serial ≡ c.serial + 1)
         | inl was ↦ inl (as_before reads (old.leaves u) (i u) (was u (second_of u held out)))
         | inr new ↦ led_by i u ready (new some.disk first_of (tidy_next ready some.disk leads)) (of_this u (i u) (seen u (held_mine u held)) ready held)
       ];
+      fit = λ ready u held. fit_this u (i u) (seen u (held_mine u held)) ready held;
     }
 
     -- a crash in the try leaves such a stage
@@ -262,6 +269,7 @@ module _ (c t d : Config) (old new : Meaning) (next : t.serial ≡ c.serial + 1)
       chain = λ s r above le within u failed. failed;
       moves = try_moves;
       leaves = λ ready u e held among. of_this u e (tried.leaves u e (held_mine u held) among) ready held;
+      fits = λ ready u e held among. fit_this u e (tried.leaves u e (held_mine u held) among) ready held;
       now = λ i left. stage i (λ u mine. tried.leaves u (i u) mine (λ b. left u b)) (order.now i left);
     }
 

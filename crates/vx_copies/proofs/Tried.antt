@@ -4,7 +4,7 @@ use Rattle.std.proofs.lemmas.List.{append-nil}
 use Rattle.vx_disk.specs.Shelf.{Image, Meaning}
 use Rattle.vx_disk.proofs.Moving.{wider}
 use Rattle.vx_copyfmt.specs.Copies.{Disk}
-use Rattle.vx_copyfmt.specs.Commits.{Tidy}
+use Rattle.vx_copyfmt.specs.Commits.{Tidy, exactly}
 use Rattle.vx_copyfmt.specs.declared.area.AreaHeader.{AreaHeader}
 use Rattle.vx_copyio.specs.Orders.{InOrder, Ordered}
 use Rattle.vx_copyio.specs.Putting.{AllNew, AreasOf, Copied, CopyStops, InImages, IsMember, OldOrNew, StaysTidy, those}
@@ -42,6 +42,7 @@ module _ (h : AreaHeader) (body : List ℕ) (c : Config) (old : Meaning) (serial
   of_disk u d one = record {
     each = λ tidy. ⊎_elim (λ from. inl (old_read reads (old.leaves u) d from)) (λ from. inr (new_read reads (IsThis c) h body c (old.leaves u) d is this from))
         (one.each (counts reads) (ready_bytes u tidy) counted);
+    fit = λ tidy. subst (λ (n : ℕ). Tidy reads (n + 1) (exactly d)) serial (tidy_read reads (h.serial + 1) (exactly d) (one.fit (counts reads) (ready_bytes u tidy) counted));
   }
 
   pub of_tidy : (u : ℕ) (new : Meaning) → StaysTidy u h body old new → StaysReady c u old new

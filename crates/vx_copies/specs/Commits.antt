@@ -16,7 +16,7 @@ use Rattle.vx_config.specs.Table.{greatest}
 use Rattle.vx_config.specs.declared.config.Config.{Config}
 use Rattle.vx_config.specs.declared.entry.DiskEntry.{DiskEntry}
 use Rattle.vx_copyfmt.specs.Copies.{Disk}
-use Rattle.vx_copyfmt.specs.Commits.{Among, Answers, Committed, FindsNew, FindsOld, FromNew, FromOld, IsGood, Older, Tidy, Written}
+use Rattle.vx_copyfmt.specs.Commits.{Among, Answers, Committed, FindsNew, FindsOld, FromNew, FromOld, IsGood, Older, Tidy, Written, exactly}
 use Rattle.vx_copyfmt.specs.Imports.{import_of, is_label}
 use Rattle.vx_copyfmt.specs.Labels.{seen_in}
 use Rattle.vx_copyio.specs.Putting.{AreasOf}
@@ -30,8 +30,8 @@ pub record Held (c : Config) (m : Meaning) (u : ℕ) : Type 0 where
   pub below : u < m.units
   pub good : failed_at c.disks u ≡ false
 
--- The disks are ready for the next serial: each header of one that is held as good counts and has one value, and neither these nor the
--- copies of the others have a serial above that of the configuration.
+-- The disks are ready for the next serial: each header of one that is held as good has one value, and the greater one counts; and neither
+-- these nor the copies of the others have a serial above that of the configuration.
 pub record Ready (c : Config) (m : Meaning) : Type 0 where
   pub tidy : (u : ℕ) → Held c m u → Tidy (on_shelf m) (c.serial + 1) (m.leaves u)
   pub older : (u : ℕ) → u < m.units → failed_at c.disks u ≡ true → Older (on_shelf m) (c.serial + 1) (m.leaves u)
@@ -88,11 +88,12 @@ pub record Behind (good : ℕ) (c : Config) (last : ℕ) (tries : ℕ → Config
   pub front : FromNew (on_shelf m) (IsOne c last tries leader) (m.leaves leader) (i leader)
   pub ahead : from.serial ≤ front.serial
 
--- Where the disks were ready, each that was held as good has in the image its copy of before, or one that was begun; and one that is no
--- member of the set has such a copy only behind one that is.
+-- Where the disks were ready, each that was held as good has in the image its copy of before, or one that was begun, and is ready for the next
+-- serial; and one that is no member of the set has such a copy only behind one that is.
 pub record Stage (good : ℕ) (c : Config) (last : ℕ) (tries : ℕ → Config) (m : Meaning) (i : Image) : Type 0 where
   pub each : Ready c m → (u : ℕ) → Held c m u → FromOld (on_shelf m) (m.leaves u) (i u) ⊎ FromNew (on_shelf m) (IsOne c last tries u) (m.leaves u) (i u)
   pub led : Ready c m → (u : ℕ) → Held c m u → bit_at good u ≡ false → FromOld (on_shelf m) (m.leaves u) (i u) ⊎ Behind good c last tries m i u
+  pub fit : Ready c m → (u : ℕ) → Held c m u → Tidy (on_shelf m) (last + 1) (exactly (i u))
 
 -- Tries were made, from one configuration to another: under each serial one, of which a later one has no fewer failed disks.
 pub record Underway (good : ℕ) (c d : Config) (old new : Meaning) : Type 0 where
@@ -103,6 +104,7 @@ pub record Underway (good : ℕ) (c d : Config) (old new : Meaning) : Type 0 whe
   pub chain : (s t : ℕ) → c.serial < s → s ≤ t → t ≤ d.serial → (u : ℕ) → failed_at (tries s).disks u ≡ true → failed_at (tries t).disks u ≡ true
   pub moves : Moves (AreasOf (Held c old)) (Stage good c d.serial tries old) old new
   pub leaves : Ready c old → (u : ℕ) (e : Disk) → Held c old u → Among (new.leaves u) e → FromOld (on_shelf old) (old.leaves u) e ⊎ FromNew (on_shelf old) (IsOne c d.serial tries u) (old.leaves u) e
+  pub fits : Ready c old → (u : ℕ) (e : Disk) → Held c old u → Among (new.leaves u) e → Tidy (on_shelf old) (d.serial + 1) (exactly e)
   pub now : (i : Image) → Each new.leaves i → Stage good c d.serial tries old i
 
 -- the disks are ready again
@@ -178,6 +180,15 @@ pub record Finds (good : ℕ) (begun : ℕ → Config → Type 0) (c : Config) (
   pub now : Ready c old → (i : Image) → Each new.leaves i → MayFind begun old i
   pub outcome_since : (held : Option Config) → WasCommitted good held old → Ready c old → HaveLabels old → LeavesOnly old new (Outcome begun held old)
   pub outcome_now : (held : Option Config) → WasCommitted good held old → Ready c old → HaveLabels old → (i : Image) → Each new.leaves i → Outcome begun held old i
+
+-- each disk that was held as good is in the image by itself ready for the serial behind this one
+pub record AreFit (c : Config) (last : ℕ) (m : Meaning) (i : Image) : Type 0 where
+  pub each : (u : ℕ) → Held c m u → Tidy (on_shelf m) (last + 1) (exactly (i u))
+
+-- so it is at each moment since the call began, and now, where the disks were ready
+pub record StayFit (c : Config) (last : ℕ) (old new : Meaning) : Type 0 where
+  pub since : Ready c old → LeavesOnly old new (AreFit c last old)
+  pub now : Ready c old → (i : Image) → Each new.leaves i → AreFit c last old i
 
 -- a commit is done: the configuration has a later serial and the failed disks held so, and is the newest committed one
 pub record Done (good : ℕ) (c d : Config) (old new : Meaning) : Type 0 where

@@ -4,7 +4,7 @@ use Rattle.vx_disk.specs.Blocks.{bit_at}
 use Rattle.vx_disk.specs.Moves.{Moves}
 use Rattle.vx_disk.specs.Shelf.{Image, Meaning}
 use Rattle.vx_copyfmt.specs.Copies.{Disk}
-use Rattle.vx_copyfmt.specs.Commits.{Among, FromNew, FromOld, Tidy}
+use Rattle.vx_copyfmt.specs.Commits.{Among, FromNew, FromOld, Tidy, exactly}
 use Rattle.vx_copyio.specs.Putting.{AreasOf, FailedOn, IsMember, part_of}
 use Rattle.vx_copyio.specs.declared.spread.CopyFailed.{CopyFailed}
 use Rattle.vx_config.specs.declared.config.Config.{Config}
@@ -16,10 +16,10 @@ pub record IsThis (c : Config) (serial : ℕ) (found : Config) : Type 0 where
   pub serial_is : serial ≡ c.serial
   pub config_is : found ≡ c
 
--- Where each header of a disk counts and has one value, and a serial below that of the configuration, the disk has the copy of before
--- or one of this configuration.
+-- Where a disk is ready for this configuration, it has the copy of before or one of this configuration, and is ready for the next one.
 pub record OldOrThis (c : Config) (u : ℕ) (m : Meaning) (d : Disk) : Type 0 where
   pub each : Tidy (on_shelf m) c.serial (m.leaves u) → FromOld (on_shelf m) (m.leaves u) d ⊎ FromNew (on_shelf m) (IsThis c) (m.leaves u) d
+  pub fit : Tidy (on_shelf m) c.serial (m.leaves u) → Tidy (on_shelf m) (c.serial + 1) (exactly d)
 
 -- the same of each of these disks in an image
 pub record OldOrThese (disks : ℕ → Type 0) (c : Config) (m : Meaning) (i : Image) : Type 0 where

@@ -1,5 +1,5 @@
 -- While a body is written into the area that does not hold the greater header, a disk keeps its copy; with the new header it has the new one.
-use Rattle.std.proofs.Common.{◌≡◌, ◌⊎◌, inl, inr, ℕ, zero, suc, ◌+◌, ◌<◌, ◌≤◌, Bool, true, false, Option, Some, None, List, ◌++◌, take, refl, ap, sym, subst, ◌∙◌, arith}
+use Rattle.std.proofs.Common.{◌≡◌, ◌⊎◌, inl, inr, ⊎_elim, ℕ, zero, suc, ◌+◌, ◌<◌, ◌≤◌, Bool, true, false, Option, Some, None, List, ◌++◌, take, refl, ap, sym, subst, ◌∙◌, arith}
 use Rattle.std.specs.Prelude.{nat_lt, bytes_eq, if◌then◌else◌}
 use Rattle.std.proofs.lemmas.Bool.{cases_lt, lt-ltb, le-ltb}
 use Rattle.vx_wire.specs.Seals.{digest_of}
@@ -8,7 +8,7 @@ use Rattle.vx_copyfmt.specs.Areas.{header_of}
 use Rattle.vx_copyfmt.specs.Labels.{seen_in}
 use Rattle.vx_copyfmt.specs.declared.area.AreaHeader.{AreaHeader}
 use Rattle.vx_copyfmt.specs.Copies.{Disk, Copy, Holds, run_of, body_of, area_a, area_b, greater, holding, judged, copy_with, copy_under, copy_at, copy_of}
-use Rattle.vx_copyfmt.specs.Commits.{Slots, Among, target_of, IsHeaderBlock, Tidy, Mixed, FromOld}
+use Rattle.vx_copyfmt.specs.Commits.{Slots, Among, target_of, exactly, IsHeaderBlock, IsTop, Tidy, Mixed, FromOld}
 
 -- ---- what an area depends on
 
@@ -48,6 +48,22 @@ target_block (Some x) (Some y) = elim (cases_lt x.serial y.serial) [
   | inl lt ↦ inl (rw (lt-ltb x.serial y.serial lt) refl)
   | inr le ↦ inr (rw (le-ltb x.serial y.serial le) refl)
 ]
+
+target_low : (p q : Option AreaHeader) (x y : AreaHeader) → p ≡ Some x → q ≡ Some y → x.serial < y.serial → target_of p q ≡ area_a
+target_low p q x y is_x is_y lt = rw (is_x, is_y, lt-ltb x.serial y.serial lt) refl
+
+target_high : (p q : Option AreaHeader) (x y : AreaHeader) → p ≡ Some x → q ≡ Some y → y.serial ≤ x.serial → target_of p q ≡ area_b
+target_high p q x y is_x is_y le = rw (is_x, is_y, le-ltb x.serial y.serial le) refl
+
+-- the next copy goes to the area of the lesser header
+pub target_lesser : (d : Disk) (area a : ℕ) (h g : AreaHeader) → IsHeaderBlock area → IsHeaderBlock a → (a ≡ area → ⊥) → header_of (d area) ≡ Some h → header_of (d a) ≡ Some g → g.serial < h.serial
+    → target_of (header_of (d area_a)) (header_of (d area_b)) ≡ a
+target_lesser d area a h g (inl one) (inl is) apart here there lt = absurd (apart (is ∙ sym one))
+target_lesser d area a h g (inr one) (inr is) apart here there lt = absurd (apart (is ∙ sym one))
+target_lesser d area a h g (inl one) (inr is) apart here there lt =
+    target_high (header_of (d area_a)) (header_of (d area_b)) h g (ap (λ (b : ℕ). header_of (d b)) (sym one) ∙ here) (ap (λ (b : ℕ). header_of (d b)) (sym is) ∙ there) (omega (arith, lt)) ∙ sym is
+target_lesser d area a h g (inr one) (inl is) apart here there lt =
+    target_low (header_of (d area_a)) (header_of (d area_b)) g h (ap (λ (b : ℕ). header_of (d b)) (sym is) ∙ there) (ap (λ (b : ℕ). header_of (d b)) (sym one) ∙ here) lt ∙ sym is
 
 module _ {C : Type 0} (reads : List ℕ → Option C) where
   under_serial : (d : Disk) (area : ℕ) (h : AreaHeader) (o : Option AreaHeader) → o ≡ Some h → HasSerial h.serial (copy_under reads d area o)
@@ -169,7 +185,11 @@ module _ {C : Type 0} (reads : List ℕ → Option C) where
         let head : e area_a ≡ d area_a = mended_out d base area_a area_a (inl (omega arith)) in
         let other : e area_b ≡ d area_b = mended_out d base area_a area_b (inr (omega arith)) in
         let b_same : copy_at reads d area_b ≡ copy_at reads e area_b = copy_at-same d e area_b (λ b low high. sym (mended_out d base area_a b (inr (omega (arith, low))))) in
-        let counted = tidy.counts e area_b y (inr refl) among (ap header_of other ∙ second) in
+        let top : IsTop e area_b y = record {
+          head = ap header_of other ∙ second;
+          kept = λ at. let clash : area_a ≡ area_b = sym (target_low (header_of (e area_a)) (header_of (e area_b)) x y (ap header_of head ∙ first) (ap header_of other ∙ second) lt) ∙ at in omega (arith, clash);
+        } in
+        let counted = tidy.counts e area_b y (inr refl) among top in
         let number : counted.0.serial ≡ y.serial = serial_under e area_b y counted.0 (ap header_of other ∙ second) counted.1 in
         let below : x.serial < counted.0.serial = omega (arith, number, lt) in
         record {
@@ -187,7 +207,11 @@ module _ {C : Type 0} (reads : List ℕ → Option C) where
         let head : e area_b ≡ d area_b = mended_out d base area_b area_b (inl (omega arith)) in
         let other : e area_a ≡ d area_a = mended_out d base area_b area_a (inl (omega arith)) in
         let a_same : copy_at reads d area_a ≡ copy_at reads e area_a = copy_at-same d e area_a (λ b low high. sym (mended_out d base area_b b (inl (omega (arith, high))))) in
-        let counted = tidy.counts e area_a x (inl refl) among (ap header_of other ∙ first) in
+        let top : IsTop e area_a x = record {
+          head = ap header_of other ∙ first;
+          kept = λ at. let clash : area_b ≡ area_a = sym (target_high (header_of (e area_a)) (header_of (e area_b)) x y (ap header_of other ∙ first) (ap header_of head ∙ second) le) ∙ at in omega (arith, clash);
+        } in
+        let counted = tidy.counts e area_a x (inl refl) among top in
         let number : counted.0.serial ≡ x.serial = serial_under e area_a x counted.0 (ap header_of other ∙ first) counted.1 in
         let below : y.serial ≤ counted.0.serial = omega (arith, number, le) in
         record {
@@ -215,6 +239,68 @@ module _ {C : Type 0} (reads : List ℕ → Option C) where
         out_b : (area : ℕ) → IsHeaderBlock area → (area_b ≤ area) ⊎ (area + 128 ≤ area_b)
         out_b area (inl is) = inr (omega (arith, is))
         out_b area (inr is) = inl (omega (arith, is))
+
+  -- ---- what is ready for the next copy
+
+  -- a disk of those that are
+  pub tidy_one : (serial : ℕ) (slots : Slots) (d : Disk) → Tidy reads serial slots → Among slots d → Tidy reads serial (exactly d)
+  tidy_one serial slots d tidy among = record {
+    settled = λ a v w is in_v in_w. in_v ∙ sym in_w;
+    counts = λ e a h is same top. tidy.counts e a h is (λ b. subst (slots b) (sym (same b)) (among b)) top;
+    below = λ a v h is in_v head. tidy.below a v h is (subst (slots a) (sym in_v) (among a)) head;
+  }
+
+  head_out : (area a : ℕ) → IsHeaderBlock area → IsHeaderBlock a → (a ≤ area) ⊎ (area + 128 ≤ a)
+  head_out area a (inl one) (inl is) = inl (omega (arith, one, is))
+  head_out area a (inl one) (inr is) = inr (omega (arith, one, is))
+  head_out area a (inr one) is = ⊎_elim (λ (x : a ≡ area_a). inl (omega (arith, one, x))) (λ (x : a ≡ area_b). inl (omega (arith, one, x))) is
+
+  area_out : (area a b : ℕ) → IsHeaderBlock area → IsHeaderBlock a → (area ≡ a → ⊥) → a ≤ b → b ≤ a + 127 → (b ≤ area) ⊎ (area + 128 ≤ b)
+  area_out area a b (inl one) (inl is) apart low high = absurd (apart (one ∙ sym is))
+  area_out area a b (inl one) (inr is) apart low high = inr (omega (arith, one, is, low))
+  area_out area a b (inr one) (inl is) apart low high = inl (omega (arith, one, is, high))
+  area_out area a b (inr one) (inr is) apart low high = absurd (apart (one ∙ sym is))
+
+  -- and one of which the body of the lesser copy is written
+  module _ (serial : ℕ) (slots : Slots) (tidy : Tidy reads serial slots) (base : Disk) (has : Among slots base) (d : Disk) where
+    mixed_counts : (area : ℕ) → IsHeaderBlock area → target_of (header_of (d area_a)) (header_of (d area_b)) ≡ area → Mixed slots area d
+        → (a : ℕ) (h : AreaHeader) → IsHeaderBlock a → IsTop d a h → (x : Copy C) × (copy_at reads d a ≡ Some x)
+    mixed_counts area one target mixed a h is top =
+        let e : Disk = mended d base area in
+        let apart : area ≡ a → ⊥ = λ same. top.kept (target ∙ same) in
+        let head : e a ≡ d a = mended_out d base area a (head_out area a one is) in
+        let first : e area_a ≡ d area_a = mended_out d base area area_a (head_out area area_a one (inl refl)) in
+        let second : e area_b ≡ d area_b = mended_out d base area area_b (head_out area area_b one (inr refl)) in
+        let same : target_of (header_of (e area_a)) (header_of (e area_b)) ≡ target_of (header_of (d area_a)) (header_of (d area_b)) =
+        ap (λ (v : List ℕ). target_of (header_of v) (header_of (e area_b))) first ∙ ap (λ (v : List ℕ). target_of (header_of (d area_a)) (header_of v)) second in
+        let found = tidy.counts e a h is (mended_among slots d base area has mixed) (record { head = ap header_of head ∙ top.head; kept = λ at. top.kept (sym same ∙ at) }) in
+        (found.0, copy_at-same d e a (λ b low high. sym (mended_out d base area b (area_out area a b one is apart low high))) ∙ found.1)
+
+    pub stays_tidy : (v w : List ℕ) → slots area_a v → slots area_b w → Mixed slots (target_of (header_of v) (header_of w)) d → Tidy reads (serial + 1) (exactly d)
+    stays_tidy v w in_a in_b mixed = record {
+      settled = λ a x y is in_x in_y. in_x ∙ sym in_y;
+      counts = λ e a h is same top.
+          let first : e area_a ≡ d area_a = same area_a in
+          let second : e area_b ≡ d area_b = same area_b in
+          let alike_target : target_of (header_of (d area_a)) (header_of (d area_b)) ≡ target_of (header_of (e area_a)) (header_of (e area_b)) =
+          ap (λ (x : List ℕ). target_of (header_of x) (header_of (d area_b))) (sym first) ∙ ap (λ (x : List ℕ). target_of (header_of (e area_a)) (header_of x)) (sym second) in
+          let found = mixed_counts area one here mixed a h is (record { head = ap header_of (sym (same a)) ∙ top.head; kept = λ at. top.kept (sym alike_target ∙ at) }) in
+          (found.0, copy_at-same e d a (λ b low high. same b) ∙ found.1);
+      below = λ a x h is in_x head. let lt : h.serial < serial = tidy.below a x h is (subst (slots a) (sym in_x) (there a is)) head in omega (arith, lt);
+    }
+      where
+        area : ℕ
+        area = target_of (header_of v) (header_of w)
+
+        one : IsHeaderBlock area
+        one = target_block (header_of v) (header_of w)
+
+        there : (a : ℕ) → IsHeaderBlock a → slots a (d a)
+        there a is = outside slots area a (d a) (head_out area a one is) (mixed a)
+
+        here : target_of (header_of (d area_a)) (header_of (d area_b)) ≡ area
+        here = ap (λ (x : List ℕ). target_of (header_of x) (header_of (d area_b))) (tidy.settled area_a (d area_a) v (inl refl) (there area_a (inl refl)) in_a)
+            ∙ ap (λ (x : List ℕ). target_of (header_of v) (header_of x)) (tidy.settled area_b (d area_b) w (inr refl) (there area_b (inr refl)) in_b)
 
   -- ---- once the new header stands
 

@@ -25,10 +25,20 @@ target_of (Some x) (Some y) = if nat_lt x.serial y.serial then area_a else area_
 abbrev pub IsHeaderBlock : ℕ → Type 0
 IsHeaderBlock a = (a ≡ area_a) ⊎ (a ≡ area_b)
 
--- the header of a disk in each area has one value, and counts: its body is a configuration or has another digest; its serial is below this one
+-- the disk alone
+abbrev pub exactly : Disk → Slots
+exactly d b v = v ≡ d b
+
+-- the greater header, which is in the area that the next copy leaves alone
+pub record IsTop (d : Disk) (a : ℕ) (h : AreaHeader) : Type 0 where
+  pub head : header_of (d a) ≡ Some h
+  pub kept : target_of (header_of (d area_a)) (header_of (d area_b)) ≡ a → ⊥
+
+-- the header of a disk in each area has one value, with a serial below this one; and the greater one counts: its body is a configuration or
+-- has another digest
 pub record Tidy {C : Type 0} (reads : List ℕ → Option C) (serial : ℕ) (slots : Slots) : Type 0 where
   pub settled : (a : ℕ) (v w : List ℕ) → IsHeaderBlock a → slots a v → slots a w → v ≡ w
-  pub counts : (d : Disk) (a : ℕ) (h : AreaHeader) → IsHeaderBlock a → Among slots d → header_of (d a) ≡ Some h → (x : Copy C) × (copy_at reads d a ≡ Some x)
+  pub counts : (d : Disk) (a : ℕ) (h : AreaHeader) → IsHeaderBlock a → Among slots d → IsTop d a h → (x : Copy C) × (copy_at reads d a ≡ Some x)
   pub below : (a : ℕ) (v : List ℕ) (h : AreaHeader) → IsHeaderBlock a → slots a v → header_of v ≡ Some h → h.serial < serial
 
 -- every block but those of a body in this area has one of its values

@@ -1,5 +1,5 @@
 -- The calls that write a copy, one after the other.
-use Rattle.std.proofs.Common.{◌≡◌, ◌⊎◌, inl, inr, ⊎_elim, ℕ, ◌+◌, ◌≤◌, Bool, true, false, IsTrue, IsFalse, List, length, take, refl, ap, sym, subst, ◌∙◌, arith}
+use Rattle.std.proofs.Common.{◌≡◌, ◌⊎◌, inl, inr, ⊎_elim, ℕ, ◌+◌, ◌≤◌, Bool, true, false, IsTrue, IsFalse, Option, List, length, take, refl, ap, sym, subst, ◌∙◌, arith}
 use Rattle.vx_wire.specs.Seals.{digest_of}
 use Rattle.vx_wire.proofs.SealLemmas.{length-digest_of}
 use Rattle.vx_disk.specs.Shelf.{Meaning, Lawful, Covers, Written, Nothing, Goes, KeepsAll, Read, piece}
@@ -8,10 +8,10 @@ use Rattle.vx_disk.proofs.Moving.{of_goes, then_goes}
 use Rattle.vx_disk.proofs.Runs.{at_rest, covers_one, piece_one, KeepsAll_one}
 use Rattle.vx_copyfmt.specs.Areas.{CanSpellArea, area_block, header_of}
 use Rattle.vx_copyfmt.specs.Copies.{Disk, area_a, area_b}
-use Rattle.vx_copyfmt.specs.Commits.{Among, IsHeaderBlock, Mixed, Tidy, target_of}
+use Rattle.vx_copyfmt.specs.Commits.{Among, IsHeaderBlock, Mixed, Slots, Tidy, exactly, target_of}
 use Rattle.vx_copyfmt.specs.declared.area.AreaHeader.{AreaHeader}
 use Rattle.vx_copyfmt.proofs.AreaLemmas.{length-area_block}
-use Rattle.vx_copyfmt.proofs.Areas.{stays}
+use Rattle.vx_copyfmt.proofs.Areas.{stays, stays_tidy, tidy_one}
 use Rattle.vx_copyio.specs.Putting.{InImage, IsTarget, LeavesNew, LeavesOldOrNew, OldOrNew, those}
 use Rattle.vx_copyio.proofs.Slots.{FillsBlocks, Landed, landed_new, landed_tidy, new_copy}
 
@@ -40,9 +40,19 @@ target_is disk first second old mid lawful lawful_mid long wide goes one two = r
 
 -- ---- what stays
 
+pub tidy_more : (reads : List ℕ → Option (List ℕ)) (serial : ℕ) (slots : Slots) → Tidy reads serial slots → Tidy reads (serial + 1) slots
+tidy_more reads serial slots tidy = record {
+  settled = tidy.settled;
+  counts = tidy.counts;
+  below = λ a v head is in_v is_head. omega (arith, tidy.below a v head is in_v is_head);
+}
+
 -- a disk of before
-as_old : (disk : ℕ) (h : AreaHeader) (body : List ℕ) (m : Meaning) (d : Disk) → Among (m.leaves disk) d → OldOrNew disk h body m d
-as_old disk h body m d among = record { each = λ counts tidy counted. inl (record { disk = d; among = among; label = refl; copy = refl }) }
+pub as_old : (disk : ℕ) (h : AreaHeader) (body : List ℕ) (m : Meaning) (d : Disk) → Among (m.leaves disk) d → OldOrNew disk h body m d
+as_old disk h body m d among = record {
+  each = λ counts tidy counted. inl (record { disk = d; among = among; label = refl; copy = refl });
+  fit = λ counts tidy counted. tidy_more (those counts) h.serial (exactly d) (tidy_one (those counts) h.serial (m.leaves disk) d tidy among);
+}
 
 -- nothing was written
 pub read_moves : (disk : ℕ) (h : AreaHeader) (body : List ℕ) (old new : Meaning) → Goes Nothing old new → Moves (Run disk 1 256) (InImage disk h body old) old new
@@ -98,12 +108,17 @@ module _ (disk area : ℕ) (h : AreaHeader) (body : List ℕ) (can : CanSpellAre
   -- a disk of which only body blocks are other ones
   mixed_old : (d : Disk) → Mixed (old.leaves disk) area d → OldOrNew disk h body old d
   mixed_old d mixed = record {
-    each = λ counts tidy counted. inl (
-        let first : old.leaves disk 0 (d 0) = ⊎_elim (λ is. is) (λ (in_it : (area + 1 ≤ 0) × (0 ≤ area + 127)). absurd (omega (arith, in_it.0))) (mixed 0) in
-        let tells : IsTrue old.tells = tells_of old lawful disk 0 (d 0) first in
-        stays (those counts) h.serial (old.leaves disk) tidy (λ b. (a_disk old lawful tells disk b).0) (λ b. (a_disk old lawful tells disk b).1) d
+    each = λ counts tidy counted. inl (stays (those counts) h.serial (old.leaves disk) tidy (λ b. (a_disk old lawful tells disk b).0) (λ b. (a_disk old lawful tells disk b).1) d
         target.first target.second (target.in_a tells) (target.in_b tells) (subst (λ (k : ℕ). Mixed (old.leaves disk) k d) target.is mixed));
+    fit = λ counts tidy counted. stays_tidy (those counts) h.serial (old.leaves disk) tidy (λ b. (a_disk old lawful tells disk b).0) (λ b. (a_disk old lawful tells disk b).1) d
+        target.first target.second (target.in_a tells) (target.in_b tells) (subst (λ (k : ℕ). Mixed (old.leaves disk) k d) target.is mixed);
   }
+    where
+      first : old.leaves disk 0 (d 0)
+      first = ⊎_elim (λ is. is) (λ (in_it : (area + 1 ≤ 0) × (0 ≤ area + 127)). absurd (omega (arith, in_it.0))) (mixed 0)
+
+      tells : IsTrue old.tells
+      tells = tells_of old lawful disk 0 (d 0) first
 
   body_mixed : (m : Meaning) (d : Disk) → ((b : ℕ) → old.leaves disk b (d b) ⊎ OfBody disk b (d b)) → Mixed (old.leaves disk) area d
   body_mixed m d or b = ⊎_elim (λ was. inl was) (λ put. inr (in_body disk b (d b) put)) (or b)
@@ -152,6 +167,12 @@ module _ (disk area : ℕ) (h : AreaHeader) (body : List ℕ) (can : CanSpellAre
                 new_copy h body can fills long digest counts counted (old.leaves disk) tidy area one d (put.value ∙ piece_one area (area_block h) head_long)
                 (λ b low high. (kept.each b (record { there = refl; first = low; last = high })).only (d b) (at_mid b (λ is. omega (arith, is, low))))
                 other_head (out_of 0 zero_apart (λ in_it. omega (arith, in_it.0))));
+            fit = λ counts tidy counted. landed_tidy h body can fills long digest counts counted (old.leaves disk) (exactly d) tidy area one (record {
+              header = λ v is. is ∙ put.value ∙ piece_one area (area_block h) head_long;
+              pieces = λ b v low high is. is ∙ (kept.each b (record { there = refl; first = low; last = high })).only (d b) (at_mid b (λ at. omega (arith, at, low)));
+              rest = λ b v out is. subst (old.leaves disk b) (sym is)
+                  (out_of b (λ at. ⊎_elim (λ low. omega (arith, low, at)) (λ high. omega (arith, high, at)) out) (λ in_it. ⊎_elim (λ low. omega (arith, low, in_it.0)) (λ high. omega (arith, high, in_it.1)) out));
+            });
           }
 
       module _ (new : Meaning) (last : Goes (Written disk area (area_block h)) mid new) where
@@ -172,25 +193,8 @@ module _ (disk area : ℕ) (h : AreaHeader) (body : List ℕ) (can : CanSpellAre
             before : (b : ℕ) (v : List ℕ) → (b ≡ area → ⊥) → new.leaves disk b v → mid.leaves disk b v
             before b v apart left = ⊎_elim (λ was. was) (λ put. absurd (apart (head_only disk b v put).1)) (last.leaves disk b v left)
 
-        pub header_stands : Lawful new → KeepsAll new disk area (area_block h) → LeavesNew disk h body old new
-        header_stands lawful_new stands = record {
+        pub header_stands : KeepsAll new disk area (area_block h) → LeavesNew disk h body old new
+        header_stands stands = record {
           each = λ counts d tidy counted among. landed_new h body can fills long digest counts counted (old.leaves disk) (new.leaves disk) tidy area one (header_lands stands) d among;
-          tidy = λ counts tidy counted.
-              let tells : IsTrue old.tells → Tidy (those counts) (h.serial + 1) (new.leaves disk) = λ t.
-              landed_tidy h body can fills long digest counts counted (old.leaves disk) (new.leaves disk) tidy area one (header_lands stands) (λ b. (a_disk old lawful t disk b).0) (λ b. (a_disk old lawful t disk b).1) in
-              by_tells counts old.tells refl tells;
+          tidy = λ counts tidy counted. landed_tidy h body can fills long digest counts counted (old.leaves disk) (new.leaves disk) tidy area one (header_lands stands);
         }
-          where
-            blind : (counts : List ℕ → Bool) → old.tells ≡ false → Tidy (those counts) (h.serial + 1) (new.leaves disk)
-            blind counts quiet = record {
-              settled = λ a v w is in_v in_w. absurd (none a v in_v);
-              counts = λ d a g is among head. absurd (none a (d a) (among a));
-              below = λ a v g is in_v head. absurd (none a v in_v);
-            }
-              where
-                none : (a : ℕ) (v : List ℕ) → new.leaves disk a v → ⊥
-                none a v left = lawful_new.none (last.tells ∙ goes.tells ∙ quiet) disk a v left
-
-            by_tells : (counts : List ℕ → Bool) (t : Bool) → old.tells ≡ t → (IsTrue old.tells → Tidy (those counts) (h.serial + 1) (new.leaves disk)) → Tidy (those counts) (h.serial + 1) (new.leaves disk)
-            by_tells counts true is make = make is
-            by_tells counts false is make = blind counts is

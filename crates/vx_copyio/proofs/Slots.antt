@@ -1,16 +1,15 @@
 -- What a disk has once the body of a copy stands behind its header, or the header alone is missing.
 use Rattle.std.proofs.Common.{◌≡◌, ◌⊎◌, inl, inr, ℕ, ◌+◌, ◌-◌, ◌*◌, ◌/◌, ◌%◌, ◌<◌, ◌≤◌, Bool, true, Some, List, length, take, drop, refl, ap, sym, subst, ◌∙◌, arith}
-use Rattle.std.proofs.lemmas.Bool.{cases_lt, lt-ltb, le-ltb}
-use Rattle.std.specs.Prelude.{nat_lt, if◌then◌else◌}
+use Rattle.std.proofs.lemmas.Bool.{cases_lt}
 use Rattle.vx_wire.specs.Seals.{digest_of}
 use Rattle.vx_wire.proofs.SealLemmas.{length-digest_of}
 use Rattle.vx_disk.specs.Shelf.{piece}
 use Rattle.vx_copyfmt.specs.Areas.{CanSpellArea, area_block, header_of}
 use Rattle.vx_copyfmt.specs.Copies.{Disk, Copy, Holds, body_of, copy_at}
-use Rattle.vx_copyfmt.specs.Commits.{Slots, Among, FromNew, IsHeaderBlock, Tidy}
+use Rattle.vx_copyfmt.specs.Commits.{Slots, Among, FromNew, IsHeaderBlock, IsTop, Tidy}
 use Rattle.vx_copyfmt.specs.declared.area.AreaHeader.{AreaHeader}
 use Rattle.vx_copyfmt.proofs.AreaLemmas.{header_of-is}
-use Rattle.vx_copyfmt.proofs.Areas.{becomes, copy_at-same, under_holds}
+use Rattle.vx_copyfmt.proofs.Areas.{becomes, target_lesser, under_holds}
 use Rattle.vx_copyfmt.proofs.Bodies.{body_is}
 use Rattle.vx_copyio.specs.Putting.{IsMade, those}
 
@@ -88,22 +87,6 @@ zero_out : (area : ℕ) → IsHeaderBlock area → (0 < area) ⊎ (area + 127 < 
 zero_out area (inl is) = inl (omega (arith, is))
 zero_out area (inr is) = inl (omega (arith, is))
 
--- the blocks of one area on one disk, and the others of another
-abbrev patched : ℕ → Disk → Disk → Disk
-patched a d base b = if nat_lt b a then base b else if nat_lt (a + 127) b then base b else d b
-
-patched_in : (a : ℕ) (d base : Disk) (b : ℕ) → a ≤ b → b ≤ a + 127 → patched a d base b ≡ d b
-patched_in a d base b low high = rw (le-ltb b a low, le-ltb (a + 127) b high) refl
-
-patched_among : (slots : Slots) (a : ℕ) (d base : Disk) → ((b : ℕ) → a ≤ b → b ≤ a + 127 → slots b (d b)) → Among slots base → Among slots (patched a d base)
-patched_among slots a d base here has b = elim (cases_lt b a) [
-  | inl below ↦ rw (lt-ltb b a below) (has b)
-  | inr low ↦ elim (cases_lt (a + 127) b) [
-    | inl above ↦ rw (le-ltb b a low, lt-ltb (a + 127) b above) (has b)
-    | inr high ↦ rw (le-ltb b a low, le-ltb (a + 127) b high) (here b low high)
-  ]
-]
-
 same_or : (a area : ℕ) → (a ≡ area) ⊎ (a ≡ area → ⊥)
 same_or a area = elim (cases_lt a area) [
   | inl below ↦ inr (λ same. omega (arith, below, same))
@@ -120,27 +103,26 @@ module _ (h : AreaHeader) (body : List ℕ) (can : CanSpellArea h) (fills : Fill
       new_copy h body can fills long digest counts counted old tidy area one d (landed.header (d area) (among area)) (λ b low high. landed.pieces b (d b) low high (among b))
       (λ a is apart. landed.rest a (d a) (other_out area a one is apart a (omega arith) (omega arith)) (among a)) (landed.rest 0 (d 0) (zero_out area one) (among 0))
 
-  landed_counts : (base : Disk) → Among old base → (d : Disk) (a : ℕ) (g : AreaHeader) → IsHeaderBlock a → Among new d → header_of (d a) ≡ Some g → (x : Copy (List ℕ)) × (copy_at (those counts) d a ≡ Some x)
-  landed_counts base has d a g is among head = elim (same_or a area) [
+  landed_counts : (d : Disk) (a : ℕ) (g : AreaHeader) → IsHeaderBlock a → Among new d → IsTop d a g → (x : Copy (List ℕ)) × (copy_at (those counts) d a ≡ Some x)
+  landed_counts d a g is among top = elim (same_or a area) [
     | inl same ↦ (
       record { serial = h.serial; area = area; body = Holds (take h.length body) },
       subst (λ (k : ℕ). copy_at (those counts) d k ≡ Some (record { serial = h.serial; area = area; body = Holds (take h.length body) })) (sym same)
           (new_counts h body can fills long digest counts counted old tidy area one d (landed.header (d area) (among area)) (λ b low high. landed.pieces b (d b) low high (among b))),
     )
     | inr apart ↦
-        let e : Disk = patched a d base in
-        let kept : (b : ℕ) → a ≤ b → b ≤ a + 127 → d b ≡ e b = λ b low high. sym (patched_in a d base b low high) in
-        let found = tidy.counts e a g is (patched_among old a d base (λ b low high. landed.rest b (d b) (other_out area a one is apart b low high) (among b)) has) (ap header_of (sym (kept a (omega arith) (omega arith))) ∙ head) in
-        (found.0, copy_at-same (those counts) d e a kept ∙ found.1)
+        let lt : g.serial < h.serial = tidy.below a (d a) g is (landed.rest a (d a) (other_out area a one is apart a (omega arith) (omega arith)) (among a)) top.head in
+        let here : header_of (d area) ≡ Some h = ap header_of (landed.header (d area) (among area)) ∙ head_is h body can fills long digest in
+        absurd (top.kept (target_lesser d area a h g one is apart here top.head lt))
   ]
 
-  pub landed_tidy : (base : Disk) → Among old base → Tidy (those counts) (h.serial + 1) new
-  landed_tidy base has = record {
+  pub landed_tidy : Tidy (those counts) (h.serial + 1) new
+  landed_tidy = record {
     settled = λ a v w is in_v in_w. elim (same_or a area) [
       | inl same ↦ landed.header v (subst (λ (k : ℕ). new k v) same in_v) ∙ sym (landed.header w (subst (λ (k : ℕ). new k w) same in_w))
       | inr apart ↦ let out = other_out area a one is apart a (omega arith) (omega arith) in tidy.settled a v w is (landed.rest a v out in_v) (landed.rest a w out in_w)
     ];
-    counts = λ d a g is among head. landed_counts base has d a g is among head;
+    counts = landed_counts;
     below = λ a v g is in_v head. elim (same_or a area) [
       | inl same ↦
           let here : v ≡ area_block h = landed.header v (subst (λ (k : ℕ). new k v) same in_v) in

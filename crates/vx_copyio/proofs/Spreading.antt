@@ -13,9 +13,10 @@ use Rattle.vx_disk.specs.Shelf.{Meaning}
 use Rattle.vx_disk.proofs.Causing.{Rose_before}
 use Rattle.vx_disk.proofs.Moving.{goes_on, still, wider}
 use Rattle.vx_copyfmt.specs.Copies.{Disk}
-use Rattle.vx_copyfmt.specs.Commits.{Among, FromNew, FromOld, Slots, Tidy}
+use Rattle.vx_copyfmt.specs.Commits.{FromNew, FromOld, Slots, Tidy}
 use Rattle.vx_copyfmt.specs.declared.area.AreaHeader.{AreaHeader}
 use Rattle.vx_copyio.specs.declared.spread.CopyFailed.{CopyFailed}
+use Rattle.vx_copyio.proofs.Putting.{as_old, tidy_more}
 use Rattle.vx_copyio.specs.Putting.{AllNew, AreasOf, Copied, CopyStops, FailedOn, InImage, InImages, IsMade, IsMember, LeavesNew, LeavesOldOrNew, OldOrNew, StaysTidy, part_of, those}
 
 -- ---- fewer values
@@ -40,10 +41,8 @@ module _ (h : AreaHeader) (body : List ℕ) where
     each = λ counts tidy counted.
         ⊎_elim (λ from. inl (old_sub (those counts) (old.leaves u) (mid.leaves u) sub d from)) (λ from. inr (new_sub (those counts) (old.leaves u) (mid.leaves u) sub (IsMade h body) d from))
         (is.each counts (tidy_sub (those counts) (old.leaves u) (mid.leaves u) sub h.serial tidy) counted);
+    fit = λ counts tidy counted. is.fit counts (tidy_sub (those counts) (old.leaves u) (mid.leaves u) sub h.serial tidy) counted;
   }
-
-  as_old : (u : ℕ) (m : Meaning) (d : Disk) → Among (m.leaves u) d → OldOrNew u h body m d
-  as_old u m d among = record { each = λ counts tidy counted. inl (record { disk = d; among = among; label = refl; copy = refl }) }
 
   module _ (these : ℕ → Bool) where
     below_or : (u k : ℕ) → u < k + 1 → (u < k) ⊎ (u ≡ k)
@@ -66,7 +65,7 @@ module _ (h : AreaHeader) (body : List ℕ) where
         (λ i beside seen. record {
           each = λ u is. elim (cases_lt u k) [
             | inl below ↦ seen.each u (record { below = below; is = is.is })
-            | inr above ↦ as_old u old (i u) (λ b. ⊎_elim (λ was. was) (λ (mine : AreasOf (IsMember these k) u b). absurd (omega (arith, above, mine.on.below))) (beside u b))
+            | inr above ↦ as_old u h body old (i u) (λ b. ⊎_elim (λ was. was) (λ (mine : AreasOf (IsMember these k) u b). absurd (omega (arith, above, mine.on.below))) (beside u b))
           ];
         })
 
@@ -76,7 +75,7 @@ module _ (h : AreaHeader) (body : List ℕ) where
       moves = more_moves old new k n le copied;
       leaves = λ u is. elim (cases_lt u k) [
         | inl below ↦ copied.leaves u (record { below = below; is = is.is })
-        | inr above ↦ record { each = λ d among. as_old u old d (λ b. out_left old new k u copied above b (d b) (among b)) }
+        | inr above ↦ record { each = λ d among. as_old u h body old d (λ b. out_left old new k u copied above b (d b) (among b)) }
       ];
     }
 
@@ -147,13 +146,6 @@ failed_here old new u Down down = down
 -- ---- what stays ready where a copy was not written
 
 module _ (h : AreaHeader) (body : List ℕ) where
-  tidy_more : (reads : List ℕ → Option (List ℕ)) (serial : ℕ) (slots : Slots) → Tidy reads serial slots → Tidy reads (serial + 1) slots
-  tidy_more reads serial slots tidy = record {
-    settled = tidy.settled;
-    counts = tidy.counts;
-    below = λ a v head is in_v is_head. omega (arith, tidy.below a v head is in_v is_head);
-  }
-
   -- a disk that did not change
   pub untouched : (u : ℕ) (old new : Meaning) → ((b : ℕ) (v : List ℕ) → new.leaves u b v → old.leaves u b v) → StaysTidy u h body old new
   untouched u old new sub = record { tidy = λ counts tidy counted. tidy_more (those counts) h.serial (new.leaves u) (tidy_sub (those counts) (old.leaves u) (new.leaves u) sub h.serial tidy) }
@@ -208,7 +200,7 @@ module _ (h : AreaHeader) (body : List ℕ) (one two these : ℕ → Bool) (n : 
         (λ i beside seen. record {
           each = λ u is. elim (part_of_it u is) [
             | inl first ↦ seen.each u first
-            | inr second ↦ as_old h body u old (i u) (λ b. ⊎_elim (λ was. was) (λ (mine : AreasOf (IsMember one n) u b). absurd (not_both u mine.on.is second.is)) (beside u b))
+            | inr second ↦ as_old u h body old (i u) (λ b. ⊎_elim (λ was. was) (λ (mine : AreasOf (IsMember one n) u b). absurd (not_both u mine.on.is second.is)) (beside u b))
           ];
         })
 
@@ -217,7 +209,7 @@ module _ (h : AreaHeader) (body : List ℕ) (one two these : ℕ → Bool) (n : 
       moves = first_moves;
       leaves = λ u is. elim (part_of_it u is) [
         | inl first ↦ copied.leaves u first
-        | inr second ↦ record { each = λ d among. as_old h body u old d (λ b. before_two u second.is b (d b) (among b)) }
+        | inr second ↦ record { each = λ d among. as_old u h body old d (λ b. before_two u second.is b (d b) (among b)) }
       ];
     }
 

@@ -8,7 +8,7 @@ use Rattle.vx_disk.specs.Moves.{Moves}
 use Rattle.vx_disk.specs.Shelf.{Meaning, Image}
 use Rattle.vx_copyfmt.specs.Areas.{header_of}
 use Rattle.vx_copyfmt.specs.Copies.{Disk, area_a, area_b}
-use Rattle.vx_copyfmt.specs.Commits.{Among, FromOld, FromNew, Tidy, target_of}
+use Rattle.vx_copyfmt.specs.Commits.{Among, FromOld, FromNew, Tidy, exactly, target_of}
 use Rattle.vx_copyfmt.specs.declared.area.AreaHeader.{AreaHeader}
 use Rattle.vx_copyio.specs.declared.spread.CopyFailed.{CopyFailed}
 
@@ -29,11 +29,12 @@ pub record IsMade (h : AreaHeader) (body : List ℕ) (serial : ℕ) (found : Lis
   pub serial_is : serial ≡ h.serial
   pub body_is : found ≡ take h.length body
 
--- Where each header of a disk counts and has one value, and a serial below the new one, and where the new body counts, the disk has
--- the copy of before or the new one.
+-- Where a disk is ready for the new copy, and the new body counts, the disk has the copy of before or the new one, and is ready for the
+-- next one.
 pub record OldOrNew (disk : ℕ) (h : AreaHeader) (body : List ℕ) (m : Meaning) (d : Disk) : Type 0 where
   pub each : (counts : List ℕ → Bool) → Tidy (those counts) h.serial (m.leaves disk) → counts (take h.length body) ≡ true
       → FromOld (those counts) (m.leaves disk) d ⊎ FromNew (those counts) (IsMade h body) (m.leaves disk) d
+  pub fit : (counts : List ℕ → Bool) → Tidy (those counts) h.serial (m.leaves disk) → counts (take h.length body) ≡ true → Tidy (those counts) (h.serial + 1) (exactly d)
 
 -- the same of the disk in an image
 abbrev pub InImage : ℕ → AreaHeader → List ℕ → Meaning → Image → Type 0

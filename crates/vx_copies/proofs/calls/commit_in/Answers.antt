@@ -5,8 +5,8 @@ use Rattle.vx_config.specs.Table.{greatest}
 use Rattle.vx_config.specs.declared.config.Config.{Config}
 use Rattle.vx_config.specs.declared.entry.DiskEntry.{DiskEntry}
 use Rattle.vx_copies.specs.Bodies.{is_wanted}
-use Rattle.vx_copies.specs.Commits.{Begins, CommitEnds, Finds, IsTry}
-use Rattle.vx_copies.proofs.Found.{begins_try, finds_try, newest, restored, why_refused}
+use Rattle.vx_copies.specs.Commits.{Begins, CommitEnds, Finds, IsTry, StayFit}
+use Rattle.vx_copies.proofs.Found.{begins_try, finds_try, fits_try, newest, restored, why_refused}
 use Rattle.vx_copies.proofs.ManyTries.{none_yet}
 use Rattle.vx_copies.proofs.OneTry.{wanted_count, wanted_same, wanted_serial}
 use Rattle.vx_copies.proofs.calls.commit_in.Goals.{in-Err, in-Ok}
@@ -86,4 +86,19 @@ returns-clause-ends g c =
             later = underway.serial;
             kept = refl;
           }))
+    ]
+
+pub returns-then-config-ge-MOST_SERIAL-clause-fit : goal.returns-then-config-ge-MOST_SERIAL-clause-fit
+returns-then-config-ge-MOST_SERIAL-clause-fit g c =
+    fits_try c.args.good c.args.config.now c.args.config.now (g.S.Shelf.meaning c.args.shelf.now) (g.S.Shelf.meaning c.args.shelf.now)
+    (none_yet c.args.good c.args.config.now (g.S.Shelf.meaning c.args.shelf.now)) (g.met.S.Shelf.lawful c.args.shelf.now)
+
+pub returns-clause-fit : goal.returns-clause-fit
+returns-clause-fit g c =
+    let old : Meaning = g.S.Shelf.meaning c.args.shelf.now in
+    let new : Meaning = g.S.Shelf.meaning c.try_all.new.shelf in
+    let fits = fits_try c.args.good c.args.config.now c.try_all.new.config old new c.try_all.ensures.underway (g.met.S.Shelf.lawful c.args.shelf.now) in
+    elim c.match-try_all.branch [
+      | in-Ok w ↦ subst (λ (e : Config). StayFit c.args.config.now e.serial old new) (sym w.config-is) fits
+      | in-Err w ↦ subst (λ (e : Config). StayFit c.args.config.now e.serial old new) (sym w.config-is) fits
     ]

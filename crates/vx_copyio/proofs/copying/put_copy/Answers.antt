@@ -41,5 +41,5 @@ returns-clause-ok g c =
     (header_stands c.args.disk c.in_ok-area.area c.args.header.now c.args.body.now c.requires.can (record { whole = c.requires.whole; few = c.requires.few }) c.requires.long c.requires.digest
     (g.S.Shelf.meaning c.args.shelf.now) (g.met.S.Shelf.lawful c.args.shelf.now) c.in_ok-area.ensures.header c.in_ok-area.ensures.target
     (g.S.Shelf.meaning c.put.new.shelf) (nothing_then _ _ _ _ c.in_ok-area.ensures.goes c.in_ok-put.ensures.goes) c.in_ok-put.ensures.kept
-    (g.S.Shelf.meaning c.put_header.new.shelf) c.put_header.ensures.goes (g.met.S.Shelf.lawful c.put_header.new.shelf))
+    (g.S.Shelf.meaning c.put_header.new.shelf) c.put_header.ensures.goes)
     c.put_header.ensures.kept
