@@ -1,15 +1,14 @@
 -- Crashes, and sites that come up again, leave a good world good.
-use Rattle.std.proofs.Common.{◌≡◌, ℕ, ◌+◌, ◌-◌, ◌≤◌, List, [], ◌∷◌, ◌++◌, length, take, drop, refl, ap, sym, ◌∙◌, subst, inl, arith, length-append, true, false}
-use Rattle.std.specs.Prelude.{min, Some}
+use Rattle.std.proofs.Common.{◌≡◌, ℕ, ◌+◌, ◌≤◌, List, [], ◌∷◌, ◌++◌, length, take, drop, refl, ap, sym, ◌∙◌, subst, inl, arith, length-append, true, false}
+use Rattle.std.specs.Prelude.{Some}
 use Rattle.std.proofs.lemmas.List.{length-take, take-take, take-append-drop, take-append-le}
-use Rattle.vx_model.specs.Content.{Write, Content, put, fold_writes, IsPrefixOf}
-use Rattle.vx_model.specs.World.{Node, History, World, Fuse, FuseSet, is_origin, with_node, with_history}
+use Rattle.vx_model.specs.Content.{Write, Content, fold_writes, IsPrefixOf}
+use Rattle.vx_model.specs.World.{Node, World, Fuse, FuseSet, is_origin, with_node, with_history}
 use Rattle.vx_model.specs.Steps.{crashed, kept_by, crash_left, half_begun, cut_write, recovered, came_up, session_begun, stopped_by, worked_on, fused, burned}
-use Rattle.vx_model.specs.Good.{GoodNode, Good, IsMade, IsWorking}
+use Rattle.vx_model.specs.Good.{GoodNode, Good, IsMade}
 use Rattle.vx_model.specs.declared.history.Line.{Line}
 use Rattle.vx_model.specs.declared.site.Mark.TheVariants.{Consistent}
-use Rattle.vx_model.specs.declared.site.SiteState.TheVariants.{Bare, Up, Down}
-use Rattle.vx_model.proofs.GoodLemmas.{up_is_made, made_is_given, good_changed, good_stays, fold_append, prefix_push}
+use Rattle.vx_model.proofs.GoodLemmas.{made_is_given, good_changed, good_stays, fold_append, prefix_push}
 
 -- what a node has with its first k writes
 module _ (n : Node) (k : ℕ) (least : n.safe ≤ k) (most : k ≤ length n.log) where

@@ -2,12 +2,16 @@ pub mod Admission
 pub mod Answer
 pub mod BlockLists
 pub mod Content
+pub mod Events
 pub mod Good
 pub mod Kept
 pub mod LinkForms
 pub mod Names
 pub mod Receiving
+pub mod Refusals
 pub mod Sending
+pub mod Sends
 pub mod States
+pub mod Step
 pub mod Steps
 pub mod World

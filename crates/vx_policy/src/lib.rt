@@ -12,5 +12,5 @@ mod tests;
 mod verdict;
 
 pub use decision::decide;
-pub use full::hold_of;
+pub use full::{find_change, hold_of, is_down, refuse_full};
 pub use verdict::{Facts, Verdict};

@@ -16,8 +16,8 @@ use Rattle.vx_model.specs.declared.receiver.RState.{RState}
 use Rattle.vx_model.specs.declared.receiver.RAction.TheVariants.{Nothing as DoesNothing}
 use Rattle.vx_model.proofs.Updates.{by_test, at_place}
 use Rattle.vx_model.proofs.GoodLemmas.{good_written, good_half_written, up_is_made, prefix_push}
-use Rattle.vx_world.specs.Sends.{packets_of, greeting}
-use Rattle.vx_world.specs.Events
+use Rattle.vx_model.specs.Sends.{packets_of, greeting}
+use Rattle.vx_model.specs.Events
 use Rattle.vx_world.specs.Sound.{IsWhole, GoodPacket, IsBegun, KnownNode, Sound}
 use Rattle.vx_world.proofs.Lists.{prefix_refl, not_both}
 use Rattle.vx_world.proofs.Moves.{sound_sending, sound_with_links, sound_with_node, sound_with_history, good_later, at_changed}

@@ -14,8 +14,8 @@ use Rattle.vx_model.specs.declared.site.SiteState.TheVariants.{Bare, Up, Deporte
 use Rattle.vx_model.proofs.Updates.{by_test, at_place}
 use Rattle.vx_model.proofs.GoodLemmas.{up_is_made}
 use Rattle.vx_model.proofs.CrashLemmas.{good_crashed, good_session_begun, good_stopped, kept_length}
-use Rattle.vx_world.specs.Sends.{with_links, sending, greeting}
-use Rattle.vx_world.specs.Events
+use Rattle.vx_model.specs.Sends.{with_links, sending, greeting}
+use Rattle.vx_model.specs.Events
 use Rattle.vx_world.specs.Sound.{GoodPacket, IsWhole, Sound}
 use Rattle.vx_world.proofs.Lists.{prefix_take}
 use Rattle.vx_world.proofs.Carry.{IsLater}

@@ -21,10 +21,10 @@ use Rattle.vx_model.specs.declared.no.No.TheVariants.{Unknown, Unconfirmed}
 use Rattle.vx_model.specs.declared.no.Named.TheVariants.{Number as ByNumber}
 use Rattle.vx_model.proofs.Updates.{by_test, and_left, and_right, same_line_equal, at_place, eqb_equal}
 use Rattle.vx_model.proofs.GoodLemmas.{up_is_made}
-use Rattle.vx_world.specs.declared.event.Said.TheVariants.{Ignored as IsIgnored, Pending, DoneAt}
-use Rattle.vx_world.specs.Sends.{is_linked, with_link, sending, promising, packets_of, greeting, sent_by}
-use Rattle.vx_world.specs.Refusals.{Outcome, says, unless, is_running, is_up, keeps_links, some_below, is_unconfirmed, holds_back}
-use Rattle.vx_world.specs.Events
+use Rattle.vx_model.specs.declared.event.Said.TheVariants.{Ignored as IsIgnored, Pending, DoneAt}
+use Rattle.vx_model.specs.Sends.{is_linked, with_link, sending, promising, packets_of, greeting, sent_by}
+use Rattle.vx_model.specs.Refusals.{Outcome, says, unless, is_running, is_up, keeps_links, some_below, is_unconfirmed, holds_back}
+use Rattle.vx_model.specs.Events
 use Rattle.vx_world.specs.Sound.{GoodLink, GoodMessage, GoodPacket, IsStranger, StrangerSays, Sound}
 use Rattle.vx_world.proofs.Lists.{prefix_refl, each_found, not_true, not_both}
 use Rattle.vx_world.proofs.Moves.{sound_sending, sound_promising, sound_with_link, sound_with_node, good_later, stranger_of_links, still_linked}

@@ -26,15 +26,15 @@ use Rattle.vx_model.specs.declared.no.Named.TheVariants.{Number as ByNumber}
 use Rattle.vx_model.specs.declared.no.Counted.TheVariants.{Sites, Disks, Links}
 use Rattle.vx_model.proofs.Updates.{all_updated, all_lines, by_test}
 use Rattle.vx_model.proofs.GoodLemmas.{up_is_made}
-use Rattle.vx_world.specs.declared.event.LinkPart.{LinkPart}
-use Rattle.vx_world.specs.declared.event.LinkPart.TheVariants.{Joins, Made, Marked, Opened}
-use Rattle.vx_world.specs.declared.event.Event.{Event}
-use Rattle.vx_world.specs.declared.event.Event.TheVariants.{Site, Raw, Write as WriteAt, Read, Apply, Pump, Tick, Deliver, Connect, Cut, Pause, Resume, Wait, Link, Set, Crash, Recover, Fault}
-use Rattle.vx_world.specs.declared.event.Said.TheVariants.{Ignored as IsIgnored, Pending, DoneAt}
-use Rattle.vx_world.specs.Refusals.{Outcome, says, unless, at_work, on_link, is_up, is_bare, is_raw_shape, keeps_links, is_primary, is_running, follows, some_below, is_unconfirmed, holds_back, may_link, agree, rings_fit, links_of, most_links, most_sites, most_disks}
-use Rattle.vx_world.specs.Events
-use Rattle.vx_world.specs.Step.{done, step, run, link_part}
-use Rattle.vx_world.specs.Sends.{is_linked, with_link, with_links, sending, promising, sent_by}
+use Rattle.vx_model.specs.declared.event.LinkPart.{LinkPart}
+use Rattle.vx_model.specs.declared.event.LinkPart.TheVariants.{Joins, Made, Marked, Opened}
+use Rattle.vx_model.specs.declared.event.Event.{Event}
+use Rattle.vx_model.specs.declared.event.Event.TheVariants.{Site, Raw, Write as WriteAt, Read, Apply, Pump, Tick, Deliver, Connect, Cut, Pause, Resume, Wait, Link, Set, Crash, Recover, Fault}
+use Rattle.vx_model.specs.declared.event.Said.TheVariants.{Ignored as IsIgnored, Pending, DoneAt}
+use Rattle.vx_model.specs.Refusals.{Outcome, says, unless, at_work, on_link, is_up, is_bare, is_raw_shape, keeps_links, is_primary, is_running, follows, some_below, is_unconfirmed, holds_back, may_link, agree, rings_fit, links_of, most_links, most_sites, most_disks}
+use Rattle.vx_model.specs.Events
+use Rattle.vx_model.specs.Step.{done, step, run, link_part}
+use Rattle.vx_model.specs.Sends.{is_linked, with_link, with_links, sending, promising, sent_by}
 use Rattle.vx_world.specs.Sound.{Sound}
 use Rattle.vx_world.specs.Grown.{Grown}
 use Rattle.vx_world.proofs.Lists.{prefix_refl, prefix_trans, prefix_more, prefix_take, not_false}

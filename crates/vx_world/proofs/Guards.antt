@@ -13,8 +13,8 @@ use Rattle.vx_model.specs.declared.no.Named.TheVariants.{Number as ByNumber}
 use Rattle.vx_model.specs.declared.no.SiteName.TheVariants.{Number as SiteNumber}
 use Rattle.vx_model.specs.Answer.{is_wrong_count, is_past}
 use Rattle.vx_model.proofs.Updates.{by_test, and_left, and_right}
-use Rattle.vx_world.specs.Sends.{is_linked}
-use Rattle.vx_world.specs.Refusals.{Outcome, refused, unless, unless_halted, is_up, is_bare, is_primary, at_site, at_work, both_at_work, on_link_if, when_live, on_volume}
+use Rattle.vx_model.specs.Sends.{is_linked}
+use Rattle.vx_model.specs.Refusals.{Outcome, refused, unless, unless_halted, is_up, is_bare, is_primary, at_site, at_work, both_at_work, on_link_if, when_live, on_volume}
 use Rattle.vx_world.proofs.Lists.{not_false}
 
 pub up_is : (s : SiteState) → is_up s ≡ true → s ≡ Up

@@ -16,12 +16,12 @@ use Rattle.vx_model.specs.declared.no.No.TheVariants.{Exists, Size, Role as Wron
 use Rattle.vx_model.specs.declared.no.Counted.TheVariants.{Sites, Disks, Links}
 use Rattle.vx_model.proofs.Updates.{by_test, and_left, and_right, same_line_equal}
 use Rattle.vx_model.proofs.GoodLemmas.{good_site, good_raw, good_stays, made_is_given, up_is_made}
-use Rattle.vx_world.specs.declared.event.LinkPart.{LinkPart}
-use Rattle.vx_world.specs.declared.event.LinkPart.TheVariants.{Joins, Made, Marked, Opened}
-use Rattle.vx_world.specs.Sends.{is_linked, with_link}
-use Rattle.vx_world.specs.Refusals.{Outcome, unless, some_below, is_primary, is_consistent, is_stale, is_empty, is_fresh, may_link, may_join, may_be_site, agree, rings_fit, links_of, most_links, most_sites, most_disks, follows}
-use Rattle.vx_world.specs.Events.{joined, new_link, opened}
-use Rattle.vx_world.specs.Step.{done, link_part}
+use Rattle.vx_model.specs.declared.event.LinkPart.{LinkPart}
+use Rattle.vx_model.specs.declared.event.LinkPart.TheVariants.{Joins, Made, Marked, Opened}
+use Rattle.vx_model.specs.Sends.{is_linked, with_link}
+use Rattle.vx_model.specs.Refusals.{Outcome, unless, some_below, is_primary, is_consistent, is_stale, is_empty, is_fresh, may_link, may_join, may_be_site, agree, rings_fit, links_of, most_links, most_sites, most_disks, follows}
+use Rattle.vx_model.specs.Events.{joined, new_link, opened}
+use Rattle.vx_model.specs.Step.{done, link_part}
 use Rattle.vx_world.specs.Sound.{Sound}
 use Rattle.vx_world.proofs.Lists.{not_true, not_false, not_both, or_left, or_right}
 use Rattle.vx_world.proofs.Moves.{sound_with_node, sound_with_link, sound_joining, sound_founding, good_later, given}

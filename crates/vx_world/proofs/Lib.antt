@@ -19,3 +19,10 @@ pub mod Turns
 pub mod Settles
 pub mod Grows
 pub mod Quiet
+pub mod Rules
+pub mod Exchanges
+pub mod Passing
+pub mod Reading
+pub mod Applying
+pub mod Downs
+pub mod Admitting

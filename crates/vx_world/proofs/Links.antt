@@ -22,9 +22,9 @@ use Rattle.vx_model.specs.declared.link.SyncMode.TheVariants.{Off, Override, Fai
 use Rattle.vx_model.specs.declared.sender.SEvent.TheVariants.{Hello as HearHello, NetAck as HearNetAck, DataAck as HearDataAck}
 use Rattle.vx_model.proofs.Updates.{by_test, and_left, and_right, same_line_equal}
 use Rattle.vx_world.specs.Sound.{IsPresent, IsFollowed, GoodLink, GoodMessage, GoodPromise, IsKept, IsStranger, IsBegun}
-use Rattle.vx_world.specs.Sends.{is_linked, packets_of, packet, updates, between}
-use Rattle.vx_world.specs.Refusals.{holds_back, is_unconfirmed, some_below, goes, waits}
-use Rattle.vx_world.specs.Events.{facts_of, restarted_link, lost_touch, link_after, promise_of, promises_of}
+use Rattle.vx_model.specs.Sends.{is_linked, packets_of, packet, updates, between}
+use Rattle.vx_model.specs.Refusals.{holds_back, is_unconfirmed, some_below, goes, waits}
+use Rattle.vx_model.specs.Events.{facts_of, restarted_link, lost_touch, link_after, promise_of, promises_of}
 use Rattle.vx_world.proofs.Lists.{prefix_get, prefix_take, drop_get, or_left, or_right, each_append, each_replicate, prefix_trans, refuted}
 
 -- a link that differs in nothing that is said of it

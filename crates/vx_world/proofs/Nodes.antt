@@ -15,7 +15,7 @@ use Rattle.vx_model.specs.declared.receiver.RState.{RState}
 use Rattle.vx_model.proofs.Updates.{by_test}
 use Rattle.vx_model.proofs.GoodLemmas.{fold_append}
 use Rattle.vx_model.proofs.CrashLemmas.{kept_length, kept_content}
-use Rattle.vx_world.specs.Events.{applied, joined, with_write, come_back, kept_of}
+use Rattle.vx_model.specs.Events.{applied, joined, with_write, come_back, kept_of}
 use Rattle.vx_world.proofs.Lists.{prefix_none, prefix_next, prefix_trans, prefix_take, not_both}
 use Rattle.vx_world.proofs.Carry.{IsLater}
 

@@ -11,9 +11,9 @@ use Rattle.vx_model.specs.declared.link.Mode.TheVariants.{Log}
 use Rattle.vx_model.specs.declared.sender.SEvent.{SEvent}
 use Rattle.vx_model.specs.declared.no.No.{No}
 use Rattle.vx_model.proofs.Updates.{at_place, by_test, eqb_equal}
-use Rattle.vx_world.specs.Sends.{is_linked, with_link, sending, sent_by}
-use Rattle.vx_world.specs.Refusals.{Outcome, unless, at_work, on_link, keeps_links, is_up, is_running, unless_halted}
-use Rattle.vx_world.specs.Events
+use Rattle.vx_model.specs.Sends.{is_linked, with_link, sending, sent_by}
+use Rattle.vx_model.specs.Refusals.{Outcome, unless, at_work, on_link, keeps_links, is_up, is_running, unless_halted}
+use Rattle.vx_model.specs.Events
 
 -- what stands in a world of two sites and the link, and all that was sent
 pub record At (v : World) (p s : ℕ) (a b : Node) (l : Link) (ps : List Packet) : Type 0 where

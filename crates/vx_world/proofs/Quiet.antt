@@ -12,13 +12,13 @@ use Rattle.vx_model.specs.declared.receiver.REvent.TheVariants.{Update as HearUp
 use Rattle.vx_model.specs.declared.receiver.RAction.{RAction}
 use Rattle.vx_model.specs.declared.receiver.RAction.TheVariants.{Nothing as DoesNothing, Ignored as Ignores, IgnoredAck, Take, DataAck as AcksFromDisk}
 use Rattle.vx_model.proofs.Updates.{by_test}
-use Rattle.vx_world.specs.declared.event.Event.{Event}
-use Rattle.vx_world.specs.declared.event.Event.TheVariants.{Deliver}
-use Rattle.vx_world.specs.declared.event.Said.TheVariants.{Ignored as IsIgnored}
-use Rattle.vx_world.specs.Sends.{is_linked, further_parts, packets_of}
-use Rattle.vx_world.specs.Refusals.{Outcome, says, is_up, is_running, keeps_links}
-use Rattle.vx_world.specs.Events
-use Rattle.vx_world.specs.Step.{step, run}
+use Rattle.vx_model.specs.declared.event.Event.{Event}
+use Rattle.vx_model.specs.declared.event.Event.TheVariants.{Deliver}
+use Rattle.vx_model.specs.declared.event.Said.TheVariants.{Ignored as IsIgnored}
+use Rattle.vx_model.specs.Sends.{is_linked, further_parts, packets_of}
+use Rattle.vx_model.specs.Refusals.{Outcome, says, is_up, is_running, keeps_links}
+use Rattle.vx_model.specs.Events
+use Rattle.vx_model.specs.Step.{step, run}
 use Rattle.vx_world.specs.Settling.{deliver_each, deliver_new, delivery}
 use Rattle.vx_world.proofs.Lists.{each_append}
 use Rattle.vx_world.proofs.Told.{append-nil}

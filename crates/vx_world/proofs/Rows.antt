@@ -8,13 +8,13 @@ use Rattle.vx_model.specs.declared.no.No.TheVariants.{Unknown, Unconfirmed, Link
 use Rattle.vx_model.specs.declared.no.Named.TheVariants.{Number as ByNumber}
 use Rattle.vx_model.specs.declared.no.SiteName.TheVariants.{Number as SiteNumber}
 use Rattle.vx_model.specs.declared.no.Counted.TheVariants.{Links}
-use Rattle.vx_world.specs.declared.event.Said.{Said}
-use Rattle.vx_world.specs.declared.event.Said.TheVariants.{Done, DoneAt, Logged, Pending, Taken, Ignored, Recovered, Refused}
-use Rattle.vx_world.specs.declared.event.LinkPart.TheVariants.{Joins, Made, Marked, Opened}
-use Rattle.vx_world.specs.declared.event.Event.{Event}
-use Rattle.vx_world.specs.declared.event.Event.TheVariants.{Site, Raw, Write, Pump, Tick, Deliver, Connect, Cut, Wait, Link, Crash, Recover, Apply}
+use Rattle.vx_model.specs.declared.event.Said.{Said}
+use Rattle.vx_model.specs.declared.event.Said.TheVariants.{Done, DoneAt, Logged, Pending, Taken, Ignored, Recovered, Refused}
+use Rattle.vx_model.specs.declared.event.LinkPart.TheVariants.{Joins, Made, Marked, Opened}
+use Rattle.vx_model.specs.declared.event.Event.{Event}
+use Rattle.vx_model.specs.declared.event.Event.TheVariants.{Site, Raw, Write, Pump, Tick, Deliver, Connect, Cut, Wait, Link, Crash, Recover, Apply}
 use Rattle.vx_world.specs.Settling.{settling}
-use Rattle.vx_world.specs.Step.{step, run}
+use Rattle.vx_model.specs.Step.{step, run}
 
 -- what is said of each event in turn
 abbrev sayings : World → List Event → List Said

@@ -11,11 +11,11 @@ use Rattle.vx_model.specs.declared.site.Role.{Role}
 use Rattle.vx_model.specs.declared.site.Role.TheVariants.{Primary, Secondary, Handing, Bunker}
 use Rattle.vx_model.proofs.GoodLemmas.{up_is_made, made_is_given}
 use Rattle.vx_model.proofs.Updates.{by_test}
-use Rattle.vx_world.specs.declared.event.Event.{Event}
-use Rattle.vx_world.specs.declared.event.Event.TheVariants.{Apply, Pump, Tick, Connect}
-use Rattle.vx_world.specs.Sends.{packet, is_linked}
-use Rattle.vx_world.specs.Refusals.{keeps_links}
-use Rattle.vx_world.specs.Step.{step, run}
+use Rattle.vx_model.specs.declared.event.Event.{Event}
+use Rattle.vx_model.specs.declared.event.Event.TheVariants.{Apply, Pump, Tick, Connect}
+use Rattle.vx_model.specs.Sends.{packet, is_linked}
+use Rattle.vx_model.specs.Refusals.{keeps_links}
+use Rattle.vx_model.specs.Step.{step, run}
 use Rattle.vx_world.specs.Settling.{deliver_each, delivery, greeting_events, is_stuck, turn, turns, settling, MaySettle, IsMet}
 use Rattle.vx_world.specs.Sound.{Sound, GoodLink, IsFollowed}
 use Rattle.vx_world.proofs.Lists.{prefix_length}

@@ -12,12 +12,12 @@ use Rattle.vx_model.specs.LinkForms.{plain_link}
 use Rattle.vx_model.specs.declared.link.Link.{Link as PlainLink}
 use Rattle.vx_model.proofs.Updates.{by_test}
 use Rattle.vx_model.proofs.GoodLemmas.{good_empty}
-use Rattle.vx_world.specs.declared.event.Event.{Event}
-use Rattle.vx_world.specs.declared.event.Event.TheVariants.{Site, Raw, Write as WriteAt, Read, Apply, Pump, Tick, Deliver, Connect, Cut, Pause, Resume, Wait, Link, Set, Crash, Recover, Fault}
-use Rattle.vx_world.specs.Refusals.{Outcome, unless, at_work, is_up, is_bare, is_raw_shape, keeps_links}
-use Rattle.vx_world.specs.Events
-use Rattle.vx_world.specs.Step.{done, step, run, link_part, write_at}
-use Rattle.vx_world.specs.Sends.{with_link}
+use Rattle.vx_model.specs.declared.event.Event.{Event}
+use Rattle.vx_model.specs.declared.event.Event.TheVariants.{Site, Raw, Write as WriteAt, Read, Apply, Pump, Tick, Deliver, Connect, Cut, Pause, Resume, Wait, Link, Set, Crash, Recover, Fault}
+use Rattle.vx_model.specs.Refusals.{Outcome, unless, at_work, is_up, is_bare, is_raw_shape, keeps_links}
+use Rattle.vx_model.specs.Events
+use Rattle.vx_model.specs.Step.{done, step, run, link_part, write_at}
+use Rattle.vx_model.specs.Sends.{with_link}
 use Rattle.vx_world.specs.Sound.{Sound}
 use Rattle.vx_world.proofs.Lists.{not_false}
 use Rattle.vx_world.proofs.Moves.{sound_with_link, unlinked_good}

@@ -19,12 +19,12 @@ use Rattle.vx_model.specs.declared.receiver.RState.{RState}
 use Rattle.vx_model.specs.declared.receiver.RAction.{RAction}
 use Rattle.vx_model.specs.declared.receiver.RAction.TheVariants.{Ignored as Ignores, IgnoredAck, Take}
 use Rattle.vx_model.proofs.Updates.{by_test, same_line_self}
-use Rattle.vx_world.specs.declared.event.Event.TheVariants.{Apply, Pump, Tick, Deliver, Connect}
-use Rattle.vx_world.specs.declared.event.Said.TheVariants.{Ignored as IsIgnored, DoneAt}
-use Rattle.vx_world.specs.Sends.{is_linked, with_link, sending, packet, packets_of, updates, between, greeting, sent_by}
-use Rattle.vx_world.specs.Refusals.{Outcome, says, when_live, on_link, keeps_links, is_up, is_running}
-use Rattle.vx_world.specs.Events
-use Rattle.vx_world.specs.Step.{step, done}
+use Rattle.vx_model.specs.declared.event.Event.TheVariants.{Apply, Pump, Tick, Deliver, Connect}
+use Rattle.vx_model.specs.declared.event.Said.TheVariants.{Ignored as IsIgnored, DoneAt}
+use Rattle.vx_model.specs.Sends.{is_linked, with_link, sending, packet, packets_of, updates, between, greeting, sent_by}
+use Rattle.vx_model.specs.Refusals.{Outcome, says, when_live, on_link, keeps_links, is_up, is_running}
+use Rattle.vx_model.specs.Events
+use Rattle.vx_model.specs.Step.{step, done}
 use Rattle.vx_world.proofs.Pair.{At, Fit, link_event_at, sending_at, with_node_at, with_link_at, link_passes, work_passes, hears, passes, falls}
 
 pub append-nil : {A : Type 0} (xs : List A) → xs ++ [] ≡ xs

@@ -1,7 +1,5 @@
-pub mod Events
+pub mod Answers
+pub mod Confirming
 pub mod Grown
-pub mod Refusals
-pub mod Sends
 pub mod Settling
 pub mod Sound
-pub mod Step

@@ -4,10 +4,10 @@ use Rattle.vx_model.specs.World.{Packet, World}
 use Rattle.vx_model.specs.declared.site.Role.TheVariants.{Secondary}
 use Rattle.vx_model.specs.declared.site.SiteState.TheVariants.{Up}
 use Rattle.vx_model.specs.declared.link.Mode.TheVariants.{Log}
-use Rattle.vx_world.specs.declared.event.Event.{Event}
-use Rattle.vx_world.specs.declared.event.Event.TheVariants.{Apply, Pump, Tick, Deliver, Connect}
-use Rattle.vx_world.specs.Sends.{is_linked, further_parts}
-use Rattle.vx_world.specs.Step.{step, run}
+use Rattle.vx_model.specs.declared.event.Event.{Event}
+use Rattle.vx_model.specs.declared.event.Event.TheVariants.{Apply, Pump, Tick, Deliver, Connect}
+use Rattle.vx_model.specs.Sends.{is_linked, further_parts}
+use Rattle.vx_model.specs.Step.{step, run}
 
 -- These packets are delivered in their order. So many packets stand before the first, and so many of its message were delivered.
 abbrev pub deliver_each : (before passed : ℕ) → List Packet → List Event

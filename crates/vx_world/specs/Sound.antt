@@ -10,7 +10,7 @@ use Rattle.vx_model.specs.declared.history.Line.{Line}
 use Rattle.vx_model.specs.declared.site.Mark.TheVariants.{Consistent}
 use Rattle.vx_model.specs.declared.site.SiteState.TheVariants.{Up, Down}
 use Rattle.vx_model.specs.declared.link.Mode.TheVariants.{Log}
-use Rattle.vx_world.specs.Sends.{is_linked}
+use Rattle.vx_model.specs.Sends.{is_linked}
 
 -- Fact 1. "The present session" is the session of a site that is up. After a crash a site stands in its old session still, without the
 -- records that it had in memory; its session rises as it comes up again.

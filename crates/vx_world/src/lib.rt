@@ -1,10 +1,33 @@
-//! The world of sites, links and packets, and what holds of it whatever happens.
+//! The world of sites, links and packets as a program, and what holds of it whatever happens.
 //!
-//! Sites, volumes and disks go by numbers from 0, writes and packets by numbers from 1. The definitions stand in `specs`: what each
-//! event makes of a world (`Events`, `Step`), and what holds of every world that can come about (`Sound`).
+//! Sites, volumes and disks go by numbers from 0, writes and packets by numbers from 1. What each event makes of a world is
+//! defined in `vx_model` (`Step`), and what holds of every world that can come about in `Sound`.
 #![tactic(auto)]
 
-mod event;
+mod admission;
+mod applies;
+mod deliveries;
+mod faults;
+mod greetings;
+mod hearing;
 pub mod laws;
+mod machine;
+mod outages;
+mod pumps;
+mod reads;
+mod receiving;
+mod recoveries;
+mod rule;
+mod settings;
+mod sites;
+mod switches;
+mod targets;
+mod ticks;
+mod waits;
+#[cfg(test)]
+mod worked;
+mod writes;
 
-pub use event::{Event, LinkPart, Said};
+pub use machine::{Answer, step};
+pub use vx_model::{Event, LinkPart, Said};
+pub use vx_sites::World;

@@ -1,0 +1,9 @@
+pub mod Each
+pub mod Entries
+pub mod Folds
+pub mod Packets
+pub mod Promising
+pub mod Sendings
+pub mod Tables
+pub mod Volumes
+pub mod Worlds

@@ -1,0 +1,25 @@
+-- The promises of the links of a row, one after another.
+use Rattle.std.proofs.Common.{◌≡◌, ◌∙◌, ℕ, suc, ◌+◌, ◌-◌, ◌<◌, ◌≤◌, List, ◌++◌, append_assoc, sym, ap, arith}
+use Rattle.std.proofs.lemmas.List.{append-nil}
+use Rattle.vx_model.specs.World.{Node, Link, Promise}
+use Rattle.vx_model.specs.Events.{promise_of, promises_of}
+
+-- the promises of one more link of those that are left
+pub one_promised : (n : Node) (number : ℕ) (row : ℕ → Link) (sites back : ℕ) (old now all : List Promise) (l : Link) → back < sites → l ≡ row (sites - 1 - back)
+    → now ≡ old ++ promise_of n number (sites - 1 - back) l → old ++ promises_of n number row (sites - back) ≡ all → now ++ promises_of n number row (sites - (back + 1)) ≡ all
+one_promised n number row sites back old now all l lt is added h =
+    let to : ℕ = sites - 1 - back in
+    let left : sites - (back + 1) ≡ to = omega arith in
+    let here : sites - back ≡ suc to = omega arith in
+    let own : List Promise = promise_of n number to (row to) in
+    ap (λ (m : ℕ). now ++ promises_of n number row m) left
+    ∙ ap (λ (ps : List Promise). ps ++ promises_of n number row to) (added ∙ ap (λ (k : Link). old ++ promise_of n number to k) is)
+    ∙ append_assoc old own (promises_of n number row to)
+    ∙ ap (λ (m : ℕ). old ++ promises_of n number row m) (sym here)
+    ∙ h
+
+-- no link is left
+pub all_promised : (n : Node) (number : ℕ) (row : ℕ → Link) (sites back : ℕ) (now all : List Promise) → sites ≤ back → now ++ promises_of n number row (sites - back) ≡ all → now ≡ all
+all_promised n number row sites back now all le h =
+    let none : sites - back ≡ 0 = omega arith in
+    sym (append-nil now) ∙ ap (λ (m : ℕ). now ++ promises_of n number row m) (sym none) ∙ h

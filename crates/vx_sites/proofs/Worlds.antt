@@ -1,0 +1,93 @@
+-- A world in memory with one part in place of another.
+use Rattle.std.proofs.Common.{◌≡◌, ℕ, ◌+◌, ◌-◌, ◌<◌, max, List, [], ◌∷◌, ◌++◌, length, get_or, take, drop, refl, sym, ap, ◌∙◌}
+use Rattle.std.specs.Prelude.{None}
+use Rattle.std.proofs.Math.ListN.{set}
+use Rattle.std.proofs.lemmas.List.{length-set, length-append}
+use Rattle.vx_model.specs.Content.{Write, Content, put, fold_writes, zeros}
+use Rattle.vx_model.specs.World.{Node as PlainNode, Link as PlainLink, History as PlainHistory, World as PlainWorld, NoFuse, bare_site, no_link, no_history, updated, line_updated, with_node}
+use Rattle.vx_model.specs.Sends.{with_links}
+use Rattle.vx_model.specs.Steps.{burned, logged, told_of, written, crashed, ring_of, first_line, raw_volumes, raw_content, raw_set, raw_made}
+use Rattle.vx_model.specs.Events.{applied, joined}
+use Rattle.vx_model.specs.declared.history.Line.{Line}
+use Rattle.vx_model.specs.declared.site.Role.TheVariants.{Primary, Secondary}
+use Rattle.vx_model.specs.declared.site.Mark.{Mark}
+use Rattle.vx_model.specs.declared.site.Mark.TheVariants.{Consistent, Inconsistent}
+use Rattle.vx_model.specs.declared.site.SPhase.TheVariants.{Quiet}
+use Rattle.vx_model.specs.declared.site.SiteState.TheVariants.{Up, Down}
+use Rattle.vx_sites.specs.declared.node.Node.{Node}
+use Rattle.vx_sites.specs.declared.link.Row.{Row}
+use Rattle.vx_sites.specs.Shapes.{sizes, node_of, nodes_of, row_of, links_of}
+use Rattle.vx_sites.proofs.Tables.{seen-at, seen-push, seen-changed}
+
+-- a site changes
+pub node_changed : (w : PlainWorld) (nodes : List Node) (i : ℕ) (v x : Node) (change : PlainNode → PlainNode) → w.sites ≡ length nodes → w.nodes ≡ nodes_of nodes
+    → i < length nodes → v ≡ get_or nodes i v → node_of x ≡ change (node_of v)
+    → (let new : PlainWorld = record w { sites = length (set nodes i x); nodes = nodes_of (set nodes i x) } in new ≡ with_node w i (change (w.nodes i)))
+node_changed w nodes i v x change many same lt is changed =
+    ap (λ (n : ℕ). let new : PlainWorld = record w { sites = n; nodes = nodes_of (set nodes i x) } in new) (length-set nodes i x ∙ sym many)
+    ∙ ap (λ (f : ℕ → PlainNode). let new : PlainWorld = record w { nodes = f } in new) (seen-changed node_of (bare_site [] 0 0) nodes i v x w.nodes change lt is (sym same) changed)
+
+-- a site is added
+pub node_added : (w : PlainWorld) (nodes : List Node) (x : Node) → w.sites ≡ length nodes → w.nodes ≡ nodes_of nodes
+    → (let new : PlainWorld = record w { sites = length (nodes ++ x ∷ []); nodes = nodes_of (nodes ++ x ∷ []) } in new ≡ record w { sites = w.sites + 1; nodes = updated w.nodes w.sites (node_of x) })
+node_added w nodes x many same =
+    ap (λ (n : ℕ). let new : PlainWorld = record w { sites = n; nodes = nodes_of (nodes ++ x ∷ []) } in new) (length-append nodes (x ∷ []) ∙ ap (λ (n : ℕ). n + 1) (sym many))
+    ∙ ap (λ (f : ℕ → PlainNode). let new : PlainWorld = record w { sites = w.sites + 1; nodes = f } in new)
+    (seen-push node_of (bare_site [] 0 0) nodes x ∙ ap (λ (f : ℕ → PlainNode). updated f (length nodes) (node_of x)) (sym same) ∙ ap (λ (n : ℕ). updated w.nodes n (node_of x)) (sym many))
+
+-- the links of a site change; the rows may first have become more
+pub row_changed : (w : PlainWorld) (rows : List Row) (p : ℕ) (v x : Row) (change : (ℕ → PlainLink) → ℕ → PlainLink) → links_of rows ≡ w.links
+    → p < length rows → v ≡ get_or rows p v → row_of x.links.items ≡ change (row_of v.links.items)
+    → (let new : PlainWorld = record w { links = links_of (set rows p x) } in new ≡ with_links w p (change (w.links p)))
+row_changed w rows p v x change same lt is changed =
+    ap (λ (f : ℕ → ℕ → PlainLink). let new : PlainWorld = record w { links = f } in new)
+    (seen-changed (λ (r : Row). row_of r.links.items) (λ (s : ℕ). no_link) rows p v x w.links change lt is same changed)
+
+-- the site of this number
+pub node_at : (nodes : List Node) (i : ℕ) (v : Node) → i < length nodes → v ≡ get_or nodes i v → nodes_of nodes i ≡ node_of v
+node_at nodes i v lt is = seen-at node_of (bare_site [] 0 0) nodes i v lt is
+
+-- a site that is crashed, and one of which more is durable
+pub crashed_is : (n : PlainNode) (k : ℕ) (base : Content) (log : List Write) → base ≡ fold_writes n.base (drop n.safe (take k n.log)) → log ≡ take k n.log
+    → (let m : PlainNode = record n { state = Down; base = base; log = log; safe = k; halted = None; fuse = burned NoFuse } in m) ≡ crashed n k
+crashed_is n k base log b l =
+    ap (λ (c : Content). let m : PlainNode = record n { state = Down; base = c; log = log; safe = k; halted = None; fuse = NoFuse } in m) b
+    ∙ ap (λ (xs : List Write). let m : PlainNode = record n { state = Down; base = fold_writes n.base (drop n.safe (take k n.log)); log = xs; safe = k; halted = None; fuse = NoFuse } in m) l
+
+pub applied_is : (n : PlainNode) (k : ℕ) (mark : Mark) (base : Content) → base ≡ fold_writes n.base (drop n.safe (take k n.log))
+    → (let m : PlainNode = record n { base = base; safe = k; mark = mark } in m) ≡ applied n k mark
+applied_is n k mark base b = ap (λ (c : Content). let m : PlainNode = record n { base = c; safe = k; mark = mark } in m) b
+
+pub joined_is : (a n : PlainNode) (p top : ℕ) (start : Content) (log : List Write) → top ≡ max n.top a.line.generation → start ≡ n.base → log ≡ []
+    → (let m : PlainNode = record n { role = Secondary; mark = Inconsistent; line = a.line; parent = a.parent; fork = a.fork; top = top; phase = Quiet; replay = 0; end = 0; other = p; start = start; log = log; safe = 0; low = 1; fork_map = None } in m) ≡ joined a p n
+joined_is a n p top start log t s l =
+    ap (λ (k : ℕ). let m : PlainNode = record n { role = Secondary; mark = Inconsistent; line = a.line; parent = a.parent; fork = a.fork; top = k; phase = Quiet; replay = 0; end = 0; other = p; start = start; log = log; safe = 0; low = 1; fork_map = None } in m) t
+    ∙ ap (λ (c : Content). let m : PlainNode = record n { role = Secondary; mark = Inconsistent; line = a.line; parent = a.parent; fork = a.fork; top = max n.top a.line.generation; phase = Quiet; replay = 0; end = 0; other = p; start = c; log = log; safe = 0; low = 1; fork_map = None } in m) s
+    ∙ ap (λ (xs : List Write). let m : PlainNode = record (joined a p n) { log = xs } in m) l
+
+pub logged_is : (n : PlainNode) (x : Write) (base : Content) (log : List Write) → base ≡ put n.base x → log ≡ n.log ++ x ∷ []
+    → (let m : PlainNode = record n { base = base; log = log; safe = n.safe + 1; fuse = burned n.fuse } in m) ≡ logged n x
+logged_is n x base log b l =
+    ap (λ (c : Content). let m : PlainNode = record n { base = c; log = log; safe = n.safe + 1; fuse = burned n.fuse } in m) b
+    ∙ ap (λ (xs : List Write). let m : PlainNode = record n { base = put n.base x; log = xs; safe = n.safe + 1; fuse = burned n.fuse } in m) l
+
+-- a write that is logged, and what is recorded of its line
+pub written_is : (w : PlainWorld) (i : ℕ) (x : Write) (v : PlainNode) (lines : Line → PlainHistory) → w.nodes i ≡ v → lines ≡ line_updated w.lines v.line (told_of (w.lines v.line) x)
+    → with_node (record w { lines = lines }) i (logged (w.nodes i) x) ≡ written w i x
+written_is w i x v lines is told =
+    ap (λ (f : Line → PlainHistory). with_node (record w { lines = f }) i (logged (w.nodes i) x)) (told ∙ ap (λ (n : PlainNode). line_updated w.lines n.line (told_of (w.lines n.line) x)) (sym is))
+
+-- a raw set, and what is recorded of its line
+pub raw_is : (n : PlainNode) (site ring volumes : ℕ) (start base : Content) (log : List Write) → ring ≡ ring_of n.blocks → volumes ≡ n.disks - 2
+    → start ≡ zeros (sizes volumes n.blocks) → base ≡ zeros (sizes volumes n.blocks) → log ≡ []
+    → (let m : PlainNode = record n { state = Up; ring = ring; volumes = raw_volumes 1 volumes n.blocks; role = Primary; mark = Consistent; line = first_line site; top = 1; session = 1; start = start; base = base; log = log; safe = 0; halted = None } in m) ≡ raw_set site n
+raw_is n site ring volumes start base log r v s b l = rw (r, s, b, l, v) refl
+
+pub raw_made_is : (w : PlainWorld) (i : ℕ) (v : PlainNode) (lines : Line → PlainHistory) (start : Content) (volumes : ℕ) → w.nodes i ≡ v → volumes ≡ v.disks - 2
+    → start ≡ zeros (sizes volumes v.blocks) → lines ≡ line_updated w.lines (first_line i) (record no_history { start = start })
+    → with_node (record w { lines = lines }) i (raw_set i (w.nodes i)) ≡ raw_made w i
+raw_made_is w i v lines start volumes is many made told =
+    let content : start ≡ raw_content (w.nodes i).disks (w.nodes i).blocks =
+    made ∙ ap (λ (k : ℕ). zeros (sizes k v.blocks)) many ∙ ap (λ (n : PlainNode). raw_content n.disks n.blocks) (sym is) in
+    ap (λ (f : Line → PlainHistory). with_node (record w { lines = f }) i (raw_set i (w.nodes i)))
+    (told ∙ ap (λ (c : Content). line_updated w.lines (first_line i) (record no_history { start = c })) content)

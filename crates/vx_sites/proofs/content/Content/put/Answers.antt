@@ -1,0 +1,9 @@
+use Rattle.std.proofs.Common.{[], ◌∷◌}
+use Rattle.vx_model.specs.Content.{zeros}
+use Rattle.vx_model.proofs.GoodLemmas.{fold_append}
+use Rattle.vx_sites.specs.Shapes.{sizes}
+use Rattle.vx_sites.proofs.content.Content.put.Goals as goal
+
+pub returns : goal.returns
+returns c =
+    rw c.in_ok-push.ensures.items (fold_append (zeros (sizes c.args.self.now.volumes c.args.self.now.blocks)) c.args.self.now.writes.items (c.args.write ∷ []))

@@ -1,0 +1,11 @@
+use Rattle.std.proofs.Common.{refl}
+use Rattle.vx_model.specs.World.{History, no_history}
+use Rattle.vx_sites.specs.Shapes.{content_of}
+use Rattle.vx_sites.proofs.Entries.{line_changed}
+use Rattle.vx_sites.proofs.history.begin_line.Goals as goal
+
+pub returns : goal.returns
+returns c =
+    line_changed c.find_line.new.lines.items c.args.lines.now.items c.args.line.now c.in_ok-at.at c.index_mut.result.now (record { start = c.args.start; held = c.new.result; told = 0 })
+    (λ (h : History). record no_history { start = content_of c.args.start }) c.in_ok-at.ensures.place c.index_mut.ensures.value c.in_ok-at.ensures.same
+    (rw c.new.ensures.items refl)

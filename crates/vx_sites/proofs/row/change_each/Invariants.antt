@@ -1,0 +1,8 @@
+use Rattle.std.proofs.Common.{◌≡◌, length}
+use Rattle.vx_model.specs.Events.{link_after}
+use Rattle.vx_sites.specs.Shapes.{row_of, node_of}
+use Rattle.vx_sites.proofs.Tables.{changed_below}
+use Rattle.vx_sites.proofs.row.change_each.Given as goal
+
+abbrev pub invariant-loop-to : goal.invariant-loop-to
+invariant-loop-to l = (row_of l.links.items ≡ changed_below (link_after (node_of l.node) l.write) l.to (row_of l.initial.links.items)) × (length l.links.items ≡ length l.initial.links.items)

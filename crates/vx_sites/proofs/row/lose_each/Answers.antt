@@ -1,0 +1,18 @@
+use Rattle.std.proofs.Common.{◌≡◌, ℕ, ◌<◌, length, arith, refl, ◌∙◌}
+use Rattle.std.proofs.lemmas.List.{length-set}
+use Rattle.vx_model.specs.World.{Link}
+use Rattle.vx_model.specs.Events.{lost_touch}
+use Rattle.vx_sites.proofs.Each.{each_step, each_done}
+use Rattle.vx_sites.proofs.row.lose_each.Goals as goal
+
+pub loop-to-preserved : goal.loop-to-preserved
+loop-to-preserved c =
+    let below : c.loop-to.to < length c.loop-to.links.items = omega (arith, c.loop-to.invariant.1) in (
+      each_step (λ (k : ℕ) (link : Link). lost_touch link) c.args.links.now.items c.loop-to.links.items c.loop-to.to c.index.result.now c.lose.result below c.index.ensures (c.lose.ensures) (c.loop-to.invariant.0),
+      length-set c.loop-to.links.items c.loop-to.to c.lose.result ∙ c.loop-to.invariant.1,
+    )
+
+pub returns : goal.returns
+returns c =
+    let all : c.loop-to.to ≡ length c.args.links.now.items = omega (arith, c.len-to-end.ensures, c.args.links.now.ok.0) in
+    each_done (λ (k : ℕ) (link : Link). lost_touch link) c.args.links.now.items c.loop-to.links.items c.loop-to.to all (λ k. refl) (c.loop-to.invariant.0)

@@ -1,0 +1,13 @@
+use Rattle.std.proofs.Common.{◌+◌, refl, None}
+use Rattle.vx_model.specs.World.{Node}
+use Rattle.vx_model.specs.Steps.{recovered}
+use Rattle.vx_model.specs.declared.site.SiteState.TheVariants.{Up}
+use Rattle.vx_sites.specs.Shapes.{world_of}
+use Rattle.vx_sites.proofs.Worlds.{node_changed}
+use Rattle.vx_sites.proofs.world.World.come_up.Goals as goal
+
+pub returns : goal.returns
+returns c =
+    node_changed (world_of c.args.self.now) c.args.self.now.nodes.items c.args.site c.index_mut-node.result.now (record c.index_mut-node.result.now { state = Up; session = c.index_mut-node.result.now.session + 1; halted = None; mark = c.args.mark })
+    (λ (n : Node). record (recovered n) { mark = c.args.mark }) refl refl c.requires.within c.index_mut-node.ensures.value
+    refl

@@ -1,0 +1,11 @@
+use Rattle.std.proofs.Common.{refl, Some}
+use Rattle.vx_model.specs.World.{Node}
+use Rattle.vx_model.specs.Steps.{burned}
+use Rattle.vx_sites.specs.Shapes.{world_of}
+use Rattle.vx_sites.proofs.Worlds.{node_changed}
+use Rattle.vx_sites.proofs.world.World.halt.Goals as goal
+
+pub returns : goal.returns
+returns c =
+    node_changed (world_of c.args.self.now) c.args.self.now.nodes.items c.args.site c.index_mut.result.now (record c.index_mut.result.now { halted = Some c.args.disk })
+    (λ (n : Node). record n { halted = Some c.args.disk; fuse = burned n.fuse }) refl refl c.requires c.index_mut.ensures.value refl

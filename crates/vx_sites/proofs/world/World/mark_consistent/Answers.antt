@@ -1,0 +1,12 @@
+use Rattle.std.proofs.Common.{refl}
+use Rattle.vx_model.specs.World.{Node}
+use Rattle.vx_model.specs.declared.site.Mark.TheVariants.{Consistent}
+use Rattle.vx_sites.specs.Shapes.{world_of}
+use Rattle.vx_sites.proofs.Worlds.{node_changed}
+use Rattle.vx_sites.proofs.world.World.mark_consistent.Goals as goal
+
+pub returns : goal.returns
+returns c =
+    node_changed (world_of c.args.self.now) c.args.self.now.nodes.items c.args.site c.index_mut.result.now (record c.index_mut.result.now { mark = Consistent })
+    (λ (n : Node). record n { mark = Consistent }) refl refl c.requires c.index_mut.ensures.value
+    refl

@@ -1,0 +1,9 @@
+use Rattle.std.proofs.Common.{◌<◌, ◌-◌, length, arith}
+use Rattle.vx_sites.proofs.Packets.{packet_found}
+use Rattle.vx_sites.proofs.world.World.packet.Goals as goal
+
+pub returns : goal.returns
+returns c =
+    let some : 0 < c.args.number = omega arith in
+    let within : c.args.number - 1 < length c.args.self.now.packets.items = omega arith in
+    packet_found c.args.self.now.packets.items c.args.number c.index.result.now within some c.index.ensures

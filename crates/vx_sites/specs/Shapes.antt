@@ -1,0 +1,132 @@
+-- What a world in memory is seen as.
+use Rattle.std.specs.Prelude.{◌≡◌, ℕ, ◌<◌, true, false, List, [], ◌∷◌, length, map, get_or, ltb, None, if◌then◌else◌}
+use Rattle.vx_model.specs.Content.{Content as PlainContent, zeros, fold_writes}
+use Rattle.vx_model.specs.World.{no_line, no_regions, no_link, no_history, bare_site, same_line, NoFuse}
+use Rattle.vx_model.specs.World.{Node as PlainNode, Link as PlainLink, History as PlainHistory, World as PlainWorld}
+use Rattle.vx_model.specs.World.{Message as PlainMessage, Packet as PlainPacket, Surety as PlainSurety, Promise as PlainPromise}
+use Rattle.vx_model.specs.World.{Hello as PlainHello, Update as PlainUpdate, NetAck as PlainNetAck, DataAck as PlainDataAck, Durable as PlainDurable, InSession as PlainInSession}
+use Rattle.vx_model.specs.Steps.{raw_volumes}
+use Rattle.vx_model.specs.declared.history.Line.{Line}
+use Rattle.vx_sites.specs.declared.content.Content.{Content}
+use Rattle.vx_sites.specs.declared.history.History.{History}
+use Rattle.vx_sites.specs.declared.history.Entry.{Entry}
+use Rattle.vx_sites.specs.declared.link.Link.{Link}
+use Rattle.vx_sites.specs.declared.link.Row.{Row}
+use Rattle.vx_sites.specs.declared.node.Node.{Node}
+use Rattle.vx_sites.specs.declared.packet.Message.{Message}
+use Rattle.vx_sites.specs.declared.packet.Message.TheVariants.{Hello, Update, NetAck, DataAck}
+use Rattle.vx_sites.specs.declared.packet.Packet.{Packet}
+use Rattle.vx_sites.specs.declared.packet.Surety.{Surety}
+use Rattle.vx_sites.specs.declared.packet.Surety.TheVariants.{Durable, InSession}
+use Rattle.vx_sites.specs.declared.packet.Promise.{Promise}
+use Rattle.vx_sites.specs.declared.world.World.{World}
+
+-- so many volumes of so many blocks each
+abbrev pub sizes : (volumes blocks : ℕ) → ℕ → ℕ
+sizes volumes blocks v = if ltb v volumes then blocks else 0
+
+abbrev pub content_of : Content → PlainContent
+content_of c = fold_writes (zeros (sizes c.volumes c.blocks)) c.writes.items
+
+abbrev pub history_of : History → PlainHistory
+history_of h = record { parent = no_line; fork = 0; start = content_of h.start; held = h.held.items; told = h.told }
+
+abbrev pub node_of : Node → PlainNode
+node_of n = record {
+  name = n.name;
+  state = n.state;
+  disks = n.disks;
+  blocks = n.blocks;
+  ring = n.ring;
+  volumes = raw_volumes 1 n.volumes n.blocks;
+  role = n.role;
+  line = n.line;
+  parent = no_line;
+  fork = 0;
+  top = n.top;
+  session = n.session;
+  mark = n.mark;
+  phase = n.phase;
+  replay = n.replay;
+  end = n.end;
+  other = n.other;
+  start = content_of n.start;
+  base = content_of n.base;
+  log = n.log.items;
+  safe = n.safe;
+  low = 1;
+  halted = n.halted;
+  fork_map = None;
+  fuse = NoFuse;
+}
+
+abbrev pub link_of : Link → PlainLink
+link_of l = record {
+  made = l.made;
+  bunker = l.state.bunker;
+  attached = l.state.attached;
+  connected = l.state.connected;
+  paused = l.state.paused;
+  sync = l.state.sync;
+  prot = l.state.prot;
+  session = l.state.session;
+  net = l.state.net;
+  stored = l.state.stored;
+  sent = l.state.sent;
+  trimmed = l.state.trimmed;
+  mode = l.state.mode;
+  map = no_regions;
+  read_to = 0;
+}
+
+abbrev pub message_of : Message → PlainMessage
+message_of (Hello session number stored) = PlainHello session number stored
+message_of (Update number write) = PlainUpdate number write
+message_of (NetAck session number) = PlainNetAck session number
+message_of (DataAck number) = PlainDataAck number
+
+abbrev pub packet_of : Packet → PlainPacket
+packet_of p = record { source = p.source; target = p.target; line = p.line; message = message_of p.message }
+
+abbrev pub surety_of : Surety → PlainSurety
+surety_of Durable = PlainDurable
+surety_of (InSession session) = PlainInSession session
+
+abbrev pub promise_of : Promise → PlainPromise
+promise_of p = record { line = p.line; number = p.number; site = p.site; surety = surety_of p.surety }
+
+-- a site beyond the last is bare, without a name and disks
+abbrev pub nodes_of : List Node → ℕ → PlainNode
+nodes_of nodes i = get_or (map node_of nodes) i (bare_site [] 0 0)
+
+-- the links of one site, each in the place of the site that it leads to
+abbrev pub row_of : List Link → ℕ → PlainLink
+row_of links s = get_or (map link_of links) s no_link
+
+abbrev pub links_of : List Row → ℕ → ℕ → PlainLink
+links_of rows p = get_or (map (λ r. row_of r.links.items) rows) p (λ s. no_link)
+
+-- the first entry of the line
+abbrev pub lines_of : List Entry → Line → PlainHistory
+lines_of [] l = no_history
+lines_of (e ∷ es) l = if same_line l e.line then history_of e.history else lines_of es l
+
+-- the first entry of this line stands at this place
+pub record IsEntry (entries : List Entry) (line : Line) (at : ℕ) : Type 0 where
+  pub within : at < length entries
+  pub here : (d : Entry) → same_line line (get_or entries at d).line ≡ true
+  pub first : (k : ℕ) (d : Entry) → k < at → same_line line (get_or entries k d).line ≡ false
+
+-- no entry is of this line
+abbrev pub IsNewLine : List Entry → Line → Type 0
+IsNewLine entries line = (k : ℕ) (d : Entry) → k < length entries → same_line line (get_or entries k d).line ≡ false
+
+abbrev pub world_of : World → PlainWorld
+world_of w = record {
+  sites = length w.nodes.items;
+  nodes = nodes_of w.nodes.items;
+  links = links_of w.rows.items;
+  lines = lines_of w.lines.items;
+  packets = map packet_of w.packets.items;
+  promised = map promise_of w.promised.items;
+}

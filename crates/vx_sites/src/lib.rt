@@ -1,0 +1,26 @@
+//! The world of sites, links, lines and packets in memory, as plain lists, and the tests of its events.
+//!
+//! Sites, volumes and disks go by numbers from 0, writes and packets by numbers from 1. What a world is seen as is said by
+//! `world_of` (`specs/Shapes.antt`).
+#![tactic(auto)]
+
+pub mod bounds;
+mod changes;
+mod confirming;
+mod content;
+mod history;
+mod link;
+mod node;
+mod packet;
+mod receipts;
+pub mod refusals;
+pub mod row;
+mod updates;
+mod world;
+
+pub use content::{Content, Write};
+pub use history::{Entry, History};
+pub use link::{Link, Row};
+pub use node::Node;
+pub use packet::{Message, Packet, Promise, Surety};
+pub use world::World;

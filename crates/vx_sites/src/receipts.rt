@@ -1,0 +1,50 @@
+// Packets that were sent, and writes that sites receive.
+ghost use Rattle.std.specs.Prelude.{◌≡◌, ◌<◌, length, MatchOption, None, Some, OnOk};
+ghost use Rattle.vx_model.specs.World.{with_node};
+ghost use Rattle.vx_model.specs.Sends.{sending, greeting};
+ghost use Rattle.vx_model.specs.Events.{packet_at, with_write};
+ghost use Rattle.vx_sites.specs.Shapes.{world_of, packet_of};
+
+use crate::{Message, Packet, World, Write};
+use vx_model::OutOfMemory;
+
+impl World {
+    /// The packet of this number, the first of which is number 1.
+    pub fn packet(&self, number: u64) -> Option<Packet>
+        ensures { let found = packet_at (world_of self.now).packets number in MatchOption result (found ≡ None) (λ p. found ≡ Some (packet_of p)) }
+    {
+        let sent = self.packets.len() as u64;
+        if number == 0 || sent < number {
+            return None;
+        }
+        Some(self.packets[number as usize - 1])
+    }
+
+    /// The site receives a write, which waits.
+    pub fn receive(&mut self, site: u32, write: Write) -> Result<(), OutOfMemory>
+        requires { site < length self.old.nodes.items }
+        ensures { OnOk result (let w = world_of self.old in world_of self.new ≡ with_node w site (with_write (w.nodes site) write)) }
+    {
+        self.nodes[site as usize].log.push(write)?;
+        Ok(())
+    }
+
+    /// The source greets the target.
+    pub fn greet(&mut self, source: u32, target: u32) -> Result<(), OutOfMemory>
+        requires { source < length self.old.nodes.items }
+        ensures { OnOk result (let w = world_of self.old in world_of self.new ≡ sending w (greeting source target (w.nodes source))) }
+    {
+        let node = &self.nodes[source as usize];
+        let packet = Packet {
+            source,
+            target,
+            line: node.line,
+            message: Message::Hello {
+                session: node.session,
+                number: node.log.len() as u64,
+                stored: node.safe,
+            },
+        };
+        self.send(packet)
+    }
+}

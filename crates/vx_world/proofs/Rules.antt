@@ -1,0 +1,29 @@
+-- The rule of a link, step by step as the program takes it.
+use Rattle.std.proofs.Common.{◌≡◌, ◌∙◌, ℕ, true, sym, ap}
+use Rattle.vx_model.specs.World.{Node, Link, World}
+use Rattle.vx_model.specs.Sends.{with_link}
+use Rattle.vx_model.specs.LinkForms.{plain_link, with_plain}
+use Rattle.vx_model.specs.Sending.{Sent, sent_step}
+use Rattle.vx_model.specs.Events.{facts_of, link_step}
+use Rattle.vx_model.specs.declared.link.Link.{Link as PlainLink}
+use Rattle.vx_model.specs.declared.sender.SEvent.{SEvent}
+use Rattle.vx_model.specs.declared.sender.SFacts.{SFacts}
+use Rattle.vx_model.proofs.Updates.{same_line_self}
+
+-- what a message of the site's own line finds there
+pub own_facts : (n m : Node) → n ≡ m → (let f : SFacts = record { safe = n.safe; line_ok = true } in f) ≡ facts_of m m.line
+own_facts n m same =
+    ap (λ (x : Node). let f : SFacts = record { safe = x.safe; line_ok = true } in f) same
+    ∙ ap (λ b. let f : SFacts = record { safe = m.safe; line_ok = b } in f) (sym (same_line_self m.line))
+
+pub step_is : (w : World) (p s : ℕ) (e : SEvent) (mid : Link) (plain : PlainLink) (facts : SFacts) → mid ≡ w.links p s → plain ≡ plain_link s mid → facts ≡ facts_of (w.nodes p) (w.nodes p).line
+    → sent_step plain e facts ≡ link_step w p s e
+step_is w p s e mid plain facts is spelled told =
+    ap (λ (l : PlainLink). sent_step l e facts) (spelled ∙ ap (λ (l : Link). plain_link s l) is)
+    ∙ ap (λ (f : SFacts). sent_step (plain_link s (w.links p s)) e f) told
+
+pub moved_is : (w new : World) (p s : ℕ) (mid put : Link) (after : PlainLink) (r : Sent) → mid ≡ w.links p s → after ≡ r.link → put ≡ with_plain mid after → new ≡ with_link w p s put
+    → new ≡ with_link w p s (with_plain (w.links p s) r.link)
+moved_is w new p s mid put after r is stepped made changed =
+    changed
+    ∙ ap (λ (l : Link). with_link w p s l) (made ∙ ap (λ (l : Link). with_plain l after) is ∙ ap (λ (l : PlainLink). with_plain (w.links p s) l) stepped)

@@ -1,0 +1,51 @@
+// Sites that crash.
+ghost use Rattle.std.specs.Prelude.{◌≡◌, ◌<◌, length, IfOk, OnOk};
+ghost use Rattle.vx_model.specs.Refusals.{says};
+ghost use Rattle.vx_model.specs.Events.{kept_of, crash_world, crash_at};
+ghost use Rattle.vx_model.specs.Step.{step};
+ghost use Rattle.vx_model.specs.declared.event.Event.TheVariants.{Crash};
+ghost use Rattle.vx_sites.specs.Shapes.{world_of};
+
+use vx_model::{OutOfMemory, Said};
+use vx_sites::World;
+use vx_sites::refusals::{has_writes, refuse_not_up, refuse_site};
+
+/// The site is down, and keeps its first writes: as many as are nearest to `kept` of those that a crash may keep. Refused with 1
+/// and 6.
+pub fn crash(world: &mut World, site: u32, kept: u64) -> Result<Said, OutOfMemory>
+    ensures { IfOk result (λ said. says (world_of world.new) said ≡ step (world_of world.old) (Crash site kept)) }
+{
+    if let Some(no) = refuse_site(world, site) {
+        return Ok(Said::Refused(no));
+    }
+    if let Some(no) = refuse_not_up(world, site) {
+        return Ok(Said::Refused(no));
+    }
+    crash_site(world, site, kept)?;
+    Ok(Said::Done)
+}
+
+fn crash_site(world: &mut World, site: u32, kept: u64) -> Result<(), OutOfMemory>
+    requires { site < length world.old.nodes.items }
+    ensures { OnOk result (let w = world_of world.old in world_of world.new ≡ crash_at w site (kept_of (w.nodes site) kept)) }
+{
+    let node = world.node(site);
+    let kept = (node.log.len() as u64).min(kept.max(node.safe));
+    take_down(world, site, kept)?;
+    world.lose_touch(site);
+    Ok(())
+}
+
+// The line of an origin then holds what its origin kept.
+fn take_down(world: &mut World, site: u32, kept: u64) -> Result<(), OutOfMemory>
+    requires { site < length world.old.nodes.items }
+    ensures { OnOk result (world_of world.new ≡ crash_world (world_of world.old) site kept) }
+{
+    if !has_writes(&world.node(site).role) {
+        world.go_down(site, kept)?;
+        return Ok(());
+    }
+    world.keep_line(site, kept)?;
+    world.go_down(site, kept)?;
+    Ok(())
+}
