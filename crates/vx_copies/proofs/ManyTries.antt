@@ -1,5 +1,5 @@
 -- Tries one after the other.
-use Rattle.std.proofs.Common.{◌≡◌, ◌⊎◌, inl, inr, ⊎_elim, ℕ, ◌+◌, ◌<◌, ◌≤◌, Bool, true, false, Option, Some, List, length, refl, sym, subst, ◌∙◌, arith}
+use Rattle.std.proofs.Common.{◌≡◌, ◌⊎◌, inl, inr, ⊎_elim, ℕ, ◌+◌, ◌<◌, ◌≤◌, Bool, true, false, Option, Some, List, length, refl, ap, sym, subst, ◌∙◌, arith}
 use Rattle.std.specs.Prelude.{nat_lt, if◌then◌else◌}
 use Rattle.std.proofs.lemmas.Bool.{cases_lt, le-ltb, lt-ltb}
 use Rattle.vx_disk.specs.Blocks.{bit_at}
@@ -8,21 +8,22 @@ use Rattle.vx_disk.specs.Moves.{Beside}
 use Rattle.vx_disk.specs.Shelf.{Each, Image, Lawful, Meaning}
 use Rattle.vx_disk.proofs.Causing.{Rose_after, Rose_before}
 use Rattle.vx_disk.proofs.Moving.{goes_on, still, wider}
-use Rattle.vx_copyfmt.specs.Copies.{Disk, Holds, copy_of}
-use Rattle.vx_copyfmt.specs.Commits.{Among, FromNew, FromOld, Slots, Tidy, Written, exactly}
+use Rattle.vx_copyfmt.specs.Copies.{Copy, Disk, Holds, copy_of}
+use Rattle.vx_copyfmt.specs.Commits.{Among, Counts, Forged, FromNew, FromOld, Older, Slots, Tidy, Torn, Written, exactly}
 use Rattle.vx_copyfmt.specs.Labels.{seen_in}
-use Rattle.vx_copyfmt.proofs.Areas.{tidy_one}
+use Rattle.vx_copyfmt.proofs.Areas.{no_forged, no_torn, one_tidy}
+use Rattle.vx_copyfmt.proofs.Subs.{counts_sub, forged_sub, old_sub, tidy_more, tidy_sub, torn_sub}
 use Rattle.vx_copyio.specs.Labelling.{AreLarge}
-use Rattle.vx_copyio.specs.Putting.{AreasOf}
+use Rattle.vx_copyio.specs.Putting.{AreasOf, LeavesSame}
 use Rattle.vx_config.specs.Table.{greatest}
 use Rattle.vx_config.specs.declared.config.Config.{Config}
 use Rattle.vx_config.specs.declared.entry.DiskEntry.{DiskEntry}
 use Rattle.vx_copies.specs.Bodies.{failed_in}
-use Rattle.vx_copies.specs.Commits.{Behind, Grown, Held, IsBefore, IsBlamed, IsOne, MoreFailed, Ready, Stage, Stands, StayReady, Underway, lowest_member}
+use Rattle.vx_copies.specs.Commits.{AreTidy, Becomes, Behind, Below, Grown, Held, IsBefore, IsBlamed, IsOne, LeavesLater, MoreFailed, Ready, Remain, Stage, Stands, Underway, lowest_member}
 use Rattle.vx_copies.specs.Looking.{on_shelf}
 use Rattle.vx_copies.specs.Marks.{NoneGood, failed_at}
 use Rattle.vx_copies.proofs.MarkedDisks.{serial_grown}
-use Rattle.vx_copies.proofs.OneTry.{as_before, held_or, kept_good, new_wider, not_both, shelf_same, tidy_later}
+use Rattle.vx_copies.proofs.OneTry.{as_before, held_or, kept_good, later_old, later_torn, lower_older, new_wider, not_both, shelf_same}
 
 -- ---- none yet
 
@@ -34,13 +35,14 @@ none_yet good c m = record {
   tried = λ s above within. absurd (omega (arith, above, within));
   chain = λ s t above le within u failed. failed;
   moves = still (AreasOf (Held c m)) (Stage good c c.serial (λ s. c) m) m;
-  leaves = λ ready u e held among. inl (as_before (on_shelf m) (m.leaves u) e among);
+  below = λ below. below;
+  leaves = λ below u e held counts among. inl (as_before (on_shelf m) (m.leaves u) e among);
+  fits = λ below u e held counts among. inl (one_tidy (on_shelf m) (c.serial + 1) (m.leaves u) e (record { counts = counts; below = below.each u held.below }) among);
   now = λ i left. record {
     each = λ ready u held. inl (as_before (on_shelf m) (m.leaves u) (i u) (λ b. left u b));
     led = λ ready u held out. inl (as_before (on_shelf m) (m.leaves u) (i u) (λ b. left u b));
-    fit = λ ready u held. tidy_one (on_shelf m) (c.serial + 1) (m.leaves u) (i u) (ready.tidy u held) (λ b. left u b);
+    fit = λ ready u held. inl (one_tidy (on_shelf m) (c.serial + 1) (m.leaves u) (i u) (record { counts = ready.counts u held; below = ready.below.each u held.below }) (λ b. left u b));
   };
-  fits = λ ready u e held among. tidy_one (on_shelf m) (c.serial + 1) (m.leaves u) e (ready.tidy u held) among;
 }
 
 -- ---- more disks that are held as failed
@@ -91,44 +93,23 @@ module _ (old mid new : Meaning) (one : (u : ℕ) → old.faults u ≤ mid.fault
 
 -- ---- where a copy comes from, after two calls
 
-module _ {C : Type 0} (reads : List ℕ → Option C) (P Q R : ℕ → C → Type 0) (first mid : Slots) (labels : (v : List ℕ) → mid 0 v → first 0 v)
-    (before : (e : Disk) → Among mid e → FromOld reads first e ⊎ FromNew reads P first e) (one : (s : ℕ) (c : C) → P s c → R s c) (two : (s : ℕ) (c : C) → Q s c → R s c) where
-  old_then : (d : Disk) (from : FromOld reads mid d) → FromOld reads first from.disk ⊎ FromNew reads P first from.disk → FromOld reads first d ⊎ FromNew reads R first d
-  old_then d from (inl old) = inl (record { disk = old.disk; among = old.among; label = from.label ∙ old.label; copy = from.copy ∙ old.copy })
-  old_then d from (inr new) = inr (record {
+module _ {C : Type 0} (reads : List ℕ → Option C) (slots : Slots) where
+  -- a disk with the label and the copy of one that has a copy that was begun
+  abbrev new_alike : (P Q : ℕ → C → Type 0) (d e : Disk) → ((s : ℕ) (c : C) → P s c → Q s c) → seen_in (d 0) ≡ seen_in (e 0) → copy_of reads d ≡ copy_of reads e → FromNew reads P slots e → FromNew reads Q slots d
+  new_alike P Q d e wide label copy new = record {
     serial = new.serial;
     config = new.config;
     area = new.area;
-    made = one new.serial new.config new.made;
+    made = wide new.serial new.config new.made;
     first = new.first;
     there = new.there;
-    label = from.label ∙ new.label;
-    copy = from.copy ∙ new.copy;
-  })
-
-  from_both : (d : Disk) → FromOld reads mid d ⊎ FromNew reads Q mid d → FromOld reads first d ⊎ FromNew reads R first d
-  from_both d (inl from) = old_then d from (before from.disk from.among)
-  from_both d (inr new) = inr (record {
-    serial = new.serial;
-    config = new.config;
-    area = new.area;
-    made = two new.serial new.config new.made;
-    first = new.first;
-    there = labels new.first new.there;
-    label = new.label;
-    copy = new.copy;
-  })
+    label = label ∙ new.label;
+    copy = copy ∙ new.copy;
+  }
 
 -- ---- two parts of the tries
 
-bit_or : (good u : ℕ) → (bit_at good u ≡ true) ⊎ (bit_at good u ≡ false)
-bit_or good u = by_test (bit_at good u)
-  where
-    by_test : (b : Bool) → (b ≡ true) ⊎ (b ≡ false)
-    by_test true = inl refl
-    by_test false = inr refl
-
-module _ (good : ℕ) (a c d : Config) (old mid new : Meaning) (one : Underway good a c old mid) (ready : StayReady a c old mid) (two : Underway good c d mid new) where
+module _ (good : ℕ) (a c d : Config) (old mid new : Meaning) (one : Underway good a c old mid) (remain : Remain a c old mid) (two : Underway good c d mid new) where
   same : on_shelf old ≡ on_shelf mid
   same = shelf_same old mid one.moves.units one.moves.size
 
@@ -201,17 +182,67 @@ module _ (good : ℕ) (a c d : Config) (old mid new : Meaning) (one : Underway g
     refl,
   )
 
+  -- ---- disks that are ready in between
+
+  older : Below a old → (u : ℕ) → Held a old u → Older (on_shelf old) (a.serial + 1) (old.leaves u)
+  older below u held = lower_older (on_shelf old) (a.serial + 1) (old.leaves u) (below.each u held.below)
+
+  counts_mid : Below a old → (u : ℕ) → Held c mid u → Counts (on_shelf old) (old.leaves u) → Counts (on_shelf mid) (mid.leaves u)
+  counts_mid below u held counts = elim (remain.each u held) [
+    | inl is ↦ subst (λ (r : List ℕ → Option Config). Counts r (mid.leaves u)) same (counts_sub (on_shelf old) (old.leaves u) (mid.leaves u) is.each counts)
+    | inr later ↦ (later.tidy below).fit.counts
+  ]
+
+  ready_mid : Ready a old → Ready c mid
+  ready_mid ready = record { below = one.below ready.below; counts = λ u held. counts_mid ready.below u held (ready.counts u (held_first u held)) }
+
+  torn_mid : Below a old → (u : ℕ) (e : Disk) → Held c mid u → Torn (on_shelf mid) (mid.leaves u) e → Torn (on_shelf old) (old.leaves u) e
+  torn_mid below u e held torn = elim (remain.each u held) [
+    | inl is ↦ torn_sub (on_shelf old) (old.leaves u) (mid.leaves u) is.each e (subst (λ (r : List ℕ → Option Config). Torn r (mid.leaves u) e) (sym same) torn)
+    | inr later ↦ absurd (no_torn (on_shelf mid) (c.serial + 1) (mid.leaves u) e (later.tidy below) torn)
+  ]
+
+  forged_mid : Below a old → (u : ℕ) (e : Disk) → Held c mid u → Forged (mid.leaves u) e → Forged (old.leaves u) e
+  forged_mid below u e held forged = elim (remain.each u held) [
+    | inl is ↦ forged_sub (old.leaves u) (mid.leaves u) is.each e forged
+    | inr later ↦ absurd (no_forged (on_shelf mid) (c.serial + 1) (mid.leaves u) e (later.tidy below) forged)
+  ]
+
+  -- what might have been left in between
+  old_mid : Below a old → (u : ℕ) (e : Disk) → Held c mid u → Counts (on_shelf old) (old.leaves u) → FromOld (on_shelf mid) (mid.leaves u) e → Becomes (IsOne a d.serial tries u) old u e
+  old_mid below u e held counts there = by_remain (remain.each u held)
+    where
+      from : FromOld (on_shelf old) (mid.leaves u) e
+      from = subst (λ (r : List ℕ → Option Config). FromOld r (mid.leaves u) e) (sym same) there
+
+      by_kind : LeavesLater a c.serial u old mid → Becomes (IsOne a c.serial one.tries u) old u from.disk → Becomes (IsOne a d.serial tries u) old u e
+      by_kind later (inl was) =
+          let x = later.newer below from.disk from.among in
+          absurd (later_old (on_shelf old) (old.leaves u) a.serial from.disk x.0 (older below u (held_first u held)) x.1 x.2 was)
+      by_kind later (inr (inl made)) =
+          inr (inl (new_alike (on_shelf old) (old.leaves u) (IsOne a c.serial one.tries u) (IsOne a d.serial tries u) e from.disk (one_wide u) from.label from.copy made))
+      by_kind later (inr (inr torn)) =
+          let x = later.newer below from.disk from.among in
+          absurd (later_torn (on_shelf old) (old.leaves u) a.serial from.disk x.0 (older below u (held_first u held)) x.1 x.2 torn)
+
+      by_remain : LeavesSame u old mid ⊎ LeavesLater a c.serial u old mid → Becomes (IsOne a d.serial tries u) old u e
+      by_remain (inl is) = inl (old_sub (on_shelf old) (old.leaves u) (mid.leaves u) is.each e from)
+      by_remain (inr later) = by_kind later (one.leaves below u from.disk (held_first u held) counts from.among)
+
   -- a disk on which the second part may have written
-  of_two : Ready a old → (u : ℕ) (e : Disk) → Held a old u → FromOld (on_shelf mid) (mid.leaves u) e ⊎ FromNew (on_shelf mid) (IsOne c d.serial two.tries u) (mid.leaves u) e
-      → FromOld (on_shelf old) (old.leaves u) e ⊎ FromNew (on_shelf old) (IsOne a d.serial tries u) (old.leaves u) e
-  of_two first u e held from =
-      from_both (on_shelf old) (IsOne a c.serial one.tries u) (IsOne c d.serial two.tries u) (IsOne a d.serial tries u) (old.leaves u) (mid.leaves u) (labels u) (λ f among. one.leaves first u f held among) (one_wide u) (two_wide u) e
-      (subst (λ (r : List ℕ → Option Config). FromOld r (mid.leaves u) e ⊎ FromNew r (IsOne c d.serial two.tries u) (mid.leaves u) e) (sym same) from)
+  of_two : Below a old → (u : ℕ) (e : Disk) → Held c mid u → Counts (on_shelf old) (old.leaves u) → Becomes (IsOne c d.serial two.tries u) mid u e → Becomes (IsOne a d.serial tries u) old u e
+  of_two below u e held counts (inl from) = old_mid below u e held counts from
+  of_two below u e held counts (inr (inl from)) = inr (inl (second_new u e from).0)
+  of_two below u e held counts (inr (inr torn)) = inr (inr (torn_mid below u e held torn))
+
+  widen : (u : ℕ) (e : Disk) → Becomes (IsOne a c.serial one.tries u) old u e → Becomes (IsOne a d.serial tries u) old u e
+  widen u e (inl from) = inl from
+  widen u e (inr (inl from)) = inr (inl (new_wider (on_shelf old) (IsOne a c.serial one.tries u) (IsOne a d.serial tries u) (old.leaves u) e (one_wide u) from))
+  widen u e (inr (inr torn)) = inr (inr torn)
 
   -- one on which it did not
-  of_one : Ready a old → (u : ℕ) (e : Disk) → Held a old u → Among (mid.leaves u) e → FromOld (on_shelf old) (old.leaves u) e ⊎ FromNew (on_shelf old) (IsOne a d.serial tries u) (old.leaves u) e
-  of_one first u e held among =
-      ⊎_elim (λ from. inl from) (λ from. inr (new_wider (on_shelf old) (IsOne a c.serial one.tries u) (IsOne a d.serial tries u) (old.leaves u) e (one_wide u) from)) (one.leaves first u e held among)
+  of_one : Below a old → (u : ℕ) (e : Disk) → Held a old u → Counts (on_shelf old) (old.leaves u) → Among (mid.leaves u) e → Becomes (IsOne a d.serial tries u) old u e
+  of_one below u e held counts among = widen u e (one.leaves below u e held counts among)
 
   left_alone : (u b : ℕ) (v : List ℕ) → (Held c mid u → ⊥) → mid.leaves u b v ⊎ AreasOf (Held c mid) u b → mid.leaves u b v
   left_alone u b v out (inl was) = was
@@ -220,123 +251,155 @@ module _ (good : ℕ) (a c d : Config) (old mid new : Meaning) (one : Underway g
   not_held : (u : ℕ) → failed_at c.disks u ≡ true → Held c mid u → ⊥
   not_held u failed held = not_both (failed_at c.disks u) held.good failed
 
-  fit_two : (u : ℕ) (e : Disk) → Tidy (on_shelf mid) (d.serial + 1) (exactly e) → Tidy (on_shelf old) (d.serial + 1) (exactly e)
-  fit_two u e tidy = subst (λ (r : List ℕ → Option Config). Tidy r (d.serial + 1) (exactly e)) (sym same) tidy
+  fit_two : Below a old → (u : ℕ) (e : Disk) → Held c mid u → Tidy (on_shelf mid) (d.serial + 1) (exactly e) ⊎ Forged (mid.leaves u) e → Tidy (on_shelf old) (d.serial + 1) (exactly e) ⊎ Forged (old.leaves u) e
+  fit_two below u e held (inl tidy) = inl (subst (λ (r : List ℕ → Option Config). Tidy r (d.serial + 1) (exactly e)) (sym same) tidy)
+  fit_two below u e held (inr forged) = inr (forged_mid below u e held forged)
 
-  fit_one : Ready a old → (u : ℕ) (e : Disk) → Held a old u → Among (mid.leaves u) e → Tidy (on_shelf old) (d.serial + 1) (exactly e)
-  fit_one first u e held among = tidy_later (on_shelf old) (c.serial + 1) (d.serial + 1) (exactly e) (omega (arith, two.serial)) (one.fits first u e held among)
+  fit_later : (u : ℕ) (e : Disk) → Tidy (on_shelf old) (c.serial + 1) (exactly e) ⊎ Forged (old.leaves u) e → Tidy (on_shelf old) (d.serial + 1) (exactly e) ⊎ Forged (old.leaves u) e
+  fit_later u e (inl tidy) = inl (tidy_more (on_shelf old) (c.serial + 1) (d.serial + 1) (exactly e) (omega (arith, two.serial)) tidy)
+  fit_later u e (inr forged) = inr forged
+
+  fit_one : Below a old → (u : ℕ) (e : Disk) → Held a old u → Counts (on_shelf old) (old.leaves u) → Among (mid.leaves u) e → Tidy (on_shelf old) (d.serial + 1) (exactly e) ⊎ Forged (old.leaves u) e
+  fit_one below u e held counts among = fit_later u e (one.fits below u e held counts among)
 
   -- ---- an image in the second part, and one from before it
 
   module _ (first : Ready a old) (i : Image) (beside : Beside (AreasOf (Held c mid)) mid.leaves i) (seen : Stage good c d.serial two.tries mid i) (base : Image) (has : Each mid.leaves base) where
-    -- the disk has the label and copy of one from before the second part, or one of its copies
+    -- the disk is this one, or has its label and copy, or a copy of the second part; or it is torn
     abbrev Under : ℕ → Disk → Type 0
     Under v e =
-        ((seen_in (i v 0) ≡ seen_in (e 0)) × (copy_of (on_shelf mid) (i v) ≡ copy_of (on_shelf mid) e))
-        ⊎ (FromNew (on_shelf mid) (IsOne c d.serial two.tries v) (mid.leaves v) (i v) × (bit_at good v ≡ false → Behind good c d.serial two.tries mid i v))
+        (i v ≡ e)
+        ⊎ (Held c mid v
+        × (((seen_in (i v 0) ≡ seen_in (e 0)) × (copy_of (on_shelf mid) (i v) ≡ copy_of (on_shelf mid) e))
+        ⊎ FromNew (on_shelf mid) (IsOne c d.serial two.tries v) (mid.leaves v) (i v)
+        ⊎ ((torn : Torn (on_shelf mid) (mid.leaves v) (i v)) × (torn.disk ≡ e))))
 
-    abbrev Below : ℕ → Type 0
-    Below v = (e : Disk) × Among (mid.leaves v) e × Under v e
+    abbrev Base : ℕ → Type 0
+    Base v = (e : Disk) × Among (mid.leaves v) e × Under v e
 
-    of_each : (v : ℕ) → bit_at good v ≡ true → FromOld (on_shelf mid) (mid.leaves v) (i v) ⊎ FromNew (on_shelf mid) (IsOne c d.serial two.tries v) (mid.leaves v) (i v) → Below v
-    of_each v member (inl from) = (from.disk, from.among, inl (from.label, from.copy))
-    of_each v member (inr from) = (base v, (λ b. has v b), inr (from, λ out. absurd (not_both (bit_at good v) out member)))
+    of_each : (v : ℕ) → Held c mid v → Becomes (IsOne c d.serial two.tries v) mid v (i v) → Base v
+    of_each v held (inl from) = (from.disk, from.among, inr (held, inl (from.label, from.copy)))
+    of_each v held (inr (inl from)) = (base v, (λ b. has v b), inr (held, inr (inl from)))
+    of_each v held (inr (inr torn)) = (torn.disk, torn.among, inr (held, inr (inr (torn, refl))))
 
-    of_led : (v : ℕ) → FromOld (on_shelf mid) (mid.leaves v) (i v) ⊎ Behind good c d.serial two.tries mid i v → Below v
-    of_led v (inl from) = (from.disk, from.among, inl (from.label, from.copy))
-    of_led v (inr behind) = (base v, (λ b. has v b), inr (behind.from, λ out. behind))
+    of_itself : (v : ℕ) → (Held c mid v → ⊥) → Base v
+    of_itself v out = (i v, (λ b. left_alone v b (i v b) out (beside v b)), inl refl)
 
-    of_itself : (v : ℕ) → (Held c mid v → ⊥) → Below v
-    of_itself v out = (i v, (λ b. left_alone v b (i v b) out (beside v b)), inl (refl, refl))
-
-    below : (v : ℕ) → Below v
-    below v = elim (cases_lt v mid.units) [
+    based : (v : ℕ) → Base v
+    based v = elim (cases_lt v mid.units) [
       | inr above ↦ of_itself v (λ held. omega (arith, above, held.below))
       | inl lt ↦ elim (held_or c.disks v) [
         | inr failed ↦ of_itself v (not_held v failed)
-        | inl held ↦ elim (bit_or good v) [
-          | inl member ↦ of_each v member (seen.each (ready.ready first) v (record { below = lt; good = held }))
-          | inr out ↦ of_led v (seen.led (ready.ready first) v (record { below = lt; good = held }) out)
-        ]
+        | inl good ↦ let held : Held c mid v = record { below = lt; good = good } in of_each v held (seen.each (ready_mid first) v held)
       ]
     ]
 
-    under : Image
-    under v = (below v).0
+    abbrev under : Image
+    under v = (based v).0
 
     before : Stage good a c.serial one.tries old under
-    unfolding under below
-    before = one.now under (λ v b. (below v).1 b)
+    before = one.now under (λ v b. (based v).1 b)
 
     -- a copy that was begun in the first part stands, or a later one
-    carried : (v : ℕ) (n : FromNew (on_shelf old) (IsOne a c.serial one.tries v) (old.leaves v) (under v)) → Under v (under v)
+    carried : (v : ℕ) (e : Disk) → Among (mid.leaves v) e → Under v e → Held a old v → (n : FromNew (on_shelf old) (IsOne a c.serial one.tries v) (old.leaves v) e)
         → (f : FromNew (on_shelf old) (IsOne a d.serial tries v) (old.leaves v) (i v)) × (n.serial ≤ f.serial)
-    carried v n (inl alike) = (
-      record {
-        serial = n.serial;
-        config = n.config;
-        area = n.area;
-        made = one_wide v n.serial n.config n.made;
-        first = n.first;
-        there = n.there;
-        label = alike.0 ∙ n.label;
-        copy = subst (λ (r : List ℕ → Option Config). copy_of r (i v) ≡ copy_of r (under v)) (sym same) alike.1 ∙ n.copy;
-      },
+    carried v e among (inl itself) mine n =
+        (new_alike (on_shelf old) (old.leaves v) (IsOne a c.serial one.tries v) (IsOne a d.serial tries v) (i v) e (one_wide v) (ap (λ (x : Disk). seen_in (x 0)) itself) (ap (copy_of (on_shelf old)) itself) n, omega arith)
+    carried v e among (inr (held, inl alike)) mine n = (
+      new_alike (on_shelf old) (old.leaves v) (IsOne a c.serial one.tries v) (IsOne a d.serial tries v) (i v) e (one_wide v) alike.0
+          (subst (λ (r : List ℕ → Option Config). copy_of r (i v) ≡ copy_of r e) (sym same) alike.1) n,
       omega arith,
     )
-    carried v n (inr later) =
-        let f = second_new v (i v) later.0 in
-        (f.0, omega (arith, n.made.within, later.0.made.above, f.1))
+    carried v e among (inr (held, inr (inl later))) mine n =
+        let f = second_new v (i v) later in
+        (f.0, omega (arith, n.made.within, later.made.above, f.1))
+    carried v e among (inr (held, inr (inr (torn, is)))) mine n = elim (remain.each v held) [
+      | inr later ↦ absurd (no_torn (on_shelf mid) (c.serial + 1) (mid.leaves v) (i v) (later.tidy first.below) torn)
+      | inl still ↦
+          let x : Copy Config = record { serial = n.serial; area = n.area; body = Holds n.config } in
+          let less : x.serial < a.serial + 1 = (older first.below v mine).below e x (λ b. still.each b (e b) (among b)) n.copy in
+          absurd (omega (arith, less, n.made.above))
+    ]
 
-    led_one : (u : ℕ) → Under u (under u) → FromOld (on_shelf old) (old.leaves u) (under u) ⊎ Behind good a c.serial one.tries old under u → bit_at good u ≡ false
-        → FromOld (on_shelf old) (old.leaves u) (i u) ⊎ Behind good a d.serial tries old i u
-    unfolding under below
-    led_one u (inl alike) (inl from) out = inl (record {
-      disk = from.disk;
-      among = from.among;
-      label = alike.0 ∙ from.label;
-      copy = subst (λ (r : List ℕ → Option Config). copy_of r (i u) ≡ copy_of r (under u)) (sym same) alike.1 ∙ from.copy;
-    })
-    led_one u (inl alike) (inr behind) out =
-        let lead = carried behind.leader behind.front (below behind.leader).2 in
-        inr (record {
-          from = record {
-            serial = behind.from.serial;
-            config = behind.from.config;
-            area = behind.from.area;
-            made = one_wide u behind.from.serial behind.from.config behind.from.made;
-            first = behind.from.first;
-            there = behind.from.there;
-            label = alike.0 ∙ behind.from.label;
-            copy = subst (λ (r : List ℕ → Option Config). copy_of r (i u) ≡ copy_of r (under u)) (sym same) alike.1 ∙ behind.from.copy;
-          };
-          leader = behind.leader;
-          held = behind.held;
-          member = behind.member;
-          front = lead.0;
-          ahead = omega (arith, behind.ahead, lead.1);
-        })
-    led_one u (inr later) was out =
-        let behind = later.1 out in
+    -- ---- a disk that is no member of the set
+
+    abbrev Led : ℕ → Image → Type 0
+    Led u j = FromOld (on_shelf old) (old.leaves u) (j u) ⊎ Behind good a c.serial one.tries old j u ⊎ Torn (on_shelf old) (old.leaves u) (j u)
+
+    abbrev LedOn : ℕ → Type 0
+    LedOn u = FromOld (on_shelf old) (old.leaves u) (i u) ⊎ Behind good a d.serial tries old i u ⊎ Torn (on_shelf old) (old.leaves u) (i u)
+
+    behind_carried : (u : ℕ) (behind : Behind good a c.serial one.tries old under u) (f : FromNew (on_shelf old) (IsOne a d.serial tries u) (old.leaves u) (i u)) → f.serial ≤ behind.from.serial
+        → Behind good a d.serial tries old i u
+    behind_carried u behind f le =
+        let lead = carried behind.leader (based behind.leader).0 (based behind.leader).1 (based behind.leader).2 behind.held behind.front in
+        record { from = f; leader = behind.leader; held = behind.held; member = behind.member; front = lead.0; ahead = omega (arith, behind.ahead, lead.1, le) }
+
+    led_itself : (u : ℕ) → i u ≡ under u → Led u under → LedOn u
+    led_itself u itself (inl from) = inl (subst (FromOld (on_shelf old) (old.leaves u)) (sym itself) from)
+    led_itself u itself (inr (inl behind)) =
+        inr (inl (behind_carried u behind (new_alike (on_shelf old) (old.leaves u) (IsOne a c.serial one.tries u) (IsOne a d.serial tries u) (i u) (under u) (one_wide u)
+        (ap (λ (x : Disk). seen_in (x 0)) itself) (ap (copy_of (on_shelf old)) itself) behind.from) (omega arith)))
+    led_itself u itself (inr (inr torn)) = inr (inr (subst (Torn (on_shelf old) (old.leaves u)) (sym itself) torn))
+
+    led_alike : (u : ℕ) → Held a old u → LeavesLater a c.serial u old mid → seen_in (i u 0) ≡ seen_in (under u 0) → copy_of (on_shelf mid) (i u) ≡ copy_of (on_shelf mid) (under u) → Led u under → LedOn u
+    led_alike u mine later label copy (inl from) =
+        let x = later.newer first.below (based u).0 (based u).1 in
+        absurd (later_old (on_shelf old) (old.leaves u) a.serial (based u).0 x.0 (older first.below u mine) x.1 x.2 from)
+    led_alike u mine later label copy (inr (inl behind)) =
+        inr (inl (behind_carried u behind (new_alike (on_shelf old) (old.leaves u) (IsOne a c.serial one.tries u) (IsOne a d.serial tries u) (i u) (under u) (one_wide u)
+        label (subst (λ (r : List ℕ → Option Config). copy_of r (i u) ≡ copy_of r (under u)) (sym same) copy) behind.from) (omega arith)))
+    led_alike u mine later label copy (inr (inr torn)) =
+        let x = later.newer first.below (based u).0 (based u).1 in
+        absurd (later_torn (on_shelf old) (old.leaves u) a.serial (based u).0 x.0 (older first.below u mine) x.1 x.2 torn)
+
+    led_old : (u : ℕ) → Held a old u → Held c mid u → FromOld (on_shelf mid) (mid.leaves u) (i u) → Under u (under u) → Led u under → LedOn u
+    led_old u mine held from (inl itself) led = led_itself u itself led
+    led_old u mine held from (inr (here, inr (inl new))) led =
+        let less : Older (on_shelf mid) (c.serial + 1) (mid.leaves u) = lower_older (on_shelf mid) (c.serial + 1) (mid.leaves u) ((one.below first.below).each u held.below) in
+        absurd (later_old (on_shelf mid) (mid.leaves u) c.serial (i u) (record { serial = new.serial; area = new.area; body = Holds new.config }) less new.copy new.made.above from)
+    led_old u mine held from (inr (here, inr (inr (torn, is)))) led = inr (inr (torn_mid first.below u (i u) held torn))
+    led_old u mine held from (inr (here, inl alike)) led = elim (remain.each u held) [
+      | inl is ↦ inl (old_sub (on_shelf old) (old.leaves u) (mid.leaves u) is.each (i u) (subst (λ (r : List ℕ → Option Config). FromOld r (mid.leaves u) (i u)) (sym same) from))
+      | inr later ↦ led_alike u mine later alike.0 alike.1 led
+    ]
+
+    -- one on which the second part did not write
+    led_out : (u : ℕ) → failed_at c.disks u ≡ true → Under u (under u) → Led u under → LedOn u
+    led_out u failed (inl itself) led = led_itself u itself led
+    led_out u failed (inr (here, other)) led = absurd (not_held u failed here)
+
+    -- and one on which it may have written
+    led_in : (u : ℕ) → Held a old u → Held c mid u → FromOld (on_shelf mid) (mid.leaves u) (i u) ⊎ Behind good c d.serial two.tries mid i u ⊎ Torn (on_shelf mid) (mid.leaves u) (i u) → Led u under → LedOn u
+    led_in u mine held (inl from) led = led_old u mine held from (based u).2 led
+    led_in u mine held (inr (inl behind)) led =
         let own = second_new u (i u) behind.from in
         let lead = second_new behind.leader (i behind.leader) behind.front in
-        inr (record { from = own.0; leader = behind.leader; held = held_first behind.leader behind.held; member = behind.member; front = lead.0; ahead = omega (arith, behind.ahead, own.1, lead.1) })
+        inr (inl (record { from = own.0; leader = behind.leader; held = held_first behind.leader behind.held; member = behind.member; front = lead.0; ahead = omega (arith, behind.ahead, own.1, lead.1) }))
+    led_in u mine held (inr (inr torn)) led = inr (inr (torn_mid first.below u (i u) held torn))
 
-    each_both : (u : ℕ) → Held a old u → FromOld (on_shelf old) (old.leaves u) (i u) ⊎ FromNew (on_shelf old) (IsOne a d.serial tries u) (old.leaves u) (i u)
+    -- ---- of each disk
+
+    held_mid : (u : ℕ) → Held a old u → failed_at c.disks u ≡ false → Held c mid u
+    held_mid u held stays = record { below = omega (arith, held.below, one.moves.units); good = stays }
+
+    each_both : (u : ℕ) → Held a old u → Becomes (IsOne a d.serial tries u) old u (i u)
     each_both u held = elim (held_or c.disks u) [
-      | inl stays ↦ of_two first u (i u) held (seen.each (ready.ready first) u (record { below = omega (arith, held.below, one.moves.units); good = stays }))
-      | inr failed ↦ of_one first u (i u) held (λ b. left_alone u b (i u b) (not_held u failed) (beside u b))
+      | inl stays ↦ of_two first.below u (i u) (held_mid u held stays) (first.counts u held) (seen.each (ready_mid first) u (held_mid u held stays))
+      | inr failed ↦ of_one first.below u (i u) held (first.counts u held) (λ b. left_alone u b (i u b) (not_held u failed) (beside u b))
     ]
 
-    fit_both : (u : ℕ) → Held a old u → Tidy (on_shelf old) (d.serial + 1) (exactly (i u))
+    fit_both : (u : ℕ) → Held a old u → Tidy (on_shelf old) (d.serial + 1) (exactly (i u)) ⊎ Forged (old.leaves u) (i u)
     fit_both u held = elim (held_or c.disks u) [
-      | inl stays ↦ fit_two u (i u) (seen.fit (ready.ready first) u (record { below = omega (arith, held.below, one.moves.units); good = stays }))
-      | inr failed ↦ fit_one first u (i u) held (λ b. left_alone u b (i u b) (not_held u failed) (beside u b))
+      | inl stays ↦ fit_two first.below u (i u) (held_mid u held stays) (seen.fit (ready_mid first) u (held_mid u held stays))
+      | inr failed ↦ fit_one first.below u (i u) held (first.counts u held) (λ b. left_alone u b (i u b) (not_held u failed) (beside u b))
     ]
 
-    led_both : (u : ℕ) → Held a old u → bit_at good u ≡ false → FromOld (on_shelf old) (old.leaves u) (i u) ⊎ Behind good a d.serial tries old i u
-    unfolding under below
-    led_both u held out = led_one u (below u).2 (before.led first u held out) out
+    led_both : (u : ℕ) → Held a old u → bit_at good u ≡ false → LedOn u
+    led_both u held out = elim (held_or c.disks u) [
+      | inl stays ↦ led_in u held (held_mid u held stays) (seen.led (ready_mid first) u (held_mid u held stays) out) (before.led first u held out)
+      | inr failed ↦ led_out u failed (based u).2 (before.led first u held out)
+    ]
 
   module _ (lawful : Lawful mid) where
     some_base : (i : Image) → Beside (AreasOf (Held c mid)) mid.leaves i → (base : Image) × Each mid.leaves base
@@ -354,18 +417,24 @@ module _ (good : ℕ) (a c d : Config) (old mid new : Meaning) (one : Underway g
         let some = some_base i beside in
         record { each = λ first u held. each_both first i beside seen some.0 some.1 u held; led = λ first u held out. led_both first i beside seen some.0 some.1 u held out; fit = λ first u held. fit_both first i beside seen some.0 some.1 u held }
 
+    led_wide : (i : Image) (u : ℕ) → FromOld (on_shelf old) (old.leaves u) (i u) ⊎ Behind good a c.serial one.tries old i u ⊎ Torn (on_shelf old) (old.leaves u) (i u)
+        → FromOld (on_shelf old) (old.leaves u) (i u) ⊎ Behind good a d.serial tries old i u ⊎ Torn (on_shelf old) (old.leaves u) (i u)
+    led_wide i u (inl from) = inl from
+    led_wide i u (inr (inl behind)) = inr (inl (record {
+      from = new_wider (on_shelf old) (IsOne a c.serial one.tries u) (IsOne a d.serial tries u) (old.leaves u) (i u) (one_wide u) behind.from;
+      leader = behind.leader;
+      held = behind.held;
+      member = behind.member;
+      front = new_wider (on_shelf old) (IsOne a c.serial one.tries behind.leader) (IsOne a d.serial tries behind.leader) (old.leaves behind.leader) (i behind.leader) (one_wide behind.leader) behind.front;
+      ahead = behind.ahead;
+    }))
+    led_wide i u (inr (inr torn)) = inr (inr torn)
+
     one_stage : (i : Image) → Stage good a c.serial one.tries old i → Stage good a d.serial tries old i
     one_stage i seen = record {
-      fit = λ first u held. tidy_later (on_shelf old) (c.serial + 1) (d.serial + 1) (exactly (i u)) (omega (arith, two.serial)) (seen.fit first u held);
-      each = λ first u held. ⊎_elim (λ from. inl from) (λ from. inr (new_wider (on_shelf old) (IsOne a c.serial one.tries u) (IsOne a d.serial tries u) (old.leaves u) (i u) (one_wide u) from)) (seen.each first u held);
-      led = λ first u held out. ⊎_elim (λ from. inl from) (λ behind. inr (record {
-        from = new_wider (on_shelf old) (IsOne a c.serial one.tries u) (IsOne a d.serial tries u) (old.leaves u) (i u) (one_wide u) behind.from;
-        leader = behind.leader;
-        held = behind.held;
-        member = behind.member;
-        front = new_wider (on_shelf old) (IsOne a c.serial one.tries behind.leader) (IsOne a d.serial tries behind.leader) (old.leaves behind.leader) (i behind.leader) (one_wide behind.leader) behind.front;
-        ahead = behind.ahead;
-      })) (seen.led first u held out);
+      fit = λ first u held. fit_later u (i u) (seen.fit first u held);
+      each = λ first u held. widen u (i u) (seen.each first u held);
+      led = λ first u held out. led_wide i u (seen.led first u held out);
     }
 
     pub both_underway : Underway good a d old new
@@ -378,25 +447,52 @@ module _ (good : ℕ) (a c d : Config) (old mid new : Meaning) (one : Underway g
       moves = goes_on (AreasOf (Held a old)) (AreasOf (Held c mid)) (Stage good a d.serial tries old) (Stage good c d.serial two.tries mid) old mid new
           (wider (AreasOf (Held a old)) (AreasOf (Held a old)) (Stage good a c.serial one.tries old) (Stage good a d.serial tries old) old mid one.moves (λ u b mine. mine) (λ i beside seen. one_stage i seen))
           two.moves (λ u b mine. record { on = held_first u mine.on; first = mine.first; last = mine.last }) stage_both;
-      leaves = λ first u e held among. elim (held_or c.disks u) [
-        | inl stays ↦ of_two first u e held (two.leaves (ready.ready first) u e (record { below = omega (arith, held.below, one.moves.units); good = stays }) among)
-        | inr failed ↦ of_one first u e held (λ b. left_alone u b (e b) (not_held u failed) (two.moves.leaves u b (e b) (among b)))
+      below = λ below. two.below (one.below below);
+      leaves = λ below u e held counts among. elim (held_or c.disks u) [
+        | inl stays ↦
+            let here : Held c mid u = record { below = omega (arith, held.below, one.moves.units); good = stays } in
+            of_two below u e here counts (two.leaves (one.below below) u e here (counts_mid below u here counts) among)
+        | inr failed ↦ of_one below u e held counts (λ b. left_alone u b (e b) (not_held u failed) (two.moves.leaves u b (e b) (among b)))
       ];
-      fits = λ first u e held among. elim (held_or c.disks u) [
-        | inl stays ↦ fit_two u e (two.fits (ready.ready first) u e (record { below = omega (arith, held.below, one.moves.units); good = stays }) among)
-        | inr failed ↦ fit_one first u e held (λ b. left_alone u b (e b) (not_held u failed) (two.moves.leaves u b (e b) (among b)))
+      fits = λ below u e held counts among. elim (held_or c.disks u) [
+        | inl stays ↦
+            let here : Held c mid u = record { below = omega (arith, held.below, one.moves.units); good = stays } in
+            fit_two below u e here (two.fits (one.below below) u e here (counts_mid below u here counts) among)
+        | inr failed ↦ fit_one below u e held counts (λ b. left_alone u b (e b) (not_held u failed) (two.moves.leaves u b (e b) (among b)))
       ];
       now = λ i left. stage_both i (λ u b. two.moves.leaves u b (i u b) (left u b)) (two.now i left);
     }
 
   pub both_stand : Stands c d mid new → Stands a d old new
   both_stand stands = record {
-    each = λ first i left. subst (λ (n : ℕ). Written (on_shelf old) failed_in d.serial d n i) one.moves.units
-        (subst (λ (r : List ℕ → Option Config). Written r failed_in d.serial d mid.units i) (sym same) (stands.each (ready.ready first) i left));
+    each = λ below i left. subst (λ (n : ℕ). Written (on_shelf old) failed_in d.serial d n i) one.moves.units
+        (subst (λ (r : List ℕ → Option Config). Written r failed_in d.serial d mid.units i) (sym same) (stands.each (one.below below) i left));
   }
 
-pub both_ready : {a c d : Config} {old mid new : Meaning} → StayReady a c old mid → StayReady c d mid new → StayReady a d old new
-both_ready one two = record { ready = λ first. two.ready (one.ready first) }
+  pub both_tidy : AreTidy c d mid new → AreTidy a d old new
+  both_tidy tidy = record { each = λ below u held. tidy.each (one.below below) u held }
+
+  remain_both : (u : ℕ) → Held c mid u → LeavesSame u old mid ⊎ LeavesLater a c.serial u old mid → LeavesSame u mid new ⊎ LeavesLater c d.serial u mid new → LeavesSame u old new ⊎ LeavesLater a d.serial u old new
+  remain_both u held (inl was) (inl is) = inl (record { each = λ b v left. was.each b v (is.each b v left) })
+  remain_both u held (inr was) (inl is) = inr (record {
+    tidy = λ below. tidy_more (on_shelf new) (c.serial + 1) (d.serial + 1) (new.leaves u) (omega (arith, two.serial))
+        (subst (λ (r : List ℕ → Option Config). Tidy r (c.serial + 1) (new.leaves u)) (shelf_same mid new two.moves.units two.moves.size)
+        (tidy_sub (on_shelf mid) (mid.leaves u) (new.leaves u) is.each (c.serial + 1) (was.tidy below)));
+    newer = λ below e among. was.newer below e (λ b. is.each b (e b) (among b));
+  })
+  remain_both u held was (inr is) = inr (record {
+    tidy = λ below. is.tidy (one.below below);
+    newer = λ below e among.
+        let x = is.newer (one.below below) e among in
+        (x.0, subst (λ (r : List ℕ → Option Config). copy_of r e ≡ Some x.0) (sym same) x.1, omega (arith, x.2, one.serial));
+  })
+
+  pub both_remain : Remain c d mid new → Remain a d old new
+  both_remain next = record {
+    each = λ u held.
+        let here : Held c mid u = record { below = omega (arith, held.below, two.moves.units); good = kept_good two.grown u held.good } in
+        remain_both u here (remain.each u here) (next.each u held);
+  }
 
 pub stays_large : (old new : Meaning) → new.units ≡ old.units → ((u : ℕ) → new.size u ≡ old.size u) → AreLarge old → AreLarge new
 stays_large old new units size large = record { each = λ u lt. omega (arith, size u, large.each u (omega (arith, lt, units))) }

@@ -9,18 +9,19 @@ use Rattle.vx_wire.specs.Seals.{digest_of}
 use Rattle.vx_copyfmt.specs.Areas.{header_of}
 use Rattle.vx_copyfmt.specs.declared.area.AreaHeader.{AreaHeader}
 use Rattle.vx_copyfmt.specs.Copies.{Copy, Disk, Holds, body_of, copy_at, copy_of, copy_under, greater, judged}
-use Rattle.vx_copyfmt.specs.Commits.{Among, FromNew, FromOld, Older, Slots, Tidy, exactly}
-use Rattle.vx_copyio.specs.Putting.{AreasOf, IsMember, part_of}
+use Rattle.vx_copyfmt.specs.Commits.{Among, Counts, Fit, Forged, FromNew, FromOld, Lower, Older, Slots, Tidy, Torn, exactly}
+use Rattle.vx_copyfmt.proofs.Subs.{lower_more, lower_sub, tidy_more}
+use Rattle.vx_copyio.specs.Putting.{AreasOf, IsMember, LeavesSame, part_of}
 use Rattle.vx_config.specs.Checks.{is_sound, runs}
 use Rattle.vx_config.specs.declared.config.Config.{Config}
 use Rattle.vx_config.specs.declared.entry.DiskEntry.{DiskEntry}
 use Rattle.vx_copies.specs.Answers.{good_set}
 use Rattle.vx_copies.specs.Bodies.{fits_units, have_blocks, is_wanted}
-use Rattle.vx_copies.specs.Commits.{Behind, Grown, Held, IsBefore, IsOne, Ready, Stage, Stands, StayReady, Underway}
+use Rattle.vx_copies.specs.Commits.{AreTidy, Becomes, Behind, Below, Grown, Held, IsBefore, IsOne, LeavesLater, Remain, Stage, Stands, Underway}
 use Rattle.vx_copies.specs.Looking.{on_shelf}
 use Rattle.vx_copies.specs.Marks.{HasGood, failed_at}
 use Rattle.vx_copies.specs.Orders.{InOrderThis, OrderedThis}
-use Rattle.vx_copies.specs.Tries.{AllThis, IsThis, OldOrThis, StaysReady, Tried}
+use Rattle.vx_copies.specs.Tries.{AllThis, HasThis, IsThis, OldOrThis, Tried}
 use Rattle.vx_copies.proofs.Bodies.{reads-same}
 use Rattle.vx_copies.proofs.Goods.{good_bit}
 
@@ -115,19 +116,13 @@ module _ {C : Type 0} (reads : List ℕ → Option C) where
       by_test true has = two x has
       by_test false has = one x has
 
-  -- the copy of a disk that is ready is older
-  pub tidy_older : (s : ℕ) (slots : Slots) → Tidy reads s slots → Older reads s slots
-  tidy_older s slots tidy = record {
+  -- a copy has the serial of a header
+  pub lower_older : (s : ℕ) (slots : Slots) → Lower s slots → Older reads s slots
+  lower_older s slots low = record {
     below = λ d x among is.
-        greater_below s (copy_at reads d 1) (copy_at reads d 129) (under_below s d 1 (header_of (d 1)) (λ h head. tidy.below 1 (d 1) h (inl refl) (among 1) head))
-        (under_below s d 129 (header_of (d 129)) (λ h head. tidy.below 129 (d 129) h (inr refl) (among 129) head)) x is;
+        greater_below s (copy_at reads d 1) (copy_at reads d 129) (under_below s d 1 (header_of (d 1)) (λ h head. low 1 (d 1) h (inl refl) (among 1) head))
+        (under_below s d 129 (header_of (d 129)) (λ h head. low 129 (d 129) h (inr refl) (among 129) head)) x is;
   }
-
-  pub older_sub : (s t : ℕ) (old new : Slots) → s ≤ t → ((b : ℕ) (v : List ℕ) → new b v → old b v) → Older reads s old → Older reads t new
-  older_sub s t old new le sub older = record { below = λ d x among is. omega (arith, le, older.below d x (λ b. sub b (d b) (among b)) is) }
-
-  pub tidy_later : (s t : ℕ) (slots : Slots) → s ≤ t → Tidy reads s slots → Tidy reads t slots
-  tidy_later s t slots le tidy = record { settled = tidy.settled; counts = tidy.counts; below = λ a v h is in_v head. omega (arith, le, tidy.below a v h is in_v head) }
 
   -- ---- where a copy comes from
 
@@ -145,6 +140,15 @@ module _ {C : Type 0} (reads : List ℕ → Option C) where
 
   pub as_before : (slots : Slots) (d : Disk) → Among slots d → FromOld reads slots d
   as_before slots d among = record { disk = d; among = among; label = refl; copy = refl }
+
+  -- a copy that is later than the serial is none of before, nor one of these that is torn
+  pub later_old : (slots : Slots) (s : ℕ) (d : Disk) (x : Copy C) → Older reads (s + 1) slots → copy_of reads d ≡ Some x → s < x.serial → FromOld reads slots d → ⊥
+  later_old slots s d x older is late from = let less : x.serial < s + 1 = older.below from.disk x from.among (sym from.copy ∙ is) in omega (arith, less, late)
+
+  pub later_torn : (slots : Slots) (s : ℕ) (d : Disk) (x : Copy C) → Older reads (s + 1) slots → copy_of reads d ≡ Some x → s < x.serial → Torn reads slots d → ⊥
+  later_torn slots s d x older is late torn =
+      let less : torn.was.serial < s + 1 = older.below torn.disk torn.was torn.among torn.copy in
+      omega (arith, less, late, torn.most x is)
 
 -- ---- one try: the configuration t is written, and d is what it then is
 
@@ -166,8 +170,21 @@ module _ (c t d : Config) (old new : Meaning) (next : t.serial ≡ c.serial + 1)
   left_out : (u : ℕ) → failed_at c.disks u ≡ true → (b : ℕ) (v : List ℕ) → new.leaves u b v → old.leaves u b v
   left_out u failed b v left = ⊎_elim (λ was. was) (λ (mine : AreasOf Mine u b). absurd (not_both (failed_at c.disks u) (mine_held u mine.on).good failed)) (tried.moves.leaves u b v left)
 
-  tidy_next : Ready c old → (u : ℕ) → Held c old u → Tidy reads t.serial (old.leaves u)
-  tidy_next ready u held = subst (λ (n : ℕ). Tidy reads n (old.leaves u)) (sym next) (ready.tidy u held)
+  lower_next : Below c old → (u : ℕ) → u < old.units → Lower t.serial (old.leaves u)
+  lower_next below u lt = subst (λ (n : ℕ). Lower n (old.leaves u)) (sym next) (below.each u lt)
+
+  fit_next : Below c old → (u : ℕ) → Held c old u → Counts reads (old.leaves u) → Fit reads t.serial (old.leaves u)
+  fit_next below u held counts = record { counts = counts; below = lower_next below u held.below }
+
+  -- no header is above the new ones
+  pub try_below : Below c old → Below d new
+  try_below below = record { each = λ u lt. by_held u (omega (arith, lt, tried.moves.units)) (held_or c.disks u) }
+    where
+      by_held : (u : ℕ) → u < old.units → (failed_at c.disks u ≡ false) ⊎ (failed_at c.disks u ≡ true) → Lower (d.serial + 1) (new.leaves u)
+      by_held u lt (inr failed) = lower_more (c.serial + 1) (d.serial + 1) (new.leaves u) (omega (arith, after)) (lower_sub (old.leaves u) (new.leaves u) (left_out u failed) (c.serial + 1) (below.each u lt))
+      by_held u lt (inl good) =
+          let same : t.serial + 1 ≡ d.serial + 1 = omega (arith, next, after) in
+          subst (λ (n : ℕ). Lower n (new.leaves u)) same (tried.lower u (held_mine u (record { below = lt; good = good })) (lower_next below u lt))
 
   this_before : IsBefore c d old new t.serial t
   this_before = record {
@@ -186,11 +203,17 @@ module _ (c t d : Config) (old new : Meaning) (next : t.serial ≡ c.serial + 1)
     holds = subst (λ (k : Config). failed_at k.disks u ≡ false) (sym this.config_is) (subst (λ (ds : List DiskEntry). failed_at ds u ≡ false) (sym as_c) held.good);
   }
 
-  of_this : (u : ℕ) (e : Disk) → OldOrThis t u old e → Ready c old → Held c old u → FromOld reads (old.leaves u) e ⊎ FromNew reads (IsOne c d.serial tries u) (old.leaves u) e
-  of_this u e one ready held = ⊎_elim (λ from. inl from) (λ from. inr (new_wider reads (IsThis t) (IsOne c d.serial tries u) (old.leaves u) e (these_one u held) from)) (one.each (tidy_next ready u held))
+  of_this : (u : ℕ) (e : Disk) → OldOrThis t u old e → Below c old → Held c old u → Counts reads (old.leaves u) → Becomes (IsOne c d.serial tries u) old u e
+  of_this u e one below held counts = by_kind (one.each (fit_next below u held counts))
+    where
+      by_kind : FromOld reads (old.leaves u) e ⊎ FromNew reads (IsThis t) (old.leaves u) e ⊎ Torn reads (old.leaves u) e → Becomes (IsOne c d.serial tries u) old u e
+      by_kind (inl from) = inl from
+      by_kind (inr (inl from)) = inr (inl (new_wider reads (IsThis t) (IsOne c d.serial tries u) (old.leaves u) e (these_one u held) from))
+      by_kind (inr (inr torn)) = inr (inr torn)
 
-  fit_this : (u : ℕ) (e : Disk) → OldOrThis t u old e → Ready c old → Held c old u → Tidy reads (d.serial + 1) (exactly e)
-  fit_this u e one ready held = tidy_later reads (t.serial + 1) (d.serial + 1) (exactly e) (omega (arith, next, after)) (one.fit (tidy_next ready u held))
+  fit_this : (u : ℕ) (e : Disk) → OldOrThis t u old e → Below c old → Held c old u → Counts reads (old.leaves u) → Tidy reads (d.serial + 1) (exactly e) ⊎ Forged (old.leaves u) e
+  fit_this u e one below held counts =
+      ⊎_elim (λ tidy. inl (tidy_more reads (t.serial + 1) (d.serial + 1) (exactly e) (omega (arith, next, after)) tidy)) (λ forged. inr forged) (one.fit (fit_next below u held counts))
 
   module _ (good : ℕ) (some : HasGood c.disks good) (order : OrderedThis (IsMember (part_of (good_set t.disks) good true) old.units) (IsMember (part_of (good_set t.disks) good false) old.units) t old new) where
     abbrev First : ℕ → Type 0
@@ -208,22 +231,23 @@ module _ (c t d : Config) (old new : Meaning) (next : t.serial ≡ c.serial + 1)
     first_of : First some.disk
     first_of = let mine = held_mine some.disk leads in record { below = mine.below; is = first_bit (bit_at (good_set t.disks) some.disk) (bit_at good some.disk) mine.is some.member }
 
-    led_by : (i : Image) (u : ℕ) → Ready c old → FromNew reads (IsThis t) (old.leaves some.disk) (i some.disk) → FromOld reads (old.leaves u) (i u) ⊎ FromNew reads (IsOne c d.serial tries u) (old.leaves u) (i u)
-        → FromOld reads (old.leaves u) (i u) ⊎ Behind good c d.serial tries old i u
-    led_by i u ready lead (inl from) = inl from
-    led_by i u ready lead (inr from) =
+    led_by : (i : Image) (u : ℕ) → FromNew reads (IsThis t) (old.leaves some.disk) (i some.disk) → Becomes (IsOne c d.serial tries u) old u (i u)
+        → FromOld reads (old.leaves u) (i u) ⊎ Behind good c d.serial tries old i u ⊎ Torn reads (old.leaves u) (i u)
+    led_by i u lead (inl from) = inl from
+    led_by i u lead (inr (inr torn)) = inr (inr torn)
+    led_by i u lead (inr (inl from)) =
         let front : FromNew reads (IsOne c d.serial tries some.disk) (old.leaves some.disk) (i some.disk) =
         new_wider reads (IsThis t) (IsOne c d.serial tries some.disk) (old.leaves some.disk) (i some.disk) (these_one some.disk leads) lead in
-        inr (record { from = from; leader = some.disk; held = leads; member = some.member; front = front; ahead = omega (arith, from.made.within, front.made.above, next, after) })
+        inr (inl (record { from = from; leader = some.disk; held = leads; member = some.member; front = front; ahead = omega (arith, from.made.within, front.made.above, next, after) }))
 
     stage : (i : Image) → ((u : ℕ) → Mine u → OldOrThis t u old (i u)) → InOrderThis First Second t old i → Stage good c d.serial tries old i
     stage i seen ordered = record {
-      each = λ ready u held. of_this u (i u) (seen u (held_mine u held)) ready held;
+      each = λ ready u held. of_this u (i u) (seen u (held_mine u held)) ready.below held (ready.counts u held);
       led = λ ready u held out. elim ordered [
         | inl was ↦ inl (as_before reads (old.leaves u) (i u) (was u (second_of u held out)))
-        | inr new ↦ led_by i u ready (new some.disk first_of (tidy_next ready some.disk leads)) (of_this u (i u) (seen u (held_mine u held)) ready held)
+        | inr new ↦ led_by i u (new some.disk first_of (lower_next ready.below some.disk leads.below)) (of_this u (i u) (seen u (held_mine u held)) ready.below held (ready.counts u held))
       ];
-      fit = λ ready u held. fit_this u (i u) (seen u (held_mine u held)) ready held;
+      fit = λ ready u held. fit_this u (i u) (seen u (held_mine u held)) ready.below held (ready.counts u held);
     }
 
     -- a crash in the try leaves such a stage
@@ -268,53 +292,41 @@ module _ (c t d : Config) (old new : Meaning) (next : t.serial ≡ c.serial + 1)
       tried = λ s above within. let same : t.serial ≡ s = omega (arith, above, within, next, after) in subst (λ (n : ℕ). IsBefore c d old new n t) same this_before;
       chain = λ s r above le within u failed. failed;
       moves = try_moves;
-      leaves = λ ready u e held among. of_this u e (tried.leaves u e (held_mine u held) among) ready held;
-      fits = λ ready u e held among. fit_this u e (tried.leaves u e (held_mine u held) among) ready held;
+      below = try_below;
+      leaves = λ below u e held counts among. of_this u e (tried.leaves u e (held_mine u held) among) below held counts;
+      fits = λ below u e held counts among. fit_this u e (tried.leaves u e (held_mine u held) among) below held counts;
       now = λ i left. stage i (λ u mine. tried.leaves u (i u) mine (λ b. left u b)) (order.now i left);
     }
 
-  -- the copies of a disk, whichever it is
-  older_next : Ready c old → (u : ℕ) → u < old.units → Older reads (d.serial + 1) (new.leaves u)
-  older_next ready u lt = elim (held_or c.disks u) [
-    | inr failed ↦ older_sub reads (c.serial + 1) (d.serial + 1) (old.leaves u) (new.leaves u) (omega (arith, after)) (left_out u failed) (ready.older u lt failed)
-    | inl good ↦
-        let held : Held c old u = record { below = lt; good = good } in
-        record { below = λ e x among is. by_from e x is (of_this u e (tried.leaves u e (held_mine u held) among) ready held) held }
-  ]
-    where
-      by_from : (e : Disk) (x : Copy Config) → copy_of reads e ≡ Some x → FromOld reads (old.leaves u) e ⊎ FromNew reads (IsOne c d.serial tries u) (old.leaves u) e → Held c old u → x.serial < d.serial + 1
-      by_from e x is (inl from) held =
-          let below : x.serial < c.serial + 1 = (tidy_older reads (c.serial + 1) (old.leaves u) (ready.tidy u held)).below from.disk x from.among (sym from.copy ∙ is) in
-          omega (arith, below, after)
-      by_from e x is (inr from) held =
-          let same : Some (record { serial = from.serial; area = from.area; body = Holds from.config }) ≡ Some x = sym from.copy ∙ is in
-          let one : record { serial = from.serial; area = from.area; body = Holds from.config } ≡ x = cc in
-          let number : from.serial ≡ x.serial = ap (λ (y : Copy Config). y.serial) one in
-          omega (arith, number, from.made.within)
+  tidy_there : (u : ℕ) → Tidy reads (t.serial + 1) (new.leaves u) → Tidy (on_shelf new) (d.serial + 1) (new.leaves u)
+  tidy_there u tidy =
+      let same : t.serial + 1 ≡ d.serial + 1 = omega (arith, next, after) in
+      subst (λ (r : List ℕ → Option Config). Tidy r (d.serial + 1) (new.leaves u)) (shelf_same old new tried.moves.units tried.moves.size) (subst (λ (n : ℕ). Tidy reads n (new.leaves u)) same tidy)
 
-  pub try_ready : ((u : ℕ) → Held d old u → StaysReady t u old new) → StayReady c d old new
-  try_ready stays = record {
-    ready = λ ready. record {
-      tidy = λ u held.
-          let here : Held d old u = record { below = omega (arith, held.below, tried.moves.units); good = held.good } in
-          let before : Held c old u = record { below = here.below; good = kept_good grown u held.good } in
-          let tidy : Tidy reads (t.serial + 1) (new.leaves u) = (stays u here).tidy (tidy_next ready u before) in
-          let same : t.serial + 1 ≡ d.serial + 1 = omega (arith, next, after) in
-          subst (λ (r : List ℕ → Option Config). Tidy r (d.serial + 1) (new.leaves u)) (shelf_same old new tried.moves.units tried.moves.size) (subst (λ (n : ℕ). Tidy reads n (new.leaves u)) same tidy);
-      older = λ u lt failed. subst (λ (r : List ℕ → Option Config). Older r (d.serial + 1) (new.leaves u)) (shelf_same old new tried.moves.units tried.moves.size)
-          (older_next ready u (omega (arith, lt, tried.moves.units)));
-    };
+  later_than : (u : ℕ) → u < old.units → HasThis t u old new → LeavesLater c d.serial u old new
+  later_than u lt has = record {
+    tidy = λ below. tidy_there u (has.tidy (lower_next below u lt));
+    newer = λ below e among.
+        let from = has.made e (lower_next below u lt) among in
+        (record { serial = from.serial; area = from.area; body = Holds from.config }, from.copy, omega (arith, from.made.serial_is, next));
+  }
+
+  pub try_remain : ((u : ℕ) → Held d old u → LeavesSame u old new ⊎ HasThis t u old new) → Remain c d old new
+  try_remain others = record {
+    each = λ u held.
+        let here : Held d old u = record { below = omega (arith, held.below, tried.moves.units); good = held.good } in
+        ⊎_elim (λ same. inl same) (λ has. inr (later_than u here.below has)) (others u here);
   }
 
 -- ---- it was written to each of its disks
 
 module _ (c t : Config) (old new : Meaning) (next : t.serial ≡ c.serial + 1) (as_c : t.disks ≡ c.disks) (count : length t.disks ≡ old.units) (own : Grown old new c t)
     (tried : Tried (IsMember (bit_at (good_set t.disks)) old.units) t old new) (all : AllThis (IsMember (bit_at (good_set t.disks)) old.units) t old new) where
-  try_new : Ready c old → (i : Image) → Each new.leaves i → (u : ℕ) → u < old.units → failed_at t.disks u ≡ false
+  try_new : Below c old → (i : Image) → Each new.leaves i → (u : ℕ) → u < old.units → failed_at t.disks u ≡ false
       → (area : ℕ) × (copy_of (on_shelf old) (i u) ≡ Some (record { serial = t.serial; area = area; body = Holds t }))
-  try_new ready i left u lt good =
+  try_new below i left u lt good =
       let held : Held c old u = record { below = lt; good = subst (λ (ds : List DiskEntry). failed_at ds u ≡ false) as_c good } in
-      let from = all.made u (i u) (held_mine c t t old new next as_c next count own own tried u held) (tidy_next c t t old new next as_c next count own own tried ready u held) (λ b. left u b) in (
+      let from = (all.each u (held_mine c t t old new next as_c next count own own tried u held)).made (i u) (lower_next c t t old new next as_c next count own own tried below u lt) (λ b. left u b) in (
         from.area,
         from.copy ∙ ap (λ (n : ℕ). Some (record { serial = n; area = from.area; body = Holds from.config })) from.made.serial_is
             ∙ ap (λ (x : Config). Some (record { serial = t.serial; area = from.area; body = Holds x })) from.made.config_is,
@@ -322,14 +334,19 @@ module _ (c t : Config) (old new : Meaning) (next : t.serial ≡ c.serial + 1) (
 
   pub try_stands : Stands c t old new
   try_stands = record {
-    each = λ ready i left. record {
-      new = try_new ready i left;
+    each = λ below i left. record {
+      new = try_new below i left;
       older = λ u x lt failed is.
           let was : failed_at c.disks u ≡ true = subst (λ (ds : List DiskEntry). failed_at ds u ≡ true) as_c failed in
-          let below : x.serial < c.serial + 1 = (ready.older u lt was).below (i u) x (λ b. left_out c t t old new next as_c next count own own tried u was b (i u b) (left u b)) is in
-          omega (arith, below, next);
+          let less : x.serial < c.serial + 1 =
+          (lower_older (on_shelf old) (c.serial + 1) (old.leaves u) (below.each u lt)).below (i u) x (λ b. left_out c t t old new next as_c next count own own tried u was b (i u b) (left u b)) is in
+          omega (arith, less, next);
     };
   }
 
-  pub all_ready : StayReady c t old new
-  all_ready = try_ready c t t old new next as_c next count own own tried (λ u held. all.ready u (held_member t old count u held))
+  pub try_tidy : AreTidy c t old new
+  try_tidy = record {
+    each = λ below u held.
+        let here : Held t old u = record { below = omega (arith, held.below, tried.moves.units); good = held.good } in
+        tidy_there c t t old new next as_c next count own own tried u ((all.each u (held_member t old count u here)).tidy (lower_next c t t old new next as_c next count own own tried below u here.below));
+  }

@@ -5,8 +5,9 @@ use Rattle.std.proofs.lemmas.Bool.{cases_lt}
 use Rattle.vx_disk.specs.Blocks.{bit_at}
 use Rattle.vx_disk.specs.Moves.{Beside}
 use Rattle.vx_disk.specs.Shelf.{Each, Image, Meaning}
-use Rattle.vx_copyfmt.specs.Copies.{Copy, Holds, copy_of}
-use Rattle.vx_copyfmt.specs.Commits.{Answers, FromNew, FromOld, Gives, IsGood, Older}
+use Rattle.vx_copyfmt.specs.Copies.{Copy, Disk, Holds, copy_of}
+use Rattle.vx_copyfmt.specs.Commits.{Answers, FromNew, FromOld, Gives, IsGood, Older, Torn}
+use Rattle.vx_copyfmt.proofs.Spoiling.{Beside as Near, Kept, WasTorn, import_torn}
 use Rattle.vx_copyfmt.specs.Imports.{Damaged, Format, Found, Missing, NoConfig, Outcome as Finding, import_of, is_label, later, missing, newest, on_disk, or_missing, settle}
 use Rattle.vx_copyfmt.specs.Labels.{seen_in}
 use Rattle.vx_copyfmt.proofs.Committing.{found_wants, no_strange, none_missing}
@@ -14,10 +15,10 @@ use Rattle.vx_copyfmt.proofs.Newest.{Below, BelowCopy, amid_gives, below_later, 
 use Rattle.vx_copyio.specs.Putting.{AreasOf}
 use Rattle.vx_config.specs.declared.config.Config.{Config}
 use Rattle.vx_copies.specs.Bodies.{failed_in}
-use Rattle.vx_copies.specs.Commits.{Behind, HaveLabels, Held, IsOne, IsTry, Outcome, Ready, Stage, Underway, WasCommitted}
+use Rattle.vx_copies.specs.Commits.{Becomes, Behind, Below as Under, HaveLabels, Held, IsOne, IsTry, Outcome, Ready, Stage, Underway, WasCommitted}
 use Rattle.vx_copies.specs.Looking.{on_shelf}
 use Rattle.vx_copies.specs.Marks.{failed_at}
-use Rattle.vx_copies.proofs.OneTry.{as_before, held_or, not_both, tidy_older}
+use Rattle.vx_copies.proofs.OneTry.{as_before, held_or, later_torn, lower_older, not_both}
 
 -- ---- what is settled
 
@@ -107,8 +108,17 @@ module _ (reads : List ℕ → Option Config) (s : ℕ) (x : Config) (units : �
 
 -- ---- the tries of a commit
 
-module _ (good : ℕ) (c d : Config) (old new : Meaning) (underway : Underway good c d old new) (held : Option Config) (was : WasCommitted good held old) (ready : Ready c old) (labels : HaveLabels old)
-    (base : Image) (has : Each old.leaves base) (i : Image) (beside : Beside (AreasOf (Held c old)) old.leaves i) (stage : Stage good c d.serial underway.tries old i) where
+-- whichever disks can be read, an import over the image finds one configuration, or is refused with 8 or 9
+record OneFound (begun : ℕ → Config → Type 0) (held : Option Config) (m : Meaning) (i : Image) : Type 0 where
+  found : Option Config
+  which : (found ≡ held) ⊎ ((serial : ℕ) × (d : Config) × (found ≡ Some d) × begun serial d)
+  each : (readable : ℕ → Bool) → Answers found (import_of (on_shelf m) failed_in m.units readable i)
+
+-- an image without a torn disk
+module _ (good : ℕ) (c d : Config) (old new : Meaning) (underway : Underway good c d old new) (held : Option Config) (was : WasCommitted good held old) (below : Under c old) (labels : HaveLabels old)
+    (base : Image) (has : Each old.leaves base) (i : Image) (beside : Beside (AreasOf (Held c old)) old.leaves i)
+    (plain : (u : ℕ) → Held c old u → FromOld (on_shelf old) (old.leaves u) (i u) ⊎ FromNew (on_shelf old) (IsOne c d.serial underway.tries u) (old.leaves u) (i u))
+    (led : (u : ℕ) → Held c old u → bit_at good u ≡ false → FromOld (on_shelf old) (old.leaves u) (i u) ⊎ Behind good c d.serial underway.tries old i u) where
   abbrev reads : List ℕ → Option Config
   reads = on_shelf old
 
@@ -127,24 +137,21 @@ module _ (good : ℕ) (c d : Config) (old new : Meaning) (underway : Underway go
     | inr failed ↦ inl (as_before reads (old.leaves u) (i u) (λ b. failed_left u b (λ mine. not_both (failed_at c.disks u) mine.good failed)))
     | inl stays ↦
         let mine : Held c old u = record { below = lt; good = stays } in
-        ⊎_elim (λ from. inl from) (λ from. inr (mine, from)) (stage.each ready u mine)
+        ⊎_elim (λ from. inl from) (λ from. inr (mine, from)) (plain u mine)
   ]
 
   labelled : (u : ℕ) → u < old.units → is_label (seen_in (i u 0)) ≡ true
   labelled u lt = labels.each u (i u 0) lt (⊎_elim (λ is. is) (λ (mine : AreasOf (Held c old) u 0). absurd (omega (arith, mine.first))) (beside u 0))
 
   older : (u : ℕ) → u < old.units → Older reads (c.serial + 1) (old.leaves u)
-  older u lt = elim (held_or c.disks u) [
-    | inl stays ↦ tidy_older reads (c.serial + 1) (old.leaves u) (ready.tidy u (record { below = lt; good = stays }))
-    | inr failed ↦ ready.older u lt failed
-  ]
+  older u lt = lower_older reads (c.serial + 1) (old.leaves u) (below.each u lt)
 
   far : (u b : ℕ) → old.units ≤ u → old.leaves u b (i u b)
   far u b le = failed_left u b (λ mine. omega (arith, le, mine.below))
 
   -- ---- none has such a copy
 
-  none_outcome : ((u : ℕ) → u < old.units → Old u) → Outcome (IsTry c d.serial old new) held old i
+  none_outcome : ((u : ℕ) → u < old.units → Old u) → OneFound (IsTry c d.serial old new) held old i
   none_outcome all = record { found = held; which = inl refl; each = each }
     where
       each : (readable : ℕ → Bool) → Answers held (import_of reads failed_in old.units readable i)
@@ -225,7 +232,7 @@ module _ (good : ℕ) (c d : Config) (old new : Meaning) (underway : Underway go
       where
         by_bit : (b : Bool) → bit_at good u ≡ b → (g : ℕ) × Held c old g × (bit_at good g ≡ true) × (f : New g) × (from.serial ≤ f.serial)
         by_bit true is = (u, mine, is, from, omega arith)
-        by_bit false is = elim (stage.led ready u mine is) [
+        by_bit false is = elim (led u mine is) [
           | inl before ↦ absurd (too_late (older u mine.below) before)
           | inr behind ↦ (behind.leader, behind.held, behind.member, behind.front, as_great behind)
         ]
@@ -289,15 +296,120 @@ module _ (good : ℕ) (c d : Config) (old new : Meaning) (underway : Underway go
           ]
     ]
 
-    crown_outcome : Outcome (IsTry c d.serial old new) held old i
+    crown_outcome : OneFound (IsTry c d.serial old new) held old i
     crown_outcome = record {
       found = Some from.config;
       which = inr (from.serial, from.config, refl, subst (IsTry c d.serial old new from.serial) (sym from.made.is) (underway.tried from.serial from.made.above from.made.within).is);
       each = each_gives;
     }
 
-  pub outcome : Outcome (IsTry c d.serial old new) held old i
-  outcome = elim (crown_of old.units (omega arith)) [
+  one_found : OneFound (IsTry c d.serial old new) held old i
+  one_found = elim (crown_of old.units (omega arith)) [
     | inl all ↦ none_outcome all
     | inr crown ↦ crown_outcome crown.0 crown.1 crown.2 crown.3
   ]
+
+-- ---- an image of which a disk may be torn
+
+module _ (good : ℕ) (c d : Config) (old new : Meaning) (underway : Underway good c d old new) (held : Option Config) (was : WasCommitted good held old) (ready : Ready c old) (labels : HaveLabels old)
+    (base : Image) (has : Each old.leaves base) (i : Image) (beside : Beside (AreasOf (Held c old)) old.leaves i) (stage : Stage good c d.serial underway.tries old i) where
+  abbrev bodies : List ℕ → Option Config
+  bodies = on_shelf old
+
+  abbrev NewOn : ℕ → Disk → Type 0
+  NewOn u e = FromNew bodies (IsOne c d.serial underway.tries u) (old.leaves u) e
+
+  abbrev OldOn : ℕ → Disk → Type 0
+  OldOn u e = FromOld bodies (old.leaves u) e
+
+  abbrev Kind : ℕ → Type 0
+  Kind u = (Held c old u → ⊥) ⊎ (Held c old u × Becomes (IsOne c d.serial underway.tries u) old u (i u))
+
+  kind_of : (u : ℕ) → Kind u
+  kind_of u = elim (cases_lt u old.units) [
+    | inr above ↦ inl (λ mine. omega (arith, above, mine.below))
+    | inl lt ↦ elim (held_or c.disks u) [
+      | inr failed ↦ inl (λ mine. not_both (failed_at c.disks u) mine.good failed)
+      | inl good_one ↦ let mine : Held c old u = record { below = lt; good = good_one } in inr (mine, stage.each ready u mine)
+    ]
+  ]
+
+  -- a torn disk as it was
+  abbrev mended : (u : ℕ) → Kind u → Disk
+  mended u (inl out) = i u
+  mended u (inr (mine, inl from)) = i u
+  mended u (inr (mine, inr (inl from))) = i u
+  mended u (inr (mine, inr (inr torn))) = torn.disk
+
+  abbrev whole : Image
+  whole u = mended u (kind_of u)
+
+  whole_beside : (u b : ℕ) (k : Kind u) → old.leaves u b (mended u k b) ⊎ AreasOf (Held c old) u b
+  whole_beside u b (inl out) = beside u b
+  whole_beside u b (inr (mine, inl from)) = beside u b
+  whole_beside u b (inr (mine, inr (inl from))) = beside u b
+  whole_beside u b (inr (mine, inr (inr torn))) = inl (torn.among b)
+
+  whole_plain : (u : ℕ) (k : Kind u) → Held c old u → OldOn u (mended u k) ⊎ NewOn u (mended u k)
+  whole_plain u (inl out) mine = absurd (out mine)
+  whole_plain u (inr (here, inl from)) mine = inl from
+  whole_plain u (inr (here, inr (inl from))) mine = inr from
+  whole_plain u (inr (here, inr (inr torn))) mine = inl (as_before bodies (old.leaves u) torn.disk torn.among)
+
+  -- a copy that was begun is on no torn disk
+  not_torn : (u : ℕ) → Held c old u → NewOn u (i u) → Torn bodies (old.leaves u) (i u) → ⊥
+  not_torn u mine from torn =
+      later_torn bodies (old.leaves u) c.serial (i u) (record { serial = from.serial; area = from.area; body = Holds from.config })
+      (lower_older bodies (c.serial + 1) (old.leaves u) (ready.below.each u mine.below)) from.copy from.made.above torn
+
+  kept_new : (u : ℕ) (k : Kind u) → Held c old u → (from : NewOn u (i u)) → (f : NewOn u (mended u k)) × (from.serial ≤ f.serial)
+  kept_new u (inl out) mine from = (from, omega arith)
+  kept_new u (inr (here, inl was_old)) mine from = (from, omega arith)
+  kept_new u (inr (here, inr (inl made))) mine from = (from, omega arith)
+  kept_new u (inr (here, inr (inr torn))) mine from = absurd (not_torn u mine from torn)
+
+  by_led : (u : ℕ) → Held c old u → NewOn u (i u) → FromOld bodies (old.leaves u) (i u) ⊎ Behind good c d.serial underway.tries old i u ⊎ Torn bodies (old.leaves u) (i u)
+      → OldOn u (i u) ⊎ ((from : NewOn u (i u)) × (g : ℕ) × Held c old g × (bit_at good g ≡ true) × (f : NewOn g (whole g)) × (from.serial ≤ f.serial))
+  by_led u mine made (inl from) = inl from
+  by_led u mine made (inr (inl behind)) =
+      let f = kept_new behind.leader (kind_of behind.leader) behind.held behind.front in
+      inr (behind.from, behind.leader, behind.held, behind.member, f.0, omega (arith, behind.ahead, f.1))
+  by_led u mine made (inr (inr torn)) = absurd (not_torn u mine made torn)
+
+  whole_led : (u : ℕ) (k : Kind u) → Held c old u → bit_at good u ≡ false
+      → OldOn u (mended u k) ⊎ ((from : NewOn u (mended u k)) × (g : ℕ) × Held c old g × (bit_at good g ≡ true) × (f : NewOn g (whole g)) × (from.serial ≤ f.serial))
+  whole_led u (inl out) mine outside = absurd (out mine)
+  whole_led u (inr (here, inl from)) mine outside = inl from
+  whole_led u (inr (here, inr (inl made))) mine outside = by_led u mine made (stage.led ready u mine outside)
+  whole_led u (inr (here, inr (inr torn))) mine outside = inl (as_before bodies (old.leaves u) torn.disk torn.among)
+
+  led_whole : (u : ℕ) → Held c old u → bit_at good u ≡ false → OldOn u (whole u) ⊎ Behind good c d.serial underway.tries old whole u
+  led_whole u mine outside = ⊎_elim (λ from. inl from) (λ x. inr (record { from = x.0; leader = x.1; held = x.2; member = x.3; front = x.4; ahead = x.5 })) (whole_led u (kind_of u) mine outside)
+
+  alike_whole : (u : ℕ) (k : Kind u) → (seen_in (i u 0) ≡ seen_in (mended u k 0))
+      × ((copy_of bodies (i u) ≡ copy_of bodies (mended u k)) ⊎ (Held c old u × ((torn : Torn bodies (old.leaves u) (i u)) × (copy_of bodies (mended u k) ≡ Some torn.was))))
+  alike_whole u (inl out) = (refl, inl refl)
+  alike_whole u (inr (here, inl from)) = (refl, inl refl)
+  alike_whole u (inr (here, inr (inl made))) = (refl, inl refl)
+  alike_whole u (inr (here, inr (inr torn))) = (torn.label, inr (here, (torn, torn.copy)))
+
+  near_whole : (u : ℕ) → Near bodies failed_in (Held c old) old.units old.leaves i whole u
+  near_whole u = by_alike (alike_whole u (kind_of u))
+    where
+      by_alike : (seen_in (i u 0) ≡ seen_in (whole u 0)) × ((copy_of bodies (i u) ≡ copy_of bodies (whole u)) ⊎ (Held c old u × ((torn : Torn bodies (old.leaves u) (i u)) × (copy_of bodies (whole u) ≡ Some torn.was))))
+          → Near bodies failed_in (Held c old) old.units old.leaves i whole u
+      by_alike (label, inl copy) = Kept label copy
+      by_alike (label, inr (mine, (torn, copy))) = WasTorn label mine torn copy
+
+  plain_found : OneFound (IsTry c d.serial old new) held old whole
+  plain_found = one_found good c d old new underway held was ready.below labels base has whole (λ u b. whole_beside u b (kind_of u)) (λ u mine. whole_plain u (kind_of u) mine) led_whole
+
+  pub outcome : Outcome (IsTry c d.serial old new) held c old i
+  outcome =
+      let one = plain_found in
+      record {
+        found = one.found;
+        which = one.which;
+        each = λ readable. ⊎_elim (λ is. inl (subst (Answers one.found) (sym is) (one.each readable))) (λ spoilt. inr spoilt)
+            (import_torn bodies failed_in (Held c old) old.units old.leaves i whole readable (λ u lt. near_whole u));
+      }

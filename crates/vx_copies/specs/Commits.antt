@@ -15,11 +15,11 @@ use Rattle.vx_model.specs.declared.no.No.TheVariants as refusal
 use Rattle.vx_config.specs.Table.{greatest}
 use Rattle.vx_config.specs.declared.config.Config.{Config}
 use Rattle.vx_config.specs.declared.entry.DiskEntry.{DiskEntry}
-use Rattle.vx_copyfmt.specs.Copies.{Disk}
-use Rattle.vx_copyfmt.specs.Commits.{Among, Answers, Committed, FindsNew, FindsOld, FromNew, FromOld, IsGood, Older, Tidy, Written, exactly}
-use Rattle.vx_copyfmt.specs.Imports.{import_of, is_label}
+use Rattle.vx_copyfmt.specs.Copies.{Copy, Disk, copy_of}
+use Rattle.vx_copyfmt.specs.Commits.{Among, Answers, Committed, Counts, FindsNew, FindsOld, Forged, FromNew, FromOld, Gives, IsGood, Lower, Spoilt, Tidy, Torn, Written, exactly}
+use Rattle.vx_copyfmt.specs.Imports.{Outcome as Finding, Damaged, Format, Found, Missing, NoConfig, import_of, is_label}
 use Rattle.vx_copyfmt.specs.Labels.{seen_in}
-use Rattle.vx_copyio.specs.Putting.{AreasOf}
+use Rattle.vx_copyio.specs.Putting.{AreasOf, LeavesSame}
 use Rattle.vx_copies.specs.Answers.{good_set}
 use Rattle.vx_copies.specs.Bodies.{failed_in}
 use Rattle.vx_copies.specs.Looking.{on_shelf}
@@ -30,11 +30,14 @@ pub record Held (c : Config) (m : Meaning) (u : ℕ) : Type 0 where
   pub below : u < m.units
   pub good : failed_at c.disks u ≡ false
 
--- The disks are ready for the next serial: each header of one that is held as good has one value, and the greater one counts; and neither
--- these nor the copies of the others have a serial above that of the configuration.
+-- no header that a crash may leave on a disk has a serial above that of the configuration
+pub record Below (c : Config) (m : Meaning) : Type 0 where
+  pub each : (u : ℕ) → u < m.units → Lower (c.serial + 1) (m.leaves u)
+
+-- the disks are ready for the next serial: whatever a crash leaves of one that is held as good, its greater header counts
 pub record Ready (c : Config) (m : Meaning) : Type 0 where
-  pub tidy : (u : ℕ) → Held c m u → Tidy (on_shelf m) (c.serial + 1) (m.leaves u)
-  pub older : (u : ℕ) → u < m.units → failed_at c.disks u ≡ true → Older (on_shelf m) (c.serial + 1) (m.leaves u)
+  pub below : Below c m
+  pub counts : (u : ℕ) → Held c m u → Counts (on_shelf m) (m.leaves u)
 
 -- the same disks, of which more are held as failed: the count of each of these rose
 pub record MoreFailed (old new : Meaning) (before after : List DiskEntry) : Type 0 where
@@ -62,9 +65,13 @@ pub record IsBefore (c last : Config) (old new : Meaning) (serial : ℕ) (d : Co
   pub is : IsTry c last.serial old new serial d
   pub fewer : (u : ℕ) → failed_at d.disks u ≡ true → failed_at last.disks u ≡ true
 
--- where the disks were ready, each that was held as good has in the image its copy of before, or one that was begun
+-- the disk has its copy of before, or one that was begun, or that of before is torn
+abbrev pub Becomes : (ℕ → Config → Type 0) → Meaning → ℕ → Disk → Type 0
+Becomes begun m u d = FromOld (on_shelf m) (m.leaves u) d ⊎ FromNew (on_shelf m) begun (m.leaves u) d ⊎ Torn (on_shelf m) (m.leaves u) d
+
+-- where the disks were ready, so it is in the image with each that was held as good
 pub record OldOrBegun (begun : ℕ → Config → Type 0) (c : Config) (m : Meaning) (i : Image) : Type 0 where
-  pub each : Ready c m → (u : ℕ) → Held c m u → FromOld (on_shelf m) (m.leaves u) (i u) ⊎ FromNew (on_shelf m) begun (m.leaves u) (i u)
+  pub each : Ready c m → (u : ℕ) → Held c m u → Becomes begun m u (i u)
 
 -- Copies were begun: at each moment a crash leaves each disk that was held as good with its copy of before or one that was begun, and every
 -- other block as it was; and so it does now.
@@ -88,12 +95,12 @@ pub record Behind (good : ℕ) (c : Config) (last : ℕ) (tries : ℕ → Config
   pub front : FromNew (on_shelf m) (IsOne c last tries leader) (m.leaves leader) (i leader)
   pub ahead : from.serial ≤ front.serial
 
--- Where the disks were ready, each that was held as good has in the image its copy of before, or one that was begun, and is ready for the next
--- serial; and one that is no member of the set has such a copy only behind one that is.
+-- Where the disks were ready, each that was held as good has in the image its copy of before, or one that was begun, or that of before is torn;
+-- and it is ready for the next serial. One that is no member of the set has such a copy only behind one that is.
 pub record Stage (good : ℕ) (c : Config) (last : ℕ) (tries : ℕ → Config) (m : Meaning) (i : Image) : Type 0 where
-  pub each : Ready c m → (u : ℕ) → Held c m u → FromOld (on_shelf m) (m.leaves u) (i u) ⊎ FromNew (on_shelf m) (IsOne c last tries u) (m.leaves u) (i u)
-  pub led : Ready c m → (u : ℕ) → Held c m u → bit_at good u ≡ false → FromOld (on_shelf m) (m.leaves u) (i u) ⊎ Behind good c last tries m i u
-  pub fit : Ready c m → (u : ℕ) → Held c m u → Tidy (on_shelf m) (last + 1) (exactly (i u))
+  pub each : Ready c m → (u : ℕ) → Held c m u → Becomes (IsOne c last tries u) m u (i u)
+  pub led : Ready c m → (u : ℕ) → Held c m u → bit_at good u ≡ false → FromOld (on_shelf m) (m.leaves u) (i u) ⊎ Behind good c last tries m i u ⊎ Torn (on_shelf m) (m.leaves u) (i u)
+  pub fit : Ready c m → (u : ℕ) → Held c m u → Tidy (on_shelf m) (last + 1) (exactly (i u)) ⊎ Forged (m.leaves u) (i u)
 
 -- Tries were made, from one configuration to another: under each serial one, of which a later one has no fewer failed disks.
 pub record Underway (good : ℕ) (c d : Config) (old new : Meaning) : Type 0 where
@@ -103,22 +110,32 @@ pub record Underway (good : ℕ) (c d : Config) (old new : Meaning) : Type 0 whe
   pub tried : (s : ℕ) → c.serial < s → s ≤ d.serial → IsBefore c d old new s (tries s)
   pub chain : (s t : ℕ) → c.serial < s → s ≤ t → t ≤ d.serial → (u : ℕ) → failed_at (tries s).disks u ≡ true → failed_at (tries t).disks u ≡ true
   pub moves : Moves (AreasOf (Held c old)) (Stage good c d.serial tries old) old new
-  pub leaves : Ready c old → (u : ℕ) (e : Disk) → Held c old u → Among (new.leaves u) e → FromOld (on_shelf old) (old.leaves u) e ⊎ FromNew (on_shelf old) (IsOne c d.serial tries u) (old.leaves u) e
-  pub fits : Ready c old → (u : ℕ) (e : Disk) → Held c old u → Among (new.leaves u) e → Tidy (on_shelf old) (d.serial + 1) (exactly e)
+  pub below : Below c old → Below d new
+  pub leaves : Below c old → (u : ℕ) (e : Disk) → Held c old u → Counts (on_shelf old) (old.leaves u) → Among (new.leaves u) e → Becomes (IsOne c d.serial tries u) old u e
+  pub fits : Below c old → (u : ℕ) (e : Disk) → Held c old u → Counts (on_shelf old) (old.leaves u) → Among (new.leaves u) e → Tidy (on_shelf old) (d.serial + 1) (exactly e) ⊎ Forged (old.leaves u) e
   pub now : (i : Image) → Each new.leaves i → Stage good c d.serial tries old i
 
--- the disks are ready again
-pub record StayReady (c d : Config) (old new : Meaning) : Type 0 where
-  pub ready : Ready c old → Ready d new
+-- whatever a crash leaves of a disk that is held as good, the next copy goes to one area
+pub record AreTidy (c d : Config) (old new : Meaning) : Type 0 where
+  pub each : Below c old → (u : ℕ) → Held d new u → Tidy (on_shelf new) (d.serial + 1) (new.leaves u)
 
--- where the disks were ready, each that the configuration holds as good has its copy, and the others lesser ones
+-- whatever a crash leaves of the disk, it has a copy with a later serial, and the one behind the last goes to one area
+pub record LeavesLater (c : Config) (last : ℕ) (u : ℕ) (old new : Meaning) : Type 0 where
+  pub tidy : Below c old → Tidy (on_shelf new) (last + 1) (new.leaves u)
+  pub newer : Below c old → (e : Disk) → Among (new.leaves u) e → (x : Copy Config) × (copy_of (on_shelf old) e ≡ Some x) × (c.serial < x.serial)
+
+-- so it is with a disk that is held as good, or the disk is as it was
+pub record Remain (c d : Config) (old new : Meaning) : Type 0 where
+  pub each : (u : ℕ) → Held d new u → LeavesSame u old new ⊎ LeavesLater c d.serial u old new
+
+-- each disk that the configuration holds as good has its copy, and the others lesser ones
 pub record Stands (c d : Config) (old new : Meaning) : Type 0 where
-  pub each : Ready c old → (i : Image) → Each new.leaves i → Written (on_shelf old) failed_in d.serial d old.units i
+  pub each : Below c old → (i : Image) → Each new.leaves i → Written (on_shelf old) failed_in d.serial d old.units i
 
 -- how a try ends: as it began; or with one good disk less and a fault; or with the shelf down
 abbrev pub TryEnds : {T : Type 0} → Config → Config → Meaning → Meaning → Result T ShelfError → Type 0
-TryEnds c d old new (Ok x) = (d.disks ≡ c.disks) × StayReady c d old new × Stands c d old new
-TryEnds c d old new (Err (Fault disk)) = (good_set d.disks < good_set c.disks) × StayReady c d old new × Rose (old.disk_faults disk) (new.disk_faults disk)
+TryEnds c d old new (Ok x) = (d.disks ≡ c.disks) × AreTidy c d old new × Stands c d old new
+TryEnds c d old new (Err (Fault disk)) = (good_set d.disks < good_set c.disks) × Remain c d old new × Rose (old.disk_faults disk) (new.disk_faults disk)
 TryEnds c d old new (Err IsDown) = IsTrue new.down
 
 -- a set of disks as its lowest member, and 8 where it has none
@@ -132,8 +149,8 @@ IsBlamed good c old new disk = Rose (old.disk_faults disk) (new.disk_faults disk
 -- how tries end: with the configuration on its disks, of which one is a good disk of the set; or with none of these left, or no serial; or with
 -- the shelf down
 abbrev pub TriesEnd : {T : Type 0} → ℕ → Config → Config → Meaning → Meaning → Result T No → Type 0
-TriesEnd good c d old new (Ok x) = (c.serial < d.serial) × HasGood d.disks good × StayReady c d old new × Stands c d old new
-TriesEnd good c d old new (Err (refusal.Device disk)) = IsBlamed good c old new disk × (NoneGood d.disks (length d.disks) good ⊎ (greatest ≤ d.serial))
+TriesEnd good c d old new (Ok x) = (c.serial < d.serial) × HasGood d.disks good × AreTidy c d old new × Stands c d old new
+TriesEnd good c d old new (Err (refusal.Device disk)) = IsBlamed good c old new disk × (NoneGood d.disks (length d.disks) good ⊎ (greatest ≤ d.serial)) × Remain c d old new
 TriesEnd good c d old new (Err refusal.Down) = IsTrue new.down
 TriesEnd good c d old new (Err other) = ⊥
 
@@ -141,19 +158,38 @@ TriesEnd good c d old new (Err other) = ⊥
 pub record AllFailed (good : ℕ) (c : Config) (old new : Meaning) : Type 0 where
   pub each : (u : ℕ) → u < length c.disks → bit_at good u ≡ true → (failed_at c.disks u ≡ true) ⊎ Rose (old.faults u) (new.faults u)
 
--- why a commit is refused: with 7 where each disk of the set failed or the last serial was used; with 6 where the shelf is down; with 19 where
--- no serial was left
+-- a disk that was held as good is as it was, or has a later copy, unless its count rose
+pub record Spared (c : Config) (last : ℕ) (old new : Meaning) : Type 0 where
+  pub each : (u : ℕ) → Held c old u → Rose (old.faults u) (new.faults u) ⊎ LeavesSame u old new ⊎ LeavesLater c last u old new
+
+-- why a commit is refused: with 7 where each disk of the set failed or the last serial was used, and disks of which no call failed are spared;
+-- with 6 where the shelf is down; with 19 where no serial was left
 abbrev pub CommitStops : ℕ → Config → ℕ → Meaning → Meaning → No → Type 0
-CommitStops good c last old new (refusal.Device disk) = (c.serial < greatest) × IsBlamed good c old new disk × (AllFailed good c old new ⊎ (greatest ≤ last))
+CommitStops good c last old new (refusal.Device disk) = (c.serial < greatest) × IsBlamed good c old new disk × (AllFailed good c old new ⊎ (greatest ≤ last)) × Spared c last old new
 CommitStops good c last old new refusal.Down = (c.serial < greatest) × IsTrue new.down
 CommitStops good c last old new (refusal.Limit Number most) = (greatest ≤ c.serial) × (most ≡ greatest)
 CommitStops good c last old new other = ⊥
 
--- a refused commit changes the serial alone, which is the last one that it began
+-- this finding is none: a disk is missing, or no disk has a configuration
+abbrev pub IsNone : Finding Config → Type 0
+IsNone (Found c) = ⊥
+IsNone (Missing disk) = Unit {0}
+IsNone NoConfig = Unit {0}
+IsNone (Damaged disk block stored computed) = ⊥
+IsNone (Format version) = ⊥
+
+-- an import that reads none of the disks that are held as good finds none
+pub record Silent (c : Config) (m : Meaning) : Type 0 where
+  pub each : (i : Image) (readable : ℕ → Bool) → Each m.leaves i → ((u : ℕ) → Held c m u → readable u ≡ false) → IsNone (import_of (on_shelf m) failed_in m.units readable i)
+
+-- A refused commit changes the serial alone, which is the last one that it began. No header is above it, and what the failed disks say by
+-- themselves stays none.
 pub record Refused (good : ℕ) (c d : Config) (old new : Meaning) (why : No) : Type 0 where
   pub cause : CommitStops good c d.serial old new why
   pub later : c.serial ≤ d.serial
   pub kept : d ≡ record { serial = d.serial; site = c.site; disks = c.disks; volumes = c.volumes; rvg = c.rvg }
+  pub below : Below c old → Below d new
+  pub silent : Silent c old → Silent d new
 
 -- whatever a crash leaves in the first block of a disk is a label
 pub record HaveLabels (m : Meaning) : Type 0 where
@@ -164,40 +200,63 @@ pub record WasCommitted (good : ℕ) (held : Option Config) (m : Meaning) : Type
   pub committed : Committed (on_shelf m) failed_in m.units held m.leaves
   pub members : (u : ℕ) → u < m.units → bit_at good u ≡ true → IsGood failed_in held u
 
--- whichever disks can be read, an import over the image finds what it might have found before, or one of these
-pub record MayFind (begun : ℕ → Config → Type 0) (m : Meaning) (i : Image) : Type 0 where
-  pub each : (readable : ℕ → Bool) → FindsOld (on_shelf m) failed_in m.units m.leaves readable i ⊎ FindsNew (on_shelf m) failed_in begun m.units readable i
+-- Whichever disks can be read, an import over the image finds what it might have found before, or one of these; or a disk that was held as
+-- good is torn, and it is refused with 22 for that disk, unless the torn body has the digest of its header.
+pub record MayFind (begun : ℕ → Config → Type 0) (c : Config) (m : Meaning) (i : Image) : Type 0 where
+  pub each : (readable : ℕ → Bool) → FindsOld (on_shelf m) failed_in m.units m.leaves readable i ⊎ FindsNew (on_shelf m) failed_in begun m.units readable i ⊎ Spoilt (on_shelf m) failed_in (Held c m) m.units m.leaves readable i
 
--- whichever disks can be read, an import over the image finds one configuration, or is refused with 8 or 9: the committed one, or one of these
-pub record Outcome (begun : ℕ → Config → Type 0) (held : Option Config) (m : Meaning) (i : Image) : Type 0 where
+-- but for torn disks, whichever disks can be read, an import over the image finds one configuration, or is refused with 8 or 9: the committed
+-- one, or one of these
+pub record Outcome (begun : ℕ → Config → Type 0) (held : Option Config) (c : Config) (m : Meaning) (i : Image) : Type 0 where
   pub found : Option Config
   pub which : (found ≡ held) ⊎ ((serial : ℕ) × (d : Config) × (found ≡ Some d) × begun serial d)
-  pub each : (readable : ℕ → Bool) → Answers found (import_of (on_shelf m) failed_in m.units readable i)
+  pub each : (readable : ℕ → Bool) → Answers found (import_of (on_shelf m) failed_in m.units readable i) ⊎ Spoilt (on_shelf m) failed_in (Held c m) m.units m.leaves readable i
 
 -- what imports find at each moment since the call began, and now, where the disks were ready
 pub record Finds (good : ℕ) (begun : ℕ → Config → Type 0) (c : Config) (old new : Meaning) : Type 0 where
-  pub since : Ready c old → LeavesOnly old new (MayFind begun old)
-  pub now : Ready c old → (i : Image) → Each new.leaves i → MayFind begun old i
-  pub outcome_since : (held : Option Config) → WasCommitted good held old → Ready c old → HaveLabels old → LeavesOnly old new (Outcome begun held old)
-  pub outcome_now : (held : Option Config) → WasCommitted good held old → Ready c old → HaveLabels old → (i : Image) → Each new.leaves i → Outcome begun held old i
+  pub since : Ready c old → LeavesOnly old new (MayFind begun c old)
+  pub now : Ready c old → (i : Image) → Each new.leaves i → MayFind begun c old i
+  pub outcome_since : (held : Option Config) → WasCommitted good held old → Ready c old → HaveLabels old → LeavesOnly old new (Outcome begun held c old)
+  pub outcome_now : (held : Option Config) → WasCommitted good held old → Ready c old → HaveLabels old → (i : Image) → Each new.leaves i → Outcome begun held c old i
 
--- each disk that was held as good is in the image by itself ready for the serial behind this one
+-- each disk that was held as good is in the image by itself ready for the serial behind this one, unless a torn body has the digest of its header
 pub record AreFit (c : Config) (last : ℕ) (m : Meaning) (i : Image) : Type 0 where
-  pub each : (u : ℕ) → Held c m u → Tidy (on_shelf m) (last + 1) (exactly (i u))
+  pub each : (u : ℕ) → Held c m u → Tidy (on_shelf m) (last + 1) (exactly (i u)) ⊎ Forged (m.leaves u) (i u)
 
--- so it is at each moment since the call began, and now, where the disks were ready
+-- so it is at each moment since the call began, where the disks were ready; and now with each disk that was
 pub record StayFit (c : Config) (last : ℕ) (old new : Meaning) : Type 0 where
   pub since : Ready c old → LeavesOnly old new (AreFit c last old)
-  pub now : Ready c old → (i : Image) → Each new.leaves i → AreFit c last old i
+  pub now : Below c old → (u : ℕ) (e : Disk) → Held c old u → Counts (on_shelf old) (old.leaves u) → Among (new.leaves u) e → Tidy (on_shelf old) (last + 1) (exactly e) ⊎ Forged (old.leaves u) e
 
--- a commit is done: the configuration has a later serial and the failed disks held so, and is the newest committed one
+-- a disk that the call came to hold as failed
+pub record Marked (c d : Config) (m : Meaning) (u : ℕ) : Type 0 where
+  pub held : Held c m u
+  pub failed : failed_at d.disks u ≡ true
+
+-- whatever a crash left of such a disk before the call, its greater header counted
+pub record Counted (c d : Config) (m : Meaning) : Type 0 where
+  pub each : (u : ℕ) → Marked c d m u → Counts (on_shelf m) (m.leaves u)
+
+-- and a copy would have gone to one area
+pub record WereTidy (c d : Config) (m : Meaning) : Type 0 where
+  pub each : (u : ℕ) → Marked c d m u → Tidy (on_shelf m) (c.serial + 1) (m.leaves u)
+
+-- A commit is done. The configuration has a later serial and the failed disks held so. An import that reads a disk that it holds as good finds
+-- it, or is refused with 8, whatever was committed before. Others find no other one: where an earlier one was committed, and this call marked
+-- no disk that might have been torn; or where the disks that were held as failed say nothing by themselves, and this call marked none.
 pub record Done (good : ℕ) (c d : Config) (old new : Meaning) : Type 0 where
   pub later : c.serial < d.serial
   pub grown : Grown old new c d
   pub left : HasGood d.disks good
-  pub ready : StayReady c d old new
+  pub below : Below c old → Below d new
+  pub tidy : AreTidy c d old new
   pub stands : Stands c d old new
-  pub newest : (held : Option Config) → WasCommitted good held old → Ready c old → HaveLabels old → WasCommitted (good_set d.disks) (Some d) new
+  pub found : Below c old → HaveLabels old → (i : Image) (readable : ℕ → Bool) (g : ℕ) → Each new.leaves i → Held d new g → readable g ≡ true → Gives d (import_of (on_shelf new) failed_in new.units readable i)
+  pub newest : (held : Option Config) → WasCommitted good held old → Below c old → Counted c d old → HaveLabels old → (i : Image) (readable : ℕ → Bool) → Each new.leaves i
+      → Gives d (import_of (on_shelf old) failed_in old.units readable i) ⊎ Spoilt (on_shelf old) failed_in (Marked c d old) old.units old.leaves readable i
+  pub committed : (held : Option Config) → WasCommitted good held old → Below c old → WereTidy c d old → HaveLabels old → WasCommitted (good_set d.disks) (Some d) new
+  pub again : Below c old → Silent c old → HaveLabels old → d.disks ≡ c.disks → WasCommitted (good_set d.disks) (Some d) new
+  pub silent : WasCommitted (good_set d.disks) (Some d) new → Silent d new
 
 -- what a commit answers
 abbrev pub CommitEnds : {T : Type 0} → ℕ → Config → Config → Meaning → Meaning → Result T No → Type 0

@@ -21,7 +21,8 @@ use vx_model::{Counted, No, Stop};
 /// held as failed from then on, and the commit begins again with the next serial. It takes no memory.
 ///
 /// At each moment of it an import over what a crash leaves finds what it might have found before, or one of the configurations that it
-/// began, and after Ok the last of these, or is refused with 8 or 9.
+/// began, and after Ok the last of these, or is refused with 8 or 9. Where the write or the flush of a header of a disk failed before, and
+/// no crash came since, one that finds no good disk with the new copy may be refused with 22 for this disk.
 ///
 /// Answers 19 exactly where the serial is the greatest one, and then nothing has changed. Else 7 only where each disk of the set has
 /// failed, or the greatest serial was used: it names the disk that failed last, or, where each was held as failed before, the lowest

@@ -214,6 +214,30 @@ fn a_commit_is_refused(rt: HostRuntime) {
     assert!(rt; config.serial == 0x7fff_ffff_ffff_ffff && both_good(&config));
 }
 
+#[test]
+fn a_commit_behind_a_refused_one_is_found(rt: HostRuntime) {
+    let alloc = rt.alloc();
+    let mut shelf = labelled(alloc).expect(&rt, "there is memory");
+    let mut config = two_disks(alloc);
+    assert!(rt; committed(alloc, &mut shelf, &mut config, 3, true) == Ok((1, true)));
+    fail(&mut shelf, 0, true);
+    fail(&mut shelf, 1, true);
+    let refused = Err(Stop::No(No::Device { disk: 1 }));
+    assert!(rt; committed(alloc, &mut shelf, &mut config, 3, true) == refused);
+    assert!(rt; config.serial == 3 && both_good(&config));
+    fail(&mut shelf, 0, false);
+    fail(&mut shelf, 1, false);
+    assert!(rt; found(alloc, &mut shelf) == Ok((1, 3, true)));
+    assert!(rt; committed(alloc, &mut shelf, &mut config, 3, true) == Ok((4, true)));
+    assert!(rt; found(alloc, &mut shelf) == Ok((4, 3, true)));
+    // One disk alone has it too, and misses the other.
+    fail(&mut shelf, 0, true);
+    assert!(rt; found(alloc, &mut shelf) == Err(Stop::No(No::Missing { disk: 0 })));
+    fail(&mut shelf, 0, false);
+    fail(&mut shelf, 1, true);
+    assert!(rt; found(alloc, &mut shelf) == Err(Stop::No(No::Missing { disk: 1 })));
+}
+
 fn revive<R: Rack>(rack: &mut R) {
     if rack.is_down() {
         rack.revive();

@@ -3,12 +3,12 @@ use Rattle.std.proofs.Common.{◌≡◌, ◌⊎◌, inl, inr, ⊎_elim, ℕ, zer
 use Rattle.std.specs.Prelude.{nat_lt, bytes_eq, if◌then◌else◌}
 use Rattle.std.proofs.lemmas.Bool.{cases_lt, lt-ltb, le-ltb}
 use Rattle.vx_wire.specs.Seals.{digest_of}
-use Rattle.vx_copyfmt.proofs.Told.{alike}
+use Rattle.vx_copyfmt.proofs.Told.{alike, same_bytes, not_both}
 use Rattle.vx_copyfmt.specs.Areas.{header_of}
 use Rattle.vx_copyfmt.specs.Labels.{seen_in}
 use Rattle.vx_copyfmt.specs.declared.area.AreaHeader.{AreaHeader}
-use Rattle.vx_copyfmt.specs.Copies.{Disk, Copy, Holds, run_of, body_of, area_a, area_b, greater, holding, judged, copy_with, copy_under, copy_at, copy_of}
-use Rattle.vx_copyfmt.specs.Commits.{Slots, Among, target_of, exactly, IsHeaderBlock, IsTop, Tidy, Mixed, FromOld}
+use Rattle.vx_copyfmt.specs.Copies.{Disk, Copy, Holds, Differs, run_of, body_of, area_a, area_b, greater, holding, judged, copy_with, copy_under, copy_at, copy_of}
+use Rattle.vx_copyfmt.specs.Commits.{Slots, Among, target_of, exactly, IsHeaderBlock, IsTop, Lower, Counts, Fit, Tidy, TwoTargets, Mixed, FromOld, Forged, Broken, Torn}
 
 -- ---- what an area depends on
 
@@ -49,10 +49,10 @@ target_block (Some x) (Some y) = elim (cases_lt x.serial y.serial) [
   | inr le ↦ inr (rw (le-ltb x.serial y.serial le) refl)
 ]
 
-target_low : (p q : Option AreaHeader) (x y : AreaHeader) → p ≡ Some x → q ≡ Some y → x.serial < y.serial → target_of p q ≡ area_a
+pub target_low : (p q : Option AreaHeader) (x y : AreaHeader) → p ≡ Some x → q ≡ Some y → x.serial < y.serial → target_of p q ≡ area_a
 target_low p q x y is_x is_y lt = rw (is_x, is_y, lt-ltb x.serial y.serial lt) refl
 
-target_high : (p q : Option AreaHeader) (x y : AreaHeader) → p ≡ Some x → q ≡ Some y → y.serial ≤ x.serial → target_of p q ≡ area_b
+pub target_high : (p q : Option AreaHeader) (x y : AreaHeader) → p ≡ Some x → q ≡ Some y → y.serial ≤ x.serial → target_of p q ≡ area_b
 target_high p q x y is_x is_y le = rw (is_x, is_y, le-ltb x.serial y.serial le) refl
 
 -- the next copy goes to the area of the lesser header
@@ -65,6 +65,110 @@ target_lesser d area a h g (inl one) (inr is) apart here there lt =
 target_lesser d area a h g (inr one) (inl is) apart here there lt =
     target_low (header_of (d area_a)) (header_of (d area_b)) g h (ap (λ (b : ℕ). header_of (d b)) (sym is) ∙ there) (ap (λ (b : ℕ). header_of (d b)) (sym one) ∙ here) lt ∙ sym is
 
+-- a block of a header is outside of the bodies
+pub head_out : (area a : ℕ) → IsHeaderBlock area → IsHeaderBlock a → (a ≤ area) ⊎ (area + 128 ≤ a)
+head_out area a (inl one) (inl is) = inl (omega (arith, one, is))
+head_out area a (inl one) (inr is) = inr (omega (arith, one, is))
+head_out area a (inr one) is = ⊎_elim (λ (x : a ≡ area_a). inl (omega (arith, one, x))) (λ (x : a ≡ area_b). inl (omega (arith, one, x))) is
+
+pub area_out : (area a b : ℕ) → IsHeaderBlock area → IsHeaderBlock a → (area ≡ a → ⊥) → a ≤ b → b ≤ a + 127 → (b ≤ area) ⊎ (area + 128 ≤ b)
+area_out area a b (inl one) (inl is) apart low high = absurd (apart (one ∙ sym is))
+area_out area a b (inl one) (inr is) apart low high = inr (omega (arith, one, is, low))
+area_out area a b (inr one) (inl is) apart low high = inl (omega (arith, one, is, high))
+area_out area a b (inr one) (inr is) apart low high = absurd (apart (one ∙ sym is))
+
+-- where the next copy goes on a disk
+abbrev pub own_target : Disk → ℕ
+own_target d = target_of (header_of (d area_a)) (header_of (d area_b))
+
+-- it goes by the headers alone
+pub target_same : (d e : Disk) → d area_a ≡ e area_a → d area_b ≡ e area_b → own_target d ≡ own_target e
+target_same d e first second = ap (λ (v : List ℕ). target_of (header_of v) (header_of (d area_b))) first ∙ ap (λ (v : List ℕ). target_of (header_of (e area_a)) (header_of v)) second
+
+pub top_same : (d e : Disk) (a : ℕ) (h : AreaHeader) → IsHeaderBlock a → ((b : ℕ) → IsHeaderBlock b → d b ≡ e b) → IsTop d a h → IsTop e a h
+top_same d e a h is same top = record {
+  head = ap header_of (sym (same a is)) ∙ top.head;
+  kept = λ at. top.kept (target_same d e (same area_a (inl refl)) (same area_b (inr refl)) ∙ at);
+}
+
+-- there is one greater header
+pub one_top : (d : Disk) (a b : ℕ) (h g : AreaHeader) → IsHeaderBlock a → IsHeaderBlock b → IsTop d a h → IsTop d b g → a ≡ b
+one_top d a b h g (inl is) (inl one) top other = is ∙ sym one
+one_top d a b h g (inr is) (inr one) top other = is ∙ sym one
+one_top d a b h g (inl is) (inr one) top other = absurd (⊎_elim (λ at. top.kept (at ∙ sym is)) (λ at. other.kept (at ∙ sym one)) (target_block (header_of (d area_a)) (header_of (d area_b))))
+one_top d a b h g (inr is) (inl one) top other = absurd (⊎_elim (λ at. other.kept (at ∙ sym one)) (λ at. top.kept (at ∙ sym is)) (target_block (header_of (d area_a)) (header_of (d area_b))))
+
+-- in the first area it is not less, in the second it is greater
+pub top_first : (d : Disk) (h k : AreaHeader) → IsTop d area_a h → header_of (d area_b) ≡ Some k → k.serial ≤ h.serial
+top_first d h k top second = elim (cases_lt h.serial k.serial) [
+  | inl lt ↦ absurd (top.kept (target_low (header_of (d area_a)) (header_of (d area_b)) h k top.head second lt))
+  | inr le ↦ le
+]
+
+pub top_second : (d : Disk) (h k : AreaHeader) → IsTop d area_b h → header_of (d area_a) ≡ Some k → k.serial < h.serial
+top_second d h k top first = elim (cases_lt k.serial h.serial) [
+  | inl lt ↦ lt
+  | inr le ↦ absurd (top.kept (target_high (header_of (d area_a)) (header_of (d area_b)) k h first top.head le))
+]
+
+same_header : (o : Option AreaHeader) (h k : AreaHeader) → o ≡ Some h → o ≡ Some k → k.serial ≤ h.serial
+same_header o h k one two = let same : Some h ≡ Some k = sym one ∙ two in let it : h ≡ k = cc in omega (arith, ap (λ (x : AreaHeader). x.serial) it)
+
+pub top_greatest : (d : Disk) (a b : ℕ) (h k : AreaHeader) → IsHeaderBlock a → IsHeaderBlock b → IsTop d a h → header_of (d b) ≡ Some k → k.serial ≤ h.serial
+top_greatest d a b h k (inl is) (inl one) top there = same_header (header_of (d a)) h k top.head (ap (λ (n : ℕ). header_of (d n)) (is ∙ sym one) ∙ there)
+top_greatest d a b h k (inr is) (inr one) top there = same_header (header_of (d a)) h k top.head (ap (λ (n : ℕ). header_of (d n)) (is ∙ sym one) ∙ there)
+top_greatest d a b h k (inl is) (inr one) top there = top_first d h k (subst (λ (n : ℕ). IsTop d n h) is top) (ap (λ (n : ℕ). header_of (d n)) (sym one) ∙ there)
+top_greatest d a b h k (inr is) (inl one) top there =
+    let lt : k.serial < h.serial = top_second d h k (subst (λ (n : ℕ). IsTop d n h) is top) (ap (λ (n : ℕ). header_of (d n)) (sym one) ∙ there) in
+    omega (arith, lt)
+
+-- where the disk's own headers send the next copy, beside an area: there, or no header stands, or the greater one stands there
+data Sent (d : Disk) (area : ℕ) : Type 0 where
+  Here : own_target d ≡ area → Sent d area
+  Bare : header_of (d area_a) ≡ None → header_of (d area_b) ≡ None → Sent d area
+  OnTop : (g : AreaHeader) → IsTop d area g → Sent d area
+
+sent_first : (d : Disk) (area : ℕ) (g : AreaHeader) → own_target d ≡ area_a → header_of (d area_b) ≡ Some g → IsHeaderBlock area → Sent d area
+sent_first d area g to second (inl is) = Here (to ∙ sym is)
+sent_first d area g to second (inr is) =
+    OnTop g (record { head = ap (λ (b : ℕ). header_of (d b)) is ∙ second; kept = λ at. let clash : area_a ≡ area_b = sym to ∙ at ∙ is in omega (arith, clash) })
+
+sent_second : (d : Disk) (area : ℕ) (g : AreaHeader) → own_target d ≡ area_b → header_of (d area_a) ≡ Some g → IsHeaderBlock area → Sent d area
+sent_second d area g to first (inr is) = Here (to ∙ sym is)
+sent_second d area g to first (inl is) =
+    OnTop g (record { head = ap (λ (b : ℕ). header_of (d b)) is ∙ first; kept = λ at. let clash : area_b ≡ area_a = sym to ∙ at ∙ is in omega (arith, clash) })
+
+sent_by : (d : Disk) (area : ℕ) (p q : Option AreaHeader) → header_of (d area_a) ≡ p → header_of (d area_b) ≡ q → IsHeaderBlock area → Sent d area
+sent_by d area None None first second one = Bare first second
+sent_by d area None (Some y) first second one = sent_first d area y (ap (λ (o : Option AreaHeader). target_of o (header_of (d area_b))) first) second one
+sent_by d area (Some x) None first second one =
+    sent_second d area x (ap (λ (o : Option AreaHeader). target_of o (header_of (d area_b))) first ∙ ap (target_of (Some x)) second) first one
+sent_by d area (Some x) (Some y) first second one = elim (cases_lt x.serial y.serial) [
+  | inl lt ↦ sent_first d area y (target_low (header_of (d area_a)) (header_of (d area_b)) x y first second lt) second one
+  | inr le ↦ sent_second d area x (target_high (header_of (d area_a)) (header_of (d area_b)) x y first second le) first one
+]
+
+-- a body beside the one that stood there, where this is the digest of the header
+data Stands (digest now was : List ℕ) : Type 0 where
+  Otherwise : bytes_eq (digest_of now) digest ≡ false → Stands digest now was
+  AsBefore : now ≡ was → Stands digest now was
+  Changed : digest_of now ≡ digest → (now ≡ was → ⊥) → Stands digest now was
+
+stands_by : (digest now was : List ℕ) → Stands digest now was
+stands_by digest now was = by_digest (bytes_eq (digest_of now) digest) refl
+  where
+    by_body : digest_of now ≡ digest → (b : Bool) → bytes_eq now was ≡ b → Stands digest now was
+    by_body same true is = AsBefore (same_bytes now was is)
+    by_body same false is = Changed same (λ e. not_both (sym is ∙ alike now was e))
+
+    by_digest : (b : Bool) → bytes_eq (digest_of now) digest ≡ b → Stands digest now was
+    by_digest false is = Otherwise is
+    by_digest true is = by_body (same_bytes (digest_of now) digest is) (bytes_eq now was) refl
+
+-- a disk with these headers
+abbrev with_headers : List ℕ → List ℕ → Disk
+with_headers v w b = if nat_lt b area_b then v else w
+
 module _ {C : Type 0} (reads : List ℕ → Option C) where
   under_serial : (d : Disk) (area : ℕ) (h : AreaHeader) (o : Option AreaHeader) → o ≡ Some h → HasSerial h.serial (copy_under reads d area o)
   under_serial d area h None is = absurd cc
@@ -72,7 +176,7 @@ module _ {C : Type 0} (reads : List ℕ → Option C) where
       let same : g ≡ h = cc in
       subst (λ (k : AreaHeader). HasSerial k.serial (copy_with reads area g (body_of d area g.length))) same (judged_serial area g (body_of d area g.length) (reads (body_of d area g.length)) (bytes_eq (digest_of (body_of d area g.length)) g.digest))
 
-  under_none : (d : Disk) (area : ℕ) (o : Option AreaHeader) → o ≡ None → copy_under reads d area o ≡ None
+  pub under_none : (d : Disk) (area : ℕ) (o : Option AreaHeader) → o ≡ None → copy_under reads d area o ≡ None
   under_none d area None is = refl
   under_none d area (Some g) is = absurd cc
 
@@ -100,12 +204,12 @@ module _ {C : Type 0} (reads : List ℕ → Option C) where
   mended_in d base area b low high = rw (lt-ltb area b low, lt-ltb b (area + 128) high) refl
 
   -- outside of the run it has one of the values
-  outside : (slots : Slots) (area b : ℕ) (v : List ℕ) → (b ≤ area) ⊎ (area + 128 ≤ b) → slots b v ⊎ ((area + 1 ≤ b) × (b ≤ area + 127)) → slots b v
+  pub outside : (slots : Slots) (area b : ℕ) (v : List ℕ) → (b ≤ area) ⊎ (area + 128 ≤ b) → slots b v ⊎ ((area + 1 ≤ b) × (b ≤ area + 127)) → slots b v
   outside slots area b v out (inl is) = is
   outside slots area b v (inl low) (inr both) = absurd (omega (arith, low, both.0))
   outside slots area b v (inr high) (inr both) = absurd (omega (arith, high, both.1))
 
-  mended_among : (slots : Slots) (d base : Disk) (area : ℕ) → Among slots base → Mixed slots area d → Among slots (mended d base area)
+  pub mended_among : (slots : Slots) (d base : Disk) (area : ℕ) → Among slots base → Mixed slots area d → Among slots (mended d base area)
   mended_among slots d base area has mixed b = elim (cases_lt area b) [
     | inl low ↦ elim (cases_lt b (area + 128)) [
       | inl high ↦ subst (slots b) (sym (mended_in d base area b low high)) (has b)
@@ -146,11 +250,74 @@ module _ {C : Type 0} (reads : List ℕ → Option C) where
     same_both : copy_at reads d area_a ≡ copy_at reads e area_a → copy_at reads d area_b ≡ copy_at reads e area_b → copy_of reads d ≡ copy_of reads e
     same_both one two = ap (λ (t : Option (Copy C)). greater t (copy_at reads d area_b)) one ∙ ap (greater (copy_at reads e area_a)) two
 
-  serial_under : (d : Disk) (area : ℕ) (h : AreaHeader) (x : Copy C) → header_of (d area) ≡ Some h → copy_at reads d area ≡ Some x → x.serial ≡ h.serial
+  pub serial_under : (d : Disk) (area : ℕ) (h : AreaHeader) (x : Copy C) → header_of (d area) ≡ Some h → copy_at reads d area ≡ Some x → x.serial ≡ h.serial
   serial_under d area h x head is = subst (HasSerial h.serial) is (under_serial d area h (header_of (d area)) head)
 
+  -- two of which the one is less
+  pub greater_is_second : (m : ℕ) (o : Option (Copy C)) (y : Copy C) → ((x : Copy C) → o ≡ Some x → x.serial < y.serial) → greater o (Some y) ≡ Some y
+  greater_is_second m None y below = refl
+  greater_is_second m (Some x) y below = rw (lt-ltb x.serial y.serial (below x refl)) refl
+
+  pub greater_not_more : (x : Copy C) (o : Option (Copy C)) → ((y : Copy C) → o ≡ Some y → y.serial ≤ x.serial) → greater (Some x) o ≡ Some x
+  greater_not_more x None le = refl
+  greater_not_more x (Some y) le = rw (le-ltb x.serial y.serial (le y refl)) refl
+
+  -- a copy goes by a header of its serial
+  pub copy_header : (d : Disk) (area : ℕ) (o : Option AreaHeader) → header_of (d area) ≡ o → (x : Copy C) → copy_at reads d area ≡ Some x → (h : AreaHeader) × (header_of (d area) ≡ Some h) × (x.serial ≡ h.serial)
+  copy_header d area None head x is = let none : None ≡ Some x = sym (under_none d area (header_of (d area)) head) ∙ is in absurd cc
+  copy_header d area (Some h) head x is = (h, head, serial_under d area h x head is)
+
+  pub under_with : (d : Disk) (area : ℕ) (h : AreaHeader) (o : Option AreaHeader) → o ≡ Some h → copy_under reads d area o ≡ copy_with reads area h (body_of d area h.length)
+  under_with d area h o is = ap (copy_under reads d area) is
+
+  -- the copy under the greater header is that of the disk
+  pub top_copy : (d : Disk) (a : ℕ) (h : AreaHeader) (x : Copy C) → IsHeaderBlock a → IsTop d a h → copy_at reads d a ≡ Some x → copy_of reads d ≡ Some x
+  top_copy d a h x (inl is) top here =
+      let first : IsTop d area_a h = subst (λ (n : ℕ). IsTop d n h) is top in
+      let there : copy_at reads d area_a ≡ Some x = subst (λ (n : ℕ). copy_at reads d n ≡ Some x) is here in
+      let number : x.serial ≡ h.serial = serial_under d area_a h x first.head there in
+      ap (λ (o : Option (Copy C)). greater o (copy_at reads d area_b)) there
+      ∙ greater_not_more x (copy_at reads d area_b) (λ y has.
+      let found = copy_header d area_b (header_of (d area_b)) refl y has in
+      let le : found.0.serial ≤ h.serial = top_first d h found.0 first found.1 in
+      let same : y.serial ≡ found.0.serial = found.2 in
+      omega (arith, le, same, number))
+  top_copy d a h x (inr is) top here =
+      let second : IsTop d area_b h = subst (λ (n : ℕ). IsTop d n h) is top in
+      let there : copy_at reads d area_b ≡ Some x = subst (λ (n : ℕ). copy_at reads d n ≡ Some x) is here in
+      let number : x.serial ≡ h.serial = serial_under d area_b h x second.head there in
+      ap (λ (o : Option (Copy C)). greater (copy_at reads d area_a) o) there
+      ∙ greater_is_second 0 (copy_at reads d area_a) x (λ y has.
+      let found = copy_header d area_a (header_of (d area_a)) refl y has in
+      let lt : found.0.serial < h.serial = top_second d h found.0 second found.1 in
+      let same : y.serial ≡ found.0.serial = found.2 in
+      omega (arith, lt, same, number))
+
+  -- and none is greater
+  pub greater_most : (m : ℕ) (o p : Option (Copy C)) → ((x : Copy C) → o ≡ Some x → x.serial ≤ m) → ((x : Copy C) → p ≡ Some x → x.serial ≤ m) → (x : Copy C) → greater o p ≡ Some x → x.serial ≤ m
+  greater_most m None p one two x is = two x is
+  greater_most m (Some y) None one two x is = one x is
+  greater_most m (Some y) (Some z) one two x is = by_test (nat_lt y.serial z.serial) is
+    where
+      by_test : (b : Bool) → (if b then Some z else Some y) ≡ Some x → x.serial ≤ m
+      by_test true it = two x it
+      by_test false it = one x it
+
+  pub top_most : (d : Disk) (a : ℕ) (h : AreaHeader) → IsHeaderBlock a → IsTop d a h → (x : Copy C) → copy_of reads d ≡ Some x → x.serial ≤ h.serial
+  top_most d a h is top = greater_most h.serial (copy_at reads d area_a) (copy_at reads d area_b) (each area_a (inl refl)) (each area_b (inr refl))
+    where
+      each : (b : ℕ) → IsHeaderBlock b → (x : Copy C) → copy_at reads d b ≡ Some x → x.serial ≤ h.serial
+      each b one x has =
+          let found = copy_header d b (header_of (d b)) refl x has in
+          let le : found.0.serial ≤ h.serial = top_greatest d a b h found.0 is one top found.1 in
+          let same : x.serial ≡ found.0.serial = found.2 in
+          omega (arith, le, same)
+
+  label_out : (area : ℕ) → IsHeaderBlock area → (0 ≤ area) ⊎ (area + 128 ≤ 0)
+  label_out area one = inl (omega arith)
+
   -- the copy of a disk is that of the one that stood there
-  module _ (serial : ℕ) (slots : Slots) (tidy : Tidy reads serial slots) (base : Disk) (has : Among slots base) (d : Disk) where
+  module _ (slots : Slots) (counts : Counts reads slots) (base : Disk) (has : Among slots base) (d : Disk) where
     stays_by : (area : ℕ) → Goes d area → Mixed slots area d → FromOld reads slots d
     stays_by area (NoneThere is first) mixed =
         let e : Disk = mended d base area_a in
@@ -189,7 +356,7 @@ module _ {C : Type 0} (reads : List ℕ → Option C) where
           head = ap header_of other ∙ second;
           kept = λ at. let clash : area_a ≡ area_b = sym (target_low (header_of (e area_a)) (header_of (e area_b)) x y (ap header_of head ∙ first) (ap header_of other ∙ second) lt) ∙ at in omega (arith, clash);
         } in
-        let counted = tidy.counts e area_b y (inr refl) among top in
+        let counted = counts e area_b y (inr refl) among top in
         let number : counted.0.serial ≡ y.serial = serial_under e area_b y counted.0 (ap header_of other ∙ second) counted.1 in
         let below : x.serial < counted.0.serial = omega (arith, number, lt) in
         record {
@@ -211,7 +378,7 @@ module _ {C : Type 0} (reads : List ℕ → Option C) where
           head = ap header_of other ∙ first;
           kept = λ at. let clash : area_b ≡ area_a = sym (target_high (header_of (e area_a)) (header_of (e area_b)) x y (ap header_of other ∙ first) (ap header_of head ∙ second) le) ∙ at in omega (arith, clash);
         } in
-        let counted = tidy.counts e area_a x (inl refl) among top in
+        let counted = counts e area_a x (inl refl) among top in
         let number : counted.0.serial ≡ x.serial = serial_under e area_a x counted.0 (ap header_of other ∙ first) counted.1 in
         let below : y.serial ≤ counted.0.serial = omega (arith, number, le) in
         record {
@@ -223,100 +390,194 @@ module _ {C : Type 0} (reads : List ℕ → Option C) where
               (a_same ∙ counted.1) counted.1 below below;
         }
 
-    -- where the target was found by what a crash leaves in both headers
-    pub stays : (v w : List ℕ) → slots area_a v → slots area_b w → Mixed slots (target_of (header_of v) (header_of w)) d → FromOld reads slots d
-    stays v w in_a in_b mixed =
+    mended_same : (area : ℕ) → IsHeaderBlock area → (b : ℕ) → IsHeaderBlock b → d b ≡ mended d base area b
+    mended_same area one b is = sym (mended_out d base area b (head_out area b one is))
+
+    mended_top : (area a : ℕ) (h : AreaHeader) → IsHeaderBlock area → IsHeaderBlock a → IsTop d a h → IsTop (mended d base area) a h
+    mended_top area a h one is top = top_same d (mended d base area) a h is (mended_same area one) top
+
+    -- where no header stands, there is no copy
+    bare_stays : (area : ℕ) → IsHeaderBlock area → header_of (d area_a) ≡ None → header_of (d area_b) ≡ None → Mixed slots area d → FromOld reads slots d
+    bare_stays area one first second mixed =
+        let e : Disk = mended d base area in
+        let a_none : copy_at reads d area_a ≡ None = under_none d area_a (header_of (d area_a)) first in
+        let b_none : copy_at reads d area_b ≡ None = under_none d area_b (header_of (d area_b)) second in
+        let a_then : copy_at reads e area_a ≡ None = under_none e area_a (header_of (e area_a)) (ap header_of (sym (mended_same area one area_a (inl refl))) ∙ first) in
+        let b_then : copy_at reads e area_b ≡ None = under_none e area_b (header_of (e area_b)) (ap header_of (sym (mended_same area one area_b (inr refl))) ∙ second) in
+        record {
+          disk = e;
+          among = mended_among slots d base area has mixed;
+          label = ap seen_in (sym (mended_out d base area 0 (label_out area one)));
+          copy = same_both d e (a_none ∙ sym a_then) (b_none ∙ sym b_then);
+        }
+
+    -- the headers stand as a crash may leave them
+    header_there : (area : ℕ) → IsHeaderBlock area → Mixed slots area d → (a : ℕ) → IsHeaderBlock a → slots a (d a)
+    header_there area one mixed a is = outside slots area a (d a) (head_out area a one is) (mixed a)
+
+    -- the body was written behind the greater header
+    module _ (area : ℕ) (one : IsHeaderBlock area) (mixed : Mixed slots area d) (g : AreaHeader) (top : IsTop d area g) where
+      abbrev stood : Disk
+      stood = mended d base area
+
+      stood_among : Among slots stood
+      stood_among = mended_among slots d base area has mixed
+
+      stood_top : IsTop stood area g
+      stood_top = mended_top area area g one one top
+
+      stood_copy : (x : Copy C) × (copy_at reads stood area ≡ Some x)
+      stood_copy = counts stood area g one stood_among stood_top
+
+      stood_serial : stood_copy.0.serial ≡ g.serial
+      stood_serial = serial_under stood area g stood_copy.0 stood_top.head stood_copy.1
+
+      -- with the same body it is the same copy
+      kept_copy : body_of d area g.length ≡ body_of stood area g.length → copy_at reads d area ≡ Some stood_copy.0
+      kept_copy same =
+          under_with d area g (header_of (d area)) top.head ∙ ap (copy_with reads area g) same ∙ sym (under_with stood area g (header_of (stood area)) stood_top.head) ∙ stood_copy.1
+
+      differs_copy : bytes_eq (digest_of (body_of d area g.length)) g.digest ≡ false
+          → copy_at reads d area ≡ Some (record { serial = g.serial; area = area; body = Differs g.digest (digest_of (body_of d area g.length)) })
+      differs_copy other =
+          under_with d area g (header_of (d area)) top.head ∙ ap (judged area g (body_of d area g.length) (reads (body_of d area g.length))) other
+
+      abbrev FromHeaders : List ℕ → List ℕ → Type 0
+      FromHeaders v w = slots area_a v × slots area_b w × (target_of (header_of v) (header_of w) ≡ area)
+
+      two_targets : (v w : List ℕ) → FromHeaders v w → TwoTargets slots
+      two_targets v w from = record {
+        one = d;
+        other = with_headers v w;
+        one_a = header_there area one mixed area_a (inl refl);
+        one_b = header_there area one mixed area_b (inr refl);
+        other_a = from.0;
+        other_b = from.1;
+        apart = λ same. top.kept (same ∙ from.2);
+      }
+
+      forged : (v w : List ℕ) → FromHeaders v w → digest_of (body_of d area g.length) ≡ g.digest → (body_of d area g.length ≡ body_of stood area g.length → ⊥) → Forged slots d
+      forged v w from digest changed =
+          record { area = area; header = g; top = top; disk = stood; among = stood_among; head = stood_top.head; digest = digest; targets = two_targets v w from; changed = changed }
+
+      torn : (v w : List ℕ) → FromHeaders v w → Broken reads stood_copy.0.serial d ⊎ Forged slots d → Torn reads slots d
+      torn v w from now = record {
+        disk = stood;
+        among = stood_among;
+        label = ap seen_in (sym (mended_out d base area 0 (label_out area one)));
+        was = stood_copy.0;
+        copy = top_copy stood area g stood_copy.0 one stood_top stood_copy.1;
+        most = λ x is. let le : x.serial ≤ g.serial = top_most d area g one top x is in omega (arith, le, stood_serial);
+        targets = two_targets v w from;
+        now = now;
+      }
+
+      torn_kind : (v w : List ℕ) → FromHeaders v w → Stands g.digest (body_of d area g.length) (body_of stood area g.length) → FromOld reads slots d ⊎ Torn reads slots d
+      torn_kind v w from (Otherwise other) =
+          let digest : List ℕ = digest_of (body_of d area g.length) in
+          inr (torn v w from (inl (record {
+            area = area;
+            stored = g.digest;
+            computed = digest;
+            copy = top_copy d area g (record { serial = g.serial; area = area; body = Differs g.digest digest }) one top (differs_copy other)
+                ∙ ap (λ (n : ℕ). Some (record { serial = n; area = area; body = Differs g.digest digest })) (sym stood_serial);
+          })))
+      torn_kind v w from (AsBefore same) = inl (record {
+        disk = stood;
+        among = stood_among;
+        label = ap seen_in (sym (mended_out d base area 0 (label_out area one)));
+        copy = top_copy d area g stood_copy.0 one top (kept_copy same) ∙ sym (top_copy stood area g stood_copy.0 one stood_top stood_copy.1);
+      })
+      torn_kind v w from (Changed digest changed) = inr (torn v w from (inr (forged v w from digest changed)))
+
+      torn_counts : (v w : List ℕ) → FromHeaders v w → Stands g.digest (body_of d area g.length) (body_of stood area g.length) → ((x : Copy C) × (copy_at reads d area ≡ Some x)) ⊎ Forged slots d
+      torn_counts v w from (Otherwise other) = inl (record { serial = g.serial; area = area; body = Differs g.digest (digest_of (body_of d area g.length)) }, differs_copy other)
+      torn_counts v w from (AsBefore same) = inl (stood_copy.0, kept_copy same)
+      torn_counts v w from (Changed digest changed) = inr (forged v w from digest changed)
+
+    kind_by : (area : ℕ) → IsHeaderBlock area → Mixed slots area d → (v w : List ℕ) → slots area_a v → slots area_b w → target_of (header_of v) (header_of w) ≡ area → Sent d area
+        → FromOld reads slots d ⊎ Torn reads slots d
+    kind_by area one mixed v w in_a in_b to (Here is) = inl (stays_by area (subst (Goes d) is (goes_where d (header_of (d area_a)) (header_of (d area_b)) refl refl)) mixed)
+    kind_by area one mixed v w in_a in_b to (Bare first second) = inl (bare_stays area one first second mixed)
+    kind_by area one mixed v w in_a in_b to (OnTop g top) =
+        torn_kind area one mixed g top v w (in_a, in_b, to) (stands_by g.digest (body_of d area g.length) (body_of (mended d base area) area g.length))
+
+    -- the copy is that of before, or the disk is torn, where the target was found by what a crash leaves in both headers
+    pub kind_mixed : (v w : List ℕ) → slots area_a v → slots area_b w → Mixed slots (target_of (header_of v) (header_of w)) d → FromOld reads slots d ⊎ Torn reads slots d
+    kind_mixed v w in_a in_b mixed =
         let area : ℕ = target_of (header_of v) (header_of w) in
         let one : IsHeaderBlock area = target_block (header_of v) (header_of w) in
-        let a_is : d area_a ≡ v = tidy.settled area_a (d area_a) v (inl refl) (outside slots area area_a (d area_a) (out_a area one) (mixed area_a)) in_a in
-        let b_is : d area_b ≡ w = tidy.settled area_b (d area_b) w (inr refl) (outside slots area area_b (d area_b) (out_b area one) (mixed area_b)) in_b in
-        stays_by area (goes_where d (header_of v) (header_of w) (ap header_of a_is) (ap header_of b_is)) mixed
-      where
-        out_a : (area : ℕ) → IsHeaderBlock area → (area_a ≤ area) ⊎ (area + 128 ≤ area_a)
-        out_a area (inl is) = inl (omega (arith, is))
-        out_a area (inr is) = inl (omega (arith, is))
+        kind_by area one mixed v w in_a in_b refl (sent_by d area (header_of (d area_a)) (header_of (d area_b)) refl refl one)
 
-        out_b : (area : ℕ) → IsHeaderBlock area → (area_b ≤ area) ⊎ (area + 128 ≤ area_b)
-        out_b area (inl is) = inr (omega (arith, is))
-        out_b area (inr is) = inl (omega (arith, is))
+    -- ---- what counts on such a disk
 
-  -- ---- what is ready for the next copy
+    abbrev EachCounts : Type 0
+    EachCounts = (a : ℕ) (h : AreaHeader) → IsHeaderBlock a → IsTop d a h → (x : Copy C) × (copy_at reads d a ≡ Some x)
 
-  -- a disk of those that are
-  pub tidy_one : (serial : ℕ) (slots : Slots) (d : Disk) → Tidy reads serial slots → Among slots d → Tidy reads serial (exactly d)
-  tidy_one serial slots d tidy among = record {
-    settled = λ a v w is in_v in_w. in_v ∙ sym in_w;
-    counts = λ e a h is same top. tidy.counts e a h is (λ b. subst (slots b) (sym (same b)) (among b)) top;
-    below = λ a v h is in_v head. tidy.below a v h is (subst (slots a) (sym in_v) (among a)) head;
-  }
-
-  head_out : (area a : ℕ) → IsHeaderBlock area → IsHeaderBlock a → (a ≤ area) ⊎ (area + 128 ≤ a)
-  head_out area a (inl one) (inl is) = inl (omega (arith, one, is))
-  head_out area a (inl one) (inr is) = inr (omega (arith, one, is))
-  head_out area a (inr one) is = ⊎_elim (λ (x : a ≡ area_a). inl (omega (arith, one, x))) (λ (x : a ≡ area_b). inl (omega (arith, one, x))) is
-
-  area_out : (area a b : ℕ) → IsHeaderBlock area → IsHeaderBlock a → (area ≡ a → ⊥) → a ≤ b → b ≤ a + 127 → (b ≤ area) ⊎ (area + 128 ≤ b)
-  area_out area a b (inl one) (inl is) apart low high = absurd (apart (one ∙ sym is))
-  area_out area a b (inl one) (inr is) apart low high = inr (omega (arith, one, is, low))
-  area_out area a b (inr one) (inl is) apart low high = inl (omega (arith, one, is, high))
-  area_out area a b (inr one) (inr is) apart low high = absurd (apart (one ∙ sym is))
-
-  -- and one of which the body of the lesser copy is written
-  module _ (serial : ℕ) (slots : Slots) (tidy : Tidy reads serial slots) (base : Disk) (has : Among slots base) (d : Disk) where
-    mixed_counts : (area : ℕ) → IsHeaderBlock area → target_of (header_of (d area_a)) (header_of (d area_b)) ≡ area → Mixed slots area d
-        → (a : ℕ) (h : AreaHeader) → IsHeaderBlock a → IsTop d a h → (x : Copy C) × (copy_at reads d a ≡ Some x)
+    mixed_counts : (area : ℕ) → IsHeaderBlock area → own_target d ≡ area → Mixed slots area d → EachCounts
     mixed_counts area one target mixed a h is top =
         let e : Disk = mended d base area in
         let apart : area ≡ a → ⊥ = λ same. top.kept (target ∙ same) in
-        let head : e a ≡ d a = mended_out d base area a (head_out area a one is) in
-        let first : e area_a ≡ d area_a = mended_out d base area area_a (head_out area area_a one (inl refl)) in
-        let second : e area_b ≡ d area_b = mended_out d base area area_b (head_out area area_b one (inr refl)) in
-        let same : target_of (header_of (e area_a)) (header_of (e area_b)) ≡ target_of (header_of (d area_a)) (header_of (d area_b)) =
-        ap (λ (v : List ℕ). target_of (header_of v) (header_of (e area_b))) first ∙ ap (λ (v : List ℕ). target_of (header_of (d area_a)) (header_of v)) second in
-        let found = tidy.counts e a h is (mended_among slots d base area has mixed) (record { head = ap header_of head ∙ top.head; kept = λ at. top.kept (sym same ∙ at) }) in
+        let found = counts e a h is (mended_among slots d base area has mixed) (mended_top area a h one is top) in
         (found.0, copy_at-same d e a (λ b low high. sym (mended_out d base area b (area_out area a b one is apart low high))) ∙ found.1)
 
-    pub stays_tidy : (v w : List ℕ) → slots area_a v → slots area_b w → Mixed slots (target_of (header_of v) (header_of w)) d → Tidy reads (serial + 1) (exactly d)
-    stays_tidy v w in_a in_b mixed = record {
-      settled = λ a x y is in_x in_y. in_x ∙ sym in_y;
-      counts = λ e a h is same top.
-          let first : e area_a ≡ d area_a = same area_a in
-          let second : e area_b ≡ d area_b = same area_b in
-          let alike_target : target_of (header_of (d area_a)) (header_of (d area_b)) ≡ target_of (header_of (e area_a)) (header_of (e area_b)) =
-          ap (λ (x : List ℕ). target_of (header_of x) (header_of (d area_b))) (sym first) ∙ ap (λ (x : List ℕ). target_of (header_of (e area_a)) (header_of x)) (sym second) in
-          let found = mixed_counts area one here mixed a h is (record { head = ap header_of (sym (same a)) ∙ top.head; kept = λ at. top.kept (sym alike_target ∙ at) }) in
-          (found.0, copy_at-same e d a (λ b low high. same b) ∙ found.1);
-      below = λ a x h is in_x head. let lt : h.serial < serial = tidy.below a x h is (subst (slots a) (sym in_x) (there a is)) head in omega (arith, lt);
-    }
-      where
-        area : ℕ
-        area = target_of (header_of v) (header_of w)
+    bare_counts : header_of (d area_a) ≡ None → header_of (d area_b) ≡ None → EachCounts
+    bare_counts first second a h (inl is) top = let none : None ≡ Some h = sym first ∙ ap (λ (b : ℕ). header_of (d b)) (sym is) ∙ top.head in absurd cc
+    bare_counts first second a h (inr is) top = let none : None ≡ Some h = sym second ∙ ap (λ (b : ℕ). header_of (d b)) (sym is) ∙ top.head in absurd cc
 
-        one : IsHeaderBlock area
-        one = target_block (header_of v) (header_of w)
+    top_counts : (area : ℕ) (g : AreaHeader) → IsHeaderBlock area → IsTop d area g → (x : Copy C) × (copy_at reads d area ≡ Some x) → EachCounts
+    top_counts area g one top found a h is other = let same : area ≡ a = one_top d area a g h one is top other in (found.0, ap (copy_at reads d) (sym same) ∙ found.1)
 
-        there : (a : ℕ) → IsHeaderBlock a → slots a (d a)
-        there a is = outside slots area a (d a) (head_out area a one is) (mixed a)
+    counts_by : (area : ℕ) → IsHeaderBlock area → Mixed slots area d → (v w : List ℕ) → slots area_a v → slots area_b w → target_of (header_of v) (header_of w) ≡ area → Sent d area → EachCounts ⊎ Forged slots d
+    counts_by area one mixed v w in_a in_b to (Here is) = inl (mixed_counts area one is mixed)
+    counts_by area one mixed v w in_a in_b to (Bare first second) = inl (bare_counts first second)
+    counts_by area one mixed v w in_a in_b to (OnTop g top) =
+        ⊎_elim (λ found. inl (top_counts area g one top found)) (λ false_body. inr false_body) (torn_counts area one mixed g top v w (in_a, in_b, to) (stands_by g.digest (body_of d area g.length) (body_of (mended d base area) area g.length)))
 
-        here : target_of (header_of (d area_a)) (header_of (d area_b)) ≡ area
-        here = ap (λ (x : List ℕ). target_of (header_of x) (header_of (d area_b))) (tidy.settled area_a (d area_a) v (inl refl) (there area_a (inl refl)) in_a)
-            ∙ ap (λ (x : List ℕ). target_of (header_of v) (header_of x)) (tidy.settled area_b (d area_b) w (inr refl) (there area_b (inr refl)) in_b)
+  -- ---- what is ready for the next copy
+
+  -- one disk, of which the greater header counts
+  pub exact_tidy : (serial : ℕ) (d : Disk) → ((a : ℕ) (h : AreaHeader) → IsHeaderBlock a → IsTop d a h → (x : Copy C) × (copy_at reads d a ≡ Some x))
+      → ((a : ℕ) (h : AreaHeader) → IsHeaderBlock a → header_of (d a) ≡ Some h → h.serial < serial) → Tidy reads serial (exactly d)
+  exact_tidy serial d each below = record {
+    fit = record {
+      counts = λ e a h is same top. let found = each a h is (top_same e d a h is (λ b block. same b) top) in (found.0, copy_at-same e d a (λ b low high. same b) ∙ found.1);
+      below = λ a v h is in_v head. below a h is (ap header_of (sym in_v) ∙ head);
+    };
+    goes = λ v w x y in_v in_w in_x in_y. ap (λ (t : List ℕ). target_of (header_of t) (header_of w)) (in_v ∙ sym in_x) ∙ ap (λ (t : List ℕ). target_of (header_of x) (header_of t)) (in_w ∙ sym in_y);
+  }
+
+  -- a disk of those that are
+  pub one_tidy : (serial : ℕ) (slots : Slots) (d : Disk) → Fit reads serial slots → Among slots d → Tidy reads serial (exactly d)
+  one_tidy serial slots d fit among = exact_tidy serial d (λ a h is top. fit.counts d a h is among top) (λ a h is head. fit.below a (d a) h is (among a) head)
+
+  -- and one of which the body of an area is written, unless the new body has the digest of the greater header
+  pub fit_mixed : (serial : ℕ) (slots : Slots) → Fit reads serial slots → (base : Disk) → Among slots base → (d : Disk) (v w : List ℕ) → slots area_a v → slots area_b w → Mixed slots (target_of (header_of v) (header_of w)) d
+      → Tidy reads (serial + 1) (exactly d) ⊎ Forged slots d
+  fit_mixed serial slots fit base has d v w in_a in_b mixed =
+      let area : ℕ = target_of (header_of v) (header_of w) in
+      let one : IsHeaderBlock area = target_block (header_of v) (header_of w) in
+      ⊎_elim (λ each. inl (exact_tidy (serial + 1) d each (λ a h is head.
+      let lt : h.serial < serial = fit.below a (d a) h is (outside slots area a (d a) (head_out area a one is) (mixed a)) head in omega (arith, lt)))) (λ false_body. inr false_body)
+      (counts_by slots fit.counts base has d area one mixed v w in_a in_b refl (sent_by d area (header_of (d area_a)) (header_of (d area_b)) refl refl one))
+
+  -- ---- no disk is torn where the next copy goes to one area
+
+  pub no_torn : (serial : ℕ) (slots : Slots) (d : Disk) → Tidy reads serial slots → Torn reads slots d → ⊥
+  no_torn serial slots d tidy torn =
+      let two = torn.targets in
+      two.apart (tidy.goes (two.one area_a) (two.one area_b) (two.other area_a) (two.other area_b) two.one_a two.one_b two.other_a two.other_b)
+
+  pub no_forged : (serial : ℕ) (slots : Slots) (d : Disk) → Tidy reads serial slots → Forged slots d → ⊥
+  no_forged serial slots d tidy forged =
+      let two = forged.targets in
+      two.apart (tidy.goes (two.one area_a) (two.one area_b) (two.other area_a) (two.other area_b) two.one_a two.one_b two.other_a two.other_b)
 
   -- ---- once the new header stands
 
-  -- two of which the one is less
-  greater_is_second : (m : ℕ) (o : Option (Copy C)) (y : Copy C) → ((x : Copy C) → o ≡ Some x → x.serial < y.serial) → greater o (Some y) ≡ Some y
-  greater_is_second m None y below = refl
-  greater_is_second m (Some x) y below = rw (lt-ltb x.serial y.serial (below x refl)) refl
-
-  greater_is_first : (x : Copy C) (o : Option (Copy C)) → ((y : Copy C) → o ≡ Some y → y.serial < x.serial) → greater (Some x) o ≡ Some x
+  pub greater_is_first : (x : Copy C) (o : Option (Copy C)) → ((y : Copy C) → o ≡ Some y → y.serial < x.serial) → greater (Some x) o ≡ Some x
   greater_is_first x None below = refl
   greater_is_first x (Some y) below = let le : y.serial ≤ x.serial = omega (arith, below y refl) in rw (le-ltb x.serial y.serial le) refl
-
-  -- a copy goes by a header of its serial
-  copy_header : (d : Disk) (area : ℕ) (o : Option AreaHeader) → header_of (d area) ≡ o → (x : Copy C) → copy_at reads d area ≡ Some x → (h : AreaHeader) × (header_of (d area) ≡ Some h) × (x.serial ≡ h.serial)
-  copy_header d area None head x is = let none : None ≡ Some x = sym (under_none d area (header_of (d area)) head) ∙ is in absurd cc
-  copy_header d area (Some h) head x is = (h, head, serial_under d area h x head is)
 
   judged_holds : (area : ℕ) (h : AreaHeader) (body : List ℕ) (c : C) (o : Option C) (b : Bool) → o ≡ Some c → b ≡ true → judged area h body o b ≡ Some (record { serial = h.serial; area = area; body = Holds c })
   judged_holds area h body c o b got same = rw (got, same) refl
@@ -326,11 +587,11 @@ module _ {C : Type 0} (reads : List ℕ → Option C) where
   under_holds d area h c o is digest got =
       rw is (judged_holds area h (body_of d area h.length) c (reads (body_of d area h.length)) (bytes_eq (digest_of (body_of d area h.length)) h.digest) got (alike (digest_of (body_of d area h.length)) h.digest digest))
 
-  module _ (serial : ℕ) (slots : Slots) (tidy : Tidy reads serial slots) (d : Disk) (h : AreaHeader) (c : C) (late : serial ≤ h.serial) where
+  module _ (serial : ℕ) (slots : Slots) (lower : Lower serial slots) (d : Disk) (h : AreaHeader) (c : C) (late : serial ≤ h.serial) where
     other_below : (area : ℕ) → IsHeaderBlock area → slots area (d area) → (x : Copy C) → copy_at reads d area ≡ Some x → x.serial < h.serial
     other_below area one is x has =
         let found = copy_header d area (header_of (d area)) refl x has in
-        let below : found.0.serial < serial = tidy.below area (d area) found.0 one is found.1 in
+        let below : found.0.serial < serial = lower area (d area) found.0 one is found.1 in
         let same : x.serial ≡ found.0.serial = found.2 in
         omega (arith, below, same, late)
 

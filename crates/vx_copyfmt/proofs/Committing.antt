@@ -8,7 +8,7 @@ use Rattle.vx_copyfmt.specs.declared.label.LabelSeen.{LabelSeen}
 use Rattle.vx_copyfmt.specs.declared.label.LabelSeen.TheVariants as seen
 use Rattle.vx_copyfmt.specs.Copies.{Copy, Body, Holds, Differs, copy_of}
 use Rattle.vx_copyfmt.specs.Imports.{Outcome, Found, Missing, NoConfig, Damaged, Format, is_label, strange_label, first_of, later, on_disk, strange, missing, or_missing, settle, by_body, by_newest, by_labels, newest, import_of}
-use Rattle.vx_copyfmt.specs.Commits.{FindsOld, FindsNew, Gives, Answers, Committed, IsGood, Written}
+use Rattle.vx_copyfmt.specs.Commits.{FindsOld, FindsNew, Gives, Answers, Committed, IsGood, Written, Spoilt}
 use Rattle.vx_copyfmt.proofs.Newest.{import_new, Below, BelowCopy, later_none, later_takes, later_keeps, below_later, below_on, later_either}
 
 -- ---- labels that are known
@@ -167,11 +167,19 @@ module _ {C : Type 0} (failed : C → ℕ → Bool) where
     abbrev out : Outcome C
     out = import_of reads failed units readable i
 
-    -- an import that can read the disk g, which has the new configuration, finds it; and what others find is no other one
-    pub commit_gives : (held : Option C) (begun : ℕ → C → Type 0) (leaves : Values) (g : ℕ) → g < units → failed f g ≡ false → IsGood failed held g → Committed reads failed units held leaves
+    -- an import that can read the disk g, which has the new configuration, finds it
+    pub front_gives : (g : ℕ) → g < units → failed f g ≡ false → readable g ≡ true → Gives f out
+    front_gives g lt good in_it = elim (tops units (omega arith)) [
+      | inl new ↦ subst (Gives f) (sym (import_new reads failed (λ s c. ⊥) serial (λ m c no. absurd no) units readable i new.0 (record { serial = serial; area = new.1; body = Holds f }) f no_labels new.2 refl)) (settle_gives units readable f)
+      | inr old ↦ let clash : false ≡ true = sym good ∙ old.1 g lt in_it in absurd cc
+    ]
+
+    -- and what others find is no other one, unless they are refused for a torn disk
+    pub commit_gives : (held : Option C) (begun : ℕ → C → Type 0) (disks : ℕ → Type 0) (leaves : Values) (g : ℕ) → g < units → failed f g ≡ false → IsGood failed held g → Committed reads failed units held leaves
         → ((s : ℕ) (c : C) → begun s c → failed c g ≡ false)
-        → FindsOld reads failed units leaves readable i ⊎ FindsNew reads failed begun units readable i → Gives f out
-    commit_gives held begun leaves g lt good was_good committed grows finds = by_read (readable g) refl
+        → FindsOld reads failed units leaves readable i ⊎ FindsNew reads failed begun units readable i ⊎ Spoilt reads failed disks units leaves readable i
+        → Gives f out ⊎ Spoilt reads failed disks units leaves readable i
+    commit_gives held begun disks leaves g lt good was_good committed grows finds = by_read (readable g) refl
       where
         old_found : (h : Option C) → IsGood failed h g → readable g ≡ false → (o : Outcome C) → Answers h o → ((c : C) → o ≡ Found c → failed c g ≡ false → readable g ≡ true) → Gives f o
         old_found None was not_read o answers wants = subst (Gives f) (sym answers) tt
@@ -182,12 +190,10 @@ module _ {C : Type 0} (failed : C → ℕ → Bool) where
         old_found (Some c) was not_read (Damaged d b s t) answers wants = absurd answers
         old_found (Some c) was not_read (Format v) answers wants = absurd answers
 
-        by_read : (b : Bool) → readable g ≡ b → Gives f out
-        by_read true in_it = elim (tops units (omega arith)) [
-          | inl new ↦ subst (Gives f) (sym (import_new reads failed (λ s c. ⊥) serial (λ m c no. absurd no) units readable i new.0 (record { serial = serial; area = new.1; body = Holds f }) f no_labels new.2 refl)) (settle_gives units readable f)
-          | inr old ↦ let clash : false ≡ true = sym good ∙ old.1 g lt in_it in absurd cc
-        ]
+        by_read : (b : Bool) → readable g ≡ b → Gives f out ⊎ Spoilt reads failed disks units leaves readable i
+        by_read true in_it = inl (front_gives g lt good in_it)
         by_read false not_read = elim finds [
-          | inl old ↦ subst (Gives f) (sym old.same) (old_found held was_good not_read (import_of reads failed units readable old.image) (committed.each old.image readable old.left) (found_wants reads units readable old.image g lt))
-          | inr new ↦ subst (Gives f) (sym new.found) (settle_misses units readable new.config f g lt (grows new.serial new.config new.made) not_read)
+          | inl old ↦ inl (subst (Gives f) (sym old.same) (old_found held was_good not_read (import_of reads failed units readable old.image) (committed.each old.image readable old.left) (found_wants reads units readable old.image g lt)))
+          | inr (inl new) ↦ inl (subst (Gives f) (sym new.found) (settle_misses units readable new.config f g lt (grows new.serial new.config new.made) not_read))
+          | inr (inr refused) ↦ inr refused
         ]

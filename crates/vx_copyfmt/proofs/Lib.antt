@@ -2,6 +2,8 @@ pub mod Told
 pub mod LabelLemmas
 pub mod AreaLemmas
 pub mod Areas
+pub mod Subs
 pub mod Bodies
 pub mod Newest
+pub mod Spoiling
 pub mod Committing

@@ -6,7 +6,7 @@ use Rattle.vx_disk.specs.Shelf.{Image, Values, Each}
 use Rattle.vx_copyfmt.specs.Labels.{seen_in}
 use Rattle.vx_copyfmt.specs.Copies.{Disk, Copy, Body, Holds, copy_of}
 use Rattle.vx_copyfmt.specs.Imports.{is_label, strange_label, first_of, later, on_disk, strange, settle, by_body, by_newest, by_labels, newest, import_of}
-use Rattle.vx_copyfmt.specs.Commits.{Slots, Among, FromOld, FromNew, Amid, FindsOld, FindsNew, Older}
+use Rattle.vx_copyfmt.specs.Commits.{Slots, Among, FromOld, FromNew, FindsOld, FindsNew, Older}
 
 -- ---- labels
 
@@ -59,6 +59,25 @@ module _ {C : Type 0} where
       by_test : (b : Bool) → nat_lt x.1.serial y.1.serial ≡ b → (later (Some x) (Some y) ≡ Some x) ⊎ (later (Some x) (Some y) ≡ Some y)
       by_test true e = inr (rw e refl)
       by_test false e = inl (rw e refl)
+
+-- ---- what is found hangs on the labels and the greatest copy
+
+module _ {C : Type 0} (reads : List ℕ → Option C) (failed : C → ℕ → Bool) where
+  pub same_import : (units : ℕ) (readable : ℕ → Bool) (i j : Image) → strange readable i units ≡ strange readable j units → newest reads readable i units ≡ newest reads readable j units
+      → import_of reads failed units readable i ≡ import_of reads failed units readable j
+  unfolding import_of
+  same_import units readable i j labels tops =
+      ap (λ (o : Option ℕ). by_labels o (by_newest failed units readable (newest reads readable i units))) labels
+      ∙ ap (λ (o : Option (ℕ × Copy C)). by_labels (strange readable j units) (by_newest failed units readable o)) tops
+
+  pub same_format : (units : ℕ) (readable : ℕ → Bool) (i j : Image) (v : ℕ) → strange readable i units ≡ Some v → strange readable j units ≡ Some v
+      → import_of reads failed units readable i ≡ import_of reads failed units readable j
+  unfolding import_of
+  same_format units readable i j v one two =
+      ap (λ (o : Option ℕ). by_labels o (by_newest failed units readable (newest reads readable i units))) one
+      ∙ sym (ap (λ (o : Option ℕ). by_labels o (by_newest failed units readable (newest reads readable j units))) two)
+
+-- ---- copies that were made since
 
 -- a copy that was made since
 pub record IsMade {C : Type 0} (begun : ℕ → C → Type 0) (x : Copy C) : Type 0 where
@@ -130,20 +149,6 @@ module _ {C : Type 0} (reads : List ℕ → Option C) (failed : C → ℕ → Bo
       below_old (Some x) is p same old among = old.below (j n) x among (sym same)
 
   -- what is found follows
-  import_old : (units : ℕ) (readable : ℕ → Bool) (i j : Image) → strange readable i units ≡ strange readable j units → newest reads readable i units ≡ newest reads readable j units
-      → import_of reads failed units readable i ≡ import_of reads failed units readable j
-  unfolding import_of
-  import_old units readable i j labels tops =
-      ap (λ (o : Option ℕ). by_labels o (by_newest failed units readable (newest reads readable i units))) labels
-      ∙ ap (λ (o : Option (ℕ × Copy C)). by_labels (strange readable j units) (by_newest failed units readable o)) tops
-
-  import_format : (units : ℕ) (readable : ℕ → Bool) (i j : Image) (v : ℕ) → strange readable i units ≡ Some v → strange readable j units ≡ Some v
-      → import_of reads failed units readable i ≡ import_of reads failed units readable j
-  unfolding import_of
-  import_format units readable i j v one two =
-      ap (λ (o : Option ℕ). by_labels o (by_newest failed units readable (newest reads readable i units))) one
-      ∙ sym (ap (λ (o : Option ℕ). by_labels o (by_newest failed units readable (newest reads readable j units))) two)
-
   pub import_new : (units : ℕ) (readable : ℕ → Bool) (i : Image) (u : ℕ) (x : Copy C) (c : C) → strange readable i units ≡ None → newest reads readable i units ≡ Some (u, x) → x.body ≡ Holds c
       → import_of reads failed units readable i ≡ settle failed units readable c
   unfolding import_of
@@ -174,7 +179,7 @@ module _ {C : Type 0} (reads : List ℕ → Option C) (failed : C → ℕ → Bo
     copies = inr (record { serial = new.serial; area = new.area; body = Holds new.config }, record { serial = new.serial; config = new.config; area = new.area; made = new.made; is = refl }, new.copy);
   }
 
-  module _ (units : ℕ) (leaves : Values) (i base : Image) (amid : Amid reads begun units leaves i) (has : Each leaves base) (outside : (u b : ℕ) → units ≤ u → leaves u b (i u b)) where
+  module _ (units : ℕ) (leaves : Values) (i base : Image) (amid : (u : ℕ) → u < units → FromOld reads (leaves u) (i u) ⊎ FromNew reads begun (leaves u) (i u)) (has : Each leaves base) (outside : (u b : ℕ) → units ≤ u → leaves u b (i u b)) where
     abbrev at_disk : (u : ℕ) → (u < units) ⊎ (units ≤ u) → Disk
     at_disk u (inl lt) = chosen (leaves u) (i u) (base u) (amid u lt)
     at_disk u (inr le) = i u
@@ -205,9 +210,9 @@ module _ {C : Type 0} (reads : List ℕ → Option C) (failed : C → ℕ → Bo
         left u = at_among u (cases_lt u units)
 
         by_version : (o : Option ℕ) → strange readable i units ≡ o → FindsOld reads failed units leaves readable i ⊎ FindsNew reads failed begun units readable i
-        by_version (Some v) is = inl (record { image = before; left = left; same = import_format units readable i before v is (sym labels ∙ is) })
+        by_version (Some v) is = inl (record { image = before; left = left; same = same_format reads failed units readable i before v is (sym labels ∙ is) })
         by_version None is = elim (tops readable leaves i before units older alike) [
-          | inl old ↦ inl (record { image = before; left = left; same = import_old units readable i before labels old.0 })
+          | inl old ↦ inl (record { image = before; left = left; same = same_import reads failed units readable i before labels old.0 })
           | inr new ↦ inr (record {
             serial = new.2.serial;
             config = new.2.config;

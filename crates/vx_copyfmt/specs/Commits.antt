@@ -1,8 +1,9 @@
 -- What a commit makes of the disks, and what a crash at any moment of it leaves.
 use Rattle.std.specs.Prelude.{◌≡◌, ◌⊎◌, ℕ, ◌+◌, ◌<◌, ◌≤◌, Bool, true, false, nat_lt, if◌then◌else◌, Option, Some, None, List}
 use Rattle.vx_disk.specs.Shelf.{Image, Values, Each}
+use Rattle.vx_wire.specs.Seals.{digest_of}
 use Rattle.vx_copyfmt.specs.Areas.{header_of}
-use Rattle.vx_copyfmt.specs.Copies.{Disk, Copy, Holds, area_a, area_b, copy_at, copy_of}
+use Rattle.vx_copyfmt.specs.Copies.{Disk, Copy, Holds, Differs, area_a, area_b, body_of, copy_at, copy_of}
 use Rattle.vx_copyfmt.specs.Imports.{Outcome, Found, Missing, NoConfig, Damaged, Format, import_of, settle}
 use Rattle.vx_copyfmt.specs.Labels.{seen_in}
 use Rattle.vx_copyfmt.specs.declared.area.AreaHeader.{AreaHeader}
@@ -34,12 +35,33 @@ pub record IsTop (d : Disk) (a : ℕ) (h : AreaHeader) : Type 0 where
   pub head : header_of (d a) ≡ Some h
   pub kept : target_of (header_of (d area_a)) (header_of (d area_b)) ≡ a → ⊥
 
--- the header of a disk in each area has one value, with a serial below this one; and the greater one counts: its body is a configuration or
--- has another digest
+-- no header that a crash may leave on the disk has this serial or a greater one
+abbrev pub Lower : ℕ → Slots → Type 0
+Lower serial slots = (a : ℕ) (v : List ℕ) (h : AreaHeader) → IsHeaderBlock a → slots a v → header_of v ≡ Some h → h.serial < serial
+
+-- whatever a crash leaves of the disk, the greater header counts: its body is a configuration or has another digest
+abbrev pub Counts : {C : Type 0} → (List ℕ → Option C) → Slots → Type 0
+Counts {C} reads slots = (d : Disk) (a : ℕ) (h : AreaHeader) → IsHeaderBlock a → Among slots d → IsTop d a h → (x : Copy C) × (copy_at reads d a ≡ Some x)
+
+-- the disk is ready for a copy with this serial
+pub record Fit {C : Type 0} (reads : List ℕ → Option C) (serial : ℕ) (slots : Slots) : Type 0 where
+  pub counts : Counts reads slots
+  pub below : Lower serial slots
+
+-- and whatever a crash leaves of both headers, it goes to the same area
 pub record Tidy {C : Type 0} (reads : List ℕ → Option C) (serial : ℕ) (slots : Slots) : Type 0 where
-  pub settled : (a : ℕ) (v w : List ℕ) → IsHeaderBlock a → slots a v → slots a w → v ≡ w
-  pub counts : (d : Disk) (a : ℕ) (h : AreaHeader) → IsHeaderBlock a → Among slots d → IsTop d a h → (x : Copy C) × (copy_at reads d a ≡ Some x)
-  pub below : (a : ℕ) (v : List ℕ) (h : AreaHeader) → IsHeaderBlock a → slots a v → header_of v ≡ Some h → h.serial < serial
+  pub fit : Fit reads serial slots
+  pub goes : (v w x y : List ℕ) → slots area_a v → slots area_b w → slots area_a x → slots area_b y → target_of (header_of v) (header_of w) ≡ target_of (header_of x) (header_of y)
+
+-- it goes to the one area or to the other, by which values of both headers a crash leaves; so one of them has two
+pub record TwoTargets (slots : Slots) : Type 0 where
+  pub one : Disk
+  pub other : Disk
+  pub one_a : slots area_a (one area_a)
+  pub one_b : slots area_b (one area_b)
+  pub other_a : slots area_a (other area_a)
+  pub other_b : slots area_b (other area_b)
+  pub apart : target_of (header_of (one area_a)) (header_of (one area_b)) ≡ target_of (header_of (other area_a)) (header_of (other area_b)) → ⊥
 
 -- every block but those of a body in this area has one of its values
 abbrev pub Mixed : Slots → ℕ → Disk → Type 0
@@ -63,9 +85,40 @@ pub record FromNew {C : Type 0} (reads : List ℕ → Option C) (begun : ℕ →
   pub label : seen_in (d 0) ≡ seen_in first
   pub copy : copy_of reads d ≡ Some (record { serial = serial; area = area; body = Holds config })
 
--- each disk below n is one or the other
-abbrev pub Amid : {C : Type 0} → (List ℕ → Option C) → (ℕ → C → Type 0) → ℕ → Values → Image → Type 0
-Amid reads begun n leaves i = (u : ℕ) → u < n → FromOld reads (leaves u) (i u) ⊎ FromNew reads begun (leaves u) (i u)
+-- the body behind the greater header has the digest of the header, and is not the one that stood there before
+pub record Forged (slots : Slots) (d : Disk) : Type 0 where
+  pub area : ℕ
+  pub header : AreaHeader
+  pub top : IsTop d area header
+  pub disk : Disk
+  pub among : Among slots disk
+  pub head : header_of (disk area) ≡ Some header
+  pub digest : digest_of (body_of d area header.length) ≡ header.digest
+  pub targets : TwoTargets slots
+  pub changed : body_of d area header.length ≡ body_of disk area header.length → ⊥
+
+-- the greater copy of the disk has another digest than its header
+pub record Broken {C : Type 0} (reads : List ℕ → Option C) (serial : ℕ) (d : Disk) : Type 0 where
+  pub area : ℕ
+  pub stored : List ℕ
+  pub computed : List ℕ
+  pub copy : copy_of reads d ≡ Some (record { serial = serial; area = area; body = Differs stored computed })
+
+-- The disk is one that a crash before the call might have left, but that a body was written into the area of its greater copy: the headers
+-- said of two areas that it was that of the lesser one. This is seen by the digest, unless the body that came of it has that of its header.
+pub record Torn {C : Type 0} (reads : List ℕ → Option C) (slots : Slots) (d : Disk) : Type 0 where
+  pub disk : Disk
+  pub among : Among slots disk
+  pub label : seen_in (d 0) ≡ seen_in (disk 0)
+  pub was : Copy C
+  pub copy : copy_of reads disk ≡ Some was
+  pub most : (x : Copy C) → copy_of reads d ≡ Some x → x.serial ≤ was.serial
+  pub targets : TwoTargets slots
+  pub now : Broken reads was.serial d ⊎ Forged slots d
+
+-- each disk below n is one or the other, or, where it is one of these, torn
+abbrev pub Amid : {C : Type 0} → (List ℕ → Option C) → (ℕ → C → Type 0) → (ℕ → Type 0) → ℕ → Values → Image → Type 0
+Amid reads begun disks n leaves i = (u : ℕ) → u < n → FromOld reads (leaves u) (i u) ⊎ FromNew reads begun (leaves u) (i u) ⊎ (disks u × Torn reads (leaves u) (i u))
 
 -- an import finds what it might have found before the call
 pub record FindsOld {C : Type 0} (reads : List ℕ → Option C) (failed : C → ℕ → Bool) (units : ℕ) (leaves : Values) (readable : ℕ → Bool) (i : Image) : Type 0 where
@@ -79,6 +132,24 @@ pub record FindsNew {C : Type 0} (reads : List ℕ → Option C) (failed : C →
   pub config : C
   pub made : begun serial config
   pub found : import_of reads failed units readable i ≡ settle failed units readable config
+
+-- the disk is damaged, as an import found it
+abbrev pub NamesDamaged : {C : Type 0} → ℕ → Outcome C → Type 0
+NamesDamaged u (Found x) = ⊥
+NamesDamaged u (Missing disk) = ⊥
+NamesDamaged u NoConfig = ⊥
+NamesDamaged u (Damaged disk block stored computed) = disk ≡ u
+NamesDamaged u (Format version) = ⊥
+
+-- An import reads one of these disks, and its greater copy is torn: the import is refused with 22 for it, unless the torn body has the digest
+-- of its header.
+pub record Spoilt {C : Type 0} (reads : List ℕ → Option C) (failed : C → ℕ → Bool) (disks : ℕ → Type 0) (units : ℕ) (leaves : Values) (readable : ℕ → Bool) (i : Image) : Type 0 where
+  pub disk : ℕ
+  pub below : disk < units
+  pub is : disks disk
+  pub read : readable disk ≡ true
+  pub torn : Torn reads (leaves disk) (i disk)
+  pub how : NamesDamaged disk (import_of reads failed units readable i) ⊎ Forged (leaves disk) (i disk)
 
 -- no copy that a crash may leave on the disk has this serial or a greater one
 pub record Older {C : Type 0} (reads : List ℕ → Option C) (serial : ℕ) (slots : Slots) : Type 0 where

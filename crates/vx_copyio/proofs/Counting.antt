@@ -1,10 +1,10 @@
 -- What is said of copies whose bodies are kept as they are, said of the same copies with their bodies read.
-use Rattle.std.proofs.Common.{◌≡◌, ℕ, Bool, true, false, Option, Some, None, List, take, refl, ap, sym, ◌∙◌}
+use Rattle.std.proofs.Common.{◌≡◌, inl, inr, ℕ, ◌≤◌, Bool, true, false, Option, Some, None, List, take, refl, ap, sym, subst, ◌∙◌, arith}
 use Rattle.std.specs.Prelude.{nat_lt, bytes_eq, is_some, if◌then◌else◌}
 use Rattle.vx_wire.specs.Seals.{digest_of}
 use Rattle.vx_copyfmt.specs.Areas.{header_of}
 use Rattle.vx_copyfmt.specs.Copies.{Disk, Body, Holds, Differs, Copy, area_a, area_b, body_of, greater, judged, copy_under, copy_at, copy_of}
-use Rattle.vx_copyfmt.specs.Commits.{FromNew, FromOld, Slots, Tidy}
+use Rattle.vx_copyfmt.specs.Commits.{Broken, Counts, Fit, FromNew, FromOld, Slots, Tidy, Torn}
 use Rattle.vx_copyfmt.specs.declared.area.AreaHeader.{AreaHeader}
 use Rattle.vx_copyio.specs.Putting.{IsMade, those}
 
@@ -66,6 +66,18 @@ module _ {C : Type 0} (reads : List ℕ → Option C) where
       ∙ ap (λ (r : Option (Copy C)). greater r (as_read (copy_at (those counts) d area_b))) (same_at d area_a)
       ∙ ap (λ (r : Option (Copy C)). greater (copy_at reads d area_a) r) (same_at d area_b)
 
+  kept_greater : (o p : Option (Copy (List ℕ))) → Kept o → Kept p → Kept (greater o p)
+  kept_greater None p one two = two
+  kept_greater (Some x) None one two = one
+  kept_greater (Some x) (Some z) one two = by_order (nat_lt x.serial z.serial)
+    where
+      by_order : (b : Bool) → Kept (if b then Some z else Some x)
+      by_order true = two
+      by_order false = one
+
+  kept_of : (d : Disk) → Kept (copy_of (those counts) d)
+  kept_of d = kept_greater (copy_at (those counts) d area_a) (copy_at (those counts) d area_b) (kept_at d area_a) (kept_at d area_b)
+
   -- a copy that counts is one of those, and back
   back_at : (o : Option (Copy (List ℕ))) (y : Copy C) → as_read o ≡ Some y → (x : Copy (List ℕ)) × (o ≡ Some x)
   back_at None y is = absurd cc
@@ -75,24 +87,25 @@ module _ {C : Type 0} (reads : List ℕ → Option C) where
   forth_at None x kept is = absurd cc
   forth_at (Some z) x (y, reads_y, same) is = (y, reads_y)
 
-  pub tidy_bytes : (serial : ℕ) (slots : Slots) → Tidy reads serial slots → Tidy (those counts) serial slots
-  tidy_bytes serial slots tidy = record {
-    settled = tidy.settled;
-    counts = λ d a h is among head.
-        let there = tidy.counts d a h is among head in
-        back_at (copy_at (those counts) d a) there.0 (same_at d a ∙ there.1);
-    below = tidy.below;
-  }
+  pub counts_bytes : (slots : Slots) → Counts reads slots → Counts (those counts) slots
+  counts_bytes slots all d a h is among top =
+      let there = all d a h is among top in
+      back_at (copy_at (those counts) d a) there.0 (same_at d a ∙ there.1)
+
+  pub counts_read : (slots : Slots) → Counts (those counts) slots → Counts reads slots
+  counts_read slots all d a h is among top =
+      let there = all d a h is among top in
+      let found = forth_at (copy_at (those counts) d a) there.0 (kept_at d a) there.1 in
+      (found.0, sym (same_at d a) ∙ found.1)
+
+  pub fit_bytes : (serial : ℕ) (slots : Slots) → Fit reads serial slots → Fit (those counts) serial slots
+  fit_bytes serial slots fit = record { counts = counts_bytes slots fit.counts; below = fit.below }
+
+  pub fit_read : (serial : ℕ) (slots : Slots) → Fit (those counts) serial slots → Fit reads serial slots
+  fit_read serial slots fit = record { counts = counts_read slots fit.counts; below = fit.below }
 
   pub tidy_read : (serial : ℕ) (slots : Slots) → Tidy (those counts) serial slots → Tidy reads serial slots
-  tidy_read serial slots tidy = record {
-    settled = tidy.settled;
-    counts = λ d a h is among head.
-        let there = tidy.counts d a h is among head in
-        let found = forth_at (copy_at (those counts) d a) there.0 (kept_at d a) there.1 in
-        (found.0, sym (same_at d a) ∙ found.1);
-    below = tidy.below;
-  }
+  tidy_read serial slots tidy = record { fit = fit_read serial slots tidy.fit; goes = tidy.goes }
 
   pub old_read : (slots : Slots) (d : Disk) → FromOld (those counts) slots d → FromOld reads slots d
   old_read slots d from = record {
@@ -101,6 +114,40 @@ module _ {C : Type 0} (reads : List ℕ → Option C) where
     label = from.label;
     copy = sym (same_copy d) ∙ ap (λ (o : Option (Copy (List ℕ))). as_read o) from.copy ∙ same_copy from.disk;
   }
+
+  -- a copy that is read is read from one with its serial
+  read_from : (o : Option (Copy (List ℕ))) (y : Copy C) → Kept o → as_read o ≡ Some y → (x : Copy (List ℕ)) × (o ≡ Some x) × (y.serial ≡ x.serial)
+  read_from None y kept is = absurd cc
+  read_from (Some x) y (z, reads_z, same) is = (x, refl, some_serial (sym is ∙ reads_z) ∙ same)
+    where
+      some_serial : {v w : Copy C} → Some v ≡ Some w → v.serial ≡ w.serial
+      some_serial both = cc
+
+  broken_read : (m n : ℕ) (d : Disk) → m ≡ n → Broken (those counts) n d → Broken reads m d
+  broken_read m n d same broken = record {
+    area = broken.area;
+    stored = broken.stored;
+    computed = broken.computed;
+    copy = sym (same_copy d) ∙ ap (λ (o : Option (Copy (List ℕ))). as_read o) broken.copy
+        ∙ ap (λ (k : ℕ). Some (record { serial = k; area = broken.area; body = Differs broken.stored broken.computed })) (sym same);
+  }
+
+  pub torn_read : (slots : Slots) (d : Disk) → Torn (those counts) slots d → Torn reads slots d
+  torn_read slots d torn =
+      let kept : Kept (Some torn.was) = subst (λ (o : Option (Copy (List ℕ))). Kept o) torn.copy (kept_of torn.disk) in
+      record {
+        disk = torn.disk;
+        among = torn.among;
+        label = torn.label;
+        was = kept.0;
+        copy = sym (same_copy torn.disk) ∙ ap (λ (o : Option (Copy (List ℕ))). as_read o) torn.copy ∙ kept.1;
+        most = λ y is.
+            let found = read_from (copy_of (those counts) d) y (kept_of d) (same_copy d ∙ is) in
+            let le : found.0.serial ≤ torn.was.serial = torn.most found.0 found.1 in
+            omega (arith, le, found.2, kept.2);
+        targets = torn.targets;
+        now = elim torn.now [ inl broken ↦ inl (broken_read kept.0.serial torn.was.serial d kept.2 broken) | inr forged ↦ inr forged ];
+      }
 
   pub new_read : (begun : ℕ → C → Type 0) (h : AreaHeader) (body : List ℕ) (c : C) (slots : Slots) (d : Disk) → reads (take h.length body) ≡ Some c → begun h.serial c
       → FromNew (those counts) (IsMade h body) slots d → FromNew reads begun slots d

@@ -31,8 +31,8 @@ module _ (h : AreaHeader) (body : List ℕ) (one two : ℕ → Type 0) (apart : 
       along = record {
         each = λ t i le left. elim (more.moves.since t i (omega (arith, le, copied.moves.later)) left) [
           | inl was ↦ first_ordered.along.each t i le was
-          | inr now ↦ inr (inr (λ u first. record { each = λ counts tidy counted. (all.each u first).each counts (i u) tidy counted (λ b. after_one u b (i u b) first (now.0 u b)) }))
+          | inr now ↦ inr (inr (λ u first. record { each = λ counts lower counted. (all.each u first).each counts (i u) lower counted (λ b. after_one u b (i u b) first (now.0 u b)) }))
         ];
       };
-      now = λ i left. inr (λ u first. record { each = λ counts tidy counted. (all.each u first).each counts (i u) tidy counted (λ b. after_one u b (i u b) first (more.moves.leaves u b (i u b) (left u b))) });
+      now = λ i left. inr (λ u first. record { each = λ counts lower counted. (all.each u first).each counts (i u) lower counted (λ b. after_one u b (i u b) first (more.moves.leaves u b (i u b) (left u b))) });
     }

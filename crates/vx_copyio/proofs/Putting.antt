@@ -1,5 +1,5 @@
 -- The calls that write a copy, one after the other.
-use Rattle.std.proofs.Common.{◌≡◌, ◌⊎◌, inl, inr, ⊎_elim, ℕ, ◌+◌, ◌≤◌, Bool, true, false, IsTrue, IsFalse, Option, List, length, take, refl, ap, sym, subst, ◌∙◌, arith}
+use Rattle.std.proofs.Common.{◌≡◌, ◌⊎◌, inl, inr, ⊎_elim, ℕ, ◌+◌, ◌<◌, ◌≤◌, Bool, true, false, IsTrue, IsFalse, Some, List, length, take, refl, ap, sym, subst, ◌∙◌, arith}
 use Rattle.vx_wire.specs.Seals.{digest_of}
 use Rattle.vx_wire.proofs.SealLemmas.{length-digest_of}
 use Rattle.vx_disk.specs.Shelf.{Meaning, Lawful, Covers, Written, Nothing, Goes, KeepsAll, Read, piece}
@@ -8,12 +8,13 @@ use Rattle.vx_disk.proofs.Moving.{of_goes, then_goes}
 use Rattle.vx_disk.proofs.Runs.{at_rest, covers_one, piece_one, KeepsAll_one}
 use Rattle.vx_copyfmt.specs.Areas.{CanSpellArea, area_block, header_of}
 use Rattle.vx_copyfmt.specs.Copies.{Disk, area_a, area_b}
-use Rattle.vx_copyfmt.specs.Commits.{Among, IsHeaderBlock, Mixed, Slots, Tidy, exactly, target_of}
+use Rattle.vx_copyfmt.specs.Commits.{Among, IsHeaderBlock, Mixed, exactly, target_of}
 use Rattle.vx_copyfmt.specs.declared.area.AreaHeader.{AreaHeader}
 use Rattle.vx_copyfmt.proofs.AreaLemmas.{length-area_block}
-use Rattle.vx_copyfmt.proofs.Areas.{stays, stays_tidy, tidy_one}
+use Rattle.vx_copyfmt.proofs.Areas.{fit_mixed, kind_mixed, one_tidy}
+use Rattle.vx_copyfmt.proofs.Subs.{lower_more, lower_sub, tidy_more}
 use Rattle.vx_copyio.specs.Putting.{InImage, IsTarget, LeavesNew, LeavesOldOrNew, OldOrNew, those}
-use Rattle.vx_copyio.proofs.Slots.{FillsBlocks, Landed, landed_new, landed_tidy, new_copy}
+use Rattle.vx_copyio.proofs.Slots.{FillsBlocks, Landed, head_is, landed_new, landed_tidy, new_copy}
 
 -- ---- headers that were read
 
@@ -40,18 +41,18 @@ target_is disk first second old mid lawful lawful_mid long wide goes one two = r
 
 -- ---- what stays
 
-pub tidy_more : (reads : List ℕ → Option (List ℕ)) (serial : ℕ) (slots : Slots) → Tidy reads serial slots → Tidy reads (serial + 1) slots
-tidy_more reads serial slots tidy = record {
-  settled = tidy.settled;
-  counts = tidy.counts;
-  below = λ a v head is in_v is_head. omega (arith, tidy.below a v head is in_v is_head);
-}
-
 -- a disk of before
 pub as_old : (disk : ℕ) (h : AreaHeader) (body : List ℕ) (m : Meaning) (d : Disk) → Among (m.leaves disk) d → OldOrNew disk h body m d
 as_old disk h body m d among = record {
-  each = λ counts tidy counted. inl (record { disk = d; among = among; label = refl; copy = refl });
-  fit = λ counts tidy counted. tidy_more (those counts) h.serial (exactly d) (tidy_one (those counts) h.serial (m.leaves disk) d tidy among);
+  each = λ counts fit counted. inl (record { disk = d; among = among; label = refl; copy = refl });
+  fit = λ counts fit counted. inl (tidy_more (those counts) h.serial (h.serial + 1) (exactly d) (omega arith) (one_tidy (those counts) h.serial (m.leaves disk) d fit among));
+}
+
+-- whatever a crash leaves of a disk that did not change
+pub as_before : (disk : ℕ) (h : AreaHeader) (body : List ℕ) (old new : Meaning) → ((b : ℕ) (v : List ℕ) → new.leaves disk b v → old.leaves disk b v) → LeavesOldOrNew disk h body old new
+as_before disk h body old new sub = record {
+  each = λ d among. as_old disk h body old d (λ b. sub b (d b) (among b));
+  lower = λ lower. lower_more h.serial (h.serial + 1) (new.leaves disk) (omega arith) (lower_sub (old.leaves disk) (new.leaves disk) sub h.serial lower);
 }
 
 -- nothing was written
@@ -61,7 +62,7 @@ read_moves disk h body old new goes =
     (λ i each. as_old disk h body old (i disk) (λ b. at_rest old disk b (i disk b) (each disk b)))
 
 pub read_leaves : (disk : ℕ) (h : AreaHeader) (body : List ℕ) (old new : Meaning) → Goes Nothing old new → LeavesOldOrNew disk h body old new
-read_leaves disk h body old new goes = record { each = λ d among. as_old disk h body old d (λ b. still_left old new goes disk b (d b) (among b)) }
+read_leaves disk h body old new goes = as_before disk h body old new (λ b v left. still_left old new goes disk b v left)
 
 -- one that tells nothing leaves nothing
 tells_of : (m : Meaning) → Lawful m → (u b : ℕ) (v : List ℕ) → m.leaves u b v → IsTrue m.tells
@@ -102,15 +103,19 @@ module _ (disk area : ℕ) (h : AreaHeader) (body : List ℕ) (can : CanSpellAre
       let at = head_only u b v written in
       record { there = at.0; first = ⊎_elim (λ is. omega (arith, at.1, is)) (λ is. omega (arith, at.1, is)) one; last = ⊎_elim (λ is. omega (arith, at.1, is)) (λ is. omega (arith, at.1, is)) one }
 
-  low_zero : Run disk (area + 1) 127 disk 0 → ⊥
-  low_zero run = omega (arith, run.first)
+  -- no block of the body is the header of an area
+  no_other : (k : ℕ) → IsHeaderBlock k → area + 1 ≤ k → k ≤ area + 127 → ⊥
+  no_other k is_k low high = ⊎_elim
+      (λ (x : k ≡ area_a). ⊎_elim (λ (y : area ≡ area_a). omega (arith, x, y, low)) (λ (y : area ≡ area_b). omega (arith, x, y, low)) one)
+      (λ (x : k ≡ area_b). ⊎_elim (λ (y : area ≡ area_a). omega (arith, x, y, high)) (λ (y : area ≡ area_b). omega (arith, x, y, low)) one) is_k
 
   -- a disk of which only body blocks are other ones
   mixed_old : (d : Disk) → Mixed (old.leaves disk) area d → OldOrNew disk h body old d
   mixed_old d mixed = record {
-    each = λ counts tidy counted. inl (stays (those counts) h.serial (old.leaves disk) tidy (λ b. (a_disk old lawful tells disk b).0) (λ b. (a_disk old lawful tells disk b).1) d
+    each = λ counts fit counted. ⊎_elim (λ from. inl from) (λ torn. inr (inr torn))
+        (kind_mixed (those counts) (old.leaves disk) fit.counts (λ b. (a_disk old lawful tells disk b).0) (λ b. (a_disk old lawful tells disk b).1) d
         target.first target.second (target.in_a tells) (target.in_b tells) (subst (λ (k : ℕ). Mixed (old.leaves disk) k d) target.is mixed));
-    fit = λ counts tidy counted. stays_tidy (those counts) h.serial (old.leaves disk) tidy (λ b. (a_disk old lawful tells disk b).0) (λ b. (a_disk old lawful tells disk b).1) d
+    fit = λ counts fit counted. fit_mixed (those counts) h.serial (old.leaves disk) fit (λ b. (a_disk old lawful tells disk b).0) (λ b. (a_disk old lawful tells disk b).1) d
         target.first target.second (target.in_a tells) (target.in_b tells) (subst (λ (k : ℕ). Mixed (old.leaves disk) k d) target.is mixed);
   }
     where
@@ -126,12 +131,19 @@ module _ (disk area : ℕ) (h : AreaHeader) (body : List ℕ) (can : CanSpellAre
   -- ---- the body is written
 
   module _ (mid : Meaning) (goes : Goes (Written disk (area + 1) body) old mid) where
+    -- both headers are as they were
+    head_old : (a : ℕ) (v : List ℕ) → IsHeaderBlock a → mid.leaves disk a v → old.leaves disk a v
+    head_old a v is left = ⊎_elim (λ was. was) (λ put. let in_it = in_body disk a v put in absurd (no_other a is in_it.0 in_it.1)) (goes.leaves disk a v left)
+
     pub body_moves : Moves (Run disk 1 256) (InImage disk h body old) old mid
     body_moves = of_goes (Run disk 1 256) (InImage disk h body old) (Written disk (area + 1) body) old mid goes body_run
         (λ i each. mixed_old (i disk) (body_mixed old (i disk) (λ b. each disk b)))
 
     pub body_leaves : LeavesOldOrNew disk h body old mid
-    body_leaves = record { each = λ d among. mixed_old d (body_mixed old d (λ b. goes.leaves disk b (d b) (among b))) }
+    body_leaves = record {
+      each = λ d among. mixed_old d (body_mixed old d (λ b. goes.leaves disk b (d b) (among b)));
+      lower = λ lower a v g is left head. omega (arith, lower a v g is (head_old a v is left) head);
+    }
 
     -- ---- and its header
 
@@ -147,12 +159,7 @@ module _ (disk area : ℕ) (h : AreaHeader) (body : List ℕ) (can : CanSpellAre
           out_of b apart out = ⊎_elim (λ was. was) (λ put. absurd (out (in_body disk b (d b) put))) (goes.leaves disk b (d b) (at_mid b apart))
 
           other_head : (a : ℕ) → IsHeaderBlock a → (a ≡ area → ⊥) → old.leaves disk a (d a)
-          other_head a is apart = out_of a apart (λ in_it. apart (no_other a is in_it.0 in_it.1))
-            where
-              no_other : (k : ℕ) → IsHeaderBlock k → area + 1 ≤ k → k ≤ area + 127 → k ≡ area
-              no_other k is_k low high = ⊎_elim
-                  (λ (x : k ≡ area_a). ⊎_elim (λ (y : area ≡ area_a). x ∙ sym y) (λ (y : area ≡ area_b). absurd (omega (arith, x, y, low))) one)
-                  (λ (x : k ≡ area_b). ⊎_elim (λ (y : area ≡ area_a). absurd (omega (arith, x, y, high))) (λ (y : area ≡ area_b). x ∙ sym y) one) is_k
+          other_head a is apart = out_of a apart (λ in_it. no_other a is in_it.0 in_it.1)
 
           zero_apart : 0 ≡ area → ⊥
           zero_apart is = ⊎_elim (λ (x : area ≡ area_a). omega (arith, x, is)) (λ (x : area ≡ area_b). omega (arith, x, is)) one
@@ -163,16 +170,16 @@ module _ (disk area : ℕ) (h : AreaHeader) (body : List ℕ) (can : CanSpellAre
               each_mid : (b : ℕ) → mid.leaves disk b (d b)
               each_mid b = ⊎_elim (λ is. is) (λ put. subst (λ (k : ℕ). mid.leaves disk k (d k)) (sym (head_only disk b (d b) put).1) was) (or b)
           by_head (inr put) = record {
-            each = λ counts tidy counted. inr (
-                new_copy h body can fills long digest counts counted (old.leaves disk) tidy area one d (put.value ∙ piece_one area (area_block h) head_long)
+            each = λ counts fit counted. inr (inl (
+                new_copy h body can fills long digest counts counted (old.leaves disk) fit.below area one d (put.value ∙ piece_one area (area_block h) head_long)
                 (λ b low high. (kept.each b (record { there = refl; first = low; last = high })).only (d b) (at_mid b (λ is. omega (arith, is, low))))
-                other_head (out_of 0 zero_apart (λ in_it. omega (arith, in_it.0))));
-            fit = λ counts tidy counted. landed_tidy h body can fills long digest counts counted (old.leaves disk) (exactly d) tidy area one (record {
+                other_head (out_of 0 zero_apart (λ in_it. omega (arith, in_it.0)))));
+            fit = λ counts fit counted. inl (landed_tidy h body can fills long digest counts counted (old.leaves disk) (exactly d) fit.below area one (record {
               header = λ v is. is ∙ put.value ∙ piece_one area (area_block h) head_long;
               pieces = λ b v low high is. is ∙ (kept.each b (record { there = refl; first = low; last = high })).only (d b) (at_mid b (λ at. omega (arith, at, low)));
               rest = λ b v out is. subst (old.leaves disk b) (sym is)
                   (out_of b (λ at. ⊎_elim (λ low. omega (arith, low, at)) (λ high. omega (arith, high, at)) out) (λ in_it. ⊎_elim (λ low. omega (arith, low, in_it.0)) (λ high. omega (arith, high, in_it.1)) out));
-            });
+            }));
           }
 
       module _ (new : Meaning) (last : Goes (Written disk area (area_block h)) mid new) where
@@ -180,7 +187,22 @@ module _ (disk area : ℕ) (h : AreaHeader) (body : List ℕ) (can : CanSpellAre
         header_moves = then_goes (Run disk 1 256) (InImage disk h body old) (Written disk area (area_block h)) old mid new body_moves last head_run (λ i each. amid (i disk) (λ b. each disk b))
 
         pub header_leaves : LeavesOldOrNew disk h body old new
-        header_leaves = record { each = λ d among. amid d (λ b. last.leaves disk b (d b) (among b)) }
+        header_leaves = record {
+          each = λ d among. amid d (λ b. last.leaves disk b (d b) (among b));
+          lower = λ lower a v g is left head. ⊎_elim
+              (λ was. let lt : g.serial < h.serial = lower a v g is (head_old a v is was) head in omega (arith, lt))
+              (λ put. let same : h.serial ≡ g.serial = new_serial a v g put head in omega (arith, same)) (last.leaves disk a v left);
+        }
+          where
+            some_serial : {x y : AreaHeader} → Some x ≡ Some y → x.serial ≡ y.serial
+            some_serial is = cc
+
+            -- the header that is written is this one
+            new_serial : (a : ℕ) (v : List ℕ) (g : AreaHeader) → OfHeader disk a v → header_of v ≡ Some g → h.serial ≡ g.serial
+            new_serial a v g put head =
+                let at : a ≡ area = (head_only disk a v put).1 in
+                let here : v ≡ area_block h = put.value ∙ ap (λ (k : ℕ). piece area (area_block h) k) at ∙ piece_one area (area_block h) head_long in
+                some_serial (sym (head_is h body can fills long digest) ∙ ap header_of (sym here) ∙ head)
 
         pub header_lands : KeepsAll new disk area (area_block h) → Landed area h body (old.leaves disk) (new.leaves disk)
         header_lands stands = record {
@@ -195,6 +217,6 @@ module _ (disk area : ℕ) (h : AreaHeader) (body : List ℕ) (can : CanSpellAre
 
         pub header_stands : KeepsAll new disk area (area_block h) → LeavesNew disk h body old new
         header_stands stands = record {
-          each = λ counts d tidy counted among. landed_new h body can fills long digest counts counted (old.leaves disk) (new.leaves disk) tidy area one (header_lands stands) d among;
-          tidy = λ counts tidy counted. landed_tidy h body can fills long digest counts counted (old.leaves disk) (new.leaves disk) tidy area one (header_lands stands);
+          each = λ counts d lower counted among. landed_new h body can fills long digest counts counted (old.leaves disk) (new.leaves disk) lower area one (header_lands stands) d among;
+          tidy = λ counts lower counted. landed_tidy h body can fills long digest counts counted (old.leaves disk) (new.leaves disk) lower area one (header_lands stands);
         }

@@ -1,12 +1,12 @@
 -- What a disk has once the body of a copy stands behind its header, or the header alone is missing.
-use Rattle.std.proofs.Common.{◌≡◌, ◌⊎◌, inl, inr, ℕ, ◌+◌, ◌-◌, ◌*◌, ◌/◌, ◌%◌, ◌<◌, ◌≤◌, Bool, true, Some, List, length, take, drop, refl, ap, sym, subst, ◌∙◌, arith}
-use Rattle.std.proofs.lemmas.Bool.{cases_lt}
+use Rattle.std.proofs.Common.{◌≡◌, ◌⊎◌, inl, inr, ℕ, ◌+◌, ◌-◌, ◌*◌, ◌/◌, ◌%◌, ◌<◌, ◌≤◌, Bool, true, Option, Some, None, List, length, take, drop, refl, ap, sym, subst, ◌∙◌, arith}
+use Rattle.std.proofs.lemmas.Bool.{cases_lt, lt-ltb, le-ltb}
 use Rattle.vx_wire.specs.Seals.{digest_of}
 use Rattle.vx_wire.proofs.SealLemmas.{length-digest_of}
 use Rattle.vx_disk.specs.Shelf.{piece}
 use Rattle.vx_copyfmt.specs.Areas.{CanSpellArea, area_block, header_of}
-use Rattle.vx_copyfmt.specs.Copies.{Disk, Copy, Holds, body_of, copy_at}
-use Rattle.vx_copyfmt.specs.Commits.{Slots, Among, FromNew, IsHeaderBlock, IsTop, Tidy}
+use Rattle.vx_copyfmt.specs.Copies.{Disk, Copy, Holds, area_a, area_b, body_of, copy_at}
+use Rattle.vx_copyfmt.specs.Commits.{Slots, Among, FromNew, IsHeaderBlock, IsTop, Lower, Tidy, target_of}
 use Rattle.vx_copyfmt.specs.declared.area.AreaHeader.{AreaHeader}
 use Rattle.vx_copyfmt.proofs.AreaLemmas.{header_of-is}
 use Rattle.vx_copyfmt.proofs.Areas.{becomes, target_lesser, under_holds}
@@ -39,7 +39,7 @@ module _ (h : AreaHeader) (body : List ℕ) (can : CanSpellArea h) (fills : Fill
     read_is : those counts (take h.length body) ≡ Some (take h.length body)
     read_is = rw counted refl
 
-    module _ (slots : Slots) (tidy : Tidy (those counts) h.serial slots) (area : ℕ) (one : IsHeaderBlock area) (d : Disk) (head : d area ≡ area_block h) (has : HasBody area body d) where
+    module _ (slots : Slots) (lower : Lower h.serial slots) (area : ℕ) (one : IsHeaderBlock area) (d : Disk) (head : d area ≡ area_block h) (has : HasBody area body d) where
       same_body : body_of d area h.length ≡ take h.length body
       same_body = body_there area d has
 
@@ -62,7 +62,7 @@ module _ (h : AreaHeader) (body : List ℕ) (can : CanSpellArea h) (fills : Fill
         first = d 0;
         there = label;
         label = refl;
-        copy = becomes (those counts) h.serial slots tidy d h (take h.length body) (omega arith) area one other there digest_there read_there;
+        copy = becomes (those counts) h.serial slots lower d h (take h.length body) (omega arith) area one other there digest_there read_there;
       }
 
       pub new_counts : copy_at (those counts) d area ≡ Some (record { serial = h.serial; area = area; body = Holds (take h.length body) })
@@ -96,45 +96,73 @@ same_or a area = elim (cases_lt a area) [
   ]
 ]
 
+-- the next copy goes to the area of a header that is less, or is missing
+target_second : (p q : Option AreaHeader) (h : AreaHeader) → p ≡ Some h → ((g : AreaHeader) → q ≡ Some g → g.serial < h.serial) → target_of p q ≡ area_b
+target_second p None h is less = rw is refl
+target_second p (Some g) h is less = let lt : g.serial < h.serial = less g refl in rw (is, le-ltb h.serial g.serial (omega (arith, lt))) refl
+
+target_first : (p q : Option AreaHeader) (h : AreaHeader) → q ≡ Some h → ((g : AreaHeader) → p ≡ Some g → g.serial < h.serial) → target_of p q ≡ area_a
+target_first None q h is less = refl
+target_first (Some g) q h is less = rw (is, lt-ltb g.serial h.serial (less g refl)) refl
+
 module _ (h : AreaHeader) (body : List ℕ) (can : CanSpellArea h) (fills : FillsBlocks body) (long : h.length ≤ length body) (digest : h.digest ≡ digest_of (take h.length body))
-    (counts : List ℕ → Bool) (counted : counts (take h.length body) ≡ true) (old new : Slots) (tidy : Tidy (those counts) h.serial old) (area : ℕ) (one : IsHeaderBlock area) (landed : Landed area h body old new) where
+    (counts : List ℕ → Bool) (counted : counts (take h.length body) ≡ true) (old new : Slots) (lower : Lower h.serial old) (area : ℕ) (one : IsHeaderBlock area) (landed : Landed area h body old new) where
   pub landed_new : (d : Disk) → Among new d → FromNew (those counts) (IsMade h body) old d
   landed_new d among =
-      new_copy h body can fills long digest counts counted old tidy area one d (landed.header (d area) (among area)) (λ b low high. landed.pieces b (d b) low high (among b))
+      new_copy h body can fills long digest counts counted old lower area one d (landed.header (d area) (among area)) (λ b low high. landed.pieces b (d b) low high (among b))
       (λ a is apart. landed.rest a (d a) (other_out area a one is apart a (omega arith) (omega arith)) (among a)) (landed.rest 0 (d 0) (zero_out area one) (among 0))
+
+  -- the header of the other area is one of before
+  outer : (a : ℕ) (v : List ℕ) → IsHeaderBlock a → (a ≡ area → ⊥) → new a v → old a v
+  outer a v is apart in_v = landed.rest a v (other_out area a one is apart a (omega arith) (omega arith)) in_v
 
   landed_counts : (d : Disk) (a : ℕ) (g : AreaHeader) → IsHeaderBlock a → Among new d → IsTop d a g → (x : Copy (List ℕ)) × (copy_at (those counts) d a ≡ Some x)
   landed_counts d a g is among top = elim (same_or a area) [
     | inl same ↦ (
       record { serial = h.serial; area = area; body = Holds (take h.length body) },
       subst (λ (k : ℕ). copy_at (those counts) d k ≡ Some (record { serial = h.serial; area = area; body = Holds (take h.length body) })) (sym same)
-          (new_counts h body can fills long digest counts counted old tidy area one d (landed.header (d area) (among area)) (λ b low high. landed.pieces b (d b) low high (among b))),
+          (new_counts h body can fills long digest counts counted old lower area one d (landed.header (d area) (among area)) (λ b low high. landed.pieces b (d b) low high (among b))),
     )
     | inr apart ↦
-        let lt : g.serial < h.serial = tidy.below a (d a) g is (landed.rest a (d a) (other_out area a one is apart a (omega arith) (omega arith)) (among a)) top.head in
+        let lt : g.serial < h.serial = lower a (d a) g is (landed.rest a (d a) (other_out area a one is apart a (omega arith) (omega arith)) (among a)) top.head in
         let here : header_of (d area) ≡ Some h = ap header_of (landed.header (d area) (among area)) ∙ head_is h body can fills long digest in
         absurd (top.kept (target_lesser d area a h g one is apart here top.head lt))
   ]
 
-  pub landed_tidy : Tidy (those counts) (h.serial + 1) new
-  landed_tidy = record {
-    settled = λ a v w is in_v in_w. elim (same_or a area) [
-      | inl same ↦ landed.header v (subst (λ (k : ℕ). new k v) same in_v) ∙ sym (landed.header w (subst (λ (k : ℕ). new k w) same in_w))
-      | inr apart ↦ let out = other_out area a one is apart a (omega arith) (omega arith) in tidy.settled a v w is (landed.rest a v out in_v) (landed.rest a w out in_w)
-    ];
-    counts = landed_counts;
-    below = λ a v g is in_v head. elim (same_or a area) [
-      | inl same ↦
-          let here : v ≡ area_block h = landed.header v (subst (λ (k : ℕ). new k v) same in_v) in
-          let both : Some h ≡ Some g = sym (head_is h body can fills long digest) ∙ ap header_of (sym here) ∙ head in
-          let same_serial : h.serial ≡ g.serial = some_serial both in
-          omega (arith, same_serial)
-      | inr apart ↦
-          let out = other_out area a one is apart a (omega arith) (omega arith) in
-          let lt : g.serial < h.serial = tidy.below a v g is (landed.rest a v out in_v) head in
-          omega (arith, lt)
-    ];
-  }
+  landed_below : Lower (h.serial + 1) new
+  landed_below a v g is in_v head = elim (same_or a area) [
+    | inl same ↦
+        let here : v ≡ area_block h = landed.header v (subst (λ (k : ℕ). new k v) same in_v) in
+        let both : Some h ≡ Some g = sym (head_is h body can fills long digest) ∙ ap header_of (sym here) ∙ head in
+        let same_serial : h.serial ≡ g.serial = some_serial both in
+        omega (arith, same_serial)
+    | inr apart ↦
+        let lt : g.serial < h.serial = lower a v g is (outer a v is apart in_v) head in
+        omega (arith, lt)
+  ]
     where
       some_serial : {x y : AreaHeader} → Some x ≡ Some y → x.serial ≡ y.serial
       some_serial is = cc
+
+  -- the next copy goes to the other area
+  landed_goes : (v w x y : List ℕ) → new area_a v → new area_b w → new area_a x → new area_b y → target_of (header_of v) (header_of w) ≡ target_of (header_of x) (header_of y)
+  landed_goes v w x y in_v in_w in_x in_y = by_area one
+    where
+      of_header : (u : List ℕ) → new area u → header_of u ≡ Some h
+      of_header u in_u = ap header_of (landed.header u in_u) ∙ head_is h body can fills long digest
+
+      less : (a : ℕ) (u : List ℕ) → IsHeaderBlock a → (a ≡ area → ⊥) → new a u → (g : AreaHeader) → header_of u ≡ Some g → g.serial < h.serial
+      less a u is apart in_u g head = lower a u g is (outer a u is apart in_u) head
+
+      by_area : IsHeaderBlock area → target_of (header_of v) (header_of w) ≡ target_of (header_of x) (header_of y)
+      by_area (inl first) =
+          let apart : area_b ≡ area → ⊥ = λ same. omega (arith, same, first) in
+          target_second (header_of v) (header_of w) h (of_header v (subst (λ (k : ℕ). new k v) (sym first) in_v)) (less area_b w (inr refl) apart in_w)
+          ∙ sym (target_second (header_of x) (header_of y) h (of_header x (subst (λ (k : ℕ). new k x) (sym first) in_x)) (less area_b y (inr refl) apart in_y))
+      by_area (inr second) =
+          let apart : area_a ≡ area → ⊥ = λ same. omega (arith, same, second) in
+          target_first (header_of v) (header_of w) h (of_header w (subst (λ (k : ℕ). new k w) (sym second) in_w)) (less area_a v (inl refl) apart in_v)
+          ∙ sym (target_first (header_of x) (header_of y) h (of_header y (subst (λ (k : ℕ). new k y) (sym second) in_y)) (less area_a x (inl refl) apart in_x))
+
+  pub landed_tidy : Tidy (those counts) (h.serial + 1) new
+  landed_tidy = record { fit = record { counts = landed_counts; below = landed_below }; goes = landed_goes }

@@ -1,5 +1,5 @@
 -- Copies written to one disk after another.
-use Rattle.std.proofs.Common.{◌≡◌, ◌⊎◌, inl, inr, ⊎_elim, ℕ, ◌+◌, ◌<◌, ◌≤◌, Bool, true, false, Option, Result, Ok, Err, OnOk, IfErr, List, refl, ap, sym, subst, ◌∙◌, arith}
+use Rattle.std.proofs.Common.{◌≡◌, ◌⊎◌, inl, inr, ⊎_elim, ℕ, ◌+◌, ◌<◌, ◌≤◌, Bool, true, false, Result, Ok, Err, OnOk, IfErr, List, refl, ap, sym, subst, ◌∙◌, arith}
 use Rattle.std.specs.Prelude.{◌&&◌, not, nat_eq, ◌/◌, ◌%◌, ◌^◌}
 use Rattle.std.proofs.Math.Nat.{div-eq_of_lt}
 use Rattle.std.proofs.Math.Pow.{pow_mono}
@@ -13,35 +13,53 @@ use Rattle.vx_disk.specs.Shelf.{Meaning}
 use Rattle.vx_disk.proofs.Causing.{Rose_before}
 use Rattle.vx_disk.proofs.Moving.{goes_on, still, wider}
 use Rattle.vx_copyfmt.specs.Copies.{Disk}
-use Rattle.vx_copyfmt.specs.Commits.{FromNew, FromOld, Slots, Tidy}
 use Rattle.vx_copyfmt.specs.declared.area.AreaHeader.{AreaHeader}
 use Rattle.vx_copyio.specs.declared.spread.CopyFailed.{CopyFailed}
-use Rattle.vx_copyio.proofs.Putting.{as_old, tidy_more}
-use Rattle.vx_copyio.specs.Putting.{AllNew, AreasOf, Copied, CopyStops, FailedOn, InImage, InImages, IsMade, IsMember, LeavesNew, LeavesOldOrNew, OldOrNew, StaysTidy, part_of, those}
+use Rattle.vx_copyfmt.proofs.Subs.{fit_sub, forged_sub, lower_sub, new_sub, old_sub, tidy_sub, torn_sub}
+use Rattle.vx_copyio.proofs.Putting.{as_before, as_old}
+use Rattle.vx_copyio.specs.Putting.{AllNew, AreasOf, Copied, CopyStops, FailedOn, InImage, InImages, IsMade, IsMember, LeavesNew, LeavesOldOrNew, LeavesSame, OldOrNew, part_of, those}
 
 -- ---- fewer values
-
-module _ (reads : List ℕ → Option (List ℕ)) (old new : Slots) (sub : (b : ℕ) (v : List ℕ) → new b v → old b v) where
-  tidy_sub : (serial : ℕ) → Tidy reads serial old → Tidy reads serial new
-  tidy_sub serial tidy = record {
-    settled = λ a v w is in_v in_w. tidy.settled a v w is (sub a v in_v) (sub a w in_w);
-    counts = λ d a h is among head. tidy.counts d a h is (λ b. sub b (d b) (among b)) head;
-    below = λ a v h is in_v head. tidy.below a v h is (sub a v in_v) head;
-  }
-
-  old_sub : (d : Disk) → FromOld reads new d → FromOld reads old d
-  old_sub d from = record { disk = from.disk; among = λ b. sub b (from.disk b) (from.among b); label = from.label; copy = from.copy }
-
-  new_sub : (begun : ℕ → List ℕ → Type 0) (d : Disk) → FromNew reads begun new d → FromNew reads begun old d
-  new_sub begun d from = record { serial = from.serial; config = from.config; area = from.area; made = from.made; first = from.first; there = sub 0 from.first from.there; label = from.label; copy = from.copy }
 
 module _ (h : AreaHeader) (body : List ℕ) where
   narrow : (u : ℕ) (old mid : Meaning) (d : Disk) → ((b : ℕ) (v : List ℕ) → mid.leaves u b v → old.leaves u b v) → OldOrNew u h body mid d → OldOrNew u h body old d
   narrow u old mid d sub is = record {
-    each = λ counts tidy counted.
-        ⊎_elim (λ from. inl (old_sub (those counts) (old.leaves u) (mid.leaves u) sub d from)) (λ from. inr (new_sub (those counts) (old.leaves u) (mid.leaves u) sub (IsMade h body) d from))
-        (is.each counts (tidy_sub (those counts) (old.leaves u) (mid.leaves u) sub h.serial tidy) counted);
-    fit = λ counts tidy counted. is.fit counts (tidy_sub (those counts) (old.leaves u) (mid.leaves u) sub h.serial tidy) counted;
+    each = λ counts fit counted. elim (is.each counts (fit_sub (those counts) (old.leaves u) (mid.leaves u) sub h.serial fit) counted) [
+      | inl from ↦ inl (old_sub (those counts) (old.leaves u) (mid.leaves u) sub d from)
+      | inr (inl from) ↦ inr (inl (new_sub (those counts) (old.leaves u) (mid.leaves u) sub (IsMade h body) d from))
+      | inr (inr torn) ↦ inr (inr (torn_sub (those counts) (old.leaves u) (mid.leaves u) sub d torn))
+    ];
+    fit = λ counts fit counted. elim (is.fit counts (fit_sub (those counts) (old.leaves u) (mid.leaves u) sub h.serial fit) counted) [
+      | inl tidy ↦ inl tidy
+      | inr forged ↦ inr (forged_sub (old.leaves u) (mid.leaves u) sub d forged)
+    ];
+  }
+
+  -- what is left of a disk that did not change since, and before
+  leaves_then : (u : ℕ) (old mid new : Meaning) → ((b : ℕ) (v : List ℕ) → new.leaves u b v → mid.leaves u b v) → LeavesOldOrNew u h body old mid → LeavesOldOrNew u h body old new
+  leaves_then u old mid new sub was = record {
+    each = λ d among. was.each d (λ b. sub b (d b) (among b));
+    lower = λ lower. lower_sub (mid.leaves u) (new.leaves u) sub (h.serial + 1) (was.lower lower);
+  }
+
+  leaves_after : (u : ℕ) (old mid new : Meaning) → ((b : ℕ) (v : List ℕ) → mid.leaves u b v → old.leaves u b v) → LeavesOldOrNew u h body mid new → LeavesOldOrNew u h body old new
+  leaves_after u old mid new sub now = record {
+    each = λ d among. narrow u old mid d sub (now.each d among);
+    lower = λ lower. now.lower (lower_sub (old.leaves u) (mid.leaves u) sub h.serial lower);
+  }
+
+  -- one with the new copy
+  pub new_then : (u : ℕ) (old mid new : Meaning) → ((b : ℕ) (v : List ℕ) → new.leaves u b v → mid.leaves u b v) → LeavesNew u h body old mid → LeavesNew u h body old new
+  new_then u old mid new sub was = record {
+    each = λ counts d lower counted among. was.each counts d lower counted (λ b. sub b (d b) (among b));
+    tidy = λ counts lower counted. tidy_sub (those counts) (mid.leaves u) (new.leaves u) sub (h.serial + 1) (was.tidy counts lower counted);
+  }
+
+  pub new_after : (u : ℕ) (old mid new : Meaning) → ((b : ℕ) (v : List ℕ) → mid.leaves u b v → old.leaves u b v) → LeavesNew u h body mid new → LeavesNew u h body old new
+  new_after u old mid new sub now = record {
+    each = λ counts d lower counted among. new_sub (those counts) (old.leaves u) (mid.leaves u) sub (IsMade h body) d
+        (now.each counts d (lower_sub (old.leaves u) (mid.leaves u) sub h.serial lower) counted among);
+    tidy = λ counts lower counted. now.tidy counts (lower_sub (old.leaves u) (mid.leaves u) sub h.serial lower) counted;
   }
 
   module _ (these : ℕ → Bool) where
@@ -75,7 +93,7 @@ module _ (h : AreaHeader) (body : List ℕ) where
       moves = more_moves old new k n le copied;
       leaves = λ u is. elim (cases_lt u k) [
         | inl below ↦ copied.leaves u (record { below = below; is = is.is })
-        | inr above ↦ record { each = λ d among. as_old u h body old d (λ b. out_left old new k u copied above b (d b) (among b)) }
+        | inr above ↦ as_before u h body old new (out_left old new k u copied above)
       ];
     }
 
@@ -107,24 +125,16 @@ module _ (h : AreaHeader) (body : List ℕ) where
               ];
             });
         leaves = λ u is. elim (below_or u k is.below) [
-          | inl below ↦ record { each = λ d among. (copied.leaves u (record { below = below; is = is.is })).each d (λ b. beside_left u below b (d b) (among b)) }
-          | inr same ↦ subst (λ (n : ℕ). LeavesOldOrNew n h body old new) (sym same) (record { each = λ d among. narrow k old mid d before (leaves.each d among) })
+          | inl below ↦ leaves_then u old mid new (beside_left u below) (copied.leaves u (record { below = below; is = is.is }))
+          | inr same ↦ subst (λ (n : ℕ). LeavesOldOrNew n h body old new) (sym same) (leaves_after k old mid new before leaves)
         ];
       }
 
       pub one_new : AllNew (IsMember these k) h body old mid → LeavesNew k h body mid new → AllNew (IsMember these (k + 1)) h body old new
       one_new all stands = record {
         each = λ u is. elim (below_or u k is.below) [
-          | inl below ↦
-              let was = all.each u (record { below = below; is = is.is }) in
-              record {
-                each = λ counts d tidy counted among. was.each counts d tidy counted (λ b. beside_left u below b (d b) (among b));
-                tidy = λ counts tidy counted. tidy_sub (those counts) (mid.leaves u) (new.leaves u) (beside_left u below) (h.serial + 1) (was.tidy counts tidy counted);
-              }
-          | inr same ↦ subst (λ (n : ℕ). LeavesNew n h body old new) (sym same) (record {
-            each = λ counts d tidy counted among. new_sub (those counts) (old.leaves k) (mid.leaves k) before (IsMade h body) d (stands.each counts d (tidy_sub (those counts) (old.leaves k) (mid.leaves k) before h.serial tidy) counted among);
-            tidy = λ counts tidy counted. stands.tidy counts (tidy_sub (those counts) (old.leaves k) (mid.leaves k) before h.serial tidy) counted;
-          })
+          | inl below ↦ new_then u old mid new (beside_left u below) (all.each u (record { below = below; is = is.is }))
+          | inr same ↦ subst (λ (n : ℕ). LeavesNew n h body old new) (sym same) (new_after k old mid new before stands)
         ];
       }
 
@@ -143,32 +153,26 @@ pub failed_here : (old new : Meaning) (u : ℕ) (e : ShelfError) → Cause {T = 
 failed_here old new u (Fault disk) (faulted, up) = (faulted.count, faulted.disk_count, up.after)
 failed_here old new u Down down = down
 
--- ---- what stays ready where a copy was not written
+-- ---- what is on the other disks where a copy was not written
+
+-- a disk that did not change, and then did not change
+pub same_then : (u : ℕ) (old mid new : Meaning) → LeavesSame u old mid → LeavesSame u mid new → LeavesSame u old new
+same_then u old mid new one two = record { each = λ b v left. one.each b v (two.each b v left) }
 
 module _ (h : AreaHeader) (body : List ℕ) where
-  -- a disk that did not change
-  pub untouched : (u : ℕ) (old new : Meaning) → ((b : ℕ) (v : List ℕ) → new.leaves u b v → old.leaves u b v) → StaysTidy u h body old new
-  untouched u old new sub = record { tidy = λ counts tidy counted. tidy_more (those counts) h.serial (new.leaves u) (tidy_sub (those counts) (old.leaves u) (new.leaves u) sub h.serial tidy) }
-
-  -- one that did not change since
-  pub tidy_then : (u : ℕ) (old mid new : Meaning) → ((b : ℕ) (v : List ℕ) → new.leaves u b v → mid.leaves u b v) → StaysTidy u h body old mid → StaysTidy u h body old new
-  tidy_then u old mid new sub stays = record { tidy = λ counts tidy counted. tidy_sub (those counts) (mid.leaves u) (new.leaves u) sub (h.serial + 1) (stays.tidy counts tidy counted) }
-
-  -- one that did not change before
-  pub tidy_after : (u : ℕ) (old mid new : Meaning) → ((b : ℕ) (v : List ℕ) → mid.leaves u b v → old.leaves u b v) → StaysTidy u h body mid new → StaysTidy u h body old new
-  tidy_after u old mid new sub stays = record { tidy = λ counts tidy counted. stays.tidy counts (tidy_sub (those counts) (old.leaves u) (mid.leaves u) sub h.serial tidy) counted }
-
-  pub new_tidy : (u : ℕ) (old new : Meaning) → LeavesNew u h body old new → StaysTidy u h body old new
-  new_tidy u old new stands = record { tidy = stands.tidy }
+  -- what is said of a disk that did not change before
+  pub same_or_new_after : (u : ℕ) (old mid new : Meaning) → LeavesSame u old mid → LeavesSame u mid new ⊎ LeavesNew u h body mid new → LeavesSame u old new ⊎ LeavesNew u h body old new
+  same_or_new_after u old mid new same (inl now) = inl (same_then u old mid new same now)
+  same_or_new_after u old mid new same (inr now) = inr (new_after h body u old mid new same.each now)
 
   -- the copies stopped at disk k
   pub stopped_others : (these : ℕ → Bool) (old mid new : Meaning) (k n u : ℕ) → Copied (IsMember these k) h body old mid → AllNew (IsMember these k) h body old mid
-      → Moves (Run k 1 256) (InImage k h body mid) mid new → these u ≡ true → (u ≡ k → ⊥) → StaysTidy u h body old new
+      → Moves (Run k 1 256) (InImage k h body mid) mid new → these u ≡ true → (u ≡ k → ⊥) → LeavesSame u old new ⊎ LeavesNew u h body old new
   stopped_others these old mid new k n u copied all moves is other =
       let here : (b : ℕ) (v : List ℕ) → new.leaves u b v → mid.leaves u b v = λ b v left. ⊎_elim (λ was. was) (λ (mine : Run k 1 256 u b). absurd (other mine.there)) (moves.leaves u b v left) in
       elim (cases_lt u k) [
-        | inl below ↦ tidy_then u old mid new here (new_tidy u old mid (all.each u (record { below = below; is = is })))
-        | inr above ↦ untouched u old new (λ b v left. ⊎_elim (λ was. was) (λ (mine : AreasOf (IsMember these k) u b). absurd (omega (arith, above, mine.on.below))) (copied.moves.leaves u b v (here b v left)))
+        | inl below ↦ inr (new_then h body u old mid new here (all.each u (record { below = below; is = is })))
+        | inr above ↦ inl (record { each = λ b v left. out_left h body these old mid k u copied above b v (here b v left) })
       ]
 
 -- ---- one part of the disks, and then the other
@@ -209,19 +213,19 @@ module _ (h : AreaHeader) (body : List ℕ) (one two these : ℕ → Bool) (n : 
       moves = first_moves;
       leaves = λ u is. elim (part_of_it u is) [
         | inl first ↦ copied.leaves u first
-        | inr second ↦ record { each = λ d among. as_old u h body old d (λ b. before_two u second.is b (d b) (among b)) }
+        | inr second ↦ as_before u h body old mid (before_two u second.is)
       ];
     }
 
-    pub unreached : (u : ℕ) → two u ≡ true → StaysTidy u h body old mid
-    unreached u is = untouched h body u old mid (before_two u is)
+    pub unreached : (u : ℕ) → two u ≡ true → LeavesSame u old mid
+    unreached u is = record { each = before_two u is }
 
-    -- the first part stopped: the second one is ready as it was
+    -- the first part stopped: the second one is as it was
     pub first_stops : (failed : CopyFailed) → CopyStops one n h body old mid failed → CopyStops these n h body old mid failed
     first_stops failed stops = record {
       member = of_one failed.disk stops.member;
       cause = stops.cause;
-      others = λ u is other. elim (part_of_it u is) [ inl first ↦ stops.others u first other | inr second ↦ unreached u second.is ];
+      others = λ u is other. elim (part_of_it u is) [ inl first ↦ stops.others u first other | inr second ↦ inl (unreached u second.is) ];
     }
 
     module _ (new : Meaning) (then : Copied (IsMember two n) h body mid new) where
@@ -244,47 +248,31 @@ module _ (h : AreaHeader) (body : List ℕ) (one two these : ℕ → Bool) (n : 
       both_copied = record {
         moves = both_moves;
         leaves = λ u is. elim (part_of_it u is) [
-          | inl first ↦ record { each = λ d among. (copied.leaves u first).each d (λ b. after_one u first.is b (d b) (among b)) }
-          | inr second ↦ record { each = λ d among. narrow h body u old mid d (before_two u second.is) ((then.leaves u second).each d among) }
+          | inl first ↦ leaves_then h body u old mid new (after_one u first.is) (copied.leaves u first)
+          | inr second ↦ leaves_after h body u old mid new (before_two u second.is) (then.leaves u second)
         ];
       }
-
-      pub first_tidy : AllNew (IsMember one n) h body old mid → (u : ℕ) → one u ≡ true → u < n → StaysTidy u h body old new
-      first_tidy all u is below = tidy_then h body u old mid new (after_one u is) (new_tidy h body u old mid (all.each u (record { below = below; is = is })))
-
-      pub second_tidy : (u : ℕ) → two u ≡ true → StaysTidy u h body mid new → StaysTidy u h body old new
-      second_tidy u is stays = tidy_after h body u old mid new (before_two u is) stays
 
       -- the second part stopped, where the first one was written
       pub second_stops : AllNew (IsMember one n) h body old mid → (failed : CopyFailed) → CopyStops two n h body mid new failed → CopyStops these n h body old new failed
       second_stops all failed stops = record {
         member = of_two failed.disk stops.member;
         cause = failed_from old mid new failed.disk failed.error copied.moves.faults copied.moves.disk_faults stops.cause;
-        others = λ u is other. elim (part_of_it u is) [ inl first ↦ first_tidy all u first.is first.below | inr second ↦ second_tidy u second.is (stops.others u second other) ];
+        others = λ u is other. elim (part_of_it u is) [
+          | inl first ↦ inr (new_then h body u old mid new (after_one u first.is) (all.each u first))
+          | inr second ↦ same_or_new_after h body u old mid new (unreached u second.is) (stops.others u second other)
+        ];
       }
 
       -- the first part keeps its new copies
       pub first_new : AllNew (IsMember one n) h body old mid → AllNew (IsMember one n) h body old new
-      first_new all = record {
-        each = λ u first.
-            let was = all.each u first in
-            record {
-              each = λ counts d tidy counted among. was.each counts d tidy counted (λ b. after_one u first.is b (d b) (among b));
-              tidy = λ counts tidy counted. tidy_sub (those counts) (mid.leaves u) (new.leaves u) (after_one u first.is) (h.serial + 1) (was.tidy counts tidy counted);
-            };
-      }
+      first_new all = record { each = λ u first. new_then h body u old mid new (after_one u first.is) (all.each u first) }
 
       pub both_new : AllNew (IsMember one n) h body old mid → AllNew (IsMember two n) h body mid new → AllNew (IsMember these n) h body old new
       both_new all more = record {
         each = λ u is. elim (part_of_it u is) [
           | inl first ↦ (first_new all).each u first
-          | inr second ↦
-              let now = more.each u second in
-              record {
-                each = λ counts d tidy counted among. new_sub (those counts) (old.leaves u) (mid.leaves u) (before_two u second.is) (IsMade h body) d
-                    (now.each counts d (tidy_sub (those counts) (old.leaves u) (mid.leaves u) (before_two u second.is) h.serial tidy) counted among);
-                tidy = λ counts tidy counted. now.tidy counts (tidy_sub (those counts) (old.leaves u) (mid.leaves u) (before_two u second.is) h.serial tidy) counted;
-              }
+          | inr second ↦ new_after h body u old mid new (before_two u second.is) (more.each u second)
         ];
       }
 

@@ -3,13 +3,13 @@ use Rattle.std.specs.Prelude.{◌≡◌, ◌⊎◌, ℕ, Bool, true, List, take}
 use Rattle.vx_disk.specs.Moves.{Along}
 use Rattle.vx_disk.specs.Shelf.{Each, Image, Meaning}
 use Rattle.vx_copyfmt.specs.Copies.{Disk}
-use Rattle.vx_copyfmt.specs.Commits.{Among, FromNew, Tidy}
+use Rattle.vx_copyfmt.specs.Commits.{Among, FromNew, Lower}
 use Rattle.vx_copyfmt.specs.declared.area.AreaHeader.{AreaHeader}
 use Rattle.vx_copyio.specs.Putting.{IsMade, those}
 
 -- the disk has the new copy
 pub record HasNew (u : ℕ) (h : AreaHeader) (body : List ℕ) (m : Meaning) (d : Disk) : Type 0 where
-  pub each : (counts : List ℕ → Bool) → Tidy (those counts) h.serial (m.leaves u) → counts (take h.length body) ≡ true → FromNew (those counts) (IsMade h body) (m.leaves u) d
+  pub each : (counts : List ℕ → Bool) → Lower h.serial (m.leaves u) → counts (take h.length body) ≡ true → FromNew (those counts) (IsMade h body) (m.leaves u) d
 
 -- each of the second disks is as one of before, or each of the first has the new copy
 abbrev pub InOrder : (ℕ → Type 0) → (ℕ → Type 0) → AreaHeader → List ℕ → Meaning → Image → Type 0

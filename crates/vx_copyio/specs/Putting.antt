@@ -8,7 +8,7 @@ use Rattle.vx_disk.specs.Moves.{Moves}
 use Rattle.vx_disk.specs.Shelf.{Meaning, Image}
 use Rattle.vx_copyfmt.specs.Areas.{header_of}
 use Rattle.vx_copyfmt.specs.Copies.{Disk, area_a, area_b}
-use Rattle.vx_copyfmt.specs.Commits.{Among, FromOld, FromNew, Tidy, exactly, target_of}
+use Rattle.vx_copyfmt.specs.Commits.{Among, Fit, Forged, FromNew, FromOld, Lower, Tidy, Torn, exactly, target_of}
 use Rattle.vx_copyfmt.specs.declared.area.AreaHeader.{AreaHeader}
 use Rattle.vx_copyio.specs.declared.spread.CopyFailed.{CopyFailed}
 
@@ -29,26 +29,32 @@ pub record IsMade (h : AreaHeader) (body : List ℕ) (serial : ℕ) (found : Lis
   pub serial_is : serial ≡ h.serial
   pub body_is : found ≡ take h.length body
 
--- Where a disk is ready for the new copy, and the new body counts, the disk has the copy of before or the new one, and is ready for the
--- next one.
+-- Where a disk is ready for the new copy, and the new body counts, the disk has the copy of before or the new one, or that of before is torn;
+-- and it is ready for the next copy.
 pub record OldOrNew (disk : ℕ) (h : AreaHeader) (body : List ℕ) (m : Meaning) (d : Disk) : Type 0 where
-  pub each : (counts : List ℕ → Bool) → Tidy (those counts) h.serial (m.leaves disk) → counts (take h.length body) ≡ true
-      → FromOld (those counts) (m.leaves disk) d ⊎ FromNew (those counts) (IsMade h body) (m.leaves disk) d
-  pub fit : (counts : List ℕ → Bool) → Tidy (those counts) h.serial (m.leaves disk) → counts (take h.length body) ≡ true → Tidy (those counts) (h.serial + 1) (exactly d)
+  pub each : (counts : List ℕ → Bool) → Fit (those counts) h.serial (m.leaves disk) → counts (take h.length body) ≡ true
+      → FromOld (those counts) (m.leaves disk) d ⊎ FromNew (those counts) (IsMade h body) (m.leaves disk) d ⊎ Torn (those counts) (m.leaves disk) d
+  pub fit : (counts : List ℕ → Bool) → Fit (those counts) h.serial (m.leaves disk) → counts (take h.length body) ≡ true
+      → Tidy (those counts) (h.serial + 1) (exactly d) ⊎ Forged (m.leaves disk) d
 
 -- the same of the disk in an image
 abbrev pub InImage : ℕ → AreaHeader → List ℕ → Meaning → Image → Type 0
 InImage disk h body m i = OldOrNew disk h body m (i disk)
 
--- whatever a crash leaves of it
+-- whatever a crash leaves of it; and no header is above that of the new copy
 pub record LeavesOldOrNew (disk : ℕ) (h : AreaHeader) (body : List ℕ) (old new : Meaning) : Type 0 where
   pub each : (d : Disk) → Among (new.leaves disk) d → OldOrNew disk h body old d
+  pub lower : Lower h.serial (old.leaves disk) → Lower (h.serial + 1) (new.leaves disk)
 
--- whatever a crash leaves of it has the new copy, and is ready for the next one
+-- where no header has this serial or a greater one, whatever a crash leaves of the disk has the new copy, and the next one goes to one area
 pub record LeavesNew (disk : ℕ) (h : AreaHeader) (body : List ℕ) (old new : Meaning) : Type 0 where
-  pub each : (counts : List ℕ → Bool) (d : Disk) → Tidy (those counts) h.serial (old.leaves disk) → counts (take h.length body) ≡ true → Among (new.leaves disk) d
+  pub each : (counts : List ℕ → Bool) (d : Disk) → Lower h.serial (old.leaves disk) → counts (take h.length body) ≡ true → Among (new.leaves disk) d
       → FromNew (those counts) (IsMade h body) (old.leaves disk) d
-  pub tidy : (counts : List ℕ → Bool) → Tidy (those counts) h.serial (old.leaves disk) → counts (take h.length body) ≡ true → Tidy (those counts) (h.serial + 1) (new.leaves disk)
+  pub tidy : (counts : List ℕ → Bool) → Lower h.serial (old.leaves disk) → counts (take h.length body) ≡ true → Tidy (those counts) (h.serial + 1) (new.leaves disk)
+
+-- a crash leaves of the disk what it might have left before
+pub record LeavesSame (disk : ℕ) (old new : Meaning) : Type 0 where
+  pub each : (b : ℕ) (v : List ℕ) → new.leaves disk b v → old.leaves disk b v
 
 -- the areas of these disks
 pub record AreasOf (disks : ℕ → Type 0) (u b : ℕ) : Type 0 where
@@ -56,12 +62,12 @@ pub record AreasOf (disks : ℕ → Type 0) (u b : ℕ) : Type 0 where
   pub first : 1 ≤ b
   pub last : b ≤ 256
 
--- in the image each of these disks has the copy of before or the new one
+-- in the image each of these disks has the copy of before or the new one, or that of before is torn
 pub record InImages (disks : ℕ → Type 0) (h : AreaHeader) (body : List ℕ) (m : Meaning) (i : Image) : Type 0 where
   pub each : (u : ℕ) → disks u → OldOrNew u h body m (i u)
 
--- Copies are written to these disks: at each moment a crash leaves each of them with the copy of before or the new one, and the others as they
--- were; and so it does now.
+-- Copies are written to these disks: at each moment a crash leaves each of them with the copy of before or the new one, or with that of
+-- before torn, and the others as they were; and so it does now.
 pub record Copied (disks : ℕ → Type 0) (h : AreaHeader) (body : List ℕ) (old new : Meaning) : Type 0 where
   pub moves : Moves (AreasOf disks) (InImages disks h body old) old new
   pub leaves : (u : ℕ) → disks u → LeavesOldOrNew u h body old new
@@ -85,15 +91,12 @@ abbrev pub FailedOn : Meaning → Meaning → ℕ → ShelfError → Type 0
 FailedOn old new u (Fault disk) = Rose (old.faults u) (new.faults u) × Rose (old.disk_faults disk) (new.disk_faults disk) × (IsTrue new.down → ⊥)
 FailedOn old new u Down = IsTrue new.down
 
--- a disk that was ready for a copy is ready for the next one
-pub record StaysTidy (disk : ℕ) (h : AreaHeader) (body : List ℕ) (old new : Meaning) : Type 0 where
-  pub tidy : (counts : List ℕ → Bool) → Tidy (those counts) h.serial (old.leaves disk) → counts (take h.length body) ≡ true → Tidy (those counts) (h.serial + 1) (new.leaves disk)
-
--- why a copy was not written: the disk is one of these, and its count rose, or the shelf is down; the others of them are ready for the next copy
+-- why a copy was not written: the disk is one of these, and its count rose, or the shelf is down; the others of them have the new copy, or are
+-- as they were
 pub record CopyStops (these : ℕ → Bool) (n : ℕ) (h : AreaHeader) (body : List ℕ) (old new : Meaning) (failed : CopyFailed) : Type 0 where
   pub member : IsMember these n failed.disk
   pub cause : FailedOn old new failed.disk failed.error
-  pub others : (u : ℕ) → IsMember these n u → (u ≡ failed.disk → ⊥) → StaysTidy u h body old new
+  pub others : (u : ℕ) → IsMember these n u → (u ≡ failed.disk → ⊥) → LeavesSame u old new ⊎ LeavesNew u h body old new
 
 -- where copies stopped at a disk that is no member of the other set, each that is one has the new copy
 pub record GoodFirst (set good n : ℕ) (h : AreaHeader) (body : List ℕ) (old new : Meaning) (failed : CopyFailed) : Type 0 where

@@ -72,7 +72,8 @@ fn put_header<S: Shelf>(
 /// Writes a copy to a disk: its body and then its header, each made durable, into the area that does not hold the greater
 /// header. The body is filled up to whole blocks, of which there are at most 127.
 ///
-/// At each moment of it a crash leaves the disk with the copy of before or with the new one.
+/// At each moment of it a crash leaves the disk with the copy of before or with the new one; or with that of before torn, where its headers
+/// had several values, so that a read could not tell which was the greater one.
 pub fn put_copy<S: Shelf>(
     shelf: &mut S,
     disk: u32,

@@ -6,7 +6,7 @@ use Rattle.vx_config.specs.declared.config.Config.{Config}
 use Rattle.vx_config.specs.declared.entry.DiskEntry.{DiskEntry}
 use Rattle.vx_copies.specs.Bodies.{is_wanted}
 use Rattle.vx_copies.specs.Commits.{Begins, CommitEnds, Finds, IsTry, StayFit}
-use Rattle.vx_copies.proofs.Found.{begins_try, finds_try, fits_try, newest, restored, why_refused}
+use Rattle.vx_copies.proofs.Found.{begins_try, finds_try, fits_try, is_done, restored, stays_silent, why_refused}
 use Rattle.vx_copies.proofs.ManyTries.{none_yet}
 use Rattle.vx_copies.proofs.OneTry.{wanted_count, wanted_same, wanted_serial}
 use Rattle.vx_copies.proofs.calls.commit_in.Goals.{in-Err, in-Ok}
@@ -68,23 +68,19 @@ returns-clause-ends g c =
       | in-Ok w ↦
           let ends = w.in-Ok.ensures.ends in
           subst (λ (e : Config). CommitEnds c.args.good a e old new c.match-try_all.result) (sym w.config-is)
-          (subst (λ (r : Result (Unit {0}) No). CommitEnds c.args.good a d old new r) (sym w.result-is) (record {
-            later = ends.0;
-            grown = underway.grown;
-            left = ends.1;
-            ready = ends.2;
-            stands = ends.3;
-            newest = newest c.args.good a d old new underway (wanted_count old.units old.size d (wanted_same new old d (sym underway.moves.units) (λ u. sym (underway.moves.size u)) c.try_all.ensures.wanted))
-                (g.met.S.Shelf.lawful c.args.shelf.now) (g.met.S.Shelf.lawful c.try_all.new.shelf) ends.1 ends.3;
-          }))
+          (subst (λ (r : Result (Unit {0}) No). CommitEnds c.args.good a d old new r) (sym w.result-is)
+          (is_done c.args.good a d old new underway (wanted_count old.units old.size d (wanted_same new old d (sym underway.moves.units) (λ u. sym (underway.moves.size u)) c.try_all.ensures.wanted))
+          (g.met.S.Shelf.lawful c.args.shelf.now) (g.met.S.Shelf.lawful c.try_all.new.shelf) ends.1 ends.0 ends.3 ends.2))
       | in-Err w ↦
           let back : c.match-try_all.config ≡ record { serial = d.serial; site = a.site; disks = a.disks; volumes = a.volumes; rvg = a.rvg } =
           restored a d c.match-try_all.config old new underway.grown (w.config-is ∙ ap (λ (ds : List DiskEntry). record { serial = d.serial; site = d.site; disks = ds; volumes = d.volumes; rvg = d.rvg }) c.copy-kept.ensures) in
           subst (λ (e : Config). CommitEnds c.args.good a e old new c.match-try_all.result) (sym back)
           (subst (λ (r : Result (Unit {0}) No). CommitEnds c.args.good a (record { serial = d.serial; site = a.site; disks = a.disks; volumes = a.volumes; rvg = a.rvg }) old new r) (sym w.result-is) (record {
-            cause = why_refused c.args.good a d old new w.in-Err.no more underway.grown w.in-Err.ensures.ends;
+            cause = why_refused c.args.good a d old new w.in-Err.no more underway.grown underway.moves.units w.in-Err.ensures.ends;
             later = underway.serial;
             kept = refl;
+            below = λ below. record { each = (underway.below below).each };
+            silent = stays_silent c.args.good a d old new underway (record { serial = d.serial; site = a.site; disks = a.disks; volumes = a.volumes; rvg = a.rvg }) (g.met.S.Shelf.lawful c.args.shelf.now) (g.met.S.Shelf.lawful c.try_all.new.shelf) refl;
           }))
     ]
 

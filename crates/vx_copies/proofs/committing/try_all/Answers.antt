@@ -5,7 +5,7 @@ use Rattle.vx_disk.proofs.Causing.{Rose_before}
 use Rattle.vx_config.specs.declared.entry.DiskEntry.{DiskEntry}
 use Rattle.vx_copies.specs.Commits.{TryEnds}
 use Rattle.vx_copies.specs.Marks.{HasGood}
-use Rattle.vx_copies.proofs.ManyTries.{both_ready, both_stand, both_underway, none_yet, stays_large}
+use Rattle.vx_copies.proofs.ManyTries.{both_remain, both_stand, both_tidy, both_underway, none_yet, stays_large}
 use Rattle.vx_copies.proofs.committing.try_all.Goals as goal
 
 pub loop-shelf-init : goal.loop-shelf-init
@@ -16,28 +16,29 @@ loop-shelf-init g c = record {
   wanted = c.requires.wanted;
   room = c.requires.room;
   underway = none_yet c.args.good c.args.config.now (g.S.Shelf.meaning c.args.shelf.now);
-  ready = record { ready = λ first. first };
+  remain = record { each = λ u held. inl (record { each = λ b v left. left }) };
   device = inr (refl, c.lowest-device.ensures);
 }
 
 pub returns-in-Ok-clause-underway : goal.returns-in-Ok-clause-underway
 returns-in-Ok-clause-underway g c =
     both_underway c.args.good c.args.config.now c.loop-shelf.config c.try_next.new.config (g.S.Shelf.meaning c.args.shelf.now) (g.S.Shelf.meaning c.loop-shelf.shelf) (g.S.Shelf.meaning c.try_next.new.shelf)
-    c.loop-shelf.invariant.underway c.loop-shelf.invariant.ready c.try_next.ensures.underway (g.met.S.Shelf.lawful c.loop-shelf.shelf)
+    c.loop-shelf.invariant.underway c.loop-shelf.invariant.remain c.try_next.ensures.underway (g.met.S.Shelf.lawful c.loop-shelf.shelf)
 
 pub returns-in-Err-Down-clause-underway : goal.returns-in-Err-Down-clause-underway
 returns-in-Err-Down-clause-underway g c =
     both_underway c.args.good c.args.config.now c.loop-shelf.config c.try_next.new.config (g.S.Shelf.meaning c.args.shelf.now) (g.S.Shelf.meaning c.loop-shelf.shelf) (g.S.Shelf.meaning c.try_next.new.shelf)
-    c.loop-shelf.invariant.underway c.loop-shelf.invariant.ready c.try_next.ensures.underway (g.met.S.Shelf.lawful c.loop-shelf.shelf)
+    c.loop-shelf.invariant.underway c.loop-shelf.invariant.remain c.try_next.ensures.underway (g.met.S.Shelf.lawful c.loop-shelf.shelf)
 
 pub returns-in-Ok-clause-ends : goal.returns-in-Ok-clause-ends
 returns-in-Ok-clause-ends g c =
     let ends = c.in-Ok.ensures.ends in (
       omega (arith, c.loop-shelf.invariant.underway.serial, c.try_next.ensures.serial),
       subst (λ (ds : List DiskEntry). HasGood ds c.args.good) (sym ends.0) (c.loop-shelf-test.ensures.may refl).0,
-      both_ready c.loop-shelf.invariant.ready ends.1,
+      both_tidy c.args.good c.args.config.now c.loop-shelf.config c.try_next.new.config (g.S.Shelf.meaning c.args.shelf.now) (g.S.Shelf.meaning c.loop-shelf.shelf) (g.S.Shelf.meaning c.try_next.new.shelf)
+          c.loop-shelf.invariant.underway c.loop-shelf.invariant.remain c.try_next.ensures.underway ends.1,
       both_stand c.args.good c.args.config.now c.loop-shelf.config c.try_next.new.config (g.S.Shelf.meaning c.args.shelf.now) (g.S.Shelf.meaning c.loop-shelf.shelf) (g.S.Shelf.meaning c.try_next.new.shelf)
-          c.loop-shelf.invariant.underway c.loop-shelf.invariant.ready c.try_next.ensures.underway ends.2,
+          c.loop-shelf.invariant.underway c.loop-shelf.invariant.remain c.try_next.ensures.underway ends.2,
     )
 
 pub loop-shelf-preserved : goal.loop-shelf-preserved
@@ -52,7 +53,8 @@ loop-shelf-preserved g c =
       wanted = c.try_next.ensures.wanted;
       room = c.try_next.auto.room ∙ c.loop-shelf.invariant.room;
       underway = both_underway c.args.good c.args.config.now c.loop-shelf.config c.try_next.new.config (g.S.Shelf.meaning c.args.shelf.now) (g.S.Shelf.meaning c.loop-shelf.shelf) (g.S.Shelf.meaning c.try_next.new.shelf)
-          c.loop-shelf.invariant.underway c.loop-shelf.invariant.ready c.try_next.ensures.underway (g.met.S.Shelf.lawful c.loop-shelf.shelf);
-      ready = both_ready c.loop-shelf.invariant.ready ends.1;
+          c.loop-shelf.invariant.underway c.loop-shelf.invariant.remain c.try_next.ensures.underway (g.met.S.Shelf.lawful c.loop-shelf.shelf);
+      remain = both_remain c.args.good c.args.config.now c.loop-shelf.config c.try_next.new.config (g.S.Shelf.meaning c.args.shelf.now) (g.S.Shelf.meaning c.loop-shelf.shelf) (g.S.Shelf.meaning c.try_next.new.shelf)
+          c.loop-shelf.invariant.underway c.loop-shelf.invariant.remain c.try_next.ensures.underway ends.1;
       device = inl (Rose_before _ _ _ (c.loop-shelf.invariant.underway.moves.disk_faults c.in-Err-Fault.disk) ends.2);
     }

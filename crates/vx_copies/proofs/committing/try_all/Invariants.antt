@@ -3,7 +3,7 @@ use Rattle.vx_config.specs.Configs.{CanSpell, subdisk_count}
 use Rattle.vx_copyio.specs.Labelling.{AreLarge}
 use Rattle.vx_copies.specs.Answers.{good_set}
 use Rattle.vx_copies.specs.Bodies.{is_wanted}
-use Rattle.vx_copies.specs.Commits.{StayReady, Underway}
+use Rattle.vx_copies.specs.Commits.{Remain, Underway}
 use Rattle.vx_copies.proofs.ManyTries.{Blamed}
 use Rattle.vx_copies.proofs.committing.try_all.Given as goal
 
@@ -15,7 +15,7 @@ invariant-loop-shelf g l = record {
   wanted : is_wanted (g.S.Shelf.meaning l.shelf).units (g.S.Shelf.meaning l.shelf).size l.config ≡ true;
   room : length l.room ≡ 65024;
   underway : Underway l.good l.initial.config l.config (g.S.Shelf.meaning l.initial.shelf) (g.S.Shelf.meaning l.shelf);
-  ready : StayReady l.initial.config l.config (g.S.Shelf.meaning l.initial.shelf) (g.S.Shelf.meaning l.shelf);
+  remain : Remain l.initial.config l.config (g.S.Shelf.meaning l.initial.shelf) (g.S.Shelf.meaning l.shelf);
   device : Blamed l.good l.initial.config l.config (g.S.Shelf.meaning l.initial.shelf) (g.S.Shelf.meaning l.shelf) l.device;
 }
 
