@@ -201,7 +201,7 @@ pub record WasCommitted (good : ℕ) (held : Option Config) (m : Meaning) : Type
   pub members : (u : ℕ) → u < m.units → bit_at good u ≡ true → IsGood failed_in held u
 
 -- Whichever disks can be read, an import over the image finds what it might have found before, or one of these; or a disk that was held as
--- good is torn, and it is refused with 22 for that disk, unless the torn body has the digest of its header.
+-- good is torn, and it is refused with 22 for that disk, unless the torn body has the digest of its header and no later copy is read.
 pub record MayFind (begun : ℕ → Config → Type 0) (c : Config) (m : Meaning) (i : Image) : Type 0 where
   pub each : (readable : ℕ → Bool) → FindsOld (on_shelf m) failed_in m.units m.leaves readable i ⊎ FindsNew (on_shelf m) failed_in begun m.units readable i ⊎ Spoilt (on_shelf m) failed_in (Held c m) m.units m.leaves readable i
 

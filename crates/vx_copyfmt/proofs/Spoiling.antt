@@ -1,12 +1,12 @@
 -- What an import finds in an image of which some disks are torn: what it would find were they not, or it is refused for one of them.
 use Rattle.std.proofs.Common.{◌≡◌, ◌⊎◌, inl, inr, ⊎_elim, ℕ, zero, suc, ◌<◌, ◌≤◌, Bool, true, false, Option, Some, None, List, refl, ap, sym, subst, ◌∙◌, arith}
 use Rattle.std.specs.Prelude.{nat_lt, ◌&&◌, if◌then◌else◌}
-use Rattle.std.proofs.lemmas.Bool.{cases_lt}
+use Rattle.std.proofs.lemmas.Bool.{cases_lt, le-ltb, lt-ltb}
 use Rattle.vx_disk.specs.Shelf.{Image, Values, Each}
 use Rattle.vx_copyfmt.specs.Labels.{seen_in}
 use Rattle.vx_copyfmt.specs.Copies.{Disk, Copy, Body, Differs, copy_of}
 use Rattle.vx_copyfmt.specs.Imports.{Damaged, is_label, later, on_disk, strange, by_body, by_newest, by_labels, newest, import_of}
-use Rattle.vx_copyfmt.specs.Commits.{FromOld, FromNew, Torn, Broken, Amid, FindsOld, FindsNew, NamesDamaged, Spoilt, Older}
+use Rattle.vx_copyfmt.specs.Commits.{FromOld, FromNew, Torn, Broken, Forged, Amid, FindsOld, FindsNew, NamesDamaged, Spoilt, Older}
 use Rattle.vx_copyfmt.proofs.Newest.{strange_same, amid_gives, same_format, same_import}
 
 module _ {C : Type 0} (reads : List ℕ → Option C) (failed : C → ℕ → Bool) where
@@ -42,23 +42,60 @@ module _ {C : Type 0} (reads : List ℕ → Option C) (failed : C → ℕ → Bo
       on_more : (n : ℕ) (x : ℕ × Copy C) → OnTorn n x → OnTorn (suc n) x
       on_more n x on = let lt : x.0 < n = on.below in record { below = omega (arith, lt); is = on.is; read = on.read; torn = on.torn; stored = on.stored; computed = on.computed; body = on.body }
 
-      -- two that are the greatest have one serial, and are the same or torn
+      -- none has a greater serial
+      abbrev AtMost : ℕ → Option (ℕ × Copy C) → Type 0
+      AtMost s o = (x : ℕ × Copy C) → o ≡ Some x → x.1.serial ≤ s
+
+      -- two that are the greatest have one serial, and are the same or torn; or the second was on a torn disk whose body has the digest of its
+      -- header, and the first is no greater one
       data Pair (n : ℕ) (a b : Option (ℕ × Copy C)) : Type 0 where
         Neither : a ≡ None → b ≡ None → Pair n a b
         Both : (x y : ℕ × Copy C) → a ≡ Some x → b ≡ Some y → x.1.serial ≡ y.1.serial → (x ≡ y) ⊎ OnTorn n x → Pair n a b
+        Lost : (u : ℕ) → u < n → disks u → readable u ≡ true → (torn : Torn reads (leaves u) (i u)) → Forged (leaves u) (i u) → b ≡ Some (u, torn.was) → AtMost torn.was.serial a → Pair n a b
 
       pair_more : (n : ℕ) (a b : Option (ℕ × Copy C)) → Pair n a b → Pair (suc n) a b
       pair_more n a b (Neither one two) = Neither one two
       pair_more n a b (Both x y one two same how) = Both x y one two same (⊎_elim (λ it. inl it) (λ on. inr (on_more n x on)) how)
+      pair_more n a b (Lost u lt is read torn forged two most) = Lost u (omega (arith, lt)) is read torn forged two most
 
       pair_same : (n : ℕ) (a b : Option (ℕ × Copy C)) → a ≡ b → Pair n a b
       pair_same n None b is = Neither refl (sym is)
       pair_same n (Some x) b is = Both x x refl (sym is) refl (inl refl)
 
-      later_pair : (n : ℕ) (a b p q : Option (ℕ × Copy C)) → Pair n a b → Pair n p q → Pair n (later a p) (later b q)
-      later_pair n a b p q (Neither one two) next = rw (one, two) next
-      later_pair n a b p q (Both x y one two same how) (Neither third fourth) = rw (one, two, third, fourth) (Both x y refl refl same how)
-      later_pair n a b p q (Both x y one two same how) (Both z w third fourth alike which) = rw (one, two, third, fourth) (by_test (nat_lt x.1.serial z.1.serial) (nat_lt y.1.serial w.1.serial) tests)
+      -- ---- the later of two
+
+      later_most : (s : ℕ) (a p : Option (ℕ × Copy C)) → AtMost s a → AtMost s p → AtMost s (later a p)
+      later_most s None p one two z is = two z is
+      later_most s (Some x) None one two z is = one z is
+      later_most s (Some x) (Some y) one two z is = by_test (nat_lt x.1.serial y.1.serial) is
+        where
+          by_test : (t : Bool) → (if t then Some y else Some x) ≡ Some z → z.1.serial ≤ s
+          by_test true here = two z here
+          by_test false here = one z here
+
+      most_some : (s : ℕ) (a : Option (ℕ × Copy C)) (x : ℕ × Copy C) → a ≡ Some x → x.1.serial ≤ s → AtMost s a
+      most_some s a x is le z there =
+          let both : Some x ≡ Some z = sym is ∙ there in
+          let one : x ≡ z = cc in
+          let number : x.1.serial ≡ z.1.serial = ap (λ (y : ℕ × Copy C). y.1.serial) one in
+          omega (arith, le, number)
+
+      most_none : (s : ℕ) (a : Option (ℕ × Copy C)) → a ≡ None → AtMost s a
+      most_none s a is z there = let clash : None ≡ Some z = sym is ∙ there in absurd cc
+
+      most_up : (s t : ℕ) (a : Option (ℕ × Copy C)) → s ≤ t → AtMost s a → AtMost t a
+      most_up s t a le most z there = let here : z.1.serial ≤ s = most z there in omega (arith, le, here)
+
+      first_stays : (x : ℕ × Copy C) (a p : Option (ℕ × Copy C)) → a ≡ Some x → AtMost x.1.serial p → later a p ≡ Some x
+      first_stays x a None is most = rw is refl
+      first_stays x a (Some y) is most = rw (is, le-ltb x.1.serial y.1.serial (most y refl)) refl
+
+      second_comes : (s : ℕ) (y : ℕ × Copy C) (a p : Option (ℕ × Copy C)) → p ≡ Some y → AtMost s a → s < y.1.serial → later a p ≡ Some y
+      second_comes s y None p is most lt = is
+      second_comes s y (Some x) p is most lt = let le : x.1.serial ≤ s = most x refl in rw (is, lt-ltb x.1.serial y.1.serial (omega (arith, le, lt))) refl
+
+      later_both : (n : ℕ) (x y z w : ℕ × Copy C) → x.1.serial ≡ y.1.serial → (x ≡ y) ⊎ OnTorn n x → z.1.serial ≡ w.1.serial → (z ≡ w) ⊎ OnTorn n z → Pair n (later (Some x) (Some z)) (later (Some y) (Some w))
+      later_both n x y z w same how alike which = by_test (nat_lt x.1.serial z.1.serial) (nat_lt y.1.serial w.1.serial) tests
         where
           tests : nat_lt x.1.serial z.1.serial ≡ nat_lt y.1.serial w.1.serial
           tests = ap (λ (k : ℕ). nat_lt k z.1.serial) same ∙ ap (nat_lt y.1.serial) alike
@@ -68,6 +105,31 @@ module _ {C : Type 0} (reads : List ℕ → Option C) (failed : C → ℕ → Bo
           by_test true false is = absurd cc
           by_test false true is = absurd cc
           by_test false false is = Both x y refl refl same how
+
+      later_pair : (n : ℕ) (a b p q : Option (ℕ × Copy C)) → Pair n a b → Pair n p q → Pair n (later a p) (later b q)
+      later_pair n a b p q (Neither one two) next = rw (one, two) next
+      later_pair n a b p q (Both x y one two same how) (Neither third fourth) = rw (one, two, third, fourth) (Both x y refl refl same how)
+      later_pair n a b p q (Both x y one two same how) (Both z w third fourth alike which) = rw (one, two, third, fourth) (later_both n x y z w same how alike which)
+      later_pair n a b p q (Both x y one two same how) (Lost u lt is read torn forged fourth most) = elim (cases_lt y.1.serial torn.was.serial) [
+        | inl less ↦ Lost u lt is read torn forged (second_comes y.1.serial (u, torn.was) b q fourth (most_some y.1.serial b y two (omega arith)) less)
+            (later_most torn.was.serial a p (most_some torn.was.serial a x one (omega (arith, same, less))) most)
+        | inr le ↦ Both x y (first_stays x a p one (most_up torn.was.serial x.1.serial p (omega (arith, same, le)) most))
+            (first_stays y b q two (most_some y.1.serial q (u, torn.was) fourth le)) same how
+      ]
+      later_pair n a b p q (Lost u lt is read torn forged two most) (Neither third fourth) =
+          Lost u lt is read torn forged (first_stays (u, torn.was) b q two (most_none torn.was.serial q fourth)) (later_most torn.was.serial a p most (most_none torn.was.serial p third))
+      later_pair n a b p q (Lost u lt is read torn forged two most) (Both z w third fourth alike which) = elim (cases_lt torn.was.serial w.1.serial) [
+        | inl less ↦ Both z w (second_comes torn.was.serial z a p third most (omega (arith, alike, less)))
+            (second_comes torn.was.serial w b q fourth (most_some torn.was.serial b (u, torn.was) two (omega arith)) less) alike which
+        | inr le ↦ Lost u lt is read torn forged (first_stays (u, torn.was) b q two (most_some torn.was.serial q w fourth le))
+            (later_most torn.was.serial a p most (most_some torn.was.serial p z third (omega (arith, alike, le))))
+      ]
+      later_pair n a b p q (Lost u lt is read torn forged two most) (Lost v lt_v is_v read_v torn_v forged_v fourth most_v) = elim (cases_lt torn.was.serial torn_v.was.serial) [
+        | inl less ↦ Lost v lt_v is_v read_v torn_v forged_v (second_comes torn.was.serial (v, torn_v.was) b q fourth (most_some torn.was.serial b (u, torn.was) two (omega arith)) less)
+            (later_most torn_v.was.serial a p (most_up torn.was.serial torn_v.was.serial a (omega (arith, less)) most) most_v)
+        | inr le ↦ Lost u lt is read torn forged (first_stays (u, torn.was) b q two (most_some torn.was.serial q (v, torn_v.was) fourth le))
+            (later_most torn.was.serial a p most (most_up torn_v.was.serial torn.was.serial p le most_v))
+      ]
 
       abbrev Put : Bool → ℕ → Option (Copy C) → Option (ℕ × Copy C)
       Put t n o = if t then on_disk n o else None
@@ -87,35 +149,35 @@ module _ {C : Type 0} (reads : List ℕ → Option C) (failed : C → ℕ → Bo
           Both (n, x) (n, torn.was) (ap (on_disk n) broken.copy) (ap (on_disk n) was) refl
           (inr (record { below = omega arith; is = is; read = read; torn = torn; stored = broken.stored; computed = broken.computed; body = refl }))
 
-      put_torn : (n : ℕ) → n < units → (l r : Bool) → readable n ≡ r → disks n → (torn : Torn reads (leaves n) (i n)) → copy_of reads (j n) ≡ Some torn.was
-          → Refused ⊎ Pair (suc n) (Put (r && l) n (copy_of reads (i n))) (Put (r && l) n (copy_of reads (j n)))
-      put_torn n lt l false out is torn was = inr (Neither refl refl)
-      put_torn n lt l true in_it is torn was = elim torn.now [
-        | inl broken ↦ inr (put_broken n (true && l) in_it is torn was broken)
-        | inr forged ↦ inl (record { disk = n; below = lt; is = is; read = in_it; torn = torn; how = inr forged })
-      ]
+      put_forged : (n : ℕ) (t : Bool) → readable n ≡ true → disks n → (torn : Torn reads (leaves n) (i n)) → copy_of reads (j n) ≡ Some torn.was → Forged (leaves n) (i n)
+          → Pair (suc n) (Put t n (copy_of reads (i n))) (Put t n (copy_of reads (j n)))
+      put_forged n false read is torn was forged = Neither refl refl
+      put_forged n true read is torn was forged = Lost n (omega arith) is read torn forged (ap (on_disk n) was) (by_copy (copy_of reads (i n)) refl)
+        where
+          by_copy : (o : Option (Copy C)) → copy_of reads (i n) ≡ o → AtMost torn.was.serial (on_disk n o)
+          by_copy None here x there = absurd cc
+          by_copy (Some y) here x there = most_some torn.was.serial (Some (n, y)) (n, y) refl (torn.most y here) x there
 
-      put_disk : (n : ℕ) → n < units → (l : Bool) → Beside n → Refused ⊎ Pair (suc n) (Put (readable n && l) n (copy_of reads (i n))) (Put (readable n && l) n (copy_of reads (j n)))
-      put_disk n lt l (Kept label copy) = inr (put_kept n (readable n && l) copy)
-      put_disk n lt l (WasTorn label is torn copy) = put_torn n lt l (readable n) refl is torn copy
+      put_torn : (n : ℕ) (l r : Bool) → readable n ≡ r → disks n → (torn : Torn reads (leaves n) (i n)) → copy_of reads (j n) ≡ Some torn.was
+          → Pair (suc n) (Put (r && l) n (copy_of reads (i n))) (Put (r && l) n (copy_of reads (j n)))
+      put_torn n l false out is torn was = Neither refl refl
+      put_torn n l true in_it is torn was = ⊎_elim (λ broken. put_broken n (true && l) in_it is torn was broken) (λ forged. put_forged n (true && l) in_it is torn was forged) torn.now
+
+      put_disk : (n : ℕ) (l : Bool) → Beside n → Pair (suc n) (Put (readable n && l) n (copy_of reads (i n))) (Put (readable n && l) n (copy_of reads (j n)))
+      put_disk n l (Kept label copy) = put_kept n (readable n && l) copy
+      put_disk n l (WasTorn label is torn copy) = put_torn n l (readable n) refl is torn copy
 
       module _ (beside : (u : ℕ) → u < units → Beside u) where
-        pairs : (n : ℕ) → n ≤ units → Refused ⊎ Pair n (newest reads readable i n) (newest reads readable j n)
-        pairs zero le = inr (Neither refl refl)
+        pairs : (n : ℕ) → n ≤ units → Pair n (newest reads readable i n) (newest reads readable j n)
+        pairs zero le = Neither refl refl
         pairs (suc n) le =
             let here : Beside n = beside n (omega (arith, le)) in
             let a : Option (ℕ × Copy C) = newest reads readable i n in
             let b : Option (ℕ × Copy C) = newest reads readable j n in
             let p : Option (ℕ × Copy C) = Put (readable n && is_label (seen_in (i n 0))) n (copy_of reads (i n)) in
             let q : Option (ℕ × Copy C) = Put (readable n && is_label (seen_in (i n 0))) n (copy_of reads (j n)) in
-            elim (pairs n (omega (arith, le))) [
-              | inl refused ↦ inl refused
-              | inr before ↦ elim (put_disk n (omega (arith, le)) (is_label (seen_in (i n 0))) here) [
-                | inl refused ↦ inl refused
-                | inr next ↦ inr (subst (λ l. Pair (suc n) (later a p) (later b (Put (readable n && is_label l) n (copy_of reads (j n))))) (beside_label n here)
-                    (later_pair (suc n) a b p q (pair_more n a b before) next))
-              ]
-            ]
+            subst (λ l. Pair (suc n) (later a p) (later b (Put (readable n && is_label l) n (copy_of reads (j n))))) (beside_label n here)
+            (later_pair (suc n) a b p q (pair_more n a b (pairs n (omega (arith, le)))) (put_disk n (is_label (seen_in (i n 0))) here))
 
         -- an import finds the same in both, or is refused for a torn disk
         pub import_torn : (import_of reads failed units readable i ≡ import_of reads failed units readable j) ⊎ Refused
@@ -136,13 +198,11 @@ module _ {C : Type 0} (reads : List ℕ → Option C) (failed : C → ℕ → Bo
               torn = on.torn;
               how = inl (subst (NamesDamaged x.0) (sym (import_damaged units readable i x on.stored on.computed known one on.body)) refl);
             })
+            by_pair known (Lost u lt is read torn forged two most) = inr (record { disk = u; below = lt; is = is; read = read; torn = torn; how = inr (forged, record { each = most }) })
 
             by_version : (o : Option ℕ) → strange readable i units ≡ o → (import_of reads failed units readable i ≡ import_of reads failed units readable j) ⊎ Refused
             by_version (Some v) is = inl (same_format reads failed units readable i j v is (sym labels ∙ is))
-            by_version None is = elim (pairs units (omega arith)) [
-              | inl refused ↦ inr refused
-              | inr pair ↦ by_pair is pair
-            ]
+            by_version None is = by_pair is (pairs units (omega arith))
 
 -- ---- the image with the torn disks as they were
 

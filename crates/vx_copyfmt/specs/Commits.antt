@@ -4,7 +4,7 @@ use Rattle.vx_disk.specs.Shelf.{Image, Values, Each}
 use Rattle.vx_wire.specs.Seals.{digest_of}
 use Rattle.vx_copyfmt.specs.Areas.{header_of}
 use Rattle.vx_copyfmt.specs.Copies.{Disk, Copy, Holds, Differs, area_a, area_b, body_of, copy_at, copy_of}
-use Rattle.vx_copyfmt.specs.Imports.{Outcome, Found, Missing, NoConfig, Damaged, Format, import_of, settle}
+use Rattle.vx_copyfmt.specs.Imports.{Outcome, Found, Missing, NoConfig, Damaged, Format, import_of, newest, settle}
 use Rattle.vx_copyfmt.specs.Labels.{seen_in}
 use Rattle.vx_copyfmt.specs.declared.area.AreaHeader.{AreaHeader}
 
@@ -141,15 +141,19 @@ NamesDamaged u NoConfig = ⊥
 NamesDamaged u (Damaged disk block stored computed) = disk ≡ u
 NamesDamaged u (Format version) = ⊥
 
+-- no copy that the import reads is later than this serial
+pub record NoneLater {C : Type 0} (reads : List ℕ → Option C) (units : ℕ) (readable : ℕ → Bool) (i : Image) (serial : ℕ) : Type 0 where
+  pub each : (x : ℕ × Copy C) → newest reads readable i units ≡ Some x → x.1.serial ≤ serial
+
 -- An import reads one of these disks, and its greater copy is torn: the import is refused with 22 for it, unless the torn body has the digest
--- of its header.
+-- of its header and no copy that is read is later.
 pub record Spoilt {C : Type 0} (reads : List ℕ → Option C) (failed : C → ℕ → Bool) (disks : ℕ → Type 0) (units : ℕ) (leaves : Values) (readable : ℕ → Bool) (i : Image) : Type 0 where
   pub disk : ℕ
   pub below : disk < units
   pub is : disks disk
   pub read : readable disk ≡ true
   pub torn : Torn reads (leaves disk) (i disk)
-  pub how : NamesDamaged disk (import_of reads failed units readable i) ⊎ Forged (leaves disk) (i disk)
+  pub how : NamesDamaged disk (import_of reads failed units readable i) ⊎ (Forged (leaves disk) (i disk) × NoneLater reads units readable i torn.was.serial)
 
 -- no copy that a crash may leave on the disk has this serial or a greater one
 pub record Older {C : Type 0} (reads : List ℕ → Option C) (serial : ℕ) (slots : Slots) : Type 0 where
