@@ -7,6 +7,7 @@ ghost use Rattle.vx_model.specs.Sends.{promising};
 ghost use Rattle.vx_model.specs.Events.{promise_of as promise_by, promises_of};
 ghost use Rattle.vx_sites.specs.Shapes.{world_of, node_of, link_of, row_of, surety_of, promise_of};
 
+use crate::link::link_in;
 use crate::{Link, Node, Promise, Surety, World};
 use vx_model::{Mode, OutOfMemory, SyncMode};
 
@@ -60,16 +61,6 @@ impl World {
             Some(row) => promise_below(&mut self.promised, node, number, &row.links, sites),
             None => promise_below(&mut self.promised, node, number, &[], sites),
         }
-    }
-}
-
-// The link in this place of a row.
-fn link_in(links: &[Link], to: usize) -> Link
-    ensures { link_of result ≡ row_of links.now to }
-{
-    match links.get(to) {
-        Some(link) => *link,
-        None => Link::none(),
     }
 }
 

@@ -101,6 +101,16 @@ impl Link {
     }
 }
 
+// The link in this place of a row.
+pub fn link_in(links: &[Link], to: usize) -> Link
+    ensures { link_of result ≡ row_of links.now to }
+{
+    match links.get(to) {
+        Some(link) => *link,
+        None => Link::none(),
+    }
+}
+
 /// The links of one site, each in the place of the site that it leads to.
 #[derive(Drop)]
 pub struct Row {
@@ -112,10 +122,7 @@ impl Row {
     pub fn link(&self, to: usize) -> Link
         ensures { link_of result ≡ row_of self.now.links.items to }
     {
-        match self.links.get(to) {
-            Some(link) => *link,
-            None => Link::none(),
-        }
+        link_in(&self.links, to)
     }
 
     /// Puts this link into the place of the site.
