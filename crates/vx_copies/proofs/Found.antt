@@ -317,7 +317,7 @@ module _ (good : ℕ) (c d : Config) (old new : Meaning) (underway : Underway go
   -- a refused one leaves what the others say as it was
   pub stays_silent : (e : Config) → Lawful old → Lawful new → e.disks ≡ c.disks → Silent c old → Silent e new
   stays_silent e before after same silent = record {
-    each = λ i readable is unread.
+    each = λ i readable is reads_one unread.
         let here = quiet good c d old new underway before i readable (λ none. after.none (underway.moves.tells ∙ none) 0 0 (i 0 0) (is 0 0)) is silent
         (λ u held. unread u (record { below = omega (arith, held.below, underway.moves.units); good = subst (λ (ds : List DiskEntry). failed_at ds u ≡ false) (sym same) held.good })) in
         subst (λ (n : ℕ). IsNone (import_of (on_shelf new) failed_in n readable i)) (sym underway.moves.units)

@@ -178,9 +178,16 @@ IsNone NoConfig = Unit {0}
 IsNone (Damaged disk block stored computed) = ⊥
 IsNone (Format version) = ⊥
 
--- an import that reads none of the disks that are held as good finds none
+-- a disk that is held as failed can be read
+pub record ReadsFailed (c : Config) (m : Meaning) (readable : ℕ → Bool) : Type 0 where
+  pub disk : ℕ
+  pub below : disk < m.units
+  pub failed : failed_at c.disks disk ≡ true
+  pub read : readable disk ≡ true
+
+-- an import that reads disks that are held as failed, and none of the others, finds none; so it is where none is held as failed
 pub record Silent (c : Config) (m : Meaning) : Type 0 where
-  pub each : (i : Image) (readable : ℕ → Bool) → Each m.leaves i → ((u : ℕ) → Held c m u → readable u ≡ false) → IsNone (import_of (on_shelf m) failed_in m.units readable i)
+  pub each : (i : Image) (readable : ℕ → Bool) → Each m.leaves i → ReadsFailed c m readable → ((u : ℕ) → Held c m u → readable u ≡ false) → IsNone (import_of (on_shelf m) failed_in m.units readable i)
 
 -- A refused commit changes the serial alone, which is the last one that it began. No header is above it, and what the failed disks say by
 -- themselves stays none.
