@@ -9,7 +9,7 @@ use Rattle.vx_copyfmt.specs.Copies.{Disk}
 use Rattle.vx_copyfmt.specs.Commits.{Amid, Among, FindsNew, FindsOld, Forged, FromNew, FromOld, Gives, Older, Spoilt, Tidy, Torn, exactly}
 use Rattle.vx_copyfmt.specs.Imports.{import_of, is_label}
 use Rattle.vx_copyfmt.specs.Labels.{seen_in}
-use Rattle.vx_copyfmt.proofs.Areas.{no_torn, one_tidy}
+use Rattle.vx_copyfmt.proofs.Areas.{lower_older, no_torn, one_tidy}
 use Rattle.vx_copyfmt.proofs.Subs.{tidy_more}
 use Rattle.vx_copyfmt.proofs.Spoiling.{torn_gives}
 use Rattle.vx_copyfmt.proofs.Committing.{commit_gives, front_gives}
@@ -26,7 +26,7 @@ use Rattle.vx_copies.specs.Looking.{on_shelf}
 use Rattle.vx_copies.specs.Marks.{HasGood, NoneGood, failed_at}
 use Rattle.vx_copies.proofs.Goods.{good_bit}
 use Rattle.vx_copies.proofs.Outcomes.{outcome}
-use Rattle.vx_copies.proofs.OneTry.{as_before, held_or, lower_older, new_wider, not_both, shelf_same}
+use Rattle.vx_copies.proofs.OneTry.{as_before, held_or, new_wider, not_both, shelf_same}
 use Rattle.vx_copies.proofs.Silence.{committed_silent, none_gives, quiet}
 
 -- some image of before, where the shelf tells

@@ -11,7 +11,7 @@ use Rattle.vx_disk.proofs.Moving.{goes_on, still, wider}
 use Rattle.vx_copyfmt.specs.Copies.{Copy, Disk, Holds, copy_of}
 use Rattle.vx_copyfmt.specs.Commits.{Among, Counts, Forged, FromNew, FromOld, Older, Slots, Tidy, Torn, Written, exactly}
 use Rattle.vx_copyfmt.specs.Labels.{seen_in}
-use Rattle.vx_copyfmt.proofs.Areas.{no_forged, no_torn, one_tidy}
+use Rattle.vx_copyfmt.proofs.Areas.{lower_older, no_forged, no_torn, one_tidy}
 use Rattle.vx_copyfmt.proofs.Subs.{counts_sub, forged_sub, old_sub, tidy_more, tidy_sub, torn_sub}
 use Rattle.vx_copyio.specs.Labelling.{AreLarge}
 use Rattle.vx_copyio.specs.Putting.{AreasOf, LeavesSame}
@@ -23,7 +23,7 @@ use Rattle.vx_copies.specs.Commits.{AreTidy, Becomes, Behind, Below, Grown, Held
 use Rattle.vx_copies.specs.Looking.{on_shelf}
 use Rattle.vx_copies.specs.Marks.{NoneGood, failed_at}
 use Rattle.vx_copies.proofs.MarkedDisks.{serial_grown}
-use Rattle.vx_copies.proofs.OneTry.{as_before, held_or, kept_good, later_old, later_torn, lower_older, new_wider, not_both, shelf_same}
+use Rattle.vx_copies.proofs.OneTry.{as_before, held_or, kept_good, later_old, later_torn, new_wider, not_both, shelf_same}
 
 -- ---- none yet
 

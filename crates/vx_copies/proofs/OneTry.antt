@@ -1,15 +1,13 @@
 -- What one try of a commit makes of the disks.
-use Rattle.std.proofs.Common.{◌≡◌, ◌⊎◌, inl, inr, ⊎_elim, ℕ, ◌+◌, ◌<◌, ◌≤◌, Bool, true, false, Option, Some, None, List, length, refl, ap, sym, subst, ◌∙◌, arith}
-use Rattle.std.specs.Prelude.{◌&&◌, not, nat_eq, nat_lt, bytes_eq, if◌then◌else◌}
+use Rattle.std.proofs.Common.{◌≡◌, ◌⊎◌, inl, inr, ⊎_elim, ℕ, ◌+◌, ◌<◌, ◌≤◌, Bool, true, false, Option, Some, List, length, refl, ap, sym, subst, ◌∙◌, arith}
+use Rattle.std.specs.Prelude.{◌&&◌, not, nat_eq}
 use Rattle.std.proofs.lemmas.Bool.{eqb-true, and_parts}
 use Rattle.vx_disk.specs.Blocks.{bit_at}
 use Rattle.vx_disk.specs.Moves.{Beside, Moves}
 use Rattle.vx_disk.specs.Shelf.{Each, Image, Meaning}
-use Rattle.vx_wire.specs.Seals.{digest_of}
-use Rattle.vx_copyfmt.specs.Areas.{header_of}
-use Rattle.vx_copyfmt.specs.declared.area.AreaHeader.{AreaHeader}
-use Rattle.vx_copyfmt.specs.Copies.{Copy, Disk, Holds, body_of, copy_at, copy_of, copy_under, greater, judged}
+use Rattle.vx_copyfmt.specs.Copies.{Copy, Disk, Holds, copy_of}
 use Rattle.vx_copyfmt.specs.Commits.{Among, Counts, Fit, Forged, FromNew, FromOld, Lower, Older, Slots, Tidy, Torn, exactly}
+use Rattle.vx_copyfmt.proofs.Areas.{lower_older}
 use Rattle.vx_copyfmt.proofs.Subs.{lower_more, lower_sub, tidy_more}
 use Rattle.vx_copyio.specs.Putting.{AreasOf, IsMember, LeavesSame, part_of}
 use Rattle.vx_config.specs.Checks.{is_sound, runs}
@@ -89,43 +87,9 @@ second_bit : (a b : Bool) → a ≡ true → b ≡ false → (a && not b) ≡ tr
 second_bit true b one two = ap not two
 second_bit false b one two = one
 
--- ---- serials of copies
+-- ---- where a copy comes from
 
 module _ {C : Type 0} (reads : List ℕ → Option C) where
-  judged_serial : (a : ℕ) (h : AreaHeader) (body : List ℕ) (o : Option C) (b : Bool) (x : Copy C) → judged a h body o b ≡ Some x → x.serial ≡ h.serial
-  judged_serial a h body None true x is = absurd cc
-  judged_serial a h body (Some c) true x is = let same : record { serial = h.serial; area = a; body = Holds c } ≡ x = cc in sym (ap (λ (y : Copy C). y.serial) same)
-  judged_serial a h body o false x is = by_same h.serial refl
-    where
-      by_same : (n : ℕ) → n ≡ h.serial → x.serial ≡ h.serial
-      by_same n same = cc
-
-  under_below : (s : ℕ) (d : Disk) (a : ℕ) (o : Option AreaHeader) → ((h : AreaHeader) → o ≡ Some h → h.serial < s) → (x : Copy C) → copy_under reads d a o ≡ Some x → x.serial < s
-  under_below s d a None below x is = absurd cc
-  under_below s d a (Some h) below x is =
-      let body : List ℕ = body_of d a h.length in
-      let same : x.serial ≡ h.serial = judged_serial a h body (reads body) (bytes_eq (digest_of body) h.digest) x is in
-      omega (arith, same, below h refl)
-
-  greater_below : (s : ℕ) (o p : Option (Copy C)) → ((x : Copy C) → o ≡ Some x → x.serial < s) → ((x : Copy C) → p ≡ Some x → x.serial < s) → (x : Copy C) → greater o p ≡ Some x → x.serial < s
-  greater_below s None p one two x is = two x is
-  greater_below s (Some y) None one two x is = one x is
-  greater_below s (Some y) (Some z) one two x is = by_test (nat_lt y.serial z.serial) is
-    where
-      by_test : (b : Bool) → (if b then Some z else Some y) ≡ Some x → x.serial < s
-      by_test true has = two x has
-      by_test false has = one x has
-
-  -- a copy has the serial of a header
-  pub lower_older : (s : ℕ) (slots : Slots) → Lower s slots → Older reads s slots
-  lower_older s slots low = record {
-    below = λ d x among is.
-        greater_below s (copy_at reads d 1) (copy_at reads d 129) (under_below s d 1 (header_of (d 1)) (λ h head. low 1 (d 1) h (inl refl) (among 1) head))
-        (under_below s d 129 (header_of (d 129)) (λ h head. low 129 (d 129) h (inr refl) (among 129) head)) x is;
-  }
-
-  -- ---- where a copy comes from
-
   abbrev pub new_wider : (P Q : ℕ → C → Type 0) (slots : Slots) (d : Disk) → ((s : ℕ) (c : C) → P s c → Q s c) → FromNew reads P slots d → FromNew reads Q slots d
   new_wider P Q slots d more from = record {
     serial = from.serial;

@@ -6,11 +6,12 @@ use Rattle.vx_disk.specs.Blocks.{bit_at}
 use Rattle.vx_disk.specs.Moves.{Beside}
 use Rattle.vx_disk.specs.Shelf.{Each, Image, Meaning}
 use Rattle.vx_copyfmt.specs.Copies.{Copy, Disk, Holds, copy_of}
-use Rattle.vx_copyfmt.specs.Commits.{Answers, FromNew, FromOld, Gives, IsGood, Older, Torn}
+use Rattle.vx_copyfmt.specs.Commits.{Answers, FromNew, FromOld, Gives, Older, Torn}
+use Rattle.vx_copyfmt.proofs.Areas.{lower_older}
 use Rattle.vx_copyfmt.proofs.Spoiling.{Beside as Near, Kept, WasTorn, import_torn}
-use Rattle.vx_copyfmt.specs.Imports.{Damaged, Format, Found, Missing, NoConfig, Outcome as Finding, import_of, is_label, later, missing, newest, on_disk, or_missing, settle}
+use Rattle.vx_copyfmt.specs.Imports.{import_of, is_label, later, newest, on_disk}
 use Rattle.vx_copyfmt.specs.Labels.{seen_in}
-use Rattle.vx_copyfmt.proofs.Committing.{found_wants, no_strange, none_missing}
+use Rattle.vx_copyfmt.proofs.Committing.{found_wants, no_strange, old_misses, settle_gives, settle_misses}
 use Rattle.vx_copyfmt.proofs.Newest.{Below, BelowCopy, amid_gives, below_later, below_on, import_new, later_either, later_keeps, later_none, later_takes}
 use Rattle.vx_copyio.specs.Putting.{AreasOf}
 use Rattle.vx_config.specs.declared.config.Config.{Config}
@@ -18,34 +19,7 @@ use Rattle.vx_copies.specs.Bodies.{failed_in}
 use Rattle.vx_copies.specs.Commits.{Becomes, Behind, Below as Under, HaveLabels, Held, IsOne, IsTry, Outcome, Ready, Stage, Underway, WasCommitted}
 use Rattle.vx_copies.specs.Looking.{on_shelf}
 use Rattle.vx_copies.specs.Marks.{failed_at}
-use Rattle.vx_copies.proofs.OneTry.{as_before, held_or, later_torn, lower_older, not_both}
-
--- ---- what is settled
-
-settle_gives : (units : ℕ) (readable : ℕ → Bool) (c : Config) → Gives c (settle failed_in units readable c)
-settle_gives units readable c = by_missing (missing (failed_in c) readable units)
-  where
-    by_missing : (o : Option ℕ) → Gives c (or_missing c o)
-    by_missing None = refl
-    by_missing (Some d) = tt
-
--- a configuration one of whose disks cannot be read is not found
-settle_misses : (units : ℕ) (readable : ℕ → Bool) (c x : Config) (g : ℕ) → g < units → failed_in c g ≡ false → readable g ≡ false → Gives x (settle failed_in units readable c)
-settle_misses units readable c x g lt good out = by_missing (missing (failed_in c) readable units) refl
-  where
-    by_missing : (o : Option ℕ) → missing (failed_in c) readable units ≡ o → Gives x (or_missing c o)
-    by_missing (Some d) is = tt
-    by_missing None is = absurd (not_both (readable g) out (none_missing (failed_in c) readable units is g lt good))
-
--- what was committed before misses a disk of its own
-old_misses : (held : Option Config) (x : Config) (readable : ℕ → Bool) (g : ℕ) → IsGood failed_in held g → readable g ≡ false → (o : Finding Config) → Answers held o
-    → ((c : Config) → o ≡ Found c → failed_in c g ≡ false → readable g ≡ true) → Gives x o
-old_misses None x readable g was out o answers wants = subst (Gives x) (sym answers) tt
-old_misses (Some c) x readable g was out (Found y) answers wants = absurd (not_both (readable g) out (wants y refl (subst (λ (k : Config). failed_in k g ≡ false) (sym answers) was)))
-old_misses (Some c) x readable g was out (Missing d) answers wants = tt
-old_misses (Some c) x readable g was out NoConfig answers wants = tt
-old_misses (Some c) x readable g was out (Damaged d b s t) answers wants = absurd answers
-old_misses (Some c) x readable g was out (Format v) answers wants = absurd answers
+use Rattle.vx_copies.proofs.OneTry.{as_before, held_or, later_torn, not_both}
 
 -- ---- the greatest copy of those that can be read
 
@@ -283,16 +257,16 @@ module _ (good : ℕ) (c d : Config) (old new : Meaning) (underway : Underway go
     each_gives : (readable : ℕ → Bool) → Gives from.config (import_of reads failed_in old.units readable i)
     each_gives readable = elim (top_of reads from.serial from.config old.units i readable labelled class old.units (omega arith)) [
       | inl top ↦ subst (Gives from.config) (sym (import_new reads failed_in (λ s y. ⊥) from.serial (λ s y no. absurd no) old.units readable i top.0 (record { serial = from.serial; area = top.1; body = Holds from.config }) from.config
-          (no_strange readable i old.units labelled) top.2 refl)) (settle_gives old.units readable from.config)
+          (no_strange readable i old.units labelled) top.2 refl)) (settle_gives failed_in old.units readable from.config)
       | inr rest ↦
           let out : readable u ≡ false = unread readable u from (omega arith) (rest.1 u mine.below) in
           let lead = leading in
           let lead_out : readable lead.0 ≡ false = unread readable lead.0 lead.3 lead.4 (rest.1 lead.0 lead.1.below) in
           elim (amid_gives reads failed_in Begun (c.serial + 1) (λ s y begun. omega (arith, begun.0)) old.units old.leaves i base begun_kind has far older readable) [
             | inl before ↦ subst (Gives from.config) (sym before.same)
-                (old_misses held from.config readable lead.0 (was.members lead.0 lead.1.below lead.2) lead_out (import_of reads failed_in old.units readable before.image) (was.committed.each before.image readable before.left)
+                (old_misses failed_in held from.config readable lead.0 (was.members lead.0 lead.1.below lead.2) lead_out (import_of reads failed_in old.units readable before.image) (was.committed.each before.image readable before.left)
                 (found_wants failed_in reads old.units readable before.image lead.0 lead.1.below))
-            | inr made ↦ subst (Gives from.config) (sym made.found) (settle_misses old.units readable made.config from.config u mine.below (holds_it made.serial made.config made.made) out)
+            | inr made ↦ subst (Gives from.config) (sym made.found) (settle_misses failed_in old.units readable made.config from.config u mine.below (holds_it made.serial made.config made.made) out)
           ]
     ]
 

@@ -8,7 +8,7 @@ use Rattle.vx_copyfmt.specs.Areas.{header_of}
 use Rattle.vx_copyfmt.specs.Labels.{seen_in}
 use Rattle.vx_copyfmt.specs.declared.area.AreaHeader.{AreaHeader}
 use Rattle.vx_copyfmt.specs.Copies.{Disk, Copy, Holds, Differs, run_of, body_of, area_a, area_b, greater, holding, judged, copy_with, copy_under, copy_at, copy_of}
-use Rattle.vx_copyfmt.specs.Commits.{Slots, Among, target_of, exactly, IsHeaderBlock, IsTop, Lower, Counts, Fit, Tidy, TwoTargets, Mixed, FromOld, Forged, Broken, Torn}
+use Rattle.vx_copyfmt.specs.Commits.{Slots, Among, target_of, exactly, IsHeaderBlock, IsTop, Lower, Counts, Fit, Tidy, TwoTargets, Mixed, FromOld, Forged, Broken, Torn, Older}
 
 -- ---- what an area depends on
 
@@ -30,15 +30,6 @@ holding_serial area n (Some c) = refl
 judged_serial : {C : Type 0} (area : ℕ) (h : AreaHeader) (body : List ℕ) (o : Option C) (b : Bool) → HasSerial h.serial (judged area h body o b)
 judged_serial area h body o true = holding_serial area h.serial o
 judged_serial area h body o false = refl
-
--- the greater of two is the second, and the first
-greater_second : {C : Type 0} (m : ℕ) (o : Option (Copy C)) (y : Copy C) → HasSerial m o → m < y.serial → greater o (Some y) ≡ Some y
-greater_second m None y has lt = refl
-greater_second m (Some x) y has lt = rw (lt-ltb x.serial y.serial (omega (arith, has, lt))) refl
-
-greater_first : {C : Type 0} (m : ℕ) (x : Copy C) (o : Option (Copy C)) → HasSerial m o → m ≤ x.serial → greater (Some x) o ≡ Some x
-greater_first m x None has le = refl
-greater_first m x (Some y) has le = rw (le-ltb x.serial y.serial (omega (arith, has, le))) refl
 
 -- a target is one of the two headers
 pub target_block : (p q : Option AreaHeader) → IsHeaderBlock (target_of p q)
@@ -218,37 +209,8 @@ module _ {C : Type 0} (reads : List ℕ → Option C) where
     | inr low ↦ subst (slots b) (sym (mended_out d base area b (inl low))) (outside slots area b (d b) (inl low) (mixed b))
   ]
 
-  -- where the next copy goes, by what stands in both headers
-  data Goes (d : Disk) (area : ℕ) : Type 0 where
-    NoneThere : area ≡ area_a → header_of (d area_a) ≡ None → Goes d area
-    OnlyA : (x : AreaHeader) → area ≡ area_b → header_of (d area_a) ≡ Some x → header_of (d area_b) ≡ None → Goes d area
-    BGreater : (x y : AreaHeader) → area ≡ area_a → header_of (d area_a) ≡ Some x → header_of (d area_b) ≡ Some y → x.serial < y.serial → Goes d area
-    AGreater : (x y : AreaHeader) → area ≡ area_b → header_of (d area_a) ≡ Some x → header_of (d area_b) ≡ Some y → y.serial ≤ x.serial → Goes d area
-
-  goes_where : (d : Disk) (p q : Option AreaHeader) → header_of (d area_a) ≡ p → header_of (d area_b) ≡ q → Goes d (target_of p q)
-  goes_where d None q first second = NoneThere refl first
-  goes_where d (Some x) None first second = OnlyA x refl first second
-  goes_where d (Some x) (Some y) first second = elim (cases_lt x.serial y.serial) [
-    | inl lt ↦ BGreater x y (rw (lt-ltb x.serial y.serial lt) refl) first second lt
-    | inr le ↦ AGreater x y (rw (le-ltb x.serial y.serial le) refl) first second le
-  ]
-
-  -- the copies of two disks are one where their areas are: whatever stands in the other one is less
-  module _ (d e : Disk) where
-    same_b : (o p : Option (Copy C)) (y : Copy C) (m n : ℕ) → copy_at reads d area_a ≡ o → copy_at reads e area_a ≡ p → HasSerial m o → HasSerial n p
-        → copy_at reads d area_b ≡ Some y → copy_at reads e area_b ≡ Some y → m < y.serial → n < y.serial → copy_of reads d ≡ copy_of reads e
-    same_b o p y m n od pe has_m has_n yd ye lt_m lt_n =
-        ap (λ (t : Option (Copy C)). greater t (copy_at reads d area_b)) od ∙ ap (greater o) yd ∙ greater_second m o y has_m lt_m
-        ∙ sym (ap (λ (t : Option (Copy C)). greater t (copy_at reads e area_b)) pe ∙ ap (greater p) ye ∙ greater_second n p y has_n lt_n)
-
-    same_a : (o p : Option (Copy C)) (x : Copy C) (m n : ℕ) → copy_at reads d area_b ≡ o → copy_at reads e area_b ≡ p → HasSerial m o → HasSerial n p
-        → copy_at reads d area_a ≡ Some x → copy_at reads e area_a ≡ Some x → m ≤ x.serial → n ≤ x.serial → copy_of reads d ≡ copy_of reads e
-    same_a o p x m n od pe has_m has_n xd xe le_m le_n =
-        ap (λ (t : Option (Copy C)). greater t (copy_at reads d area_b)) xd ∙ ap (greater (Some x)) od ∙ greater_first m x o has_m le_m
-        ∙ sym (ap (λ (t : Option (Copy C)). greater t (copy_at reads e area_b)) xe ∙ ap (greater (Some x)) pe ∙ greater_first n x p has_n le_n)
-
-    same_both : copy_at reads d area_a ≡ copy_at reads e area_a → copy_at reads d area_b ≡ copy_at reads e area_b → copy_of reads d ≡ copy_of reads e
-    same_both one two = ap (λ (t : Option (Copy C)). greater t (copy_at reads d area_b)) one ∙ ap (greater (copy_at reads e area_a)) two
+  same_both : (d e : Disk) → copy_at reads d area_a ≡ copy_at reads e area_a → copy_at reads d area_b ≡ copy_at reads e area_b → copy_of reads d ≡ copy_of reads e
+  same_both d e one two = ap (λ (t : Option (Copy C)). greater t (copy_at reads d area_b)) one ∙ ap (greater (copy_at reads e area_a)) two
 
   pub serial_under : (d : Disk) (area : ℕ) (h : AreaHeader) (x : Copy C) → header_of (d area) ≡ Some h → copy_at reads d area ≡ Some x → x.serial ≡ h.serial
   serial_under d area h x head is = subst (HasSerial h.serial) is (under_serial d area h (header_of (d area)) head)
@@ -294,14 +256,30 @@ module _ {C : Type 0} (reads : List ℕ → Option C) where
       omega (arith, lt, same, number))
 
   -- and none is greater
-  pub greater_most : (m : ℕ) (o p : Option (Copy C)) → ((x : Copy C) → o ≡ Some x → x.serial ≤ m) → ((x : Copy C) → p ≡ Some x → x.serial ≤ m) → (x : Copy C) → greater o p ≡ Some x → x.serial ≤ m
-  greater_most m None p one two x is = two x is
-  greater_most m (Some y) None one two x is = one x is
-  greater_most m (Some y) (Some z) one two x is = by_test (nat_lt y.serial z.serial) is
+  greater_either : (o p : Option (Copy C)) (x : Copy C) → greater o p ≡ Some x → (o ≡ Some x) ⊎ (p ≡ Some x)
+  greater_either None p x is = inr is
+  greater_either (Some y) None x is = inl is
+  greater_either (Some y) (Some z) x is = by_test (nat_lt y.serial z.serial) is
     where
-      by_test : (b : Bool) → (if b then Some z else Some y) ≡ Some x → x.serial ≤ m
-      by_test true it = two x it
-      by_test false it = one x it
+      by_test : (b : Bool) → (if b then Some z else Some y) ≡ Some x → (Some y ≡ Some x) ⊎ (Some z ≡ Some x)
+      by_test true it = inr it
+      by_test false it = inl it
+
+  pub greater_most : (m : ℕ) (o p : Option (Copy C)) → ((x : Copy C) → o ≡ Some x → x.serial ≤ m) → ((x : Copy C) → p ≡ Some x → x.serial ≤ m) → (x : Copy C) → greater o p ≡ Some x → x.serial ≤ m
+  greater_most m o p one two x is = ⊎_elim (λ has. one x has) (λ has. two x has) (greater_either o p x is)
+
+  -- where no header has the serial or a greater one, no copy has
+  pub lower_older : (serial : ℕ) (slots : Slots) → Lower serial slots → Older reads serial slots
+  lower_older serial slots low = record {
+    below = λ d x among is. ⊎_elim (λ has. each d area_a (inl refl) among x has) (λ has. each d area_b (inr refl) among x has) (greater_either (copy_at reads d area_a) (copy_at reads d area_b) x is);
+  }
+    where
+      each : (d : Disk) (area : ℕ) → IsHeaderBlock area → Among slots d → (x : Copy C) → copy_at reads d area ≡ Some x → x.serial < serial
+      each d area one among x has =
+          let found = copy_header d area (header_of (d area)) refl x has in
+          let lt : found.0.serial < serial = low area (d area) found.0 one (among area) found.1 in
+          let same : x.serial ≡ found.0.serial = found.2 in
+          omega (arith, lt, same)
 
   pub top_most : (d : Disk) (a : ℕ) (h : AreaHeader) → IsHeaderBlock a → IsTop d a h → (x : Copy C) → copy_of reads d ≡ Some x → x.serial ≤ h.serial
   top_most d a h is top = greater_most h.serial (copy_at reads d area_a) (copy_at reads d area_b) (each area_a (inl refl)) (each area_b (inr refl))
@@ -318,78 +296,6 @@ module _ {C : Type 0} (reads : List ℕ → Option C) where
 
   -- the copy of a disk is that of the one that stood there
   module _ (slots : Slots) (counts : Counts reads slots) (base : Disk) (has : Among slots base) (d : Disk) where
-    stays_by : (area : ℕ) → Goes d area → Mixed slots area d → FromOld reads slots d
-    stays_by area (NoneThere is first) mixed =
-        let e : Disk = mended d base area_a in
-        let own : Mixed slots area_a d = subst (λ (k : ℕ). Mixed slots k d) is mixed in
-        let head : e area_a ≡ d area_a = mended_out d base area_a area_a (inl (omega arith)) in
-        let b_same : copy_at reads d area_b ≡ copy_at reads e area_b = copy_at-same d e area_b (λ b low high. sym (mended_out d base area_a b (inr (omega (arith, low))))) in
-        let a_same : copy_at reads d area_a ≡ copy_at reads e area_a =
-        under_none d area_a (header_of (d area_a)) first ∙ sym (under_none e area_a (header_of (e area_a)) (ap header_of head ∙ first)) in
-        record {
-          disk = e;
-          among = mended_among slots d base area_a has own;
-          label = ap seen_in (sym (mended_out d base area_a 0 (inl (omega arith))));
-          copy = same_both d e a_same b_same;
-        }
-    stays_by area (OnlyA x is first second) mixed =
-        let e : Disk = mended d base area_b in
-        let own : Mixed slots area_b d = subst (λ (k : ℕ). Mixed slots k d) is mixed in
-        let head : e area_b ≡ d area_b = mended_out d base area_b area_b (inl (omega arith)) in
-        let a_same : copy_at reads d area_a ≡ copy_at reads e area_a = copy_at-same d e area_a (λ b low high. sym (mended_out d base area_b b (inl (omega (arith, high))))) in
-        let b_same : copy_at reads d area_b ≡ copy_at reads e area_b =
-        under_none d area_b (header_of (d area_b)) second ∙ sym (under_none e area_b (header_of (e area_b)) (ap header_of head ∙ second)) in
-        record {
-          disk = e;
-          among = mended_among slots d base area_b has own;
-          label = ap seen_in (sym (mended_out d base area_b 0 (inl (omega arith))));
-          copy = same_both d e a_same b_same;
-        }
-    stays_by area (BGreater x y is first second lt) mixed =
-        let e : Disk = mended d base area_a in
-        let own : Mixed slots area_a d = subst (λ (k : ℕ). Mixed slots k d) is mixed in
-        let among : Among slots e = mended_among slots d base area_a has own in
-        let head : e area_a ≡ d area_a = mended_out d base area_a area_a (inl (omega arith)) in
-        let other : e area_b ≡ d area_b = mended_out d base area_a area_b (inr (omega arith)) in
-        let b_same : copy_at reads d area_b ≡ copy_at reads e area_b = copy_at-same d e area_b (λ b low high. sym (mended_out d base area_a b (inr (omega (arith, low))))) in
-        let top : IsTop e area_b y = record {
-          head = ap header_of other ∙ second;
-          kept = λ at. let clash : area_a ≡ area_b = sym (target_low (header_of (e area_a)) (header_of (e area_b)) x y (ap header_of head ∙ first) (ap header_of other ∙ second) lt) ∙ at in omega (arith, clash);
-        } in
-        let counted = counts e area_b y (inr refl) among top in
-        let number : counted.0.serial ≡ y.serial = serial_under e area_b y counted.0 (ap header_of other ∙ second) counted.1 in
-        let below : x.serial < counted.0.serial = omega (arith, number, lt) in
-        record {
-          disk = e;
-          among = among;
-          label = ap seen_in (sym (mended_out d base area_a 0 (inl (omega arith))));
-          copy = same_b d e (copy_at reads d area_a) (copy_at reads e area_a) counted.0 x.serial x.serial refl refl
-              (under_serial d area_a x (header_of (d area_a)) first) (under_serial e area_a x (header_of (e area_a)) (ap header_of head ∙ first))
-              (b_same ∙ counted.1) counted.1 below below;
-        }
-    stays_by area (AGreater x y is first second le) mixed =
-        let e : Disk = mended d base area_b in
-        let own : Mixed slots area_b d = subst (λ (k : ℕ). Mixed slots k d) is mixed in
-        let among : Among slots e = mended_among slots d base area_b has own in
-        let head : e area_b ≡ d area_b = mended_out d base area_b area_b (inl (omega arith)) in
-        let other : e area_a ≡ d area_a = mended_out d base area_b area_a (inl (omega arith)) in
-        let a_same : copy_at reads d area_a ≡ copy_at reads e area_a = copy_at-same d e area_a (λ b low high. sym (mended_out d base area_b b (inl (omega (arith, high))))) in
-        let top : IsTop e area_a x = record {
-          head = ap header_of other ∙ first;
-          kept = λ at. let clash : area_b ≡ area_a = sym (target_high (header_of (e area_a)) (header_of (e area_b)) x y (ap header_of other ∙ first) (ap header_of head ∙ second) le) ∙ at in omega (arith, clash);
-        } in
-        let counted = counts e area_a x (inl refl) among top in
-        let number : counted.0.serial ≡ x.serial = serial_under e area_a x counted.0 (ap header_of other ∙ first) counted.1 in
-        let below : y.serial ≤ counted.0.serial = omega (arith, number, le) in
-        record {
-          disk = e;
-          among = among;
-          label = ap seen_in (sym (mended_out d base area_b 0 (inl (omega arith))));
-          copy = same_a d e (copy_at reads d area_b) (copy_at reads e area_b) counted.0 y.serial y.serial refl refl
-              (under_serial d area_b y (header_of (d area_b)) second) (under_serial e area_b y (header_of (e area_b)) (ap header_of head ∙ second))
-              (a_same ∙ counted.1) counted.1 below below;
-        }
-
     mended_same : (area : ℕ) → IsHeaderBlock area → (b : ℕ) → IsHeaderBlock b → d b ≡ mended d base area b
     mended_same area one b is = sym (mended_out d base area b (head_out area b one is))
 
@@ -410,6 +316,31 @@ module _ {C : Type 0} (reads : List ℕ → Option C) where
           label = ap seen_in (sym (mended_out d base area 0 (label_out area one)));
           copy = same_both d e (a_none ∙ sym a_then) (b_none ∙ sym b_then);
         }
+
+    -- where the greater header stands in another area, its copy does
+    top_stays : (area a : ℕ) → IsHeaderBlock area → IsHeaderBlock a → (area ≡ a → ⊥) → Mixed slots area d → (g : AreaHeader) → IsTop d a g → FromOld reads slots d
+    top_stays area a one is apart mixed g top =
+        let e : Disk = mended d base area in
+        let among : Among slots e = mended_among slots d base area has mixed in
+        let after : IsTop e a g = mended_top area a g one is top in
+        let found = counts e a g is among after in
+        let same : copy_at reads d a ≡ copy_at reads e a = copy_at-same d e a (λ b low high. sym (mended_out d base area b (area_out area a b one is apart low high))) in
+        record {
+          disk = e;
+          among = among;
+          label = ap seen_in (sym (mended_out d base area 0 (label_out area one)));
+          copy = top_copy d a g found.0 is top (same ∙ found.1) ∙ sym (top_copy e a g found.0 is after found.1);
+        }
+
+    stays_by : (area a : ℕ) → IsHeaderBlock area → IsHeaderBlock a → (area ≡ a → ⊥) → Mixed slots area d → own_target d ≡ area → Sent d a → FromOld reads slots d
+    stays_by area a one is apart mixed own (Here to) = absurd (apart (sym own ∙ to))
+    stays_by area a one is apart mixed own (Bare first second) = bare_stays area one first second mixed
+    stays_by area a one is apart mixed own (OnTop g top) = top_stays area a one is apart mixed g top
+
+    -- where the body was written into the area that does not hold it
+    stays : (area : ℕ) → IsHeaderBlock area → Mixed slots area d → own_target d ≡ area → FromOld reads slots d
+    stays area (inl first) mixed own = stays_by area area_b (inl first) (inr refl) (λ same. omega (arith, first, same)) mixed own (sent_by d area_b (header_of (d area_a)) (header_of (d area_b)) refl refl (inr refl))
+    stays area (inr second) mixed own = stays_by area area_a (inr second) (inl refl) (λ same. omega (arith, second, same)) mixed own (sent_by d area_a (header_of (d area_a)) (header_of (d area_b)) refl refl (inl refl))
 
     -- the headers stand as a crash may leave them
     header_there : (area : ℕ) → IsHeaderBlock area → Mixed slots area d → (a : ℕ) → IsHeaderBlock a → slots a (d a)
@@ -497,7 +428,7 @@ module _ {C : Type 0} (reads : List ℕ → Option C) where
 
     kind_by : (area : ℕ) → IsHeaderBlock area → Mixed slots area d → (v w : List ℕ) → slots area_a v → slots area_b w → target_of (header_of v) (header_of w) ≡ area → Sent d area
         → FromOld reads slots d ⊎ Torn reads slots d
-    kind_by area one mixed v w in_a in_b to (Here is) = inl (stays_by area (subst (Goes d) is (goes_where d (header_of (d area_a)) (header_of (d area_b)) refl refl)) mixed)
+    kind_by area one mixed v w in_a in_b to (Here is) = inl (stays area one mixed is)
     kind_by area one mixed v w in_a in_b to (Bare first second) = inl (bare_stays area one first second mixed)
     kind_by area one mixed v w in_a in_b to (OnTop g top) =
         torn_kind area one mixed g top v w (in_a, in_b, to) (stands_by g.digest (body_of d area g.length) (body_of (mended d base area) area g.length))

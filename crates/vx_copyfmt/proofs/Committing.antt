@@ -52,7 +52,8 @@ none_missing failed readable (suc n) none d lt good =
     ]
 
 module _ {C : Type 0} (failed : C → ℕ → Bool) where
-  settle_gives : (units : ℕ) (readable : ℕ → Bool) (c : C) → Gives c (settle failed units readable c)
+  -- what is settled is this configuration, or misses a disk
+  pub settle_gives : (units : ℕ) (readable : ℕ → Bool) (c : C) → Gives c (settle failed units readable c)
   settle_gives units readable c = by_missing (missing (failed c) readable units)
     where
       by_missing : (o : Option ℕ) → Gives c (or_missing c o)
@@ -60,12 +61,23 @@ module _ {C : Type 0} (failed : C → ℕ → Bool) where
       by_missing (Some d) = tt
 
   -- a configuration one of whose disks cannot be read is not found
-  settle_misses : (units : ℕ) (readable : ℕ → Bool) (c f : C) (g : ℕ) → g < units → failed c g ≡ false → readable g ≡ false → Gives f (settle failed units readable c)
+  pub settle_misses : (units : ℕ) (readable : ℕ → Bool) (c f : C) (g : ℕ) → g < units → failed c g ≡ false → readable g ≡ false → Gives f (settle failed units readable c)
   settle_misses units readable c f g lt good out = by_missing (missing (failed c) readable units) refl
     where
       by_missing : (o : Option ℕ) → missing (failed c) readable units ≡ o → Gives f (or_missing c o)
       by_missing (Some d) is = tt
       by_missing None is = let there : false ≡ true = sym out ∙ none_missing (failed c) readable units is g lt good in absurd cc
+
+  -- and so does what was committed before
+  pub old_misses : (held : Option C) (f : C) (readable : ℕ → Bool) (g : ℕ) → IsGood failed held g → readable g ≡ false → (o : Outcome C) → Answers held o
+      → ((c : C) → o ≡ Found c → failed c g ≡ false → readable g ≡ true) → Gives f o
+  old_misses None f readable g was out o answers wants = subst (Gives f) (sym answers) tt
+  old_misses (Some c) f readable g was out (Found x) answers wants =
+      let there : false ≡ true = sym out ∙ wants x refl (subst (λ (k : C). failed k g ≡ false) (sym answers) was) in absurd cc
+  old_misses (Some c) f readable g was out (Missing d) answers wants = tt
+  old_misses (Some c) f readable g was out NoConfig answers wants = tt
+  old_misses (Some c) f readable g was out (Damaged d b s t) answers wants = absurd answers
+  old_misses (Some c) f readable g was out (Format v) answers wants = absurd answers
 
   -- what is found wants each disk that it holds as good
   module _ (reads : List ℕ → Option C) where
@@ -181,19 +193,10 @@ module _ {C : Type 0} (failed : C → ℕ → Bool) where
         → Gives f out ⊎ Spoilt reads failed disks units leaves readable i
     commit_gives held begun disks leaves g lt good was_good committed grows finds = by_read (readable g) refl
       where
-        old_found : (h : Option C) → IsGood failed h g → readable g ≡ false → (o : Outcome C) → Answers h o → ((c : C) → o ≡ Found c → failed c g ≡ false → readable g ≡ true) → Gives f o
-        old_found None was not_read o answers wants = subst (Gives f) (sym answers) tt
-        old_found (Some c) was not_read (Found x) answers wants =
-            let there : false ≡ true = sym not_read ∙ wants x refl (subst (λ (k : C). failed k g ≡ false) (sym answers) was) in absurd cc
-        old_found (Some c) was not_read (Missing d) answers wants = tt
-        old_found (Some c) was not_read NoConfig answers wants = tt
-        old_found (Some c) was not_read (Damaged d b s t) answers wants = absurd answers
-        old_found (Some c) was not_read (Format v) answers wants = absurd answers
-
         by_read : (b : Bool) → readable g ≡ b → Gives f out ⊎ Spoilt reads failed disks units leaves readable i
         by_read true in_it = inl (front_gives g lt good in_it)
         by_read false not_read = elim finds [
-          | inl old ↦ inl (subst (Gives f) (sym old.same) (old_found held was_good not_read (import_of reads failed units readable old.image) (committed.each old.image readable old.left) (found_wants reads units readable old.image g lt)))
+          | inl old ↦ inl (subst (Gives f) (sym old.same) (old_misses held f readable g was_good not_read (import_of reads failed units readable old.image) (committed.each old.image readable old.left) (found_wants reads units readable old.image g lt)))
           | inr (inl new) ↦ inl (subst (Gives f) (sym new.found) (settle_misses units readable new.config f g lt (grows new.serial new.config new.made) not_read))
           | inr (inr refused) ↦ inr refused
         ]
