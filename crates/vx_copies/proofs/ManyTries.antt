@@ -6,7 +6,6 @@ use Rattle.vx_disk.specs.Blocks.{bit_at}
 use Rattle.vx_disk.specs.Counts.{Rose}
 use Rattle.vx_disk.specs.Moves.{Beside}
 use Rattle.vx_disk.specs.Shelf.{Each, Image, Lawful, Meaning}
-use Rattle.vx_disk.proofs.Causing.{Rose_after, Rose_before}
 use Rattle.vx_disk.proofs.Moving.{goes_on, still, wider}
 use Rattle.vx_copyfmt.specs.Copies.{Copy, Disk, Holds, copy_of}
 use Rattle.vx_copyfmt.specs.Commits.{Among, Counts, Forged, FromNew, FromOld, Older, Slots, Tidy, Torn, Written, exactly}
@@ -17,11 +16,11 @@ use Rattle.vx_copyio.specs.Labelling.{AreLarge}
 use Rattle.vx_copyio.specs.Putting.{AreasOf, LeavesSame}
 use Rattle.vx_config.specs.Table.{greatest}
 use Rattle.vx_config.specs.declared.config.Config.{Config}
-use Rattle.vx_config.specs.declared.entry.DiskEntry.{DiskEntry}
 use Rattle.vx_copies.specs.Bodies.{failed_in}
-use Rattle.vx_copies.specs.Commits.{AreTidy, Becomes, Behind, Below, Grown, Held, IsBefore, IsBlamed, IsOne, LeavesLater, MoreFailed, Ready, Remain, Stage, Stands, Underway, lowest_member}
+use Rattle.vx_copies.specs.Commits.{AreTidy, Becomes, Behind, Below, Held, IsBefore, IsBlamed, IsOne, LeavesLater, Ready, Remain, Stage, Stands, Underway, lowest_member}
 use Rattle.vx_copies.specs.Looking.{on_shelf}
 use Rattle.vx_copies.specs.Marks.{NoneGood, failed_at}
+use Rattle.vx_copies.proofs.Growing.{before_first, before_later, grown_both}
 use Rattle.vx_copies.proofs.MarkedDisks.{serial_grown}
 use Rattle.vx_copies.proofs.OneTry.{as_before, held_or, kept_good, later_old, later_torn, new_wider, not_both, shelf_same}
 
@@ -44,52 +43,6 @@ none_yet good c m = record {
     fit = λ ready u held. inl (one_tidy (on_shelf m) (c.serial + 1) (m.leaves u) (i u) (record { counts = ready.counts u held; below = ready.below.each u held.below }) (λ b. left u b));
   };
 }
-
--- ---- more disks that are held as failed
-
-module _ (old mid new : Meaning) (one : (u : ℕ) → old.faults u ≤ mid.faults u) (two : (u : ℕ) → mid.faults u ≤ new.faults u) where
-  more_both : (a b c : List DiskEntry) → MoreFailed old mid a b → MoreFailed mid new b c → MoreFailed old new a c
-  more_both a b c first second = record {
-    count = second.count ∙ first.count;
-    blocks = λ u. second.blocks u ∙ first.blocks u;
-    stays = λ u failed. second.stays u (first.stays u failed);
-    blamed = λ u was is. elim (held_or b u) [
-      | inl good ↦ Rose_before _ _ _ (one u) (second.blamed u good is)
-      | inr failed ↦ Rose_after _ _ _ (first.blamed u was failed) (two u)
-    ];
-  }
-
-  pub grown_both : (a c d : Config) → Grown old mid a c → Grown mid new c d → Grown old new a d
-  grown_both a c d first second = record {
-    site = second.site ∙ first.site;
-    disks = more_both a.disks c.disks d.disks first.disks second.disks;
-    volumes = second.volumes ∙ first.volumes;
-    rvg = second.rvg ∙ first.rvg;
-  }
-
-  -- counts that rose before
-  more_later : (a b : List DiskEntry) → MoreFailed old mid a b → MoreFailed old new a b
-  more_later a b first = record {
-    count = first.count;
-    blocks = first.blocks;
-    stays = first.stays;
-    blamed = λ u was is. Rose_after _ _ _ (first.blamed u was is) (two u);
-  }
-
-  grown_later : (a c : Config) → Grown old mid a c → Grown old new a c
-  grown_later a c first = record { site = first.site; disks = more_later a.disks c.disks first.disks; volumes = first.volumes; rvg = first.rvg }
-
-  before_later : (a c d : Config) → c.serial ≤ d.serial → Grown mid new c d → (s : ℕ) (x : Config) → IsBefore a c old mid s x → IsBefore a d old new s x
-  before_later a c d le grown s x before = record {
-    is = record { serial_is = before.is.serial_is; above = before.is.above; within = omega (arith, before.is.within, le); grown = grown_later a x before.is.grown };
-    fewer = λ u failed. grown.disks.stays u (before.fewer u failed);
-  }
-
-  before_first : (a c d : Config) → a.serial ≤ c.serial → Grown old mid a c → (s : ℕ) (x : Config) → IsBefore c d mid new s x → IsBefore a d old new s x
-  before_first a c d le grown s x before = record {
-    is = record { serial_is = before.is.serial_is; above = omega (arith, before.is.above, le); within = before.is.within; grown = grown_both a c x grown before.is.grown };
-    fewer = before.fewer;
-  }
 
 -- ---- where a copy comes from, after two calls
 

@@ -1,6 +1,7 @@
 pub mod Told
 pub mod LabelLemmas
 pub mod AreaLemmas
+pub mod Targets
 pub mod Areas
 pub mod Subs
 pub mod Bodies

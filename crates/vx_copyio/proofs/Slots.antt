@@ -9,7 +9,8 @@ use Rattle.vx_copyfmt.specs.Copies.{Disk, Copy, Holds, area_a, area_b, body_of, 
 use Rattle.vx_copyfmt.specs.Commits.{Slots, Among, FromNew, IsHeaderBlock, IsTop, Lower, Tidy, target_of}
 use Rattle.vx_copyfmt.specs.declared.area.AreaHeader.{AreaHeader}
 use Rattle.vx_copyfmt.proofs.AreaLemmas.{header_of-is}
-use Rattle.vx_copyfmt.proofs.Areas.{becomes, target_lesser, under_holds}
+use Rattle.vx_copyfmt.proofs.Areas.{becomes, under_holds}
+use Rattle.vx_copyfmt.proofs.Targets.{target_lesser}
 use Rattle.vx_copyfmt.proofs.Bodies.{body_is}
 use Rattle.vx_copyio.specs.Putting.{IsMade, those}
 
