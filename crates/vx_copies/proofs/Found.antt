@@ -7,12 +7,12 @@ use Rattle.vx_disk.specs.Shelf.{Each, Image, Lawful, Meaning}
 use Rattle.vx_disk.proofs.Moving.{wider}
 use Rattle.vx_copyfmt.specs.Copies.{Disk}
 use Rattle.vx_copyfmt.specs.Commits.{Amid, Among, FindsNew, FindsOld, Forged, FromNew, FromOld, Gives, Older, Spoilt, Tidy, Torn, exactly}
-use Rattle.vx_copyfmt.specs.Imports.{import_of, is_label}
+use Rattle.vx_copyfmt.specs.Imports.{import_of, is_label, settle}
 use Rattle.vx_copyfmt.specs.Labels.{seen_in}
 use Rattle.vx_copyfmt.proofs.Areas.{lower_older, no_torn, one_tidy}
 use Rattle.vx_copyfmt.proofs.Subs.{tidy_more}
 use Rattle.vx_copyfmt.proofs.Spoiling.{torn_gives}
-use Rattle.vx_copyfmt.proofs.Committing.{commit_gives, front_gives}
+use Rattle.vx_copyfmt.proofs.Committing.{commit_gives, front_settles, settle_gives}
 use Rattle.vx_copyio.specs.Putting.{AreasOf}
 use Rattle.vx_model.specs.declared.no.No.{No}
 use Rattle.vx_model.specs.declared.no.No.TheVariants as refusal
@@ -188,8 +188,8 @@ module _ (good : ℕ) (c d : Config) (old new : Meaning) (underway : Underway go
       labelled u lt = labels.each u (i u 0) lt (block_kept u (i u 0) (is u 0))
 
       -- an import that reads one of its disks
-      reads_one : (readable : ℕ → Bool) (g : ℕ) → g < old.units → failed_at d.disks g ≡ false → readable g ≡ true → Gives d (import_of (on_shelf old) failed_in old.units readable i)
-      reads_one readable g lt good_one in_it = front_gives failed_in (on_shelf old) d.serial d old.units i readable labelled (stands.each below i is) g lt good_one in_it
+      reads_one : (readable : ℕ → Bool) (g : ℕ) → g < old.units → failed_at d.disks g ≡ false → readable g ≡ true → import_of (on_shelf old) failed_in old.units readable i ≡ settle failed_in old.units readable d
+      reads_one readable g lt good_one in_it = front_settles failed_in (on_shelf old) d.serial d old.units i readable labelled (stands.each below i is) g lt good_one in_it
 
       -- ---- what each disk has
 
@@ -259,7 +259,7 @@ module _ (good : ℕ) (c d : Config) (old new : Meaning) (underway : Underway go
       -- where none was marked, and the others say nothing
       gives_again : Silent c old → d.disks ≡ c.disks → (readable : ℕ → Bool) → Gives d (import_of (on_shelf old) failed_in old.units readable i)
       gives_again silent same readable = elim some_read [
-        | inl found ↦ reads_one readable found.0 found.1 found.2 found.3
+        | inl found ↦ subst (Gives d) (sym (reads_one readable found.0 found.1 found.2 found.3)) (settle_gives failed_in old.units readable d)
         | inr none ↦ none_gives d (import_of (on_shelf old) failed_in old.units readable i)
             (quiet good c d old new underway before i readable tells is silent (λ u held. none u held.below (subst (λ (ds : List DiskEntry). failed_at ds u ≡ false) (sym same) held.good)))
       ]
@@ -307,7 +307,7 @@ module _ (good : ℕ) (c d : Config) (old new : Meaning) (underway : Underway go
       tidy = tidy;
       stands = stands;
       found = λ below labels i readable g is held in_it.
-          over_new (λ r n. Gives d (import_of r failed_in n readable i)) (reads_one i is below labels readable g (omega (arith, held.below, underway.moves.units)) held.good in_it);
+          over_new (λ r n. import_of r failed_in n readable i ≡ settle failed_in n readable d) (reads_one i is below labels readable g (omega (arith, held.below, underway.moves.units)) held.good in_it);
       newest = λ held was below counted labels i readable is. gives i is below labels held was counted readable;
       committed = λ held was below marked labels. newly_committed (λ i readable is. gives_all i is below labels held was marked readable);
       again = λ below silent labels same. newly_committed (λ i readable is. gives_again i is below labels silent same readable);

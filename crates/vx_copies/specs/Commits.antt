@@ -17,7 +17,7 @@ use Rattle.vx_config.specs.declared.config.Config.{Config}
 use Rattle.vx_config.specs.declared.entry.DiskEntry.{DiskEntry}
 use Rattle.vx_copyfmt.specs.Copies.{Copy, Disk, copy_of}
 use Rattle.vx_copyfmt.specs.Commits.{Among, Answers, Committed, Counts, FindsNew, FindsOld, Forged, FromNew, FromOld, Gives, IsGood, Lower, Spoilt, Tidy, Torn, Written, exactly}
-use Rattle.vx_copyfmt.specs.Imports.{Outcome as Finding, Damaged, Format, Found, Missing, NoConfig, import_of, is_label}
+use Rattle.vx_copyfmt.specs.Imports.{Outcome as Finding, Damaged, Format, Found, Missing, NoConfig, import_of, is_label, settle}
 use Rattle.vx_copyfmt.specs.Labels.{seen_in}
 use Rattle.vx_copyio.specs.Putting.{AreasOf, LeavesSame}
 use Rattle.vx_copies.specs.Answers.{good_set}
@@ -258,7 +258,8 @@ pub record Done (good : ℕ) (c d : Config) (old new : Meaning) : Type 0 where
   pub below : Below c old → Below d new
   pub tidy : AreTidy c d old new
   pub stands : Stands c d old new
-  pub found : Below c old → HaveLabels old → (i : Image) (readable : ℕ → Bool) (g : ℕ) → Each new.leaves i → Held d new g → readable g ≡ true → Gives d (import_of (on_shelf new) failed_in new.units readable i)
+  pub found : Below c old → HaveLabels old → (i : Image) (readable : ℕ → Bool) (g : ℕ) → Each new.leaves i → Held d new g → readable g ≡ true
+      → import_of (on_shelf new) failed_in new.units readable i ≡ settle failed_in new.units readable d
   pub newest : (held : Option Config) → WasCommitted good held old → Below c old → Counted c d old → HaveLabels old → (i : Image) (readable : ℕ → Bool) → Each new.leaves i
       → Gives d (import_of (on_shelf old) failed_in old.units readable i) ⊎ Spoilt (on_shelf old) failed_in (Marked c d old) old.units old.leaves readable i
   pub committed : (held : Option Config) → WasCommitted good held old → Below c old → WereTidy c d old → HaveLabels old → WasCommitted (good_set d.disks) (Some d) new

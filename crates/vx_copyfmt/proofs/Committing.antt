@@ -179,10 +179,10 @@ module _ {C : Type 0} (failed : C → ℕ → Bool) where
     abbrev out : Outcome C
     out = import_of reads failed units readable i
 
-    -- an import that can read the disk g, which has the new configuration, finds it
-    pub front_gives : (g : ℕ) → g < units → failed f g ≡ false → readable g ≡ true → Gives f out
-    front_gives g lt good in_it = elim (tops units (omega arith)) [
-      | inl new ↦ subst (Gives f) (sym (import_new reads failed (λ s c. ⊥) serial (λ m c no. absurd no) units readable i new.0 (record { serial = serial; area = new.1; body = Holds f }) f no_labels new.2 refl)) (settle_gives units readable f)
+    -- an import that can read the disk g, which has the new configuration, finds it, unless one of its disks is missing
+    pub front_settles : (g : ℕ) → g < units → failed f g ≡ false → readable g ≡ true → out ≡ settle failed units readable f
+    front_settles g lt good in_it = elim (tops units (omega arith)) [
+      | inl new ↦ import_new reads failed (λ s c. ⊥) serial (λ m c no. absurd no) units readable i new.0 (record { serial = serial; area = new.1; body = Holds f }) f no_labels new.2 refl
       | inr old ↦ let clash : false ≡ true = sym good ∙ old.1 g lt in_it in absurd cc
     ]
 
@@ -194,7 +194,7 @@ module _ {C : Type 0} (failed : C → ℕ → Bool) where
     commit_gives held begun disks leaves g lt good was_good committed grows finds = by_read (readable g) refl
       where
         by_read : (b : Bool) → readable g ≡ b → Gives f out ⊎ Spoilt reads failed disks units leaves readable i
-        by_read true in_it = inl (front_gives g lt good in_it)
+        by_read true in_it = inl (subst (Gives f) (sym (front_settles g lt good in_it)) (settle_gives units readable f))
         by_read false not_read = elim finds [
           | inl old ↦ inl (subst (Gives f) (sym old.same) (old_misses held f readable g was_good not_read (import_of reads failed units readable old.image) (committed.each old.image readable old.left) (found_wants reads units readable old.image g lt)))
           | inr (inl new) ↦ inl (subst (Gives f) (sym new.found) (settle_misses units readable new.config f g lt (grows new.serial new.config new.made) not_read))
