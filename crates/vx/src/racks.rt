@@ -12,7 +12,7 @@ pub fn fresh_racks(rt: HostRuntime, alloc: Global) -> Result<Vec<HostRack>, OutO
     ensures { IfOk result (λ racks. AreFresh rack_meaning racks.items) }
 {
     let mut racks = Vec::new(alloc);
-    for _step in 0..8u32 {
+    for _step in 0..MOST_SITES {
         racks.push(HostRack::new(rt, alloc)?)?;
     }
     Ok(racks)
