@@ -6,6 +6,7 @@ ghost use Rattle.vx_node.specs.Holds.{AreFresh};
 use std::alloc::Global;
 use vx_filedisk::HostRack;
 use vx_model::OutOfMemory;
+use vx_model::limits::MOST_SITES;
 
 /// Eight racks, none of them fitted: one for each site that there may be.
 pub fn fresh_racks(rt: HostRuntime, alloc: Global) -> Result<Vec<HostRack>, OutOfMemory>
