@@ -1,8 +1,9 @@
 -- A group that is started stands with what was left.
-use Rattle.std.proofs.Common.{◌≡◌, inl, inr, ⊎_elim, ℕ, ◌+◌, ◌<◌, ◌≤◌, Bool, List, [], ◌∷◌, ◌++◌, length, take, drop, Option, Some, None, IsTrue, MatchOption, refl, sym, ◌∙◌, ap, subst, arith}
-use Rattle.std.specs.Prelude.{if◌then◌else◌, leb, All}
+use Rattle.std.proofs.Common.{◌≡◌, inl, inr, ⊎_elim, ℕ, zero, suc, ◌+◌, ◌<◌, ◌≤◌, Bool, List, [], ◌∷◌, ◌++◌, length, take, drop, Option, Some, None, IsTrue, MatchOption, refl, sym, ◌∙◌, ap, subst, arith}
+use Rattle.std.specs.Prelude.{if◌then◌else◌, leb, slice_get, All}
 use Rattle.std.proofs.lemmas.Bool.{cases_lt, lt-ltb, le-ltb}
 use Rattle.std.proofs.lemmas.List.{take_all}
+use Rattle.std.proofs.lemmas.List.Elements.{All-head, All-tail}
 use Rattle.vx_model.specs.Content.{Content, Write, blocks_in}
 use Rattle.vx_model.specs.Steps.{ring_of}
 use Rattle.vx_model.specs.declared.no.No.{No}
@@ -10,6 +11,7 @@ use Rattle.vx_model.specs.declared.no.No.TheVariants as no
 use Rattle.vx_model.specs.declared.state.State.{State as SiteState}
 use Rattle.vx_model.specs.declared.units.Units.{Units}
 use Rattle.vx_srlfmt.specs.declared.header.Header.{Header}
+use Rattle.vx_srlfmt.specs.declared.record.Seen.TheVariants as seen
 use Rattle.vx_disk.specs.Moves.{Beside, Moves, Run}
 use Rattle.vx_disk.specs.Shelf.{Each, Goes, Image, Keeps, Meaning, Nothing}
 use Rattle.vx_disk.proofs.Moving.{then_goes, wider}
@@ -19,16 +21,20 @@ use Rattle.vx_overlay.specs.Writes.{entries_at, entries_of, newest_of}
 use Rattle.vx_overlay.specs.declared.entry.Entry.{Entry}
 use Rattle.vx_overlay.proofs.WriteLemmas.{newest_entries}
 use Rattle.vx_ringlog.specs.Chain.{Recovers}
+use Rattle.vx_ringlog.specs.Chain.{block as block_of}
 use Rattle.vx_ringlog.specs.Logs.{State}
 use Rattle.vx_ringlog.specs.Records.{Record}
 use Rattle.vx_ringio.specs.Classes.{classes}
+use Rattle.vx_ringio.specs.Reading.{SeesFront}
 use Rattle.vx_ringio.specs.Tracks.{Lies}
 use Rattle.vx_srl.specs.Rings.{RingOn}
+use Rattle.vx_srl.specs.Damages.{SeesFronts, SeesOwner}
 use Rattle.vx_srl.specs.Starts.{IsRaised, LeavesLog, Restarting}
 use Rattle.vx_srl.specs.Starts as srl
 use Rattle.vx_srl.specs.Views.{Log}
+use Rattle.vx_srl.specs.declared.kept.Kept.{Kept}
 use Rattle.vx_rvg.specs.Contents.{HasContent, HasSizes, KeepsContent, writes_of}
-use Rattle.vx_rvg.specs.Fills.{FillCause, IsFilled}
+use Rattle.vx_rvg.specs.Fills.{FillCause, IsFilled, NamesOne}
 use Rattle.vx_rvg.specs.Holdings.{Holding}
 use Rattle.vx_rvg.specs.Stands.{Found, HasMaps, IsWholeRecord, KeepsMaps, Left, Ready, Stands}
 use Rattle.vx_rvg.specs.Starts.{IsStarted, StartCause, Starting, ring_in}
@@ -36,7 +42,7 @@ use Rattle.vx_rvg.specs.Views.{Core, IsSound, Placed, applied_count, blocks_with
 use Rattle.vx_rvg.proofs.ContentFacts.{has_content, has_content_beside, has_maps, has_maps_beside, held_length, maps_moved, ring_left}
 use Rattle.vx_rvg.proofs.MakeStands.{in_volumes, sizes_moved, volume_kept}
 use Rattle.vx_rvg.proofs.ReadStands.{whole_writes}
-use Rattle.vx_rvg.proofs.StartFill.{ring_rests}
+use Rattle.vx_rvg.proofs.StartFill.{none_is, ring_rests, some_is}
 use Rattle.vx_rvg.proofs.WriteLog.{cause_from}
 use Rattle.vx_rvg.proofs.WriteSound.{SameSizes, lies_same, placed_same, volume_same, within_same}
 
@@ -75,6 +81,12 @@ uncovered o P y none match = subst (λ (p : Option (List ℕ)). MatchOption p P 
 
 keeps_rest : (old new : Meaning) → Goes Nothing old new → (u b : ℕ) (y : List ℕ) → Keeps old u b y → Keeps new u b y
 keeps_rest old new goes u b y keeps = record { only = λ v left. keeps.only v (at_rest old u b v (goes.leaves u b v left)) }
+
+-- one of these
+one_of : {X : Type 0} (P : X → Type 0) (xs : List X) (k : ℕ) (x : X) → All P xs → slice_get xs k ≡ Some x → P x
+one_of P [] k x all is = absurd (none_is x is)
+one_of P (y ∷ xs) zero x all is = subst P (some_is y x is) (All-head P y xs all)
+one_of P (y ∷ xs) (suc k) x all is = one_of P xs k x (All-tail P y xs all) is
 
 -- ---- the log that was left
 
@@ -179,10 +191,22 @@ module _ (units : Units) (old mid : Meaning) (placed : Placed units old) (moves 
 
     -- ---- why it is refused
 
+    -- the header of the record was read
+    owner : (block : ℕ) (stored : List ℕ) (names : NamesOne l block stored) → SeesFronts units.srl (ring_in units old) l.held old → SeesOwner units.srl (ring_in units old) block stored old
+    owner block stored names fronts = record {
+      place = names.kept.place;
+      head = names.kept.head;
+      front = one_of (λ (k : Kept). SeesFront units.srl (block_of (ring_in units old) k.place) old (seen.Record k.head)) l.held names.place names.kept fronts names.there;
+      at = names.at ∙ ap (λ (r : ℕ). block_of r (names.kept.place + 1)) started.ring_is;
+      stored_is = names.stored_is;
+    }
+
     pub fill_stops : (new : Meaning) (why : No) → FillCause l mid new why → StartCause units old new why
     fill_stops new (no.Damaged unit block stored computed) cause = (
-      cause.0,
-      (λ state session stamp h left. cause.1 (stood state session stamp h left).1.0 (stood state session stamp h left).1.1 (told state session stamp h left)),
+      cause.0 ∙ started.unit_is,
+      cause.1,
+      (λ tells. inr (owner block stored cause.2 (started.fronts tells))),
+      (λ state session stamp h left. cause.3 (stood state session stamp h left).1.0 (stood state session stamp h left).1.1 (told state session stamp h left)),
     )
     fill_stops new (no.Device disk) cause = cause_from old mid new (no.Device disk) moves.disk_faults cause
     fill_stops new no.Down cause = cause
@@ -316,8 +340,10 @@ module _ (units : Units) (old mid : Meaning) (placed : Placed units old) (moves 
 pub log_stops : (units : Units) (old new : Meaning) (why : No) → srl.StartCause units.srl (ring_in units old) old new why → StartCause units old new why
 log_stops units old new no.NoConfig cause = (cause.0, (λ state session stamp h left. cause.1 left.header left.records (left_log units (ring_in units old) state session stamp h old left)))
 log_stops units old new (no.Damaged unit block stored computed) cause = (
+  cause.0,
   cause.1,
-  (λ state session stamp h left. cause.2 left.header left.records (left_log units (ring_in units old) state session stamp h old left)),
+  (λ tells. inl (cause.2 tells)),
+  (λ state session stamp h left. cause.3 left.header left.records (left_log units (ring_in units old) state session stamp h old left)),
 )
 log_stops units old new (no.Limit what most) cause = (
   cause.0,
