@@ -10,8 +10,8 @@ use Rattle.vx_disk.specs.Shelf.{Meaning}
 use Rattle.vx_ringlog.specs.Cells.{Image as Kinds}
 use Rattle.vx_ringlog.specs.Chain.{block, width, total, Takes, HasBody, Scan}
 use Rattle.vx_ringlog.specs.Records.{Era, era_of, Record, Genuine}
+use Rattle.vx_disk.specs.Causes.{DeviceCause}
 use Rattle.vx_ringio.specs.Reading.{ReadsAs, SeesFront}
-use Rattle.vx_srl.specs.Causes.{DeviceCause}
 use Rattle.vx_srl.specs.Damages.{RecordDamaged, SeesBody}
 use Rattle.vx_srl.specs.Rings.{heads_of, kept_heads}
 use Rattle.vx_srl.specs.declared.kept.Kept.{Kept}
