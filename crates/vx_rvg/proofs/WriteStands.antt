@@ -125,14 +125,14 @@ module _ (core : Core) (vol start : ℕ) (bytes : List ℕ) (m : Meaning) (place
   abbrev s : State
   s = stands.log
 
-  abbrev own : Write
-  own = write_at vol start bytes
+  abbrev x : Write
+  x = write_at vol start bytes
 
-  abbrev front : Record
-  front = record_of core.log vol start bytes
+  abbrev its_record : Record
+  its_record = record_of core.log vol start bytes
 
-  writes_more_are : writes_of (s.held ++ front ∷ []) ≡ h.writes ++ own ∷ []
-  writes_more_are = writes_more s.held front own (record_writes core.log vol start bytes blocks) ∙ ap (λ (ws : List Write). ws ++ own ∷ []) stands.writes
+  writes_more_are : writes_of (s.held ++ its_record ∷ []) ≡ h.writes ++ x ∷ []
+  writes_more_are = writes_more s.held its_record x (record_writes core.log vol start bytes blocks) ∙ ap (λ (ws : List Write). ws ++ x ∷ []) stands.writes
 
   module _ (i : Image) (aside : Beside (Run core.log.unit 0 (core.log.ring + 2)) m.leaves i) where
     has : HasContent core.units.vols h.content (writes_of s.held) i
@@ -143,19 +143,19 @@ module _ (core : Core) (vol start : ℕ) (bytes : List ℕ) (m : Meaning) (place
     maps : HasMaps core.units h.maps i
     maps = has_maps_beside (Run core.log.unit 0 (core.log.ring + 2)) core.units h.maps m i (maps_beside core m placed unit_is) stands.maps aside
 
-    found_more : Recovers core.log.ring (classes core.log.unit core.log.ring i) s.header (s.held ++ front ∷ []) → FoundAs core i (with_writes (own ∷ []) h)
+    found_more : Recovers core.log.ring (classes core.log.unit core.log.ring i) s.header (s.held ++ its_record ∷ []) → FoundAs core i (with_writes (x ∷ []) h)
     found_more recovers =
         let header : s.header ≡ core.log.header = stands.ready.ring.describes.header in
-        let more : HasContent core.units.vols (put h.content own) (h.writes ++ own ∷ []) i
-        = subst (λ (ws : List Write). HasContent core.units.vols (put h.content own) (ws ++ own ∷ []) i) stands.writes (put_has core.units.vols h.content own (writes_of s.held) i has) in
+        let more : HasContent core.units.vols (put h.content x) (h.writes ++ x ∷ []) i
+        = subst (λ (ws : List Write). HasContent core.units.vols (put h.content x) (ws ++ x ∷ []) i) stands.writes (put_has core.units.vols h.content x (writes_of s.held) i has) in
         record {
           header = s.header;
-          records = s.held ++ front ∷ [];
-          recovers = subst (λ (u : ℕ). Recovers core.log.ring (classes u core.log.ring i) s.header (s.held ++ front ∷ [])) unit_is recovers;
+          records = s.held ++ its_record ∷ [];
+          recovers = subst (λ (u : ℕ). Recovers core.log.ring (classes u core.log.ring i) s.header (s.held ++ its_record ∷ [])) unit_is recovers;
           state_is = ap (λ (g : Header). g.state) header;
           session_is = ap (λ (g : Header). g.incarnation) header;
           stamp_most = omega (arith, ap (λ (g : Header). g.stamp) header);
-          some = omega (arith, recovers_low core.log.unit core.log.ring i s.header (s.held ++ front ∷ []) recovers, ap (λ (g : Header). g.low) header, stands.low);
+          some = omega (arith, recovers_low core.log.unit core.log.ring i s.header (s.held ++ its_record ∷ []) recovers, ap (λ (g : Header). g.low) header, stands.low);
           low_is = ap (λ (g : Header). g.low) header ∙ stands.low;
           writes_are = writes_more_are;
           content = more;
@@ -174,10 +174,10 @@ module _ (core : Core) (vol start : ℕ) (bytes : List ℕ) (m : Meaning) (place
   pub write_stands : (m' : Meaning) → LogMoves core.log vol start bytes m m' → applied_count core ≤ length core.log.held → LogsTo core.log vol start bytes (with_write core vol start bytes).log m m'
       → Stands (with_write core vol start bytes) (with_writes (write_at vol start bytes ∷ []) h) m'
   write_stands m' moves few leads = record {
-    log = with_record core.log.ring s front;
+    log = with_record core.log.ring s its_record;
     ready = write_ready core h.content vol start bytes m s stands.ready placed unit_is exists blocks within m' moves (omega (arith, few, held_length core.log s m stands.ready.ring)) leads;
     low = stands.low;
-    writes = ap (λ (rs : List Record). writes_of (s.held ++ (rs ++ front ∷ []))) stands.ready.idle ∙ writes_more_are;
+    writes = ap (λ (rs : List Record). writes_of (s.held ++ (rs ++ its_record ∷ []))) stands.ready.idle ∙ writes_more_are;
     maps = maps_moved (Run core.log.unit 0 (core.log.ring + 2)) (LogFound core.log vol start bytes m) core.units h.maps m m' moves (maps_beside core m placed unit_is) stands.maps;
   }
 
