@@ -5,8 +5,8 @@ use Rattle.vx_disk.specs.declared.shelf.ShelfError.{ShelfError}
 use Rattle.vx_disk.specs.declared.shelf.ShelfError.TheVariants.{Fault, Down as IsDown}
 use Rattle.vx_disk.specs.Blocks.{bit_at}
 use Rattle.vx_disk.specs.Counts.{Rose}
-use Rattle.vx_disk.specs.Moves.{Moves}
-use Rattle.vx_disk.specs.Shelf.{Each, Image, LeavesOnly, Meaning}
+use Rattle.vx_disk.specs.Moves.{Along, Moves}
+use Rattle.vx_disk.specs.Shelf.{Each, Image, Meaning}
 use Rattle.vx_model.specs.declared.errors.Stop.{Stop}
 use Rattle.vx_model.specs.declared.errors.Stop.TheVariants.{No as Stopped, OutOfMemory}
 use Rattle.vx_model.specs.declared.no.Counted.TheVariants.{Number}
@@ -15,7 +15,7 @@ use Rattle.vx_model.specs.declared.no.No.TheVariants as refusal
 use Rattle.vx_config.specs.Table.{greatest}
 use Rattle.vx_config.specs.declared.config.Config.{Config}
 use Rattle.vx_config.specs.declared.entry.DiskEntry.{DiskEntry}
-use Rattle.vx_copyfmt.specs.Copies.{Copy, Disk, copy_of}
+use Rattle.vx_copyfmt.specs.Copies.{Copy, Disk, Holds, copy_of}
 use Rattle.vx_copyfmt.specs.Commits.{Among, Answers, Committed, Counts, FindsNew, FindsOld, Forged, FromNew, FromOld, Gives, IsGood, Lower, Spoilt, Tidy, Torn, Written, exactly}
 use Rattle.vx_copyfmt.specs.Imports.{Outcome as Finding, Damaged, Format, Found, Missing, NoConfig, import_of, is_label, settle}
 use Rattle.vx_copyfmt.specs.Labels.{seen_in}
@@ -219,21 +219,31 @@ pub record Outcome (begun : ℕ → Config → Type 0) (held : Option Config) (c
   pub which : (found ≡ held) ⊎ ((serial : ℕ) × (d : Config) × (found ≡ Some d) × begun serial d)
   pub each : (readable : ℕ → Bool) → Answers found (import_of (on_shelf m) failed_in m.units readable i) ⊎ Spoilt (on_shelf m) failed_in (Held c m) m.units m.leaves readable i
 
--- what imports find at each moment since the call began, and now, where the disks were ready
+-- what imports find at each moment of the call, and now, where the disks were ready
 pub record Finds (good : ℕ) (begun : ℕ → Config → Type 0) (c : Config) (old new : Meaning) : Type 0 where
-  pub since : Ready c old → LeavesOnly old new (MayFind begun c old)
+  pub since : Ready c old → Along old new (MayFind begun c old)
   pub now : Ready c old → (i : Image) → Each new.leaves i → MayFind begun c old i
-  pub outcome_since : (held : Option Config) → WasCommitted good held old → Ready c old → HaveLabels old → LeavesOnly old new (Outcome begun held c old)
+  pub outcome_since : (held : Option Config) → WasCommitted good held old → Ready c old → HaveLabels old → Along old new (Outcome begun held c old)
   pub outcome_now : (held : Option Config) → WasCommitted good held old → Ready c old → HaveLabels old → (i : Image) → Each new.leaves i → Outcome begun held c old i
 
--- each disk that was held as good is in the image by itself ready for the serial behind this one, unless a torn body has the digest of its header
+-- the disk has a copy, of its own serial, of a configuration that holds it as good
+pub record OwnCopy (m : Meaning) (u : ℕ) (d : Disk) : Type 0 where
+  pub config : Config
+  pub area : ℕ
+  pub copy : copy_of (on_shelf m) d ≡ Some (record { serial = config.serial; area = area; body = Holds config })
+  pub holds : failed_at config.disks u ≡ false
+
+-- each disk that was held as good is in the image by itself ready for the serial behind this one, unless a torn body has the digest of its header;
+-- and it has a copy of before, or one of its own, or that of before is torn
 pub record AreFit (c : Config) (last : ℕ) (m : Meaning) (i : Image) : Type 0 where
   pub each : (u : ℕ) → Held c m u → Tidy (on_shelf m) (last + 1) (exactly (i u)) ⊎ Forged (m.leaves u) (i u)
+  pub own : (u : ℕ) → Held c m u → FromOld (on_shelf m) (m.leaves u) (i u) ⊎ OwnCopy m u (i u) ⊎ Torn (on_shelf m) (m.leaves u) (i u)
 
--- so it is at each moment since the call began, where the disks were ready; and now with each disk that was
+-- so it is at each moment of the call, where the disks were ready; and now with each disk that was
 pub record StayFit (c : Config) (last : ℕ) (old new : Meaning) : Type 0 where
-  pub since : Ready c old → LeavesOnly old new (AreFit c last old)
+  pub since : Ready c old → Along old new (AreFit c last old)
   pub now : Below c old → (u : ℕ) (e : Disk) → Held c old u → Counts (on_shelf old) (old.leaves u) → Among (new.leaves u) e → Tidy (on_shelf old) (last + 1) (exactly e) ⊎ Forged (old.leaves u) e
+  pub own : Below c old → (u : ℕ) (e : Disk) → Held c old u → Counts (on_shelf old) (old.leaves u) → Among (new.leaves u) e → FromOld (on_shelf old) (old.leaves u) e ⊎ OwnCopy old u e ⊎ Torn (on_shelf old) (old.leaves u) e
 
 -- a disk that the call came to hold as failed
 pub record Marked (c d : Config) (m : Meaning) (u : ℕ) : Type 0 where

@@ -3,8 +3,7 @@ ghost use Rattle.std.specs.Prelude.{◌≡◌, ◌+◌, ◌*◌, ◌<◌, ◌≤
 ghost use Rattle.vx_copyfmt.specs.Areas.{CanSpellArea};
 ghost use Rattle.vx_copyfmt.specs.Copies.{copy_with};
 ghost use Rattle.vx_copyfmt.specs.Commits.{IsHeaderBlock};
-ghost use Rattle.vx_copies.specs.Bodies.{reads_in};
-ghost use Rattle.vx_copies.specs.Looking.{Fits, FitsArea, SeesArea, SeesBody, copy_view};
+ghost use Rattle.vx_copies.specs.Looking.{Fits, FitsArea, SeesArea, SeesBody, copy_view, on_shelf};
 ghost use Rattle.vx_disk.specs.Shelf.{Goes, Nothing};
 
 use crate::body::read_body;
@@ -15,7 +14,7 @@ use vx_disk::Shelf;
 use vx_model::OutOfMemory;
 use vx_wire::digest;
 
-// What a header and its body are as a copy.
+// What a header and its body are as a copy: none where the body is no configuration of this shelf, or has another serial than the header.
 fn judge<S: Shelf>(
     alloc: Global,
     shelf: &S,
@@ -23,7 +22,7 @@ fn judge<S: Shelf>(
     header: &AreaHeader,
     body: &[u8],
 ) -> Result<Option<CopySeen>, OutOfMemory>
-    ensures copy { IfOk result (λ seen. copy_with (reads_in (S.meaning shelf.now).units (S.meaning shelf.now).size) area header.now body.now ≡ copy_view seen) }
+    ensures copy { IfOk result (λ seen. copy_with (on_shelf (S.meaning shelf.now)) area header.now body.now ≡ copy_view seen) }
     ensures fits { IfOk result (Fits (S.meaning shelf.now).units) }
 {
     let computed = digest(body);
@@ -34,6 +33,9 @@ fn judge<S: Shelf>(
     }
     match read_body(alloc, shelf, body) {
         Ok(Some(config)) => {
+            if config.serial != serial {
+                return Ok(None);
+            }
             let body = BodySeen::Holds(config);
             Ok(Some(CopySeen { serial, area, body }))
         }

@@ -4,3 +4,5 @@ pub mod Putting
 pub mod Spreading
 pub mod Counting
 pub mod Ordering
+pub mod Settled
+pub mod Cleared

@@ -4,12 +4,16 @@
 //! begins at block 512. Blocks are 512 bytes. What a body says is no matter here.
 #![tactic(auto)]
 
+mod clearing;
 mod copying;
 mod errors;
 mod labelling;
+mod settling;
 mod spread;
 
+pub use clearing::clear;
 pub use copying::{AREA_A, AREA_B, put_copy};
 pub use errors::refusal;
 pub use labelling::{are_large, label};
+pub use settling::settle;
 pub use spread::{CopyFailed, is_member, put_copies};

@@ -7,16 +7,18 @@ use Rattle.vx_copyio.proofs.Spreading.{on_err, on_ok}
 use Rattle.vx_copies.specs.Looking.{on_shelf}
 use Rattle.vx_copies.specs.Orders.{OrderedThis}
 use Rattle.vx_copies.specs.Tries.{AllThis, GoodBefore, Tried, TryStops}
-use Rattle.vx_copies.proofs.Tried.{of_copied, of_new, of_ordered, of_stops, spelling_reads}
+use Rattle.vx_copies.proofs.Tried.{of_copied, of_new, of_ordered, of_stops, serial_reads, spelling_reads}
 use Rattle.vx_copies.proofs.trying.put_config.Goals as goal
 use Rattle.vx_copies.proofs.trying.put_config.Given.{Over}
 
 abbrev body_of : (g : Over) (c : goal.After-put_copies g) → List ℕ
 body_of g c = take c.spell-front.result.1 c.spell-front.new.room
 
-reads_as : (g : Over) (c : goal.After-put_copies g) → on_shelf (g.S.Shelf.meaning c.args.shelf.now) (take c.spell-front.result.0.length (body_of g c)) ≡ Some c.args.config.now
-reads_as g c = spelling_reads (g.S.Shelf.meaning c.args.shelf.now).units (g.S.Shelf.meaning c.args.shelf.now).size (take c.spell-front.result.0.length (body_of g c)) c.args.config.now
-    c.spell-front.ensures.has (take-take c.spell-front.result.0.length c.spell-front.result.1 c.spell-front.new.room c.spell-front.ensures.inside ∙ c.spell-front.ensures.body) c.requires.wanted
+reads_as : (g : Over) (c : goal.After-put_copies g) → on_shelf (g.S.Shelf.meaning c.args.shelf.now) c.spell-front.result.0.serial (take c.spell-front.result.0.length (body_of g c)) ≡ Some c.args.config.now
+reads_as g c = serial_reads (g.S.Shelf.meaning c.args.shelf.now).units (g.S.Shelf.meaning c.args.shelf.now).size c.spell-front.result.0.serial (take c.spell-front.result.0.length (body_of g c)) c.args.config.now
+    c.spell-front.ensures.serial
+    (spelling_reads (g.S.Shelf.meaning c.args.shelf.now).units (g.S.Shelf.meaning c.args.shelf.now).size (take c.spell-front.result.0.length (body_of g c)) c.args.config.now
+    c.spell-front.ensures.has (take-take c.spell-front.result.0.length c.spell-front.result.1 c.spell-front.new.room c.spell-front.ensures.inside ∙ c.spell-front.ensures.body) c.requires.wanted)
 
 pub returns-clause-tried : goal.returns-clause-tried
 returns-clause-tried g c =
