@@ -38,6 +38,14 @@ module _ {A : Type 0} (f : A → A) where
   changed-set (suc k) (x ∷ xs) d lt = ap (λ (t : List A). x ∷ t) (changed-set k xs d (omega (arith, lt)))
 
 
+  -- the setting of an item that was read at its place, of a list that is told so and kept so
+  pub changed-item : (k : ℕ) (told kept : List A) (was new : A) → kept ≡ told → k < length kept → was ≡ get_or kept k was → new ≡ f was → slice_set kept k new ≡ changed_at f k told
+  changed-item k told kept was new same lt here is =
+      ap (slice_set kept k) (is ∙ ap f here) ∙ sym (changed-set k kept was lt) ∙ ap (changed_at f k) same
+
+  pub changed-none : (k : ℕ) (told kept : List A) → kept ≡ told → length kept ≤ k → told ≡ changed_at f k told
+  changed-none k told kept same le = sym same ∙ sym (changed-past k kept le) ∙ ap (changed_at f k) same
+
   pub changed-flat : {B : Type 0} (g : A → List B) → ((x : A) → g (f x) ≡ g x) → (k : ℕ) (xs : List A) → flat_map g (changed_at f k xs) ≡ flat_map g xs
   changed-flat g same k [] = refl
   changed-flat g same zero (x ∷ xs) = flat_map-cons g (f x) xs ∙ ap (λ t. t ++ flat_map g xs) (same x) ∙ sym (flat_map-cons g x xs)
@@ -91,7 +99,10 @@ module _ (f : VolumeEntry → VolumeEntry) (keeps : KeepsVolume f) where
   group_kept : (k : ℕ) (vs : List VolumeEntry) (rvg : Option Units) → group_or_none (changed_at f k vs) rvg ≡ group_or_none vs rvg
   group_kept k vs None = refl
   group_kept k vs (Some u) =
-      rw (changed-length f k vs, blocks_kept k u.srl vs, blocks_kept k u.maps vs, maps_kept k vs u.vols) refl
+      let ws : List VolumeEntry = changed_at f k vs in
+      ap (λ (n : ℕ). nat_le 1 (length u.vols) && nat_le (length u.vols) 30 && list_all (λ m. nat_lt m n) (u.srl ∷ (u.maps ∷ u.vols)) && pairwise other_than (u.srl ∷ (u.maps ∷ u.vols))
+      && nat_le 8 (blocks_of ws u.srl) && nat_le (8 * sum_by (map_blocks_of ws) u.vols) (blocks_of ws u.maps)) (changed-length f k vs)
+      ∙ rw (blocks_kept k u.srl vs, blocks_kept k u.maps vs, maps_kept k vs u.vols) refl
 
   differ_kept : (k : ℕ) (vs : List VolumeEntry) → pairwise differ (changed_at f k vs) ≡ pairwise differ vs
   differ_kept k vs = changed-pairs f differ (λ v w. rw (keeps.name v) refl) (λ v w. rw (keeps.name w) refl) k vs
@@ -188,3 +199,23 @@ sound_lost k log is_lost c =
       changed-all (with_lost log is_lost) is_volume (lost_volume log is_lost) k c.volumes,
       group_kept (with_lost log is_lost) (lost_keeps log is_lost) k c.volumes c.rvg,
     ) refl
+
+-- ---- the calls, over what they answer
+
+pub state_count : (volume plex : ℕ) (state : PlexState) (whole : Bool) (c : Config) (vs : List VolumeEntry) → vs ≡ changed_at (with_plex plex state whole) volume c.volumes
+    → subdisk_count (with_volumes vs c) ≡ subdisk_count c
+state_count volume plex state whole c vs is = ap (λ (ws : List VolumeEntry). subdisk_count (with_volumes ws c)) is ∙ count_kept (with_plex plex state whole) (stated_keeps plex state whole) volume c
+
+pub state_sound : (volume plex : ℕ) (state : PlexState) (whole : Bool) (c : Config) (vs : List VolumeEntry) → vs ≡ changed_at (with_plex plex state whole) volume c.volumes
+    → is_sound c ≡ true → has_live (slice_get vs volume) ≡ true → is_sound (with_volumes vs c) ≡ true
+state_sound volume plex state whole c vs is sound live =
+    ap (λ (ws : List VolumeEntry). is_sound (with_volumes ws c)) is
+    ∙ sound_changed (with_plex plex state whole) (stated_keeps plex state whole) volume c sound (subst (λ (ws : List VolumeEntry). has_live (slice_get ws volume) ≡ true) is live)
+
+pub lost_count : (volume : ℕ) (log : VolumeLog) (is_lost : Bool) (c : Config) (vs : List VolumeEntry) → vs ≡ changed_at (with_lost log is_lost) volume c.volumes
+    → subdisk_count (with_volumes vs c) ≡ subdisk_count c
+lost_count volume log is_lost c vs is = ap (λ (ws : List VolumeEntry). subdisk_count (with_volumes ws c)) is ∙ count_kept (with_lost log is_lost) (lost_keeps log is_lost) volume c
+
+pub lost_sound : (volume : ℕ) (log : VolumeLog) (is_lost : Bool) (c : Config) (vs : List VolumeEntry) → vs ≡ changed_at (with_lost log is_lost) volume c.volumes
+    → is_sound (with_volumes vs c) ≡ is_sound c
+lost_sound volume log is_lost c vs is = ap (λ (ws : List VolumeEntry). is_sound (with_volumes ws c)) is ∙ sound_lost volume log is_lost c

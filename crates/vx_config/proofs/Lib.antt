@@ -13,3 +13,4 @@ pub mod PairLemmas
 pub mod RunLemmas
 pub mod FillLemmas
 pub mod Changed
+pub mod Fewer
