@@ -20,9 +20,9 @@ use Rattle.vx_config.specs.declared.config.Config.{Config}
 use Rattle.vx_config.specs.declared.entry.DiskEntry.{DiskEntry}
 use Rattle.vx_copies.specs.Answers.{good_set}
 use Rattle.vx_copies.specs.Bodies.{failed_in}
-use Rattle.vx_copies.specs.Commits.{AllFailed, AreTidy, Becomes, Begins, Below, CommitStops, Counted, Done, Finds, Grown, HaveLabels, Held, IsBefore, IsNone, IsOne, IsTry, Marked, MayFind, OldOrBegun, Outcome, OwnCopy, Ready, Remain, Silent, Spared, Stage, Stands, StayFit, TriesEnd, Underway, WasCommitted, WereTidy}
+use Rattle.vx_copies.specs.Commits.{AllFailed, AreTidy, Becomes, Begins, Below, CommitStops, Counted, Done, Finds, Grown, HaveLabels, Held, IsBefore, IsFew, IsNone, IsOne, IsTry, Marked, MayFind, OldOrBegun, Outcome, OwnCopy, Ready, Remain, Silent, Spared, Stage, Stands, StayFit, TriesEnd, Underway, WasCommitted, WereTidy}
 use Rattle.vx_copies.specs.Looking.{on_shelf}
-use Rattle.vx_copies.specs.Marks.{HasGood, NoneGood, failed_at}
+use Rattle.vx_copies.specs.Marks.{HasGood, NoneGood, failed_at, good_count}
 use Rattle.vx_copies.proofs.Goods.{good_bit}
 use Rattle.vx_copies.proofs.Outcomes.{outcome}
 use Rattle.vx_copies.proofs.OneTry.{as_before, held_or, new_wider, not_both, shelf_same}
@@ -294,9 +294,10 @@ module _ (good : ℕ) (c d : Config) (old new : Meaning) (underway : Underway go
         is_good false is = refl
         is_good true is = absurd cc
 
-    pub is_done : AreTidy c d old new → Done good c d old new
-    is_done tidy = record {
+    pub is_done : AreTidy c d old new → IsFew 1 c d → Done good c d old new
+    is_done tidy few = record {
       later = later;
+      few = few;
       grown = underway.grown;
       left = left;
       below = underway.below;
@@ -351,5 +352,11 @@ spared c d old new grown units remain = record {
 pub why_refused : (good : ℕ) (c d : Config) (old new : Meaning) (why : No) → c.serial < greatest → Grown old new c d → new.units ≡ old.units → TriesEnd {T = Unit {0}} good c d old new (Err why) → CommitStops good c d.serial old new why
 why_refused good c d old new (refusal.Device disk) more grown units ends =
     (more, ends.0, ⊎_elim (λ none. inl (all_failed good c d old new grown none)) (λ most. inr most) ends.1, spared c d old new grown units ends.2)
-why_refused good c d old new refusal.Down more grown units ends = (more, ends)
+why_refused good c d old new refusal.Down more grown units ends = (more, ends.0)
 why_refused good c d old new other more grown units ends = absurd ends
+
+-- and how many serials it used
+pub few_refused : (good : ℕ) (c d : Config) (old new : Meaning) (why : No) → TriesEnd {T = Unit {0}} good c d old new (Err why) → d.serial ≤ c.serial + good_count c.disks
+few_refused good c d old new (refusal.Device disk) ends = omega (arith, ends.3)
+few_refused good c d old new refusal.Down ends = ends.1
+few_refused good c d old new other ends = absurd ends

@@ -23,7 +23,7 @@ use Rattle.vx_copyio.specs.Putting.{AreasOf, LeavesSame}
 use Rattle.vx_copies.specs.Answers.{good_set}
 use Rattle.vx_copies.specs.Bodies.{failed_in}
 use Rattle.vx_copies.specs.Looking.{on_shelf}
-use Rattle.vx_copies.specs.Marks.{HasGood, NoneGood, blocks_at, failed_at}
+use Rattle.vx_copies.specs.Marks.{HasGood, NoneGood, blocks_at, failed_at, good_count}
 
 -- a disk that the configuration holds as good
 pub record Held (c : Config) (m : Meaning) (u : ℕ) : Type 0 where
@@ -132,10 +132,21 @@ pub record Remain (c d : Config) (old new : Meaning) : Type 0 where
 pub record Stands (c d : Config) (old new : Meaning) : Type 0 where
   pub each : Below c old → (i : Image) → Each new.leaves i → Written (on_shelf old) failed_in d.serial d old.units i
 
+-- one disk more is held as failed: a call on it failed
+pub record OneMarked (c d : Config) (old new : Meaning) (disk : ℕ) : Type 0 where
+  pub unit : ℕ
+  pub failed : Rose (old.faults unit) (new.faults unit) × Rose (old.disk_faults disk) (new.disk_faults disk)
+  pub fewer : good_count d.disks + 1 ≡ good_count c.disks
+  pub others : (u : ℕ) → failed_at c.disks u ≡ false → failed_at d.disks u ≡ true → u ≡ unit
+
+-- each serial beside so many more cost a disk that was held as good
+abbrev pub IsFew : ℕ → Config → Config → Type 0
+IsFew more c d = d.serial + good_count d.disks ≤ c.serial + more + good_count c.disks
+
 -- how a try ends: as it began; or with one good disk less and a fault; or with the shelf down
 abbrev pub TryEnds : {T : Type 0} → Config → Config → Meaning → Meaning → Result T ShelfError → Type 0
 TryEnds c d old new (Ok x) = (d.disks ≡ c.disks) × AreTidy c d old new × Stands c d old new
-TryEnds c d old new (Err (Fault disk)) = (good_set d.disks < good_set c.disks) × Remain c d old new × Rose (old.disk_faults disk) (new.disk_faults disk)
+TryEnds c d old new (Err (Fault disk)) = OneMarked c d old new disk × Remain c d old new
 TryEnds c d old new (Err IsDown) = IsTrue new.down
 
 -- a set of disks as its lowest member, and 8 where it has none
@@ -149,9 +160,9 @@ IsBlamed good c old new disk = Rose (old.disk_faults disk) (new.disk_faults disk
 -- how tries end: with the configuration on its disks, of which one is a good disk of the set; or with none of these left, or no serial; or with
 -- the shelf down
 abbrev pub TriesEnd : {T : Type 0} → ℕ → Config → Config → Meaning → Meaning → Result T No → Type 0
-TriesEnd good c d old new (Ok x) = (c.serial < d.serial) × HasGood d.disks good × AreTidy c d old new × Stands c d old new
-TriesEnd good c d old new (Err (refusal.Device disk)) = IsBlamed good c old new disk × (NoneGood d.disks (length d.disks) good ⊎ (greatest ≤ d.serial)) × Remain c d old new
-TriesEnd good c d old new (Err refusal.Down) = IsTrue new.down
+TriesEnd good c d old new (Ok x) = (c.serial < d.serial) × HasGood d.disks good × AreTidy c d old new × Stands c d old new × IsFew 1 c d
+TriesEnd good c d old new (Err (refusal.Device disk)) = IsBlamed good c old new disk × (NoneGood d.disks (length d.disks) good ⊎ (greatest ≤ d.serial)) × Remain c d old new × IsFew 0 c d
+TriesEnd good c d old new (Err refusal.Down) = IsTrue new.down × (d.serial ≤ c.serial + good_count c.disks)
 TriesEnd good c d old new (Err other) = ⊥
 
 -- each disk of the set was held as failed, or its count rose
@@ -169,6 +180,24 @@ CommitStops good c last old new (refusal.Device disk) = (c.serial < greatest) ×
 CommitStops good c last old new refusal.Down = (c.serial < greatest) × IsTrue new.down
 CommitStops good c last old new (refusal.Limit Number most) = (greatest ≤ c.serial) × (most ≡ greatest)
 CommitStops good c last old new other = ⊥
+
+-- The disk failed last: from some moment of the call on the counts of a disk rose, and each other disk of the set was held as failed or had failed
+-- before, but where the last serial was used.
+pub record LastFailed {T : Type 0} (meaning : T → Meaning) (good : ℕ) (c : Config) (last : ℕ) (old new : T) (disk : ℕ) : Type 0 where
+  pub moment : T
+  pub unit : ℕ
+  pub failed : Rose ((meaning moment).faults unit) ((meaning new).faults unit) × Rose ((meaning moment).disk_faults disk) ((meaning new).disk_faults disk)
+  pub before : ((u : ℕ) → u < length c.disks → bit_at good u ≡ true → (u ≡ unit → ⊥) → (failed_at c.disks u ≡ true) ⊎ Rose ((meaning old).faults u) ((meaning moment).faults u)) ⊎ (greatest ≤ last)
+
+-- 7 names the disk that failed last; where each disk of the set was held as failed, the lowest of these
+abbrev pub NamesLast : {T : Type 0} → (T → Meaning) → ℕ → Config → ℕ → T → T → No → Type 0
+NamesLast meaning good c last old new (refusal.Device disk) = LastFailed meaning good c last old new disk ⊎ (NoneGood c.disks (length c.disks) good × (disk ≡ lowest_member good))
+NamesLast meaning good c last old new other = Unit {0}
+
+-- the same of a call that takes memory
+abbrev pub StopsLast : {T : Type 0} → (T → Meaning) → ℕ → Config → ℕ → T → T → Stop → Type 0
+StopsLast meaning good c last old new (Stopped why) = NamesLast meaning good c last old new why
+StopsLast meaning good c last old new OutOfMemory = Unit {0}
 
 -- this finding is none: a disk is missing, or no disk has a configuration
 abbrev pub IsNone : Finding Config → Type 0
@@ -189,11 +218,12 @@ pub record ReadsFailed (c : Config) (m : Meaning) (readable : ℕ → Bool) : Ty
 pub record Silent (c : Config) (m : Meaning) : Type 0 where
   pub each : (i : Image) (readable : ℕ → Bool) → Each m.leaves i → ReadsFailed c m readable → ((u : ℕ) → Held c m u → readable u ≡ false) → IsNone (import_of (on_shelf m) failed_in m.units readable i)
 
--- A refused commit changes the serial alone, which is the last one that it began. No header is above it, and what the failed disks say by
+-- A refused commit changes the serial alone, which is the last one that it began; each but this one cost a disk. No header is above it, and what the failed disks say by
 -- themselves stays none.
 pub record Refused (good : ℕ) (c d : Config) (old new : Meaning) (why : No) : Type 0 where
   pub cause : CommitStops good c d.serial old new why
   pub later : c.serial ≤ d.serial
+  pub few : d.serial ≤ c.serial + good_count c.disks
   pub kept : d ≡ record { serial = d.serial; site = c.site; disks = c.disks; volumes = c.volumes; rvg = c.rvg }
   pub below : Below c old → Below d new
   pub silent : Silent c old → Silent d new
@@ -258,11 +288,12 @@ pub record Counted (c d : Config) (m : Meaning) : Type 0 where
 pub record WereTidy (c d : Config) (m : Meaning) : Type 0 where
   pub each : (u : ℕ) → Marked c d m u → Tidy (on_shelf m) (c.serial + 1) (m.leaves u)
 
--- A commit is done. The configuration has a later serial and the failed disks held so. An import that reads a disk that it holds as good finds
+-- A commit is done. The configuration has a later serial, the next one but for those that cost a disk each, and the failed disks held so. An import that reads a disk that it holds as good finds
 -- it, or is refused with 8, whatever was committed before. Others find no other one: where an earlier one was committed, and this call marked
 -- no disk that might have been torn; or where the disks that were held as failed say nothing by themselves, and this call marked none.
 pub record Done (good : ℕ) (c d : Config) (old new : Meaning) : Type 0 where
   pub later : c.serial < d.serial
+  pub few : IsFew 1 c d
   pub grown : Grown old new c d
   pub left : HasGood d.disks good
   pub below : Below c old → Below d new

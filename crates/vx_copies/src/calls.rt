@@ -1,10 +1,10 @@
 // Commits.
-ghost use Rattle.std.specs.Prelude.{◌≡◌, ◌⊎◌, ◌≤◌, true, Err};
+ghost use Rattle.std.specs.Prelude.{◌≡◌, ◌⊎◌, ◌≤◌, true, Err, IfErr};
 ghost use Rattle.vx_config.specs.Configs.{CanSpell, subdisk_count};
 ghost use Rattle.vx_config.specs.Table.{greatest};
 ghost use Rattle.vx_copyio.specs.Labelling.{AreLarge};
 ghost use Rattle.vx_copies.specs.Bodies.{is_wanted};
-ghost use Rattle.vx_copies.specs.Commits.{Begins, CommitEnds, CommitStopped, Finds, IsTry, StayFit};
+ghost use Rattle.vx_copies.specs.Commits.{Begins, CommitEnds, CommitStopped, Finds, IsTry, NamesLast, StayFit, StopsLast};
 ghost use Rattle.vx_model.specs.declared.errors.Stop.TheVariants.{OutOfMemory as MemoryStop, No as Refused};
 ghost use Rattle.vx_model.specs.declared.no.Counted.TheVariants.{Number};
 ghost use Rattle.vx_model.specs.declared.no.No.TheVariants.{Limit};
@@ -45,6 +45,7 @@ pub fn commit_in<S: Shelf>(
     ensures finds { Finds good (IsTry config.old config.new.serial (S.meaning shelf.old) (S.meaning shelf.new)) config.old (S.meaning shelf.old) (S.meaning shelf.new) }
     ensures fit { StayFit config.old config.new.serial (S.meaning shelf.old) (S.meaning shelf.new) }
     ensures ends { CommitEnds good config.old config.new (S.meaning shelf.old) (S.meaning shelf.new) result }
+    ensures last { IfErr result (NamesLast (λ s. S.meaning s) good config.old config.new.serial shelf.old shelf.new) }
     ensures limit { greatest ≤ config.old.serial → (result ≡ Err (Limit Number greatest)) × (config.new ≡ config.old) × (shelf.new ≡ shelf.old) }
 {
     if config.serial >= MOST_SERIAL {
@@ -81,6 +82,7 @@ pub fn commit<S: Shelf>(
     ensures finds { Finds good (IsTry config.old config.new.serial (S.meaning shelf.old) (S.meaning shelf.new)) config.old (S.meaning shelf.old) (S.meaning shelf.new) }
     ensures fit { StayFit config.old config.new.serial (S.meaning shelf.old) (S.meaning shelf.new) }
     ensures ends { CommitStopped good config.old config.new (S.meaning shelf.old) (S.meaning shelf.new) result }
+    ensures last { IfErr result (StopsLast (λ s. S.meaning s) good config.old config.new.serial shelf.old shelf.new) }
     ensures memory { result ≡ Err MemoryStop → shelf.new ≡ shelf.old }
     ensures limit { greatest ≤ config.old.serial → ((result ≡ Err MemoryStop) ⊎ (result ≡ Err (Refused (Limit Number greatest)))) × (config.new ≡ config.old) × (shelf.new ≡ shelf.old) }
 {

@@ -1,10 +1,10 @@
 // The tries of a commit.
-ghost use Rattle.std.specs.Prelude.{◌≡◌, ◌⊎◌, ◌+◌, ◌<◌, ◌≤◌, length, true, IsTrue, IsFalse};
+ghost use Rattle.std.specs.Prelude.{◌≡◌, ◌⊎◌, ◌+◌, ◌<◌, ◌≤◌, length, true, IfErr, IsTrue, IsFalse};
 ghost use Rattle.vx_config.specs.Configs.{CanSpell, subdisk_count};
 ghost use Rattle.vx_config.specs.Table.{greatest};
 ghost use Rattle.vx_copyio.specs.Labelling.{AreLarge};
 ghost use Rattle.vx_copies.specs.Bodies.{is_wanted};
-ghost use Rattle.vx_copies.specs.Commits.{TriesEnd, TryEnds, Underway, lowest_member};
+ghost use Rattle.vx_copies.specs.Commits.{NamesLast, TriesEnd, TryEnds, Underway, lowest_member};
 ghost use Rattle.vx_copies.specs.Marks.{HasGood, NoneGood};
 
 use crate::{has_good, mark, put_config};
@@ -83,6 +83,7 @@ pub fn try_all<S: Shelf>(
     ensures wanted { is_wanted (S.meaning shelf.new).units (S.meaning shelf.new).size config.new ≡ true }
     ensures underway { Underway good config.old config.new (S.meaning shelf.old) (S.meaning shelf.new) }
     ensures ends { TriesEnd good config.old config.new (S.meaning shelf.old) (S.meaning shelf.new) result }
+    ensures last { IfErr result (NamesLast (λ s. S.meaning s) good config.old config.new.serial shelf.old shelf.new) }
 {
     let mut device = lowest(good);
     while may_try(config, good) {

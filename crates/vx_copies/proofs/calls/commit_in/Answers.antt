@@ -1,12 +1,12 @@
-use Rattle.std.proofs.Common.{◌≡◌, ◌<◌, true, Result, refl, ap, subst, sym, ◌∙◌, arith, List}
+use Rattle.std.proofs.Common.{◌≡◌, ◌<◌, true, Result, IfErr, ℕ, refl, ap, subst, sym, ◌∙◌, arith, List}
 use Rattle.vx_disk.specs.Shelf.{Meaning}
 use Rattle.vx_model.specs.declared.no.No.{No}
 use Rattle.vx_config.specs.Table.{greatest}
 use Rattle.vx_config.specs.declared.config.Config.{Config}
 use Rattle.vx_config.specs.declared.entry.DiskEntry.{DiskEntry}
 use Rattle.vx_copies.specs.Bodies.{is_wanted}
-use Rattle.vx_copies.specs.Commits.{Begins, CommitEnds, Finds, IsTry, StayFit}
-use Rattle.vx_copies.proofs.Found.{begins_try, finds_try, fits_try, is_done, restored, stays_silent, why_refused}
+use Rattle.vx_copies.specs.Commits.{Begins, CommitEnds, Finds, IsTry, NamesLast, StayFit}
+use Rattle.vx_copies.proofs.Found.{begins_try, finds_try, few_refused, fits_try, is_done, restored, stays_silent, why_refused}
 use Rattle.vx_copies.proofs.ManyTries.{none_yet}
 use Rattle.vx_copies.proofs.OneTry.{wanted_count, wanted_same, wanted_serial}
 use Rattle.vx_copies.proofs.calls.commit_in.Goals.{in-Err, in-Ok}
@@ -70,7 +70,7 @@ returns-clause-ends g c =
           subst (λ (e : Config). CommitEnds c.args.good a e old new c.match-try_all.result) (sym w.config-is)
           (subst (λ (r : Result (Unit {0}) No). CommitEnds c.args.good a d old new r) (sym w.result-is)
           (is_done c.args.good a d old new underway (wanted_count old.units old.size d (wanted_same new old d (sym underway.moves.units) (λ u. sym (underway.moves.size u)) c.try_all.ensures.wanted))
-          (g.met.S.Shelf.lawful c.args.shelf.now) (g.met.S.Shelf.lawful c.try_all.new.shelf) ends.1 ends.0 ends.3 ends.2))
+          (g.met.S.Shelf.lawful c.args.shelf.now) (g.met.S.Shelf.lawful c.try_all.new.shelf) ends.1 ends.0 ends.3 ends.2 ends.4))
       | in-Err w ↦
           let back : c.match-try_all.config ≡ record { serial = d.serial; site = a.site; disks = a.disks; volumes = a.volumes; rvg = a.rvg } =
           restored a d c.match-try_all.config old new underway.grown (w.config-is ∙ ap (λ (ds : List DiskEntry). record { serial = d.serial; site = d.site; disks = ds; volumes = d.volumes; rvg = d.rvg }) c.copy-kept.ensures) in
@@ -78,6 +78,7 @@ returns-clause-ends g c =
           (subst (λ (r : Result (Unit {0}) No). CommitEnds c.args.good a (record { serial = d.serial; site = a.site; disks = a.disks; volumes = a.volumes; rvg = a.rvg }) old new r) (sym w.result-is) (record {
             cause = why_refused c.args.good a d old new w.in-Err.no more underway.grown underway.moves.units w.in-Err.ensures.ends;
             later = underway.serial;
+            few = few_refused c.args.good a d old new w.in-Err.no w.in-Err.ensures.ends;
             kept = refl;
             below = λ below. record { each = (underway.below below).each };
             silent = stays_silent c.args.good a d old new underway (record { serial = d.serial; site = a.site; disks = a.disks; volumes = a.volumes; rvg = a.rvg }) (g.met.S.Shelf.lawful c.args.shelf.now) (g.met.S.Shelf.lawful c.try_all.new.shelf) refl;
@@ -97,4 +98,14 @@ returns-clause-fit g c =
     elim c.match-try_all.branch [
       | in-Ok w ↦ subst (λ (e : Config). StayFit c.args.config.now e.serial old new) (sym w.config-is) fits
       | in-Err w ↦ subst (λ (e : Config). StayFit c.args.config.now e.serial old new) (sym w.config-is) fits
+    ]
+
+pub returns-clause-last : goal.returns-clause-last
+returns-clause-last g c =
+    let d : Config = c.try_all.new.config in
+    elim c.match-try_all.branch [
+      | in-Ok w ↦ subst (λ (r : Result (Unit {0}) No). IfErr r (NamesLast g.S.Shelf.meaning c.args.good c.args.config.now c.match-try_all.config.serial c.args.shelf.now c.try_all.new.shelf)) (sym w.result-is) tt
+      | in-Err w ↦
+          subst (λ (r : Result (Unit {0}) No). IfErr r (NamesLast g.S.Shelf.meaning c.args.good c.args.config.now c.match-try_all.config.serial c.args.shelf.now c.try_all.new.shelf)) (sym w.result-is)
+          (subst (λ (n : ℕ). NamesLast g.S.Shelf.meaning c.args.good c.args.config.now n c.args.shelf.now c.try_all.new.shelf w.in-Err.no) (ap (λ (e : Config). e.serial) (sym w.config-is)) w.in-Err.ensures.last)
     ]
