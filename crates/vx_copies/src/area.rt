@@ -4,6 +4,8 @@ ghost use Rattle.vx_copyfmt.specs.Areas.{CanSpellArea};
 ghost use Rattle.vx_copyfmt.specs.Copies.{copy_with};
 ghost use Rattle.vx_copyfmt.specs.Commits.{IsHeaderBlock};
 ghost use Rattle.vx_copies.specs.Looking.{Fits, FitsArea, SeesArea, SeesBody, copy_view, on_shelf};
+ghost use Rattle.vx_disk.specs.Causes.{OnDisks};
+ghost use Rattle.vx_disk.specs.Disks.{Untouched};
 ghost use Rattle.vx_disk.specs.Shelf.{Goes, Nothing};
 
 use crate::body::read_body;
@@ -63,6 +65,7 @@ fn read_copy<S: Shelf>(
     ensures room { length room.new ≡ 65024 }
     ensures goes { Goes Nothing (S.meaning shelf.old) (S.meaning shelf.new) }
     ensures down { (S.meaning shelf.new).down ≡ (S.meaning shelf.old).down }
+    ensures disks { OnDisks (S.meaning shelf.old).disks (S.meaning shelf.new).disks Untouched }
 {
     let length = header.length as usize;
     let filled = 512 * length.div_ceil(512);
@@ -93,6 +96,7 @@ pub fn read_area<S: Shelf>(
     ensures room { length room.new ≡ 65024 }
     ensures goes { Goes Nothing (S.meaning shelf.old) (S.meaning shelf.new) }
     ensures down { (S.meaning shelf.new).down ≡ (S.meaning shelf.old).down }
+    ensures disks { OnDisks (S.meaning shelf.old).disks (S.meaning shelf.new).disks Untouched }
 {
     let mut block = [0; 512];
     match shelf.read(disk, area as u64, &mut block) {
