@@ -6,14 +6,12 @@
 
 mod clearing;
 mod copying;
-mod errors;
 mod labelling;
 mod settling;
 mod spread;
 
 pub use clearing::clear;
 pub use copying::{AREA_A, AREA_B, put_copy};
-pub use errors::refusal;
 pub use labelling::{are_large, label};
 pub use settling::settle;
 pub use spread::{CopyFailed, is_member, put_copies};
