@@ -7,10 +7,11 @@ use Rattle.std.proofs.lemmas.List.{length-append}
 use Rattle.std.proofs.lemmas.List.Concat.{flat_map-append}
 use Rattle.std.proofs.lemmas.List.Folds.{list_all-append}
 use Rattle.std.proofs.lemmas.List.Sums.{sum_by-append, sum_by-cons}
+use Rattle.vx_model.specs.Sizes.{map_blocks}
 use Rattle.vx_model.specs.declared.site.PlexState.{PlexState}
 use Rattle.vx_model.specs.declared.units.Units.{Units}
 use Rattle.vx_config.specs.Changes.{changed_at, names_below, stated, with_plex, with_state, with_volumes}
-use Rattle.vx_config.specs.Checks.{are_apart, are_placed, blocks_of, differ, group_or_none, in_region, is_sound, is_volume, map_blocks, map_blocks_of, other_than, pairwise, runs, volume_runs}
+use Rattle.vx_config.specs.Checks.{are_apart, are_placed, blocks_of, differ, group_or_none, in_region, is_sound, is_volume, map_blocks_of, other_than, pairwise, runs, volume_runs}
 use Rattle.vx_config.specs.Configs.{subdisk_count, volume_subdisks}
 use Rattle.vx_config.specs.declared.config.Config.{Config}
 use Rattle.vx_config.specs.declared.entry.PlexEntry.{PlexEntry}

@@ -10,10 +10,11 @@ ghost use Rattle.vx_model.specs.declared.no.Counted.TheVariants.{Number};
 ghost use Rattle.vx_model.specs.declared.no.No.TheVariants.{Limit};
 
 use crate::Room;
-use crate::committing::{MOST_SERIAL, try_all};
+use crate::committing::try_all;
 use std::alloc::Global;
 use vx_config::Config;
 use vx_disk::Shelf;
+use vx_model::limits::MOST_NUMBER;
 use vx_model::{Counted, No, Stop};
 
 /// Writes a configuration under the next serial to each disk that it holds as good: first to those of a set, which are the disks that
@@ -48,10 +49,10 @@ pub fn commit_in<S: Shelf>(
     ensures last { IfErr result (NamesLast (λ s. S.meaning s) good config.old config.new.serial shelf.old shelf.new) }
     ensures limit { greatest ≤ config.old.serial → (result ≡ Err (Limit Number greatest)) × (config.new ≡ config.old) × (shelf.new ≡ shelf.old) }
 {
-    if config.serial >= MOST_SERIAL {
+    if config.serial >= MOST_NUMBER {
         return Err(No::Limit {
             what: Counted::Number,
-            most: MOST_SERIAL,
+            most: MOST_NUMBER,
         });
     }
     let kept = config.disks.copy();

@@ -11,9 +11,7 @@ use crate::{has_good, mark, put_config};
 use vx_config::{Config, is_short};
 use vx_disk::{Shelf, ShelfError};
 use vx_model::No;
-
-// The greatest serial.
-pub const MOST_SERIAL: u64 = 0x7fff_ffff_ffff_ffff;
+use vx_model::limits::MOST_NUMBER;
 
 // One try under the next serial. A disk that fails is then held as failed.
 fn try_next<S: Shelf>(
@@ -62,7 +60,7 @@ fn may_try(config: &Config, good: u8) -> bool
     ensures may { IsTrue result → HasGood config.now.disks good × (config.now.serial < greatest) }
     ensures none { IsFalse result → NoneGood config.now.disks (length config.now.disks) good ⊎ (greatest ≤ config.now.serial) }
 {
-    config.serial < MOST_SERIAL && has_good(&config.disks, good)
+    config.serial < MOST_NUMBER && has_good(&config.disks, good)
 }
 
 // Tries under one serial after the other, until the configuration stands, or no disk of the set is left.

@@ -1,4 +1,5 @@
 pub mod Labels
+pub mod Counted
 pub mod Slots
 pub mod Putting
 pub mod Spreading

@@ -12,12 +12,12 @@ use Rattle.vx_copies.proofs.OneTry.{wanted_count, wanted_same, wanted_serial}
 use Rattle.vx_copies.proofs.calls.commit_in.Goals.{in-Err, in-Ok}
 use Rattle.vx_copies.proofs.calls.commit_in.Goals as goal
 
-pub returns-then-config-ge-MOST_SERIAL-clause-begins : goal.returns-then-config-ge-MOST_SERIAL-clause-begins
-returns-then-config-ge-MOST_SERIAL-clause-begins g c =
+pub returns-then-config-ge-MOST_NUMBER-clause-begins : goal.returns-then-config-ge-MOST_NUMBER-clause-begins
+returns-then-config-ge-MOST_NUMBER-clause-begins g c =
     begins_try c.args.good c.args.config.now c.args.config.now (g.S.Shelf.meaning c.args.shelf.now) (g.S.Shelf.meaning c.args.shelf.now) (none_yet c.args.good c.args.config.now (g.S.Shelf.meaning c.args.shelf.now))
 
-pub returns-then-config-ge-MOST_SERIAL-clause-finds : goal.returns-then-config-ge-MOST_SERIAL-clause-finds
-returns-then-config-ge-MOST_SERIAL-clause-finds g c =
+pub returns-then-config-ge-MOST_NUMBER-clause-finds : goal.returns-then-config-ge-MOST_NUMBER-clause-finds
+returns-then-config-ge-MOST_NUMBER-clause-finds g c =
     finds_try c.args.good c.args.config.now c.args.config.now (g.S.Shelf.meaning c.args.shelf.now) (g.S.Shelf.meaning c.args.shelf.now) (none_yet c.args.good c.args.config.now (g.S.Shelf.meaning c.args.shelf.now))
     (g.met.S.Shelf.lawful c.args.shelf.now) (g.met.S.Shelf.lawful c.args.shelf.now)
 
@@ -63,7 +63,7 @@ returns-clause-ends g c =
     let a : Config = c.args.config.now in
     let d : Config = c.try_all.new.config in
     let underway = c.try_all.ensures.underway in
-    let more : a.serial < greatest = omega (arith, c.if-config-ge-MOST_SERIAL.false) in
+    let more : a.serial < greatest = omega (arith, c.if-config-ge-MOST_NUMBER.false) in
     elim c.match-try_all.branch [
       | in-Ok w ↦
           let ends = w.in-Ok.ensures.ends in
@@ -85,8 +85,8 @@ returns-clause-ends g c =
           }))
     ]
 
-pub returns-then-config-ge-MOST_SERIAL-clause-fit : goal.returns-then-config-ge-MOST_SERIAL-clause-fit
-returns-then-config-ge-MOST_SERIAL-clause-fit g c =
+pub returns-then-config-ge-MOST_NUMBER-clause-fit : goal.returns-then-config-ge-MOST_NUMBER-clause-fit
+returns-then-config-ge-MOST_NUMBER-clause-fit g c =
     fits_try c.args.good c.args.config.now c.args.config.now (g.S.Shelf.meaning c.args.shelf.now) (g.S.Shelf.meaning c.args.shelf.now)
     (none_yet c.args.good c.args.config.now (g.S.Shelf.meaning c.args.shelf.now)) (g.met.S.Shelf.lawful c.args.shelf.now)
 
