@@ -16,11 +16,10 @@ use Rattle.vx_copyio.specs.Labelling.{AreLarge}
 use Rattle.vx_copyio.specs.Putting.{AreasOf, LeavesSame}
 use Rattle.vx_config.specs.Table.{greatest}
 use Rattle.vx_config.specs.declared.config.Config.{Config}
-use Rattle.vx_config.specs.declared.entry.DiskEntry.{DiskEntry}
 use Rattle.vx_copies.specs.Bodies.{failed_in}
-use Rattle.vx_copies.specs.Commits.{AreTidy, Becomes, Behind, Below, Held, IsBefore, IsBlamed, IsFew, IsOne, LeavesLater, Ready, Remain, Stage, Stands, Underway, lowest_member}
+use Rattle.vx_copies.specs.Commits.{AreTidy, Becomes, Behind, Below, Held, IsBefore, IsBlamed, IsOne, LeavesLater, Ready, Remain, Stage, Stands, Underway, lowest_member}
 use Rattle.vx_copies.specs.Looking.{on_shelf}
-use Rattle.vx_copies.specs.Marks.{NoneGood, failed_at, good_count}
+use Rattle.vx_copies.specs.Marks.{NoneGood, failed_at}
 use Rattle.vx_copies.proofs.Growing.{before_first, before_later, grown_both}
 use Rattle.vx_copies.proofs.MarkedDisks.{serial_grown}
 use Rattle.vx_copies.proofs.OneTry.{as_before, held_or, kept_good, later_old, later_torn, new_wider, not_both, shelf_same}
@@ -461,11 +460,3 @@ pub is_blamed : (good : ℕ) (a c : Config) (old new : Meaning) (disk : ℕ) →
 is_blamed good a c old new disk more ends (inl rose) = inl rose
 is_blamed good a c old new disk more (inl none) (inr first) = inr (subst (λ (x : Config). NoneGood x.disks (length x.disks) good) first.0 none, first.1)
 is_blamed good a c old new disk more (inr most) (inr first) = let le : greatest ≤ a.serial = subst (λ (x : Config). greatest ≤ x.serial) first.0 most in absurd (omega (arith, le, more))
-
--- ---- how many serials were used
-
--- one try more that was done
-pub few_done : (a c d : Config) → c.serial + good_count c.disks ≤ a.serial + 0 + good_count a.disks → d.serial ≡ c.serial + 1 → d.disks ≡ c.disks → IsFew 1 a d
-few_done a c d few next same =
-    let count : good_count d.disks ≡ good_count c.disks = ap (λ (ds : List DiskEntry). good_count ds) same in
-    omega (arith, few, next, count)

@@ -1,11 +1,12 @@
 // The tries of a commit.
-ghost use Rattle.std.specs.Prelude.{◌≡◌, ◌⊎◌, ◌+◌, ◌<◌, ◌≤◌, length, true, IfErr, IsTrue, IsFalse};
+ghost use Rattle.std.specs.Prelude.{◌≡◌, ◌⊎◌, ◌+◌, ◌*◌, ◌<◌, ◌≤◌, length, true, OnOk, IfErr, IsTrue, IsFalse};
 ghost use Rattle.vx_config.specs.Configs.{CanSpell, subdisk_count};
 ghost use Rattle.vx_config.specs.Table.{greatest};
 ghost use Rattle.vx_copyio.specs.Labelling.{AreLarge};
 ghost use Rattle.vx_copies.specs.Bodies.{is_wanted};
 ghost use Rattle.vx_copies.specs.Commits.{NamesLast, TriesEnd, TryEnds, Underway, lowest_member};
-ghost use Rattle.vx_copies.specs.Marks.{HasGood, NoneGood};
+ghost use Rattle.vx_disk.specs.Burns.{MakesCalls};
+ghost use Rattle.vx_copies.specs.Marks.{HasGood, NoneGood, good_count};
 
 use crate::{has_good, mark, put_config};
 use vx_config::{Config, is_short};
@@ -33,6 +34,7 @@ fn try_next<S: Shelf>(
     ensures serial { config.new.serial ≡ config.old.serial + 1 }
     ensures underway { Underway good config.old config.new (S.meaning shelf.old) (S.meaning shelf.new) }
     ensures ends { TryEnds config.old config.new (S.meaning shelf.old) (S.meaning shelf.new) result }
+    ensures calls { OnOk result (MakesCalls (4 * good_count config.new.disks) (S.meaning shelf.old) (S.meaning shelf.new)) }
 {
     config.serial += 1;
     is_short(config);
@@ -81,6 +83,7 @@ pub fn try_all<S: Shelf>(
     ensures wanted { is_wanted (S.meaning shelf.new).units (S.meaning shelf.new).size config.new ≡ true }
     ensures underway { Underway good config.old config.new (S.meaning shelf.old) (S.meaning shelf.new) }
     ensures ends { TriesEnd good config.old config.new (S.meaning shelf.old) (S.meaning shelf.new) result }
+    ensures calls { OnOk result (config.new.serial ≡ config.old.serial + 1 → MakesCalls (4 * good_count config.new.disks) (S.meaning shelf.old) (S.meaning shelf.new)) }
     ensures last { IfErr result (NamesLast (λ s. S.meaning s) good config.old config.new.serial shelf.old shelf.new) }
 {
     let mut device = lowest(good);

@@ -1,4 +1,5 @@
-use Rattle.std.proofs.Common.{◌≡◌, ◌<◌, true, Result, IfErr, ℕ, refl, ap, subst, sym, ◌∙◌, arith, List}
+use Rattle.std.proofs.Common.{◌≡◌, ◌+◌, ◌*◌, ◌<◌, true, Result, OnOk, IfErr, ℕ, refl, ap, subst, sym, ◌∙◌, arith, List}
+use Rattle.vx_disk.specs.Burns.{MakesCalls}
 use Rattle.vx_disk.specs.Shelf.{Meaning}
 use Rattle.vx_model.specs.declared.no.No.{No}
 use Rattle.vx_config.specs.Table.{greatest}
@@ -6,6 +7,7 @@ use Rattle.vx_config.specs.declared.config.Config.{Config}
 use Rattle.vx_config.specs.declared.entry.DiskEntry.{DiskEntry}
 use Rattle.vx_copies.specs.Bodies.{is_wanted}
 use Rattle.vx_copies.specs.Commits.{Begins, CommitEnds, Finds, IsTry, NamesLast, StayFit}
+use Rattle.vx_copies.specs.Marks.{good_count}
 use Rattle.vx_copies.proofs.Found.{begins_try, finds_try, few_refused, fits_try, is_done, restored, stays_silent, why_refused}
 use Rattle.vx_copies.proofs.ManyTries.{none_yet}
 use Rattle.vx_copies.proofs.OneTry.{wanted_count, wanted_same, wanted_serial}
@@ -108,4 +110,16 @@ returns-clause-last g c =
       | in-Err w ↦
           subst (λ (r : Result (Unit {0}) No). IfErr r (NamesLast g.S.Shelf.meaning c.args.good c.args.config.now c.match-try_all.config.serial c.args.shelf.now c.try_all.new.shelf)) (sym w.result-is)
           (subst (λ (n : ℕ). NamesLast g.S.Shelf.meaning c.args.good c.args.config.now n c.args.shelf.now c.try_all.new.shelf w.in-Err.no) (ap (λ (e : Config). e.serial) (sym w.config-is)) w.in-Err.ensures.last)
+    ]
+
+pub returns-clause-calls : goal.returns-clause-calls
+returns-clause-calls g c =
+    let old : Meaning = g.S.Shelf.meaning c.args.shelf.now in
+    let new : Meaning = g.S.Shelf.meaning c.try_all.new.shelf in
+    elim c.match-try_all.branch [
+      | in-Ok w ↦
+          subst (λ (e : Config). OnOk c.match-try_all.result (e.serial ≡ c.args.config.now.serial + 1 → MakesCalls (4 * good_count e.disks) old new)) (sym w.config-is)
+          (subst (λ (r : Result (Unit {0}) No). OnOk r (c.try_all.new.config.serial ≡ c.args.config.now.serial + 1 → MakesCalls (4 * good_count c.try_all.new.config.disks) old new)) (sym w.result-is) w.in-Ok.ensures.calls)
+      | in-Err w ↦
+          subst (λ (r : Result (Unit {0}) No). OnOk r (c.match-try_all.config.serial ≡ c.args.config.now.serial + 1 → MakesCalls (4 * good_count c.match-try_all.config.disks) old new)) (sym w.result-is) tt
     ]
