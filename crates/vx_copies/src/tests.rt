@@ -30,7 +30,7 @@ const FIRST: usize = 25;
 const SECOND: usize = 34;
 
 // A shelf in memory of two labelled disks.
-fn labelled(alloc: Global) -> Result<MemShelf, OutOfMemory> {
+pub fn labelled(alloc: Global) -> Result<MemShelf, OutOfMemory> {
     let mut shelf = MemShelf::new(alloc, &[])?;
     if shelf.fit(alloc, None, 7, 2, 1024).is_err() || label(&mut shelf, 7).is_err() {
         return Err(OutOfMemory);
@@ -70,14 +70,14 @@ fn write<S: Shelf>(shelf: &mut S, disk: u32, at: u64, block: &[u8; 512]) -> bool
     disk < shelf.units() && at < shelf.size(disk) && put(shelf, disk, at, block).is_ok()
 }
 
-fn fail<R: Rack>(rack: &mut R, disk: u32, on: bool) {
+pub fn fail<R: Rack>(rack: &mut R, disk: u32, on: bool) {
     if disk < rack.units() {
         rack.fail(disk, on);
     }
 }
 
 // The serial that an import finds, the disks that the configuration held as good, and whether it now holds both so.
-fn found<S: Shelf>(alloc: Global, shelf: &mut S) -> Result<(u64, u8, bool), Stop> {
+pub fn found<S: Shelf>(alloc: Global, shelf: &mut S) -> Result<(u64, u8, bool), Stop> {
     if shelf.is_down() || !are_large(shelf) {
         return Err(Stop::OutOfMemory);
     }
@@ -116,7 +116,7 @@ fn the_newest_copy_is_found(rt: HostRuntime) {
 }
 
 // Two good disks of 1,024 blocks, and no volume, with serial 0.
-fn two_disks(alloc: Global) -> Config
+pub fn two_disks(alloc: Global) -> Config
     ensures can { CanSpell result }
     ensures short { subdisk_count result ≤ 1024 }
 {
@@ -137,7 +137,7 @@ fn two_disks(alloc: Global) -> Config
 }
 
 // A commit, in a room that is made for it or not. Gives the serial, and whether each disk is held as good.
-fn committed<S: Shelf>(
+pub fn committed<S: Shelf>(
     alloc: Global,
     shelf: &mut S,
     config: &mut Config,
@@ -238,7 +238,7 @@ fn a_commit_behind_a_refused_one_is_found(rt: HostRuntime) {
     assert!(rt; found(alloc, &mut shelf) == Err(Stop::No(No::Missing { disk: 1 })));
 }
 
-fn revive<R: Rack>(rack: &mut R) {
+pub fn revive<R: Rack>(rack: &mut R) {
     if rack.is_down() {
         rack.revive();
     }
@@ -309,6 +309,7 @@ fn a_body_that_is_no_configuration_does_not_count(rt: HostRuntime) {
     assert!(rt; found(alloc, &mut shelf) == Err(Stop::No(No::NoConfig)));
     let mut other = BODY;
     other[SECOND - 1] = 1;
+    other[SERIAL] = 2;
     assert!(rt; copy(&mut shelf, 0, 2, &other));
     assert!(rt; found(alloc, &mut shelf) == Err(Stop::No(No::NoConfig)));
 }
@@ -367,6 +368,11 @@ fn a_configuration_that_is_not_sound_does_not_count(rt: HostRuntime) {
     overlap[START] = 63;
     assert!(rt; copy_volume(&mut shelf, 1, &overlap));
     assert!(rt; found(alloc, &mut shelf) == Err(Stop::No(No::NoConfig)));
-    assert!(rt; copy_volume(&mut shelf, 2, &VOLUME));
-    assert!(rt; found(alloc, &mut shelf) == Ok((1, 3, true)));
+    let mut newer = VOLUME;
+    newer[SERIAL] = 2;
+    assert!(rt; copy_volume(&mut shelf, 2, &newer));
+    assert!(rt; found(alloc, &mut shelf) == Ok((2, 3, true)));
+    // A body of another serial than its header.
+    assert!(rt; copy_volume(&mut shelf, 3, &VOLUME));
+    assert!(rt; found(alloc, &mut shelf) == Ok((2, 3, true)));
 }
