@@ -1,0 +1,13 @@
+//! Where the blocks of volumes lie on the disks of a group, and where a new volume finds space.
+//!
+//! Blocks are 512 bytes. On each disk the public region begins at block 512.
+#![tactic(auto)]
+
+mod gap;
+pub mod laws;
+mod shape;
+mod spot;
+
+pub use gap::PUBLIC_START;
+pub use shape::{Found, Runs, Shape};
+pub use spot::{Spot, find_spot, place};
