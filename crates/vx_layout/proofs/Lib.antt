@@ -1,3 +1,6 @@
 pub mod Pairs
 pub mod Stripes
 pub mod Placing
+pub mod Gaps
+pub mod Takes
+pub mod RoomLemmas

@@ -2,3 +2,5 @@ pub mod Places
 pub mod Free
 pub mod Reaches
 pub mod Space
+pub mod Runs
+pub mod Steps

@@ -14,7 +14,7 @@ use Rattle.vx_layout.specs.Free.{AreLowest, HasNoRun, IsLowestRun, free_blocks}
 use Rattle.vx_layout.specs.declared.shape.Found.{Found}
 use Rattle.vx_layout.specs.declared.shape.Shape.{Shape}
 
--- 1 to 2^40 blocks on 1 to 8 plexes; 1 to 8 columns, and one where the plexes are concatenated
+-- 1 to 2^40 blocks on 1 to 8 plexes; 1 to 8 columns, and one where the plexes are concatenated; the width has 32 bits
 pub record IsShape (want : Shape) : Type 0 where
   pub some : 0 < want.blocks
   pub few : want.blocks ≤ 2 ^ 40
@@ -23,6 +23,7 @@ pub record IsShape (want : Shape) : Type 0 where
   pub columns : 0 < want.ncol
   pub ncol : want.ncol ≤ 8
   pub one : want.width ≡ 0 → want.ncol ≡ 1
+  pub width : want.width < 2 ^ 32
 
 -- the blocks of one column of a striped plex
 abbrev pub column_of : Shape → ℕ
@@ -98,14 +99,14 @@ pub record NoColumn (want : Shape) (used : List Subdisk) (disks : List DiskEntry
   pub few : placed < want.ncol
   pub columns : List Subdisk
   pub are : AreColumns used disks found placed (column_of want) columns
-  pub need : need ≡ column_of want
+  pub is_need : need ≡ column_of want
   pub none : HasNone (room used disks (found ++ columns)) (column_of want)
-  pub have : IsGreatest (room used disks (found ++ columns)) have
+  pub is_have : IsGreatest (room used disks (found ++ columns)) have
 
 -- the disks together have too little room
 pub record NoRoom (want : Shape) (used : List Subdisk) (disks : List DiskEntry) (found : List Subdisk) (need have : ℕ) : Type 0 where
-  pub need : need ≡ want.blocks
-  pub have : have ≡ room_sum (room used disks found) 0 8
+  pub is_need : need ≡ want.blocks
+  pub is_have : have ≡ room_sum (room used disks found) 0 8
   pub short : room_sum (room used disks found) 0 8 < want.blocks
 
 -- the next plex has no place: so many blocks are needed, and so many are there

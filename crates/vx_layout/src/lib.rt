@@ -5,9 +5,18 @@
 
 mod gap;
 pub mod laws;
+mod columns;
+mod logs;
+mod plexes;
+mod rooms;
 mod shape;
+mod short;
+mod space;
 mod spot;
+mod take;
+mod used;
 
 pub use gap::PUBLIC_START;
 pub use shape::{Found, Runs, Shape};
+pub use space::find_space;
 pub use spot::{Spot, find_spot, place};
