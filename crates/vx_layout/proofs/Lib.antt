@@ -4,3 +4,5 @@ pub mod Placing
 pub mod Gaps
 pub mod Takes
 pub mod RoomLemmas
+pub mod LogLemmas
+pub mod PlexLemmas

@@ -210,3 +210,13 @@ column_fits want units ncol width' width is some ncol_is width'_is units_is widt
 
     mul_le : (a b c : ℕ) → a ≤ b → a * c ≤ b * c
     mul_le a b c x = grind arith
+
+-- a column that has no place ends the search for columns
+pub columns_err : (used : List Subdisk) (disks : List DiskEntry) (ncol blocks placed : ℕ) (old new next : List Subdisk) (s : Short) (r : Result (Unit {0}) Short) → placed < ncol → Columning used disks blocks placed old new → r ≡ Err s
+    → Ends {T = Unit {0}} (λ _. AddsColumn used disks blocks new next) (ColumnShort used disks blocks new) (Err s) → Ends {T = Unit {0}} (λ _. AddsColumns used disks ncol blocks old next) (ColumnsShort used disks ncol blocks old) r
+columns_err used disks ncol blocks placed old new next s r lt is same short =
+    subst (λ (x : Result (Unit {0}) Short). Ends {T = Unit {0}} (λ _. AddsColumns used disks ncol blocks old next) (ColumnsShort used disks ncol blocks old) x) (sym same) (by s short)
+  where
+    by : (s : Short) → Ends {T = Unit {0}} (λ _. AddsColumn used disks blocks new next) (ColumnShort used disks blocks new) (Err s) → Ends {T = Unit {0}} (λ _. AddsColumns used disks ncol blocks old next) (ColumnsShort used disks ncol blocks old) (Err s)
+    by (Space need have) short = columns_short used disks ncol blocks placed need have old new lt is short
+    by OutOfMemory short = short

@@ -4,7 +4,7 @@ use Rattle.vx_config.specs.declared.config.Config.{Config}
 use Rattle.vx_config.specs.declared.entry.DiskEntry.{DiskEntry}
 use Rattle.vx_config.specs.declared.entry.Subdisk.{Subdisk}
 use Rattle.vx_layout.specs.Free.{HasNoRun, HasRun, IsLowestRun}
-use Rattle.vx_layout.specs.Space.{AreColumns, AreLogs, ArePlexes, AreSpread, HasNone, IsFound, IsGreatest, IsPlex, IsShort, NoColumn, NoLog, NoPlex, NoRoom, OnOne, OnSeveral, column_of, flat, fmr_blocks, room, room_sum}
+use Rattle.vx_layout.specs.Space.{AreColumns, AreLogs, ArePlexes, AreSpread, HasNone, IsFound, IsGreatest, IsPlex, IsShort, NoColumn, NoLog, NoPlex, NoRoom, OnOne, OnSeveral, column_of, drl_blocks, flat, fmr_blocks, room, room_sum}
 use Rattle.vx_layout.specs.declared.shape.Found.{Found}
 use Rattle.vx_layout.specs.declared.shape.Shape.{Shape}
 use Rattle.vx_layout.specs.declared.short.Short.{Short}
@@ -122,6 +122,17 @@ pub record NoneBelow (used : List Subdisk) (disks : List DiskEntry) (count disk 
   pub short : longest < count
   pub some : (longest ≡ 0) ⊎ ((d : ℕ) × (b : ℕ) × HasRun used disks longest d b)
   pub most : (d b n : ℕ) → 0 < n → d < disk → HasRun used disks n d b → n ≤ longest
+
+-- the DRL was placed, where one is wanted
+pub record AddsDrl (want : Shape) (used : List Subdisk) (disks : List DiskEntry) (new_used logs new_logs : List Subdisk) : Type 0 where
+  pub none : want.drl ≡ false → (new_used ≡ used) × (new_logs ≡ logs)
+  pub one : want.drl ≡ true → (run : Subdisk) × IsLowestRun used disks (drl_blocks want) run × (new_used ≡ used ++ (run ∷ [])) × (new_logs ≡ logs ++ (run ∷ []))
+
+-- it is wanted and has no run
+pub record DrlShort (want : Shape) (used : List Subdisk) (disks : List DiskEntry) (need have : ℕ) : Type 0 where
+  pub wanted : want.drl ≡ true
+  pub is_need : need ≡ drl_blocks want
+  pub is_short : HasNoRun used disks need have
 
 -- the FMR log was placed, where one is wanted
 pub record AddsFmr (want : Shape) (used : List Subdisk) (disks : List DiskEntry) (logs new_logs : List Subdisk) : Type 0 where

@@ -1,10 +1,9 @@
 // Where the logs of a new volume find space.
 ghost use Rattle.std.specs.Prelude.{◌≡◌, ◌<◌, ◌≤◌, length};
 ghost use Rattle.vx_config.specs.Checks.{map_blocks as map_blocks_is};
-ghost use Rattle.vx_layout.specs.Places.{disk_blocks};
 ghost use Rattle.vx_layout.specs.Space.{AreLogs, IsShape, NoLog};
 ghost use Rattle.vx_layout.specs.Runs.{RunOn};
-ghost use Rattle.vx_layout.specs.Steps.{AddsFmr, AddsLog, Ends, FmrShort, FoundRun, LogShort};
+ghost use Rattle.vx_layout.specs.Steps.{AddsDrl, AddsFmr, AddsLog, DrlShort, Ends, FmrShort, FoundRun, LogShort};
 
 use crate::gap::{PUBLIC_START, next_gap};
 use crate::rooms::end_of;
@@ -19,7 +18,7 @@ fn run_on(used: &[Subdisk], disk: u8, end: u64, wanted: u64) -> Result<u64, u64>
     ensures { RunOn used.now disk end wanted result }
 {
     let mut block = PUBLIC_START;
-    let mut longest = 0;
+    let mut longest: u64 = 0;
     while block < end {
         let gap = next_gap(used, disk, block, end);
         if wanted <= gap.blocks {
@@ -37,7 +36,7 @@ fn find_run(used: &[Subdisk], disks: &[DiskEntry], wanted: u64) -> Result<Subdis
     requires few { length disks.now ≤ 8 }
     ensures { Ends (FoundRun used.now disks.now wanted) (LogShort used.now disks.now wanted) result }
 {
-    let mut longest = 0;
+    let mut longest: u64 = 0;
     for disk in 0..8 {
         match run_on(used, disk, end_of(disks, disk), wanted) {
             Ok(start) => {
@@ -80,7 +79,25 @@ fn push_log(
     Ok(())
 }
 
-// The FMR log of a shape behind the logs that were found before.
+// The DRL of a shape, where it wants one.
+fn push_drl(
+    used: &mut Vec<Subdisk>,
+    disks: &[DiskEntry],
+    want: &Shape,
+    logs: &mut Vec<Subdisk>,
+) -> Result<(), Short>
+    requires shape { IsShape want.now }
+    requires few { length disks.now ≤ 8 }
+    ensures { Ends (λ _. AddsDrl want.now used.old.items disks.now used.new.items logs.old.items logs.new.items) (DrlShort want.now used.old.items disks.now) result }
+{
+    if want.drl {
+        push_log(used, disks, map_blocks(want.blocks), logs)
+    } else {
+        Ok(())
+    }
+}
+
+// The FMR log of a shape, where it wants one.
 fn push_fmr(
     used: &mut Vec<Subdisk>,
     disks: &[DiskEntry],
@@ -98,7 +115,7 @@ fn push_fmr(
     }
 }
 
-/// Where the logs that a shape wants lie, behind all runs that are used.
+/// Where the logs that a shape wants lie, beside all runs that are used.
 pub fn find_logs(
     alloc: Global,
     used: &mut Vec<Subdisk>,
@@ -110,9 +127,7 @@ pub fn find_logs(
     ensures { Ends (λ logs. AreLogs want.now used.old.items disks.now want.now.drl want.now.fmr logs.items) (NoLog want.now used.old.items disks.now) result }
 {
     let mut logs = Vec::new(alloc);
-    if want.drl {
-        push_log(used, disks, map_blocks(want.blocks), &mut logs)?;
-    }
+    push_drl(used, disks, want, &mut logs)?;
     push_fmr(used, disks, want, &mut logs)?;
     Ok(logs)
 }
