@@ -3,7 +3,7 @@ use Rattle.std.proofs.Common.{◌≡◌, ◌≤◌, ◌<◌, ℕ, suc, Bool, Lis
 use Rattle.std.specs.Prelude.{◌&&◌, ◌==◌}
 use Rattle.std.proofs.lemmas.List.Sums.{sum_by-cons}
 use Rattle.std.specs.Io.KnownBytes.{Appends}
-use Rattle.vx_model.specs.World.{World, empty_world}
+use Rattle.vx_history.specs.World.{World, empty_world}
 use Rattle.vx_script.specs.declared.line.ScriptLine.{ScriptLine}
 use Rattle.vx_script.specs.Lines.{lines_of}
 use Rattle.vx_stream.specs.Causes.{Rose}

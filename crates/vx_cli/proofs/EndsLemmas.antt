@@ -2,7 +2,7 @@
 use Rattle.std.proofs.Common.{◌≡◌, ◌≤◌, ◌<◌, ℕ, suc, ◌+◌, Bool, List, [], ◌∷◌, ◌++◌, length, Option, Err, refl, arith, ap, sym, subst, ◌∙◌, append_assoc, append-nil}
 use Rattle.std.specs.List.{concat}
 use Rattle.std.specs.Io.KnownBytes.{Appends}
-use Rattle.vx_model.specs.World.{World}
+use Rattle.vx_history.specs.World.{World}
 use Rattle.vx_script.specs.Lines.{lines_of}
 use Rattle.vx_stream.proofs.SendLemmas.{appends_then}
 use Rattle.vx_node.specs.Lines.{script_line}

@@ -2,7 +2,7 @@
 use Rattle.std.proofs.Common.{◌≡◌, ℕ, ◌+◌, Bool, List, [], ◌++◌, ◌<◌, length, Option, Some, None, Result, Ok, Err, arith, ap, inl, inr, ◌⊎◌}
 use Rattle.std.proofs.lemmas.List.Sums.{sum_by-append}
 use Rattle.vx_model.specs.Content.{Content, Write as WriteOf}
-use Rattle.vx_model.specs.World.{World}
+use Rattle.vx_history.specs.World.{World}
 use Rattle.vx_model.specs.declared.no.No.{No}
 use Rattle.vx_order.specs.Order.{refusal_of}
 use Rattle.vx_script.specs.declared.line.ScriptLine.{ScriptLine}

@@ -1,7 +1,7 @@
 -- One turn of the loop, and the loop.
 use Rattle.std.proofs.Common.{◌≡◌, ◌≤◌, ◌<◌, ℕ, ◌+◌, Bool, List, [], ◌∷◌, ◌++◌, Option, Some, None, Result, Ok, Err, refl, arith, ap, sym, subst, ◌∙◌, append-nil, inl, inr, ◌⊎◌}
 use Rattle.std.specs.Io.KnownBytes.{Appends}
-use Rattle.vx_model.specs.World.{World, empty_world}
+use Rattle.vx_history.specs.World.{World, empty_world}
 use Rattle.vx_disk.specs.declared.shelf.Shelf.{Ghosts}
 use Rattle.vx_script.specs.Lines.{lines_of, IsPlain}
 use Rattle.vx_script.specs.declared.line.ScriptLine.{ScriptLine}

@@ -1,7 +1,7 @@
 -- Whole runs: the lines, the failed calls in each, and the text of each.
 use Rattle.std.specs.Prelude.{◌≡◌, ℕ, Bool, List, [], ◌∷◌, ◌++◌}
-use Rattle.vx_model.specs.World.{World}
-use Rattle.vx_model.specs.Good.{Good}
+use Rattle.vx_history.specs.World.{World}
+use Rattle.vx_history.specs.Good.{Good}
 use Rattle.vx_disk.specs.Shelf.{Meaning}
 use Rattle.vx_node.specs.Holds.{RacksHold, RacksTell}
 use Rattle.vx_node.specs.Steps.{Fails, LineStep}

@@ -1,7 +1,7 @@
 -- What one turn of the loop does, and where the loop stands.
 use Rattle.std.specs.Prelude.{◌≡◌, ◌⊎◌, ℕ, ◌+◌, Bool, List, [], Option, Some, None, Err}
 use Rattle.std.specs.Io.KnownBytes.{Appends}
-use Rattle.vx_model.specs.World.{World, empty_world}
+use Rattle.vx_history.specs.World.{World, empty_world}
 use Rattle.vx_disk.specs.declared.shelf.Shelf.{Ghosts}
 use Rattle.vx_node.specs.Lines.{script_line}
 use Rattle.vx_node.specs.Stands.{RoseAll}

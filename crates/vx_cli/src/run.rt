@@ -1,6 +1,6 @@
 // A whole run.
 ghost use Rattle.std.specs.Prelude.{◌≡◌, ◌≤◌, ℕ, [], is_some};
-ghost use Rattle.vx_model.specs.World.{empty_world};
+ghost use Rattle.vx_history.specs.World.{empty_world};
 ghost use Rattle.vx_stream.specs.Causes.{Rose};
 ghost use Rattle.vx_node.specs.Holds.{AreFresh, RacksTell, rack_faults};
 ghost use Rattle.vx_node.specs.Yards.{YardStands};

@@ -1,6 +1,6 @@
 // One turn of the loop: a line is read and answered.
 ghost use Rattle.std.specs.Prelude.{◌≡◌, ◌≤◌, ◌<◌, ◌^◌, ℕ, Some};
-ghost use Rattle.vx_model.specs.World.{World};
+ghost use Rattle.vx_history.specs.World.{World};
 ghost use Rattle.vx_stream.specs.Causes.{Rose};
 ghost use Rattle.vx_node.specs.Yards.{YardStands, IsTold, in_files};
 ghost use Rattle.vx_cli.specs.Turns.{AnswerIs, TurnIs};
@@ -11,6 +11,7 @@ use crate::reader::{Next, ReadError, next_line};
 use crate::texts::bad;
 use std::alloc::Global;
 use vx_disk::Rack;
+use vx_model::limits::MOST_NUMBER;
 use vx_node::{LineStop, Yard};
 use vx_script::LineErr;
 use vx_stream::{Sink, Source};
@@ -23,7 +24,7 @@ fn answer<O: Sink, R: Rack>(
     number: u64,
     line: &[u8],
 ) -> Option<Status>
-    requires { number < 2 ^ 63 }
+    requires { number ≤ MOST_NUMBER }
     ensures answer { (w : World) → YardStands w yard.old
         → AnswerIs number w line.now result yard.old yard.new (O.written sink.old) (O.written sink.new) }
     ensures told { IsTold yard.new → IsTold yard.old }

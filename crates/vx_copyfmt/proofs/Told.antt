@@ -47,12 +47,3 @@ read w n lt = number_at-be_bytes w n [] [] lt
 pub magic_is : (n m : ℕ) (block : List ℕ) → n < 256 ^ 8 → m < 256 ^ 8 → be_bytes 8 n ≡ take 8 block → take 8 block ≡ be_bytes 8 m → n ≡ m
 magic_is n m block small low first second =
     sym (read 8 n small) ∙ ap (λ (b : List ℕ). number_at 8 0 (b ++ [])) (first ∙ second) ∙ read 8 m low
-
--- what is written over the front, and over the whole
-pub take-put_at : (n : ℕ) (a bytes : List ℕ) → length a ≡ n → take n (put_at 0 a bytes) ≡ a
-unfolding put_at
-take-put_at n a bytes len = take_at a (drop (0 + length a) bytes) n len
-
-pub put_at-whole : (a bytes : List ℕ) → length a ≡ length bytes → put_at 0 a bytes ≡ a
-unfolding put_at
-put_at-whole a bytes len = rw (drop_all (0 + length a) bytes (omega (arith, len))) (append-nil a)

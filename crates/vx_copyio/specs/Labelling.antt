@@ -5,7 +5,7 @@ use Rattle.vx_model.specs.declared.errors.Stop.TheVariants.{No as Refused, OutOf
 use Rattle.vx_disk.specs.Shelf.{Meaning, Keeps}
 use Rattle.vx_copyfmt.specs.Labels.{label_block}
 use Rattle.vx_copyfmt.specs.declared.label.Label.{Label}
-use Rattle.vx_copyio.specs.Causes.{DeviceCause}
+use Rattle.vx_disk.specs.Causes.{DeviceCause}
 
 -- the fewest blocks of a disk of a group
 abbrev pub least_blocks : ℕ

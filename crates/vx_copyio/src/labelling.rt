@@ -9,9 +9,8 @@ ghost use Rattle.vx_disk.specs.Shelf.{Goes, Keeps};
 ghost use Rattle.vx_copyfmt.specs.Labels.{label_block};
 ghost use Rattle.vx_copyio.specs.Labelling.{label_of};
 
-use crate::errors::refusal;
 use vx_copyfmt::{Label, put_label};
-use vx_disk::{Shelf, ShelfError, put};
+use vx_disk::{Shelf, ShelfError, put, refusal};
 use vx_model::{No, Stop};
 
 // The fewest blocks of a disk of a group.

@@ -5,11 +5,9 @@
 #![tactic(auto)]
 
 mod copying;
-mod errors;
 mod labelling;
 mod spread;
 
 pub use copying::{AREA_A, AREA_B, put_copy};
-pub use errors::refusal;
 pub use labelling::{are_large, label};
 pub use spread::{CopyFailed, is_member, put_copies};

@@ -2,6 +2,8 @@
 use Rattle.std.specs.Prelude.{◌≡◌, ◌⊎◌, ℕ, Option, Some, None, IsTrue, false, Result, Ok, Err}
 use Rattle.vx_disk.specs.declared.shelf.ShelfError.{ShelfError}
 use Rattle.vx_disk.specs.declared.shelf.ShelfError.TheVariants.{Fault, Down}
+use Rattle.vx_model.specs.declared.no.No.{No}
+use Rattle.vx_model.specs.declared.no.No.TheVariants.{Device, Down as IsDown}
 use Rattle.vx_disk.specs.Counts.{Rose}
 use Rattle.vx_disk.specs.Disks.{Disks, SameBlocks, Untouched, Burns, RanOut}
 use Rattle.vx_disk.specs.Shelf.{Meaning}
@@ -50,3 +52,14 @@ Names None unit result = Unit {0}
 Names (Some disks) unit (Ok _) = Unit {0}
 Names (Some disks) unit (Err (Fault disk)) = disk ≡ unit
 Names (Some disks) unit (Err Down) = Unit {0}
+
+-- a failed call on a shelf as a refusal
+abbrev pub refusal_of : ShelfError → No
+refusal_of (Fault disk) = Device disk
+refusal_of Down = IsDown
+
+-- refusal 7 comes only where the count of its disk rose, and 6 only where the shelf is then down; no other comes of a device
+abbrev pub DeviceCause : Meaning → Meaning → No → Type 0
+DeviceCause old new (Device disk) = Rose (old.disk_faults disk) (new.disk_faults disk)
+DeviceCause old new IsDown = IsTrue new.down
+DeviceCause old new other = ⊥

@@ -1,4 +1,5 @@
 pub mod Blocks
+pub mod Burns
 pub mod Causes
 pub mod Counts
 pub mod Disks
@@ -8,4 +9,5 @@ pub mod Moments
 pub mod Moves
 pub mod Plans
 pub mod Racks
+pub mod Runs
 pub mod Shelf

@@ -1,6 +1,7 @@
 -- The meaning of disks in memory: of each block a stable and a latest value, and what they were at earlier moments.
 use Rattle.std.specs.Prelude.{refl, zero, suc, ◌≤◌, ◌^◌, ◌≡◌, ◌⊎◌, ℕ, ◌*◌, ◌%◌, Bool, true, false, Option, Some, replicate, ◌<◌, sum_by, take, List, [], ◌∷◌, length, map, drop, slice_index_or, Vec}
 use Rattle.std.specs.declared.alloc.Global.{Global}
+use Rattle.vx_model.specs.declared.limits.TheConstants.{MOST_DISKS}
 use Rattle.vx_disk.specs.declared.unit.MemUnit.{MemUnit}
 use Rattle.vx_disk.specs.Blocks.{block_at, kept, trues}
 use Rattle.std.proofs.Common.{inl, inr, ⊎_elim, sym, ◌∙◌, arith, lit<}
@@ -106,7 +107,7 @@ small_sizes (m ∷ units) zero = omega arith
 small_sizes (m ∷ units) (suc u) = small_sizes units u
 
 -- it obeys the laws of a shelf
-pub meaning-Lawful : (units : List MemUnit) (past : List (Vec MemUnit Global)) (down : Bool) (fuse : Option (ℕ × ℕ)) → length units ≤ 8 → Lawful (meaning_of units past down fuse)
+pub meaning-Lawful : (units : List MemUnit) (past : List (Vec MemUnit Global)) (down : Bool) (fuse : Option (ℕ × ℕ)) → length units ≤ MOST_DISKS → Lawful (meaning_of units past down fuse)
 meaning-Lawful units past down fuse few = record {
   few = omega (arith, few);
   small = small_sizes units;

@@ -3,6 +3,7 @@ use Rattle.std.specs.Prelude.{◌≡◌, ◌⊎◌, ℕ, ◌<◌, ◌≤◌, fal
 use Rattle.vx_model.specs.declared.errors.Stop.{Stop}
 use Rattle.vx_model.specs.declared.errors.Stop.TheVariants.{No as Refused, OutOfMemory}
 use Rattle.vx_model.specs.declared.no.No.TheVariants.{Device}
+use Rattle.vx_model.specs.declared.limits.TheConstants.{MOST_FILE_BLOCKS, MOST_MEMORY_BLOCKS}
 use Rattle.vx_disk.specs.Causes.{OnDisks}
 use Rattle.vx_disk.specs.Counts.{Rose}
 use Rattle.vx_disk.specs.Disks.{Disks, Fresh, Untouched, is_set}
@@ -73,8 +74,8 @@ pub record Stopped (old new : Meaning) : Type 0 where
 
 -- the greatest number of blocks of one disk: in memory, and of files in a folder
 abbrev pub most_blocks : {T : Type 0} → Option T → ℕ
-most_blocks None = 16384
-most_blocks (Some dir) = 4194304
+most_blocks None = MOST_MEMORY_BLOCKS
+most_blocks (Some dir) = MOST_FILE_BLOCKS
 
 -- whether contents are still told after a fit: they are in memory, and may not be where there are files
 abbrev pub Telling : {T : Type 0} → Option T → Meaning → Meaning → Type 0

@@ -1,6 +1,7 @@
 // The disks of a shelf in memory.
 ghost use Rattle.std.specs.Prelude.{◌≡◌, ◌≢◌, ◌≤◌, ◌<◌, ◌⊎◌, ℕ, IsTrue, IsFalse, true, false, length, OnOk, IfOk, IfErr, [], None, Some};
 ghost use Rattle.vx_disk.specs.Counts.{Rose};
+ghost use Rattle.vx_model.specs.declared.limits.TheConstants.{MOST_DISKS};
 ghost use Rattle.vx_disk.specs.Disks.{Burns, Crashed, RanOut, SameBlocks, Untouched};
 ghost use Rattle.vx_disk.specs.Memory.{AllZeroed, NoneLoose, Settled, faults_of, failing_of, size_of};
 ghost use Rattle.vx_disk.specs.Moments.{moments_of};
@@ -13,6 +14,7 @@ use crate::unit::MemUnit;
 use std::alloc::Global;
 use std::snapshot::Snapshot;
 use vx_model::Stop;
+use vx_model::limits::{MOST_DISKS, MOST_FILE_BLOCKS};
 
 /// Disks that stop and start together.
 #[derive(Drop)]
@@ -22,7 +24,7 @@ pub struct MemDisks {
     pub down: bool,
     /// How many writes and flushes are left before a crash, and its pick.
     pub fuse: Option<(u64, u64)>,
-    pub ghost few: { length units.items ≤ 8 },
+    pub ghost few: { length units.items ≤ MOST_DISKS },
     // A crash leaves no block loose, and nothing is written while they are down.
     pub ghost at_rest: { down ≡ true → NoneLoose units.items },
 }
@@ -48,8 +50,8 @@ impl MemDisks {
     pub fn fit(&mut self, alloc: Global, disks: u32, blocks: usize) -> Result<(), Stop>
         requires unfitted { length self.old.units.items ≡ 0 }
         requires up { IsFalse self.old.down }
-        requires disks { disks ≤ 8 }
-        requires blocks { blocks ≤ 4194304 }
+        requires disks { disks ≤ MOST_DISKS }
+        requires blocks { blocks ≤ MOST_FILE_BLOCKS }
         ensures fitted { OnOk result (Fitted disks blocks (meaning_in self.old) (meaning_in self.new)) }
         ensures memory { IfErr result (λ stop. stop ≡ MemoryStop) }
         ensures unchanged { IfErr result (Unfitted (meaning_in self.old) (meaning_in self.new)) }
@@ -181,8 +183,8 @@ impl MemDisks {
 }
 
 fn zeroed(alloc: Global, disks: u32, blocks: usize) -> Result<Vec<MemUnit>, Stop>
-    requires disks { disks ≤ 8 }
-    requires blocks { blocks ≤ 4194304 }
+    requires disks { disks ≤ MOST_DISKS }
+    requires blocks { blocks ≤ MOST_FILE_BLOCKS }
     ensures zeroed { IfOk result (λ units. AllZeroed disks blocks units.items) }
     ensures memory { IfErr result (λ e. e ≡ MemoryStop) }
 {

@@ -4,6 +4,8 @@
 #![tactic(auto)]
 
 mod disks;
+mod errors;
+mod keeping;
 mod memory;
 mod moment;
 mod plan;
@@ -14,6 +16,7 @@ mod steps;
 mod tests;
 mod unit;
 
+pub use errors::refusal;
 pub use memory::MemShelf;
 pub use plan::FaultPlan;
 pub use rack::Rack;

@@ -15,6 +15,7 @@ ghost use Rattle.vx_disk.specs.Shelf.{DisksFlushed, DisksWrote, Fits, Flushed, G
 use crate::disks::MemDisks;
 use crate::{FaultPlan, Rack, Shelf, ShelfError};
 use std::alloc::Global;
+use vx_model::limits::{LEAST_BLOCKS, MOST_DISKS, MOST_FILE_BLOCKS, MOST_MEMORY_BLOCKS};
 use vx_model::{Counted, No, OutOfMemory, Stop};
 
 /// A shelf in memory, which tells its contents.
@@ -164,19 +165,19 @@ impl Rack for MemShelf {
     ) -> Result<(), Stop>
         requires unfitted { (⟦<MemShelf as Shelf>⟧.meaning self.old).units ≡ 0 }
         requires some_disks { 1 ≤ disks }
-        requires some_blocks { 8 ≤ blocks }
+        requires some_blocks { LEAST_BLOCKS ≤ blocks }
         requires up { IsFalse (⟦<MemShelf as Shelf>⟧.meaning self.old).down }
         ensures fitted { OnOk result (Fitted disks blocks (⟦<MemShelf as Shelf>⟧.meaning self.old) (⟦<MemShelf as Shelf>⟧.meaning self.new)) }
         ensures tells { Telling dir.entry (⟦<MemShelf as Shelf>⟧.meaning self.old) (⟦<MemShelf as Shelf>⟧.meaning self.new) }
-        ensures many_disks { 8 < disks → result ≡ Err (Refused (Limit Disks 8)) }
-        ensures many_blocks { disks ≤ 8 → most_blocks dir.entry < blocks → result ≡ Err (Refused (Limit Blocks (most_blocks dir.entry))) }
-        ensures stops { disks ≤ 8 → blocks ≤ most_blocks dir.entry → IfErr result (FitStops disks (⟦<MemShelf as Shelf>⟧.meaning self.old) (⟦<MemShelf as Shelf>⟧.meaning self.new)) }
+        ensures many_disks { MOST_DISKS < disks → result ≡ Err (Refused (Limit Disks MOST_DISKS)) }
+        ensures many_blocks { disks ≤ MOST_DISKS → most_blocks dir.entry < blocks → result ≡ Err (Refused (Limit Blocks (most_blocks dir.entry))) }
+        ensures stops { disks ≤ MOST_DISKS → blocks ≤ most_blocks dir.entry → IfErr result (FitStops disks (⟦<MemShelf as Shelf>⟧.meaning self.old) (⟦<MemShelf as Shelf>⟧.meaning self.new)) }
         ensures unchanged { IfErr result (Unfitted (⟦<MemShelf as Shelf>⟧.meaning self.old) (⟦<MemShelf as Shelf>⟧.meaning self.new)) }
         ensures still_tells { (⟦<MemShelf as Shelf>⟧.meaning self.new).tells ≡ (⟦<MemShelf as Shelf>⟧.meaning self.old).tells }
         ensures plan { self.new.plan ≡ self.old.plan }
     {
-        if disks > 8 {
-            return Err(too_many(Counted::Disks, 8));
+        if disks > MOST_DISKS {
+            return Err(too_many(Counted::Disks, u64::from(MOST_DISKS)));
         }
         let most = limit(dir);
         if blocks > most {
@@ -232,8 +233,8 @@ fn limit(dir: Option<&str>) -> u64
     ensures { result ≡ most_blocks dir.entry }
 {
     match dir {
-        None => 16384,
-        Some(_) => 4194304,
+        None => MOST_MEMORY_BLOCKS,
+        Some(_) => MOST_FILE_BLOCKS,
     }
 }
 

@@ -11,6 +11,7 @@ ghost use Rattle.vx_disk.specs.Shelf.{Goes, Nothing};
 use crate::Shelf;
 use std::alloc::Global;
 use vx_model::Stop;
+use vx_model::limits::{LEAST_BLOCKS, MOST_DISKS};
 
 /// The disks of a site: a shelf whose units they are.
 pub trait Rack: Shelf + Send {
@@ -29,13 +30,13 @@ pub trait Rack: Shelf + Send {
     ) -> Result<(), Stop>
         requires unfitted { (Self.meaning self.old).units ≡ 0 }
         requires some_disks { 1 ≤ disks }
-        requires some_blocks { 8 ≤ blocks }
+        requires some_blocks { LEAST_BLOCKS ≤ blocks }
         requires up { IsFalse (Self.meaning self.old).down }
         ensures fitted { OnOk result (Fitted disks blocks (Self.meaning self.old) (Self.meaning self.new)) }
         ensures tells { Telling dir.entry (Self.meaning self.old) (Self.meaning self.new) }
-        ensures many_disks { 8 < disks → result ≡ Err (Refused (Limit Disks 8)) }
-        ensures many_blocks { disks ≤ 8 → most_blocks dir.entry < blocks → result ≡ Err (Refused (Limit Blocks (most_blocks dir.entry))) }
-        ensures stops { disks ≤ 8 → blocks ≤ most_blocks dir.entry → IfErr result (FitStops disks (Self.meaning self.old) (Self.meaning self.new)) }
+        ensures many_disks { MOST_DISKS < disks → result ≡ Err (Refused (Limit Disks MOST_DISKS)) }
+        ensures many_blocks { disks ≤ MOST_DISKS → most_blocks dir.entry < blocks → result ≡ Err (Refused (Limit Blocks (most_blocks dir.entry))) }
+        ensures stops { disks ≤ MOST_DISKS → blocks ≤ most_blocks dir.entry → IfErr result (FitStops disks (Self.meaning self.old) (Self.meaning self.new)) }
         ensures unchanged { IfErr result (Unfitted (Self.meaning self.old) (Self.meaning self.new)) };
 
     /// All disks stop at one moment. The loose blocks are numbered from 0 by disk, then by block: each takes its latest value

@@ -2,8 +2,11 @@
 ghost use Rattle.std.specs.Prelude.{◌≡◌, ◌*◌, ◌+◌, ◌≤◌, ℕ, ◌/◌, ◌%◌, ◌<◌, length, take, drop, replicate, true, false, cond, ◌≢◌, IfOk, slice_index_or};
 ghost use Rattle.vx_disk.specs.Blocks.{bit_at, block_at, kept, over, trues};
 ghost use Rattle.vx_disk.specs.Counts.{Rose};
+ghost use Rattle.vx_disk.specs.Runs.{AreInside, AreNoted};
 
+use crate::keeping::{Run, copy_over, keep_block, keep_written, note_run};
 use std::alloc::{AllocError, Global};
+use vx_model::limits::MOST_FILE_BLOCKS;
 
 /// A disk: of each block a stable and a latest value, and whether it was written since the last flush.
 #[derive(Drop)]
@@ -11,12 +14,19 @@ pub struct MemUnit {
     pub stable: Vec<u8>,
     pub latest: Vec<u8>,
     pub loose: Vec<bool>,
+    /// The runs that were written since the last flush, as long as there is room for them.
+    pub runs: Vec<Run>,
+    /// How many they are. Where it is the room's end, some may be missing.
+    pub number: usize,
     pub faults: u64,
     pub failing: bool,
     pub ghost stable_size: { length stable.items ≡ 512 * length loose.items },
     pub ghost latest_size: { length latest.items ≡ 512 * length loose.items },
     // A block that is not loose has one value.
     pub ghost clean: { (b : ℕ) → slice_index_or loose.items b false ≡ false → block_at stable.items b ≡ block_at latest.items b },
+    // A block that lies in none of the runs is not loose.
+    pub ghost noted: { number < length runs.items → AreNoted number runs.items loose.items },
+    pub ghost inside: { number < length runs.items → AreInside number runs.items (length loose.items) },
 }
 
 impl MemUnit {
@@ -24,16 +34,19 @@ impl MemUnit {
 
     /// A disk of zeroed blocks.
     pub fn new(alloc: Global, blocks: usize) -> Result<MemUnit, AllocError>
-        requires { blocks ≤ 4194304 }
+        requires { blocks ≤ MOST_FILE_BLOCKS }
         ensures { IfOk result (IsZeroed blocks) }
     {
         let stable = Vec::from_elem(alloc, 0u8, 512 * blocks)?;
         let latest = Vec::from_elem(alloc, 0u8, 512 * blocks)?;
         let loose = Vec::from_elem(alloc, false, blocks)?;
+        let runs = Vec::from_elem(alloc, Run { first: 0, count: 0 }, blocks)?;
         Ok(MemUnit {
             stable,
             latest,
             loose,
+            runs,
+            number: 0,
             faults: 0,
             failing: false,
         })
@@ -66,6 +79,7 @@ impl MemUnit {
     {
         copy_over(&mut self.latest, 512 * block, bytes);
         mark(&mut self.loose, block, bytes.len() / 512);
+        self.number = note_run(&mut self.runs, self.number, block, bytes.len() / 512);
     }
 
     pub fn flush(&mut self)
@@ -76,8 +90,14 @@ impl MemUnit {
         ensures faults { self.new.faults ≡ self.old.faults }
         ensures failing { self.new.failing ≡ self.old.failing }
     {
-        keep_loose(&mut self.stable, &self.latest, &self.loose);
-        self.loose.fill(false);
+        keep_written(
+            &mut self.stable,
+            &self.latest,
+            &mut self.loose,
+            &self.runs,
+            self.number,
+        );
+        self.number = 0;
     }
 
     /// Counts one fault more.
@@ -115,6 +135,7 @@ impl MemUnit {
         let number = settle_blocks(&mut self.stable, &self.latest, &self.loose, pick, from);
         self.latest.copy_from_slice(&self.stable);
         self.loose.fill(false);
+        self.number = 0;
         number
     }
 }
@@ -158,50 +179,11 @@ fn settle_block(
     (number + 1) % 64
 }
 
-// Keeps the latest value of each loose block.
-fn keep_loose(stable: &mut [u8], latest: &[u8], loose: &[bool])
-    requires stable { length stable.old ≡ 512 * length loose.now }
-    requires latest { length latest.now ≡ 512 * length loose.now }
-    ensures kept { (b : ℕ) → block_at stable.new b ≡ cond (slice_index_or loose.now b false) (block_at latest.now b) (block_at stable.old b) }
-{
-    for b in 0..loose.len() {
-        keep_where(stable, latest, loose[b], b);
-    }
-}
-
-// Keeps the latest value of block b, if it is loose.
-fn keep_where(stable: &mut [u8], latest: &[u8], loose: bool, b: usize)
-    requires in_stable { 512 * b + 512 ≤ length stable.old }
-    requires in_latest { 512 * b + 512 ≤ length latest.now }
-    ensures here { block_at stable.new b ≡ cond loose (block_at latest.now b) (block_at stable.old b) }
-    ensures elsewhere { (k : ℕ) → k ≢ b → block_at stable.new k ≡ block_at stable.old k }
-{
-    if loose {
-        keep_block(stable, latest, b);
-    }
-}
-
 fn bit(pick: u64, number: u32) -> bool
     requires { number < 64 }
     ensures { result ≡ bit_at pick number }
 {
     (pick >> number) & 1 == 1
-}
-
-fn keep_block(stable: &mut [u8], latest: &[u8], b: usize)
-    requires in_stable { 512 * b + 512 ≤ length stable.old }
-    requires in_latest { 512 * b + 512 ≤ length latest.now }
-    ensures { stable.new ≡ over stable.old (512 * b) (block_at latest.now b) }
-{
-    let start = 512 * b;
-    copy_over(stable, start, &latest[start..start + 512]);
-}
-
-fn copy_over(into: &mut [u8], at: usize, bytes: &[u8])
-    requires { at + length bytes.now ≤ length into.old }
-    ensures { into.new ≡ over into.old at bytes.now }
-{
-    into[at..at + bytes.len()].copy_from_slice(bytes);
 }
 
 fn mark(loose: &mut [bool], from: usize, count: usize)

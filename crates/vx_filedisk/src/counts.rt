@@ -4,11 +4,12 @@ ghost use Rattle.vx_disk.specs.Counts.{Rose};
 ghost use Rattle.vx_filedisk.specs.Counting.{Noted, counts_of};
 
 use vx_disk::ShelfError;
+use vx_model::limits::DISK_PLACES;
 
 /// How many calls on each disk failed. A count stays at its greatest value.
 #[derive(Drop)]
 pub struct Counts {
-    pub each: [u64; 8],
+    pub each: [u64; DISK_PLACES],
 }
 
 impl Counts {
@@ -16,12 +17,14 @@ impl Counts {
     pub fn new() -> Counts
         ensures { (d : ℕ) → counts_of result d ≡ 0 }
     {
-        Counts { each: [0; 8] }
+        Counts {
+            each: [0; DISK_PLACES],
+        }
     }
 
     /// The count of a disk.
     pub fn of(&self, disk: u32) -> u64
-        requires { disk < 8 }
+        requires { disk < DISK_PLACES }
         ensures { result ≡ counts_of self.now disk }
     {
         self.each[disk as usize]
@@ -29,7 +32,7 @@ impl Counts {
 
     /// A call on the disk failed.
     pub fn raise(&mut self, disk: u32)
-        requires { disk < 8 }
+        requires { disk < DISK_PLACES }
         ensures rose { Rose (counts_of self.old disk) (counts_of self.new disk) }
         ensures others { (d : ℕ) → d ≢ disk → counts_of self.new d ≡ counts_of self.old d }
     {
@@ -39,7 +42,7 @@ impl Counts {
 
     /// A call on the disk was answered so.
     pub fn note(&mut self, disk: u32, answer: &Result<(), ShelfError>)
-        requires { disk < 8 }
+        requires { disk < DISK_PLACES }
         ensures { Noted disk answer.now (counts_of self.old) (counts_of self.new) }
     {
         if let Err(ShelfError::Fault { disk: _ }) = answer {

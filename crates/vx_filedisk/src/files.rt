@@ -1,6 +1,7 @@
 // The files of the disks.
 ghost use Rattle.std.specs.Prelude.{◌≡◌, ◌<◌, ◌≤◌, length};
 ghost use Rattle.vx_filedisk.specs.Following.{Follows, Told};
+ghost use Rattle.vx_model.specs.declared.limits.TheConstants.{MOST_FILE_BLOCKS};
 
 use std::fs::File;
 use std::io;
@@ -12,7 +13,7 @@ use vx_disk::ShelfError;
 pub struct DiskFiles {
     pub files: Vec<File>,
     pub blocks: u64,
-    pub ghost bounded: { blocks ≤ 4194304 },
+    pub ghost bounded: { blocks ≤ MOST_FILE_BLOCKS },
 }
 
 impl DiskFiles {

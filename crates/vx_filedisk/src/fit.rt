@@ -6,6 +6,7 @@ ghost use Rattle.vx_filedisk.specs.declared.fit.OpenError.TheVariants.{OutOfMemo
 use std::alloc::{AllocError, AllocFailed, Global};
 use std::fs::File;
 use std::io;
+use vx_model::limits::MOST_FILE_BLOCKS;
 
 /// Why the files were not opened.
 #[derive(Clone, Copy, Debug, PartialEq, Eq, Drop)]
@@ -41,7 +42,7 @@ pub fn open_disks(
     disks: u32,
     blocks: u64,
 ) -> Result<Vec<File>, OpenError>
-    requires { blocks ≤ 4194304 }
+    requires { blocks ≤ MOST_FILE_BLOCKS }
     ensures opened { IfOk result (λ files. length files.items ≡ disks) }
     ensures unopened { IfErr result (Unopened disks) }
 {

@@ -2,6 +2,7 @@
 ghost use Rattle.std.specs.Prelude.{◌≤◌};
 ghost use Rattle.vx_disk.specs.Meanings.{shelf_meaning};
 ghost use Rattle.vx_filedisk.specs.Hosts.{AsMany};
+ghost use Rattle.vx_model.specs.declared.limits.TheConstants.{MOST_DISKS};
 
 use crate::counts::Counts;
 use crate::files::DiskFiles;
@@ -21,7 +22,7 @@ pub struct HostRack {
     pub(crate) memory: MemShelf,
     pub(crate) counts: Counts,
     pub(crate) files: Option<DiskFiles>,
-    pub(crate) ghost few: { (shelf_meaning memory).units ≤ 8 },
+    pub(crate) ghost few: { (shelf_meaning memory).units ≤ MOST_DISKS },
     pub(crate) ghost as_many: { AsMany files (shelf_meaning memory) },
 }
 

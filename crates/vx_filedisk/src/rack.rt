@@ -16,6 +16,7 @@ use crate::files::DiskFiles;
 use crate::fit::{OpenError, open_disks};
 use std::alloc::Global;
 use vx_disk::{Rack, Shelf, ShelfError};
+use vx_model::limits::{LEAST_BLOCKS, MOST_DISKS, MOST_FILE_BLOCKS};
 use vx_model::{Counted, No, Stop};
 
 impl Shelf for HostRack {
@@ -120,13 +121,13 @@ impl Rack for HostRack {
     ) -> Result<(), Stop>
         requires unfitted { (⟦<HostRack as Shelf>⟧.meaning self.old).units ≡ 0 }
         requires some_disks { 1 ≤ disks }
-        requires some_blocks { 8 ≤ blocks }
+        requires some_blocks { LEAST_BLOCKS ≤ blocks }
         requires up { IsFalse (⟦<HostRack as Shelf>⟧.meaning self.old).down }
         ensures fitted { OnOk result (Fitted disks blocks (⟦<HostRack as Shelf>⟧.meaning self.old) (⟦<HostRack as Shelf>⟧.meaning self.new)) }
         ensures tells { Telling dir.entry (⟦<HostRack as Shelf>⟧.meaning self.old) (⟦<HostRack as Shelf>⟧.meaning self.new) }
-        ensures many_disks { 8 < disks → result ≡ Err (Refused (Limit Disks 8)) }
-        ensures many_blocks { disks ≤ 8 → most_blocks dir.entry < blocks → result ≡ Err (Refused (Limit Blocks (most_blocks dir.entry))) }
-        ensures stops { disks ≤ 8 → blocks ≤ most_blocks dir.entry → IfErr result (FitStops disks (⟦<HostRack as Shelf>⟧.meaning self.old) (⟦<HostRack as Shelf>⟧.meaning self.new)) }
+        ensures many_disks { MOST_DISKS < disks → result ≡ Err (Refused (Limit Disks MOST_DISKS)) }
+        ensures many_blocks { disks ≤ MOST_DISKS → most_blocks dir.entry < blocks → result ≡ Err (Refused (Limit Blocks (most_blocks dir.entry))) }
+        ensures stops { disks ≤ MOST_DISKS → blocks ≤ most_blocks dir.entry → IfErr result (FitStops disks (⟦<HostRack as Shelf>⟧.meaning self.old) (⟦<HostRack as Shelf>⟧.meaning self.new)) }
         ensures unchanged { IfErr result (Unfitted (⟦<HostRack as Shelf>⟧.meaning self.old) (⟦<HostRack as Shelf>⟧.meaning self.new)) }
         ensures untold { OnOk result (OnSome dir.entry (IsFalse (⟦<HostRack as Shelf>⟧.meaning self.new).tells)) }
         ensures kept { OnOk result (Kept (⟦<HostRack as Shelf>⟧.meaning self.old).faults (⟦<HostRack as Shelf>⟧.meaning self.new).faults) }
@@ -170,20 +171,20 @@ impl HostRack {
         ensures fitted { OnOk result (Fitted disks blocks (rack_meaning self.old) (rack_meaning self.new)) }
         ensures untold { OnOk result (IsFalse (rack_meaning self.new).tells) }
         ensures kept { OnOk result (Kept (rack_meaning self.old).faults (rack_meaning self.new).faults) }
-        ensures many_disks { 8 < disks → result ≡ Err (Refused (Limit Disks 8)) }
-        ensures many_blocks { disks ≤ 8 → 4194304 < blocks → result ≡ Err (Refused (Limit Blocks 4194304)) }
-        ensures stops { disks ≤ 8 → blocks ≤ 4194304 → IfErr result (FitStops disks (rack_meaning self.old) (rack_meaning self.new)) }
+        ensures many_disks { MOST_DISKS < disks → result ≡ Err (Refused (Limit Disks MOST_DISKS)) }
+        ensures many_blocks { disks ≤ MOST_DISKS → MOST_FILE_BLOCKS < blocks → result ≡ Err (Refused (Limit Blocks MOST_FILE_BLOCKS)) }
+        ensures stops { disks ≤ MOST_DISKS → blocks ≤ MOST_FILE_BLOCKS → IfErr result (FitStops disks (rack_meaning self.old) (rack_meaning self.new)) }
         ensures unchanged { IfErr result (Unfitted (rack_meaning self.old) (rack_meaning self.new)) }
     {
-        if disks > 8 {
-            return Err(too_many(Counted::Disks, 8));
+        if disks > MOST_DISKS {
+            return Err(too_many(Counted::Disks, u64::from(MOST_DISKS)));
         }
-        if blocks > 4194304 {
-            return Err(too_many(Counted::Blocks, 4194304));
+        if blocks > MOST_FILE_BLOCKS {
+            return Err(too_many(Counted::Blocks, MOST_FILE_BLOCKS));
         }
         match open_disks(&self.rt, alloc, dir, site, disks, blocks) {
             Ok(files) => {
-                self.memory.fit(alloc, None, site, disks, 8)?;
+                self.memory.fit(alloc, None, site, disks, LEAST_BLOCKS)?;
                 self.files = Some(DiskFiles { files, blocks });
                 Ok(())
             }

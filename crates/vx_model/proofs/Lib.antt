@@ -1,4 +1,1 @@
 pub mod KeptLemmas
-pub mod GoodLemmas
-pub mod CrashLemmas
-pub mod Updates

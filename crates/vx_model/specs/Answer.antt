@@ -1,5 +1,6 @@
 -- What a call on replicated volumes is answered, by their content alone.
 use Rattle.std.specs.Prelude.{ℕ, ◌+◌, ◌||◌, Bool, List, eqb, ltb, if◌then◌else◌}
+use Rattle.vx_model.specs.declared.limits.TheConstants.{MOST_CALL_BLOCKS}
 use Rattle.vx_model.specs.Content.{Content, blocks_from, blocks_in}
 use Rattle.vx_model.specs.declared.call.Call.{Call}
 use Rattle.vx_model.specs.declared.call.Call.TheVariants.{Read, Write as WriteBlocks}
@@ -16,7 +17,7 @@ pub data Answer : Type 0 where
 
 -- a read or write has 1 to 16 blocks
 abbrev pub is_wrong_count : ℕ → Bool
-is_wrong_count count = eqb count 0 || ltb 16 count
+is_wrong_count count = eqb count 0 || ltb MOST_CALL_BLOCKS count
 
 -- the blocks end past the volume
 abbrev pub is_past : Content → ℕ → ℕ → ℕ → Bool

@@ -4,8 +4,8 @@ use Rattle.vx_model.specs.declared.state.State.{State}
 use Rattle.vx_model.specs.declared.site.Role.TheVariants.{Primary}
 use Rattle.vx_model.specs.declared.site.Mark.TheVariants.{Consistent}
 use Rattle.vx_model.specs.declared.site.SPhase.TheVariants.{Quiet}
-use Rattle.vx_model.specs.World.{no_line}
-use Rattle.vx_model.specs.Steps.{first_line}
+use Rattle.vx_model.specs.Sites.{no_line, first_line}
+use Rattle.vx_model.specs.declared.limits.TheConstants.{NO_SITE}
 
 abbrev pub first_state : ℕ → State
 first_state site = record {
@@ -16,7 +16,7 @@ first_state site = record {
   phase = Quiet;
   replay = 0;
   end = 0;
-  other = 0xffff_ffff;
+  other = NO_SITE;
   parent = no_line;
   fork = 0;
   links = [];

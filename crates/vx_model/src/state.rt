@@ -1,6 +1,7 @@
 // What the header of a log keeps of its site.
 ghost use Rattle.std.specs.Prelude.{◌≡◌, ◌<◌, ◌≤◌, [], ◌∷◌, ◌++◌, length};
 
+use crate::limits::{LINK_PLACES, NO_SITE};
 use crate::{Line, Mark, Prot, Role, SPhase, SyncMode};
 use arrayvec::ArrayVec;
 use std::marker::Model;
@@ -32,18 +33,19 @@ pub struct KeptLink {
 /// Up to 8 links. Contracts see their list.
 #[derive(Drop)]
 pub struct KeptLinks {
-    links: ArrayVec<KeptLink, 8>,
+    links: ArrayVec<KeptLink, LINK_PLACES>,
 }
 
 impl Model for KeptLinks {
     ghost use Rattle.std.specs.Prelude.{List, ◌≤◌, length};
     ghost use Rattle.vx_model.specs.declared.state.KeptLink.{KeptLink};
+    ghost use Rattle.vx_model.specs.declared.limits.TheConstants.{LINK_PLACES};
 
     ghost Value = { List KeptLink };
 
     ghost view = { λ k. k.links.items };
 
-    ghost invariant = { λ k. length k.links.items ≤ 8 };
+    ghost invariant = { λ k. length k.links.items ≤ LINK_PLACES };
 }
 
 impl KeptLinks {
@@ -58,7 +60,7 @@ impl KeptLinks {
 
     /// Adds a link after the others.
     pub fn push(&mut self, link: KeptLink)
-        requires room { length self.old < 8 }
+        requires room { length self.old < LINK_PLACES }
         ensures { self.new ≡ self.old ++ link ∷ [] }
     {
         self.links.push(link);
@@ -67,7 +69,7 @@ impl KeptLinks {
     /// The links, in the order of their making.
     pub fn as_slice(&self) -> &[KeptLink]
         ensures links { result.now ≡ self.now }
-        ensures few { length self.now ≤ 8 }
+        ensures few { length self.now ≤ LINK_PLACES }
     {
         &self.links
     }
@@ -95,7 +97,7 @@ pub struct State {
     pub phase: SPhase,
     pub replay: u64,
     pub end: u64,
-    /// The primary of a secondary or bunker, the target of a handing site, else 4,294,967,295.
+    /// The primary of a secondary or bunker, the target of a handing site, else `NO_SITE`.
     pub other: u32,
     pub parent: Line,
     pub fork: u64,
@@ -120,7 +122,7 @@ impl State {
             phase: SPhase::Quiet,
             replay: 0,
             end: 0,
-            other: u32::MAX,
+            other: NO_SITE,
             parent: Line::default(),
             fork: 0,
             links: KeptLinks::new(),

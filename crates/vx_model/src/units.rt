@@ -1,23 +1,25 @@
 // Which units of a shelf a replicated volume group uses.
 ghost use Rattle.std.specs.Prelude.{◌≡◌, ◌<◌, ◌≤◌, [], ◌∷◌, ◌++◌, length};
 
+use crate::limits::MOST_DATA_VOLUMES;
 use arrayvec::ArrayVec;
 use std::marker::Model;
 
 /// Up to 30 data volumes, by their units. Contracts see their list.
 #[derive(Drop)]
 pub struct VolumeUnits {
-    units: ArrayVec<u32, 30>,
+    units: ArrayVec<u32, MOST_DATA_VOLUMES>,
 }
 
 impl Model for VolumeUnits {
     ghost use Rattle.std.specs.Prelude.{List, ℕ, ◌≤◌, length};
+    ghost use Rattle.vx_model.specs.declared.limits.TheConstants.{MOST_DATA_VOLUMES};
 
     ghost Value = { List ℕ };
 
     ghost view = { λ v. v.units.items };
 
-    ghost invariant = { λ v. length v.units.items ≤ 30 };
+    ghost invariant = { λ v. length v.units.items ≤ MOST_DATA_VOLUMES };
 }
 
 impl VolumeUnits {
@@ -32,7 +34,7 @@ impl VolumeUnits {
 
     /// Adds a volume after the others.
     pub fn push(&mut self, unit: u32)
-        requires room { length self.old < 30 }
+        requires room { length self.old < MOST_DATA_VOLUMES }
         ensures { self.new ≡ self.old ++ unit ∷ [] }
     {
         self.units.push(unit);
@@ -41,7 +43,7 @@ impl VolumeUnits {
     /// The units of the volumes, in order.
     pub fn as_slice(&self) -> &[u32]
         ensures units { result.now ≡ self.now }
-        ensures few { length self.now ≤ 30 }
+        ensures few { length self.now ≤ MOST_DATA_VOLUMES }
     {
         &self.units
     }

@@ -1,5 +1,6 @@
 -- Packets under their numbers, of which the newest are kept.
 use Rattle.std.specs.Prelude.{◌≡◌, ℕ, ◌+◌, ◌-◌, ◌≤◌, min, ltb, List, [], ◌∷◌, ◌++◌, length, drop, slice_get, Option, None, if◌then◌else◌}
+use Rattle.vx_model.specs.declared.limits.TheConstants.{MOST_NUMBER}
 
 -- how many packets were sent, and the newest of them, oldest first
 pub record Flying : Type 0 where
@@ -12,7 +13,7 @@ most_kept = 65536
 
 -- the greatest number of a packet
 abbrev pub greatest : ℕ
-greatest = 0x7fff_ffff_ffff_ffff
+greatest = MOST_NUMBER
 
 abbrev pub nothing_sent : Flying
 nothing_sent = record { count = 0; kept = [] }

@@ -8,6 +8,7 @@ use circular_buffer::HeapCircularBuffer;
 use std::alloc::Global;
 use std::marker::Model;
 use vx_model::OutOfMemory;
+use vx_model::limits::{MOST_NUMBER, MOST_PACKETS};
 
 /// The newest 65,536 packets under their numbers.
 #[derive(Drop)]
@@ -32,7 +33,7 @@ impl Flight {
     pub fn new(alloc: Global) -> Result<Flight, OutOfMemory>
         ensures { IfOk result (λ f. f ≡ nothing_sent) }
     {
-        let packets = HeapCircularBuffer::with_capacity(alloc, 65536)?;
+        let packets = HeapCircularBuffer::with_capacity(alloc, MOST_PACKETS)?;
         Ok(Flight { count: 0, packets })
     }
 }
@@ -41,7 +42,7 @@ impl Net for Flight {
     ghost flying = { λ f. f };
 
     fn send(&mut self, bytes: &[u8]) -> u64 {
-        if self.count < 0x7fff_ffff_ffff_ffff {
+        if self.count < MOST_NUMBER {
             drop(self.packets.push_back(Packet::new(bytes)));
             self.count += 1;
         }

@@ -1,8 +1,8 @@
 -- What an apply leaves of a site that is up.
 use Rattle.std.proofs.Common.{◌≡◌, ⊎_elim, ℕ, ◌+◌, ◌-◌, ◌≤◌, length, Option, Some, None, IsTrue, refl, sym, ◌∙◌, ap, subst, arith}
 use Rattle.std.specs.Prelude.{min, max, Result, Ok, Err, OnOk, IsFalse}
-use Rattle.vx_model.specs.Steps.{burned}
-use Rattle.vx_model.specs.World.{Node}
+use Rattle.vx_history.specs.Steps.{burned}
+use Rattle.vx_history.specs.World.{Node}
 use Rattle.vx_model.specs.declared.no.No.{No}
 use Rattle.vx_model.specs.declared.no.No.TheVariants.{Device, Down}
 use Rattle.vx_srl.specs.Views.{Log}

@@ -4,8 +4,9 @@ use Rattle.std.specs.Prelude.{IsFalse, slice_index, Result, Ok, Err}
 use Rattle.std.proofs.lemmas.List.{get_or-take, length-replicate}
 use Rattle.vx_wire.specs.Numbers.{be_bytes}
 use Rattle.vx_model.specs.Content.{Content, Write, zero_block}
-use Rattle.vx_model.specs.Steps.{raw_set, ring_of}
-use Rattle.vx_model.specs.World.{Node, bare_site}
+use Rattle.vx_history.specs.Steps.{raw_set}
+use Rattle.vx_model.specs.Sizes.{ring_of}
+use Rattle.vx_history.specs.World.{Node, bare_site}
 use Rattle.vx_model.specs.declared.no.No.{No}
 use Rattle.vx_model.specs.declared.no.No.TheVariants.{Device, NoConfig, Damaged, Limit, Down as IsOff}
 use Rattle.vx_model.specs.declared.errors.Stop.{Stop}
@@ -26,7 +27,7 @@ use Rattle.vx_ringio.specs.Reading.{IsTop, SeesTop}
 use Rattle.vx_ringio.specs.declared.top.TopSeen.{TopSeen}
 use Rattle.vx_ringio.specs.declared.top.TopSeen.TheVariants as top
 use Rattle.vx_ringio.proofs.Classing.{top_class}
-use Rattle.vx_srl.specs.Causes.{DeviceCause}
+use Rattle.vx_disk.specs.Causes.{DeviceCause}
 use Rattle.vx_rvg.specs.Starts.{IsStarted, Starting, StartCause, ring_in}
 use Rattle.vx_rvg.specs.Views.{Core, last_of}
 use Rattle.vx_rvg.specs.declared.group.Rvg.{Rvg}

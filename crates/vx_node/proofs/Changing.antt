@@ -5,9 +5,9 @@ use Rattle.std.proofs.lemmas.Bool.{cases_eq}
 use Rattle.std.proofs.lemmas.Bool.Decides.{nat_tests}
 use Rattle.std.proofs.lemmas.Option.{slice_get_within}
 use Rattle.vx_model.specs.Content.{Write}
-use Rattle.vx_model.specs.World.{Node, World, updated}
-use Rattle.vx_model.specs.Steps.{logged}
-use Rattle.vx_model.proofs.Updates.{by_test, at_place, eqb_equal}
+use Rattle.vx_history.specs.World.{Node, World, updated}
+use Rattle.vx_history.specs.Steps.{logged}
+use Rattle.vx_history.proofs.Updates.{by_test, at_place, eqb_equal}
 use Rattle.vx_model.specs.declared.site.SiteState.{SiteState}
 use Rattle.vx_model.specs.declared.site.SiteState.TheVariants.{Bare as IsBare, Up as IsUp, Deported, Down}
 use Rattle.vx_disk.specs.Counts.{Rose}

@@ -4,8 +4,8 @@ use Rattle.std.proofs.lemmas.Bool.{cases_lt}
 use Rattle.std.proofs.lemmas.List.{length-take}
 use Rattle.std.specs.Prelude.{IsFalse, slice_get, Err}
 use Rattle.vx_model.specs.Content.{Content, Write, put, fold_writes}
-use Rattle.vx_model.specs.World.{Node, Volume}
-use Rattle.vx_model.specs.Steps.{crashed, half_begun}
+use Rattle.vx_history.specs.World.{Node, Volume}
+use Rattle.vx_history.specs.Steps.{crashed, half_begun}
 use Rattle.vx_model.specs.declared.state.State.{State}
 use Rattle.vx_model.specs.declared.units.Units.{Units}
 use Rattle.vx_srlfmt.specs.Kinds.{Kind}

@@ -1,7 +1,7 @@
 -- What a line that makes a disk fail, or ends that, comes to.
 use Rattle.std.proofs.Common.{◌≡◌, ◌∙◌, ℕ, List, [], ap, sym, subst, refl}
 use Rattle.std.specs.Prelude.{Some, slice_get, slice_set}
-use Rattle.vx_model.specs.World.{Node, World}
+use Rattle.vx_history.specs.World.{Node, World}
 use Rattle.vx_disk.specs.declared.shelf.Shelf.{Ghosts}
 use Rattle.vx_script.specs.declared.line.DiskState.{DiskState}
 use Rattle.vx_script.specs.declared.line.ScriptLine.TheVariants.{Disk}

@@ -7,9 +7,10 @@ use Rattle.vx_disk.specs.Racks.{IsRack, Alike}
 use Rattle.std.specs.Fmt.{decimal}
 use Rattle.std.proofs.lemmas.Bool.{cases_lt}
 use Rattle.std.proofs.lemmas.Bool.Decides.{nat_tests}
-use Rattle.vx_model.specs.World.{Node, Volume, Fuse, NoFuse, FuseSet, FuseLit, bare_site}
+use Rattle.vx_history.specs.World.{Node, Volume, Fuse, NoFuse, FuseSet, FuseLit, bare_site}
 use Rattle.vx_model.specs.Content.{Content, zero_block}
-use Rattle.vx_model.specs.Steps.{raw_set, raw_content, raw_volumes, ring_of}
+use Rattle.vx_history.specs.Steps.{raw_set, raw_content, raw_volumes}
+use Rattle.vx_model.specs.Sizes.{ring_of}
 use Rattle.std.proofs.lemmas.List.Elements.{All-nil}
 use Rattle.vx_srlfmt.specs.Headers.{CanSpellState, CanSpellLink}
 use Rattle.vx_model.specs.States.{first_state}

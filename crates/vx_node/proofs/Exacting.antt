@@ -4,14 +4,14 @@ use Rattle.std.specs.Prelude.{◌%◌, Option, Some, None, Result, Ok, Err, OnOk
 use Rattle.std.proofs.lemmas.List.{append-nil}
 use Rattle.std.proofs.Math.Nat.{mod-eq_of_lt}
 use Rattle.vx_model.specs.Content.{Write, blocks_in}
-use Rattle.vx_model.specs.World.{Node, Fuse, FuseSet}
+use Rattle.vx_history.specs.World.{Node, Fuse, FuseSet}
 use Rattle.vx_model.specs.declared.no.No.{No}
 use Rattle.vx_disk.specs.Causes.{WithDisks}
 use Rattle.vx_disk.specs.Disks.{Disks}
 use Rattle.vx_disk.specs.Shelf.{Meaning}
 use Rattle.vx_disk.specs.declared.shelf.Shelf.{Ghosts}
 use Rattle.vx_rvg.specs.declared.group.Rvg.{Rvg}
-use Rattle.vx_ringio.specs.Burns.{FewerLeft, MakesCalls, IsShort, RackIsShort, FallsShort}
+use Rattle.vx_disk.specs.Burns.{FewerLeft, MakesCalls, IsShort, RackIsShort, FallsShort}
 use Rattle.vx_srl.specs.Views.{Log, BodyFits, all_of, end_of, free_of, kept_of, place_after, widths}
 use Rattle.vx_srl.specs.declared.kept.Kept.{Kept}
 use Rattle.vx_srl.proofs.LogLists.{place_sum}

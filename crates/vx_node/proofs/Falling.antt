@@ -1,8 +1,8 @@
 -- What a line comes to that crashes a site, or that applies what is logged.
 use Rattle.std.proofs.Common.{◌≡◌, ◌∙◌, ◌+◌, ◌-◌, ◌<◌, ◌≤◌, ℕ, List, [], ◌∷◌, length, ap, sym, subst, refl, arith}
 use Rattle.std.specs.Prelude.{min, Option, Some, None, slice_get, slice_set, Result, Ok, Err}
-use Rattle.vx_model.specs.World.{Node, World, Fuse, updated}
-use Rattle.vx_model.specs.Steps.{crashed, crash_left, stopped_by, worked_on, burned}
+use Rattle.vx_history.specs.World.{Node, World, Fuse, updated}
+use Rattle.vx_history.specs.Steps.{crashed, crash_left, stopped_by, worked_on, burned}
 use Rattle.vx_model.specs.declared.no.No.{No}
 use Rattle.vx_model.specs.declared.no.No.TheVariants.{Device, Down as Off}
 use Rattle.vx_model.specs.declared.site.SiteState.{SiteState}

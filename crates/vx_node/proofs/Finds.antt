@@ -2,8 +2,9 @@
 use Rattle.std.proofs.Common.{◌≡◌, ◌∙◌, ◌+◌, ◌-◌, ◌<◌, ◌≤◌, ◌⊎◌, ℕ, List, [], ◌∷◌, length, ap, sym, subst, refl, arith}
 use Rattle.std.specs.Prelude.{Some, slice_get, slice_set, map, Result, Ok, Err}
 use Rattle.std.proofs.lemmas.Option.{slice_get_within}
-use Rattle.vx_model.specs.Steps.{raw_set, raw_volumes, ring_of}
-use Rattle.vx_model.specs.World.{Node, World, with_node}
+use Rattle.vx_history.specs.Steps.{raw_set, raw_volumes}
+use Rattle.vx_model.specs.Sizes.{ring_of}
+use Rattle.vx_history.specs.World.{Node, World, with_node}
 use Rattle.vx_model.specs.declared.errors.OutOfMemory.{OutOfMemory}
 use Rattle.vx_model.specs.declared.no.No.{No}
 use Rattle.vx_model.specs.declared.no.No.TheVariants.{Device, NoConfig}

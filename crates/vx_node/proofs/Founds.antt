@@ -3,8 +3,8 @@ use Rattle.std.proofs.Common.{◌≡◌, ◌∙◌, ◌+◌, ◌-◌, ◌<◌, �
 use Rattle.std.specs.Prelude.{Some, None}
 use Rattle.std.proofs.lemmas.List.{take-append-le}
 use Rattle.vx_model.specs.Content.{Content, Write, put, fold_writes}
-use Rattle.vx_model.specs.World.{Node}
-use Rattle.vx_model.specs.Steps.{logged, half_begun, burned}
+use Rattle.vx_history.specs.World.{Node}
+use Rattle.vx_history.specs.Steps.{logged, half_begun, burned}
 use Rattle.vx_model.specs.declared.state.State.{State}
 use Rattle.vx_model.specs.declared.state.KeptLink.{KeptLink}
 use Rattle.vx_srlfmt.specs.declared.header.Header.{Header}

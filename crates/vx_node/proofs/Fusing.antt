@@ -2,8 +2,8 @@
 use Rattle.std.proofs.Common.{◌≡◌, ◌∙◌, ℕ, ◌+◌, ◌-◌, ◌<◌, ◌≤◌, List, [], length, ap, sym, subst, refl, arith, Option, Some, None, IsTrue, MatchOption}
 use Rattle.std.specs.Prelude.{slice_get, slice_set}
 use Rattle.vx_model.specs.Content.{Content}
-use Rattle.vx_model.specs.Steps.{fused}
-use Rattle.vx_model.specs.World.{Node, World, FuseSet, updated}
+use Rattle.vx_history.specs.Steps.{fused}
+use Rattle.vx_history.specs.World.{Node, World, FuseSet, updated}
 use Rattle.vx_model.specs.declared.site.SiteState.{SiteState}
 use Rattle.vx_model.specs.declared.site.SiteState.TheVariants.{Bare as IsBare, Up as IsUp, Down as IsDown}
 use Rattle.vx_disk.specs.Causes.{OnDisks, WithDisks}

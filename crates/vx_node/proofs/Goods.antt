@@ -4,12 +4,13 @@ use Rattle.std.specs.Prelude.{◌*◌, ◌≤◌, Option, Some, None, Bool, true
 use Rattle.std.specs.List.{find}
 use Rattle.std.specs.Str.{bytes_eq}
 use Rattle.vx_model.specs.Content.{Write as WriteOf}
-use Rattle.vx_model.specs.World.{Node, World, Volume, Fuse as FuseOf, FuseSet, bare_site, empty_world, is_origin, updated, with_node}
-use Rattle.vx_model.specs.Good.{Good, IsMade, IsWorking}
-use Rattle.vx_model.specs.Steps.{site_made, raw_made, raw_set, logged, written, half_written, half_begun, cut_write, crashed, crash_left, recovered, came_up, session_begun, stopped_by, worked_on, fused, burned}
-use Rattle.vx_model.proofs.CrashLemmas.{kept_length, good_crashed, good_cut, good_recovered, good_session_begun, good_stopped, good_worked, good_fused}
-use Rattle.vx_model.proofs.GoodLemmas.{good_empty, good_site, good_raw, good_written, good_half_written, up_is_made}
-use Rattle.vx_model.proofs.Updates.{all_updated, at_place}
+use Rattle.vx_history.specs.World.{Node, World, Volume, Fuse as FuseOf, FuseSet, bare_site, empty_world, updated, with_node}
+use Rattle.vx_model.specs.Sites.{is_origin}
+use Rattle.vx_history.specs.Good.{Good, IsMade, IsWorking}
+use Rattle.vx_history.specs.Steps.{site_made, raw_made, raw_set, logged, written, half_written, half_begun, cut_write, crashed, crash_left, recovered, came_up, session_begun, stopped_by, worked_on, fused, burned}
+use Rattle.vx_history.proofs.CrashLemmas.{kept_length, good_crashed, good_cut, good_recovered, good_session_begun, good_stopped, good_worked, good_fused}
+use Rattle.vx_history.proofs.GoodLemmas.{good_empty, good_site, good_raw, good_written, good_half_written, up_is_made}
+use Rattle.vx_history.proofs.Updates.{all_updated, at_place}
 use Rattle.vx_model.specs.declared.no.No.{No}
 use Rattle.vx_model.specs.declared.no.No.TheVariants.{Role as WrongRole}
 use Rattle.vx_model.specs.declared.site.Role.{Role}
@@ -26,7 +27,8 @@ use Rattle.vx_order.specs.declared.facts.VolumeKind.TheVariants.{Data}
 use Rattle.vx_order.specs.declared.span.Way.TheVariants.{Writes}
 use Rattle.vx_order.specs.Calls.{is_primary, takes_calls, call_role, call_unknown, span_role, span_unknown}
 use Rattle.vx_order.specs.Order.{refusal_of}
-use Rattle.vx_order.specs.Sites.{is_up, site_named, volume_of, rvg_of}
+use Rattle.vx_model.specs.Sites.{is_up}
+use Rattle.vx_order.specs.Sites.{site_named, volume_of, rvg_of}
 use Rattle.vx_order.specs.Spans.{span_of}
 use Rattle.vx_order.specs.Subject.{first_name}
 use Rattle.vx_order.specs.Tests.{when}

@@ -4,8 +4,8 @@ use Rattle.std.specs.Prelude.{IsFalse, Option, Some, None, Result, Ok, Err, OnOk
 use Rattle.std.proofs.lemmas.Bool.Decides.{nat_tests}
 use Rattle.vx_model.specs.Answer.{is_too_large}
 use Rattle.vx_model.specs.Content.{Content, Write, blocks_in, put}
-use Rattle.vx_model.specs.Steps.{logged, half_begun, burned}
-use Rattle.vx_model.specs.World.{Node, Fuse}
+use Rattle.vx_history.specs.Steps.{logged, half_begun, burned}
+use Rattle.vx_history.specs.World.{Node, Fuse}
 use Rattle.vx_model.specs.declared.no.No.{No}
 use Rattle.vx_model.specs.declared.no.No.TheVariants.{Device, Limit, Down, Size, Range}
 use Rattle.vx_model.specs.declared.units.Units.{Units}

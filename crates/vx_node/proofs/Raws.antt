@@ -1,8 +1,11 @@
 -- What a line that makes a raw set comes to.
 use Rattle.std.proofs.Common.{◌≡◌, ◌∙◌, ◌-◌, ◌<◌, ◌≤◌, ℕ, zero, suc, List, [], ◌∷◌, length, ap, sym, subst, refl, arith, inl, inr}
 use Rattle.std.specs.Prelude.{Some, None, slice_get, slice_set, Result, Ok, Err, map}
-use Rattle.vx_model.specs.World.{Node, World, no_line}
-use Rattle.vx_model.specs.Steps.{raw_made, raw_set, raw_volumes, first_line, ring_of}
+use Rattle.vx_history.specs.World.{Node, World}
+use Rattle.vx_model.specs.Sites.{no_line}
+use Rattle.vx_history.specs.Steps.{raw_made, raw_set, raw_volumes}
+use Rattle.vx_model.specs.Sites.{first_line}
+use Rattle.vx_model.specs.Sizes.{ring_of}
 use Rattle.vx_model.specs.declared.history.Line.{Line}
 use Rattle.vx_model.specs.declared.errors.OutOfMemory.{OutOfMemory as MemoryError}
 use Rattle.vx_model.specs.declared.errors.Stop.{Stop}

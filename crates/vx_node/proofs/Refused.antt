@@ -23,8 +23,10 @@ use Rattle.vx_order.specs.Order.{refusal_of}
 use Rattle.vx_order.specs.Tests.{when, first_of}
 use Rattle.vx_order.specs.Subject.{first_name, second_name, need_of, halt_of}
 use Rattle.vx_order.specs.Spans.{span_of}
-use Rattle.vx_order.specs.Sites.{facts_of, site_named, unknown_one, down_by, halted_by, site_off, is_up, is_bare, volume_of, rvg_of, halted_disk, halted_rvg, halted_one}
-use Rattle.vx_order.specs.Shapes.{line_role, line_unknown, taken, over_limit, wrong_size, site_limit, most_blocks, is_raw_set, raw_role, raw_size, disk_unknown, map_blocks}
+use Rattle.vx_order.specs.Sites.{facts_of, site_named, unknown_one, down_by, halted_by, site_off, volume_of, rvg_of, halted_disk, halted_rvg, halted_one}
+use Rattle.vx_model.specs.Sites.{is_up, is_bare}
+use Rattle.vx_order.specs.Shapes.{line_role, line_unknown, taken, over_limit, wrong_size, site_limit, most_blocks, raw_role, raw_size, disk_unknown}
+use Rattle.vx_model.specs.Sizes.{is_raw_shape, map_blocks}
 use Rattle.vx_order.specs.Calls.{span_role, span_unknown, span_size, span_range, call_unknown, call_size, call_range, outgrows, is_data, is_write}
 
 -- none of the tests of a line holds
@@ -191,8 +193,8 @@ bare_by Down e = absurd (cc)
 raw_role_none : (site : SiteFacts) → raw_role (Some site) ≡ None → site.state ≡ Bare
 raw_role_none site e = bare_by site.state (not_false (is_bare site.state) (when_none (not (is_bare site.state)) _ e))
 
-raw_set : (disks blocks : ℕ) → is_raw_set disks blocks ≡ true → (3 ≤ disks) × (8 ≤ blocks)
-unfolding is_raw_set
+raw_set : (disks blocks : ℕ) → is_raw_shape disks blocks ≡ true → (3 ≤ disks) × (8 ≤ blocks)
+unfolding is_raw_shape
 raw_set disks blocks e =
     let all = both (nat_le 3 disks && nat_le disks 32 && nat_le 8 blocks) (nat_le (8 * (disks - 2) * map_blocks blocks) blocks) e in
     let most = both (nat_le 3 disks && nat_le disks 32) (nat_le 8 blocks) all.0 in
@@ -200,7 +202,7 @@ raw_set disks blocks e =
     (le_true 3 disks few.0, le_true 8 blocks most.1)
 
 raw_size_none : (site : SiteFacts) → raw_size (Some site) ≡ None → (3 ≤ site.disks) × (8 ≤ site.blocks)
-raw_size_none site e = raw_set site.disks site.blocks (not_false (is_raw_set site.disks site.blocks) (when_none (not (is_raw_set site.disks site.blocks)) _ e))
+raw_size_none site e = raw_set site.disks site.blocks (not_false (is_raw_shape site.disks site.blocks) (when_none (not (is_raw_shape site.disks site.blocks)) _ e))
 
 disk_none : (disk : ℕ) (site : SiteFacts) → disk_unknown disk (Some site) ≡ None → disk < site.disks
 disk_none disk site e = le_false site.disks disk (when_none (nat_le site.disks disk) _ e)

@@ -2,15 +2,16 @@
 use Rattle.std.proofs.Common.{◌≡◌, ◌⊎◌, inl, inr, ⊎_elim, ◌∙◌, ◌+◌, ◌-◌, ◌<◌, ◌≤◌, ℕ, zero, suc, Bool, true, false, List, [], ◌∷◌, length, ap, sym, subst, refl, arith, IsTrue}
 use Rattle.std.specs.Prelude.{min, map, Option, Some, None, slice_get, slice_set, Result, Ok, Err}
 use Rattle.std.proofs.lemmas.Option.{slice_get_within}
-use Rattle.vx_model.specs.World.{Node, World, bare_site, updated, with_node}
-use Rattle.vx_model.specs.Steps.{recovered, came_up, session_begun, crash_left, crashed, ring_of}
+use Rattle.vx_history.specs.World.{Node, World, bare_site, updated, with_node}
+use Rattle.vx_history.specs.Steps.{recovered, came_up, session_begun, crash_left, crashed}
+use Rattle.vx_model.specs.Sizes.{ring_of}
 use Rattle.vx_model.specs.declared.no.No.{No}
 use Rattle.vx_model.specs.declared.no.No.TheVariants.{Device, Limit, NoConfig}
 use Rattle.vx_model.specs.declared.no.Counted.TheVariants.{Number}
 use Rattle.vx_model.specs.declared.state.State.{State}
 use Rattle.vx_model.specs.declared.site.SiteState.{SiteState}
 use Rattle.vx_model.specs.declared.site.SiteState.TheVariants.{Bare as IsBare, Up as IsUp, Deported, Down as IsDown}
-use Rattle.vx_model.proofs.Updates.{at_place}
+use Rattle.vx_history.proofs.Updates.{at_place}
 use Rattle.vx_disk.specs.declared.shelf.Shelf.{Ghosts}
 use Rattle.vx_order.specs.declared.facts.SiteFacts.{SiteFacts}
 use Rattle.vx_order.specs.declared.facts.RvgFacts.{RvgFacts}

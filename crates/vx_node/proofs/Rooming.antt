@@ -3,8 +3,8 @@ use Rattle.std.proofs.Common.{◌≡◌, ◌∙◌, ◌⊎◌, inl, inr, ⊎_eli
 use Rattle.std.specs.Prelude.{IsFalse, Option, Some, None, Result, Ok, Err, OnOk, IsSome, leb, ltb, ◌&&◌, ◌||◌, if◌then◌else◌}
 use Rattle.std.proofs.lemmas.Bool.Decides.{nat_tests}
 use Rattle.std.proofs.lemmas.List.{length-drop}
-use Rattle.vx_model.specs.World.{Node, Fuse}
-use Rattle.vx_model.specs.Steps.{burned}
+use Rattle.vx_history.specs.World.{Node, Fuse}
+use Rattle.vx_history.specs.Steps.{burned}
 use Rattle.vx_model.specs.declared.no.No.{No}
 use Rattle.vx_model.specs.declared.no.No.TheVariants.{Device, Limit, Down, Halted}
 use Rattle.vx_model.specs.declared.state.State.{State}

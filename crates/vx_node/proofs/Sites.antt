@@ -2,8 +2,8 @@
 use Rattle.std.proofs.Common.{◌≡◌, ◌∙◌, ◌≤◌, ℕ, List, [], ◌∷◌, ◌++◌, length, ap, sym, subst, refl, arith, inl, inr}
 use Rattle.std.specs.Prelude.{Option, Some, None, slice_get, slice_set, is_some, Result, Err, Bool, true, false}
 use Rattle.std.specs.Vec.{vec_capacity}
-use Rattle.vx_model.specs.World.{World, bare_site}
-use Rattle.vx_model.specs.Steps.{site_made}
+use Rattle.vx_history.specs.World.{World, bare_site}
+use Rattle.vx_history.specs.Steps.{site_made}
 use Rattle.vx_model.specs.declared.errors.Stop.{Stop}
 use Rattle.vx_model.specs.declared.errors.Stop.TheVariants.{No as Refused, OutOfMemory}
 use Rattle.vx_model.specs.declared.no.No.TheVariants.{Device}

@@ -2,7 +2,7 @@
 use Rattle.std.proofs.Common.{◌≡◌, ◌∙◌, ◌+◌, ◌<◌, ◌≤◌, ℕ, zero, suc, List, [], ap, sym, refl, arith, Bool, true, false}
 use Rattle.std.specs.Prelude.{Option, Some, None, slice_get, nat_lt, if◌then◌else◌}
 use Rattle.std.proofs.lemmas.Bool.Decides.{nat_tests}
-use Rattle.vx_model.specs.World.{Node, World}
+use Rattle.vx_history.specs.World.{Node, World}
 use Rattle.vx_model.specs.declared.no.SiteName.{SiteName}
 use Rattle.vx_model.specs.declared.no.SiteName.TheVariants.{Known, Number}
 use Rattle.vx_model.specs.declared.site.SiteState.{SiteState}

@@ -2,8 +2,8 @@
 use Rattle.std.proofs.Common.{◌≡◌, ◌⊎◌, inl, inr, ⊎_elim, ℕ, zero, suc, ◌+◌, ◌-◌, ◌≤◌, Bool, true, false, List, [], ◌∷◌, length, take, drop, Option, None, IsTrue, refl, sym, ◌∙◌, ap, subst, arith}
 use Rattle.std.specs.Prelude.{IsFalse}
 use Rattle.vx_model.specs.Content.{Content, Write, fold_writes}
-use Rattle.vx_model.specs.World.{Node, Fuse, NoFuse, FuseSet, FuseLit}
-use Rattle.vx_model.specs.Steps.{burned}
+use Rattle.vx_history.specs.World.{Node, Fuse, NoFuse, FuseSet, FuseLit}
+use Rattle.vx_history.specs.Steps.{burned}
 use Rattle.vx_model.specs.declared.state.State.{State}
 use Rattle.vx_model.specs.declared.units.Units.{Units}
 use Rattle.vx_srlfmt.specs.declared.header.Header.{Header}

@@ -3,8 +3,8 @@ use Rattle.std.proofs.Common.{◌≡◌, ◌∙◌, ◌+◌, ◌<◌, ℕ, zero,
 use Rattle.std.specs.Prelude.{map, codes}
 use Rattle.std.specs.Fmt.{decimal}
 use Rattle.std.proofs.lemmas.Fmt.{decimal_digit}
-use Rattle.vx_model.specs.Steps.{raw_volumes}
-use Rattle.vx_model.specs.World.{Volume}
+use Rattle.vx_history.specs.Steps.{raw_volumes}
+use Rattle.vx_history.specs.World.{Volume}
 use Rattle.vx_order.specs.declared.facts.VolumeFacts.{VolumeFacts}
 use Rattle.vx_node.specs.Changes.{raw_volume_fact}
 use Rattle.vx_node.specs.Facts.{volume_fact}

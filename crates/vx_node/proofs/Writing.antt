@@ -6,8 +6,8 @@ use Rattle.std.specs.Str.{bytes_eq}
 use Rattle.std.proofs.lemmas.List.{length-replicate, length-map}
 use Rattle.std.proofs.lemmas.Option.{slice_get-map, slice_get_within}
 use Rattle.vx_model.specs.Content.{Write, blocks_in}
-use Rattle.vx_model.specs.World.{Node, World, Volume}
-use Rattle.vx_model.specs.Steps.{written, half_written, logged, half_begun, crashed, cut_write, worked_on, burned}
+use Rattle.vx_history.specs.World.{Node, World, Volume}
+use Rattle.vx_history.specs.Steps.{written, half_written, logged, half_begun, crashed, cut_write, worked_on, burned}
 use Rattle.vx_model.specs.declared.no.No.{No}
 use Rattle.vx_model.specs.declared.no.No.TheVariants.{Device, Limit, Down as Off}
 use Rattle.vx_model.specs.declared.site.SiteState.{SiteState}

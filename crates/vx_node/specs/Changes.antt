@@ -1,7 +1,8 @@
 -- What the tests of a line look at, as events change it.
 use Rattle.std.specs.Prelude.{ℕ, ◌+◌, List, [], ◌∷◌, Option, Some, None}
-use Rattle.vx_model.specs.Steps.{first_line, ring_of}
-use Rattle.vx_model.specs.World.{no_line}
+use Rattle.vx_model.specs.Sites.{first_line}
+use Rattle.vx_model.specs.Sizes.{ring_of}
+use Rattle.vx_model.specs.Sites.{no_line}
 use Rattle.vx_model.specs.declared.site.SiteState.TheVariants.{Bare, Up, Down}
 use Rattle.vx_model.specs.declared.state.State.{State}
 use Rattle.vx_model.specs.declared.site.Role.TheVariants.{Primary}

@@ -1,8 +1,9 @@
 -- What the calls on the disks of a site promise.
 use Rattle.std.specs.Prelude.{◌≡◌, ℕ, ◌+◌, ◌-◌, ◌<◌, ◌≤◌, ◌++◌, ◌∷◌, [], ◌⊎◌, min, length, Option, Some, None, Result, Ok, Err, List, IsTrue, Bool, true, false}
 use Rattle.vx_model.specs.Content.{Write}
-use Rattle.vx_model.specs.World.{Node, bare_site}
-use Rattle.vx_model.specs.Steps.{logged, raw_set, half_begun, crashed, recovered, ring_of, burned}
+use Rattle.vx_history.specs.World.{Node, bare_site}
+use Rattle.vx_history.specs.Steps.{logged, raw_set, half_begun, crashed, recovered, burned}
+use Rattle.vx_model.specs.Sizes.{ring_of}
 use Rattle.vx_model.specs.declared.site.SiteState.TheVariants.{Up as IsUp}
 use Rattle.vx_model.specs.declared.errors.Stop.{Stop}
 use Rattle.vx_model.specs.declared.errors.Stop.TheVariants.{No as Refused, OutOfMemory}

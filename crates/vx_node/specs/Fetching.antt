@@ -1,6 +1,6 @@
 -- What the yard promises of a line that reads blocks.
 use Rattle.std.specs.Prelude.{◌≡◌, ◌⊎◌, ℕ, ◌*◌, List, length, Result, Ok, Err}
-use Rattle.vx_model.specs.World.{Node, World}
+use Rattle.vx_history.specs.World.{Node, World}
 use Rattle.vx_model.specs.declared.no.No.{No}
 use Rattle.vx_model.specs.declared.no.No.TheVariants.{Device}
 use Rattle.vx_disk.specs.declared.shelf.Shelf.{Ghosts}

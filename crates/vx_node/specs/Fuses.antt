@@ -1,7 +1,7 @@
 -- The fuse of the disks of a site.
 use Rattle.std.specs.Prelude.{◌≡◌, ℕ, ◌+◌, ◌≤◌, Option, Some, None, List, [], ◌∷◌, IsFalse}
 use Rattle.vx_model.specs.Content.{Write, blocks_in}
-use Rattle.vx_model.specs.World.{Node, Fuse, NoFuse, FuseSet, FuseLit}
+use Rattle.vx_history.specs.World.{Node, Fuse, NoFuse, FuseSet, FuseLit}
 use Rattle.vx_disk.specs.Disks.{Disks}
 use Rattle.vx_disk.specs.Shelf.{Meaning}
 use Rattle.vx_srl.specs.Views.{Log, widths}

@@ -1,7 +1,7 @@
 -- What the disks hold of a site, whatever a crash at this moment leaves on them.
 use Rattle.std.specs.Prelude.{◌≡◌, ℕ, ◌+◌, ◌-◌, ◌*◌, ◌<◌, ◌≤◌, List, [], length, take, drop, None, Option, Some, slice_get, IsTrue}
 use Rattle.vx_model.specs.Content.{fold_writes}
-use Rattle.vx_model.specs.World.{Node, World}
+use Rattle.vx_history.specs.World.{Node, World}
 use Rattle.vx_model.specs.declared.state.State.{State}
 use Rattle.vx_model.specs.declared.state.KeptLink.{KeptLink}
 use Rattle.vx_model.specs.declared.units.Units.{Units}

@@ -1,7 +1,7 @@
 -- What the yard promises where a site goes down, and where one that is down is started.
 use Rattle.std.specs.Prelude.{◌≡◌, ℕ, [], Some, slice_get, slice_set, Result, Ok, Err}
 use Rattle.vx_model.specs.declared.errors.OutOfMemory.{OutOfMemory}
-use Rattle.vx_model.specs.World.{Node, World}
+use Rattle.vx_history.specs.World.{Node, World}
 use Rattle.vx_model.specs.declared.site.SiteState.TheVariants.{Up as IsUp}
 use Rattle.vx_disk.specs.declared.shelf.Shelf.{Ghosts}
 use Rattle.vx_order.specs.declared.facts.SiteFacts.{SiteFacts}

@@ -1,8 +1,8 @@
 -- What a yard stands for: how its racks and what it keeps of each site agree with the world.
 use Rattle.std.specs.Prelude.{◌≡◌, ℕ, ◌+◌, ◌-◌, ◌<◌, ◌≤◌, ◌==◌, ◌&&◌, min, List, [], length, count_by, Option, Some, None, slice_get, IsTrue, IsFalse}
 use Rattle.vx_model.specs.Content.{zero_block}
-use Rattle.vx_model.specs.Steps.{ring_of}
-use Rattle.vx_model.specs.World.{Node, World, Volume, NoFuse, bare_site}
+use Rattle.vx_model.specs.Sizes.{ring_of}
+use Rattle.vx_history.specs.World.{Node, World, Volume, NoFuse, bare_site}
 use Rattle.vx_model.specs.declared.state.KeptLink.{KeptLink}
 use Rattle.vx_model.specs.declared.site.SiteState.TheVariants.{Up as IsUp, Down as IsDown}
 use Rattle.vx_disk.specs.Shelf.{Meaning, Image, Keeps}

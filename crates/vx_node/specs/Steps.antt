@@ -1,8 +1,9 @@
 -- What a line does to the world, by cases on the line.
 use Rattle.std.specs.Prelude.{◌≡◌, ◌⊎◌, ℕ, ◌+◌, ◌*◌, ◌<◌, ◌≤◌, min, List, [], ◌∷◌, length, replicate, Option, Some, None, Result, Ok, Err, Bool}
+use Rattle.vx_model.specs.declared.limits.TheConstants.{MOST_NUMBER}
 use Rattle.vx_model.specs.Content.{Content, Write}
-use Rattle.vx_model.specs.World.{World}
-use Rattle.vx_model.specs.Steps.{site_made, raw_made, written, half_written, crash_left, cut_write, recovered, came_up, session_begun, stopped_by, worked_on, fused}
+use Rattle.vx_history.specs.World.{World}
+use Rattle.vx_history.specs.Steps.{site_made, raw_made, written, half_written, crash_left, cut_write, recovered, came_up, session_begun, stopped_by, worked_on, fused}
 use Rattle.vx_model.specs.declared.site.SiteState.TheVariants.{Bare, Up, Down}
 use Rattle.vx_model.specs.declared.no.No.{No}
 use Rattle.vx_model.specs.declared.no.No.TheVariants.{Device, Limit, NoConfig, Down as IsOff}
@@ -44,8 +45,8 @@ pub record OnlyFails (site : ℕ) (fails : Fails) (said : Said) (new next : Worl
 -- A write that is not refused: its number, or none is left, or a disk failed; or the fuse of the disks ran out in it, and the crash kept it
 -- or not. Of disks that tell no contents it is not known how many numbers are left, nor how many calls a write is.
 pub data Puts (told : Type 0) (w : World) (site : ℕ) (x : Write) (fails : Fails) (said : Said) (new : World) : Type 0 where
-  IsPut : (w.nodes site).safe < 0x7fff_ffff_ffff_ffff → ((calls : ℕ) → told → IsExact (w.nodes site) x calls → 4 ≤ calls) → Cleanly fails said (DoneAt ((w.nodes site).safe + 1)) new (written w site x) → Puts told w site x fails said new
-  NoNumber : (told → 0x7fff_ffff_ffff_ffff ≤ most_stamp (w.nodes site)) → Cleanly fails said (Refused (Limit Number 0x7fff_ffff_ffff_ffff)) new (worked_on w site) → Puts told w site x fails said new
+  IsPut : (w.nodes site).safe < MOST_NUMBER → ((calls : ℕ) → told → IsExact (w.nodes site) x calls → 4 ≤ calls) → Cleanly fails said (DoneAt ((w.nodes site).safe + 1)) new (written w site x) → Puts told w site x fails said new
+  NoNumber : (told → MOST_NUMBER ≤ most_stamp (w.nodes site)) → Cleanly fails said (Refused (Limit Number MOST_NUMBER)) new (worked_on w site) → Puts told w site x fails said new
   PutFails : (disk : ℕ) → FailsAt site disk fails said new (half_written w site x disk) → Puts told w site x fails said new
   PutCut : (count : ℕ) → IsFused (w.nodes site).fuse → (w.nodes site).safe ≤ count → count ≤ length (w.nodes site).log + 1
       → ((calls : ℕ) → told → IsExact (w.nodes site) x calls → calls < 4) → Cleanly fails said (Refused IsOff) new (cut_write w site x count) → Puts told w site x fails said new
@@ -69,8 +70,8 @@ pub data Recovers (told : Type 0) (w : World) (site : ℕ) (fails : Fails) (said
   ComesUp : (mid : World) → Begins w site mid
       → Cleanly fails said (Recovered (mid.nodes site).safe (view_of (came_up mid site) (recovered (mid.nodes site)))) new (came_up mid site) → Recovers told w site fails said new
   StaysDown : (mid : World) (disk : ℕ) → Begins w site mid → FailsAt site disk fails said new mid ⊎ FailsAt site disk fails said new (session_begun mid site) → Recovers told w site fails said new
-  NoSession : (mid : World) → Begins w site mid → 0x7fff_ffff_ffff_ffff ≤ most_stamp (mid.nodes site) + 2
-      → Cleanly fails said (Refused (Limit Number 0x7fff_ffff_ffff_ffff)) new mid → Recovers told w site fails said new
+  NoSession : (mid : World) → Begins w site mid → MOST_NUMBER ≤ most_stamp (mid.nodes site) + 2
+      → Cleanly fails said (Refused (Limit Number MOST_NUMBER)) new mid → Recovers told w site fails said new
   Untold : (told → ⊥) → Recovers told w site fails said new
   IsBareStill : (w.nodes site).state ≡ Bare → Cleanly fails said (Refused NoConfig) new w → Recovers told w site fails said new
   BareFails : (disk : ℕ) → (w.nodes site).state ≡ Bare → FailsAt site disk fails said new w → Recovers told w site fails said new

@@ -1,6 +1,6 @@
 -- What the status of a site shows of the world.
 use Rattle.std.specs.Prelude.{ℕ, [], Option, Some, None, nat_lt, if◌then◌else◌}
-use Rattle.vx_model.specs.World.{Node, World}
+use Rattle.vx_history.specs.World.{Node, World}
 use Rattle.vx_model.specs.declared.no.SiteName.{SiteName}
 use Rattle.vx_model.specs.declared.no.SiteName.TheVariants.{Known, Number}
 use Rattle.vx_model.specs.declared.site.SiteState.{SiteState}

@@ -1,6 +1,6 @@
 -- What the yard promises of a line that works, and of one that is answered.
 use Rattle.std.specs.Prelude.{◌≡◌, None, Result, Ok, Err}
-use Rattle.vx_model.specs.World.{World}
+use Rattle.vx_history.specs.World.{World}
 use Rattle.vx_model.specs.declared.errors.OutOfMemory.{OutOfMemory}
 use Rattle.vx_disk.specs.declared.shelf.Shelf.{Ghosts}
 use Rattle.vx_order.specs.Order.{refusal_of}

@@ -1,7 +1,7 @@
 -- What the yard promises of a write of blocks.
 use Rattle.std.specs.Prelude.{◌≡◌, ℕ, ◌*◌, List, length, replicate}
 use Rattle.vx_model.specs.Content.{Write}
-use Rattle.vx_model.specs.World.{World}
+use Rattle.vx_history.specs.World.{World}
 use Rattle.vx_model.specs.declared.no.No.{No}
 use Rattle.vx_model.specs.declared.no.No.TheVariants.{Device, Down}
 use Rattle.vx_disk.specs.declared.shelf.Shelf.{Ghosts}

@@ -1,6 +1,6 @@
 // What a line is answered.
 ghost use Rattle.std.specs.Prelude.{◌≡◌};
-ghost use Rattle.vx_model.specs.World.{World};
+ghost use Rattle.vx_history.specs.World.{World};
 ghost use Rattle.vx_node.specs.Working.{WorkIs, AnswerIs, IsFree};
 ghost use Rattle.vx_node.specs.Yards.{YardStands, IsTold, in_files};
 

@@ -1,6 +1,6 @@
 // The calls of a yard.
 ghost use Rattle.std.specs.Prelude.{◌≡◌, ◌≤◌, ℕ, IfOk, IfErr, is_some};
-ghost use Rattle.vx_model.specs.World.{World, empty_world};
+ghost use Rattle.vx_history.specs.World.{World, empty_world};
 ghost use Rattle.vx_node.specs.Holds.{AreFresh, RacksHold, RacksTell, rack_faults};
 ghost use Rattle.vx_node.specs.Stands.{RoseAll};
 ghost use Rattle.vx_node.specs.Yards.{YardStands, LineIs, IsTold, count_of, in_files};
@@ -13,6 +13,7 @@ use crate::{LineStop, Yard};
 use std::alloc::Global;
 use vx_disk::Rack;
 use vx_model::OutOfMemory;
+use vx_model::limits::MOST_SITES;
 use vx_script::ScriptLine;
 use vx_stream::{Sink, send};
 
@@ -29,7 +30,7 @@ impl<R: Rack> Yard<R> {
         ensures counts { IfOk result (λ y. (s d : ℕ) → count_of y s d ≡ rack_faults R.meaning racks.items s d) }
         ensures back { IfErr result (λ e. e.0 ≡ racks) }
     {
-        let Ok(engines) = Vec::with_capacity(alloc, 8) else {
+        let Ok(engines) = Vec::with_capacity(alloc, MOST_SITES) else {
             return Err((racks, OutOfMemory));
         };
         let Ok(dir) = copied(alloc, dir) else {

@@ -1,6 +1,6 @@
 // What a line does that crashes a site, sets its fuse, recovers it, or applies what is logged.
 ghost use Rattle.std.specs.Prelude.{◌≡◌, ◌<◌, length};
-ghost use Rattle.vx_model.specs.World.{World};
+ghost use Rattle.vx_history.specs.World.{World};
 ghost use Rattle.vx_model.specs.declared.site.SiteState.TheVariants.{Bare as BareState, Up as UpState, Down as DownState};
 ghost use Rattle.vx_script.specs.declared.line.ScriptLine.TheVariants.{Crash, Fuse, Recover, Apply};
 ghost use Rattle.vx_node.specs.Rising.{Fell, Finding, NotesUp, Recovering};
@@ -14,8 +14,8 @@ use crate::{Engine, Said, facts};
 use std::alloc::Global;
 use std::mem;
 use vx_disk::Rack;
-use vx_model::{Name, No, OutOfMemory, SiteState};
-use vx_order::ring_blocks;
+use vx_model::limits::{LEAST_BLOCKS, LEAST_RAW_DISKS, MOST_DISKS, MOST_SITES};
+use vx_model::{Name, No, OutOfMemory, SiteState, ring_blocks};
 use vx_rvg::StartRoom;
 use vx_script::ScriptLine;
 
@@ -115,7 +115,12 @@ impl<R: Rack> Yard<R> {
     {
         let disks = self.facts[site].disks;
         let blocks = self.facts[site].blocks;
-        if site >= 8 || disks < 3 || disks > 8 || blocks < 8 || self.is_refused(name) {
+        if site >= MOST_SITES
+            || disks < LEAST_RAW_DISKS
+            || disks > MOST_DISKS
+            || blocks < LEAST_BLOCKS
+            || self.is_refused(name)
+        {
             return Ok(Said::Refused(No::NoConfig));
         }
         let volumes = facts::raw_table(alloc, disks - 2, blocks)?;
@@ -151,7 +156,7 @@ impl<R: Rack> Yard<R> {
         let Some(site) = seat(&self.facts, name) else {
             return Ok(Said::Refused(No::Role));
         };
-        if site >= self.engines.len() || self.facts[site].blocks < 8 {
+        if site >= self.engines.len() || self.facts[site].blocks < LEAST_BLOCKS {
             return Ok(Said::Refused(No::Role));
         }
         let blocks = self.facts[site].blocks;

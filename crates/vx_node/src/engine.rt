@@ -1,25 +1,24 @@
 // The disks of a site, and what is made of them.
 ghost use Rattle.std.specs.Prelude.{◌≡◌, ◌≤◌, ◌<◌, ◌+◌, ◌*◌, ◌%◌, ℕ, length, None, IfSome, IfOk, IfErr, IsSome, IsTrue, IsFalse, OnOk};
 ghost use Rattle.vx_model.specs.Content.{blocks_in, zero_block};
-ghost use Rattle.vx_model.specs.World.{Node};
+ghost use Rattle.vx_history.specs.World.{Node};
 ghost use Rattle.vx_srl.specs.Views.{free_of};
 ghost use Rattle.vx_node.specs.Engines.{Later, CanHold, CanStart, CanWrite, MadeIs, BareUpIs, WroteUp, is_off};
 ghost use Rattle.vx_node.specs.Rooms.{AppliedAs, RoomIs};
 ghost use Rattle.vx_node.specs.Stands.{IsBareAt, IsCleanAt, IsUpAt, StandsAt};
 ghost use Rattle.vx_disk.specs.Shelf.{Goes, Keeps, Nothing};
-ghost use Rattle.vx_model.specs.Steps.{ring_of};
+ghost use Rattle.vx_model.specs.Sizes.{ring_of};
 ghost use Rattle.vx_ringio.specs.Tracks.{Lies};
-ghost use Rattle.vx_srl.specs.Causes.{DeviceCause};
+ghost use Rattle.vx_disk.specs.Causes.{DeviceCause};
 
 use crate::units::raw_units;
 use std::alloc::Global;
 use std::mem;
-use vx_disk::Rack;
-use vx_model::{No, Role, State, Stop};
-use vx_order::ring_blocks;
+use vx_disk::{Rack, refusal};
+use vx_model::limits::{LEAST_BLOCKS, LEAST_RAW_DISKS, MOST_DISKS};
+use vx_model::{No, Role, State, Stop, ring_blocks};
 use vx_ringio::{TopSeen, read_top};
 use vx_rvg::{Rvg, StartRoom};
-use vx_srl::refusal;
 
 /// The rack of a site number, by itself or under a replicated volume group.
 #[derive(Drop)]
@@ -120,11 +119,11 @@ fn can_start<R: Rack>(rack: &R, room: &StartRoom) -> bool
     ensures all { CanStart room.now.ring (R.meaning rack.now) → IsTrue result }
 {
     let disks = rack.units();
-    if disks < 3 || disks > 8 || !rack.is_down() {
+    if disks < LEAST_RAW_DISKS || disks > MOST_DISKS || !rack.is_down() {
         return false;
     }
     let blocks = rack.size(0);
-    blocks >= 8 && room.ring() == ring_blocks(blocks)
+    blocks >= LEAST_BLOCKS && room.ring() == ring_blocks(blocks)
 }
 
 // A raw set on the disks of a bare site. Where it is not made, something of it may stand on them.
@@ -133,7 +132,7 @@ fn make_group<R: Rack>(alloc: Global, rack: R, site: u32) -> (Engine<R>, Result<
     ensures later { Later (Engine.Spoiled rack) result.0 }
 {
     let disks = rack.units();
-    if disks < 3 || disks > 8 {
+    if disks < LEAST_RAW_DISKS || disks > MOST_DISKS {
         return (Engine::Spoiled(rack), Err(Stop::No(No::Role)));
     }
     match Rvg::create(alloc, rack, &raw_units(disks), &State::first(site)) {
@@ -182,11 +181,11 @@ fn can_hold<R: Rack>(rack: &R, room: &StartRoom) -> bool
     ensures all { CanHold room.now.ring (R.meaning rack.now) → IsTrue result }
 {
     let disks = rack.units();
-    if disks < 3 || disks > 8 {
+    if disks < LEAST_RAW_DISKS || disks > MOST_DISKS {
         return false;
     }
     let blocks = rack.size(0);
-    blocks >= 8 && room.ring() == ring_blocks(blocks)
+    blocks >= LEAST_BLOCKS && room.ring() == ring_blocks(blocks)
 }
 
 // Starts what stands on the disks of a bare site. Where it is refused, the site stays bare.
@@ -218,7 +217,7 @@ fn start_bare<R: Rack>(rack: R, room: StartRoom) -> (Engine<R>, Result<(), No>)
 impl<R: Rack> Engine<R> {
     ghost use Rattle.vx_node.specs.Holds.{state_with};
     ghost use Rattle.vx_node.specs.Stands.{CutAt, IsUnused};
-    ghost use Rattle.vx_model.specs.World.{FuseSet};
+    ghost use Rattle.vx_history.specs.World.{FuseSet};
     ghost use Rattle.vx_node.specs.Engines.{FitIs, CanRead, CanApply, ReadAt, WroteAt, AppliedUp, AppliedAt, CrashedAt, CameUpIs};
     ghost use Rattle.vx_model.specs.declared.site.SiteState.TheVariants.{Bare as BareState, Up as UpState, Down as DownState};
 
@@ -232,8 +231,8 @@ impl<R: Rack> Engine<R> {
         blocks: u64,
     ) -> Result<(), Stop>
         requires some { 1 ≤ disks }
-        requires few { disks ≤ 8 }
-        requires large { 8 ≤ blocks }
+        requires few { disks ≤ MOST_DISKS }
+        requires large { LEAST_BLOCKS ≤ blocks }
         ensures fits { IsUnused self.old → FitIs dir.entry disks blocks self.old self.new result }
         ensures later { Later self.old self.new }
     {

@@ -1,12 +1,13 @@
 // What the tests of a line look at, as it changes.
 ghost use Rattle.std.specs.Prelude.{◌≡◌, ◌≤◌, ◌<◌, IfOk, map};
-ghost use Rattle.vx_model.specs.Steps.{raw_volumes};
+ghost use Rattle.vx_history.specs.Steps.{raw_volumes};
 ghost use Rattle.vx_node.specs.Changes.{bare_facts, raw_volume_fact, last_facts, halted_facts, raw_facts, down_facts, up_facts};
 ghost use Rattle.vx_node.specs.Facts.{volume_fact, place_of};
 
 use std::alloc::Global;
-use vx_model::{Line, Mark, Name, OutOfMemory, Role, SiteState, State};
-use vx_order::{RvgFacts, SiteFacts, VolumeFacts, VolumeKind, VolumeTable, ring_blocks};
+use vx_model::limits::{LEAST_BLOCKS, MOST_DISKS};
+use vx_model::{Line, Mark, Name, OutOfMemory, Role, SiteState, State, ring_blocks};
+use vx_order::{RvgFacts, SiteFacts, VolumeFacts, VolumeKind, VolumeTable};
 
 /// A site of which nothing is made yet.
 pub fn bare(alloc: Global, name: &Name, disks: u32, blocks: u64) -> SiteFacts
@@ -24,7 +25,7 @@ pub fn bare(alloc: Global, name: &Name, disks: u32, blocks: u64) -> SiteFacts
 
 /// The volumes d1, d2 and so on of a raw set, each of so many blocks.
 pub fn raw_table(alloc: Global, volumes: u32, blocks: u64) -> Result<VolumeTable, OutOfMemory>
-    requires { volumes ≤ 8 }
+    requires { volumes ≤ MOST_DISKS }
     ensures { IfOk result (λ table. table ≡ map volume_fact (raw_volumes 1 volumes blocks)) }
 {
     let mut table = VolumeTable::new(alloc);
@@ -36,7 +37,7 @@ pub fn raw_table(alloc: Global, volumes: u32, blocks: u64) -> Result<VolumeTable
 
 // Volume k + 1 of a raw set.
 fn raw_volume(k: u32, blocks: u64) -> VolumeFacts
-    requires { k < 8 }
+    requires { k < MOST_DISKS }
     ensures { result ≡ raw_volume_fact k blocks }
 {
     VolumeFacts {
@@ -48,7 +49,7 @@ fn raw_volume(k: u32, blocks: u64) -> VolumeFacts
 
 /// The site as a raw set on its first line.
 pub fn make_raw(facts: &mut SiteFacts, site: u32, volumes: VolumeTable)
-    requires { 8 ≤ facts.old.blocks }
+    requires { LEAST_BLOCKS ≤ facts.old.blocks }
     ensures { facts.new ≡ raw_facts site volumes facts.old }
 {
     facts.state = SiteState::Up;

@@ -1,6 +1,6 @@
 // The lines that read blocks.
 ghost use Rattle.std.specs.Prelude.{◌≡◌, ◌≤◌, ◌<◌};
-ghost use Rattle.vx_model.specs.World.{World, Node};
+ghost use Rattle.vx_history.specs.World.{World, Node};
 ghost use Rattle.vx_script.specs.declared.line.ScriptLine.TheVariants.{Read as ReadLine, Show as ShowLine};
 ghost use Rattle.vx_node.specs.Engines.{CanRead, Later};
 ghost use Rattle.vx_node.specs.Fetching.{GaveAt, IsReadFree, Fetched};

@@ -1,6 +1,6 @@
 // What the status of a site shows.
 ghost use Rattle.std.specs.Prelude.{◌≡◌, ◌<◌, [], length, slice_get};
-ghost use Rattle.vx_model.specs.World.{World};
+ghost use Rattle.vx_history.specs.World.{World};
 ghost use Rattle.vx_script.specs.declared.line.ScriptLine.TheVariants.{Status as StatusLine};
 ghost use Rattle.vx_node.specs.Seen.{name_at, group_seen, group_at};
 ghost use Rattle.vx_node.specs.Views.{view_of};

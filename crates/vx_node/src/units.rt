@@ -2,12 +2,13 @@
 ghost use Rattle.std.specs.Prelude.{◌≡◌, ◌≤◌};
 ghost use Rattle.vx_node.specs.Holds.{raw_units as units_of};
 
+use vx_model::limits::{LEAST_RAW_DISKS, MOST_DISKS};
 use vx_model::{Units, VolumeUnits};
 
 /// Those of 3 to 8 disks: the log on disk 0, the maps on the last disk, and a volume on each disk between.
 pub fn raw_units(disks: u32) -> Units
-    requires some { 3 ≤ disks }
-    requires few { disks ≤ 8 }
+    requires some { LEAST_RAW_DISKS ≤ disks }
+    requires few { disks ≤ MOST_DISKS }
     ensures { result ≡ units_of disks }
 {
     let mut vols = VolumeUnits::new();

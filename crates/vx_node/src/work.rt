@@ -1,6 +1,6 @@
 // What a line does that no test refuses.
 ghost use Rattle.std.specs.Prelude.{◌≡◌, ◌≤◌};
-ghost use Rattle.vx_model.specs.World.{World};
+ghost use Rattle.vx_history.specs.World.{World};
 ghost use Rattle.vx_script.specs.declared.line.ScriptLine.TheVariants.{Site, Raw, Disk, Write as WriteLine, Put as PutLine, Read as ReadLine, Show as ShowLine, Status as StatusLine};
 ghost use Rattle.vx_node.specs.Replies.{reply_to};
 ghost use Rattle.vx_node.specs.Working.{WorkIs, Worked, IsFree};
@@ -11,6 +11,7 @@ use crate::{Engine, Said, facts};
 use std::alloc::Global;
 use std::mem;
 use vx_disk::Rack;
+use vx_model::limits::{LEAST_BLOCKS, LEAST_RAW_DISKS, MOST_DISKS, MOST_SITES};
 use vx_model::{Blocks, Name, Named, No, OutOfMemory, Stop};
 use vx_script::DiskState as DiskWord;
 
@@ -40,14 +41,14 @@ impl<R: Rack> Yard<R> {
         blocks: u64,
     ) -> Result<Said, OutOfMemory>
         requires some { 1 ≤ disks }
-        requires few { disks ≤ 8 }
-        requires large { 8 ≤ blocks }
+        requires few { disks ≤ MOST_DISKS }
+        requires large { LEAST_BLOCKS ≤ blocks }
         ensures works { (w : World) → YardStands w self.old → IsFree self.old (Site name.now disks blocks) → WorkIs w (Site name.now disks blocks) self.old self.new result }
         ensures told { IsTold self.new → IsTold self.old }
         ensures files { in_files self.new ≡ in_files self.old }
     {
         let site = self.facts.len();
-        if site >= self.engines.len() || site >= 8 {
+        if site >= self.engines.len() || site >= MOST_SITES {
             return Ok(Said::Refused(No::Role));
         }
         self.facts
@@ -79,7 +80,12 @@ impl<R: Rack> Yard<R> {
         };
         let disks = self.facts[site].disks;
         let blocks = self.facts[site].blocks;
-        if site >= self.engines.len() || site >= 8 || disks < 3 || disks > 8 || blocks < 8 {
+        if site >= self.engines.len()
+            || site >= MOST_SITES
+            || disks < LEAST_RAW_DISKS
+            || disks > MOST_DISKS
+            || blocks < LEAST_BLOCKS
+        {
             return Ok(Said::Refused(No::Role));
         }
         let volumes = facts::raw_table(alloc, disks - 2, blocks)?;

@@ -1,6 +1,6 @@
 // What a line that writes blocks does.
 ghost use Rattle.std.specs.Prelude.{◌≡◌, ◌≤◌, ◌<◌, ◌%◌, length};
-ghost use Rattle.vx_model.specs.World.{World};
+ghost use Rattle.vx_history.specs.World.{World};
 ghost use Rattle.vx_script.specs.declared.line.ScriptLine.TheVariants.{Write as WriteLine, Put as PutLine};
 ghost use Rattle.vx_node.specs.declared.said.Said.TheVariants.{Refused};
 ghost use Rattle.vx_node.specs.Working.{Worked, IsFree};
@@ -10,6 +10,7 @@ ghost use Rattle.vx_node.specs.Yards.{YardStands, IsTold, in_files};
 use crate::yard::{Yard, seat};
 use crate::{Said, facts};
 use vx_disk::Rack;
+use vx_model::limits::MOST_SITES;
 use vx_model::{Blocks, Name, No};
 use vx_order::SiteFacts;
 
@@ -42,7 +43,7 @@ impl<R: Rack> Yard<R> {
         let Some(place) = facts::place(&self.facts[site], volume) else {
             return Said::Refused(No::Role);
         };
-        if site >= self.engines.len() || place >= 8 {
+        if site >= self.engines.len() || place >= MOST_SITES {
             return Said::Refused(No::Role);
         }
         match self.engines[site].write(place as u32, start, bytes) {

@@ -19,8 +19,10 @@ use Rattle.vx_order.specs.Tests.{when, first_of}
 use Rattle.vx_order.specs.Order.{refusal_of}
 use Rattle.vx_order.specs.Subject.{first_name, second_name, need_of, halt_of}
 use Rattle.vx_order.specs.Spans.{span_of}
-use Rattle.vx_order.specs.Sites.{site_named, site_gone, is_bare, volume_of, rvg_of, halted_one, unknown_one, down_by, halted_by}
-use Rattle.vx_order.specs.Shapes.{most_blocks, is_raw_set, line_role, line_unknown, taken, over_limit, wrong_size, raw_role, raw_size, disk_unknown}
+use Rattle.vx_order.specs.Sites.{site_named, site_gone, volume_of, rvg_of, halted_one, unknown_one, down_by, halted_by}
+use Rattle.vx_model.specs.Sites.{is_bare}
+use Rattle.vx_order.specs.Shapes.{most_blocks, line_role, line_unknown, taken, over_limit, wrong_size, raw_role, raw_size, disk_unknown}
+use Rattle.vx_model.specs.Sizes.{is_raw_shape}
 use Rattle.vx_order.specs.Calls.{takes_calls, asks_role, is_write, outgrows, call_role, call_unknown, call_size, call_range, span_role, span_unknown, span_size, span_range}
 use Rattle.vx_order.specs.Kinds.{site_refusal, raw_refusal, disk_refusal, status_refusal, call_on, before, call_refusal}
 
@@ -55,7 +57,7 @@ raw_tests : (site : Option SiteFacts) (name : List ℕ)
     → first_of (unknown_one (Some name) site ∷ None ∷ None ∷ None ∷ raw_role site ∷ None ∷ None ∷ None ∷ None ∷ None ∷ raw_size site ∷ None ∷ None ∷ []) ≡ raw_refusal site name
 unfolding first_of
 raw_tests None name = refl
-raw_tests (Some site) name = two_tests (not (is_bare site.state)) (not (is_raw_set site.disks site.blocks)) Role Size
+raw_tests (Some site) name = two_tests (not (is_bare site.state)) (not (is_raw_shape site.disks site.blocks)) Role Size
 
 pub raw_lines_are : (sites : List SiteFacts) (files : Bool) (name : List ℕ) → refusal_of sites files (Raw name) ≡ raw_refusal (site_named sites name) name
 unfolding refusal_of first_of first_name second_name need_of halt_of line_role line_unknown taken over_limit wrong_size span_of

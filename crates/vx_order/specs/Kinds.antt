@@ -8,8 +8,10 @@ use Rattle.vx_order.specs.declared.facts.SiteFacts.{SiteFacts}
 use Rattle.vx_order.specs.declared.facts.VolumeFacts.{VolumeFacts}
 use Rattle.vx_order.specs.declared.facts.RvgFacts.{RvgFacts}
 use Rattle.vx_order.specs.declared.span.Span.{Span}
-use Rattle.vx_order.specs.Sites.{site_named, site_gone, is_bare, volume_of, rvg_of, halted_one}
-use Rattle.vx_order.specs.Shapes.{most_blocks, is_raw_set}
+use Rattle.vx_order.specs.Sites.{site_named, site_gone, volume_of, rvg_of, halted_one}
+use Rattle.vx_model.specs.Sites.{is_bare}
+use Rattle.vx_order.specs.Shapes.{most_blocks}
+use Rattle.vx_model.specs.Sizes.{is_raw_shape}
 use Rattle.vx_order.specs.Calls.{takes_calls, asks_role, is_write, outgrows}
 
 -- a `site` line of this name, number of disks and blocks of each
@@ -27,7 +29,7 @@ abbrev pub raw_refusal : Option SiteFacts → List ℕ → Option No
 raw_refusal None name = Some (Unknown (Of name))
 raw_refusal (Some site) name =
     if not (is_bare site.state) then Some Role
-    else if not (is_raw_set site.disks site.blocks) then Some Size
+    else if not (is_raw_shape site.disks site.blocks) then Some Size
     else None
 
 -- a `disk` line of the site of this name

@@ -1,5 +1,6 @@
 -- The tests of a site's disks, and of what they can be made.
 use Rattle.std.specs.Prelude.{ℕ, ◌+◌, ◌-◌, ◌*◌, ◌/◌, Bool, not, ◌&&◌, ◌||◌, ◌==◌, nat_lt, nat_le, List, Option, Some, None, is_some, if◌then◌else◌}
+use Rattle.vx_model.specs.declared.limits.TheConstants.{LEAST_BLOCKS, MOST_DISKS, MOST_FILE_BLOCKS, MOST_MEMORY_BLOCKS, MOST_SITES}
 use Rattle.vx_model.specs.declared.no.No.{No}
 use Rattle.vx_model.specs.declared.no.No.TheVariants.{Unknown, Exists, Size, Role as WrongRole, Limit}
 use Rattle.vx_model.specs.declared.no.Named.TheVariants.{Number}
@@ -8,24 +9,13 @@ use Rattle.vx_script.specs.declared.line.ScriptLine.{ScriptLine}
 use Rattle.vx_script.specs.declared.line.ScriptLine.TheVariants.{Site, Raw, Disk}
 use Rattle.vx_order.specs.declared.facts.SiteFacts.{SiteFacts}
 use Rattle.vx_order.specs.Tests.{when}
-use Rattle.vx_order.specs.Sites.{site_named, is_bare}
+use Rattle.vx_order.specs.Sites.{site_named}
+use Rattle.vx_model.specs.Sites.{is_bare}
+use Rattle.vx_model.specs.Sizes.{is_raw_shape}
 
 -- the greatest number of blocks of a disk, kept in files or in memory
 abbrev pub most_blocks : Bool → ℕ
-most_blocks files = if files then 4194304 else 16384
-
--- n / by, rounded up
-abbrev pub rounded_up : ℕ → ℕ → ℕ
-rounded_up n by = (n + (by - 1)) / by
-
--- the map blocks of a volume: a bit for each region of 64 blocks, 4,096 bits in a block
-abbrev pub map_blocks : ℕ → ℕ
-map_blocks blocks = rounded_up (rounded_up blocks 64) 4096
-
--- disks of so many blocks are a raw set: a log of at least 8 blocks, 1 to 30 data volumes, and a map unit of at
--- least eight times the map blocks of the data volumes
-unfoldable pub is_raw_set : ℕ → ℕ → Bool
-is_raw_set disks blocks = nat_le 3 disks && nat_le disks 32 && nat_le 8 blocks && nat_le (8 * (disks - 2) * map_blocks blocks) blocks
+most_blocks files = if files then MOST_FILE_BLOCKS else MOST_MEMORY_BLOCKS
 
 abbrev pub raw_role : Option SiteFacts → Option No
 raw_role None = None
@@ -53,8 +43,8 @@ taken sites _ = None
 -- the limits of a `site` line: 8 sites, 8 disks, and the blocks of a disk
 abbrev pub site_limit : ℕ → Bool → ℕ → ℕ → Option No
 site_limit sites files disks blocks =
-    if nat_le 8 sites then Some (Limit Sites 8)
-    else if nat_lt 8 disks then Some (Limit Disks 8)
+    if nat_le MOST_SITES sites then Some (Limit Sites MOST_SITES)
+    else if nat_lt MOST_DISKS disks then Some (Limit Disks MOST_DISKS)
     else if nat_lt (most_blocks files) blocks then Some (Limit Blocks (most_blocks files))
     else None
 
@@ -65,10 +55,10 @@ over_limit sites files _ = None
 
 abbrev pub raw_size : Option SiteFacts → Option No
 raw_size None = None
-raw_size (Some site) = when (not (is_raw_set site.disks site.blocks)) Size
+raw_size (Some site) = when (not (is_raw_shape site.disks site.blocks)) Size
 
 -- 4: a site has no disk or disks of fewer than 8 blocks, or its disks make no raw set
 unfoldable pub wrong_size : ScriptLine → Option SiteFacts → Option No
-wrong_size (Site _ disks blocks) site = when (disks == 0 || nat_lt blocks 8) Size
+wrong_size (Site _ disks blocks) site = when (disks == 0 || nat_lt blocks LEAST_BLOCKS) Size
 wrong_size (Raw _) site = raw_size site
 wrong_size _ site = None

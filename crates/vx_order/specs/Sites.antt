@@ -5,8 +5,7 @@ use Rattle.std.specs.Str.{bytes_eq}
 use Rattle.vx_model.specs.declared.no.No.{No}
 use Rattle.vx_model.specs.declared.no.No.TheVariants.{Unknown, Down as NotUp, Halted}
 use Rattle.vx_model.specs.declared.no.Named.TheVariants.{Of}
-use Rattle.vx_model.specs.declared.site.SiteState.{SiteState}
-use Rattle.vx_model.specs.declared.site.SiteState.TheVariants.{Bare, Up, Deported, Down}
+use Rattle.vx_model.specs.Sites.{is_up, is_bare}
 use Rattle.vx_order.specs.Tests.{when, first_of}
 use Rattle.vx_order.specs.declared.facts.SiteFacts.{SiteFacts}
 use Rattle.vx_order.specs.declared.facts.VolumeFacts.{VolumeFacts}
@@ -24,18 +23,6 @@ site_named sites name = find (λ site. bytes_eq site.name name) sites
 abbrev pub facts_of : List SiteFacts → Option (List ℕ) → Option SiteFacts
 facts_of sites None = None
 facts_of sites (Some name) = site_named sites name
-
-abbrev pub is_up : SiteState → Bool
-is_up Bare = false
-is_up Up = true
-is_up Deported = false
-is_up Down = false
-
-abbrev pub is_bare : SiteState → Bool
-is_bare Bare = true
-is_bare Up = false
-is_bare Deported = false
-is_bare Down = false
 
 -- a known site is not up
 abbrev pub site_off : Option SiteFacts → Bool

@@ -20,4 +20,3 @@ pub use laws::{
     disk_lines, put_lines, raw_lines, read_lines, show_lines, site_lines, status_lines, write_lines,
 };
 pub use order::refuse;
-pub use shape::ring_blocks;

@@ -9,7 +9,6 @@ mod encoding;
 mod gathered;
 mod key;
 pub mod laws;
-mod limit;
 mod map_bytes;
 mod message;
 mod part;

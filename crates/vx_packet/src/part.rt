@@ -5,8 +5,8 @@ ghost use Rattle.vx_packet.specs.Packets.{fits_kind as fits_kind_is, header_tabl
 ghost use Rattle.vx_packet.specs.declared.part.Part.{Part as PartValue};
 ghost use Rattle.vx_wire.specs.Fields.{spelled};
 
-use crate::limit::GREATEST;
 use vx_model::Line;
+use vx_model::limits::MOST_NUMBER;
 use vx_wire::{Field, get_line, get_u8, get_u16, get_u32, get_u64, put_fields};
 
 // The bytes "VXPK", with which a packet begins, and the version behind them.
@@ -93,10 +93,10 @@ fn fits_kind(kind: u8, session: u64, number: u64) -> bool
     ensures { result ≡ fits_kind_is kind session number }
 {
     match kind {
-        1 | 3 => session <= GREATEST && number <= GREATEST,
-        6 | 8 => number <= GREATEST,
+        1 | 3 => session <= MOST_NUMBER && number <= MOST_NUMBER,
+        6 | 8 => number <= MOST_NUMBER,
         10 => session == 0,
-        2 | 4 | 5 | 7 | 9 | 11 | 12 => session == 0 && number <= GREATEST,
+        2 | 4 | 5 | 7 | 9 | 11 | 12 => session == 0 && number <= MOST_NUMBER,
         _ => false,
     }
 }
@@ -114,7 +114,7 @@ fn can_carry(p: &Part) -> bool
     ensures { IsTrue result ↔ CanCarry p.now }
 {
     fits_kind(p.kind, p.session, p.number)
-        && p.line.generation <= GREATEST
+        && p.line.generation <= MOST_NUMBER
         && p.part < p.parts
         && has_length(p)
 }

@@ -2,8 +2,8 @@
 ghost use Rattle.std.specs.Prelude.{◌≡◌, ◌↔◌, ◌+◌, ◌/◌, ◌%◌, ◌^◌, length, slice_index, IsTrue};
 ghost use Rattle.vx_packet.specs.Messages.{CanSpell, IsAck, IsMap};
 
-use crate::limit::GREATEST;
 use crate::{MapBytes, Message};
+use vx_model::limits::MOST_NUMBER;
 
 // Whether an acknowledgement of a replay is one: the start, a region, or the end.
 fn is_ack(kind: u8, vol: u32, region: u32) -> bool
@@ -38,7 +38,7 @@ pub fn can_spell(m: &Message) -> bool
             session,
             number,
             stored,
-        } => { *session <= GREATEST && *number <= GREATEST && *stored <= GREATEST }
+        } => { *session <= MOST_NUMBER && *number <= MOST_NUMBER && *stored <= MOST_NUMBER }
         Message::Update {
             number,
             vol: _,
@@ -46,11 +46,11 @@ pub fn can_spell(m: &Message) -> bool
             bytes,
         } => {
             let _blocks = bytes.as_bytes();
-            *number <= GREATEST
+            *number <= MOST_NUMBER
         }
-        Message::NetAck { session, number } => *session <= GREATEST && *number <= GREATEST,
-        Message::DataAck { number } => *number <= GREATEST,
-        Message::ReplayStart { id, start } => *id <= GREATEST && *start <= GREATEST,
+        Message::NetAck { session, number } => *session <= MOST_NUMBER && *number <= MOST_NUMBER,
+        Message::DataAck { number } => *number <= MOST_NUMBER,
+        Message::ReplayStart { id, start } => *id <= MOST_NUMBER && *start <= MOST_NUMBER,
         Message::Region {
             id,
             vol: _,
@@ -58,24 +58,24 @@ pub fn can_spell(m: &Message) -> bool
             bytes,
         } => {
             let _blocks = bytes.as_bytes();
-            *id <= GREATEST
+            *id <= MOST_NUMBER
         }
         Message::RegionsDone { id, start, end } => {
-            *id <= GREATEST && *start <= GREATEST && *end <= GREATEST
+            *id <= MOST_NUMBER && *start <= MOST_NUMBER && *end <= MOST_NUMBER
         }
         Message::RegionAck {
             id,
             vol,
             region,
             kind,
-        } => { *id <= GREATEST && is_ack(*kind, *vol, *region) }
-        Message::Fork { fork, parent } => *fork <= GREATEST && parent.generation <= GREATEST,
+        } => { *id <= MOST_NUMBER && is_ack(*kind, *vol, *region) }
+        Message::Fork { fork, parent } => *fork <= MOST_NUMBER && parent.generation <= MOST_NUMBER,
         Message::ForkMap {
             vol: _,
             regions,
             bytes,
         } => is_map(*regions, bytes),
-        Message::Handover { head } => *head <= GREATEST,
-        Message::Trim { number } => *number <= GREATEST,
+        Message::Handover { head } => *head <= MOST_NUMBER,
+        Message::Trim { number } => *number <= MOST_NUMBER,
     }
 }

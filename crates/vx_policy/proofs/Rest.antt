@@ -4,9 +4,9 @@ use Rattle.std.proofs.Math.Seq.{drop-length}
 use Rattle.std.proofs.Math.Nat.{pow-succ'}
 use Rattle.std.specs.Option.{is_some}
 use Rattle.vx_model.specs.declared.link.Link.{Link}
-use Rattle.vx_model.specs.declared.admission.Change.{Change}
+use Rattle.vx_history.specs.declared.admission.Change.{Change}
 use Rattle.vx_model.specs.declared.no.No.{No}
-use Rattle.vx_model.specs.Admission.{Held, first_full, held_by_room, or_else, change, changes}
+use Rattle.vx_history.specs.Admission.{Held, first_full, held_by_room, or_else, change, changes}
 use Rattle.vx_policy.specs.Verdicts.{bit, bits, refusal_if}
 
 drop-next : {A : Type 0} (xs : List A) (at : ℕ) (d : A) → at < length xs → drop at xs ≡ get_or xs at d ∷ drop (at + 1) xs

@@ -1,10 +1,10 @@
 -- What stands of each link where a write is let in.
 use Rattle.std.proofs.Common.{◌≡◌, ℕ, ◌<◌, ◌≤◌, zero, suc, true, false, Bool, List, [], ◌∷◌, length, get_or, zip, Option, Some, None, arith, refl, if◌then◌else◌}
-use Rattle.vx_model.specs.Admission.{Held, Goes, admit, unless_held, first_down, first_full, is_down, blocks, change, changes, changed, change_by, held_by_room, held_when_full, or_else, full_log_of}
-use Rattle.vx_model.specs.declared.admission.FullLog.{FullLog}
-use Rattle.vx_model.specs.declared.admission.FullLog.TheVariants.{Stalls, Fails, TurnsStale, TurnsDcm}
-use Rattle.vx_model.specs.declared.admission.Change.{Change}
-use Rattle.vx_model.specs.declared.admission.Change.TheVariants.{Stays}
+use Rattle.vx_history.specs.Admission.{Held, Goes, admit, unless_held, first_down, first_full, is_down, blocks, change, changes, changed, change_by, held_by_room, held_when_full, or_else, full_log_of}
+use Rattle.vx_history.specs.declared.admission.FullLog.{FullLog}
+use Rattle.vx_history.specs.declared.admission.FullLog.TheVariants.{Stalls, Fails, TurnsStale, TurnsDcm}
+use Rattle.vx_history.specs.declared.admission.Change.{Change}
+use Rattle.vx_history.specs.declared.admission.Change.TheVariants.{Stays}
 use Rattle.vx_model.specs.declared.link.Link.{Link}
 
 -- what a write that is let in tells of the three parts of the rule

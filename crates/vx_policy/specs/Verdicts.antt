@@ -1,11 +1,11 @@
 -- The verdict on a write, as the program hands it out.
 use Rattle.std.specs.Prelude.{ℕ, ◌+◌, ◌*◌, Bool, true, false, List, [], ◌∷◌, Option, Some, None, if◌then◌else◌}
-use Rattle.vx_model.specs.declared.admission.Change.{Change}
-use Rattle.vx_model.specs.declared.admission.Change.TheVariants.{Stays, ToStale, ToDcm}
+use Rattle.vx_history.specs.declared.admission.Change.{Change}
+use Rattle.vx_history.specs.declared.admission.Change.TheVariants.{Stays, ToStale, ToDcm}
 use Rattle.vx_model.specs.declared.no.No.{No}
 use Rattle.vx_model.specs.declared.no.No.TheVariants.{LogFull, Stalled, LinkDown}
 use Rattle.vx_model.specs.declared.no.SiteName.TheVariants.{Number}
-use Rattle.vx_model.specs.Admission.{Held, Link_is_down, Log_is_full, Log_stalls, Admitted, Held_by, Goes}
+use Rattle.vx_history.specs.Admission.{Held, Link_is_down, Log_is_full, Log_stalls, Admitted, Held_by, Goes}
 use Rattle.vx_policy.specs.declared.verdict.Verdict.{Verdict}
 use Rattle.vx_policy.specs.declared.verdict.Verdict.TheVariants.{Go, Refuse}
 

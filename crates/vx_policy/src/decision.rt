@@ -1,12 +1,13 @@
 // The rule of admission, over the links of a site in the order of their making.
 ghost use Rattle.std.specs.Prelude.{◌≡◌, ◌≤◌, length, zip};
-ghost use Rattle.vx_model.specs.Admission.{admit, first_down, first_full, changes};
+ghost use Rattle.vx_history.specs.Admission.{admit, first_down, first_full, changes};
 ghost use Rattle.vx_policy.specs.Verdicts.{verdict, refusal_if, bit, bits, goes_stale, goes_dcm};
 ghost use Rattle.vx_policy.specs.declared.verdict.Verdict.TheVariants.{Go};
 
 use crate::full::{find_change, is_down, refuse_full};
 use crate::{Facts, Verdict};
-use vx_model::{Change, Link, No, SiteName};
+use vx_history::Change;
+use vx_model::{Link, No, SiteName};
 
 /// Whether a write is let in, over the links of its site in the order of their making.
 ///

@@ -1,9 +1,10 @@
 // What a link needs of the log, and what becomes of a write or of the link where too little room is left.
 ghost use Rattle.std.specs.Prelude.{◌≡◌};
-ghost use Rattle.vx_model.specs.Admission.{is_live as live, is_down as down, hold, mode_hold, is_holding, mode_holds, blocks, full_log, full_log_of, change, change_by, held_by_room, held_when_full};
+ghost use Rattle.vx_history.specs.Admission.{is_live as live, is_down as down, hold, mode_hold, is_holding, mode_holds, blocks, full_log, full_log_of, change, change_by, held_by_room, held_when_full};
 ghost use Rattle.vx_policy.specs.Verdicts.{refusal_if};
 
-use vx_model::{Change, FullLog, Link, Mode, No, Phase, Prot, SiteName, SyncMode};
+use vx_history::{Change, FullLog};
+use vx_model::{Link, Mode, No, Phase, Prot, SiteName, SyncMode};
 
 /// The number up to which a link has no need of the log: what its site has stored, or where a replay has not come to its
 /// phase Log, the number at which it began.

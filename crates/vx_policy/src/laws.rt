@@ -1,8 +1,8 @@
 // What the rule of admission promises.
 ghost use Rattle.std.specs.Prelude.{◌≡◌, ◌<◌, ◌≤◌, ℕ, false, List, length, get_or};
-ghost use Rattle.vx_model.specs.Admission.{admit, Goes, is_down, blocks, changed};
-ghost use Rattle.vx_model.specs.declared.admission.Change.{Change};
-ghost use Rattle.vx_model.specs.declared.admission.Change.TheVariants.{Stays};
+ghost use Rattle.vx_history.specs.Admission.{admit, Goes, is_down, blocks, changed};
+ghost use Rattle.vx_history.specs.declared.admission.Change.{Change};
+ghost use Rattle.vx_history.specs.declared.admission.Change.TheVariants.{Stays};
 ghost use Rattle.vx_model.specs.declared.link.Link.{Link};
 
 /// Where a write is let in no link is down; after the changes every link leaves room for it; and a link that left room before

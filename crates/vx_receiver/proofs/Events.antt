@@ -1,10 +1,10 @@
 -- What each event of a receiver leaves of its numbers and its mark.
 use Rattle.std.proofs.Common.{◌≡◌, ℕ, ◌+◌, ◌-◌, ◌≤◌, true, arith, refl}
-use Rattle.vx_model.specs.Receiving.{received_step, is_log_phase}
-use Rattle.vx_model.specs.declared.receiver.RState.{RState}
-use Rattle.vx_model.specs.declared.receiver.REvent.{REvent}
-use Rattle.vx_model.specs.declared.receiver.REvent.TheVariants.{Update, Applied, Restart}
-use Rattle.vx_model.specs.declared.receiver.RAction.TheVariants.{Ignored, IgnoredAck, Take}
+use Rattle.vx_history.specs.Receiving.{received_step, is_log_phase}
+use Rattle.vx_history.specs.declared.receiver.RState.{RState}
+use Rattle.vx_history.specs.declared.receiver.REvent.{REvent}
+use Rattle.vx_history.specs.declared.receiver.REvent.TheVariants.{Update, Applied, Restart}
+use Rattle.vx_history.specs.declared.receiver.RAction.TheVariants.{Ignored, IgnoredAck, Take}
 use Rattle.vx_model.specs.declared.site.Mark.TheVariants.{Consistent, Inconsistent}
 use Rattle.vx_model.specs.declared.site.SPhase.{SPhase}
 use Rattle.vx_model.specs.declared.site.SPhase.TheVariants.{Quiet, Regions, Log, ForkKept}

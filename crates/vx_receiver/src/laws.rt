@@ -1,9 +1,9 @@
 // What the rule of a receiver promises of every event.
 ghost use Rattle.std.specs.Prelude.{◌≡◌, ◌+◌, ◌-◌, ◌≤◌, ◌<◌, ℕ};
-ghost use Rattle.vx_model.specs.Receiving.{received_step};
-ghost use Rattle.vx_model.specs.declared.receiver.RState.{RState};
-ghost use Rattle.vx_model.specs.declared.receiver.REvent.{REvent};
-ghost use Rattle.vx_model.specs.declared.receiver.RAction.TheVariants.{Ignored, IgnoredAck, Take};
+ghost use Rattle.vx_history.specs.Receiving.{received_step};
+ghost use Rattle.vx_history.specs.declared.receiver.RState.{RState};
+ghost use Rattle.vx_history.specs.declared.receiver.REvent.{REvent};
+ghost use Rattle.vx_history.specs.declared.receiver.RAction.TheVariants.{Ignored, IgnoredAck, Take};
 ghost use Rattle.vx_model.specs.declared.site.Mark.TheVariants.{Consistent, Inconsistent};
 ghost use Rattle.vx_model.specs.declared.site.SPhase.TheVariants.{Log};
 

@@ -9,4 +9,4 @@ mod machine;
 mod tests;
 
 pub use machine::step;
-pub use vx_model::{RAction, REvent, RState};
+pub use vx_history::{RAction, REvent, RState};

@@ -1,7 +1,7 @@
 // What the events of a receiver make of it.
 ghost use Rattle.std.specs.Prelude.{◌≡◌};
-ghost use Rattle.vx_model.specs.World.{same_line};
-ghost use Rattle.vx_model.specs.Receiving.{received_step, phase_takes, is_log_phase, update_heard, records_applied, marked_by, site_restarted};
+ghost use Rattle.vx_model.specs.Sites.{same_line};
+ghost use Rattle.vx_history.specs.Receiving.{received_step, phase_takes, is_log_phase, update_heard, records_applied, marked_by, site_restarted};
 
 use crate::{RAction, REvent, RState};
 use vx_model::{Line, Mark, SPhase};

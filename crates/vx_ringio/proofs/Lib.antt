@@ -1,6 +1,5 @@
 pub mod Blanks
 pub mod Bodies
-pub mod Burning
 pub mod Classing
 pub mod Following
 pub mod Masks

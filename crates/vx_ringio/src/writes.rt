@@ -2,7 +2,7 @@
 ghost use Rattle.std.specs.Prelude.{◌≡◌, ◌+◌, ◌*◌, ◌/◌, ◌%◌, ◌<◌, ◌≤◌, ◌^◌, ℕ, [], ◌∷◌, ◌++◌, length, true, All, OnOk};
 ghost use Rattle.vx_disk.specs.Causes.{Cause};
 ghost use Rattle.vx_ringio.specs.Bodies.{IsBlocks, all_blocks};
-ghost use Rattle.vx_ringio.specs.Burns.{FallsShort, MakesCalls};
+ghost use Rattle.vx_disk.specs.Burns.{FallsShort, MakesCalls};
 ghost use Rattle.vx_ringio.specs.Classes.{is_of_ring};
 ghost use Rattle.vx_ringio.specs.Tracks.{Lies, Follows, Arrives};
 ghost use Rattle.vx_ringlog.specs.Acts.{body_acts, head_acts};

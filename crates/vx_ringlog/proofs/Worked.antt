@@ -3,7 +3,7 @@
 use Rattle.std.proofs.Common.{◌≡◌, inl, ℕ, zero, suc, ◌<◌, List, [], ◌∷◌, replicate, refl, subst, arith}
 use Rattle.vx_model.specs.Content.{Write}
 use Rattle.vx_model.specs.States.{first_state}
-use Rattle.vx_model.specs.Steps.{first_line}
+use Rattle.vx_model.specs.Sites.{first_line}
 use Rattle.vx_srlfmt.specs.Kinds.{Top, Front, Body, Other, body_byte}
 use Rattle.vx_srlfmt.specs.declared.header.Header.{Header}
 use Rattle.vx_srlfmt.specs.declared.record.RecordHead.{RecordHead}

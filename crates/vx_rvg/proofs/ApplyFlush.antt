@@ -6,7 +6,7 @@ use Rattle.vx_disk.specs.Shelf.{Goes, Meaning, Nothing}
 use Rattle.vx_disk.specs.declared.shelf.ShelfError.{ShelfError}
 use Rattle.vx_disk.specs.declared.shelf.ShelfError.TheVariants.{Fault, Down}
 use Rattle.vx_disk.proofs.Moving.{then_goes}
-use Rattle.vx_srl.specs.Causes.{DeviceCause, refusal_of}
+use Rattle.vx_disk.specs.Causes.{DeviceCause, refusal_of}
 use Rattle.vx_rvg.specs.Views.{unit_of}
 use Rattle.vx_rvg.proofs.WriteLog.{cause_from, rose_from}
 

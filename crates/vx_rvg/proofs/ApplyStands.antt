@@ -18,7 +18,7 @@ use Rattle.vx_ringlog.specs.Records.{Record, write_of}
 use Rattle.vx_ringlog.proofs.Calls.{call_safe}
 use Rattle.vx_ringio.specs.Classes.{classes}
 use Rattle.vx_ringio.proofs.Following.{image_beside, tracks_beside}
-use Rattle.vx_srl.specs.Causes.{DeviceCause}
+use Rattle.vx_disk.specs.Causes.{DeviceCause}
 use Rattle.vx_srl.specs.Views.{count_to}
 use Rattle.vx_srl.proofs.Shared_S1.{Same, held_same, same_drop, same_take}
 use Rattle.vx_rvg.specs.Brings.{Brings, IsPut, due}

@@ -18,7 +18,7 @@ use Rattle.vx_ringlog.specs.Logs.{State, Found as LogFound, done}
 use Rattle.vx_ringlog.specs.Records.{Record}
 use Rattle.vx_ringio.specs.Classes.{classes}
 use Rattle.vx_srl.specs.Calls.{can_restart, restarted, restarting}
-use Rattle.vx_srl.specs.Causes.{DeviceCause}
+use Rattle.vx_disk.specs.Causes.{DeviceCause}
 use Rattle.vx_srl.specs.Headers.{emptied}
 use Rattle.vx_srl.specs.Rings.{Finding, Goes, LeadsTo}
 use Rattle.vx_srl.specs.Views.{Log, most_number}

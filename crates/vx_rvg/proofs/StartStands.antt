@@ -4,7 +4,7 @@ use Rattle.std.specs.Prelude.{if◌then◌else◌, leb, All}
 use Rattle.std.proofs.lemmas.Bool.{cases_lt, lt-ltb, le-ltb}
 use Rattle.std.proofs.lemmas.List.{take_all}
 use Rattle.vx_model.specs.Content.{Content, Write, blocks_in}
-use Rattle.vx_model.specs.Steps.{ring_of}
+use Rattle.vx_model.specs.Sizes.{ring_of}
 use Rattle.vx_model.specs.declared.no.No.{No}
 use Rattle.vx_model.specs.declared.no.No.TheVariants as no
 use Rattle.vx_model.specs.declared.state.State.{State as SiteState}

@@ -16,7 +16,7 @@ use Rattle.vx_ringlog.specs.Records.{Record}
 use Rattle.vx_ringlog.proofs.Calls.{call_safe}
 use Rattle.vx_ringio.specs.Classes.{classes}
 use Rattle.vx_ringio.proofs.Following.{image_beside, tracks_beside}
-use Rattle.vx_srl.specs.Causes.{DeviceCause, refusal_of}
+use Rattle.vx_disk.specs.Causes.{DeviceCause, refusal_of}
 use Rattle.vx_rvg.specs.Contents.{HasContent, KeepsContent, writes_of}
 use Rattle.vx_rvg.specs.Groups.{halted_by}
 use Rattle.vx_rvg.specs.Stands.{FoundAs, Ready, Stands}

@@ -9,7 +9,7 @@ use Rattle.vx_overlay.specs.declared.entry.Entry.{Entry}
 use Rattle.vx_overlay.specs.Pending.{Pending}
 use Rattle.vx_overlay.specs.Writes.{entries_at}
 use Rattle.vx_ringio.specs.Bodies.{IsBlocks}
-use Rattle.vx_srl.specs.Causes.{DeviceCause}
+use Rattle.vx_disk.specs.Causes.{DeviceCause}
 use Rattle.vx_srl.specs.Views.{Log, free_of, need_of, widths}
 use Rattle.vx_srl.specs.declared.kept.Kept.{Kept}
 use Rattle.vx_rvg.specs.Groups.{halted_by, logged, with_write}

@@ -12,7 +12,7 @@ use Rattle.vx_ringlog.specs.Logs.{State, Stage, Seal, Found, done}
 use Rattle.vx_ringlog.specs.Records.{Record}
 use Rattle.vx_ringio.specs.Classes.{classes}
 use Rattle.vx_srl.specs.Calls.{LogCause, Stages, Seals, sealing, staged_with, staging}
-use Rattle.vx_srl.specs.Causes.{DeviceCause}
+use Rattle.vx_disk.specs.Causes.{DeviceCause}
 use Rattle.vx_srl.specs.Rings.{Finding, Goes, LeadsTo}
 use Rattle.vx_srl.specs.Views.{Log, all_of, kept_of, record_of}
 use Rattle.vx_srl.specs.declared.errors.SrlNo.{SrlNo}

@@ -14,7 +14,7 @@ use Rattle.vx_disk.specs.Shelf.{Meaning}
 use Rattle.vx_overlay.specs.Writes.{entries_at}
 use Rattle.vx_overlay.proofs.WriteLemmas.{entries_at_length}
 use Rattle.vx_ringio.specs.Tracks.{Lies}
-use Rattle.vx_srl.specs.Causes.{DeviceCause}
+use Rattle.vx_disk.specs.Causes.{DeviceCause}
 use Rattle.vx_srl.specs.Views.{Log, kept_of}
 use Rattle.vx_srl.specs.declared.kept.Kept.{Kept}
 use Rattle.vx_rvg.specs.Groups.{Ended, Fails, halted_by, with_write}

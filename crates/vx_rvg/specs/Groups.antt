@@ -13,7 +13,7 @@ use Rattle.vx_disk.specs.Shelf.{Meaning}
 use Rattle.vx_overlay.specs.Pending.{newest}
 use Rattle.vx_overlay.specs.declared.entry.Entry.{Entry}
 use Rattle.vx_srl.specs.Calls.{sealed, staged_with}
-use Rattle.vx_srl.specs.Causes.{DeviceCause}
+use Rattle.vx_disk.specs.Causes.{DeviceCause}
 use Rattle.vx_srl.specs.Headers.{new_header}
 use Rattle.vx_srl.specs.Views.{Log, most_number, kept_of}
 use Rattle.vx_srl.specs.declared.errors.SrlNo.{SrlNo}

@@ -10,9 +10,8 @@ ghost use Rattle.vx_rvg.specs.Views.{IsSound, Placed, Waits, last_of};
 
 use crate::patch::patch;
 use crate::{Rvg, RvgCore};
-use vx_disk::{Shelf, ShelfError};
+use vx_disk::{Shelf, ShelfError, refusal};
 use vx_model::No;
-use vx_srl::refusal;
 
 // Writes the newest blocks of the places of one record, and answers how many; none where it does not end within its volume.
 fn bring_one<S: Shelf>(shelf: &mut S, core: &RvgCore, n: u64) -> Result<u64, ShelfError>

@@ -2,7 +2,7 @@
 ghost use Rattle.std.specs.Prelude.{◌≡◌, ◌+◌, ◌<◌, ◌≤◌, Err, IfOk, IfErr, IsTrue};
 ghost use Rattle.vx_disk.specs.Moves.{Moves, Run, Anything};
 ghost use Rattle.vx_model.specs.Content.{Content};
-ghost use Rattle.vx_model.specs.Steps.{ring_of};
+ghost use Rattle.vx_model.specs.Sizes.{ring_of};
 ghost use Rattle.vx_model.specs.declared.errors.Stop.TheVariants.{No as Refused};
 ghost use Rattle.vx_model.specs.declared.no.No.TheVariants.{Size};
 ghost use Rattle.vx_rvg.specs.Groups.{new_core, MakeCause};

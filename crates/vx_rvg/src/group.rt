@@ -6,7 +6,7 @@ ghost use Rattle.vx_disk.specs.Moves.{Moves, Run};
 ghost use Rattle.vx_disk.specs.Shelf.{Goes, Nothing};
 ghost use Rattle.vx_model.specs.Content.{Content, Write, put, blocks_in};
 ghost use Rattle.vx_ringio.specs.Bodies.{IsBlocks};
-ghost use Rattle.vx_ringio.specs.Burns.{FallsShort, MakesCalls};
+ghost use Rattle.vx_disk.specs.Burns.{FallsShort, MakesCalls};
 ghost use Rattle.vx_rvg.specs.Contents.{Shows};
 ghost use Rattle.vx_rvg.specs.Groups.{write_refusal, read_refusal, WriteIs, ReadIs};
 ghost use Rattle.vx_rvg.specs.Stands.{Stands, Writing};
@@ -16,9 +16,8 @@ ghost use Rattle.vx_srl.specs.Views.{BodyFits, free_of, need_of, next_of, used_a
 use crate::RvgCore;
 use crate::patch::patch;
 use crate::write::commit;
-use vx_disk::Shelf;
+use vx_disk::{Shelf, refusal};
 use vx_model::{No, State};
-use vx_srl::refusal;
 
 /// A replicated volume group over a shelf. Volumes go by their numbers from 0 in its list of data volumes.
 #[derive(Drop)]

@@ -9,9 +9,8 @@ ghost use Rattle.vx_rvg.specs.Views.{IsSound, last_of, unit_of, volume_size};
 
 use crate::header::give_up;
 use crate::{Rvg, RvgCore};
-use vx_disk::{Shelf, put};
+use vx_disk::{Shelf, put, refusal};
 use vx_model::No;
-use vx_srl::refusal;
 
 // Puts the blocks, durably, where the log holds no record. A device call that fails halts the group.
 fn put_blocks<S: Shelf>(

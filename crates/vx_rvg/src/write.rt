@@ -3,7 +3,7 @@ ghost use Rattle.std.specs.Prelude.{◌≡◌, ◌+◌, ◌<◌, ◌≤◌, [], 
 ghost use Rattle.vx_disk.specs.Moves.{Moves, Run};
 ghost use Rattle.vx_model.specs.Content.{Content, Write, put, blocks_in};
 ghost use Rattle.vx_ringio.specs.Bodies.{IsBlocks};
-ghost use Rattle.vx_ringio.specs.Burns.{FallsShort, MakesCalls};
+ghost use Rattle.vx_disk.specs.Burns.{FallsShort, MakesCalls};
 ghost use Rattle.vx_ringio.specs.Tracks.{Lies};
 ghost use Rattle.vx_srl.specs.Calls.{staging, sealing};
 ghost use Rattle.vx_srl.specs.Views.{BodyFits, free_of, need_of, most_number, record_of};

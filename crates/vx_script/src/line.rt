@@ -1,6 +1,6 @@
 // The lines of a script.
 use crate::Names;
-use vx_model::{Blocks, Name, Prot, SyncMode};
+use vx_model::{Block, Name, Prot, SyncMode};
 
 /// What calls on a disk do from now on.
 #[derive(Clone, Copy)]
@@ -114,7 +114,7 @@ pub enum ScriptLine {
         site: Name,
         volume: Name,
         block: u64,
-        bytes: Blocks,
+        bytes: Block,
     },
     Read {
         site: Name,

@@ -10,7 +10,7 @@ use crate::values::{as_block, as_byte, as_name, as_names, number_after};
 use crate::word::{Word, find_word};
 use crate::{Names, Wrong};
 use std::alloc::Global;
-use vx_model::{Blocks, Name};
+use vx_model::{Block, Name};
 
 impl<'a> Words<'a> {
     /// A name behind a label.
@@ -58,7 +58,7 @@ impl<'a> Words<'a> {
     }
 
     /// The digits of a block.
-    pub fn block(&mut self) -> Result<Blocks, Wrong>
+    pub fn block(&mut self) -> Result<Block, Wrong>
         ensures { Gives (λ x. (x, self.new.left.now)) result (next block_of self.old.left.now) }
     {
         let (word, left) = self.next();

@@ -9,7 +9,7 @@ use crate::line::{DiskState, Layout, ReadPolicy, VolumeLog, VolumeMap};
 use crate::word::Word;
 use crate::writer::{push_hex, push_name, push_names, push_number, push_options, push_word};
 use std::alloc::Global;
-use vx_model::{Blocks, Name, OutOfMemory, Prot, SyncMode};
+use vx_model::{Block, Name, OutOfMemory, Prot, SyncMode};
 
 pub fn print_one_site(alloc: Global, key: &[u8], site: &Name) -> Result<Vec<u8>, OutOfMemory>
     ensures { IfOk result (λ text. text.items ≡ joined (one_site key.now site.now)) }
@@ -154,7 +154,7 @@ pub fn print_put(
     site: &Name,
     volume: &Name,
     block: u64,
-    bytes: &Blocks,
+    bytes: &Block,
 ) -> Result<Vec<u8>, OutOfMemory>
     ensures { IfOk result (λ text. text.items ≡ spelling (ScriptLine.Put site.now volume.now block bytes.now)) }
 {

@@ -6,7 +6,7 @@ ghost use Rattle.vx_script.specs.Words.{is_digit, digits_after, name_of, number_
 use crate::Names;
 use crate::scan::first_of;
 use std::alloc::Global;
-use vx_model::{Blocks, Name, OutOfMemory};
+use vx_model::{Block, Name, OutOfMemory};
 
 fn is_name_text(word: &[u8]) -> bool
     ensures { result ≡ list_all is_name_byte word.now }
@@ -76,12 +76,12 @@ pub fn as_byte(word: &[u8]) -> Option<u8>
 
 /// The block that 1,024 hexadecimal digits are.
 #[tactic(auto, unfolding(crate::specs::Words::block_of))]
-pub fn as_block(word: &[u8]) -> Option<Blocks>
+pub fn as_block(word: &[u8]) -> Option<Block>
     ensures { result ≡ block_of word.now }
 {
     let mut bytes = [0; 512];
     match hex::decode_to_slice(word, &mut bytes) {
-        Ok(()) => Some(Blocks::new(&bytes)),
+        Ok(()) => Some(Block::new(bytes)),
         Err(_) => None,
     }
 }

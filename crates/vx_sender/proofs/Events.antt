@@ -1,11 +1,11 @@
 -- What each event of a link leaves of its numbers.
 use Rattle.std.proofs.Common.{◌≡◌, ◌≢◌, ℕ, ◌+◌, ◌≤◌, ◌<◌, arith, refl}
-use Rattle.vx_model.specs.Sending.{sent_step}
+use Rattle.vx_history.specs.Sending.{sent_step}
 use Rattle.vx_model.specs.declared.link.Link.{Link}
-use Rattle.vx_model.specs.declared.sender.SEvent.{SEvent}
-use Rattle.vx_model.specs.declared.sender.SEvent.TheVariants.{Pump, Tick, Hello, NetAck, DataAck, Connect, Cut, Pause, Resume, Restart}
-use Rattle.vx_model.specs.declared.sender.SFacts.{SFacts}
-use Rattle.vx_model.specs.declared.sender.Action.TheVariants.{Ignored, Updates}
+use Rattle.vx_history.specs.declared.sender.SEvent.{SEvent}
+use Rattle.vx_history.specs.declared.sender.SEvent.TheVariants.{Pump, Tick, Hello, NetAck, DataAck, Connect, Cut, Pause, Resume, Restart}
+use Rattle.vx_history.specs.declared.sender.SFacts.{SFacts}
+use Rattle.vx_history.specs.declared.sender.Action.TheVariants.{Ignored, Updates}
 
 pub stored-rises : (l : Link) (e : SEvent) (f : SFacts) → l.stored ≤ (sent_step l e f).link.stored
 stored-rises l Pump f = grind arith

@@ -1,11 +1,11 @@
 // What the rule of a link's sending end promises of every event.
 ghost use Rattle.std.specs.Prelude.{◌≡◌, ◌≢◌, ◌+◌, ◌≤◌, ◌<◌, ℕ};
-ghost use Rattle.vx_model.specs.Sending.{sent_step};
+ghost use Rattle.vx_history.specs.Sending.{sent_step};
 ghost use Rattle.vx_model.specs.declared.link.Link.{Link};
-ghost use Rattle.vx_model.specs.declared.sender.SEvent.{SEvent};
-ghost use Rattle.vx_model.specs.declared.sender.SEvent.TheVariants.{NetAck};
-ghost use Rattle.vx_model.specs.declared.sender.SFacts.{SFacts};
-ghost use Rattle.vx_model.specs.declared.sender.Action.TheVariants.{Ignored, Updates};
+ghost use Rattle.vx_history.specs.declared.sender.SEvent.{SEvent};
+ghost use Rattle.vx_history.specs.declared.sender.SEvent.TheVariants.{NetAck};
+ghost use Rattle.vx_history.specs.declared.sender.SFacts.{SFacts};
+ghost use Rattle.vx_history.specs.declared.sender.Action.TheVariants.{Ignored, Updates};
 
 /// What is stored never falls. Updates that are sent were not sent since the last tick, are not stored, are durable, and are at
 /// most 8 numbers past the last acknowledged one. A message that is ignored changes nothing, and an acknowledgement from memory of

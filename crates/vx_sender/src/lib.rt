@@ -10,4 +10,4 @@ mod messages;
 mod tests;
 
 pub use machine::step;
-pub use vx_model::{Action, SEvent, SFacts};
+pub use vx_history::{Action, SEvent, SFacts};

@@ -1,6 +1,6 @@
 // What the messages of a receiver make of the link to it.
 ghost use Rattle.std.specs.Prelude.{◌≡◌, max, ◌≤◌};
-ghost use Rattle.vx_model.specs.Sending.{by_log, if_on_line, greeted, greeted_by_log, greeted_apart, mode_overtaken, memory_acknowledged, disk_acknowledged};
+ghost use Rattle.vx_history.specs.Sending.{by_log, if_on_line, greeted, greeted_by_log, greeted_apart, mode_overtaken, memory_acknowledged, disk_acknowledged};
 
 use crate::{Action, SFacts};
 use vx_model::{Link, Mode, Phase};

@@ -3,8 +3,8 @@ use Rattle.std.proofs.Common.{◌≡◌, ℕ, ◌+◌, ◌<◌, List, [], ◌∷
 use Rattle.std.proofs.Math.ListN.{set}
 use Rattle.std.proofs.lemmas.List.{take_more}
 use Rattle.vx_model.specs.Content.{Write, blocks_in}
-use Rattle.vx_model.specs.World.{Link as PlainLink, no_link}
-use Rattle.vx_model.specs.Events.{log_blocks}
+use Rattle.vx_history.specs.World.{Link as PlainLink, no_link}
+use Rattle.vx_history.specs.Events.{log_blocks}
 use Rattle.vx_sites.specs.declared.link.Link.{Link}
 use Rattle.vx_sites.specs.Shapes.{link_of, row_of}
 use Rattle.vx_sites.proofs.Tables.{changed_below, changed-more, changed-all, seen-changed}

@@ -5,9 +5,10 @@ use Rattle.std.proofs.Math.ListN.{set, get_or-append}
 use Rattle.std.proofs.Math.Seq.{get_or-append_seam}
 use Rattle.std.proofs.lemmas.List.{length-append}
 use Rattle.std.proofs.Math.Path.{fun_ext}
-use Rattle.vx_model.specs.World.{no_history, same_line, line_updated, History as PlainHistory}
+use Rattle.vx_history.specs.World.{no_history, line_updated, History as PlainHistory}
+use Rattle.vx_model.specs.Sites.{same_line}
 use Rattle.vx_model.specs.declared.history.Line.{Line}
-use Rattle.vx_model.proofs.Updates.{same_line_equal, same_line_self}
+use Rattle.vx_history.proofs.Updates.{same_line_equal, same_line_self}
 use Rattle.vx_sites.specs.declared.history.History.{History}
 use Rattle.vx_sites.specs.declared.history.Entry.{Entry}
 use Rattle.vx_sites.specs.Shapes.{history_of, lines_of, IsEntry, IsNewLine}

@@ -2,7 +2,7 @@
 use Rattle.std.proofs.Common.{◌≡◌, ◌∙◌, ℕ, ◌+◌, ◌<◌, List, [], ◌∷◌, length, get_or, take, refl, sym, ap}
 use Rattle.std.proofs.lemmas.List.{take_more}
 use Rattle.vx_model.specs.Content.{Write, Content, put, fold_writes}
-use Rattle.vx_model.proofs.GoodLemmas.{fold_append}
+use Rattle.vx_history.proofs.GoodLemmas.{fold_append}
 
 pub size_fold : (c : Content) (xs : List Write) → (fold_writes c xs).size ≡ c.size
 size_fold c [] = refl

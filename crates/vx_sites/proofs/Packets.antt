@@ -1,7 +1,7 @@
 -- The packets that were sent, under their numbers.
 use Rattle.std.proofs.Common.{◌≡◌, ℕ, zero, suc, ◌-◌, ◌<◌, ◌≤◌, List, [], ◌∷◌, length, get_or, map, refl, sym, ap, ◌∙◌, arith}
 use Rattle.std.specs.Prelude.{Some, None, slice_get}
-use Rattle.vx_model.specs.Events.{packet_at}
+use Rattle.vx_history.specs.Events.{packet_at}
 use Rattle.vx_sites.specs.declared.packet.Packet.{Packet}
 use Rattle.vx_sites.specs.Shapes.{packet_of}
 

@@ -1,8 +1,8 @@
 -- The promises of the links of a row, one after another.
 use Rattle.std.proofs.Common.{◌≡◌, ◌∙◌, ℕ, suc, ◌+◌, ◌-◌, ◌<◌, ◌≤◌, List, ◌++◌, append_assoc, sym, ap, arith}
 use Rattle.std.proofs.lemmas.List.{append-nil}
-use Rattle.vx_model.specs.World.{Node, Link, Promise}
-use Rattle.vx_model.specs.Events.{promise_of, promises_of}
+use Rattle.vx_history.specs.World.{Node, Link, Promise}
+use Rattle.vx_history.specs.Events.{promise_of, promises_of}
 
 -- the promises of one more link of those that are left
 pub one_promised : (n : Node) (number : ℕ) (row : ℕ → Link) (sites back : ℕ) (old now all : List Promise) (l : Link) → back < sites → l ≡ row (sites - 1 - back)

@@ -5,8 +5,8 @@ use Rattle.std.proofs.Math.Seq.{drop-cons}
 use Rattle.std.proofs.Math.Numerals.{sub-one}
 use Rattle.std.proofs.lemmas.List.{drop-take, take_min}
 use Rattle.vx_model.specs.Content.{Write}
-use Rattle.vx_model.specs.World.{Packet, Update}
-use Rattle.vx_model.specs.Sends.{packets_of, updates, between}
+use Rattle.vx_history.specs.World.{Packet, Update}
+use Rattle.vx_history.specs.Sends.{packets_of, updates, between}
 use Rattle.vx_model.specs.declared.history.Line.{Line}
 
 -- one more of the writes is sent

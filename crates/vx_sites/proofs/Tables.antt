@@ -5,8 +5,8 @@ use Rattle.std.proofs.lemmas.Bool.Decides.{nat_tests}
 use Rattle.std.proofs.lemmas.List.{get_or-set_same, get_or-set_other, map-set, length-map, map-append, replicate-append-replicate}
 use Rattle.std.proofs.Math.ListN.{set}
 use Rattle.std.proofs.Math.Path.{fun_ext}
-use Rattle.vx_model.specs.World.{updated}
-use Rattle.vx_model.proofs.Updates.{by_test, eqb_equal, eqb_apart}
+use Rattle.vx_history.specs.World.{updated}
+use Rattle.vx_history.proofs.Updates.{by_test, eqb_equal, eqb_apart}
 
 -- the list as a function
 abbrev pub seen : {A B : Type 0} → (A → B) → B → List A → ℕ → B

@@ -2,8 +2,8 @@
 use Rattle.std.proofs.Common.{◌≡◌, ◌∙◌, ℕ, zero, suc, ◌+◌, Bool, true, false, length, refl, ap, arith}
 use Rattle.std.specs.Prelude.{eqb, ◌&&◌, ◌||◌}
 use Rattle.std.proofs.lemmas.Bool.Decides.{nat_tests}
-use Rattle.vx_model.specs.Steps.{raw_volumes}
-use Rattle.vx_model.specs.Refusals.{agree}
+use Rattle.vx_history.specs.Steps.{raw_volumes}
+use Rattle.vx_history.specs.Refusals.{agree}
 
 pub length_raw_volumes : (k n blocks : ℕ) → length (raw_volumes k n blocks) ≡ n
 length_raw_volumes k zero blocks = refl

@@ -4,10 +4,12 @@ use Rattle.std.specs.Prelude.{None}
 use Rattle.std.proofs.Math.ListN.{set}
 use Rattle.std.proofs.lemmas.List.{length-set, length-append}
 use Rattle.vx_model.specs.Content.{Write, Content, put, fold_writes, zeros}
-use Rattle.vx_model.specs.World.{Node as PlainNode, Link as PlainLink, History as PlainHistory, World as PlainWorld, NoFuse, bare_site, no_link, no_history, updated, line_updated, with_node}
-use Rattle.vx_model.specs.Sends.{with_links}
-use Rattle.vx_model.specs.Steps.{burned, logged, told_of, written, crashed, ring_of, first_line, raw_volumes, raw_content, raw_set, raw_made}
-use Rattle.vx_model.specs.Events.{applied, joined}
+use Rattle.vx_history.specs.World.{Node as PlainNode, Link as PlainLink, History as PlainHistory, World as PlainWorld, NoFuse, bare_site, no_link, no_history, updated, line_updated, with_node}
+use Rattle.vx_history.specs.Sends.{with_links}
+use Rattle.vx_history.specs.Steps.{burned, logged, told_of, written, crashed, raw_volumes, raw_content, raw_set, raw_made}
+use Rattle.vx_model.specs.Sizes.{ring_of}
+use Rattle.vx_model.specs.Sites.{first_line}
+use Rattle.vx_history.specs.Events.{applied, joined}
 use Rattle.vx_model.specs.declared.history.Line.{Line}
 use Rattle.vx_model.specs.declared.site.Role.TheVariants.{Primary, Secondary}
 use Rattle.vx_model.specs.declared.site.Mark.{Mark}

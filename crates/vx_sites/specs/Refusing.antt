@@ -1,7 +1,7 @@
 -- What the tests of an event come to in the program.
 use Rattle.std.specs.Prelude.{◌≡◌, Option, None, Some}
-use Rattle.vx_model.specs.World.{World}
-use Rattle.vx_model.specs.Refusals.{Outcome, refused}
+use Rattle.vx_history.specs.World.{World}
+use Rattle.vx_history.specs.Refusals.{Outcome, refused}
 use Rattle.vx_model.specs.declared.no.No.{No}
 
 -- the outcome, unless there is a refusal

@@ -1,11 +1,12 @@
 -- What a world in memory is seen as.
 use Rattle.std.specs.Prelude.{◌≡◌, ℕ, ◌<◌, true, false, List, [], ◌∷◌, length, map, get_or, ltb, None, if◌then◌else◌}
 use Rattle.vx_model.specs.Content.{Content as PlainContent, zeros, fold_writes}
-use Rattle.vx_model.specs.World.{no_line, no_regions, no_link, no_history, bare_site, same_line, NoFuse}
-use Rattle.vx_model.specs.World.{Node as PlainNode, Link as PlainLink, History as PlainHistory, World as PlainWorld}
-use Rattle.vx_model.specs.World.{Message as PlainMessage, Packet as PlainPacket, Surety as PlainSurety, Promise as PlainPromise}
-use Rattle.vx_model.specs.World.{Hello as PlainHello, Update as PlainUpdate, NetAck as PlainNetAck, DataAck as PlainDataAck, Durable as PlainDurable, InSession as PlainInSession}
-use Rattle.vx_model.specs.Steps.{raw_volumes}
+use Rattle.vx_model.specs.Sites.{no_line, same_line}
+use Rattle.vx_history.specs.World.{no_regions, no_link, no_history, bare_site, NoFuse}
+use Rattle.vx_history.specs.World.{Node as PlainNode, Link as PlainLink, History as PlainHistory, World as PlainWorld}
+use Rattle.vx_history.specs.World.{Message as PlainMessage, Packet as PlainPacket, Surety as PlainSurety, Promise as PlainPromise}
+use Rattle.vx_history.specs.World.{Hello as PlainHello, Update as PlainUpdate, NetAck as PlainNetAck, DataAck as PlainDataAck, Durable as PlainDurable, InSession as PlainInSession}
+use Rattle.vx_history.specs.Steps.{raw_volumes}
 use Rattle.vx_model.specs.declared.history.Line.{Line}
 use Rattle.vx_sites.specs.declared.content.Content.{Content}
 use Rattle.vx_sites.specs.declared.history.History.{History}

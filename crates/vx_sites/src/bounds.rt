@@ -1,10 +1,13 @@
 // The tests of sites that are made, of volumes, and of links that are made. Each answers the refusal, or none.
 ghost use Rattle.std.specs.Prelude.{◌≡◌, ◌+◌, ◌<◌, ◌^◌, not, ◌&&◌, length, leb, IsNone, bytes_eq};
-ghost use Rattle.vx_model.specs.World.{World as PlainWorld, same_line as on_same_line};
+ghost use Rattle.vx_history.specs.World.{World as PlainWorld};
+ghost use Rattle.vx_model.specs.Sites.{same_line as on_same_line};
 ghost use Rattle.vx_model.specs.Answer.{is_past};
-ghost use Rattle.vx_model.specs.Receiving.{phase_takes};
-ghost use Rattle.vx_model.specs.Sends.{is_linked};
-ghost use Rattle.vx_model.specs.Refusals.{unless, unless_at_most, at_site, at_work, is_bare as bare, is_primary as primary, some_below, may_be_site, is_raw_shape as raw_shape, is_fresh as fresh, may_link as can_link, may_join, agree, rings_fit as fit, links_of, follows as following};
+ghost use Rattle.vx_history.specs.Receiving.{phase_takes};
+ghost use Rattle.vx_history.specs.Sends.{is_linked};
+ghost use Rattle.vx_history.specs.Refusals.{unless, unless_at_most, at_site, at_work, is_primary as primary, some_below, may_be_site, is_fresh as fresh, may_link as can_link, may_join, agree, rings_fit as fit, links_of, follows as following};
+ghost use Rattle.vx_model.specs.Sites.{is_bare as bare};
+ghost use Rattle.vx_model.specs.Sizes.{is_raw_shape as raw_shape};
 ghost use Rattle.vx_model.specs.declared.no.No.TheVariants.{Unknown, Exists, Role as WrongRole, Size as WrongSize, Range as OutOfRange};
 ghost use Rattle.vx_model.specs.declared.no.Named.TheVariants.{Number as ByNumber};
 ghost use Rattle.vx_sites.specs.Refusing.{Refuses};
@@ -12,10 +15,8 @@ ghost use Rattle.vx_sites.specs.Shapes.{world_of, node_of};
 
 use crate::refusals::{has_writes, refuse_site, refuse_work};
 use crate::{Node, World};
-use vx_model::{Counted, Line, Name, Named, No, Role, SPhase, SiteState};
-
-// The greatest number of a write, and of a session.
-const MOST: u64 = 0x7fff_ffff_ffff_ffff;
+use vx_model::limits::{LEAST_BLOCKS, MOST_DISKS, MOST_NUMBER, MOST_SITES};
+use vx_model::{Counted, Line, Name, Named, No, Role, SPhase, SiteState, is_raw_shape};
 
 /// 2, 19 and 4 of a further site.
 pub fn refuse_new_site(world: &World, name: &Name, disks: u32, blocks: u64) -> Option<No>
@@ -24,19 +25,19 @@ pub fn refuse_new_site(world: &World, name: &Name, disks: u32, blocks: u64) -> O
     if is_taken(world, name) {
         return Some(No::Exists { name: *name });
     }
-    if world.nodes.len() >= 8 {
+    if world.nodes.len() >= MOST_SITES {
         return Some(No::Limit {
             what: Counted::Sites,
-            most: 8,
+            most: MOST_SITES as u64,
         });
     }
-    if disks > 8 {
+    if disks > MOST_DISKS {
         return Some(No::Limit {
             what: Counted::Disks,
-            most: 8,
+            most: u64::from(MOST_DISKS),
         });
     }
-    if disks == 0 || blocks < 8 {
+    if disks == 0 || blocks < LEAST_BLOCKS {
         return Some(No::Size);
     }
     None
@@ -75,17 +76,6 @@ fn is_bare(node: &Node) -> bool
         SiteState::Bare => true,
         SiteState::Up | SiteState::Deported | SiteState::Down => false,
     }
-}
-
-fn is_raw_shape(disks: u32, blocks: u64) -> bool
-    ensures { result ≡ raw_shape disks blocks }
-{
-    if disks < 3 || disks > 32 || blocks < 8 {
-        return false;
-    }
-    let blocks = u128::from(blocks);
-    let maps = ((blocks + 63) / 64 + 4095) / 4096;
-    8 * u128::from(disks - 2) * maps <= blocks
 }
 
 /// 1 for the site and, of a bare site or one without it, for the volume; 6, 20, and 5 where the site is no primary.
@@ -274,14 +264,14 @@ pub fn takes_updates(phase: &SPhase) -> bool
 /// 19 where a number, of a write or a session, is the greatest.
 pub fn refuse_most(number: u64) -> Option<No>
     ensures refuses { (w : PlainWorld) → Refuses result w (λ o. unless_at_most number w o) }
-    ensures below { IsNone result → number < 0x7fff_ffff_ffff_ffff }
+    ensures below { IsNone result → number < MOST_NUMBER }
 {
-    if number < MOST {
+    if number < MOST_NUMBER {
         None
     } else {
         Some(No::Limit {
             what: Counted::Number,
-            most: MOST,
+            most: MOST_NUMBER,
         })
     }
 }

@@ -1,13 +1,15 @@
 // What the events of sites make of them.
 ghost use Rattle.std.specs.Prelude.{◌≡◌, ◌+◌, ◌<◌, ◌^◌, length, take, drop, OnOk};
-ghost use Rattle.vx_model.specs.World.{with_node, line_updated};
-ghost use Rattle.vx_model.specs.Steps.{raw_made, ring_of as ring_blocks, stopped_by, session_begun, written, half_written, crashed, kept_by, recovered};
-ghost use Rattle.vx_model.specs.Events.{applied, joined};
+ghost use Rattle.vx_history.specs.World.{with_node, line_updated};
+ghost use Rattle.vx_history.specs.Steps.{raw_made, stopped_by, session_begun, written, half_written, crashed, kept_by, recovered};
+ghost use Rattle.vx_model.specs.Sizes.{ring_of as ring_blocks};
+ghost use Rattle.vx_history.specs.Events.{applied, joined};
 ghost use Rattle.vx_model.specs.declared.site.Mark.TheVariants.{Consistent};
 ghost use Rattle.vx_sites.specs.Shapes.{world_of};
 
 use crate::history::{begin_line, keep_writes, tell_write};
 use crate::{Content, World, Write};
+use vx_model::limits::{LOG_HEADERS, MOST_LOG_BLOCKS, MOST_NUMBER};
 use vx_model::{Line, Mark, OutOfMemory, Role, SPhase, SiteState};
 
 impl World {
@@ -51,7 +53,7 @@ impl World {
     /// The site's next session begins.
     pub fn begin_session(&mut self, site: u32)
         requires within { site < length self.old.nodes.items }
-        requires room { ((world_of self.old).nodes site).session < 2 ^ 63 }
+        requires room { ((world_of self.old).nodes site).session < MOST_NUMBER + 1 }
         ensures { world_of self.new ≡ session_begun (world_of self.old) site }
     {
         self.nodes[site as usize].session += 1;
@@ -60,7 +62,7 @@ impl World {
     /// The site comes up in its next session, with this mark.
     pub fn come_up(&mut self, site: u32, mark: Mark)
         requires within { site < length self.old.nodes.items }
-        requires room { ((world_of self.old).nodes site).session < 2 ^ 63 }
+        requires room { ((world_of self.old).nodes site).session < MOST_NUMBER + 1 }
         ensures { let w = world_of self.old in world_of self.new ≡ with_node w site (record (recovered (w.nodes site)) { mark = mark }) }
     {
         let node = &mut self.nodes[site as usize];
@@ -81,7 +83,7 @@ impl World {
     /// A write is durable at the origin of its line, and is answered.
     pub fn log_write(&mut self, site: u32, write: Write) -> Result<(), OutOfMemory>
         requires within { site < length self.old.nodes.items }
-        requires room { ((world_of self.old).nodes site).safe < 2 ^ 63 }
+        requires room { ((world_of self.old).nodes site).safe < MOST_NUMBER + 1 }
         ensures { OnOk result (world_of self.new ≡ written (world_of self.old) site write) }
     {
         let node = &mut self.nodes[site as usize];
@@ -174,5 +176,5 @@ fn newly_kept(log: &[Write], safe: u64, kept: u64) -> &[Write]
 fn ring_of(blocks: u64) -> u32
     ensures { result ≡ ring_blocks blocks }
 {
-    blocks.min(65536).saturating_sub(2) as u32
+    blocks.min(MOST_LOG_BLOCKS).saturating_sub(LOG_HEADERS) as u32
 }

@@ -1,10 +1,10 @@
 // What the links of a site say of a write that is to be confirmed.
 ghost use Rattle.std.specs.Prelude.{◌≡◌, ◌<◌, ◌++◌, length, map, leb, OnOk, if◌then◌else◌};
-ghost use Rattle.vx_model.specs.World.{Durable, InSession};
-ghost use Rattle.vx_model.specs.Admission.{is_log as logs, is_fail as fails};
-ghost use Rattle.vx_model.specs.Refusals.{some_below, waits, goes, holds_back, is_unconfirmed as unconfirmed};
-ghost use Rattle.vx_model.specs.Sends.{promising};
-ghost use Rattle.vx_model.specs.Events.{promise_of as promise_by, promises_of};
+ghost use Rattle.vx_history.specs.World.{Durable, InSession};
+ghost use Rattle.vx_history.specs.Admission.{is_log as logs, is_fail as fails};
+ghost use Rattle.vx_history.specs.Refusals.{some_below, waits, goes, holds_back, is_unconfirmed as unconfirmed};
+ghost use Rattle.vx_history.specs.Sends.{promising};
+ghost use Rattle.vx_history.specs.Events.{promise_of as promise_by, promises_of};
 ghost use Rattle.vx_sites.specs.Shapes.{world_of, node_of, link_of, row_of, surety_of, promise_of};
 
 use crate::link::link_in;

@@ -1,7 +1,7 @@
 // What is recorded of lines.
 ghost use Rattle.std.specs.Prelude.{◌≡◌, IfOk, OnOk, MatchOption};
-ghost use Rattle.vx_model.specs.World.{no_history, line_updated};
-ghost use Rattle.vx_model.specs.Steps.{told_of};
+ghost use Rattle.vx_history.specs.World.{no_history, line_updated};
+ghost use Rattle.vx_history.specs.Steps.{told_of};
 ghost use Rattle.vx_sites.specs.Shapes.{content_of, history_of, lines_of, IsEntry, IsNewLine};
 
 use crate::{Content, Write};

@@ -1,9 +1,9 @@
 // Links, by the sites that they start at and lead to.
 ghost use Rattle.std.specs.Prelude.{◌≡◌, ◌<◌, length, OnOk};
-ghost use Rattle.vx_model.specs.World.{Node, no_link, updated};
-ghost use Rattle.vx_model.specs.Events.{new_link};
-ghost use Rattle.vx_model.specs.LinkForms.{plain_link, with_plain};
-ghost use Rattle.vx_model.specs.Sends.{is_linked as linked};
+ghost use Rattle.vx_history.specs.World.{Node, no_link, updated};
+ghost use Rattle.vx_history.specs.Events.{new_link};
+ghost use Rattle.vx_history.specs.LinkForms.{plain_link, with_plain};
+ghost use Rattle.vx_history.specs.Sends.{is_linked as linked};
 ghost use Rattle.vx_sites.specs.Shapes.{link_of, row_of, links_of};
 
 use std::alloc::Global;

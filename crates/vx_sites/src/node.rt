@@ -1,6 +1,6 @@
 // A site of a world.
 ghost use Rattle.std.specs.Prelude.{◌≡◌};
-ghost use Rattle.vx_model.specs.World.{bare_site};
+ghost use Rattle.vx_history.specs.World.{bare_site};
 ghost use Rattle.vx_sites.specs.Shapes.{node_of};
 
 use crate::{Content, Write};

@@ -1,6 +1,6 @@
 // What sites send, and what they promise.
 ghost use Rattle.std.specs.Prelude.{◌≡◌, ◌≤◌, ◌++◌, map, OnOk};
-ghost use Rattle.vx_model.specs.Sends.{packet, packets_of, payload_size as size_of, further_parts as further};
+ghost use Rattle.vx_history.specs.Sends.{packet, packets_of, payload_size as size_of, further_parts as further};
 ghost use Rattle.vx_sites.specs.Shapes.{message_of, packet_of};
 
 use crate::Write;

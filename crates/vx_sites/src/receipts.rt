@@ -1,8 +1,8 @@
 // Packets that were sent, and writes that sites receive.
 ghost use Rattle.std.specs.Prelude.{◌≡◌, ◌<◌, length, MatchOption, None, Some, OnOk};
-ghost use Rattle.vx_model.specs.World.{with_node};
-ghost use Rattle.vx_model.specs.Sends.{sending, greeting};
-ghost use Rattle.vx_model.specs.Events.{packet_at, with_write};
+ghost use Rattle.vx_history.specs.World.{with_node};
+ghost use Rattle.vx_history.specs.Sends.{sending, greeting};
+ghost use Rattle.vx_history.specs.Events.{packet_at, with_write};
 ghost use Rattle.vx_sites.specs.Shapes.{world_of, packet_of};
 
 use crate::{Message, Packet, World, Write};

@@ -1,8 +1,9 @@
 // The tests of events, in their order. Each answers the refusal, or none.
 ghost use Rattle.std.specs.Prelude.{◌≡◌, ◌<◌, length, not, IsNone};
-ghost use Rattle.vx_model.specs.World.{is_origin};
-ghost use Rattle.vx_model.specs.Sends.{is_linked};
-ghost use Rattle.vx_model.specs.Refusals.{unless, at_site, at_work, both_at_work, on_link, on_link_if, when_live, is_up as up, keeps_links};
+ghost use Rattle.vx_model.specs.Sites.{is_origin};
+ghost use Rattle.vx_history.specs.Sends.{is_linked};
+ghost use Rattle.vx_history.specs.Refusals.{unless, at_site, at_work, both_at_work, on_link, on_link_if, when_live, keeps_links};
+ghost use Rattle.vx_model.specs.Sites.{is_up as up};
 ghost use Rattle.vx_model.specs.declared.no.No.TheVariants.{Unknown, Down as NotUp};
 ghost use Rattle.vx_model.specs.declared.no.Named.TheVariants.{Number as ByNumber};
 ghost use Rattle.vx_sites.specs.Refusing.{Refuses};

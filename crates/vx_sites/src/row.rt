@@ -1,13 +1,14 @@
 // What events make of all links of a site.
 ghost use Rattle.std.specs.Prelude.{◌≡◌, ◌<◌, ℕ, length, drop, min};
-ghost use Rattle.vx_model.specs.World.{Node as PlainNode};
-ghost use Rattle.vx_model.specs.Admission.{hold};
-ghost use Rattle.vx_model.specs.Sends.{with_links};
-ghost use Rattle.vx_model.specs.Events.{lost_touch, restarted_link, log_blocks, link_after, links_changed};
+ghost use Rattle.vx_history.specs.World.{Node as PlainNode};
+ghost use Rattle.vx_history.specs.Admission.{hold};
+ghost use Rattle.vx_history.specs.Sends.{with_links};
+ghost use Rattle.vx_history.specs.Events.{lost_touch, restarted_link, log_blocks, link_after, links_changed};
 ghost use Rattle.vx_sites.specs.Shapes.{node_of, link_of, row_of, world_of};
 
 use crate::{Link, Node, World, Write};
-use vx_model::{Change, Link as PlainLink, Mode, SEvent, SFacts};
+use vx_history::{Change, SEvent, SFacts};
+use vx_model::{Link as PlainLink, Mode};
 use vx_policy::{find_change, hold_of};
 
 // The blocks of records up to which are counted what a link needs of a log: no ring has as many.

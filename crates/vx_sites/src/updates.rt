@@ -1,6 +1,6 @@
 // Writes that are sent as updates.
 ghost use Rattle.std.specs.Prelude.{◌≡◌, ◌+◌, ◌≤◌, ◌<◌, ◌^◌, ◌++◌, length, map, OnOk};
-ghost use Rattle.vx_model.specs.Sends.{updates, between, sending};
+ghost use Rattle.vx_history.specs.Sends.{updates, between, sending};
 ghost use Rattle.vx_sites.specs.Shapes.{world_of, packet_of};
 
 use crate::packet::send_all;

@@ -1,7 +1,7 @@
 // A world in memory.
 ghost use Rattle.std.specs.Prelude.{◌≡◌, ◌+◌, ◌<◌, length, IfOk, OnOk};
-ghost use Rattle.vx_model.specs.World.{empty_world, updated};
-ghost use Rattle.vx_model.specs.Sends.{with_link, sending, packets_of};
+ghost use Rattle.vx_history.specs.World.{empty_world, updated};
+ghost use Rattle.vx_history.specs.Sends.{with_link, sending, packets_of};
 ghost use Rattle.vx_sites.specs.Shapes.{world_of, node_of, link_of, message_of};
 
 use crate::link::lengthen_rows;

@@ -11,11 +11,12 @@ use Rattle.vx_disk.specs.declared.shelf.ShelfError.{ShelfError}
 use Rattle.vx_disk.specs.declared.shelf.ShelfError.TheVariants.{Fault, Down}
 use Rattle.vx_ringlog.specs.Cells.{Act, Flush, Write}
 use Rattle.vx_ringlog.specs.Chain.{block}
-use Rattle.vx_ringio.specs.Burns.{FallsShort, MakesCalls}
+use Rattle.vx_disk.specs.Burns.{FallsShort, MakesCalls}
 use Rattle.vx_ringio.specs.Tracks.{Arrives, Follows, Lies}
-use Rattle.vx_ringio.proofs.Burning.{sooner_short, then_calls, then_short}
+use Rattle.vx_disk.proofs.Burning.{sooner_short, then_calls, then_short}
 use Rattle.vx_ringio.proofs.Following.{nothing_arrives, nothing_follows, sooner, then_arrives, then_follows}
-use Rattle.vx_srl.specs.Causes.{DeviceCause, Ended, refusal_of}
+use Rattle.vx_disk.specs.Causes.{DeviceCause, refusal_of}
+use Rattle.vx_srl.specs.Causes.{Ended}
 use Rattle.vx_srl.specs.Fronts.{fronts_written, seal_written}
 use Rattle.vx_srl.specs.Views.{PlacedFrom, width_of}
 use Rattle.vx_srl.specs.declared.kept.Kept.{Kept}

@@ -8,7 +8,7 @@ use Rattle.vx_disk.specs.declared.shelf.ShelfError.TheVariants.{Fault, Down}
 use Rattle.vx_model.specs.declared.no.No.{No}
 use Rattle.vx_ringio.specs.Tracks.{Lies}
 use Rattle.vx_srlfmt.specs.declared.header.Header.{Header}
-use Rattle.vx_srl.specs.Causes.{DeviceCause, refusal_of}
+use Rattle.vx_disk.specs.Causes.{DeviceCause, refusal_of}
 use Rattle.vx_srl.specs.Scans.{ScanCause}
 
 pub lies_still : (unit ring : ℕ) (old new : Meaning) → Goes Nothing old new → Lies unit ring old → Lies unit ring new

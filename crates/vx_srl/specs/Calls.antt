@@ -10,7 +10,7 @@ use Rattle.vx_disk.specs.Shelf.{Meaning}
 use Rattle.vx_ringlog.specs.Chain.{block as block_of}
 use Rattle.vx_ringlog.specs.Logs.{State, Call, Stage, Seal, Save, Restart}
 use Rattle.vx_ringlog.specs.Records.{Record, given}
-use Rattle.vx_srl.specs.Causes.{DeviceCause}
+use Rattle.vx_disk.specs.Causes.{DeviceCause}
 use Rattle.vx_srl.specs.Rings.{RingOn}
 use Rattle.vx_srl.specs.Views.{Log, IsFront, head_of, next_of, most_number}
 use Rattle.vx_srl.specs.declared.errors.SrlNo.{SrlNo}

@@ -10,7 +10,7 @@ use Rattle.vx_ringlog.specs.Cells.{Image as Kinds}
 use Rattle.vx_ringlog.specs.Chain.{block, width, total, Takes, HasBody, Scan}
 use Rattle.vx_ringlog.specs.Records.{Era, era_of, Record, Genuine}
 use Rattle.vx_ringio.specs.Reading.{ReadsAs}
-use Rattle.vx_srl.specs.Causes.{DeviceCause}
+use Rattle.vx_disk.specs.Causes.{DeviceCause}
 use Rattle.vx_srl.specs.Rings.{heads_of, kept_heads}
 use Rattle.vx_srl.specs.declared.kept.Kept.{Kept}
 use Rattle.vx_srl.specs.declared.scan.Found.{Found}

@@ -14,7 +14,7 @@ use Rattle.vx_ringio.specs.Classes.{is_of_ring}
 use Rattle.vx_ringio.specs.Reading.{ReadsAs, SeesTop}
 use Rattle.vx_ringio.specs.declared.top.TopSeen.{TopSeen}
 use Rattle.vx_ringio.specs.declared.top.TopSeen.TheVariants as top
-use Rattle.vx_srl.specs.Causes.{DeviceCause}
+use Rattle.vx_disk.specs.Causes.{DeviceCause}
 use Rattle.vx_srl.specs.Headers.{raised}
 use Rattle.vx_srl.specs.Starts.{NoHeader}
 use Rattle.vx_srl.specs.Views.{most_number}

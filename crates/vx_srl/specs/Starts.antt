@@ -18,7 +18,7 @@ use Rattle.vx_ringio.specs.Classes.{classes}
 use Rattle.vx_ringio.specs.Reading.{LeavesAs, SeesTop}
 use Rattle.vx_ringio.specs.Tracks.{Tracks}
 use Rattle.vx_ringio.specs.declared.top.TopSeen.TheVariants as top
-use Rattle.vx_srl.specs.Causes.{DeviceCause}
+use Rattle.vx_disk.specs.Causes.{DeviceCause}
 use Rattle.vx_srl.specs.Headers.{new_header, raised}
 use Rattle.vx_srl.specs.Rings.{RingOn}
 use Rattle.vx_srl.specs.Views.{Log, most_number}

@@ -1,7 +1,7 @@
 // The making of a log.
 ghost use Rattle.std.specs.Prelude.{◌≡◌, ◌⊎◌, ◌+◌, ◌<◌, ◌≤◌, ◌%◌, ℕ, true, Err, OnOk, IfOk};
 ghost use Rattle.vx_disk.specs.Moves.{Moves, Run, Anything};
-ghost use Rattle.vx_model.specs.Steps.{ring_of};
+ghost use Rattle.vx_model.specs.Sizes.{ring_of};
 ghost use Rattle.vx_model.specs.declared.errors.Stop.TheVariants.{No as Refused};
 ghost use Rattle.vx_model.specs.declared.no.No.TheVariants.{Size, Limit};
 ghost use Rattle.vx_model.specs.declared.no.Counted.TheVariants.{Number};
@@ -13,11 +13,11 @@ ghost use Rattle.vx_srl.specs.Starts.{Makes, HasNewHeaders};
 ghost use Rattle.vx_srl.specs.Views.{most_number};
 ghost use Rattle.vx_srlfmt.specs.Headers.{CanSpell, CanSpellState};
 
+use crate::Srl;
 use crate::log::MOST;
-use crate::{Srl, refusal};
 use std::alloc::Global;
 use std::collections::VecDeque;
-use vx_disk::{Shelf, ShelfError};
+use vx_disk::{Shelf, ShelfError, refusal};
 use vx_model::{Counted, No, State, Stop};
 use vx_ringio::{blank_ring, write_header};
 use vx_srlfmt::Header;

@@ -5,8 +5,8 @@ ghost use Rattle.vx_ringio.specs.Tracks.{Lies};
 ghost use Rattle.vx_srl.specs.Calls.{Fetches, FetchCause, Agrees, NamesBody};
 ghost use Rattle.vx_srl.specs.Views.{head_of};
 
-use crate::{Srl, SrlNo, refusal};
-use vx_disk::Shelf;
+use crate::{Srl, SrlNo};
+use vx_disk::{Shelf, refusal};
 use vx_model::{Blocks, No, Update};
 use vx_ringio::{Body, read_body, unmask_body};
 

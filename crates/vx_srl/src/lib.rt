@@ -16,7 +16,7 @@ mod seal;
 mod stage;
 mod start;
 
-pub use errors::{SrlNo, refusal};
+pub use errors::SrlNo;
 pub use kept::Kept;
 pub use log::Srl;
 pub use start::LogRoom;

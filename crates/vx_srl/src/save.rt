@@ -11,8 +11,8 @@ ghost use Rattle.vx_srlfmt.specs.Headers.{CanSpell, CanSpellState};
 
 use crate::log::MOST;
 use crate::stage::no_number_left;
-use crate::{Srl, SrlNo, refusal};
-use vx_disk::Shelf;
+use crate::{Srl, SrlNo};
+use vx_disk::{Shelf, refusal};
 use vx_model::State;
 use vx_ringio::write_header;
 use vx_srlfmt::Header;

@@ -18,9 +18,9 @@ ghost use Rattle.vx_srlfmt.specs.Headers.{CanSpell};
 ghost use Rattle.vx_srlfmt.specs.Kinds.{IsBody};
 ghost use Rattle.vx_srlfmt.specs.Records.{CanSpellHead};
 
-use crate::{Kept, refusal};
+use crate::Kept;
 use std::collections::VecDeque;
-use vx_disk::{Shelf, ShelfError};
+use vx_disk::{Shelf, ShelfError, refusal};
 use vx_model::No;
 use vx_ringio::{Body, read_body, read_front, unmask_body};
 use vx_srlfmt::{Header, RecordHead, Seen};

@@ -1,6 +1,6 @@
 // The sealing of what is staged: it becomes part of the log.
 ghost use Rattle.std.specs.Prelude.{◌≡◌, ◌+◌, ◌-◌, ◌≤◌, ◌<◌, [], length, drop, All, Ok, OnOk};
-ghost use Rattle.vx_ringio.specs.Burns.{FallsShort, MakesCalls};
+ghost use Rattle.vx_disk.specs.Burns.{FallsShort, MakesCalls};
 ghost use Rattle.vx_ringio.specs.Tracks.{Lies, Follows, Arrives};
 ghost use Rattle.vx_srl.specs.Calls.{Seals, sealing};
 ghost use Rattle.vx_srl.specs.Causes.{Ended, Stopped};
@@ -9,9 +9,9 @@ ghost use Rattle.vx_srl.specs.Rings.{Goes, LeadsTo};
 ghost use Rattle.vx_srl.specs.Views.{head_of};
 ghost use Rattle.vx_srlfmt.specs.Records.{CanSpellHead};
 
-use crate::{Kept, Srl, SrlNo, refusal};
+use crate::{Kept, Srl, SrlNo};
 use std::collections::VecDeque;
-use vx_disk::{Shelf, ShelfError};
+use vx_disk::{Shelf, ShelfError, refusal};
 use vx_ringio::{flush_ring, write_front};
 
 // Writes the headers of the records from one on.

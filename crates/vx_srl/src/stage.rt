@@ -1,7 +1,7 @@
 // The staging of a record: its blocks are written, and its header is not.
 ghost use Rattle.std.specs.Prelude.{◌≡◌, ◌⊎◌, ◌+◌, ◌<◌, ◌≤◌, ◌/◌, length, Err, OnOk, All};
 ghost use Rattle.vx_ringio.specs.Bodies.{IsBlocks, all_blocks};
-ghost use Rattle.vx_ringio.specs.Burns.{FallsShort, MakesCalls};
+ghost use Rattle.vx_disk.specs.Burns.{FallsShort, MakesCalls};
 ghost use Rattle.vx_ringio.specs.Tracks.{Lies};
 ghost use Rattle.vx_ringlog.specs.Records.{on_disk};
 ghost use Rattle.vx_srl.specs.Calls.{Stages, staging, staged_with, no_number};
@@ -9,8 +9,8 @@ ghost use Rattle.vx_srl.specs.Rings.{Goes, LeadsTo};
 ghost use Rattle.vx_srl.specs.Views.{BodyFits, free_of, need_of, next_of, most_number, record_of, kept_of};
 
 use crate::log::MOST;
-use crate::{Kept, Srl, SrlNo, refusal};
-use vx_disk::Shelf;
+use crate::{Kept, Srl, SrlNo};
+use vx_disk::{Shelf, refusal};
 use vx_model::{Counted, No};
 use vx_ringio::{mask_body, write_body};
 use vx_srlfmt::RecordHead;

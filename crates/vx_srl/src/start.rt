@@ -2,7 +2,7 @@
 ghost use Rattle.std.specs.Prelude.{◌≡◌, ◌⊎◌, ◌+◌, ◌-◌, ◌<◌, ◌≤◌, ◌%◌, ℕ, List, true, IsTrue, IfOk, IfErr, OnOk};
 ghost use Rattle.vx_disk.specs.Moves.{Moves, Run};
 ghost use Rattle.vx_disk.specs.Shelf.{Goes, Nothing};
-ghost use Rattle.vx_model.specs.Steps.{ring_of};
+ghost use Rattle.vx_model.specs.Sizes.{ring_of};
 ghost use Rattle.vx_ringio.specs.Classes.{is_of_ring};
 ghost use Rattle.vx_ringio.specs.Reading.{IsTop, DigestsDiffer};
 ghost use Rattle.vx_ringio.specs.Tracks.{Lies, Follows, Arrives};
@@ -16,11 +16,11 @@ ghost use Rattle.vx_srlfmt.specs.Headers.{CanSpell};
 
 use crate::log::MOST;
 use crate::scan::scan;
-use crate::{Kept, Srl, refusal};
+use crate::{Kept, Srl};
 use std::alloc::Global;
 use std::collections::VecDeque;
 use std::marker::Model;
-use vx_disk::{Shelf, ShelfError};
+use vx_disk::{Shelf, ShelfError, refusal};
 use vx_model::{Counted, No, OutOfMemory, Stop};
 use vx_ringio::{TopSeen, read_top, write_header};
 use vx_srlfmt::Header;

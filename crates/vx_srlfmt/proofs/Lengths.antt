@@ -52,12 +52,3 @@ front_of-more h ls i d lt =
 pub front_of-all : (h : Header) (i : ℕ) → length h.state.links ≤ i → front_of h (take i h.state.links) ≡ header_fields h
 unfolding header_fields
 front_of-all h i le = ap (front_of h) (take_all i h.state.links le)
-
--- what is written over the front, and over the whole
-pub take-put_at : (n : ℕ) (a bytes : List ℕ) → length a ≡ n → take n (put_at 0 a bytes) ≡ a
-unfolding put_at
-take-put_at n a bytes len = take_at a (drop (0 + length a) bytes) n len
-
-pub put_at-whole : (a bytes : List ℕ) → length a ≡ length bytes → put_at 0 a bytes ≡ a
-unfolding put_at
-put_at-whole a bytes len = rw (drop_all (0 + length a) bytes (omega (arith, len))) (append-nil a)

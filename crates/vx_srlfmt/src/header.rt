@@ -9,7 +9,7 @@ use crate::header_codes::{
     flags_code, mark_code, mode_code, phase_code, prot_code, role_code, sync_code,
 };
 use crate::header_reading::read_header;
-use crate::limit::GREATEST;
+use vx_model::limits::MOST_NUMBER;
 use vx_model::{KeptLink, State};
 use vx_wire::{Field, broken_seal, put_fields, put_zeros, seal};
 
@@ -130,7 +130,7 @@ fn is_spelled(h: &Header, block: &[u8; 512]) -> bool
 fn can_spell_link(link: &KeptLink) -> bool
     ensures { IsTrue result ↔ CanSpellLink link.now }
 {
-    link.stored <= GREATEST && link.start <= GREATEST
+    link.stored <= MOST_NUMBER && link.start <= MOST_NUMBER
 }
 
 // Whether a state that was read is one that the table can spell.
@@ -139,12 +139,12 @@ fn can_spell_state(state: &State) -> bool
     requires few { length state.now.links ≤ 4 }
     ensures { IsTrue result ↔ CanSpellState state.now }
 {
-    state.line.generation <= GREATEST
-        && state.top <= GREATEST
-        && state.replay <= GREATEST
-        && state.end <= GREATEST
-        && state.parent.generation <= GREATEST
-        && state.fork <= GREATEST
+    state.line.generation <= MOST_NUMBER
+        && state.top <= MOST_NUMBER
+        && state.replay <= MOST_NUMBER
+        && state.end <= MOST_NUMBER
+        && state.parent.generation <= MOST_NUMBER
+        && state.fork <= MOST_NUMBER
         && state.links.as_slice().iter().all(can_spell_link)
 }
 
@@ -154,12 +154,12 @@ fn can_spell(h: &Header) -> bool
     requires few { length h.now.state.links ≤ 4 }
     ensures { IsTrue result ↔ CanSpell h.now }
 {
-    h.stamp <= GREATEST
-        && h.incarnation <= GREATEST
-        && h.floor <= GREATEST
-        && h.run <= GREATEST
-        && h.low <= GREATEST
-        && h.applied <= GREATEST
+    h.stamp <= MOST_NUMBER
+        && h.incarnation <= MOST_NUMBER
+        && h.floor <= MOST_NUMBER
+        && h.run <= MOST_NUMBER
+        && h.low <= MOST_NUMBER
+        && h.applied <= MOST_NUMBER
         && can_spell_state(&h.state)
 }
 

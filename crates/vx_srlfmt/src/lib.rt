@@ -7,7 +7,6 @@ mod header;
 mod header_codes;
 mod header_reading;
 mod kind;
-mod limit;
 mod record;
 
 pub use header::{HEADER_MAGIC, Header, get_header, put_header};

@@ -7,8 +7,8 @@ ghost use Rattle.vx_wire.specs.Fields.{zeros};
 ghost use Rattle.vx_wire.specs.Places.{put_at};
 ghost use Rattle.vx_wire.specs.Seals.{filled, digest_of, IsSealed};
 
-use crate::limit::GREATEST;
 use vx_model::Line;
+use vx_model::limits::MOST_NUMBER;
 use vx_wire::{
     Field, broken_seal, get_bytes, get_line, get_u32, get_u64, is_zero, put_bytes, put_fields,
     put_zeros, seal,
@@ -131,10 +131,10 @@ fn has_zeros(h: &RecordHead) -> bool
 fn can_spell(h: &RecordHead) -> bool
     ensures { IsTrue result ↔ CanSpellHead h.now }
 {
-    h.incarnation <= GREATEST
-        && h.run <= GREATEST
-        && h.line.generation <= GREATEST
-        && h.number <= GREATEST
+    h.incarnation <= MOST_NUMBER
+        && h.run <= MOST_NUMBER
+        && h.line.generation <= MOST_NUMBER
+        && h.number <= MOST_NUMBER
         && h.count > 0
         && h.count <= 16
         && has_zeros(h)

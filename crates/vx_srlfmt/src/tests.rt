@@ -68,13 +68,11 @@ fn a_new_log_has_two_headers(rt: HostRuntime) {
     assert_eq!(rt; found.state.links.as_slice().len(), 0);
 }
 
-const GREATEST: u64 = 0x7fffffffffffffff;
-
 fn most_header() -> Header
     ensures { CanSpell result }
 {
     let line = Line {
-        generation: GREATEST,
+        generation: MOST_NUMBER,
         origin: u32::MAX,
     };
     let link = KeptLink {
@@ -84,8 +82,8 @@ fn most_header() -> Header
         mode: KeptMode::Stale,
         sync: SyncMode::Fail,
         prot: Prot::Autodcm,
-        stored: GREATEST,
-        start: GREATEST,
+        stored: MOST_NUMBER,
+        start: MOST_NUMBER,
     };
     let mut links = KeptLinks::new();
     links.push(link);
@@ -93,26 +91,26 @@ fn most_header() -> Header
     links.push(link);
     links.push(link);
     Header {
-        stamp: GREATEST,
+        stamp: MOST_NUMBER,
         state: State {
             line,
-            top: GREATEST,
+            top: MOST_NUMBER,
             role: Role::Handing { to: u32::MAX },
             mark: Mark::Consistent,
             phase: SPhase::ForkKept,
-            replay: GREATEST,
-            end: GREATEST,
+            replay: MOST_NUMBER,
+            end: MOST_NUMBER,
             other: u32::MAX,
             parent: line,
-            fork: GREATEST,
+            fork: MOST_NUMBER,
             links,
         },
-        incarnation: GREATEST,
-        floor: GREATEST,
-        run: GREATEST,
-        low: GREATEST,
+        incarnation: MOST_NUMBER,
+        floor: MOST_NUMBER,
+        run: MOST_NUMBER,
+        low: MOST_NUMBER,
         place: u32::MAX,
-        applied: GREATEST,
+        applied: MOST_NUMBER,
     }
 }
 
@@ -167,7 +165,7 @@ fn a_record_of_one_block(rt: HostRuntime) {
     let most = block_of(&MOST_RECORD, &MOST_RECORD_DIGEST);
     match get_record(&most) {
         Seen::Record(found) => {
-            assert_eq!(rt; found.number, GREATEST);
+            assert_eq!(rt; found.number, MOST_NUMBER);
             assert_eq!(rt; found.block, u64::MAX);
             assert_eq!(rt; found.count, 16);
         }

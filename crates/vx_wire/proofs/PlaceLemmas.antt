@@ -53,3 +53,12 @@ StandsAt-append at next a b bytes same m n long wide first second =
     let behind : drop m (drop at bytes) ≡ drop next bytes = drop-drop m at bytes ∙ ap (λ (k : ℕ). drop k bytes) (omega arith) in
     let sum : length (a ++ b) ≡ m + n = omega (arith, length-append a b) in
     rw (sum, take_sum m n (drop at bytes), behind, first, second) refl
+
+-- what is written over the front, and over the whole
+pub take-put_at : (n : ℕ) (a bytes : List ℕ) → length a ≡ n → take n (put_at 0 a bytes) ≡ a
+unfolding put_at
+take-put_at n a bytes len = take_at a (drop (0 + length a) bytes) n len
+
+pub put_at-whole : (a bytes : List ℕ) → length a ≡ length bytes → put_at 0 a bytes ≡ a
+unfolding put_at
+put_at-whole a bytes len = rw (drop_all (0 + length a) bytes (omega (arith, len))) (append-nil a)

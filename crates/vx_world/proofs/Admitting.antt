@@ -2,12 +2,12 @@
 use Rattle.std.proofs.Common.{◌≡◌, ◌∙◌, ℕ, ◌+◌, ◌-◌, ◌<◌, add-one, List, ap, refl, arith}
 use Rattle.std.specs.Prelude.{Option, Some, None}
 use Rattle.vx_model.specs.Content.{Write}
-use Rattle.vx_model.specs.World.{World, Link}
-use Rattle.vx_model.specs.Admission.{Admitted, Held_by, Goes, Held, Link_is_down, Log_is_full, Log_stalls, or_else, unless_held}
-use Rattle.vx_model.specs.declared.admission.Change.{Change}
+use Rattle.vx_history.specs.World.{World, Link}
+use Rattle.vx_history.specs.Admission.{Admitted, Held_by, Goes, Held, Link_is_down, Log_is_full, Log_stalls, or_else, unless_held}
+use Rattle.vx_history.specs.declared.admission.Change.{Change}
 use Rattle.vx_policy.specs.Verdicts.{refusal, refusal_if}
-use Rattle.vx_model.specs.Refusals.{refused, unless_at_most, why_held}
-use Rattle.vx_model.specs.Events.{link_in_place, put_before, linked_sites, links_changed, put_in, written_if}
+use Rattle.vx_history.specs.Refusals.{refused, unless_at_most, why_held}
+use Rattle.vx_history.specs.Events.{link_in_place, put_before, linked_sites, links_changed, put_in, written_if}
 use Rattle.vx_model.specs.declared.no.No.{No}
 use Rattle.vx_sites.specs.Refusing.{unless_refused}
 

@@ -1,17 +1,17 @@
 -- Records that a receiver applies.
 use Rattle.std.proofs.Common.{◌≡◌, ◌∙◌, ℕ, ◌-◌, min, Bool, false, length, sym, ap}
 use Rattle.std.specs.Prelude.{eqb, if◌then◌else◌}
-use Rattle.vx_model.specs.World.{World, Node, DataAck}
-use Rattle.vx_model.specs.Sends.{sending, packets_of}
-use Rattle.vx_model.specs.LinkForms.{plain_receiver}
-use Rattle.vx_model.specs.Receiving.{Received, marked_by, applied_to, with_applied}
-use Rattle.vx_model.specs.Refusals.{says}
-use Rattle.vx_model.specs.Events.{applied, acknowledged, applied_by, apply_at}
-use Rattle.vx_model.specs.World.{with_node}
+use Rattle.vx_history.specs.World.{World, Node, DataAck}
+use Rattle.vx_history.specs.Sends.{sending, packets_of}
+use Rattle.vx_history.specs.LinkForms.{plain_receiver}
+use Rattle.vx_history.specs.Receiving.{Received, marked_by, applied_to, with_applied}
+use Rattle.vx_history.specs.Refusals.{says}
+use Rattle.vx_history.specs.Events.{applied, acknowledged, applied_by, apply_at}
+use Rattle.vx_history.specs.World.{with_node}
 use Rattle.vx_model.specs.declared.site.Mark.{Mark}
-use Rattle.vx_model.specs.declared.receiver.RState.{RState}
-use Rattle.vx_model.specs.declared.receiver.RAction.TheVariants.{Nothing as DoesNothing}
-use Rattle.vx_model.specs.declared.event.Said.TheVariants.{DoneAt}
+use Rattle.vx_history.specs.declared.receiver.RState.{RState}
+use Rattle.vx_history.specs.declared.receiver.RAction.TheVariants.{Nothing as DoesNothing}
+use Rattle.vx_history.specs.declared.event.Said.TheVariants.{DoneAt}
 
 -- records wait at the receiver n, of which so many are applied: up to this number, and with this mark
 pub record Due (count number : ℕ) (mark : Mark) (n : Node) : Type 0 where

@@ -3,12 +3,12 @@ use Rattle.std.proofs.Common.{◌≡◌, ℕ, zero, suc, ◌+◌, ◌-◌, ◌�
 use Rattle.std.specs.Prelude.{if◌then◌else◌, ltb, eqb, slice_get, Some, replicate}
 use Rattle.std.proofs.lemmas.Bool.Decides.{nat_tests}
 use Rattle.vx_model.specs.Content.{Write}
-use Rattle.vx_model.specs.World.{World, Node, Link, Packet, Update, NetAck}
+use Rattle.vx_history.specs.World.{World, Node, Link, Packet, Update, NetAck}
 use Rattle.vx_model.specs.declared.history.Line.{Line}
-use Rattle.vx_model.specs.declared.event.Event.TheVariants.{Deliver}
-use Rattle.vx_model.specs.Sends.{packet, updates, further_parts}
-use Rattle.vx_model.specs.Events.{with_write}
-use Rattle.vx_model.specs.Step.{step, run}
+use Rattle.vx_history.specs.declared.event.Event.TheVariants.{Deliver}
+use Rattle.vx_history.specs.Sends.{packet, updates, further_parts}
+use Rattle.vx_history.specs.Events.{with_write}
+use Rattle.vx_history.specs.Step.{step, run}
 use Rattle.vx_world.specs.Settling.{deliver_each}
 use Rattle.vx_world.proofs.Pair.{At, Fit}
 use Rattle.vx_world.proofs.Told.{append-nil, part_at, taken_at, ignored_at, memory_at}

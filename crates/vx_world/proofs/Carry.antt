@@ -2,9 +2,10 @@
 use Rattle.std.proofs.Common.{◌≡◌, ℕ, ◌≤◌, List, length, arith, refl, sym, ap, ◌∙◌}
 use Rattle.std.specs.List.{AllByRecursion}
 use Rattle.vx_model.specs.Content.{Write, IsPrefixOf}
-use Rattle.vx_model.specs.World.{Node, Link, History, Packet, Promise, Message, Surety, is_origin, Hello, Update, NetAck, DataAck, Durable, InSession}
-use Rattle.vx_model.specs.Good.{IsMade}
-use Rattle.vx_model.specs.Receiving.{phase_takes}
+use Rattle.vx_history.specs.World.{Node, Link, History, Packet, Promise, Message, Surety, Hello, Update, NetAck, DataAck, Durable, InSession}
+use Rattle.vx_model.specs.Sites.{is_origin}
+use Rattle.vx_history.specs.Good.{IsMade}
+use Rattle.vx_history.specs.Receiving.{phase_takes}
 use Rattle.vx_model.specs.declared.history.Line.{Line}
 use Rattle.vx_model.specs.declared.site.Mark.TheVariants.{Consistent}
 use Rattle.vx_model.specs.declared.site.SiteState.TheVariants.{Up}

@@ -3,21 +3,22 @@ use Rattle.std.proofs.Common.{◌≡◌, ℕ, ◌-◌, ◌≤◌, ◌++◌, [], 
 use Rattle.std.specs.Prelude.{eqb, min, Some, None, Option}
 use Rattle.std.specs.List.{AllByRecursion}
 use Rattle.vx_model.specs.Content.{Write}
-use Rattle.vx_model.specs.World.{World, Node, Hello, NetAck, DataAck, is_origin, updated, with_node}
-use Rattle.vx_model.specs.Steps.{burned, logged, told_of, written, half_written}
-use Rattle.vx_model.specs.Good.{IsMade, IsWorking}
-use Rattle.vx_model.specs.Admission.{Admitted, Held_by, Goes}
-use Rattle.vx_model.specs.Receiving.{Received, with_applied, applied_to}
-use Rattle.vx_model.specs.LinkForms.{plain_receiver}
+use Rattle.vx_history.specs.World.{World, Node, Hello, NetAck, DataAck, updated, with_node}
+use Rattle.vx_model.specs.Sites.{is_origin}
+use Rattle.vx_history.specs.Steps.{burned, logged, told_of, written, half_written}
+use Rattle.vx_history.specs.Good.{IsMade, IsWorking}
+use Rattle.vx_history.specs.Admission.{Admitted, Held_by, Goes}
+use Rattle.vx_history.specs.Receiving.{Received, with_applied, applied_to}
+use Rattle.vx_history.specs.LinkForms.{plain_receiver}
 use Rattle.vx_model.specs.declared.site.Mark.{Mark}
 use Rattle.vx_model.specs.declared.site.Mark.TheVariants.{Consistent}
 use Rattle.vx_model.specs.declared.site.SiteState.TheVariants.{Up, Down}
-use Rattle.vx_model.specs.declared.receiver.RState.{RState}
-use Rattle.vx_model.specs.declared.receiver.RAction.TheVariants.{Nothing as DoesNothing}
-use Rattle.vx_model.proofs.Updates.{by_test, at_place}
-use Rattle.vx_model.proofs.GoodLemmas.{good_written, good_half_written, up_is_made, prefix_push}
-use Rattle.vx_model.specs.Sends.{packets_of, greeting}
-use Rattle.vx_model.specs.Events
+use Rattle.vx_history.specs.declared.receiver.RState.{RState}
+use Rattle.vx_history.specs.declared.receiver.RAction.TheVariants.{Nothing as DoesNothing}
+use Rattle.vx_history.proofs.Updates.{by_test, at_place}
+use Rattle.vx_history.proofs.GoodLemmas.{good_written, good_half_written, up_is_made, prefix_push}
+use Rattle.vx_history.specs.Sends.{packets_of, greeting}
+use Rattle.vx_history.specs.Events
 use Rattle.vx_world.specs.Sound.{IsWhole, GoodPacket, IsBegun, KnownNode, Sound}
 use Rattle.vx_world.proofs.Lists.{prefix_refl, not_both}
 use Rattle.vx_world.proofs.Moves.{sound_sending, sound_with_links, sound_with_node, sound_with_history, good_later, at_changed}

@@ -4,18 +4,19 @@ use Rattle.std.specs.Prelude.{Option, Some, None}
 use Rattle.std.specs.List.{AllByRecursion}
 use Rattle.std.proofs.lemmas.List.{length-take, take-take}
 use Rattle.vx_model.specs.Content.{IsPrefixOf}
-use Rattle.vx_model.specs.World.{World, Node, is_origin, with_node}
-use Rattle.vx_model.specs.Steps.{burned, crashed, crash_left, stopped_by}
-use Rattle.vx_model.specs.Good.{IsMade}
+use Rattle.vx_history.specs.World.{World, Node, with_node}
+use Rattle.vx_model.specs.Sites.{is_origin}
+use Rattle.vx_history.specs.Steps.{burned, crashed, crash_left, stopped_by}
+use Rattle.vx_history.specs.Good.{IsMade}
 use Rattle.vx_model.specs.declared.site.Mark.{Mark}
 use Rattle.vx_model.specs.declared.site.Mark.TheVariants.{Consistent}
 use Rattle.vx_model.specs.declared.site.SiteState.{SiteState}
 use Rattle.vx_model.specs.declared.site.SiteState.TheVariants.{Bare, Up, Deported, Down}
-use Rattle.vx_model.proofs.Updates.{by_test, at_place}
-use Rattle.vx_model.proofs.GoodLemmas.{up_is_made}
-use Rattle.vx_model.proofs.CrashLemmas.{good_crashed, good_session_begun, good_stopped, kept_length}
-use Rattle.vx_model.specs.Sends.{with_links, sending, greeting}
-use Rattle.vx_model.specs.Events
+use Rattle.vx_history.proofs.Updates.{by_test, at_place}
+use Rattle.vx_history.proofs.GoodLemmas.{up_is_made}
+use Rattle.vx_history.proofs.CrashLemmas.{good_crashed, good_session_begun, good_stopped, kept_length}
+use Rattle.vx_history.specs.Sends.{with_links, sending, greeting}
+use Rattle.vx_history.specs.Events
 use Rattle.vx_world.specs.Sound.{GoodPacket, IsWhole, Sound}
 use Rattle.vx_world.proofs.Lists.{prefix_take}
 use Rattle.vx_world.proofs.Carry.{IsLater}

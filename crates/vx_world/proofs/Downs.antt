@@ -2,16 +2,17 @@
 use Rattle.std.proofs.Common.{◌≡◌, ◌∙◌, ℕ, ◌+◌, Bool, true, false, List, [], length, sym, ap, refl}
 use Rattle.std.specs.Prelude.{leb, ◌&&◌, if◌then◌else◌}
 use Rattle.std.proofs.lemmas.List.{append-nil}
-use Rattle.vx_model.specs.World.{World, Node, Link, Packet, is_origin, updated, line_updated, with_node}
-use Rattle.vx_model.specs.Sends.{with_links, sending, greeting}
-use Rattle.vx_model.specs.LinkForms.{plain_receiver}
-use Rattle.vx_model.specs.Steps.{crashed, crash_left, kept_by, recovered}
-use Rattle.vx_model.specs.Receiving.{marked_by, site_restarted, is_log_phase}
-use Rattle.vx_model.specs.Events.{lost_touch, crash_world, crash_at, come_back, restarted_link, recovery_greeting, recovered_at}
+use Rattle.vx_history.specs.World.{World, Node, Link, Packet, updated, line_updated, with_node}
+use Rattle.vx_model.specs.Sites.{is_origin}
+use Rattle.vx_history.specs.Sends.{with_links, sending, greeting}
+use Rattle.vx_history.specs.LinkForms.{plain_receiver}
+use Rattle.vx_history.specs.Steps.{crashed, crash_left, kept_by, recovered}
+use Rattle.vx_history.specs.Receiving.{marked_by, site_restarted, is_log_phase}
+use Rattle.vx_history.specs.Events.{lost_touch, crash_world, crash_at, come_back, restarted_link, recovery_greeting, recovered_at}
 use Rattle.vx_model.specs.declared.site.Mark.{Mark}
 use Rattle.vx_model.specs.declared.site.Mark.TheVariants.{Consistent}
-use Rattle.vx_model.specs.declared.receiver.RState.{RState}
-use Rattle.vx_model.proofs.Updates.{at_place}
+use Rattle.vx_history.specs.declared.receiver.RState.{RState}
+use Rattle.vx_history.proofs.Updates.{at_place}
 
 -- ## Crashes
 

@@ -1,18 +1,18 @@
 -- What is sent behind a change of a link or of a site.
 use Rattle.std.proofs.Common.{◌≡◌, ◌∙◌, ℕ, List, [], sym, ap, append-nil}
 use Rattle.vx_model.specs.Content.{Write}
-use Rattle.vx_model.specs.World.{Node, Packet, World, with_node}
-use Rattle.vx_model.specs.Refusals.{says}
-use Rattle.vx_model.specs.Sends.{with_link, sending, sent_by}
-use Rattle.vx_model.specs.LinkForms.{with_plain}
-use Rattle.vx_model.specs.Events.{link_step, link_event, greeting_back, with_write, from_memory, update_taken}
-use Rattle.vx_model.specs.declared.event.Said.TheVariants.{Taken}
-use Rattle.vx_model.specs.declared.sender.Action.{Action}
-use Rattle.vx_model.specs.declared.sender.SEvent.{SEvent}
-use Rattle.vx_model.specs.declared.sender.SEvent.TheVariants.{Connect}
-use Rattle.vx_model.specs.declared.receiver.RAction.{RAction}
-use Rattle.vx_model.specs.declared.receiver.RAction.TheVariants.{Take}
-use Rattle.vx_model.proofs.Updates.{at_place}
+use Rattle.vx_history.specs.World.{Node, Packet, World, with_node}
+use Rattle.vx_history.specs.Refusals.{says}
+use Rattle.vx_history.specs.Sends.{with_link, sending, sent_by}
+use Rattle.vx_history.specs.LinkForms.{with_plain}
+use Rattle.vx_history.specs.Events.{link_step, link_event, greeting_back, with_write, from_memory, update_taken}
+use Rattle.vx_history.specs.declared.event.Said.TheVariants.{Taken}
+use Rattle.vx_history.specs.declared.sender.Action.{Action}
+use Rattle.vx_history.specs.declared.sender.SEvent.{SEvent}
+use Rattle.vx_history.specs.declared.sender.SEvent.TheVariants.{Connect}
+use Rattle.vx_history.specs.declared.receiver.RAction.{RAction}
+use Rattle.vx_history.specs.declared.receiver.RAction.TheVariants.{Take}
+use Rattle.vx_history.proofs.Updates.{at_place}
 
 -- nothing is sent
 pub sending_none : (w : World) → sending w [] ≡ w

@@ -3,28 +3,30 @@ use Rattle.std.proofs.Common.{◌≡◌, ℕ, ◌+◌, ◌≤◌, [], ◌∷◌,
 use Rattle.std.specs.Prelude.{ltb, if◌then◌else◌, eqb, min, max, slice_get, Some, None, Option, ◌&&◌, ◌||◌, not, zero, suc}
 use Rattle.std.specs.List.{AllByRecursion}
 use Rattle.vx_model.specs.Content.{Write, IsNumber, IsPrefixOf}
-use Rattle.vx_model.specs.World.{World, Node, Link, Packet, Message, Hello, Update, NetAck, DataAck, is_origin, same_line, with_node}
-use Rattle.vx_model.specs.Good.{IsMade}
-use Rattle.vx_model.specs.Admission.{is_live}
-use Rattle.vx_model.specs.Sending.{Sent, sent_step, by_log, pumped_up_to, with_nothing}
-use Rattle.vx_model.specs.Receiving.{Received, takes, repeats, with_next, phase_takes}
-use Rattle.vx_model.specs.LinkForms.{plain_link, with_plain, plain_receiver}
+use Rattle.vx_history.specs.World.{World, Node, Link, Packet, Message, Hello, Update, NetAck, DataAck, with_node}
+use Rattle.vx_model.specs.Sites.{is_origin, same_line}
+use Rattle.vx_history.specs.Good.{IsMade}
+use Rattle.vx_history.specs.Admission.{is_live}
+use Rattle.vx_history.specs.Sending.{Sent, sent_step, by_log, pumped_up_to, with_nothing}
+use Rattle.vx_history.specs.Receiving.{Received, takes, repeats, with_next, phase_takes}
+use Rattle.vx_history.specs.LinkForms.{plain_link, with_plain, plain_receiver}
 use Rattle.vx_model.specs.declared.history.Line.{Line}
 use Rattle.vx_model.specs.declared.site.SiteState.TheVariants.{Up}
 use Rattle.vx_model.specs.declared.link.Link.{Link as PlainLink}
-use Rattle.vx_model.specs.declared.sender.SEvent.{SEvent}
-use Rattle.vx_model.specs.declared.sender.SEvent.TheVariants.{Pump as PumpLink, Connect as ConnectLink, Hello as HearHello, NetAck as HearNetAck, DataAck as HearDataAck}
-use Rattle.vx_model.specs.declared.sender.Action.TheVariants.{Updates}
-use Rattle.vx_model.specs.declared.receiver.RState.{RState}
-use Rattle.vx_model.specs.declared.receiver.RAction.TheVariants.{Ignored as Ignores, IgnoredAck, Take}
+use Rattle.vx_history.specs.declared.sender.SEvent.{SEvent}
+use Rattle.vx_history.specs.declared.sender.SEvent.TheVariants.{Pump as PumpLink, Connect as ConnectLink, Hello as HearHello, NetAck as HearNetAck, DataAck as HearDataAck}
+use Rattle.vx_history.specs.declared.sender.Action.TheVariants.{Updates}
+use Rattle.vx_history.specs.declared.receiver.RState.{RState}
+use Rattle.vx_history.specs.declared.receiver.RAction.TheVariants.{Ignored as Ignores, IgnoredAck, Take}
 use Rattle.vx_model.specs.declared.no.No.TheVariants.{Unknown, Unconfirmed}
 use Rattle.vx_model.specs.declared.no.Named.TheVariants.{Number as ByNumber}
-use Rattle.vx_model.proofs.Updates.{by_test, and_left, and_right, same_line_equal, at_place, eqb_equal}
-use Rattle.vx_model.proofs.GoodLemmas.{up_is_made}
-use Rattle.vx_model.specs.declared.event.Said.TheVariants.{Ignored as IsIgnored, Pending, DoneAt}
-use Rattle.vx_model.specs.Sends.{is_linked, with_link, sending, promising, packets_of, greeting, sent_by}
-use Rattle.vx_model.specs.Refusals.{Outcome, says, unless, is_running, is_up, keeps_links, some_below, is_unconfirmed, holds_back}
-use Rattle.vx_model.specs.Events
+use Rattle.vx_history.proofs.Updates.{by_test, and_left, and_right, same_line_equal, at_place, eqb_equal}
+use Rattle.vx_history.proofs.GoodLemmas.{up_is_made}
+use Rattle.vx_history.specs.declared.event.Said.TheVariants.{Ignored as IsIgnored, Pending, DoneAt}
+use Rattle.vx_history.specs.Sends.{is_linked, with_link, sending, promising, packets_of, greeting, sent_by}
+use Rattle.vx_history.specs.Refusals.{Outcome, says, unless, is_running, keeps_links, some_below, is_unconfirmed, holds_back}
+use Rattle.vx_model.specs.Sites.{is_up}
+use Rattle.vx_history.specs.Events
 use Rattle.vx_world.specs.Sound.{GoodLink, GoodMessage, GoodPacket, IsStranger, StrangerSays, Sound}
 use Rattle.vx_world.proofs.Lists.{prefix_refl, each_found, not_true, not_both}
 use Rattle.vx_world.proofs.Moves.{sound_sending, sound_promising, sound_with_link, sound_with_node, good_later, stranger_of_links, still_linked}

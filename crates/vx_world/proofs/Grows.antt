@@ -4,37 +4,41 @@ use Rattle.std.specs.Prelude.{leb, not, if◌then◌else◌, Option, Some, None,
 use Rattle.std.proofs.lemmas.List.{take-take}
 use Rattle.vx_model.specs.Content.{Write, IsPrefixOf, blocks_in}
 use Rattle.vx_model.specs.Answer.{is_too_large}
-use Rattle.vx_model.specs.Admission.{Admitted, Held_by, Goes}
-use Rattle.vx_model.specs.Receiving.{Received, received_step}
-use Rattle.vx_model.specs.LinkForms.{plain_receiver, with_plain}
-use Rattle.vx_model.specs.World.{World, Node, Link as LinkRecord, History, Packet, Promise, Message, Hello, Update, NetAck, DataAck, is_origin, with_node, with_history, bare_site}
-use Rattle.vx_model.specs.Steps.{burned, logged, told_of, written, half_written, crashed, crash_left, site_made, raw_made, raw_set, raw_history, stopped_by}
-use Rattle.vx_model.specs.Good.{IsMade}
+use Rattle.vx_history.specs.Admission.{Admitted, Held_by, Goes}
+use Rattle.vx_history.specs.Receiving.{Received, received_step}
+use Rattle.vx_history.specs.LinkForms.{plain_receiver, with_plain}
+use Rattle.vx_history.specs.World.{World, Node, Link as LinkRecord, History, Packet, Promise, Message, Hello, Update, NetAck, DataAck, with_node, with_history, bare_site}
+use Rattle.vx_model.specs.Sites.{is_origin}
+use Rattle.vx_history.specs.Steps.{burned, logged, told_of, written, half_written, crashed, crash_left, site_made, raw_made, raw_set, raw_history, stopped_by}
+use Rattle.vx_history.specs.Good.{IsMade}
 use Rattle.vx_model.specs.declared.link.SyncMode.{SyncMode}
 use Rattle.vx_model.specs.declared.link.Prot.TheVariants.{Fail as FailsWhenFull}
 use Rattle.vx_model.specs.declared.site.Mark.TheVariants.{Consistent}
 use Rattle.vx_model.specs.declared.site.SiteState.{SiteState}
 use Rattle.vx_model.specs.declared.site.SiteState.TheVariants.{Bare, Up, Deported, Down}
-use Rattle.vx_model.specs.declared.sender.SEvent.{SEvent}
-use Rattle.vx_model.specs.declared.sender.SEvent.TheVariants.{Connect as ConnectLink, Pump as PumpLink, Tick as TickLink, Cut as CutLink, Pause as PauseLink, Resume as ResumeLink, Hello as HearHello, NetAck as HearNetAck, DataAck as HearDataAck}
-use Rattle.vx_model.specs.declared.receiver.REvent.TheVariants.{Update as HearUpdate, Applied}
-use Rattle.vx_model.specs.declared.receiver.RState.{RState}
-use Rattle.vx_model.specs.declared.receiver.RAction.{RAction}
-use Rattle.vx_model.specs.declared.receiver.RAction.TheVariants.{Nothing as DoesNothing, Ignored as Ignores, IgnoredAck, Take, DataAck as AcksFromDisk}
+use Rattle.vx_history.specs.declared.sender.SEvent.{SEvent}
+use Rattle.vx_history.specs.declared.sender.SEvent.TheVariants.{Connect as ConnectLink, Pump as PumpLink, Tick as TickLink, Cut as CutLink, Pause as PauseLink, Resume as ResumeLink, Hello as HearHello, NetAck as HearNetAck, DataAck as HearDataAck}
+use Rattle.vx_history.specs.declared.receiver.REvent.TheVariants.{Update as HearUpdate, Applied}
+use Rattle.vx_history.specs.declared.receiver.RState.{RState}
+use Rattle.vx_history.specs.declared.receiver.RAction.{RAction}
+use Rattle.vx_history.specs.declared.receiver.RAction.TheVariants.{Nothing as DoesNothing, Ignored as Ignores, IgnoredAck, Take, DataAck as AcksFromDisk}
 use Rattle.vx_model.specs.declared.no.No.TheVariants.{Size, Role as WrongRole, Down as NotUp, Exists, Limit, Unknown, Unconfirmed}
 use Rattle.vx_model.specs.declared.no.Named.TheVariants.{Number as ByNumber}
 use Rattle.vx_model.specs.declared.no.Counted.TheVariants.{Sites, Disks, Links}
-use Rattle.vx_model.proofs.Updates.{all_updated, all_lines, by_test}
-use Rattle.vx_model.proofs.GoodLemmas.{up_is_made}
-use Rattle.vx_model.specs.declared.event.LinkPart.{LinkPart}
-use Rattle.vx_model.specs.declared.event.LinkPart.TheVariants.{Joins, Made, Marked, Opened}
-use Rattle.vx_model.specs.declared.event.Event.{Event}
-use Rattle.vx_model.specs.declared.event.Event.TheVariants.{Site, Raw, Write as WriteAt, Read, Apply, Pump, Tick, Deliver, Connect, Cut, Pause, Resume, Wait, Link, Set, Crash, Recover, Fault}
-use Rattle.vx_model.specs.declared.event.Said.TheVariants.{Ignored as IsIgnored, Pending, DoneAt}
-use Rattle.vx_model.specs.Refusals.{Outcome, says, unless, at_work, on_link, is_up, is_bare, is_raw_shape, keeps_links, is_primary, is_running, follows, some_below, is_unconfirmed, holds_back, may_link, agree, rings_fit, links_of, most_links, most_sites, most_disks}
-use Rattle.vx_model.specs.Events
-use Rattle.vx_model.specs.Step.{done, step, run, link_part}
-use Rattle.vx_model.specs.Sends.{is_linked, with_link, with_links, sending, promising, sent_by}
+use Rattle.vx_history.proofs.Updates.{all_updated, all_lines, by_test}
+use Rattle.vx_history.proofs.GoodLemmas.{up_is_made}
+use Rattle.vx_history.specs.declared.event.LinkPart.{LinkPart}
+use Rattle.vx_history.specs.declared.event.LinkPart.TheVariants.{Joins, Made, Marked, Opened}
+use Rattle.vx_history.specs.declared.event.Event.{Event}
+use Rattle.vx_history.specs.declared.event.Event.TheVariants.{Site, Raw, Write as WriteAt, Read, Apply, Pump, Tick, Deliver, Connect, Cut, Pause, Resume, Wait, Link, Set, Crash, Recover, Fault}
+use Rattle.vx_history.specs.declared.event.Said.TheVariants.{Ignored as IsIgnored, Pending, DoneAt}
+use Rattle.vx_history.specs.Refusals.{Outcome, says, unless, at_work, on_link, keeps_links, is_primary, is_running, follows, some_below, is_unconfirmed, holds_back, may_link, agree, rings_fit, links_of}
+use Rattle.vx_model.specs.Sites.{is_up, is_bare}
+use Rattle.vx_model.specs.Sizes.{is_raw_shape}
+use Rattle.vx_history.specs.Events
+use Rattle.vx_history.specs.Step.{done, step, run, link_part}
+use Rattle.vx_history.specs.Sends.{is_linked, with_link, with_links, sending, promising, sent_by}
+use Rattle.vx_model.specs.declared.limits.TheConstants.{MOST_DISKS, MOST_LINKS, MOST_SITES}
 use Rattle.vx_world.specs.Sound.{Sound}
 use Rattle.vx_world.specs.Grown.{Grown}
 use Rattle.vx_world.proofs.Lists.{prefix_refl, prefix_trans, prefix_more, prefix_take, not_false}
@@ -208,10 +212,10 @@ link_part_grows : (part : LinkPart) (w : World) (p q : ℕ) (sync : SyncMode) �
 link_part_grows Joins w p q sync up =
     let o : Outcome = done (with_node w q (Events.joined (w.nodes p) p (w.nodes q))) in
     let fits : Outcome = unless (not (agree (w.nodes p).volumes (w.nodes q).volumes && rings_fit (w.nodes p) (w.nodes q))) Size w o in
-    let few : Outcome = unless (leb most_links (links_of w p)) (Limit Links most_links) w fits in
+    let few : Outcome = unless (leb MOST_LINKS (links_of w p)) (Limit Links MOST_LINKS) w fits in
     Guards.unless_holds (Grown w) (not (may_link w p q)) WrongRole w (unless (is_linked (w.links p q)) (Exists (w.nodes q).name) w few) (grown_same w)
     (λ _. Guards.unless_holds (Grown w) (is_linked (w.links p q)) (Exists (w.nodes q).name) w few (grown_same w)
-    (λ _. Guards.unless_holds (Grown w) (leb most_links (links_of w p)) (Limit Links most_links) w fits (grown_same w)
+    (λ _. Guards.unless_holds (Grown w) (leb MOST_LINKS (links_of w p)) (Limit Links MOST_LINKS) w fits (grown_same w)
     (λ _. Guards.unless_holds (Grown w) (not (agree (w.nodes p).volumes (w.nodes q).volumes && rings_fit (w.nodes p) (w.nodes q))) Size w o (grown_same w)
     (λ _. grown_node w q (Events.joined (w.nodes p) p (w.nodes q)) (λ made. made)))))
 link_part_grows Made w p q sync up =
@@ -233,10 +237,10 @@ pub step_grows : (w : World) (e : Event) → Sound w → Leaves w (step w e)
 step_grows w (Site name disks blocks) s =
     let o : Outcome = done (site_made w name disks blocks) in
     let few : Outcome = unless (eqb disks 0 || ltb blocks 8) Size w o in
-    let some : Outcome = unless (ltb most_disks disks) (Limit Disks most_disks) w few in
-    Guards.unless_holds (Grown w) (some_below w.sites (λ k. bytes_eq (w.nodes k).name name)) (Exists name) w (unless (leb most_sites w.sites) (Limit Sites most_sites) w some) (grown_same w)
-    (λ _. Guards.unless_holds (Grown w) (leb most_sites w.sites) (Limit Sites most_sites) w some (grown_same w)
-    (λ _. Guards.unless_holds (Grown w) (ltb most_disks disks) (Limit Disks most_disks) w few (grown_same w)
+    let some : Outcome = unless (ltb MOST_DISKS disks) (Limit Disks MOST_DISKS) w few in
+    Guards.unless_holds (Grown w) (some_below w.sites (λ k. bytes_eq (w.nodes k).name name)) (Exists name) w (unless (leb MOST_SITES w.sites) (Limit Sites MOST_SITES) w some) (grown_same w)
+    (λ _. Guards.unless_holds (Grown w) (leb MOST_SITES w.sites) (Limit Sites MOST_SITES) w some (grown_same w)
+    (λ _. Guards.unless_holds (Grown w) (ltb MOST_DISKS disks) (Limit Disks MOST_DISKS) w few (grown_same w)
     (λ _. Guards.unless_holds (Grown w) (eqb disks 0 || ltb blocks 8) Size w o (grown_same w) (λ _. site_grows w name disks blocks s))))
 step_grows w (Raw q) s =
     let o : Outcome = done (raw_made w q) in

@@ -2,7 +2,8 @@
 use Rattle.std.proofs.Common.{◌≡◌, ℕ, ◌≤◌, Bool, true, false, refl, arith, length}
 use Rattle.std.specs.Prelude.{not, ◌&&◌, ◌||◌, leb, Option, Some, None}
 use Rattle.std.proofs.lemmas.Bool.Decides.{nat_tests}
-use Rattle.vx_model.specs.World.{World, Link, is_origin}
+use Rattle.vx_history.specs.World.{World, Link}
+use Rattle.vx_model.specs.Sites.{is_origin}
 use Rattle.vx_model.specs.declared.site.Role.{Role}
 use Rattle.vx_model.specs.declared.site.Role.TheVariants.{Primary, Secondary, Handing, Bunker}
 use Rattle.vx_model.specs.declared.site.SiteState.{SiteState}
@@ -12,9 +13,10 @@ use Rattle.vx_model.specs.declared.no.No.TheVariants.{Unknown, Role as WrongRole
 use Rattle.vx_model.specs.declared.no.Named.TheVariants.{Number as ByNumber}
 use Rattle.vx_model.specs.declared.no.SiteName.TheVariants.{Number as SiteNumber}
 use Rattle.vx_model.specs.Answer.{is_wrong_count, is_past}
-use Rattle.vx_model.proofs.Updates.{by_test, and_left, and_right}
-use Rattle.vx_model.specs.Sends.{is_linked}
-use Rattle.vx_model.specs.Refusals.{Outcome, refused, unless, unless_halted, is_up, is_bare, is_primary, at_site, at_work, both_at_work, on_link_if, when_live, on_volume}
+use Rattle.vx_history.proofs.Updates.{by_test, and_left, and_right}
+use Rattle.vx_history.specs.Sends.{is_linked}
+use Rattle.vx_history.specs.Refusals.{Outcome, refused, unless, unless_halted, is_primary, at_site, at_work, both_at_work, on_link_if, when_live, on_volume}
+use Rattle.vx_model.specs.Sites.{is_up, is_bare}
 use Rattle.vx_world.proofs.Lists.{not_false}
 
 pub up_is : (s : SiteState) → is_up s ≡ true → s ≡ Up

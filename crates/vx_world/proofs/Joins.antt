@@ -3,10 +3,12 @@ use Rattle.std.proofs.Common.{◌≡◌, ℕ, ◌+◌, ◌≤◌, ◌<◌, List,
 use Rattle.std.specs.Prelude.{if◌then◌else◌, eqb, leb, not, ◌&&◌, ◌||◌, zero, suc, bytes_eq, ltb}
 use Rattle.std.proofs.lemmas.Bool.{eq-eqb}
 use Rattle.std.proofs.lemmas.Bool.Decides.{nat_tests}
-use Rattle.vx_model.specs.World.{World, Node, History, is_origin, same_line, line_updated, with_node, bare_site}
-use Rattle.vx_model.specs.Receiving.{phase_takes}
-use Rattle.vx_model.specs.Steps.{site_made, raw_made, raw_set, raw_history, first_line}
-use Rattle.vx_model.specs.Good.{IsMade}
+use Rattle.vx_history.specs.World.{World, Node, History, line_updated, with_node, bare_site}
+use Rattle.vx_model.specs.Sites.{is_origin, same_line}
+use Rattle.vx_history.specs.Receiving.{phase_takes}
+use Rattle.vx_history.specs.Steps.{site_made, raw_made, raw_set, raw_history}
+use Rattle.vx_model.specs.Sites.{first_line}
+use Rattle.vx_history.specs.Good.{IsMade}
 use Rattle.vx_model.specs.declared.history.Line.{Line}
 use Rattle.vx_model.specs.declared.site.Mark.{Mark}
 use Rattle.vx_model.specs.declared.site.Mark.TheVariants.{Consistent, Inconsistent}
@@ -14,14 +16,15 @@ use Rattle.vx_model.specs.declared.site.SiteState.TheVariants.{Bare, Up}
 use Rattle.vx_model.specs.declared.link.SyncMode.{SyncMode}
 use Rattle.vx_model.specs.declared.no.No.TheVariants.{Exists, Size, Role as WrongRole, Limit}
 use Rattle.vx_model.specs.declared.no.Counted.TheVariants.{Sites, Disks, Links}
-use Rattle.vx_model.proofs.Updates.{by_test, and_left, and_right, same_line_equal}
-use Rattle.vx_model.proofs.GoodLemmas.{good_site, good_raw, good_stays, made_is_given, up_is_made}
-use Rattle.vx_model.specs.declared.event.LinkPart.{LinkPart}
-use Rattle.vx_model.specs.declared.event.LinkPart.TheVariants.{Joins, Made, Marked, Opened}
-use Rattle.vx_model.specs.Sends.{is_linked, with_link}
-use Rattle.vx_model.specs.Refusals.{Outcome, unless, some_below, is_primary, is_consistent, is_stale, is_empty, is_fresh, may_link, may_join, may_be_site, agree, rings_fit, links_of, most_links, most_sites, most_disks, follows}
-use Rattle.vx_model.specs.Events.{joined, new_link, opened}
-use Rattle.vx_model.specs.Step.{done, link_part}
+use Rattle.vx_history.proofs.Updates.{by_test, and_left, and_right, same_line_equal}
+use Rattle.vx_history.proofs.GoodLemmas.{good_site, good_raw, good_stays, made_is_given, up_is_made}
+use Rattle.vx_history.specs.declared.event.LinkPart.{LinkPart}
+use Rattle.vx_history.specs.declared.event.LinkPart.TheVariants.{Joins, Made, Marked, Opened}
+use Rattle.vx_history.specs.Sends.{is_linked, with_link}
+use Rattle.vx_history.specs.Refusals.{Outcome, unless, some_below, is_primary, is_consistent, is_stale, is_empty, is_fresh, may_link, may_join, may_be_site, agree, rings_fit, links_of, follows}
+use Rattle.vx_history.specs.Events.{joined, new_link, opened}
+use Rattle.vx_history.specs.Step.{done, link_part}
+use Rattle.vx_model.specs.declared.limits.TheConstants.{MOST_DISKS, MOST_LINKS, MOST_SITES}
 use Rattle.vx_world.specs.Sound.{Sound}
 use Rattle.vx_world.proofs.Lists.{not_true, not_false, not_both, or_left, or_right}
 use Rattle.vx_world.proofs.Moves.{sound_with_node, sound_with_link, sound_joining, sound_founding, good_later, given}
@@ -45,10 +48,10 @@ pub may_be_site_keeps : (w : World) (name : List ℕ) (disks blocks : ℕ) → S
 may_be_site_keeps w name disks blocks s =
     let o : Outcome = done (site_made w name disks blocks) in
     let few : Outcome = unless (eqb disks 0 || ltb blocks 8) Size w o in
-    let some : Outcome = unless (ltb most_disks disks) (Limit Disks most_disks) w few in
-    unless_keeps (some_below w.sites (λ k. bytes_eq (w.nodes k).name name)) (Exists name) w (unless (leb most_sites w.sites) (Limit Sites most_sites) w some) s
-    (λ _. unless_keeps (leb most_sites w.sites) (Limit Sites most_sites) w some s
-    (λ _. unless_keeps (ltb most_disks disks) (Limit Disks most_disks) w few s
+    let some : Outcome = unless (ltb MOST_DISKS disks) (Limit Disks MOST_DISKS) w few in
+    unless_keeps (some_below w.sites (λ k. bytes_eq (w.nodes k).name name)) (Exists name) w (unless (leb MOST_SITES w.sites) (Limit Sites MOST_SITES) w some) s
+    (λ _. unless_keeps (leb MOST_SITES w.sites) (Limit Sites MOST_SITES) w some s
+    (λ _. unless_keeps (ltb MOST_DISKS disks) (Limit Disks MOST_DISKS) w few s
     (λ _. unless_keeps (eqb disks 0 || ltb blocks 8) Size w o s
     (λ _. site_keeps w name disks blocks s))))
 
@@ -111,10 +114,10 @@ may_join_keeps : (w : World) (p q : ℕ) → Sound w → (w.nodes p).state ≡ U
 may_join_keeps w p q s up_p up_q =
     let o : Outcome = done (with_node w q (joined (w.nodes p) p (w.nodes q))) in
     let fits : Outcome = unless (not (agree (w.nodes p).volumes (w.nodes q).volumes && rings_fit (w.nodes p) (w.nodes q))) Size w o in
-    let few : Outcome = unless (leb most_links (links_of w p)) (Limit Links most_links) w fits in
+    let few : Outcome = unless (leb MOST_LINKS (links_of w p)) (Limit Links MOST_LINKS) w fits in
     unless_keeps (not (may_link w p q)) WrongRole w (unless (is_linked (w.links p q)) (Exists (w.nodes q).name) w few) s
     (λ may. unless_keeps (is_linked (w.links p q)) (Exists (w.nodes q).name) w few s
-    (λ unlinked. unless_keeps (leb most_links (links_of w p)) (Limit Links most_links) w fits s
+    (λ unlinked. unless_keeps (leb MOST_LINKS (links_of w p)) (Limit Links MOST_LINKS) w fits s
     (λ _. unless_keeps (not (agree (w.nodes p).volumes (w.nodes q).volumes && rings_fit (w.nodes p) (w.nodes q))) Size w o s
     (λ _. joins (not_false (may_link w p q) may) unlinked))))
   where

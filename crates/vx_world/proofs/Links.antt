@@ -6,25 +6,26 @@ use Rattle.std.proofs.lemmas.Bool.{leb-true}
 use Rattle.std.proofs.lemmas.Bool.Decides.{nat_tests}
 use Rattle.std.proofs.lemmas.List.{take-take}
 use Rattle.vx_model.specs.Content.{Write, IsNumber, IsPrefixOf}
-use Rattle.vx_model.specs.World.{Node, Link, History, Packet, Message, Hello, Update, NetAck, DataAck, Durable, InSession, is_origin, same_line}
-use Rattle.vx_model.specs.Good.{GoodNode}
-use Rattle.vx_model.specs.Admission.{changed_mode, is_fail}
-use Rattle.vx_model.specs.Sending.{Sent, sent_step, greeted, greeted_anew, mode_overtaken, phase_overtaken, memory_acknowledged, disk_acknowledged, mode_restarted, by_log, with_taken, with_ignored, if_on_line}
-use Rattle.vx_model.specs.LinkForms.{plain_link, with_plain}
-use Rattle.vx_model.specs.declared.admission.Change.{Change}
-use Rattle.vx_model.specs.declared.admission.Change.TheVariants.{Stays, ToStale, ToDcm}
+use Rattle.vx_history.specs.World.{Node, Link, History, Packet, Message, Hello, Update, NetAck, DataAck, Durable, InSession}
+use Rattle.vx_model.specs.Sites.{is_origin, same_line}
+use Rattle.vx_history.specs.Good.{GoodNode}
+use Rattle.vx_history.specs.Admission.{changed_mode, is_fail}
+use Rattle.vx_history.specs.Sending.{Sent, sent_step, greeted, greeted_anew, mode_overtaken, phase_overtaken, memory_acknowledged, disk_acknowledged, mode_restarted, by_log, with_taken, with_ignored, if_on_line}
+use Rattle.vx_history.specs.LinkForms.{plain_link, with_plain}
+use Rattle.vx_history.specs.declared.admission.Change.{Change}
+use Rattle.vx_history.specs.declared.admission.Change.TheVariants.{Stays, ToStale, ToDcm}
 use Rattle.vx_model.specs.declared.history.Line.{Line}
 use Rattle.vx_model.specs.declared.link.Link.{Link as PlainLink}
 use Rattle.vx_model.specs.declared.link.Mode.{Mode}
 use Rattle.vx_model.specs.declared.link.Mode.TheVariants.{Log, Dcm, Replay, Fork, Stale}
 use Rattle.vx_model.specs.declared.link.SyncMode.{SyncMode}
 use Rattle.vx_model.specs.declared.link.SyncMode.TheVariants.{Off, Override, Fail}
-use Rattle.vx_model.specs.declared.sender.SEvent.TheVariants.{Hello as HearHello, NetAck as HearNetAck, DataAck as HearDataAck}
-use Rattle.vx_model.proofs.Updates.{by_test, and_left, and_right, same_line_equal}
+use Rattle.vx_history.specs.declared.sender.SEvent.TheVariants.{Hello as HearHello, NetAck as HearNetAck, DataAck as HearDataAck}
+use Rattle.vx_history.proofs.Updates.{by_test, and_left, and_right, same_line_equal}
 use Rattle.vx_world.specs.Sound.{IsPresent, IsFollowed, GoodLink, GoodMessage, GoodPromise, IsKept, IsStranger, IsBegun}
-use Rattle.vx_model.specs.Sends.{is_linked, packets_of, packet, updates, between}
-use Rattle.vx_model.specs.Refusals.{holds_back, is_unconfirmed, some_below, goes, waits}
-use Rattle.vx_model.specs.Events.{facts_of, restarted_link, lost_touch, link_after, promise_of, promises_of}
+use Rattle.vx_history.specs.Sends.{is_linked, packets_of, packet, updates, between}
+use Rattle.vx_history.specs.Refusals.{holds_back, is_unconfirmed, some_below, goes, waits}
+use Rattle.vx_history.specs.Events.{facts_of, restarted_link, lost_touch, link_after, promise_of, promises_of}
 use Rattle.vx_world.proofs.Lists.{prefix_get, prefix_take, drop_get, or_left, or_right, each_append, each_replicate, prefix_trans, refuted}
 
 -- a link that differs in nothing that is said of it

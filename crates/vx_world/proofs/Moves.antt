@@ -3,13 +3,14 @@ use Rattle.std.proofs.Common.{◌≡◌, ℕ, ◌≤◌, List, ◌++◌, length,
 use Rattle.std.specs.Prelude.{eqb}
 use Rattle.std.specs.List.{AllByRecursion}
 use Rattle.vx_model.specs.Content.{Write, IsPrefixOf}
-use Rattle.vx_model.specs.World.{World, Node, Link, History, Packet, Promise, Message, Surety, Hello, Update, NetAck, DataAck, Durable, InSession, with_node, with_history, updated, line_updated, is_origin}
-use Rattle.vx_model.specs.Good.{GoodNode, Good, IsMade}
+use Rattle.vx_history.specs.World.{World, Node, Link, History, Packet, Promise, Message, Surety, Hello, Update, NetAck, DataAck, Durable, InSession, with_node, with_history, updated, line_updated}
+use Rattle.vx_model.specs.Sites.{is_origin}
+use Rattle.vx_history.specs.Good.{GoodNode, Good, IsMade}
 use Rattle.vx_model.specs.declared.history.Line.{Line}
 use Rattle.vx_model.specs.declared.site.SiteState.TheVariants.{Bare}
-use Rattle.vx_model.proofs.Updates.{all_updated, all_lines, by_test, eqb_equal, at_place}
-use Rattle.vx_model.proofs.GoodLemmas.{good_stays}
-use Rattle.vx_model.specs.Sends.{is_linked, with_links, with_link, sending, promising}
+use Rattle.vx_history.proofs.Updates.{all_updated, all_lines, by_test, eqb_equal, at_place}
+use Rattle.vx_history.proofs.GoodLemmas.{good_stays}
+use Rattle.vx_history.specs.Sends.{is_linked, with_links, with_link, sending, promising}
 use Rattle.vx_world.specs.Sound.{IsWhole, IsFed, GoodLink, GoodMessage, GoodPacket, GoodPromise, IsKept, IsStranger, StrangerSays, IsBegun, KnownNode, Sound}
 use Rattle.vx_world.proofs.Lists.{each_append, each_weaker, prefix_refl, refuted, not_both}
 use Rattle.vx_world.proofs.Carry.{IsLater, later_same, link_later, says_later, packets_later, promises_later}

@@ -3,19 +3,20 @@ use Rattle.std.proofs.Common.{◌≡◌, ℕ, ◌+◌, ◌≤◌, ◌++◌, List
 use Rattle.std.specs.Prelude.{Option, Some, None, ◌&&◌, leb}
 use Rattle.std.proofs.lemmas.List.{take-take, take-append-le, take-append-drop}
 use Rattle.vx_model.specs.Content.{Content, Write, fold_writes, IsNumber}
-use Rattle.vx_model.specs.World.{Node, History, Fuse, is_origin}
-use Rattle.vx_model.specs.Steps.{burned, logged, crashed, recovered}
-use Rattle.vx_model.specs.Good.{GoodNode, IsMade}
-use Rattle.vx_model.specs.Receiving.{marked_by, is_log_phase}
-use Rattle.vx_model.specs.LinkForms.{plain_receiver}
+use Rattle.vx_history.specs.World.{Node, History, Fuse}
+use Rattle.vx_model.specs.Sites.{is_origin}
+use Rattle.vx_history.specs.Steps.{burned, logged, crashed, recovered}
+use Rattle.vx_history.specs.Good.{GoodNode, IsMade}
+use Rattle.vx_history.specs.Receiving.{marked_by, is_log_phase}
+use Rattle.vx_history.specs.LinkForms.{plain_receiver}
 use Rattle.vx_model.specs.declared.site.Mark.{Mark}
 use Rattle.vx_model.specs.declared.site.Mark.TheVariants.{Consistent}
 use Rattle.vx_model.specs.declared.site.SiteState.TheVariants.{Up, Down}
-use Rattle.vx_model.specs.declared.receiver.RState.{RState}
-use Rattle.vx_model.proofs.Updates.{by_test}
-use Rattle.vx_model.proofs.GoodLemmas.{fold_append}
-use Rattle.vx_model.proofs.CrashLemmas.{kept_length, kept_content}
-use Rattle.vx_model.specs.Events.{applied, joined, with_write, come_back, kept_of}
+use Rattle.vx_history.specs.declared.receiver.RState.{RState}
+use Rattle.vx_history.proofs.Updates.{by_test}
+use Rattle.vx_history.proofs.GoodLemmas.{fold_append}
+use Rattle.vx_history.proofs.CrashLemmas.{kept_length, kept_content}
+use Rattle.vx_history.specs.Events.{applied, joined, with_write, come_back, kept_of}
 use Rattle.vx_world.proofs.Lists.{prefix_none, prefix_next, prefix_trans, prefix_take, not_both}
 use Rattle.vx_world.proofs.Carry.{IsLater}
 

@@ -1,19 +1,21 @@
 -- Two sites and the link from one to the other, through the events of settling.
 use Rattle.std.proofs.Common.{◌≡◌, ℕ, List, ◌++◌, refl, ap, ◌∙◌, subst, Bool, true, false}
 use Rattle.std.specs.Prelude.{leb, eqb, not, Some, None, Option, ◌&&◌}
-use Rattle.vx_model.specs.World.{World, Node, Link, Packet, is_origin, updated, with_node}
-use Rattle.vx_model.specs.Sending.{sent_step}
-use Rattle.vx_model.specs.Receiving.{phase_takes}
-use Rattle.vx_model.specs.LinkForms.{plain_link, with_plain}
+use Rattle.vx_history.specs.World.{World, Node, Link, Packet, updated, with_node}
+use Rattle.vx_model.specs.Sites.{is_origin}
+use Rattle.vx_history.specs.Sending.{sent_step}
+use Rattle.vx_history.specs.Receiving.{phase_takes}
+use Rattle.vx_history.specs.LinkForms.{plain_link, with_plain}
 use Rattle.vx_model.specs.declared.site.SiteState.{SiteState}
 use Rattle.vx_model.specs.declared.site.SiteState.TheVariants.{Up}
 use Rattle.vx_model.specs.declared.link.Mode.TheVariants.{Log}
-use Rattle.vx_model.specs.declared.sender.SEvent.{SEvent}
+use Rattle.vx_history.specs.declared.sender.SEvent.{SEvent}
 use Rattle.vx_model.specs.declared.no.No.{No}
-use Rattle.vx_model.proofs.Updates.{at_place, by_test, eqb_equal}
-use Rattle.vx_model.specs.Sends.{is_linked, with_link, sending, sent_by}
-use Rattle.vx_model.specs.Refusals.{Outcome, unless, at_work, on_link, keeps_links, is_up, is_running, unless_halted}
-use Rattle.vx_model.specs.Events
+use Rattle.vx_history.proofs.Updates.{at_place, by_test, eqb_equal}
+use Rattle.vx_history.specs.Sends.{is_linked, with_link, sending, sent_by}
+use Rattle.vx_history.specs.Refusals.{Outcome, unless, at_work, on_link, keeps_links, is_running, unless_halted}
+use Rattle.vx_model.specs.Sites.{is_up}
+use Rattle.vx_history.specs.Events
 
 -- what stands in a world of two sites and the link, and all that was sent
 pub record At (v : World) (p s : ℕ) (a b : Node) (l : Link) (ps : List Packet) : Type 0 where

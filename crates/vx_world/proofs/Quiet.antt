@@ -3,22 +3,24 @@ use Rattle.std.proofs.Common.{◌≡◌, ℕ, suc, ◌+◌, List, [], ◌∷◌,
 use Rattle.std.specs.Prelude.{if◌then◌else◌, eqb, slice_get, Some, None, Option, ◌&&◌}
 use Rattle.std.specs.List.{AllByRecursion}
 use Rattle.vx_model.specs.Content.{Write}
-use Rattle.vx_model.specs.World.{World, Packet, Message, Hello, Update, NetAck, DataAck, is_origin}
-use Rattle.vx_model.specs.Receiving.{received_step}
-use Rattle.vx_model.specs.LinkForms.{plain_receiver}
-use Rattle.vx_model.specs.declared.sender.SEvent.{SEvent}
-use Rattle.vx_model.specs.declared.sender.SEvent.TheVariants.{Hello as HearHello, NetAck as HearNetAck, DataAck as HearDataAck}
-use Rattle.vx_model.specs.declared.receiver.REvent.TheVariants.{Update as HearUpdate}
-use Rattle.vx_model.specs.declared.receiver.RAction.{RAction}
-use Rattle.vx_model.specs.declared.receiver.RAction.TheVariants.{Nothing as DoesNothing, Ignored as Ignores, IgnoredAck, Take, DataAck as AcksFromDisk}
-use Rattle.vx_model.proofs.Updates.{by_test}
-use Rattle.vx_model.specs.declared.event.Event.{Event}
-use Rattle.vx_model.specs.declared.event.Event.TheVariants.{Deliver}
-use Rattle.vx_model.specs.declared.event.Said.TheVariants.{Ignored as IsIgnored}
-use Rattle.vx_model.specs.Sends.{is_linked, further_parts, packets_of}
-use Rattle.vx_model.specs.Refusals.{Outcome, says, is_up, is_running, keeps_links}
-use Rattle.vx_model.specs.Events
-use Rattle.vx_model.specs.Step.{step, run}
+use Rattle.vx_history.specs.World.{World, Packet, Message, Hello, Update, NetAck, DataAck}
+use Rattle.vx_model.specs.Sites.{is_origin}
+use Rattle.vx_history.specs.Receiving.{received_step}
+use Rattle.vx_history.specs.LinkForms.{plain_receiver}
+use Rattle.vx_history.specs.declared.sender.SEvent.{SEvent}
+use Rattle.vx_history.specs.declared.sender.SEvent.TheVariants.{Hello as HearHello, NetAck as HearNetAck, DataAck as HearDataAck}
+use Rattle.vx_history.specs.declared.receiver.REvent.TheVariants.{Update as HearUpdate}
+use Rattle.vx_history.specs.declared.receiver.RAction.{RAction}
+use Rattle.vx_history.specs.declared.receiver.RAction.TheVariants.{Nothing as DoesNothing, Ignored as Ignores, IgnoredAck, Take, DataAck as AcksFromDisk}
+use Rattle.vx_history.proofs.Updates.{by_test}
+use Rattle.vx_history.specs.declared.event.Event.{Event}
+use Rattle.vx_history.specs.declared.event.Event.TheVariants.{Deliver}
+use Rattle.vx_history.specs.declared.event.Said.TheVariants.{Ignored as IsIgnored}
+use Rattle.vx_history.specs.Sends.{is_linked, further_parts, packets_of}
+use Rattle.vx_history.specs.Refusals.{Outcome, says, is_running, keeps_links}
+use Rattle.vx_model.specs.Sites.{is_up}
+use Rattle.vx_history.specs.Events
+use Rattle.vx_history.specs.Step.{step, run}
 use Rattle.vx_world.specs.Settling.{deliver_each, deliver_new, delivery}
 use Rattle.vx_world.proofs.Lists.{each_append}
 use Rattle.vx_world.proofs.Told.{append-nil}

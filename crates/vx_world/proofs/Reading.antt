@@ -2,7 +2,7 @@
 use Rattle.std.proofs.Common.{◌≡◌, ◌∙◌, ℕ, zero, suc, ◌+◌, List, ◌++◌, append_assoc, ap, sym, arith}
 use Rattle.std.proofs.lemmas.List.{append-nil}
 use Rattle.vx_model.specs.Content.{Content, blocks_from}
-use Rattle.vx_model.specs.Step.{joined_blocks}
+use Rattle.vx_history.specs.Step.{joined_blocks}
 
 pub joined_more : (c : Content) (v s k : ℕ) → joined_blocks (blocks_from c v s (suc k)) ≡ joined_blocks (blocks_from c v s k) ++ c.block v (s + k)
 joined_more c v s zero =

@@ -1,20 +1,20 @@
 -- Small runs of the world, and what is said in them.
 use Rattle.std.proofs.Common.{◌≡◌, ℕ, List, [], ◌∷◌, ◌++◌, refl, true, false}
 use Rattle.std.specs.Prelude.{replicate, None}
-use Rattle.vx_model.specs.World.{World, empty_world}
+use Rattle.vx_history.specs.World.{World, empty_world}
 use Rattle.vx_model.specs.declared.link.SyncMode.{SyncMode}
 use Rattle.vx_model.specs.declared.link.SyncMode.TheVariants.{Off as NeverWaits, Fail as FailsIfNotLive}
 use Rattle.vx_model.specs.declared.no.No.TheVariants.{Unknown, Unconfirmed, LinkDown, LogFull, Stalled, Limit}
 use Rattle.vx_model.specs.declared.no.Named.TheVariants.{Number as ByNumber}
 use Rattle.vx_model.specs.declared.no.SiteName.TheVariants.{Number as SiteNumber}
 use Rattle.vx_model.specs.declared.no.Counted.TheVariants.{Links}
-use Rattle.vx_model.specs.declared.event.Said.{Said}
-use Rattle.vx_model.specs.declared.event.Said.TheVariants.{Done, DoneAt, Logged, Pending, Taken, Ignored, Recovered, Refused}
-use Rattle.vx_model.specs.declared.event.LinkPart.TheVariants.{Joins, Made, Marked, Opened}
-use Rattle.vx_model.specs.declared.event.Event.{Event}
-use Rattle.vx_model.specs.declared.event.Event.TheVariants.{Site, Raw, Write, Pump, Tick, Deliver, Connect, Cut, Wait, Link, Crash, Recover, Apply}
+use Rattle.vx_history.specs.declared.event.Said.{Said}
+use Rattle.vx_history.specs.declared.event.Said.TheVariants.{Done, DoneAt, Logged, Pending, Taken, Ignored, Recovered, Refused}
+use Rattle.vx_history.specs.declared.event.LinkPart.TheVariants.{Joins, Made, Marked, Opened}
+use Rattle.vx_history.specs.declared.event.Event.{Event}
+use Rattle.vx_history.specs.declared.event.Event.TheVariants.{Site, Raw, Write, Pump, Tick, Deliver, Connect, Cut, Wait, Link, Crash, Recover, Apply}
 use Rattle.vx_world.specs.Settling.{settling}
-use Rattle.vx_model.specs.Step.{step, run}
+use Rattle.vx_history.specs.Step.{step, run}
 
 -- what is said of each event in turn
 abbrev sayings : World → List Event → List Said

@@ -1,14 +1,14 @@
 -- The rule of a link, step by step as the program takes it.
 use Rattle.std.proofs.Common.{◌≡◌, ◌∙◌, ℕ, true, sym, ap}
-use Rattle.vx_model.specs.World.{Node, Link, World}
-use Rattle.vx_model.specs.Sends.{with_link}
-use Rattle.vx_model.specs.LinkForms.{plain_link, with_plain}
-use Rattle.vx_model.specs.Sending.{Sent, sent_step}
-use Rattle.vx_model.specs.Events.{facts_of, link_step}
+use Rattle.vx_history.specs.World.{Node, Link, World}
+use Rattle.vx_history.specs.Sends.{with_link}
+use Rattle.vx_history.specs.LinkForms.{plain_link, with_plain}
+use Rattle.vx_history.specs.Sending.{Sent, sent_step}
+use Rattle.vx_history.specs.Events.{facts_of, link_step}
 use Rattle.vx_model.specs.declared.link.Link.{Link as PlainLink}
-use Rattle.vx_model.specs.declared.sender.SEvent.{SEvent}
-use Rattle.vx_model.specs.declared.sender.SFacts.{SFacts}
-use Rattle.vx_model.proofs.Updates.{same_line_self}
+use Rattle.vx_history.specs.declared.sender.SEvent.{SEvent}
+use Rattle.vx_history.specs.declared.sender.SFacts.{SFacts}
+use Rattle.vx_history.proofs.Updates.{same_line_self}
 
 -- what a message of the site's own line finds there
 pub own_facts : (n m : Node) → n ≡ m → (let f : SFacts = record { safe = n.safe; line_ok = true } in f) ≡ facts_of m m.line

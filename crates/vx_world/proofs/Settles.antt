@@ -4,18 +4,19 @@ use Rattle.std.specs.Prelude.{if◌then◌else◌, leb, ltb, Some, slice_get}
 use Rattle.std.proofs.lemmas.Bool.Decides.{nat_tests}
 use Rattle.std.proofs.lemmas.List.{length-take}
 use Rattle.vx_model.specs.Content.{Write}
-use Rattle.vx_model.specs.World.{World, Node, Link, Packet, Hello, is_origin}
-use Rattle.vx_model.specs.Good.{IsMade}
+use Rattle.vx_history.specs.World.{World, Node, Link, Packet, Hello}
+use Rattle.vx_model.specs.Sites.{is_origin}
+use Rattle.vx_history.specs.Good.{IsMade}
 use Rattle.vx_model.specs.declared.history.Line.{Line}
 use Rattle.vx_model.specs.declared.site.Role.{Role}
 use Rattle.vx_model.specs.declared.site.Role.TheVariants.{Primary, Secondary, Handing, Bunker}
-use Rattle.vx_model.proofs.GoodLemmas.{up_is_made, made_is_given}
-use Rattle.vx_model.proofs.Updates.{by_test}
-use Rattle.vx_model.specs.declared.event.Event.{Event}
-use Rattle.vx_model.specs.declared.event.Event.TheVariants.{Apply, Pump, Tick, Connect}
-use Rattle.vx_model.specs.Sends.{packet, is_linked}
-use Rattle.vx_model.specs.Refusals.{keeps_links}
-use Rattle.vx_model.specs.Step.{step, run}
+use Rattle.vx_history.proofs.GoodLemmas.{up_is_made, made_is_given}
+use Rattle.vx_history.proofs.Updates.{by_test}
+use Rattle.vx_history.specs.declared.event.Event.{Event}
+use Rattle.vx_history.specs.declared.event.Event.TheVariants.{Apply, Pump, Tick, Connect}
+use Rattle.vx_history.specs.Sends.{packet, is_linked}
+use Rattle.vx_history.specs.Refusals.{keeps_links}
+use Rattle.vx_history.specs.Step.{step, run}
 use Rattle.vx_world.specs.Settling.{deliver_each, delivery, greeting_events, is_stuck, turn, turns, settling, MaySettle, IsMet}
 use Rattle.vx_world.specs.Sound.{Sound, GoodLink, IsFollowed}
 use Rattle.vx_world.proofs.Lists.{prefix_length}

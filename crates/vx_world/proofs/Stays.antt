@@ -4,20 +4,23 @@ use Rattle.std.specs.Prelude.{leb, not, if◌then◌else◌, Option}
 use Rattle.std.proofs.lemmas.Bool.Decides.{nat_tests}
 use Rattle.vx_model.specs.Content.{Write, blocks_in}
 use Rattle.vx_model.specs.Answer.{is_too_large}
-use Rattle.vx_model.specs.World.{World, Link as LinkRecord, is_origin, empty_world}
-use Rattle.vx_model.specs.Steps.{raw_made}
+use Rattle.vx_history.specs.World.{World, Link as LinkRecord, empty_world}
+use Rattle.vx_model.specs.Sites.{is_origin}
+use Rattle.vx_history.specs.Steps.{raw_made}
 use Rattle.vx_model.specs.declared.link.Prot.TheVariants.{Fail as FailsWhenFull}
 use Rattle.vx_model.specs.declared.no.No.TheVariants.{Size, Role as WrongRole, Down as NotUp}
-use Rattle.vx_model.specs.LinkForms.{plain_link}
+use Rattle.vx_history.specs.LinkForms.{plain_link}
 use Rattle.vx_model.specs.declared.link.Link.{Link as PlainLink}
-use Rattle.vx_model.proofs.Updates.{by_test}
-use Rattle.vx_model.proofs.GoodLemmas.{good_empty}
-use Rattle.vx_model.specs.declared.event.Event.{Event}
-use Rattle.vx_model.specs.declared.event.Event.TheVariants.{Site, Raw, Write as WriteAt, Read, Apply, Pump, Tick, Deliver, Connect, Cut, Pause, Resume, Wait, Link, Set, Crash, Recover, Fault}
-use Rattle.vx_model.specs.Refusals.{Outcome, unless, at_work, is_up, is_bare, is_raw_shape, keeps_links}
-use Rattle.vx_model.specs.Events
-use Rattle.vx_model.specs.Step.{done, step, run, link_part, write_at}
-use Rattle.vx_model.specs.Sends.{with_link}
+use Rattle.vx_history.proofs.Updates.{by_test}
+use Rattle.vx_history.proofs.GoodLemmas.{good_empty}
+use Rattle.vx_history.specs.declared.event.Event.{Event}
+use Rattle.vx_history.specs.declared.event.Event.TheVariants.{Site, Raw, Write as WriteAt, Read, Apply, Pump, Tick, Deliver, Connect, Cut, Pause, Resume, Wait, Link, Set, Crash, Recover, Fault}
+use Rattle.vx_history.specs.Refusals.{Outcome, unless, at_work, keeps_links}
+use Rattle.vx_model.specs.Sites.{is_up, is_bare}
+use Rattle.vx_model.specs.Sizes.{is_raw_shape}
+use Rattle.vx_history.specs.Events
+use Rattle.vx_history.specs.Step.{done, step, run, link_part, write_at}
+use Rattle.vx_history.specs.Sends.{with_link}
 use Rattle.vx_world.specs.Sound.{Sound}
 use Rattle.vx_world.proofs.Lists.{not_false}
 use Rattle.vx_world.proofs.Moves.{sound_with_link, unlinked_good}

@@ -1,12 +1,12 @@
 -- What is refused leaves the world sound.
 use Rattle.std.proofs.Common.{◌≡◌, ℕ, Bool, true, false}
 use Rattle.std.specs.Prelude.{leb, Option, None}
-use Rattle.vx_model.specs.World.{World, Link}
+use Rattle.vx_history.specs.World.{World, Link}
 use Rattle.vx_model.specs.declared.site.Role.{Role}
 use Rattle.vx_model.specs.declared.site.SiteState.TheVariants.{Up}
 use Rattle.vx_model.specs.declared.no.No.{No}
-use Rattle.vx_model.specs.Sends.{is_linked}
-use Rattle.vx_model.specs.Refusals.{Outcome, unless, unless_halted, is_primary, at_site, at_work, both_at_work, on_link_if, when_live, on_volume}
+use Rattle.vx_history.specs.Sends.{is_linked}
+use Rattle.vx_history.specs.Refusals.{Outcome, unless, unless_halted, is_primary, at_site, at_work, both_at_work, on_link_if, when_live, on_volume}
 use Rattle.vx_world.specs.Sound.{Sound}
 use Rattle.vx_world.proofs.Guards
 

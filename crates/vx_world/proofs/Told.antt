@@ -3,28 +3,30 @@ use Rattle.std.proofs.Common.{◌≡◌, ℕ, suc, ◌+◌, ◌-◌, ◌≤◌, 
 use Rattle.std.specs.Prelude.{if◌then◌else◌, leb, ltb, eqb, not, max, min, slice_get, Some, None, Option, ◌&&◌}
 use Rattle.std.proofs.lemmas.Bool.Decides.{nat_tests}
 use Rattle.vx_model.specs.Content.{Write}
-use Rattle.vx_model.specs.World.{World, Node, Link, Packet, Message, Hello, Update, NetAck, DataAck, is_origin, same_line, with_node}
-use Rattle.vx_model.specs.Admission.{is_live}
-use Rattle.vx_model.specs.Sending.{Sent, sent_step, by_log, pumped_up_to, with_nothing, greeted, with_taken, with_ignored, memory_acknowledged, disk_acknowledged, if_on_line}
-use Rattle.vx_model.specs.Receiving.{Received, takes, repeats, with_next, update_heard, phase_takes, with_applied, records_applied, applied_to}
-use Rattle.vx_model.specs.LinkForms.{plain_link, with_plain, plain_receiver}
+use Rattle.vx_history.specs.World.{World, Node, Link, Packet, Message, Hello, Update, NetAck, DataAck, with_node}
+use Rattle.vx_model.specs.Sites.{is_origin, same_line}
+use Rattle.vx_history.specs.Admission.{is_live}
+use Rattle.vx_history.specs.Sending.{Sent, sent_step, by_log, pumped_up_to, with_nothing, greeted, with_taken, with_ignored, memory_acknowledged, disk_acknowledged, if_on_line}
+use Rattle.vx_history.specs.Receiving.{Received, takes, repeats, with_next, update_heard, phase_takes, with_applied, records_applied, applied_to}
+use Rattle.vx_history.specs.LinkForms.{plain_link, with_plain, plain_receiver}
 use Rattle.vx_model.specs.declared.history.Line.{Line}
 use Rattle.vx_model.specs.declared.site.Mark.{Mark}
 use Rattle.vx_model.specs.declared.site.SiteState.TheVariants.{Up}
 use Rattle.vx_model.specs.declared.link.Link.{Link as PlainLink}
-use Rattle.vx_model.specs.declared.sender.SEvent.{SEvent}
-use Rattle.vx_model.specs.declared.sender.SEvent.TheVariants.{Pump as PumpLink, Tick as TickLink, Connect as ConnectLink, Hello as HearHello, NetAck as HearNetAck, DataAck as HearDataAck}
-use Rattle.vx_model.specs.declared.sender.Action.TheVariants.{Updates}
-use Rattle.vx_model.specs.declared.receiver.RState.{RState}
-use Rattle.vx_model.specs.declared.receiver.RAction.{RAction}
-use Rattle.vx_model.specs.declared.receiver.RAction.TheVariants.{Ignored as Ignores, IgnoredAck, Take}
-use Rattle.vx_model.proofs.Updates.{by_test, same_line_self}
-use Rattle.vx_model.specs.declared.event.Event.TheVariants.{Apply, Pump, Tick, Deliver, Connect}
-use Rattle.vx_model.specs.declared.event.Said.TheVariants.{Ignored as IsIgnored, DoneAt}
-use Rattle.vx_model.specs.Sends.{is_linked, with_link, sending, packet, packets_of, updates, between, greeting, sent_by}
-use Rattle.vx_model.specs.Refusals.{Outcome, says, when_live, on_link, keeps_links, is_up, is_running}
-use Rattle.vx_model.specs.Events
-use Rattle.vx_model.specs.Step.{step, done}
+use Rattle.vx_history.specs.declared.sender.SEvent.{SEvent}
+use Rattle.vx_history.specs.declared.sender.SEvent.TheVariants.{Pump as PumpLink, Tick as TickLink, Connect as ConnectLink, Hello as HearHello, NetAck as HearNetAck, DataAck as HearDataAck}
+use Rattle.vx_history.specs.declared.sender.Action.TheVariants.{Updates}
+use Rattle.vx_history.specs.declared.receiver.RState.{RState}
+use Rattle.vx_history.specs.declared.receiver.RAction.{RAction}
+use Rattle.vx_history.specs.declared.receiver.RAction.TheVariants.{Ignored as Ignores, IgnoredAck, Take}
+use Rattle.vx_history.proofs.Updates.{by_test, same_line_self}
+use Rattle.vx_history.specs.declared.event.Event.TheVariants.{Apply, Pump, Tick, Deliver, Connect}
+use Rattle.vx_history.specs.declared.event.Said.TheVariants.{Ignored as IsIgnored, DoneAt}
+use Rattle.vx_history.specs.Sends.{is_linked, with_link, sending, packet, packets_of, updates, between, greeting, sent_by}
+use Rattle.vx_history.specs.Refusals.{Outcome, says, when_live, on_link, keeps_links, is_running}
+use Rattle.vx_model.specs.Sites.{is_up}
+use Rattle.vx_history.specs.Events
+use Rattle.vx_history.specs.Step.{step, done}
 use Rattle.vx_world.proofs.Pair.{At, Fit, link_event_at, sending_at, with_node_at, with_link_at, link_passes, work_passes, hears, passes, falls}
 
 pub append-nil : {A : Type 0} (xs : List A) → xs ++ [] ≡ xs

@@ -4,13 +4,13 @@ use Rattle.std.specs.Prelude.{ltb, eqb, max, min, pred, slice_get, Some}
 use Rattle.std.proofs.lemmas.Bool.Decides.{nat_tests}
 use Rattle.std.proofs.lemmas.List.{length-take, length-drop}
 use Rattle.vx_model.specs.Content.{Write}
-use Rattle.vx_model.specs.World.{World, Node, Link, Packet, DataAck}
+use Rattle.vx_history.specs.World.{World, Node, Link, Packet, DataAck}
 use Rattle.vx_model.specs.declared.site.Mark.{Mark}
-use Rattle.vx_model.specs.declared.event.Event.{Event}
-use Rattle.vx_model.specs.declared.event.Event.TheVariants.{Apply, Pump, Tick}
-use Rattle.vx_model.specs.Sends.{packet, updates, between}
-use Rattle.vx_model.specs.Events.{applied}
-use Rattle.vx_model.specs.Step.{step, run}
+use Rattle.vx_history.specs.declared.event.Event.{Event}
+use Rattle.vx_history.specs.declared.event.Event.TheVariants.{Apply, Pump, Tick}
+use Rattle.vx_history.specs.Sends.{packet, updates, between}
+use Rattle.vx_history.specs.Events.{applied}
+use Rattle.vx_history.specs.Step.{step, run}
 use Rattle.vx_world.specs.Settling.{deliver_each, deliver_new, delivery}
 use Rattle.vx_world.proofs.Pair.{At, Fit}
 use Rattle.vx_world.proofs.Told.{append-nil, tick_at, pump_at, pump_none, apply_none, apply_all, disk_at}

@@ -3,9 +3,10 @@ use Rattle.std.proofs.Common.{◌≡◌, ℕ, ◌≤◌, List, length, take, dro
 use Rattle.std.specs.Prelude.{slice_get, Some}
 use Rattle.std.proofs.lemmas.List.{length-take, take-append-drop}
 use Rattle.vx_model.specs.Content.{Write, Content, IsNumber, fold_writes}
-use Rattle.vx_model.specs.World.{World, Node, Packet, Promise, Message, Update, is_origin}
-use Rattle.vx_model.specs.Good.{IsMade}
-use Rattle.vx_model.proofs.GoodLemmas.{fold_append}
+use Rattle.vx_history.specs.World.{World, Node, Packet, Promise, Message, Update}
+use Rattle.vx_model.specs.Sites.{is_origin}
+use Rattle.vx_history.specs.Good.{IsMade}
+use Rattle.vx_history.proofs.GoodLemmas.{fold_append}
 use Rattle.vx_world.specs.Sound.{Sound, GoodMessage, GoodPacket, GoodPromise, IsKept}
 use Rattle.vx_world.proofs.Lists.{each_found}
 

@@ -1,6 +1,6 @@
 -- Which packets an event has sent.
 use Rattle.std.specs.Prelude.{ℕ, ◌+◌, ltb, List, length, Option, Some, None, if◌then◌else◌}
-use Rattle.vx_model.specs.World.{Packet}
+use Rattle.vx_history.specs.World.{Packet}
 
 -- the first and the last number of the packets that came to these, if any did
 abbrev pub numbers_sent : (old new : List Packet) → Option (ℕ × ℕ)

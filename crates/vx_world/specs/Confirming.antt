@@ -1,12 +1,13 @@
 -- What is said of a number that no test of it refuses.
 use Rattle.std.specs.Prelude.{ℕ, ◌||◌, not, eqb, ltb, if◌then◌else◌}
-use Rattle.vx_model.specs.World.{World, is_origin}
-use Rattle.vx_model.specs.Refusals.{Outcome, says, unless, some_below, holds_back, is_unconfirmed}
-use Rattle.vx_model.specs.Sends.{promising}
-use Rattle.vx_model.specs.Events.{promises_of}
+use Rattle.vx_history.specs.World.{World}
+use Rattle.vx_model.specs.Sites.{is_origin}
+use Rattle.vx_history.specs.Refusals.{Outcome, says, unless, some_below, holds_back, is_unconfirmed}
+use Rattle.vx_history.specs.Sends.{promising}
+use Rattle.vx_history.specs.Events.{promises_of}
 use Rattle.vx_model.specs.declared.no.No.TheVariants.{Unknown, Role as WrongRole, Unconfirmed}
 use Rattle.vx_model.specs.declared.no.Named.TheVariants.{Number as ByNumber}
-use Rattle.vx_model.specs.declared.event.Said.TheVariants.{Pending, DoneAt}
+use Rattle.vx_history.specs.declared.event.Said.TheVariants.{Pending, DoneAt}
 
 -- the tests of the number, at a site that is at work
 abbrev pub may_confirm : World → ℕ → (number : ℕ) → Outcome → Outcome

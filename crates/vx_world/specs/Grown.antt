@@ -1,8 +1,8 @@
 -- What a world keeps of an earlier one, whatever happens.
 use Rattle.std.specs.Prelude.{◌≡◌, ℕ, ◌≤◌, List, ◌++◌}
 use Rattle.vx_model.specs.Content.{IsPrefixOf}
-use Rattle.vx_model.specs.World.{Packet, Promise, World}
-use Rattle.vx_model.specs.Good.{IsMade}
+use Rattle.vx_history.specs.World.{Packet, Promise, World}
+use Rattle.vx_history.specs.Good.{IsMade}
 use Rattle.vx_model.specs.declared.history.Line.{Line}
 
 -- v is w after some events: what a line holds only grows and what was answered on it only rises, once the site that begins it is more

@@ -1,13 +1,13 @@
 -- The events that settling a link stands for, and which links can be settled.
 use Rattle.std.specs.Prelude.{◌≡◌, ℕ, zero, suc, ◌+◌, ◌-◌, Bool, true, false, ◌&&◌, eqb, ltb, leb, if◌then◌else◌, List, [], ◌∷◌, ◌++◌, length, drop, None}
-use Rattle.vx_model.specs.World.{Packet, World}
+use Rattle.vx_history.specs.World.{Packet, World}
 use Rattle.vx_model.specs.declared.site.Role.TheVariants.{Secondary}
 use Rattle.vx_model.specs.declared.site.SiteState.TheVariants.{Up}
 use Rattle.vx_model.specs.declared.link.Mode.TheVariants.{Log}
-use Rattle.vx_model.specs.declared.event.Event.{Event}
-use Rattle.vx_model.specs.declared.event.Event.TheVariants.{Apply, Pump, Tick, Deliver, Connect}
-use Rattle.vx_model.specs.Sends.{is_linked, further_parts}
-use Rattle.vx_model.specs.Step.{step, run}
+use Rattle.vx_history.specs.declared.event.Event.{Event}
+use Rattle.vx_history.specs.declared.event.Event.TheVariants.{Apply, Pump, Tick, Deliver, Connect}
+use Rattle.vx_history.specs.Sends.{is_linked, further_parts}
+use Rattle.vx_history.specs.Step.{step, run}
 
 -- These packets are delivered in their order. So many packets stand before the first, and so many of its message were delivered.
 abbrev pub deliver_each : (before passed : ℕ) → List Packet → List Event

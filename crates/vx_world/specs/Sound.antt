@@ -3,14 +3,15 @@
 use Rattle.std.specs.Prelude.{◌≡◌, ◌≢◌, ℕ, ◌≤◌, true, false, List, length}
 use Rattle.std.specs.List.{AllByRecursion}
 use Rattle.vx_model.specs.Content.{Write, IsNumber}
-use Rattle.vx_model.specs.World.{Node, Link, History, Message, Packet, Promise, Surety, World, Hello, Update, NetAck, DataAck, Durable, InSession, is_origin}
-use Rattle.vx_model.specs.Receiving.{phase_takes}
-use Rattle.vx_model.specs.Good.{Good, IsMade}
+use Rattle.vx_history.specs.World.{Node, Link, History, Message, Packet, Promise, Surety, World, Hello, Update, NetAck, DataAck, Durable, InSession}
+use Rattle.vx_model.specs.Sites.{is_origin}
+use Rattle.vx_history.specs.Receiving.{phase_takes}
+use Rattle.vx_history.specs.Good.{Good, IsMade}
 use Rattle.vx_model.specs.declared.history.Line.{Line}
 use Rattle.vx_model.specs.declared.site.Mark.TheVariants.{Consistent}
 use Rattle.vx_model.specs.declared.site.SiteState.TheVariants.{Up, Down}
 use Rattle.vx_model.specs.declared.link.Mode.TheVariants.{Log}
-use Rattle.vx_model.specs.Sends.{is_linked}
+use Rattle.vx_history.specs.Sends.{is_linked}
 
 -- Fact 1. "The present session" is the session of a site that is up. After a crash a site stands in its old session still, without the
 -- records that it had in memory; its session rises as it comes up again.

@@ -1,10 +1,10 @@
 // Whether the links of a site let a write in.
 ghost use Rattle.std.specs.Prelude.{◌≡◌, ◌+◌, ◌<◌, ℕ, List, Option, length, drop, zip};
 ghost use Rattle.vx_model.specs.Content.{blocks_in};
-ghost use Rattle.vx_model.specs.Admission.{hold, held_by_room, first_down, first_full};
-ghost use Rattle.vx_model.specs.LinkForms.{plain_link};
-ghost use Rattle.vx_model.specs.Refusals.{unless_at_most, some_below, is_waited_for as waited_for};
-ghost use Rattle.vx_model.specs.Events.{is_in_place as in_place, link_in_place, put_before, linked_sites, plain_links, uses, log_blocks, admitted, links_changed, put_in, written_if};
+ghost use Rattle.vx_history.specs.Admission.{hold, held_by_room, first_down, first_full};
+ghost use Rattle.vx_history.specs.LinkForms.{plain_link};
+ghost use Rattle.vx_history.specs.Refusals.{unless_at_most, some_below, is_waited_for as waited_for};
+ghost use Rattle.vx_history.specs.Events.{is_in_place as in_place, link_in_place, put_before, linked_sites, plain_links, uses, log_blocks, admitted, links_changed, put_in, written_if};
 ghost use Rattle.vx_policy.specs.Verdicts.{refusal_if};
 ghost use Rattle.vx_sites.specs.Refusing.{unless_refused};
 ghost use Rattle.vx_sites.specs.Shapes.{world_of, link_of};

@@ -1,14 +1,15 @@
 // Records that are brought into their volumes.
 ghost use Rattle.std.specs.Prelude.{◌≡◌, ◌<◌, length, IfOk};
-ghost use Rattle.vx_model.specs.Receiving.{marked_by};
-ghost use Rattle.vx_model.specs.Refusals.{says};
-ghost use Rattle.vx_model.specs.Events.{apply_at};
-ghost use Rattle.vx_model.specs.Step.{step};
-ghost use Rattle.vx_model.specs.declared.receiver.RState.{RState};
-ghost use Rattle.vx_model.specs.declared.event.Event.TheVariants.{Apply};
+ghost use Rattle.vx_history.specs.Receiving.{marked_by};
+ghost use Rattle.vx_history.specs.Refusals.{says};
+ghost use Rattle.vx_history.specs.Events.{apply_at};
+ghost use Rattle.vx_history.specs.Step.{step};
+ghost use Rattle.vx_history.specs.declared.receiver.RState.{RState};
+ghost use Rattle.vx_history.specs.declared.event.Event.TheVariants.{Apply};
 ghost use Rattle.vx_sites.specs.Shapes.{world_of};
 
-use vx_model::{Mark, OutOfMemory, SPhase, Said};
+use vx_history::Said;
+use vx_model::{Mark, OutOfMemory, SPhase};
 use vx_sites::refusals::{has_writes, refuse_site, refuse_work};
 use vx_sites::{Message, Packet, World};
 

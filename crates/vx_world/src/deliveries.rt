@@ -1,15 +1,16 @@
 // Packets that are handed to their targets.
 ghost use Rattle.std.specs.Prelude.{◌≡◌, ◌<◌, length, IfOk};
-ghost use Rattle.vx_model.specs.Refusals.{says};
-ghost use Rattle.vx_model.specs.Events.{handed, heard};
-ghost use Rattle.vx_model.specs.Step.{step};
-ghost use Rattle.vx_model.specs.declared.event.Event.TheVariants.{Deliver};
+ghost use Rattle.vx_history.specs.Refusals.{says};
+ghost use Rattle.vx_history.specs.Events.{handed, heard};
+ghost use Rattle.vx_history.specs.Step.{step};
+ghost use Rattle.vx_history.specs.declared.event.Event.TheVariants.{Deliver};
 ghost use Rattle.vx_sites.specs.Shapes.{world_of, packet_of, message_of};
 
 use crate::hearing::hear_on_link;
 use crate::receiving::{hear_update, say_of_part};
 use crate::targets::is_open;
-use vx_model::{Named, No, OutOfMemory, SEvent, Said};
+use vx_history::{SEvent, Said};
+use vx_model::{Named, No, OutOfMemory};
 use vx_sites::{Message, Packet, World};
 
 /// A packet is handed to its target. Without another part of its message, where it has one, it changes nothing. Refused with 1.

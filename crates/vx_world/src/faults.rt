@@ -1,11 +1,12 @@
 // A disk fails.
 ghost use Rattle.std.specs.Prelude.{◌≡◌};
-ghost use Rattle.vx_model.specs.Refusals.{says};
-ghost use Rattle.vx_model.specs.Step.{step};
-ghost use Rattle.vx_model.specs.declared.event.Event.TheVariants.{Fault};
+ghost use Rattle.vx_history.specs.Refusals.{says};
+ghost use Rattle.vx_history.specs.Step.{step};
+ghost use Rattle.vx_history.specs.declared.event.Event.TheVariants.{Fault};
 ghost use Rattle.vx_sites.specs.Shapes.{world_of};
 
-use vx_model::{No, Said};
+use vx_history::Said;
+use vx_model::No;
 use vx_sites::World;
 use vx_sites::refusals::{refuse_not_up, refuse_site};
 

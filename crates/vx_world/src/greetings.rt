@@ -1,15 +1,16 @@
 // A link is connected, and the other end greets.
 ghost use Rattle.std.specs.Prelude.{◌≡◌, ◌<◌, length, IfOk, OnOk};
-ghost use Rattle.vx_model.specs.Refusals.{says};
-ghost use Rattle.vx_model.specs.Sends.{sending};
-ghost use Rattle.vx_model.specs.Events.{greets, greeting_back};
-ghost use Rattle.vx_model.specs.Step.{step};
-ghost use Rattle.vx_model.specs.declared.event.Event.TheVariants.{Connect};
+ghost use Rattle.vx_history.specs.Refusals.{says};
+ghost use Rattle.vx_history.specs.Sends.{sending};
+ghost use Rattle.vx_history.specs.Events.{greets, greeting_back};
+ghost use Rattle.vx_history.specs.Step.{step};
+ghost use Rattle.vx_history.specs.declared.event.Event.TheVariants.{Connect};
 ghost use Rattle.vx_sites.specs.Shapes.{world_of, node_of};
 
 use crate::rule::move_link;
 use crate::targets::is_running;
-use vx_model::{OutOfMemory, SEvent, Said};
+use vx_history::{SEvent, Said};
+use vx_model::OutOfMemory;
 use vx_sites::bounds::is_same_line;
 use vx_sites::refusals::{has_writes, is_up, refuse_link};
 use vx_sites::{Node, World};

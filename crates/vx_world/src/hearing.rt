@@ -1,13 +1,14 @@
 // Messages that a link hears of the site that it leads to.
 ghost use Rattle.std.specs.Prelude.{◌≡◌, ◌<◌, length, IfOk};
-ghost use Rattle.vx_model.specs.Refusals.{says};
-ghost use Rattle.vx_model.specs.Sends.{with_link};
-ghost use Rattle.vx_model.specs.LinkForms.{plain_link, with_plain};
-ghost use Rattle.vx_model.specs.Sending.{sent_step};
-ghost use Rattle.vx_model.specs.Events.{facts_of, link_heard, said_of_link};
+ghost use Rattle.vx_history.specs.Refusals.{says};
+ghost use Rattle.vx_history.specs.Sends.{with_link};
+ghost use Rattle.vx_history.specs.LinkForms.{plain_link, with_plain};
+ghost use Rattle.vx_history.specs.Sending.{sent_step};
+ghost use Rattle.vx_history.specs.Events.{facts_of, link_heard, said_of_link};
 ghost use Rattle.vx_sites.specs.Shapes.{world_of, packet_of};
 
-use vx_model::{Action, OutOfMemory, SEvent, SFacts, Said};
+use vx_history::{Action, SEvent, SFacts, Said};
+use vx_model::OutOfMemory;
 use vx_sites::bounds::is_same_line;
 use vx_sites::refusals::has_links;
 use vx_sites::{Packet, World};

@@ -1,14 +1,15 @@
 // What holds of every world, whatever happens to it.
 ghost use Rattle.std.specs.Prelude.{◌≡◌, ℕ, ◌≤◌, ◌<◌, List, [], take, drop, slice_get, Some, true, false};
 ghost use Rattle.vx_model.specs.Content.{Write, IsPrefixOf, IsNumber, fold_writes};
-ghost use Rattle.vx_model.specs.Good.{IsMade};
-ghost use Rattle.vx_model.specs.World.{World, Packet, Promise, Update, empty_world, is_origin};
+ghost use Rattle.vx_history.specs.Good.{IsMade};
+ghost use Rattle.vx_history.specs.World.{World, Packet, Promise, Update, empty_world};
+ghost use Rattle.vx_model.specs.Sites.{is_origin};
 ghost use Rattle.vx_model.specs.declared.history.Line.{Line};
-ghost use Rattle.vx_model.specs.declared.event.Event.{Event};
+ghost use Rattle.vx_history.specs.declared.event.Event.{Event};
 ghost use Rattle.vx_world.specs.Grown.{Grown};
 ghost use Rattle.vx_world.specs.Settling.{MaySettle, IsMet, deliver_new, delivery, greeting_events, turn, settling};
 ghost use Rattle.vx_world.specs.Sound.{Sound, IsKept};
-ghost use Rattle.vx_model.specs.Step.{step, run};
+ghost use Rattle.vx_history.specs.Step.{step, run};
 
 /// Whatever happens next, and whatever happens in turn: a sound world stays sound, and the world without sites is sound.
 pub fn stays_sound()

@@ -29,5 +29,5 @@ mod worked;
 mod writes;
 
 pub use machine::{Answer, step};
-pub use vx_model::{Event, LinkPart, Said};
+pub use vx_history::{Event, LinkPart, Said};
 pub use vx_sites::World;

@@ -1,7 +1,7 @@
 // The step of the world: what an event makes of it, and what is answered.
 ghost use Rattle.std.specs.Prelude.{◌≡◌, IfOk, OnOk};
-ghost use Rattle.vx_model.specs.Refusals.{says};
-ghost use Rattle.vx_model.specs.Step.{step as step_of};
+ghost use Rattle.vx_history.specs.Refusals.{says};
+ghost use Rattle.vx_history.specs.Step.{step as step_of};
 ghost use Rattle.vx_sites.specs.Shapes.{world_of};
 ghost use Rattle.vx_world.specs.Answers.{numbers_sent};
 
@@ -19,7 +19,8 @@ use crate::switches::{cut, pause, resume};
 use crate::ticks::tick;
 use crate::waits::wait;
 use crate::writes::write;
-use vx_model::{Event, OutOfMemory, Said};
+use vx_history::{Event, Said};
+use vx_model::OutOfMemory;
 use vx_sites::World;
 
 /// What an event is answered.

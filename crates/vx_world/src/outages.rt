@@ -1,12 +1,13 @@
 // Sites that crash.
 ghost use Rattle.std.specs.Prelude.{◌≡◌, ◌<◌, length, IfOk, OnOk};
-ghost use Rattle.vx_model.specs.Refusals.{says};
-ghost use Rattle.vx_model.specs.Events.{kept_of, crash_world, crash_at};
-ghost use Rattle.vx_model.specs.Step.{step};
-ghost use Rattle.vx_model.specs.declared.event.Event.TheVariants.{Crash};
+ghost use Rattle.vx_history.specs.Refusals.{says};
+ghost use Rattle.vx_history.specs.Events.{kept_of, crash_world, crash_at};
+ghost use Rattle.vx_history.specs.Step.{step};
+ghost use Rattle.vx_history.specs.declared.event.Event.TheVariants.{Crash};
 ghost use Rattle.vx_sites.specs.Shapes.{world_of};
 
-use vx_model::{OutOfMemory, Said};
+use vx_history::Said;
+use vx_model::OutOfMemory;
 use vx_sites::World;
 use vx_sites::refusals::{has_writes, refuse_not_up, refuse_site};
 

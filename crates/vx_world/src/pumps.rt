@@ -1,15 +1,16 @@
 // Updates are sent on a link.
 ghost use Rattle.std.specs.Prelude.{◌≡◌, ◌<◌, length, IfOk, OnOk};
-ghost use Rattle.vx_model.specs.Refusals.{says};
-ghost use Rattle.vx_model.specs.Sends.{sending, sent_by};
-ghost use Rattle.vx_model.specs.Events.{link_event};
-ghost use Rattle.vx_model.specs.Step.{step};
-ghost use Rattle.vx_model.specs.declared.sender.SEvent.TheVariants.{Pump as PumpLink};
-ghost use Rattle.vx_model.specs.declared.event.Event.TheVariants.{Pump};
+ghost use Rattle.vx_history.specs.Refusals.{says};
+ghost use Rattle.vx_history.specs.Sends.{sending, sent_by};
+ghost use Rattle.vx_history.specs.Events.{link_event};
+ghost use Rattle.vx_history.specs.Step.{step};
+ghost use Rattle.vx_history.specs.declared.sender.SEvent.TheVariants.{Pump as PumpLink};
+ghost use Rattle.vx_history.specs.declared.event.Event.TheVariants.{Pump};
 ghost use Rattle.vx_sites.specs.Shapes.{world_of};
 
 use crate::rule::move_link;
-use vx_model::{Action, OutOfMemory, SEvent, Said};
+use vx_history::{Action, SEvent, Said};
+use vx_model::OutOfMemory;
 use vx_sites::World;
 use vx_sites::refusals::{refuse_dead, refuse_link};
 

@@ -1,13 +1,14 @@
 // Reads of volumes.
 ghost use Rattle.std.specs.Prelude.{◌≡◌, ◌+◌, ◌<◌, ◌≤◌, ◌^◌, IfOk};
 ghost use Rattle.vx_model.specs.Content.{blocks_from};
-ghost use Rattle.vx_model.specs.Refusals.{says};
-ghost use Rattle.vx_model.specs.Step.{step, joined_blocks};
-ghost use Rattle.vx_model.specs.declared.event.Event.TheVariants.{Read};
+ghost use Rattle.vx_history.specs.Refusals.{says};
+ghost use Rattle.vx_history.specs.Step.{step, joined_blocks};
+ghost use Rattle.vx_history.specs.declared.event.Event.TheVariants.{Read};
 ghost use Rattle.vx_sites.specs.Shapes.{world_of, content_of};
 
 use std::alloc::Global;
-use vx_model::{Blocks, No, OutOfMemory, Said};
+use vx_history::Said;
+use vx_model::{Blocks, No, OutOfMemory};
 use vx_sites::bounds::{refuse_range, refuse_volume};
 use vx_sites::{Content, World};
 

@@ -1,15 +1,16 @@
 // Updates that sites hear.
 ghost use Rattle.std.specs.Prelude.{◌≡◌, ◌<◌, ◌-◌, ◌&&◌, not, min, length, IfOk, OnOk, if◌then◌else◌};
-ghost use Rattle.vx_model.specs.World.{is_origin};
-ghost use Rattle.vx_model.specs.Refusals.{says};
-ghost use Rattle.vx_model.specs.LinkForms.{plain_receiver};
-ghost use Rattle.vx_model.specs.Receiving.{received_step, takes};
-ghost use Rattle.vx_model.specs.Events.{from_memory, update_heard, update_taken, said_of_part};
-ghost use Rattle.vx_model.specs.declared.receiver.REvent.TheVariants.{Update};
-ghost use Rattle.vx_model.specs.declared.event.Said.TheVariants.{Taken, Ignored};
+ghost use Rattle.vx_model.specs.Sites.{is_origin};
+ghost use Rattle.vx_history.specs.Refusals.{says};
+ghost use Rattle.vx_history.specs.LinkForms.{plain_receiver};
+ghost use Rattle.vx_history.specs.Receiving.{received_step, takes};
+ghost use Rattle.vx_history.specs.Events.{from_memory, update_heard, update_taken, said_of_part};
+ghost use Rattle.vx_history.specs.declared.receiver.REvent.TheVariants.{Update};
+ghost use Rattle.vx_history.specs.declared.event.Said.TheVariants.{Taken, Ignored};
 ghost use Rattle.vx_sites.specs.Shapes.{world_of, node_of, packet_of, message_of};
 
-use vx_model::{Line, OutOfMemory, RAction, REvent, RState, Said};
+use vx_history::{RAction, REvent, RState, Said};
+use vx_model::{Line, OutOfMemory};
 use vx_sites::refusals::has_writes;
 use vx_sites::{Message, Node, Packet, World, Write};
 

@@ -1,15 +1,17 @@
 // Sites that come up again.
 ghost use Rattle.std.specs.Prelude.{◌≡◌, ◌<◌, length, None, IfOk, OnOk};
-ghost use Rattle.vx_model.specs.Sends.{sending};
-ghost use Rattle.vx_model.specs.Steps.{recovered};
-ghost use Rattle.vx_model.specs.Refusals.{says, unless_at_most};
-ghost use Rattle.vx_model.specs.Events.{recovery, recovery_greeting, come_back};
-ghost use Rattle.vx_model.specs.Step.{step};
-ghost use Rattle.vx_model.specs.declared.event.Event.TheVariants.{Recover};
+ghost use Rattle.vx_history.specs.Sends.{sending};
+ghost use Rattle.vx_history.specs.Steps.{recovered};
+ghost use Rattle.vx_history.specs.Refusals.{says, unless_at_most};
+ghost use Rattle.vx_history.specs.Events.{recovery, recovery_greeting, come_back};
+ghost use Rattle.vx_history.specs.Step.{step};
+ghost use Rattle.vx_history.specs.declared.event.Event.TheVariants.{Recover};
 ghost use Rattle.vx_sites.specs.Shapes.{world_of, node_of};
 
 use crate::applies::mark_at;
-use vx_model::{Mark, No, OutOfMemory, Said, SiteState};
+use vx_history::Said;
+use vx_model::limits::MOST_NUMBER;
+use vx_model::{Mark, No, OutOfMemory, SiteState};
 use vx_sites::bounds::refuse_most;
 use vx_sites::refusals::{has_writes, refuse_site};
 use vx_sites::{Message, Node, Packet, World};
@@ -47,7 +49,7 @@ fn recover_down(world: &mut World, site: u32, fails: Option<u32>) -> Result<Said
 
 fn bring_up(world: &mut World, site: u32) -> Result<Said, OutOfMemory>
     requires within { site < length world.old.nodes.items }
-    requires room { ((world_of world.old).nodes site).session < 0x7fff_ffff_ffff_ffff }
+    requires room { ((world_of world.old).nodes site).session < MOST_NUMBER }
     ensures { let w = world_of world.old in IfOk result (λ said. says (world_of world.new) said ≡ recovery w site None) }
 {
     let node = world.node(site);

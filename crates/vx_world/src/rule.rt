@@ -1,11 +1,12 @@
 // What the rule of a link makes of it.
 ghost use Rattle.std.specs.Prelude.{◌≡◌, ◌<◌, length, IfOk};
-ghost use Rattle.vx_model.specs.Sends.{with_link};
-ghost use Rattle.vx_model.specs.LinkForms.{with_plain};
-ghost use Rattle.vx_model.specs.Events.{link_step};
+ghost use Rattle.vx_history.specs.Sends.{with_link};
+ghost use Rattle.vx_history.specs.LinkForms.{with_plain};
+ghost use Rattle.vx_history.specs.Events.{link_step};
 ghost use Rattle.vx_sites.specs.Shapes.{world_of};
 
-use vx_model::{Action, OutOfMemory, SEvent, SFacts};
+use vx_history::{Action, SEvent, SFacts};
+use vx_model::OutOfMemory;
 use vx_sites::World;
 
 /// The link after an event of the line on which its site stands, and what is then to be done.

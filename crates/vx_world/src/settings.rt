@@ -1,18 +1,19 @@
 // Links that are made, and how writes wait for them.
 ghost use Rattle.std.specs.Prelude.{◌≡◌, ◌<◌, ◌&&◌, not, length, IfOk};
-ghost use Rattle.vx_model.specs.Sends.{is_linked};
-ghost use Rattle.vx_model.specs.Receiving.{phase_takes};
-ghost use Rattle.vx_model.specs.Refusals.{says, is_primary as primary, is_consistent, is_stale, is_empty, unless, links_of, follows as following};
+ghost use Rattle.vx_history.specs.Sends.{is_linked};
+ghost use Rattle.vx_history.specs.Receiving.{phase_takes};
+ghost use Rattle.vx_history.specs.Refusals.{says, is_primary as primary, is_consistent, is_stale, is_empty, unless, links_of, follows as following};
 ghost use Rattle.vx_model.specs.declared.link.SyncMode.{SyncMode};
-ghost use Rattle.vx_model.specs.Step.{step, link_part};
-ghost use Rattle.vx_model.specs.declared.event.Event.TheVariants.{Link as LinkSites, Set};
-ghost use Rattle.vx_model.specs.declared.event.LinkPart.TheVariants.{Joins, Made, Marked, Opened};
+ghost use Rattle.vx_history.specs.Step.{step, link_part};
+ghost use Rattle.vx_history.specs.declared.event.Event.TheVariants.{Link as LinkSites, Set};
+ghost use Rattle.vx_history.specs.declared.event.LinkPart.TheVariants.{Joins, Made, Marked, Opened};
 ghost use Rattle.vx_model.specs.declared.no.No.TheVariants.{Role as WrongRole};
-ghost use Rattle.vx_model.specs.Events.{new_link};
+ghost use Rattle.vx_history.specs.Events.{new_link};
 ghost use Rattle.vx_sites.specs.Refusing.{Refuses};
 ghost use Rattle.vx_sites.specs.Shapes.{world_of, link_of};
 
-use vx_model::{LinkPart, Mark, Mode, No, OutOfMemory, Prot, Said, SyncMode};
+use vx_history::{LinkPart, Said};
+use vx_model::{Mark, Mode, No, OutOfMemory, Prot, SyncMode};
 use vx_sites::bounds::{count_links, follows, is_primary, refuse_join, refuse_made, takes_updates};
 use vx_sites::refusals::{refuse_link_of_origin, refuse_site, refuse_work_of_both};
 use vx_sites::{Link, World};

@@ -1,11 +1,12 @@
 // Sites that are made.
 ghost use Rattle.std.specs.Prelude.{◌≡◌, IfOk};
-ghost use Rattle.vx_model.specs.Refusals.{says};
-ghost use Rattle.vx_model.specs.Step.{step};
-ghost use Rattle.vx_model.specs.declared.event.Event.TheVariants.{Site, Raw};
+ghost use Rattle.vx_history.specs.Refusals.{says};
+ghost use Rattle.vx_history.specs.Step.{step};
+ghost use Rattle.vx_history.specs.declared.event.Event.TheVariants.{Site, Raw};
 ghost use Rattle.vx_sites.specs.Shapes.{world_of};
 
-use vx_model::{Name, OutOfMemory, Said};
+use vx_history::Said;
+use vx_model::{Name, OutOfMemory};
 use vx_sites::bounds::{refuse_new_site, refuse_raw};
 use vx_sites::refusals::refuse_site;
 use vx_sites::{Node, World};

@@ -1,6 +1,7 @@
 // What is asked of a site before it hears or sends a message.
 ghost use Rattle.std.specs.Prelude.{◌≡◌, ◌<◌, ◌&&◌, length, IsTrue};
-ghost use Rattle.vx_model.specs.Refusals.{is_up as up, is_running as running};
+ghost use Rattle.vx_model.specs.Sites.{is_up as up};
+ghost use Rattle.vx_history.specs.Refusals.{is_running as running};
 ghost use Rattle.vx_sites.specs.Shapes.{world_of, node_of};
 
 use vx_sites::refusals::is_up;

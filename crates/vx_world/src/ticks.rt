@@ -1,12 +1,13 @@
 // What was sent on a link counts as lost.
 ghost use Rattle.std.specs.Prelude.{◌≡◌, IfOk};
-ghost use Rattle.vx_model.specs.Refusals.{says};
-ghost use Rattle.vx_model.specs.Step.{step};
-ghost use Rattle.vx_model.specs.declared.event.Event.TheVariants.{Tick};
+ghost use Rattle.vx_history.specs.Refusals.{says};
+ghost use Rattle.vx_history.specs.Step.{step};
+ghost use Rattle.vx_history.specs.declared.event.Event.TheVariants.{Tick};
 ghost use Rattle.vx_sites.specs.Shapes.{world_of};
 
 use crate::rule::move_link;
-use vx_model::{OutOfMemory, SEvent, Said};
+use vx_history::{SEvent, Said};
+use vx_model::OutOfMemory;
 use vx_sites::World;
 use vx_sites::refusals::refuse_link;
 

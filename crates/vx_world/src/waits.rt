@@ -1,13 +1,14 @@
 // A site is asked whether a write is confirmed.
 ghost use Rattle.std.specs.Prelude.{◌≡◌, ◌<◌, length, IfOk};
-ghost use Rattle.vx_model.specs.Refusals.{says};
-ghost use Rattle.vx_model.specs.Step.{step};
-ghost use Rattle.vx_model.specs.declared.event.Event.TheVariants.{Wait};
+ghost use Rattle.vx_history.specs.Refusals.{says};
+ghost use Rattle.vx_history.specs.Step.{step};
+ghost use Rattle.vx_history.specs.declared.event.Event.TheVariants.{Wait};
 ghost use Rattle.vx_sites.specs.Refusing.{Refuses};
 ghost use Rattle.vx_sites.specs.Shapes.{world_of};
 ghost use Rattle.vx_world.specs.Confirming.{may_confirm, confirmed};
 
-use vx_model::{Named, No, OutOfMemory, Said};
+use vx_history::Said;
+use vx_model::{Named, No, OutOfMemory};
 use vx_sites::World;
 use vx_sites::refusals::{has_writes, refuse_site, refuse_work};
 

@@ -1,9 +1,8 @@
 // Worked runs of two sites, event by event: what is said, and which packets are sent.
 use crate::{World, step};
 use std::test::Fail;
-use vx_model::{
-    Blocks, Counted, Event, LinkPart, Name, Named, No, OutOfMemory, Said, SiteName, SyncMode,
-};
+use vx_history::{Event, LinkPart, Said};
+use vx_model::{Blocks, Counted, Name, Named, No, OutOfMemory, SiteName, SyncMode};
 
 // An event, what is said of it with its number, and the packets that it sends.
 type Row = (Event, &'static str, u64, Option<(u64, u64)>);

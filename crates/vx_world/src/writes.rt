@@ -2,16 +2,18 @@
 ghost use Rattle.std.specs.Prelude.{◌≡◌, ◌<◌, ◌||◌, length, None, IfOk};
 ghost use Rattle.vx_model.specs.Content.{blocks_in};
 ghost use Rattle.vx_model.specs.Answer.{is_wrong_count, is_too_large};
-ghost use Rattle.vx_model.specs.Refusals.{says, unless, unless_at_most};
-ghost use Rattle.vx_model.specs.Events.{links_changed, put_in, admitted, written_if};
-ghost use Rattle.vx_model.specs.Step.{step};
+ghost use Rattle.vx_history.specs.Refusals.{says, unless, unless_at_most};
+ghost use Rattle.vx_history.specs.Events.{links_changed, put_in, admitted, written_if};
+ghost use Rattle.vx_history.specs.Step.{step};
 ghost use Rattle.vx_model.specs.declared.no.No.TheVariants.{Size as WrongSize};
-ghost use Rattle.vx_model.specs.declared.event.Event.TheVariants.{Write as WriteAt};
+ghost use Rattle.vx_history.specs.declared.event.Event.TheVariants.{Write as WriteAt};
 ghost use Rattle.vx_sites.specs.Refusing.{Refuses};
 ghost use Rattle.vx_sites.specs.Shapes.{world_of};
 
 use crate::admission::{is_waited_for, refuse_by_links};
-use vx_model::{Blocks, No, OutOfMemory, Said};
+use vx_history::Said;
+use vx_model::limits::MOST_NUMBER;
+use vx_model::{Blocks, No, OutOfMemory};
 use vx_sites::bounds::{refuse_most, refuse_range, refuse_volume};
 use vx_sites::{World, Write};
 
@@ -88,7 +90,7 @@ fn write_unless_most(
 
 fn put(world: &mut World, site: u32, write: Write, fails: Option<u32>) -> Result<Said, OutOfMemory>
     requires within { site < length world.old.nodes.items }
-    requires room { ((world_of world.old).nodes site).safe < 0x7fff_ffff_ffff_ffff }
+    requires room { ((world_of world.old).nodes site).safe < MOST_NUMBER }
     ensures { let w = world_of world.old in IfOk result (λ said. says (world_of world.new) said ≡ put_in w site write fails) }
 {
     match fails {
@@ -102,7 +104,7 @@ fn put(world: &mut World, site: u32, write: Write, fails: Option<u32>) -> Result
 
 fn put_whole(world: &mut World, site: u32, write: Write) -> Result<Said, OutOfMemory>
     requires within { site < length world.old.nodes.items }
-    requires room { ((world_of world.old).nodes site).safe < 0x7fff_ffff_ffff_ffff }
+    requires room { ((world_of world.old).nodes site).safe < MOST_NUMBER }
     ensures { let w = world_of world.old in IfOk result (λ said. says (world_of world.new) said ≡ put_in w site write None) }
 {
     let number = world.node(site).safe + 1;

@@ -6,7 +6,7 @@ use Rattle.std.proofs.lemmas.Cmp.{nat_list_eq_equiv}
 use Rattle.vx_wire.specs.Seals.{filled}
 use Rattle.vx_wire.proofs.SealLemmas.{length-filled}
 use Rattle.vx_copyfmt.specs.Areas.{area_fields}
-use Rattle.vx_copyfmt.proofs.Told.{put_at-whole}
+use Rattle.vx_wire.proofs.PlaceLemmas.{put_at-whole}
 use Rattle.vx_copyfmt.proofs.AreaLemmas.{length-area_fields}
 use Rattle.vx_copyfmt.proofs.area.is_spelled.Goals as goal
 

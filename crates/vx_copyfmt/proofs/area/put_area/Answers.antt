@@ -2,7 +2,7 @@ use Rattle.std.proofs.Common.{arith, ◌≡◌, ◌≤◌, ◌∙◌, ◌++◌, 
 use Rattle.vx_wire.specs.Seals.{filled, sealed, digest_of}
 use Rattle.vx_wire.proofs.SealLemmas.{length-filled}
 use Rattle.vx_copyfmt.specs.Areas.{area_fields, area_block}
-use Rattle.vx_copyfmt.proofs.Told.{take-put_at}
+use Rattle.vx_wire.proofs.PlaceLemmas.{take-put_at}
 use Rattle.vx_copyfmt.proofs.AreaLemmas.{length-area_fields}
 use Rattle.vx_copyfmt.proofs.area.put_area.Goals as goal
 

@@ -6,7 +6,7 @@ use Rattle.std.proofs.lemmas.Cmp.{nat_list_eq_equiv}
 use Rattle.vx_wire.specs.Seals.{filled}
 use Rattle.vx_wire.proofs.SealLemmas.{length-filled}
 use Rattle.vx_copyfmt.specs.Labels.{label_fields}
-use Rattle.vx_copyfmt.proofs.Told.{put_at-whole}
+use Rattle.vx_wire.proofs.PlaceLemmas.{put_at-whole}
 use Rattle.vx_copyfmt.proofs.LabelLemmas.{length-label_table}
 use Rattle.vx_copyfmt.proofs.label.is_spelled.Goals as goal
 

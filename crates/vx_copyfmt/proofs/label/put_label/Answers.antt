@@ -2,7 +2,7 @@ use Rattle.std.proofs.Common.{arith, ◌≡◌, ◌≤◌, ◌∙◌, ◌++◌, 
 use Rattle.vx_wire.specs.Seals.{filled, sealed, digest_of}
 use Rattle.vx_wire.proofs.SealLemmas.{length-filled}
 use Rattle.vx_copyfmt.specs.Labels.{label_fields, label_block}
-use Rattle.vx_copyfmt.proofs.Told.{take-put_at}
+use Rattle.vx_wire.proofs.PlaceLemmas.{take-put_at}
 use Rattle.vx_copyfmt.proofs.LabelLemmas.{length-label_table}
 use Rattle.vx_copyfmt.proofs.label.put_label.Goals as goal
 

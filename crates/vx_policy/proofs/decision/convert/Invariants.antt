@@ -1,5 +1,5 @@
 use Rattle.std.proofs.Common.{◌≡◌, ◌-◌, ◌<◌, ◌^◌, drop, zip, length}
-use Rattle.vx_model.specs.Admission.{changes}
+use Rattle.vx_history.specs.Admission.{changes}
 use Rattle.vx_policy.specs.Verdicts.{bits, goes_stale, goes_dcm}
 use Rattle.vx_policy.proofs.decision.convert.Given as goal
 

@@ -1,5 +1,5 @@
 use Rattle.std.proofs.Common.{◌≡◌, drop}
-use Rattle.vx_model.specs.Admission.{first_down}
+use Rattle.vx_history.specs.Admission.{first_down}
 use Rattle.vx_policy.proofs.decision.refuse_down.Given as goal
 
 -- the links that were passed are not down

@@ -1,5 +1,5 @@
 use Rattle.std.proofs.Common.{◌≡◌, drop, zip}
-use Rattle.vx_model.specs.Admission.{first_full}
+use Rattle.vx_history.specs.Admission.{first_full}
 use Rattle.vx_policy.proofs.decision.refuse_first_full.Given as goal
 
 -- none of the links that were passed refuses

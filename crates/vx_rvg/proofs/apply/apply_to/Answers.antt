@@ -1,6 +1,6 @@
 use Rattle.std.proofs.Common.{sym, subst, arith}
 use Rattle.vx_model.specs.declared.no.No.{No}
-use Rattle.vx_srl.specs.Causes.{DeviceCause}
+use Rattle.vx_disk.specs.Causes.{DeviceCause}
 use Rattle.vx_rvg.specs.Views.{Core, IsSound}
 use Rattle.vx_rvg.proofs.ApplyStands.{apply_failed, apply_moves, few_wait, new_rests, new_sound, still_running}
 use Rattle.vx_rvg.proofs.apply.apply_to.Goals as goal

@@ -1,7 +1,7 @@
 -- The group behind the emptying of its log.
 use Rattle.std.proofs.Common.{sym, subst}
 use Rattle.vx_model.specs.declared.no.No.{No}
-use Rattle.vx_srl.specs.Causes.{DeviceCause}
+use Rattle.vx_disk.specs.Causes.{DeviceCause}
 use Rattle.vx_rvg.specs.Views.{Core, IsSound}
 use Rattle.vx_rvg.proofs.EmptyStands.{can_at, emptied_fails, emptied_moves, emptied_rests}
 use Rattle.vx_rvg.proofs.WriteLog.{no_cause}

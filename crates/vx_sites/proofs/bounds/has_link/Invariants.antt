@@ -1,6 +1,6 @@
 use Rattle.std.proofs.Common.{◌≡◌}
-use Rattle.vx_model.specs.Sends.{is_linked}
-use Rattle.vx_model.specs.Refusals.{some_below}
+use Rattle.vx_history.specs.Sends.{is_linked}
+use Rattle.vx_history.specs.Refusals.{some_below}
 use Rattle.vx_sites.specs.Shapes.{world_of}
 use Rattle.vx_sites.proofs.bounds.has_link.Given as goal
 

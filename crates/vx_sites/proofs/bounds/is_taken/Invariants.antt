@@ -1,6 +1,6 @@
 use Rattle.std.proofs.Common.{◌≡◌}
 use Rattle.std.specs.Prelude.{bytes_eq}
-use Rattle.vx_model.specs.Refusals.{some_below}
+use Rattle.vx_history.specs.Refusals.{some_below}
 use Rattle.vx_sites.specs.Shapes.{world_of}
 use Rattle.vx_sites.proofs.bounds.is_taken.Given as goal
 

@@ -1,5 +1,5 @@
 use Rattle.std.proofs.Common.{◌≡◌, ◌-◌, ◌++◌, map}
-use Rattle.vx_model.specs.Events.{promises_of}
+use Rattle.vx_history.specs.Events.{promises_of}
 use Rattle.vx_sites.specs.Shapes.{promise_of, node_of, row_of}
 use Rattle.vx_sites.proofs.confirming.promise_below.Given as goal
 

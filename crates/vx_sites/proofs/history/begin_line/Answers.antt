@@ -1,5 +1,5 @@
 use Rattle.std.proofs.Common.{refl}
-use Rattle.vx_model.specs.World.{History, no_history}
+use Rattle.vx_history.specs.World.{History, no_history}
 use Rattle.vx_sites.specs.Shapes.{content_of}
 use Rattle.vx_sites.proofs.Entries.{line_changed}
 use Rattle.vx_sites.proofs.history.begin_line.Goals as goal

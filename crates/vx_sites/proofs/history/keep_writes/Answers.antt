@@ -1,5 +1,5 @@
 use Rattle.std.proofs.Common.{refl}
-use Rattle.vx_model.specs.World.{History}
+use Rattle.vx_history.specs.World.{History}
 use Rattle.vx_sites.proofs.Entries.{line_changed}
 use Rattle.vx_sites.proofs.history.keep_writes.Goals as goal
 

@@ -1,5 +1,5 @@
 use Rattle.std.proofs.Common.{◌≡◌, ℕ, ◌<◌, get_or, false}
-use Rattle.vx_model.specs.World.{same_line}
+use Rattle.vx_model.specs.Sites.{same_line}
 use Rattle.vx_sites.specs.declared.history.Entry.{Entry}
 use Rattle.vx_sites.proofs.history.seek_line.Given as goal
 

@@ -1,6 +1,6 @@
 use Rattle.std.proofs.Common.{◌≡◌, ◌+◌, length, refl, arith}
-use Rattle.vx_model.specs.World.{History}
-use Rattle.vx_model.specs.Steps.{told_of}
+use Rattle.vx_history.specs.World.{History}
+use Rattle.vx_history.specs.Steps.{told_of}
 use Rattle.vx_sites.proofs.Entries.{line_changed}
 use Rattle.vx_sites.proofs.history.tell_write.Goals as goal
 

@@ -1,5 +1,5 @@
 use Rattle.std.proofs.Common.{◌∙◌}
-use Rattle.vx_model.specs.World.{no_link}
+use Rattle.vx_history.specs.World.{no_link}
 use Rattle.vx_sites.specs.Shapes.{link_of}
 use Rattle.vx_sites.proofs.Tables.{seen-longer}
 use Rattle.vx_sites.proofs.link.lengthen_row.Goals as goal

@@ -1,5 +1,5 @@
 use Rattle.std.proofs.Common.{◌∙◌, ℕ, List, ap}
-use Rattle.vx_model.specs.World.{no_link}
+use Rattle.vx_history.specs.World.{no_link}
 use Rattle.vx_sites.specs.Shapes.{row_of}
 use Rattle.vx_sites.specs.declared.link.Row.{Row}
 use Rattle.vx_sites.specs.declared.link.Link.{Link as OwnLink}

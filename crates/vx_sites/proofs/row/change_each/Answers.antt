@@ -1,6 +1,6 @@
 use Rattle.std.proofs.Common.{◌≡◌, ◌<◌, length, arith, refl, ◌∙◌}
 use Rattle.std.proofs.lemmas.List.{length-set}
-use Rattle.vx_model.specs.Events.{link_after}
+use Rattle.vx_history.specs.Events.{link_after}
 use Rattle.vx_sites.specs.Shapes.{node_of}
 use Rattle.vx_sites.proofs.Each.{each_step, each_done}
 use Rattle.vx_sites.proofs.row.change_each.Goals as goal

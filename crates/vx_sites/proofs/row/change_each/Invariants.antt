@@ -1,5 +1,5 @@
 use Rattle.std.proofs.Common.{◌≡◌, length}
-use Rattle.vx_model.specs.Events.{link_after}
+use Rattle.vx_history.specs.Events.{link_after}
 use Rattle.vx_sites.specs.Shapes.{row_of, node_of}
 use Rattle.vx_sites.proofs.Tables.{changed_below}
 use Rattle.vx_sites.proofs.row.change_each.Given as goal

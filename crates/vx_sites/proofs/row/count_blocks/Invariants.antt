@@ -1,5 +1,5 @@
 use Rattle.std.proofs.Common.{◌≡◌, min, take}
-use Rattle.vx_model.specs.Events.{log_blocks}
+use Rattle.vx_history.specs.Events.{log_blocks}
 use Rattle.vx_sites.proofs.row.count_blocks.Given as goal
 
 abbrev pub invariant-loop-write : goal.invariant-loop-write

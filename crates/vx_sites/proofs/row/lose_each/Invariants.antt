@@ -1,6 +1,6 @@
 use Rattle.std.proofs.Common.{◌≡◌, ℕ, length}
-use Rattle.vx_model.specs.World.{Link}
-use Rattle.vx_model.specs.Events.{lost_touch}
+use Rattle.vx_history.specs.World.{Link}
+use Rattle.vx_history.specs.Events.{lost_touch}
 use Rattle.vx_sites.specs.Shapes.{row_of}
 use Rattle.vx_sites.proofs.Tables.{changed_below}
 use Rattle.vx_sites.proofs.row.lose_each.Given as goal

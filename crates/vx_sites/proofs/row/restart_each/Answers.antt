@@ -1,7 +1,7 @@
 use Rattle.std.proofs.Common.{◌≡◌, ℕ, ◌<◌, length, arith, refl, ◌∙◌}
 use Rattle.std.proofs.lemmas.List.{length-set}
-use Rattle.vx_model.specs.World.{Link, Node}
-use Rattle.vx_model.specs.Events.{restarted_link}
+use Rattle.vx_history.specs.World.{Link, Node}
+use Rattle.vx_history.specs.Events.{restarted_link}
 use Rattle.vx_sites.proofs.Each.{each_step, each_done}
 use Rattle.vx_sites.proofs.row.restart_each.Goals as goal
 

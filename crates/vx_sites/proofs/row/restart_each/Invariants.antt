@@ -1,6 +1,6 @@
 use Rattle.std.proofs.Common.{◌≡◌, ℕ, length}
-use Rattle.vx_model.specs.World.{Link, Node}
-use Rattle.vx_model.specs.Events.{restarted_link}
+use Rattle.vx_history.specs.World.{Link, Node}
+use Rattle.vx_history.specs.Events.{restarted_link}
 use Rattle.vx_sites.specs.Shapes.{row_of}
 use Rattle.vx_sites.proofs.Tables.{changed_below}
 use Rattle.vx_sites.proofs.row.restart_each.Given as goal

@@ -1,5 +1,5 @@
 use Rattle.std.proofs.Common.{◌≡◌, ◌+◌, ◌++◌, map, drop}
-use Rattle.vx_model.specs.Sends.{updates}
+use Rattle.vx_history.specs.Sends.{updates}
 use Rattle.vx_sites.specs.Shapes.{packet_of}
 use Rattle.vx_sites.proofs.updates.send_writes.Given as goal
 

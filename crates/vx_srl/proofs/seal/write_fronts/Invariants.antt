@@ -1,5 +1,5 @@
 use Rattle.std.proofs.Common.{◌-◌}
-use Rattle.vx_ringio.specs.Burns.{FallsShort, MakesCalls}
+use Rattle.vx_disk.specs.Burns.{FallsShort, MakesCalls}
 use Rattle.vx_srl.proofs.FrontLaws.{Written}
 use Rattle.vx_srl.proofs.seal.write_fronts.Given as goal
 

@@ -6,7 +6,8 @@ use Rattle.std.proofs.lemmas.Cmp.{nat_list_eq_equiv}
 use Rattle.vx_wire.specs.Seals.{filled}
 use Rattle.vx_wire.proofs.SealLemmas.{length-filled}
 use Rattle.vx_srlfmt.specs.Headers.{header_fields}
-use Rattle.vx_srlfmt.proofs.Lengths.{length-header_fields, put_at-whole}
+use Rattle.vx_wire.proofs.PlaceLemmas.{put_at-whole}
+use Rattle.vx_srlfmt.proofs.Lengths.{length-header_fields}
 use Rattle.vx_srlfmt.proofs.header.is_spelled.Goals as goal
 
 pub returns : goal.returns

@@ -2,7 +2,8 @@ use Rattle.std.proofs.Common.{arith, ◌≡◌, ◌≤◌, ◌∙◌, ◌++◌, 
 use Rattle.vx_wire.specs.Seals.{filled, sealed, digest_of}
 use Rattle.vx_wire.proofs.SealLemmas.{length-filled}
 use Rattle.vx_srlfmt.specs.Headers.{header_fields, header_block}
-use Rattle.vx_srlfmt.proofs.Lengths.{length-header_fields, take-put_at}
+use Rattle.vx_wire.proofs.PlaceLemmas.{take-put_at}
+use Rattle.vx_srlfmt.proofs.Lengths.{length-header_fields}
 use Rattle.vx_srlfmt.proofs.header.put_header.Goals as goal
 
 pub returns : goal.returns

@@ -6,7 +6,7 @@ use Rattle.std.proofs.lemmas.Cmp.{nat_list_eq_equiv}
 use Rattle.vx_wire.specs.Seals.{filled}
 use Rattle.vx_wire.proofs.SealLemmas.{length-filled}
 use Rattle.vx_srlfmt.specs.Records.{record_fields}
-use Rattle.vx_srlfmt.proofs.Lengths.{put_at-whole}
+use Rattle.vx_wire.proofs.PlaceLemmas.{put_at-whole}
 use Rattle.vx_srlfmt.proofs.RecordAgain.{length-record_fields}
 use Rattle.vx_srlfmt.proofs.record.is_spelled.Goals as goal
 

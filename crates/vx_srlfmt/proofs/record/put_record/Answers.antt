@@ -2,7 +2,7 @@ use Rattle.std.proofs.Common.{arith, ◌≡◌, ◌≤◌, ◌∙◌, ◌++◌, 
 use Rattle.vx_wire.specs.Seals.{filled, sealed, digest_of}
 use Rattle.vx_wire.proofs.SealLemmas.{length-filled}
 use Rattle.vx_srlfmt.specs.Records.{record_fields, record_block}
-use Rattle.vx_srlfmt.proofs.Lengths.{take-put_at}
+use Rattle.vx_wire.proofs.PlaceLemmas.{take-put_at}
 use Rattle.vx_srlfmt.proofs.RecordAgain.{length-record_fields}
 use Rattle.vx_srlfmt.proofs.record.put_record.Goals as goal
 

@@ -1,5 +1,5 @@
 use Rattle.std.proofs.Common.{◌≡◌}
-use Rattle.vx_model.specs.Events.{link_in_place}
+use Rattle.vx_history.specs.Events.{link_in_place}
 use Rattle.vx_sites.specs.Shapes.{world_of}
 use Rattle.vx_world.proofs.admission.find_link.Given as goal
 

@@ -1,5 +1,5 @@
 use Rattle.std.proofs.Common.{◌≡◌}
-use Rattle.vx_model.specs.Refusals.{some_below, is_waited_for}
+use Rattle.vx_history.specs.Refusals.{some_below, is_waited_for}
 use Rattle.vx_sites.specs.Shapes.{world_of}
 use Rattle.vx_world.proofs.admission.is_waited_for.Given as goal
 

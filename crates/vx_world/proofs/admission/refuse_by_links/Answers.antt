@@ -1,9 +1,9 @@
 use Rattle.std.proofs.Common.{◌∙◌, ℕ, ◌+◌, List, ap}
 use Rattle.std.specs.Prelude.{Option, Some, zip}
 use Rattle.vx_model.specs.Content.{blocks_in}
-use Rattle.vx_model.specs.Admission.{Held, first_down, first_full, changes}
-use Rattle.vx_model.specs.Events.{plain_links, linked_sites, uses, admitted}
-use Rattle.vx_model.specs.declared.admission.Change.{Change}
+use Rattle.vx_history.specs.Admission.{Held, first_down, first_full, changes}
+use Rattle.vx_history.specs.Events.{plain_links, linked_sites, uses, admitted}
+use Rattle.vx_history.specs.declared.admission.Change.{Change}
 use Rattle.vx_policy.specs.Verdicts.{refusal_if}
 use Rattle.vx_sites.specs.Shapes.{world_of}
 use Rattle.vx_world.proofs.Admitting.{held_write, held_down, held_full}

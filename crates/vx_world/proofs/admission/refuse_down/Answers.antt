@@ -1,7 +1,7 @@
 use Rattle.std.proofs.Common.{◌≡◌, ◌∙◌, ℕ, ◌-◌, List, sym, ap, arith}
 use Rattle.std.specs.Prelude.{Option}
-use Rattle.vx_model.specs.Admission.{first_down}
-use Rattle.vx_model.specs.Events.{plain_links, linked_sites, put_before}
+use Rattle.vx_history.specs.Admission.{first_down}
+use Rattle.vx_history.specs.Events.{plain_links, linked_sites, put_before}
 use Rattle.vx_policy.specs.Verdicts.{refusal_if}
 use Rattle.vx_sites.specs.Shapes.{world_of}
 use Rattle.vx_world.proofs.Admitting.{linked_more}

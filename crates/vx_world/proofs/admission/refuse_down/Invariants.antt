@@ -1,6 +1,6 @@
 use Rattle.std.proofs.Common.{◌≡◌, ◌-◌}
-use Rattle.vx_model.specs.Admission.{first_down}
-use Rattle.vx_model.specs.Events.{plain_links, linked_sites}
+use Rattle.vx_history.specs.Admission.{first_down}
+use Rattle.vx_history.specs.Events.{plain_links, linked_sites}
 use Rattle.vx_policy.specs.Verdicts.{refusal_if}
 use Rattle.vx_sites.specs.Shapes.{world_of}
 use Rattle.vx_world.proofs.admission.refuse_down.Given as goal

@@ -1,8 +1,8 @@
 use Rattle.std.proofs.Common.{◌≡◌, ◌∙◌, ℕ, ◌+◌, ◌-◌, ◌/◌, List, length, sym, ap, arith}
 use Rattle.std.specs.Prelude.{Option, zip}
 use Rattle.vx_model.specs.Content.{blocks_in}
-use Rattle.vx_model.specs.Admission.{first_full}
-use Rattle.vx_model.specs.Events.{plain_links, linked_sites, put_before, uses}
+use Rattle.vx_history.specs.Admission.{first_full}
+use Rattle.vx_history.specs.Events.{plain_links, linked_sites, put_before, uses}
 use Rattle.vx_policy.specs.Verdicts.{refusal_if}
 use Rattle.vx_sites.specs.Shapes.{world_of}
 use Rattle.vx_world.proofs.Admitting.{linked_more}

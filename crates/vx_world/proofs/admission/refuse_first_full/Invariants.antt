@@ -1,7 +1,7 @@
 use Rattle.std.proofs.Common.{◌≡◌, ◌-◌}
 use Rattle.std.specs.Prelude.{zip}
-use Rattle.vx_model.specs.Admission.{first_full}
-use Rattle.vx_model.specs.Events.{plain_links, linked_sites, uses}
+use Rattle.vx_history.specs.Admission.{first_full}
+use Rattle.vx_history.specs.Events.{plain_links, linked_sites, uses}
 use Rattle.vx_policy.specs.Verdicts.{refusal_if}
 use Rattle.vx_sites.specs.Shapes.{world_of}
 use Rattle.vx_world.proofs.admission.refuse_first_full.Given as goal

@@ -1,8 +1,8 @@
 use Rattle.std.proofs.Common.{◌∙◌, ℕ, drop, sym, ap}
 use Rattle.std.specs.Prelude.{Option, zip}
-use Rattle.vx_model.specs.Admission.{hold, held_by_room, first_full}
-use Rattle.vx_model.specs.LinkForms.{plain_link}
-use Rattle.vx_model.specs.Events.{log_blocks, plain_links, put_before, uses}
+use Rattle.vx_history.specs.Admission.{hold, held_by_room, first_full}
+use Rattle.vx_history.specs.LinkForms.{plain_link}
+use Rattle.vx_history.specs.Events.{log_blocks, plain_links, put_before, uses}
 use Rattle.vx_policy.specs.Verdicts.{refusal_if}
 use Rattle.vx_sites.specs.Shapes.{world_of}
 use Rattle.vx_world.proofs.Admitting.{held_first}

@@ -1,8 +1,9 @@
 use Rattle.std.proofs.Common.{◌≡◌, ◌∙◌, Bool, sym, ap, false}
 use Rattle.std.specs.Prelude.{if◌then◌else◌}
-use Rattle.vx_model.specs.World.{Node, is_origin}
-use Rattle.vx_model.specs.Refusals.{Outcome, at_site, at_work}
-use Rattle.vx_model.specs.Events.{reached_at, apply_at}
+use Rattle.vx_history.specs.World.{Node}
+use Rattle.vx_model.specs.Sites.{is_origin}
+use Rattle.vx_history.specs.Refusals.{Outcome, at_site, at_work}
+use Rattle.vx_history.specs.Events.{reached_at, apply_at}
 use Rattle.vx_sites.specs.Shapes.{world_of}
 use Rattle.vx_world.proofs.Passing.{passed}
 use Rattle.vx_world.proofs.applies.apply.Goals as goal

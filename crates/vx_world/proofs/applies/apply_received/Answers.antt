@@ -1,8 +1,8 @@
 use Rattle.std.proofs.Common.{◌≡◌, ℕ, ◌-◌, min, length, refl, arith, subst, false}
 use Rattle.std.specs.Prelude.{eqb}
 use Rattle.std.proofs.lemmas.Bool.Decides.{nat_tests}
-use Rattle.vx_model.specs.World.{Node}
-use Rattle.vx_model.specs.LinkForms.{plain_receiver}
+use Rattle.vx_history.specs.World.{Node}
+use Rattle.vx_history.specs.LinkForms.{plain_receiver}
 use Rattle.vx_sites.specs.Shapes.{world_of, node_of}
 use Rattle.vx_world.proofs.Applying.{Due, apply_due, acked}
 use Rattle.vx_world.proofs.applies.apply_received.Goals as goal

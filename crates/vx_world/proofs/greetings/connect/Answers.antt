@@ -1,7 +1,7 @@
 use Rattle.std.proofs.Common.{◌∙◌, ap}
-use Rattle.vx_model.specs.World.{World}
-use Rattle.vx_model.specs.Refusals.{says}
-use Rattle.vx_model.specs.declared.event.Said.TheVariants.{Done}
+use Rattle.vx_history.specs.World.{World}
+use Rattle.vx_history.specs.Refusals.{says}
+use Rattle.vx_history.specs.declared.event.Said.TheVariants.{Done}
 use Rattle.vx_sites.specs.Shapes.{world_of}
 use Rattle.vx_world.proofs.Exchanges.{connected}
 use Rattle.vx_world.proofs.greetings.connect.Goals as goal

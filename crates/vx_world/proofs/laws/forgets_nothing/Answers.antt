@@ -1,5 +1,5 @@
 -- Every event leaves what lines hold.
-use Rattle.vx_model.specs.Step.{run}
+use Rattle.vx_history.specs.Step.{run}
 use Rattle.vx_world.proofs.Lists.{prefix_number}
 use Rattle.vx_world.proofs.Grows.{run_grows}
 use Rattle.vx_world.proofs.laws.forgets_nothing.Goals as goal

@@ -1,5 +1,5 @@
 -- Each clause is part of what holds of a sound world.
-use Rattle.vx_model.specs.Step.{run}
+use Rattle.vx_history.specs.Step.{run}
 use Rattle.vx_world.proofs.Stays.{run_keeps}
 use Rattle.vx_world.proofs.Words.{whole_content, answered_kept, promise_kept, update_is}
 use Rattle.vx_world.proofs.laws.in_order.Goals as goal

@@ -1,5 +1,5 @@
 -- Each clause is its theorem.
-use Rattle.vx_model.specs.World.{empty_world}
+use Rattle.vx_history.specs.World.{empty_world}
 use Rattle.vx_world.proofs.Stays.{step_keeps, run_keeps, empty_sound}
 use Rattle.vx_world.proofs.laws.stays_sound.Goals as goal
 

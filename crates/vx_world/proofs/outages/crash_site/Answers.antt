@@ -1,6 +1,6 @@
 use Rattle.std.proofs.Common.{◌≡◌, ◌∙◌, ℕ, length, ap, arith}
-use Rattle.vx_model.specs.World.{Node}
-use Rattle.vx_model.specs.Events.{kept_of, crash_at}
+use Rattle.vx_history.specs.World.{Node}
+use Rattle.vx_history.specs.Events.{kept_of, crash_at}
 use Rattle.vx_sites.specs.Shapes.{world_of, node_of}
 use Rattle.vx_world.proofs.Downs.{crash_done}
 use Rattle.vx_world.proofs.outages.crash_site.Goals as goal

@@ -1,5 +1,6 @@
 use Rattle.std.proofs.Common.{◌≡◌, ◌∙◌, sym, ap, true}
-use Rattle.vx_model.specs.World.{Node, is_origin}
+use Rattle.vx_history.specs.World.{Node}
+use Rattle.vx_model.specs.Sites.{is_origin}
 use Rattle.vx_sites.specs.Shapes.{world_of}
 use Rattle.vx_world.proofs.Downs.{crashed_origin}
 use Rattle.vx_world.proofs.outages.take_down.Goals as goal

@@ -1,4 +1,4 @@
-use Rattle.vx_model.specs.declared.sender.SEvent.TheVariants.{Pump}
+use Rattle.vx_history.specs.declared.sender.SEvent.TheVariants.{Pump}
 use Rattle.vx_sites.specs.Shapes.{world_of}
 use Rattle.vx_world.proofs.Exchanges.{moved_and_sent}
 use Rattle.vx_world.proofs.pumps.pump_link.Goals as goal

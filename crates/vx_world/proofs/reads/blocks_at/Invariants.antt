@@ -1,6 +1,6 @@
 use Rattle.std.proofs.Common.{◌≡◌, ◌*◌, length}
 use Rattle.vx_model.specs.Content.{blocks_from}
-use Rattle.vx_model.specs.Step.{joined_blocks}
+use Rattle.vx_history.specs.Step.{joined_blocks}
 use Rattle.vx_sites.specs.Shapes.{content_of}
 use Rattle.vx_world.proofs.reads.blocks_at.Given as goal
 

@@ -1,9 +1,9 @@
 use Rattle.std.proofs.Common.{◌≡◌, ◌∙◌, ℕ, length, ap, subst, arith}
-use Rattle.vx_model.specs.World.{World, Node}
-use Rattle.vx_model.specs.Steps.{recovered}
-use Rattle.vx_model.specs.Refusals.{says}
-use Rattle.vx_model.specs.Events.{come_back, recovered_at}
-use Rattle.vx_model.specs.declared.event.Said.TheVariants.{Recovered}
+use Rattle.vx_history.specs.World.{World, Node}
+use Rattle.vx_history.specs.Steps.{recovered}
+use Rattle.vx_history.specs.Refusals.{says}
+use Rattle.vx_history.specs.Events.{come_back, recovered_at}
+use Rattle.vx_history.specs.declared.event.Said.TheVariants.{Recovered}
 use Rattle.vx_sites.specs.Shapes.{world_of, node_of}
 use Rattle.vx_world.proofs.Downs.{recovered_is}
 use Rattle.vx_world.proofs.recoveries.bring_up.Goals as goal

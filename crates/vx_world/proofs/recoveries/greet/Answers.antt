@@ -1,6 +1,7 @@
 use Rattle.std.proofs.Common.{◌≡◌, ◌∙◌, ℕ, length, sym, ap, arith}
-use Rattle.vx_model.specs.World.{Node, Hello, is_origin}
-use Rattle.vx_model.specs.Sends.{sending, packets_of}
+use Rattle.vx_history.specs.World.{Node, Hello}
+use Rattle.vx_model.specs.Sites.{is_origin}
+use Rattle.vx_history.specs.Sends.{sending, packets_of}
 use Rattle.vx_sites.specs.Shapes.{world_of, node_of}
 use Rattle.vx_world.proofs.Downs.{greets_none, greets_primary}
 use Rattle.vx_world.proofs.recoveries.greet.Goals as goal

@@ -1,8 +1,8 @@
 use Rattle.std.proofs.Common.{◌≡◌, ◌∙◌, ◌+◌, ℕ, length, sym, ap, refl, arith}
-use Rattle.vx_model.specs.World.{Node}
-use Rattle.vx_model.specs.LinkForms.{plain_receiver}
-use Rattle.vx_model.specs.Receiving.{marked_by}
-use Rattle.vx_model.specs.declared.receiver.RState.{RState}
+use Rattle.vx_history.specs.World.{Node}
+use Rattle.vx_history.specs.LinkForms.{plain_receiver}
+use Rattle.vx_history.specs.Receiving.{marked_by}
+use Rattle.vx_history.specs.declared.receiver.RState.{RState}
 use Rattle.vx_sites.specs.Shapes.{node_of}
 use Rattle.vx_world.proofs.Downs.{back_origin, back_receiver}
 use Rattle.vx_world.proofs.recoveries.mark_after.Goals as goal

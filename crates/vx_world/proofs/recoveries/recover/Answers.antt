@@ -1,7 +1,7 @@
 use Rattle.std.proofs.Common.{◌∙◌, sym, ap}
-use Rattle.vx_model.specs.World.{Node}
-use Rattle.vx_model.specs.Refusals.{unless_at_most, at_site}
-use Rattle.vx_model.specs.Events.{recovery, recover_from}
+use Rattle.vx_history.specs.World.{Node}
+use Rattle.vx_history.specs.Refusals.{unless_at_most, at_site}
+use Rattle.vx_history.specs.Events.{recovery, recover_from}
 use Rattle.vx_model.specs.declared.site.SiteState.{SiteState}
 use Rattle.vx_sites.specs.Shapes.{world_of}
 use Rattle.vx_world.proofs.Passing.{passed}

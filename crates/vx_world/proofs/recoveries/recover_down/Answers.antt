@@ -1,8 +1,8 @@
 use Rattle.std.proofs.Common.{◌∙◌, ℕ, sym, ap}
 use Rattle.std.specs.Prelude.{Option, None}
-use Rattle.vx_model.specs.World.{Node}
-use Rattle.vx_model.specs.Refusals.{unless_at_most}
-use Rattle.vx_model.specs.Events.{recovery}
+use Rattle.vx_history.specs.World.{Node}
+use Rattle.vx_history.specs.Refusals.{unless_at_most}
+use Rattle.vx_history.specs.Events.{recovery}
 use Rattle.vx_sites.specs.Shapes.{world_of}
 use Rattle.vx_world.proofs.Passing.{passed}
 use Rattle.vx_world.proofs.recoveries.recover_down.Goals as goal

@@ -1,6 +1,6 @@
 use Rattle.std.proofs.Common.{◌∙◌, ap}
-use Rattle.vx_model.specs.Events.{link_step}
-use Rattle.vx_model.specs.Sending.{Sent}
+use Rattle.vx_history.specs.Events.{link_step}
+use Rattle.vx_history.specs.Sending.{Sent}
 use Rattle.vx_sites.specs.Shapes.{world_of, link_of, node_of}
 use Rattle.vx_world.proofs.Rules.{own_facts, step_is, moved_is}
 use Rattle.vx_world.proofs.rule.move_link.Goals as goal

@@ -1,6 +1,6 @@
 use Rattle.std.proofs.Common.{◌∙◌, sym, ap}
-use Rattle.vx_model.specs.Step.{link_part}
-use Rattle.vx_model.specs.declared.event.LinkPart.{LinkPart}
+use Rattle.vx_history.specs.Step.{link_part}
+use Rattle.vx_history.specs.declared.event.LinkPart.{LinkPart}
 use Rattle.vx_sites.specs.Shapes.{world_of}
 use Rattle.vx_world.proofs.Passing.{passed}
 use Rattle.vx_world.proofs.settings.link_by_part.Goals as goal

@@ -1,6 +1,6 @@
 use Rattle.std.proofs.Common.{◌∙◌}
-use Rattle.vx_model.specs.Refusals.{at_site, both_at_work}
-use Rattle.vx_model.specs.Step.{link_part}
+use Rattle.vx_history.specs.Refusals.{at_site, both_at_work}
+use Rattle.vx_history.specs.Step.{link_part}
 use Rattle.vx_sites.specs.Shapes.{world_of}
 use Rattle.vx_world.proofs.Passing.{passed}
 use Rattle.vx_world.proofs.settings.link_sites.Goals as goal

@@ -1,6 +1,6 @@
 use Rattle.std.proofs.Common.{◌∙◌, ℕ, sym, ap}
-use Rattle.vx_model.specs.World.{Node}
-use Rattle.vx_model.specs.Events.{new_link}
+use Rattle.vx_history.specs.World.{Node}
+use Rattle.vx_history.specs.Events.{new_link}
 use Rattle.vx_sites.specs.Shapes.{world_of}
 use Rattle.vx_world.proofs.settings.next_link.Goals as goal
 

@@ -1,10 +1,10 @@
 use Rattle.std.proofs.Common.{◌≡◌, ◌∙◌}
 use Rattle.std.proofs.lemmas.Result.{IfOk-weaker}
-use Rattle.vx_model.specs.World.{World}
-use Rattle.vx_model.specs.Refusals.{Outcome, says, at_work}
-use Rattle.vx_model.specs.Step.{step}
-use Rattle.vx_model.specs.declared.event.Said.{Said}
-use Rattle.vx_model.specs.declared.event.Event.TheVariants.{Wait}
+use Rattle.vx_history.specs.World.{World}
+use Rattle.vx_history.specs.Refusals.{Outcome, says, at_work}
+use Rattle.vx_history.specs.Step.{step}
+use Rattle.vx_history.specs.declared.event.Said.{Said}
+use Rattle.vx_history.specs.declared.event.Event.TheVariants.{Wait}
 use Rattle.vx_sites.specs.Shapes.{world_of}
 use Rattle.vx_world.specs.Confirming.{may_confirm, confirmed}
 use Rattle.vx_world.proofs.waits.wait.Goals as goal

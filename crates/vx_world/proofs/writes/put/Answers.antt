@@ -1,6 +1,6 @@
 use Rattle.std.proofs.Common.{ℕ, sym, ap}
 use Rattle.std.specs.Prelude.{Option, None}
-use Rattle.vx_model.specs.Events.{put_in}
+use Rattle.vx_history.specs.Events.{put_in}
 use Rattle.vx_sites.specs.Shapes.{world_of}
 use Rattle.vx_world.proofs.Passing.{passed}
 use Rattle.vx_world.proofs.writes.put.Goals as goal

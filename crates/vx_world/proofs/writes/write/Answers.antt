@@ -2,9 +2,9 @@ use Rattle.std.proofs.Common.{◌≡◌, ◌∙◌, ℕ, ◌/◌, List, length, 
 use Rattle.std.specs.Prelude.{◌||◌}
 use Rattle.vx_model.specs.Content.{Write, blocks_in}
 use Rattle.vx_model.specs.Answer.{is_wrong_count, is_too_large, is_past}
-use Rattle.vx_model.specs.Refusals.{Outcome, unless, on_volume}
-use Rattle.vx_model.specs.Events.{admitted, written_if}
-use Rattle.vx_model.specs.Step.{write_at}
+use Rattle.vx_history.specs.Refusals.{Outcome, unless, on_volume}
+use Rattle.vx_history.specs.Events.{admitted, written_if}
+use Rattle.vx_history.specs.Step.{write_at}
 use Rattle.vx_model.specs.declared.no.No.TheVariants.{Range, Size}
 use Rattle.vx_sites.specs.Shapes.{world_of}
 use Rattle.vx_world.proofs.Passing.{passed}

@@ -1,5 +1,5 @@
-use Rattle.vx_model.specs.Refusals.{unless_at_most}
-use Rattle.vx_model.specs.Events.{links_changed, put_in, admitted, written_if}
+use Rattle.vx_history.specs.Refusals.{unless_at_most}
+use Rattle.vx_history.specs.Events.{links_changed, put_in, admitted, written_if}
 use Rattle.vx_sites.specs.Shapes.{world_of}
 use Rattle.vx_world.proofs.Passing.{passed}
 use Rattle.vx_world.proofs.writes.write_if_let_in.Goals as goal

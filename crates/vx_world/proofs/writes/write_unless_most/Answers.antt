@@ -1,7 +1,7 @@
 use Rattle.std.proofs.Common.{◌∙◌, ap, refl, arith}
-use Rattle.vx_model.specs.World.{World, Node}
-use Rattle.vx_model.specs.Refusals.{unless_at_most}
-use Rattle.vx_model.specs.Events.{links_changed, put_in}
+use Rattle.vx_history.specs.World.{World, Node}
+use Rattle.vx_history.specs.Refusals.{unless_at_most}
+use Rattle.vx_history.specs.Events.{links_changed, put_in}
 use Rattle.vx_sites.specs.Shapes.{world_of}
 use Rattle.vx_world.proofs.Passing.{passed}
 use Rattle.vx_world.proofs.writes.write_unless_most.Goals as goal

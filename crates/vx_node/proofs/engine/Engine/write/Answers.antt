@@ -1,5 +1,5 @@
 use Rattle.std.proofs.Common.{sym, ◌∙◌}
-use Rattle.vx_model.specs.Steps.{half_begun}
+use Rattle.vx_history.specs.Steps.{half_begun}
 use Rattle.vx_node.proofs.Crashing.{wrote_off}
 use Rattle.vx_node.proofs.engine.Engine.write.Goals as goal
 

@@ -1,7 +1,7 @@
 -- Each case of a line that makes a raw set.
 use Rattle.std.proofs.Common.{◌≡◌, ◌∙◌, ap, sym, refl, arith}
 use Rattle.std.specs.Prelude.{slice_set, Some, map, ◌-◌}
-use Rattle.vx_model.specs.Steps.{raw_volumes}
+use Rattle.vx_history.specs.Steps.{raw_volumes}
 use Rattle.vx_order.specs.declared.facts.SiteFacts.{SiteFacts}
 use Rattle.vx_node.specs.Facts.{seat_of, volume_fact}
 use Rattle.vx_node.specs.Yards.{in_files}

@@ -1,6 +1,6 @@
 -- A new yard over fresh racks.
 use Rattle.std.proofs.Common.{◌∙◌, ap, sym, subst, arith}
-use Rattle.vx_model.specs.World.{empty_world}
+use Rattle.vx_history.specs.World.{empty_world}
 use Rattle.vx_node.specs.Stands.{EnginesStand, faults_of}
 use Rattle.vx_node.proofs.News.{engines_new, counts_new}
 use Rattle.vx_node.proofs.yard.Yard.new.Goals as goal

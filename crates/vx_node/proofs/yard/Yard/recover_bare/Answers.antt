@@ -1,7 +1,8 @@
 -- Each case of the recovery of a bare site.
 use Rattle.std.proofs.Common.{◌≡◌, ◌≤◌, ◌∙◌, ap, sym, subst, refl, arith}
 use Rattle.std.specs.Prelude.{slice_set, Some, map, ◌-◌, Ok, Err}
-use Rattle.vx_model.specs.Steps.{raw_volumes, ring_of}
+use Rattle.vx_history.specs.Steps.{raw_volumes}
+use Rattle.vx_model.specs.Sizes.{ring_of}
 use Rattle.vx_order.specs.declared.facts.SiteFacts.{SiteFacts}
 use Rattle.vx_node.specs.Engines.{BareUpIs}
 use Rattle.vx_node.specs.Facts.{volume_fact}

@@ -1,7 +1,7 @@
 -- Each case of a line that recovers a site.
 use Rattle.std.proofs.Common.{◌≡◌, ◌∙◌, ap, sym, refl, arith}
 use Rattle.std.specs.Prelude.{Some}
-use Rattle.vx_model.specs.Steps.{ring_of}
+use Rattle.vx_model.specs.Sizes.{ring_of}
 use Rattle.vx_order.specs.declared.facts.SiteFacts.{SiteFacts}
 use Rattle.vx_node.specs.Facts.{seat_of}
 use Rattle.vx_node.specs.Yards.{in_files}

@@ -1,6 +1,6 @@
 use Rattle.std.proofs.Common.{[], ◌∷◌}
 use Rattle.vx_model.specs.Content.{zeros}
-use Rattle.vx_model.proofs.GoodLemmas.{fold_append}
+use Rattle.vx_history.proofs.GoodLemmas.{fold_append}
 use Rattle.vx_sites.specs.Shapes.{sizes}
 use Rattle.vx_sites.proofs.content.Content.put.Goals as goal
 

@@ -1,5 +1,5 @@
 use Rattle.vx_model.specs.Content.{zeros}
-use Rattle.vx_model.proofs.GoodLemmas.{fold_append}
+use Rattle.vx_history.proofs.GoodLemmas.{fold_append}
 use Rattle.vx_sites.specs.Shapes.{sizes}
 use Rattle.vx_sites.proofs.content.Content.put_all.Goals as goal
 

@@ -1,5 +1,5 @@
 use Rattle.std.proofs.Common.{◌∙◌, ℕ, ap}
-use Rattle.vx_model.specs.World.{no_link, updated, Link}
+use Rattle.vx_history.specs.World.{no_link, updated, Link}
 use Rattle.vx_sites.specs.Shapes.{link_of}
 use Rattle.vx_sites.proofs.Tables.{seen-set}
 use Rattle.vx_sites.proofs.link.Row.set.Goals as goal

@@ -1,6 +1,6 @@
 use Rattle.std.proofs.Common.{◌≡◌, ◌∙◌, List, take, drop, refl, ap}
-use Rattle.vx_model.specs.World.{Node}
-use Rattle.vx_model.specs.Events.{applied}
+use Rattle.vx_history.specs.World.{Node}
+use Rattle.vx_history.specs.Events.{applied}
 use Rattle.vx_model.specs.Content.{Write, fold_writes}
 use Rattle.vx_sites.specs.Shapes.{world_of, node_of, content_of}
 use Rattle.vx_sites.proofs.Worlds.{node_changed, applied_is}

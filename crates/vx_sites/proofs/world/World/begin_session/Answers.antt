@@ -1,5 +1,5 @@
 use Rattle.std.proofs.Common.{◌+◌, refl}
-use Rattle.vx_model.specs.World.{Node}
+use Rattle.vx_history.specs.World.{Node}
 use Rattle.vx_sites.specs.Shapes.{world_of}
 use Rattle.vx_sites.proofs.Worlds.{node_changed}
 use Rattle.vx_sites.proofs.world.World.begin_session.Goals as goal

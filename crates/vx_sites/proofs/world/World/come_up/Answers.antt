@@ -1,6 +1,6 @@
 use Rattle.std.proofs.Common.{◌+◌, refl, None}
-use Rattle.vx_model.specs.World.{Node}
-use Rattle.vx_model.specs.Steps.{recovered}
+use Rattle.vx_history.specs.World.{Node}
+use Rattle.vx_history.specs.Steps.{recovered}
 use Rattle.vx_model.specs.declared.site.SiteState.TheVariants.{Up}
 use Rattle.vx_sites.specs.Shapes.{world_of}
 use Rattle.vx_sites.proofs.Worlds.{node_changed}

@@ -1,6 +1,6 @@
 use Rattle.std.proofs.Common.{◌≡◌, ◌∙◌, List, take, drop, refl, ap, None}
-use Rattle.vx_model.specs.World.{Node}
-use Rattle.vx_model.specs.Steps.{crashed}
+use Rattle.vx_history.specs.World.{Node}
+use Rattle.vx_history.specs.Steps.{crashed}
 use Rattle.vx_model.specs.Content.{Write, fold_writes}
 use Rattle.vx_model.specs.declared.site.SiteState.TheVariants.{Down}
 use Rattle.vx_sites.specs.Shapes.{world_of, node_of, content_of}

@@ -1,5 +1,5 @@
 use Rattle.std.proofs.Common.{◌≡◌}
-use Rattle.vx_model.specs.Refusals.{some_below, holds_back}
+use Rattle.vx_history.specs.Refusals.{some_below, holds_back}
 use Rattle.vx_sites.specs.Shapes.{world_of}
 use Rattle.vx_sites.proofs.world.World.is_held_back.Given as goal
 

@@ -1,5 +1,5 @@
 use Rattle.std.proofs.Common.{◌≡◌}
-use Rattle.vx_model.specs.Refusals.{some_below, is_unconfirmed}
+use Rattle.vx_history.specs.Refusals.{some_below, is_unconfirmed}
 use Rattle.vx_sites.specs.Shapes.{world_of}
 use Rattle.vx_sites.proofs.world.World.is_unconfirmed.Given as goal
 

@@ -1,6 +1,6 @@
 use Rattle.std.proofs.Common.{◌≡◌, ◌∙◌, refl, sym, ap}
-use Rattle.vx_model.specs.World.{Node}
-use Rattle.vx_model.specs.Events.{joined}
+use Rattle.vx_history.specs.World.{Node}
+use Rattle.vx_history.specs.Events.{joined}
 use Rattle.vx_model.specs.declared.site.Role.TheVariants.{Secondary}
 use Rattle.vx_model.specs.declared.site.Mark.TheVariants.{Inconsistent}
 use Rattle.vx_model.specs.declared.site.SPhase.TheVariants.{Quiet}

@@ -1,7 +1,7 @@
 use Rattle.std.proofs.Common.{◌∙◌, ℕ, ap, refl, sym, ◌<◌, length, arith}
-use Rattle.vx_model.specs.World.{Link, Node}
-use Rattle.vx_model.specs.Sends.{with_links}
-use Rattle.vx_model.specs.Events.{link_after}
+use Rattle.vx_history.specs.World.{Link, Node}
+use Rattle.vx_history.specs.Sends.{with_links}
+use Rattle.vx_history.specs.Events.{link_after}
 use Rattle.vx_sites.specs.Shapes.{world_of, node_of}
 use Rattle.vx_sites.proofs.Worlds.{row_changed, node_at}
 use Rattle.vx_sites.proofs.world.World.let_in.Goals as goal

@@ -1,6 +1,6 @@
 use Rattle.std.proofs.Common.{◌++◌, [], ◌∷◌, refl, Some}
-use Rattle.vx_model.specs.World.{Node}
-use Rattle.vx_model.specs.Steps.{burned}
+use Rattle.vx_history.specs.World.{Node}
+use Rattle.vx_history.specs.Steps.{burned}
 use Rattle.vx_sites.specs.Shapes.{world_of}
 use Rattle.vx_sites.proofs.Worlds.{node_changed}
 use Rattle.vx_sites.proofs.world.World.log_half.Goals as goal

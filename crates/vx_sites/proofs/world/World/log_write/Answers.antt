@@ -1,6 +1,6 @@
 use Rattle.std.proofs.Common.{◌∙◌, ◌+◌, refl}
-use Rattle.vx_model.specs.World.{Node}
-use Rattle.vx_model.specs.Steps.{logged}
+use Rattle.vx_history.specs.World.{Node}
+use Rattle.vx_history.specs.Steps.{logged}
 use Rattle.vx_sites.specs.Shapes.{world_of, node_of, content_of, lines_of}
 use Rattle.vx_sites.proofs.Worlds.{node_changed, node_at, logged_is, written_is}
 use Rattle.vx_sites.proofs.world.World.log_write.Goals as goal

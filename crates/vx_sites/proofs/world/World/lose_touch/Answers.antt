@@ -1,6 +1,6 @@
 use Rattle.std.proofs.Common.{ℕ, refl, ◌<◌, length, arith}
-use Rattle.vx_model.specs.World.{Link}
-use Rattle.vx_model.specs.Events.{lost_touch}
+use Rattle.vx_history.specs.World.{Link}
+use Rattle.vx_history.specs.Events.{lost_touch}
 use Rattle.vx_sites.specs.Shapes.{world_of}
 use Rattle.vx_sites.proofs.Worlds.{row_changed}
 use Rattle.vx_sites.proofs.world.World.lose_touch.Goals as goal

@@ -1,6 +1,7 @@
 use Rattle.std.proofs.Common.{◌∙◌, refl, None}
-use Rattle.vx_model.specs.World.{Node}
-use Rattle.vx_model.specs.Steps.{first_line, raw_set}
+use Rattle.vx_history.specs.World.{Node}
+use Rattle.vx_model.specs.Sites.{first_line}
+use Rattle.vx_history.specs.Steps.{raw_set}
 use Rattle.vx_model.specs.declared.site.Role.TheVariants.{Primary}
 use Rattle.vx_model.specs.declared.site.Mark.TheVariants.{Consistent}
 use Rattle.vx_model.specs.declared.site.SiteState.TheVariants.{Up}

@@ -1,6 +1,6 @@
 use Rattle.std.proofs.Common.{refl}
-use Rattle.vx_model.specs.Events.{with_write}
-use Rattle.vx_model.specs.World.{Node as PlainNode}
+use Rattle.vx_history.specs.Events.{with_write}
+use Rattle.vx_history.specs.World.{Node as PlainNode}
 use Rattle.vx_sites.specs.Shapes.{world_of}
 use Rattle.vx_sites.proofs.Worlds.{node_changed}
 use Rattle.vx_sites.proofs.world.World.receive.Goals as goal

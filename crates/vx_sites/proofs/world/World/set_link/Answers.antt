@@ -1,5 +1,5 @@
 use Rattle.std.proofs.Common.{ℕ}
-use Rattle.vx_model.specs.World.{Link, updated}
+use Rattle.vx_history.specs.World.{Link, updated}
 use Rattle.vx_sites.specs.Shapes.{world_of, link_of}
 use Rattle.vx_sites.proofs.Worlds.{row_changed}
 use Rattle.vx_sites.proofs.world.World.set_link.Goals as goal

@@ -2,7 +2,7 @@ use Rattle.std.proofs.Common.{◌≡◌, ◌∙◌, ◌+◌, ℕ, subst, ap}
 use Rattle.vx_disk.specs.Moves.{Moves, Run}
 use Rattle.vx_disk.specs.Shelf.{Goes, Nothing}
 use Rattle.vx_disk.proofs.Runs.{then_nothing}
-use Rattle.vx_model.specs.Steps.{ring_of}
+use Rattle.vx_model.specs.Sizes.{ring_of}
 use Rattle.vx_srl.specs.Starts.{StartCause, Restarting, IsStarted, Room}
 use Rattle.vx_srl.proofs.StartCauses.{limit_since, no_header_cause, scan_cause, take_over_cause}
 use Rattle.vx_srl.proofs.StartLogs.{rests, header_left, scans_left, goes_over, is_started}

@@ -1,0 +1,11 @@
+pub mod Admission
+pub mod Events
+pub mod Good
+pub mod LinkForms
+pub mod Receiving
+pub mod Refusals
+pub mod Sending
+pub mod Sends
+pub mod Step
+pub mod Steps
+pub mod World

@@ -1,0 +1,112 @@
+-- What the events of a primary without links make of the world.
+use Rattle.std.specs.Prelude.{ℕ, ◌+◌, ◌-◌, min, List, [], ◌∷◌, ◌++◌, length, take, drop, ltb, if◌then◌else◌, Some, None, codes, zero, suc}
+use Rattle.std.specs.Fmt.{decimal}
+use Rattle.vx_model.specs.Content.{Write, Content, put, fold_writes, zeros}
+use Rattle.vx_history.specs.World.{Node, History, World, Volume, Fuse, NoFuse, FuseSet, FuseLit, bare_site, updated, with_node, with_history}
+use Rattle.vx_model.specs.Sites.{no_line, first_line}
+use Rattle.vx_model.specs.Sizes.{ring_of}
+use Rattle.vx_model.specs.declared.history.Line.{Line}
+use Rattle.vx_model.specs.declared.site.Role.TheVariants.{Primary}
+use Rattle.vx_model.specs.declared.site.Mark.TheVariants.{Consistent}
+use Rattle.vx_model.specs.declared.site.SiteState.TheVariants.{Up, Down}
+
+-- a further site, of which nothing is made yet
+abbrev pub site_made : World → List ℕ → ℕ → ℕ → World
+site_made w name disks blocks = record w { sites = w.sites + 1; nodes = updated w.nodes w.sites (bare_site name disks blocks) }
+
+-- so many volumes d1, d2 and so on, the first of them with number k, each as large as a disk
+abbrev pub raw_volumes : ℕ → ℕ → ℕ → List Volume
+raw_volumes k zero blocks = []
+raw_volumes k (suc n) blocks = record { name = codes "d" ++ decimal k; blocks = blocks } ∷ raw_volumes (k + 1) n blocks
+
+-- the content of a raw set's volumes as they are made
+abbrev pub raw_content : ℕ → ℕ → Content
+raw_content disks blocks = zeros (λ v. if ltb v (disks - 2) then blocks else 0)
+
+-- a bare site as a raw set: disk 0 is its log, the last disk its maps, and each disk between a volume of zeros
+abbrev pub raw_set : ℕ → Node → Node
+raw_set site n = record n {
+  state = Up;
+  ring = ring_of n.blocks;
+  volumes = raw_volumes 1 (n.disks - 2) n.blocks;
+  role = Primary;
+  mark = Consistent;
+  line = first_line site;
+  top = 1;
+  session = 1;
+  start = raw_content n.disks n.blocks;
+  base = raw_content n.disks n.blocks;
+  log = [];
+  safe = 0;
+  halted = None;
+}
+
+abbrev pub raw_history : Node → History
+raw_history n = record { parent = no_line; fork = 0; start = raw_content n.disks n.blocks; held = []; told = 0 }
+
+abbrev pub raw_made : World → ℕ → World
+raw_made w s = with_history w s (raw_set s (w.nodes s)) (raw_history (w.nodes s))
+
+-- a fuse behind a line that may write or flush
+abbrev pub burned : Fuse → Fuse
+burned NoFuse = NoFuse
+burned (FuseSet calls) = FuseLit
+burned FuseLit = FuseLit
+
+-- a site with one more write, which is durable
+abbrev pub logged : Node → Write → Node
+logged n x = record n { base = put n.base x; log = n.log ++ x ∷ []; safe = n.safe + 1; fuse = burned n.fuse }
+
+-- its line with that write, which was answered
+abbrev pub told_of : History → Write → History
+told_of h x = record h { held = h.held ++ x ∷ []; told = length h.held + 1 }
+
+-- a write that was answered with its number
+abbrev pub written : World → ℕ → Write → World
+written w s x = let n = w.nodes s in with_history w s (logged n x) (told_of (w.lines n.line) x)
+
+-- a write that met a failing disk: whether it stands is not known, and the site is halted
+abbrev pub half_written : World → ℕ → Write → ℕ → World
+half_written w s x disk = let n = w.nodes s in with_node w s (record n { log = n.log ++ x ∷ []; halted = Some disk; fuse = burned n.fuse })
+
+-- a site that crashed and kept its first k writes
+abbrev pub crashed : Node → ℕ → Node
+crashed n k = record n { state = Down; base = fold_writes n.base (drop n.safe (take k n.log)); log = take k n.log; safe = k; halted = None; fuse = NoFuse }
+
+-- its line holds them
+abbrev pub kept_by : History → Node → ℕ → History
+kept_by h n k = record h { held = take k n.log }
+
+abbrev pub crash_left : World → ℕ → ℕ → World
+crash_left w s k = let n = w.nodes s in with_history w s (crashed n k) (kept_by (w.lines n.line) n k)
+
+-- a site with a write that was begun
+abbrev pub half_begun : Node → Write → Node
+half_begun n x = record n { log = n.log ++ x ∷ [] }
+
+-- a site whose fuse ran out in a write: a crash that kept its first k writes
+abbrev pub cut_write : World → ℕ → Write → ℕ → World
+cut_write w s x k = let n = w.nodes s in with_history w s (crashed (half_begun n x) k) (kept_by (w.lines n.line) (half_begun n x) k)
+
+-- a site that came up again, in its next session
+abbrev pub recovered : Node → Node
+recovered n = record n { state = Up; session = n.session + 1; halted = None }
+
+abbrev pub came_up : World → ℕ → World
+came_up w s = with_node w s (recovered (w.nodes s))
+
+-- a site whose recovery failed after its log had begun its next session
+abbrev pub session_begun : World → ℕ → World
+session_begun w s = let n = w.nodes s in with_node w s (record n { session = n.session + 1 })
+
+-- a site that a failing disk halted in a line that writes nothing new
+abbrev pub stopped_by : World → ℕ → ℕ → World
+stopped_by w s disk = let n = w.nodes s in with_node w s (record n { halted = Some disk; fuse = burned n.fuse })
+
+-- a site whose disks may have been written and flushed, with nothing changed beside
+abbrev pub worked_on : World → ℕ → World
+worked_on w s = let n = w.nodes s in with_node w s (record n { fuse = burned n.fuse })
+
+-- a site whose disks have a fuse that lets so many writes and flushes pass
+abbrev pub fused : World → ℕ → ℕ → World
+fused w s calls = with_node w s (record (w.nodes s) { fuse = FuseSet calls })

@@ -1,0 +1,15 @@
+//! Sites, links and lines of history: the definitions that say what each event makes of the world, and when it is let in.
+//!
+//! It stands on the types of `vx_model`. What holds of every world that can come about is proved in `vx_world`.
+#![tactic(auto)]
+
+mod admission;
+mod event;
+pub mod laws;
+mod receiver;
+mod sender;
+
+pub use admission::{Change, FullLog};
+pub use event::{Event, LinkPart, Said};
+pub use receiver::{RAction, REvent, RState};
+pub use sender::{Action, SEvent, SFacts};
