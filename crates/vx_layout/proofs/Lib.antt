@@ -6,3 +6,6 @@ pub mod Takes
 pub mod RoomLemmas
 pub mod LogLemmas
 pub mod PlexLemmas
+pub mod FreshLemmas
+pub mod MadeLemmas
+pub mod SoundLemmas

@@ -4,3 +4,4 @@ pub mod Reaches
 pub mod Space
 pub mod Runs
 pub mod Steps
+pub mod Made
