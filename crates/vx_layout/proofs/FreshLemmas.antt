@@ -1,17 +1,15 @@
 -- What is found is free, lies in public regions, and overlaps nothing.
-use Rattle.std.proofs.Common.{◌≡◌, ◌⊎◌, inl, inr, ℕ, zero, suc, ◌+◌, ◌-◌, ◌*◌, ◌<◌, ◌≤◌, Bool, true, false, Option, Some, None, List, [], ◌∷◌, ◌++◌, length, append_assoc, refl, ap, sym, ◌∙◌, subst, arith}
-use Rattle.std.specs.Prelude.{◌&&◌, ◌||◌, ◌==◌, not, nat_lt, nat_le, min, max, slice_get, sum_by, if◌then◌else◌}
+use Rattle.std.proofs.Common.{◌≡◌, ◌⊎◌, inl, inr, ℕ, zero, suc, ◌+◌, ◌-◌, ◌<◌, ◌≤◌, Bool, true, false, Option, Some, None, List, [], ◌∷◌, ◌++◌, refl, ap, sym, ◌∙◌, subst, arith}
+use Rattle.std.specs.Prelude.{◌&&◌, ◌||◌, ◌==◌, not, nat_le, min, max, slice_get, sum_by, if◌then◌else◌}
 use Rattle.std.specs.List.{list_all, list_any}
-use Rattle.std.proofs.lemmas.Bool.{cases_eq, cases_lt, eq-eqb, eqb-true, le-leb, leb-true}
+use Rattle.std.proofs.lemmas.Bool.{cases_lt, eq-eqb, eqb-true, le-leb}
 use Rattle.std.proofs.lemmas.List.Sums.{sum_by-append, sum_by-cons}
 use Rattle.vx_config.specs.declared.entry.DiskEntry.{DiskEntry}
 use Rattle.vx_config.specs.declared.entry.Subdisk.{Subdisk}
 use Rattle.vx_config.specs.Checks.{are_apart, ends_within, in_region, pairwise}
-use Rattle.vx_config.proofs.FillLemmas.{not-zero}
 use Rattle.vx_layout.specs.Places.{blocks_in, blocks_or, disk_blocks}
-use Rattle.vx_layout.specs.Free.{AreLowest, HasRun, IsLowestRun, IsNext, free_blocks, holds, is_free}
-use Rattle.vx_layout.specs.Space.{AreColumns, ArePlexes, AreSpread, IsPlex, OnOne, OnSeveral, flat, is_on, room}
-use Rattle.vx_layout.specs.declared.shape.Shape.{Shape}
+use Rattle.vx_layout.specs.Free.{AreLowest, IsNext, free_blocks, holds, is_free}
+use Rattle.vx_layout.specs.Space.{AreSpread, OnOne, OnSeveral, is_on, room}
 use Rattle.vx_layout.proofs.Pairs.{and_left, and_right, pairs_across}
 use Rattle.vx_layout.proofs.Gaps.{busy_at, false_from, holds_from, not_both}
 

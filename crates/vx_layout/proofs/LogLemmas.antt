@@ -1,12 +1,12 @@
 -- The lowest run of free blocks.
-use Rattle.std.proofs.Common.{◌≡◌, ◌⊎◌, inl, inr, ℕ, zero, suc, ◌+◌, ◌-◌, ◌*◌, ◌<◌, ◌≤◌, Bool, true, false, List, [], ◌∷◌, ◌++◌, length, refl, ap, sym, ◌∙◌, subst, arith}
-use Rattle.std.specs.Prelude.{max, slice_get, Result, Ok, Err}
+use Rattle.std.proofs.Common.{◌≡◌, ◌⊎◌, inl, inr, ℕ, ◌+◌, ◌<◌, ◌≤◌, Bool, true, false, List, [], ◌∷◌, ◌++◌, length, refl, ap, sym, ◌∙◌, subst, arith}
+use Rattle.std.specs.Prelude.{max, Result, Ok, Err}
 use Rattle.std.proofs.lemmas.Bool.{cases_lt}
 use Rattle.std.proofs.lemmas.Option.{slice_get_past}
 use Rattle.vx_config.specs.declared.entry.DiskEntry.{DiskEntry}
 use Rattle.vx_config.specs.declared.entry.Subdisk.{Subdisk}
 use Rattle.vx_layout.specs.Places.{blocks_or, disk_blocks}
-use Rattle.vx_layout.specs.Free.{HasNoRun, HasRun, IsGap, IsLowestRun, is_free}
+use Rattle.vx_layout.specs.Free.{HasNoRun, HasRun, IsGap, IsLowestRun}
 use Rattle.vx_layout.specs.Runs.{FreeRun, LongestBefore, LongestOn, LowestOn}
 use Rattle.vx_layout.specs.Space.{AreLogs, NoLog, drl_blocks, fmr_blocks}
 use Rattle.vx_layout.specs.Steps.{AddsDrl, AddsFmr, AddsLog, DrlShort, Ends, FmrShort, LogShort, NoneBelow}

@@ -1,32 +1,22 @@
 -- A volume in the space that was found keeps a configuration sound.
-use Rattle.std.proofs.Common.{◌≡◌, ◌⊎◌, inl, inr, ℕ, zero, suc, ◌+◌, ◌-◌, ◌*◌, ◌<◌, ◌≤◌, Bool, true, false, Option, Some, None, List, [], ◌∷◌, ◌++◌, length, append_assoc, refl, ap, sym, ◌∙◌, subst, arith, IsTrue}
-use Rattle.std.specs.Prelude.{◌&&◌, ◌||◌, ◌==◌, not, nat_lt, nat_le, slice_get, sum_by, flat_map, map, is_some, IfSome, if◌then◌else◌}
+use Rattle.std.proofs.Common.{◌≡◌, ◌⊎◌, inl, inr, ℕ, zero, suc, ◌+◌, ◌-◌, ◌*◌, ◌<◌, ◌≤◌, Bool, true, false, Option, Some, None, List, [], ◌∷◌, ◌++◌, length, refl, ap, sym, ◌∙◌, subst, arith}
+use Rattle.std.specs.Prelude.{◌&&◌, ◌||◌, ◌==◌, not, nat_le, slice_get, sum_by, is_some, if◌then◌else◌}
 use Rattle.std.specs.Int.{div_ceil}
 use Rattle.std.specs.List.{list_all, list_any}
-use Rattle.std.proofs.lemmas.Bool.{cases_lt, eq-eqb, eqb-true, le-leb, leb-true, lt-leb, lt-ltb, ltb-true}
-use Rattle.std.proofs.lemmas.List.{append-nil, length-append}
-use Rattle.std.proofs.lemmas.List.Concat.{flat_map-append, flat_map-cons}
-use Rattle.std.proofs.lemmas.List.Folds.{list_all-append, list_any-append}
+use Rattle.std.proofs.lemmas.Bool.{cases_lt, eq-eqb, eqb-true, le-leb, lt-leb}
+use Rattle.std.proofs.lemmas.List.{append-nil}
+use Rattle.std.proofs.lemmas.List.Folds.{list_any-append}
 use Rattle.std.proofs.lemmas.List.Sums.{sum_by-cons}
-use Rattle.vx_model.specs.declared.units.Units.{Units}
-use Rattle.vx_config.specs.declared.config.Config.{Config}
 use Rattle.vx_config.specs.declared.entry.DiskEntry.{DiskEntry}
 use Rattle.vx_config.specs.declared.entry.LogEntry.{LogEntry}
-use Rattle.vx_config.specs.declared.entry.PlexEntry.{PlexEntry}
 use Rattle.vx_config.specs.declared.entry.Subdisk.{Subdisk}
-use Rattle.vx_config.specs.declared.entry.VolumeEntry.{VolumeEntry}
-use Rattle.vx_config.specs.Checks.{are_apart, are_placed, blocks_of, blocks_or_none, column_blocks, differ, fill, group_or_none, has_logs, has_plexes, has_shape, in_region, is_group, is_live, is_sound, is_volume, log_has, log_run, log_runs, map_blocks, map_blocks_of, next_room, other_than, pairwise, plex_fills, plex_runs, preferred_is, runs, volume_runs}
-use Rattle.vx_config.specs.Configs.{subdisk_count}
+use Rattle.vx_config.specs.Checks.{fill, log_has, log_run, log_runs, map_blocks, next_room}
 use Rattle.vx_config.proofs.FillLemmas.{not-zero}
 use Rattle.vx_layout.specs.Places.{blocks_in}
-use Rattle.vx_layout.specs.Free.{HasRun, IsLowestRun, holds, is_free}
-use Rattle.vx_layout.specs.Made.{IsMade, IsNew, StaysSound, made_plex, with_volume}
-use Rattle.vx_layout.specs.Space.{AreColumns, AreLogs, ArePlexes, IsFound, IsPlex, IsShape, OnOne, OnSeveral, column_of, drl_blocks, flat, fmr_blocks}
-use Rattle.vx_layout.specs.declared.shape.Found.{Found}
+use Rattle.vx_layout.specs.Free.{IsLowestRun, holds, is_free}
+use Rattle.vx_layout.specs.Space.{AreColumns, AreLogs, ArePlexes, IsPlex, IsShape, OnOne, OnSeveral, column_of, drl_blocks, flat, fmr_blocks}
 use Rattle.vx_layout.specs.declared.shape.Shape.{Shape}
-use Rattle.vx_layout.proofs.Pairs.{and_left, and_right, all_at}
-use Rattle.vx_layout.proofs.Placing.{from_sound}
-use Rattle.vx_layout.proofs.FreshLemmas.{AreFresh, IsFresh, all_from, apart_used, fresh_join, get_split, one_fresh, pairs_join, region_from, several_fresh}
+use Rattle.vx_layout.proofs.FreshLemmas.{AreFresh, IsFresh, apart_used, fresh_join, one_fresh, region_from, several_fresh}
 
 pub both : {x y : Bool} → x ≡ true → y ≡ true → x && y ≡ true
 both one two = rw one two
@@ -72,9 +62,12 @@ columns_fresh used disks found (suc k) blocks ss some is = by is.0 is.1 is.2 (on
 
     by : (front back : List Subdisk) → ss ≡ front ++ back → AreFresh used disks found front × (sum_by blocks_in front ≡ blocks) → AreFresh used disks (found ++ front) back × ((m : ℕ) → k ≡ suc m → fill blocks (suc m) blocks back ≡ true) → (k ≡ 0 → back ≡ [])
         → AreFresh used disks found ss × ((m : ℕ) → suc k ≡ suc m → fill blocks (suc m) blocks ss ≡ true)
-    by front back same one rest none = (subst (λ (xs : List Subdisk). AreFresh used disks found xs) (sym same) (fresh_join used disks found front back one.0 rest.0), λ m is_m.
-        let m_is : m ≡ k = omega (arith, is_m) in
-        ap (fill blocks (suc m) blocks) same ∙ fill_part blocks m blocks front back (λ i s at. (one.0.fresh i s at).some) one.1 some ∙ ap (λ (j : ℕ). fill blocks j (next_room blocks (suc j)) back) m_is ∙ end k none rest.1)
+    by front back same one rest none = (
+      subst (λ (xs : List Subdisk). AreFresh used disks found xs) (sym same) (fresh_join used disks found front back one.0 rest.0),
+      λ m is_m.
+          let m_is : m ≡ k = omega (arith, is_m) in
+          ap (fill blocks (suc m) blocks) same ∙ fill_part blocks m blocks front back (λ i s at. (one.0.fresh i s at).some) one.1 some ∙ ap (λ (j : ℕ). fill blocks j (next_room blocks (suc j)) back) m_is ∙ end k none rest.1,
+    )
       where
         end : (j : ℕ) → (j ≡ 0 → back ≡ []) → ((m : ℕ) → j ≡ suc m → fill blocks (suc m) blocks back ≡ true) → fill blocks j (next_room blocks (suc j)) back ≡ true
         end zero none more = ap (fill blocks 0 (next_room blocks 1)) (none refl)
@@ -109,9 +102,11 @@ plex_fresh want used disks found ss shape is = by (cases_lt 0 want.width)
   where
     whole : want.width ≡ 0 → AreFresh used disks found ss × (sum_by blocks_in ss ≡ want.blocks) → AreFresh used disks found ss × (fill (columns_of want) want.ncol (columns_of want) ss ≡ true)
     whole none it =
-        let test : (want.width == 0) ≡ true = eq-eqb want.width 0 none in
-        (it.0, ap (λ (t : Bool). fill (if t then want.blocks else column_of want) want.ncol (if t then want.blocks else column_of want) ss) test ∙ ap (λ (n : ℕ). fill want.blocks n want.blocks ss) (shape.one none)
-        ∙ whole_fill want.blocks ss shape.some (λ k s at. (it.0.fresh k s at).some) it.1)
+        let test : (want.width == 0) ≡ true = eq-eqb want.width 0 none in (
+          it.0,
+          ap (λ (t : Bool). fill (if t then want.blocks else column_of want) want.ncol (if t then want.blocks else column_of want) ss) test ∙ ap (λ (n : ℕ). fill want.blocks n want.blocks ss) (shape.one none)
+              ∙ whole_fill want.blocks ss shape.some (λ k s at. (it.0.fresh k s at).some) it.1,
+        )
 
     split : want.width ≡ 0 → OnOne used disks found want.blocks ss ⊎ OnSeveral used disks found want.blocks ss → AreFresh used disks found ss × (fill (columns_of want) want.ncol (columns_of want) ss ≡ true)
     split none (inl one) = whole none (one_fresh used disks found want.blocks ss one)
@@ -208,9 +203,11 @@ logs_good want used disks false true None (Some l) logs shape d f same are =
 logs_good want used disks true true (Some l) (Some k) logs shape d f same are =
     let head : log_run l ≡ are.0 = head_of (log_run l) are.0 (log_run k ∷ []) (are.1 ∷ []) (same ∙ are.2) in
     let rest : log_run k ∷ [] ≡ are.1 ∷ [] = tail_of (log_run l) are.0 (log_run k ∷ []) (are.1 ∷ []) (same ∙ are.2) in
-    let next : log_run k ≡ are.1 = head_of (log_run k) are.1 [] [] rest in
-    (two_logs used disks are.0 are.1 logs are.2 (run_fresh used disks (drl_blocks want) are.0 (maps_some want shape) are.3) (run_fresh (used ++ (are.0 ∷ [])) disks (fmr_blocks want) are.1 (fmr_some want shape) are.4),
-    eq-eqb l.blocks (drl_blocks want) (ap (λ (s : Subdisk). s.blocks) head ∙ are.3.blocks), eq-eqb k.blocks (fmr_blocks want) (ap (λ (s : Subdisk). s.blocks) next ∙ are.4.blocks))
+    let next : log_run k ≡ are.1 = head_of (log_run k) are.1 [] [] rest in (
+      two_logs used disks are.0 are.1 logs are.2 (run_fresh used disks (drl_blocks want) are.0 (maps_some want shape) are.3) (run_fresh (used ++ (are.0 ∷ [])) disks (fmr_blocks want) are.1 (fmr_some want shape) are.4),
+      eq-eqb l.blocks (drl_blocks want) (ap (λ (s : Subdisk). s.blocks) head ∙ are.3.blocks),
+      eq-eqb k.blocks (fmr_blocks want) (ap (λ (s : Subdisk). s.blocks) next ∙ are.4.blocks),
+    )
 logs_good want used disks true f None fmr logs shape d f' same are = absurd (let clash : false ≡ true = d in cc)
 logs_good want used disks false f (Some l) fmr logs shape d f' same are = absurd (let clash : true ≡ false = d in cc)
 logs_good want used disks false true drl None logs shape d f same are = absurd (let clash : false ≡ true = f in cc)

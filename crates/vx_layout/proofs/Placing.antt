@@ -1,5 +1,5 @@
 -- No two blocks of plexes have one place.
-use Rattle.std.proofs.Common.{◌≡◌, ◌⊎◌, inl, inr, ℕ, zero, suc, ◌+◌, ◌-◌, ◌*◌, ◌%◌, ◌<◌, ◌≤◌, Bool, true, false, Option, Some, None, List, [], ◌∷◌, ◌++◌, length, get_or, refl, ap, sym, ◌∙◌, subst, arith, IsTrue}
+use Rattle.std.proofs.Common.{◌≡◌, ◌⊎◌, inl, inr, ℕ, zero, suc, ◌+◌, ◌-◌, ◌*◌, ◌%◌, ◌<◌, ◌≤◌, Bool, true, false, Option, Some, None, List, [], ◌∷◌, ◌++◌, length, get_or, refl, ap, sym, ◌∙◌, subst, arith}
 use Rattle.std.specs.Prelude.{◌&&◌, ◌||◌, ◌==◌, not, nat_lt, nat_le, min, max, slice_get, flat_map, sum_by, is_some, if◌then◌else◌}
 use Rattle.std.specs.List.{list_all, list_any}
 use Rattle.std.proofs.lemmas.List.Sums.{sum_by-cons}
@@ -386,3 +386,16 @@ region_same ds disks disk at reach same is = subst (λ (x : List DiskEntry). InR
 
 pub spot_region : (disks : List DiskEntry) (seat : Seat) → in_region disks seat.subdisk ≡ true → seat.offset + seat.reach ≤ seat.subdisk.blocks → InRegion disks seat.subdisk.disk (seat.subdisk.start + seat.offset) seat.reach
 spot_region disks seat is fits = let r = region_of disks seat.subdisk is in record { public = omega (arith, r.public); end = omega (arith, r.end, fits) }
+
+-- a block that was looked up is there
+pub has_from : (c : Config) (v p b : ℕ) (x : VolumeEntry) → slice_get c.volumes v ≡ Some x → p < length x.plexes → b < x.blocks → HasBlock c v p b
+unfolding has_plex
+has_from c v p b x at_v in_p in_b = record {
+  plex = ap (λ (o : Option VolumeEntry). is_some (plex_in o p)) at_v ∙ there x.plexes p in_p;
+  block = let blocks : blocks_of c.volumes v ≡ x.blocks = ap blocks_or_none at_v in omega (arith, blocks, in_b);
+}
+  where
+    there : (ps : List PlexEntry) (n : ℕ) → n < length ps → is_some (slice_get ps n) ≡ true
+    there [] n lt = absurd (omega (arith, lt))
+    there (q ∷ ps) zero lt = refl
+    there (q ∷ ps) (suc n) lt = there ps n (omega (arith, lt))

@@ -1,6 +1,6 @@
 -- The room of the disks, and what is taken of it.
-use Rattle.std.proofs.Common.{◌≡◌, ◌⊎◌, inl, inr, ℕ, zero, suc, ◌+◌, ◌-◌, ◌*◌, ◌/◌, ◌%◌, ◌^◌, ◌<◌, ◌≤◌, Bool, true, false, Option, Some, None, List, [], ◌∷◌, ◌++◌, length, get_or, append_assoc, refl, ap, sym, ◌∙◌, subst, arith}
-use Rattle.std.specs.Prelude.{◌==◌, min, max, slice_index, if◌then◌else◌, Result, Ok, Err}
+use Rattle.std.proofs.Common.{◌≡◌, ◌⊎◌, inl, inr, ℕ, zero, suc, ◌+◌, ◌-◌, ◌*◌, ◌^◌, ◌<◌, ◌≤◌, Bool, true, false, List, [], ◌++◌, get_or, append_assoc, refl, ap, sym, ◌∙◌, subst, arith}
+use Rattle.std.specs.Prelude.{min, max, slice_index, if◌then◌else◌, Result, Ok, Err}
 use Rattle.std.specs.Int.{div_ceil}
 use Rattle.std.specs.List.{list_any}
 use Rattle.std.proofs.lemmas.Bool.{cases_lt}
@@ -11,7 +11,7 @@ use Rattle.vx_config.specs.declared.entry.DiskEntry.{DiskEntry}
 use Rattle.vx_config.specs.declared.entry.Subdisk.{Subdisk}
 use Rattle.vx_layout.specs.Places.{disk_blocks}
 use Rattle.vx_layout.specs.Free.{AddsLowest, AreLowest, free_blocks, free_in}
-use Rattle.vx_layout.specs.Space.{AreColumns, AreSpread, HasNone, IsFirst, IsGreatest, IsPlex, IsShape, NoColumn, NoPlex, NoRoom, OnOne, OnSeveral, column_of, is_on, room, room_sum}
+use Rattle.vx_layout.specs.Space.{AreColumns, AreSpread, HasNone, IsFirst, IsGreatest, IsShape, NoPlex, OnOne, OnSeveral, column_of, is_on, room, room_sum}
 use Rattle.vx_layout.specs.Steps.{AddsColumn, AddsColumns, AddsPlex, AddsSpread, AddsWhole, AreRooms, ColumnShort, Columning, ColumnsShort, Ends, Spreading, WholeShort}
 use Rattle.vx_layout.specs.declared.shape.Shape.{Shape}
 use Rattle.vx_layout.specs.declared.short.Short.{Short}

@@ -1,6 +1,6 @@
 -- A configuration with one volume more, in the space that was found, is sound.
-use Rattle.std.proofs.Common.{◌≡◌, ◌⊎◌, inl, inr, ℕ, zero, suc, ◌+◌, ◌-◌, ◌*◌, ◌<◌, ◌≤◌, Bool, true, false, Option, Some, None, List, [], ◌∷◌, ◌++◌, length, append_assoc, refl, ap, sym, ◌∙◌, subst, arith, IsTrue}
-use Rattle.std.specs.Prelude.{◌&&◌, ◌||◌, ◌==◌, not, nat_lt, nat_le, slice_get, sum_by, flat_map, map, is_some, IfSome, if◌then◌else◌}
+use Rattle.std.proofs.Common.{◌≡◌, ℕ, zero, suc, ◌*◌, ◌<◌, Bool, true, false, Option, Some, None, List, [], ◌∷◌, ◌++◌, length, append_assoc, refl, ap, sym, ◌∙◌, subst, arith}
+use Rattle.std.specs.Prelude.{◌&&◌, ◌||◌, ◌==◌, not, nat_lt, nat_le, slice_get, sum_by, flat_map, map, IfSome, if◌then◌else◌}
 use Rattle.std.specs.Int.{div_ceil}
 use Rattle.std.specs.List.{list_all, list_any}
 use Rattle.std.proofs.lemmas.Bool.{eq-eqb, eqb-true, le-leb, lt-ltb, ltb-true}
@@ -14,11 +14,10 @@ use Rattle.vx_config.specs.declared.entry.DiskEntry.{DiskEntry}
 use Rattle.vx_config.specs.declared.entry.PlexEntry.{PlexEntry}
 use Rattle.vx_config.specs.declared.entry.Subdisk.{Subdisk}
 use Rattle.vx_config.specs.declared.entry.VolumeEntry.{VolumeEntry}
-use Rattle.vx_config.specs.Checks.{are_apart, are_placed, blocks_of, blocks_or_none, column_blocks, differ, fill, group_or_none, has_logs, has_plexes, has_shape, in_region, is_group, is_live, is_sound, is_volume, log_has, log_runs, map_blocks, map_blocks_of, other_than, pairwise, plex_fills, plex_runs, preferred_is, runs, volume_runs}
+use Rattle.vx_config.specs.Checks.{are_apart, are_placed, blocks_of, blocks_or_none, column_blocks, differ, fill, group_or_none, has_logs, has_plexes, has_shape, in_region, is_live, is_sound, is_volume, log_has, log_runs, map_blocks, map_blocks_of, other_than, pairwise, plex_fills, plex_runs, preferred_is, runs, volume_runs}
 use Rattle.vx_config.specs.Configs.{subdisk_count}
-use Rattle.vx_config.proofs.FillLemmas.{not-zero}
-use Rattle.vx_layout.specs.Made.{IsMade, IsNew, StaysSound, made_plex, with_volume}
-use Rattle.vx_layout.specs.Space.{IsFound, IsShape, column_of, flat}
+use Rattle.vx_layout.specs.Made.{IsMade, StaysSound, made_plex, with_volume}
+use Rattle.vx_layout.specs.Space.{IsShape, flat}
 use Rattle.vx_layout.specs.declared.shape.Found.{Found}
 use Rattle.vx_layout.specs.declared.shape.Shape.{Shape}
 use Rattle.vx_layout.proofs.Pairs.{all_at, and_left, and_right}

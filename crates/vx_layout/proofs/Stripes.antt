@@ -1,6 +1,6 @@
 -- The order of a striped plex's blocks: units by turns in columns.
 use Rattle.std.proofs.Common.{◌≡◌, ℕ, zero, suc, ◌+◌, ◌-◌, ◌*◌, ◌/◌, ◌%◌, ◌<◌, ◌≤◌, Bool, true, false, List, [], ◌∷◌, refl, ap, sym, ◌∙◌, subst, arith}
-use Rattle.std.specs.Prelude.{◌&&◌, ◌||◌, ◌==◌, nat_le, min, sum_by, if◌then◌else◌}
+use Rattle.std.specs.Prelude.{◌||◌, ◌==◌, nat_le, sum_by, if◌then◌else◌}
 use Rattle.std.specs.Int.{div_ceil}
 use Rattle.std.proofs.lemmas.Bool.{eq-eqb, eqb-true, leb-true, lt-leb}
 use Rattle.std.proofs.lemmas.Grind.{div_ceil_times}
@@ -71,7 +71,6 @@ linear_one blocks ncol w column b d some columns is lt lt' same =
 -- ---- subdisks that fill so many columns have as many blocks
 
 pub fill_none : (column : ℕ) (ss : List Subdisk) → fill column 0 0 ss ≡ true → sum_by blocks_in ss ≡ 0
-
 fill_none column [] is = refl
 fill_none column (s ∷ ss) is =
     let le : s.blocks ≤ 0 = leb-true s.blocks 0 (and_left (nat_le s.blocks 0) _ is) in

@@ -1,10 +1,11 @@
 -- Which blocks of the disks are free, and which of them are the lowest.
-use Rattle.std.specs.Prelude.{◌≡◌, ◌⊎◌, ℕ, zero, suc, ◌+◌, ◌-◌, ◌<◌, ◌≤◌, Bool, true, false, not, ◌&&◌, ◌==◌, nat_lt, nat_le, if◌then◌else◌, List, [], ◌∷◌, ◌++◌, Result, Ok, Err}
+use Rattle.std.specs.Prelude.{◌≡◌, ◌⊎◌, ℕ, zero, suc, ◌+◌, ◌-◌, ◌<◌, ◌≤◌, Bool, true, false, not, ◌&&◌, ◌==◌, nat_lt, nat_le, if◌then◌else◌, List, [], ◌∷◌, ◌++◌}
 use Rattle.std.specs.List.{list_any}
 use Rattle.vx_config.specs.declared.entry.DiskEntry.{DiskEntry}
 use Rattle.vx_config.specs.declared.entry.Subdisk.{Subdisk}
 use Rattle.vx_layout.specs.Places.{disk_blocks}
 use Rattle.vx_layout.specs.declared.gap.Gap.{Gap}
+use Rattle.vx_layout.specs.declared.gap.TheConstants.{PUBLIC_START}
 
 -- a run has this block of this disk
 abbrev pub holds : ℕ → ℕ → Subdisk → Bool
@@ -21,7 +22,7 @@ free_in used disk block (suc n) = (if is_free used disk block then 1 else 0) + f
 
 -- how many blocks of the public region of a disk are free
 unfoldable pub free_blocks : List Subdisk → List DiskEntry → ℕ → ℕ
-free_blocks used disks disk = free_in used disk 512 (disk_blocks disks disk - 512)
+free_blocks used disks disk = free_in used disk PUBLIC_START (disk_blocks disks disk - PUBLIC_START)
 
 -- the first free blocks from this one on that stand one behind the other, as far as they go
 pub record IsGap (used : List Subdisk) (disk from end : ℕ) (gap : Gap) : Type 0 where
@@ -51,12 +52,12 @@ AreLowest used disk from end wanted (s ∷ ss) = IsNext used disk from end wante
 -- they were put behind others
 pub record AddsLowest (used : List Subdisk) (disk end wanted : ℕ) (old new : List Subdisk) : Type 0 where
   pub runs : List Subdisk
-  pub are : AreLowest used disk 512 end wanted runs
+  pub are : AreLowest used disk PUBLIC_START end wanted runs
   pub is : new ≡ old ++ runs
 
 -- so many blocks from this one on are free, one behind the other
 pub record HasRun (used : List Subdisk) (disks : List DiskEntry) (count disk block : ℕ) : Type 0 where
-  pub public : 512 ≤ block
+  pub public : PUBLIC_START ≤ block
   pub end : block + count ≤ disk_blocks disks disk
   pub free : (b : ℕ) → block ≤ b → b < block + count → is_free used disk b ≡ true
 

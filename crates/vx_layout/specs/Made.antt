@@ -1,5 +1,5 @@
 -- A volume that is made of the space that was found.
-use Rattle.std.specs.Prelude.{◌≡◌, ℕ, ◌<◌, ◌≤◌, true, false, IsTrue, IfSome, is_some, map, List, [], ◌∷◌, ◌++◌}
+use Rattle.std.specs.Prelude.{◌≡◌, ◌<◌, ◌≤◌, false, IsTrue, IfSome, is_some, map, List, [], ◌∷◌, ◌++◌}
 use Rattle.std.specs.List.{list_all}
 use Rattle.vx_model.specs.declared.site.PlexState.TheVariants.{Active}
 use Rattle.vx_config.specs.declared.config.Config.{Config}

@@ -6,6 +6,7 @@ use Rattle.vx_config.specs.declared.entry.PlexEntry.{PlexEntry}
 use Rattle.vx_config.specs.declared.entry.Subdisk.{Subdisk}
 use Rattle.vx_config.specs.declared.entry.VolumeEntry.{VolumeEntry}
 use Rattle.vx_config.specs.Checks.{blocks_of, column_blocks}
+use Rattle.vx_layout.specs.declared.gap.TheConstants.{PUBLIC_START}
 use Rattle.vx_layout.specs.declared.spot.Seat.{Seat}
 
 -- the place of block k of subdisks that stand one behind the other
@@ -56,7 +57,7 @@ disk_blocks disks d = blocks_or (slice_get disks d)
 
 -- so many blocks from this one on lie in the public region of a disk
 pub record InRegion (disks : List DiskEntry) (disk at count : ℕ) : Type 0 where
-  pub public : 512 ≤ at
+  pub public : PUBLIC_START ≤ at
   pub end : at + count ≤ disk_blocks disks disk
 
 -- No two blocks of plexes have one place, whatever their volumes are, and each lies in a public region.

@@ -2,6 +2,7 @@
 use Rattle.std.specs.Prelude.{◌≡◌, ◌⊎◌, ℕ, ◌+◌, ◌-◌, ◌<◌, ◌≤◌, true, false, List, ◌++◌, slice_get, Some}
 use Rattle.vx_config.specs.declared.entry.Subdisk.{Subdisk}
 use Rattle.vx_layout.specs.Free.{AreLowest, free_in, holds, is_free}
+use Rattle.vx_layout.specs.declared.gap.TheConstants.{PUBLIC_START}
 
 -- as many blocks as a run leaves, which begins behind them or has none of them
 pub record IsCut (s : Subdisk) (disk block blocks left : ℕ) : Type 0 where
@@ -29,4 +30,4 @@ pub record Taking (used : List Subdisk) (disk end wanted block left : ℕ) (old 
   pub done : List Subdisk
   pub is : new ≡ old ++ done
   pub enough : left ≤ free_in used disk block (end - block)
-  pub rest : (ss : List Subdisk) → AreLowest used disk block end left ss → AreLowest used disk 512 end wanted (done ++ ss)
+  pub rest : (ss : List Subdisk) → AreLowest used disk block end left ss → AreLowest used disk PUBLIC_START end wanted (done ++ ss)

@@ -1,8 +1,9 @@
 -- Where a new volume finds space, or why it finds none.
-use Rattle.std.specs.Prelude.{◌≡◌, ◌⊎◌, ℕ, zero, suc, ◌+◌, ◌-◌, ◌*◌, ◌^◌, ◌<◌, ◌≤◌, Bool, true, false, ◌==◌, min, if◌then◌else◌, Option, Some, None, List, [], ◌∷◌, ◌++◌, length, Result, Ok, Err}
+use Rattle.std.specs.Prelude.{◌≡◌, ◌⊎◌, ℕ, zero, suc, ◌+◌, ◌-◌, ◌*◌, ◌^◌, ◌<◌, ◌≤◌, Bool, true, false, ◌==◌, min, if◌then◌else◌, List, [], ◌∷◌, ◌++◌, length, Result, Ok, Err}
 use Rattle.std.specs.Int.{div_ceil}
 use Rattle.std.specs.List.{list_any}
 use Rattle.vx_model.specs.declared.errors.Stop.{Stop}
+use Rattle.vx_model.specs.declared.limits.TheConstants.{DISK_PLACES, MOST_COLUMNS, MOST_PLEXES}
 use Rattle.vx_model.specs.declared.errors.Stop.TheVariants.{No, OutOfMemory}
 use Rattle.vx_model.specs.declared.no.No.TheVariants as refusal
 use Rattle.vx_config.specs.declared.config.Config.{Config}
@@ -11,6 +12,7 @@ use Rattle.vx_config.specs.declared.entry.Subdisk.{Subdisk}
 use Rattle.vx_config.specs.Checks.{map_blocks, runs}
 use Rattle.vx_layout.specs.Places.{disk_blocks}
 use Rattle.vx_layout.specs.Free.{AreLowest, HasNoRun, IsLowestRun, free_blocks}
+use Rattle.vx_layout.specs.declared.gap.TheConstants.{PUBLIC_START}
 use Rattle.vx_layout.specs.declared.shape.Found.{Found}
 use Rattle.vx_layout.specs.declared.shape.Shape.{Shape}
 
@@ -19,9 +21,9 @@ pub record IsShape (want : Shape) : Type 0 where
   pub some : 0 < want.blocks
   pub few : want.blocks ≤ 2 ^ 40
   pub mirrors : 0 < want.mirrors
-  pub plexes : want.mirrors ≤ 8
+  pub plexes : want.mirrors ≤ MOST_PLEXES
   pub columns : 0 < want.ncol
-  pub ncol : want.ncol ≤ 8
+  pub ncol : want.ncol ≤ MOST_COLUMNS
   pub one : want.width ≡ 0 → want.ncol ≡ 1
   pub width : want.width < 2 ^ 32
 
@@ -43,39 +45,39 @@ room_sum room disk (suc n) = room disk + room_sum room (disk + 1) n
 
 -- the lowest disk that has so much room
 pub record IsFirst (room : ℕ → ℕ) (blocks disk : ℕ) : Type 0 where
-  pub inside : disk < 8
+  pub inside : disk < DISK_PLACES
   pub fits : blocks ≤ room disk
   pub first : (e : ℕ) → e < disk → room e < blocks
 
 -- no disk has so much
 pub record HasNone (room : ℕ → ℕ) (blocks : ℕ) : Type 0 where
-  pub none : (e : ℕ) → e < 8 → room e < blocks
+  pub none : (e : ℕ) → e < DISK_PLACES → room e < blocks
 
 -- the greatest room of a disk
 pub record IsGreatest (room : ℕ → ℕ) (most : ℕ) : Type 0 where
-  pub each : (e : ℕ) → e < 8 → room e ≤ most
+  pub each : (e : ℕ) → e < DISK_PLACES → room e ≤ most
   pub disk : ℕ
-  pub inside : disk < 8
+  pub inside : disk < DISK_PLACES
   pub is : room disk ≡ most
 
 -- so many blocks lie on the lowest allowed disk whose free blocks suffice
 pub record OnOne (used : List Subdisk) (disks : List DiskEntry) (found : List Subdisk) (blocks : ℕ) (ss : List Subdisk) : Type 0 where
   pub disk : ℕ
   pub first : IsFirst (room used disks found) blocks disk
-  pub are : AreLowest used disk 512 (disk_blocks disks disk) blocks ss
+  pub are : AreLowest used disk PUBLIC_START (disk_blocks disks disk) blocks ss
 
 -- so many blocks lie on the disks from this one on, each of which is filled before the next is taken
 abbrev pub AreSpread : List Subdisk → List DiskEntry → (ℕ → ℕ) → ℕ → ℕ → ℕ → List Subdisk → Type 0
 AreSpread used disks room disk zero blocks ss = (blocks ≡ 0) × (ss ≡ [])
 AreSpread used disks room disk (suc n) blocks ss =
-    (front : List Subdisk) × (back : List Subdisk) × (ss ≡ front ++ back) × AreLowest used disk 512 (disk_blocks disks disk) (min blocks (room disk)) front
+    (front : List Subdisk) × (back : List Subdisk) × (ss ≡ front ++ back) × AreLowest used disk PUBLIC_START (disk_blocks disks disk) (min blocks (room disk)) front
     × AreSpread used disks room (disk + 1) n (blocks - min blocks (room disk)) back
 
 -- no allowed disk suffices, and together they do
 pub record OnSeveral (used : List Subdisk) (disks : List DiskEntry) (found : List Subdisk) (blocks : ℕ) (ss : List Subdisk) : Type 0 where
   pub none : HasNone (room used disks found) blocks
-  pub all : blocks ≤ room_sum (room used disks found) 0 8
-  pub are : AreSpread used disks (room used disks found) 0 8 blocks ss
+  pub all : blocks ≤ room_sum (room used disks found) 0 DISK_PLACES
+  pub are : AreSpread used disks (room used disks found) 0 DISK_PLACES blocks ss
 
 -- so many columns, each on one disk that no earlier one uses
 abbrev pub AreColumns : List Subdisk → List DiskEntry → List Subdisk → ℕ → ℕ → List Subdisk → Type 0
@@ -106,8 +108,8 @@ pub record NoColumn (want : Shape) (used : List Subdisk) (disks : List DiskEntry
 -- the disks together have too little room
 pub record NoRoom (want : Shape) (used : List Subdisk) (disks : List DiskEntry) (found : List Subdisk) (need have : ℕ) : Type 0 where
   pub is_need : need ≡ want.blocks
-  pub is_have : have ≡ room_sum (room used disks found) 0 8
-  pub short : room_sum (room used disks found) 0 8 < want.blocks
+  pub is_have : have ≡ room_sum (room used disks found) 0 DISK_PLACES
+  pub short : room_sum (room used disks found) 0 DISK_PLACES < want.blocks
 
 -- the next plex has no place: so many blocks are needed, and so many are there
 pub record NoPlex (want : Shape) (used : List Subdisk) (disks : List DiskEntry) (found : List Subdisk) (need have : ℕ) : Type 0 where

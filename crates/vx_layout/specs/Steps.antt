@@ -1,11 +1,10 @@
 -- What the steps of a search for space leave.
 use Rattle.std.specs.Prelude.{◌≡◌, ◌⊎◌, ℕ, ◌+◌, ◌<◌, ◌≤◌, true, false, List, [], ◌∷◌, ◌++◌, length, slice_index, Result, Ok, Err}
-use Rattle.vx_config.specs.declared.config.Config.{Config}
+use Rattle.vx_model.specs.declared.limits.TheConstants.{DISK_PLACES}
 use Rattle.vx_config.specs.declared.entry.DiskEntry.{DiskEntry}
 use Rattle.vx_config.specs.declared.entry.Subdisk.{Subdisk}
 use Rattle.vx_layout.specs.Free.{HasNoRun, HasRun, IsLowestRun}
-use Rattle.vx_layout.specs.Space.{AreColumns, AreLogs, ArePlexes, AreSpread, HasNone, IsFound, IsGreatest, IsPlex, IsShort, NoColumn, NoLog, NoPlex, NoRoom, OnOne, OnSeveral, column_of, drl_blocks, flat, fmr_blocks, room, room_sum}
-use Rattle.vx_layout.specs.declared.shape.Found.{Found}
+use Rattle.vx_layout.specs.Space.{AreColumns, ArePlexes, AreSpread, HasNone, IsGreatest, IsPlex, NoPlex, OnOne, OnSeveral, drl_blocks, flat, fmr_blocks, room, room_sum}
 use Rattle.vx_layout.specs.declared.shape.Shape.{Shape}
 use Rattle.vx_layout.specs.declared.short.Short.{Short}
 use Rattle.vx_layout.specs.declared.short.Short.TheVariants.{OutOfMemory, Space}
@@ -13,7 +12,7 @@ use Rattle.vx_layout.specs.declared.short.Short.TheVariants.{OutOfMemory, Space}
 -- the room of each of the first disks
 pub record AreRooms (room : ℕ → ℕ) (count : ℕ) (xs : List ℕ) : Type 0 where
   pub each : (e : ℕ) → e < count → slice_index xs e ≡ room e
-  pub long : length xs ≡ 8
+  pub long : length xs ≡ DISK_PLACES
 
 -- what a step answers: what holds at Ok, and of the two numbers where space is short
 abbrev pub Ends : {T : Type 0} → (T → Type 0) → (ℕ → ℕ → Type 0) → Result T Short → Type 0
@@ -24,7 +23,7 @@ Ends done short (Err OutOfMemory) = Unit {0}
 -- runs of this kind were put behind others
 pub record AddsSpread (used : List Subdisk) (disks : List DiskEntry) (room : ℕ → ℕ) (blocks : ℕ) (old new : List Subdisk) : Type 0 where
   pub runs : List Subdisk
-  pub are : AreSpread used disks room 0 8 blocks runs
+  pub are : AreSpread used disks room 0 DISK_PLACES blocks runs
   pub is : new ≡ old ++ runs
 
 pub record AddsColumn (used : List Subdisk) (disks : List DiskEntry) (blocks : ℕ) (old new : List Subdisk) : Type 0 where
@@ -56,8 +55,8 @@ pub record ColumnShort (used : List Subdisk) (disks : List DiskEntry) (blocks : 
 -- all disks together have not
 pub record WholeShort (used : List Subdisk) (disks : List DiskEntry) (blocks : ℕ) (found : List Subdisk) (need have : ℕ) : Type 0 where
   pub is_need : need ≡ blocks
-  pub is_have : have ≡ room_sum (room used disks found) 0 8
-  pub short : room_sum (room used disks found) 0 8 < blocks
+  pub is_have : have ≡ room_sum (room used disks found) 0 DISK_PLACES
+  pub short : room_sum (room used disks found) 0 DISK_PLACES < blocks
 
 -- some columns were placed, and the next one has no place
 pub record ColumnsShort (used : List Subdisk) (disks : List DiskEntry) (ncol blocks : ℕ) (found : List Subdisk) (need have : ℕ) : Type 0 where
@@ -72,9 +71,9 @@ pub record Spreading (used : List Subdisk) (disks : List DiskEntry) (room : ℕ 
   pub done : List Subdisk
   pub is : new ≡ old ++ done
   pub behind : ℕ
-  pub count : disk + behind ≡ 8
+  pub count : disk + behind ≡ DISK_PLACES
   pub enough : left ≤ room_sum room disk behind
-  pub rest : (ss : List Subdisk) → AreSpread used disks room disk behind left ss → AreSpread used disks room 0 8 blocks (done ++ ss)
+  pub rest : (ss : List Subdisk) → AreSpread used disks room disk behind left ss → AreSpread used disks room 0 DISK_PLACES blocks (done ++ ss)
 
 -- so many columns were placed
 pub record Columning (used : List Subdisk) (disks : List DiskEntry) (blocks placed : ℕ) (old new : List Subdisk) : Type 0 where

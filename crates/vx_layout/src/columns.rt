@@ -3,18 +3,19 @@ ghost use Rattle.std.specs.Prelude.{◌≡◌, ◌<◌, ◌≤◌, OnOk, slice_i
 ghost use Rattle.vx_layout.specs.Space.{HasNone, IsShape, NoPlex, column_of, room, room_sum};
 ghost use Rattle.vx_layout.specs.Steps.{AddsColumn, AddsColumns, AddsPlex, AddsSpread, AddsWhole, AreRooms, ColumnShort, ColumnsShort, Ends, WholeShort};
 
-use crate::rooms::{end_of, greatest, lowest_with, rooms_of, total};
+use crate::rooms::{DISKS, end_of, greatest, lowest_with, rooms_of, total};
 use crate::shape::Shape;
 use crate::short::Short;
 use crate::take::take_lowest;
 use vx_config::{DiskEntry, Subdisk};
 use vx_model::OutOfMemory;
+use vx_model::limits::DISK_PLACES;
 
 // Fills the disks with so many blocks, one disk after the other.
 fn spread(
     used: &[Subdisk],
     disks: &[DiskEntry],
-    rooms: &[u64; 8],
+    rooms: &[u64; DISK_PLACES],
     wanted: u64,
     found: &mut Vec<Subdisk>,
 ) -> Result<(), OutOfMemory>
@@ -23,7 +24,7 @@ fn spread(
     ensures { OnOk result (AddsSpread used.now disks.now (room used.now disks.now found.old.items) wanted found.old.items found.new.items) }
 {
     let mut left = wanted;
-    for disk in 0..8 {
+    for disk in 0..DISKS {
         let blocks = left.min(rooms[disk as usize]);
         take_lowest(used, disk, end_of(disks, disk), blocks, found)?;
         left -= blocks;
@@ -35,7 +36,7 @@ fn spread(
 fn place_several(
     used: &[Subdisk],
     disks: &[DiskEntry],
-    rooms: &[u64; 8],
+    rooms: &[u64; DISK_PLACES],
     wanted: u64,
     found: &mut Vec<Subdisk>,
 ) -> Result<(), Short>
@@ -116,7 +117,9 @@ fn column_blocks(want: &Shape) -> u64
     requires striped { 0 < want.now.width }
     ensures { result ≡ column_of want.now }
 {
-    let units = want.blocks.div_ceil(u64::from(want.ncol) * u64::from(want.width));
+    let units = want
+        .blocks
+        .div_ceil(u64::from(want.ncol) * u64::from(want.width));
     units * u64::from(want.width)
 }
 

@@ -98,7 +98,7 @@ pub fn next_gap(used: &[Subdisk], disk: u8, from: u64, end: u64) -> Gap
 
 /// How many blocks of the public region of a disk with so many blocks are free.
 pub fn free_on(used: &[Subdisk], disk: u8, end: u64) -> u64
-    ensures { result ≡ free_in used.now disk 512 (end - 512) }
+    ensures { result ≡ free_in used.now disk PUBLIC_START (end - PUBLIC_START) }
 {
     let mut block = PUBLIC_START;
     let mut free = 0;

@@ -3,9 +3,9 @@
 //! Blocks are 512 bytes. On each disk the public region begins at block 512.
 #![tactic(auto)]
 
+mod columns;
 mod gap;
 pub mod laws;
-mod columns;
 mod logs;
 mod plexes;
 mod rooms;
@@ -20,3 +20,6 @@ pub use gap::PUBLIC_START;
 pub use shape::{Found, Runs, Shape};
 pub use space::find_space;
 pub use spot::{Spot, find_spot, place};
+
+#[cfg(test)]
+mod tests;

@@ -1,16 +1,17 @@
 // Where the logs of a new volume find space.
 ghost use Rattle.std.specs.Prelude.{◌≡◌, ◌<◌, ◌≤◌, length};
-ghost use Rattle.vx_config.specs.Checks.{map_blocks as map_blocks_is};
 ghost use Rattle.vx_layout.specs.Space.{AreLogs, IsShape, NoLog};
 ghost use Rattle.vx_layout.specs.Runs.{RunOn};
 ghost use Rattle.vx_layout.specs.Steps.{AddsDrl, AddsFmr, AddsLog, DrlShort, Ends, FmrShort, FoundRun, LogShort};
 
 use crate::gap::{PUBLIC_START, next_gap};
-use crate::rooms::end_of;
+use crate::rooms::{DISKS, end_of};
 use crate::shape::Shape;
 use crate::short::Short;
 use std::alloc::Global;
 use vx_config::{DiskEntry, Subdisk};
+use vx_model::limits::DISK_PLACES;
+use vx_model::map_blocks;
 
 // The lowest run of so many free blocks on a disk with so many blocks; where there is none, the longest run.
 fn run_on(used: &[Subdisk], disk: u8, end: u64, wanted: u64) -> Result<u64, u64>
@@ -33,11 +34,11 @@ fn run_on(used: &[Subdisk], disk: u8, end: u64, wanted: u64) -> Result<u64, u64>
 // The lowest run of so many free blocks, on the lowest disk that has one.
 fn find_run(used: &[Subdisk], disks: &[DiskEntry], wanted: u64) -> Result<Subdisk, Short>
     requires some { 0 < wanted }
-    requires few { length disks.now ≤ 8 }
+    requires few { length disks.now ≤ DISK_PLACES }
     ensures { Ends (FoundRun used.now disks.now wanted) (LogShort used.now disks.now wanted) result }
 {
     let mut longest: u64 = 0;
-    for disk in 0..8 {
+    for disk in 0..DISKS {
         match run_on(used, disk, end_of(disks, disk), wanted) {
             Ok(start) => {
                 return Ok(Subdisk {
@@ -55,13 +56,6 @@ fn find_run(used: &[Subdisk], disks: &[DiskEntry], wanted: u64) -> Result<Subdis
     })
 }
 
-fn map_blocks(blocks: u64) -> u64
-    ensures value { result ≡ map_blocks_is blocks }
-    ensures few { result ≤ 70368744177664 }
-{
-    blocks.div_ceil(64).div_ceil(4096)
-}
-
 // Puts a log behind the others.
 fn push_log(
     used: &mut Vec<Subdisk>,
@@ -70,7 +64,7 @@ fn push_log(
     logs: &mut Vec<Subdisk>,
 ) -> Result<(), Short>
     requires some { 0 < wanted }
-    requires few { length disks.now ≤ 8 }
+    requires few { length disks.now ≤ DISK_PLACES }
     ensures { Ends (λ _. AddsLog used.old.items disks.now wanted used.new.items logs.old.items logs.new.items) (LogShort used.old.items disks.now wanted) result }
 {
     let run = find_run(used.as_slice(), disks, wanted)?;
@@ -87,7 +81,7 @@ fn push_drl(
     logs: &mut Vec<Subdisk>,
 ) -> Result<(), Short>
     requires shape { IsShape want.now }
-    requires few { length disks.now ≤ 8 }
+    requires few { length disks.now ≤ DISK_PLACES }
     ensures { Ends (λ _. AddsDrl want.now used.old.items disks.now used.new.items logs.old.items logs.new.items) (DrlShort want.now used.old.items disks.now) result }
 {
     if want.drl {
@@ -105,11 +99,16 @@ fn push_fmr(
     logs: &mut Vec<Subdisk>,
 ) -> Result<(), Short>
     requires shape { IsShape want.now }
-    requires few { length disks.now ≤ 8 }
+    requires few { length disks.now ≤ DISK_PLACES }
     ensures { Ends (λ _. AddsFmr want.now used.old.items disks.now logs.old.items logs.new.items) (FmrShort want.now used.old.items disks.now) result }
 {
     if want.fmr {
-        push_log(used, disks, u64::from(want.mirrors) * map_blocks(want.blocks), logs)
+        push_log(
+            used,
+            disks,
+            u64::from(want.mirrors) * map_blocks(want.blocks),
+            logs,
+        )
     } else {
         Ok(())
     }
@@ -123,7 +122,7 @@ pub fn find_logs(
     want: &Shape,
 ) -> Result<Vec<Subdisk>, Short>
     requires shape { IsShape want.now }
-    requires few { length disks.now ≤ 8 }
+    requires few { length disks.now ≤ DISK_PLACES }
     ensures { Ends (λ logs. AreLogs want.now used.old.items disks.now want.now.drl want.now.fmr logs.items) (NoLog want.now used.old.items disks.now) result }
 {
     let mut logs = Vec::new(alloc);

@@ -7,6 +7,10 @@ ghost use Rattle.vx_layout.specs.Steps.{AreRooms};
 
 use crate::gap::free_on;
 use vx_config::{DiskEntry, Subdisk};
+use vx_model::limits::DISK_PLACES;
+
+/// The disks that a group can have.
+pub const DISKS: u8 = DISK_PLACES as u8;
 
 /// The blocks of a disk; none where there is no such disk.
 pub fn end_of(disks: &[DiskEntry], disk: u8) -> u64
@@ -37,21 +41,21 @@ fn room_of(used: &[Subdisk], disks: &[DiskEntry], found: &[Subdisk], disk: u8) -
 }
 
 /// The free blocks of each disk that no run found before lies on.
-pub fn rooms_of(used: &[Subdisk], disks: &[DiskEntry], found: &[Subdisk]) -> [u64; 8]
+pub fn rooms_of(used: &[Subdisk], disks: &[DiskEntry], found: &[Subdisk]) -> [u64; DISK_PLACES]
     ensures { AreRooms (room used.now disks.now found.now) 8 result }
 {
-    let mut rooms = [0; 8];
-    for disk in 0..8 {
+    let mut rooms = [0; DISK_PLACES];
+    for disk in 0..DISKS {
         rooms[disk as usize] = room_of(used, disks, found, disk);
     }
     rooms
 }
 
 /// The lowest disk that has so much room.
-pub fn lowest_with(rooms: &[u64; 8], wanted: u64) -> Option<u8>
+pub fn lowest_with(rooms: &[u64; DISK_PLACES], wanted: u64) -> Option<u8>
     ensures { MatchOption result (HasNone (slice_index rooms.now) wanted) (IsFirst (slice_index rooms.now) wanted) }
 {
-    for disk in 0..8 {
+    for disk in 0..DISKS {
         if wanted <= rooms[disk as usize] {
             return Some(disk);
         }
@@ -60,22 +64,22 @@ pub fn lowest_with(rooms: &[u64; 8], wanted: u64) -> Option<u8>
 }
 
 /// The room of all disks together.
-pub fn total(rooms: &[u64; 8]) -> u128
+pub fn total(rooms: &[u64; DISK_PLACES]) -> u128
     ensures { result ≡ room_sum (slice_index rooms.now) 0 8 }
 {
     let mut sum = 0;
-    for disk in 0..8 {
+    for disk in 0..DISK_PLACES {
         sum += u128::from(rooms[disk]);
     }
     sum
 }
 
 /// The greatest room of a disk.
-pub fn greatest(rooms: &[u64; 8]) -> u64
+pub fn greatest(rooms: &[u64; DISK_PLACES]) -> u64
     ensures { IsGreatest (slice_index rooms.now) result }
 {
     let mut most = rooms[0];
-    for disk in 1..8 {
+    for disk in 1..DISK_PLACES {
         most = most.max(rooms[disk]);
     }
     most

@@ -68,7 +68,9 @@ fn linear(volume: &VolumeEntry, block: u64) -> u128
     if volume.width == 0 {
         block
     } else {
-        (block / width) % ncol * column_blocks(volume) + (block / width) / ncol * width + block % width
+        (block / width) % ncol * column_blocks(volume)
+            + (block / width) / ncol * width
+            + block % width
     }
 }
 
@@ -78,7 +80,11 @@ fn unit_left(volume: &VolumeEntry, block: u64) -> u64
     ensures unit { 0 < volume.now.width → result ≡ volume.now.width - block % volume.now.width }
 {
     let width = u64::from(volume.width);
-    if width == 0 { u64::MAX } else { width - block % width }
+    if width == 0 {
+        u64::MAX
+    } else {
+        width - block % width
+    }
 }
 
 // Which block of which subdisk a block of a plex is.

@@ -14,7 +14,7 @@ pub fn take_lowest(
     wanted: u64,
     found: &mut Vec<Subdisk>,
 ) -> Result<(), OutOfMemory>
-    requires { wanted ≤ free_in used.now disk 512 (end - 512) }
+    requires { wanted ≤ free_in used.now disk PUBLIC_START (end - PUBLIC_START) }
     ensures { OnOk result (AddsLowest used.now disk end wanted found.old.items found.new.items) }
 {
     let mut block = PUBLIC_START;

@@ -1,4 +1,4 @@
-use Rattle.vx_layout.proofs.RoomLemmas.{column_short, from_one, one_fits}
+use Rattle.vx_layout.proofs.RoomLemmas.{one_fits}
 use Rattle.vx_layout.proofs.columns.place_column.Goals as goal
 
 pub take_lowest-requires : goal.take_lowest-requires

@@ -1,4 +1,4 @@
-use Rattle.vx_layout.proofs.RoomLemmas.{from_one, none_room, one_fits, rooms_same, whole_one}
+use Rattle.vx_layout.proofs.RoomLemmas.{one_fits}
 use Rattle.vx_layout.proofs.columns.place_whole.Goals as goal
 
 pub take_lowest-requires : goal.take_lowest-requires

@@ -1,4 +1,4 @@
-use Rattle.std.proofs.Common.{◌≡◌, ◌≤◌, arith}
+use Rattle.std.proofs.Common.{◌≡◌, arith}
 use Rattle.std.specs.Prelude.{min}
 use Rattle.vx_layout.specs.Space.{room}
 use Rattle.vx_layout.proofs.RoomLemmas.{room_free, spread_end, spread_more, spread_start}

@@ -1,4 +1,4 @@
-use Rattle.std.proofs.Common.{◌<◌, arith}
+use Rattle.std.proofs.Common.{arith}
 use Rattle.vx_layout.proofs.Gaps.{free_item, reach_end, reach_more}
 use Rattle.vx_layout.proofs.gap.reach.Goals as goal
 

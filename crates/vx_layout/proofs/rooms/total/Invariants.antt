@@ -1,4 +1,4 @@
-use Rattle.std.proofs.Common.{◌≡◌, ℕ, ◌+◌, ◌*◌, ◌-◌, ◌≤◌}
+use Rattle.std.proofs.Common.{◌≡◌, ◌+◌, ◌*◌, ◌-◌, ◌≤◌}
 use Rattle.std.specs.Prelude.{slice_index}
 use Rattle.vx_layout.specs.Space.{room_sum}
 use Rattle.vx_layout.proofs.rooms.total.Given as goal

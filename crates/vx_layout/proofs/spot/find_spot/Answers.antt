@@ -1,6 +1,5 @@
 -- The volume and the plex that are looked up are those of the configuration.
-use Rattle.std.proofs.Common.{refl, sym}
-use Rattle.vx_layout.proofs.Placing.{block_in, got, none_got, place_run, plex_filled, plex_there, region_same, seat_region, volume_there}
+use Rattle.vx_layout.proofs.Placing.{block_in, got, none_got, place_run, plex_filled, plex_there, seat_region, volume_there}
 use Rattle.vx_layout.proofs.spot.find_spot.Goals as goal
 
 pub unreachable-requires-in-None : goal.unreachable-requires-in-None

@@ -1,7 +1,6 @@
 -- A seat in the subdisks is one in the plex: within a unit blocks stand one behind the other.
-use Rattle.std.proofs.Common.{◌≡◌, ◌+◌, ◌<◌, ℕ, List, arith, sym, ◌∙◌, ap, subst}
+use Rattle.std.proofs.Common.{◌≡◌, arith, ap}
 use Rattle.std.specs.Prelude.{sum_by}
-use Rattle.vx_config.specs.declared.entry.Subdisk.{Subdisk}
 use Rattle.vx_layout.specs.Places.{blocks_in}
 use Rattle.vx_layout.proofs.Placing.{linear_within, run_in}
 use Rattle.vx_layout.proofs.spot.seat_in.Goals as goal

@@ -1,6 +1,6 @@
 -- The subdisk ends within the disk that was looked up.
-use Rattle.std.proofs.Common.{arith, refl, ◌≤◌, length}
-use Rattle.vx_layout.proofs.Placing.{ends_in, got, no_disk, none_got, spot_region}
+use Rattle.std.proofs.Common.{arith, refl}
+use Rattle.vx_layout.proofs.Placing.{ends_in, got}
 use Rattle.vx_layout.proofs.spot.spot_of.Goals as goal
 
 pub overflow_add-result : goal.overflow_add-result

@@ -1,4 +1,4 @@
-use Rattle.std.proofs.Common.{arith, ◌≡◌}
+use Rattle.std.proofs.Common.{arith}
 use Rattle.vx_layout.proofs.Takes.{before_end, gap_some, take_end, take_more, take_start}
 use Rattle.vx_layout.proofs.take.take_lowest.Goals as goal
 

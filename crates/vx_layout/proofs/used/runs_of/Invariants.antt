@@ -1,4 +1,4 @@
-use Rattle.std.proofs.Common.{◌≡◌, ◌++◌, take}
+use Rattle.std.proofs.Common.{◌≡◌, take}
 use Rattle.std.specs.Prelude.{flat_map}
 use Rattle.vx_config.specs.Checks.{volume_runs}
 use Rattle.vx_layout.proofs.used.runs_of.Given as goal
