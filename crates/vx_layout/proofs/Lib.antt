@@ -1,0 +1,11 @@
+pub mod Pairs
+pub mod Stripes
+pub mod Placing
+pub mod Gaps
+pub mod Takes
+pub mod RoomLemmas
+pub mod LogLemmas
+pub mod PlexLemmas
+pub mod FreshLemmas
+pub mod MadeLemmas
+pub mod SoundLemmas
