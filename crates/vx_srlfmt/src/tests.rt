@@ -8,6 +8,7 @@ use crate::test_blocks::{
     OUTSIDE_RECORD, RECORD, RECORD_DIGEST,
 };
 use std::test::*;
+use vx_model::limits::MOST_NUMBER;
 use vx_model::{KeptLink, KeptLinks, KeptMode, Line, Mark, Prot, Role, SPhase, State, SyncMode};
 use vx_wire::digest;
 
