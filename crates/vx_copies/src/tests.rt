@@ -11,6 +11,7 @@ use vx_config::{Config, DiskEntry, Disks, Volumes};
 use vx_copyfmt::AreaHeader;
 use vx_copyio::{are_large, put_copy};
 use vx_disk::{MemShelf, Rack, Shelf, put};
+use vx_model::limits::MOST_NUMBER;
 use vx_model::{Counted, No, OutOfMemory, Stop};
 use vx_wire::{digest, get_bytes, put_bytes, seal};
 
@@ -202,16 +203,16 @@ fn a_commit_is_refused(rt: HostRuntime) {
     assert!(rt; committed(alloc, &mut shelf, &mut config, 1, true) == refused);
     assert!(rt; config.serial == 3 && both_good(&config));
     // No serial is left.
-    config.serial = 0x7fff_ffff_ffff_ffff;
+    config.serial = MOST_NUMBER;
     let refused = Err(Stop::No(No::Limit {
         what: Counted::Number,
-        most: 0x7fff_ffff_ffff_ffff,
+        most: MOST_NUMBER,
     }));
     assert!(rt; committed(alloc, &mut shelf, &mut config, 3, true) == refused);
-    config.serial = 0x7fff_ffff_ffff_fffe;
+    config.serial = MOST_NUMBER - 1;
     let refused = Err(Stop::No(No::Device { disk: 0 }));
     assert!(rt; committed(alloc, &mut shelf, &mut config, 3, true) == refused);
-    assert!(rt; config.serial == 0x7fff_ffff_ffff_ffff && both_good(&config));
+    assert!(rt; config.serial == MOST_NUMBER && both_good(&config));
 }
 
 #[test]

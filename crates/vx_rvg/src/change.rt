@@ -13,9 +13,8 @@ use crate::apply::apply_to;
 use crate::write::refused;
 use crate::{Rvg, RvgCore};
 use vx_disk::Shelf;
+use vx_model::limits::MOST_NUMBER;
 use vx_model::{Counted, No, State};
-
-const MOST: u64 = 0x7fff_ffff_ffff_ffff;
 
 // Empties the log, all of whose writes are in the volumes.
 fn empty<S: Shelf>(shelf: &mut S, core: &mut RvgCore, state: &State, head: u64) -> Result<(), No>
@@ -62,7 +61,7 @@ fn restart<S: Shelf>(shelf: &mut S, core: &mut RvgCore, state: &State, head: u64
     if !core.srl.can_restart(head) {
         return Err(No::Limit {
             what: Counted::Number,
-            most: MOST,
+            most: MOST_NUMBER,
         });
     }
     let last = core.srl.head();

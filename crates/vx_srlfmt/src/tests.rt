@@ -30,7 +30,7 @@ fn changed(block: [u8; 512], at: usize, byte: u8) -> [u8; 512] {
 }
 
 fn new_header(stamp: u64) -> Header
-    requires { stamp < 2 ^ 63 }
+    requires { stamp ≤ MOST_NUMBER }
     ensures { CanSpell result }
 {
     Header {
