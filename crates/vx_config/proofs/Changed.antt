@@ -38,7 +38,6 @@ module _ {A : Type 0} (f : A → A) where
   changed-set zero (x ∷ xs) d lt = refl
   changed-set (suc k) (x ∷ xs) d lt = ap (λ (t : List A). x ∷ t) (changed-set k xs d (omega (arith, lt)))
 
-
   -- the setting of an item that was read at its place, of a list that is told so and kept so
   pub changed-item : (k : ℕ) (told kept : List A) (was new : A) → kept ≡ told → k < length kept → was ≡ get_or kept k was → new ≡ f was → slice_set kept k new ≡ changed_at f k told
   changed-item k told kept was new same lt here is =

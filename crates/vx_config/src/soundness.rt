@@ -99,7 +99,9 @@ fn is_any_live(plexes: &[PlexEntry]) -> bool
 fn has_shape(volume: &VolumeEntry) -> bool
     ensures { result ≡ has_shape_is volume.now }
 {
-    volume.ncol >= 1 && u32::from(volume.ncol) <= MOST_COLUMNS && (volume.width != 0 || volume.ncol == 1)
+    volume.ncol >= 1
+        && u32::from(volume.ncol) <= MOST_COLUMNS
+        && (volume.width != 0 || volume.ncol == 1)
 }
 
 fn has_logs(volume: &VolumeEntry) -> bool
