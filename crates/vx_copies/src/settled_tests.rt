@@ -52,9 +52,8 @@ fn a_cleared_disk_has_no_copy(rt: HostRuntime) {
     let alloc = rt.alloc();
     let mut shelf = labelled(alloc).expect(&rt, "there is memory");
     let mut config = two_disks(alloc);
-    for serial in 1..4 {
-        assert!(rt; committed(alloc, &mut shelf, &mut config, 3, true) == Ok((serial, true)));
-    }
+    assert!(rt; committed(alloc, &mut shelf, &mut config, 3, true) == Ok((1, true)));
+    assert!(rt; committed(alloc, &mut shelf, &mut config, 3, true) == Ok((2, true)));
     assert!(rt; cleared(&mut shelf));
     assert!(rt; found(alloc, &mut shelf) == Err(Stop::No(No::NoConfig)));
     // A crash keeps nothing of before, and a group of serial 1 is the newest.

@@ -1,13 +1,12 @@
 -- What tests have told, and what is read of what was spelled.
-use Rattle.std.proofs.Common.{arith, ◌≡◌, ◌∙◌, ap, sym, ℕ, ◌+◌, ◌^◌, ◌<◌, List, [], ◌++◌, length, take, drop, Bool, true, false, Option, Some, None, refl}
+use Rattle.std.proofs.Common.{◌≡◌, ◌∙◌, ap, sym, ℕ, ◌^◌, ◌<◌, List, [], ◌++◌, take, Bool, true, false, Option, Some, None, refl}
 use Rattle.std.specs.Prelude.{MatchOption, bytes_eq}
 use Rattle.std.specs.Option.{is_some}
 use Rattle.std.specs.Cmp.Lexicographic.{same_text}
 use Rattle.std.proofs.lemmas.Cmp.{nat_list_eq_equiv}
-use Rattle.std.proofs.lemmas.List.{append-nil, drop_all, take_at, take-append-drop}
+use Rattle.std.proofs.lemmas.List.{take-append-drop}
 use Rattle.vx_wire.specs.declared.sealed.BrokenSeal.{BrokenSeal}
 use Rattle.vx_wire.specs.Numbers.{be_bytes, number_at}
-use Rattle.vx_wire.specs.Places.{put_at}
 use Rattle.vx_wire.specs.Seals.{digest_of, filled, sealed, IsSealed, IsBroken}
 use Rattle.vx_wire.proofs.NumberLemmas.{number_at-be_bytes}
 

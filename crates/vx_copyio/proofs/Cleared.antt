@@ -1,11 +1,11 @@
 -- Headers that are written over with zeros.
-use Rattle.std.proofs.Common.{◌≡◌, ◌⊎◌, inl, inr, ⊎_elim, ℕ, ◌+◌, ◌<◌, ◌≤◌, IsTrue, Option, Some, None, List, length, refl, ap, sym, subst, ◌∙◌, arith}
+use Rattle.std.proofs.Common.{◌≡◌, inl, inr, ⊎_elim, ℕ, ◌+◌, ◌<◌, Option, Some, None, List, length, refl, ap, sym, subst, ◌∙◌, arith}
 use Rattle.std.proofs.lemmas.Bool.{cases_lt}
 use Rattle.vx_wire.specs.Fields.{zeros}
 use Rattle.vx_disk.specs.Shelf.{Flushed, Goes, Holds, Meaning, Nothing, Or, Written, Wrote, piece}
 use Rattle.vx_disk.proofs.Runs.{both_Goes, now_holds, piece_one, same_Goes, still_holds, then_nothing, weaker}
 use Rattle.vx_copyfmt.specs.Areas.{header_of}
-use Rattle.vx_copyfmt.specs.Commits.{IsHeaderBlock, Tidy, target_of}
+use Rattle.vx_copyfmt.specs.Commits.{IsHeaderBlock, Tidy}
 use Rattle.vx_copyfmt.proofs.AreaLemmas.{header_of-zeros}
 use Rattle.vx_copyio.specs.Settling.{AllCleared, HeadersZero, NoHeaders}
 

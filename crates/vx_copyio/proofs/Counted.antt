@@ -1,12 +1,12 @@
 -- How many device calls copies are.
-use Rattle.std.proofs.Common.{◌≡◌, ℕ, zero, suc, ◌+◌, ◌*◌, ◌-◌, ◌≤◌, Bool, true, false, Option, Some, None, OnOk, Result, refl, ap, sym, subst, ◌∙◌, arith, add-one}
+use Rattle.std.proofs.Common.{◌≡◌, ℕ, zero, suc, ◌+◌, ◌*◌, ◌-◌, Bool, true, false, Option, Some, None, refl, ap, sym, subst, ◌∙◌, arith, add-one}
 use Rattle.std.specs.Prelude.{cond, not, ◌&&◌}
 use Rattle.vx_disk.specs.Blocks.{bit_at}
 use Rattle.vx_disk.specs.Burns.{FewerLeft, MakesCalls}
 use Rattle.vx_disk.specs.Causes.{OnDisks, WithDisks}
 use Rattle.vx_disk.specs.Disks.{Disks, Untouched, count_below}
 use Rattle.vx_disk.specs.Shelf.{Meaning}
-use Rattle.vx_disk.proofs.Burning.{no_calls, then_calls}
+use Rattle.vx_disk.proofs.Burning.{then_calls}
 use Rattle.vx_copyio.specs.Putting.{part_of}
 
 -- a read is none

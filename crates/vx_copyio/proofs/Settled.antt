@@ -1,6 +1,6 @@
 -- Blocks that are written back as they were read.
-use Rattle.std.proofs.Common.{◌≡◌, ◌⊎◌, inl, inr, ⊎_elim, ℕ, ◌+◌, ◌-◌, ◌*◌, ◌<◌, ◌≤◌, Bool, true, false, IsTrue, Option, List, length, refl, ap, sym, subst, ◌∙◌, arith}
-use Rattle.vx_disk.specs.Shelf.{Covers, Flushed, Goes, Lawful, Meaning, Nothing, Or, Read, Written, Wrote, piece}
+use Rattle.std.proofs.Common.{◌≡◌, inl, inr, ⊎_elim, ℕ, Bool, true, false, IsTrue, Option, List, length, refl, ap, sym, subst, ◌∙◌, arith}
+use Rattle.vx_disk.specs.Shelf.{Flushed, Goes, Lawful, Meaning, Nothing, Or, Read, Written, Wrote, piece}
 use Rattle.vx_disk.proofs.Runs.{both_Goes, covers_one, now_holds, piece_one, weaker}
 use Rattle.vx_copyfmt.specs.Areas.{header_of}
 use Rattle.vx_copyfmt.specs.Commits.{Fit, IsHeaderBlock, Tidy, target_of}

@@ -1,8 +1,7 @@
 -- Both headers of a disk are written over with zeros.
-use Rattle.std.proofs.Common.{List, ℕ, refl}
+use Rattle.std.proofs.Common.{ℕ, refl}
 use Rattle.std.proofs.lemmas.List.{length-replicate}
 use Rattle.std.proofs.lemmas.Result.{on_ok_weaker}
-use Rattle.vx_disk.specs.Shelf.{Meaning}
 use Rattle.vx_wire.specs.Fields.{zeros}
 use Rattle.vx_copyio.proofs.Cleared.{all_zero, both_zero, first_zero, zero_left}
 use Rattle.vx_copyio.proofs.clearing.clear_disk.Goals as goal
