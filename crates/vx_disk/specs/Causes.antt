@@ -1,5 +1,5 @@
 -- Why a call on a shelf failed, and what is told of the disks of a rack beside.
-use Rattle.std.specs.Prelude.{◌≡◌, ◌⊎◌, ℕ, Option, Some, None, IsTrue, false, Result, Ok, Err}
+use Rattle.std.specs.Prelude.{◌≡◌, ◌≢◌, ◌⊎◌, ℕ, Option, Some, None, IsTrue, false, Result, Ok, Err}
 use Rattle.vx_disk.specs.declared.shelf.ShelfError.{ShelfError}
 use Rattle.vx_disk.specs.declared.shelf.ShelfError.TheVariants.{Fault, Down}
 use Rattle.vx_model.specs.declared.no.No.{No}
@@ -23,6 +23,11 @@ abbrev pub Cause : {T : Type 0} → Meaning → Meaning → ℕ → Result T She
 Cause old new unit (Ok _) = StaysUp old new
 Cause old new unit (Err (Fault disk)) = Faulted old new unit disk × StaysUp old new
 Cause old new unit (Err Down) = IsTrue new.down
+
+-- a call on a unit that answers Ok raises no count of faults, and one that fails that of no other unit
+abbrev pub CountsOnly : {T : Type 0} → ℕ → Result T ShelfError → (ℕ → ℕ) → (ℕ → ℕ) → Type 0
+CountsOnly unit (Ok _) old new = (u : ℕ) → new u ≡ old u
+CountsOnly unit (Err _) old new = (u : ℕ) → u ≢ unit → new u ≡ old u
 
 -- a write or a flush of a rack, where `step` is what it does if it answers Ok
 abbrev pub Calls : {T : Type 0} → Meaning → (Disks → Disks → Type 0) → Disks → Disks → Result T ShelfError → Type 0

@@ -88,6 +88,7 @@ impl MemDisks {
         requires { unit < length self.old.units.items }
         ensures goes { Goes Nothing (meaning_in self.old) (meaning_in self.new) }
         ensures rose { Rose (faults_of self.old.units.items unit) (faults_of self.new.units.items unit) }
+        ensures others { (u : ℕ) → u ≢ unit → faults_of self.new.units.items u ≡ faults_of self.old.units.items u }
         ensures blocks { SameBlocks (disks_in self.old) (disks_in self.new) }
         ensures failing { (u : ℕ) → failing_of self.new.units.items u ≡ failing_of self.old.units.items u }
         ensures fuse { self.new.fuse ≡ self.old.fuse }

@@ -3,7 +3,7 @@ ghost use Rattle.std.specs.Prelude.{◌≡◌, ◌≢◌, ◌≤◌, ◌<◌, �
 ghost use Rattle.vx_model.specs.declared.errors.Stop.TheVariants.{No as Refused};
 ghost use Rattle.vx_model.specs.declared.no.Counted.TheVariants.{Disks, Blocks};
 ghost use Rattle.vx_model.specs.declared.no.No.TheVariants.{Limit};
-ghost use Rattle.vx_disk.specs.Causes.{Calls, Cause, Names, OnDisks, WithDisks, Works};
+ghost use Rattle.vx_disk.specs.Causes.{Calls, Cause, CountsOnly, Names, OnDisks, WithDisks, Works};
 ghost use Rattle.vx_disk.specs.Disks.{Burns, Crashed, SameBlocks, Untouched};
 ghost use Rattle.vx_disk.specs.Meanings.{disks_in, meaning_in, shelf_meaning};
 ghost use Rattle.vx_disk.specs.Memory.{failing_of, meaning-IsRack, meaning-Lawful};
@@ -49,6 +49,7 @@ impl MemShelf {
         requires up { IsFalse self.old.disks.down }
         ensures goes { Goes Nothing (meaning_in self.old.disks) (meaning_in self.new.disks) }
         ensures cause { Cause (meaning_in self.old.disks) (meaning_in self.new.disks) unit result }
+        ensures counts { CountsOnly unit result (meaning_in self.old.disks).faults (meaning_in self.new.disks).faults }
         ensures names { Names (Some (disks_in self.old.disks)) unit result }
         ensures blocks { SameBlocks (disks_in self.old.disks) (disks_in self.new.disks) }
         ensures failing { (u : ℕ) → failing_of self.new.disks.units.items u ≡ failing_of self.old.disks.units.items u }
@@ -100,6 +101,7 @@ impl Shelf for MemShelf {
         ensures ok { OnOk result (Read (⟦<MemShelf as Shelf>⟧.meaning self.old) unit block into.new) }
         ensures down { (⟦<MemShelf as Shelf>⟧.meaning self.new).down ≡ (⟦<MemShelf as Shelf>⟧.meaning self.old).down }
         ensures cause { Cause (⟦<MemShelf as Shelf>⟧.meaning self.old) (⟦<MemShelf as Shelf>⟧.meaning self.new) unit result }
+        ensures counts { CountsOnly unit result (⟦<MemShelf as Shelf>⟧.meaning self.old).faults (⟦<MemShelf as Shelf>⟧.meaning self.new).faults }
         ensures names { Names (⟦<MemShelf as Shelf>⟧.meaning self.old).disks unit result }
         ensures works { OnOk result (Works (⟦<MemShelf as Shelf>⟧.meaning self.old).disks unit) }
         ensures disks { OnDisks (⟦<MemShelf as Shelf>⟧.meaning self.old).disks (⟦<MemShelf as Shelf>⟧.meaning self.new).disks Untouched }

@@ -1,6 +1,6 @@
 // A shelf is some units of blocks. Its meaning says what reads give and what crashes may leave.
 ghost use Rattle.std.specs.Prelude.{◌≡◌, ◌<◌, length, OnOk};
-ghost use Rattle.vx_disk.specs.Causes.{Calls, Cause, Names, OnDisks, Works};
+ghost use Rattle.vx_disk.specs.Causes.{Calls, Cause, CountsOnly, Names, OnDisks, Works};
 ghost use Rattle.vx_disk.specs.Disks.{Untouched};
 ghost use Rattle.vx_disk.specs.Shelf.{Meaning, Lawful, Fits, Goes, Nothing, Written, Read, Wrote, Flushed, DisksWrote, DisksFlushed};
 
@@ -41,6 +41,7 @@ pub trait Shelf: Drop {
         ensures ok { OnOk result (Read (meaning self.old) unit block into.new) }
         ensures down { (meaning self.new).down ≡ (meaning self.old).down }
         ensures cause { Cause (meaning self.old) (meaning self.new) unit result }
+        ensures counts { CountsOnly unit result (meaning self.old).faults (meaning self.new).faults }
         ensures names { Names (meaning self.old).disks unit result }
         ensures works { OnOk result (Works (meaning self.old).disks unit) }
         ensures disks { OnDisks (meaning self.old).disks (meaning self.new).disks Untouched };

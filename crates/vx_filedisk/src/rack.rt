@@ -3,7 +3,7 @@ ghost use Rattle.std.specs.Prelude.{◌≡◌, ◌≤◌, ◌<◌, IsFalse, Err,
 ghost use Rattle.vx_model.specs.declared.errors.Stop.TheVariants.{No as Refused};
 ghost use Rattle.vx_model.specs.declared.no.Counted.TheVariants.{Disks, Blocks};
 ghost use Rattle.vx_model.specs.declared.no.No.TheVariants.{Limit};
-ghost use Rattle.vx_disk.specs.Causes.{Calls, Cause, Names, OnDisks, Works};
+ghost use Rattle.vx_disk.specs.Causes.{Calls, Cause, CountsOnly, Names, OnDisks, Works};
 ghost use Rattle.vx_disk.specs.Disks.{Untouched};
 ghost use Rattle.vx_disk.specs.Racks.{Fitted, FitStops, Telling, Unfitted, most_blocks};
 ghost use Rattle.vx_disk.specs.Shelf.{DisksFlushed, DisksWrote, Fits, Flushed, Goes, Nothing, Read, Written, Wrote};
@@ -41,6 +41,7 @@ impl Shelf for HostRack {
         ensures ok { OnOk result (Read (⟦<HostRack as Shelf>⟧.meaning self.old) unit block into.new) }
         ensures down { (⟦<HostRack as Shelf>⟧.meaning self.new).down ≡ (⟦<HostRack as Shelf>⟧.meaning self.old).down }
         ensures cause { Cause (⟦<HostRack as Shelf>⟧.meaning self.old) (⟦<HostRack as Shelf>⟧.meaning self.new) unit result }
+        ensures counts { CountsOnly unit result (⟦<HostRack as Shelf>⟧.meaning self.old).faults (⟦<HostRack as Shelf>⟧.meaning self.new).faults }
         ensures names { Names (⟦<HostRack as Shelf>⟧.meaning self.old).disks unit result }
         ensures works { OnOk result (Works (⟦<HostRack as Shelf>⟧.meaning self.old).disks unit) }
         ensures disks { OnDisks (⟦<HostRack as Shelf>⟧.meaning self.old).disks (⟦<HostRack as Shelf>⟧.meaning self.new).disks Untouched }

@@ -1,6 +1,6 @@
 use Rattle.std.proofs.Common.{refl}
 use Rattle.vx_disk.specs.Shelf.{Nothing}
-use Rattle.vx_disk.proofs.Changes.{change-goes, change-fault, fault-Rose}
+use Rattle.vx_disk.proofs.Changes.{change-goes, change-fault, fault-Rose, map_other}
 use Rattle.vx_disk.proofs.DiskChanges.{fault-SameBlocks, same_failing, same_NoneLoose}
 use Rattle.vx_disk.proofs.disks.MemDisks.fault.Goals as goal
 
@@ -17,6 +17,10 @@ pub returns-clause-rose : goal.returns-clause-rose
 returns-clause-rose c =
     let e = c.fault.ensures in
     fault-Rose _ c.args.unit c.fault.new.self _ c.requires c.index_mut.ensures.value e.latest e.stable e.loose e.faults
+
+pub returns-clause-others : goal.returns-clause-others
+returns-clause-others c =
+    λ u not. map_other _ c.args.unit c.fault.new.self _ c.requires c.index_mut.ensures.value (λ m. m.faults) 0 u not
 
 pub returns-clause-blocks : goal.returns-clause-blocks
 returns-clause-blocks c =
