@@ -2,19 +2,17 @@
 //! the files of the folder D. It ends with the exit status of the run.
 #![tactic(auto)]
 
-mod racks;
 mod words;
 
 ghost use Rattle.std.specs.Prelude.{◌≡◌};
 ghost use Rattle.std.specs.Process.{exit_status};
 ghost use Rattle.vx_cli.specs.Codes.{code_of};
 
-use crate::racks::fresh_racks;
 use crate::words::words;
 use std::process::ExitCode;
 use std::sync::Wait;
 use std::thread::Threads;
-use vx_cli::{OpenGate, Status, vx_main};
+use vx_cli::{OpenGate, Status, fresh_racks, vx_main};
 use vx_stream::{HostSink, HostSource};
 
 fn main(rt: HostRuntime) -> ExitCode {

@@ -1,3 +1,4 @@
+pub mod Fresh
 pub mod CompleteLemmas
 pub mod EndsLemmas
 pub mod ReaderLemmas

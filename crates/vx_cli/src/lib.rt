@@ -2,6 +2,7 @@
 #![tactic(auto)]
 
 mod gate;
+mod host_racks;
 mod line;
 mod main_call;
 mod reader;
@@ -12,5 +13,6 @@ mod turn;
 mod words;
 
 pub use gate::{Gate, OpenGate};
+pub use host_racks::fresh_racks;
 pub use main_call::vx_main;
 pub use status::Status;

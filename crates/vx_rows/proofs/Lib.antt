@@ -1,2 +1,1 @@
-mod Fresh
 pub mod Worked

@@ -1,14 +1,13 @@
 // Disks in files: as each write is answered, another rack over the same files finds it in the log.
 ghost use Rattle.std.specs.Prelude.{◌≡◌, [], ◌∷◌};
 
-use crate::fresh_file_racks;
 use std::alloc::Global;
 use std::fs;
 use std::str::from_utf8;
 use std::sync::Wait;
 use std::test::Fail;
 use std::thread::Threads;
-use vx_cli::{OpenGate, Status, vx_main};
+use vx_cli::{OpenGate, Status, fresh_racks, vx_main};
 use vx_disk::{MemShelf, Rack, Shelf};
 use vx_filedisk::HostRack;
 use vx_model::{Units, VolumeUnits};
@@ -158,7 +157,7 @@ fn run_in_files<H: Threads + Wait + Sync, O: Sink>(
         words.push(String::from_str(alloc, word)?)?;
     }
     let mut source = MemSource::new(alloc, script, &[])?;
-    let mut racks = fresh_file_racks(rt, alloc)?;
+    let mut racks = fresh_racks(rt, alloc)?;
     Ok(vx_main(
         handle,
         alloc,

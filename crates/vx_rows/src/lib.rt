@@ -9,7 +9,6 @@ mod bytes;
 mod disks;
 #[cfg(test)]
 mod ends;
-mod file_racks;
 #[cfg(test)]
 mod files;
 #[cfg(test)]
@@ -24,5 +23,4 @@ mod statuses;
 #[cfg(test)]
 mod wrong;
 
-pub use file_racks::fresh_file_racks;
 pub use racks::fresh_racks;

@@ -6,13 +6,14 @@ ghost use Rattle.vx_node.specs.Holds.{AreFresh};
 use std::alloc::Global;
 use vx_disk::MemShelf;
 use vx_model::OutOfMemory;
+use vx_model::limits::MOST_SITES;
 
 /// Eight racks in memory, none of them fitted. On each the calls of these numbers, from 1, are to fail.
 pub fn fresh_racks(alloc: Global, fails: &[u64]) -> Result<Vec<MemShelf>, OutOfMemory>
     ensures { IfOk result (λ racks. AreFresh shelf_meaning racks.items) }
 {
     let mut racks = Vec::new(alloc);
-    for _step in 0..8u32 {
+    for _step in 0..MOST_SITES {
         racks.push(MemShelf::new(alloc, fails)?)?;
     }
     Ok(racks)

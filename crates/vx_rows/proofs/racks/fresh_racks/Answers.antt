@@ -5,7 +5,7 @@ use Rattle.std.proofs.lemmas.List.Elements.{All-push}
 use Rattle.vx_disk.specs.Racks.{Bare}
 use Rattle.vx_disk.specs.Meanings.{shelf_meaning}
 use Rattle.vx_disk.specs.declared.memory.MemShelf.{MemShelf}
-use Rattle.vx_rows.proofs.Fresh.{fresh}
+use Rattle.vx_cli.proofs.Fresh.{fresh}
 use Rattle.vx_rows.proofs.racks.fresh_racks.Goals as goal
 
 pub loop-step-preserved : goal.loop-step-preserved

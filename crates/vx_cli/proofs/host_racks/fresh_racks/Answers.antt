@@ -4,8 +4,8 @@ use Rattle.std.proofs.lemmas.List.Elements.{All-push}
 use Rattle.vx_disk.specs.Racks.{Bare}
 use Rattle.vx_filedisk.specs.Meanings.{rack_meaning}
 use Rattle.vx_filedisk.specs.declared.host.HostRack.{HostRack}
-use Rattle.vx.proofs.Fresh.{fresh}
-use Rattle.vx.proofs.racks.fresh_racks.Goals as goal
+use Rattle.vx_cli.proofs.Fresh.{fresh}
+use Rattle.vx_cli.proofs.host_racks.fresh_racks.Goals as goal
 
 pub loop-step-preserved : goal.loop-step-preserved
 loop-step-preserved c = record {

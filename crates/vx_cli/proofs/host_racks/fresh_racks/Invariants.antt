@@ -2,7 +2,7 @@ use Rattle.std.proofs.Common.{◌≡◌, length}
 use Rattle.std.specs.List.{All}
 use Rattle.vx_disk.specs.Racks.{Bare}
 use Rattle.vx_filedisk.specs.Meanings.{rack_meaning}
-use Rattle.vx_rows.proofs.file_racks.fresh_file_racks.Given as goal
+use Rattle.vx_cli.proofs.host_racks.fresh_racks.Given as goal
 
 abbrev pub invariant-loop-step : goal.invariant-loop-step
 invariant-loop-step l = record {
