@@ -8,7 +8,7 @@ use Rattle.vx_node.proofs.engine.make_group.Goals as goal
 pub create-requires : goal.create-requires
 create-requires g c = record {
   placed = subst (λ (u : Units). Placed u (g.R.Shelf.meaning c.args.rack)) (sym c.raw_units.ensures)
-      (placed_raw c.units-disks.result (g.R.Shelf.meaning c.args.rack) c.units-disks.ensures c.if-disks-lt3.false);
+      (placed_raw c.units-disks.result (g.R.Shelf.meaning c.args.rack) c.units-disks.ensures c.if-disks-lt-LEAST_RAW_DISKS.false);
   state = first_spells c.args.site c.first.result c.first.ensures;
 }
 

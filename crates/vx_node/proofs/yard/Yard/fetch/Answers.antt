@@ -3,7 +3,7 @@ use Rattle.vx_node.proofs.Changing.{told_before}
 use Rattle.vx_node.proofs.Lists.{get_at}
 use Rattle.vx_node.proofs.Readings.{may_read, reading, no_volume, fetch_done, fetch_failed, seat_is, fact_at, no_guard}
 use Rattle.vx_node.proofs.Seats.{named_none}
-use Rattle.vx_node.proofs.yard.Yard.fetch.Goals.{then-site-len-via-then-site-len, then-site-len-via-else-site-len+then-place-disks, then-site-len-via-else-site-len+else-place-disks+then-count-eq0, then-site-len-via-else-site-len+else-place-disks+else-count-eq0+then-count-gt16}
+use Rattle.vx_node.proofs.yard.Yard.fetch.Goals.{then-site-len-via-then-site-len, then-site-len-via-else-site-len+then-place-disks, then-site-len-via-else-site-len+else-place-disks+then-count-eq0, then-site-len-via-else-site-len+else-place-disks+else-count-eq0+then-count-gt-MOST_CALL_BLOCKS}
 use Rattle.vx_node.proofs.yard.Yard.fetch.Goals as goal
 
 pub returns-in_default-clause-works : goal.returns-in_default-clause-works
@@ -33,7 +33,7 @@ returns-then-site-len-clause-works g c = λ w stands free.
       | then-site-len-via-then-site-len w ↦ absurd (omega (arith, w.if-site-len.true, guard.0))
       | then-site-len-via-else-site-len+then-place-disks w ↦ absurd (omega (arith, w.if-place-disks.true, guard.1))
       | then-site-len-via-else-site-len+else-place-disks+then-count-eq0 w ↦ absurd (omega (arith, w.if-count-eq0.true, may.some))
-      | then-site-len-via-else-site-len+else-place-disks+else-count-eq0+then-count-gt16 w ↦ absurd (omega (arith, w.if-count-gt16.true, may.few))
+      | then-site-len-via-else-site-len+else-place-disks+else-count-eq0+then-count-gt-MOST_CALL_BLOCKS w ↦ absurd (omega (arith, w.if-count-gt-MOST_CALL_BLOCKS.true, may.few))
     ]
 
 pub returns-in-Ok-clause-works : goal.returns-in-Ok-clause-works

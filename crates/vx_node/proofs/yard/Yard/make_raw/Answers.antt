@@ -10,7 +10,7 @@ use Rattle.vx_node.proofs.Raws.{raw_done, raw_failed, raw_told, raw_shape}
 use Rattle.vx_node.proofs.Refused.{raw_may}
 use Rattle.vx_node.proofs.Seats.{named_none, seat_within, some_same}
 use Rattle.vx_node.proofs.yard.Yard.make_raw.Goals as goal
-use Rattle.vx_node.proofs.yard.Yard.make_raw.Goals.{then-site-len-via-then-site-len, then-site-len-via-else-site-len+then-site-ge8, then-site-len-via-else-site-len+else-site-ge8+then-disks-lt3, then-site-len-via-else-site-len+else-site-ge8+else-disks-lt3+then-disks-gt8, then-site-len-via-else-site-len+else-site-ge8+else-disks-lt3+else-disks-gt8+then-blocks-lt8}
+use Rattle.vx_node.proofs.yard.Yard.make_raw.Goals.{then-site-len-via-then-site-len, then-site-len-via-else-site-len+then-site-ge-MOST_SITES, then-site-len-via-else-site-len+else-site-ge-MOST_SITES+then-disks-lt-LEAST_RAW_DISKS, then-site-len-via-else-site-len+else-site-ge-MOST_SITES+else-disks-lt-LEAST_RAW_DISKS+then-disks-gt-MOST_DISKS, then-site-len-via-else-site-len+else-site-ge-MOST_SITES+else-disks-lt-LEAST_RAW_DISKS+else-disks-gt-MOST_DISKS+then-blocks-lt-LEAST_BLOCKS}
 
 pub returns-in_default-clause-works : goal.returns-in_default-clause-works
 returns-in_default-clause-works g c = λ w stands free.
@@ -80,8 +80,8 @@ returns-then-site-len-clause-works g c = λ w stands free.
     let engines : c.len.result ≡ 8 = omega (arith, c.len.ensures, c.args.self.now.engines.ok, stands.engines.eight) in
     elim c.then-site-len.branch [
       | then-site-len-via-then-site-len w ↦ absurd (omega (arith, w.if-site-len.true, may.below, engines))
-      | then-site-len-via-else-site-len+then-site-ge8 w ↦ absurd (omega (arith, w.if-site-ge8.true, may.below))
-      | then-site-len-via-else-site-len+else-site-ge8+then-disks-lt3 w ↦ absurd (omega (arith, w.if-disks-lt3.true, may.some))
-      | then-site-len-via-else-site-len+else-site-ge8+else-disks-lt3+then-disks-gt8 w ↦ absurd (omega (arith, w.if-disks-gt8.true, may.few))
-      | then-site-len-via-else-site-len+else-site-ge8+else-disks-lt3+else-disks-gt8+then-blocks-lt8 w ↦ absurd (omega (arith, w.if-blocks-lt8.true, may2.large))
+      | then-site-len-via-else-site-len+then-site-ge-MOST_SITES w ↦ absurd (omega (arith, w.if-site-ge-MOST_SITES.true, may.below))
+      | then-site-len-via-else-site-len+else-site-ge-MOST_SITES+then-disks-lt-LEAST_RAW_DISKS w ↦ absurd (omega (arith, w.if-disks-lt-LEAST_RAW_DISKS.true, may.some))
+      | then-site-len-via-else-site-len+else-site-ge-MOST_SITES+else-disks-lt-LEAST_RAW_DISKS+then-disks-gt-MOST_DISKS w ↦ absurd (omega (arith, w.if-disks-gt-MOST_DISKS.true, may.few))
+      | then-site-len-via-else-site-len+else-site-ge-MOST_SITES+else-disks-lt-LEAST_RAW_DISKS+else-disks-gt-MOST_DISKS+then-blocks-lt-LEAST_BLOCKS w ↦ absurd (omega (arith, w.if-blocks-lt-LEAST_BLOCKS.true, may2.large))
     ]

@@ -6,7 +6,7 @@ use Rattle.vx_node.proofs.Lists.{get_at, pop_pushed}
 use Rattle.vx_node.proofs.Refused.{site_may}
 use Rattle.vx_node.proofs.Sites.{site_done, site_said, sites_many}
 use Rattle.vx_node.specs.Yards.{in_files}
-use Rattle.vx_node.proofs.yard.Yard.make_site.Goals.{then-site-len-via-then-site-len, then-site-len-via-else-site-len+then-site-ge8}
+use Rattle.vx_node.proofs.yard.Yard.make_site.Goals.{then-site-len-via-then-site-len, then-site-len-via-else-site-len+then-site-ge-MOST_SITES}
 use Rattle.vx_node.proofs.yard.Yard.make_site.Goals as goal
 
 pub returns-in-Ok-clause-works : goal.returns-in-Ok-clause-works
@@ -50,5 +50,5 @@ returns-then-site-len-clause-works g c = λ w stands free.
     let engines : c.len.result ≡ 8 = omega (arith, c.len.ensures, c.args.self.now.engines.ok, stands.engines.eight) in
     elim c.then-site-len.branch [
       | then-site-len-via-then-site-len w ↦ absurd (omega (arith, w.if-site-len.true, site, engines))
-      | then-site-len-via-else-site-len+then-site-ge8 w ↦ absurd (omega (arith, w.if-site-ge8.true, site))
+      | then-site-len-via-else-site-len+then-site-ge-MOST_SITES w ↦ absurd (omega (arith, w.if-site-ge-MOST_SITES.true, site))
     ]

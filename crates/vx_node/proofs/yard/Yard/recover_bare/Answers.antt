@@ -22,7 +22,7 @@ returns-in-Ok-clause-found g c = λ w stands below bare.
     let three = get_at facts s c.index_mut-in-Ok.result.now c.requires.facts c.index_mut-in-Ok.ensures.value in
     let at = get_at engines s c.index_mut.result.now c.requires.engine c.index_mut.ensures.value in
     let there = at ∙ ap (λ e. Some e) (sym c.replace-engine.ensures.value) in
-    let some : 3 ≤ c.index_mut-in-Ok.result.now.disks = subst (λ (f : SiteFacts). 3 ≤ f.disks) (some_same (sym one ∙ three)) (omega (arith, c.if-disks-lt3.false)) in
+    let some : 3 ≤ c.index_mut-in-Ok.result.now.disks = subst (λ (f : SiteFacts). 3 ≤ f.disks) (some_same (sym one ∙ three)) (omega (arith, c.if-disks-lt-LEAST_RAW_DISKS.false)) in
     let ring_is : ring_of c.index-2.result.now.blocks ≡ ring_of c.index_mut-in-Ok.result.now.blocks = ap (λ (f : SiteFacts). ring_of f.blocks) (some_same (sym two ∙ three)) in
     let found = subst (λ r. BareUpIs (w.nodes s) c.replace-engine.result c.recover_bare-engine.result.0 r) c.in-Ok.is
     (c.recover_bare-engine.ensures.found (w.nodes s) (stands.engines.sites s c.replace-engine.result below there) bare
@@ -54,7 +54,7 @@ returns-in-Err-clause-found g c = λ w stands below bare.
     let two = get_at facts s c.index-2.result.now c.requires.facts c.index-2.ensures in
     let at = get_at engines s c.index_mut.result.now c.requires.engine c.index_mut.ensures.value in
     let there = at ∙ ap (λ e. Some e) (sym c.replace-engine.ensures.value) in
-    let some : 3 ≤ c.index.result.now.disks = omega (arith, c.if-disks-lt3.false) in
+    let some : 3 ≤ c.index.result.now.disks = omega (arith, c.if-disks-lt-LEAST_RAW_DISKS.false) in
     let ring_is : ring_of c.index-2.result.now.blocks ≡ ring_of c.index.result.now.blocks = ap (λ (f : SiteFacts). ring_of f.blocks) (some_same (sym two ∙ one)) in
     let found = subst (λ r. BareUpIs (w.nodes s) c.replace-engine.result c.recover_bare-engine.result.0 r) c.in-Err.is
     (c.recover_bare-engine.ensures.found (w.nodes s) (stands.engines.sites s c.replace-engine.result below there) bare

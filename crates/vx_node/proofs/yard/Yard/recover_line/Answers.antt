@@ -11,7 +11,7 @@ use Rattle.vx_node.proofs.Refused.{recover_may}
 use Rattle.vx_node.proofs.Rising.{recover_down, recover_up, shown_there}
 use Rattle.vx_node.proofs.Seats.{named_none, seat_below, seat_within, some_same}
 use Rattle.vx_node.proofs.yard.Yard.recover_line.Goals as goal
-use Rattle.vx_node.proofs.yard.Yard.recover_line.Goals.{then-site-len-via-then-site-len, then-site-len-via-else-site-len+then-index-lt8}
+use Rattle.vx_node.proofs.yard.Yard.recover_line.Goals.{then-site-len-via-then-site-len, then-site-len-via-else-site-len+then-index-lt-LEAST_BLOCKS}
 
 pub returns-in_default-clause-works : goal.returns-in_default-clause-works
 returns-in_default-clause-works g c = λ w stands free.
@@ -26,10 +26,10 @@ returns-then-site-len-clause-works g c = λ w stands free.
     elim c.then-site-len.branch [
       | then-site-len-via-then-site-len v ↦
           absurd (omega (arith, v.if-site-len.true, seat_below w c.args.self.now c.args.name.now c.in-Some.site c.len.result stands is (omega (arith, c.len.ensures, c.args.self.now.engines.ok))))
-      | then-site-len-via-else-site-len+then-index-lt8 v ↦
+      | then-site-len-via-else-site-len+then-index-lt-LEAST_BLOCKS v ↦
           absurd (omega (
             arith,
-            v.if-index-lt8.true,
+            v.if-index-lt-LEAST_BLOCKS.true,
             (shown_there w c.args.self.now c.args.name.now c.in-Some.site v.index.result.now stands is
                 (get_at facts c.in-Some.site v.index.result.now (seat_within facts c.args.name.now c.in-Some.site is) v.index.ensures)).0,
           ))

@@ -3,7 +3,7 @@ use Rattle.std.specs.Prelude.{Some, None}
 use Rattle.vx_node.proofs.Changing.{told_before}
 use Rattle.vx_node.proofs.Lists.{get_at}
 use Rattle.vx_node.proofs.Writing.{unseated, unplaced, goes, inside, write_done, write_failed, seat_is, fact_at}
-use Rattle.vx_node.proofs.yard.Yard.write_blocks.Goals.{then-site-len-via-then-site-len, then-site-len-via-else-site-len+then-place-ge8}
+use Rattle.vx_node.proofs.yard.Yard.write_blocks.Goals.{then-site-len-via-then-site-len, then-site-len-via-else-site-len+then-place-ge-MOST_SITES}
 use Rattle.vx_node.proofs.yard.Yard.write_blocks.Goals as goal
 
 pub returns-in_default-clause-works : goal.returns-in_default-clause-works
@@ -26,7 +26,7 @@ returns-then-site-len-clause-works g c = λ w stands free.
     let engines : c.len.result ≡ 8 = omega (arith, c.len.ensures, c.args.self.now.engines.ok, stands.engines.eight) in
     elim c.then-site-len.branch [
       | then-site-len-via-then-site-len w ↦ absurd (omega (arith, w.if-site-len.true, within.0, engines))
-      | then-site-len-via-else-site-len+then-place-ge8 w ↦ absurd (omega (arith, w.if-place-ge8.true, within.1))
+      | then-site-len-via-else-site-len+then-place-ge-MOST_SITES w ↦ absurd (omega (arith, w.if-place-ge-MOST_SITES.true, within.1))
     ]
 
 pub returns-in-Ok-clause-works : goal.returns-in-Ok-clause-works

@@ -3,7 +3,7 @@ use Rattle.std.specs.Prelude.{min, replicate}
 use Rattle.vx_node.proofs.Refused.{write_may}
 use Rattle.vx_node.specs.Yards.{in_files}
 use Rattle.vx_node.proofs.Writing.{write_answered}
-use Rattle.vx_node.proofs.yard.Yard.write_line.Goals.{then-count-lt1-via-then-count-lt1, then-count-lt1-via-else-count-lt1+then-count-gt16}
+use Rattle.vx_node.proofs.yard.Yard.write_line.Goals.{then-count-lt1-via-then-count-lt1, then-count-lt1-via-else-count-lt1+then-count-gt-MOST_CALL_BLOCKS}
 use Rattle.vx_node.proofs.yard.Yard.write_line.Goals as goal
 
 few_blocks : (n : ℕ) → n ≤ 16 → min n 16 ≡ n
@@ -14,7 +14,7 @@ returns-then-count-lt1-clause-works g c = λ w stands free.
     let call = (write_may c.args.self.now.facts.items (in_files c.args.self.now) c.args.name.now c.args.volume.now c.args.start c.args.count c.args.fill free).call in
     elim c.then-count-lt1.branch [
       | then-count-lt1-via-then-count-lt1 w ↦ absurd (omega (arith, w.if-count-lt1.true, call.some))
-      | then-count-lt1-via-else-count-lt1+then-count-gt16 w ↦ absurd (omega (arith, w.if-count-gt16.true, call.few))
+      | then-count-lt1-via-else-count-lt1+then-count-gt-MOST_CALL_BLOCKS w ↦ absurd (omega (arith, w.if-count-gt-MOST_CALL_BLOCKS.true, call.few))
     ]
 
 pub returns-clause-works : goal.returns-clause-works
