@@ -1,10 +1,11 @@
 -- The answer of an import, from what was found on all disks.
-use Rattle.std.proofs.Common.{◌≡◌, ◌⊎◌, inl, inr, ℕ, zero, suc, ◌+◌, ◌<◌, ◌≤◌, Bool, true, IsTrue, Option, Some, None, Result, Ok, Err, List, [], ◌∷◌, length, refl, ap, sym, subst, ◌∙◌, arith}
-use Rattle.std.specs.Prelude.{◌&&◌, ◌||◌, not, if◌then◌else◌}
-use Rattle.std.proofs.lemmas.Bool.{cases_lt}
+use Rattle.std.proofs.Common.{◌≡◌, ◌⊎◌, inl, inr, ℕ, zero, suc, ◌+◌, ◌<◌, ◌≤◌, Bool, true, false, IsTrue, Option, Some, None, Result, Ok, Err, List, [], ◌∷◌, length, refl, ap, sym, subst, ◌∙◌, arith}
+use Rattle.std.specs.Prelude.{◌&&◌, ◌||◌, ◌==◌, not, if◌then◌else◌}
+use Rattle.std.proofs.lemmas.Bool.{cases_lt, eq-eqb, eqb-true}
 use Rattle.vx_model.specs.declared.errors.Stop.{Stop}
 use Rattle.vx_model.specs.declared.errors.Stop.TheVariants.{No as Refused, OutOfMemory as NoMemory}
 use Rattle.vx_model.specs.declared.no.No.{No}
+use Rattle.vx_disk.specs.Counts.{Rose}
 use Rattle.vx_disk.specs.Shelf.{Meaning, Image, Lawful}
 use Rattle.vx_copyfmt.specs.Copies.{Disk}
 use Rattle.vx_copyfmt.specs.Imports.{first_of, missing, or_missing, by_labels, by_newest, newest, import_of}
@@ -79,15 +80,25 @@ err_answer : (a : Answer) (why : No) → Err why ≡ a → IsAnswer a (Err (Refu
 err_answer (Ok y) why is = absurd cc
 err_answer (Err other) why is = inr cc
 
+-- a count that is another one rose
+other_rose : (before now : ℕ) → before ≤ now → (now == before) ≡ false → Rose before now
+other_rose before now le apart = elim (cases_lt before now) [
+  | inl lt ↦ record { fell_not = le; rose = inl lt }
+  | inr back ↦ let same : (now == before) ≡ true = eq-eqb now before (omega (arith, le, back)) in let clash : true ≡ false = sym same ∙ apart in absurd cc
+]
+
 -- memory ran out
-pub imported_none : (old new : Meaning) → Lawful old → Imported old new (Err NoMemory)
-imported_none old new lawful = record {
-  readable = λ u. true;
-  image = λ u b. fill old lawful u b;
-  blamed = λ u lt out. absurd cc;
-  read = λ tells u b. fill_read old lawful u b tells;
-  answer = no_memory (answer_of (λ u. true) (import_of (on_shelf old) failed_in old.units (λ u. true) (λ u b. fill old lawful u b)));
-}
+pub imported_none : (old new : Meaning) → Lawful old → ((u : ℕ) → old.faults u ≤ new.faults u) → Imported old new (Err NoMemory)
+imported_none old new lawful le =
+    let p : ℕ → Bool = λ u. new.faults u == old.faults u in
+    record {
+      readable = p;
+      image = λ u b. fill old lawful u b;
+      blamed = λ u lt out. other_rose (old.faults u) (new.faults u) (le u) out;
+      still = λ u lt on. eqb-true (new.faults u) (old.faults u) on;
+      read = λ tells u b. fill_read old lawful u b tells;
+      answer = no_memory (answer_of p (import_of (on_shelf old) failed_in old.units p (λ u b. fill old lawful u b)));
+    }
 
 module _ (old new : Meaning) (lawful : Lawful old) (s : Search) (found : Searched old.units old new s) where
   abbrev at_unit : (u : ℕ) → (u < old.units) ⊎ (old.units ≤ u) → Disk
@@ -117,7 +128,7 @@ module _ (old new : Meaning) (lawful : Lawful old) (s : Search) (found : Searche
   is_answer = ap (answer_of found.readable) is_import ∙ answer_same old.units found.readable (flag_at s.readable) (λ u lt small. sym (found.flags u lt small)) s.format s.best found.fits
 
   made : (result : Final) → IsAnswer (answer_of found.readable (import_of (on_shelf old) failed_in old.units found.readable whole)) result → Imported old new result
-  made result answer = record { readable = found.readable; image = whole; blamed = found.blamed; read = λ tells u b. at_read tells u b (cases_lt u old.units); answer = answer }
+  made result answer = record { readable = found.readable; image = whole; blamed = found.blamed; still = found.still; read = λ tells u b. at_read tells u b (cases_lt u old.units); answer = answer }
 
   pub imported_ok : (units : ℕ) (x : Config × ℕ) → units ≡ old.units → Ok x ≡ answer_of (flag_at s.readable) (by_labels s.format (by_newest failed_in units (flag_at s.readable) (best_view s.best))) → Imported old new (Ok x)
   imported_ok units x same is = made (Ok x) (ok_answer _ x (subst (λ (n : ℕ). Ok x ≡ answer_of (flag_at s.readable) (by_labels s.format (by_newest failed_in n (flag_at s.readable) (best_view s.best)))) same is ∙ sym is_answer))

@@ -18,7 +18,7 @@ use Rattle.vx_copyfmt.proofs.Areas.{copy_at-same}
 use Rattle.vx_copyfmt.proofs.Bodies.{body_is}
 use Rattle.vx_config.specs.declared.config.Config.{Config}
 use Rattle.vx_copies.specs.Bodies.{of_serial}
-use Rattle.vx_copies.specs.Looking.{SeesArea, SeesAreas, SeesBody, SeesDisk, ShowsArea, ShowsAreas, ShowsBody, ShowsDisk, ShowsFormat, copy_view, on_shelf}
+use Rattle.vx_copies.specs.Looking.{CountsArea, CountsDisk, SeesArea, SeesAreas, SeesBody, SeesDisk, ShowsArea, ShowsAreas, ShowsBody, ShowsDisk, ShowsFormat, copy_view, on_shelf}
 use Rattle.vx_copies.specs.declared.seen.AreaSeen.{AreaSeen}
 use Rattle.vx_copies.specs.declared.seen.AreaSeen.TheVariants as area
 use Rattle.vx_copies.specs.declared.seen.CopySeen.{CopySeen}
@@ -204,3 +204,16 @@ module _ (u : ℕ) (m : Meaning) (lawful : Lawful m) (first : List ℕ) (long : 
   disk_sees l is good known mid new still (Ok (disk.Format version)) sees = absurd sees
   disk_sees l is good known mid new still (Ok (disk.Seen copy)) sees = shows_label l is good known mid still copy sees
   disk_sees l is good known mid new still (Err e) sees = tt
+
+-- ---- counts, behind calls that raised none
+
+pub then_area : (u : ℕ) (old mid new : ℕ → ℕ) → ((v : ℕ) → mid v ≡ old v) → (r : Result AreaSeen OutOfMemory) → IfOk r (CountsArea u mid new) → IfOk r (CountsArea u old new)
+then_area u old mid new same (Ok area.Unreadable) counts = λ v apart. counts v apart ∙ same v
+then_area u old mid new same (Ok (area.Seen copy)) counts = λ v. counts v ∙ same v
+then_area u old mid new same (Err e) counts = tt
+
+pub then_disk : (u : ℕ) (old mid new : ℕ → ℕ) → ((v : ℕ) → mid v ≡ old v) → (r : Result DiskSeen OutOfMemory) → IfOk r (CountsDisk u mid new) → IfOk r (CountsDisk u old new)
+then_disk u old mid new same (Ok disk.Unreadable) counts = λ v apart. counts v apart ∙ same v
+then_disk u old mid new same (Ok (disk.Format version)) counts = λ v. counts v ∙ same v
+then_disk u old mid new same (Ok (disk.Seen copy)) counts = λ v. counts v ∙ same v
+then_disk u old mid new same (Err e) counts = tt

@@ -13,7 +13,7 @@ use Rattle.vx_copyfmt.specs.declared.label.LabelSeen.TheVariants as label
 use Rattle.vx_copyfmt.proofs.Told.{false_from}
 use Rattle.vx_config.specs.declared.config.Config.{Config}
 use Rattle.vx_copies.specs.Answers.{flag_at}
-use Rattle.vx_copies.specs.Looking.{IsRead, SeesDisk, ShowsDisk, ShowsFormat, FitsDisk, copy_view, on_shelf}
+use Rattle.vx_copies.specs.Looking.{CountsDisk, IsRead, SeesDisk, ShowsDisk, ShowsFormat, FitsDisk, copy_view, on_shelf}
 use Rattle.vx_copies.specs.Searching.{FitsBest, Searched, best_view, seen_format, seen_readable, seen_view}
 use Rattle.vx_copies.specs.declared.search.Search.{Search}
 use Rattle.vx_copies.specs.declared.seen.CopySeen.{CopySeen}
@@ -73,13 +73,15 @@ if_on true k o = refl
 if_on false k o = refl
 
 -- what one disk is found to add, by its blocks and whether it can be read
-record Adds (k : ℕ) (old new : Meaning) (f : Bool) (d : Disk) (format : Option ℕ) (best : Option (ℕ × Copy Config)) : Type 0 where
+record Adds (k : ℕ) (old mid new : Meaning) (f : Bool) (d : Disk) (format : Option ℕ) (best : Option (ℕ × Copy Config)) : Type 0 where
   read : IsTrue old.tells → (b : ℕ) → old.reads k b (d b)
   blamed : f ≡ false → Rose (old.faults k) (new.faults k)
+  still : f ≡ true → new.faults k ≡ old.faults k
+  others : (u : ℕ) → (u ≡ k → ⊥) → new.faults u ≡ mid.faults u
   version : (if f then strange_label (seen_in (d 0)) else None) ≡ format
   copy : (if f && is_label (seen_in (d 0)) then on_disk k (copy_of (on_shelf old) d) else None) ≡ best
 
-add : (k : ℕ) (old mid new : Meaning) (s t : Search) (f : Bool) (d : Disk) (format : Option ℕ) (best : Option (ℕ × Copy Config)) → Searched k old mid s → Goes Nothing mid new → Adds k old new f d format best
+add : (k : ℕ) (old mid new : Meaning) (s t : Search) (f : Bool) (d : Disk) (format : Option ℕ) (best : Option (ℕ × Copy Config)) → Searched k old mid s → Goes Nothing mid new → Adds k old mid new f d format best
     → t.format ≡ first_of s.format format → best_view t.best ≡ later (best_view s.best) best → ((u : ℕ) → u < 8 → flag_at t.readable u ≡ (if u == k then f else flag_at s.readable u)) → FitsBest old.units t.best → Searched (k + 1) old new t
 add k old mid new s t f d format best so_far goes adds format_is best_is flags fits =
     let count : k + 1 ≡ suc k = omega arith in
@@ -110,6 +112,13 @@ add k old mid new s t f d format best so_far goes adds format_is best_is flags f
             let here : p k ≡ false = subst (λ (v : ℕ). p v ≡ false) same out in
             subst (λ (v : ℕ). Rose (old.faults v) (new.faults v)) (sym same) (adds.blamed (sym (flag_here f k so_far.readable) ∙ here))
       ];
+      still = λ u lt on. elim (below_or u k lt) [
+        | inl below ↦ adds.others u (λ same. omega (arith, below, same)) ∙ so_far.still u below (sym (flag_below f k so_far.readable u below) ∙ on)
+        | inr same ↦
+            let here : p k ≡ true = subst (λ (v : ℕ). p v ≡ true) same on in
+            subst (λ (v : ℕ). new.faults v ≡ old.faults v) (sym same) (adds.still (sym (flag_here f k so_far.readable) ∙ here))
+      ];
+      alone = λ u le. adds.others u (λ same. omega (arith, le, same)) ∙ so_far.alone u (omega (arith, le));
       format = ap (strange p i) count ∙ formats;
       best = ap (newest (on_shelf old) p i) count ∙ bests;
       flags = λ u lt small. elim (below_or u k lt) [
@@ -125,23 +134,27 @@ module _ (k : ℕ) (old mid new : Meaning) (lawful : Lawful old) (still : StillU
   read_before : (d : Disk) → IsRead k mid d → IsTrue old.tells → (b : ℕ) → old.reads k b (d b)
   read_before d is tells b = still_read old mid still k b (d b) (is.each (told_still old mid still tells) b)
 
-  sees_format : (version : ℕ) → ShowsFormat k mid version → (d : Disk) × Adds k old new true d (Some version) None
-  sees_format version shows = (
+  sees_format : (version : ℕ) → ShowsFormat k mid version → mid.faults k ≡ old.faults k → ((u : ℕ) → new.faults u ≡ mid.faults u) → (d : Disk) × Adds k old mid new true d (Some version) None
+  sees_format version shows before counts = (
     shows.blocks,
     record {
       read = read_before shows.blocks shows.read;
       blamed = λ no. absurd cc;
+      still = λ is. counts k ∙ before;
+      others = λ u apart. counts u;
       version = shows.label;
       copy = rw (strange_none (seen_in (shows.blocks 0)) version shows.label) refl;
     },
   )
 
-  sees_copy : (seen : Option CopySeen) → ShowsDisk k mid seen → (d : Disk) × Adds k old new true d None (on_disk k (copy_view seen))
-  sees_copy seen shows = (
+  sees_copy : (seen : Option CopySeen) → ShowsDisk k mid seen → mid.faults k ≡ old.faults k → ((u : ℕ) → new.faults u ≡ mid.faults u) → (d : Disk) × Adds k old mid new true d None (on_disk k (copy_view seen))
+  sees_copy seen shows before counts = (
     shows.blocks,
     record {
       read = read_before shows.blocks shows.read;
       blamed = λ no. absurd cc;
+      still = λ is. counts k ∙ before;
+      others = λ u apart. counts u;
       version = shows.label;
       copy = if_on (is_label (seen_in (shows.blocks 0))) k (copy_of (on_shelf old) shows.blocks)
           ∙ ap (λ (o : Option (Copy Config)). on_disk k (if is_label (seen_in (shows.blocks 0)) then o else None)) (sym (of_same (on_shelf mid) (on_shelf old) (shelf_same old mid still) shows.blocks))
@@ -149,25 +162,27 @@ module _ (k : ℕ) (old mid new : Meaning) (lawful : Lawful old) (still : StillU
     },
   )
 
-  adds : (seen : DiskSeen) → SeesDisk k mid new seen → (d : Disk) × Adds k old new (seen_readable seen) d (seen_format seen) (seen_view k seen)
-  adds disk.Unreadable sees = (
+  adds : (seen : DiskSeen) → SeesDisk k mid new seen → mid.faults k ≡ old.faults k → CountsDisk k mid.faults new.faults seen → (d : Disk) × Adds k old mid new (seen_readable seen) d (seen_format seen) (seen_view k seen)
+  adds disk.Unreadable sees before counts = (
     fill old lawful k,
     record {
       read = λ tells b. fill_read old lawful k b tells;
       blamed = λ is. Rose_before (old.faults k) (mid.faults k) (new.faults k) (still.goes.faults k) sees;
+      still = λ is. absurd cc;
+      others = counts;
       version = refl;
       copy = refl;
     },
   )
-  adds (disk.Format version) sees = sees_format version sees
-  adds (disk.Seen copy) sees = sees_copy copy sees
+  adds (disk.Format version) sees before counts = sees_format version sees before counts
+  adds (disk.Seen copy) sees before counts = sees_copy copy sees before counts
 
-  pub one_more : (s t : Search) (seen : DiskSeen) → Searched k old mid s → Goes Nothing mid new → SeesDisk k mid new seen → FitsDisk mid.units seen
+  pub one_more : (s t : Search) (seen : DiskSeen) → Searched k old mid s → Goes Nothing mid new → SeesDisk k mid new seen → CountsDisk k mid.faults new.faults seen → FitsDisk mid.units seen
       → t.format ≡ first_of s.format (seen_format seen) → best_view t.best ≡ later (best_view s.best) (seen_view k seen)
       → ((u : ℕ) → u < 8 → flag_at t.readable u ≡ (if u == k then seen_readable seen else flag_at s.readable u))
       → ((units : ℕ) → FitsBest units s.best → FitsDisk units seen → FitsBest units t.best) → Searched (k + 1) old new t
-  one_more s t seen so_far goes sees fits format best flags keeps =
-      let found = adds seen sees in
+  one_more s t seen so_far goes sees counts fits format best flags keeps =
+      let found = adds seen sees (so_far.alone k (omega arith)) counts in
       add k old mid new s t (seen_readable seen) found.0 (seen_format seen) (seen_view k seen) so_far goes found.1 format best flags
       (keeps old.units so_far.fits (subst (λ (n : ℕ). FitsDisk n seen) still.goes.units fits))
 
@@ -177,6 +192,8 @@ none_yet m s format best fits = record {
   image = λ u b. [];
   read = λ tells u b lt. absurd (omega (arith, lt));
   blamed = λ u lt out. absurd (omega (arith, lt));
+  still = λ u lt on. absurd (omega (arith, lt));
+  alone = λ u le. refl;
   format = sym format;
   best = sym best;
   flags = λ u lt small. absurd (omega (arith, lt));

@@ -1,5 +1,5 @@
 -- What an import answers to what it found.
-use Rattle.std.specs.Prelude.{◌≡◌, ◌⊎◌, ℕ, ◌+◌, ◌*◌, ◌<◌, Bool, not, ◌&&◌, false, IsTrue, if◌then◌else◌, Result, Ok, Err, List, [], ◌∷◌, slice_index_or}
+use Rattle.std.specs.Prelude.{◌≡◌, ◌⊎◌, ℕ, ◌+◌, ◌*◌, ◌<◌, Bool, not, ◌&&◌, true, false, IsTrue, if◌then◌else◌, Result, Ok, Err, List, [], ◌∷◌, slice_index_or}
 use Rattle.vx_model.specs.declared.errors.Stop.{Stop}
 use Rattle.vx_model.specs.declared.errors.Stop.TheVariants.{No as Refused, OutOfMemory as NoMemory}
 use Rattle.vx_model.specs.declared.no.No.{No}
@@ -39,11 +39,13 @@ abbrev pub IsAnswer : Result (Config × ℕ) No → Result (Config × ℕ) Stop 
 IsAnswer (Ok x) result = (result ≡ Err NoMemory) ⊎ (result ≡ Ok x)
 IsAnswer (Err why) result = (result ≡ Err NoMemory) ⊎ (result ≡ Err (Refused why))
 
--- An import: the disks that it could not read, of which the counts rose, and an image as its reads gave it, decide the answer.
+-- An import: which disks it could read, and an image as its reads gave it, decide the answer. The count of each disk that it could not
+-- read rose, and that of each one that it could read is as it was.
 pub record Imported (old new : Meaning) (result : Result (Config × ℕ) Stop) : Type 0 where
   pub readable : ℕ → Bool
   pub image : Image
   pub blamed : (u : ℕ) → u < old.units → readable u ≡ false → Rose (old.faults u) (new.faults u)
+  pub still : (u : ℕ) → u < old.units → readable u ≡ true → new.faults u ≡ old.faults u
   pub read : IsTrue old.tells → Each old.reads image
   pub answer : IsAnswer (answer_of readable (import_of (on_shelf old) failed_in old.units readable image)) result
 

@@ -1,5 +1,5 @@
 -- What the reading of a disk shows.
-use Rattle.std.specs.Prelude.{◌≡◌, ℕ, ◌+◌, ◌*◌, ◌≤◌, IsTrue, if◌then◌else◌, Option, Some, None, List, length, take}
+use Rattle.std.specs.Prelude.{◌≡◌, ◌≢◌, ℕ, ◌+◌, ◌*◌, ◌≤◌, IsTrue, if◌then◌else◌, Option, Some, None, List, length, take}
 use Rattle.vx_disk.specs.Counts.{Rose}
 use Rattle.vx_disk.specs.Shelf.{Meaning, Covers, piece}
 use Rattle.vx_copyfmt.specs.Copies.{Disk, Copy, Body, Holds, Differs, copy_at, copy_of, copy_with}
@@ -104,3 +104,13 @@ abbrev pub SeesDisk : ℕ → Meaning → Meaning → DiskSeen → Type 0
 SeesDisk u old new disk.Unreadable = Rose (old.faults u) (new.faults u)
 SeesDisk u old new (disk.Format version) = ShowsFormat u old version
 SeesDisk u old new (disk.Seen copy) = ShowsDisk u old copy
+
+-- what was read raised no count of faults, and what could not be read none but that of its disk
+abbrev pub CountsArea : ℕ → (ℕ → ℕ) → (ℕ → ℕ) → AreaSeen → Type 0
+CountsArea u old new area.Unreadable = (v : ℕ) → v ≢ u → new v ≡ old v
+CountsArea u old new (area.Seen copy) = (v : ℕ) → new v ≡ old v
+
+abbrev pub CountsDisk : ℕ → (ℕ → ℕ) → (ℕ → ℕ) → DiskSeen → Type 0
+CountsDisk u old new disk.Unreadable = (v : ℕ) → v ≢ u → new v ≡ old v
+CountsDisk u old new (disk.Format version) = (v : ℕ) → new v ≡ old v
+CountsDisk u old new (disk.Seen copy) = (v : ℕ) → new v ≡ old v

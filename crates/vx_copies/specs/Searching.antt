@@ -1,5 +1,5 @@
 -- What was found on the disks so far.
-use Rattle.std.specs.Prelude.{◌≡◌, ℕ, ◌<◌, Bool, true, false, IsTrue, Option, Some, None}
+use Rattle.std.specs.Prelude.{◌≡◌, ℕ, ◌<◌, ◌≤◌, Bool, true, false, IsTrue, Option, Some, None}
 use Rattle.vx_disk.specs.Counts.{Rose}
 use Rattle.vx_disk.specs.Shelf.{Meaning, Image}
 use Rattle.vx_copyfmt.specs.Copies.{Copy}
@@ -37,12 +37,14 @@ seen_readable disk.Unreadable = false
 seen_readable (disk.Format version) = true
 seen_readable (disk.Seen copy) = true
 
--- the disks below n are as reads gave them
+-- the disks below n are as reads gave them, and the others were left alone
 pub record Searched (n : ℕ) (old new : Meaning) (s : Search) : Type 0 where
   pub readable : ℕ → Bool
   pub image : Image
   pub read : IsTrue old.tells → (u b : ℕ) → u < n → old.reads u b (image u b)
   pub blamed : (u : ℕ) → u < n → readable u ≡ false → Rose (old.faults u) (new.faults u)
+  pub still : (u : ℕ) → u < n → readable u ≡ true → new.faults u ≡ old.faults u
+  pub alone : (u : ℕ) → n ≤ u → new.faults u ≡ old.faults u
   pub format : strange readable image n ≡ s.format
   pub best : newest (on_shelf old) readable image n ≡ best_view s.best
   pub flags : (u : ℕ) → u < n → u < 8 → flag_at s.readable u ≡ readable u

@@ -3,7 +3,7 @@ ghost use Rattle.std.specs.Prelude.{◌≡◌, ◌+◌, ◌*◌, ◌<◌, ◌≤
 ghost use Rattle.vx_copyfmt.specs.Areas.{CanSpellArea};
 ghost use Rattle.vx_copyfmt.specs.Copies.{copy_with};
 ghost use Rattle.vx_copyfmt.specs.Commits.{IsHeaderBlock};
-ghost use Rattle.vx_copies.specs.Looking.{Fits, FitsArea, SeesArea, SeesBody, copy_view, on_shelf};
+ghost use Rattle.vx_copies.specs.Looking.{CountsArea, Fits, FitsArea, SeesArea, SeesBody, copy_view, on_shelf};
 ghost use Rattle.vx_disk.specs.Causes.{OnDisks};
 ghost use Rattle.vx_disk.specs.Disks.{Untouched};
 ghost use Rattle.vx_disk.specs.Shelf.{Goes, Nothing};
@@ -61,6 +61,7 @@ fn read_copy<S: Shelf>(
     requires can { CanSpellArea header.now }
     requires room { length room.old ≡ 65024 }
     ensures sees { IfOk result (SeesBody disk area header.now (S.meaning shelf.old) (S.meaning shelf.new)) }
+    ensures counts { IfOk result (CountsArea disk (S.meaning shelf.old).faults (S.meaning shelf.new).faults) }
     ensures fits { IfOk result (FitsArea (S.meaning shelf.old).units) }
     ensures room { length room.new ≡ 65024 }
     ensures goes { Goes Nothing (S.meaning shelf.old) (S.meaning shelf.new) }
@@ -92,6 +93,7 @@ pub fn read_area<S: Shelf>(
     requires header { IsHeaderBlock area }
     requires room { length room.old ≡ 65024 }
     ensures sees { IfOk result (SeesArea disk area (S.meaning shelf.old) (S.meaning shelf.new)) }
+    ensures counts { IfOk result (CountsArea disk (S.meaning shelf.old).faults (S.meaning shelf.new).faults) }
     ensures fits { IfOk result (FitsArea (S.meaning shelf.old).units) }
     ensures room { length room.new ≡ 65024 }
     ensures goes { Goes Nothing (S.meaning shelf.old) (S.meaning shelf.new) }

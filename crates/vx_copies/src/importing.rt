@@ -20,8 +20,9 @@ const ROOM: usize = 65024;
 /// the set of the disks that it held as good. It writes nothing.
 ///
 /// Answers 25 where a label has a version that is not known; else 9 where no disk has a label and a copy; else 22 where the
-/// newest copy is damaged; else 8 where the newest configuration holds a disk as good that could not be read, of which the
-/// count rose. Each names the lowest such disk. It may run out of memory.
+/// newest copy is damaged; else 8 where the newest configuration holds a disk as good that could not be read. Each names the lowest
+/// such disk. The count of each disk that could not be read rose, and that of each one that could be read is as it was: no read that
+/// failed is tried again. It may run out of memory.
 pub fn import<S: Shelf>(alloc: Global, shelf: &mut S) -> Result<(Config, u8), Stop>
     requires up { IsTrue (S.meaning shelf.old).down → ⊥ }
     requires large { AreLarge (S.meaning shelf.old) }

@@ -1,7 +1,7 @@
 // What a disk shows.
 ghost use Rattle.std.specs.Prelude.{◌≡◌, ◌<◌, ◌≤◌, ℕ, length, IfOk, IsTrue};
 ghost use Rattle.vx_copyfmt.specs.Copies.{greater};
-ghost use Rattle.vx_copies.specs.Looking.{Fits, FitsDisk, SeesAreas, SeesDisk, copy_view};
+ghost use Rattle.vx_copies.specs.Looking.{CountsDisk, Fits, FitsDisk, SeesAreas, SeesDisk, copy_view};
 ghost use Rattle.vx_disk.specs.Causes.{OnDisks};
 ghost use Rattle.vx_disk.specs.Disks.{Untouched};
 ghost use Rattle.vx_disk.specs.Shelf.{Goes, Nothing};
@@ -44,6 +44,7 @@ fn look_areas<S: Shelf>(
     requires up { IsTrue (S.meaning shelf.old).down → ⊥ }
     requires room { length room.old ≡ 65024 }
     ensures sees { IfOk result (SeesAreas disk (S.meaning shelf.old) (S.meaning shelf.new)) }
+    ensures counts { IfOk result (CountsDisk disk (S.meaning shelf.old).faults (S.meaning shelf.new).faults) }
     ensures fits { IfOk result (FitsDisk (S.meaning shelf.old).units) }
     ensures room { length room.new ≡ 65024 }
     ensures goes { Goes Nothing (S.meaning shelf.old) (S.meaning shelf.new) }
@@ -74,6 +75,7 @@ pub fn look<S: Shelf>(
     requires up { IsTrue (S.meaning shelf.old).down → ⊥ }
     requires room { length room.old ≡ 65024 }
     ensures sees { IfOk result (SeesDisk disk (S.meaning shelf.old) (S.meaning shelf.new)) }
+    ensures counts { IfOk result (CountsDisk disk (S.meaning shelf.old).faults (S.meaning shelf.new).faults) }
     ensures fits { IfOk result (FitsDisk (S.meaning shelf.old).units) }
     ensures room { length room.new ≡ 65024 }
     ensures goes { Goes Nothing (S.meaning shelf.old) (S.meaning shelf.new) }

@@ -1,8 +1,9 @@
+use Rattle.std.proofs.Common.{arith}
 use Rattle.vx_copies.proofs.Imports.{imported_none, imported_ok, imported_err}
 use Rattle.vx_copies.proofs.importing.import.Goals as goal
 
 pub returns-in-Err-clause-imported : goal.returns-in-Err-clause-imported
-returns-in-Err-clause-imported g c = imported_none (g.S.Shelf.meaning c.args.shelf.now) (g.S.Shelf.meaning c.args.shelf.now) (g.met.S.Shelf.lawful c.args.shelf.now)
+returns-in-Err-clause-imported g c = imported_none (g.S.Shelf.meaning c.args.shelf.now) (g.S.Shelf.meaning c.args.shelf.now) (g.met.S.Shelf.lawful c.args.shelf.now) (λ u. omega arith)
 
 pub returns-in-Ok-concluded-clause-imported : goal.returns-in-Ok-concluded-clause-imported
 returns-in-Ok-concluded-clause-imported g c =
@@ -15,4 +16,4 @@ returns-in-Ok-search_all-clause-imported g c =
     c.units-units.result c.in-Err-concluded.no c.units-units.ensures c.in-Err-concluded.ensures
 
 pub returns-clause-imported : goal.returns-clause-imported
-returns-clause-imported g c = imported_none (g.S.Shelf.meaning c.args.shelf.now) (g.S.Shelf.meaning c.search_all.new.shelf) (g.met.S.Shelf.lawful c.args.shelf.now)
+returns-clause-imported g c = imported_none (g.S.Shelf.meaning c.args.shelf.now) (g.S.Shelf.meaning c.search_all.new.shelf) (g.met.S.Shelf.lawful c.args.shelf.now) c.search_all.ensures.goes.faults

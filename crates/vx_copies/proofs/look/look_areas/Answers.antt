@@ -1,7 +1,7 @@
-use Rattle.std.proofs.Common.{IsTrue, subst, Bool}
+use Rattle.std.proofs.Common.{IsTrue, subst, Bool, ◌∙◌}
 use Rattle.vx_disk.proofs.Runs.{then_nothing}
 use Rattle.vx_disk.specs.Shelf.{Nothing}
-use Rattle.vx_copies.specs.Looking.{SeesArea}
+use Rattle.vx_copies.specs.Looking.{CountsArea, SeesArea}
 use Rattle.vx_copies.proofs.Reading.{both_areas}
 use Rattle.vx_copies.proofs.Untouching.{untouched_both}
 use Rattle.vx_copies.proofs.look.look_areas.Goals as goal
@@ -24,3 +24,9 @@ returns-in-Ok-Unreadable-read_area-clause-disks g c = untouched_both _ _ _ c.in-
 
 pub returns-in-Err-read_area-clause-disks : goal.returns-in-Err-read_area-clause-disks
 returns-in-Err-read_area-clause-disks g c = untouched_both _ _ _ c.in-Ok-Seen.ensures.disks c.in-Err-read_area.ensures.disks
+
+pub returns-in-Ok-Seen-read_area-clause-counts : goal.returns-in-Ok-Seen-read_area-clause-counts
+returns-in-Ok-Seen-read_area-clause-counts g c =
+    let first = subst (CountsArea c.args.disk (g.S.Shelf.meaning c.args.shelf.now).faults (g.S.Shelf.meaning c.read_area.new.shelf).faults) c.in-Ok-Seen.field-0-is c.in-Ok-Seen.ensures.counts in
+    let second = subst (CountsArea c.args.disk (g.S.Shelf.meaning c.read_area.new.shelf).faults (g.S.Shelf.meaning c.read_area-2.new.shelf).faults) c.in-Ok-Seen-read_area.field-0-is c.in-Ok-Seen-read_area.ensures.counts in
+    λ v. second v ∙ first v

@@ -18,7 +18,7 @@ loop-disk-init g c = record {
 pub loop-disk-preserved : goal.loop-disk-preserved
 loop-disk-preserved g c = record {
   found = one_more c.loop-disk.disk (g.S.Shelf.meaning c.args.shelf.now) (g.S.Shelf.meaning c.loop-disk.shelf) (g.S.Shelf.meaning c.look.new.shelf) (g.met.S.Shelf.lawful c.args.shelf.now)
-      (record { goes = c.loop-disk.invariant.goes; up = c.loop-disk.invariant.up }) c.loop-disk.found c.with-found.result c.in-Ok.seen c.loop-disk.invariant.found c.in-Ok.ensures.goes c.in-Ok.ensures.sees c.in-Ok.ensures.fits
+      (record { goes = c.loop-disk.invariant.goes; up = c.loop-disk.invariant.up }) c.loop-disk.found c.with-found.result c.in-Ok.seen c.loop-disk.invariant.found c.in-Ok.ensures.goes c.in-Ok.ensures.sees c.in-Ok.ensures.counts c.in-Ok.ensures.fits
       c.with-found.ensures.format c.with-found.ensures.best c.with-found.ensures.flags c.with-found.ensures.fits;
   goes = then_nothing Nothing _ _ _ c.loop-disk.invariant.goes c.in-Ok.ensures.goes;
   down = c.in-Ok.ensures.down ∙ c.loop-disk.invariant.down;
