@@ -6,13 +6,14 @@ ghost use Rattle.vx_node.specs.Holds.{AreFresh};
 use std::alloc::Global;
 use vx_filedisk::HostRack;
 use vx_model::OutOfMemory;
+use vx_model::limits::MOST_SITES;
 
 /// Eight racks, none of them fitted: one for each site that there may be.
 pub fn fresh_racks(rt: HostRuntime, alloc: Global) -> Result<Vec<HostRack>, OutOfMemory>
     ensures { IfOk result (λ racks. AreFresh rack_meaning racks.items) }
 {
     let mut racks = Vec::new(alloc);
-    for _step in 0..8u32 {
+    for _step in 0..MOST_SITES {
         racks.push(HostRack::new(rt, alloc)?)?;
     }
     Ok(racks)

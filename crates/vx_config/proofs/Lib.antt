@@ -12,3 +12,5 @@ pub mod CountLemmas
 pub mod PairLemmas
 pub mod RunLemmas
 pub mod FillLemmas
+pub mod Changed
+pub mod Fewer

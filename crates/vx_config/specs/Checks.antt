@@ -3,6 +3,7 @@ use Rattle.std.specs.Prelude.{ℕ, ◌+◌, ◌-◌, ◌*◌, Bool, true, false,
 use Rattle.std.specs.Int.{div_ceil}
 use Rattle.std.specs.List.{list_all, list_any}
 use Rattle.std.specs.Str.{bytes_eq}
+pub use Rattle.vx_model.specs.Sizes.{map_blocks}
 use Rattle.vx_model.specs.declared.site.PlexState.{PlexState}
 use Rattle.vx_model.specs.declared.site.PlexState.TheVariants.{Active, Clean, Stale}
 use Rattle.vx_model.specs.declared.units.Units.{Units}
@@ -15,10 +16,6 @@ use Rattle.vx_config.specs.declared.entry.VolumeEntry.{VolumeEntry}
 use Rattle.vx_config.specs.Configs.{volume_subdisks, subdisk_count}
 
 -- ---- numbers of blocks
-
--- the map blocks of a volume: a bit for each region of 64 blocks, 4,096 bits in a block
-abbrev pub map_blocks : ℕ → ℕ
-map_blocks blocks = div_ceil (div_ceil blocks 64) 4096
 
 -- the blocks of one column of a plex; a concatenated plex has one column
 unfoldable pub column_blocks : VolumeEntry → ℕ

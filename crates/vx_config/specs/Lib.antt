@@ -3,3 +3,4 @@ pub mod Table
 pub mod Configs
 pub mod Pages
 pub mod Checks
+pub mod Changes

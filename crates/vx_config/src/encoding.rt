@@ -11,6 +11,7 @@ use crate::fits::config_fits;
 use crate::shape::has_few_subdisks;
 use crate::spelling::page_of;
 use std::alloc::Global;
+use vx_model::limits::MOST_SUBDISKS;
 use vx_model::{Bytes, Counted, No, Stop};
 use vx_wire::put_bytes;
 
@@ -24,7 +25,7 @@ pub fn encode(alloc: Global, config: &Config) -> Result<Bytes, Stop>
     if !has_few_subdisks(config) {
         return Err(Stop::No(No::Limit {
             what: Counted::Subdisks,
-            most: 1024,
+            most: MOST_SUBDISKS as u64,
         }));
     }
     is_short(config);

@@ -31,6 +31,13 @@ pub struct LogEntry {
     pub blocks: u64,
 }
 
+/// Which log of a volume.
+#[derive(Clone, Copy, Debug, PartialEq, Eq)]
+pub enum VolumeLog {
+    Drl,
+    Fmr,
+}
+
 /// One copy of a volume.
 #[derive(Drop)]
 pub struct PlexEntry {

@@ -4,8 +4,8 @@ ghost use Rattle.std.specs.List.{list_all};
 ghost use Rattle.vx_config.specs.Checks.{pairwise, other_than, blocks_of as blocks_of_is, map_blocks_of as map_blocks_of_is, is_group as is_group_is, group_or_none};
 
 use crate::VolumeEntry;
-use crate::soundness::map_blocks;
-use vx_model::Units;
+use vx_model::limits::MOST_DATA_VOLUMES;
+use vx_model::{Units, map_blocks};
 
 fn blocks_of(volumes: &[VolumeEntry], number: u32) -> u64
     ensures { result ≡ blocks_of_is volumes.now number }
@@ -74,7 +74,7 @@ fn is_group(volumes: &[VolumeEntry], units: &Units) -> bool
 {
     let vols = units.vols.as_slice();
     !vols.is_empty()
-        && vols.len() <= 30
+        && vols.len() <= MOST_DATA_VOLUMES
         && are_volumes(units, volumes.len())
         && are_distinct(units)
         && blocks_of(volumes, units.srl) >= 8

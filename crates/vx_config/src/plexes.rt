@@ -1,10 +1,11 @@
 // The plexes of a volume.
 ghost use Rattle.std.specs.Prelude.{◌≡◌, ◌<◌, ◌≤◌, [], ◌∷◌, ◌++◌, length, OnOk};
+ghost use Rattle.vx_config.specs.Changes.{changed_at, with_state};
 
 use crate::PlexEntry;
 use std::alloc::Global;
 use std::marker::Model;
-use vx_model::OutOfMemory;
+use vx_model::{OutOfMemory, PlexState};
 
 /// Up to 255 plexes, in order. Contracts see their list.
 #[derive(Drop)]
@@ -40,6 +41,18 @@ impl Plexes {
     {
         self.plexes.push(plex)?;
         Ok(())
+    }
+
+    /// Puts a plex into a state, and says whether the next attach has to copy all of its regions. Nothing changes where there is no such
+    /// plex. It takes no memory.
+    pub fn set_state(&mut self, plex: usize, state: PlexState, whole: bool)
+        ensures { self.new ≡ changed_at (with_state state whole) plex self.old }
+    {
+        if plex < self.plexes.len() {
+            let entry = &mut self.plexes[plex];
+            entry.state = state;
+            entry.whole = whole;
+        }
     }
 
     /// The plexes, in order.

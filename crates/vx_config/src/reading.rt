@@ -9,10 +9,8 @@ use crate::{
     Wrong,
 };
 use std::alloc::Global;
+use vx_model::limits::{MOST_DATA_VOLUMES, MOST_DISKS, MOST_NUMBER, MOST_VOLUMES};
 use vx_model::{Units, VolumeUnits};
-
-// The greatest serial.
-const GREATEST: u64 = 0x7fff_ffff_ffff_ffff;
 
 #[tactic(auto, unfolding(crate::specs::Table::disk))]
 fn disk(cursor: &mut Cursor) -> Result<DiskEntry, Wrong>
@@ -38,7 +36,7 @@ fn disks_of(cursor: &mut Cursor, count: u8) -> Result<Disks, Wrong>
 fn disks(cursor: &mut Cursor) -> Result<Disks, Wrong>
     ensures { Gives result cursor.new.left.now ((counted 1 8 disk_form).read cursor.old.left.now) }
 {
-    let count = cursor.count(1, 8)?;
+    let count = cursor.count(1, MOST_DISKS as u8)?;
     disks_of(cursor, count)
 }
 
@@ -194,7 +192,7 @@ fn volumes_of(alloc: Global, cursor: &mut Cursor, count: u8) -> Result<Volumes, 
 fn volumes(alloc: Global, cursor: &mut Cursor) -> Result<Volumes, Wrong>
     ensures { Gives result cursor.new.left.now ((counted 0 32 volume_form).read cursor.old.left.now) }
 {
-    let count = cursor.count(0, 32)?;
+    let count = cursor.count(0, MOST_VOLUMES as u8)?;
     volumes_of(alloc, cursor, count)
 }
 
@@ -213,7 +211,7 @@ fn numbers_of(cursor: &mut Cursor, count: u8) -> Result<VolumeUnits, Wrong>
 fn numbers(cursor: &mut Cursor) -> Result<VolumeUnits, Wrong>
     ensures { Gives result cursor.new.left.now ((counted 0 30 (number 1)).read cursor.old.left.now) }
 {
-    let count = cursor.count(0, 30)?;
+    let count = cursor.count(0, MOST_DATA_VOLUMES as u8)?;
     numbers_of(cursor, count)
 }
 
@@ -241,7 +239,7 @@ fn group(cursor: &mut Cursor) -> Result<Option<Units>, Wrong>
 fn read_format_1(alloc: Global, cursor: &mut Cursor) -> Result<Config, Wrong>
     ensures { Gives result cursor.new.left.now (format_1.read cursor.old.left.now) }
 {
-    let serial = cursor.up_to(GREATEST)?;
+    let serial = cursor.up_to(MOST_NUMBER)?;
     let site = cursor.u32()?;
     let disks = disks(cursor)?;
     let volumes = volumes(alloc, cursor)?;

@@ -3,6 +3,7 @@ ghost use Rattle.std.specs.Prelude.{◌≡◌, nat_le, sum_by};
 ghost use Rattle.vx_config.specs.Configs.{subdisk_count, plex_subdisks, volume_subdisks, left_of};
 
 use crate::{Config, PlexEntry, VolumeEntry};
+use vx_model::limits::MOST_SUBDISKS;
 
 // What is left of room for so many subdisks; None where they are more.
 fn left_by_plexes(plexes: &[PlexEntry], room: usize) -> Option<usize>
@@ -37,5 +38,5 @@ fn left_by_volumes(volumes: &[VolumeEntry], room: usize) -> Option<usize>
 pub fn has_few_subdisks(config: &Config) -> bool
     ensures { result ≡ nat_le (subdisk_count config.now) 1024 }
 {
-    left_by_volumes(config.volumes.as_slice(), 1024).is_some()
+    left_by_volumes(config.volumes.as_slice(), MOST_SUBDISKS).is_some()
 }

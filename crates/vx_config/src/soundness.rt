@@ -1,18 +1,11 @@
 // The tests of one volume.
 ghost use Rattle.std.specs.Prelude.{◌≡◌, ◌*◌, ◌<◌, ◌≤◌, length};
 ghost use Rattle.std.specs.List.{list_all, list_any};
-ghost use Rattle.vx_config.specs.Checks.{map_blocks as map_blocks_is, column_blocks as column_blocks_is, next_room as next_room_is, fill, plex_fills as plex_fills_is, log_has as log_has_is, preferred_is as preferred_is_is, is_live as is_live_is, has_shape as has_shape_is, has_logs as has_logs_is, has_plexes as has_plexes_is, is_volume as is_volume_is};
+ghost use Rattle.vx_config.specs.Checks.{column_blocks as column_blocks_is, next_room as next_room_is, fill, plex_fills as plex_fills_is, log_has as log_has_is, preferred_is as preferred_is_is, is_live as is_live_is, has_shape as has_shape_is, has_logs as has_logs_is, has_plexes as has_plexes_is, is_volume as is_volume_is};
 
 use crate::{LogEntry, PlexEntry, Subdisk, VolumeEntry};
-use vx_model::PlexState;
-
-/// The map blocks of a volume.
-pub fn map_blocks(blocks: u64) -> u64
-    ensures value { result ≡ map_blocks_is blocks }
-    ensures few { result ≤ 70368744177664 }
-{
-    blocks.div_ceil(64).div_ceil(4096)
-}
+use vx_model::limits::{MOST_COLUMNS, MOST_PLEXES};
+use vx_model::{PlexState, map_blocks};
 
 #[tactic(auto, unfolding(crate::specs::Checks::column_blocks))]
 fn column_blocks(volume: &VolumeEntry) -> u128
@@ -106,7 +99,9 @@ fn is_any_live(plexes: &[PlexEntry]) -> bool
 fn has_shape(volume: &VolumeEntry) -> bool
     ensures { result ≡ has_shape_is volume.now }
 {
-    volume.ncol >= 1 && volume.ncol <= 8 && (volume.width != 0 || volume.ncol == 1)
+    volume.ncol >= 1
+        && u32::from(volume.ncol) <= MOST_COLUMNS
+        && (volume.width != 0 || volume.ncol == 1)
 }
 
 fn has_logs(volume: &VolumeEntry) -> bool
@@ -122,7 +117,7 @@ fn has_plexes(volume: &VolumeEntry) -> bool
     ensures { result ≡ has_plexes_is volume.now }
 {
     let plexes = volume.plexes.as_slice();
-    plexes.len() <= 8
+    plexes.len() <= MOST_PLEXES
         && all_fill(volume, plexes)
         && preferred_is(plexes.len(), volume.prefer)
         && is_any_live(plexes)

@@ -288,3 +288,40 @@ fn refuses_too_many_subdisks(rt: HostRuntime) -> Result<(), Fail> {
     }
     Ok(())
 }
+
+// The state of the first plex, whether it is whole, and the same of the second; and whether the DRL is lost.
+const STATES: [usize; 5] = [76, 77, 96, 97, 56];
+
+#[test]
+fn changes_a_mirror_in_place(rt: HostRuntime) -> Result<(), Fail> {
+    let mut config = mirror(rt.alloc())?;
+    for (step, wanted, sound) in [
+        (0, [2, 1, 2, 1, 0], false),
+        (1, [2, 1, 1, 0, 0], true),
+        (2, [2, 1, 1, 0, 1], true),
+        (3, [2, 1, 1, 0, 1], true),
+        (4, [0, 0, 1, 0, 1], true),
+    ] {
+        match step {
+            0 => config.set_state(0, 0, PlexState::Stale, true),
+            1 => config.set_state(0, 1, PlexState::Clean, false),
+            2 => config.set_lost(0, VolumeLog::Drl, true),
+            3 => config.set_lost(0, VolumeLog::Fmr, true),
+            _ => config.set_state(0, 0, PlexState::Active, false),
+        }
+        // There is no such plex, and no such volume.
+        config.set_state(0, 2, PlexState::Stale, true);
+        config.set_lost(1, VolumeLog::Drl, false);
+        let bytes = encode(rt.alloc(), &config)
+            .ok()
+            .ok_or("a mirror has a spelling")?;
+        assert_eq!(rt; bytes.as_slice().len(), 117);
+        for (place, byte) in STATES.iter().zip(&wanted) {
+            assert_eq!(rt; bytes.as_slice().get(*place), Some(byte));
+        }
+        assert_eq!(rt; check(&config), sound);
+    }
+    assert!(rt; config.volumes.pop().is_some());
+    assert!(rt; config.volumes.pop().is_none());
+    Ok(())
+}

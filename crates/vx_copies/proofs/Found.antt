@@ -2,15 +2,14 @@
 use Rattle.std.proofs.Common.{◌≡◌, ◌⊎◌, inl, inr, ⊎_elim, ℕ, zero, suc, ◌+◌, ◌<◌, ◌≤◌, Bool, true, false, IsFalse, Option, Some, Err, List, length, refl, ap, sym, subst, ◌∙◌, arith}
 use Rattle.std.specs.Prelude.{not}
 use Rattle.std.proofs.lemmas.Bool.{cases_lt}
-use Rattle.vx_disk.specs.Moves.{Beside}
+use Rattle.vx_disk.specs.Moves.{Along, Beside}
 use Rattle.vx_disk.specs.Shelf.{Each, Image, Lawful, Meaning}
 use Rattle.vx_disk.proofs.Moving.{wider}
-use Rattle.vx_copyfmt.specs.Copies.{Disk}
-use Rattle.vx_copyfmt.specs.Commits.{Amid, Among, FindsNew, FindsOld, Forged, FromNew, FromOld, Gives, Older, Spoilt, Tidy, Torn, exactly}
+use Rattle.vx_copyfmt.specs.Copies.{Disk, Holds}
+use Rattle.vx_copyfmt.specs.Commits.{Amid, Among, FindsNew, FindsOld, FromNew, FromOld, Gives, Older, Spoilt, Torn}
 use Rattle.vx_copyfmt.specs.Imports.{import_of, is_label, settle}
 use Rattle.vx_copyfmt.specs.Labels.{seen_in}
-use Rattle.vx_copyfmt.proofs.Areas.{lower_older, no_torn, one_tidy}
-use Rattle.vx_copyfmt.proofs.Subs.{tidy_more}
+use Rattle.vx_copyfmt.proofs.Areas.{lower_older, no_torn}
 use Rattle.vx_copyfmt.proofs.Spoiling.{torn_gives}
 use Rattle.vx_copyfmt.proofs.Committing.{commit_gives, front_settles, settle_gives}
 use Rattle.vx_copyio.specs.Putting.{AreasOf}
@@ -21,9 +20,9 @@ use Rattle.vx_config.specs.declared.config.Config.{Config}
 use Rattle.vx_config.specs.declared.entry.DiskEntry.{DiskEntry}
 use Rattle.vx_copies.specs.Answers.{good_set}
 use Rattle.vx_copies.specs.Bodies.{failed_in}
-use Rattle.vx_copies.specs.Commits.{AllFailed, AreTidy, Becomes, Begins, Below, CommitStops, Counted, Done, Finds, Grown, HaveLabels, Held, IsBefore, IsNone, IsOne, IsTry, Marked, MayFind, OldOrBegun, Outcome, Ready, Remain, Silent, Spared, Stage, Stands, StayFit, TriesEnd, Underway, WasCommitted, WereTidy}
+use Rattle.vx_copies.specs.Commits.{AllFailed, AreTidy, Becomes, Begins, Below, CommitStops, Counted, Done, Finds, Grown, HaveLabels, Held, IsBefore, IsFew, IsNone, IsOne, IsTry, Marked, MayFind, OldOrBegun, Outcome, OwnCopy, Ready, Remain, Silent, Spared, Stage, Stands, StayFit, TriesEnd, Underway, WasCommitted, WereTidy}
 use Rattle.vx_copies.specs.Looking.{on_shelf}
-use Rattle.vx_copies.specs.Marks.{HasGood, NoneGood, failed_at}
+use Rattle.vx_copies.specs.Marks.{HasGood, NoneGood, failed_at, good_count}
 use Rattle.vx_copies.proofs.Goods.{good_bit}
 use Rattle.vx_copies.proofs.Outcomes.{outcome}
 use Rattle.vx_copies.proofs.OneTry.{as_before, held_or, new_wider, not_both, shelf_same}
@@ -66,17 +65,16 @@ module _ (begun : ℕ → Config → Type 0) (c : Config) (old new : Meaning) (l
     each = λ readable. torn_gives (on_shelf old) failed_in begun (c.serial + 1) late (Held c old) old.units old.leaves i base (amid ready i beside seen) has (out_of_reach i beside) (older_all ready.below) readable;
   }
 
-  as_it_was : (i : Image) → Each old.leaves i → OldOrBegun begun c old i
-  as_it_was i left = record { each = λ ready u held. inl (as_before (on_shelf old) (old.leaves u) (i u) (λ b. left u b)) }
-
   module _ (before : Lawful old) (after : Lawful new) where
-    pub since : Ready c old → (i : Image) → new.left_since old.moment i → MayFind begun c old i
-    since ready i left =
-        let some = base_of c old new before begins.moves.tells (λ none. after.never none old.moment i left) in
-        elim (begins.moves.since old.moment i (omega arith) left) [
-          | inl was ↦ let is : Each old.leaves i = before.within i (before.only_now i was) in find_of ready some.0 some.1 i (λ u b. inl (is u b)) (as_it_was i is)
-          | inr now ↦ find_of ready some.0 some.1 i now.0 now.1
-        ]
+    pub since : Ready c old → Along old new (MayFind begun c old)
+    since ready = record {
+      each = λ t i le left.
+          let some = base_of c old new before begins.moves.tells (λ none. after.never none t i left) in
+          elim (begins.moves.since t i le left) [
+            | inl was ↦ inl was
+            | inr now ↦ inr (find_of ready some.0 some.1 i now.0 now.1)
+          ];
+    }
 
     pub now : Ready c old → (i : Image) → Each new.leaves i → MayFind begun c old i
     now ready i left =
@@ -116,39 +114,37 @@ module _ (good : ℕ) (c d : Config) (old new : Meaning) (underway : Underway go
 
   -- ---- what is ready for the next serial
 
-  fit_before : Ready c old → (i : Image) → Each old.leaves i → (u : ℕ) → Held c old u → Tidy (on_shelf old) (d.serial + 1) (exactly (i u)) ⊎ Forged (old.leaves u) (i u)
-  fit_before ready i each u mine =
-      inl (tidy_more (on_shelf old) (c.serial + 1) (d.serial + 1) (exactly (i u)) (omega (arith, underway.serial))
-      (one_tidy (on_shelf old) (c.serial + 1) (old.leaves u) (i u) (record { counts = ready.counts u mine; below = ready.below.each u mine.below }) (λ b. each u b)))
+  own_copy : (u : ℕ) (e : Disk) → Becomes (IsOne c d.serial underway.tries u) old u e → FromOld (on_shelf old) (old.leaves u) e ⊎ OwnCopy old u e ⊎ Torn (on_shelf old) (old.leaves u) e
+  own_copy u e (inl from) = inl from
+  own_copy u e (inr (inl from)) =
+      let serial : from.serial ≡ from.config.serial = (one_try u from.serial from.config from.made).serial_is in
+      inr (inl (record { config = from.config; area = from.area; copy = from.copy ∙ ap (λ (s : ℕ). Some (record { serial = s; area = from.area; body = Holds from.config })) serial; holds = from.made.holds }))
+  own_copy u e (inr (inr torn)) = inr (inr torn)
 
   pub fits_try : Lawful old → StayFit c d.serial old new
   fits_try before = record {
     since = λ ready. record {
-      later = underway.moves.later;
-      each = λ i left. elim (underway.moves.since old.moment i (omega arith) left) [
-        | inl was ↦ record { each = λ u mine. fit_before ready i (before.within i (before.only_now i was)) u mine }
-        | inr now ↦ record { each = λ u mine. now.1.fit ready u mine }
+      each = λ t i le left. elim (underway.moves.since t i le left) [
+        | inl was ↦ inl was
+        | inr now ↦ inr (record { each = λ u mine. now.1.fit ready u mine; own = λ u mine. own_copy u (i u) (now.1.each ready u mine) })
       ];
     };
     now = underway.fits;
+    own = λ below u e held counts among. own_copy u e (underway.leaves below u e held counts among);
   }
 
   -- ---- one configuration for all imports
 
   module _ (before : Lawful old) (after : Lawful new) (held : Option Config) (was : WasCommitted good held old) (ready : Ready c old) (labels : HaveLabels old) where
-    outcome_since : (i : Image) → new.left_since old.moment i → Outcome (IsTry c d.serial old new) held c old i
-    outcome_since i left =
-        let some = base_of c old new before underway.moves.tells (λ none. after.never none old.moment i left) in
-        elim (underway.moves.since old.moment i (omega arith) left) [
-          | inl is ↦
-              let each : Each old.leaves i = before.within i (before.only_now i is) in
-              outcome good c d old new underway held was ready labels some.0 some.1 i (λ u b. inl (each u b)) (record {
-                each = λ first u mine. inl (as_before (on_shelf old) (old.leaves u) (i u) (λ b. each u b));
-                led = λ first u mine out. inl (as_before (on_shelf old) (old.leaves u) (i u) (λ b. each u b));
-                fit = λ first u mine. fit_before first i each u mine;
-              })
-          | inr now ↦ outcome good c d old new underway held was ready labels some.0 some.1 i now.0 now.1
-        ]
+    outcome_since : Along old new (Outcome (IsTry c d.serial old new) held c old)
+    outcome_since = record {
+      each = λ t i le left.
+          let some = base_of c old new before underway.moves.tells (λ none. after.never none t i left) in
+          elim (underway.moves.since t i le left) [
+            | inl is ↦ inl is
+            | inr now ↦ inr (outcome good c d old new underway held was ready labels some.0 some.1 i now.0 now.1)
+          ];
+    }
 
     outcome_now : (i : Image) → Each new.leaves i → Outcome (IsTry c d.serial old new) held c old i
     outcome_now i left =
@@ -159,9 +155,9 @@ module _ (good : ℕ) (c d : Config) (old new : Meaning) (underway : Underway go
   finds_try before after =
       let late : (s : ℕ) (x : Config) → IsTry c d.serial old new s x → c.serial + 1 ≤ s = λ s x made. omega (arith, made.above) in
       record {
-        since = λ ready. record { later = underway.moves.later; each = since (IsTry c d.serial old new) c old new late begins_try before after ready };
+        since = λ ready. since (IsTry c d.serial old new) c old new late begins_try before after ready;
         now = λ ready. now (IsTry c d.serial old new) c old new late begins_try before after ready;
-        outcome_since = λ held was ready labels. record { later = underway.moves.later; each = outcome_since before after held was ready labels };
+        outcome_since = λ held was ready labels. outcome_since before after held was ready labels;
         outcome_now = λ held was ready labels. outcome_now before after held was ready labels;
       }
 
@@ -180,8 +176,8 @@ module _ (good : ℕ) (c d : Config) (old new : Meaning) (underway : Underway go
     leading : left.disk < old.units
     leading = omega (arith, left.below, count)
 
-    over_new : (P : (List ℕ → Option Config) → ℕ → Type 0) → P (on_shelf old) old.units → P (on_shelf new) new.units
-    over_new P is = subst (P (on_shelf new)) (sym underway.moves.units) (subst (λ (r : List ℕ → Option Config). P r old.units) (shelf_same old new underway.moves.units underway.moves.size) is)
+    over_new : (P : (ℕ → List ℕ → Option Config) → ℕ → Type 0) → P (on_shelf old) old.units → P (on_shelf new) new.units
+    over_new P is = subst (P (on_shelf new)) (sym underway.moves.units) (subst (λ (r : ℕ → List ℕ → Option Config). P r old.units) (shelf_same old new underway.moves.units underway.moves.size) is)
 
     module _ (i : Image) (is : Each new.leaves i) (below : Below c old) (labels : HaveLabels old) where
       labelled : (u : ℕ) → u < old.units → is_label (seen_in (i u 0)) ≡ true
@@ -298,9 +294,10 @@ module _ (good : ℕ) (c d : Config) (old new : Meaning) (underway : Underway go
         is_good false is = refl
         is_good true is = absurd cc
 
-    pub is_done : AreTidy c d old new → Done good c d old new
-    is_done tidy = record {
+    pub is_done : AreTidy c d old new → IsFew 1 c d → Done good c d old new
+    is_done tidy few = record {
       later = later;
+      few = few;
       grown = underway.grown;
       left = left;
       below = underway.below;
@@ -321,7 +318,7 @@ module _ (good : ℕ) (c d : Config) (old new : Meaning) (underway : Underway go
         let here = quiet good c d old new underway before i readable (λ none. after.none (underway.moves.tells ∙ none) 0 0 (i 0 0) (is 0 0)) is silent
         (λ u held. unread u (record { below = omega (arith, held.below, underway.moves.units); good = subst (λ (ds : List DiskEntry). failed_at ds u ≡ false) (sym same) held.good })) in
         subst (λ (n : ℕ). IsNone (import_of (on_shelf new) failed_in n readable i)) (sym underway.moves.units)
-        (subst (λ (r : List ℕ → Option Config). IsNone (import_of r failed_in old.units readable i)) (shelf_same old new underway.moves.units underway.moves.size) here);
+        (subst (λ (r : ℕ → List ℕ → Option Config). IsNone (import_of r failed_in old.units readable i)) (shelf_same old new underway.moves.units underway.moves.size) here);
   }
 
 -- ---- refusals
@@ -355,5 +352,11 @@ spared c d old new grown units remain = record {
 pub why_refused : (good : ℕ) (c d : Config) (old new : Meaning) (why : No) → c.serial < greatest → Grown old new c d → new.units ≡ old.units → TriesEnd {T = Unit {0}} good c d old new (Err why) → CommitStops good c d.serial old new why
 why_refused good c d old new (refusal.Device disk) more grown units ends =
     (more, ends.0, ⊎_elim (λ none. inl (all_failed good c d old new grown none)) (λ most. inr most) ends.1, spared c d old new grown units ends.2)
-why_refused good c d old new refusal.Down more grown units ends = (more, ends)
+why_refused good c d old new refusal.Down more grown units ends = (more, ends.0)
 why_refused good c d old new other more grown units ends = absurd ends
+
+-- and how many serials it used
+pub few_refused : (good : ℕ) (c d : Config) (old new : Meaning) (why : No) → TriesEnd {T = Unit {0}} good c d old new (Err why) → d.serial ≤ c.serial + good_count c.disks
+few_refused good c d old new (refusal.Device disk) ends = omega (arith, ends.3)
+few_refused good c d old new refusal.Down ends = ends.1
+few_refused good c d old new other ends = absurd ends

@@ -46,7 +46,7 @@ none_yet good c m = record {
 
 -- ---- where a copy comes from, after two calls
 
-module _ {C : Type 0} (reads : List ℕ → Option C) (slots : Slots) where
+module _ {C : Type 0} (reads : ℕ → List ℕ → Option C) (slots : Slots) where
   -- a disk with the label and the copy of one that has a copy that was begun
   abbrev new_alike : (P Q : ℕ → C → Type 0) (d e : Disk) → ((s : ℕ) (c : C) → P s c → Q s c) → seen_in (d 0) ≡ seen_in (e 0) → copy_of reads d ≡ copy_of reads e → FromNew reads P slots e → FromNew reads Q slots d
   new_alike P Q d e wide label copy new = record {
@@ -130,7 +130,7 @@ module _ (good : ℕ) (a c d : Config) (old mid new : Meaning) (one : Underway g
       first = from.first;
       there = labels u from.first from.there;
       label = from.label;
-      copy = subst (λ (r : List ℕ → Option Config). copy_of r e ≡ Some (record { serial = from.serial; area = from.area; body = Holds from.config })) (sym same) from.copy;
+      copy = subst (λ (r : ℕ → List ℕ → Option Config). copy_of r e ≡ Some (record { serial = from.serial; area = from.area; body = Holds from.config })) (sym same) from.copy;
     },
     refl,
   )
@@ -142,7 +142,7 @@ module _ (good : ℕ) (a c d : Config) (old mid new : Meaning) (one : Underway g
 
   counts_mid : Below a old → (u : ℕ) → Held c mid u → Counts (on_shelf old) (old.leaves u) → Counts (on_shelf mid) (mid.leaves u)
   counts_mid below u held counts = elim (remain.each u held) [
-    | inl is ↦ subst (λ (r : List ℕ → Option Config). Counts r (mid.leaves u)) same (counts_sub (on_shelf old) (old.leaves u) (mid.leaves u) is.each counts)
+    | inl is ↦ subst (λ (r : ℕ → List ℕ → Option Config). Counts r (mid.leaves u)) same (counts_sub (on_shelf old) (old.leaves u) (mid.leaves u) is.each counts)
     | inr later ↦ (later.tidy below).fit.counts
   ]
 
@@ -151,7 +151,7 @@ module _ (good : ℕ) (a c d : Config) (old mid new : Meaning) (one : Underway g
 
   torn_mid : Below a old → (u : ℕ) (e : Disk) → Held c mid u → Torn (on_shelf mid) (mid.leaves u) e → Torn (on_shelf old) (old.leaves u) e
   torn_mid below u e held torn = elim (remain.each u held) [
-    | inl is ↦ torn_sub (on_shelf old) (old.leaves u) (mid.leaves u) is.each e (subst (λ (r : List ℕ → Option Config). Torn r (mid.leaves u) e) (sym same) torn)
+    | inl is ↦ torn_sub (on_shelf old) (old.leaves u) (mid.leaves u) is.each e (subst (λ (r : ℕ → List ℕ → Option Config). Torn r (mid.leaves u) e) (sym same) torn)
     | inr later ↦ absurd (no_torn (on_shelf mid) (c.serial + 1) (mid.leaves u) e (later.tidy below) torn)
   ]
 
@@ -166,7 +166,7 @@ module _ (good : ℕ) (a c d : Config) (old mid new : Meaning) (one : Underway g
   old_mid below u e held counts there = by_remain (remain.each u held)
     where
       from : FromOld (on_shelf old) (mid.leaves u) e
-      from = subst (λ (r : List ℕ → Option Config). FromOld r (mid.leaves u) e) (sym same) there
+      from = subst (λ (r : ℕ → List ℕ → Option Config). FromOld r (mid.leaves u) e) (sym same) there
 
       by_kind : LeavesLater a c.serial u old mid → Becomes (IsOne a c.serial one.tries u) old u from.disk → Becomes (IsOne a d.serial tries u) old u e
       by_kind later (inl was) =
@@ -205,7 +205,7 @@ module _ (good : ℕ) (a c d : Config) (old mid new : Meaning) (one : Underway g
   not_held u failed held = not_both (failed_at c.disks u) held.good failed
 
   fit_two : Below a old → (u : ℕ) (e : Disk) → Held c mid u → Tidy (on_shelf mid) (d.serial + 1) (exactly e) ⊎ Forged (mid.leaves u) e → Tidy (on_shelf old) (d.serial + 1) (exactly e) ⊎ Forged (old.leaves u) e
-  fit_two below u e held (inl tidy) = inl (subst (λ (r : List ℕ → Option Config). Tidy r (d.serial + 1) (exactly e)) (sym same) tidy)
+  fit_two below u e held (inl tidy) = inl (subst (λ (r : ℕ → List ℕ → Option Config). Tidy r (d.serial + 1) (exactly e)) (sym same) tidy)
   fit_two below u e held (inr forged) = inr (forged_mid below u e held forged)
 
   fit_later : (u : ℕ) (e : Disk) → Tidy (on_shelf old) (c.serial + 1) (exactly e) ⊎ Forged (old.leaves u) e → Tidy (on_shelf old) (d.serial + 1) (exactly e) ⊎ Forged (old.leaves u) e
@@ -260,7 +260,7 @@ module _ (good : ℕ) (a c d : Config) (old mid new : Meaning) (one : Underway g
         (new_alike (on_shelf old) (old.leaves v) (IsOne a c.serial one.tries v) (IsOne a d.serial tries v) (i v) e (one_wide v) (ap (λ (x : Disk). seen_in (x 0)) itself) (ap (copy_of (on_shelf old)) itself) n, omega arith)
     carried v e among (inr (held, inl alike)) mine n = (
       new_alike (on_shelf old) (old.leaves v) (IsOne a c.serial one.tries v) (IsOne a d.serial tries v) (i v) e (one_wide v) alike.0
-          (subst (λ (r : List ℕ → Option Config). copy_of r (i v) ≡ copy_of r e) (sym same) alike.1) n,
+          (subst (λ (r : ℕ → List ℕ → Option Config). copy_of r (i v) ≡ copy_of r e) (sym same) alike.1) n,
       omega arith,
     )
     carried v e among (inr (held, inr (inl later))) mine n =
@@ -301,7 +301,7 @@ module _ (good : ℕ) (a c d : Config) (old mid new : Meaning) (one : Underway g
         absurd (later_old (on_shelf old) (old.leaves u) a.serial (based u).0 x.0 (older first.below u mine) x.1 x.2 from)
     led_alike u mine later label copy (inr (inl behind)) =
         inr (inl (behind_carried u behind (new_alike (on_shelf old) (old.leaves u) (IsOne a c.serial one.tries u) (IsOne a d.serial tries u) (i u) (under u) (one_wide u)
-        label (subst (λ (r : List ℕ → Option Config). copy_of r (i u) ≡ copy_of r (under u)) (sym same) copy) behind.from) (omega arith)))
+        label (subst (λ (r : ℕ → List ℕ → Option Config). copy_of r (i u) ≡ copy_of r (under u)) (sym same) copy) behind.from) (omega arith)))
     led_alike u mine later label copy (inr (inr torn)) =
         let x = later.newer first.below (based u).0 (based u).1 in
         absurd (later_torn (on_shelf old) (old.leaves u) a.serial (based u).0 x.0 (older first.below u mine) x.1 x.2 torn)
@@ -313,7 +313,7 @@ module _ (good : ℕ) (a c d : Config) (old mid new : Meaning) (one : Underway g
         absurd (later_old (on_shelf mid) (mid.leaves u) c.serial (i u) (record { serial = new.serial; area = new.area; body = Holds new.config }) less new.copy new.made.above from)
     led_old u mine held from (inr (here, inr (inr (torn, is)))) led = inr (inr (torn_mid first.below u (i u) held torn))
     led_old u mine held from (inr (here, inl alike)) led = elim (remain.each u held) [
-      | inl is ↦ inl (old_sub (on_shelf old) (old.leaves u) (mid.leaves u) is.each (i u) (subst (λ (r : List ℕ → Option Config). FromOld r (mid.leaves u) (i u)) (sym same) from))
+      | inl is ↦ inl (old_sub (on_shelf old) (old.leaves u) (mid.leaves u) is.each (i u) (subst (λ (r : ℕ → List ℕ → Option Config). FromOld r (mid.leaves u) (i u)) (sym same) from))
       | inr later ↦ led_alike u mine later alike.0 alike.1 led
     ]
 
@@ -419,7 +419,7 @@ module _ (good : ℕ) (a c d : Config) (old mid new : Meaning) (one : Underway g
   pub both_stand : Stands c d mid new → Stands a d old new
   both_stand stands = record {
     each = λ below i left. subst (λ (n : ℕ). Written (on_shelf old) failed_in d.serial d n i) one.moves.units
-        (subst (λ (r : List ℕ → Option Config). Written r failed_in d.serial d mid.units i) (sym same) (stands.each (one.below below) i left));
+        (subst (λ (r : ℕ → List ℕ → Option Config). Written r failed_in d.serial d mid.units i) (sym same) (stands.each (one.below below) i left));
   }
 
   pub both_tidy : AreTidy c d mid new → AreTidy a d old new
@@ -429,7 +429,7 @@ module _ (good : ℕ) (a c d : Config) (old mid new : Meaning) (one : Underway g
   remain_both u held (inl was) (inl is) = inl (record { each = λ b v left. was.each b v (is.each b v left) })
   remain_both u held (inr was) (inl is) = inr (record {
     tidy = λ below. tidy_more (on_shelf new) (c.serial + 1) (d.serial + 1) (new.leaves u) (omega (arith, two.serial))
-        (subst (λ (r : List ℕ → Option Config). Tidy r (c.serial + 1) (new.leaves u)) (shelf_same mid new two.moves.units two.moves.size)
+        (subst (λ (r : ℕ → List ℕ → Option Config). Tidy r (c.serial + 1) (new.leaves u)) (shelf_same mid new two.moves.units two.moves.size)
         (tidy_sub (on_shelf mid) (mid.leaves u) (new.leaves u) is.each (c.serial + 1) (was.tidy below)));
     newer = λ below e among. was.newer below e (λ b. is.each b (e b) (among b));
   })
@@ -437,7 +437,7 @@ module _ (good : ℕ) (a c d : Config) (old mid new : Meaning) (one : Underway g
     tidy = λ below. is.tidy (one.below below);
     newer = λ below e among.
         let x = is.newer (one.below below) e among in
-        (x.0, subst (λ (r : List ℕ → Option Config). copy_of r e ≡ Some x.0) (sym same) x.1, omega (arith, x.2, one.serial));
+        (x.0, subst (λ (r : ℕ → List ℕ → Option Config). copy_of r e ≡ Some x.0) (sym same) x.1, omega (arith, x.2, one.serial));
   })
 
   pub both_remain : Remain c d mid new → Remain a d old new

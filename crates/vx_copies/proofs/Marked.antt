@@ -8,9 +8,8 @@ use Rattle.vx_config.specs.Checks.{ends_within, in_region, is_sound, runs, volum
 use Rattle.vx_config.specs.declared.config.Config.{Config}
 use Rattle.vx_config.specs.declared.entry.DiskEntry.{DiskEntry}
 use Rattle.vx_config.specs.declared.entry.Subdisk.{Subdisk}
-use Rattle.vx_copies.specs.Answers.{good_set}
 use Rattle.vx_copies.specs.Bodies.{fits_units, have_blocks, is_wanted}
-use Rattle.vx_copies.specs.Marks.{NoneGood, blocks_at, failed_at, marked}
+use Rattle.vx_copies.specs.Marks.{HasGood, NoneGood, blocks_at, failed_at, good_count, marked}
 
 pub none_more : (disks : List DiskEntry) (k good : ℕ) → NoneGood disks k good → (failed_at disks k ≡ true) ⊎ (bit_at good k ≡ false) → NoneGood disks (k + 1) good
 none_more disks k good none last = record {
@@ -62,7 +61,7 @@ wanted_kept units size c k lt =
     ∙ ap (λ (n : ℕ). is_sound c && ((n == units) && have_blocks size 0 (marked c k).disks)) (length-set c.disks k (failed_now c.disks k))
     ∙ ap (λ (b : Bool). is_sound c && ((length c.disks == units) && b)) (have_kept size 0 c.disks k lt)
 
-pub good_falls : (ds : List DiskEntry) (k : ℕ) (d : DiskEntry) → k < length ds → failed_at ds k ≡ false → d.failed ≡ true → good_set (slice_set ds k d) < good_set ds
+pub good_falls : (ds : List DiskEntry) (k : ℕ) (d : DiskEntry) → k < length ds → failed_at ds k ≡ false → d.failed ≡ true → good_count (slice_set ds k d) + 1 ≡ good_count ds
 good_falls [] k d lt held failed = absurd (omega (arith, lt))
 good_falls (x ∷ ds) zero d lt held failed = rw (held, failed) (omega arith)
 good_falls (x ∷ ds) (suc k) d lt held failed = omega (arith, good_falls ds k d (omega (arith, lt)) held failed)
@@ -73,5 +72,14 @@ module _ (c : Config) (k : ℕ) (after : List DiskEntry) (lt : k < length c.disk
   mark_wanted units size wanted =
       ap (λ (ds : List DiskEntry). is_wanted units size (record { serial = c.serial; site = c.site; disks = ds; volumes = c.volumes; rvg = c.rvg })) is ∙ wanted_kept units size c k lt ∙ wanted
 
-  pub mark_falls : failed_at c.disks k ≡ false → good_set after < good_set c.disks
-  mark_falls held = subst (λ (ds : List DiskEntry). good_set ds < good_set c.disks) (sym is) (good_falls c.disks k (failed_now c.disks k) lt held refl)
+  pub mark_falls : failed_at c.disks k ≡ false → good_count after + 1 ≡ good_count c.disks
+  mark_falls held = subst (λ (ds : List DiskEntry). good_count ds + 1 ≡ good_count c.disks) (sym is) (good_falls c.disks k (failed_now c.disks k) lt held refl)
+
+-- a good disk of a set is one
+some_at : (ds : List DiskEntry) (k : ℕ) → k < length ds → failed_at ds k ≡ false → 0 < good_count ds
+some_at [] k lt held = absurd (omega (arith, lt))
+some_at (x ∷ ds) zero lt held = rw held (omega arith)
+some_at (x ∷ ds) (suc k) lt held = omega (arith, some_at ds k (omega (arith, lt)) held)
+
+pub some_good : (ds : List DiskEntry) (good : ℕ) → HasGood ds good → 0 < good_count ds
+some_good ds good some = some_at ds some.disk some.below some.held

@@ -59,6 +59,11 @@ mark_grown c s k d old new rose is = subst (Grown old new c) (sym is) (record {
   rvg = refl;
 })
 
+-- and no other one is
+pub mark_new : (c : Config) (s k u : ℕ) (d : Config) → d ≡ marked (record { serial = s; site = c.site; disks = c.disks; volumes = c.volumes; rvg = c.rvg }) k
+    → failed_at c.disks u ≡ false → failed_at d.disks u ≡ true → u ≡ k
+mark_new c s k u d is was now = failed_new c.disks k u (failed_now c.disks k) was (sym (ap (λ (x : Config). failed_at x.disks u) is) ∙ now)
+
 -- a disk that is still held as good is another one
 pub mark_other : (c : Config) (s k u : ℕ) (d : Config) → k < length c.disks → d ≡ marked (record { serial = s; site = c.site; disks = c.disks; volumes = c.volumes; rvg = c.rvg }) k
     → failed_at d.disks u ≡ false → u ≡ k → ⊥

@@ -14,7 +14,7 @@ use Rattle.vx_config.specs.Checks.{is_sound, runs}
 use Rattle.vx_config.specs.declared.config.Config.{Config}
 use Rattle.vx_config.specs.declared.entry.DiskEntry.{DiskEntry}
 use Rattle.vx_copies.specs.Answers.{good_set}
-use Rattle.vx_copies.specs.Bodies.{fits_units, have_blocks, is_wanted}
+use Rattle.vx_copies.specs.Bodies.{fits_units, have_blocks, is_wanted, of_serial}
 use Rattle.vx_copies.specs.Commits.{AreTidy, Becomes, Behind, Below, Grown, Held, IsBefore, IsOne, LeavesLater, Remain, Stage, Stands, Underway}
 use Rattle.vx_copies.specs.Looking.{on_shelf}
 use Rattle.vx_copies.specs.Marks.{HasGood, failed_at}
@@ -26,7 +26,7 @@ use Rattle.vx_copies.proofs.Goods.{good_bit}
 -- ---- the same units
 
 pub shelf_same : (old new : Meaning) → new.units ≡ old.units → ((u : ℕ) → new.size u ≡ old.size u) → on_shelf old ≡ on_shelf new
-shelf_same old new units size = λ i bytes. sym (reads-same new.units old.units new.size old.size bytes units size) i
+shelf_same old new units size = λ i serial bytes. of_serial serial (sym (reads-same new.units old.units new.size old.size bytes units size) i)
 
 pub wanted_same : (old new : Meaning) (c : Config) → new.units ≡ old.units → ((u : ℕ) → new.size u ≡ old.size u) → is_wanted old.units old.size c ≡ true → is_wanted new.units new.size c ≡ true
 wanted_same old new c units size wanted =
@@ -89,7 +89,7 @@ second_bit false b one two = one
 
 -- ---- where a copy comes from
 
-module _ {C : Type 0} (reads : List ℕ → Option C) where
+module _ {C : Type 0} (reads : ℕ → List ℕ → Option C) where
   abbrev pub new_wider : (P Q : ℕ → C → Type 0) (slots : Slots) (d : Disk) → ((s : ℕ) (c : C) → P s c → Q s c) → FromNew reads P slots d → FromNew reads Q slots d
   new_wider P Q slots d more from = record {
     serial = from.serial;
@@ -121,7 +121,7 @@ module _ (c t d : Config) (old new : Meaning) (next : t.serial ≡ c.serial + 1)
   abbrev Mine : ℕ → Type 0
   Mine = IsMember (bit_at (good_set t.disks)) old.units
 
-  abbrev reads : List ℕ → Option Config
+  abbrev reads : ℕ → List ℕ → Option Config
   reads = on_shelf old
 
   mine_held : (u : ℕ) → Mine u → Held c old u
@@ -265,7 +265,7 @@ module _ (c t d : Config) (old new : Meaning) (next : t.serial ≡ c.serial + 1)
   tidy_there : (u : ℕ) → Tidy reads (t.serial + 1) (new.leaves u) → Tidy (on_shelf new) (d.serial + 1) (new.leaves u)
   tidy_there u tidy =
       let same : t.serial + 1 ≡ d.serial + 1 = omega (arith, next, after) in
-      subst (λ (r : List ℕ → Option Config). Tidy r (d.serial + 1) (new.leaves u)) (shelf_same old new tried.moves.units tried.moves.size) (subst (λ (n : ℕ). Tidy reads n (new.leaves u)) same tidy)
+      subst (λ (r : ℕ → List ℕ → Option Config). Tidy r (d.serial + 1) (new.leaves u)) (shelf_same old new tried.moves.units tried.moves.size) (subst (λ (n : ℕ). Tidy reads n (new.leaves u)) same tidy)
 
   later_than : (u : ℕ) → u < old.units → HasThis t u old new → LeavesLater c d.serial u old new
   later_than u lt has = record {

@@ -23,7 +23,7 @@ use Rattle.vx_copies.proofs.OneTry.{as_before, held_or, later_torn, not_both}
 
 -- ---- the greatest copy of those that can be read
 
-module _ (reads : List ℕ → Option Config) (s : ℕ) (x : Config) (units : ℕ) (i : Image) (readable : ℕ → Bool) (labels : (u : ℕ) → u < units → is_label (seen_in (i u 0)) ≡ true)
+module _ (reads : ℕ → List ℕ → Option Config) (s : ℕ) (x : Config) (units : ℕ) (i : Image) (readable : ℕ → Bool) (labels : (u : ℕ) → u < units → is_label (seen_in (i u 0)) ≡ true)
     (class : (u : ℕ) → u < units → ((area : ℕ) × (copy_of reads (i u) ≡ Some (record { serial = s; area = area; body = Holds x }))) ⊎ BelowCopy s (copy_of reads (i u))) where
   -- it is this one, or each that can be read has a lesser copy
   abbrev Top : ℕ → Option (ℕ × Copy Config) → Type 0
@@ -93,7 +93,7 @@ module _ (good : ℕ) (c d : Config) (old new : Meaning) (underway : Underway go
     (base : Image) (has : Each old.leaves base) (i : Image) (beside : Beside (AreasOf (Held c old)) old.leaves i)
     (plain : (u : ℕ) → Held c old u → FromOld (on_shelf old) (old.leaves u) (i u) ⊎ FromNew (on_shelf old) (IsOne c d.serial underway.tries u) (old.leaves u) (i u))
     (led : (u : ℕ) → Held c old u → bit_at good u ≡ false → FromOld (on_shelf old) (old.leaves u) (i u) ⊎ Behind good c d.serial underway.tries old i u) where
-  abbrev reads : List ℕ → Option Config
+  abbrev reads : ℕ → List ℕ → Option Config
   reads = on_shelf old
 
   abbrev New : ℕ → Type 0
@@ -287,7 +287,7 @@ module _ (good : ℕ) (c d : Config) (old new : Meaning) (underway : Underway go
 
 module _ (good : ℕ) (c d : Config) (old new : Meaning) (underway : Underway good c d old new) (held : Option Config) (was : WasCommitted good held old) (ready : Ready c old) (labels : HaveLabels old)
     (base : Image) (has : Each old.leaves base) (i : Image) (beside : Beside (AreasOf (Held c old)) old.leaves i) (stage : Stage good c d.serial underway.tries old i) where
-  abbrev bodies : List ℕ → Option Config
+  abbrev bodies : ℕ → List ℕ → Option Config
   bodies = on_shelf old
 
   abbrev NewOn : ℕ → Disk → Type 0

@@ -17,6 +17,7 @@ use Rattle.vx_copyfmt.specs.declared.label.LabelSeen.TheVariants as label
 use Rattle.vx_copyfmt.proofs.Areas.{copy_at-same}
 use Rattle.vx_copyfmt.proofs.Bodies.{body_is}
 use Rattle.vx_config.specs.declared.config.Config.{Config}
+use Rattle.vx_copies.specs.Bodies.{of_serial}
 use Rattle.vx_copies.specs.Looking.{SeesArea, SeesAreas, SeesBody, SeesDisk, ShowsArea, ShowsAreas, ShowsBody, ShowsDisk, ShowsFormat, copy_view, on_shelf}
 use Rattle.vx_copies.specs.declared.seen.AreaSeen.{AreaSeen}
 use Rattle.vx_copies.specs.declared.seen.AreaSeen.TheVariants as area
@@ -36,16 +37,16 @@ pub still_read : (old new : Meaning) → StillUp old new → (u b : ℕ) (v : Li
 still_read old new still u b v is =
     ⊎_elim (λ or. ⊎_elim (λ was. was) (λ none. absurd none) or) (λ down. absurd (still.up down)) (still.goes.reads u b v is)
 
-pub shelf_same : (old new : Meaning) → StillUp old new → (bytes : List ℕ) → on_shelf new bytes ≡ on_shelf old bytes
-shelf_same old new still bytes = reads-same new.units old.units new.size old.size bytes still.goes.units still.goes.size
+pub shelf_same : (old new : Meaning) → StillUp old new → (serial : ℕ) (bytes : List ℕ) → on_shelf new serial bytes ≡ on_shelf old serial bytes
+shelf_same old new still serial bytes = ap (of_serial serial) (reads-same new.units old.units new.size old.size bytes still.goes.units still.goes.size)
 
 pub told_still : (old new : Meaning) → StillUp old new → IsTrue old.tells → IsTrue new.tells
 told_still old new still tells = subst (λ (t : Bool). IsTrue t) (sym still.goes.tells) tells
 
 -- copies by two ways of reading that agree
-module _ (r s : List ℕ → Option Config) (same : (bytes : List ℕ) → r bytes ≡ s bytes) where
+module _ (r s : ℕ → List ℕ → Option Config) (same : (serial : ℕ) (bytes : List ℕ) → r serial bytes ≡ s serial bytes) where
   with_same : (a : ℕ) (h : AreaHeader) (bytes : List ℕ) → copy_with r a h bytes ≡ copy_with s a h bytes
-  with_same a h bytes = ap (λ (o : Option Config). judged a h bytes o (bytes_eq (digest_of bytes) h.digest)) (same bytes)
+  with_same a h bytes = ap (λ (o : Option Config). judged a h bytes o (bytes_eq (digest_of bytes) h.digest)) (same h.serial bytes)
 
   under_same : (d : Disk) (a : ℕ) (o : Option AreaHeader) → copy_under r d a o ≡ copy_under s d a o
   under_same d a None = refl
@@ -167,7 +168,7 @@ module _ (u : ℕ) (m : Meaning) (lawful : Lawful m) (first : List ℕ) (long : 
   labelled_same d zero low high = absurd (omega (arith, low))
   labelled_same d (suc b) low high = let lt : b < 256 = omega (arith, high) in rw (lt-ltb b 256 lt) refl
 
-  labelled_copy : (r : List ℕ → Option Config) (d : Disk) → copy_of r (labelled d) ≡ copy_of r d
+  labelled_copy : (r : ℕ → List ℕ → Option Config) (d : Disk) → copy_of r (labelled d) ≡ copy_of r d
   labelled_copy r d =
       ap (λ (o : Option (Copy Config)). greater o (copy_at r (labelled d) area_b)) (copy_at-same r (labelled d) d area_a (λ b low high. labelled_same d b (omega (arith, low)) (omega (arith, high))))
       ∙ ap (greater (copy_at r d area_a)) (copy_at-same r (labelled d) d area_b (λ b low high. labelled_same d b (omega (arith, low)) (omega (arith, high))))

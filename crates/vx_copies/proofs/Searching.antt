@@ -30,7 +30,7 @@ strange_below p q i j (suc n) same alike =
     ∙ ap (λ (b : Bool). first_of (strange q j n) (if b then strange_label (seen_in (i n 0)) else None)) (same n (omega arith))
     ∙ ap (λ (d : Disk). first_of (strange q j n) (if q n then strange_label (seen_in (d 0)) else None)) (alike n (omega arith))
 
-pub newest_below : (r : List ℕ → Option Config) (p q : ℕ → Bool) (i j : Image) (n : ℕ) → ((u : ℕ) → u < n → p u ≡ q u) → ((u : ℕ) → u < n → i u ≡ j u) → newest r p i n ≡ newest r q j n
+pub newest_below : (r : ℕ → List ℕ → Option Config) (p q : ℕ → Bool) (i j : Image) (n : ℕ) → ((u : ℕ) → u < n → p u ≡ q u) → ((u : ℕ) → u < n → i u ≡ j u) → newest r p i n ≡ newest r q j n
 newest_below r p q i j zero same alike = refl
 newest_below r p q i j (suc n) same alike =
     ap (λ (o : Option (ℕ × Copy Config)). later o (if p n && is_label (seen_in (i n 0)) then on_disk n (copy_of r (i n)) else None)) (newest_below r p q i j n (λ u lt. same u (omega (arith, lt))) (λ u lt. alike u (omega (arith, lt))))

@@ -19,7 +19,7 @@ use Rattle.vx_copies.proofs.OneTry.{held_or, not_both}
 
 -- ---- an import depends on the disks alone that it reads
 
-module _ {C : Type 0} (reads : List ℕ → Option C) (readable : ℕ → Bool) (i j : Image) where
+module _ {C : Type 0} (reads : ℕ → List ℕ → Option C) (readable : ℕ → Bool) (i j : Image) where
   abbrev Label : Image → ℕ → Bool → Option ℕ
   Label k n b = if b then strange_label (seen_in (k n 0)) else None
 

@@ -1,5 +1,6 @@
 -- What a try says of configurations, by what the writing of copies says of bytes.
 use Rattle.std.proofs.Common.{◌≡◌, ◌⊎◌, inl, inr, ⊎_elim, ℕ, ◌+◌, Bool, true, Option, Some, List, [], ◌++◌, take, refl, sym, subst, ◌∙◌}
+use Rattle.std.proofs.lemmas.Bool.{eq-eqb}
 use Rattle.std.proofs.lemmas.List.{append-nil}
 use Rattle.vx_disk.specs.Shelf.{Image, Meaning}
 use Rattle.vx_disk.proofs.Moving.{wider}
@@ -13,7 +14,7 @@ use Rattle.vx_copyio.proofs.Counting.{counts, fit_bytes, new_read, old_read, rea
 use Rattle.vx_config.specs.Configs.{HasSpelling, spelled}
 use Rattle.vx_config.specs.declared.config.Config.{Config}
 use Rattle.vx_config.proofs.DecodeLemmas.{spelled-read}
-use Rattle.vx_copies.specs.Bodies.{is_wanted, reads_in}
+use Rattle.vx_copies.specs.Bodies.{is_wanted, of_serial, reads_in}
 use Rattle.vx_copies.specs.Looking.{on_shelf}
 use Rattle.vx_copies.specs.Orders.{InOrderThis, OrderedThis}
 use Rattle.vx_copies.specs.Tries.{AllThis, HasThis, IsThis, OldOrThese, OldOrThis, Tried, TryStops}
@@ -25,12 +26,16 @@ spelling_reads units size bytes c has is wanted =
     let all : bytes ≡ spelled c ++ [] = is ∙ sym (append-nil (spelled c)) in
     rw (spelled-read bytes c [] has all, wanted) refl
 
-module _ (h : AreaHeader) (body : List ℕ) (c : Config) (old : Meaning) (serial : h.serial ≡ c.serial) (is : on_shelf old (take h.length body) ≡ Some c) where
-  abbrev reads : List ℕ → Option Config
+-- and behind a header of its serial
+pub serial_reads : (units : ℕ) (size : ℕ → ℕ) (serial : ℕ) (bytes : List ℕ) (c : Config) → serial ≡ c.serial → reads_in units size bytes ≡ Some c → of_serial serial (reads_in units size bytes) ≡ Some c
+serial_reads units size serial bytes c same is = rw (is, eq-eqb c.serial serial (sym same)) refl
+
+module _ (h : AreaHeader) (body : List ℕ) (c : Config) (old : Meaning) (serial : h.serial ≡ c.serial) (is : on_shelf old h.serial (take h.length body) ≡ Some c) where
+  abbrev reads : ℕ → List ℕ → Option Config
   reads = on_shelf old
 
-  counted : counts reads (take h.length body) ≡ true
-  counted = read_counts reads (take h.length body) c is
+  counted : counts reads h.serial (take h.length body) ≡ true
+  counted = read_counts reads h.serial (take h.length body) c is
 
   fit_here : (u : ℕ) → Fit reads c.serial (old.leaves u) → Fit (those (counts reads)) h.serial (old.leaves u)
   fit_here u fit = fit_bytes reads h.serial (old.leaves u) (subst (λ (n : ℕ). Fit reads n (old.leaves u)) (sym serial) fit)

@@ -34,6 +34,11 @@ if_wanted units size (Some c) = if is_wanted units size c then Some c else None
 unfoldable pub reads_in : ℕ → (ℕ → ℕ) → List ℕ → Option Config
 reads_in units size bytes = if_wanted units size (alone (config.read bytes))
 
+-- a configuration of this serial
+abbrev pub of_serial : ℕ → Option Config → Option Config
+of_serial serial None = None
+of_serial serial (Some c) = if c.serial == serial then Some c else None
+
 -- whether it holds a disk as failed
 abbrev pub failed_in : Config → ℕ → Bool
 failed_in c disk = slice_index_or (map (λ d. d.failed) c.disks) disk false

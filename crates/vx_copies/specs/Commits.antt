@@ -5,8 +5,8 @@ use Rattle.vx_disk.specs.declared.shelf.ShelfError.{ShelfError}
 use Rattle.vx_disk.specs.declared.shelf.ShelfError.TheVariants.{Fault, Down as IsDown}
 use Rattle.vx_disk.specs.Blocks.{bit_at}
 use Rattle.vx_disk.specs.Counts.{Rose}
-use Rattle.vx_disk.specs.Moves.{Moves}
-use Rattle.vx_disk.specs.Shelf.{Each, Image, LeavesOnly, Meaning}
+use Rattle.vx_disk.specs.Moves.{Along, Moves}
+use Rattle.vx_disk.specs.Shelf.{Each, Image, Meaning}
 use Rattle.vx_model.specs.declared.errors.Stop.{Stop}
 use Rattle.vx_model.specs.declared.errors.Stop.TheVariants.{No as Stopped, OutOfMemory}
 use Rattle.vx_model.specs.declared.no.Counted.TheVariants.{Number}
@@ -15,7 +15,7 @@ use Rattle.vx_model.specs.declared.no.No.TheVariants as refusal
 use Rattle.vx_config.specs.Table.{greatest}
 use Rattle.vx_config.specs.declared.config.Config.{Config}
 use Rattle.vx_config.specs.declared.entry.DiskEntry.{DiskEntry}
-use Rattle.vx_copyfmt.specs.Copies.{Copy, Disk, copy_of}
+use Rattle.vx_copyfmt.specs.Copies.{Copy, Disk, Holds, copy_of}
 use Rattle.vx_copyfmt.specs.Commits.{Among, Answers, Committed, Counts, FindsNew, FindsOld, Forged, FromNew, FromOld, Gives, IsGood, Lower, Spoilt, Tidy, Torn, Written, exactly}
 use Rattle.vx_copyfmt.specs.Imports.{Outcome as Finding, Damaged, Format, Found, Missing, NoConfig, import_of, is_label, settle}
 use Rattle.vx_copyfmt.specs.Labels.{seen_in}
@@ -23,7 +23,7 @@ use Rattle.vx_copyio.specs.Putting.{AreasOf, LeavesSame}
 use Rattle.vx_copies.specs.Answers.{good_set}
 use Rattle.vx_copies.specs.Bodies.{failed_in}
 use Rattle.vx_copies.specs.Looking.{on_shelf}
-use Rattle.vx_copies.specs.Marks.{HasGood, NoneGood, blocks_at, failed_at}
+use Rattle.vx_copies.specs.Marks.{HasGood, NoneGood, blocks_at, failed_at, good_count}
 
 -- a disk that the configuration holds as good
 pub record Held (c : Config) (m : Meaning) (u : ℕ) : Type 0 where
@@ -132,10 +132,21 @@ pub record Remain (c d : Config) (old new : Meaning) : Type 0 where
 pub record Stands (c d : Config) (old new : Meaning) : Type 0 where
   pub each : Below c old → (i : Image) → Each new.leaves i → Written (on_shelf old) failed_in d.serial d old.units i
 
+-- one disk more is held as failed: a call on it failed
+pub record OneMarked (c d : Config) (old new : Meaning) (disk : ℕ) : Type 0 where
+  pub unit : ℕ
+  pub failed : Rose (old.faults unit) (new.faults unit) × Rose (old.disk_faults disk) (new.disk_faults disk)
+  pub fewer : good_count d.disks + 1 ≡ good_count c.disks
+  pub others : (u : ℕ) → failed_at c.disks u ≡ false → failed_at d.disks u ≡ true → u ≡ unit
+
+-- each serial beside so many more cost a disk that was held as good
+abbrev pub IsFew : ℕ → Config → Config → Type 0
+IsFew more c d = d.serial + good_count d.disks ≤ c.serial + more + good_count c.disks
+
 -- how a try ends: as it began; or with one good disk less and a fault; or with the shelf down
 abbrev pub TryEnds : {T : Type 0} → Config → Config → Meaning → Meaning → Result T ShelfError → Type 0
 TryEnds c d old new (Ok x) = (d.disks ≡ c.disks) × AreTidy c d old new × Stands c d old new
-TryEnds c d old new (Err (Fault disk)) = (good_set d.disks < good_set c.disks) × Remain c d old new × Rose (old.disk_faults disk) (new.disk_faults disk)
+TryEnds c d old new (Err (Fault disk)) = OneMarked c d old new disk × Remain c d old new
 TryEnds c d old new (Err IsDown) = IsTrue new.down
 
 -- a set of disks as its lowest member, and 8 where it has none
@@ -149,9 +160,9 @@ IsBlamed good c old new disk = Rose (old.disk_faults disk) (new.disk_faults disk
 -- how tries end: with the configuration on its disks, of which one is a good disk of the set; or with none of these left, or no serial; or with
 -- the shelf down
 abbrev pub TriesEnd : {T : Type 0} → ℕ → Config → Config → Meaning → Meaning → Result T No → Type 0
-TriesEnd good c d old new (Ok x) = (c.serial < d.serial) × HasGood d.disks good × AreTidy c d old new × Stands c d old new
-TriesEnd good c d old new (Err (refusal.Device disk)) = IsBlamed good c old new disk × (NoneGood d.disks (length d.disks) good ⊎ (greatest ≤ d.serial)) × Remain c d old new
-TriesEnd good c d old new (Err refusal.Down) = IsTrue new.down
+TriesEnd good c d old new (Ok x) = (c.serial < d.serial) × HasGood d.disks good × AreTidy c d old new × Stands c d old new × IsFew 1 c d
+TriesEnd good c d old new (Err (refusal.Device disk)) = IsBlamed good c old new disk × (NoneGood d.disks (length d.disks) good ⊎ (greatest ≤ d.serial)) × Remain c d old new × IsFew 0 c d
+TriesEnd good c d old new (Err refusal.Down) = IsTrue new.down × (d.serial ≤ c.serial + good_count c.disks)
 TriesEnd good c d old new (Err other) = ⊥
 
 -- each disk of the set was held as failed, or its count rose
@@ -169,6 +180,24 @@ CommitStops good c last old new (refusal.Device disk) = (c.serial < greatest) ×
 CommitStops good c last old new refusal.Down = (c.serial < greatest) × IsTrue new.down
 CommitStops good c last old new (refusal.Limit Number most) = (greatest ≤ c.serial) × (most ≡ greatest)
 CommitStops good c last old new other = ⊥
+
+-- The disk failed last: from some moment of the call on the counts of a disk rose, and each other disk of the set was held as failed or had failed
+-- before, but where the last serial was used.
+pub record LastFailed {T : Type 0} (meaning : T → Meaning) (good : ℕ) (c : Config) (last : ℕ) (old new : T) (disk : ℕ) : Type 0 where
+  pub moment : T
+  pub unit : ℕ
+  pub failed : Rose ((meaning moment).faults unit) ((meaning new).faults unit) × Rose ((meaning moment).disk_faults disk) ((meaning new).disk_faults disk)
+  pub before : ((u : ℕ) → u < length c.disks → bit_at good u ≡ true → (u ≡ unit → ⊥) → (failed_at c.disks u ≡ true) ⊎ Rose ((meaning old).faults u) ((meaning moment).faults u)) ⊎ (greatest ≤ last)
+
+-- 7 names the disk that failed last; where each disk of the set was held as failed, the lowest of these
+abbrev pub NamesLast : {T : Type 0} → (T → Meaning) → ℕ → Config → ℕ → T → T → No → Type 0
+NamesLast meaning good c last old new (refusal.Device disk) = LastFailed meaning good c last old new disk ⊎ (NoneGood c.disks (length c.disks) good × (disk ≡ lowest_member good))
+NamesLast meaning good c last old new other = Unit {0}
+
+-- the same of a call that takes memory
+abbrev pub StopsLast : {T : Type 0} → (T → Meaning) → ℕ → Config → ℕ → T → T → Stop → Type 0
+StopsLast meaning good c last old new (Stopped why) = NamesLast meaning good c last old new why
+StopsLast meaning good c last old new OutOfMemory = Unit {0}
 
 -- this finding is none: a disk is missing, or no disk has a configuration
 abbrev pub IsNone : Finding Config → Type 0
@@ -189,11 +218,12 @@ pub record ReadsFailed (c : Config) (m : Meaning) (readable : ℕ → Bool) : Ty
 pub record Silent (c : Config) (m : Meaning) : Type 0 where
   pub each : (i : Image) (readable : ℕ → Bool) → Each m.leaves i → ReadsFailed c m readable → ((u : ℕ) → Held c m u → readable u ≡ false) → IsNone (import_of (on_shelf m) failed_in m.units readable i)
 
--- A refused commit changes the serial alone, which is the last one that it began. No header is above it, and what the failed disks say by
+-- A refused commit changes the serial alone, which is the last one that it began; each but this one cost a disk. No header is above it, and what the failed disks say by
 -- themselves stays none.
 pub record Refused (good : ℕ) (c d : Config) (old new : Meaning) (why : No) : Type 0 where
   pub cause : CommitStops good c d.serial old new why
   pub later : c.serial ≤ d.serial
+  pub few : d.serial ≤ c.serial + good_count c.disks
   pub kept : d ≡ record { serial = d.serial; site = c.site; disks = c.disks; volumes = c.volumes; rvg = c.rvg }
   pub below : Below c old → Below d new
   pub silent : Silent c old → Silent d new
@@ -219,21 +249,31 @@ pub record Outcome (begun : ℕ → Config → Type 0) (held : Option Config) (c
   pub which : (found ≡ held) ⊎ ((serial : ℕ) × (d : Config) × (found ≡ Some d) × begun serial d)
   pub each : (readable : ℕ → Bool) → Answers found (import_of (on_shelf m) failed_in m.units readable i) ⊎ Spoilt (on_shelf m) failed_in (Held c m) m.units m.leaves readable i
 
--- what imports find at each moment since the call began, and now, where the disks were ready
+-- what imports find at each moment of the call, and now, where the disks were ready
 pub record Finds (good : ℕ) (begun : ℕ → Config → Type 0) (c : Config) (old new : Meaning) : Type 0 where
-  pub since : Ready c old → LeavesOnly old new (MayFind begun c old)
+  pub since : Ready c old → Along old new (MayFind begun c old)
   pub now : Ready c old → (i : Image) → Each new.leaves i → MayFind begun c old i
-  pub outcome_since : (held : Option Config) → WasCommitted good held old → Ready c old → HaveLabels old → LeavesOnly old new (Outcome begun held c old)
+  pub outcome_since : (held : Option Config) → WasCommitted good held old → Ready c old → HaveLabels old → Along old new (Outcome begun held c old)
   pub outcome_now : (held : Option Config) → WasCommitted good held old → Ready c old → HaveLabels old → (i : Image) → Each new.leaves i → Outcome begun held c old i
 
--- each disk that was held as good is in the image by itself ready for the serial behind this one, unless a torn body has the digest of its header
+-- the disk has a copy, of its own serial, of a configuration that holds it as good
+pub record OwnCopy (m : Meaning) (u : ℕ) (d : Disk) : Type 0 where
+  pub config : Config
+  pub area : ℕ
+  pub copy : copy_of (on_shelf m) d ≡ Some (record { serial = config.serial; area = area; body = Holds config })
+  pub holds : failed_at config.disks u ≡ false
+
+-- each disk that was held as good is in the image by itself ready for the serial behind this one, unless a torn body has the digest of its header;
+-- and it has a copy of before, or one of its own, or that of before is torn
 pub record AreFit (c : Config) (last : ℕ) (m : Meaning) (i : Image) : Type 0 where
   pub each : (u : ℕ) → Held c m u → Tidy (on_shelf m) (last + 1) (exactly (i u)) ⊎ Forged (m.leaves u) (i u)
+  pub own : (u : ℕ) → Held c m u → FromOld (on_shelf m) (m.leaves u) (i u) ⊎ OwnCopy m u (i u) ⊎ Torn (on_shelf m) (m.leaves u) (i u)
 
--- so it is at each moment since the call began, where the disks were ready; and now with each disk that was
+-- so it is at each moment of the call, where the disks were ready; and now with each disk that was
 pub record StayFit (c : Config) (last : ℕ) (old new : Meaning) : Type 0 where
-  pub since : Ready c old → LeavesOnly old new (AreFit c last old)
+  pub since : Ready c old → Along old new (AreFit c last old)
   pub now : Below c old → (u : ℕ) (e : Disk) → Held c old u → Counts (on_shelf old) (old.leaves u) → Among (new.leaves u) e → Tidy (on_shelf old) (last + 1) (exactly e) ⊎ Forged (old.leaves u) e
+  pub own : Below c old → (u : ℕ) (e : Disk) → Held c old u → Counts (on_shelf old) (old.leaves u) → Among (new.leaves u) e → FromOld (on_shelf old) (old.leaves u) e ⊎ OwnCopy old u e ⊎ Torn (on_shelf old) (old.leaves u) e
 
 -- a disk that the call came to hold as failed
 pub record Marked (c d : Config) (m : Meaning) (u : ℕ) : Type 0 where
@@ -248,11 +288,12 @@ pub record Counted (c d : Config) (m : Meaning) : Type 0 where
 pub record WereTidy (c d : Config) (m : Meaning) : Type 0 where
   pub each : (u : ℕ) → Marked c d m u → Tidy (on_shelf m) (c.serial + 1) (m.leaves u)
 
--- A commit is done. The configuration has a later serial and the failed disks held so. An import that reads a disk that it holds as good finds
+-- A commit is done. The configuration has a later serial, the next one but for those that cost a disk each, and the failed disks held so. An import that reads a disk that it holds as good finds
 -- it, or is refused with 8, whatever was committed before. Others find no other one: where an earlier one was committed, and this call marked
 -- no disk that might have been torn; or where the disks that were held as failed say nothing by themselves, and this call marked none.
 pub record Done (good : ℕ) (c d : Config) (old new : Meaning) : Type 0 where
   pub later : c.serial < d.serial
+  pub few : IsFew 1 c d
   pub grown : Grown old new c d
   pub left : HasGood d.disks good
   pub below : Below c old → Below d new

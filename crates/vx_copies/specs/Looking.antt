@@ -7,7 +7,7 @@ use Rattle.vx_copyfmt.specs.Imports.{is_label, strange_label}
 use Rattle.vx_copyfmt.specs.Labels.{seen_in}
 use Rattle.vx_copyfmt.specs.declared.area.AreaHeader.{AreaHeader}
 use Rattle.vx_config.specs.declared.config.Config.{Config}
-use Rattle.vx_copies.specs.Bodies.{reads_in}
+use Rattle.vx_copies.specs.Bodies.{of_serial, reads_in}
 use Rattle.vx_copies.specs.declared.seen.AreaSeen.{AreaSeen}
 use Rattle.vx_copies.specs.declared.seen.AreaSeen.TheVariants as area
 use Rattle.vx_copies.specs.declared.seen.BodySeen.{BodySeen}
@@ -43,9 +43,9 @@ FitsDisk units disk.Unreadable = Unit {0}
 FitsDisk units (disk.Format version) = Unit {0}
 FitsDisk units (disk.Seen copy) = Fits units copy
 
--- what a body counts as on this shelf
-abbrev pub on_shelf : Meaning → List ℕ → Option Config
-on_shelf m = reads_in m.units m.size
+-- what a body counts as on this shelf, behind a header of this serial
+abbrev pub on_shelf : Meaning → ℕ → List ℕ → Option Config
+on_shelf m serial bytes = of_serial serial (reads_in m.units m.size bytes)
 
 -- reads gave whole blocks, and a header with their first bytes as its body is this copy
 pub record ShowsBody (u a : ℕ) (h : AreaHeader) (m : Meaning) (seen : Option CopySeen) : Type 0 where

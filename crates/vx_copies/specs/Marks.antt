@@ -1,5 +1,5 @@
 -- A disk that is held as failed.
-use Rattle.std.specs.Prelude.{◌≡◌, ℕ, ◌<◌, Bool, true, false, List, length, slice_index_or, slice_set, map}
+use Rattle.std.specs.Prelude.{◌≡◌, ℕ, ◌+◌, ◌<◌, Bool, true, false, if◌then◌else◌, List, [], ◌∷◌, length, slice_index_or, slice_set, map}
 use Rattle.vx_disk.specs.Blocks.{bit_at}
 use Rattle.vx_config.specs.declared.config.Config.{Config}
 use Rattle.vx_config.specs.declared.entry.DiskEntry.{DiskEntry}
@@ -9,6 +9,11 @@ failed_at disks k = slice_index_or (map (λ d. d.failed) disks) k false
 
 abbrev pub blocks_at : List DiskEntry → ℕ → ℕ
 blocks_at disks k = slice_index_or (map (λ d. d.blocks) disks) k 0
+
+-- how many are held as good
+abbrev pub good_count : List DiskEntry → ℕ
+good_count [] = 0
+good_count (d ∷ ds) = good_count ds + (if d.failed then 0 else 1)
 
 -- the configuration with the disk held as failed
 abbrev pub marked : Config → ℕ → Config

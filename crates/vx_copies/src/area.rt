@@ -3,8 +3,9 @@ ghost use Rattle.std.specs.Prelude.{◌≡◌, ◌+◌, ◌*◌, ◌<◌, ◌≤
 ghost use Rattle.vx_copyfmt.specs.Areas.{CanSpellArea};
 ghost use Rattle.vx_copyfmt.specs.Copies.{copy_with};
 ghost use Rattle.vx_copyfmt.specs.Commits.{IsHeaderBlock};
-ghost use Rattle.vx_copies.specs.Bodies.{reads_in};
-ghost use Rattle.vx_copies.specs.Looking.{Fits, FitsArea, SeesArea, SeesBody, copy_view};
+ghost use Rattle.vx_copies.specs.Looking.{Fits, FitsArea, SeesArea, SeesBody, copy_view, on_shelf};
+ghost use Rattle.vx_disk.specs.Causes.{OnDisks};
+ghost use Rattle.vx_disk.specs.Disks.{Untouched};
 ghost use Rattle.vx_disk.specs.Shelf.{Goes, Nothing};
 
 use crate::body::read_body;
@@ -15,7 +16,7 @@ use vx_disk::Shelf;
 use vx_model::OutOfMemory;
 use vx_wire::digest;
 
-// What a header and its body are as a copy.
+// What a header and its body are as a copy: none where the body is no configuration of this shelf, or has another serial than the header.
 fn judge<S: Shelf>(
     alloc: Global,
     shelf: &S,
@@ -23,7 +24,7 @@ fn judge<S: Shelf>(
     header: &AreaHeader,
     body: &[u8],
 ) -> Result<Option<CopySeen>, OutOfMemory>
-    ensures copy { IfOk result (λ seen. copy_with (reads_in (S.meaning shelf.now).units (S.meaning shelf.now).size) area header.now body.now ≡ copy_view seen) }
+    ensures copy { IfOk result (λ seen. copy_with (on_shelf (S.meaning shelf.now)) area header.now body.now ≡ copy_view seen) }
     ensures fits { IfOk result (Fits (S.meaning shelf.now).units) }
 {
     let computed = digest(body);
@@ -34,6 +35,9 @@ fn judge<S: Shelf>(
     }
     match read_body(alloc, shelf, body) {
         Ok(Some(config)) => {
+            if config.serial != serial {
+                return Ok(None);
+            }
             let body = BodySeen::Holds(config);
             Ok(Some(CopySeen { serial, area, body }))
         }
@@ -61,6 +65,7 @@ fn read_copy<S: Shelf>(
     ensures room { length room.new ≡ 65024 }
     ensures goes { Goes Nothing (S.meaning shelf.old) (S.meaning shelf.new) }
     ensures down { (S.meaning shelf.new).down ≡ (S.meaning shelf.old).down }
+    ensures disks { OnDisks (S.meaning shelf.old).disks (S.meaning shelf.new).disks Untouched }
 {
     let length = header.length as usize;
     let filled = 512 * length.div_ceil(512);
@@ -91,6 +96,7 @@ pub fn read_area<S: Shelf>(
     ensures room { length room.new ≡ 65024 }
     ensures goes { Goes Nothing (S.meaning shelf.old) (S.meaning shelf.new) }
     ensures down { (S.meaning shelf.new).down ≡ (S.meaning shelf.old).down }
+    ensures disks { OnDisks (S.meaning shelf.old).disks (S.meaning shelf.new).disks Untouched }
 {
     let mut block = [0; 512];
     match shelf.read(disk, area as u64, &mut block) {

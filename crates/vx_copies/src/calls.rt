@@ -1,24 +1,28 @@
 // Commits.
-ghost use Rattle.std.specs.Prelude.{◌≡◌, ◌⊎◌, ◌≤◌, true, Err};
+ghost use Rattle.std.specs.Prelude.{◌≡◌, ◌⊎◌, ◌+◌, ◌*◌, ◌≤◌, true, Err, OnOk, IfErr};
 ghost use Rattle.vx_config.specs.Configs.{CanSpell, subdisk_count};
 ghost use Rattle.vx_config.specs.Table.{greatest};
 ghost use Rattle.vx_copyio.specs.Labelling.{AreLarge};
 ghost use Rattle.vx_copies.specs.Bodies.{is_wanted};
-ghost use Rattle.vx_copies.specs.Commits.{Begins, CommitEnds, CommitStopped, Finds, IsTry, StayFit};
+ghost use Rattle.vx_copies.specs.Commits.{Begins, CommitEnds, CommitStopped, Finds, IsTry, NamesLast, StayFit, StopsLast};
+ghost use Rattle.vx_copies.specs.Marks.{good_count};
+ghost use Rattle.vx_disk.specs.Burns.{MakesCalls};
 ghost use Rattle.vx_model.specs.declared.errors.Stop.TheVariants.{OutOfMemory as MemoryStop, No as Refused};
 ghost use Rattle.vx_model.specs.declared.no.Counted.TheVariants.{Number};
 ghost use Rattle.vx_model.specs.declared.no.No.TheVariants.{Limit};
 
 use crate::Room;
-use crate::committing::{MOST_SERIAL, try_all};
+use crate::committing::try_all;
 use std::alloc::Global;
 use vx_config::Config;
 use vx_disk::Shelf;
+use vx_model::limits::MOST_NUMBER;
 use vx_model::{Counted, No, Stop};
 
 /// Writes a configuration under the next serial to each disk that it holds as good: first to those of a set, which are the disks that
 /// the newest committed configuration holds as good, and all of them before the first commit; then to the rest. A disk that fails is
-/// held as failed from then on, and the commit begins again with the next serial. It takes no memory.
+/// held as failed from then on, and the commit begins again with the next serial. So each serial but one costs a disk, and where none
+/// was lost it was four device calls for each disk that the configuration holds as good. It takes no memory.
 ///
 /// At each moment of it an import over what a crash leaves finds what it might have found before, or one of the configurations that it
 /// began, and after Ok the last of these, or is refused with 8 or 9. Where the write or the flush of a header of a disk failed before, and
@@ -45,12 +49,14 @@ pub fn commit_in<S: Shelf>(
     ensures finds { Finds good (IsTry config.old config.new.serial (S.meaning shelf.old) (S.meaning shelf.new)) config.old (S.meaning shelf.old) (S.meaning shelf.new) }
     ensures fit { StayFit config.old config.new.serial (S.meaning shelf.old) (S.meaning shelf.new) }
     ensures ends { CommitEnds good config.old config.new (S.meaning shelf.old) (S.meaning shelf.new) result }
+    ensures calls { OnOk result (config.new.serial ≡ config.old.serial + 1 → MakesCalls (4 * good_count config.new.disks) (S.meaning shelf.old) (S.meaning shelf.new)) }
+    ensures last { IfErr result (NamesLast (λ s. S.meaning s) good config.old config.new.serial shelf.old shelf.new) }
     ensures limit { greatest ≤ config.old.serial → (result ≡ Err (Limit Number greatest)) × (config.new ≡ config.old) × (shelf.new ≡ shelf.old) }
 {
-    if config.serial >= MOST_SERIAL {
+    if config.serial >= MOST_NUMBER {
         return Err(No::Limit {
             what: Counted::Number,
-            most: MOST_SERIAL,
+            most: MOST_NUMBER,
         });
     }
     let kept = config.disks.copy();
@@ -81,6 +87,8 @@ pub fn commit<S: Shelf>(
     ensures finds { Finds good (IsTry config.old config.new.serial (S.meaning shelf.old) (S.meaning shelf.new)) config.old (S.meaning shelf.old) (S.meaning shelf.new) }
     ensures fit { StayFit config.old config.new.serial (S.meaning shelf.old) (S.meaning shelf.new) }
     ensures ends { CommitStopped good config.old config.new (S.meaning shelf.old) (S.meaning shelf.new) result }
+    ensures calls { OnOk result (config.new.serial ≡ config.old.serial + 1 → MakesCalls (4 * good_count config.new.disks) (S.meaning shelf.old) (S.meaning shelf.new)) }
+    ensures last { IfErr result (StopsLast (λ s. S.meaning s) good config.old config.new.serial shelf.old shelf.new) }
     ensures memory { result ≡ Err MemoryStop → shelf.new ≡ shelf.old }
     ensures limit { greatest ≤ config.old.serial → ((result ≡ Err MemoryStop) ⊎ (result ≡ Err (Refused (Limit Number greatest)))) × (config.new ≡ config.old) × (shelf.new ≡ shelf.old) }
 {

@@ -1,19 +1,18 @@
 // The tries of a commit.
-ghost use Rattle.std.specs.Prelude.{◌≡◌, ◌⊎◌, ◌+◌, ◌<◌, ◌≤◌, length, true, IsTrue, IsFalse};
+ghost use Rattle.std.specs.Prelude.{◌≡◌, ◌⊎◌, ◌+◌, ◌*◌, ◌<◌, ◌≤◌, length, true, OnOk, IfErr, IsTrue, IsFalse};
 ghost use Rattle.vx_config.specs.Configs.{CanSpell, subdisk_count};
 ghost use Rattle.vx_config.specs.Table.{greatest};
 ghost use Rattle.vx_copyio.specs.Labelling.{AreLarge};
 ghost use Rattle.vx_copies.specs.Bodies.{is_wanted};
-ghost use Rattle.vx_copies.specs.Commits.{TriesEnd, TryEnds, Underway, lowest_member};
-ghost use Rattle.vx_copies.specs.Marks.{HasGood, NoneGood};
+ghost use Rattle.vx_copies.specs.Commits.{NamesLast, TriesEnd, TryEnds, Underway, lowest_member};
+ghost use Rattle.vx_disk.specs.Burns.{MakesCalls};
+ghost use Rattle.vx_copies.specs.Marks.{HasGood, NoneGood, good_count};
 
 use crate::{has_good, mark, put_config};
 use vx_config::{Config, is_short};
 use vx_disk::{Shelf, ShelfError};
 use vx_model::No;
-
-// The greatest serial.
-pub const MOST_SERIAL: u64 = 0x7fff_ffff_ffff_ffff;
+use vx_model::limits::MOST_NUMBER;
 
 // One try under the next serial. A disk that fails is then held as failed.
 fn try_next<S: Shelf>(
@@ -35,6 +34,7 @@ fn try_next<S: Shelf>(
     ensures serial { config.new.serial ≡ config.old.serial + 1 }
     ensures underway { Underway good config.old config.new (S.meaning shelf.old) (S.meaning shelf.new) }
     ensures ends { TryEnds config.old config.new (S.meaning shelf.old) (S.meaning shelf.new) result }
+    ensures calls { OnOk result (MakesCalls (4 * good_count config.new.disks) (S.meaning shelf.old) (S.meaning shelf.new)) }
 {
     config.serial += 1;
     is_short(config);
@@ -62,7 +62,7 @@ fn may_try(config: &Config, good: u8) -> bool
     ensures may { IsTrue result → HasGood config.now.disks good × (config.now.serial < greatest) }
     ensures none { IsFalse result → NoneGood config.now.disks (length config.now.disks) good ⊎ (greatest ≤ config.now.serial) }
 {
-    config.serial < MOST_SERIAL && has_good(&config.disks, good)
+    config.serial < MOST_NUMBER && has_good(&config.disks, good)
 }
 
 // Tries under one serial after the other, until the configuration stands, or no disk of the set is left.
@@ -83,6 +83,8 @@ pub fn try_all<S: Shelf>(
     ensures wanted { is_wanted (S.meaning shelf.new).units (S.meaning shelf.new).size config.new ≡ true }
     ensures underway { Underway good config.old config.new (S.meaning shelf.old) (S.meaning shelf.new) }
     ensures ends { TriesEnd good config.old config.new (S.meaning shelf.old) (S.meaning shelf.new) result }
+    ensures calls { OnOk result (config.new.serial ≡ config.old.serial + 1 → MakesCalls (4 * good_count config.new.disks) (S.meaning shelf.old) (S.meaning shelf.new)) }
+    ensures last { IfErr result (NamesLast (λ s. S.meaning s) good config.old config.new.serial shelf.old shelf.new) }
 {
     let mut device = lowest(good);
     while may_try(config, good) {

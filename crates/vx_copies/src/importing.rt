@@ -2,6 +2,8 @@
 ghost use Rattle.std.specs.Prelude.{◌≡◌, ℕ, IsTrue};
 ghost use Rattle.vx_copyio.specs.Labelling.{AreLarge};
 ghost use Rattle.vx_copies.specs.Answers.{Imported};
+ghost use Rattle.vx_disk.specs.Causes.{OnDisks};
+ghost use Rattle.vx_disk.specs.Disks.{Untouched};
 ghost use Rattle.vx_disk.specs.Shelf.{Goes, Nothing};
 
 use crate::search::search_all;
@@ -25,6 +27,8 @@ pub fn import<S: Shelf>(alloc: Global, shelf: &mut S) -> Result<(Config, u8), St
     requires large { AreLarge (S.meaning shelf.old) }
     ensures imported { Imported (S.meaning shelf.old) (S.meaning shelf.new) result }
     ensures goes { Goes Nothing (S.meaning shelf.old) (S.meaning shelf.new) }
+    ensures down { (S.meaning shelf.new).down ≡ (S.meaning shelf.old).down }
+    ensures disks { OnDisks (S.meaning shelf.old).disks (S.meaning shelf.new).disks Untouched }
 {
     let units = shelf.units();
     let mut room = match vec![in alloc; 0; ROOM] {

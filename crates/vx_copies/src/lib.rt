@@ -29,4 +29,6 @@ use trying::put_config;
 pub use vx_copyio::label;
 
 #[cfg(test)]
+mod settled_tests;
+#[cfg(test)]
 mod tests;

@@ -2,6 +2,8 @@
 ghost use Rattle.std.specs.Prelude.{◌≡◌, ◌<◌, ◌≤◌, ℕ, length, IfOk, IsTrue};
 ghost use Rattle.vx_copyfmt.specs.Copies.{greater};
 ghost use Rattle.vx_copies.specs.Looking.{Fits, FitsDisk, SeesAreas, SeesDisk, copy_view};
+ghost use Rattle.vx_disk.specs.Causes.{OnDisks};
+ghost use Rattle.vx_disk.specs.Disks.{Untouched};
 ghost use Rattle.vx_disk.specs.Shelf.{Goes, Nothing};
 
 use crate::area::read_area;
@@ -46,6 +48,7 @@ fn look_areas<S: Shelf>(
     ensures room { length room.new ≡ 65024 }
     ensures goes { Goes Nothing (S.meaning shelf.old) (S.meaning shelf.new) }
     ensures down { (S.meaning shelf.new).down ≡ (S.meaning shelf.old).down }
+    ensures disks { OnDisks (S.meaning shelf.old).disks (S.meaning shelf.new).disks Untouched }
 {
     let first = match read_area(alloc, shelf, disk, AREA_A as u32, room) {
         Ok(AreaSeen::Seen(copy)) => copy,
@@ -75,6 +78,7 @@ pub fn look<S: Shelf>(
     ensures room { length room.new ≡ 65024 }
     ensures goes { Goes Nothing (S.meaning shelf.old) (S.meaning shelf.new) }
     ensures down { (S.meaning shelf.new).down ≡ (S.meaning shelf.old).down }
+    ensures disks { OnDisks (S.meaning shelf.old).disks (S.meaning shelf.new).disks Untouched }
 {
     let mut block = [0; 512];
     match shelf.read(disk, 0, &mut block) {

@@ -1,8 +1,7 @@
 // What a failed disk changes in a configuration.
-ghost use Rattle.std.specs.Prelude.{◌≡◌, ◌<◌, ◌≤◌, ℕ, false, true, length, IsTrue, IsFalse};
-ghost use Rattle.vx_copies.specs.Answers.{good_set};
+ghost use Rattle.std.specs.Prelude.{◌≡◌, ◌+◌, ◌<◌, ◌≤◌, ℕ, false, true, length, IsTrue, IsFalse};
 ghost use Rattle.vx_copies.specs.Bodies.{failed_in, is_wanted};
-ghost use Rattle.vx_copies.specs.Marks.{HasGood, NoneGood, marked};
+ghost use Rattle.vx_copies.specs.Marks.{HasGood, NoneGood, good_count, marked};
 
 use vx_config::{Config, DiskEntry, Disks};
 use vx_copyio::is_member;
@@ -12,7 +11,7 @@ pub fn mark(config: &mut Config, disk: u32)
     requires inside { disk < length config.old.disks }
     ensures marked { config.new ≡ marked config.old disk }
     ensures wanted { (units : ℕ) (size : ℕ → ℕ) → is_wanted units size config.old ≡ true → is_wanted units size config.new ≡ true }
-    ensures falls { failed_in config.old disk ≡ false → good_set config.new.disks < good_set config.old.disks }
+    ensures falls { failed_in config.old disk ≡ false → good_count config.new.disks + 1 ≡ good_count config.old.disks }
 {
     let blocks = config.disks.as_slice()[disk as usize].blocks;
     config.disks.set(

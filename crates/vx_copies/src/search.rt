@@ -5,6 +5,8 @@ ghost use Rattle.vx_copyio.specs.Labelling.{AreLarge};
 ghost use Rattle.vx_copies.specs.Answers.{flag_at};
 ghost use Rattle.vx_copies.specs.Looking.{Fits, FitsDisk, copy_view};
 ghost use Rattle.vx_copies.specs.Searching.{FitsBest, Searched, best_view, seen_format, seen_readable, seen_view};
+ghost use Rattle.vx_disk.specs.Causes.{OnDisks};
+ghost use Rattle.vx_disk.specs.Disks.{Untouched};
 ghost use Rattle.vx_disk.specs.Shelf.{Goes, Nothing};
 
 use crate::look::look;
@@ -107,6 +109,8 @@ pub fn search_all<S: Shelf>(
     requires room { length room.old ≡ 65024 }
     ensures searched { IfOk result (Searched (S.meaning shelf.old).units (S.meaning shelf.old) (S.meaning shelf.new)) }
     ensures goes { Goes Nothing (S.meaning shelf.old) (S.meaning shelf.new) }
+    ensures down { (S.meaning shelf.new).down ≡ (S.meaning shelf.old).down }
+    ensures disks { OnDisks (S.meaning shelf.old).disks (S.meaning shelf.new).disks Untouched }
 {
     let mut found = Search {
         readable: [false; 8],

@@ -11,6 +11,7 @@ use vx_config::{Config, DiskEntry, Disks, Volumes};
 use vx_copyfmt::AreaHeader;
 use vx_copyio::{are_large, put_copy};
 use vx_disk::{MemShelf, Rack, Shelf, put};
+use vx_model::limits::MOST_NUMBER;
 use vx_model::{Counted, No, OutOfMemory, Stop};
 use vx_wire::{digest, get_bytes, put_bytes, seal};
 
@@ -30,7 +31,7 @@ const FIRST: usize = 25;
 const SECOND: usize = 34;
 
 // A shelf in memory of two labelled disks.
-fn labelled(alloc: Global) -> Result<MemShelf, OutOfMemory> {
+pub fn labelled(alloc: Global) -> Result<MemShelf, OutOfMemory> {
     let mut shelf = MemShelf::new(alloc, &[])?;
     if shelf.fit(alloc, None, 7, 2, 1024).is_err() || label(&mut shelf, 7).is_err() {
         return Err(OutOfMemory);
@@ -70,14 +71,14 @@ fn write<S: Shelf>(shelf: &mut S, disk: u32, at: u64, block: &[u8; 512]) -> bool
     disk < shelf.units() && at < shelf.size(disk) && put(shelf, disk, at, block).is_ok()
 }
 
-fn fail<R: Rack>(rack: &mut R, disk: u32, on: bool) {
+pub fn fail<R: Rack>(rack: &mut R, disk: u32, on: bool) {
     if disk < rack.units() {
         rack.fail(disk, on);
     }
 }
 
 // The serial that an import finds, the disks that the configuration held as good, and whether it now holds both so.
-fn found<S: Shelf>(alloc: Global, shelf: &mut S) -> Result<(u64, u8, bool), Stop> {
+pub fn found<S: Shelf>(alloc: Global, shelf: &mut S) -> Result<(u64, u8, bool), Stop> {
     if shelf.is_down() || !are_large(shelf) {
         return Err(Stop::OutOfMemory);
     }
@@ -116,7 +117,7 @@ fn the_newest_copy_is_found(rt: HostRuntime) {
 }
 
 // Two good disks of 1,024 blocks, and no volume, with serial 0.
-fn two_disks(alloc: Global) -> Config
+pub fn two_disks(alloc: Global) -> Config
     ensures can { CanSpell result }
     ensures short { subdisk_count result ≤ 1024 }
 {
@@ -137,7 +138,7 @@ fn two_disks(alloc: Global) -> Config
 }
 
 // A commit, in a room that is made for it or not. Gives the serial, and whether each disk is held as good.
-fn committed<S: Shelf>(
+pub fn committed<S: Shelf>(
     alloc: Global,
     shelf: &mut S,
     config: &mut Config,
@@ -202,16 +203,16 @@ fn a_commit_is_refused(rt: HostRuntime) {
     assert!(rt; committed(alloc, &mut shelf, &mut config, 1, true) == refused);
     assert!(rt; config.serial == 3 && both_good(&config));
     // No serial is left.
-    config.serial = 0x7fff_ffff_ffff_ffff;
+    config.serial = MOST_NUMBER;
     let refused = Err(Stop::No(No::Limit {
         what: Counted::Number,
-        most: 0x7fff_ffff_ffff_ffff,
+        most: MOST_NUMBER,
     }));
     assert!(rt; committed(alloc, &mut shelf, &mut config, 3, true) == refused);
-    config.serial = 0x7fff_ffff_ffff_fffe;
+    config.serial = MOST_NUMBER - 1;
     let refused = Err(Stop::No(No::Device { disk: 0 }));
     assert!(rt; committed(alloc, &mut shelf, &mut config, 3, true) == refused);
-    assert!(rt; config.serial == 0x7fff_ffff_ffff_ffff && both_good(&config));
+    assert!(rt; config.serial == MOST_NUMBER && both_good(&config));
 }
 
 #[test]
@@ -238,7 +239,7 @@ fn a_commit_behind_a_refused_one_is_found(rt: HostRuntime) {
     assert!(rt; found(alloc, &mut shelf) == Err(Stop::No(No::Missing { disk: 1 })));
 }
 
-fn revive<R: Rack>(rack: &mut R) {
+pub fn revive<R: Rack>(rack: &mut R) {
     if rack.is_down() {
         rack.revive();
     }
@@ -309,6 +310,7 @@ fn a_body_that_is_no_configuration_does_not_count(rt: HostRuntime) {
     assert!(rt; found(alloc, &mut shelf) == Err(Stop::No(No::NoConfig)));
     let mut other = BODY;
     other[SECOND - 1] = 1;
+    other[SERIAL] = 2;
     assert!(rt; copy(&mut shelf, 0, 2, &other));
     assert!(rt; found(alloc, &mut shelf) == Err(Stop::No(No::NoConfig)));
 }
@@ -367,6 +369,11 @@ fn a_configuration_that_is_not_sound_does_not_count(rt: HostRuntime) {
     overlap[START] = 63;
     assert!(rt; copy_volume(&mut shelf, 1, &overlap));
     assert!(rt; found(alloc, &mut shelf) == Err(Stop::No(No::NoConfig)));
-    assert!(rt; copy_volume(&mut shelf, 2, &VOLUME));
-    assert!(rt; found(alloc, &mut shelf) == Ok((1, 3, true)));
+    let mut newer = VOLUME;
+    newer[SERIAL] = 2;
+    assert!(rt; copy_volume(&mut shelf, 2, &newer));
+    assert!(rt; found(alloc, &mut shelf) == Ok((2, 3, true)));
+    // A body of another serial than its header.
+    assert!(rt; copy_volume(&mut shelf, 3, &VOLUME));
+    assert!(rt; found(alloc, &mut shelf) == Ok((2, 3, true)));
 }

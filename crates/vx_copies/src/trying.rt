@@ -1,5 +1,5 @@
 // One try of a commit.
-ghost use Rattle.std.specs.Prelude.{◌≡◌, ◌≤◌, false, length, true, OnOk, IfErr};
+ghost use Rattle.std.specs.Prelude.{◌≡◌, ◌*◌, ◌≤◌, false, length, true, OnOk, IfErr};
 ghost use Rattle.vx_config.specs.Configs.{CanSpell, subdisk_count};
 ghost use Rattle.vx_copyio.specs.Labelling.{AreLarge};
 ghost use Rattle.vx_copyio.specs.Putting.{IsMember, part_of};
@@ -7,7 +7,9 @@ ghost use Rattle.vx_copies.specs.Answers.{good_set};
 ghost use Rattle.vx_copies.specs.Bodies.{body_bytes, is_wanted};
 ghost use Rattle.vx_copies.specs.Orders.{OrderedThis};
 ghost use Rattle.vx_copies.specs.Tries.{AllThis, GoodBefore, Tried, TryStops};
+ghost use Rattle.vx_copies.specs.Marks.{good_count};
 ghost use Rattle.vx_disk.specs.Blocks.{bit_at};
+ghost use Rattle.vx_disk.specs.Burns.{MakesCalls};
 
 use crate::settle::good_of;
 use crate::spell;
@@ -33,6 +35,7 @@ pub fn put_config<S: Shelf>(
     ensures first { IfErr result (GoodBefore good config.now (S.meaning shelf.old) (S.meaning shelf.new)) }
     ensures stops { IfErr result (TryStops (IsMember (bit_at (good_set config.now.disks)) (S.meaning shelf.old).units) config.now (S.meaning shelf.old) (S.meaning shelf.new)) }
     ensures order { OrderedThis (IsMember (part_of (good_set config.now.disks) good true) (S.meaning shelf.old).units) (IsMember (part_of (good_set config.now.disks) good false) (S.meaning shelf.old).units) config.now (S.meaning shelf.old) (S.meaning shelf.new) }
+    ensures calls { OnOk result (MakesCalls (4 * good_count config.now.disks) (S.meaning shelf.old) (S.meaning shelf.new)) }
     ensures kept { length room.new ≡ length room.old }
 {
     let front = spell(config, room);

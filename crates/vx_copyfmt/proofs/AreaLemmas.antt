@@ -1,5 +1,5 @@
 -- An area's header that is spelled is read again.
-use Rattle.std.proofs.Common.{◌≡◌, ◌≤◌, ℕ, ◌-◌, ◌^◌, ◌<◌, Bool, true, false, ◌&&◌, Some, None, List, ◌++◌, length, take, drop, refl, ap, sym, subst, append_assoc, ◌∙◌, arith}
+use Rattle.std.proofs.Common.{◌≡◌, ◌≤◌, ℕ, ◌-◌, ◌^◌, ◌<◌, Bool, true, false, ◌&&◌, Some, None, List, [], ◌∷◌, ◌++◌, length, take, drop, refl, ap, sym, subst, append_assoc, ◌∙◌, arith}
 use Rattle.std.specs.Prelude.{nat_lt, ◌==◌, bytes_eq, if◌then◌else◌}
 use Rattle.std.proofs.lemmas.Bool.{and_parts, and_from, ltb-true, lt-ltb, eqb-true, eq-eqb}
 use Rattle.std.proofs.lemmas.List.{drop_at, take_at, length-append}
@@ -109,8 +109,22 @@ pub header_of-only : (block : List ℕ) (h : AreaHeader) → header_of block ≡
 unfolding header_of
 header_of-only block h is = found_is block h (area_in block) (is_area block (area_in block)) refl is
 
+-- a header begins with its magic, and zeros do not
+abbrev first_byte : List ℕ → ℕ
+first_byte [] = 0
+first_byte (x ∷ rest) = x
+
+begins : (h : AreaHeader) (rest : List ℕ) → first_byte (spelled (area_table h) ++ rest) ≡ 86
+unfolding spelled be_bytes area_table
+begins h rest = refl
+
 pub header_of-none : (block : List ℕ) → ((h : AreaHeader) → IsArea block h → ⊥) → header_of block ≡ None
 unfolding header_of
 header_of-none block none =
     let test : is_area block (area_in block) ≡ false = false_from (is_area block (area_in block)) (λ is. none (area_in block) (area_from block (area_in block) is)) in
     rw test refl
+
+pub header_of-zeros : header_of (zeros 512) ≡ None
+header_of-zeros = header_of-none (zeros 512) (λ h is.
+    let clash : 0 ≡ 86 = ap first_byte (is.is ∙ (split h).1) ∙ begins h (h.digest ++ (split h).0) in
+    absurd (omega (arith, clash)))

@@ -53,12 +53,12 @@ stands_by digest now was = by_digest (bytes_eq (digest_of now) digest) refl
 abbrev with_headers : List ℕ → List ℕ → Disk
 with_headers v w b = if nat_lt b area_b then v else w
 
-module _ {C : Type 0} (reads : List ℕ → Option C) where
+module _ {C : Type 0} (reads : ℕ → List ℕ → Option C) where
   under_serial : (d : Disk) (area : ℕ) (h : AreaHeader) (o : Option AreaHeader) → o ≡ Some h → HasSerial h.serial (copy_under reads d area o)
   under_serial d area h None is = absurd cc
   under_serial d area h (Some g) is =
       let same : g ≡ h = cc in
-      subst (λ (k : AreaHeader). HasSerial k.serial (copy_with reads area g (body_of d area g.length))) same (judged_serial area g (body_of d area g.length) (reads (body_of d area g.length)) (bytes_eq (digest_of (body_of d area g.length)) g.digest))
+      subst (λ (k : AreaHeader). HasSerial k.serial (copy_with reads area g (body_of d area g.length))) same (judged_serial area g (body_of d area g.length) (reads g.serial (body_of d area g.length)) (bytes_eq (digest_of (body_of d area g.length)) g.digest))
 
   pub under_none : (d : Disk) (area : ℕ) (o : Option AreaHeader) → o ≡ None → copy_under reads d area o ≡ None
   under_none d area None is = refl
@@ -264,7 +264,7 @@ module _ {C : Type 0} (reads : List ℕ → Option C) where
       differs_copy : bytes_eq (digest_of (body_of d area g.length)) g.digest ≡ false
           → copy_at reads d area ≡ Some (record { serial = g.serial; area = area; body = Differs g.digest (digest_of (body_of d area g.length)) })
       differs_copy other =
-          under_with d area g (header_of (d area)) top.head ∙ ap (judged area g (body_of d area g.length) (reads (body_of d area g.length))) other
+          under_with d area g (header_of (d area)) top.head ∙ ap (judged area g (body_of d area g.length) (reads g.serial (body_of d area g.length))) other
 
       abbrev FromHeaders : List ℕ → List ℕ → Type 0
       FromHeaders v w = slots area_a v × slots area_b w × (target_of (header_of v) (header_of w) ≡ area)
@@ -406,10 +406,10 @@ module _ {C : Type 0} (reads : List ℕ → Option C) where
   judged_holds : (area : ℕ) (h : AreaHeader) (body : List ℕ) (c : C) (o : Option C) (b : Bool) → o ≡ Some c → b ≡ true → judged area h body o b ≡ Some (record { serial = h.serial; area = area; body = Holds c })
   judged_holds area h body c o b got same = rw (got, same) refl
 
-  pub under_holds : (d : Disk) (area : ℕ) (h : AreaHeader) (c : C) (o : Option AreaHeader) → o ≡ Some h → digest_of (body_of d area h.length) ≡ h.digest → reads (body_of d area h.length) ≡ Some c
+  pub under_holds : (d : Disk) (area : ℕ) (h : AreaHeader) (c : C) (o : Option AreaHeader) → o ≡ Some h → digest_of (body_of d area h.length) ≡ h.digest → reads h.serial (body_of d area h.length) ≡ Some c
       → copy_under reads d area o ≡ Some (record { serial = h.serial; area = area; body = Holds c })
   under_holds d area h c o is digest got =
-      rw is (judged_holds area h (body_of d area h.length) c (reads (body_of d area h.length)) (bytes_eq (digest_of (body_of d area h.length)) h.digest) got (alike (digest_of (body_of d area h.length)) h.digest digest))
+      rw is (judged_holds area h (body_of d area h.length) c (reads h.serial (body_of d area h.length)) (bytes_eq (digest_of (body_of d area h.length)) h.digest) got (alike (digest_of (body_of d area h.length)) h.digest digest))
 
   module _ (serial : ℕ) (slots : Slots) (lower : Lower serial slots) (d : Disk) (h : AreaHeader) (c : C) (late : serial ≤ h.serial) where
     other_below : (area : ℕ) → IsHeaderBlock area → slots area (d area) → (x : Copy C) → copy_at reads d area ≡ Some x → x.serial < h.serial
@@ -421,7 +421,7 @@ module _ {C : Type 0} (reads : List ℕ → Option C) where
 
     -- with the new header over its body in one area, and what stood there in the other
     pub becomes : (area : ℕ) → IsHeaderBlock area → ((a : ℕ) → IsHeaderBlock a → (a ≡ area → ⊥) → slots a (d a)) → header_of (d area) ≡ Some h
-        → digest_of (body_of d area h.length) ≡ h.digest → reads (body_of d area h.length) ≡ Some c → copy_of reads d ≡ Some (record { serial = h.serial; area = area; body = Holds c })
+        → digest_of (body_of d area h.length) ≡ h.digest → reads h.serial (body_of d area h.length) ≡ Some c → copy_of reads d ≡ Some (record { serial = h.serial; area = area; body = Holds c })
     becomes area (inl first) other head digest got =
         let x : Copy C = record { serial = h.serial; area = area; body = Holds c } in
         let here : copy_at reads d area ≡ Some x = under_holds d area h c (header_of (d area)) head digest got in

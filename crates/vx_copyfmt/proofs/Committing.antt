@@ -80,7 +80,7 @@ module _ {C : Type 0} (failed : C → ℕ → Bool) where
   old_misses (Some c) f readable g was out (Format v) answers wants = absurd answers
 
   -- what is found wants each disk that it holds as good
-  module _ (reads : List ℕ → Option C) where
+  module _ (reads : ℕ → List ℕ → Option C) where
     body_wants : (units : ℕ) (readable : ℕ → Bool) (disk area : ℕ) (b : Body C) (g : ℕ) → g < units → (c : C) → by_body failed units readable disk area b ≡ Found c → failed c g ≡ false → readable g ≡ true
     body_wants units readable disk area (Differs s t) g lt c is good = absurd cc
     body_wants units readable disk area (Holds x) g lt c is good = by_missing (missing (failed x) readable units) refl is
@@ -97,11 +97,11 @@ module _ {C : Type 0} (failed : C → ℕ → Bool) where
     labels_want units readable None o g lt c is good = newest_wants units readable o g lt c is good
     labels_want units readable (Some v) o g lt c is good = absurd cc
 
-  pub found_wants : (reads : List ℕ → Option C) (units : ℕ) (readable : ℕ → Bool) (i : Image) (g : ℕ) → g < units → (c : C) → import_of reads failed units readable i ≡ Found c → failed c g ≡ false → readable g ≡ true
+  pub found_wants : (reads : ℕ → List ℕ → Option C) (units : ℕ) (readable : ℕ → Bool) (i : Image) (g : ℕ) → g < units → (c : C) → import_of reads failed units readable i ≡ Found c → failed c g ≡ false → readable g ≡ true
   unfolding import_of
   found_wants reads units readable i g lt c is good = labels_want reads units readable (strange readable i units) (newest reads readable i units) g lt c is good
 
-  module _ (reads : List ℕ → Option C) (serial : ℕ) (f : C) (units : ℕ) (i : Image) (readable : ℕ → Bool) (labels : (u : ℕ) → u < units → is_label (seen_in (i u 0)) ≡ true) (written : Written reads failed serial f units i) where
+  module _ (reads : ℕ → List ℕ → Option C) (serial : ℕ) (f : C) (units : ℕ) (i : Image) (readable : ℕ → Bool) (labels : (u : ℕ) → u < units → is_label (seen_in (i u 0)) ≡ true) (written : Written reads failed serial f units i) where
     -- the greatest copy is the new one, or each disk so far that can be read is held as failed
     abbrev Top : ℕ → Type 0
     Top n =

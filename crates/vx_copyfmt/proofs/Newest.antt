@@ -62,7 +62,7 @@ module _ {C : Type 0} where
 
 -- ---- what is found hangs on the labels and the greatest copy
 
-module _ {C : Type 0} (reads : List ℕ → Option C) (failed : C → ℕ → Bool) where
+module _ {C : Type 0} (reads : ℕ → List ℕ → Option C) (failed : C → ℕ → Bool) where
   pub same_import : (units : ℕ) (readable : ℕ → Bool) (i j : Image) → strange readable i units ≡ strange readable j units → newest reads readable i units ≡ newest reads readable j units
       → import_of reads failed units readable i ≡ import_of reads failed units readable j
   unfolding import_of
@@ -88,12 +88,12 @@ pub record IsMade {C : Type 0} (begun : ℕ → C → Type 0) (x : Copy C) : Typ
   pub is : x ≡ record { serial = serial; area = area; body = Holds config }
 
 -- one disk beside one of before
-pub record Alike {C : Type 0} (reads : List ℕ → Option C) (begun : ℕ → C → Type 0) (slots : Slots) (d e : Disk) : Type 0 where
+pub record Alike {C : Type 0} (reads : ℕ → List ℕ → Option C) (begun : ℕ → C → Type 0) (slots : Slots) (d e : Disk) : Type 0 where
   pub among : Among slots e
   pub label : seen_in (d 0) ≡ seen_in (e 0)
   pub copies : (copy_of reads d ≡ copy_of reads e) ⊎ ((x : Copy C) × IsMade begun x × (copy_of reads d ≡ Some x))
 
-module _ {C : Type 0} (reads : List ℕ → Option C) (failed : C → ℕ → Bool) (begun : ℕ → C → Type 0) (s : ℕ) (late : (m : ℕ) (c : C) → begun m c → s ≤ m) where
+module _ {C : Type 0} (reads : ℕ → List ℕ → Option C) (failed : C → ℕ → Bool) (begun : ℕ → C → Type 0) (s : ℕ) (late : (m : ℕ) (c : C) → begun m c → s ≤ m) where
   -- the greatest copy is that of before, or one that was made since
   abbrev Tops : (ℕ → Bool) → Image → Image → ℕ → Type 0
   Tops readable i j n =

@@ -9,7 +9,7 @@ use Rattle.vx_copyfmt.specs.Imports.{Damaged, is_label, later, on_disk, strange,
 use Rattle.vx_copyfmt.specs.Commits.{FromOld, FromNew, Torn, Broken, Forged, Amid, FindsOld, FindsNew, NamesDamaged, Spoilt, Older}
 use Rattle.vx_copyfmt.proofs.Newest.{strange_same, amid_gives, same_format, same_import}
 
-module _ {C : Type 0} (reads : List ℕ → Option C) (failed : C → ℕ → Bool) where
+module _ {C : Type 0} (reads : ℕ → List ℕ → Option C) (failed : C → ℕ → Bool) where
   import_damaged : (units : ℕ) (readable : ℕ → Bool) (i : Image) (x : ℕ × Copy C) (stored computed : List ℕ) → strange readable i units ≡ None → newest reads readable i units ≡ Some x → x.1.body ≡ Differs stored computed
       → import_of reads failed units readable i ≡ Damaged x.0 (suc x.1.area) stored computed
   unfolding import_of
@@ -206,7 +206,7 @@ module _ {C : Type 0} (reads : List ℕ → Option C) (failed : C → ℕ → Bo
 
 -- ---- the image with the torn disks as they were
 
-module _ {C : Type 0} (reads : List ℕ → Option C) (failed : C → ℕ → Bool) (begun : ℕ → C → Type 0) (disks : ℕ → Type 0) (units : ℕ) (leaves : Values) (i : Image) (amid : Amid reads begun disks units leaves i) where
+module _ {C : Type 0} (reads : ℕ → List ℕ → Option C) (failed : C → ℕ → Bool) (begun : ℕ → C → Type 0) (disks : ℕ → Type 0) (units : ℕ) (leaves : Values) (i : Image) (amid : Amid reads begun disks units leaves i) where
   abbrev disk_was : (u : ℕ) → FromOld reads (leaves u) (i u) ⊎ FromNew reads begun (leaves u) (i u) ⊎ (disks u × Torn reads (leaves u) (i u)) → Disk
   disk_was u (inl old) = i u
   disk_was u (inr (inl new)) = i u
@@ -261,7 +261,7 @@ module _ {C : Type 0} (reads : List ℕ → Option C) (failed : C → ℕ → Bo
   repaired_far far u b le = far_at u b (cases_lt u units) le (far u b le)
 
 -- an import finds what it might have found before, or what was made since, or is refused for a torn disk
-pub torn_gives : {C : Type 0} (reads : List ℕ → Option C) (failed : C → ℕ → Bool) (begun : ℕ → C → Type 0) (s : ℕ) → ((m : ℕ) (c : C) → begun m c → s ≤ m) → (disks : ℕ → Type 0) (units : ℕ) (leaves : Values) (i base : Image)
+pub torn_gives : {C : Type 0} (reads : ℕ → List ℕ → Option C) (failed : C → ℕ → Bool) (begun : ℕ → C → Type 0) (s : ℕ) → ((m : ℕ) (c : C) → begun m c → s ≤ m) → (disks : ℕ → Type 0) (units : ℕ) (leaves : Values) (i base : Image)
     → Amid reads begun disks units leaves i → Each leaves base → ((u b : ℕ) → units ≤ u → leaves u b (i u b)) → ((u : ℕ) → u < units → Older reads s (leaves u)) → (readable : ℕ → Bool)
     → FindsOld reads failed units leaves readable i ⊎ FindsNew reads failed begun units readable i ⊎ Spoilt reads failed disks units leaves readable i
 torn_gives {C} reads failed begun s late disks units leaves i base amid has far older readable =

@@ -31,7 +31,7 @@ module _ (old new : Slots) (sub : (b : ℕ) (v : List ℕ) → new b v → old b
     changed = forged.changed;
   }
 
-module _ {C : Type 0} (reads : List ℕ → Option C) (old new : Slots) (sub : (b : ℕ) (v : List ℕ) → new b v → old b v) where
+module _ {C : Type 0} (reads : ℕ → List ℕ → Option C) (old new : Slots) (sub : (b : ℕ) (v : List ℕ) → new b v → old b v) where
   pub counts_sub : Counts reads old → Counts reads new
   counts_sub counts d a h is among top = counts d a h is (λ b. sub b (d b) (among b)) top
 
@@ -67,7 +67,7 @@ module _ {C : Type 0} (reads : List ℕ → Option C) (old new : Slots) (sub : (
 pub lower_more : (s t : ℕ) (slots : Slots) → s ≤ t → Lower s slots → Lower t slots
 lower_more s t slots le lower a v h is in_v head = let lt : h.serial < s = lower a v h is in_v head in omega (arith, le, lt)
 
-module _ {C : Type 0} (reads : List ℕ → Option C) where
+module _ {C : Type 0} (reads : ℕ → List ℕ → Option C) where
   pub fit_more : (s t : ℕ) (slots : Slots) → s ≤ t → Fit reads s slots → Fit reads t slots
   fit_more s t slots le fit = record { counts = fit.counts; below = lower_more s t slots le fit.below }
 

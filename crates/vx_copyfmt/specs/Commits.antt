@@ -40,16 +40,16 @@ abbrev pub Lower : ℕ → Slots → Type 0
 Lower serial slots = (a : ℕ) (v : List ℕ) (h : AreaHeader) → IsHeaderBlock a → slots a v → header_of v ≡ Some h → h.serial < serial
 
 -- whatever a crash leaves of the disk, the greater header counts: its body is a configuration or has another digest
-abbrev pub Counts : {C : Type 0} → (List ℕ → Option C) → Slots → Type 0
+abbrev pub Counts : {C : Type 0} → (ℕ → List ℕ → Option C) → Slots → Type 0
 Counts {C} reads slots = (d : Disk) (a : ℕ) (h : AreaHeader) → IsHeaderBlock a → Among slots d → IsTop d a h → (x : Copy C) × (copy_at reads d a ≡ Some x)
 
 -- the disk is ready for a copy with this serial
-pub record Fit {C : Type 0} (reads : List ℕ → Option C) (serial : ℕ) (slots : Slots) : Type 0 where
+pub record Fit {C : Type 0} (reads : ℕ → List ℕ → Option C) (serial : ℕ) (slots : Slots) : Type 0 where
   pub counts : Counts reads slots
   pub below : Lower serial slots
 
 -- and whatever a crash leaves of both headers, it goes to the same area
-pub record Tidy {C : Type 0} (reads : List ℕ → Option C) (serial : ℕ) (slots : Slots) : Type 0 where
+pub record Tidy {C : Type 0} (reads : ℕ → List ℕ → Option C) (serial : ℕ) (slots : Slots) : Type 0 where
   pub fit : Fit reads serial slots
   pub goes : (v w x y : List ℕ) → slots area_a v → slots area_b w → slots area_a x → slots area_b y → target_of (header_of v) (header_of w) ≡ target_of (header_of x) (header_of y)
 
@@ -68,14 +68,14 @@ abbrev pub Mixed : Slots → ℕ → Disk → Type 0
 Mixed slots area d = (b : ℕ) → slots b (d b) ⊎ ((area + 1 ≤ b) × (b ≤ area + 127))
 
 -- the disk has the label and the copy of one that a crash before the call might have left
-pub record FromOld {C : Type 0} (reads : List ℕ → Option C) (slots : Slots) (d : Disk) : Type 0 where
+pub record FromOld {C : Type 0} (reads : ℕ → List ℕ → Option C) (slots : Slots) (d : Disk) : Type 0 where
   pub disk : Disk
   pub among : Among slots disk
   pub label : seen_in (d 0) ≡ seen_in (disk 0)
   pub copy : copy_of reads d ≡ copy_of reads disk
 
 -- the disk has its label, and a copy that the call made
-pub record FromNew {C : Type 0} (reads : List ℕ → Option C) (begun : ℕ → C → Type 0) (slots : Slots) (d : Disk) : Type 0 where
+pub record FromNew {C : Type 0} (reads : ℕ → List ℕ → Option C) (begun : ℕ → C → Type 0) (slots : Slots) (d : Disk) : Type 0 where
   pub serial : ℕ
   pub config : C
   pub area : ℕ
@@ -98,7 +98,7 @@ pub record Forged (slots : Slots) (d : Disk) : Type 0 where
   pub changed : body_of d area header.length ≡ body_of disk area header.length → ⊥
 
 -- the greater copy of the disk has another digest than its header
-pub record Broken {C : Type 0} (reads : List ℕ → Option C) (serial : ℕ) (d : Disk) : Type 0 where
+pub record Broken {C : Type 0} (reads : ℕ → List ℕ → Option C) (serial : ℕ) (d : Disk) : Type 0 where
   pub area : ℕ
   pub stored : List ℕ
   pub computed : List ℕ
@@ -106,7 +106,7 @@ pub record Broken {C : Type 0} (reads : List ℕ → Option C) (serial : ℕ) (d
 
 -- The disk is one that a crash before the call might have left, but that a body was written into the area of its greater copy: the headers
 -- said of two areas that it was that of the lesser one. This is seen by the digest, unless the body that came of it has that of its header.
-pub record Torn {C : Type 0} (reads : List ℕ → Option C) (slots : Slots) (d : Disk) : Type 0 where
+pub record Torn {C : Type 0} (reads : ℕ → List ℕ → Option C) (slots : Slots) (d : Disk) : Type 0 where
   pub disk : Disk
   pub among : Among slots disk
   pub label : seen_in (d 0) ≡ seen_in (disk 0)
@@ -117,17 +117,17 @@ pub record Torn {C : Type 0} (reads : List ℕ → Option C) (slots : Slots) (d 
   pub now : Broken reads was.serial d ⊎ Forged slots d
 
 -- each disk below n is one or the other, or, where it is one of these, torn
-abbrev pub Amid : {C : Type 0} → (List ℕ → Option C) → (ℕ → C → Type 0) → (ℕ → Type 0) → ℕ → Values → Image → Type 0
+abbrev pub Amid : {C : Type 0} → (ℕ → List ℕ → Option C) → (ℕ → C → Type 0) → (ℕ → Type 0) → ℕ → Values → Image → Type 0
 Amid reads begun disks n leaves i = (u : ℕ) → u < n → FromOld reads (leaves u) (i u) ⊎ FromNew reads begun (leaves u) (i u) ⊎ (disks u × Torn reads (leaves u) (i u))
 
 -- an import finds what it might have found before the call
-pub record FindsOld {C : Type 0} (reads : List ℕ → Option C) (failed : C → ℕ → Bool) (units : ℕ) (leaves : Values) (readable : ℕ → Bool) (i : Image) : Type 0 where
+pub record FindsOld {C : Type 0} (reads : ℕ → List ℕ → Option C) (failed : C → ℕ → Bool) (units : ℕ) (leaves : Values) (readable : ℕ → Bool) (i : Image) : Type 0 where
   pub image : Image
   pub left : Each leaves image
   pub same : import_of reads failed units readable i ≡ import_of reads failed units readable image
 
 -- or a configuration that the call made, unless one of its disks is missing
-pub record FindsNew {C : Type 0} (reads : List ℕ → Option C) (failed : C → ℕ → Bool) (begun : ℕ → C → Type 0) (units : ℕ) (readable : ℕ → Bool) (i : Image) : Type 0 where
+pub record FindsNew {C : Type 0} (reads : ℕ → List ℕ → Option C) (failed : C → ℕ → Bool) (begun : ℕ → C → Type 0) (units : ℕ) (readable : ℕ → Bool) (i : Image) : Type 0 where
   pub serial : ℕ
   pub config : C
   pub made : begun serial config
@@ -142,12 +142,12 @@ NamesDamaged u (Damaged disk block stored computed) = disk ≡ u
 NamesDamaged u (Format version) = ⊥
 
 -- no copy that the import reads is later than this serial
-pub record NoneLater {C : Type 0} (reads : List ℕ → Option C) (units : ℕ) (readable : ℕ → Bool) (i : Image) (serial : ℕ) : Type 0 where
+pub record NoneLater {C : Type 0} (reads : ℕ → List ℕ → Option C) (units : ℕ) (readable : ℕ → Bool) (i : Image) (serial : ℕ) : Type 0 where
   pub each : (x : ℕ × Copy C) → newest reads readable i units ≡ Some x → x.1.serial ≤ serial
 
 -- An import reads one of these disks, and its greater copy is torn: the import is refused with 22 for it, unless the torn body has the digest
 -- of its header and no copy that is read is later.
-pub record Spoilt {C : Type 0} (reads : List ℕ → Option C) (failed : C → ℕ → Bool) (disks : ℕ → Type 0) (units : ℕ) (leaves : Values) (readable : ℕ → Bool) (i : Image) : Type 0 where
+pub record Spoilt {C : Type 0} (reads : ℕ → List ℕ → Option C) (failed : C → ℕ → Bool) (disks : ℕ → Type 0) (units : ℕ) (leaves : Values) (readable : ℕ → Bool) (i : Image) : Type 0 where
   pub disk : ℕ
   pub below : disk < units
   pub is : disks disk
@@ -156,7 +156,7 @@ pub record Spoilt {C : Type 0} (reads : List ℕ → Option C) (failed : C → �
   pub how : NamesDamaged disk (import_of reads failed units readable i) ⊎ (Forged (leaves disk) (i disk) × NoneLater reads units readable i torn.was.serial)
 
 -- no copy that a crash may leave on the disk has this serial or a greater one
-pub record Older {C : Type 0} (reads : List ℕ → Option C) (serial : ℕ) (slots : Slots) : Type 0 where
+pub record Older {C : Type 0} (reads : ℕ → List ℕ → Option C) (serial : ℕ) (slots : Slots) : Type 0 where
   pub below : (d : Disk) (x : Copy C) → Among slots d → copy_of reads d ≡ Some x → x.serial < serial
 
 -- this configuration is found, or one of the disks is missing, or no disk has a configuration
@@ -173,7 +173,7 @@ Answers None o = o ≡ NoConfig
 Answers (Some c) o = Gives c o
 
 -- whatever a crash leaves and whichever disks can be read, an import finds the committed configuration or is refused with 8 or 9
-pub record Committed {C : Type 0} (reads : List ℕ → Option C) (failed : C → ℕ → Bool) (units : ℕ) (held : Option C) (leaves : Values) : Type 0 where
+pub record Committed {C : Type 0} (reads : ℕ → List ℕ → Option C) (failed : C → ℕ → Bool) (units : ℕ) (held : Option C) (leaves : Values) : Type 0 where
   pub each : (i : Image) (readable : ℕ → Bool) → Each leaves i → Answers held (import_of reads failed units readable i)
 
 -- the disk is one that the committed configuration holds as good: each, where none was committed
@@ -182,6 +182,6 @@ IsGood failed None disk = Unit {0}
 IsGood failed (Some c) disk = failed c disk ≡ false
 
 -- each disk that the new configuration holds as good has its copy, and the others the copies of before, or earlier ones of the call
-pub record Written {C : Type 0} (reads : List ℕ → Option C) (failed : C → ℕ → Bool) (serial : ℕ) (config : C) (units : ℕ) (i : Image) : Type 0 where
+pub record Written {C : Type 0} (reads : ℕ → List ℕ → Option C) (failed : C → ℕ → Bool) (serial : ℕ) (config : C) (units : ℕ) (i : Image) : Type 0 where
   pub new : (u : ℕ) → u < units → failed config u ≡ false → (area : ℕ) × (copy_of reads (i u) ≡ Some (record { serial = serial; area = area; body = Holds config }))
   pub older : (u : ℕ) (x : Copy C) → u < units → failed config u ≡ true → copy_of reads (i u) ≡ Some x → x.serial < serial

@@ -1,4 +1,4 @@
--- The copies of the configuration on a disk. What a body is read as is a parameter: nothing where it is no configuration of these disks.
+-- The copies of the configuration on a disk. What a body is read as behind a header of some serial is a parameter: nothing where it is no configuration of these disks and of this serial.
 use Rattle.std.specs.Prelude.{ℕ, zero, suc, ◌+◌, Bool, true, false, nat_lt, bytes_eq, if◌then◌else◌, Option, Some, None, List, [], ◌++◌, take}
 use Rattle.vx_wire.specs.Seals.{digest_of}
 use Rattle.vx_copyfmt.specs.Areas.{header_of}
@@ -51,9 +51,9 @@ abbrev pub judged : {C : Type 0} → ℕ → AreaHeader → List ℕ → Option 
 judged area h body read true = holding area h.serial read
 judged area h body read false = Some (record { serial = h.serial; area = area; body = Differs h.digest (digest_of body) })
 
-module _ {C : Type 0} (reads : List ℕ → Option C) where
+module _ {C : Type 0} (reads : ℕ → List ℕ → Option C) where
   abbrev pub copy_with : ℕ → AreaHeader → List ℕ → Option (Copy C)
-  copy_with area h body = judged area h body (reads body) (bytes_eq (digest_of body) h.digest)
+  copy_with area h body = judged area h body (reads h.serial body) (bytes_eq (digest_of body) h.digest)
 
   abbrev pub copy_under : Disk → ℕ → Option AreaHeader → Option (Copy C)
   copy_under d area None = None

@@ -72,7 +72,7 @@ abbrev pub by_labels : {C : Type 0} → Option ℕ → Outcome C → Outcome C
 by_labels None outcome = outcome
 by_labels (Some version) outcome = Format version
 
-module _ {C : Type 0} (reads : List ℕ → Option C) where
+module _ {C : Type 0} (reads : ℕ → List ℕ → Option C) where
   -- the greatest copy on the disks below n that can be read and have a label: the lowest disk where several have it
   abbrev pub newest : (ℕ → Bool) → Image → ℕ → Option (ℕ × Copy C)
   newest readable i zero = None

@@ -4,15 +4,13 @@ ghost use Rattle.vx_copyfmt.specs.Areas.{area_table, area_fields, area_in, heade
 ghost use Rattle.vx_wire.specs.Places.{put_at};
 ghost use Rattle.vx_wire.specs.Seals.{filled};
 
+use vx_model::limits::MOST_NUMBER;
 use vx_wire::{
     Field, broken_seal, get_bytes, get_u32, get_u64, put_bytes, put_fields, put_zeros, seal,
 };
 
 /// The bytes "VXAREA01", with which the header of an area begins.
 pub const AREA_MAGIC: u64 = 0x5658415245413031;
-
-// The greatest serial.
-const GREATEST: u64 = 0x7fff_ffff_ffff_ffff;
 
 // The places of the fields, in the order in which they stand.
 const SERIAL: usize = 8;
@@ -76,7 +74,7 @@ fn is_spelled(h: &AreaHeader, block: &[u8; 512]) -> bool
 fn can_spell(h: &AreaHeader) -> bool
     ensures { IsTrue result ↔ CanSpellArea h.now }
 {
-    h.serial <= GREATEST && h.length > 0 && h.length <= 65024
+    h.serial <= MOST_NUMBER && h.length > 0 && h.length <= 65024
 }
 
 // What stands in the places of the fields, whether or not the block is a header.

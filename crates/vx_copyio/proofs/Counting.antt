@@ -8,17 +8,17 @@ use Rattle.vx_copyfmt.specs.Commits.{Broken, Counts, Fit, FromNew, FromOld, Slot
 use Rattle.vx_copyfmt.specs.declared.area.AreaHeader.{AreaHeader}
 use Rattle.vx_copyio.specs.Putting.{IsMade, those}
 
-module _ {C : Type 0} (reads : List ℕ → Option C) where
+module _ {C : Type 0} (reads : ℕ → List ℕ → Option C) where
   -- the bodies that are read as something
-  abbrev pub counts : List ℕ → Bool
-  counts body = is_some (reads body)
+  abbrev pub counts : ℕ → List ℕ → Bool
+  counts serial body = is_some (reads serial body)
 
   abbrev held_as : ℕ → ℕ → Option C → Option (Copy C)
   held_as serial area None = None
   held_as serial area (Some c) = Some (record { serial = serial; area = area; body = Holds c })
 
   abbrev with_body : ℕ → ℕ → Body (List ℕ) → Option (Copy C)
-  with_body serial area (Holds bytes) = held_as serial area (reads bytes)
+  with_body serial area (Holds bytes) = held_as serial area (reads serial bytes)
   with_body serial area (Differs stored computed) = Some (record { serial = serial; area = area; body = Differs stored computed })
 
   -- a copy with its body read
@@ -31,17 +31,17 @@ module _ {C : Type 0} (reads : List ℕ → Option C) where
   Kept None = Unit {0}
   Kept (Some x) = (y : Copy C) × (with_body x.serial x.area x.body ≡ Some y) × (y.serial ≡ x.serial)
 
-  under_body : (area : ℕ) (h : AreaHeader) (body : List ℕ) (o : Option C) → reads body ≡ o → (b : Bool)
+  under_body : (area : ℕ) (h : AreaHeader) (body : List ℕ) (o : Option C) → reads h.serial body ≡ o → (b : Bool)
       → (as_read (judged area h body (if is_some o then Some body else None) b) ≡ judged area h body o b) × Kept (judged area h body (if is_some o then Some body else None) b)
   under_body area h body None is true = (refl, tt)
   under_body area h body (Some c) is true =
-      let held : held_as h.serial area (reads body) ≡ held_as h.serial area (Some c) = ap (λ (o : Option C). held_as h.serial area o) is in
+      let held : held_as h.serial area (reads h.serial body) ≡ held_as h.serial area (Some c) = ap (λ (o : Option C). held_as h.serial area o) is in
       (held, (record { serial = h.serial; area = area; body = Holds c }, held, refl))
   under_body area h body o is false = (refl, (record { serial = h.serial; area = area; body = Differs h.digest (digest_of body) }, refl, refl))
 
   under : (d : Disk) (area : ℕ) (o : Option AreaHeader) → (as_read (copy_under (those counts) d area o) ≡ copy_under reads d area o) × Kept (copy_under (those counts) d area o)
   under d area None = (refl, tt)
-  under d area (Some h) = under_body area h (body_of d area h.length) (reads (body_of d area h.length)) refl (bytes_eq (digest_of (body_of d area h.length)) h.digest)
+  under d area (Some h) = under_body area h (body_of d area h.length) (reads h.serial (body_of d area h.length)) refl (bytes_eq (digest_of (body_of d area h.length)) h.digest)
 
   pub same_at : (d : Disk) (area : ℕ) → as_read (copy_at (those counts) d area) ≡ copy_at reads d area
   same_at d area = (under d area (header_of (d area))).0
@@ -149,7 +149,7 @@ module _ {C : Type 0} (reads : List ℕ → Option C) where
         now = elim torn.now [ inl broken ↦ inl (broken_read kept.0.serial torn.was.serial d kept.2 broken) | inr forged ↦ inr forged ];
       }
 
-  pub new_read : (begun : ℕ → C → Type 0) (h : AreaHeader) (body : List ℕ) (c : C) (slots : Slots) (d : Disk) → reads (take h.length body) ≡ Some c → begun h.serial c
+  pub new_read : (begun : ℕ → C → Type 0) (h : AreaHeader) (body : List ℕ) (c : C) (slots : Slots) (d : Disk) → reads h.serial (take h.length body) ≡ Some c → begun h.serial c
       → FromNew (those counts) (IsMade h body) slots d → FromNew reads begun slots d
   new_read begun h body c slots d is made from = record {
     serial = h.serial;
@@ -160,10 +160,11 @@ module _ {C : Type 0} (reads : List ℕ → Option C) where
     there = from.there;
     label = from.label;
     copy = sym (same_copy d) ∙ ap (λ (o : Option (Copy (List ℕ))). as_read o) from.copy
-        ∙ ap (λ (b : List ℕ). held_as from.serial from.area (reads b)) from.made.body_is ∙ ap (λ (o : Option C). held_as from.serial from.area o) is
+        ∙ ap (λ (n : ℕ). held_as from.serial from.area (reads n from.config)) from.made.serial_is
+        ∙ ap (λ (b : List ℕ). held_as from.serial from.area (reads h.serial b)) from.made.body_is ∙ ap (λ (o : Option C). held_as from.serial from.area o) is
         ∙ ap (λ (n : ℕ). Some (record { serial = n; area = from.area; body = Holds c })) from.made.serial_is;
   }
 
   -- a body that is read counts
-  pub read_counts : (body : List ℕ) (c : C) → reads body ≡ Some c → counts body ≡ true
-  read_counts body c is = ap (λ (o : Option C). is_some o) is
+  pub read_counts : (serial : ℕ) (body : List ℕ) (c : C) → reads serial body ≡ Some c → counts serial body ≡ true
+  read_counts serial body c is = ap (λ (o : Option C). is_some o) is

@@ -36,8 +36,8 @@ module _ (h : AreaHeader) (body : List ℕ) (can : CanSpellArea h) (fills : Fill
       let at : area + 1 + j - (area + 1) ≡ j = omega arith in
       has (area + 1 + j) (omega arith) (omega (arith, lt, len, at)) ∙ ap (λ (m : ℕ). take 512 (drop (512 * m) body)) at)
 
-  module _ (counts : List ℕ → Bool) (counted : counts (take h.length body) ≡ true) where
-    read_is : those counts (take h.length body) ≡ Some (take h.length body)
+  module _ (counts : ℕ → List ℕ → Bool) (counted : counts h.serial (take h.length body) ≡ true) where
+    read_is : those counts h.serial (take h.length body) ≡ Some (take h.length body)
     read_is = rw counted refl
 
     module _ (slots : Slots) (lower : Lower h.serial slots) (area : ℕ) (one : IsHeaderBlock area) (d : Disk) (head : d area ≡ area_block h) (has : HasBody area body d) where
@@ -50,8 +50,8 @@ module _ (h : AreaHeader) (body : List ℕ) (can : CanSpellArea h) (fills : Fill
       digest_there : digest_of (body_of d area h.length) ≡ h.digest
       digest_there = ap digest_of same_body ∙ sym digest
 
-      read_there : those counts (body_of d area h.length) ≡ Some (take h.length body)
-      read_there = ap (those counts) same_body ∙ read_is
+      read_there : those counts h.serial (body_of d area h.length) ≡ Some (take h.length body)
+      read_there = ap (those counts h.serial) same_body ∙ read_is
 
       -- with both it has the new copy
       pub new_copy : ((a : ℕ) → IsHeaderBlock a → (a ≡ area → ⊥) → slots a (d a)) → slots 0 (d 0) → FromNew (those counts) (IsMade h body) slots d
@@ -107,7 +107,7 @@ target_first None q h is less = refl
 target_first (Some g) q h is less = rw (is, lt-ltb g.serial h.serial (less g refl)) refl
 
 module _ (h : AreaHeader) (body : List ℕ) (can : CanSpellArea h) (fills : FillsBlocks body) (long : h.length ≤ length body) (digest : h.digest ≡ digest_of (take h.length body))
-    (counts : List ℕ → Bool) (counted : counts (take h.length body) ≡ true) (old new : Slots) (lower : Lower h.serial old) (area : ℕ) (one : IsHeaderBlock area) (landed : Landed area h body old new) where
+    (counts : ℕ → List ℕ → Bool) (counted : counts h.serial (take h.length body) ≡ true) (old new : Slots) (lower : Lower h.serial old) (area : ℕ) (one : IsHeaderBlock area) (landed : Landed area h body old new) where
   pub landed_new : (d : Disk) → Among new d → FromNew (those counts) (IsMade h body) old d
   landed_new d among =
       new_copy h body can fills long digest counts counted old lower area one d (landed.header (d area) (among area)) (λ b low high. landed.pieces b (d b) low high (among b))

@@ -12,9 +12,9 @@ use Rattle.vx_copyfmt.specs.Commits.{Among, Fit, Forged, FromNew, FromOld, Lower
 use Rattle.vx_copyfmt.specs.declared.area.AreaHeader.{AreaHeader}
 use Rattle.vx_copyio.specs.declared.spread.CopyFailed.{CopyFailed}
 
--- the bodies that count, as themselves
-abbrev pub those : (List ℕ → Bool) → List ℕ → Option (List ℕ)
-those counts body = if counts body then Some body else None
+-- the bodies that count behind a header of this serial, as themselves
+abbrev pub those : (ℕ → List ℕ → Bool) → ℕ → List ℕ → Option (List ℕ)
+those counts serial body = if counts serial body then Some body else None
 
 -- where the next copy of a disk goes, by what reads gave of both headers
 pub record IsTarget (disk area : ℕ) (m : Meaning) : Type 0 where
@@ -32,9 +32,9 @@ pub record IsMade (h : AreaHeader) (body : List ℕ) (serial : ℕ) (found : Lis
 -- Where a disk is ready for the new copy, and the new body counts, the disk has the copy of before or the new one, or that of before is torn;
 -- and it is ready for the next copy.
 pub record OldOrNew (disk : ℕ) (h : AreaHeader) (body : List ℕ) (m : Meaning) (d : Disk) : Type 0 where
-  pub each : (counts : List ℕ → Bool) → Fit (those counts) h.serial (m.leaves disk) → counts (take h.length body) ≡ true
+  pub each : (counts : ℕ → List ℕ → Bool) → Fit (those counts) h.serial (m.leaves disk) → counts h.serial (take h.length body) ≡ true
       → FromOld (those counts) (m.leaves disk) d ⊎ FromNew (those counts) (IsMade h body) (m.leaves disk) d ⊎ Torn (those counts) (m.leaves disk) d
-  pub fit : (counts : List ℕ → Bool) → Fit (those counts) h.serial (m.leaves disk) → counts (take h.length body) ≡ true
+  pub fit : (counts : ℕ → List ℕ → Bool) → Fit (those counts) h.serial (m.leaves disk) → counts h.serial (take h.length body) ≡ true
       → Tidy (those counts) (h.serial + 1) (exactly d) ⊎ Forged (m.leaves disk) d
 
 -- the same of the disk in an image
@@ -48,9 +48,9 @@ pub record LeavesOldOrNew (disk : ℕ) (h : AreaHeader) (body : List ℕ) (old n
 
 -- where no header has this serial or a greater one, whatever a crash leaves of the disk has the new copy, and the next one goes to one area
 pub record LeavesNew (disk : ℕ) (h : AreaHeader) (body : List ℕ) (old new : Meaning) : Type 0 where
-  pub each : (counts : List ℕ → Bool) (d : Disk) → Lower h.serial (old.leaves disk) → counts (take h.length body) ≡ true → Among (new.leaves disk) d
+  pub each : (counts : ℕ → List ℕ → Bool) (d : Disk) → Lower h.serial (old.leaves disk) → counts h.serial (take h.length body) ≡ true → Among (new.leaves disk) d
       → FromNew (those counts) (IsMade h body) (old.leaves disk) d
-  pub tidy : (counts : List ℕ → Bool) → Lower h.serial (old.leaves disk) → counts (take h.length body) ≡ true → Tidy (those counts) (h.serial + 1) (new.leaves disk)
+  pub tidy : (counts : ℕ → List ℕ → Bool) → Lower h.serial (old.leaves disk) → counts h.serial (take h.length body) ≡ true → Tidy (those counts) (h.serial + 1) (new.leaves disk)
 
 -- a crash leaves of the disk what it might have left before
 pub record LeavesSame (disk : ℕ) (old new : Meaning) : Type 0 where

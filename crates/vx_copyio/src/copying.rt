@@ -3,6 +3,7 @@ ghost use Rattle.std.specs.Prelude.{◌≡◌, ◌+◌, ◌<◌, ◌≤◌, ◌%
 ghost use Rattle.vx_copyfmt.specs.Areas.{CanSpellArea, area_block};
 ghost use Rattle.vx_copyfmt.specs.Commits.{IsHeaderBlock, target_of};
 ghost use Rattle.vx_copyio.specs.Putting.{InImage, IsTarget, LeavesNew, LeavesOldOrNew};
+ghost use Rattle.vx_disk.specs.Burns.{MakesCalls};
 ghost use Rattle.vx_disk.specs.Causes.{Cause};
 ghost use Rattle.vx_disk.specs.Moves.{Moves, Run};
 ghost use Rattle.vx_disk.specs.Shelf.{Goes, KeepsAll, Nothing, Written};
@@ -42,6 +43,7 @@ fn find_target<S: Shelf>(shelf: &mut S, disk: u32) -> Result<u64, ShelfError>
     ensures header { IfOk result IsHeaderBlock }
     ensures goes { Goes Nothing (S.meaning shelf.old) (S.meaning shelf.new) }
     ensures cause { Cause (S.meaning shelf.old) (S.meaning shelf.new) disk result }
+    ensures calls { OnOk result (MakesCalls 0 (S.meaning shelf.old) (S.meaning shelf.new)) }
 {
     let mut first = [0; 512];
     shelf.read(disk, AREA_A, &mut first)?;
@@ -63,6 +65,7 @@ fn put_header<S: Shelf>(
     ensures goes { Goes (Written disk area (area_block header.now)) (S.meaning shelf.old) (S.meaning shelf.new) }
     ensures kept { OnOk result (KeepsAll (S.meaning shelf.new) disk area (area_block header.now)) }
     ensures cause { Cause (S.meaning shelf.old) (S.meaning shelf.new) disk result }
+    ensures calls { OnOk result (MakesCalls 2 (S.meaning shelf.old) (S.meaning shelf.new)) }
 {
     let mut block = [0; 512];
     put_area(header, &mut block);
@@ -70,7 +73,7 @@ fn put_header<S: Shelf>(
 }
 
 /// Writes a copy to a disk: its body and then its header, each made durable, into the area that does not hold the greater
-/// header. The body is filled up to whole blocks, of which there are at most 127.
+/// header. The body is filled up to whole blocks, of which there are at most 127. These are four device calls: a write and a flush of each.
 ///
 /// At each moment of it a crash leaves the disk with the copy of before or with the new one; or with that of before torn, where its headers
 /// had several values, so that a read could not tell which was the greater one.
@@ -91,6 +94,7 @@ pub fn put_copy<S: Shelf>(
     ensures leaves { LeavesOldOrNew disk header.now body.now (S.meaning shelf.old) (S.meaning shelf.new) }
     ensures ok { OnOk result (LeavesNew disk header.now body.now (S.meaning shelf.old) (S.meaning shelf.new)) }
     ensures cause { Cause (S.meaning shelf.old) (S.meaning shelf.new) disk result }
+    ensures calls { OnOk result (MakesCalls 4 (S.meaning shelf.old) (S.meaning shelf.new)) }
 {
     let area = find_target(shelf, disk)?;
     put(shelf, disk, area + 1, body)?;

@@ -4,10 +4,14 @@
 //! begins at block 512. Blocks are 512 bytes. What a body says is no matter here.
 #![tactic(auto)]
 
+mod clearing;
 mod copying;
 mod labelling;
+mod settling;
 mod spread;
 
+pub use clearing::clear;
 pub use copying::{AREA_A, AREA_B, put_copy};
 pub use labelling::{are_large, label};
+pub use settling::settle;
 pub use spread::{CopyFailed, is_member, put_copies};

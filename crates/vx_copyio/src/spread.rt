@@ -1,10 +1,12 @@
 // The writing of copies to several disks.
-ghost use Rattle.std.specs.Prelude.{◌≡◌, ◌%◌, ◌≤◌, false, length, take, true, OnOk, IfErr};
+ghost use Rattle.std.specs.Prelude.{◌≡◌, ◌*◌, ◌%◌, ◌≤◌, false, length, take, true, OnOk, IfErr};
 ghost use Rattle.vx_copyfmt.specs.Areas.{CanSpellArea};
 ghost use Rattle.vx_copyio.specs.Labelling.{AreLarge};
 ghost use Rattle.vx_copyio.specs.Orders.{Ordered};
 ghost use Rattle.vx_copyio.specs.Putting.{AllNew, Copied, CopyStops, GoodFirst, IsMember, part_of};
 ghost use Rattle.vx_disk.specs.Blocks.{bit_at};
+ghost use Rattle.vx_disk.specs.Burns.{MakesCalls};
+ghost use Rattle.vx_disk.specs.Disks.{count_below};
 ghost use Rattle.vx_wire.specs.Seals.{digest_of};
 
 use crate::put_copy;
@@ -54,6 +56,7 @@ fn put_part<S: Shelf>(
     ensures copied { Copied (IsMember (part_of set good which) (S.meaning shelf.old).units) header.now body.now (S.meaning shelf.old) (S.meaning shelf.new) }
     ensures ok { OnOk result (AllNew (IsMember (part_of set good which) (S.meaning shelf.old).units) header.now body.now (S.meaning shelf.old) (S.meaning shelf.new)) }
     ensures stops { IfErr result (CopyStops (part_of set good which) (S.meaning shelf.old).units header.now body.now (S.meaning shelf.old) (S.meaning shelf.new)) }
+    ensures calls { OnOk result (MakesCalls (4 * count_below (part_of set good which) (S.meaning shelf.old).units) (S.meaning shelf.old) (S.meaning shelf.new)) }
 {
     for disk in 0..shelf.units() {
         if is_part(set, good, which, disk) {
@@ -67,7 +70,7 @@ fn put_part<S: Shelf>(
 }
 
 /// Writes a copy to each disk of a set: first to those that are members of the other set too, and then to the rest, each part in
-/// order. It stops at the first disk to which it cannot be written.
+/// order. It stops at the first disk to which it cannot be written. At Ok it was four device calls for each disk of the set.
 pub fn put_copies<S: Shelf>(
     shelf: &mut S,
     set: u8,
@@ -86,6 +89,7 @@ pub fn put_copies<S: Shelf>(
     ensures first { IfErr result (GoodFirst set good (S.meaning shelf.old).units header.now body.now (S.meaning shelf.old) (S.meaning shelf.new)) }
     ensures stops { IfErr result (CopyStops (bit_at set) (S.meaning shelf.old).units header.now body.now (S.meaning shelf.old) (S.meaning shelf.new)) }
     ensures order { Ordered (IsMember (part_of set good true) (S.meaning shelf.old).units) (IsMember (part_of set good false) (S.meaning shelf.old).units) header.now body.now (S.meaning shelf.old) (S.meaning shelf.new) }
+    ensures calls { OnOk result (MakesCalls (4 * count_below (bit_at set) (S.meaning shelf.old).units) (S.meaning shelf.old) (S.meaning shelf.new)) }
 {
     match put_part(shelf, set, good, true, header, body) {
         Ok(()) => {}

@@ -4,6 +4,7 @@ ghost use Rattle.vx_ringio.specs.Bodies.{IsBlocks};
 
 use std::alloc::Global;
 use vx_disk::{MemShelf, Rack, Shelf};
+use vx_model::limits::{LEAST_BLOCKS, MOST_MEMORY_BLOCKS};
 use vx_model::{State, Units, VolumeUnits};
 use vx_rvg::Rvg;
 
@@ -22,8 +23,8 @@ fn three_units() -> Units
 
 /// A new group over three disks of so many blocks, with a fuse of so many writes and flushes.
 pub fn group(alloc: Global, disk: u64, fuse: u64) -> Option<Rvg<MemShelf>>
-    requires some { 8 ≤ disk }
-    requires few { disk ≤ 16384 }
+    requires some { LEAST_BLOCKS ≤ disk }
+    requires few { disk ≤ MOST_MEMORY_BLOCKS }
 {
     let Ok(mut shelf) = MemShelf::new(alloc, &[]) else {
         return None;

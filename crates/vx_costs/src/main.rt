@@ -1,5 +1,5 @@
 //! The program for bench/layers: `vx_costs COUNT` times so many writes of a group over a shelf in memory, and SHA-256 over the same
-//! bytes. Without a number it does nothing.
+//! records. Without a number it does nothing.
 #![tactic(auto)]
 
 mod groups;
@@ -12,6 +12,7 @@ use crate::groups::calls_of;
 use crate::times::{bringing, hashing, writing};
 use std::alloc::Global;
 use std::env;
+use vx_model::limits::{LEAST_BLOCKS, MOST_MEMORY_BLOCKS};
 
 // The number that the program was called with.
 fn wanted(rt: HostRuntime) -> Option<u64> {
@@ -32,8 +33,8 @@ fn wanted(rt: HostRuntime) -> Option<u64> {
 
 // Prints one line: nanoseconds and calls of a write, nanoseconds of its digest, and those in which it comes into its volume.
 fn line(rt: HostRuntime, alloc: Global, disk: u64, bytes: &[u8], count: u64)
-    requires some { 8 ≤ disk }
-    requires few { disk ≤ 16384 }
+    requires some { LEAST_BLOCKS ≤ disk }
+    requires few { disk ≤ MOST_MEMORY_BLOCKS }
     requires blocks { IsBlocks bytes.now }
 {
     let blocks = bytes.len() / 512;

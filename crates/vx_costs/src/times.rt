@@ -5,6 +5,7 @@ ghost use Rattle.vx_ringio.specs.Bodies.{IsBlocks};
 use crate::groups::{group, make_room, write};
 use std::alloc::Global;
 use std::time::{Duration, Instant};
+use vx_model::limits::{LEAST_BLOCKS, MOST_MEMORY_BLOCKS};
 use vx_wire::digest;
 
 // Nanoseconds, at most the greatest number.
@@ -16,8 +17,8 @@ fn nanos(time: Duration) -> u64 {
 
 /// Nanoseconds of the fastest of so many writes, or the greatest number where one failed.
 pub fn writing(rt: HostRuntime, alloc: Global, disk: u64, bytes: &[u8], count: u64) -> u64
-    requires some { 8 ≤ disk }
-    requires few { disk ≤ 16384 }
+    requires some { LEAST_BLOCKS ≤ disk }
+    requires few { disk ≤ MOST_MEMORY_BLOCKS }
     requires blocks { IsBlocks bytes.now }
 {
     let Some(mut rvg) = group(alloc, disk, u64::MAX) else {
@@ -42,7 +43,10 @@ pub fn writing(rt: HostRuntime, alloc: Global, disk: u64, bytes: &[u8], count: u
     least
 }
 
-/// Nanoseconds of the fastest of so many digests of these bytes.
+// The bytes of a record's header that its digest is of.
+const HEADER: [u8; 480] = [0x5a; 480];
+
+/// Nanoseconds of the fastest of so many digests of a record of these blocks: of the blocks, and of its header.
 pub fn hashing(rt: HostRuntime, bytes: &[u8], count: u64) -> u64 {
     let mut least = u64::MAX;
     let mut sum: u8 = 0;
@@ -51,7 +55,7 @@ pub fn hashing(rt: HostRuntime, bytes: &[u8], count: u64) -> u64 {
             return u64::MAX;
         };
         // A digest that is not looked at could be left out by the compiler.
-        sum ^= digest(bytes)[0];
+        sum ^= digest(bytes)[0] ^ digest(&HEADER)[0];
         let Ok(time) = start.elapsed(&rt) else {
             return u64::MAX;
         };
@@ -62,8 +66,8 @@ pub fn hashing(rt: HostRuntime, bytes: &[u8], count: u64) -> u64 {
 
 /// Nanoseconds in which one of the writes of a full log comes into its volume, and is given up. They lie one behind the other.
 pub fn bringing(rt: HostRuntime, alloc: Global, disk: u64, bytes: &[u8]) -> u64
-    requires some { 8 ≤ disk }
-    requires few { disk ≤ 16384 }
+    requires some { LEAST_BLOCKS ≤ disk }
+    requires few { disk ≤ MOST_MEMORY_BLOCKS }
     requires blocks { IsBlocks bytes.now }
 {
     let Some(mut rvg) = group(alloc, disk, u64::MAX) else {

@@ -1,5 +1,6 @@
 // A write and a flush.
 ghost use Rattle.std.specs.Prelude.{length, OnOk};
+ghost use Rattle.vx_disk.specs.Burns.{MakesCalls};
 ghost use Rattle.vx_disk.specs.Causes.{Cause};
 ghost use Rattle.vx_disk.specs.Shelf.{Fits, Goes, Written, HoldsAll, KeepsAll};
 
@@ -13,6 +14,7 @@ pub fn put<S: Shelf>(shelf: &mut S, unit: u32, block: u64, bytes: &[u8]) -> Resu
     ensures kept { OnOk result (KeepsAll (S.meaning shelf.new) unit block bytes.now) }
     ensures holds { OnOk result (HoldsAll (S.meaning shelf.new) unit block bytes.now) }
     ensures cause { Cause (S.meaning shelf.old) (S.meaning shelf.new) unit result }
+    ensures calls { OnOk result (MakesCalls 2 (S.meaning shelf.old) (S.meaning shelf.new)) }
 {
     shelf.write(unit, block, bytes)?;
     shelf.flush(unit)

@@ -21,6 +21,7 @@ use Rattle.vx_node.specs.Holds.{HasWrites}
 use Rattle.vx_node.specs.Rooms.{AppliedAs}
 use Rattle.vx_node.specs.Fuses.{IsFused, HasFuse}
 use Rattle.vx_node.specs.Stands.{IsUpAt, IsHeldAt, StandsAt, faults_at}
+use Rattle.vx_node.proofs.Lasts.{rests_with, resting_found}
 use Rattle.vx_node.proofs.Staying.{told_now, never_both, left_moved, up_found, SameLog, up_with, held_moved, fused_by, fuse_moved}
 
 -- a log with nothing changed beside
@@ -41,7 +42,7 @@ module _ (n : Node) (c c' : Core) (m new : Meaning) (up : IsUpAt n c m) (can : C
   rested : (i : Image) → new.now i → HasWrites n i
   rested i now =
       let told : IsTrue m.tells = sym moves.tells ∙ told_now new i after now in
-      ⊎_elim (λ was. up.left i was) (λ resting. up_found n c m i up can.running told (resting.each n.base (up.content can.running told)))
+      ⊎_elim (λ was. up.left i was) (λ resting. up_found n c m i up can.running told (resting_found c n.log n.base m i resting (up.content can.running told)))
       (left_moved (Waits c m) (Resting c m) m new i lawful after moves now)
 
   fuse : HasFuse (burned n.fuse) new
@@ -51,7 +52,7 @@ module _ (n : Node) (c c' : Core) (m new : Meaning) (up : IsUpAt n c m) (can : C
   pub applied_up : IsFalse new.down → Rests c c' m new → (number k : ℕ) → c' ≡ with_applied c number k → IsUpAt (worked n) c' new
   applied_up still rests number k is =
       up_with n c c' m new n.halted (burned n.fuse) (Waits c m) (Resting c m) moves still fuse up (applied_log c number k c' is) (ap (λ (x : Core). x.halted) is ∙ up.halted) (λ none. none)
-      (λ none told. rests.each n.base (up.content none (sym moves.tells ∙ told))) rested
+      (λ none told. rests_with c c' n.log n.base m new rests (up.content none (sym moves.tells ∙ told))) rested
 
   -- or halted
   pub applied_halted : IsFalse new.down → (disk : ℕ) → Ended c (Some disk) c' → IsUpAt (halted_at n disk) c' new

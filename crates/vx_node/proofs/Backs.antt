@@ -1,22 +1,22 @@
 -- The racks as they come back from their engines.
 use Rattle.std.proofs.Common.{◌≡◌, ◌∙◌, ℕ, zero, suc, List, [], ◌∷◌, length, ap, sym, subst, refl, arith, IsTrue}
-use Rattle.std.specs.Prelude.{Option, Some, None, slice_get}
+use Rattle.std.specs.Prelude.{Option, Some, None, drop, slice_get, take}
 use Rattle.std.specs.Option.{option_and_then}
 use Rattle.vx_history.specs.World.{Node, World}
 use Rattle.vx_model.specs.declared.site.SiteState.TheVariants.{Bare as IsBare, Up as IsUp, Down as IsDown}
 use Rattle.vx_model.specs.declared.site.SiteState.{SiteState}
-use Rattle.vx_model.specs.Content.{Content}
+use Rattle.vx_model.specs.Content.{Content, Write, fold_writes}
 use Rattle.vx_disk.specs.Shelf.{Meaning, Lawful}
 use Rattle.vx_disk.specs.declared.shelf.Shelf.{Ghosts}
-use Rattle.vx_rvg.specs.Stands.{Found}
+use Rattle.vx_node.specs.Lasts.{FoundWith}
 use Rattle.vx_rvg.specs.Views.{Core}
 use Rattle.vx_node.specs.declared.engine.Engine.{Engine}
 use Rattle.vx_node.specs.declared.engine.Engine.TheVariants.{Bare, Spoiled, Up, Down, Gone}
 use Rattle.vx_node.specs.Holds.{Holds, raw_units, state_of, most_stamp, RacksHold, RacksTell, rack_count, rack_faults}
 use Rattle.vx_node.specs.Racks.{racks_in}
 use Rattle.vx_node.specs.Stands.{EnginesStand, StandsAt, IsUnused, IsBareAt, IsUpAt, IsDownAt, IsToldAt, AreTold, fault_count, faults_of}
-use Rattle.vx_node.proofs.Crashing.{left_found}
-use Rattle.vx_node.proofs.Staying.{told_now, durable_content}
+use Rattle.vx_node.proofs.Crashing.{left_with}
+use Rattle.vx_node.proofs.Staying.{all_taken, durable_content, told_now}
 use Rattle.std.proofs.lemmas.Bool.{cases_lt}
 use Rattle.std.proofs.Common.{⊎_elim}
 
@@ -35,8 +35,9 @@ down_holds n m lawful is = record {
     count = n.safe;
     least = omega arith;
     most = omega (arith, is.logged);
-    found = subst (λ (c : Content). Found (raw_units n.disks) n.ring (state_of n) n.session (most_stamp n) i n.safe c) (durable_content n)
-        (left_found (raw_units n.disks) n.ring (state_of n) n.session (most_stamp n) n.safe n.base m i lawful now (is.left (told_now m i lawful now)));
+    found = subst (λ (xs : List Write). FoundWith (raw_units n.disks) n.ring (state_of n) n.session (most_stamp n) i xs (fold_writes n.base (drop n.safe (take n.safe n.log)))) (all_taken n is.logged)
+        (subst (λ (c : Content). FoundWith (raw_units n.disks) n.ring (state_of n) n.session (most_stamp n) i n.log c) (durable_content n)
+        (left_with (raw_units n.disks) n.ring (state_of n) n.session (most_stamp n) n.log n.base m i lawful now (is.left (told_now m i lawful now))));
   };
 }
 

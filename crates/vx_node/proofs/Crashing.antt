@@ -16,10 +16,11 @@ use Rattle.vx_ringio.specs.Classes.{class_of, classes}
 use Rattle.vx_ringio.specs.Reading.{LeavesAs}
 use Rattle.vx_ringio.proofs.Following.{class_here, class_beyond, left_image}
 use Rattle.vx_ringlog.specs.Chain.{Recovers}
-use Rattle.vx_rvg.specs.Contents.{writes_of, HasSizes, KeepsContent, HasContent}
+use Rattle.vx_rvg.specs.Contents.{HasSizes}
+use Rattle.vx_rvg.specs.Holdings.{Holding}
 use Rattle.vx_rvg.specs.Stands.{Found, Left}
 use Rattle.vx_rvg.specs.Views.{Core, unit_of}
-use Rattle.vx_rvg.proofs.ContentFacts.{has_content}
+use Rattle.vx_rvg.proofs.ContentFacts.{has_content, has_maps}
 use Rattle.vx_disk.specs.declared.shelf.Shelf.{Ghosts}
 use Rattle.vx_node.specs.declared.engine.Engine.{Engine}
 use Rattle.vx_node.specs.declared.engine.Engine.TheVariants.{Up, Bare as IsBare, Down, Gone}
@@ -27,6 +28,8 @@ use Rattle.vx_rvg.specs.declared.group.Rvg.{Rvg}
 use Rattle.vx_node.specs.Engines.{CrashedAt, WroteUp, WroteAt, AppliedUp, AppliedAt, is_off}
 use Rattle.vx_model.specs.declared.no.No.{No}
 use Rattle.vx_model.specs.declared.no.No.TheVariants.{Device, Limit, Down as Off}
+use Rattle.vx_node.specs.Facts.{values_from}
+use Rattle.vx_node.specs.Lasts.{FoundWith, LeftWith}
 use Rattle.vx_node.specs.Holds.{HasWrites, raw_units, state_of, most_stamp}
 use Rattle.vx_node.specs.Stands.{IsUpAt, IsHeldAt, IsDownAt, CutAt, IsToldAt}
 use Rattle.vx_node.proofs.Staying.{held_up}
@@ -50,9 +53,24 @@ keeps_option : (m : Meaning) (u b : ℕ) (here bytes : List ℕ) (o : Option (Li
 keeps_option m u b here bytes (Some new) keeps is = is
 keeps_option m u b here bytes None keeps is = record { only = λ v left. keeps.only v left ∙ is }
 
-pub found_left : (units : Units) (ring : ℕ) (state : State) (session stamp last : ℕ) (c : Content) (m : Meaning) (i : Image) → IsTrue m.tells
-    → ((u b : ℕ) → Keeps m u b (i u b)) → HasSizes units.vols c m → Found units ring state session stamp i last c → Left units ring state session stamp last c m
-found_left units ring state session stamp last c m i tells one sizes found = record {
+value_there : (f : ℕ → List ℕ) (k n b : ℕ) (bytes : List ℕ) → slice_get (values_from f k n) b ≡ Some bytes → f (k + b) ≡ bytes
+value_there f k zero b bytes is = absurd (none_there is)
+  where
+    none_there : {A : Type 0} {x : A} → None ≡ Some x → ⊥
+    none_there e = cc
+value_there f k (suc n) zero bytes is = ap f (omega arith) ∙ same is
+  where
+    same : {A : Type 0} {x y : A} → Some x ≡ Some y → x ≡ y
+    same e = cc
+value_there f k (suc n) (suc b) bytes is = ap f (omega arith) ∙ value_there f (k + 1) n b bytes is
+
+-- with the blocks of the map unit as an image has them
+abbrev with_maps : Units → Meaning → Image → Holding → Holding
+with_maps units m i h = record { low = h.low; writes = h.writes; content = h.content; maps = values_from (λ b. i units.maps b) 0 (m.size units.maps) }
+
+found_left : (units : Units) (ring : ℕ) (state : State) (session stamp : ℕ) (h : Holding) (m : Meaning) (i : Image) → IsTrue m.tells
+    → ((u b : ℕ) → Keeps m u b (i u b)) → HasSizes units.vols h.content m → Found units ring state session stamp i h → Left units ring state session stamp (with_maps units m i h) m
+found_left units ring state session stamp h m i tells one sizes found = record {
   header = found.header;
   records = found.records;
   kinds = classes units.srl ring i;
@@ -66,18 +84,34 @@ found_left units ring state session stamp last c m i tells one sizes found = rec
   session_is = found.session_is;
   stamp_most = found.stamp_most;
   some = found.some;
-  last_is = found.last_is;
+  low_is = found.low_is;
+  writes_are = found.writes_are;
   sizes = sizes;
   content = record {
-    each = λ v b low. keeps_option m (unit_of units.vols v) b (i (unit_of units.vols v) b) (c.block v b) (newest_of c.size (writes_of found.records) v b)
+    each = λ v b low. keeps_option m (unit_of units.vols v) b (i (unit_of units.vols v) b) (h.content.block v b) (newest_of h.content.size h.writes v b)
         (one (unit_of units.vols v) b) (found.content.each v b low);
+  };
+  maps = record {
+    size = length-values_from (λ b. i units.maps b) 0 (m.size units.maps);
+    each = λ b bytes there.
+        let here : 0 + b ≡ b = omega arith in
+        let is : i units.maps (0 + b) ≡ bytes = value_there (λ b. i units.maps b) 0 (m.size units.maps) b bytes there in
+        subst (λ (v : List ℕ). Keeps m units.maps b v) (sym (ap (λ (k : ℕ). i units.maps k) here) ∙ is) (one units.maps b);
   };
 }
 
+pub found_left_with : (units : Units) (ring : ℕ) (state : State) (session stamp : ℕ) (xs : List Write) (c : Content) (m : Meaning) (i : Image) → IsTrue m.tells
+    → ((u b : ℕ) → Keeps m u b (i u b)) → HasSizes units.vols c m → FoundWith units ring state session stamp i xs c → LeftWith units ring state session stamp xs c m
+found_left_with units ring state session stamp xs c m i tells one sizes with = record {
+  held = with_maps units m i with.held;
+  has = record { some = with.has.some; last = with.has.last; writes = with.has.writes; content = with.has.content };
+  left = found_left units ring state session stamp with.held m i tells one (subst (λ (k : Content). HasSizes units.vols k m) (sym with.has.content) sizes) with.found;
+}
+
 -- and what is left says what each image has
-pub left_found : (units : Units) (ring : ℕ) (state : State) (session stamp last : ℕ) (c : Content) (m : Meaning) (i : Image) → Lawful m → m.now i
-    → Left units ring state session stamp last c m → Found units ring state session stamp i last c
-left_found units ring state session stamp last c m i lawful now left = record {
+pub left_found : (units : Units) (ring : ℕ) (state : State) (session stamp : ℕ) (h : Holding) (m : Meaning) (i : Image) → Lawful m → m.now i
+    → Left units ring state session stamp h m → Found units ring state session stamp i h
+left_found units ring state session stamp h m i lawful now left = record {
   header = left.header;
   records = left.records;
   recovers = subst (λ (k : ℕ → Kind). Recovers ring k left.header left.records) (λ j. λ b. same b j) left.recovers;
@@ -85,27 +119,18 @@ left_found units ring state session stamp last c m i lawful now left = record {
   session_is = left.session_is;
   stamp_most = left.stamp_most;
   some = left.some;
-  last_is = left.last_is;
-  content = has_content units.vols c (writes_of left.records) m i left.content (lawful.within i now);
+  low_is = left.low_is;
+  writes_are = left.writes_are;
+  content = has_content units.vols h.content h.writes m i left.content (lawful.within i now);
+  maps = has_maps units h.maps m i left.maps (λ b. lawful.within i now units.maps b);
 }
   where
     same : (b : ℕ) → left.kinds b ≡ classes units.srl ring i b
     same b = sym (left_image units.srl ring left.kinds m i left.leaves (lawful.within i now) b)
 
--- a greater stamp is one that no header has either
-pub found_below : (units : Units) (ring : ℕ) (state : State) (session stamp most last : ℕ) (c : Content) (i : Image) → stamp ≤ most
-    → Found units ring state session stamp i last c → Found units ring state session most i last c
-found_below units ring state session stamp most last c i le found = record {
-  header = found.header;
-  records = found.records;
-  recovers = found.recovers;
-  state_is = found.state_is;
-  session_is = found.session_is;
-  stamp_most = omega (arith, found.stamp_most, le);
-  some = found.some;
-  last_is = found.last_is;
-  content = found.content;
-}
+pub left_with : (units : Units) (ring : ℕ) (state : State) (session stamp : ℕ) (xs : List Write) (c : Content) (m : Meaning) (i : Image) → Lawful m → m.now i
+    → LeftWith units ring state session stamp xs c m → FoundWith units ring state session stamp i xs c
+left_with units ring state session stamp xs c m i lawful now with = record { held = with.held; has = with.has; found = left_found units ring state session stamp with.held m i lawful now with.left }
 
 -- ---- the sizes of a site's volumes
 
@@ -125,12 +150,31 @@ site_sizes disks blocks c m some size here none = record {
 
 -- ---- the crash of a site that is up
 
+-- a greater stamp is one that no header has either
+pub left_below : (units : Units) (ring : ℕ) (state : State) (session stamp most : ℕ) (h : Holding) (m : Meaning) → stamp ≤ most → Left units ring state session stamp h m → Left units ring state session most h m
+left_below units ring state session stamp most h m le left = record {
+  header = left.header;
+  records = left.records;
+  kinds = left.kinds;
+  leaves = left.leaves;
+  recovers = left.recovers;
+  state_is = left.state_is;
+  session_is = left.session_is;
+  stamp_most = omega (arith, left.stamp_most, le);
+  some = left.some;
+  low_is = left.low_is;
+  writes_are = left.writes_are;
+  sizes = left.sizes;
+  content = left.content;
+  maps = left.maps;
+}
+
 -- how many writes a crash kept, with what it left of them where contents are told
 record Kept (n : Node) (m : Meaning) : Type 0 where
   count : ℕ
   least : n.safe ≤ count
   most : count ≤ length n.log
-  left : IsTrue m.tells → Left (raw_units n.disks) n.ring (state_of n) n.session (most_stamp n) count (fold_writes n.base (drop n.safe (take count n.log))) m
+  left : IsTrue m.tells → LeftWith (raw_units n.disks) n.ring (state_of n) n.session (most_stamp n) (take count n.log) (fold_writes n.base (drop n.safe (take count n.log))) m
 
 module _ (n : Node) (m new : Meaning) (up : IsHeldAt n m) (lawful : Lawful new) (rack : IsRack new) (stopped : Stopped m new) where
   kept : (b : Bool) → new.tells ≡ b → Kept n new
@@ -141,7 +185,7 @@ module _ (n : Node) (m new : Meaning) (up : IsHeldAt n m) (lawful : Lawful new) 
         count = has.count;
         least = has.least;
         most = has.most;
-        left = λ _. found_left (raw_units n.disks) n.ring (state_of n) n.session (most_stamp n) has.count (fold_writes n.base (drop n.safe (take has.count n.log))) new i.0 tells
+        left = λ _. found_left_with (raw_units n.disks) n.ring (state_of n) n.session (most_stamp n) (take has.count n.log) (fold_writes n.base (drop n.safe (take has.count n.log))) new i.0 tells
             (λ u b. one_value new i.0 u b lawful rack stopped.down tells i.1)
             (site_sizes n.disks n.blocks (fold_writes n.base (drop n.safe (take has.count n.log))) new up.disks
             (λ u there. stopped.size u ∙ up.size u there)
@@ -186,20 +230,7 @@ module _ (n : Node) (m new : Meaning) (up : IsHeldAt n m) (lawful : Lawful new) 
           begun = λ tells. up.begun (sym stopped.tells ∙ tells);
           left = λ tells.
               let l = k.left tells in
-              record {
-                header = l.header;
-                records = l.records;
-                kinds = l.kinds;
-                leaves = l.leaves;
-                recovers = l.recovers;
-                state_is = l.state_is;
-                session_is = l.session_is;
-                stamp_most = omega (arith, l.stamp_most, k.least);
-                some = l.some;
-                last_is = l.last_is;
-                sizes = l.sizes;
-                content = l.content;
-              };
+              record { held = l.held; has = l.has; left = left_below (raw_units n.disks) n.ring (state_of n) n.session (most_stamp n) (most_stamp (crashed n k.count)) l.held new (omega (arith, k.least)) l.left };
         },
       )
 

@@ -1,6 +1,7 @@
 -- What stands after calls that change no contents, and of a raw set as it is made.
 use Rattle.std.proofs.Common.{◌≡◌, ◌∙◌, ◌+◌, ◌-◌, ◌<◌, ◌≤◌, ℕ, zero, suc, List, [], length, ap, ⊎_elim, sym, subst, refl, arith, Bool, true, false, IsTrue}
-use Rattle.std.specs.Prelude.{IsFalse, Option, Some, None, slice_get, codes, ◌++◌}
+use Rattle.std.specs.Prelude.{IsFalse, Option, Some, None, slice_get, codes, replicate, ◌++◌}
+use Rattle.std.proofs.lemmas.List.{length-replicate}
 use Rattle.vx_disk.specs.Causes.{WithDisks, OnDisks}
 use Rattle.vx_disk.specs.Disks.{Disks, Untouched, is_set}
 use Rattle.vx_disk.specs.Racks.{IsRack, Alike}
@@ -31,10 +32,12 @@ use Rattle.vx_node.specs.declared.engine.Engine.{Engine}
 use Rattle.vx_node.specs.declared.engine.Engine.TheVariants.{Spoiled}
 use Rattle.vx_node.specs.Engines.{MadeIs}
 use Rattle.std.specs.Prelude.{Err}
+use Rattle.vx_rvg.specs.Holdings.{nothing_logged}
 use Rattle.vx_rvg.specs.Stands.{Holds, Stands}
-use Rattle.vx_rvg.proofs.ContentFacts.{stands_found}
 use Rattle.vx_rvg.proofs.ReadStands.{rest_stands}
 use Rattle.vx_node.proofs.Crashing.{site_sizes}
+use Rattle.vx_node.specs.Lasts.{StandsWith}
+use Rattle.vx_node.proofs.Lasts.{stands_with, still_with}
 use Rattle.vx_node.proofs.Staying.{never_both, told_now, fitted_moved, stays_up, writes_found}
 use Rattle.vx_node.specs.Holds.{raw_units, state_of}
 use Rattle.vx_node.specs.Fuses.{HasFuse, LetsPass}
@@ -115,7 +118,7 @@ up_still n c m new goes now down fuse up =
       whole = up.whole;
       sizes = up.sizes;
       others = up.others;
-      content = λ none told. rest_stands c m new goes fitted.up n.base (up.content none (sym goes.tells ∙ told));
+      content = λ none told. still_with c c n.log n.base m new (rest_stands c m new goes fitted.up) (up.content none (sym goes.tells ∙ told));
       left = λ i is. up.left i (now i is);
     }
 
@@ -138,6 +141,9 @@ bare_moved n count m new moves bare = record {
 pub placed_raw : (disks : ℕ) (m : Meaning) → disks ≡ m.units → 3 ≤ disks → Placed (raw_units disks) m
 placed_raw disks m is some = record {
   log_exists = omega arith;
+  maps_exist = omega (arith, is, some);
+  maps_apart = λ same. omega (arith, same, some);
+  maps_aside = λ v there e. let at = unit_at v there in omega (arith, at, e, there, length-values_from (λ (j : ℕ). j) 1 (disks - 2));
   exist = λ v there. let at = unit_at v there in omega (arith, at, length-values_from (λ (j : ℕ). j) 1 (disks - 2), there, is);
   apart = λ v there e. let at = unit_at v there in omega (arith, at, e);
   distinct = λ v w v_there w_there e. let at = unit_at v v_there in let at' = unit_at w w_there in omega (arith, at, at', e);
@@ -179,8 +185,20 @@ first_spells site s is = subst (λ (t : State). CanSpellState t) (sym is) (recor
 raw_state : (site : ℕ) (n : Node) → n ≡ bare_site n.name n.disks n.blocks → first_state site ≡ state_of (raw_set site n)
 raw_state site n is = sym (ap (λ (k : Node). state_of (raw_set site k)) is)
 
--- the volumes of a bare site hold zeros
-raw_holds : (n : Node) (m : Meaning) → IsBareAt n m → 3 ≤ n.disks → Holds (raw_units n.disks).vols (raw_content n.disks n.blocks) m
+-- a block of zeros in a row of them
+one_of_all : (n b : ℕ) (bytes : List ℕ) → slice_get (replicate n zero_block) b ≡ Some bytes → (b < n) × (zero_block ≡ bytes)
+one_of_all zero b bytes is = absurd (none_there is)
+  where
+    none_there : {A : Type 0} {x : A} → None ≡ Some x → ⊥
+    none_there e = cc
+one_of_all (suc n) zero bytes is = (omega arith, same is)
+  where
+    same : {A : Type 0} {x y : A} → Some x ≡ Some y → x ≡ y
+    same e = cc
+one_of_all (suc n) (suc b) bytes is = let more = one_of_all n b bytes is in (omega (arith, more.0), more.1)
+
+-- the volumes and the maps of a bare site hold zeros
+raw_holds : (n : Node) (m : Meaning) → IsBareAt n m → 3 ≤ n.disks → Holds (raw_units n.disks) (raw_content n.disks n.blocks) (replicate n.blocks zero_block) m
 raw_holds n m bare some = record {
   sizes = site_sizes n.disks n.blocks (raw_content n.disks n.blocks) m some bare.fitted.size (raw_size n.disks n.blocks) (raw_none n.disks n.blocks);
   blocks = λ v b below. ⊎_elim
@@ -188,11 +206,17 @@ raw_holds n m bare some = record {
       (bare.blank (1 + v) b (omega arith) (omega (arith, in_set, some)) (omega (arith, below, raw_size n.disks n.blocks v in_set))))
       (λ past. absurd (omega (arith, below, raw_none n.disks n.blocks v past)))
       (cases_lt v (n.disks - 2));
+  maps_are = record {
+    size = length-replicate {A = List ℕ} n.blocks zero_block ∙ sym (bare.fitted.size (n.disks - 1) (omega (arith, some)));
+    each = λ b bytes there.
+        let one = one_of_all n.blocks b bytes there in
+        subst (λ (v : List ℕ). Keeps m (n.disks - 1) b v) one.1 (bare.blank (n.disks - 1) b (omega (arith, some)) (omega (arith, some)) one.0);
+  };
 }
 
 -- a raw set as it is made
 pub raw_stands : (site : ℕ) (n : Node) (c : Core) (m new : Meaning) → Lawful new → c.log.unit ≡ c.units.srl → IsBareAt n m → 3 ≤ n.disks → c ≡ new_core (raw_units n.disks) (first_state site) (ring_of (m.size 0))
-    → Moves (Run 0 0 (ring_of (m.size 0) + 2)) Anything m new → (IsTrue m.tells → (k : Content) → Holds (raw_units n.disks).vols k m → Stands c k new) → IsUpAt (raw_set site n) c new
+    → Moves (Run 0 0 (ring_of (m.size 0) + 2)) Anything m new → (IsTrue m.tells → (k : Content) (maps : List (List ℕ)) → Holds (raw_units n.disks) k maps m → Stands c (nothing_logged k maps) new) → IsUpAt (raw_set site n) c new
 raw_stands site n c m new lawful unit_is bare some is moves stands = record {
   state = refl;
   fitted = fitted_moved n.disks n.blocks (Run 0 0 (ring_of (m.size 0) + 2)) Anything m new moves bare.fitted (stays_up (Run 0 0 (ring_of (m.size 0) + 2)) Anything m new moves bare.unarmed bare.fitted.up);
@@ -224,7 +248,7 @@ raw_stands site n c m new lawful unit_is bare some is moves stands = record {
   left = λ i now.
       let told = told_now new i lawful now in
       writes_found (raw_set site n) c i (ap (λ (k : Core). k.units) is) ring_here kept_here (ap (λ (k : Core). k.log.header.incarnation) is)
-      (omega (arith, ap (λ (k : Core). k.log.header.stamp) is)) head_here (omega arith) (stands_found c (raw_content n.disks n.blocks) new i unit_is lawful (content told) now);
+      (omega (arith, ap (λ (k : Core). k.log.header.stamp) is)) refl (stands_with c [] (raw_content n.disks n.blocks) new i unit_is lawful (content told) now);
 }
   where
     ring_here : c.log.ring ≡ ring_of n.blocks
@@ -236,19 +260,23 @@ raw_stands site n c m new lawful unit_is bare some is moves stands = record {
     head_here : last_of c ≡ 0
     head_here = ap (λ (k : Core). last_of k) is
 
-    content : IsTrue new.tells → Stands c (raw_content n.disks n.blocks) new
-    content told = stands (sym moves.tells ∙ told) (raw_content n.disks n.blocks) (raw_holds n m bare some)
+    content : IsTrue new.tells → StandsWith c [] (raw_content n.disks n.blocks) new
+    content told = record {
+      held = nothing_logged (raw_content n.disks n.blocks) (replicate n.blocks zero_block);
+      has = record { some = omega arith; last = refl; writes = refl; content = refl };
+      stands = stands (sym moves.tells ∙ told) (raw_content n.disks n.blocks) (replicate n.blocks zero_block) (raw_holds n m bare some);
+    }
 
 -- the same with the units as they were made
 pub made_stands : (site d : ℕ) (n : Node) (c : Core) (units : Units) (state : State) (m new : Meaning) → units ≡ raw_units d → state ≡ first_state site → d ≡ m.units → Lawful new → c.log.unit ≡ c.units.srl
     → IsBareAt n m → 3 ≤ n.disks → c ≡ new_core units state (ring_of (m.size units.srl)) → Moves (Run units.srl 0 (ring_of (m.size units.srl) + 2)) Anything m new
-    → (IsTrue m.tells → (k : Content) → Holds units.vols k m → Stands c k new) → IsUpAt (raw_set site n) c new
+    → (IsTrue m.tells → (k : Content) (maps : List (List ℕ)) → Holds units k maps m → Stands c (nothing_logged k maps) new) → IsUpAt (raw_set site n) c new
 made_stands site d n c units state m new units_is state_is d_is lawful unit_is bare some core moves stands =
     let is : units ≡ raw_units n.disks = units_is ∙ ap raw_units (d_is ∙ bare.fitted.units) in
     raw_stands site n c m new lawful unit_is bare some
     (subst (λ (s : State). c ≡ new_core (raw_units n.disks) s (ring_of (m.size 0))) state_is (subst (λ (u : Units). c ≡ new_core u state (ring_of (m.size u.srl))) is core))
     (subst (λ (u : Units). Moves (Run u.srl 0 (ring_of (m.size u.srl) + 2)) Anything m new) is moves)
-    (subst (λ (u : Units). IsTrue m.tells → (k : Content) → Holds u.vols k m → Stands c k new) is stands)
+    (subst (λ (u : Units). IsTrue m.tells → (k : Content) (maps : List (List ℕ)) → Holds u k maps m → Stands c (nothing_logged k maps) new) is stands)
 
 module _ {R : Type 0} {g : Ghosts R} where
   -- a raw set that was not made

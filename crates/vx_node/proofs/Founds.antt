@@ -1,7 +1,7 @@
 -- What a write leaves of a site that is up.
 use Rattle.std.proofs.Common.{◌≡◌, ◌∙◌, ◌+◌, ◌-◌, ◌<◌, ◌≤◌, ℕ, zero, suc, List, [], ◌∷◌, ◌++◌, length, take, drop, ap, sym, subst, refl, arith, IsTrue, length-append}
 use Rattle.std.specs.Prelude.{Some, None}
-use Rattle.std.proofs.lemmas.List.{take-append-le}
+use Rattle.std.proofs.lemmas.List.{take-append-le, take_all}
 use Rattle.vx_model.specs.Content.{Content, Write, put, fold_writes}
 use Rattle.vx_history.specs.World.{Node}
 use Rattle.vx_history.specs.Steps.{logged, half_begun, burned}
@@ -9,14 +9,14 @@ use Rattle.vx_model.specs.declared.state.State.{State}
 use Rattle.vx_model.specs.declared.state.KeptLink.{KeptLink}
 use Rattle.vx_srlfmt.specs.declared.header.Header.{Header}
 use Rattle.vx_disk.specs.Shelf.{Meaning, Image, Lawful}
-use Rattle.vx_rvg.specs.Stands.{Found, FoundAs, Stands}
 use Rattle.vx_rvg.specs.Views.{Core, last_of}
-use Rattle.vx_rvg.proofs.ContentFacts.{stands_found}
 use Rattle.vx_node.specs.Engines.{halted_with, halted_at}
 use Rattle.vx_node.specs.Holds.{HasWrites, raw_units, state_of, state_with, most_stamp}
+use Rattle.vx_node.specs.Lasts.{FoundWith, StandsWith}
 use Rattle.vx_node.specs.Rooms.{IsRoomy}
 use Rattle.vx_node.specs.Fuses.{HasFuse, IsFirst, taken}
 use Rattle.vx_node.specs.Stands.{IsFitted, IsUpAt}
+use Rattle.vx_node.proofs.Lasts.{FoundOf, stands_with}
 use Rattle.vx_node.proofs.Staying.{told_now, found_same, writes_found, SameLog}
 
 last_pushed : (xs : List Write) (x : Write) → drop (length xs) (take (suc (length xs)) (xs ++ x ∷ [])) ≡ x ∷ []
@@ -37,7 +37,7 @@ has_begun n x i has = record {
   count = has.count;
   least = has.least;
   most = omega (arith, has.most, length-append n.log (x ∷ []));
-  found = subst (λ (ws : List Write). Found (raw_units n.disks) n.ring (state_of n) n.session (most_stamp n) i has.count (fold_writes n.base (drop n.safe ws)))
+  found = subst (λ (ws : List Write). FoundWith (raw_units n.disks) n.ring (state_of n) n.session (most_stamp n) i ws (fold_writes n.base (drop n.safe ws)))
       (sym (take-append-le has.count n.log (x ∷ []) has.most)) has.found;
 }
 
@@ -51,7 +51,7 @@ has_half n x disk i has = record {
   count = has.count;
   least = has.least;
   most = omega (arith, has.most, length-append n.log (x ∷ []));
-  found = subst (λ (ws : List Write). Found (raw_units n.disks) n.ring (state_of n) n.session (most_stamp n) i has.count (fold_writes n.base (drop n.safe ws)))
+  found = subst (λ (ws : List Write). FoundWith (raw_units n.disks) n.ring (state_of n) n.session (most_stamp n) i ws (fold_writes n.base (drop n.safe ws)))
       (sym (take-append-le has.count n.log (x ∷ []) has.most)) has.found;
 }
 
@@ -60,20 +60,19 @@ pub roomy_kept : (n : Node) (c : Core) (m : Meaning) → IsRoomy n c m → IsTru
 roomy_kept n c m roomy told = roomy.kept ∙ ap (λ (ls : List KeptLink). state_with n ls) (roomy.unlinked told)
 
 -- an image in a write that has it
-pub has_whole : (n : Node) (c : Core) (m : Meaning) (x : Write) (disk : ℕ) (i : Image) → IsRoomy n c m → IsTrue m.tells → length n.log ≡ n.safe → FoundAs c i (last_of c + 1) (put n.base x) → HasWrites (halted_with n x disk) i
+pub has_whole : (n : Node) (c : Core) (m : Meaning) (x : Write) (disk : ℕ) (i : Image) → IsRoomy n c m → IsTrue m.tells → length n.log ≡ n.safe → FoundOf c i (n.log ++ x ∷ []) (put n.base x) → HasWrites (halted_with n x disk) i
 has_whole n c m x disk i roomy told many found = record {
   count = n.safe + 1;
   least = omega arith;
   most = omega (arith, many, length-append n.log (x ∷ []));
   found = found_same c.units (raw_units n.disks) c.log.ring n.ring c.log.header.state (state_of n) c.log.header.incarnation n.session c.log.header.stamp (most_stamp n)
-      (last_of c + 1) (n.safe + 1) (put n.base x) (fold_writes n.base (drop n.safe (take (n.safe + 1) (n.log ++ x ∷ [])))) i
-      roomy.units roomy.ring (roomy_kept n c m roomy told) roomy.session (roomy.stamp told) (ap (λ (k : ℕ). k + 1) roomy.head) (content_pushed n x many) found;
+      (n.log ++ x ∷ []) (take (n.safe + 1) (n.log ++ x ∷ [])) (put n.base x) (fold_writes n.base (drop n.safe (take (n.safe + 1) (n.log ++ x ∷ [])))) i
+      roomy.units roomy.ring (roomy_kept n c m roomy told) roomy.session (roomy.stamp told) (sym (take_all (n.safe + 1) (n.log ++ x ∷ []) (omega (arith, many, length-append n.log (x ∷ []))))) (content_pushed n x many) found;
 }
 
 -- or that does not
-pub has_safe : (n : Node) (c : Core) (m : Meaning) (i : Image) → IsRoomy n c m → IsTrue m.tells → n.safe ≤ length n.log → FoundAs c i (last_of c) n.base → HasWrites n i
-has_safe n c m i roomy told logged found =
-    writes_found n c i roomy.units roomy.ring (roomy_kept n c m roomy told) roomy.session (roomy.stamp told) roomy.head logged found
+pub has_safe : (n : Node) (c : Core) (m : Meaning) (i : Image) → IsRoomy n c m → IsTrue m.tells → length n.log ≡ n.safe → FoundOf c i n.log n.base → HasWrites n i
+has_safe n c m i roomy told many found = writes_found n c i roomy.units roomy.ring (roomy_kept n c m roomy told) roomy.session (roomy.stamp told) many found
 
 never_none : {k : ℕ} → Some k ≡ None → ⊥
 never_none e = cc
@@ -150,7 +149,7 @@ module _ (n : Node) (x : Write) (disk : ℕ) where
 -- a site with one more write
 pub up_logged : (n : Node) (x : Write) (c0 c c' : Core) (m0 m new : Meaning) → IsUpAt n c0 m0 → n.halted ≡ None → IsRoomy n c m → Lawful new → c'.log.unit ≡ c'.units.srl → new.tells ≡ m.tells
     → IsFitted n.disks n.blocks new → HasFuse (burned n.fuse) new → (IsTrue new.tells → 0 < n.session) → (IsTrue new.tells → n.session ≡ 1 → taken (n.log ++ x ∷ []) ≤ n.ring → IsFirst c'.log (n.log ++ x ∷ [])) → c'.units ≡ c.units → c'.log.ring ≡ c.log.ring → c'.log.header ≡ c.log.header → c'.halted ≡ c.halted → last_of c' ≡ last_of c + 1
-    → (IsTrue new.tells → Stands c' (put n.base x) new) → IsUpAt (logged n x) c' new
+    → (IsTrue new.tells → StandsWith c' (n.log ++ x ∷ []) (put n.base x) new) → IsUpAt (logged n x) c' new
 up_logged n x c0 c c' m0 m new up none roomy lawful unit_is tells fitted fuse begun fresh units ring header halted head content = record {
   state = up.state;
   fitted = fitted;
@@ -182,8 +181,8 @@ up_logged n x c0 c c' m0 m new up none roomy lawful unit_is tells fitted fuse be
   left = λ i now.
       let told = told_now new i lawful now in
       writes_found (logged n x) c' i (units ∙ roomy.units) (ring ∙ roomy.ring) (ap (λ (h : Header). h.state) header ∙ roomy_kept n c m roomy (sym tells ∙ told))
-      (ap (λ (h : Header). h.incarnation) header ∙ roomy.session) (omega (arith, stamped told)) head_is (omega (arith, up.logged, length-append n.log (x ∷ [])))
-      (stands_found c' (put n.base x) new i unit_is lawful (content told) now);
+      (ap (λ (h : Header). h.incarnation) header ∙ roomy.session) (omega (arith, stamped told)) (omega (arith, up.logged, up.durable none, length-append n.log (x ∷ [])))
+      (stands_with c' (n.log ++ x ∷ []) (put n.base x) new i unit_is lawful (content told) now);
 }
   where
     stamped : IsTrue new.tells → c'.log.header.stamp + 1 ≤ most_stamp (logged n x)

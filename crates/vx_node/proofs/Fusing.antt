@@ -17,6 +17,7 @@ use Rattle.vx_overlay.specs.Writes.{newest_of}
 use Rattle.vx_order.specs.declared.facts.SiteFacts.{SiteFacts}
 use Rattle.vx_script.specs.declared.line.ScriptLine.TheVariants.{Fuse}
 use Rattle.vx_rvg.specs.Contents.{writes_of}
+use Rattle.vx_rvg.specs.Holdings.{Holding}
 use Rattle.vx_rvg.specs.Stands.{Stands}
 use Rattle.vx_rvg.specs.Views.{Core, IsSound, unit_of}
 use Rattle.vx_rvg.specs.declared.group.Rvg.{Rvg}
@@ -32,6 +33,7 @@ use Rattle.vx_node.specs.Stands.{IsUpAt, StandsAt, RoseAll, faults_of}
 use Rattle.vx_node.specs.Steps.{Cleanly, Works}
 use Rattle.vx_node.specs.Working.{Worked, IsFree}
 use Rattle.vx_node.specs.Yards.{YardStands, in_files, count_of}
+use Rattle.vx_node.proofs.Lasts.{still_with}
 use Rattle.vx_node.proofs.Falling.{stands_same, rose_still, fuse_fact}
 use Rattle.vx_node.proofs.Refused.{fuse_may}
 use Rattle.vx_node.proofs.Seats.{seated, named_fact, some_same}
@@ -50,9 +52,12 @@ keeps_each : (m new : Meaning) → Alike m new → (o : Option (List ℕ)) (u b 
 keeps_each m new alike (Some bytes) u b y is = is
 keeps_each m new alike None u b y keeps = keeps_alike m new alike u b y keeps
 
-alike_stands : (core : Core) (m new : Meaning) → Alike m new → (c : Content) → Stands core c m → Stands core c new
-alike_stands core m new alike c stands = record {
+alike_stands : (core : Core) (m new : Meaning) → Alike m new → (h : Holding) → Stands core h m → Stands core h new
+alike_stands core m new alike h stands = record {
   log = stands.log;
+  low = stands.low;
+  writes = stands.writes;
+  maps = record { size = stands.maps.size ∙ sym (alike.contents.size core.units.maps); each = λ b bytes there. keeps_alike m new alike core.units.maps b bytes (stands.maps.each b bytes there) };
   ready = record {
     ring = record {
       is_log = on.is_log;
@@ -68,10 +73,10 @@ alike_stands core m new alike c stands = record {
     whole = stands.ready.whole;
     sizes = record { each = λ v low. stands.ready.sizes.each v low ∙ sym (alike.contents.size (unit_of core.units.vols v)); none = stands.ready.sizes.none };
     content = record {
-      each = λ v b low. keeps_each m new alike (newest_of c.size (writes_of stands.log.held) v b) (unit_of core.units.vols v) b (c.block v b) (stands.ready.content.each v b low);
+      each = λ v b low. keeps_each m new alike (newest_of h.content.size (writes_of stands.log.held) v b) (unit_of core.units.vols v) b (h.content.block v b) (stands.ready.content.each v b low);
     };
     waiting = stands.ready.waiting;
-    settled = λ v b low none. keeps_alike m new alike (unit_of core.units.vols v) b (c.block v b) (stands.ready.settled v b low none);
+    settled = λ v b low none. keeps_alike m new alike (unit_of core.units.vols v) b (h.content.block v b) (stands.ready.settled v b low none);
   };
 }
   where
@@ -114,7 +119,7 @@ up_fused n c m new calls pick rack alike down disks up = record {
   whole = up.whole;
   sizes = up.sizes;
   others = up.others;
-  content = λ none told. alike_stands c m new alike n.base (up.content none (sym alike.contents.tells ∙ told));
+  content = λ none told. still_with c c n.log n.base m new (alike_stands c m new alike) (up.content none (sym alike.contents.tells ∙ told));
   left = λ i now. let has = up.left i (alike.contents.now i now) in record { count = has.count; least = has.least; most = has.most; found = has.found };
 }
 

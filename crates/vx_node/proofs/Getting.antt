@@ -17,10 +17,10 @@ use Rattle.vx_disk.specs.declared.shelf.Shelf.{Ghosts}
 use Rattle.vx_disk.proofs.Moving.{of_nothing}
 use Rattle.vx_rvg.specs.Contents.{Shows}
 use Rattle.vx_rvg.specs.Groups.{unless_halted, read_refusal, ReadIs, Reads}
+use Rattle.vx_rvg.specs.Holdings.{Holding}
 use Rattle.vx_rvg.specs.Stands.{Stands}
 use Rattle.vx_rvg.specs.Views.{Core, unit_of}
 use Rattle.vx_rvg.specs.declared.group.Rvg.{Rvg}
-use Rattle.vx_rvg.proofs.ContentFacts.{stands_found}
 use Rattle.vx_rvg.proofs.ReadStands.{rest_stands}
 use Rattle.vx_node.specs.declared.engine.Engine.{Engine}
 use Rattle.vx_node.specs.declared.engine.Engine.TheVariants.{Up}
@@ -28,6 +28,8 @@ use Rattle.vx_node.specs.Engines.{CanRead, ReadAt}
 use Rattle.vx_node.specs.Holds.{HasWrites, raw_units}
 use Rattle.vx_node.specs.Fuses.{HasFuse}
 use Rattle.vx_node.specs.Stands.{IsFitted, IsUpAt, StandsAt}
+use Rattle.vx_node.specs.Lasts.{StandsWith}
+use Rattle.vx_node.proofs.Lasts.{stands_with, still_with}
 use Rattle.vx_node.proofs.Engines.{fuse_untouched}
 use Rattle.vx_node.proofs.Staying.{told_now, never_both, fitted_moved, up_found, up_with}
 use Rattle.vx_node.proofs.Values.{slice_index-values_from}
@@ -53,13 +55,13 @@ module _ (n : Node) (c : Core) (m new : Meaning) (volume start count : ℕ) (byt
   fitted : IsFitted n.disks n.blocks new
   fitted = fitted_moved n.disks n.blocks Nowhere Anything m new moves up.fitted (down ∙ up.fitted.up)
 
-  content : IsTrue new.tells → Stands c n.base new
-  content told = rest_stands c m new goes fitted.up n.base (up.content can.running (sym goes.tells ∙ told))
+  content : IsTrue new.tells → StandsWith c n.log n.base new
+  content told = still_with c c n.log n.base m new (rest_stands c m new goes fitted.up) (up.content can.running (sym goes.tells ∙ told))
 
   left : (i : Image) → new.now i → HasWrites n i
   left i now =
       let told = told_now new i after now in
-      up_found n c m i up can.running (sym goes.tells ∙ told) (stands_found c n.base new i unit_is after (content told) now)
+      up_found n c m i up can.running (sym goes.tells ∙ told) (stands_with c n.log n.base new i unit_is after (content told) now)
 
   read_up : IsUpAt n c new
   read_up = up_with n c c m new n.halted n.fuse Nowhere Anything moves fitted.up fuse up (record { units = refl; ring = refl; header = refl; held = refl }) up.halted (λ none. none) (λ none told. content told) left
@@ -69,14 +71,19 @@ module _ (n : Node) (c : Core) (m new : Meaning) (volume start count : ℕ) (byt
       let at : unit_of c.units.vols volume ≡ 1 + volume = ap (λ (u : Units). unit_of u.vols volume) up.units ∙ slice_index-values_from 1 (n.disks - 2) volume can.volume_exists in
       ap m.size at ∙ up.fitted.size (1 + volume) (omega (arith, can.volume_exists))
 
-  by_reads : (result : Result (Unit {0}) No) → Reads m new result → OnOk result ((k : Content) → Stands c k m → IsTrue m.tells → Shows k volume start count bytes) → ReadAs n volume start count bytes c m new result
-  by_reads (Ok done) reads gives = ((λ told. gives n.base (up.content can.running (sym goes.tells ∙ told)) (sym goes.tells ∙ told)), read_up)
+  by_reads : (result : Result (Unit {0}) No) → Reads m new result → OnOk result ((h : Holding) → Stands c h m → IsTrue m.tells → Shows h.content volume start count bytes) → ReadAs n volume start count bytes c m new result
+  by_reads (Ok done) reads gives = (
+    (λ told.
+        let stood = up.content can.running (sym goes.tells ∙ told) in
+        subst (λ (k : Content). Shows k volume start count bytes) stood.has.content (gives stood.held stood.stands (sym goes.tells ∙ told))),
+    read_up,
+  )
   by_reads (Err (Device disk)) reads gives = (read_up, reads)
   by_reads (Err IsOff) reads gives = never_both new.down reads fitted.up
   by_reads (Err other) reads gives = reads
 
   pub read_as : (result : Result (Unit {0}) No) → ReadIs (read_refusal c (m.size (unit_of c.units.vols volume)) start count) m new result
-      → OnOk result ((k : Content) → Stands c k m → IsTrue m.tells → Shows k volume start count bytes) → ReadAs n volume start count bytes c m new result
+      → OnOk result ((h : Holding) → Stands c h m → IsTrue m.tells → Shows h.content volume start count bytes) → ReadAs n volume start count bytes c m new result
   read_as result is gives =
       let range = in_range (m.size (unit_of c.units.vols volume)) (start + count) (omega (arith, can.within, size)) in
       let refusal : read_refusal c (m.size (unit_of c.units.vols volume)) start count ≡ None
@@ -94,7 +101,7 @@ module _ {R : Type 0} {g : Ghosts R} where
   pub read_at : (n : Node) (volume start count : ℕ) (bytes : List ℕ) (old : Engine R g) (rvg new : Rvg R g) (result : Result (Unit {0}) No) → old ≡ Up rvg → StandsAt n old
       → CanRead n volume start count → Lawful (g.meaning rvg.shelf) → Lawful (g.meaning new.shelf) → new.core ≡ rvg.core
       → ReadIs (read_refusal rvg.core ((g.meaning rvg.shelf).size (unit_of rvg.core.units.vols volume)) start count) (g.meaning rvg.shelf) (g.meaning new.shelf) result
-      → OnOk result ((k : Content) → Stands rvg.core k (g.meaning rvg.shelf) → IsTrue (g.meaning rvg.shelf).tells → Shows k volume start count bytes)
+      → OnOk result ((h : Holding) → Stands rvg.core h (g.meaning rvg.shelf) → IsTrue (g.meaning rvg.shelf).tells → Shows h.content volume start count bytes)
       → Goes Nothing (g.meaning rvg.shelf) (g.meaning new.shelf) → (g.meaning new.shelf).down ≡ (g.meaning rvg.shelf).down
       → OnDisks (g.meaning rvg.shelf).disks (g.meaning new.shelf).disks Untouched → IsRack (g.meaning rvg.shelf) → IsRack (g.meaning new.shelf) → ReadAt n volume start count bytes old (Up new) result
   read_at n volume start count bytes old rvg new result is stands can lawful after same answers gives goes down disks rack rack' =

@@ -13,6 +13,7 @@ pub mod Founds
 pub mod Fusing
 pub mod Getting
 pub mod Goods
+pub mod Lasts
 pub mod Lists
 pub mod Logging
 pub mod News

@@ -3,7 +3,7 @@ use Rattle.std.proofs.Common.{◌≡◌, ◌∙◌, ◌⊎◌, inl, inr, ⊎_eli
 use Rattle.std.specs.Prelude.{IsFalse, Option, Some, None, Result, Ok, Err, OnOk, IsSome, leb, ltb, ◌&&◌, ◌||◌, if◌then◌else◌}
 use Rattle.std.proofs.lemmas.Bool.Decides.{nat_tests}
 use Rattle.vx_model.specs.Answer.{is_too_large}
-use Rattle.vx_model.specs.Content.{Content, Write, blocks_in, put}
+use Rattle.vx_model.specs.Content.{Write, blocks_in}
 use Rattle.vx_history.specs.Steps.{logged, half_begun, burned}
 use Rattle.vx_history.specs.World.{Node, Fuse}
 use Rattle.vx_model.specs.declared.no.No.{No}
@@ -19,9 +19,9 @@ use Rattle.vx_rvg.specs.declared.group.Rvg.{Rvg}
 use Rattle.vx_node.specs.declared.engine.Engine.{Engine}
 use Rattle.vx_node.specs.declared.engine.Engine.TheVariants.{Up}
 use Rattle.vx_rvg.specs.Groups.{Fails, Ended, unless_halted, write_refusal, WriteIs, Writes, with_write}
-use Rattle.vx_rvg.specs.Stands.{FoundAs, Writing, Stands}
+use Rattle.vx_rvg.specs.Holdings.{Holding, with_writes}
+use Rattle.vx_rvg.specs.Stands.{Writing, Stands}
 use Rattle.vx_rvg.specs.Views.{Core, IsSound, last_of, unit_of}
-use Rattle.vx_rvg.proofs.ContentFacts.{stands_found}
 use Rattle.vx_node.specs.Engines.{CanWrite, WroteUp, halted_with, worked, no_number}
 use Rattle.vx_node.specs.Holds.{HasWrites, raw_units, most_stamp}
 use Rattle.vx_node.specs.Rooms.{IsRoomy, RoomIs}
@@ -30,6 +30,7 @@ use Rattle.vx_node.specs.Stands.{IsFitted, IsUpAt, IsHeldAt}
 use Rattle.vx_node.proofs.Applying.{ended_log}
 use Rattle.vx_node.proofs.Exacting.{first_pushed, taken_many, taken_push}
 use Rattle.vx_node.proofs.Founds.{has_begun, half_begins, has_half, has_whole, has_safe, half_of, up_half, up_logged}
+use Rattle.vx_node.proofs.Lasts.{stands_with, write_with, writing_found}
 use Rattle.vx_node.proofs.Rooming.{rose_later}
 use Rattle.vx_node.proofs.Staying.{told_now, never_both, left_moved, fitted_moved, fused_by, fuse_moved, burned_twice, fused_before, SameLog}
 use Rattle.vx_node.proofs.Values.{slice_index-values_from}
@@ -72,7 +73,7 @@ pushed low held staged k first idle = omega (arith, first, idle, length-append h
 
 module _ (n : Node) (volume start : ℕ) (bytes : List ℕ) (c0 c c' : Core) (m0 m new : Meaning) (up : IsUpAt n c0 m0) (can : CanWrite n volume start (blocks_in bytes)) (roomy : IsRoomy n c m)
     (before : IsTrue m.tells → IsTrue m0.tells) (lawful : Lawful m) (after : Lawful new) (sound : IsSound c m) (sound' : IsSound c' new)
-    (moves : Moves (Run c.units.srl 0 (c.log.ring + 2)) (Writing c (record { volume = volume; start = start; bytes = bytes }) m) m new) where
+    (moves : Moves (Run c.units.srl 0 (c.log.ring + 2)) (Writing c (record { volume = volume; start = start; bytes = bytes } ∷ []) m) m new) where
   abbrev x : Write
   x = record { volume = volume; start = start; bytes = bytes }
 
@@ -114,24 +115,24 @@ module _ (n : Node) (volume start : ℕ) (bytes : List ℕ) (c0 c c' : Core) (m0
     sizes = up.sizes;
     others = up.others;
     content = λ _ told. roomy.content told;
-    left = λ i now. let told = told_now m i lawful now in let has = has_safe n c m i roomy told up.logged (stands_found c n.base m i sound.log_unit lawful (roomy.content told) now) in
+    left = λ i now. let told = told_now m i lawful now in let has = has_safe n c m i roomy told many (stands_with c n.log n.base m i sound.log_unit lawful (roomy.content told) now) in
         record { count = has.count; least = has.least; most = has.most; found = has.found };
   }
 
   fuse_new : HasFuse (burned n.fuse) new
-  fuse_new = subst (λ (f : Fuse). HasFuse f new) (burned_twice n.fuse) (fuse_moved (burned n.fuse) (Run c.units.srl 0 (c.log.ring + 2)) (Writing c x m) m new moves roomy.fuse)
+  fuse_new = subst (λ (f : Fuse). HasFuse f new) (burned_twice n.fuse) (fuse_moved (burned n.fuse) (Run c.units.srl 0 (c.log.ring + 2)) (Writing c (x ∷ []) m) m new moves roomy.fuse)
 
   -- what a crash leaves of a write that a disk ended
   half_left : (disk : ℕ) (i : Image) → new.now i → HasWrites (halted_with n x disk) i
   half_left disk i now =
       let told : IsTrue m.tells = sym moves.tells ∙ told_now new i after now in
       ⊎_elim
-      (λ was. has_half n x disk i (has_safe n c m i roomy told up.logged (stands_found c n.base m i sound.log_unit lawful (roomy.content told) was)))
+      (λ was. has_half n x disk i (has_safe n c m i roomy told many (stands_with c n.log n.base m i sound.log_unit lawful (roomy.content told) was)))
       (λ writing. ⊎_elim
-      (λ old. has_half n x disk i (has_safe n c m i roomy told up.logged old))
+      (λ old. has_half n x disk i (has_safe n c m i roomy told many old))
       (λ whole. has_whole n c m x disk i roomy told many whole)
-      (writing.each n.base (roomy.content told)))
-      (left_moved (Run c.units.srl 0 (c.log.ring + 2)) (Writing c x m) m new i lawful after moves now)
+      (writing_found c n.log x n.base m i writing (roomy.content told)))
+      (left_moved (Run c.units.srl 0 (c.log.ring + 2)) (Writing c (x ∷ []) m) m new i lawful after moves now)
 
   begun_new : IsTrue new.tells → 0 < n.session
   begun_new told = up.begun (before (sym moves.tells ∙ told))
@@ -139,7 +140,7 @@ module _ (n : Node) (volume start : ℕ) (bytes : List ℕ) (c0 c c' : Core) (m0
   -- its fuse ran out
   pub write_cut : IsTrue new.down → IsFused n.fuse × IsHeldAt (half_begun n x) new
   write_cut down = (
-    fused_before n.fuse (fused_by (burned n.fuse) (Run c.units.srl 0 (c.log.ring + 2)) (Writing c x m) m new moves roomy.fuse roomy.fitted.up down),
+    fused_before n.fuse (fused_by (burned n.fuse) (Run c.units.srl 0 (c.log.ring + 2)) (Writing c (x ∷ []) m) m new moves roomy.fuse roomy.fitted.up down),
     record {
       units = moves.units ∙ roomy.fitted.units;
       size = λ u there. moves.size u ∙ roomy.fitted.size u there;
@@ -166,9 +167,9 @@ module _ (n : Node) (volume start : ℕ) (bytes : List ℕ) (c0 c c' : Core) (m0
   -- the shelf is up behind it
   module _ (still : IsFalse new.down) (first : IsTrue m.tells → n.session ≡ 1 → taken n.log + (blocks_in bytes + 1) ≤ n.ring → IsFirst c.log n.log) where
     fitted_new : IsFitted n.disks n.blocks new
-    fitted_new = fitted_moved n.disks n.blocks (Run c.units.srl 0 (c.log.ring + 2)) (Writing c x m) m new moves roomy.fitted still
+    fitted_new = fitted_moved n.disks n.blocks (Run c.units.srl 0 (c.log.ring + 2)) (Writing c (x ∷ []) m) m new moves roomy.fitted still
 
-    by_writes : (result : Result ℕ No) → last_of c < most_number → Writes c volume start bytes m new c' result → OnOk result ((k : Content) → Stands c k m → Stands c' (put k x) new)
+    by_writes : (result : Result ℕ No) → last_of c < most_number → Writes c volume start bytes m new c' result → OnOk result ((h : Holding) → Stands c h m → Stands c' (with_writes (x ∷ []) h) new)
         → ((calls : ℕ) → IsTrue new.tells → IsExact n x calls → OnOk result (4 ≤ calls)) → WroteAs n x m c' new result
     by_writes (Ok number) below is stands exact = (
       is.0 ∙ ap (λ (k : ℕ). k + 1) roomy.head,
@@ -176,7 +177,7 @@ module _ (n : Node) (volume start : ℕ) (bytes : List ℕ) (c0 c c' : Core) (m0
       up_logged n x c0 c c' m0 m new up can.running roomy after sound'.log_unit moves.tells fitted_new fuse_new begun_new
           (λ told one room. first_pushed c c' n.log volume start bytes is.1 (sound.idle roomy.running roomy.fitted.up) (first (sym moves.tells ∙ told) one (let more = taken_push n.log x in omega (arith, room, more))))
           (ap (λ (k : Core). k.units) is.1) (ap (λ (k : Core). k.log.ring) is.1)
-          (ap (λ (k : Core). k.log.header) is.1) (ap (λ (k : Core). k.halted) is.1) (head_more is.1) (λ told. stands n.base (roomy.content (sym moves.tells ∙ told))),
+          (ap (λ (k : Core). k.log.header) is.1) (ap (λ (k : Core). k.halted) is.1) (head_more is.1) (λ told. write_with c c' n.log x n.base m new stands (roomy.content (sym moves.tells ∙ told))),
       exact,
     )
     by_writes (Err (Device disk)) below is stands exact = (up_half n x disk c0 c c' m0 m new up roomy moves.tells fitted_new fuse_new begun_new (ended_log c (Some disk) c' is.0) is.0.halted_is (half_left disk), is.1)
@@ -185,7 +186,7 @@ module _ (n : Node) (volume start : ℕ) (bytes : List ℕ) (c0 c c' : Core) (m0
     by_writes (Err other) below is stands exact = is
 
     by_number : (o : Option No) (result : Result ℕ No) → Number (last_of c) o → WriteIs o c volume start bytes m new c' result → (IsSome o → new ≡ m)
-        → OnOk result ((k : Content) → Stands c k m → Stands c' (put k x) new) → ((calls : ℕ) → IsTrue new.tells → IsExact n x calls → OnOk result (4 ≤ calls)) → WroteAs n x m c' new result
+        → OnOk result ((h : Holding) → Stands c h m → Stands c' (with_writes (x ∷ []) h) new) → ((calls : ℕ) → IsTrue new.tells → IsExact n x calls → OnOk result (4 ≤ calls)) → WroteAs n x m c' new result
     by_number o result (SomeLeft below is_none) is unchanged stands exact = by_writes result below (subst (λ (k : Option No). WriteIs k c volume start bytes m new c' result) is_none is) stands exact
     by_number o result (NoneLeft past is_some) is unchanged stands exact =
         let refused = subst (λ (k : Option No). WriteIs k c volume start bytes m new c' result) is_some is in
@@ -199,7 +200,7 @@ module _ (n : Node) (volume start : ℕ) (bytes : List ℕ) (c0 c c' : Core) (m0
     -- what a write answers
     pub written_as : (result : Result ℕ No) → WriteIs (write_refusal c (m.size (unit_of c.units.vols volume)) start (blocks_in bytes)) c volume start bytes m new c' result
         → (IsSome (write_refusal c (m.size (unit_of c.units.vols volume)) start (blocks_in bytes)) → new ≡ m)
-        → OnOk result ((k : Content) → Stands c k m → Stands c' (put k x) new) → ((calls : ℕ) → IsTrue new.tells → IsExact n x calls → OnOk result (4 ≤ calls)) → WroteAs n x m c' new result
+        → OnOk result ((h : Holding) → Stands c h m → Stands c' (with_writes (x ∷ []) h) new) → ((calls : ℕ) → IsTrue new.tells → IsExact n x calls → OnOk result (4 ≤ calls)) → WroteAs n x m c' new result
     written_as result is unchanged stands exact =
         let refusal : write_refusal c (m.size (unit_of c.units.vols volume)) start (blocks_in bytes) ≡ number_test (last_of c)
         = ap (λ (h : Option ℕ). unless_halted h (tests c.log.ring (m.size (unit_of c.units.vols volume)) start (blocks_in bytes) (last_of c))) roomy.running

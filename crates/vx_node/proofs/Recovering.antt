@@ -19,11 +19,11 @@ use Rattle.vx_disk.specs.Racks.{IsRack, Alike, Stopped}
 use Rattle.vx_disk.specs.Shelf.{Meaning, Image, Keeps, Lawful, Goes, Nothing}
 use Rattle.vx_overlay.specs.Writes.{newest_of}
 use Rattle.std.specs.Prelude.{MatchOption, Some, Err}
-use Rattle.vx_rvg.specs.Contents.{writes_of}
-use Rattle.vx_rvg.specs.Stands.{Found, Left, Stands}
+use Rattle.vx_rvg.specs.Holdings.{Holding}
+use Rattle.vx_rvg.specs.Stands.{Left}
 use Rattle.vx_rvg.specs.Starts.{IsStarted, Starting, StartCause, NothingLeft, ring_in}
 use Rattle.vx_rvg.specs.Views.{Core, Placed, last_of, unit_of}
-use Rattle.vx_rvg.proofs.ContentFacts.{stands_found}
+use Rattle.vx_rvg.proofs.ContentFacts.{stands_last}
 use Rattle.vx_srl.specs.Starts.{ReadsAtLimit}
 use Rattle.vx_srl.specs.Views.{most_number}
 use Rattle.vx_rvg.specs.declared.group.Rvg.{Rvg}
@@ -35,8 +35,10 @@ use Rattle.vx_node.specs.Engines.{SameDisks, CanStart, CameUp, CameUpIs, no_numb
 use Rattle.vx_node.specs.Holds.{HasWrites, raw_units, state_of, state_with, most_stamp}
 use Rattle.vx_node.specs.Fuses.{HasFuse}
 use Rattle.vx_node.specs.Stands.{IsUpAt, IsDownAt, StandsAt, faults_at}
-use Rattle.vx_node.proofs.Crashing.{one_value, found_left, left_found, found_below, site_sizes}
-use Rattle.vx_node.proofs.Staying.{not_true, never_both, told_now, left_moved, writes_found}
+use Rattle.vx_node.specs.Lasts.{FoundWith, LeftWith, StandsWith}
+use Rattle.vx_node.proofs.Crashing.{one_value, found_left_with, left_with, site_sizes}
+use Rattle.vx_node.proofs.Lasts.{stands_with}
+use Rattle.vx_node.proofs.Staying.{found_below, not_true, never_both, told_now, left_moved, writes_found}
 
 -- ---- calls that change no contents
 
@@ -45,9 +47,9 @@ keeps_less : (m new : Meaning) (u b : ℕ) (bytes : List ℕ) (o : Option (List 
 keeps_less m new u b bytes (Some x) less is = is
 keeps_less m new u b bytes None less keeps = record { only = λ v left. keeps.only v (less v left) }
 
-pub left_still : (units : Units) (ring : ℕ) (state : State) (session stamp last : ℕ) (c : Content) (m new : Meaning) → new.tells ≡ m.tells → ((u : ℕ) → new.size u ≡ m.size u)
-    → ((u b : ℕ) (v : List ℕ) → new.leaves u b v → m.leaves u b v) → Left units ring state session stamp last c m → Left units ring state session stamp last c new
-left_still units ring state session stamp last c m new tells size less left = record {
+pub left_still : (units : Units) (ring : ℕ) (state : State) (session stamp : ℕ) (h : Holding) (m new : Meaning) → new.tells ≡ m.tells → ((u : ℕ) → new.size u ≡ m.size u)
+    → ((u b : ℕ) (v : List ℕ) → new.leaves u b v → m.leaves u b v) → Left units ring state session stamp h m → Left units ring state session stamp h new
+left_still units ring state session stamp h m new tells size less left = record {
   header = left.header;
   records = left.records;
   kinds = left.kinds;
@@ -61,12 +63,21 @@ left_still units ring state session stamp last c m new tells size less left = re
   session_is = left.session_is;
   stamp_most = left.stamp_most;
   some = left.some;
-  last_is = left.last_is;
+  low_is = left.low_is;
+  writes_are = left.writes_are;
   sizes = record { each = λ v there. left.sizes.each v there ∙ sym (size (unit_of units.vols v)); none = left.sizes.none };
   content = record {
-    each = λ v b low. keeps_less m new (unit_of units.vols v) b (c.block v b) (newest_of c.size (writes_of left.records) v b) (less (unit_of units.vols v) b) (left.content.each v b low);
+    each = λ v b low. keeps_less m new (unit_of units.vols v) b (h.content.block v b) (newest_of h.content.size h.writes v b) (less (unit_of units.vols v) b) (left.content.each v b low);
+  };
+  maps = record {
+    size = left.maps.size ∙ sym (size units.maps);
+    each = λ b bytes there. record { only = λ v is. (left.maps.each b bytes there).only v (less units.maps b v is) };
   };
 }
+
+pub left_still_with : (units : Units) (ring : ℕ) (state : State) (session stamp : ℕ) (xs : List Write) (c : Content) (m new : Meaning) → new.tells ≡ m.tells → ((u : ℕ) → new.size u ≡ m.size u)
+    → ((u b : ℕ) (v : List ℕ) → new.leaves u b v → m.leaves u b v) → LeftWith units ring state session stamp xs c m → LeftWith units ring state session stamp xs c new
+left_still_with units ring state session stamp xs c m new tells size less with = record { held = with.held; has = with.has; left = left_still units ring state session stamp with.held m new tells size less with.left }
 
 -- a site that is down stays so
 pub down_still : (n : Node) (m new : Meaning) → Goes Nothing m new → new.down ≡ m.down → new.armed ≡ m.armed → IsDownAt n m → IsDownAt n new
@@ -88,7 +99,7 @@ down_still n m new goes down armed is = record {
   sizes = is.sizes;
   others = is.others;
   begun = λ tells. is.begun (sym goes.tells ∙ tells);
-  left = λ tells. left_still (raw_units n.disks) n.ring (state_of n) n.session (most_stamp n) n.safe n.base m new goes.tells goes.size
+  left = λ tells. left_still_with (raw_units n.disks) n.ring (state_of n) n.session (most_stamp n) n.log n.base m new goes.tells goes.size
       (λ u b v left. ⊎_elim (λ was. was) (λ none. absurd none) (goes.leaves u b v left)) (is.left (sym goes.tells ∙ tells));
 }
 
@@ -131,10 +142,10 @@ module _ (n : Node) (m up : Meaning) (is : IsDownAt n m) (alike : Alike m up) (r
   ring_here : ring_in units up ≡ n.ring
   ring_here = ap ring_of (alike.contents.size 0 ∙ is.size 0 (omega (arith, is.disks))) ∙ sym is.ring
 
-  left_up : IsTrue up.tells → Left units (ring_in units up) (state_of n) n.session (most_stamp n) n.safe n.base up
+  left_up : IsTrue up.tells → LeftWith units (ring_in units up) (state_of n) n.session (most_stamp n) n.log n.base up
   left_up tells =
-      subst (λ (r : ℕ). Left units r (state_of n) n.session (most_stamp n) n.safe n.base up) (sym ring_here)
-      (left_still units n.ring (state_of n) n.session (most_stamp n) n.safe n.base m up alike.contents.tells alike.contents.size alike.contents.leaves (is.left (sym alike.contents.tells ∙ tells)))
+      subst (λ (r : ℕ). LeftWith units r (state_of n) n.session (most_stamp n) n.log n.base up) (sym ring_here)
+      (left_still_with units n.ring (state_of n) n.session (most_stamp n) n.log n.base m up alike.contents.tells alike.contents.size alike.contents.leaves (is.left (sym alike.contents.tells ∙ tells)))
 
   module _ (new : Meaning) (lawful : Lawful up) (after : Lawful new)
       (moves : Moves (Run units.srl 0 (ring_in units up + 2)) (Starting units up) up new) where
@@ -147,7 +158,7 @@ module _ (n : Node) (m up : Meaning) (is : IsDownAt n m) (alike : Alike m up) (r
     -- with the log that a start took up
     started_up : (core : Core) (state : State) (session last : ℕ) (log : List Write) → (IsTrue new.tells → 1 < session) → IsStarted units up core new → core.log.header.state ≡ state → (IsTrue new.tells → state.links ≡ [])
         → core.log.header.incarnation ≡ session → (IsTrue new.tells → core.log.header.stamp + 1 ≤ most_stamp (found_site n state session last log)) → last_of core ≡ last → length log ≡ last
-        → (IsTrue new.tells → Stands core n.base new) → ((i : Image) → new.now i → HasWrites (found_site n state session last log) i)
+        → (IsTrue new.tells → StandsWith core log n.base new) → ((i : Image) → new.now i → HasWrites (found_site n state session last log) i)
         → IsUpAt (found_site n state session last log) core new
     started_up core state session last log begun started kept unlinked incarnation stamp head logged content left = record {
       state = refl;
@@ -190,14 +201,17 @@ module _ (n : Node) (m up : Meaning) (is : IsDownAt n m) (alike : Alike m up) (r
     came_by : (b : Bool) → new.tells ≡ b → (core : Core) → core.log.unit ≡ core.units.srl → IsStarted units up core new → Came n core new
     came_by true tells core unit_is started =
         let told : IsTrue up.tells = sym moves.tells ∙ tells in
-        let has = started.each (state_of n) n.session (most_stamp n) n.safe n.base (left_up told) in
+        let with = left_up told in
+        let has = started.each (state_of n) n.session (most_stamp n) with.held with.left in
+        let stood : StandsWith core n.log n.base new = record { held = with.held; has = with.has; stands = has.3 } in
+        let head : last_of core ≡ n.safe = (let last = stands_last core with.held new has.3 (omega (arith, started.applied)) in omega (arith, last, with.has.last, is.logged)) in
         record {
           node = recovered n;
           is = λ _. refl;
           same = same_disks (state_of n) (n.session + 1) n.safe n.log;
-          stands = started_up core (state_of n) (n.session + 1) n.safe n.log (λ _. let some = is.begun (sym alike.contents.tells ∙ told) in omega (arith, some)) started has.0 (λ _. refl) has.1 (λ _. omega (arith, has.2)) has.3 is.logged (λ _. has.4)
-              (λ i now. writes_found (recovered n) core i started.units_are (started.ring_is ∙ ring_here) has.0 has.1 (omega (arith, has.2)) has.3 (omega (arith, is.logged))
-              (stands_found core n.base new i unit_is after has.4 now));
+          stands = started_up core (state_of n) (n.session + 1) n.safe n.log (λ _. let some = is.begun (sym alike.contents.tells ∙ told) in omega (arith, some)) started has.0 (λ _. refl) has.1 (λ _. omega (arith, has.2)) head is.logged (λ _. stood)
+              (λ i now. writes_found (recovered n) core i started.units_are (started.ring_is ∙ ring_here) has.0 has.1 (omega (arith, has.2)) is.logged
+              (stands_with core n.log n.base new i unit_is after stood now));
         }
     came_by false untold core unit_is started = record {
       node = found_site n core.log.header.state core.log.header.incarnation (last_of core) (replicate (last_of core) nothing);
@@ -233,14 +247,14 @@ module _ (n : Node) (m up new last : Meaning) (is : IsDownAt n m) (alike : Alike
   told_up : IsTrue last.tells → IsTrue up.tells
   told_up tells = sym moves.tells ∙ sym stopped.tells ∙ tells
 
-  left_here : IsTrue last.tells → Left (raw_units n.disks) (ring_in (raw_units n.disks) up) (state_of n) n.session (most_stamp n) n.safe n.base up
+  left_here : IsTrue last.tells → LeftWith (raw_units n.disks) (ring_in (raw_units n.disks) up) (state_of n) n.session (most_stamp n) n.log n.base up
   left_here tells = left_up n m up is alike risen armed (told_up tells)
 
   begun_here : IsTrue last.tells → 0 < n.session
   begun_here tells = is.begun (sym alike.contents.tells ∙ told_up tells)
 
   -- down in a session, with what is left there where contents are told
-  down_with : (session : ℕ) → (IsTrue last.tells → 0 < session) → (IsTrue last.tells → Left (raw_units n.disks) n.ring (state_of n) session (most_stamp (record n { session = session })) n.safe n.base last)
+  down_with : (session : ℕ) → (IsTrue last.tells → 0 < session) → (IsTrue last.tells → LeftWith (raw_units n.disks) n.ring (state_of n) session (most_stamp (record n { session = session })) n.log n.base last)
       → IsDownAt (record n { session = session }) last
   down_with session begun left = record {
     state = is.state;
@@ -268,19 +282,23 @@ module _ (n : Node) (m up new last : Meaning) (is : IsDownAt n m) (alike : Alike
       let i = law.image tells in
       ⊎_elim
       (λ was. inl (down_with n.session begun_here (λ _. at n.session (most_stamp n) i.0 i.1
-      (left_found (raw_units n.disks) (ring_in (raw_units n.disks) up) (state_of n) n.session (most_stamp n) n.safe n.base up i.0 lawful was (left_here tells)))))
+      (left_with (raw_units n.disks) (ring_in (raw_units n.disks) up) (state_of n) n.session (most_stamp n) n.log n.base up i.0 lawful was (left_here tells)))))
       (λ starting. ⊎_elim
-      (λ old. inl (down_with n.session begun_here (λ _. at n.session (most_stamp n) i.0 i.1 old)))
+      (λ old. inl (down_with n.session begun_here (λ _. at n.session (most_stamp n) i.0 i.1 (record { held = (left_here tells).held; has = (left_here tells).has; found = old }))))
       (λ next. inr (down_with (n.session + 1) (λ _. omega arith) (λ _. at (n.session + 1) (most_stamp (record n { session = n.session + 1 })) i.0 i.1
-      (found_below (raw_units n.disks) (ring_in (raw_units n.disks) up) (state_of n) (n.session + 1) (most_stamp n + 3) (most_stamp (record n { session = n.session + 1 })) n.safe n.base i.0 (omega arith) next))))
-      (starting.each (state_of n) n.session (most_stamp n) n.safe n.base (left_here tells)))
+      (record {
+        held = (left_here tells).held;
+        has = (left_here tells).has;
+        found = found_below (raw_units n.disks) (ring_in (raw_units n.disks) up) (state_of n) (n.session + 1) (most_stamp n + 3) (most_stamp (record n { session = n.session + 1 })) i.0 (left_here tells).held (omega arith) next;
+      }))))
+      (starting.each (state_of n) n.session (most_stamp n) (left_here tells).held (left_here tells).left))
       (left_moved (Run (raw_units n.disks).srl 0 (ring_in (raw_units n.disks) up + 2)) (Starting (raw_units n.disks) up) up new i.0 lawful after moves (stopped.now i.0 i.1))
     where
-      at : (session stamp : ℕ) (i : Image) → last.now i → Found (raw_units n.disks) (ring_in (raw_units n.disks) up) (state_of n) session stamp i n.safe n.base
-          → Left (raw_units n.disks) n.ring (state_of n) session stamp n.safe n.base last
+      at : (session stamp : ℕ) (i : Image) → last.now i → FoundWith (raw_units n.disks) (ring_in (raw_units n.disks) up) (state_of n) session stamp i n.log n.base
+          → LeftWith (raw_units n.disks) n.ring (state_of n) session stamp n.log n.base last
       at session stamp i now found =
-          subst (λ (r : ℕ). Left (raw_units n.disks) r (state_of n) session stamp n.safe n.base last) (ring_here n m up is alike risen armed)
-          (found_left (raw_units n.disks) (ring_in (raw_units n.disks) up) (state_of n) session stamp n.safe n.base last i tells
+          subst (λ (r : ℕ). LeftWith (raw_units n.disks) r (state_of n) session stamp n.log n.base last) (ring_here n m up is alike risen armed)
+          (found_left_with (raw_units n.disks) (ring_in (raw_units n.disks) up) (state_of n) session stamp n.log n.base last i tells
           (λ u b. one_value last i u b law rack stopped.down tells now)
           (site_sizes n.disks n.blocks n.base last is.disks (λ u there. stopped.size u ∙ moves.size u ∙ alike.contents.size u ∙ is.size u there) is.sizes is.others) found)
   still_down false untold = inl (down_with n.session begun_here (λ tells. absurd (never_untold tells untold)))
@@ -293,23 +311,23 @@ module _ (n : Node) (m up new last : Meaning) (is : IsDownAt n m) (alike : Alike
   -- where something was left, no start finds that nothing was
   nothing_left : NothingLeft (raw_units n.disks) up → (IsTrue last.tells → ⊥) × IsDownAt n last
   nothing_left none =
-      let untold : IsTrue last.tells → ⊥ = λ tells. none (state_of n) n.session (most_stamp n) n.safe n.base (left_here tells) in
+      let untold : IsTrue last.tells → ⊥ = λ tells. none (state_of n) n.session (most_stamp n) (left_here tells).held (left_here tells).left in
       (untold, down_with n.session begun_here (λ tells. absurd (untold tells)))
 
   -- its disks were only read
   only_read : Goes Nothing up new → IsDownAt n last
   only_read goes = down_with n.session begun_here (λ tells.
-      subst (λ (r : ℕ). Left (raw_units n.disks) r (state_of n) n.session (most_stamp n) n.safe n.base last) (ring_here n m up is alike risen armed)
-      (left_still (raw_units n.disks) (ring_in (raw_units n.disks) up) (state_of n) n.session (most_stamp n) n.safe n.base up last (stopped.tells ∙ goes.tells) (λ u. stopped.size u ∙ goes.size u)
+      subst (λ (r : ℕ). LeftWith (raw_units n.disks) r (state_of n) n.session (most_stamp n) n.log n.base last) (ring_here n m up is alike risen armed)
+      (left_still_with (raw_units n.disks) (ring_in (raw_units n.disks) up) (state_of n) n.session (most_stamp n) n.log n.base up last (stopped.tells ∙ goes.tells) (λ u. stopped.size u ∙ goes.size u)
       (λ u b v left. ⊎_elim (λ was. was) (λ none. absurd none) (goes.leaves u b v (stopped.leaves u b v left))) (left_here tells)))
 
   pub refused_as : (why : No) → StartCause (raw_units n.disks) up new why → ReadsAtLimit up new why → RefusedAs n m last why
   refused_as NoConfig h read = nothing_left h.1
-  refused_as (Damaged u b stored computed) h read = nothing_left h.1
+  refused_as (Damaged u b stored computed) h read = nothing_left h.3
   refused_as (Limit what most) h read = (
     limit_same h.0 h.1,
     λ tells. ⊎_elim (λ (stamp : most_number ≤ most_stamp n + 2). stamp) (λ (session : most_number ≤ n.session). let more : most_number ≤ most_stamp n + 2 = omega arith in more)
-        (h.2 (state_of n) n.session (most_stamp n) n.safe n.base (left_here tells)),
+        (h.2 (state_of n) n.session (most_stamp n) (left_here tells).held (left_here tells).left),
     only_read read,
   )
   refused_as (Device disk) h read = (still_down last.tells refl, rose disk h)

@@ -18,7 +18,7 @@ use Rattle.vx_disk.specs.Shelf.{Meaning, Image, Lawful}
 use Rattle.vx_disk.specs.Moves.{Moves, Run}
 use Rattle.vx_rvg.specs.Groups.{ApplyIs, Fails, Ended, unless_halted}
 use Rattle.vx_rvg.specs.Saves.{SaveIs, Saves, reclaim_refusal, reclaimed, log_without}
-use Rattle.vx_rvg.specs.Stands.{FoundAs, Saving, Rests, Stands}
+use Rattle.vx_rvg.specs.Stands.{Retains, Saving}
 use Rattle.vx_rvg.specs.Views.{Core, IsSound, last_of}
 use Rattle.vx_node.specs.Engines.{no_number, halted_at, worked}
 use Rattle.vx_node.specs.Holds.{HasWrites, raw_units, state_of, most_stamp}
@@ -26,6 +26,7 @@ use Rattle.vx_node.specs.Rooms.{AppliedAs, IsRoomy, RoomIs}
 use Rattle.vx_node.specs.Fuses.{IsFused, HasFuse}
 use Rattle.vx_node.specs.Stands.{IsUpAt, IsHeldAt}
 use Rattle.vx_node.proofs.Applying.{ended_log}
+use Rattle.vx_node.proofs.Lasts.{retains_with, saving_with}
 use Rattle.vx_node.proofs.Staying.{told_now, never_both, left_moved, fitted_moved, kept_whole, up_found, writes_found, up_with, up_worked, held_moved, fused_by, fuse_moved, fuse_burned, burned_twice, fused_before}
 
 -- a log that uses no stamp
@@ -118,14 +119,21 @@ module _ (n : Node) (c : Core) (m : Meaning) (up : IsUpAt n c m) where
   log : Emptied c.log (log_without c.log n.safe) n.safe
   log = emptied c.log n.safe up.first up.head
 
+  many : n.halted ≡ None → length n.log ≡ n.safe
+  many none = omega (arith, up.logged, up.durable none)
+
+  -- its last write is the site's last one
+  pub last_here : n.halted ≡ None → (log_without c.log n.safe).header.low + length (log_without c.log n.safe).held ≡ length n.log + 1
+  last_here none = omega (arith, log.first, log.head, log.none, up.head, many none)
+
   -- an image in it has the site's writes
   pub saving_found : n.halted ≡ None → (i : Image) → IsTrue m.tells → Saving c (reclaimed c n.safe) m i → HasWrites n i
   saving_found none i told saving = ⊎_elim
       (λ old. up_found n c m i up none told old)
       (λ next. writes_found n (reclaimed c n.safe) i up.units (log.ring ∙ up.ring) (log.state ∙ kept_whole n c m up told) (log.incarnation ∙ up.session)
       (let t = up.stamp told none in ⊎_elim (λ (same : (log_without c.log n.safe).header.stamp ≡ c.log.header.stamp). omega (arith, t, same)) (λ (more : (c.log.header.low ≤ n.safe) × ((log_without c.log n.safe).header.stamp ≡ c.log.header.stamp + 1)). omega (arith, t, more.1)) log.stamp)
-      (log.head ∙ up.head) up.logged next)
-      (saving.each n.base (up.content none told))
+      (many none) next)
+      (saving_with c (reclaimed c n.safe) n.log n.base m log.first (last_here none) (omega (arith, log.none)) i saving (up.content none told))
 
 module _ (n : Node) (c c' : Core) (m new : Meaning) (up : IsUpAt n c m) (none : n.halted ≡ None) (lawful : Lawful m) (after : Lawful new)
     (moves : Moves (Run c.units.srl 0 (c.log.ring + 2)) (Saving c (reclaimed c n.safe) m) m new) (still : IsFalse new.down) where
@@ -133,8 +141,8 @@ module _ (n : Node) (c c' : Core) (m new : Meaning) (up : IsUpAt n c m) (none : 
   fuse_here = fuse_moved n.fuse (Run c.units.srl 0 (c.log.ring + 2)) (Saving c (reclaimed c n.safe) m) m new moves up.fuse
 
   -- the log gave up all that it held
-  pub roomy_reclaimed : c' ≡ reclaimed c n.safe → reclaim_no c.log.header.low c.log.header.stamp n.safe ≡ None → Rests c c' m new → IsRoomy n c' new
-  roomy_reclaimed is passed rests = subst (λ (k : Core). IsRoomy n k new) (sym is) (record {
+  pub roomy_reclaimed : c' ≡ reclaimed c n.safe → reclaim_no c.log.header.low c.log.header.stamp n.safe ≡ None → Retains c c' m new → IsRoomy n c' new
+  roomy_reclaimed is passed retains = subst (λ (k : Core). IsRoomy n k new) (sym is) (record {
     fitted = fitted_moved n.disks n.blocks (Run c.units.srl 0 (c.log.ring + 2)) (Saving c (reclaimed c n.safe) m) m new moves up.fitted still;
     fuse = fuse_here;
     units = up.units;
@@ -149,7 +157,9 @@ module _ (n : Node) (c c' : Core) (m new : Meaning) (up : IsUpAt n c m) (none : 
     stamp = λ told. let t = up.stamp (sym moves.tells ∙ told) none in ⊎_elim (λ (same : (log_without c.log n.safe).header.stamp ≡ c.log.header.stamp). omega (arith, t, same)) (λ (more : (c.log.header.low ≤ n.safe) × ((log_without c.log n.safe).header.stamp ≡ c.log.header.stamp + 1)). omega (arith, t, more.1)) (log n c m up).stamp;
     unused = λ told past. let t = up.stamp (sym moves.tells ∙ told) none in ⊎_elim (λ (same : (log_without c.log n.safe).header.stamp ≡ c.log.header.stamp). omega (arith, t, same))
         (λ more. absurd (passes c.log.header.low c.log.header.stamp n.safe passed more.0 past)) (log n c m up).stamp;
-    content = λ told. subst (λ (k : Core). Stands k n.base new) is (rests.each n.base (up.content none (sym moves.tells ∙ told)));
+    content = λ told.
+        retains_with c (reclaimed c n.safe) n.log n.base m (log n c m up).first (last_here n c m up none) (let few = (log n c m up).none in omega (arith, few)) new
+        (subst (λ (k : Core). Retains c k m new) is retains) (up.content none (sym moves.tells ∙ told));
   })
 
   -- and all its blocks are free
@@ -172,7 +182,7 @@ module _ (n : Node) (c c' : Core) (m new : Meaning) (up : IsUpAt n c m) (none : 
       never e = cc
 
   by_answer : (r : Option No) (result : Result (Unit {0}) No) → reclaim_no c.log.header.low c.log.header.stamp n.safe ≡ r → SaveIs r c (reclaimed c n.safe) m new c' result
-      → (IsSome r → new ≡ m) → OnOk result (Rests c c' m new) → RoomIs n m c' new result
+      → (IsSome r → new ≡ m) → OnOk result (Retains c c' m new) → RoomIs n m c' new result
   by_answer (Some why) (Ok done) r_is is unchanged rests = absurd (let e : Ok done ≡ Err why = is.0 in cc)
   by_answer (Some why) (Err answer) r_is is unchanged rests =
       let same : answer ≡ why = (let e : Err answer ≡ Err why = is.0 in cc) in
@@ -191,7 +201,7 @@ module _ (n : Node) (c c' : Core) (m new : Meaning) (up : IsUpAt n c m) (none : 
 
   -- what a reclaim of all that the site has answers
   pub reclaimed_as : (result : Result (Unit {0}) No) → SaveIs (reclaim_refusal c n.safe) c (reclaimed c n.safe) m new c' result → (IsSome (reclaim_refusal c n.safe) → new ≡ m)
-      → OnOk result (Rests c c' m new) → RoomIs n m c' new result
+      → OnOk result (Retains c c' m new) → RoomIs n m c' new result
   reclaimed_as result is unchanged rests =
       let runs : c.halted ≡ None = up.halted ∙ none in
       by_answer (reclaim_no c.log.header.low c.log.header.stamp n.safe) result refl
@@ -238,10 +248,10 @@ room_later n c' m mid new (Err other) later is = is
 -- a reclaim up to the number that an apply answered
 pub reclaimed_at : (n : Node) (c c' : Core) (m new : Meaning) (number : ℕ) → IsUpAt n c m → n.halted ≡ None → Lawful m → Lawful new → number ≡ n.safe
     → Moves (Run c.units.srl 0 (c.log.ring + 2)) (Saving c (reclaimed c number) m) m new → IsFalse new.down → (result : Result (Unit {0}) No) → SaveIs (reclaim_refusal c number) c (reclaimed c number) m new c' result
-    → (IsSome (reclaim_refusal c number) → new ≡ m) → OnOk result (Rests c c' m new) → RoomIs n m c' new result
+    → (IsSome (reclaim_refusal c number) → new ≡ m) → OnOk result (Retains c c' m new) → RoomIs n m c' new result
 reclaimed_at n c c' m new number up none lawful after is =
     subst (λ (k : ℕ). Moves (Run c.units.srl 0 (c.log.ring + 2)) (Saving c (reclaimed c k) m) m new → IsFalse new.down → (result : Result (Unit {0}) No) → SaveIs (reclaim_refusal c k) c (reclaimed c k) m new c' result
-    → (IsSome (reclaim_refusal c k) → new ≡ m) → OnOk result (Rests c c' m new) → RoomIs n m c' new result) (sym is)
+    → (IsSome (reclaim_refusal c k) → new ≡ m) → OnOk result (Retains c c' m new) → RoomIs n m c' new result) (sym is)
     (λ moves still. reclaimed_as n c c' m new up none lawful after moves still)
 
 -- whose fuse ran out

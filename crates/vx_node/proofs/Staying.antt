@@ -1,6 +1,7 @@
 -- A site that is up stays so over calls on its group.
 use Rattle.std.proofs.Common.{◌≡◌, ◌⊎◌, inl, inr, ⊎_elim, ℕ, zero, suc, ◌+◌, ◌-◌, ◌≤◌, Bool, true, false, List, [], ◌∷◌, length, take, drop, Option, None, IsTrue, refl, sym, ◌∙◌, ap, subst, arith}
 use Rattle.std.specs.Prelude.{IsFalse}
+use Rattle.std.proofs.lemmas.List.{take_all}
 use Rattle.vx_model.specs.Content.{Content, Write, fold_writes}
 use Rattle.vx_history.specs.World.{Node, Fuse, NoFuse, FuseSet, FuseLit}
 use Rattle.vx_history.specs.Steps.{burned}
@@ -11,11 +12,14 @@ use Rattle.vx_srl.specs.Views.{widths}
 use Rattle.vx_srl.specs.declared.kept.Kept.{Kept}
 use Rattle.vx_disk.specs.Shelf.{Meaning, Image, Lawful}
 use Rattle.vx_disk.specs.Moves.{Blocks, Says, Beside, Moves}
-use Rattle.vx_rvg.specs.Stands.{Found, FoundAs, Stands}
-use Rattle.vx_rvg.specs.Views.{Core, last_of}
+use Rattle.vx_rvg.specs.Holdings.{Holding}
+use Rattle.vx_rvg.specs.Stands.{Found}
+use Rattle.vx_rvg.specs.Views.{Core}
 use Rattle.vx_node.specs.Holds.{HasWrites, raw_units, state_of, state_with, most_stamp}
 use Rattle.vx_node.specs.Engines.{worked}
 use Rattle.vx_node.specs.Fuses.{IsFused, HasFuse}
+use Rattle.vx_node.specs.Lasts.{FoundWith, StandsWith}
+use Rattle.vx_node.proofs.Lasts.{FoundOf}
 use Rattle.vx_node.specs.Stands.{IsFitted, IsUpAt, IsHeldAt}
 
 pub not_true : (b : Bool) → (IsTrue b → ⊥) → IsFalse b
@@ -80,45 +84,55 @@ fused_before FuseLit is = tt
 
 -- ---- an image with the group's content has the site's
 
+-- a greater stamp is one that no header has either
+pub found_below : (units : Units) (ring : ℕ) (state : State) (session stamp most : ℕ) (i : Image) (h : Holding) → stamp ≤ most → Found units ring state session stamp i h → Found units ring state session most i h
+found_below units ring state session stamp most i h le found = record {
+  header = found.header;
+  records = found.records;
+  recovers = found.recovers;
+  state_is = found.state_is;
+  session_is = found.session_is;
+  stamp_most = omega (arith, found.stamp_most, le);
+  some = found.some;
+  low_is = found.low_is;
+  writes_are = found.writes_are;
+  content = found.content;
+  maps = found.maps;
+}
+
 pub drop-take_none : {A : Type 0} (k : ℕ) (xs : List A) → drop k (take k xs) ≡ []
 drop-take_none zero [] = refl
 drop-take_none zero (x ∷ xs) = refl
 drop-take_none (suc k) [] = refl
 drop-take_none (suc k) (x ∷ xs) = drop-take_none k xs
 
-pub found_same : (u u' : Units) (r r' : ℕ) (state state' : State) (session session' stamp stamp' last last' : ℕ) (c c' : Content) (i : Image)
-    → u ≡ u' → r ≡ r' → state ≡ state' → session ≡ session' → stamp ≤ stamp' → last ≡ last' → c ≡ c' → Found u r state session stamp i last c → Found u' r' state' session' stamp' i last' c'
-found_same u u' r r' state state' session session' stamp stamp' last last' c c' i eu er es en le el ec found =
-    subst (λ (x : Units). Found x r' state' session' stamp' i last' c') eu
-    (subst (λ (x : ℕ). Found u x state' session' stamp' i last' c') er
-    (subst (λ (x : State). Found u r x session' stamp' i last' c') es
-    (subst (λ (x : ℕ). Found u r state x stamp' i last' c') en
-    (subst (λ (x : ℕ). Found u r state session stamp' i x c') el
-    (subst (λ (x : Content). Found u r state session stamp' i last x) ec
-    (record {
-      header = found.header;
-      records = found.records;
-      recovers = found.recovers;
-      state_is = found.state_is;
-      session_is = found.session_is;
-      stamp_most = omega (arith, found.stamp_most, le);
-      some = found.some;
-      last_is = found.last_is;
-      content = found.content;
-    }))))))
+pub found_same : (u u' : Units) (r r' : ℕ) (state state' : State) (session session' stamp stamp' : ℕ) (xs xs' : List Write) (c c' : Content) (i : Image)
+    → u ≡ u' → r ≡ r' → state ≡ state' → session ≡ session' → stamp ≤ stamp' → xs ≡ xs' → c ≡ c' → FoundWith u r state session stamp i xs c → FoundWith u' r' state' session' stamp' i xs' c'
+found_same u u' r r' state state' session session' stamp stamp' xs xs' c c' i eu er es en le ex ec with =
+    subst (λ (x : Units). FoundWith x r' state' session' stamp' i xs' c') eu
+    (subst (λ (x : ℕ). FoundWith u x state' session' stamp' i xs' c') er
+    (subst (λ (x : State). FoundWith u r x session' stamp' i xs' c') es
+    (subst (λ (x : ℕ). FoundWith u r state x stamp' i xs' c') en
+    (subst (λ (x : List Write). FoundWith u r state session stamp' i x c') ex
+    (subst (λ (x : Content). FoundWith u r state session stamp' i xs x) ec
+    (record { held = with.held; has = with.has; found = found_below u r state session stamp stamp' i with.held le with.found }))))))
 
 -- the content with the writes that are durable and none beside
 pub durable_content : (n : Node) → n.base ≡ fold_writes n.base (drop n.safe (take n.safe n.log))
 durable_content n = ap (λ (xs : List Write). fold_writes n.base xs) (sym (drop-take_none n.safe n.log))
 
+-- all writes are durable
+pub all_taken : (n : Node) → length n.log ≡ n.safe → n.log ≡ take n.safe n.log
+all_taken n many = sym (take_all n.safe n.log (omega (arith, many)))
+
 pub writes_found : (n : Node) (core : Core) (i : Image) → core.units ≡ raw_units n.disks → core.log.ring ≡ n.ring → core.log.header.state ≡ state_of n → core.log.header.incarnation ≡ n.session
-    → core.log.header.stamp ≤ most_stamp n → last_of core ≡ n.safe → n.safe ≤ length n.log → FoundAs core i (last_of core) n.base → HasWrites n i
-writes_found n core i units ring state session stamp last logged found = record {
+    → core.log.header.stamp ≤ most_stamp n → length n.log ≡ n.safe → FoundOf core i n.log n.base → HasWrites n i
+writes_found n core i units ring state session stamp many found = record {
   count = n.safe;
   least = omega arith;
-  most = logged;
+  most = omega (arith, many);
   found = found_same core.units (raw_units n.disks) core.log.ring n.ring core.log.header.state (state_of n) core.log.header.incarnation n.session core.log.header.stamp (most_stamp n)
-      (last_of core) n.safe n.base (fold_writes n.base (drop n.safe (take n.safe n.log))) i units ring state session stamp last (durable_content n) found;
+      n.log (take n.safe n.log) n.base (fold_writes n.base (drop n.safe (take n.safe n.log))) i units ring state session stamp (all_taken n many) (durable_content n) found;
 }
 
 -- what the header keeps, where contents are told
@@ -126,9 +140,9 @@ pub kept_whole : (n : Node) (c : Core) (m : Meaning) → IsUpAt n c m → IsTrue
 kept_whole n c m up told = up.kept ∙ ap (state_with n) (up.unlinked told)
 
 -- an image in a call on a running group that changes no content
-pub up_found : (n : Node) (c : Core) (m : Meaning) (i : Image) → IsUpAt n c m → n.halted ≡ None → IsTrue m.tells → FoundAs c i (last_of c) n.base → HasWrites n i
+pub up_found : (n : Node) (c : Core) (m : Meaning) (i : Image) → IsUpAt n c m → n.halted ≡ None → IsTrue m.tells → FoundOf c i n.log n.base → HasWrites n i
 up_found n c m i up running told found =
-    writes_found n c i up.units up.ring (kept_whole n c m up told) up.session (let t = up.stamp told running in omega (arith, t)) up.head up.logged found
+    writes_found n c i up.units up.ring (kept_whole n c m up told) up.session (let t = up.stamp told running in omega (arith, t)) (omega (arith, up.logged, up.durable running)) found
 
 -- ---- the site behind a call
 
@@ -141,7 +155,7 @@ pub record SameLog (c c' : Core) : Type 0 where
 
 -- a site that is up after a call that leaves its log alone, maybe halted by it
 pub up_with : (n : Node) (c c' : Core) (m new : Meaning) (h : Option ℕ) (f : Fuse) (mine : Blocks) (P : Says) → Moves mine P m new → IsFalse new.down → HasFuse f new → IsUpAt n c m → SameLog c c' → c'.halted ≡ h
-    → (h ≡ None → n.halted ≡ None) → (h ≡ None → IsTrue new.tells → Stands c' n.base new) → ((i : Image) → new.now i → HasWrites n i) → IsUpAt (record n { halted = h; fuse = f }) c' new
+    → (h ≡ None → n.halted ≡ None) → (h ≡ None → IsTrue new.tells → StandsWith c' n.log n.base new) → ((i : Image) → new.now i → HasWrites n i) → IsUpAt (record n { halted = h; fuse = f }) c' new
 up_with n c c' m new h f mine P moves still fuse up same halted running content left = record {
   state = up.state;
   fitted = fitted_moved n.disks n.blocks mine P m new moves up.fitted still;

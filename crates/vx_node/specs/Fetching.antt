@@ -1,5 +1,6 @@
 -- What the yard promises of a line that reads blocks.
-use Rattle.std.specs.Prelude.{◌≡◌, ◌⊎◌, ℕ, ◌*◌, List, length, Result, Ok, Err}
+use Rattle.std.specs.Prelude.{◌≡◌, ◌⊎◌, ℕ, ◌*◌, List, length, min, Result, Ok, Err}
+use Rattle.vx_model.specs.declared.limits.TheConstants.{MOST_CALL_BLOCKS}
 use Rattle.vx_history.specs.World.{Node, World}
 use Rattle.vx_model.specs.declared.no.No.{No}
 use Rattle.vx_model.specs.declared.no.No.TheVariants.{Device}
@@ -14,6 +15,10 @@ use Rattle.vx_node.specs.Stands.{StandsAt, IsToldAt, RoseAll}
 use Rattle.vx_node.specs.Steps.{Fails, Fetches}
 use Rattle.vx_node.specs.Working.{IsFree}
 use Rattle.vx_node.specs.Yards.{YardStands, IsTold, count_of}
+
+-- a place for so many blocks, and for no more than a line may ask
+abbrev pub IsRoom : ℕ → List ℕ → Type 0
+IsRoom count room = length room ≡ 512 * min count MOST_CALL_BLOCKS
 
 module _ {R : Type 0} {g : Ghosts R} where
   -- so many blocks, which are those of the content where it is told

@@ -7,8 +7,8 @@ use Rattle.vx_model.specs.declared.state.KeptLink.{KeptLink}
 use Rattle.vx_model.specs.declared.units.Units.{Units}
 use Rattle.vx_model.specs.declared.site.SiteState.TheVariants.{Up, Down}
 use Rattle.vx_disk.specs.Shelf.{Meaning, Image}
-use Rattle.vx_rvg.specs.Stands.{Found}
 use Rattle.vx_node.specs.Facts.{values_from}
+use Rattle.vx_node.specs.Lasts.{FoundWith}
 
 -- the units of a raw set: its log on disk 0, its maps on the last disk, and a volume on each disk between
 abbrev pub raw_units : ℕ → Units
@@ -38,13 +38,13 @@ state_of n = state_with n []
 abbrev pub most_stamp : Node → ℕ
 most_stamp n = 4 * n.session + n.safe + 3
 
--- On these disks stands the site's log, with its state and session, up to one of the numbers that a crash may keep; and the volumes
--- with the log over them have the site's content with the writes up to that number.
+-- On these disks stands the site's log, with its state and session and the last of its writes, up to one of the numbers that a crash may
+-- keep; and the volumes with the log over them have the site's content with the writes up to that number.
 pub record HasWrites (n : Node) (i : Image) : Type 0 where
   pub count : ℕ
   pub least : n.safe ≤ count
   pub most : count ≤ length n.log
-  pub found : Found (raw_units n.disks) n.ring (state_of n) n.session (most_stamp n) i count (fold_writes n.base (drop n.safe (take count n.log)))
+  pub found : FoundWith (raw_units n.disks) n.ring (state_of n) n.session (most_stamp n) i (take count n.log) (fold_writes n.base (drop n.safe (take count n.log)))
 
 -- while a site is up or down
 pub record Holds (n : Node) (m : Meaning) : Type 0 where

@@ -4,6 +4,7 @@ pub mod Facts
 pub mod Fetching
 pub mod Fuses
 pub mod Holds
+pub mod Lasts
 pub mod Lines
 pub mod Racks
 pub mod Replies

@@ -7,10 +7,10 @@ use Rattle.vx_model.specs.declared.no.No.TheVariants.{Device, Limit, Down}
 use Rattle.vx_model.specs.declared.state.KeptLink.{KeptLink}
 use Rattle.vx_disk.specs.Counts.{Rose}
 use Rattle.vx_disk.specs.Shelf.{Meaning}
-use Rattle.vx_rvg.specs.Stands.{Stands}
 use Rattle.vx_rvg.specs.Views.{Core, last_of}
 use Rattle.vx_srl.specs.Views.{most_number}
 use Rattle.vx_node.specs.Engines.{no_number, halted_at, worked}
+use Rattle.vx_node.specs.Lasts.{StandsWith}
 use Rattle.vx_node.specs.Holds.{raw_units, state_with, most_stamp}
 use Rattle.vx_node.specs.Fuses.{IsFused, HasFuse}
 use Rattle.vx_node.specs.Stands.{IsFitted, IsUpAt, IsHeldAt}
@@ -31,7 +31,7 @@ pub record IsRoomy (n : Node) (c : Core) (m : Meaning) : Type 0 where
   pub stamp : IsTrue m.tells → c.log.header.stamp ≤ most_stamp n
   -- where no number is left it has used none
   pub unused : IsTrue m.tells → most_number ≤ n.safe → c.log.header.stamp + 1 ≤ most_stamp n
-  pub content : IsTrue m.tells → Stands c n.base m
+  pub content : IsTrue m.tells → StandsWith c n.log n.base m
 
 -- what an apply answers of a site that is up: the number, or a failing disk; or its fuse ran out
 abbrev pub AppliedAs : Node → ℕ → Core → Meaning → Meaning → Result ℕ No → Type 0

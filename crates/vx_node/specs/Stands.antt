@@ -7,12 +7,12 @@ use Rattle.vx_model.specs.declared.state.KeptLink.{KeptLink}
 use Rattle.vx_model.specs.declared.site.SiteState.TheVariants.{Up as IsUp, Down as IsDown}
 use Rattle.vx_disk.specs.Shelf.{Meaning, Image, Keeps}
 use Rattle.vx_disk.specs.declared.shelf.Shelf.{Ghosts}
-use Rattle.vx_rvg.specs.Stands.{Left, Stands}
 use Rattle.vx_rvg.specs.Views.{Core, last_of}
 use Rattle.vx_node.specs.declared.engine.Engine.{Engine}
 use Rattle.vx_node.specs.declared.engine.Engine.TheVariants.{Bare, Spoiled, Up, Down, Gone}
 use Rattle.vx_node.specs.Fuses.{HasFuse, IsFirst, taken}
 use Rattle.vx_node.specs.Holds.{HasWrites, raw_units, state_of, state_with, most_stamp}
+use Rattle.vx_node.specs.Lasts.{LeftWith, StandsWith}
 use Rattle.vx_node.specs.Steps.{Fails}
 
 -- a rack that is not fitted, is up, and has no fuse
@@ -27,14 +27,14 @@ pub record IsFitted (disks blocks : ℕ) (m : Meaning) : Type 0 where
   pub size : (u : ℕ) → u < disks → m.size u ≡ blocks
   pub up : IsFalse m.down
 
--- the disks of a bare site: those between the first and the last hold zeros
+-- the disks of a bare site: those behind the first hold zeros
 pub record IsBareAt (n : Node) (m : Meaning) : Type 0 where
   pub is : n ≡ bare_site n.name n.disks n.blocks
   pub fitted : IsFitted n.disks n.blocks m
   pub unarmed : IsFalse m.armed
   pub few : n.disks ≤ 8
   pub some : 8 ≤ n.blocks
-  pub blank : (u b : ℕ) → 0 < u → u + 1 < n.disks → b < n.blocks → Keeps m u b zero_block
+  pub blank : (u b : ℕ) → 0 < u → u < n.disks → b < n.blocks → Keeps m u b zero_block
 
 -- the disks of a bare site of which nothing was begun: the first holds zeros too
 pub record IsCleanAt (n : Node) (m : Meaning) : Type 0 where
@@ -72,8 +72,8 @@ pub record IsUpAt (n : Node) (c : Core) (m : Meaning) : Type 0 where
   pub whole : (v : ℕ) (x : Volume) → slice_get n.volumes v ≡ Some x → x.blocks ≡ n.blocks
   pub sizes : (v : ℕ) → v < n.disks - 2 → n.base.size v ≡ n.blocks
   pub others : (v : ℕ) → n.disks - 2 ≤ v → n.base.size v ≡ 0
-  -- while no write failed, it has the content; and whatever a crash leaves has the writes that it may keep
-  pub content : n.halted ≡ None → IsTrue m.tells → Stands c n.base m
+  -- while no write failed, it has the content, and its log the last of the writes; and whatever a crash leaves has the writes that it may keep
+  pub content : n.halted ≡ None → IsTrue m.tells → StandsWith c n.log n.base m
   pub left : (i : Image) → m.now i → HasWrites n i
 
 -- the disks of a raw set, up or down: a crash leaves its writes on them
@@ -112,7 +112,7 @@ pub record IsDownAt (n : Node) (m : Meaning) : Type 0 where
   pub sizes : (v : ℕ) → v < n.disks - 2 → n.base.size v ≡ n.blocks
   pub others : (v : ℕ) → n.disks - 2 ≤ v → n.base.size v ≡ 0
   pub begun : IsTrue m.tells → 0 < n.session
-  pub left : IsTrue m.tells → Left (raw_units n.disks) n.ring (state_of n) n.session (most_stamp n) n.safe n.base m
+  pub left : IsTrue m.tells → LeftWith (raw_units n.disks) n.ring (state_of n) n.session (most_stamp n) n.log n.base m
 
 module _ {R : Type 0} {g : Ghosts R} where
   abbrev pub StandsAt : Node → Engine R g → Type 0

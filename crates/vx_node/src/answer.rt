@@ -1,5 +1,5 @@
 // What a line is answered.
-ghost use Rattle.std.specs.Prelude.{◌≡◌};
+ghost use Rattle.std.specs.Prelude.{◌≡◌, ◌*◌, IfOk, min, replicate};
 ghost use Rattle.vx_history.specs.World.{World};
 ghost use Rattle.vx_node.specs.Working.{WorkIs, AnswerIs, IsFree};
 ghost use Rattle.vx_node.specs.Yards.{YardStands, IsTold, in_files};
@@ -8,7 +8,16 @@ use crate::{Said, Yard};
 use std::alloc::Global;
 use vx_disk::Rack;
 use vx_model::OutOfMemory;
+use vx_model::limits::{BLOCK, MOST_CALL_BLOCKS};
 use vx_script::ScriptLine;
+
+// So many blocks, each byte of which is `fill`, and no more than a line may ask.
+fn filled(alloc: Global, count: u64, fill: u8) -> Result<Vec<u8>, OutOfMemory>
+    ensures { IfOk result (λ bytes. bytes.items ≡ replicate (512 * min count MOST_CALL_BLOCKS) fill) }
+{
+    let bytes = Vec::from_elem(alloc, fill, BLOCK * count.min(MOST_CALL_BLOCKS) as usize)?;
+    Ok(bytes)
+}
 
 impl<R: Rack> Yard<R> {
     // Does a line that no test refuses.
@@ -35,28 +44,37 @@ impl<R: Rack> Yard<R> {
                 block,
                 count,
                 fill,
-            } => Ok(self.write_line(site, volume, *block, *count, *fill)),
+            } => {
+                let bytes = filled(alloc, *count, *fill)?;
+                Ok(self.write_line(site, volume, *block, *count, *fill, &bytes))
+            }
             ScriptLine::Put {
                 site,
                 volume,
                 block,
                 bytes,
-            } if bytes.as_bytes().len() == 512 => { Ok(self.put_line(site, volume, *block, bytes)) }
+            } => Ok(self.put_line(site, volume, *block, bytes)),
             ScriptLine::Read {
                 site,
                 volume,
                 block,
                 count,
-            } => Ok(self.read_line(site, volume, *block, *count)),
+            } => {
+                let room = filled(alloc, *count, 0)?;
+                Ok(self.read_line(site, volume, *block, *count, room))
+            }
             ScriptLine::Show {
                 site,
                 volume,
                 block,
                 count,
-            } => Ok(self.show_line(site, volume, *block, *count)),
+            } => {
+                let room = filled(alloc, *count, 0)?;
+                Ok(self.show_line(site, volume, *block, *count, room))
+            }
             ScriptLine::Apply { site, count } => Ok(self.apply_line(site, *count)),
             ScriptLine::Status { site } => Ok(self.status_line(alloc, site)),
-            // A line that is not built, or bytes that are not one block: no script gives these.
+            // A line that is not built: no script gives it.
             _ => Err(OutOfMemory),
         }
     }

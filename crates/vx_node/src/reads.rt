@@ -1,9 +1,9 @@
 // The lines that read blocks.
-ghost use Rattle.std.specs.Prelude.{◌≡◌, ◌≤◌, ◌<◌};
+ghost use Rattle.std.specs.Prelude.{◌≡◌, ◌≤◌, ◌<◌, ◌*◌, length};
 ghost use Rattle.vx_history.specs.World.{World, Node};
 ghost use Rattle.vx_script.specs.declared.line.ScriptLine.TheVariants.{Read as ReadLine, Show as ShowLine};
 ghost use Rattle.vx_node.specs.Engines.{CanRead, Later};
-ghost use Rattle.vx_node.specs.Fetching.{GaveAt, IsReadFree, Fetched};
+ghost use Rattle.vx_node.specs.Fetching.{GaveAt, IsReadFree, IsRoom, Fetched};
 ghost use Rattle.vx_node.specs.Stands.{StandsAt};
 ghost use Rattle.vx_node.specs.Working.{Worked, IsFree};
 ghost use Rattle.vx_node.specs.Yards.{YardStands, IsTold, in_files};
@@ -11,47 +11,65 @@ ghost use Rattle.vx_node.specs.Yards.{YardStands, IsTold, in_files};
 use crate::yard::{Yard, seat};
 use crate::{Engine, Said, facts};
 use vx_disk::Rack;
-use vx_model::{Blocks, Name, Named, No};
+use vx_model::limits::MOST_CALL_BLOCKS;
+use vx_model::{Bytes, Name, Named, No};
 
-// So many blocks of a volume, by its number.
+// So many blocks of a volume, by its number, read into a place for them.
 fn blocks_of<R: Rack>(
     engine: &mut Engine<R>,
     volume: u32,
     start: u64,
     count: u64,
-) -> Result<Blocks, No>
+    mut room: Vec<u8>,
+) -> Result<Bytes, No>
     requires some { 0 < count }
-    requires few { count ≤ 16 }
+    requires few { count ≤ MOST_CALL_BLOCKS }
+    requires room { length room.items ≡ 512 * count }
     ensures read { (n : Node) → StandsAt n engine.old → CanRead n volume start count → GaveAt n volume start count engine.old engine.new result }
     ensures later { Later engine.old engine.new }
 {
-    let size = 512 * count as usize;
-    let mut held = [0; 8192];
-    engine.read(volume, start, &mut held[..size])?;
-    Ok(Blocks::new(&held[..size]))
+    engine.read(volume, start, &mut room)?;
+    Ok(Bytes::new(room))
 }
 
 impl<R: Rack> Yard<R> {
     /// Reads blocks of a volume, as a `read` line asks.
-    pub(crate) fn read_line(&mut self, name: &Name, volume: &Name, start: u64, count: u64) -> Said
+    pub(crate) fn read_line(
+        &mut self,
+        name: &Name,
+        volume: &Name,
+        start: u64,
+        count: u64,
+        room: Vec<u8>,
+    ) -> Said
+        requires room { IsRoom count room.items }
         ensures works { (w : World) → YardStands w self.old → IsFree self.old (ReadLine name.now volume.now start count) → Worked w (ReadLine name.now volume.now start count) result self.old self.new }
         ensures told { IsTold self.new → IsTold self.old }
         ensures files { in_files self.new ≡ in_files self.old }
     {
-        self.fetch(name, volume, start, count)
+        self.fetch(name, volume, start, count, room)
     }
 
     /// Reads blocks of a volume, as a `show` line asks.
-    pub(crate) fn show_line(&mut self, name: &Name, volume: &Name, start: u64, count: u64) -> Said
+    pub(crate) fn show_line(
+        &mut self,
+        name: &Name,
+        volume: &Name,
+        start: u64,
+        count: u64,
+        room: Vec<u8>,
+    ) -> Said
+        requires room { IsRoom count room.items }
         ensures works { (w : World) → YardStands w self.old → IsFree self.old (ShowLine name.now volume.now start count) → Worked w (ShowLine name.now volume.now start count) result self.old self.new }
         ensures told { IsTold self.new → IsTold self.old }
         ensures files { in_files self.new ≡ in_files self.old }
     {
-        self.fetch(name, volume, start, count)
+        self.fetch(name, volume, start, count, room)
     }
 
     // Reads blocks of a volume. The tests of the line left no other case than that all of it is there.
-    fn fetch(&mut self, name: &Name, volume: &Name, start: u64, count: u64) -> Said
+    fn fetch(&mut self, name: &Name, volume: &Name, start: u64, count: u64, room: Vec<u8>) -> Said
+        requires room { IsRoom count room.items }
         ensures works { (w : World) → YardStands w self.old → IsReadFree self.old name.now volume.now start count → Fetched w name.now volume.now start count result self.old self.new }
         ensures told { IsTold self.new → IsTold self.old }
         ensures files { in_files self.new ≡ in_files self.old }
@@ -67,10 +85,14 @@ impl<R: Rack> Yard<R> {
                 what: Named::Of(*volume),
             });
         };
-        if site >= self.engines.len() || place >= disks as usize || count == 0 || count > 16 {
+        if site >= self.engines.len()
+            || place >= disks as usize
+            || count == 0
+            || count > MOST_CALL_BLOCKS
+        {
             return Said::Refused(No::Role);
         }
-        match blocks_of(&mut self.engines[site], place as u32, start, count) {
+        match blocks_of(&mut self.engines[site], place as u32, start, count, room) {
             Ok(blocks) => Said::Got(blocks),
             Err(no) => Said::Refused(no),
         }

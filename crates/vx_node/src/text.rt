@@ -15,7 +15,7 @@ pub fn push_said(out: &mut Vec<u8>, said: &Said) -> Result<(), OutOfMemory>
     match said {
         Said::Done => push_text(out, b"done\n"),
         Said::DoneAt(number) => push_done_at(out, *number),
-        Said::Got(blocks) => push_blocks(out, blocks.as_bytes()),
+        Said::Got(blocks) => push_blocks(out, blocks.as_slice()),
         Said::Shown(view) => push_status(out, view),
         Said::Recovered(last, view) => push_recovered(out, *last, view),
         Said::Refused(no) => push_refusal(out, no),

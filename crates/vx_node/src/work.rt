@@ -12,7 +12,7 @@ use std::alloc::Global;
 use std::mem;
 use vx_disk::Rack;
 use vx_model::limits::{LEAST_BLOCKS, LEAST_RAW_DISKS, MOST_DISKS, MOST_SITES};
-use vx_model::{Blocks, Name, Named, No, OutOfMemory, Stop};
+use vx_model::{Name, Named, No, OutOfMemory, Stop};
 use vx_script::DiskState as DiskWord;
 
 // A refusal of the disks as a reply.

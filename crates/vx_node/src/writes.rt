@@ -1,5 +1,5 @@
 // What a line that writes blocks does.
-ghost use Rattle.std.specs.Prelude.{◌≡◌, ◌≤◌, ◌<◌, ◌%◌, length};
+ghost use Rattle.std.specs.Prelude.{◌≡◌, ◌≤◌, ◌<◌, ◌*◌, ◌%◌, length, min, replicate};
 ghost use Rattle.vx_history.specs.World.{World};
 ghost use Rattle.vx_script.specs.declared.line.ScriptLine.TheVariants.{Write as WriteLine, Put as PutLine};
 ghost use Rattle.vx_node.specs.declared.said.Said.TheVariants.{Refused};
@@ -10,8 +10,8 @@ ghost use Rattle.vx_node.specs.Yards.{YardStands, IsTold, in_files};
 use crate::yard::{Yard, seat};
 use crate::{Said, facts};
 use vx_disk::Rack;
-use vx_model::limits::MOST_SITES;
-use vx_model::{Blocks, Name, No};
+use vx_model::limits::{MOST_CALL_BLOCKS, MOST_CALL_BYTES, MOST_SITES};
+use vx_model::{Block, Name, No};
 use vx_order::SiteFacts;
 
 /// A line on the group of a site was refused: where its disk failed, the site is halted, and where its fuse ran out, it is down.
@@ -31,7 +31,7 @@ impl<R: Rack> Yard<R> {
     /// Writes whole blocks to a volume. The tests of the line found the site and the volume, and the blocks lie within it.
     fn write_blocks(&mut self, name: &Name, volume: &Name, start: u64, bytes: &[u8]) -> Said
         requires some { 0 < length bytes.now }
-        requires few { length bytes.now ≤ 8192 }
+        requires few { length bytes.now ≤ MOST_CALL_BYTES }
         requires whole { length bytes.now % 512 ≡ 0 }
         ensures works { (w : World) → YardStands w self.old → WriteFree self.old name.now volume.now start bytes.now → PutsIs w name.now volume.now start bytes.now result self.old self.new }
         ensures told { IsTold self.new → IsTold self.old }
@@ -63,27 +63,21 @@ impl<R: Rack> Yard<R> {
         start: u64,
         count: u64,
         fill: u8,
+        bytes: &[u8],
     ) -> Said
+        requires bytes { bytes.now ≡ replicate (512 * min count MOST_CALL_BLOCKS) fill }
         ensures works { (w : World) → YardStands w self.old → IsFree self.old (WriteLine name.now volume.now start count fill) → Worked w (WriteLine name.now volume.now start count fill) result self.old self.new }
         ensures told { IsTold self.new → IsTold self.old }
         ensures files { in_files self.new ≡ in_files self.old }
     {
-        if count < 1 || count > 16 {
+        if count < 1 || count > MOST_CALL_BLOCKS {
             return Said::Refused(No::Size);
         }
-        let blocks = Blocks::filled(count, fill);
-        self.write_blocks(name, volume, start, blocks.as_bytes())
+        self.write_blocks(name, volume, start, bytes)
     }
 
     /// Writes one block of these bytes.
-    pub(crate) fn put_line(
-        &mut self,
-        name: &Name,
-        volume: &Name,
-        start: u64,
-        bytes: &Blocks,
-    ) -> Said
-        requires one { length bytes.now ≡ 512 }
+    pub(crate) fn put_line(&mut self, name: &Name, volume: &Name, start: u64, bytes: &Block) -> Said
         ensures works { (w : World) → YardStands w self.old → IsFree self.old (PutLine name.now volume.now start bytes.now) → Worked w (PutLine name.now volume.now start bytes.now) result self.old self.new }
         ensures told { IsTold self.new → IsTold self.old }
         ensures files { in_files self.new ≡ in_files self.old }

@@ -77,7 +77,7 @@ pub fn refuse_limit(sites: usize, files: bool, line: &ScriptLine) -> Option<No>
             let most = greatest_size(files);
             if sites >= MOST_SITES {
                 Some(limit(Counted::Sites, MOST_SITES as u64))
-            } else if *disks > MOST_DISKS {
+            } else if *disks > u64::from(MOST_DISKS) {
                 Some(limit(Counted::Disks, u64::from(MOST_DISKS)))
             } else if *blocks > most {
                 Some(limit(Counted::Blocks, most))

@@ -1,5 +1,5 @@
 -- Blocks in two parts: those before the ring's end, and those behind its begin.
-use Rattle.std.proofs.Common.{◌≡◌, ◌⊎◌, inl, inr, ⊎_elim, min, ℕ, zero, suc, ◌+◌, ◌-◌, ◌*◌, ◌/◌, ◌%◌, ◌<◌, ◌≤◌, List, [], ◌∷◌, ◌++◌, length, take, drop, refl, sym, ◌∙◌, ap, subst, arith, length-drop, length-append}
+use Rattle.std.proofs.Common.{◌≡◌, ◌⊎◌, inl, inr, ⊎_elim, min, ℕ, Bool, IsTrue, zero, suc, ◌+◌, ◌-◌, ◌*◌, ◌/◌, ◌%◌, ◌<◌, ◌≤◌, List, [], ◌∷◌, ◌++◌, length, take, drop, refl, sym, ◌∙◌, ap, subst, arith, length-drop, length-append}
 use Rattle.std.specs.Prelude.{All}
 use Rattle.std.specs.List.{AllByRecursion}
 use Rattle.std.proofs.Math.Nat.{mod-add-mod, mod-eq_of_lt, mod_self}
@@ -7,14 +7,15 @@ use Rattle.std.proofs.lemmas.Bool.{cases_lt}
 use Rattle.std.proofs.lemmas.List.{take-append-le, drop-append-le}
 use Rattle.std.proofs.lemmas.List.Elements.{All-from_recursion, recursion_from_All}
 use Rattle.vx_srlfmt.specs.Kinds.{IsBody, Body}
-use Rattle.vx_disk.specs.Shelf.{Meaning}
+use Rattle.vx_disk.specs.Shelf.{Goes, Meaning, Nothing}
 use Rattle.vx_ringlog.specs.Acts.{body_acts}
-use Rattle.vx_ringlog.specs.Cells.{Act, Write, Image}
+use Rattle.vx_ringlog.specs.Cells.{Act, Write}
 use Rattle.vx_ringlog.specs.Chain.{block}
 use Rattle.vx_ringio.specs.Bodies.{blocks_of, all_blocks}
-use Rattle.vx_ringio.specs.Reading.{ShowsBlocks}
+use Rattle.vx_ringio.specs.Reading.{EachPlace, GaveBlocks}
 use Rattle.vx_ringio.specs.Tracks.{Follows, Arrives}
 use Rattle.vx_ringio.proofs.Bodies.{count_blocks}
+use Rattle.vx_ringio.proofs.Seeing.{gave_before}
 use Rattle.vx_ringio.proofs.Following.{sooner, nothing_arrives, then_follows, then_arrives}
 
 -- ---- lists of blocks
@@ -151,29 +152,35 @@ module _ (ring place : ℕ) (one two : List ℕ) (parts : InParts ring place one
 
 -- ---- blocks that were read
 
-shows_append : (ring : ℕ) (c : Image) (p : ℕ) (xs ys : List (List ℕ)) → ShowsBlocks ring c p xs → ShowsBlocks ring c (p + length xs) ys → ShowsBlocks ring c p (xs ++ ys)
-shows_append ring c p [] ys one two = subst (λ (q : ℕ). ShowsBlocks ring c q ys) (omega arith) two
-shows_append ring c p (x ∷ xs) ys one two =
+places_append : (P : ℕ → List ℕ → Type 0) (ring p : ℕ) (xs ys : List (List ℕ)) → EachPlace P ring p xs → EachPlace P ring (p + length xs) ys → EachPlace P ring p (xs ++ ys)
+places_append P ring p [] ys one two = subst (λ (q : ℕ). EachPlace P ring q ys) (omega arith) two
+places_append P ring p (x ∷ xs) ys one two =
     let at : p + length (x ∷ xs) ≡ suc p + length xs = omega arith in
-    (one.0, shows_append ring c (suc p) xs ys one.1 (subst (λ (q : ℕ). ShowsBlocks ring c q ys) at two))
+    (one.0, places_append P ring (suc p) xs ys one.1 (subst (λ (q : ℕ). EachPlace P ring q ys) at two))
 
-shows_same : (ring : ℕ) (c : Image) (p q : ℕ) (xs : List (List ℕ)) → p % ring ≡ q % ring → ShowsBlocks ring c p xs → ShowsBlocks ring c q xs
-shows_same ring c p q [] same shows = tt
-shows_same ring c p q (x ∷ xs) same shows =
-    (shows.0 ∙ ap (λ (b : ℕ). c (2 + b)) same, shows_same ring c (suc p) (suc q) xs (next_same ring p q same) shows.1)
+places_same : (P : ℕ → List ℕ → Type 0) (ring p q : ℕ) (xs : List (List ℕ)) → p % ring ≡ q % ring → EachPlace P ring p xs → EachPlace P ring q xs
+places_same P ring p q [] same each = tt
+places_same P ring p q (x ∷ xs) same each =
+    (subst (λ (b : ℕ). P (2 + b) x) same each.0, places_same P ring (suc p) (suc q) xs (next_same ring p q same) each.1)
 
-pub shows_parts : (ring place : ℕ) (one two : List ℕ) (c : Image) → InParts ring place one two → ShowsBlocks ring c (place % ring) (all_blocks one) → ShowsBlocks ring c 0 (all_blocks two)
-    → ShowsBlocks ring c place (all_blocks (one ++ two))
-shows_parts ring place one two c parts first second =
-    subst (λ (bs : List (List ℕ)). ShowsBlocks ring c place bs) (sym (all_append one two parts.whole))
-    (shows_append ring c place (all_blocks one) (all_blocks two)
-    (shows_same ring c (place % ring) place (all_blocks one) (sym (inside ring place parts.ring_is)) first)
+pub places_parts : (P : ℕ → List ℕ → Type 0) (ring place : ℕ) (one two : List ℕ) → InParts ring place one two → EachPlace P ring (place % ring) (all_blocks one) → EachPlace P ring 0 (all_blocks two)
+    → EachPlace P ring place (all_blocks (one ++ two))
+places_parts P ring place one two parts first second =
+    subst (λ (bs : List (List ℕ)). EachPlace P ring place bs) (sym (all_append one two parts.whole))
+    (places_append P ring place (all_blocks one) (all_blocks two)
+    (places_same P ring (place % ring) place (all_blocks one) (sym (inside ring place parts.ring_is)) first)
     (go (all_blocks two) (behind ring place one two parts) second))
   where
-    go : (bs : List (List ℕ)) → (bs ≡ []) ⊎ ((place + length (all_blocks one)) % ring ≡ 0 % ring) → ShowsBlocks ring c 0 bs → ShowsBlocks ring c (place + length (all_blocks one)) bs
-    go bs (inl none) shows = subst (λ (xs : List (List ℕ)). ShowsBlocks ring c (place + length (all_blocks one)) xs) (sym none) tt
-    go bs (inr at) shows = shows_same ring c 0 (place + length (all_blocks one)) bs (sym at) shows
+    go : (bs : List (List ℕ)) → (bs ≡ []) ⊎ ((place + length (all_blocks one)) % ring ≡ 0 % ring) → EachPlace P ring 0 bs → EachPlace P ring (place + length (all_blocks one)) bs
+    go bs (inl none) each = subst (λ (xs : List (List ℕ)). EachPlace P ring (place + length (all_blocks one)) xs) (sym none) tt
+    go bs (inr at) each = places_same P ring 0 (place + length (all_blocks one)) bs (sym at) each
 
-pub shows_first : (ring place : ℕ) (one two : List ℕ) (c : Image) → InParts ring place one two → length two ≡ 0 → ShowsBlocks ring c (place % ring) (all_blocks one) → ShowsBlocks ring c place (all_blocks (one ++ two))
-shows_first ring place one two c parts none first =
-    shows_parts ring place one two c parts first (subst (λ (bs : List (List ℕ)). ShowsBlocks ring c 0 bs) (sym (none_blocks two none)) tt)
+pub places_first : (P : ℕ → List ℕ → Type 0) (ring place : ℕ) (one two : List ℕ) → InParts ring place one two → length two ≡ 0 → EachPlace P ring (place % ring) (all_blocks one) → EachPlace P ring place (all_blocks (one ++ two))
+places_first P ring place one two parts none first =
+    places_parts P ring place one two parts first (subst (λ (bs : List (List ℕ)). EachPlace P ring 0 bs) (sym (none_blocks two none)) tt)
+
+-- what two reads gave, the second behind the first
+pub gave_parts : (unit ring place : ℕ) (one two : List ℕ) (old mid : Meaning) → InParts ring place one two → Goes Nothing old mid → (IsTrue mid.down → ⊥)
+    → (IsTrue old.tells → GaveBlocks unit ring old (place % ring) (all_blocks one)) → (IsTrue mid.tells → GaveBlocks unit ring mid 0 (all_blocks two)) → IsTrue old.tells → GaveBlocks unit ring old place (all_blocks (one ++ two))
+gave_parts unit ring place one two old mid parts goes up first second tells =
+    places_parts (old.reads unit) ring place one two parts (first tells) (gave_before unit ring old mid 0 (all_blocks two) goes up (second (subst (λ (t : Bool). IsTrue t) (sym goes.tells) tells)))

@@ -1,5 +1,5 @@
 -- What reads of a log's blocks show.
-use Rattle.std.proofs.Common.{◌≡◌, ◌⊎◌, inl, inr, ⊎_elim, ℕ, zero, suc, ◌+◌, ◌-◌, ◌*◌, ◌%◌, ◌<◌, ◌≤◌, Bool, true, false, ◌&&◌, List, [], length, take, drop, IsTrue, refl, sym, ◌∙◌, ap, subst, arith, lit<, append-nil}
+use Rattle.std.proofs.Common.{◌≡◌, ◌⊎◌, inl, inr, ⊎_elim, ℕ, zero, suc, ◌+◌, ◌-◌, ◌*◌, ◌%◌, ◌<◌, ◌≤◌, Bool, true, false, ◌&&◌, List, [], ◌∷◌, length, take, drop, IsTrue, refl, sym, ◌∙◌, ap, subst, arith, lit<, append-nil}
 use Rattle.std.specs.Prelude.{nat_lt}
 use Rattle.std.proofs.Math.Nat.{mod-eq_of_lt}
 use Rattle.std.proofs.lemmas.Bool.{lt-ltb, le-ltb, and_from}
@@ -16,14 +16,15 @@ use Rattle.vx_srlfmt.specs.declared.header.Header.{Header}
 use Rattle.vx_srlfmt.specs.declared.record.Seen.{Seen}
 use Rattle.vx_srlfmt.specs.declared.record.Seen.TheVariants as seen
 use Rattle.vx_srlfmt.proofs.Lengths.{length-header_fields}
-use Rattle.vx_disk.specs.Shelf.{Meaning, Covers, Read, piece}
+use Rattle.vx_disk.specs.Shelf.{Covers, Goes, Meaning, Nothing, Read}
 use Rattle.vx_disk.proofs.Runs.{piece_one, covers_one}
 use Rattle.vx_ringlog.specs.Cells.{Image}
 use Rattle.vx_ringlog.specs.Chain.{block}
 use Rattle.vx_ringio.specs.Bodies.{blocks_of}
 use Rattle.vx_ringio.specs.Classes.{class_of, is_of_ring}
-use Rattle.vx_ringio.specs.Reading.{ReadsAs, ShowsFront, ShowsBlocks}
+use Rattle.vx_ringio.specs.Reading.{EachPlace, GaveBlocks, ReadsAs, SeesFront, ShowsFront, ShowsBlocks}
 use Rattle.vx_ringio.proofs.Classing.{class_is, class_front, class_no_top, front_class, damaged_class, top_class}
+use Rattle.vx_ringio.proofs.Following.{still_read}
 use Rattle.vx_ringio.proofs.Writing.{nth, nth_more}
 
 -- ---- headers of the log
@@ -94,23 +95,40 @@ front_shows unit ring place bytes m s size some read is c reads =
 
 -- ---- blocks of a body
 
-shows_each : (ring : ℕ) (c : Image) (p n : ℕ) (bytes : List ℕ) → ((k : ℕ) → k < n → class_of ring (nth bytes k) ≡ c (block ring (p + k))) → ShowsBlocks ring c p (blocks_of n bytes)
-shows_each ring c p zero bytes each = tt
-shows_each ring c p (suc n) bytes each = (
-  each 0 (omega arith) ∙ ap (λ (q : ℕ). c (block ring q)) (omega arith),
-  shows_each ring c (suc p) n (drop 512 bytes) (λ k low.
-      ap (λ (x : List ℕ). class_of ring x) (nth_more bytes k) ∙ each (suc k) (omega arith) ∙ ap (λ (q : ℕ). c (block ring q)) (omega arith)),
+places_each : (P : ℕ → List ℕ → Type 0) (ring p n : ℕ) (bytes : List ℕ) → ((k : ℕ) → k < n → P (block ring (p + k)) (nth bytes k)) → EachPlace P ring p (blocks_of n bytes)
+places_each P ring p zero bytes each = tt
+places_each P ring p (suc n) bytes each = (
+  (let at : p + 0 ≡ p = omega arith in subst (λ (q : ℕ). P (block ring q) (take 512 bytes)) at (each 0 (omega arith))),
+  places_each P ring (suc p) n (drop 512 bytes) (λ k low.
+      let at : p + suc k ≡ suc p + k = omega arith in
+      subst (λ (q : ℕ). P (block ring q) (nth (drop 512 bytes) k)) at (subst (λ (x : List ℕ). P (block ring (p + suc k)) x) (sym (nth_more bytes k)) (each (suc k) (omega arith)))),
 )
 
-pub part_shows : (unit ring first n : ℕ) (bytes : List ℕ) (m : Meaning) → length bytes ≡ 512 * n → first + n ≤ ring → Read m unit (2 + first) bytes
-    → (c : Image) → ReadsAs unit ring c m → ShowsBlocks ring c first (blocks_of n bytes)
-part_shows unit ring first n bytes m size fits read c reads = shows_each ring c first n bytes each
+-- what a read of blocks that do not pass the ring's end gave
+pub part_gave : (unit ring first n : ℕ) (bytes : List ℕ) (m : Meaning) → length bytes ≡ 512 * n → first + n ≤ ring → Read m unit (2 + first) bytes → IsTrue m.tells → GaveBlocks unit ring m first (blocks_of n bytes)
+part_gave unit ring first n bytes m size fits read tells = places_each (m.reads unit) ring first n bytes each
   where
-    each : (k : ℕ) → k < n → class_of ring (nth bytes k) ≡ c (block ring (first + k))
+    each : (k : ℕ) → k < n → m.reads unit (block ring (first + k)) (nth bytes k)
     each k low =
         let at : 2 + first + k - (2 + first) ≡ k = omega arith in
         let covers : Covers unit (2 + first) bytes unit (2 + first + k) = record { there = refl; first = omega arith; last = omega (arith, size, low) } in
         let same : (first + k) % ring ≡ first + k = mod-eq_of_lt (omega (arith, fits, low)) in
-        ap (λ (n : ℕ). class_of ring (take 512 (drop (512 * n) bytes))) (sym at)
-        ∙ reads.each (2 + first + k) (piece (2 + first) bytes (2 + first + k)) (omega (arith, fits, low)) (read.each reads.tells (2 + first + k) covers)
-        ∙ ap (λ (b : ℕ). c b) (omega (arith, same))
+        let there : 2 + first + k ≡ block ring (first + k) = omega (arith, same) in
+        subst (λ (b : ℕ). m.reads unit b (nth bytes k)) there (subst (λ (j : ℕ). m.reads unit (2 + first + k) (take 512 (drop (512 * j) bytes))) at (read.each tells (2 + first + k) covers))
+
+-- the classes of the blocks that reads gave
+pub gave_shows : (unit ring : ℕ) (m : Meaning) (p : ℕ) (bs : List (List ℕ)) → 0 < ring → (c : Image) → ReadsAs unit ring c m → GaveBlocks unit ring m p bs → ShowsBlocks ring c p bs
+gave_shows unit ring m p [] some c reads gave = tt
+gave_shows unit ring m p (b ∷ bs) some c reads gave = (reads.each (block ring p) b (omega (arith, some)) gave.0, gave_shows unit ring m (suc p) bs some c reads gave.1)
+
+pub part_shows : (unit ring first n : ℕ) (bytes : List ℕ) (m : Meaning) → length bytes ≡ 512 * n → first + n ≤ ring → 0 < ring → Read m unit (2 + first) bytes
+    → (c : Image) → ReadsAs unit ring c m → ShowsBlocks ring c first (blocks_of n bytes)
+part_shows unit ring first n bytes m size fits some read c reads = gave_shows unit ring m first (blocks_of n bytes) some c reads (part_gave unit ring first n bytes m size fits read reads.tells)
+
+-- and those that they gave behind other reads
+pub gave_before : (unit ring : ℕ) (old mid : Meaning) (p : ℕ) (bs : List (List ℕ)) → Goes Nothing old mid → (IsTrue mid.down → ⊥) → GaveBlocks unit ring mid p bs → GaveBlocks unit ring old p bs
+gave_before unit ring old mid p [] goes up gave = tt
+gave_before unit ring old mid p (b ∷ bs) goes up gave = (still_read old mid goes up unit (block ring p) b gave.0, gave_before unit ring old mid (suc p) bs goes up gave.1)
+
+pub sees_front_before : (unit b : ℕ) (old mid : Meaning) (s : Seen) → Goes Nothing old mid → (IsTrue mid.down → ⊥) → SeesFront unit b mid s → SeesFront unit b old s
+sees_front_before unit b old mid s goes up sees = record { bytes = sees.bytes; read = still_read old mid goes up unit b sees.bytes sees.read; is = sees.is }

@@ -3,7 +3,7 @@ use Rattle.std.specs.Prelude.{◌≡◌, ℕ, suc, ◌+◌, ◌<◌, ◌≤◌, 
 use Rattle.vx_wire.specs.Seals.{digest_of}
 use Rattle.vx_srlfmt.specs.Headers.{IsDamagedHeader, CanSpell}
 use Rattle.vx_srlfmt.specs.Kinds.{Kind, Top, Front, Damaged, Other}
-use Rattle.vx_srlfmt.specs.Records.{CanSpellHead}
+use Rattle.vx_srlfmt.specs.Records.{CanSpellHead, IsSeen}
 use Rattle.vx_srlfmt.specs.declared.header.Header.{Header}
 use Rattle.vx_srlfmt.specs.declared.record.RecordHead.{RecordHead}
 use Rattle.vx_srlfmt.specs.declared.record.Seen.{Seen}
@@ -56,6 +56,12 @@ DigestsDiffer (top.Valid h) = Unit {0}
 DigestsDiffer (top.Broken stored computed) = stored ≡ computed → ⊥
 DigestsDiffer top.Other = Unit {0}
 
+-- a read gave a block that is this as the header of a record
+pub record SeesFront (unit block : ℕ) (m : Meaning) (front : Seen) : Type 0 where
+  pub bytes : List ℕ
+  pub read : m.reads unit block bytes
+  pub is : IsSeen bytes front
+
 -- what a block is as the header of a record
 abbrev pub ShowsFront : Seen → Kind → Type 0
 ShowsFront (seen.Record r) v = v ≡ Front r
@@ -74,7 +80,15 @@ FrontCanSpell (seen.Record r) = CanSpellHead r
 FrontCanSpell (seen.Damaged stored computed) = Unit {0}
 FrontCanSpell seen.Other = Unit {0}
 
--- blocks that were read from place p on
+-- P of each of these blocks and the block of its place, from place p on
+abbrev pub EachPlace : (ℕ → List ℕ → Type 0) → ℕ → ℕ → List (List ℕ) → Type 0
+EachPlace P ring p [] = Unit {0}
+EachPlace P ring p (b ∷ bs) = P (block ring p) b × EachPlace P ring (suc p) bs
+
+-- blocks of these classes were read from place p on
 abbrev pub ShowsBlocks : ℕ → Image → ℕ → List (List ℕ) → Type 0
-ShowsBlocks ring c p [] = Unit {0}
-ShowsBlocks ring c p (b ∷ bs) = (class_of ring b ≡ c (block ring p)) × ShowsBlocks ring c (suc p) bs
+ShowsBlocks ring c p bs = EachPlace (λ at b. class_of ring b ≡ c at) ring p bs
+
+-- reads gave these blocks from place p on
+abbrev pub GaveBlocks : ℕ → ℕ → Meaning → ℕ → List (List ℕ) → Type 0
+GaveBlocks unit ring m p bs = EachPlace (m.reads unit) ring p bs

@@ -1,9 +1,10 @@
 // The reads of a log.
 ghost use Rattle.std.specs.Prelude.{◌≡◌, ◌+◌, ◌*◌, ◌/◌, ◌%◌, ◌<◌, ◌≤◌, ℕ, length, IsTrue, OnOk, IfOk};
-ghost use Rattle.vx_disk.specs.Causes.{Cause};
+ghost use Rattle.vx_disk.specs.Causes.{Cause, OnDisks};
+ghost use Rattle.vx_disk.specs.Disks.{Untouched};
 ghost use Rattle.vx_disk.specs.Shelf.{Goes, Nothing};
 ghost use Rattle.vx_ringio.specs.Bodies.{IsBlocks, all_blocks};
-ghost use Rattle.vx_ringio.specs.Reading.{ReadsAs, IsTop, SeesTop, DigestsDiffer, TopIsOfRing, ShowsFront, FrontDigestsDiffer, FrontCanSpell, ShowsBlocks};
+ghost use Rattle.vx_ringio.specs.Reading.{ReadsAs, IsTop, SeesFront, SeesTop, DigestsDiffer, TopIsOfRing, ShowsFront, FrontDigestsDiffer, FrontCanSpell, GaveBlocks, ShowsBlocks};
 ghost use Rattle.vx_ringio.specs.Tracks.{Lies};
 ghost use Rattle.vx_ringlog.specs.Cells.{Image};
 ghost use Rattle.vx_ringlog.specs.Chain.{block as block_of_place};
@@ -68,6 +69,7 @@ pub fn read_front<S: Shelf>(
     requires some { 0 < ring }
     requires few { ring ≤ 65534 }
     ensures shows { IfOk result (λ seen. (c : Image) → ReadsAs unit ring c (S.meaning shelf.old) → ShowsFront seen (c (block_of_place ring place))) }
+    ensures sees { IfOk result (λ seen. IsTrue (S.meaning shelf.old).tells → SeesFront unit (block_of_place ring place) (S.meaning shelf.old) seen) }
     ensures differ { IfOk result FrontDigestsDiffer }
     ensures spell { IfOk result FrontCanSpell }
     ensures goes { Goes Nothing (S.meaning shelf.old) (S.meaning shelf.new) }
@@ -91,8 +93,11 @@ fn read_part<S: Shelf>(
     requires blocks { IsBlocks into.old }
     requires room { first + length into.old / 512 ≤ ring }
     ensures shows { OnOk result ((c : Image) → ReadsAs unit ring c (S.meaning shelf.old) → ShowsBlocks ring c first (all_blocks into.new)) }
+    ensures gave { OnOk result (IsTrue (S.meaning shelf.old).tells → GaveBlocks unit ring (S.meaning shelf.old) first (all_blocks into.new)) }
     ensures size { length into.new ≡ length into.old }
     ensures goes { Goes Nothing (S.meaning shelf.old) (S.meaning shelf.new) }
+    ensures down { (S.meaning shelf.new).down ≡ (S.meaning shelf.old).down }
+    ensures disks { OnDisks (S.meaning shelf.old).disks (S.meaning shelf.new).disks Untouched }
     ensures cause { Cause (S.meaning shelf.old) (S.meaning shelf.new) unit result }
 {
     shelf.read(unit, 2 + first, into)
@@ -111,8 +116,11 @@ pub fn read_body<S: Shelf>(
     requires blocks { IsBlocks into.old }
     requires room { length into.old / 512 ≤ ring }
     ensures shows { OnOk result ((c : Image) → ReadsAs unit ring c (S.meaning shelf.old) → ShowsBlocks ring c place (all_blocks into.new)) }
+    ensures gave { OnOk result (IsTrue (S.meaning shelf.old).tells → GaveBlocks unit ring (S.meaning shelf.old) place (all_blocks into.new)) }
     ensures size { length into.new ≡ length into.old }
     ensures goes { Goes Nothing (S.meaning shelf.old) (S.meaning shelf.new) }
+    ensures down { (S.meaning shelf.new).down ≡ (S.meaning shelf.old).down }
+    ensures disks { OnDisks (S.meaning shelf.old).disks (S.meaning shelf.new).disks Untouched }
     ensures cause { Cause (S.meaning shelf.old) (S.meaning shelf.new) unit result }
 {
     let first = place % ring;

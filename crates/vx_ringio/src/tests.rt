@@ -9,6 +9,7 @@ use super::*;
 use std::alloc::Global;
 use std::test::*;
 use vx_disk::{MemShelf, Rack, Shelf, ShelfError};
+use vx_model::limits::MOST_NUMBER;
 use vx_model::{Line, OutOfMemory, State};
 use vx_srlfmt::{Header, RecordHead, Seen};
 use vx_wire::digest;
@@ -53,7 +54,7 @@ fn head(digest: [u8; 32], firsts: [u8; 16]) -> RecordHead
 }
 
 fn new_header(stamp: u64) -> Header
-    requires { stamp < 2 ^ 63 }
+    requires { stamp ≤ MOST_NUMBER }
     ensures stamp { result.stamp ≡ stamp }
     ensures spell { CanSpell result }
     ensures of_ring { is_of_ring 6 result ≡ true }

@@ -144,16 +144,17 @@ fn remove(rt: &HostRuntime) {
     let _ = fs::remove_file(rt, "./1-2.vxd");
 }
 
-// Runs a script over the files of this folder.
-fn run_in_files<H: Threads + Wait + Sync>(
+// Runs a script over the files of a folder.
+fn run_in_files<H: Threads + Wait + Sync, O: Sink>(
     handle: &H,
     rt: HostRuntime,
+    dir: &str,
     script: &[u8],
-    sink: &mut Watch,
+    sink: &mut O,
 ) -> Result<Status, Fail> {
     let alloc = rt.alloc();
     let mut words = Vec::new(alloc);
-    for word in ["run", "--dir", "."] {
+    for word in ["run", "--dir", dir] {
         words.push(String::from_str(alloc, word)?)?;
     }
     let mut source = MemSource::new(alloc, script, &[])?;
@@ -187,11 +188,11 @@ fn a_write_that_is_answered_is_in_the_files(rt: HostRuntime) -> Result<(), Fail>
     let script =
         b"site a 3 64\nraw a\nwrite a d1 0 1 11\nwrite a d1 5 1 22\nwrite a d1 63 1 33\nwrite a d1 1 1 44\nwrite a d1 32 1 55\nwrite a d1 7 1 66\nwrite a d1 2 1 77\nwrite a d1 40 1 88\nwrite a d1 9 1 99\nwrite a d1 3 1 aa\n";
     let mut first = new_sink(rt)?;
-    let status = run_in_files(&rt, rt, script, &mut first)?;
+    let status = run_in_files(&rt, rt, ".", script, &mut first)?;
     let later =
         b"site a 3 64\nrecover a\nread a d1 63 1\nwrite a d1 0 1 bb\nread a d1 0 2\nsite b 3 64\nrecover b\n";
     let mut second = new_sink(rt)?;
-    let later_status = run_in_files(&rt, rt, later, &mut second)?;
+    let later_status = run_in_files(&rt, rt, ".", later, &mut second)?;
     remove(&rt);
     assert_eq!(rt; status, Status::Done);
     assert_eq!(rt;
@@ -206,5 +207,42 @@ fn a_write_that_is_answered_is_in_the_files(rt: HostRuntime) -> Result<(), Fail>
         b"done\nrecovered 10\nsite a up\nrvg primary 1 a head 10 mark consistent session 2\n33\ndone 11\nbb\n44\ndone\nno 9 noconfig\n".as_slice()
     );
     assert_eq!(rt; second.misses, 0);
+    Ok(())
+}
+
+// Each site takes up what stands in files of its own.
+#[test]
+fn sites_have_files_of_their_own(rt: HostRuntime) -> Result<(), Fail> {
+    let alloc = rt.alloc();
+    remove(&rt);
+    let script =
+        b"site a 3 64\nraw a\nwrite a d1 0 1 11\nsite b 3 64\nraw b\nwrite b d1 0 1 22\nwrite b d1 1 1 33\n";
+    let mut first = MemSink::new(alloc, 4096, &[])?;
+    let status = run_in_files(&rt, rt, ".", script, &mut first)?;
+    let later = b"site a 3 64\nsite b 3 64\nrecover a\nrecover b\nread a d1 0 2\nread b d1 0 2\n";
+    let mut second = MemSink::new(alloc, 4096, &[])?;
+    let later_status = run_in_files(&rt, rt, ".", later, &mut second)?;
+    remove(&rt);
+    assert_eq!(rt; status, Status::Done);
+    assert_eq!(rt;
+        first.written(),
+        b"done\ndone\ndone 1\ndone\ndone\ndone 1\ndone 2\n".as_slice()
+    );
+    assert_eq!(rt; later_status, Status::Done);
+    assert_eq!(rt;
+        second.written(),
+        b"done\ndone\nrecovered 1\nsite a up\nrvg primary 1 a head 1 mark consistent session 2\nrecovered 2\nsite b up\nrvg primary 1 b head 2 mark consistent session 2\n11\n00\n22\n33\n".as_slice()
+    );
+    Ok(())
+}
+
+// The files are looked for in the folder that the words name.
+#[test]
+fn a_folder_that_is_not_there_has_no_disks(rt: HostRuntime) -> Result<(), Fail> {
+    let alloc = rt.alloc();
+    let mut sink = MemSink::new(alloc, 64, &[])?;
+    let status = run_in_files(&rt, rt, "./not-there", b"site a 3 64\n", &mut sink)?;
+    assert_eq!(rt; status, Status::Done);
+    assert_eq!(rt; sink.written(), b"no 7 device 0\n".as_slice());
     Ok(())
 }

@@ -28,7 +28,7 @@ use Rattle.vx_rvg.specs.Stands.{IsWholeRecord, Ready, Resting, Rests}
 use Rattle.vx_rvg.specs.Views.{Core, IsSound, Waits, applied_count, last_of, unit_of, volume_size}
 use Rattle.vx_rvg.proofs.ApplyAll.{applied_core, apply_sound, bring_few}
 use Rattle.vx_rvg.proofs.ApplyPuts.{none_put, put_kept, within_count}
-use Rattle.vx_rvg.proofs.ContentFacts.{found_as, found_held, volume_there}
+use Rattle.vx_rvg.proofs.ContentFacts.{found_as, found_held, has_maps_beside, maps_moved, volume_there}
 use Rattle.vx_rvg.proofs.ReadStands.{waits_content, whole_drop, whole_writes, writes_drop}
 use Rattle.vx_rvg.proofs.WriteSound.{failed_sound, moved_sizes}
 
@@ -153,7 +153,7 @@ module _ (core : Core) (c : Content) (m : Meaning) (s : State) (ready : Ready co
         settles : (v b : ℕ) → b < c.size v → newest (drop count core.pending.entries) v b ≡ None → (o : Option (List ℕ)) → newest core.pending.entries v b ≡ o
             → Keeps m' (unit_of core.units.vols v) b (c.block v b)
         settles v b inside none (Some bytes) is =
-            subst (λ (y : List ℕ). Keeps m' (unit_of core.units.vols v) b y) (waits_content core c m (record { log = s; ready = ready }) v b bytes inside is)
+            subst (λ (y : List ℕ). Keeps m' (unit_of core.units.vols v) b y) (waits_content core c m s ready v b bytes inside is)
             (put_kept core.units.vols c m ready.sizes core m' v b bytes is came (due core to) came_same came_whole brings.each (came_some v b bytes is none))
         settles v b inside none None is = kept v b inside is (c.block v b) (ready.settled v b inside is)
 
@@ -172,19 +172,31 @@ module _ (core : Core) (c : Content) (m : Meaning) (s : State) (ready : Ready co
           settled = λ v b inside none. settles v b inside none (newest core.pending.entries v b) refl;
         }
 
--- ---- of each content
+-- ---- of whatever the group held
+
+-- the maps lie beside what comes into the volumes
+maps_aside : (core : Core) (m : Meaning) → IsSound core m → (b : ℕ) → Waits core m core.units.maps b → ⊥
+maps_aside core m sound b waits = sound.placed.maps_aside waits.kept.head.vol waits.exists (sym waits.there)
 
 pub apply_moves : (core : Core) (m m' : Meaning) → IsSound core m → Moves (Waits core m) Anything m m' → Moves (Waits core m) (Resting core m) m m'
 apply_moves core m m' sound moves =
     wider (Waits core m) (Waits core m) Anything (Resting core m) m m' moves (λ u b is. is)
     (λ i beside any. record {
-      each = λ c stands. found_as core c m i sound.log_unit stands.log stands.ready (recovers core c m stands.log stands.ready sound i beside) (has core c m stands.log stands.ready sound i beside);
+      each = λ h stands.
+          found_as core h m i sound.log_unit stands (recovers core h.content m stands.log stands.ready sound i beside) (has core h.content m stands.log stands.ready sound i beside)
+          (has_maps_beside (Waits core m) core.units h.maps m i (maps_aside core m sound) stands.maps beside);
     })
 
 pub apply_rests : (core : Core) (m m' : Meaning) → IsSound core m → Moves (Waits core m) Anything m m' → (to count : ℕ) → core.log.header.low ≤ core.applied + 1 → core.applied ≤ to
     → Brings core to m m' count → (IsTrue m'.down → ⊥) → Rests core (with_applied core to count) m m'
 apply_rests core m m' sound moves to count low from brings up = record {
-  each = λ c stands. record { log = stands.log; ready = applied_ready core c m stands.log stands.ready sound m' moves to count low from brings up };
+  each = λ h stands. record {
+    log = stands.log;
+    ready = applied_ready core h.content m stands.log stands.ready sound m' moves to count low from brings up;
+    low = stands.low;
+    writes = stands.writes;
+    maps = maps_moved (Waits core m) Anything core.units h.maps m m' moves (maps_aside core m sound) stands.maps;
+  };
 }
 
 pub still_running : (answer down : Bool) → answer ≡ down → IsFalse answer → IsTrue down → ⊥
@@ -192,7 +204,7 @@ still_running answer down is not fell = let wrong : false ≡ true = sym not ∙
 
 -- nothing was brought
 pub same_rests : (core : Core) (m : Meaning) → Rests core core m m
-same_rests core m = record { each = λ c stands. stands }
+same_rests core m = record { each = λ h stands. stands }
 
 pub same_moves : (core : Core) (m : Meaning) → Moves (Waits core m) (Resting core m) m m
 same_moves core m = still (Waits core m) (Resting core m) m

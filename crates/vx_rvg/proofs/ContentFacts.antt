@@ -1,15 +1,16 @@
--- What a group that stands leaves in each image, and where its log begins and ends.
-use Rattle.std.proofs.Common.{◌≡◌, inl, inr, ⊎_elim, ℕ, zero, suc, ◌+◌, ◌<◌, Bool, true, false, List, [], ◌∷◌, ◌++◌, length, take, Option, Some, None, MatchOption, refl, sym, ◌∙◌, ap, subst, arith, append-nil}
+-- What a group that stands leaves in each image, where its log begins and ends, and what it holds.
+use Rattle.std.proofs.Common.{◌≡◌, inl, inr, ⊎_elim, ℕ, zero, suc, ◌+◌, ◌-◌, ◌<◌, Bool, true, false, List, [], ◌∷◌, ◌++◌, length, take, drop, Option, Some, None, MatchOption, refl, sym, ◌∙◌, ap, subst, arith, append-nil}
 use Rattle.std.specs.Prelude.{if◌then◌else◌}
 use Rattle.std.proofs.lemmas.Bool.{cases_lt}
 use Rattle.std.proofs.lemmas.Bool.Decides.{nat_tests}
 use Rattle.vx_model.specs.Content.{Content, Write}
+use Rattle.vx_model.specs.declared.units.Units.{Units}
 use Rattle.vx_srlfmt.specs.Kinds.{Kind, Top, Front, Body, Damaged, Other, kind_of}
 use Rattle.vx_srlfmt.specs.declared.header.Header.{Header}
 use Rattle.vx_srlfmt.specs.declared.record.RecordHead.{RecordHead}
 use Rattle.vx_disk.specs.Shelf.{Meaning, Image, Each, Lawful, Keeps}
-use Rattle.vx_disk.specs.Moves.{Blocks, Beside, Run}
-use Rattle.vx_disk.proofs.Moving.{left_beside}
+use Rattle.vx_disk.specs.Moves.{Blocks, Beside, Moves, Run, Says}
+use Rattle.vx_disk.proofs.Moving.{kept_beside, left_beside}
 use Rattle.vx_overlay.specs.Writes.{newest_of}
 use Rattle.vx_ringlog.specs.Cells.{IsImage}
 use Rattle.vx_ringlog.specs.Cells as cells
@@ -23,7 +24,8 @@ use Rattle.vx_srl.specs.Rings.{RingOn, heads_of, kept_heads}
 use Rattle.vx_srl.specs.Views.{Log, head_of}
 use Rattle.vx_srl.specs.declared.kept.Kept.{Kept}
 use Rattle.vx_rvg.specs.Contents.{writes_of, KeepsContent, HasContent, HasSizes}
-use Rattle.vx_rvg.specs.Stands.{Ready, Stands, FoundAs}
+use Rattle.vx_rvg.specs.Holdings.{Holding, kept_in, with_content}
+use Rattle.vx_rvg.specs.Stands.{FoundAs, HasMaps, KeepsMaps, Stands}
 use Rattle.vx_rvg.specs.Views.{Core, Placed, unit_of, last_of}
 
 -- ---- what an image has
@@ -120,35 +122,82 @@ ring_left l s m i on idle each =
     found_held l.ring s (classes l.unit l.ring i) idle
     ((call_safe l.ring s Seal on.is_log tt).0.0 (classes l.unit l.ring i) (now_left l.unit l.ring s.unit m i on.tracks each))
 
-module _ (core : Core) (c : Content) (m : Meaning) (i : Image) (unit_is : core.log.unit ≡ core.units.srl) where
-  -- an image with the log that stands and any content
-  pub found_with : (s : State) → Ready core c s m → Recovers core.log.ring (classes core.log.unit core.log.ring i) s.header s.held
-      → (d : Content) → HasContent core.units.vols d (writes_of s.held) i → FoundAs core i (last_of core) d
-  found_with s ready recovers d content = record {
-    header = s.header;
-    records = s.held;
-    recovers = subst (λ (u : ℕ). Recovers core.log.ring (classes u core.log.ring i) s.header s.held) unit_is recovers;
-    state_is = ap (λ (h : Header). h.state) ready.ring.describes.header;
-    session_is = ap (λ (h : Header). h.incarnation) ready.ring.describes.header;
-    stamp_most = omega (arith, ap (λ (h : Header). h.stamp) ready.ring.describes.header);
-    some = recovers_low core.log.unit core.log.ring i s.header s.held recovers;
-    last_is = omega (arith, recovers_low core.log.unit core.log.ring i s.header s.held recovers, ap (λ (h : Header). h.low) ready.ring.describes.header, held_length core.log s m ready.ring);
-    content = content;
+-- ---- the maps
+
+-- an image has the maps, where each block of them is one that a crash may leave
+pub has_maps : (units : Units) (maps : List (List ℕ)) (m : Meaning) (i : Image) → KeepsMaps units maps m → ((b : ℕ) → m.leaves units.maps b (i units.maps b)) → HasMaps units maps i
+has_maps units maps m i keeps left = record { each = λ b bytes there. (keeps.each b bytes there).only (i units.maps b) (left b) }
+
+-- the same in a call that changes none of them
+pub has_maps_beside : (mine : Blocks) (units : Units) (maps : List (List ℕ)) (m : Meaning) (i : Image) → ((b : ℕ) → mine units.maps b → ⊥) → KeepsMaps units maps m → Beside mine m.leaves i → HasMaps units maps i
+has_maps_beside mine units maps m i apart keeps beside = has_maps units maps m i keeps (λ b. left_beside mine m units.maps b (apart b) i beside)
+
+-- and behind it
+pub maps_moved : (mine : Blocks) (P : Says) (units : Units) (maps : List (List ℕ)) (m m' : Meaning) → Moves mine P m m' → ((b : ℕ) → mine units.maps b → ⊥) → KeepsMaps units maps m → KeepsMaps units maps m'
+maps_moved mine P units maps m m' moves apart keeps = record {
+  size = keeps.size ∙ sym (moves.size units.maps);
+  each = λ b bytes there. kept_beside mine P m m' moves units.maps b (apart b) bytes (keeps.each b bytes there);
+}
+
+-- they lie beside the log
+pub maps_beside : (core : Core) (m : Meaning) → Placed core.units m → core.log.unit ≡ core.units.srl → (b : ℕ) → Run core.log.unit 0 (core.log.ring + 2) core.units.maps b → ⊥
+maps_beside core m placed unit_is b run = placed.maps_apart (run.there ∙ unit_is)
+
+-- ---- what a group holds
+
+pub writes_count : (rs : List Record) → length (writes_of rs) ≡ length rs
+writes_count [] = refl
+writes_count (r ∷ rs) = ap suc (writes_count rs)
+
+-- as many writes as its log has records
+pub stands_count : (core : Core) (h : Holding) (m : Meaning) → Stands core h m → length h.writes ≡ length core.log.held
+stands_count core h m stands = ap (λ (xs : List Write). length xs) (sym stands.writes) ∙ writes_count stands.log.held ∙ held_length core.log stands.log m stands.ready.ring
+
+-- the number behind its last write
+pub stands_last : (core : Core) (h : Holding) (m : Meaning) → Stands core h m → 0 < core.log.header.low → h.low + length h.writes ≡ last_of core + 1
+stands_last core h m stands some = omega (arith, some, stands.low, stands_count core h m stands)
+
+holding_is : (h : Holding) (low : ℕ) (writes : List Write) → low ≡ h.low → writes ≡ h.writes → record { low = low; writes = writes; content = h.content; maps = h.maps } ≡ h
+holding_is h low writes one two = λ i. record { low = one i; writes = two i; content = h.content; maps = h.maps }
+
+none_gone : (n k : ℕ) (xs : List Write) → n ≡ k → drop (n - k) xs ≡ xs
+none_gone n k xs is = let none : n - k ≡ 0 = omega (arith, is) in ap (λ (j : ℕ). drop j xs) none
+
+-- a log that gave up nothing has all
+pub kept_all : (core : Core) (h : Holding) (m : Meaning) → Stands core h m → kept_in core h ≡ h
+kept_all core h m stands = holding_is h core.log.header.low (drop (length h.writes - length core.log.held) h.writes) stands.low (none_gone (length h.writes) (length core.log.held) h.writes (stands_count core h m stands))
+
+module _ (core : Core) (h : Holding) (m : Meaning) (i : Image) (unit_is : core.log.unit ≡ core.units.srl) (stands : Stands core h m) where
+  -- an image with the log that stands, the maps, and any content
+  pub found_with : Recovers core.log.ring (classes core.log.unit core.log.ring i) stands.log.header stands.log.held
+      → (d : Content) → HasContent core.units.vols d (writes_of stands.log.held) i → HasMaps core.units h.maps i → FoundAs core i (with_content d h)
+  found_with recovers d content maps = record {
+    header = stands.log.header;
+    records = stands.log.held;
+    recovers = subst (λ (u : ℕ). Recovers core.log.ring (classes u core.log.ring i) stands.log.header stands.log.held) unit_is recovers;
+    state_is = ap (λ (g : Header). g.state) stands.ready.ring.describes.header;
+    session_is = ap (λ (g : Header). g.incarnation) stands.ready.ring.describes.header;
+    stamp_most = omega (arith, ap (λ (g : Header). g.stamp) stands.ready.ring.describes.header);
+    some = omega (arith, recovers_low core.log.unit core.log.ring i stands.log.header stands.log.held recovers, ap (λ (g : Header). g.low) stands.ready.ring.describes.header, stands.low);
+    low_is = ap (λ (g : Header). g.low) stands.ready.ring.describes.header ∙ stands.low;
+    writes_are = stands.writes;
+    content = subst (λ (xs : List Write). HasContent core.units.vols d xs i) stands.writes content;
+    maps = maps;
   }
 
-  -- an image with the log that stands and its content
-  pub found_as : (s : State) → Ready core c s m → Recovers core.log.ring (classes core.log.unit core.log.ring i) s.header s.held
-      → HasContent core.units.vols c (writes_of s.held) i → FoundAs core i (last_of core) c
-  found_as s ready recovers content = found_with s ready recovers c content
+  -- an image with the log that stands, its content and its maps
+  pub found_as : Recovers core.log.ring (classes core.log.unit core.log.ring i) stands.log.header stands.log.held
+      → HasContent core.units.vols h.content (writes_of stands.log.held) i → HasMaps core.units h.maps i → FoundAs core i h
+  found_as recovers content maps = found_with recovers h.content content maps
 
-  pub left_found : Stands core c m → Each m.leaves i → FoundAs core i (last_of core) c
-  left_found stands each =
-      found_as stands.log stands.ready (ring_left core.log stands.log m i stands.ready.ring stands.ready.idle each)
-      (has_content core.units.vols c (writes_of stands.log.held) m i stands.ready.content each)
+  pub left_found : Each m.leaves i → FoundAs core i h
+  left_found each =
+      found_as (ring_left core.log stands.log m i stands.ready.ring stands.ready.idle each)
+      (has_content core.units.vols h.content (writes_of stands.log.held) m i stands.ready.content each) (has_maps core.units h.maps m i stands.maps (λ b. each core.units.maps b))
 
-  -- a group that stands has its content in each image that a crash now leaves
-  pub stands_found : Lawful m → Stands core c m → m.now i → FoundAs core i (last_of core) c
-  stands_found lawful stands now = left_found stands (lawful.within i now)
+-- a group that stands has what it holds in each image that a crash now leaves
+pub stands_found : (core : Core) (h : Holding) (m : Meaning) (i : Image) → core.log.unit ≡ core.units.srl → Lawful m → Stands core h m → m.now i → FoundAs core i h
+stands_found core h m i unit_is lawful stands now = left_found core h m i unit_is stands (lawful.within i now)
 
 -- ---- the volumes lie beside the log
 

@@ -1,9 +1,9 @@
 -- A group over a call that empties its log, all of whose writes are in the volumes.
-use Rattle.std.proofs.Common.{◌≡◌, ◌⊎◌, inl, inr, ℕ, ◌+◌, ◌<◌, ◌≤◌, ◌&&◌, true, List, [], ◌∷◌, length, drop, ltb, refl, sym, ◌∙◌, ap, subst, arith}
+use Rattle.std.proofs.Common.{◌≡◌, ◌⊎◌, inl, inr, ℕ, ◌+◌, ◌-◌, ◌<◌, ◌≤◌, ◌&&◌, true, List, [], ◌∷◌, length, drop, ltb, refl, sym, ◌∙◌, ap, subst, arith}
 use Rattle.std.proofs.lemmas.Bool.Decides.{nat_tests}
 use Rattle.std.proofs.lemmas.List.{drop_all}
 use Rattle.std.proofs.lemmas.List.Elements.{All-nil}
-use Rattle.vx_model.specs.Content.{Content}
+use Rattle.vx_model.specs.Content.{Content, Write}
 use Rattle.vx_model.specs.declared.no.No.{No}
 use Rattle.vx_model.specs.declared.state.State.{State as SiteState}
 use Rattle.vx_srlfmt.specs.declared.header.Header.{Header}
@@ -26,9 +26,10 @@ use Rattle.vx_srl.specs.declared.kept.Kept.{Kept}
 use Rattle.vx_rvg.specs.Contents.{HasContent, writes_of}
 use Rattle.vx_rvg.specs.Groups.{halted_by}
 use Rattle.vx_rvg.specs.Saves.{with_restart}
-use Rattle.vx_rvg.specs.Stands.{FoundAs, IsWholeRecord, Ready, Rests, Saving}
+use Rattle.vx_rvg.specs.Holdings.{Holding, kept_in}
+use Rattle.vx_rvg.specs.Stands.{FoundAs, HasMaps, IsWholeRecord, Ready, Retains, Saving, Stands}
 use Rattle.vx_rvg.specs.Views.{Core, IsSound, applied_count, blocks_within, last_of, unit_of, volume_size}
-use Rattle.vx_rvg.proofs.ContentFacts.{found_as, has_content_beside, no_more, volumes_beside}
+use Rattle.vx_rvg.proofs.ContentFacts.{found_as, has_content_beside, has_maps_beside, maps_beside, maps_moved, no_more, volumes_beside}
 use Rattle.vx_rvg.proofs.WriteSound.{SameSizes, failed_sound, lies_same, moved_sizes, placed_same}
 
 no_items : {X : Type 0} → (xs : List X) → length xs ≡ 0 → xs ≡ []
@@ -94,16 +95,38 @@ module _ (core : Core) (state : SiteState) (head : ℕ) (all : last_of core ≤ 
         settled = λ v b low none. kept v b low;
       }
 
-    module _ (i : Image) (aside : Beside (Run core.log.unit 0 (core.log.ring + 2)) m.leaves i) where
-      old_has : HasContent core.units.vols c (writes_of s.held) i
-      old_has = has_content_beside (Run core.log.unit 0 (core.log.ring + 2)) core.units.vols c (writes_of s.held) m i beside ready.content aside
+  -- ---- of whatever the group held
 
-      new_has : HasContent core.units.vols c [] i
+  module _ (h : Holding) (stands : Stands core h m) where
+    abbrev s : State
+    s = stands.log
+
+    none_kept : [] ≡ drop (length h.writes - 0) h.writes
+    none_kept = sym (drop_all (length h.writes - 0) h.writes (omega arith))
+
+    empty_stands : (m' : Meaning) (P : Says) → Moves (Run core.log.unit 0 (core.log.ring + 2)) P m m' → LeadsTo core.log (restarting g) (restarted core.log g) m m' → Stands after (kept_in after h) m'
+    empty_stands m' P moves leads = record {
+      log = done core.log.ring s (restarting g s);
+      ready = empty_ready h.content s stands.ready m' P moves leads;
+      low = refl;
+      writes = none_kept;
+      maps = maps_moved (Run core.log.unit 0 (core.log.ring + 2)) P core.units h.maps m m' moves (maps_beside core m sound.placed sound.log_unit) stands.maps;
+    }
+
+    module _ (i : Image) (aside : Beside (Run core.log.unit 0 (core.log.ring + 2)) m.leaves i) where
+      old_has : HasContent core.units.vols h.content (writes_of s.held) i
+      old_has = has_content_beside (Run core.log.unit 0 (core.log.ring + 2)) core.units.vols h.content (writes_of s.held) m i (beside h.content s stands.ready) stands.ready.content aside
+
+      new_has : HasContent core.units.vols h.content [] i
       new_has = record {
-        each = λ v b low. seen_beside (Run core.log.unit 0 (core.log.ring + 2)) m (unit_of core.units.vols v) b (beside v b low) (c.block v b) i (settled v b low) aside;
+        each = λ v b low.
+            seen_beside (Run core.log.unit 0 (core.log.ring + 2)) m (unit_of core.units.vols v) b (beside h.content s stands.ready v b low) (h.content.block v b) i (settled h.content s stands.ready v b low) aside;
       }
 
-      found_new : Recovers core.log.ring (classes core.log.unit core.log.ring i) g [] → FoundAs after i (last_of after) c
+      has_them : HasMaps core.units h.maps i
+      has_them = has_maps_beside (Run core.log.unit 0 (core.log.ring + 2)) core.units h.maps m i (maps_beside core m sound.placed sound.log_unit) stands.maps aside
+
+      found_new : Recovers core.log.ring (classes core.log.unit core.log.ring i) g [] → FoundAs after i (kept_in after h)
       found_new recovers = record {
         header = g;
         records = [];
@@ -112,27 +135,25 @@ module _ (core : Core) (state : SiteState) (head : ℕ) (all : last_of core ≤ 
         session_is = refl;
         stamp_most = omega arith;
         some = omega arith;
-        last_is = omega arith;
-        content = new_has;
+        low_is = refl;
+        writes_are = none_kept;
+        content = subst (λ (ws : List Write). HasContent core.units.vols h.content ws i) none_kept new_has;
+        maps = has_them;
       }
 
-      empty_found : LogFound core.log.ring s (restarting g s) (classes core.log.unit core.log.ring i) → FoundAs core i (last_of core) c ⊎ FoundAs after i (last_of after) c
+      empty_found : LogFound core.log.ring s (restarting g s) (classes core.log.unit core.log.ring i) → FoundAs core i h ⊎ FoundAs after i (kept_in after h)
       empty_found (inl old) =
-          inl (found_as core c m i sound.log_unit s ready (subst (λ (rs : List Record). Recovers core.log.ring (classes core.log.unit core.log.ring i) s.header rs) (no_more s.held s.staged old.0 ready.idle) old.1) old_has)
+          inl (found_as core h m i sound.log_unit stands (subst (λ (rs : List Record). Recovers core.log.ring (classes core.log.unit core.log.ring i) s.header rs) (no_more s.held s.staged old.0 stands.ready.idle) old.1) old_has has_them)
       empty_found (inr new) = inr (found_new new)
 
-  -- ---- of each content
-
-  pub empty_rests : (m' : Meaning) (P : Says) → Moves (Run core.log.unit 0 (core.log.ring + 2)) P m m' → LeadsTo core.log (restarting g) (restarted core.log g) m m' → Rests core after m m'
-  empty_rests m' P moves leads = record {
-    each = λ c stands. record { log = done core.log.ring stands.log (restarting g stands.log); ready = empty_ready c stands.log stands.ready m' P moves leads };
-  }
+  pub empty_rests : (m' : Meaning) (P : Says) → Moves (Run core.log.unit 0 (core.log.ring + 2)) P m m' → LeadsTo core.log (restarting g) (restarted core.log g) m m' → Retains core after m m'
+  empty_rests m' P moves leads = record { each = λ h stands. empty_stands h stands m' P moves leads }
 
   pub empty_moves : (m' : Meaning) → Goes core.log (restarting g) m m' → Moves (Run core.units.srl 0 (core.log.ring + 2)) (Saving core after m) m m'
   empty_moves m' goes =
       wider (Run core.log.unit 0 (core.log.ring + 2)) (Run core.units.srl 0 (core.log.ring + 2)) (Finding core.log (restarting g) m) (Saving core after m) m m' goes
       (λ u b is. record { there = is.there ∙ sound.log_unit; first = is.first; last = is.last })
-      (λ i aside found. record { each = λ c stands. empty_found c stands.log stands.ready i aside (found.each stands.log stands.ready.ring) })
+      (λ i aside found. record { each = λ h stands. empty_found h stands i aside (found.each stands.log stands.ready.ring) })
 
 -- ---- v is the group as the code has it
 
@@ -160,10 +181,10 @@ module _ (v core : Core) (same : v ≡ core) (state : SiteState) (head : ℕ) (a
           subst (λ (k : Core). IsSound k m') (sym made)
           (empty_sound v state head all_here some m sound_here m' (moved_sizes (Run v.log.unit 0 (v.log.ring + 2)) (Finding v.log (restarting (emptied v.log state head)) m) m m' goes))
 
-      pub emptied_rests : LeadsTo v.log (restarting (emptied v.log state head)) l' m m' → Rests core (record v { log = l'; applied = head }) m m'
+      pub emptied_rests : LeadsTo v.log (restarting (emptied v.log state head)) l' m m' → Retains core (record v { log = l'; applied = head }) m m'
       emptied_rests leads =
-          subst (λ (k : Core). Rests k (record v { log = l'; applied = head }) m m') same
-          (subst (λ (k : Core). Rests v k m m') (sym made)
+          subst (λ (k : Core). Retains k (record v { log = l'; applied = head }) m m') same
+          (subst (λ (k : Core). Retains v k m m') (sym made)
           (empty_rests v state head all_here some m sound_here m' (Finding v.log (restarting (emptied v.log state head)) m) goes
           (subst (λ (l : Log). LeadsTo v.log (restarting (emptied v.log state head)) l m m') is leads)))
 

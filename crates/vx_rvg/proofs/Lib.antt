@@ -5,6 +5,7 @@ pub mod ApplyPuts
 pub mod ApplyStands
 pub mod ContentFacts
 pub mod EmptyStands
+pub mod FetchGives
 pub mod MakeStands
 pub mod PatchFacts
 pub mod ReadAnswers

@@ -17,8 +17,10 @@ use Rattle.vx_srl.specs.Rings.{RingOn}
 use Rattle.vx_srl.specs.Starts.{IsNew}
 use Rattle.vx_srl.specs.Views.{Log}
 use Rattle.vx_rvg.specs.Contents.{writes_of, HasSizes, KeepsContent}
+use Rattle.vx_rvg.specs.Holdings.{nothing_logged}
 use Rattle.vx_rvg.specs.Stands.{Holds, IsWholeRecord, Ready, Stands}
 use Rattle.vx_rvg.specs.Views.{Placed, unit_of}
+use Rattle.vx_rvg.proofs.ContentFacts.{maps_moved}
 
 -- a block of a volume lies within those that exist
 pub in_volumes : (vols : List ℕ) (c : Content) (m : Meaning) (v b : ℕ) → HasSizes vols c m → b < c.size v → v < length vols
@@ -36,11 +38,17 @@ volume_kept units count P c old new placed moves sizes v b below keeps =
 writes_none : (k : ℕ) (rs : List Record) → rs ≡ [] → writes_of (drop k rs) ≡ []
 writes_none k rs is = ap (λ (xs : List Record). writes_of (drop k xs)) is ∙ ap writes_of (drop-nil k)
 
-pub new_stands : (units kept : Units) (state : SiteState) (ring count : ℕ) (P : Says) (c : Content) (l : Log) (pending : Pending) (old new : Meaning) → Placed units old → kept ≡ units
-    → IsNew units.srl ring 0 state l new → pending.entries ≡ [] → Moves (Run units.srl 0 count) P old new → IsTrue old.tells → Holds units.vols c old
-    → Stands (record { units = kept; log = l; pending = pending; applied = 0; halted = None }) c new
-new_stands units kept state ring count P c l pending old new placed same made none moves tells holds =
-    subst (λ (u : Units). Stands (record { units = u; log = l; pending = pending; applied = 0; halted = None }) c new) (sym same) (record { log = s; ready = ready })
+pub new_stands : (units kept : Units) (state : SiteState) (ring count : ℕ) (P : Says) (c : Content) (maps : List (List ℕ)) (l : Log) (pending : Pending) (old new : Meaning) → Placed units old → kept ≡ units
+    → IsNew units.srl ring 0 state l new → pending.entries ≡ [] → Moves (Run units.srl 0 count) P old new → IsTrue old.tells → Holds units c maps old
+    → Stands (record { units = kept; log = l; pending = pending; applied = 0; halted = None }) (nothing_logged c maps) new
+new_stands units kept state ring count P c maps l pending old new placed same made none moves tells holds =
+    subst (λ (u : Units). Stands (record { units = u; log = l; pending = pending; applied = 0; halted = None }) (nothing_logged c maps) new) (sym same) (record {
+      log = s;
+      ready = ready;
+      low = ap (λ (x : Log). x.header.low) made.is;
+      writes = ap writes_of held;
+      maps = maps_moved (Run units.srl 0 count) P units maps old new moves (λ b mine. placed.maps_apart mine.there) holds.maps_are;
+    })
   where
     told : IsTrue new.tells
     told = subst IsTrue (sym moves.tells) tells

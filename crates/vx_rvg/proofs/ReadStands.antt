@@ -9,12 +9,14 @@ use Rattle.vx_overlay.specs.declared.entry.Entry.{Entry}
 use Rattle.vx_overlay.specs.Pending.{newest}
 use Rattle.vx_overlay.specs.Writes.{IsWholeWrite, newest_of}
 use Rattle.vx_overlay.proofs.WriteLemmas.{newest_drop, newest_entries}
+use Rattle.vx_ringlog.specs.Logs.{State}
 use Rattle.vx_ringlog.specs.Records.{Record, write_of}
 use Rattle.vx_ringio.specs.Bodies.{IsBlocks}
 use Rattle.vx_ringio.proofs.Following.{rest_tracks}
 use Rattle.vx_srl.specs.Rings.{RingOn}
 use Rattle.vx_rvg.specs.Contents.{Shows, writes_of}
 use Rattle.vx_rvg.specs.Groups.{IsPatched}
+use Rattle.vx_rvg.specs.Holdings.{Holding}
 use Rattle.vx_rvg.specs.Stands.{IsWholeRecord, Ready, Stands}
 use Rattle.vx_rvg.specs.Views.{Core, IsSound, applied_count, unit_of}
 use Rattle.vx_rvg.proofs.WriteSound.{SameSizes, ended_sound}
@@ -47,19 +49,22 @@ not_down : (down : Bool) → IsFalse down → IsTrue down → ⊥
 not_down true up is = let wrong : true ≡ false = up in cc
 not_down false up is = let wrong : false ≡ true = is in cc
 
-pub rest_stands : (core : Core) (m m' : Meaning) → Goes Nothing m m' → IsFalse m'.down → (c : Content) → Stands core c m → Stands core c m'
-rest_stands core m m' goes up c stands = record {
+pub rest_stands : (core : Core) (m m' : Meaning) → Goes Nothing m m' → IsFalse m'.down → (h : Holding) → Stands core h m → Stands core h m'
+rest_stands core m m' goes up h stands = record {
   log = stands.log;
+  low = stands.low;
+  writes = stands.writes;
+  maps = record { size = stands.maps.size ∙ sym (goes.size core.units.maps); each = λ b bytes there. keeps_rest m m' goes core.units.maps b bytes (stands.maps.each b bytes there) };
   ready = record {
     ring = record { is_log = on.is_log; tracks = rest_tracks core.log.unit core.log.ring stands.log.unit m m' goes (λ down. not_down m'.down up down) on.tracks; describes = on.describes };
     idle = stands.ready.idle;
     whole = stands.ready.whole;
     sizes = record { each = λ v low. stands.ready.sizes.each v low ∙ sym (goes.size (unit_of core.units.vols v)); none = stands.ready.sizes.none };
     content = record {
-      each = λ v b low. keeps_each m m' goes (newest_of c.size (writes_of stands.log.held) v b) (unit_of core.units.vols v) b (c.block v b) (stands.ready.content.each v b low);
+      each = λ v b low. keeps_each m m' goes (newest_of h.content.size (writes_of stands.log.held) v b) (unit_of core.units.vols v) b (h.content.block v b) (stands.ready.content.each v b low);
     };
     waiting = stands.ready.waiting;
-    settled = λ v b low none. keeps_rest m m' goes (unit_of core.units.vols v) b (c.block v b) (stands.ready.settled v b low none);
+    settled = λ v b low none. keeps_rest m m' goes (unit_of core.units.vols v) b (h.content.block v b) (stands.ready.settled v b low none);
   };
 }
   where
@@ -86,12 +91,11 @@ writes_drop (suc n) (r ∷ rs) = writes_drop n rs
 matched : (o : Option (List ℕ)) (bytes y : List ℕ) (P : Type 0) → o ≡ Some bytes → MatchOption o P (λ b. b ≡ y) → bytes ≡ y
 matched o bytes y P is match = subst (λ (p : Option (List ℕ)). MatchOption p P (λ b. b ≡ y)) is match
 
-pub waits_content : (core : Core) (c : Content) (m : Meaning) (stands : Stands core c m) (v b : ℕ) (bytes : List ℕ) → b < c.size v
+pub waits_content : (core : Core) (c : Content) (m : Meaning) (s : State) (ready : Ready core c s m) (v b : ℕ) (bytes : List ℕ) → b < c.size v
     → newest core.pending.entries v b ≡ Some bytes → bytes ≡ c.block v b
-waits_content core c m stands v b bytes low is =
+waits_content core c m s ready v b bytes low is =
     let n : ℕ = applied_count core in
-    let rs : List Record = stands.log.held in
-    let ready : Ready core c stands.log m = stands.ready in
+    let rs : List Record = s.held in
     let among : newest_of c.size (drop n (writes_of rs)) v b ≡ Some bytes
     = ap (λ (ws : List Write). newest_of c.size ws v b) (sym (writes_drop n rs))
     ∙ sym (newest_entries c.size (writes_of (drop n rs)) v b (whole_writes (drop n rs) (whole_drop n rs ready.whole)))
@@ -100,11 +104,11 @@ waits_content core c m stands v b bytes low is =
 
 -- ---- a block that was read and patched
 
-module _ (core : Core) (c : Content) (m : Meaning) (stands : Stands core c m) (lawful : Lawful m) (tells : IsTrue m.tells) (vol start : ℕ) (exists : vol < length core.units.vols)
+module _ (core : Core) (c : Content) (m : Meaning) (s : State) (ready : Ready core c s m) (lawful : Lawful m) (tells : IsTrue m.tells) (vol start : ℕ) (exists : vol < length core.units.vols)
     (old mid new : List ℕ) (blocks : IsBlocks old) (same : length mid ≡ length old) (within : start + blocks_in old ≤ m.size (unit_of core.units.vols vol))
     (read : Read m (unit_of core.units.vols vol) start mid) (patched : IsPatched core.pending.entries vol start mid new) where
   inside : (k : ℕ) → k < blocks_in old → start + k < c.size vol
-  inside k low = omega (arith, low, within, stands.ready.sizes.each vol exists)
+  inside k low = omega (arith, low, within, ready.sizes.each vol exists)
 
   from_volume : (k : ℕ) → k < blocks_in old → newest core.pending.entries vol (start + k) ≡ None → block_of mid k ≡ c.block vol (start + k)
   from_volume k low none =
@@ -113,11 +117,11 @@ module _ (core : Core) (c : Content) (m : Meaning) (stands : Stands core c m) (l
       let at : start + k - start ≡ k = omega arith in
       let shown : m.reads (unit_of core.units.vols vol) (start + k) (block_of mid k)
       = subst (λ (j : ℕ). m.reads (unit_of core.units.vols vol) (start + k) (block_of mid j)) at (read.each tells (start + k) covers) in
-      (stands.ready.settled vol (start + k) (inside k low) none).only (block_of mid k) (lawful.shown (unit_of core.units.vols vol) (start + k) (block_of mid k) shown)
+      (ready.settled vol (start + k) (inside k low) none).only (block_of mid k) (lawful.shown (unit_of core.units.vols vol) (start + k) (block_of mid k) shown)
 
   one_block : (k : ℕ) → k < blocks_in old → (o : Option (List ℕ)) → newest core.pending.entries vol (start + k) ≡ o
       → MatchOption o (block_of new k ≡ block_of mid k) (λ bytes. block_of new k ≡ bytes) → block_of new k ≡ c.block vol (start + k)
-  one_block k low (Some bytes) is here = here ∙ waits_content core c m stands vol (start + k) bytes (inside k low) is
+  one_block k low (Some bytes) is here = here ∙ waits_content core c m s ready vol (start + k) bytes (inside k low) is
   one_block k low None is here = here ∙ from_volume k low is
 
   pub shows : Shows c vol start (blocks_in old) new

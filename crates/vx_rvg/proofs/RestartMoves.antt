@@ -5,9 +5,10 @@ use Rattle.vx_disk.specs.Moves.{Blocks, Moves, Run, Union}
 use Rattle.vx_disk.specs.Shelf.{Image, Meaning}
 use Rattle.vx_disk.proofs.Moving.{goes_on, wider}
 use Rattle.vx_rvg.specs.Groups.{ApplyIs, unless_halted, with_applied}
+use Rattle.vx_rvg.specs.Holdings.{Holding, kept_in}
 use Rattle.vx_rvg.specs.Saves.{with_restart}
 use Rattle.vx_rvg.specs.Stands.{FoundAs, Resting, Rests, Saving}
-use Rattle.vx_rvg.specs.Views.{Core, Waits, last_of}
+use Rattle.vx_rvg.specs.Views.{Core, Waits}
 
 -- what an apply that was answered leaves
 pub applied_by : (halted : Option ℕ) (core : Core) (count : ℕ) (m m' : Meaning) (core' : Core) (number : ℕ) → ApplyIs (unless_halted halted None) core count m m' core' (Ok number)
@@ -23,14 +24,14 @@ module _ (core : Core) (state : SiteState) (head : ℕ) (m mid : Meaning) (moves
   pub apply_part : Moves (Union (Waits core m) (Run core.units.srl 0 (core.log.ring + 2))) (Saving core (with_restart core state head) m) m mid
   apply_part =
       wider (Waits core m) all_blocks (Resting core m) (Saving core (with_restart core state head) m) m mid moves (λ u b waits. record { here = inl waits })
-      (λ i beside resting. record { each = λ c stands. inl (resting.each c stands) })
+      (λ i beside resting. record { each = λ h stands. inl (resting.each h stands) })
 
   -- and behind that
   module _ (core' : Core) (number n : ℕ) (is : core' ≡ with_applied core number n) (rests : Rests core core' m mid) (new : Meaning) where
     found_since : (i : Image) → Saving core' (with_restart core' state head) mid i → Saving core (with_restart core state head) m i
     found_since i saving = record {
-      each = λ c stands.
-          subst (λ (k : Core). FoundAs k i (last_of k) c ⊎ FoundAs (with_restart k state head) i (last_of (with_restart k state head)) c) is (saving.each c (rests.each c stands));
+      each = λ h stands.
+          subst (λ (k : Core). FoundAs k i h ⊎ FoundAs (with_restart k state head) i (kept_in (with_restart k state head) h)) is (saving.each h (rests.each h stands));
     }
 
     pub restart_part : Moves (Run core'.units.srl 0 (core'.log.ring + 2)) (Saving core' (with_restart core' state head) mid) mid new

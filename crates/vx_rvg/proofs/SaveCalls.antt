@@ -15,7 +15,7 @@ use Rattle.vx_srl.specs.Views.{Log, count_to, most_number}
 use Rattle.vx_srl.specs.declared.errors.SrlNo.{SrlNo}
 use Rattle.vx_rvg.specs.Groups.{halted_by}
 use Rattle.vx_rvg.specs.Saves.{log_without, reclaimed}
-use Rattle.vx_rvg.specs.Stands.{Saving, Rests}
+use Rattle.vx_rvg.specs.Stands.{Retains, Saving}
 use Rattle.vx_rvg.specs.Views.{Core, IsSound, applied_count}
 use Rattle.vx_rvg.proofs.SaveStands.{save_sound, save_moves, save_rests}
 use Rattle.vx_rvg.proofs.WriteSound.{ended_sound, moved_sizes}
@@ -90,9 +90,9 @@ reclaimed_moves core to m m' low applied some sound goes =
 
 pub reclaimed_rests : (core : Core) (to : ℕ) (l' : Log) (m m' : Meaning) → core.log.header.low ≤ to → to ≤ core.applied → 0 < core.log.header.low → IsSound core m
     → (P : Says) → Moves (Run core.log.unit 0 (core.log.ring + 2)) P m m' → LeadsTo core.log (saving (without core.log to) (count_to core.log to)) l' m m'
-    → l' ≡ saved core.log (without core.log to) (count_to core.log to) → Rests core (record core { log = l' }) m m'
+    → l' ≡ saved core.log (without core.log to) (count_to core.log to) → Retains core (record core { log = l' }) m m'
 reclaimed_rests core to l' m m' low applied some sound P moves leads is =
-    subst (λ (l : Log). Rests core (record core { log = l }) m m') (sym is)
+    subst (λ (l : Log). Retains core (record core { log = l }) m m') (sym is)
     (save_rests core (without core.log to) (count_to core.log to) (without_low core.log to low) (reclaim_fewer core to applied) some m m' sound P moves
     (subst (λ (l : Log). LeadsTo core.log (saving (without core.log to) (count_to core.log to)) l m m') is leads))
 
@@ -153,6 +153,21 @@ module _ (v core : Core) (view : v ≡ core) (to : ℕ) (low : v.log.header.low 
     pub halted_up_sound : (why : No) → (l' ≡ v.log) ⊎ (l' ≡ saved v.log (without v.log to) (count_to v.log to)) → IsSound (halted_by why (record v { log = l' })) m'
     halted_up_sound why cases = halted_sound (record v { log = l' }) m' why (given_up_sound cases)
 
-    pub given_up_rests : LeadsTo v.log (saving (without v.log to) (count_to v.log to)) l' m m' → l' ≡ saved v.log (without v.log to) (count_to v.log to) → Rests core (record v { log = l' }) m m'
+    pub given_up_rests : LeadsTo v.log (saving (without v.log to) (count_to v.log to)) l' m m' → l' ≡ saved v.log (without v.log to) (count_to v.log to) → Retains core (record v { log = l' }) m m'
     given_up_rests leads is =
-        subst (λ (k : Core). Rests k (record v { log = l' }) m m') view (reclaimed_rests v to l' m m' low fits_here some sound_here _ goes leads is)
+        subst (λ (k : Core). Retains k (record v { log = l' }) m m') view (reclaimed_rests v to l' m m' low fits_here some sound_here _ goes leads is)
+
+-- ---- a new state
+
+pub set_done : {X : Type 0} (l l' : Log) (state : SiteState) (m m' : Meaning) (r : Result (Unit {0}) SrlNo) (x x' : X) (done : Unit {0}) → r ≡ Ok done
+    → (most_number ≤ l.header.stamp → (r ≡ Err no_number) × (l' ≡ l) × (x' ≡ x)) → (l.header.stamp < most_number → Saves l (saved l (with_state l state) 0) m m' l' r)
+    → l' ≡ saved l (with_state l state) 0
+set_done l l' state m m' r x x' done is limit saves =
+    ⊎_elim (λ below. saves_done l (saved l (with_state l state) 0) l' m m' r done is (saves below))
+    (λ past. refused_done r done (l' ≡ saved l (with_state l state) 0) is (limit past).0) (cases_lt l.header.stamp most_number)
+
+pub state_rests : (core : Core) (state : SiteState) → 0 < core.log.header.low → (m m' : Meaning) → IsSound core m → Goes core.log (saving (with_state core.log state) 0) m m' → (l' : Log)
+    → LeadsTo core.log (saving (with_state core.log state) 0) l' m m' → l' ≡ saved core.log (with_state core.log state) 0 → Retains core (record core { log = l' }) m m'
+state_rests core state some m m' sound goes l' leads is =
+    subst (λ (l : Log). Retains core (record core { log = l }) m m') (sym is)
+    (save_rests core (with_state core.log state) 0 (state_low core.log state) (omega arith) some m m' sound _ goes (subst (λ (l : Log). LeadsTo core.log (saving (with_state core.log state) 0) l m m') is leads))

@@ -1,5 +1,5 @@
 -- A group over a call that writes a header of its log and gives up the first records, all of which are in the volumes.
-use Rattle.std.proofs.Common.{◌≡◌, ◌⊎◌, inl, inr, ℕ, ◌+◌, ◌<◌, ◌≤◌, List, length, drop, Option, Some, None, IsFalse, MatchOption, refl, sym, ◌∙◌, ap, subst, arith}
+use Rattle.std.proofs.Common.{◌≡◌, ◌⊎◌, inl, inr, ℕ, ◌+◌, ◌-◌, ◌<◌, ◌≤◌, List, length, drop, Option, Some, None, IsFalse, MatchOption, refl, sym, ◌∙◌, ap, subst, arith}
 use Rattle.std.proofs.lemmas.List.{drop-drop, length-drop}
 use Rattle.vx_model.specs.Content.{Content, Write}
 use Rattle.vx_srlfmt.specs.declared.header.Header.{Header}
@@ -18,9 +18,10 @@ use Rattle.vx_srl.specs.Calls.{saving, saved}
 use Rattle.vx_srl.specs.Rings.{Finding, Goes, LeadsTo}
 use Rattle.vx_srl.specs.declared.kept.Kept.{Kept}
 use Rattle.vx_rvg.specs.Contents.{writes_of, HasContent, KeepsContent}
-use Rattle.vx_rvg.specs.Stands.{FoundAs, Ready, Saving, Rests}
-use Rattle.vx_rvg.specs.Views.{Core, IsSound, Placed, applied_count, blocks_within, last_of, unit_of, volume_size}
-use Rattle.vx_rvg.proofs.ContentFacts.{found_as, has_content_beside, held_length, recovers_low, volumes_beside, no_more}
+use Rattle.vx_rvg.specs.Holdings.{Holding, kept_in}
+use Rattle.vx_rvg.specs.Stands.{FoundAs, HasMaps, Ready, Retains, Saving, Stands}
+use Rattle.vx_rvg.specs.Views.{Core, IsSound, Placed, applied_count, blocks_within, unit_of, volume_size}
+use Rattle.vx_rvg.proofs.ContentFacts.{found_as, has_content_beside, has_maps_beside, maps_beside, maps_moved, no_more, recovers_low, stands_count, volumes_beside}
 use Rattle.vx_rvg.proofs.ReadStands.{whole_writes, whole_drop, writes_drop}
 use Rattle.vx_rvg.proofs.WriteSound.{SameSizes, applied_few, lies_same, placed_same, volume_same, within_same}
 
@@ -105,50 +106,73 @@ module _ (core : Core) (g : Header) (n : ℕ) (low_is : g.low ≡ core.log.heade
         settled = λ v b low none. keeps_on v b (c.block v b) low (ready.settled v b low none);
       }
 
-    module _ (i : Image) (aside : Beside (Run core.log.unit 0 (core.log.ring + 2)) m.leaves i) where
-      old_has : HasContent core.units.vols c (writes_of s.held) i
-      old_has = has_content_beside (Run core.log.unit 0 (core.log.ring + 2)) core.units.vols c (writes_of s.held) m i beside ready.content aside
+  -- ---- of whatever the group held
 
-      new_has : HasContent core.units.vols c (writes_of (drop n s.held)) i
-      new_has = has_content_beside (Run core.log.unit 0 (core.log.ring + 2)) core.units.vols c (writes_of (drop n s.held)) m i beside kept_content aside
+  module _ (m : Meaning) (sound : IsSound core m) (h : Holding) (stands : Stands core h m) where
+    abbrev s : State
+    s = stands.log
 
-      found_new : Recovers core.log.ring (classes core.log.unit core.log.ring i) g (drop n s.held) → FoundAs (after_save core g n) i (last_of (after_save core g n)) c
-      found_new recovers =
-          let first : 0 < g.low = recovers_low core.log.unit core.log.ring i g (drop n s.held) recovers in
-          record {
-            header = g;
-            records = drop n s.held;
-            recovers = subst (λ (u : ℕ). Recovers core.log.ring (classes u core.log.ring i) g (drop n s.held)) unit_is recovers;
-            state_is = refl;
-            session_is = refl;
-            stamp_most = omega arith;
-            some = first;
-            last_is = omega (arith, first, length-drop n s.held, length-drop n core.log.held, held_length core.log s m ready.ring);
-            content = new_has;
-          }
-
-      pub save_found : LogFound core.log.ring s (saving g n s) (classes core.log.unit core.log.ring i) → FoundAs core i (last_of core) c ⊎ FoundAs (after_save core g n) i (last_of (after_save core g n)) c
-      save_found (inl old) =
-          inl (found_as core c m i unit_is s ready (subst (λ (rs : List Record). Recovers core.log.ring (classes core.log.unit core.log.ring i) s.header rs) (no_more s.held s.staged old.0 ready.idle) old.1) old_has)
-      save_found (inr new) =
-          inr (found_new (subst (λ (rs : List Record). Recovers core.log.ring (classes core.log.unit core.log.ring i) g rs) (no_more (drop n s.held) s.staged new.0 ready.idle) new.1))
-
-  -- ---- of each content
-
-  module _ (m m' : Meaning) (sound : IsSound core m) where
     few : n ≤ length core.log.held
     few = omega (arith, fewer, applied_few core m sound some)
 
-    pub save_rests : (P : Says) → Moves (Run core.log.unit 0 (core.log.ring + 2)) P m m' → LeadsTo core.log (saving g n) (saved core.log g n) m m' → Rests core (after_save core g n) m m'
-    save_rests P moves leads = record {
-      each = λ c stands. record {
-        log = done core.log.ring stands.log (saving g n stands.log);
-        ready = save_ready c m stands.log stands.ready sound.placed sound.log_unit few m' P moves leads;
-      };
+    -- the writes that the log still has
+    rest_are : writes_of (drop n s.held) ≡ drop (length h.writes - length (drop n core.log.held)) h.writes
+    rest_are =
+        let count : n ≡ length h.writes - length (drop n core.log.held) = omega (arith, stands_count core h m stands, length-drop n core.log.held, few) in
+        writes_drop n s.held ∙ ap (λ (ws : List Write). drop n ws) stands.writes ∙ ap (λ (k : ℕ). drop k h.writes) count
+
+    pub save_stands : (m' : Meaning) (P : Says) → Moves (Run core.log.unit 0 (core.log.ring + 2)) P m m' → LeadsTo core.log (saving g n) (saved core.log g n) m m'
+        → Stands (after_save core g n) (kept_in (after_save core g n) h) m'
+    save_stands m' P moves leads = record {
+      log = done core.log.ring s (saving g n s);
+      ready = save_ready h.content m s stands.ready sound.placed sound.log_unit few m' P moves leads;
+      low = refl;
+      writes = rest_are;
+      maps = maps_moved (Run core.log.unit 0 (core.log.ring + 2)) P core.units h.maps m m' moves (maps_beside core m sound.placed sound.log_unit) stands.maps;
     }
+
+    module _ (i : Image) (aside : Beside (Run core.log.unit 0 (core.log.ring + 2)) m.leaves i) where
+      abbrev apart : (v b : ℕ) → b < h.content.size v → Run core.log.unit 0 (core.log.ring + 2) (unit_of core.units.vols v) b → ⊥
+      apart = volumes_beside core h.content m sound.placed sound.log_unit stands.ready.sizes
+
+      old_has : HasContent core.units.vols h.content (writes_of s.held) i
+      old_has = has_content_beside (Run core.log.unit 0 (core.log.ring + 2)) core.units.vols h.content (writes_of s.held) m i apart stands.ready.content aside
+
+      new_has : HasContent core.units.vols h.content (writes_of (drop n s.held)) i
+      new_has =
+          has_content_beside (Run core.log.unit 0 (core.log.ring + 2)) core.units.vols h.content (writes_of (drop n s.held)) m i apart
+          (kept_content h.content m s stands.ready sound.placed sound.log_unit few) aside
+
+      has_them : HasMaps core.units h.maps i
+      has_them = has_maps_beside (Run core.log.unit 0 (core.log.ring + 2)) core.units h.maps m i (maps_beside core m sound.placed sound.log_unit) stands.maps aside
+
+      found_new : Recovers core.log.ring (classes core.log.unit core.log.ring i) g (drop n s.held) → FoundAs (after_save core g n) i (kept_in (after_save core g n) h)
+      found_new recovers = record {
+        header = g;
+        records = drop n s.held;
+        recovers = subst (λ (u : ℕ). Recovers core.log.ring (classes u core.log.ring i) g (drop n s.held)) sound.log_unit recovers;
+        state_is = refl;
+        session_is = refl;
+        stamp_most = omega arith;
+        some = recovers_low core.log.unit core.log.ring i g (drop n s.held) recovers;
+        low_is = refl;
+        writes_are = rest_are;
+        content = subst (λ (ws : List Write). HasContent core.units.vols h.content ws i) rest_are new_has;
+        maps = has_them;
+      }
+
+      pub save_found : LogFound core.log.ring s (saving g n s) (classes core.log.unit core.log.ring i) → FoundAs core i h ⊎ FoundAs (after_save core g n) i (kept_in (after_save core g n) h)
+      save_found (inl old) =
+          inl (found_as core h m i sound.log_unit stands (subst (λ (rs : List Record). Recovers core.log.ring (classes core.log.unit core.log.ring i) s.header rs) (no_more s.held s.staged old.0 stands.ready.idle) old.1) old_has has_them)
+      save_found (inr new) =
+          inr (found_new (subst (λ (rs : List Record). Recovers core.log.ring (classes core.log.unit core.log.ring i) g rs) (no_more (drop n s.held) s.staged new.0 stands.ready.idle) new.1))
+
+  module _ (m m' : Meaning) (sound : IsSound core m) where
+    pub save_rests : (P : Says) → Moves (Run core.log.unit 0 (core.log.ring + 2)) P m m' → LeadsTo core.log (saving g n) (saved core.log g n) m m' → Retains core (after_save core g n) m m'
+    save_rests P moves leads = record { each = λ h stands. save_stands m sound h stands m' P moves leads }
 
     pub save_moves : Goes core.log (saving g n) m m' → Moves (Run core.units.srl 0 (core.log.ring + 2)) (Saving core (after_save core g n) m) m m'
     save_moves goes =
         wider (Run core.log.unit 0 (core.log.ring + 2)) (Run core.units.srl 0 (core.log.ring + 2)) (Finding core.log (saving g n) m) (Saving core (after_save core g n) m) m m' goes
         (λ u b is. record { there = is.there ∙ sound.log_unit; first = is.first; last = is.last })
-        (λ i aside found. record { each = λ c stands. save_found c m stands.log stands.ready sound.placed sound.log_unit few i aside (found.each stands.log stands.ready.ring) })
+        (λ i aside found. record { each = λ h stands. save_found m sound h stands i aside (found.each stands.log stands.ready.ring) })

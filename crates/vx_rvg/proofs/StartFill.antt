@@ -17,7 +17,7 @@ use Rattle.vx_overlay.proofs.WriteLemmas.{entries_append, entries_count}
 use Rattle.vx_ringlog.specs.Logs.{State}
 use Rattle.vx_ringlog.specs.Records.{Record, given, write_of}
 use Rattle.vx_ringio.proofs.Following.{rest_tracks}
-use Rattle.vx_srl.specs.Calls.{Agrees, FetchCause, Fetches, update_of}
+use Rattle.vx_srl.specs.Calls.{Agrees, FetchCause, Fetches, NamesBody, update_of}
 use Rattle.vx_srl.specs.Rings.{RingOn}
 use Rattle.vx_srl.specs.Views.{IsOrdered, Log, all_of, widths}
 use Rattle.vx_srl.specs.declared.errors.SrlNo.{SrlNo}
@@ -34,10 +34,10 @@ use Rattle.vx_rvg.proofs.WriteSound.{SameSizes, volume_same, within_append}
 
 -- ---- lists
 
-none_is : {A : Type 0} → (x : A) → None ≡ Some x → ⊥
+pub none_is : {A : Type 0} → (x : A) → None ≡ Some x → ⊥
 none_is x is = cc
 
-some_is : {A : Type 0} → (a x : A) → Some a ≡ Some x → a ≡ x
+pub some_is : {A : Type 0} → (a x : A) → Some a ≡ Some x → a ≡ x
 some_is a x is = cc
 
 take_more : {A : Type 0} → (xs : List A) (k : ℕ) (x : A) → slice_get xs k ≡ Some x → take (suc k) xs ≡ take k xs ++ x ∷ []
@@ -202,18 +202,19 @@ module _ (l : Log) (vols : List ℕ) (old mid new : Meaning) (k room : ℕ) (pen
 
 -- ---- what ends it
 
-fetch_cause : (l : Log) (mid new : Meaning) (why : SrlNo) → FetchCause l mid new why → FillCause l mid new (no_of why)
-fetch_cause l mid new (Other (no.Damaged unit block stored computed)) cause = (cause.1, cause.2)
-fetch_cause l mid new (Other why) cause = cause
-fetch_cause l mid new (NoRoom need free) cause = absurd cause
-fetch_cause l mid new (Overrun low) cause = absurd cause
+fetch_cause : (l : Log) (n : ℕ) (mid new : Meaning) (why : SrlNo) → FetchCause l mid new why → NamesBody l n mid why → FillCause l mid new (no_of why)
+fetch_cause l n mid new (Other (no.Damaged unit block stored computed)) cause names =
+    (cause.0, cause.1, record { place = n - l.header.low; kept = names.0; there = names.1; at = names.2; stored_is = names.3 }, cause.2)
+fetch_cause l n mid new (Other why) cause names = cause
+fetch_cause l n mid new (NoRoom need free) cause names = absurd cause
+fetch_cause l n mid new (Overrun low) cause names = absurd cause
 
 cause_since : (l : Log) (old mid new : Meaning) → Goes Nothing old mid → (IsTrue mid.down → ⊥) → (why : No) → FillCause l mid new why → FillCause l old new why
-cause_since l old mid new goes up (no.Damaged unit block stored computed) cause = (cause.0, (λ s on tells. cause.1 s (ring_rests l s old mid goes up on) (still_tells old mid goes tells)))
+cause_since l old mid new goes up (no.Damaged unit block stored computed) cause = (cause.0, cause.1, cause.2, (λ s on tells. cause.3 s (ring_rests l s old mid goes up on) (still_tells old mid goes tells)))
 cause_since l old mid new goes up (no.Device disk) cause = cause_from old mid new (no.Device disk) goes.disk_faults cause
 cause_since l old mid new goes up no.Down cause = cause
 cause_since l old mid new goes up other cause = absurd cause
 
-pub filling_stops : (l : Log) (vols : List ℕ) (old mid new : Meaning) (k room : ℕ) (pending : Pending) → Filling l vols old mid k room pending → (why : SrlNo) → FetchCause l mid new why
-    → FillCause l old new (no_of why)
-filling_stops l vols old mid new k room pending so why cause = cause_since l old mid new so.goes so.up (no_of why) (fetch_cause l mid new why cause)
+pub filling_stops : (l : Log) (vols : List ℕ) (old mid new : Meaning) (k room : ℕ) (pending : Pending) → Filling l vols old mid k room pending → (n : ℕ) (why : SrlNo) → FetchCause l mid new why
+    → NamesBody l n mid why → FillCause l old new (no_of why)
+filling_stops l vols old mid new k room pending so n why cause names = cause_since l old mid new so.goes so.up (no_of why) (fetch_cause l n mid new why cause names)

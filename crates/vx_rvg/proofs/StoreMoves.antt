@@ -1,5 +1,5 @@
 -- A group whose log gives up its records and into whose volumes blocks are then put, as one call.
-use Rattle.std.proofs.Common.{◌≡◌, ◌⊎◌, inl, inr, ℕ, ◌+◌, ◌<◌, ◌≤◌, ◌&&◌, Bool, true, false, Option, Some, None, Result, Ok, Err, OnOk, List, refl, sym, ◌∙◌, ap, subst, arith, length-drop}
+use Rattle.std.proofs.Common.{◌≡◌, ◌⊎◌, inl, inr, ℕ, ◌+◌, ◌<◌, ◌≤◌, ◌&&◌, Bool, true, false, Option, Some, None, Result, Ok, Err, OnOk, List, refl, sym, ◌∙◌, ap, subst, arith}
 use Rattle.std.specs.Prelude.{if◌then◌else◌, leb, ◌||◌}
 use Rattle.std.proofs.lemmas.Bool.Decides.{nat_tests}
 use Rattle.vx_model.specs.Content.{Content, Write, put, blocks_in}
@@ -9,15 +9,14 @@ use Rattle.vx_model.specs.declared.no.Counted.TheVariants.{Number}
 use Rattle.vx_disk.specs.Moves.{Moves, Run}
 use Rattle.vx_disk.specs.Shelf.{Image, Meaning}
 use Rattle.vx_disk.proofs.Moving.{goes_on, wider}
-use Rattle.vx_srl.specs.Calls.{saved}
-use Rattle.vx_srl.specs.Headers.{without}
-use Rattle.vx_srl.specs.Views.{Log, count_to, head_of, most_number}
+use Rattle.vx_srl.specs.Views.{Log, most_number}
 use Rattle.vx_rvg.specs.Groups.{unless_halted}
-use Rattle.vx_rvg.specs.Saves.{SaveIs, log_without, reclaim_refusal, reclaimed}
-use Rattle.vx_rvg.specs.Stands.{FoundAs, Rests, Saving, Stands}
-use Rattle.vx_rvg.specs.Stores.{IsPartly, Puts, Putting, StoreIs, Stores, Storing, store_blocks, without_records}
+use Rattle.vx_rvg.specs.Holdings.{Holding, kept_in, with_content}
+use Rattle.vx_rvg.specs.Saves.{SaveIs, reclaim_refusal, reclaimed}
+use Rattle.vx_rvg.specs.Stands.{FoundAs, Retains, Saving, Stands}
+use Rattle.vx_rvg.specs.Stores.{IsPartly, Puts, PutsInto, Putting, StoreIs, Stores, StoresInto, Storing, store_blocks, without_records}
 use Rattle.vx_rvg.specs.Views.{Core, last_of, unit_of}
-use Rattle.vx_rvg.proofs.SaveCalls.{reclaimed_log}
+use Rattle.vx_rvg.proofs.ContentFacts.{kept_all}
 use Rattle.vx_rvg.proofs.WriteStands.{write_at}
 
 -- ---- where the log holds no record
@@ -59,10 +58,23 @@ module _ (core : Core) (empty : last_of core < core.log.header.low) where
       wider (Run (unit_of core.units.vols vol) start (blocks_in bytes)) (store_blocks core vol start (blocks_in bytes)) (Putting core (write_at vol start bytes) m) (Storing core (write_at vol start bytes) m) m m' moves
       (λ u b run. record { here = inr run })
       (λ i beside putting. record {
-        each = λ c stands.
-            let found : (d : Content) × IsPartly c (write_at vol start bytes) d × FoundAs core i (last_of core) d = putting.each c stands in
-            inr (found.0, found.1, subst (λ (k : Core). FoundAs k i (last_of core) found.0) (sym as_it_is) found.2);
+        each = λ h stands.
+            let found : (d : Content) × IsPartly h.content (write_at vol start bytes) d × FoundAs core i (with_content d h) = putting.each h stands in
+            let same : h ≡ kept_in (without_records core) h = sym (kept_all core h m stands) ∙ ap (λ (k : Core). kept_in k h) (sym as_it_is) in
+            let there : FoundAs core i (with_content found.0 (kept_in (without_records core) h)) = subst (λ (g : Holding). FoundAs core i (with_content found.0 g)) same found.2 in
+            inr (found.0, found.1, subst (λ (k : Core). FoundAs k i (with_content found.0 (kept_in (without_records core) h))) (sym as_it_is) there);
       })
+
+  pub empty_puts : (after : Core) (x : Write) (m m' : Meaning) → PutsInto core after x m m' → StoresInto core after x m m'
+  empty_puts after x m m' puts = record {
+    each = λ h stands.
+        let same : h ≡ kept_in (without_records core) h = sym (kept_all core h m stands) ∙ ap (λ (k : Core). kept_in k h) (sym as_it_is) in
+        subst (λ (g : Holding). Stands after (with_content (put h.content x) g) m') same (puts.each h stands);
+  }
+
+  pub empty_puts_ok : (after : Core) (x : Write) (m m' : Meaning) (r : Result (Unit {0}) No) → OnOk r (PutsInto core after x m m') → OnOk r (StoresInto core after x m m')
+  empty_puts_ok after x m m' (Ok done) puts = empty_puts after x m m' puts
+  empty_puts_ok after x m m' (Err why) puts = puts
 
 -- ---- what the group shows of itself
 
@@ -85,38 +97,27 @@ given_up None core after core' m mid done is = is
 all_of_it : (c : Content) (x : Write) → IsPartly c x c
 all_of_it c x = record { size = λ v. refl; each = λ v b. inl refl }
 
--- without the records that it held it ends with the same number
-without_last : (core : Core) → core.log.header.low ≤ last_of core → last_of (without_records core) ≡ last_of core
-without_last core holds =
-    let last : ℕ = last_of core in
-    let is : log_without core.log last ≡ saved core.log (without core.log last) (count_to core.log last) = reclaimed_log core.log last holds in
-    ap (λ (l : Log). head_of l) is ∙ omega (arith, holds, length-drop (count_to core.log last) core.log.held)
-
 module _ (core : Core) (vol start : ℕ) (bytes : List ℕ) (holds : core.log.header.low ≤ last_of core) (m mid : Meaning)
     (moves : Moves (Run core.units.srl 0 (core.log.ring + 2)) (Saving core (without_records core) m) m mid) where
   abbrev own : Write
   own = write_at vol start bytes
 
-  abbrev at_last : (i : Image) (c : Content) → FoundAs (without_records core) i (last_of (without_records core)) c → FoundAs (without_records core) i (last_of core) c
-  at_last i c found = subst (λ (n : ℕ). FoundAs (without_records core) i n c) (without_last core holds) found
-
-  still_or_given_up : (i : Image) (c : Content) → FoundAs core i (last_of core) c ⊎ FoundAs (without_records core) i (last_of (without_records core)) c
-      → FoundAs core i (last_of core) c ⊎ ((d : Content) × IsPartly c own d × FoundAs (without_records core) i (last_of core) d)
-  still_or_given_up i c (inl old) = inl old
-  still_or_given_up i c (inr new) = inr (c, all_of_it c own, at_last i c new)
+  still_or_given_up : (i : Image) (h : Holding) → FoundAs core i h ⊎ FoundAs (without_records core) i (kept_in (without_records core) h)
+      → FoundAs core i h ⊎ ((d : Content) × IsPartly h.content own d × FoundAs (without_records core) i (with_content d (kept_in (without_records core) h)))
+  still_or_given_up i h (inl old) = inl old
+  still_or_given_up i h (inr new) = inr (h.content, all_of_it h.content own, new)
 
   pub give_up_part : Moves (store_blocks core vol start (blocks_in bytes)) (Storing core (write_at vol start bytes) m) m mid
   give_up_part =
       wider (Run core.units.srl 0 (core.log.ring + 2)) (store_blocks core vol start (blocks_in bytes)) (Saving core (without_records core) m) (Storing core own m) m mid moves
       (λ u b run. record { here = inl (record { holds = holds; run = run }) })
-      (λ i beside saving. record { each = λ c stands. still_or_given_up i c (saving.each c stands) })
+      (λ i beside saving. record { each = λ h stands. still_or_given_up i h (saving.each h stands) })
 
-  module _ (core' : Core) (is : core' ≡ without_records core) (rests : Rests core core' m mid) (new : Meaning) where
+  module _ (core' : Core) (is : core' ≡ without_records core) (retains : Retains core core' m mid) (new : Meaning) where
     put_since : (i : Image) → Putting core' own mid i → Storing core own m i
     put_since i putting = record {
-      each = λ c stands.
-          let found : (d : Content) × IsPartly c own d × FoundAs core' i (last_of core') d = putting.each c (rests.each c stands) in
-          inr (found.0, found.1, at_last i found.0 (subst (λ (k : Core). FoundAs k i (last_of k) found.0) is found.2));
+      each = λ h stands.
+          inr (subst (λ (k : Core). (d : Content) × IsPartly h.content own d × FoundAs k i (with_content d (kept_in k h))) is (putting.each (kept_in core' h) (retains.each h stands)));
     }
 
     pub put_part : Moves (Run (unit_of core'.units.vols vol) start (blocks_in bytes)) (Putting core' (write_at vol start bytes) mid) mid new
@@ -126,8 +127,10 @@ module _ (core : Core) (vol start : ℕ) (bytes : List ℕ) (holds : core.log.he
         (λ u b run. record { here = inr (subst (λ (k : Core). Run (unit_of k.units.vols vol) start (blocks_in bytes) u b) is run) })
         (λ i beside putting. put_since i putting)
 
--- where the group stood with each content before, it stands with it and the write
-pub put_stands : (core core' : Core) (vol start : ℕ) (bytes : List ℕ) (m mid : Meaning) → Rests core core' m mid → (new : Meaning) (core'' : Core) (r : Result (Unit {0}) No)
-    → OnOk r ((c : Content) → Stands core' c mid → Stands core'' (put c (write_at vol start bytes)) new) → OnOk r ((c : Content) → Stands core c m → Stands core'' (put c (write_at vol start bytes)) new)
-put_stands core core' vol start bytes m mid rests new core'' (Ok done) stands = λ c was. stands c (rests.each c was)
-put_stands core core' vol start bytes m mid rests new core'' (Err why) stands = stands
+-- what the group held before, it holds with the write in its content, but for the writes that its log gave up
+pub put_stands : (core core' : Core) (x : Write) (m mid : Meaning) → core' ≡ without_records core → Retains core core' m mid → (new : Meaning) (core'' : Core) (r : Result (Unit {0}) No)
+    → OnOk r (PutsInto core' core'' x mid new) → OnOk r (StoresInto core core'' x m new)
+put_stands core core' x m mid is retains new core'' (Ok done) puts = record {
+  each = λ h was. subst (λ (k : Core). Stands core'' (with_content (put h.content x) (kept_in k h)) new) is (puts.each (kept_in core' h) (retains.each h was));
+}
+put_stands core core' x m mid is retains new core'' (Err why) puts = puts

@@ -19,10 +19,11 @@ use Rattle.vx_ringio.proofs.Following.{image_beside, tracks_beside}
 use Rattle.vx_disk.specs.Causes.{DeviceCause, refusal_of}
 use Rattle.vx_rvg.specs.Contents.{HasContent, KeepsContent, writes_of}
 use Rattle.vx_rvg.specs.Groups.{halted_by}
+use Rattle.vx_rvg.specs.Holdings.{Holding, with_content}
 use Rattle.vx_rvg.specs.Stands.{FoundAs, Ready, Stands}
-use Rattle.vx_rvg.specs.Stores.{AreBlocks, IsPartly, Putting}
+use Rattle.vx_rvg.specs.Stores.{AreBlocks, IsPartly, Putting, PutsInto}
 use Rattle.vx_rvg.specs.Views.{Core, IsSound, last_of, unit_of, volume_size}
-use Rattle.vx_rvg.proofs.ContentFacts.{found_held, found_with, held_length, volume_there}
+use Rattle.vx_rvg.proofs.ContentFacts.{found_held, found_with, has_maps_beside, held_length, maps_moved, volume_there}
 use Rattle.vx_rvg.proofs.WriteSound.{failed_sound, moved_sizes}
 use Rattle.vx_rvg.proofs.WriteStands.{volume_size_is, write_at}
 
@@ -171,25 +172,45 @@ module _ (core : Core) (c : Content) (vol start : ℕ) (bytes : List ℕ) (m : M
         ((call_safe core.log.ring s Seal ready.ring.is_log tt).0.0 (classes core.log.unit core.log.ring i)
         (image_beside core.log.unit core.log.ring s.unit (Run unit start (blocks_in bytes)) m i ready.ring.tracks beside log_aside))
 
-    store_found : (d : Content) × IsPartly c own d × FoundAs core i (last_of core) d
-    store_found = (found, partly, found_with core c m i sound.log_unit s ready recovers found has)
-
--- ---- of each content, where u is the unit of the volume
+-- ---- of whatever the group held, where u is the unit of the volume
 
 module _ (core : Core) (vol start : ℕ) (bytes : List ℕ) (m m' : Meaning) (sound : IsSound core m)
     (exists : vol < length core.units.vols) (blocks : AreBlocks bytes) (emptied : last_of core < core.log.header.low) (within : start + blocks_in bytes ≤ volume_size core.units.vols m vol)
     (u : ℕ) (unit_is : u ≡ unit_of core.units.vols vol) (goes : Goes (Written u start bytes) m m') where
+  -- the maps lie beside the volume
+  maps_aside : (b : ℕ) → Run (unit_of core.units.vols vol) start (blocks_in bytes) core.units.maps b → ⊥
+  maps_aside b is = sound.placed.maps_aside vol exists (sym is.there)
+
+  module _ (h : Holding) (stands : Stands core h m) (i : Image) (each : Each (Or m.leaves (Written (unit_of core.units.vols vol) start bytes)) i) where
+    store_found : (d : Content) × IsPartly h.content (write_at vol start bytes) d × FoundAs core i (with_content d h)
+    store_found =
+        let c : Content = h.content in
+        let d : Content = found core c vol start bytes m stands.log stands.ready sound exists blocks emptied within i each in (
+          d,
+          partly core c vol start bytes m stands.log stands.ready sound exists blocks emptied within i each,
+          found_with core h m i sound.log_unit stands (recovers core c vol start bytes m stands.log stands.ready sound exists blocks emptied within i each) d
+              (has core c vol start bytes m stands.log stands.ready sound exists blocks emptied within i each)
+              (has_maps_beside (Run (unit_of core.units.vols vol) start (blocks_in bytes)) core.units h.maps m i maps_aside stands.maps
+              (beside core c vol start bytes m stands.log stands.ready sound exists blocks emptied within i each)),
+        )
+
   pub store_moves : Moves (Run (unit_of core.units.vols vol) start (blocks_in bytes)) (Putting core (write_at vol start bytes) m) m m'
   store_moves =
       of_written (Putting core (write_at vol start bytes) m) (unit_of core.units.vols vol) start bytes m m' blocks.whole (subst (λ (w : ℕ). Goes (Written w start bytes) m m') unit_is goes)
-      (λ i each. record { each = λ c stands. store_found core c vol start bytes m stands.log stands.ready sound exists blocks emptied within i each })
+      (λ i each. record { each = λ h stands. store_found h stands i each })
 
-  pub store_stands : KeepsAll m' u start bytes → (IsTrue m'.down → ⊥) → (c : Content) → Stands core c m → Stands core (put c (write_at vol start bytes)) m'
-  store_stands kept up c stands = record {
+  pub store_stands : KeepsAll m' u start bytes → (IsTrue m'.down → ⊥) → (h : Holding) → Stands core h m → Stands core (with_content (put h.content (write_at vol start bytes)) h) m'
+  store_stands kept up h stands = record {
     log = stands.log;
-    ready = store_ready core c vol start bytes m stands.log stands.ready sound exists blocks emptied within m' (Putting core (write_at vol start bytes) m) store_moves
+    ready = store_ready core h.content vol start bytes m stands.log stands.ready sound exists blocks emptied within m' (Putting core (write_at vol start bytes) m) store_moves
         (subst (λ (w : ℕ). KeepsAll m' w start bytes) unit_is kept) up;
+    low = stands.low;
+    writes = stands.writes;
+    maps = maps_moved (Run (unit_of core.units.vols vol) start (blocks_in bytes)) (Putting core (write_at vol start bytes) m) core.units h.maps m m' store_moves maps_aside stands.maps;
   }
+
+  pub store_puts : KeepsAll m' u start bytes → (IsTrue m'.down → ⊥) → PutsInto core core (write_at vol start bytes) m m'
+  store_puts kept up = record { each = λ h stands. store_stands kept up h stands }
 
   pub store_fails : (why : No) → DeviceCause m m' why → IsSound (halted_by why core) m'
   store_fails why cause =

@@ -1,7 +1,7 @@
 -- The group behind a write, from what its parts are.
 use Rattle.std.proofs.Common.{◌≡◌, ℕ, zero, suc, ◌+◌, ◌<◌, ◌≤◌, Bool, true, false, List, [], ◌∷◌, ◌++◌, length, drop, sym, ◌∙◌, ap, subst, arith}
 use Rattle.std.specs.Prelude.{if◌then◌else◌, leb}
-use Rattle.vx_model.specs.Content.{Content, put, blocks_in}
+use Rattle.vx_model.specs.Content.{blocks_in}
 use Rattle.vx_model.specs.declared.no.No.{No}
 use Rattle.vx_disk.specs.Moves.{Moves, Run}
 use Rattle.vx_disk.specs.Shelf.{Meaning}
@@ -13,6 +13,7 @@ use Rattle.vx_disk.specs.Causes.{DeviceCause}
 use Rattle.vx_srl.specs.Views.{Log, free_of, need_of, widths}
 use Rattle.vx_srl.specs.declared.kept.Kept.{Kept}
 use Rattle.vx_rvg.specs.Groups.{halted_by, logged, with_write}
+use Rattle.vx_rvg.specs.Holdings.{Holding, with_writes}
 use Rattle.vx_rvg.specs.Logging.{LogEnded, LogFound, LogMoves, LogsTo}
 use Rattle.vx_rvg.specs.Stands.{Stands, Writing}
 use Rattle.vx_rvg.specs.Views.{Core, IsSound, applied_count, blocks_within, volume_size}
@@ -57,7 +58,7 @@ module _ (held core : Core) (is : held ≡ core) (vol start : ℕ) (bytes : List
   core_moves : LogMoves core.log vol start bytes m m'
   core_moves = subst (λ (k : Core). LogMoves k.log vol start bytes m m') is moves
 
-  pub commit_moves : Moves (Run core.units.srl 0 (core.log.ring + 2)) (Writing core (record { volume = vol; start = start; bytes = bytes }) m) m m'
+  pub commit_moves : Moves (Run core.units.srl 0 (core.log.ring + 2)) (Writing core (record { volume = vol; start = start; bytes = bytes } ∷ []) m) m m'
   commit_moves = write_moves core vol start bytes m m' sound.placed sound.log_unit exists blocks within core_moves
 
   module _ (pending : Pending) (log_is : log ≡ logged held.log vol start bytes) (capacity : pending.capacity ≡ held.pending.capacity)
@@ -72,14 +73,14 @@ module _ (held core : Core) (is : held ≡ core) (vol start : ℕ) (bytes : List
     commit_sound idle = subst (λ (k : Core). IsSound k m') (sym made)
         (write_sound core vol start bytes m m' (moved_sizes (Run core.log.unit 0 (core.log.ring + 2)) (LogFound core.log vol start bytes m) m m' core_moves) sound some idle within)
 
-    pub commit_stands : LogsTo held.log vol start bytes log m m' → (c : Content) → Stands core c m
-        → Stands (record held { log = log; pending = pending }) (put c (record { volume = vol; start = start; bytes = bytes })) m'
-    commit_stands leads c stands =
+    pub commit_stands : LogsTo held.log vol start bytes log m m' → (h : Holding) → Stands core h m
+        → Stands (record held { log = log; pending = pending }) (with_writes (record { volume = vol; start = start; bytes = bytes } ∷ []) h) m'
+    commit_stands leads h stands =
         let log_made : log ≡ (with_write core vol start bytes).log = log_is ∙ ap (λ (k : Core). logged k.log vol start bytes) is in
         let core_leads : LogsTo core.log vol start bytes (with_write core vol start bytes).log m m'
         = subst (λ (k : Core). LogsTo k.log vol start bytes (with_write core vol start bytes).log m m') is (subst (λ (l : Log). LogsTo held.log vol start bytes l m m') log_made leads) in
-        subst (λ (k : Core). Stands k (put c (write_at vol start bytes)) m') (sym made)
-        (write_stands core vol start bytes m m' sound.placed sound.log_unit exists blocks within core_moves (applied_few core m sound some) core_leads c stands)
+        subst (λ (k : Core). Stands k (with_writes (write_at vol start bytes ∷ []) h) m') (sym made)
+        (write_stands core vol start bytes m sound.placed sound.log_unit exists blocks within h stands m' core_moves (applied_few core m sound some) core_leads)
 
   pub commit_failed : (why : No) → LogEnded held.log log → DeviceCause m m' why → IsSound (halted_by why (record held { log = log })) m'
   commit_failed why ended cause =

@@ -34,8 +34,11 @@ moved_sizes mine P m m' moves = record { units = moves.units; size = moves.size 
 pub placed_same : (units : Units) (m m' : Meaning) → SameSizes m m' → Placed units m → Placed units m'
 placed_same units m m' same placed = record {
   log_exists = omega (arith, same.units, placed.log_exists);
+  maps_exist = omega (arith, same.units, placed.maps_exist);
   exist = λ v low. omega (arith, same.units, placed.exist v low);
   apart = placed.apart;
+  maps_apart = placed.maps_apart;
+  maps_aside = placed.maps_aside;
   distinct = placed.distinct;
 }
 

@@ -1,5 +1,5 @@
 -- A group that stands, with a write behind the others.
-use Rattle.std.proofs.Common.{◌≡◌, ◌⊎◌, inl, inr, ⊎_elim, ℕ, ◌+◌, ◌<◌, ◌≤◌, Bool, true, List, [], ◌∷◌, ◌++◌, length, drop, Option, Some, None, refl, sym, ◌∙◌, ap, subst, arith, length-append, append-nil}
+use Rattle.std.proofs.Common.{◌≡◌, ⊎_elim, ℕ, ◌+◌, ◌<◌, ◌≤◌, Bool, true, List, [], ◌∷◌, ◌++◌, length, take, drop, Option, Some, None, refl, sym, ◌∙◌, ap, subst, arith, length-append, append-nil}
 use Rattle.std.specs.Prelude.{if◌then◌else◌, leb, All}
 use Rattle.std.proofs.lemmas.Bool.{lt-ltb}
 use Rattle.std.proofs.lemmas.Bool.Decides.{nat_tests}
@@ -26,9 +26,10 @@ use Rattle.vx_srl.specs.Views.{record_of}
 use Rattle.vx_rvg.specs.Contents.{writes_of, HasContent, KeepsContent}
 use Rattle.vx_rvg.specs.Groups.{with_write}
 use Rattle.vx_rvg.specs.Logging.{LogFound, LogMoves, LogsTo, with_record}
-use Rattle.vx_rvg.specs.Stands.{FoundAs, IsWholeRecord, Ready, Stands, Writing}
-use Rattle.vx_rvg.specs.Views.{Core, Placed, applied_count, last_of, unit_of, volume_size}
-use Rattle.vx_rvg.proofs.ContentFacts.{found_as, has_content_beside, held_length, recovers_low, volumes_beside}
+use Rattle.vx_rvg.specs.Holdings.{Holding, with_writes}
+use Rattle.vx_rvg.specs.Stands.{FoundAs, HasMaps, IsWholeRecord, Ready, Stands, Writing}
+use Rattle.vx_rvg.specs.Views.{Core, Placed, applied_count, unit_of, volume_size}
+use Rattle.vx_rvg.proofs.ContentFacts.{found_as, has_content_beside, has_maps_beside, held_length, maps_beside, maps_moved, recovers_low, volumes_beside}
 use Rattle.vx_rvg.proofs.WriteContent.{put_aside, put_has, put_keeps, record_writes, writes_more}
 
 -- neither of two has bytes
@@ -117,43 +118,72 @@ module _ (core : Core) (c : Content) (vol start : ℕ) (bytes : List ℕ) (m : M
       settled = settles;
     }
 
-  module _ (i : Image) (aside : Beside (Run core.log.unit 0 (core.log.ring + 2)) m.leaves i) where
-    has : HasContent core.units.vols c (writes_of s.held) i
-    has = has_content_beside (Run core.log.unit 0 (core.log.ring + 2)) core.units.vols c (writes_of s.held) m i beside ready.content aside
+-- ---- of whatever the group held
 
-    found_more : Recovers core.log.ring (classes core.log.unit core.log.ring i) s.header (s.held ++ front ∷ []) → FoundAs core i (last_of core + 1) (put c own)
+module _ (core : Core) (vol start : ℕ) (bytes : List ℕ) (m : Meaning) (placed : Placed core.units m) (unit_is : core.log.unit ≡ core.units.srl)
+    (exists : vol < length core.units.vols) (blocks : IsBlocks bytes) (within : start + blocks_in bytes ≤ volume_size core.units.vols m vol) (h : Holding) (stands : Stands core h m) where
+  abbrev s : State
+  s = stands.log
+
+  abbrev x : Write
+  x = write_at vol start bytes
+
+  abbrev its_record : Record
+  its_record = record_of core.log vol start bytes
+
+  writes_more_are : writes_of (s.held ++ its_record ∷ []) ≡ h.writes ++ x ∷ []
+  writes_more_are = writes_more s.held its_record x (record_writes core.log vol start bytes blocks) ∙ ap (λ (ws : List Write). ws ++ x ∷ []) stands.writes
+
+  module _ (i : Image) (aside : Beside (Run core.log.unit 0 (core.log.ring + 2)) m.leaves i) where
+    has : HasContent core.units.vols h.content (writes_of s.held) i
+    has =
+        has_content_beside (Run core.log.unit 0 (core.log.ring + 2)) core.units.vols h.content (writes_of s.held) m i
+        (volumes_beside core h.content m placed unit_is stands.ready.sizes) stands.ready.content aside
+
+    maps : HasMaps core.units h.maps i
+    maps = has_maps_beside (Run core.log.unit 0 (core.log.ring + 2)) core.units h.maps m i (maps_beside core m placed unit_is) stands.maps aside
+
+    found_more : Recovers core.log.ring (classes core.log.unit core.log.ring i) s.header (s.held ++ its_record ∷ []) → FoundAs core i (with_writes (x ∷ []) h)
     found_more recovers =
-        let header : s.header ≡ core.log.header = ready.ring.describes.header in
-        let some : 0 < s.header.low = recovers_low core.log.unit core.log.ring i s.header (s.held ++ front ∷ []) recovers in
+        let header : s.header ≡ core.log.header = stands.ready.ring.describes.header in
+        let more : HasContent core.units.vols (put h.content x) (h.writes ++ x ∷ []) i
+        = subst (λ (ws : List Write). HasContent core.units.vols (put h.content x) (ws ++ x ∷ []) i) stands.writes (put_has core.units.vols h.content x (writes_of s.held) i has) in
         record {
           header = s.header;
-          records = s.held ++ front ∷ [];
-          recovers = subst (λ (u : ℕ). Recovers core.log.ring (classes u core.log.ring i) s.header (s.held ++ front ∷ [])) unit_is recovers;
-          state_is = ap (λ (h : Header). h.state) header;
-          session_is = ap (λ (h : Header). h.incarnation) header;
-          stamp_most = omega (arith, ap (λ (h : Header). h.stamp) header);
-          some = some;
-          last_is = omega (arith, some, ap (λ (h : Header). h.low) header, held_length core.log s m ready.ring, length-append s.held (front ∷ []));
-          content = subst (λ (ws : List Write). HasContent core.units.vols (put c own) ws i) (sym (writes_more s.held front own writes)) (put_has core.units.vols c own (writes_of s.held) i has);
+          records = s.held ++ its_record ∷ [];
+          recovers = subst (λ (u : ℕ). Recovers core.log.ring (classes u core.log.ring i) s.header (s.held ++ its_record ∷ [])) unit_is recovers;
+          state_is = ap (λ (g : Header). g.state) header;
+          session_is = ap (λ (g : Header). g.incarnation) header;
+          stamp_most = omega (arith, ap (λ (g : Header). g.stamp) header);
+          some = omega (arith, recovers_low core.log.unit core.log.ring i s.header (s.held ++ its_record ∷ []) recovers, ap (λ (g : Header). g.low) header, stands.low);
+          low_is = ap (λ (g : Header). g.low) header ∙ stands.low;
+          writes_are = writes_more_are;
+          content = more;
+          maps = maps;
         }
 
-    -- an image in the call has the content, or the write
-    pub write_found : LogFound core.log vol start bytes m i → FoundAs core i (last_of core) c ⊎ FoundAs core i (last_of core + 1) (put c (write_at vol start bytes))
-    write_found found = ⊎_elim (λ was. inl (found_as core c m i unit_is s ready was has)) (λ more. inr (found_more more)) (found.each s ready.ring ready.idle)
+    found_before : Recovers core.log.ring (classes core.log.unit core.log.ring i) s.header s.held → FoundAs core i (with_writes [] h)
+    found_before recovers =
+        subst (λ (ws : List Write). FoundAs core i (record { low = h.low; writes = ws; content = h.content; maps = h.maps })) (sym (append-nil h.writes))
+        (found_as core h m i unit_is stands recovers has maps)
 
--- ---- of each content
+    -- an image in the call has what the group held, or the write too
+    pub write_found : LogFound core.log vol start bytes m i → (k : ℕ) × FoundAs core i (with_writes (take k (write_at vol start bytes ∷ [])) h)
+    write_found found = ⊎_elim (λ was. (0, found_before was)) (λ more. (1, found_more more)) (found.each s stands.ready.ring stands.ready.idle)
 
-module _ (core : Core) (vol start : ℕ) (bytes : List ℕ) (m m' : Meaning) (placed : Placed core.units m) (unit_is : core.log.unit ≡ core.units.srl)
-    (exists : vol < length core.units.vols) (blocks : IsBlocks bytes) (within : start + blocks_in bytes ≤ volume_size core.units.vols m vol) (moves : LogMoves core.log vol start bytes m m') where
-  pub write_stands : applied_count core ≤ length core.log.held → LogsTo core.log vol start bytes (with_write core vol start bytes).log m m'
-      → (c : Content) → Stands core c m → Stands (with_write core vol start bytes) (put c (write_at vol start bytes)) m'
-  write_stands few leads c stands = record {
-    log = with_record core.log.ring stands.log (record_of core.log vol start bytes);
-    ready = write_ready core c vol start bytes m stands.log stands.ready placed unit_is exists blocks within m' moves (omega (arith, few, held_length core.log stands.log m stands.ready.ring)) leads;
+  pub write_stands : (m' : Meaning) → LogMoves core.log vol start bytes m m' → applied_count core ≤ length core.log.held → LogsTo core.log vol start bytes (with_write core vol start bytes).log m m'
+      → Stands (with_write core vol start bytes) (with_writes (write_at vol start bytes ∷ []) h) m'
+  write_stands m' moves few leads = record {
+    log = with_record core.log.ring s its_record;
+    ready = write_ready core h.content vol start bytes m s stands.ready placed unit_is exists blocks within m' moves (omega (arith, few, held_length core.log s m stands.ready.ring)) leads;
+    low = stands.low;
+    writes = ap (λ (rs : List Record). writes_of (s.held ++ (rs ++ its_record ∷ []))) stands.ready.idle ∙ writes_more_are;
+    maps = maps_moved (Run core.log.unit 0 (core.log.ring + 2)) (LogFound core.log vol start bytes m) core.units h.maps m m' moves (maps_beside core m placed unit_is) stands.maps;
   }
 
-  pub write_moves : Moves (Run core.units.srl 0 (core.log.ring + 2)) (Writing core (write_at vol start bytes) m) m m'
-  write_moves =
-      wider (Run core.log.unit 0 (core.log.ring + 2)) (Run core.units.srl 0 (core.log.ring + 2)) (LogFound core.log vol start bytes m) (Writing core (write_at vol start bytes) m) m m' moves
-      (λ u b is. record { there = is.there ∙ unit_is; first = is.first; last = is.last })
-      (λ i aside found. record { each = λ c stands. write_found core c vol start bytes m stands.log stands.ready placed unit_is exists blocks within i aside found })
+pub write_moves : (core : Core) (vol start : ℕ) (bytes : List ℕ) (m m' : Meaning) → Placed core.units m → core.log.unit ≡ core.units.srl → vol < length core.units.vols → IsBlocks bytes
+    → start + blocks_in bytes ≤ volume_size core.units.vols m vol → LogMoves core.log vol start bytes m m' → Moves (Run core.units.srl 0 (core.log.ring + 2)) (Writing core (write_at vol start bytes ∷ []) m) m m'
+write_moves core vol start bytes m m' placed unit_is exists blocks within moves =
+    wider (Run core.log.unit 0 (core.log.ring + 2)) (Run core.units.srl 0 (core.log.ring + 2)) (LogFound core.log vol start bytes m) (Writing core (write_at vol start bytes ∷ []) m) m m' moves
+    (λ u b is. record { there = is.there ∙ unit_is; first = is.first; last = is.last })
+    (λ i aside found. record { each = λ h stands. write_found core vol start bytes m placed unit_is exists blocks within h stands i aside found })

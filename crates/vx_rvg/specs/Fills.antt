@@ -1,5 +1,5 @@
 -- What waits once the writes of a log are taken up, one after another.
-use Rattle.std.specs.Prelude.{◌≡◌, ℕ, IsTrue, List, length, take, All}
+use Rattle.std.specs.Prelude.{◌≡◌, ℕ, ◌+◌, IsTrue, List, length, take, slice_get, Some, All}
 use Rattle.vx_model.specs.Content.{Write}
 use Rattle.vx_model.specs.declared.call.Update.{Update}
 use Rattle.vx_model.specs.declared.no.No.{No}
@@ -7,10 +7,12 @@ use Rattle.vx_model.specs.declared.no.No.TheVariants.{Damaged}
 use Rattle.vx_disk.specs.Shelf.{Meaning}
 use Rattle.vx_overlay.specs.Writes.{entries_of}
 use Rattle.vx_overlay.specs.declared.entry.Entry.{Entry}
+use Rattle.vx_ringlog.specs.Chain.{block as block_of}
 use Rattle.vx_ringlog.specs.Logs.{State}
 use Rattle.vx_disk.specs.Causes.{DeviceCause}
 use Rattle.vx_srl.specs.Rings.{RingOn}
 use Rattle.vx_srl.specs.Views.{Log}
+use Rattle.vx_srl.specs.declared.kept.Kept.{Kept}
 use Rattle.vx_rvg.specs.Contents.{writes_of}
 use Rattle.vx_rvg.specs.Stands.{IsWholeRecord}
 use Rattle.vx_rvg.specs.Views.{blocks_within}
@@ -26,7 +28,15 @@ pub record IsFilled (l : Log) (size : ℕ → ℕ) (m : Meaning) (k : ℕ) (entr
   pub entries_are : (s : State) → RingOn l s m → IsTrue m.tells → entries ≡ entries_of size (writes_of (take k s.held))
   pub whole : (s : State) → RingOn l s m → IsTrue m.tells → All IsWholeRecord (take k s.held)
 
+-- the block is the first one of the body of a record, whose digest this is
+pub record NamesOne (l : Log) (block : ℕ) (stored : List ℕ) : Type 0 where
+  pub place : ℕ
+  pub kept : Kept
+  pub there : slice_get l.held place ≡ Some kept
+  pub at : block ≡ block_of l.ring (kept.place + 1)
+  pub stored_is : stored ≡ kept.head.digest
+
 -- why a log is not read to its end: a body is damaged, which a log that stands there does not give, or a device call failed
 abbrev pub FillCause : Log → Meaning → Meaning → No → Type 0
-FillCause l old new (Damaged unit block stored computed) = (stored ≡ computed → ⊥) × ((s : State) → RingOn l s old → IsTrue old.tells → ⊥)
+FillCause l old new (Damaged unit block stored computed) = (unit ≡ l.unit) × (stored ≡ computed → ⊥) × NamesOne l block stored × ((s : State) → RingOn l s old → IsTrue old.tells → ⊥)
 FillCause l old new other = DeviceCause old new other

@@ -2,6 +2,7 @@ pub mod Brings
 pub mod Contents
 pub mod Fills
 pub mod Groups
+pub mod Holdings
 pub mod Logging
 pub mod Saves
 pub mod Stands

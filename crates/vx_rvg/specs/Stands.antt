@@ -1,6 +1,7 @@
--- A group that stands on its shelf with a content, and what a crash leaves of it.
-use Rattle.std.specs.Prelude.{◌≡◌, ◌⊎◌, ℕ, ◌+◌, ◌*◌, ◌<◌, ◌≤◌, List, [], length, drop, None, All}
-use Rattle.vx_model.specs.Content.{Content, Write, put}
+-- A group that stands on its shelf with what it holds, and what a crash leaves of it.
+use Rattle.std.specs.Prelude.{◌≡◌, ◌⊎◌, ℕ, ◌-◌, ◌*◌, ◌<◌, ◌≤◌, IsTrue, List, [], length, take, drop, slice_get, None, Some, All}
+use Rattle.vx_model.specs.Content.{Content, Write}
+use Rattle.vx_model.specs.declared.call.Update.{Update}
 use Rattle.vx_model.specs.declared.state.State.{State as SiteState}
 use Rattle.vx_model.specs.declared.units.Units.{Units}
 use Rattle.vx_srlfmt.specs.declared.header.Header.{Header}
@@ -15,7 +16,8 @@ use Rattle.vx_ringio.specs.Reading.{LeavesAs}
 use Rattle.vx_srl.specs.Rings.{RingOn}
 use Rattle.vx_overlay.specs.Writes.{entries_of}
 use Rattle.vx_rvg.specs.Contents.{writes_of, HasSizes, KeepsContent, HasContent}
-use Rattle.vx_rvg.specs.Views.{Core, unit_of, last_of, applied_count}
+use Rattle.vx_rvg.specs.Holdings.{Holding, kept_in, update_of, with_writes}
+use Rattle.vx_rvg.specs.Views.{Core, unit_of, applied_count}
 
 -- the record has as many whole blocks as its header says
 abbrev pub IsWholeRecord : Record → Type 0
@@ -32,47 +34,71 @@ pub record Ready (core : Core) (c : Content) (s : State) (m : Meaning) : Type 0 
   pub waiting : core.pending.entries ≡ entries_of c.size (writes_of (drop (applied_count core) s.held))
   pub settled : (v b : ℕ) → b < c.size v → newest core.pending.entries v b ≡ None → Keeps m (unit_of core.units.vols v) b (c.block v b)
 
--- the volumes by themselves have the content
-pub record Holds (vols : List ℕ) (c : Content) (m : Meaning) : Type 0 where
-  pub sizes : HasSizes vols c m
-  pub blocks : (v b : ℕ) → b < c.size v → Keeps m (unit_of vols v) b (c.block v b)
+-- whatever a crash leaves, the map unit has these blocks
+pub record KeepsMaps (units : Units) (maps : List (List ℕ)) (m : Meaning) : Type 0 where
+  pub size : length maps ≡ m.size units.maps
+  pub each : (b : ℕ) (bytes : List ℕ) → slice_get maps b ≡ Some bytes → Keeps m units.maps b bytes
 
--- a group with this content
-pub record Stands (core : Core) (c : Content) (m : Meaning) : Type 0 where
+-- the same of one image
+pub record HasMaps (units : Units) (maps : List (List ℕ)) (i : Image) : Type 0 where
+  pub each : (b : ℕ) (bytes : List ℕ) → slice_get maps b ≡ Some bytes → i units.maps b ≡ bytes
+
+-- the volumes by themselves have the content, and the map unit has these blocks
+pub record Holds (units : Units) (c : Content) (maps : List (List ℕ)) (m : Meaning) : Type 0 where
+  pub sizes : HasSizes units.vols c m
+  pub blocks : (v b : ℕ) → b < c.size v → Keeps m (unit_of units.vols v) b (c.block v b)
+  pub maps_are : KeepsMaps units maps m
+
+-- a group that holds this: its log has these writes and no other
+pub record Stands (core : Core) (h : Holding) (m : Meaning) : Type 0 where
   pub log : State
-  pub ready : Ready core c log m
+  pub ready : Ready core h.content log m
+  pub low : core.log.header.low ≡ h.low
+  pub writes : writes_of log.held ≡ h.writes
+  pub maps : KeepsMaps core.units h.maps m
 
--- An image has a log of this state and session, with a stamp up to this one, whose last write has this number, and the content with
--- that write.
-pub record Found (units : Units) (ring : ℕ) (state : SiteState) (session stamp : ℕ) (i : Image) (last : ℕ) (c : Content) : Type 0 where
+-- An image has a log of this state and session, with a stamp up to this one, that has these writes from the first number on and no
+-- other; the content with them; and the maps.
+pub record Found (units : Units) (ring : ℕ) (state : SiteState) (session stamp : ℕ) (i : Image) (h : Holding) : Type 0 where
   pub header : Header
   pub records : List Record
   pub recovers : Recovers ring (classes units.srl ring i) header records
   pub state_is : header.state ≡ state
   pub session_is : header.incarnation ≡ session
   pub stamp_most : header.stamp ≤ stamp
-  pub some : 0 < header.low
-  pub last_is : header.low + length records ≡ last + 1
-  pub content : HasContent units.vols c (writes_of records) i
+  pub some : 0 < h.low
+  pub low_is : header.low ≡ h.low
+  pub writes_are : writes_of records ≡ h.writes
+  pub content : HasContent units.vols h.content h.writes i
+  pub maps : HasMaps units h.maps i
 
 -- the same with the state and the session that the group has
-abbrev pub FoundAs : Core → Image → ℕ → Content → Type 0
-FoundAs core i last c = Found core.units core.log.ring core.log.header.state core.log.header.incarnation core.log.header.stamp i last c
+abbrev pub FoundAs : Core → Image → Holding → Type 0
+FoundAs core i h = Found core.units core.log.ring core.log.header.state core.log.header.incarnation core.log.header.stamp i h
 
--- of each content with which the group stood: an image in a write has it, or has the write
-pub record Writing (core : Core) (x : Write) (m : Meaning) (i : Image) : Type 0 where
-  pub each : (c : Content) → Stands core c m → FoundAs core i (last_of core) c ⊎ FoundAs core i (last_of core + 1) (put c x)
+-- Of whatever the group held: an image in the logging of these writes has it, with a first part of them, which may be none or all.
+pub record Writing (core : Core) (xs : List Write) (m : Meaning) (i : Image) : Type 0 where
+  pub each : (h : Holding) → Stands core h m → (k : ℕ) × FoundAs core i (with_writes (take k xs) h)
 
--- an image in a call that changes no content has it
+-- an image in a call that changes nothing of what the group held has it
 pub record Resting (core : Core) (m : Meaning) (i : Image) : Type 0 where
-  pub each : (c : Content) → Stands core c m → FoundAs core i (last_of core) c
+  pub each : (h : Holding) → Stands core h m → FoundAs core i h
 
--- behind the call the group has each content that it had
+-- behind the call the group holds what it held
 pub record Rests (core after : Core) (old new : Meaning) : Type 0 where
-  pub each : (c : Content) → Stands core c old → Stands after c new
+  pub each : (h : Holding) → Stands core h old → Stands after h new
 
--- Whatever a crash left, it is one log, of this state and session, whose last write has this number, and the content with it.
-pub record Left (units : Units) (ring : ℕ) (state : SiteState) (session stamp last : ℕ) (c : Content) (m : Meaning) : Type 0 where
+-- behind a call that writes a header it holds what it held, but for the writes that its log gave up
+pub record Retains (core after : Core) (old new : Meaning) : Type 0 where
+  pub each : (h : Holding) → Stands core h old → Stands after (kept_in after h) new
+
+-- an image in a call that writes a header has what the group held behind the old header, or what the log has of it behind the new one
+pub record Saving (core after : Core) (m : Meaning) (i : Image) : Type 0 where
+  pub each : (h : Holding) → Stands core h m → FoundAs core i h ⊎ FoundAs after i (kept_in after h)
+
+-- Whatever a crash left, it is one log, of this state and session, that has these writes from the first number on and no other; the
+-- content with them; and the maps.
+pub record Left (units : Units) (ring : ℕ) (state : SiteState) (session stamp : ℕ) (h : Holding) (m : Meaning) : Type 0 where
   pub header : Header
   pub records : List Record
   pub kinds : Kinds
@@ -81,11 +107,14 @@ pub record Left (units : Units) (ring : ℕ) (state : SiteState) (session stamp 
   pub state_is : header.state ≡ state
   pub session_is : header.incarnation ≡ session
   pub stamp_most : header.stamp ≤ stamp
-  pub some : 0 < header.low
-  pub last_is : header.low + length records ≡ last + 1
-  pub sizes : HasSizes units.vols c m
-  pub content : KeepsContent units.vols c (writes_of records) m
+  pub some : 0 < h.low
+  pub low_is : header.low ≡ h.low
+  pub writes_are : writes_of records ≡ h.writes
+  pub sizes : HasSizes units.vols h.content m
+  pub content : KeepsContent units.vols h.content h.writes m
+  pub maps : KeepsMaps units h.maps m
 
--- an image in a call that writes a header has the content behind the old header or the new one, both of which have a first number
-pub record Saving (core after : Core) (m : Meaning) (i : Image) : Type 0 where
-  pub each : (c : Content) → Stands core c m → FoundAs core i (last_of core) c ⊎ FoundAs after i (last_of after) c
+-- what a fetch of a number gives: the write that the group holds under it, on the line of its log
+pub record Gives (core : Core) (n : ℕ) (m : Meaning) (update : Update) : Type 0 where
+  pub each : (h : Holding) → Stands core h m → IsTrue m.tells
+      → (x : Write) × (slice_get h.writes (n - h.low) ≡ Some x) × (update ≡ update_of core.log.header.state.line n x)

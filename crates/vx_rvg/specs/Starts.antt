@@ -1,6 +1,5 @@
 -- How a group is started from what stands on its shelf.
 use Rattle.std.specs.Prelude.{◌≡◌, ◌⊎◌, ℕ, ◌+◌, ◌≤◌, IsTrue, None, []}
-use Rattle.vx_model.specs.Content.{Content}
 use Rattle.vx_model.specs.Sizes.{ring_of}
 use Rattle.vx_model.specs.declared.errors.Stop.{Stop}
 use Rattle.vx_model.specs.declared.errors.Stop.TheVariants.{No as Refused, OutOfMemory}
@@ -12,39 +11,45 @@ use Rattle.vx_model.specs.declared.units.Units.{Units}
 use Rattle.vx_disk.specs.Shelf.{Meaning, Image}
 use Rattle.vx_overlay.specs.Pending.{Pending}
 use Rattle.vx_disk.specs.Causes.{DeviceCause}
+use Rattle.vx_srl.specs.Damages.{HasDamage, SeesOwner}
 use Rattle.vx_srl.specs.Starts.{NoHeader}
 use Rattle.vx_srl.specs.Views.{most_number}
+use Rattle.vx_rvg.specs.Holdings.{Holding}
 use Rattle.vx_rvg.specs.Stands.{Left, Found, Stands}
-use Rattle.vx_rvg.specs.Views.{Core, last_of}
+use Rattle.vx_rvg.specs.Views.{Core}
 
 -- the ring of the log's unit
 abbrev pub ring_in : Units → Meaning → ℕ
 ring_in units m = ring_of (m.size units.srl)
 
--- the group has the log and the content that were left, in the next session
+-- the group holds what was left, in the next session
 pub record IsStarted (units : Units) (old : Meaning) (core : Core) (new : Meaning) : Type 0 where
   pub units_are : core.units ≡ units
   pub ring_is : core.log.ring ≡ ring_in units old
   pub applied : core.applied + 1 ≡ core.log.header.low
   pub running : core.halted ≡ None
-  pub each : (state : SiteState) (session stamp last : ℕ) (c : Content) → Left units (ring_in units old) state session stamp last c old
-      → (core.log.header.state ≡ state) × (core.log.header.incarnation ≡ session + 1) × (core.log.header.stamp ≤ stamp + 3) × (last_of core ≡ last) × Stands core c new
+  pub each : (state : SiteState) (session stamp : ℕ) (h : Holding) → Left units (ring_in units old) state session stamp h old
+      → (core.log.header.state ≡ state) × (core.log.header.incarnation ≡ session + 1) × (core.log.header.stamp ≤ stamp + 3) × Stands core h new
 
 -- an image in a start has them, in the session that was left or in the next one
 pub record Starting (units : Units) (m : Meaning) (i : Image) : Type 0 where
-  pub each : (state : SiteState) (session stamp last : ℕ) (c : Content) → Left units (ring_in units m) state session stamp last c m
-      → Found units (ring_in units m) state session stamp i last c ⊎ Found units (ring_in units m) state (session + 1) (stamp + 3) i last c
+  pub each : (state : SiteState) (session stamp : ℕ) (h : Holding) → Left units (ring_in units m) state session stamp h m
+      → Found units (ring_in units m) state session stamp i h ⊎ Found units (ring_in units m) state (session + 1) (stamp + 3) i h
 
 -- nothing was left that a start should have found
 abbrev pub NothingLeft : Units → Meaning → Type 0
-NothingLeft units m = (state : SiteState) (session stamp last : ℕ) (c : Content) → Left units (ring_in units m) state session stamp last c m → ⊥
+NothingLeft units m = (state : SiteState) (session stamp : ℕ) (h : Holding) → Left units (ring_in units m) state session stamp h m → ⊥
 
--- why a start is refused: nothing is a header; a block is damaged; a number would go past its limit; or a device call failed
+-- Why a start is refused: nothing is a header; a block is damaged, or the body of a record that was taken, which was read once more; a
+-- number would go past its limit; or a device call failed.
 abbrev pub StartCause : Units → Meaning → Meaning → No → Type 0
 StartCause units old new NoConfig = (IsTrue old.tells → NoHeader units.srl (ring_in units old) old) × NothingLeft units old
-StartCause units old new (Damaged unit block stored computed) = (stored ≡ computed → ⊥) × NothingLeft units old
+StartCause units old new (Damaged unit block stored computed) =
+    (unit ≡ units.srl) × (stored ≡ computed → ⊥)
+    × (IsTrue old.tells → HasDamage units.srl (ring_in units old) block stored computed old ⊎ SeesOwner units.srl (ring_in units old) block stored old)
+    × NothingLeft units old
 StartCause units old new (Limit what most) = (what ≡ Number) × (most ≡ most_number)
-    × ((state : SiteState) (session stamp last : ℕ) (c : Content) → Left units (ring_in units old) state session stamp last c old → (most_number ≤ stamp + 2) ⊎ (most_number ≤ session))
+    × ((state : SiteState) (session stamp : ℕ) (h : Holding) → Left units (ring_in units old) state session stamp h old → (most_number ≤ stamp + 2) ⊎ (most_number ≤ session))
 StartCause units old new why = DeviceCause old new why
 
 abbrev pub StartStop : Units → Meaning → Meaning → Stop → Type 0

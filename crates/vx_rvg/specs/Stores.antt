@@ -5,6 +5,7 @@ use Rattle.vx_model.specs.declared.no.No.{No}
 use Rattle.vx_disk.specs.Moves.{Blocks, Run, Union}
 use Rattle.vx_disk.specs.Shelf.{Meaning, Image}
 use Rattle.vx_rvg.specs.Groups.{Fails, read_refusal}
+use Rattle.vx_rvg.specs.Holdings.{Holding, kept_in, with_content}
 use Rattle.vx_rvg.specs.Saves.{reclaim_refusal, reclaimed}
 use Rattle.vx_rvg.specs.Stands.{FoundAs, Stands}
 use Rattle.vx_rvg.specs.Views.{Core, last_of, unit_of}
@@ -42,16 +43,23 @@ pub record GivesUp (core : Core) (u b : ℕ) : Type 0 where
 abbrev pub store_blocks : Core → (volume start count : ℕ) → Blocks
 store_blocks c volume start count = Union (GivesUp c) (Run (unit_of c.units.vols volume) start count)
 
--- Of each content with which the group stood: an image in the call has the log as it was, and the content with some blocks of the write
--- in it.
+-- Of whatever the group held: an image in the call has it, with some blocks of the write in the content.
 pub record Putting (core : Core) (x : Write) (m : Meaning) (i : Image) : Type 0 where
-  pub each : (c : Content) → Stands core c m → (d : Content) × IsPartly c x d × FoundAs core i (last_of core) d
+  pub each : (h : Holding) → Stands core h m → (d : Content) × IsPartly h.content x d × FoundAs core i (with_content d h)
 
--- The same of a store: as long as the image has the log's records it has the content too, and without them the content may have some
--- blocks of the write in it.
+-- The same of a store: as long as the image has the log's records it has all that the group held, and without them the content may have
+-- some blocks of the write in it.
 pub record Storing (core : Core) (x : Write) (m : Meaning) (i : Image) : Type 0 where
-  pub each : (c : Content) → Stands core c m
-      → FoundAs core i (last_of core) c ⊎ ((d : Content) × IsPartly c x d × FoundAs (without_records core) i (last_of core) d)
+  pub each : (h : Holding) → Stands core h m
+      → FoundAs core i h ⊎ ((d : Content) × IsPartly h.content x d × FoundAs (without_records core) i (with_content d (kept_in (without_records core) h)))
+
+-- behind the put the group holds what it held, with the write in the content
+pub record PutsInto (core after : Core) (x : Write) (old new : Meaning) : Type 0 where
+  pub each : (h : Holding) → Stands core h old → Stands after (with_content (put h.content x) h) new
+
+-- behind a store, but for the writes that its log gave up
+pub record StoresInto (core after : Core) (x : Write) (old new : Meaning) : Type 0 where
+  pub each : (h : Holding) → Stands core h old → Stands after (with_content (put h.content x) (kept_in (without_records core) h)) new
 
 -- the blocks were put, or a device call failed
 abbrev pub Puts : Core → Meaning → Meaning → Core → Result (Unit {0}) No → Type 0

@@ -33,8 +33,11 @@ applied_count c = count_to c.log c.applied
 -- the units exist, and none of them is another
 pub record Placed (units : Units) (m : Meaning) : Type 0 where
   pub log_exists : units.srl < m.units
+  pub maps_exist : units.maps < m.units
   pub exist : (v : ℕ) → v < length units.vols → unit_of units.vols v < m.units
   pub apart : (v : ℕ) → v < length units.vols → unit_of units.vols v ≢ units.srl
+  pub maps_apart : units.maps ≢ units.srl
+  pub maps_aside : (v : ℕ) → v < length units.vols → unit_of units.vols v ≢ units.maps
   pub distinct : (v w : ℕ) → v < length units.vols → w < length units.vols → unit_of units.vols v ≡ unit_of units.vols w → v ≡ w
 
 -- how many blocks a data volume has, and 0 where there is none of this number

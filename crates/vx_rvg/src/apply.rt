@@ -1,10 +1,9 @@
 // The bringing of logged writes into their volumes.
 ghost use Rattle.std.specs.Prelude.{◌≡◌, ◌+◌, ◌<◌, ◌≤◌, length, Some, None, IsTrue, IsFalse, IfOk, OnOk, IsSome};
 ghost use Rattle.vx_disk.specs.Moves.{Moves, Anything, Nowhere};
-ghost use Rattle.vx_model.specs.Content.{Content};
 ghost use Rattle.vx_rvg.specs.Brings.{Brings, BringsOne, VolumesFlushed};
 ghost use Rattle.vx_rvg.specs.Groups.{unless_halted, ApplyIs};
-ghost use Rattle.vx_rvg.specs.Stands.{Stands, Resting, Rests};
+ghost use Rattle.vx_rvg.specs.Stands.{Resting, Rests};
 ghost use Rattle.vx_srl.specs.Causes.{Stopped};
 ghost use Rattle.vx_rvg.specs.Views.{IsSound, Placed, Waits, last_of};
 

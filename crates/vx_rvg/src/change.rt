@@ -3,7 +3,7 @@ ghost use Rattle.std.specs.Prelude.{◌≡◌, ◌+◌, ◌<◌, ◌≤◌, ℕ,
 ghost use Rattle.vx_disk.specs.Moves.{Moves, Run, Union};
 ghost use Rattle.vx_rvg.specs.Groups.{Fails};
 ghost use Rattle.vx_rvg.specs.Saves.{restart_refusal, with_restart, Empties, RestartIs, refusal_of_change, changed, ChangeIs, change_blocks};
-ghost use Rattle.vx_rvg.specs.Stands.{Saving, Rests};
+ghost use Rattle.vx_rvg.specs.Stands.{Saving, Retains};
 ghost use Rattle.vx_rvg.specs.Views.{IsSound, Waits, last_of};
 ghost use Rattle.vx_srl.specs.Calls.{can_restart};
 ghost use Rattle.vx_srl.specs.Views.{most_number};
@@ -13,9 +13,8 @@ use crate::apply::apply_to;
 use crate::write::refused;
 use crate::{Rvg, RvgCore};
 use vx_disk::Shelf;
+use vx_model::limits::MOST_NUMBER;
 use vx_model::{Counted, No, State};
-
-const MOST: u64 = 0x7fff_ffff_ffff_ffff;
 
 // Empties the log, all of whose writes are in the volumes.
 fn empty<S: Shelf>(shelf: &mut S, core: &mut RvgCore, state: &State, head: u64) -> Result<(), No>
@@ -26,7 +25,7 @@ fn empty<S: Shelf>(shelf: &mut S, core: &mut RvgCore, state: &State, head: u64) 
     requires can { can_restart core.old.log head ≡ true }
     ensures answers { Empties core.old (with_restart core.old state.now head) (S.meaning shelf.old) (S.meaning shelf.new) core.new result }
     ensures sound { IsSound core.new (S.meaning shelf.new) }
-    ensures stands { OnOk result (Rests core.old core.new (S.meaning shelf.old) (S.meaning shelf.new)) }
+    ensures stands { OnOk result (Retains core.old core.new (S.meaning shelf.old) (S.meaning shelf.new)) }
     ensures moves { Moves (Run core.old.units.srl 0 (core.old.log.ring + 2)) (Saving core.old (with_restart core.old state.now head) (S.meaning shelf.old)) (S.meaning shelf.old) (S.meaning shelf.new) }
 {
     // Numbers begin at 1.
@@ -52,7 +51,7 @@ fn restart<S: Shelf>(shelf: &mut S, core: &mut RvgCore, state: &State, head: u64
     ensures answers { RestartIs (restart_refusal core.old head) core.old (with_restart core.old state.now head) (S.meaning shelf.old) (S.meaning shelf.new) core.new result }
     ensures unchanged { IsSome (restart_refusal core.old head) → shelf.new ≡ shelf.old }
     ensures sound { IsSound core.new (S.meaning shelf.new) }
-    ensures stands { OnOk result (Rests core.old core.new (S.meaning shelf.old) (S.meaning shelf.new)) }
+    ensures stands { OnOk result (Retains core.old core.new (S.meaning shelf.old) (S.meaning shelf.new)) }
     ensures moves { Moves (Union (Waits core.old (S.meaning shelf.old)) (Run core.old.units.srl 0 (core.old.log.ring + 2)))
         (Saving core.old (with_restart core.old state.now head) (S.meaning shelf.old)) (S.meaning shelf.old) (S.meaning shelf.new) }
 {
@@ -62,7 +61,7 @@ fn restart<S: Shelf>(shelf: &mut S, core: &mut RvgCore, state: &State, head: u64
     if !core.srl.can_restart(head) {
         return Err(No::Limit {
             what: Counted::Number,
-            most: MOST,
+            most: MOST_NUMBER,
         });
     }
     let last = core.srl.head();
@@ -85,7 +84,7 @@ impl<S: Shelf> Rvg<S> {
         requires number { (head : ℕ) → restart ≡ Some head → head ≤ most_number }
         ensures answers { ChangeIs restart self.old.core state.now (S.meaning self.old.shelf) (S.meaning self.new.shelf) self.new.core result }
         ensures unchanged { IsSome (refusal_of_change self.old.core restart) → self.new.shelf ≡ self.old.shelf }
-        ensures stands { OnOk result (Rests self.old.core self.new.core (S.meaning self.old.shelf) (S.meaning self.new.shelf)) }
+        ensures stands { OnOk result (Retains self.old.core self.new.core (S.meaning self.old.shelf) (S.meaning self.new.shelf)) }
         ensures moves { Moves (change_blocks restart self.old.core (S.meaning self.old.shelf))
             (Saving self.old.core (changed self.old.core state.now restart) (S.meaning self.old.shelf)) (S.meaning self.old.shelf) (S.meaning self.new.shelf) }
     {

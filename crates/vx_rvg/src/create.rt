@@ -1,11 +1,12 @@
 // The making of a group.
-ghost use Rattle.std.specs.Prelude.{◌≡◌, ◌+◌, ◌<◌, ◌≤◌, Err, IfOk, IfErr, IsTrue};
+ghost use Rattle.std.specs.Prelude.{◌≡◌, ℕ, ◌+◌, ◌<◌, ◌≤◌, List, Err, IfOk, IfErr, IsTrue};
 ghost use Rattle.vx_disk.specs.Moves.{Moves, Run, Anything};
 ghost use Rattle.vx_model.specs.Content.{Content};
 ghost use Rattle.vx_model.specs.Sizes.{ring_of};
 ghost use Rattle.vx_model.specs.declared.errors.Stop.TheVariants.{No as Refused};
 ghost use Rattle.vx_model.specs.declared.no.No.TheVariants.{Size};
 ghost use Rattle.vx_rvg.specs.Groups.{new_core, MakeCause};
+ghost use Rattle.vx_rvg.specs.Holdings.{nothing_logged};
 ghost use Rattle.vx_rvg.specs.Stands.{Holds, Stands};
 ghost use Rattle.vx_rvg.specs.Views.{Placed};
 ghost use Rattle.vx_srlfmt.specs.Headers.{CanSpellState};
@@ -32,7 +33,7 @@ impl<S: Shelf> Rvg<S> {
         requires state { CanSpellState state.now }
         ensures small { (S.meaning shelf).size units.now.srl < 8 → result ≡ Err (shelf, Refused Size) }
         ensures core { IfOk result (λ g. g.core ≡ new_core units.now state.now (ring_of ((S.meaning shelf).size units.now.srl))) }
-        ensures stands { IfOk result (λ g. IsTrue (S.meaning shelf).tells → (c : Content) → Holds units.now.vols c (S.meaning shelf) → Stands g.core c (S.meaning g.shelf)) }
+        ensures stands { IfOk result (λ g. IsTrue (S.meaning shelf).tells → (c : Content) (maps : List (List ℕ)) → Holds units.now c maps (S.meaning shelf) → Stands g.core (nothing_logged c maps) (S.meaning g.shelf)) }
         ensures up { IfOk result (λ g. IsTrue (S.meaning g.shelf).down → ⊥) }
         ensures moves { IfOk result (λ g. Moves (Run units.now.srl 0 (ring_of ((S.meaning shelf).size units.now.srl) + 2)) Anything (S.meaning shelf) (S.meaning g.shelf)) }
         ensures cause { 8 ≤ (S.meaning shelf).size units.now.srl → IfErr result (λ e. MakeCause (S.meaning shelf) (S.meaning e.0) e.1) }

@@ -1,14 +1,15 @@
 // A replicated volume group: what it answers, and its reads and writes.
-ghost use Rattle.std.specs.Prelude.{◌≡◌, ◌+◌, ◌<◌, ◌≤◌, ◌%◌, length, Some, None, IsTrue, IsFalse, OnOk, IsSome};
+ghost use Rattle.std.specs.Prelude.{◌≡◌, ◌+◌, ◌-◌, ◌<◌, ◌≤◌, ◌%◌, [], ◌∷◌, length, drop, Some, None, IsTrue, IsFalse, OnOk, IsSome};
 ghost use Rattle.vx_disk.specs.Causes.{OnDisks};
 ghost use Rattle.vx_disk.specs.Disks.{Untouched};
 ghost use Rattle.vx_disk.specs.Moves.{Moves, Run};
 ghost use Rattle.vx_disk.specs.Shelf.{Goes, Nothing};
-ghost use Rattle.vx_model.specs.Content.{Content, Write, put, blocks_in};
+ghost use Rattle.vx_model.specs.Content.{Write, blocks_in};
 ghost use Rattle.vx_ringio.specs.Bodies.{IsBlocks};
 ghost use Rattle.vx_disk.specs.Burns.{FallsShort, MakesCalls};
 ghost use Rattle.vx_rvg.specs.Contents.{Shows};
 ghost use Rattle.vx_rvg.specs.Groups.{write_refusal, read_refusal, WriteIs, ReadIs};
+ghost use Rattle.vx_rvg.specs.Holdings.{Holding, blocks_taken, with_writes};
 ghost use Rattle.vx_rvg.specs.Stands.{Stands, Writing};
 ghost use Rattle.vx_rvg.specs.Views.{IsSound, unit_of, last_of};
 ghost use Rattle.vx_srl.specs.Views.{BodyFits, free_of, need_of, next_of, used_above};
@@ -45,10 +46,10 @@ impl<S: Shelf> Rvg<S> {
             self.old.core vol start bytes.now (S.meaning self.old.shelf) (S.meaning self.new.shelf) self.new.core result }
         ensures unchanged { IsSome (write_refusal self.old.core ((S.meaning self.old.shelf).size (unit_of self.old.core.units.vols vol)) start (blocks_in bytes.now))
             → self.new.shelf ≡ self.old.shelf }
-        ensures stands { OnOk result ((c : Content) → Stands self.old.core c (S.meaning self.old.shelf)
-            → Stands self.new.core (put c (record { volume = vol; start = start; bytes = bytes.now })) (S.meaning self.new.shelf)) }
+        ensures stands { OnOk result ((h : Holding) → Stands self.old.core h (S.meaning self.old.shelf)
+            → Stands self.new.core (with_writes (record { volume = vol; start = start; bytes = bytes.now } ∷ []) h) (S.meaning self.new.shelf)) }
         ensures moves { Moves (Run self.old.core.units.srl 0 (self.old.core.log.ring + 2))
-            (Writing self.old.core (record { volume = vol; start = start; bytes = bytes.now }) (S.meaning self.old.shelf)) (S.meaning self.old.shelf) (S.meaning self.new.shelf) }
+            (Writing self.old.core (record { volume = vol; start = start; bytes = bytes.now } ∷ []) (S.meaning self.old.shelf)) (S.meaning self.old.shelf) (S.meaning self.new.shelf) }
         ensures calls { OnOk result (BodyFits self.old.core.log bytes.now → MakesCalls 4 (S.meaning self.old.shelf) (S.meaning self.new.shelf)) }
         ensures short { BodyFits self.old.core.log bytes.now → FallsShort 4 (S.meaning self.old.shelf) (S.meaning self.new.shelf) }
     {
@@ -75,11 +76,11 @@ impl<S: Shelf> Rvg<S> {
         requires blocks { IsBlocks into.old }
         ensures answers { ReadIs (read_refusal self.old.core ((S.meaning self.old.shelf).size (unit_of self.old.core.units.vols vol)) start (blocks_in into.old))
             (S.meaning self.old.shelf) (S.meaning self.new.shelf) result }
-        ensures gives { OnOk result ((c : Content) → Stands self.old.core c (S.meaning self.old.shelf) → IsTrue (S.meaning self.old.shelf).tells
-            → Shows c vol start (blocks_in into.old) into.new) }
+        ensures gives { OnOk result ((h : Holding) → Stands self.old.core h (S.meaning self.old.shelf) → IsTrue (S.meaning self.old.shelf).tells
+            → Shows h.content vol start (blocks_in into.old) into.new) }
         ensures unchanged { IsSome (read_refusal self.old.core ((S.meaning self.old.shelf).size (unit_of self.old.core.units.vols vol)) start (blocks_in into.old))
             → self.new.shelf ≡ self.old.shelf }
-        ensures stands { (c : Content) → Stands self.old.core c (S.meaning self.old.shelf) → IsFalse (S.meaning self.new.shelf).down → Stands self.new.core c (S.meaning self.new.shelf) }
+        ensures stands { (h : Holding) → Stands self.old.core h (S.meaning self.old.shelf) → IsFalse (S.meaning self.new.shelf).down → Stands self.new.core h (S.meaning self.new.shelf) }
         ensures core { self.new.core ≡ self.old.core }
         ensures goes { Goes Nothing (S.meaning self.old.shelf) (S.meaning self.new.shelf) }
         ensures down { (S.meaning self.new.shelf).down ≡ (S.meaning self.old.shelf).down }
@@ -129,7 +130,8 @@ impl<S: Shelf> Rvg<S> {
 
     /// The blocks of the log that no record takes.
     pub fn free(&self) -> u64
-        ensures { result ≡ free_of self.now.core.log }
+        ensures is { result ≡ free_of self.now.core.log }
+        ensures holds { (h : Holding) → Stands self.now.core h (S.meaning self.now.shelf) → result ≡ self.now.core.log.ring - blocks_taken h.writes }
     {
         self.core.srl.free()
     }
@@ -138,7 +140,8 @@ impl<S: Shelf> Rvg<S> {
     pub fn used(&self, above: u64) -> u64
         requires low { self.now.core.log.header.low ≤ above + 1 }
         requires known { above < next_of self.now.core.log }
-        ensures { result ≡ used_above self.now.core.log above }
+        ensures is { result ≡ used_above self.now.core.log above }
+        ensures holds { (h : Holding) → Stands self.now.core h (S.meaning self.now.shelf) → result ≡ blocks_taken (drop (above + 1 - h.low) h.writes) }
     {
         self.core.srl.used(above)
     }

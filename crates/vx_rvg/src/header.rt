@@ -1,13 +1,15 @@
 // The calls that write a header of the log, and the reading of a logged write.
-ghost use Rattle.std.specs.Prelude.{◌≡◌, ◌+◌, ◌<◌, ◌≤◌, ℕ, Some, None, Ok, Err, OnOk, OnErr, IfErr, IsSome};
+ghost use Rattle.std.specs.Prelude.{◌≡◌, ◌+◌, ◌<◌, ◌≤◌, ℕ, Some, None, Ok, Err, OnOk, OnErr, IfErr, IsSome, IsTrue, IsFalse};
+ghost use Rattle.vx_disk.specs.Causes.{OnDisks};
+ghost use Rattle.vx_disk.specs.Disks.{Untouched};
 ghost use Rattle.vx_disk.specs.Moves.{Moves, Run};
 ghost use Rattle.vx_disk.specs.Shelf.{Goes, Nothing};
-ghost use Rattle.vx_model.specs.Content.{Content};
 ghost use Rattle.vx_model.specs.declared.no.No.TheVariants.{Halted};
 ghost use Rattle.vx_rvg.specs.Saves.{reclaim_refusal, reclaimed, change_refusal, with_new_state, SaveIs};
-ghost use Rattle.vx_rvg.specs.Stands.{Stands, Saving, Rests};
+ghost use Rattle.vx_rvg.specs.Holdings.{Holding};
+ghost use Rattle.vx_rvg.specs.Stands.{Gives, Stands, Saving, Retains};
 ghost use Rattle.vx_rvg.specs.Views.{IsSound, last_of};
-ghost use Rattle.vx_srl.specs.Calls.{Fetches, FetchCause};
+ghost use Rattle.vx_srl.specs.Calls.{Agrees, FetchCause, NamesBody};
 ghost use Rattle.vx_srlfmt.specs.Headers.{CanSpellState};
 
 use crate::write::refused;
@@ -24,7 +26,7 @@ pub(crate) fn give_up<S: Shelf>(shelf: &mut S, core: &mut RvgCore, to: u64) -> R
     ensures unchanged { IsSome (reclaim_refusal core.old to) → shelf.new ≡ shelf.old }
     ensures nothing { to < core.old.log.header.low → shelf.new ≡ shelf.old }
     ensures sound { IsSound core.new (S.meaning shelf.new) }
-    ensures stands { OnOk result (Rests core.old core.new (S.meaning shelf.old) (S.meaning shelf.new)) }
+    ensures stands { OnOk result (Retains core.old core.new (S.meaning shelf.old) (S.meaning shelf.new)) }
     ensures moves { Moves (Run core.old.units.srl 0 (core.old.log.ring + 2))
         (Saving core.old (reclaimed core.old to) (S.meaning shelf.old)) (S.meaning shelf.old) (S.meaning shelf.new) }
 {
@@ -52,7 +54,7 @@ impl<S: Shelf> Rvg<S> {
         ensures answers { SaveIs (reclaim_refusal self.old.core to) self.old.core (reclaimed self.old.core to) (S.meaning self.old.shelf) (S.meaning self.new.shelf) self.new.core result }
         ensures unchanged { IsSome (reclaim_refusal self.old.core to) → self.new.shelf ≡ self.old.shelf }
         ensures nothing { to < self.old.core.log.header.low → self.new.shelf ≡ self.old.shelf }
-        ensures stands { OnOk result (Rests self.old.core self.new.core (S.meaning self.old.shelf) (S.meaning self.new.shelf)) }
+        ensures stands { OnOk result (Retains self.old.core self.new.core (S.meaning self.old.shelf) (S.meaning self.new.shelf)) }
         ensures moves { Moves (Run self.old.core.units.srl 0 (self.old.core.log.ring + 2))
             (Saving self.old.core (reclaimed self.old.core to) (S.meaning self.old.shelf)) (S.meaning self.old.shelf) (S.meaning self.new.shelf) }
     {
@@ -68,7 +70,7 @@ impl<S: Shelf> Rvg<S> {
         requires line { state.now.line ≡ self.old.core.log.header.state.line }
         ensures answers { SaveIs (change_refusal self.old.core) self.old.core (with_new_state self.old.core state.now) (S.meaning self.old.shelf) (S.meaning self.new.shelf) self.new.core result }
         ensures unchanged { IsSome (change_refusal self.old.core) → self.new.shelf ≡ self.old.shelf }
-        ensures stands { OnOk result (Rests self.old.core self.new.core (S.meaning self.old.shelf) (S.meaning self.new.shelf)) }
+        ensures stands { OnOk result (Retains self.old.core self.new.core (S.meaning self.old.shelf) (S.meaning self.new.shelf)) }
         ensures moves { Moves (Run self.old.core.units.srl 0 (self.old.core.log.ring + 2))
             (Saving self.old.core (with_new_state self.old.core state.now) (S.meaning self.old.shelf)) (S.meaning self.old.shelf) (S.meaning self.new.shelf) }
     {
@@ -93,11 +95,17 @@ impl<S: Shelf> Rvg<S> {
         requires held { n ≤ last_of self.old.core }
         ensures halted { (disk : ℕ) → self.old.core.halted ≡ Some disk → (result ≡ Err (SrlNo.Other (Halted disk))) × (self.new.shelf ≡ self.old.shelf) }
         ensures overrun { self.old.core.halted ≡ None → n < self.old.core.log.header.low → (result ≡ Err (SrlNo.Overrun self.old.core.log.header.low)) × (self.new.shelf ≡ self.old.shelf) }
-        ensures gives { OnOk result (Fetches self.old.core.log n (S.meaning self.old.shelf) into.new) }
+        ensures gives { OnOk result (Gives self.old.core n (S.meaning self.old.shelf) into.new) }
+        ensures agrees { OnOk result (Agrees self.old.core.log n into.new) }
+        ensures up { OnOk result (IsTrue (S.meaning self.new.shelf).down → ⊥) }
         ensures cause { self.old.core.halted ≡ None → self.old.core.log.header.low ≤ n → IfErr result (λ why. FetchCause self.old.core.log (S.meaning self.old.shelf) (S.meaning self.new.shelf) why) }
+        ensures names { self.old.core.halted ≡ None → self.old.core.log.header.low ≤ n → IfErr result (NamesBody self.old.core.log n (S.meaning self.old.shelf)) }
         ensures unchanged { OnErr result (into.new ≡ into.old) }
+        ensures stands { (h : Holding) → Stands self.old.core h (S.meaning self.old.shelf) → IsFalse (S.meaning self.new.shelf).down → Stands self.new.core h (S.meaning self.new.shelf) }
         ensures core { self.new.core ≡ self.old.core }
         ensures goes { Goes Nothing (S.meaning self.old.shelf) (S.meaning self.new.shelf) }
+        ensures down { (S.meaning self.new.shelf).down ≡ (S.meaning self.old.shelf).down }
+        ensures disks { OnDisks (S.meaning self.old.shelf).disks (S.meaning self.new.shelf).disks Untouched }
     {
         if let Some(disk) = self.core.halted {
             return Err(SrlNo::Other(No::Halted { disk }));

@@ -4,11 +4,10 @@ ghost use Rattle.vx_rvg.specs.Groups.{write_refusal, read_refusal, applied_to, h
 ghost use Rattle.vx_rvg.specs.Views.{unit_of};
 
 use std::marker::Model;
+use vx_model::limits::MOST_NUMBER;
 use vx_model::{Counted, No, Units};
 use vx_overlay::Overlay;
 use vx_srl::Srl;
-
-const MOST: u64 = 0x7fff_ffff_ffff_ffff;
 
 /// What a group is beside its shelf.
 #[derive(Drop)]
@@ -59,10 +58,10 @@ impl RvgCore {
         if size < count || size - count < start {
             return Some(No::Range);
         }
-        if self.srl.head() >= MOST {
+        if self.srl.head() >= MOST_NUMBER {
             return Some(No::Limit {
                 what: Counted::Number,
-                most: MOST,
+                most: MOST_NUMBER,
             });
         }
         None

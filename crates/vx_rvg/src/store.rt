@@ -1,10 +1,9 @@
 // The putting of blocks into a volume without the log.
 ghost use Rattle.std.specs.Prelude.{◌≡◌, ◌+◌, ◌<◌, ◌≤◌, length, None, IsTrue, OnOk, IsSome};
 ghost use Rattle.vx_disk.specs.Moves.{Moves, Run};
-ghost use Rattle.vx_model.specs.Content.{Content, put, blocks_in};
+ghost use Rattle.vx_model.specs.Content.{blocks_in};
 ghost use Rattle.vx_rvg.specs.Saves.{reclaim_refusal};
-ghost use Rattle.vx_rvg.specs.Stands.{Stands};
-ghost use Rattle.vx_rvg.specs.Stores.{AreBlocks, Puts, Putting, StoreIs, Storing, store_blocks, store_refusal};
+ghost use Rattle.vx_rvg.specs.Stores.{AreBlocks, Puts, PutsInto, Putting, StoreIs, StoresInto, Storing, store_blocks, store_refusal};
 ghost use Rattle.vx_rvg.specs.Views.{IsSound, last_of, unit_of, volume_size};
 
 use crate::header::give_up;
@@ -27,8 +26,7 @@ fn put_blocks<S: Shelf>(
     requires within { start + blocks_in bytes.now ≤ volume_size core.old.units.vols (S.meaning shelf.old) vol }
     ensures puts { Puts core.old (S.meaning shelf.old) (S.meaning shelf.new) core.new result }
     ensures sound { IsSound core.new (S.meaning shelf.new) }
-    ensures stands { OnOk result ((c : Content) → Stands core.old c (S.meaning shelf.old)
-        → Stands core.new (put c (record { volume = vol; start = start; bytes = bytes.now })) (S.meaning shelf.new)) }
+    ensures stands { OnOk result (PutsInto core.old core.new (record { volume = vol; start = start; bytes = bytes.now }) (S.meaning shelf.old) (S.meaning shelf.new)) }
     ensures moves { Moves (Run (unit_of core.old.units.vols vol) start (blocks_in bytes.now))
         (Putting core.old (record { volume = vol; start = start; bytes = bytes.now }) (S.meaning shelf.old)) (S.meaning shelf.old) (S.meaning shelf.new) }
 {
@@ -59,8 +57,7 @@ fn store_applied<S: Shelf>(
     ensures stores { StoreIs (reclaim_refusal core.old (last_of core.old)) core.old (S.meaning shelf.old) (S.meaning shelf.new) core.new result }
     ensures unchanged { IsSome (reclaim_refusal core.old (last_of core.old)) → shelf.new ≡ shelf.old }
     ensures sound { IsSound core.new (S.meaning shelf.new) }
-    ensures stands { OnOk result ((c : Content) → Stands core.old c (S.meaning shelf.old)
-        → Stands core.new (put c (record { volume = vol; start = start; bytes = bytes.now })) (S.meaning shelf.new)) }
+    ensures stands { OnOk result (StoresInto core.old core.new (record { volume = vol; start = start; bytes = bytes.now }) (S.meaning shelf.old) (S.meaning shelf.new)) }
     ensures moves { Moves (store_blocks core.old vol start (blocks_in bytes.now))
         (Storing core.old (record { volume = vol; start = start; bytes = bytes.now }) (S.meaning shelf.old)) (S.meaning shelf.old) (S.meaning shelf.new) }
 {
@@ -89,8 +86,7 @@ impl<S: Shelf> Rvg<S> {
             self.old.core (S.meaning self.old.shelf) (S.meaning self.new.shelf) self.new.core result }
         ensures unchanged { IsSome (store_refusal self.old.core ((S.meaning self.old.shelf).size (unit_of self.old.core.units.vols vol)) start (blocks_in bytes.now))
             → self.new.shelf ≡ self.old.shelf }
-        ensures stands { OnOk result ((c : Content) → Stands self.old.core c (S.meaning self.old.shelf)
-            → Stands self.new.core (put c (record { volume = vol; start = start; bytes = bytes.now })) (S.meaning self.new.shelf)) }
+        ensures stands { OnOk result (StoresInto self.old.core self.new.core (record { volume = vol; start = start; bytes = bytes.now }) (S.meaning self.old.shelf) (S.meaning self.new.shelf)) }
         ensures moves { Moves (store_blocks self.old.core vol start (blocks_in bytes.now))
             (Storing self.old.core (record { volume = vol; start = start; bytes = bytes.now }) (S.meaning self.old.shelf)) (S.meaning self.old.shelf) (S.meaning self.new.shelf) }
     {

@@ -1,13 +1,14 @@
 // The logging of a write.
-ghost use Rattle.std.specs.Prelude.{◌≡◌, ◌+◌, ◌<◌, ◌≤◌, [], length, None, Ok, IsTrue, IsFalse, OnOk, OnErr, IfErr};
+ghost use Rattle.std.specs.Prelude.{◌≡◌, ◌+◌, ◌<◌, ◌≤◌, [], ◌∷◌, length, None, Ok, IsTrue, IsFalse, OnOk, OnErr, IfErr};
 ghost use Rattle.vx_disk.specs.Moves.{Moves, Run};
-ghost use Rattle.vx_model.specs.Content.{Content, Write, put, blocks_in};
+ghost use Rattle.vx_model.specs.Content.{Write, blocks_in};
 ghost use Rattle.vx_ringio.specs.Bodies.{IsBlocks};
 ghost use Rattle.vx_disk.specs.Burns.{FallsShort, MakesCalls};
 ghost use Rattle.vx_ringio.specs.Tracks.{Lies};
 ghost use Rattle.vx_srl.specs.Calls.{staging, sealing};
 ghost use Rattle.vx_srl.specs.Views.{BodyFits, free_of, need_of, most_number, record_of};
 ghost use Rattle.vx_rvg.specs.Groups.{Writes, no_of};
+ghost use Rattle.vx_rvg.specs.Holdings.{Holding, with_writes};
 ghost use Rattle.vx_rvg.specs.Logging.{Logs, LogsTo, LogMoves};
 ghost use Rattle.vx_rvg.specs.Stands.{Stands, Writing};
 ghost use Rattle.vx_rvg.specs.Views.{Core, IsSound, last_of, volume_size};
@@ -77,10 +78,10 @@ pub(crate) fn commit<S: Shelf>(
     requires number { last_of core.old < most_number }
     ensures writes { Writes core.old vol start bytes.now (S.meaning shelf.old) (S.meaning shelf.new) core.new result }
     ensures sound { IsSound core.new (S.meaning shelf.new) }
-    ensures stands { OnOk result ((c : Content) → Stands core.old c (S.meaning shelf.old)
-        → Stands core.new (put c (record { volume = vol; start = start; bytes = bytes.now })) (S.meaning shelf.new)) }
+    ensures stands { OnOk result ((h : Holding) → Stands core.old h (S.meaning shelf.old)
+        → Stands core.new (with_writes (record { volume = vol; start = start; bytes = bytes.now } ∷ []) h) (S.meaning shelf.new)) }
     ensures moves { Moves (Run core.old.units.srl 0 (core.old.log.ring + 2))
-        (Writing core.old (record { volume = vol; start = start; bytes = bytes.now }) (S.meaning shelf.old))
+        (Writing core.old (record { volume = vol; start = start; bytes = bytes.now } ∷ []) (S.meaning shelf.old))
         (S.meaning shelf.old) (S.meaning shelf.new) }
     ensures calls { OnOk result (BodyFits core.old.log bytes.now → MakesCalls 4 (S.meaning shelf.old) (S.meaning shelf.new)) }
     ensures short { BodyFits core.old.log bytes.now → FallsShort 4 (S.meaning shelf.old) (S.meaning shelf.new) }

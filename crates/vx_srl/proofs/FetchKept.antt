@@ -17,6 +17,7 @@ use Rattle.vx_ringio.specs.Classes.{is_of_ring}
 use Rattle.vx_ringio.specs.Reading.{ReadsAs, ShowsBlocks}
 use Rattle.vx_ringio.specs.declared.body.Body.TheVariants.{Differs}
 use Rattle.vx_srl.specs.Calls.{Fetches, Agrees}
+use Rattle.vx_srl.specs.Damages.{SeesBody}
 use Rattle.vx_srl.specs.Kepts.{IsKept}
 use Rattle.vx_srl.specs.Rings.{RingOn}
 use Rattle.vx_srl.specs.Views.{Log, PlacedFrom, head_of, width_of, widths}
@@ -87,8 +88,11 @@ module _ (unit ring : ℕ) (header : Header) (records : List Kept) (capacity sea
   }
 
   pub names : (stored : List ℕ) → stored ≡ one.head.digest
+      → (m : Meaning) (computed : List ℕ) → (IsTrue m.tells → SeesBody unit ring one.place one.head computed m)
       → (k : Kept) × (slice_get l.held (n - l.header.low) ≡ Some k) × (2 + (one.place + 1) % ring ≡ block l.ring (k.place + 1)) × (stored ≡ k.head.digest)
-  names stored same = (one, in_held, ap (λ (x : Log). 2 + (one.place + 1) % x.ring) is, same)
+      × (IsTrue m.tells → SeesBody l.unit l.ring k.place k.head computed m)
+  names stored same m computed sees =
+      (one, in_held, ap (λ (x : Log). 2 + (one.place + 1) % x.ring) is, same, subst (λ (x : Log). IsTrue m.tells → SeesBody x.unit x.ring one.place one.head computed m) is sees)
 
   module _ (m : Meaning) (disk : List ℕ) (size : length disk ≡ 512 * one.head.count)
       (shows : (c : ℕ → Kind) → ReadsAs unit ring c m → ShowsBlocks ring c (one.place + 1) (all_blocks disk)) where

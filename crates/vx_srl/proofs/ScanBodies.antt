@@ -8,15 +8,17 @@ use Rattle.vx_srlfmt.specs.Kinds.{Kind, Body, IsKind, IsBody, body_byte, kind_of
 use Rattle.vx_srlfmt.proofs.KindLaws.{kind_of-is}
 use Rattle.vx_srlfmt.specs.declared.record.RecordHead.{RecordHead}
 use Rattle.vx_wire.specs.Seals.{digest_of}
+use Rattle.vx_disk.specs.Shelf.{Meaning}
 use Rattle.vx_ringlog.specs.Cells.{Image}
 use Rattle.vx_ringlog.specs.Chain.{HasBody}
 use Rattle.vx_ringlog.specs.Records.{Record, Genuine, with_firsts}
 use Rattle.vx_ringio.specs.Bodies.{blocks_of, all_blocks, given_of}
 use Rattle.vx_ringio.specs.Classes.{class_of}
-use Rattle.vx_ringio.specs.Reading.{ShowsBlocks}
+use Rattle.vx_ringio.specs.Reading.{GaveBlocks, ShowsBlocks}
 use Rattle.vx_ringio.proofs.Bodies.{count_blocks}
 use Rattle.vx_ringio.proofs.Classing.{class_body}
 use Rattle.vx_ringio.proofs.Following.{narrowed_body, body_same}
+use Rattle.vx_srl.specs.Damages.{SeesBody}
 
 -- ---- the first byte of each block
 
@@ -92,3 +94,13 @@ module _ (ring : ℕ) (c : Image) (p : ℕ) (head : RecordHead) (bytes : List �
     record { count = sym count; digest = digest },
     stand_read ring c p (all_blocks bytes) (recursion_from_All IsBody (all_blocks bytes) bodies) shows,
   )
+
+-- a body that was read has its digest
+pub body_shown : (unit ring place : ℕ) (head : RecordHead) (bytes : List ℕ) (m : Meaning) (computed : List ℕ) → length bytes ≡ 512 * head.count → GaveBlocks unit ring m (place + 1) (all_blocks bytes)
+    → computed ≡ digest_of (given_of head bytes) → SeesBody unit ring place head computed m
+body_shown unit ring place head bytes m computed size gave is = record {
+  body = all_blocks bytes;
+  count = count_blocks (length bytes / 512) bytes ∙ omega (arith, size);
+  gave = gave;
+  computed_is = is;
+}

@@ -1,15 +1,17 @@
 -- What stands at a place of the ring, by the records that a scan from there takes.
-use Rattle.std.proofs.Common.{◌≡◌, ℕ, suc, ◌+◌, ◌<◌, ◌≤◌, List, [], ◌∷◌, length, Result, Ok, Err, IfOk, sym, ◌∙◌, ap, subst, arith}
+use Rattle.std.proofs.Common.{◌≡◌, inr, Bool, IsTrue, ℕ, suc, ◌+◌, ◌<◌, ◌≤◌, List, [], ◌∷◌, length, Result, Ok, Err, IfOk, sym, ◌∙◌, ap, subst, arith}
 use Rattle.vx_disk.specs.declared.shelf.ShelfError.{ShelfError}
-use Rattle.vx_disk.specs.Shelf.{Meaning}
+use Rattle.vx_disk.specs.Shelf.{Goes, Meaning, Nothing}
 use Rattle.vx_srlfmt.specs.Kinds.{Kind, Front, Damaged}
 use Rattle.vx_srlfmt.specs.Records.{CanSpellHead}
 use Rattle.vx_srlfmt.specs.declared.record.RecordHead.{RecordHead}
+use Rattle.vx_srlfmt.specs.declared.record.Seen.TheVariants as seen
 use Rattle.vx_ringlog.specs.Cells.{Image}
 use Rattle.vx_ringlog.specs.Chain.{block, total, Accepts, HasBody, Scan}
 use Rattle.vx_ringlog.specs.Records.{Era, Record, Genuine}
-use Rattle.vx_ringio.specs.Reading.{ReadsAs}
-use Rattle.vx_srl.specs.Scans.{MayFollow, BodyStands, IsOf, Agrees, StandsThere, TakenFits}
+use Rattle.vx_ringio.specs.Reading.{ReadsAs, SeesFront}
+use Rattle.vx_ringio.proofs.Seeing.{gave_before}
+use Rattle.vx_srl.specs.Scans.{MayFollow, BodyShown, BodyStands, IsOf, IsShown, Agrees, StandsThere, TakenFits}
 use Rattle.vx_srl.specs.declared.scan.Found.{Found}
 use Rattle.vx_srl.specs.declared.scan.Found.TheVariants.{Taken, End, Broken}
 
@@ -84,3 +86,20 @@ module _ (unit ring : ℕ) (m : Meaning) (e : Era) (p n prev : ℕ) (head : Reco
 pub answer_fits : (left n : ℕ) (head : RecordHead) (result : Result Found ShelfError) → CanSpellHead head → head.number ≡ n → head.count < left → IfOk result (IsOf head) → IfOk result (TakenFits left n)
 answer_fits left n head (Ok found) can number low of = taken_fits left n head found can number low of
 answer_fits left n head (Err error) can number low of = tt
+
+-- ---- what reads gave
+
+module _ (unit ring place : ℕ) (head : RecordHead) (m m' : Meaning) (goes : Goes Nothing m m') (up : IsTrue m'.down → ⊥) (front : SeesFront unit (block ring place) m (seen.Record head)) where
+  shown_of : (found : Found) → IsOf head found → BodyShown unit ring place head m' found → IsShown unit ring place m found
+  shown_of (Taken taken) of shown = subst (λ (h : RecordHead). SeesFront unit (block ring place) m (seen.Record h)) (sym of) front
+  shown_of End of shown = tt
+  shown_of (Broken at stored computed) of shown = inr (
+    record { place = place; head = head; front = front; at = shown.0; stored_is = shown.1 },
+    record { body = shown.2.body; count = shown.2.count; gave = gave_before unit ring m m' (place + 1) shown.2.body goes up shown.2.gave; computed_is = shown.2.computed_is },
+  )
+
+pub answer_shown : (unit ring place : ℕ) (head : RecordHead) (m m' : Meaning) → Goes Nothing m m' → (IsTrue m'.down → ⊥) → (IsTrue m.tells → SeesFront unit (block ring place) m (seen.Record head))
+    → (result : Result Found ShelfError) → IfOk result (IsOf head) → IfOk result (λ found. IsTrue m'.tells → BodyShown unit ring place head m' found)
+    → IfOk result (λ found. IsTrue m.tells → IsShown unit ring place m found)
+answer_shown unit ring place head m m' goes up front (Ok found) of shown = λ tells. shown_of unit ring place head m m' goes up (front tells) found of (shown (subst (λ (t : Bool). IsTrue t) (sym goes.tells) tells))
+answer_shown unit ring place head m m' goes up front (Err error) of shown = tt

@@ -1,5 +1,5 @@
 -- The loop of the scan.
-use Rattle.std.proofs.Common.{◌≡◌, ℕ, suc, ◌+◌, ◌-◌, ◌*◌, ◌%◌, ◌<◌, ◌≤◌, true, List, [], ◌∷◌, ◌++◌, length, IsTrue, refl, sym, ◌∙◌, ap, subst, arith, length-append, append_assoc, append-nil}
+use Rattle.std.proofs.Common.{◌≡◌, inl, inr, Bool, ℕ, suc, ◌+◌, ◌-◌, ◌*◌, ◌%◌, ◌<◌, ◌≤◌, true, List, [], ◌∷◌, ◌++◌, length, IsTrue, refl, sym, ◌∙◌, ap, subst, arith, length-append, append_assoc, append-nil}
 use Rattle.std.specs.Prelude.{All}
 use Rattle.std.proofs.Math.Nat.{mod-add-mod, mod-eq_of_lt}
 use Rattle.std.proofs.lemmas.List.Elements.{All-nil, All-push}
@@ -9,16 +9,19 @@ use Rattle.vx_srlfmt.specs.Headers.{CanSpell}
 use Rattle.vx_srlfmt.specs.Records.{CanSpellHead}
 use Rattle.vx_srlfmt.specs.declared.header.Header.{Header}
 use Rattle.vx_srlfmt.specs.declared.record.RecordHead.{RecordHead}
+use Rattle.vx_srlfmt.specs.declared.record.Seen.{Seen}
+use Rattle.vx_srlfmt.specs.declared.record.Seen.TheVariants as seen
 use Rattle.vx_ringlog.specs.Cells.{Image as Kinds}
 use Rattle.vx_ringlog.specs.Chain.{block, width, total, Takes, Stops, HasBody, Scan}
 use Rattle.vx_ringlog.specs.Ready.{last}
 use Rattle.vx_ringlog.specs.Records.{Era, era_of, Record}
 use Rattle.vx_ringio.specs.Classes.{is_of_ring}
-use Rattle.vx_ringio.specs.Reading.{ReadsAs}
-use Rattle.vx_ringio.proofs.Following.{reads_stay}
+use Rattle.vx_ringio.specs.Reading.{GaveBlocks, ReadsAs, SeesFront}
+use Rattle.vx_ringio.proofs.Following.{reads_stay, still_read}
+use Rattle.vx_srl.specs.Damages.{RecordDamaged, SeesFronts}
 use Rattle.vx_srl.specs.Kepts.{IsKept}
 use Rattle.vx_srl.specs.Rings.{heads_of, kept_heads}
-use Rattle.vx_srl.specs.Scans.{Agrees, Chained, StandsThere, TakenFits, Scans, AreChained}
+use Rattle.vx_srl.specs.Scans.{Agrees, Chained, IsShown, StandsThere, TakenFits, Scans, AreChained}
 use Rattle.vx_srl.specs.Views.{PlacedFrom, place_after, width_of, widths, most_number}
 use Rattle.vx_srl.specs.declared.kept.Kept.{Kept}
 use Rattle.vx_srl.specs.declared.scan.Found.{Found}
@@ -125,6 +128,8 @@ pub record Behind (ring : ℕ) (c : Kinds) (h : Header) (found : List Kept) (pla
 pub record Scanning (unit ring : ℕ) (h : Header) (old now : Meaning) (found : List Kept) (capacity place left prev turns : ℕ) : Type 0 where
   pub goes : Goes Nothing old now
   pub reads : (c : Kinds) → ReadsAs unit ring c old → ReadsAs unit ring c now
+  pub back : (u b : ℕ) (v : List ℕ) → now.reads u b v → old.reads u b v
+  pub fronts : IsTrue old.tells → SeesFronts unit ring found old
   pub inside : place < ring
   pub heads : All (λ (k : Kept). CanSpellHead k.head) found
   pub placed : PlacedFrom ring h.place found
@@ -142,6 +147,8 @@ begun_with : (unit ring : ℕ) (h : Header) (m : Meaning) (capacity : ℕ) → C
 begun_with unit ring h m capacity spell inside room = record {
   goes = same_Goes Nothing m;
   reads = λ c reads. reads;
+  back = λ u b v is. is;
+  fronts = λ tells. All-nil (λ (k : Kept). SeesFront unit (block ring k.place) m (seen.Record k.head));
   inside = inside;
   heads = All-nil (λ (k : Kept). CanSpellHead k.head);
   placed = tt;
@@ -208,6 +215,28 @@ module _ (unit ring : ℕ) (h : Header) (old now : Meaning) (found : List Kept) 
       go [] agrees = agrees
       go (r ∷ rest) agrees = agrees
 
+  still_told : IsTrue old.tells → IsTrue now.tells
+  still_told tells = subst (λ (t : Bool). IsTrue t) (sym s.goes.tells) tells
+
+  -- what reads gave now they gave before
+  front_back : (x : Seen) (b : ℕ) → SeesFront unit b now x → SeesFront unit b old x
+  front_back x b sees = record { bytes = sees.bytes; read = s.back unit b sees.bytes sees.read; is = sees.is }
+
+  damaged_back : (at : ℕ) (stored computed : List ℕ) → RecordDamaged unit ring at stored computed now → RecordDamaged unit ring at stored computed old
+  damaged_back at stored computed (inl front) = inl (front_back (seen.Damaged stored computed) at front)
+  damaged_back at stored computed (inr body) = inr (
+    record { place = body.0.place; head = body.0.head; front = front_back (seen.Record body.0.head) (block ring body.0.place) body.0.front; at = body.0.at; stored_is = body.0.stored_is },
+    record { body = body.1.body; count = body.1.count; gave = gave_back body.1.body (body.0.place + 1) body.1.gave; computed_is = body.1.computed_is },
+  )
+    where
+      gave_back : (bs : List (List ℕ)) (p : ℕ) → GaveBlocks unit ring now p bs → GaveBlocks unit ring old p bs
+      gave_back [] p gave = tt
+      gave_back (b ∷ bs) p gave = (s.back unit (block ring p) b gave.0, gave_back bs (suc p) gave.1)
+
+  -- a damaged block that is met was read
+  pub damaged_read : (x : Found) (at : ℕ) (stored computed : List ℕ) → x ≡ Broken at stored computed → (IsTrue now.tells → IsShown unit ring place now x) → IsTrue old.tells → RecordDamaged unit ring at stored computed old
+  damaged_read x at stored computed same shown tells = damaged_back at stored computed (subst (λ (f : Found). IsShown unit ring place now f) same (shown (still_told tells)))
+
   -- what was found is kept as a log
   pub found_kept : 6 ≤ ring → ring ≤ 65534 → CanSpell h → is_of_ring ring h ≡ true → (used : ℕ) → used + left ≡ ring → IsKept ring h found capacity (length found) place used
   found_kept some few spell of_ring used used_is = record {
@@ -223,7 +252,7 @@ module _ (unit ring : ℕ) (h : Header) (old now : Meaning) (found : List Kept) 
 
   -- a record more
   module _ (head : RecordHead) (new : Meaning) (fits : TakenFits left (h.low + length found) (Taken head)) (looks : LooksLike (Taken head))
-      (stands : StandsAt (length found) (Taken head)) (goes : Goes Nothing now new) (up : IsTrue new.down → ⊥) where
+      (stands : StandsAt (length found) (Taken head)) (shown : IsTrue now.tells → IsShown unit ring place now (Taken head)) (goes : Goes Nothing now new) (up : IsTrue new.down → ⊥) where
     abbrev k : Kept
     k = record { place = place; head = head }
 
@@ -285,6 +314,8 @@ module _ (unit ring : ℕ) (h : Header) (old now : Meaning) (found : List Kept) 
     more left' less turns' turned = record {
       goes = then_nothing Nothing old now new s.goes goes;
       reads = λ c reads. reads_stay unit ring c now new goes up (s.reads c reads);
+      back = λ u b v is. s.back u b v (still_read now new goes up u b v is);
+      fronts = λ tells. All-push (λ (x : Kept). SeesFront unit (block ring x.place) old (seen.Record x.head)) found k (s.fronts tells) (front_back (seen.Record head) (block ring place) (shown (still_told tells)));
       inside = omega (arith, s.inside);
       heads = All-push (λ (x : Kept). CanSpellHead x.head) found k s.heads fits.0;
       placed = placed_more ring h.place found k s.end_is s.placed;
@@ -298,11 +329,11 @@ module _ (unit ring : ℕ) (h : Header) (old now : Meaning) (found : List Kept) 
       behind = behind_more;
     }
 
-  pub went_on : (head : RecordHead) (new : Meaning) (x : Found) (count : ℕ) → x ≡ Taken head → count ≡ length found → TakenFits left (h.low + count) x → LooksAt count x → StandsAt count x → Goes Nothing now new
+  pub went_on : (head : RecordHead) (new : Meaning) (x : Found) (count : ℕ) → x ≡ Taken head → count ≡ length found → TakenFits left (h.low + count) x → LooksAt count x → StandsAt count x → (IsTrue now.tells → IsShown unit ring place now x) → Goes Nothing now new
       → (IsTrue new.down → ⊥) → (found' : List Kept) (capacity' left' turns' : ℕ) → found' ≡ found ++ record { place = place; head = head } ∷ [] → capacity' ≡ capacity → left' ≡ left - (head.count + 1) → turns' ≡ turns + 1
       → Scanning unit ring h old new found' capacity' ((place + (head.count + 1)) % ring) left' head.incarnation turns'
-  went_on head new x count same is fits looks stands goes up found' capacity' left' turns' items room less turned =
+  went_on head new x count same is fits looks stands shown goes up found' capacity' left' turns' items room less turned =
       let here = fits_here x (Taken head) count same is fits in
-      let there = more head new here (looks_here x (Taken head) count same is looks) (stands_here x (Taken head) count same is stands) goes up left' (omega (arith, less, here.2)) turns' turned in
+      let there = more head new here (looks_here x (Taken head) count same is looks) (stands_here x (Taken head) count same is stands) (λ tells. subst (λ (f : Found). IsShown unit ring place now f) same (shown tells)) goes up left' (omega (arith, less, here.2)) turns' turned in
       subst (λ (ks : List Kept). Scanning unit ring h old new ks capacity' ((place + (head.count + 1)) % ring) left' head.incarnation turns') (sym items)
       (subst (λ (n : ℕ). Scanning unit ring h old new (found ++ record { place = place; head = head } ∷ []) n ((place + (head.count + 1)) % ring) left' head.incarnation turns') (sym room) there)

@@ -11,6 +11,7 @@ use Rattle.vx_ringio.specs.declared.top.TopSeen.TheVariants as top
 use Rattle.vx_srlfmt.specs.Headers.{CanSpell}
 use Rattle.vx_srlfmt.specs.Kinds.{Kind, Top}
 use Rattle.vx_srlfmt.specs.declared.header.Header.{Header}
+use Rattle.vx_srl.specs.Damages.{HeadersDamaged, SeesNoTop}
 use Rattle.vx_srl.specs.Standings.{IsNotAbove, IsBelow, IsNoHeader, IsPicked, IsStanding, NoneCounts}
 use Rattle.vx_srl.specs.Starts.{NoHeader}
 use Rattle.vx_srl.specs.declared.start.Picked.TheVariants as picked
@@ -79,6 +80,12 @@ module _ (c : Kinds) (first second : TopSeen) (at_first : IsSeenAt (c 0) first) 
 stands_at : (c : Kinds) (b : ℕ) (g h : Header) (block : ℕ) → block ≡ b → (g ≡ h) × StandsAt c b (1 - b) h → (g ≡ h) × StandsAt c block (1 - block) h
 stands_at c b g h block is there = subst (λ (n : ℕ). (g ≡ h) × StandsAt c n (1 - n) h) (sym is) there
 
+-- a block that is seen as no header
+no_top_in : (ring : ℕ) (bytes : List ℕ) (seen : TopSeen) → IsNoHeader seen → IsTop ring bytes seen → (h : Header) → class_of ring bytes ≡ Top h → ⊥
+no_top_in ring bytes (top.Valid g) none is h at = none g refl
+no_top_in ring bytes (top.Broken stored computed) none is h at = is.0 h at
+no_top_in ring bytes top.Other none is h at = is.0 h at
+
 -- of what two reads saw
 module _ (unit ring : ℕ) (old mid : Meaning) (first second : TopSeen) (sees_first : IsTrue old.tells → SeesTop unit ring 0 old first) (sees_second : IsTrue mid.tells → SeesTop unit ring 1 mid second)
     (goes : Goes Nothing old mid) (up : IsTrue mid.down → ⊥) where
@@ -122,10 +129,20 @@ module _ (unit ring : ℕ) (old mid : Meaning) (first second : TopSeen) (sees_fi
   broken_digests : (seen : TopSeen) (stored computed : List ℕ) → seen ≡ top.Broken stored computed → DigestsDiffer seen → stored ≡ computed → ⊥
   broken_digests seen stored computed is differ = subst DigestsDiffer is differ
 
+  no_top : (b : ℕ) (seen : TopSeen) → IsNoHeader seen → SeesTop unit ring b old seen → SeesNoTop unit ring b old
+  no_top b seen none sees = record { bytes = sees.bytes; read = sees.read; none = no_top_in ring sees.bytes seen none sees.is }
+
+  damaged_by : (block : ℕ) (stored computed : List ℕ) → IsPicked first second (picked.Broken block stored computed) → IsTrue old.tells → HeadersDamaged unit ring block stored computed old
+  damaged_by block stored computed is tells =
+      ⊎_elim
+      (λ low. inl (low.0, subst (λ (s : TopSeen). SeesTop unit ring 0 old s) low.1 (sees_first tells), no_top 1 second is.1 (sees_second_before tells)))
+      (λ high. inr (high.0, subst (λ (s : TopSeen). SeesTop unit ring 0 old s) high.1 (sees_first tells), subst (λ (s : TopSeen). SeesTop unit ring 1 old s) high.2 (sees_second_before tells)))
+      is.2
+
   pub broken : (block : ℕ) (stored computed : List ℕ) → IsPicked first second (picked.Broken block stored computed) → DigestsDiffer first → DigestsDiffer second
-      → (block < 2) × (stored ≡ computed → ⊥) × NoneCounts unit ring old
+      → (stored ≡ computed → ⊥) × (IsTrue old.tells → HeadersDamaged unit ring block stored computed old) × NoneCounts unit ring old
   broken block stored computed is one two = (
-    ⊎_elim (λ low. omega (arith, low.0)) (λ high. omega (arith, high.0)) is.2,
     ⊎_elim (λ low. broken_digests first stored computed low.1 one) (λ high. broken_digests second stored computed high.2 two) is.2,
+    damaged_by block stored computed is,
     none_found is.0 is.1,
   )

@@ -19,6 +19,7 @@ use Rattle.vx_ringio.specs.Tracks.{Tracks, Amid, Follows, Arrives}
 use Rattle.vx_ringio.proofs.Following.{left_now, always_left, following_gives, rest_follows, reads_stay, leaves_stay, leaves_read, left_tracks}
 use Rattle.vx_srlfmt.specs.Headers.{CanSpell}
 use Rattle.vx_srlfmt.specs.declared.header.Header.{Header}
+use Rattle.vx_srl.specs.Damages.{SeesFronts}
 use Rattle.vx_srl.specs.Headers.{raised}
 use Rattle.vx_srl.specs.Kepts.{IsKept}
 use Rattle.vx_srl.specs.Rings.{RingOn, heads_of, kept_heads}
@@ -122,7 +123,7 @@ module _ (unit ring : ℕ) (s : Standing) (old : Meaning) (lawful : Lawful old) 
             (amid.each (still left.kinds) (tracks h rs left)))
 
     -- the log that was started
-    module _ (records : List Kept) (heads : (rs : List Record) → ((h : Header) → LeavesLog unit ring h rs old → kept_heads records ≡ heads_of rs)) (arrives : Arrives unit ring (taking_over s) now new) where
+    module _ (records : List Kept) (heads : (rs : List Record) → ((h : Header) → LeavesLog unit ring h rs old → kept_heads records ≡ heads_of rs)) (fronts : IsTrue old.tells → SeesFronts unit ring records old) (arrives : Arrives unit ring (taking_over s) now new) where
       abbrev log : Log
       log = record { unit = unit; ring = ring; header = taken_over s; held = records; staged = [] }
 
@@ -166,6 +167,7 @@ module _ (unit ring : ℕ) (s : Standing) (old : Meaning) (lawful : Lawful old) 
         unit_is = refl;
         ring_is = refl;
         nothing_staged = refl;
+        fronts = fronts;
         each = λ h rs left. (raised_left h rs left, (started left.kinds s.block (1 - s.block) (raised s.header n) (taken_over s) rs, on h rs left, refl, refl, refl));
       }
 

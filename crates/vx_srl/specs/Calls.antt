@@ -11,6 +11,7 @@ use Rattle.vx_ringlog.specs.Chain.{block as block_of}
 use Rattle.vx_ringlog.specs.Logs.{State, Call, Stage, Seal, Save, Restart}
 use Rattle.vx_ringlog.specs.Records.{Record, given}
 use Rattle.vx_disk.specs.Causes.{DeviceCause}
+use Rattle.vx_srl.specs.Damages.{SeesBody}
 use Rattle.vx_srl.specs.Rings.{RingOn}
 use Rattle.vx_srl.specs.Views.{Log, IsFront, head_of, next_of, most_number}
 use Rattle.vx_srl.specs.declared.errors.SrlNo.{SrlNo}
@@ -92,11 +93,12 @@ pub record Agrees (l : Log) (n : ℕ) (update : Update) : Type 0 where
   pub size : length update.bytes ≡ 512 * head.count
   pub digest : head.digest ≡ digest_of update.bytes
 
--- a body that differs is named by its first block and by the digest that is kept of it
-abbrev pub NamesBody : Log → ℕ → SrlNo → Type 0
-NamesBody l n (Other (Damaged unit block stored computed)) =
+-- a body that differs is named by its first block, by the digest that is kept of it, and by that of the blocks that reads gave
+abbrev pub NamesBody : Log → ℕ → Meaning → SrlNo → Type 0
+NamesBody l n m (Other (Damaged unit block stored computed)) =
     (kept : Kept) × (slice_get l.held (n - l.header.low) ≡ Some kept) × (block ≡ block_of l.ring (kept.place + 1)) × (stored ≡ kept.head.digest)
-NamesBody l n other = Unit {0}
+    × (IsTrue m.tells → SeesBody l.unit l.ring kept.place kept.head computed m)
+NamesBody l n m other = Unit {0}
 
 -- why a fetch of a number that is held is refused: a device call failed, or the digests of its body differ, which a log that stands there does not give
 abbrev pub FetchCause : Log → Meaning → Meaning → SrlNo → Type 0

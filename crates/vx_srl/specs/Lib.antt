@@ -1,5 +1,6 @@
 pub mod Calls
 pub mod Causes
+pub mod Damages
 pub mod Fronts
 pub mod Headers
 pub mod Kepts

@@ -1,16 +1,18 @@
 -- What a start looks at: records of the ring, one after another.
-use Rattle.std.specs.Prelude.{◌≡◌, ℕ, suc, ◌+◌, ◌≤◌, ◌<◌, List, [], ◌∷◌}
+use Rattle.std.specs.Prelude.{◌≡◌, ℕ, suc, ◌+◌, ◌≤◌, ◌<◌, List, [], ◌∷◌, IsTrue}
 use Rattle.vx_model.specs.declared.no.No.{No}
 use Rattle.vx_model.specs.declared.no.No.TheVariants.{Damaged as DamagedNo}
 use Rattle.vx_srlfmt.specs.Records.{CanSpellHead}
 use Rattle.vx_srlfmt.specs.declared.header.Header.{Header}
 use Rattle.vx_srlfmt.specs.declared.record.RecordHead.{RecordHead}
+use Rattle.vx_srlfmt.specs.declared.record.Seen.TheVariants as seen
 use Rattle.vx_disk.specs.Shelf.{Meaning}
 use Rattle.vx_ringlog.specs.Cells.{Image as Kinds}
 use Rattle.vx_ringlog.specs.Chain.{block, width, total, Takes, HasBody, Scan}
 use Rattle.vx_ringlog.specs.Records.{Era, era_of, Record, Genuine}
-use Rattle.vx_ringio.specs.Reading.{ReadsAs}
 use Rattle.vx_disk.specs.Causes.{DeviceCause}
+use Rattle.vx_ringio.specs.Reading.{ReadsAs, SeesFront}
+use Rattle.vx_srl.specs.Damages.{RecordDamaged, SeesBody}
 use Rattle.vx_srl.specs.Rings.{heads_of, kept_heads}
 use Rattle.vx_srl.specs.declared.kept.Kept.{Kept}
 use Rattle.vx_srl.specs.declared.scan.Found.{Found}
@@ -61,6 +63,18 @@ TakenFits left n (Taken head) = CanSpellHead head × (head.number ≡ n) × (hea
 TakenFits left n End = Unit {0}
 TakenFits left n (Broken at stored computed) = Unit {0}
 
+-- what reads gave of a record that is taken, and of a broken block
+abbrev pub IsShown : ℕ → ℕ → ℕ → Meaning → Found → Type 0
+IsShown unit ring place m (Taken head) = SeesFront unit (block ring place) m (seen.Record head)
+IsShown unit ring place m End = Unit {0}
+IsShown unit ring place m (Broken at stored computed) = RecordDamaged unit ring at stored computed m
+
+-- what reads gave of the body of a record at a place, where it is broken
+abbrev pub BodyShown : ℕ → ℕ → ℕ → RecordHead → Meaning → Found → Type 0
+BodyShown unit ring place head m (Taken taken) = Unit {0}
+BodyShown unit ring place head m End = Unit {0}
+BodyShown unit ring place head m (Broken at stored computed) = (at ≡ block ring (place + 1)) × (stored ≡ head.digest) × SeesBody unit ring place head computed m
+
 -- these records stand one behind another, each with its body
 abbrev pub Chained : ℕ → Kinds → Era → ℕ → ℕ → ℕ → List Record → Type 0
 Chained ring c e p n prev [] = Unit {0}
@@ -77,7 +91,8 @@ pub record Scans (unit ring : ℕ) (h : Header) (rs : List Record) (m : Meaning)
 pub record AreChained (unit ring : ℕ) (h : Header) (records : List Kept) (m : Meaning) : Type 0 where
   pub each : (c : Kinds) → ReadsAs unit ring c m → (rs : List Record) × (heads_of rs ≡ kept_heads records) × Chained ring c (era_of h) h.place h.low h.floor rs
 
--- why a scan is refused: a device call failed, or a block is damaged, which it is not where a scan takes records
+-- why a scan is refused: a device call failed, or a block of a record is damaged, which it is not where a scan takes records
 abbrev pub ScanCause : ℕ → ℕ → Header → Meaning → Meaning → No → Type 0
-ScanCause unit ring h old new (DamagedNo u at stored computed) = (u ≡ unit) × (stored ≡ computed → ⊥) × ((rs : List Record) → Scans unit ring h rs old → ⊥)
+ScanCause unit ring h old new (DamagedNo u at stored computed) =
+    (u ≡ unit) × (stored ≡ computed → ⊥) × (IsTrue old.tells → RecordDamaged unit ring at stored computed old) × ((rs : List Record) → Scans unit ring h rs old → ⊥)
 ScanCause unit ring h old new why = DeviceCause old new why

@@ -15,6 +15,7 @@ use Rattle.vx_ringio.specs.Reading.{ReadsAs, SeesTop}
 use Rattle.vx_ringio.specs.declared.top.TopSeen.{TopSeen}
 use Rattle.vx_ringio.specs.declared.top.TopSeen.TheVariants as top
 use Rattle.vx_disk.specs.Causes.{DeviceCause}
+use Rattle.vx_srl.specs.Damages.{HeadersDamaged}
 use Rattle.vx_srl.specs.Headers.{raised}
 use Rattle.vx_srl.specs.Starts.{NoHeader}
 use Rattle.vx_srl.specs.Views.{most_number}
@@ -61,7 +62,8 @@ NoneCounts unit ring m = (c : Kinds) (h : Header) → ReadsAs unit ring c m → 
 -- why no header was found: neither block is one, or the lower broken one has two digests; or a device call failed
 abbrev pub StandingCause : ℕ → ℕ → Meaning → Meaning → No → Type 0
 StandingCause unit ring old new NoConfig = (IsTrue old.tells → NoHeader unit ring old) × NoneCounts unit ring old
-StandingCause unit ring old new (Damaged u block stored computed) = (u ≡ unit) × (block < 2) × (stored ≡ computed → ⊥) × NoneCounts unit ring old
+StandingCause unit ring old new (Damaged u block stored computed) =
+    (u ≡ unit) × (stored ≡ computed → ⊥) × (IsTrue old.tells → HeadersDamaged unit ring block stored computed old) × NoneCounts unit ring old
 StandingCause unit ring old new why = DeviceCause old new why
 
 -- by how much the first stamp that a start writes is greater

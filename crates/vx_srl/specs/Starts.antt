@@ -19,6 +19,7 @@ use Rattle.vx_ringio.specs.Reading.{LeavesAs, SeesTop}
 use Rattle.vx_ringio.specs.Tracks.{Tracks}
 use Rattle.vx_ringio.specs.declared.top.TopSeen.TheVariants as top
 use Rattle.vx_disk.specs.Causes.{DeviceCause}
+use Rattle.vx_srl.specs.Damages.{HasDamage, SeesFronts}
 use Rattle.vx_srl.specs.Headers.{new_header, raised}
 use Rattle.vx_srl.specs.Rings.{RingOn}
 use Rattle.vx_srl.specs.Views.{Log, most_number}
@@ -62,6 +63,8 @@ pub record IsStarted (unit ring : ℕ) (l : Log) (old new : Meaning) : Type 0 wh
   pub unit_is : l.unit ≡ unit
   pub ring_is : l.ring ≡ ring
   pub nothing_staged : l.staged ≡ []
+  -- reads gave the header of each
+  pub fronts : IsTrue old.tells → SeesFronts unit ring l.held old
   pub each : (h : Header) (rs : List Record) → LeavesLog unit ring h rs old
       → IsRaised h l.header × ((s : State) × RingOn l s new × (s.held ≡ rs) × (s.staged ≡ []) × (s.found ≡ rs))
 
@@ -81,7 +84,8 @@ AtLimit unit ring m = (h : Header) (rs : List Record) → LeavesLog unit ring h 
 -- why a start is refused: nothing is a header; a block is damaged; a number would go past its limit; or a device call failed
 abbrev pub StartCause : ℕ → ℕ → Meaning → Meaning → No → Type 0
 StartCause unit ring old new NoConfig = (IsTrue old.tells → NoHeader unit ring old) × NoneLeft unit ring old
-StartCause unit ring old new (Damaged u block stored computed) = (u ≡ unit) × (stored ≡ computed → ⊥) × NoneLeft unit ring old
+StartCause unit ring old new (Damaged u block stored computed) =
+    (u ≡ unit) × (stored ≡ computed → ⊥) × (IsTrue old.tells → HasDamage unit ring block stored computed old) × NoneLeft unit ring old
 StartCause unit ring old new (Limit what most) = (what ≡ Number) × (most ≡ most_number) × AtLimit unit ring old
 StartCause unit ring old new why = DeviceCause old new why
 

@@ -1,5 +1,6 @@
 -- A log as its callers see it.
 use Rattle.std.specs.Prelude.{◌≡◌, ℕ, ◌+◌, ◌-◌, ◌%◌, ◌≤◌, List, [], ◌∷◌, ◌++◌, length, drop, slice_get, Some, All, true}
+use Rattle.vx_model.specs.declared.limits.TheConstants.{MOST_NUMBER}
 use Rattle.vx_model.specs.Content.{blocks_in}
 use Rattle.vx_wire.specs.Seals.{digest_of}
 use Rattle.vx_srlfmt.specs.Headers.{CanSpell}
@@ -23,7 +24,7 @@ pub record Log : Type 0 where
 
 -- no number, stamp, run or incarnation goes past this
 abbrev pub most_number : ℕ
-most_number = 0x7fff_ffff_ffff_ffff
+most_number = MOST_NUMBER
 
 -- a record takes its blocks and one for its header
 abbrev pub width_of : Kept → ℕ

@@ -14,10 +14,10 @@ ghost use Rattle.vx_srl.specs.Views.{most_number};
 ghost use Rattle.vx_srlfmt.specs.Headers.{CanSpell, CanSpellState};
 
 use crate::Srl;
-use crate::log::MOST;
 use std::alloc::Global;
 use std::collections::VecDeque;
 use vx_disk::{Shelf, ShelfError, refusal};
+use vx_model::limits::MOST_NUMBER;
 use vx_model::{Counted, No, State, Stop};
 use vx_ringio::{blank_ring, write_header};
 use vx_srlfmt::Header;
@@ -93,10 +93,10 @@ impl Srl {
         if size < 8 {
             return Err(Stop::No(No::Size));
         }
-        if head >= MOST {
+        if head >= MOST_NUMBER {
             return Err(Stop::No(No::Limit {
                 what: Counted::Number,
-                most: MOST,
+                most: MOST_NUMBER,
             }));
         }
         let ring = size.min(65536) - 2;

@@ -1,5 +1,7 @@
 // The reading of a record that is held.
 ghost use Rattle.std.specs.Prelude.{◌≡◌, ◌+◌, ◌<◌, ◌≤◌, Err, IsTrue, OnOk, OnErr, IfErr};
+ghost use Rattle.vx_disk.specs.Causes.{OnDisks};
+ghost use Rattle.vx_disk.specs.Disks.{Untouched};
 ghost use Rattle.vx_disk.specs.Shelf.{Goes, Nothing};
 ghost use Rattle.vx_ringio.specs.Tracks.{Lies};
 ghost use Rattle.vx_srl.specs.Calls.{Fetches, FetchCause, Agrees, NamesBody};
@@ -23,9 +25,11 @@ impl Srl {
         ensures agrees { OnOk result (Agrees self.now n into.new) }
         ensures up { OnOk result (IsTrue (S.meaning shelf.new).down → ⊥) }
         ensures cause { self.now.header.low ≤ n → IfErr result (λ why. FetchCause self.now (S.meaning shelf.old) (S.meaning shelf.new) why) }
-        ensures names { self.now.header.low ≤ n → IfErr result (NamesBody self.now n) }
+        ensures names { self.now.header.low ≤ n → IfErr result (NamesBody self.now n (S.meaning shelf.old)) }
         ensures unchanged { OnErr result (into.new ≡ into.old) }
         ensures goes { Goes Nothing (S.meaning shelf.old) (S.meaning shelf.new) }
+        ensures down { (S.meaning shelf.new).down ≡ (S.meaning shelf.old).down }
+        ensures disks { OnDisks (S.meaning shelf.old).disks (S.meaning shelf.new).disks Untouched }
     {
         if n < self.header.low {
             let low = self.header.low;

@@ -10,9 +10,6 @@ use std::marker::Model;
 use vx_model::State;
 use vx_srlfmt::{Header, RecordHead};
 
-/// The greatest number, stamp, run or incarnation: 2^63 - 1.
-pub(crate) const MOST: u64 = 0x7fff_ffff_ffff_ffff;
-
 /// A log in one unit of a shelf. The shelf is handed to each call.
 #[derive(Drop)]
 pub struct Srl {

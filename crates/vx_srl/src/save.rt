@@ -9,11 +9,11 @@ ghost use Rattle.vx_srl.specs.Rings.{Goes, LeadsTo};
 ghost use Rattle.vx_srl.specs.Views.{head_of, count_to, most_number};
 ghost use Rattle.vx_srlfmt.specs.Headers.{CanSpell, CanSpellState};
 
-use crate::log::MOST;
 use crate::stage::no_number_left;
 use crate::{Srl, SrlNo};
 use vx_disk::{Shelf, refusal};
 use vx_model::State;
+use vx_model::limits::MOST_NUMBER;
 use vx_ringio::write_header;
 use vx_srlfmt::Header;
 
@@ -119,7 +119,7 @@ impl Srl {
         ensures goes { Goes self.old (saving (with_state self.old state.now) 0) (S.meaning shelf.old) (S.meaning shelf.new) }
         ensures leads { OnOk result (LeadsTo self.old (saving (with_state self.old state.now) 0) self.new (S.meaning shelf.old) (S.meaning shelf.new)) }
     {
-        if self.header.stamp >= MOST {
+        if self.header.stamp >= MOST_NUMBER {
             return Err(no_number_left());
         }
         let header = self.header_with(state);
@@ -149,7 +149,7 @@ impl Srl {
         if to < self.header.low {
             return Ok(());
         }
-        if self.header.stamp >= MOST || to >= MOST {
+        if self.header.stamp >= MOST_NUMBER || to >= MOST_NUMBER {
             return Err(no_number_left());
         }
         let header = self.header_without(to);
@@ -165,7 +165,7 @@ impl Srl {
     pub fn can_restart(&self, head: u64) -> bool
         ensures { result ≡ can_restart self.now head }
     {
-        self.header.stamp < MOST && self.header.run < MOST && head < MOST
+        self.header.stamp < MOST_NUMBER && self.header.run < MOST_NUMBER && head < MOST_NUMBER
     }
 
     /// Empties the log, and sets its state and the number of its last record, in one write of the header.
@@ -188,7 +188,10 @@ impl Srl {
         ensures goes { Goes self.old (restarting (emptied self.old state.now head)) (S.meaning shelf.old) (S.meaning shelf.new) }
         ensures leads { OnOk result (LeadsTo self.old (restarting (emptied self.old state.now head)) self.new (S.meaning shelf.old) (S.meaning shelf.new)) }
     {
-        if self.header.stamp >= MOST || self.header.run >= MOST || head >= MOST {
+        if self.header.stamp >= MOST_NUMBER
+            || self.header.run >= MOST_NUMBER
+            || head >= MOST_NUMBER
+        {
             return Err(no_number_left());
         }
         let header = self.header_emptied(state, head);

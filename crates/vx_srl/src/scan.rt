@@ -11,9 +11,10 @@ ghost use Rattle.vx_ringlog.specs.Chain.{HasBody, Scan, total};
 ghost use Rattle.vx_ringlog.specs.Records.{Genuine, Record, era_of};
 ghost use Rattle.vx_ringio.specs.Classes.{is_of_ring};
 ghost use Rattle.vx_srl.specs.Causes.{Stopped};
+ghost use Rattle.vx_srl.specs.Damages.{SeesFronts};
 ghost use Rattle.vx_srl.specs.Kepts.{IsKept};
 ghost use Rattle.vx_srl.specs.Rings.{heads_of, kept_heads};
-ghost use Rattle.vx_srl.specs.Scans.{MayFollow, BodyStands, IsOf, Agrees, StandsThere, TakenFits, Differ, Scans, AreChained, ScanCause};
+ghost use Rattle.vx_srl.specs.Scans.{MayFollow, BodyShown, BodyStands, IsOf, IsShown, Agrees, StandsThere, TakenFits, Differ, Scans, AreChained, ScanCause};
 ghost use Rattle.vx_srlfmt.specs.Headers.{CanSpell};
 ghost use Rattle.vx_srlfmt.specs.Kinds.{IsBody};
 ghost use Rattle.vx_srlfmt.specs.Records.{CanSpellHead};
@@ -80,6 +81,7 @@ fn take<S: Shelf>(
         → HasBody ring c (place + 1) r.body → found ≡ Found.Taken head) }
     ensures stands { IfOk result (λ found. (c : Image) → ReadsAs unit ring c (S.meaning shelf.old) → BodyStands ring c (place + 1) found) }
     ensures taken { IfOk result (IsOf head) }
+    ensures shown { IfOk result (λ found. IsTrue (S.meaning shelf.old).tells → BodyShown unit ring place head (S.meaning shelf.old) found) }
     ensures differ { IfOk result Differ }
     ensures goes { Goes Nothing (S.meaning shelf.old) (S.meaning shelf.new) }
     ensures cause { Cause (S.meaning shelf.old) (S.meaning shelf.new) unit result }
@@ -123,6 +125,7 @@ fn look<S: Shelf>(
         → Scan ring c (era_of header.now) place number last rs → total rs ≤ left → Agrees rs found) }
     ensures stands { IfOk result (λ found. (c : Image) → ReadsAs unit ring c (S.meaning shelf.old) → StandsThere ring c (era_of header.now) place number last found) }
     ensures fits { IfOk result (λ found. TakenFits left number found) }
+    ensures shown { IfOk result (λ found. IsTrue (S.meaning shelf.old).tells → IsShown unit ring place (S.meaning shelf.old) found) }
     ensures differ { IfOk result Differ }
     ensures goes { Goes Nothing (S.meaning shelf.old) (S.meaning shelf.new) }
     ensures cause { Cause (S.meaning shelf.old) (S.meaning shelf.new) unit result }
@@ -170,6 +173,7 @@ pub(crate) fn scan<S: Shelf>(
     ensures kept { IfOk result (λ scanned. IsKept ring header.now records.new.items (deque_capacity records.new) (length records.new.items) scanned.end scanned.used) }
     ensures finds { (rs : List Record) → Scans unit ring header.now rs (S.meaning shelf.old) → OnOk result (kept_heads records.new.items ≡ heads_of rs) }
     ensures takes { OnOk result (AreChained unit ring header.now records.new.items (S.meaning shelf.old)) }
+    ensures fronts { OnOk result (IsTrue (S.meaning shelf.old).tells → SeesFronts unit ring records.new.items (S.meaning shelf.old)) }
     ensures goes { Goes Nothing (S.meaning shelf.old) (S.meaning shelf.new) }
     ensures cause { IfErr result (λ why. ScanCause unit ring header.now (S.meaning shelf.old) (S.meaning shelf.new) why) }
 {

@@ -8,9 +8,9 @@ ghost use Rattle.vx_srl.specs.Calls.{Stages, staging, staged_with, no_number};
 ghost use Rattle.vx_srl.specs.Rings.{Goes, LeadsTo};
 ghost use Rattle.vx_srl.specs.Views.{BodyFits, free_of, need_of, next_of, most_number, record_of, kept_of};
 
-use crate::log::MOST;
 use crate::{Kept, Srl, SrlNo};
 use vx_disk::{Shelf, refusal};
+use vx_model::limits::MOST_NUMBER;
 use vx_model::{Counted, No};
 use vx_ringio::{mask_body, write_body};
 use vx_srlfmt::RecordHead;
@@ -22,7 +22,7 @@ pub(crate) fn no_number_left() -> SrlNo
 {
     SrlNo::Other(No::Limit {
         what: Counted::Number,
-        most: MOST,
+        most: MOST_NUMBER,
     })
 }
 
@@ -95,7 +95,7 @@ impl Srl {
             return Err(SrlNo::NoRoom { need, free });
         }
         let number = self.header.low + self.records.len() as u64;
-        if number > MOST {
+        if number > MOST_NUMBER {
             return Err(no_number_left());
         }
         let mut room = [0; 8192];

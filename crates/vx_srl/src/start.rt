@@ -14,13 +14,13 @@ ghost use Rattle.vx_srl.specs.Starts.{ReadsAtLimit, Restarting, StartInIs, Start
 ghost use Rattle.vx_srl.specs.Views.{most_number};
 ghost use Rattle.vx_srlfmt.specs.Headers.{CanSpell};
 
-use crate::log::MOST;
 use crate::scan::scan;
 use crate::{Kept, Srl};
 use std::alloc::Global;
 use std::collections::VecDeque;
 use std::marker::Model;
 use vx_disk::{Shelf, ShelfError, refusal};
+use vx_model::limits::MOST_NUMBER;
 use vx_model::{Counted, No, OutOfMemory, Stop};
 use vx_ringio::{TopSeen, read_top, write_header};
 use vx_srlfmt::Header;
@@ -162,10 +162,10 @@ fn take_over<S: Shelf>(
     ensures limit { IfErr result (λ why. ReadsAtLimit (S.meaning shelf.old) (S.meaning shelf.new) why) }
 {
     let header = &standing.header;
-    if header.stamp > MOST - 3 || header.incarnation >= MOST {
+    if header.stamp > MOST_NUMBER - 3 || header.incarnation >= MOST_NUMBER {
         return Err(No::Limit {
             what: Counted::Number,
-            most: MOST,
+            most: MOST_NUMBER,
         });
     }
     let step = first_step(header.stamp, standing.block);

@@ -8,6 +8,7 @@ use crate::test_blocks::{
     OUTSIDE_RECORD, RECORD, RECORD_DIGEST,
 };
 use std::test::*;
+use vx_model::limits::MOST_NUMBER;
 use vx_model::{KeptLink, KeptLinks, KeptMode, Line, Mark, Prot, Role, SPhase, State, SyncMode};
 use vx_wire::digest;
 
@@ -29,7 +30,7 @@ fn changed(block: [u8; 512], at: usize, byte: u8) -> [u8; 512] {
 }
 
 fn new_header(stamp: u64) -> Header
-    requires { stamp < 2 ^ 63 }
+    requires { stamp ≤ MOST_NUMBER }
     ensures { CanSpell result }
 {
     Header {

@@ -3,8 +3,8 @@ use Rattle.vx_copies.specs.Bodies.{HasFewDisks}
 use Rattle.vx_copies.proofs.Bodies.{read_fits}
 use Rattle.vx_copies.proofs.area.judge.Goals as goal
 
-pub returns-in-Ok-Some-clause-fits : goal.returns-in-Ok-Some-clause-fits
-returns-in-Ok-Some-clause-fits g c = (
+pub returns-else-config-serial-clause-fits : goal.returns-else-config-serial-clause-fits
+returns-else-config-serial-clause-fits g c = (
   read_fits _ _ c.args.body.now c.in-Ok-Some.config (sym c.in-Ok-Some.field-0-is ∙ c.in-Ok-Some.ensures.found),
   subst HasFewDisks c.in-Ok-Some.field-0-is c.in-Ok-Some.ensures.few,
 )

@@ -4,7 +4,7 @@ use Rattle.vx_disk.specs.Shelf.{Meaning}
 use Rattle.vx_copyio.specs.Putting.{FailedOn}
 use Rattle.vx_config.specs.declared.config.Config.{Config}
 use Rattle.vx_copies.specs.Commits.{Grown, Held}
-use Rattle.vx_copies.proofs.MarkedDisks.{mark_grown, mark_other, serial_grown}
+use Rattle.vx_copies.proofs.MarkedDisks.{mark_grown, mark_new, mark_other, serial_grown}
 use Rattle.vx_copies.proofs.OneTry.{held_member, kept_good, member_held, try_remain, try_stands, try_tidy, try_underway, wanted_count, wanted_same, wanted_serial}
 use Rattle.vx_copies.proofs.committing.try_next.Goals as goal
 use Rattle.vx_copies.proofs.committing.try_next.Given.{Over}
@@ -86,11 +86,15 @@ returns-in-Fault-clause-ends g c =
     let new : Meaning = g.S.Shelf.meaning c.put_config.new.shelf in
     let count : length c.args.config.now.disks ≡ old.units = wanted_count old.units old.size c.args.config.now c.requires.wanted in
     let was : Held (next c.args.config.now) old c.in-Err.failed.disk = member_held (next c.args.config.now) old count c.in-Err.failed.disk c.in-Err.ensures.stops.member in (
-      c.mark.ensures.falls was.good,
+      record {
+        unit = c.in-Err.failed.disk;
+        failed = ((fault g c).0, (fault g c).1);
+        fewer = c.mark.ensures.falls was.good;
+        others = λ u held failed. mark_new c.args.config.now (c.args.config.now.serial + 1) c.in-Err.failed.disk u c.mark.new.config c.mark.ensures.marked held failed;
+      },
       try_remain c.args.config.now (next c.args.config.now) c.mark.new.config old new refl refl (ap (λ (x : Config). x.serial) c.mark.ensures.marked) count (serial_grown c.args.config.now (c.args.config.now.serial + 1) old new) (marks g c)
           c.put_config.ensures.tried (λ u held.
           c.in-Err.ensures.stops.others u
           (held_member (next c.args.config.now) old count u (record { below = held.below; good = kept_good (marks g c) u held.good }))
           (mark_other c.args.config.now (c.args.config.now.serial + 1) c.in-Err.failed.disk u c.mark.new.config (omega (arith, count, was.below)) c.mark.ensures.marked held.good)),
-      (fault g c).1,
     )

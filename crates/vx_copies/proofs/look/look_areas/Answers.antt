@@ -3,6 +3,7 @@ use Rattle.vx_disk.proofs.Runs.{then_nothing}
 use Rattle.vx_disk.specs.Shelf.{Nothing}
 use Rattle.vx_copies.specs.Looking.{SeesArea}
 use Rattle.vx_copies.proofs.Reading.{both_areas}
+use Rattle.vx_copies.proofs.Untouching.{untouched_both}
 use Rattle.vx_copies.proofs.look.look_areas.Goals as goal
 
 pub returns-in-Ok-Seen-read_area-clause-sees : goal.returns-in-Ok-Seen-read_area-clause-sees
@@ -17,3 +18,9 @@ returns-in-Ok-Unreadable-read_area-clause-goes g c = then_nothing Nothing _ _ _ 
 
 pub returns-in-Err-read_area-clause-goes : goal.returns-in-Err-read_area-clause-goes
 returns-in-Err-read_area-clause-goes g c = then_nothing Nothing _ _ _ c.in-Ok-Seen.ensures.goes c.in-Err-read_area.ensures.goes
+
+pub returns-in-Ok-Unreadable-read_area-clause-disks : goal.returns-in-Ok-Unreadable-read_area-clause-disks
+returns-in-Ok-Unreadable-read_area-clause-disks g c = untouched_both _ _ _ c.in-Ok-Seen.ensures.disks c.in-Ok-Unreadable-read_area.ensures.disks
+
+pub returns-in-Err-read_area-clause-disks : goal.returns-in-Err-read_area-clause-disks
+returns-in-Err-read_area-clause-disks g c = untouched_both _ _ _ c.in-Ok-Seen.ensures.disks c.in-Err-read_area.ensures.disks

@@ -1,7 +1,10 @@
-use Rattle.std.proofs.Common.{◌≡◌, ℕ, IfErr, OnOk, true, false, sym, subst, ◌∙◌}
+use Rattle.std.proofs.Common.{◌≡◌, ◌*◌, ℕ, IfErr, OnOk, true, false, sym, subst, ◌∙◌}
 use Rattle.vx_disk.specs.Blocks.{bit_at}
+use Rattle.vx_disk.specs.Burns.{MakesCalls}
+use Rattle.vx_disk.specs.Disks.{count_below}
 use Rattle.vx_disk.specs.Shelf.{Meaning}
 use Rattle.vx_copyio.specs.Putting.{AllNew, Copied, CopyStops, GoodFirst, IsMember, part_of}
+use Rattle.vx_copyio.proofs.Counted.{both_parts}
 use Rattle.vx_copyio.proofs.Ordering.{first_ordered, second_ordered}
 use Rattle.vx_copyio.proofs.Spreading.{both_copied, both_new, first_copied, first_new, first_stops, part_good, second_stops, on_err, on_ok, part_cover, part_in, part_out}
 use Rattle.vx_copyio.proofs.spread.put_copies.Goals as goal
@@ -98,3 +101,13 @@ returns-clause-order g c =
     second_ordered c.args.header.now c.args.body.now (IsMember (part_of c.args.set c.args.good true) old.units) (IsMember (part_of c.args.set c.args.good false) old.units) (apart c.args.set c.args.good old.units)
     old mid c.put_part.ensures.copied c.in-Ok.ensures.ok new
     (subst (λ n. Copied (IsMember (part_of c.args.set c.args.good false) n) c.args.header.now c.args.body.now mid new) c.put_part.ensures.copied.moves.units c.put_part-2.ensures.copied)
+
+pub returns-clause-calls : goal.returns-clause-calls
+returns-clause-calls g c =
+    let old : Meaning = g.S.Shelf.meaning c.args.shelf.now in
+    let mid : Meaning = g.S.Shelf.meaning c.put_part.new.shelf in
+    let new : Meaning = g.S.Shelf.meaning c.put_part-2.new.shelf in
+    on_ok c.put_part-2.result (MakesCalls (4 * count_below (part_of c.args.set c.args.good false) mid.units) mid new) (MakesCalls (4 * count_below (bit_at c.args.set) old.units) old new)
+    (λ last. both_parts c.args.set c.args.good old.units old mid new c.in-Ok.ensures.calls
+    (subst (λ n. MakesCalls (4 * count_below (part_of c.args.set c.args.good false) n) mid new) c.put_part.ensures.copied.moves.units last))
+    c.put_part-2.ensures.calls

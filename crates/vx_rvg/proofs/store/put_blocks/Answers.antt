@@ -1,12 +1,12 @@
 -- The group behind blocks that were put into a volume.
 use Rattle.std.proofs.Common.{sym, subst}
 use Rattle.vx_rvg.specs.Views.{Core, IsSound}
-use Rattle.vx_rvg.proofs.StoreStands.{put_cause, store_fails, store_moves, store_stands}
+use Rattle.vx_rvg.proofs.StoreStands.{put_cause, store_fails, store_moves, store_puts}
 use Rattle.vx_rvg.proofs.store.put_blocks.Goals as goal
 
 pub returns-in-Ok-clause-stands : goal.returns-in-Ok-clause-stands
 returns-in-Ok-clause-stands g c =
-    store_stands c.args.core.now c.args.vol c.args.start c.args.bytes.now (g.S.Shelf.meaning c.args.shelf.now) (g.S.Shelf.meaning c.put.new.shelf)
+    store_puts c.args.core.now c.args.vol c.args.start c.args.bytes.now (g.S.Shelf.meaning c.args.shelf.now) (g.S.Shelf.meaning c.put.new.shelf)
     c.requires.sound c.requires.volume c.requires.blocks c.requires.emptied c.requires.within c.unit.result c.unit.ensures c.put.ensures.goes c.in-Ok.ensures.kept c.in-Ok.ensures.cause.after
 
 pub returns-in-Ok-clause-moves : goal.returns-in-Ok-clause-moves

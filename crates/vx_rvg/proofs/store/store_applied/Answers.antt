@@ -5,7 +5,7 @@ use Rattle.vx_rvg.specs.Saves.{reclaimed}
 use Rattle.vx_rvg.specs.Stands.{Saving}
 use Rattle.vx_rvg.specs.Views.{Core, last_of}
 use Rattle.vx_rvg.specs.contracts.rvg_core.RvgCore.{the_view}
-use Rattle.vx_rvg.proofs.StoreMoves.{at_its_last, empty_moves, empty_stores, give_up_part, given_up, is_empty, is_held, put_part, put_stands}
+use Rattle.vx_rvg.proofs.StoreMoves.{at_its_last, empty_moves, empty_puts_ok, empty_stores, give_up_part, given_up, is_empty, is_held, put_part, put_stands}
 use Rattle.vx_rvg.proofs.store.store_applied.Goals as goal
 
 pub returns-then-last-low-clause-stores : goal.returns-then-last-low-clause-stores
@@ -18,10 +18,17 @@ returns-then-last-low-clause-moves g c =
     let empty = is_empty (the_view c.core.inside) c.args.core.now c.core.view_is (omega (arith, c.if-last-low.true, c.head-last.ensures, c.low.ensures.is)) in
     empty_moves c.args.core.now empty c.args.vol c.args.start c.args.bytes.now (g.S.Shelf.meaning c.args.shelf.now) (g.S.Shelf.meaning c.put_blocks.new.shelf) c.put_blocks.ensures.moves
 
+pub returns-then-last-low-clause-stands : goal.returns-then-last-low-clause-stands
+returns-then-last-low-clause-stands g c =
+    let empty = is_empty (the_view c.core.inside) c.args.core.now c.core.view_is (omega (arith, c.if-last-low.true, c.head-last.ensures, c.low.ensures.is)) in
+    empty_puts_ok c.args.core.now empty c.put_blocks.new.core _ (g.S.Shelf.meaning c.args.shelf.now) (g.S.Shelf.meaning c.put_blocks.new.shelf) c.put_blocks.result c.put_blocks.ensures.stands
+
 pub returns-in-Ok-clause-stands : goal.returns-in-Ok-clause-stands
 returns-in-Ok-clause-stands g c =
-    put_stands c.args.core.now c.give_up.new.core c.args.vol c.args.start c.args.bytes.now (g.S.Shelf.meaning c.args.shelf.now) (g.S.Shelf.meaning c.give_up.new.shelf) c.in-Ok.ensures.stands (g.S.Shelf.meaning c.put_blocks-in-Ok.new.shelf)
-    c.put_blocks-in-Ok.new.core c.put_blocks-in-Ok.result c.put_blocks-in-Ok.ensures.stands
+    put_stands c.args.core.now c.give_up.new.core _ (g.S.Shelf.meaning c.args.shelf.now) (g.S.Shelf.meaning c.give_up.new.shelf)
+    (at_its_last (the_view c.core.inside) c.args.core.now c.give_up.new.core c.head-last.result c.core.view_is c.head-last.ensures
+    (given_up _ c.args.core.now (reclaimed c.args.core.now c.head-last.result) c.give_up.new.core (g.S.Shelf.meaning c.args.shelf.now) (g.S.Shelf.meaning c.give_up.new.shelf) c.in-Ok.field-0 c.in-Ok.ensures.answers))
+    c.in-Ok.ensures.stands (g.S.Shelf.meaning c.put_blocks-in-Ok.new.shelf) c.put_blocks-in-Ok.new.core c.put_blocks-in-Ok.result c.put_blocks-in-Ok.ensures.stands
 
 pub returns-in-Ok-clause-moves : goal.returns-in-Ok-clause-moves
 returns-in-Ok-clause-moves g c =

@@ -1,10 +1,10 @@
-use Rattle.std.proofs.Common.{arith, refl, subst, IsTrue, false}
+use Rattle.std.proofs.Common.{arith, inl, refl, subst, IsTrue, false}
 use Rattle.vx_ringlog.specs.Chain.{block}
 use Rattle.vx_ringlog.specs.Records.{era_of}
-use Rattle.vx_ringio.specs.Reading.{ShowsFront, FrontCanSpell}
+use Rattle.vx_ringio.specs.Reading.{SeesFront, ShowsFront, FrontCanSpell}
 use Rattle.vx_srlfmt.specs.declared.record.Seen.{Seen}
 use Rattle.vx_ringio.proofs.Following.{reads_stay}
-use Rattle.vx_srl.proofs.ScanLooks.{damaged_agrees, other_agrees, passed_agrees, answer_agrees, answer_stands, answer_fits}
+use Rattle.vx_srl.proofs.ScanLooks.{damaged_agrees, other_agrees, passed_agrees, answer_agrees, answer_shown, answer_stands, answer_fits}
 use Rattle.vx_srl.proofs.scan.look.Goals.{then-not-may_follow-via-then-not-may_follow, then-not-may_follow-via-else-not-may_follow+then-head-left}
 use Rattle.vx_srl.proofs.scan.look.Goals as goal
 
@@ -12,6 +12,10 @@ pub returns-in-Damaged-clause-agrees : goal.returns-in-Damaged-clause-agrees
 returns-in-Damaged-clause-agrees g c = λ k rs reads scan fits.
     damaged_agrees c.args.ring k (era_of c.args.header.now) c.args.place c.args.number c.args.last rs _ _ _
     (subst (λ (s : Seen). ShowsFront s (k (block c.args.ring c.args.place))) c.in-Damaged.is (c.in_ok-head.ensures.shows k reads)) scan
+
+pub returns-in-Damaged-clause-shown : goal.returns-in-Damaged-clause-shown
+returns-in-Damaged-clause-shown g c = λ tells.
+    inl (subst (λ (s : Seen). SeesFront c.args.unit (block c.args.ring c.args.place) (g.S.Shelf.meaning c.args.shelf.now) s) c.in-Damaged.is (c.in_ok-head.ensures.sees tells))
 
 pub returns-in-Other-clause-agrees : goal.returns-in-Other-clause-agrees
 returns-in-Other-clause-agrees g c = λ k rs reads scan fits.
@@ -48,3 +52,9 @@ returns-clause-stands g c =
 pub returns-clause-fits : goal.returns-clause-fits
 returns-clause-fits g c =
     answer_fits c.args.left c.args.number c.in-Record.head c.take.result (subst FrontCanSpell c.in-Record.is c.in_ok-head.ensures.spell) (c.if-not-may_follow.ensures.0 refl).number c.if-head-left.false c.take.ensures.taken
+
+pub returns-clause-shown : goal.returns-clause-shown
+returns-clause-shown g c =
+    answer_shown c.args.unit c.args.ring c.args.place c.in-Record.head (g.S.Shelf.meaning c.args.shelf.now) (g.S.Shelf.meaning c.read_front.new.shelf) c.read_front.ensures.goes c.in_ok-head.ensures.cause.after
+    (λ tells. subst (λ (s : Seen). SeesFront c.args.unit (block c.args.ring c.args.place) (g.S.Shelf.meaning c.args.shelf.now) s) c.in-Record.is (c.in_ok-head.ensures.sees tells))
+    c.take.result c.take.ensures.taken c.take.ensures.shown

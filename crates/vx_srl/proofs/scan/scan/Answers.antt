@@ -1,8 +1,9 @@
-use Rattle.std.proofs.Common.{arith, refl}
+use Rattle.std.proofs.Common.{arith, refl, subst}
 use Rattle.vx_disk.specs.Shelf.{Nothing}
 use Rattle.vx_disk.proofs.Runs.{then_nothing}
+use Rattle.vx_srl.specs.Scans.{Differ}
 use Rattle.vx_srl.proofs.ScanCauses.{lies_still}
-use Rattle.vx_srl.proofs.ScanLoops.{begun, ended, emptied, found_kept, found_chained, went_on}
+use Rattle.vx_srl.proofs.ScanLoops.{begun, damaged_read, ended, emptied, undamaged, found_kept, found_chained, went_on}
 use Rattle.vx_srl.proofs.StartPlaces.{place_of_ring}
 use Rattle.vx_srl.proofs.scan.scan.Goals.{else-loop-test, then-loop-test+in-Ok-End}
 use Rattle.vx_srl.proofs.scan.scan.Goals as goal
@@ -16,7 +17,15 @@ look-requires-clause-lies g c = lies_still c.args.unit c.args.ring _ _ c.loop.in
 pub loop-preserved : goal.loop-preserved
 loop-preserved g c =
     went_on c.args.unit c.args.ring c.args.header.now _ _ _ _ _ _ _ _ c.loop.invariant c.in-Ok-Taken.head _ c.in-Ok-Taken.field-0 c.len.result c.in-Ok-Taken.field-0-is (omega arith)
-    c.in-Ok-Taken.ensures.fits c.in-Ok-Taken.ensures.agrees c.in-Ok-Taken.ensures.stands c.look.ensures.goes c.in-Ok-Taken.ensures.cause.after _ _ _ _ c.push_back_reserved.ensures.items c.push_back_reserved.ensures.capacity refl refl
+    c.in-Ok-Taken.ensures.fits c.in-Ok-Taken.ensures.agrees c.in-Ok-Taken.ensures.stands c.in-Ok-Taken.ensures.shown c.look.ensures.goes c.in-Ok-Taken.ensures.cause.after _ _ _ _ c.push_back_reserved.ensures.items c.push_back_reserved.ensures.capacity refl refl
+
+pub returns-in-Ok-Broken-clause-cause : goal.returns-in-Ok-Broken-clause-cause
+returns-in-Ok-Broken-clause-cause g c = (
+  refl,
+  subst Differ c.in-Ok-Broken.field-0-is c.in-Ok-Broken.ensures.differ,
+  damaged_read c.args.unit c.args.ring c.args.header.now _ _ _ _ _ _ _ _ c.loop.invariant c.in-Ok-Broken.field-0 _ _ _ c.in-Ok-Broken.field-0-is c.in-Ok-Broken.ensures.shown,
+  undamaged c.args.unit c.args.ring c.args.header.now _ _ _ _ _ _ _ _ c.loop.invariant c.in-Ok-Broken.field-0 c.len.result _ _ _ c.in-Ok-Broken.field-0-is (omega (arith, c.len.ensures)) c.in-Ok-Broken.ensures.agrees,
+)
 
 pub returns-clause-takes : goal.returns-clause-takes
 returns-clause-takes g c = found_chained c.args.unit c.args.ring c.args.header.now _ _ _ _ _ _ _ _ c.loop.invariant

@@ -1,9 +1,13 @@
-use Rattle.std.proofs.Common.{◌∙◌, arith}
+use Rattle.std.proofs.Common.{◌≡◌, ◌∙◌, ◌*◌, ◌≤◌, ℕ, ap, arith}
+use Rattle.std.specs.Prelude.{min, replicate}
 use Rattle.vx_node.proofs.Refused.{write_may}
 use Rattle.vx_node.specs.Yards.{in_files}
 use Rattle.vx_node.proofs.Writing.{write_answered}
 use Rattle.vx_node.proofs.yard.Yard.write_line.Goals.{then-count-lt1-via-then-count-lt1, then-count-lt1-via-else-count-lt1+then-count-gt16}
 use Rattle.vx_node.proofs.yard.Yard.write_line.Goals as goal
+
+few_blocks : (n : ℕ) → n ≤ 16 → min n 16 ≡ n
+few_blocks n few = omega (arith, few)
 
 pub returns-then-count-lt1-clause-works : goal.returns-then-count-lt1-clause-works
 returns-then-count-lt1-clause-works g c = λ w stands free.
@@ -15,5 +19,5 @@ returns-then-count-lt1-clause-works g c = λ w stands free.
 
 pub returns-clause-works : goal.returns-clause-works
 returns-clause-works g c = λ w stands free.
-    write_answered w c.args.self.now _ c.args.name.now c.args.volume.now c.args.start c.args.count c.args.fill c.as_bytes.result.now _
-    (c.as_bytes.ensures.bytes ∙ c.filled-blocks.ensures) free (λ f. c.write_blocks.ensures.works w stands f)
+    write_answered w c.args.self.now _ c.args.name.now c.args.volume.now c.args.start c.args.count c.args.fill c.args.bytes.now _
+    (c.requires.bytes ∙ ap (λ (n : ℕ). replicate (512 * n) c.args.fill) (few_blocks c.args.count (omega (arith, c.if-count-lt1.false)))) free (λ f. c.write_blocks.ensures.works w stands f)

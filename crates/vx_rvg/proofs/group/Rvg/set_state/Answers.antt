@@ -3,10 +3,10 @@ use Rattle.std.proofs.Common.{arith, subst, ◌+◌}
 use Rattle.vx_disk.specs.Moves.{Moves, Run}
 use Rattle.vx_srl.specs.Headers.{with_state}
 use Rattle.vx_rvg.specs.Saves.{with_new_state}
-use Rattle.vx_rvg.specs.Stands.{Saving}
+use Rattle.vx_rvg.specs.Stands.{Retains, Saving}
 use Rattle.vx_rvg.specs.contracts.rvg_core.RvgCore.{the_view}
 use Rattle.vx_rvg.specs.declared.group.Rvg.{Rvg}
-use Rattle.vx_rvg.proofs.SaveCalls.{set_cases, saved_sound, state_low}
+use Rattle.vx_rvg.proofs.SaveCalls.{saved_sound, set_cases, set_done, state_low, state_rests}
 use Rattle.vx_rvg.proofs.SaveStands.{save_moves}
 use Rattle.vx_rvg.proofs.group.Rvg.set_state.Goals as goal
 
@@ -26,3 +26,11 @@ pub returns-clause-moves : goal.returns-clause-moves
 returns-clause-moves g c =
     subst (λ (r : Rvg g.row.S.Denot g.S.Shelf). Moves (Run r.core.units.srl 0 (r.core.log.ring + 2)) (Saving r.core (with_new_state r.core c.args.state.now) (g.S.Shelf.meaning r.shelf)) (g.S.Shelf.meaning r.shelf) (g.S.Shelf.meaning c.set_state.new.shelf)) c.self.view_is
     (save_moves (the_view c.self.inside.0.1.0) (with_state c.self.inside.0.1.0.srl c.args.state.now) 0 (state_low c.self.inside.0.1.0.srl c.args.state.now) (omega arith) c.low-low.ensures.some (g.S.Shelf.meaning c.self.inside.0.0) (g.S.Shelf.meaning c.set_state.new.shelf) c.self.inside.1.0 c.set_state.ensures.goes)
+
+pub returns-clause-stands : goal.returns-clause-stands
+returns-clause-stands g c =
+    subst (λ (r : Rvg g.row.S.Denot g.S.Shelf). Retains r.core (record (the_view c.self.inside.0.1.0) { log = c.set_state.new.self }) (g.S.Shelf.meaning r.shelf) (g.S.Shelf.meaning c.set_state.new.shelf)) c.self.view_is
+    (state_rests (the_view c.self.inside.0.1.0) c.args.state.now c.low-low.ensures.some (g.S.Shelf.meaning c.self.inside.0.0) (g.S.Shelf.meaning c.set_state.new.shelf) c.self.inside.1.0 c.set_state.ensures.goes
+    c.set_state.new.self c.in_default-set_state.ensures.leads
+    (set_done c.self.inside.0.1.0.srl c.set_state.new.self c.args.state.now (g.S.Shelf.meaning c.self.inside.0.0) (g.S.Shelf.meaning c.set_state.new.shelf) c.set_state.result c.self.inside.0.0 c.set_state.new.shelf
+    c.in_default-set_state.field-0 c.in_default-set_state.is c.set_state.ensures.limit c.set_state.ensures.saves))

@@ -1,6 +1,7 @@
 use Rattle.std.proofs.Common.{ℕ, ◌*◌, ◌/◌, ◌≤◌, ◌∙◌, List, ap, sym, arith, length, take, length-take}
 use Rattle.vx_wire.specs.Seals.{digest_of}
 use Rattle.vx_srl.specs.Views.{Log}
+use Rattle.vx_srl.proofs.ScanBodies.{body_shown}
 use Rattle.vx_srl.proofs.FetchKept.{count_within, count_few, never_differ, fetched, agrees, names}
 use Rattle.vx_srl.proofs.log.Srl.fetch.Goals as goal
 
@@ -39,5 +40,9 @@ returns-clause-agrees g c =
 
 pub returns-in-Differs-clause-names : goal.returns-in-Differs-clause-names
 returns-in-Differs-clause-names g c =
+    let few : c.index-kept.result.now.head.count ≤ 16 =
+    count_few c.self.inside.unit _ _ _ _ _ _ _ c.self.invariant c.args.self.now c.self.view_is c.args.n c.if-n-self.false c.requires.held c.index-kept.result.now c.index-kept.ensures in
     λ low. names c.self.inside.unit _ _ _ _ _ _ _ c.self.invariant c.args.self.now c.self.view_is c.args.n c.if-n-self.false c.requires.held c.index-kept.result.now c.index-kept.ensures
-    c.in-Differs.stored c.in-Differs.ensures.is.0
+    c.in-Differs.stored c.in-Differs.ensures.is.0 (g.S.Shelf.meaning c.args.shelf.now) c.in-Differs.computed
+    (λ tells. body_shown c.self.inside.unit c.self.inside.ring c.index-kept.result.now.place c.index-kept.result.now.head c.read_body.new.into (g.S.Shelf.meaning c.args.shelf.now) c.in-Differs.computed
+    (omega (arith, c.read_body.ensures.size, length-take {A = ℕ})) (c.in_default.ensures.gave tells) c.in-Differs.ensures.is.1)

@@ -4,7 +4,7 @@ use Rattle.vx_disk.specs.Shelf.{Goes, Nothing}
 use Rattle.vx_disk.proofs.Runs.{then_nothing}
 use Rattle.vx_model.specs.Sizes.{ring_of}
 use Rattle.vx_srl.specs.Starts.{StartCause, Restarting, IsStarted, Room}
-use Rattle.vx_srl.proofs.StartCauses.{limit_since, no_header_cause, scan_cause, take_over_cause}
+use Rattle.vx_srl.proofs.StartCauses.{fronts_before, limit_since, no_header_cause, scan_cause, take_over_cause}
 use Rattle.vx_srl.proofs.StartLogs.{rests, header_left, scans_left, goes_over, is_started}
 use Rattle.vx_srl.proofs.log.Srl.start_in.Goals as goal
 
@@ -22,7 +22,7 @@ pub returns-in-Err-scan-clause-starts : goal.returns-in-Err-scan-clause-starts
 returns-in-Err-scan-clause-starts g c =
     let ring_is : c.room.inside.ring ≡ ring_of ((g.S.Shelf.meaning c.args.shelf.now).size c.args.unit) = ap (λ (r : Room). r.ring) c.room.view_is ∙ c.requires.room in
     subst (λ (r : ℕ). StartCause c.args.unit r (g.S.Shelf.meaning c.args.shelf.now) (g.S.Shelf.meaning c.scan.new.shelf) c.in-Err-scan.no) ring_is
-    (scan_cause c.args.unit (c.room.inside.ring) c.in-Ok.standing.header (g.S.Shelf.meaning c.args.shelf.now) (g.S.Shelf.meaning c.find_header.new.shelf) (g.S.Shelf.meaning c.scan.new.shelf) c.find_header.ensures.goes
+    (scan_cause c.args.unit (c.room.inside.ring) c.in-Ok.standing.header (g.S.Shelf.meaning c.args.shelf.now) (g.S.Shelf.meaning c.find_header.new.shelf) (g.S.Shelf.meaning c.scan.new.shelf) c.find_header.ensures.goes c.in-Ok.ensures.up
     (λ h rs left. scans_left c.args.unit (c.room.inside.ring) c.in-Ok.standing _ (g.met.S.Shelf.lawful c.args.shelf.now) c.in-Ok.ensures.found _ c.find_header.ensures.goes c.in-Ok.ensures.up h rs left)
     c.in-Err-scan.no c.in-Err-scan.ensures.cause)
 
@@ -39,6 +39,7 @@ returns-in-Ok-take_over-clause-starts g c =
           (is_started c.args.unit (c.room.inside.ring) c.in-Ok.standing _ (g.met.S.Shelf.lawful c.args.shelf.now) c.in-Ok.ensures.found _ (g.met.S.Shelf.lawful c.scan.new.shelf) goes _ c.scan.new.records.items
           (λ rs h left. c.in-Ok-scan.ensures.finds rs
           (scans_left c.args.unit (c.room.inside.ring) c.in-Ok.standing _ (g.met.S.Shelf.lawful c.args.shelf.now) c.in-Ok.ensures.found _ c.find_header.ensures.goes c.in-Ok.ensures.up h rs left))
+          (fronts_before c.args.unit (c.room.inside.ring) c.scan.new.records.items (g.S.Shelf.meaning c.args.shelf.now) (g.S.Shelf.meaning c.find_header.new.shelf) c.find_header.ensures.goes c.in-Ok.ensures.up c.in-Ok-scan.ensures.fronts)
           c.in-Ok-take_over.ensures.arrives c.in-Ok-take_over.header c.made.result c.in-Ok-take_over.ensures.header c.made.ensures),
       c.in-Ok-take_over.ensures.up,
     )

@@ -1,0 +1,34 @@
+-- A log on disk that has the last of a site's writes.
+use Rattle.std.specs.Prelude.{◌≡◌, ℕ, ◌+◌, ◌-◌, ◌<◌, List, length, drop}
+use Rattle.vx_model.specs.Content.{Content, Write}
+use Rattle.vx_model.specs.declared.state.State.{State}
+use Rattle.vx_model.specs.declared.units.Units.{Units}
+use Rattle.vx_disk.specs.Shelf.{Meaning, Image}
+use Rattle.vx_rvg.specs.Holdings.{Holding}
+use Rattle.vx_rvg.specs.Stands.{Found, Left, Stands}
+use Rattle.vx_rvg.specs.Views.{Core}
+
+-- a group holds this content, and of these writes, of which the first has number 1, the last ones
+pub record HasLast (xs : List Write) (c : Content) (h : Holding) : Type 0 where
+  pub some : 0 < h.low
+  pub last : h.low + length h.writes ≡ length xs + 1
+  pub writes : h.writes ≡ drop (h.low - 1) xs
+  pub content : h.content ≡ c
+
+-- a group that stands with them
+pub record StandsWith (core : Core) (xs : List Write) (c : Content) (m : Meaning) : Type 0 where
+  pub held : Holding
+  pub has : HasLast xs c held
+  pub stands : Stands core held m
+
+-- an image has them
+pub record FoundWith (units : Units) (ring : ℕ) (state : State) (session stamp : ℕ) (i : Image) (xs : List Write) (c : Content) : Type 0 where
+  pub held : Holding
+  pub has : HasLast xs c held
+  pub found : Found units ring state session stamp i held
+
+-- a crash left them
+pub record LeftWith (units : Units) (ring : ℕ) (state : State) (session stamp : ℕ) (xs : List Write) (c : Content) (m : Meaning) : Type 0 where
+  pub held : Holding
+  pub has : HasLast xs c held
+  pub left : Left units ring state session stamp held m
