@@ -14,3 +14,6 @@ mod writing;
 
 pub use plexes::is_active;
 pub use volume::{Volume, flush, read, write};
+
+#[cfg(test)]
+mod tests;

@@ -27,7 +27,9 @@ pub fn is_active(config: &Config, vol: u32, plex: u32) -> bool
 fn is_any_on(subdisks: &[Subdisk], disk: u32) -> bool
     ensures { result ≡ list_any (lies_on disk) subdisks.now }
 {
-    subdisks.iter().any(|subdisk| u32::from(subdisk.disk) == disk)
+    subdisks
+        .iter()
+        .any(|subdisk| u32::from(subdisk.disk) == disk)
 }
 
 /// Whether a plex has a subdisk on a disk.
