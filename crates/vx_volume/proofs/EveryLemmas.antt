@@ -1,5 +1,5 @@
 -- Writes and flushes of all plexes that are ACTIVE.
-use Rattle.std.proofs.Common.{◌≡◌, ◌≢◌, ◌⊎◌, inl, inr, ⊎_elim, ℕ, ◌+◌, ◌<◌, ◌≤◌, Bool, true, false, List, length, set, refl, ap, sym, ◌∙◌, subst, arith, IsTrue, Ok, Err}
+use Rattle.std.proofs.Common.{◌≡◌, ◌≢◌, inl, inr, ⊎_elim, ℕ, ◌+◌, ◌<◌, ◌≤◌, Bool, true, false, List, length, set, sym, ◌∙◌, subst, arith, IsTrue, Err}
 use Rattle.std.proofs.lemmas.Bool.{cases_eq}
 use Rattle.vx_disk.specs.Counts.{Rose}
 use Rattle.vx_disk.specs.Shelf.{Flushed, Goes, Meaning, Nothing, Or, Values}
@@ -9,11 +9,11 @@ use Rattle.vx_disk.proofs.Runs.{both_Goes, same_Goes, weaker}
 use Rattle.vx_config.specs.declared.config.Config.{Config}
 use Rattle.vx_config.specs.Checks.{is_sound}
 use Rattle.vx_layout.specs.Places.{place}
-use Rattle.vx_volume.specs.Plexes.{Apart, Asked, DisksFit, InRun, Inside, RunFits, SomeActive, VolumeFits, active, uses}
-use Rattle.vx_volume.specs.Steps.{FlushLoop, FlushedBelow, Loop, WriteLoop, in_set}
-use Rattle.vx_volume.specs.Volumes.{AllBut, AllFailed, OnPlex, OnPlexes, PlexBlamed, PlexCause, PlexFlushed, PlexWrote}
-use Rattle.vx_volume.proofs.Loops.{ends_none, ends_some, has_failed, loop_start, pass_over, was_done}
-use Rattle.vx_volume.proofs.PlaceLemmas.{apart_of, place_there, place_uses, used_there}
+use Rattle.vx_volume.specs.Plexes.{Asked, Inside, RunFits, VolumeFits, active, uses}
+use Rattle.vx_volume.specs.Steps.{FlushLoop, FlushedBelow, WriteLoop, in_set}
+use Rattle.vx_volume.specs.Volumes.{OnPlex, OnPlexes, PlexBlamed, PlexCause, PlexFlushed, PlexWrote}
+use Rattle.vx_volume.proofs.Loops.{has_failed, loop_start, pass_over, was_done}
+use Rattle.vx_volume.proofs.PlaceLemmas.{apart_of, place_there, place_uses}
 use Rattle.vx_volume.proofs.ReadRuns.{leaves_before, reads_before, still}
 use Rattle.vx_volume.proofs.WriteRuns.{fits_same}
 

@@ -1,12 +1,12 @@
 -- One plex more of a call on all that are ACTIVE.
-use Rattle.std.proofs.Common.{◌≡◌, ◌≢◌, ◌⊎◌, inl, inr, ℕ, ◌+◌, ◌<◌, ◌≤◌, Bool, true, false, List, length, set, get_or-set_same, get_or-set_other, length-set, refl, ap, sym, ◌∙◌, subst, arith, IsTrue}
+use Rattle.std.proofs.Common.{◌≡◌, ◌≢◌, inl, inr, ℕ, ◌+◌, ◌<◌, ◌≤◌, Bool, true, false, List, length, set, get_or-set_same, get_or-set_other, length-set, refl, sym, ◌∙◌, subst, arith, IsTrue}
 use Rattle.std.proofs.lemmas.Bool.{cases_eq}
 use Rattle.vx_disk.specs.Counts.{Rose}
 use Rattle.vx_disk.specs.Shelf.{Meaning}
 use Rattle.vx_disk.proofs.Causing.{Rose_after, Rose_before}
 use Rattle.vx_config.specs.declared.config.Config.{Config}
 use Rattle.vx_volume.specs.Plexes.{SomeActive, active}
-use Rattle.vx_volume.specs.Steps.{Device, Loop, SomeDone, Tried, in_set}
+use Rattle.vx_volume.specs.Steps.{Loop, SomeDone, in_set}
 use Rattle.vx_volume.specs.Volumes.{AllBut, AllFailed, PlexBlamed}
 
 pub loop_start : (c : Config) (v : ℕ) (failed : List Bool) (device : ℕ) (done : ℕ → Type 0) (m : Meaning) → (IsTrue m.down → ⊥) → length failed ≡ 8 → ((p : ℕ) → in_set failed p ≡ false) → Loop c v 0 failed false device done m m

@@ -1,21 +1,20 @@
 -- What a checked configuration says of the places of plexes that are ACTIVE.
-use Rattle.std.proofs.Common.{◌≡◌, ◌⊎◌, inl, inr, ℕ, zero, suc, ◌+◌, ◌-◌, ◌<◌, ◌≤◌, ◌^◌, Bool, true, false, Option, Some, None, List, [], ◌∷◌, length, refl, ap, sym, ◌∙◌, subst, arith, IsTrue}
-use Rattle.std.specs.Prelude.{◌&&◌, ◌||◌, ◌==◌, not, nat_lt, nat_le, slice_get, sum_by, is_some, if◌then◌else◌}
+use Rattle.std.proofs.Common.{◌≡◌, inl, inr, ℕ, suc, ◌+◌, ◌-◌, ◌<◌, ◌≤◌, ◌^◌, Bool, true, false, Option, Some, None, List, [], ◌∷◌, length, refl, ap, sym, ◌∙◌, arith, IsTrue}
+use Rattle.std.specs.Prelude.{◌&&◌, ◌||◌, nat_lt, nat_le, slice_get, sum_by, is_some, if◌then◌else◌}
 use Rattle.std.specs.List.{list_all, list_any}
 use Rattle.std.proofs.lemmas.Bool.{cases_lt, eq-eqb, eqb-true, leb-true, lt-ltb, ltb-true}
 use Rattle.std.proofs.lemmas.List.Sums.{sum_by-cons}
 use Rattle.std.proofs.lemmas.Option.{slice_get_past, slice_get_within}
 use Rattle.vx_disk.specs.Shelf.{Meaning}
 use Rattle.vx_config.specs.declared.config.Config.{Config}
-use Rattle.vx_config.specs.declared.entry.DiskEntry.{DiskEntry}
 use Rattle.vx_config.specs.declared.entry.PlexEntry.{PlexEntry}
 use Rattle.vx_config.specs.declared.entry.Subdisk.{Subdisk}
 use Rattle.vx_config.specs.declared.entry.VolumeEntry.{VolumeEntry}
 use Rattle.vx_config.specs.Checks.{blocks_of, blocks_or_none, column_blocks, has_logs, has_plexes, has_shape, in_region, is_live, is_sound, is_volume, plex_fills, preferred_is}
-use Rattle.vx_layout.specs.Places.{HasBlock, InRegion, blocks_in, blocks_or, disk_blocks, has_plex, linear, located, place, place_in, place_or, plex_at, plex_in}
+use Rattle.vx_layout.specs.Places.{HasBlock, blocks_in, blocks_or, disk_blocks, has_plex, linear, located, place, place_in, place_or, plex_at, plex_in}
 use Rattle.vx_layout.proofs.Pairs.{all_at, and_left, and_right}
 use Rattle.vx_layout.proofs.Placing.{filled, from_sound, linear_within, region_of, sound_apart, subdisk_region}
-use Rattle.vx_volume.specs.Plexes.{Apart, Asked, DisksFit, InRun, Inside, OneEach, RunFits, VolumeFits, active, active_or, lies_on, plexes_of, plexes_or, uses, uses_or}
+use Rattle.vx_volume.specs.Plexes.{Apart, DisksFit, InRun, Inside, OneEach, RunFits, VolumeFits, active, active_or, lies_on, plexes_of, plexes_or, uses, uses_or}
 
 -- a plex that is ACTIVE is there
 record There (c : Config) (v p : ℕ) : Type 0 where

@@ -1,7 +1,6 @@
 -- One device call of a read of a plex, and all of them.
-use Rattle.std.proofs.Common.{◌≡◌, ◌⊎◌, inl, inr, ⊎_elim, ℕ, ◌+◌, ◌-◌, ◌*◌, ◌/◌, ◌%◌, ◌<◌, ◌≤◌, List, ◌++◌, length, take, drop, refl, ap, sym, ◌∙◌, subst, arith, IsTrue, Ok, Err}
+use Rattle.std.proofs.Common.{◌≡◌, inl, inr, ⊎_elim, ℕ, ◌+◌, ◌-◌, ◌*◌, ◌/◌, ◌%◌, ◌<◌, ◌≤◌, List, ◌++◌, length, take, drop, refl, ap, sym, ◌∙◌, subst, arith, IsTrue, Err}
 use Rattle.std.proofs.lemmas.Bool.{cases_lt}
-use Rattle.vx_disk.specs.Counts.{Rose}
 use Rattle.vx_disk.specs.Shelf.{Covers, Goes, Meaning, Nothing, Or, Read, piece}
 use Rattle.vx_disk.specs.declared.shelf.ShelfError.{ShelfError}
 use Rattle.vx_disk.specs.declared.shelf.ShelfError.TheVariants.{Fault, Down}
@@ -13,10 +12,10 @@ use Rattle.std.proofs.lemmas.List.{length-append, length-drop, length-take}
 use Rattle.std.proofs.lemmas.Slice.{between-put_mid, take-put_mid_below}
 use borrow.Rule.Slice.PartMut.{put_mid}
 use Rattle.vx_disk.proofs.Blocks.{piece-take}
-use Rattle.vx_volume.specs.Plexes.{Asked, InRun, Inside, RunFits}
+use Rattle.vx_volume.specs.Plexes.{Asked, InRun, RunFits}
 use Rattle.vx_volume.proofs.WriteRuns.{at_j, piece_j}
 use Rattle.vx_volume.specs.Steps.{ReadPart, ReadRun}
-use Rattle.vx_volume.specs.Volumes.{PlexBlamed, PlexCause, PlexRead}
+use Rattle.vx_volume.specs.Volumes.{PlexCause}
 
 -- two runs of calls that write nothing
 pub still : (old mid new : Meaning) → Goes Nothing old mid → Goes Nothing mid new → Goes Nothing old new

@@ -1,8 +1,7 @@
 -- One device call of a write to a plex, and all of them.
-use Rattle.std.proofs.Common.{◌≡◌, ◌≢◌, ◌⊎◌, inl, inr, ⊎_elim, ℕ, ◌+◌, ◌-◌, ◌*◌, ◌/◌, ◌%◌, ◌<◌, ◌≤◌, List, length, take, drop, refl, ap, sym, ◌∙◌, subst, arith, IsTrue, Ok, Err}
+use Rattle.std.proofs.Common.{◌≡◌, ◌⊎◌, inl, inr, ⊎_elim, ℕ, ◌+◌, ◌-◌, ◌*◌, ◌/◌, ◌%◌, ◌<◌, ◌≤◌, List, length, take, drop, refl, ap, sym, ◌∙◌, subst, arith, IsTrue, Err}
 use Rattle.std.proofs.lemmas.List.{length-drop, length-take}
 use Rattle.std.proofs.lemmas.Bool.{cases_lt}
-use Rattle.vx_disk.specs.Blocks.{block_at}
 use Rattle.vx_disk.specs.Causes.{Cause}
 use Rattle.vx_disk.specs.Counts.{Rose}
 use Rattle.vx_disk.specs.Shelf.{Covers, Fits, Goes, Meaning, Or, Written, Wrote, piece}
@@ -13,9 +12,9 @@ use Rattle.vx_disk.proofs.Causing.{Rose_before}
 use Rattle.vx_disk.proofs.Runs.{both_Goes, same_Goes, weaker}
 use Rattle.vx_config.specs.declared.config.Config.{Config}
 use Rattle.vx_layout.specs.Places.{place}
-use Rattle.vx_volume.specs.Plexes.{Asked, InRun, Inside, OneEach, RunFits, active, uses}
+use Rattle.vx_volume.specs.Plexes.{Asked, InRun, Inside, OneEach, RunFits, uses}
 use Rattle.vx_volume.specs.Steps.{Part, WroteRun}
-use Rattle.vx_volume.specs.Volumes.{OnPlex, PlexBlamed, PlexCause, PlexWrote}
+use Rattle.vx_volume.specs.Volumes.{OnPlex, PlexBlamed, PlexCause}
 use Rattle.vx_volume.proofs.PlaceLemmas.{one_of, place_uses}
 
 module _ (c : Config) (v p block done count disk at reach : ℕ) (bytes : List ℕ) (old : Meaning) (asked : Asked c v p block (length bytes / 512)) (fits : RunFits c v p block (length bytes / 512) old) (whole : length bytes % 512 ≡ 0)

@@ -1,6 +1,6 @@
 use Rattle.std.proofs.Common.{ℕ, ◌+◌, ◌/◌, ap, subst, sym}
 use Rattle.vx_volume.specs.Steps.{ReadPart}
-use Rattle.vx_volume.proofs.ReadRuns.{no_read, read_cause, read_goes, read_more}
+use Rattle.vx_volume.proofs.ReadRuns.{no_read, read_more}
 use Rattle.vx_volume.proofs.reading.read_plex.Goals as goal
 
 pub loop-done-init : goal.loop-done-init

@@ -1,4 +1,4 @@
-use Rattle.std.proofs.Common.{◌-◌, ◌/◌, ◌≡◌, length}
+use Rattle.std.proofs.Common.{◌-◌, ◌/◌, length}
 use Rattle.vx_volume.specs.Steps.{ReadPart}
 use Rattle.vx_volume.proofs.reading.read_plex.Given as goal
 

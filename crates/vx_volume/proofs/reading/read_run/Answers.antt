@@ -1,4 +1,4 @@
-use Rattle.std.proofs.Common.{◌≡◌, ◌+◌, ◌-◌, ◌*◌, ◌<◌, ◌≤◌, ◌/◌, ◌∙◌, length, arith, refl}
+use Rattle.std.proofs.Common.{◌≡◌, ◌+◌, ◌-◌, ◌*◌, ◌∙◌, length, arith, refl}
 use Rattle.vx_volume.proofs.PlaceLemmas.{has_of}
 use Rattle.vx_volume.proofs.ReadRuns.{part_length, put_length, read_ok}
 use Rattle.vx_volume.proofs.WriteRuns.{run_Cause, run_fits}

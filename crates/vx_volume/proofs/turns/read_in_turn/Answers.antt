@@ -1,4 +1,4 @@
-use Rattle.std.proofs.Common.{◌≡◌, ◌<◌, ◌+◌, ◌/◌, ℕ, length, ap, sym, ◌∙◌, subst, arith}
+use Rattle.std.proofs.Common.{◌+◌, ◌/◌, ℕ, ap, sym, ◌∙◌, subst, arith}
 use Rattle.vx_volume.specs.Steps.{ReadLoop}
 use Rattle.vx_volume.proofs.TurnLemmas.{turns_end, turns_failed, turns_ok, turns_pass}
 use Rattle.vx_volume.proofs.turns.read_in_turn.Goals.{then-is_active+in-Err-Fault, else-is_active}

@@ -1,4 +1,4 @@
-use Rattle.std.proofs.Common.{◌<◌, arith}
+use Rattle.std.proofs.Common.{arith}
 use Rattle.vx_volume.proofs.PlaceLemmas.{count_few, volume_fits}
 use Rattle.vx_volume.proofs.TurnLemmas.{asked_below, some_plexes}
 use Rattle.vx_volume.proofs.volume.read.Goals as goal

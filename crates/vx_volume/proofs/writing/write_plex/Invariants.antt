@@ -1,4 +1,4 @@
-use Rattle.std.proofs.Common.{◌-◌, ◌/◌, ◌≡◌, length}
+use Rattle.std.proofs.Common.{◌-◌, ◌/◌, length}
 use Rattle.vx_volume.specs.Steps.{Part}
 use Rattle.vx_volume.proofs.writing.write_plex.Given as goal
 

@@ -1,4 +1,4 @@
-use Rattle.std.proofs.Common.{arith, ◌≤◌, ◌<◌, ◌+◌, ◌/◌, length}
+use Rattle.std.proofs.Common.{arith, ◌+◌}
 use Rattle.vx_volume.proofs.PlaceLemmas.{has_of}
 use Rattle.vx_volume.proofs.WriteRuns.{run_Cause, run_Goes, run_Wrote, run_fits}
 use Rattle.vx_volume.proofs.writing.write_run.Goals as goal
