@@ -1,0 +1,4 @@
+pub mod Plexes
+pub mod Volumes
+pub mod Sets
+pub mod Steps

@@ -1,0 +1,19 @@
+//! Reads, writes and flushes of a volume over its plexes.
+//!
+//! Blocks are 512 bytes. A plex takes part where the configuration says that it is ACTIVE.
+#![tactic(auto)]
+
+mod every;
+mod flushing;
+mod plexes;
+mod reading;
+mod sets;
+mod turns;
+mod volume;
+mod writing;
+
+pub use plexes::is_active;
+pub use volume::{Volume, flush, read, write};
+
+#[cfg(test)]
+mod tests;
