@@ -1,0 +1,2 @@
+pub mod Bringings
+pub mod ManyPeers
