@@ -1,5 +1,5 @@
 // What no clause says: that each call succeeds on a shelf in memory, and that a body which passes the ring's end comes back.
-ghost use Rattle.std.specs.Prelude.{◌≡◌, ◌<◌, ◌^◌, true, drop};
+ghost use Rattle.std.specs.Prelude.{◌≡◌, ◌≤◌, ◌<◌, true, drop};
 ghost use Rattle.vx_ringio.specs.Classes.{is_of_ring};
 ghost use Rattle.vx_srlfmt.specs.Headers.{CanSpell};
 ghost use Rattle.vx_srlfmt.specs.Records.{CanSpellHead};

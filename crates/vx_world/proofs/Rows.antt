@@ -1,6 +1,7 @@
 -- Small runs of the world, and what is said in them.
 use Rattle.std.proofs.Common.{◌≡◌, ℕ, List, [], ◌∷◌, ◌++◌, refl, true, false}
 use Rattle.std.specs.Prelude.{replicate, None}
+use Rattle.vx_model.specs.Sizes.{is_raw_shape}
 use Rattle.vx_history.specs.World.{World, empty_world}
 use Rattle.vx_model.specs.declared.link.SyncMode.{SyncMode}
 use Rattle.vx_model.specs.declared.link.SyncMode.TheVariants.{Off as NeverWaits, Fail as FailsIfNotLive}
@@ -34,12 +35,14 @@ put_one block byte = Write 0 0 block (replicate 512 byte) None
 confirmed_row : sayings (run empty_world (linked 64 FailsIfNotLive))
     (put_one 0 17 ∷ Wait 0 1 ∷ Pump 0 1 ∷ Deliver 2 true ∷ Deliver 3 true ∷ Wait 0 1 ∷ put_one 1 34 ∷ Cut 0 1 ∷ Wait 0 2 ∷ put_one 2 51 ∷ Wait 0 3 ∷ [])
     ≡ Logged 1 ∷ Pending 1 ∷ Done ∷ Taken ∷ Taken ∷ DoneAt 1 ∷ Logged 2 ∷ Done ∷ Refused (Unconfirmed 2) ∷ Refused (LinkDown (SiteNumber 1)) ∷ Refused (Unknown (ByNumber 3)) ∷ []
+unfolding is_raw_shape
 confirmed_row = refl
 
 -- a receiver that crashes with a record in memory
 restarted_row : sayings (run empty_world (linked 64 FailsIfNotLive))
     (put_one 0 17 ∷ Wait 0 1 ∷ Pump 0 1 ∷ Deliver 2 true ∷ Crash 1 0 ∷ Recover 1 None ∷ Deliver 4 true ∷ Deliver 3 true ∷ Wait 0 1 ∷ [])
     ≡ Logged 1 ∷ Pending 1 ∷ Done ∷ Taken ∷ Done ∷ Recovered 0 ∷ Taken ∷ Ignored ∷ Pending 1 ∷ []
+unfolding is_raw_shape
 restarted_row = refl
 
 -- a full log: a live link stalls the write, and one that is cut fails it
@@ -48,10 +51,12 @@ filled = put_one 0 1 ∷ put_one 1 2 ∷ Write 0 0 2 (replicate 1024 3) None ∷
 
 stalled_row : sayings (run empty_world (linked 10 NeverWaits)) (filled ++ put_one 4 4 ∷ [])
     ≡ DoneAt 1 ∷ DoneAt 2 ∷ DoneAt 3 ∷ Refused (Stalled (SiteNumber 1)) ∷ []
+unfolding is_raw_shape
 stalled_row = refl
 
 full_row : sayings (run empty_world (linked 10 NeverWaits)) (filled ++ Cut 0 1 ∷ put_one 4 4 ∷ [])
     ≡ DoneAt 1 ∷ DoneAt 2 ∷ DoneAt 3 ∷ Done ∷ Refused (LogFull (SiteNumber 1)) ∷ []
+unfolding is_raw_shape
 full_row = refl
 
 -- a whole settling by hand: the write of two blocks goes in two packets; then the stalled write goes, and a crash of the origin keeps all
@@ -59,11 +64,13 @@ settled_row : sayings (run empty_world (linked 10 NeverWaits ++ filled))
     (Connect 0 1 ∷ Deliver 2 true ∷ Pump 0 1 ∷ Deliver 3 true ∷ Deliver 4 true ∷ Deliver 5 false ∷ Deliver 6 true ∷ Deliver 7 true ∷ Deliver 8 true ∷ Deliver 9 true
     ∷ Apply 1 3 0 ∷ Deliver 10 true ∷ put_one 4 4 ∷ Crash 0 0 ∷ Recover 0 None ∷ Deliver 11 true ∷ [])
     ≡ Done ∷ Taken ∷ Done ∷ Taken ∷ Taken ∷ Taken ∷ Taken ∷ Taken ∷ Taken ∷ Taken ∷ DoneAt 3 ∷ Taken ∷ DoneAt 4 ∷ Done ∷ Recovered 4 ∷ Refused (Unknown (ByNumber 11)) ∷ []
+unfolding is_raw_shape
 settled_row = refl
 
 -- updates out of order and repeated
 order_row : sayings (run empty_world (linked 64 NeverWaits)) (put_one 0 17 ∷ put_one 1 34 ∷ Pump 0 1 ∷ Deliver 3 true ∷ Deliver 2 true ∷ Deliver 2 true ∷ Deliver 3 true ∷ Deliver 9 true ∷ [])
     ≡ DoneAt 1 ∷ DoneAt 2 ∷ Done ∷ Ignored ∷ Taken ∷ Ignored ∷ Taken ∷ Refused (Unknown (ByNumber 9)) ∷ []
+unfolding is_raw_shape
 order_row = refl
 
 -- a fifth link
@@ -75,6 +82,7 @@ link_to s = Link 0 s NeverWaits Joins ∷ Link 0 s NeverWaits Made ∷ Link 0 s 
 
 links_row : sayings (run empty_world (site_of 97 0 ++ site_of 98 1 ++ site_of 99 2 ++ site_of 100 3 ++ site_of 101 4 ++ site_of 102 5 ++ link_to 1 ++ link_to 2 ++ link_to 3 ++ link_to 4)) (Link 0 5 NeverWaits Joins ∷ [])
     ≡ Refused (Limit Links 4) ∷ []
+unfolding is_raw_shape
 links_row = refl
 
 -- settling brings three writes, the last of two blocks, to the receiver, in packets 2 to 10
@@ -84,7 +92,9 @@ before_settling = run empty_world (linked 10 NeverWaits ++ filled)
 settling_row : settling before_settling 0 1
     ≡ Connect 0 1 ∷ Deliver 2 true
     ∷ Tick 0 1 ∷ Pump 0 1 ∷ Deliver 3 true ∷ Deliver 4 true ∷ Deliver 5 false ∷ Deliver 6 true ∷ Deliver 7 true ∷ Deliver 8 true ∷ Deliver 9 true ∷ Apply 1 3 0 ∷ Deliver 10 true ∷ []
+unfolding is_raw_shape
 settling_row = refl
 
 settled_link : ((run before_settling (settling before_settling 0 1)).links 0 1).stored ≡ 3
+unfolding is_raw_shape
 settled_link = refl
