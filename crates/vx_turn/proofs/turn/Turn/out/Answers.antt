@@ -1,12 +1,11 @@
-use Rattle.std.proofs.Common.{◌≡◌, ◌∙◌, ℕ, List, [], ◌∷◌, Some, ap, subst, refl, sym}
-use Rattle.atomic_table.specs.Table.{rest}
+use Rattle.std.proofs.Common.{◌∙◌}
+use Rattle.vx_turn.specs.Passing.{first_of}
+use Rattle.vx_turn.proofs.Holding.{in_hand, taken_out}
 use Rattle.vx_turn.proofs.turn.Turn.out.Goals as goal
 
--- the one slot that a seat holds stands first
-first_held : {A : Type 0} (l : List (ℕ × A)) (x : A) → l ≡ (0, x) ∷ [] → l ≡ (0, x) ∷ rest l
-first_held {A = A} l x e = subst (λ (k : List (ℕ × A)). k ≡ (0, x) ∷ rest k) (sym e) refl
-
 pub exchange-requires : goal.exchange-requires
-exchange-requires g c =
-    let held = c.take-count.ensures.held in
-    (c.take-count.ensures.same.0 ∙ c.requires.table, (Some held.0, first_held _ _ (ap (λ m. m.1) held.2)))
+exchange-requires g c = (c.take-count.ensures.same.0 ∙ c.requires.table, in_hand g.E.Engine.state g.E.Engine.root (first_of c.args.self.now) c.args.seat.now.me.0 c.take-count.result c.take-count.new.seat.me c.take-count.ensures.held)
+
+pub returns-clause-out : goal.returns-clause-out
+returns-clause-out g c = taken_out g.E.Engine.state g.E.Engine.root (first_of c.args.self.now) c.args.seat.now.me.0 c.take-count.result c.next-place.result c.take-count.new.seat.me c.exchange.new.seat.me c.exchange.result c.in-Some.slot
+    c.take-count.ensures.held c.exchange.ensures.2 c.in-Some.is c.exchange.ensures.3 c.next-place.ensures.0 c.next-place.ensures.1
