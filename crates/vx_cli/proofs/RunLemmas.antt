@@ -10,7 +10,8 @@ use Rattle.vx_node.proofs.Goods.{Sound, sound_empty, step_good}
 use Rattle.vx_node.specs.declared.yard.Yard.{Yard}
 use Rattle.vx_node.specs.Holds.{AreFresh, RacksHold, RacksTell, rack_faults}
 use Rattle.vx_node.specs.Lines.{script_line}
-use Rattle.vx_node.specs.Steps.{Fails, SaidStep}
+use Rattle.vx_node.specs.Steps.{SaidStep}
+use Rattle.vx_events.specs.Fails.{Fails}
 use Rattle.vx_node.specs.Yards.{YardStands, IsTold, count_of, in_files}
 use Rattle.vx_cli.specs.declared.status.Status.{Status}
 use Rattle.vx_cli.specs.declared.status.Status.TheVariants.{OutOfMemory}

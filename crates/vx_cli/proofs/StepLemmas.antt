@@ -8,11 +8,12 @@ use Rattle.vx_order.specs.Order.{refusal_of}
 use Rattle.vx_script.specs.declared.line.ScriptLine.{ScriptLine}
 use Rattle.vx_script.specs.declared.line.ScriptLine.TheVariants.{Site, Raw, Disk, Crash, Fuse, Recover, Write, Put, Read, Show, Apply, Status}
 use Rattle.vx_script.proofs.GrammarLemmas.{line_of_long}
-use Rattle.vx_node.specs.declared.said.Said.{Said}
-use Rattle.vx_node.specs.Facts.{facts_of}
+use Rattle.vx_events.specs.declared.said.Said.{Said}
+use Rattle.vx_events.specs.Facts.{facts_of}
 use Rattle.vx_node.specs.Lines.{script_line, only_built}
 use Rattle.vx_node.specs.Stands.{RoseAll, times}
-use Rattle.vx_node.specs.Steps.{Fails, Gets, Puts, IsPut, NoNumber, PutFails, PutCut, Recovers, ComesUp, StaysDown, NoSession, Untold, IsBareStill, BareFails, Works, StepBy, SaidStep, LineStep}
+use Rattle.vx_node.specs.Steps.{Gets, Puts, IsPut, NoNumber, PutFails, PutCut, Recovers, ComesUp, StaysDown, NoSession, Untold, IsBareStill, BareFails, Works, StepBy, SaidStep, LineStep}
+use Rattle.vx_events.specs.Fails.{Fails}
 
 -- a line of more than 4,096 bytes is wrong behind them
 pub script_line_long : (line : List ℕ) → 4096 < length line → script_line line ≡ Err 4097

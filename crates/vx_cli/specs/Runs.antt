@@ -4,7 +4,8 @@ use Rattle.vx_history.specs.World.{World}
 use Rattle.vx_history.specs.Good.{Good}
 use Rattle.vx_disk.specs.Shelf.{Meaning}
 use Rattle.vx_node.specs.Holds.{RacksHold, RacksTell}
-use Rattle.vx_node.specs.Steps.{Fails, LineStep}
+use Rattle.vx_node.specs.Steps.{LineStep}
+use Rattle.vx_events.specs.Fails.{Fails}
 
 -- the lines, one after another, each a step from the world that the line before it left
 abbrev pub Run : Type 0 → Bool → World → List (List ℕ) → List Fails → List (List ℕ) → World → Type 0
