@@ -28,7 +28,7 @@ use Rattle.vx_events.specs.Views.{view_of}
 use Rattle.vx_node.specs.Holds.{state_of}
 use Rattle.vx_node.specs.Rising.{NotesUp, Recovering, Finding}
 use Rattle.vx_node.specs.Stands.{EnginesStand, StandsAt, IsToldAt, RoseAll, faults_of}
-use Rattle.vx_node.specs.Works.{Recovers, IsBareStill, BareFails, BareUp, BareNone}
+use Rattle.vx_node.specs.Works.{Recovers, IsBareStill, BareFails, BareUp as RisesBare, BareNone}
 use Rattle.vx_node.specs.Working.{WorkIs, Worked}
 use Rattle.vx_node.specs.Yards.{YardAgrees, StaysAgreed, count_of}
 use Rattle.vx_node.proofs.Changing.{engines_same, rose_none, rose_one, counts_later, counts_rose}
@@ -97,7 +97,7 @@ module _ {R : Type 0} {g : Ghosts R} where
         record {
           world = with_node w s k;
           fails = [];
-          recovers = BareUp (not_all old.engines.items s before after new.engines.items there engines found.untold) k bare (same_set s n k found.same) (record {
+          recovers = RisesBare (not_all old.engines.items s before after new.engines.items there engines found.untold) k bare (same_set s n k found.same) (record {
             none = refl;
             says = ap (λ (v : SiteView). Recovered last v) (shows (with_node w s k) up below ∙ ap (view_of (with_node w s k)) (at_place w.nodes s k))
                 ∙ ap (λ (j : ℕ). Recovered j (view_of (with_node w s k) k)) noted.last_is;

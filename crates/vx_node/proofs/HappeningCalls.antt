@@ -55,7 +55,7 @@ module _ (told : Type 0) (w : World) (line : ScriptLine) (s : ℕ) (x : WriteOf)
   abbrev half : Event
   half = WriteAt s x.volume x.start x.bytes (Some 0)
 
-  choice : ℕ → Choice
+  abbrev choice : ℕ → Choice
   choice k = record { kept = k; reached = 0 }
 
   abbrev done_world : World

@@ -45,7 +45,7 @@ use Rattle.vx_events.specs.Plain.{IsUnlinked, ArePrimaries}
 use Rattle.vx_events.specs.declared.said.Said.{Said}
 use Rattle.vx_events.specs.declared.said.Said.TheVariants.{Done, Shown, Refused}
 use Rattle.vx_events.proofs.Keeping.{node_primary, same_links}
-use Rattle.vx_events.proofs.Passing.{IsCall}
+use Rattle.vx_events.proofs.Passing.{IsCall, neither}
 use Rattle.vx_events.proofs.Steps.{site_step, raw_step, CanPut}
 use Rattle.vx_node.specs.declared.engine.Engine.{Engine}
 use Rattle.vx_node.specs.declared.engine.Engine.TheVariants.{Bare, Spoiled, Up, Down, Gone}
@@ -111,7 +111,7 @@ none_named nodes name k (suc n) e (suc i) h =
 
 none_under : (n : ℕ) (test : ℕ → Bool) → ((k : ℕ) → k < n → test k ≡ false) → some_below n test ≡ false
 none_under zero test none = refl
-none_under (suc k) test none = ap (λ (b : Bool). if b then true else some_below k test) (none k (omega arith)) ∙ none_under k test (λ j h. none j (omega (arith, h)))
+none_under (suc k) test none = neither (test k) (some_below k test) (none k (omega arith)) (none_under k test (λ j h. none j (omega (arith, h))))
 
 site_free : (w : World) (files : Bool) (name : List ℕ) (disks blocks : ℕ) → refusal_of (facts_of w) files (Site name disks blocks) ≡ None → step w (MakeSite name disks blocks) ≡ done (site_made w name disks blocks)
 unfolding taken
@@ -196,6 +196,42 @@ volume_kind [] i x e = absurd (cc)
 volume_kind (v ∷ vs) zero x e = ap (λ (f : VolumeFacts). f.kind) (sym (some_same e))
 volume_kind (v ∷ vs) (suc i) x e = volume_kind vs i x e
 
+get_some : {A : Type 0} (xs : List A) (i : ℕ) → i < length xs → (x : A) × (slice_get xs i ≡ Some x)
+get_some [] i h = absurd (omega arith)
+get_some (x ∷ xs) zero h = (x, refl)
+get_some (x ∷ xs) (suc i) h = get_some xs i (omega arith)
+
+-- a run of blocks that no test of the line refuses
+record Called (w : World) (name volume : List ℕ) (start count : ℕ) : Type 0 where
+  below : site_number w name < w.sites
+  up : (w.nodes (site_number w name)).state ≡ IsUp
+  running : (w.nodes (site_number w name)).halted ≡ None
+  known : volume_number (w.nodes (site_number w name)) volume < length (w.nodes (site_number w name)).volumes
+  some : 1 ≤ count
+  few : count ≤ 16
+  within : start + count ≤ (w.nodes (site_number w name)).base.size (volume_number (w.nodes (site_number w name)) volume)
+
+call_of : (w : World) (name volume : List ℕ) (start count : ℕ) → Called w name volume start count → (w.nodes (site_number w name)).role ≡ Primary
+    → IsCall w (site_number w name) (volume_number (w.nodes (site_number w name)) volume) start count
+call_of w name volume start count c primary = record { site = c.below; up = c.up; running = c.running; primary = primary; known = c.known; some = c.some; few = c.few; within = c.within }
+
+write_primary : (w : World) (files : Bool) (name volume : List ℕ) (start count fill : ℕ) → refusal_of (facts_of w) files (Write name volume start count fill) ≡ None → (w.nodes (site_number w name)).role ≡ Primary
+unfolding first_name span_of
+write_primary w files name volume start count fill free =
+    let p = passes (facts_of w) files (Write name volume start count fill) free in
+    let may = write_may (facts_of w) files name volume start count fill free in
+    primary_in w name volume start count may.call.site (up_in w name may.call.site may.call.up) p.volume p.call_role
+
+put_primary : (w : World) (files : Bool) (name volume : List ℕ) (start : ℕ) (bytes : List ℕ) → refusal_of (facts_of w) files (Put name volume start bytes) ≡ None → (w.nodes (site_number w name)).role ≡ Primary
+unfolding first_name span_of
+put_primary w files name volume start bytes free =
+    let p = passes (facts_of w) files (Put name volume start bytes) free in
+    let may = put_may (facts_of w) files name volume start bytes free in
+    primary_in w name volume start 1 may.call.site (up_in w name may.call.site may.call.up) p.volume p.call_role
+
+blocks_filled : (count fill : ℕ) → blocks_in (replicate (512 * count) fill) ≡ count
+blocks_filled count fill = let many : length (replicate (512 * count) fill) ≡ 512 * count = length-replicate {A = ℕ} (512 * count) fill in omega (arith, many)
+
 module _ {R : Type 0} {g : Ghosts R} where
   volumes_of : (n : Node) (e : Engine R g) → StandsAt n e → n.state ≡ IsUp → HasVolumes n
   volumes_of n (Bare rack) h up = absurd (let e : IsBare ≡ IsUp = sym (ap (λ (k : Node). k.state) h.bare.is) ∙ up in cc)
@@ -211,25 +247,10 @@ module _ {R : Type 0} {g : Ghosts R} where
   log_whole n (Down rack) h down = h.logged
   log_whole n Gone h down = absurd h
 
-  get_some : {A : Type 0} (xs : List A) (i : ℕ) → i < length xs → (x : A) × (slice_get xs i ≡ Some x)
-  get_some [] i h = absurd (omega arith)
-  get_some (x ∷ xs) zero h = (x, refl)
-  get_some (x ∷ xs) (suc i) h = get_some xs i (omega arith)
-
   -- the engine of a site
   engine_of : (w : World) (y : Yard R g) (s : ℕ) → YardAgrees w y → s < w.sites → (e : Engine R g) × StandsAt (w.nodes s) e
   engine_of w y s agrees below =
       let e = get_some y.engines.items s (omega (arith, below, agrees.engines.few, agrees.engines.eight)) in (e.0, agrees.engines.sites s e.0 below e.1)
-
-  -- a run of blocks that no test of the line refuses
-  record Called (w : World) (name volume : List ℕ) (start count : ℕ) : Type 0 where
-    below : site_number w name < w.sites
-    up : (w.nodes (site_number w name)).state ≡ IsUp
-    running : (w.nodes (site_number w name)).halted ≡ None
-    known : volume_number (w.nodes (site_number w name)) volume < length (w.nodes (site_number w name)).volumes
-    some : 1 ≤ count
-    few : count ≤ 16
-    within : start + count ≤ (w.nodes (site_number w name)).base.size (volume_number (w.nodes (site_number w name)) volume)
 
   called : (w : World) (y : Yard R g) (name volume : List ℕ) (start count : ℕ) → YardAgrees w y → CallMay (facts_of w) name volume start count → Called w name volume start count
   called w y name volume start count agrees may =
@@ -253,10 +274,6 @@ module _ {R : Type 0} {g : Ghosts R} where
         within = omega (arith, may.range, x.2, has.whole may.at.place x.0 x.1, ap (λ (v : ℕ). n.base.size v) number, has.sizes may.at.place (omega (arith, inside, has.volumes)));
       }
 
-  call_of : (w : World) (name volume : List ℕ) (start count : ℕ) → Called w name volume start count → (w.nodes (site_number w name)).role ≡ Primary
-      → IsCall w (site_number w name) (volume_number (w.nodes (site_number w name)) volume) start count
-  call_of w name volume start count c primary = record { site = c.below; up = c.up; running = c.running; primary = primary; known = c.known; some = c.some; few = c.few; within = c.within }
-
   -- a write that no test of the line refuses, and that is not one too many
   can_put : (w : World) (y : Yard R g) (name volume : List ℕ) (start count : ℕ) (bytes : List ℕ) → YardAgrees w y → IsUnlinked w → (may : WriteMay (facts_of w) name volume start count) → blocks_in bytes ≡ count
       → (w.nodes (site_number w name)).role ≡ Primary → (w.nodes (site_number w name)).safe < MOST_NUMBER → CanPut w (site_number w name) (write_in w name volume start bytes)
@@ -264,11 +281,11 @@ module _ {R : Type 0} {g : Ghosts R} where
       let n : Node = w.nodes (site_number w name) in
       let c = called w y name volume start count agrees may.call in
       let seat = seat_in w name may.call.site in
-      let data : may.call.found.kind ≡ Data = kind_of w name volume start count may in
+      let kind : may.call.found.kind ≡ Data = kind_of w name volume start count may in
       let rvg : may.call.site.facts.rvg ≡ Some (group_fact n) = ap (λ (f : SiteFacts). f.rvg) seat.1 ∙ ap (λ (t : SiteState). group_by t n) c.up in
       record {
         call = subst (λ (k : ℕ). IsCall w (site_number w name) (volume_number n volume) start k) (sym many) (call_of w name volume start count c primary);
-        fits = omega (arith, many, may.fits (group_fact n) rvg data);
+        fits = omega (arith, many, may.fits (group_fact n) rvg kind);
         free = free;
         unlinked = none;
       }
@@ -285,23 +302,6 @@ module _ {R : Type 0} {g : Ghosts R} where
   -- the yard stands for the world to which the events came
   stands_for : (told : Type 0) (w next : World) (line : ScriptLine) (s : ℕ) (fails : Fails) (said : Said) (y : Yard R g) → (IsTold y → told) → YardAgrees next y → (h : Happens told w line s fails said next) → YardStands h.new y
   stands_for told w next line s fails said y is agrees h = record { agrees = agrees_like next h.new y h.sites h.nodes agrees; unlinked = h.unlinked; primaries = λ t. h.primaries (is t) }
-
-  write_primary : (w : World) (files : Bool) (name volume : List ℕ) (start count fill : ℕ) → refusal_of (facts_of w) files (Write name volume start count fill) ≡ None → (w.nodes (site_number w name)).role ≡ Primary
-  unfolding first_name span_of
-  write_primary w files name volume start count fill free =
-      let p = passes (facts_of w) files (Write name volume start count fill) free in
-      let may = write_may (facts_of w) files name volume start count fill free in
-      primary_in w name volume start count may.call.site (up_in w name may.call.site may.call.up) p.volume p.call_role
-
-  put_primary : (w : World) (files : Bool) (name volume : List ℕ) (start : ℕ) (bytes : List ℕ) → refusal_of (facts_of w) files (Put name volume start bytes) ≡ None → (w.nodes (site_number w name)).role ≡ Primary
-  unfolding first_name span_of
-  put_primary w files name volume start bytes free =
-      let p = passes (facts_of w) files (Put name volume start bytes) free in
-      let may = put_may (facts_of w) files name volume start bytes free in
-      primary_in w name volume start 1 may.call.site (up_in w name may.call.site may.call.up) p.volume p.call_role
-
-  blocks_filled : (count fill : ℕ) → blocks_in (replicate (512 * count) fill) ≡ count
-  blocks_filled count fill = let many : length (replicate (512 * count) fill) ≡ 512 * count = length-replicate {A = ℕ} (512 * count) fill in omega (arith, many)
 
   -- a line that no test refuses
   works_happen : (told : Type 0) (files : Bool) (w : World) (y : Yard R g) (line : ScriptLine) (fails : Fails) (said : Said) (next : World) → YardAgrees w y → IsUnlinked w → (told → ArePrimaries w)

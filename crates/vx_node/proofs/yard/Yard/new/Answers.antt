@@ -7,7 +7,7 @@ use Rattle.vx_node.proofs.News.{engines_new, counts_new}
 use Rattle.vx_node.proofs.yard.Yard.new.Goals as goal
 
 pub returns-clause-stands : goal.returns-clause-stands
-returns-clause-stands g c = stands_empty c.result (record {
+returns-clause-stands g c = stands_empty (record {
   facts = c.new.ensures.items;
   engines = subst (λ es. EnginesStand empty_world es) (sym (c.put_racks-racks.ensures.engines c.in-Ok.ensures.items (omega (arith, c.in-Ok.ensures.capacity, c.args.racks.ok, c.requires.eight))))
       (engines_new c.args.racks.items c.requires);
