@@ -33,5 +33,6 @@ pub mod Sites
 pub mod Statuses
 pub mod Staying
 pub mod Tables
+pub mod Testing
 pub mod Values
 pub mod Writing

@@ -293,12 +293,15 @@ module _ (n : Node) (m up new last : Meaning) (is : IsDownAt n m) (alike : Alike
       (left_with (raw_units n.disks) (ring_in (raw_units n.disks) up) (state_of n) n.session (most_stamp n) n.log n.base up i.0 lawful was (left_here tells)))))
       (λ starting. ⊎_elim
       (λ old. inl (down_with n.session begun_here (λ _. at n.session (most_stamp n) i.0 i.1 (record { held = (left_here tells).held; has = (left_here tells).has; found = old }))))
-      (λ next. inr ((down_with (n.session + 1) (λ _. omega arith) (λ _. at (n.session + 1) (most_stamp (record n { session = n.session + 1 })) i.0 i.1
-      (record {
-        held = (left_here tells).held;
-        has = (left_here tells).has;
-        found = found_below (raw_units n.disks) (ring_in (raw_units n.disks) up) (state_of n) (n.session + 1) (most_stamp n + 3) (most_stamp (record n { session = n.session + 1 })) i.0 (left_here tells).held (omega arith) next;
-      }))), next_below n.session refl (header_below (raw_units n.disks) (ring_in (raw_units n.disks) up) (state_of n) (n.session + 1) (most_stamp n + 3) i.0 (left_here tells).held next)))
+      (λ next. inr (
+        (down_with (n.session + 1) (λ _. omega arith) (λ _. at (n.session + 1) (most_stamp (record n { session = n.session + 1 })) i.0 i.1
+            (record {
+              held = (left_here tells).held;
+              has = (left_here tells).has;
+              found = found_below (raw_units n.disks) (ring_in (raw_units n.disks) up) (state_of n) (n.session + 1) (most_stamp n + 3) (most_stamp (record n { session = n.session + 1 })) i.0 (left_here tells).held (omega arith) next;
+            }))),
+        next_below n.session refl (header_below (raw_units n.disks) (ring_in (raw_units n.disks) up) (state_of n) (n.session + 1) (most_stamp n + 3) i.0 (left_here tells).held next),
+      ))
       (starting.each (state_of n) n.session (most_stamp n) (left_here tells).held (left_here tells).left))
       (left_moved (Run (raw_units n.disks).srl 0 (ring_in (raw_units n.disks) up + 2)) (Starting (raw_units n.disks) up) up new i.0 lawful after moves (stopped.now i.0 i.1))
     where
