@@ -1,31 +1,25 @@
 -- A line that a yard answered, as the events of the world.
-use Rattle.std.proofs.Common.{◌≡◌, ◌∙◌, ◌⊎◌, inl, inr, ◌+◌, ◌-◌, ◌*◌, ◌<◌, ◌≤◌, ℕ, List, [], ◌∷◌, length, Bool, ap, sym, subst, refl, arith}
-use Rattle.std.specs.Prelude.{Option, Some, None, slice_get, map, unwrap_or, replicate, not, ◌&&◌, if◌then◌else◌}
+use Rattle.std.proofs.Common.{◌≡◌, ◌∙◌, inl, inr, ◌-◌, ◌*◌, ◌<◌, ℕ, zero, suc, List, [], ◌∷◌, length, Bool, ap, sym, subst, refl, arith}
+use Rattle.std.specs.Prelude.{Option, Some, None, slice_get, replicate}
 use Rattle.std.proofs.lemmas.Option.{slice_get_within}
-use Rattle.vx_model.specs.Content.{Write as WriteOf, blocks_in}
+use Rattle.vx_model.specs.Content.{Write as WriteOf}
 use Rattle.vx_model.specs.declared.limits.TheConstants.{MOST_NUMBER}
 use Rattle.vx_model.specs.declared.no.No.{No}
-use Rattle.vx_model.specs.declared.site.Role.TheVariants.{Primary}
-use Rattle.vx_model.specs.declared.site.SiteState.{SiteState}
 use Rattle.vx_model.specs.declared.site.SiteState.TheVariants.{Bare as IsBare, Up as IsUp, Down as IsDown}
-use Rattle.vx_history.specs.Step.{step, done}
 use Rattle.vx_history.specs.Steps.{fused}
-use Rattle.vx_history.specs.World.{Node, World, FuseSet}
+use Rattle.vx_history.specs.World.{Node, World, Volume, FuseSet}
 use Rattle.vx_history.specs.declared.event.Event.TheVariants.{Site as MakeSite, Raw as MakeRaw, Read as ReadAt}
 use Rattle.vx_disk.specs.declared.shelf.Shelf.{Ghosts}
 use Rattle.vx_script.specs.declared.line.ScriptLine.{ScriptLine}
 use Rattle.vx_script.specs.declared.line.ScriptLine.TheVariants.{Site, Raw, Disk, Crash, Fuse, Recover, Write, Put, Read, Show, Apply, Status}
 use Rattle.vx_order.specs.Order.{refusal_of}
-use Rattle.vx_order.specs.declared.facts.SiteFacts.{SiteFacts}
-use Rattle.vx_order.specs.declared.facts.VolumeKind.TheVariants.{Data}
 use Rattle.vx_events.specs.Ends.{AllDone, place_of as site_of}
-use Rattle.vx_events.specs.Facts.{facts_of, site_number, volume_fact, volume_number, place_of, group_by, group_fact}
+use Rattle.vx_events.specs.Facts.{facts_of, site_number, volume_number}
 use Rattle.vx_events.specs.Fails.{Fails}
 use Rattle.vx_events.specs.Lines.{StepBy, Counts, write_in}
-use Rattle.vx_events.specs.Plain.{IsUnlinked, ArePrimaries}
+use Rattle.vx_events.specs.Plain.{IsUnlinked, IsSized, ArePrimaries}
 use Rattle.vx_events.specs.declared.said.Said.{Said}
 use Rattle.vx_events.proofs.Keeping.{node_primary, same_links}
-use Rattle.vx_events.proofs.Passing.{IsCall}
 use Rattle.vx_events.proofs.Steps.{CanPut}
 use Rattle.vx_node.specs.declared.engine.Engine.{Engine}
 use Rattle.vx_node.specs.declared.engine.Engine.TheVariants.{Bare, Spoiled, Up, Down, Gone}
@@ -38,9 +32,19 @@ use Rattle.vx_node.specs.Yards.{YardAgrees, YardStands, StaysAgreed, StaysFor, S
 use Rattle.vx_node.proofs.Alike.{agrees_like}
 use Rattle.vx_node.proofs.Happening.{Happens, first_choice, happens_as, site_happens, raw_happens, only_happens, crash_happens, recover_happens}
 use Rattle.vx_node.proofs.HappeningCalls.{put_happens, put_counts, read_happens, apply_happens}
-use Rattle.vx_node.proofs.Refused.{CallMay, WriteMay, crash_may, recover_may, apply_may, write_may, put_may, read_may, show_may}
-use Rattle.vx_node.proofs.Readings.{volume_at}
-use Rattle.vx_node.proofs.Testing.{seat_in, up_in, running_in, site_free, raw_free, HasVolumes, volume_kind, get_some, Called, call_of, write_primary, put_primary, blocks_filled}
+use Rattle.vx_events.proofs.Refused.{CallMay, crash_may, recover_may, apply_may, write_may, put_may, read_may, show_may}
+use Rattle.vx_events.proofs.Testing.{seat_in, up_in, running_in, site_free, raw_free, called, call_of, can_put, write_primary, put_primary, blocks_filled}
+
+-- the sizes of a site that is up
+record HasVolumes (n : Node) : Type 0 where
+  volumes : length n.volumes ≡ n.disks - 2
+  whole : (v : ℕ) (x : Volume) → slice_get n.volumes v ≡ Some x → x.blocks ≡ n.blocks
+  sizes : (v : ℕ) → v < n.disks - 2 → n.base.size v ≡ n.blocks
+
+get_some : {A : Type 0} (xs : List A) (i : ℕ) → i < length xs → (x : A) × (slice_get xs i ≡ Some x)
+get_some [] i h = absurd (omega arith)
+get_some (x ∷ xs) zero h = (x, refl)
+get_some (x ∷ xs) (suc i) h = get_some xs i (omega arith)
 
 module _ {R : Type 0} {g : Ghosts R} where
   volumes_of : (n : Node) (e : Engine R g) → StandsAt n e → n.state ≡ IsUp → HasVolumes n
@@ -62,50 +66,16 @@ module _ {R : Type 0} {g : Ghosts R} where
   engine_of w y s agrees below =
       let e = get_some y.engines.items s (omega (arith, below, agrees.engines.few, agrees.engines.eight)) in (e.0, agrees.engines.sites s e.0 below e.1)
 
-  called : (w : World) (y : Yard R g) (name volume : List ℕ) (start count : ℕ) → YardAgrees w y → CallMay (facts_of w) name volume start count → Called w name volume start count
-  called w y name volume start count agrees may =
-      let n : Node = w.nodes (site_number w name) in
-      let seat = seat_in w name may.site in
-      let up : n.state ≡ IsUp = up_in w name may.site may.up in
-      let e = engine_of w y (site_number w name) agrees seat.0 in
-      let has = volumes_of n e.0 e.1 up in
-      let place : place_of (map volume_fact n.volumes) volume ≡ Some may.at.place = ap (λ (f : SiteFacts). place_of f.volumes volume) (sym seat.1) ∙ may.at.is in
-      let number : volume_number n volume ≡ may.at.place = ap (λ (o : Option ℕ). unwrap_or o 0) place in
-      let got : slice_get (map volume_fact n.volumes) may.at.place ≡ Some may.found = ap (λ (f : SiteFacts). slice_get f.volumes may.at.place) (sym seat.1) ∙ may.at.there in
-      let x = volume_at n.volumes may.at.place may.found got in
-      let inside : may.at.place < length n.volumes = slice_get_within n.volumes may.at.place x.0 x.1 in
-      record {
-        below = seat.0;
-        up = up;
-        running = running_in w name may.site up may.running;
-        known = omega (arith, number, inside);
-        some = may.some;
-        few = may.few;
-        within = omega (arith, may.range, x.2, has.whole may.at.place x.0 x.1, ap (λ (v : ℕ). n.base.size v) number, has.sizes may.at.place (omega (arith, inside, has.volumes)));
-      }
+  -- the volumes of a site that is up
+  sized_of : (w : World) (y : Yard R g) (s : ℕ) → YardAgrees w y → s < w.sites → (w.nodes s).state ≡ IsUp → IsSized (w.nodes s)
+  sized_of w y s agrees below up =
+      let e = engine_of w y s agrees below in
+      let has = volumes_of (w.nodes s) e.0 e.1 up in
+      record { each = λ v x at. has.sizes v (omega (arith, slice_get_within (w.nodes s).volumes v x at, has.volumes)) ∙ sym (has.whole v x at) }
 
-  -- a write that no test of the line refuses, and that is not one too many
-  can_put : (w : World) (y : Yard R g) (name volume : List ℕ) (start count : ℕ) (bytes : List ℕ) → YardAgrees w y → IsUnlinked w → (may : WriteMay (facts_of w) name volume start count) → blocks_in bytes ≡ count
-      → (w.nodes (site_number w name)).role ≡ Primary → (w.nodes (site_number w name)).safe < MOST_NUMBER → CanPut w (site_number w name) (write_in w name volume start bytes)
-  can_put w y name volume start count bytes agrees none may many primary free =
-      let n : Node = w.nodes (site_number w name) in
-      let c = called w y name volume start count agrees may.call in
-      let seat = seat_in w name may.call.site in
-      let kind : may.call.found.kind ≡ Data = kind_of w name volume start count may in
-      let rvg : may.call.site.facts.rvg ≡ Some (group_fact n) = ap (λ (f : SiteFacts). f.rvg) seat.1 ∙ ap (λ (t : SiteState). group_by t n) c.up in
-      record {
-        call = subst (λ (k : ℕ). IsCall w (site_number w name) (volume_number n volume) start k) (sym many) (call_of w name volume start count c primary);
-        fits = omega (arith, many, may.fits (group_fact n) rvg kind);
-        free = free;
-        unlinked = none;
-      }
-    where
-      kind_of : (w : World) (name volume : List ℕ) (start count : ℕ) (may : WriteMay (facts_of w) name volume start count) → may.call.found.kind ≡ Data
-      kind_of w name volume start count may =
-          let n : Node = w.nodes (site_number w name) in
-          let seat = seat_in w name may.call.site in
-          let got : slice_get (map volume_fact n.volumes) may.call.at.place ≡ Some may.call.found = ap (λ (f : SiteFacts). slice_get f.volumes may.call.at.place) (sym seat.1) ∙ may.call.at.there in
-          volume_kind n.volumes may.call.at.place may.call.found got
+  -- the same of a site that a line names
+  sized_in : (w : World) (y : Yard R g) (name volume : List ℕ) (start count : ℕ) → YardAgrees w y → CallMay (facts_of w) name volume start count → IsSized (w.nodes (site_number w name))
+  sized_in w y name volume start count agrees may = sized_of w y (site_number w name) agrees (seat_in w name may.site).0 (up_in w name may.site may.up)
 
   -- ---- the whole line
 
@@ -160,7 +130,7 @@ module _ {R : Type 0} {g : Ghosts R} where
       let s : ℕ = site_number w name in
       let x : WriteOf = write_in w name volume start (replicate (512 * count) fill) in
       let may = write_may (facts_of w) files name volume start count fill free in
-      let can : (w.nodes s).safe < MOST_NUMBER → CanPut w s x = λ below. can_put w y name volume start count (replicate (512 * count) fill) agrees none may (blocks_filled count fill) (write_primary w files name volume start count fill free) below in (
+      let can : (w.nodes s).safe < MOST_NUMBER → CanPut w s x = λ below. can_put w name volume start count (replicate (512 * count) fill) (sized_in w y name volume start count agrees may.call) none may (blocks_filled count fill) (write_primary w files name volume start count fill free) below in (
         put_happens told w (Write name volume start count fill) s x can none all (λ c. refl) (λ v. refl) fails said next is,
         put_counts told w (Write name volume start count fill) s x can none all (λ c. refl) (λ v. refl) fails said next is,
       )
@@ -168,13 +138,14 @@ module _ {R : Type 0} {g : Ghosts R} where
       let s : ℕ = site_number w name in
       let x : WriteOf = write_in w name volume start bytes in
       let may = put_may (facts_of w) files name volume start bytes free in
-      let can : (w.nodes s).safe < MOST_NUMBER → CanPut w s x = λ below. can_put w y name volume start 1 bytes agrees none may (omega (arith, is.0)) (put_primary w files name volume start bytes free) below in (
+      let can : (w.nodes s).safe < MOST_NUMBER → CanPut w s x = λ below. can_put w name volume start 1 bytes (sized_in w y name volume start 1 agrees may.call) none may (omega (arith, is.0)) (put_primary w files name volume start bytes free) below in (
         put_happens told w (Put name volume start bytes) s x can none all (λ c. refl) (λ v. refl) fails said next is.1,
         put_counts told w (Put name volume start bytes) s x can none all (λ c. refl) (λ v. refl) fails said next is.1,
       )
   works_happen told files w y (Read name volume start count) fails said next agrees none all free (inl is) =
       let s : ℕ = site_number w name in
-      let c = called w y name volume start count agrees (read_may (facts_of w) files name volume start count free) in (
+      let may = read_may (facts_of w) files name volume start count free in
+      let c = called w name volume start count (sized_in w y name volume start count agrees may) may in (
         happens_as next w is.cleanly.leads
             (read_happens told w (Read name volume start count) s (volume_number (w.nodes s) volume) start count fails said w none all (λ c. refl) (λ v. refl) (λ t. call_of w name volume start count c ((all t).each s))
             (record { bytes = is.bytes; size = is.size; shows = is.shows; cleanly = record { none = is.cleanly.none; says = is.cleanly.says; leads = refl } })),
@@ -185,7 +156,8 @@ module _ {R : Type 0} {g : Ghosts R} where
       (only_happens told w (Read name volume start count) s (ReadAt s (volume_number (w.nodes s) volume) start count) fails said next none all refl (λ d. refl) refl f, tt)
   works_happen told files w y (Show name volume start count) fails said next agrees none all free (inl is) =
       let s : ℕ = site_number w name in
-      let c = called w y name volume start count agrees (show_may (facts_of w) files name volume start count free) in (
+      let may = show_may (facts_of w) files name volume start count free in
+      let c = called w name volume start count (sized_in w y name volume start count agrees may) may in (
         happens_as next w is.cleanly.leads
             (read_happens told w (Show name volume start count) s (volume_number (w.nodes s) volume) start count fails said w none all (λ c. refl) (λ v. refl) (λ t. call_of w name volume start count c ((all t).each s))
             (record { bytes = is.bytes; size = is.size; shows = is.shows; cleanly = record { none = is.cleanly.none; says = is.cleanly.says; leads = refl } })),

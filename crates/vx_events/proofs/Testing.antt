@@ -1,8 +1,10 @@
 -- What is known of a world where no test refuses a line.
-use Rattle.std.proofs.Common.{◌≡◌, ◌∙◌, ◌⊎◌, ◌+◌, ◌-◌, ◌*◌, ◌<◌, ◌≤◌, ℕ, zero, suc, List, [], ◌∷◌, length, Bool, true, false, ap, sym, subst, refl, arith}
+use Rattle.std.proofs.Common.{◌≡◌, ◌∙◌, ◌+◌, ◌*◌, ◌<◌, ◌≤◌, ℕ, zero, suc, List, [], ◌∷◌, length, Bool, true, false, ap, sym, subst, refl, arith}
 use Rattle.std.specs.Prelude.{Option, Some, None, slice_get, map, unwrap_or, replicate, cond, bytes_eq, not, ◌&&◌, if◌then◌else◌, is_some}
 use Rattle.std.specs.List.{find}
 use Rattle.std.proofs.lemmas.List.{length-replicate}
+use Rattle.std.proofs.lemmas.Option.{slice_get_within}
+use Rattle.vx_model.specs.declared.limits.TheConstants.{MOST_NUMBER}
 use Rattle.vx_model.specs.Content.{blocks_in}
 use Rattle.vx_model.specs.Sites.{is_up}
 use Rattle.vx_model.specs.Sizes.{is_raw_shape}
@@ -31,12 +33,14 @@ use Rattle.vx_order.specs.declared.facts.VolumeFacts.{VolumeFacts}
 use Rattle.vx_order.specs.declared.facts.VolumeKind.{VolumeKind}
 use Rattle.vx_order.specs.declared.facts.VolumeKind.TheVariants.{Data}
 use Rattle.vx_order.specs.declared.span.Way.TheVariants.{Writes}
-use Rattle.vx_events.specs.Facts.{site_fact, facts_of, values_from, site_number, volume_fact, volume_number, group_by, group_fact}
+use Rattle.vx_events.specs.Facts.{site_fact, facts_of, values_from, site_number, volume_fact, volume_number, place_of, group_by, group_fact}
+use Rattle.vx_events.specs.Lines.{write_in}
+use Rattle.vx_events.specs.Plain.{IsUnlinked, IsSized}
 use Rattle.vx_events.proofs.Passing.{IsCall, neither}
-use Rattle.vx_events.proofs.Steps.{site_step, raw_step}
-use Rattle.vx_node.proofs.Refused.{Named, passes, site_may, raw_may, write_may, put_may}
-use Rattle.vx_node.proofs.Seats.{position_within, some_same}
-use Rattle.vx_node.proofs.Values.{length-values_from, slice_get-values_from}
+use Rattle.vx_events.proofs.Steps.{site_step, raw_step, CanPut}
+use Rattle.vx_events.proofs.Refused.{Named, CallMay, WriteMay, passes, site_may, raw_may, write_may, put_may}
+use Rattle.vx_events.proofs.Places.{position_within, some_same}
+use Rattle.vx_events.proofs.Values.{length-values_from, slice_get-values_from}
 
 -- ---- what the tests found
 
@@ -158,23 +162,17 @@ primary_in w name volume start count n up known role =
     (subst (λ (o : Option SiteFacts). span_unknown o (Some (record { volume = volume; start = start; count = count; way = Writes })) ≡ None) site known)
     (subst (λ (o : Option SiteFacts). span_role o (Some (record { volume = volume; start = start; count = count; way = Writes })) ≡ None) site role)
 
--- ---- what the disks of the site say
+-- ---- runs of blocks
 
--- the sizes of a site that is up
-pub record HasVolumes (n : Node) : Type 0 where
-  pub volumes : length n.volumes ≡ n.disks - 2
-  pub whole : (v : ℕ) (x : Volume) → slice_get n.volumes v ≡ Some x → x.blocks ≡ n.blocks
-  pub sizes : (v : ℕ) → v < n.disks - 2 → n.base.size v ≡ n.blocks
+pub volume_at : (vs : List Volume) (i : ℕ) (x : VolumeFacts) → slice_get (map volume_fact vs) i ≡ Some x → (v : Volume) × (slice_get vs i ≡ Some v) × (x.blocks ≡ v.blocks)
+volume_at [] i x e = absurd (cc)
+volume_at (v ∷ vs) zero x e = (v, refl, ap (λ (f : VolumeFacts). f.blocks) (sym (some_same e)))
+volume_at (v ∷ vs) (suc i) x e = volume_at vs i x e
 
 pub volume_kind : (vs : List Volume) (i : ℕ) (x : VolumeFacts) → slice_get (map volume_fact vs) i ≡ Some x → x.kind ≡ Data
 volume_kind [] i x e = absurd (cc)
 volume_kind (v ∷ vs) zero x e = ap (λ (f : VolumeFacts). f.kind) (sym (some_same e))
 volume_kind (v ∷ vs) (suc i) x e = volume_kind vs i x e
-
-pub get_some : {A : Type 0} (xs : List A) (i : ℕ) → i < length xs → (x : A) × (slice_get xs i ≡ Some x)
-get_some [] i h = absurd (omega arith)
-get_some (x ∷ xs) zero h = (x, refl)
-get_some (x ∷ xs) (suc i) h = get_some xs i (omega arith)
 
 -- a run of blocks that no test of the line refuses
 pub record Called (w : World) (name volume : List ℕ) (start count : ℕ) : Type 0 where
@@ -185,6 +183,26 @@ pub record Called (w : World) (name volume : List ℕ) (start count : ℕ) : Typ
   pub some : 1 ≤ count
   pub few : count ≤ 16
   pub within : start + count ≤ (w.nodes (site_number w name)).base.size (volume_number (w.nodes (site_number w name)) volume)
+
+pub called : (w : World) (name volume : List ℕ) (start count : ℕ) → IsSized (w.nodes (site_number w name)) → CallMay (facts_of w) name volume start count → Called w name volume start count
+called w name volume start count sized may =
+    let n : Node = w.nodes (site_number w name) in
+    let seat = seat_in w name may.site in
+    let up : n.state ≡ IsUp = up_in w name may.site may.up in
+    let place : place_of (map volume_fact n.volumes) volume ≡ Some may.at.place = ap (λ (f : SiteFacts). place_of f.volumes volume) (sym seat.1) ∙ may.at.is in
+    let number : volume_number n volume ≡ may.at.place = ap (λ (o : Option ℕ). unwrap_or o 0) place in
+    let got : slice_get (map volume_fact n.volumes) may.at.place ≡ Some may.found = ap (λ (f : SiteFacts). slice_get f.volumes may.at.place) (sym seat.1) ∙ may.at.there in
+    let x = volume_at n.volumes may.at.place may.found got in
+    let inside : may.at.place < length n.volumes = slice_get_within n.volumes may.at.place x.0 x.1 in
+    record {
+      below = seat.0;
+      up = up;
+      running = running_in w name may.site up may.running;
+      known = omega (arith, number, inside);
+      some = may.some;
+      few = may.few;
+      within = omega (arith, may.range, x.2, sized.each may.at.place x.0 x.1, ap (λ (v : ℕ). n.base.size v) number);
+    }
 
 pub call_of : (w : World) (name volume : List ℕ) (start count : ℕ) → Called w name volume start count → (w.nodes (site_number w name)).role ≡ Primary
     → IsCall w (site_number w name) (volume_number (w.nodes (site_number w name)) volume) start count
@@ -206,3 +224,20 @@ put_primary w files name volume start bytes free =
 
 pub blocks_filled : (count fill : ℕ) → blocks_in (replicate (512 * count) fill) ≡ count
 blocks_filled count fill = let many : length (replicate (512 * count) fill) ≡ 512 * count = length-replicate {A = ℕ} (512 * count) fill in omega (arith, many)
+
+-- a write that no test of the line refuses, and that is not one too many
+pub can_put : (w : World) (name volume : List ℕ) (start count : ℕ) (bytes : List ℕ) → IsSized (w.nodes (site_number w name)) → IsUnlinked w → (may : WriteMay (facts_of w) name volume start count) → blocks_in bytes ≡ count
+    → (w.nodes (site_number w name)).role ≡ Primary → (w.nodes (site_number w name)).safe < MOST_NUMBER → CanPut w (site_number w name) (write_in w name volume start bytes)
+can_put w name volume start count bytes sized none may many primary free =
+    let n : Node = w.nodes (site_number w name) in
+    let c = called w name volume start count sized may.call in
+    let seat = seat_in w name may.call.site in
+    let got : slice_get (map volume_fact n.volumes) may.call.at.place ≡ Some may.call.found = ap (λ (f : SiteFacts). slice_get f.volumes may.call.at.place) (sym seat.1) ∙ may.call.at.there in
+    let kind : may.call.found.kind ≡ Data = volume_kind n.volumes may.call.at.place may.call.found got in
+    let rvg : may.call.site.facts.rvg ≡ Some (group_fact n) = ap (λ (f : SiteFacts). f.rvg) seat.1 ∙ ap (λ (t : SiteState). group_by t n) c.up in
+    record {
+      call = subst (λ (k : ℕ). IsCall w (site_number w name) (volume_number n volume) start k) (sym many) (call_of w name volume start count c primary);
+      fits = omega (arith, many, may.fits (group_fact n) rvg kind);
+      free = free;
+      unlinked = none;
+    }
