@@ -1,5 +1,6 @@
 -- What the steps of a read, a write or a flush leave.
 use Rattle.std.specs.Prelude.{◌≡◌, ℕ, ◌+◌, ◌<◌, ◌≤◌, Bool, true, false, IsTrue, List, length, slice_index_or, Result, Ok, Err}
+use Rattle.vx_model.specs.declared.limits.TheConstants.{MOST_PLEXES}
 use Rattle.vx_disk.specs.Counts.{Rose}
 use Rattle.vx_disk.specs.Shelf.{Goes, Meaning, Nothing, piece}
 use Rattle.vx_config.specs.declared.config.Config.{Config}
@@ -66,7 +67,7 @@ pub record Loop (c : Config) (v count : ℕ) (failed : List Bool) (any : Bool) (
   pub tried : Tried c v count failed done old new
   pub some : SomeDone c v count failed any
   pub blames : Device failed device old new
-  pub long : length failed ≡ 8
+  pub long : length failed ≡ MOST_PLEXES
 
 pub record WriteLoop (c : Config) (v block n : ℕ) (bytes : List ℕ) (count : ℕ) (failed : List Bool) (any : Bool) (device : ℕ) (old new : Meaning) : Type 0 where
   pub loop : Loop c v count failed any device (λ p. PlexWrote c v p block n block n bytes old new) old new
