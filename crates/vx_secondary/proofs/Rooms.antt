@@ -1,5 +1,5 @@
 -- A receiver's group makes room in its log.
-use Rattle.std.proofs.Common.{◌≡◌, ◌∙◌, ◌⊎◌, inl, inr, ⊎_elim, ℕ, ◌+◌, ◌-◌, ◌<◌, ◌≤◌, Bool, true, false, List, [], ◌∷◌, ◌++◌, length, take, drop, Option, Some, None, IsTrue, IsFalse, refl, sym, ap, subst, arith, append-nil, length-append}
+use Rattle.std.proofs.Common.{◌≡◌, ◌∙◌, ◌⊎◌, inl, inr, ⊎_elim, ℕ, ◌+◌, ◌-◌, ◌<◌, ◌≤◌, Bool, true, false, List, [], ◌∷◌, length, drop, Option, Some, None, IsFalse, refl, sym, ap, subst, arith, append-nil, length-append}
 use Rattle.std.specs.Prelude.{Result, Ok, Err, leb, ◌&&◌, ◌||◌, if◌then◌else◌}
 use Rattle.std.proofs.lemmas.Bool.Decides.{nat_tests}
 use Rattle.std.proofs.lemmas.List.{length-drop}
@@ -8,7 +8,6 @@ use Rattle.vx_model.specs.declared.limits.TheConstants.{MOST_NUMBER}
 use Rattle.vx_model.specs.declared.no.No.{No}
 use Rattle.vx_model.specs.declared.no.No.TheVariants.{Device, Down, Limit}
 use Rattle.vx_model.specs.declared.no.Counted.TheVariants.{Number}
-use Rattle.vx_model.specs.declared.state.State.{State as SiteState}
 use Rattle.vx_srlfmt.specs.declared.header.Header.{Header}
 use Rattle.vx_disk.specs.Moves.{Moves, Run}
 use Rattle.vx_disk.specs.Shelf.{Meaning, Image}
@@ -16,14 +15,14 @@ use Rattle.vx_srl.specs.Calls.{saved}
 use Rattle.vx_srl.specs.Headers.{without}
 use Rattle.vx_srl.specs.Views.{Log, most_number, count_to, head_of, free_of, widths, all_of}
 use Rattle.vx_srl.specs.declared.kept.Kept.{Kept}
-use Rattle.vx_rvg.specs.Groups.{ApplyIs, Ended, Fails, unless_halted, with_applied}
+use Rattle.vx_rvg.specs.Groups.{ApplyIs, Ended, Fails, unless_halted}
 use Rattle.vx_rvg.specs.Holdings.{Holding, kept_in}
 use Rattle.vx_rvg.specs.Saves.{SaveIs, reclaim_refusal, reclaimed, log_without}
-use Rattle.vx_rvg.specs.Stands.{FoundAs, Resting, Rests, Retains, Saving, Stands}
-use Rattle.vx_rvg.specs.Views.{Core, IsSound, Waits, last_of, unit_of}
+use Rattle.vx_rvg.specs.Stands.{Resting, Rests, Retains, Saving, Stands}
+use Rattle.vx_rvg.specs.Views.{Core, IsSound, Waits, last_of}
 use Rattle.vx_rvg.proofs.ContentFacts.{stands_count}
-use Rattle.vx_secondary.specs.Logging.{Grows, SameGroup, Own, Logging, Step, Logs, Stops, Ends}
-use Rattle.vx_secondary.proofs.Steps.{grows_self, found_same, same_self, step_of, step_self}
+use Rattle.vx_secondary.specs.Logging.{Grows, SameGroup, Own, Logging, Step, Logs, Ends}
+use Rattle.vx_secondary.proofs.Steps.{grows_self, found_same, same_self, step_of}
 
 -- ---- a device call that failed
 

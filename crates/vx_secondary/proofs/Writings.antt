@@ -1,5 +1,5 @@
 -- A receiver's group logs a write.
-use Rattle.std.proofs.Common.{◌≡◌, ◌∙◌, ◌⊎◌, inl, inr, ⊎_elim, ℕ, ◌+◌, ◌-◌, ◌<◌, ◌≤◌, Bool, true, false, List, [], ◌∷◌, ◌++◌, length, take, drop, Option, Some, None, IsTrue, IsFalse, refl, sym, ap, subst, arith, length-append}
+use Rattle.std.proofs.Common.{◌≡◌, ◌∙◌, inl, inr, ℕ, ◌+◌, ◌<◌, ◌≤◌, Bool, true, false, List, [], ◌∷◌, ◌++◌, length, take, Option, Some, None, IsTrue, IsFalse, refl, sym, ap, subst, arith, length-append}
 use Rattle.std.specs.Prelude.{Result, Ok, Err, leb, ltb, ◌&&◌, if◌then◌else◌}
 use Rattle.std.proofs.lemmas.Bool.{and_parts}
 use Rattle.std.proofs.lemmas.Bool.Decides.{nat_tests}
@@ -11,14 +11,14 @@ use Rattle.vx_model.specs.declared.no.No.TheVariants.{Device, Down, Limit}
 use Rattle.vx_model.specs.declared.no.Counted.TheVariants.{Number}
 use Rattle.vx_disk.specs.Moves.{Moves, Run}
 use Rattle.vx_disk.specs.Shelf.{Meaning, Image}
-use Rattle.vx_srl.specs.Views.{Log, kept_of, most_number}
+use Rattle.vx_srl.specs.Views.{kept_of, most_number}
 use Rattle.vx_srl.specs.declared.kept.Kept.{Kept}
-use Rattle.vx_rvg.specs.Groups.{WriteIs, Fails, with_write, write_refusal}
+use Rattle.vx_rvg.specs.Groups.{WriteIs, with_write, write_refusal}
 use Rattle.vx_rvg.specs.Holdings.{Holding, with_writes}
-use Rattle.vx_rvg.specs.Stands.{FoundAs, Stands, Writing}
+use Rattle.vx_rvg.specs.Stands.{Stands, Writing}
 use Rattle.vx_rvg.specs.Views.{Core, IsSound, last_of, unit_of}
 use Rattle.vx_rvg.proofs.WriteLog.{cause_from}
-use Rattle.vx_secondary.specs.Logging.{Grows, SameGroup, Own, Logging, Step, Logs, Stops, Ends, EndsAfter}
+use Rattle.vx_secondary.specs.Logging.{Grows, SameGroup, Logging, Step, Logs, Ends}
 use Rattle.vx_secondary.specs.Receivers.{can_log}
 use Rattle.vx_secondary.proofs.Rooms.{failed_ends, failed_same}
 use Rattle.vx_secondary.proofs.Steps.{found_same, same_self, step_of}

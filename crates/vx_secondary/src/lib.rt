@@ -11,6 +11,8 @@ mod room;
 mod rule;
 mod secondary;
 mod show;
+#[cfg(test)]
+mod tests;
 mod waiting;
 
 pub use secondary::Secondary;

@@ -1,5 +1,5 @@
 -- The logging and applying of the oldest updates, case by case.
-use Rattle.std.proofs.Common.{◌≡◌, ◌++◌, ◌+◌, ◌≤◌, ℕ, List, [], length, sym, subst, take, arith, append-nil}
+use Rattle.std.proofs.Common.{ℕ, List, [], length, subst, take, arith, append-nil}
 use Rattle.std.proofs.lemmas.Result.{err_from_is_err_and}
 use Rattle.vx_model.specs.Content.{Write}
 use Rattle.vx_secondary.specs.Logging.{Ends, Logs, Step}

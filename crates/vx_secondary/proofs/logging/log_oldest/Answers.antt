@@ -1,5 +1,5 @@
 -- The logging of the oldest updates, case by case.
-use Rattle.std.proofs.Common.{◌≡◌, ℕ, sym, subst, take, arith}
+use Rattle.std.proofs.Common.{ℕ, subst, take, arith}
 use Rattle.std.proofs.lemmas.Result.{err_from_is_err_and}
 use Rattle.vx_secondary.specs.Logging.{Logs}
 use Rattle.vx_secondary.specs.Receivers.{writes_of}

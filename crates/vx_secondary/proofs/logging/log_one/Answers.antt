@@ -1,5 +1,5 @@
 -- The logging of one update, case by case.
-use Rattle.std.proofs.Common.{◌≡◌, ◌+◌, ◌≤◌, ℕ, List, [], ◌∷◌, ap, subst, arith}
+use Rattle.std.proofs.Common.{◌+◌, ◌≤◌, ℕ, List, [], ◌∷◌, ap, subst, arith}
 use Rattle.std.proofs.lemmas.Result.{err_from_is_err_and}
 use Rattle.vx_model.specs.Content.{blocks_in}
 use Rattle.vx_rvg.specs.Views.{unit_of}

@@ -1,5 +1,5 @@
 -- A block of a write over that of a volume, case by case.
-use Rattle.std.proofs.Common.{◌≡◌, ◌∙◌, ◌+◌, ◌-◌, ℕ, List, Some, sym, ap, subst, arith}
+use Rattle.std.proofs.Common.{◌∙◌, ◌+◌, ◌-◌, ℕ, List, sym, ap, subst, arith}
 use Rattle.vx_model.specs.Content.{block_of, touches}
 use Rattle.vx_secondary.specs.Receivers.{write_of}
 use Rattle.vx_secondary.proofs.Overs.{IsPutTo, cut, touch_told, touch_none, touched, untouched}

@@ -1,8 +1,6 @@
 -- The giving up of all records, case by case.
-use Rattle.std.proofs.Common.{◌≡◌, ◌∙◌, ◌+◌, sym, arith}
-use Rattle.std.specs.Prelude.{Ok, Err}
+use Rattle.std.proofs.Common.{◌∙◌, sym}
 use Rattle.std.proofs.lemmas.Result.{err_from_is_err_and}
-use Rattle.vx_rvg.specs.Views.{last_of}
 use Rattle.vx_secondary.proofs.Rooms.{reclaim_step, reclaim_logs, reclaim_last, reclaim_free, reclaim_ends}
 use Rattle.vx_secondary.proofs.room.give_up.Goals as goal
 

@@ -1,6 +1,5 @@
 -- Room in the log of a receiver, case by case.
-use Rattle.std.proofs.Common.{◌≡◌, ◌∙◌, ◌+◌, [], sym, arith}
-use Rattle.std.specs.Prelude.{Ok, Err}
+use Rattle.std.proofs.Common.{[]}
 use Rattle.std.proofs.lemmas.Result.{IfErr-weaker, err_from_is_err_and, on_ok_weaker}
 use Rattle.vx_secondary.proofs.Rooms.{applied_step, applied_logs, applied_ends}
 use Rattle.vx_secondary.proofs.Steps.{step_then, logs_then}

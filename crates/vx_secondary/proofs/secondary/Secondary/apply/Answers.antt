@@ -1,5 +1,5 @@
 -- The apply of a receiver, case by case.
-use Rattle.std.proofs.Common.{◌≡◌, ◌∙◌, ℕ, List, length, ap, subst}
+use Rattle.std.proofs.Common.{◌∙◌, ℕ, List, length, ap, subst}
 use Rattle.std.specs.Prelude.{min}
 use Rattle.vx_model.specs.declared.call.Update.{Update}
 use Rattle.vx_secondary.specs.Logging.{Logs, Step}

@@ -1,5 +1,5 @@
 -- What a receiver shows.
-use Rattle.std.proofs.Common.{◌≡◌, ◌/◌, ℕ, length, ap, subst, sym}
+use Rattle.std.proofs.Common.{◌≡◌, ◌/◌, ℕ, ap, subst, sym}
 use Rattle.vx_model.specs.Content.{blocks_in, fold_writes}
 use Rattle.vx_rvg.specs.Contents.{Shows}
 use Rattle.vx_secondary.specs.Receivers.{writes_of}
