@@ -97,7 +97,7 @@ module _ {P : Type 0} where
   pub lays-writer : (x : Writer) (olds bs : List Answered) → LaidWith (λ m. Among m x.made.items) olds bs → LaidWith (IsMadeBy (alone x)) olds bs
   lays-writer x olds bs l = laid-as (λ m. Among m x.made.items) (IsMadeBy (alone x)) olds bs back (λ m a. (x, (0, refl), a)) l
     where
-      writes-one : (v w : Writer) → Some {A = Worker P} (Writes v) ≡ Some (Writes w) → v ≡ w
+      writes-one : (v w : Writer) → slice_get (alone v) 0 ≡ Some (Writes w) → v ≡ w
       writes-one v w e = cc e
 
       back : (m : Made) → IsMadeBy (alone x) m → Among m x.made.items
