@@ -19,7 +19,8 @@ use Rattle.vx_node.specs.declared.engine.Engine.TheVariants.{Bare, Up, Down as I
 use Rattle.vx_node.specs.Engines.{CanApply, AppliedUp, halted_at, worked}
 use Rattle.vx_node.specs.Holds.{HasWrites}
 use Rattle.vx_node.specs.Rooms.{AppliedAs}
-use Rattle.vx_node.specs.Fuses.{IsFused, HasFuse}
+use Rattle.vx_node.specs.Fuses.{HasFuse}
+use Rattle.vx_events.specs.Fuses.{IsFused}
 use Rattle.vx_node.specs.Stands.{IsUpAt, IsHeldAt, StandsAt, faults_at}
 use Rattle.vx_node.proofs.Lasts.{rests_with, resting_found}
 use Rattle.vx_node.proofs.Staying.{told_now, never_both, left_moved, up_found, SameLog, up_with, held_moved, fused_by, fuse_moved}

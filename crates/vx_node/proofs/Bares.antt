@@ -33,7 +33,8 @@ use Rattle.vx_rvg.specs.Views.{Core, last_of}
 use Rattle.vx_rvg.specs.declared.group.Rvg.{Rvg}
 use Rattle.vx_node.specs.declared.engine.Engine.{Engine}
 use Rattle.vx_node.specs.declared.engine.Engine.TheVariants.{Bare, Spoiled, Up}
-use Rattle.vx_node.specs.Engines.{SameDisks, BareUp, BareUpIs, MadeIs}
+use Rattle.vx_node.specs.Engines.{BareUp, BareUpIs, MadeIs}
+use Rattle.vx_events.specs.Found.{SameDisks}
 use Rattle.vx_node.specs.Fuses.{HasFuse}
 use Rattle.vx_node.specs.Holds.{raw_units}
 use Rattle.vx_node.specs.Stands.{IsFitted, IsBareAt, IsCleanAt, IsUpAt, faults_at}

@@ -16,7 +16,7 @@ use Rattle.vx_order.specs.declared.facts.SiteFacts.{SiteFacts}
 use Rattle.vx_node.specs.declared.engine.Engine.{Engine}
 use Rattle.vx_node.specs.Changes.{last_facts, last_group, halted_facts, halted_group}
 use Rattle.vx_node.specs.Engines.{Later, halted_with}
-use Rattle.vx_node.specs.Facts.{site_fact, group_by, values_from}
+use Rattle.vx_events.specs.Facts.{site_fact, group_by, values_from}
 use Rattle.vx_node.specs.Stands.{EnginesStand, StandsAt, IsUnused, AreTold, IsToldAt, RoseAll, RoseBy, faults_of, faults_at, fault_count, times}
 use Rattle.vx_node.proofs.Lists.{get-set_same, get-set_other, length-set, values_from-set}
 use Rattle.vx_node.proofs.Values.{values_from-push}

@@ -28,9 +28,10 @@ use Rattle.vx_rvg.specs.declared.group.Rvg.{Rvg}
 use Rattle.vx_node.specs.Engines.{CrashedAt, WroteUp, WroteAt, AppliedUp, AppliedAt, is_off}
 use Rattle.vx_model.specs.declared.no.No.{No}
 use Rattle.vx_model.specs.declared.no.No.TheVariants.{Device, Limit, Down as Off}
-use Rattle.vx_node.specs.Facts.{values_from}
+use Rattle.vx_events.specs.Facts.{values_from}
 use Rattle.vx_node.specs.Lasts.{FoundWith, LeftWith}
-use Rattle.vx_node.specs.Holds.{HasWrites, raw_units, state_of, most_stamp}
+use Rattle.vx_node.specs.Holds.{HasWrites, raw_units, state_of}
+use Rattle.vx_events.specs.Stamps.{most_stamp}
 use Rattle.vx_node.specs.Stands.{IsUpAt, IsHeldAt, IsDownAt, CutAt, IsToldAt}
 use Rattle.vx_node.proofs.Staying.{held_up}
 use Rattle.vx_node.proofs.Values.{length-values_from, slice_index-values_from}
@@ -252,7 +253,7 @@ module _ {R : Type 0} {g : Ghosts R} where
 
   -- a write or an apply whose fuse ran out, and the crash behind it
   pub wrote_off : (n : Node) (x : Write) (old mid new : Engine R g) (why : No) → is_off why ≡ true → WroteUp n x old mid (Err why) → (CutAt (half_begun n x) mid → CrashedAt (half_begun n x) new) → (IsToldAt new → IsToldAt mid) → WroteAt n x old new (Err why)
-  wrote_off n x old mid new Off off is falls later = (is.0, falls is.1, λ calls told exact. is.2 calls (later told) exact)
+  wrote_off n x old mid new Off off is falls later = (is.0, falls is.1, (λ calls told exact. is.2 calls (later told) exact), is.3)
   wrote_off n x old mid new other off is falls later = absurd (cc)
 
   pub wrote_on : (n : Node) (x : Write) (old new : Engine R g) (why : No) → is_off why ≡ false → WroteUp n x old new (Err why) → WroteAt n x old new (Err why)

@@ -18,7 +18,8 @@ use Rattle.vx_srl.proofs.LogLists.{place_sum}
 use Rattle.vx_srl.proofs.Shared_S1.{widths_append}
 use Rattle.vx_rvg.specs.Views.{Core, IsSound}
 use Rattle.vx_rvg.specs.Groups.{with_write}
-use Rattle.vx_node.specs.Fuses.{HasFuse, IsExact, IsFirst, LetsPass, taken}
+use Rattle.vx_node.specs.Fuses.{HasFuse, IsFirst, LetsPass}
+use Rattle.vx_events.specs.Fuses.{IsExact, taken}
 use Rattle.vx_node.specs.Stands.{IsUpAt}
 
 pub taken_push : (xs : List Write) (x : Write) → taken (xs ++ x ∷ []) ≡ taken xs + (blocks_in x.bytes + 1)

@@ -24,15 +24,15 @@ use Rattle.vx_rvg.specs.declared.group.Rvg.{Rvg}
 use Rattle.vx_rvg.proofs.WriteSound.{SameSizes, ended_sound}
 use Rattle.vx_node.specs.declared.engine.Engine.{Engine}
 use Rattle.vx_node.specs.declared.engine.Engine.TheVariants.{Bare, Spoiled, Up, Down, Gone}
-use Rattle.vx_node.specs.declared.said.Said.TheVariants.{Done}
+use Rattle.vx_events.specs.declared.said.Said.TheVariants.{Done}
 use Rattle.vx_node.specs.declared.yard.Yard.{Yard}
 use Rattle.vx_node.specs.Engines.{Later}
-use Rattle.vx_node.specs.Facts.{site_fact, facts_of, seat_of, site_number}
+use Rattle.vx_events.specs.Facts.{site_fact, facts_of, seat_of, site_number}
 use Rattle.vx_node.specs.Fuses.{LetsPass}
 use Rattle.vx_node.specs.Stands.{IsUpAt, StandsAt, RoseAll, faults_of}
-use Rattle.vx_node.specs.Steps.{Cleanly, Works}
+use Rattle.vx_node.specs.Works.{Cleanly, Works}
 use Rattle.vx_node.specs.Working.{Worked, IsFree}
-use Rattle.vx_node.specs.Yards.{YardStands, in_files, count_of}
+use Rattle.vx_node.specs.Yards.{YardAgrees, in_files, count_of}
 use Rattle.vx_node.proofs.Lasts.{still_with}
 use Rattle.vx_node.proofs.Falling.{stands_same, rose_still, fuse_fact}
 use Rattle.vx_node.proofs.Refused.{fuse_may}
@@ -133,7 +133,7 @@ module _ {R : Type 0} {g : Ghosts R} where
   never_up n Gone h up none = h
 
   -- the line that sets it
-  pub fuse_done : (w : World) (old new : Yard R g) (name : List ℕ) (calls pick s : ℕ) (before after : Engine R g) → YardStands w old → IsFree old (Fuse name calls pick)
+  pub fuse_done : (w : World) (old new : Yard R g) (name : List ℕ) (calls pick s : ℕ) (before after : Engine R g) → YardAgrees w old → IsFree old (Fuse name calls pick)
       → seat_of old.facts.items name ≡ Some s → slice_get old.engines.items s ≡ Some before → Later before after
       → ((n : Node) → StandsAt n before → n.state ≡ IsUp → StandsAt (record n { fuse = FuseSet calls }) after)
       → new.facts ≡ old.facts → new.engines.items ≡ slice_set old.engines.items s after → new.racks ≡ old.racks → Worked w (Fuse name calls pick) Done old new

@@ -1,3 +1,4 @@
+pub mod Alike
 pub mod Answering
 pub mod Applying
 pub mod Backs
@@ -12,7 +13,9 @@ pub mod Finds
 pub mod Founds
 pub mod Fusing
 pub mod Getting
-pub mod Goods
+pub mod Happening
+pub mod HappeningCalls
+pub mod Happenings
 pub mod Lasts
 pub mod Lists
 pub mod Logging
@@ -25,6 +28,7 @@ pub mod Replies
 pub mod Rising
 pub mod Rooming
 pub mod Seats
+pub mod Sessions
 pub mod Sites
 pub mod Statuses
 pub mod Staying

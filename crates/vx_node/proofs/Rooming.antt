@@ -21,9 +21,11 @@ use Rattle.vx_rvg.specs.Saves.{SaveIs, Saves, reclaim_refusal, reclaimed, log_wi
 use Rattle.vx_rvg.specs.Stands.{Retains, Saving}
 use Rattle.vx_rvg.specs.Views.{Core, IsSound, last_of}
 use Rattle.vx_node.specs.Engines.{no_number, halted_at, worked}
-use Rattle.vx_node.specs.Holds.{HasWrites, raw_units, state_of, most_stamp}
+use Rattle.vx_node.specs.Holds.{HasWrites, raw_units, state_of}
+use Rattle.vx_events.specs.Stamps.{most_stamp}
 use Rattle.vx_node.specs.Rooms.{AppliedAs, IsRoomy, RoomIs}
-use Rattle.vx_node.specs.Fuses.{IsFused, HasFuse}
+use Rattle.vx_node.specs.Fuses.{HasFuse}
+use Rattle.vx_events.specs.Fuses.{IsFused}
 use Rattle.vx_node.specs.Stands.{IsUpAt, IsHeldAt}
 use Rattle.vx_node.proofs.Applying.{ended_log}
 use Rattle.vx_node.proofs.Lasts.{retains_with, saving_with}

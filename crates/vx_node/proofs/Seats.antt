@@ -8,8 +8,8 @@ use Rattle.vx_history.specs.World.{World}
 use Rattle.vx_disk.specs.declared.shelf.Shelf.{Ghosts}
 use Rattle.vx_order.specs.declared.facts.SiteFacts.{SiteFacts}
 use Rattle.vx_node.specs.declared.yard.Yard.{Yard}
-use Rattle.vx_node.specs.Facts.{site_fact, facts_of, seat_of, site_number}
-use Rattle.vx_node.specs.Yards.{YardStands}
+use Rattle.vx_events.specs.Facts.{site_fact, facts_of, seat_of, site_number}
+use Rattle.vx_node.specs.Yards.{YardAgrees}
 use Rattle.vx_node.proofs.Refused.{Named}
 use Rattle.vx_node.proofs.Values.{length-values_from, slice_get-values_from}
 
@@ -42,7 +42,7 @@ module _ {R : Type 0} {g : Ghosts R} where
     pub number : site_number w name ≡ s
     pub fact : slice_get y.facts.items s ≡ Some (site_fact (w.nodes s))
 
-  pub seated : (w : World) (y : Yard R g) (name : List ℕ) (s : ℕ) → YardStands w y → seat_of y.facts.items name ≡ Some s → Seated w y name s
+  pub seated : (w : World) (y : Yard R g) (name : List ℕ) (s : ℕ) → YardAgrees w y → seat_of y.facts.items name ≡ Some s → Seated w y name s
   seated w y name s stands is =
       let many : length (facts_of w) ≡ w.sites = length-values_from (λ i. site_fact (w.nodes i)) 0 w.sites in
       let seat : seat_of (facts_of w) name ≡ Some s = ap (λ (fs : List SiteFacts). seat_of fs name) (sym stands.facts) ∙ is in
@@ -66,5 +66,5 @@ module _ {R : Type 0} {g : Ghosts R} where
   named_none y name is n = never_some (sym is ∙ n.at.is)
 
   -- its engine is one of the eight
-  pub seat_below : (w : World) (y : Yard R g) (name : List ℕ) (s len : ℕ) → YardStands w y → seat_of y.facts.items name ≡ Some s → len ≡ length y.engines.items → s < len
+  pub seat_below : (w : World) (y : Yard R g) (name : List ℕ) (s len : ℕ) → YardAgrees w y → seat_of y.facts.items name ≡ Some s → len ≡ length y.engines.items → s < len
   seat_below w y name s len stands is many = omega (arith, (seated w y name s stands is).below, stands.engines.few, stands.engines.eight, many)

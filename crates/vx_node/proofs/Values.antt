@@ -1,7 +1,7 @@
 -- Lists of the values of a function.
 use Rattle.std.proofs.Common.{◌≡◌, ℕ, zero, suc, ◌+◌, ◌-◌, ◌<◌, ◌≤◌, List, [], ◌∷◌, ◌++◌, length, refl, ap, ◌∙◌, sym, arith}
 use Rattle.std.specs.Prelude.{slice_get, Some, slice_index}
-use Rattle.vx_node.specs.Facts.{values_from}
+use Rattle.vx_events.specs.Facts.{values_from}
 
 -- one value more
 pub values_from-push : {A : Type 0} (f : ℕ → A) (k n : ℕ) → values_from f k (suc n) ≡ values_from f k n ++ f (k + n) ∷ []

@@ -11,8 +11,10 @@ use Rattle.vx_rvg.specs.Views.{Core, last_of}
 use Rattle.vx_srl.specs.Views.{most_number}
 use Rattle.vx_node.specs.Engines.{no_number, halted_at, worked}
 use Rattle.vx_node.specs.Lasts.{StandsWith}
-use Rattle.vx_node.specs.Holds.{raw_units, state_with, most_stamp}
-use Rattle.vx_node.specs.Fuses.{IsFused, HasFuse}
+use Rattle.vx_node.specs.Holds.{raw_units, state_with}
+use Rattle.vx_events.specs.Stamps.{most_stamp}
+use Rattle.vx_node.specs.Fuses.{HasFuse}
+use Rattle.vx_events.specs.Fuses.{IsFused}
 use Rattle.vx_node.specs.Stands.{IsFitted, IsUpAt, IsHeldAt}
 
 -- a site that is up and runs, before a write: its log may have used the one stamp that the write makes room for

@@ -3,7 +3,7 @@ use Rattle.std.proofs.Common.{◌≡◌, ◌∙◌, ap, sym, refl, arith}
 use Rattle.std.specs.Prelude.{slice_set, Some, map, ◌-◌}
 use Rattle.vx_history.specs.Steps.{raw_volumes}
 use Rattle.vx_order.specs.declared.facts.SiteFacts.{SiteFacts}
-use Rattle.vx_node.specs.Facts.{seat_of, volume_fact}
+use Rattle.vx_events.specs.Facts.{seat_of, volume_fact}
 use Rattle.vx_node.specs.Yards.{in_files}
 use Rattle.vx_node.proofs.Lists.{get_at}
 use Rattle.vx_node.proofs.Raws.{raw_done, raw_failed, raw_told, raw_shape}

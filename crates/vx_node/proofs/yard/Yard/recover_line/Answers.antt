@@ -3,7 +3,7 @@ use Rattle.std.proofs.Common.{◌≡◌, ◌∙◌, ap, sym, refl, arith}
 use Rattle.std.specs.Prelude.{Some}
 use Rattle.vx_model.specs.Sizes.{ring_of}
 use Rattle.vx_order.specs.declared.facts.SiteFacts.{SiteFacts}
-use Rattle.vx_node.specs.Facts.{seat_of}
+use Rattle.vx_events.specs.Facts.{seat_of}
 use Rattle.vx_node.specs.Yards.{in_files}
 use Rattle.vx_node.proofs.Finds.{bare_worked}
 use Rattle.vx_node.proofs.Lists.{get_at}

@@ -1,0 +1,4 @@
+pub mod Blocks
+pub mod Keeping
+pub mod Passing
+pub mod Steps
