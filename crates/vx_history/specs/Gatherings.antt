@@ -1,5 +1,6 @@
 -- How a site puts a message together from its parts: one message at a time.
-use Rattle.std.specs.Prelude.{ℕ, Bool, true, false, ◌&&◌, eqb, if◌then◌else◌, List, [], ◌∷◌, set, replicate, Option, Some, None}
+use Rattle.std.specs.Prelude.{ℕ, Bool, true, false, ◌&&◌, eqb, if◌then◌else◌, List, set, replicate, Option, Some, None}
+use Rattle.std.specs.List.{list_all}
 use Rattle.vx_model.specs.Sites.{same_line}
 use Rattle.vx_model.specs.declared.history.Line.{Line}
 use Rattle.vx_history.specs.World.{Message, Packet, Key, Gathering, World, Hello, Update, NetAck, DataAck, updated}
@@ -50,8 +51,7 @@ came_after g p = set (came_before g (key_of p)) p.part true
 
 -- every part has come
 abbrev pub all_came : List Bool → Bool
-all_came [] = true
-all_came (c ∷ cs) = c && all_came cs
+all_came came = list_all (λ c. c) came
 
 -- the message of the packet is whole with it
 abbrev pub completes : Option Gathering → Packet → Bool
