@@ -41,7 +41,7 @@ further_parts m = pred ((payload_size m + 1023) / 1024)
 
 -- in how many parts a message goes
 abbrev pub parts_of : Message → ℕ
-parts_of m = further_parts m + 1
+parts_of m = suc (further_parts m)
 
 -- the packet of a part
 abbrev pub packet : (source target : ℕ) → Line → Message → (part : ℕ) → Packet

@@ -121,8 +121,8 @@ fn is_same_key(key: &Key, other: &Key) -> bool
     ensures { result ≡ same_key (plain_key key.now) (plain_key other.now) }
 {
     let is_of_source = key.source == other.source && key.kind == other.kind;
-    let is_of_line =
-        key.line.generation == other.line.generation && key.line.origin == other.line.origin;
+    let is_of_line = key.line.generation == other.line.generation
+        && key.line.origin == other.line.origin;
     let is_numbered = key.session == other.session && key.number == other.number;
     is_of_source && is_of_line && is_numbered && key.parts == other.parts
 }

@@ -18,8 +18,8 @@ returns c =
     let tested : c.is_whole.result ≡ all_came came = c.is_whole.ensures ∙ ap all_came c.deref.ensures.value in
     let held : held_of c.if-is_whole.held ≡ left_by (w.gathering p.target) p =
     elim c.if-is_whole.branch [
-      then-is_whole x ↦ ap held_of x.held-is ∙ left_whole (w.gathering p.target) p came c.is_whole.result is tested x.if-is_whole.true
-    | else-is_whole x ↦ ap held_of x.held-is ∙ left_part (w.gathering p.target) p came c.is_whole.result (plain_key x.key_of.result) is tested x.if-is_whole.false x.key_of.ensures
+      | then-is_whole x ↦ ap held_of x.held-is ∙ left_whole (w.gathering p.target) p came c.is_whole.result is tested x.if-is_whole.true
+      | else-is_whole x ↦ ap held_of x.held-is ∙ left_part (w.gathering p.target) p came c.is_whole.result (plain_key x.key_of.result) is tested x.if-is_whole.false x.key_of.ensures
     ] in
     ap (λ (g : ℕ → Option Gathering). let v : World = record w { gathering = g } in v)
     (seen-set (λ (x : Place). held_of x.held) None c.lengthen_places.new.places.items p.target (record { held = c.if-is_whole.held }) c.in_ok-lengthen_places.ensures.within
