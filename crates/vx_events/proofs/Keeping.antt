@@ -1,5 +1,5 @@
 -- What the events of sites without links keep.
-use Rattle.std.proofs.Common.{◌≡◌, ◌∙◌, ◌+◌, ℕ, Bool, true, false, ap, sym, subst, refl, length, List, [], ◌∷◌, ◌++◌}
+use Rattle.std.proofs.Common.{◌≡◌, ◌∙◌, ◌+◌, ℕ, Bool, true, false, ap, sym, refl, length, List, [], ◌∷◌, ◌++◌}
 use Rattle.std.specs.Prelude.{not, ◌||◌, leb, eqb, ltb, bytes_eq, Option, Some, None, if◌then◌else◌}
 use Rattle.vx_model.specs.Answer.{is_wrong_count, is_past, is_too_large}
 use Rattle.vx_model.specs.Content.{Write as WriteBlocks, blocks_in, blocks_from}
@@ -15,10 +15,10 @@ use Rattle.vx_model.specs.declared.site.Role.{Role}
 use Rattle.vx_model.specs.declared.site.Role.TheVariants.{Primary}
 use Rattle.vx_model.specs.declared.site.SiteState.{SiteState}
 use Rattle.vx_model.specs.declared.site.SiteState.TheVariants.{Bare, Up, Deported, Down}
-use Rattle.vx_history.proofs.Updates.{by_test, all_updated}
+use Rattle.vx_history.proofs.Updates.{all_updated}
 use Rattle.vx_history.specs.Admission.{Admitted, Held_by, Goes}
 use Rattle.vx_history.specs.Events.{admitted, written_if, put_in, links_changed, link_after, acknowledged, applied, applied_by, apply_at, reached_at, crash_at, crash_world, kept_of, lost_touch, recover_from, recovery, recovered_at, restarted_link, come_back, recovery_greeting}
-use Rattle.vx_history.specs.LinkForms.{with_plain, plain_receiver}
+use Rattle.vx_history.specs.LinkForms.{plain_receiver}
 use Rattle.vx_history.specs.Receiving.{Received, received_step}
 use Rattle.vx_history.specs.Refusals.{Outcome, says, unless, unless_halted, is_primary, some_below, at_site, at_work, on_volume}
 use Rattle.vx_history.specs.Sends.{is_linked, with_links, sending}

@@ -1,5 +1,5 @@
 -- What is said of an event that no test of its own refuses, and the world that it leaves.
-use Rattle.std.proofs.Common.{◌≡◌, ◌∙◌, ◌+◌, ◌<◌, ◌≤◌, ℕ, zero, suc, Bool, true, false, ap, sym, subst, refl, arith, length, List, [], ◌∷◌}
+use Rattle.std.proofs.Common.{◌≡◌, ◌∙◌, ◌+◌, ◌<◌, ◌≤◌, ℕ, zero, suc, Bool, true, false, ap, refl, arith, length, List, []}
 use Rattle.std.specs.Prelude.{not, ◌&&◌, ◌||◌, leb, ltb, eqb, min, max, Option, Some, None, bytes_eq, if◌then◌else◌}
 use Rattle.vx_model.specs.Answer.{is_too_large}
 use Rattle.vx_model.specs.Content.{Write as WriteBlocks, blocks_in, blocks_from}
@@ -12,15 +12,15 @@ use Rattle.vx_model.specs.declared.site.SiteState.{SiteState}
 use Rattle.vx_model.specs.declared.site.SiteState.TheVariants.{Bare, Up, Down}
 use Rattle.vx_history.proofs.Updates.{at_place}
 use Rattle.vx_history.specs.Admission.{Admitted, Goes, admit}
-use Rattle.vx_history.specs.Events.{admitted, written_if, put_in, links_changed, link_after, said_of_write, is_in_place, link_in_place, put_before, linked_sites, plain_links, uses, reached_at, apply_at, crash_at, kept_of, recover_from, recovery, recovered_at}
-use Rattle.vx_history.specs.Refusals.{Outcome, says, unless, unless_at_most, at_work, may_be_site, some_below, is_waited_for, waits, goes, refused}
+use Rattle.vx_history.specs.Events.{admitted, written_if, put_in, links_changed, link_after, said_of_write, is_in_place, link_in_place, put_before, linked_sites, plain_links, uses, reached_at, apply_at, crash_at, kept_of, recover_from, recovery}
+use Rattle.vx_history.specs.Refusals.{Outcome, says, unless, at_work, some_below, is_waited_for, waits, goes, refused}
 use Rattle.vx_history.specs.Sends.{is_made, is_linked}
 use Rattle.vx_history.specs.Step.{outcome_of, done, joined_blocks}
-use Rattle.vx_history.specs.Steps.{site_made, raw_made, written, half_written, session_begun, stopped_by}
+use Rattle.vx_history.specs.Steps.{site_made, raw_made, written, half_written, stopped_by}
 use Rattle.vx_history.specs.World.{Node, Link as LinkOf, World}
 use Rattle.vx_history.specs.declared.event.Event.TheVariants.{Site, Raw, Write, Read, Apply, Crash, Recover, Fault}
 use Rattle.vx_history.specs.declared.event.Said.{Said}
-use Rattle.vx_history.specs.declared.event.Said.TheVariants.{Done, DoneAt, Logged, Got, Recovered, Refused}
+use Rattle.vx_history.specs.declared.event.Said.TheVariants.{DoneAt, Logged, Got, Refused}
 use Rattle.vx_events.specs.Plain.{IsUnlinked}
 use Rattle.vx_events.proofs.Passing.{off, above, not_below, is_more, neither, is_site, is_at_work, IsCall, is_call, none_below}
 

@@ -1,47 +1,41 @@
 -- What the disks did of a line, as the events of the world.
-use Rattle.std.proofs.Common.{◌≡◌, ◌∙◌, ◌⊎◌, inl, inr, ◌+◌, ◌*◌, ◌<◌, ◌≤◌, ℕ, zero, suc, List, [], ◌∷◌, ◌++◌, length, take, Bool, true, false, ap, sym, subst, refl, arith, length-append, append-nil}
+use Rattle.std.proofs.Common.{◌≡◌, ◌∙◌, ◌⊎◌, inl, inr, ◌+◌, ◌<◌, ◌≤◌, ℕ, List, [], ◌∷◌, ◌++◌, length, take, ap, sym, subst, refl, arith, append-nil}
 use Rattle.std.proofs.lemmas.List.{length-take}
-use Rattle.std.specs.Prelude.{Option, Some, None, eqb, min, if◌then◌else◌}
-use Rattle.vx_model.specs.Content.{Write as WriteOf, blocks_in, blocks_from}
-use Rattle.vx_model.specs.Sites.{is_origin}
+use Rattle.std.specs.Prelude.{Some, None, eqb, if◌then◌else◌}
 use Rattle.vx_model.specs.declared.limits.TheConstants.{MOST_NUMBER}
 use Rattle.vx_model.specs.declared.no.Counted.TheVariants.{Number}
 use Rattle.vx_model.specs.declared.no.No.{No}
-use Rattle.vx_model.specs.declared.no.No.TheVariants.{Device, Limit, NoConfig, Down as IsOff}
+use Rattle.vx_model.specs.declared.no.No.TheVariants.{Device, Limit, NoConfig}
 use Rattle.vx_model.specs.declared.site.Role.{Role}
 use Rattle.vx_model.specs.declared.site.Role.TheVariants.{Primary, Secondary, Handing, Bunker}
 use Rattle.vx_model.specs.declared.site.SiteState.{SiteState}
-use Rattle.vx_model.specs.declared.site.SiteState.TheVariants.{Bare, Up, Deported, Down}
+use Rattle.vx_model.specs.declared.site.SiteState.TheVariants.{Up, Down}
 use Rattle.vx_history.proofs.Updates.{at_place}
-use Rattle.vx_history.specs.Events.{links_changed, crash_at, recovered_at, come_back, recovery, kept_of}
+use Rattle.vx_history.specs.Events.{crash_at, recovered_at, come_back}
 use Rattle.vx_history.specs.Refusals.{Outcome, says, refused}
 use Rattle.vx_history.specs.Step.{step, outcome_of, counted, run, done}
-use Rattle.vx_history.specs.Steps.{site_made, raw_made, raw_set, written, logged, half_written, half_begun, cut_write, crashed, crash_left, recovered, came_up, session_begun, stopped_by, worked_on, fused, burned}
-use Rattle.vx_history.specs.World.{Node, World, NoFuse, bare_site, updated, with_node}
+use Rattle.vx_history.specs.Steps.{site_made, raw_made, raw_set, crashed, recovered, came_up, session_begun}
+use Rattle.vx_history.specs.World.{Node, World, bare_site, updated, with_node}
 use Rattle.vx_history.specs.declared.event.Event.{Event}
-use Rattle.vx_history.specs.declared.event.Event.TheVariants.{Site as MakeSite, Raw as MakeRaw, Write as WriteAt, Read as ReadAt, Apply as ApplyAt, Crash as CrashAt, Recover as RecoverAt, Fault}
-use Rattle.vx_history.specs.declared.event.Said.TheVariants.{Done as IsDone', DoneAt as IsDoneAt, Got as HasGot, Recovered as IsRecovered, Refused as IsRefused'}
-use Rattle.vx_rvg.specs.Contents.{Shows}
+use Rattle.vx_history.specs.declared.event.Event.TheVariants.{Site as MakeSite, Raw as MakeRaw, Crash as CrashAt, Recover as RecoverAt}
+use Rattle.vx_history.specs.declared.event.Said.TheVariants.{Recovered as IsRecovered, Refused as IsRefused'}
 use Rattle.vx_script.specs.declared.line.ScriptLine.{ScriptLine}
-use Rattle.vx_script.specs.declared.line.ScriptLine.TheVariants.{Site, Raw, Crash, Recover, Apply}
-use Rattle.vx_events.specs.Ends.{Ends, AllDone, DiskFails, FuseRunsOut, NoNumber, Finds, FindsNone as FindsNothing, AppliesFound, Recovering, FromUp, FromDown, FromBare, noted, place_of, LeavesOf, IsNoDevice}
+use Rattle.vx_script.specs.declared.line.ScriptLine.TheVariants.{Site, Raw, Crash, Recover}
+use Rattle.vx_events.specs.Ends.{Ends, AllDone, DiskFails, NoNumber, Finds, FindsNone as FindsNothing, Recovering, FromUp, FromDown, FromBare, noted, LeavesOf, IsNoDevice}
 use Rattle.vx_events.specs.Facts.{site_number}
 use Rattle.vx_events.specs.Fails.{Fails}
 use Rattle.vx_events.specs.Found.{SameDisks}
-use Rattle.vx_events.specs.Fuses.{IsFused}
 use Rattle.vx_events.specs.Lists.{Choice, events_of, recovery_of}
 use Rattle.vx_events.specs.Plain.{IsUnlinked, ArePrimaries}
-use Rattle.vx_events.specs.Sayings.{Replies, RepeatsOf, Repeats, Gives}
+use Rattle.vx_events.specs.Sayings.{Replies, RepeatsOf}
 use Rattle.vx_events.specs.Stamps.{most_stamp}
 use Rattle.vx_events.specs.Views.{view_of}
 use Rattle.vx_events.specs.declared.said.Said.{Said}
-use Rattle.vx_events.specs.declared.said.Said.TheVariants.{Done, DoneAt, Got, Shown, Recovered, Refused}
-use Rattle.vx_events.proofs.Blocks.{shown_are}
-use Rattle.vx_events.proofs.Keeping.{AllSingle, run_unlinked, run_primaries, node_primary, same_links, crash_nodes_are, crash_sites, back_primary, read_stays}
-use Rattle.vx_events.proofs.Passing.{IsCall}
-use Rattle.vx_events.proofs.Steps.{site_step, raw_step, crash_step, kept_is, recover_step, bare_step, fault_step, read_step, CanPut, write_step, half_step, apply_step}
-use Rattle.vx_node.specs.Works.{Cleanly, FailsAt, Puts, IsPut, NoNumber as NoNumberLeft, PutFails, PutCut, Crashes, Begins, CrashesFirst, IsDown, Recovers, ComesUp, StaysDown, NoSession, FindsUp, FindsNone, IsBareStill, BareFails, BareUp, BareNone, Applies, IsApplied, ApplyFails, ApplyCut, Gets, OnlyFails}
-use Rattle.vx_node.proofs.Alike.{view_like, over, worked_over, burnt}
+use Rattle.vx_events.specs.declared.said.Said.TheVariants.{Done, Recovered, Refused}
+use Rattle.vx_events.proofs.Keeping.{run_unlinked, run_primaries, node_primary, same_links, crash_nodes_are, crash_sites, back_primary}
+use Rattle.vx_events.proofs.Steps.{crash_step, kept_is, recover_step, bare_step}
+use Rattle.vx_node.specs.Works.{Cleanly, FailsAt, Crashes, Begins, CrashesFirst, IsDown, Recovers, ComesUp, StaysDown, NoSession, FindsUp, FindsNone, IsBareStill, BareFails, BareUp, BareNone, OnlyFails}
+use Rattle.vx_node.proofs.Alike.{view_like}
 
 -- the events of a line came to this: a world with the nodes of the one that the yard stands for
 pub record Happens (told : Type 0) (w : World) (line : ScriptLine) (s : ℕ) (fails : Fails) (said : Said) (next : World) : Type 0 where

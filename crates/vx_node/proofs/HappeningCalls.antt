@@ -1,35 +1,32 @@
 -- What the disks did of a line that writes, reads or applies, as the events of the world.
-use Rattle.std.proofs.Common.{◌≡◌, ◌∙◌, ◌⊎◌, inl, inr, ◌+◌, ◌*◌, ◌<◌, ◌≤◌, ℕ, List, [], ◌∷◌, ◌++◌, length, Bool, true, false, ap, sym, subst, refl, arith, length-append}
+use Rattle.std.proofs.Common.{◌≡◌, ◌∙◌, ◌⊎◌, inl, inr, ◌+◌, ◌<◌, ◌≤◌, ℕ, List, [], ◌∷◌, ◌++◌, length, Bool, true, false, ap, sym, subst, refl, arith, length-append}
 use Rattle.std.specs.Prelude.{Some, None, min}
-use Rattle.vx_model.specs.Content.{Write as WriteOf, blocks_in, blocks_from}
+use Rattle.vx_model.specs.Content.{Write as WriteOf}
 use Rattle.vx_model.specs.Sites.{is_origin}
 use Rattle.vx_model.specs.declared.limits.TheConstants.{MOST_NUMBER}
 use Rattle.vx_model.specs.declared.no.Counted.TheVariants.{Number}
 use Rattle.vx_model.specs.declared.no.No.TheVariants.{Device, Limit, Down as IsOff}
 use Rattle.vx_model.specs.declared.site.Role.{Role}
-use Rattle.vx_model.specs.declared.site.Role.TheVariants.{Primary}
 use Rattle.vx_model.specs.declared.site.SiteState.TheVariants.{Up}
 use Rattle.vx_history.proofs.Updates.{at_place}
 use Rattle.vx_history.specs.Events.{links_changed, crash_at}
 use Rattle.vx_history.specs.Refusals.{Outcome, says}
-use Rattle.vx_history.specs.Step.{step, outcome_of, counted, run, done as says_done}
-use Rattle.vx_history.specs.Steps.{written, logged, half_written, half_begun, cut_write, crashed, crash_left, stopped_by, worked_on, burned}
+use Rattle.vx_history.specs.Step.{step, counted, run, done as says_done}
+use Rattle.vx_history.specs.Steps.{written, logged, half_written, half_begun, crashed, stopped_by, worked_on, burned}
 use Rattle.vx_history.specs.World.{Node, World, updated}
 use Rattle.vx_history.specs.declared.event.Event.{Event}
 use Rattle.vx_history.specs.declared.event.Event.TheVariants.{Write as WriteAt, Read as ReadAt, Apply as ApplyAt, Crash as CrashAt, Fault}
 use Rattle.vx_history.specs.declared.event.Said.TheVariants.{DoneAt as IsDoneAt, Got as HasGot, Refused as IsRefused}
 use Rattle.vx_script.specs.declared.line.ScriptLine.{ScriptLine}
 use Rattle.vx_script.specs.declared.line.ScriptLine.TheVariants.{Apply}
-use Rattle.vx_events.specs.Ends.{Ends, DiskFails, FuseRunsOut, NoNumber, AppliesFound, noted}
+use Rattle.vx_events.specs.Ends.{DiskFails, FuseRunsOut, NoNumber, AppliesFound, noted}
 use Rattle.vx_events.specs.Facts.{site_number}
 use Rattle.vx_events.specs.Fails.{Fails}
-use Rattle.vx_events.specs.Fuses.{IsExact}
 use Rattle.vx_events.specs.Lines.{IsCutBelow}
 use Rattle.vx_events.specs.Lists.{Choice, events_of}
 use Rattle.vx_events.specs.Plain.{IsUnlinked, ArePrimaries}
-use Rattle.vx_events.specs.Stamps.{most_stamp}
 use Rattle.vx_events.specs.declared.said.Said.{Said}
-use Rattle.vx_events.specs.declared.said.Said.TheVariants.{Done, DoneAt, Got, Shown, Recovered, Refused}
+use Rattle.vx_events.specs.declared.said.Said.TheVariants.{DoneAt, Refused}
 use Rattle.vx_events.proofs.Blocks.{shown_are}
 use Rattle.vx_events.proofs.Keeping.{run_unlinked, run_primaries, node_primary, same_links, crash_nodes_are, crash_sites, read_stays}
 use Rattle.vx_events.proofs.Passing.{IsCall}
