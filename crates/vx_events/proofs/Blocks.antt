@@ -1,5 +1,5 @@
 -- Bytes that show blocks of a content are these blocks, one after another.
-use Rattle.std.proofs.Common.{◌≡◌, ◌∙◌, ◌+◌, ◌*◌, ◌<◌, ◌≤◌, ℕ, zero, suc, List, [], ◌∷◌, ◌++◌, length, take, drop, ap, sym, refl, arith, take-append-drop}
+use Rattle.std.proofs.Common.{◌≡◌, ◌∙◌, ◌+◌, ◌*◌, ◌<◌, ℕ, zero, suc, List, ◌++◌, length, drop, ap, sym, arith, take-append-drop}
 use Rattle.std.proofs.lemmas.List.{drop-drop, drop_all}
 use Rattle.vx_model.specs.Content.{Content, block_of, blocks_from}
 use Rattle.vx_history.specs.Step.{joined_blocks}

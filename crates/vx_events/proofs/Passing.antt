@@ -1,6 +1,6 @@
 -- Tests of an event that do not hold.
-use Rattle.std.proofs.Common.{◌≡◌, ◌∙◌, ◌+◌, ◌<◌, ◌≤◌, ℕ, zero, suc, Bool, true, false, ap, refl, arith, length, List, [], ◌∷◌}
-use Rattle.std.specs.Prelude.{not, ◌&&◌, ◌||◌, leb, ltb, eqb, Option, Some, None}
+use Rattle.std.proofs.Common.{◌≡◌, ◌∙◌, ◌+◌, ◌<◌, ◌≤◌, ℕ, zero, suc, Bool, false, ap, refl, arith, length}
+use Rattle.std.specs.Prelude.{not, ◌||◌, leb, ltb, eqb, Option, None}
 use Rattle.std.proofs.lemmas.Bool.Decides.{nat_tests}
 use Rattle.vx_model.specs.Answer.{is_wrong_count, is_past}
 use Rattle.vx_model.specs.Sites.{is_up, is_bare}

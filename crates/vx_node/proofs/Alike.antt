@@ -1,6 +1,6 @@
 -- Worlds with the same sites and nodes are the same to a yard.
-use Rattle.std.proofs.Common.{◌≡◌, ◌∙◌, ◌+◌, ◌<◌, ◌≤◌, ℕ, zero, suc, List, [], ◌∷◌, length, Bool, true, false, ap, sym, subst, refl, arith, IsTrue}
-use Rattle.std.specs.Prelude.{Option, Some, None, slice_get, eqb, nat_lt, if◌then◌else◌}
+use Rattle.std.proofs.Common.{◌≡◌, ◌∙◌, ◌+◌, ℕ, zero, suc, ◌∷◌, ap, sym, subst, refl, arith}
+use Rattle.std.specs.Prelude.{Option, Some, eqb, nat_lt, if◌then◌else◌}
 use Rattle.vx_history.proofs.Updates.{by_test, all_updated, at_place, eqb_equal}
 use Rattle.vx_history.specs.Steps.{burned, worked_on}
 use Rattle.vx_history.specs.World.{Node, World, Fuse, NoFuse, FuseSet, FuseLit, empty_world, updated}
@@ -11,12 +11,10 @@ use Rattle.vx_model.specs.declared.site.SiteState.TheVariants.{Bare, Up, Deporte
 use Rattle.vx_disk.specs.declared.shelf.Shelf.{Ghosts}
 use Rattle.vx_report.specs.declared.view.RvgView.{RvgView}
 use Rattle.vx_report.specs.declared.view.SiteView.{SiteView}
-use Rattle.vx_order.specs.declared.facts.SiteFacts.{SiteFacts}
 use Rattle.vx_events.specs.Facts.{site_fact, facts_of, values_from}
 use Rattle.vx_events.specs.Views.{name_of, group_view, group_shown, view_of}
-use Rattle.vx_events.specs.Plain.{IsUnlinked, ArePrimaries}
 use Rattle.vx_node.specs.declared.yard.Yard.{Yard}
-use Rattle.vx_node.specs.Stands.{EnginesStand, StandsAt}
+use Rattle.vx_node.specs.Stands.{StandsAt}
 use Rattle.vx_node.specs.Yards.{YardAgrees, YardStands}
 
 values_same : {A : Type 0} (f g : ℕ → A) (k n : ℕ) → ((i : ℕ) → f i ≡ g i) → values_from f k n ≡ values_from g k n

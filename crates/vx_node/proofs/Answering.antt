@@ -9,7 +9,7 @@ use Rattle.vx_script.specs.declared.line.ScriptLine.{ScriptLine}
 use Rattle.vx_events.specs.declared.said.Said.{Said}
 use Rattle.vx_node.specs.declared.yard.Yard.{Yard}
 use Rattle.vx_node.specs.Works.{WorksBy}
-use Rattle.vx_node.specs.Working.{WorkIs, Answered, AnswerIs, IsFree}
+use Rattle.vx_node.specs.Working.{WorkIs, AnswerIs, IsFree}
 use Rattle.vx_node.specs.Yards.{YardAgrees, IsTold, in_files}
 
 module _ {R : Type 0} {g : Ghosts R} where

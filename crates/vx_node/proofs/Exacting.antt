@@ -1,6 +1,6 @@
 -- How many calls a write is in a log that began empty and did not go round.
-use Rattle.std.proofs.Common.{◌≡◌, ◌∙◌, ◌+◌, ◌-◌, ◌<◌, ◌≤◌, ℕ, zero, suc, List, [], ◌∷◌, ◌++◌, length, ap, sym, subst, refl, arith, IsTrue}
-use Rattle.std.specs.Prelude.{◌%◌, Option, Some, None, Result, Ok, Err, OnOk, IsFalse}
+use Rattle.std.proofs.Common.{◌≡◌, ◌∙◌, ◌+◌, ◌<◌, ◌≤◌, ℕ, List, [], ◌∷◌, ◌++◌, length, ap, sym, subst, arith, IsTrue}
+use Rattle.std.specs.Prelude.{◌%◌, Option, Some, None, Result, Ok, Err, OnOk}
 use Rattle.std.proofs.lemmas.List.{append-nil}
 use Rattle.std.proofs.Math.Nat.{mod-eq_of_lt}
 use Rattle.vx_model.specs.Content.{Write, blocks_in}
@@ -12,7 +12,7 @@ use Rattle.vx_disk.specs.Shelf.{Meaning}
 use Rattle.vx_disk.specs.declared.shelf.Shelf.{Ghosts}
 use Rattle.vx_rvg.specs.declared.group.Rvg.{Rvg}
 use Rattle.vx_disk.specs.Burns.{FewerLeft, MakesCalls, IsShort, RackIsShort, FallsShort}
-use Rattle.vx_srl.specs.Views.{Log, BodyFits, all_of, end_of, free_of, kept_of, place_after, widths}
+use Rattle.vx_srl.specs.Views.{Log, BodyFits, all_of, end_of, free_of, kept_of, widths}
 use Rattle.vx_srl.specs.declared.kept.Kept.{Kept}
 use Rattle.vx_srl.proofs.LogLists.{place_sum}
 use Rattle.vx_srl.proofs.Shared_S1.{widths_append}

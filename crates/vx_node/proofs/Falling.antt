@@ -1,6 +1,6 @@
 -- What a line comes to that crashes a site, or that applies what is logged.
-use Rattle.std.proofs.Common.{◌≡◌, ◌∙◌, ◌+◌, ◌-◌, ◌<◌, ◌≤◌, ℕ, List, [], ◌∷◌, length, ap, sym, subst, refl, arith}
-use Rattle.std.specs.Prelude.{min, Option, Some, None, slice_get, slice_set, Result, Ok, Err}
+use Rattle.std.proofs.Common.{◌≡◌, ◌∙◌, ◌+◌, ◌<◌, ℕ, List, [], ◌∷◌, ap, sym, subst, refl, arith}
+use Rattle.std.specs.Prelude.{Some, None, slice_get, slice_set, Ok, Err}
 use Rattle.vx_history.specs.World.{Node, World, Fuse, updated}
 use Rattle.vx_history.specs.Steps.{crashed, crash_left, stopped_by, worked_on, burned}
 use Rattle.vx_model.specs.declared.no.No.{No}
@@ -18,19 +18,20 @@ use Rattle.vx_events.specs.declared.said.Said.TheVariants.{Done, DoneAt, Refused
 use Rattle.vx_node.specs.declared.yard.Yard.{Yard}
 use Rattle.vx_node.specs.Changes.{down_facts, halted_facts, halted_group}
 use Rattle.vx_node.specs.Engines.{Later, CrashedAt, CanApply, AppliedAt, halted_at, worked}
-use Rattle.vx_events.specs.Facts.{site_fact, group_fact, group_by, facts_of, seat_of, site_number}
+use Rattle.vx_events.specs.Facts.{site_fact, group_fact, group_by, facts_of, seat_of}
 use Rattle.vx_node.specs.Rising.{Fell}
 use Rattle.vx_node.specs.Stands.{EnginesStand, StandsAt, RoseAll, faults_of}
-use Rattle.vx_node.specs.Works.{Crashes, Applies, IsApplied, ApplyFails, ApplyCut, Cleanly}
+use Rattle.vx_node.specs.Works.{Crashes, Applies, IsApplied, ApplyFails, ApplyCut}
 use Rattle.vx_node.specs.Working.{Worked, IsFree}
 use Rattle.vx_node.specs.Writes.{noted_facts}
 use Rattle.vx_node.specs.Yards.{YardAgrees, in_files, count_of}
 use Rattle.vx_node.proofs.Changing.{facts-updated, rose_none, rose_one, counts_later, counts_rose, engines_set}
 use Rattle.vx_node.proofs.Lists.{set_twice, set_same}
-use Rattle.vx_node.proofs.Refused.{Named, crash_may, apply_may}
-use Rattle.vx_node.proofs.Seats.{Seated, seated, named_fact, some_same}
+use Rattle.vx_events.proofs.Refused.{crash_may, apply_may}
+use Rattle.vx_events.proofs.Places.{some_same}
+use Rattle.vx_node.proofs.Seats.{Seated, seated, named_fact}
 use Rattle.vx_node.proofs.Sites.{stands_new}
-use Rattle.vx_node.proofs.Values.{length-values_from, slice_get-values_from}
+use Rattle.vx_events.proofs.Values.{slice_get-values_from}
 
 -- what the tests found of the site lets its log be applied
 can_apply : (n : Node) (f : SiteFacts) → f ≡ site_fact n → f.state ≡ IsUp → ((rvg : RvgFacts) → f.rvg ≡ Some rvg → rvg.halted ≡ None) → CanApply n

@@ -1,5 +1,5 @@
 -- What a recovery of a bare site comes to.
-use Rattle.std.proofs.Common.{◌≡◌, ◌∙◌, ◌+◌, ◌-◌, ◌<◌, ◌≤◌, ◌⊎◌, ℕ, List, [], ◌∷◌, length, ap, sym, subst, refl, arith}
+use Rattle.std.proofs.Common.{◌≡◌, ◌∙◌, ◌-◌, ◌<◌, ◌≤◌, ℕ, List, [], ◌∷◌, ap, sym, subst, refl, arith}
 use Rattle.std.specs.Prelude.{Some, slice_get, slice_set, map, Result, Ok, Err}
 use Rattle.std.proofs.lemmas.Option.{slice_get_within}
 use Rattle.vx_history.proofs.Updates.{at_place}
@@ -9,7 +9,7 @@ use Rattle.vx_history.specs.World.{Node, World, with_node}
 use Rattle.vx_model.specs.declared.errors.OutOfMemory.{OutOfMemory}
 use Rattle.vx_model.specs.declared.no.No.{No}
 use Rattle.vx_model.specs.declared.no.No.TheVariants.{Device, NoConfig}
-use Rattle.vx_model.specs.declared.site.SiteState.TheVariants.{Bare as IsBare, Up as IsUp}
+use Rattle.vx_model.specs.declared.site.SiteState.TheVariants.{Bare as IsBare}
 use Rattle.vx_disk.specs.declared.shelf.Shelf.{Ghosts}
 use Rattle.vx_order.specs.declared.facts.SiteFacts.{SiteFacts}
 use Rattle.vx_order.specs.declared.facts.VolumeFacts.{VolumeFacts}
@@ -21,22 +21,23 @@ use Rattle.vx_events.specs.declared.said.Said.{Said}
 use Rattle.vx_events.specs.declared.said.Said.TheVariants.{Recovered, Refused}
 use Rattle.vx_node.specs.declared.yard.Yard.{Yard}
 use Rattle.vx_node.specs.Changes.{raw_facts, up_facts}
-use Rattle.vx_node.specs.Engines.{Later, RoseAt, BareUp, BareUpIs}
+use Rattle.vx_node.specs.Engines.{Later, BareUp, BareUpIs}
 use Rattle.vx_events.specs.Found.{SameDisks}
 use Rattle.vx_events.specs.Facts.{site_fact, volume_fact, seat_of}
 use Rattle.vx_events.specs.Views.{view_of}
 use Rattle.vx_node.specs.Holds.{state_of}
 use Rattle.vx_node.specs.Rising.{NotesUp, Recovering, Finding}
-use Rattle.vx_node.specs.Stands.{EnginesStand, StandsAt, IsToldAt, RoseAll, faults_of}
-use Rattle.vx_node.specs.Works.{Recovers, IsBareStill, BareFails, BareUp as RisesBare, BareNone}
-use Rattle.vx_node.specs.Working.{WorkIs, Worked}
+use Rattle.vx_node.specs.Stands.{EnginesStand, StandsAt, RoseAll, faults_of}
+use Rattle.vx_node.specs.Works.{IsBareStill, BareFails, BareUp as RisesBare, BareNone}
+use Rattle.vx_node.specs.Working.{WorkIs}
 use Rattle.vx_node.specs.Yards.{YardAgrees, StaysAgreed, count_of}
 use Rattle.vx_node.proofs.Changing.{engines_same, rose_none, rose_one, counts_later, counts_rose}
 use Rattle.vx_node.proofs.Falling.{fact_there, stands_set, rose_still}
 use Rattle.vx_node.proofs.Lists.{get-set_same, set_twice}
 use Rattle.vx_node.proofs.Raws.{bare_parts, raw_fact_of}
 use Rattle.vx_node.proofs.Rising.{not_all, recover_worked, up_fact, up_parts}
-use Rattle.vx_node.proofs.Seats.{seated, some_same}
+use Rattle.vx_events.proofs.Places.{some_same}
+use Rattle.vx_node.proofs.Seats.{seated}
 use Rattle.vx_node.proofs.Sites.{stands_new}
 
 -- the number of a site says nothing of its disks

@@ -1,11 +1,10 @@
 -- What a write leaves of a site that is up.
-use Rattle.std.proofs.Common.{◌≡◌, ◌∙◌, ◌+◌, ◌-◌, ◌<◌, ◌≤◌, ℕ, zero, suc, List, [], ◌∷◌, ◌++◌, length, take, drop, ap, sym, subst, refl, arith, IsTrue, length-append}
+use Rattle.std.proofs.Common.{◌≡◌, ◌∙◌, ◌+◌, ◌<◌, ◌≤◌, ℕ, suc, List, [], ◌∷◌, ◌++◌, length, take, drop, ap, sym, subst, refl, arith, IsTrue, length-append}
 use Rattle.std.specs.Prelude.{Some, None}
 use Rattle.std.proofs.lemmas.List.{take-append-le, take_all}
-use Rattle.vx_model.specs.Content.{Content, Write, put, fold_writes}
+use Rattle.vx_model.specs.Content.{Write, put, fold_writes}
 use Rattle.vx_history.specs.World.{Node}
 use Rattle.vx_history.specs.Steps.{logged, half_begun, burned}
-use Rattle.vx_model.specs.declared.state.State.{State}
 use Rattle.vx_model.specs.declared.state.KeptLink.{KeptLink}
 use Rattle.vx_srlfmt.specs.declared.header.Header.{Header}
 use Rattle.vx_disk.specs.Shelf.{Meaning, Image, Lawful}

@@ -23,7 +23,6 @@ pub mod News
 pub mod Raws
 pub mod Readings
 pub mod Recovering
-pub mod Refused
 pub mod Replies
 pub mod Rising
 pub mod Rooming
@@ -33,5 +32,4 @@ pub mod Sites
 pub mod Statuses
 pub mod Staying
 pub mod Tables
-pub mod Values
 pub mod Writing

@@ -1,6 +1,6 @@
 -- What a write of a site whose log has room answers.
-use Rattle.std.proofs.Common.{◌≡◌, ◌∙◌, ◌⊎◌, inl, inr, ⊎_elim, ◌+◌, ◌-◌, ◌<◌, ◌≤◌, ℕ, Bool, true, false, List, [], ◌∷◌, ◌++◌, length, ap, sym, subst, refl, arith, IsTrue, length-append}
-use Rattle.std.specs.Prelude.{IsFalse, Option, Some, None, Result, Ok, Err, OnOk, IsSome, leb, ltb, ◌&&◌, ◌||◌, if◌then◌else◌}
+use Rattle.std.proofs.Common.{◌≡◌, ◌∙◌, ⊎_elim, ◌+◌, ◌-◌, ◌<◌, ◌≤◌, ℕ, Bool, true, false, List, [], ◌∷◌, ◌++◌, length, ap, sym, subst, refl, arith, IsTrue, length-append}
+use Rattle.std.specs.Prelude.{IsFalse, Option, Some, None, Result, Ok, Err, OnOk, IsSome, leb, ltb, if◌then◌else◌}
 use Rattle.std.proofs.lemmas.Bool.Decides.{nat_tests}
 use Rattle.vx_model.specs.Answer.{is_too_large}
 use Rattle.vx_model.specs.Content.{Write, blocks_in}
@@ -16,14 +16,13 @@ use Rattle.vx_disk.specs.Shelf.{Meaning, Image, Lawful}
 use Rattle.vx_disk.specs.Moves.{Moves, Run}
 use Rattle.vx_disk.specs.declared.shelf.Shelf.{Ghosts}
 use Rattle.vx_rvg.specs.declared.group.Rvg.{Rvg}
-use Rattle.vx_node.specs.declared.engine.Engine.{Engine}
 use Rattle.vx_node.specs.declared.engine.Engine.TheVariants.{Up}
-use Rattle.vx_rvg.specs.Groups.{Fails, Ended, unless_halted, write_refusal, WriteIs, Writes, with_write}
+use Rattle.vx_rvg.specs.Groups.{unless_halted, write_refusal, WriteIs, Writes, with_write}
 use Rattle.vx_rvg.specs.Holdings.{Holding, with_writes}
 use Rattle.vx_rvg.specs.Stands.{Writing, Stands}
 use Rattle.vx_rvg.specs.Views.{Core, IsSound, last_of, unit_of}
 use Rattle.vx_node.specs.Engines.{CanWrite, WroteUp, halted_with, worked, no_number}
-use Rattle.vx_node.specs.Holds.{HasWrites, raw_units}
+use Rattle.vx_node.specs.Holds.{HasWrites}
 use Rattle.vx_events.specs.Stamps.{most_stamp}
 use Rattle.vx_node.specs.Rooms.{IsRoomy, RoomIs}
 use Rattle.vx_node.specs.Fuses.{HasFuse, IsFirst}
@@ -34,8 +33,8 @@ use Rattle.vx_node.proofs.Exacting.{first_pushed, taken_many, taken_push}
 use Rattle.vx_node.proofs.Founds.{has_begun, half_begins, has_half, has_whole, has_safe, half_of, up_half, up_logged}
 use Rattle.vx_node.proofs.Lasts.{stands_with, write_with, writing_found}
 use Rattle.vx_node.proofs.Rooming.{rose_later}
-use Rattle.vx_node.proofs.Staying.{told_now, up_worked, never_both, left_moved, fitted_moved, fused_by, fuse_moved, burned_twice, fused_before, SameLog}
-use Rattle.vx_node.proofs.Values.{slice_index-values_from}
+use Rattle.vx_node.proofs.Staying.{told_now, up_worked, never_both, left_moved, fitted_moved, fused_by, fuse_moved, burned_twice, fused_before}
+use Rattle.vx_events.proofs.Values.{slice_index-values_from}
 
 -- what a write answers of a site
 abbrev pub WroteAs : Node → Write → Meaning → Core → Meaning → Result ℕ No → Type 0

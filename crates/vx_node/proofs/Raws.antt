@@ -32,8 +32,9 @@ use Rattle.vx_node.specs.Working.{WorkIs, Worked, IsFree}
 use Rattle.vx_node.specs.Yards.{YardAgrees, in_files, count_of}
 use Rattle.vx_node.proofs.Changing.{facts-updated, rose_none, rose_one, counts_later, counts_rose, engines_set, engines_same, told_before}
 use Rattle.vx_node.proofs.Lists.{set_twice}
-use Rattle.vx_node.proofs.Refused.{raw_may}
-use Rattle.vx_node.proofs.Seats.{Seated, seated, named_fact, some_same}
+use Rattle.vx_events.proofs.Refused.{raw_may}
+use Rattle.vx_events.proofs.Places.{some_same}
+use Rattle.vx_node.proofs.Seats.{Seated, seated, named_fact}
 use Rattle.vx_node.proofs.Sites.{stands_new}
 
 raw_fact_by : (site : ℕ) (n : Node) (parent : Line) (low : ℕ) → n.parent ≡ parent → n.low ≡ low → parent ≡ no_line → low ≡ 1

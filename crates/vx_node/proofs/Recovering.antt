@@ -1,5 +1,5 @@
 -- What the start of a site that crashed leaves of it.
-use Rattle.std.proofs.Common.{◌≡◌, ◌⊎◌, inl, inr, ⊎_elim, ℕ, ◌+◌, ◌-◌, ◌*◌, ◌<◌, ◌≤◌, Bool, true, false, List, [], length, replicate, take, drop, Option, None, IsTrue, refl, sym, ◌∙◌, ap, subst, arith}
+use Rattle.std.proofs.Common.{◌≡◌, ◌⊎◌, inl, inr, ⊎_elim, ℕ, ◌+◌, ◌<◌, ◌≤◌, Bool, true, false, List, [], length, replicate, Option, None, IsTrue, refl, sym, ◌∙◌, ap, subst, arith}
 use Rattle.std.proofs.lemmas.List.{length-replicate}
 use Rattle.std.specs.Prelude.{IsFalse}
 use Rattle.vx_model.specs.Content.{Content, Write}
@@ -11,7 +11,6 @@ use Rattle.vx_model.specs.declared.no.No.{No}
 use Rattle.vx_model.specs.declared.no.No.TheVariants.{Device, Limit, NoConfig, Damaged, Down as IsOff}
 use Rattle.vx_model.specs.declared.site.SiteState.TheVariants.{Bare as IsBare, Up as IsUp, Down as IsDown}
 use Rattle.vx_model.specs.declared.state.State.{State}
-use Rattle.vx_model.specs.declared.state.KeptLink.{KeptLink}
 use Rattle.vx_model.specs.declared.units.Units.{Units}
 use Rattle.vx_disk.specs.Counts.{Rose}
 use Rattle.vx_disk.specs.Moves.{Moves, Run}
@@ -33,7 +32,7 @@ use Rattle.vx_node.specs.declared.engine.Engine.TheVariants.{Bare, Spoiled, Up, 
 use Rattle.vx_node.proofs.Engines.{placed_raw}
 use Rattle.vx_node.specs.Engines.{CanStart, CameUp, CameUpIs, no_number}
 use Rattle.vx_events.specs.Found.{SameDisks}
-use Rattle.vx_node.specs.Holds.{HasWrites, raw_units, state_of, state_with}
+use Rattle.vx_node.specs.Holds.{HasWrites, raw_units, state_of}
 use Rattle.vx_events.specs.Stamps.{most_stamp}
 use Rattle.vx_node.specs.Fuses.{HasFuse}
 use Rattle.vx_node.specs.Stands.{IsUpAt, IsDownAt, StandsAt, faults_at}
@@ -293,12 +292,15 @@ module _ (n : Node) (m up new last : Meaning) (is : IsDownAt n m) (alike : Alike
       (left_with (raw_units n.disks) (ring_in (raw_units n.disks) up) (state_of n) n.session (most_stamp n) n.log n.base up i.0 lawful was (left_here tells)))))
       (λ starting. ⊎_elim
       (λ old. inl (down_with n.session begun_here (λ _. at n.session (most_stamp n) i.0 i.1 (record { held = (left_here tells).held; has = (left_here tells).has; found = old }))))
-      (λ next. inr ((down_with (n.session + 1) (λ _. omega arith) (λ _. at (n.session + 1) (most_stamp (record n { session = n.session + 1 })) i.0 i.1
-      (record {
-        held = (left_here tells).held;
-        has = (left_here tells).has;
-        found = found_below (raw_units n.disks) (ring_in (raw_units n.disks) up) (state_of n) (n.session + 1) (most_stamp n + 3) (most_stamp (record n { session = n.session + 1 })) i.0 (left_here tells).held (omega arith) next;
-      }))), next_below n.session refl (header_below (raw_units n.disks) (ring_in (raw_units n.disks) up) (state_of n) (n.session + 1) (most_stamp n + 3) i.0 (left_here tells).held next)))
+      (λ next. inr (
+        (down_with (n.session + 1) (λ _. omega arith) (λ _. at (n.session + 1) (most_stamp (record n { session = n.session + 1 })) i.0 i.1
+            (record {
+              held = (left_here tells).held;
+              has = (left_here tells).has;
+              found = found_below (raw_units n.disks) (ring_in (raw_units n.disks) up) (state_of n) (n.session + 1) (most_stamp n + 3) (most_stamp (record n { session = n.session + 1 })) i.0 (left_here tells).held (omega arith) next;
+            }))),
+        next_below n.session refl (header_below (raw_units n.disks) (ring_in (raw_units n.disks) up) (state_of n) (n.session + 1) (most_stamp n + 3) i.0 (left_here tells).held next),
+      ))
       (starting.each (state_of n) n.session (most_stamp n) (left_here tells).held (left_here tells).left))
       (left_moved (Run (raw_units n.disks).srl 0 (ring_in (raw_units n.disks) up + 2)) (Starting (raw_units n.disks) up) up new i.0 lawful after moves (stopped.now i.0 i.1))
     where

@@ -1,13 +1,12 @@
 -- What a line comes to that recovers a site.
-use Rattle.std.proofs.Common.{◌≡◌, ◌⊎◌, inl, inr, ⊎_elim, ◌∙◌, ◌+◌, ◌-◌, ◌<◌, ◌≤◌, ℕ, zero, suc, Bool, true, false, List, [], ◌∷◌, length, ap, sym, subst, refl, arith, IsTrue}
-use Rattle.std.specs.Prelude.{min, map, Option, Some, None, slice_get, slice_set, Result, Ok, Err}
+use Rattle.std.proofs.Common.{◌≡◌, ◌⊎◌, inl, inr, ◌∙◌, ◌+◌, ◌<◌, ◌≤◌, ℕ, zero, suc, Bool, true, false, List, [], ◌∷◌, length, ap, sym, subst, refl, arith, IsTrue}
+use Rattle.std.specs.Prelude.{map, Some, slice_get, slice_set, Result, Ok, Err}
 use Rattle.std.proofs.lemmas.Option.{slice_get_within}
-use Rattle.vx_history.specs.World.{Node, World, bare_site, updated, with_node}
-use Rattle.vx_history.specs.Steps.{recovered, came_up, session_begun, crash_left, crashed}
+use Rattle.vx_history.specs.World.{Node, World, with_node}
+use Rattle.vx_history.specs.Steps.{recovered, came_up, session_begun, crashed}
 use Rattle.vx_model.specs.Sizes.{ring_of}
 use Rattle.vx_model.specs.declared.no.No.{No}
-use Rattle.vx_model.specs.declared.no.No.TheVariants.{Device, Limit, NoConfig}
-use Rattle.vx_model.specs.declared.no.Counted.TheVariants.{Number}
+use Rattle.vx_model.specs.declared.no.No.TheVariants.{Device, Limit}
 use Rattle.vx_model.specs.declared.state.State.{State}
 use Rattle.vx_model.specs.declared.site.SiteState.{SiteState}
 use Rattle.vx_model.specs.declared.site.SiteState.TheVariants.{Bare as IsBare, Up as IsUp, Deported, Down as IsDown}
@@ -26,23 +25,23 @@ use Rattle.vx_node.specs.declared.yard.Yard.{Yard}
 use Rattle.vx_node.specs.Changes.{up_facts}
 use Rattle.vx_node.specs.Engines.{Later, RoseAt, CameUp, CameUpIs, StillDown, no_number}
 use Rattle.vx_events.specs.Found.{SameDisks}
-use Rattle.vx_events.specs.Facts.{site_fact, group_fact, group_by, volume_fact, facts_of, seat_of, site_number}
+use Rattle.vx_events.specs.Facts.{site_fact, group_fact, group_by, volume_fact, seat_of}
 use Rattle.vx_node.specs.Holds.{state_of, state_with}
 use Rattle.vx_events.specs.Stamps.{most_stamp}
 use Rattle.vx_node.specs.Rising.{Fell, NotedUp, NotesUp, Recovering}
 use Rattle.vx_node.specs.Stands.{EnginesStand, StandsAt, IsToldAt, AreTold, RoseAll, RoseBy, times, faults_of}
-use Rattle.vx_node.specs.Works.{Crashes, Begins, CrashesFirst, IsDown as DownBefore, Recovers, ComesUp, StaysDown, NoSession, FindsUp, FindsNone, FailsAt}
+use Rattle.vx_node.specs.Works.{Begins, CrashesFirst, IsDown as DownBefore, Recovers, ComesUp, StaysDown, NoSession, FindsUp, FindsNone}
 use Rattle.vx_events.specs.Ends.{IsNoDevice}
 use Rattle.vx_events.specs.Fails.{Fails}
 use Rattle.vx_events.specs.Views.{view_of}
-use Rattle.vx_node.specs.Working.{Worked, IsFree}
-use Rattle.vx_node.specs.Yards.{YardAgrees, IsTold, in_files, count_of}
-use Rattle.vx_node.proofs.Changing.{engines_same, rose_none, rose_one, counts_later, counts_rose}
+use Rattle.vx_node.specs.Working.{Worked}
+use Rattle.vx_node.specs.Yards.{YardAgrees, IsTold, count_of}
+use Rattle.vx_node.proofs.Changing.{engines_same, rose_one, counts_later, counts_rose}
 use Rattle.vx_node.proofs.Falling.{fact_there, stands_set, rose_still}
 use Rattle.vx_node.proofs.Lists.{set_twice, get-set_same}
-use Rattle.vx_node.proofs.Refused.{recover_may}
 use Rattle.vx_node.proofs.Sites.{stands_new}
-use Rattle.vx_node.proofs.Seats.{Seated, seated, some_same}
+use Rattle.vx_events.proofs.Places.{some_same}
+use Rattle.vx_node.proofs.Seats.{seated}
 
 -- ---- what the tests see of a site that came up
 

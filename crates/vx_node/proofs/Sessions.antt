@@ -1,5 +1,5 @@
 -- No session that stands on a disk goes past its limit: a header has no place for it.
-use Rattle.std.proofs.Common.{◌≡◌, ◌∙◌, ◌⊎◌, ⊎_elim, ◌+◌, ◌<◌, ◌≤◌, ◌^◌, ℕ, Bool, true, false, List, ap, sym, subst, refl, arith}
+use Rattle.std.proofs.Common.{◌≡◌, ⊎_elim, ◌+◌, ◌<◌, ◌^◌, ℕ, Bool, true, false, List, subst, arith}
 use Rattle.std.specs.Prelude.{nat_lt, if◌then◌else◌}
 use Rattle.vx_model.specs.Content.{Content, Write}
 use Rattle.vx_model.specs.declared.state.State.{State}

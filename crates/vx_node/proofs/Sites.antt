@@ -25,8 +25,8 @@ use Rattle.vx_node.specs.Stands.{EnginesStand, StandsAt, IsUnused, RoseAll, faul
 use Rattle.vx_node.specs.Working.{WorkIs, Worked, IsFree}
 use Rattle.vx_node.specs.Yards.{YardAgrees, in_files, count_of}
 use Rattle.vx_node.proofs.Changing.{facts-made, rose_none, rose_one, counts_later, counts_rose, engines_made, engines_unused}
-use Rattle.vx_node.proofs.Refused.{SiteMay, site_may}
-use Rattle.vx_node.proofs.Values.{length-values_from}
+use Rattle.vx_events.proofs.Refused.{SiteMay, site_may}
+use Rattle.vx_events.proofs.Values.{length-values_from}
 
 most_same : {T : Type 0} (dir : Option T) (files : Bool) → is_some dir ≡ files → most_blocks dir ≡ most_of files
 most_same None true e = absurd (cc)

@@ -22,8 +22,9 @@ use Rattle.vx_events.specs.Views.{name_of, group_view, group_shown, view_of}
 use Rattle.vx_node.specs.Working.{Worked}
 use Rattle.vx_node.specs.Yards.{YardAgrees, count_of}
 use Rattle.vx_node.proofs.Changing.{rose_none}
-use Rattle.vx_node.proofs.Seats.{seated, some_same}
-use Rattle.vx_node.proofs.Values.{slice_get-values_from}
+use Rattle.vx_events.proofs.Places.{some_same}
+use Rattle.vx_node.proofs.Seats.{seated}
+use Rattle.vx_events.proofs.Values.{slice_get-values_from}
 
 past_values : {A : Type 0} (f : ℕ → A) (k n i : ℕ) → n ≤ i → slice_get (values_from f k n) i ≡ None
 past_values f k zero i h = refl

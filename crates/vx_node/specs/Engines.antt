@@ -108,21 +108,20 @@ module _ {R : Type 0} {g : Ghosts R} where
     pub most : count ≤ length n.log
     pub stands : StandsAt (crashed n count) new
 
-  -- the next number, or a failing disk, or want of a number; or its fuse ran out, and it crashed
-  abbrev pub WroteAt : Node → Write → Engine R g → Engine R g → Result ℕ No → Type 0
-  WroteAt n x old new (Ok number) = (number ≡ n.safe + 1) × (n.safe < most_number) × StandsAt (logged n x) new × ((calls : ℕ) → IsToldAt new → IsExact n x calls → 4 ≤ calls)
-  WroteAt n x old new (Err (Device disk)) = StandsAt (halted_with n x disk) new × RoseAt old new disk × (n.safe < most_number)
-  WroteAt n x old new (Err (Limit what most)) = (Limit what most ≡ no_number) × (IsToldAt new → most_number ≤ most_stamp n) × StandsAt (worked n) new
-  WroteAt n x old new (Err IsDown) = IsFused n.fuse × CrashedAt (half_begun n x) new × ((calls : ℕ) → IsToldAt new → IsExact n x calls → calls < 4) × (n.safe < most_number)
-  WroteAt n x old new (Err other) = ⊥
+  -- the next number, or a failing disk, or want of a number; or its fuse ran out, and then this holds of the site with the write begun
+  abbrev pub WroteWith : (Node → Engine R g → Type 0) → Node → Write → Engine R g → Engine R g → Result ℕ No → Type 0
+  WroteWith Off n x old new (Ok number) = (number ≡ n.safe + 1) × (n.safe < most_number) × StandsAt (logged n x) new × ((calls : ℕ) → IsToldAt new → IsExact n x calls → 4 ≤ calls)
+  WroteWith Off n x old new (Err (Device disk)) = StandsAt (halted_with n x disk) new × RoseAt old new disk × (n.safe < most_number)
+  WroteWith Off n x old new (Err (Limit what most)) = (Limit what most ≡ no_number) × (IsToldAt new → most_number ≤ most_stamp n) × StandsAt (worked n) new
+  WroteWith Off n x old new (Err IsDown) = IsFused n.fuse × Off (half_begun n x) new × ((calls : ℕ) → IsToldAt new → IsExact n x calls → calls < 4) × (n.safe < most_number)
+  WroteWith Off n x old new (Err other) = ⊥
 
-  -- the same where the fuse ran out, and it has not crashed yet
+  -- a write behind which the site of a fuse that ran out crashed, and one behind which it has not crashed yet
+  abbrev pub WroteAt : Node → Write → Engine R g → Engine R g → Result ℕ No → Type 0
+  WroteAt n x old new result = WroteWith (λ k e. CrashedAt k e) n x old new result
+
   abbrev pub WroteUp : Node → Write → Engine R g → Engine R g → Result ℕ No → Type 0
-  WroteUp n x old new (Ok number) = (number ≡ n.safe + 1) × (n.safe < most_number) × StandsAt (logged n x) new × ((calls : ℕ) → IsToldAt new → IsExact n x calls → 4 ≤ calls)
-  WroteUp n x old new (Err (Device disk)) = StandsAt (halted_with n x disk) new × RoseAt old new disk × (n.safe < most_number)
-  WroteUp n x old new (Err (Limit what most)) = (Limit what most ≡ no_number) × (IsToldAt new → most_number ≤ most_stamp n) × StandsAt (worked n) new
-  WroteUp n x old new (Err IsDown) = IsFused n.fuse × CutAt (half_begun n x) new × ((calls : ℕ) → IsToldAt new → IsExact n x calls → calls < 4) × (n.safe < most_number)
-  WroteUp n x old new (Err other) = ⊥
+  WroteUp n x old new result = WroteWith (λ k e. CutAt k e) n x old new result
 
   -- the blocks, which are those of the content where it is told, or a failing disk
   abbrev pub ReadAt : Node → ℕ → ℕ → ℕ → List ℕ → Engine R g → Engine R g → Result (Unit {0}) No → Type 0
@@ -164,16 +163,16 @@ module _ {R : Type 0} {g : Ghosts R} where
   BareUpIs n old new (Err NoConfig) = StandsAt n new
   BareUpIs n old new (Err other) = (IsToldAt new → ⊥) × StandsAt n new
 
-  -- the number up to which all writes are in their volumes, or a failing disk; or its fuse ran out, and it crashed
-  abbrev pub AppliedAt : Node → ℕ → Engine R g → Engine R g → Result ℕ No → Type 0
-  AppliedAt n to old new (Ok number) = (min to n.safe ≤ number) × (number ≤ n.safe) × StandsAt (worked n) new
-  AppliedAt n to old new (Err (Device disk)) = StandsAt (halted_at n disk) new × RoseAt old new disk
-  AppliedAt n to old new (Err IsDown) = IsFused n.fuse × CrashedAt n new
-  AppliedAt n to old new (Err other) = ⊥
+  -- the number up to which all writes are in their volumes, or a failing disk; or its fuse ran out, and then this holds of the site
+  abbrev pub AppliedWith : (Node → Engine R g → Type 0) → Node → ℕ → Engine R g → Engine R g → Result ℕ No → Type 0
+  AppliedWith Off n to old new (Ok number) = (min to n.safe ≤ number) × (number ≤ n.safe) × StandsAt (worked n) new
+  AppliedWith Off n to old new (Err (Device disk)) = StandsAt (halted_at n disk) new × RoseAt old new disk
+  AppliedWith Off n to old new (Err IsDown) = IsFused n.fuse × Off n new
+  AppliedWith Off n to old new (Err other) = ⊥
 
-  -- the same where the fuse ran out, and it has not crashed yet
+  -- an apply behind which the site of a fuse that ran out crashed, and one behind which it has not crashed yet
+  abbrev pub AppliedAt : Node → ℕ → Engine R g → Engine R g → Result ℕ No → Type 0
+  AppliedAt n to old new result = AppliedWith (λ k e. CrashedAt k e) n to old new result
+
   abbrev pub AppliedUp : Node → ℕ → Engine R g → Engine R g → Result ℕ No → Type 0
-  AppliedUp n to old new (Ok number) = (min to n.safe ≤ number) × (number ≤ n.safe) × StandsAt (worked n) new
-  AppliedUp n to old new (Err (Device disk)) = StandsAt (halted_at n disk) new × RoseAt old new disk
-  AppliedUp n to old new (Err IsDown) = IsFused n.fuse × CutAt n new
-  AppliedUp n to old new (Err other) = ⊥
+  AppliedUp n to old new result = AppliedWith (λ k e. CutAt k e) n to old new result

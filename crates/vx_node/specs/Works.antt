@@ -15,7 +15,7 @@ use Rattle.vx_events.specs.declared.said.Said.{Said}
 use Rattle.vx_events.specs.declared.said.Said.TheVariants.{Done, DoneAt, Got, Shown, Recovered, Refused}
 use Rattle.vx_events.specs.Stamps.{most_stamp}
 use Rattle.vx_events.specs.Fuses.{IsFused, IsExact}
-use Rattle.vx_events.specs.Facts.{facts_of, site_number, volume_number}
+use Rattle.vx_events.specs.Facts.{site_number, volume_number}
 use Rattle.vx_events.specs.Views.{view_of}
 use Rattle.vx_events.specs.Ends.{IsNoDevice}
 use Rattle.vx_events.specs.Found.{SameDisks}

@@ -6,8 +6,9 @@ use Rattle.vx_node.specs.Yards.{in_files}
 use Rattle.vx_node.proofs.Changing.{told_before}
 use Rattle.vx_node.proofs.Falling.{apply_done, apply_failed}
 use Rattle.vx_node.proofs.Lists.{get_at}
-use Rattle.vx_node.proofs.Refused.{apply_may}
-use Rattle.vx_node.proofs.Seats.{named_none, seat_below, seat_within}
+use Rattle.vx_events.proofs.Refused.{apply_may}
+use Rattle.vx_events.proofs.Places.{seat_within}
+use Rattle.vx_node.proofs.Seats.{named_none, seat_below}
 use Rattle.vx_node.proofs.yard.Yard.apply_line.Goals as goal
 
 pub returns-in_default-clause-works : goal.returns-in_default-clause-works

@@ -16,11 +16,11 @@ returns-in_default-push_said-clause-line g c = λ w stands.
 
 pub returns-in-Ok-send-clause-line : goal.returns-in-Ok-send-clause-line
 returns-in-Ok-send-clause-line g c = λ w stands. (
-      text_of c.in-Ok.said,
-      line_happens w c.args.words.now c.args.self.now c.answer.new.self c.in-Ok.said stands c.answer.ensures.told (c.in-Ok.ensures.answers w stands.agrees),
-      subst (λ xs. Appends (g.O.Sink.written c.args.out.now) (g.O.Sink.written c.send.new.sink) xs)
+  text_of c.in-Ok.said,
+  line_happens w c.args.words.now c.args.self.now c.answer.new.self c.in-Ok.said stands c.answer.ensures.told (c.in-Ok.ensures.answers w stands.agrees),
+  subst (λ xs. Appends (g.O.Sink.written c.args.out.now) (g.O.Sink.written c.send.new.sink) xs)
       (c.deref.ensures.value ∙ c.in-Ok-push_said.ensures ∙ ap (λ xs. xs ++ text_of c.in-Ok.said) c.new-text.ensures.items) c.in-Ok-send.ensures.bytes,
-    )
+)
 
 pub returns-clause-line : goal.returns-clause-line
 returns-clause-line g c = λ w stands.

@@ -1,6 +1,6 @@
 -- Each case of the recovery of a bare site.
 use Rattle.std.proofs.Common.{◌≡◌, ◌≤◌, ◌∙◌, ap, sym, subst, refl, arith}
-use Rattle.std.specs.Prelude.{slice_set, Some, map, ◌-◌, Ok, Err}
+use Rattle.std.specs.Prelude.{slice_set, Some, map, ◌-◌}
 use Rattle.vx_history.specs.Steps.{raw_volumes}
 use Rattle.vx_model.specs.Sizes.{ring_of}
 use Rattle.vx_order.specs.declared.facts.SiteFacts.{SiteFacts}
@@ -9,7 +9,7 @@ use Rattle.vx_events.specs.Facts.{volume_fact}
 use Rattle.vx_node.proofs.Finds.{bare_found, bare_stays, enough, ring_fits}
 use Rattle.vx_node.proofs.Lists.{get_at}
 use Rattle.vx_node.proofs.Raws.{raw_told}
-use Rattle.vx_node.proofs.Seats.{some_same}
+use Rattle.vx_events.proofs.Places.{some_same}
 use Rattle.vx_node.proofs.yard.Yard.recover_bare.Goals as goal
 
 pub returns-in-Ok-clause-found : goal.returns-in-Ok-clause-found

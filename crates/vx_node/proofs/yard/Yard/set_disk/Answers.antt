@@ -5,7 +5,7 @@ use Rattle.vx_node.specs.Yards.{in_files}
 use Rattle.vx_node.proofs.Changing.{told_before}
 use Rattle.vx_node.proofs.Disks.{disk_done}
 use Rattle.vx_node.proofs.Lists.{get_at}
-use Rattle.vx_node.proofs.Refused.{disk_may}
+use Rattle.vx_events.proofs.Refused.{disk_may}
 use Rattle.vx_node.proofs.Seats.{named_none, seat_below}
 use Rattle.vx_node.proofs.yard.Yard.set_disk.Goals as goal
 

@@ -1,5 +1,5 @@
--- What holds of every world that can come about, beside what holds of its sites by themselves. What links, packets and promises say
--- of their sites is kept by every event only together with the further facts, which are numbered here.
+-- What holds of sites, links, packets and promises in every world that can come about. What links, packets and promises say of their
+-- sites is kept by every event only together with the further facts, which are numbered here.
 use Rattle.std.specs.Prelude.{◌≡◌, ◌≢◌, ℕ, ◌≤◌, true, false, List, length}
 use Rattle.std.specs.List.{AllByRecursion}
 use Rattle.vx_model.specs.Content.{Write, IsNumber}
