@@ -14,8 +14,8 @@ use Rattle.vx_config.specs.declared.entry.VolumeEntry.{VolumeEntry}
 use Rattle.vx_config.specs.Checks.{is_sound}
 use Rattle.vx_layout.specs.Places.{place}
 use Rattle.vx_volume.specs.Plexes.{SomeActive, active, plexes_of, plexes_or, prefer_of, prefer_or}
-use Rattle.vx_volume.specs.Steps.{ReadLoop}
-use Rattle.vx_volume.specs.Volumes.{AllBut, AllFailed, PlexBlamed, PlexCause, PlexRead, ReadFrom, first_asked, turn_of}
+use Rattle.vx_volume.specs.Steps.{Device, ReadLoop}
+use Rattle.vx_volume.specs.Volumes.{AllBut, AllFailed, LastFailed, PlexBlamed, PlexCause, PlexRead, ReadFrom, first_asked, turn_of}
 use Rattle.vx_disk.specs.Blocks.{bit_at}
 use Rattle.vx_volume.specs.Sets.{bits}
 use Rattle.vx_volume.specs.Steps.{in_set}
@@ -146,3 +146,6 @@ by_bits c v failed set done old m is but = record {
   where
     same : (p : ℕ) → bit_at set p ≡ in_set failed p
     same p = ap (λ (s : ℕ). bit_at s p) is ∙ bit_of failed p
+
+pub last_bits : (failed : List Bool) (set device : ℕ) (old m : Meaning) → set ≡ bits failed → Device failed device old m → LastFailed (record { set = set; disk = device }) old m
+last_bits failed set device old m is last = record { rose = λ p in_. last.rose p (sym (ap (λ (s : ℕ). bit_at s p) is ∙ bit_of failed p) ∙ in_) }

@@ -13,7 +13,8 @@ mod volume;
 mod writing;
 
 pub use plexes::is_active;
-pub use volume::{Volume, flush, read, write};
+pub use sets::Failed;
+pub use volume::{Volume, flush, flush_all, read, write, write_all};
 
 #[cfg(test)]
 mod tests;
