@@ -1,0 +1,4 @@
+pub mod Stands
+pub mod Blames
+pub mod Moves
+pub mod Settled
