@@ -38,11 +38,11 @@ pub some_good : (disks : List DiskEntry) (good : ℕ) → HasGood disks good →
 some_good disks good some none = let failed = none.each some.disk some.below some.member in let clash : false ≡ true = sym some.held ∙ failed in cc
 
 false_true : (b : Bool) → b ≡ false → IsTrue b → ⊥
-false_true b no is = let clash : false ≡ true = sym no ∙ is in cc
+false_true b off is = let clash : false ≡ true = sym off ∙ is in cc
 
 from_no : (b : Bool) → (IsTrue b → ⊥) → b ≡ false
-from_no true no = absurd (no refl)
-from_no false no = refl
+from_no true none = absurd (none refl)
+from_no false none = refl
 
 module _ (core e : GroupCore) (v set : ℕ) (m m' : Meaning) (stands : Stands core m) (acts : Acts Nothing (Sees core.config (Member core.good m) m) m m')
     (wanted : is_wanted m'.units m'.size e.config ≡ true) (can : CanSpell e.config) (on : AllOn e.config) (faults : e.faults ≡ core.faults) where
@@ -96,12 +96,12 @@ module _ (core e : GroupCore) (v set : ℕ) (m m' : Meaning) (stands : Stands co
 -- ---- why
 
 module _ (good : ℕ) (a : Config) (last : ℕ) (old new : Meaning) (some : NoneGood a.disks (length a.disks) good → ⊥) (up : IsTrue new.down → ⊥) where
-  pub stop_blames : (why : No) (device : ℕ) → CommitStops good a last old new why → BlamesOr {Unit {0}} device old new (Err (fault_of why device))
+  pub stop_blames : (why : No) (device : ℕ) → CommitStops good a last old new why → BlamesOr {T = Unit {0}} device old new (Err (fault_of why device))
   stop_blames (refusal.Device disk) device stops = (⊎_elim (λ rose. inl rose) (λ none. absurd (some none.0)) stops.1, up)
   stop_blames refusal.Down device stops = stops.1
   stop_blames other device stops = (inr refl, up)
 
-  pub stop_sure : (why : No) (device : ℕ) → a.serial < greatest → CommitStops good a last old new why → Blames {Unit {0}} old new (Err (fault_of why device))
+  pub stop_sure : (why : No) (device : ℕ) → a.serial < greatest → CommitStops good a last old new why → Blames {T = Unit {0}} old new (Err (fault_of why device))
   stop_sure (refusal.Device disk) device more stops = (⊎_elim (λ rose. rose) (λ none. absurd (some none.0)) stops.1, up)
   stop_sure refusal.Down device more stops = stops.1
   stop_sure (refusal.Limit Number most) device more stops = absurd (let le : greatest ≤ a.serial = stops.0 in omega (arith, le, more))

@@ -1,6 +1,6 @@
 pub mod Standing
+pub mod CallLemmas
 pub mod WriteLemmas
 pub mod DetachLemmas
 pub mod ReadLemmas
 pub mod ReadyLemmas
-pub mod LawLemmas

@@ -11,7 +11,7 @@ use Rattle.vx_kept.specs.Keeping.{Acts, SameShape, Sees}
 use Rattle.vx_kept.proofs.Flushes.{flush_Flushed, flush_Goes}
 use Rattle.vx_kept.proofs.StateLemmas.{same_shape}
 use Rattle.vx_kept.proofs.Steps.{inside_back, inside_same, same_Acts}
-use Rattle.vx_kept.proofs.Whole.{high, whole_Goes, whole_Wrote}
+use Rattle.vx_kept.proofs.Whole.{whole_Goes, whole_Wrote}
 use Rattle.vx_group.specs.Moves.{AllFlushed, AllWrote, Narrows}
 use Rattle.vx_group.specs.Stands.{Stands, counted, meaning_of}
 use Rattle.vx_group.specs.declared.group_core.GroupCore.{GroupCore}

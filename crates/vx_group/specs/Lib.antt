@@ -2,3 +2,4 @@ pub mod Stands
 pub mod Blames
 pub mod Moves
 pub mod Settled
+pub mod Laws

@@ -1,5 +1,5 @@
 // A group as a shelf.
-ghost use Rattle.vx_group.proofs.LawLemmas.{group_lawful};
+ghost use Rattle.vx_group.specs.Laws.{group_lawful};
 ghost use Rattle.vx_group.specs.Stands.{Stands, meaning_of};
 
 use crate::GroupCore;

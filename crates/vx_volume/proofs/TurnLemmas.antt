@@ -1,6 +1,6 @@
 -- A read that asks the plexes in turn.
-use Rattle.std.proofs.Common.{◌≡◌, ◌≢◌, ◌⊎◌, inl, inr, ℕ, ◌+◌, ◌-◌, ◌%◌, ◌<◌, ◌≤◌, Bool, true, false, List, length, refl, ap, sym, ◌∙◌, subst, arith, IsTrue, Err, Option, Some, None}
-use Rattle.std.specs.Prelude.{slice_get}
+use Rattle.std.proofs.Common.{◌≡◌, ◌≢◌, ◌⊎◌, inl, inr, ℕ, suc, ◌+◌, ◌-◌, ◌*◌, ◌%◌, ◌<◌, ◌≤◌, Bool, true, false, List, [], ◌∷◌, length, refl, ap, sym, ◌∙◌, subst, arith, IsTrue, Err, Option, Some, None}
+use Rattle.std.specs.Prelude.{if◌then◌else◌, slice_get}
 use Rattle.std.proofs.lemmas.Bool.{cases_eq, cases_lt}
 use Rattle.std.proofs.Math.Nat.{add-mod_right, mod-eq_of_lt, mod-lt}
 use Rattle.vx_disk.specs.Counts.{Rose}
@@ -147,5 +147,10 @@ by_bits c v failed set done old m is but = record {
     same : (p : ℕ) → bit_at set p ≡ in_set failed p
     same p = ap (λ (s : ℕ). bit_at s p) is ∙ bit_of failed p
 
+some_in : (failed : List Bool) → 0 < bits failed → (p : ℕ) × (in_set failed p ≡ true)
+some_in [] some = absurd (omega (arith, some))
+some_in (true ∷ bs) some = (0, refl)
+some_in (false ∷ bs) some = let it = some_in bs (omega (arith, some)) in (suc it.0, it.1)
+
 pub last_bits : (failed : List Bool) (set device : ℕ) (old m : Meaning) → set ≡ bits failed → Device failed device old m → LastFailed (record { set = set; disk = device }) old m
-last_bits failed set device old m is last = record { rose = λ p in_. last.rose p (sym (ap (λ (s : ℕ). bit_at s p) is ∙ bit_of failed p) ∙ in_) }
+last_bits failed set device old m is last = record { rose = λ some. let it = some_in failed (omega (arith, some, is)) in last.rose it.0 it.1 }

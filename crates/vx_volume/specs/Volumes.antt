@@ -75,9 +75,9 @@ Ends c v done old new (Err (refusal.Device disk)) = AllFailed c v disk old new
 Ends c v done old new (Err refusal.Down) = IsTrue new.down
 Ends c v done old new (Err other) = ⊥
 
--- the count of the disk rose where a plex is in the set
+-- the count of the disk rose where any plex failed
 pub record LastFailed (failed : Failed) (old new : Meaning) : Type 0 where
-  pub rose : (p : ℕ) → bit_at failed.set p ≡ true → Rose (old.disk_faults failed.disk) (new.disk_faults failed.disk)
+  pub rose : 0 < failed.set → Rose (old.disk_faults failed.disk) (new.disk_faults failed.disk)
 
 -- The same with the disk of the last device call that failed.
 abbrev pub EndsAt : Config → ℕ → (ℕ → Type 0) → Meaning → Meaning → Result Failed No → Type 0
