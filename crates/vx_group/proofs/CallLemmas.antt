@@ -1,27 +1,28 @@
 -- Calls of a group as calls of a shelf, with their causes.
-use Rattle.std.proofs.Common.{◌≡◌, ◌⊎◌, inl, inr, ⊎_elim, ℕ, ◌+◌, ◌<◌, ◌≤◌, Bool, true, false, IsTrue, List, length, Result, Ok, Err, OnOk, refl, ap, sym, ◌∙◌, subst, arith}
+use Rattle.std.proofs.Common.{◌≡◌, inl, inr, ⊎_elim, ℕ, ◌≤◌, Bool, true, false, IsTrue, List, Result, Ok, Err, OnOk, refl, sym, ◌∙◌, subst, arith}
 use Rattle.vx_disk.specs.Blocks.{bit_at}
 use Rattle.vx_disk.specs.Causes.{Cause}
 use Rattle.vx_disk.specs.Counts.{Rose}
-use Rattle.vx_disk.specs.Shelf.{Flushed, Goes, Lawful, Meaning, Nothing, Or, Values, Written, Wrote}
+use Rattle.vx_disk.specs.Shelf.{Flushed, Goes, Lawful, Meaning, Nothing, Or, Values, Wrote}
 use Rattle.vx_disk.specs.declared.shelf.ShelfError.{ShelfError}
 use Rattle.vx_disk.specs.declared.shelf.ShelfError.TheVariants.{Fault, Down}
 use Rattle.vx_disk.proofs.Causing.{Rose_after, Rose_before}
 use Rattle.vx_config.specs.declared.config.Config.{Config}
 use Rattle.vx_volume.specs.Plexes.{active}
-use Rattle.vx_volume.specs.Volumes.{AllBut}
+use Rattle.vx_model.specs.declared.no.No.{No}
+use Rattle.vx_model.specs.declared.no.No.TheVariants as refusal
+use Rattle.vx_volume.specs.Volumes.{AllBut, EndsAt}
 use Rattle.vx_kept.specs.Commits.{Member}
 use Rattle.vx_kept.specs.Groups.{group_meaning}
 use Rattle.vx_kept.specs.Keeping.{Acts, Kept, IsTidy, Sees}
-use Rattle.vx_kept.specs.States.{AreOn, SomeLeft}
 use Rattle.vx_kept.proofs.StateLemmas.{same_shape}
 use Rattle.vx_kept.proofs.Steps.{both_Acts, group-Goes, wide_Acts}
 use Rattle.vx_kept.proofs.Whole.{sees_back}
-use Rattle.vx_group.specs.Blames.{Blames, BlamesOr, Counts, Raised}
+use Rattle.vx_group.specs.Blames.{Blames, BlamesOr, Counts, fault_of}
 use Rattle.vx_group.specs.Moves.{AreOff, Narrows}
-use Rattle.vx_group.specs.Stands.{Stands, counted, meaning_of}
+use Rattle.vx_group.specs.Stands.{Stands}
 use Rattle.vx_group.specs.declared.group_core.GroupCore.{GroupCore}
-use Rattle.vx_group.proofs.Standing.{apart_of_core, kept_of, made, can_of, still_large, some_active}
+use Rattle.vx_group.proofs.Standing.{apart_of_core, made, can_of, still_large}
 use Rattle.vx_copies.proofs.OneTry.{wanted_same}
 
 -- ---- answers
@@ -34,9 +35,11 @@ ok_by (Err error) disk old new is why made_by = tt
 pub blames_by : {T : Type 0} (r : Result T ShelfError) (disk : ℕ) (old mid new : Meaning) → Rose (old.disk_faults disk) (mid.disk_faults disk) → ((d : ℕ) → old.disk_faults d ≤ mid.disk_faults d)
     → ((d : ℕ) → mid.disk_faults d ≤ new.disk_faults d) → BlamesOr disk mid new r → Blames old new r
 blames_by (Ok x) disk old mid new rose before after up = up
-blames_by (Err (Fault d)) disk old mid new rose before after why =
-    (⊎_elim (λ now. Rose_before (old.disk_faults d) (mid.disk_faults d) (new.disk_faults d) (before d) now)
-      (λ same. subst (λ (k : ℕ). Rose (old.disk_faults k) (new.disk_faults k)) (sym same) (Rose_after (old.disk_faults disk) (mid.disk_faults disk) (new.disk_faults disk) rose (after disk))) why.0, why.1)
+blames_by (Err (Fault d)) disk old mid new rose before after why = (
+  ⊎_elim (λ now. Rose_before (old.disk_faults d) (mid.disk_faults d) (new.disk_faults d) (before d) now)
+      (λ same. subst (λ (k : ℕ). Rose (old.disk_faults k) (new.disk_faults k)) (sym same) (Rose_after (old.disk_faults disk) (mid.disk_faults disk) (new.disk_faults disk) rose (after disk))) why.0,
+  why.1,
+)
 blames_by (Err Down) disk old mid new rose before after down = down
 
 pub blames_later : {T : Type 0} (r : Result T ShelfError) (old mid new : Meaning) → ((d : ℕ) → old.disk_faults d ≤ mid.disk_faults d) → Blames mid new r → Blames old new r
@@ -49,10 +52,10 @@ counts_less (Fault d) v old new raised u = raised.no_less u
 counts_less Down v old new same u = let is = same u in omega (arith, is)
 
 -- a failed call whose fault was counted
-pub cause_by : {T : Type 0} (error : ShelfError) (c d : Config) (v : ℕ) (f f' : ℕ → ℕ) (m m' : Meaning) → (IsTrue m.down → ⊥) → Blames {T = T} m m' (Err error) → Counts error v f f'
+pub cause_by : (T : Type 0) (error : ShelfError) (c d : Config) (v : ℕ) (f f' : ℕ → ℕ) (m m' : Meaning) → (IsTrue m.down → ⊥) → Blames {T = T} m m' (Err error) → Counts error v f f'
     → Cause {T = T} (group_meaning c f m) (group_meaning d f' m') v (Err error)
-cause_by (Fault disk) c d v f f' m m' up why counts = (record { count = counts.rose; disk_count = why.0 }, record { before = up; after = why.1 })
-cause_by Down c d v f f' m m' up down counts = down
+cause_by T (Fault disk) c d v f f' m m' up why counts = (record { count = counts.rose; disk_count = why.0 }, record { before = up; after = why.1 })
+cause_by T Down c d v f f' m m' up down counts = down
 
 pub not_down : (r d : Bool) → r ≡ d → r ≡ false → IsTrue d → ⊥
 not_down r d is off down = let clash : false ≡ true = sym off ∙ is ∙ down in cc
@@ -153,3 +156,10 @@ module _ (core : GroupCore) (b : Bool) (m m' : Meaning) (stands : Stands core m)
 
   pub settled_only : Narrows core core m m'
   settled_only = record { acts = acts; shape = same_shape core.config; on = λ v p is. is; faults = refl }
+
+-- ---- refusals of a volume
+
+pub ends_blame : (c : Config) (v : ℕ) (done : ℕ → Type 0) (old new : Meaning) (why : No) (device : ℕ) → EndsAt c v done old new (Err why) → Blames {T = Unit {0}} old new (Err (fault_of why device))
+ends_blame c v done old new (refusal.Device disk) device failed = (failed.rose, failed.up)
+ends_blame c v done old new refusal.Down device down = down
+ends_blame c v done old new other device ends = absurd ends

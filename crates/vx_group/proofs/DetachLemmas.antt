@@ -1,10 +1,9 @@
 -- A commit that detaches plexes, over the core of a group.
-use Rattle.std.proofs.Common.{◌≡◌, ◌⊎◌, inl, inr, ⊎_elim, ℕ, ◌+◌, ◌<◌, ◌≤◌, ◌^◌, Bool, true, false, IsTrue, List, length, Result, Ok, Err, refl, ap, sym, ◌∙◌, subst, arith}
+use Rattle.std.proofs.Common.{◌≡◌, inl, inr, ⊎_elim, ℕ, ◌<◌, ◌≤◌, ◌^◌, ◌%◌, Bool, true, false, IsTrue, List, length, Err, refl, ap, sym, ◌∙◌, subst, arith}
+use Rattle.std.specs.Prelude.{◌==◌}
+use Rattle.std.proofs.Math.Nat.{zero-div}
 use Rattle.vx_disk.specs.Blocks.{bit_at}
-use Rattle.vx_disk.specs.Counts.{Rose}
-use Rattle.vx_disk.specs.Shelf.{Lawful, Meaning, Nothing}
-use Rattle.vx_disk.specs.declared.shelf.ShelfError.{ShelfError}
-use Rattle.vx_disk.specs.declared.shelf.ShelfError.TheVariants.{Fault, Down}
+use Rattle.vx_disk.specs.Shelf.{Meaning, Nothing}
 use Rattle.vx_model.specs.declared.no.Counted.TheVariants.{Number}
 use Rattle.vx_model.specs.declared.no.No.{No}
 use Rattle.vx_model.specs.declared.no.No.TheVariants as refusal
@@ -17,14 +16,14 @@ use Rattle.vx_config.specs.declared.entry.VolumeEntry.{VolumeEntry}
 use Rattle.vx_copies.specs.Answers.{good_set}
 use Rattle.vx_copies.specs.Bodies.{is_wanted}
 use Rattle.vx_copies.specs.Commits.{CommitStops}
-use Rattle.vx_copies.specs.Marks.{HasGood, NoneGood, failed_at}
+use Rattle.vx_copies.specs.Marks.{HasGood, NoneGood}
 use Rattle.vx_volume.specs.Plexes.{active}
 use Rattle.vx_volume.proofs.PlaceLemmas.{active_few}
 use Rattle.vx_kept.specs.Choice.{live}
 use Rattle.vx_kept.specs.Commits.{Left, Member, Taken}
-use Rattle.vx_kept.specs.Keeping.{Acts, AllOn, Kept, SameShape, Sees}
+use Rattle.vx_kept.specs.Keeping.{Acts, AllOn, Kept, Sees}
 use Rattle.vx_kept.specs.States.{AreOn, staled}
-use Rattle.vx_kept.proofs.Chosen.{active_volumes, alike_shape, live_volumes}
+use Rattle.vx_kept.proofs.Chosen.{active_volumes, alike_shape}
 use Rattle.vx_kept.proofs.Narrower.{on_live}
 use Rattle.vx_kept.proofs.StateLemmas.{is_staled, same_shape}
 use Rattle.vx_group.specs.Blames.{Blames, BlamesOr, fault_of}
@@ -82,7 +81,7 @@ module _ (core e : GroupCore) (v set : ℕ) (m m' : Meaning) (stands : Stands co
     pub left_Stands : Stands e m'
     left_Stands = made e m' wanted can (few_same (ap length left.volumes)) (small_same (λ x. ap (λ (vs : List VolumeEntry). blocks_of vs x) left.volumes)) (still_large m m' acts.units acts.size stands.large) on
         (subst (λ (g : ℕ). NoneGood e.config.disks (length e.config.disks) g → ⊥) (sym good)
-          (subst (λ (ds : List DiskEntry). NoneGood ds (length ds) core.good → ⊥) (sym left.disks) stands.some))
+        (subst (λ (ds : List DiskEntry). NoneGood ds (length ds) core.good → ⊥) (sym left.disks) stands.some))
         (subst (λ (g : ℕ). Kept e.config (Member g m') m') (sym good) left.kept) (λ is. absurd (let clash : true ≡ false = sym un ∙ is in cc))
 
     pub left_Narrows : Narrows core e m m'
@@ -106,3 +105,14 @@ module _ (good : ℕ) (a : Config) (last : ℕ) (old new : Meaning) (some : None
   stop_sure refusal.Down device more stops = stops.1
   stop_sure (refusal.Limit Number most) device more stops = absurd (let le : greatest ≤ a.serial = stops.0 in omega (arith, le, more))
   stop_sure other device more stops = absurd stops
+
+-- ---- the configuration that is committed
+
+pub staled_some : (c : Config) (v set good : ℕ) → (NoneGood c.disks (length c.disks) good → ⊥) → NoneGood (staled v set c 8).disks (length (staled v set c 8).disks) good → ⊥
+staled_some c v set good some = subst (λ (ds : List DiskEntry). NoneGood ds (length ds) good → ⊥) (sym (is_staled v set 8 c).disks) some
+
+pub staled_less : (c : Config) (v set : ℕ) → c.serial < greatest → (staled v set c 8).serial < greatest
+staled_less c v set less = let same = (is_staled v set 8 c).serial in omega (arith, same, less)
+
+pub zero_bit : (set p : ℕ) → set ≡ 0 → bit_at set p ≡ false
+zero_bit set p is = ap (λ (s : ℕ). bit_at s p) is ∙ ap (λ (n : ℕ). n % 2 == 1) (zero-div (2 ^ p))

@@ -1,11 +1,9 @@
 -- A read of a volume as one of the group.
-use Rattle.std.proofs.Common.{◌≡◌, ◌⊎◌, inl, inr, ⊎_elim, ℕ, ◌+◌, ◌-◌, ◌*◌, ◌/◌, ◌%◌, ◌<◌, ◌≤◌, Bool, true, false, IsTrue, List, length, refl, ap, sym, ◌∙◌, subst, arith}
-use Rattle.vx_disk.specs.Shelf.{Covers, Fits, Goes, Lawful, Meaning, Nothing, Read}
-use Rattle.vx_config.specs.declared.config.Config.{Config}
-use Rattle.vx_volume.specs.Plexes.{InRun, Inside, active}
-use Rattle.vx_volume.specs.Volumes.{PlexRead, ReadFrom}
-use Rattle.vx_kept.specs.Groups.{OnSome, seen}
-use Rattle.vx_group.specs.Stands.{Stands, meaning_of}
+use Rattle.std.proofs.Common.{inl, ℕ, ◌+◌, ◌/◌, ◌<◌, IsTrue, List, length, arith}
+use Rattle.vx_disk.specs.Shelf.{Fits, Meaning, Read}
+use Rattle.vx_volume.specs.Plexes.{Inside, active}
+use Rattle.vx_volume.specs.Volumes.{PlexRead}
+use Rattle.vx_group.specs.Stands.{meaning_of}
 use Rattle.vx_group.specs.declared.group_core.GroupCore.{GroupCore}
 
 module _ (core : GroupCore) (v block : ℕ) (bytes : List ℕ) (m m' : Meaning) (fits : Fits (meaning_of core m) v block (length bytes)) where

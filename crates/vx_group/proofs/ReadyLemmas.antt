@@ -1,6 +1,6 @@
 -- Headers of the good disks that are written back, one disk after the other.
-use Rattle.std.proofs.Common.{◌≡◌, ◌⊎◌, inl, inr, ⊎_elim, ℕ, suc, ◌+◌, ◌<◌, ◌≤◌, Bool, true, false, IsTrue, List, length, refl, ap, sym, ◌∙◌, subst, arith}
-use Rattle.std.proofs.lemmas.Bool.{cases_eq, cases_lt}
+use Rattle.std.proofs.Common.{◌≡◌, inl, inr, ⊎_elim, ℕ, ◌+◌, ◌<◌, ◌≤◌, true, false, IsTrue, sym, ◌∙◌, subst, arith}
+use Rattle.std.proofs.lemmas.Bool.{cases_lt}
 use Rattle.vx_disk.specs.Shelf.{Goes, Lawful, Meaning, Nothing, Or}
 use Rattle.vx_copyfmt.specs.Commits.{Tidy}
 use Rattle.vx_copyio.specs.Settling.{HeadersAsLeft, OneLeft}
@@ -41,7 +41,7 @@ module _ (good : ℕ) (c : Config) (n : ℕ) (m m1 m2 : Meaning) (so_far : Settl
     pub settle_acts : Acts Nothing (Sees c (Member good m) m) m m2
     settle_acts = wide_Acts (Or Nothing Nothing) Nothing (Sees c (Member good m) m) m m2
         (both_Acts Nothing Nothing (Sees c (Member good m) m) (Sees c (Member good m1) m1) m m1 m2 so_far.acts (settled_Acts c (Member good m1) n m1 m2 goes before after so_far.kept)
-          (λ i sees. sees_back good c m m1 so_far.acts.units so_far.acts.size i sees))
+        (λ i sees. sees_back good c m m1 so_far.acts.units so_far.acts.size i sees))
         (λ u b x. ⊎_elim (λ none. none) (λ none. none))
 
     pub settle_kept : Kept c (Member good m2) m2

@@ -1,33 +1,28 @@
 -- What stands on the disks of a group, over its calls.
-use Rattle.std.proofs.Common.{◌≡◌, ◌⊎◌, inl, inr, ⊎_elim, ℕ, zero, suc, ◌+◌, ◌<◌, ◌≤◌, ◌/◌, ◌%◌, ◌^◌, Bool, true, false, IsTrue, Option, Some, None, List, [], ◌∷◌, All, IfSome, length, refl, ap, sym, ◌∙◌, subst, arith}
-use Rattle.std.specs.Prelude.{◌&&◌, ◌==◌, nat_lt, slice_get}
-use Rattle.std.specs.List.{list_all}
-use Rattle.std.proofs.lemmas.Bool.{and_parts, eqb-true, ltb-true}
-use Rattle.vx_disk.specs.Shelf.{Fits, Goes, Lawful, Meaning, Nothing, Or, Values}
+use Rattle.std.proofs.Common.{◌≡◌, ⊎_elim, ℕ, zero, suc, ◌+◌, ◌<◌, ◌≤◌, ◌^◌, true, false, Option, Some, None, List, [], ◌∷◌, IfSome, length, refl, ap, sym, ◌∙◌, subst, arith}
+use Rattle.std.specs.Prelude.{◌==◌}
+use Rattle.std.proofs.lemmas.Bool.{and_parts, eqb-true}
+use Rattle.vx_disk.specs.Shelf.{Goes, Lawful, Meaning, Values}
 use Rattle.vx_model.specs.declared.units.Units.{Units}
-use Rattle.vx_copyfmt.specs.Commits.{IsHeaderBlock}
 use Rattle.vx_copyfmt.specs.Copies.{area_a, area_b}
-use Rattle.vx_config.specs.Checks.{blocks_of, group_or_none, is_group, is_sound}
+use Rattle.vx_config.specs.Checks.{blocks_of, is_sound}
 use Rattle.vx_config.specs.Configs.{CanSpell, UnitsFit}
 use Rattle.vx_config.specs.declared.config.Config.{Config}
 use Rattle.vx_config.specs.declared.entry.DiskEntry.{DiskEntry}
 use Rattle.vx_copies.specs.Bodies.{fits_units, have_blocks, is_wanted}
-use Rattle.vx_copies.specs.Commits.{Held}
 use Rattle.vx_copies.specs.Marks.{NoneGood}
-use Rattle.vx_copies.specs.Looking.{on_shelf}
 use Rattle.vx_copies.proofs.OneTry.{wanted_same}
 use Rattle.vx_copyio.specs.Labelling.{AreLarge}
-use Rattle.vx_layout.specs.Places.{disk_blocks, place}
-use Rattle.vx_volume.specs.Plexes.{DisksFit, Inside, SomeActive, active}
+use Rattle.vx_layout.specs.Places.{disk_blocks}
+use Rattle.vx_volume.specs.Plexes.{DisksFit, SomeActive}
 use Rattle.vx_kept.specs.Commits.{Member}
-use Rattle.vx_kept.specs.Facts.{KeptFact, TidyFact}
 use Rattle.vx_kept.specs.Groups.{Apart, HasActive}
 use Rattle.vx_kept.specs.Keeping.{AllOn, IsTidy, Kept}
 use Rattle.vx_kept.proofs.Facts.{from_fact, from_tidy, to_fact, to_tidy}
 use Rattle.vx_kept.proofs.Committed.{fewer}
 use Rattle.vx_kept.proofs.Lasting.{low_Kept}
 use Rattle.vx_kept.proofs.Narrower.{has_active, stand_apart, wanted_sound}
-use Rattle.vx_group.specs.Stands.{Stands, meaning_of}
+use Rattle.vx_group.specs.Stands.{Stands}
 use Rattle.vx_group.specs.declared.group_core.GroupCore.{GroupCore}
 
 -- ---- a configuration that fits the shelf

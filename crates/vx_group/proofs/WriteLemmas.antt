@@ -1,16 +1,15 @@
 -- A whole write or flush of a volume: its plexes, and a commit that detaches those that failed.
-use Rattle.std.proofs.Common.{◌≡◌, ◌⊎◌, inl, inr, ⊎_elim, ℕ, ◌+◌, ◌-◌, ◌*◌, ◌/◌, ◌%◌, ◌<◌, ◌≤◌, Bool, true, false, IsTrue, List, length, refl, ap, sym, ◌∙◌, subst, arith}
-use Rattle.vx_disk.specs.Blocks.{bit_at}
-use Rattle.vx_disk.specs.Shelf.{Fits, Flushed, Goes, Lawful, Meaning, Nothing, Or, Values, Written, Wrote, piece}
-use Rattle.vx_config.specs.declared.config.Config.{Config}
+use Rattle.std.proofs.Common.{◌≡◌, ◌⊎◌, inl, inr, ⊎_elim, ℕ, ◌+◌, ◌/◌, ◌<◌, ◌≤◌, IsTrue, List, length, refl, ap, sym, subst, arith}
+use Rattle.vx_disk.specs.Shelf.{Fits, Flushed, Goes, Lawful, Meaning, Nothing, Written, Wrote, piece}
 use Rattle.vx_layout.specs.Places.{place}
 use Rattle.vx_volume.specs.Plexes.{InRun, Inside, active}
 use Rattle.vx_volume.specs.Volumes.{OnPlexes, PlexFlushed, PlexWrote}
 use Rattle.vx_kept.specs.Commits.{Member}
-use Rattle.vx_kept.specs.Keeping.{Acts, SameShape, Sees}
+use Rattle.vx_kept.specs.Groups.{group_meaning}
+use Rattle.vx_kept.specs.Keeping.{Sees}
 use Rattle.vx_kept.proofs.Flushes.{flush_Flushed, flush_Goes}
 use Rattle.vx_kept.proofs.StateLemmas.{same_shape}
-use Rattle.vx_kept.proofs.Steps.{inside_back, inside_same, same_Acts}
+use Rattle.vx_kept.proofs.Steps.{inside_same, same_Acts}
 use Rattle.vx_kept.proofs.Whole.{whole_Goes, whole_Wrote}
 use Rattle.vx_group.specs.Moves.{AllFlushed, AllWrote, Narrows}
 use Rattle.vx_group.specs.Stands.{Stands, counted, meaning_of}
@@ -67,3 +66,40 @@ module _ (core : GroupCore) (v block : ℕ) (bytes : List ℕ) (m m' : Meaning) 
                 | inl (inr none) ↦ absurd none
                 | inr down ↦ absurd (up down)
               ]
+
+-- ---- a flush
+
+module _ (core : GroupCore) (v : ℕ) (m m' : Meaning) (before : Lawful m) (after : Lawful m') (stands : Stands core m) (flush : Goes Nothing m m') where
+  pub flushed_Stands : Stands core m'
+  flushed_Stands = low_Stands core Nothing m m' flush (λ u b x none. absurd none) before after stands
+
+  -- whatever is counted
+  pub plain_Goes : (f' : ℕ → ℕ) → ((u : ℕ) → counted core.faults u ≤ f' u) → Goes Nothing (meaning_of core m) (group_meaning core.config f' m')
+  plain_Goes f' no_less = flush_Goes core.good core.config core.config v (counted core.faults) f' m m' m' before after after (kept_of core m stands) (apart_of_core core m stands) flush
+      (same_Acts (Sees core.config (Member core.good m') m') m') (same_shape core.config) (λ w p is. is) no_less
+
+  module _ (d : GroupCore) (last : Meaning) (lawful : Lawful last) (narrows : Narrows core d m' last) where
+    flush_less : (u : ℕ) → counted core.faults u ≤ counted d.faults u
+    flush_less u = let same : counted d.faults u ≡ counted core.faults u = ap (λ (f : List ℕ). counted f u) narrows.faults in omega (arith, same)
+
+    pub flushed_Goes : Goes Nothing (meaning_of core m) (meaning_of d last)
+    flushed_Goes = flush_Goes core.good core.config d.config v (counted core.faults) (counted d.faults) m m' last before after lawful (kept_of core m stands) (apart_of_core core m stands) flush
+        narrows.acts narrows.shape narrows.on flush_less
+
+    module _ (flushed : (p : ℕ) → IsTrue (active d.config v p) → PlexFlushed core.config v p m m') where
+      pub flushed_Flushed : Flushed v (meaning_of core m) (meaning_of d last)
+      flushed_Flushed = flush_Flushed core.good core.config d.config v (counted core.faults) (counted d.faults) m m' last before after lawful (kept_of core m stands) (apart_of_core core m stands) flush
+          narrows.acts narrows.shape narrows.on flush_less (λ p b x is_on in_it left. (flushed p is_on).each b x in_it left)
+
+      pub flushed_all : AllFlushed d.config v m last
+      flushed_all = record { each = λ p is_on. record { each = λ k x in_it left. one p is_on k x in_it left } }
+        where
+          one : (p : ℕ) (is_on : IsTrue (active d.config v p)) (k : ℕ) (x : List ℕ) → Inside d.config v k → last.leaves (place d.config v p k).0 (place d.config v p k).1 x
+              → m.reads (place d.config v p k).0 (place d.config v p k).1 x
+          one p is_on k x in_it left =
+              let at : place d.config v p k ≡ place core.config v p k = narrows.shape.place v p k in
+              let in_c = inside_same d.config core.config narrows.shape v k in_it in
+              let left_c : last.leaves (place core.config v p k).0 (place core.config v p k).1 x = subst (λ (q : ℕ × ℕ). last.leaves q.0 q.1 x) at left in
+              let was : m'.leaves (place core.config v p k).0 (place core.config v p k).1 x = ⊎_elim (λ is. is) (λ none. absurd none)
+              (narrows.acts.leaves (place core.config v p k).0 (place core.config v p k).1 x ((apart_of_core core m stands).above v p k in_c (narrows.on v p is_on)) left_c) in
+              subst (λ (q : ℕ × ℕ). m.reads q.0 q.1 x) (sym at) ((flushed p is_on).each k x in_c was)

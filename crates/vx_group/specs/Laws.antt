@@ -1,5 +1,5 @@
 -- A group obeys the laws of a shelf.
-use Rattle.std.proofs.Common.{◌≡◌, ℕ, ◌<◌, ◌≤◌, ◌^◌, List, length, arith, IsTrue}
+use Rattle.std.proofs.Common.{arith}
 use Rattle.vx_disk.specs.Shelf.{Lawful, Meaning}
 use Rattle.vx_kept.specs.Commits.{Member}
 use Rattle.vx_kept.proofs.Facts.{from_fact}

@@ -27,8 +27,8 @@ fn good_of(disks: &Disks) -> u8
     good
 }
 
-// A refused commit as a fault, which names this disk where no serial was left.
-fn fault_of(no: No, device: u32) -> ShelfError
+/// A refusal as a fault, which names this disk where no serial was left.
+pub fn fault_of(no: No, device: u32) -> ShelfError
     ensures { result ≡ fault_is no device }
 {
     match no {

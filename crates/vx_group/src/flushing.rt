@@ -8,18 +8,13 @@ ghost use Rattle.vx_group.specs.Stands.{Stands, meaning_of};
 
 use crate::GroupCore;
 use crate::counting::give_up;
-use crate::detaching::detach;
+use crate::detaching::{detach, fault_of};
 use crate::settling::make_ready;
 use vx_disk::{Shelf, ShelfError};
-use vx_model::No;
 use vx_volume::flush_all;
 
 // Flushes each plex that is ACTIVE, and detaches those that failed.
-fn flush_plexes<S: Shelf>(
-    shelf: &mut S,
-    core: &mut GroupCore,
-    vol: u32,
-) -> Result<(), ShelfError>
+fn flush_plexes<S: Shelf>(shelf: &mut S, core: &mut GroupCore, vol: u32) -> Result<(), ShelfError>
     requires stands { Stands core.old (S.meaning shelf.old) }
     requires there { vol < (meaning_of core.old (S.meaning shelf.old)).units }
     requires up { IsTrue (S.meaning shelf.old).down → ⊥ }
@@ -40,17 +35,12 @@ fn flush_plexes<S: Shelf>(
             }
             detach(shelf, core, vol, failed)
         }
-        Err(No::Device { disk }) => Err(ShelfError::Fault { disk }),
-        Err(_) => Err(ShelfError::Down),
+        Err(no) => Err(fault_of(no, 0)),
     }
 }
 
 /// Makes a volume durable.
-pub fn flush_in<S: Shelf>(
-    shelf: &mut S,
-    core: &mut GroupCore,
-    vol: u32,
-) -> Result<(), ShelfError>
+pub fn flush_in<S: Shelf>(shelf: &mut S, core: &mut GroupCore, vol: u32) -> Result<(), ShelfError>
     requires stands { Stands core.old (S.meaning shelf.old) }
     requires there { vol < (meaning_of core.old (S.meaning shelf.old)).units }
     ensures stands { Stands core.new (S.meaning shelf.new) }

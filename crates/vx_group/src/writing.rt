@@ -8,10 +8,9 @@ ghost use Rattle.vx_group.specs.Stands.{Stands, meaning_of};
 
 use crate::GroupCore;
 use crate::counting::give_up;
-use crate::detaching::detach;
+use crate::detaching::{detach, fault_of};
 use crate::settling::make_ready;
 use vx_disk::{Shelf, ShelfError};
-use vx_model::No;
 use vx_volume::write_all;
 
 // Writes to each plex that is ACTIVE, and detaches those that failed.
@@ -42,8 +41,7 @@ fn write_plexes<S: Shelf>(
             }
             detach(shelf, core, vol, failed)
         }
-        Err(No::Device { disk }) => Err(ShelfError::Fault { disk }),
-        Err(_) => Err(ShelfError::Down),
+        Err(no) => Err(fault_of(no, 0)),
     }
 }
 
