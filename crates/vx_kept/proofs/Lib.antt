@@ -10,3 +10,4 @@ pub mod Facts
 pub mod StateLemmas
 pub mod Narrower
 pub mod Staling
+pub mod Firsts

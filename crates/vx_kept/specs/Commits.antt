@@ -7,7 +7,7 @@ use Rattle.vx_config.specs.declared.config.Config.{Config}
 use Rattle.vx_copies.specs.Answers.{good_set}
 use Rattle.vx_copies.specs.Commits.{CommitStops, Grown}
 use Rattle.vx_copies.specs.Marks.{HasGood}
-use Rattle.vx_kept.specs.Keeping.{IsTidy, Kept, SameShape}
+use Rattle.vx_kept.specs.Keeping.{AllOn, IsTidy, Kept, SameShape}
 
 -- a disk of a set, by its bit
 pub record Member (good : ℕ) (m : Meaning) (u : ℕ) : Type 0 where
@@ -33,3 +33,8 @@ pub record Left (good : ℕ) (c a d : Config) (old new : Meaning) (why : No) : T
 abbrev pub TakeEnds : {T : Type 0} → ℕ → Config → Config → Config → Meaning → Meaning → Result T No → Type 0
 TakeEnds good c a d old new (Ok x) = Taken c a d old new
 TakeEnds good c a d old new (Err why) = Left good c a d old new why
+
+-- how the first one ends
+abbrev pub FirstEnds : {T : Type 0} → ℕ → Config → Config → Meaning → Meaning → Result T No → Type 0
+FirstEnds good c d old new (Ok x) = Taken c c d old new × AllOn d
+FirstEnds good c d old new (Err why) = CommitStops good c d.serial old new why

@@ -35,6 +35,12 @@ pub record Sees (c : Config) (good : ℕ → Type 0) (m : Meaning) (i : Image) :
   pub kin : Kin c config
   pub others : (readable : ℕ → Bool) (g : ℕ) (x : Config) → good g → readable g ≡ true → found_by m readable i ≡ Found x → Kin c x
 
+-- the disks are ready for the next serial, and each has a label
+pub record Base (c : Config) (m : Meaning) : Type 0 where
+  pub below : Below c m
+  pub counts : (u : ℕ) → u < m.units → Counts (on_shelf m) (m.leaves u)
+  pub labels : HaveLabels m
+
 -- the disks keep a configuration of this kind, and are ready for the next commit
 pub record Kept (c : Config) (good : ℕ → Type 0) (m : Meaning) : Type 0 where
   pub below : Below c m

@@ -5,7 +5,9 @@
 #![tactic(auto)]
 
 mod committing;
+mod first;
 mod states;
 
 pub use committing::commit_stale;
+pub use first::commit_first;
 pub use states::{make_active, make_stale};
