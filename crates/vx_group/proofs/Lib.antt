@@ -4,3 +4,4 @@ pub mod WriteLemmas
 pub mod DetachLemmas
 pub mod ReadLemmas
 pub mod ReadyLemmas
+pub mod CreateLemmas

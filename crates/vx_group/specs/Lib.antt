@@ -3,3 +3,4 @@ pub mod Blames
 pub mod Moves
 pub mod Settled
 pub mod Laws
+pub mod Creates

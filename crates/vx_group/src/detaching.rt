@@ -14,8 +14,8 @@ use vx_kept::commit_stale;
 use vx_model::No;
 use vx_volume::Failed;
 
-// The set of the disks that are held as good, from the last one on.
-fn good_of(disks: &Disks) -> u8
+/// The set of the disks that are held as good, from the last one on.
+pub fn good_of(disks: &Disks) -> u8
     ensures { result ≡ good_set disks.now }
 {
     let disks = disks.as_slice();

@@ -4,6 +4,7 @@
 #![tactic(auto)]
 
 mod counting;
+mod create;
 mod detaching;
 mod flushing;
 mod group;

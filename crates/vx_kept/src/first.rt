@@ -1,5 +1,5 @@
 // The first commit of a group.
-ghost use Rattle.std.specs.Prelude.{◌≡◌, true, OnOk};
+ghost use Rattle.std.specs.Prelude.{◌≡◌, ℕ, true};
 ghost use Rattle.vx_config.specs.Configs.{CanSpell};
 ghost use Rattle.vx_copies.specs.Bodies.{is_wanted};
 ghost use Rattle.vx_copies.specs.Commits.{HaveLabels};
@@ -28,6 +28,8 @@ pub fn commit_first<S: Shelf>(
     requires labels { HaveLabels (S.meaning shelf.old) }
     ensures can { CanSpell config.new }
     ensures wanted { is_wanted (S.meaning shelf.new).units (S.meaning shelf.new).size config.new ≡ true }
+    ensures units { (S.meaning shelf.new).units ≡ (S.meaning shelf.old).units }
+    ensures size { (u : ℕ) → (S.meaning shelf.new).size u ≡ (S.meaning shelf.old).size u }
     ensures ends { FirstEnds good config.old config.new (S.meaning shelf.old) (S.meaning shelf.new) result }
 {
     commit_in(shelf, config, good, room)
