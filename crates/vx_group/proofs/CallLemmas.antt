@@ -15,7 +15,7 @@ use Rattle.vx_volume.specs.Volumes.{AllBut, EndsAt}
 use Rattle.vx_kept.specs.Commits.{Member}
 use Rattle.vx_kept.specs.Groups.{group_meaning}
 use Rattle.vx_kept.specs.Keeping.{Acts, Kept, IsTidy, Sees}
-use Rattle.vx_kept.proofs.StateLemmas.{same_shape}
+use Rattle.vx_kept.proofs.StateLemmas.{same_shape, then_shape}
 use Rattle.vx_kept.proofs.Steps.{both_Acts, group-Goes, wide_Acts}
 use Rattle.vx_kept.proofs.Whole.{sees_back}
 use Rattle.vx_group.specs.Blames.{Blames, BlamesOr, Counts, fault_of}
@@ -154,8 +154,24 @@ module _ (core : GroupCore) (b : Bool) (m m' : Meaning) (stands : Stands core m)
     faults = narrows.faults;
   }
 
+  pub settled_to : Narrows core settled m m'
+  settled_to = record { acts = acts; shape = same_shape core.config; on = λ v p is. is; faults = refl }
+
   pub settled_only : Narrows core core m m'
   settled_only = record { acts = acts; shape = same_shape core.config; on = λ v p is. is; faults = refl }
+
+-- ---- two in a row, of which the first left the configuration
+
+pub both_Narrows : (a b d : GroupCore) (m m' last : Meaning) → b.config ≡ a.config → b.good ≡ a.good → Narrows a b m m' → Narrows b d m' last → Narrows a d m last
+both_Narrows a b d m m' last config good one two = record {
+  acts = wide_Acts (Or Nothing Nothing) Nothing (Sees a.config (Member a.good m) m) m last
+      (both_Acts Nothing Nothing (Sees a.config (Member a.good m) m) (Sees b.config (Member b.good m') m') m m' last one.acts two.acts
+      (λ i sees. sees_back a.good a.config m m' one.acts.units one.acts.size i (subst (λ (x : Config). Sees x (Member a.good m') m' i) config (subst (λ (k : ℕ). Sees b.config (Member k m') m' i) good sees))))
+      (λ u k x. ⊎_elim (λ none. none) (λ none. none));
+  shape = then_shape d.config b.config a.config two.shape one.shape;
+  on = λ v p is. one.on v p (two.on v p is);
+  faults = two.faults ∙ one.faults;
+}
 
 -- ---- refusals of a volume
 

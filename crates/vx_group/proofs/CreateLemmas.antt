@@ -1,10 +1,9 @@
 -- A new group stands on its disks.
-use Rattle.std.proofs.Common.{◌≡◌, ◌⊎◌, inl, inr, ⊎_elim, ℕ, zero, suc, ◌+◌, ◌<◌, ◌≤◌, ◌^◌, Bool, true, false, IsTrue, Option, Some, None, List, [], ◌∷◌, ◌++◌, length, Result, Ok, Err, refl, ap, sym, ◌∙◌, subst, arith}
-use Rattle.std.specs.Prelude.{◌&&◌, ◌==◌, not}
-use Rattle.std.proofs.lemmas.Bool.{and_from, and_parts, eq-eqb, eqb-true}
+use Rattle.std.proofs.Common.{◌≡◌, inl, inr, ⊎_elim, ℕ, zero, suc, ◌+◌, ◌<◌, ◌≤◌, ◌^◌, true, false, None, List, [], ◌∷◌, ◌++◌, length, Result, Ok, Err, refl, ap, sym, ◌∙◌, subst, arith}
+use Rattle.std.specs.Prelude.{◌==◌, not}
+use Rattle.std.proofs.lemmas.Bool.{and_from, and_parts, eq-eqb}
 use Rattle.vx_disk.specs.Causes.{DeviceCause, refusal_of}
-use Rattle.vx_disk.specs.Counts.{Rose}
-use Rattle.vx_disk.specs.Shelf.{Goes, Keeps, Lawful, Meaning, Or}
+use Rattle.vx_disk.specs.Shelf.{Goes, Lawful, Meaning}
 use Rattle.vx_disk.specs.declared.shelf.ShelfError.{ShelfError}
 use Rattle.vx_disk.specs.declared.shelf.ShelfError.TheVariants.{Fault, Down}
 use Rattle.vx_disk.proofs.Causing.{Rose_before}
@@ -13,10 +12,9 @@ use Rattle.vx_model.specs.declared.errors.Stop.TheVariants.{No as Refused, OutOf
 use Rattle.vx_model.specs.declared.no.Counted.TheVariants.{Number}
 use Rattle.vx_model.specs.declared.no.No.{No}
 use Rattle.vx_model.specs.declared.no.No.TheVariants as refusal
-use Rattle.vx_copyfmt.specs.Areas.{header_of}
 use Rattle.vx_copyfmt.specs.Commits.{IsHeaderBlock}
 use Rattle.vx_copyfmt.specs.Imports.{is_label}
-use Rattle.vx_copyfmt.specs.Labels.{IsLabel, label_block, seen_in}
+use Rattle.vx_copyfmt.specs.Labels.{label_block}
 use Rattle.vx_copyfmt.proofs.LabelLemmas.{seen_in-is}
 use Rattle.vx_config.specs.Checks.{blocks_of, is_sound, runs}
 use Rattle.vx_config.specs.Configs.{CanSpell}
@@ -26,20 +24,19 @@ use Rattle.vx_config.specs.declared.entry.DiskEntry.{DiskEntry}
 use Rattle.vx_config.specs.declared.entry.VolumeEntry.{VolumeEntry}
 use Rattle.vx_copies.specs.Bodies.{fits_units, have_blocks, is_wanted}
 use Rattle.vx_copies.specs.Answers.{good_set}
-use Rattle.vx_copies.specs.Commits.{CommitStops, HaveLabels}
+use Rattle.vx_copies.specs.Commits.{CommitStops}
 use Rattle.vx_copies.specs.Marks.{NoneGood, failed_at}
 use Rattle.vx_copies.proofs.Goods.{good_bit}
 use Rattle.vx_copyio.specs.Causes.{Failed}
-use Rattle.vx_copyio.specs.Labelling.{AreLarge, HasSmall, LabelWritten, Labelled, Labels, label_of}
-use Rattle.vx_copyio.specs.Settling.{AllCleared, HeadersZero, NoHeaders}
+use Rattle.vx_copyio.specs.Labelling.{AreLarge, LabelWritten, Labelled, Labels, label_of}
+use Rattle.vx_copyio.specs.Settling.{AllCleared, HeadersZero}
 use Rattle.vx_kept.specs.Choice.{live}
-use Rattle.vx_kept.specs.Commits.{FirstEnds, Member, Taken}
+use Rattle.vx_kept.specs.Commits.{Member, Taken}
 use Rattle.vx_kept.specs.Keeping.{AllOn, Kept}
-use Rattle.vx_group.specs.Creates.{Created, IsNew, IsReady, Prepared, SameUnits}
-use Rattle.vx_group.specs.Stands.{Stands}
+use Rattle.vx_group.specs.Creates.{IsNew, IsReady, Prepared}
 use Rattle.vx_group.specs.declared.group_core.GroupCore.{GroupCore}
 use Rattle.vx_group.proofs.DetachLemmas.{some_good}
-use Rattle.vx_group.proofs.Standing.{made, still_large}
+use Rattle.vx_group.proofs.Standing.{made}
 
 -- ---- a configuration without volumes
 
@@ -92,15 +89,19 @@ module _ (site : ℕ) (m0 m1 m2 : Meaning) (small : site < 2 ^ 32) (before : Law
   pub prepared : Prepared m0 m2
   prepared = record {
     same = record { units = labels.units ∙ clears.units; size = λ u. labels.size u ∙ clears.size u };
-    cleared = record { each = λ u lt. record {
-      none = λ b v is left. ⊎_elim
-          (λ was. (cleared.each u (omega (arith, labels.units, clears.units, lt))).none b v is was)
-          (λ (put : LabelWritten site m1 u b v). absurd (first_apart b is put.first)) (labels.leaves u b v left);
-    } };
-    labels = record { each = λ u v lt left.
-        let there : u < m1.units = omega (arith, labels.units, lt) in
-        let is : v ≡ label_block (label_of site u (m1.size u)) = (labelled.each u there).only v left in
-        ap is_label (seen_in-is v (label_of site u (m1.size u)) (record { typed = record { site = small; disk = let few = before.few in omega (arith, few, there); blocks = before.small u }; is = is })) };
+    cleared = record {
+      each = λ u lt. record {
+        none = λ b v is left. ⊎_elim
+            (λ was. (cleared.each u (omega (arith, labels.units, clears.units, lt))).none b v is was)
+            (λ (put : LabelWritten site m1 u b v). absurd (first_apart b is put.first)) (labels.leaves u b v left);
+      };
+    };
+    labels = record {
+      each = λ u v lt left.
+          let there : u < m1.units = omega (arith, labels.units, lt) in
+          let is : v ≡ label_block (label_of site u (m1.size u)) = (labelled.each u there).only v left in
+          ap is_label (seen_in-is v (label_of site u (m1.size u)) (record { typed = record { site = small; disk = let few = before.few in omega (arith, few, there); blocks = before.small u }; is = is }));
+    };
   }
 
 -- ---- why none was made

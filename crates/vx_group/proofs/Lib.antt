@@ -5,3 +5,4 @@ pub mod DetachLemmas
 pub mod ReadLemmas
 pub mod ReadyLemmas
 pub mod CreateLemmas
+pub mod DetLemmas

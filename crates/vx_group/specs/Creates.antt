@@ -1,12 +1,12 @@
 -- A new group.
-use Rattle.std.specs.Prelude.{◌≡◌, ◌⊎◌, ℕ, Err, Ok, Result, [], length}
+use Rattle.std.specs.Prelude.{◌≡◌, ◌⊎◌, ℕ, Err, Ok, Result, []}
 use Rattle.vx_disk.specs.Causes.{DeviceCause}
 use Rattle.vx_disk.specs.Shelf.{Meaning}
 use Rattle.vx_model.specs.declared.errors.Stop.{Stop}
 use Rattle.vx_model.specs.declared.errors.Stop.TheVariants.{No as Refused, OutOfMemory}
 use Rattle.vx_model.specs.declared.no.No.TheVariants.{Size}
 use Rattle.vx_copies.specs.Commits.{HaveLabels}
-use Rattle.vx_copyio.specs.Labelling.{AreLarge, HasSmall}
+use Rattle.vx_copyio.specs.Labelling.{HasSmall}
 use Rattle.vx_copyio.specs.Settling.{AllCleared}
 use Rattle.vx_group.specs.Stands.{Stands}
 use Rattle.vx_group.specs.declared.group_core.GroupCore.{GroupCore}

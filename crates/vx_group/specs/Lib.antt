@@ -4,3 +4,4 @@ pub mod Moves
 pub mod Settled
 pub mod Laws
 pub mod Creates
+pub mod Dets

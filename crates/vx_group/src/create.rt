@@ -23,7 +23,7 @@ use vx_model::{No, Stop};
 fn disks_of<S: Shelf>(shelf: &S) -> Disks
     requires few { (S.meaning shelf.now).units ≤ MOST_DISKS }
     ensures count { length result ≡ (S.meaning shelf.now).units }
-    ensures blocks { have_blocks (S.meaning shelf.now).size 0 result ≡ true }
+    ensures sized { have_blocks (S.meaning shelf.now).size 0 result ≡ true }
     ensures good { (u : ℕ) → failed_at result u ≡ false }
 {
     let mut disks = Disks::new();

@@ -1,5 +1,10 @@
 // A group as a shelf.
-ghost use Rattle.std.specs.Prelude.{◌≡◌, ◌<◌, ◌≤◌, Err};
+ghost use Rattle.std.specs.Prelude.{◌≡◌, ◌<◌, ◌≤◌, false, Some, None, Err, OnOk};
+ghost use Rattle.vx_disk.specs.Shelf.{Goes, Nothing};
+ghost use Rattle.vx_group.specs.Dets.{DetStops, det_refusal};
+ghost use Rattle.vx_group.specs.Moves.{Narrows};
+ghost use Rattle.vx_model.specs.declared.no.No.{No as NoValue};
+ghost use Rattle.vx_volume.specs.Plexes.{active};
 ghost use Rattle.vx_copyio.specs.Labelling.{HasSmall};
 ghost use Rattle.vx_model.specs.declared.errors.Stop.TheVariants.{No as Refused};
 ghost use Rattle.vx_model.specs.declared.limits.TheConstants.{MOST_DISKS};
@@ -10,6 +15,7 @@ ghost use Rattle.vx_group.specs.Stands.{Stands, meaning_of};
 
 use crate::GroupCore;
 use crate::create::start;
+use crate::det::det_in;
 use crate::flushing::flush_in;
 use crate::reading::read_in;
 use crate::writing::write_in;
@@ -49,6 +55,22 @@ impl<S: Shelf> Group<S> {
         ensures { result.now ≡ self.now.core.config }
     {
         &self.core.config
+    }
+
+    /// Detaches a plex. Nothing changes where it is not ACTIVE.
+    ///
+    /// Answers 1 exactly where there is no such volume or plex, else 10 exactly where no other plex of the volume is ACTIVE, else 19
+    /// exactly where fewer than 65,536 serials are left, and then nothing has changed; else 7 only where the count of the disk that it
+    /// names rose, and 6 only where the shelf is then down. It makes no device call but those of a commit, behind a refused commit those
+    /// that write headers back, and takes no memory.
+    pub fn det(&mut self, vol: u32, plex: u32) -> Result<(), Stop>
+        ensures refused { (no : NoValue) → det_refusal self.old.core.config vol plex ≡ Some no → (result ≡ Err (Refused no)) × (self.new.core ≡ self.old.core) × (self.new.shelf ≡ self.old.shelf) }
+        ensures goes { Goes Nothing (meaning_of self.old.core (S.meaning self.old.shelf)) (meaning_of self.new.core (S.meaning self.new.shelf)) }
+        ensures narrows { Narrows self.old.core self.new.core (S.meaning self.old.shelf) (S.meaning self.new.shelf) }
+        ensures off { OnOk result (active self.new.core.config vol plex ≡ false) }
+        ensures cause { det_refusal self.old.core.config vol plex ≡ None → DetStops (S.meaning self.old.shelf) (S.meaning self.new.shelf) result }
+    {
+        det_in(&mut self.shelf, &mut self.core, vol, plex)
     }
 
     /// Hands out the shelf below and the rest. It makes no device call and takes no memory.

@@ -5,6 +5,7 @@
 
 mod counting;
 mod create;
+mod det;
 mod detaching;
 mod flushing;
 mod group;

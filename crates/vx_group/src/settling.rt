@@ -54,3 +54,26 @@ pub fn make_ready<S: Shelf>(shelf: &mut S, core: &mut GroupCore) -> Result<(), S
     core.unsettled = false;
     detach(shelf, core, 0, Failed { set: 0, disk: 0 })
 }
+
+/// Writes headers back after a refused commit, so that a commit may follow.
+pub fn settle_headers<S: Shelf>(shelf: &mut S, core: &mut GroupCore) -> Result<(), ShelfError>
+    requires stands { Stands core.old (S.meaning shelf.old) }
+    requires up { IsTrue (S.meaning shelf.old).down → ⊥ }
+    ensures stands { Stands core.new (S.meaning shelf.new) }
+    ensures narrows { Narrows core.old core.new (S.meaning shelf.old) (S.meaning shelf.new) }
+    ensures same { core.new.config ≡ core.old.config }
+    ensures good { core.new.good ≡ core.old.good }
+    ensures settled { OnOk result (core.new.unsettled ≡ false) }
+    ensures cause { Blames (S.meaning shelf.old) (S.meaning shelf.new) result }
+{
+    if !core.unsettled {
+        return Ok(());
+    }
+    match settle_disks(shelf, core) {
+        Ok(()) => {
+            core.unsettled = false;
+            Ok(())
+        }
+        Err(error) => Err(error),
+    }
+}

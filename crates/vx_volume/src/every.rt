@@ -59,11 +59,7 @@ pub fn write_plexes<S: Shelf>(
 }
 
 /// Makes every plex that is ACTIVE durable. Answers which of them failed.
-pub fn flush_plexes<S: Shelf>(
-    config: &Config,
-    vol: u32,
-    shelf: &mut S,
-) -> Result<Flags, No>
+pub fn flush_plexes<S: Shelf>(config: &Config, vol: u32, shelf: &mut S) -> Result<Flags, No>
     requires checked { IsTrue (is_sound config.now) }
     requires disks { DisksFit config.now.disks (S.meaning shelf.old) }
     requires some { SomeActive config.now vol }

@@ -1,6 +1,5 @@
-use Rattle.std.proofs.Common.{◌≤◌, arith}
+use Rattle.std.proofs.Common.{arith}
 use Rattle.vx_group.proofs.CreateLemmas.{labels_ready, prepared}
-use Rattle.vx_copyio.specs.Labelling.{AreLarge}
 use Rattle.vx_group.proofs.Standing.{still_large}
 use Rattle.vx_group.proofs.create.prepare.Goals as goal
 

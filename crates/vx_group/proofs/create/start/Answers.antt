@@ -1,8 +1,7 @@
-use Rattle.std.proofs.Common.{◌≡◌, ◌<◌, true, inr, ℕ, List, None, length, refl, ap, sym, subst, ◌∙◌, arith}
+use Rattle.std.proofs.Common.{◌≡◌, true, inr, ℕ, List, None, length, refl, ap, sym, subst, arith}
 use Rattle.vx_config.specs.declared.config.Config.{Config}
 use Rattle.vx_config.specs.declared.entry.VolumeEntry.{VolumeEntry}
 use Rattle.vx_copies.specs.Bodies.{is_wanted}
-use Rattle.vx_copies.specs.Answers.{good_set}
 use Rattle.vx_copies.specs.Marks.{NoneGood}
 use Rattle.vx_copies.proofs.OneTry.{wanted_same}
 use Rattle.vx_kept.specs.Commits.{Taken}
@@ -14,7 +13,7 @@ use Rattle.vx_group.proofs.create.start.Goals as goal
 pub commit_first-requires-clause-wanted : goal.commit_first-requires-clause-wanted
 commit_first-requires-clause-wanted g c =
     let same = c.in-Ok-prepare.ensures.ready.same in
-    let first = empty_wanted c.args.site c.disks_of.result (g.S.Shelf.meaning c.args.shelf.now).units (g.S.Shelf.meaning c.args.shelf.now).size c.disks_of.ensures.count c.disks_of.ensures.blocks in
+    let first = empty_wanted c.args.site c.disks_of.result (g.S.Shelf.meaning c.args.shelf.now).units (g.S.Shelf.meaning c.args.shelf.now).size c.disks_of.ensures.count c.disks_of.ensures.sized in
     wanted_same (g.S.Shelf.meaning c.args.shelf.now) (g.S.Shelf.meaning c.prepare.new.shelf) (record { serial = 0; site = c.args.site; disks = c.disks_of.result; volumes = c.new.result; rvg = None }) same.units same.size
     (subst (λ (x : Config). is_wanted (g.S.Shelf.meaning c.args.shelf.now).units (g.S.Shelf.meaning c.args.shelf.now).size x ≡ true) (sym (ap (λ (vs : List VolumeEntry). empty_with c.args.site c.disks_of.result vs) c.new.ensures)) first)
 
