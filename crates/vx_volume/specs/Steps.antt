@@ -8,6 +8,7 @@ use Rattle.vx_layout.specs.Places.{place}
 use Rattle.vx_model.specs.declared.no.No.{No}
 use Rattle.vx_model.specs.declared.no.No.TheVariants as refusal
 use Rattle.vx_volume.specs.Plexes.{InRun, Inside, active, plexes_of, uses}
+use Rattle.vx_volume.specs.declared.every.Flags.{Flags}
 use Rattle.vx_volume.specs.Volumes.{AllBut, AllFailed, OnPlex, OnPlexes, PlexBlamed, PlexFlushed, PlexRead, PlexWrote, ReadFrom, turn_of}
 
 -- one device call more: so many blocks behind the first `done`
@@ -86,8 +87,8 @@ pub record ReadLoop (c : Config) (v plexes first turn device : ℕ) (old new : M
   pub blamed : (q : ℕ) → q < plexes → IsTrue (active c v q) → turn_of plexes first q < turn → PlexBlamed c v q old new × Rose (old.disk_faults device) (new.disk_faults device)
 
 -- what a call on every plex answers, by flags
-abbrev pub FlagsEnd : Config → ℕ → (ℕ → Type 0) → Meaning → Meaning → Result (List Bool) No → Type 0
-FlagsEnd c v done old new (Ok failed) = AllBut c v (in_set failed) done old new
+abbrev pub FlagsEnd : Config → ℕ → (ℕ → Type 0) → Meaning → Meaning → Result Flags No → Type 0
+FlagsEnd c v done old new (Ok f) = AllBut c v (in_set f.failed) done old new × Device f.failed f.device old new
 FlagsEnd c v done old new (Err (refusal.Device disk)) = AllFailed c v disk old new
 FlagsEnd c v done old new (Err refusal.Down) = IsTrue new.down
 FlagsEnd c v done old new (Err other) = ⊥
