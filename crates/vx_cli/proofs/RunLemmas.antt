@@ -4,8 +4,8 @@ use Rattle.vx_history.specs.World.{World, empty_world}
 use Rattle.vx_disk.specs.Shelf.{Meaning}
 use Rattle.vx_disk.specs.declared.shelf.Shelf.{Ghosts}
 use Rattle.vx_stream.proofs.SendLemmas.{appends_none}
-use Rattle.vx_world.specs.Sound.{Sound}
-use Rattle.vx_world.proofs.Stays.{empty_sound}
+use Rattle.vx_history.specs.GoodWorld.{GoodWorld}
+use Rattle.vx_world.proofs.Whole.{empty_good}
 use Rattle.vx_node.specs.declared.yard.Yard.{Yard}
 use Rattle.vx_node.specs.Holds.{AreFresh, RacksHold, RacksTell, rack_faults}
 use Rattle.vx_node.specs.Lines.{script_line}
@@ -35,8 +35,8 @@ run_told f files w (line ∷ lines) (fails ∷ failures) (text ∷ texts) new ru
 
 -- all that holds of every world holds of each world of a run
 world_sound : (told : Type 0) → told → (files : Bool) (w : World) (lines : List (List ℕ)) (failures : List Fails) (texts : List (List ℕ)) (new : World)
-    → Sound w → Run told files w lines failures texts new → Sound new
-world_sound told is files w [] [] [] new sound run = subst Sound (sym run) sound
+    → GoodWorld w → Run told files w lines failures texts new → GoodWorld new
+world_sound told is files w [] [] [] new sound run = subst GoodWorld (sym run) sound
 world_sound told is files w [] [] (text ∷ texts) new sound run = absurd run
 world_sound told is files w [] (fails ∷ failures) texts new sound run = absurd run
 world_sound told is files w (line ∷ lines) [] texts new sound run = absurd run
@@ -68,7 +68,7 @@ module _ {R : Type 0} {g : Ghosts R} where
           appends = o.appends;
           rose = rose_same (all_fails o.part.failures) (count_of old) (count_of new) f0 f1 (λ s d. sym (counts s d)) (after o.world o.leaves) o.rose;
           leaves = record {
-            good = λ tells. (world_sound (IsTold new) (told o.world o.leaves tells) (in_files old) empty_world o.part.lines o.part.failures o.part.texts o.world empty_sound o.run);
+            good = λ tells. (world_sound (IsTold new) (told o.world o.leaves tells) (in_files old) empty_world o.part.lines o.part.failures o.part.texts o.world empty_good o.run);
             holds = holds o.world o.leaves;
           };
         };
@@ -77,7 +77,7 @@ module _ {R : Type 0} {g : Ghosts R} where
 module _ {R : Type 0} (meaning : R → Meaning) where
   -- the racks of a world without sites hold it
   fresh_leave : (racks : List R) → AreFresh meaning racks → Leaves meaning racks empty_world
-  fresh_leave racks fresh = record { good = λ _. empty_sound; holds = record { eight = fresh.eight; each = λ s r below at. absurd (omega arith) } }
+  fresh_leave racks fresh = record { good = λ _. empty_good; holds = record { eight = fresh.eight; each = λ s r below at. absurd (omega arith) } }
 
   -- memory ran out before the run began
   pub run_stops : (T : Type 0) (files : Bool) (racks now : List R) (left w0 : Option (List ℕ)) → AreFresh meaning racks → now ≡ racks

@@ -22,7 +22,8 @@ use Rattle.vx_history.specs.LinkForms.{plain_receiver}
 use Rattle.vx_history.specs.Receiving.{Received, received_step}
 use Rattle.vx_history.specs.Refusals.{Outcome, says, unless, unless_halted, is_primary, some_below, at_site, at_work, on_volume}
 use Rattle.vx_history.specs.Sends.{is_linked, with_links, sending}
-use Rattle.vx_history.specs.Step.{step, run, done, joined_blocks}
+use Rattle.vx_history.specs.Headers.{headers_by}
+use Rattle.vx_history.specs.Step.{step, outcome_of, run, done, joined_blocks}
 use Rattle.vx_history.specs.declared.event.Said.TheVariants.{Got, Refused}
 use Rattle.vx_history.specs.Steps.{site_made, raw_made, raw_set, written, logged, half_written, crashed, crash_left, session_begun, stopped_by, recovered, burned}
 use Rattle.vx_history.specs.World.{Node, Link as LinkOf, World, bare_site, updated, with_node}
@@ -62,6 +63,7 @@ pub record KeptBy (P : World → Type 0) : Type 0 where
   pub recover : (w : World) (s : ℕ) → P w → P (recovered_at w s)
   pub session : (w : World) (s : ℕ) → P w → P (session_begun w s)
   pub stop : (w : World) (s disk : ℕ) → P w → P (stopped_by w s disk)
+  pub count : (w : World) (headers : ℕ → ℕ) → P w → P (record w { headers = headers })
 
 -- whatever holds of the world before an event and behind its tests holds behind it
 module _ (P : World → Type 0) where
@@ -98,7 +100,7 @@ module _ (P : World → Type 0) where
       (past (is_past (w.nodes s).base volume start count) Range w o p h))))))
 
 -- a read leaves the world as it is
-pub read_stays : (w : World) (s volume start count : ℕ) → (step w (Read s volume start count)).world ≡ w
+pub read_stays : (w : World) (s volume start count : ℕ) → (outcome_of w (Read s volume start count)).world ≡ w
 read_stays w s volume start count = past_volume (λ (v : World). v ≡ w) w s volume start count false (says w (Got (joined_blocks (blocks_from (w.nodes s).base volume start count)))) refl refl
 
 module _ (P : World → Type 0) (keeps : KeptBy P) where
@@ -132,8 +134,8 @@ module _ (P : World → Type 0) (keeps : KeptBy P) where
   recover_keeps Deported w s fails p = p
   recover_keeps Down w s fails p = past P (leb MOST_NUMBER (w.nodes s).session) (Limit Number MOST_NUMBER) w (recovery w s fails) p (recovery_keeps w s fails p)
 
-  pub step_keeps : (w : World) (e : Event) → IsSingle e → P w → P (step w e).world
-  step_keeps w (Site name disks blocks) one p =
+  outcome_keeps : (w : World) (e : Event) → IsSingle e → P w → P (outcome_of w e).world
+  outcome_keeps w (Site name disks blocks) one p =
       let o : Outcome = done (site_made w name disks blocks) in
       let sized : Outcome = unless (eqb disks 0 || ltb blocks LEAST_BLOCKS) Size w o in
       let fits : Outcome = unless (ltb MOST_DISKS disks) (Limit Disks MOST_DISKS) w sized in
@@ -142,39 +144,42 @@ module _ (P : World → Type 0) (keeps : KeptBy P) where
       (past P (leb MOST_SITES w.sites) (Limit Sites MOST_SITES) w fits p
       (past P (ltb MOST_DISKS disks) (Limit Disks MOST_DISKS) w sized p
       (past P (eqb disks 0 || ltb blocks LEAST_BLOCKS) Size w o p (keeps.site w name disks blocks p))))
-  step_keeps w (Raw s) one p =
+  outcome_keeps w (Raw s) one p =
       let o : Outcome = done (raw_made w s) in
       let sized : Outcome = unless (not (is_raw_shape (w.nodes s).disks (w.nodes s).blocks)) Size w o in
       past_site P w s (unless (not (is_bare (w.nodes s).state)) WrongRole w sized) p
       (past P (not (is_bare (w.nodes s).state)) WrongRole w sized p
       (past P (not (is_raw_shape (w.nodes s).disks (w.nodes s).blocks)) Size w o p (keeps.raw w s p)))
-  step_keeps w (Write s volume start bytes fails) one p =
+  outcome_keeps w (Write s volume start bytes fails) one p =
       let x : WriteBlocks = record { volume = volume; start = start; bytes = bytes } in
       past_volume P w s volume start (blocks_in bytes) (is_too_large (w.nodes s).ring (blocks_in bytes)) (written_if (admitted w s x) w s x fails) p (written_keeps (admitted w s x) w s x fails p)
-  step_keeps w (Read s volume start count) one p =
+  outcome_keeps w (Read s volume start count) one p =
       past_volume P w s volume start count false (says w (Got (joined_blocks (blocks_from (w.nodes s).base volume start count)))) p p
-  step_keeps w (Apply s count reached) one p =
+  outcome_keeps w (Apply s count reached) one p =
       let o : Outcome = (if is_origin (w.nodes s).role then reached_at w s count reached else apply_at w s count) in
       past_site P w s (at_work w s o) p (past_work P w s o p (apply_by (is_origin (w.nodes s).role) w s count reached p))
-  step_keeps w (Crash s kept) one p =
+  outcome_keeps w (Crash s kept) one p =
       let o : Outcome = done (crash_at w s (kept_of (w.nodes s) kept)) in
       past_site P w s (unless (not (is_up (w.nodes s).state)) NotUp w o) p
       (past P (not (is_up (w.nodes s).state)) NotUp w o p (keeps.crash w s (kept_of (w.nodes s) kept) p))
-  step_keeps w (Recover s fails) one p = past_site P w s (recover_from (w.nodes s).state w s fails) p (recover_keeps (w.nodes s).state w s fails p)
-  step_keeps w (Fault s disk) one p =
+  outcome_keeps w (Recover s fails) one p = past_site P w s (recover_from (w.nodes s).state w s fails) p (recover_keeps (w.nodes s).state w s fails p)
+  outcome_keeps w (Fault s disk) one p =
       let o : Outcome = says (stopped_by w s disk) (Refused (Device disk)) in
       past_site P w s (unless (not (is_up (w.nodes s).state)) NotUp w o) p
       (past P (not (is_up (w.nodes s).state)) NotUp w o p (keeps.stop w s disk p))
-  step_keeps w (Pump s q) one p = absurd one
-  step_keeps w (Tick s q) one p = absurd one
-  step_keeps w (Deliver number whole) one p = absurd one
-  step_keeps w (Connect s q) one p = absurd one
-  step_keeps w (Cut s q) one p = absurd one
-  step_keeps w (Pause s q) one p = absurd one
-  step_keeps w (Resume s q) one p = absurd one
-  step_keeps w (Wait s number) one p = absurd one
-  step_keeps w (Link s q sync part) one p = absurd one
-  step_keeps w (Set s q sync) one p = absurd one
+  outcome_keeps w (Pump s q) one p = absurd one
+  outcome_keeps w (Tick s q) one p = absurd one
+  outcome_keeps w (Deliver number) one p = absurd one
+  outcome_keeps w (Connect s q) one p = absurd one
+  outcome_keeps w (Cut s q) one p = absurd one
+  outcome_keeps w (Pause s q) one p = absurd one
+  outcome_keeps w (Resume s q) one p = absurd one
+  outcome_keeps w (Wait s number) one p = absurd one
+  outcome_keeps w (Link s q sync part) one p = absurd one
+  outcome_keeps w (Set s q sync) one p = absurd one
+
+  pub step_keeps : (w : World) (e : Event) → IsSingle e → P w → P (step w e).world
+  step_keeps w e one p = keeps.count (outcome_of w e).world (λ i. w.headers i + headers_by e w (outcome_of w e) i) (outcome_keeps w e one p)
 
   pub run_keeps : (w : World) (es : List Event) → AllSingle es → P w → P (run w es)
   run_keeps w [] all p = p
@@ -204,8 +209,9 @@ unlinked_kept = record {
   half = λ w s x disk none. same_links w (half_written w s x disk) (λ p q. refl) none;
   apply = λ w s number mark none. same_links w (acknowledged w s (applied (w.nodes s) number mark)) (λ p q. refl) none;
   crash = λ w s kept none.
-      row_unlinked (crash_world w s kept) s (λ to. lost_touch (w.links s to)) (same_links w (crash_world w s kept) (crash_links (is_origin (w.nodes s).role) w s kept) none)
-      (λ k. ap (λ (l : LinkOf). is_linked l) (sym (crash_links (is_origin (w.nodes s).role) w s kept s k)));
+      same_links (with_links (crash_world w s kept) s (λ to. lost_touch (w.links s to))) (crash_at w s kept) (λ p q. refl)
+      (row_unlinked (crash_world w s kept) s (λ to. lost_touch (w.links s to)) (same_links w (crash_world w s kept) (crash_links (is_origin (w.nodes s).role) w s kept) none)
+      (λ k. ap (λ (l : LinkOf). is_linked l) (sym (crash_links (is_origin (w.nodes s).role) w s kept s k))));
   recover = λ w s none.
       let n : Node = come_back (w.nodes s) in
       let v : World = with_links (with_node w s n) s (λ to. restarted_link n to (w.links s to)) in
@@ -213,6 +219,7 @@ unlinked_kept = record {
       (row_unlinked (with_node w s n) s (λ to. restarted_link n to (w.links s to)) (same_links w (with_node w s n) (λ p q. refl) none) (λ k. refl));
   session = λ w s none. same_links w (session_begun w s) (λ p q. refl) none;
   stop = λ w s disk none. same_links w (stopped_by w s disk) (λ p q. refl) none;
+  count = λ w headers none. record { none = none.none };
 }
 
 -- these events make no link
@@ -253,6 +260,7 @@ primaries_kept = record {
       node_primary w (recovered_at w s) s (come_back (w.nodes s)) (λ k. refl) (ap (λ (n : Node). n.role) (back_primary (w.nodes s) (all.each s)) ∙ all.each s) all;
   session = λ w s all. node_primary w (session_begun w s) s (record (w.nodes s) { session = (w.nodes s).session + 1 }) (λ k. refl) (all.each s) all;
   stop = λ w s disk all. node_primary w (stopped_by w s disk) s (record (w.nodes s) { halted = Some disk; fuse = burned (w.nodes s).fuse }) (λ k. refl) (all.each s) all;
+  count = λ w headers all. record { each = all.each };
 }
 
 -- these events change no role

@@ -15,7 +15,7 @@ use Rattle.vx_history.specs.Admission.{Admitted, Goes, admit}
 use Rattle.vx_history.specs.Events.{admitted, written_if, put_in, links_changed, link_after, said_of_write, is_in_place, link_in_place, put_before, linked_sites, plain_links, uses, reached_at, apply_at, crash_at, kept_of, recover_from, recovery}
 use Rattle.vx_history.specs.Refusals.{Outcome, says, unless, at_work, some_below, is_waited_for, waits, goes, refused}
 use Rattle.vx_history.specs.Sends.{is_made, is_linked}
-use Rattle.vx_history.specs.Step.{step, done, joined_blocks}
+use Rattle.vx_history.specs.Step.{outcome_of, done, joined_blocks}
 use Rattle.vx_history.specs.Steps.{site_made, raw_made, written, half_written, stopped_by}
 use Rattle.vx_history.specs.World.{Node, Link as LinkOf, World}
 use Rattle.vx_history.specs.declared.event.Event.TheVariants.{Site, Raw, Write, Read, Apply, Crash, Recover, Fault}
@@ -27,7 +27,7 @@ use Rattle.vx_events.proofs.Passing.{off, above, not_below, is_more, neither, is
 -- ---- sites
 
 pub site_step : (w : World) (name : List ℕ) (disks blocks : ℕ) → some_below w.sites (λ k. bytes_eq (w.nodes k).name name) ≡ false → w.sites < 8 → disks ≤ 8 → 1 ≤ disks → 8 ≤ blocks
-    → step w (Site name disks blocks) ≡ done (site_made w name disks blocks)
+    → outcome_of w (Site name disks blocks) ≡ done (site_made w name disks blocks)
 site_step w name disks blocks free few narrow some large =
     let o : Outcome = done (site_made w name disks blocks) in
     let sized : Outcome = unless (eqb disks 0 || ltb blocks LEAST_BLOCKS) Size w o in
@@ -38,7 +38,7 @@ site_step w name disks blocks free few narrow some large =
     ∙ off (ltb MOST_DISKS disks) (Limit Disks MOST_DISKS) w sized (not_below MOST_DISKS disks narrow)
     ∙ off (eqb disks 0 || ltb blocks LEAST_BLOCKS) Size w o (neither (eqb disks 0) (ltb blocks LEAST_BLOCKS) (is_more disks some) (not_below blocks LEAST_BLOCKS large))
 
-pub raw_step : (w : World) (s : ℕ) → s < w.sites → (w.nodes s).state ≡ Bare → is_raw_shape (w.nodes s).disks (w.nodes s).blocks ≡ true → step w (Raw s) ≡ done (raw_made w s)
+pub raw_step : (w : World) (s : ℕ) → s < w.sites → (w.nodes s).state ≡ Bare → is_raw_shape (w.nodes s).disks (w.nodes s).blocks ≡ true → outcome_of w (Raw s) ≡ done (raw_made w s)
 raw_step w s below bare shape =
     let o : Outcome = done (raw_made w s) in
     let sized : Outcome = unless (not (is_raw_shape (w.nodes s).disks (w.nodes s).blocks)) Size w o in
@@ -48,7 +48,7 @@ raw_step w s below bare shape =
 
 -- ---- crashes, recoveries and failing disks
 
-pub crash_step : (w : World) (s kept : ℕ) → s < w.sites → (w.nodes s).state ≡ Up → step w (Crash s kept) ≡ done (crash_at w s (kept_of (w.nodes s) kept))
+pub crash_step : (w : World) (s kept : ℕ) → s < w.sites → (w.nodes s).state ≡ Up → outcome_of w (Crash s kept) ≡ done (crash_at w s (kept_of (w.nodes s) kept))
 crash_step w s kept below up =
     let o : Outcome = done (crash_at w s (kept_of (w.nodes s) kept)) in
     is_site w s (unless (not (is_up (w.nodes s).state)) NotUp w o) below
@@ -57,18 +57,18 @@ crash_step w s kept below up =
 pub kept_is : (n : Node) (k : ℕ) → n.safe ≤ k → k ≤ length n.log → kept_of n k ≡ k
 kept_is n k least most = omega arith
 
-pub recover_step : (w : World) (s : ℕ) (fails : Option ℕ) → s < w.sites → (w.nodes s).state ≡ Down → (w.nodes s).session < MOST_NUMBER → step w (Recover s fails) ≡ recovery w s fails
+pub recover_step : (w : World) (s : ℕ) (fails : Option ℕ) → s < w.sites → (w.nodes s).state ≡ Down → (w.nodes s).session < MOST_NUMBER → outcome_of w (Recover s fails) ≡ recovery w s fails
 recover_step w s fails below down some =
     is_site w s (recover_from (w.nodes s).state w s fails) below
     ∙ ap (λ (t : SiteState). recover_from t w s fails) down
     ∙ off (leb MOST_NUMBER (w.nodes s).session) (Limit Number MOST_NUMBER) w (recovery w s fails) (above MOST_NUMBER (w.nodes s).session some)
 
-pub bare_step : (w : World) (s : ℕ) (fails : Option ℕ) → s < w.sites → (w.nodes s).state ≡ Bare → step w (Recover s fails) ≡ refused w NoConfig
+pub bare_step : (w : World) (s : ℕ) (fails : Option ℕ) → s < w.sites → (w.nodes s).state ≡ Bare → outcome_of w (Recover s fails) ≡ refused w NoConfig
 bare_step w s fails below bare =
     is_site w s (recover_from (w.nodes s).state w s fails) below
     ∙ ap (λ (t : SiteState). recover_from t w s fails) bare
 
-pub fault_step : (w : World) (s disk : ℕ) → s < w.sites → (w.nodes s).state ≡ Up → step w (Fault s disk) ≡ says (stopped_by w s disk) (Refused (Device disk))
+pub fault_step : (w : World) (s disk : ℕ) → s < w.sites → (w.nodes s).state ≡ Up → outcome_of w (Fault s disk) ≡ says (stopped_by w s disk) (Refused (Device disk))
 fault_step w s disk below up =
     let o : Outcome = says (stopped_by w s disk) (Refused (Device disk)) in
     is_site w s (unless (not (is_up (w.nodes s).state)) NotUp w o) below
@@ -77,7 +77,7 @@ fault_step w s disk below up =
 -- ---- reads and writes
 
 pub read_step : (w : World) (s volume start count : ℕ) → IsCall w s volume start count
-    → step w (Read s volume start count) ≡ says w (Got (joined_blocks (blocks_from (w.nodes s).base volume start count)))
+    → outcome_of w (Read s volume start count) ≡ says w (Got (joined_blocks (blocks_from (w.nodes s).base volume start count)))
 read_step w s volume start count call = is_call w s volume start count false (says w (Got (joined_blocks (blocks_from (w.nodes s).base volume start count)))) call refl
 
 -- a site without links lets every write in
@@ -107,7 +107,7 @@ pub record CanPut (w : World) (s : ℕ) (x : WriteBlocks) : Type 0 where
   pub free : (w.nodes s).safe < MOST_NUMBER
   pub unlinked : IsUnlinked w
 
-put_step : (w : World) (s : ℕ) (x : WriteBlocks) (fails : Option ℕ) → CanPut w s x → step w (Write s x.volume x.start x.bytes fails) ≡ put_in (links_changed w s x) s x fails
+put_step : (w : World) (s : ℕ) (x : WriteBlocks) (fails : Option ℕ) → CanPut w s x → outcome_of w (Write s x.volume x.start x.bytes fails) ≡ put_in (links_changed w s x) s x fails
 put_step w s x fails can =
     let put : Outcome = put_in (links_changed w s x) s x fails in
     is_call w s x.volume x.start (blocks_in x.bytes) (is_too_large (w.nodes s).ring (blocks_in x.bytes)) (written_if (admitted w s x) w s x fails) can.call (not_below (w.nodes s).ring (blocks_in x.bytes + 1) can.fits)
@@ -125,18 +125,18 @@ confirmed w s x number none =
     unwaited k l e = ap (λ (b : Bool). b && (waits l.sync && goes k l)) e
 
 pub write_step : (w : World) (s : ℕ) (x : WriteBlocks) → CanPut w s x
-    → step w (Write s x.volume x.start x.bytes None) ≡ says (written (links_changed w s x) s x) (DoneAt ((w.nodes s).safe + 1))
+    → outcome_of w (Write s x.volume x.start x.bytes None) ≡ says (written (links_changed w s x) s x) (DoneAt ((w.nodes s).safe + 1))
 write_step w s x can =
     put_step w s x None can ∙ ap (λ (said : Said). says (written (links_changed w s x) s x) said) (confirmed w s x ((w.nodes s).safe + 1) can.unlinked)
 
 pub half_step : (w : World) (s : ℕ) (x : WriteBlocks) (disk : ℕ) → CanPut w s x
-    → step w (Write s x.volume x.start x.bytes (Some disk)) ≡ says (half_written (links_changed w s x) s x disk) (Refused (Device disk))
+    → outcome_of w (Write s x.volume x.start x.bytes (Some disk)) ≡ says (half_written (links_changed w s x) s x disk) (Refused (Device disk))
 half_step w s x disk can = put_step w s x (Some disk) can
 
 -- ---- applies
 
 pub apply_step : (w : World) (s count reached : ℕ) → s < w.sites → (w.nodes s).state ≡ Up → (w.nodes s).halted ≡ None → is_origin (w.nodes s).role ≡ true
-    → min count (w.nodes s).safe ≤ reached → reached ≤ (w.nodes s).safe → step w (Apply s count reached) ≡ says w (DoneAt reached)
+    → min count (w.nodes s).safe ≤ reached → reached ≤ (w.nodes s).safe → outcome_of w (Apply s count reached) ≡ says w (DoneAt reached)
 apply_step w s count reached below up runs origin least most =
     let o : Outcome = (if is_origin (w.nodes s).role then reached_at w s count reached else apply_at w s count) in
     let number : min (w.nodes s).safe (max reached (min count (w.nodes s).safe)) ≡ reached = omega arith in

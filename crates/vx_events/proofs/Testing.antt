@@ -15,7 +15,7 @@ use Rattle.vx_model.specs.declared.site.Role.TheVariants.{Primary, Secondary, Ha
 use Rattle.vx_model.specs.declared.site.SiteState.{SiteState}
 use Rattle.vx_model.specs.declared.site.SiteState.TheVariants.{Up as IsUp}
 use Rattle.vx_history.specs.Refusals.{some_below}
-use Rattle.vx_history.specs.Step.{step, done}
+use Rattle.vx_history.specs.Step.{outcome_of, done}
 use Rattle.vx_history.specs.Steps.{site_made, raw_made}
 use Rattle.vx_history.specs.World.{Node, World, Volume}
 use Rattle.vx_history.specs.declared.event.Event.TheVariants.{Site as MakeSite, Raw as MakeRaw}
@@ -92,7 +92,7 @@ pub none_under : (n : ℕ) (test : ℕ → Bool) → ((k : ℕ) → k < n → te
 none_under zero test none = refl
 none_under (suc k) test none = neither (test k) (some_below k test) (none k (omega arith)) (none_under k test (λ j h. none j (omega (arith, h))))
 
-pub site_free : (w : World) (files : Bool) (name : List ℕ) (disks blocks : ℕ) → refusal_of (facts_of w) files (Site name disks blocks) ≡ None → step w (MakeSite name disks blocks) ≡ done (site_made w name disks blocks)
+pub site_free : (w : World) (files : Bool) (name : List ℕ) (disks blocks : ℕ) → refusal_of (facts_of w) files (Site name disks blocks) ≡ None → outcome_of w (MakeSite name disks blocks) ≡ done (site_made w name disks blocks)
 unfolding taken
 site_free w files name disks blocks free =
     let p = passes (facts_of w) files (Site name disks blocks) free in
@@ -104,7 +104,7 @@ site_free w files name disks blocks free =
     (λ k h. let start : 0 + k ≡ k = omega arith in subst (λ (j : ℕ). bytes_eq (w.nodes j).name name ≡ false) start (none_named w.nodes name 0 w.sites none k h)))
     (omega (arith, may.few_sites, many)) may.few_disks may.some_disks may.some_blocks
 
-pub raw_free : (w : World) (files : Bool) (name : List ℕ) → refusal_of (facts_of w) files (Raw name) ≡ None → step w (MakeRaw (site_number w name)) ≡ done (raw_made w (site_number w name))
+pub raw_free : (w : World) (files : Bool) (name : List ℕ) → refusal_of (facts_of w) files (Raw name) ≡ None → outcome_of w (MakeRaw (site_number w name)) ≡ done (raw_made w (site_number w name))
 unfolding first_name wrong_size
 raw_free w files name free =
     let p = passes (facts_of w) files (Raw name) free in

@@ -13,7 +13,7 @@ use Rattle.vx_model.specs.declared.site.SiteState.TheVariants.{Up, Down}
 use Rattle.vx_history.proofs.Updates.{at_place}
 use Rattle.vx_history.specs.Events.{crash_at, recovered_at, come_back}
 use Rattle.vx_history.specs.Refusals.{Outcome, says, refused}
-use Rattle.vx_history.specs.Step.{step, run, done}
+use Rattle.vx_history.specs.Step.{step, outcome_of, counted, run, done}
 use Rattle.vx_history.specs.Steps.{site_made, raw_made, raw_set, crashed, recovered, came_up, session_begun}
 use Rattle.vx_history.specs.World.{Node, World, bare_site, updated, with_node}
 use Rattle.vx_history.specs.declared.event.Event.{Event}
@@ -53,12 +53,12 @@ abbrev keeps_k : ℕ → Choice
 keeps_k k = record { kept = k; reached = 0 }
 
 -- a line that was done by its one event
-pub by_one : (told : Type 0) (w : World) (line : ScriptLine) (s : ℕ) (c : Choice) (e : Event) (o : Outcome) (fails : Fails) (said : Said) (new : World) → events_of w line c ≡ e ∷ [] → step w e ≡ o
-    → fails ≡ [] → RepeatsOf told s e o said → new ≡ noted s line o.world → Ends told w line s fails said new
+pub by_one : (told : Type 0) (w : World) (line : ScriptLine) (s : ℕ) (c : Choice) (e : Event) (o : Outcome) (fails : Fails) (said : Said) (new : World) → events_of w line c ≡ e ∷ [] → outcome_of w e ≡ o
+    → fails ≡ [] → RepeatsOf told s e (counted w e o) said → new ≡ noted s line (counted w e o).world → Ends told w line s fails said new
 by_one told w line s c e o fails said new is at none says leads =
     AllDone c none
-    (subst (λ (es : List Event). Replies told line s w es said) (sym is) (subst (λ (p : Outcome). RepeatsOf told s e p said) (sym at) says))
-    (leads ∙ ap (λ (p : Outcome). noted s line p.world) (sym at) ∙ ap (λ (es : List Event). noted s line (run w es)) (sym is))
+    (subst (λ (es : List Event). Replies told line s w es said) (sym is) (subst (λ (p : Outcome). RepeatsOf told s e (counted w e p) said) (sym at) says))
+    (leads ∙ ap (λ (p : Outcome). noted s line (counted w e p).world) (sym at) ∙ ap (λ (es : List Event). noted s line (run w es)) (sym is))
 
 fails_one : (s disk : ℕ) (fails : Fails) (said : Said) (new next : World) → FailsAt s disk fails said new next → fails ≡ (s, disk) ∷ []
 fails_one s disk fails said new next f = f.one
@@ -66,29 +66,30 @@ fails_one s disk fails said new next f = f.one
 -- ---- sites and sets
 
 pub site_happens : (told : Type 0) (w : World) (name : List ℕ) (disks blocks : ℕ) (fails : Fails) (said : Said) (next : World) → IsUnlinked w → (told → ArePrimaries w)
-    → step w (MakeSite name disks blocks) ≡ done (site_made w name disks blocks)
+    → outcome_of w (MakeSite name disks blocks) ≡ done (site_made w name disks blocks)
     → Cleanly fails said Done next (site_made w name disks blocks) → Happens told w (Site name disks blocks) w.sites fails said next
 site_happens told w name disks blocks fails said next none all at is = record {
-  new = site_made w name disks blocks;
+  new = (counted w (MakeSite name disks blocks) (done (site_made w name disks blocks))).world;
   ends = by_one told w (Site name disks blocks) w.sites first_choice (MakeSite name disks blocks) (done (site_made w name disks blocks)) fails said _ refl at is.none is.says refl;
   sites = ap (λ (v : World). v.sites) (sym is.leads);
   nodes = λ i. ap (λ (v : World). v.nodes i) (sym is.leads);
-  unlinked = same_links w (site_made w name disks blocks) (λ p q. refl) none;
-  primaries = λ told. node_primary w (site_made w name disks blocks) w.sites (bare_site name disks blocks) (λ k. refl) refl (all told);
+  unlinked = same_links w (counted w (MakeSite name disks blocks) (done (site_made w name disks blocks))).world (λ p q. refl) none;
+  primaries = λ told. node_primary w (counted w (MakeSite name disks blocks) (done (site_made w name disks blocks))).world w.sites (bare_site name disks blocks) (λ k. refl) refl (all told);
 }
 
 pub raw_happens : (told : Type 0) (w : World) (name : List ℕ) (fails : Fails) (said : Said) (next : World) → IsUnlinked w → (told → ArePrimaries w)
-    → step w (MakeRaw (site_number w name)) ≡ done (raw_made w (site_number w name))
+    → outcome_of w (MakeRaw (site_number w name)) ≡ done (raw_made w (site_number w name))
     → Cleanly fails said Done next (raw_made w (site_number w name)) → Happens told w (Raw name) (site_number w name) fails said next
 raw_happens told w name fails said next none all at is =
     let s : ℕ = site_number w name in
+    let v : World = (counted w (MakeRaw s) (done (raw_made w s))).world in
     record {
-      new = raw_made w s;
+      new = v;
       ends = by_one told w (Raw name) s first_choice (MakeRaw s) (done (raw_made w s)) fails said _ refl at is.none is.says refl;
       sites = ap (λ (v : World). v.sites) (sym is.leads);
       nodes = λ i. ap (λ (v : World). v.nodes i) (sym is.leads);
-      unlinked = same_links w (raw_made w s) (λ p q. refl) none;
-      primaries = λ told. node_primary w (raw_made w s) s (raw_set s (w.nodes s)) (λ k. refl) refl (all told);
+      unlinked = same_links w v (λ p q. refl) none;
+      primaries = λ told. node_primary w v s (raw_set s (w.nodes s)) (λ k. refl) refl (all told);
     }
 
 -- a disk failed, and nothing of the line's one event stands
@@ -105,14 +106,21 @@ only_happens told w line s e fails said next none all is leaves still f = record
 
 -- ---- crashes
 
-pub crash_is : (w : World) (s k : ℕ) → s < w.sites → (w.nodes s).state ≡ Up → (w.nodes s).safe ≤ k → k ≤ length (w.nodes s).log → step w (CrashAt s k) ≡ done (crash_at w s k)
-crash_is w s k below up least most = crash_step w s k below up ∙ ap (λ (j : ℕ). done (crash_at w s j)) (kept_is (w.nodes s) k least most)
+-- the world behind a crash that kept so many writes
+abbrev pub after_crash : World → ℕ → ℕ → World
+after_crash w s k = (counted w (CrashAt s k) (done (crash_at w s k))).world
 
-crash_unlinked : (w : World) (s k : ℕ) → s < w.sites → (w.nodes s).state ≡ Up → (w.nodes s).safe ≤ k → k ≤ length (w.nodes s).log → IsUnlinked w → IsUnlinked (crash_at w s k)
+crash_outcome : (w : World) (s k : ℕ) → s < w.sites → (w.nodes s).state ≡ Up → (w.nodes s).safe ≤ k → k ≤ length (w.nodes s).log → outcome_of w (CrashAt s k) ≡ done (crash_at w s k)
+crash_outcome w s k below up least most = crash_step w s k below up ∙ ap (λ (j : ℕ). done (crash_at w s j)) (kept_is (w.nodes s) k least most)
+
+pub crash_is : (w : World) (s k : ℕ) → s < w.sites → (w.nodes s).state ≡ Up → (w.nodes s).safe ≤ k → k ≤ length (w.nodes s).log → step w (CrashAt s k) ≡ done (after_crash w s k)
+crash_is w s k below up least most = ap (λ (o : Outcome). counted w (CrashAt s k) o) (crash_outcome w s k below up least most)
+
+crash_unlinked : (w : World) (s k : ℕ) → s < w.sites → (w.nodes s).state ≡ Up → (w.nodes s).safe ≤ k → k ≤ length (w.nodes s).log → IsUnlinked w → IsUnlinked (after_crash w s k)
 crash_unlinked w s k below up least most none = subst (λ (o : Outcome). IsUnlinked o.world) (crash_is w s k below up least most) (run_unlinked w (CrashAt s k ∷ []) (tt, tt) none)
 
-crash_primaries : (w : World) (s k : ℕ) → ArePrimaries w → ArePrimaries (crash_at w s k)
-crash_primaries w s k all = node_primary w (crash_at w s k) s (crashed (w.nodes s) k) (crash_nodes_are w s k) (all.each s) all
+crash_primaries : (w : World) (s k : ℕ) → ArePrimaries w → ArePrimaries (after_crash w s k)
+crash_primaries w s k all = node_primary w (after_crash w s k) s (crashed (w.nodes s) k) (crash_nodes_are w s k) (all.each s) all
 
 pub crash_happens : (told : Type 0) (w : World) (name : List ℕ) (pick : ℕ) (fails : Fails) (said : Said) (next : World) → IsUnlinked w → (told → ArePrimaries w)
     → site_number w name < w.sites → (w.nodes (site_number w name)).state ≡ Up → (crash : Crashes w (site_number w name) next) → Cleanly fails said Done next next
@@ -121,8 +129,8 @@ crash_happens told w name pick fails said next none all below up crash is =
     let s : ℕ = site_number w name in
     let k : ℕ = crash.count in
     record {
-      new = crash_at w s k;
-      ends = by_one told w (Crash name pick) s (keeps_k k) (CrashAt s k) (done (crash_at w s k)) fails said _ refl (crash_is w s k below up crash.least crash.most) is.none is.says refl;
+      new = after_crash w s k;
+      ends = by_one told w (Crash name pick) s (keeps_k k) (CrashAt s k) (done (crash_at w s k)) fails said _ refl (crash_outcome w s k below up crash.least crash.most) is.none is.says refl;
       sites = crash_sites w s k ∙ ap (λ (v : World). v.sites) (sym crash.leads);
       nodes = λ i. crash_nodes_are w s k i ∙ ap (λ (v : World). v.nodes i) (sym crash.leads);
       unlinked = crash_unlinked w s k below up crash.least crash.most none;
@@ -154,12 +162,12 @@ before_of : (told : Type 0) (w : World) (name : List ℕ) (mid : World) → site
 before_of told w name mid below whole none all (CrashesFirst up crash) =
     let s : ℕ = site_number w name in
     let k : ℕ = crash.count in
-    let at : step w (CrashAt s k) ≡ done (crash_at w s k) = crash_is w s k below up crash.least crash.most in
-    let there : (crash_at w s k).nodes s ≡ crashed (w.nodes s) k = crash_nodes_are w s k s ∙ at_place w.nodes s (crashed (w.nodes s) k) in
+    let at : step w (CrashAt s k) ≡ done (after_crash w s k) = crash_is w s k below up crash.least crash.most in
+    let there : (after_crash w s k).nodes s ≡ crashed (w.nodes s) k = crash_nodes_are w s k s ∙ at_place w.nodes s (crashed (w.nodes s) k) in
     record {
       choice = keeps_k k;
       events = CrashAt s k ∷ [];
-      world = crash_at w s k;
+      world = after_crash w s k;
       list = ap (λ (t : SiteState). recovery_of t s k) up;
       ran = λ left. ap (λ (o : Outcome). run o.world left) at;
       replies = λ said is. subst (λ (o : Outcome). RepeatsOf told s (RecoverAt s None) (step o.world (RecoverAt s None)) said) (sym at) is;
@@ -224,17 +232,19 @@ module _ (told : Type 0) (w : World) (name : List ℕ) (mid : World) (b : Before
   came_by fails said some none is (inl primary) =
       let e : Event = RecoverAt s None in
       let next : (here.nodes s).session < MOST_NUMBER = subst (λ (n : Node). n.session < MOST_NUMBER) (sym (b.nodes s)) some in
-      let at : step here e ≡ says (recovered_at here s) (IsRecovered (length (here.nodes s).log)) = recover_step here s None b.below b.down next in
+      let o : Outcome = says (recovered_at here s) (IsRecovered (length (here.nodes s).log)) in
+      let up : World = (counted here e o).world in
+      let at : step here e ≡ counted here e o = ap (λ (p : Outcome). counted here e p) (recover_step here s None b.below b.down next) in
       let back : come_back (here.nodes s) ≡ recovered (here.nodes s) = back_primary (here.nodes s) primary in
-      let ups : (i : ℕ) → (recovered_at here s).nodes i ≡ (came_up mid s).nodes i =
+      let ups : (i : ℕ) → up.nodes i ≡ (came_up mid s).nodes i =
       λ i. ap (λ (n : Node). updated here.nodes s n i) back ∙ like_node mid here s recovered b.nodes i in
       let count : (mid.nodes s).safe ≡ length (here.nodes s).log = ap (λ (n : Node). n.safe) (sym (b.nodes s)) ∙ sym b.whole in
-      let node : (recovered_at here s).nodes s ≡ recovered (mid.nodes s) = ups s ∙ at_place mid.nodes s (recovered (mid.nodes s)) in
-      let says_is : said ≡ Recovered (length (here.nodes s).log) (view_of (recovered_at here s) ((recovered_at here s).nodes s)) =
+      let node : up.nodes s ≡ recovered (mid.nodes s) = ups s ∙ at_place mid.nodes s (recovered (mid.nodes s)) in
+      let says_is : said ≡ Recovered (length (here.nodes s).log) (view_of up (up.nodes s)) =
       is ∙ ap (λ (k : ℕ). Recovered k (view_of (came_up mid s) (recovered (mid.nodes s)))) count
-      ∙ ap (λ v. Recovered (length (here.nodes s).log) v) (sym (view_like (came_up mid s) (recovered_at here s) ((recovered_at here s).nodes s) (recovered (mid.nodes s)) b.sites ups node)) in
+      ∙ ap (λ v. Recovered (length (here.nodes s).log) v) (sym (view_like (came_up mid s) up (up.nodes s) (recovered (mid.nodes s)) b.sites ups node)) in
       record {
-        new = recovered_at here s;
+        new = up;
         ends = AllDone b.choice none
             (subst (λ (es : List Event). Replies told (Recover name) s w es said) (sym b.list) (b.replies said (subst (λ (o : Outcome). RepeatsOf told s e o said) (sym at) says_is)))
             (ap (λ (o : Outcome). o.world) (sym at) ∙ sym (b.ran (e ∷ [])) ∙ ap (λ (es : List Event). run w es) (sym b.list));
@@ -274,14 +284,16 @@ module _ (told : Type 0) (w : World) (name : List ℕ) (mid : World) (b : Before
   stayed_next fails said disk some one is =
       let e : Event = RecoverAt s (Some disk) in
       let next : (here.nodes s).session < MOST_NUMBER = subst (λ (n : Node). n.session < MOST_NUMBER) (sym (b.nodes s)) some in
-      let at : step here e ≡ says (session_begun here s) (IsRefused' (Device disk)) = recover_step here s (Some disk) b.below b.down next in
+      let o : Outcome = says (session_begun here s) (IsRefused' (Device disk)) in
+      let v : World = (counted here e o).world in
+      let at : step here e ≡ counted here e o = ap (λ (p : Outcome). counted here e p) (recover_step here s (Some disk) b.below b.down next) in
       record {
-        new = session_begun here s;
+        new = v;
         ends = DiskFails b.choice b.events (RecoverAt s None) [] (e ∷ []) disk b.list (inr refl) one is
             (ap (λ (o : Outcome). o.world) (sym at) ∙ sym (b.ran (e ∷ [])));
         sites = b.sites;
         nodes = λ i. like_node mid here s (λ n. record n { session = n.session + 1 }) b.nodes i;
-        unlinked = same_links here (session_begun here s) (λ p q. refl) b.unlinked;
+        unlinked = same_links here v (λ p q. refl) b.unlinked;
         primaries = λ told. subst (λ (o : Outcome). ArePrimaries o.world) at (run_primaries here (e ∷ []) (tt, tt) (b.primaries told));
       }
 
@@ -343,12 +355,12 @@ recover_happens told w name fails said next below whole none all (FindsNone unto
 recover_happens told w name fails said next below whole none all (IsBareStill bare done) =
     let s : ℕ = site_number w name in
     record {
-      new = w;
-      ends = by_one told w (Recover name) s first_choice (RecoverAt s None) (refused w NoConfig) fails said w (ap (λ (t : SiteState). recovery_of t s 0) bare) (bare_step w s None below bare) done.none done.says refl;
+      new = (counted w (RecoverAt s None) (refused w NoConfig)).world;
+      ends = by_one told w (Recover name) s first_choice (RecoverAt s None) (refused w NoConfig) fails said _ (ap (λ (t : SiteState). recovery_of t s 0) bare) (bare_step w s None below bare) done.none done.says refl;
       sites = ap (λ (v : World). v.sites) (sym done.leads);
       nodes = λ i. ap (λ (v : World). v.nodes i) (sym done.leads);
-      unlinked = none;
-      primaries = all;
+      unlinked = record { none = none.none };
+      primaries = λ told. record { each = (all told).each };
     }
 recover_happens told w name fails said next below whole none all (BareFails disk bare f) = record {
   new = w;

@@ -9,7 +9,7 @@ use Rattle.vx_history.specs.Receiving.{phase_takes}
 use Rattle.vx_model.specs.declared.history.Line.{Line}
 use Rattle.vx_model.specs.declared.site.Mark.TheVariants.{Consistent}
 use Rattle.vx_model.specs.declared.site.SiteState.TheVariants.{Up}
-use Rattle.vx_world.specs.Sound.{IsPresent, GoodLink, GoodMessage, GoodPacket, IsKept, GoodPromise, IsStranger, StrangerSays, IsBegun}
+use Rattle.vx_history.specs.Sound.{IsPresent, GoodLink, GoodMessage, GoodPacket, IsKept, GoodPromise, IsStranger, StrangerSays, IsBegun}
 use Rattle.vx_world.proofs.Lists.{prefix_number, each_weaker}
 
 -- b may come of a on the same line: no number that a answered for is lost, but those of a session that is over

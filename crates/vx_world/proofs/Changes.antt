@@ -19,7 +19,7 @@ use Rattle.vx_history.proofs.Updates.{by_test, at_place}
 use Rattle.vx_history.proofs.GoodLemmas.{good_written, good_half_written, up_is_made, prefix_push}
 use Rattle.vx_history.specs.Sends.{packets_of, greeting}
 use Rattle.vx_history.specs.Events
-use Rattle.vx_world.specs.Sound.{IsWhole, GoodPacket, IsBegun, KnownNode, Sound}
+use Rattle.vx_history.specs.Sound.{IsWhole, GoodPacket, IsBegun, KnownNode, Sound}
 use Rattle.vx_world.proofs.Lists.{prefix_refl, not_both}
 use Rattle.vx_world.proofs.Moves.{sound_sending, sound_with_links, sound_with_node, sound_with_history, good_later, at_changed}
 use Rattle.vx_world.proofs.Tests.{Keeps, unless_keeps}
@@ -79,7 +79,7 @@ module _ (v : World) (q t : ℕ) (s : Sound v) (made : IsMade (v.nodes q)) where
   pub greeting_good : is_origin (v.nodes q).role ≡ false → AllByRecursion (GoodPacket v.nodes v.links v.lines) (greeting q t (v.nodes q))
   greeting_good r =
       Links.each_packet (GoodPacket v.nodes v.links v.lines) q t (v.nodes q).line (Hello (v.nodes q).session (length (v.nodes q).log) (v.nodes q).safe)
-      (record {
+      (λ _. record {
         said = (omega arith, λ _ _. omega arith, λ _. omega arith);
         known = λ g. (s.known q made r g, omega (arith, (s.good.nodes q).safe_fits, s.known q made r g));
         begun = line_begun;
@@ -89,7 +89,7 @@ module _ (v : World) (q t : ℕ) (s : Sound v) (made : IsMade (v.nodes q)) where
   pub disk_good : is_origin (v.nodes q).role ≡ false → AllByRecursion (GoodPacket v.nodes v.links v.lines) (packets_of q t (v.nodes q).line (DataAck (v.nodes q).safe))
   disk_good r =
       Links.each_packet (GoodPacket v.nodes v.links v.lines) q t (v.nodes q).line (DataAck (v.nodes q).safe)
-      (record {
+      (λ _. record {
         said = λ _. omega arith;
         known = λ g. omega (arith, (s.good.nodes q).safe_fits, s.known q made r g);
         begun = line_begun;
@@ -98,7 +98,7 @@ module _ (v : World) (q t : ℕ) (s : Sound v) (made : IsMade (v.nodes q)) where
   pub memory_good : (number : ℕ) → is_origin (v.nodes q).role ≡ false → number ≤ length (v.nodes q).log → AllByRecursion (GoodPacket v.nodes v.links v.lines) (packets_of q t (v.nodes q).line (NetAck (v.nodes q).session number))
   memory_good number r has =
       Links.each_packet (GoodPacket v.nodes v.links v.lines) q t (v.nodes q).line (NetAck (v.nodes q).session number)
-      (record {
+      (λ _. record {
         said = (omega arith, λ _ _. has);
         known = λ g. omega (arith, has, s.known q made r g);
         begun = line_begun;

@@ -17,10 +17,10 @@ use Rattle.vx_history.proofs.GoodLemmas.{up_is_made}
 use Rattle.vx_history.proofs.CrashLemmas.{good_crashed, good_session_begun, good_stopped, kept_length}
 use Rattle.vx_history.specs.Sends.{with_links, sending, greeting}
 use Rattle.vx_history.specs.Events
-use Rattle.vx_world.specs.Sound.{GoodPacket, IsWhole, Sound}
+use Rattle.vx_history.specs.Sound.{GoodPacket, IsWhole, Sound}
 use Rattle.vx_world.proofs.Lists.{prefix_take}
 use Rattle.vx_world.proofs.Carry.{IsLater}
-use Rattle.vx_world.proofs.Moves.{sound_sending, sound_with_links, sound_with_node, sound_with_history, good_later}
+use Rattle.vx_world.proofs.Moves.{sound_gathering, sound_sending, sound_with_links, sound_with_node, sound_with_history, good_later}
 use Rattle.vx_world.proofs.Tests.{Keeps, unless_keeps}
 use Rattle.vx_world.proofs.Changes.{greeting_good, up_whole, origin_known}
 use Rattle.vx_world.proofs.Nodes
@@ -63,9 +63,10 @@ crash_keeps w q kept s up =
     let made : IsMade n = up_is_made n up in
     let least : n.safe ≤ k = Nodes.kept_least n kept (s.good.nodes q).safe_fits in
     let most : k ≤ length n.log = Nodes.kept_most n kept in
-    by_test (λ (v : World). Sound (with_links v q (λ to. Events.lost_touch (w.links q to)))) (is_origin n.role) (crash_left w q k) (with_node w q (crashed n k))
+    sound_gathering (with_links (Events.crash_world w q k) q (λ to. Events.lost_touch (w.links q to))) _
+    (by_test (λ (v : World). Sound (with_links v q (λ to. Events.lost_touch (w.links q to)))) (is_origin n.role) (crash_left w q k) (with_node w q (crashed n k))
     (λ o. lost_keeps (crash_left w q k) q (origin_crash_keeps w q k s made o least most))
-    (λ r. lost_keeps (with_node w q (crashed n k)) q (receiver_crash_keeps w q k s made r least most))
+    (λ r. lost_keeps (with_node w q (crashed n k)) q (receiver_crash_keeps w q k s made r least most)))
 
 -- the world of a site that has risen with this mark, with its links and its greeting
 abbrev pub RisenWorld : World → ℕ → Node → World

@@ -6,6 +6,7 @@ use Rattle.vx_history.specs.World.{World, Node, Link, Packet, updated, line_upda
 use Rattle.vx_model.specs.Sites.{is_origin}
 use Rattle.vx_history.specs.Sends.{with_links, sending, greeting}
 use Rattle.vx_history.specs.LinkForms.{plain_receiver}
+use Rattle.vx_history.specs.Gatherings.{emptied}
 use Rattle.vx_history.specs.Steps.{crashed, crash_left, kept_by, recovered}
 use Rattle.vx_history.specs.Receiving.{marked_by, site_restarted, is_log_phase}
 use Rattle.vx_history.specs.Events.{lost_touch, crash_world, crash_at, come_back, restarted_link, recovery_greeting, recovered_at}
@@ -33,11 +34,12 @@ crash_links : (w : World) (s k : ℕ) (b : Bool) → (let x : World = if b then 
 crash_links w s k true = refl
 crash_links w s k false = refl
 
-pub crash_done : (w mid v : World) (s k : ℕ) → mid ≡ crash_world w s k → v ≡ with_links mid s (λ to. lost_touch (mid.links s to)) → v ≡ crash_at w s k
-crash_done w mid v s k down lost =
-    lost
-    ∙ ap (λ (x : World). with_links x s (λ to. lost_touch (x.links s to))) down
-    ∙ ap (λ (f : ℕ → ℕ → Link). let x : World = record (crash_world w s k) { links = updated (crash_world w s k).links s (λ to. lost_touch (f s to)) } in x) (crash_links w s k (is_origin (w.nodes s).role))
+pub crash_done : (w mid apart v : World) (s k : ℕ) → mid ≡ crash_world w s k → apart ≡ with_links mid s (λ to. lost_touch (mid.links s to)) → v ≡ emptied apart s → v ≡ crash_at w s k
+crash_done w mid apart v s k down lost empty =
+    empty
+    ∙ ap (λ (x : World). emptied x s) lost
+    ∙ ap (λ (x : World). emptied (with_links x s (λ to. lost_touch (x.links s to))) s) down
+    ∙ ap (λ (f : ℕ → ℕ → Link). let x : World = record (crash_world w s k) { links = updated (crash_world w s k).links s (λ to. lost_touch (f s to)) } in emptied x s) (crash_links w s k (is_origin (w.nodes s).role))
 
 -- ## Recoveries
 

@@ -1,6 +1,6 @@
 -- What is sent on links, and what is delivered, keeps what holds of the world.
 use Rattle.std.proofs.Common.{◌≡◌, ℕ, ◌+◌, ◌≤◌, [], ◌∷◌, length, refl, ap, sym, ◌∙◌, subst, arith, Bool, true, false, length-append}
-use Rattle.std.specs.Prelude.{ltb, if◌then◌else◌, eqb, min, max, slice_get, Some, None, Option, ◌&&◌, ◌||◌, not, zero, suc}
+use Rattle.std.specs.Prelude.{leb, ltb, if◌then◌else◌, eqb, min, max, slice_get, Some, None, Option, ◌&&◌, ◌||◌, not, zero, suc}
 use Rattle.std.specs.List.{AllByRecursion}
 use Rattle.vx_model.specs.Content.{Write, IsNumber, IsPrefixOf}
 use Rattle.vx_history.specs.World.{World, Node, Link, Packet, Message, Hello, Update, NetAck, DataAck, with_node}
@@ -27,9 +27,11 @@ use Rattle.vx_history.specs.Sends.{is_linked, with_link, sending, promising, pac
 use Rattle.vx_history.specs.Refusals.{Outcome, says, unless, is_running, keeps_links, some_below, is_unconfirmed, holds_back}
 use Rattle.vx_model.specs.Sites.{is_up}
 use Rattle.vx_history.specs.Events
-use Rattle.vx_world.specs.Sound.{GoodLink, GoodMessage, GoodPacket, IsStranger, StrangerSays, Sound}
+use Rattle.vx_history.specs.Gatherings.{completes}
+use Rattle.vx_model.specs.declared.limits.TheConstants.{MOST_PACKETS}
+use Rattle.vx_history.specs.Sound.{GoodLink, GoodMessage, GoodPacket, IsStranger, StrangerSays, Sound}
 use Rattle.vx_world.proofs.Lists.{prefix_refl, each_found, not_true, not_both}
-use Rattle.vx_world.proofs.Moves.{sound_sending, sound_promising, sound_with_link, sound_with_node, good_later, stranger_of_links, still_linked}
+use Rattle.vx_world.proofs.Moves.{sound_gathering, sound_sending, sound_promising, sound_with_link, sound_with_node, good_later, stranger_of_links, still_linked}
 use Rattle.vx_world.proofs.Tests.{Keeps, unless_keeps}
 use Rattle.vx_world.proofs.Guards.{up_is}
 use Rattle.vx_world.proofs.Changes.{greeting_good, memory_good, up_whole}
@@ -80,7 +82,7 @@ pump_keeps w p q s up linked =
         (Links.link_like p q n (w.nodes q) (w.links p q) m refl refl refl refl (λ e. e) (s.links p q))
         (Links.sent_good (GoodPacket w.nodes (with_link w p q m).links w.lines) p q n (w.lines n.line).held
         (subst (λ t. IsPrefixOf t (w.lines n.line).held) (sym ((s.good.nodes p).origin_log made o)) (prefix_refl (w.lines n.line).held))
-        (λ number x is. record {
+        (λ number x is _. record {
           said = is;
           known = λ g. no_stranger w.nodes w.links p q n.line ((s.good.nodes p).own_line made o) linked (stranger_of_links w.nodes w.links (with_link w p q m).links (still_linked w p q m (λ is. is)) n.line q g);
           begun = (made, s.good.begun p made);
@@ -120,6 +122,14 @@ from_memory_keeps w p n number s is made r has =
     (subst (λ (x : Node). IsMade x → is_origin x.role ≡ false → number ≤ length x.log → AllByRecursion (GoodPacket w.nodes w.links w.lines) (packets_of p.target p.source x.line (NetAck x.session number))) is
     (λ made r has. memory_good w p.target p.source s made number r has) made r has)
 
+-- of an update that is not whole nothing is taken
+taken_if_keeps : (w : World) (p : Packet) (x : Write) (number : ℕ) → Sound w → Keeps (Events.taken_if true w p x number) → Keeps (Events.taken_if (completes (w.gathering p.target) p) w p x number)
+taken_if_keeps w p x number s whole = by_whole (completes (w.gathering p.target) p)
+  where
+    by_whole : (b : Bool) → Keeps (Events.taken_if b w p x number)
+    by_whole true = whole
+    by_whole false = s
+
 update_keeps : (w : World) (p : Packet) (number : ℕ) (x : Write) → Sound w → (w.nodes p.target).state ≡ Up → IsNumber (w.lines p.line).held number x → (IsStranger w.nodes w.links p.line p.target → ⊥) → Keeps (Events.update_heard w p number x)
 update_keeps w p number x s up is known =
     let n : Node = w.nodes p.target in
@@ -132,8 +142,8 @@ update_keeps w p number x s up is known =
     (λ _. from_memory_keeps w p n (length n.log) s refl (up_is_made n up) r (omega arith))
     (λ _. s)))
   where
-    taken : is_origin (w.nodes p.target).role ≡ false → takes (plain_receiver (w.nodes p.target)) p.line number ≡ true → Keeps (Events.update_taken w p x (Take number))
-    taken r c =
+    whole : is_origin (w.nodes p.target).role ≡ false → takes (plain_receiver (w.nodes p.target)) p.line number ≡ true → Keeps (Events.taken_if true w p x number)
+    whole r c =
         let n : Node = w.nodes p.target in
         let made : IsMade n = up_is_made n up in
         let m : Node = Events.with_write n x in
@@ -150,6 +160,9 @@ update_keeps w p number x s up is known =
         (λ _ _ g. absurd (none g)) in
         from_memory_keeps (with_node w p.target m) p m number v (at_place w.nodes p.target m) made r (omega (arith, next, length-append n.log (x ∷ [])))
 
+    taken : is_origin (w.nodes p.target).role ≡ false → takes (plain_receiver (w.nodes p.target)) p.line number ≡ true → Keeps (Events.update_taken w p x (Take number))
+    taken r c = taken_if_keeps w p x number s (whole r c)
+
 heard_keeps : (w : World) (p : Packet) (m : Message) → Sound w → (w.nodes p.target).state ≡ Up → GoodMessage (w.lines p.line).held (w.nodes p.source) p.line m → StrangerSays (IsStranger w.nodes w.links p.line p.target) (IsStranger w.nodes w.links p.line p.source) m → Keeps (Events.heard w p m)
 heard_keeps w p (Hello session number stored) s up h known =
     link_heard_keeps w p (HearHello session number stored) s
@@ -162,21 +175,28 @@ heard_keeps w p (DataAck number) s up h known =
     link_heard_keeps w p (HearDataAck number) s
     (Links.link_data_ack (w.lines (w.nodes p.source).line) p.target p.source (w.nodes p.target) (w.nodes p.source) (w.links p.target p.source) p.line (s.good.nodes p.source) (s.links p.target p.source) (w.lines p.line).held number h)
 
-handed_keeps : (w : World) (p : Packet) (whole : Bool) → Sound w → GoodPacket w.nodes w.links w.lines p → Keeps (Events.handed w p whole)
-handed_keeps w p whole s good =
+handed_keeps : (w : World) (p : Packet) → Sound w → GoodPacket w.nodes w.links w.lines p → Keeps (Events.handed w p)
+handed_keeps w p s good =
     by_test Keeps (is_up (w.nodes p.target).state && is_running (w.nodes p.target).halted) _ (says w IsIgnored)
-    (λ c. by_test Keeps whole (Events.heard w p p.message) (says w (Events.said_of_part (w.nodes p.target) p.line p.message))
-    (λ _. heard_keeps w p p.message s (up_is (w.nodes p.target).state (and_left (is_up (w.nodes p.target).state) (is_running (w.nodes p.target).halted) c)) good.said good.known)
-    (λ _. s))
+    (λ c. heard_keeps w p p.message s (up_is (w.nodes p.target).state (and_left (is_up (w.nodes p.target).state) (is_running (w.nodes p.target).halted) c)) good.said good.known)
     (λ _. s)
 
-delivered_keeps : (w : World) (number k : ℕ) (whole : Bool) (p : Option Packet) → slice_get w.packets k ≡ p → Sound w → Keeps (Events.delivered w number whole p)
-delivered_keeps w number k whole None e s = s
-delivered_keeps w number k whole (Some p) e s = handed_keeps w p whole s (each_found (GoodPacket w.nodes w.links w.lines) w.packets k p e s.packets)
+-- what a packet is put to is no matter
+gathers_keeps : (p : Packet) (o : Outcome) → Keeps o → Keeps (Events.gathers p o)
+gathers_keeps p o s = by_taken (Events.is_taken o.said)
+  where
+    by_taken : (b : Bool) → Sound (Events.gathered_if b o.world p)
+    by_taken true = sound_gathering o.world _ s
+    by_taken false = s
 
-pub deliver_keeps : (w : World) (number : ℕ) (whole : Bool) → Sound w → Keeps (Events.delivered w number whole (Events.packet_at w.packets number))
-deliver_keeps w zero whole s = s
-deliver_keeps w (suc k) whole s = delivered_keeps w (suc k) k whole (slice_get w.packets k) refl s
+delivered_keeps : (w : World) (number k : ℕ) (p : Option Packet) → slice_get w.packets k ≡ p → Sound w → Keeps (Events.delivered w number p)
+delivered_keeps w number k None e s = s
+delivered_keeps w number k (Some p) e s = gathers_keeps p (Events.handed w p) (handed_keeps w p s (each_found (GoodPacket w.nodes w.links w.lines) w.packets k p e s.packets))
+
+pub deliver_keeps : (w : World) (number : ℕ) → Sound w → Keeps (Events.delivered w number (Events.packet_at w.packets number))
+deliver_keeps w zero s = s
+deliver_keeps w (suc k) s =
+    by_test (λ (p : Option Packet). Keeps (Events.delivered w (suc k) p)) (leb (suc k + MOST_PACKETS) (length w.packets)) None (slice_get w.packets k) (λ _. s) (λ _. delivered_keeps w (suc k) k (slice_get w.packets k) refl s)
 
 -- ## Waiting
 

@@ -1,5 +1,5 @@
 -- Every event leaves what lines hold, what was answered, sent and promised.
-use Rattle.std.proofs.Common.{◌≡◌, ℕ, ◌+◌, ◌≤◌, List, [], ◌∷◌, ◌++◌, take, refl, ap, sym, ◌∙◌, subst, arith, append_assoc, Bool, false}
+use Rattle.std.proofs.Common.{◌≡◌, ℕ, ◌+◌, ◌≤◌, List, [], ◌∷◌, ◌++◌, take, refl, ap, sym, ◌∙◌, subst, arith, append_assoc, Bool, true, false}
 use Rattle.std.specs.Prelude.{leb, not, if◌then◌else◌, Option, Some, None, eqb, ltb, ◌&&◌, ◌||◌, bytes_eq}
 use Rattle.std.proofs.lemmas.List.{take-take}
 use Rattle.vx_model.specs.Content.{Write, IsPrefixOf, blocks_in}
@@ -7,7 +7,7 @@ use Rattle.vx_model.specs.Answer.{is_too_large}
 use Rattle.vx_history.specs.Admission.{Admitted, Held_by, Goes}
 use Rattle.vx_history.specs.Receiving.{Received, received_step}
 use Rattle.vx_history.specs.LinkForms.{plain_receiver, with_plain}
-use Rattle.vx_history.specs.World.{World, Node, Link as LinkRecord, History, Packet, Promise, Message, Hello, Update, NetAck, DataAck, with_node, with_history, bare_site}
+use Rattle.vx_history.specs.World.{World, Node, Link as LinkRecord, History, Gathering, Packet, Promise, Message, Hello, Update, NetAck, DataAck, with_node, with_history, bare_site}
 use Rattle.vx_model.specs.Sites.{is_origin}
 use Rattle.vx_history.specs.Steps.{burned, logged, told_of, written, half_written, crashed, crash_left, site_made, raw_made, raw_set, raw_history, stopped_by}
 use Rattle.vx_history.specs.Good.{IsMade}
@@ -36,10 +36,11 @@ use Rattle.vx_history.specs.Refusals.{Outcome, says, unless, at_work, on_link, k
 use Rattle.vx_model.specs.Sites.{is_up, is_bare}
 use Rattle.vx_model.specs.Sizes.{is_raw_shape}
 use Rattle.vx_history.specs.Events
-use Rattle.vx_history.specs.Step.{done, step, run, link_part}
+use Rattle.vx_history.specs.Gatherings.{completes, emptied}
+use Rattle.vx_history.specs.Step.{done, outcome_of, step, run, link_part}
 use Rattle.vx_history.specs.Sends.{is_linked, with_link, with_links, sending, promising, sent_by}
 use Rattle.vx_model.specs.declared.limits.TheConstants.{MOST_DISKS, MOST_LINKS, MOST_SITES}
-use Rattle.vx_world.specs.Sound.{Sound}
+use Rattle.vx_history.specs.Sound.{Sound}
 use Rattle.vx_world.specs.Grown.{Grown}
 use Rattle.vx_world.proofs.Lists.{prefix_refl, prefix_trans, prefix_more, prefix_take, not_false}
 use Rattle.vx_world.proofs.Guards
@@ -72,6 +73,9 @@ grown_trans u v w g h = record {
 module _ (w v : World) (g : Grown w v) where
   grown_links : (f : ℕ → ℕ → LinkRecord) → Grown w (record v { links = f })
   grown_links f = record { held = g.held; told = g.told; made = g.made; sent = g.sent; promised = g.promised }
+
+  grown_gathering : (f : ℕ → Option Gathering) → Grown w (record v { gathering = f })
+  grown_gathering f = record { held = g.held; told = g.told; made = g.made; sent = g.sent; promised = g.promised }
 
   grown_sending : (more : List Packet) → Grown w (sending v more)
   grown_sending more = record {
@@ -153,9 +157,13 @@ taken_grows : (w : World) (p : Packet) (x : Write) (action : RAction) → Leaves
 taken_grows w p x DoesNothing = grown_same w
 taken_grows w p x Ignores = grown_same w
 taken_grows w p x (IgnoredAck number) = grown_sending w w (grown_same w) _
-taken_grows w p x (Take number) =
-    let n : Node = Events.with_write (w.nodes p.target) x in
-    grown_sending w (with_node w p.target n) (grown_node w p.target n (λ made. made)) _
+taken_grows w p x (Take number) = by_whole (completes (w.gathering p.target) p)
+  where
+    by_whole : (b : Bool) → Leaves w (Events.taken_if b w p x number)
+    by_whole true =
+        let n : Node = Events.with_write (w.nodes p.target) x in
+        grown_sending w (with_node w p.target n) (grown_node w p.target n (λ made. made)) _
+    by_whole false = grown_same w
 taken_grows w p x (AcksFromDisk number) = grown_same w
 
 heard_grows : (w : World) (p : Packet) (m : Message) → Leaves w (Events.heard w p m)
@@ -165,24 +173,33 @@ heard_grows w p (Update number x) =
 heard_grows w p (NetAck session number) = link_heard_grows w p (HearNetAck session number)
 heard_grows w p (DataAck number) = link_heard_grows w p (HearDataAck number)
 
-delivered_grows : (w : World) (number : ℕ) (whole : Bool) (p : Option Packet) → Leaves w (Events.delivered w number whole p)
-delivered_grows w number whole None = grown_same w
-delivered_grows w number whole (Some p) =
-    by_test (Leaves w) (is_up (w.nodes p.target).state && is_running (w.nodes p.target).halted) _ (says w IsIgnored)
-    (λ _. by_test (Leaves w) whole (Events.heard w p p.message) (says w (Events.said_of_part (w.nodes p.target) p.line p.message)) (λ _. heard_grows w p p.message) (λ _. grown_same w))
-    (λ _. grown_same w)
+gathers_grows : (w : World) (p : Packet) (o : Outcome) → Leaves w o → Leaves w (Events.gathers p o)
+gathers_grows w p o g = by_taken (Events.is_taken o.said)
+  where
+    by_taken : (b : Bool) → Grown w (Events.gathered_if b o.world p)
+    by_taken true = grown_gathering w o.world g _
+    by_taken false = g
+
+delivered_grows : (w : World) (number : ℕ) (p : Option Packet) → Leaves w (Events.delivered w number p)
+delivered_grows w number None = grown_same w
+delivered_grows w number (Some p) =
+    gathers_grows w p (Events.handed w p)
+    (by_test (Leaves w) (is_up (w.nodes p.target).state && is_running (w.nodes p.target).halted) _ (says w IsIgnored)
+    (λ _. heard_grows w p p.message)
+    (λ _. grown_same w))
 
 crash_grows : (w : World) (q k : ℕ) → Sound w → (w.nodes q).state ≡ Up → (w.nodes q).safe ≤ k → Grown w (Events.crash_at w q k)
 crash_grows w q k s up least =
     let n : Node = w.nodes q in
     let made : IsMade n = up_is_made n up in
     let row : ℕ → LinkRecord = λ to. Events.lost_touch (w.links q to) in
-    by_test (λ (v : World). Grown w (with_links v q row)) (is_origin n.role) (crash_left w q k) (with_node w q (crashed n k))
+    grown_gathering w (with_links (Events.crash_world w q k) q row)
+    (by_test (λ (v : World). Grown w (with_links v q row)) (is_origin n.role) (crash_left w q k) (with_node w q (crashed n k))
     (λ o. grown_links w (crash_left w q k)
     (grown_history w q (crashed n k) (record (w.lines n.line) { held = take k n.log }) (λ _ e. cc)
     (λ _. (subst (λ t. IsPrefixOf t (take k n.log)) (take-take n.safe k n.log least ∙ (s.good.nodes q).origin_log made o) (prefix_take n.safe (take k n.log)), omega arith)))
     (with_links (crash_left w q k) q row).links)
-    (λ _. grown_links w (with_node w q (crashed n k)) (grown_node w q (crashed n k) (λ _ e. cc)) (with_links (with_node w q (crashed n k)) q row).links)
+    (λ _. grown_links w (with_node w q (crashed n k)) (grown_node w q (crashed n k) (λ _ e. cc)) (with_links (with_node w q (crashed n k)) q row).links)) _
 
 recovery_grows : (w : World) (q : ℕ) (fails : Option ℕ) → Leaves w (Events.recovery w q fails)
 recovery_grows w q None =
@@ -210,14 +227,15 @@ raw_grows w q bare = grown_history w q (raw_set q (w.nodes q)) (raw_history (w.n
 
 link_part_grows : (part : LinkPart) (w : World) (p q : ℕ) (sync : SyncMode) → (w.nodes q).state ≡ Up → Leaves w (link_part part w p q sync)
 link_part_grows Joins w p q sync up =
-    let o : Outcome = done (with_node w q (Events.joined (w.nodes p) p (w.nodes q))) in
+    let joins : World = with_node w q (Events.joined (w.nodes p) p (w.nodes q)) in
+    let o : Outcome = done (emptied joins q) in
     let fits : Outcome = unless (not (agree (w.nodes p).volumes (w.nodes q).volumes && rings_fit (w.nodes p) (w.nodes q))) Size w o in
     let few : Outcome = unless (leb MOST_LINKS (links_of w p)) (Limit Links MOST_LINKS) w fits in
     Guards.unless_holds (Grown w) (not (may_link w p q)) WrongRole w (unless (is_linked (w.links p q)) (Exists (w.nodes q).name) w few) (grown_same w)
     (λ _. Guards.unless_holds (Grown w) (is_linked (w.links p q)) (Exists (w.nodes q).name) w few (grown_same w)
     (λ _. Guards.unless_holds (Grown w) (leb MOST_LINKS (links_of w p)) (Limit Links MOST_LINKS) w fits (grown_same w)
     (λ _. Guards.unless_holds (Grown w) (not (agree (w.nodes p).volumes (w.nodes q).volumes && rings_fit (w.nodes p) (w.nodes q))) Size w o (grown_same w)
-    (λ _. grown_node w q (Events.joined (w.nodes p) p (w.nodes q)) (λ made. made)))))
+    (λ _. grown_gathering w joins (grown_node w q (Events.joined (w.nodes p) p (w.nodes q)) (λ made. made)) _))))
 link_part_grows Made w p q sync up =
     let l : LinkRecord = Events.new_link (links_of w p) sync (w.nodes q) in
     Guards.unless_holds (Grown w) (not (is_primary (w.nodes p).role && follows w p q)) WrongRole w (unless (is_linked (w.links p q)) (Exists (w.nodes q).name) w (done (with_link w p q l))) (grown_same w)
@@ -233,8 +251,8 @@ link_part_grows Opened w p q sync up =
 on_link_grows : (w : World) (p q : ℕ) (e : SEvent) → Leaves w (on_link w p q (done (Events.link_event w p q e)))
 on_link_grows w p q e = Guards.on_link_holds (Grown w) keeps_links w p q (done (Events.link_event w p q e)) (grown_same w) (λ _ _ _. moved_grows w p q e)
 
-pub step_grows : (w : World) (e : Event) → Sound w → Leaves w (step w e)
-step_grows w (Site name disks blocks) s =
+outcome_grows : (w : World) (e : Event) → Sound w → Leaves w (outcome_of w e)
+outcome_grows w (Site name disks blocks) s =
     let o : Outcome = done (site_made w name disks blocks) in
     let few : Outcome = unless (eqb disks 0 || ltb blocks 8) Size w o in
     let some : Outcome = unless (ltb MOST_DISKS disks) (Limit Disks MOST_DISKS) w few in
@@ -242,36 +260,36 @@ step_grows w (Site name disks blocks) s =
     (λ _. Guards.unless_holds (Grown w) (leb MOST_SITES w.sites) (Limit Sites MOST_SITES) w some (grown_same w)
     (λ _. Guards.unless_holds (Grown w) (ltb MOST_DISKS disks) (Limit Disks MOST_DISKS) w few (grown_same w)
     (λ _. Guards.unless_holds (Grown w) (eqb disks 0 || ltb blocks 8) Size w o (grown_same w) (λ _. site_grows w name disks blocks s))))
-step_grows w (Raw q) s =
+outcome_grows w (Raw q) s =
     let o : Outcome = done (raw_made w q) in
     let shaped : Outcome = unless (not (is_raw_shape (w.nodes q).disks (w.nodes q).blocks)) Size w o in
     Guards.at_site_holds (Grown w) w q (unless (not (is_bare (w.nodes q).state)) WrongRole w shaped) (grown_same w)
     (λ _. Guards.unless_holds (Grown w) (not (is_bare (w.nodes q).state)) WrongRole w shaped (grown_same w)
     (λ bare. Guards.unless_holds (Grown w) (not (is_raw_shape (w.nodes q).disks (w.nodes q).blocks)) Size w o (grown_same w)
     (λ _. raw_grows w q (Guards.bare_is (w.nodes q).state (not_false (is_bare (w.nodes q).state) bare)))))
-step_grows w (WriteAt p volume start bytes fails) s =
+outcome_grows w (WriteAt p volume start bytes fails) s =
     let x : Write = record { volume = volume; start = start; bytes = bytes } in
     Guards.on_volume_holds (Grown w) w p volume start (blocks_in bytes) (is_too_large (w.nodes p).ring (blocks_in bytes)) (Events.written_if (Events.admitted w p x) w p x fails) (grown_same w)
     (λ _ _ _. written_grows (Events.admitted w p x) w p x fails s (links_changed_keeps w p x s))
-step_grows w (Read p volume start count) s = Guards.on_volume_holds (Grown w) w p volume start count false _ (grown_same w) (λ _ _ _. grown_same w)
-step_grows w (Apply q count reached) s =
+outcome_grows w (Read p volume start count) s = Guards.on_volume_holds (Grown w) w p volume start count false _ (grown_same w) (λ _ _ _. grown_same w)
+outcome_grows w (Apply q count reached) s =
     let o : Outcome = if is_origin (w.nodes q).role then Events.reached_at w q count reached else Events.apply_at w q count in
     let r : Received = received_step (plain_receiver (w.nodes q)) (Applied count) in
     Guards.at_site_holds (Grown w) w q (at_work w q o) (grown_same w)
     (λ _. Guards.at_work_holds (Grown w) w q o (grown_same w)
     (λ _ _. by_test (Leaves w) (is_origin (w.nodes q).role) (Events.reached_at w q count reached) (Events.apply_at w q count) (λ _. grown_same w) (λ _. applied_grows w q r.state r.action)))
-step_grows w (Pump p q) s =
+outcome_grows w (Pump p q) s =
     Guards.on_link_holds (Grown w) keeps_links w p q _ (grown_same w) (λ _ _ _. Guards.when_live_holds (Grown w) w q (w.links p q) (done (Events.link_event w p q PumpLink)) (grown_same w) (moved_grows w p q PumpLink))
-step_grows w (Tick p q) s = on_link_grows w p q TickLink
-step_grows w (Deliver number whole) s = delivered_grows w number whole (Events.packet_at w.packets number)
-step_grows w (Connect p q) s =
+outcome_grows w (Tick p q) s = on_link_grows w p q TickLink
+outcome_grows w (Deliver number) s = delivered_grows w number (Events.packet_at w.packets number)
+outcome_grows w (Connect p q) s =
     let v : World = Events.link_event w p q ConnectLink in
     Guards.on_link_holds (Grown w) keeps_links w p q (done (sending v (Events.greeting_back w p q))) (grown_same w)
     (λ _ _ _. grown_sending w v (moved_grows w p q ConnectLink) (Events.greeting_back w p q))
-step_grows w (Cut p q) s = on_link_grows w p q CutLink
-step_grows w (Pause p q) s = on_link_grows w p q PauseLink
-step_grows w (Resume p q) s = on_link_grows w p q ResumeLink
-step_grows w (Wait p number) s =
+outcome_grows w (Cut p q) s = on_link_grows w p q CutLink
+outcome_grows w (Pause p q) s = on_link_grows w p q PauseLink
+outcome_grows w (Resume p q) s = on_link_grows w p q ResumeLink
+outcome_grows w (Wait p number) s =
     let unconfirmed : Bool = some_below w.sites (λ k. is_unconfirmed number k (w.links p k)) in
     let held : Bool = some_below w.sites (λ k. holds_back number k (w.links p k)) in
     let promised : Outcome = says (promising w (Events.promises_of (w.nodes p) number (w.links p) w.sites)) (DoneAt number) in
@@ -284,22 +302,26 @@ step_grows w (Wait p number) s =
     (λ _. Guards.unless_holds (Grown w) (eqb number 0 || ltb (w.nodes p).safe number) (Unknown (ByNumber number)) w known (grown_same w)
     (λ _. Guards.unless_holds (Grown w) unconfirmed (Unconfirmed number) w answered (grown_same w)
     (λ _. by_test (Leaves w) held (says w (Pending number)) promised (λ _. grown_same w) (λ _. grown_promising w w (grown_same w) (Events.promises_of (w.nodes p) number (w.links p) w.sites)))))))
-step_grows w (Link p q sync part) s =
+outcome_grows w (Link p q sync part) s =
     Guards.at_site_holds (Grown w) w p _ (grown_same w)
     (λ _. Guards.at_site_holds (Grown w) w q _ (grown_same w) (λ _. Guards.both_holds (Grown w) w p q (link_part part w p q sync) (grown_same w) (λ _ up _. link_part_grows part w p q sync up)))
-step_grows w (Set p q sync) s =
+outcome_grows w (Set p q sync) s =
     let l : LinkRecord = record (w.links p q) { sync = sync; prot = FailsWhenFull } in
     Guards.on_link_holds (Grown w) is_origin w p q (done (with_link w p q l)) (grown_same w) (λ _ _ _. grown_links w w (grown_same w) (with_link w p q l).links)
-step_grows w (Crash q kept) s =
+outcome_grows w (Crash q kept) s =
     let o : Outcome = done (Events.crash_at w q (Events.kept_of (w.nodes q) kept)) in
     Guards.at_site_holds (Grown w) w q (unless (not (is_up (w.nodes q).state)) NotUp w o) (grown_same w)
     (λ _. Guards.unless_holds (Grown w) (not (is_up (w.nodes q).state)) NotUp w o (grown_same w)
     (λ up. crash_grows w q (Events.kept_of (w.nodes q) kept) s (Guards.up_is (w.nodes q).state (not_false (is_up (w.nodes q).state) up)) (Nodes.kept_least (w.nodes q) kept (s.good.nodes q).safe_fits)))
-step_grows w (Recover q fails) s = Guards.at_site_holds (Grown w) w q _ (grown_same w) (λ _. recover_grows w q (w.nodes q).state fails)
-step_grows w (Fault q disk) s =
+outcome_grows w (Recover q fails) s = Guards.at_site_holds (Grown w) w q _ (grown_same w) (λ _. recover_grows w q (w.nodes q).state fails)
+outcome_grows w (Fault q disk) s =
     Guards.at_site_holds (Grown w) w q _ (grown_same w)
     (λ _. Guards.unless_holds (Grown w) (not (is_up (w.nodes q).state)) NotUp w (says (stopped_by w q disk) _) (grown_same w)
     (λ _. grown_node w q (record (w.nodes q) { halted = Some disk; fuse = burned (w.nodes q).fuse }) (λ made. made)))
+
+-- whatever headers it writes
+pub step_grows : (w : World) (e : Event) → Sound w → Leaves w (step w e)
+step_grows w e s = let g : Grown w (outcome_of w e).world = outcome_grows w e s in record { held = g.held; told = g.told; made = g.made; sent = g.sent; promised = g.promised }
 
 pub run_grows : (w : World) (events : List Event) → Sound w → Grown w (run w events)
 run_grows w [] s = grown_same w

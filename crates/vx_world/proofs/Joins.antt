@@ -23,11 +23,12 @@ use Rattle.vx_history.specs.declared.event.LinkPart.TheVariants.{Joins, Made, Ma
 use Rattle.vx_history.specs.Sends.{is_linked, with_link}
 use Rattle.vx_history.specs.Refusals.{Outcome, unless, some_below, is_primary, is_consistent, is_stale, is_empty, is_fresh, may_link, may_join, may_be_site, agree, rings_fit, links_of, follows}
 use Rattle.vx_history.specs.Events.{joined, new_link, opened}
+use Rattle.vx_history.specs.Gatherings.{emptied}
 use Rattle.vx_history.specs.Step.{done, link_part}
 use Rattle.vx_model.specs.declared.limits.TheConstants.{MOST_DISKS, MOST_LINKS, MOST_SITES}
-use Rattle.vx_world.specs.Sound.{Sound}
+use Rattle.vx_history.specs.Sound.{Sound}
 use Rattle.vx_world.proofs.Lists.{not_true, not_false, not_both, or_left, or_right}
-use Rattle.vx_world.proofs.Moves.{sound_with_node, sound_with_link, sound_joining, sound_founding, good_later, given}
+use Rattle.vx_world.proofs.Moves.{sound_gathering, sound_with_node, sound_with_link, sound_joining, sound_founding, good_later, given}
 use Rattle.vx_world.proofs.Tests.{Keeps, unless_keeps}
 use Rattle.vx_world.proofs.Guards.{primary_origin}
 use Rattle.vx_world.proofs.Changes.{up_whole}
@@ -110,16 +111,16 @@ join_keeps w p q s up_p up_q o other unlinked alone =
     (λ _. sym own)
     (omega arith)
 
-may_join_keeps : (w : World) (p q : ℕ) → Sound w → (w.nodes p).state ≡ Up → (w.nodes q).state ≡ Up → Keeps (may_join w p q (done (with_node w q (joined (w.nodes p) p (w.nodes q)))))
+may_join_keeps : (w : World) (p q : ℕ) → Sound w → (w.nodes p).state ≡ Up → (w.nodes q).state ≡ Up → Keeps (may_join w p q (done (emptied (with_node w q (joined (w.nodes p) p (w.nodes q))) q)))
 may_join_keeps w p q s up_p up_q =
-    let o : Outcome = done (with_node w q (joined (w.nodes p) p (w.nodes q))) in
+    let o : Outcome = done (emptied (with_node w q (joined (w.nodes p) p (w.nodes q))) q) in
     let fits : Outcome = unless (not (agree (w.nodes p).volumes (w.nodes q).volumes && rings_fit (w.nodes p) (w.nodes q))) Size w o in
     let few : Outcome = unless (leb MOST_LINKS (links_of w p)) (Limit Links MOST_LINKS) w fits in
     unless_keeps (not (may_link w p q)) WrongRole w (unless (is_linked (w.links p q)) (Exists (w.nodes q).name) w few) s
     (λ may. unless_keeps (is_linked (w.links p q)) (Exists (w.nodes q).name) w few s
     (λ unlinked. unless_keeps (leb MOST_LINKS (links_of w p)) (Limit Links MOST_LINKS) w fits s
     (λ _. unless_keeps (not (agree (w.nodes p).volumes (w.nodes q).volumes && rings_fit (w.nodes p) (w.nodes q))) Size w o s
-    (λ _. joins (not_false (may_link w p q) may) unlinked))))
+    (λ _. sound_gathering (with_node w q (joined (w.nodes p) p (w.nodes q))) _ (joins (not_false (may_link w p q) may) unlinked)))))
   where
     joins : may_link w p q ≡ true → is_linked (w.links p q) ≡ false → Sound (with_node w q (joined (w.nodes p) p (w.nodes q)))
     joins may unlinked =

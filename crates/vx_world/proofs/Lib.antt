@@ -12,9 +12,13 @@ pub mod Joins
 pub mod Stays
 pub mod Words
 pub mod Rows
+pub mod Keeping
+pub mod Whole
+pub mod Liking
 pub mod Pair
 pub mod Told
 pub mod Batches
+pub mod Arriving
 pub mod Turns
 pub mod Settles
 pub mod Grows

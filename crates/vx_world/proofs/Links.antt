@@ -22,11 +22,11 @@ use Rattle.vx_model.specs.declared.link.SyncMode.{SyncMode}
 use Rattle.vx_model.specs.declared.link.SyncMode.TheVariants.{Off, Override, Fail}
 use Rattle.vx_history.specs.declared.sender.SEvent.TheVariants.{Hello as HearHello, NetAck as HearNetAck, DataAck as HearDataAck}
 use Rattle.vx_history.proofs.Updates.{by_test, and_left, and_right, same_line_equal}
-use Rattle.vx_world.specs.Sound.{IsPresent, IsFollowed, GoodLink, GoodMessage, GoodPromise, IsKept, IsStranger, IsBegun}
-use Rattle.vx_history.specs.Sends.{is_linked, packets_of, packet, updates, between}
+use Rattle.vx_history.specs.Sound.{IsPresent, IsFollowed, GoodLink, GoodMessage, GoodPromise, IsKept, IsStranger, IsBegun}
+use Rattle.vx_history.specs.Sends.{is_linked, packets_of, packets_from, parts_of, packet, updates, between}
 use Rattle.vx_history.specs.Refusals.{holds_back, is_unconfirmed, some_below, goes, waits}
 use Rattle.vx_history.specs.Events.{facts_of, restarted_link, lost_touch, link_after, promise_of, promises_of}
-use Rattle.vx_world.proofs.Lists.{prefix_get, prefix_take, drop_get, or_left, or_right, each_append, each_replicate, prefix_trans, refuted}
+use Rattle.vx_world.proofs.Lists.{prefix_get, prefix_take, drop_get, or_left, or_right, each_append, prefix_trans, refuted}
 
 -- a link that differs in nothing that is said of it
 pub link_like : (p s : ℕ) (a b : Node) (l m : Link) → is_linked m ≡ is_linked l → m.session ≡ l.session → m.net ≡ l.net → m.stored ≡ l.stored → (m.mode ≡ Log → l.mode ≡ Log) → GoodLink p s a b l → GoodLink p s a b m
@@ -175,11 +175,15 @@ module _ (h : History) (p s : ℕ) (a b : Node) (l : Link) (line : Line) (node :
       (λ _. same))
 
 -- the packets of a message say what it says
-pub each_packet : (P : Packet → Type 0) (source target : ℕ) (line : Line) (m : Message) → P (packet source target line m) → AllByRecursion P (packets_of source target line m)
-each_packet P source target line m h = (h, each_replicate P _ (packet source target line m) h)
+pub each_packet : (P : Packet → Type 0) (source target : ℕ) (line : Line) (m : Message) → ((part : ℕ) → P (packet source target line m part)) → AllByRecursion P (packets_of source target line m)
+each_packet P source target line m h = each_from 0 (parts_of m)
+  where
+    each_from : (part count : ℕ) → AllByRecursion P (packets_from source target line m part count)
+    each_from part zero = tt
+    each_from part (suc k) = (h part, each_from (part + 1) k)
 
 -- updates of writes that stand on the line at the numbers that they carry
-updates_good : (P : Packet → Type 0) (p s : ℕ) (line : Line) (held : List Write) → ((number : ℕ) (x : Write) → IsNumber held number x → P (packet p s line (Update number x))) → (number : ℕ) (xs : List Write) → ((k : ℕ) (x : Write) → slice_get xs k ≡ Some x → IsNumber held (number + k) x) → AllByRecursion P (updates p s line number xs)
+updates_good : (P : Packet → Type 0) (p s : ℕ) (line : Line) (held : List Write) → ((number : ℕ) (x : Write) → IsNumber held number x → (part : ℕ) → P (packet p s line (Update number x) part)) → (number : ℕ) (xs : List Write) → ((k : ℕ) (x : Write) → slice_get xs k ≡ Some x → IsNumber held (number + k) x) → AllByRecursion P (updates p s line number xs)
 updates_good P p s line held each number [] h = tt
 updates_good P p s line held each number (x ∷ xs) h =
     each_append P (packets_of p s line (Update number x)) (updates p s line (number + 1) xs)
@@ -187,7 +191,7 @@ updates_good P p s line held each number (x ∷ xs) h =
     (updates_good P p s line held each (number + 1) xs (λ k y e. subst (λ n. IsNumber held n y) (omega arith) (h (suc k) y e)))
 
 -- what is sent stands on the line, if no more is sent than is durable
-pub sent_good : (P : Packet → Type 0) (p s : ℕ) (n : Node) (held : List Write) → IsPrefixOf (take n.safe n.log) held → ((number : ℕ) (x : Write) → IsNumber held number x → P (packet p s n.line (Update number x))) → (from to : ℕ) → 0 < from → to ≤ n.safe → AllByRecursion P (updates p s n.line from (between from to n.log))
+pub sent_good : (P : Packet → Type 0) (p s : ℕ) (n : Node) (held : List Write) → IsPrefixOf (take n.safe n.log) held → ((number : ℕ) (x : Write) → IsNumber held number x → (part : ℕ) → P (packet p s n.line (Update number x) part)) → (from to : ℕ) → 0 < from → to ≤ n.safe → AllByRecursion P (updates p s n.line from (between from to n.log))
 sent_good P p s n held durable each from to some most =
     updates_good P p s n.line held each from (between from to n.log)
     (λ k x e. (

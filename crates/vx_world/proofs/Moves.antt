@@ -1,9 +1,9 @@
 -- The few ways in which an event changes the world, each with what it has to show.
 use Rattle.std.proofs.Common.{◌≡◌, ℕ, ◌≤◌, List, ◌++◌, length, refl, ap, sym, ◌∙◌, subst, arith, true, inl}
-use Rattle.std.specs.Prelude.{eqb}
+use Rattle.std.specs.Prelude.{eqb, Option}
 use Rattle.std.specs.List.{AllByRecursion}
 use Rattle.vx_model.specs.Content.{Write, IsPrefixOf}
-use Rattle.vx_history.specs.World.{World, Node, Link, History, Packet, Promise, Message, Surety, Hello, Update, NetAck, DataAck, Durable, InSession, with_node, with_history, updated, line_updated}
+use Rattle.vx_history.specs.World.{World, Node, Link, History, Gathering, Packet, Promise, Message, Surety, Hello, Update, NetAck, DataAck, Durable, InSession, with_node, with_history, updated, line_updated}
 use Rattle.vx_model.specs.Sites.{is_origin}
 use Rattle.vx_history.specs.Good.{GoodNode, Good, IsMade}
 use Rattle.vx_model.specs.declared.history.Line.{Line}
@@ -11,13 +11,36 @@ use Rattle.vx_model.specs.declared.site.SiteState.TheVariants.{Bare}
 use Rattle.vx_history.proofs.Updates.{all_updated, all_lines, by_test, eqb_equal, at_place}
 use Rattle.vx_history.proofs.GoodLemmas.{good_stays}
 use Rattle.vx_history.specs.Sends.{is_linked, with_links, with_link, sending, promising}
-use Rattle.vx_world.specs.Sound.{IsWhole, IsFed, GoodLink, GoodMessage, GoodPacket, GoodPromise, IsKept, IsStranger, StrangerSays, IsBegun, KnownNode, Sound}
+use Rattle.vx_history.specs.Sound.{IsWhole, IsFed, GoodLink, GoodMessage, GoodPacket, GoodPromise, IsKept, IsStranger, StrangerSays, IsBegun, KnownNode, Sound}
 use Rattle.vx_world.proofs.Lists.{each_append, each_weaker, prefix_refl, refuted, not_both}
 use Rattle.vx_world.proofs.Carry.{IsLater, later_same, link_later, says_later, packets_later, promises_later}
 
 -- what is said of sites by themselves rests on no link
 pub good_of : (w : World) (links : ℕ → ℕ → Link) (packets : List Packet) (promised : List Promise) → Good w → Good (record w { links = links; packets = packets; promised = promised })
 good_of w links packets promised s = record { nodes = s.nodes; begun = s.begun; later = s.later; told = s.told }
+
+-- nor on what is in assembly, nor on headers
+pub sound_gathering : (w : World) (g : ℕ → Option Gathering) → Sound w → Sound (record w { gathering = g })
+sound_gathering w g s = record {
+  good = record { nodes = s.good.nodes; begun = s.good.begun; later = s.good.later; told = s.good.told };
+  whole = s.whole;
+  fed = s.fed;
+  links = s.links;
+  packets = s.packets;
+  promised = s.promised;
+  known = s.known;
+}
+
+pub sound_headers : (w : World) (h : ℕ → ℕ) → Sound w → Sound (record w { headers = h })
+sound_headers w h s = record {
+  good = record { nodes = s.good.nodes; begun = s.good.begun; later = s.good.later; told = s.good.told };
+  whole = s.whole;
+  fed = s.fed;
+  links = s.links;
+  packets = s.packets;
+  promised = s.promised;
+  known = s.known;
+}
 
 -- packets that say what is so may be sent
 pub sound_sending : (w : World) (ps : List Packet) → Sound w → AllByRecursion (GoodPacket w.nodes w.links w.lines) ps → Sound (sending w ps)

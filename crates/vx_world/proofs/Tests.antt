@@ -7,7 +7,7 @@ use Rattle.vx_model.specs.declared.site.SiteState.TheVariants.{Up}
 use Rattle.vx_model.specs.declared.no.No.{No}
 use Rattle.vx_history.specs.Sends.{is_linked}
 use Rattle.vx_history.specs.Refusals.{Outcome, unless, unless_halted, is_primary, at_site, at_work, both_at_work, on_link_if, when_live, on_volume}
-use Rattle.vx_world.specs.Sound.{Sound}
+use Rattle.vx_history.specs.Sound.{Sound}
 use Rattle.vx_world.proofs.Guards
 
 -- the world that an outcome leaves is sound

@@ -7,7 +7,7 @@ use Rattle.vx_history.specs.World.{World, Node, Packet, Promise, Message, Update
 use Rattle.vx_model.specs.Sites.{is_origin}
 use Rattle.vx_history.specs.Good.{IsMade}
 use Rattle.vx_history.proofs.GoodLemmas.{fold_append}
-use Rattle.vx_world.specs.Sound.{Sound, GoodMessage, GoodPacket, GoodPromise, IsKept}
+use Rattle.vx_history.specs.Sound.{Sound, GoodMessage, GoodPacket, GoodPromise, IsKept}
 use Rattle.vx_world.proofs.Lists.{each_found}
 
 -- the durable writes, and those above them

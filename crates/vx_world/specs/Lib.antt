@@ -2,4 +2,3 @@ pub mod Answers
 pub mod Confirming
 pub mod Grown
 pub mod Settling
-pub mod Sound

@@ -8,7 +8,9 @@ ghost use Rattle.vx_model.specs.declared.history.Line.{Line};
 ghost use Rattle.vx_history.specs.declared.event.Event.{Event};
 ghost use Rattle.vx_world.specs.Grown.{Grown};
 ghost use Rattle.vx_world.specs.Settling.{MaySettle, IsMet, deliver_new, delivery, greeting_events, turn, settling};
-ghost use Rattle.vx_world.specs.Sound.{Sound, IsKept};
+ghost use Rattle.vx_history.specs.Sound.{Sound, IsKept};
+ghost use Rattle.vx_history.specs.GoodWorld.{GoodWorld};
+ghost use Rattle.vx_history.specs.Likes.{IsLike};
 ghost use Rattle.vx_history.specs.Step.{step, run};
 
 /// Whatever happens next, and whatever happens in turn: a sound world stays sound, and the world without sites is sound.
@@ -17,6 +19,21 @@ pub fn stays_sound()
     ensures step { (w : World) (e : Event) → Sound w → Sound (step w e).world }
     ensures run { (w : World) (events : List Event) → Sound w → Sound (run w events) }
     ensures always { (events : List Event) → Sound (run empty_world events) }
+{}
+
+/// The same of all that holds of every world: beside that, each write of a log fits the volumes and the ring of its site, and what a
+/// site puts together are parts of a message that was sent to it. So a world that comes of the one without sites is good.
+pub fn stays_good()
+    ensures empty { GoodWorld empty_world }
+    ensures step { (w : World) (e : Event) → GoodWorld w → GoodWorld (step w e).world }
+    ensures run { (w : World) (events : List Event) → GoodWorld w → GoodWorld (run w events) }
+    ensures always { (events : List Event) → GoodWorld (run empty_world events) }
+{}
+
+/// Worlds that differ in notes alone are good together.
+pub fn looks_at_no_note()
+    ensures sound { (w v : World) → Sound w → IsLike w v → Sound v }
+    ensures good { (w v : World) → GoodWorld w → IsLike w v → GoodWorld v }
 {}
 
 /// Whatever the network loses, repeats or reorders, and whenever sites crash: what a receiver has is a first part of what is durable at
@@ -39,14 +56,14 @@ pub fn forgets_nothing()
     ensures number { (w : World) (events : List Event) (l : Line) (n : ℕ) (x : Write) → Sound w → IsMade (w.nodes l.origin) → IsNumber (w.lines l).held n x → IsNumber ((run w events).lines l).held n x }
 {}
 
-/// Settling a link brings all that is durable at its site to its receiver's disks. The receiver's greeting lets the two meet, each turn
+/// Settling a link of a good world brings all that is durable at its site to its receiver's disks. The receiver's greeting lets the two meet, each turn
 /// raises what is stored as long as that is below the head, and at the end it is the head, which has not changed. Where packets are
 /// delivered, with what is sent in answer, none is left.
 pub fn settles()
-    ensures meets { (w : World) (p s : ℕ) → Sound w → MaySettle w p s → IsMet (run w (greeting_events w p s)) p s }
-    ensures raises { (w : World) (p s : ℕ) → Sound w → IsMet w p s → (w.links p s).stored < (w.nodes p).safe → (w.links p s).stored < ((run w (turn w p s)).links p s).stored }
-    ensures meets_again { (w : World) (p s : ℕ) → Sound w → IsMet w p s → (w.links p s).stored < (w.nodes p).safe → IsMet (run w (turn w p s)) p s }
-    ensures ends { (w : World) (p s : ℕ) → Sound w → MaySettle w p s → ((run w (settling w p s)).links p s).stored ≡ ((run w (settling w p s)).nodes p).safe }
+    ensures meets { (w : World) (p s : ℕ) → GoodWorld w → MaySettle w p s → IsMet (run w (greeting_events w p s)) p s }
+    ensures raises { (w : World) (p s : ℕ) → GoodWorld w → IsMet w p s → (w.links p s).stored < (w.nodes p).safe → (w.links p s).stored < ((run w (turn w p s)).links p s).stored }
+    ensures meets_again { (w : World) (p s : ℕ) → GoodWorld w → IsMet w p s → (w.links p s).stored < (w.nodes p).safe → IsMet (run w (turn w p s)) p s }
+    ensures ends { (w : World) (p s : ℕ) → GoodWorld w → MaySettle w p s → ((run w (settling w p s)).links p s).stored ≡ ((run w (settling w p s)).nodes p).safe }
     ensures none_left { (old w : World) → deliver_new (run w (deliver_new old w)) (run w (delivery old w)) ≡ [] }
-    ensures head { (w : World) (p s : ℕ) → Sound w → MaySettle w p s → ((run w (settling w p s)).nodes p).safe ≡ (w.nodes p).safe }
+    ensures head { (w : World) (p s : ℕ) → GoodWorld w → MaySettle w p s → ((run w (settling w p s)).nodes p).safe ≡ (w.nodes p).safe }
 {}

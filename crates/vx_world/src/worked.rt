@@ -133,18 +133,8 @@ fn wait(number: u64) -> Event {
     Event::Wait { site: 0, number }
 }
 
-fn part(packet: u64) -> Event {
-    Event::Deliver {
-        packet,
-        whole: false,
-    }
-}
-
 fn deliver(packet: u64) -> Event {
-    Event::Deliver {
-        packet,
-        whole: true,
-    }
+    Event::Deliver { packet }
 }
 
 const PUMP: Event = Event::Pump { site: 0, to: 1 };
@@ -236,7 +226,7 @@ fn a_full_log_stalls_writes_until_the_link_is_settled(rt: HostRuntime) -> Result
         (PUMP, "done", 0, Some((3, 6))),
         (deliver(3), "taken", 0, Some((7, 7))),
         (deliver(4), "taken", 0, Some((8, 8))),
-        (part(5), "taken", 0, None),
+        (deliver(5), "taken", 0, None),
         (deliver(6), "taken", 0, Some((9, 9))),
         (deliver(7), "taken", 0, None),
         (deliver(8), "taken", 0, None),
