@@ -15,7 +15,8 @@ use Rattle.vx_script.specs.declared.line.ScriptLine.TheVariants.{Site, Raw, Cras
 use Rattle.vx_events.specs.Facts.{facts_of, site_number, volume_number}
 use Rattle.vx_events.specs.Lines.{write_in}
 use Rattle.vx_events.specs.Plain.{IsUnlinked, IsSized}
-use Rattle.vx_events.proofs.Refused.{crash_may, apply_may, write_may, put_may, read_may, show_may}
+use Rattle.vx_events.proofs.Refused.{crash_may, apply_may}
+use Rattle.vx_events.proofs.RefusedCalls.{write_may, put_may, read_may, show_may}
 use Rattle.vx_events.proofs.Steps.{crash_step, read_step, write_step, apply_step}
 use Rattle.vx_events.proofs.Testing.{seat_in, up_in, running_in, site_free, raw_free, called, call_of, can_put, write_primary, put_primary, blocks_filled}
 

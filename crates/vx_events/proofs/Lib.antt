@@ -4,6 +4,7 @@ pub mod Keeping
 pub mod Passing
 pub mod Places
 pub mod Refused
+pub mod RefusedCalls
 pub mod Steps
 pub mod Testing
 pub mod Values

@@ -38,7 +38,8 @@ use Rattle.vx_events.specs.Lines.{write_in}
 use Rattle.vx_events.specs.Plain.{IsUnlinked, IsSized}
 use Rattle.vx_events.proofs.Passing.{IsCall, neither}
 use Rattle.vx_events.proofs.Steps.{site_step, raw_step, CanPut}
-use Rattle.vx_events.proofs.Refused.{Named, CallMay, WriteMay, passes, site_may, raw_may, write_may, put_may}
+use Rattle.vx_events.proofs.Refused.{when_none, not_false, Named, passes, site_may, raw_may}
+use Rattle.vx_events.proofs.RefusedCalls.{CallMay, WriteMay, write_may, put_may}
 use Rattle.vx_events.proofs.Places.{position_within, some_same}
 use Rattle.vx_events.proofs.Values.{length-values_from, slice_get-values_from}
 
@@ -62,14 +63,6 @@ pub running_in : (w : World) (name : List ℕ) (n : Named (facts_of w) name) →
 running_in w name n up running =
     let m : Node = w.nodes (site_number w name) in
     running (group_fact m) (ap (λ (f : SiteFacts). f.rvg) (seat_in w name n).1 ∙ ap (λ (t : SiteState). group_by t m) up)
-
-pub when_none : (b : Bool) (why : No) → when b why ≡ None → b ≡ false
-when_none true why e = absurd (cc)
-when_none false why e = refl
-
-pub not_false : (b : Bool) → not b ≡ false → b ≡ true
-not_false true e = refl
-not_false false e = absurd (cc)
 
 -- no site has the name of a new one
 pub absent : (b : Bool) (x : SiteFacts) (more : Option SiteFacts) → is_some (cond b (Some x) more) ≡ false → (b ≡ false) × (is_some more ≡ false)

@@ -16,7 +16,7 @@ use Rattle.vx_script.specs.declared.line.ScriptLine.TheVariants.{Site, Raw, Disk
 use Rattle.vx_events.specs.Facts.{site_number}
 use Rattle.vx_events.specs.Fails.{Fails}
 use Rattle.vx_events.specs.Found.{SameDisks}
-use Rattle.vx_events.specs.Fuses.{IsFused}
+use Rattle.vx_history.specs.Stops.{IsFused}
 use Rattle.vx_events.specs.Lists.{Choice, events_of}
 use Rattle.vx_events.specs.Sayings.{Replies}
 use Rattle.vx_events.specs.Stamps.{most_stamp}

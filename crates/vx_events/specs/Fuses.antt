@@ -1,13 +1,7 @@
 -- The fuse of the disks of a site, as the lines of a script tell of it.
 use Rattle.std.specs.Prelude.{◌≡◌, ℕ, ◌+◌, ◌≤◌, List, [], ◌∷◌}
 use Rattle.vx_model.specs.Content.{Write, blocks_in}
-use Rattle.vx_history.specs.World.{Node, Fuse, NoFuse, FuseSet, FuseLit}
-
--- whether there is a fuse that may run out
-abbrev pub IsFused : Fuse → Type 0
-IsFused NoFuse = ⊥
-IsFused (FuseSet calls) = Unit {0}
-IsFused FuseLit = Unit {0}
+use Rattle.vx_history.specs.World.{Node, FuseSet}
 
 -- so many blocks of a log's ring are taken by these writes
 abbrev pub taken : List Write → ℕ

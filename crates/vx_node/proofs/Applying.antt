@@ -14,7 +14,7 @@ use Rattle.vx_node.specs.Engines.{CanApply, halted_at, worked}
 use Rattle.vx_node.specs.Holds.{HasWrites}
 use Rattle.vx_node.specs.Rooms.{AppliedAs}
 use Rattle.vx_node.specs.Fuses.{HasFuse}
-use Rattle.vx_events.specs.Fuses.{IsFused}
+use Rattle.vx_history.specs.Stops.{IsFused}
 use Rattle.vx_node.specs.Stands.{IsUpAt, IsHeldAt}
 use Rattle.vx_node.proofs.Lasts.{rests_with, resting_found}
 use Rattle.vx_node.proofs.Staying.{told_now, never_both, left_moved, up_found, SameLog, up_with, held_moved, fused_by, fuse_moved}

@@ -32,7 +32,8 @@ use Rattle.vx_node.specs.Yards.{YardAgrees, YardStands, StaysAgreed, StaysFor, S
 use Rattle.vx_node.proofs.Alike.{agrees_like}
 use Rattle.vx_node.proofs.Happening.{Happens, first_choice, happens_as, site_happens, raw_happens, only_happens, crash_happens, recover_happens}
 use Rattle.vx_node.proofs.HappeningCalls.{put_happens, put_counts, read_happens, apply_happens}
-use Rattle.vx_events.proofs.Refused.{CallMay, crash_may, recover_may, apply_may, write_may, put_may, read_may, show_may}
+use Rattle.vx_events.proofs.Refused.{crash_may, recover_may, apply_may}
+use Rattle.vx_events.proofs.RefusedCalls.{CallMay, write_may, put_may, read_may, show_may}
 use Rattle.vx_events.proofs.Testing.{seat_in, up_in, running_in, site_free, raw_free, called, call_of, can_put, write_primary, put_primary, blocks_filled}
 
 -- the sizes of a site that is up

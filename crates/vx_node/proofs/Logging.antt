@@ -26,7 +26,8 @@ use Rattle.vx_node.specs.Holds.{HasWrites}
 use Rattle.vx_events.specs.Stamps.{most_stamp}
 use Rattle.vx_node.specs.Rooms.{IsRoomy, RoomIs}
 use Rattle.vx_node.specs.Fuses.{HasFuse, IsFirst}
-use Rattle.vx_events.specs.Fuses.{IsFused, IsExact, taken}
+use Rattle.vx_history.specs.Stops.{IsFused}
+use Rattle.vx_events.specs.Fuses.{IsExact, taken}
 use Rattle.vx_node.specs.Stands.{IsFitted, IsUpAt, IsHeldAt}
 use Rattle.vx_node.proofs.Applying.{ended_log}
 use Rattle.vx_node.proofs.Exacting.{first_pushed, taken_many, taken_push}

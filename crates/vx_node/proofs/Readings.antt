@@ -25,7 +25,7 @@ use Rattle.vx_node.specs.Works.{Fetches, Gets, OnlyFails}
 use Rattle.vx_node.specs.Yards.{YardAgrees, in_files, count_of}
 use Rattle.vx_node.proofs.Changing.{engines_same, rose_none, rose_one, counts_later, counts_rose}
 use Rattle.vx_node.proofs.Lists.{get-set_same, get_at}
-use Rattle.vx_events.proofs.Refused.{CallMay, read_may, show_may}
+use Rattle.vx_events.proofs.RefusedCalls.{CallMay, read_may, show_may}
 use Rattle.vx_events.proofs.Places.{some_same, never_some, position_within}
 use Rattle.vx_node.proofs.Seats.{seated, named_fact}
 use Rattle.vx_node.proofs.Sites.{stands_new}

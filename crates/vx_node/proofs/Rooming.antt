@@ -22,7 +22,7 @@ use Rattle.vx_node.specs.Engines.{no_number, halted_at, worked}
 use Rattle.vx_node.specs.Holds.{HasWrites}
 use Rattle.vx_node.specs.Rooms.{AppliedAs, IsRoomy, RoomIs}
 use Rattle.vx_node.specs.Fuses.{HasFuse}
-use Rattle.vx_events.specs.Fuses.{IsFused}
+use Rattle.vx_history.specs.Stops.{IsFused}
 use Rattle.vx_node.specs.Stands.{IsUpAt, IsHeldAt}
 use Rattle.vx_node.proofs.Applying.{ended_log}
 use Rattle.vx_node.proofs.Lasts.{retains_with, saving_with}

@@ -19,7 +19,7 @@ use Rattle.vx_node.specs.Holds.{HasWrites, raw_units, state_of, state_with}
 use Rattle.vx_events.specs.Stamps.{most_stamp}
 use Rattle.vx_node.specs.Engines.{worked}
 use Rattle.vx_node.specs.Fuses.{HasFuse}
-use Rattle.vx_events.specs.Fuses.{IsFused}
+use Rattle.vx_history.specs.Stops.{IsFused}
 use Rattle.vx_node.specs.Lasts.{FoundWith, StandsWith}
 use Rattle.vx_node.proofs.Lasts.{FoundOf}
 use Rattle.vx_node.specs.Stands.{IsFitted, IsUpAt, IsHeldAt}

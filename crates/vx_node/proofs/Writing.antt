@@ -34,7 +34,7 @@ use Rattle.vx_node.proofs.Falling.{stands_set, stands_same, fuse_fact}
 use Rattle.vx_node.specs.Yards.{YardAgrees, in_files, count_of}
 use Rattle.vx_node.proofs.Changing.{facts-updated, last_fact, halted_fact, rose_none, rose_one, counts_later, counts_rose, engines_set}
 use Rattle.vx_node.proofs.Lists.{get_at, get-set_same, set_same}
-use Rattle.vx_events.proofs.Refused.{WriteMay, write_may, put_may}
+use Rattle.vx_events.proofs.RefusedCalls.{WriteMay, write_may, put_may}
 use Rattle.vx_events.proofs.Places.{some_same, never_some, position_within}
 use Rattle.vx_node.proofs.Seats.{Seated, seated, named_fact, named_none}
 use Rattle.vx_node.proofs.Sites.{stands_new}

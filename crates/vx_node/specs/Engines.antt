@@ -19,7 +19,8 @@ use Rattle.vx_srl.specs.Views.{most_number}
 use Rattle.vx_node.specs.declared.engine.Engine.{Engine}
 use Rattle.vx_events.specs.Found.{SameDisks}
 use Rattle.vx_events.specs.Stamps.{most_stamp}
-use Rattle.vx_events.specs.Fuses.{IsFused, IsExact}
+use Rattle.vx_history.specs.Stops.{IsFused}
+use Rattle.vx_events.specs.Fuses.{IsExact}
 use Rattle.vx_node.specs.Stands.{StandsAt, CutAt, IsUnused, IsToldAt, faults_at}
 
 -- a write that nothing but a failing disk or want of a number can refuse

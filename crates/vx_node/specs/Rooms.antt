@@ -14,7 +14,7 @@ use Rattle.vx_node.specs.Lasts.{StandsWith}
 use Rattle.vx_node.specs.Holds.{raw_units, state_with}
 use Rattle.vx_events.specs.Stamps.{most_stamp}
 use Rattle.vx_node.specs.Fuses.{HasFuse}
-use Rattle.vx_events.specs.Fuses.{IsFused}
+use Rattle.vx_history.specs.Stops.{IsFused}
 use Rattle.vx_node.specs.Stands.{IsFitted, IsUpAt, IsHeldAt}
 
 -- a site that is up and runs, before a write: its log may have used the one stamp that the write makes room for

@@ -14,11 +14,13 @@ use Rattle.vx_rvg.specs.Contents.{Shows}
 use Rattle.vx_events.specs.declared.said.Said.{Said}
 use Rattle.vx_events.specs.declared.said.Said.TheVariants.{Done, DoneAt, Got, Shown, Recovered, Refused}
 use Rattle.vx_events.specs.Stamps.{most_stamp}
-use Rattle.vx_events.specs.Fuses.{IsFused, IsExact}
+use Rattle.vx_history.specs.Stops.{IsFused}
+use Rattle.vx_events.specs.Fuses.{IsExact}
 use Rattle.vx_events.specs.Facts.{site_number, volume_number}
 use Rattle.vx_events.specs.Views.{view_of}
 use Rattle.vx_events.specs.Ends.{IsNoDevice}
 use Rattle.vx_events.specs.Found.{SameDisks}
+use Rattle.vx_events.specs.Lines.{write_in}
 
 -- the failed calls of a line: for each its site and its disk
 abbrev pub Fails : Type 0
@@ -100,9 +102,6 @@ Fetches told w site volume start count fails said new =
     let s = site_number w site in
     Gets told (w.nodes s).base (volume_number (w.nodes s) volume) start count fails said new w ⊎ OnlyFails s fails said new w
 
-abbrev pub write_of : World → List ℕ → List ℕ → ℕ → List ℕ → Write
-write_of w site volume start bytes = record { volume = volume_number (w.nodes (site_number w site)) volume; start = start; bytes = bytes }
-
 -- a line that is not refused before it works
 abbrev pub Works : Type 0 → World → ScriptLine → Fails → Said → World → Type 0
 Works told w (Site name disks blocks) fails said new =
@@ -115,9 +114,9 @@ Works told w (Crash site pick) fails said new =
 Works told w (Fuse site calls pick) fails said new = Cleanly fails said Done new (fused w (site_number w site) calls)
 Works told w (Recover site) fails said new = Recovers told w (site_number w site) fails said new
 Works told w (WriteLine site volume start count fill) fails said new =
-    Puts told w (site_number w site) (write_of w site volume start (replicate (512 * count) fill)) fails said new
+    Puts told w (site_number w site) (write_in w site volume start (replicate (512 * count) fill)) fails said new
 Works told w (PutLine site volume start bytes) fails said new =
-    (length bytes ≡ 512) × Puts told w (site_number w site) (write_of w site volume start bytes) fails said new
+    (length bytes ≡ 512) × Puts told w (site_number w site) (write_in w site volume start bytes) fails said new
 Works told w (Read site volume start count) fails said new = Fetches told w site volume start count fails said new
 Works told w (Show site volume start count) fails said new = Fetches told w site volume start count fails said new
 Works told w (Apply site to) fails said new = Applies w (site_number w site) to fails said new

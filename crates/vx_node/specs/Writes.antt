@@ -12,7 +12,8 @@ use Rattle.vx_node.specs.declared.yard.Yard.{Yard}
 use Rattle.vx_node.specs.Changes.{halted_facts, down_facts}
 use Rattle.vx_events.specs.Facts.{site_number}
 use Rattle.vx_node.specs.Stands.{RoseAll}
-use Rattle.vx_node.specs.Works.{Puts, write_of}
+use Rattle.vx_events.specs.Lines.{write_in}
+use Rattle.vx_node.specs.Works.{Puts}
 use Rattle.vx_events.specs.Fails.{Fails}
 use Rattle.vx_node.specs.Working.{IsFree}
 use Rattle.vx_node.specs.Yards.{YardAgrees, IsTold, count_of}
@@ -38,4 +39,4 @@ module _ {R : Type 0} {g : Ghosts R} where
     pub rose : RoseAll fails (count_of old) (count_of new)
 
   abbrev pub PutsIs : World → List ℕ → List ℕ → ℕ → List ℕ → Said → Yard R g → Yard R g → Type 0
-  PutsIs w name volume start bytes said old new = PutsAt w (site_number w name) (write_of w name volume start bytes) said old new
+  PutsIs w name volume start bytes said old new = PutsAt w (site_number w name) (write_in w name volume start bytes) said old new
