@@ -9,9 +9,9 @@ use Rattle.vx_model.specs.declared.no.No.TheVariants.{Device, Limit, Down as IsO
 use Rattle.vx_model.specs.declared.site.Role.{Role}
 use Rattle.vx_model.specs.declared.site.SiteState.TheVariants.{Up}
 use Rattle.vx_history.proofs.Updates.{at_place}
-use Rattle.vx_history.specs.Events.{links_changed, crash_at}
+use Rattle.vx_history.specs.Events.{links_changed}
 use Rattle.vx_history.specs.Refusals.{Outcome, says}
-use Rattle.vx_history.specs.Step.{step, counted, run, done as says_done}
+use Rattle.vx_history.specs.Step.{step, outcome_of, counted, run, done as says_done}
 use Rattle.vx_history.specs.Steps.{written, logged, half_written, half_begun, crashed, stopped_by, worked_on, burned}
 use Rattle.vx_history.specs.World.{Node, World, updated}
 use Rattle.vx_history.specs.declared.event.Event.{Event}
