@@ -15,6 +15,8 @@ pub mod Rows
 pub mod Keeping
 pub mod Whole
 pub mod Liking
+pub mod Likely
+pub mod LikeSteps
 pub mod Pair
 pub mod Told
 pub mod Batches

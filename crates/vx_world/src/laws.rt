@@ -30,8 +30,11 @@ pub fn stays_good()
     ensures always { (events : List Event) → GoodWorld (run empty_world events) }
 {}
 
-/// Worlds that differ in notes alone are good together.
+/// Worlds that differ in notes alone are good together, and every event makes such worlds of them, and says the same of both.
 pub fn looks_at_no_note()
+    ensures step { (w v : World) (e : Event) → IsLike w v → IsLike (step w e).world (step v e).world }
+    ensures said { (w v : World) (e : Event) → IsLike w v → (step v e).said ≡ (step w e).said }
+    ensures run { (w v : World) (events : List Event) → IsLike w v → IsLike (run w events) (run v events) }
     ensures sound { (w v : World) → Sound w → IsLike w v → Sound v }
     ensures good { (w v : World) → GoodWorld w → IsLike w v → GoodWorld v }
 {}
