@@ -32,3 +32,9 @@ pub mod Reading
 pub mod Applying
 pub mod Downs
 pub mod Admitting
+pub mod Twinning
+pub mod Besides
+pub mod Halving
+pub mod Alone
+pub mod Crashed
+pub mod Passed

@@ -96,7 +96,7 @@ module _ (w v : World) (s : Sound w) (like : IsLike w v) where
   rings : (i : ℕ) → (v.nodes i).ring ≡ (w.nodes i).ring
   rings i = ap (λ (n : Node). n.ring) (like.nodes i)
 
-  fits_like : Fitting w → Fitting v
+  pub fits_like : Fitting w → Fitting v
   fits_like f = record {
     sized = λ i. at (λ b. IsSized b) i (record { start = (f.sized i).start; base = (f.sized i).base; bare = (f.sized i).bare });
     logs = λ i. at (λ b. AllByRecursion (Fits b) b.log) i

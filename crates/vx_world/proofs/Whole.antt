@@ -517,6 +517,11 @@ link_part_leaves Opened w p q sync s up =
     let l : LinkRecord = Events.opened (w.links p q) (w.nodes p).safe in
     Guards.unless_holds (Keeps w) _ WrongRole w (done (with_link w p q l)) (keeps_same w) (λ _. keeps_links w w (keeps_same w) (with_link w p q l).links)
 
+pub stopped_leaves : (w : World) (q disk : ℕ) → Keeps w (stopped_by w q disk)
+stopped_leaves w q disk =
+    let m : Node = record (w.nodes q) { halted = Some disk; fuse = burned (w.nodes q).fuse } in
+    keeps_node w q m (λ f. like_fitted (w.nodes q) m refl refl refl (λ made. made) refl refl refl) (bare_same w q m refl refl) (λ u. u)
+
 -- ## Events
 
 on_link_leaves : (w : World) (p q : ℕ) (e : SEvent) → Leaves w (on_link w p q (done (Events.link_event w p q e)))
@@ -583,10 +588,9 @@ outcome_leaves w (Crash q kept) s =
     (λ up. crash_leaves w q (Events.kept_of (w.nodes q) kept) s (Guards.up_is (w.nodes q).state (not_false (is_up (w.nodes q).state) up))))
 outcome_leaves w (Recover q fails) s = Guards.at_site_holds (Keeps w) w q _ (keeps_same w) (λ _. recover_leaves w q (w.nodes q).state fails refl)
 outcome_leaves w (Fault q disk) s =
-    let m : Node = record (w.nodes q) { halted = Some disk; fuse = burned (w.nodes q).fuse } in
     Guards.at_site_holds (Keeps w) w q _ (keeps_same w)
     (λ _. Guards.unless_holds (Keeps w) (not (is_up (w.nodes q).state)) NotUp w (says (stopped_by w q disk) _) (keeps_same w)
-    (λ _. keeps_node w q m (λ f. like_fitted (w.nodes q) m refl refl refl (λ made. made) refl refl refl) (bare_same w q m refl refl) (λ u. u)))
+    (λ _. stopped_leaves w q disk))
 
 -- whatever headers it writes
 step_leaves : (w : World) (e : Event) → Sound w → Leaves w (step w e)

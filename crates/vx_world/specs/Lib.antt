@@ -2,3 +2,4 @@ pub mod Answers
 pub mod Confirming
 pub mod Grown
 pub mod Settling
+pub mod Twins
