@@ -42,7 +42,18 @@ module _ (w : World) (s : ℕ) (up : (w.nodes s).state ≡ Up) where
   runs (Some disk) o is = same
 
   one_link : (q : ℕ) (l : Link) → IsAlone s w (with_link w s q l)
-  one_link q l = record { sites = refl; nodes = λ _ _. refl; rows = λ i apart. aside w.links s (updated (w.links s) q l) i apart; lines = refl; packets = refl; promised = refl; gathering = λ _ _. refl; name = refl; up = up }
+  one_link q l = record {
+    sites = refl;
+    nodes = λ _ _. refl;
+    rows = λ i apart. aside w.links s
+        (updated (w.links s) q l) i apart;
+    lines = refl;
+    packets = refl;
+    promised = refl;
+    gathering = λ _ _. refl;
+    name = refl;
+    up = up;
+  }
 
   one_node : (n : Node) → n.name ≡ (w.nodes s).name → n.state ≡ Up → IsAlone s w (with_node w s n)
   one_node n name state = record {
@@ -60,13 +71,15 @@ module _ (w : World) (s : ℕ) (up : (w.nodes s).state ≡ Up) where
   pub set_alone : (q : ℕ) (sync : SyncMode) → IsAlone s w (outcome_of w (Set s q sync)).world
   set_alone q sync =
       tested (leb w.sites s) _ _ (tested (leb w.sites q) _ _ (tested (not (is_up (w.nodes s).state)) _ _ (runs (w.nodes s).halted _
-      (tested (not (is_origin (w.nodes s).role)) _ _ (tested (not (is_linked (w.links s q))) _ _ (one_link q (record (w.links s q) { sync = sync; prot = FailsWhenFull })))))))
+      (tested (not (is_origin (w.nodes s).role)) _ _
+      (tested (not (is_linked (w.links s q))) _ _ (one_link q (record (w.links s q) { sync = sync; prot = FailsWhenFull })))))))
 
   heard_link : (p : Packet) (e : SEvent) → p.target ≡ s → IsAlone s w (link_heard w p e).world
   heard_link p e target =
       let l : Link = w.links p.target p.source in
       let r : Sent = sent_step (plain_link p.source l) e (facts_of (w.nodes p.target) p.line) in
-      by_test (λ (o : Outcome). IsAlone s w o.world) (keeps_links (w.nodes p.target).role && is_linked l) (says (with_link w p.target p.source (with_plain l r.link)) (said_of_link r.action)) (says w IsIgnored)
+      by_test (λ (o : Outcome). IsAlone s w o.world) (keeps_links (w.nodes p.target).role && is_linked l)
+      (says (with_link w p.target p.source (with_plain l r.link)) (said_of_link r.action)) (says w IsIgnored)
       (λ _. subst (λ (i : ℕ). IsAlone s w (with_link w i p.source (with_plain l r.link))) (sym target) (one_link p.source (with_plain l r.link)))
       (λ _. same)
 
@@ -77,7 +90,8 @@ module _ (w : World) (s : ℕ) (up : (w.nodes s).state ≡ Up) where
   heard_alone p (DataAck number) target none = heard_link p (HearDataAck number) target
 
   -- what the site then has in assembly is its own
-  other_gathering : (v : World) (f : ℕ → Option Gathering) → IsAlone s w v → ((i : ℕ) → (i ≡ s → ⊥) → f i ≡ w.gathering i) → IsAlone s w (record v { gathering = f })
+  other_gathering : (v : World) (f : ℕ → Option Gathering) → IsAlone s w v → ((i : ℕ) → (i ≡ s → ⊥) → f i ≡ w.gathering i)
+      → IsAlone s w (record v { gathering = f })
   other_gathering v f is e = record { sites = is.sites; nodes = is.nodes; rows = is.rows; lines = is.lines; packets = is.packets; promised = is.promised; gathering = e; name = is.name; up = is.up }
 
   gathers_alone : (p : Packet) (o : Outcome) → p.target ≡ s → IsAlone s w o.world → IsAlone s w (gathers p o).world
@@ -92,15 +106,18 @@ module _ (w : World) (s : ℕ) (up : (w.nodes s).state ≡ Up) where
   handed_alone : (p : Packet) → p.target ≡ s → ((number : ℕ) (x : Write) → p.message ≡ Update number x → ⊥) → IsAlone s w (gathers p (handed w p)).world
   handed_alone p target none =
       gathers_alone p (handed w p) target
-      (by_test (λ (o : Outcome). IsAlone s w o.world) (is_up (w.nodes p.target).state && is_running (w.nodes p.target).halted) (heard w p p.message) (says w IsIgnored)
+      (by_test (λ (o : Outcome). IsAlone s w o.world) (is_up (w.nodes p.target).state && is_running (w.nodes p.target).halted) (heard w p p.message)
+      (says w IsIgnored)
       (λ _. heard_alone p p.message target none) (λ _. same))
 
-  pub heard_by : (number : ℕ) (p : Packet) → packet_at w.packets number ≡ Some p → p.target ≡ s → ((n : ℕ) (x : Write) → p.message ≡ Update n x → ⊥) → IsAlone s w (outcome_of w (Deliver number)).world
+  pub heard_by : (number : ℕ) (p : Packet) → packet_at w.packets number ≡ Some p → p.target ≡ s → ((n : ℕ) (x : Write) → p.message ≡ Update n x → ⊥)
+      → IsAlone s w (outcome_of w (Deliver number)).world
   heard_by number p at target none = subst (λ (o : Option Packet). IsAlone s w (delivered w number o).world) (sym at) (handed_alone p target none)
 
   both_up : (p q : ℕ) (o : Outcome) → IsAlone s w o.world → IsAlone s w (at_site w p (at_site w q (both_at_work w p q o))).world
   both_up p q o is =
-      tested (leb w.sites p) _ _ (tested (leb w.sites q) _ _ (tested (not (is_up (w.nodes p).state && is_up (w.nodes q).state)) _ _ (runs (w.nodes p).halted _ (runs (w.nodes q).halted o is))))
+      tested (leb w.sites p) _ _ (tested (leb w.sites q) _ _
+      (tested (not (is_up (w.nodes p).state && is_up (w.nodes q).state)) _ _ (runs (w.nodes p).halted _ (runs (w.nodes q).halted o is))))
 
   pub joins_alone : (p : ℕ) (sync : SyncMode) → IsAlone s w (outcome_of w (LinkAt p s sync Joins)).world
   joins_alone p sync =
@@ -109,9 +126,11 @@ module _ (w : World) (s : ℕ) (up : (w.nodes s).state ≡ Up) where
       let few : Outcome = unless (leb MOST_LINKS (links_of w p)) (Limit Links MOST_LINKS) w sized in
       let new : Outcome = unless (is_linked (w.links p s)) (Exists (w.nodes s).name) w few in
       both_up p s (unless (not (may_link w p s)) WrongRole w new)
-      (tested (not (may_link w p s)) WrongRole new (tested (is_linked (w.links p s)) (Exists (w.nodes s).name) few (tested (leb MOST_LINKS (links_of w p)) (Limit Links MOST_LINKS) sized
+      (tested (not (may_link w p s)) WrongRole new
+      (tested (is_linked (w.links p s)) (Exists (w.nodes s).name) few (tested (leb MOST_LINKS (links_of w p)) (Limit Links MOST_LINKS) sized
       (tested (not (agree (w.nodes p).volumes (w.nodes s).volumes && rings_fit (w.nodes p) (w.nodes s))) Size o
-      (other_gathering (with_node w s (joined (w.nodes p) p (w.nodes s))) _ (one_node (joined (w.nodes p) p (w.nodes s)) refl up) (λ i apart. aside w.gathering s None i apart))))))
+      (other_gathering (with_node w s (joined (w.nodes p) p (w.nodes s))) _ (one_node (joined (w.nodes p) p (w.nodes s)) refl up)
+      (λ i apart. aside w.gathering s None i apart))))))
 
   pub marked_alone : (p : ℕ) (sync : SyncMode) → IsAlone s w (outcome_of w (LinkAt p s sync Marked)).world
   marked_alone p sync = both_up p s (link_part Marked w p s sync) (tested _ _ _ (one_node (record (w.nodes s) { mark = Consistent }) refl up))
@@ -121,7 +140,8 @@ module _ (w : World) (s : ℕ) (up : (w.nodes s).state ≡ Up) where
       let o : Outcome = done (with_link w s q (new_link (links_of w s) sync (w.nodes q))) in
       let new : Outcome = unless (is_linked (w.links s q)) (Exists (w.nodes q).name) w o in
       both_up s q (link_part Made w s q sync)
-      (tested (not (is_primary (w.nodes s).role && follows w s q)) WrongRole new (tested (is_linked (w.links s q)) (Exists (w.nodes q).name) o (one_link q (new_link (links_of w s) sync (w.nodes q)))))
+      (tested (not (is_primary (w.nodes s).role && follows w s q)) WrongRole new
+      (tested (is_linked (w.links s q)) (Exists (w.nodes q).name) o (one_link q (new_link (links_of w s) sync (w.nodes q)))))
 
   pub opened_alone : (q : ℕ) (sync : SyncMode) → IsAlone s w (outcome_of w (LinkAt s q sync Opened)).world
   opened_alone q sync = both_up s q (link_part Opened w s q sync) (tested _ _ _ (one_link q _))

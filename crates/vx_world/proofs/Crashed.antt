@@ -29,10 +29,13 @@ uncounted w h g = record {
 
 crash_good : (w : World) (s kept : ℕ) → s < w.sites → (w.nodes s).state ≡ Up → GoodWorld w → GoodWorld (crash_at w s (kept_of (w.nodes s) kept))
 crash_good w s kept here up g =
-    subst GoodWorld (crash_is w s kept here up) (uncounted (outcome_of w (Crash s kept)).world (step w (Crash s kept)).world.headers (step_good w (Crash s kept) g))
+    subst GoodWorld (crash_is w s kept here up)
+    (uncounted (outcome_of w (Crash s kept)).world (step w (Crash s kept)).world.headers (step_good w (Crash s kept) g))
 
-pub crashed_good : (d : Doubted) (s kept : ℕ) (taken : Bool) (a : After) → d.after s ≡ Some a → GoodTwin s d.world (resolved d.world s a) → GoodWorld (crashed_as d s kept taken).world
+pub crashed_good : (d : Doubted) (s kept : ℕ) (taken : Bool) (a : After) → d.after s ≡ Some a → GoodTwin s d.world (resolved d.world s a)
+    → GoodWorld (crashed_as d s kept taken).world
 crashed_good d s kept true a is t =
     let v : World = resolved d.world s a in
-    subst (λ (o : Option After). let x = taken_up d.world s o in GoodWorld (crash_at x s (kept_of (x.nodes s) kept))) (sym is) (crash_good v s kept t.twin.here t.twin.up_too t.good_too)
+    subst (λ (o : Option After). let x = taken_up d.world s o in GoodWorld (crash_at x s (kept_of (x.nodes s) kept))) (sym is)
+    (crash_good v s kept t.twin.here t.twin.up_too t.good_too)
 crashed_good d s kept false a is t = crash_good d.world s kept t.twin.here t.twin.up t.good

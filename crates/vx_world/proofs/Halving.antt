@@ -46,9 +46,11 @@ module _ (s disk : ℕ) (w u : World) (good : GoodWorld w) (done : GoodWorld u) 
   same_node : (i : ℕ) → may.nodes i ≡ did.nodes i
   same_node i = elim (cases_eq i s) [
     | inl same ↦
-        subst (λ (j : ℕ). may.nodes j ≡ did.nodes j) (sym same) (at_place was.nodes s (half (u.nodes s) disk) ∙ sym (at_place u.nodes s (half (u.nodes s) disk)))
+        subst (λ (j : ℕ). may.nodes j ≡ did.nodes j) (sym same)
+        (at_place was.nodes s (half (u.nodes s) disk) ∙ sym (at_place u.nodes s (half (u.nodes s) disk)))
     | inr apart ↦
-        aside was.nodes s (half (u.nodes s) disk) i apart ∙ aside w.nodes s (half (w.nodes s) disk) i apart ∙ sym (alone.nodes i apart) ∙ sym (aside u.nodes s (half (u.nodes s) disk) i apart)
+        aside was.nodes s (half (u.nodes s) disk) i apart ∙ aside w.nodes s (half (w.nodes s) disk) i apart ∙ sym (alone.nodes i apart) ∙ sym
+        (aside u.nodes s (half (u.nodes s) disk) i apart)
   ]
 
   same_row : (i : ℕ) → may.links i ≡ did.links i
@@ -88,7 +90,8 @@ module _ (s disk : ℕ) (w u : World) (good : GoodWorld w) (done : GoodWorld u) 
     promised = refl;
     gathering = λ i. refl;
     here = made_is_given w s good.sound.good (up_is_made (w.nodes s) up);
-    name = ap (λ (n : Node). n.name) (at_place was.nodes s (half (u.nodes s) disk)) ∙ alone.name ∙ sym (ap (λ (n : Node). n.name) (at_place w.nodes s (half (w.nodes s) disk)));
+    name = ap (λ (n : Node). n.name) (at_place was.nodes s (half (u.nodes s) disk)) ∙ alone.name ∙ sym
+        (ap (λ (n : Node). n.name) (at_place w.nodes s (half (w.nodes s) disk)));
     up = ap (λ (n : Node). n.state) (at_place w.nodes s (half (w.nodes s) disk)) ∙ up;
     up_too = ap (λ (n : Node). n.state) (at_place was.nodes s (half (u.nodes s) disk)) ∙ alone.up;
     halted = ap (λ (n : Node). is_running n.halted) (at_place w.nodes s (half (w.nodes s) disk));
@@ -102,9 +105,11 @@ module _ (s disk : ℕ) (w u : World) (good : GoodWorld w) (done : GoodWorld u) 
     each = λ i. gather_up i (w.nodes i) (may.nodes i) w.packets (w.gathering i) (stays_up i) (good.gathers.each i);
   }
     where
-      stays_up : (i : ℕ) → (w.nodes i).state ≡ Up → ((resolved (stopped_by w s disk) s (record { node = half (u.nodes s) disk; row = u.links s })).nodes i).state ≡ Up
+      stays_up : (i : ℕ) → (w.nodes i).state ≡ Up
+          → ((resolved (stopped_by w s disk) s (record { node = half (u.nodes s) disk; row = u.links s })).nodes i).state ≡ Up
       stays_up i is = elim (cases_eq i s) [
-        | inl same ↦ subst (λ (j : ℕ). (may.nodes j).state ≡ Up) (sym same) (ap (λ (n : Node). n.state) (at_place was.nodes s (half (u.nodes s) disk)) ∙ alone.up)
+        | inl same ↦ subst (λ (j : ℕ). (may.nodes j).state ≡ Up) (sym same)
+            (ap (λ (n : Node). n.state) (at_place was.nodes s (half (u.nodes s) disk)) ∙ alone.up)
         | inr apart ↦ ap (λ (n : Node). n.state) (aside was.nodes s (half (u.nodes s) disk) i apart ∙ aside w.nodes s (half (w.nodes s) disk) i apart) ∙ is
       ]
 

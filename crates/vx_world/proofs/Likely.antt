@@ -30,7 +30,8 @@ same_of w v a b like e = record { world = like; said = e }
 
 -- ## Tests side by side
 
-pub tests : (b c : Bool) (why how : No) (w v : World) (o r : Outcome) → c ≡ b → how ≡ why → IsLike w v → (b ≡ false → Same o r) → Same (unless b why w o) (unless c how v r)
+pub tests : (b c : Bool) (why how : No) (w v : World) (o r : Outcome) → c ≡ b → how ≡ why → IsLike w v → (b ≡ false → Same o r)
+    → Same (unless b why w o) (unless c how v r)
 tests true true why how w v o r e f like rest = record { world = like; said = ap Refused f }
 tests false false why how w v o r e f like rest = rest refl
 tests true false why how w v o r e f like rest = let g : false ≡ true = e in absurd (cc)
@@ -112,7 +113,8 @@ module _ (w v : World) (like : IsLike w v) where
     sites = like.sites;
     nodes = λ i. pair_updated (λ (a b : Node). b ≡ noted a b) w.nodes v.nodes p n k i e (like.nodes i);
     links = like.links;
-    lines = λ l. ap (λ (x : Node). line_updated v.lines x.line j l) e ∙ ap (λ (y : History). line_updated v.lines n.line y l) f ∙ ap (λ (z : History). if same_line l n.line then h else z) (like.lines l);
+    lines = λ l. ap (λ (x : Node). line_updated v.lines x.line j l) e ∙ ap (λ (y : History). line_updated v.lines n.line y l) f ∙ ap
+        (λ (z : History). if same_line l n.line then h else z) (like.lines l);
     packets = like.packets;
     promised = like.promised;
     gathering = like.gathering;
@@ -164,24 +166,29 @@ module _ (w v : World) (like : IsLike w v) where
   -- ## Tests of sites and links
 
   pub at_site_same : (p : ℕ) (o r : Outcome) → Same o r → Same (at_site w p o) (at_site v p r)
-  at_site_same p o r rest = tests (leb w.sites p) (leb v.sites p) (Unknown (ByNumber p)) (Unknown (ByNumber p)) w v o r (ap (λ (k : ℕ). leb k p) like.sites) refl like (λ _. rest)
+  at_site_same p o r rest = tests (leb w.sites p) (leb v.sites p) (Unknown (ByNumber p)) (Unknown (ByNumber p)) w v o r
+      (ap (λ (k : ℕ). leb k p) like.sites) refl like (λ _. rest)
 
   pub at_work_same : (p : ℕ) (o r : Outcome) → Same o r → Same (at_work w p o) (at_work v p r)
   at_work_same p o r rest =
-      tests (not (is_up (w.nodes p).state)) (not (is_up (v.nodes p).state)) NotUp NotUp w v (unless_halted (w.nodes p).halted w o) (unless_halted (v.nodes p).halted v r) (ap (λ (n : Node). not (is_up n.state)) (like.nodes p)) refl like
+      tests (not (is_up (w.nodes p).state)) (not (is_up (v.nodes p).state)) NotUp NotUp w v (unless_halted (w.nodes p).halted w o)
+      (unless_halted (v.nodes p).halted v r) (ap (λ (n : Node). not (is_up n.state)) (like.nodes p)) refl like
       (λ _. halts (w.nodes p).halted (v.nodes p).halted w v o r (ap (λ (n : Node). n.halted) (like.nodes p)) like rest)
 
   pub both_same : (p q : ℕ) (o r : Outcome) → Same o r → Same (both_at_work w p q o) (both_at_work v p q r)
   both_same p q o r rest =
       let second_w : Outcome = unless_halted (w.nodes q).halted w o in
       let second_v : Outcome = unless_halted (v.nodes q).halted v r in
-      tests (not (is_up (w.nodes p).state && is_up (w.nodes q).state)) (not (is_up (v.nodes p).state && is_up (v.nodes q).state)) NotUp NotUp w v (unless_halted (w.nodes p).halted w second_w) (unless_halted (v.nodes p).halted v second_v)
-      (ap (λ (n : Node). not (is_up n.state && is_up (v.nodes q).state)) (like.nodes p) ∙ ap (λ (n : Node). not (is_up (w.nodes p).state && is_up n.state)) (like.nodes q)) refl like
+      tests (not (is_up (w.nodes p).state && is_up (w.nodes q).state)) (not (is_up (v.nodes p).state && is_up (v.nodes q).state)) NotUp NotUp w v
+      (unless_halted (w.nodes p).halted w second_w) (unless_halted (v.nodes p).halted v second_v)
+      (ap (λ (n : Node). not (is_up n.state && is_up (v.nodes q).state)) (like.nodes p) ∙ ap (λ (n : Node). not (is_up (w.nodes p).state && is_up n.state))
+      (like.nodes q)) refl like
       (λ _. halts (w.nodes p).halted (v.nodes p).halted w v second_w second_v (ap (λ (n : Node). n.halted) (like.nodes p)) like
       (halts (w.nodes q).halted (v.nodes q).halted w v o r (ap (λ (n : Node). n.halted) (like.nodes q)) like rest))
 
   -- behind its tests the link is there, and the same in both
-  pub on_link_same : (test : Role → Bool) (p q : ℕ) (o r : Outcome) → (v.links p q ≡ w.links p q → is_linked (w.links p q) ≡ true → Same o r) → Same (on_link_if test w p q o) (on_link_if test v p q r)
+  pub on_link_same : (test : Role → Bool) (p q : ℕ) (o r : Outcome) → (v.links p q ≡ w.links p q → is_linked (w.links p q) ≡ true → Same o r)
+      → Same (on_link_if test w p q o) (on_link_if test v p q r)
   on_link_same test p q o r rest =
       let linked_w : Outcome = unless (not (is_linked (w.links p q))) (Unknown (ByNumber q)) w o in
       let linked_v : Outcome = unless (not (is_linked (v.links p q))) (Unknown (ByNumber q)) v r in
@@ -190,13 +197,16 @@ module _ (w v : World) (like : IsLike w v) where
       at_site_same p (at_site w q (at_work w p role_w)) (at_site v q (at_work v p role_v))
       (at_site_same q (at_work w p role_w) (at_work v p role_v)
       (at_work_same p role_w role_v
-      (tests (not (test (w.nodes p).role)) (not (test (v.nodes p).role)) WrongRole WrongRole w v linked_w linked_v (ap (λ (n : Node). not (test n.role)) (like.nodes p)) refl like
-      (λ _. tests (not (is_linked (w.links p q))) (not (is_linked (v.links p q))) (Unknown (ByNumber q)) (Unknown (ByNumber q)) w v o r (ap not (like.links p q).linked) refl like
+      (tests (not (test (w.nodes p).role)) (not (test (v.nodes p).role)) WrongRole WrongRole w v linked_w linked_v
+      (ap (λ (n : Node). not (test n.role)) (like.nodes p)) refl like
+      (λ _. tests (not (is_linked (w.links p q))) (not (is_linked (v.links p q))) (Unknown (ByNumber q)) (Unknown (ByNumber q)) w v o r
+      (ap not (like.links p q).linked) refl like
       (λ is. let made : is_linked (w.links p q) ≡ true = not_false (is_linked (w.links p q)) is in rest ((like.links p q).same made) made)))))
 
   pub when_live_same : (q : ℕ) (l m : Link) (o r : Outcome) → m ≡ l → Same o r → Same (when_live w q l o) (when_live v q m r)
   when_live_same q l m o r e rest =
       let paused_w : Outcome = unless l.paused Paused w o in
       let paused_v : Outcome = unless m.paused Paused v r in
-      tests (not (l.attached && l.connected)) (not (m.attached && m.connected)) (LinkDown (SiteNumber q)) (LinkDown (SiteNumber q)) w v paused_w paused_v (ap (λ (k : Link). not (k.attached && k.connected)) e) refl like
+      tests (not (l.attached && l.connected)) (not (m.attached && m.connected)) (LinkDown (SiteNumber q)) (LinkDown (SiteNumber q)) w v paused_w paused_v
+      (ap (λ (k : Link). not (k.attached && k.connected)) e) refl like
       (λ _. tests l.paused m.paused Paused Paused w v o r (ap (λ (k : Link). k.paused) e) refl like (λ _. rest))

@@ -61,7 +61,8 @@ module _ (v : World) (p s : ℕ) (a b : Node) (l : Link) (ps : List Packet) (at 
   tick_at =
       counted_at p s a b (record l { sent = l.net; trimmed = 0 }) ps v (Tick p s)
       (nothing_sent (outcome_of v (Tick p s)).world (record l { sent = l.net; trimmed = 0 })
-      (subst (λ (o : Outcome). At o.world p s a b (record l { sent = l.net; trimmed = 0 }) (ps ++ [])) (sym (link_passes v p s a b l ps at (done (Events.link_event v p s TickLink)) fit))
+      (subst (λ (o : Outcome). At o.world p s a b (record l { sent = l.net; trimmed = 0 }) (ps ++ []))
+      (sym (link_passes v p s a b l ps at (done (Events.link_event v p s TickLink)) fit))
       (link_event_at v p s a b l ps at TickLink)))
 
   live : (is_live (plain_link s l) && by_log l.mode) ≡ true
@@ -76,18 +77,24 @@ module _ (v : World) (p s : ℕ) (a b : Node) (l : Link) (ps : List Packet) (at 
   pump_passes : (o : Outcome) → on_link v p s (when_live v s (v.links p s) o) ≡ o
   pump_passes o =
       link_passes v p s a b l ps at _ fit
-      ∙ passes (not ((v.links p s).attached && (v.links p s).connected)) _ v _ (falls ((v.links p s).attached && (v.links p s).connected) (ap (λ (x : Link). x.attached && x.connected) at.at_l ∙ both l.attached l.connected fit.attached fit.connected))
+      ∙ passes (not ((v.links p s).attached && (v.links p s).connected)) _ v _
+      (falls ((v.links p s).attached && (v.links p s).connected)
+      (ap (λ (x : Link). x.attached && x.connected) at.at_l ∙ both l.attached l.connected fit.attached fit.connected))
       ∙ passes (v.links p s).paused _ v o (ap (λ (x : Link). x.paused) at.at_l ∙ fit.running)
 
   -- what the receiver may lack is sent
-  pub pump_at : (low high : ℕ) → max l.sent l.stored ≡ low → min a.safe (l.net + 8) ≡ high → low < high → At (step v (Pump p s)).world p s a b (record l { sent = high }) (ps ++ updates p s a.line (low + 1) (between (low + 1) high a.log))
+  pub pump_at : (low high : ℕ) → max l.sent l.stored ≡ low → min a.safe (l.net + 8) ≡ high → low < high
+      → At (step v (Pump p s)).world p s a b (record l { sent = high }) (ps ++ updates p s a.line (low + 1) (between (low + 1) high a.log))
   pump_at low high is_low is_high less =
       let r : Sent = record { link = record (plain_link s l) { sent = high }; action = Updates (low + 1) high } in
       let e : sent_step (plain_link s l) PumpLink (Events.facts_of a a.line) ≡ r =
-      pumps ∙ ap (λ k. pumped_up_to (plain_link s l) k (min a.safe (l.net + 8))) is_low ∙ ap (λ k. pumped_up_to (plain_link s l) low k) is_high ∙ by_true (ltb low high) _ _ (below low high less) in
+      pumps ∙ ap (λ k. pumped_up_to (plain_link s l) k (min a.safe (l.net + 8))) is_low ∙ ap (λ k. pumped_up_to (plain_link s l) low k) is_high ∙ by_true
+      (ltb low high) _ _ (below low high less) in
       counted_at p s a b (record l { sent = high }) (ps ++ updates p s a.line (low + 1) (between (low + 1) high a.log)) v (Pump p s)
-      (subst (λ (o : Outcome). At o.world p s a b (record l { sent = high }) (ps ++ updates p s a.line (low + 1) (between (low + 1) high a.log))) (sym (pump_passes (done (Events.link_event v p s PumpLink))))
-      (subst (λ (x : Sent). At (Events.link_event v p s PumpLink) p s a b (with_plain l x.link) (ps ++ sent_by x.action p s a)) e (link_event_at v p s a b l ps at PumpLink)))
+      (subst (λ (o : Outcome). At o.world p s a b (record l { sent = high }) (ps ++ updates p s a.line (low + 1) (between (low + 1) high a.log)))
+      (sym (pump_passes (done (Events.link_event v p s PumpLink))))
+      (subst (λ (x : Sent). At (Events.link_event v p s PumpLink) p s a b (with_plain l x.link) (ps ++ sent_by x.action p s a)) e
+      (link_event_at v p s a b l ps at PumpLink)))
     where
       below : (m n : ℕ) → m < n → ltb m n ≡ true
       below m n h = grind (arith, nat_tests)
@@ -96,11 +103,13 @@ module _ (v : World) (p s : ℕ) (a b : Node) (l : Link) (ps : List Packet) (at 
   pump_none is_low most =
       let r : Sent = with_nothing (plain_link s l) in
       let e : sent_step (plain_link s l) PumpLink (Events.facts_of a a.line) ≡ r =
-      pumps ∙ ap (λ k. pumped_up_to (plain_link s l) k (min a.safe (l.net + 8))) is_low ∙ by_false (ltb l.sent (min a.safe (l.net + 8))) _ _ (above l.sent (min a.safe (l.net + 8)) most) in
+      pumps ∙ ap (λ k. pumped_up_to (plain_link s l) k (min a.safe (l.net + 8))) is_low ∙ by_false (ltb l.sent (min a.safe (l.net + 8))) _ _
+      (above l.sent (min a.safe (l.net + 8)) most) in
       counted_at p s a b l ps v (Pump p s)
       (nothing_sent (outcome_of v (Pump p s)).world l
       (subst (λ (o : Outcome). At o.world p s a b l (ps ++ [])) (sym (pump_passes (done (Events.link_event v p s PumpLink))))
-      (subst (λ (x : Sent). At (Events.link_event v p s PumpLink) p s a b (with_plain l x.link) (ps ++ sent_by x.action p s a)) e (link_event_at v p s a b l ps at PumpLink))))
+      (subst (λ (x : Sent). At (Events.link_event v p s PumpLink) p s a b (with_plain l x.link) (ps ++ sent_by x.action p s a)) e
+      (link_event_at v p s a b l ps at PumpLink))))
     where
       above : (m n : ℕ) → n ≤ m → ltb m n ≡ false
       above m n h = grind (arith, nat_tests)
@@ -122,7 +131,8 @@ module _ (v : World) (p s : ℕ) (a b : Node) (l : Link) (ps : List Packet) (at 
   handed_is q n e up none = by_true (is_up (v.nodes q.target).state && is_running (v.nodes q.target).halted) _ _ (hears v p s a b l ps at q.target n e up none)
 
   -- what comes of a packet, by what its target makes of it
-  deliver_via : (k : ℕ) (q : Packet) (o : Outcome) (c d : Node) (m : Link) (qs : List Packet) → IsYoung ps k → slice_get ps k ≡ Some q → Events.handed v q ≡ o → At o.world p s c d m qs → At (step v (Deliver (suc k))).world p s c d m qs
+  deliver_via : (k : ℕ) (q : Packet) (o : Outcome) (c d : Node) (m : Link) (qs : List Packet) → IsYoung ps k → slice_get ps k ≡ Some q
+      → Events.handed v q ≡ o → At o.world p s c d m qs → At (step v (Deliver (suc k))).world p s c d m qs
   deliver_via k q o c d m qs young e is h =
       counted_at p s c d m qs v (Deliver (suc k))
       (subst (λ (x : Outcome). At x.world p s c d m qs) (sym (delivered_is k q young e))
@@ -134,7 +144,8 @@ module _ (v : World) (p s : ℕ) (a b : Node) (l : Link) (ps : List Packet) (at 
   abbrev the_ack : ℕ → Packet
   the_ack n = packet s p b.line (NetAck b.session n) 0
 
-  update_is : (n : ℕ) (x : Write) (part : ℕ) (action : RAction) → (update_heard (plain_receiver b) a.line n).action ≡ action → Events.handed v (the_update n x part) ≡ Events.update_taken v (the_update n x part) x action
+  update_is : (n : ℕ) (x : Write) (part : ℕ) (action : RAction) → (update_heard (plain_receiver b) a.line n).action ≡ action
+      → Events.handed v (the_update n x part) ≡ Events.update_taken v (the_update n x part) x action
   update_is n x part action e =
       let q : Packet = the_update n x part in
       handed_is q b at.at_s fit.up_b fit.runs_b
@@ -147,27 +158,33 @@ module _ (v : World) (p s : ℕ) (a b : Node) (l : Link) (ps : List Packet) (at 
   can_take n next room =
       let t : RState = plain_receiver b in
       let taken : takes t a.line n ≡ true =
-      both (same_line a.line b.line) (eqb n (length b.log + 1) && (ltb (length b.log - b.safe) 16 && phase_takes b.phase)) (ap (λ (y : Line). same_line a.line y) fit.line ∙ same_line_self a.line)
-      (both (eqb n (length b.log + 1)) (ltb (length b.log - b.safe) 16 && phase_takes b.phase) (same n (length b.log + 1) next) (both (ltb (length b.log - b.safe) 16) (phase_takes b.phase) room fit.takes)) in
+      both (same_line a.line b.line) (eqb n (length b.log + 1) && (ltb (length b.log - b.safe) 16 && phase_takes b.phase))
+      (ap (λ (y : Line). same_line a.line y) fit.line ∙ same_line_self a.line)
+      (both (eqb n (length b.log + 1)) (ltb (length b.log - b.safe) 16 && phase_takes b.phase) (same n (length b.log + 1) next)
+      (both (ltb (length b.log - b.safe) 16) (phase_takes b.phase) room fit.takes)) in
       ap (λ (r : Received). r.action) (by_true (takes t a.line n) (record { state = with_next t; action = Take n }) _ taken)
     where
       same : (m n : ℕ) → m ≡ n → eqb m n ≡ true
       same m n h = grind (arith, nat_tests)
 
   -- an update that is whole is taken
-  pub taken_at : (k n : ℕ) (x : Write) (part : ℕ) → IsYoung ps k → slice_get ps k ≡ Some (the_update n x part) → n ≡ length b.log + 1 → ltb (length b.log - b.safe) 16 ≡ true → completes (v.gathering s) (the_update n x part) ≡ true
+  pub taken_at : (k n : ℕ) (x : Write) (part : ℕ) → IsYoung ps k → slice_get ps k ≡ Some (the_update n x part) → n ≡ length b.log + 1
+      → ltb (length b.log - b.safe) 16 ≡ true → completes (v.gathering s) (the_update n x part) ≡ true
       → At (step v (Deliver (suc k))).world p s a (Events.with_write b x) l (ps ++ the_ack n ∷ [])
   taken_at k n x part young e next room whole =
       let q : Packet = the_update n x part in
       let c : Node = Events.with_write b x in
       let qs : List Packet = ps ++ the_ack n ∷ [] in
-      deliver_via k q (Events.taken_if true v q x n) a c l qs young e (update_is n x part (Take n) (can_take n next room) ∙ ap (λ (t : Bool). Events.taken_if t v q x n) whole)
+      deliver_via k q (Events.taken_if true v q x n) a c l qs young e
+      (update_is n x part (Take n) (can_take n next room) ∙ ap (λ (t : Bool). Events.taken_if t v q x n) whole)
       (subst (λ (y : Node). At (Events.from_memory (with_node v s (Events.with_write y x)) y q n) p s a c l qs) (sym at.at_s)
       (sending_at (with_node v s c) p s a c l ps (with_node_at v p s a b l ps at c fit.apart) (the_ack n ∷ [])))
 
   -- of one that is not whole the part is kept
-  pub kept_at : (k n : ℕ) (x : Write) (part : ℕ) → IsYoung ps k → slice_get ps k ≡ Some (the_update n x part) → n ≡ length b.log + 1 → ltb (length b.log - b.safe) 16 ≡ true → completes (v.gathering s) (the_update n x part) ≡ false
-      → At (step v (Deliver (suc k))).world p s a b l ps × ((step v (Deliver (suc k))).world.gathering s ≡ Some (record { key = key_of (the_update n x part); came = came_after (v.gathering s) (the_update n x part) }))
+  pub kept_at : (k n : ℕ) (x : Write) (part : ℕ) → IsYoung ps k → slice_get ps k ≡ Some (the_update n x part) → n ≡ length b.log + 1
+      → ltb (length b.log - b.safe) 16 ≡ true → completes (v.gathering s) (the_update n x part) ≡ false
+      → At (step v (Deliver (suc k))).world p s a b l ps × ((step v (Deliver (suc k))).world.gathering s ≡ Some
+      (record { key = key_of (the_update n x part); came = came_after (v.gathering s) (the_update n x part) }))
   kept_at k n x part young e next room some =
       let q : Packet = the_update n x part in
       let is : Events.handed v q ≡ says v IsTaken = update_is n x part (Take n) (can_take n next room) ∙ ap (λ (t : Bool). Events.taken_if t v q x n) some in (
@@ -179,11 +196,14 @@ module _ (v : World) (p s : ℕ) (a b : Node) (l : Link) (ps : List Packet) (at 
       )
 
   -- an update for which there is no room is ignored
-  pub ignored_at : (k n : ℕ) (x : Write) (part : ℕ) → IsYoung ps k → slice_get ps k ≡ Some (the_update n x part) → length b.log < n → ltb (length b.log - b.safe) 16 ≡ false → At (step v (Deliver (suc k))).world p s a b l ps
+  pub ignored_at : (k n : ℕ) (x : Write) (part : ℕ) → IsYoung ps k → slice_get ps k ≡ Some (the_update n x part) → length b.log < n
+      → ltb (length b.log - b.safe) 16 ≡ false → At (step v (Deliver (suc k))).world p s a b l ps
   ignored_at k n x part young e past full =
       let t : RState = plain_receiver b in
       let action : (update_heard t a.line n).action ≡ Ignores =
-      ap (λ (r : Received). r.action) (by_false (takes t a.line n) _ _ (no_room (same_line a.line b.line) (eqb n (length b.log + 1)) (ltb (length b.log - b.safe) 16) (phase_takes b.phase) full))
+      ap (λ (r : Received). r.action)
+      (by_false (takes t a.line n) _ _
+      (no_room (same_line a.line b.line) (eqb n (length b.log + 1)) (ltb (length b.log - b.safe) 16) (phase_takes b.phase) full))
       ∙ by_false (repeats t a.line n) (IgnoredAck t.last) Ignores (no_repeat (same_line a.line b.line) (leb n (length b.log)) (above n (length b.log) past)) in
       deliver_via k (the_update n x part) (says v IsIgnored) a b l ps young e (update_is n x part Ignores action) at
     where
@@ -201,17 +221,21 @@ module _ (v : World) (p s : ℕ) (a b : Node) (l : Link) (ps : List Packet) (at 
       above m n h = grind (arith, nat_tests)
 
   -- an update that the site has already is acknowledged again
-  pub again_at : (k n : ℕ) (x : Write) (part : ℕ) → IsYoung ps k → slice_get ps k ≡ Some (the_update n x part) → n ≤ length b.log → At (step v (Deliver (suc k))).world p s a b l (ps ++ the_ack (length b.log) ∷ [])
+  pub again_at : (k n : ℕ) (x : Write) (part : ℕ) → IsYoung ps k → slice_get ps k ≡ Some (the_update n x part) → n ≤ length b.log
+      → At (step v (Deliver (suc k))).world p s a b l (ps ++ the_ack (length b.log) ∷ [])
   again_at k n x part young e old =
       let q : Packet = the_update n x part in
       let t : RState = plain_receiver b in
       let qs : List Packet = ps ++ the_ack (length b.log) ∷ [] in
-      let untaken : takes t a.line n ≡ false = none_left (same_line a.line b.line) (eqb n (length b.log + 1)) (ltb (length b.log - b.safe) 16 && phase_takes b.phase) (above n (length b.log) old) in
-      let known : repeats t a.line n ≡ true = both (same_line a.line b.line) (leb n (length b.log)) (ap (λ (y : Line). same_line a.line y) fit.line ∙ same_line_self a.line) (at_most n (length b.log) old) in
+      let untaken : takes t a.line n ≡ false = none_left (same_line a.line b.line) (eqb n (length b.log + 1))
+      (ltb (length b.log - b.safe) 16 && phase_takes b.phase) (above n (length b.log) old) in
+      let known : repeats t a.line n ≡ true = both (same_line a.line b.line) (leb n (length b.log))
+      (ap (λ (y : Line). same_line a.line y) fit.line ∙ same_line_self a.line) (at_most n (length b.log) old) in
       let action : (update_heard t a.line n).action ≡ IgnoredAck (length b.log) =
       ap (λ (r : Received). r.action) (by_false (takes t a.line n) _ _ untaken) ∙ by_true (repeats t a.line n) (IgnoredAck t.last) Ignores known in
       deliver_via k q (Events.update_taken v q x (IgnoredAck (length b.log))) a b l qs young e (update_is n x part (IgnoredAck (length b.log)) action)
-      (subst (λ (y : Node). At (Events.from_memory v y q (length b.log)) p s a b l qs) (sym at.at_s) (sending_at v p s a b l ps at (the_ack (length b.log) ∷ [])))
+      (subst (λ (y : Node). At (Events.from_memory v y q (length b.log)) p s a b l qs) (sym at.at_s)
+      (sending_at v p s a b l ps at (the_ack (length b.log) ∷ [])))
     where
       none_left : (c d e : Bool) → d ≡ false → (c && (d && e)) ≡ false
       none_left true false e h = refl
@@ -225,7 +249,8 @@ module _ (v : World) (p s : ℕ) (a b : Node) (l : Link) (ps : List Packet) (at 
       at_most m n h = grind (arith, nat_tests)
 
   -- what the link hears of its receiver
-  pub link_at : (k : ℕ) (m : Message) (e : SEvent) → IsYoung ps k → slice_get ps k ≡ Some (packet s p b.line m 0) → Events.heard v (packet s p b.line m 0) m ≡ Events.link_heard v (packet s p b.line m 0) e
+  pub link_at : (k : ℕ) (m : Message) (e : SEvent) → IsYoung ps k → slice_get ps k ≡ Some (packet s p b.line m 0)
+      → Events.heard v (packet s p b.line m 0) m ≡ Events.link_heard v (packet s p b.line m 0) e
       → At (step v (Deliver (suc k))).world p s a b (with_plain l (sent_step (plain_link s l) e (Events.facts_of a b.line)).link) ps
   link_at k m e young found is =
       let q : Packet = packet s p b.line m 0 in
@@ -233,8 +258,10 @@ module _ (v : World) (p s : ℕ) (a b : Node) (l : Link) (ps : List Packet) (at 
       let v' : World = with_link v p s (with_plain (v.links p s) (r (v.links p s) (v.nodes p)).link) in
       let goes : Events.link_heard v q e ≡ says v' (Events.said_of_link (r (v.links p s) (v.nodes p)).action) =
       by_true (keeps_links (v.nodes p).role && is_linked (v.links p s)) _ _
-      (both (keeps_links (v.nodes p).role) (is_linked (v.links p s)) (ap (λ (x : Node). keeps_links x.role) at.at_p ∙ fit.sends) (ap is_linked at.at_l ∙ fit.linked)) in
-      deliver_via k q (says v' (Events.said_of_link (r (v.links p s) (v.nodes p)).action)) a b (with_plain l (r l a).link) ps young found (handed_is q a at.at_p fit.up_a fit.runs_a ∙ is ∙ goes)
+      (both (keeps_links (v.nodes p).role) (is_linked (v.links p s)) (ap (λ (x : Node). keeps_links x.role) at.at_p ∙ fit.sends)
+      (ap is_linked at.at_l ∙ fit.linked)) in
+      deliver_via k q (says v' (Events.said_of_link (r (v.links p s) (v.nodes p)).action)) a b (with_plain l (r l a).link) ps young found
+      (handed_is q a at.at_p fit.up_a fit.runs_a ∙ is ∙ goes)
       (with_link_at_via (with_plain (v.links p s) (r (v.links p s) (v.nodes p)).link) (with_plain l (r l a).link)
       (ap (λ (x : Link). with_plain x (r x (v.nodes p)).link) at.at_l ∙ ap (λ (y : Node). with_plain l (r l y).link) at.at_p))
     where
@@ -248,10 +275,12 @@ module _ (v : World) (p s : ℕ) (a b : Node) (l : Link) (ps : List Packet) (at 
   heard_as r = by_true (same_line b.line a.line) r (with_ignored (plain_link s l)) ours
 
   -- an acknowledgement from memory in the present session that tells something new
-  pub memory_at : (k n : ℕ) → IsYoung ps k → slice_get ps k ≡ Some (the_ack n) → l.session ≡ b.session → l.net < n → At (step v (Deliver (suc k))).world p s a b (record l { net = n }) ps
+  pub memory_at : (k n : ℕ) → IsYoung ps k → slice_get ps k ≡ Some (the_ack n) → l.session ≡ b.session → l.net < n
+      → At (step v (Deliver (suc k))).world p s a b (record l { net = n }) ps
   memory_at k n young e session new =
       let t : (by_log l.mode && (eqb b.session l.session && ltb l.net n)) ≡ true =
-      both (by_log l.mode) (eqb b.session l.session && ltb l.net n) (ap by_log fit.mode) (both (eqb b.session l.session) (ltb l.net n) (same b.session l.session (sym session)) (below l.net n new)) in
+      both (by_log l.mode) (eqb b.session l.session && ltb l.net n) (ap by_log fit.mode)
+      (both (eqb b.session l.session) (ltb l.net n) (same b.session l.session (sym session)) (below l.net n new)) in
       subst (λ (x : Sent). At (step v (Deliver (suc k))).world p s a b (with_plain l x.link) ps)
       (heard_as (memory_acknowledged (plain_link s l) b.session n) ∙ by_true (by_log l.mode && (eqb b.session l.session && ltb l.net n)) _ _ t)
       (link_at k (NetAck b.session n) (HearNetAck b.session n) young e refl)
@@ -265,7 +294,8 @@ module _ (v : World) (p s : ℕ) (a b : Node) (l : Link) (ps : List Packet) (at 
   -- one that tells nothing new
   pub stale_at : (k n : ℕ) → IsYoung ps k → slice_get ps k ≡ Some (the_ack n) → n ≤ l.net → At (step v (Deliver (suc k))).world p s a b l ps
   stale_at k n young e old =
-      let t : (by_log l.mode && (eqb b.session l.session && ltb l.net n)) ≡ false = nothing (by_log l.mode) (eqb b.session l.session) (ltb l.net n) (not_less l.net n old) in
+      let t : (by_log l.mode && (eqb b.session l.session && ltb l.net n)) ≡ false = nothing (by_log l.mode) (eqb b.session l.session) (ltb l.net n)
+      (not_less l.net n old) in
       subst (λ (x : Sent). At (step v (Deliver (suc k))).world p s a b (with_plain l x.link) ps)
       (heard_as (memory_acknowledged (plain_link s l) b.session n) ∙ by_false (by_log l.mode && (eqb b.session l.session && ltb l.net n)) _ _ t)
       (link_at k (NetAck b.session n) (HearNetAck b.session n) young e refl)
@@ -279,7 +309,8 @@ module _ (v : World) (p s : ℕ) (a b : Node) (l : Link) (ps : List Packet) (at 
       not_less m n h = grind (arith, nat_tests)
 
   -- an acknowledgement from disk that tells something new
-  pub disk_at : (k n : ℕ) → IsYoung ps k → slice_get ps k ≡ Some (packet s p b.line (DataAck n) 0) → l.stored < n → At (step v (Deliver (suc k))).world p s a b (record l { stored = n; net = max l.net n }) ps
+  pub disk_at : (k n : ℕ) → IsYoung ps k → slice_get ps k ≡ Some (packet s p b.line (DataAck n) 0) → l.stored < n
+      → At (step v (Deliver (suc k))).world p s a b (record l { stored = n; net = max l.net n }) ps
   disk_at k n young e new =
       let t : (by_log l.mode && ltb l.stored n) ≡ true = both (by_log l.mode) (ltb l.stored n) (ap by_log fit.mode) (below l.stored n new) in
       subst (λ (x : Sent). At (step v (Deliver (suc k))).world p s a b (with_plain l x.link) ps)
@@ -310,7 +341,8 @@ module _ (v : World) (p s : ℕ) (a b : Node) (l : Link) (ps : List Packet) (at 
       (subst (λ (o : Outcome). At o.world p s a b l (ps ++ packet s p b.line (Hello b.session (length b.log) b.safe) 0 ∷ []))
       (sym (link_passes v p s a b l ps at (done (sending w (Events.greeting_back v p s))) fit))
       (subst (λ (more : List Packet). At (sending w more) p s a b l (ps ++ greeting s p b)) (sym back)
-      (sending_at w p s a b l ps (subst (λ (x : Link). At w p s a b x ps) same (nothing_sent w m (link_event_at v p s a b l ps at ConnectLink))) (greeting s p b))))
+      (sending_at w p s a b l ps (subst (λ (x : Link). At w p s a b x ps) same (nothing_sent w m (link_event_at v p s a b l ps at ConnectLink)))
+      (greeting s p b))))
     where
       same : (let m : Link = record l { connected = true } in m) ≡ l
       same = ap (λ c. let m : Link = record l { connected = c } in m) (sym fit.connected)
@@ -320,14 +352,29 @@ module _ (v : World) (p s : ℕ) (a b : Node) (l : Link) (ps : List Packet) (at 
   Knows k = (sent : ℕ) × At (step v (Deliver (suc k))).world p s a b (record l { session = b.session; net = length b.log; stored = b.safe; sent = sent }) ps
 
   -- a greeting that tells no less than the link knows
-  pub hello_at : (k : ℕ) → IsYoung ps k → slice_get ps k ≡ Some (packet s p b.line (Hello b.session (length b.log) b.safe) 0) → l.session ≤ b.session → l.stored ≤ b.safe → b.safe ≤ length b.log → (l.session ≡ b.session → l.net ≤ length b.log)
+  pub hello_at : (k : ℕ) → IsYoung ps k → slice_get ps k ≡ Some (packet s p b.line (Hello b.session (length b.log) b.safe) 0) → l.session ≤ b.session
+      → l.stored ≤ b.safe → b.safe ≤ length b.log → (l.session ≡ b.session → l.net ≤ length b.log)
       → Knows k
   hello_at k young e session stored fits net =
       by_test (λ (x : PlainLink). At (step v (Deliver (suc k))).world p s a b (with_plain l x) ps → Knows k) (ltb l.session b.session)
-      (record (plain_link s l) { session = b.session; stored = max l.stored b.safe; net = max (length b.log) (max l.stored b.safe); sent = max (length b.log) (max l.stored b.safe) })
+      (record (plain_link s l) {
+        session = b.session;
+        stored = max l.stored b.safe;
+        net = max (length b.log) (max l.stored b.safe);
+        sent = max
+            (length b.log) (max l.stored b.safe);
+      })
       (record (plain_link s l) { net = max l.net (length b.log); stored = max l.stored b.safe })
-      (λ _ h. (max (length b.log) (max l.stored b.safe), told (max (length b.log) (max l.stored b.safe)) b.session (max (length b.log) (max l.stored b.safe)) (max l.stored b.safe) refl (omega (arith, stored, fits)) (omega (arith, stored)) h))
-      (λ not_new h. (l.sent, told l.sent l.session (max l.net (length b.log)) (max l.stored b.safe) (is_same l.session b.session session not_new) (omega (arith, net (is_same l.session b.session session not_new))) (omega (arith, stored)) h))
+      (λ _ h. (
+        max (length b.log) (max l.stored b.safe),
+        told (max (length b.log) (max l.stored b.safe)) b.session
+            (max (length b.log) (max l.stored b.safe)) (max l.stored b.safe) refl (omega (arith, stored, fits)) (omega (arith, stored)) h,
+      ))
+      (λ not_new h. (
+        l.sent,
+        told l.sent l.session (max l.net (length b.log)) (max l.stored b.safe) (is_same l.session b.session session not_new)
+            (omega (arith, net (is_same l.session b.session session not_new))) (omega (arith, stored)) h,
+      ))
       (subst (λ (x : Sent). At (step v (Deliver (suc k))).world p s a b (with_plain l x.link) ps)
       (heard_as (greeted (plain_link s l) b.session (length b.log) b.safe)
       ∙ by_false (ltb b.session l.session) _ _ (not_less b.session l.session session)
@@ -340,7 +387,8 @@ module _ (v : World) (p s : ℕ) (a b : Node) (l : Link) (ps : List Packet) (at 
       is_same : (m n : ℕ) → m ≤ n → ltb m n ≡ false → m ≡ n
       is_same m n h t = grind (arith, nat_tests)
 
-      told : (sent session net stored : ℕ) → session ≡ b.session → net ≡ length b.log → stored ≡ b.safe → At (step v (Deliver (suc k))).world p s a b (record l { session = session; net = net; stored = stored; sent = sent }) ps
+      told : (sent session net stored : ℕ) → session ≡ b.session → net ≡ length b.log → stored ≡ b.safe
+          → At (step v (Deliver (suc k))).world p s a b (record l { session = session; net = net; stored = stored; sent = sent }) ps
           → At (step v (Deliver (suc k))).world p s a b (record l { session = b.session; net = length b.log; stored = b.safe; sent = sent }) ps
       told sent session net stored x y z h =
           subst (λ i. At (step v (Deliver (suc k))).world p s a b (record l { session = i; net = length b.log; stored = b.safe; sent = sent }) ps) x
@@ -360,7 +408,8 @@ module _ (v : World) (p s : ℕ) (a b : Node) (l : Link) (ps : List Packet) (at 
   apply_none count none =
       let r : Node → Received = λ n. records_applied (plain_receiver n) count in
       let e : Events.apply_at v s count ≡ says v (DoneAt (v.nodes s).safe) =
-      ap (λ (r : Received). Events.applied_by v s r.state r.action) (by_true (eqb (min count (length (v.nodes s).log - (v.nodes s).safe)) 0) _ _ (nothing count (length (v.nodes s).log - (v.nodes s).safe) none)) in
+      ap (λ (r : Received). Events.applied_by v s r.state r.action)
+      (by_true (eqb (min count (length (v.nodes s).log - (v.nodes s).safe)) 0) _ _ (nothing count (length (v.nodes s).log - (v.nodes s).safe) none)) in
       counted_at p s a b l ps v (Apply s count 0) (subst (λ (o : Outcome). At o.world p s a b l ps) (sym (apply_passes count ∙ e)) at)
     where
       nothing : (m n : ℕ) → m ≡ 0 → eqb (min m n) 0 ≡ true
@@ -368,7 +417,8 @@ module _ (v : World) (p s : ℕ) (a b : Node) (l : Link) (ps : List Packet) (at 
 
   -- all that waits is applied, and acknowledged
   pub apply_all : (count : ℕ) → count ≡ length b.log - b.safe → 0 < count
-      → (mark : Mark) × At (step v (Apply s count 0)).world p s a (Events.applied b (length b.log) mark) l (ps ++ packet s p b.line (DataAck (length b.log)) 0 ∷ [])
+      → (mark : Mark) × At (step v (Apply s count 0)).world p s a (Events.applied b (length b.log) mark) l
+      (ps ++ packet s p b.line (DataAck (length b.log)) 0 ∷ [])
   apply_all count all some =
       let t : RState = plain_receiver b in
       let r : Received = with_applied t (t.waiting - count) in
@@ -376,14 +426,20 @@ module _ (v : World) (p s : ℕ) (a b : Node) (l : Link) (ps : List Packet) (at 
       λ n. ap (λ (r : Received). Events.applied_by v s r.state r.action) (by_false (eqb (min count t.waiting) 0) _ _ (something count t.waiting all some)) in
       let number : applied_to (length b.log) (t.waiting - count) ≡ length b.log = omega (arith, all) in
       let is : Events.apply_at v s count ≡ Events.applied_by v s r.state r.action =
-      ap (λ (n : Node). Events.applied_by v s (records_applied (plain_receiver n) count).state (records_applied (plain_receiver n) count).action) at.at_s ∙ e b in (
+      ap (λ (n : Node). Events.applied_by v s (records_applied (plain_receiver n) count).state (records_applied (plain_receiver n) count).action) at.at_s
+      ∙ e b in (
         r.state.mark,
         counted_at p s a (Events.applied b (length b.log) r.state.mark) l (ps ++ packet s p b.line (DataAck (length b.log)) 0 ∷ []) v (Apply s count 0)
-            (subst (λ (o : Outcome). At o.world p s a (Events.applied b (length b.log) r.state.mark) l (ps ++ packet s p b.line (DataAck (length b.log)) 0 ∷ [])) (sym (apply_passes count ∙ is))
-            (subst (λ k. At (Events.acknowledged v s (Events.applied (v.nodes s) k r.state.mark)) p s a (Events.applied b (length b.log) r.state.mark) l (ps ++ packet s p b.line (DataAck (length b.log)) 0 ∷ [])) (sym number)
-            (subst (λ (y : Node). At (Events.acknowledged v s (Events.applied y (length b.log) r.state.mark)) p s a (Events.applied b (length b.log) r.state.mark) l (ps ++ packet s p b.line (DataAck (length b.log)) 0 ∷ [])) (sym at.at_s)
-            (subst (λ q. At (sending (with_node v s (Events.applied b (length b.log) r.state.mark)) (packets_of s q b.line (DataAck (length b.log)))) p s a (Events.applied b (length b.log) r.state.mark) l (ps ++ packet s p b.line (DataAck (length b.log)) 0 ∷ [])) (sym fit.other)
-            (sending_at (with_node v s (Events.applied b (length b.log) r.state.mark)) p s a (Events.applied b (length b.log) r.state.mark) l ps (with_node_at v p s a b l ps at (Events.applied b (length b.log) r.state.mark) fit.apart) (packet s p b.line (DataAck (length b.log)) 0 ∷ [])))))),
+            (subst (λ (o : Outcome). At o.world p s a (Events.applied b (length b.log) r.state.mark) l
+            (ps ++ packet s p b.line (DataAck (length b.log)) 0 ∷ [])) (sym (apply_passes count ∙ is))
+            (subst (λ k. At (Events.acknowledged v s (Events.applied (v.nodes s) k r.state.mark)) p s a (Events.applied b (length b.log) r.state.mark) l
+            (ps ++ packet s p b.line (DataAck (length b.log)) 0 ∷ [])) (sym number)
+            (subst (λ (y : Node). At (Events.acknowledged v s (Events.applied y (length b.log) r.state.mark)) p s a
+            (Events.applied b (length b.log) r.state.mark) l (ps ++ packet s p b.line (DataAck (length b.log)) 0 ∷ [])) (sym at.at_s)
+            (subst (λ q. At (sending (with_node v s (Events.applied b (length b.log) r.state.mark)) (packets_of s q b.line (DataAck (length b.log)))) p s a
+            (Events.applied b (length b.log) r.state.mark) l (ps ++ packet s p b.line (DataAck (length b.log)) 0 ∷ [])) (sym fit.other)
+            (sending_at (with_node v s (Events.applied b (length b.log) r.state.mark)) p s a (Events.applied b (length b.log) r.state.mark) l ps
+            (with_node_at v p s a b l ps at (Events.applied b (length b.log) r.state.mark) fit.apart) (packet s p b.line (DataAck (length b.log)) 0 ∷ [])))))),
       )
     where
       something : (m n : ℕ) → m ≡ n → 0 < m → eqb (min m n) 0 ≡ false

@@ -40,7 +40,8 @@ pub not_both : (b : Bool) → b ≡ true → b ≡ false → ⊥
 not_both true e f = let g : true ≡ false = f in cc
 not_both false e f = let g : false ≡ true = e in cc
 
-pub both : (s : ℕ) (b c : Bool) (why how : No) (w v : World) (o r : Outcome) → c ≡ b → Twin s w v → (b ≡ false → Twin s o.world r.world) → Twin s (unless b why w o).world (unless c how v r).world
+pub both : (s : ℕ) (b c : Bool) (why how : No) (w v : World) (o r : Outcome) → c ≡ b → Twin s w v → (b ≡ false → Twin s o.world r.world)
+    → Twin s (unless b why w o).world (unless c how v r).world
 both s true true why how w v o r same twin rest = twin
 both s false false why how w v o r same twin rest = rest refl
 both s true false why how w v o r same twin rest = absurd (not_both true refl (sym same))
@@ -51,16 +52,19 @@ stuck w None o e = absurd (not_both true refl e)
 stuck w (Some disk) o e = refl
 
 -- a site at work is another one
-pub works : (s : ℕ) (w v : World) (p : ℕ) (o r : Outcome) → Twin s w v → ((p ≡ s → ⊥) → Twin s o.world r.world) → Twin s (at_work w p o).world (at_work v p r).world
+pub works : (s : ℕ) (w v : World) (p : ℕ) (o r : Outcome) → Twin s w v → ((p ≡ s → ⊥) → Twin s o.world r.world)
+    → Twin s (at_work w p o).world (at_work v p r).world
 works s w v p o r twin rest = elim (cases_eq p s) [
   | inl same ↦
       subst (λ (i : ℕ). Twin s (at_work w i o).world (at_work v i r).world) (sym same)
-      (both s (not (is_up (w.nodes s).state)) (not (is_up (v.nodes s).state)) NotUp NotUp w v (unless_halted (w.nodes s).halted w o) (unless_halted (v.nodes s).halted v r)
+      (both s (not (is_up (w.nodes s).state)) (not (is_up (v.nodes s).state)) NotUp NotUp w v (unless_halted (w.nodes s).halted w o)
+      (unless_halted (v.nodes s).halted v r)
       (ap (λ (t : SiteState). not (is_up t)) (twin.up_too ∙ sym twin.up)) twin
       (λ _. subst (λ (x : World). Twin s x (unless_halted (v.nodes s).halted v r).world) (sym (stuck w (w.nodes s).halted o twin.halted))
       (subst (λ (x : World). Twin s w x) (sym (stuck v (v.nodes s).halted r twin.halted_too)) twin)))
   | inr apart ↦
-      both s (not (is_up (w.nodes p).state)) (not (is_up (v.nodes p).state)) NotUp NotUp w v (unless_halted (w.nodes p).halted w o) (unless_halted (v.nodes p).halted v r)
+      both s (not (is_up (w.nodes p).state)) (not (is_up (v.nodes p).state)) NotUp NotUp w v (unless_halted (w.nodes p).halted w o)
+      (unless_halted (v.nodes p).halted v r)
       (ap (λ (n : Node). not (is_up n.state)) (twin.nodes p apart)) twin
       (λ _. halts (w.nodes p).halted (v.nodes p).halted (ap (λ (n : Node). n.halted) (twin.nodes p apart)) (rest apart))
 ]
@@ -70,9 +74,11 @@ works s w v p o r twin rest = elim (cases_eq p s) [
     halts (Some disk) k e done = subst (λ (j : Option ℕ). Twin s w (unless_halted j v r).world) (sym e) twin
 
 pub there : (s : ℕ) (w v : World) (p : ℕ) (o r : Outcome) → Twin s w v → Twin s o.world r.world → Twin s (at_site w p o).world (at_site v p r).world
-there s w v p o r twin rest = both s (leb w.sites p) (leb v.sites p) (Unknown (ByNumber p)) (Unknown (ByNumber p)) w v o r (ap (λ (k : ℕ). leb k p) twin.sites) twin (λ _. rest)
+there s w v p o r twin rest = both s (leb w.sites p) (leb v.sites p) (Unknown (ByNumber p)) (Unknown (ByNumber p)) w v o r
+    (ap (λ (k : ℕ). leb k p) twin.sites) twin (λ _. rest)
 
-pub linked : (s : ℕ) (test : Role → Bool) (w v : World) (p q : ℕ) (o r : Outcome) → Twin s w v → ((p ≡ s → ⊥) → Twin s o.world r.world) → Twin s (on_link_if test w p q o).world (on_link_if test v p q r).world
+pub linked : (s : ℕ) (test : Role → Bool) (w v : World) (p q : ℕ) (o r : Outcome) → Twin s w v → ((p ≡ s → ⊥) → Twin s o.world r.world)
+    → Twin s (on_link_if test w p q o).world (on_link_if test v p q r).world
 linked s test w v p q o r twin rest =
     let role_w = unless (not (is_linked (w.links p q))) (Unknown (ByNumber q)) w o in
     let role_v = unless (not (is_linked (v.links p q))) (Unknown (ByNumber q)) v r in
@@ -81,8 +87,10 @@ linked s test w v p q o r twin rest =
     there s w v p (at_site w q (at_work w p work_w)) (at_site v q (at_work v p work_v)) twin
     (there s w v q (at_work w p work_w) (at_work v p work_v) twin
     (works s w v p work_w work_v twin
-    (λ apart. both s (not (test (w.nodes p).role)) (not (test (v.nodes p).role)) WrongRole WrongRole w v role_w role_v (ap (λ (n : Node). not (test n.role)) (twin.nodes p apart)) twin
-    (λ _. both s (not (is_linked (w.links p q))) (not (is_linked (v.links p q))) (Unknown (ByNumber q)) (Unknown (ByNumber q)) w v o r (ap (λ (row : ℕ → Link). not (is_linked (row q))) (twin.rows p apart)) twin
+    (λ apart. both s (not (test (w.nodes p).role)) (not (test (v.nodes p).role)) WrongRole WrongRole w v role_w role_v
+    (ap (λ (n : Node). not (test n.role)) (twin.nodes p apart)) twin
+    (λ _. both s (not (is_linked (w.links p q))) (not (is_linked (v.links p q))) (Unknown (ByNumber q)) (Unknown (ByNumber q)) w v o r
+    (ap (λ (row : ℕ → Link). not (is_linked (row q))) (twin.rows p apart)) twin
     (λ _. rest apart)))))
 
 -- ---- changes side by side
@@ -164,7 +172,8 @@ module _ (s : ℕ) (w v : World) (twin : Twin s w v) where
     promised = twin.promised;
     gathering = twin.gathering;
     here = twin.here;
-    name = elsewhere (λ (x : Node). (updated v.nodes p k s).name ≡ x.name) w.nodes p n apart (elsewhere (λ (x : Node). x.name ≡ (w.nodes s).name) v.nodes p k apart twin.name);
+    name = elsewhere (λ (x : Node). (updated v.nodes p k s).name ≡ x.name) w.nodes p n apart
+        (elsewhere (λ (x : Node). x.name ≡ (w.nodes s).name) v.nodes p k apart twin.name);
     up = elsewhere (λ (x : Node). x.state ≡ Up) w.nodes p n apart twin.up;
     up_too = elsewhere (λ (x : Node). x.state ≡ Up) v.nodes p k apart twin.up_too;
     halted = elsewhere (λ (x : Node). is_running x.halted ≡ false) w.nodes p n apart twin.halted;
@@ -185,7 +194,8 @@ say_of_link p n l e = if keeps_links n.role && is_linked l then said_of_link (se
 
 abbrev say_of_message : Packet → Node → Link → Message → Said
 say_of_message p n l (Hello session number stored) = say_of_link p n l (HearHello session number stored)
-say_of_message p n l (Update number x) = if is_origin n.role then IsIgnored else said_of_taken (received_step (plain_receiver n) (HearUpdate p.line number)).action
+say_of_message p n l (Update number x) = if is_origin n.role then IsIgnored else said_of_taken
+    (received_step (plain_receiver n) (HearUpdate p.line number)).action
 say_of_message p n l (NetAck session number) = say_of_link p n l (HearNetAck session number)
 say_of_message p n l (DataAck number) = say_of_link p n l (HearDataAck number)
 
@@ -211,7 +221,8 @@ heard_said : (u : World) (p : Packet) (m : Message) → (heard u p m).said ≡ s
 heard_said u p (Hello session number stored) = either_said (keeps_links (u.nodes p.target).role && is_linked (u.links p.target p.source)) _ (says u IsIgnored)
 heard_said u p (Update number x) =
     let a : RAction = (received_step (plain_receiver (u.nodes p.target)) (HearUpdate p.line number)).action in
-    either_said (is_origin (u.nodes p.target).role) (says u IsIgnored) (update_taken u p x a) ∙ ap (λ (t : Said). if is_origin (u.nodes p.target).role then IsIgnored else t) (taken_said u p x a)
+    either_said (is_origin (u.nodes p.target).role) (says u IsIgnored) (update_taken u p x a) ∙ ap
+    (λ (t : Said). if is_origin (u.nodes p.target).role then IsIgnored else t) (taken_said u p x a)
 heard_said u p (NetAck session number) = either_said (keeps_links (u.nodes p.target).role && is_linked (u.links p.target p.source)) _ (says u IsIgnored)
 heard_said u p (DataAck number) = either_said (keeps_links (u.nodes p.target).role && is_linked (u.links p.target p.source)) _ (says u IsIgnored)
 
@@ -257,9 +268,11 @@ module _ (s : ℕ) (w v : World) (twin : Twin s w v) where
       let r : Outcome = done (link_event v p q PumpLink) in
       linked s keeps_links w v p q (when_live w q (w.links p q) o) (when_live v q (v.links p q) r) twin
       (λ apart.
-      both s (not ((w.links p q).attached && (w.links p q).connected)) (not ((v.links p q).attached && (v.links p q).connected)) (LinkDown (SiteNumber q)) (LinkDown (SiteNumber q)) w v (unless (w.links p q).paused Paused w o) (unless (v.links p q).paused Paused v r)
+      both s (not ((w.links p q).attached && (w.links p q).connected)) (not ((v.links p q).attached && (v.links p q).connected)) (LinkDown (SiteNumber q))
+      (LinkDown (SiteNumber q)) w v (unless (w.links p q).paused Paused w o) (unless (v.links p q).paused Paused v r)
       (ap (λ (row : ℕ → Link). not ((row q).attached && (row q).connected)) (twin.rows p apart)) twin
-      (λ _. both s (w.links p q).paused (v.links p q).paused Paused Paused w v o r (ap (λ (row : ℕ → Link). (row q).paused) (twin.rows p apart)) twin (λ _. event p q PumpLink apart)))
+      (λ _. both s (w.links p q).paused (v.links p q).paused Paused Paused w v o r
+      (ap (λ (row : ℕ → Link). (row q).paused) (twin.rows p apart)) twin (λ _. event p q PumpLink apart)))
 
   unmoved : (a b : Node) → b.state ≡ Up → is_running b.halted ≡ false → greets a b ≡ false
   unmoved a b up halted =
@@ -273,7 +286,8 @@ module _ (s : ℕ) (w v : World) (twin : Twin s w v) where
   same_greeting p q apart = elim (cases_eq q s) [
     | inl same ↦
         subst (λ (i : ℕ). greeting_back v p i ≡ greeting_back w p i) (sym same)
-        (greets_so v p s false (unmoved (v.nodes p) (v.nodes s) twin.up_too twin.halted_too) ∙ sym (greets_so w p s false (unmoved (w.nodes p) (w.nodes s) twin.up twin.halted)))
+        (greets_so v p s false (unmoved (v.nodes p) (v.nodes s) twin.up_too twin.halted_too) ∙ sym
+        (greets_so w p s false (unmoved (w.nodes p) (w.nodes s) twin.up twin.halted)))
     | inr other ↦
         ap (λ (n : Node). if greets n (v.nodes q) then greeting q p (v.nodes q) else []) (twin.nodes p apart)
         ∙ ap (λ (n : Node). if greets (w.nodes p) n then greeting q p n else []) (twin.nodes q other)
@@ -281,19 +295,23 @@ module _ (s : ℕ) (w v : World) (twin : Twin s w v) where
 
   pub twin_connect : (p q : ℕ) → Twin s (outcome_of w (Connect p q)).world (outcome_of v (Connect p q)).world
   twin_connect p q =
-      linked s keeps_links w v p q (done (sending (link_event w p q ConnectLink) (greeting_back w p q))) (done (sending (link_event v p q ConnectLink) (greeting_back v p q))) twin
-      (λ apart. twin_sending s (link_event w p q ConnectLink) (link_event v p q ConnectLink) (event p q ConnectLink apart) (greeting_back w p q) (greeting_back v p q) (same_greeting p q apart))
+      linked s keeps_links w v p q (done (sending (link_event w p q ConnectLink) (greeting_back w p q)))
+      (done (sending (link_event v p q ConnectLink) (greeting_back v p q))) twin
+      (λ apart. twin_sending s (link_event w p q ConnectLink) (link_event v p q ConnectLink) (event p q ConnectLink apart) (greeting_back w p q)
+      (greeting_back v p q) (same_greeting p q apart))
 
   pub twin_set : (p q : ℕ) (sync : SyncMode) → Twin s (outcome_of w (Set p q sync)).world (outcome_of v (Set p q sync)).world
   twin_set p q sync =
       let l : Link = record (w.links p q) { sync = sync; prot = FailsWhenFull } in
       let m : Link = record (v.links p q) { sync = sync; prot = FailsWhenFull } in
       linked s is_origin w v p q (done (with_link w p q l)) (done (with_link v p q m)) twin
-      (λ apart. twin_link s w v twin p q l m apart (ap (λ (row : ℕ → Link). let k : Link = record (row q) { sync = sync; prot = FailsWhenFull } in k) (twin.rows p apart)))
+      (λ apart. twin_link s w v twin p q l m apart
+      (ap (λ (row : ℕ → Link). let k : Link = record (row q) { sync = sync; prot = FailsWhenFull } in k) (twin.rows p apart)))
 
   -- ---- packets
 
-  pub one_of : (b c : Bool) (o r x y : Outcome) → c ≡ b → Twin s o.world r.world → Twin s x.world y.world → Twin s (if b then o else x).world (if c then r else y).world
+  pub one_of : (b c : Bool) (o r x y : Outcome) → c ≡ b → Twin s o.world r.world → Twin s x.world y.world
+      → Twin s (if b then o else x).world (if c then r else y).world
   one_of true true o r x y e first second = first
   one_of false false o r x y e first second = second
   one_of true false o r x y e first second = absurd (not_both true refl (sym e))
@@ -306,11 +324,15 @@ module _ (s : ℕ) (w v : World) (twin : Twin s w v) where
       let r : Sent = sent_step (plain_link p.source l) e (facts_of (w.nodes p.target) p.line) in
       let t : Sent = sent_step (plain_link p.source m) e (facts_of (v.nodes p.target) p.line) in
       let links : m ≡ l = ap (λ (row : ℕ → Link). row p.source) (twin.rows p.target apart) in
-      let same : t ≡ r = ap (λ (k : Link). sent_step (plain_link p.source k) e (facts_of (v.nodes p.target) p.line)) links ∙ ap (λ (n : Node). sent_step (plain_link p.source l) e (facts_of n p.line)) (twin.nodes p.target apart) in
+      let same : t ≡ r = ap (λ (k : Link). sent_step (plain_link p.source k) e (facts_of (v.nodes p.target) p.line)) links ∙ ap
+      (λ (n : Node). sent_step (plain_link p.source l) e (facts_of n p.line)) (twin.nodes p.target apart) in
       one_of (keeps_links (w.nodes p.target).role && is_linked l) (keeps_links (v.nodes p.target).role && is_linked m)
-      (says (with_link w p.target p.source (with_plain l r.link)) (said_of_link r.action)) (says (with_link v p.target p.source (with_plain m t.link)) (said_of_link t.action)) (says w IsIgnored) (says v IsIgnored)
-      (ap (λ (n : Node). keeps_links n.role && is_linked m) (twin.nodes p.target apart) ∙ ap (λ (k : Link). keeps_links (w.nodes p.target).role && is_linked k) links)
-      (twin_link s w v twin p.target p.source (with_plain l r.link) (with_plain m t.link) apart (ap (λ (x : Sent). with_plain m x.link) same ∙ ap (λ (k : Link). with_plain k r.link) links))
+      (says (with_link w p.target p.source (with_plain l r.link)) (said_of_link r.action))
+      (says (with_link v p.target p.source (with_plain m t.link)) (said_of_link t.action)) (says w IsIgnored) (says v IsIgnored)
+      (ap (λ (n : Node). keeps_links n.role && is_linked m) (twin.nodes p.target apart) ∙ ap
+      (λ (k : Link). keeps_links (w.nodes p.target).role && is_linked k) links)
+      (twin_link s w v twin p.target p.source (with_plain l r.link) (with_plain m t.link) apart
+      (ap (λ (x : Sent). with_plain m x.link) same ∙ ap (λ (k : Link). with_plain k r.link) links))
       twin
 
   from_both : (w' v' : World) → Twin s w' v' → (n k : Node) (p : Packet) (number : ℕ) → k ≡ n → Twin s (from_memory w' n p number) (from_memory v' k p number)
@@ -323,13 +345,16 @@ module _ (s : ℕ) (w v : World) (twin : Twin s w v) where
   taken_both p x act.Ignored apart = twin
   taken_both p x (act.IgnoredAck number) apart = from_both w v twin (w.nodes p.target) (v.nodes p.target) p number (twin.nodes p.target apart)
   taken_both p x (act.Take number) apart =
-      subst (λ (g : Option Gathering). Twin s (taken_if (completes (w.gathering p.target) p) w p x number).world (taken_if (completes g p) v p x number).world) (sym (twin.gathering p.target))
+      subst (λ (g : Option Gathering). Twin s (taken_if (completes (w.gathering p.target) p) w p x number).world
+      (taken_if (completes g p) v p x number).world) (sym (twin.gathering p.target))
       (by_whole (completes (w.gathering p.target) p)
       (from_both (with_node w p.target (with_write (w.nodes p.target) x)) (with_node v p.target (with_write (v.nodes p.target) x))
-      (twin_node s w v twin p.target (with_write (w.nodes p.target) x) (with_write (v.nodes p.target) x) apart (ap (λ (n : Node). with_write n x) (twin.nodes p.target apart)))
+      (twin_node s w v twin p.target (with_write (w.nodes p.target) x) (with_write (v.nodes p.target) x) apart
+      (ap (λ (n : Node). with_write n x) (twin.nodes p.target apart)))
       (w.nodes p.target) (v.nodes p.target) p number (twin.nodes p.target apart)))
     where
-      by_whole : (b : Bool) → Twin s (taken_if true w p x number).world (taken_if true v p x number).world → Twin s (taken_if b w p x number).world (taken_if b v p x number).world
+      by_whole : (b : Bool) → Twin s (taken_if true w p x number).world (taken_if true v p x number).world
+          → Twin s (taken_if b w p x number).world (taken_if b v p x number).world
       by_whole true whole = whole
       by_whole false whole = twin
   taken_both p x (act.DataAck number) apart = twin
@@ -337,9 +362,11 @@ module _ (s : ℕ) (w v : World) (twin : Twin s w v) where
   heard_update : (p : Packet) (number : ℕ) (x : Write) → (p.target ≡ s → ⊥) → Twin s (update_heard w p number x).world (update_heard v p number x).world
   heard_update p number x apart =
       let rule : Node → RAction = λ n. (received_step (plain_receiver n) (HearUpdate p.line number)).action in
-      one_of (is_origin (w.nodes p.target).role) (is_origin (v.nodes p.target).role) (says w IsIgnored) (says v IsIgnored) (update_taken w p x (rule (w.nodes p.target))) (update_taken v p x (rule (v.nodes p.target)))
+      one_of (is_origin (w.nodes p.target).role) (is_origin (v.nodes p.target).role) (says w IsIgnored) (says v IsIgnored)
+      (update_taken w p x (rule (w.nodes p.target))) (update_taken v p x (rule (v.nodes p.target)))
       (ap (λ (n : Node). is_origin n.role) (twin.nodes p.target apart)) twin
-      (subst (λ (a : RAction). Twin s (update_taken w p x (rule (w.nodes p.target))).world (update_taken v p x a).world) (sym (ap rule (twin.nodes p.target apart))) (taken_both p x (rule (w.nodes p.target)) apart))
+      (subst (λ (a : RAction). Twin s (update_taken w p x (rule (w.nodes p.target))).world (update_taken v p x a).world)
+      (sym (ap rule (twin.nodes p.target apart))) (taken_both p x (rule (w.nodes p.target)) apart))
 
   heard_both : (p : Packet) (m : Message) → (p.target ≡ s → ⊥) → Twin s (heard w p m).world (heard v p m).world
   heard_both p (Hello session number stored) apart = heard_link p (HearHello session number stored) apart
@@ -352,10 +379,12 @@ module _ (s : ℕ) (w v : World) (twin : Twin s w v) where
 
   said_both : (p : Packet) → (p.target ≡ s → ⊥) → (handed v p).said ≡ (handed w p).said
   said_both p apart =
-      handed_said v p ∙ ap (λ (n : Node). say_of p n (v.links p.target p.source)) (twin.nodes p.target apart) ∙ ap (λ (row : ℕ → Link). say_of p (w.nodes p.target) (row p.source)) (twin.rows p.target apart) ∙ sym (handed_said w p)
+      handed_said v p ∙ ap (λ (n : Node). say_of p n (v.links p.target p.source)) (twin.nodes p.target apart) ∙ ap
+      (λ (row : ℕ → Link). say_of p (w.nodes p.target) (row p.source)) (twin.rows p.target apart) ∙ sym (handed_said w p)
 
   gathers_both : (p : Packet) (o r : Outcome) → r.said ≡ o.said → Twin s o.world r.world → Twin s (gathers p o).world (gathers p r).world
-  gathers_both p o r same t = subst (λ (x : Said). Twin s (gathered_if (is_taken o.said) o.world p) (gathered_if (is_taken x) r.world p)) (sym same) (by_taken (is_taken o.said))
+  gathers_both p o r same t = subst (λ (x : Said). Twin s (gathered_if (is_taken o.said) o.world p) (gathered_if (is_taken x) r.world p)) (sym same)
+      (by_taken (is_taken o.said))
     where
       by_taken : (b : Bool) → Twin s (gathered_if b o.world p) (gathered_if b r.world p)
       by_taken true = record {
@@ -365,7 +394,8 @@ module _ (s : ℕ) (w v : World) (twin : Twin s w v) where
         lines = t.lines;
         packets = t.packets;
         promised = t.promised;
-        gathering = λ i. ap (λ (g : Option Gathering). if eqb i p.target then left_by g p else r.world.gathering i) (t.gathering p.target) ∙ ap (λ (g : Option Gathering). if eqb i p.target then left_by (o.world.gathering p.target) p else g) (t.gathering i);
+        gathering = λ i. ap (λ (g : Option Gathering). if eqb i p.target then left_by g p else r.world.gathering i) (t.gathering p.target) ∙ ap
+            (λ (g : Option Gathering). if eqb i p.target then left_by (o.world.gathering p.target) p else g) (t.gathering i);
         here = t.here;
         name = t.name;
         up = t.up;
@@ -378,10 +408,16 @@ module _ (s : ℕ) (w v : World) (twin : Twin s w v) where
   handed_both : (p : Packet) → Twin s (gathers p (handed w p)).world (gathers p (handed v p)).world
   handed_both p = elim (cases_eq p.target s) [
     | inl same ↦
-        subst (λ (o : Outcome). Twin s (gathers p o).world (gathers p (handed v p)).world) (sym (off w (w.nodes p.target) (heard w p p.message) (says w IsIgnored) (subst (λ (i : ℕ). is_running (w.nodes i).halted ≡ false) (sym same) twin.halted) (subst (λ (i : ℕ). (w.nodes i).state ≡ Up) (sym same) twin.up)))
-        (subst (λ (o : Outcome). Twin s w (gathers p o).world) (sym (off v (v.nodes p.target) (heard v p p.message) (says v IsIgnored) (subst (λ (i : ℕ). is_running (v.nodes i).halted ≡ false) (sym same) twin.halted_too) (subst (λ (i : ℕ). (v.nodes i).state ≡ Up) (sym same) twin.up_too))) twin)
+        subst (λ (o : Outcome). Twin s (gathers p o).world (gathers p (handed v p)).world)
+        (sym (off w (w.nodes p.target) (heard w p p.message) (says w IsIgnored)
+        (subst (λ (i : ℕ). is_running (w.nodes i).halted ≡ false) (sym same) twin.halted) (subst (λ (i : ℕ). (w.nodes i).state ≡ Up) (sym same) twin.up)))
+        (subst (λ (o : Outcome). Twin s w (gathers p o).world)
+        (sym (off v (v.nodes p.target) (heard v p p.message) (says v IsIgnored)
+        (subst (λ (i : ℕ). is_running (v.nodes i).halted ≡ false) (sym same) twin.halted_too)
+        (subst (λ (i : ℕ). (v.nodes i).state ≡ Up) (sym same) twin.up_too))) twin)
     | inr apart ↦ gathers_both p (handed w p) (handed v p) (said_both p apart)
-        (one_of (is_up (w.nodes p.target).state && is_running (w.nodes p.target).halted) (is_up (v.nodes p.target).state && is_running (v.nodes p.target).halted)
+        (one_of (is_up (w.nodes p.target).state && is_running (w.nodes p.target).halted)
+        (is_up (v.nodes p.target).state && is_running (v.nodes p.target).halted)
         (heard w p p.message) (heard v p p.message) (says w IsIgnored) (says v IsIgnored)
         (ap (λ (n : Node). is_up n.state && is_running n.halted) (twin.nodes p.target apart)) (heard_both p p.message apart) twin)
   ]
@@ -392,7 +428,8 @@ module _ (s : ℕ) (w v : World) (twin : Twin s w v) where
 
   pub twin_deliver : (number : ℕ) → Twin s (outcome_of w (Deliver number)).world (outcome_of v (Deliver number)).world
   twin_deliver number =
-      subst (λ (ps : List Packet). Twin s (delivered w number (packet_at w.packets number)).world (delivered v number (packet_at ps number)).world) (sym twin.packets)
+      subst (λ (ps : List Packet). Twin s (delivered w number (packet_at w.packets number)).world (delivered v number (packet_at ps number)).world)
+      (sym twin.packets)
       (delivered_both number (packet_at w.packets number))
 
   pub twin_fault : (q disk : ℕ) → (q ≡ s → ⊥) → Twin s (outcome_of w (Fault q disk)).world (outcome_of v (Fault q disk)).world
@@ -400,6 +437,8 @@ module _ (s : ℕ) (w v : World) (twin : Twin s w v) where
       let o : Outcome = says (stopped_by w q disk) (Refused (Device disk)) in
       let r : Outcome = says (stopped_by v q disk) (Refused (Device disk)) in
       there s w v q (unless (not (is_up (w.nodes q).state)) NotUp w o) (unless (not (is_up (v.nodes q).state)) NotUp v r) twin
-      (both s (not (is_up (w.nodes q).state)) (not (is_up (v.nodes q).state)) NotUp NotUp w v o r (ap (λ (n : Node). not (is_up n.state)) (twin.nodes q apart)) twin
-      (λ _. twin_node s w v twin q (record (w.nodes q) { halted = Some disk; fuse = burned (w.nodes q).fuse }) (record (v.nodes q) { halted = Some disk; fuse = burned (v.nodes q).fuse }) apart
+      (both s (not (is_up (w.nodes q).state)) (not (is_up (v.nodes q).state)) NotUp NotUp w v o r
+      (ap (λ (n : Node). not (is_up n.state)) (twin.nodes q apart)) twin
+      (λ _. twin_node s w v twin q (record (w.nodes q) { halted = Some disk; fuse = burned (w.nodes q).fuse })
+      (record (v.nodes q) { halted = Some disk; fuse = burned (v.nodes q).fuse }) apart
       (ap (λ (n : Node). let k : Node = record n { halted = Some disk; fuse = burned n.fuse } in k) (twin.nodes q apart))))

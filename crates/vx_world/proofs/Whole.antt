@@ -59,7 +59,8 @@ abbrev Leaves : World → Outcome → Type 0
 Leaves w o = Keeps w o.world
 
 -- a site of which no size and no write changes
-like_fitted : (n m : Node) → m.volumes ≡ n.volumes → m.ring ≡ n.ring → m.line ≡ n.line → (IsMade m → IsMade n) → m.start ≡ n.start → m.base ≡ n.base → m.log ≡ n.log → IsFitted n m
+like_fitted : (n m : Node) → m.volumes ≡ n.volumes → m.ring ≡ n.ring → m.line ≡ n.line → (IsMade m → IsMade n) → m.start ≡ n.start → m.base ≡ n.base
+    → m.log ≡ n.log → IsFitted n m
 like_fitted n m volumes ring line made start base log = record {
   volumes = volumes;
   ring = ring;
@@ -71,7 +72,8 @@ like_fitted n m volumes ring line made start base log = record {
 }
 
 -- with one write more
-longer_fitted : (n : Node) (x : Write) (halted : Option ℕ) (m : Node) → m.volumes ≡ n.volumes → m.ring ≡ n.ring → m.line ≡ n.line → (IsMade m → IsMade n) → m.start ≡ n.start → ((v : ℕ) → m.base.size v ≡ n.base.size v) → m.log ≡ n.log ++ x ∷ [] → Fits n x → IsFitted n m
+longer_fitted : (n : Node) (x : Write) (halted : Option ℕ) (m : Node) → m.volumes ≡ n.volumes → m.ring ≡ n.ring → m.line ≡ n.line → (IsMade m → IsMade n)
+    → m.start ≡ n.start → ((v : ℕ) → m.base.size v ≡ n.base.size v) → m.log ≡ n.log ++ x ∷ [] → Fits n x → IsFitted n m
 longer_fitted n x halted m volumes ring line made start base log fits = record {
   volumes = volumes;
   ring = ring;
@@ -102,7 +104,8 @@ module _ (w : World) (p : ℕ) (x : Write) (up : (w.nodes p).state ≡ Up) (own 
       (λ f. longer_fitted n x n.halted (logged n x) refl refl refl (λ made. made) refl (λ v. refl) refl (fits f))
       (λ f e. bare_never (logged n x) not_bare e)
       (told_of (w.lines n.line) x) (λ u. u)
-      (λ f. each_append (Fits (w.nodes n.line.origin)) (w.lines n.line).held (x ∷ []) (f.held n.line) (subst (λ (i : ℕ). Fits (w.nodes i) x) (sym own) (fits f), tt))
+      (λ f. each_append (Fits (w.nodes n.line.origin)) (w.lines n.line).held (x ∷ []) (f.held n.line)
+      (subst (λ (i : ℕ). Fits (w.nodes i) x) (sym own) (fits f), tt))
 
   half_leaves : (disk : ℕ) → Keeps w (half_written w p x disk)
   half_leaves disk =
@@ -117,7 +120,8 @@ module _ (w : World) (p : ℕ) (x : Write) (up : (w.nodes p).state ≡ Up) (own 
   put_leaves None = written_leaves
   put_leaves (Some disk) = half_leaves disk
 
-written_if_leaves : (admitted : Admitted) (w : World) (p : ℕ) (x : Write) (fails : Option ℕ) → (w.nodes p).state ≡ Up → (w.nodes p).line.origin ≡ p → (Fitting w → Fits (w.nodes p) x) → Leaves w (Events.written_if admitted w p x fails)
+written_if_leaves : (admitted : Admitted) (w : World) (p : ℕ) (x : Write) (fails : Option ℕ) → (w.nodes p).state ≡ Up → (w.nodes p).line.origin ≡ p
+    → (Fitting w → Fits (w.nodes p) x) → Leaves w (Events.written_if admitted w p x fails)
 written_if_leaves (Held_by why) w p x fails up own fits = keeps_same w
 written_if_leaves (Goes changes) w p x fails up own fits =
     let v : World = Events.links_changed w p x in
@@ -126,7 +130,8 @@ written_if_leaves (Goes changes) w p x fails up own fits =
     (put_leaves v p x up own (λ f. fits (record { sized = f.sized; logs = f.logs; held = f.held; alike = f.alike })) fails))
 
 -- the tests of a write say that it fits
-tested_fits : (n : Node) (x : Write) → IsSized n → (is_wrong_count (blocks_in x.bytes) || is_too_large n.ring (blocks_in x.bytes)) ≡ false → is_past n.base x.volume x.start (blocks_in x.bytes) ≡ false → Fits n x
+tested_fits : (n : Node) (x : Write) → IsSized n → (is_wrong_count (blocks_in x.bytes) || is_too_large n.ring (blocks_in x.bytes)) ≡ false
+    → is_past n.base x.volume x.start (blocks_in x.bytes) ≡ false → Fits n x
 tested_fits n x sized few within = record {
   some = some (blocks_in x.bytes) (is_too_large n.ring (blocks_in x.bytes)) few;
   few = most (blocks_in x.bytes) (is_too_large n.ring (blocks_in x.bytes)) few;
@@ -146,7 +151,8 @@ tested_fits n x sized few within = record {
     some k large e = let f : eqb k 0 ≡ false = or_first (eqb k 0) (ltb MOST_CALL_BLOCKS k) (or_first (is_wrong_count k) large e) in grind (arith, nat_tests)
 
     most : (k : ℕ) (large : Bool) → (is_wrong_count k || large) ≡ false → k ≤ MOST_CALL_BLOCKS
-    most k large e = let f : ltb 16 k ≡ false = or_second (eqb k 0) (ltb MOST_CALL_BLOCKS k) (or_first (is_wrong_count k) large e) in let g : k ≤ 16 = grind (arith, nat_tests) in g
+    most k large e = let f : ltb 16 k ≡ false = or_second (eqb k 0) (ltb MOST_CALL_BLOCKS k) (or_first (is_wrong_count k) large e) in let g : k ≤ 16 = grind
+        (arith, nat_tests) in g
 
     room : (k ring : ℕ) → (is_wrong_count k || is_too_large ring k) ≡ false → k + 1 ≤ ring
     room k ring e = let f : ltb ring (k + 1) ≡ false = or_second (is_wrong_count k) (is_too_large ring k) e in grind (arith, nat_tests)
@@ -174,7 +180,8 @@ write_leaves w p x fails s =
 updates_parts : (source target : ℕ) (line : Line) (number : ℕ) (xs : List Write) → AllByRecursion IsPart (updates source target line number xs)
 updates_parts source target line number [] = tt
 updates_parts source target line number (x ∷ xs) =
-    each_append IsPart (packets_of source target line (Update number x)) (updates source target line (number + 1) xs) (all_parts source target line (Update number x)) (updates_parts source target line (number + 1) xs)
+    each_append IsPart (packets_of source target line (Update number x)) (updates source target line (number + 1) xs)
+    (all_parts source target line (Update number x)) (updates_parts source target line (number + 1) xs)
 
 sent_parts : (action : Action) (source target : ℕ) (n : Node) → AllByRecursion IsPart (sent_by action source target n)
 sent_parts Nothing source target n = tt
@@ -185,12 +192,14 @@ sent_parts (Updates from to) source target n = updates_parts source target n.lin
 moved_leaves : (w : World) (p q : ℕ) (e : SEvent) → Keeps w (Events.link_event w p q e)
 moved_leaves w p q e =
     let l : LinkRecord = with_plain (w.links p q) (Events.link_step w p q e).link in
-    keeps_sending w (with_link w p q l) (keeps_links w w (keeps_same w) (with_link w p q l).links) (sent_by (Events.link_step w p q e).action p q (w.nodes p)) (sent_parts (Events.link_step w p q e).action p q (w.nodes p))
+    keeps_sending w (with_link w p q l) (keeps_links w w (keeps_same w) (with_link w p q l).links)
+    (sent_by (Events.link_step w p q e).action p q (w.nodes p)) (sent_parts (Events.link_step w p q e).action p q (w.nodes p))
 
 greeting_parts : (w : World) (p q : ℕ) → AllByRecursion IsPart (Events.greeting_back w p q)
 greeting_parts w p q =
     let b : Node = w.nodes q in
-    by_test (AllByRecursion IsPart) (Events.greets (w.nodes p) b) (greeting q p b) [] (λ _. all_parts q p b.line (Hello b.session (length b.log) b.safe)) (λ _. tt)
+    by_test (AllByRecursion IsPart) (Events.greets (w.nodes p) b) (greeting q p b) [] (λ _. all_parts q p b.line (Hello b.session (length b.log) b.safe))
+    (λ _. tt)
 
 -- ## Records that are applied
 
@@ -204,7 +213,16 @@ applied_leaves w q r (AcksFromDisk number) =
     let n : Node = Events.applied b number r.mark in
     keeps_sending w (with_node w q n)
     (keeps_node w q n
-    (λ f. record { volumes = refl; ring = refl; line = refl; made = λ made. made; start = λ v. refl; base = fold_size b.base (drop b.safe (take number b.log)); log = λ h. h })
+    (λ f. record {
+      volumes = refl;
+      ring = refl;
+      line = refl;
+      made = λ made. made;
+      start = λ v. refl;
+      base = fold_size b.base
+          (drop b.safe (take number b.log));
+      log = λ h. h;
+    })
     (bare_same w q n refl refl) (λ u. u))
     (packets_of q n.other n.line (DataAck n.safe)) (all_parts q n.other n.line (DataAck n.safe))
 
@@ -248,20 +266,25 @@ module _ (w : World) (p : Packet) (number : ℕ) (x : Write) (up : (w.nodes p.ta
       let t : RState = plain_receiver n in
       by_test (Leaves w) (is_origin n.role) (says w IsIgnored) _
       (λ _. keeps_same w)
-      (λ r. by_test (λ (o : Received). Leaves w (Events.update_taken w p x o.action)) (takes t p.line number) (record { state = with_next t; action = Take number }) _
-      (λ c. taken_leaves (same_line_equal p.line n.line (and_left (same_line p.line n.line) (eqb number (t.last + 1) && (ltb t.waiting 16 && phase_takes t.phase)) c)))
+      (λ r. by_test (λ (o : Received). Leaves w (Events.update_taken w p x o.action)) (takes t p.line number)
+      (record { state = with_next t; action = Take number }) _
+      (λ c. taken_leaves (same_line_equal p.line n.line
+      (and_left (same_line p.line n.line) (eqb number (t.last + 1) && (ltb t.waiting 16 && phase_takes t.phase)) c)))
       (λ _. by_test (λ o. Leaves w (Events.update_taken w p x o)) (repeats t p.line number) (IgnoredAck t.last) Ignores
-      (λ _. keeps_sending w w (keeps_same w) (packets_of p.target p.source n.line (NetAck n.session (length n.log))) (all_parts p.target p.source n.line (NetAck n.session (length n.log))))
+      (λ _. keeps_sending w w (keeps_same w) (packets_of p.target p.source n.line (NetAck n.session (length n.log)))
+      (all_parts p.target p.source n.line (NetAck n.session (length n.log))))
       (λ _. keeps_same w)))
 
-heard_leaves : (w : World) (p : Packet) (m : Message) → (w.nodes p.target).state ≡ Up → GoodMessage (w.lines p.line).held (w.nodes p.source) p.line m → Leaves w (Events.heard w p m)
+heard_leaves : (w : World) (p : Packet) (m : Message) → (w.nodes p.target).state ≡ Up → GoodMessage (w.lines p.line).held (w.nodes p.source) p.line m
+    → Leaves w (Events.heard w p m)
 heard_leaves w p (Hello session number stored) up h = link_heard_leaves w p (HearHello session number stored)
 heard_leaves w p (Update number x) up h = update_leaves w p number x up h
 heard_leaves w p (NetAck session number) up h = link_heard_leaves w p (HearNetAck session number)
 heard_leaves w p (DataAck number) up h = link_heard_leaves w p (HearDataAck number)
 
 -- the target of what is heard stays up
-taken_up : (w : World) (p : Packet) (x : Write) (action : RAction) → (w.nodes p.target).state ≡ Up → ((Events.update_taken w p x action).world.nodes p.target).state ≡ Up
+taken_up : (w : World) (p : Packet) (x : Write) (action : RAction) → (w.nodes p.target).state ≡ Up
+    → ((Events.update_taken w p x action).world.nodes p.target).state ≡ Up
 taken_up w p x DoesNothing up = up
 taken_up w p x Ignores up = up
 taken_up w p x (IgnoredAck number) up = up
@@ -274,7 +297,8 @@ taken_up w p x (AcksFromDisk number) up = up
 
 link_up : (w : World) (p : Packet) (e : SEvent) → (w.nodes p.target).state ≡ Up → ((Events.link_heard w p e).world.nodes p.target).state ≡ Up
 link_up w p e up =
-    by_test (λ (o : Outcome). (o.world.nodes p.target).state ≡ Up) (has_links (w.nodes p.target).role && is_linked (w.links p.target p.source)) _ (says w IsIgnored) (λ _. up) (λ _. up)
+    by_test (λ (o : Outcome). (o.world.nodes p.target).state ≡ Up) (has_links (w.nodes p.target).role && is_linked (w.links p.target p.source)) _
+    (says w IsIgnored) (λ _. up) (λ _. up)
 
 heard_up : (w : World) (p : Packet) (m : Message) → (w.nodes p.target).state ≡ Up → ((Events.heard w p m).world.nodes p.target).state ≡ Up
 heard_up w p (Hello session number stored) up = link_up w p (HearHello session number stored) up
@@ -294,17 +318,26 @@ module _ (w : World) (k : ℕ) (p : Packet) (found : slice_get w.packets k ≡ S
   heard_world = (Events.heard w p p.message).world
 
   -- what is put to the packet's message was sent
-  gathered_good : (w.nodes p.target).state ≡ Up → Gathers heard_world → MayGather p.target (heard_world.nodes p.target) heard_world.packets (left_by (heard_world.gathering p.target) p)
+  gathered_good : (w.nodes p.target).state ≡ Up → Gathers heard_world
+      → MayGather p.target (heard_world.nodes p.target) heard_world.packets (left_by (heard_world.gathering p.target) p)
   gathered_good up g =
       let v : World = heard_world in
       let adds : Adds w v = heard_adds w p p.message in
-      by_test (λ (h : Option Gathering). MayGather p.target (v.nodes p.target) v.packets h) (completes (v.gathering p.target) p) None (Some (record { key = key_of p; came = came_after (v.gathering p.target) p }))
+      by_test (λ (h : Option Gathering). MayGather p.target (v.nodes p.target) v.packets h) (completes (v.gathering p.target) p) None
+      (Some (record { key = key_of p; came = came_after (v.gathering p.target) p }))
       (λ _. tt)
       (λ some. record {
         up = heard_up w p p.message up;
         places = after_places (v.gathering p.target) p (places_in p.target (v.nodes p.target) v.packets (v.gathering p.target) (g.each p.target));
         missing = some;
-        sent = record { place = k; packet = p; is = subst (λ (ps : List Packet). slice_get ps k ≡ Some p) (sym adds.sent) (found_more w.packets adds.more k p found); target = refl; key = refl };
+        sent = record {
+          place = k;
+          packet = p;
+          is = subst (λ (ps : List Packet). slice_get ps k ≡ Some p) (sym adds.sent)
+              (found_more w.packets adds.more k p found);
+          target = refl;
+          key = refl;
+        };
       })
 
   handed_leaves : Leaves w (Events.gathers p (Events.handed w p))
@@ -312,12 +345,16 @@ module _ (w : World) (k : ℕ) (p : Packet) (found : slice_get w.packets k ≡ S
     where
       kept : (b : Bool) → (w.nodes p.target).state ≡ Up → Keeps w (Events.gathered_if b heard_world p)
       kept true up =
-          keeps_gathering w heard_world (heard_leaves w p p.message up good.said) (updated heard_world.gathering p.target (left_by (heard_world.gathering p.target) p))
-          (λ g. all_updated (λ i (h : Option Gathering). MayGather i (heard_world.nodes i) heard_world.packets h) heard_world.gathering p.target (left_by (heard_world.gathering p.target) p) (gathered_good up g) (λ i _. g.each i))
+          keeps_gathering w heard_world (heard_leaves w p p.message up good.said)
+          (updated heard_world.gathering p.target (left_by (heard_world.gathering p.target) p))
+          (λ g. all_updated (λ i (h : Option Gathering). MayGather i (heard_world.nodes i) heard_world.packets h) heard_world.gathering p.target
+          (left_by (heard_world.gathering p.target) p) (gathered_good up g) (λ i _. g.each i))
       kept false up = heard_leaves w p p.message up good.said
 
-      by_open : (c : Bool) → (is_up (w.nodes p.target).state && is_running (w.nodes p.target).halted) ≡ c → Leaves w (Events.gathers p (if c then Events.heard w p p.message else says w IsIgnored))
-      by_open true e = kept (Events.is_taken (Events.heard w p p.message).said) (Guards.up_is (w.nodes p.target).state (and_left (is_up (w.nodes p.target).state) (is_running (w.nodes p.target).halted) e))
+      by_open : (c : Bool) → (is_up (w.nodes p.target).state && is_running (w.nodes p.target).halted) ≡ c
+          → Leaves w (Events.gathers p (if c then Events.heard w p p.message else says w IsIgnored))
+      by_open true e = kept (Events.is_taken (Events.heard w p p.message).said)
+          (Guards.up_is (w.nodes p.target).state (and_left (is_up (w.nodes p.target).state) (is_running (w.nodes p.target).halted) e))
       by_open false e = keeps_same w
 
 delivered_leaves : (w : World) (number k : ℕ) (p : Option Packet) → slice_get w.packets k ≡ p → Sound w → Leaves w (Events.delivered w number p)
@@ -327,7 +364,8 @@ delivered_leaves w number k (Some p) e s = handed_leaves w k p e (each_found (Go
 deliver_leaves : (w : World) (number : ℕ) → Sound w → Leaves w (Events.delivered w number (Events.packet_at w.packets number))
 deliver_leaves w zero s = keeps_same w
 deliver_leaves w (suc k) s =
-    by_test (λ (p : Option Packet). Leaves w (Events.delivered w (suc k) p)) (leb (suc k + MOST_PACKETS) (length w.packets)) None (slice_get w.packets k) (λ _. keeps_same w) (λ _. delivered_leaves w (suc k) k (slice_get w.packets k) refl s)
+    by_test (λ (p : Option Packet). Leaves w (Events.delivered w (suc k) p)) (leb (suc k + MOST_PACKETS) (length w.packets)) None (slice_get w.packets k)
+    (λ _. keeps_same w) (λ _. delivered_leaves w (suc k) k (slice_get w.packets k) refl s)
 
 -- ## Crashes and recoveries
 
@@ -348,13 +386,15 @@ crash_leaves w q k s up =
     by_test (λ (v : World). Keeps w (emptied (with_links v q row) q)) (is_origin n.role) (crash_left w q k) (with_node w q (crashed n k))
     (λ o. keeps_crash w q (crashed n k) fitted bare (line_updated w.lines n.line (kept_by (w.lines n.line) n k)) (updated w.links q row)
     (λ f. all_lines (λ l (r : History). AllByRecursion (Fits (w.nodes l.origin)) r.held) w.lines n.line (kept_by (w.lines n.line) n k)
-    (subst (λ (i : ℕ). AllByRecursion (Fits (w.nodes i)) (take k n.log)) (sym ((s.good.nodes q).own_line (up_is_made n up) o)) (each_take (Fits n) k n.log (f.logs q)))
+    (subst (λ (i : ℕ). AllByRecursion (Fits (w.nodes i)) (take k n.log)) (sym ((s.good.nodes q).own_line (up_is_made n up) o))
+    (each_take (Fits n) k n.log (f.logs q)))
     (λ l _. f.held l)))
     (λ _. keeps_crash w q (crashed n k) fitted bare w.lines (updated w.links q row) (λ f. f.held))
 
 recovery_leaves : (w : World) (q : ℕ) (fails : Option ℕ) → (w.nodes q).state ≡ Down → Leaves w (Events.recovery w q fails)
 recovery_leaves w q None down =
-    Nodes.back_by (λ (m : Node). Keeps w (sending (with_links (with_node w q m) q (λ to. Events.restarted_link m to (w.links q to))) (Events.recovery_greeting q m))) (w.nodes q)
+    Nodes.back_by (λ (m : Node). Keeps w
+    (sending (with_links (with_node w q m) q (λ to. Events.restarted_link m to (w.links q to))) (Events.recovery_greeting q m))) (w.nodes q)
     (λ mark _ _.
     let n : Node = w.nodes q in
     let m : Node = Nodes.risen n mark in
@@ -362,10 +402,12 @@ recovery_leaves w q None down =
     let u : World = with_links v q (λ to. Events.restarted_link m to (w.links q to)) in
     keeps_sending w u
     (keeps_links w v
-    (keeps_node w q m (λ f. like_fitted n m refl refl refl (λ _ e. let g : Down ≡ Bare = sym down ∙ e in cc) refl refl refl) (λ f e. absurd (let g : Up ≡ Bare = e in cc)) (λ _. refl))
+    (keeps_node w q m (λ f. like_fitted n m refl refl refl (λ _ e. let g : Down ≡ Bare = sym down ∙ e in cc) refl refl refl)
+    (λ f e. absurd (let g : Up ≡ Bare = e in cc)) (λ _. refl))
     u.links)
     (Events.recovery_greeting q m)
-    (by_test (AllByRecursion IsPart) (is_origin m.role) [] (greeting q m.other m) (λ _. tt) (λ _. all_parts q m.other m.line (Hello m.session (length m.log) m.safe))))
+    (by_test (AllByRecursion IsPart) (is_origin m.role) [] (greeting q m.other m) (λ _. tt)
+    (λ _. all_parts q m.other m.line (Hello m.session (length m.log) m.safe))))
 recovery_leaves w q (Some disk) down =
     let m : Node = record (w.nodes q) { session = (w.nodes q).session + 1 } in
     keeps_node w q m (λ f. like_fitted (w.nodes q) m refl refl refl (λ made. made) refl refl refl) (bare_same w q m refl refl) (λ u. u)
@@ -400,7 +442,8 @@ alike_self n = record { volumes = agree_self n.volumes; rings = rings n.ring }
         either false b e = e
 
 -- a bare site becomes another one that holds no write
-module _ (w : World) (i sites : ℕ) (n : Node) (h : Line → History) (s : Sound w) (bare : (w.nodes i).state ≡ Bare) (sized : IsSized n) (empty : n.log ≡ []) (own : IsMade n → n.line.origin ≡ i)
+module _ (w : World) (i sites : ℕ) (n : Node) (h : Line → History) (s : Sound w) (bare : (w.nodes i).state ≡ Bare) (sized : IsSized n) (empty : n.log ≡ [])
+    (own : IsMade n → n.line.origin ≡ i)
     (lines : (l : Line) → ((h l).held ≡ []) ⊎ ((h l).held ≡ (w.lines l).held)) where
   abbrev founded : ℕ → Node
   founded = updated w.nodes i n
@@ -413,7 +456,8 @@ module _ (w : World) (i sites : ℕ) (n : Node) (h : Line → History) (s : Soun
       by_case (inr same) =
           subst (λ (xs : List Write). AllByRecursion (Fits (founded l.origin)) xs) (sym same)
           (each_weaker (Fits (w.nodes l.origin)) (Fits (founded l.origin))
-          (λ x. all_updated (λ k (m : Node). Fits (w.nodes k) x → Fits m x) w.nodes i n (λ fits. absurd (omega (arith, fits.room, (f.sized i).bare bare))) (λ _ _ fits. fits) l.origin)
+          (λ x. all_updated (λ k (m : Node). Fits (w.nodes k) x → Fits m x) w.nodes i n (λ fits. absurd (omega (arith, fits.room, (f.sized i).bare bare)))
+          (λ _ _ fits. fits) l.origin)
           (w.lines l).held (f.held l))
 
   founded_alike : Fitting w → (k : ℕ) → IsMade (founded k) → IsAlike (founded (founded k).line.origin) (founded k)
@@ -433,7 +477,8 @@ module _ (w : World) (i sites : ℕ) (n : Node) (h : Line → History) (s : Soun
     };
     fits = λ f. record {
       sized = all_updated (λ _ (m : Node). IsSized m) w.nodes i n sized (λ k _. f.sized k);
-      logs = all_updated (λ _ (m : Node). AllByRecursion (Fits m) m.log) w.nodes i n (subst (λ (xs : List Write). AllByRecursion (Fits n) xs) (sym empty) tt) (λ k _. f.logs k);
+      logs = all_updated (λ _ (m : Node). AllByRecursion (Fits m) m.log) w.nodes i n
+          (subst (λ (xs : List Write). AllByRecursion (Fits n) xs) (sym empty) tt) (λ k _. f.logs k);
       held = founded_held f;
       alike = founded_alike f;
     };
@@ -456,25 +501,35 @@ raw_leaves : (w : World) (q : ℕ) → Sound w → (w.nodes q).state ≡ Bare �
 raw_leaves w q s bare =
     let n : Node = w.nodes q in
     founded_leaves w q w.sites (raw_set q n) (line_updated w.lines (first_line q) (raw_history n)) s bare
-    (record { start = λ v. raw_sizes 1 (n.disks - 2) n.blocks v; base = λ v. raw_sizes 1 (n.disks - 2) n.blocks v; bare = λ e. absurd (let g : Up ≡ Bare = e in cc) })
+    (record {
+      start = λ v. raw_sizes 1 (n.disks - 2) n.blocks v;
+      base = λ v. raw_sizes 1
+          (n.disks - 2) n.blocks v;
+      bare = λ e. absurd (let g : Up ≡ Bare = e in cc);
+    })
     refl (λ _. refl)
     (all_lines (λ l (r : History). (r.held ≡ []) ⊎ (r.held ≡ (w.lines l).held)) w.lines (first_line q) (raw_history n) (inl refl) (λ l _. inr refl))
 
 -- a site that joins has the sizes of its primary
-join_leaves : (w : World) (p q : ℕ) → (w.nodes p).line.origin ≡ p → IsAlike (w.nodes p) (w.nodes q) → Keeps w (emptied (with_node w q (Events.joined (w.nodes p) p (w.nodes q))) q)
+join_leaves : (w : World) (p q : ℕ) → (w.nodes p).line.origin ≡ p → IsAlike (w.nodes p) (w.nodes q)
+    → Keeps w (emptied (with_node w q (Events.joined (w.nodes p) p (w.nodes q))) q)
 join_leaves w p q own alike = record {
   gathers = λ g. record {
     parts = g.parts;
     each = all_updated (λ k (h : Option Gathering). MayGather k (joined k) w.packets h) w.gathering q None tt
-        (λ k apart. all_updated (λ j (m : Node). (j ≡ q → ⊥) → MayGather j m w.packets (w.gathering j)) w.nodes q n (λ no. absurd (no refl)) (λ j _ _. g.each j) k apart);
+        (λ k apart. all_updated (λ j (m : Node). (j ≡ q → ⊥) → MayGather j m w.packets (w.gathering j)) w.nodes q n (λ no. absurd (no refl))
+        (λ j _ _. g.each j) k apart);
   };
   fits = λ f. record {
-    sized = all_updated (λ _ (m : Node). IsSized m) w.nodes q n (record { start = (f.sized q).base; base = (f.sized q).base; bare = (f.sized q).bare }) (λ k _. f.sized k);
+    sized = all_updated (λ _ (m : Node). IsSized m) w.nodes q n (record { start = (f.sized q).base; base = (f.sized q).base; bare = (f.sized q).bare })
+        (λ k _. f.sized k);
     logs = all_updated (λ _ (m : Node). AllByRecursion (Fits m) m.log) w.nodes q n tt (λ k _. f.logs k);
-    held = λ l. each_weaker (Fits (w.nodes l.origin)) (Fits (joined l.origin)) (fits_there (w.nodes l.origin) (joined l.origin) (volumes l.origin) (rings l.origin)) (w.lines l).held (f.held l);
+    held = λ l. each_weaker (Fits (w.nodes l.origin)) (Fits (joined l.origin))
+        (fits_there (w.nodes l.origin) (joined l.origin) (volumes l.origin) (rings l.origin)) (w.lines l).held (f.held l);
     alike = all_updated (λ _ (m : Node). IsMade m → IsAlike (joined m.line.origin) m) w.nodes q n
         (λ _. subst (λ (o : ℕ). IsAlike (joined o) n) (sym own) (alike_there (w.nodes p) (w.nodes q) (joined p) n (volumes p) (rings p) refl refl alike))
-        (λ k _ made. alike_there (w.nodes (w.nodes k).line.origin) (w.nodes k) (joined (w.nodes k).line.origin) (w.nodes k) (volumes (w.nodes k).line.origin) (rings (w.nodes k).line.origin) refl refl (f.alike k made));
+        (λ k _ made. alike_there (w.nodes (w.nodes k).line.origin) (w.nodes k) (joined (w.nodes k).line.origin) (w.nodes k)
+        (volumes (w.nodes k).line.origin) (rings (w.nodes k).line.origin) refl refl (f.alike k made));
   };
 }
   where
@@ -503,10 +558,15 @@ link_part_leaves Joins w p q sync s up =
     (λ _. Guards.unless_holds (Keeps w) (not fit) Size w o (keeps_same w)
     (λ sizes. join_leaves w p q
     ((s.good.nodes p).own_line (up_is_made a up) (Guards.primary_origin a.role (and_left (is_primary a.role) _ (not_false (may_link w p q) may))))
-    (record { volumes = and_left (agree a.volumes (w.nodes q).volumes) (rings_fit a (w.nodes q)) (not_false fit sizes); rings = and_right (agree a.volumes (w.nodes q).volumes) (rings_fit a (w.nodes q)) (not_false fit sizes) })))))
+    (record {
+      volumes = and_left (agree a.volumes (w.nodes q).volumes) (rings_fit a (w.nodes q)) (not_false fit sizes);
+      rings = and_right
+          (agree a.volumes (w.nodes q).volumes) (rings_fit a (w.nodes q)) (not_false fit sizes);
+    })))))
 link_part_leaves Made w p q sync s up =
     let l : LinkRecord = Events.new_link (links_of w p) sync (w.nodes q) in
-    Guards.unless_holds (Keeps w) (not (is_primary (w.nodes p).role && follows w p q)) WrongRole w (unless (is_linked (w.links p q)) (Exists (w.nodes q).name) w (done (with_link w p q l))) (keeps_same w)
+    Guards.unless_holds (Keeps w) (not (is_primary (w.nodes p).role && follows w p q)) WrongRole w
+    (unless (is_linked (w.links p q)) (Exists (w.nodes q).name) w (done (with_link w p q l))) (keeps_same w)
     (λ _. Guards.unless_holds (Keeps w) (is_linked (w.links p q)) (Exists (w.nodes q).name) w (done (with_link w p q l)) (keeps_same w)
     (λ _. keeps_links w w (keeps_same w) (with_link w p q l).links))
 link_part_leaves Marked w p q sync s up =
@@ -532,7 +592,8 @@ outcome_leaves w (Site name disks blocks) s =
     let o : Outcome = done (site_made w name disks blocks) in
     let few : Outcome = unless (eqb disks 0 || ltb blocks 8) Size w o in
     let some : Outcome = unless (ltb MOST_DISKS disks) (Limit Disks MOST_DISKS) w few in
-    Guards.unless_holds (Keeps w) (some_below w.sites (λ k. bytes_eq (w.nodes k).name name)) (Exists name) w (unless (leb MOST_SITES w.sites) (Limit Sites MOST_SITES) w some) (keeps_same w)
+    Guards.unless_holds (Keeps w) (some_below w.sites (λ k. bytes_eq (w.nodes k).name name)) (Exists name) w
+    (unless (leb MOST_SITES w.sites) (Limit Sites MOST_SITES) w some) (keeps_same w)
     (λ _. Guards.unless_holds (Keeps w) (leb MOST_SITES w.sites) (Limit Sites MOST_SITES) w some (keeps_same w)
     (λ _. Guards.unless_holds (Keeps w) (ltb MOST_DISKS disks) (Limit Disks MOST_DISKS) w few (keeps_same w)
     (λ _. Guards.unless_holds (Keeps w) (eqb disks 0 || ltb blocks 8) Size w o (keeps_same w) (λ _. site_leaves w name disks blocks s))))
@@ -550,9 +611,11 @@ outcome_leaves w (Apply q count reached) s =
     let r : Received = received_step (plain_receiver (w.nodes q)) (Applied count) in
     Guards.at_site_holds (Keeps w) w q (at_work w q o) (keeps_same w)
     (λ _. Guards.at_work_holds (Keeps w) w q o (keeps_same w)
-    (λ _ _. by_test (Leaves w) (is_origin (w.nodes q).role) (Events.reached_at w q count reached) (Events.apply_at w q count) (λ _. keeps_same w) (λ _. applied_leaves w q r.state r.action)))
+    (λ _ _. by_test (Leaves w) (is_origin (w.nodes q).role) (Events.reached_at w q count reached) (Events.apply_at w q count) (λ _. keeps_same w)
+    (λ _. applied_leaves w q r.state r.action)))
 outcome_leaves w (Pump p q) s =
-    Guards.on_link_holds (Keeps w) has_links w p q _ (keeps_same w) (λ _ _ _. Guards.when_live_holds (Keeps w) w q (w.links p q) (done (Events.link_event w p q PumpLink)) (keeps_same w) (moved_leaves w p q PumpLink))
+    Guards.on_link_holds (Keeps w) has_links w p q _ (keeps_same w)
+    (λ _ _ _. Guards.when_live_holds (Keeps w) w q (w.links p q) (done (Events.link_event w p q PumpLink)) (keeps_same w) (moved_leaves w p q PumpLink))
 outcome_leaves w (Tick p q) s = on_link_leaves w p q TickLink
 outcome_leaves w (Deliver number) s = deliver_leaves w number s
 outcome_leaves w (Connect p q) s =
@@ -568,16 +631,19 @@ outcome_leaves w (Wait p number) s =
     let promised : Outcome = says (promising w (Events.promises_of (w.nodes p) number (w.links p) w.sites)) (DoneAt number) in
     let answered : Outcome = if held then says w (Pending number) else promised in
     let known : Outcome = unless unconfirmed (Unconfirmed number) w answered in
-    let o : Outcome = unless (not (is_origin (w.nodes p).role)) WrongRole w (unless (eqb number 0 || ltb (w.nodes p).safe number) (Unknown (ByNumber number)) w known) in
+    let o : Outcome = unless (not (is_origin (w.nodes p).role)) WrongRole w
+    (unless (eqb number 0 || ltb (w.nodes p).safe number) (Unknown (ByNumber number)) w known) in
     Guards.at_site_holds (Keeps w) w p (at_work w p o) (keeps_same w)
     (λ _. Guards.at_work_holds (Keeps w) w p o (keeps_same w)
     (λ _ _. Guards.unless_holds (Keeps w) (not (is_origin (w.nodes p).role)) WrongRole w _ (keeps_same w)
     (λ _. Guards.unless_holds (Keeps w) (eqb number 0 || ltb (w.nodes p).safe number) (Unknown (ByNumber number)) w known (keeps_same w)
     (λ _. Guards.unless_holds (Keeps w) unconfirmed (Unconfirmed number) w answered (keeps_same w)
-    (λ _. by_test (Leaves w) held (says w (Pending number)) promised (λ _. keeps_same w) (λ _. keeps_promising w w (keeps_same w) (Events.promises_of (w.nodes p) number (w.links p) w.sites)))))))
+    (λ _. by_test (Leaves w) held (says w (Pending number)) promised (λ _. keeps_same w)
+    (λ _. keeps_promising w w (keeps_same w) (Events.promises_of (w.nodes p) number (w.links p) w.sites)))))))
 outcome_leaves w (Link p q sync part) s =
     Guards.at_site_holds (Keeps w) w p _ (keeps_same w)
-    (λ _. Guards.at_site_holds (Keeps w) w q _ (keeps_same w) (λ _. Guards.both_holds (Keeps w) w p q (link_part part w p q sync) (keeps_same w) (λ up _ _. link_part_leaves part w p q sync s up)))
+    (λ _. Guards.at_site_holds (Keeps w) w q _ (keeps_same w)
+    (λ _. Guards.both_holds (Keeps w) w p q (link_part part w p q sync) (keeps_same w) (λ up _ _. link_part_leaves part w p q sync s up)))
 outcome_leaves w (Set p q sync) s =
     let l : LinkRecord = record (w.links p q) { sync = sync; prot = FailsWhenFull } in
     Guards.on_link_holds (Keeps w) is_origin w p q (done (with_link w p q l)) (keeps_same w) (λ _ _ _. keeps_links w w (keeps_same w) (with_link w p q l).links)
