@@ -2,7 +2,7 @@
 use Rattle.vx_model.specs.Sites.{is_origin, is_up}
 use Rattle.vx_model.specs.declared.limits.TheConstants.{MOST_LINKS}
 use Rattle.std.proofs.Common.{◌≡◌, ◌∙◌, ℕ, ap, sym, subst, refl, Bool, true, false, Option, Some, None}
-use Rattle.std.specs.Prelude.{not, ◌&&◌, leb, if◌then◌else◌}
+use Rattle.std.specs.Prelude.{not, ◌&&◌, leb}
 use Rattle.vx_history.proofs.Updates.{at_place, by_test}
 use Rattle.vx_model.specs.Content.{Write}
 use Rattle.vx_history.specs.Events.{delivered, gathers, gathered_if, is_taken, handed, heard, link_heard, packet_at, said_of_link, facts_of, joined, new_link}

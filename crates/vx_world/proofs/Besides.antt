@@ -1,47 +1,44 @@
--- The other events beside a halted site: sites, writes, applies, crashes, recoveries, waits and new links.
-use Rattle.vx_model.specs.Sites.{first_line, is_bare, is_origin, is_up, same_line}
-use Rattle.vx_model.specs.Sizes.{is_raw_shape}
-use Rattle.vx_model.specs.declared.limits.TheConstants.{MOST_DISKS, MOST_LINKS, MOST_NUMBER, MOST_SITES}
-use Rattle.std.proofs.Common.{◌≡◌, ◌∙◌, inl, inr, ℕ, zero, suc, ◌+◌, List, [], ◌∷◌, ◌++◌, length, ap, sym, subst, refl, arith, Bool, true, false}
-use Rattle.std.specs.Prelude.{Option, Some, None, not, ◌&&◌, ◌||◌, eqb, ltb, leb, if◌then◌else◌, bytes_eq}
+-- Writes, applies, waits, crashes and recoveries beside a halted site.
+use Rattle.vx_model.specs.Sites.{is_bare, is_origin, is_up}
+use Rattle.vx_model.specs.declared.limits.TheConstants.{MOST_NUMBER}
+use Rattle.std.proofs.Common.{◌≡◌, ◌∙◌, inl, inr, ℕ, zero, suc, ◌+◌, [], ◌∷◌, ◌++◌, length, ap, sym, subst, refl, Bool, true, false}
+use Rattle.std.specs.Prelude.{Option, Some, None, not, ◌||◌, eqb, ltb, leb, if◌then◌else◌}
 use Rattle.std.proofs.lemmas.Bool.{cases_eq}
 use Rattle.vx_history.specs.Admission.{admit, Admitted, Held_by, Goes}
 use Rattle.vx_model.specs.Answer.{is_wrong_count, is_past, is_too_large}
 use Rattle.vx_model.specs.Content.{Write, blocks_in, blocks_from}
-use Rattle.vx_history.specs.Events.{linked_sites, plain_links, uses, admitted, written_if, put_in, links_changed, link_after, apply_at, applied_by, acknowledged, applied, reached_at, crash_at, crash_world, lost_touch, kept_of, recover_from, recovery, come_back, restarted_link, recovery_greeting, joined, new_link, opened, waited, promises_of}
+use Rattle.vx_history.specs.Events.{linked_sites, plain_links, uses, admitted, written_if, put_in, links_changed, link_after, apply_at, applied_by, acknowledged, applied, reached_at, crash_at, crash_world, lost_touch, kept_of, recover_from, recovery, come_back, restarted_link, recovery_greeting, waited, promises_of}
 use Rattle.vx_history.specs.LinkForms.{plain_receiver}
-use Rattle.vx_history.specs.Receiving.{received_step, Received, phase_takes}
-use Rattle.vx_history.specs.Refusals.{Outcome, says, unless, unless_halted, at_site, at_work, both_at_work, on_volume, may_link, follows, links_of, is_fresh, is_running, is_primary, is_consistent, is_stale, is_empty, agree, rings_fit, some_below, count_below, holds_back, is_unconfirmed, unless_at_most}
-use Rattle.vx_history.specs.Sends.{is_linked, with_links, with_link, promising, packets_of}
-use Rattle.vx_history.specs.Step.{outcome_of, done, write_at, link_part, joined_blocks}
-use Rattle.vx_history.specs.Steps.{site_made, raw_made, raw_set, raw_history, logged, told_of, burned, crashed, crash_left, kept_by}
-use Rattle.vx_history.specs.World.{Node, Link, World, History, Gathering, DataAck, bare_site, updated, line_updated, with_node, with_history}
-use Rattle.vx_history.specs.declared.event.Event.TheVariants.{Site, Raw, Read, Apply, Wait, Crash, Recover, Link as LinkAt}
-use Rattle.vx_history.specs.declared.event.LinkPart.{LinkPart}
-use Rattle.vx_history.specs.declared.event.LinkPart.TheVariants.{Joins, Made, Marked, Opened}
+use Rattle.vx_history.specs.Receiving.{received_step, Received}
+use Rattle.vx_history.specs.Refusals.{Outcome, says, unless, at_work, on_volume, is_primary, some_below, holds_back, is_unconfirmed, unless_at_most}
+use Rattle.vx_history.specs.Sends.{with_links, promising, packets_of}
+use Rattle.vx_history.specs.Step.{outcome_of, done, write_at, joined_blocks}
+use Rattle.vx_history.specs.Steps.{logged, told_of, burned, crashed, crash_left, kept_by}
+use Rattle.vx_history.specs.World.{Node, Link, World, History, Gathering, DataAck, line_updated, with_node, with_history}
+use Rattle.vx_history.specs.declared.event.Event.TheVariants.{Read, Apply, Wait, Crash, Recover}
 use Rattle.vx_history.specs.declared.event.Said.TheVariants.{DoneAt, Got, Pending}
 use Rattle.vx_model.specs.declared.history.Line.{Line}
-use Rattle.vx_model.specs.declared.link.SyncMode.{SyncMode}
-use Rattle.vx_model.specs.declared.no.No.TheVariants.{Unknown, Exists, Size, Range, Role as WrongRole, Down as NotUp, Limit, Unconfirmed}
+use Rattle.vx_model.specs.declared.no.No.TheVariants.{Unknown, Size, Range, Role as WrongRole, Down as NotUp, Limit, Unconfirmed}
 use Rattle.vx_model.specs.declared.no.Named.TheVariants.{Number as ByNumber}
-use Rattle.vx_model.specs.declared.no.Counted.TheVariants.{Sites, Disks, Links, Number as CountOfNumbers}
+use Rattle.vx_model.specs.declared.no.Counted.TheVariants.{Number as CountOfNumbers}
 use Rattle.vx_history.specs.declared.receiver.RAction.{RAction}
 use Rattle.vx_history.specs.declared.receiver.RAction.TheVariants as act
 use Rattle.vx_history.specs.declared.receiver.REvent.TheVariants.{Applied}
 use Rattle.vx_history.specs.declared.receiver.RState.{RState}
-use Rattle.vx_model.specs.declared.site.Mark.TheVariants.{Consistent}
 use Rattle.vx_model.specs.declared.site.SiteState.{SiteState}
 use Rattle.vx_model.specs.declared.site.SiteState.TheVariants.{Bare, Up, Deported, Down}
 use Rattle.vx_history.specs.Gatherings.{emptied}
 use Rattle.vx_world.specs.Twins.{Twin}
-use Rattle.vx_world.proofs.Twinning.{not_both, both, works, there, stuck, one_of, twin_sending, twin_promising, twin_row, twin_link, twin_node, elsewhere, place}
+use Rattle.vx_world.proofs.TwinTests.{not_both, both, works, there}
+use Rattle.vx_world.proofs.Twinning.{one_of}
+use Rattle.vx_world.proofs.TwinChanges.{twin_sending, twin_promising, twin_row, twin_node}
 
-some_same : (n : ℕ) (f g : ℕ → Bool) → ((k : ℕ) → g k ≡ f k) → some_below n g ≡ some_below n f
+pub some_same : (n : ℕ) (f g : ℕ → Bool) → ((k : ℕ) → g k ≡ f k) → some_below n g ≡ some_below n f
 some_same zero f g e = refl
 some_same (suc k) f g e = ap (λ (b : Bool). b || some_below k g) (e k) ∙ ap (λ (b : Bool). f k || b) (some_same k f g e)
 
 -- a site with the record of its line
-twin_history : (s : ℕ) (w v : World) (twin : Twin s w v) (p : ℕ) (n k : Node) (h g : History) → (p ≡ s → ⊥) → k ≡ n → g ≡ h
+pub twin_history : (s : ℕ) (w v : World) (twin : Twin s w v) (p : ℕ) (n k : Node) (h g : History) → (p ≡ s → ⊥) → k ≡ n → g ≡ h
     → Twin s (with_history w p n h) (with_history v p k g)
 twin_history s w v twin p n k h g apart e f =
     let t = twin_node s w v twin p n k apart e in record {
@@ -62,7 +59,7 @@ twin_history s w v twin p n k h g apart e f =
     }
 
 -- nothing is then in assembly at this site
-twin_empty : (s : ℕ) (w v : World) (p : ℕ) → Twin s w v → Twin s (emptied w p) (emptied v p)
+pub twin_empty : (s : ℕ) (w v : World) (p : ℕ) → Twin s w v → Twin s (emptied w p) (emptied v p)
 twin_empty s w v p t = record {
   sites = t.sites;
   nodes = t.nodes;
@@ -79,20 +76,20 @@ twin_empty s w v p t = record {
   halted_too = t.halted_too;
 }
 
-one_world : (s : ℕ) (b c : Bool) (a d x y : World) → c ≡ b → Twin s a d → Twin s x y → Twin s (if b then a else x) (if c then d else y)
+pub one_world : (s : ℕ) (b c : Bool) (a d x y : World) → c ≡ b → Twin s a d → Twin s x y → Twin s (if b then a else x) (if c then d else y)
 one_world s true true a d x y e first second = first
 one_world s false false a d x y e first second = second
 one_world s true false a d x y e first second = absurd (not_both true refl (sym e))
 one_world s false true a d x y e first second = absurd (not_both false (sym e) refl)
 
 module _ (s : ℕ) (w v : World) (twin : Twin s w v) where
-  at_most : (k j : ℕ) (o r : Outcome) → j ≡ k → Twin s o.world r.world → Twin s (unless_at_most k w o).world (unless_at_most j v r).world
+  pub at_most : (k j : ℕ) (o r : Outcome) → j ≡ k → Twin s o.world r.world → Twin s (unless_at_most k w o).world (unless_at_most j v r).world
   at_most k j o r e rest = both s (leb MOST_NUMBER k) (leb MOST_NUMBER j) (Limit CountOfNumbers MOST_NUMBER) (Limit CountOfNumbers MOST_NUMBER) w v o r
       (ap (λ (i : ℕ). leb MOST_NUMBER i) e) twin (λ _. rest)
 
   -- ---- waiting
 
-  waits_both : (p number : ℕ) → (p ≡ s → ⊥) → Twin s (waited w p number).world (waited v p number).world
+  pub waits_both : (p number : ℕ) → (p ≡ s → ⊥) → Twin s (waited w p number).world (waited v p number).world
   waits_both p number apart =
       let node : v.nodes p ≡ w.nodes p = twin.nodes p apart in
       let row : v.links p ≡ w.links p = twin.rows p apart in
@@ -131,13 +128,13 @@ module _ (s : ℕ) (w v : World) (twin : Twin s w v) where
 
   -- ---- applying
 
-  acknowledged_both : (p : ℕ) (n k : Node) → (p ≡ s → ⊥) → k ≡ n → Twin s (acknowledged w p n) (acknowledged v p k)
+  pub acknowledged_both : (p : ℕ) (n k : Node) → (p ≡ s → ⊥) → k ≡ n → Twin s (acknowledged w p n) (acknowledged v p k)
   acknowledged_both p n k apart e =
       twin_sending s (with_node w p n) (with_node v p k) (twin_node s w v twin p n k apart e) (packets_of p n.other n.line (DataAck n.safe))
       (packets_of p k.other k.line (DataAck k.safe))
       (ap (λ (m : Node). packets_of p m.other m.line (DataAck m.safe)) e)
 
-  applied_both : (p : ℕ) (r : RState) (a : RAction) → (p ≡ s → ⊥) → Twin s (applied_by w p r a).world (applied_by v p r a).world
+  pub applied_both : (p : ℕ) (r : RState) (a : RAction) → (p ≡ s → ⊥) → Twin s (applied_by w p r a).world (applied_by v p r a).world
   applied_both p r act.Nothing apart = twin
   applied_both p r act.Ignored apart = twin
   applied_both p r (act.IgnoredAck number) apart = twin
@@ -163,20 +160,20 @@ module _ (s : ℕ) (w v : World) (twin : Twin s w v) where
   letting : Write → Node → (ℕ → Link) → ℕ → Admitted
   letting x n row k = admit (blocks_in x.bytes + 1) n.ring (plain_links row (linked_sites row k 0 k)) (uses n row (linked_sites row k 0 k))
 
-  same_admitted : (p : ℕ) (x : Write) → (p ≡ s → ⊥) → admitted v p x ≡ admitted w p x
+  pub same_admitted : (p : ℕ) (x : Write) → (p ≡ s → ⊥) → admitted v p x ≡ admitted w p x
   unfolding letting
   same_admitted p x apart =
       let a : letting x (v.nodes p) (v.links p) v.sites ≡ letting x (w.nodes p) (w.links p) w.sites
       = ap (λ (n : Node). letting x n (v.links p) v.sites) (twin.nodes p apart) ∙ ap (λ (r : ℕ → Link). letting x (w.nodes p) r v.sites) (twin.rows p apart)
       ∙ ap (λ (k : ℕ). letting x (w.nodes p) (w.links p) k) twin.sites in a
 
-  changed_both : (p : ℕ) (x : Write) → (p ≡ s → ⊥) → Twin s (links_changed w p x) (links_changed v p x)
+  pub changed_both : (p : ℕ) (x : Write) → (p ≡ s → ⊥) → Twin s (links_changed w p x) (links_changed v p x)
   changed_both p x apart =
       twin_row s w v twin p (λ k. link_after (w.nodes p) x k (w.links p k)) (λ k. link_after (v.nodes p) x k (v.links p k)) apart
       (ap (λ (n : Node). (λ (k : ℕ). link_after n x k (v.links p k))) (twin.nodes p apart) ∙ ap
       (λ (r : ℕ → Link). (λ (k : ℕ). link_after (w.nodes p) x k (r k))) (twin.rows p apart))
 
-  put_both : (w' v' : World) → Twin s w' v' → (p : ℕ) (x : Write) (fails : Option ℕ) → (p ≡ s → ⊥)
+  pub put_both : (w' v' : World) → Twin s w' v' → (p : ℕ) (x : Write) (fails : Option ℕ) → (p ≡ s → ⊥)
       → Twin s (put_in w' p x fails).world (put_in v' p x fails).world
   put_both w' v' t p x None apart =
       twin_history s w' v' t p (logged (w'.nodes p) x) (logged (v'.nodes p) x) (told_of (w'.lines (w'.nodes p).line) x)
@@ -186,21 +183,21 @@ module _ (s : ℕ) (w v : World) (twin : Twin s w v) where
       let half : Node → Node = λ n. record n { log = n.log ++ x ∷ []; halted = Some disk; fuse = burned n.fuse } in
       twin_node s w' v' t p (half (w'.nodes p)) (half (v'.nodes p)) apart (ap half (t.nodes p apart))
 
-  written_both : (a : Admitted) (p : ℕ) (x : Write) (fails : Option ℕ) → (p ≡ s → ⊥) → Twin s (written_if a w p x fails).world (written_if a v p x fails).world
+  pub written_both : (a : Admitted) (p : ℕ) (x : Write) (fails : Option ℕ) → (p ≡ s → ⊥) → Twin s (written_if a w p x fails).world (written_if a v p x fails).world
   written_both (Held_by why) p x fails apart = twin
   written_both (Goes changes) p x fails apart =
       at_most (w.nodes p).safe (v.nodes p).safe (put_in (links_changed w p x) p x fails) (put_in (links_changed v p x) p x fails)
       (ap (λ (n : Node). n.safe) (twin.nodes p apart))
       (put_both (links_changed w p x) (links_changed v p x) (changed_both p x apart) p x fails apart)
 
-  bare_both : (p : ℕ) → is_bare (v.nodes p).state ≡ is_bare (w.nodes p).state
+  pub bare_both : (p : ℕ) → is_bare (v.nodes p).state ≡ is_bare (w.nodes p).state
   bare_both p = elim (cases_eq p s) [
     | inl same ↦ subst (λ (i : ℕ). is_bare (v.nodes i).state ≡ is_bare (w.nodes i).state) (sym same) (ap is_bare (twin.up_too ∙ sym twin.up))
     | inr apart ↦ ap (λ (n : Node). is_bare n.state) (twin.nodes p apart)
   ]
 
   -- the tests of a read or write of a volume, side by side
-  volume_both : (p volume start count : ℕ) (large : Node → Bool) (a b : Outcome) → ((p ≡ s → ⊥) → Twin s a.world b.world)
+  pub volume_both : (p volume start count : ℕ) (large : Node → Bool) (a b : Outcome) → ((p ≡ s → ⊥) → Twin s a.world b.world)
       → Twin s (on_volume w p volume start count (large (w.nodes p)) a).world (on_volume v p volume start count (large (v.nodes p)) b).world
   volume_both p volume start count large a b rest =
       let size : Node → Bool = λ n. is_wrong_count count || large n in
@@ -240,7 +237,7 @@ module _ (s : ℕ) (w v : World) (twin : Twin s w v) where
 
   -- ---- crashes and recoveries of other sites
 
-  up_both : (p : ℕ) → (p ≡ s → ⊥) → not (is_up (v.nodes p).state) ≡ not (is_up (w.nodes p).state)
+  pub up_both : (p : ℕ) → (p ≡ s → ⊥) → not (is_up (v.nodes p).state) ≡ not (is_up (w.nodes p).state)
   up_both p apart = ap (λ (n : Node). not (is_up n.state)) (twin.nodes p apart)
 
   pub twin_crash : (p kept : ℕ) → (p ≡ s → ⊥) → Twin s (outcome_of w (Crash p kept)).world (outcome_of v (Crash p kept)).world
@@ -270,7 +267,7 @@ module _ (s : ℕ) (w v : World) (twin : Twin s w v) where
       p (λ to. lost_touch (w.links p to)) (λ to. lost_touch (v.links p to)) apart
       (ap (λ (r : ℕ → Link). (λ (to : ℕ). lost_touch (r to))) (twin.rows p apart)))))
 
-  recovery_both : (p : ℕ) (fails : Option ℕ) → (p ≡ s → ⊥) → Twin s (recovery w p fails).world (recovery v p fails).world
+  pub recovery_both : (p : ℕ) (fails : Option ℕ) → (p ≡ s → ⊥) → Twin s (recovery w p fails).world (recovery v p fails).world
   recovery_both p None apart =
       let n : Node = come_back (w.nodes p) in
       let k : Node = come_back (v.nodes p) in
@@ -288,7 +285,7 @@ module _ (s : ℕ) (w v : World) (twin : Twin s w v) where
       let next : Node → Node = λ n. record n { session = n.session + 1 } in
       twin_node s w v twin p (next (w.nodes p)) (next (v.nodes p)) apart (ap next (twin.nodes p apart))
 
-  recovers_both : (t : SiteState) (p : ℕ) (fails : Option ℕ) → (p ≡ s → ⊥) → Twin s (recover_from t w p fails).world (recover_from t v p fails).world
+  pub recovers_both : (t : SiteState) (p : ℕ) (fails : Option ℕ) → (p ≡ s → ⊥) → Twin s (recover_from t w p fails).world (recover_from t v p fails).world
   recovers_both Bare p fails apart = twin
   recovers_both Up p fails apart = twin
   recovers_both Deported p fails apart = twin
@@ -300,203 +297,3 @@ module _ (s : ℕ) (w v : World) (twin : Twin s w v) where
       there s w v p (recover_from (w.nodes p).state w p fails) (recover_from (v.nodes p).state v p fails) twin
       (subst (λ (t : SiteState). Twin s (recover_from (w.nodes p).state w p fails).world (recover_from t v p fails).world)
       (sym (ap (λ (n : Node). n.state) (twin.nodes p apart))) (recovers_both (w.nodes p).state p fails apart))
-
-  -- ---- new sites and raw sets
-
-  pub twin_raw : (p : ℕ) → Twin s (outcome_of w (Raw p)).world (outcome_of v (Raw p)).world
-  twin_raw p =
-      let shaped_w : Outcome = unless (not (is_raw_shape (w.nodes p).disks (w.nodes p).blocks)) Size w (done (raw_made w p)) in
-      let shaped_v : Outcome = unless (not (is_raw_shape (v.nodes p).disks (v.nodes p).blocks)) Size v (done (raw_made v p)) in
-      there s w v p (unless (not (is_bare (w.nodes p).state)) WrongRole w shaped_w) (unless (not (is_bare (v.nodes p).state)) WrongRole v shaped_v) twin
-      (both s (not (is_bare (w.nodes p).state)) (not (is_bare (v.nodes p).state)) WrongRole WrongRole w v shaped_w shaped_v (ap not (bare_both p)) twin
-      (λ bare. elim (cases_eq p s) [
-        | inl same ↦ absurd (not_both (not (is_bare (w.nodes p).state))
-            (subst (λ (i : ℕ). not (is_bare (w.nodes i).state) ≡ true) (sym same) (ap (λ (t : SiteState). not (is_bare t)) twin.up)) bare)
-        | inr apart ↦
-            let node : v.nodes p ≡ w.nodes p = twin.nodes p apart in
-            both s (not (is_raw_shape (w.nodes p).disks (w.nodes p).blocks)) (not (is_raw_shape (v.nodes p).disks (v.nodes p).blocks)) Size Size w v
-            (done (raw_made w p)) (done (raw_made v p)) (ap (λ (n : Node). not (is_raw_shape n.disks n.blocks)) node) twin
-            (λ _. twin_history s w v twin p (raw_set p (w.nodes p)) (raw_set p (v.nodes p)) (raw_history (w.nodes p)) (raw_history (v.nodes p)) apart
-            (ap (λ (n : Node). raw_set p n) node) (ap raw_history node))
-      ]))
-
-  made_both : (name : List ℕ) (disks blocks : ℕ) → Twin s (site_made w name disks blocks) (site_made v name disks blocks)
-  made_both name disks blocks =
-      let b : Node = bare_site name disks blocks in
-      let apart : w.sites ≡ s → ⊥ = λ (e : w.sites ≡ s). omega (arith, twin.here, e) in
-      let apart_too : v.sites ≡ s → ⊥ = λ (e : v.sites ≡ s). omega (arith, twin.here, twin.sites, e) in record {
-        sites = ap (λ (n : ℕ). n + 1) twin.sites;
-        nodes = λ i other. ap (λ (n : ℕ). updated v.nodes n b i) twin.sites ∙ place s w v twin w.nodes v.nodes w.sites b b i refl (twin.nodes i other);
-        rows = twin.rows;
-        lines = twin.lines;
-        packets = twin.packets;
-        promised = twin.promised;
-        gathering = twin.gathering;
-        here = omega (arith, twin.here);
-        name = elsewhere s w v twin (λ (x : Node). (updated v.nodes v.sites b s).name ≡ x.name) w.nodes w.sites b apart
-            (elsewhere s w v twin (λ (x : Node). x.name ≡ (w.nodes s).name) v.nodes v.sites b apart_too twin.name);
-        up = elsewhere s w v twin (λ (x : Node). x.state ≡ Up) w.nodes w.sites b apart twin.up;
-        up_too = elsewhere s w v twin (λ (x : Node). x.state ≡ Up) v.nodes v.sites b apart_too twin.up_too;
-        halted = elsewhere s w v twin (λ (x : Node). is_running x.halted ≡ false) w.nodes w.sites b apart twin.halted;
-        halted_too = elsewhere s w v twin (λ (x : Node). is_running x.halted ≡ false) v.nodes v.sites b apart_too twin.halted_too;
-      }
-
-  pub twin_site : (name : List ℕ) (disks blocks : ℕ) → Twin s (outcome_of w (Site name disks blocks)).world (outcome_of v (Site name disks blocks)).world
-  twin_site name disks blocks =
-      let names : (k : ℕ) → bytes_eq (v.nodes k).name name ≡ bytes_eq (w.nodes k).name name = λ k. elim (cases_eq k s) [
-        | inl same ↦ subst (λ (i : ℕ). bytes_eq (v.nodes i).name name ≡ bytes_eq (w.nodes i).name name) (sym same)
-            (ap (λ (xs : List ℕ). bytes_eq xs name) twin.name)
-        | inr apart ↦ ap (λ (n : Node). bytes_eq n.name name) (twin.nodes k apart)
-      ] in
-      let o : Outcome = done (site_made w name disks blocks) in
-      let r : Outcome = done (site_made v name disks blocks) in
-      let shaped_w : Outcome = unless (eqb disks 0 || ltb blocks 8) Size w o in
-      let shaped_v : Outcome = unless (eqb disks 0 || ltb blocks 8) Size v r in
-      let few_w : Outcome = unless (ltb MOST_DISKS disks) (Limit Disks MOST_DISKS) w shaped_w in
-      let few_v : Outcome = unless (ltb MOST_DISKS disks) (Limit Disks MOST_DISKS) v shaped_v in
-      both s (some_below w.sites (λ k. bytes_eq (w.nodes k).name name)) (some_below v.sites (λ k. bytes_eq (v.nodes k).name name)) (Exists name)
-      (Exists name) w v
-      (unless (leb MOST_SITES w.sites) (Limit Sites MOST_SITES) w few_w) (unless (leb MOST_SITES v.sites) (Limit Sites MOST_SITES) v few_v)
-      (some_same v.sites (λ k. bytes_eq (w.nodes k).name name) (λ k. bytes_eq (v.nodes k).name name) names ∙ ap
-      (λ (n : ℕ). some_below n (λ k. bytes_eq (w.nodes k).name name)) twin.sites) twin
-      (λ _. both s (leb MOST_SITES w.sites) (leb MOST_SITES v.sites) (Limit Sites MOST_SITES) (Limit Sites MOST_SITES) w v few_w few_v
-      (ap (λ (n : ℕ). leb MOST_SITES n) twin.sites) twin
-      (λ _. both s (ltb MOST_DISKS disks) (ltb MOST_DISKS disks) (Limit Disks MOST_DISKS) (Limit Disks MOST_DISKS) w v shaped_w shaped_v refl twin
-      (λ _. both s (eqb disks 0 || ltb blocks 8) (eqb disks 0 || ltb blocks 8) Size Size w v o r refl twin
-      (λ _. made_both name disks blocks))))
-
-  -- ---- new links
-
-  up_any : (p : ℕ) → is_up (v.nodes p).state ≡ is_up (w.nodes p).state
-  up_any p = elim (cases_eq p s) [
-    | inl same ↦ subst (λ (i : ℕ). is_up (v.nodes i).state ≡ is_up (w.nodes i).state) (sym same) (ap is_up (twin.up_too ∙ sym twin.up))
-    | inr apart ↦ ap (λ (n : Node). is_up n.state) (twin.nodes p apart)
-  ]
-
-  halts_both : (h k : Option ℕ) (o r : Outcome) → k ≡ h → Twin s o.world r.world → Twin s (unless_halted h w o).world (unless_halted k v r).world
-  halts_both None k o r e rest = subst (λ (j : Option ℕ). Twin s o.world (unless_halted j v r).world) (sym e) rest
-  halts_both (Some disk) k o r e rest = subst (λ (j : Option ℕ). Twin s w (unless_halted j v r).world) (sym e) twin
-
-  still : (u : World) (h k : Option ℕ) (o : Outcome) → is_running k ≡ false → (unless_halted h u (unless_halted k u o)).world ≡ u
-  still u None k o e = stuck u k o e
-  still u (Some disk) k o e = refl
-
-  both_work : (p q : ℕ) (o r : Outcome) → ((p ≡ s → ⊥) → (q ≡ s → ⊥) → Twin s o.world r.world)
-      → Twin s (both_at_work w p q o).world (both_at_work v p q r).world
-  both_work p q o r rest =
-      both s (not (is_up (w.nodes p).state && is_up (w.nodes q).state)) (not (is_up (v.nodes p).state && is_up (v.nodes q).state)) NotUp NotUp w v
-      (unless_halted (w.nodes p).halted w (unless_halted (w.nodes q).halted w o)) (unless_halted (v.nodes p).halted v (unless_halted (v.nodes q).halted v r))
-      (ap (λ (b : Bool). not (b && is_up (v.nodes q).state)) (up_any p) ∙ ap (λ (b : Bool). not (is_up (w.nodes p).state && b)) (up_any q)) twin
-      (λ _. elim (cases_eq p s) [
-        | inl same ↦
-            subst (λ (x : World). Twin s x (unless_halted (v.nodes p).halted v (unless_halted (v.nodes q).halted v r)).world)
-            (sym (stuck w (w.nodes p).halted (unless_halted (w.nodes q).halted w o)
-            (subst (λ (i : ℕ). is_running (w.nodes i).halted ≡ false) (sym same) twin.halted)))
-            (subst (λ (x : World). Twin s w x)
-            (sym (stuck v (v.nodes p).halted (unless_halted (v.nodes q).halted v r)
-            (subst (λ (i : ℕ). is_running (v.nodes i).halted ≡ false) (sym same) twin.halted_too))) twin)
-        | inr apart ↦ elim (cases_eq q s) [
-          | inl same ↦
-              subst (λ (x : World). Twin s x (unless_halted (v.nodes p).halted v (unless_halted (v.nodes q).halted v r)).world)
-              (sym (still w (w.nodes p).halted (w.nodes q).halted o (subst (λ (i : ℕ). is_running (w.nodes i).halted ≡ false) (sym same) twin.halted)))
-              (subst (λ (x : World). Twin s w x)
-              (sym (still v (v.nodes p).halted (v.nodes q).halted r
-              (subst (λ (i : ℕ). is_running (v.nodes i).halted ≡ false) (sym same) twin.halted_too))) twin)
-          | inr other ↦
-              halts_both (w.nodes p).halted (v.nodes p).halted (unless_halted (w.nodes q).halted w o) (unless_halted (v.nodes q).halted v r)
-              (ap (λ (n : Node). n.halted) (twin.nodes p apart))
-              (halts_both (w.nodes q).halted (v.nodes q).halted o r (ap (λ (n : Node). n.halted) (twin.nodes q other)) (rest apart other))
-        ]
-      ])
-
-  module _ (p q : ℕ) (apart : p ≡ s → ⊥) (other : q ≡ s → ⊥) where
-    here_is : v.nodes p ≡ w.nodes p
-    here_is = twin.nodes p apart
-
-    there_is : v.nodes q ≡ w.nodes q
-    there_is = twin.nodes q other
-
-    row_is : v.links p ≡ w.links p
-    row_is = twin.rows p apart
-
-    same_follows : follows v p q ≡ follows w p q
-    same_follows = ap (λ (n : Node). not (is_origin n.role) && same_line n.line (v.nodes p).line) there_is ∙ ap
-        (λ (n : Node). not (is_origin (w.nodes q).role) && same_line (w.nodes q).line n.line) here_is
-
-    same_links : links_of v p ≡ links_of w p
-    same_links = ap (λ (r : ℕ → Link). count_below v.sites (λ k. is_linked (r k))) row_is ∙ ap
-        (λ (n : ℕ). count_below n (λ k. is_linked (w.links p k))) twin.sites
-
-    same_fresh : is_fresh v q ≡ is_fresh w q
-    same_fresh =
-        ap (λ (n : Node). is_primary n.role && (is_empty n.log && not (some_below v.sites (λ k. is_linked (v.links q k))))) there_is
-        ∙ ap (λ (r : ℕ → Link). is_primary (w.nodes q).role && (is_empty (w.nodes q).log && not (some_below v.sites (λ k. is_linked (r k)))))
-        (twin.rows q other)
-        ∙ ap (λ (n : ℕ). is_primary (w.nodes q).role && (is_empty (w.nodes q).log && not (some_below n (λ k. is_linked (w.links q k))))) twin.sites
-
-    same_may : may_link v p q ≡ may_link w p q
-    same_may =
-        ap (λ (n : Node). is_primary n.role && (not (eqb q p) && (is_empty n.log && (same_line n.line (first_line p) && is_fresh v q)))) here_is
-        ∙ ap (λ (b : Bool). is_primary (w.nodes p).role && (not
-        (eqb q p) && (is_empty (w.nodes p).log && (same_line (w.nodes p).line (first_line p) && b)))) same_fresh
-
-    same_linked : is_linked (v.links p q) ≡ is_linked (w.links p q)
-    same_linked = ap (λ (r : ℕ → Link). is_linked (r q)) row_is
-
-    part_both : (sync : SyncMode) (part : LinkPart) → Twin s (link_part part w p q sync).world (link_part part v p q sync).world
-    part_both sync Joins =
-        let o : Outcome = done (emptied (with_node w q (joined (w.nodes p) p (w.nodes q))) q) in
-        let r : Outcome = done (emptied (with_node v q (joined (v.nodes p) p (v.nodes q))) q) in
-        let fit_w : Outcome = unless (not (agree (w.nodes p).volumes (w.nodes q).volumes && rings_fit (w.nodes p) (w.nodes q))) Size w o in
-        let fit_v : Outcome = unless (not (agree (v.nodes p).volumes (v.nodes q).volumes && rings_fit (v.nodes p) (v.nodes q))) Size v r in
-        let few_w : Outcome = unless (leb MOST_LINKS (links_of w p)) (Limit Links MOST_LINKS) w fit_w in
-        let few_v : Outcome = unless (leb MOST_LINKS (links_of v p)) (Limit Links MOST_LINKS) v fit_v in
-        both s (not (may_link w p q)) (not (may_link v p q)) WrongRole WrongRole w v (unless (is_linked (w.links p q)) (Exists (w.nodes q).name) w few_w)
-        (unless (is_linked (v.links p q)) (Exists (v.nodes q).name) v few_v) (ap not same_may) twin
-        (λ _. both s (is_linked (w.links p q)) (is_linked (v.links p q)) (Exists (w.nodes q).name) (Exists (v.nodes q).name) w v few_w few_v same_linked twin
-        (λ _. both s (leb MOST_LINKS (links_of w p)) (leb MOST_LINKS (links_of v p)) (Limit Links MOST_LINKS) (Limit Links MOST_LINKS) w v fit_w fit_v
-        (ap (λ (n : ℕ). leb MOST_LINKS n) same_links) twin
-        (λ _. both s (not (agree (w.nodes p).volumes (w.nodes q).volumes && rings_fit (w.nodes p) (w.nodes q)))
-        (not (agree (v.nodes p).volumes (v.nodes q).volumes && rings_fit (v.nodes p) (v.nodes q))) Size Size w v o r
-        (ap (λ (n : Node). not (agree n.volumes (v.nodes q).volumes && rings_fit n (v.nodes q))) here_is ∙ ap
-        (λ (n : Node). not (agree (w.nodes p).volumes n.volumes && rings_fit (w.nodes p) n)) there_is) twin
-        (λ _. twin_empty s (with_node w q (joined (w.nodes p) p (w.nodes q))) (with_node v q (joined (v.nodes p) p (v.nodes q))) q
-        (twin_node s w v twin q (joined (w.nodes p) p (w.nodes q)) (joined (v.nodes p) p (v.nodes q)) other
-        (ap (λ (n : Node). joined n p (v.nodes q)) here_is ∙ ap (λ (n : Node). joined (w.nodes p) p n) there_is))))))
-    part_both sync Made =
-        let l : Link = new_link (links_of w p) sync (w.nodes q) in
-        let m : Link = new_link (links_of v p) sync (v.nodes q) in
-        both s (not (is_primary (w.nodes p).role && follows w p q)) (not (is_primary (v.nodes p).role && follows v p q)) WrongRole WrongRole w v
-        (unless (is_linked (w.links p q)) (Exists (w.nodes q).name) w (done (with_link w p q l)))
-        (unless (is_linked (v.links p q)) (Exists (v.nodes q).name) v (done (with_link v p q m)))
-        (ap (λ (n : Node). not (is_primary n.role && follows v p q)) here_is ∙ ap (λ (b : Bool). not (is_primary (w.nodes p).role && b)) same_follows) twin
-        (λ _. both s (is_linked (w.links p q)) (is_linked (v.links p q)) (Exists (w.nodes q).name) (Exists (v.nodes q).name) w v (done (with_link w p q l))
-        (done (with_link v p q m)) same_linked twin
-        (λ _. twin_link s w v twin p q l m apart
-        (ap (λ (n : ℕ). new_link n sync (v.nodes q)) same_links ∙ ap (λ (n : Node). new_link (links_of w p) sync n) there_is)))
-    part_both sync Marked =
-        let marks : Node → Node = λ n. record n { mark = Consistent } in
-        both s (not (is_primary (w.nodes p).role && (follows w p q && (is_linked (w.links p q) && is_empty (w.nodes p).log))))
-        (not (is_primary (v.nodes p).role && (follows v p q && (is_linked (v.links p q) && is_empty (v.nodes p).log)))) WrongRole WrongRole w v
-        (done (with_node w q (marks (w.nodes q)))) (done (with_node v q (marks (v.nodes q))))
-        (ap (λ (n : Node). not (is_primary n.role && (follows v p q && (is_linked (v.links p q) && is_empty n.log)))) here_is
-        ∙ ap (λ (b : Bool). not (is_primary (w.nodes p).role && (b && (is_linked (v.links p q) && is_empty (w.nodes p).log)))) same_follows
-        ∙ ap (λ (b : Bool). not (is_primary (w.nodes p).role && (follows w p q && (b && is_empty (w.nodes p).log)))) same_linked) twin
-        (λ _. twin_node s w v twin q (marks (w.nodes q)) (marks (v.nodes q)) other (ap marks there_is))
-    part_both sync Opened =
-        let rest : Node → Node → Link → Bool = λ n k l. is_linked l && (is_empty n.log && (is_stale l.mode && (phase_takes k.phase && is_consistent k.mark))) in
-        both s (not (is_primary (w.nodes p).role && (follows w p q && rest (w.nodes p) (w.nodes q) (w.links p q))))
-        (not (is_primary (v.nodes p).role && (follows v p q && rest (v.nodes p) (v.nodes q) (v.links p q)))) WrongRole WrongRole w v
-        (done (with_link w p q (opened (w.links p q) (w.nodes p).safe))) (done (with_link v p q (opened (v.links p q) (v.nodes p).safe)))
-        (ap (λ (n : Node). not (is_primary n.role && (follows v p q && rest n (v.nodes q) (v.links p q)))) here_is
-        ∙ ap (λ (b : Bool). not (is_primary (w.nodes p).role && (b && rest (w.nodes p) (v.nodes q) (v.links p q)))) same_follows
-        ∙ ap (λ (n : Node). not (is_primary (w.nodes p).role && (follows w p q && rest (w.nodes p) n (v.links p q)))) there_is
-        ∙ ap (λ (r : ℕ → Link). not (is_primary (w.nodes p).role && (follows w p q && rest (w.nodes p) (w.nodes q) (r q)))) row_is) twin
-        (λ _. twin_link s w v twin p q (opened (w.links p q) (w.nodes p).safe) (opened (v.links p q) (v.nodes p).safe) apart
-        (ap (λ (n : Node). opened (v.links p q) n.safe) here_is ∙ ap (λ (r : ℕ → Link). opened (r q) (w.nodes p).safe) row_is))
-
-  pub twin_join : (p q : ℕ) (sync : SyncMode) (part : LinkPart) → Twin s (outcome_of w (LinkAt p q sync part)).world (outcome_of v (LinkAt p q sync part)).world
-  twin_join p q sync part =
-      there s w v p (at_site w q (both_at_work w p q (link_part part w p q sync))) (at_site v q (both_at_work v p q (link_part part v p q sync))) twin
-      (there s w v q (both_at_work w p q (link_part part w p q sync)) (both_at_work v p q (link_part part v p q sync)) twin
-      (both_work p q (link_part part w p q sync) (link_part part v p q sync) (λ apart other. part_both p q apart other sync part)))

@@ -18,7 +18,7 @@ use Rattle.vx_world.specs.Twins.{Twin, GoodTwin, IsAlone}
 use Rattle.vx_world.proofs.Keeping.{gather_up}
 use Rattle.vx_world.proofs.Moves.{sound_gathering}
 use Rattle.vx_world.proofs.Liking.{sound_like, fits_like}
-use Rattle.vx_world.proofs.Whole.{stopped_leaves}
+use Rattle.vx_world.proofs.KeptSites.{stopped_leaves}
 
 pub aside : {A : Type 0} (f : ℕ → A) (s : ℕ) (x : A) (i : ℕ) → (i ≡ s → ⊥) → updated f s x i ≡ f i
 aside f s x i apart = by_place (eqb i s) refl

@@ -1,17 +1,16 @@
 -- Changes that leave worlds that differ in notes alone such worlds.
-use Rattle.std.proofs.Common.{◌≡◌, ◌∙◌, ◌⊎◌, inl, inr, ℕ, zero, suc, ◌+◌, List, [], ◌++◌, ap, sym, subst, refl, Bool, true, false}
+use Rattle.std.proofs.Common.{◌≡◌, ◌∙◌, ℕ, zero, suc, ◌+◌, List, ◌++◌, ap, sym, subst, refl, Bool, true, false}
 use Rattle.std.specs.Prelude.{Option, Some, None, not, ◌&&◌, ◌||◌, eqb, leb, if◌then◌else◌}
 use Rattle.vx_model.specs.Sites.{same_line, is_up}
-use Rattle.vx_model.specs.declared.history.Line.{Line}
 use Rattle.vx_model.specs.declared.no.No.{No}
 use Rattle.vx_model.specs.declared.no.No.TheVariants.{Unknown, Role as WrongRole, Down as NotUp, LinkDown, Paused}
 use Rattle.vx_model.specs.declared.no.Named.TheVariants.{Number as ByNumber}
 use Rattle.vx_model.specs.declared.no.SiteName.TheVariants.{Number as SiteNumber}
 use Rattle.vx_model.specs.declared.site.Role.{Role}
-use Rattle.vx_history.specs.World.{Node, Link, History, Packet, Promise, Gathering, World, Fuse, updated, line_updated, with_node, with_history}
+use Rattle.vx_history.specs.World.{Node, Link, History, Packet, Promise, Gathering, World, updated, line_updated, with_node, with_history}
 use Rattle.vx_history.specs.Likes.{IsLike, SameLink}
 use Rattle.vx_history.specs.Sends.{is_made, is_linked, with_links, with_link, sending, promising}
-use Rattle.vx_history.specs.Refusals.{Outcome, says, refused, unless, unless_halted, at_site, at_work, both_at_work, on_link_if, when_live, some_below, count_below}
+use Rattle.vx_history.specs.Refusals.{Outcome, says, unless, unless_halted, at_site, at_work, both_at_work, on_link_if, when_live, some_below, count_below}
 use Rattle.vx_world.proofs.Lists.{not_false}
 use Rattle.vx_history.specs.declared.event.Said.{Said}
 use Rattle.vx_history.specs.declared.event.Said.TheVariants.{Refused}

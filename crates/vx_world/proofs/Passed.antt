@@ -7,7 +7,8 @@ use Rattle.vx_history.specs.declared.event.Event.TheVariants.{Site, Raw, Write, 
 use Rattle.vx_world.proofs.Whole.{step_good}
 use Rattle.vx_world.specs.Twins.{Twin, IsElsewhere, GoodTwin}
 use Rattle.vx_world.proofs.Twinning.{twin_tick, twin_cut, twin_pause, twin_resume, twin_pump, twin_connect, twin_set, twin_deliver, twin_fault}
-use Rattle.vx_world.proofs.Besides.{twin_site, twin_raw, twin_write, twin_read, twin_apply, twin_wait, twin_join, twin_crash, twin_recover}
+use Rattle.vx_world.proofs.BesidesLinks.{twin_site, twin_raw, twin_join}
+use Rattle.vx_world.proofs.Besides.{twin_write, twin_read, twin_apply, twin_wait, twin_crash, twin_recover}
 
 twin_outcome : (s : ℕ) (w v : World) (e : Event) → IsElsewhere s e → Twin s w v → Twin s (outcome_of w e).world (outcome_of v e).world
 twin_outcome s w v (Site name disks blocks) there twin = twin_site s w v twin name disks blocks

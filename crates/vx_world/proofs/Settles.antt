@@ -24,7 +24,7 @@ use Rattle.vx_history.specs.GoodWorld.{GoodWorld}
 use Rattle.std.specs.List.{AllByRecursion}
 use Rattle.vx_world.proofs.Lists.{prefix_length, each_weaker}
 use Rattle.vx_world.proofs.Pair.{At, Fit, places_in, itself}
-use Rattle.vx_world.proofs.Told.{connect_at, hello_at}
+use Rattle.vx_world.proofs.ToldApart.{connect_at, hello_at}
 use Rattle.vx_world.proofs.Batches.{fit_link}
 use Rattle.vx_world.proofs.Turns.{IsSmall, run_append, new_is, Sent, sends, Came, comes, Turned, closes}
 use Rattle.vx_world.proofs.Whole.{run_good}

@@ -19,7 +19,8 @@ use Rattle.vx_history.specs.Events.{applied}
 use Rattle.vx_history.specs.Step.{step, run}
 use Rattle.vx_world.specs.Settling.{deliver_each, deliver_new, delivery}
 use Rattle.vx_world.proofs.Pair.{At, Fit}
-use Rattle.vx_world.proofs.Told.{append-nil, tick_at, pump_at, pump_none, apply_none, apply_all, disk_at}
+use Rattle.vx_world.proofs.Told.{append-nil, tick_at, pump_at, pump_none, disk_at}
+use Rattle.vx_world.proofs.ToldApart.{apply_none, apply_all}
 use Rattle.vx_world.proofs.Batches.{in_new, fit_log, fit_link}
 use Rattle.vx_world.proofs.Arriving.{Arrived, Told, parts_length, updates_any, acks_any}
 

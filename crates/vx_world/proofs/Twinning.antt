@@ -1,245 +1,46 @@
 -- What events of other sites make of two worlds that differ in one halted site and its links alone.
 use Rattle.vx_model.specs.Sites.{is_origin, is_up, same_line}
-use Rattle.std.proofs.Common.{◌≡◌, ◌∙◌, inl, inr, ℕ, List, [], ◌++◌, ap, sym, subst, refl, Bool, true, false}
-use Rattle.std.specs.Prelude.{Option, Some, None, not, ◌&&◌, eqb, leb, if◌then◌else◌}
+use Rattle.std.proofs.Common.{◌≡◌, ◌∙◌, inl, inr, ℕ, List, [], ap, sym, subst, refl, Bool, true, false}
+use Rattle.std.specs.Prelude.{Option, Some, None, not, ◌&&◌, eqb, if◌then◌else◌}
 use Rattle.std.proofs.lemmas.Bool.{cases_eq}
 use Rattle.vx_model.specs.Content.{Write}
 use Rattle.vx_history.specs.Events.{link_event, link_step, facts_of, greets, greeting_back, packet_at, delivered, handed, gathers, gathered_if, is_taken, taken_if, heard, link_heard, update_heard, update_taken, from_memory, with_write, said_of_link}
 use Rattle.vx_history.specs.LinkForms.{plain_link, with_plain, plain_receiver}
 use Rattle.vx_history.specs.Receiving.{received_step}
-use Rattle.vx_history.specs.Refusals.{Outcome, says, unless, unless_halted, at_site, at_work, on_link_if, when_live, is_running, keeps_links}
+use Rattle.vx_history.specs.Refusals.{Outcome, says, unless, when_live, is_running, keeps_links}
 use Rattle.vx_history.specs.Sending.{Sent, sent_step}
-use Rattle.vx_history.specs.Sends.{is_linked, with_links, with_link, sending, promising, sent_by, packets_of, greeting}
+use Rattle.vx_history.specs.Sends.{is_linked, with_link, sending, sent_by, packets_of, greeting}
 use Rattle.vx_history.specs.Step.{outcome_of, done}
 use Rattle.vx_history.specs.Steps.{stopped_by, burned}
-use Rattle.vx_history.specs.World.{Node, Link, Packet, Promise, Gathering, World, Message, Hello, Update, NetAck, DataAck, updated, with_node}
-use Rattle.vx_history.proofs.Updates.{eqb_equal}
+use Rattle.vx_history.specs.World.{Node, Link, Packet, Gathering, World, Message, Hello, Update, NetAck, DataAck, with_node}
 use Rattle.vx_history.specs.declared.event.Event.TheVariants.{Pump, Tick, Deliver, Connect, Cut, Pause, Resume, Set, Fault}
 use Rattle.vx_history.specs.declared.event.Said.{Said}
-use Rattle.vx_history.specs.declared.event.Said.TheVariants.{Ignored as IsIgnored, Taken as IsTaken, Refused}
+use Rattle.vx_history.specs.declared.event.Said.TheVariants.{Ignored as IsIgnored, Refused}
 use Rattle.vx_model.specs.declared.link.SyncMode.{SyncMode}
 use Rattle.vx_model.specs.declared.link.Prot.TheVariants.{Fail as FailsWhenFull}
-use Rattle.vx_model.specs.declared.no.No.{No}
-use Rattle.vx_model.specs.declared.no.No.TheVariants.{Unknown, Role as WrongRole, Down as NotUp, LinkDown, Paused, Device}
-use Rattle.vx_model.specs.declared.no.Named.TheVariants.{Number as ByNumber}
+use Rattle.vx_model.specs.declared.no.No.TheVariants.{Down as NotUp, LinkDown, Paused, Device}
 use Rattle.vx_model.specs.declared.no.SiteName.TheVariants.{Number as SiteNumber}
 use Rattle.vx_history.specs.declared.receiver.RAction.{RAction}
 use Rattle.vx_history.specs.declared.receiver.RAction.TheVariants as act
 use Rattle.vx_history.specs.declared.receiver.REvent.TheVariants.{Update as HearUpdate}
 use Rattle.vx_history.specs.declared.sender.SEvent.{SEvent}
 use Rattle.vx_history.specs.declared.sender.SEvent.TheVariants.{Pump as PumpLink, Tick as TickLink, Connect as ConnectLink, Cut as CutLink, Pause as PauseLink, Resume as ResumeLink, Hello as HearHello, NetAck as HearNetAck, DataAck as HearDataAck}
-use Rattle.vx_model.specs.declared.site.Role.{Role}
 use Rattle.vx_model.specs.declared.site.SiteState.{SiteState}
 use Rattle.vx_model.specs.declared.site.SiteState.TheVariants.{Up}
 use Rattle.vx_history.specs.Gatherings.{completes, left_by}
 use Rattle.vx_world.specs.Twins.{Twin}
-
--- ---- tests side by side
-
-pub not_both : (b : Bool) → b ≡ true → b ≡ false → ⊥
-not_both true e f = let g : true ≡ false = f in cc
-not_both false e f = let g : false ≡ true = e in cc
-
-pub both : (s : ℕ) (b c : Bool) (why how : No) (w v : World) (o r : Outcome) → c ≡ b → Twin s w v → (b ≡ false → Twin s o.world r.world)
-    → Twin s (unless b why w o).world (unless c how v r).world
-both s true true why how w v o r same twin rest = twin
-both s false false why how w v o r same twin rest = rest refl
-both s true false why how w v o r same twin rest = absurd (not_both true refl (sym same))
-both s false true why how w v o r same twin rest = absurd (not_both false (sym same) refl)
-
-pub stuck : (w : World) (h : Option ℕ) (o : Outcome) → is_running h ≡ false → (unless_halted h w o).world ≡ w
-stuck w None o e = absurd (not_both true refl e)
-stuck w (Some disk) o e = refl
-
--- a site at work is another one
-pub works : (s : ℕ) (w v : World) (p : ℕ) (o r : Outcome) → Twin s w v → ((p ≡ s → ⊥) → Twin s o.world r.world)
-    → Twin s (at_work w p o).world (at_work v p r).world
-works s w v p o r twin rest = elim (cases_eq p s) [
-  | inl same ↦
-      subst (λ (i : ℕ). Twin s (at_work w i o).world (at_work v i r).world) (sym same)
-      (both s (not (is_up (w.nodes s).state)) (not (is_up (v.nodes s).state)) NotUp NotUp w v (unless_halted (w.nodes s).halted w o)
-      (unless_halted (v.nodes s).halted v r)
-      (ap (λ (t : SiteState). not (is_up t)) (twin.up_too ∙ sym twin.up)) twin
-      (λ _. subst (λ (x : World). Twin s x (unless_halted (v.nodes s).halted v r).world) (sym (stuck w (w.nodes s).halted o twin.halted))
-      (subst (λ (x : World). Twin s w x) (sym (stuck v (v.nodes s).halted r twin.halted_too)) twin)))
-  | inr apart ↦
-      both s (not (is_up (w.nodes p).state)) (not (is_up (v.nodes p).state)) NotUp NotUp w v (unless_halted (w.nodes p).halted w o)
-      (unless_halted (v.nodes p).halted v r)
-      (ap (λ (n : Node). not (is_up n.state)) (twin.nodes p apart)) twin
-      (λ _. halts (w.nodes p).halted (v.nodes p).halted (ap (λ (n : Node). n.halted) (twin.nodes p apart)) (rest apart))
-]
-  where
-    halts : (h k : Option ℕ) → k ≡ h → Twin s o.world r.world → Twin s (unless_halted h w o).world (unless_halted k v r).world
-    halts None k e done = subst (λ (j : Option ℕ). Twin s o.world (unless_halted j v r).world) (sym e) done
-    halts (Some disk) k e done = subst (λ (j : Option ℕ). Twin s w (unless_halted j v r).world) (sym e) twin
-
-pub there : (s : ℕ) (w v : World) (p : ℕ) (o r : Outcome) → Twin s w v → Twin s o.world r.world → Twin s (at_site w p o).world (at_site v p r).world
-there s w v p o r twin rest = both s (leb w.sites p) (leb v.sites p) (Unknown (ByNumber p)) (Unknown (ByNumber p)) w v o r
-    (ap (λ (k : ℕ). leb k p) twin.sites) twin (λ _. rest)
-
-pub linked : (s : ℕ) (test : Role → Bool) (w v : World) (p q : ℕ) (o r : Outcome) → Twin s w v → ((p ≡ s → ⊥) → Twin s o.world r.world)
-    → Twin s (on_link_if test w p q o).world (on_link_if test v p q r).world
-linked s test w v p q o r twin rest =
-    let role_w = unless (not (is_linked (w.links p q))) (Unknown (ByNumber q)) w o in
-    let role_v = unless (not (is_linked (v.links p q))) (Unknown (ByNumber q)) v r in
-    let work_w = unless (not (test (w.nodes p).role)) WrongRole w role_w in
-    let work_v = unless (not (test (v.nodes p).role)) WrongRole v role_v in
-    there s w v p (at_site w q (at_work w p work_w)) (at_site v q (at_work v p work_v)) twin
-    (there s w v q (at_work w p work_w) (at_work v p work_v) twin
-    (works s w v p work_w work_v twin
-    (λ apart. both s (not (test (w.nodes p).role)) (not (test (v.nodes p).role)) WrongRole WrongRole w v role_w role_v
-    (ap (λ (n : Node). not (test n.role)) (twin.nodes p apart)) twin
-    (λ _. both s (not (is_linked (w.links p q))) (not (is_linked (v.links p q))) (Unknown (ByNumber q)) (Unknown (ByNumber q)) w v o r
-    (ap (λ (row : ℕ → Link). not (is_linked (row q))) (twin.rows p apart)) twin
-    (λ _. rest apart)))))
-
--- ---- changes side by side
-
-module _ (s : ℕ) (w v : World) (twin : Twin s w v) where
-  pub place : {A : Type 0} (f g : ℕ → A) (p : ℕ) (x y : A) (i : ℕ) → y ≡ x → g i ≡ f i → updated g p y i ≡ updated f p x i
-  place f g p x y i here rest = ap (λ z. if eqb i p then z else g i) here ∙ ap (λ z. if eqb i p then x else z) rest
-
-  pub twin_sending : (ps qs : List Packet) → qs ≡ ps → Twin s (sending w ps) (sending v qs)
-  twin_sending ps qs e = record {
-    sites = twin.sites;
-    nodes = twin.nodes;
-    rows = twin.rows;
-    lines = twin.lines;
-    packets = ap (λ (xs : List Packet). v.packets ++ xs) e ∙ ap (λ (xs : List Packet). xs ++ ps) twin.packets;
-    promised = twin.promised;
-    gathering = twin.gathering;
-    here = twin.here;
-    name = twin.name;
-    up = twin.up;
-    up_too = twin.up_too;
-    halted = twin.halted;
-    halted_too = twin.halted_too;
-  }
-
-  pub twin_promising : (es fs : List Promise) → fs ≡ es → Twin s (promising w es) (promising v fs)
-  twin_promising es fs e = record {
-    sites = twin.sites;
-    nodes = twin.nodes;
-    rows = twin.rows;
-    lines = twin.lines;
-    packets = twin.packets;
-    promised = ap (λ (xs : List Promise). v.promised ++ xs) e ∙ ap (λ (xs : List Promise). xs ++ es) twin.promised;
-    gathering = twin.gathering;
-    here = twin.here;
-    name = twin.name;
-    up = twin.up;
-    up_too = twin.up_too;
-    halted = twin.halted;
-    halted_too = twin.halted_too;
-  }
-
-  pub twin_row : (p : ℕ) (row more : ℕ → Link) → (p ≡ s → ⊥) → more ≡ row → Twin s (with_links w p row) (with_links v p more)
-  twin_row p row more apart e = record {
-    sites = twin.sites;
-    nodes = twin.nodes;
-    rows = λ i other. place w.links v.links p row more i e (twin.rows i other);
-    lines = twin.lines;
-    packets = twin.packets;
-    promised = twin.promised;
-    gathering = twin.gathering;
-    here = twin.here;
-    name = twin.name;
-    up = twin.up;
-    up_too = twin.up_too;
-    halted = twin.halted;
-    halted_too = twin.halted_too;
-  }
-
-  pub twin_link : (p q : ℕ) (l m : Link) → (p ≡ s → ⊥) → m ≡ l → Twin s (with_link w p q l) (with_link v p q m)
-  twin_link p q l m apart e =
-      twin_row p (updated (w.links p) q l) (updated (v.links p) q m) apart
-      (ap (λ (k : Link). updated (v.links p) q k) e ∙ ap (λ (row : ℕ → Link). updated row q l) (twin.rows p apart))
-
-  pub elsewhere : {A : Type 0} (P : A → Type 0) (f : ℕ → A) (p : ℕ) (x : A) → (p ≡ s → ⊥) → P (f s) → P (updated f p x s)
-  elsewhere P f p x apart h = by_place (eqb s p) refl
-    where
-      by_place : (b : Bool) → eqb s p ≡ b → P (if b then x else f s)
-      by_place true e = absurd (apart (sym (eqb_equal s p e)))
-      by_place false e = h
-
-  pub twin_node : (p : ℕ) (n k : Node) → (p ≡ s → ⊥) → k ≡ n → Twin s (with_node w p n) (with_node v p k)
-  twin_node p n k apart e = record {
-    sites = twin.sites;
-    nodes = λ i other. place w.nodes v.nodes p n k i e (twin.nodes i other);
-    rows = twin.rows;
-    lines = twin.lines;
-    packets = twin.packets;
-    promised = twin.promised;
-    gathering = twin.gathering;
-    here = twin.here;
-    name = elsewhere (λ (x : Node). (updated v.nodes p k s).name ≡ x.name) w.nodes p n apart
-        (elsewhere (λ (x : Node). x.name ≡ (w.nodes s).name) v.nodes p k apart twin.name);
-    up = elsewhere (λ (x : Node). x.state ≡ Up) w.nodes p n apart twin.up;
-    up_too = elsewhere (λ (x : Node). x.state ≡ Up) v.nodes p k apart twin.up_too;
-    halted = elsewhere (λ (x : Node). is_running x.halted ≡ false) w.nodes p n apart twin.halted;
-    halted_too = elsewhere (λ (x : Node). is_running x.halted ≡ false) v.nodes p k apart twin.halted_too;
-  }
-
--- ---- what is said of a packet
-
-abbrev said_of_taken : RAction → Said
-said_of_taken act.Nothing = IsIgnored
-said_of_taken act.Ignored = IsIgnored
-said_of_taken (act.IgnoredAck number) = IsIgnored
-said_of_taken (act.Take number) = IsTaken
-said_of_taken (act.DataAck number) = IsIgnored
-
-abbrev say_of_link : Packet → Node → Link → SEvent → Said
-say_of_link p n l e = if keeps_links n.role && is_linked l then said_of_link (sent_step (plain_link p.source l) e (facts_of n p.line)).action else IsIgnored
-
-abbrev say_of_message : Packet → Node → Link → Message → Said
-say_of_message p n l (Hello session number stored) = say_of_link p n l (HearHello session number stored)
-say_of_message p n l (Update number x) = if is_origin n.role then IsIgnored else said_of_taken
-    (received_step (plain_receiver n) (HearUpdate p.line number)).action
-say_of_message p n l (NetAck session number) = say_of_link p n l (HearNetAck session number)
-say_of_message p n l (DataAck number) = say_of_link p n l (HearDataAck number)
-
-abbrev say_of : Packet → Node → Link → Said
-say_of p n l = if is_up n.state && is_running n.halted then say_of_message p n l p.message else IsIgnored
-
-either_said : (b : Bool) (o r : Outcome) → (if b then o else r).said ≡ (if b then o.said else r.said)
-either_said true o r = refl
-either_said false o r = refl
-
-taken_said : (u : World) (p : Packet) (x : Write) (a : RAction) → (update_taken u p x a).said ≡ said_of_taken a
-taken_said u p x act.Nothing = refl
-taken_said u p x act.Ignored = refl
-taken_said u p x (act.IgnoredAck number) = refl
-taken_said u p x (act.Take number) = by_whole (completes (u.gathering p.target) p)
-  where
-    by_whole : (b : Bool) → (taken_if b u p x number).said ≡ IsTaken
-    by_whole true = refl
-    by_whole false = refl
-taken_said u p x (act.DataAck number) = refl
-
-heard_said : (u : World) (p : Packet) (m : Message) → (heard u p m).said ≡ say_of_message p (u.nodes p.target) (u.links p.target p.source) m
-heard_said u p (Hello session number stored) = either_said (keeps_links (u.nodes p.target).role && is_linked (u.links p.target p.source)) _ (says u IsIgnored)
-heard_said u p (Update number x) =
-    let a : RAction = (received_step (plain_receiver (u.nodes p.target)) (HearUpdate p.line number)).action in
-    either_said (is_origin (u.nodes p.target).role) (says u IsIgnored) (update_taken u p x a) ∙ ap
-    (λ (t : Said). if is_origin (u.nodes p.target).role then IsIgnored else t) (taken_said u p x a)
-heard_said u p (NetAck session number) = either_said (keeps_links (u.nodes p.target).role && is_linked (u.links p.target p.source)) _ (says u IsIgnored)
-heard_said u p (DataAck number) = either_said (keeps_links (u.nodes p.target).role && is_linked (u.links p.target p.source)) _ (says u IsIgnored)
-
-handed_said : (u : World) (p : Packet) → (handed u p).said ≡ say_of p (u.nodes p.target) (u.links p.target p.source)
-handed_said u p =
-    let open_now : Bool = is_up (u.nodes p.target).state && is_running (u.nodes p.target).halted in
-    either_said open_now (heard u p p.message) (says u IsIgnored) ∙ ap (λ (t : Said). if open_now then t else IsIgnored) (heard_said u p p.message)
+use Rattle.vx_world.proofs.TwinTests.{not_both, both, there, linked}
+use Rattle.vx_world.proofs.TwinChanges.{twin_sending, twin_link, twin_node, say_of, handed_said}
 
 -- ---- events side by side
 
 module _ (s : ℕ) (w v : World) (twin : Twin s w v) where
-  same_step : (p q : ℕ) (e : SEvent) → (p ≡ s → ⊥) → link_step v p q e ≡ link_step w p q e
+  pub same_step : (p q : ℕ) (e : SEvent) → (p ≡ s → ⊥) → link_step v p q e ≡ link_step w p q e
   same_step p q e apart =
       ap (λ (row : ℕ → Link). sent_step (plain_link q (row q)) e (facts_of (v.nodes p) (v.nodes p).line)) (twin.rows p apart)
       ∙ ap (λ (n : Node). sent_step (plain_link q (w.links p q)) e (facts_of n n.line)) (twin.nodes p apart)
 
-  event : (p q : ℕ) (e : SEvent) → (p ≡ s → ⊥) → Twin s (link_event w p q e) (link_event v p q e)
+  pub event : (p q : ℕ) (e : SEvent) → (p ≡ s → ⊥) → Twin s (link_event w p q e) (link_event v p q e)
   event p q e apart =
       let r : Sent = link_step w p q e in
       let t : Sent = link_step v p q e in
@@ -274,15 +75,15 @@ module _ (s : ℕ) (w v : World) (twin : Twin s w v) where
       (λ _. both s (w.links p q).paused (v.links p q).paused Paused Paused w v o r
       (ap (λ (row : ℕ → Link). (row q).paused) (twin.rows p apart)) twin (λ _. event p q PumpLink apart)))
 
-  unmoved : (a b : Node) → b.state ≡ Up → is_running b.halted ≡ false → greets a b ≡ false
+  pub unmoved : (a b : Node) → b.state ≡ Up → is_running b.halted ≡ false → greets a b ≡ false
   unmoved a b up halted =
       ap (λ (t : SiteState). is_up t && (is_running b.halted && (not (is_origin b.role) && same_line b.line a.line))) up
       ∙ ap (λ (t : Bool). t && (not (is_origin b.role) && same_line b.line a.line)) halted
 
-  greets_so : (u : World) (p q : ℕ) (b : Bool) → greets (u.nodes p) (u.nodes q) ≡ b → greeting_back u p q ≡ (if b then greeting q p (u.nodes q) else [])
+  pub greets_so : (u : World) (p q : ℕ) (b : Bool) → greets (u.nodes p) (u.nodes q) ≡ b → greeting_back u p q ≡ (if b then greeting q p (u.nodes q) else [])
   greets_so u p q b e = ap (λ (t : Bool). if t then greeting q p (u.nodes q) else []) e
 
-  same_greeting : (p q : ℕ) → (p ≡ s → ⊥) → greeting_back v p q ≡ greeting_back w p q
+  pub same_greeting : (p q : ℕ) → (p ≡ s → ⊥) → greeting_back v p q ≡ greeting_back w p q
   same_greeting p q apart = elim (cases_eq q s) [
     | inl same ↦
         subst (λ (i : ℕ). greeting_back v p i ≡ greeting_back w p i) (sym same)
@@ -317,7 +118,7 @@ module _ (s : ℕ) (w v : World) (twin : Twin s w v) where
   one_of true false o r x y e first second = absurd (not_both true refl (sym e))
   one_of false true o r x y e first second = absurd (not_both false (sym e) refl)
 
-  heard_link : (p : Packet) (e : SEvent) → (p.target ≡ s → ⊥) → Twin s (link_heard w p e).world (link_heard v p e).world
+  pub heard_link : (p : Packet) (e : SEvent) → (p.target ≡ s → ⊥) → Twin s (link_heard w p e).world (link_heard v p e).world
   heard_link p e apart =
       let l : Link = w.links p.target p.source in
       let m : Link = v.links p.target p.source in
@@ -335,12 +136,12 @@ module _ (s : ℕ) (w v : World) (twin : Twin s w v) where
       (ap (λ (x : Sent). with_plain m x.link) same ∙ ap (λ (k : Link). with_plain k r.link) links))
       twin
 
-  from_both : (w' v' : World) → Twin s w' v' → (n k : Node) (p : Packet) (number : ℕ) → k ≡ n → Twin s (from_memory w' n p number) (from_memory v' k p number)
+  pub from_both : (w' v' : World) → Twin s w' v' → (n k : Node) (p : Packet) (number : ℕ) → k ≡ n → Twin s (from_memory w' n p number) (from_memory v' k p number)
   from_both w' v' twin' n k p number e =
       twin_sending s w' v' twin' (packets_of p.target p.source n.line (NetAck n.session number)) (packets_of p.target p.source k.line (NetAck k.session number))
       (ap (λ (m : Node). packets_of p.target p.source m.line (NetAck m.session number)) e)
 
-  taken_both : (p : Packet) (x : Write) (a : RAction) → (p.target ≡ s → ⊥) → Twin s (update_taken w p x a).world (update_taken v p x a).world
+  pub taken_both : (p : Packet) (x : Write) (a : RAction) → (p.target ≡ s → ⊥) → Twin s (update_taken w p x a).world (update_taken v p x a).world
   taken_both p x act.Nothing apart = twin
   taken_both p x act.Ignored apart = twin
   taken_both p x (act.IgnoredAck number) apart = from_both w v twin (w.nodes p.target) (v.nodes p.target) p number (twin.nodes p.target apart)
@@ -359,7 +160,7 @@ module _ (s : ℕ) (w v : World) (twin : Twin s w v) where
       by_whole false whole = twin
   taken_both p x (act.DataAck number) apart = twin
 
-  heard_update : (p : Packet) (number : ℕ) (x : Write) → (p.target ≡ s → ⊥) → Twin s (update_heard w p number x).world (update_heard v p number x).world
+  pub heard_update : (p : Packet) (number : ℕ) (x : Write) → (p.target ≡ s → ⊥) → Twin s (update_heard w p number x).world (update_heard v p number x).world
   heard_update p number x apart =
       let rule : Node → RAction = λ n. (received_step (plain_receiver n) (HearUpdate p.line number)).action in
       one_of (is_origin (w.nodes p.target).role) (is_origin (v.nodes p.target).role) (says w IsIgnored) (says v IsIgnored)
@@ -368,21 +169,21 @@ module _ (s : ℕ) (w v : World) (twin : Twin s w v) where
       (subst (λ (a : RAction). Twin s (update_taken w p x (rule (w.nodes p.target))).world (update_taken v p x a).world)
       (sym (ap rule (twin.nodes p.target apart))) (taken_both p x (rule (w.nodes p.target)) apart))
 
-  heard_both : (p : Packet) (m : Message) → (p.target ≡ s → ⊥) → Twin s (heard w p m).world (heard v p m).world
+  pub heard_both : (p : Packet) (m : Message) → (p.target ≡ s → ⊥) → Twin s (heard w p m).world (heard v p m).world
   heard_both p (Hello session number stored) apart = heard_link p (HearHello session number stored) apart
   heard_both p (Update number x) apart = heard_update p number x apart
   heard_both p (NetAck session number) apart = heard_link p (HearNetAck session number) apart
   heard_both p (DataAck number) apart = heard_link p (HearDataAck number) apart
 
-  off : (u : World) (n : Node) (o x : Outcome) → is_running n.halted ≡ false → n.state ≡ Up → (if is_up n.state && is_running n.halted then o else x) ≡ x
+  pub off : (u : World) (n : Node) (o x : Outcome) → is_running n.halted ≡ false → n.state ≡ Up → (if is_up n.state && is_running n.halted then o else x) ≡ x
   off u n o x halted up = ap (λ (t : SiteState). if is_up t && is_running n.halted then o else x) up ∙ ap (λ (t : Bool). if t then o else x) halted
 
-  said_both : (p : Packet) → (p.target ≡ s → ⊥) → (handed v p).said ≡ (handed w p).said
+  pub said_both : (p : Packet) → (p.target ≡ s → ⊥) → (handed v p).said ≡ (handed w p).said
   said_both p apart =
       handed_said v p ∙ ap (λ (n : Node). say_of p n (v.links p.target p.source)) (twin.nodes p.target apart) ∙ ap
       (λ (row : ℕ → Link). say_of p (w.nodes p.target) (row p.source)) (twin.rows p.target apart) ∙ sym (handed_said w p)
 
-  gathers_both : (p : Packet) (o r : Outcome) → r.said ≡ o.said → Twin s o.world r.world → Twin s (gathers p o).world (gathers p r).world
+  pub gathers_both : (p : Packet) (o r : Outcome) → r.said ≡ o.said → Twin s o.world r.world → Twin s (gathers p o).world (gathers p r).world
   gathers_both p o r same t = subst (λ (x : Said). Twin s (gathered_if (is_taken o.said) o.world p) (gathered_if (is_taken x) r.world p)) (sym same)
       (by_taken (is_taken o.said))
     where
@@ -405,7 +206,7 @@ module _ (s : ℕ) (w v : World) (twin : Twin s w v) where
       }
       by_taken false = t
 
-  handed_both : (p : Packet) → Twin s (gathers p (handed w p)).world (gathers p (handed v p)).world
+  pub handed_both : (p : Packet) → Twin s (gathers p (handed w p)).world (gathers p (handed v p)).world
   handed_both p = elim (cases_eq p.target s) [
     | inl same ↦
         subst (λ (o : Outcome). Twin s (gathers p o).world (gathers p (handed v p)).world)
@@ -422,7 +223,7 @@ module _ (s : ℕ) (w v : World) (twin : Twin s w v) where
         (ap (λ (n : Node). is_up n.state && is_running n.halted) (twin.nodes p.target apart)) (heard_both p p.message apart) twin)
   ]
 
-  delivered_both : (number : ℕ) (o : Option Packet) → Twin s (delivered w number o).world (delivered v number o).world
+  pub delivered_both : (number : ℕ) (o : Option Packet) → Twin s (delivered w number o).world (delivered v number o).world
   delivered_both number None = twin
   delivered_both number (Some p) = handed_both p
 
