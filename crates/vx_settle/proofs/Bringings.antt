@@ -33,14 +33,14 @@ pub among-one : {A : Type 0} (x y : A) → Among x (y ∷ []) → y ≡ x
 among-one x y (zero, e) = cc e
 among-one x y (suc i, e) = absurd (cc e)
 
-pub job-is : (j : Job) (said : Said) (ask : Ask) (other : Said) → Among {A = Ask × Said} (ask, other) ((Charged j, said) ∷ []) → IsJob ask
-job-is j said ask other m = let e : (Charged j, said) ≡ (ask, other) = among-one {A = Ask × Said} (ask, other) (Charged j, said) m in subst IsJob (ap (λ (x : Ask × Said). x.0) e) tt
+pub job-is : (j : Job) (r : JobReply) (into : Update) (ask : Ask) (other : Said) → Among {A = Ask × Said} (ask, other) ((Charged j, Worked r into) ∷ []) → IsJob ask other
+job-is j r into ask other m = let e : (Charged j, Worked r into) ≡ (ask, other) = among-one {A = Ask × Said} (ask, other) (Charged j, Worked r into) m in subst (λ (x : Ask × Said). IsJob x.0 x.1) e tt
 
 abbrev pub job-moves : (s : State) (j : Job) (r : JobReply) (into : Update) (t : State) → Acts s (Charged j) (Worked r into) t → Moves s t
 job-moves s j r into t a = record {
   more = (Charged j, Worked r into) ∷ [];
   trail = a.trail_is;
-  jobs = job-is j (Worked r into);
+  jobs = job-is j r into;
   rises = a.rises;
   halts = a.halts;
   line = a.line_is;

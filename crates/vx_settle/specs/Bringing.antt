@@ -23,9 +23,10 @@ use Rattle.vx_settle.specs.Peers.{LiesIn, Goes}
 abbrev pub Events : Type 0
 Events = List (Ask × Said)
 
-abbrev pub IsJob : Ask → Type 0
-IsJob (Charged j) = Unit {0}
-IsJob (Ordered call) = ⊥
+-- a job, and its reply
+abbrev pub IsJob : Ask → Said → Type 0
+IsJob (Charged j) (Worked reply into) = Unit {0}
+IsJob ask said = ⊥
 
 -- the peer's link is one of the engine's
 abbrev pub HasLink : State → Stand → Type 0
@@ -38,7 +39,7 @@ HaveLinks {P} stand s ps = (i : ℕ) (p : P) → slice_get ps i ≡ Some p → H
 pub record Moves (s t : State) : Type 0 where
   pub more : Events
   pub trail : t.trail ≡ s.trail ++ more
-  pub jobs : (ask : Ask) (said : Said) → Among (ask, said) more → IsJob ask
+  pub jobs : (ask : Ask) (said : Said) → Among (ask, said) more → IsJob ask said
   pub rises : Rises s.counts t.counts
   pub halts : t.halted ≡ true → (s.halted ≡ true) ⊎ Rose s.counts.faults t.counts.faults
   pub line : t.line ≡ s.line

@@ -5,6 +5,7 @@
 
 mod ask;
 mod engine;
+mod limits;
 mod meaning;
 mod opening;
 mod origin;
@@ -17,6 +18,7 @@ mod view;
 
 pub use ask::{Ask, Job, JobReply, Said};
 pub use engine::Engine;
+pub use limits::MOST_CALLERS;
 pub use meaning::{Counts, Entry, State};
 pub use passes::{Pass, Passes};
 pub use slot::{Last, Opening, Slot};

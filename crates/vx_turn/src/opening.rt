@@ -4,6 +4,7 @@ ghost use Rattle.vx_turn.specs.Passing.{AreLeft, AreDealt, Pops, table_of, first
 ghost use Rattle.vx_turn.specs.Turning.{first_view};
 
 use crate::engine::Engine;
+use crate::limits::MOST_CALLERS;
 use crate::passes::{Pass, Passes};
 use crate::rule::Deal;
 use crate::slot::{Last, Opening, Slot};
@@ -38,14 +39,14 @@ impl<E: Engine> Turn<E> {
         left
     }
 
-    /// A turn over an engine that is not halted, with the passes of 1 to 64 callers. All memory that a turn takes is taken here. Without
+    /// A turn over an engine that is not halted, with the passes of at least one caller. All memory that a turn takes is taken here. Without
     /// it the engine comes back as it was.
     pub fn new(
         alloc: Global,
         engine: E,
         callers: u32,
     ) -> Result<(Turn<E>, Passes), (E, OutOfMemory)>
-        requires callers { (0 < callers) × (callers ≤ 64) }
+        requires callers { (0 < callers) × (callers ≤ MOST_CALLERS) }
         requires runs { (E.state engine).halted ≡ false }
         ensures ok { IfOk result (λ t. AreDealt (table_of t.0) (E.state engine) callers callers t.1) }
         ensures first { IfOk result (λ t. first_of t.0 ≡ engine) }

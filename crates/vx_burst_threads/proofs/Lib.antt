@@ -1,0 +1,5 @@
+pub mod Making
+pub mod Draining
+pub mod Layings
+pub mod Joining
+pub mod Crossing

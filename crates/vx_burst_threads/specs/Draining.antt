@@ -1,0 +1,41 @@
+-- What a link's worker has done.
+use Rattle.std.specs.Prelude.{◌≡◌, ◌⊎◌, ℕ, ◌<◌, ◌≤◌, List, [], ◌∷◌, ◌++◌, length}
+use Rattle.vx_model.specs.declared.call.Update.{Update}
+use Rattle.vx_turn.specs.declared.ask.Ask.{Ask}
+use Rattle.vx_turn.specs.declared.ask.Ask.TheVariants.{Ordered, Charged}
+use Rattle.vx_turn.specs.declared.ask.Job.TheVariants.{Acked}
+use Rattle.vx_turn.specs.declared.meaning.Entry.{Entry}
+use Rattle.vx_turn.specs.declared.passes.Pass.{Pass}
+use Rattle.vx_turn.specs.Acting.{Among}
+use Rattle.vx_turn.specs.History.{HasLogged}
+use Rattle.vx_turn.specs.Passing.{seen_of, start_of}
+use Rattle.vx_settle.specs.declared.peer.Stand.{Stand}
+use Rattle.vx_settle.specs.Peers.{Goes}
+use Rattle.vx_burst_threads.specs.declared.drainer.Drainer.{Drainer}
+use Rattle.vx_burst_threads.specs.Writing.{Keeps}
+
+-- the peer's link is one of the engine's
+abbrev pub IsLinked : Pass → Stand → Type 0
+IsLinked p a = a.link < length (start_of p).nets
+
+-- a worker does jobs alone, and acknowledges for its peer's link what is not above the peer's numbers
+abbrev pub JobFits : Stand → Ask → Type 0
+JobFits a (Charged (Acked link net stored)) = (link ≡ a.link) × (net ≤ a.net) × (stored ≤ a.stored)
+JobFits a (Ordered call) = ⊥
+JobFits a ask = Unit {0}
+
+-- so is each entry of this caller
+abbrev pub JobsFit : List Entry → ℕ → Stand → Type 0
+JobsFit log by a = (e : Entry) → Among e log → e.caller ≡ by → JobFits a e.ask
+
+-- the worker went on: what its peer got was logged in what it has seen, or kept at the start
+pub record Drained (p : Pass) (a : Stand) (q : Pass) (b : Stand) : Type 0 where
+  pub keeps : Keeps p q
+  pub goes : Goes a b
+  pub got : List Update
+  pub handed : b.handed ≡ a.handed ++ got
+  pub from : (u : Update) → Among u got → Among u (start_of q).kept ⊎ HasLogged (start_of q).line (seen_of q) u
+  pub jobs : JobsFit (seen_of p) p.number a → JobsFit (seen_of q) q.number b
+
+abbrev pub DrainedWith : {P : Type 0} → (P → Stand) → (P → P) → Drainer P → Drainer P → Type 0
+DrainedWith stand root w x = Drained w.pass (stand w.peer) x.pass (stand x.peer) × (root x.peer ≡ root w.peer)
