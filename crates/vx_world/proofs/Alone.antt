@@ -30,14 +30,14 @@ use Rattle.vx_world.specs.Twins.{IsAlone}
 use Rattle.vx_world.proofs.Halving.{aside}
 
 module _ (w : World) (s : ℕ) (up : (w.nodes s).state ≡ Up) where
-  same : IsAlone s w w
+  pub same : IsAlone s w w
   same = record { sites = refl; nodes = λ _ _. refl; rows = λ _ _. refl; lines = refl; packets = refl; promised = refl; gathering = λ _ _. refl; name = refl; up = up }
 
-  tested : (b : Bool) (why : No) (o : Outcome) → IsAlone s w o.world → IsAlone s w (unless b why w o).world
+  pub tested : (b : Bool) (why : No) (o : Outcome) → IsAlone s w o.world → IsAlone s w (unless b why w o).world
   tested true why o is = same
   tested false why o is = is
 
-  runs : (h : Option ℕ) (o : Outcome) → IsAlone s w o.world → IsAlone s w (unless_halted h w o).world
+  pub runs : (h : Option ℕ) (o : Outcome) → IsAlone s w o.world → IsAlone s w (unless_halted h w o).world
   runs None o is = is
   runs (Some disk) o is = same
 
@@ -55,7 +55,7 @@ module _ (w : World) (s : ℕ) (up : (w.nodes s).state ≡ Up) where
     up = up;
   }
 
-  one_node : (n : Node) → n.name ≡ (w.nodes s).name → n.state ≡ Up → IsAlone s w (with_node w s n)
+  pub one_node : (n : Node) → n.name ≡ (w.nodes s).name → n.state ≡ Up → IsAlone s w (with_node w s n)
   one_node n name state = record {
     sites = refl;
     nodes = λ i apart. aside w.nodes s n i apart;

@@ -49,3 +49,4 @@ pub mod Halving
 pub mod Alone
 pub mod Crashed
 pub mod Passed
+pub mod Lining

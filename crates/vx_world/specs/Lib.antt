@@ -3,3 +3,4 @@ pub mod Confirming
 pub mod Grown
 pub mod Settling
 pub mod Twins
+pub mod Lines

@@ -18,6 +18,8 @@ ghost use Rattle.vx_history.specs.declared.event.Event.TheVariants.{Deliver, Set
 ghost use Rattle.vx_history.specs.declared.event.LinkPart.TheVariants.{Joins, Made, Marked, Opened};
 ghost use Rattle.vx_model.specs.declared.link.SyncMode.{SyncMode};
 ghost use Rattle.vx_model.specs.declared.site.SiteState.TheVariants.{Up};
+ghost use Rattle.vx_history.specs.Stops.{Stops};
+ghost use Rattle.vx_world.specs.Lines.{NoDoubts, GoodDoubted};
 ghost use Rattle.vx_world.specs.Twins.{Twin, IsAlone, IsElsewhere, GoodTwin};
 ghost use Rattle.vx_history.specs.Step.{step, run};
 
@@ -96,4 +98,10 @@ pub fn changes_one_site()
     ensures made { (w : World) (s q : ℕ) (sync : SyncMode) → (w.nodes s).state ≡ Up → IsAlone s w (step w (Link s q sync Made)).world }
     ensures marked { (w : World) (s p : ℕ) (sync : SyncMode) → (w.nodes s).state ≡ Up → IsAlone s w (step w (Link p s sync Marked)).world }
     ensures opened { (w : World) (s q : ℕ) (sync : SyncMode) → (w.nodes s).state ≡ Up → IsAlone s w (step w (Link s q sync Opened)).world }
+{}
+
+/// However a line ends that begins where no site is in doubt, its world is good, and so it is with the site that the line halted as it
+/// may be on its disks.
+pub fn lines_stay_good()
+    ensures { (d new : Doubted) (events : List Event) (fails : List (ℕ × ℕ)) → GoodWorld d.world → NoDoubts d → Stops d events fails new → GoodDoubted new }
 {}
