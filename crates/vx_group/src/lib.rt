@@ -10,6 +10,7 @@ mod detaching;
 mod flushing;
 mod group;
 mod group_core;
+mod marking;
 mod reading;
 mod settling;
 mod writing;
