@@ -17,3 +17,6 @@ mod writing;
 
 pub use group::Group;
 pub use group_core::GroupCore;
+
+#[cfg(test)]
+mod tests;
