@@ -1,6 +1,7 @@
 pub mod Alike
 pub mod Answering
 pub mod Applying
+pub mod Asking
 pub mod Backs
 pub mod Bares
 pub mod Changing

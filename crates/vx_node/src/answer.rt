@@ -1,6 +1,7 @@
 // What a line is answered.
 ghost use Rattle.std.specs.Prelude.{◌≡◌, ◌*◌, IfOk, min, replicate};
 ghost use Rattle.vx_history.specs.World.{World};
+ghost use Rattle.vx_node.specs.Asked.{AsAsked};
 ghost use Rattle.vx_node.specs.Working.{WorkIs, AnswerIs, IsFree};
 ghost use Rattle.vx_node.specs.Yards.{YardAgrees, IsTold, in_files};
 
@@ -24,6 +25,7 @@ impl<R: Rack> Yard<R> {
     fn work(&mut self, alloc: Global, words: &ScriptLine) -> Result<Said, OutOfMemory>
         requires free { IsFree self.old words.now }
         ensures works { (w : World) → YardAgrees w self.old → WorkIs w words.now self.old self.new result }
+        ensures asked { (w : World) → YardAgrees w self.old → AsAsked w words.now self.old self.new }
         ensures told { IsTold self.new → IsTold self.old }
         ensures files { in_files self.new ≡ in_files self.old }
     {
@@ -82,6 +84,7 @@ impl<R: Rack> Yard<R> {
     /// What a line is answered: its first refusal in the one order, or what it works.
     pub(crate) fn answer(&mut self, alloc: Global, words: &ScriptLine) -> Result<Said, OutOfMemory>
         ensures answers { (w : World) → YardAgrees w self.old → AnswerIs w words.now self.old self.new result }
+        ensures asked { (w : World) → YardAgrees w self.old → IsFree self.old words.now → AsAsked w words.now self.old self.new }
         ensures told { IsTold self.new → IsTold self.old }
         ensures files { in_files self.new ≡ in_files self.old }
     {

@@ -2,7 +2,9 @@
 ghost use Rattle.std.specs.Prelude.{◌≡◌, ◌≤◌, ℕ, IfOk, IfErr, is_some};
 ghost use Rattle.vx_history.specs.World.{World, empty_world};
 ghost use Rattle.vx_node.specs.Holds.{AreFresh, RacksHold, RacksTell, rack_faults};
+ghost use Rattle.vx_node.specs.Asked.{AsAsked};
 ghost use Rattle.vx_node.specs.Stands.{RoseAll};
+ghost use Rattle.vx_node.specs.Working.{IsFree};
 ghost use Rattle.vx_node.specs.Yards.{YardStands, LineIs, IsTold, count_of, in_files};
 ghost use Rattle.vx_stream.specs.Causes.{Rose};
 
@@ -53,6 +55,8 @@ impl<R: Rack> Yard<R> {
         out: &mut O,
     ) -> Result<(), LineStop>
         ensures line { (w : World) → YardStands w self.old → LineIs w words.now self.old self.new (O.written out.old) (O.written out.new) result }
+        // What the line asks of the rack of its site: a disk, a number of calls or a pick.
+        ensures asked { (w : World) → YardStands w self.old → IsFree self.old words.now → AsAsked w words.now self.old self.new }
         ensures told { IsTold self.new → IsTold self.old }
         ensures files { in_files self.new ≡ in_files self.old }
         ensures later { O.faults out.old ≤ O.faults out.new }

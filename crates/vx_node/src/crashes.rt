@@ -3,6 +3,7 @@ ghost use Rattle.std.specs.Prelude.{◌≡◌, ◌<◌, length};
 ghost use Rattle.vx_history.specs.World.{World};
 ghost use Rattle.vx_model.specs.declared.site.SiteState.TheVariants.{Bare as BareState, Up as UpState, Down as DownState};
 ghost use Rattle.vx_script.specs.declared.line.ScriptLine.TheVariants.{Crash, Fuse, Recover, Apply};
+ghost use Rattle.vx_node.specs.Asked.{AsAsked, CrashesBy, OfSite};
 ghost use Rattle.vx_node.specs.Rising.{Fell, Finding, NotesUp, Recovering};
 ghost use Rattle.vx_node.specs.Works.{Begins};
 ghost use Rattle.vx_node.specs.Working.{WorkIs, Worked, IsFree};
@@ -25,6 +26,7 @@ impl<R: Rack> Yard<R> {
         requires facts { site < length self.old.facts.items }
         requires engine { site < length self.old.engines.items }
         ensures fell { (w : World) → YardAgrees w self.old → site < w.sites → (w.nodes site).state ≡ UpState → Fell w site self.old self.new }
+        ensures asked { (w : World) → YardAgrees w self.old → site < w.sites → (w.nodes site).state ≡ UpState → OfSite (CrashesBy pick) site self.old self.new }
         ensures facts { length self.new.facts.items ≡ length self.old.facts.items }
         ensures engines { length self.new.engines.items ≡ length self.old.engines.items }
         ensures told { IsTold self.new → IsTold self.old }
@@ -38,6 +40,7 @@ impl<R: Rack> Yard<R> {
     /// Crashes a site that is up.
     pub(crate) fn crash_line(&mut self, name: &Name, pick: u64) -> Said
         ensures works { (w : World) → YardAgrees w self.old → IsFree self.old (Crash name.now pick) → Worked w (Crash name.now pick) result self.old self.new }
+        ensures asked { (w : World) → YardAgrees w self.old → IsFree self.old (Crash name.now pick) → AsAsked w (Crash name.now pick) self.old self.new }
         ensures told { IsTold self.new → IsTold self.old }
         ensures files { in_files self.new ≡ in_files self.old }
     {
@@ -54,6 +57,7 @@ impl<R: Rack> Yard<R> {
     /// Sets the fuse of a site that is up.
     pub(crate) fn fuse_line(&mut self, name: &Name, calls: u64, pick: u64) -> Said
         ensures works { (w : World) → YardAgrees w self.old → IsFree self.old (Fuse name.now calls pick) → Worked w (Fuse name.now calls pick) result self.old self.new }
+        ensures asked { (w : World) → YardAgrees w self.old → IsFree self.old (Fuse name.now calls pick) → AsAsked w (Fuse name.now calls pick) self.old self.new }
         ensures told { IsTold self.new → IsTold self.old }
         ensures files { in_files self.new ≡ in_files self.old }
     {

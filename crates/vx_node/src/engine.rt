@@ -221,6 +221,7 @@ fn start_bare<R: Rack>(rack: R, room: StartRoom) -> (Engine<R>, Result<(), No>)
 }
 
 impl<R: Rack> Engine<R> {
+    ghost use Rattle.vx_node.specs.Asked.{SetsDisk, SetsFuse, CrashesBy, units_in};
     ghost use Rattle.vx_node.specs.Holds.{state_with};
     ghost use Rattle.vx_node.specs.Stands.{CutAt, IsUnused};
     ghost use Rattle.vx_history.specs.World.{FuseSet};
@@ -339,6 +340,7 @@ impl<R: Rack> Engine<R> {
     /// Makes each later call on a disk fail, or ends that.
     pub fn fail(&mut self, disk: u64, on: bool)
         ensures stands { (n : Node) → StandsAt n self.old → StandsAt n self.new }
+        ensures asked { disk < units_in self.old → SetsDisk disk on self.old self.new }
         ensures later { Later self.old self.new }
     {
         match self {
@@ -353,6 +355,7 @@ impl<R: Rack> Engine<R> {
     /// Sets the fuse of a site that is up: so many writes and flushes pass, and the next is a crash.
     pub fn fuse(&mut self, calls: u64, pick: u64)
         ensures fused { (n : Node) → StandsAt n self.old → n.state ≡ UpState → StandsAt (record n { fuse = FuseSet calls }) self.new }
+        ensures asked { (n : Node) → StandsAt n self.old → n.state ≡ UpState → SetsFuse calls pick self.old self.new }
         ensures later { Later self.old self.new }
     {
         if let Engine::Up(rvg) = self {
@@ -363,6 +366,7 @@ impl<R: Rack> Engine<R> {
     /// Crashes a site that is up: of the loose blocks each takes its latest value where its bit in `pick` is 1.
     pub fn crash(self, pick: u64) -> Engine<R>
         ensures crashed { (n : Node) → StandsAt n self → n.state ≡ UpState → CrashedAt n result }
+        ensures asked { (n : Node) → StandsAt n self → n.state ≡ UpState → CrashesBy pick self result }
         ensures cut { (n : Node) → CutAt n self → CrashedAt n result }
         ensures later { Later self result }
     {

@@ -2,6 +2,7 @@
 ghost use Rattle.std.specs.Prelude.{◌≡◌, ◌≤◌};
 ghost use Rattle.vx_history.specs.World.{World};
 ghost use Rattle.vx_script.specs.declared.line.ScriptLine.TheVariants.{Site, Raw, Disk, Write as WriteLine, Put as PutLine, Read as ReadLine, Show as ShowLine, Status as StatusLine};
+ghost use Rattle.vx_node.specs.Asked.{AsAsked, is_failing};
 ghost use Rattle.vx_node.specs.Replies.{reply_to};
 ghost use Rattle.vx_node.specs.Working.{WorkIs, Worked, IsFree};
 ghost use Rattle.vx_node.specs.Yards.{YardAgrees, IsTold, in_files};
@@ -23,6 +24,13 @@ fn stopped(stop: Stop) -> Result<Said, OutOfMemory>
         Stop::No(no) => Ok(Said::Refused(no)),
         Stop::OutOfMemory => Err(OutOfMemory),
     }
+}
+
+// Whether the calls on the disk are to fail.
+fn is_failing(state: DiskWord) -> bool
+    ensures { result ≡ is_failing state }
+{
+    matches!(state, DiskWord::Fail)
 }
 
 fn unknown(name: &Name) -> Said {
@@ -104,6 +112,7 @@ impl<R: Rack> Yard<R> {
     /// Makes the calls on a disk fail, or ends that.
     pub(crate) fn set_disk(&mut self, name: &Name, disk: u64, state: DiskWord) -> Said
         ensures works { (w : World) → YardAgrees w self.old → IsFree self.old (Disk name.now disk state) → Worked w (Disk name.now disk state) result self.old self.new }
+        ensures asked { (w : World) → YardAgrees w self.old → IsFree self.old (Disk name.now disk state) → AsAsked w (Disk name.now disk state) self.old self.new }
         ensures told { IsTold self.new → IsTold self.old }
         ensures files { in_files self.new ≡ in_files self.old }
     {
@@ -113,7 +122,7 @@ impl<R: Rack> Yard<R> {
         if site >= self.engines.len() {
             return Said::Refused(No::Role);
         }
-        self.engines[site].fail(disk, matches!(state, DiskWord::Fail));
+        self.engines[site].fail(disk, is_failing(state));
         Said::Done
     }
 }

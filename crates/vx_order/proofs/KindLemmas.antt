@@ -7,24 +7,24 @@ use Rattle.vx_model.specs.declared.no.Named.TheVariants.{Number}
 use Rattle.vx_model.specs.declared.no.Counted.TheVariants.{Sites, Disks, Blocks}
 use Rattle.vx_model.specs.declared.block_list.Blocks.{Blocks as BlockList}
 use Rattle.vx_script.specs.declared.line.DiskState.{DiskState}
-use Rattle.vx_script.specs.declared.line.ScriptLine.TheVariants.{Site, Raw, Disk, Status, Write, Put, Read, Show}
+use Rattle.vx_script.specs.declared.line.ScriptLine.TheVariants.{Site, Raw, Disk, Crash, Fuse, Recover, Status, Write, Put, Read, Show, Apply}
 use Rattle.vx_order.specs.declared.facts.SiteFacts.{SiteFacts}
 use Rattle.vx_order.specs.declared.facts.VolumeFacts.{VolumeFacts}
 use Rattle.vx_order.specs.declared.facts.RvgFacts.{RvgFacts}
 use Rattle.vx_order.specs.declared.span.Span.{Span}
 use Rattle.vx_order.specs.declared.span.Way.TheVariants.{Writes, Reads, Shows}
-use Rattle.vx_order.specs.declared.subject.Need.TheVariants.{FirstUpOrBare}
+use Rattle.vx_order.specs.declared.subject.Need.TheVariants.{FirstUp, FirstUpOrBare}
 use Rattle.vx_order.specs.declared.subject.Halt.TheVariants.{First}
 use Rattle.vx_order.specs.Tests.{when, first_of}
 use Rattle.vx_order.specs.Order.{refusal_of}
 use Rattle.vx_order.specs.Subject.{first_name, second_name, need_of, halt_of}
 use Rattle.vx_order.specs.Spans.{span_of}
 use Rattle.vx_order.specs.Sites.{site_named, site_gone, volume_of, rvg_of, halted_one, unknown_one, down_by, halted_by}
-use Rattle.vx_model.specs.Sites.{is_bare}
+use Rattle.vx_model.specs.Sites.{is_bare, is_up}
 use Rattle.vx_order.specs.Shapes.{most_blocks, line_role, line_unknown, taken, over_limit, wrong_size, raw_role, raw_size, disk_unknown}
 use Rattle.vx_model.specs.Sizes.{is_raw_shape}
 use Rattle.vx_order.specs.Calls.{takes_calls, asks_role, is_write, outgrows, call_role, call_unknown, call_size, call_range, span_role, span_unknown, span_size, span_range}
-use Rattle.vx_order.specs.Kinds.{site_refusal, raw_refusal, disk_refusal, status_refusal, call_on, before, call_refusal}
+use Rattle.vx_order.specs.Kinds.{site_refusal, raw_refusal, disk_refusal, status_refusal, call_on, before, call_refusal, recover_refusal, up_refusal, apply_refusal}
 
 -- The tests of a site's name, limits and size.
 site_tests : (known many wide long small : Bool) (a b c d e : No)
@@ -143,3 +143,50 @@ pub show_lines_are : (sites : List SiteFacts) (files : Bool) (name volume : List
     → refusal_of sites files (Show name volume start count) ≡ call_refusal (site_named sites name) name (record { volume = volume; start = start; count = count; way = Shows })
 unfolding refusal_of first_of first_name second_name need_of halt_of line_role line_unknown taken over_limit wrong_size span_of
 show_lines_are sites files name volume start count = span_tests (site_named sites name) name (record { volume = volume; start = start; count = count; way = Shows })
+
+-- The tests of a line that needs a known site alone.
+known_tests : (site : Option SiteFacts) (name : List ℕ) → first_of (unknown_one (Some name) site ∷ None ∷ None ∷ None ∷ None ∷ None ∷ None ∷ None ∷ None ∷ None ∷ None ∷ None ∷ None ∷ []) ≡ recover_refusal site name
+unfolding first_of
+known_tests None name = refl
+known_tests (Some site) name = refl
+
+pub recover_lines_are : (sites : List SiteFacts) (files : Bool) (name : List ℕ) → refusal_of sites files (Recover name) ≡ recover_refusal (site_named sites name) name
+unfolding refusal_of first_of first_name second_name need_of halt_of line_role line_unknown taken over_limit wrong_size span_of
+recover_lines_are sites files name = known_tests (site_named sites name) name
+
+-- The tests of a line that needs a site that is up.
+off_tests : (p : Bool) (a : No) → first_of (when p a ∷ None ∷ None ∷ None ∷ None ∷ None ∷ None ∷ None ∷ None ∷ None ∷ None ∷ []) ≡ (if p then Some a else None)
+unfolding first_of
+off_tests true a = refl
+off_tests false a = refl
+
+up_tests : (site : Option SiteFacts) (name : List ℕ)
+    → first_of (unknown_one (Some name) site ∷ None ∷ down_by FirstUp site None ∷ None ∷ None ∷ None ∷ None ∷ None ∷ None ∷ None ∷ None ∷ None ∷ None ∷ []) ≡ up_refusal site name
+unfolding first_of
+up_tests None name = refl
+up_tests (Some site) name = off_tests (not (is_up site.state)) Down
+
+pub crash_lines_are : (sites : List SiteFacts) (files : Bool) (name : List ℕ) (pick : ℕ) → refusal_of sites files (Crash name pick) ≡ up_refusal (site_named sites name) name
+unfolding refusal_of first_of first_name second_name need_of halt_of line_role line_unknown taken over_limit wrong_size span_of
+crash_lines_are sites files name pick = up_tests (site_named sites name) name
+
+pub fuse_lines_are : (sites : List SiteFacts) (files : Bool) (name : List ℕ) (calls pick : ℕ) → refusal_of sites files (Fuse name calls pick) ≡ up_refusal (site_named sites name) name
+unfolding refusal_of first_of first_name second_name need_of halt_of line_role line_unknown taken over_limit wrong_size span_of
+fuse_lines_are sites files name calls pick = up_tests (site_named sites name) name
+
+-- The tests of a line that needs a site that is up and not halted.
+running_tests : (p : Bool) (a : No) (halted : Option No) → first_of (when p a ∷ halted ∷ None ∷ None ∷ None ∷ None ∷ None ∷ None ∷ None ∷ None ∷ None ∷ []) ≡ (if p then Some a else halted)
+unfolding first_of
+running_tests true a halted = refl
+running_tests false a None = refl
+running_tests false a (Some refused) = refl
+
+apply_tests : (site : Option SiteFacts) (name : List ℕ)
+    → first_of (unknown_one (Some name) site ∷ None ∷ down_by FirstUp site None ∷ halted_by First site None ∷ None ∷ None ∷ None ∷ None ∷ None ∷ None ∷ None ∷ None ∷ None ∷ []) ≡ apply_refusal site name
+unfolding first_of
+apply_tests None name = refl
+apply_tests (Some site) name = running_tests (not (is_up site.state)) Down (halted_one (Some site))
+
+pub apply_lines_are : (sites : List SiteFacts) (files : Bool) (name : List ℕ) (to : ℕ) → refusal_of sites files (Apply name to) ≡ apply_refusal (site_named sites name) name
+unfolding refusal_of first_of first_name second_name need_of halt_of line_role line_unknown taken over_limit wrong_size span_of
+apply_lines_are sites files name to = apply_tests (site_named sites name) name

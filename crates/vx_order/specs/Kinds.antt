@@ -9,7 +9,7 @@ use Rattle.vx_order.specs.declared.facts.VolumeFacts.{VolumeFacts}
 use Rattle.vx_order.specs.declared.facts.RvgFacts.{RvgFacts}
 use Rattle.vx_order.specs.declared.span.Span.{Span}
 use Rattle.vx_order.specs.Sites.{site_named, site_gone, volume_of, rvg_of, halted_one}
-use Rattle.vx_model.specs.Sites.{is_bare}
+use Rattle.vx_model.specs.Sites.{is_bare, is_up}
 use Rattle.vx_order.specs.Shapes.{most_blocks}
 use Rattle.vx_model.specs.Sizes.{is_raw_shape}
 use Rattle.vx_order.specs.Calls.{takes_calls, asks_role, is_write, outgrows}
@@ -41,6 +41,21 @@ disk_refusal (Some site) name disk = if nat_le site.disks disk then Some (Unknow
 abbrev pub status_refusal : Option SiteFacts → List ℕ → Option No
 status_refusal None name = Some (Unknown (Of name))
 status_refusal (Some site) name = None
+
+-- a `recover` line of the site of this name
+abbrev pub recover_refusal : Option SiteFacts → List ℕ → Option No
+recover_refusal None name = Some (Unknown (Of name))
+recover_refusal (Some site) name = None
+
+-- a `crash` or `fuse` line of the site of this name
+abbrev pub up_refusal : Option SiteFacts → List ℕ → Option No
+up_refusal None name = Some (Unknown (Of name))
+up_refusal (Some site) name = if not (is_up site.state) then Some Down else None
+
+-- an `apply` line of the site of this name
+abbrev pub apply_refusal : Option SiteFacts → List ℕ → Option No
+apply_refusal None name = Some (Unknown (Of name))
+apply_refusal (Some site) name = if not (is_up site.state) then Some Down else halted_one (Some site)
 
 -- a run of blocks of a volume, at a site that is not halted
 abbrev pub call_on : Option RvgFacts → Option VolumeFacts → Span → Option No

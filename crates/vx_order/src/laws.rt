@@ -7,7 +7,7 @@ ghost use Rattle.vx_order.specs.declared.facts.SiteFacts.{SiteFacts};
 ghost use Rattle.vx_order.specs.declared.span.Way.TheVariants.{Writes, Reads, Shows};
 ghost use Rattle.vx_order.specs.Order.{refusal_of};
 ghost use Rattle.vx_order.specs.Sites.{site_named};
-ghost use Rattle.vx_order.specs.Kinds.{site_refusal, raw_refusal, disk_refusal, status_refusal, call_refusal};
+ghost use Rattle.vx_order.specs.Kinds.{site_refusal, raw_refusal, disk_refusal, status_refusal, recover_refusal, up_refusal, apply_refusal, call_refusal};
 
 /// A `site` line: a name that is taken, too many sites, disks or blocks, no disk or too few blocks, in this order.
 pub fn site_lines()
@@ -48,4 +48,24 @@ pub fn read_lines()
 /// A `show` line, as a `read` line but for the role.
 pub fn show_lines()
     ensures { (sites : List SiteFacts) (files : Bool) (name volume : List ℕ) (start count : ℕ) → refusal_of sites files (ScriptLine.Show name volume start count) ≡ call_refusal (site_named sites name) name (record { volume = volume; start = start; count = count; way = Shows }) }
+{}
+
+/// A `recover` line: an unknown site alone.
+pub fn recover_lines()
+    ensures { (sites : List SiteFacts) (files : Bool) (name : List ℕ) → refusal_of sites files (ScriptLine.Recover name) ≡ recover_refusal (site_named sites name) name }
+{}
+
+/// A `crash` line: an unknown site, one that is not up.
+pub fn crash_lines()
+    ensures { (sites : List SiteFacts) (files : Bool) (name : List ℕ) (pick : ℕ) → refusal_of sites files (ScriptLine.Crash name pick) ≡ up_refusal (site_named sites name) name }
+{}
+
+/// A `fuse` line, as a `crash` line.
+pub fn fuse_lines()
+    ensures { (sites : List SiteFacts) (files : Bool) (name : List ℕ) (calls pick : ℕ) → refusal_of sites files (ScriptLine.Fuse name calls pick) ≡ up_refusal (site_named sites name) name }
+{}
+
+/// An `apply` line: an unknown site, one that is not up, a halted one.
+pub fn apply_lines()
+    ensures { (sites : List SiteFacts) (files : Bool) (name : List ℕ) (to : ℕ) → refusal_of sites files (ScriptLine.Apply name to) ≡ apply_refusal (site_named sites name) name }
 {}
