@@ -3,7 +3,7 @@ use Rattle.std.proofs.Common.{◌≡◌, inl, inr, ⊎_elim, ℕ, ◌≤◌, Boo
 use Rattle.vx_disk.specs.Blocks.{bit_at}
 use Rattle.vx_disk.specs.Causes.{Cause}
 use Rattle.vx_disk.specs.Counts.{Rose}
-use Rattle.vx_disk.specs.Shelf.{Flushed, Goes, Lawful, Meaning, Nothing, Or, Values, Wrote}
+use Rattle.vx_disk.specs.Shelf.{Flushed, Goes, Image, Lawful, Meaning, Nothing, Or, Values, Wrote}
 use Rattle.vx_disk.specs.declared.shelf.ShelfError.{ShelfError}
 use Rattle.vx_disk.specs.declared.shelf.ShelfError.TheVariants.{Fault, Down}
 use Rattle.vx_disk.proofs.Causing.{Rose_after, Rose_before}
@@ -22,6 +22,7 @@ use Rattle.vx_group.specs.Blames.{Blames, BlamesOr, Counts, fault_of}
 use Rattle.vx_group.specs.Moves.{AreOff, Narrows}
 use Rattle.vx_group.specs.Stands.{Stands}
 use Rattle.vx_group.specs.declared.group_core.GroupCore.{GroupCore}
+use Rattle.vx_group.proofs.ReadyLemmas.{kin_volumes}
 use Rattle.vx_group.proofs.Standing.{apart_of_core, made, can_of, still_large}
 use Rattle.vx_copies.proofs.OneTry.{wanted_same}
 
@@ -160,13 +161,21 @@ module _ (core : GroupCore) (b : Bool) (m m' : Meaning) (stands : Stands core m)
   pub settled_only : Narrows core core m m'
   settled_only = record { acts = acts; shape = same_shape core.config; on = λ v p is. is; faults = refl }
 
+pub sees_volumes : (c d : Config) (G : ℕ → Type 0) (m : Meaning) (i : Image) → d.volumes ≡ c.volumes → Sees c G m i → Sees d G m i
+sees_volumes c d G m i volumes sees = record {
+  config = sees.config;
+  found = sees.found;
+  kin = kin_volumes c d sees.config volumes sees.kin;
+  others = λ R g x held in_it is. kin_volumes c d x volumes (sees.others R g x held in_it is);
+}
+
 -- ---- two in a row, of which the first left the configuration
 
-pub both_Narrows : (a b d : GroupCore) (m m' last : Meaning) → b.config ≡ a.config → b.good ≡ a.good → Narrows a b m m' → Narrows b d m' last → Narrows a d m last
+pub both_Narrows : (a b d : GroupCore) (m m' last : Meaning) → b.config.volumes ≡ a.config.volumes → b.good ≡ a.good → Narrows a b m m' → Narrows b d m' last → Narrows a d m last
 both_Narrows a b d m m' last config good one two = record {
   acts = wide_Acts (Or Nothing Nothing) Nothing (Sees a.config (Member a.good m) m) m last
       (both_Acts Nothing Nothing (Sees a.config (Member a.good m) m) (Sees b.config (Member b.good m') m') m m' last one.acts two.acts
-      (λ i sees. sees_back a.good a.config m m' one.acts.units one.acts.size i (subst (λ (x : Config). Sees x (Member a.good m') m' i) config (subst (λ (k : ℕ). Sees b.config (Member k m') m' i) good sees))))
+      (λ i sees. sees_back a.good a.config m m' one.acts.units one.acts.size i (sees_volumes b.config a.config (Member a.good m') m' i (sym config) (subst (λ (k : ℕ). Sees b.config (Member k m') m' i) good sees))))
       (λ u k x. ⊎_elim (λ none. none) (λ none. none));
   shape = then_shape d.config b.config a.config two.shape one.shape;
   on = λ v p is. one.on v p (two.on v p is);

@@ -11,6 +11,7 @@ use Rattle.vx_volume.specs.Plexes.{active, plexes_of}
 use Rattle.vx_volume.specs.Sets.{bits}
 use Rattle.vx_volume.proofs.BitLemmas.{bit_of}
 use Rattle.vx_kept.specs.States.{AreOn, SomeLeft}
+use Rattle.vx_kept.proofs.Chosen.{active_volumes}
 use Rattle.vx_group.specs.Dets.{any_below, det_refusal, is_other, margin}
 use Rattle.vx_group.specs.Moves.{AreOff}
 
@@ -89,3 +90,9 @@ module _ (p value : ℕ) (lt : p < 8) (is : value ≡ bits (set no_flags p true)
 pub off_by : {T : Type 0} (r : Result T ShelfError) (c : Config) (v p value : ℕ) → bit_at value p ≡ true → OnOk r (AreOff c v value) → OnOk r (active c v p ≡ false)
 off_by (Ok x) c v p value bit off = off.each p bit
 off_by (Err error) c v p value bit off = tt
+
+pub left_volumes : (c d : Config) (v value : ℕ) → d.volumes ≡ c.volumes → SomeLeft c v value → SomeLeft d v value
+left_volumes c d v value volumes left = record { plex = left.plex; is_on = active_volumes d c volumes v left.plex ∙ left.is_on; out = left.out }
+
+pub on_volumes : (c d : Config) (v value : ℕ) → d.volumes ≡ c.volumes → AreOn c v value → AreOn d v value
+on_volumes c d v value volumes on = record { each = λ q in_it. active_volumes d c volumes v q ∙ on.each q in_it }

@@ -10,9 +10,13 @@ mod detaching;
 mod flushing;
 mod group;
 mod group_core;
+mod marking;
 mod reading;
 mod settling;
 mod writing;
 
 pub use group::Group;
 pub use group_core::GroupCore;
+
+#[cfg(test)]
+mod tests;

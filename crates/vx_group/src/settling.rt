@@ -1,37 +1,57 @@
 // The headers of the good disks, which are written back before the commit behind a refused one.
 ghost use Rattle.std.specs.Prelude.{◌≡◌, ◌<◌, false, IsTrue, OnOk};
-ghost use Rattle.vx_disk.specs.Shelf.{Nothing};
 ghost use Rattle.vx_group.specs.Blames.{Blames};
 ghost use Rattle.vx_group.specs.Moves.{Narrows};
 ghost use Rattle.vx_group.specs.Stands.{Stands};
-ghost use Rattle.vx_kept.specs.Commits.{Member};
-ghost use Rattle.vx_kept.specs.Keeping.{Acts, IsTidy, Kept, Sees};
 
 use crate::GroupCore;
 use crate::detaching::detach;
+use crate::marking::{has_good, hold_failed};
 use vx_copyio::settle;
 use vx_disk::{Shelf, ShelfError};
 use vx_model::limits::MOST_NUMBER;
 use vx_volume::Failed;
 
-// Writes back the headers of each disk that is held as good.
-fn settle_disks<S: Shelf>(shelf: &mut S, core: &GroupCore) -> Result<(), ShelfError>
-    requires stands { Stands core.now (S.meaning shelf.old) }
+/// Writes the headers of each good disk back after a refused commit, so that a commit may follow. A disk that fails is held as failed from
+/// then on; where none of the set is left, nothing has changed in memory.
+pub fn settle_headers<S: Shelf>(shelf: &mut S, core: &mut GroupCore) -> Result<(), ShelfError>
+    requires stands { Stands core.old (S.meaning shelf.old) }
     requires up { IsTrue (S.meaning shelf.old).down → ⊥ }
-    ensures kept { Kept core.now.config (Member core.now.good (S.meaning shelf.new)) (S.meaning shelf.new) }
-    ensures acts { Acts Nothing (Sees core.now.config (Member core.now.good (S.meaning shelf.old)) (S.meaning shelf.old)) (S.meaning shelf.old) (S.meaning shelf.new) }
-    ensures tidy { OnOk result (IsTidy core.now.config (S.meaning shelf.new)) }
+    ensures stands { Stands core.new (S.meaning shelf.new) }
+    ensures narrows { Narrows core.old core.new (S.meaning shelf.old) (S.meaning shelf.new) }
+    ensures volumes { core.new.config.volumes ≡ core.old.config.volumes }
+    ensures serial { core.new.config.serial ≡ core.old.config.serial }
+    ensures good { core.new.good ≡ core.old.good }
+    ensures settled { OnOk result (core.new.unsettled ≡ false) }
     ensures cause { Blames (S.meaning shelf.old) (S.meaning shelf.new) result }
 {
-    let disks = core.config.disks.as_slice();
-    for disk in 0..disks.len() as u32 {
-        if !disks[disk as usize].failed {
+    if !core.unsettled {
+        return Ok(());
+    }
+    let kept = core.config.disks.copy();
+    let mut device = 0;
+    let mut failed = false;
+    for disk in 0..kept.as_slice().len() as u32 {
+        if !core.config.disks.as_slice()[disk as usize].failed {
             match settle(shelf, disk) {
                 Ok(()) => {}
-                Err(error) => return Err(error),
+                Err(ShelfError::Fault { disk: unit }) => {
+                    hold_failed(&mut core.config, disk);
+                    device = unit;
+                    failed = true;
+                }
+                Err(ShelfError::Down) => {
+                    core.config.disks = kept;
+                    return Err(ShelfError::Down);
+                }
             }
         }
     }
+    if !has_good(&core.config.disks, core.good) {
+        core.config.disks = kept;
+        return Err(ShelfError::Fault { disk: device });
+    }
+    core.unsettled = false;
     Ok(())
 }
 
@@ -47,33 +67,9 @@ pub fn make_ready<S: Shelf>(shelf: &mut S, core: &mut GroupCore) -> Result<(), S
     if !core.unsettled || core.config.serial >= MOST_NUMBER {
         return Ok(());
     }
-    match settle_disks(shelf, core) {
+    match settle_headers(shelf, core) {
         Ok(()) => {}
         Err(error) => return Err(error),
     }
-    core.unsettled = false;
     detach(shelf, core, 0, Failed { set: 0, disk: 0 })
-}
-
-/// Writes headers back after a refused commit, so that a commit may follow.
-pub fn settle_headers<S: Shelf>(shelf: &mut S, core: &mut GroupCore) -> Result<(), ShelfError>
-    requires stands { Stands core.old (S.meaning shelf.old) }
-    requires up { IsTrue (S.meaning shelf.old).down → ⊥ }
-    ensures stands { Stands core.new (S.meaning shelf.new) }
-    ensures narrows { Narrows core.old core.new (S.meaning shelf.old) (S.meaning shelf.new) }
-    ensures same { core.new.config ≡ core.old.config }
-    ensures good { core.new.good ≡ core.old.good }
-    ensures settled { OnOk result (core.new.unsettled ≡ false) }
-    ensures cause { Blames (S.meaning shelf.old) (S.meaning shelf.new) result }
-{
-    if !core.unsettled {
-        return Ok(());
-    }
-    match settle_disks(shelf, core) {
-        Ok(()) => {
-            core.unsettled = false;
-            Ok(())
-        }
-        Err(error) => Err(error),
-    }
 }

@@ -1,5 +1,6 @@
 -- What the calls on the disks of a site promise.
 use Rattle.std.specs.Prelude.{◌≡◌, ℕ, ◌+◌, ◌-◌, ◌<◌, ◌≤◌, ◌++◌, ◌∷◌, [], ◌⊎◌, min, length, Option, Some, None, Result, Ok, Err, List, IsTrue, Bool, true, false}
+use Rattle.vx_model.specs.declared.limits.TheConstants.{LEAST_BLOCKS, MOST_DISKS}
 use Rattle.vx_model.specs.Content.{Write}
 use Rattle.vx_history.specs.World.{Node, bare_site}
 use Rattle.vx_history.specs.Steps.{logged, raw_set, half_begun, crashed, recovered, burned}
@@ -66,16 +67,16 @@ pub record CanApply (n : Node) : Type 0 where
 -- the disks of a raw set that is down, in whose log there are so many ring blocks
 pub record CanStart (ring : ℕ) (m : Meaning) : Type 0 where
   pub some : 3 ≤ m.units
-  pub few : m.units ≤ 8
+  pub few : m.units ≤ MOST_DISKS
   pub down : IsTrue m.down
-  pub large : 8 ≤ m.size 0
+  pub large : LEAST_BLOCKS ≤ m.size 0
   pub is_ring : ring ≡ ring_of (m.size 0)
 
 -- disks on which a raw set can be, in whose log there are so many ring blocks
 pub record CanHold (ring : ℕ) (m : Meaning) : Type 0 where
   pub some : 3 ≤ m.units
-  pub few : m.units ≤ 8
-  pub large : 8 ≤ m.size 0
+  pub few : m.units ≤ MOST_DISKS
+  pub large : LEAST_BLOCKS ≤ m.size 0
   pub is_ring : ring ≡ ring_of (m.size 0)
 
 module _ {R : Type 0} {g : Ghosts R} where

@@ -1,5 +1,6 @@
 -- What the disks hold of a site, whatever a crash at this moment leaves on them.
 use Rattle.std.specs.Prelude.{◌≡◌, ℕ, ◌-◌, ◌<◌, ◌≤◌, List, [], length, take, drop, None, Option, Some, slice_get, IsTrue}
+use Rattle.vx_model.specs.declared.limits.TheConstants.{MOST_SITES}
 use Rattle.vx_model.specs.Content.{fold_writes}
 use Rattle.vx_history.specs.World.{Node, World}
 use Rattle.vx_model.specs.declared.state.State.{State}
@@ -51,7 +52,7 @@ pub record Holds (n : Node) (m : Meaning) : Type 0 where
 module _ {R : Type 0} (meaning : R → Meaning) where
   -- the rack of each site holds it
   pub record RacksHold (w : World) (racks : List R) : Type 0 where
-    pub eight : length racks ≡ 8
+    pub eight : length racks ≡ MOST_SITES
     pub each : (s : ℕ) (r : R) → s < w.sites → slice_get racks s ≡ Some r → Holds (w.nodes s) (meaning r)
 
   -- the contents of each rack are told
@@ -68,7 +69,7 @@ module _ {R : Type 0} (meaning : R → Meaning) where
 
   -- eight racks, none of them fitted, down, or with a fuse
   pub record AreFresh (racks : List R) : Type 0 where
-    pub eight : length racks ≡ 8
+    pub eight : length racks ≡ MOST_SITES
     pub units : (s : ℕ) (r : R) → slice_get racks s ≡ Some r → (meaning r).units ≡ 0
     pub up : (s : ℕ) (r : R) → slice_get racks s ≡ Some r → IsTrue (meaning r).down → ⊥
     pub unarmed : (s : ℕ) (r : R) → slice_get racks s ≡ Some r → IsTrue (meaning r).armed → ⊥

@@ -1,5 +1,6 @@
 -- What a yard stands for: how its racks and what it keeps of each site agree with the world.
 use Rattle.std.specs.Prelude.{◌≡◌, ℕ, ◌+◌, ◌-◌, ◌<◌, ◌≤◌, ◌==◌, ◌&&◌, min, List, [], length, count_by, Option, Some, None, slice_get, IsTrue, IsFalse}
+use Rattle.vx_model.specs.declared.limits.TheConstants.{LEAST_BLOCKS, MOST_DISKS, MOST_SITES}
 use Rattle.vx_model.specs.Content.{zero_block}
 use Rattle.vx_model.specs.Sizes.{ring_of}
 use Rattle.vx_history.specs.World.{Node, World, Volume, NoFuse, bare_site}
@@ -34,8 +35,8 @@ pub record IsBareAt (n : Node) (m : Meaning) : Type 0 where
   pub is : n ≡ bare_site n.name n.disks n.blocks
   pub fitted : IsFitted n.disks n.blocks m
   pub unarmed : IsFalse m.armed
-  pub few : n.disks ≤ 8
-  pub some : 8 ≤ n.blocks
+  pub few : n.disks ≤ MOST_DISKS
+  pub some : LEAST_BLOCKS ≤ n.blocks
   pub blank : (u b : ℕ) → 0 < u → u < n.disks → b < n.blocks → Keeps m u b zero_block
 
 -- the disks of a bare site of which nothing was begun: the first holds zeros too
@@ -52,7 +53,7 @@ pub record IsUpAt (n : Node) (c : Core) (m : Meaning) : Type 0 where
   pub units : c.units ≡ raw_units n.disks
   pub ring : c.log.ring ≡ n.ring
   pub ring_is : n.ring ≡ ring_of n.blocks
-  pub some : 8 ≤ n.blocks
+  pub some : LEAST_BLOCKS ≤ n.blocks
   pub low : n.low ≡ 1
   -- it has no links; of disks that tell no contents that is not known, nor how great its stamp is
   pub links : List KeptLink
@@ -69,7 +70,7 @@ pub record IsUpAt (n : Node) (c : Core) (m : Meaning) : Type 0 where
   pub logged : n.safe ≤ length n.log
   -- while no write failed all are durable
   pub durable : n.halted ≡ None → length n.log ≤ n.safe
-  pub few : n.disks ≤ 8
+  pub few : n.disks ≤ MOST_DISKS
   pub volumes : length n.volumes ≡ n.disks - 2
   pub whole : (v : ℕ) (x : Volume) → slice_get n.volumes v ≡ Some x → x.blocks ≡ n.blocks
   pub sizes : (v : ℕ) → v < n.disks - 2 → n.base.size v ≡ n.blocks
@@ -83,8 +84,8 @@ pub record IsHeldAt (n : Node) (m : Meaning) : Type 0 where
   pub units : m.units ≡ n.disks
   pub size : (u : ℕ) → u < n.disks → m.size u ≡ n.blocks
   pub disks : 3 ≤ n.disks
-  pub few : n.disks ≤ 8
-  pub some : 8 ≤ n.blocks
+  pub few : n.disks ≤ MOST_DISKS
+  pub some : LEAST_BLOCKS ≤ n.blocks
   pub ring : n.ring ≡ ring_of n.blocks
   pub logged : n.safe ≤ length n.log
   pub low : n.low ≡ 1
@@ -104,8 +105,8 @@ pub record IsDownAt (n : Node) (m : Meaning) : Type 0 where
   pub down : IsTrue m.down
   pub unarmed : IsFalse m.armed
   pub disks : 3 ≤ n.disks
-  pub few : n.disks ≤ 8
-  pub some : 8 ≤ n.blocks
+  pub few : n.disks ≤ MOST_DISKS
+  pub some : LEAST_BLOCKS ≤ n.blocks
   pub ring : n.ring ≡ ring_of n.blocks
   pub logged : length n.log ≡ n.safe
   pub low : n.low ≡ 1
@@ -169,8 +170,8 @@ module _ {R : Type 0} {g : Ghosts R} where
 
   -- each site of the world has its engine, and the engines of other numbers are not used
   pub record EnginesStand (w : World) (engines : List (Engine R g)) : Type 0 where
-    pub eight : length engines ≡ 8
-    pub few : w.sites ≤ 8
+    pub eight : length engines ≡ MOST_SITES
+    pub few : w.sites ≤ MOST_SITES
     pub sites : (s : ℕ) (e : Engine R g) → s < w.sites → slice_get engines s ≡ Some e → StandsAt (w.nodes s) e
     pub others : (s : ℕ) (e : Engine R g) → w.sites ≤ s → slice_get engines s ≡ Some e → IsUnused e
 

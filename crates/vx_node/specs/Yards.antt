@@ -1,5 +1,6 @@
 -- A yard, and what its calls promise.
 use Rattle.std.specs.Prelude.{◌≡◌, ◌≢◌, ◌⊎◌, ℕ, ◌≤◌, List, [], ◌++◌, Option, Result, Ok, Err, Bool, is_some}
+use Rattle.vx_model.specs.declared.limits.TheConstants.{MOST_SITES}
 use Rattle.std.specs.Vec.{vec_capacity}
 use Rattle.std.specs.Io.KnownBytes.{Appends}
 use Rattle.vx_history.specs.World.{World}
@@ -33,7 +34,7 @@ module _ {R : Type 0} {g : Ghosts R} where
     pub engines : EnginesStand w y.engines.items
     -- room for the racks as they come back
     pub none : y.racks.items ≡ []
-    pub room : 8 ≤ vec_capacity y.racks
+    pub room : MOST_SITES ≤ vec_capacity y.racks
 
   -- nothing of a line was done
   pub record StaysAgreed (w : World) (old new : Yard R g) : Type 0 where

@@ -10,6 +10,7 @@ ghost use Rattle.vx_disk.specs.Shelf.{Goes, Keeps, Nothing};
 ghost use Rattle.vx_model.specs.Sizes.{ring_of};
 ghost use Rattle.vx_ringio.specs.Tracks.{Lies};
 ghost use Rattle.vx_disk.specs.Causes.{DeviceCause};
+ghost use Rattle.vx_model.specs.declared.limits.TheConstants.{MOST_CALL_BYTES};
 
 use crate::units::raw_units;
 use std::alloc::Global;
@@ -99,7 +100,7 @@ fn make_room<R: Rack>(rvg: &mut Rvg<R>, count: u64) -> Result<(), No>
 fn write_group<R: Rack>(rvg: &mut Rvg<R>, volume: u32, start: u64, bytes: &[u8]) -> Result<u64, No>
     requires volume { volume < length rvg.old.core.units.vols }
     requires some { 0 < length bytes.now }
-    requires few { length bytes.now ≤ 8192 }
+    requires few { length bytes.now ≤ MOST_CALL_BYTES }
     requires whole { length bytes.now % 512 ≡ 0 }
     ensures wrote { (n : Node) → StandsAt n (Engine.Up rvg.old) → CanWrite n volume start (blocks_in bytes.now)
         → WroteUp n (record { volume = volume; start = start; bytes = bytes.now }) (Engine.Up rvg.old) (Engine.Up rvg.new) result }
@@ -275,7 +276,7 @@ impl<R: Rack> Engine<R> {
     /// Writes whole blocks to a data volume, by its number. Answers the number of the write. A site whose fuse runs out crashes.
     pub fn write(&mut self, volume: u32, start: u64, bytes: &[u8]) -> Result<u64, No>
         requires some { 0 < length bytes.now }
-        requires few { length bytes.now ≤ 8192 }
+        requires few { length bytes.now ≤ MOST_CALL_BYTES }
         requires whole { length bytes.now % 512 ≡ 0 }
         ensures wrote { (n : Node) → StandsAt n self.old → CanWrite n volume start (blocks_in bytes.now)
             → WroteAt n (record { volume = volume; start = start; bytes = bytes.now }) self.old self.new result }
@@ -297,7 +298,7 @@ impl<R: Rack> Engine<R> {
     #[tactic(auto, using(crate::proofs::Engines::up_volumes))]
     fn write_up(&mut self, volume: u32, start: u64, bytes: &[u8]) -> Result<u64, No>
         requires some { 0 < length bytes.now }
-        requires few { length bytes.now ≤ 8192 }
+        requires few { length bytes.now ≤ MOST_CALL_BYTES }
         requires whole { length bytes.now % 512 ≡ 0 }
         ensures wrote { (n : Node) → StandsAt n self.old → CanWrite n volume start (blocks_in bytes.now)
             → WroteUp n (record { volume = volume; start = start; bytes = bytes.now }) self.old self.new result }
@@ -319,7 +320,7 @@ impl<R: Rack> Engine<R> {
     #[tactic(auto, using(crate::proofs::Engines::up_volumes))]
     pub fn read(&mut self, volume: u32, start: u64, into: &mut [u8]) -> Result<(), No>
         requires some { 0 < length into.old }
-        requires few { length into.old ≤ 8192 }
+        requires few { length into.old ≤ MOST_CALL_BYTES }
         requires whole { length into.old % 512 ≡ 0 }
         ensures read { (n : Node) → StandsAt n self.old → CanRead n volume start (blocks_in into.old)
             → ReadAt n volume start (blocks_in into.old) into.new self.old self.new result }

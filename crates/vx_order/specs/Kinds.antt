@@ -1,5 +1,6 @@
 -- What the complete kinds of line are refused, each kind by itself.
 use Rattle.std.specs.Prelude.{ℕ, ◌+◌, Bool, not, ◌&&◌, ◌||◌, ◌==◌, nat_lt, nat_le, List, length, Option, Some, None, is_some, if◌then◌else◌}
+use Rattle.vx_model.specs.declared.limits.TheConstants.{LEAST_BLOCKS, MOST_DISKS, MOST_SITES}
 use Rattle.vx_model.specs.declared.no.No.{No}
 use Rattle.vx_model.specs.declared.no.No.TheVariants.{Unknown, Exists, Range, Size, Role, Down, Limit}
 use Rattle.vx_model.specs.declared.no.Named.TheVariants.{Of, Number}
@@ -18,10 +19,10 @@ use Rattle.vx_order.specs.Calls.{takes_calls, asks_role, is_write, outgrows}
 abbrev pub site_refusal : List SiteFacts → Bool → List ℕ → ℕ → ℕ → Option No
 site_refusal sites files name disks blocks =
     if is_some (site_named sites name) then Some (Exists name)
-    else if nat_le 8 (length sites) then Some (Limit Sites 8)
-    else if nat_lt 8 disks then Some (Limit Disks 8)
+    else if nat_le MOST_SITES (length sites) then Some (Limit Sites MOST_SITES)
+    else if nat_lt MOST_DISKS disks then Some (Limit Disks MOST_DISKS)
     else if nat_lt (most_blocks files) blocks then Some (Limit Blocks (most_blocks files))
-    else if disks == 0 || nat_lt blocks 8 then Some Size
+    else if disks == 0 || nat_lt blocks LEAST_BLOCKS then Some Size
     else None
 
 -- a `raw` line of the site of this name

@@ -7,6 +7,7 @@ ghost use Rattle.vx_order.specs.Calls.{takes_calls, call_role, span_role, call_u
 use crate::facts::{RvgFacts, SiteFacts, VolumeFacts, VolumeKind};
 use crate::sites::{find_rvg, find_volume};
 use crate::span::{Span, Way};
+use vx_model::limits::MOST_CALL_BLOCKS;
 use vx_model::{Named, No, Role};
 
 /// 5, where the volume or its site has not the role for a write or a read.
@@ -63,7 +64,7 @@ pub fn refuse_call_size(site: Option<&SiteFacts>, span: &Option<Span>) -> Option
     match span {
         Some(span)
             if span.count == 0
-                || span.count > 16
+                || span.count > MOST_CALL_BLOCKS
                 || span.way == Way::Writes
                     && is_too_long(find_rvg(site), find_volume(site, &span.volume), span.count) => {
             Some(No::Size)

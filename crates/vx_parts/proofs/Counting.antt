@@ -1,15 +1,14 @@
 -- Both counts of parts are one.
-use Rattle.std.proofs.Common.{◌≡◌, ◌∙◌, ℕ, zero, suc, ◌+◌, ◌/◌, List, [], ◌∷◌, length, max, ap, refl, arith, length-append}
+use Rattle.std.proofs.Common.{◌≡◌, ◌∙◌, ℕ, zero, suc, ◌+◌, ◌/◌, [], ◌∷◌, length, max, ap, refl, arith, length-append}
 use Rattle.std.specs.Prelude.{pred}
 use Rattle.vx_model.specs.declared.history.Line.{Line}
 use Rattle.vx_history.specs.World.{Message, Key, Hello, Update, NetAck, DataAck}
 use Rattle.vx_history.specs.Sends.{payload_size, parts_of}
 use Rattle.vx_history.specs.Gatherings.{message_key}
-use Rattle.vx_packet.specs.Messages.{row, payload_of, part_count, parts_of as parts_in_bytes}
+use Rattle.vx_packet.specs.Messages.{payload_of, part_count, parts_of as parts_in_bytes}
 use Rattle.vx_packet.specs.Takings.{message_key as key_of_bytes}
 use Rattle.vx_wire.specs.Fields.{spelled as spelled_fields}
 use Rattle.vx_wire.specs.Numbers.{be_bytes}
-use Rattle.vx_wire.specs.declared.field.Field.{Field}
 use Rattle.vx_wire.specs.declared.field.Field.TheVariants.{U32, U64}
 use Rattle.vx_parts.specs.Spelling.{spelled, key_in_bytes}
 
@@ -51,10 +50,12 @@ parts_are m = ap part_count (size_is m) ∙ at_least_one ((payload_size m + 1023
 pub key_is : (source target : ℕ) (line : Line) (m : Message) → key_in_bytes source target line m ≡ message_key source line m
 unfolding key_of_bytes
 key_is source target line (Hello session number stored) =
-    ap (λ (n : ℕ). let k : Key = record { source = source; kind = 1; line = line; session = session; number = number; parts = n } in k) (parts_are (Hello session number stored))
+    ap (λ (n : ℕ). let k : Key = record { source = source; kind = 1; line = line; session = session; number = number; parts = n } in k)
+    (parts_are (Hello session number stored))
 key_is source target line (Update number x) =
     ap (λ (n : ℕ). let k : Key = record { source = source; kind = 2; line = line; session = 0; number = number; parts = n } in k) (parts_are (Update number x))
 key_is source target line (NetAck session number) =
-    ap (λ (n : ℕ). let k : Key = record { source = source; kind = 3; line = line; session = session; number = number; parts = n } in k) (parts_are (NetAck session number))
+    ap (λ (n : ℕ). let k : Key = record { source = source; kind = 3; line = line; session = session; number = number; parts = n } in k)
+    (parts_are (NetAck session number))
 key_is source target line (DataAck number) =
     ap (λ (n : ℕ). let k : Key = record { source = source; kind = 4; line = line; session = 0; number = number; parts = n } in k) (parts_are (DataAck number))

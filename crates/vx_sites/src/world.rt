@@ -28,10 +28,10 @@ pub struct World {
 
 impl World {
     /// The world without sites.
-    pub fn new(alloc: Global) -> World
-        ensures { world_of result ≡ empty_world }
+    pub fn new(alloc: Global) -> Result<World, OutOfMemory>
+        ensures { IfOk result (λ w. world_of w ≡ empty_world) }
     {
-        World {
+        Ok(World {
             alloc,
             nodes: Vec::new(alloc),
             rows: Vec::new(alloc),
@@ -39,7 +39,7 @@ impl World {
             packets: Vec::new(alloc),
             promised: Vec::new(alloc),
             gathering: Vec::new(alloc),
-        }
+        })
     }
 
     /// The site of this number.

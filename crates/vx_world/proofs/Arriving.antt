@@ -1,15 +1,12 @@
 -- Updates that are delivered in their order, part by part: with whichever part each of them becomes whole, it is taken.
-use Rattle.std.proofs.Common.{◌≡◌, ◌∙◌, ◌⊎◌, inl, inr, ℕ, zero, suc, ◌+◌, ◌-◌, ◌≤◌, ◌<◌, List, [], ◌∷◌, ◌++◌, length, take, ap, sym, subst, refl, arith, Bool, true, false, append_assoc, length-append, get_or, replicate}
-use Rattle.std.specs.Prelude.{Option, Some, ◌&&◌, set, eqb, ltb, if◌then◌else◌, slice_get}
-use Rattle.std.specs.List.{list_all}
+use Rattle.std.proofs.Common.{◌≡◌, ◌∙◌, ◌⊎◌, inl, inr, ℕ, zero, suc, ◌+◌, ◌-◌, ◌≤◌, ◌<◌, List, [], ◌∷◌, ◌++◌, length, take, ap, sym, subst, refl, arith, Bool, true, false, append_assoc, length-append, get_or}
+use Rattle.std.specs.Prelude.{Option, Some, ltb, slice_get}
 use Rattle.std.proofs.lemmas.Bool.Decides.{nat_tests}
-use Rattle.std.proofs.lemmas.List.{length-set, get_or-set_same, get_or-set_other}
+use Rattle.std.proofs.lemmas.List.{length-set}
 use Rattle.vx_model.specs.Content.{Write}
-use Rattle.vx_model.specs.Sites.{same_line}
 use Rattle.vx_model.specs.declared.history.Line.{Line}
-use Rattle.vx_history.proofs.Updates.{same_line_self}
 use Rattle.vx_history.specs.World.{World, Node, Link, Packet, Key, Gathering, Update, NetAck}
-use Rattle.vx_history.specs.Gatherings.{message_key, same_key, came_before, came_after, completes}
+use Rattle.vx_history.specs.Gatherings.{message_key, came_before, came_after, completes}
 use Rattle.vx_history.specs.Sends.{packet, packets_from, updates, further_parts}
 use Rattle.vx_history.specs.Events.{with_write}
 use Rattle.vx_history.specs.Step.{step, run}
@@ -18,62 +15,7 @@ use Rattle.vx_world.specs.Settling.{deliver_each}
 use Rattle.vx_world.proofs.Pair.{At, Fit}
 use Rattle.vx_world.proofs.Told.{append-nil, IsYoung, taken_at, kept_at, ignored_at, again_at, memory_at, stale_at}
 use Rattle.vx_world.proofs.Batches.{IsIn, in_head, in_tail, in_more, fit_log, fit_link}
-
--- ## Parts that have come
-
--- the parts below this one have come
-abbrev Came : Option Gathering → Key → ℕ → Type 0
-Came g key j = (i : ℕ) → i < j → get_or (came_before g key) i false ≡ true
-
-all_true : (xs : List Bool) → ((i : ℕ) → i < length xs → get_or xs i false ≡ true) → list_all (λ c. c) xs ≡ true
-all_true [] h = refl
-all_true (x ∷ xs) h = both x (list_all (λ c. c) xs) (h zero (omega arith)) (all_true xs (λ i lt. h (suc i) (omega arith)))
-  where
-    both : (a b : Bool) → a ≡ true → b ≡ true → (a && b) ≡ true
-    both true b e f = f
-    both false b e f = absurd (cc)
-
--- with one part more
-came_more : (xs : List Bool) (j : ℕ) → j < length xs → ((i : ℕ) → i < j → get_or xs i false ≡ true) → (i : ℕ) → i < suc j → get_or (set xs j true) i false ≡ true
-came_more xs j lt h i few = by_place (eqb i j) refl
-  where
-    below : (i ≡ j → ⊥) → i < j
-    below apart = by (ltb i j) refl
-      where
-        by : (t : Bool) → ltb i j ≡ t → i < j
-        by true e = grind (arith, nat_tests)
-        by false e = absurd (apart (grind (arith, nat_tests)))
-
-    by_place : (b : Bool) → eqb i j ≡ b → get_or (set xs j true) i false ≡ true
-    by_place true e =
-        let here : i ≡ j = grind (arith, nat_tests) in ap (λ (k : ℕ). get_or (set xs j true) k false) here ∙ get_or-set_same xs j true false lt
-    by_place false e =
-        let apart : i ≡ j → ⊥ = λ same. let t : eqb i j ≡ true = grind (arith, nat_tests) in let f : true ≡ false = sym t ∙ e in cc in
-        get_or-set_other xs j i true false apart ∙ h i (below apart)
-
-key_itself : (key : Key) → same_key key key ≡ true
-key_itself key =
-    all_six (eqb key.source key.source) (eqb key.kind key.kind) (same_line key.line key.line) (eqb key.session key.session) (eqb key.number key.number) (eqb key.parts key.parts)
-    (same key.source) (same key.kind) (same_line_self key.line) (same key.session) (same key.number) (same key.parts)
-  where
-    same : (n : ℕ) → eqb n n ≡ true
-    same n = grind (arith, nat_tests)
-
-    all_six : (a b c d e f : Bool) → a ≡ true → b ≡ true → c ≡ true → d ≡ true → e ≡ true → f ≡ true → (a && (b && (c && (d && (e && f))))) ≡ true
-    all_six true true true true true f p q r s t u = u
-    all_six false b c d e f p q r s t u = absurd (cc)
-    all_six true false c d e f p q r s t u = absurd (cc)
-    all_six true true false d e f p q r s t u = absurd (cc)
-    all_six true true true false e f p q r s t u = absurd (cc)
-    all_six true true true true false f p q r s t u = absurd (cc)
-
--- what is then in assembly is what came of this message
-kept_came : (key : Key) (came : List Bool) → (let g : Gathering = record { key = key; came = came } in came_before (Some g) key) ≡ came
-kept_came key came = ap (λ (b : Bool). if b then came else replicate key.parts false) (key_itself key)
-
-by_value : {R : Type 0} (c : Bool) → (c ≡ true → R) → (c ≡ false → R) → R
-by_value true f g = f refl
-by_value false f g = g refl
+use Rattle.vx_world.proofs.PartsCame.{Came, all_true, came_more, kept_came, by_value}
 
 -- ## Acknowledgements
 
@@ -90,27 +32,29 @@ HasAck s p line session number (q ∷ qs) = (q ≡ packet s p line (NetAck sessi
 -- ## Updates
 
 -- one packet more was sent, and one packet was delivered
-young_more : (ps : List Packet) (k : ℕ) (q : Packet) → IsYoung ps k → IsYoung (ps ++ q ∷ []) (suc k)
+pub young_more : (ps : List Packet) (k : ℕ) (q : Packet) → IsYoung ps k → IsYoung (ps ++ q ∷ []) (suc k)
 young_more ps k q h = omega (arith, h, length-append ps (q ∷ []))
 
-young_next : (ps : List Packet) (k : ℕ) → IsYoung ps k → IsYoung ps (suc k)
+pub young_next : (ps : List Packet) (k : ℕ) → IsYoung ps k → IsYoung ps (suc k)
 young_next ps k h = omega (arith, h)
 
 module _ (p s : ℕ) (a : Node) (Q : World → Type 0) where
-  abbrev Acks : Node → ℕ → List Packet → Type 0
+  abbrev pub Acks : Node → ℕ → List Packet → Type 0
   Acks b high qs = AreAcks s p b.line b.session high qs
 
-  abbrev parts : ℕ → Write → (part count : ℕ) → List Packet
+  abbrev pub parts : ℕ → Write → (part count : ℕ) → List Packet
   parts n x part count = packets_from p s a.line (Update n x) part count
 
   -- what follows behind so many more parts, of which more acknowledgements came
-  abbrev Follows : Node → Link → List Packet → (k m : ℕ) → (high : ℕ) → List Packet → Type 0
+  abbrev pub Follows : Node → Link → List Packet → (k m : ℕ) → (high : ℕ) → List Packet → Type 0
   Follows b l ps k m high rest =
-      (w : World) (more : List Packet) → Acks b high more → length more ≤ m → At w p s a b l (ps ++ more) → IsIn (ps ++ more) (k + m) rest → IsYoung (ps ++ more) (k + m) → Q (run w (deliver_each (k + m) rest))
+      (w : World) (more : List Packet) → Acks b high more → length more ≤ m → At w p s a b l (ps ++ more) → IsIn (ps ++ more) (k + m) rest → IsYoung
+      (ps ++ more) (k + m) → Q (run w (deliver_each (k + m) rest))
 
   -- parts of an update that the site has
-  known_run : (m k j n : ℕ) (x : Write) (rest : List Packet) (v : World) (b : Node) (l : Link) (ps : List Packet) → At v p s a b l ps → Fit p s a b l
-      → n ≤ length b.log → IsIn ps k (parts n x j m ++ rest) → IsYoung ps k → Follows b l ps k m (length b.log) rest → Q (run v (deliver_each k (parts n x j m ++ rest)))
+  pub known_run : (m k j n : ℕ) (x : Write) (rest : List Packet) (v : World) (b : Node) (l : Link) (ps : List Packet) → At v p s a b l ps → Fit p s a b l
+      → n ≤ length b.log → IsIn ps k (parts n x j m ++ rest) → IsYoung ps k → Follows b l ps k m (length b.log) rest → Q
+      (run v (deliver_each k (parts n x j m ++ rest)))
   known_run zero k j n x rest v b l ps at fit old is young each =
       let here : k ≡ k + zero = omega arith in
       subst (λ (i : ℕ). Q (run v (deliver_each i rest))) (sym here)
@@ -122,7 +66,8 @@ module _ (p s : ℕ) (a : Node) (Q : World → Type 0) where
       let ack : Packet = packet s p b.line (NetAck b.session (length b.log)) 0 in
       let tail : List Packet = parts n x (j + 1) m ++ rest in
       let there : suc k + m ≡ k + suc m = omega arith in
-      known_run m (suc k) (j + 1) n x rest (step v (Deliver (suc k))).world b l (ps ++ ack ∷ []) (again_at v p s a b l ps at fit k n x j young (in_head ps k q tail is) old) fit old
+      known_run m (suc k) (j + 1) n x rest (step v (Deliver (suc k))).world b l (ps ++ ack ∷ [])
+      (again_at v p s a b l ps at fit k n x j young (in_head ps k q tail is) old) fit old
       (in_more ps (ack ∷ []) (suc k) tail (in_tail ps k q tail is)) (young_more ps k ack young)
       (λ w more acks few at_w is_w young_w.
       let same : (ps ++ ack ∷ []) ++ more ≡ ps ++ ack ∷ more = append_assoc ps (ack ∷ []) more in
@@ -132,25 +77,31 @@ module _ (p s : ℕ) (a : Node) (Q : World → Type 0) where
       (subst (λ (i : ℕ). IsYoung (ps ++ ack ∷ more) i) there (subst (λ (xs : List Packet). IsYoung xs (suc k + m)) same young_w))))
 
   -- what follows behind an update that was taken with one of so many parts
-  abbrev Taken : Node → Link → List Packet → (k m n : ℕ) → Write → List Packet → Type 0
+  abbrev pub Taken : Node → Link → List Packet → (k m n : ℕ) → Write → List Packet → Type 0
   Taken b l ps k m n x rest =
       (w : World) (more : List Packet) → Acks b n more → length more ≤ m → At w p s a (with_write b x) l (ps ++ packet s p b.line (NetAck b.session n) 0 ∷ more)
-      → IsIn (ps ++ packet s p b.line (NetAck b.session n) 0 ∷ more) (k + suc m) rest → IsYoung (ps ++ packet s p b.line (NetAck b.session n) 0 ∷ more) (k + suc m) → Q (run w (deliver_each (k + suc m) rest))
+      → IsIn (ps ++ packet s p b.line (NetAck b.session n) 0 ∷ more) (k + suc m) rest → IsYoung (ps ++ packet s p b.line (NetAck b.session n) 0 ∷ more)
+      (k + suc m) → Q (run w (deliver_each (k + suc m) rest))
 
   -- the parts of the next update up to this one
-  part_came : (n : ℕ) (x : Write) (j : ℕ) (g : Option Gathering) → length (came_before g (message_key p a.line (Update n x))) ≡ suc (further_parts (Update n x)) → j ≤ further_parts (Update n x) → Came g (message_key p a.line (Update n x)) j
+  pub part_came : (n : ℕ) (x : Write) (j : ℕ) (g : Option Gathering)
+      → length (came_before g (message_key p a.line (Update n x))) ≡ suc (further_parts (Update n x)) → j ≤ further_parts (Update n x)
+      → Came g (message_key p a.line (Update n x)) j
       → (i : ℕ) → i < suc j → get_or (came_after g (packet p s a.line (Update n x) j)) i false ≡ true
   part_came n x j g places few came = came_more (came_before g (message_key p a.line (Update n x))) j (omega (arith, places, few)) came
 
   -- with the last part it is whole
-  last_whole : (n : ℕ) (x : Write) (j : ℕ) (g : Option Gathering) → length (came_before g (message_key p a.line (Update n x))) ≡ suc (further_parts (Update n x)) → j ≡ further_parts (Update n x) → Came g (message_key p a.line (Update n x)) j
+  pub last_whole : (n : ℕ) (x : Write) (j : ℕ) (g : Option Gathering)
+      → length (came_before g (message_key p a.line (Update n x))) ≡ suc (further_parts (Update n x)) → j ≡ further_parts (Update n x)
+      → Came g (message_key p a.line (Update n x)) j
       → completes g (packet p s a.line (Update n x) j) ≡ true
   last_whole n x j g places last came =
-      let long : length (came_after g (packet p s a.line (Update n x) j)) ≡ suc (further_parts (Update n x)) = length-set (came_before g (message_key p a.line (Update n x))) j true ∙ places in
+      let long : length (came_after g (packet p s a.line (Update n x) j)) ≡ suc (further_parts (Update n x)) = length-set
+      (came_before g (message_key p a.line (Update n x))) j true ∙ places in
       all_true (came_after g (packet p s a.line (Update n x) j)) (λ i lt. part_came n x j g places (omega (arith, last)) came i (omega (arith, lt, long, last)))
 
   -- the update is taken with this part, and so many more follow
-  whole_run : (m k j n : ℕ) (x : Write) (rest : List Packet) (v : World) (b : Node) (l : Link) (ps : List Packet) → At v p s a b l ps → Fit p s a b l
+  pub whole_run : (m k j n : ℕ) (x : Write) (rest : List Packet) (v : World) (b : Node) (l : Link) (ps : List Packet) → At v p s a b l ps → Fit p s a b l
       → n ≡ length b.log + 1 → ltb (length b.log - b.safe) 16 ≡ true → completes (v.gathering s) (packet p s a.line (Update n x) j) ≡ true
       → IsIn ps k (parts n x j (suc m) ++ rest) → IsYoung ps k → Taken b l ps k m n x rest → Q (run v (deliver_each k (parts n x j (suc m) ++ rest)))
   whole_run m k j n x rest v b l ps at fit next room whole is young each =
@@ -160,7 +111,8 @@ module _ (p s : ℕ) (a : Node) (Q : World → Type 0) where
       let there : suc k + m ≡ k + suc m = omega arith in
       let c : Node = with_write b x in
       let long : length (b.log ++ x ∷ []) ≡ n = omega (arith, next, length-append b.log (x ∷ [])) in
-      known_run m (suc k) (j + 1) n x rest (step v (Deliver (suc k))).world c l (ps ++ ack ∷ []) (taken_at v p s a b l ps at fit k n x j young (in_head ps k q tail is) next room whole) (fit_log p s a b l (b.log ++ x ∷ []) fit)
+      known_run m (suc k) (j + 1) n x rest (step v (Deliver (suc k))).world c l (ps ++ ack ∷ [])
+      (taken_at v p s a b l ps at fit k n x j young (in_head ps k q tail is) next room whole) (fit_log p s a b l (b.log ++ x ∷ []) fit)
       (omega (arith, long)) (in_more ps (ack ∷ []) (suc k) tail (in_tail ps k q tail is)) (young_more ps k ack young)
       (λ w more acks few at_w is_w young_w.
       let same : (ps ++ ack ∷ []) ++ more ≡ ps ++ ack ∷ more = append_assoc ps (ack ∷ []) more in
@@ -170,11 +122,13 @@ module _ (p s : ℕ) (a : Node) (Q : World → Type 0) where
       (subst (λ (i : ℕ). IsYoung (ps ++ ack ∷ more) i) there (subst (λ (xs : List Packet). IsYoung xs (suc k + m)) same young_w))))
 
   -- parts of the next update, for which there is room: those before have come, and it is taken with one of these
-  next_run : (m k j n : ℕ) (x : Write) (rest : List Packet) (v : World) (b : Node) (l : Link) (ps : List Packet) → At v p s a b l ps → Fit p s a b l
-      → j + m ≡ further_parts (Update n x) → n ≡ length b.log + 1 → ltb (length b.log - b.safe) 16 ≡ true → Came (v.gathering s) (message_key p a.line (Update n x)) j
+  pub next_run : (m k j n : ℕ) (x : Write) (rest : List Packet) (v : World) (b : Node) (l : Link) (ps : List Packet) → At v p s a b l ps → Fit p s a b l
+      → j + m ≡ further_parts (Update n x) → n ≡ length b.log + 1 → ltb (length b.log - b.safe) 16 ≡ true → Came (v.gathering s)
+      (message_key p a.line (Update n x)) j
       → IsIn ps k (parts n x j (suc m) ++ rest) → IsYoung ps k → Taken b l ps k m n x rest → Q (run v (deliver_each k (parts n x j (suc m) ++ rest)))
   next_run zero k j n x rest v b l ps at fit all next room came is young each =
-      whole_run zero k j n x rest v b l ps at fit next room (last_whole n x j (v.gathering s) (at.places (message_key p a.line (Update n x))) (omega (arith, all)) came) is young each
+      whole_run zero k j n x rest v b l ps at fit next room
+      (last_whole n x j (v.gathering s) (at.places (message_key p a.line (Update n x))) (omega (arith, all)) came) is young each
   next_run (suc m) k j n x rest v b l ps at fit all next room came is young each =
       let q : Packet = packet p s a.line (Update n x) j in
       let ack : Packet = packet s p b.line (NetAck b.session n) 0 in
@@ -186,8 +140,10 @@ module _ (p s : ℕ) (a : Node) (Q : World → Type 0) where
       let w : World = (step v (Deliver (suc k))).world in
       let after = kept_at v p s a b l ps at fit k n x j young (in_head ps k q tail is) next room some in
       let on : suc k + suc m ≡ k + suc (suc m) = omega arith in
-      let now : came_before (w.gathering s) key ≡ came_after (v.gathering s) q = ap (λ (g : Option Gathering). came_before g key) after.1 ∙ kept_came key (came_after (v.gathering s) q) in
-      let came_now : Came (w.gathering s) key (j + 1) = λ i lt. ap (λ (xs : List Bool). get_or xs i false) now ∙ part_came n x j (v.gathering s) (at.places key) (omega (arith, all)) came i (omega (arith, lt)) in
+      let now : came_before (w.gathering s) key ≡ came_after (v.gathering s) q = ap (λ (g : Option Gathering). came_before g key) after.1 ∙ kept_came key
+      (came_after (v.gathering s) q) in
+      let came_now : Came (w.gathering s) key (j + 1) = λ i lt. ap (λ (xs : List Bool). get_or xs i false) now ∙ part_came n x j (v.gathering s)
+      (at.places key) (omega (arith, all)) came i (omega (arith, lt)) in
       next_run m (suc k) (j + 1) n x rest w b l ps after.0 fit (omega (arith, all)) next room came_now (in_tail ps k q tail is) (young_next ps k young)
       (λ u more acks few at_u is_u young_u.
       subst (λ (i : ℕ). Q (run u (deliver_each i rest))) (sym on)
@@ -196,9 +152,10 @@ module _ (p s : ℕ) (a : Node) (Q : World → Type 0) where
       (subst (λ (i : ℕ). IsYoung (ps ++ ack ∷ more) i) on young_u))))
 
   -- parts of updates for which there is no room
-  full_run : (m k j n : ℕ) (x : Write) (rest : List Packet) (v : World) (b : Node) (l : Link) (ps : List Packet) → At v p s a b l ps → Fit p s a b l
+  pub full_run : (m k j n : ℕ) (x : Write) (rest : List Packet) (v : World) (b : Node) (l : Link) (ps : List Packet) → At v p s a b l ps → Fit p s a b l
       → length b.log < n → ltb (length b.log - b.safe) 16 ≡ false → IsIn ps k (parts n x j m ++ rest) → IsYoung ps k
-      → ((w : World) → At w p s a b l ps → IsIn ps (k + m) rest → IsYoung ps (k + m) → Q (run w (deliver_each (k + m) rest))) → Q (run v (deliver_each k (parts n x j m ++ rest)))
+      → ((w : World) → At w p s a b l ps → IsIn ps (k + m) rest → IsYoung ps (k + m) → Q (run w (deliver_each (k + m) rest))) → Q
+      (run v (deliver_each k (parts n x j m ++ rest)))
   full_run zero k j n x rest v b l ps at fit past full is young each =
       let here : k ≡ k + zero = omega arith in
       subst (λ (i : ℕ). Q (run v (deliver_each i rest))) (sym here)
@@ -207,12 +164,14 @@ module _ (p s : ℕ) (a : Node) (Q : World → Type 0) where
       let q : Packet = packet p s a.line (Update n x) j in
       let tail : List Packet = parts n x (j + 1) m ++ rest in
       let there : suc k + m ≡ k + suc m = omega arith in
-      full_run m (suc k) (j + 1) n x rest (step v (Deliver (suc k))).world b l ps (ignored_at v p s a b l ps at fit k n x j young (in_head ps k q tail is) past full) fit past full (in_tail ps k q tail is) (young_next ps k young)
+      full_run m (suc k) (j + 1) n x rest (step v (Deliver (suc k))).world b l ps
+      (ignored_at v p s a b l ps at fit k n x j young (in_head ps k q tail is) past full) fit past full (in_tail ps k q tail is) (young_next ps k young)
       (λ w at_w is_w young_w.
       subst (λ (i : ℕ). Q (run w (deliver_each i rest))) (sym there)
       (each w at_w (subst (λ (i : ℕ). IsIn ps i rest) there is_w) (subst (λ (i : ℕ). IsYoung ps i) there young_w)))
 
-  full_all : (xs : List Write) (k n : ℕ) (v : World) (b : Node) (l : Link) (ps : List Packet) → At v p s a b l ps → Fit p s a b l → length b.log < n → ltb (length b.log - b.safe) 16 ≡ false
+  pub full_all : (xs : List Write) (k n : ℕ) (v : World) (b : Node) (l : Link) (ps : List Packet) → At v p s a b l ps → Fit p s a b l → length b.log < n
+      → ltb (length b.log - b.safe) 16 ≡ false
       → IsIn ps k (updates p s a.line n xs) → IsYoung ps k → ((w : World) → At w p s a b l ps → Q w) → Q (run v (deliver_each k (updates p s a.line n xs)))
   full_all [] k n v b l ps at fit past full is young each = each v at
   full_all (x ∷ xs) k n v b l ps at fit past full is young each =
@@ -232,30 +191,32 @@ pub record Arrived (p s : ℕ) (a b : Node) (l : Link) (ps : List Packet) (xs : 
   pub last : 0 < count → HasAck s p b.line b.session (length b.log + count) acks
   pub at : At w p s a (record b { log = b.log ++ take count xs }) l (ps ++ acks)
 
-more_acks : (s p : ℕ) (line : Line) (session low high : ℕ) (qs : List Packet) → low ≤ high → AreAcks s p line session low qs → AreAcks s p line session high qs
+pub more_acks : (s p : ℕ) (line : Line) (session low high : ℕ) (qs : List Packet) → low ≤ high → AreAcks s p line session low qs → AreAcks s p line session high qs
 more_acks s p line session low high [] few are = tt
 more_acks s p line session low high (q ∷ qs) few are = (are.0, are.1, omega (arith, are.2, few), more_acks s p line session low high qs few are.3)
 
-both_acks : (s p : ℕ) (line : Line) (session high : ℕ) (qs rs : List Packet) → AreAcks s p line session high qs → AreAcks s p line session high rs → AreAcks s p line session high (qs ++ rs)
+pub both_acks : (s p : ℕ) (line : Line) (session high : ℕ) (qs rs : List Packet) → AreAcks s p line session high qs → AreAcks s p line session high rs
+    → AreAcks s p line session high (qs ++ rs)
 both_acks s p line session high [] rs first second = second
 both_acks s p line session high (q ∷ qs) rs first second = (first.0, first.1, first.2, both_acks s p line session high qs rs first.3 second)
 
-later_ack : (s p : ℕ) (line : Line) (session number : ℕ) (qs rs : List Packet) → HasAck s p line session number rs → HasAck s p line session number (qs ++ rs)
+pub later_ack : (s p : ℕ) (line : Line) (session number : ℕ) (qs rs : List Packet) → HasAck s p line session number rs → HasAck s p line session number (qs ++ rs)
 later_ack s p line session number [] rs has = has
 later_ack s p line session number (q ∷ qs) rs has = inr (later_ack s p line session number qs rs has)
 
-less_or_not : (m n : ℕ) → (m < n) ⊎ (n ≤ m)
+pub less_or_not : (m n : ℕ) → (m < n) ⊎ (n ≤ m)
 less_or_not m n = by (ltb m n) refl
   where
     by : (t : Bool) → ltb m n ≡ t → (m < n) ⊎ (n ≤ m)
     by true e = inl (grind (arith, nat_tests))
     by false e = inr (grind (arith, nat_tests))
 
-same_ack : (s p : ℕ) (line : Line) (session m n : ℕ) → packet s p line (NetAck session m) 0 ≡ packet s p line (NetAck session n) 0 → m ≡ n
+pub same_ack : (s p : ℕ) (line : Line) (session m n : ℕ) → packet s p line (NetAck session m) 0 ≡ packet s p line (NetAck session n) 0 → m ≡ n
 same_ack s p line session m n e = let f : NetAck session m ≡ NetAck session n = ap (λ (q : Packet). q.message) e in cc
 
 -- none came
-none_came : (v : World) (p s : ℕ) (a b : Node) (l : Link) (ps : List Packet) (xs : List Write) (size : ℕ) → (0 < length xs → ltb (length b.log - b.safe) 16 ≡ true → 0 < 0) → At v p s a b l ps → Arrived p s a b l ps xs size v
+pub none_came : (v : World) (p s : ℕ) (a b : Node) (l : Link) (ps : List Packet) (xs : List Write) (size : ℕ)
+    → (0 < length xs → ltb (length b.log - b.safe) 16 ≡ true → 0 < 0) → At v p s a b l ps → Arrived p s a b l ps xs size v
 none_came v p s a b l ps xs size some at = record {
   count = 0;
   few = omega arith;
@@ -264,15 +225,18 @@ none_came v p s a b l ps xs size some at = record {
   are = tt;
   short = omega arith;
   last = λ h. absurd (omega (arith, h));
-  at = subst (λ (log : List Write). At v p s a (record b { log = log }) l (ps ++ [])) (sym (append-nil b.log)) (subst (λ (qs : List Packet). At v p s a b l qs) (sym (append-nil ps)) at);
+  at = subst (λ (log : List Write). At v p s a (record b { log = log }) l (ps ++ [])) (sym (append-nil b.log))
+      (subst (λ (qs : List Packet). At v p s a b l qs) (sym (append-nil ps)) at);
 }
 
-pub parts_length : (p s : ℕ) (line : Line) (n : ℕ) (x : Write) (j m : ℕ) (rest : List Packet) → length (packets_from p s line (Update n x) j m ++ rest) ≡ m + length rest
+pub parts_length : (p s : ℕ) (line : Line) (n : ℕ) (x : Write) (j m : ℕ) (rest : List Packet)
+    → length (packets_from p s line (Update n x) j m ++ rest) ≡ m + length rest
 parts_length p s line n x j zero rest = omega arith
 parts_length p s line n x j (suc m) rest = omega (arith, parts_length p s line n x (j + 1) m rest)
 
 -- one came, and then others
-one_came : (w : World) (p s : ℕ) (a b : Node) (l : Link) (ps more : List Packet) (n : ℕ) (x : Write) (xs : List Write) (size all : ℕ) → n ≡ length b.log + 1 → AreAcks s p b.line b.session n more → length more + 1 + size ≤ all
+pub one_came : (w : World) (p s : ℕ) (a b : Node) (l : Link) (ps more : List Packet) (n : ℕ) (x : Write) (xs : List Write) (size all : ℕ) → n ≡ length b.log + 1
+    → AreAcks s p b.line b.session n more → length more + 1 + size ≤ all
     → Arrived p s a (with_write b x) l (ps ++ packet s p b.line (NetAck b.session n) 0 ∷ more) xs size w → Arrived p s a b l ps (x ∷ xs) all w
 one_came w p s a b l ps more n x xs size all next acks room rest =
     let ack : Packet = packet s p b.line (NetAck b.session n) 0 in
@@ -293,21 +257,27 @@ one_came w p s a b l ps more n x xs size all next acks room rest =
       );
       short = omega (arith, room, rest.short, length-append more rest.acks);
       last = λ _. by_count rest.count refl;
-      at = subst (λ (sent : List Packet). At w p s a (record b { log = b.log ++ take (suc rest.count) (x ∷ xs) }) l sent) (append_assoc ps (ack ∷ more) rest.acks)
-          (subst (λ (log : List Write). At w p s a (record b { log = log }) l ((ps ++ ack ∷ more) ++ rest.acks)) (append_assoc b.log (x ∷ []) (take rest.count xs)) rest.at);
+      at = subst (λ (sent : List Packet). At w p s a (record b { log = b.log ++ take (suc rest.count) (x ∷ xs) }) l sent)
+          (append_assoc ps (ack ∷ more) rest.acks)
+          (subst (λ (log : List Write). At w p s a (record b { log = log }) l ((ps ++ ack ∷ more) ++ rest.acks))
+          (append_assoc b.log (x ∷ []) (take rest.count xs)) rest.at);
     }
   where
-    by_count : (c : ℕ) → rest.count ≡ c → HasAck s p b.line b.session (length b.log + suc rest.count) (packet s p b.line (NetAck b.session n) 0 ∷ (more ++ rest.acks))
-    by_count zero e = let number : n ≡ length b.log + suc rest.count = omega (arith, next, e) in inl (ap (λ (i : ℕ). packet s p b.line (NetAck b.session i) 0) number)
+    by_count : (c : ℕ) → rest.count ≡ c
+        → HasAck s p b.line b.session (length b.log + suc rest.count) (packet s p b.line (NetAck b.session n) 0 ∷ (more ++ rest.acks))
+    by_count zero e = let number : n ≡ length b.log + suc rest.count = omega (arith, next, e) in inl
+        (ap (λ (i : ℕ). packet s p b.line (NetAck b.session i) 0) number)
     by_count (suc c) e =
         let number : length (b.log ++ x ∷ []) + rest.count ≡ length b.log + suc rest.count = omega (arith, length-append b.log (x ∷ [])) in
-        inr (later_ack s p b.line b.session (length b.log + suc rest.count) more rest.acks (subst (λ (i : ℕ). HasAck s p b.line b.session i rest.acks) number (rest.last (omega (arith, e)))))
+        inr (later_ack s p b.line b.session (length b.log + suc rest.count) more rest.acks
+        (subst (λ (i : ℕ). HasAck s p b.line b.session i rest.acks) number (rest.last (omega (arith, e)))))
 
 -- at first no part is asked for
-none_below : (g : Option Gathering) (key : Key) → Came g key 0
+pub none_below : (g : Option Gathering) (key : Key) → Came g key 0
 none_below g key i lt = absurd (omega (arith, lt))
 
-pub updates_any : (p s : ℕ) (a : Node) (xs : List Write) (k n : ℕ) (v : World) (b : Node) (l : Link) (ps : List Packet) → At v p s a b l ps → Fit p s a b l → IsIn ps k (updates p s a.line n xs) → n ≡ length b.log + 1 → IsYoung ps k
+pub updates_any : (p s : ℕ) (a : Node) (xs : List Write) (k n : ℕ) (v : World) (b : Node) (l : Link) (ps : List Packet) → At v p s a b l ps → Fit p s a b l
+    → IsIn ps k (updates p s a.line n xs) → n ≡ length b.log + 1 → IsYoung ps k
     → Arrived p s a b l ps xs (length (updates p s a.line n xs)) (run v (deliver_each k (updates p s a.line n xs)))
 updates_any p s a [] k n v b l ps at fit is next young = none_came v p s a b l ps [] 0 (λ h _. h) at
 updates_any p s a (x ∷ xs) k n v b l ps at fit is next young =
@@ -316,9 +286,12 @@ updates_any p s a (x ∷ xs) k n v b l ps at fit is next young =
     let size : ℕ = length (updates p s a.line n (x ∷ xs)) in
     let long : size ≡ suc f + length rest = parts_length p s a.line n x 0 (suc f) rest in
     by_value (ltb (length b.log - b.safe) 16)
-    (λ room. next_run p s a (λ w. Arrived p s a b l ps (x ∷ xs) size w) f k 0 n x rest v b l ps at fit (omega arith) next room (none_below (v.gathering s) (message_key p a.line (Update n x))) is young
-    (λ w more acks few at_w is_w young_w. one_came (run w (deliver_each (k + suc f) rest)) p s a b l ps more n x xs (length rest) size next acks (omega (arith, few, long))
-    (updates_any p s a xs (k + suc f) (n + 1) w (with_write b x) l (ps ++ packet s p b.line (NetAck b.session n) 0 ∷ more) at_w (fit_log p s a b l (b.log ++ x ∷ []) fit) is_w
+    (λ room. next_run p s a (λ w. Arrived p s a b l ps (x ∷ xs) size w) f k 0 n x rest v b l ps at fit (omega arith) next room
+    (none_below (v.gathering s) (message_key p a.line (Update n x))) is young
+    (λ w more acks few at_w is_w young_w. one_came (run w (deliver_each (k + suc f) rest)) p s a b l ps more n x xs (length rest) size next acks
+    (omega (arith, few, long))
+    (updates_any p s a xs (k + suc f) (n + 1) w (with_write b x) l (ps ++ packet s p b.line (NetAck b.session n) 0 ∷ more) at_w
+    (fit_log p s a b l (b.log ++ x ∷ []) fit) is_w
     (omega (arith, next, length-append b.log (x ∷ []))) young_w)))
     (λ full. full_all p s a (λ w. Arrived p s a b l ps (x ∷ xs) size w) (x ∷ xs) k n v b l ps at fit (omega (arith, next)) full is young
     (λ w at_w. none_came w p s a b l ps (x ∷ xs) size (λ _ room. let e : true ≡ false = sym room ∙ full in absurd (cc)) at_w))
@@ -333,7 +306,8 @@ pub record Told (p s : ℕ) (a b : Node) (l : Link) (ps : List Packet) (high : �
   pub all : HasAck s p b.line b.session high qs → net ≡ high
   pub at : At w p s a b (record l { net = net }) ps
 
-pub acks_any : (p s : ℕ) (a b : Node) (qs : List Packet) (k high : ℕ) (v : World) (l : Link) (ps : List Packet) → At v p s a b l ps → Fit p s a b l → IsIn ps k qs → AreAcks s p b.line b.session high qs → l.session ≡ b.session → l.net ≤ high
+pub acks_any : (p s : ℕ) (a b : Node) (qs : List Packet) (k high : ℕ) (v : World) (l : Link) (ps : List Packet) → At v p s a b l ps → Fit p s a b l
+    → IsIn ps k qs → AreAcks s p b.line b.session high qs → l.session ≡ b.session → l.net ≤ high
     → IsYoung ps k → Told p s a b l ps high qs (run v (deliver_each k qs))
 acks_any p s a b [] k high v l ps at fit is are session most young = record { net = l.net; rises = omega arith; most = most; all = λ none. absurd none; at = at }
 acks_any p s a b (q ∷ qs) k high v l ps at fit is are session most young =
@@ -343,21 +317,32 @@ acks_any p s a b (q ∷ qs) k high v l ps at fit is are session most young =
     elim (less_or_not l.net number) [
       | inl new ↦
           let m : Link = record l { net = number } in
-          let rest = acks_any p s a b qs (suc k) high w m ps (memory_at v p s a b l ps at fit k number young there session new) (fit_link p s a b l l.session number l.stored l.sent l.trimmed fit) (in_tail ps k q qs is) are.3 session (omega (arith, are.2)) (young_next ps k young) in
+          let rest = acks_any p s a b qs (suc k) high w m ps (memory_at v p s a b l ps at fit k number young there session new)
+          (fit_link p s a b l l.session number l.stored l.sent l.trimmed fit) (in_tail ps k q qs is) are.3 session (omega (arith, are.2))
+          (young_next ps k young) in
           record {
             net = rest.net;
             rises = omega (arith, rest.rises, new);
             most = rest.most;
-            all = λ has. elim has [ inl here ↦ let top : number ≡ high = same_ack s p b.line b.session number high (sym are.1 ∙ here) in omega (arith, rest.rises, rest.most, top) | inr later ↦ rest.all later ];
+            all = λ has. elim has [
+              | inl here ↦ let top : number ≡ high = same_ack s p b.line b.session number high (sym are.1 ∙ here) in omega
+                  (arith, rest.rises, rest.most, top)
+              | inr later ↦ rest.all later
+            ];
             at = rest.at;
           }
       | inr old ↦
-          let rest = acks_any p s a b qs (suc k) high w l ps (stale_at v p s a b l ps at fit k number young there old) fit (in_tail ps k q qs is) are.3 session most (young_next ps k young) in
+          let rest = acks_any p s a b qs (suc k) high w l ps (stale_at v p s a b l ps at fit k number young there old) fit
+          (in_tail ps k q qs is) are.3 session most (young_next ps k young) in
           record {
             net = rest.net;
             rises = rest.rises;
             most = rest.most;
-            all = λ has. elim has [ inl here ↦ let top : number ≡ high = same_ack s p b.line b.session number high (sym are.1 ∙ here) in omega (arith, rest.rises, rest.most, top, old) | inr later ↦ rest.all later ];
+            all = λ has. elim has [
+              | inl here ↦ let top : number ≡ high = same_ack s p b.line b.session number high (sym are.1 ∙ here) in omega
+                  (arith, rest.rises, rest.most, top, old)
+              | inr later ↦ rest.all later
+            ];
             at = rest.at;
           }
     ]

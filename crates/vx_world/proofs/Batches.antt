@@ -25,7 +25,8 @@ in_more ps more k qs h j q e = kept_get ps more (k + j) q (h j q e)
 
 pub in_new : (xs ys : List Packet) → IsIn (xs ++ ys) (length xs) ys
 in_new [] ys j q e = subst (λ i. slice_get ys i ≡ Some q) (let f : j ≡ zero + j = omega arith in f) e
-in_new (x ∷ xs) ys j q e = subst (λ i. slice_get (x ∷ xs ++ ys) i ≡ Some q) (let f : suc (length xs + j) ≡ suc (length xs) + j = omega arith in f) (in_new xs ys j q e)
+in_new (x ∷ xs) ys j q e = subst (λ i. slice_get (x ∷ xs ++ ys) i ≡ Some q) (let f : suc (length xs + j) ≡ suc (length xs) + j = omega arith in f)
+    (in_new xs ys j q e)
 
 pub fit_log : (p s : ℕ) (a b : Node) (l : Link) (log : List Write) → Fit p s a b l → Fit p s a (record b { log = log }) l
 fit_log p s a b l log fit = record {
@@ -46,7 +47,8 @@ fit_log p s a b l log fit = record {
   mode = fit.mode;
 }
 
-pub fit_link : (p s : ℕ) (a b : Node) (l : Link) (session net stored sent trimmed : ℕ) → Fit p s a b l → Fit p s a b (record l { session = session; net = net; stored = stored; sent = sent; trimmed = trimmed })
+pub fit_link : (p s : ℕ) (a b : Node) (l : Link) (session net stored sent trimmed : ℕ) → Fit p s a b l
+    → Fit p s a b (record l { session = session; net = net; stored = stored; sent = sent; trimmed = trimmed })
 fit_link p s a b l session net stored sent trimmed fit = record {
   apart = fit.apart;
   up_a = fit.up_a;

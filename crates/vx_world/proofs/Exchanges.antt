@@ -17,7 +17,8 @@ pub sending_none : (w : World) → sending w [] ≡ w
 sending_none w = ap (λ (ps : List Packet). let v : World = record w { packets = ps } in v) (append-nil w.packets)
 
 -- a link is connected, and the other end greets
-pub connected : (w mid new : World) (p s : ℕ) → mid ≡ with_link w p s (with_plain (w.links p s) (link_step w p s Connect).link) → new ≡ sending mid (greeting_back mid p s)
+pub connected : (w mid new : World) (p s : ℕ) → mid ≡ with_link w p s (with_plain (w.links p s) (link_step w p s Connect).link)
+    → new ≡ sending mid (greeting_back mid p s)
     → new ≡ sending (link_event w p s Connect) (greeting_back w p s)
 connected w mid new p s moved sent =
     let moves : World = with_link w p s (with_plain (w.links p s) (link_step w p s Connect).link) in
@@ -26,7 +27,8 @@ connected w mid new p s moved sent =
     ∙ ap (λ (v : World). sending v (greeting_back w p s)) (sym (sending_none moves))
 
 -- a link changes by its rule, and what the rule asks for is sent
-pub moved_and_sent : (w mid new : World) (p s : ℕ) (e : SEvent) (a : Action) → mid ≡ with_link w p s (with_plain (w.links p s) (link_step w p s e).link) → a ≡ (link_step w p s e).action
+pub moved_and_sent : (w mid new : World) (p s : ℕ) (e : SEvent) (a : Action) → mid ≡ with_link w p s (with_plain (w.links p s) (link_step w p s e).link)
+    → a ≡ (link_step w p s e).action
     → new ≡ sending mid (sent_by a p s (mid.nodes p)) → new ≡ link_event w p s e
 moved_and_sent w mid new p s e a moved asked sent =
     let moves : World = with_link w p s (with_plain (w.links p s) (link_step w p s e).link) in
@@ -35,7 +37,8 @@ moved_and_sent w mid new p s e a moved asked sent =
     ∙ ap (λ (b : Action). sending moves (sent_by b p s (w.nodes p))) asked
 
 -- an update is taken and acknowledged
-pub taken_and_told : (w mid new : World) (p : Packet) (x : Write) (whole : Bool) (number : ℕ) → whole ≡ true → mid ≡ with_node w p.target (with_write (w.nodes p.target) x)
+pub taken_and_told : (w mid new : World) (p : Packet) (x : Write) (whole : Bool) (number : ℕ) → whole ≡ true
+    → mid ≡ with_node w p.target (with_write (w.nodes p.target) x)
     → new ≡ from_memory mid (mid.nodes p.target) p number → says new Taken ≡ taken_if whole w p x number
 taken_and_told w mid new p x whole number is put told =
     let puts : World = with_node w p.target (with_write (w.nodes p.target) x) in

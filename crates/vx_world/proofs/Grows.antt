@@ -67,7 +67,11 @@ grown_trans u v w g h = record {
   told = λ l made. omega (arith, g.told l made, h.told l (g.made l.origin made));
   made = λ i made. h.made i (g.made i made);
   sent = (g.sent.0 ++ h.sent.0, h.sent.1 ∙ ap (λ (t : List Packet). t ++ h.sent.0) g.sent.1 ∙ append_assoc u.packets g.sent.0 h.sent.0);
-  promised = (g.promised.0 ++ h.promised.0, h.promised.1 ∙ ap (λ (t : List Promise). t ++ h.promised.0) g.promised.1 ∙ append_assoc u.promised g.promised.0 h.promised.0);
+  promised = (
+    g.promised.0 ++ h.promised.0,
+    h.promised.1 ∙ ap (λ (t : List Promise). t ++ h.promised.0) g.promised.1
+        ∙ append_assoc u.promised g.promised.0 h.promised.0,
+  );
 }
 
 module _ (w v : World) (g : Grown w v) where
@@ -104,9 +108,11 @@ grown_node w i n stays = record {
   promised = ([], sym (append-nil w.promised));
 }
 
-grown_history : (w : World) (i : ℕ) (n : Node) (h : History) → (IsMade (w.nodes i) → IsMade n) → (IsMade (w.nodes n.line.origin) → IsPrefixOf (w.lines n.line).held h.held × ((w.lines n.line).told ≤ h.told)) → Grown w (with_history w i n h)
+grown_history : (w : World) (i : ℕ) (n : Node) (h : History) → (IsMade (w.nodes i) → IsMade n)
+    → (IsMade (w.nodes n.line.origin) → IsPrefixOf (w.lines n.line).held h.held × ((w.lines n.line).told ≤ h.told)) → Grown w (with_history w i n h)
 grown_history w i n h stays grows = record {
-  held = all_lines (λ l (r : History). IsMade (w.nodes l.origin) → IsPrefixOf (w.lines l).held r.held) w.lines n.line h (λ made. (grows made).0) (λ l _ _. prefix_refl (w.lines l).held);
+  held = all_lines (λ l (r : History). IsMade (w.nodes l.origin) → IsPrefixOf (w.lines l).held r.held) w.lines n.line h (λ made. (grows made).0)
+      (λ l _ _. prefix_refl (w.lines l).held);
   told = all_lines (λ l (r : History). IsMade (w.nodes l.origin) → (w.lines l).told ≤ r.told) w.lines n.line h (λ made. (grows made).1) (λ l _ _. omega arith);
   made = all_updated (λ k (m : Node). IsMade (w.nodes k) → IsMade m) w.nodes i n stays (λ k _ made. made);
   sent = ([], sym (append-nil w.packets));
@@ -123,11 +129,14 @@ put_grows : (w v : World) (p : ℕ) (x : Write) (fails : Option ℕ) → Sound v
 put_grows w v p x None s g =
     let n : Node = v.nodes p in
     grown_trans w v (written v p x) g
-    (grown_history v p (logged n x) (told_of (v.lines n.line) x) (λ made. made) (λ _. (prefix_more (v.lines n.line).held (x ∷ []), omega (arith, s.good.told n.line))))
+    (grown_history v p (logged n x) (told_of (v.lines n.line) x) (λ made. made)
+    (λ _. (prefix_more (v.lines n.line).held (x ∷ []), omega (arith, s.good.told n.line))))
 put_grows w v p x (Some disk) s g =
-    grown_trans w v (half_written v p x disk) g (grown_node v p (record (v.nodes p) { log = (v.nodes p).log ++ x ∷ []; halted = Some disk; fuse = burned (v.nodes p).fuse }) (λ made. made))
+    grown_trans w v (half_written v p x disk) g
+    (grown_node v p (record (v.nodes p) { log = (v.nodes p).log ++ x ∷ []; halted = Some disk; fuse = burned (v.nodes p).fuse }) (λ made. made))
 
-written_grows : (admitted : Admitted) (w : World) (p : ℕ) (x : Write) (fails : Option ℕ) → Sound w → Sound (Events.links_changed w p x) → Leaves w (Events.written_if admitted w p x fails)
+written_grows : (admitted : Admitted) (w : World) (p : ℕ) (x : Write) (fails : Option ℕ) → Sound w → Sound (Events.links_changed w p x)
+    → Leaves w (Events.written_if admitted w p x fails)
 written_grows (Held_by why) w p x fails s v = grown_same w
 written_grows (Goes changes) w p x fails s v =
     Guards.unless_holds (Grown w) _ _ w (Events.put_in (Events.links_changed w p x) p x fails) (grown_same w)
@@ -169,7 +178,8 @@ taken_grows w p x (AcksFromDisk number) = grown_same w
 heard_grows : (w : World) (p : Packet) (m : Message) → Leaves w (Events.heard w p m)
 heard_grows w p (Hello session number stored) = link_heard_grows w p (HearHello session number stored)
 heard_grows w p (Update number x) =
-    by_test (Leaves w) (is_origin (w.nodes p.target).role) (says w IsIgnored) _ (λ _. grown_same w) (λ _. taken_grows w p x (received_step (plain_receiver (w.nodes p.target)) (HearUpdate p.line number)).action)
+    by_test (Leaves w) (is_origin (w.nodes p.target).role) (says w IsIgnored) _ (λ _. grown_same w)
+    (λ _. taken_grows w p x (received_step (plain_receiver (w.nodes p.target)) (HearUpdate p.line number)).action)
 heard_grows w p (NetAck session number) = link_heard_grows w p (HearNetAck session number)
 heard_grows w p (DataAck number) = link_heard_grows w p (HearDataAck number)
 
@@ -197,13 +207,18 @@ crash_grows w q k s up least =
     (by_test (λ (v : World). Grown w (with_links v q row)) (is_origin n.role) (crash_left w q k) (with_node w q (crashed n k))
     (λ o. grown_links w (crash_left w q k)
     (grown_history w q (crashed n k) (record (w.lines n.line) { held = take k n.log }) (λ _ e. cc)
-    (λ _. (subst (λ t. IsPrefixOf t (take k n.log)) (take-take n.safe k n.log least ∙ (s.good.nodes q).origin_log made o) (prefix_take n.safe (take k n.log)), omega arith)))
+    (λ _. (
+      subst (λ t. IsPrefixOf t (take k n.log)) (take-take n.safe k n.log least ∙ (s.good.nodes q).origin_log made o)
+          (prefix_take n.safe (take k n.log)),
+      omega arith,
+    )))
     (with_links (crash_left w q k) q row).links)
     (λ _. grown_links w (with_node w q (crashed n k)) (grown_node w q (crashed n k) (λ _ e. cc)) (with_links (with_node w q (crashed n k)) q row).links)) _
 
 recovery_grows : (w : World) (q : ℕ) (fails : Option ℕ) → Leaves w (Events.recovery w q fails)
 recovery_grows w q None =
-    Nodes.back_by (λ (m : Node). Grown w (sending (with_links (with_node w q m) q (λ to. Events.restarted_link m to (w.links q to))) (Events.recovery_greeting q m))) (w.nodes q)
+    Nodes.back_by (λ (m : Node). Grown w
+    (sending (with_links (with_node w q m) q (λ to. Events.restarted_link m to (w.links q to))) (Events.recovery_greeting q m))) (w.nodes q)
     (λ mark _ _.
     let m : Node = Nodes.risen (w.nodes q) mark in
     let v : World = with_node w q m in
@@ -219,7 +234,8 @@ recover_grows w q Down fails = Guards.unless_holds (Grown w) _ _ w (Events.recov
 
 site_grows : (w : World) (name : List ℕ) (disks blocks : ℕ) → Sound w → Grown w (site_made w name disks blocks)
 site_grows w name disks blocks s =
-    let g : Grown w (with_node w w.sites (bare_site name disks blocks)) = grown_node w w.sites (bare_site name disks blocks) (λ made. absurd (made (s.good.later w.sites (omega arith)))) in
+    let g : Grown w (with_node w w.sites (bare_site name disks blocks)) = grown_node w w.sites (bare_site name disks blocks)
+    (λ made. absurd (made (s.good.later w.sites (omega arith)))) in
     record { held = g.held; told = g.told; made = g.made; sent = g.sent; promised = g.promised }
 
 raw_grows : (w : World) (q : ℕ) → (w.nodes q).state ≡ Bare → Grown w (raw_made w q)
@@ -238,7 +254,8 @@ link_part_grows Joins w p q sync up =
     (λ _. grown_gathering w joins (grown_node w q (Events.joined (w.nodes p) p (w.nodes q)) (λ made. made)) _))))
 link_part_grows Made w p q sync up =
     let l : LinkRecord = Events.new_link (links_of w p) sync (w.nodes q) in
-    Guards.unless_holds (Grown w) (not (is_primary (w.nodes p).role && follows w p q)) WrongRole w (unless (is_linked (w.links p q)) (Exists (w.nodes q).name) w (done (with_link w p q l))) (grown_same w)
+    Guards.unless_holds (Grown w) (not (is_primary (w.nodes p).role && follows w p q)) WrongRole w
+    (unless (is_linked (w.links p q)) (Exists (w.nodes q).name) w (done (with_link w p q l))) (grown_same w)
     (λ _. Guards.unless_holds (Grown w) (is_linked (w.links p q)) (Exists (w.nodes q).name) w (done (with_link w p q l)) (grown_same w)
     (λ _. grown_links w w (grown_same w) (with_link w p q l).links))
 link_part_grows Marked w p q sync up =
@@ -256,7 +273,8 @@ outcome_grows w (Site name disks blocks) s =
     let o : Outcome = done (site_made w name disks blocks) in
     let few : Outcome = unless (eqb disks 0 || ltb blocks 8) Size w o in
     let some : Outcome = unless (ltb MOST_DISKS disks) (Limit Disks MOST_DISKS) w few in
-    Guards.unless_holds (Grown w) (some_below w.sites (λ k. bytes_eq (w.nodes k).name name)) (Exists name) w (unless (leb MOST_SITES w.sites) (Limit Sites MOST_SITES) w some) (grown_same w)
+    Guards.unless_holds (Grown w) (some_below w.sites (λ k. bytes_eq (w.nodes k).name name)) (Exists name) w
+    (unless (leb MOST_SITES w.sites) (Limit Sites MOST_SITES) w some) (grown_same w)
     (λ _. Guards.unless_holds (Grown w) (leb MOST_SITES w.sites) (Limit Sites MOST_SITES) w some (grown_same w)
     (λ _. Guards.unless_holds (Grown w) (ltb MOST_DISKS disks) (Limit Disks MOST_DISKS) w few (grown_same w)
     (λ _. Guards.unless_holds (Grown w) (eqb disks 0 || ltb blocks 8) Size w o (grown_same w) (λ _. site_grows w name disks blocks s))))
@@ -269,7 +287,8 @@ outcome_grows w (Raw q) s =
     (λ _. raw_grows w q (Guards.bare_is (w.nodes q).state (not_false (is_bare (w.nodes q).state) bare)))))
 outcome_grows w (WriteAt p volume start bytes fails) s =
     let x : Write = record { volume = volume; start = start; bytes = bytes } in
-    Guards.on_volume_holds (Grown w) w p volume start (blocks_in bytes) (is_too_large (w.nodes p).ring (blocks_in bytes)) (Events.written_if (Events.admitted w p x) w p x fails) (grown_same w)
+    Guards.on_volume_holds (Grown w) w p volume start (blocks_in bytes) (is_too_large (w.nodes p).ring (blocks_in bytes))
+    (Events.written_if (Events.admitted w p x) w p x fails) (grown_same w)
     (λ _ _ _. written_grows (Events.admitted w p x) w p x fails s (links_changed_keeps w p x s))
 outcome_grows w (Read p volume start count) s = Guards.on_volume_holds (Grown w) w p volume start count false _ (grown_same w) (λ _ _ _. grown_same w)
 outcome_grows w (Apply q count reached) s =
@@ -277,9 +296,11 @@ outcome_grows w (Apply q count reached) s =
     let r : Received = received_step (plain_receiver (w.nodes q)) (Applied count) in
     Guards.at_site_holds (Grown w) w q (at_work w q o) (grown_same w)
     (λ _. Guards.at_work_holds (Grown w) w q o (grown_same w)
-    (λ _ _. by_test (Leaves w) (is_origin (w.nodes q).role) (Events.reached_at w q count reached) (Events.apply_at w q count) (λ _. grown_same w) (λ _. applied_grows w q r.state r.action)))
+    (λ _ _. by_test (Leaves w) (is_origin (w.nodes q).role) (Events.reached_at w q count reached) (Events.apply_at w q count) (λ _. grown_same w)
+    (λ _. applied_grows w q r.state r.action)))
 outcome_grows w (Pump p q) s =
-    Guards.on_link_holds (Grown w) keeps_links w p q _ (grown_same w) (λ _ _ _. Guards.when_live_holds (Grown w) w q (w.links p q) (done (Events.link_event w p q PumpLink)) (grown_same w) (moved_grows w p q PumpLink))
+    Guards.on_link_holds (Grown w) keeps_links w p q _ (grown_same w)
+    (λ _ _ _. Guards.when_live_holds (Grown w) w q (w.links p q) (done (Events.link_event w p q PumpLink)) (grown_same w) (moved_grows w p q PumpLink))
 outcome_grows w (Tick p q) s = on_link_grows w p q TickLink
 outcome_grows w (Deliver number) s = delivered_grows w number (Events.packet_at w.packets number)
 outcome_grows w (Connect p q) s =
@@ -295,16 +316,19 @@ outcome_grows w (Wait p number) s =
     let promised : Outcome = says (promising w (Events.promises_of (w.nodes p) number (w.links p) w.sites)) (DoneAt number) in
     let answered : Outcome = if held then says w (Pending number) else promised in
     let known : Outcome = unless unconfirmed (Unconfirmed number) w answered in
-    let o : Outcome = unless (not (is_origin (w.nodes p).role)) WrongRole w (unless (eqb number 0 || ltb (w.nodes p).safe number) (Unknown (ByNumber number)) w known) in
+    let o : Outcome = unless (not (is_origin (w.nodes p).role)) WrongRole w
+    (unless (eqb number 0 || ltb (w.nodes p).safe number) (Unknown (ByNumber number)) w known) in
     Guards.at_site_holds (Grown w) w p (at_work w p o) (grown_same w)
     (λ _. Guards.at_work_holds (Grown w) w p o (grown_same w)
     (λ _ _. Guards.unless_holds (Grown w) (not (is_origin (w.nodes p).role)) WrongRole w _ (grown_same w)
     (λ _. Guards.unless_holds (Grown w) (eqb number 0 || ltb (w.nodes p).safe number) (Unknown (ByNumber number)) w known (grown_same w)
     (λ _. Guards.unless_holds (Grown w) unconfirmed (Unconfirmed number) w answered (grown_same w)
-    (λ _. by_test (Leaves w) held (says w (Pending number)) promised (λ _. grown_same w) (λ _. grown_promising w w (grown_same w) (Events.promises_of (w.nodes p) number (w.links p) w.sites)))))))
+    (λ _. by_test (Leaves w) held (says w (Pending number)) promised (λ _. grown_same w)
+    (λ _. grown_promising w w (grown_same w) (Events.promises_of (w.nodes p) number (w.links p) w.sites)))))))
 outcome_grows w (Link p q sync part) s =
     Guards.at_site_holds (Grown w) w p _ (grown_same w)
-    (λ _. Guards.at_site_holds (Grown w) w q _ (grown_same w) (λ _. Guards.both_holds (Grown w) w p q (link_part part w p q sync) (grown_same w) (λ _ up _. link_part_grows part w p q sync up)))
+    (λ _. Guards.at_site_holds (Grown w) w q _ (grown_same w)
+    (λ _. Guards.both_holds (Grown w) w p q (link_part part w p q sync) (grown_same w) (λ _ up _. link_part_grows part w p q sync up)))
 outcome_grows w (Set p q sync) s =
     let l : LinkRecord = record (w.links p q) { sync = sync; prot = FailsWhenFull } in
     Guards.on_link_holds (Grown w) is_origin w p q (done (with_link w p q l)) (grown_same w) (λ _ _ _. grown_links w w (grown_same w) (with_link w p q l).links)
@@ -312,7 +336,8 @@ outcome_grows w (Crash q kept) s =
     let o : Outcome = done (Events.crash_at w q (Events.kept_of (w.nodes q) kept)) in
     Guards.at_site_holds (Grown w) w q (unless (not (is_up (w.nodes q).state)) NotUp w o) (grown_same w)
     (λ _. Guards.unless_holds (Grown w) (not (is_up (w.nodes q).state)) NotUp w o (grown_same w)
-    (λ up. crash_grows w q (Events.kept_of (w.nodes q) kept) s (Guards.up_is (w.nodes q).state (not_false (is_up (w.nodes q).state) up)) (Nodes.kept_least (w.nodes q) kept (s.good.nodes q).safe_fits)))
+    (λ up. crash_grows w q (Events.kept_of (w.nodes q) kept) s (Guards.up_is (w.nodes q).state (not_false (is_up (w.nodes q).state) up))
+    (Nodes.kept_least (w.nodes q) kept (s.good.nodes q).safe_fits)))
 outcome_grows w (Recover q fails) s = Guards.at_site_holds (Grown w) w q _ (grown_same w) (λ _. recover_grows w q (w.nodes q).state fails)
 outcome_grows w (Fault q disk) s =
     Guards.at_site_holds (Grown w) w q _ (grown_same w)
@@ -321,7 +346,8 @@ outcome_grows w (Fault q disk) s =
 
 -- whatever headers it writes
 pub step_grows : (w : World) (e : Event) → Sound w → Leaves w (step w e)
-step_grows w e s = let g : Grown w (outcome_of w e).world = outcome_grows w e s in record { held = g.held; told = g.told; made = g.made; sent = g.sent; promised = g.promised }
+step_grows w e s = let g : Grown w
+    (outcome_of w e).world = outcome_grows w e s in record { held = g.held; told = g.told; made = g.made; sent = g.sent; promised = g.promised }
 
 pub run_grows : (w : World) (events : List Event) → Sound w → Grown w (run w events)
 run_grows w [] s = grown_same w

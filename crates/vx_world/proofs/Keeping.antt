@@ -36,7 +36,8 @@ found_more (p ∷ ps) more zero q e = e
 found_more (p ∷ ps) more (suc k) q e = found_more ps more k q e
 
 -- more is sent, and the site is up still
-pub gather_later : (i : ℕ) (n m : Node) (ps more : List Packet) (g : Option Gathering) → (n.state ≡ Up → m.state ≡ Up) → MayGather i n ps g → MayGather i m (ps ++ more) g
+pub gather_later : (i : ℕ) (n m : Node) (ps more : List Packet) (g : Option Gathering) → (n.state ≡ Up → m.state ≡ Up) → MayGather i n ps g
+    → MayGather i m (ps ++ more) g
 gather_later i n m ps more None up h = tt
 gather_later i n m ps more (Some g) up h = record {
   up = up h.up;
@@ -49,7 +50,8 @@ pub gather_up : (i : ℕ) (n m : Node) (ps : List Packet) (g : Option Gathering)
 gather_up i n m ps g up h = subst (λ (qs : List Packet). MayGather i m qs g) (append-nil ps) (gather_later i n m ps [] g up h)
 
 -- each part of a message is one of its parts
-parts_from : (source target : ℕ) (line : Line) (m : Message) (part count : ℕ) → part + count ≤ parts_of m → AllByRecursion IsPart (packets_from source target line m part count)
+parts_from : (source target : ℕ) (line : Line) (m : Message) (part count : ℕ) → part + count ≤ parts_of m
+    → AllByRecursion IsPart (packets_from source target line m part count)
 parts_from source target line m part zero h = tt
 parts_from source target line m part (suc k) h = (omega (arith, h), parts_from source target line m (part + 1) k (omega (arith, h)))
 
@@ -171,7 +173,8 @@ module _ (w : World) (i : ℕ) (n : Node) (fitted : Fitting w → IsFitted (w.no
   ring_now f = all_updated (λ k (m : Node). m.ring ≡ (w.nodes k).ring) w.nodes i n (fitted f).ring (λ _ _. refl)
 
   held_now : Fitting w → (l : Line) (h : History) → FitsLine w.nodes l h → FitsLine nodes_now l h
-  held_now f l h all = each_weaker (Fits (w.nodes l.origin)) (Fits (nodes_now l.origin)) (fits_there (w.nodes l.origin) (nodes_now l.origin) (volumes_now f l.origin) (ring_now f l.origin)) h.held all
+  held_now f l h all = each_weaker (Fits (w.nodes l.origin)) (Fits (nodes_now l.origin))
+      (fits_there (w.nodes l.origin) (nodes_now l.origin) (volumes_now f l.origin) (ring_now f l.origin)) h.held all
 
   fit_nodes : Fitting w → (lines : Line → History) → ((l : Line) → FitsLine w.nodes l (lines l)) → Fitting (record w { nodes = nodes_now; lines = lines })
   fit_nodes f lines held = record {
@@ -191,7 +194,8 @@ module _ (w : World) (i : ℕ) (n : Node) (fitted : Fitting w → IsFitted (w.no
   keeps_node up = record {
     gathers = λ g. record {
       parts = g.parts;
-      each = all_updated (λ k (m : Node). MayGather k m w.packets (w.gathering k)) w.nodes i n (gather_up i (w.nodes i) n w.packets (w.gathering i) up (g.each i)) (λ k _. g.each k);
+      each = all_updated (λ k (m : Node). MayGather k m w.packets (w.gathering k)) w.nodes i n
+          (gather_up i (w.nodes i) n w.packets (w.gathering i) up (g.each i)) (λ k _. g.each k);
     };
     fits = λ f. let h = fit_nodes f w.lines f.held in record { sized = h.sized; logs = h.logs; held = h.held; alike = h.alike };
   }
@@ -200,13 +204,15 @@ module _ (w : World) (i : ℕ) (n : Node) (fitted : Fitting w → IsFitted (w.no
   keeps_history h up line = record {
     gathers = λ g. record {
       parts = g.parts;
-      each = all_updated (λ k (m : Node). MayGather k m w.packets (w.gathering k)) w.nodes i n (gather_up i (w.nodes i) n w.packets (w.gathering i) up (g.each i)) (λ k _. g.each k);
+      each = all_updated (λ k (m : Node). MayGather k m w.packets (w.gathering k)) w.nodes i n
+          (gather_up i (w.nodes i) n w.packets (w.gathering i) up (g.each i)) (λ k _. g.each k);
     };
     fits = λ f. fit_nodes f (line_updated w.lines n.line h) (all_lines (λ l (r : History). FitsLine w.nodes l r) w.lines n.line h (line f) (λ l _. f.held l));
   }
 
   -- a site that goes down has nothing in assembly
-  pub keeps_crash : (lines : Line → History) (links : ℕ → ℕ → Link) → (Fitting w → (l : Line) → FitsLine w.nodes l (lines l)) → Keeps w (record w { nodes = nodes_now; lines = lines; links = links; gathering = updated w.gathering i None })
+  pub keeps_crash : (lines : Line → History) (links : ℕ → ℕ → Link) → (Fitting w → (l : Line) → FitsLine w.nodes l (lines l))
+      → Keeps w (record w { nodes = nodes_now; lines = lines; links = links; gathering = updated w.gathering i None })
   keeps_crash lines links line = record {
     gathers = λ g. record {
       parts = g.parts;
@@ -215,8 +221,10 @@ module _ (w : World) (i : ℕ) (n : Node) (fitted : Fitting w → IsFitted (w.no
     fits = λ f. let h = fit_nodes f lines (line f) in record { sized = h.sized; logs = h.logs; held = h.held; alike = h.alike };
   }
     where
-      by_place : (k : ℕ) (b : Bool) → eqb k i ≡ b → MayGather k (w.nodes k) w.packets (w.gathering k) → MayGather k (nodes_now k) w.packets (updated w.gathering i None k)
-      by_place k true e h = subst (λ (g : Option Gathering). MayGather k (nodes_now k) w.packets g) (sym (ap (λ (b : Bool). if b then None else w.gathering k) e)) tt
+      by_place : (k : ℕ) (b : Bool) → eqb k i ≡ b → MayGather k (w.nodes k) w.packets (w.gathering k)
+          → MayGather k (nodes_now k) w.packets (updated w.gathering i None k)
+      by_place k true e h = subst (λ (g : Option Gathering). MayGather k (nodes_now k) w.packets g)
+          (sym (ap (λ (b : Bool). if b then None else w.gathering k) e)) tt
       by_place k false e h =
           subst (λ (m : Node). MayGather k m w.packets (updated w.gathering i None k)) (sym (ap (λ (b : Bool). if b then n else w.nodes k) e))
           (subst (λ (g : Option Gathering). MayGather k (w.nodes k) w.packets g) (sym (ap (λ (b : Bool). if b then None else w.gathering k) e)) h)

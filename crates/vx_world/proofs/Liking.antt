@@ -23,7 +23,18 @@ abbrev with_notes : Node → Fuse → (ℕ → Bool) → Node
 with_notes a f g = record a { fuse = f; failing = g }
 
 later_note : (a : Node) (f : Fuse) (g : ℕ → Bool) → IsLater a (with_notes a f g)
-later_note a f g = record { line = refl; origin = refl; session = omega arith; safe = omega arith; present = λ up _. (up, omega arith); mark = λ m. m; made = λ m. m; phase = refl; other = refl }
+later_note a f g = record {
+  line = refl;
+  origin = refl;
+  session = omega arith;
+  safe = omega arith;
+  present = λ up _.
+      (up, omega arith);
+  mark = λ m. m;
+  made = λ m. m;
+  phase = refl;
+  other = refl;
+}
 
 good_note : (h : History) (i : ℕ) (a : Node) (f : Fuse) (failing : ℕ → Bool) → GoodNode h i a → GoodNode h i (with_notes a f failing)
 good_note h i a f failing g = record {
@@ -61,7 +72,8 @@ module _ (w v : World) (s : Sound w) (like : IsLike w v) where
   sites_like : Good v
   sites_like = record {
     nodes = node_good;
-    begun = λ i made. subst (λ (l : Line). IsMade (v.nodes l.origin)) (sym (later i).line) ((later (w.nodes i).line.origin).made (s.good.begun i (made_back i made)));
+    begun = λ i made. subst (λ (l : Line). IsMade (v.nodes l.origin)) (sym (later i).line)
+        ((later (w.nodes i).line.origin).made (s.good.begun i (made_back i made)));
     later = λ i past. at (λ b. b.state ≡ Bare) i (s.good.later i (subst (λ (k : ℕ). k ≤ i) like.sites past));
     told = λ l. subst (λ (h : History). h.told ≤ length h.held) (sym (like.lines l)) (s.good.told l);
   }
@@ -96,15 +108,18 @@ module _ (w v : World) (s : Sound w) (like : IsLike w v) where
   rings : (i : ℕ) → (v.nodes i).ring ≡ (w.nodes i).ring
   rings i = ap (λ (n : Node). n.ring) (like.nodes i)
 
-  fits_like : Fitting w → Fitting v
+  pub fits_like : Fitting w → Fitting v
   fits_like f = record {
     sized = λ i. at (λ b. IsSized b) i (record { start = (f.sized i).start; base = (f.sized i).base; bare = (f.sized i).bare });
     logs = λ i. at (λ b. AllByRecursion (Fits b) b.log) i
-        (each_weaker (Fits (w.nodes i)) (Fits (with_notes (w.nodes i) (v.nodes i).fuse (v.nodes i).failing)) (fits_there (w.nodes i) (with_notes (w.nodes i) (v.nodes i).fuse (v.nodes i).failing) refl refl) (w.nodes i).log (f.logs i));
+        (each_weaker (Fits (w.nodes i)) (Fits (with_notes (w.nodes i) (v.nodes i).fuse (v.nodes i).failing))
+        (fits_there (w.nodes i) (with_notes (w.nodes i) (v.nodes i).fuse (v.nodes i).failing) refl refl) (w.nodes i).log (f.logs i));
     held = λ l. subst (λ (h : History). AllByRecursion (Fits (v.nodes l.origin)) h.held) (sym (like.lines l))
-        (each_weaker (Fits (w.nodes l.origin)) (Fits (v.nodes l.origin)) (fits_there (w.nodes l.origin) (v.nodes l.origin) (volumes l.origin) (rings l.origin)) (w.lines l).held (f.held l));
+        (each_weaker (Fits (w.nodes l.origin)) (Fits (v.nodes l.origin))
+        (fits_there (w.nodes l.origin) (v.nodes l.origin) (volumes l.origin) (rings l.origin)) (w.lines l).held (f.held l));
     alike = λ i made. subst (λ (l : Line). IsAlike (v.nodes l.origin) (v.nodes i)) (sym (later i).line)
-        (alike_there (w.nodes (w.nodes i).line.origin) (w.nodes i) (v.nodes (w.nodes i).line.origin) (v.nodes i) (volumes (w.nodes i).line.origin) (rings (w.nodes i).line.origin) (volumes i) (rings i) (f.alike i (made_back i made)));
+        (alike_there (w.nodes (w.nodes i).line.origin) (w.nodes i) (v.nodes (w.nodes i).line.origin) (v.nodes i) (volumes (w.nodes i).line.origin)
+        (rings (w.nodes i).line.origin) (volumes i) (rings i) (f.alike i (made_back i made)));
   }
 
   gathers_like : Gathers w → Gathers v

@@ -55,14 +55,16 @@ pub record Fit (p s : ℕ) (a b : Node) (l : Link) : Type 0 where
   pub mode : l.mode ≡ Log
 
 -- what holds of what stands in the world itself holds of it under its names
-pub via : (v : World) (p s : ℕ) (a b : Node) (l : Link) (ps : List Packet) → At v p s a b l ps → (P : Node → Node → Link → List Packet → Type 0) → P (v.nodes p) (v.nodes s) (v.links p s) v.packets → P a b l ps
+pub via : (v : World) (p s : ℕ) (a b : Node) (l : Link) (ps : List Packet) → At v p s a b l ps → (P : Node → Node → Link → List Packet → Type 0)
+    → P (v.nodes p) (v.nodes s) (v.links p s) v.packets → P a b l ps
 via v p s a b l ps at P h =
     subst (λ (x : Node). P x b l ps) at.at_p
     (subst (λ (x : Node). P (v.nodes p) x l ps) at.at_s
     (subst (λ (x : Link). P (v.nodes p) (v.nodes s) x ps) at.at_l
     (subst (λ (x : List Packet). P (v.nodes p) (v.nodes s) (v.links p s) x) at.sent h)))
 
-pub itself : (v : World) (p s : ℕ) → leb v.sites p ≡ false → leb v.sites s ≡ false → HasPlaces (v.gathering s) → At v p s (v.nodes p) (v.nodes s) (v.links p s) v.packets
+pub itself : (v : World) (p s : ℕ) → leb v.sites p ≡ false → leb v.sites s ≡ false → HasPlaces (v.gathering s)
+    → At v p s (v.nodes p) (v.nodes s) (v.links p s) v.packets
 itself v p s h k places = record { given_p = h; given_s = k; at_p = refl; at_s = refl; at_l = refl; sent = refl; places = places }
 
 pub passes : (b : Bool) (why : No) (w : World) (o : Outcome) → b ≡ false → unless b why w o ≡ o
@@ -85,10 +87,12 @@ other_place f i k x apart = by_test (λ y. y ≡ f k) (eqb k i) x (f k) (λ e. a
 
 module _ (v : World) (p s : ℕ) (a b : Node) (l : Link) (ps : List Packet) (at : At v p s a b l ps) where
   -- what the rule of the link makes of it
-  pub link_event_at : (e : SEvent) → At (Events.link_event v p s e) p s a b (with_plain l (sent_step (plain_link s l) e (Events.facts_of a a.line)).link) (ps ++ sent_by (sent_step (plain_link s l) e (Events.facts_of a a.line)).action p s a)
+  pub link_event_at : (e : SEvent)
+      → At (Events.link_event v p s e) p s a b (with_plain l (sent_step (plain_link s l) e (Events.facts_of a a.line)).link) (ps ++ sent_by (sent_step (plain_link s l) e (Events.facts_of a a.line)).action p s a)
   link_event_at e =
       via v p s a b l ps at
-      (λ a b l ps. At (Events.link_event v p s e) p s a b (with_plain l (sent_step (plain_link s l) e (Events.facts_of a a.line)).link) (ps ++ sent_by (sent_step (plain_link s l) e (Events.facts_of a a.line)).action p s a))
+      (λ a b l ps. At (Events.link_event v p s e) p s a b (with_plain l (sent_step (plain_link s l) e (Events.facts_of a a.line)).link)
+      (ps ++ sent_by (sent_step (plain_link s l) e (Events.facts_of a a.line)).action p s a))
       (record {
         given_p = at.given_p;
         given_s = at.given_s;
@@ -100,7 +104,16 @@ module _ (v : World) (p s : ℕ) (a b : Node) (l : Link) (ps : List Packet) (at 
       })
 
   pub sending_at : (more : List Packet) → At (sending v more) p s a b l (ps ++ more)
-  sending_at more = record { given_p = at.given_p; given_s = at.given_s; at_p = at.at_p; at_s = at.at_s; at_l = at.at_l; sent = ap (λ (x : List Packet). x ++ more) at.sent; places = at.places }
+  sending_at more = record {
+    given_p = at.given_p;
+    given_s = at.given_s;
+    at_p = at.at_p;
+    at_s = at.at_s;
+    at_l = at.at_l;
+    sent = ap
+        (λ (x : List Packet). x ++ more) at.sent;
+    places = at.places;
+  }
 
   pub with_node_at : (n : Node) → (p ≡ s → ⊥) → At (with_node v s n) p s a n l ps
   with_node_at n apart = record {
@@ -118,7 +131,8 @@ module _ (v : World) (p s : ℕ) (a b : Node) (l : Link) (ps : List Packet) (at 
 
   pub work_passes : (q : ℕ) (n : Node) (o : Outcome) → v.nodes q ≡ n → n.state ≡ Up → n.halted ≡ None → at_work v q o ≡ o
   work_passes q n o e up none =
-      passes (not (is_up (v.nodes q).state)) _ v (unless_halted (v.nodes q).halted v o) (falls (is_up (v.nodes q).state) (ap (λ (x : Node). is_up x.state) e ∙ ap is_up up))
+      passes (not (is_up (v.nodes q).state)) _ v (unless_halted (v.nodes q).halted v o)
+      (falls (is_up (v.nodes q).state) (ap (λ (x : Node). is_up x.state) e ∙ ap is_up up))
       ∙ runs (v.nodes q).halted v o (ap (λ (x : Node). x.halted) e ∙ none)
 
   pub link_passes : (o : Outcome) → Fit p s a b l → on_link v p s o ≡ o
@@ -163,7 +177,8 @@ left_places g q places key =
 pub places_in : (i : ℕ) (n : Node) (ps : List Packet) (g : Option Gathering) → MayGather i n ps g → HasPlaces g
 places_in i n ps None h key = length-replicate {A = Bool} key.parts false
 places_in i n ps (Some g) h key =
-    by_test (λ (xs : List Bool). length xs ≡ key.parts) (same_key g.key key) g.came (replicate key.parts false) (λ same. h.places ∙ same_parts g.key key same) (λ _. length-replicate {A = Bool} key.parts false)
+    by_test (λ (xs : List Bool). length xs ≡ key.parts) (same_key g.key key) g.came (replicate key.parts false)
+    (λ same. h.places ∙ same_parts g.key key same) (λ _. length-replicate {A = Bool} key.parts false)
 
 module _ (p s : ℕ) (a b : Node) (l : Link) (ps : List Packet) where
   -- what a packet is put to is no matter

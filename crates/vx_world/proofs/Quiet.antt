@@ -53,22 +53,34 @@ adds_none v w e = record { more = []; sent = e ∙ sym (append-nil v.packets); l
 taken_adds : (v : World) (p : Packet) (x : Write) (action : RAction) → Adds v (Events.update_taken v p x action).world
 taken_adds v p x DoesNothing = adds_none v v refl
 taken_adds v p x Ignores = adds_none v v refl
-taken_adds v p x (IgnoredAck number) = record { more = packets_of p.target p.source (v.nodes p.target).line (NetAck (v.nodes p.target).session number); sent = refl; last = (refl, tt) }
+taken_adds v p x (IgnoredAck number) = record {
+  more = packets_of p.target p.source (v.nodes p.target).line
+      (NetAck (v.nodes p.target).session number);
+  sent = refl;
+  last = (refl, tt);
+}
 taken_adds v p x (Take number) = by_whole (completes (v.gathering p.target) p)
   where
     by_whole : (b : Bool) → Adds v (Events.taken_if b v p x number).world
-    by_whole true = record { more = packets_of p.target p.source (v.nodes p.target).line (NetAck (v.nodes p.target).session number); sent = refl; last = (refl, tt) }
+    by_whole true = record {
+      more = packets_of p.target p.source (v.nodes p.target).line
+          (NetAck (v.nodes p.target).session number);
+      sent = refl;
+      last = (refl, tt);
+    }
     by_whole false = adds_none v v refl
 taken_adds v p x (AcksFromDisk number) = adds_none v v refl
 
 link_heard_same : (v : World) (p : Packet) (e : SEvent) → (Events.link_heard v p e).world.packets ≡ v.packets
 link_heard_same v p e =
-    by_test (λ (o : Outcome). o.world.packets ≡ v.packets) (keeps_links (v.nodes p.target).role && is_linked (v.links p.target p.source)) _ (says v IsIgnored) (λ _. refl) (λ _. refl)
+    by_test (λ (o : Outcome). o.world.packets ≡ v.packets) (keeps_links (v.nodes p.target).role && is_linked (v.links p.target p.source)) _
+    (says v IsIgnored) (λ _. refl) (λ _. refl)
 
 pub heard_adds : (v : World) (p : Packet) (m : Message) → Adds v (Events.heard v p m).world
 heard_adds v p (Hello session number stored) = adds_none v _ (link_heard_same v p (HearHello session number stored))
 heard_adds v p (Update number x) =
-    by_test (λ (o : Outcome). Adds v o.world) (is_origin (v.nodes p.target).role) (says v IsIgnored) _ (λ _. adds_none v v refl) (λ _. taken_adds v p x (received_step (plain_receiver (v.nodes p.target)) (HearUpdate p.line number)).action)
+    by_test (λ (o : Outcome). Adds v o.world) (is_origin (v.nodes p.target).role) (says v IsIgnored) _ (λ _. adds_none v v refl)
+    (λ _. taken_adds v p x (received_step (plain_receiver (v.nodes p.target)) (HearUpdate p.line number)).action)
 heard_adds v p (NetAck session number) = adds_none v _ (link_heard_same v p (HearNetAck session number))
 heard_adds v p (DataAck number) = adds_none v _ (link_heard_same v p (HearDataAck number))
 
@@ -86,10 +98,12 @@ gathers_by P p o h = by_taken (Events.is_taken o.said)
     by_taken true = h
     by_taken false = h
 
-handed_by : (P : List Packet → Type 0) (v : World) (p : Packet) → P v.packets → P (Events.heard v p p.message).world.packets → P (Events.gathers p (Events.handed v p)).world.packets
+handed_by : (P : List Packet → Type 0) (v : World) (p : Packet) → P v.packets → P (Events.heard v p p.message).world.packets
+    → P (Events.gathers p (Events.handed v p)).world.packets
 handed_by P v p h k =
     gathers_by P p (Events.handed v p)
-    (by_test (λ (o : Outcome). P o.world.packets) (is_up (v.nodes p.target).state && is_running (v.nodes p.target).halted) _ (says v IsIgnored) (λ _. k) (λ _. h))
+    (by_test (λ (o : Outcome). P o.world.packets) (is_up (v.nodes p.target).state && is_running (v.nodes p.target).halted) _ (says v IsIgnored) (λ _. k)
+    (λ _. h))
 
 -- more was sent, none of it to be answered
 abbrev Added : List Packet → List Packet → Type 0
@@ -99,12 +113,14 @@ delivered_adds : (v : World) (number : ℕ) (p : Option Packet) → Adds v (Even
 delivered_adds v number None = adds_none v v refl
 delivered_adds v number (Some p) =
     let h : Adds v (Events.heard v p p.message).world = heard_adds v p p.message in
-    let added : Added v.packets (Events.gathers p (Events.handed v p)).world.packets = handed_by (Added v.packets) v p ([], sym (append-nil v.packets), tt) (h.more, h.sent, h.last) in
+    let added : Added v.packets (Events.gathers p (Events.handed v p)).world.packets = handed_by (Added v.packets) v p ([], sym (append-nil v.packets), tt)
+    (h.more, h.sent, h.last) in
     record { more = added.0; sent = added.1; last = added.2 }
 
 delivered_same : (v : World) (k : ℕ) (p : Packet) → slice_get v.packets k ≡ Some p → IsLast p → (step v (Deliver (suc k))).world.packets ≡ v.packets
 delivered_same v k p e last =
-    by_test (λ (q : Option Packet). (Events.delivered v (suc k) q).world.packets ≡ v.packets) (leb (suc k + MOST_PACKETS) (length v.packets)) None (slice_get v.packets k)
+    by_test (λ (q : Option Packet). (Events.delivered v (suc k) q).world.packets ≡ v.packets) (leb (suc k + MOST_PACKETS) (length v.packets)) None
+    (slice_get v.packets k)
     (λ _. refl)
     (λ _. subst (λ (q : Option Packet). (Events.delivered v (suc k) q).world.packets ≡ v.packets) (sym e)
     (handed_by (λ (ps : List Packet). ps ≡ v.packets) v p refl (heard_same v p p.message last)))
@@ -115,7 +131,8 @@ batch_adds : (ps : List Packet) (k : ℕ) (v : World) → Adds v (run v (deliver
 batch_adds [] k v = adds_none v v refl
 batch_adds (p ∷ ps) k v =
     let u : World = (step v (Deliver (suc k))).world in
-    let first : Adds v (Events.delivered v (suc k) (Events.packet_at v.packets (suc k))).world = delivered_adds v (suc k) (Events.packet_at v.packets (suc k)) in
+    let first : Adds v (Events.delivered v (suc k) (Events.packet_at v.packets (suc k))).world = delivered_adds v (suc k)
+    (Events.packet_at v.packets (suc k)) in
     let rest : Adds u (run u (deliver_each (suc k) ps)) = batch_adds ps (suc k) u in
     record {
       more = first.more ++ rest.more;
@@ -138,6 +155,7 @@ none_left old w =
     let second : deliver_new w v ≡ deliver_each (length w.packets) adds.more = new_is w v w.packets adds.more refl adds.sent in
     let same : (run v (deliver_new w v)).packets ≡ v.packets =
     ap (λ (es : List Event). (run v es).packets) second
-    ∙ batch_same adds.more (length w.packets) v (subst (λ (x : List Packet). IsIn x (length w.packets) adds.more) (sym adds.sent) (in_new w.packets adds.more)) adds.last in
+    ∙ batch_same adds.more (length w.packets) v
+    (subst (λ (x : List Packet). IsIn x (length w.packets) adds.more) (sym adds.sent) (in_new w.packets adds.more)) adds.last in
     subst (λ (x : World). deliver_new v x ≡ []) (sym (run_append w (deliver_new old w) (deliver_new w v)))
     (nothing_new v (run v (deliver_new w v)) v.packets refl same)

@@ -34,7 +34,8 @@ put_one block byte = Write 0 0 block (replicate 512 byte) None
 -- a write that fails where its link is not live
 confirmed_row : sayings (run empty_world (linked 64 FailsIfNotLive))
     (put_one 0 17 ∷ Wait 0 1 ∷ Pump 0 1 ∷ Deliver 2 ∷ Deliver 3 ∷ Wait 0 1 ∷ put_one 1 34 ∷ Cut 0 1 ∷ Wait 0 2 ∷ put_one 2 51 ∷ Wait 0 3 ∷ [])
-    ≡ Logged 1 ∷ Pending 1 ∷ Done ∷ Taken ∷ Taken ∷ DoneAt 1 ∷ Logged 2 ∷ Done ∷ Refused (Unconfirmed 2) ∷ Refused (LinkDown (SiteNumber 1)) ∷ Refused (Unknown (ByNumber 3)) ∷ []
+    ≡ Logged 1 ∷ Pending 1 ∷ Done ∷ Taken ∷ Taken ∷ DoneAt 1 ∷ Logged 2 ∷ Done ∷ Refused (Unconfirmed 2) ∷ Refused (LinkDown (SiteNumber 1)) ∷ Refused
+    (Unknown (ByNumber 3)) ∷ []
 unfolding is_raw_shape
 confirmed_row = refl
 
@@ -63,7 +64,8 @@ full_row = refl
 settled_row : sayings (run empty_world (linked 10 NeverWaits ++ filled))
     (Connect 0 1 ∷ Deliver 2 ∷ Pump 0 1 ∷ Deliver 3 ∷ Deliver 4 ∷ Deliver 5 ∷ Deliver 6 ∷ Deliver 7 ∷ Deliver 8 ∷ Deliver 9
     ∷ Apply 1 3 0 ∷ Deliver 10 ∷ put_one 4 4 ∷ Crash 0 0 ∷ Recover 0 None ∷ Deliver 11 ∷ [])
-    ≡ Done ∷ Taken ∷ Done ∷ Taken ∷ Taken ∷ Taken ∷ Taken ∷ Taken ∷ Taken ∷ Taken ∷ DoneAt 3 ∷ Taken ∷ DoneAt 4 ∷ Done ∷ Recovered 4 ∷ Refused (Unknown (ByNumber 11)) ∷ []
+    ≡ Done ∷ Taken ∷ Done ∷ Taken ∷ Taken ∷ Taken ∷ Taken ∷ Taken ∷ Taken ∷ Taken ∷ DoneAt 3 ∷ Taken ∷ DoneAt 4 ∷ Done ∷ Recovered 4 ∷ Refused
+    (Unknown (ByNumber 11)) ∷ []
 unfolding is_raw_shape
 settled_row = refl
 

@@ -24,7 +24,7 @@ use Rattle.vx_history.specs.GoodWorld.{GoodWorld}
 use Rattle.std.specs.List.{AllByRecursion}
 use Rattle.vx_world.proofs.Lists.{prefix_length, each_weaker}
 use Rattle.vx_world.proofs.Pair.{At, Fit, places_in, itself}
-use Rattle.vx_world.proofs.Told.{connect_at, hello_at}
+use Rattle.vx_world.proofs.ToldApart.{connect_at, hello_at}
 use Rattle.vx_world.proofs.Batches.{fit_link}
 use Rattle.vx_world.proofs.Turns.{IsSmall, run_append, new_is, Sent, sends, Came, comes, Turned, closes}
 use Rattle.vx_world.proofs.Whole.{run_good}
@@ -78,7 +78,8 @@ module _ (w : World) (p s : ℕ) (good : GoodWorld w) (may : MaySettle w p s) wh
   }
 
   pub stands : At w p s (w.nodes p) (w.nodes s) (w.links p s) w.packets
-  stands = itself w p s (not_past w.sites p (made_is_given w p sound.good made_p)) (not_past w.sites s (made_is_given w s sound.good made_s)) (places_in s (w.nodes s) w.packets (w.gathering s) (good.gathers.each s))
+  stands = itself w p s (not_past w.sites p (made_is_given w p sound.good made_p)) (not_past w.sites s (made_is_given w s sound.good made_s))
+      (places_in s (w.nodes s) w.packets (w.gathering s) (good.gathers.each s))
 
   -- the writes of the sending site are small
   pub small : AllByRecursion IsSmall (w.nodes p).log
@@ -98,7 +99,8 @@ module _ (w : World) (p s : ℕ) (good : GoodWorld w) (may : MaySettle w p s) wh
       )
 
 -- what stands under its names may be settled
-may_by : (v : World) (p s : ℕ) (a b : Node) (l : Link) (ps : List Packet) → At v p s a b l ps → Fit p s a b l → b.role ≡ Secondary → l.bunker ≡ false → MaySettle v p s
+may_by : (v : World) (p s : ℕ) (a b : Node) (l : Link) (ps : List Packet) → At v p s a b l ps → Fit p s a b l → b.role ≡ Secondary → l.bunker ≡ false
+    → MaySettle v p s
 may_by v p s a b l ps at fit role bunker = record {
   here = ap (λ (x : Node). x.state) at.at_p ∙ fit.up_a;
   there = ap (λ (x : Node). x.state) at.at_s ∙ fit.up_b;
@@ -114,7 +116,8 @@ may_by v p s a b l ps at fit role bunker = record {
   mode = ap (λ (x : Link). x.mode) at.at_l ∙ fit.mode;
 }
 
-met_by : (v : World) (p s : ℕ) (a b : Node) (l : Link) (ps : List Packet) → At v p s a b l ps → Fit p s a b l → b.role ≡ Secondary → l.bunker ≡ false → l.session ≡ b.session → l.net ≡ length b.log → l.stored ≡ b.safe → IsMet v p s
+met_by : (v : World) (p s : ℕ) (a b : Node) (l : Link) (ps : List Packet) → At v p s a b l ps → Fit p s a b l → b.role ≡ Secondary → l.bunker ≡ false
+    → l.session ≡ b.session → l.net ≡ length b.log → l.stored ≡ b.safe → IsMet v p s
 met_by v p s a b l ps at fit role bunker session net stored = record {
   may = may_by v p s a b l ps at fit role bunker;
   session = ap (λ (x : Link). x.session) at.at_l ∙ session ∙ ap (λ (x : Node). x.session) (sym at.at_s);
@@ -125,7 +128,8 @@ met_by v p s a b l ps at fit role bunker session net stored = record {
 -- ## The greeting
 
 -- behind it the two sites have met, and the head is as it was
-pub greeted_meets : (w : World) (p s : ℕ) → GoodWorld w → MaySettle w p s → IsMet (run w (greeting_events w p s)) p s × (((run w (greeting_events w p s)).nodes p).safe ≡ (w.nodes p).safe)
+pub greeted_meets : (w : World) (p s : ℕ) → GoodWorld w → MaySettle w p s
+    → IsMet (run w (greeting_events w p s)) p s × (((run w (greeting_events w p s)).nodes p).safe ≡ (w.nodes p).safe)
 greeted_meets w p s good_w may =
     let sound : Sound w = good_w.sound in
     let a : Node = w.nodes p in
@@ -137,12 +141,14 @@ greeted_meets w p s good_w may =
     let v : World = (step w (Connect p s)).world in
     let at_v : At v p s a b l (w.packets ++ hello ∷ []) = connect_at w p s a b l w.packets at fit in
     let good : GoodLink p s a b l = sound.links p s in
-    let told = hello_at v p s a b l (w.packets ++ hello ∷ []) at_v fit (length w.packets) (omega (arith, length-append w.packets (hello ∷ []))) (first w.packets hello) (good.session may.linked)
+    let told = hello_at v p s a b l (w.packets ++ hello ∷ []) at_v fit (length w.packets) (omega (arith, length-append w.packets (hello ∷ [])))
+    (first w.packets hello) (good.session may.linked)
     (good.stored (followed w p s good_w may)) (sound.good.nodes s).safe_fits
     (λ same. good.net (followed w p s good_w may) (may.there, sym same)) in
     let m : Link = record l { session = b.session; net = length b.log; stored = b.safe; sent = told.0 } in
     subst (λ (es : List Event). IsMet (run v es) p s × (((run v es).nodes p).safe ≡ a.safe)) (sym (new_is w v w.packets (hello ∷ []) refl at_v.sent)) (
-      met_by (run v (deliver_each (length w.packets) (hello ∷ []))) p s a b m (w.packets ++ hello ∷ []) told.1 (fit_link p s a b l b.session (length b.log) b.safe told.0 l.trimmed fit) may.secondary may.bunker refl refl refl,
+      met_by (run v (deliver_each (length w.packets) (hello ∷ []))) p s a b m (w.packets ++ hello ∷ []) told.1
+          (fit_link p s a b l b.session (length b.log) b.safe told.0 l.trimmed fit) may.secondary may.bunker refl refl refl,
       ap (λ (x : Node). x.safe) told.1.at_p,
     )
   where
@@ -153,7 +159,8 @@ greeted_meets w p s good_w may =
 -- ## A turn
 
 -- the world in which a turn is over, before it is looked at whether it has brought anything
-turned : (w : World) (p s : ℕ) → GoodWorld w → IsMet w p s → (v : World) × Turned p s (w.nodes p) (w.nodes s) (w.links p s) v × ((w.links p s).stored < (w.nodes p).safe → (w.links p s).stored < (v.links p s).stored → run w (turn w p s) ≡ v)
+turned : (w : World) (p s : ℕ) → GoodWorld w → IsMet w p s
+    → (v : World) × Turned p s (w.nodes p) (w.nodes s) (w.links p s) v × ((w.links p s).stored < (w.nodes p).safe → (w.links p s).stored < (v.links p s).stored → run w (turn w p s) ≡ v)
 turned w p s good_w met =
     let sound : Sound w = good_w.sound in
     let small_a : AllByRecursion IsSmall (w.nodes p).log = small w p s good_w met.may in
@@ -183,7 +190,9 @@ turned w p s good_w met =
           ∙ run_append w1 came (applied ++ (heard ++ last))
           ∙ run_append w2 applied (heard ++ last)
           ∙ run_append w3 heard last
-          ∙ ap (λ (es : List Event). run w4 es) (by_test (λ (es : List Event). es ≡ []) (is_stuck l.stored (w4.links p s).stored (w4.nodes p).safe) (greeting_events w4 p s) [] (λ stuck. absurd (not_stuck l.stored (w4.links p s).stored (w4.nodes p).safe raised stuck)) (λ _. refl)),
+          ∙ ap (λ (es : List Event). run w4 es)
+          (by_test (λ (es : List Event). es ≡ []) (is_stuck l.stored (w4.links p s).stored (w4.nodes p).safe) (greeting_events w4 p s) []
+          (λ stuck. absurd (not_stuck l.stored (w4.links p s).stored (w4.nodes p).safe raised stuck)) (λ _. refl)),
     )
   where
     not_stuck : (before stored head : ℕ) → before < stored → is_stuck before stored head ≡ true → ⊥
@@ -208,7 +217,8 @@ more safe have now head below grown some fits = by_cases (leb have safe) refl
 
 -- what a turn does while less is stored than is durable
 pub turn_raises : (w : World) (p s : ℕ) → GoodWorld w → IsMet w p s → (w.links p s).stored < (w.nodes p).safe
-    → IsMet (run w (turn w p s)) p s × ((w.links p s).stored < ((run w (turn w p s)).links p s).stored) × (((run w (turn w p s)).nodes p).safe ≡ (w.nodes p).safe)
+    → IsMet (run w (turn w p s)) p s × ((w.links p s).stored < ((run w (turn w p s)).links p s).stored) × (((run w
+    (turn w p s)).nodes p).safe ≡ (w.nodes p).safe)
 turn_raises w p s good_w met below =
     let sound : Sound w = good_w.sound in
     let b : Node = w.nodes s in
@@ -216,7 +226,8 @@ turn_raises w p s good_w met below =
     let over = turned w p s good_w met in
     let v : World = over.0 in
     let t : Turned p s (w.nodes p) b l v = over.1 in
-    let fuller : b.safe < length t.site.log = more b.safe (length b.log) (length t.site.log) (w.nodes p).safe (omega (arith, below, met.stored)) t.grown t.some (sound.good.nodes s).safe_fits in
+    let fuller : b.safe < length t.site.log = more b.safe (length b.log) (length t.site.log) (w.nodes p).safe
+    (omega (arith, below, met.stored)) t.grown t.some (sound.good.nodes s).safe_fits in
     let stored : (v.links p s).stored ≡ t.site.safe = ap (λ (x : Link). x.stored) t.at.at_l ∙ t.stored in
     let raised : l.stored < (v.links p s).stored = omega (arith, fuller, t.whole, stored, met.stored) in
     subst (λ (x : World). IsMet x p s × (l.stored < (x.links p s).stored) × ((x.nodes p).safe ≡ (w.nodes p).safe)) (sym (over.2 below raised)) (
@@ -233,12 +244,14 @@ turns_end zero w p s good_w met few = (omega (arith, few, stored_most w p s good
 turns_end (suc n) w p s good_w met few =
     let t : List Event = turn w p s in
     let v : World = run w t in
-    by_test (λ (es : List Event). (((run w es).links p s).stored ≡ ((run w es).nodes p).safe) × (((run w es).nodes p).safe ≡ (w.nodes p).safe)) (leb (w.nodes p).safe (w.links p s).stored) [] (t ++ turns n v p s)
+    by_test (λ (es : List Event). (((run w es).links p s).stored ≡ ((run w es).nodes p).safe) × (((run w es).nodes p).safe ≡ (w.nodes p).safe))
+    (leb (w.nodes p).safe (w.links p s).stored) [] (t ++ turns n v p s)
     (λ all. (omega (arith, stored_most w p s good_w met.may, at_least (w.nodes p).safe (w.links p s).stored all), refl))
     (λ less.
     let raises = turn_raises w p s good_w met (below (w.nodes p).safe (w.links p s).stored less) in
     let rest = turns_end n v p s (run_good w t good_w) raises.0 (omega (arith, few, raises.1, raises.2)) in
-    subst (λ (x : World). ((x.links p s).stored ≡ (x.nodes p).safe) × ((x.nodes p).safe ≡ (w.nodes p).safe)) (sym (run_append w t (turns n v p s))) (rest.0, rest.1 ∙ raises.2))
+    subst (λ (x : World). ((x.links p s).stored ≡ (x.nodes p).safe) × ((x.nodes p).safe ≡ (w.nodes p).safe)) (sym (run_append w t (turns n v p s)))
+    (rest.0, rest.1 ∙ raises.2))
   where
     at_least : (m n : ℕ) → leb m n ≡ true → m ≤ n
     at_least m n e = grind (arith, nat_tests)
@@ -255,4 +268,5 @@ settling_ends w p s good_w may =
     let n : ℕ = (w.nodes p).safe in
     let greeted = greeted_meets w p s good_w may in
     let ends = turns_end n v p s (run_good w g good_w) greeted.0 (omega (arith, greeted.1)) in
-    subst (λ (x : World). ((x.links p s).stored ≡ (x.nodes p).safe) × ((x.nodes p).safe ≡ (w.nodes p).safe)) (sym (run_append w g (turns n v p s))) (ends.0, ends.1 ∙ greeted.1)
+    subst (λ (x : World). ((x.links p s).stored ≡ (x.nodes p).safe) × ((x.nodes p).safe ≡ (w.nodes p).safe)) (sym (run_append w g (turns n v p s)))
+    (ends.0, ends.1 ∙ greeted.1)

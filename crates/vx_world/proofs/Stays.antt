@@ -37,7 +37,8 @@ less a b e = grind (arith, nat_tests)
 
 write_keeps : (w : World) (p : ℕ) (x : Write) (fails : Option ℕ) → Sound w → Keeps (write_at w p x fails)
 write_keeps w p x fails s =
-    on_volume_keeps w p x.volume x.start (blocks_in x.bytes) (is_too_large (w.nodes p).ring (blocks_in x.bytes)) (Events.written_if (Events.admitted w p x) w p x fails) s
+    on_volume_keeps w p x.volume x.start (blocks_in x.bytes) (is_too_large (w.nodes p).ring (blocks_in x.bytes))
+    (Events.written_if (Events.admitted w p x) w p x fails) s
     (λ up runs r. written_if_keeps (Events.admitted w p x) w p x fails s (record { up = up; origin = primary_origin (w.nodes p).role r; running = runs }))
 
 -- every event keeps it
@@ -56,7 +57,8 @@ outcome_keeps w (Apply q count reached) s =
     let o : Outcome = if is_origin (w.nodes q).role then Events.reached_at w q count reached else Events.apply_at w q count in
     at_site_keeps w q (at_work w q o) s
     (λ _. at_work_keeps w q o s
-    (λ up _. by_test Keeps (is_origin (w.nodes q).role) (Events.reached_at w q count reached) (Events.apply_at w q count) (λ _. s) (λ r. apply_keeps w q count s up r)))
+    (λ up _. by_test Keeps (is_origin (w.nodes q).role) (Events.reached_at w q count reached) (Events.apply_at w q count) (λ _. s)
+    (λ r. apply_keeps w q count s up r)))
 outcome_keeps w (Pump p q) s =
     on_link_keeps keeps_links w p q _ s (λ up _ linked. when_live_keeps w q (w.links p q) _ s (pump_keeps w p q s up linked))
 outcome_keeps w (Tick p q) s =

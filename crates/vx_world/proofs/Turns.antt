@@ -19,7 +19,8 @@ use Rattle.vx_history.specs.Events.{applied}
 use Rattle.vx_history.specs.Step.{step, run}
 use Rattle.vx_world.specs.Settling.{deliver_each, deliver_new, delivery}
 use Rattle.vx_world.proofs.Pair.{At, Fit}
-use Rattle.vx_world.proofs.Told.{append-nil, tick_at, pump_at, pump_none, apply_none, apply_all, disk_at}
+use Rattle.vx_world.proofs.Told.{append-nil, tick_at, pump_at, pump_none, disk_at}
+use Rattle.vx_world.proofs.ToldApart.{apply_none, apply_all}
 use Rattle.vx_world.proofs.Batches.{in_new, fit_log, fit_link}
 use Rattle.vx_world.proofs.Arriving.{Arrived, Told, parts_length, updates_any, acks_any}
 
@@ -66,7 +67,8 @@ small_parts number x small =
 updates_short : (p s : ℕ) (line : Line) (n : ℕ) (xs : List Write) → AllByRecursion IsSmall xs → length (updates p s line n xs) ≤ 9 * length xs
 updates_short p s line n [] small = omega arith
 updates_short p s line n (x ∷ xs) (here, rest) =
-    let parts : length (updates p s line n (x ∷ xs)) ≡ suc (further_parts (Update n x)) + length (updates p s line (n + 1) xs) = parts_length p s line n x 0 (suc (further_parts (Update n x))) (updates p s line (n + 1) xs) in
+    let parts : length (updates p s line n (x ∷ xs)) ≡ suc (further_parts (Update n x)) + length (updates p s line (n + 1) xs) = parts_length p s line n x 0
+    (suc (further_parts (Update n x))) (updates p s line (n + 1) xs) in
     omega (arith, parts, small_parts n x here, updates_short p s line (n + 1) xs rest)
 
 small_drop : (n : ℕ) (xs : List Write) → AllByRecursion IsSmall xs → AllByRecursion IsSmall (drop n xs)
@@ -95,7 +97,9 @@ is_less m n h = grind (arith, nat_tests)
 is_least : (m n : ℕ) → ltb m n ≡ false → n ≤ m
 is_least m n h = grind (arith, nat_tests)
 
-module _ (p s : ℕ) (a b : Node) (l : Link) (ps : List Packet) (fits : b.safe ≤ length b.log) (whole : a.safe ≤ length a.log) (small : AllByRecursion IsSmall a.log) (fit : Fit p s a b l) (session : l.session ≡ b.session) (net : l.net ≡ length b.log) (stored : l.stored ≡ b.safe) where
+module _ (p s : ℕ) (a b : Node) (l : Link) (ps : List Packet) (fits : b.safe ≤ length b.log) (whole : a.safe ≤ length a.log)
+    (small : AllByRecursion IsSmall a.log) (fit : Fit p s a b l) (session : l.session ≡ b.session) (net : l.net ≡ length b.log)
+    (stored : l.stored ≡ b.safe) where
   -- what was sent in a turn: the updates that the receiver may lack, from its next number on
   pub record Sent (w : World) : Type 0 where
     pub high : ℕ
@@ -120,13 +124,15 @@ module _ (p s : ℕ) (a b : Node) (l : Link) (ps : List Packet) (fits : b.safe �
         few = omega (
           arith,
           few_between (length b.log) high a.log (omega (arith, net)),
-          updates_short p s a.line (length b.log + 1) (between (length b.log + 1) high a.log) (small_drop (pred (length b.log + 1)) (take high a.log) (small_take high a.log small)),
+          updates_short p s a.line (length b.log + 1) (between (length b.log + 1) high a.log)
+              (small_drop (pred (length b.log + 1)) (take high a.log) (small_take high a.log small)),
         );
       })
       (λ least. record {
         high = l.net;
         writes = [];
-        at = subst (λ (x : List Packet). At (step v (Pump p s)).world p s a b m x) (sym (append-nil ps)) (pump_none v p s a b m ps at_v fit_v (omega (arith, net, stored, fits)) (omega (arith, net, is_least (length b.log) high least)));
+        at = subst (λ (x : List Packet). At (step v (Pump p s)).world p s a b m x) (sym (append-nil ps))
+            (pump_none v p s a b m ps at_v fit_v (omega (arith, net, stored, fits)) (omega (arith, net, is_least (length b.log) high least)));
         some = λ below. absurd (omega (arith, below, net, is_least (length b.log) high least));
         few = omega arith;
       })
@@ -148,13 +154,15 @@ module _ (p s : ℕ) (a b : Node) (l : Link) (ps : List Packet) (fits : b.safe �
       let fit_m : Fit p s a b m = fit_link p s a b l l.session l.net l.stored st.high 0 fit in
       let first : World = run w (deliver_each (length ps) batch) in
       let came : Arrived p s a b m (ps ++ batch) st.writes (length batch) first =
-      updates_any p s a st.writes (length ps) (length b.log + 1) w b m (ps ++ batch) st.at fit_m (in_new ps batch) refl (omega (arith, st.few, length-append ps batch)) in
+      updates_any p s a st.writes (length ps) (length b.log + 1) w b m (ps ++ batch) st.at fit_m (in_new ps batch) refl
+      (omega (arith, st.few, length-append ps batch)) in
       let log : List Write = b.log ++ take came.count st.writes in
       let c : Node = record b { log = log } in
       let all : List Packet = (ps ++ batch) ++ came.acks in
       let second : World = run first (deliver_each (length (ps ++ batch)) came.acks) in
       let told : Told p s a c m all (length b.log + came.count) came.acks second =
-      acks_any p s a c came.acks (length (ps ++ batch)) (length b.log + came.count) first m all came.at (fit_log p s a b m log fit_m) (in_new (ps ++ batch) came.acks) came.are session (omega (arith, net))
+      acks_any p s a c came.acks (length (ps ++ batch)) (length b.log + came.count) first m all came.at (fit_log p s a b m log fit_m)
+      (in_new (ps ++ batch) came.acks) came.are session (omega (arith, net))
       (omega (arith, came.short, st.few, length-append (ps ++ batch) came.acks)) in
       let known : told.net ≡ l.net + came.count = knows came.count told.net told.rises told.most (λ some. told.all (came.last some)) in
       let over : Came second = record {
@@ -209,13 +217,16 @@ fit_applied p s a b l number mark fit = record {
   mode = fit.mode;
 }
 
-module _ (p s : ℕ) (a b : Node) (l : Link) (ps : List Packet) (fits : b.safe ≤ length b.log) (whole : a.safe ≤ length a.log) (small : AllByRecursion IsSmall a.log) (fit : Fit p s a b l) (session : l.session ≡ b.session) (net : l.net ≡ length b.log) (stored : l.stored ≡ b.safe) where
+module _ (p s : ℕ) (a b : Node) (l : Link) (ps : List Packet) (fits : b.safe ≤ length b.log) (whole : a.safe ≤ length a.log)
+    (small : AllByRecursion IsSmall a.log) (fit : Fit p s a b l) (session : l.session ≡ b.session) (net : l.net ≡ length b.log)
+    (stored : l.stored ≡ b.safe) where
   pub closes : (w : World) → Came p s a b l ps fits whole small fit session net stored w
       → let x = run w (Apply s (length (w.nodes s).log - (w.nodes s).safe) 0 ∷ []) in Turned p s a b l (run x (delivery w x))
   closes w came =
       let n : Node = record b { log = came.log } in
       subst (λ (y : Node). let x = run w (Apply s (length y.log - y.safe) 0 ∷ []) in Turned p s a b l (run x (delivery w x))) (sym came.at.at_s)
-      (by_value (eqb (length came.log - b.safe) 0) (λ none. at_rest (is_none (length came.log - b.safe) none)) (λ some. at_work (is_some (length came.log - b.safe) some)))
+      (by_value (eqb (length came.log - b.safe) 0) (λ none. at_rest (is_none (length came.log - b.safe) none))
+      (λ some. at_work (is_some (length came.log - b.safe) some)))
     where
       is_none : (m : ℕ) → eqb m 0 ≡ true → m ≡ 0
       is_none m h = grind (arith, nat_tests)
@@ -224,7 +235,8 @@ module _ (p s : ℕ) (a b : Node) (l : Link) (ps : List Packet) (fits : b.safe �
       is_some m h = grind (arith, nat_tests)
 
       fit_came : Fit p s a (record b { log = came.log }) (record l { net = l.net + came.count; sent = came.high; trimmed = 0 })
-      fit_came = fit_log p s a b (record l { net = l.net + came.count; sent = came.high; trimmed = 0 }) came.log (fit_link p s a b l l.session (l.net + came.count) l.stored came.high 0 fit)
+      fit_came = fit_log p s a b (record l { net = l.net + came.count; sent = came.high; trimmed = 0 }) came.log
+          (fit_link p s a b l l.session (l.net + came.count) l.stored came.high 0 fit)
 
       at_rest : length came.log - b.safe ≡ 0 → (let x = run w (Apply s (length came.log - b.safe) 0 ∷ []) in Turned p s a b l (run x (delivery w x)))
       at_rest none =
@@ -265,7 +277,8 @@ module _ (p s : ℕ) (a b : Node) (l : Link) (ps : List Packet) (fits : b.safe �
           let u : World = run x (deliver_each (length came.packets) (ack ∷ [])) in
           let link : Link = record m { stored = length came.log; net = max m.net (length came.log) } in
           let at_u : At u p s a z link (came.packets ++ ack ∷ []) =
-          disk_at x p s a z m (came.packets ++ ack ∷ []) at_x fit_x (length came.packets) (length came.log) (omega (arith, length-append came.packets (ack ∷ [])))
+          disk_at x p s a z m (came.packets ++ ack ∷ []) at_x fit_x (length came.packets) (length came.log)
+          (omega (arith, length-append came.packets (ack ∷ [])))
           (first came.packets ack) (omega (arith, stored, some)) in
           let over : Turned p s a b l u = record {
             site = z;
@@ -282,7 +295,8 @@ module _ (p s : ℕ) (a b : Node) (l : Link) (ps : List Packet) (fits : b.safe �
             role = refl;
             bunker = refl;
           } in
-          subst (λ (es : List Event). Turned p s a b l (run x (es ++ deliver_new x (run x es)))) (sym (new_is w x came.packets (ack ∷ []) came.at.sent at_x.sent))
+          subst (λ (es : List Event). Turned p s a b l (run x (es ++ deliver_new x (run x es))))
+          (sym (new_is w x came.packets (ack ∷ []) came.at.sent at_x.sent))
           (subst (λ (v : World). Turned p s a b l v) (sym (run_append x (deliver_each (length came.packets) (ack ∷ [])) (deliver_new x u)))
           (subst (λ (es : List Event). Turned p s a b l (run u es)) (sym (nothing_new x u (came.packets ++ ack ∷ []) at_x.sent at_u.sent)) over))
         where

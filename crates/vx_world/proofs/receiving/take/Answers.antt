@@ -9,4 +9,5 @@ returns c =
     let w = world_of c.args.world.now in
     let p = packet_of c.args.packet.now in
     let whole : completes (w.gathering p.target) p ≡ true = sym c.in_ok-completes.ensures ∙ c.if-not-branch.false in
-    taken_and_told w (world_of c.receive.new.self) (world_of c.acknowledge.new.world) p c.args.write.now (completes (w.gathering p.target) p) c.args.ack whole c.in_ok-receive.ensures c.in_ok-acknowledge.ensures
+    taken_and_told w (world_of c.receive.new.self) (world_of c.acknowledge.new.world) p c.args.write.now
+    (completes (w.gathering p.target) p) c.args.ack whole c.in_ok-receive.ensures c.in_ok-acknowledge.ensures

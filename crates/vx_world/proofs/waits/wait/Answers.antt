@@ -11,7 +11,8 @@ use Rattle.vx_world.proofs.waits.wait.Goals as goal
 
 pub returns-in-Some-refuse_number : goal.returns-in-Some-refuse_number
 returns-in-Some-refuse_number c =
-    c.in-Some-refuse_number.ensures (confirmed (world_of c.args.world.now) c.args.site c.args.number) ∙ c.in_default-refuse_work.ensures _ ∙ c.in_default.ensures.refuses _
+    c.in-Some-refuse_number.ensures (confirmed (world_of c.args.world.now) c.args.site c.args.number) ∙ c.in_default-refuse_work.ensures _
+    ∙ c.in_default.ensures.refuses _
 
 pub returns : goal.returns
 returns c =
