@@ -1,6 +1,6 @@
 -- What a line comes to that recovers a site.
 use Rattle.std.proofs.Common.{◌≡◌, ◌⊎◌, inl, inr, ◌∙◌, ◌+◌, ◌<◌, ◌≤◌, ℕ, zero, suc, Bool, true, false, List, [], ◌∷◌, length, ap, sym, subst, refl, arith, IsTrue}
-use Rattle.std.specs.Prelude.{map, if◌then◌else◌, Option, None, Some, slice_get, slice_set, Result, Ok, Err}
+use Rattle.std.specs.Prelude.{map, if◌then◌else◌, None, Some, slice_get, slice_set, Result, Ok, Err}
 use Rattle.std.proofs.lemmas.Option.{slice_get_within}
 use Rattle.vx_history.specs.World.{Node, World, with_node}
 use Rattle.vx_history.specs.Steps.{recovered, came_up, session_begun, crashed}
