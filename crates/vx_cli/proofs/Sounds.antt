@@ -1,5 +1,5 @@
 -- A line leaves a good world good.
-use Rattle.std.proofs.Common.{◌≡◌, ◌∙◌, ◌++◌, ℕ, List, [], ◌∷◌, Option, Some, None, Result, Ok, Err, Bool, ap, sym, subst, refl, arith}
+use Rattle.std.proofs.Common.{◌≡◌, ◌++◌, ℕ, List, [], ◌∷◌, Option, Some, None, Result, Ok, Err, Bool, sym, subst, refl}
 use Rattle.vx_history.proofs.Updates.{all_updated}
 use Rattle.vx_history.specs.GoodWorld.{GoodWorld}
 use Rattle.vx_history.specs.Likes.{IsLike}
@@ -20,7 +20,6 @@ use Rattle.vx_events.specs.Fails.{Fails}
 use Rattle.vx_events.specs.Lines.{StepBy}
 use Rattle.vx_events.specs.Lists.{events_of}
 use Rattle.vx_events.specs.declared.said.Said.{Said}
-use Rattle.vx_node.specs.Lines.{script_line}
 use Rattle.vx_node.specs.Steps.{SaidStep}
 
 -- what a line notes is no more than a note

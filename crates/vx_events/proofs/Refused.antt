@@ -10,24 +10,18 @@ use Rattle.vx_model.specs.declared.no.No.TheVariants.{Down as NotUp}
 use Rattle.vx_model.specs.declared.site.SiteState.{SiteState}
 use Rattle.vx_model.specs.declared.site.SiteState.TheVariants.{Bare, Up, Deported, Down}
 use Rattle.vx_script.specs.declared.line.ScriptLine.{ScriptLine}
-use Rattle.vx_script.specs.declared.line.ScriptLine.TheVariants.{Site, Raw, Disk, Crash, Fuse, Recover, Write, Put, Read, Show, Apply, Status}
+use Rattle.vx_script.specs.declared.line.ScriptLine.TheVariants.{Site, Raw, Disk, Crash, Fuse, Recover, Apply, Status}
 use Rattle.vx_order.specs.declared.facts.SiteFacts.{SiteFacts}
-use Rattle.vx_order.specs.declared.facts.VolumeFacts.{VolumeFacts}
 use Rattle.vx_order.specs.declared.facts.RvgFacts.{RvgFacts}
-use Rattle.vx_order.specs.declared.facts.VolumeKind.{VolumeKind}
-use Rattle.vx_order.specs.declared.facts.VolumeKind.TheVariants.{Data}
-use Rattle.vx_order.specs.declared.span.Span.{Span}
-use Rattle.vx_order.specs.declared.span.Way.{Way}
-use Rattle.vx_order.specs.declared.span.Way.TheVariants.{Writes, Reads, Shows}
 use Rattle.vx_order.specs.Order.{refusal_of}
 use Rattle.vx_order.specs.Tests.{when, first_of}
 use Rattle.vx_order.specs.Subject.{first_name, second_name, need_of, halt_of}
 use Rattle.vx_order.specs.Spans.{span_of}
-use Rattle.vx_order.specs.Sites.{facts_of, site_named, unknown_one, down_by, halted_by, site_off, volume_of, rvg_of, halted_disk, halted_rvg, halted_one}
+use Rattle.vx_order.specs.Sites.{facts_of, site_named, unknown_one, down_by, halted_by, site_off, rvg_of, halted_disk, halted_rvg, halted_one}
 use Rattle.vx_model.specs.Sites.{is_up, is_bare}
 use Rattle.vx_order.specs.Shapes.{line_role, line_unknown, taken, over_limit, wrong_size, site_limit, most_blocks, raw_role, raw_size, disk_unknown}
 use Rattle.vx_model.specs.Sizes.{is_raw_shape, map_blocks}
-use Rattle.vx_order.specs.Calls.{span_role, span_unknown, span_size, span_range, call_unknown, call_size, call_range, outgrows, is_data, is_write}
+use Rattle.vx_order.specs.Calls.{span_role, span_unknown, span_size, span_range}
 
 -- none of the tests of a line holds
 pub record Passes (sites : List SiteFacts) (files : Bool) (line : ScriptLine) (first second : Option SiteFacts) : Type 0 where

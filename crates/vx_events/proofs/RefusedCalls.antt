@@ -1,16 +1,11 @@
 -- What is known of a line that reads or writes blocks, and that is not refused before it works.
-use Rattle.std.proofs.Common.{◌≡◌, ◌∙◌, ◌+◌, ◌<◌, ◌≤◌, ℕ, suc, List, [], ◌∷◌, length, ap, subst, refl, arith, Bool, true, false}
-use Rattle.std.specs.Prelude.{◌-◌, ◌*◌, Option, Some, None, slice_get, cond, not, ◌&&◌, ◌||◌, ◌==◌, nat_lt, nat_le, if◌then◌else◌}
-use Rattle.std.specs.List.{find, position, position_from}
+use Rattle.std.proofs.Common.{◌≡◌, ◌∙◌, ◌+◌, ◌≤◌, ℕ, List, ap, subst, refl, Bool, false}
+use Rattle.std.specs.Prelude.{Option, Some, None, ◌&&◌, ◌||◌, ◌==◌, nat_lt, if◌then◌else◌}
+use Rattle.std.specs.List.{find}
 use Rattle.std.specs.Str.{bytes_eq}
-use Rattle.std.proofs.lemmas.Bool.Decides.{nat_tests}
-use Rattle.std.proofs.lemmas.Iterator.Adapters.{position_from-zero}
-use Rattle.vx_model.specs.declared.no.No.{No}
-use Rattle.vx_model.specs.declared.no.No.TheVariants.{Down as NotUp}
 use Rattle.vx_model.specs.declared.site.SiteState.{SiteState}
 use Rattle.vx_model.specs.declared.site.SiteState.TheVariants.{Bare, Up, Deported, Down}
-use Rattle.vx_script.specs.declared.line.ScriptLine.{ScriptLine}
-use Rattle.vx_script.specs.declared.line.ScriptLine.TheVariants.{Site, Raw, Disk, Crash, Fuse, Recover, Write, Put, Read, Show, Apply, Status}
+use Rattle.vx_script.specs.declared.line.ScriptLine.TheVariants.{Write, Put, Read, Show}
 use Rattle.vx_order.specs.declared.facts.SiteFacts.{SiteFacts}
 use Rattle.vx_order.specs.declared.facts.VolumeFacts.{VolumeFacts}
 use Rattle.vx_order.specs.declared.facts.RvgFacts.{RvgFacts}
@@ -20,14 +15,11 @@ use Rattle.vx_order.specs.declared.span.Span.{Span}
 use Rattle.vx_order.specs.declared.span.Way.{Way}
 use Rattle.vx_order.specs.declared.span.Way.TheVariants.{Writes, Reads, Shows}
 use Rattle.vx_order.specs.Order.{refusal_of}
-use Rattle.vx_order.specs.Tests.{when, first_of}
-use Rattle.vx_order.specs.Subject.{first_name, second_name, need_of, halt_of}
+use Rattle.vx_order.specs.Subject.{first_name, halt_of}
 use Rattle.vx_order.specs.Spans.{span_of}
-use Rattle.vx_order.specs.Sites.{facts_of, site_named, unknown_one, down_by, halted_by, site_off, volume_of, rvg_of, halted_disk, halted_rvg, halted_one}
-use Rattle.vx_model.specs.Sites.{is_up, is_bare}
-use Rattle.vx_order.specs.Shapes.{line_role, line_unknown, taken, over_limit, wrong_size, site_limit, most_blocks, raw_role, raw_size, disk_unknown}
-use Rattle.vx_model.specs.Sizes.{is_raw_shape, map_blocks}
-use Rattle.vx_order.specs.Calls.{span_role, span_unknown, span_size, span_range, call_unknown, call_size, call_range, outgrows, is_data, is_write}
+use Rattle.vx_order.specs.Sites.{site_named, volume_of, rvg_of, halted_one}
+use Rattle.vx_model.specs.Sites.{is_up}
+use Rattle.vx_order.specs.Calls.{span_unknown, span_size, span_range, call_unknown, call_size, call_range, outgrows, is_data, is_write}
 use Rattle.vx_events.proofs.Refused.{running_by, passes, when_none, lt_false, some_of, neither, FoundAt, found_at, Named, named}
 
 -- what is known of a read or write of blocks

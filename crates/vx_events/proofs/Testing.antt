@@ -8,7 +8,6 @@ use Rattle.vx_model.specs.declared.limits.TheConstants.{MOST_NUMBER}
 use Rattle.vx_model.specs.Content.{blocks_in}
 use Rattle.vx_model.specs.Sites.{is_up}
 use Rattle.vx_model.specs.Sizes.{is_raw_shape}
-use Rattle.vx_model.specs.declared.no.No.{No}
 use Rattle.vx_model.specs.declared.no.No.TheVariants.{Role as WrongRole, Size as WrongSize, Exists}
 use Rattle.vx_model.specs.declared.site.Role.{Role}
 use Rattle.vx_model.specs.declared.site.Role.TheVariants.{Primary, Secondary, Handing, Bunker}

@@ -1,7 +1,8 @@
 -- What the tests of a line see of the world.
-use Rattle.std.specs.Prelude.{ℕ, zero, suc, ◌+◌, List, [], ◌∷◌, map, Option, Some, None, unwrap_or}
+use Rattle.std.specs.Prelude.{ℕ, zero, suc, ◌+◌, List, [], ◌∷◌, map, length, Option, Some, None, unwrap_or, if◌then◌else◌}
 use Rattle.std.specs.List.{position}
 use Rattle.std.specs.Str.{bytes_eq}
+use Rattle.vx_model.specs.Sites.{is_origin}
 use Rattle.vx_history.specs.World.{Node, World, Volume}
 use Rattle.vx_model.specs.declared.site.SiteState.{SiteState}
 use Rattle.vx_model.specs.declared.site.SiteState.TheVariants.{Bare, Up, Deported, Down}
@@ -14,6 +15,10 @@ use Rattle.vx_order.specs.declared.facts.VolumeKind.TheVariants.{Data}
 abbrev pub volume_fact : Volume → VolumeFacts
 volume_fact v = record { name = v.name; blocks = v.blocks; kind = Data }
 
+-- the number of the last write that a site has: where writes arise the last durable one, and at a receiver the last that came
+abbrev pub head_of : Node → ℕ
+head_of n = if is_origin n.role then n.safe else length n.log
+
 abbrev pub group_fact : Node → RvgFacts
 group_fact n = record {
   role = n.role;
@@ -21,7 +26,7 @@ group_fact n = record {
   parent = n.parent;
   mark = n.mark;
   low = n.low;
-  last = n.safe;
+  last = head_of n;
   ring = n.ring;
   halted = n.halted;
 }

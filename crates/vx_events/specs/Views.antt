@@ -5,6 +5,7 @@ use Rattle.vx_model.specs.declared.no.SiteName.{SiteName}
 use Rattle.vx_model.specs.declared.no.SiteName.TheVariants.{Known, Number}
 use Rattle.vx_model.specs.declared.site.SiteState.{SiteState}
 use Rattle.vx_model.specs.declared.site.SiteState.TheVariants.{Bare, Up, Deported, Down}
+use Rattle.vx_events.specs.Facts.{head_of}
 use Rattle.vx_report.specs.declared.view.SiteView.{SiteView}
 use Rattle.vx_report.specs.declared.view.RvgView.{RvgView}
 
@@ -17,7 +18,7 @@ group_view w n = record {
   role = n.role;
   generation = n.line.generation;
   origin = name_of w n.line.origin;
-  head = n.safe;
+  head = head_of n;
   mark = n.mark;
   session = n.session;
   halted = n.halted;

@@ -1,6 +1,6 @@
 -- What a line asked of the rack of its site.
-use Rattle.std.proofs.Common.{◌≡◌, ◌∙◌, ◌<◌, ℕ, List, ap, sym, subst, refl, arith, Bool}
-use Rattle.std.specs.Prelude.{Option, Some, None, slice_get, slice_set}
+use Rattle.std.proofs.Common.{◌≡◌, ◌∙◌, ◌<◌, ℕ, List, ap, sym, subst, arith, Bool}
+use Rattle.std.specs.Prelude.{Option, Some, slice_get, slice_set}
 use Rattle.vx_history.specs.World.{Node, World}
 use Rattle.vx_model.specs.declared.site.SiteState.TheVariants.{Up as IsUp}
 use Rattle.vx_disk.specs.Causes.{OnDisks}

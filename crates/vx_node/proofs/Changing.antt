@@ -1,6 +1,6 @@
 -- How the tests' facts, the engines and the counts follow a change of one site.
 use Rattle.std.proofs.Common.{◌≡◌, ◌∙◌, ◌+◌, ◌-◌, ◌^◌, ◌<◌, ◌≤◌, ℕ, zero, suc, List, [], ◌∷◌, ◌++◌, length, ap, sym, subst, refl, arith, ⊎_elim}
-use Rattle.std.specs.Prelude.{Option, Some, slice_get, slice_set, eqb}
+use Rattle.std.specs.Prelude.{Option, Some, slice_get, slice_set, eqb, if◌then◌else◌}
 use Rattle.std.proofs.lemmas.Bool.{cases_eq}
 use Rattle.std.proofs.lemmas.Bool.Decides.{nat_tests}
 use Rattle.std.proofs.lemmas.Option.{slice_get_within}
@@ -16,7 +16,11 @@ use Rattle.vx_order.specs.declared.facts.SiteFacts.{SiteFacts}
 use Rattle.vx_node.specs.declared.engine.Engine.{Engine}
 use Rattle.vx_node.specs.Changes.{last_facts, last_group, halted_facts, halted_group}
 use Rattle.vx_node.specs.Engines.{Later, halted_with}
-use Rattle.vx_events.specs.Facts.{site_fact, group_by, values_from}
+use Rattle.vx_events.specs.Facts.{site_fact, group_by, group_fact, head_of, values_from}
+use Rattle.vx_model.specs.Sites.{is_origin}
+use Rattle.vx_model.specs.declared.site.Role.{Role}
+use Rattle.vx_model.specs.declared.site.Role.TheVariants.{Primary}
+use Rattle.vx_order.specs.declared.facts.RvgFacts.{RvgFacts}
 use Rattle.vx_node.specs.Stands.{EnginesStand, StandsAt, IsUnused, AreTold, IsToldAt, RoseAll, RoseBy, faults_of, faults_at, fault_count, times}
 use Rattle.vx_node.proofs.Lists.{get-set_same, get-set_other, length-set, values_from-set}
 use Rattle.vx_events.proofs.Values.{values_from-push}
@@ -48,23 +52,29 @@ facts-made nodes sites n =
         ap (λ (f : SiteFacts). f ∷ values_from (λ i. site_fact (updated nodes s n i)) (k + 1) m) (ap site_fact (updated_other nodes s k n (λ e. omega arith)))
         ∙ ap (λ (fs : List SiteFacts). site_fact (nodes k) ∷ fs) (same nodes (k + 1) m s n (omega arith))
 
-last_is : (state : SiteState) (n : Node) (x : Write) → last_group (n.safe + 1) (group_by state n) ≡ group_by state (logged n x)
-last_is IsBare n x = refl
-last_is IsUp n x = refl
-last_is Deported n x = refl
-last_is Down n x = refl
+last_is : (state : SiteState) (n : Node) (x : Write) → head_of (logged n x) ≡ n.safe + 1 → last_group (n.safe + 1) (group_by state n) ≡ group_by state (logged n x)
+last_is IsBare n x head = refl
+last_is IsUp n x head = ap (λ (k : ℕ). Some (let r : RvgFacts = record (group_fact n) { last = k } in r)) (sym head)
+last_is Deported n x head = refl
+last_is Down n x head = refl
 
-pub last_fact : (n : Node) (x : Write) → last_facts (n.safe + 1) (site_fact n) ≡ site_fact (logged n x)
-last_fact n x = ap (λ r. let f : SiteFacts = record (site_fact n) { rvg = r } in f) (last_is n.state n x)
+pub last_fact : (n : Node) (x : Write) → n.role ≡ Primary → last_facts (n.safe + 1) (site_fact n) ≡ site_fact (logged n x)
+last_fact n x primary =
+    ap (λ r. let f : SiteFacts = record (site_fact n) { rvg = r } in f)
+    (last_is n.state n x (ap (λ (role : Role). if is_origin role then n.safe + 1 else length (n.log ++ x ∷ [])) primary))
 
-halted_is : (state : SiteState) (n : Node) (x : Write) (disk : ℕ) → halted_group disk (group_by state n) ≡ group_by state (halted_with n x disk)
-halted_is IsBare n x disk = refl
-halted_is IsUp n x disk = refl
-halted_is Deported n x disk = refl
-halted_is Down n x disk = refl
+halted_is : (state : SiteState) (n : Node) (x : Write) (disk : ℕ) → head_of (halted_with n x disk) ≡ head_of n → halted_group disk (group_by state n) ≡ group_by state (halted_with n x disk)
+halted_is IsBare n x disk head = refl
+halted_is IsUp n x disk head = ap (λ (k : ℕ). Some (let r : RvgFacts = record (group_fact n) { last = k; halted = Some disk } in r)) (sym head)
+halted_is Deported n x disk head = refl
+halted_is Down n x disk head = refl
 
-pub halted_fact : (n : Node) (x : Write) (disk : ℕ) → halted_facts disk (site_fact n) ≡ site_fact (halted_with n x disk)
-halted_fact n x disk = ap (λ r. let f : SiteFacts = record (site_fact n) { rvg = r } in f) (halted_is n.state n x disk)
+pub halted_fact : (n : Node) (x : Write) (disk : ℕ) → n.role ≡ Primary → halted_facts disk (site_fact n) ≡ site_fact (halted_with n x disk)
+halted_fact n x disk primary =
+    ap (λ r. let f : SiteFacts = record (site_fact n) { rvg = r } in f)
+    (halted_is n.state n x disk
+    (ap (λ (role : Role). if is_origin role then n.safe else length (n.log ++ x ∷ [])) primary
+    ∙ sym (ap (λ (role : Role). if is_origin role then n.safe else length n.log) primary)))
 
 -- no call failed
 pub rose_none : (old new : ℕ → ℕ → ℕ) → ((s d : ℕ) → old s d ≤ new s d) → RoseAll [] old new

@@ -35,7 +35,7 @@ use Rattle.vx_node.proofs.Changing.{engines_same, rose_none, rose_one, counts_la
 use Rattle.vx_node.proofs.Falling.{fact_there, stands_set, rose_still}
 use Rattle.vx_node.proofs.Lists.{get-set_same, set_twice}
 use Rattle.vx_node.proofs.Raws.{bare_parts, raw_fact_of}
-use Rattle.vx_node.proofs.Rising.{not_all, recover_worked, up_fact, up_parts}
+use Rattle.vx_node.proofs.Rising.{head_at, not_all, recover_worked, up_fact, up_parts}
 use Rattle.vx_events.proofs.Places.{some_same}
 use Rattle.vx_node.proofs.Seats.{seated}
 use Rattle.vx_node.proofs.Sites.{stands_new}
@@ -90,7 +90,7 @@ module _ {R : Type 0} {g : Ghosts R} where
         let own = bare_parts n before stood bare in
         let fact : up_facts (state_of k) k.safe ring raw ≡ site_fact k =
         ap (up_facts (state_of k) k.safe ring) (raw_fact_of s n site volumes node_fact table own.0 own.1)
-        ∙ up_fact (raw_set s n) k ring (same_set s n k found.same) parts.0 (parts.1 ∙ ap ring_of found.same.blocks ∙ sym (ring_fits ring ring_is)) in
+        ∙ up_fact (raw_set s n) k ring (same_set s n k found.same) parts.0 (parts.1 ∙ ap ring_of found.same.blocks ∙ sym (ring_fits ring ring_is)) (head_at k after found.stands found.same.up found.same.running) in
         let up : YardAgrees (with_node w s k) new =
         stands_set w (with_node w s k) old new s k (up_facts (state_of k) k.safe ring raw) after stands below refl (λ j. refl) found.stands fact refl
         (noted.facts raw seen ∙ ap (λ fs. slice_set fs s (up_facts (state_of k) k.safe ring raw)) facts ∙ set_twice old.facts.items s raw (up_facts (state_of k) k.safe ring raw))

@@ -1,6 +1,6 @@
 -- What a line comes to that recovers a site.
 use Rattle.std.proofs.Common.{◌≡◌, ◌⊎◌, inl, inr, ◌∙◌, ◌+◌, ◌<◌, ◌≤◌, ℕ, zero, suc, Bool, true, false, List, [], ◌∷◌, length, ap, sym, subst, refl, arith, IsTrue}
-use Rattle.std.specs.Prelude.{map, Some, slice_get, slice_set, Result, Ok, Err}
+use Rattle.std.specs.Prelude.{map, if◌then◌else◌, None, Some, slice_get, slice_set, Result, Ok, Err}
 use Rattle.std.proofs.lemmas.Option.{slice_get_within}
 use Rattle.vx_history.specs.World.{Node, World, with_node}
 use Rattle.vx_history.specs.Steps.{recovered, came_up, session_begun, crashed}
@@ -25,7 +25,8 @@ use Rattle.vx_node.specs.declared.yard.Yard.{Yard}
 use Rattle.vx_node.specs.Changes.{up_facts}
 use Rattle.vx_node.specs.Engines.{Later, RoseAt, CameUp, CameUpIs, StillDown, no_number}
 use Rattle.vx_events.specs.Found.{SameDisks}
-use Rattle.vx_events.specs.Facts.{site_fact, group_fact, group_by, volume_fact, seat_of}
+use Rattle.vx_model.specs.Sites.{is_origin}
+use Rattle.vx_events.specs.Facts.{site_fact, group_fact, group_by, head_of, volume_fact, seat_of}
 use Rattle.vx_node.specs.Holds.{state_of, state_with}
 use Rattle.vx_events.specs.Stamps.{most_stamp}
 use Rattle.vx_node.specs.Rising.{Fell, NotedUp, NotesUp, Recovering}
@@ -46,8 +47,8 @@ use Rattle.vx_node.proofs.Seats.{seated}
 -- ---- what the tests see of a site that came up
 
 -- the facts of a site with the same disks, up in a ring of its size
-pub up_fact : (n k : Node) (ring : ℕ) → SameDisks n k → k.low ≡ 1 → k.ring ≡ ring → up_facts (state_of k) k.safe ring (site_fact n) ≡ site_fact k
-up_fact n k ring same low ring_is = shown ∙ sym (ap (λ (t : SiteState). let f : SiteFacts = record (site_fact k) { state = t; rvg = group_by t k } in f) same.up)
+pub up_fact : (n k : Node) (ring : ℕ) → SameDisks n k → k.low ≡ 1 → k.ring ≡ ring → head_of k ≡ k.safe → up_facts (state_of k) k.safe ring (site_fact n) ≡ site_fact k
+up_fact n k ring same low ring_is head = shown ∙ sym (ap (λ (t : SiteState). let f : SiteFacts = record (site_fact k) { state = t; rvg = group_by t k } in f) same.up)
   where
     shown : up_facts (state_of k) k.safe ring (site_fact n) ≡ record (site_fact k) { state = IsUp; rvg = Some (group_fact k) }
     shown = λ i. let f : SiteFacts = record {
@@ -62,7 +63,7 @@ up_fact n k ring same low ring_is = shown ∙ sym (ap (λ (t : SiteState). let f
         parent = k.parent;
         mark = k.mark;
         low = sym low i;
-        last = k.safe;
+        last = sym head i;
         ring = sym ring_is i;
         halted = sym same.running i;
       } in r);
@@ -107,6 +108,10 @@ bare_down e = cc
 up_down : IsUp ≡ IsDown → ⊥
 up_down e = cc
 
+one_head : (b : Bool) (safe many : ℕ) → many ≡ safe → (if b then safe else many) ≡ safe
+one_head true safe many is = refl
+one_head false safe many is = is
+
 true_or : (b : Bool) → IsTrue b ⊎ (IsTrue b → ⊥)
 true_or true = inl refl
 true_or false = inr (λ e. cc)
@@ -125,6 +130,14 @@ module _ {R : Type 0} {g : Ghosts R} where
   up_parts k (Up rvg) h up = (h.low, h.ring_is)
   up_parts k (Down rack) h up = absurd (down_up (sym h.state ∙ up))
   up_parts k Gone h up = absurd h
+
+  -- a site that runs has no write beyond the durable ones, so its head is the last of these
+  pub head_at : (k : Node) (e : Engine R g) → StandsAt k e → k.state ≡ IsUp → k.halted ≡ None → head_of k ≡ k.safe
+  head_at k (Bare rack) h up runs = absurd (bare_up (sym (ap (λ (n : Node). n.state) h.bare.is) ∙ up))
+  head_at k (Spoiled rack) h up runs = absurd (bare_up (sym (ap (λ (n : Node). n.state) h.is) ∙ up))
+  head_at k (Up rvg) h up runs = one_head (is_origin k.role) k.safe (length k.log) (omega (arith, h.logged, h.durable runs))
+  head_at k (Down rack) h up runs = absurd (down_up (sym h.state ∙ up))
+  head_at k Gone h up runs = absurd h
 
   down_ring : (n : Node) (e : Engine R g) → StandsAt n e → n.state ≡ IsDown → n.ring ≡ ring_of n.blocks
   down_ring n (Bare rack) h down = absurd (bare_down (sym (ap (λ (n : Node). n.state) h.bare.is) ∙ down))
@@ -171,7 +184,7 @@ module _ {R : Type 0} {g : Ghosts R} where
     risen_stands ring k ring_is same at facts =
         let parts = up_parts k after at same.up in
         stands_set mid (with_node mid s k) old new s k (up_facts (state_of k) k.safe ring (site_fact node)) after stands below refl (λ j. refl) at
-        (up_fact node k ring same parts.0 (parts.1 ∙ ap ring_of same.blocks ∙ sym (down_ring node before stood down) ∙ sym ring_is)) refl facts engines racks
+        (up_fact node k ring same parts.0 (parts.1 ∙ ap ring_of same.blocks ∙ sym (down_ring node before stood down) ∙ sym ring_is) (head_at k after at same.up same.running)) refl facts engines racks
 
     rose_here : RoseAll [] (count_of old) (count_of new)
     rose_here = rose_still old new s before after there later engines

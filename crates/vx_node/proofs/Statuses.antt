@@ -15,7 +15,7 @@ use Rattle.vx_script.specs.declared.line.ScriptLine.TheVariants.{Status}
 use Rattle.vx_node.specs.declared.engine.Engine.{Engine}
 use Rattle.vx_events.specs.declared.said.Said.TheVariants.{Shown}
 use Rattle.vx_node.specs.declared.yard.Yard.{Yard}
-use Rattle.vx_events.specs.Facts.{site_fact, facts_of, group_fact, group_by, values_from, seat_of}
+use Rattle.vx_events.specs.Facts.{site_fact, facts_of, group_fact, group_by, head_of, values_from, seat_of}
 use Rattle.vx_node.specs.Seen.{name_at, group_seen, group_at}
 use Rattle.vx_node.specs.Stands.{StandsAt}
 use Rattle.vx_events.specs.Views.{name_of, group_view, group_shown, view_of}
@@ -47,7 +47,7 @@ group_with n session origin = record {
   role = n.role;
   generation = n.line.generation;
   origin = origin;
-  head = n.safe;
+  head = head_of n;
   mark = n.mark;
   session = session;
   halted = n.halted;

@@ -34,7 +34,10 @@ use Rattle.vx_node.proofs.Falling.{stands_set, stands_same, fuse_fact}
 use Rattle.vx_node.specs.Yards.{YardAgrees, in_files, count_of}
 use Rattle.vx_node.proofs.Changing.{facts-updated, last_fact, halted_fact, rose_none, rose_one, counts_later, counts_rose, engines_set}
 use Rattle.vx_node.proofs.Lists.{get_at, get-set_same, set_same}
+use Rattle.vx_model.specs.declared.site.Role.TheVariants.{Primary}
+use Rattle.vx_order.specs.Order.{refusal_of}
 use Rattle.vx_events.proofs.RefusedCalls.{WriteMay, write_may, put_may}
+use Rattle.vx_events.proofs.Testing.{write_primary, put_primary}
 use Rattle.vx_events.proofs.Places.{some_same, never_some, position_within}
 use Rattle.vx_node.proofs.Seats.{Seated, seated, named_fact, named_none}
 use Rattle.vx_node.proofs.Sites.{stands_new}
@@ -84,6 +87,13 @@ module _ {R : Type 0} {g : Ghosts R} where
   may_write y name volume start bytes (ByPut free is) =
       subst (λ (k : ℕ). WriteMay y.facts.items name volume start k) (count_one bytes is) (put_may y.facts.items (in_files y) name volume start bytes free)
 
+  -- only a primary is written
+  free_primary : (w : World) (y : Yard R g) (name volume : List ℕ) (start : ℕ) (bytes : List ℕ) → YardAgrees w y → WriteFree y name volume start bytes → (w.nodes (site_number w name)).role ≡ Primary
+  free_primary w y name volume start bytes agrees (ByWrite count fill free is) =
+      write_primary w (in_files y) name volume start count fill (subst (λ (fs : List SiteFacts). refusal_of fs (in_files y) (WriteLine name volume start count fill) ≡ None) agrees.facts free)
+  free_primary w y name volume start bytes agrees (ByPut free is) =
+      put_primary w (in_files y) name volume start bytes (subst (λ (fs : List SiteFacts). refusal_of fs (in_files y) (PutLine name volume start bytes) ≡ None) agrees.facts free)
+
   -- no site of the name, or no volume, is refused
   pub unseated : (y : Yard R g) (name volume : List ℕ) (start : ℕ) (bytes : List ℕ) → WriteFree y name volume start bytes → seat_of y.facts.items name ≡ None → ⊥
   unseated y name volume start bytes free none = named_none y name none (may_write y name volume start bytes free).call.site
@@ -106,10 +116,11 @@ module _ {R : Type 0} {g : Ghosts R} where
     pub there : slice_get y.engines.items s ≡ Some e
     pub stands : StandsAt (w.nodes s) e
     pub can : CanWrite (w.nodes s) v start (blocks_in bytes)
+    pub primary : (w.nodes s).role ≡ Primary
 
   goes_by : (w : World) (y : Yard R g) (name volume : List ℕ) (start : ℕ) (bytes : List ℕ) (s v : ℕ) (e : Engine R g) → Seated w y name s → (may : WriteMay y.facts.items name volume start (blocks_in bytes))
-      → may.call.site.facts ≡ site_fact (w.nodes s) → place_of (map volume_fact (w.nodes s).volumes) volume ≡ Some v → slice_get y.engines.items s ≡ Some e → StandsAt (w.nodes s) e → Goes w y name volume start bytes s v e
-  goes_by w y name volume start bytes s v e seat may same place there stands = record {
+      → may.call.site.facts ≡ site_fact (w.nodes s) → place_of (map volume_fact (w.nodes s).volumes) volume ≡ Some v → slice_get y.engines.items s ≡ Some e → StandsAt (w.nodes s) e → (w.nodes s).role ≡ Primary → Goes w y name volume start bytes s v e
+  goes_by w y name volume start bytes s v e seat may same place there stands primary = record {
     below = seat.below;
     small = omega (arith, inside, size.volumes, size.few);
     number = seat.number;
@@ -117,6 +128,7 @@ module _ {R : Type 0} {g : Ghosts R} where
     fact = seat.fact;
     there = there;
     stands = stands;
+    primary = primary;
     can = record {
       up = up;
       running = may.call.running (group_fact n) rvg;
@@ -161,6 +173,7 @@ module _ {R : Type 0} {g : Ghosts R} where
       let same : f ≡ site_fact (w.nodes s) = some_same (sym at ∙ seated_here.fact) in
       goes_by w y name volume start bytes s v e seated_here may (named_fact w y name s seated_here seat may.call.site)
       (ap (λ (k : SiteFacts). place_of k.volumes volume) (sym same) ∙ place) there (stands.engines.sites s e seated_here.below there)
+      (subst (λ (k : ℕ). (w.nodes k).role ≡ Primary) seated_here.number (free_primary w y name volume start bytes stands free))
 
   -- the numbers of the site and the volume are small
   pub inside : (w : World) (y : Yard R g) (name volume : List ℕ) (start : ℕ) (bytes : List ℕ) (s v : ℕ) (f : SiteFacts) → YardAgrees w y → WriteFree y name volume start bytes
@@ -182,16 +195,16 @@ module _ {R : Type 0} {g : Ghosts R} where
       subst (λ es. RoseAll [] (count_of old) (faults_of es)) (sym engines)
       (rose_none (count_of old) (faults_of (slice_set old.engines.items s after)) (λ i d. counts_later old.engines.items s e after there later i d))
 
-  done_at : (w : World) (old new : Yard R g) (s number : ℕ) (x : Write) (f' : SiteFacts) (e after : Engine R g) → YardAgrees w old → s < w.sites → slice_get old.engines.items s ≡ Some e → Later e after
+  done_at : (w : World) (old new : Yard R g) (s number : ℕ) (x : Write) (f' : SiteFacts) (e after : Engine R g) → YardAgrees w old → (w.nodes s).role ≡ Primary → s < w.sites → slice_get old.engines.items s ≡ Some e → Later e after
       → WroteAt (w.nodes s) x e after (Ok number) → f' ≡ last_facts number (site_fact (w.nodes s)) → new.facts.items ≡ slice_set old.facts.items s f' → new.engines.items ≡ slice_set old.engines.items s after
       → new.racks ≡ old.racks → PutsAt w s x (DoneAt number) old new
-  done_at w old new s number x f' e after stands below there later wrote is facts engines racks = record {
+  done_at w old new s number x f' e after stands primary below there later wrote is facts engines racks = record {
     world = written w s x;
     fails = [];
     puts = IsPut wrote.1 (λ calls told. wrote.3 calls (told.each s after (ap (λ es. slice_get es s) engines ∙ get-set_same old.engines.items s after (slice_get_within old.engines.items s e there)))) (record { none = refl; says = ap (λ (k : ℕ). DoneAt k) wrote.0; leads = refl });
     stands = stands_new w (written w s x) old new stands
         (facts ∙ ap (λ (fs : List SiteFacts). slice_set fs s f') stands.facts
-        ∙ ap (λ (f : SiteFacts). slice_set (facts_of w) s f) (is ∙ ap (λ (k : ℕ). last_facts k (site_fact (w.nodes s))) wrote.0 ∙ last_fact (w.nodes s) x)
+        ∙ ap (λ (f : SiteFacts). slice_set (facts_of w) s f) (is ∙ ap (λ (k : ℕ). last_facts k (site_fact (w.nodes s))) wrote.0 ∙ last_fact (w.nodes s) x primary)
         ∙ sym (facts-updated w.nodes w.sites s (logged (w.nodes s) x)))
         (subst (λ es. EnginesStand (written w s x) es) (sym engines)
         (engines_set w (written w s x) old.engines.items s (logged (w.nodes s) x) after refl (λ k. refl) below stands.engines wrote.2))
@@ -199,16 +212,16 @@ module _ {R : Type 0} {g : Ghosts R} where
     rose = rose_still old new s e after there later engines;
   }
 
-  failed_at : (w : World) (old new : Yard R g) (s : ℕ) (why : No) (x : Write) (f' : SiteFacts) (e after : Engine R g) → YardAgrees w old → s < w.sites → slice_get old.facts.items s ≡ Some (site_fact (w.nodes s))
+  failed_at : (w : World) (old new : Yard R g) (s : ℕ) (why : No) (x : Write) (f' : SiteFacts) (e after : Engine R g) → YardAgrees w old → (w.nodes s).role ≡ Primary → s < w.sites → slice_get old.facts.items s ≡ Some (site_fact (w.nodes s))
       → slice_get old.engines.items s ≡ Some e → Later e after → WroteAt (w.nodes s) x e after (Err why) → f' ≡ noted_facts why (site_fact (w.nodes s)) → new.facts.items ≡ slice_set old.facts.items s f'
       → new.engines.items ≡ slice_set old.engines.items s after → new.racks ≡ old.racks → PutsAt w s x (Refused why) old new
-  failed_at w old new s (Device disk) x f' e after stands below fact there later wrote is facts engines racks = record {
+  failed_at w old new s (Device disk) x f' e after stands primary below fact there later wrote is facts engines racks = record {
     world = half_written w s x disk;
     fails = (s, disk) ∷ [];
     puts = PutFails disk wrote.2 (record { one = refl; says = refl; leads = refl });
     stands = stands_new w (half_written w s x disk) old new stands
         (facts ∙ ap (λ (fs : List SiteFacts). slice_set fs s f') stands.facts
-        ∙ ap (λ (f : SiteFacts). slice_set (facts_of w) s f) (is ∙ halted_fact (w.nodes s) x disk)
+        ∙ ap (λ (f : SiteFacts). slice_set (facts_of w) s f) (is ∙ halted_fact (w.nodes s) x disk primary)
         ∙ sym (facts-updated w.nodes w.sites s (halted_with (w.nodes s) x disk)))
         (subst (λ es. EnginesStand (half_written w s x disk) es) (sym engines)
         (engines_set w (half_written w s x disk) old.engines.items s (halted_with (w.nodes s) x disk) after refl (λ k. refl) below stands.engines wrote.0))
@@ -217,7 +230,7 @@ module _ {R : Type 0} {g : Ghosts R} where
         (rose_one s disk (count_of old) (faults_of (slice_set old.engines.items s after)) (λ i d. counts_later old.engines.items s e after there later i d)
         (counts_rose old.engines.items s disk e after there wrote.1));
   }
-  failed_at w old new s (Limit what most) x f' e after stands below fact there later wrote is facts engines racks = record {
+  failed_at w old new s (Limit what most) x f' e after stands primary below fact there later wrote is facts engines racks = record {
     world = worked_on w s;
     fails = [];
     puts = NoNumber (λ told. wrote.1 (told.each s after (ap (λ es. slice_get es s) engines ∙ get-set_same old.engines.items s after (slice_get_within old.engines.items s e there)))) (record { none = refl; says = ap (λ (k : No). Refused k) wrote.0; leads = refl });
@@ -225,7 +238,7 @@ module _ {R : Type 0} {g : Ghosts R} where
         (facts ∙ ap (λ (f : SiteFacts). slice_set old.facts.items s f) is ∙ set_same old.facts.items s (site_fact (w.nodes s)) fact) engines racks;
     rose = rose_still old new s e after there later engines;
   }
-  failed_at w old new s Off x f' e after stands below fact there later wrote is facts engines racks =
+  failed_at w old new s Off x f' e after stands primary below fact there later wrote is facts engines racks =
       let has = wrote.1 in
       record {
         world = cut_write w s x has.count;
@@ -236,7 +249,7 @@ module _ {R : Type 0} {g : Ghosts R} where
         stands = stands_set w (cut_write w s x has.count) old new s (crashed (half_begun (w.nodes s) x) has.count) f' after stands below refl (λ k. refl) has.stands is refl facts engines racks;
         rose = rose_still old new s e after there later engines;
       }
-  failed_at w old new s other x f' e after stands below fact there later wrote is facts engines racks = absurd wrote
+  failed_at w old new s other x f' e after stands primary below fact there later wrote is facts engines racks = absurd wrote
 
   pub write_done : (w : World) (old new : Yard R g) (name volume : List ℕ) (start : ℕ) (bytes : List ℕ) (s v number : ℕ) (f f' : SiteFacts) (e after : Engine R g) → YardAgrees w old
       → Goes w old name volume start bytes s v e → slice_get old.facts.items s ≡ Some f → Later e after → WroteAt (w.nodes s) (the_write v start bytes) e after (Ok number)
@@ -244,7 +257,7 @@ module _ {R : Type 0} {g : Ghosts R} where
       → PutsIs w name volume start bytes (DoneAt number) old new
   write_done w old new name volume start bytes s v number f f' e after stands to at later wrote is facts engines racks =
       puts_is w old new name volume start bytes s v (DoneAt number) to.number to.place
-      (done_at w old new s number (the_write v start bytes) f' e after stands to.below to.there later wrote
+      (done_at w old new s number (the_write v start bytes) f' e after stands to.primary to.below to.there later wrote
       (is ∙ ap (λ (k : SiteFacts). last_facts number k) (some_same (sym at ∙ to.fact))) facts engines racks)
 
   pub write_failed : (w : World) (old new : Yard R g) (name volume : List ℕ) (start : ℕ) (bytes : List ℕ) (s v : ℕ) (why : No) (said : Said) (f f' : SiteFacts) (e after : Engine R g) → YardAgrees w old
@@ -253,7 +266,7 @@ module _ {R : Type 0} {g : Ghosts R} where
       → PutsIs w name volume start bytes said old new
   write_failed w old new name volume start bytes s v why said f f' e after stands to at later wrote is says facts engines racks =
       subst (λ r. PutsIs w name volume start bytes r old new) (sym says) (puts_is w old new name volume start bytes s v (Refused why) to.number to.place
-      (failed_at w old new s why (the_write v start bytes) f' e after stands to.below to.fact to.there later wrote
+      (failed_at w old new s why (the_write v start bytes) f' e after stands to.primary to.below to.fact to.there later wrote
       (is ∙ ap (λ (k : SiteFacts). noted_facts why k) (some_same (sym at ∙ to.fact))) facts engines racks))
 
   -- as the lines have it

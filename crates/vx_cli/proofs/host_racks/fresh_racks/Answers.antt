@@ -1,4 +1,4 @@
-use Rattle.std.proofs.Common.{◌≡◌, ◌∷◌, [], List, ap, arith, length, length-append, subst, sym}
+use Rattle.std.proofs.Common.{◌∷◌, [], List, ap, arith, length, length-append, subst, sym}
 use Rattle.std.specs.List.{All}
 use Rattle.std.proofs.lemmas.List.Elements.{All-push}
 use Rattle.vx_disk.specs.Racks.{Bare}
