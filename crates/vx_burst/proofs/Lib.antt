@@ -1,0 +1,4 @@
+pub mod Settings
+pub mod Roomy
+pub mod Underways
+pub mod Stages
