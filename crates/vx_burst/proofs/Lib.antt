@@ -2,3 +2,4 @@ pub mod Settings
 pub mod Roomy
 pub mod Underways
 pub mod Stages
+pub mod Waitings

@@ -51,17 +51,18 @@ unplaced-set (x ∷ xs) (suc k) a b at none some = let r = unplaced-set xs k a b
 
 module _ {P : Type 0} (stand : P → Stand) (root : P → P) where
   -- an excuse holds on
-  excuse-later : (start : State) (firsts : List P) (log more : List Entry) (s t : State) (ps qs : List P) (ask : Ask) (said : Said) (number : List Entry → ℕ) → s.counts.faults ≤ t.counts.faults → length qs ≡ length ps
-      → ((i : ℕ) (p q : P) → slice_get ps i ≡ Some p → slice_get qs i ≡ Some q → Goes (stand p) (stand q)) → HasExcuse stand root start firsts log s ps ask said number → HasExcuse stand root start firsts (log ++ more) t qs ask said number
-  excuse-later start firsts log more s t ps qs ask said number rises long goes h calm =
+  pub excuse-later : (start : State) (firsts : List P) (log more : List Entry) (s t : State) (ps qs : List P) (ask : Ask) (IsSaid : Said → Type 0) (number : List Entry → ℕ) → s.counts.faults ≤ t.counts.faults → length qs ≡ length ps
+      → ((i : ℕ) (p q : P) → slice_get ps i ≡ Some p → slice_get qs i ≡ Some q → Goes (stand p) (stand q)) → HasExcuse stand root start firsts log s ps ask IsSaid number → HasExcuse stand root start firsts (log ++ more) t qs ask IsSaid number
+  excuse-later start firsts log more s t ps qs ask IsSaid number rises long goes h calm =
       let was : IsCalm start log s = (calm-first start.counts.faults s.counts.faults t.counts.faults rises calm.0, λ j cause into m. calm.1 j cause into
           (subst (Among (Charged j, Worked (job.Refused cause) into)) (sym (map-append asked log more)) (among-left (Charged j, Worked (job.Refused cause) into) (map asked log) (map asked more) m))) in
       let x = h was in
-      (x.0, record { entry = x.1.entry; rest = x.1.rest ++ more; is = ap (λ l. l ++ more) x.1.is ∙ append_assoc (x.0 ++ x.1.entry ∷ []) x.1.rest more; asks = x.1.asks; says = x.1.says },
-        λ i p q first now. let inside = get-inside qs i q now in let g = get-some ps i (omega (arith, long, inside)) in let go = goes i g.0 q g.1 now in let e = x.2 i p g.0 first g.1 in
-            (e.0, e.1, (let a = e.2 in let b = go.net in omega (arith, a, b)), λ sound. e.3 (record { line = sound.line; calm = calm-first (stand p).faults (stand g.0).faults (stand q).faults go.faults sound.calm; kept = sound.kept; logged = sound.logged; there = sound.there })))
+      let f = x.2 in
+      (x.0, x.1, (f.0, record { entry = f.1.entry; rest = f.1.rest ++ more; is = ap (λ l. l ++ more) f.1.is ∙ append_assoc (f.0 ++ f.1.entry ∷ []) f.1.rest more; asks = f.1.asks; says = f.1.says },
+        λ i p q first now. let inside = get-inside qs i q now in let g = get-some ps i (omega (arith, long, inside)) in let go = goes i g.0 q g.1 now in let e = f.2 i p g.0 first g.1 in
+            (e.0, e.1, (let a = e.2 in let b = go.net in omega (arith, a, b)), λ sound. e.3 (record { line = sound.line; calm = calm-first (stand p).faults (stand g.0).faults (stand q).faults go.faults sound.calm; kept = sound.kept; logged = sound.logged; there = sound.there }))))
 
-  halted-not : (s : State) → (s.halted ≡ true → ⊥) → s.halted ≡ false
+  pub halted-not : (s : State) → (s.halted ≡ true → ⊥) → s.halted ≡ false
   halted-not s n = decide s.halted n
     where
       decide : (b : Bool) → (b ≡ true → ⊥) → b ≡ false
@@ -146,7 +147,7 @@ module _ {P : Type 0} (stand : P → Stand) (root : P → P) where
         reply = i.reply;
         at = get-longer stays ((Ordered (call_for pl), Replied reply) ∷ []) (x.place - 1) (Ordered (call_for pj), Replied i.reply) i.at;
         told = i.told;
-        stalled = λ z. excuse-later start firsts log more s t ps qs (Ordered (call_for pj)) (Replied i.reply) (head_behind start) (let u = again.brings.moves.rises.0 in let v = again.acts.rises.0 in omega (arith, u, v)) again.brings.long
+        stalled = λ z. excuse-later start firsts log more s t ps qs (Ordered (call_for pj)) (λ said. said ≡ Replied i.reply) (head_behind start) (let u = again.brings.moves.rises.0 in let v = again.acts.rises.0 in omega (arith, u, v)) again.brings.long
             (λ i p q y w. (again.brings.each i p q y w).walks.goes) (i.stalled z);
       }
       far : (y : Answered) (j : ℕ) → slice_get answers j ≡ Some y → 0 < y.place → y.place ≡ n + 1 → ⊥
@@ -156,12 +157,12 @@ module _ {P : Type 0} (stand : P → Stand) (root : P → P) where
         reply = reply;
         at = let e : length stays ≡ a.place - 1 = (let c = g.count in omega (arith, c, place)) in subst (λ z. slice_get stays2 z ≡ Some (Ordered (call_for pl), Replied reply)) e (get-last stays (Ordered (call_for pl), Replied reply));
         told = told;
-        stalled = λ z calm. (log ++ jobs, record { entry = last; rest = []; is = sym whole ∙ sym (append-nil ((log ++ jobs) ++ last ∷ [])); asks = refl; says = refl },
+        stalled = λ z calm. (Replied reply, refl, (log ++ jobs, record { entry = last; rest = []; is = sym whole ∙ sym (append-nil ((log ++ jobs) ++ last ∷ [])); asks = refl; says = refl },
             brought-excuse start firsts log s again.mid t ps qs g.underway again.brings again.acts.rises.0 calm.0
                 (λ j cause into m. calm.1 j cause into (subst (Among (Charged j, Worked (job.Refused cause) into)) (sym seen)
                     (among-left (Charged j, Worked (job.Refused cause) into) (map asked log ++ again.brings.moves.more) ((Ordered (call_for pl), Replied reply) ∷ [])
                     (Rattle.vx_settle.proofs.Bringings.among-right (Charged j, Worked (job.Refused cause) into) (map asked log) again.brings.moves.more m))))
-                (head_behind start (log ++ jobs)) top);
+                (head_behind start (log ++ jobs)) top));
       }
         where
           top : head_behind start (log ++ jobs) ≤ s.head

@@ -16,7 +16,11 @@ use Rattle.vx_turn.specs.Acting.{Among, Rose}
 use Rattle.vx_turn.specs.History.{Legal, Fits, HasLogged, asked, point_of, point_after}
 use Rattle.vx_settle.specs.declared.peer.Stand.{Stand}
 use Rattle.vx_settle.specs.Peers.{Goes, LiesIn}
-use Rattle.vx_settle.specs.Bringing.{Events, NoLimit, NoGone, HasAcked, AsksAgain}
+use Rattle.vx_settle.specs.Bringing.{Events, NoLimit, NoGone, HasAcked, AsksAgain, Waits, HaveLinks}
+use Rattle.vx_settle.specs.declared.bringing.Ended.{Ended}
+use Rattle.vx_settle.specs.declared.bringing.Ended.TheVariants as ended
+use Rattle.vx_burst_threads.specs.declared.plan.Told.{Told}
+use Rattle.vx_burst_threads.specs.declared.plan.Waited.{Waited}
 use Rattle.vx_burst_threads.specs.declared.plan.Planned.{Planned}
 use Rattle.vx_burst_threads.specs.declared.plan.Answered.{Answered}
 use Rattle.vx_burst_threads.specs.declared.plan.Told.TheVariants as told
@@ -90,6 +94,11 @@ abbrev pub Stay : Events → Events → Type 0
 Stay [] ys = ys ≡ []
 Stay (x ∷ xs) ys = (IsIdle x.0 x.1 × Stay xs ys) ⊎ ((zs : Events) × (ys ≡ x ∷ zs) × IsOrdered x.0 × Stay xs zs)
 
+-- the job has no answer yet
+abbrev pub IsNothing : Said → Type 0
+IsNothing (Worked job.Nothing into) = Unit {0}
+IsNothing said = ⊥
+
 -- how many answers have no place
 abbrev pub unplaced : List Answered → ℕ
 unplaced [] = 0
@@ -100,16 +109,16 @@ abbrev pub ArePlaced : List Answered → ℕ → Type 0
 ArePlaced answers k = (j : ℕ) (a : Answered) → j < k → slice_get answers j ≡ Some a → 0 < a.place
 
 module _ {P : Type 0} (stand : P → Stand) (root : P → P) where
-  -- where the run is calm, this was asked and said at some moment, and then each sound peer had acknowledged the number
-  abbrev pub HasExcuse : State → List P → List Entry → State → List P → Ask → Said → (List Entry → ℕ) → Type 0
-  HasExcuse start firsts log s ps ask said number = IsCalm start log s → (front : List Entry) × Splits log front ask said × Excused stand root start firsts ps front (number front)
+  -- where the run is calm, this was asked and answered so at some moment, and then each sound peer had acknowledged the number
+  abbrev pub HasExcuse : State → List P → List Entry → State → List P → Ask → (Said → Type 0) → (List Entry → ℕ) → Type 0
+  HasExcuse start firsts log s ps ask IsSaid number = IsCalm start log s → (said : Said) × IsSaid said × ((front : List Entry) × Splits log front ask said × Excused stand root start firsts ps front (number front))
 
   -- the answer stands at its place among the calls that stay. Where it is stalled, that has its excuse
   pub record IsPlaced (start : State) (firsts : List P) (log : List Entry) (s : State) (ps : List P) (stays : Events) (pl : Planned) (a : Answered) : Type 0 where
     pub reply : Reply
     pub at : slice_get stays (a.place - 1) ≡ Some (Ordered (call_for pl), Replied reply)
     pub told : IsTold reply a.reply
-    pub stalled : IsStalled reply → HasExcuse start firsts log s ps (Ordered (call_for pl)) (Replied reply) (head_behind start)
+    pub stalled : IsStalled reply → HasExcuse start firsts log s ps (Ordered (call_for pl)) (λ said. said ≡ Replied reply) (head_behind start)
 
   -- so many of the plan's members have their places, from 1, each once, and rising in each thread
   pub record Stage (start : State) (firsts : List P) (plan : List Planned) (log : List Entry) (s : State) (ps : List P) (answers : List Answered) (taken : ℕ) (stays : Events) : Type 0 where
@@ -136,4 +145,25 @@ module _ {P : Type 0} (stand : P → Stand) (root : P → P) where
   pub record IsWaited (start : State) (firsts : List P) (log : List Entry) (s : State) (ps : List P) (a : Answered) : Type 0 where
     pub done : a.waited ≡ waited.Done → (n : ℕ) × (into : Update) × (a.reply ≡ told.Logged n) × Among (Charged (Wait n), Worked (job.Done n) into) (map asked log)
     pub unconfirmed : a.waited ≡ waited.Unconfirmed → (n : ℕ) × (into : Update) × (a.reply ≡ told.Logged n) × Among (Charged (Wait n), Worked (job.Refused (no.Unconfirmed n)) into) (map asked log)
-    pub no : a.waited ≡ waited.No → (n : ℕ) → a.reply ≡ told.Logged n → (into : Update) × HasExcuse start firsts log s ps (Charged (Wait n)) (Worked job.Nothing into) (λ front. n)
+    pub no : a.waited ≡ waited.No → (n : ℕ) → a.reply ≡ told.Logged n → HasExcuse start firsts log s ps (Charged (Wait n)) IsNothing (λ front. n)
+
+abbrev pub ended_as : Ended → Waited
+ended_as ended.No = waited.No
+ended_as ended.Done = waited.Done
+ended_as ended.Unconfirmed = waited.Unconfirmed
+
+module _ {P : Type 0} (stand : P → Stand) (root : P → P) where
+  -- a logged call was waited for, and for another nothing was done
+  abbrev pub WaitedOne : State → List P → Told → Waited → State → List P → Type 0
+  WaitedOne s ps reply r t qs = ((n : ℕ) × (e : Ended) × (reply ≡ told.Logged n) × Waits stand root s ps n e t qs × (r ≡ ended_as e))
+      ⊎ (((n : ℕ) → reply ≡ told.Logged n → ⊥) × (r ≡ waited.No) × (t ≡ s) × (qs ≡ ps))
+
+  -- the first k answers were waited for: each stage is followed by one with the same answers but for that
+  pub record WaitedOn (start : State) (firsts : List P) (plan : List Planned) (n : ℕ) (stays : Events) (k : ℕ) (t : State) (qs : List P) (answers : List Answered) : Type 0 where
+    pub log : List Entry
+    pub stage : Stage stand root start firsts plan log t qs answers n stays
+    pub waited : (j : ℕ) (a : Answered) → j < k → slice_get answers j ≡ Some a → IsWaited stand root start firsts log t qs a
+
+  abbrev pub WaitsOn : State → List P → List Answered → ℕ → State → List P → List Answered → Type 0
+  WaitsOn s ps olds k t qs answers = (start : State) (firsts : List P) (plan : List Planned) (log : List Entry) (n : ℕ) (stays : Events) → Stage stand root start firsts plan log s ps olds n stays → ArePlaced olds (length olds)
+      → WaitedOn start firsts plan n stays k t qs answers

@@ -2,14 +2,16 @@
 ghost use Rattle.std.specs.Prelude.{◌≡◌, ◌≤◌, ◌<◌, ◌+◌, length};
 ghost use Rattle.vx_settle.specs.Bringing.{HaveLinks};
 ghost use Rattle.vx_burst_threads.specs.Planning.{IsCall, AllCalls};
-ghost use Rattle.vx_burst.specs.Finishing.{AskedOne, StagesOn, ArePlaced, unplaced};
+ghost use Rattle.vx_burst.specs.Finishing.{AskedOne, StagesOn, ArePlaced, unplaced, ended_as, WaitedOne, WaitsOn};
 
 use vx_burst_threads::{Answered, Planned, Told, Waited, call_of, tell};
 use vx_settle::{Ended, Peer, answer_again, wait_for};
 use vx_turn::Engine;
 
 // How the waiting ended.
-fn waited(ended: Ended) -> Waited {
+fn waited(ended: Ended) -> Waited
+    ensures { result ≡ ended_as ended }
+{
     match ended {
         Ended::No => Waited::No,
         Ended::Done => Waited::Done,
@@ -92,9 +94,13 @@ pub(crate) fn ask_rest<E: Engine, P: Peer>(
 }
 
 // Waits for one call, where it is logged and a link is to confirm it.
-fn wait_one<E: Engine, P: Peer>(engine: &mut E, peers: &mut [P], answer: &Answered) -> Waited {
-    match answer.reply {
-        Told::Logged(number) => waited(wait_for(engine, peers, number)),
+fn wait_one<E: Engine, P: Peer>(engine: &mut E, peers: &mut [P], reply: &Told) -> Waited
+    requires { HaveLinks P.stand (E.state engine.old) peers.old }
+    ensures waited { WaitedOne P.stand P.root (E.state engine.old) peers.old reply.now result (E.state engine.new) peers.new }
+    ensures root { E.root engine.new ≡ E.root engine.old }
+{
+    match reply {
+        Told::Logged(number) => waited(wait_for(engine, peers, *number)),
         _ => Waited::No,
     }
 }
@@ -105,8 +111,11 @@ pub(crate) fn wait_all<E: Engine, P: Peer>(
     peers: &mut [P],
     answers: &mut [Answered],
 )
+    requires { HaveLinks P.stand (E.state engine.old) peers.old }
+    ensures waits { WaitsOn P.stand P.root (E.state engine.old) peers.old answers.old (length answers.old) (E.state engine.new) peers.new answers.new }
+    ensures root { E.root engine.new ≡ E.root engine.old }
 {
     for k in 0..answers.len() {
-        answers[k].waited = wait_one(engine, peers, &answers[k]);
+        answers[k].waited = wait_one(engine, peers, &answers[k].reply);
     }
 }
