@@ -3,3 +3,4 @@ pub mod Roomy
 pub mod Underways
 pub mod Stages
 pub mod Waitings
+pub mod Placings
