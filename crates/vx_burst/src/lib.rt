@@ -10,7 +10,8 @@ mod rooms;
 
 mod setting;
 
-// mod tests;
+#[cfg(test)]
+mod tests;
 
 pub use limits::{MOST_PEERS, MOST_THREADS};
 pub use burst::{Outcome, run};
