@@ -15,15 +15,15 @@ use Rattle.vx_turn.specs.declared.meaning.State.{State}
 use Rattle.vx_turn.specs.declared.passes.Pass.{Pass}
 use Rattle.vx_turn.specs.Acting.{Among}
 use Rattle.vx_turn.specs.History.{Begins, HasLogged, places_from}
-use Rattle.vx_turn.specs.Passing.{seen_of, start_of, IsSame, Calls, Jobs}
+use Rattle.vx_turn.specs.Passing.{seen_of, start_of, mine_of, IsSame, Calls, Jobs}
 use Rattle.vx_turn.proofs.Histories.{begins-self, begins-trans, among-split, logged-more}
 use Rattle.vx_settle.specs.declared.peer.Ack.{Ack}
 use Rattle.vx_settle.specs.declared.peer.Stand.{Stand}
 use Rattle.vx_settle.specs.Peers.{Goes, Hands, Finishes}
-use Rattle.vx_settle.proofs.Bringings.{goes-none, goes-then}
+use Rattle.vx_settle.proofs.Bringings.{goes-none, goes-then, among-one}
 use Rattle.vx_burst_threads.specs.Writing.{Keeps}
 use Rattle.vx_burst_threads.specs.Draining.{JobFits, JobsFit, Drained}
-use Rattle.vx_burst_threads.proofs.Making.{keeps-self, keeps-then, called-keeps}
+use Rattle.vx_burst_threads.proofs.Making.{keeps-self, keeps-then, called-keeps, called-behind}
 
 pub fits-later : (a b : Stand) → Goes a b → (ask : Ask) → JobFits a ask → JobFits b ask
 fits-later a b g (Charged (Acked link net stored)) f = (f.0 ∙ sym g.link, (let x = f.1 in let y = g.net in omega (arith, x, y)), (let x = f.2 in let y = g.stored in omega (arith, x, y)))
@@ -33,7 +33,7 @@ fits-later a b g (Charged (Wait n)) f = tt
 fits-later a b g (Ordered c) f = absurd f
 
 pub drained-none : (p : Pass) (a : Stand) → Drained p a p a
-drained-none p a = record { keeps = keeps-self p; goes = goes-none a; got = []; handed = sym (append-nil a.handed); from = λ u m. absurd (cc m.1); jobs = λ f. f }
+drained-none p a = record { keeps = keeps-self p; goes = goes-none a; got = []; handed = sym (append-nil a.handed); from = λ u m. absurd (cc m.1); jobs = λ f. f; within = λ f. f }
 
 pub drained-then : (p q r : Pass) (a b c : Stand) → Drained p a q b → Drained q b r c → Drained p a r c
 drained-then p q r a b c x y = record {
@@ -45,11 +45,12 @@ drained-then p q r a b c x y = record {
       (λ (k : HasLogged (start_of q).line (seen_of q) u). inr (subst (λ (z : State × List Entry). HasLogged z.0.line z.1 u) (λ i. (sym y.keeps.1 i, sym y.keeps.4.1 i)) (logged-more (start_of q).line (seen_of q) y.keeps.4.0 u k))) (x.from u o))
       (λ (o : Among u y.got). y.from u o) (among-split u x.got y.got m);
   jobs = λ f. y.jobs (x.jobs f);
+  within = λ f. y.within (x.within f);
 }
 
 -- the peer alone went on
 pub drained-peer : (p : Pass) (a b : Stand) → Goes a b → b.handed ≡ a.handed → Drained p a p b
-drained-peer p a b g same = record { keeps = keeps-self p; goes = g; got = []; handed = same ∙ sym (append-nil a.handed); from = λ u m. absurd (cc m.1); jobs = λ f e m by. fits-later a b g e.ask (f e m by) }
+drained-peer p a b g same = record { keeps = keeps-self p; goes = g; got = []; handed = same ∙ sym (append-nil a.handed); from = λ u m. absurd (cc m.1); jobs = λ f e m by. fits-later a b g e.ask (f e m by); within = λ f. f }
 
 -- none of these entries is the caller's
 pub none-of : (n by : ℕ) (xs : List Entry) → places_from n by xs ≡ [] → (e : Entry) → Among e xs → e.caller ≡ by → ⊥
@@ -74,6 +75,8 @@ drained-job p q a j reply into w same fit = let c = w.1 in record {
   got = [];
   handed = sym (append-nil a.handed);
   from = λ u m. absurd (cc m.1);
+  within = λ f place m. let behind = called-behind p q (Charged j) (Worked reply into) w.0 c in let long = c.long in
+      ⊎_elim (λ (o : Among place (mine_of p)). (let x = f place o in omega (arith, x, behind, long))) (λ (o : Among place (w.0 ∷ [])). (let x = among-one place w.0 o in omega (arith, x, long))) (among-split place (mine_of p) (w.0 ∷ []) (subst (Among place) c.mine m));
   jobs = λ f e m by. let mine : e.caller ≡ p.number = by ∙ same.1 in let last : Entry = record { caller = p.number; ask = Charged j; said = Worked reply into; before = c.before; after = c.after } in
       ⊎_elim (λ (x : Among e (seen_of p ++ c.between)). ⊎_elim (λ (y : Among e (seen_of p)). f e y mine) (λ (y : Among e c.between). absurd (none-of (length (seen_of p)) p.number c.between c.others e y mine)) (among-split e (seen_of p) c.between x))
       (λ (x : Among e (last ∷ [])). subst (λ (z : Entry). JobFits a z.ask) (only last e x) fit) (among-split e (seen_of p ++ c.between) (last ∷ []) (subst (Among e) c.ends m));
@@ -104,7 +107,7 @@ drained-hand p q a b n m reply into ack w same is h = drained-then p q q a a b (
           got = into ∷ [];
           handed = k.1;
           from = λ u x. subst (λ v. Among v (start_of q).kept ⊎ HasLogged (start_of q).line (seen_of q) v) (one into u x) given;
-          jobs = λ f e x by. fits-later a b h.goes e.ask (f e x by);
+          jobs = λ f e x by. fits-later a b h.goes e.ask (f e x by); within = λ f. f;
         }) h.handed
 
 -- the peer's numbers were acknowledged

@@ -8,7 +8,7 @@ use Rattle.vx_turn.specs.declared.meaning.Entry.{Entry}
 use Rattle.vx_turn.specs.declared.passes.Pass.{Pass}
 use Rattle.vx_turn.specs.Acting.{Among}
 use Rattle.vx_turn.specs.History.{HasLogged}
-use Rattle.vx_turn.specs.Passing.{seen_of, start_of}
+use Rattle.vx_turn.specs.Passing.{seen_of, start_of, mine_of}
 use Rattle.vx_settle.specs.declared.peer.Stand.{Stand}
 use Rattle.vx_settle.specs.Peers.{Goes}
 use Rattle.vx_burst_threads.specs.declared.drainer.Drainer.{Drainer}
@@ -28,6 +28,10 @@ JobFits a ask = Unit {0}
 abbrev pub JobsFit : List Entry → ℕ → Stand → Type 0
 JobsFit log by a = (e : Entry) → Among e log → e.caller ≡ by → JobFits a e.ask
 
+-- the pass has seen all of its own entries
+abbrev pub MineWithin : Pass → Type 0
+MineWithin p = (place : ℕ) → Among place (mine_of p) → place ≤ length (seen_of p)
+
 -- the worker went on: what its peer got was logged in what it has seen, or kept at the start
 pub record Drained (p : Pass) (a : Stand) (q : Pass) (b : Stand) : Type 0 where
   pub keeps : Keeps p q
@@ -36,6 +40,7 @@ pub record Drained (p : Pass) (a : Stand) (q : Pass) (b : Stand) : Type 0 where
   pub handed : b.handed ≡ a.handed ++ got
   pub from : (u : Update) → Among u got → Among u (start_of q).kept ⊎ HasLogged (start_of q).line (seen_of q) u
   pub jobs : JobsFit (seen_of p) p.number a → JobsFit (seen_of q) q.number b
+  pub within : MineWithin p → MineWithin q
 
 abbrev pub DrainedWith : {P : Type 0} → (P → Stand) → (P → P) → Drainer P → Drainer P → Type 0
 DrainedWith stand root w x = Drained w.pass (stand w.peer) x.pass (stand x.peer) × (root x.peer ≡ root w.peer)
