@@ -31,7 +31,7 @@ use Rattle.vx_burst_threads.specs.declared.worker.Worker.TheVariants.{Writes, Dr
 use Rattle.vx_burst_threads.specs.Planning.{call_for, IsStalled}
 use Rattle.vx_burst_threads.specs.Writing.{Stands, IsMade, IsLeft, HasMade, Wrote}
 use Rattle.vx_burst_threads.specs.Draining.{JobFits, JobsFit, Drained, DrainedWith}
-use Rattle.vx_burst_threads.specs.Working.{HasWorked, EachWorked}
+use Rattle.vx_burst_threads.specs.Working.{AllSet, HasWorked, EachWorked}
 use Rattle.vx_burst_threads.specs.Joining.{pass_of, backs, IsMadeBy, Meeting, WorkedAndMet}
 use Rattle.vx_burst_threads.proofs.Making.{stands-more}
 use Rattle.vx_burst_threads.proofs.Draining.{none-of}
@@ -61,10 +61,20 @@ place-in k (x ∷ xs) (suc n) e at = let z : suc (suc k + n) ≡ suc (k + suc n)
     branch true m = (suc m.0, m.1)
     branch false m = m
 
+pub place-here : (log : List Entry) (n : ℕ) (e : Entry) → slice_get log n ≡ Some e → Among (suc n) (places e.caller log)
+place-here log n e at = let z : suc (0 + n) ≡ suc n = omega arith in subst (λ m. Among m (places e.caller log)) z (place-in 0 log n e at)
+
 pub named-among : (callers : ℕ) (log : List Entry) (n : ℕ) (e : Entry) → Named callers log → slice_get log n ≡ Some e → e.caller < callers
 named-among callers [] n e named at = absurd (cc at)
 named-among callers (x ∷ xs) zero e named at = subst (λ (y : Entry). y.caller < callers) (some-one at) named.0
 named-among callers (x ∷ xs) (suc n) e named at = named-among callers xs n e named.1 at
+
+pub set-all : {P : Type 0} (stand : P → Stand) (z : TableId) (start : State) (callers : ℕ) (plan : List Planned) (ws : List (Worker P)) → AreSetUp stand z start callers plan ws → AllSet stand z plan ws
+set-all {P} stand z start callers plan ws set i w lt is = one w (set i w (slice_get-get_or ws i w lt ∙ ap Some is))
+  where
+    one : (w : Worker P) → IsSetUp stand z start callers plan i w → Rattle.vx_burst_threads.specs.Working.IsSet stand z plan w
+    one (Writes w) s = s.2
+    one (Drains d) s = (s.0.table, s.1)
 
 module _ {P : Type 0} (stand : P → Stand) (root : P → P) where
   -- each worker did its own work
@@ -72,7 +82,7 @@ module _ {P : Type 0} (stand : P → Stand) (root : P → P) where
   Paired plan ws xs = (length xs ≡ length ws) × ((i : ℕ) (w x : Worker P) → slice_get ws i ≡ Some w → slice_get xs i ≡ Some x → HasWorked stand root plan w x)
 
   pub paired : (plan : List Planned) (ws xs : List (Worker P)) → EachWorked stand root plan ws xs → Paired plan ws xs
-  paired plan ws xs e = (e.0, λ i w x a b. subst (λ (z : Worker P × Worker P). HasWorked stand root plan z.0 z.1) (λ k. (get_or_from_slice_get ws i w w a k, get_or_from_slice_get xs i w x b k)) (e.1 i w (slice_get_within ws i w a)))
+  paired plan ws xs e = (e.0, λ i w x a b. subst (λ (z : Worker P × Worker P). HasWorked stand root plan z.0 z.1) (λ k. (get_or_from_slice_get ws i w w a k, get_or_from_slice_get xs i x w b k)) (e.1 i w (slice_get_within ws i w a)))
 
   -- the peers that came back are those that were handed out, each with its work
   backs-long : (plan : List Planned) (ws xs : List (Worker P)) → Paired plan ws xs → length (backs xs) ≡ length (backs ws)
@@ -163,7 +173,7 @@ module _ {P : Type 0} (stand : P → Stand) (root : P → P) where
 
     writer-class : (n i : ℕ) (e : Entry) (w x : Writer) → slice_get log n ≡ Some e → e.caller ≡ i → slice_get j.ws i ≡ Some (Writes w) → slice_get j.xs i ≡ Some (Writes x) → Wrote plan w x → x.pass.number ≡ i → Class n e
     writer-class n i e w x at by old new h number = let fresh = (j.set i (Writes w) old).0.none_made in let m = h.made fresh in
-        let mine : Among (suc n) (mine_of x.pass) = subst (Among (suc n)) (ap (λ c. places c log) by ∙ places-of i (Writes x) new number) (place-in 0 log n e at) in
+        let mine : Among (suc n) (mine_of x.pass) = subst (Among (suc n)) (ap (λ c. places c log) by ∙ places-of i (Writes x) new number) (place-here log n e at) in
         ⊎_elim (λ (o : (d : Made) × Among d x.made.items × (d.place ≡ suc n)). let k = m.1.each o.0 o.1 in
               let g = stands-get log o.0.place x.pass.number (Ordered (call_for k.planned)) (Replied k.reply) (stands-more (seen_of x.pass) log o.0.place x.pass.number (Ordered (call_for k.planned)) (Replied k.reply) k.stands (begins-of i (Writes x) new)) n (sym o.2) e at in
               inl (record { made = o.0; by = (x, (i, new), o.1); place = o.2; planned = k.planned; reply = k.reply; is = k.is; asks = g.1; says = g.2 }))
@@ -195,11 +205,65 @@ module _ {P : Type 0} (stand : P → Stand) (root : P → P) where
         let none : JobsFit (seen_of c.pass) c.pass.number (stand c.peer) = λ x m is. absurd (cc (subst (λ (l : List Entry). slice_get l m.0 ≡ Some x) fresh.unseen m.1)) in
         let fit : JobsFit (seen_of d.pass) d.pass.number (stand d.peer) = h.0.jobs none in
         let all : places i log ≡ mine_of d.pass = places-of i (Drains d) new number in
-        let here : Among e (seen_of d.pass) = inside n e at i by (seen_of d.pass) b in
+        let mine : Among (suc n) (mine_of d.pass) = subst (Among (suc n)) (ap (λ c. places c log) by ∙ all) (place-here log n e at) in
+        let first : (place : ℕ) → Among place (mine_of c.pass) → place ≤ length (seen_of c.pass) = λ place m. absurd (cc (subst (λ (l : List ℕ). slice_get l m.0 ≡ Some place) fresh.none_made m.1)) in
+        let low : suc n ≤ length (seen_of d.pass) = h.0.within first (suc n) mine in
+        let here : Among e (seen_of d.pass) = (n, front-get (seen_of d.pass) b.0 n e low (subst (λ l. slice_get l n ≡ Some e) b.1 at)) in
         inr (let k = drainer-back i d new in job-class k.0 d k.1 e.ask e.said (fit e here (by ∙ sym number)))
       where
-        inside : (n : ℕ) (e : Entry) → slice_get log n ≡ Some e → (i : ℕ) → e.caller ≡ i → (seen : List Entry) → Begins seen log → Among e seen
-        inside n e at i by seen b = ?
+        front-get : (xs ys : List Entry) (n : ℕ) (e : Entry) → suc n ≤ length xs → slice_get (xs ++ ys) n ≡ Some e → slice_get xs n ≡ Some e
+        front-get [] ys n e low at = absurd (omega (arith, low))
+        front-get (x ∷ xs) ys zero e low at = at
+        front-get (x ∷ xs) ys (suc n) e low at = front-get xs ys n e (omega (arith, low)) at
 
-    classify : (n : ℕ) (e : Entry) → slice_get log n ≡ Some e → Class n e
-    classify n e at = ?
+    -- the caller's own pass made nothing
+    own-none : (n : ℕ) (e : Entry) → slice_get log n ≡ Some e → e.caller ≡ length j.ws → ⊥
+    own-none n e at by = let rest = q.at_rest in
+        let number : q.number ≡ length j.ws = j.met.same.1 ∙ j.own.number_is in
+        let low : (view_of q).low ≡ q.number = rest.2 in let one = rest.3 in
+        let h : Has (view_of q) (length j.ws) (mine_of q) = inl (omega (arith, low, number), omega (arith, low, one, number), refl) in
+        let none : places (length j.ws) log ≡ [] = j.has (length j.ws) (mine_of q) h ∙ (j.met.mine ∙ j.own.none_made) in
+        let m : Among (suc n) (places e.caller log) = place-here log n e at in
+        let gone : Among {A = ℕ} (suc n) [] = subst (Among (suc n)) (ap (λ c. places c log) by ∙ none) m in absurd (cc gone.1)
+
+    pub classify : (n : ℕ) (e : Entry) → slice_get log n ≡ Some e → Class n e
+    classify n e at = ⊎_elim (λ (lt : e.caller < length j.ws). let w = worker-at e.caller lt in by-worker w.0 w.1 w.2 w.3 w.4 w.5)
+        (λ (is : e.caller ≡ length j.ws). absurd (own-none n e at is)) (split e.caller (length j.ws) (let b = named-among callers log n e j.named at in let a = j.all in omega (arith, a, b)))
+      where
+        split : (i k : ℕ) → i < suc k → (i < k) ⊎ (i ≡ k)
+        split zero zero lt = inr refl
+        split zero (suc k) lt = inl (omega arith)
+        split (suc i) zero lt = absurd (omega (arith, lt))
+        split (suc i) (suc k) lt = ⊎_elim (λ (x : i < k). inl (omega (arith, x))) (λ (x : i ≡ k). inr (ap suc x)) (split i k (omega (arith, lt)))
+        by-worker : (w x : Worker P) → slice_get j.ws e.caller ≡ Some w → slice_get j.xs e.caller ≡ Some x → HasWorked stand root plan w x → (pass_of x).number ≡ e.caller → Class n e
+        by-worker (Writes w) (Writes x) old new h number = writer-class n e.caller e w x at refl old new h number
+        by-worker (Drains w) (Drains x) old new h number = drainer-class n e.caller e w x at refl old new h number
+        by-worker (Writes w) (Drains x) old new h number = absurd h
+        by-worker (Drains w) (Writes x) old new h number = absurd h
+
+    made-within : (e : Entry) (n : ℕ) → Class n e → AckWithin stand root out e.ask
+    made-within e n c = ⊎_elim (λ (m : IsMadeAt n e). subst (AckWithin stand root out) (sym m.asks) tt) (λ (m : IsIdle e.ask e.said × AckWithin stand root out e.ask). m.1) c
+
+    went : (i : ℕ) (a b : P) → slice_get firsts i ≡ Some a → slice_get out i ≡ Some b → Went stand root start log a b
+    went i a b x y = let o = back-pair plan j.ws j.xs j.pairs i a b (subst (λ l. slice_get l i ≡ Some a) (sym j.back) x) (subst (λ l. slice_get l i ≡ Some b) j.met.back y) in
+        subst (λ (t : P × P). Went stand root start log t.0 t.1) (λ k. (o.5 k, o.6 k)) (one o.0 o.1 o.2 o.3 o.4)
+      where
+        one : (k : ℕ) (d e : Drainer P) → slice_get j.ws k ≡ Some (Drains d) → slice_get j.xs k ≡ Some (Drains e) → Went stand root start log d.peer e.peer
+        one k d e old new = let h : DrainedWith stand root d e = j.pairs.1 k (Drains d) (Drains e) old new in
+            let s : start_of e.pass ≡ start = (worked-pass z start callers plan k (Drains d) (Drains e) (j.set k (Drains d) old) h).1 in let b = begins-of k (Drains e) new in record {
+              goes = h.0.goes;
+              got = h.0.got;
+              handed = h.0.handed;
+              from = λ u m. ⊎_elim (λ (v : Among u (start_of e.pass).kept). inl (subst (λ (t : State). Among u t.kept) s v))
+                  (λ (v : HasLogged (start_of e.pass).line (seen_of e.pass) u). inr (subst (λ (t : State × List Entry). HasLogged t.0.line t.1 u) (λ i. (s i, sym b.1 i)) (logged-more (start_of e.pass).line (seen_of e.pass) b.0 u v))) (h.0.from u m);
+              rooted = h.1;
+            }
+
+    pub joined-underway : (s : State) → Legal start log → Fits start log s → Underway stand root start firsts log s out
+    joined-underway s legal fits = record {
+      legal = legal;
+      fits = fits;
+      long = ap (λ l. length l) j.met.back ∙ (backs-long plan j.ws j.xs j.pairs ∙ ap (λ l. length l) j.back);
+      each = went;
+      acks = λ e m. made-within e m.0 (classify m.0 e m.1);
+    }

@@ -4,3 +4,4 @@ pub mod Underways
 pub mod Stages
 pub mod Waitings
 pub mod Placings
+pub mod Ends

@@ -1,3 +1,4 @@
 pub mod Setting
 pub mod Finishing
 pub mod Placing
+pub mod Ending

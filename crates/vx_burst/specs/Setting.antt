@@ -30,7 +30,7 @@ AreRooms plan threads rooms = (i : ℕ) (r : Space) → slice_get rooms i ≡ So
 
 module _ {P : Type 0} where
   -- all memory of a burst of so many threads and peers
-  pub record HasRoom (plan : List Planned) (threads peers : ℕ) (r : Room P) : Type 0 where
+  pub record HasRoom (plan : List Planned) (threads links : ℕ) (r : Room P) : Type 0 where
     pub blank : AreBlank r.answers.items
     pub long : length r.answers.items ≡ length plan
     pub unordered : r.order.items ≡ []
@@ -38,7 +38,9 @@ module _ {P : Type 0} where
     pub rooms : AreRooms plan threads r.made.items
     pub made : length r.made.items ≡ threads
     pub idle : r.workers.items ≡ []
-    pub workers : threads + peers ≤ vec_capacity r.workers
+    pub workers : threads + links ≤ vec_capacity r.workers
+    pub gone : r.peers.items ≡ []
+    pub peers : threads + links ≤ vec_capacity r.peers
 
   -- a worker that has done nothing, with the pass of number i. The writer with this pass is the thread i + 1
   abbrev pub IsSetUp : (P → Stand) → TableId → State → ℕ → List Planned → ℕ → Worker P → Type 0

@@ -1,13 +1,20 @@
 // A burst.
+ghost use Rattle.vx_turn.specs.Passing.{table_of, first_of, AreDealt};
+ghost use Rattle.std.specs.Prelude.{◌≡◌, ◌≤◌, ◌<◌, ◌+◌, false, [], length, vec_capacity};
+ghost use Rattle.vx_settle.specs.Bringing.{HaveLinks};
+ghost use Rattle.vx_burst_threads.specs.Planning.{AllCalls};
+ghost use Rattle.vx_burst.specs.Setting.{HasRoom, AreRooms};
+ghost use Rattle.vx_burst.specs.Ending.{HasJoined};
+
 use crate::finishing::{ask_rest, wait_all};
 use crate::placing::renumber;
-use crate::rooms::{Room, take_room};
+use crate::rooms::{Room, Space, take_room};
 use crate::setting::{set_drainers, set_writers};
 use std::alloc::Global;
 use std::sync::Wait;
 use std::sync::atomic::AtomicU64;
 use std::thread::Threads;
-use vx_burst_threads::{Answered, Gate, Gated, Planned, work_and_meet};
+use vx_burst_threads::{Answered, Gate, Gated, Planned, Worker, work_and_meet};
 use vx_model::OutOfMemory;
 use vx_settle::Peer;
 use vx_turn::{Engine, Passes, Turn};
@@ -20,7 +27,51 @@ pub struct Outcome<E, P> {
     pub answers: Vec<Answered>,
 }
 
-// The threads' part, up to the end of the turn.
+// What the threads leave: the engine, the peers, and the answers by their places in the history.
+#[derive(Drop)]
+struct Left<E, P> {
+    engine: E,
+    peers: Vec<P>,
+}
+
+// Lets all threads work, and ends the turn.
+fn join_all<H: Threads + Wait + Sync, E: Engine, P: Peer, G: Gate>(
+    rt: &H,
+    turn: Turn<E>,
+    passes: Passes,
+    callers: u32,
+    peers: Vec<P>,
+    plan: &[Planned],
+    threads: u32,
+    gate: &G,
+    made: Vec<Space>,
+    workers: Vec<Worker<P>>,
+    back: Vec<P>,
+    answers: &mut [Answered],
+) -> Left<E, P>
+    requires dealt { AreDealt (table_of turn) (E.state (first_of turn)) callers callers passes }
+    requires links { HaveLinks P.stand (E.state (first_of turn)) peers.items }
+    requires calls { AllCalls plan.now }
+    requires rooms { AreRooms plan.now threads made.items × (length made.items ≡ threads) }
+    requires room { (workers.items ≡ []) × (threads + length peers.items ≤ vec_capacity workers) }
+    requires callers { callers ≡ threads + length peers.items + 1 }
+    requires back { (back.items ≡ []) × (callers ≤ vec_capacity back + 1) }
+    ensures { HasJoined P.stand P.root E.state E.root (first_of turn) (table_of turn) callers plan.now peers.items answers.old result.engine result.peers.items answers.new }
+{
+    let mut passes = passes;
+    let mut peers = peers;
+    let workers = set_writers(&turn, &mut passes, callers, made, plan, threads, workers);
+    let workers = set_drainers(&turn, &mut passes, callers, plan, &mut peers, workers);
+    let Some(pass) = passes.pop() else {
+        unreachable!();
+    };
+    let busy = AtomicU64::new(threads as u64);
+    let (pass, peers) = work_and_meet(rt, gate, &turn, plan, &busy, pass, workers, back, answers);
+    let engine = turn.close(rt, pass);
+    Left { engine, peers }
+}
+
+// The threads' part, and what they left open.
 fn work_all<H: Threads + Wait + Sync, E: Engine, P: Peer, G: Gate>(
     rt: &H,
     turn: Turn<Gated<'_, E, G>>,
@@ -32,36 +83,31 @@ fn work_all<H: Threads + Wait + Sync, E: Engine, P: Peer, G: Gate>(
     room: Room<P>,
 ) -> Outcome<E, P>
 {
-    let mut passes = passes;
-    let mut peers = peers;
     let Room {
         answers,
         order,
         made,
         workers,
+        peers: back,
     } = room;
     let mut answers = answers;
     let callers = threads + peers.len() as u32 + 1;
-    let workers = set_writers(&turn, &mut passes, callers, made, plan, threads, workers);
-    let workers = set_drainers(&turn, &mut passes, callers, plan, &mut peers, workers);
-    let Some(pass) = passes.pop() else {
-        unreachable!();
-    };
-    let busy = AtomicU64::new(threads as u64);
-    let (pass, peers) = work_and_meet(
+    let left = join_all(
         rt,
-        gate,
-        &turn,
-        plan,
-        &busy,
-        pass,
-        workers,
+        turn,
+        passes,
+        callers,
         peers,
+        plan,
+        threads,
+        gate,
+        made,
+        workers,
+        back,
         answers.as_mut_slice(),
     );
-    let gated = turn.close(rt, pass);
-    let mut engine = gated.inner;
-    let mut peers = peers;
+    let mut engine = left.engine.inner;
+    let mut peers = left.peers;
     let taken = renumber(answers.as_mut_slice(), order);
     ask_rest(
         &mut engine,

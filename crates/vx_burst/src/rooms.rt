@@ -22,6 +22,7 @@ pub(crate) struct Room<P> {
     pub order: Vec<Spot>,
     pub made: Vec<Space>,
     pub workers: Vec<Worker<P>>,
+    pub peers: Vec<P>,
 }
 
 // Answers with no place.
@@ -87,7 +88,7 @@ fn spaces(alloc: Global, plan: &[Planned], threads: u32) -> Option<Vec<Space>>
 }
 
 /// Takes all memory of a burst but that of its turn.
-pub(crate) fn take_room<P>(
+pub(crate) fn take_room<P: Drop>(
     alloc: Global,
     plan: &[Planned],
     threads: u32,
@@ -104,10 +105,14 @@ pub(crate) fn take_room<P>(
     let Ok(workers) = Vec::with_capacity(alloc, threads as usize + peers) else {
         return None;
     };
+    let Ok(back) = Vec::with_capacity(alloc, threads as usize + peers) else {
+        return None;
+    };
     Some(Room {
         answers,
         order,
         made,
         workers,
+        peers: back,
     })
 }
