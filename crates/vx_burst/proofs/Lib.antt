@@ -5,3 +5,4 @@ pub mod Stages
 pub mod Waitings
 pub mod Placings
 pub mod Ends
+pub mod Placed

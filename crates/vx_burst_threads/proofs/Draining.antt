@@ -107,7 +107,8 @@ drained-hand p q a b n m reply into ack w same is h = drained-then p q q a a b (
           got = into ∷ [];
           handed = k.1;
           from = λ u x. subst (λ v. Among v (start_of q).kept ⊎ HasLogged (start_of q).line (seen_of q) v) (one into u x) given;
-          jobs = λ f e x by. fits-later a b h.goes e.ask (f e x by); within = λ f. f;
+          jobs = λ f e x by. fits-later a b h.goes e.ask (f e x by);
+          within = λ f. f;
         }) h.handed
 
 -- the peer's numbers were acknowledged
