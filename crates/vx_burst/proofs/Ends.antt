@@ -154,7 +154,7 @@ module _ {P : Type 0} (stand : P → Stand) (root : P → P) where
     pub places-of : (i : ℕ) (x : Worker P) → slice_get j.xs i ≡ Some x → (pass_of x).number ≡ i → places i log ≡ mine_of (pass_of x)
     places-of i x at number = j.has i (mine_of (pass_of x)) (inr (subst (λ n. Among (n, mine_of (pass_of x)) (met_of q)) number (j.met.each x (i, at)).1))
 
-    begins-of : (i : ℕ) (x : Worker P) → slice_get j.xs i ≡ Some x → Begins (seen_of (pass_of x)) log
+    pub begins-of : (i : ℕ) (x : Worker P) → slice_get j.xs i ≡ Some x → Begins (seen_of (pass_of x)) log
     begins-of i x at = let b = (j.met.each x (i, at)).0 in (b.0, j.seen ∙ b.1)
 
     -- an entry of the history is a call that was made, or a job or a stalled call, and what is acknowledged is within the peers

@@ -26,7 +26,17 @@ use Rattle.vx_burst_threads.specs.Writing.{Stands, IsMade, IsLeft, HasMade, Wrot
 use Rattle.vx_burst_threads.specs.Working.{HasWorked}
 use Rattle.vx_burst_threads.specs.Joining.{IsMadeBy}
 use Rattle.vx_burst_threads.proofs.Making.{stands-more}
-use Rattle.vx_burst.specs.Setting.{AreSetUp, IsSetUp}
+use Rattle.std.specs.List.Sorted.{IsNonDecreasingBy}
+use Rattle.vx_turn.specs.declared.ask.Job.TheVariants.{Wait}
+use Rattle.vx_turn.specs.declared.ask.JobReply.TheVariants as job
+use Rattle.vx_burst_threads.specs.declared.plan.Answered.{Answered}
+use Rattle.vx_burst_threads.specs.Laying.{LaidWith, answer_of}
+use Rattle.vx_burst.specs.declared.placing.Spot.{Spot}
+use Rattle.vx_burst.specs.Placing.{Noted, Numbered, Renumbered}
+use Rattle.vx_burst.proofs.Placings.{once-same}
+use Rattle.vx_burst.proofs.Underways.{get-some, job_entry}
+use Rattle.vx_burst.proofs.Ends.{classify, Class, IsMadeAt}
+use Rattle.vx_burst.specs.Setting.{AreBlank, AreSetUp, IsSetUp}
 use Rattle.vx_burst.specs.Finishing.{IsIdle, IsOrdered, Stay}
 use Rattle.vx_burst.proofs.Ends.{Joined, Paired, stands-get, begins-of, worker-at}
 
@@ -61,8 +71,6 @@ stay-picked ev n (e ∷ es) ps r top order is class = step ps r top order (class
     first = let z : suc (n + 0) ≡ suc n = omega arith in subst (λ m. ev m ≡ asked e) z (is 0 e refl)
     shift : (i : ℕ) → suc (n + suc i) ≡ suc (suc n + i)
     shift i = omega arith
-    abbrev_free : ℕ
-    abbrev_free = 0
     step : (ps : List ℕ) → Rising n ps → ((p : ℕ) → Among p ps → p ≤ n + length (e ∷ es)) → ((p : ℕ) → Among p ps → IsOrdered (ev p).0) → Among (suc (n + 0)) ps ⊎ IsIdle e.ask e.said
         → ((qs : List ℕ) → Rising (suc n) qs → ((p : ℕ) → Among p qs → p ≤ suc n + length es) → ((p : ℕ) → Among p qs → IsOrdered (ev p).0) → ((i : ℕ) (x : Entry) → slice_get es i ≡ Some x → Among (suc (suc n + i)) qs ⊎ IsIdle x.ask x.said) → Stay (map asked es) (map ev qs))
         → ((i : ℕ) (x : Entry) → slice_get (e ∷ es) i ≡ Some x → Among (suc (n + i)) ps ⊎ IsIdle x.ask x.said) → Stay (map asked (e ∷ es)) (map ev ps)
@@ -71,7 +79,7 @@ stay-picked ev n (e ∷ es) ps r top order is class = step ps r top order (class
     step (p ∷ ps) r top order c rest class = ⊎_elim
         (λ (same : p ≡ suc n). inr (map ev ps, ap (λ y. y ∷ map ev ps) (ap ev same ∙ first), subst (λ (y : Ask × Said). IsOrdered y.0) (ap ev same ∙ first) (order p (0, refl)),
             rest ps (subst (λ m. Rising m ps) same r.1) (λ q m. (let t = top q (suc m.0, m.1) in omega (arith, t))) (λ q m. order q (suc m.0, m.1))
-            (λ k x at. ⊎_elim (λ (m : Among (suc (n + suc k)) (p ∷ ps)). tail (suc (n + suc k)) (suc (suc n + k)) (shift k) m (λ z. absurd (omega (arith, z, same)))) (λ (m : IsIdle x.ask x.said). inr m) (class (suc k) x at))))
+            (λ k x at. ⊎_elim (λ (m : Among (suc (n + suc k)) (p ∷ ps)). inl (tail (suc (n + suc k)) (suc (suc n + k)) (shift k) m (λ z. absurd (omega (arith, z, same))))) (λ (m : IsIdle x.ask x.said). inr m) (class (suc k) x at))))
         (λ (far : suc n < p). inl (⊎_elim (λ (m : Among (suc (n + 0)) (p ∷ ps)). absurd (low m far)) (λ (i : IsIdle e.ask e.said). i) c,
             rest (p ∷ ps) (far, r.1) (λ q m. (let t = top q m in omega (arith, t))) order
             (λ k x at. ⊎_elim (λ (m : Among (suc (n + suc k)) (p ∷ ps)). inl (subst (λ z. Among z (p ∷ ps)) (shift k) m)) (λ (m : IsIdle x.ask x.said). inr m) (class (suc k) x at)))) (which p r.0)
@@ -87,6 +95,130 @@ stay-picked ev n (e ∷ es) ps r top order is class = step ps r top order (class
         low : Among (suc (n + 0)) (p ∷ ps) → suc n < p → ⊥
         low (zero, at) far = let z : p ≡ suc (n + 0) = some-one at in absurd (omega (arith, z, far))
         low (suc i, at) far = let b = rising-above p ps (suc (n + 0)) r.1 (i, at) in absurd (omega (arith, b, far))
-        tail : {x : Entry} (a b : ℕ) → a ≡ b → Among a (p ∷ ps) → (p ≡ a → ⊥) → Among b ps ⊎ IsIdle x.ask x.said
+        tail : (a b : ℕ) → a ≡ b → Among a (p ∷ ps) → (p ≡ a → ⊥) → Among b ps
         tail a b is (zero, at) not = absurd (not (some-one at))
-        tail a b is (suc i, at) not = inl (subst (λ z. Among z ps) is (i, at))
+        tail a b is (suc i, at) not = subst (λ z. Among z ps) is (i, at)
+
+module _ {P : Type 0} (stand : P → Stand) (root : P → P) (z : TableId) (start : State) (callers : ℕ) (plan : List Planned) (firsts : List P) (p q : Pass) (out : List P) (log : List Entry) (j : Joined stand root z start callers plan firsts p q out log) where
+  abbrev pub as-worker : Writer → Worker P
+  as-worker v = Writes v
+
+  -- all that is known of a call that was made
+  pub record MadeInfo (m : Made) : Type 0 where
+    pub n : ℕ
+    pub entry : Entry
+    pub at : slice_get log n ≡ Some entry
+    pub place : suc n ≡ m.place
+    pub i : ℕ
+    pub x : Writer
+    pub here : slice_get j.xs i ≡ Some (Writes x)
+    pub among : Among m x.made.items
+    pub stop : ℕ
+    pub has : HasMade plan (i + 1) stop x.pass x.made.items (IsLeft plan (i + 1) stop x.pass)
+    pub is : IsMade plan (i + 1) stop x.pass m
+    pub caller : entry.caller ≡ i
+    pub asks : entry.ask ≡ Ordered (call_for is.planned)
+    pub says : entry.said ≡ Replied is.reply
+
+  pub made-info : (m : Made) → IsMadeBy j.xs m → MadeInfo m
+  made-info m (x, (i, here), got) = let inside = get-inside j.xs i (Writes x) here in let n = j.pairs.0 in let w = Rattle.vx_burst.proofs.Underways.get-some j.ws i (omega (arith, n, inside)) in
+      by-writer w.0 w.1 (j.pairs.1 i w.0 (Writes x) w.1 here)
+    where
+      by-writer : (w : Worker P) → slice_get j.ws i ≡ Some w → HasWorked stand root plan w (Writes x) → MadeInfo m
+      by-writer (Drains d) old h = absurd h
+      by-writer (Writes w) old h = let s = j.set i (Writes w) old in let k = h.made s.0.none_made in
+          let has : HasMade plan (i + 1) k.0 x.pass x.made.items (IsLeft plan (i + 1) k.0 x.pass) = subst (λ t. HasMade plan t k.0 x.pass x.made.items (IsLeft plan t k.0 x.pass)) s.1 k.1 in
+          let g = has.each m got in
+          let f = stands-find log m.place x.pass.number (Ordered (call_for g.planned)) (Replied g.reply) (stands-more (seen_of x.pass) log m.place x.pass.number (Ordered (call_for g.planned)) (Replied g.reply) g.stands
+              (begins-of stand root z start callers plan firsts p q out log j i (Writes x) here)) in record {
+            n = f.0;
+            entry = f.1;
+            at = f.2;
+            place = f.3;
+            i = i;
+            x = x;
+            here = here;
+            among = got;
+            stop = k.0;
+            has = has;
+            is = g;
+            caller = f.4 ∙ (h.keeps.0.1 ∙ s.0.number_is);
+            asks = f.5;
+            says = f.6;
+          }
+
+  order : (i k : ℕ) → (i ≡ k) ⊎ ((i < k) ⊎ (k < i))
+  order zero zero = inl refl
+  order zero (suc k) = inr (inl (omega arith))
+  order (suc i) zero = inr (inr (omega arith))
+  order (suc i) (suc k) = ⊎_elim (λ (x : i ≡ k). inl (ap suc x)) (λ (x : (i < k) ⊎ (k < i)). inr (⊎_elim (λ (y : i < k). inl (omega (arith, y))) (λ (y : k < i). inr (omega (arith, y))) x)) (order i k)
+
+  -- of two calls of one thread the earlier in the plan has the earlier place
+  pub made-order : (a b : Made) (s : MadeInfo a) (t : MadeInfo b) → s.i ≡ t.i → a.at < b.at → a.place < b.place
+  made-order a b s t same lt = let x : s.x ≡ t.x = writer-same s.x t.x (some-one (sym s.here ∙ (ap (slice_get j.xs) same ∙ t.here))) in
+      go (subst (λ (y : Writer). Among a y.made.items) x s.among)
+    where
+      writer-same : (v w : Writer) → as-worker v ≡ as-worker w → v ≡ w
+      writer-same v w e = cc e
+      go : Among a t.x.made.items → a.place < b.place
+      go m = ⊎_elim (λ (e : m.0 ≡ t.among.0). absurd (let u : a ≡ b = some-one (sym m.1 ∙ (ap (slice_get t.x.made.items) e ∙ t.among.1)) in let v : a.at ≡ b.at = ap (λ (y : Made). y.at) u in omega (arith, v, lt)))
+          (λ (o : (m.0 < t.among.0) ⊎ (t.among.0 < m.0)). ⊎_elim (λ (y : m.0 < t.among.0). (t.has.rises m.0 t.among.0 a b y m.1 t.among.1).1)
+              (λ (y : t.among.0 < m.0). absurd (let r = (t.has.rises t.among.0 m.0 b a y t.among.1 m.1).0 in omega (arith, r, lt))) o) (order m.0 t.among.0)
+
+  -- two calls at one place are one
+  pub made-apart : (a b : Made) (s : MadeInfo a) (t : MadeInfo b) → a.place ≡ b.place → a.at ≡ b.at
+  made-apart a b s t same = let n : s.n ≡ t.n = (let x = s.place in let y = t.place in omega (arith, x, y, same)) in
+      let e : s.entry ≡ t.entry = some-one (sym s.at ∙ (ap (slice_get log) n ∙ t.at)) in
+      let i : s.i ≡ t.i = sym s.caller ∙ (ap (λ (y : Entry). y.caller) e ∙ t.caller) in
+      ⊎_elim (λ (x : a.at ≡ b.at). x) (λ (x : (a.at < b.at) ⊎ (b.at < a.at)). ⊎_elim (λ (y : a.at < b.at). absurd (let r = made-order a b s t i y in omega (arith, r, same)))
+          (λ (y : b.at < a.at). absurd (let r = made-order b a t s (sym i) y in omega (arith, r, same))) x) (order a.at b.at)
+
+  -- what was made of one member stands at one place
+  pub made-at : (a b : Made) (s : MadeInfo a) (t : MadeInfo b) → a.at ≡ b.at → a.place ≡ b.place
+  made-at a b s t same = let pl : s.is.planned ≡ t.is.planned = some-one (sym s.is.is ∙ (ap (slice_get plan) same ∙ t.is.is)) in
+      let e : s.i + 1 ≡ t.i + 1 = sym s.is.own ∙ (ap (λ (y : Planned). y.thread) pl ∙ t.is.own) in let i : s.i ≡ t.i = omega (arith, e) in
+      let x : s.x ≡ t.x = writer-same s.x t.x (some-one (sym s.here ∙ (ap (slice_get j.xs) i ∙ t.here))) in
+      go (subst (λ (y : Writer). Among a y.made.items) x s.among)
+    where
+      writer-same : (v w : Writer) → as-worker v ≡ as-worker w → v ≡ w
+      writer-same v w e = cc e
+      go : Among a t.x.made.items → a.place ≡ b.place
+      go m = ⊎_elim (λ (e : m.0 ≡ t.among.0). let u : a ≡ b = some-one (sym m.1 ∙ (ap (slice_get t.x.made.items) e ∙ t.among.1)) in ap (λ (y : Made). y.place) u)
+          (λ (o : (m.0 < t.among.0) ⊎ (t.among.0 < m.0)). ⊎_elim (λ (y : m.0 < t.among.0). absurd (let r = (t.has.rises m.0 t.among.0 a b y m.1 t.among.1).0 in omega (arith, r, same)))
+              (λ (y : t.among.0 < m.0). absurd (let r = (t.has.rises t.among.0 m.0 b a y t.among.1 m.1).0 in omega (arith, r, same))) o) (order m.0 t.among.0)
+
+  module _ (blanks olds : List Answered) (spots : List Spot) (blank : AreBlank blanks) (laid : LaidWith (IsMadeBy j.xs) blanks olds) (long : length blanks ≡ length plan) (noted : Noted olds (length olds) spots)
+      (rises : IsNonDecreasingBy (λ (s : Spot). s.place) spots) where
+    -- what was made for a spot
+    pub record SpotInfo (s : Spot) : Type 0 where
+      pub made : Made
+      pub by : IsMadeBy j.xs made
+      pub at : made.at ≡ s.at
+      pub place : made.place ≡ s.place
+      pub here : slice_get olds s.at ≡ Some (answer_of made)
+
+    pub spot-info : (i : ℕ) (s : Spot) → slice_get spots i ≡ Some s → SpotInfo s
+    spot-info i s at = let n = noted.each i s at in let a = n.1 in ⊎_elim
+        (λ (o : (slice_get blanks s.at ≡ Some a.0) × ((m : Made) → IsMadeBy j.xs m → m.at ≡ s.at → ⊥)). absurd (let b = blank s.at a.0 o.0 in let c = a.3 in omega (arith, b, c)))
+        (λ (o : (m : Made) × IsMadeBy j.xs m × (m.at ≡ s.at) × (a.0 ≡ answer_of m)). record { made = o.0; by = o.1; at = o.2; place = ap (λ (y : Answered). y.place) (sym o.3) ∙ sym a.2; here = a.1 ∙ ap Some o.3 }) (laid.each s.at a.0 a.1)
+
+    -- the spots' places rise strictly
+    pub spots-rise : (i k : ℕ) (s t : Spot) → i < k → slice_get spots i ≡ Some s → slice_get spots k ≡ Some t → s.place < t.place
+    spots-rise i k s t lt x y = let a = spot-info i s x in let b = spot-info k t y in
+        let le0 = rises i k s (omega (arith, lt)) (get-inside spots k t y) in
+        let le : s.place ≤ t.place = subst (λ (z : Spot × Spot). z.0.place ≤ z.1.place) (λ n. (get_or_from_slice_get spots i s s x n, get_or_from_slice_get spots k t s y n)) le0 in
+        ⊎_elim (λ (e : s.place ≡ t.place). absurd (let at = made-apart a.made b.made (made-info a.made a.by) (made-info b.made b.by) (a.place ∙ (e ∙ sym b.place)) in
+              let same = once-same spots i k s t noted.once x y (sym a.at ∙ (at ∙ b.at)) in omega (arith, same, lt)))
+          (λ (o : (s.place < t.place) ⊎ (t.place < s.place)). ⊎_elim (λ (z : s.place < t.place). z) (λ (z : t.place < s.place). absurd (omega (arith, z, le))) o) (order s.place t.place)
+
+    -- each call that was made has its spot
+    pub made-spot : (m : Made) → IsMadeBy j.xs m → (s : Spot) × Among s spots × (s.at ≡ m.at) × (s.place ≡ m.place)
+    made-spot m by = let info = made-info m by in let inside = get-inside plan m.at info.is.planned info.is.is in let l = laid.long in
+        let a = get-some olds m.at (omega (arith, inside, l, long)) in ⊎_elim
+        (λ (o : (slice_get blanks m.at ≡ Some a.0) × ((d : Made) → IsMadeBy j.xs d → d.at ≡ m.at → ⊥)). absurd (o.1 m by refl))
+        (λ (o : (d : Made) × IsMadeBy j.xs d × (d.at ≡ m.at) × (a.0 ≡ answer_of d)).
+          let same = made-at o.0 m (made-info o.0 o.1) info o.2 in let pl : a.0.place ≡ o.0.place = ap (λ (y : Answered). y.place) o.3 in let up = info.place in
+          let c = noted.cover m.at a.0 (get-inside olds m.at a.0 a.1) a.1 (omega (arith, pl, same, up)) in
+          let n = noted.each c.1.0 c.0 c.1.1 in
+          let b : n.1.0 ≡ a.0 = some-one (sym n.1.1 ∙ (ap (slice_get olds) c.2 ∙ a.1)) in
+          (c.0, c.1, c.2, n.1.2 ∙ (ap (λ (y : Answered). y.place) b ∙ (pl ∙ same)))) (laid.each m.at a.0 a.1)
