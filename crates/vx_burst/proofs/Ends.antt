@@ -37,6 +37,7 @@ use Rattle.vx_burst_threads.proofs.Making.{stands-more}
 use Rattle.vx_burst_threads.proofs.Draining.{none-of}
 use Rattle.vx_burst.specs.Setting.{IsSetUp, AreSetUp}
 use Rattle.vx_burst.specs.Finishing.{Went, AckWithin, Underway, IsIdle}
+use Rattle.vx_burst.specs.Ending.{HasJoined}
 use Rattle.vx_burst.proofs.Underways.{get-some}
 
 -- an entry that stands at a place is found there
@@ -267,3 +268,38 @@ module _ {P : Type 0} (stand : P → Stand) (root : P → P) where
       each = went;
       acks = λ e m. made-within e m.0 (classify m.0 e m.1);
     }
+
+  -- what the threads left, with the history that the turn's end gives
+  pub joined-of : {E : Type 0} (state : E → State) (base : E → E) (first : E) (z : TableId) (callers : ℕ) (plan : List Planned) (firsts : List P) (olds : List Answered) (engine : E) (out : List P) (news : List Answered)
+      → (h : HasJoined stand root state base first z callers plan firsts olds engine out news) → Joined z (state first) callers plan firsts h.pass h.last out h.closes.log × Legal (state first) h.closes.log × Fits (state first) h.closes.log (state engine)
+  joined-of state base first z callers plan firsts olds engine out news h = let m = h.worked.met in let pairs = paired plan h.ws h.worked.xs h.worked.worked in
+      let start : start_of h.last ≡ state first = m.start ∙ h.own.start_is in let all : callers_of h.last ≡ callers = m.callers ∙ h.own.callers_is in (
+        record {
+          ws = h.ws;
+          xs = h.worked.xs;
+          pairs = pairs;
+          set = h.set;
+          own = h.own;
+          all = h.all;
+          back = h.back;
+          met = m;
+          named = subst (λ n. Named n h.closes.log) all h.closes.named;
+          has = h.closes.own;
+          seen = h.closes.whole (λ by lt. ⊎_elim (worker by) (last by) (split by (length h.ws) (let a = h.all in omega (arith, a, all, lt))));
+        },
+        subst (λ s. Legal s h.closes.log) start h.closes.legal,
+        subst (λ s. Fits s h.closes.log (state engine)) start h.closes.fits,
+      )
+    where
+      split : (i k : ℕ) → i < suc k → (i < k) ⊎ (i ≡ k)
+      split zero zero lt = inr refl
+      split zero (suc k) lt = inl (omega arith)
+      split (suc i) zero lt = absurd (omega (arith, lt))
+      split (suc i) (suc k) lt = ⊎_elim (λ (x : i < k). inl (omega (arith, x))) (λ (x : i ≡ k). inr (ap suc x)) (split i k (omega (arith, lt)))
+      worker : (by : ℕ) → by < length h.ws → (ps : List ℕ) × Has (view_of h.last) by ps
+      worker by lt = let pairs = paired plan h.ws h.worked.xs h.worked.worked in let a = get-some h.ws by lt in let n = pairs.0 in let b = get-some h.worked.xs by (omega (arith, n, lt)) in
+          let s = worked-pass z (state first) callers plan by a.0 b.0 (h.set by a.0 a.1) (pairs.1 by a.0 b.0 a.1 b.1) in
+          (mine_of (pass_of b.0), inr (subst (λ k. Among (k, mine_of (pass_of b.0)) (met_of h.last)) s.0 (h.worked.met.each b.0 (by, b.1)).1))
+      last : (by : ℕ) → by ≡ length h.ws → (ps : List ℕ) × Has (view_of h.last) by ps
+      last by is = let rest = h.last.at_rest in let number : h.last.number ≡ length h.ws = h.worked.met.same.1 ∙ h.own.number_is in let low : (view_of h.last).low ≡ h.last.number = rest.2 in let one = rest.3 in
+          (mine_of h.last, inl (omega (arith, low, number, is), omega (arith, low, one, number, is), refl))

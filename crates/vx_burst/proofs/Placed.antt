@@ -1,5 +1,5 @@
 -- The calls that were made, by their places.
-use Rattle.std.proofs.Common.{◌≡◌, ◌≢◌, ◌⊎◌, ℕ, zero, suc, ◌+◌, ◌-◌, ◌<◌, ◌≤◌, ◌==◌, Bool, true, false, List, [], ◌∷◌, ◌++◌, length, map, take, cond, refl, ap, sym, ◌∙◌, subst, ⊎_elim, inl, inr, arith, append_assoc, length-append, Some, slice_get, slice_index_or}
+use Rattle.std.proofs.Common.{◌≡◌, ◌≢◌, ◌⊎◌, ℕ, zero, suc, ◌+◌, ◌-◌, ◌<◌, ◌≤◌, ◌==◌, Bool, true, false, List, [], ◌∷◌, ◌++◌, length, map, take, cond, refl, ap, sym, ◌∙◌, subst, ⊎_elim, inl, inr, arith, append_assoc, length-append, ne_eqb, Some, slice_get, slice_index_or}
 use Rattle.std.proofs.lemmas.Option.{slice_get-get_or, get_or_from_slice_get, slice_get_within}
 use Rattle.atomic_table.specs.Seated.{TableId}
 use Rattle.vx_model.specs.declared.call.Reply.{Reply}
@@ -37,7 +37,8 @@ use Rattle.vx_burst.proofs.Placings.{once-same}
 use Rattle.vx_burst.proofs.Underways.{get-some, job_entry}
 use Rattle.vx_burst.proofs.Ends.{classify, Class, IsMadeAt}
 use Rattle.vx_burst.specs.Setting.{AreBlank, AreSetUp, IsSetUp}
-use Rattle.vx_burst.specs.Finishing.{IsIdle, IsOrdered, Stay}
+use Rattle.vx_burst.specs.Setting.{one_if}
+use Rattle.vx_burst.specs.Finishing.{IsIdle, IsOrdered, Stay, unplaced, Underway, IsPlaced, Stage}
 use Rattle.vx_burst.proofs.Ends.{Joined, Paired, stands-get, begins-of, worker-at}
 
 -- an entry that stands at a place, as it is found
@@ -98,6 +99,38 @@ stay-picked ev n (e ∷ es) ps r top order is class = step ps r top order (class
         tail : (a b : ℕ) → a ≡ b → Among a (p ∷ ps) → (p ≡ a → ⊥) → Among b ps
         tail a b is (zero, at) not = absurd (not (some-one at))
         tail a b is (suc i, at) not = subst (λ z. Among z ps) is (i, at)
+
+get-map : {A B : Type 0} (f : A → B) (xs : List A) (i : ℕ) (x : A) → slice_get xs i ≡ Some x → slice_get (map f xs) i ≡ Some (f x)
+get-map f [] i x at = absurd (cc at)
+get-map f (y ∷ ys) zero x at = let e : y ≡ x = some-one at in ap (λ v. Some (f v)) e
+get-map f (y ∷ ys) (suc i) x at = get-map f ys i x at
+
+map-get : {A B : Type 0} (f : A → B) (xs : List A) (i : ℕ) (b : B) → slice_get (map f xs) i ≡ Some b → (x : A) × (slice_get xs i ≡ Some x) × (f x ≡ b)
+map-get f [] i b at = absurd (cc at)
+map-get f (y ∷ ys) zero b at = (y, refl, some-one at)
+map-get f (y ∷ ys) (suc i) b at = map-get f ys i b at
+
+map-long : {A B : Type 0} (f : A → B) (xs : List A) → length (map f xs) ≡ length xs
+map-long f [] = refl
+map-long f (x ∷ xs) = ap suc (map-long f xs)
+
+rising-of : (n : ℕ) (xs : List Spot) → ((i : ℕ) (s : Spot) → slice_get xs i ≡ Some s → n < s.place) → ((i k : ℕ) (s t : Spot) → i < k → slice_get xs i ≡ Some s → slice_get xs k ≡ Some t → s.place < t.place) → Rising n (map (λ (s : Spot). s.place) xs)
+rising-of n [] low up = tt
+rising-of n (x ∷ xs) low up = (low 0 x refl, rising-of x.place xs (λ i s at. up 0 (suc i) x s (omega arith) refl at) (λ i k s t lt a b. up (suc i) (suc k) s t (omega (arith, lt)) a b))
+
+unplaced-ext : (xs ys : List Answered) → length ys ≡ length xs → ((k : ℕ) (a b : Answered) → slice_get xs k ≡ Some a → slice_get ys k ≡ Some b → (a.place ≡ 0 → b.place ≡ 0) × (0 < a.place → 0 < b.place)) → unplaced ys ≡ unplaced xs
+unplaced-ext [] [] n f = refl
+unplaced-ext [] (y ∷ ys) n f = absurd (omega (arith, n))
+unplaced-ext (x ∷ xs) [] n f = absurd (omega (arith, n))
+unplaced-ext (x ∷ xs) (y ∷ ys) n f = let r = unplaced-ext xs ys (omega (arith, n)) (λ k a b u v. f (suc k) a b u v) in let h = f 0 x y refl refl in let e = one x.place y.place h.0 h.1 in omega (arith, r, e)
+  where
+    one : (a b : ℕ) → (a ≡ 0 → b ≡ 0) → (0 < a → 0 < b) → one_if (b == 0) ≡ one_if (a == 0)
+    one zero b f g = ap (λ n. one_if (n == 0)) (f refl)
+    one (suc a) b f g = let p = g (omega arith) in ap one_if (ne_eqb b 0 (λ e. absurd (omega (arith, e, p)))) ∙ sym (ap one_if (ne_eqb (suc a) 0 (λ e. absurd (omega (arith, e)))))
+
+take-whole : (xs : List Answered) → take (length xs) xs ≡ xs
+take-whole [] = refl
+take-whole (x ∷ xs) = ap (λ l. x ∷ l) (take-whole xs)
 
 module _ {P : Type 0} (stand : P → Stand) (root : P → P) (z : TableId) (start : State) (callers : ℕ) (plan : List Planned) (firsts : List P) (p q : Pass) (out : List P) (log : List Entry) (j : Joined stand root z start callers plan firsts p q out log) where
   abbrev pub as-worker : Writer → Worker P
@@ -222,3 +255,77 @@ module _ {P : Type 0} (stand : P → Stand) (root : P → P) (z : TableId) (star
           let n = noted.each c.1.0 c.0 c.1.1 in
           let b : n.1.0 ≡ a.0 = some-one (sym n.1.1 ∙ (ap (slice_get olds) c.2 ∙ a.1)) in
           (c.0, c.1, c.2, n.1.2 ∙ (ap (λ (y : Answered). y.place) b ∙ (pl ∙ same)))) (laid.each m.at a.0 a.1)
+
+    module _ (news : List Answered) (numbered : Numbered spots (length spots) olds news) where
+      -- where an answer has a number it has its spot
+      pub news-spot : (k : ℕ) (b : Answered) → slice_get news k ≡ Some b → 0 < b.place → (i : ℕ) × (s : Spot) × (slice_get spots i ≡ Some s) × (s.at ≡ k) × (b.place ≡ i + 1)
+      news-spot k b at some = let a = numbered.same k b at in ⊎_elim
+          (λ (e : 0 ≡ a.0.place). absurd (let same : b ≡ a.0 = some-one (sym at ∙ (numbered.else k (λ i s lt get is. let n = noted.each i s get in let v : n.1.0 ≡ a.0 = some-one (sym n.1.1 ∙ (ap (slice_get olds) is ∙ a.1)) in
+                let w : n.1.0.place ≡ a.0.place = ap (λ (y : Answered). y.place) v in let u = n.1.3 in absurd (omega (arith, w, u, e))) ∙ a.1)) in let pl : b.place ≡ a.0.place = ap (λ (y : Answered). y.place) same in omega (arith, pl, e, some)))
+          (λ (o : (0 < a.0.place) ⊎ (a.0.place < 0)). ⊎_elim (λ (up : 0 < a.0.place). let c = noted.cover k a.0 (get-inside olds k a.0 a.1) a.1 up in let d = numbered.each c.1.0 c.0 (get-inside spots c.1.0 c.0 c.1.1) c.1.1 in
+                let same : d.0 ≡ b = some-one (sym d.1 ∙ (ap (slice_get news) c.2 ∙ at)) in (c.1.0, c.0, c.1.1, c.2, ap (λ (y : Answered). y.place) (sym same) ∙ d.2))
+              (λ (low : a.0.place < 0). absurd (omega (arith, low))) o) (order 0 a.0.place)
+
+      pub joined-stage : (s : State) → Underway stand root start firsts log s out → (stays : Events) × Stage stand root start firsts plan log s out news (length spots) stays
+      joined-stage s under = (map ev ps, record {
+        underway = under;
+        left = stay-picked ev 0 log ps (rising-of 0 spots (λ i t at. (let n = noted.each i t at in let a = n.1.2 in let b = n.1.3 in omega (arith, a, b))) spots-rise) top ordered is class;
+        count = map-long ev ps ∙ map-long (λ (t : Spot). t.place) spots;
+        rest = let c = noted.count in let u = unplaced-ext olds news numbered.long kept in let w = ap unplaced (take-whole olds) in let l = laid.long in omega (arith, c, u, w, l, long);
+        long = numbered.long ∙ (laid.long ∙ long);
+        each = λ k pl b get at some. let o = news-spot k b at some in let f = spot-info o.0 o.1 o.2 in let m = made-info f.made f.by in
+            let same : m.is.planned ≡ pl = some-one (sym m.is.is ∙ (ap (slice_get plan) (f.at ∙ o.3) ∙ get)) in let old = numbered.same k b at in
+            let a : old.0 ≡ answer_of f.made = some-one (sym old.1 ∙ (ap (slice_get olds) (sym o.3) ∙ f.here)) in record {
+              reply = m.is.reply;
+              at = let n : b.place - 1 ≡ o.0 = (let v = o.4 in omega (arith, v)) in
+                  subst (λ (y : ℕ × Planned). slice_get (map ev ps) y.0 ≡ Some (Ordered (call_for y.1), Replied m.is.reply)) (λ i. (sym n i, same i))
+                  (get-map ev ps o.0 o.1.place (get-map (λ (t : Spot). t.place) spots o.0 o.1 o.2) ∙ ap Some (event o.0 o.1 o.2));
+              told = subst (IsTold m.is.reply) (ap (λ (y : Answered). y.reply) (sym a) ∙ sym old.2) m.is.told;
+              stalled = λ y. absurd (m.is.goes y.0 y.1);
+            };
+        apart = λ i k a b ia kb some same. let x = news-spot i a ia some in let y = news-spot k b kb (omega (arith, some, same)) in
+            let n : x.0 ≡ y.0 = (let u = x.4 in let v = y.4 in omega (arith, u, v, same)) in let t : x.1 ≡ y.1 = some-one (sym x.2 ∙ (ap (slice_get spots) n ∙ y.2)) in sym x.3 ∙ (ap (λ (w : Spot). w.at) t ∙ y.3);
+        rises = λ i k pi pk a b lt gi gk own ia kb some. let y = news-spot k b kb some in let f = spot-info y.0 y.1 y.2 in let m = made-info f.made f.by in
+            let same : m.is.planned ≡ pk = some-one (sym m.is.is ∙ (ap (slice_get plan) (f.at ∙ y.3) ∙ gk)) in
+            let mine : pi.thread ≡ m.i + 1 = own ∙ (ap (λ (w : Planned). w.thread) (sym same) ∙ m.is.own) in
+            let w = m.has.whole i pi (let d = m.is.done in let e = f.at in let g = y.3 in omega (arith, d, e, g, lt)) gi mine in
+            let by : IsMadeBy j.xs w.0 = (m.x, (m.i, m.here), w.1) in let q = made-spot w.0 by in
+            let c = numbered.each q.1.0 q.0 (get-inside spots q.1.0 q.0 q.1.1) q.1.1 in
+            let is : c.0 ≡ a = some-one (sym c.1 ∙ (ap (slice_get news) (q.2 ∙ w.2) ∙ ia)) in let place : a.place ≡ q.1.0 + 1 = ap (λ (v : Answered). v.place) (sym is) ∙ c.2 in
+            let first = made-info w.0 by in let that : first.is.planned ≡ pi = some-one (sym first.is.is ∙ (ap (slice_get plan) w.2 ∙ gi)) in
+            let owner : first.i + 1 ≡ m.i + 1 = sym first.is.own ∙ (ap (λ (v : Planned). v.thread) that ∙ mine) in
+            let before = first-of w.0 f.made first m (omega (arith, owner)) (let e = f.at in let g = y.3 in let h = w.2 in omega (arith, e, g, h, lt)) in
+            (omega (arith, place), (let r = earlier q.1.0 y.0 q.0 y.1 q.1.1 y.2 (let u = q.3 in let v = f.place in omega (arith, u, v, before)) in let v = y.4 in omega (arith, place, v, r)));
+      })
+        where
+          dummy : Entry
+          dummy = job_entry start.counts (Charged (Wait 0), Worked job.Nothing (record { line = start.line; number = 0; vol = 0; block = 0; bytes = [] }))
+          ev : ℕ → Ask × Said
+          ev n = asked (slice_index_or log (n - 1) (job_entry start.counts (Charged (Wait 0), Worked job.Nothing (record { line = start.line; number = 0; vol = 0; block = 0; bytes = [] }))))
+          ps : List ℕ
+          ps = map (λ (t : Spot). t.place) spots
+          is : (i : ℕ) (e : Entry) → slice_get log i ≡ Some e → ev (suc (0 + i)) ≡ asked e
+          is i e at = let n : suc (0 + i) - 1 ≡ i = omega arith in ap (λ k. asked (slice_index_or log k dummy)) n ∙ ap asked (get_or_from_slice_get log i e dummy at)
+          event : (i : ℕ) (t : Spot) (at : slice_get spots i ≡ Some t) → ev t.place ≡ (Ordered (call_for (made-info (spot-info i t at).made (spot-info i t at).by).is.planned), Replied (made-info (spot-info i t at).made (spot-info i t at).by).is.reply)
+          event i t at = let f = spot-info i t at in let m = made-info f.made f.by in let n : suc (0 + m.n) ≡ t.place = (let a = m.place in let b = f.place in omega (arith, a, b)) in
+              ap ev (sym n) ∙ (is m.n m.entry m.at ∙ (λ k. (m.asks k, m.says k)))
+          top : (n : ℕ) → Among n ps → n ≤ 0 + length log
+          top n m = let t = map-get (λ (t : Spot). t.place) spots m.0 n m.1 in let f = spot-info m.0 t.0 t.1 in let i = made-info f.made f.by in
+              let a = get-inside log i.n i.entry i.at in let b = i.place in let c = f.place in let d = t.2 in omega (arith, a, b, c, d)
+          ordered : (n : ℕ) → Among n ps → IsOrdered (ev n).0
+          ordered n m = let t = map-get (λ (t : Spot). t.place) spots m.0 n m.1 in subst (λ (y : Ask × Said). IsOrdered y.0) (sym (event m.0 t.0 t.1) ∙ ap ev t.2) tt
+          class : (i : ℕ) (e : Entry) → slice_get log i ≡ Some e → Among (suc (0 + i)) ps ⊎ IsIdle e.ask e.said
+          class i e at = ⊎_elim (λ (m : IsMadeAt stand root z start callers plan firsts p q out log j i e). let c = made-spot m.made m.by in let n : c.0.place ≡ suc (0 + i) = (let a = c.3 in let b = m.place in omega (arith, a, b)) in
+                inl (c.1.0, get-map (λ (t : Spot). t.place) spots c.1.0 c.0 c.1.1 ∙ ap Some n))
+              (λ (m : IsIdle e.ask e.said × Rattle.vx_burst.specs.Finishing.AckWithin stand root out e.ask). inr m.0) (classify stand root z start callers plan firsts p q out log j i e at)
+          kept : (k : ℕ) (a b : Answered) → slice_get olds k ≡ Some a → slice_get news k ≡ Some b → (a.place ≡ 0 → b.place ≡ 0) × (0 < a.place → 0 < b.place)
+          kept k a b x y = (λ none. ⊎_elim (λ (e : 0 ≡ b.place). sym e) (λ (o : (0 < b.place) ⊎ (b.place < 0)). ⊎_elim (λ (up : 0 < b.place). absurd (let n = news-spot k b y up in let m = noted.each n.0 n.1 n.2 in
+                  let v : m.1.0 ≡ a = some-one (sym m.1.1 ∙ (ap (slice_get olds) n.3 ∙ x)) in let w : m.1.0.place ≡ a.place = ap (λ (y : Answered). y.place) v in let u = m.1.3 in omega (arith, w, u, none)))
+                (λ (low : b.place < 0). absurd (omega (arith, low))) o) (order 0 b.place),
+              λ some. let c = noted.cover k a (get-inside olds k a x) x some in let d = numbered.each c.1.0 c.0 (get-inside spots c.1.0 c.0 c.1.1) c.1.1 in
+                let same : d.0 ≡ b = some-one (sym d.1 ∙ (ap (slice_get news) c.2 ∙ y)) in let e : d.0.place ≡ b.place = ap (λ (y : Answered). y.place) same in let f = d.2 in omega (arith, e, f))
+          first-of : (a b : Made) (s : MadeInfo a) (t : MadeInfo b) → s.i ≡ t.i → a.at < b.at → a.place < b.place
+          first-of a b s t same lt = made-order a b s t same lt
+          earlier : (i k : ℕ) (s t : Spot) → slice_get spots i ≡ Some s → slice_get spots k ≡ Some t → s.place < t.place → i < k
+          earlier i k s t x y lt = ⊎_elim (λ (e : i ≡ k). absurd (let u : s ≡ t = some-one (sym x ∙ (ap (slice_get spots) e ∙ y)) in let v : s.place ≡ t.place = ap (λ (w : Spot). w.place) u in omega (arith, v, lt)))
+              (λ (o : (i < k) ⊎ (k < i)). ⊎_elim (λ (w : i < k). w) (λ (w : k < i). absurd (let r = spots-rise k i t s w y x in omega (arith, r, lt))) o) (order i k)

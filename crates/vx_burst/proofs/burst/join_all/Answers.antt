@@ -3,7 +3,7 @@ use Rattle.vx_turn.specs.Passing.{table_of, first_of}
 use Rattle.vx_burst_threads.specs.Joining.{WorkedAndMet}
 use Rattle.vx_burst.proofs.Settings.{set-pass, set-given}
 use Rattle.vx_burst.proofs.Ends.{set-all, joined-underway}
-use Rattle.vx_burst.proofs.Placed.{stay-picked, made-spot}
+use Rattle.vx_burst.proofs.Placed.{joined-stage}
 use Rattle.vx_burst.proofs.burst.join_all.Goals as goal
 
 pub unreachable-requires : goal.unreachable-requires
