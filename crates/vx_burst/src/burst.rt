@@ -4,8 +4,9 @@ ghost use Rattle.std.specs.Prelude.{◌≡◌, ◌≤◌, ◌<◌, ◌+◌, fals
 ghost use Rattle.vx_settle.specs.Bringing.{HaveLinks};
 ghost use Rattle.vx_burst_threads.specs.Planning.{AllCalls};
 ghost use Rattle.vx_burst.specs.Setting.{HasRoom, AreRooms};
-ghost use Rattle.vx_burst.specs.Ending.{HasJoined};
+ghost use Rattle.vx_burst.specs.Ending.{HasJoined, Ran};
 
+use crate::limits::{MOST_PEERS, MOST_THREADS};
 use crate::finishing::{ask_rest, wait_all};
 use crate::placing::renumber;
 use crate::rooms::{Room, Space, take_room};
@@ -82,6 +83,12 @@ fn work_all<H: Threads + Wait + Sync, E: Engine, P: Peer, G: Gate>(
     gate: &G,
     room: Room<P>,
 ) -> Outcome<E, P>
+    requires room { HasRoom plan.now threads (length peers.items) room }
+    requires dealt { AreDealt (table_of turn) (E.state (first_of turn).inner) (threads + length peers.items + 1) (threads + length peers.items + 1) passes }
+    requires links { HaveLinks P.stand (E.state (first_of turn).inner) peers.items }
+    requires calls { AllCalls plan.now }
+    requires few { (threads ≤ MOST_THREADS) × (length peers.items ≤ MOST_PEERS) }
+    ensures { Ran P.stand P.root E.state E.root plan.now (first_of turn.entry).inner peers.items result.engine result.peers.items result.answers.items }
 {
     let Room {
         answers,
@@ -109,7 +116,7 @@ fn work_all<H: Threads + Wait + Sync, E: Engine, P: Peer, G: Gate>(
     let mut engine = left.engine.inner;
     let mut peers = left.peers;
     let taken = renumber(answers.as_mut_slice(), order);
-    ask_rest(
+    let _ = ask_rest(
         &mut engine,
         peers.as_mut_slice(),
         plan,
