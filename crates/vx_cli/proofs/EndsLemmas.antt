@@ -7,7 +7,8 @@ use Rattle.vx_script.specs.Lines.{lines_of}
 use Rattle.vx_stream.proofs.SendLemmas.{appends_then}
 use Rattle.vx_node.specs.Lines.{script_line}
 use Rattle.vx_node.specs.Stands.{RoseAll}
-use Rattle.vx_node.specs.Steps.{Fails, LineStep}
+use Rattle.vx_node.specs.Steps.{LineStep}
+use Rattle.vx_events.specs.Fails.{Fails}
 use Rattle.vx_cli.specs.declared.status.Status.{Status}
 use Rattle.vx_cli.specs.declared.status.Status.TheVariants.{Done, Usage, BadLine, ReadFault, WriteFault, OutOfMemory, TooLong}
 use Rattle.vx_cli.specs.Reading.{IsWhole}

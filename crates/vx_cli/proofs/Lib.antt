@@ -3,5 +3,6 @@ pub mod CompleteLemmas
 pub mod EndsLemmas
 pub mod ReaderLemmas
 pub mod RunLemmas
+pub mod Sounds
 pub mod StepLemmas
 pub mod TurnLemmas

@@ -1,16 +1,15 @@
 -- A run, and the racks that come back from it.
 use Rattle.std.proofs.Common.{◌≡◌, ℕ, Bool, List, [], ◌∷◌, Option, Some, None, Result, Ok, Err, refl, arith, sym, subst}
 use Rattle.vx_history.specs.World.{World, empty_world}
-use Rattle.vx_history.proofs.GoodLemmas.{good_empty}
 use Rattle.vx_disk.specs.Shelf.{Meaning}
 use Rattle.vx_disk.specs.declared.shelf.Shelf.{Ghosts}
-use Rattle.vx_script.specs.declared.line.ScriptLine.{ScriptLine}
 use Rattle.vx_stream.proofs.SendLemmas.{appends_none}
-use Rattle.vx_node.proofs.Goods.{Sound, sound_empty, step_good}
+use Rattle.vx_history.specs.GoodWorld.{GoodWorld}
+use Rattle.vx_world.proofs.Whole.{empty_good}
 use Rattle.vx_node.specs.declared.yard.Yard.{Yard}
 use Rattle.vx_node.specs.Holds.{AreFresh, RacksHold, RacksTell, rack_faults}
 use Rattle.vx_node.specs.Lines.{script_line}
-use Rattle.vx_node.specs.Steps.{Fails, SaidStep}
+use Rattle.vx_events.specs.Fails.{Fails}
 use Rattle.vx_node.specs.Yards.{YardStands, IsTold, count_of, in_files}
 use Rattle.vx_cli.specs.declared.status.Status.{Status}
 use Rattle.vx_cli.specs.declared.status.Status.TheVariants.{OutOfMemory}
@@ -20,6 +19,7 @@ use Rattle.vx_cli.specs.Ends.{RunIs}
 use Rattle.vx_cli.specs.Turns.{YardComes}
 use Rattle.vx_cli.proofs.EndsLemmas.{ends_here}
 use Rattle.vx_cli.proofs.ReaderLemmas.{ahead_some}
+use Rattle.vx_cli.proofs.Sounds.{said_sound}
 use Rattle.vx_cli.proofs.StepLemmas.{line_told, rose_none, rose_same}
 
 -- a run where contents are told is one where even more is told
@@ -33,21 +33,16 @@ run_told f files w (line ∷ lines) (fails ∷ failures) [] new run = run
 run_told f files w (line ∷ lines) (fails ∷ failures) (text ∷ texts) new run =
     (run.0, line_told f files w line fails text run.0 run.1, run_told f files run.0 lines failures texts new run.2)
 
-said_sound : (told : Type 0) → told → (files : Bool) (w : World) (r : Result (Option ScriptLine) ℕ) (fails : Fails) (text : List ℕ) (new : World) → Sound w → SaidStep told files w r fails text new → Sound new
-said_sound told is files w (Ok None) fails text new sound step = subst Sound (sym step.2) sound
-said_sound told is files w (Ok (Some line)) fails text new sound step = step_good is files w line fails text new sound step
-said_sound told is files w (Err column) fails text new sound step = absurd step
-
--- each world of a run is good
+-- all that holds of every world holds of each world of a run
 world_sound : (told : Type 0) → told → (files : Bool) (w : World) (lines : List (List ℕ)) (failures : List Fails) (texts : List (List ℕ)) (new : World)
-    → Sound w → Run told files w lines failures texts new → Sound new
-world_sound told is files w [] [] [] new sound run = subst Sound (sym run) sound
+    → GoodWorld w → Run told files w lines failures texts new → GoodWorld new
+world_sound told is files w [] [] [] new sound run = subst GoodWorld (sym run) sound
 world_sound told is files w [] [] (text ∷ texts) new sound run = absurd run
 world_sound told is files w [] (fails ∷ failures) texts new sound run = absurd run
 world_sound told is files w (line ∷ lines) [] texts new sound run = absurd run
 world_sound told is files w (line ∷ lines) (fails ∷ failures) [] new sound run = absurd run
 world_sound told is files w (line ∷ lines) (fails ∷ failures) (text ∷ texts) new sound run =
-    world_sound told is files run.0 lines failures texts new (said_sound told is files w (script_line line) fails text run.0 sound run.1) run.2
+    world_sound told is files run.0 lines failures texts new (said_sound is files w (script_line line) fails text run.0 sound run.1) run.2
 
 module _ {R : Type 0} {g : Ghosts R} where
   -- what a run of a yard came to, with the racks that come back from it
@@ -73,7 +68,7 @@ module _ {R : Type 0} {g : Ghosts R} where
           appends = o.appends;
           rose = rose_same (all_fails o.part.failures) (count_of old) (count_of new) f0 f1 (λ s d. sym (counts s d)) (after o.world o.leaves) o.rose;
           leaves = record {
-            good = λ tells. (world_sound (IsTold new) (told o.world o.leaves tells) (in_files old) empty_world o.part.lines o.part.failures o.part.texts o.world sound_empty o.run).good;
+            good = λ tells. (world_sound (IsTold new) (told o.world o.leaves tells) (in_files old) empty_world o.part.lines o.part.failures o.part.texts o.world empty_good o.run);
             holds = holds o.world o.leaves;
           };
         };
@@ -82,7 +77,7 @@ module _ {R : Type 0} {g : Ghosts R} where
 module _ {R : Type 0} (meaning : R → Meaning) where
   -- the racks of a world without sites hold it
   fresh_leave : (racks : List R) → AreFresh meaning racks → Leaves meaning racks empty_world
-  fresh_leave racks fresh = record { good = λ _. good_empty; holds = record { eight = fresh.eight; each = λ s r below at. absurd (omega arith) } }
+  fresh_leave racks fresh = record { good = λ _. empty_good; holds = record { eight = fresh.eight; each = λ s r below at. absurd (omega arith) } }
 
   -- memory ran out before the run began
   pub run_stops : (T : Type 0) (files : Bool) (racks now : List R) (left w0 : Option (List ℕ)) → AreFresh meaning racks → now ≡ racks

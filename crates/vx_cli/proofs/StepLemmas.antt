@@ -1,18 +1,26 @@
 -- Steps of lines, and the counts of the disks.
-use Rattle.std.proofs.Common.{◌≡◌, ℕ, ◌+◌, Bool, List, [], ◌++◌, ◌<◌, length, Option, Some, None, Result, Ok, Err, arith, ap, inl, inr, ◌⊎◌}
+use Rattle.std.proofs.Common.{◌≡◌, ℕ, ◌+◌, Bool, List, [], ◌∷◌, ◌++◌, ◌<◌, length, Option, Some, None, Result, Ok, Err, arith, ap}
 use Rattle.std.proofs.lemmas.List.Sums.{sum_by-append}
-use Rattle.vx_model.specs.Content.{Content, Write as WriteOf}
+use Rattle.vx_history.specs.Refusals.{Outcome}
+use Rattle.vx_history.specs.Step.{step}
 use Rattle.vx_history.specs.World.{World}
+use Rattle.vx_history.specs.declared.event.Event.{Event}
+use Rattle.vx_history.specs.declared.event.Event.TheVariants.{Read as ReadAt}
 use Rattle.vx_model.specs.declared.no.No.{No}
 use Rattle.vx_order.specs.Order.{refusal_of}
 use Rattle.vx_script.specs.declared.line.ScriptLine.{ScriptLine}
-use Rattle.vx_script.specs.declared.line.ScriptLine.TheVariants.{Site, Raw, Disk, Crash, Fuse, Recover, Write, Put, Read, Show, Apply, Status}
+use Rattle.vx_script.specs.declared.line.ScriptLine.TheVariants.{Write, Put}
 use Rattle.vx_script.proofs.GrammarLemmas.{line_of_long}
-use Rattle.vx_node.specs.declared.said.Said.{Said}
-use Rattle.vx_node.specs.Facts.{facts_of}
+use Rattle.vx_events.specs.Ends.{Ends, AllDone, DiskFails, FuseRunsOut, NoNumber, Finds, FindsNone, AppliesFound, place_of}
+use Rattle.vx_events.specs.Facts.{facts_of}
+use Rattle.vx_events.specs.Fails.{Fails}
+use Rattle.vx_events.specs.Lines.{Counts, StepBy}
+use Rattle.vx_events.specs.Lists.{events_of}
+use Rattle.vx_events.specs.Sayings.{RepeatsOf, Replies}
+use Rattle.vx_events.specs.declared.said.Said.{Said}
 use Rattle.vx_node.specs.Lines.{script_line, only_built}
 use Rattle.vx_node.specs.Stands.{RoseAll, times}
-use Rattle.vx_node.specs.Steps.{Fails, Gets, Puts, IsPut, NoNumber, PutFails, PutCut, Recovers, ComesUp, StaysDown, NoSession, Untold, IsBareStill, BareFails, Works, StepBy, SaidStep, LineStep}
+use Rattle.vx_node.specs.Steps.{SaidStep, LineStep}
 
 -- a line of more than 4,096 bytes is wrong behind them
 pub script_line_long : (line : List ℕ) → 4096 < length line → script_line line ≡ Err 4097
@@ -32,47 +40,34 @@ rose_more a b x y z p q = record { each = λ s d. omega (arith, p.each s d, q.ea
 pub rose_same : (a : Fails) (x y u v : ℕ → ℕ → ℕ) → ((s d : ℕ) → u s d ≡ x s d) → ((s d : ℕ) → v s d ≡ y s d) → RoseAll a x y → RoseAll a u v
 rose_same a x y u v e h p = record { each = λ s d. omega (arith, p.each s d, e s d, h s d) }
 
-left_side : {A B C : Type 0} → (A → C) → A ⊎ B → C ⊎ B
-left_side f (inl a) = inl (f a)
-left_side f (inr b) = inr b
-
 -- what holds where contents are told holds where even more is told
 module _ {T U : Type 0} (f : U → T) where
-  gets_told : (c : Content) (volume start count : ℕ) (fails : Fails) (said : Said) (new next : World) → Gets T c volume start count fails said new next → Gets U c volume start count fails said new next
-  gets_told c volume start count fails said new next x = record { bytes = x.bytes; size = x.size; shows = λ u. x.shows (f u); cleanly = x.cleanly }
+  repeats_told : (s : ℕ) (e : Event) (o : Outcome) (said : Said) → RepeatsOf T s e o said → RepeatsOf U s e o said
+  repeats_told s (ReadAt p volume start count) o said x = record { bytes = x.bytes; got = x.got; size = x.size; is = λ u. x.is (f u) }
+  repeats_told s other o said x = x
 
-  puts_told : (w : World) (site : ℕ) (x : WriteOf) (fails : Fails) (said : Said) (new : World) → Puts T w site x fails said new → Puts U w site x fails said new
-  puts_told w site x fails said new (IsPut below exact done) = IsPut below (λ calls u. exact calls (f u)) done
-  puts_told w site x fails said new (NoNumber none done) = NoNumber (λ u. none (f u)) done
-  puts_told w site x fails said new (PutFails disk fails_at) = PutFails disk fails_at
-  puts_told w site x fails said new (PutCut count fused least most exact done) = PutCut count fused least most (λ calls u. exact calls (f u)) done
+  replies_told : (line : ScriptLine) (s : ℕ) (w : World) (es : List Event) (said : Said) → Replies T line s w es said → Replies U line s w es said
+  replies_told line s w [] said x = x
+  replies_told line s w (e ∷ []) said x = repeats_told s e (step w e) said x
+  replies_told line s w (e ∷ d ∷ es) said x = replies_told line s (step w e).world (d ∷ es) said x
 
-  recovers_told : (w : World) (site : ℕ) (fails : Fails) (said : Said) (new : World) → Recovers T w site fails said new → Recovers U w site fails said new
-  recovers_told w site fails said new (ComesUp mid begins done) = ComesUp mid begins done
-  recovers_told w site fails said new (StaysDown mid disk begins fails_at) = StaysDown mid disk begins fails_at
-  recovers_told w site fails said new (NoSession mid begins none done) = NoSession mid begins none done
-  recovers_told w site fails said new (Untold never) = Untold (λ u. never (f u))
-  recovers_told w site fails said new (IsBareStill bare done) = IsBareStill bare done
-  recovers_told w site fails said new (BareFails disk bare failed) = BareFails disk bare failed
+  ends_told : (w : World) (line : ScriptLine) (s : ℕ) (fails : Fails) (said : Said) (new : World) → Ends T w line s fails said new → Ends U w line s fails said new
+  ends_told w line s fails said new (AllDone c none replies leads) = AllDone c none (replies_told line s w (events_of w line c) said replies) leads
+  ends_told w line s fails said new (DiskFails c before e rest left disk list leaves one says leads) = DiskFails c before e rest left disk list leaves one says leads
+  ends_told w line s fails said new (FuseRunsOut c e begun list is fused none says leads) = FuseRunsOut c e begun list is fused none says leads
+  ends_told w line s fails said new (NoNumber c before e rest list may least none says leads) = NoNumber c before e rest list may (λ u. least (f u)) none says leads
+  ends_told w line s fails said new (Finds never c site mid n k is from same none says leads) = Finds (λ u. never (f u)) c site mid n k is from same none says leads
+  ends_told w line s fails said new (FindsNone never c site mid n why is from other none says leads) = FindsNone (λ u. never (f u)) c site mid n why is from other none says leads
+  ends_told w line s fails said new (AppliesFound never site to number is role least most none says leads) = AppliesFound (λ u. never (f u)) site to number is role least most none says leads
 
-  works_told : (w : World) (line : ScriptLine) (fails : Fails) (said : Said) (new : World) → Works T w line fails said new → Works U w line fails said new
-  works_told w (Site name disks blocks) fails said new x = x
-  works_told w (Raw site) fails said new x = x
-  works_told w (Disk site disk state) fails said new x = x
-  works_told w (Crash site pick) fails said new x = x
-  works_told w (Fuse site calls pick) fails said new x = x
-  works_told w (Recover site) fails said new x = recovers_told _ _ _ _ _ x
-  works_told w (Write site volume start count fill) fails said new x = puts_told _ _ _ _ _ _ x
-  works_told w (Put site volume start bytes) fails said new x = puts_told _ _ _ _ _ _ x
-  works_told w (Read site volume start count) fails said new x = left_side (gets_told _ _ _ _ _ _ _ _) x
-  works_told w (Show site volume start count) fails said new x = left_side (gets_told _ _ _ _ _ _ _ _) x
-  works_told w (Apply site to) fails said new x = x
-  works_told w (Status site) fails said new x = x
-  works_told w other fails said new x = absurd x
+  counts_told : (w : World) (line : ScriptLine) (said : Said) → Counts T w line said → Counts U w line said
+  counts_told w (Write site volume start count fill) said x = record { done = λ u. x.done (f u); off = λ u. x.off (f u) }
+  counts_told w (Put site volume start bytes) said x = record { done = λ u. x.done (f u); off = λ u. x.off (f u) }
+  counts_told w other said x = x
 
   step_by_told : (why : Option No) (w : World) (line : ScriptLine) (fails : Fails) (said : Said) (new : World) → StepBy why T w line fails said new → StepBy why U w line fails said new
   step_by_told (Some why) w line fails said new x = x
-  step_by_told None w line fails said new x = works_told w line fails said new x
+  step_by_told None w line fails said new x = record { ends = ends_told w line (place_of w line) fails said new x.ends; counts = counts_told w line said x.counts }
 
   pub said_told : (files : Bool) (w : World) (r : Result (Option ScriptLine) ℕ) (fails : Fails) (text : List ℕ) (new : World) → SaidStep T files w r fails text new → SaidStep U files w r fails text new
   said_told files w (Ok None) fails text new x = x

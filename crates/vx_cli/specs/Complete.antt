@@ -4,7 +4,7 @@ use Rattle.std.specs.List.{concat}
 use Rattle.std.specs.Io.KnownBytes.{Appends}
 use Rattle.vx_history.specs.World.{World, empty_world}
 use Rattle.vx_node.specs.Lines.{script_line}
-use Rattle.vx_node.specs.Steps.{Fails}
+use Rattle.vx_events.specs.Fails.{Fails}
 use Rattle.vx_script.specs.Lines.{lines_of}
 use Rattle.vx_cli.specs.Runs.{Run}
 use Rattle.vx_cli.specs.declared.status.Status.{Status}

@@ -5,7 +5,7 @@ use Rattle.std.specs.Io.KnownBytes.{Appends}
 use Rattle.vx_history.specs.World.{World, empty_world}
 use Rattle.vx_node.specs.Lines.{script_line}
 use Rattle.vx_node.specs.Stands.{RoseAll}
-use Rattle.vx_node.specs.Steps.{Fails}
+use Rattle.vx_events.specs.Fails.{Fails}
 use Rattle.vx_script.specs.Lines.{lines_of, whole_lines_of}
 use Rattle.vx_cli.specs.Reading.{MayHave}
 use Rattle.vx_cli.specs.Runs.{Run, all_fails}

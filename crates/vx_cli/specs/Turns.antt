@@ -5,7 +5,8 @@ use Rattle.vx_history.specs.World.{World, empty_world}
 use Rattle.vx_disk.specs.declared.shelf.Shelf.{Ghosts}
 use Rattle.vx_node.specs.Lines.{script_line}
 use Rattle.vx_node.specs.Stands.{RoseAll}
-use Rattle.vx_node.specs.Steps.{Fails, LineStep}
+use Rattle.vx_node.specs.Steps.{LineStep}
+use Rattle.vx_events.specs.Fails.{Fails}
 use Rattle.vx_node.specs.Yards.{YardStands, StaysFor, IsTold, count_of, in_files}
 use Rattle.vx_node.specs.declared.yard.Yard.{Yard}
 use Rattle.vx_cli.specs.Ends.{Outcome}

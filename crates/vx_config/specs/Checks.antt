@@ -1,5 +1,6 @@
 -- What the tests of a configuration are.
 use Rattle.std.specs.Prelude.{ℕ, ◌+◌, ◌-◌, ◌*◌, Bool, true, false, not, ◌&&◌, ◌||◌, ◌==◌, nat_lt, nat_le, List, [], ◌∷◌, ◌++◌, length, flat_map, Option, Some, None, if◌then◌else◌, slice_get, sum_by, min, max}
+use Rattle.vx_model.specs.declared.limits.TheConstants.{LEAST_BLOCKS, LINK_PLACES, MOST_COLUMNS, MOST_DATA_VOLUMES, MOST_PLEXES, MOST_SUBDISKS}
 use Rattle.std.specs.Int.{div_ceil}
 use Rattle.std.specs.List.{list_all, list_any}
 use Rattle.std.specs.Str.{bytes_eq}
@@ -107,14 +108,14 @@ is_live p = not (is_stale p.state)
 
 -- 1 to 8 columns, and one where the plexes are concatenated
 abbrev pub has_shape : VolumeEntry → Bool
-has_shape v = nat_le 1 v.ncol && nat_le v.ncol 8 && (not (v.width == 0) || v.ncol == 1)
+has_shape v = nat_le 1 v.ncol && nat_le v.ncol MOST_COLUMNS && (not (v.width == 0) || v.ncol == 1)
 
 -- a DRL has the volume's map blocks, an FMR log as many for each plex
 abbrev pub has_logs : VolumeEntry → Bool
 has_logs v = log_has (map_blocks v.blocks) v.drl && log_has (length v.plexes * map_blocks v.blocks) v.fmr
 
 abbrev pub has_plexes : VolumeEntry → Bool
-has_plexes v = nat_le (length v.plexes) 8 && list_all (plex_fills v) v.plexes && preferred_is (length v.plexes) v.prefer && list_any is_live v.plexes
+has_plexes v = nat_le (length v.plexes) MOST_PLEXES && list_all (plex_fills v) v.plexes && preferred_is (length v.plexes) v.prefer && list_any is_live v.plexes
 
 abbrev pub is_volume : VolumeEntry → Bool
 is_volume v = has_shape v && has_logs v && has_plexes v
@@ -136,11 +137,11 @@ map_blocks_of volumes n = map_blocks (blocks_of volumes n)
 -- volumes, and 1 to 30 data volumes.
 abbrev pub is_group : List VolumeEntry → Units → Bool
 is_group volumes u =
-    nat_le 1 (length u.vols) && nat_le (length u.vols) 30
+    nat_le 1 (length u.vols) && nat_le (length u.vols) MOST_DATA_VOLUMES
     && list_all (λ n. nat_lt n (length volumes)) (u.srl ∷ (u.maps ∷ u.vols))
     && pairwise other_than (u.srl ∷ (u.maps ∷ u.vols))
-    && nat_le 8 (blocks_of volumes u.srl)
-    && nat_le (8 * sum_by (map_blocks_of volumes) u.vols) (blocks_of volumes u.maps)
+    && nat_le LEAST_BLOCKS (blocks_of volumes u.srl)
+    && nat_le (LINK_PLACES * sum_by (map_blocks_of volumes) u.vols) (blocks_of volumes u.maps)
 
 abbrev pub group_or_none : List VolumeEntry → Option Units → Bool
 group_or_none volumes None = true
@@ -150,7 +151,7 @@ group_or_none volumes (Some u) = is_group volumes u
 
 unfoldable pub is_sound : Config → Bool
 is_sound c =
-    nat_le (subdisk_count c) 1024
+    nat_le (subdisk_count c) MOST_SUBDISKS
     && are_placed c
     && pairwise differ c.volumes
     && list_all is_volume c.volumes

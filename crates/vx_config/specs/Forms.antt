@@ -1,5 +1,6 @@
 -- Forms of a format: how a value is spelled, how one is read at the front of bytes, and which values have a spelling.
 use Rattle.std.specs.Prelude.{ℕ, zero, suc, ◌^◌, ◌<◌, ◌≤◌, ◌≡◌, Bool, true, false, ◌&&◌, ◌||◌, List, [], ◌∷◌, ◌++◌, length, take, drop, flat_map, Option, Some, None, is_some, Result, Ok, Err, nat_lt, nat_le, ◌==◌, if◌then◌else◌}
+use Rattle.vx_model.specs.declared.limits.TheConstants.{MOST_NAME_BYTES}
 use Rattle.std.specs.List.{AllByRecursion}
 use Rattle.vx_wire.specs.Fields.{name_bytes}
 use Rattle.vx_wire.specs.Numbers.{be_bytes, number_at}
@@ -72,14 +73,14 @@ flag = coded flag_code flag_of
 
 abbrev pub read_name : List ℕ → Reading (List ℕ)
 read_name [] = Err 0
-read_name (n ∷ rest) = if n == 0 || nat_lt 8 n || nat_lt (length rest) n then Err (length (n ∷ rest)) else Ok (take n rest, drop n rest)
+read_name (n ∷ rest) = if n == 0 || nat_lt MOST_NAME_BYTES n || nat_lt (length rest) n then Err (length (n ∷ rest)) else Ok (take n rest, drop n rest)
 
 -- a name of 1 to 8 bytes: its length, then its bytes
 unfoldable pub name : Form (List ℕ)
 name = record {
   spell = name_bytes;
   read = read_name;
-  Fits = λ n. (0 < length n) × (length n ≤ 8);
+  Fits = λ n. (0 < length n) × (length n ≤ MOST_NAME_BYTES);
 }
 
 -- ---- several fields

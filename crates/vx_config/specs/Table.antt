@@ -1,5 +1,6 @@
 -- The table of a configuration's fields.
 use Rattle.std.specs.Prelude.{◌≡◌, ℕ, ◌==◌, if◌then◌else◌, Bool, true, false, List, ◌++◌, length, Option, Some, None, is_some, Ok, Err}
+use Rattle.vx_model.specs.declared.limits.TheConstants.{MOST_DATA_VOLUMES, MOST_DISKS, MOST_NUMBER, MOST_VOLUMES}
 use Rattle.vx_model.specs.declared.site.PlexState.{PlexState}
 use Rattle.vx_model.specs.declared.site.PlexState.TheVariants.{Active, Clean, Stale}
 use Rattle.vx_model.specs.declared.units.Units.{Units}
@@ -78,18 +79,18 @@ volume = made_of
 
 -- the replicated volume group: log, maps, data volumes
 unfoldable pub units : Form Units
-units = made_of (λ p. record { srl = p.0; maps = p.1.0; vols = p.1.1 }) (λ u. (u.srl, (u.maps, u.vols))) (pair (number 1) (pair (number 1) (counted 0 30 (number 1))))
+units = made_of (λ p. record { srl = p.0; maps = p.1.0; vols = p.1.1 }) (λ u. (u.srl, (u.maps, u.vols))) (pair (number 1) (pair (number 1) (counted 0 MOST_DATA_VOLUMES (number 1))))
 
 -- the greatest serial
 abbrev pub greatest : ℕ
-greatest = 0x7fff_ffff_ffff_ffff
+greatest = MOST_NUMBER
 
 -- format 1 behind its version: serial, site, disks, volumes, replicated volume group
 unfoldable pub format_1 : Form Config
 format_1 = made_of
     (λ p. record { serial = p.0; site = p.1.0; disks = p.1.1.0; volumes = p.1.1.1.0; rvg = p.1.1.1.1 })
     (λ c. (c.serial, (c.site, (c.disks, (c.volumes, c.rvg)))))
-    (pair (within 8 0 greatest) (pair (number 4) (pair (counted 1 8 disk) (pair (counted 0 32 volume) (optional units)))))
+    (pair (within 8 0 greatest) (pair (number 4) (pair (counted 1 MOST_DISKS disk) (pair (counted 0 MOST_VOLUMES volume) (optional units)))))
 
 -- the format of a version, where there is one
 abbrev pub behind_version : ℕ → ℕ → List ℕ → Reading Config

@@ -4,6 +4,7 @@ ghost use Rattle.vx_config.specs.Forms.{Gives, number, within, flag, name};
 ghost use Rattle.vx_config.specs.Table.{state};
 
 use crate::Wrong;
+use vx_model::limits::MOST_NAME_BYTES;
 use vx_model::{Name, PlexState};
 use vx_wire::{get_u8, get_u32, get_u64};
 
@@ -110,7 +111,7 @@ impl<'a> Cursor<'a> {
             [] => Err(Wrong::Left(0)),
             [len, rest @ ..] => {
                 let len = *len as usize;
-                if len == 0 || len > 8 || rest.len() < len {
+                if len == 0 || len > MOST_NAME_BYTES || rest.len() < len {
                     return Err(Wrong::Left(self.left.len()));
                 }
                 let (text, after) = rest.split_at(len);

@@ -1,25 +1,28 @@
 // The disks of a group.
 ghost use Rattle.std.specs.Prelude.{◌≡◌, ◌<◌, ◌≤◌, [], ◌∷◌, ◌++◌, length, slice_set};
+ghost use Rattle.vx_model.specs.declared.limits.TheConstants.{MOST_DISKS};
 
 use crate::DiskEntry;
 use arrayvec::ArrayVec;
 use std::marker::Model;
+use vx_model::limits::DISK_PLACES;
 
 /// Up to 8 disks, in order. Contracts see their list.
 #[derive(Drop)]
 pub struct Disks {
-    disks: ArrayVec<DiskEntry, 8>,
+    disks: ArrayVec<DiskEntry, DISK_PLACES>,
 }
 
 impl Model for Disks {
     ghost use Rattle.std.specs.Prelude.{List, ◌≤◌, length};
     ghost use Rattle.vx_config.specs.declared.entry.DiskEntry.{DiskEntry};
+    ghost use Rattle.vx_model.specs.declared.limits.TheConstants.{MOST_DISKS};
 
     ghost Value = { List DiskEntry };
 
     ghost view = { λ d. d.disks.items };
 
-    ghost invariant = { λ d. length d.disks.items ≤ 8 };
+    ghost invariant = { λ d. length d.disks.items ≤ MOST_DISKS };
 }
 
 impl Disks {
@@ -34,7 +37,7 @@ impl Disks {
 
     /// Adds a disk after the others.
     pub fn push(&mut self, disk: DiskEntry)
-        requires room { length self.old < 8 }
+        requires room { length self.old < MOST_DISKS }
         ensures { self.new ≡ self.old ++ disk ∷ [] }
     {
         self.disks.push(disk);
@@ -51,7 +54,7 @@ impl Disks {
     /// The disks, in order.
     pub fn as_slice(&self) -> &[DiskEntry]
         ensures disks { result.now ≡ self.now }
-        ensures few { length self.now ≤ 8 }
+        ensures few { length self.now ≤ MOST_DISKS }
     {
         &self.disks
     }

@@ -19,8 +19,8 @@ use vx_wire::put_bytes;
 pub fn encode(alloc: Global, config: &Config) -> Result<Bytes, Stop>
     requires can { CanSpell config.now }
     ensures spelling { IfOk result (λ bytes. IsSpelling bytes config.now) }
-    ensures many { 1024 < subdisk_count config.now → result ≡ Err (Refused (Limit Subdisks 1024)) }
-    ensures few { subdisk_count config.now ≤ 1024 → IsOkUnless result MemoryStop }
+    ensures many { MOST_SUBDISKS < subdisk_count config.now → result ≡ Err (Refused (Limit Subdisks MOST_SUBDISKS)) }
+    ensures few { subdisk_count config.now ≤ MOST_SUBDISKS → IsOkUnless result MemoryStop }
 {
     if !has_few_subdisks(config) {
         return Err(Stop::No(No::Limit {
@@ -37,7 +37,7 @@ pub fn encode(alloc: Global, config: &Config) -> Result<Bytes, Stop>
 /// Writes the bytes of a configuration from the front on, and answers how many they are. It takes no memory.
 pub fn encode_into(config: &Config, into: &mut [u8]) -> usize
     requires can { CanSpell config.now }
-    requires few { subdisk_count config.now ≤ 1024 }
+    requires few { subdisk_count config.now ≤ MOST_SUBDISKS }
     requires room { length (spelled config.now) ≤ length into.old }
     ensures len { result ≡ length (spelled config.now) }
     ensures bytes { into.new ≡ put_at 0 (spelled config.now) into.old }
@@ -54,7 +54,7 @@ pub fn encode_into(config: &Config, into: &mut [u8]) -> usize
 /// A configuration of up to 1,024 subdisks has at most 65,024 bytes, which is the room of an area.
 pub fn is_short(config: &Config)
     requires can { CanSpell config.now }
-    requires few { subdisk_count config.now ≤ 1024 }
+    requires few { subdisk_count config.now ≤ MOST_SUBDISKS }
     ensures { length (spelled config.now) ≤ 65024 }
 {
     config_fits(config);

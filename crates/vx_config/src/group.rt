@@ -4,7 +4,7 @@ ghost use Rattle.std.specs.List.{list_all};
 ghost use Rattle.vx_config.specs.Checks.{pairwise, other_than, blocks_of as blocks_of_is, map_blocks_of as map_blocks_of_is, is_group as is_group_is, group_or_none};
 
 use crate::VolumeEntry;
-use vx_model::limits::MOST_DATA_VOLUMES;
+use vx_model::limits::{LEAST_BLOCKS, LINK_PLACES, MOST_DATA_VOLUMES};
 use vx_model::{Units, map_blocks};
 
 fn blocks_of(volumes: &[VolumeEntry], number: u32) -> u64
@@ -58,9 +58,9 @@ fn are_volumes(units: &Units, count: usize) -> bool
 }
 
 fn map_sum(volumes: &[VolumeEntry], numbers: &[u32]) -> u64
-    requires { length numbers.now ≤ 30 }
+    requires { length numbers.now ≤ MOST_DATA_VOLUMES }
     ensures value { result ≡ sum_by (map_blocks_of_is volumes.now) numbers.now }
-    ensures few { result ≤ 30 * 70368744177664 }
+    ensures few { result ≤ MOST_DATA_VOLUMES * 70368744177664 }
 {
     let mut sum: u64 = 0;
     for number in numbers {
@@ -77,8 +77,8 @@ fn is_group(volumes: &[VolumeEntry], units: &Units) -> bool
         && vols.len() <= MOST_DATA_VOLUMES
         && are_volumes(units, volumes.len())
         && are_distinct(units)
-        && blocks_of(volumes, units.srl) >= 8
-        && 8 * map_sum(volumes, vols) <= blocks_of(volumes, units.maps)
+        && blocks_of(volumes, units.srl) >= LEAST_BLOCKS
+        && LINK_PLACES as u64 * map_sum(volumes, vols) <= blocks_of(volumes, units.maps)
 }
 
 /// Whether a replicated volume group, where there is one, has the volumes that it may have.

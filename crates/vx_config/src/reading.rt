@@ -23,7 +23,7 @@ fn disk(cursor: &mut Cursor) -> Result<DiskEntry, Wrong>
 
 // So many disks.
 fn disks_of(cursor: &mut Cursor, count: u8) -> Result<Disks, Wrong>
-    requires { count ≤ 8 }
+    requires { count ≤ MOST_DISKS }
     ensures { Gives result cursor.new.left.now (read_many disk_form count cursor.old.left.now) }
 {
     let mut disks = Disks::new();
@@ -34,7 +34,7 @@ fn disks_of(cursor: &mut Cursor, count: u8) -> Result<Disks, Wrong>
 }
 
 fn disks(cursor: &mut Cursor) -> Result<Disks, Wrong>
-    ensures { Gives result cursor.new.left.now ((counted 1 8 disk_form).read cursor.old.left.now) }
+    ensures { Gives result cursor.new.left.now ((counted 1 MOST_DISKS disk_form).read cursor.old.left.now) }
 {
     let count = cursor.count(1, MOST_DISKS as u8)?;
     disks_of(cursor, count)
@@ -179,7 +179,7 @@ fn volume(alloc: Global, cursor: &mut Cursor) -> Result<VolumeEntry, Wrong>
 
 // So many volumes.
 fn volumes_of(alloc: Global, cursor: &mut Cursor, count: u8) -> Result<Volumes, Wrong>
-    requires { count ≤ 32 }
+    requires { count ≤ MOST_VOLUMES }
     ensures { Gives result cursor.new.left.now (read_many volume_form count cursor.old.left.now) }
 {
     let mut volumes = Volumes::new(alloc);
@@ -190,7 +190,7 @@ fn volumes_of(alloc: Global, cursor: &mut Cursor, count: u8) -> Result<Volumes, 
 }
 
 fn volumes(alloc: Global, cursor: &mut Cursor) -> Result<Volumes, Wrong>
-    ensures { Gives result cursor.new.left.now ((counted 0 32 volume_form).read cursor.old.left.now) }
+    ensures { Gives result cursor.new.left.now ((counted 0 MOST_VOLUMES volume_form).read cursor.old.left.now) }
 {
     let count = cursor.count(0, MOST_VOLUMES as u8)?;
     volumes_of(alloc, cursor, count)
@@ -198,7 +198,7 @@ fn volumes(alloc: Global, cursor: &mut Cursor) -> Result<Volumes, Wrong>
 
 // So many numbers of volumes.
 fn numbers_of(cursor: &mut Cursor, count: u8) -> Result<VolumeUnits, Wrong>
-    requires { count ≤ 30 }
+    requires { count ≤ MOST_DATA_VOLUMES }
     ensures { Gives result cursor.new.left.now (read_many (number 1) count cursor.old.left.now) }
 {
     let mut numbers = VolumeUnits::new();
@@ -209,7 +209,7 @@ fn numbers_of(cursor: &mut Cursor, count: u8) -> Result<VolumeUnits, Wrong>
 }
 
 fn numbers(cursor: &mut Cursor) -> Result<VolumeUnits, Wrong>
-    ensures { Gives result cursor.new.left.now ((counted 0 30 (number 1)).read cursor.old.left.now) }
+    ensures { Gives result cursor.new.left.now ((counted 0 MOST_DATA_VOLUMES (number 1)).read cursor.old.left.now) }
 {
     let count = cursor.count(0, MOST_DATA_VOLUMES as u8)?;
     numbers_of(cursor, count)

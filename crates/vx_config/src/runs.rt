@@ -6,9 +6,12 @@ ghost use Rattle.vx_config.specs.Configs.{plex_subdisks, subdisk_count};
 
 use crate::{Config, DiskEntry, LogEntry, PlexEntry, Subdisk, VolumeEntry};
 use arrayvec::ArrayVec;
+use vx_model::limits::{MOST_SUBDISKS, MOST_VOLUMES};
 
-// Room for 1,024 subdisks and two logs of each of 32 volumes.
-type Runs = ArrayVec<Subdisk, 1088>;
+// Room for all subdisks, and two logs of each volume.
+const MOST_RUNS: usize = MOST_SUBDISKS + 2 * MOST_VOLUMES;
+
+type Runs = ArrayVec<Subdisk, MOST_RUNS>;
 
 fn log_run(log: &LogEntry) -> Subdisk
     ensures { result ≡ log_run_is log.now }
@@ -21,7 +24,7 @@ fn log_run(log: &LogEntry) -> Subdisk
 }
 
 fn push_log(runs: &mut Runs, log: &Option<LogEntry>)
-    requires { length runs.old.items < 1088 }
+    requires { length runs.old.items < MOST_RUNS }
     ensures { runs.new.items ≡ runs.old.items ++ log_runs log.now }
 {
     if let Some(log) = log {
@@ -30,7 +33,7 @@ fn push_log(runs: &mut Runs, log: &Option<LogEntry>)
 }
 
 fn push_subdisks(runs: &mut Runs, subdisks: &[Subdisk])
-    requires { length runs.old.items + length subdisks.now ≤ 1088 }
+    requires { length runs.old.items + length subdisks.now ≤ MOST_RUNS }
     ensures { runs.new.items ≡ runs.old.items ++ subdisks.now }
 {
     for subdisk in subdisks {
@@ -39,7 +42,7 @@ fn push_subdisks(runs: &mut Runs, subdisks: &[Subdisk])
 }
 
 fn push_plexes(runs: &mut Runs, plexes: &[PlexEntry])
-    requires { length runs.old.items + sum_by plex_subdisks plexes.now ≤ 1088 }
+    requires { length runs.old.items + sum_by plex_subdisks plexes.now ≤ MOST_RUNS }
     ensures { runs.new.items ≡ runs.old.items ++ flat_map plex_runs plexes.now }
 {
     for plex in plexes {
@@ -48,7 +51,7 @@ fn push_plexes(runs: &mut Runs, plexes: &[PlexEntry])
 }
 
 fn push_volume(runs: &mut Runs, volume: &VolumeEntry)
-    requires { length runs.old.items + volume_room volume.now ≤ 1088 }
+    requires { length runs.old.items + volume_room volume.now ≤ MOST_RUNS }
     ensures { runs.new.items ≡ runs.old.items ++ volume_runs volume.now }
 {
     push_plexes(runs, volume.plexes.as_slice());
@@ -57,7 +60,7 @@ fn push_volume(runs: &mut Runs, volume: &VolumeEntry)
 }
 
 fn push_volumes(runs: &mut Runs, volumes: &[VolumeEntry])
-    requires { length runs.old.items + sum_by volume_room volumes.now ≤ 1088 }
+    requires { length runs.old.items + sum_by volume_room volumes.now ≤ MOST_RUNS }
     ensures { runs.new.items ≡ runs.old.items ++ flat_map volume_runs volumes.now }
 {
     for volume in volumes {
@@ -67,7 +70,7 @@ fn push_volumes(runs: &mut Runs, volumes: &[VolumeEntry])
 
 #[tactic(auto, unfolding(crate::specs::Checks::runs))]
 fn runs_of(config: &Config) -> Runs
-    requires { subdisk_count config.now ≤ 1024 }
+    requires { subdisk_count config.now ≤ MOST_SUBDISKS }
     ensures { result.items ≡ runs_is config.now }
 {
     let mut runs = Runs::new();
@@ -119,7 +122,7 @@ fn all_in_region(disks: &[DiskEntry], runs: &[Subdisk]) -> bool
 
 /// Whether all subdisks and logs lie in the public regions of disks that there are, and no two overlap.
 pub fn are_placed(config: &Config) -> bool
-    requires { subdisk_count config.now ≤ 1024 }
+    requires { subdisk_count config.now ≤ MOST_SUBDISKS }
     ensures { result ≡ are_placed_is config.now }
 {
     let runs = runs_of(config);

@@ -36,7 +36,7 @@ fn left_by_volumes(volumes: &[VolumeEntry], room: usize) -> Option<usize>
 
 /// There are at most 1,024 subdisks.
 pub fn has_few_subdisks(config: &Config) -> bool
-    ensures { result ≡ nat_le (subdisk_count config.now) 1024 }
+    ensures { result ≡ nat_le (subdisk_count config.now) MOST_SUBDISKS }
 {
     left_by_volumes(config.volumes.as_slice(), MOST_SUBDISKS).is_some()
 }

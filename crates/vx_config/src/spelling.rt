@@ -4,6 +4,7 @@ ghost use Rattle.vx_config.specs.Configs.{CanSpell, UnitsFit, spelled};
 ghost use Rattle.vx_config.specs.Forms.{flag as flag_form, number, optional, counted};
 ghost use Rattle.vx_config.specs.Pages.{onto};
 ghost use Rattle.vx_config.specs.Table.{disk as disk_form, subdisk as subdisk_form, log as log_form, plex as plex_form, state as state_form, ways as ways_form, volume as volume_form, units as units_form, format_1, preferred_number as preferred_number_is};
+ghost use Rattle.vx_model.specs.declared.limits.TheConstants.{MOST_DATA_VOLUMES, MOST_DISKS, MOST_VOLUMES};
 
 use crate::page::Page;
 use crate::{Config, DiskEntry, LogEntry, PlexEntry, Subdisk, VolumeEntry};
@@ -43,8 +44,8 @@ fn put_disk(page: &mut Page, disk: &DiskEntry)
 }
 
 fn put_disks(page: &mut Page, disks: &[DiskEntry])
-    requires { length disks.now ≤ 8 }
-    ensures { page.new ≡ onto page.old ((counted 1 8 disk_form).spell disks.now) }
+    requires { length disks.now ≤ MOST_DISKS }
+    ensures { page.new ≡ onto page.old ((counted 1 MOST_DISKS disk_form).spell disks.now) }
 {
     page.u8(disks.len() as u8);
     for disk in disks {
@@ -148,8 +149,8 @@ fn put_volume(page: &mut Page, volume: &VolumeEntry)
 }
 
 fn put_volumes(page: &mut Page, volumes: &[VolumeEntry])
-    requires { length volumes.now ≤ 32 }
-    ensures { page.new ≡ onto page.old ((counted 0 32 volume_form).spell volumes.now) }
+    requires { length volumes.now ≤ MOST_VOLUMES }
+    ensures { page.new ≡ onto page.old ((counted 0 MOST_VOLUMES volume_form).spell volumes.now) }
 {
     page.u8(volumes.len() as u8);
     for volume in volumes {
@@ -158,9 +159,9 @@ fn put_volumes(page: &mut Page, volumes: &[VolumeEntry])
 }
 
 fn put_numbers(page: &mut Page, numbers: &[u32])
-    requires few { length numbers.now ≤ 30 }
+    requires few { length numbers.now ≤ MOST_DATA_VOLUMES }
     requires fit { All (λ n. n < 256) numbers.now }
-    ensures { page.new ≡ onto page.old ((counted 0 30 (number 1)).spell numbers.now) }
+    ensures { page.new ≡ onto page.old ((counted 0 MOST_DATA_VOLUMES (number 1)).spell numbers.now) }
 {
     page.u8(numbers.len() as u8);
     for number in numbers {

@@ -1,6 +1,7 @@
 // The volumes of a group.
 ghost use Rattle.std.specs.Prelude.{◌≡◌, ◌<◌, ◌≤◌, [], ◌∷◌, ◌++◌, length, option_to_list, IsSome, ◌↔◌, OnOk};
 ghost use Rattle.vx_config.specs.Changes.{changed_at, lost_as as lost_is, with_lost, with_plex};
+ghost use Rattle.vx_model.specs.declared.limits.TheConstants.{MOST_VOLUMES};
 
 use crate::{LogEntry, VolumeEntry, VolumeLog};
 use std::alloc::Global;
@@ -31,12 +32,13 @@ pub struct Volumes {
 impl Model for Volumes {
     ghost use Rattle.std.specs.Prelude.{List, ◌≤◌, length};
     ghost use Rattle.vx_config.specs.declared.entry.VolumeEntry.{VolumeEntry};
+    ghost use Rattle.vx_model.specs.declared.limits.TheConstants.{MOST_VOLUMES};
 
     ghost Value = { List VolumeEntry };
 
     ghost view = { λ l. l.volumes.items };
 
-    ghost invariant = { λ l. length l.volumes.items ≤ 32 };
+    ghost invariant = { λ l. length l.volumes.items ≤ MOST_VOLUMES };
 }
 
 impl Volumes {
@@ -51,7 +53,7 @@ impl Volumes {
 
     /// Adds a volume after the others.
     pub fn push(&mut self, volume: VolumeEntry) -> Result<(), OutOfMemory>
-        requires room { length self.old < 32 }
+        requires room { length self.old < MOST_VOLUMES }
         ensures { OnOk result (self.new ≡ self.old ++ volume ∷ []) }
     {
         self.volumes.push(volume)?;
@@ -92,7 +94,7 @@ impl Volumes {
     /// The volumes, in order.
     pub fn as_slice(&self) -> &[VolumeEntry]
         ensures volumes { result.now ≡ self.now }
-        ensures few { length self.now ≤ 32 }
+        ensures few { length self.now ≤ MOST_VOLUMES }
     {
         &self.volumes
     }

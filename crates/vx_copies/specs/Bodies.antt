@@ -1,5 +1,6 @@
 -- Which bodies are configurations of the disks of a shelf.
 use Rattle.std.specs.Prelude.{ℕ, ◌+◌, ◌-◌, ◌*◌, ◌/◌, ◌≤◌, Bool, true, false, ◌&&◌, ◌==◌, if◌then◌else◌, Option, Some, None, Result, Ok, Err, List, [], ◌∷◌, ◌++◌, length, map, slice_index_or}
+use Rattle.vx_model.specs.declared.limits.TheConstants.{MOST_DISKS}
 use Rattle.vx_wire.specs.Fields.{zeros}
 use Rattle.vx_config.specs.Checks.{is_sound}
 use Rattle.vx_config.specs.Configs.{spelled}
@@ -46,7 +47,7 @@ failed_in c disk = slice_index_or (map (λ d. d.failed) c.disks) disk false
 -- a configuration that was read has at most 8 disks
 abbrev pub HasFewDisks : Option Config → Type 0
 HasFewDisks None = Unit {0}
-HasFewDisks (Some c) = length c.disks ≤ 8
+HasFewDisks (Some c) = length c.disks ≤ MOST_DISKS
 
 -- the bytes of the whole blocks of its body
 abbrev pub body_bytes : Config → ℕ

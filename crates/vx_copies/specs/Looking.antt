@@ -1,5 +1,6 @@
 -- What the reading of a disk shows.
 use Rattle.std.specs.Prelude.{◌≡◌, ◌≢◌, ℕ, ◌+◌, ◌*◌, ◌≤◌, IsTrue, if◌then◌else◌, Option, Some, None, List, length, take}
+use Rattle.vx_model.specs.declared.limits.TheConstants.{MOST_DISKS}
 use Rattle.vx_disk.specs.Counts.{Rose}
 use Rattle.vx_disk.specs.Shelf.{Meaning, Covers, piece}
 use Rattle.vx_copyfmt.specs.Copies.{Disk, Copy, Body, Holds, Differs, copy_at, copy_of, copy_with}
@@ -27,7 +28,7 @@ copy_view (Some x) = Some (record { serial = x.serial; area = x.area; body = bod
 
 -- a configuration that was seen has as many disks as there are units, and at most 8
 abbrev pub FitsBody : ℕ → BodySeen → Type 0
-FitsBody units (body.Holds c) = (length c.disks ≡ units) × (length c.disks ≤ 8)
+FitsBody units (body.Holds c) = (length c.disks ≡ units) × (length c.disks ≤ MOST_DISKS)
 FitsBody units (body.Differs stored computed) = Unit {0}
 
 abbrev pub Fits : ℕ → Option CopySeen → Type 0

@@ -1,5 +1,6 @@
 -- What was found on the disks so far.
 use Rattle.std.specs.Prelude.{◌≡◌, ℕ, ◌<◌, ◌≤◌, Bool, true, false, IsTrue, Option, Some, None}
+use Rattle.vx_model.specs.declared.limits.TheConstants.{MOST_DISKS}
 use Rattle.vx_disk.specs.Counts.{Rose}
 use Rattle.vx_disk.specs.Shelf.{Meaning, Image}
 use Rattle.vx_copyfmt.specs.Copies.{Copy}
@@ -47,5 +48,5 @@ pub record Searched (n : ℕ) (old new : Meaning) (s : Search) : Type 0 where
   pub alone : (u : ℕ) → n ≤ u → new.faults u ≡ old.faults u
   pub format : strange readable image n ≡ s.format
   pub best : newest (on_shelf old) readable image n ≡ best_view s.best
-  pub flags : (u : ℕ) → u < n → u < 8 → flag_at s.readable u ≡ readable u
+  pub flags : (u : ℕ) → u < n → u < MOST_DISKS → flag_at s.readable u ≡ readable u
   pub fits : FitsBest old.units s.best

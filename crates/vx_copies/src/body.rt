@@ -1,6 +1,7 @@
 // The bodies of copies.
 ghost use Rattle.std.specs.Prelude.{◌≡◌, ◌≤◌, length, IfOk, IsTrue};
 ghost use Rattle.vx_copies.specs.Bodies.{HasFewDisks, fits_units, is_wanted, reads_in};
+ghost use Rattle.vx_model.specs.declared.limits.TheConstants.{MOST_DISKS};
 
 use std::alloc::Global;
 use vx_config::{Config, ConfigStop, check, decode};
@@ -10,7 +11,7 @@ use vx_model::OutOfMemory;
 // Whether a configuration has as many disks as there are units, each with its unit's blocks.
 fn fits_units<S: Shelf>(shelf: &S, config: &Config) -> bool
     ensures fits { result ≡ fits_units (S.meaning shelf.now).units (S.meaning shelf.now).size config.now }
-    ensures few { length config.now.disks ≤ 8 }
+    ensures few { length config.now.disks ≤ MOST_DISKS }
 {
     let disks = config.disks.as_slice();
     if disks.len() != shelf.units() as usize {
@@ -27,7 +28,7 @@ fn fits_units<S: Shelf>(shelf: &S, config: &Config) -> bool
 // Whether a configuration is sound, and is one of these units.
 pub fn is_wanted<S: Shelf>(shelf: &S, config: &Config) -> bool
     ensures wanted { result ≡ is_wanted (S.meaning shelf.now).units (S.meaning shelf.now).size config.now }
-    ensures few { IsTrue result → length config.now.disks ≤ 8 }
+    ensures few { IsTrue result → length config.now.disks ≤ MOST_DISKS }
 {
     check(config) && fits_units(shelf, config)
 }

@@ -10,6 +10,7 @@ ghost use Rattle.vx_disk.specs.Burns.{MakesCalls};
 ghost use Rattle.vx_model.specs.declared.errors.Stop.TheVariants.{OutOfMemory as MemoryStop, No as Refused};
 ghost use Rattle.vx_model.specs.declared.no.Counted.TheVariants.{Number};
 ghost use Rattle.vx_model.specs.declared.no.No.TheVariants.{Limit};
+ghost use Rattle.vx_model.specs.declared.limits.TheConstants.{MOST_SUBDISKS};
 
 use crate::Room;
 use crate::committing::try_all;
@@ -40,10 +41,10 @@ pub fn commit_in<S: Shelf>(
 ) -> Result<(), No>
     requires large { AreLarge (S.meaning shelf.old) }
     requires can { CanSpell config.old }
-    requires short { subdisk_count config.old ≤ 1024 }
+    requires short { subdisk_count config.old ≤ MOST_SUBDISKS }
     requires wanted { is_wanted (S.meaning shelf.old).units (S.meaning shelf.old).size config.old ≡ true }
     ensures can { CanSpell config.new }
-    ensures short { subdisk_count config.new ≤ 1024 }
+    ensures short { subdisk_count config.new ≤ MOST_SUBDISKS }
     ensures wanted { is_wanted (S.meaning shelf.new).units (S.meaning shelf.new).size config.new ≡ true }
     ensures begins { Begins (IsTry config.old config.new.serial (S.meaning shelf.old) (S.meaning shelf.new)) config.old (S.meaning shelf.old) (S.meaning shelf.new) }
     ensures finds { Finds good (IsTry config.old config.new.serial (S.meaning shelf.old) (S.meaning shelf.new)) config.old (S.meaning shelf.old) (S.meaning shelf.new) }
@@ -78,10 +79,10 @@ pub fn commit<S: Shelf>(
 ) -> Result<(), Stop>
     requires large { AreLarge (S.meaning shelf.old) }
     requires can { CanSpell config.old }
-    requires short { subdisk_count config.old ≤ 1024 }
+    requires short { subdisk_count config.old ≤ MOST_SUBDISKS }
     requires wanted { is_wanted (S.meaning shelf.old).units (S.meaning shelf.old).size config.old ≡ true }
     ensures can { CanSpell config.new }
-    ensures short { subdisk_count config.new ≤ 1024 }
+    ensures short { subdisk_count config.new ≤ MOST_SUBDISKS }
     ensures wanted { is_wanted (S.meaning shelf.new).units (S.meaning shelf.new).size config.new ≡ true }
     ensures begins { Begins (IsTry config.old config.new.serial (S.meaning shelf.old) (S.meaning shelf.new)) config.old (S.meaning shelf.old) (S.meaning shelf.new) }
     ensures finds { Finds good (IsTry config.old config.new.serial (S.meaning shelf.old) (S.meaning shelf.new)) config.old (S.meaning shelf.old) (S.meaning shelf.new) }

@@ -7,6 +7,7 @@ ghost use Rattle.vx_copies.specs.Bodies.{is_wanted};
 ghost use Rattle.vx_copies.specs.Commits.{NamesLast, TriesEnd, TryEnds, Underway, lowest_member};
 ghost use Rattle.vx_disk.specs.Burns.{MakesCalls};
 ghost use Rattle.vx_copies.specs.Marks.{HasGood, NoneGood, good_count};
+ghost use Rattle.vx_model.specs.declared.limits.TheConstants.{MOST_SUBDISKS};
 
 use crate::{has_good, mark, put_config};
 use vx_config::{Config, is_short};
@@ -23,13 +24,13 @@ fn try_next<S: Shelf>(
 ) -> Result<(), ShelfError>
     requires large { AreLarge (S.meaning shelf.old) }
     requires can { CanSpell config.old }
-    requires short { subdisk_count config.old ≤ 1024 }
+    requires short { subdisk_count config.old ≤ MOST_SUBDISKS }
     requires wanted { is_wanted (S.meaning shelf.old).units (S.meaning shelf.old).size config.old ≡ true }
     requires room { length room.old ≡ 65024 }
     requires more { config.old.serial < greatest }
     requires some { HasGood config.old.disks good }
     ensures can { CanSpell config.new }
-    ensures short { subdisk_count config.new ≤ 1024 }
+    ensures short { subdisk_count config.new ≤ MOST_SUBDISKS }
     ensures wanted { is_wanted (S.meaning shelf.new).units (S.meaning shelf.new).size config.new ≡ true }
     ensures serial { config.new.serial ≡ config.old.serial + 1 }
     ensures underway { Underway good config.old config.new (S.meaning shelf.old) (S.meaning shelf.new) }
@@ -74,12 +75,12 @@ pub fn try_all<S: Shelf>(
 ) -> Result<(), No>
     requires large { AreLarge (S.meaning shelf.old) }
     requires can { CanSpell config.old }
-    requires short { subdisk_count config.old ≤ 1024 }
+    requires short { subdisk_count config.old ≤ MOST_SUBDISKS }
     requires wanted { is_wanted (S.meaning shelf.old).units (S.meaning shelf.old).size config.old ≡ true }
     requires room { length room.old ≡ 65024 }
     requires more { config.old.serial < greatest }
     ensures can { CanSpell config.new }
-    ensures short { subdisk_count config.new ≤ 1024 }
+    ensures short { subdisk_count config.new ≤ MOST_SUBDISKS }
     ensures wanted { is_wanted (S.meaning shelf.new).units (S.meaning shelf.new).size config.new ≡ true }
     ensures underway { Underway good config.old config.new (S.meaning shelf.old) (S.meaning shelf.new) }
     ensures ends { TriesEnd good config.old config.new (S.meaning shelf.old) (S.meaning shelf.new) result }

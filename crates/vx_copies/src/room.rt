@@ -2,6 +2,7 @@
 ghost use Rattle.std.specs.Prelude.{◌≡◌, ◌≤◌, IfOk};
 ghost use Rattle.vx_config.specs.Configs.{CanSpell, subdisk_count};
 ghost use Rattle.vx_copies.specs.Bodies.{body_bytes};
+ghost use Rattle.vx_model.specs.declared.limits.TheConstants.{MOST_SUBDISKS};
 
 use std::alloc::Global;
 use std::marker::Model;
@@ -31,7 +32,7 @@ impl Room {
     /// Room for a configuration, and for any other that can be written to a configuration area.
     pub fn new(alloc: Global, config: &Config) -> Result<Room, OutOfMemory>
         requires can { CanSpell config.now }
-        requires short { subdisk_count config.now ≤ 1024 }
+        requires short { subdisk_count config.now ≤ MOST_SUBDISKS }
         ensures { IfOk result (λ room. body_bytes config.now ≤ room) }
     {
         is_short(config);

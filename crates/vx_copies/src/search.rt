@@ -14,6 +14,7 @@ use crate::{CopySeen, DiskSeen};
 use std::alloc::Global;
 use vx_disk::Shelf;
 use vx_model::OutOfMemory;
+use vx_model::limits::{DISK_PLACES, MOST_DISKS};
 
 /// The greatest copy so far, with its disk.
 #[derive(Drop)]
@@ -26,17 +27,17 @@ pub struct Best {
 /// and the greatest copy.
 #[derive(Drop)]
 pub struct Search {
-    pub readable: [bool; 8],
+    pub readable: [bool; DISK_PLACES],
     pub format: Option<u32>,
     pub best: Option<Best>,
 }
 
 // The flags with that of a disk set.
-fn flagged(flags: [bool; 8], disk: u32, on: bool) -> [bool; 8]
-    ensures { (u : ℕ) → u < 8 → flag_at result u ≡ (if u == disk then on else flag_at flags u) }
+fn flagged(flags: [bool; DISK_PLACES], disk: u32, on: bool) -> [bool; DISK_PLACES]
+    ensures { (u : ℕ) → u < MOST_DISKS → flag_at result u ≡ (if u == disk then on else flag_at flags u) }
 {
     let mut flags = flags;
-    if disk < 8 {
+    if disk < MOST_DISKS {
         flags[disk as usize] = on;
     }
     flags
@@ -75,7 +76,7 @@ impl Search {
     fn with(self, disk: u32, seen: DiskSeen) -> Search
         ensures format { result.format ≡ first_of self.format (seen_format seen) }
         ensures best { best_view result.best ≡ later (best_view self.best) (seen_view disk seen) }
-        ensures flags { (u : ℕ) → u < 8 → flag_at result.readable u ≡ (if u == disk then seen_readable seen else flag_at self.readable u) }
+        ensures flags { (u : ℕ) → u < MOST_DISKS → flag_at result.readable u ≡ (if u == disk then seen_readable seen else flag_at self.readable u) }
         ensures fits { (units : ℕ) → FitsBest units self.best → FitsDisk units seen → FitsBest units result.best }
     {
         match seen {
@@ -113,7 +114,7 @@ pub fn search_all<S: Shelf>(
     ensures disks { OnDisks (S.meaning shelf.old).disks (S.meaning shelf.new).disks Untouched }
 {
     let mut found = Search {
-        readable: [false; 8],
+        readable: [false; DISK_PLACES],
         format: None,
         best: None,
     };

@@ -9,9 +9,10 @@ use crate::BodySeen;
 use crate::search::Search;
 use vx_config::{Config, DiskEntry, Disks};
 use vx_model::No;
+use vx_model::limits::DISK_PLACES;
 
 // The lowest disk that is held as good and could not be read.
-fn lowest_missing(config: &Config, readable: &[bool; 8]) -> Option<u32>
+fn lowest_missing(config: &Config, readable: &[bool; DISK_PLACES]) -> Option<u32>
     ensures { result ≡ missing (failed_in config.now) (flag_at readable.now) (length config.now.disks) }
 {
     let disks = config.disks.as_slice();
@@ -38,7 +39,7 @@ pub fn good_of(disks: &Disks) -> u8
 }
 
 // The disks, of which those that could be read are held as good again.
-fn returned_disks(disks: &Disks, readable: &[bool; 8]) -> Disks
+fn returned_disks(disks: &Disks, readable: &[bool; DISK_PLACES]) -> Disks
     ensures { result ≡ returned_from (flag_at readable.now) 0 disks.now }
 {
     let old = disks.as_slice();
@@ -54,7 +55,7 @@ fn returned_disks(disks: &Disks, readable: &[bool; 8]) -> Disks
 }
 
 // A configuration with its returned disks held as good again, and the disks that it held as good.
-fn settled(config: Config, readable: &[bool; 8]) -> Result<(Config, u8), No>
+fn settled(config: Config, readable: &[bool; DISK_PLACES]) -> Result<(Config, u8), No>
     ensures { result ≡ answer_of (flag_at readable.now) (settle failed_in (length config.disks) (flag_at readable.now) config) }
 {
     match lowest_missing(&config, readable) {

@@ -5,6 +5,7 @@ ghost use Rattle.vx_copyfmt.specs.Areas.{CanSpellArea};
 ghost use Rattle.vx_copies.specs.Bodies.{body_bytes, body_of};
 ghost use Rattle.vx_wire.specs.Places.{put_at};
 ghost use Rattle.vx_wire.specs.Seals.{digest_of};
+ghost use Rattle.vx_model.specs.declared.limits.TheConstants.{MOST_SUBDISKS};
 
 use vx_config::{Config, encode_into, is_short};
 use vx_copyfmt::AreaHeader;
@@ -14,7 +15,7 @@ use vx_wire::{digest, put_zeros};
 /// the bytes of its blocks. It takes no memory.
 pub fn spell(config: &Config, room: &mut [u8]) -> (AreaHeader, usize)
     requires can { CanSpell config.now }
-    requires short { subdisk_count config.now ≤ 1024 }
+    requires short { subdisk_count config.now ≤ MOST_SUBDISKS }
     requires room { body_bytes config.now ≤ length room.old }
     ensures can { CanSpellArea result.0 }
     ensures serial { result.0.serial ≡ config.now.serial }

@@ -10,6 +10,7 @@ ghost use Rattle.vx_copies.specs.Tries.{AllThis, GoodBefore, Tried, TryStops};
 ghost use Rattle.vx_copies.specs.Marks.{good_count};
 ghost use Rattle.vx_disk.specs.Blocks.{bit_at};
 ghost use Rattle.vx_disk.specs.Burns.{MakesCalls};
+ghost use Rattle.vx_model.specs.declared.limits.TheConstants.{MOST_SUBDISKS};
 
 use crate::settle::good_of;
 use crate::spell;
@@ -27,7 +28,7 @@ pub fn put_config<S: Shelf>(
 ) -> Result<(), CopyFailed>
     requires large { AreLarge (S.meaning shelf.old) }
     requires can { CanSpell config.now }
-    requires short { subdisk_count config.now ≤ 1024 }
+    requires short { subdisk_count config.now ≤ MOST_SUBDISKS }
     requires wanted { is_wanted (S.meaning shelf.old).units (S.meaning shelf.old).size config.now ≡ true }
     requires room { body_bytes config.now ≤ length room.old }
     ensures tried { Tried (IsMember (bit_at (good_set config.now.disks)) (S.meaning shelf.old).units) config.now (S.meaning shelf.old) (S.meaning shelf.new) }

@@ -6,7 +6,9 @@ use Rattle.vx_model.specs.Sites.{is_origin, same_line}
 use Rattle.vx_history.specs.Steps.{crashed, crash_left, recovered, session_begun, written, half_written}
 use Rattle.vx_history.specs.Admission.{is_fail, hold, change, changed_mode, admit, Admitted, Held_by, Goes}
 use Rattle.vx_history.specs.Sending.{Sent, sent_step}
-use Rattle.vx_history.specs.Receiving.{received_step, takes}
+use Rattle.vx_history.specs.Receiving.{received_step}
+use Rattle.vx_history.specs.Gatherings.{completes, gathered, emptied}
+use Rattle.vx_model.specs.declared.limits.TheConstants.{MOST_PACKETS}
 use Rattle.vx_history.specs.LinkForms.{plain_link, with_plain, plain_receiver}
 use Rattle.vx_model.specs.declared.history.Line.{Line}
 use Rattle.vx_model.specs.declared.site.Role.TheVariants.{Secondary}
@@ -31,7 +33,7 @@ use Rattle.vx_history.specs.declared.receiver.RAction.TheVariants.{Nothing as Do
 use Rattle.vx_model.specs.declared.no.No.TheVariants.{Unknown, Role as WrongRole, Device, NoConfig, Unconfirmed}
 use Rattle.vx_model.specs.declared.no.Named.TheVariants.{Number as ByNumber}
 use Rattle.vx_history.specs.declared.event.Said.{Said}
-use Rattle.vx_history.specs.declared.event.Said.TheVariants.{DoneAt, Logged, Pending, Taken as IsTaken, Ignored as IsIgnored, Recovered, Refused}
+use Rattle.vx_history.specs.declared.event.Said.TheVariants.{Done, DoneAt, Logged, Pending, Got, Taken as IsTaken, Ignored as IsIgnored, Recovered, Refused}
 use Rattle.vx_history.specs.Sends.{is_linked, with_link, with_links, sending, promising, packets_of, sent_by, greeting}
 use Rattle.vx_history.specs.Refusals.{Outcome, says, refused, unless, unless_at_most, is_running, keeps_links, some_below, why_held, holds_back, is_unconfirmed, is_waited_for}
 use Rattle.vx_model.specs.Sites.{is_up}
@@ -161,12 +163,17 @@ with_write n x = record n { log = n.log ++ x ∷ [] }
 abbrev pub from_memory : World → Node → Packet → ℕ → World
 from_memory w n p number = sending w (packets_of p.target p.source n.line (NetAck n.session number))
 
--- by what the rule of a receiver says of an update
+-- an update that is whole is taken and acknowledged; of one that is not the part is kept
+abbrev pub taken_if : (whole : Bool) → World → Packet → Write → (number : ℕ) → Outcome
+taken_if true w p x number = says (from_memory (with_node w p.target (with_write (w.nodes p.target) x)) (w.nodes p.target) p number) IsTaken
+taken_if false w p x number = says w IsTaken
+
+-- By what the rule of a receiver says of an update, which it says by the header of any of its packets.
 abbrev pub update_taken : World → Packet → Write → RAction → Outcome
 update_taken w p x DoesNothing = says w IsIgnored
 update_taken w p x Ignores = says w IsIgnored
 update_taken w p x (IgnoredAck number) = says (from_memory w (w.nodes p.target) p number) IsIgnored
-update_taken w p x (Take number) = says (from_memory (with_node w p.target (with_write (w.nodes p.target) x)) (w.nodes p.target) p number) IsTaken
+update_taken w p x (Take number) = taken_if (completes (w.gathering p.target) p) w p x number
 update_taken w p x (AcksFromDisk number) = says w IsIgnored
 
 abbrev pub update_heard : World → Packet → (number : ℕ) → Write → Outcome
@@ -196,29 +203,38 @@ heard w p (Update number x) = update_heard w p number x
 heard w p (NetAck session number) = link_heard w p (HearNetAck session number)
 heard w p (DataAck number) = link_heard w p (HearDataAck number)
 
--- a part of an update that could be taken is kept, and any other ignored: messages of one packet are whole with it
-abbrev pub said_of_part : Node → Line → Message → Said
-said_of_part n line (Hello session number stored) = IsIgnored
-said_of_part n line (Update number x) = if not (is_origin n.role) && takes (plain_receiver n) line number then IsTaken else IsIgnored
-said_of_part n line (NetAck session number) = IsIgnored
-said_of_part n line (DataAck number) = IsIgnored
+-- a packet is ignored where its target is not up or is halted
+abbrev pub handed : World → Packet → Outcome
+handed w p =
+    if is_up (w.nodes p.target).state && is_running (w.nodes p.target).halted then heard w p p.message else says w IsIgnored
 
--- A packet is ignored where its target is not up or is halted. One that leaves its message without another part changes nothing
--- but what is in assembly.
-abbrev pub handed : World → Packet → Bool → Outcome
-handed w p whole =
-    if is_up (w.nodes p.target).state && is_running (w.nodes p.target).halted
-    then (if whole then heard w p p.message else says w (said_of_part (w.nodes p.target) p.line p.message))
-    else says w IsIgnored
+abbrev pub is_taken : Said → Bool
+is_taken Done = false
+is_taken (DoneAt number) = false
+is_taken (Logged number) = false
+is_taken (Pending number) = false
+is_taken (Got bytes) = false
+is_taken IsTaken = true
+is_taken IsIgnored = false
+is_taken (Recovered number) = false
+is_taken (Refused why) = false
 
-abbrev pub delivered : World → (number : ℕ) → Bool → Option Packet → Outcome
-delivered w number whole None = refused w (Unknown (ByNumber number))
-delivered w number whole (Some p) = handed w p whole
+-- what is taken or kept takes the one place of assembly, and what is ignored leaves it as it was
+abbrev pub gathered_if : Bool → World → Packet → World
+gathered_if true w p = gathered w p
+gathered_if false w p = w
 
--- the packet of this number, the first of which is number 1
+abbrev pub gathers : Packet → Outcome → Outcome
+gathers p o = says (gathered_if (is_taken o.said) o.world p) o.said
+
+abbrev pub delivered : World → (number : ℕ) → Option Packet → Outcome
+delivered w number None = refused w (Unknown (ByNumber number))
+delivered w number (Some p) = gathers p (handed w p)
+
+-- the packet of this number, the first of which is number 1; the network keeps the newest alone
 abbrev pub packet_at : List Packet → ℕ → Option Packet
 packet_at ps zero = None
-packet_at ps (suc k) = slice_get ps k
+packet_at ps (suc k) = if leb (suc k + MOST_PACKETS) (length ps) then None else slice_get ps k
 
 -- ## Waiting for a write to be confirmed
 
@@ -256,7 +272,7 @@ abbrev pub crash_world : World → ℕ → ℕ → World
 crash_world w s k = if is_origin (w.nodes s).role then crash_left w s k else with_node w s (crashed (w.nodes s) k)
 
 abbrev pub crash_at : World → ℕ → ℕ → World
-crash_at w s k = with_links (crash_world w s k) s (λ to. lost_touch (w.links s to))
+crash_at w s k = emptied (with_links (crash_world w s k) s (λ to. lost_touch (w.links s to))) s
 
 -- a site comes up again; a receiver may be consistent then, by the rule of receivers
 abbrev pub come_back : Node → Node

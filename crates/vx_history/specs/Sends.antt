@@ -1,5 +1,5 @@
--- Links and packets of a world, with one more or another in place.
-use Rattle.std.specs.Prelude.{ℕ, ◌+◌, ◌/◌, pred, List, [], ◌∷◌, ◌++◌, length, take, drop, replicate, Bool, true, false, Option, Some, None}
+-- Links and packets of a world, with one more or another in place, and the parts of messages.
+use Rattle.std.specs.Prelude.{ℕ, ◌+◌, ◌/◌, zero, suc, pred, List, [], ◌∷◌, ◌++◌, length, take, drop, Bool, true, false, Option, Some, None}
 use Rattle.vx_model.specs.Content.{Write}
 use Rattle.vx_history.specs.World.{Node, Link, Message, Packet, Promise, World, Hello, Update, NetAck, DataAck, updated}
 use Rattle.vx_model.specs.declared.history.Line.{Line}
@@ -39,12 +39,22 @@ payload_size (DataAck number) = 0
 abbrev pub further_parts : Message → ℕ
 further_parts m = pred ((payload_size m + 1023) / 1024)
 
--- The packets of a message: each stands for the whole message, and which part it carries is a matter of its bytes.
-abbrev pub packet : (source target : ℕ) → Line → Message → Packet
-packet source target line m = record { source = source; target = target; line = line; message = m }
+-- in how many parts a message goes
+abbrev pub parts_of : Message → ℕ
+parts_of m = suc (further_parts m)
 
+-- the packet of a part
+abbrev pub packet : (source target : ℕ) → Line → Message → (part : ℕ) → Packet
+packet source target line m part = record { source = source; target = target; line = line; message = m; part = part }
+
+-- so many packets of a message, from this part on
+abbrev pub packets_from : (source target : ℕ) → Line → Message → (part count : ℕ) → List Packet
+packets_from source target line m part zero = []
+packets_from source target line m part (suc k) = packet source target line m part ∷ packets_from source target line m (part + 1) k
+
+-- the packets of a message, one for each part
 abbrev pub packets_of : (source target : ℕ) → Line → Message → List Packet
-packets_of source target line m = packet source target line m ∷ replicate (further_parts m) (packet source target line m)
+packets_of source target line m = packets_from source target line m 0 (parts_of m)
 
 -- these writes as updates, the first under this number
 abbrev pub updates : (source target : ℕ) → Line → (number : ℕ) → List Write → List Packet

@@ -1,7 +1,9 @@
 -- What each event makes of a world, and what is then said.
-use Rattle.std.specs.Prelude.{ℕ, Bool, not, ◌&&◌, List, [], ◌∷◌, ◌++◌, Option, if◌then◌else◌}
+use Rattle.std.specs.Prelude.{ℕ, ◌+◌, Bool, not, ◌&&◌, List, [], ◌∷◌, ◌++◌, Option, if◌then◌else◌}
 use Rattle.vx_model.specs.Content.{Write, blocks_in, blocks_from}
 use Rattle.vx_history.specs.World.{World, with_node}
+use Rattle.vx_history.specs.Headers.{headers_by}
+use Rattle.vx_history.specs.Gatherings.{emptied}
 use Rattle.vx_model.specs.Sites.{is_origin}
 use Rattle.vx_model.specs.Answer.{is_too_large}
 use Rattle.vx_history.specs.Receiving.{phase_takes}
@@ -41,7 +43,7 @@ write_at w p x fails =
 
 -- the events of a line that links s to p; each of the later ones follows the one before it
 abbrev pub link_part : LinkPart → World → ℕ → ℕ → SyncMode → Outcome
-link_part Joins w p s sync = may_join w p s (done (with_node w s (joined (w.nodes p) p (w.nodes s))))
+link_part Joins w p s sync = may_join w p s (done (emptied (with_node w s (joined (w.nodes p) p (w.nodes s))) s))
 link_part Made w p s sync =
     unless (not (is_primary (w.nodes p).role && follows w p s)) WrongRole w
     (unless (is_linked (w.links p s)) (Exists (w.nodes s).name) w (done (with_link w p s (new_link (links_of w p) sync (w.nodes s)))))
@@ -52,29 +54,38 @@ link_part Opened w p s sync =
     unless (not (is_primary (w.nodes p).role && (follows w p s && (is_linked (w.links p s) && (is_empty (w.nodes p).log && (is_stale (w.links p s).mode && (phase_takes (w.nodes s).phase && is_consistent (w.nodes s).mark))))))) WrongRole w
     (done (with_link w p s (opened (w.links p s) (w.nodes p).safe)))
 
-abbrev pub step : World → Event → Outcome
-step w (Site name disks blocks) = may_be_site w name disks blocks (done (site_made w name disks blocks))
-step w (Raw s) =
+-- what an event makes of a world, but for the count of headers
+abbrev pub outcome_of : World → Event → Outcome
+outcome_of w (Site name disks blocks) = may_be_site w name disks blocks (done (site_made w name disks blocks))
+outcome_of w (Raw s) =
     at_site w s
     (unless (not (is_bare (w.nodes s).state)) WrongRole w
     (unless (not (is_raw_shape (w.nodes s).disks (w.nodes s).blocks)) Size w (done (raw_made w s))))
-step w (WriteAt p volume start bytes fails) = write_at w p (record { volume = volume; start = start; bytes = bytes }) fails
-step w (Read p volume start count) = read_at w p volume start count
-step w (Apply s count reached) =
+outcome_of w (WriteAt p volume start bytes fails) = write_at w p (record { volume = volume; start = start; bytes = bytes }) fails
+outcome_of w (Read p volume start count) = read_at w p volume start count
+outcome_of w (Apply s count reached) =
     at_site w s (at_work w s (if is_origin (w.nodes s).role then reached_at w s count reached else apply_at w s count))
-step w (Pump p s) = on_link w p s (when_live w s (w.links p s) (done (link_event w p s PumpLink)))
-step w (Tick p s) = on_link w p s (done (link_event w p s TickLink))
-step w (Deliver number whole) = delivered w number whole (packet_at w.packets number)
-step w (Connect p s) = on_link w p s (done (sending (link_event w p s ConnectLink) (greeting_back w p s)))
-step w (Cut p s) = on_link w p s (done (link_event w p s CutLink))
-step w (Pause p s) = on_link w p s (done (link_event w p s PauseLink))
-step w (Resume p s) = on_link w p s (done (link_event w p s ResumeLink))
-step w (Wait p number) = at_site w p (at_work w p (unless (not (is_origin (w.nodes p).role)) WrongRole w (waited w p number)))
-step w (Link p s sync part) = at_site w p (at_site w s (both_at_work w p s (link_part part w p s sync)))
-step w (Set p s sync) = on_link_if is_origin w p s (done (with_link w p s (record (w.links p s) { sync = sync; prot = FailsWhenFull })))
-step w (Crash s kept) = at_site w s (unless (not (is_up (w.nodes s).state)) NotUp w (done (crash_at w s (kept_of (w.nodes s) kept))))
-step w (Recover s fails) = at_site w s (recover_from (w.nodes s).state w s fails)
-step w (Fault s disk) = at_site w s (unless (not (is_up (w.nodes s).state)) NotUp w (says (stopped_by w s disk) (Refused (Device disk))))
+outcome_of w (Pump p s) = on_link w p s (when_live w s (w.links p s) (done (link_event w p s PumpLink)))
+outcome_of w (Tick p s) = on_link w p s (done (link_event w p s TickLink))
+outcome_of w (Deliver number) = delivered w number (packet_at w.packets number)
+outcome_of w (Connect p s) = on_link w p s (done (sending (link_event w p s ConnectLink) (greeting_back w p s)))
+outcome_of w (Cut p s) = on_link w p s (done (link_event w p s CutLink))
+outcome_of w (Pause p s) = on_link w p s (done (link_event w p s PauseLink))
+outcome_of w (Resume p s) = on_link w p s (done (link_event w p s ResumeLink))
+outcome_of w (Wait p number) = at_site w p (at_work w p (unless (not (is_origin (w.nodes p).role)) WrongRole w (waited w p number)))
+outcome_of w (Link p s sync part) = at_site w p (at_site w s (both_at_work w p s (link_part part w p s sync)))
+outcome_of w (Set p s sync) = on_link_if is_origin w p s (done (with_link w p s (record (w.links p s) { sync = sync; prot = FailsWhenFull })))
+outcome_of w (Crash s kept) = at_site w s (unless (not (is_up (w.nodes s).state)) NotUp w (done (crash_at w s (kept_of (w.nodes s) kept))))
+outcome_of w (Recover s fails) = at_site w s (recover_from (w.nodes s).state w s fails)
+outcome_of w (Fault s disk) = at_site w s (unless (not (is_up (w.nodes s).state)) NotUp w (says (stopped_by w s disk) (Refused (Device disk))))
+
+-- the outcome with the headers counted
+abbrev pub counted : World → Event → Outcome → Outcome
+counted w e o = says (record o.world { headers = λ i. w.headers i + headers_by e w o i }) o.said
+
+-- what an event makes of a world
+abbrev pub step : World → Event → Outcome
+step w e = counted w e (outcome_of w e)
 
 -- the world after these events
 abbrev pub run : World → List Event → World

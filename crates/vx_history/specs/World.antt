@@ -1,4 +1,4 @@
--- Sites, the links between them, lines of history, and all that was ever sent or promised.
+-- Sites, the links between them, lines of history, what sites put together from parts, and all that was ever sent or promised.
 use Rattle.std.specs.Prelude.{[], ℕ, Bool, true, false, List, eqb, ◌&&◌, if◌then◌else◌, Option, None}
 use Rattle.vx_model.specs.Sites.{same_line, no_line}
 use Rattle.vx_model.specs.Content.{Write, Content, zeros}
@@ -83,6 +83,8 @@ pub record Node : Type 0 where
   pub fork_map : Option Regions
   -- the fuse of its disks
   pub fuse : Fuse
+  -- which of its disks are made to fail; no event sets it
+  pub failing : ℕ → Bool
 
 -- a link, and the place in which it was made among those of its site
 pub record Link : Type 0 where
@@ -109,11 +111,27 @@ pub data Message : Type 0 where
   NetAck : (session number : ℕ) → Message
   DataAck : (number : ℕ) → Message
 
+-- a packet carries one part of a message, the first of which is part 0
 pub record Packet : Type 0 where
   pub source : ℕ
   pub target : ℕ
   pub line : Line
   pub message : Message
+  pub part : ℕ
+
+-- what the parts of one message have in common: their source and line, the message's kind, session and number, and how many they are
+pub record Key : Type 0 where
+  pub source : ℕ
+  pub kind : ℕ
+  pub line : Line
+  pub session : ℕ
+  pub number : ℕ
+  pub parts : ℕ
+
+-- a message of which not all parts have come, and of each part whether it has
+pub record Gathering : Type 0 where
+  pub key : Key
+  pub came : List Bool
 
 -- by what a site keeps a promised number: by its disks, or as long as this session lasts
 pub data Surety : Type 0 where
@@ -134,6 +152,10 @@ pub record World : Type 0 where
   pub lines : Line → History
   pub packets : List Packet
   pub promised : List Promise
+  -- of each site the message in assembly
+  pub gathering : ℕ → Option Gathering
+  -- of each site how many headers were written to its log, but for those of its sessions' beginnings
+  pub headers : ℕ → ℕ
 
 abbrev pub no_volumes : Content
 no_volumes = zeros (λ v. 0)
@@ -166,6 +188,7 @@ bare_site name disks blocks = record {
   halted = None;
   fork_map = None;
   fuse = NoFuse;
+  failing = λ d. false;
 }
 
 abbrev pub no_link : Link
@@ -199,6 +222,8 @@ empty_world = record {
   lines = λ l. no_history;
   packets = [];
   promised = [];
+  gathering = λ i. None;
+  headers = λ i. 0;
 }
 
 -- f with this value at this place

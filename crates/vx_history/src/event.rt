@@ -58,10 +58,9 @@ pub enum Event {
         site: u32,
         to: u32,
     },
-    /// A packet is handed to its target. `whole` says whether its message is whole with it: a message may go in several packets.
+    /// A packet is handed to its target, which puts the parts of a message together.
     Deliver {
         packet: u64,
-        whole: bool,
     },
     Connect {
         site: u32,

@@ -19,8 +19,8 @@ fn spread(
     wanted: u64,
     found: &mut Vec<Subdisk>,
 ) -> Result<(), OutOfMemory>
-    requires rooms { AreRooms (room used.now disks.now found.old.items) 8 rooms.now }
-    requires enough { wanted ≤ room_sum (room used.now disks.now found.old.items) 0 8 }
+    requires rooms { AreRooms (room used.now disks.now found.old.items) DISK_PLACES rooms.now }
+    requires enough { wanted ≤ room_sum (room used.now disks.now found.old.items) 0 DISK_PLACES }
     ensures { OnOk result (AddsSpread used.now disks.now (room used.now disks.now found.old.items) wanted found.old.items found.new.items) }
 {
     let mut left = wanted;
@@ -40,7 +40,7 @@ fn place_several(
     wanted: u64,
     found: &mut Vec<Subdisk>,
 ) -> Result<(), Short>
-    requires rooms { AreRooms (room used.now disks.now found.old.items) 8 rooms.now }
+    requires rooms { AreRooms (room used.now disks.now found.old.items) DISK_PLACES rooms.now }
     requires none { HasNone (room used.now disks.now found.old.items) wanted }
     ensures { Ends (λ _. AddsWhole used.now disks.now wanted found.old.items found.new.items) (WholeShort used.now disks.now wanted found.old.items) result }
 {

@@ -42,7 +42,7 @@ fn room_of(used: &[Subdisk], disks: &[DiskEntry], found: &[Subdisk], disk: u8) -
 
 /// The free blocks of each disk that no run found before lies on.
 pub fn rooms_of(used: &[Subdisk], disks: &[DiskEntry], found: &[Subdisk]) -> [u64; DISK_PLACES]
-    ensures { AreRooms (room used.now disks.now found.now) 8 result }
+    ensures { AreRooms (room used.now disks.now found.now) DISK_PLACES result }
 {
     let mut rooms = [0; DISK_PLACES];
     for disk in 0..DISKS {
@@ -65,7 +65,7 @@ pub fn lowest_with(rooms: &[u64; DISK_PLACES], wanted: u64) -> Option<u8>
 
 /// The room of all disks together.
 pub fn total(rooms: &[u64; DISK_PLACES]) -> u128
-    ensures { result ≡ room_sum (slice_index rooms.now) 0 8 }
+    ensures { result ≡ room_sum (slice_index rooms.now) 0 DISK_PLACES }
 {
     let mut sum = 0;
     for disk in 0..DISK_PLACES {

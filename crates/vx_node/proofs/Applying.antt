@@ -1,26 +1,21 @@
 -- What an apply leaves of a site that is up.
-use Rattle.std.proofs.Common.{◌≡◌, ⊎_elim, ℕ, ◌+◌, ◌-◌, ◌≤◌, length, Option, Some, None, IsTrue, refl, sym, ◌∙◌, ap, subst, arith}
+use Rattle.std.proofs.Common.{◌≡◌, ⊎_elim, ℕ, ◌≤◌, Option, Some, None, IsTrue, sym, ◌∙◌, ap, subst, arith}
 use Rattle.std.specs.Prelude.{min, max, Result, Ok, Err, OnOk, IsFalse}
 use Rattle.vx_history.specs.Steps.{burned}
 use Rattle.vx_history.specs.World.{Node}
 use Rattle.vx_model.specs.declared.no.No.{No}
 use Rattle.vx_model.specs.declared.no.No.TheVariants.{Device, Down}
-use Rattle.vx_srl.specs.Views.{Log}
-use Rattle.vx_disk.specs.Counts.{Rose}
 use Rattle.vx_disk.specs.Shelf.{Meaning, Image, Lawful}
 use Rattle.vx_disk.specs.Moves.{Moves}
-use Rattle.vx_disk.specs.declared.shelf.Shelf.{Ghosts}
-use Rattle.vx_rvg.specs.Groups.{ApplyIs, Applies, Fails, Ended, unless_halted, with_applied}
+use Rattle.vx_rvg.specs.Groups.{ApplyIs, Applies, Ended, unless_halted, with_applied}
 use Rattle.vx_rvg.specs.Stands.{Resting, Rests}
 use Rattle.vx_rvg.specs.Views.{Core, IsSound, Waits, last_of}
-use Rattle.vx_rvg.specs.declared.group.Rvg.{Rvg}
-use Rattle.vx_node.specs.declared.engine.Engine.{Engine}
-use Rattle.vx_node.specs.declared.engine.Engine.TheVariants.{Bare, Up, Down as IsDown, Gone}
-use Rattle.vx_node.specs.Engines.{CanApply, AppliedUp, halted_at, worked}
+use Rattle.vx_node.specs.Engines.{CanApply, halted_at, worked}
 use Rattle.vx_node.specs.Holds.{HasWrites}
 use Rattle.vx_node.specs.Rooms.{AppliedAs}
-use Rattle.vx_node.specs.Fuses.{IsFused, HasFuse}
-use Rattle.vx_node.specs.Stands.{IsUpAt, IsHeldAt, StandsAt, faults_at}
+use Rattle.vx_node.specs.Fuses.{HasFuse}
+use Rattle.vx_events.specs.Fuses.{IsFused}
+use Rattle.vx_node.specs.Stands.{IsUpAt, IsHeldAt}
 use Rattle.vx_node.proofs.Lasts.{rests_with, resting_found}
 use Rattle.vx_node.proofs.Staying.{told_now, never_both, left_moved, up_found, SameLog, up_with, held_moved, fused_by, fuse_moved}
 

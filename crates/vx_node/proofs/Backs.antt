@@ -12,7 +12,8 @@ use Rattle.vx_node.specs.Lasts.{FoundWith}
 use Rattle.vx_rvg.specs.Views.{Core}
 use Rattle.vx_node.specs.declared.engine.Engine.{Engine}
 use Rattle.vx_node.specs.declared.engine.Engine.TheVariants.{Bare, Spoiled, Up, Down, Gone}
-use Rattle.vx_node.specs.Holds.{Holds, raw_units, state_of, most_stamp, RacksHold, RacksTell, rack_count, rack_faults}
+use Rattle.vx_node.specs.Holds.{Holds, raw_units, state_of, RacksHold, RacksTell, rack_count, rack_faults}
+use Rattle.vx_events.specs.Stamps.{most_stamp}
 use Rattle.vx_node.specs.Racks.{racks_in}
 use Rattle.vx_node.specs.Stands.{EnginesStand, StandsAt, IsUnused, IsBareAt, IsUpAt, IsDownAt, IsToldAt, AreTold, fault_count, faults_of}
 use Rattle.vx_node.proofs.Crashing.{left_with}

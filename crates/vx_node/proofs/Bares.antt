@@ -1,26 +1,25 @@
 -- What the start of a bare site comes to.
-use Rattle.std.proofs.Common.{◌≡◌, ◌∙◌, ◌+◌, ◌-◌, ◌*◌, ◌<◌, ◌≤◌, ℕ, List, [], length, take, replicate, ap, sym, subst, refl, arith, ⊎_elim, inl, inr, ◌⊎◌, Bool, true, false, IsTrue}
+use Rattle.std.proofs.Common.{◌≡◌, ◌∙◌, ◌+◌, ◌-◌, ◌≤◌, ℕ, List, [], take, replicate, ap, sym, subst, refl, arith, IsTrue}
 use Rattle.std.specs.Prelude.{IsFalse, slice_index, Result, Ok, Err}
 use Rattle.std.proofs.lemmas.List.{get_or-take, length-replicate}
 use Rattle.vx_wire.specs.Numbers.{be_bytes}
-use Rattle.vx_model.specs.Content.{Content, Write, zero_block}
+use Rattle.vx_model.specs.Content.{Write, zero_block}
 use Rattle.vx_history.specs.Steps.{raw_set}
 use Rattle.vx_model.specs.Sizes.{ring_of}
-use Rattle.vx_history.specs.World.{Node, bare_site}
+use Rattle.vx_history.specs.World.{Node}
 use Rattle.vx_model.specs.declared.no.No.{No}
-use Rattle.vx_model.specs.declared.no.No.TheVariants.{Device, NoConfig, Damaged, Limit, Down as IsOff}
+use Rattle.vx_model.specs.declared.no.No.TheVariants.{Device, NoConfig, Down as IsOff}
 use Rattle.vx_model.specs.declared.errors.Stop.{Stop}
 use Rattle.vx_model.specs.declared.errors.Stop.TheVariants.{No as Refused, OutOfMemory}
-use Rattle.vx_model.specs.declared.state.State.{State}
 use Rattle.vx_model.specs.declared.units.Units.{Units}
-use Rattle.vx_srlfmt.specs.Headers.{header_magic, IsDamagedHeader}
-use Rattle.vx_srlfmt.specs.Kinds.{Kind, Top, Other}
+use Rattle.vx_srlfmt.specs.Headers.{header_magic}
+use Rattle.vx_srlfmt.specs.Kinds.{Top}
 use Rattle.vx_srlfmt.specs.declared.header.Header.{Header}
 use Rattle.vx_srlfmt.proofs.HeaderAgain.{begins_header}
 use Rattle.vx_disk.specs.Counts.{Rose}
 use Rattle.vx_disk.specs.Moves.{Moves, Run}
 use Rattle.vx_disk.specs.Racks.{Alike, Stopped}
-use Rattle.vx_disk.specs.Shelf.{Meaning, Image, Keeps, Lawful, Goes, Nothing}
+use Rattle.vx_disk.specs.Shelf.{Meaning, Keeps, Lawful, Goes, Nothing}
 use Rattle.vx_disk.specs.declared.shelf.Shelf.{Ghosts}
 use Rattle.vx_ringio.specs.Classes.{class_of}
 use Rattle.vx_ringio.specs.Reading.{IsTop, SeesTop}
@@ -33,10 +32,11 @@ use Rattle.vx_rvg.specs.Views.{Core, last_of}
 use Rattle.vx_rvg.specs.declared.group.Rvg.{Rvg}
 use Rattle.vx_node.specs.declared.engine.Engine.{Engine}
 use Rattle.vx_node.specs.declared.engine.Engine.TheVariants.{Bare, Spoiled, Up}
-use Rattle.vx_node.specs.Engines.{SameDisks, BareUp, BareUpIs, MadeIs}
+use Rattle.vx_node.specs.Engines.{BareUp, BareUpIs, MadeIs}
+use Rattle.vx_events.specs.Found.{SameDisks}
 use Rattle.vx_node.specs.Fuses.{HasFuse}
 use Rattle.vx_node.specs.Holds.{raw_units}
-use Rattle.vx_node.specs.Stands.{IsFitted, IsBareAt, IsCleanAt, IsUpAt, faults_at}
+use Rattle.vx_node.specs.Stands.{IsCleanAt, IsUpAt, faults_at}
 use Rattle.vx_node.proofs.Engines.{bare_still, keeps_still, length-raw_volumes, raw_volumes-whole, raw_size, raw_none}
 use Rattle.vx_node.proofs.Recovering.{found_site}
 use Rattle.vx_node.proofs.Rooming.{rose_later}

@@ -16,10 +16,10 @@ use Rattle.vx_order.specs.declared.facts.SiteFacts.{SiteFacts}
 use Rattle.vx_node.specs.declared.engine.Engine.{Engine}
 use Rattle.vx_node.specs.Changes.{last_facts, last_group, halted_facts, halted_group}
 use Rattle.vx_node.specs.Engines.{Later, halted_with}
-use Rattle.vx_node.specs.Facts.{site_fact, group_by, values_from}
+use Rattle.vx_events.specs.Facts.{site_fact, group_by, values_from}
 use Rattle.vx_node.specs.Stands.{EnginesStand, StandsAt, IsUnused, AreTold, IsToldAt, RoseAll, RoseBy, faults_of, faults_at, fault_count, times}
 use Rattle.vx_node.proofs.Lists.{get-set_same, get-set_other, length-set, values_from-set}
-use Rattle.vx_node.proofs.Values.{values_from-push}
+use Rattle.vx_events.proofs.Values.{values_from-push}
 
 updated_other : {A : Type 0} (f : ℕ → A) (i j : ℕ) (x : A) → (j ≡ i → ⊥) → updated f i x j ≡ f j
 updated_other f i j x apart = by_test (λ y. y ≡ f j) (eqb j i) x (f j) (λ e. absurd (apart (eqb_equal j i e))) (λ _. refl)

@@ -1,10 +1,9 @@
 -- What a crash leaves of a site that was up.
-use Rattle.std.proofs.Common.{◌≡◌, ◌⊎◌, inl, inr, ⊎_elim, ℕ, zero, suc, ◌+◌, ◌-◌, ◌*◌, ◌<◌, ◌≤◌, Bool, true, false, List, [], ◌∷◌, length, take, drop, Option, Some, None, IsTrue, MatchOption, refl, sym, ◌∙◌, ap, subst, arith}
-use Rattle.std.proofs.lemmas.Bool.{cases_lt}
+use Rattle.std.proofs.Common.{◌≡◌, ℕ, zero, suc, ◌+◌, ◌-◌, ◌<◌, ◌≤◌, Bool, true, false, List, [], ◌∷◌, length, take, drop, Option, Some, None, IsTrue, MatchOption, refl, sym, ◌∙◌, ap, subst, arith}
 use Rattle.std.proofs.lemmas.List.{length-take}
-use Rattle.std.specs.Prelude.{IsFalse, slice_get, Err}
+use Rattle.std.specs.Prelude.{slice_get, Err}
 use Rattle.vx_model.specs.Content.{Content, Write, put, fold_writes}
-use Rattle.vx_history.specs.World.{Node, Volume}
+use Rattle.vx_history.specs.World.{Node}
 use Rattle.vx_history.specs.Steps.{crashed, half_begun}
 use Rattle.vx_model.specs.declared.state.State.{State}
 use Rattle.vx_model.specs.declared.units.Units.{Units}
@@ -13,7 +12,6 @@ use Rattle.vx_disk.specs.Racks.{IsRack, Stopped}
 use Rattle.vx_disk.specs.Shelf.{Meaning, Image, Keeps, Lawful}
 use Rattle.vx_overlay.specs.Writes.{newest_of}
 use Rattle.vx_ringio.specs.Classes.{class_of, classes}
-use Rattle.vx_ringio.specs.Reading.{LeavesAs}
 use Rattle.vx_ringio.proofs.Following.{class_here, class_beyond, left_image}
 use Rattle.vx_ringlog.specs.Chain.{Recovers}
 use Rattle.vx_rvg.specs.Contents.{HasSizes}
@@ -23,17 +21,18 @@ use Rattle.vx_rvg.specs.Views.{Core, unit_of}
 use Rattle.vx_rvg.proofs.ContentFacts.{has_content, has_maps}
 use Rattle.vx_disk.specs.declared.shelf.Shelf.{Ghosts}
 use Rattle.vx_node.specs.declared.engine.Engine.{Engine}
-use Rattle.vx_node.specs.declared.engine.Engine.TheVariants.{Up, Bare as IsBare, Down, Gone}
+use Rattle.vx_node.specs.declared.engine.Engine.TheVariants.{Up, Down}
 use Rattle.vx_rvg.specs.declared.group.Rvg.{Rvg}
 use Rattle.vx_node.specs.Engines.{CrashedAt, WroteUp, WroteAt, AppliedUp, AppliedAt, is_off}
 use Rattle.vx_model.specs.declared.no.No.{No}
 use Rattle.vx_model.specs.declared.no.No.TheVariants.{Device, Limit, Down as Off}
-use Rattle.vx_node.specs.Facts.{values_from}
+use Rattle.vx_events.specs.Facts.{values_from}
 use Rattle.vx_node.specs.Lasts.{FoundWith, LeftWith}
-use Rattle.vx_node.specs.Holds.{HasWrites, raw_units, state_of, most_stamp}
+use Rattle.vx_node.specs.Holds.{raw_units, state_of}
+use Rattle.vx_events.specs.Stamps.{most_stamp}
 use Rattle.vx_node.specs.Stands.{IsUpAt, IsHeldAt, IsDownAt, CutAt, IsToldAt}
 use Rattle.vx_node.proofs.Staying.{held_up}
-use Rattle.vx_node.proofs.Values.{length-values_from, slice_index-values_from}
+use Rattle.vx_events.proofs.Values.{length-values_from, slice_index-values_from}
 
 -- ---- a rack that crashed has one value in each block
 
@@ -252,7 +251,7 @@ module _ {R : Type 0} {g : Ghosts R} where
 
   -- a write or an apply whose fuse ran out, and the crash behind it
   pub wrote_off : (n : Node) (x : Write) (old mid new : Engine R g) (why : No) → is_off why ≡ true → WroteUp n x old mid (Err why) → (CutAt (half_begun n x) mid → CrashedAt (half_begun n x) new) → (IsToldAt new → IsToldAt mid) → WroteAt n x old new (Err why)
-  wrote_off n x old mid new Off off is falls later = (is.0, falls is.1, λ calls told exact. is.2 calls (later told) exact)
+  wrote_off n x old mid new Off off is falls later = (is.0, falls is.1, (λ calls told exact. is.2 calls (later told) exact), is.3)
   wrote_off n x old mid new other off is falls later = absurd (cc)
 
   pub wrote_on : (n : Node) (x : Write) (old new : Engine R g) (why : No) → is_off why ≡ false → WroteUp n x old new (Err why) → WroteAt n x old new (Err why)

@@ -6,19 +6,19 @@ use Rattle.vx_disk.specs.declared.shelf.Shelf.{Ghosts}
 use Rattle.vx_script.specs.declared.line.DiskState.{DiskState}
 use Rattle.vx_script.specs.declared.line.ScriptLine.TheVariants.{Disk}
 use Rattle.vx_node.specs.declared.engine.Engine.{Engine}
-use Rattle.vx_node.specs.declared.said.Said.TheVariants.{Done}
+use Rattle.vx_events.specs.declared.said.Said.TheVariants.{Done}
 use Rattle.vx_node.specs.declared.yard.Yard.{Yard}
 use Rattle.vx_node.specs.Engines.{Later}
-use Rattle.vx_node.specs.Facts.{seat_of}
+use Rattle.vx_events.specs.Facts.{seat_of}
 use Rattle.vx_node.specs.Stands.{EnginesStand, StandsAt, RoseAll, faults_of}
 use Rattle.vx_node.specs.Working.{Worked}
-use Rattle.vx_node.specs.Yards.{YardStands, count_of}
+use Rattle.vx_node.specs.Yards.{YardAgrees, count_of}
 use Rattle.vx_node.proofs.Changing.{rose_none, counts_later, engines_same}
 use Rattle.vx_node.proofs.Seats.{seated}
 use Rattle.vx_node.proofs.Sites.{stands_new}
 
 module _ {R : Type 0} {g : Ghosts R} where
-  pub disk_done : (w : World) (old new : Yard R g) (name : List ℕ) (disk : ℕ) (state : DiskState) (s : ℕ) (before after : Engine R g) → YardStands w old → seat_of old.facts.items name ≡ Some s
+  pub disk_done : (w : World) (old new : Yard R g) (name : List ℕ) (disk : ℕ) (state : DiskState) (s : ℕ) (before after : Engine R g) → YardAgrees w old → seat_of old.facts.items name ≡ Some s
       → slice_get old.engines.items s ≡ Some before → Later before after → ((n : Node) → StandsAt n before → StandsAt n after)
       → new.facts ≡ old.facts → new.engines.items ≡ slice_set old.engines.items s after → new.racks ≡ old.racks
       → Worked w (Disk name disk state) Done old new

@@ -1,10 +1,10 @@
 -- What stands after calls that change no contents, and of a raw set as it is made.
-use Rattle.std.proofs.Common.{◌≡◌, ◌∙◌, ◌+◌, ◌-◌, ◌<◌, ◌≤◌, ℕ, zero, suc, List, [], length, ap, ⊎_elim, sym, subst, refl, arith, Bool, true, false, IsTrue}
-use Rattle.std.specs.Prelude.{IsFalse, Option, Some, None, slice_get, codes, replicate, ◌++◌}
+use Rattle.std.proofs.Common.{◌≡◌, ◌∙◌, ◌+◌, ◌-◌, ◌<◌, ◌≤◌, ℕ, zero, suc, List, [], length, ap, ⊎_elim, sym, subst, refl, arith, IsTrue}
+use Rattle.std.specs.Prelude.{Option, Some, None, slice_get, codes, replicate, ◌++◌}
 use Rattle.std.proofs.lemmas.List.{length-replicate}
 use Rattle.vx_disk.specs.Causes.{WithDisks, OnDisks}
 use Rattle.vx_disk.specs.Disks.{Disks, Untouched, is_set}
-use Rattle.vx_disk.specs.Racks.{IsRack, Alike}
+use Rattle.vx_disk.specs.Racks.{IsRack}
 use Rattle.std.specs.Fmt.{decimal}
 use Rattle.std.proofs.lemmas.Bool.{cases_lt}
 use Rattle.std.proofs.lemmas.Bool.Decides.{nat_tests}
@@ -42,7 +42,7 @@ use Rattle.vx_node.proofs.Staying.{never_both, told_now, fitted_moved, stays_up,
 use Rattle.vx_node.specs.Holds.{raw_units, state_of}
 use Rattle.vx_node.specs.Fuses.{HasFuse, LetsPass}
 use Rattle.vx_node.specs.Stands.{IsFitted, IsBareAt, IsUpAt, faults_at}
-use Rattle.vx_node.proofs.Values.{length-values_from, slice_index-values_from}
+use Rattle.vx_events.proofs.Values.{length-values_from, slice_index-values_from}
 
 pub keeps_still : (m new : Meaning) (u b : ℕ) (x : List ℕ) → Goes Nothing m new → Keeps m u b x → Keeps new u b x
 keeps_still m new u b x goes keeps = record { only = λ v left. ⊎_elim (λ was. keeps.only v was) (λ none. absurd none) (goes.leaves u b v left) }

@@ -1,6 +1,6 @@
 -- How many calls a write is in a log that began empty and did not go round.
-use Rattle.std.proofs.Common.{◌≡◌, ◌∙◌, ◌+◌, ◌-◌, ◌<◌, ◌≤◌, ℕ, zero, suc, List, [], ◌∷◌, ◌++◌, length, ap, sym, subst, refl, arith, IsTrue}
-use Rattle.std.specs.Prelude.{◌%◌, Option, Some, None, Result, Ok, Err, OnOk, IsFalse}
+use Rattle.std.proofs.Common.{◌≡◌, ◌∙◌, ◌+◌, ◌<◌, ◌≤◌, ℕ, List, [], ◌∷◌, ◌++◌, length, ap, sym, subst, arith, IsTrue}
+use Rattle.std.specs.Prelude.{◌%◌, Option, Some, None, Result, Ok, Err, OnOk}
 use Rattle.std.proofs.lemmas.List.{append-nil}
 use Rattle.std.proofs.Math.Nat.{mod-eq_of_lt}
 use Rattle.vx_model.specs.Content.{Write, blocks_in}
@@ -12,13 +12,14 @@ use Rattle.vx_disk.specs.Shelf.{Meaning}
 use Rattle.vx_disk.specs.declared.shelf.Shelf.{Ghosts}
 use Rattle.vx_rvg.specs.declared.group.Rvg.{Rvg}
 use Rattle.vx_disk.specs.Burns.{FewerLeft, MakesCalls, IsShort, RackIsShort, FallsShort}
-use Rattle.vx_srl.specs.Views.{Log, BodyFits, all_of, end_of, free_of, kept_of, place_after, widths}
+use Rattle.vx_srl.specs.Views.{Log, BodyFits, all_of, end_of, free_of, kept_of, widths}
 use Rattle.vx_srl.specs.declared.kept.Kept.{Kept}
 use Rattle.vx_srl.proofs.LogLists.{place_sum}
 use Rattle.vx_srl.proofs.Shared_S1.{widths_append}
 use Rattle.vx_rvg.specs.Views.{Core, IsSound}
 use Rattle.vx_rvg.specs.Groups.{with_write}
-use Rattle.vx_node.specs.Fuses.{HasFuse, IsExact, IsFirst, LetsPass, taken}
+use Rattle.vx_node.specs.Fuses.{HasFuse, IsFirst, LetsPass}
+use Rattle.vx_events.specs.Fuses.{IsExact, taken}
 use Rattle.vx_node.specs.Stands.{IsUpAt}
 
 pub taken_push : (xs : List Write) (x : Write) → taken (xs ++ x ∷ []) ≡ taken xs + (blocks_in x.bytes + 1)

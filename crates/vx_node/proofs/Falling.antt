@@ -1,6 +1,6 @@
 -- What a line comes to that crashes a site, or that applies what is logged.
-use Rattle.std.proofs.Common.{◌≡◌, ◌∙◌, ◌+◌, ◌-◌, ◌<◌, ◌≤◌, ℕ, List, [], ◌∷◌, length, ap, sym, subst, refl, arith}
-use Rattle.std.specs.Prelude.{min, Option, Some, None, slice_get, slice_set, Result, Ok, Err}
+use Rattle.std.proofs.Common.{◌≡◌, ◌∙◌, ◌+◌, ◌<◌, ℕ, List, [], ◌∷◌, ap, sym, subst, refl, arith}
+use Rattle.std.specs.Prelude.{Some, None, slice_get, slice_set, Ok, Err}
 use Rattle.vx_history.specs.World.{Node, World, Fuse, updated}
 use Rattle.vx_history.specs.Steps.{crashed, crash_left, stopped_by, worked_on, burned}
 use Rattle.vx_model.specs.declared.no.No.{No}
@@ -13,24 +13,25 @@ use Rattle.vx_order.specs.declared.facts.RvgFacts.{RvgFacts}
 use Rattle.vx_script.specs.declared.line.ScriptLine.TheVariants.{Crash, Apply}
 use Rattle.vx_node.specs.declared.engine.Engine.{Engine}
 use Rattle.vx_node.specs.declared.engine.Engine.TheVariants.{Gone}
-use Rattle.vx_node.specs.declared.said.Said.{Said}
-use Rattle.vx_node.specs.declared.said.Said.TheVariants.{Done, DoneAt, Refused}
+use Rattle.vx_events.specs.declared.said.Said.{Said}
+use Rattle.vx_events.specs.declared.said.Said.TheVariants.{Done, DoneAt, Refused}
 use Rattle.vx_node.specs.declared.yard.Yard.{Yard}
 use Rattle.vx_node.specs.Changes.{down_facts, halted_facts, halted_group}
 use Rattle.vx_node.specs.Engines.{Later, CrashedAt, CanApply, AppliedAt, halted_at, worked}
-use Rattle.vx_node.specs.Facts.{site_fact, group_fact, group_by, facts_of, seat_of, site_number}
+use Rattle.vx_events.specs.Facts.{site_fact, group_fact, group_by, facts_of, seat_of}
 use Rattle.vx_node.specs.Rising.{Fell}
 use Rattle.vx_node.specs.Stands.{EnginesStand, StandsAt, RoseAll, faults_of}
-use Rattle.vx_node.specs.Steps.{Crashes, Applies, IsApplied, ApplyFails, ApplyCut, Cleanly}
+use Rattle.vx_node.specs.Works.{Crashes, Applies, IsApplied, ApplyFails, ApplyCut}
 use Rattle.vx_node.specs.Working.{Worked, IsFree}
 use Rattle.vx_node.specs.Writes.{noted_facts}
-use Rattle.vx_node.specs.Yards.{YardStands, in_files, count_of}
+use Rattle.vx_node.specs.Yards.{YardAgrees, in_files, count_of}
 use Rattle.vx_node.proofs.Changing.{facts-updated, rose_none, rose_one, counts_later, counts_rose, engines_set}
 use Rattle.vx_node.proofs.Lists.{set_twice, set_same}
-use Rattle.vx_node.proofs.Refused.{Named, crash_may, apply_may}
-use Rattle.vx_node.proofs.Seats.{Seated, seated, named_fact, some_same}
+use Rattle.vx_events.proofs.Refused.{crash_may, apply_may}
+use Rattle.vx_events.proofs.Places.{some_same}
+use Rattle.vx_node.proofs.Seats.{Seated, seated, named_fact}
 use Rattle.vx_node.proofs.Sites.{stands_new}
-use Rattle.vx_node.proofs.Values.{length-values_from, slice_get-values_from}
+use Rattle.vx_events.proofs.Values.{slice_get-values_from}
 
 -- what the tests found of the site lets its log be applied
 can_apply : (n : Node) (f : SiteFacts) → f ≡ site_fact n → f.state ≡ IsUp → ((rvg : RvgFacts) → f.rvg ≡ Some rvg → rvg.halted ≡ None) → CanApply n
@@ -59,16 +60,16 @@ fuse_fact n f = ap (λ r. let x : SiteFacts = record (site_fact n) { rvg = r } i
 
 module _ {R : Type 0} {g : Ghosts R} where
   -- what the tests see of a site
-  pub fact_there : (w : World) (y : Yard R g) (s : ℕ) → YardStands w y → s < w.sites → slice_get y.facts.items s ≡ Some (site_fact (w.nodes s))
+  pub fact_there : (w : World) (y : Yard R g) (s : ℕ) → YardAgrees w y → s < w.sites → slice_get y.facts.items s ≡ Some (site_fact (w.nodes s))
   fact_there w y s stands below =
       let start : 0 + s ≡ s = omega arith in
       ap (λ (fs : List SiteFacts). slice_get fs s) stands.facts ∙ slice_get-values_from (λ i. site_fact (w.nodes i)) 0 w.sites s below
       ∙ ap (λ (i : ℕ). Some (site_fact (w.nodes i))) start
 
   -- the yard with another engine and other facts of a site
-  pub stands_set : (w w' : World) (old new : Yard R g) (s : ℕ) (n : Node) (f : SiteFacts) (after : Engine R g) → YardStands w old → s < w.sites → w'.sites ≡ w.sites → ((k : ℕ) → w'.nodes k ≡ updated w.nodes s n k)
+  pub stands_set : (w w' : World) (old new : Yard R g) (s : ℕ) (n : Node) (f : SiteFacts) (after : Engine R g) → YardAgrees w old → s < w.sites → w'.sites ≡ w.sites → ((k : ℕ) → w'.nodes k ≡ updated w.nodes s n k)
       → StandsAt n after → f ≡ site_fact n → facts_of w' ≡ facts_of (record w { nodes = updated w.nodes s n })
-      → new.facts.items ≡ slice_set old.facts.items s f → new.engines.items ≡ slice_set old.engines.items s after → new.racks ≡ old.racks → YardStands w' new
+      → new.facts.items ≡ slice_set old.facts.items s f → new.engines.items ≡ slice_set old.engines.items s after → new.racks ≡ old.racks → YardAgrees w' new
   stands_set w w' old new s n f after stands below sites nodes at fact same facts engines racks =
       stands_new w w' old new stands
       (facts ∙ ap (λ (fs : List SiteFacts). slice_set fs s f) stands.facts ∙ ap (λ (x : SiteFacts). slice_set (facts_of w) s x) fact ∙ sym (facts-updated w.nodes w.sites s n) ∙ sym same)
@@ -76,9 +77,9 @@ module _ {R : Type 0} {g : Ghosts R} where
       racks
 
   -- the yard with another engine of a site of which the tests see nothing new
-  pub stands_same : (w w' : World) (old new : Yard R g) (s : ℕ) (n : Node) (after : Engine R g) → YardStands w old → s < w.sites → w'.sites ≡ w.sites → ((k : ℕ) → w'.nodes k ≡ updated w.nodes s n k)
+  pub stands_same : (w w' : World) (old new : Yard R g) (s : ℕ) (n : Node) (after : Engine R g) → YardAgrees w old → s < w.sites → w'.sites ≡ w.sites → ((k : ℕ) → w'.nodes k ≡ updated w.nodes s n k)
       → StandsAt n after → site_fact n ≡ site_fact (w.nodes s) → facts_of w' ≡ facts_of (record w { nodes = updated w.nodes s n })
-      → new.facts.items ≡ old.facts.items → new.engines.items ≡ slice_set old.engines.items s after → new.racks ≡ old.racks → YardStands w' new
+      → new.facts.items ≡ old.facts.items → new.engines.items ≡ slice_set old.engines.items s after → new.racks ≡ old.racks → YardAgrees w' new
   stands_same w w' old new s n after stands below sites nodes at fact same facts engines racks =
       stands_set w w' old new s n (site_fact n) after stands below sites nodes at refl same
       (facts ∙ sym (set_same old.facts.items s (site_fact n) (fact_there w old s stands below ∙ ap (λ (f : SiteFacts). Some f) (sym fact)))) engines racks
@@ -90,7 +91,7 @@ module _ {R : Type 0} {g : Ghosts R} where
 
   -- ---- a site that goes down
 
-  pub fell : (w : World) (old new : Yard R g) (s : ℕ) (f f' : SiteFacts) (before after : Engine R g) → YardStands w old → s < w.sites → (w.nodes s).state ≡ IsUp
+  pub fell : (w : World) (old new : Yard R g) (s : ℕ) (f f' : SiteFacts) (before after : Engine R g) → YardAgrees w old → s < w.sites → (w.nodes s).state ≡ IsUp
       → slice_get old.facts.items s ≡ Some f → slice_get old.engines.items s ≡ Some before → Later before after → ((n : Node) → StandsAt n before → n.state ≡ IsUp → CrashedAt n after)
       → f' ≡ down_facts f → new.facts.items ≡ slice_set old.facts.items s f' → new.engines.items ≡ slice_set (slice_set old.engines.items s Gone) s after → new.racks ≡ old.racks
       → Fell w s old new
@@ -105,8 +106,8 @@ module _ {R : Type 0} {g : Ghosts R} where
         rose = rose_still old new s before after there later engines;
       }
 
-  pub crash_worked : (w : World) (old new : Yard R g) (name : List ℕ) (pick s : ℕ) → YardStands w old → IsFree old (Crash name pick) → seat_of old.facts.items name ≡ Some s
-      → ((w : World) → YardStands w old → s < w.sites → (w.nodes s).state ≡ IsUp → Fell w s old new) → Worked w (Crash name pick) Done old new
+  pub crash_worked : (w : World) (old new : Yard R g) (name : List ℕ) (pick s : ℕ) → YardAgrees w old → IsFree old (Crash name pick) → seat_of old.facts.items name ≡ Some s
+      → ((w : World) → YardAgrees w old → s < w.sites → (w.nodes s).state ≡ IsUp → Fell w s old new) → Worked w (Crash name pick) Done old new
   crash_worked w old new name pick s stands free seat falls =
       let here = seated w old name s stands seat in
       let may = crash_may old.facts.items (in_files old) name pick free in
@@ -127,13 +128,13 @@ module _ {R : Type 0} {g : Ghosts R} where
     pub seat : Seated w y name s
     pub can : CanApply (w.nodes s)
 
-  pub apply_at : (w : World) (y : Yard R g) (name : List ℕ) (to s : ℕ) → YardStands w y → IsFree y (Apply name to) → seat_of y.facts.items name ≡ Some s → ApplyAt w y name s
+  pub apply_at : (w : World) (y : Yard R g) (name : List ℕ) (to s : ℕ) → YardAgrees w y → IsFree y (Apply name to) → seat_of y.facts.items name ≡ Some s → ApplyAt w y name s
   apply_at w y name to s stands free seat =
       let here = seated w y name s stands seat in
       let may = apply_may y.facts.items (in_files y) name to free in
       record { seat = here; can = can_apply (w.nodes s) may.site.facts (named_fact w y name s here seat may.site) may.up may.running }
 
-  pub apply_done : (w : World) (old new : Yard R g) (name : List ℕ) (to s number : ℕ) (before after : Engine R g) → YardStands w old → IsFree old (Apply name to) → seat_of old.facts.items name ≡ Some s
+  pub apply_done : (w : World) (old new : Yard R g) (name : List ℕ) (to s number : ℕ) (before after : Engine R g) → YardAgrees w old → IsFree old (Apply name to) → seat_of old.facts.items name ≡ Some s
       → slice_get old.engines.items s ≡ Some before → Later before after → ((n : Node) → StandsAt n before → CanApply n → AppliedAt n to before after (Ok number))
       → new.facts ≡ old.facts → new.engines.items ≡ slice_set old.engines.items s after → new.racks ≡ old.racks → Worked w (Apply name to) (DoneAt number) old new
   apply_done w old new name to s number before after stands free seat there later apply facts engines racks =
@@ -148,7 +149,7 @@ module _ {R : Type 0} {g : Ghosts R} where
         rose = rose_still old new s before after there later engines;
       }
 
-  apply_by : (w : World) (old new : Yard R g) (s to : ℕ) (why : No) (f f' : SiteFacts) (before after : Engine R g) (name : List ℕ) → YardStands w old → Seated w old name s → slice_get old.facts.items s ≡ Some f
+  apply_by : (w : World) (old new : Yard R g) (s to : ℕ) (why : No) (f f' : SiteFacts) (before after : Engine R g) (name : List ℕ) → YardAgrees w old → Seated w old name s → slice_get old.facts.items s ≡ Some f
       → slice_get old.engines.items s ≡ Some before → Later before after → AppliedAt (w.nodes s) to before after (Err why)
       → f' ≡ noted_facts why f → new.facts.items ≡ slice_set old.facts.items s f' → new.engines.items ≡ slice_set old.engines.items s after → new.racks ≡ old.racks → Worked w (Apply name to) (Refused why) old new
   apply_by w old new s to (Device disk) f f' before after name stands seat at there later applied is facts engines racks = record {
@@ -174,7 +175,7 @@ module _ {R : Type 0} {g : Ghosts R} where
       }
   apply_by w old new s to other f f' before after name stands seat at there later applied is facts engines racks = absurd applied
 
-  pub apply_failed : (w : World) (old new : Yard R g) (name : List ℕ) (to s : ℕ) (why : No) (said : Said) (f f' : SiteFacts) (before after : Engine R g) → YardStands w old → IsFree old (Apply name to)
+  pub apply_failed : (w : World) (old new : Yard R g) (name : List ℕ) (to s : ℕ) (why : No) (said : Said) (f f' : SiteFacts) (before after : Engine R g) → YardAgrees w old → IsFree old (Apply name to)
       → seat_of old.facts.items name ≡ Some s → slice_get old.facts.items s ≡ Some f → slice_get old.engines.items s ≡ Some before → Later before after
       → ((n : Node) → StandsAt n before → CanApply n → AppliedAt n to before after (Err why)) → f' ≡ noted_facts why f → said ≡ Refused why
       → new.facts.items ≡ slice_set old.facts.items s f' → new.engines.items ≡ slice_set old.engines.items s after → new.racks ≡ old.racks → Worked w (Apply name to) said old new

@@ -1,20 +1,21 @@
 -- What a write leaves of a site that is up.
-use Rattle.std.proofs.Common.{◌≡◌, ◌∙◌, ◌+◌, ◌-◌, ◌<◌, ◌≤◌, ℕ, zero, suc, List, [], ◌∷◌, ◌++◌, length, take, drop, ap, sym, subst, refl, arith, IsTrue, length-append}
+use Rattle.std.proofs.Common.{◌≡◌, ◌∙◌, ◌+◌, ◌<◌, ◌≤◌, ℕ, suc, List, [], ◌∷◌, ◌++◌, length, take, drop, ap, sym, subst, refl, arith, IsTrue, length-append}
 use Rattle.std.specs.Prelude.{Some, None}
 use Rattle.std.proofs.lemmas.List.{take-append-le, take_all}
-use Rattle.vx_model.specs.Content.{Content, Write, put, fold_writes}
+use Rattle.vx_model.specs.Content.{Write, put, fold_writes}
 use Rattle.vx_history.specs.World.{Node}
 use Rattle.vx_history.specs.Steps.{logged, half_begun, burned}
-use Rattle.vx_model.specs.declared.state.State.{State}
 use Rattle.vx_model.specs.declared.state.KeptLink.{KeptLink}
 use Rattle.vx_srlfmt.specs.declared.header.Header.{Header}
 use Rattle.vx_disk.specs.Shelf.{Meaning, Image, Lawful}
 use Rattle.vx_rvg.specs.Views.{Core, last_of}
 use Rattle.vx_node.specs.Engines.{halted_with, halted_at}
-use Rattle.vx_node.specs.Holds.{HasWrites, raw_units, state_of, state_with, most_stamp}
+use Rattle.vx_node.specs.Holds.{HasWrites, raw_units, state_of, state_with}
+use Rattle.vx_events.specs.Stamps.{most_stamp}
 use Rattle.vx_node.specs.Lasts.{FoundWith, StandsWith}
 use Rattle.vx_node.specs.Rooms.{IsRoomy}
-use Rattle.vx_node.specs.Fuses.{HasFuse, IsFirst, taken}
+use Rattle.vx_node.specs.Fuses.{HasFuse, IsFirst}
+use Rattle.vx_events.specs.Fuses.{taken}
 use Rattle.vx_node.specs.Stands.{IsFitted, IsUpAt}
 use Rattle.vx_node.proofs.Lasts.{FoundOf, stands_with}
 use Rattle.vx_node.proofs.Staying.{told_now, found_same, writes_found, SameLog}

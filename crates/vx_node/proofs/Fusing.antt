@@ -1,17 +1,14 @@
 -- What a line leaves that sets the fuse of a site.
-use Rattle.std.proofs.Common.{◌≡◌, ◌∙◌, ℕ, ◌+◌, ◌-◌, ◌<◌, ◌≤◌, List, [], length, ap, sym, subst, refl, arith, Option, Some, None, IsTrue, MatchOption}
+use Rattle.std.proofs.Common.{◌≡◌, ◌∙◌, ℕ, List, [], ap, sym, subst, refl, Option, Some, None, MatchOption}
 use Rattle.std.specs.Prelude.{slice_get, slice_set}
-use Rattle.vx_model.specs.Content.{Content}
 use Rattle.vx_history.specs.Steps.{fused}
-use Rattle.vx_history.specs.World.{Node, World, FuseSet, updated}
-use Rattle.vx_model.specs.declared.site.SiteState.{SiteState}
+use Rattle.vx_history.specs.World.{Node, World, FuseSet}
 use Rattle.vx_model.specs.declared.site.SiteState.TheVariants.{Bare as IsBare, Up as IsUp, Down as IsDown}
-use Rattle.vx_disk.specs.Causes.{OnDisks, WithDisks}
+use Rattle.vx_disk.specs.Causes.{OnDisks}
 use Rattle.vx_disk.specs.Disks.{Disks, SameBlocks}
 use Rattle.vx_disk.specs.Racks.{IsRack, Alike}
-use Rattle.vx_disk.specs.Shelf.{Meaning, Image, Keeps}
+use Rattle.vx_disk.specs.Shelf.{Meaning, Keeps}
 use Rattle.vx_disk.specs.declared.shelf.Shelf.{Ghosts}
-use Rattle.vx_ringio.specs.Tracks.{Tracks}
 use Rattle.vx_srl.specs.Rings.{RingOn}
 use Rattle.vx_overlay.specs.Writes.{newest_of}
 use Rattle.vx_order.specs.declared.facts.SiteFacts.{SiteFacts}
@@ -21,22 +18,22 @@ use Rattle.vx_rvg.specs.Holdings.{Holding}
 use Rattle.vx_rvg.specs.Stands.{Stands}
 use Rattle.vx_rvg.specs.Views.{Core, IsSound, unit_of}
 use Rattle.vx_rvg.specs.declared.group.Rvg.{Rvg}
-use Rattle.vx_rvg.proofs.WriteSound.{SameSizes, ended_sound}
+use Rattle.vx_rvg.proofs.WriteSound.{ended_sound}
 use Rattle.vx_node.specs.declared.engine.Engine.{Engine}
 use Rattle.vx_node.specs.declared.engine.Engine.TheVariants.{Bare, Spoiled, Up, Down, Gone}
-use Rattle.vx_node.specs.declared.said.Said.TheVariants.{Done}
+use Rattle.vx_events.specs.declared.said.Said.TheVariants.{Done}
 use Rattle.vx_node.specs.declared.yard.Yard.{Yard}
 use Rattle.vx_node.specs.Engines.{Later}
-use Rattle.vx_node.specs.Facts.{site_fact, facts_of, seat_of, site_number}
+use Rattle.vx_events.specs.Facts.{seat_of}
 use Rattle.vx_node.specs.Fuses.{LetsPass}
-use Rattle.vx_node.specs.Stands.{IsUpAt, StandsAt, RoseAll, faults_of}
-use Rattle.vx_node.specs.Steps.{Cleanly, Works}
+use Rattle.vx_node.specs.Stands.{IsUpAt, StandsAt}
+use Rattle.vx_node.specs.Works.{Cleanly}
 use Rattle.vx_node.specs.Working.{Worked, IsFree}
-use Rattle.vx_node.specs.Yards.{YardStands, in_files, count_of}
+use Rattle.vx_node.specs.Yards.{YardAgrees, in_files}
 use Rattle.vx_node.proofs.Lasts.{still_with}
 use Rattle.vx_node.proofs.Falling.{stands_same, rose_still, fuse_fact}
-use Rattle.vx_node.proofs.Refused.{fuse_may}
-use Rattle.vx_node.proofs.Seats.{seated, named_fact, some_same}
+use Rattle.vx_events.proofs.Refused.{fuse_may}
+use Rattle.vx_node.proofs.Seats.{seated, named_fact}
 
 -- ---- a group on a rack of which only the fuse changed
 
@@ -133,7 +130,7 @@ module _ {R : Type 0} {g : Ghosts R} where
   never_up n Gone h up none = h
 
   -- the line that sets it
-  pub fuse_done : (w : World) (old new : Yard R g) (name : List ℕ) (calls pick s : ℕ) (before after : Engine R g) → YardStands w old → IsFree old (Fuse name calls pick)
+  pub fuse_done : (w : World) (old new : Yard R g) (name : List ℕ) (calls pick s : ℕ) (before after : Engine R g) → YardAgrees w old → IsFree old (Fuse name calls pick)
       → seat_of old.facts.items name ≡ Some s → slice_get old.engines.items s ≡ Some before → Later before after
       → ((n : Node) → StandsAt n before → n.state ≡ IsUp → StandsAt (record n { fuse = FuseSet calls }) after)
       → new.facts ≡ old.facts → new.engines.items ≡ slice_set old.engines.items s after → new.racks ≡ old.racks → Worked w (Fuse name calls pick) Done old new

@@ -1,8 +1,8 @@
 -- What a read gives of a site that is up.
-use Rattle.std.proofs.Common.{◌≡◌, ◌∙◌, ℕ, ◌+◌, ◌-◌, ◌<◌, ◌≤◌, Bool, true, false, List, length, ap, sym, subst, refl, arith}
+use Rattle.std.proofs.Common.{◌≡◌, ◌∙◌, ℕ, ◌+◌, ◌-◌, ◌≤◌, Bool, true, false, List, ap, sym, subst, refl, arith}
 use Rattle.std.specs.Prelude.{Option, Some, None, Result, Ok, Err, OnOk, IsTrue, ltb, if◌then◌else◌}
 use Rattle.std.proofs.lemmas.Bool.Decides.{nat_tests}
-use Rattle.vx_model.specs.Content.{Content, blocks_in}
+use Rattle.vx_model.specs.Content.{Content}
 use Rattle.vx_history.specs.World.{Node}
 use Rattle.vx_model.specs.declared.no.No.{No}
 use Rattle.vx_model.specs.declared.no.No.TheVariants.{Range, Device, Down as IsOff}
@@ -25,14 +25,14 @@ use Rattle.vx_rvg.proofs.ReadStands.{rest_stands}
 use Rattle.vx_node.specs.declared.engine.Engine.{Engine}
 use Rattle.vx_node.specs.declared.engine.Engine.TheVariants.{Up}
 use Rattle.vx_node.specs.Engines.{CanRead, ReadAt}
-use Rattle.vx_node.specs.Holds.{HasWrites, raw_units}
+use Rattle.vx_node.specs.Holds.{HasWrites}
 use Rattle.vx_node.specs.Fuses.{HasFuse}
 use Rattle.vx_node.specs.Stands.{IsFitted, IsUpAt, StandsAt}
 use Rattle.vx_node.specs.Lasts.{StandsWith}
 use Rattle.vx_node.proofs.Lasts.{stands_with, still_with}
 use Rattle.vx_node.proofs.Engines.{fuse_untouched}
 use Rattle.vx_node.proofs.Staying.{told_now, never_both, fitted_moved, up_found, up_with}
-use Rattle.vx_node.proofs.Values.{slice_index-values_from}
+use Rattle.vx_events.proofs.Values.{slice_index-values_from}
 
 -- what a read answers of a site
 abbrev ReadAs : Node → ℕ → ℕ → ℕ → List ℕ → Core → Meaning → Meaning → Result (Unit {0}) No → Type 0

@@ -1,3 +1,4 @@
+pub mod Alike
 pub mod Answering
 pub mod Applying
 pub mod Backs
@@ -12,7 +13,9 @@ pub mod Finds
 pub mod Founds
 pub mod Fusing
 pub mod Getting
-pub mod Goods
+pub mod Happening
+pub mod HappeningCalls
+pub mod Happenings
 pub mod Lasts
 pub mod Lists
 pub mod Logging
@@ -20,14 +23,13 @@ pub mod News
 pub mod Raws
 pub mod Readings
 pub mod Recovering
-pub mod Refused
 pub mod Replies
 pub mod Rising
 pub mod Rooming
 pub mod Seats
+pub mod Sessions
 pub mod Sites
 pub mod Statuses
 pub mod Staying
 pub mod Tables
-pub mod Values
 pub mod Writing

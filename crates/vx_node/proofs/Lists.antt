@@ -1,7 +1,7 @@
 -- Lists with another element at one place.
 use Rattle.std.proofs.Common.{◌≡◌, ◌∙◌, ◌+◌, ◌<◌, ℕ, zero, suc, List, [], ◌∷◌, ◌++◌, length, take, get_or, ap, sym, refl, arith, ◌-◌, length-append}
 use Rattle.std.specs.Prelude.{Some, slice_get, slice_set}
-use Rattle.vx_node.specs.Facts.{values_from}
+use Rattle.vx_events.specs.Facts.{values_from}
 
 pub get-set_same : {A : Type 0} (xs : List A) (i : ℕ) (x : A) → i < length xs → slice_get (slice_set xs i x) i ≡ Some x
 get-set_same [] i x h = absurd (omega arith)

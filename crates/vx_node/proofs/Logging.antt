@@ -1,6 +1,6 @@
 -- What a write of a site whose log has room answers.
-use Rattle.std.proofs.Common.{◌≡◌, ◌∙◌, ◌⊎◌, inl, inr, ⊎_elim, ◌+◌, ◌-◌, ◌<◌, ◌≤◌, ℕ, Bool, true, false, List, [], ◌∷◌, ◌++◌, length, ap, sym, subst, refl, arith, IsTrue, length-append}
-use Rattle.std.specs.Prelude.{IsFalse, Option, Some, None, Result, Ok, Err, OnOk, IsSome, leb, ltb, ◌&&◌, ◌||◌, if◌then◌else◌}
+use Rattle.std.proofs.Common.{◌≡◌, ◌∙◌, ⊎_elim, ◌+◌, ◌-◌, ◌<◌, ◌≤◌, ℕ, Bool, true, false, List, [], ◌∷◌, ◌++◌, length, ap, sym, subst, refl, arith, IsTrue, length-append}
+use Rattle.std.specs.Prelude.{IsFalse, Option, Some, None, Result, Ok, Err, OnOk, IsSome, leb, ltb, if◌then◌else◌}
 use Rattle.std.proofs.lemmas.Bool.Decides.{nat_tests}
 use Rattle.vx_model.specs.Answer.{is_too_large}
 use Rattle.vx_model.specs.Content.{Write, blocks_in}
@@ -16,24 +16,25 @@ use Rattle.vx_disk.specs.Shelf.{Meaning, Image, Lawful}
 use Rattle.vx_disk.specs.Moves.{Moves, Run}
 use Rattle.vx_disk.specs.declared.shelf.Shelf.{Ghosts}
 use Rattle.vx_rvg.specs.declared.group.Rvg.{Rvg}
-use Rattle.vx_node.specs.declared.engine.Engine.{Engine}
 use Rattle.vx_node.specs.declared.engine.Engine.TheVariants.{Up}
-use Rattle.vx_rvg.specs.Groups.{Fails, Ended, unless_halted, write_refusal, WriteIs, Writes, with_write}
+use Rattle.vx_rvg.specs.Groups.{unless_halted, write_refusal, WriteIs, Writes, with_write}
 use Rattle.vx_rvg.specs.Holdings.{Holding, with_writes}
 use Rattle.vx_rvg.specs.Stands.{Writing, Stands}
 use Rattle.vx_rvg.specs.Views.{Core, IsSound, last_of, unit_of}
 use Rattle.vx_node.specs.Engines.{CanWrite, WroteUp, halted_with, worked, no_number}
-use Rattle.vx_node.specs.Holds.{HasWrites, raw_units, most_stamp}
+use Rattle.vx_node.specs.Holds.{HasWrites}
+use Rattle.vx_events.specs.Stamps.{most_stamp}
 use Rattle.vx_node.specs.Rooms.{IsRoomy, RoomIs}
-use Rattle.vx_node.specs.Fuses.{HasFuse, IsFused, IsExact, IsFirst, taken}
+use Rattle.vx_node.specs.Fuses.{HasFuse, IsFirst}
+use Rattle.vx_events.specs.Fuses.{IsFused, IsExact, taken}
 use Rattle.vx_node.specs.Stands.{IsFitted, IsUpAt, IsHeldAt}
 use Rattle.vx_node.proofs.Applying.{ended_log}
 use Rattle.vx_node.proofs.Exacting.{first_pushed, taken_many, taken_push}
 use Rattle.vx_node.proofs.Founds.{has_begun, half_begins, has_half, has_whole, has_safe, half_of, up_half, up_logged}
 use Rattle.vx_node.proofs.Lasts.{stands_with, write_with, writing_found}
 use Rattle.vx_node.proofs.Rooming.{rose_later}
-use Rattle.vx_node.proofs.Staying.{told_now, never_both, left_moved, fitted_moved, fused_by, fuse_moved, burned_twice, fused_before, SameLog}
-use Rattle.vx_node.proofs.Values.{slice_index-values_from}
+use Rattle.vx_node.proofs.Staying.{told_now, up_worked, never_both, left_moved, fitted_moved, fused_by, fuse_moved, burned_twice, fused_before}
+use Rattle.vx_events.proofs.Values.{slice_index-values_from}
 
 -- what a write answers of a site
 abbrev pub WroteAs : Node → Write → Meaning → Core → Meaning → Result ℕ No → Type 0
@@ -245,9 +246,13 @@ wrote_later n x c' m mid new (Err other) later is = is
 -- ---- the same of engines
 
 module _ {R : Type 0} {g : Ghosts R} where
-  pub wrote_at : (n : Node) (x : Write) (old new : Rvg R g) (result : Result ℕ No) → WroteAs n x (g.meaning old.shelf) new.core (g.meaning new.shelf) result → WroteUp n x (Up old) (Up new) result
-  wrote_at n x old new (Ok number) is = is
-  wrote_at n x old new (Err (Device disk)) is = is
-  wrote_at n x old new (Err (Limit what most)) is = is
-  wrote_at n x old new (Err Down) is = is
-  wrote_at n x old new (Err other) is = is
+  pub wrote_at : (n : Node) (x : Write) (old new : Rvg R g) (result : Result ℕ No) → n.safe < most_number → WroteAs n x (g.meaning old.shelf) new.core (g.meaning new.shelf) result → WroteUp n x (Up old) (Up new) result
+  wrote_at n x old new (Ok number) below is = is
+  wrote_at n x old new (Err (Device disk)) below is = (is.0, is.1, below)
+  wrote_at n x old new (Err (Limit what most)) below is = is
+  wrote_at n x old new (Err Down) below is = (is.0, is.1, is.2, below)
+  wrote_at n x old new (Err other) below is = is
+
+  -- no number is left
+  pub wrote_none : (n : Node) (x : Write) (rvg : Rvg R g) → IsUpAt n rvg.core (g.meaning rvg.shelf) → most_number ≤ last_of rvg.core → WroteUp n x (Up rvg) (Up rvg) (Err no_number)
+  wrote_none n x rvg up full = (refl, (λ told. omega (arith, full, up.head)), up_worked n rvg.core (g.meaning rvg.shelf) up)

@@ -20,20 +20,21 @@ use Rattle.vx_order.specs.declared.facts.VolumeFacts.{VolumeFacts}
 use Rattle.vx_script.specs.declared.line.ScriptLine.TheVariants.{Raw}
 use Rattle.vx_node.specs.declared.engine.Engine.{Engine}
 use Rattle.vx_node.specs.declared.engine.Engine.TheVariants.{Bare, Spoiled, Up, Down, Gone}
-use Rattle.vx_node.specs.declared.said.Said.{Said}
-use Rattle.vx_node.specs.declared.said.Said.TheVariants.{Done}
+use Rattle.vx_events.specs.declared.said.Said.{Said}
+use Rattle.vx_events.specs.declared.said.Said.TheVariants.{Done}
 use Rattle.vx_node.specs.declared.yard.Yard.{Yard}
 use Rattle.vx_node.specs.Changes.{raw_facts}
 use Rattle.vx_node.specs.Engines.{Later, MadeIs}
-use Rattle.vx_node.specs.Facts.{site_fact, volume_fact, seat_of}
+use Rattle.vx_events.specs.Facts.{site_fact, volume_fact, seat_of}
 use Rattle.vx_node.specs.Replies.{reply_to}
 use Rattle.vx_node.specs.Stands.{EnginesStand, StandsAt, RoseAll, AreTold, faults_of}
 use Rattle.vx_node.specs.Working.{WorkIs, Worked, IsFree}
-use Rattle.vx_node.specs.Yards.{YardStands, in_files, count_of}
+use Rattle.vx_node.specs.Yards.{YardAgrees, in_files, count_of}
 use Rattle.vx_node.proofs.Changing.{facts-updated, rose_none, rose_one, counts_later, counts_rose, engines_set, engines_same, told_before}
 use Rattle.vx_node.proofs.Lists.{set_twice}
-use Rattle.vx_node.proofs.Refused.{raw_may}
-use Rattle.vx_node.proofs.Seats.{Seated, seated, named_fact, some_same}
+use Rattle.vx_events.proofs.Refused.{raw_may}
+use Rattle.vx_events.proofs.Places.{some_same}
+use Rattle.vx_node.proofs.Seats.{Seated, seated, named_fact}
 use Rattle.vx_node.proofs.Sites.{stands_new}
 
 raw_fact_by : (site : ℕ) (n : Node) (parent : Line) (low : ℕ) → n.parent ≡ parent → n.low ≡ low → parent ≡ no_line → low ≡ 1
@@ -87,7 +88,7 @@ module _ {R : Type 0} {g : Ghosts R} where
     bare : (w.nodes s).state ≡ IsBare
     disks : 3 ≤ (w.nodes s).disks
 
-  raw_at : (w : World) (y : Yard R g) (name : List ℕ) (s : ℕ) (site : SiteFacts) → YardStands w y → IsFree y (Raw name) → seat_of y.facts.items name ≡ Some s → slice_get y.facts.items s ≡ Some site → RawAt w y name s site
+  raw_at : (w : World) (y : Yard R g) (name : List ℕ) (s : ℕ) (site : SiteFacts) → YardAgrees w y → IsFree y (Raw name) → seat_of y.facts.items name ≡ Some s → slice_get y.facts.items s ≡ Some site → RawAt w y name s site
   raw_at w y name s site stands free is there =
       let seat = seated w y name s stands is in
       let may = raw_may y.facts.items (in_files y) name free in
@@ -109,7 +110,7 @@ module _ {R : Type 0} {g : Ghosts R} where
   stood_few n (Down rack) stands is = stands.few
   stood_few n Gone stands is = absurd stands
 
-  pub raw_shape : (w : World) (y : Yard R g) (name : List ℕ) (s : ℕ) (site : SiteFacts) → YardStands w y → IsFree y (Raw name) → seat_of y.facts.items name ≡ Some s → slice_get y.facts.items s ≡ Some site → RawShape s site
+  pub raw_shape : (w : World) (y : Yard R g) (name : List ℕ) (s : ℕ) (site : SiteFacts) → YardAgrees w y → IsFree y (Raw name) → seat_of y.facts.items name ≡ Some s → slice_get y.facts.items s ≡ Some site → RawShape s site
   raw_shape w y name s site stands free is there =
       let found = raw_at w y name s site stands free is there in
       let may = raw_may y.facts.items (in_files y) name free in
@@ -122,7 +123,7 @@ module _ {R : Type 0} {g : Ghosts R} where
         large = subst (λ (f : SiteFacts). 8 ≤ f.blocks) (named ∙ sym found.fact) may.3;
       }
 
-  pub raw_done : (w : World) (old new : Yard R g) (name : List ℕ) (s : ℕ) (site : SiteFacts) (volumes : List VolumeFacts) (before after : Engine R g) (r : Result (Unit {0}) Stop) (done : Unit {0}) → YardStands w old → IsFree old (Raw name)
+  pub raw_done : (w : World) (old new : Yard R g) (name : List ℕ) (s : ℕ) (site : SiteFacts) (volumes : List VolumeFacts) (before after : Engine R g) (r : Result (Unit {0}) Stop) (done : Unit {0}) → YardAgrees w old → IsFree old (Raw name)
       → seat_of old.facts.items name ≡ Some s → slice_get old.facts.items s ≡ Some site → volumes ≡ map volume_fact (raw_volumes 1 (site.disks - 2) site.blocks)
       → slice_get old.engines.items s ≡ Some before → Later before after → r ≡ Ok done → ((n : Node) → StandsAt n before → n.state ≡ IsBare → 3 ≤ n.disks → MadeIs s n before after r)
       → new.facts.items ≡ slice_set old.facts.items s (raw_facts s volumes site) → new.engines.items ≡ slice_set (slice_set old.engines.items s Gone) s after → new.racks ≡ old.racks
@@ -152,7 +153,7 @@ module _ {R : Type 0} {g : Ghosts R} where
             (rose_none (count_of old) (faults_of (slice_set old.engines.items s after)) (λ s' d. counts_later old.engines.items s before after at later s' d));
       }
 
-  pub raw_failed : (stop : Stop) (said : Result Said MemoryError) (w : World) (old new : Yard R g) (name : List ℕ) (s : ℕ) (site : SiteFacts) (before after : Engine R g) (r : Result (Unit {0}) Stop) → said ≡ reply_to stop → YardStands w old → IsFree old (Raw name)
+  pub raw_failed : (stop : Stop) (said : Result Said MemoryError) (w : World) (old new : Yard R g) (name : List ℕ) (s : ℕ) (site : SiteFacts) (before after : Engine R g) (r : Result (Unit {0}) Stop) → said ≡ reply_to stop → YardAgrees w old → IsFree old (Raw name)
       → seat_of old.facts.items name ≡ Some s → slice_get old.facts.items s ≡ Some site
       → slice_get old.engines.items s ≡ Some before → Later before after → r ≡ Err stop → ((n : Node) → StandsAt n before → n.state ≡ IsBare → 3 ≤ n.disks → MadeIs s n before after r)
       → new.facts ≡ old.facts → new.engines.items ≡ slice_set (slice_set old.engines.items s Gone) s after → new.racks ≡ old.racks
@@ -169,7 +170,7 @@ module _ {R : Type 0} {g : Ghosts R} where
       engines : new.engines.items ≡ slice_set old.engines.items s after
       engines = twice ∙ set_twice old.engines.items s Gone after
 
-      stays : StandsAt (w.nodes s) after → YardStands w new
+      stays : StandsAt (w.nodes s) after → YardAgrees w new
       stays same = stands_new w w old new stands (ap (λ fs. fs.items) facts ∙ stands.facts)
           (subst (λ es. EnginesStand w es) (sym engines) (engines_same w old.engines.items s after found.seat.below stands.engines same))
           racks

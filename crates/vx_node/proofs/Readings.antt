@@ -15,22 +15,23 @@ use Rattle.vx_order.specs.declared.facts.VolumeFacts.{VolumeFacts}
 use Rattle.vx_rvg.specs.Contents.{Shows}
 use Rattle.vx_node.specs.declared.engine.Engine.{Engine}
 use Rattle.vx_node.specs.declared.engine.Engine.TheVariants.{Bare, Spoiled, Up, Down, Gone}
-use Rattle.vx_node.specs.declared.said.Said.TheVariants.{Got, Refused}
+use Rattle.vx_events.specs.declared.said.Said.TheVariants.{Got, Refused}
 use Rattle.vx_node.specs.declared.yard.Yard.{Yard}
 use Rattle.vx_node.specs.Engines.{Later, CanRead}
-use Rattle.vx_node.specs.Facts.{site_fact, group_fact, group_by, volume_fact, seat_of, place_of, site_number, volume_number}
+use Rattle.vx_events.specs.Facts.{site_fact, group_fact, group_by, volume_fact, seat_of, place_of, site_number, volume_number}
 use Rattle.vx_node.specs.Fetching.{GaveAt, Gave, IsReadFree, Fetched}
 use Rattle.vx_node.specs.Stands.{EnginesStand, StandsAt, AreTold, RoseAll, faults_of}
-use Rattle.vx_node.specs.Steps.{Fetches, Gets, OnlyFails}
-use Rattle.vx_node.specs.Yards.{YardStands, in_files, count_of}
+use Rattle.vx_node.specs.Works.{Fetches, Gets, OnlyFails}
+use Rattle.vx_node.specs.Yards.{YardAgrees, in_files, count_of}
 use Rattle.vx_node.proofs.Changing.{engines_same, rose_none, rose_one, counts_later, counts_rose}
 use Rattle.vx_node.proofs.Lists.{get-set_same, get_at}
-use Rattle.vx_node.proofs.Refused.{CallMay, read_may, show_may}
-use Rattle.vx_node.proofs.Seats.{some_same, never_some, position_within, seated, named_fact}
+use Rattle.vx_events.proofs.Refused.{CallMay, read_may, show_may}
+use Rattle.vx_events.proofs.Places.{some_same, never_some, position_within}
+use Rattle.vx_node.proofs.Seats.{seated, named_fact}
 use Rattle.vx_node.proofs.Sites.{stands_new}
 
 -- the volume of a fact
-volume_at : (vs : List Volume) (i : ℕ) (x : VolumeFacts) → slice_get (map volume_fact vs) i ≡ Some x → (v : Volume) × (slice_get vs i ≡ Some v) × (x.blocks ≡ v.blocks)
+pub volume_at : (vs : List Volume) (i : ℕ) (x : VolumeFacts) → slice_get (map volume_fact vs) i ≡ Some x → (v : Volume) × (slice_get vs i ≡ Some v) × (x.blocks ≡ v.blocks)
 volume_at [] i x e = absurd (cc)
 volume_at (v ∷ vs) zero x e = (v, refl, ap (λ (f : VolumeFacts). f.blocks) (sym (some_same e)))
 volume_at (v ∷ vs) (suc i) x e = volume_at vs i x e
@@ -94,7 +95,7 @@ module _ {R : Type 0} {g : Ghosts R} where
     pub volume_is : volume_number (w.nodes s) volume ≡ place
     pub can : (e : Engine R g) → StandsAt (w.nodes s) e → CanRead (w.nodes s) place start count
 
-  pub reading : (w : World) (y : Yard R g) (name volume : List ℕ) (start count s place : ℕ) (f : SiteFacts) → YardStands w y → IsReadFree y name volume start count
+  pub reading : (w : World) (y : Yard R g) (name volume : List ℕ) (start count s place : ℕ) (f : SiteFacts) → YardAgrees w y → IsReadFree y name volume start count
       → seat_of y.facts.items name ≡ Some s → slice_get y.facts.items s ≡ Some f → place_of f.volumes volume ≡ Some place → Reading w y name volume start count s place
   reading w y name volume start count s place f stands free seat at is =
       let may = may_read y name volume start count free in
@@ -113,7 +114,7 @@ module _ {R : Type 0} {g : Ghosts R} where
       }
 
   -- no such volume
-  pub no_volume : (w : World) (y : Yard R g) (name volume : List ℕ) (start count s : ℕ) (f : SiteFacts) → YardStands w y → IsReadFree y name volume start count
+  pub no_volume : (w : World) (y : Yard R g) (name volume : List ℕ) (start count s : ℕ) (f : SiteFacts) → YardAgrees w y → IsReadFree y name volume start count
       → seat_of y.facts.items name ≡ Some s → slice_get y.facts.items s ≡ Some f → place_of f.volumes volume ≡ None → ⊥
   no_volume w y name volume start count s f stands free seat at is =
       let may = may_read y name volume start count free in
@@ -123,7 +124,7 @@ module _ {R : Type 0} {g : Ghosts R} where
       never_some (sym is ∙ ap (λ (k : SiteFacts). place_of k.volumes volume) (same ∙ sym fact) ∙ may.at.is)
 
   -- the engine gave the blocks
-  pub fetch_done : (w : World) (old new : Yard R g) (name volume : List ℕ) (start count s place : ℕ) (bytes : List ℕ) (before after : Engine R g) → YardStands w old
+  pub fetch_done : (w : World) (old new : Yard R g) (name volume : List ℕ) (start count s place : ℕ) (bytes : List ℕ) (before after : Engine R g) → YardAgrees w old
       → Reading w old name volume start count s place → slice_get old.engines.items s ≡ Some before → Later before after → Gave (w.nodes s) place start count bytes after
       → new.facts ≡ old.facts → new.engines.items ≡ slice_set old.engines.items s after → new.racks ≡ old.racks
       → Fetched w name volume start count (Got bytes) old new
@@ -139,7 +140,7 @@ module _ {R : Type 0} {g : Ghosts R} where
   }
 
   -- one of its disks failed
-  pub fetch_failed : (w : World) (old new : Yard R g) (name volume : List ℕ) (start count s place : ℕ) (no : No) (before after : Engine R g) → YardStands w old
+  pub fetch_failed : (w : World) (old new : Yard R g) (name volume : List ℕ) (start count s place : ℕ) (no : No) (before after : Engine R g) → YardAgrees w old
       → Reading w old name volume start count s place → slice_get old.engines.items s ≡ Some before → Later before after → GaveAt (w.nodes s) place start count before after (Err no)
       → new.facts ≡ old.facts → new.engines.items ≡ slice_set old.engines.items s after → new.racks ≡ old.racks
       → Fetched w name volume start count (Refused no) old new
@@ -163,7 +164,7 @@ module _ {R : Type 0} {g : Ghosts R} where
   fact_at y name s f seat is = get_at y.facts.items s f (position_within (λ (site : SiteFacts). bytes_eq site.name name) y.facts.items s seat) is
 
   -- there is an engine that reads it, and its volume has a number below that of its disks
-  pub no_guard : (w : World) (y : Yard R g) (name volume : List ℕ) (start count s place engines : ℕ) (f : SiteFacts) → YardStands w y → Reading w y name volume start count s place
+  pub no_guard : (w : World) (y : Yard R g) (name volume : List ℕ) (start count s place engines : ℕ) (f : SiteFacts) → YardAgrees w y → Reading w y name volume start count s place
       → slice_get y.facts.items s ≡ Some f → engines ≡ length y.engines.items → (s < engines) × (place < f.disks)
   no_guard w y name volume start count s place engines f stands read at many =
       let inside : s < length y.engines.items = omega (arith, read.below, stands.engines.few, stands.engines.eight) in

@@ -1,5 +1,5 @@
 -- What the start of a site that crashed leaves of it.
-use Rattle.std.proofs.Common.{◌≡◌, ◌⊎◌, inl, inr, ⊎_elim, ℕ, ◌+◌, ◌-◌, ◌*◌, ◌<◌, ◌≤◌, Bool, true, false, List, [], length, replicate, take, drop, Option, None, IsTrue, refl, sym, ◌∙◌, ap, subst, arith}
+use Rattle.std.proofs.Common.{◌≡◌, ◌⊎◌, inl, inr, ⊎_elim, ℕ, ◌+◌, ◌<◌, ◌≤◌, Bool, true, false, List, [], length, replicate, Option, None, IsTrue, refl, sym, ◌∙◌, ap, subst, arith}
 use Rattle.std.proofs.lemmas.List.{length-replicate}
 use Rattle.std.specs.Prelude.{IsFalse}
 use Rattle.vx_model.specs.Content.{Content, Write}
@@ -11,7 +11,6 @@ use Rattle.vx_model.specs.declared.no.No.{No}
 use Rattle.vx_model.specs.declared.no.No.TheVariants.{Device, Limit, NoConfig, Damaged, Down as IsOff}
 use Rattle.vx_model.specs.declared.site.SiteState.TheVariants.{Bare as IsBare, Up as IsUp, Down as IsDown}
 use Rattle.vx_model.specs.declared.state.State.{State}
-use Rattle.vx_model.specs.declared.state.KeptLink.{KeptLink}
 use Rattle.vx_model.specs.declared.units.Units.{Units}
 use Rattle.vx_disk.specs.Counts.{Rose}
 use Rattle.vx_disk.specs.Moves.{Moves, Run}
@@ -31,13 +30,16 @@ use Rattle.vx_disk.specs.declared.shelf.Shelf.{Ghosts}
 use Rattle.vx_node.specs.declared.engine.Engine.{Engine}
 use Rattle.vx_node.specs.declared.engine.Engine.TheVariants.{Bare, Spoiled, Up, Down, Gone}
 use Rattle.vx_node.proofs.Engines.{placed_raw}
-use Rattle.vx_node.specs.Engines.{SameDisks, CanStart, CameUp, CameUpIs, no_number}
-use Rattle.vx_node.specs.Holds.{HasWrites, raw_units, state_of, state_with, most_stamp}
+use Rattle.vx_node.specs.Engines.{CanStart, CameUp, CameUpIs, no_number}
+use Rattle.vx_events.specs.Found.{SameDisks}
+use Rattle.vx_node.specs.Holds.{HasWrites, raw_units, state_of}
+use Rattle.vx_events.specs.Stamps.{most_stamp}
 use Rattle.vx_node.specs.Fuses.{HasFuse}
 use Rattle.vx_node.specs.Stands.{IsUpAt, IsDownAt, StandsAt, faults_at}
 use Rattle.vx_node.specs.Lasts.{FoundWith, LeftWith, StandsWith}
 use Rattle.vx_node.proofs.Crashing.{one_value, found_left_with, left_with, site_sizes}
 use Rattle.vx_node.proofs.Lasts.{stands_with}
+use Rattle.vx_node.proofs.Sessions.{header_below, found_below_most, next_below}
 use Rattle.vx_node.proofs.Staying.{found_below, not_true, never_both, told_now, left_moved, writes_found}
 
 -- ---- calls that change no contents
@@ -130,6 +132,7 @@ pub record Came (n : Node) (core : Core) (m : Meaning) : Type 0 where
   pub is : IsTrue m.tells → node ≡ recovered n
   pub same : SameDisks n node
   pub stands : IsUpAt node core m
+  pub next : IsTrue m.tells → n.session < most_number
 
 never_untold : {b : Bool} → b ≡ true → b ≡ false → ⊥
 never_untold is not = cc
@@ -212,6 +215,9 @@ module _ (n : Node) (m up : Meaning) (is : IsDownAt n m) (alike : Alike m up) (r
           stands = started_up core (state_of n) (n.session + 1) n.safe n.log (λ _. let some = is.begun (sym alike.contents.tells ∙ told) in omega (arith, some)) started has.0 (λ _. refl) has.1 (λ _. omega (arith, has.2)) head is.logged (λ _. stood)
               (λ i now. writes_found (recovered n) core i started.units_are (started.ring_is ∙ ring_here) has.0 has.1 (omega (arith, has.2)) is.logged
               (stands_with core n.log n.base new i unit_is after stood now));
+          next = λ _.
+              let i = after.image tells in
+              next_below n.session has.1 (found_below_most core.units core.log.ring core.log.header.state core.log.header.incarnation core.log.header.stamp i.0 n.log n.base (stands_with core n.log n.base new i.0 unit_is after stood i.1));
         }
     came_by false untold core unit_is started = record {
       node = found_site n core.log.header.state core.log.header.incarnation (last_of core) (replicate (last_of core) nothing);
@@ -220,6 +226,7 @@ module _ (n : Node) (m up : Meaning) (is : IsDownAt n m) (alike : Alike m up) (r
       stands = started_up core core.log.header.state core.log.header.incarnation (last_of core) (replicate (last_of core) nothing) (λ tells. absurd (never_untold tells untold)) started refl (λ tells. absurd (never_untold tells untold)) refl
           (λ tells. absurd (never_untold tells untold)) refl (length-replicate {A = Write} (last_of core) nothing) (λ tells. absurd (never_untold tells untold))
           (λ i now. absurd (never_untold (told_now new i after now) untold));
+      next = λ tells. absurd (never_untold tells untold);
     }
       where
         nothing : Write
@@ -233,7 +240,7 @@ module _ (n : Node) (m up : Meaning) (is : IsDownAt n m) (alike : Alike m up) (r
 
 -- why a site stays down
 abbrev pub RefusedAs : Node → Meaning → Meaning → No → Type 0
-RefusedAs n m last (Device disk) = (IsDownAt n last ⊎ IsDownAt (record n { session = n.session + 1 }) last) × Rose (m.disk_faults disk) (last.disk_faults disk)
+RefusedAs n m last (Device disk) = (IsDownAt n last ⊎ (IsDownAt (record n { session = n.session + 1 }) last × (n.session < most_number))) × Rose (m.disk_faults disk) (last.disk_faults disk)
 RefusedAs n m last (Limit what most) =
     (Limit what most ≡ no_number) × (IsTrue last.tells → most_number ≤ most_stamp n + 2) × IsDownAt n last
 RefusedAs n m last other = (IsTrue last.tells → ⊥) × IsDownAt n last
@@ -277,7 +284,7 @@ module _ (n : Node) (m up new last : Meaning) (is : IsDownAt n m) (alike : Alike
     left = left;
   }
 
-  still_down : (b : Bool) → last.tells ≡ b → IsDownAt n last ⊎ IsDownAt (record n { session = n.session + 1 }) last
+  still_down : (b : Bool) → last.tells ≡ b → IsDownAt n last ⊎ (IsDownAt (record n { session = n.session + 1 }) last × (n.session < most_number))
   still_down true tells =
       let i = law.image tells in
       ⊎_elim
@@ -285,12 +292,15 @@ module _ (n : Node) (m up new last : Meaning) (is : IsDownAt n m) (alike : Alike
       (left_with (raw_units n.disks) (ring_in (raw_units n.disks) up) (state_of n) n.session (most_stamp n) n.log n.base up i.0 lawful was (left_here tells)))))
       (λ starting. ⊎_elim
       (λ old. inl (down_with n.session begun_here (λ _. at n.session (most_stamp n) i.0 i.1 (record { held = (left_here tells).held; has = (left_here tells).has; found = old }))))
-      (λ next. inr (down_with (n.session + 1) (λ _. omega arith) (λ _. at (n.session + 1) (most_stamp (record n { session = n.session + 1 })) i.0 i.1
-      (record {
-        held = (left_here tells).held;
-        has = (left_here tells).has;
-        found = found_below (raw_units n.disks) (ring_in (raw_units n.disks) up) (state_of n) (n.session + 1) (most_stamp n + 3) (most_stamp (record n { session = n.session + 1 })) i.0 (left_here tells).held (omega arith) next;
-      }))))
+      (λ next. inr (
+        (down_with (n.session + 1) (λ _. omega arith) (λ _. at (n.session + 1) (most_stamp (record n { session = n.session + 1 })) i.0 i.1
+            (record {
+              held = (left_here tells).held;
+              has = (left_here tells).has;
+              found = found_below (raw_units n.disks) (ring_in (raw_units n.disks) up) (state_of n) (n.session + 1) (most_stamp n + 3) (most_stamp (record n { session = n.session + 1 })) i.0 (left_here tells).held (omega arith) next;
+            }))),
+        next_below n.session refl (header_below (raw_units n.disks) (ring_in (raw_units n.disks) up) (state_of n) (n.session + 1) (most_stamp n + 3) i.0 (left_here tells).held next),
+      ))
       (starting.each (state_of n) n.session (most_stamp n) (left_here tells).held (left_here tells).left))
       (left_moved (Run (raw_units n.disks).srl 0 (ring_in (raw_units n.disks) up + 2)) (Starting (raw_units n.disks) up) up new i.0 lawful after moves (stopped.now i.0 i.1))
     where
@@ -375,7 +385,7 @@ module _ {R : Type 0} {g : Ghosts R} where
       let c = came n (g.meaning rack) (g.meaning up) down alike risen armed (g.meaning rvg.shelf) lawful after
       (subst (λ (u : Units). Moves (Run u.srl 0 (ring_in u (g.meaning up) + 2)) (Starting u (g.meaning up)) (g.meaning up) (g.meaning rvg.shelf)) same moves)
       rvg.core rvg.sound.log_unit (subst (λ (u : Units). IsStarted u (g.meaning up) rvg.core (g.meaning rvg.shelf)) same started) in
-      record { node = c.node; is = c.is; same = c.same; stands = c.stands }
+      record { node = c.node; is = c.is; same = c.same; stands = c.stands; next = c.next }
 
   down_as : (n : Node) (old : Engine R g) (rack last : R) (why : No) → old ≡ Down rack → RefusedAs n (g.meaning rack) (g.meaning last) why → CameUpIs n old (Down last) (Err why)
   down_as n old rack last (Device disk) is h = (h.0, subst (λ (e : Engine R g). Rose (faults_at e disk) ((g.meaning last).disk_faults disk)) (sym is) h.1)

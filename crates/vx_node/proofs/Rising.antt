@@ -1,13 +1,12 @@
 -- What a line comes to that recovers a site.
-use Rattle.std.proofs.Common.{◌≡◌, ◌⊎◌, inl, inr, ⊎_elim, ◌∙◌, ◌+◌, ◌-◌, ◌<◌, ◌≤◌, ℕ, zero, suc, Bool, true, false, List, [], ◌∷◌, length, ap, sym, subst, refl, arith, IsTrue}
-use Rattle.std.specs.Prelude.{min, map, Option, Some, None, slice_get, slice_set, Result, Ok, Err}
+use Rattle.std.proofs.Common.{◌≡◌, ◌⊎◌, inl, inr, ◌∙◌, ◌+◌, ◌<◌, ◌≤◌, ℕ, zero, suc, Bool, true, false, List, [], ◌∷◌, length, ap, sym, subst, refl, arith, IsTrue}
+use Rattle.std.specs.Prelude.{map, Some, slice_get, slice_set, Result, Ok, Err}
 use Rattle.std.proofs.lemmas.Option.{slice_get_within}
-use Rattle.vx_history.specs.World.{Node, World, bare_site, updated, with_node}
-use Rattle.vx_history.specs.Steps.{recovered, came_up, session_begun, crash_left, crashed}
+use Rattle.vx_history.specs.World.{Node, World, with_node}
+use Rattle.vx_history.specs.Steps.{recovered, came_up, session_begun, crashed}
 use Rattle.vx_model.specs.Sizes.{ring_of}
 use Rattle.vx_model.specs.declared.no.No.{No}
-use Rattle.vx_model.specs.declared.no.No.TheVariants.{Device, Limit, NoConfig}
-use Rattle.vx_model.specs.declared.no.Counted.TheVariants.{Number}
+use Rattle.vx_model.specs.declared.no.No.TheVariants.{Device, Limit}
 use Rattle.vx_model.specs.declared.state.State.{State}
 use Rattle.vx_model.specs.declared.site.SiteState.{SiteState}
 use Rattle.vx_model.specs.declared.site.SiteState.TheVariants.{Bare as IsBare, Up as IsUp, Deported, Down as IsDown}
@@ -20,25 +19,29 @@ use Rattle.vx_script.specs.declared.line.ScriptLine.TheVariants.{Recover}
 use Rattle.vx_srl.specs.Views.{most_number}
 use Rattle.vx_node.specs.declared.engine.Engine.{Engine}
 use Rattle.vx_node.specs.declared.engine.Engine.TheVariants.{Bare, Spoiled, Up, Down, Gone}
-use Rattle.vx_node.specs.declared.said.Said.{Said}
-use Rattle.vx_node.specs.declared.said.Said.TheVariants.{Recovered, Refused}
+use Rattle.vx_events.specs.declared.said.Said.{Said}
+use Rattle.vx_events.specs.declared.said.Said.TheVariants.{Recovered, Refused}
 use Rattle.vx_node.specs.declared.yard.Yard.{Yard}
 use Rattle.vx_node.specs.Changes.{up_facts}
-use Rattle.vx_node.specs.Engines.{Later, RoseAt, SameDisks, CameUp, CameUpIs, StillDown, no_number}
-use Rattle.vx_node.specs.Facts.{site_fact, group_fact, group_by, volume_fact, facts_of, seat_of, site_number}
-use Rattle.vx_node.specs.Holds.{state_of, state_with, most_stamp}
+use Rattle.vx_node.specs.Engines.{Later, RoseAt, CameUp, CameUpIs, StillDown, no_number}
+use Rattle.vx_events.specs.Found.{SameDisks}
+use Rattle.vx_events.specs.Facts.{site_fact, group_fact, group_by, volume_fact, seat_of}
+use Rattle.vx_node.specs.Holds.{state_of, state_with}
+use Rattle.vx_events.specs.Stamps.{most_stamp}
 use Rattle.vx_node.specs.Rising.{Fell, NotedUp, NotesUp, Recovering}
 use Rattle.vx_node.specs.Stands.{EnginesStand, StandsAt, IsToldAt, AreTold, RoseAll, RoseBy, times, faults_of}
-use Rattle.vx_node.specs.Steps.{Fails, Crashes, Begins, CrashesFirst, IsDown as DownBefore, Recovers, ComesUp, StaysDown, NoSession, Untold, IsBareStill, FailsAt}
-use Rattle.vx_node.specs.Views.{view_of}
-use Rattle.vx_node.specs.Working.{Worked, IsFree}
-use Rattle.vx_node.specs.Yards.{YardStands, IsTold, in_files, count_of}
-use Rattle.vx_node.proofs.Changing.{engines_same, rose_none, rose_one, counts_later, counts_rose}
+use Rattle.vx_node.specs.Works.{Begins, CrashesFirst, IsDown as DownBefore, Recovers, ComesUp, StaysDown, NoSession, FindsUp, FindsNone}
+use Rattle.vx_events.specs.Ends.{IsNoDevice}
+use Rattle.vx_events.specs.Fails.{Fails}
+use Rattle.vx_events.specs.Views.{view_of}
+use Rattle.vx_node.specs.Working.{Worked}
+use Rattle.vx_node.specs.Yards.{YardAgrees, IsTold, count_of}
+use Rattle.vx_node.proofs.Changing.{engines_same, rose_one, counts_later, counts_rose}
 use Rattle.vx_node.proofs.Falling.{fact_there, stands_set, rose_still}
 use Rattle.vx_node.proofs.Lists.{set_twice, get-set_same}
-use Rattle.vx_node.proofs.Refused.{recover_may}
 use Rattle.vx_node.proofs.Sites.{stands_new}
-use Rattle.vx_node.proofs.Seats.{Seated, seated, some_same}
+use Rattle.vx_events.proofs.Places.{some_same}
+use Rattle.vx_node.proofs.Seats.{seated}
 
 -- ---- what the tests see of a site that came up
 
@@ -154,7 +157,7 @@ module _ {R : Type 0} {g : Ghosts R} where
   pub not_noted : (y new : Yard R g) (s ring last : ℕ) (e : Engine R g) → slice_get y.engines.items s ≡ Some e → ((n : Node) → StandsAt n e → n.state ≡ IsUp → ⊥) → NotesUp s ring last y new
   not_noted y new s ring last e at none = record { each = λ x n there stands up. absurd (none n (subst (StandsAt n) (some_same (sym there ∙ at)) stands) up) }
 
-  module _ (w mid : World) (old new : Yard R g) (s : ℕ) (before after : Engine R g) (stands : YardStands mid old) (below : s < mid.sites) (begins : Begins w s mid) (down : (mid.nodes s).state ≡ IsDown)
+  module _ (w mid : World) (old new : Yard R g) (s : ℕ) (before after : Engine R g) (stands : YardAgrees mid old) (below : s < mid.sites) (begins : Begins w s mid) (down : (mid.nodes s).state ≡ IsDown)
       (there : slice_get old.engines.items s ≡ Some before) (later : Later before after) (engines : new.engines.items ≡ slice_set old.engines.items s after) (racks : new.racks ≡ old.racks) where
     abbrev node : Node
     node = mid.nodes s
@@ -164,7 +167,7 @@ module _ {R : Type 0} {g : Ghosts R} where
 
     -- the yard stands for the world with this site in its place
     risen_stands : (ring : ℕ) (k : Node) → ring ≡ node.ring → SameDisks node k → StandsAt k after
-        → new.facts.items ≡ slice_set old.facts.items s (up_facts (state_of k) k.safe ring (site_fact node)) → YardStands (with_node mid s k) new
+        → new.facts.items ≡ slice_set old.facts.items s (up_facts (state_of k) k.safe ring (site_fact node)) → YardAgrees (with_node mid s k) new
     risen_stands ring k ring_is same at facts =
         let parts = up_parts k after at same.up in
         stands_set mid (with_node mid s k) old new s k (up_facts (state_of k) k.safe ring (site_fact node)) after stands below refl (λ j. refl) at
@@ -174,14 +177,14 @@ module _ {R : Type 0} {g : Ghosts R} where
     rose_here = rose_still old new s before after there later engines
 
     risen_by : IsToldAt after ⊎ (IsToldAt after → ⊥) → (ring last : ℕ) (view : SiteView) (came : CameUp node after) → ring ≡ node.ring → last ≡ came.node.safe
-        → YardStands (with_node mid s came.node) new → ((w' : World) → YardStands w' new → s < w'.sites → view ≡ view_of w' (w'.nodes s)) → Recovering w s (Recovered last view) old new
+        → YardAgrees (with_node mid s came.node) new → ((w' : World) → YardAgrees w' new → s < w'.sites → view ≡ view_of w' (w'.nodes s)) → Recovering w s (Recovered last view) old new
     risen_by (inl told) ring last view came ring_is last_is up shows =
         let is = came.is told in
-        let up_there : YardStands (came_up mid s) new = subst (λ (k : Node). YardStands (with_node mid s k) new) is up in
+        let up_there : YardAgrees (came_up mid s) new = subst (λ (k : Node). YardAgrees (with_node mid s k) new) is up in
         record {
           world = came_up mid s;
           fails = [];
-          recovers = ComesUp mid begins (record {
+          recovers = ComesUp mid begins (came.next told) (record {
             none = refl;
             says = ap (λ (v : SiteView). Recovered last v) (shows (came_up mid s) up_there below ∙ ap (view_of (came_up mid s)) (at_place mid.nodes s (recovered node)))
                 ∙ ap (λ (k : ℕ). Recovered k (view_of (came_up mid s) (recovered node))) (last_is ∙ ap (λ (k : Node). k.safe) is);
@@ -193,14 +196,19 @@ module _ {R : Type 0} {g : Ghosts R} where
     risen_by (inr untold) ring last view came ring_is last_is up shows = record {
       world = with_node mid s came.node;
       fails = [];
-      recovers = Untold (not_all old.engines.items s before after new.engines.items there engines untold);
+      recovers = FindsUp (not_all old.engines.items s before after new.engines.items there engines untold) mid came.node begins came.same (record {
+        none = refl;
+        says = ap (λ (v : SiteView). Recovered last v) (shows (with_node mid s came.node) up below ∙ ap (view_of (with_node mid s came.node)) (at_place mid.nodes s came.node))
+            ∙ ap (λ (k : ℕ). Recovered k (view_of (with_node mid s came.node) came.node)) last_is;
+        leads = refl;
+      });
       stands = up;
       rose = rose_here;
     }
 
     pub risen : (ring last : ℕ) (view : SiteView) → CameUp node after → ring ≡ node.ring
         → ((k : Node) → StandsAt k after → k.state ≡ IsUp → NotedUp k s ring last old new)
-        → ((w' : World) → YardStands w' new → s < w'.sites → view ≡ view_of w' (w'.nodes s)) → Recovering w s (Recovered last view) old new
+        → ((w' : World) → YardAgrees w' new → s < w'.sites → view ≡ view_of w' (w'.nodes s)) → Recovering w s (Recovered last view) old new
     risen ring last view came ring_is notes shows =
         let noted = notes came.node came.stands came.same.up in
         risen_by (told_or after) ring last view came ring_is noted.last_is
@@ -209,12 +217,12 @@ module _ {R : Type 0} {g : Ghosts R} where
     -- ---- a site that stays down
 
     module _ (facts : new.facts.items ≡ old.facts.items) where
-      stays : StandsAt node after → YardStands mid new
+      stays : StandsAt node after → YardAgrees mid new
       stays at =
           stands_new mid mid old new stands (facts ∙ stands.facts)
           (subst (λ es. EnginesStand mid es) (sym engines) (engines_same mid old.engines.items s after below stands.engines at)) racks
 
-      begun : StandsAt (record node { session = node.session + 1 }) after → YardStands (session_begun mid s) new
+      begun : StandsAt (record node { session = node.session + 1 }) after → YardAgrees (session_begun mid s) new
       begun at =
           stands_set mid (session_begun mid s) old new s (record node { session = node.session + 1 }) (site_fact node) after stands below refl (λ k. refl) at (session_fact node) refl
           (facts ∙ set_there old.facts.items s (site_fact node) (fact_there mid old s stands below)) engines racks
@@ -236,46 +244,40 @@ module _ {R : Type 0} {g : Ghosts R} where
       failed disk rose (inr at) = record {
         world = session_begun mid s;
         fails = (s, disk) ∷ [];
-        recovers = StaysDown mid disk begins (inr (record { one = refl; says = refl; leads = refl }));
-        stands = begun at;
+        recovers = StaysDown mid disk begins (inr (record { one = refl; says = refl; leads = refl }, at.1));
+        stands = begun at.0;
         rose = rose_there disk rose;
       }
 
-      limited : (why : No) → why ≡ no_number → StandsAt node after → (IsToldAt after → most_number ≤ most_stamp node + 2) → IsToldAt after ⊎ (IsToldAt after → ⊥) → Recovering w s (Refused why) old new
-      limited why is at most (inl told) = record {
+      limited : (why : No) → why ≡ no_number → StandsAt node after → (IsToldAt after → most_number ≤ most_stamp node + 2) → Recovering w s (Refused why) old new
+      limited why is at most = record {
         world = mid;
         fails = [];
-        recovers = NoSession mid begins (most told) (record { none = refl; says = ap (λ (k : No). Refused k) is; leads = refl });
-        stands = stays at;
-        rose = rose_here;
-      }
-      limited why is at most (inr untold) = record {
-        world = mid;
-        fails = [];
-        recovers = Untold (not_all old.engines.items s before after new.engines.items there engines untold);
+        recovers = NoSession mid begins (λ told. most (told.each s after (ap (λ es. slice_get es s) engines ∙ get-set_same old.engines.items s after (slice_get_within old.engines.items s before there))))
+            (record { none = refl; says = ap (λ (k : No). Refused k) is; leads = refl });
         stands = stays at;
         rose = rose_here;
       }
 
-      untold_still : (why : No) → (IsToldAt after → ⊥) × StandsAt node after → Recovering w s (Refused why) old new
-      untold_still why h = record {
+      untold_still : (why : No) → IsNoDevice why → (IsToldAt after → ⊥) × StandsAt node after → Recovering w s (Refused why) old new
+      untold_still why other h = record {
         world = mid;
         fails = [];
-        recovers = Untold (not_all old.engines.items s before after new.engines.items there engines h.0);
+        recovers = FindsNone (not_all old.engines.items s before after new.engines.items there engines h.0) mid why begins other (record { none = refl; says = refl; leads = refl });
         stands = stays h.1;
         rose = rose_here;
       }
 
       pub stays_down : (why : No) → CameUpIs node before after (Err why) → Recovering w s (Refused why) old new
       stays_down (Device disk) h = failed disk h.1 h.0
-      stays_down (Limit what most) h = limited (Limit what most) h.0 h.2 h.1 (told_or after)
-      stays_down other h = untold_still other h
+      stays_down (Limit what most) h = limited (Limit what most) h.0 h.2 h.1
+      stays_down other h = untold_still other tt h
 
   -- what a start that was answered comes to, with what was taken of its group
-  pub risen_line : (w mid : World) (old y new : Yard R g) (s ring last : ℕ) (view : SiteView) (before after : Engine R g) (answer : Result (Unit {0}) No) (done : Unit {0}) → YardStands mid old → s < mid.sites → Begins w s mid
+  pub risen_line : (w mid : World) (old y new : Yard R g) (s ring last : ℕ) (view : SiteView) (before after : Engine R g) (answer : Result (Unit {0}) No) (done : Unit {0}) → YardAgrees mid old → s < mid.sites → Begins w s mid
       → (mid.nodes s).state ≡ IsDown → slice_get old.engines.items s ≡ Some before → Later before after → answer ≡ Ok done → ((n : Node) → StandsAt n before → n.state ≡ IsDown → ring ≡ n.ring → CameUpIs n before after answer)
       → ring ≡ (mid.nodes s).ring → y.facts ≡ old.facts → y.engines.items ≡ slice_set (slice_set old.engines.items s Gone) s after → y.racks ≡ old.racks
-      → NotesUp s ring last y new → new.engines ≡ y.engines → new.racks ≡ y.racks → ((w' : World) → YardStands w' new → s < w'.sites → view ≡ view_of w' (w'.nodes s)) → Recovering w s (Recovered last view) old new
+      → NotesUp s ring last y new → new.engines ≡ y.engines → new.racks ≡ y.racks → ((w' : World) → YardAgrees w' new → s < w'.sites → view ≡ view_of w' (w'.nodes s)) → Recovering w s (Recovered last view) old new
   risen_line w mid old y new s ring last view before after answer done stands below begins down there later is came ring_is facts engines racks notes engines_same' racks_same shows =
       let set : y.engines.items ≡ slice_set old.engines.items s after = engines ∙ set_twice old.engines.items s Gone after in
       let at : slice_get y.engines.items s ≡ Some after = ap (λ es. slice_get es s) set ∙ get-set_same old.engines.items s after (slice_get_within old.engines.items s before there) in
@@ -290,7 +292,7 @@ module _ {R : Type 0} {g : Ghosts R} where
       shows
 
   -- and what one that was refused
-  pub stayed_line : (w mid : World) (old new : Yard R g) (s ring : ℕ) (before after : Engine R g) (answer : Result (Unit {0}) No) (why : No) → YardStands mid old → s < mid.sites → Begins w s mid
+  pub stayed_line : (w mid : World) (old new : Yard R g) (s ring : ℕ) (before after : Engine R g) (answer : Result (Unit {0}) No) (why : No) → YardAgrees mid old → s < mid.sites → Begins w s mid
       → (mid.nodes s).state ≡ IsDown → slice_get old.engines.items s ≡ Some before → Later before after → answer ≡ Err why → ((n : Node) → StandsAt n before → n.state ≡ IsDown → ring ≡ n.ring → CameUpIs n before after answer)
       → ring ≡ (mid.nodes s).ring → new.facts ≡ old.facts → new.engines.items ≡ slice_set (slice_set old.engines.items s Gone) s after → new.racks ≡ old.racks → Recovering w s (Refused why) old new
   stayed_line w mid old new s ring before after answer why stands below begins down there later is came ring_is facts engines racks =
@@ -313,7 +315,7 @@ module _ {R : Type 0} {g : Ghosts R} where
   never_deported n (Down rack) h is = let e : IsDown ≡ Deported = sym h.state ∙ is in absurd (cc)
   never_deported n Gone h is = h
 
-  pub shown_there : (w : World) (y : Yard R g) (name : List ℕ) (s : ℕ) (f : SiteFacts) → YardStands w y → seat_of y.facts.items name ≡ Some s → slice_get y.facts.items s ≡ Some f → (8 ≤ f.blocks) × (f.state ≡ Deported → ⊥)
+  pub shown_there : (w : World) (y : Yard R g) (name : List ℕ) (s : ℕ) (f : SiteFacts) → YardAgrees w y → seat_of y.facts.items name ≡ Some s → slice_get y.facts.items s ≡ Some f → (8 ≤ f.blocks) × (f.state ≡ Deported → ⊥)
   shown_there w y name s f stands seat at =
       let here = seated w y name s stands seat in
       let same : f ≡ site_fact (w.nodes s) = some_same (sym at ∙ here.fact) in
@@ -323,7 +325,7 @@ module _ {R : Type 0} {g : Ghosts R} where
 
   -- ---- the line
 
-  pub recover_worked : (w : World) (old new : Yard R g) (name : List ℕ) (s : ℕ) (said : Said) → YardStands w old → seat_of old.facts.items name ≡ Some s → Recovering w s said old new → Worked w (Recover name) said old new
+  pub recover_worked : (w : World) (old new : Yard R g) (name : List ℕ) (s : ℕ) (said : Said) → YardAgrees w old → seat_of old.facts.items name ≡ Some s → Recovering w s said old new → Worked w (Recover name) said old new
   recover_worked w old new name s said stands seat r =
       let here = seated w old name s stands seat in
       record {
@@ -335,9 +337,9 @@ module _ {R : Type 0} {g : Ghosts R} where
       }
 
   -- a site that was down is started
-  pub recover_down : (w : World) (y new : Yard R g) (name : List ℕ) (s ring : ℕ) (said : Said) (f : SiteFacts) → YardStands w y → seat_of y.facts.items name ≡ Some s → slice_get y.facts.items s ≡ Some f
+  pub recover_down : (w : World) (y new : Yard R g) (name : List ℕ) (s ring : ℕ) (said : Said) (f : SiteFacts) → YardAgrees w y → seat_of y.facts.items name ≡ Some s → slice_get y.facts.items s ≡ Some f
       → f.state ≡ IsDown → ring ≡ ring_of f.blocks
-      → ((w mid : World) → YardStands mid y → s < mid.sites → Begins w s mid → (mid.nodes s).state ≡ IsDown → ring ≡ (mid.nodes s).ring → Recovering w s said y new) → Worked w (Recover name) said y new
+      → ((w mid : World) → YardAgrees mid y → s < mid.sites → Begins w s mid → (mid.nodes s).state ≡ IsDown → ring ≡ (mid.nodes s).ring → Recovering w s said y new) → Worked w (Recover name) said y new
   recover_down w y new name s ring said f stands seat at down ring_is rises =
       let here = seated w y name s stands seat in
       let same : f ≡ site_fact (w.nodes s) = some_same (sym at ∙ here.fact) in
@@ -348,9 +350,9 @@ module _ {R : Type 0} {g : Ghosts R} where
       (ring_is ∙ ap (λ (k : SiteFacts). ring_of k.blocks) same ∙ sym (down_ring (w.nodes s) e.0 (stands.engines.sites s e.0 here.below e.1) is)))
 
   -- a site that was up crashes first
-  pub recover_up : (w : World) (y mid new : Yard R g) (name : List ℕ) (s ring : ℕ) (said : Said) (f : SiteFacts) → YardStands w y → seat_of y.facts.items name ≡ Some s → slice_get y.facts.items s ≡ Some f
-      → f.state ≡ IsUp → ring ≡ ring_of f.blocks → ((w : World) → YardStands w y → s < w.sites → (w.nodes s).state ≡ IsUp → Fell w s y mid)
-      → ((w m : World) → YardStands m mid → s < m.sites → Begins w s m → (m.nodes s).state ≡ IsDown → ring ≡ (m.nodes s).ring → Recovering w s said mid new) → Worked w (Recover name) said y new
+  pub recover_up : (w : World) (y mid new : Yard R g) (name : List ℕ) (s ring : ℕ) (said : Said) (f : SiteFacts) → YardAgrees w y → seat_of y.facts.items name ≡ Some s → slice_get y.facts.items s ≡ Some f
+      → f.state ≡ IsUp → ring ≡ ring_of f.blocks → ((w : World) → YardAgrees w y → s < w.sites → (w.nodes s).state ≡ IsUp → Fell w s y mid)
+      → ((w m : World) → YardAgrees m mid → s < m.sites → Begins w s m → (m.nodes s).state ≡ IsDown → ring ≡ (m.nodes s).ring → Recovering w s said mid new) → Worked w (Recover name) said y new
   recover_up w y mid new name s ring said f stands seat at up ring_is falls rises =
       let here = seated w y name s stands seat in
       let same : f ≡ site_fact (w.nodes s) = some_same (sym at ∙ here.fact) in

@@ -1,14 +1,12 @@
 -- How the log of a site that is up gets room for a write.
-use Rattle.std.proofs.Common.{◌≡◌, ◌∙◌, ◌⊎◌, inl, inr, ⊎_elim, ◌+◌, ◌-◌, ◌<◌, ◌≤◌, ◌^◌, ℕ, zero, suc, Bool, true, false, List, [], ◌∷◌, ◌++◌, length, take, drop, ap, sym, subst, refl, arith, IsTrue, length-append}
-use Rattle.std.specs.Prelude.{IsFalse, Option, Some, None, Result, Ok, Err, OnOk, IsSome, leb, ltb, ◌&&◌, ◌||◌, if◌then◌else◌}
+use Rattle.std.proofs.Common.{◌≡◌, ◌∙◌, ◌⊎◌, inl, inr, ⊎_elim, ◌+◌, ◌-◌, ◌<◌, ◌≤◌, ◌^◌, ℕ, Bool, true, false, List, [], ◌∷◌, length, ap, sym, subst, refl, arith, IsTrue, length-append}
+use Rattle.std.specs.Prelude.{IsFalse, Option, Some, None, Result, Ok, Err, OnOk, IsSome, leb, ◌&&◌, ◌||◌, if◌then◌else◌}
 use Rattle.std.proofs.lemmas.Bool.Decides.{nat_tests}
 use Rattle.std.proofs.lemmas.List.{length-drop}
 use Rattle.vx_history.specs.World.{Node, Fuse}
 use Rattle.vx_history.specs.Steps.{burned}
 use Rattle.vx_model.specs.declared.no.No.{No}
-use Rattle.vx_model.specs.declared.no.No.TheVariants.{Device, Limit, Down, Halted}
-use Rattle.vx_model.specs.declared.state.State.{State}
-use Rattle.vx_srlfmt.specs.declared.header.Header.{Header}
+use Rattle.vx_model.specs.declared.no.No.TheVariants.{Device, Limit, Down}
 use Rattle.vx_srl.specs.Calls.{saved}
 use Rattle.vx_srl.specs.Headers.{without}
 use Rattle.vx_srl.specs.Views.{Log, most_number, count_to, head_of, free_of, widths, all_of}
@@ -17,13 +15,14 @@ use Rattle.vx_disk.specs.Counts.{Rose}
 use Rattle.vx_disk.specs.Shelf.{Meaning, Image, Lawful}
 use Rattle.vx_disk.specs.Moves.{Moves, Run}
 use Rattle.vx_rvg.specs.Groups.{ApplyIs, Fails, Ended, unless_halted}
-use Rattle.vx_rvg.specs.Saves.{SaveIs, Saves, reclaim_refusal, reclaimed, log_without}
+use Rattle.vx_rvg.specs.Saves.{SaveIs, reclaim_refusal, reclaimed, log_without}
 use Rattle.vx_rvg.specs.Stands.{Retains, Saving}
-use Rattle.vx_rvg.specs.Views.{Core, IsSound, last_of}
+use Rattle.vx_rvg.specs.Views.{Core, IsSound}
 use Rattle.vx_node.specs.Engines.{no_number, halted_at, worked}
-use Rattle.vx_node.specs.Holds.{HasWrites, raw_units, state_of, most_stamp}
+use Rattle.vx_node.specs.Holds.{HasWrites}
 use Rattle.vx_node.specs.Rooms.{AppliedAs, IsRoomy, RoomIs}
-use Rattle.vx_node.specs.Fuses.{IsFused, HasFuse}
+use Rattle.vx_node.specs.Fuses.{HasFuse}
+use Rattle.vx_events.specs.Fuses.{IsFused}
 use Rattle.vx_node.specs.Stands.{IsUpAt, IsHeldAt}
 use Rattle.vx_node.proofs.Applying.{ended_log}
 use Rattle.vx_node.proofs.Lasts.{retains_with, saving_with}

@@ -1,39 +1,16 @@
 -- The site that a line names.
-use Rattle.std.proofs.Common.{◌≡◌, ◌∙◌, ◌+◌, ◌<◌, ℕ, List, length, ap, sym, refl, arith, Bool, true, false}
-use Rattle.std.specs.Prelude.{Option, Some, None, slice_get, cond, nat_lt, unwrap_or}
-use Rattle.std.specs.List.{position, position_or_len}
+use Rattle.std.proofs.Common.{◌≡◌, ◌∙◌, ◌+◌, ◌<◌, ℕ, List, length, ap, sym, arith}
+use Rattle.std.specs.Prelude.{Option, Some, None, slice_get, unwrap_or}
 use Rattle.std.specs.Str.{bytes_eq}
-use Rattle.std.proofs.lemmas.Bool.Decides.{nat_tests}
 use Rattle.vx_history.specs.World.{World}
 use Rattle.vx_disk.specs.declared.shelf.Shelf.{Ghosts}
 use Rattle.vx_order.specs.declared.facts.SiteFacts.{SiteFacts}
 use Rattle.vx_node.specs.declared.yard.Yard.{Yard}
-use Rattle.vx_node.specs.Facts.{site_fact, facts_of, seat_of, site_number}
-use Rattle.vx_node.specs.Yards.{YardStands}
-use Rattle.vx_node.proofs.Refused.{Named}
-use Rattle.vx_node.proofs.Values.{length-values_from, slice_get-values_from}
-
-pub some_same : {A : Type 0} {a b : A} → Some a ≡ Some b → a ≡ b
-some_same e = cc
-
-pub never_some : {A : Type 0} {a : A} → None ≡ Some a → ⊥
-never_some e = cc
-
-within_by : (b : Bool) (n i : ℕ) → cond b (Some n) None ≡ Some i → (b ≡ true) × (n ≡ i)
-within_by true n i e = (refl, cc)
-within_by false n i e = absurd (cc)
-
--- a place that was found lies in the list
-pub position_within : {A : Type 0} (p : A → Bool) (xs : List A) (i : ℕ) → position p xs ≡ Some i → i < length xs
-position_within p xs i e =
-    let both = within_by (nat_lt (position_or_len p xs) (length xs)) (position_or_len p xs) i e in
-    below (position_or_len p xs) (length xs) i both.0 both.1
-  where
-    below : (n len i : ℕ) → nat_lt n len ≡ true → n ≡ i → i < len
-    below n len i a b = grind (arith, nat_tests)
-
-pub seat_within : (fs : List SiteFacts) (name : List ℕ) (s : ℕ) → seat_of fs name ≡ Some s → s < length fs
-seat_within fs name s is = position_within (λ site. bytes_eq site.name name) fs s is
+use Rattle.vx_events.specs.Facts.{site_fact, facts_of, seat_of, site_number}
+use Rattle.vx_events.proofs.Places.{position_within, some_same, never_some}
+use Rattle.vx_node.specs.Yards.{YardAgrees}
+use Rattle.vx_events.proofs.Refused.{Named}
+use Rattle.vx_events.proofs.Values.{length-values_from, slice_get-values_from}
 
 module _ {R : Type 0} {g : Ghosts R} where
   -- the site of this number is the one of that name
@@ -42,7 +19,7 @@ module _ {R : Type 0} {g : Ghosts R} where
     pub number : site_number w name ≡ s
     pub fact : slice_get y.facts.items s ≡ Some (site_fact (w.nodes s))
 
-  pub seated : (w : World) (y : Yard R g) (name : List ℕ) (s : ℕ) → YardStands w y → seat_of y.facts.items name ≡ Some s → Seated w y name s
+  pub seated : (w : World) (y : Yard R g) (name : List ℕ) (s : ℕ) → YardAgrees w y → seat_of y.facts.items name ≡ Some s → Seated w y name s
   seated w y name s stands is =
       let many : length (facts_of w) ≡ w.sites = length-values_from (λ i. site_fact (w.nodes i)) 0 w.sites in
       let seat : seat_of (facts_of w) name ≡ Some s = ap (λ (fs : List SiteFacts). seat_of fs name) (sym stands.facts) ∙ is in
@@ -66,5 +43,5 @@ module _ {R : Type 0} {g : Ghosts R} where
   named_none y name is n = never_some (sym is ∙ n.at.is)
 
   -- its engine is one of the eight
-  pub seat_below : (w : World) (y : Yard R g) (name : List ℕ) (s len : ℕ) → YardStands w y → seat_of y.facts.items name ≡ Some s → len ≡ length y.engines.items → s < len
+  pub seat_below : (w : World) (y : Yard R g) (name : List ℕ) (s len : ℕ) → YardAgrees w y → seat_of y.facts.items name ≡ Some s → len ≡ length y.engines.items → s < len
   seat_below w y name s len stands is many = omega (arith, (seated w y name s stands is).below, stands.engines.few, stands.engines.eight, many)

@@ -14,19 +14,19 @@ use Rattle.vx_order.specs.declared.facts.SiteFacts.{SiteFacts}
 use Rattle.vx_script.specs.declared.line.ScriptLine.TheVariants.{Site}
 use Rattle.vx_node.specs.declared.engine.Engine.{Engine}
 use Rattle.vx_model.specs.declared.errors.OutOfMemory.{OutOfMemory as OutOfMemory'}
-use Rattle.vx_node.specs.declared.said.Said.{Said}
-use Rattle.vx_node.specs.declared.said.Said.TheVariants.{Done}
+use Rattle.vx_events.specs.declared.said.Said.{Said}
+use Rattle.vx_events.specs.declared.said.Said.TheVariants.{Done}
 use Rattle.vx_node.specs.declared.yard.Yard.{Yard}
 use Rattle.vx_node.specs.Changes.{bare_facts}
 use Rattle.vx_node.specs.Engines.{Later, FitIs}
-use Rattle.vx_node.specs.Facts.{site_fact, facts_of}
+use Rattle.vx_events.specs.Facts.{site_fact, facts_of}
 use Rattle.vx_node.specs.Replies.{reply_to}
 use Rattle.vx_node.specs.Stands.{EnginesStand, StandsAt, IsUnused, RoseAll, faults_of}
 use Rattle.vx_node.specs.Working.{WorkIs, Worked, IsFree}
-use Rattle.vx_node.specs.Yards.{YardStands, in_files, count_of}
+use Rattle.vx_node.specs.Yards.{YardAgrees, in_files, count_of}
 use Rattle.vx_node.proofs.Changing.{facts-made, rose_none, rose_one, counts_later, counts_rose, engines_made, engines_unused}
-use Rattle.vx_node.proofs.Refused.{SiteMay, site_may}
-use Rattle.vx_node.proofs.Values.{length-values_from}
+use Rattle.vx_events.proofs.Refused.{SiteMay, site_may}
+use Rattle.vx_events.proofs.Values.{length-values_from}
 
 most_same : {T : Type 0} (dir : Option T) (files : Bool) → is_some dir ≡ files → most_blocks dir ≡ most_of files
 most_same None true e = absurd (cc)
@@ -36,7 +36,7 @@ most_same (Some d) false e = absurd (cc)
 
 module _ {R : Type 0} {g : Ghosts R} where
   -- the yard with the facts and engines of another world
-  pub stands_new : (w w' : World) (old new : Yard R g) → YardStands w old → new.facts.items ≡ facts_of w' → EnginesStand w' new.engines.items → new.racks ≡ old.racks → YardStands w' new
+  pub stands_new : (w w' : World) (old new : Yard R g) → YardAgrees w old → new.facts.items ≡ facts_of w' → EnginesStand w' new.engines.items → new.racks ≡ old.racks → YardAgrees w' new
   stands_new w w' old new stands facts engines racks = record {
     facts = facts;
     engines = engines;
@@ -45,10 +45,10 @@ module _ {R : Type 0} {g : Ghosts R} where
   }
 
   -- the number of a new site is free
-  pub sites_many : (w : World) (y : Yard R g) → YardStands w y → length y.facts.items ≡ w.sites
+  pub sites_many : (w : World) (y : Yard R g) → YardAgrees w y → length y.facts.items ≡ w.sites
   sites_many w y stands = ap (λ (fs : List SiteFacts). length fs) stands.facts ∙ length-values_from (λ i. site_fact (w.nodes i)) 0 w.sites
 
-  pub site_done : (w : World) (old new : Yard R g) (name : List ℕ) (disks blocks : ℕ) (before after : Engine R g) → YardStands w old → IsFree old (Site name disks blocks)
+  pub site_done : (w : World) (old new : Yard R g) (name : List ℕ) (disks blocks : ℕ) (before after : Engine R g) → YardAgrees w old → IsFree old (Site name disks blocks)
       → slice_get old.engines.items (length old.facts.items) ≡ Some before → Later before after → ((name : List ℕ) → StandsAt (bare_site name disks blocks) after)
       → new.facts.items ≡ old.facts.items ++ bare_facts name disks blocks ∷ [] → new.engines.items ≡ slice_set old.engines.items (length old.facts.items) after → new.racks ≡ old.racks
       → Worked w (Site name disks blocks) Done old new
@@ -69,7 +69,7 @@ module _ {R : Type 0} {g : Ghosts R} where
             (rose_none (count_of old) (faults_of (slice_set old.engines.items (length old.facts.items) after)) (λ s d. counts_later old.engines.items (length old.facts.items) before after at later s d));
       }
 
-  pub site_failed : {T : Type 0} (dir : Option T) (stop : Stop) (w : World) (old new : Yard R g) (name : List ℕ) (disks blocks : ℕ) (before after : Engine R g) → YardStands w old → IsFree old (Site name disks blocks)
+  pub site_failed : {T : Type 0} (dir : Option T) (stop : Stop) (w : World) (old new : Yard R g) (name : List ℕ) (disks blocks : ℕ) (before after : Engine R g) → YardAgrees w old → IsFree old (Site name disks blocks)
       → is_some dir ≡ in_files old → slice_get old.engines.items (length old.facts.items) ≡ Some before → Later before after → FitIs dir disks blocks before after (Err stop)
       → new.facts.items ≡ old.facts.items → new.engines.items ≡ slice_set old.engines.items (length old.facts.items) after → new.racks ≡ old.racks
       → WorkIs w (Site name disks blocks) old new (reply_to stop)
@@ -78,7 +78,7 @@ module _ {R : Type 0} {g : Ghosts R} where
       may : SiteMay old.facts.items (in_files old) disks blocks
       may = site_may old.facts.items (in_files old) name disks blocks free
 
-      stays : IsUnused after → YardStands w new
+      stays : IsUnused after → YardAgrees w new
       stays unused = stands_new w w old new stands (facts ∙ stands.facts)
           (subst (λ es. EnginesStand w es) (sym engines)
           (engines_unused w old.engines.items (length old.facts.items) after (omega (arith, sites_many w old stands)) may.few_sites stands.engines unused))
@@ -104,7 +104,7 @@ module _ {R : Type 0} {g : Ghosts R} where
       }
       by_stop (Refused other) h = absurd (omega (arith, h, may.few_blocks, most_same dir (in_files old) files))
 
-  pub site_said : {T : Type 0} (dir : Option T) (stop : Stop) (said : Result Said OutOfMemory') (w : World) (old new : Yard R g) (name : List ℕ) (disks blocks : ℕ) (before after : Engine R g) → said ≡ reply_to stop → YardStands w old → IsFree old (Site name disks blocks)
+  pub site_said : {T : Type 0} (dir : Option T) (stop : Stop) (said : Result Said OutOfMemory') (w : World) (old new : Yard R g) (name : List ℕ) (disks blocks : ℕ) (before after : Engine R g) → said ≡ reply_to stop → YardAgrees w old → IsFree old (Site name disks blocks)
       → is_some dir ≡ in_files old → slice_get old.engines.items (length old.facts.items) ≡ Some before → Later before after → FitIs dir disks blocks before after (Err stop)
       → new.facts.items ≡ old.facts.items → new.engines.items ≡ slice_set old.engines.items (length old.facts.items) after → new.racks ≡ old.racks
       → WorkIs w (Site name disks blocks) old new said

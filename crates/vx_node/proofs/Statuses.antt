@@ -13,17 +13,18 @@ use Rattle.vx_report.specs.declared.view.RvgView.{RvgView}
 use Rattle.vx_report.specs.declared.view.SiteView.{SiteView}
 use Rattle.vx_script.specs.declared.line.ScriptLine.TheVariants.{Status}
 use Rattle.vx_node.specs.declared.engine.Engine.{Engine}
-use Rattle.vx_node.specs.declared.said.Said.TheVariants.{Shown}
+use Rattle.vx_events.specs.declared.said.Said.TheVariants.{Shown}
 use Rattle.vx_node.specs.declared.yard.Yard.{Yard}
-use Rattle.vx_node.specs.Facts.{site_fact, facts_of, group_fact, group_by, values_from, seat_of}
+use Rattle.vx_events.specs.Facts.{site_fact, facts_of, group_fact, group_by, values_from, seat_of}
 use Rattle.vx_node.specs.Seen.{name_at, group_seen, group_at}
 use Rattle.vx_node.specs.Stands.{StandsAt}
-use Rattle.vx_node.specs.Views.{name_of, group_view, group_shown, view_of}
+use Rattle.vx_events.specs.Views.{name_of, group_view, group_shown, view_of}
 use Rattle.vx_node.specs.Working.{Worked}
-use Rattle.vx_node.specs.Yards.{YardStands, count_of}
+use Rattle.vx_node.specs.Yards.{YardAgrees, count_of}
 use Rattle.vx_node.proofs.Changing.{rose_none}
-use Rattle.vx_node.proofs.Seats.{seated, some_same}
-use Rattle.vx_node.proofs.Values.{slice_get-values_from}
+use Rattle.vx_events.proofs.Places.{some_same}
+use Rattle.vx_node.proofs.Seats.{seated}
+use Rattle.vx_events.proofs.Values.{slice_get-values_from}
 
 past_values : {A : Type 0} (f : ℕ → A) (k n i : ℕ) → n ≤ i → slice_get (values_from f k n) i ≡ None
 past_values f k zero i h = refl
@@ -76,7 +77,7 @@ view_same w n session is = ap (λ (g : Option RvgView). view_with n g) (shown_sa
 
 module _ {R : Type 0} {g : Ghosts R} where
   -- what is shown of the facts of a site is how it stands
-  pub view_is : (w : World) (y : Yard R g) (s session : ℕ) (site : SiteFacts) (engine : Engine R g) (view : SiteView) → YardStands w y → s < w.sites
+  pub view_is : (w : World) (y : Yard R g) (s session : ℕ) (site : SiteFacts) (engine : Engine R g) (view : SiteView) → YardAgrees w y → s < w.sites
       → slice_get y.facts.items s ≡ Some site → slice_get y.engines.items s ≡ Some engine → ((n : Node) → StandsAt n engine → n.state ≡ Up → session ≡ n.session)
       → view ≡ view_seen y.facts.items session site → view ≡ view_of w (w.nodes s)
   view_is w y s session site engine view stands below site_at engine_at session_is is =
@@ -87,8 +88,8 @@ module _ {R : Type 0} {g : Ghosts R} where
       ∙ ap (λ (fs : List SiteFacts). view_seen fs session (site_fact (w.nodes s))) stands.facts
       ∙ view_same w (w.nodes s) session (session_is (w.nodes s) (stands.engines.sites s engine below engine_at))
 
-  pub status_done : (w : World) (y : Yard R g) (name : List ℕ) (s : ℕ) (view : SiteView) → YardStands w y → seat_of y.facts.items name ≡ Some s
-      → ((v : World) → YardStands v y → s < v.sites → view ≡ view_of v (v.nodes s)) → Worked w (Status name) (Shown view) y y
+  pub status_done : (w : World) (y : Yard R g) (name : List ℕ) (s : ℕ) (view : SiteView) → YardAgrees w y → seat_of y.facts.items name ≡ Some s
+      → ((v : World) → YardAgrees v y → s < v.sites → view ≡ view_of v (v.nodes s)) → Worked w (Status name) (Shown view) y y
   status_done w y name s view stands at is =
       let seat = seated w y name s stands at in
       record {

@@ -1,5 +1,5 @@
 -- A site that is up stays so over calls on its group.
-use Rattle.std.proofs.Common.{◌≡◌, ◌⊎◌, inl, inr, ⊎_elim, ℕ, zero, suc, ◌+◌, ◌-◌, ◌≤◌, Bool, true, false, List, [], ◌∷◌, length, take, drop, Option, None, IsTrue, refl, sym, ◌∙◌, ap, subst, arith}
+use Rattle.std.proofs.Common.{◌≡◌, ◌⊎◌, inl, inr, ⊎_elim, ℕ, zero, suc, ◌≤◌, Bool, true, false, List, [], ◌∷◌, length, take, drop, Option, None, IsTrue, refl, sym, ◌∙◌, ap, subst, arith}
 use Rattle.std.specs.Prelude.{IsFalse}
 use Rattle.std.proofs.lemmas.List.{take_all}
 use Rattle.vx_model.specs.Content.{Content, Write, fold_writes}
@@ -11,13 +11,15 @@ use Rattle.vx_srlfmt.specs.declared.header.Header.{Header}
 use Rattle.vx_srl.specs.Views.{widths}
 use Rattle.vx_srl.specs.declared.kept.Kept.{Kept}
 use Rattle.vx_disk.specs.Shelf.{Meaning, Image, Lawful}
-use Rattle.vx_disk.specs.Moves.{Blocks, Says, Beside, Moves}
+use Rattle.vx_disk.specs.Moves.{Blocks, Says, Moves}
 use Rattle.vx_rvg.specs.Holdings.{Holding}
 use Rattle.vx_rvg.specs.Stands.{Found}
 use Rattle.vx_rvg.specs.Views.{Core}
-use Rattle.vx_node.specs.Holds.{HasWrites, raw_units, state_of, state_with, most_stamp}
+use Rattle.vx_node.specs.Holds.{HasWrites, raw_units, state_of, state_with}
+use Rattle.vx_events.specs.Stamps.{most_stamp}
 use Rattle.vx_node.specs.Engines.{worked}
-use Rattle.vx_node.specs.Fuses.{IsFused, HasFuse}
+use Rattle.vx_node.specs.Fuses.{HasFuse}
+use Rattle.vx_events.specs.Fuses.{IsFused}
 use Rattle.vx_node.specs.Lasts.{FoundWith, StandsWith}
 use Rattle.vx_node.proofs.Lasts.{FoundOf}
 use Rattle.vx_node.specs.Stands.{IsFitted, IsUpAt, IsHeldAt}

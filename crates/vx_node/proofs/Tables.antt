@@ -7,7 +7,7 @@ use Rattle.vx_history.specs.Steps.{raw_volumes}
 use Rattle.vx_history.specs.World.{Volume}
 use Rattle.vx_order.specs.declared.facts.VolumeFacts.{VolumeFacts}
 use Rattle.vx_node.specs.Changes.{raw_volume_fact}
-use Rattle.vx_node.specs.Facts.{volume_fact}
+use Rattle.vx_events.specs.Facts.{volume_fact}
 
 abbrev volume_named : List ℕ → ℕ → Volume
 volume_named name blocks = record { name = name; blocks = blocks }

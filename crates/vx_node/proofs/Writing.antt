@@ -19,23 +19,24 @@ use Rattle.vx_order.specs.declared.facts.VolumeKind.TheVariants.{Data}
 use Rattle.vx_script.specs.declared.line.ScriptLine.TheVariants.{Write as WriteLine, Put as PutLine}
 use Rattle.vx_node.specs.declared.engine.Engine.{Engine}
 use Rattle.vx_node.specs.declared.engine.Engine.TheVariants.{Bare, Spoiled, Up, Down, Gone}
-use Rattle.vx_node.specs.declared.said.Said.{Said}
-use Rattle.vx_node.specs.declared.said.Said.TheVariants.{DoneAt, Refused}
+use Rattle.vx_events.specs.declared.said.Said.{Said}
+use Rattle.vx_events.specs.declared.said.Said.TheVariants.{DoneAt, Refused}
 use Rattle.vx_node.specs.declared.yard.Yard.{Yard}
 use Rattle.vx_node.specs.Changes.{last_facts}
 use Rattle.vx_node.specs.Engines.{Later, CanWrite, WroteAt, halted_with, worked}
-use Rattle.vx_node.specs.Facts.{site_fact, facts_of, volume_fact, group_by, group_fact, seat_of, place_of, site_number, volume_number}
+use Rattle.vx_events.specs.Facts.{site_fact, facts_of, volume_fact, group_by, group_fact, seat_of, place_of, site_number, volume_number}
 use Rattle.vx_node.specs.Stands.{EnginesStand, StandsAt, RoseAll, faults_of}
 use Rattle.vx_node.specs.Working.{Worked, IsFree}
 use Rattle.vx_node.specs.Writes.{WriteFree, PutsAt, PutsIs, noted_facts}
 use Rattle.vx_node.specs.Writes.WriteFree.{ByWrite, ByPut}
-use Rattle.vx_node.specs.Steps.Puts.{IsPut, NoNumber, PutFails, PutCut}
+use Rattle.vx_node.specs.Works.Puts.{IsPut, NoNumber, PutFails, PutCut}
 use Rattle.vx_node.proofs.Falling.{stands_set, stands_same, fuse_fact}
-use Rattle.vx_node.specs.Yards.{YardStands, in_files, count_of}
-use Rattle.vx_node.proofs.Changing.{facts-updated, last_fact, halted_fact, rose_none, rose_one, counts_later, counts_rose, engines_set, engines_same}
+use Rattle.vx_node.specs.Yards.{YardAgrees, in_files, count_of}
+use Rattle.vx_node.proofs.Changing.{facts-updated, last_fact, halted_fact, rose_none, rose_one, counts_later, counts_rose, engines_set}
 use Rattle.vx_node.proofs.Lists.{get_at, get-set_same, set_same}
-use Rattle.vx_node.proofs.Refused.{WriteMay, write_may, put_may}
-use Rattle.vx_node.proofs.Seats.{Seated, seated, named_fact, named_none, some_same, never_some, position_within}
+use Rattle.vx_events.proofs.Refused.{WriteMay, write_may, put_may}
+use Rattle.vx_events.proofs.Places.{some_same, never_some, position_within}
+use Rattle.vx_node.proofs.Seats.{Seated, seated, named_fact, named_none}
 use Rattle.vx_node.proofs.Sites.{stands_new}
 
 get_there : {A : Type 0} (xs : List A) (i : ℕ) → i < length xs → (x : A) × (slice_get xs i ≡ Some x)
@@ -152,7 +153,7 @@ module _ {R : Type 0} {g : Ghosts R} where
       kind : may.call.found.kind ≡ Data
       kind = ap (λ (f : VolumeFacts). f.kind) (sym found.2)
 
-  pub goes : (w : World) (y : Yard R g) (name volume : List ℕ) (start : ℕ) (bytes : List ℕ) (s v : ℕ) (f : SiteFacts) (e : Engine R g) → YardStands w y → WriteFree y name volume start bytes
+  pub goes : (w : World) (y : Yard R g) (name volume : List ℕ) (start : ℕ) (bytes : List ℕ) (s v : ℕ) (f : SiteFacts) (e : Engine R g) → YardAgrees w y → WriteFree y name volume start bytes
       → seat_of y.facts.items name ≡ Some s → slice_get y.facts.items s ≡ Some f → place_of f.volumes volume ≡ Some v → slice_get y.engines.items s ≡ Some e → Goes w y name volume start bytes s v e
   goes w y name volume start bytes s v f e stands free seat at place there =
       let may = may_write y name volume start bytes free in
@@ -162,7 +163,7 @@ module _ {R : Type 0} {g : Ghosts R} where
       (ap (λ (k : SiteFacts). place_of k.volumes volume) (sym same) ∙ place) there (stands.engines.sites s e seated_here.below there)
 
   -- the numbers of the site and the volume are small
-  pub inside : (w : World) (y : Yard R g) (name volume : List ℕ) (start : ℕ) (bytes : List ℕ) (s v : ℕ) (f : SiteFacts) → YardStands w y → WriteFree y name volume start bytes
+  pub inside : (w : World) (y : Yard R g) (name volume : List ℕ) (start : ℕ) (bytes : List ℕ) (s v : ℕ) (f : SiteFacts) → YardAgrees w y → WriteFree y name volume start bytes
       → seat_of y.facts.items name ≡ Some s → slice_get y.facts.items s ≡ Some f → place_of f.volumes volume ≡ Some v → (s < 8) × (v < 8)
   inside w y name volume start bytes s v f stands free seat at place =
       let below = (seated w y name s stands seat).below in
@@ -181,7 +182,7 @@ module _ {R : Type 0} {g : Ghosts R} where
       subst (λ es. RoseAll [] (count_of old) (faults_of es)) (sym engines)
       (rose_none (count_of old) (faults_of (slice_set old.engines.items s after)) (λ i d. counts_later old.engines.items s e after there later i d))
 
-  done_at : (w : World) (old new : Yard R g) (s number : ℕ) (x : Write) (f' : SiteFacts) (e after : Engine R g) → YardStands w old → s < w.sites → slice_get old.engines.items s ≡ Some e → Later e after
+  done_at : (w : World) (old new : Yard R g) (s number : ℕ) (x : Write) (f' : SiteFacts) (e after : Engine R g) → YardAgrees w old → s < w.sites → slice_get old.engines.items s ≡ Some e → Later e after
       → WroteAt (w.nodes s) x e after (Ok number) → f' ≡ last_facts number (site_fact (w.nodes s)) → new.facts.items ≡ slice_set old.facts.items s f' → new.engines.items ≡ slice_set old.engines.items s after
       → new.racks ≡ old.racks → PutsAt w s x (DoneAt number) old new
   done_at w old new s number x f' e after stands below there later wrote is facts engines racks = record {
@@ -198,13 +199,13 @@ module _ {R : Type 0} {g : Ghosts R} where
     rose = rose_still old new s e after there later engines;
   }
 
-  failed_at : (w : World) (old new : Yard R g) (s : ℕ) (why : No) (x : Write) (f' : SiteFacts) (e after : Engine R g) → YardStands w old → s < w.sites → slice_get old.facts.items s ≡ Some (site_fact (w.nodes s))
+  failed_at : (w : World) (old new : Yard R g) (s : ℕ) (why : No) (x : Write) (f' : SiteFacts) (e after : Engine R g) → YardAgrees w old → s < w.sites → slice_get old.facts.items s ≡ Some (site_fact (w.nodes s))
       → slice_get old.engines.items s ≡ Some e → Later e after → WroteAt (w.nodes s) x e after (Err why) → f' ≡ noted_facts why (site_fact (w.nodes s)) → new.facts.items ≡ slice_set old.facts.items s f'
       → new.engines.items ≡ slice_set old.engines.items s after → new.racks ≡ old.racks → PutsAt w s x (Refused why) old new
   failed_at w old new s (Device disk) x f' e after stands below fact there later wrote is facts engines racks = record {
     world = half_written w s x disk;
     fails = (s, disk) ∷ [];
-    puts = PutFails disk (record { one = refl; says = refl; leads = refl });
+    puts = PutFails disk wrote.2 (record { one = refl; says = refl; leads = refl });
     stands = stands_new w (half_written w s x disk) old new stands
         (facts ∙ ap (λ (fs : List SiteFacts). slice_set fs s f') stands.facts
         ∙ ap (λ (f : SiteFacts). slice_set (facts_of w) s f) (is ∙ halted_fact (w.nodes s) x disk)
@@ -229,7 +230,7 @@ module _ {R : Type 0} {g : Ghosts R} where
       record {
         world = cut_write w s x has.count;
         fails = [];
-        puts = PutCut has.count wrote.0 has.least (omega (arith, has.most, length-append (w.nodes s).log (x ∷ [])))
+        puts = PutCut has.count wrote.3 wrote.0 has.least (omega (arith, has.most, length-append (w.nodes s).log (x ∷ [])))
             (λ calls told. wrote.2 calls (told.each s after (ap (λ es. slice_get es s) engines ∙ get-set_same old.engines.items s after (slice_get_within old.engines.items s e there))))
             (record { none = refl; says = refl; leads = refl });
         stands = stands_set w (cut_write w s x has.count) old new s (crashed (half_begun (w.nodes s) x) has.count) f' after stands below refl (λ k. refl) has.stands is refl facts engines racks;
@@ -237,7 +238,7 @@ module _ {R : Type 0} {g : Ghosts R} where
       }
   failed_at w old new s other x f' e after stands below fact there later wrote is facts engines racks = absurd wrote
 
-  pub write_done : (w : World) (old new : Yard R g) (name volume : List ℕ) (start : ℕ) (bytes : List ℕ) (s v number : ℕ) (f f' : SiteFacts) (e after : Engine R g) → YardStands w old
+  pub write_done : (w : World) (old new : Yard R g) (name volume : List ℕ) (start : ℕ) (bytes : List ℕ) (s v number : ℕ) (f f' : SiteFacts) (e after : Engine R g) → YardAgrees w old
       → Goes w old name volume start bytes s v e → slice_get old.facts.items s ≡ Some f → Later e after → WroteAt (w.nodes s) (the_write v start bytes) e after (Ok number)
       → f' ≡ last_facts number f → new.facts.items ≡ slice_set old.facts.items s f' → new.engines.items ≡ slice_set old.engines.items s after → new.racks ≡ old.racks
       → PutsIs w name volume start bytes (DoneAt number) old new
@@ -246,7 +247,7 @@ module _ {R : Type 0} {g : Ghosts R} where
       (done_at w old new s number (the_write v start bytes) f' e after stands to.below to.there later wrote
       (is ∙ ap (λ (k : SiteFacts). last_facts number k) (some_same (sym at ∙ to.fact))) facts engines racks)
 
-  pub write_failed : (w : World) (old new : Yard R g) (name volume : List ℕ) (start : ℕ) (bytes : List ℕ) (s v : ℕ) (why : No) (said : Said) (f f' : SiteFacts) (e after : Engine R g) → YardStands w old
+  pub write_failed : (w : World) (old new : Yard R g) (name volume : List ℕ) (start : ℕ) (bytes : List ℕ) (s v : ℕ) (why : No) (said : Said) (f f' : SiteFacts) (e after : Engine R g) → YardAgrees w old
       → Goes w old name volume start bytes s v e → slice_get old.facts.items s ≡ Some f → Later e after → WroteAt (w.nodes s) (the_write v start bytes) e after (Err why)
       → f' ≡ noted_facts why f → said ≡ Refused why → new.facts.items ≡ slice_set old.facts.items s f' → new.engines.items ≡ slice_set old.engines.items s after → new.racks ≡ old.racks
       → PutsIs w name volume start bytes said old new
@@ -264,8 +265,8 @@ module _ {R : Type 0} {g : Ghosts R} where
       from : PutsIs w name volume start (replicate (512 * count) fill) said old new → Worked w (WriteLine name volume start count fill) said old new
       from p = record { world = p.world; fails = p.fails; works = p.puts; stands = p.stands; rose = p.rose }
 
-  pub put_worked : (w : World) (old new : Yard R g) (name volume : List ℕ) (start : ℕ) (bytes : List ℕ) (said : Said) → PutsIs w name volume start bytes said old new → Worked w (PutLine name volume start bytes) said old new
-  put_worked w old new name volume start bytes said p = record { world = p.world; fails = p.fails; works = p.puts; stands = p.stands; rose = p.rose }
+  pub put_worked : (w : World) (old new : Yard R g) (name volume : List ℕ) (start : ℕ) (bytes : List ℕ) (said : Said) → length bytes ≡ 512 → PutsIs w name volume start bytes said old new → Worked w (PutLine name volume start bytes) said old new
+  put_worked w old new name volume start bytes said one p = record { world = p.world; fails = p.fails; works = (one, p.puts); stands = p.stands; rose = p.rose }
 
   pub write_answered : (w : World) (old new : Yard R g) (name volume : List ℕ) (start count fill : ℕ) (bytes : List ℕ) (said : Said) → bytes ≡ replicate (512 * count) fill
       → IsFree old (WriteLine name volume start count fill) → (WriteFree old name volume start bytes → PutsIs w name volume start bytes said old new) → Worked w (WriteLine name volume start count fill) said old new
@@ -275,5 +276,5 @@ module _ {R : Type 0} {g : Ghosts R} where
       → IsFree old (PutLine name volume start block) → (WriteFree old name volume start bytes → PutsIs w name volume start bytes said old new) → Worked w (PutLine name volume start block) said old new
   put_answered w old new name volume start block bytes said is one free puts =
       subst (λ (bs : List ℕ). Worked w (PutLine name volume start bs) said old new) is
-      (put_worked w old new name volume start bytes said
+      (put_worked w old new name volume start bytes said (ap (λ (bs : List ℕ). length bs) is ∙ one)
       (puts (ByPut (subst (λ (bs : List ℕ). IsFree old (PutLine name volume start bs)) (sym is) free) (ap (λ (bs : List ℕ). length bs) is ∙ one))))

@@ -17,8 +17,9 @@ use Rattle.vx_disk.specs.declared.shelf.Shelf.{Ghosts}
 use Rattle.vx_rvg.specs.Contents.{Shows}
 use Rattle.vx_srl.specs.Views.{most_number}
 use Rattle.vx_node.specs.declared.engine.Engine.{Engine}
-use Rattle.vx_node.specs.Holds.{most_stamp}
-use Rattle.vx_node.specs.Fuses.{IsFused, IsExact}
+use Rattle.vx_events.specs.Found.{SameDisks}
+use Rattle.vx_events.specs.Stamps.{most_stamp}
+use Rattle.vx_events.specs.Fuses.{IsFused, IsExact}
 use Rattle.vx_node.specs.Stands.{StandsAt, CutAt, IsUnused, IsToldAt, faults_at}
 
 -- a write that nothing but a failing disk or want of a number can refuse
@@ -76,15 +77,6 @@ pub record CanHold (ring : ℕ) (m : Meaning) : Type 0 where
   pub large : 8 ≤ m.size 0
   pub is_ring : ring ≡ ring_of (m.size 0)
 
--- the same disks and volumes, up and running
-pub record SameDisks (n k : Node) : Type 0 where
-  pub name : k.name ≡ n.name
-  pub disks : k.disks ≡ n.disks
-  pub blocks : k.blocks ≡ n.blocks
-  pub volumes : k.volumes ≡ n.volumes
-  pub up : k.state ≡ IsUp
-  pub running : k.halted ≡ None
-
 module _ {R : Type 0} {g : Ghosts R} where
   -- no count of a disk falls, and contents that are told now were told before
   pub record Later (old new : Engine R g) : Type 0 where
@@ -116,21 +108,20 @@ module _ {R : Type 0} {g : Ghosts R} where
     pub most : count ≤ length n.log
     pub stands : StandsAt (crashed n count) new
 
-  -- the next number, or a failing disk, or want of a number; or its fuse ran out, and it crashed
-  abbrev pub WroteAt : Node → Write → Engine R g → Engine R g → Result ℕ No → Type 0
-  WroteAt n x old new (Ok number) = (number ≡ n.safe + 1) × (n.safe < most_number) × StandsAt (logged n x) new × ((calls : ℕ) → IsToldAt new → IsExact n x calls → 4 ≤ calls)
-  WroteAt n x old new (Err (Device disk)) = StandsAt (halted_with n x disk) new × RoseAt old new disk
-  WroteAt n x old new (Err (Limit what most)) = (Limit what most ≡ no_number) × (IsToldAt new → most_number ≤ most_stamp n) × StandsAt (worked n) new
-  WroteAt n x old new (Err IsDown) = IsFused n.fuse × CrashedAt (half_begun n x) new × ((calls : ℕ) → IsToldAt new → IsExact n x calls → calls < 4)
-  WroteAt n x old new (Err other) = ⊥
+  -- the next number, or a failing disk, or want of a number; or its fuse ran out, and then this holds of the site with the write begun
+  abbrev pub WroteWith : (Node → Engine R g → Type 0) → Node → Write → Engine R g → Engine R g → Result ℕ No → Type 0
+  WroteWith Off n x old new (Ok number) = (number ≡ n.safe + 1) × (n.safe < most_number) × StandsAt (logged n x) new × ((calls : ℕ) → IsToldAt new → IsExact n x calls → 4 ≤ calls)
+  WroteWith Off n x old new (Err (Device disk)) = StandsAt (halted_with n x disk) new × RoseAt old new disk × (n.safe < most_number)
+  WroteWith Off n x old new (Err (Limit what most)) = (Limit what most ≡ no_number) × (IsToldAt new → most_number ≤ most_stamp n) × StandsAt (worked n) new
+  WroteWith Off n x old new (Err IsDown) = IsFused n.fuse × Off (half_begun n x) new × ((calls : ℕ) → IsToldAt new → IsExact n x calls → calls < 4) × (n.safe < most_number)
+  WroteWith Off n x old new (Err other) = ⊥
 
-  -- the same where the fuse ran out, and it has not crashed yet
+  -- a write behind which the site of a fuse that ran out crashed, and one behind which it has not crashed yet
+  abbrev pub WroteAt : Node → Write → Engine R g → Engine R g → Result ℕ No → Type 0
+  WroteAt n x old new result = WroteWith (λ k e. CrashedAt k e) n x old new result
+
   abbrev pub WroteUp : Node → Write → Engine R g → Engine R g → Result ℕ No → Type 0
-  WroteUp n x old new (Ok number) = (number ≡ n.safe + 1) × (n.safe < most_number) × StandsAt (logged n x) new × ((calls : ℕ) → IsToldAt new → IsExact n x calls → 4 ≤ calls)
-  WroteUp n x old new (Err (Device disk)) = StandsAt (halted_with n x disk) new × RoseAt old new disk
-  WroteUp n x old new (Err (Limit what most)) = (Limit what most ≡ no_number) × (IsToldAt new → most_number ≤ most_stamp n) × StandsAt (worked n) new
-  WroteUp n x old new (Err IsDown) = IsFused n.fuse × CutAt (half_begun n x) new × ((calls : ℕ) → IsToldAt new → IsExact n x calls → calls < 4)
-  WroteUp n x old new (Err other) = ⊥
+  WroteUp n x old new result = WroteWith (λ k e. CutAt k e) n x old new result
 
   -- the blocks, which are those of the content where it is told, or a failing disk
   abbrev pub ReadAt : Node → ℕ → ℕ → ℕ → List ℕ → Engine R g → Engine R g → Result (Unit {0}) No → Type 0
@@ -144,10 +135,12 @@ module _ {R : Type 0} {g : Ghosts R} where
     pub is : IsToldAt new → node ≡ recovered n
     pub same : SameDisks n node
     pub stands : StandsAt node new
+    -- there was a further session
+    pub next : IsToldAt new → n.session < most_number
 
   -- a site that stays down, maybe in the next session
   abbrev pub StillDown : Node → Engine R g → Type 0
-  StillDown n new = StandsAt n new ⊎ StandsAt (record n { session = n.session + 1 }) new
+  StillDown n new = StandsAt n new ⊎ (StandsAt (record n { session = n.session + 1 }) new × (n.session < most_number))
 
   -- it came up, or a disk failed, or no number is left; nothing else where contents are told
   abbrev pub CameUpIs : Node → Engine R g → Engine R g → Result (Unit {0}) No → Type 0
@@ -170,16 +163,16 @@ module _ {R : Type 0} {g : Ghosts R} where
   BareUpIs n old new (Err NoConfig) = StandsAt n new
   BareUpIs n old new (Err other) = (IsToldAt new → ⊥) × StandsAt n new
 
-  -- the number up to which all writes are in their volumes, or a failing disk; or its fuse ran out, and it crashed
-  abbrev pub AppliedAt : Node → ℕ → Engine R g → Engine R g → Result ℕ No → Type 0
-  AppliedAt n to old new (Ok number) = (min to n.safe ≤ number) × (number ≤ n.safe) × StandsAt (worked n) new
-  AppliedAt n to old new (Err (Device disk)) = StandsAt (halted_at n disk) new × RoseAt old new disk
-  AppliedAt n to old new (Err IsDown) = IsFused n.fuse × CrashedAt n new
-  AppliedAt n to old new (Err other) = ⊥
+  -- the number up to which all writes are in their volumes, or a failing disk; or its fuse ran out, and then this holds of the site
+  abbrev pub AppliedWith : (Node → Engine R g → Type 0) → Node → ℕ → Engine R g → Engine R g → Result ℕ No → Type 0
+  AppliedWith Off n to old new (Ok number) = (min to n.safe ≤ number) × (number ≤ n.safe) × StandsAt (worked n) new
+  AppliedWith Off n to old new (Err (Device disk)) = StandsAt (halted_at n disk) new × RoseAt old new disk
+  AppliedWith Off n to old new (Err IsDown) = IsFused n.fuse × Off n new
+  AppliedWith Off n to old new (Err other) = ⊥
 
-  -- the same where the fuse ran out, and it has not crashed yet
+  -- an apply behind which the site of a fuse that ran out crashed, and one behind which it has not crashed yet
+  abbrev pub AppliedAt : Node → ℕ → Engine R g → Engine R g → Result ℕ No → Type 0
+  AppliedAt n to old new result = AppliedWith (λ k e. CrashedAt k e) n to old new result
+
   abbrev pub AppliedUp : Node → ℕ → Engine R g → Engine R g → Result ℕ No → Type 0
-  AppliedUp n to old new (Ok number) = (min to n.safe ≤ number) × (number ≤ n.safe) × StandsAt (worked n) new
-  AppliedUp n to old new (Err (Device disk)) = StandsAt (halted_at n disk) new × RoseAt old new disk
-  AppliedUp n to old new (Err IsDown) = IsFused n.fuse × CutAt n new
-  AppliedUp n to old new (Err other) = ⊥
+  AppliedUp n to old new result = AppliedWith (λ k e. CutAt k e) n to old new result

@@ -8,13 +8,14 @@ use Rattle.vx_disk.specs.declared.shelf.Shelf.{Ghosts}
 use Rattle.vx_rvg.specs.Contents.{Shows}
 use Rattle.vx_script.specs.declared.line.ScriptLine.TheVariants.{Read, Show}
 use Rattle.vx_node.specs.declared.engine.Engine.{Engine}
-use Rattle.vx_node.specs.declared.said.Said.{Said}
+use Rattle.vx_events.specs.declared.said.Said.{Said}
 use Rattle.vx_node.specs.declared.yard.Yard.{Yard}
 use Rattle.vx_node.specs.Engines.{RoseAt}
 use Rattle.vx_node.specs.Stands.{StandsAt, IsToldAt, RoseAll}
-use Rattle.vx_node.specs.Steps.{Fails, Fetches}
+use Rattle.vx_node.specs.Works.{Fetches}
+use Rattle.vx_events.specs.Fails.{Fails}
 use Rattle.vx_node.specs.Working.{IsFree}
-use Rattle.vx_node.specs.Yards.{YardStands, IsTold, count_of}
+use Rattle.vx_node.specs.Yards.{YardAgrees, IsTold, count_of}
 
 -- a place for so many blocks, and for no more than a line may ask
 abbrev pub IsRoom : ℕ → List ℕ → Type 0
@@ -42,5 +43,5 @@ module _ {R : Type 0} {g : Ghosts R} where
     pub world : World
     pub fails : Fails
     pub fetches : Fetches (IsTold new) w name volume start count fails said world
-    pub stands : YardStands world new
+    pub stands : YardAgrees world new
     pub rose : RoseAll fails (count_of old) (count_of new)

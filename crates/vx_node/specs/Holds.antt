@@ -1,5 +1,5 @@
 -- What the disks hold of a site, whatever a crash at this moment leaves on them.
-use Rattle.std.specs.Prelude.{◌≡◌, ℕ, ◌+◌, ◌-◌, ◌*◌, ◌<◌, ◌≤◌, List, [], length, take, drop, None, Option, Some, slice_get, IsTrue}
+use Rattle.std.specs.Prelude.{◌≡◌, ℕ, ◌-◌, ◌<◌, ◌≤◌, List, [], length, take, drop, None, Option, Some, slice_get, IsTrue}
 use Rattle.vx_model.specs.Content.{fold_writes}
 use Rattle.vx_history.specs.World.{Node, World}
 use Rattle.vx_model.specs.declared.state.State.{State}
@@ -7,7 +7,8 @@ use Rattle.vx_model.specs.declared.state.KeptLink.{KeptLink}
 use Rattle.vx_model.specs.declared.units.Units.{Units}
 use Rattle.vx_model.specs.declared.site.SiteState.TheVariants.{Up, Down}
 use Rattle.vx_disk.specs.Shelf.{Meaning, Image}
-use Rattle.vx_node.specs.Facts.{values_from}
+use Rattle.vx_events.specs.Facts.{values_from}
+use Rattle.vx_events.specs.Stamps.{most_stamp}
 use Rattle.vx_node.specs.Lasts.{FoundWith}
 
 -- the units of a raw set: its log on disk 0, its maps on the last disk, and a volume on each disk between
@@ -33,10 +34,6 @@ state_with n links = record {
 -- a site has no links
 abbrev pub state_of : Node → State
 state_of n = state_with n []
-
--- no header of its log has a greater stamp
-abbrev pub most_stamp : Node → ℕ
-most_stamp n = 4 * n.session + n.safe + 3
 
 -- On these disks stands the site's log, with its state and session and the last of its writes, up to one of the numbers that a crash may
 -- keep; and the volumes with the log over them have the site's content with the writes up to that number.

@@ -1,6 +1,5 @@
 pub mod Changes
 pub mod Engines
-pub mod Facts
 pub mod Fetching
 pub mod Fuses
 pub mod Holds
@@ -13,7 +12,7 @@ pub mod Rooms
 pub mod Seen
 pub mod Stands
 pub mod Steps
-pub mod Views
 pub mod Working
+pub mod Works
 pub mod Writes
 pub mod Yards

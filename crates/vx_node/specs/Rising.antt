@@ -6,20 +6,21 @@ use Rattle.vx_model.specs.declared.site.SiteState.TheVariants.{Up as IsUp}
 use Rattle.vx_disk.specs.declared.shelf.Shelf.{Ghosts}
 use Rattle.vx_order.specs.declared.facts.SiteFacts.{SiteFacts}
 use Rattle.vx_node.specs.declared.engine.Engine.{Engine}
-use Rattle.vx_node.specs.declared.said.Said.{Said}
+use Rattle.vx_events.specs.declared.said.Said.{Said}
 use Rattle.vx_node.specs.declared.yard.Yard.{Yard}
 use Rattle.vx_node.specs.Changes.{up_facts}
 use Rattle.vx_node.specs.Holds.{state_of}
 use Rattle.vx_node.specs.Stands.{StandsAt, RoseAll}
-use Rattle.vx_node.specs.Steps.{Fails, Crashes, Recovers}
-use Rattle.vx_node.specs.Yards.{YardStands, StaysFor, IsTold, count_of}
+use Rattle.vx_node.specs.Works.{Crashes, Recovers}
+use Rattle.vx_events.specs.Fails.{Fails}
+use Rattle.vx_node.specs.Yards.{YardAgrees, StaysAgreed, IsTold, count_of}
 
 module _ {R : Type 0} {g : Ghosts R} where
   -- the site crashed
   pub record Fell (w : World) (site : ℕ) (old new : Yard R g) : Type 0 where
     pub world : World
     pub crashes : Crashes w site world
-    pub stands : YardStands world new
+    pub stands : YardAgrees world new
     pub rose : RoseAll [] (count_of old) (count_of new)
 
   -- the last number of a site that came up, and what the tests see of it
@@ -36,10 +37,10 @@ module _ {R : Type 0} {g : Ghosts R} where
     pub world : World
     pub fails : Fails
     pub recovers : Recovers (IsTold new) w site fails said world
-    pub stands : YardStands world new
+    pub stands : YardAgrees world new
     pub rose : RoseAll fails (count_of old) (count_of new)
 
   -- the recovery of a bare site, or memory ran out and nothing was done
   abbrev pub Finding : World → ℕ → Yard R g → Yard R g → Result Said OutOfMemory → Type 0
   Finding w site old new (Ok said) = Recovering w site said old new
-  Finding w site old new (Err e) = StaysFor w old new
+  Finding w site old new (Err e) = StaysAgreed w old new

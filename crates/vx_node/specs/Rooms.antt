@@ -1,5 +1,5 @@
 -- A site whose log has room for a write, and how it came to it.
-use Rattle.std.specs.Prelude.{◌≡◌, ℕ, ◌+◌, ◌<◌, ◌≤◌, min, List, [], Some, None, Result, Ok, Err, IsTrue}
+use Rattle.std.specs.Prelude.{◌≡◌, ℕ, ◌+◌, ◌<◌, ◌≤◌, min, List, [], None, Result, Ok, Err, IsTrue}
 use Rattle.vx_history.specs.World.{Node}
 use Rattle.vx_model.specs.declared.no.No.{No}
 use Rattle.vx_history.specs.Steps.{burned}
@@ -11,8 +11,10 @@ use Rattle.vx_rvg.specs.Views.{Core, last_of}
 use Rattle.vx_srl.specs.Views.{most_number}
 use Rattle.vx_node.specs.Engines.{no_number, halted_at, worked}
 use Rattle.vx_node.specs.Lasts.{StandsWith}
-use Rattle.vx_node.specs.Holds.{raw_units, state_with, most_stamp}
-use Rattle.vx_node.specs.Fuses.{IsFused, HasFuse}
+use Rattle.vx_node.specs.Holds.{raw_units, state_with}
+use Rattle.vx_events.specs.Stamps.{most_stamp}
+use Rattle.vx_node.specs.Fuses.{HasFuse}
+use Rattle.vx_events.specs.Fuses.{IsFused}
 use Rattle.vx_node.specs.Stands.{IsFitted, IsUpAt, IsHeldAt}
 
 -- a site that is up and runs, before a write: its log may have used the one stamp that the write makes room for

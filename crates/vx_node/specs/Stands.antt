@@ -10,10 +10,12 @@ use Rattle.vx_disk.specs.declared.shelf.Shelf.{Ghosts}
 use Rattle.vx_rvg.specs.Views.{Core, last_of}
 use Rattle.vx_node.specs.declared.engine.Engine.{Engine}
 use Rattle.vx_node.specs.declared.engine.Engine.TheVariants.{Bare, Spoiled, Up, Down, Gone}
-use Rattle.vx_node.specs.Fuses.{HasFuse, IsFirst, taken}
-use Rattle.vx_node.specs.Holds.{HasWrites, raw_units, state_of, state_with, most_stamp}
+use Rattle.vx_node.specs.Fuses.{HasFuse, IsFirst}
+use Rattle.vx_events.specs.Fuses.{taken}
+use Rattle.vx_node.specs.Holds.{HasWrites, raw_units, state_of, state_with}
+use Rattle.vx_events.specs.Stamps.{most_stamp}
 use Rattle.vx_node.specs.Lasts.{LeftWith, StandsWith}
-use Rattle.vx_node.specs.Steps.{Fails}
+use Rattle.vx_events.specs.Fails.{Fails}
 
 -- a rack that is not fitted, is up, and has no fuse
 pub record IsUnfitted (m : Meaning) : Type 0 where

@@ -7,14 +7,15 @@ use Rattle.vx_model.specs.declared.no.No.TheVariants.{Device, Down}
 use Rattle.vx_disk.specs.declared.shelf.Shelf.{Ghosts}
 use Rattle.vx_order.specs.declared.facts.SiteFacts.{SiteFacts}
 use Rattle.vx_script.specs.declared.line.ScriptLine.TheVariants.{Write as WriteLine, Put as PutLine}
-use Rattle.vx_node.specs.declared.said.Said.{Said}
+use Rattle.vx_events.specs.declared.said.Said.{Said}
 use Rattle.vx_node.specs.declared.yard.Yard.{Yard}
 use Rattle.vx_node.specs.Changes.{halted_facts, down_facts}
-use Rattle.vx_node.specs.Facts.{site_number}
+use Rattle.vx_events.specs.Facts.{site_number}
 use Rattle.vx_node.specs.Stands.{RoseAll}
-use Rattle.vx_node.specs.Steps.{Fails, Puts, write_of}
+use Rattle.vx_node.specs.Works.{Puts, write_of}
+use Rattle.vx_events.specs.Fails.{Fails}
 use Rattle.vx_node.specs.Working.{IsFree}
-use Rattle.vx_node.specs.Yards.{YardStands, IsTold, count_of}
+use Rattle.vx_node.specs.Yards.{YardAgrees, IsTold, count_of}
 
 -- what the tests see of a site after a write was refused so
 abbrev pub noted_facts : No → SiteFacts → SiteFacts
@@ -33,7 +34,7 @@ module _ {R : Type 0} {g : Ghosts R} where
     pub world : World
     pub fails : Fails
     pub puts : Puts (IsTold new) w site x fails said world
-    pub stands : YardStands world new
+    pub stands : YardAgrees world new
     pub rose : RoseAll fails (count_of old) (count_of new)
 
   abbrev pub PutsIs : World → List ℕ → List ℕ → ℕ → List ℕ → Said → Yard R g → Yard R g → Type 0

@@ -8,9 +8,11 @@ use Rattle.vx_script.specs.declared.line.ScriptLine.{ScriptLine}
 use Rattle.vx_node.specs.declared.yard.Yard.{Yard}
 use Rattle.vx_node.specs.declared.errors.LineStop.{LineStop}
 use Rattle.vx_node.specs.declared.errors.LineStop.TheVariants.{WriteFault, OutOfMemory}
-use Rattle.vx_node.specs.Facts.{facts_of}
+use Rattle.vx_events.specs.Facts.{facts_of}
 use Rattle.vx_node.specs.Stands.{EnginesStand, AreTold, RoseAll, faults_of}
-use Rattle.vx_node.specs.Steps.{Fails, Prints}
+use Rattle.vx_events.specs.Plain.{IsUnlinked, ArePrimaries}
+use Rattle.vx_node.specs.Steps.{Prints}
+use Rattle.vx_events.specs.Fails.{Fails}
 
 module _ {R : Type 0} {g : Ghosts R} where
   -- whether its disks are kept in files
@@ -25,13 +27,24 @@ module _ {R : Type 0} {g : Ghosts R} where
   abbrev pub IsTold : Yard R g → Type 0
   IsTold y = AreTold y.engines.items
 
-  -- the yard stands for this world: it keeps what the tests of a line see of it, and its engines agree with it
-  pub record YardStands (w : World) (y : Yard R g) : Type 0 where
+  -- the yard agrees with this world: it keeps what the tests of a line see of it, and its engines stand for it
+  pub record YardAgrees (w : World) (y : Yard R g) : Type 0 where
     pub facts : y.facts.items ≡ facts_of w
     pub engines : EnginesStand w y.engines.items
     -- room for the racks as they come back
     pub none : y.racks.items ≡ []
     pub room : 8 ≤ vec_capacity y.racks
+
+  -- nothing of a line was done
+  pub record StaysAgreed (w : World) (old new : Yard R g) : Type 0 where
+    pub stands : YardAgrees w new
+    pub rose : RoseAll [] (count_of old) (count_of new)
+
+  -- The yard stands for this world, in which no site keeps a link. Each is a primary, where contents are told.
+  pub record YardStands (w : World) (y : Yard R g) : Type 0 where
+    pub agrees : YardAgrees w y
+    pub unlinked : IsUnlinked w
+    pub primaries : IsTold y → ArePrimaries w
 
   -- the line made a step, by which the yard stands for a new world; its text is `text`
   pub record Steps (w : World) (line : ScriptLine) (old new : Yard R g) (text : List ℕ) : Type 0 where

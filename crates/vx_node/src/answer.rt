@@ -2,7 +2,7 @@
 ghost use Rattle.std.specs.Prelude.{◌≡◌, ◌*◌, IfOk, min, replicate};
 ghost use Rattle.vx_history.specs.World.{World};
 ghost use Rattle.vx_node.specs.Working.{WorkIs, AnswerIs, IsFree};
-ghost use Rattle.vx_node.specs.Yards.{YardStands, IsTold, in_files};
+ghost use Rattle.vx_node.specs.Yards.{YardAgrees, IsTold, in_files};
 
 use crate::{Said, Yard};
 use std::alloc::Global;
@@ -23,7 +23,7 @@ impl<R: Rack> Yard<R> {
     // Does a line that no test refuses.
     fn work(&mut self, alloc: Global, words: &ScriptLine) -> Result<Said, OutOfMemory>
         requires free { IsFree self.old words.now }
-        ensures works { (w : World) → YardStands w self.old → WorkIs w words.now self.old self.new result }
+        ensures works { (w : World) → YardAgrees w self.old → WorkIs w words.now self.old self.new result }
         ensures told { IsTold self.new → IsTold self.old }
         ensures files { in_files self.new ≡ in_files self.old }
     {
@@ -81,7 +81,7 @@ impl<R: Rack> Yard<R> {
 
     /// What a line is answered: its first refusal in the one order, or what it works.
     pub(crate) fn answer(&mut self, alloc: Global, words: &ScriptLine) -> Result<Said, OutOfMemory>
-        ensures answers { (w : World) → YardStands w self.old → AnswerIs w words.now self.old self.new result }
+        ensures answers { (w : World) → YardAgrees w self.old → AnswerIs w words.now self.old self.new result }
         ensures told { IsTold self.new → IsTold self.old }
         ensures files { in_files self.new ≡ in_files self.old }
     {

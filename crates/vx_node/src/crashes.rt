@@ -4,9 +4,9 @@ ghost use Rattle.vx_history.specs.World.{World};
 ghost use Rattle.vx_model.specs.declared.site.SiteState.TheVariants.{Bare as BareState, Up as UpState, Down as DownState};
 ghost use Rattle.vx_script.specs.declared.line.ScriptLine.TheVariants.{Crash, Fuse, Recover, Apply};
 ghost use Rattle.vx_node.specs.Rising.{Fell, Finding, NotesUp, Recovering};
-ghost use Rattle.vx_node.specs.Steps.{Begins};
+ghost use Rattle.vx_node.specs.Works.{Begins};
 ghost use Rattle.vx_node.specs.Working.{WorkIs, Worked, IsFree};
-ghost use Rattle.vx_node.specs.Yards.{YardStands, IsTold, in_files};
+ghost use Rattle.vx_node.specs.Yards.{YardAgrees, IsTold, in_files};
 
 use crate::writes::refused;
 use crate::yard::{Yard, seat};
@@ -24,7 +24,7 @@ impl<R: Rack> Yard<R> {
     fn go_down(&mut self, site: usize, pick: u64)
         requires facts { site < length self.old.facts.items }
         requires engine { site < length self.old.engines.items }
-        ensures fell { (w : World) → YardStands w self.old → site < w.sites → (w.nodes site).state ≡ UpState → Fell w site self.old self.new }
+        ensures fell { (w : World) → YardAgrees w self.old → site < w.sites → (w.nodes site).state ≡ UpState → Fell w site self.old self.new }
         ensures facts { length self.new.facts.items ≡ length self.old.facts.items }
         ensures engines { length self.new.engines.items ≡ length self.old.engines.items }
         ensures told { IsTold self.new → IsTold self.old }
@@ -37,7 +37,7 @@ impl<R: Rack> Yard<R> {
 
     /// Crashes a site that is up.
     pub(crate) fn crash_line(&mut self, name: &Name, pick: u64) -> Said
-        ensures works { (w : World) → YardStands w self.old → IsFree self.old (Crash name.now pick) → Worked w (Crash name.now pick) result self.old self.new }
+        ensures works { (w : World) → YardAgrees w self.old → IsFree self.old (Crash name.now pick) → Worked w (Crash name.now pick) result self.old self.new }
         ensures told { IsTold self.new → IsTold self.old }
         ensures files { in_files self.new ≡ in_files self.old }
     {
@@ -53,7 +53,7 @@ impl<R: Rack> Yard<R> {
 
     /// Sets the fuse of a site that is up.
     pub(crate) fn fuse_line(&mut self, name: &Name, calls: u64, pick: u64) -> Said
-        ensures works { (w : World) → YardStands w self.old → IsFree self.old (Fuse name.now calls pick) → Worked w (Fuse name.now calls pick) result self.old self.new }
+        ensures works { (w : World) → YardAgrees w self.old → IsFree self.old (Fuse name.now calls pick) → Worked w (Fuse name.now calls pick) result self.old self.new }
         ensures told { IsTold self.new → IsTold self.old }
         ensures files { in_files self.new ≡ in_files self.old }
     {
@@ -88,7 +88,7 @@ impl<R: Rack> Yard<R> {
     fn come_up(&mut self, alloc: Global, site: usize, ring: u64, room: StartRoom) -> Said
         requires facts { site < length self.old.facts.items }
         requires engine { site < length self.old.engines.items }
-        ensures rises { (w mid : World) → YardStands mid self.old → site < mid.sites → Begins w site mid → (mid.nodes site).state ≡ DownState
+        ensures rises { (w mid : World) → YardAgrees mid self.old → site < mid.sites → Begins w site mid → (mid.nodes site).state ≡ DownState
             → ring ≡ (mid.nodes site).ring → room.ring ≡ ring → Recovering w site result self.old self.new }
         ensures told { IsTold self.new → IsTold self.old }
         ensures files { in_files self.new ≡ in_files self.old }
@@ -109,7 +109,7 @@ impl<R: Rack> Yard<R> {
     fn recover_bare(&mut self, alloc: Global, name: &Name, site: usize) -> Result<Said, OutOfMemory>
         requires facts { site < length self.old.facts.items }
         requires engine { site < length self.old.engines.items }
-        ensures found { (w : World) → YardStands w self.old → site < w.sites → (w.nodes site).state ≡ BareState → Finding w site self.old self.new result }
+        ensures found { (w : World) → YardAgrees w self.old → site < w.sites → (w.nodes site).state ≡ BareState → Finding w site self.old self.new result }
         ensures told { IsTold self.new → IsTold self.old }
         ensures files { in_files self.new ≡ in_files self.old }
     {
@@ -149,7 +149,7 @@ impl<R: Rack> Yard<R> {
 
     /// Recovers a site: one that is up crashes first, and one that is bare starts what an earlier run left on its disks.
     pub(crate) fn recover_line(&mut self, alloc: Global, name: &Name) -> Result<Said, OutOfMemory>
-        ensures works { (w : World) → YardStands w self.old → IsFree self.old (Recover name.now) → WorkIs w (Recover name.now) self.old self.new result }
+        ensures works { (w : World) → YardAgrees w self.old → IsFree self.old (Recover name.now) → WorkIs w (Recover name.now) self.old self.new result }
         ensures told { IsTold self.new → IsTold self.old }
         ensures files { in_files self.new ≡ in_files self.old }
     {
@@ -177,7 +177,7 @@ impl<R: Rack> Yard<R> {
 
     /// Brings the logged writes of a site up to a number into their volumes.
     pub(crate) fn apply_line(&mut self, name: &Name, to: u64) -> Said
-        ensures works { (w : World) → YardStands w self.old → IsFree self.old (Apply name.now to) → Worked w (Apply name.now to) result self.old self.new }
+        ensures works { (w : World) → YardAgrees w self.old → IsFree self.old (Apply name.now to) → Worked w (Apply name.now to) result self.old self.new }
         ensures told { IsTold self.new → IsTold self.old }
         ensures files { in_files self.new ≡ in_files self.old }
     {

@@ -15,8 +15,8 @@ use crate::units::raw_units;
 use std::alloc::Global;
 use std::mem;
 use vx_disk::{Rack, refusal};
-use vx_model::limits::{LEAST_BLOCKS, LEAST_RAW_DISKS, MOST_DISKS};
-use vx_model::{No, Role, State, Stop, ring_blocks};
+use vx_model::limits::{LEAST_BLOCKS, LEAST_RAW_DISKS, MOST_DISKS, MOST_NUMBER};
+use vx_model::{Counted, No, Role, State, Stop, ring_blocks};
 use vx_ringio::{TopSeen, read_top};
 use vx_rvg::{Rvg, StartRoom};
 
@@ -105,6 +105,12 @@ fn write_group<R: Rack>(rvg: &mut Rvg<R>, volume: u32, start: u64, bytes: &[u8])
         → WroteUp n (record { volume = volume; start = start; bytes = bytes.now }) (Engine.Up rvg.old) (Engine.Up rvg.new) result }
     ensures later { Later (Engine.Up rvg.old) (Engine.Up rvg.new) }
 {
+    if rvg.head() >= MOST_NUMBER {
+        return Err(No::Limit {
+            what: Counted::Number,
+            most: MOST_NUMBER,
+        });
+    }
     make_room(rvg, bytes.len() as u64 / 512)?;
     let answer = rvg.write(volume, start, bytes, 0);
     if rvg.shelf.is_down() {

@@ -2,7 +2,7 @@
 ghost use Rattle.std.specs.Prelude.{◌≡◌, ◌≤◌, ◌<◌, IfOk, map};
 ghost use Rattle.vx_history.specs.Steps.{raw_volumes};
 ghost use Rattle.vx_node.specs.Changes.{bare_facts, raw_volume_fact, last_facts, halted_facts, raw_facts, down_facts, up_facts};
-ghost use Rattle.vx_node.specs.Facts.{volume_fact, place_of};
+ghost use Rattle.vx_events.specs.Facts.{volume_fact, place_of};
 
 use std::alloc::Global;
 use vx_model::limits::{LEAST_BLOCKS, MOST_DISKS};

@@ -9,7 +9,6 @@ mod errors;
 mod facts;
 mod racks;
 mod reads;
-mod said;
 mod status;
 mod text;
 mod units;
@@ -19,5 +18,5 @@ mod yard;
 
 pub use engine::Engine;
 pub use errors::LineStop;
-pub use said::Said;
+pub use vx_events::Said;
 pub use yard::Yard;

@@ -6,7 +6,7 @@ ghost use Rattle.vx_node.specs.Engines.{CanRead, Later};
 ghost use Rattle.vx_node.specs.Fetching.{GaveAt, IsReadFree, IsRoom, Fetched};
 ghost use Rattle.vx_node.specs.Stands.{StandsAt};
 ghost use Rattle.vx_node.specs.Working.{Worked, IsFree};
-ghost use Rattle.vx_node.specs.Yards.{YardStands, IsTold, in_files};
+ghost use Rattle.vx_node.specs.Yards.{YardAgrees, IsTold, in_files};
 
 use crate::yard::{Yard, seat};
 use crate::{Engine, Said, facts};
@@ -43,7 +43,7 @@ impl<R: Rack> Yard<R> {
         room: Vec<u8>,
     ) -> Said
         requires room { IsRoom count room.items }
-        ensures works { (w : World) → YardStands w self.old → IsFree self.old (ReadLine name.now volume.now start count) → Worked w (ReadLine name.now volume.now start count) result self.old self.new }
+        ensures works { (w : World) → YardAgrees w self.old → IsFree self.old (ReadLine name.now volume.now start count) → Worked w (ReadLine name.now volume.now start count) result self.old self.new }
         ensures told { IsTold self.new → IsTold self.old }
         ensures files { in_files self.new ≡ in_files self.old }
     {
@@ -60,7 +60,7 @@ impl<R: Rack> Yard<R> {
         room: Vec<u8>,
     ) -> Said
         requires room { IsRoom count room.items }
-        ensures works { (w : World) → YardStands w self.old → IsFree self.old (ShowLine name.now volume.now start count) → Worked w (ShowLine name.now volume.now start count) result self.old self.new }
+        ensures works { (w : World) → YardAgrees w self.old → IsFree self.old (ShowLine name.now volume.now start count) → Worked w (ShowLine name.now volume.now start count) result self.old self.new }
         ensures told { IsTold self.new → IsTold self.old }
         ensures files { in_files self.new ≡ in_files self.old }
     {
@@ -70,7 +70,7 @@ impl<R: Rack> Yard<R> {
     // Reads blocks of a volume. The tests of the line left no other case than that all of it is there.
     fn fetch(&mut self, name: &Name, volume: &Name, start: u64, count: u64, room: Vec<u8>) -> Said
         requires room { IsRoom count room.items }
-        ensures works { (w : World) → YardStands w self.old → IsReadFree self.old name.now volume.now start count → Fetched w name.now volume.now start count result self.old self.new }
+        ensures works { (w : World) → YardAgrees w self.old → IsReadFree self.old name.now volume.now start count → Fetched w name.now volume.now start count result self.old self.new }
         ensures told { IsTold self.new → IsTold self.old }
         ensures files { in_files self.new ≡ in_files self.old }
     {

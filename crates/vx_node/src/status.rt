@@ -3,9 +3,9 @@ ghost use Rattle.std.specs.Prelude.{◌≡◌, ◌<◌, [], length, slice_get};
 ghost use Rattle.vx_history.specs.World.{World};
 ghost use Rattle.vx_script.specs.declared.line.ScriptLine.TheVariants.{Status as StatusLine};
 ghost use Rattle.vx_node.specs.Seen.{name_at, group_seen, group_at};
-ghost use Rattle.vx_node.specs.Views.{view_of};
+ghost use Rattle.vx_events.specs.Views.{view_of};
 ghost use Rattle.vx_node.specs.Working.{Worked, IsFree};
-ghost use Rattle.vx_node.specs.Yards.{YardStands};
+ghost use Rattle.vx_node.specs.Yards.{YardAgrees};
 
 use crate::Said;
 use crate::yard::{Yard, seat};
@@ -70,7 +70,7 @@ impl<R: Rack> Yard<R> {
     pub(crate) fn view_at(&self, alloc: Global, site: usize) -> SiteView
         requires site { site < length self.now.facts.items }
         requires engine { site < length self.now.engines.items }
-        ensures { (w : World) → YardStands w self.now → site < w.sites → result ≡ view_of w (w.nodes site) }
+        ensures { (w : World) → YardAgrees w self.now → site < w.sites → result ≡ view_of w (w.nodes site) }
     {
         let session = self.engines[site].session();
         view(alloc, &self.facts, session, &self.facts[site])
@@ -78,7 +78,7 @@ impl<R: Rack> Yard<R> {
 
     /// The status of a site.
     pub(crate) fn status_line(&self, alloc: Global, name: &Name) -> Said
-        ensures works { (w : World) → YardStands w self.now → IsFree self.now (StatusLine name.now) → Worked w (StatusLine name.now) result self.now self.now }
+        ensures works { (w : World) → YardAgrees w self.now → IsFree self.now (StatusLine name.now) → Worked w (StatusLine name.now) result self.now self.now }
     {
         let Some(site) = seat(&self.facts, name) else {
             return Said::Refused(No::Role);

@@ -4,7 +4,7 @@ ghost use Rattle.vx_history.specs.World.{World};
 ghost use Rattle.vx_script.specs.declared.line.ScriptLine.TheVariants.{Site, Raw, Disk, Write as WriteLine, Put as PutLine, Read as ReadLine, Show as ShowLine, Status as StatusLine};
 ghost use Rattle.vx_node.specs.Replies.{reply_to};
 ghost use Rattle.vx_node.specs.Working.{WorkIs, Worked, IsFree};
-ghost use Rattle.vx_node.specs.Yards.{YardStands, IsTold, in_files};
+ghost use Rattle.vx_node.specs.Yards.{YardAgrees, IsTold, in_files};
 
 use crate::yard::{Yard, folder, seat};
 use crate::{Engine, Said, facts};
@@ -43,7 +43,7 @@ impl<R: Rack> Yard<R> {
         requires some { 1 ≤ disks }
         requires few { disks ≤ MOST_DISKS }
         requires large { LEAST_BLOCKS ≤ blocks }
-        ensures works { (w : World) → YardStands w self.old → IsFree self.old (Site name.now disks blocks) → WorkIs w (Site name.now disks blocks) self.old self.new result }
+        ensures works { (w : World) → YardAgrees w self.old → IsFree self.old (Site name.now disks blocks) → WorkIs w (Site name.now disks blocks) self.old self.new result }
         ensures told { IsTold self.new → IsTold self.old }
         ensures files { in_files self.new ≡ in_files self.old }
     {
@@ -71,7 +71,7 @@ impl<R: Rack> Yard<R> {
 
     /// Makes a bare site a raw set.
     pub(crate) fn make_raw(&mut self, alloc: Global, name: &Name) -> Result<Said, OutOfMemory>
-        ensures works { (w : World) → YardStands w self.old → IsFree self.old (Raw name.now) → WorkIs w (Raw name.now) self.old self.new result }
+        ensures works { (w : World) → YardAgrees w self.old → IsFree self.old (Raw name.now) → WorkIs w (Raw name.now) self.old self.new result }
         ensures told { IsTold self.new → IsTold self.old }
         ensures files { in_files self.new ≡ in_files self.old }
     {
@@ -103,7 +103,7 @@ impl<R: Rack> Yard<R> {
 
     /// Makes the calls on a disk fail, or ends that.
     pub(crate) fn set_disk(&mut self, name: &Name, disk: u64, state: DiskWord) -> Said
-        ensures works { (w : World) → YardStands w self.old → IsFree self.old (Disk name.now disk state) → Worked w (Disk name.now disk state) result self.old self.new }
+        ensures works { (w : World) → YardAgrees w self.old → IsFree self.old (Disk name.now disk state) → Worked w (Disk name.now disk state) result self.old self.new }
         ensures told { IsTold self.new → IsTold self.old }
         ensures files { in_files self.new ≡ in_files self.old }
     {

@@ -2,10 +2,10 @@
 ghost use Rattle.std.specs.Prelude.{◌≡◌, ◌≤◌, ◌<◌, ◌*◌, ◌%◌, length, min, replicate};
 ghost use Rattle.vx_history.specs.World.{World};
 ghost use Rattle.vx_script.specs.declared.line.ScriptLine.TheVariants.{Write as WriteLine, Put as PutLine};
-ghost use Rattle.vx_node.specs.declared.said.Said.TheVariants.{Refused};
+ghost use Rattle.vx_events.specs.declared.said.Said.TheVariants.{Refused};
 ghost use Rattle.vx_node.specs.Working.{Worked, IsFree};
 ghost use Rattle.vx_node.specs.Writes.{WriteFree, PutsIs, noted_facts};
-ghost use Rattle.vx_node.specs.Yards.{YardStands, IsTold, in_files};
+ghost use Rattle.vx_node.specs.Yards.{YardAgrees, IsTold, in_files};
 
 use crate::yard::{Yard, seat};
 use crate::{Said, facts};
@@ -33,7 +33,7 @@ impl<R: Rack> Yard<R> {
         requires some { 0 < length bytes.now }
         requires few { length bytes.now ≤ MOST_CALL_BYTES }
         requires whole { length bytes.now % 512 ≡ 0 }
-        ensures works { (w : World) → YardStands w self.old → WriteFree self.old name.now volume.now start bytes.now → PutsIs w name.now volume.now start bytes.now result self.old self.new }
+        ensures works { (w : World) → YardAgrees w self.old → WriteFree self.old name.now volume.now start bytes.now → PutsIs w name.now volume.now start bytes.now result self.old self.new }
         ensures told { IsTold self.new → IsTold self.old }
         ensures files { in_files self.new ≡ in_files self.old }
     {
@@ -66,7 +66,7 @@ impl<R: Rack> Yard<R> {
         bytes: &[u8],
     ) -> Said
         requires bytes { bytes.now ≡ replicate (512 * min count MOST_CALL_BLOCKS) fill }
-        ensures works { (w : World) → YardStands w self.old → IsFree self.old (WriteLine name.now volume.now start count fill) → Worked w (WriteLine name.now volume.now start count fill) result self.old self.new }
+        ensures works { (w : World) → YardAgrees w self.old → IsFree self.old (WriteLine name.now volume.now start count fill) → Worked w (WriteLine name.now volume.now start count fill) result self.old self.new }
         ensures told { IsTold self.new → IsTold self.old }
         ensures files { in_files self.new ≡ in_files self.old }
     {
@@ -78,7 +78,7 @@ impl<R: Rack> Yard<R> {
 
     /// Writes one block of these bytes.
     pub(crate) fn put_line(&mut self, name: &Name, volume: &Name, start: u64, bytes: &Block) -> Said
-        ensures works { (w : World) → YardStands w self.old → IsFree self.old (PutLine name.now volume.now start bytes.now) → Worked w (PutLine name.now volume.now start bytes.now) result self.old self.new }
+        ensures works { (w : World) → YardAgrees w self.old → IsFree self.old (PutLine name.now volume.now start bytes.now) → Worked w (PutLine name.now volume.now start bytes.now) result self.old self.new }
         ensures told { IsTold self.new → IsTold self.old }
         ensures files { in_files self.new ≡ in_files self.old }
     {

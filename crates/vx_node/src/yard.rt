@@ -1,6 +1,6 @@
 // All sites of a run.
 ghost use Rattle.std.specs.Prelude.{◌≡◌, IfOk, is_some};
-ghost use Rattle.vx_node.specs.Facts.{seat_of};
+ghost use Rattle.vx_events.specs.Facts.{seat_of};
 
 use crate::Engine;
 use std::alloc::Global;

@@ -23,12 +23,12 @@ module _ (n w : ℕ) (xs block : List ℕ) (w_is : w ≡ 512) (long : length blo
   abbrev put : List ℕ
   put = put_mid (512 * n) w xs block
 
-  put_size : length put ≡ length xs
+  pub put_size : length put ≡ length xs
   put_size =
       let rest : List ℕ = drop w (drop (512 * n) xs) in
       omega (arith, length-append (take (512 * n) xs) (block ++ rest), length-append block rest, length-take (512 * n) xs, length-drop w (drop (512 * n) xs), length-drop (512 * n) xs, w_is, long, fits)
 
-  put_same : block_of put n ≡ block
+  pub put_same : block_of put n ≡ block
   put_same =
       let wide : 512 * n + 512 - 512 * n ≡ 512 = omega arith in
       subst (λ (m : ℕ). take m (drop (512 * n) put) ≡ block) wide (between-put_mid (512 * n) w xs block (512 * n + 512) (omega (arith, fits)) (omega (arith, long)))
@@ -42,7 +42,7 @@ module _ (n w : ℕ) (xs block : List ℕ) (w_is : w ≡ 512) (long : length blo
   put_above : (k : ℕ) → n < k → block_of put k ≡ block_of xs k
   put_above k high = ap (λ (l : List ℕ). take 512 l) (drop-put_mid (512 * n) w xs block (512 * k) (omega (arith, w_is, high)) (omega (arith, fits)) (long ∙ sym w_is))
 
-  put_other : (k : ℕ) → (k ≡ n → ⊥) → block_of put k ≡ block_of xs k
+  pub put_other : (k : ℕ) → (k ≡ n → ⊥) → block_of put k ≡ block_of xs k
   put_other k other = ⊎_elim (λ low. put_below k low) (λ high. put_above k (omega (arith, high, other))) (cases_lt k n)
 
 -- ---- what the overlay answers

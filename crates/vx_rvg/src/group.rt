@@ -18,6 +18,7 @@ use crate::RvgCore;
 use crate::patch::patch;
 use crate::write::commit;
 use vx_disk::{Shelf, refusal};
+use vx_model::limits::MOST_NUMBER;
 use vx_model::{No, State};
 
 /// A replicated volume group over a shelf. Volumes go by their numbers from 0 in its list of data volumes.
@@ -105,6 +106,32 @@ impl<S: Shelf> Rvg<S> {
         ensures { result ≡ length self.now.core.units.vols }
     {
         self.core.volumes()
+    }
+
+    /// The blocks of a data volume.
+    pub fn size(&self, vol: u32) -> u64
+        requires volume { vol < length self.now.core.units.vols }
+        ensures { result ≡ (S.meaning self.now.shelf).size (unit_of self.now.core.units.vols vol) }
+    {
+        self.shelf.size(self.core.unit(vol))
+    }
+
+    /// The blocks of its log that hold records. Numbers are above 0, and none is greater than `MOST_NUMBER`.
+    pub fn ring(&self) -> u64
+        ensures is { result ≡ self.now.core.log.ring }
+        ensures low { 0 < self.now.core.log.header.low }
+        ensures head { last_of self.now.core ≤ MOST_NUMBER }
+    {
+        // For its bound.
+        let _low = self.core.srl.low();
+        self.core.srl.ring()
+    }
+
+    /// The disk that halted it: a call on it failed.
+    pub fn halted(&self) -> Option<u32>
+        ensures { result ≡ self.now.core.halted }
+    {
+        self.core.halted
     }
 
     /// The number of the last write that was answered.

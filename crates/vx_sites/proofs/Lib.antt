@@ -2,6 +2,7 @@ pub mod Each
 pub mod Entries
 pub mod Folds
 pub mod Packets
+pub mod Placing
 pub mod Promising
 pub mod Sendings
 pub mod Tables

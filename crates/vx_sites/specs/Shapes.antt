@@ -1,10 +1,10 @@
--- What a world in memory is seen as.
-use Rattle.std.specs.Prelude.{◌≡◌, ℕ, ◌<◌, true, false, List, [], ◌∷◌, length, map, get_or, ltb, None, if◌then◌else◌}
+-- What a world in memory is seen as. Headers are not counted in it.
+use Rattle.std.specs.Prelude.{◌≡◌, ℕ, ◌<◌, true, false, List, [], ◌∷◌, length, map, get_or, ltb, Option, Some, None, if◌then◌else◌}
 use Rattle.vx_model.specs.Content.{Content as PlainContent, zeros, fold_writes}
 use Rattle.vx_model.specs.Sites.{no_line, same_line}
 use Rattle.vx_history.specs.World.{no_regions, no_link, no_history, bare_site, NoFuse}
 use Rattle.vx_history.specs.World.{Node as PlainNode, Link as PlainLink, History as PlainHistory, World as PlainWorld}
-use Rattle.vx_history.specs.World.{Message as PlainMessage, Packet as PlainPacket, Surety as PlainSurety, Promise as PlainPromise}
+use Rattle.vx_history.specs.World.{Message as PlainMessage, Packet as PlainPacket, Key as PlainKey, Gathering as PlainGathering, Surety as PlainSurety, Promise as PlainPromise}
 use Rattle.vx_history.specs.World.{Hello as PlainHello, Update as PlainUpdate, NetAck as PlainNetAck, DataAck as PlainDataAck, Durable as PlainDurable, InSession as PlainInSession}
 use Rattle.vx_history.specs.Steps.{raw_volumes}
 use Rattle.vx_model.specs.declared.history.Line.{Line}
@@ -17,6 +17,9 @@ use Rattle.vx_sites.specs.declared.node.Node.{Node}
 use Rattle.vx_sites.specs.declared.packet.Message.{Message}
 use Rattle.vx_sites.specs.declared.packet.Message.TheVariants.{Hello, Update, NetAck, DataAck}
 use Rattle.vx_sites.specs.declared.packet.Packet.{Packet}
+use Rattle.vx_sites.specs.declared.gathering.Key.{Key}
+use Rattle.vx_sites.specs.declared.gathering.Gathering.{Gathering}
+use Rattle.vx_sites.specs.declared.gathering.Place.{Place}
 use Rattle.vx_sites.specs.declared.packet.Surety.{Surety}
 use Rattle.vx_sites.specs.declared.packet.Surety.TheVariants.{Durable, InSession}
 use Rattle.vx_sites.specs.declared.packet.Promise.{Promise}
@@ -59,6 +62,7 @@ node_of n = record {
   halted = n.halted;
   fork_map = None;
   fuse = NoFuse;
+  failing = λ d. false;
 }
 
 abbrev pub link_of : Link → PlainLink
@@ -87,7 +91,21 @@ message_of (NetAck session number) = PlainNetAck session number
 message_of (DataAck number) = PlainDataAck number
 
 abbrev pub packet_of : Packet → PlainPacket
-packet_of p = record { source = p.source; target = p.target; line = p.line; message = message_of p.message }
+packet_of p = record { source = p.source; target = p.target; line = p.line; message = message_of p.message; part = p.part }
+
+abbrev pub plain_key : Key → PlainKey
+plain_key k = record { source = k.source; kind = k.kind; line = k.line; session = k.session; number = k.number; parts = k.parts }
+
+abbrev pub gathering_of : Gathering → PlainGathering
+gathering_of g = record { key = plain_key g.key; came = g.came.items }
+
+abbrev pub held_of : Option Gathering → Option PlainGathering
+held_of None = None
+held_of (Some g) = Some (gathering_of g)
+
+-- a site beyond the last place has nothing in assembly
+abbrev pub places_of : List Place → ℕ → Option PlainGathering
+places_of places i = get_or (map (λ p. held_of p.held) places) i None
 
 abbrev pub surety_of : Surety → PlainSurety
 surety_of Durable = PlainDurable
@@ -130,4 +148,6 @@ world_of w = record {
   lines = lines_of w.lines.items;
   packets = map packet_of w.packets.items;
   promised = map promise_of w.promised.items;
+  gathering = places_of w.gathering.items;
+  headers = λ i. 0;
 }

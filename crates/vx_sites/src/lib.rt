@@ -8,6 +8,7 @@ pub mod bounds;
 mod changes;
 mod confirming;
 mod content;
+mod gathering;
 mod history;
 mod link;
 mod node;
@@ -19,6 +20,7 @@ mod updates;
 mod world;
 
 pub use content::{Content, Write};
+pub use gathering::{Gathering, Key, Place};
 pub use history::{Entry, History};
 pub use link::{Link, Row};
 pub use node::Node;

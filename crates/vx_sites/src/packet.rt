@@ -1,6 +1,7 @@
 // What sites send, and what they promise.
 ghost use Rattle.std.specs.Prelude.{◌≡◌, ◌≤◌, ◌++◌, map, OnOk};
-ghost use Rattle.vx_history.specs.Sends.{packet, packets_of, payload_size as size_of, further_parts as further};
+ghost use Rattle.vx_history.specs.Sends.{packets_of, payload_size as size_of, parts_of as parts};
+ghost use Rattle.vx_history.specs.Gatherings.{kind_of as kind, session_of as session, number_of as number};
 ghost use Rattle.vx_sites.specs.Shapes.{message_of, packet_of};
 
 use crate::Write;
@@ -26,13 +27,15 @@ pub enum Message {
     },
 }
 
-/// A packet, which stands for the whole message that it is a part of.
+/// A packet, which carries one part of a message.
 #[derive(Clone, Copy)]
 pub struct Packet {
     pub source: u32,
     pub target: u32,
     pub line: Line,
     pub message: Message,
+    /// The number of the part, the first of which is 0.
+    pub part: u32,
 }
 
 /// By what a site keeps a promised number: by its disks, or as long as a session lasts.
@@ -50,22 +53,62 @@ pub struct Promise {
     pub surety: Surety,
 }
 
-/// The packets of one message, behind those that were sent.
+/// The packets of one message, which is that of the given one, behind those that were sent.
 pub fn send_all(packets: &mut Vec<Packet>, packet: Packet) -> Result<(), OutOfMemory>
     ensures { OnOk result (map packet_of packets.new.items ≡ map packet_of packets.old.items ++ packets_of packet.source packet.target packet.line (message_of packet.message)) }
 {
-    packets.push(packet)?;
-    for _more in 0..further_parts(&packet.message) {
-        packets.push(packet)?;
+    for part in 0..parts_of(&packet.message) {
+        packets.push(with_part(&packet, part))?;
     }
     Ok(())
 }
 
-// The packets of a message but for the first. A packet has 1,024 bytes of it.
-fn further_parts(message: &Message) -> usize
-    ensures { result ≡ further (message_of message.now) }
+// The packet of another part of its message.
+fn with_part(packet: &Packet, part: u32) -> Packet
+    ensures { packet_of result ≡ record (packet_of packet.now) { part = part } }
 {
-    ((payload_size(message) + 1023) / 1024).saturating_sub(1)
+    Packet { part, ..*packet }
+}
+
+/// In how many parts a message goes: a packet has 1,024 bytes of it.
+pub fn parts_of(message: &Message) -> u32
+    ensures { result ≡ parts (message_of message.now) }
+{
+    ((payload_size(message) + 1023) / 1024).max(1) as u32
+}
+
+/// The kind of a message, as its packets name it.
+pub fn kind_of(message: &Message) -> u32
+    ensures { result ≡ kind (message_of message.now) }
+{
+    match message {
+        Message::Hello { .. } => 1,
+        Message::Update { .. } => 2,
+        Message::NetAck { .. } => 3,
+        Message::DataAck { .. } => 4,
+    }
+}
+
+/// The session that the packets of a message name, and 0 where they name none.
+pub fn session_of(message: &Message) -> u64
+    ensures { result ≡ session (message_of message.now) }
+{
+    match message {
+        Message::Hello { session, .. } | Message::NetAck { session, .. } => *session,
+        Message::Update { .. } | Message::DataAck { .. } => 0,
+    }
+}
+
+/// The number that the packets of a message name.
+pub fn number_of(message: &Message) -> u64
+    ensures { result ≡ number (message_of message.now) }
+{
+    match message {
+        Message::Hello { number, .. }
+        | Message::Update { number, .. }
+        | Message::NetAck { number, .. }
+        | Message::DataAck { number } => *number,
+    }
 }
 
 // The bytes of a message behind the header of its packets.

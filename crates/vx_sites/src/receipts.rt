@@ -7,14 +7,15 @@ ghost use Rattle.vx_sites.specs.Shapes.{world_of, packet_of};
 
 use crate::{Message, Packet, World, Write};
 use vx_model::OutOfMemory;
+use vx_model::limits::MOST_PACKETS;
 
 impl World {
-    /// The packet of this number, the first of which is number 1.
+    /// The packet of this number, the first of which is number 1, among the newest that are kept.
     pub fn packet(&self, number: u64) -> Option<Packet>
         ensures { let found = packet_at (world_of self.now).packets number in MatchOption result (found ≡ None) (λ p. found ≡ Some (packet_of p)) }
     {
         let sent = self.packets.len() as u64;
-        if number == 0 || sent < number {
+        if number == 0 || sent < number || MOST_PACKETS as u64 <= sent - number {
             return None;
         }
         Some(self.packets[number as usize - 1])
@@ -44,6 +45,7 @@ impl World {
                 number: node.log.len() as u64,
                 stored: node.safe,
             },
+            part: 0,
         };
         self.send(packet)
     }

@@ -77,6 +77,7 @@ fn send_writes(
                     number: number + past as u64,
                     write: *write,
                 },
+                part: 0,
             },
         )?;
     }

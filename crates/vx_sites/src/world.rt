@@ -6,7 +6,7 @@ ghost use Rattle.vx_sites.specs.Shapes.{world_of, node_of, link_of, message_of};
 
 use crate::link::lengthen_rows;
 use crate::packet::send_all;
-use crate::{Entry, Link, Node, Packet, Promise, Row};
+use crate::{Entry, Link, Node, Packet, Place, Promise, Row};
 use std::alloc::Global;
 use vx_model::OutOfMemory;
 
@@ -22,21 +22,24 @@ pub struct World {
     pub packets: Vec<Packet>,
     /// All promises that were ever made.
     pub promised: Vec<Promise>,
+    /// What each site has in assembly. One without a place has nothing.
+    pub gathering: Vec<Place>,
 }
 
 impl World {
     /// The world without sites.
-    pub fn new(alloc: Global) -> World
-        ensures { world_of result ≡ empty_world }
+    pub fn new(alloc: Global) -> Result<World, OutOfMemory>
+        ensures { IfOk result (λ w. world_of w ≡ empty_world) }
     {
-        World {
+        Ok(World {
             alloc,
             nodes: Vec::new(alloc),
             rows: Vec::new(alloc),
             lines: Vec::new(alloc),
             packets: Vec::new(alloc),
             promised: Vec::new(alloc),
-        }
+            gathering: Vec::new(alloc),
+        })
     }
 
     /// The site of this number.

@@ -1,6 +1,6 @@
 -- A read that asks the plexes in turn.
-use Rattle.std.proofs.Common.{◌≡◌, ◌≢◌, ◌⊎◌, inl, inr, ℕ, ◌+◌, ◌-◌, ◌%◌, ◌<◌, ◌≤◌, Bool, true, false, List, length, refl, ap, sym, ◌∙◌, subst, arith, IsTrue, Err, Option, Some, None}
-use Rattle.std.specs.Prelude.{slice_get}
+use Rattle.std.proofs.Common.{◌≡◌, ◌≢◌, ◌⊎◌, inl, inr, ℕ, suc, ◌+◌, ◌-◌, ◌*◌, ◌%◌, ◌<◌, ◌≤◌, Bool, true, false, List, [], ◌∷◌, length, refl, ap, sym, ◌∙◌, subst, arith, IsTrue, Err, Option, Some, None}
+use Rattle.std.specs.Prelude.{if◌then◌else◌, slice_get}
 use Rattle.std.proofs.lemmas.Bool.{cases_eq, cases_lt}
 use Rattle.std.proofs.Math.Nat.{add-mod_right, mod-eq_of_lt, mod-lt}
 use Rattle.vx_disk.specs.Counts.{Rose}
@@ -14,8 +14,8 @@ use Rattle.vx_config.specs.declared.entry.VolumeEntry.{VolumeEntry}
 use Rattle.vx_config.specs.Checks.{is_sound}
 use Rattle.vx_layout.specs.Places.{place}
 use Rattle.vx_volume.specs.Plexes.{SomeActive, active, plexes_of, plexes_or, prefer_of, prefer_or}
-use Rattle.vx_volume.specs.Steps.{ReadLoop}
-use Rattle.vx_volume.specs.Volumes.{AllBut, AllFailed, PlexBlamed, PlexCause, PlexRead, ReadFrom, first_asked, turn_of}
+use Rattle.vx_volume.specs.Steps.{Device, ReadLoop}
+use Rattle.vx_volume.specs.Volumes.{AllBut, AllFailed, LastFailed, PlexBlamed, PlexCause, PlexRead, ReadFrom, first_asked, turn_of}
 use Rattle.vx_disk.specs.Blocks.{bit_at}
 use Rattle.vx_volume.specs.Sets.{bits}
 use Rattle.vx_volume.specs.Steps.{in_set}
@@ -146,3 +146,11 @@ by_bits c v failed set done old m is but = record {
   where
     same : (p : ℕ) → bit_at set p ≡ in_set failed p
     same p = ap (λ (s : ℕ). bit_at s p) is ∙ bit_of failed p
+
+some_in : (failed : List Bool) → 0 < bits failed → (p : ℕ) × (in_set failed p ≡ true)
+some_in [] some = absurd (omega (arith, some))
+some_in (true ∷ bs) some = (0, refl)
+some_in (false ∷ bs) some = let it = some_in bs (omega (arith, some)) in (suc it.0, it.1)
+
+pub last_bits : (failed : List Bool) (set device : ℕ) (old m : Meaning) → set ≡ bits failed → Device failed device old m → LastFailed (record { set = set; disk = device }) old m
+last_bits failed set device old m is last = record { rose = λ some. let it = some_in failed (omega (arith, some, is)) in last.rose it.0 it.1 }

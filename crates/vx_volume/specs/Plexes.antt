@@ -1,5 +1,6 @@
 -- The plexes of a volume that reads and writes go to.
 use Rattle.std.specs.Prelude.{◌≡◌, ℕ, ◌+◌, ◌<◌, ◌≤◌, ◌^◌, Bool, true, false, IsTrue, ◌==◌, Option, Some, None, List, length, slice_get}
+use Rattle.vx_model.specs.declared.limits.TheConstants.{MOST_PLEXES}
 use Rattle.std.specs.List.{list_any}
 use Rattle.vx_disk.specs.Shelf.{Meaning}
 use Rattle.vx_model.specs.declared.site.PlexState.{PlexState}
@@ -83,7 +84,7 @@ pub record VolumeFits (c : Config) (v block n : ℕ) (m : Meaning) : Type 0 wher
   pub sound : IsTrue (is_sound c)
   pub end : block + n < 2 ^ 64
   pub fits : (p : ℕ) → IsTrue (active c v p) → RunFits c v p block n m
-  pub few : (p : ℕ) → IsTrue (active c v p) → p < 8
+  pub few : (p : ℕ) → IsTrue (active c v p) → p < MOST_PLEXES
 
 abbrev pub plexes_or : Option VolumeEntry → ℕ
 plexes_or None = 0

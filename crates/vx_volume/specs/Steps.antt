@@ -1,5 +1,6 @@
 -- What the steps of a read, a write or a flush leave.
 use Rattle.std.specs.Prelude.{◌≡◌, ℕ, ◌+◌, ◌<◌, ◌≤◌, Bool, true, false, IsTrue, List, length, slice_index_or, Result, Ok, Err}
+use Rattle.vx_model.specs.declared.limits.TheConstants.{MOST_PLEXES}
 use Rattle.vx_disk.specs.Counts.{Rose}
 use Rattle.vx_disk.specs.Shelf.{Goes, Meaning, Nothing, piece}
 use Rattle.vx_config.specs.declared.config.Config.{Config}
@@ -7,6 +8,7 @@ use Rattle.vx_layout.specs.Places.{place}
 use Rattle.vx_model.specs.declared.no.No.{No}
 use Rattle.vx_model.specs.declared.no.No.TheVariants as refusal
 use Rattle.vx_volume.specs.Plexes.{InRun, Inside, active, plexes_of, uses}
+use Rattle.vx_volume.specs.declared.every.Flags.{Flags}
 use Rattle.vx_volume.specs.Volumes.{AllBut, AllFailed, OnPlex, OnPlexes, PlexBlamed, PlexFlushed, PlexRead, PlexWrote, ReadFrom, turn_of}
 
 -- one device call more: so many blocks behind the first `done`
@@ -66,7 +68,7 @@ pub record Loop (c : Config) (v count : ℕ) (failed : List Bool) (any : Bool) (
   pub tried : Tried c v count failed done old new
   pub some : SomeDone c v count failed any
   pub blames : Device failed device old new
-  pub long : length failed ≡ 8
+  pub long : length failed ≡ MOST_PLEXES
 
 pub record WriteLoop (c : Config) (v block n : ℕ) (bytes : List ℕ) (count : ℕ) (failed : List Bool) (any : Bool) (device : ℕ) (old new : Meaning) : Type 0 where
   pub loop : Loop c v count failed any device (λ p. PlexWrote c v p block n block n bytes old new) old new
@@ -85,8 +87,8 @@ pub record ReadLoop (c : Config) (v plexes first turn device : ℕ) (old new : M
   pub blamed : (q : ℕ) → q < plexes → IsTrue (active c v q) → turn_of plexes first q < turn → PlexBlamed c v q old new × Rose (old.disk_faults device) (new.disk_faults device)
 
 -- what a call on every plex answers, by flags
-abbrev pub FlagsEnd : Config → ℕ → (ℕ → Type 0) → Meaning → Meaning → Result (List Bool) No → Type 0
-FlagsEnd c v done old new (Ok failed) = AllBut c v (in_set failed) done old new
+abbrev pub FlagsEnd : Config → ℕ → (ℕ → Type 0) → Meaning → Meaning → Result Flags No → Type 0
+FlagsEnd c v done old new (Ok f) = AllBut c v (in_set f.failed) done old new × Device f.failed f.device old new
 FlagsEnd c v done old new (Err (refusal.Device disk)) = AllFailed c v disk old new
 FlagsEnd c v done old new (Err refusal.Down) = IsTrue new.down
 FlagsEnd c v done old new (Err other) = ⊥

@@ -10,6 +10,7 @@ use Rattle.vx_model.specs.declared.no.No.TheVariants as refusal
 use Rattle.vx_config.specs.declared.config.Config.{Config}
 use Rattle.vx_layout.specs.Places.{place}
 use Rattle.vx_volume.specs.Plexes.{InRun, Inside, active, plexes_of, prefer_of, uses}
+use Rattle.vx_volume.specs.declared.sets.Failed.{Failed}
 use Rattle.vx_volume.specs.declared.volume.Volume.{Volume}
 
 -- ---- one plex
@@ -73,6 +74,17 @@ Ends c v done old new (Ok failed) = AllBut c v (bit_at failed) done old new
 Ends c v done old new (Err (refusal.Device disk)) = AllFailed c v disk old new
 Ends c v done old new (Err refusal.Down) = IsTrue new.down
 Ends c v done old new (Err other) = ⊥
+
+-- the count of the disk rose where any plex failed
+pub record LastFailed (failed : Failed) (old new : Meaning) : Type 0 where
+  pub rose : 0 < failed.set → Rose (old.disk_faults failed.disk) (new.disk_faults failed.disk)
+
+-- The same with the disk of the last device call that failed.
+abbrev pub EndsAt : Config → ℕ → (ℕ → Type 0) → Meaning → Meaning → Result Failed No → Type 0
+EndsAt c v done old new (Ok f) = AllBut c v (bit_at f.set) done old new × LastFailed f old new
+EndsAt c v done old new (Err (refusal.Device disk)) = AllFailed c v disk old new
+EndsAt c v done old new (Err refusal.Down) = IsTrue new.down
+EndsAt c v done old new (Err other) = ⊥
 
 -- ---- the order of reads
 

@@ -14,6 +14,13 @@ use vx_disk::{Shelf, ShelfError};
 use vx_model::No;
 use vx_model::limits::MOST_PLEXES;
 
+/// Which plexes failed, and the disk of the last device call that did.
+#[derive(Clone, Copy, Drop)]
+pub struct Flags {
+    pub failed: [bool; MOST_PLEXES],
+    pub device: u32,
+}
+
 /// Writes a run of blocks to every plex that is ACTIVE. Answers which of them failed.
 pub fn write_plexes<S: Shelf>(
     config: &Config,
@@ -21,7 +28,7 @@ pub fn write_plexes<S: Shelf>(
     shelf: &mut S,
     block: u64,
     bytes: &[u8],
-) -> Result<[bool; MOST_PLEXES], No>
+) -> Result<Flags, No>
     requires fits { VolumeFits config.now vol block (length bytes.now / 512) (S.meaning shelf.old) }
     requires whole { length bytes.now % 512 ≡ 0 }
     requires some { SomeActive config.now vol }
@@ -45,18 +52,14 @@ pub fn write_plexes<S: Shelf>(
         }
     }
     if done {
-        Ok(failed)
+        Ok(Flags { failed, device })
     } else {
         Err(No::Device { disk: device })
     }
 }
 
 /// Makes every plex that is ACTIVE durable. Answers which of them failed.
-pub fn flush_plexes<S: Shelf>(
-    config: &Config,
-    vol: u32,
-    shelf: &mut S,
-) -> Result<[bool; MOST_PLEXES], No>
+pub fn flush_plexes<S: Shelf>(config: &Config, vol: u32, shelf: &mut S) -> Result<Flags, No>
     requires checked { IsTrue (is_sound config.now) }
     requires disks { DisksFit config.now.disks (S.meaning shelf.old) }
     requires some { SomeActive config.now vol }
@@ -80,7 +83,7 @@ pub fn flush_plexes<S: Shelf>(
         }
     }
     if done {
-        Ok(failed)
+        Ok(Flags { failed, device })
     } else {
         Err(No::Device { disk: device })
     }

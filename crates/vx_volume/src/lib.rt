@@ -12,8 +12,9 @@ mod turns;
 mod volume;
 mod writing;
 
-pub use plexes::is_active;
-pub use volume::{Volume, flush, read, write};
+pub use plexes::{is_active, plex_count};
+pub use sets::{Failed, set_of};
+pub use volume::{Volume, flush, flush_all, read, write, write_all};
 
 #[cfg(test)]
 mod tests;

@@ -3,11 +3,11 @@ ghost use Rattle.std.specs.Prelude.{◌≡◌, ◌+◌, ◌/◌, ◌%◌, ◌<�
 ghost use Rattle.vx_config.specs.Checks.{blocks_of as blocks_of_is, is_sound};
 ghost use Rattle.vx_disk.specs.Shelf.{Goes, Nothing};
 ghost use Rattle.vx_volume.specs.Plexes.{DisksFit, SomeActive, plexes_of, prefer_of};
-ghost use Rattle.vx_volume.specs.Volumes.{Ends, OnPlexes, PlexFlushed, PlexWrote, Reads, first_asked, next_asked};
+ghost use Rattle.vx_volume.specs.Volumes.{Ends, EndsAt, OnPlexes, PlexFlushed, PlexWrote, Reads, first_asked, next_asked};
 
 use crate::every::{flush_plexes, write_plexes};
 use crate::plexes::{blocks_of, plex_count, preferred};
-use crate::sets::set_of;
+use crate::sets::{Failed, set_of};
 use crate::turns::read_in_turn;
 use vx_config::Config;
 use vx_disk::Shelf;
@@ -83,6 +83,57 @@ pub fn read<S: Shelf>(
 
 /// Writes whole blocks to each plex that is ACTIVE.
 ///
+/// Answers the plexes that failed, of which one did not; 7 where each failed in this call, and 6 where the shelf is down.
+pub fn write_all<S: Shelf>(
+    c: &Config,
+    vol: u32,
+    shelf: &mut S,
+    block: u64,
+    bytes: &[u8],
+) -> Result<Failed, No>
+    requires checked { IsTrue (is_sound c.now) }
+    requires volume { vol < length c.now.volumes }
+    requires within { block + length bytes.now / 512 ≤ blocks_of_is c.now.volumes vol }
+    requires whole { length bytes.now % 512 ≡ 0 }
+    requires some { SomeActive c.now vol }
+    requires disks { DisksFit c.now.disks (S.meaning shelf.old) }
+    requires up { IsTrue (S.meaning shelf.old).down → ⊥ }
+    ensures goes { Goes (OnPlexes c.now vol block (length bytes.now / 512) bytes.now) (S.meaning shelf.old) (S.meaning shelf.new) }
+    ensures ends { EndsAt c.now vol (λ p. PlexWrote c.now vol p block (length bytes.now / 512) block (length bytes.now / 512) bytes.now (S.meaning shelf.old) (S.meaning shelf.new)) (S.meaning shelf.old) (S.meaning shelf.new) result }
+{
+    // Read for its bound: no block of a volume is past 2^64.
+    let _end = blocks_of(c, vol);
+    match write_plexes(c, vol, shelf, block, bytes) {
+        Ok(flags) => Ok(Failed {
+            set: set_of(&flags.failed),
+            disk: flags.device,
+        }),
+        Err(no) => Err(no),
+    }
+}
+
+/// Makes each plex that is ACTIVE durable: after it a crash leaves of the plex what a read of it gave.
+///
+/// Answers the plexes that failed, of which one did not; 7 where each failed in this call, and 6 where the shelf is down.
+pub fn flush_all<S: Shelf>(c: &Config, vol: u32, shelf: &mut S) -> Result<Failed, No>
+    requires checked { IsTrue (is_sound c.now) }
+    requires some { SomeActive c.now vol }
+    requires disks { DisksFit c.now.disks (S.meaning shelf.old) }
+    requires up { IsTrue (S.meaning shelf.old).down → ⊥ }
+    ensures goes { Goes Nothing (S.meaning shelf.old) (S.meaning shelf.new) }
+    ensures ends { EndsAt c.now vol (λ p. PlexFlushed c.now vol p (S.meaning shelf.old) (S.meaning shelf.new)) (S.meaning shelf.old) (S.meaning shelf.new) result }
+{
+    match flush_plexes(c, vol, shelf) {
+        Ok(flags) => Ok(Failed {
+            set: set_of(&flags.failed),
+            disk: flags.device,
+        }),
+        Err(no) => Err(no),
+    }
+}
+
+/// Writes whole blocks to each plex that is ACTIVE.
+///
 /// Answers the set of the plexes that failed, with bit P for plex P, of which one did not; 7 where each failed in this
 /// call, and 6 where the shelf is down.
 pub fn write<S: Shelf>(
@@ -103,10 +154,8 @@ pub fn write<S: Shelf>(
     ensures ends { Ends c.now v.old.number (λ p. PlexWrote c.now v.old.number p block (length bytes.now / 512) block (length bytes.now / 512) bytes.now (S.meaning shelf.old) (S.meaning shelf.new)) (S.meaning shelf.old) (S.meaning shelf.new) result }
     ensures same { v.new ≡ v.old }
 {
-    // Read for its bound: no block of a volume is past 2^64.
-    let _end = blocks_of(c, v.number);
-    match write_plexes(c, v.number, shelf, block, bytes) {
-        Ok(failed) => Ok(set_of(&failed)),
+    match write_all(c, v.number, shelf, block, bytes) {
+        Ok(failed) => Ok(failed.set),
         Err(no) => Err(no),
     }
 }
@@ -124,8 +173,8 @@ pub fn flush<S: Shelf>(v: &mut Volume, c: &Config, shelf: &mut S) -> Result<u8, 
     ensures ends { Ends c.now v.old.number (λ p. PlexFlushed c.now v.old.number p (S.meaning shelf.old) (S.meaning shelf.new)) (S.meaning shelf.old) (S.meaning shelf.new) result }
     ensures same { v.new ≡ v.old }
 {
-    match flush_plexes(c, v.number, shelf) {
-        Ok(failed) => Ok(set_of(&failed)),
+    match flush_all(c, v.number, shelf) {
+        Ok(failed) => Ok(failed.set),
         Err(no) => Err(no),
     }
 }

@@ -13,7 +13,8 @@ use Rattle.vx_sites.specs.Refusing.{unless_refused}
 
 -- one more place
 pub linked_more : (row : ℕ → Link) (sites back : ℕ) → back < sites
-    → linked_sites row sites (sites - (back + 1)) (back + 1) ≡ put_before (link_in_place row (sites - 1 - back) sites) (linked_sites row sites (sites - back) back)
+    → linked_sites row sites (sites - (back + 1)) (back + 1) ≡ put_before (link_in_place row (sites - 1 - back) sites)
+    (linked_sites row sites (sites - back) back)
 linked_more row sites back lt =
     let place : sites - (back + 1) ≡ sites - 1 - back = omega arith in
     let next : sites - 1 - back + 1 ≡ sites - back = omega arith in
@@ -41,16 +42,19 @@ same_refusal (Log_stalls site) = refl
 pub held_write : (a : Admitted) (w : World) (p : ℕ) (x : Write) (fails : Option ℕ) (answer : Option No) → answer ≡ held_by a
     → unless_refused answer w (unless_at_most (w.nodes p).safe w (put_in (links_changed w p x) p x fails)) ≡ written_if a w p x fails
 held_write (Held_by why) w p x fails answer is =
-    ap (λ (n : Option No). unless_refused n w (unless_at_most (w.nodes p).safe w (put_in (links_changed w p x) p x fails))) is ∙ ap (λ (n : No). refused w n) (same_refusal why)
+    ap (λ (n : Option No). unless_refused n w (unless_at_most (w.nodes p).safe w (put_in (links_changed w p x) p x fails))) is ∙ ap
+    (λ (n : No). refused w n) (same_refusal why)
 held_write (Goes changes) w p x fails answer is =
     ap (λ (n : Option No). unless_refused n w (unless_at_most (w.nodes p).safe w (put_in (links_changed w p x) p x fails))) is
 
 -- the first refusal: of a link that is down, or else of one without room
-pub held_down : (down full : Option Held) (changes : List Change) (answer : No) → Some answer ≡ refusal_if down → Some answer ≡ held_by (unless_held down (unless_held full (Goes changes)))
+pub held_down : (down full : Option Held) (changes : List Change) (answer : No) → Some answer ≡ refusal_if down
+    → Some answer ≡ held_by (unless_held down (unless_held full (Goes changes)))
 held_down (Some why) full changes answer is = is
 held_down None full changes answer is = absurd (cc)
 
-pub held_full : (down full : Option Held) (changes : List Change) (answer : Option No) → None ≡ refusal_if down → answer ≡ refusal_if full → answer ≡ held_by (unless_held down (unless_held full (Goes changes)))
+pub held_full : (down full : Option Held) (changes : List Change) (answer : Option No) → None ≡ refusal_if down → answer ≡ refusal_if full
+    → answer ≡ held_by (unless_held down (unless_held full (Goes changes)))
 held_full (Some why) full changes answer is then = absurd (cc)
 held_full None (Some why) changes answer is then = then
 held_full None None changes answer is then = then

@@ -9,7 +9,7 @@ use Rattle.vx_history.specs.Receiving.{phase_takes}
 use Rattle.vx_model.specs.declared.history.Line.{Line}
 use Rattle.vx_model.specs.declared.site.Mark.TheVariants.{Consistent}
 use Rattle.vx_model.specs.declared.site.SiteState.TheVariants.{Up}
-use Rattle.vx_world.specs.Sound.{IsPresent, GoodLink, GoodMessage, GoodPacket, IsKept, GoodPromise, IsStranger, StrangerSays, IsBegun}
+use Rattle.vx_history.specs.Sound.{IsPresent, GoodLink, GoodMessage, GoodPacket, IsKept, GoodPromise, IsStranger, StrangerSays, IsBegun}
 use Rattle.vx_world.proofs.Lists.{prefix_number, each_weaker}
 
 -- b may come of a on the same line: no number that a answered for is lost, but those of a session that is over
@@ -25,11 +25,23 @@ pub record IsLater (a b : Node) : Type 0 where
   pub other : b.other ≡ a.other
 
 pub later_same : (a : Node) → IsLater a a
-later_same a = record { line = refl; origin = refl; session = omega arith; safe = omega arith; present = λ up _. (up, omega arith); mark = λ m. m; made = λ m. m; phase = refl; other = refl }
+later_same a = record {
+  line = refl;
+  origin = refl;
+  session = omega arith;
+  safe = omega arith;
+  present = λ up _.
+      (up, omega arith);
+  mark = λ m. m;
+  made = λ m. m;
+  phase = refl;
+  other = refl;
+}
 
 -- a number that was in memory in some session is in memory while that session lasts
 module _ (a b : Node) (later : IsLater a b) where
-  present_later : (line : Line) (session number : ℕ) → session ≤ a.session → (a.line ≡ line → IsPresent a session → number ≤ length a.log) → b.line ≡ line → IsPresent b session → number ≤ length b.log
+  present_later : (line : Line) (session number : ℕ) → session ≤ a.session → (a.line ≡ line → IsPresent a session → number ≤ length a.log) → b.line ≡ line
+      → IsPresent b session → number ≤ length b.log
   present_later line session number old h e (up, is) =
       let same : b.session ≡ a.session = omega (arith, is, old, later.session) in
       let still = later.present up same in
@@ -58,7 +70,8 @@ link_later p s a b c d l later_a later_b good = record {
       let still = later_b.present up old in
       omega (arith, still.1, good.net (is, sym later_a.origin ∙ o, sym later_b.origin ∙ r, sym later_b.line ∙ e ∙ later_a.line) (still.0, sym old ∙ same));
   log = λ (is, o, r, e) m. later_b.mark (good.log (is, sym later_a.origin ∙ o, sym later_b.origin ∙ r, sym later_b.line ∙ e ∙ later_a.line) m);
-  takes = λ (is, o, r, e) m. ap phase_takes later_b.phase ∙ good.takes (is, sym later_a.origin ∙ o, sym later_b.origin ∙ r, sym later_b.line ∙ e ∙ later_a.line) m;
+  takes = λ (is, o, r, e) m. ap phase_takes later_b.phase ∙ good.takes
+      (is, sym later_a.origin ∙ o, sym later_b.origin ∙ r, sym later_b.line ∙ e ∙ later_a.line) m;
 }
 
 -- who is no stranger stays none
@@ -69,16 +82,19 @@ says_later to from to' from' f g (Hello session number stored) h = λ q. h (g q)
 says_later to from to' from' f g (DataAck number) h = λ q. h (g q)
 
 -- worlds of which one is later: its sites, their links and the lines
-module _ (f g : ℕ → Node) (links more : ℕ → ℕ → Link) (later : (i : ℕ) → IsLater (f i) (g i)) (before : (l : Line) (i : ℕ) → IsStranger g more l i → IsStranger f links l i) where
+module _ (f g : ℕ → Node) (links more : ℕ → ℕ → Link) (later : (i : ℕ) → IsLater (f i) (g i))
+    (before : (l : Line) (i : ℕ) → IsStranger g more l i → IsStranger f links l i) where
   pub begun_later : (line : Line) (i : ℕ) → IsBegun f line i → IsBegun g line i
   begun_later line i (here, there) = ((later i).made here, (later line.origin).made there)
 
-  pub packets_later : (h k : Line → History) → ((l : Line) → IsPrefixOf (h l).held (k l).held) → (ps : List Packet) → AllByRecursion (GoodPacket f links h) ps → AllByRecursion (GoodPacket g more k) ps
+  pub packets_later : (h k : Line → History) → ((l : Line) → IsPrefixOf (h l).held (k l).held) → (ps : List Packet)
+      → AllByRecursion (GoodPacket f links h) ps → AllByRecursion (GoodPacket g more k) ps
   packets_later h k grow ps good =
       each_weaker (GoodPacket f links h) (GoodPacket g more k)
       (λ p q. record {
         said = message_later (f p.source) (g p.source) (later p.source) (h p.line).held (k p.line).held p.line (grow p.line) p.message q.said;
-        known = says_later (IsStranger f links p.line p.target) (IsStranger f links p.line p.source) (IsStranger g more p.line p.target) (IsStranger g more p.line p.source) (before p.line p.target) (before p.line p.source) p.message q.known;
+        known = says_later (IsStranger f links p.line p.target) (IsStranger f links p.line p.source) (IsStranger g more p.line p.target)
+            (IsStranger g more p.line p.source) (before p.line p.target) (before p.line p.source) p.message q.known;
         begun = begun_later p.line p.source q.begun;
       })
       ps good

@@ -19,7 +19,7 @@ use Rattle.vx_history.proofs.Updates.{by_test, at_place}
 use Rattle.vx_history.proofs.GoodLemmas.{good_written, good_half_written, up_is_made, prefix_push}
 use Rattle.vx_history.specs.Sends.{packets_of, greeting}
 use Rattle.vx_history.specs.Events
-use Rattle.vx_world.specs.Sound.{IsWhole, GoodPacket, IsBegun, KnownNode, Sound}
+use Rattle.vx_history.specs.Sound.{IsWhole, GoodPacket, IsBegun, KnownNode, Sound}
 use Rattle.vx_world.proofs.Lists.{prefix_refl, not_both}
 use Rattle.vx_world.proofs.Moves.{sound_sending, sound_with_links, sound_with_node, sound_with_history, good_later, at_changed}
 use Rattle.vx_world.proofs.Tests.{Keeps, unless_keeps}
@@ -64,7 +64,8 @@ put_in_keeps : (w : World) (p : ℕ) (x : Write) (fails : Option ℕ) → Sound 
 put_in_keeps w p x None s works = written_keeps w p x s works
 put_in_keeps w p x (Some disk) s works = half_written_keeps w p x disk s works
 
-pub written_if_keeps : (admitted : Admitted) (w : World) (p : ℕ) (x : Write) (fails : Option ℕ) → Sound w → IsWorking (w.nodes p) → Keeps (Events.written_if admitted w p x fails)
+pub written_if_keeps : (admitted : Admitted) (w : World) (p : ℕ) (x : Write) (fails : Option ℕ) → Sound w → IsWorking (w.nodes p)
+    → Keeps (Events.written_if admitted w p x fails)
 written_if_keeps (Held_by why) w p x fails s works = s
 written_if_keeps (Goes changes) w p x fails s works =
     unless_keeps _ _ w _ s (λ _. put_in_keeps (Events.links_changed w p x) p x fails (links_changed_keeps w p x s) works)
@@ -79,26 +80,28 @@ module _ (v : World) (q t : ℕ) (s : Sound v) (made : IsMade (v.nodes q)) where
   pub greeting_good : is_origin (v.nodes q).role ≡ false → AllByRecursion (GoodPacket v.nodes v.links v.lines) (greeting q t (v.nodes q))
   greeting_good r =
       Links.each_packet (GoodPacket v.nodes v.links v.lines) q t (v.nodes q).line (Hello (v.nodes q).session (length (v.nodes q).log) (v.nodes q).safe)
-      (record {
+      (λ _. record {
         said = (omega arith, λ _ _. omega arith, λ _. omega arith);
         known = λ g. (s.known q made r g, omega (arith, (s.good.nodes q).safe_fits, s.known q made r g));
         begun = line_begun;
       })
 
   -- and acknowledges what it has on disk, or in memory
-  pub disk_good : is_origin (v.nodes q).role ≡ false → AllByRecursion (GoodPacket v.nodes v.links v.lines) (packets_of q t (v.nodes q).line (DataAck (v.nodes q).safe))
+  pub disk_good : is_origin (v.nodes q).role ≡ false
+      → AllByRecursion (GoodPacket v.nodes v.links v.lines) (packets_of q t (v.nodes q).line (DataAck (v.nodes q).safe))
   disk_good r =
       Links.each_packet (GoodPacket v.nodes v.links v.lines) q t (v.nodes q).line (DataAck (v.nodes q).safe)
-      (record {
+      (λ _. record {
         said = λ _. omega arith;
         known = λ g. omega (arith, (s.good.nodes q).safe_fits, s.known q made r g);
         begun = line_begun;
       })
 
-  pub memory_good : (number : ℕ) → is_origin (v.nodes q).role ≡ false → number ≤ length (v.nodes q).log → AllByRecursion (GoodPacket v.nodes v.links v.lines) (packets_of q t (v.nodes q).line (NetAck (v.nodes q).session number))
+  pub memory_good : (number : ℕ) → is_origin (v.nodes q).role ≡ false → number ≤ length (v.nodes q).log
+      → AllByRecursion (GoodPacket v.nodes v.links v.lines) (packets_of q t (v.nodes q).line (NetAck (v.nodes q).session number))
   memory_good number r has =
       Links.each_packet (GoodPacket v.nodes v.links v.lines) q t (v.nodes q).line (NetAck (v.nodes q).session number)
-      (record {
+      (λ _. record {
         said = (omega arith, λ _ _. has);
         known = λ g. omega (arith, has, s.known q made r g);
         begun = line_begun;
@@ -106,10 +109,12 @@ module _ (v : World) (q t : ℕ) (s : Sound v) (made : IsMade (v.nodes q)) where
 
 -- ## Records that are applied
 
-acknowledged_keeps : (w : World) (q : ℕ) (n : Node) → Sound w → Sound (with_node w q n) → IsMade n → is_origin n.role ≡ false → Sound (Events.acknowledged w q n)
+acknowledged_keeps : (w : World) (q : ℕ) (n : Node) → Sound w → Sound (with_node w q n) → IsMade n → is_origin n.role ≡ false
+    → Sound (Events.acknowledged w q n)
 acknowledged_keeps w q n s v made r =
     sound_sending (with_node w q n) (packets_of q n.other n.line (DataAck n.safe)) v
-    (subst (λ (x : Node). AllByRecursion (GoodPacket (updated w.nodes q n) w.links w.lines) (packets_of q n.other x.line (DataAck x.safe))) (at_place w.nodes q n)
+    (subst (λ (x : Node). AllByRecursion (GoodPacket (updated w.nodes q n) w.links w.lines) (packets_of q n.other x.line (DataAck x.safe)))
+    (at_place w.nodes q n)
     (disk_good (with_node w q n) q n.other v (at_changed IsMade w.nodes q n made) (at_changed (λ (x : Node). is_origin x.role ≡ false) w.nodes q n r)))
 
 pub apply_keeps : (w : World) (q count : ℕ) → Sound w → (w.nodes q).state ≡ Up → is_origin (w.nodes q).role ≡ false → Keeps (Events.apply_at w q count)
@@ -117,12 +122,17 @@ apply_keeps w q count s up r =
     let n : Node = w.nodes q in
     let p : RState = plain_receiver n in
     let left : ℕ = p.waiting - count in
-    by_test (λ (x : Received). Keeps (Events.applied_by w q x.state x.action)) (eqb (min count p.waiting) 0) (record { state = p; action = DoesNothing }) (with_applied p left)
+    by_test (λ (x : Received). Keeps (Events.applied_by w q x.state x.action)) (eqb (min count p.waiting) 0) (record { state = p; action = DoesNothing })
+    (with_applied p left)
     (λ _. s)
-    (λ _. Nodes.mark_rises (record p { waiting = left }) (applied_to p.last left) (λ (x : RState). Sound (Events.acknowledged w q (Events.applied n (applied_to p.last left) x.mark)))
+    (λ _. Nodes.mark_rises (record p { waiting = left }) (applied_to p.last left)
+    (λ (x : RState). Sound (Events.acknowledged w q (Events.applied n (applied_to p.last left) x.mark)))
     (λ mark marks. each mark marks (omega (arith, (s.good.nodes q).safe_fits)) (omega arith)))
   where
-    each : (mark : Mark) → ((w.nodes q).mark ≡ Consistent → mark ≡ Consistent) → (w.nodes q).safe ≤ applied_to (length (w.nodes q).log) (length (w.nodes q).log - (w.nodes q).safe - count) → applied_to (length (w.nodes q).log) (length (w.nodes q).log - (w.nodes q).safe - count) ≤ length (w.nodes q).log → Sound (Events.acknowledged w q (Events.applied (w.nodes q) (applied_to (length (w.nodes q).log) (length (w.nodes q).log - (w.nodes q).safe - count)) mark))
+    each : (mark : Mark) → ((w.nodes q).mark ≡ Consistent → mark ≡ Consistent)
+        → (w.nodes q).safe ≤ applied_to (length (w.nodes q).log) (length (w.nodes q).log - (w.nodes q).safe - count)
+        → applied_to (length (w.nodes q).log) (length (w.nodes q).log - (w.nodes q).safe - count) ≤ length (w.nodes q).log
+        → Sound (Events.acknowledged w q (Events.applied (w.nodes q) (applied_to (length (w.nodes q).log) (length (w.nodes q).log - (w.nodes q).safe - count)) mark))
     each mark marks least most =
         let n : Node = w.nodes q in
         let k : ℕ = applied_to (length n.log) (length n.log - n.safe - count) in

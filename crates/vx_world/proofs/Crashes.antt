@@ -17,10 +17,10 @@ use Rattle.vx_history.proofs.GoodLemmas.{up_is_made}
 use Rattle.vx_history.proofs.CrashLemmas.{good_crashed, good_session_begun, good_stopped, kept_length}
 use Rattle.vx_history.specs.Sends.{with_links, sending, greeting}
 use Rattle.vx_history.specs.Events
-use Rattle.vx_world.specs.Sound.{GoodPacket, IsWhole, Sound}
+use Rattle.vx_history.specs.Sound.{GoodPacket, IsWhole, Sound}
 use Rattle.vx_world.proofs.Lists.{prefix_take}
 use Rattle.vx_world.proofs.Carry.{IsLater}
-use Rattle.vx_world.proofs.Moves.{sound_sending, sound_with_links, sound_with_node, sound_with_history, good_later}
+use Rattle.vx_world.proofs.Moves.{sound_gathering, sound_sending, sound_with_links, sound_with_node, sound_with_history, good_later}
 use Rattle.vx_world.proofs.Tests.{Keeps, unless_keeps}
 use Rattle.vx_world.proofs.Changes.{greeting_good, up_whole, origin_known}
 use Rattle.vx_world.proofs.Nodes
@@ -36,7 +36,8 @@ lost_keeps v q s =
 crashed_whole : (n : Node) (k : ℕ) → n.safe ≤ k → k ≤ length n.log → IsWhole (crashed n k)
 crashed_whole n k least most = λ _. omega (arith, kept_length n k least most)
 
-origin_crash_keeps : (w : World) (q k : ℕ) → Sound w → IsMade (w.nodes q) → is_origin (w.nodes q).role ≡ true → (w.nodes q).safe ≤ k → k ≤ length (w.nodes q).log → Sound (crash_left w q k)
+origin_crash_keeps : (w : World) (q k : ℕ) → Sound w → IsMade (w.nodes q) → is_origin (w.nodes q).role ≡ true → (w.nodes q).safe ≤ k
+    → k ≤ length (w.nodes q).log → Sound (crash_left w q k)
 origin_crash_keeps w q k s made o least most =
     let n : Node = w.nodes q in
     sound_with_history w q (crashed n k) (record (w.lines n.line) { held = take k n.log }) s
@@ -46,7 +47,8 @@ origin_crash_keeps w q k s made o least most =
     (crashed_whole n k least most)
     (origin_known w q (crashed n k) o)
 
-receiver_crash_keeps : (w : World) (q k : ℕ) → Sound w → IsMade (w.nodes q) → is_origin (w.nodes q).role ≡ false → (w.nodes q).safe ≤ k → k ≤ length (w.nodes q).log → Sound (with_node w q (crashed (w.nodes q) k))
+receiver_crash_keeps : (w : World) (q k : ℕ) → Sound w → IsMade (w.nodes q) → is_origin (w.nodes q).role ≡ false → (w.nodes q).safe ≤ k
+    → k ≤ length (w.nodes q).log → Sound (with_node w q (crashed (w.nodes q) k))
 receiver_crash_keeps w q k s made r least most =
     let n : Node = w.nodes q in
     let later : IsLater n (crashed n k) = Nodes.later_crashed n k least made in
@@ -63,15 +65,18 @@ crash_keeps w q kept s up =
     let made : IsMade n = up_is_made n up in
     let least : n.safe ≤ k = Nodes.kept_least n kept (s.good.nodes q).safe_fits in
     let most : k ≤ length n.log = Nodes.kept_most n kept in
-    by_test (λ (v : World). Sound (with_links v q (λ to. Events.lost_touch (w.links q to)))) (is_origin n.role) (crash_left w q k) (with_node w q (crashed n k))
+    sound_gathering (with_links (Events.crash_world w q k) q (λ to. Events.lost_touch (w.links q to))) _
+    (by_test (λ (v : World). Sound (with_links v q (λ to. Events.lost_touch (w.links q to)))) (is_origin n.role) (crash_left w q k)
+    (with_node w q (crashed n k))
     (λ o. lost_keeps (crash_left w q k) q (origin_crash_keeps w q k s made o least most))
-    (λ r. lost_keeps (with_node w q (crashed n k)) q (receiver_crash_keeps w q k s made r least most))
+    (λ r. lost_keeps (with_node w q (crashed n k)) q (receiver_crash_keeps w q k s made r least most)))
 
 -- the world of a site that has risen with this mark, with its links and its greeting
 abbrev pub RisenWorld : World → ℕ → Node → World
 RisenWorld w q m = sending (with_links (with_node w q m) q (λ to. Events.restarted_link m to (w.links q to))) (Events.recovery_greeting q m)
 
-risen_keeps : (w : World) (q : ℕ) (mark : Mark) → Sound w → (w.nodes q).state ≡ Down → ((w.nodes q).mark ≡ Consistent → mark ≡ Consistent) → (is_origin (w.nodes q).role ≡ true → mark ≡ (w.nodes q).mark) → Sound (RisenWorld w q (Nodes.risen (w.nodes q) mark))
+risen_keeps : (w : World) (q : ℕ) (mark : Mark) → Sound w → (w.nodes q).state ≡ Down → ((w.nodes q).mark ≡ Consistent → mark ≡ Consistent)
+    → (is_origin (w.nodes q).role ≡ true → mark ≡ (w.nodes q).mark) → Sound (RisenWorld w q (Nodes.risen (w.nodes q) mark))
 risen_keeps w q mark s down marks same =
     let n : Node = w.nodes q in
     let m : Node = Nodes.risen n mark in
@@ -106,7 +111,8 @@ recovery_keeps w q (Some disk) s down =
     (s.whole q)
     (s.known q)
 
-pub recover_keeps : (w : World) (q : ℕ) (state : SiteState) (fails : Option ℕ) → Sound w → (w.nodes q).state ≡ state → Keeps (Events.recover_from state w q fails)
+pub recover_keeps : (w : World) (q : ℕ) (state : SiteState) (fails : Option ℕ) → Sound w → (w.nodes q).state ≡ state
+    → Keeps (Events.recover_from state w q fails)
 recover_keeps w q Bare fails s e = s
 recover_keeps w q Up fails s e = s
 recover_keeps w q Deported fails s e = s

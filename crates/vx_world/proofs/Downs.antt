@@ -6,6 +6,7 @@ use Rattle.vx_history.specs.World.{World, Node, Link, Packet, updated, line_upda
 use Rattle.vx_model.specs.Sites.{is_origin}
 use Rattle.vx_history.specs.Sends.{with_links, sending, greeting}
 use Rattle.vx_history.specs.LinkForms.{plain_receiver}
+use Rattle.vx_history.specs.Gatherings.{emptied}
 use Rattle.vx_history.specs.Steps.{crashed, crash_left, kept_by, recovered}
 use Rattle.vx_history.specs.Receiving.{marked_by, site_restarted, is_log_phase}
 use Rattle.vx_history.specs.Events.{lost_touch, crash_world, crash_at, come_back, restarted_link, recovery_greeting, recovered_at}
@@ -21,7 +22,8 @@ crashed_receiver w v s k role is =
     is ∙ sym (ap (λ (b : Bool). if b then crash_left w s k else with_node w s (crashed (w.nodes s) k)) role)
 
 pub crashed_origin : (w mid v : World) (s k : ℕ) → is_origin (w.nodes s).role ≡ true
-    → mid ≡ record w { lines = line_updated w.lines (w.nodes s).line (kept_by (w.lines (w.nodes s).line) (w.nodes s) k) } → v ≡ with_node mid s (crashed (mid.nodes s) k)
+    → mid ≡ record w { lines = line_updated w.lines (w.nodes s).line (kept_by (w.lines (w.nodes s).line) (w.nodes s) k) } → v ≡ with_node mid s
+    (crashed (mid.nodes s) k)
     → v ≡ crash_world w s k
 crashed_origin w mid v s k role kept is =
     is
@@ -33,11 +35,15 @@ crash_links : (w : World) (s k : ℕ) (b : Bool) → (let x : World = if b then 
 crash_links w s k true = refl
 crash_links w s k false = refl
 
-pub crash_done : (w mid v : World) (s k : ℕ) → mid ≡ crash_world w s k → v ≡ with_links mid s (λ to. lost_touch (mid.links s to)) → v ≡ crash_at w s k
-crash_done w mid v s k down lost =
-    lost
-    ∙ ap (λ (x : World). with_links x s (λ to. lost_touch (x.links s to))) down
-    ∙ ap (λ (f : ℕ → ℕ → Link). let x : World = record (crash_world w s k) { links = updated (crash_world w s k).links s (λ to. lost_touch (f s to)) } in x) (crash_links w s k (is_origin (w.nodes s).role))
+pub crash_done : (w mid apart v : World) (s k : ℕ) → mid ≡ crash_world w s k → apart ≡ with_links mid s (λ to. lost_touch (mid.links s to))
+    → v ≡ emptied apart s → v ≡ crash_at w s k
+crash_done w mid apart v s k down lost empty =
+    empty
+    ∙ ap (λ (x : World). emptied x s) lost
+    ∙ ap (λ (x : World). emptied (with_links x s (λ to. lost_touch (x.links s to))) s) down
+    ∙ ap (λ (f : ℕ → ℕ → Link). let x : World = record
+    (crash_world w s k) { links = updated (crash_world w s k).links s (λ to. lost_touch (f s to)) } in emptied x s)
+    (crash_links w s k (is_origin (w.nodes s).role))
 
 -- ## Recoveries
 
@@ -59,7 +65,8 @@ back_receiver n mark role is =
     let s : RState = record (plain_receiver n) { last = length n.log; waiting = 0; session = n.session + 1 } in
     let r : RState = marked_by s (length n.log) in
     ap (λ (b : Bool). let x : Node = if b then recovered n else record (recovered n) { session = r.session; mark = r.mark } in x) role
-    ∙ ap (λ (k : ℕ). let x : Node = record (recovered n) { session = k; mark = r.mark } in x) (session_after s (length n.log) (is_log_phase s.phase && leb s.end (length n.log)))
+    ∙ ap (λ (k : ℕ). let x : Node = record (recovered n) { session = k; mark = r.mark } in x)
+    (session_after s (length n.log) (is_log_phase s.phase && leb s.end (length n.log)))
     ∙ sym (ap (λ (m : Mark). let x : Node = record (recovered n) { mark = m } in x) is)
 
 -- an origin sends nothing
@@ -69,7 +76,8 @@ greets_none w s role =
     sym (ap (λ (ps : List Packet). let x : World = record w { packets = ps } in x) (append-nil w.packets))
     ∙ ap (λ (b : Bool). sending w (if b then [] else greeting s n.other n)) (sym role)
 
-pub greets_primary : (w v : World) (s : ℕ) (n : Node) → is_origin n.role ≡ false → n ≡ w.nodes s → v ≡ sending w (greeting s n.other n) → v ≡ sending w (recovery_greeting s (w.nodes s))
+pub greets_primary : (w v : World) (s : ℕ) (n : Node) → is_origin n.role ≡ false → n ≡ w.nodes s → v ≡ sending w (greeting s n.other n)
+    → v ≡ sending w (recovery_greeting s (w.nodes s))
 greets_primary w v s n role is sent =
     sent
     ∙ sym (ap (λ (b : Bool). sending w (if b then [] else greeting s n.other n)) role)

@@ -1,5 +1,5 @@
 -- Every event leaves what lines hold, what was answered, sent and promised.
-use Rattle.std.proofs.Common.{◌≡◌, ℕ, ◌+◌, ◌≤◌, List, [], ◌∷◌, ◌++◌, take, refl, ap, sym, ◌∙◌, subst, arith, append_assoc, Bool, false}
+use Rattle.std.proofs.Common.{◌≡◌, ℕ, ◌+◌, ◌≤◌, List, [], ◌∷◌, ◌++◌, take, refl, ap, sym, ◌∙◌, subst, arith, append_assoc, Bool, true, false}
 use Rattle.std.specs.Prelude.{leb, not, if◌then◌else◌, Option, Some, None, eqb, ltb, ◌&&◌, ◌||◌, bytes_eq}
 use Rattle.std.proofs.lemmas.List.{take-take}
 use Rattle.vx_model.specs.Content.{Write, IsPrefixOf, blocks_in}
@@ -7,7 +7,7 @@ use Rattle.vx_model.specs.Answer.{is_too_large}
 use Rattle.vx_history.specs.Admission.{Admitted, Held_by, Goes}
 use Rattle.vx_history.specs.Receiving.{Received, received_step}
 use Rattle.vx_history.specs.LinkForms.{plain_receiver, with_plain}
-use Rattle.vx_history.specs.World.{World, Node, Link as LinkRecord, History, Packet, Promise, Message, Hello, Update, NetAck, DataAck, with_node, with_history, bare_site}
+use Rattle.vx_history.specs.World.{World, Node, Link as LinkRecord, History, Gathering, Packet, Promise, Message, Hello, Update, NetAck, DataAck, with_node, with_history, bare_site}
 use Rattle.vx_model.specs.Sites.{is_origin}
 use Rattle.vx_history.specs.Steps.{burned, logged, told_of, written, half_written, crashed, crash_left, site_made, raw_made, raw_set, raw_history, stopped_by}
 use Rattle.vx_history.specs.Good.{IsMade}
@@ -36,10 +36,11 @@ use Rattle.vx_history.specs.Refusals.{Outcome, says, unless, at_work, on_link, k
 use Rattle.vx_model.specs.Sites.{is_up, is_bare}
 use Rattle.vx_model.specs.Sizes.{is_raw_shape}
 use Rattle.vx_history.specs.Events
-use Rattle.vx_history.specs.Step.{done, step, run, link_part}
+use Rattle.vx_history.specs.Gatherings.{completes, emptied}
+use Rattle.vx_history.specs.Step.{done, outcome_of, step, run, link_part}
 use Rattle.vx_history.specs.Sends.{is_linked, with_link, with_links, sending, promising, sent_by}
 use Rattle.vx_model.specs.declared.limits.TheConstants.{MOST_DISKS, MOST_LINKS, MOST_SITES}
-use Rattle.vx_world.specs.Sound.{Sound}
+use Rattle.vx_history.specs.Sound.{Sound}
 use Rattle.vx_world.specs.Grown.{Grown}
 use Rattle.vx_world.proofs.Lists.{prefix_refl, prefix_trans, prefix_more, prefix_take, not_false}
 use Rattle.vx_world.proofs.Guards
@@ -66,12 +67,19 @@ grown_trans u v w g h = record {
   told = λ l made. omega (arith, g.told l made, h.told l (g.made l.origin made));
   made = λ i made. h.made i (g.made i made);
   sent = (g.sent.0 ++ h.sent.0, h.sent.1 ∙ ap (λ (t : List Packet). t ++ h.sent.0) g.sent.1 ∙ append_assoc u.packets g.sent.0 h.sent.0);
-  promised = (g.promised.0 ++ h.promised.0, h.promised.1 ∙ ap (λ (t : List Promise). t ++ h.promised.0) g.promised.1 ∙ append_assoc u.promised g.promised.0 h.promised.0);
+  promised = (
+    g.promised.0 ++ h.promised.0,
+    h.promised.1 ∙ ap (λ (t : List Promise). t ++ h.promised.0) g.promised.1
+        ∙ append_assoc u.promised g.promised.0 h.promised.0,
+  );
 }
 
 module _ (w v : World) (g : Grown w v) where
   grown_links : (f : ℕ → ℕ → LinkRecord) → Grown w (record v { links = f })
   grown_links f = record { held = g.held; told = g.told; made = g.made; sent = g.sent; promised = g.promised }
+
+  grown_gathering : (f : ℕ → Option Gathering) → Grown w (record v { gathering = f })
+  grown_gathering f = record { held = g.held; told = g.told; made = g.made; sent = g.sent; promised = g.promised }
 
   grown_sending : (more : List Packet) → Grown w (sending v more)
   grown_sending more = record {
@@ -100,9 +108,11 @@ grown_node w i n stays = record {
   promised = ([], sym (append-nil w.promised));
 }
 
-grown_history : (w : World) (i : ℕ) (n : Node) (h : History) → (IsMade (w.nodes i) → IsMade n) → (IsMade (w.nodes n.line.origin) → IsPrefixOf (w.lines n.line).held h.held × ((w.lines n.line).told ≤ h.told)) → Grown w (with_history w i n h)
+grown_history : (w : World) (i : ℕ) (n : Node) (h : History) → (IsMade (w.nodes i) → IsMade n)
+    → (IsMade (w.nodes n.line.origin) → IsPrefixOf (w.lines n.line).held h.held × ((w.lines n.line).told ≤ h.told)) → Grown w (with_history w i n h)
 grown_history w i n h stays grows = record {
-  held = all_lines (λ l (r : History). IsMade (w.nodes l.origin) → IsPrefixOf (w.lines l).held r.held) w.lines n.line h (λ made. (grows made).0) (λ l _ _. prefix_refl (w.lines l).held);
+  held = all_lines (λ l (r : History). IsMade (w.nodes l.origin) → IsPrefixOf (w.lines l).held r.held) w.lines n.line h (λ made. (grows made).0)
+      (λ l _ _. prefix_refl (w.lines l).held);
   told = all_lines (λ l (r : History). IsMade (w.nodes l.origin) → (w.lines l).told ≤ r.told) w.lines n.line h (λ made. (grows made).1) (λ l _ _. omega arith);
   made = all_updated (λ k (m : Node). IsMade (w.nodes k) → IsMade m) w.nodes i n stays (λ k _ made. made);
   sent = ([], sym (append-nil w.packets));
@@ -119,11 +129,14 @@ put_grows : (w v : World) (p : ℕ) (x : Write) (fails : Option ℕ) → Sound v
 put_grows w v p x None s g =
     let n : Node = v.nodes p in
     grown_trans w v (written v p x) g
-    (grown_history v p (logged n x) (told_of (v.lines n.line) x) (λ made. made) (λ _. (prefix_more (v.lines n.line).held (x ∷ []), omega (arith, s.good.told n.line))))
+    (grown_history v p (logged n x) (told_of (v.lines n.line) x) (λ made. made)
+    (λ _. (prefix_more (v.lines n.line).held (x ∷ []), omega (arith, s.good.told n.line))))
 put_grows w v p x (Some disk) s g =
-    grown_trans w v (half_written v p x disk) g (grown_node v p (record (v.nodes p) { log = (v.nodes p).log ++ x ∷ []; halted = Some disk; fuse = burned (v.nodes p).fuse }) (λ made. made))
+    grown_trans w v (half_written v p x disk) g
+    (grown_node v p (record (v.nodes p) { log = (v.nodes p).log ++ x ∷ []; halted = Some disk; fuse = burned (v.nodes p).fuse }) (λ made. made))
 
-written_grows : (admitted : Admitted) (w : World) (p : ℕ) (x : Write) (fails : Option ℕ) → Sound w → Sound (Events.links_changed w p x) → Leaves w (Events.written_if admitted w p x fails)
+written_grows : (admitted : Admitted) (w : World) (p : ℕ) (x : Write) (fails : Option ℕ) → Sound w → Sound (Events.links_changed w p x)
+    → Leaves w (Events.written_if admitted w p x fails)
 written_grows (Held_by why) w p x fails s v = grown_same w
 written_grows (Goes changes) w p x fails s v =
     Guards.unless_holds (Grown w) _ _ w (Events.put_in (Events.links_changed w p x) p x fails) (grown_same w)
@@ -153,40 +166,59 @@ taken_grows : (w : World) (p : Packet) (x : Write) (action : RAction) → Leaves
 taken_grows w p x DoesNothing = grown_same w
 taken_grows w p x Ignores = grown_same w
 taken_grows w p x (IgnoredAck number) = grown_sending w w (grown_same w) _
-taken_grows w p x (Take number) =
-    let n : Node = Events.with_write (w.nodes p.target) x in
-    grown_sending w (with_node w p.target n) (grown_node w p.target n (λ made. made)) _
+taken_grows w p x (Take number) = by_whole (completes (w.gathering p.target) p)
+  where
+    by_whole : (b : Bool) → Leaves w (Events.taken_if b w p x number)
+    by_whole true =
+        let n : Node = Events.with_write (w.nodes p.target) x in
+        grown_sending w (with_node w p.target n) (grown_node w p.target n (λ made. made)) _
+    by_whole false = grown_same w
 taken_grows w p x (AcksFromDisk number) = grown_same w
 
 heard_grows : (w : World) (p : Packet) (m : Message) → Leaves w (Events.heard w p m)
 heard_grows w p (Hello session number stored) = link_heard_grows w p (HearHello session number stored)
 heard_grows w p (Update number x) =
-    by_test (Leaves w) (is_origin (w.nodes p.target).role) (says w IsIgnored) _ (λ _. grown_same w) (λ _. taken_grows w p x (received_step (plain_receiver (w.nodes p.target)) (HearUpdate p.line number)).action)
+    by_test (Leaves w) (is_origin (w.nodes p.target).role) (says w IsIgnored) _ (λ _. grown_same w)
+    (λ _. taken_grows w p x (received_step (plain_receiver (w.nodes p.target)) (HearUpdate p.line number)).action)
 heard_grows w p (NetAck session number) = link_heard_grows w p (HearNetAck session number)
 heard_grows w p (DataAck number) = link_heard_grows w p (HearDataAck number)
 
-delivered_grows : (w : World) (number : ℕ) (whole : Bool) (p : Option Packet) → Leaves w (Events.delivered w number whole p)
-delivered_grows w number whole None = grown_same w
-delivered_grows w number whole (Some p) =
-    by_test (Leaves w) (is_up (w.nodes p.target).state && is_running (w.nodes p.target).halted) _ (says w IsIgnored)
-    (λ _. by_test (Leaves w) whole (Events.heard w p p.message) (says w (Events.said_of_part (w.nodes p.target) p.line p.message)) (λ _. heard_grows w p p.message) (λ _. grown_same w))
-    (λ _. grown_same w)
+gathers_grows : (w : World) (p : Packet) (o : Outcome) → Leaves w o → Leaves w (Events.gathers p o)
+gathers_grows w p o g = by_taken (Events.is_taken o.said)
+  where
+    by_taken : (b : Bool) → Grown w (Events.gathered_if b o.world p)
+    by_taken true = grown_gathering w o.world g _
+    by_taken false = g
+
+delivered_grows : (w : World) (number : ℕ) (p : Option Packet) → Leaves w (Events.delivered w number p)
+delivered_grows w number None = grown_same w
+delivered_grows w number (Some p) =
+    gathers_grows w p (Events.handed w p)
+    (by_test (Leaves w) (is_up (w.nodes p.target).state && is_running (w.nodes p.target).halted) _ (says w IsIgnored)
+    (λ _. heard_grows w p p.message)
+    (λ _. grown_same w))
 
 crash_grows : (w : World) (q k : ℕ) → Sound w → (w.nodes q).state ≡ Up → (w.nodes q).safe ≤ k → Grown w (Events.crash_at w q k)
 crash_grows w q k s up least =
     let n : Node = w.nodes q in
     let made : IsMade n = up_is_made n up in
     let row : ℕ → LinkRecord = λ to. Events.lost_touch (w.links q to) in
-    by_test (λ (v : World). Grown w (with_links v q row)) (is_origin n.role) (crash_left w q k) (with_node w q (crashed n k))
+    grown_gathering w (with_links (Events.crash_world w q k) q row)
+    (by_test (λ (v : World). Grown w (with_links v q row)) (is_origin n.role) (crash_left w q k) (with_node w q (crashed n k))
     (λ o. grown_links w (crash_left w q k)
     (grown_history w q (crashed n k) (record (w.lines n.line) { held = take k n.log }) (λ _ e. cc)
-    (λ _. (subst (λ t. IsPrefixOf t (take k n.log)) (take-take n.safe k n.log least ∙ (s.good.nodes q).origin_log made o) (prefix_take n.safe (take k n.log)), omega arith)))
+    (λ _. (
+      subst (λ t. IsPrefixOf t (take k n.log)) (take-take n.safe k n.log least ∙ (s.good.nodes q).origin_log made o)
+          (prefix_take n.safe (take k n.log)),
+      omega arith,
+    )))
     (with_links (crash_left w q k) q row).links)
-    (λ _. grown_links w (with_node w q (crashed n k)) (grown_node w q (crashed n k) (λ _ e. cc)) (with_links (with_node w q (crashed n k)) q row).links)
+    (λ _. grown_links w (with_node w q (crashed n k)) (grown_node w q (crashed n k) (λ _ e. cc)) (with_links (with_node w q (crashed n k)) q row).links)) _
 
 recovery_grows : (w : World) (q : ℕ) (fails : Option ℕ) → Leaves w (Events.recovery w q fails)
 recovery_grows w q None =
-    Nodes.back_by (λ (m : Node). Grown w (sending (with_links (with_node w q m) q (λ to. Events.restarted_link m to (w.links q to))) (Events.recovery_greeting q m))) (w.nodes q)
+    Nodes.back_by (λ (m : Node). Grown w
+    (sending (with_links (with_node w q m) q (λ to. Events.restarted_link m to (w.links q to))) (Events.recovery_greeting q m))) (w.nodes q)
     (λ mark _ _.
     let m : Node = Nodes.risen (w.nodes q) mark in
     let v : World = with_node w q m in
@@ -202,7 +234,8 @@ recover_grows w q Down fails = Guards.unless_holds (Grown w) _ _ w (Events.recov
 
 site_grows : (w : World) (name : List ℕ) (disks blocks : ℕ) → Sound w → Grown w (site_made w name disks blocks)
 site_grows w name disks blocks s =
-    let g : Grown w (with_node w w.sites (bare_site name disks blocks)) = grown_node w w.sites (bare_site name disks blocks) (λ made. absurd (made (s.good.later w.sites (omega arith)))) in
+    let g : Grown w (with_node w w.sites (bare_site name disks blocks)) = grown_node w w.sites (bare_site name disks blocks)
+    (λ made. absurd (made (s.good.later w.sites (omega arith)))) in
     record { held = g.held; told = g.told; made = g.made; sent = g.sent; promised = g.promised }
 
 raw_grows : (w : World) (q : ℕ) → (w.nodes q).state ≡ Bare → Grown w (raw_made w q)
@@ -210,17 +243,19 @@ raw_grows w q bare = grown_history w q (raw_set q (w.nodes q)) (raw_history (w.n
 
 link_part_grows : (part : LinkPart) (w : World) (p q : ℕ) (sync : SyncMode) → (w.nodes q).state ≡ Up → Leaves w (link_part part w p q sync)
 link_part_grows Joins w p q sync up =
-    let o : Outcome = done (with_node w q (Events.joined (w.nodes p) p (w.nodes q))) in
+    let joins : World = with_node w q (Events.joined (w.nodes p) p (w.nodes q)) in
+    let o : Outcome = done (emptied joins q) in
     let fits : Outcome = unless (not (agree (w.nodes p).volumes (w.nodes q).volumes && rings_fit (w.nodes p) (w.nodes q))) Size w o in
     let few : Outcome = unless (leb MOST_LINKS (links_of w p)) (Limit Links MOST_LINKS) w fits in
     Guards.unless_holds (Grown w) (not (may_link w p q)) WrongRole w (unless (is_linked (w.links p q)) (Exists (w.nodes q).name) w few) (grown_same w)
     (λ _. Guards.unless_holds (Grown w) (is_linked (w.links p q)) (Exists (w.nodes q).name) w few (grown_same w)
     (λ _. Guards.unless_holds (Grown w) (leb MOST_LINKS (links_of w p)) (Limit Links MOST_LINKS) w fits (grown_same w)
     (λ _. Guards.unless_holds (Grown w) (not (agree (w.nodes p).volumes (w.nodes q).volumes && rings_fit (w.nodes p) (w.nodes q))) Size w o (grown_same w)
-    (λ _. grown_node w q (Events.joined (w.nodes p) p (w.nodes q)) (λ made. made)))))
+    (λ _. grown_gathering w joins (grown_node w q (Events.joined (w.nodes p) p (w.nodes q)) (λ made. made)) _))))
 link_part_grows Made w p q sync up =
     let l : LinkRecord = Events.new_link (links_of w p) sync (w.nodes q) in
-    Guards.unless_holds (Grown w) (not (is_primary (w.nodes p).role && follows w p q)) WrongRole w (unless (is_linked (w.links p q)) (Exists (w.nodes q).name) w (done (with_link w p q l))) (grown_same w)
+    Guards.unless_holds (Grown w) (not (is_primary (w.nodes p).role && follows w p q)) WrongRole w
+    (unless (is_linked (w.links p q)) (Exists (w.nodes q).name) w (done (with_link w p q l))) (grown_same w)
     (λ _. Guards.unless_holds (Grown w) (is_linked (w.links p q)) (Exists (w.nodes q).name) w (done (with_link w p q l)) (grown_same w)
     (λ _. grown_links w w (grown_same w) (with_link w p q l).links))
 link_part_grows Marked w p q sync up =
@@ -233,73 +268,86 @@ link_part_grows Opened w p q sync up =
 on_link_grows : (w : World) (p q : ℕ) (e : SEvent) → Leaves w (on_link w p q (done (Events.link_event w p q e)))
 on_link_grows w p q e = Guards.on_link_holds (Grown w) keeps_links w p q (done (Events.link_event w p q e)) (grown_same w) (λ _ _ _. moved_grows w p q e)
 
-pub step_grows : (w : World) (e : Event) → Sound w → Leaves w (step w e)
-step_grows w (Site name disks blocks) s =
+outcome_grows : (w : World) (e : Event) → Sound w → Leaves w (outcome_of w e)
+outcome_grows w (Site name disks blocks) s =
     let o : Outcome = done (site_made w name disks blocks) in
     let few : Outcome = unless (eqb disks 0 || ltb blocks 8) Size w o in
     let some : Outcome = unless (ltb MOST_DISKS disks) (Limit Disks MOST_DISKS) w few in
-    Guards.unless_holds (Grown w) (some_below w.sites (λ k. bytes_eq (w.nodes k).name name)) (Exists name) w (unless (leb MOST_SITES w.sites) (Limit Sites MOST_SITES) w some) (grown_same w)
+    Guards.unless_holds (Grown w) (some_below w.sites (λ k. bytes_eq (w.nodes k).name name)) (Exists name) w
+    (unless (leb MOST_SITES w.sites) (Limit Sites MOST_SITES) w some) (grown_same w)
     (λ _. Guards.unless_holds (Grown w) (leb MOST_SITES w.sites) (Limit Sites MOST_SITES) w some (grown_same w)
     (λ _. Guards.unless_holds (Grown w) (ltb MOST_DISKS disks) (Limit Disks MOST_DISKS) w few (grown_same w)
     (λ _. Guards.unless_holds (Grown w) (eqb disks 0 || ltb blocks 8) Size w o (grown_same w) (λ _. site_grows w name disks blocks s))))
-step_grows w (Raw q) s =
+outcome_grows w (Raw q) s =
     let o : Outcome = done (raw_made w q) in
     let shaped : Outcome = unless (not (is_raw_shape (w.nodes q).disks (w.nodes q).blocks)) Size w o in
     Guards.at_site_holds (Grown w) w q (unless (not (is_bare (w.nodes q).state)) WrongRole w shaped) (grown_same w)
     (λ _. Guards.unless_holds (Grown w) (not (is_bare (w.nodes q).state)) WrongRole w shaped (grown_same w)
     (λ bare. Guards.unless_holds (Grown w) (not (is_raw_shape (w.nodes q).disks (w.nodes q).blocks)) Size w o (grown_same w)
     (λ _. raw_grows w q (Guards.bare_is (w.nodes q).state (not_false (is_bare (w.nodes q).state) bare)))))
-step_grows w (WriteAt p volume start bytes fails) s =
+outcome_grows w (WriteAt p volume start bytes fails) s =
     let x : Write = record { volume = volume; start = start; bytes = bytes } in
-    Guards.on_volume_holds (Grown w) w p volume start (blocks_in bytes) (is_too_large (w.nodes p).ring (blocks_in bytes)) (Events.written_if (Events.admitted w p x) w p x fails) (grown_same w)
+    Guards.on_volume_holds (Grown w) w p volume start (blocks_in bytes) (is_too_large (w.nodes p).ring (blocks_in bytes))
+    (Events.written_if (Events.admitted w p x) w p x fails) (grown_same w)
     (λ _ _ _. written_grows (Events.admitted w p x) w p x fails s (links_changed_keeps w p x s))
-step_grows w (Read p volume start count) s = Guards.on_volume_holds (Grown w) w p volume start count false _ (grown_same w) (λ _ _ _. grown_same w)
-step_grows w (Apply q count reached) s =
+outcome_grows w (Read p volume start count) s = Guards.on_volume_holds (Grown w) w p volume start count false _ (grown_same w) (λ _ _ _. grown_same w)
+outcome_grows w (Apply q count reached) s =
     let o : Outcome = if is_origin (w.nodes q).role then Events.reached_at w q count reached else Events.apply_at w q count in
     let r : Received = received_step (plain_receiver (w.nodes q)) (Applied count) in
     Guards.at_site_holds (Grown w) w q (at_work w q o) (grown_same w)
     (λ _. Guards.at_work_holds (Grown w) w q o (grown_same w)
-    (λ _ _. by_test (Leaves w) (is_origin (w.nodes q).role) (Events.reached_at w q count reached) (Events.apply_at w q count) (λ _. grown_same w) (λ _. applied_grows w q r.state r.action)))
-step_grows w (Pump p q) s =
-    Guards.on_link_holds (Grown w) keeps_links w p q _ (grown_same w) (λ _ _ _. Guards.when_live_holds (Grown w) w q (w.links p q) (done (Events.link_event w p q PumpLink)) (grown_same w) (moved_grows w p q PumpLink))
-step_grows w (Tick p q) s = on_link_grows w p q TickLink
-step_grows w (Deliver number whole) s = delivered_grows w number whole (Events.packet_at w.packets number)
-step_grows w (Connect p q) s =
+    (λ _ _. by_test (Leaves w) (is_origin (w.nodes q).role) (Events.reached_at w q count reached) (Events.apply_at w q count) (λ _. grown_same w)
+    (λ _. applied_grows w q r.state r.action)))
+outcome_grows w (Pump p q) s =
+    Guards.on_link_holds (Grown w) keeps_links w p q _ (grown_same w)
+    (λ _ _ _. Guards.when_live_holds (Grown w) w q (w.links p q) (done (Events.link_event w p q PumpLink)) (grown_same w) (moved_grows w p q PumpLink))
+outcome_grows w (Tick p q) s = on_link_grows w p q TickLink
+outcome_grows w (Deliver number) s = delivered_grows w number (Events.packet_at w.packets number)
+outcome_grows w (Connect p q) s =
     let v : World = Events.link_event w p q ConnectLink in
     Guards.on_link_holds (Grown w) keeps_links w p q (done (sending v (Events.greeting_back w p q))) (grown_same w)
     (λ _ _ _. grown_sending w v (moved_grows w p q ConnectLink) (Events.greeting_back w p q))
-step_grows w (Cut p q) s = on_link_grows w p q CutLink
-step_grows w (Pause p q) s = on_link_grows w p q PauseLink
-step_grows w (Resume p q) s = on_link_grows w p q ResumeLink
-step_grows w (Wait p number) s =
+outcome_grows w (Cut p q) s = on_link_grows w p q CutLink
+outcome_grows w (Pause p q) s = on_link_grows w p q PauseLink
+outcome_grows w (Resume p q) s = on_link_grows w p q ResumeLink
+outcome_grows w (Wait p number) s =
     let unconfirmed : Bool = some_below w.sites (λ k. is_unconfirmed number k (w.links p k)) in
     let held : Bool = some_below w.sites (λ k. holds_back number k (w.links p k)) in
     let promised : Outcome = says (promising w (Events.promises_of (w.nodes p) number (w.links p) w.sites)) (DoneAt number) in
     let answered : Outcome = if held then says w (Pending number) else promised in
     let known : Outcome = unless unconfirmed (Unconfirmed number) w answered in
-    let o : Outcome = unless (not (is_origin (w.nodes p).role)) WrongRole w (unless (eqb number 0 || ltb (w.nodes p).safe number) (Unknown (ByNumber number)) w known) in
+    let o : Outcome = unless (not (is_origin (w.nodes p).role)) WrongRole w
+    (unless (eqb number 0 || ltb (w.nodes p).safe number) (Unknown (ByNumber number)) w known) in
     Guards.at_site_holds (Grown w) w p (at_work w p o) (grown_same w)
     (λ _. Guards.at_work_holds (Grown w) w p o (grown_same w)
     (λ _ _. Guards.unless_holds (Grown w) (not (is_origin (w.nodes p).role)) WrongRole w _ (grown_same w)
     (λ _. Guards.unless_holds (Grown w) (eqb number 0 || ltb (w.nodes p).safe number) (Unknown (ByNumber number)) w known (grown_same w)
     (λ _. Guards.unless_holds (Grown w) unconfirmed (Unconfirmed number) w answered (grown_same w)
-    (λ _. by_test (Leaves w) held (says w (Pending number)) promised (λ _. grown_same w) (λ _. grown_promising w w (grown_same w) (Events.promises_of (w.nodes p) number (w.links p) w.sites)))))))
-step_grows w (Link p q sync part) s =
+    (λ _. by_test (Leaves w) held (says w (Pending number)) promised (λ _. grown_same w)
+    (λ _. grown_promising w w (grown_same w) (Events.promises_of (w.nodes p) number (w.links p) w.sites)))))))
+outcome_grows w (Link p q sync part) s =
     Guards.at_site_holds (Grown w) w p _ (grown_same w)
-    (λ _. Guards.at_site_holds (Grown w) w q _ (grown_same w) (λ _. Guards.both_holds (Grown w) w p q (link_part part w p q sync) (grown_same w) (λ _ up _. link_part_grows part w p q sync up)))
-step_grows w (Set p q sync) s =
+    (λ _. Guards.at_site_holds (Grown w) w q _ (grown_same w)
+    (λ _. Guards.both_holds (Grown w) w p q (link_part part w p q sync) (grown_same w) (λ _ up _. link_part_grows part w p q sync up)))
+outcome_grows w (Set p q sync) s =
     let l : LinkRecord = record (w.links p q) { sync = sync; prot = FailsWhenFull } in
     Guards.on_link_holds (Grown w) is_origin w p q (done (with_link w p q l)) (grown_same w) (λ _ _ _. grown_links w w (grown_same w) (with_link w p q l).links)
-step_grows w (Crash q kept) s =
+outcome_grows w (Crash q kept) s =
     let o : Outcome = done (Events.crash_at w q (Events.kept_of (w.nodes q) kept)) in
     Guards.at_site_holds (Grown w) w q (unless (not (is_up (w.nodes q).state)) NotUp w o) (grown_same w)
     (λ _. Guards.unless_holds (Grown w) (not (is_up (w.nodes q).state)) NotUp w o (grown_same w)
-    (λ up. crash_grows w q (Events.kept_of (w.nodes q) kept) s (Guards.up_is (w.nodes q).state (not_false (is_up (w.nodes q).state) up)) (Nodes.kept_least (w.nodes q) kept (s.good.nodes q).safe_fits)))
-step_grows w (Recover q fails) s = Guards.at_site_holds (Grown w) w q _ (grown_same w) (λ _. recover_grows w q (w.nodes q).state fails)
-step_grows w (Fault q disk) s =
+    (λ up. crash_grows w q (Events.kept_of (w.nodes q) kept) s (Guards.up_is (w.nodes q).state (not_false (is_up (w.nodes q).state) up))
+    (Nodes.kept_least (w.nodes q) kept (s.good.nodes q).safe_fits)))
+outcome_grows w (Recover q fails) s = Guards.at_site_holds (Grown w) w q _ (grown_same w) (λ _. recover_grows w q (w.nodes q).state fails)
+outcome_grows w (Fault q disk) s =
     Guards.at_site_holds (Grown w) w q _ (grown_same w)
     (λ _. Guards.unless_holds (Grown w) (not (is_up (w.nodes q).state)) NotUp w (says (stopped_by w q disk) _) (grown_same w)
     (λ _. grown_node w q (record (w.nodes q) { halted = Some disk; fuse = burned (w.nodes q).fuse }) (λ made. made)))
+
+-- whatever headers it writes
+pub step_grows : (w : World) (e : Event) → Sound w → Leaves w (step w e)
+step_grows w e s = let g : Grown w
+    (outcome_of w e).world = outcome_grows w e s in record { held = g.held; told = g.told; made = g.made; sent = g.sent; promised = g.promised }
 
 pub run_grows : (w : World) (events : List Event) → Sound w → Grown w (run w events)
 run_grows w [] s = grown_same w

@@ -61,16 +61,20 @@ module _ (P : World → Type 0) where
       unless_holds (not (is_up (w.nodes p).state)) NotUp w (unless_halted (w.nodes p).halted w o) s
       (λ u. halted_holds (w.nodes p).halted w o s (k (up_is (w.nodes p).state (not_false (is_up (w.nodes p).state) u))))
 
-  pub both_holds : (w : World) (p q : ℕ) (o : Outcome) → P w → ((w.nodes p).state ≡ Up → (w.nodes q).state ≡ Up → (w.nodes p).halted ≡ None → Holds o) → Holds (both_at_work w p q o)
+  pub both_holds : (w : World) (p q : ℕ) (o : Outcome) → P w → ((w.nodes p).state ≡ Up → (w.nodes q).state ≡ Up → (w.nodes p).halted ≡ None → Holds o)
+      → Holds (both_at_work w p q o)
   both_holds w p q o s k =
-      unless_holds (not (is_up (w.nodes p).state && is_up (w.nodes q).state)) NotUp w (unless_halted (w.nodes p).halted w (unless_halted (w.nodes q).halted w o)) s
+      unless_holds (not (is_up (w.nodes p).state && is_up (w.nodes q).state)) NotUp w
+      (unless_halted (w.nodes p).halted w (unless_halted (w.nodes q).halted w o)) s
       (λ u.
       let both : (is_up (w.nodes p).state && is_up (w.nodes q).state) ≡ true = not_false (is_up (w.nodes p).state && is_up (w.nodes q).state) u in
       halted_holds (w.nodes p).halted w (unless_halted (w.nodes q).halted w o) s
       (λ none. halted_holds (w.nodes q).halted w o s
-      (λ _. k (up_is (w.nodes p).state (and_left (is_up (w.nodes p).state) (is_up (w.nodes q).state) both)) (up_is (w.nodes q).state (and_right (is_up (w.nodes p).state) (is_up (w.nodes q).state) both)) none)))
+      (λ _. k (up_is (w.nodes p).state (and_left (is_up (w.nodes p).state) (is_up (w.nodes q).state) both))
+      (up_is (w.nodes q).state (and_right (is_up (w.nodes p).state) (is_up (w.nodes q).state) both)) none)))
 
-  pub on_link_holds : (test : Role → Bool) (w : World) (p q : ℕ) (o : Outcome) → P w → ((w.nodes p).state ≡ Up → test (w.nodes p).role ≡ true → is_linked (w.links p q) ≡ true → Holds o) → Holds (on_link_if test w p q o)
+  pub on_link_holds : (test : Role → Bool) (w : World) (p q : ℕ) (o : Outcome) → P w
+      → ((w.nodes p).state ≡ Up → test (w.nodes p).role ≡ true → is_linked (w.links p q) ≡ true → Holds o) → Holds (on_link_if test w p q o)
   on_link_holds test w p q o s k =
       at_site_holds w p _ s
       (λ _. at_site_holds w q _ s
@@ -81,9 +85,12 @@ module _ (P : World → Type 0) where
 
   pub when_live_holds : (w : World) (q : ℕ) (l : Link) (o : Outcome) → P w → Holds o → Holds (when_live w q l o)
   when_live_holds w q l o s k =
-      unless_holds (not (l.attached && l.connected)) (LinkDown (SiteNumber q)) w (unless l.paused Paused w o) s (λ _. unless_holds l.paused Paused w o s (λ _. k))
+      unless_holds (not (l.attached && l.connected)) (LinkDown (SiteNumber q)) w (unless l.paused Paused w o) s
+      (λ _. unless_holds l.paused Paused w o s (λ _. k))
 
-  pub on_volume_holds : (w : World) (p volume start count : ℕ) (too_large : Bool) (o : Outcome) → P w → ((w.nodes p).state ≡ Up → (w.nodes p).halted ≡ None → is_primary (w.nodes p).role ≡ true → Holds o) → Holds (on_volume w p volume start count too_large o)
+  pub on_volume_holds : (w : World) (p volume start count : ℕ) (too_large : Bool) (o : Outcome) → P w
+      → ((w.nodes p).state ≡ Up → (w.nodes p).halted ≡ None → is_primary (w.nodes p).role ≡ true → Holds o)
+      → Holds (on_volume w p volume start count too_large o)
   on_volume_holds w p volume start count too_large o s k =
       at_site_holds w p _ s
       (λ _. unless_holds (is_bare (w.nodes p).state) (Unknown (ByNumber volume)) w _ s

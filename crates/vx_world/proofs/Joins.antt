@@ -23,11 +23,12 @@ use Rattle.vx_history.specs.declared.event.LinkPart.TheVariants.{Joins, Made, Ma
 use Rattle.vx_history.specs.Sends.{is_linked, with_link}
 use Rattle.vx_history.specs.Refusals.{Outcome, unless, some_below, is_primary, is_consistent, is_stale, is_empty, is_fresh, may_link, may_join, may_be_site, agree, rings_fit, links_of, follows}
 use Rattle.vx_history.specs.Events.{joined, new_link, opened}
+use Rattle.vx_history.specs.Gatherings.{emptied}
 use Rattle.vx_history.specs.Step.{done, link_part}
 use Rattle.vx_model.specs.declared.limits.TheConstants.{MOST_DISKS, MOST_LINKS, MOST_SITES}
-use Rattle.vx_world.specs.Sound.{Sound}
+use Rattle.vx_history.specs.Sound.{Sound}
 use Rattle.vx_world.proofs.Lists.{not_true, not_false, not_both, or_left, or_right}
-use Rattle.vx_world.proofs.Moves.{sound_with_node, sound_with_link, sound_joining, sound_founding, good_later, given}
+use Rattle.vx_world.proofs.Moves.{sound_gathering, sound_with_node, sound_with_link, sound_joining, sound_founding, good_later, given}
 use Rattle.vx_world.proofs.Tests.{Keeps, unless_keeps}
 use Rattle.vx_world.proofs.Guards.{primary_origin}
 use Rattle.vx_world.proofs.Changes.{up_whole}
@@ -44,7 +45,8 @@ site_keeps w name disks blocks s =
     (λ _. omega arith)
     refl
 
-pub may_be_site_keeps : (w : World) (name : List ℕ) (disks blocks : ℕ) → Sound w → Keeps (may_be_site w name disks blocks (done (site_made w name disks blocks)))
+pub may_be_site_keeps : (w : World) (name : List ℕ) (disks blocks : ℕ) → Sound w
+    → Keeps (may_be_site w name disks blocks (done (site_made w name disks blocks)))
 may_be_site_keeps w name disks blocks s =
     let o : Outcome = done (site_made w name disks blocks) in
     let few : Outcome = unless (eqb disks 0 || ltb blocks 8) Size w o in
@@ -94,7 +96,8 @@ no_links : (w : World) (q : ℕ) → Sound w → some_below w.sites (λ k. is_li
 no_links w q s none k is =
     not_both (is_linked (w.links q k)) is (none_below w.sites (λ k. is_linked (w.links q k)) none k (made_is_given w k s.good ((s.links q k).ends is).1))
 
-pub join_keeps : (w : World) (p q : ℕ) → Sound w → (w.nodes p).state ≡ Up → (w.nodes q).state ≡ Up → is_origin (w.nodes p).role ≡ true → eqb q p ≡ false → is_linked (w.links p q) ≡ false → ((k : ℕ) → is_linked (w.links q k) ≡ true → ⊥) → Sound (with_node w q (joined (w.nodes p) p (w.nodes q)))
+pub join_keeps : (w : World) (p q : ℕ) → Sound w → (w.nodes p).state ≡ Up → (w.nodes q).state ≡ Up → is_origin (w.nodes p).role ≡ true → eqb q p ≡ false
+    → is_linked (w.links p q) ≡ false → ((k : ℕ) → is_linked (w.links q k) ≡ true → ⊥) → Sound (with_node w q (joined (w.nodes p) p (w.nodes q)))
 join_keeps w p q s up_p up_q o other unlinked alone =
     let a : Node = w.nodes p in
     let n : Node = joined a p (w.nodes q) in
@@ -110,16 +113,17 @@ join_keeps w p q s up_p up_q o other unlinked alone =
     (λ _. sym own)
     (omega arith)
 
-may_join_keeps : (w : World) (p q : ℕ) → Sound w → (w.nodes p).state ≡ Up → (w.nodes q).state ≡ Up → Keeps (may_join w p q (done (with_node w q (joined (w.nodes p) p (w.nodes q)))))
+may_join_keeps : (w : World) (p q : ℕ) → Sound w → (w.nodes p).state ≡ Up → (w.nodes q).state ≡ Up
+    → Keeps (may_join w p q (done (emptied (with_node w q (joined (w.nodes p) p (w.nodes q))) q)))
 may_join_keeps w p q s up_p up_q =
-    let o : Outcome = done (with_node w q (joined (w.nodes p) p (w.nodes q))) in
+    let o : Outcome = done (emptied (with_node w q (joined (w.nodes p) p (w.nodes q))) q) in
     let fits : Outcome = unless (not (agree (w.nodes p).volumes (w.nodes q).volumes && rings_fit (w.nodes p) (w.nodes q))) Size w o in
     let few : Outcome = unless (leb MOST_LINKS (links_of w p)) (Limit Links MOST_LINKS) w fits in
     unless_keeps (not (may_link w p q)) WrongRole w (unless (is_linked (w.links p q)) (Exists (w.nodes q).name) w few) s
     (λ may. unless_keeps (is_linked (w.links p q)) (Exists (w.nodes q).name) w few s
     (λ unlinked. unless_keeps (leb MOST_LINKS (links_of w p)) (Limit Links MOST_LINKS) w fits s
     (λ _. unless_keeps (not (agree (w.nodes p).volumes (w.nodes q).volumes && rings_fit (w.nodes p) (w.nodes q))) Size w o s
-    (λ _. joins (not_false (may_link w p q) may) unlinked))))
+    (λ _. sound_gathering (with_node w q (joined (w.nodes p) p (w.nodes q))) _ (joins (not_false (may_link w p q) may) unlinked)))))
   where
     joins : may_link w p q ≡ true → is_linked (w.links p q) ≡ false → Sound (with_node w q (joined (w.nodes p) p (w.nodes q)))
     joins may unlinked =
@@ -128,15 +132,18 @@ may_join_keeps w p q s up_p up_q =
         let rest : Bool = not (eqb q p) && (is_empty a.log && own) in
         let links : Bool = some_below w.sites (λ k. is_linked (w.links q k)) in
         let apart : rest ≡ true = and_right (is_primary a.role) rest may in
-        let fresh : is_fresh w q ≡ true = and_right (same_line a.line (first_line p)) (is_fresh w q) (and_right (is_empty a.log) own (and_right (not (eqb q p)) (is_empty a.log && own) apart)) in
-        let alone : not links ≡ true = and_right (is_empty (w.nodes q).log) (not links) (and_right (is_primary (w.nodes q).role) (is_empty (w.nodes q).log && not links) fresh) in
+        let fresh : is_fresh w q ≡ true = and_right (same_line a.line (first_line p)) (is_fresh w q)
+        (and_right (is_empty a.log) own (and_right (not (eqb q p)) (is_empty a.log && own) apart)) in
+        let alone : not links ≡ true = and_right (is_empty (w.nodes q).log) (not links)
+        (and_right (is_primary (w.nodes q).role) (is_empty (w.nodes q).log && not links) fresh) in
         join_keeps w p q s up_p up_q
         (primary_origin a.role (and_left (is_primary a.role) rest may))
         (not_true (eqb q p) (and_left (not (eqb q p)) (is_empty a.log && own) apart))
         unlinked
         (no_links w q s (not_true links alone))
 
-make_keeps : (w : World) (p q place : ℕ) (sync : SyncMode) → Sound w → (w.nodes p).state ≡ Up → (w.nodes q).state ≡ Up → is_origin (w.nodes p).role ≡ true → is_origin (w.nodes q).role ≡ false → Sound (with_link w p q (new_link place sync (w.nodes q)))
+make_keeps : (w : World) (p q place : ℕ) (sync : SyncMode) → Sound w → (w.nodes p).state ≡ Up → (w.nodes q).state ≡ Up → is_origin (w.nodes p).role ≡ true
+    → is_origin (w.nodes q).role ≡ false → Sound (with_link w p q (new_link place sync (w.nodes q)))
 make_keeps w p q place sync s up_p up_q o r =
     sound_with_link w p q (new_link place sync (w.nodes q)) s
     (record {
@@ -165,7 +172,8 @@ consistent_is : (m : Mark) → is_consistent m ≡ true → m ≡ Consistent
 consistent_is Consistent e = refl
 consistent_is Inconsistent e = absurd (cc)
 
-open_keeps : (w : World) (p q : ℕ) → Sound w → is_empty (w.nodes p).log ≡ true → phase_takes (w.nodes q).phase ≡ true → is_consistent (w.nodes q).mark ≡ true → Sound (with_link w p q (opened (w.links p q) (w.nodes p).safe))
+open_keeps : (w : World) (p q : ℕ) → Sound w → is_empty (w.nodes p).log ≡ true → phase_takes (w.nodes q).phase ≡ true
+    → is_consistent (w.nodes q).mark ≡ true → Sound (with_link w p q (opened (w.links p q) (w.nodes p).safe))
 open_keeps w p q s empty taken marked =
     let none : (w.nodes p).safe ≤ 0 = omega (arith, (s.good.nodes p).safe_fits, equal (length (w.nodes p).log) 0 empty) in
     let old = s.links p q in
@@ -188,7 +196,8 @@ open_keeps w p q s empty taken marked =
 follows_is : (w : World) (p q : ℕ) → follows w p q ≡ true → is_origin (w.nodes q).role ≡ false
 follows_is w p q f = not_true (is_origin (w.nodes q).role) (and_left (not (is_origin (w.nodes q).role)) (same_line (w.nodes q).line (w.nodes p).line) f)
 
-pub link_part_keeps : (part : LinkPart) (w : World) (p q : ℕ) (sync : SyncMode) → Sound w → (w.nodes p).state ≡ Up → (w.nodes q).state ≡ Up → Keeps (link_part part w p q sync)
+pub link_part_keeps : (part : LinkPart) (w : World) (p q : ℕ) (sync : SyncMode) → Sound w → (w.nodes p).state ≡ Up → (w.nodes q).state ≡ Up
+    → Keeps (link_part part w p q sync)
 link_part_keeps Joins w p q sync s up_p up_q = may_join_keeps w p q s up_p up_q
 link_part_keeps Made w p q sync s up_p up_q =
     let o : Outcome = done (with_link w p q (new_link (links_of w p) sync (w.nodes q))) in
@@ -199,7 +208,8 @@ link_part_keeps Made w p q sync s up_p up_q =
     (primary_origin (w.nodes p).role (and_left (is_primary (w.nodes p).role) (follows w p q) (not_false test c)))
     (follows_is w p q (and_right (is_primary (w.nodes p).role) (follows w p q) (not_false test c)))))
 link_part_keeps Marked w p q sync s up_p up_q =
-    unless_keeps (not (is_primary (w.nodes p).role && (follows w p q && (is_linked (w.links p q) && is_empty (w.nodes p).log)))) WrongRole w (done (with_node w q (record (w.nodes q) { mark = Consistent }))) s
+    unless_keeps (not (is_primary (w.nodes p).role && (follows w p q && (is_linked (w.links p q) && is_empty (w.nodes p).log)))) WrongRole w
+    (done (with_node w q (record (w.nodes q) { mark = Consistent }))) s
     (λ _. mark_keeps w q s up_q)
 link_part_keeps Opened w p q sync s up_p up_q =
     let a : Node = w.nodes p in
@@ -212,6 +222,7 @@ link_part_keeps Opened w p q sync s up_p up_q =
     let test : Bool = is_primary a.role && followed in
     unless_keeps (not test) WrongRole w (done (with_link w p q (opened (w.links p q) a.safe))) s
     (λ c.
-    let all : empty ≡ true = and_right (is_linked (w.links p q)) empty (and_right (follows w p q) linked (and_right (is_primary a.role) followed (not_false test c))) in
+    let all : empty ≡ true = and_right (is_linked (w.links p q)) empty
+    (and_right (follows w p q) linked (and_right (is_primary a.role) followed (not_false test c))) in
     let last : (taken && marked) ≡ true = and_right (is_stale (w.links p q).mode) (taken && marked) (and_right (is_empty a.log) stale all) in
     open_keeps w p q s (and_left (is_empty a.log) stale all) (and_left taken marked last) (and_right taken marked last))

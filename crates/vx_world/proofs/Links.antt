@@ -22,14 +22,15 @@ use Rattle.vx_model.specs.declared.link.SyncMode.{SyncMode}
 use Rattle.vx_model.specs.declared.link.SyncMode.TheVariants.{Off, Override, Fail}
 use Rattle.vx_history.specs.declared.sender.SEvent.TheVariants.{Hello as HearHello, NetAck as HearNetAck, DataAck as HearDataAck}
 use Rattle.vx_history.proofs.Updates.{by_test, and_left, and_right, same_line_equal}
-use Rattle.vx_world.specs.Sound.{IsPresent, IsFollowed, GoodLink, GoodMessage, GoodPromise, IsKept, IsStranger, IsBegun}
-use Rattle.vx_history.specs.Sends.{is_linked, packets_of, packet, updates, between}
+use Rattle.vx_history.specs.Sound.{IsPresent, IsFollowed, GoodLink, GoodMessage, GoodPromise, IsKept, IsStranger, IsBegun}
+use Rattle.vx_history.specs.Sends.{is_linked, packets_of, packets_from, parts_of, packet, updates, between}
 use Rattle.vx_history.specs.Refusals.{holds_back, is_unconfirmed, some_below, goes, waits}
 use Rattle.vx_history.specs.Events.{facts_of, restarted_link, lost_touch, link_after, promise_of, promises_of}
-use Rattle.vx_world.proofs.Lists.{prefix_get, prefix_take, drop_get, or_left, or_right, each_append, each_replicate, prefix_trans, refuted}
+use Rattle.vx_world.proofs.Lists.{prefix_get, prefix_take, drop_get, or_left, or_right, each_append, prefix_trans, refuted}
 
 -- a link that differs in nothing that is said of it
-pub link_like : (p s : ℕ) (a b : Node) (l m : Link) → is_linked m ≡ is_linked l → m.session ≡ l.session → m.net ≡ l.net → m.stored ≡ l.stored → (m.mode ≡ Log → l.mode ≡ Log) → GoodLink p s a b l → GoodLink p s a b m
+pub link_like : (p s : ℕ) (a b : Node) (l m : Link) → is_linked m ≡ is_linked l → m.session ≡ l.session → m.net ≡ l.net → m.stored ≡ l.stored
+    → (m.mode ≡ Log → l.mode ≡ Log) → GoodLink p s a b l → GoodLink p s a b m
 link_like p s a b l m linked session net stored mode good = record {
   ends = λ is. good.ends (sym linked ∙ is);
   starts = λ is. good.starts (sym linked ∙ is);
@@ -42,7 +43,8 @@ link_like p s a b l m linked session net stored mode good = record {
 }
 
 -- what is acknowledged is only what is stored
-forgotten : (h : History) (p s : ℕ) (a b : Node) (l m : Link) → GoodNode h s b → is_linked m ≡ is_linked l → m.session ≤ b.session → m.net ≡ l.stored → m.stored ≡ l.stored → (m.mode ≡ Log → l.mode ≡ Log) → GoodLink p s a b l → GoodLink p s a b m
+forgotten : (h : History) (p s : ℕ) (a b : Node) (l m : Link) → GoodNode h s b → is_linked m ≡ is_linked l → m.session ≤ b.session → m.net ≡ l.stored
+    → m.stored ≡ l.stored → (m.mode ≡ Log → l.mode ≡ Log) → GoodLink p s a b l → GoodLink p s a b m
 forgotten h p s a b l m node linked session net stored mode good = record {
   ends = λ is. good.ends (sym linked ∙ is);
   starts = λ is. good.starts (sym linked ∙ is);
@@ -105,7 +107,8 @@ module _ (h : History) (p s : ℕ) (a b : Node) (l : Link) (line : Line) (node :
   on_line r heard =
       by_test After (same_line line a.line) r (with_ignored (plain_link s l)) (λ e. heard (same_line_equal line a.line e)) (λ _. same)
 
-  pub link_hello : (held : List Write) (session number stored : ℕ) → GoodMessage held b line (Hello session number stored) → After (sent_step (plain_link s l) (HearHello session number stored) (facts_of a line))
+  pub link_hello : (held : List Write) (session number stored : ℕ) → GoodMessage held b line (Hello session number stored)
+      → After (sent_step (plain_link s l) (HearHello session number stored) (facts_of a line))
   link_hello held session number stored (old, memory, disk) =
       on_line (greeted (plain_link s l) session number stored)
       (λ e. by_test After (ltb session l.session) (with_ignored (plain_link s l)) _
@@ -139,7 +142,8 @@ module _ (h : History) (p s : ℕ) (a b : Node) (l : Link) (line : Line) (node :
       between_both : (m n : ℕ) → ltb m n ≡ false → ltb n m ≡ false → m ≡ n
       between_both m n f g = grind (arith, nat_tests)
 
-  pub link_net_ack : (held : List Write) (session number : ℕ) → GoodMessage held b line (NetAck session number) → After (sent_step (plain_link s l) (HearNetAck session number) (facts_of a line))
+  pub link_net_ack : (held : List Write) (session number : ℕ) → GoodMessage held b line (NetAck session number)
+      → After (sent_step (plain_link s l) (HearNetAck session number) (facts_of a line))
   link_net_ack held session number (old, memory) =
       on_line (memory_acknowledged (plain_link s l) session number)
       (λ e. by_test After (by_log l.mode && (eqb session l.session && ltb l.net number)) _ (with_ignored (plain_link s l))
@@ -158,7 +162,8 @@ module _ (h : History) (p s : ℕ) (a b : Node) (l : Link) (line : Line) (node :
       is_same : (m n : ℕ) → eqb m n ≡ true → m ≡ n
       is_same m n t = grind (arith, nat_tests)
 
-  pub link_data_ack : (held : List Write) (number : ℕ) → GoodMessage held b line (DataAck number) → After (sent_step (plain_link s l) (HearDataAck number) (facts_of a line))
+  pub link_data_ack : (held : List Write) (number : ℕ) → GoodMessage held b line (DataAck number)
+      → After (sent_step (plain_link s l) (HearDataAck number) (facts_of a line))
   link_data_ack held number disk =
       on_line (disk_acknowledged (plain_link s l) number)
       (λ e. by_test After (by_log l.mode && ltb l.stored number) _ (with_ignored (plain_link s l))
@@ -175,11 +180,18 @@ module _ (h : History) (p s : ℕ) (a b : Node) (l : Link) (line : Line) (node :
       (λ _. same))
 
 -- the packets of a message say what it says
-pub each_packet : (P : Packet → Type 0) (source target : ℕ) (line : Line) (m : Message) → P (packet source target line m) → AllByRecursion P (packets_of source target line m)
-each_packet P source target line m h = (h, each_replicate P _ (packet source target line m) h)
+pub each_packet : (P : Packet → Type 0) (source target : ℕ) (line : Line) (m : Message) → ((part : ℕ) → P (packet source target line m part))
+    → AllByRecursion P (packets_of source target line m)
+each_packet P source target line m h = each_from 0 (parts_of m)
+  where
+    each_from : (part count : ℕ) → AllByRecursion P (packets_from source target line m part count)
+    each_from part zero = tt
+    each_from part (suc k) = (h part, each_from (part + 1) k)
 
 -- updates of writes that stand on the line at the numbers that they carry
-updates_good : (P : Packet → Type 0) (p s : ℕ) (line : Line) (held : List Write) → ((number : ℕ) (x : Write) → IsNumber held number x → P (packet p s line (Update number x))) → (number : ℕ) (xs : List Write) → ((k : ℕ) (x : Write) → slice_get xs k ≡ Some x → IsNumber held (number + k) x) → AllByRecursion P (updates p s line number xs)
+updates_good : (P : Packet → Type 0) (p s : ℕ) (line : Line) (held : List Write)
+    → ((number : ℕ) (x : Write) → IsNumber held number x → (part : ℕ) → P (packet p s line (Update number x) part)) → (number : ℕ) (xs : List Write)
+    → ((k : ℕ) (x : Write) → slice_get xs k ≡ Some x → IsNumber held (number + k) x) → AllByRecursion P (updates p s line number xs)
 updates_good P p s line held each number [] h = tt
 updates_good P p s line held each number (x ∷ xs) h =
     each_append P (packets_of p s line (Update number x)) (updates p s line (number + 1) xs)
@@ -187,7 +199,9 @@ updates_good P p s line held each number (x ∷ xs) h =
     (updates_good P p s line held each (number + 1) xs (λ k y e. subst (λ n. IsNumber held n y) (omega arith) (h (suc k) y e)))
 
 -- what is sent stands on the line, if no more is sent than is durable
-pub sent_good : (P : Packet → Type 0) (p s : ℕ) (n : Node) (held : List Write) → IsPrefixOf (take n.safe n.log) held → ((number : ℕ) (x : Write) → IsNumber held number x → P (packet p s n.line (Update number x))) → (from to : ℕ) → 0 < from → to ≤ n.safe → AllByRecursion P (updates p s n.line from (between from to n.log))
+pub sent_good : (P : Packet → Type 0) (p s : ℕ) (n : Node) (held : List Write) → IsPrefixOf (take n.safe n.log) held
+    → ((number : ℕ) (x : Write) → IsNumber held number x → (part : ℕ) → P (packet p s n.line (Update number x) part)) → (from to : ℕ) → 0 < from
+    → to ≤ n.safe → AllByRecursion P (updates p s n.line from (between from to n.log))
 sent_good P p s n held durable each from to some most =
     updates_good P p s n.line held each from (between from to n.log)
     (λ k x e. (
@@ -197,9 +211,11 @@ sent_good P p s n held durable each from to some most =
     ))
   where
     front : IsPrefixOf (take to n.log) held
-    front = prefix_trans (take to n.log) (take n.safe n.log) held (subst (λ t. IsPrefixOf t (take n.safe n.log)) (take-take to n.safe n.log most) (prefix_take to (take n.safe n.log))) durable
+    front = prefix_trans (take to n.log) (take n.safe n.log) held
+        (subst (λ t. IsPrefixOf t (take n.safe n.log)) (take-take to n.safe n.log most) (prefix_take to (take n.safe n.log))) durable
 
-tangle : (a b f v g t : Bool) → a ≡ true → b ≡ true → f ≡ true → v ≡ true → (a && (b && (f && (t && not g)))) ≡ false → (a && (b && (v && (g && t)))) ≡ false → t ≡ false
+tangle : (a b f v g t : Bool) → a ≡ true → b ≡ true → f ≡ true → v ≡ true → (a && (b && (f && (t && not g)))) ≡ false
+    → (a && (b && (v && (g && t)))) ≡ false → t ≡ false
 tangle true true true true true t e1 e2 e3 e4 u h = h
 tangle true true true true false true e1 e2 e3 e4 u h = absurd (cc)
 tangle true true true true false false e1 e2 e3 e4 u h = refl
@@ -214,23 +230,31 @@ waits_if_fails Override e = absurd (cc)
 waits_if_fails Fail e = refl
 
 -- what a link that neither fails to confirm n nor has still to says of n
-confirmed : (l : Link) (s n : ℕ) → is_linked l ≡ true → l.attached ≡ true → is_fail l.sync ≡ true → is_unconfirmed n s l ≡ false → holds_back n s l ≡ false → n ≤ l.net
-confirmed l s n made attached fail u h = reaches l.net n (tangle (is_linked l) l.attached (is_fail l.sync) (waits l.sync) (goes s l) (ltb l.net n) made attached fail (waits_if_fails l.sync fail) u h)
+confirmed : (l : Link) (s n : ℕ) → is_linked l ≡ true → l.attached ≡ true → is_fail l.sync ≡ true → is_unconfirmed n s l ≡ false → holds_back n s l ≡ false
+    → n ≤ l.net
+confirmed l s n made attached fail u h = reaches l.net n
+    (tangle (is_linked l) l.attached (is_fail l.sync) (waits l.sync) (goes s l) (ltb l.net n) made attached fail (waits_if_fails l.sync fail) u h)
   where
     reaches : (m n : ℕ) → ltb m n ≡ false → n ≤ m
     reaches m n e = grind (arith, nat_tests)
 
 -- a site of a link's other end that stands on an origin's line receives
-pub receives : (nodes : ℕ → Node) (lines : Line → History) (p s : ℕ) (l : Link) → ((i : ℕ) → GoodNode (lines (nodes i).line) i (nodes i)) → GoodLink p s (nodes p) (nodes s) l → is_linked l ≡ true → is_origin (nodes p).role ≡ true → (nodes s).line ≡ (nodes p).line → is_origin (nodes s).role ≡ false
+pub receives : (nodes : ℕ → Node) (lines : Line → History) (p s : ℕ) (l : Link) → ((i : ℕ) → GoodNode (lines (nodes i).line) i (nodes i))
+    → GoodLink p s (nodes p) (nodes s) l → is_linked l ≡ true → is_origin (nodes p).role ≡ true → (nodes s).line ≡ (nodes p).line
+    → is_origin (nodes s).role ≡ false
 receives nodes lines p s l good link is o e =
     refuted (is_origin (nodes s).role)
     (λ q. link.apart is (sym ((good p).own_line (link.ends is).0 o) ∙ ap (λ (x : Line). x.origin) (sym e) ∙ (good s).own_line (link.ends is).1 q))
 
-module _ (nodes : ℕ → Node) (links : ℕ → ℕ → Link) (lines : Line → History) (good : (i : ℕ) → GoodNode (lines (nodes i).line) i (nodes i)) (p : ℕ) (n : ℕ) (o : is_origin (nodes p).role ≡ true) (known : (s : ℕ) → is_linked (links p s) ≡ true → (IsStranger nodes links (nodes p).line s → ⊥) × IsBegun nodes (nodes p).line s) where
-  promise_good : (s : ℕ) → GoodLink p s (nodes p) (nodes s) (links p s) → is_unconfirmed n s (links p s) ≡ false → holds_back n s (links p s) ≡ false → AllByRecursion (GoodPromise nodes links) (promise_of (nodes p) n s (links p s))
+module _ (nodes : ℕ → Node) (links : ℕ → ℕ → Link) (lines : Line → History) (good : (i : ℕ) → GoodNode (lines (nodes i).line) i (nodes i)) (p : ℕ) (n : ℕ)
+    (o : is_origin (nodes p).role ≡ true)
+    (known : (s : ℕ) → is_linked (links p s) ≡ true → (IsStranger nodes links (nodes p).line s → ⊥) × IsBegun nodes (nodes p).line s) where
+  promise_good : (s : ℕ) → GoodLink p s (nodes p) (nodes s) (links p s) → is_unconfirmed n s (links p s) ≡ false → holds_back n s (links p s) ≡ false
+      → AllByRecursion (GoodPromise nodes links) (promise_of (nodes p) n s (links p s))
   promise_good s link u h =
       let l : Link = links p s in
-      by_test (AllByRecursion (GoodPromise nodes links)) (is_linked l && (l.attached && is_fail l.sync)) (record { line = (nodes p).line; number = n; site = s; surety = if leb n l.stored then Durable else InSession l.session } ∷ []) []
+      by_test (AllByRecursion (GoodPromise nodes links)) (is_linked l && (l.attached && is_fail l.sync))
+      (record { line = (nodes p).line; number = n; site = s; surety = if leb n l.stored then Durable else InSession l.session } ∷ []) []
       (λ c.
       let made : is_linked l ≡ true = and_left (is_linked l) (l.attached && is_fail l.sync) c in
       let rest : (l.attached && is_fail l.sync) ≡ true = and_right (is_linked l) (l.attached && is_fail l.sync) c in
@@ -247,9 +271,12 @@ module _ (nodes : ℕ → Node) (links : ℕ → ℕ → Link) (lines : Line →
       ))
       (λ _. tt)
 
-  pub promises_good : ((s : ℕ) → GoodLink p s (nodes p) (nodes s) (links p s)) → (k : ℕ) → some_below k (λ s. is_unconfirmed n s (links p s)) ≡ false → some_below k (λ s. holds_back n s (links p s)) ≡ false → AllByRecursion (GoodPromise nodes links) (promises_of (nodes p) n (links p) k)
+  pub promises_good : ((s : ℕ) → GoodLink p s (nodes p) (nodes s) (links p s)) → (k : ℕ) → some_below k (λ s. is_unconfirmed n s (links p s)) ≡ false
+      → some_below k (λ s. holds_back n s (links p s)) ≡ false → AllByRecursion (GoodPromise nodes links) (promises_of (nodes p) n (links p) k)
   promises_good link zero u h = tt
   promises_good link (suc k) u h =
       each_append (GoodPromise nodes links) (promise_of (nodes p) n k (links p k)) (promises_of (nodes p) n (links p) k)
-      (promise_good k (link k) (or_left (is_unconfirmed n k (links p k)) (some_below k (λ s. is_unconfirmed n s (links p s))) u) (or_left (holds_back n k (links p k)) (some_below k (λ s. holds_back n s (links p s))) h))
-      (promises_good link k (or_right (is_unconfirmed n k (links p k)) (some_below k (λ s. is_unconfirmed n s (links p s))) u) (or_right (holds_back n k (links p k)) (some_below k (λ s. holds_back n s (links p s))) h))
+      (promise_good k (link k) (or_left (is_unconfirmed n k (links p k)) (some_below k (λ s. is_unconfirmed n s (links p s))) u)
+      (or_left (holds_back n k (links p k)) (some_below k (λ s. holds_back n s (links p s))) h))
+      (promises_good link k (or_right (is_unconfirmed n k (links p k)) (some_below k (λ s. is_unconfirmed n s (links p s))) u)
+      (or_right (holds_back n k (links p k)) (some_below k (λ s. holds_back n s (links p s))) h))

@@ -1,6 +1,6 @@
 -- First parts of lists of writes, and what holds of each item of a list.
 use Rattle.std.proofs.Common.{◌≡◌, ℕ, zero, suc, ◌+◌, ◌≤◌, List, [], ◌∷◌, ◌++◌, length, take, drop, refl, ap, sym, ◌∙◌, subst, append_assoc, arith, length-append, Bool, true, false}
-use Rattle.std.specs.Prelude.{slice_get, Some, pred, ◌||◌, not, replicate}
+use Rattle.std.specs.Prelude.{slice_get, Some, pred, ◌||◌, not}
 use Rattle.std.specs.List.{AllByRecursion}
 use Rattle.vx_model.specs.Content.{Write, IsPrefixOf, IsNumber}
 
@@ -102,10 +102,6 @@ each_append P (x ∷ xs) ys (h, t) k = (h, each_append P xs ys t k)
 pub each_weaker : {A : Type 0} (P Q : A → Type 0) → ((x : A) → P x → Q x) → (xs : List A) → AllByRecursion P xs → AllByRecursion Q xs
 each_weaker P Q f [] h = tt
 each_weaker P Q f (x ∷ xs) (h, t) = (f x h, each_weaker P Q f xs t)
-
-pub each_replicate : {A : Type 0} (P : A → Type 0) (n : ℕ) (x : A) → P x → AllByRecursion P (replicate n x)
-each_replicate P zero x h = tt
-each_replicate P (suc n) x h = (h, each_replicate P n x h)
 
 -- an item that is found is one of them
 pub each_found : {A : Type 0} (P : A → Type 0) (xs : List A) (k : ℕ) (x : A) → slice_get xs k ≡ Some x → AllByRecursion P xs → P x

@@ -1,9 +1,9 @@
 -- The few ways in which an event changes the world, each with what it has to show.
 use Rattle.std.proofs.Common.{◌≡◌, ℕ, ◌≤◌, List, ◌++◌, length, refl, ap, sym, ◌∙◌, subst, arith, true, inl}
-use Rattle.std.specs.Prelude.{eqb}
+use Rattle.std.specs.Prelude.{eqb, Option}
 use Rattle.std.specs.List.{AllByRecursion}
 use Rattle.vx_model.specs.Content.{Write, IsPrefixOf}
-use Rattle.vx_history.specs.World.{World, Node, Link, History, Packet, Promise, Message, Surety, Hello, Update, NetAck, DataAck, Durable, InSession, with_node, with_history, updated, line_updated}
+use Rattle.vx_history.specs.World.{World, Node, Link, History, Gathering, Packet, Promise, Message, Surety, Hello, Update, NetAck, DataAck, Durable, InSession, with_node, with_history, updated, line_updated}
 use Rattle.vx_model.specs.Sites.{is_origin}
 use Rattle.vx_history.specs.Good.{GoodNode, Good, IsMade}
 use Rattle.vx_model.specs.declared.history.Line.{Line}
@@ -11,13 +11,37 @@ use Rattle.vx_model.specs.declared.site.SiteState.TheVariants.{Bare}
 use Rattle.vx_history.proofs.Updates.{all_updated, all_lines, by_test, eqb_equal, at_place}
 use Rattle.vx_history.proofs.GoodLemmas.{good_stays}
 use Rattle.vx_history.specs.Sends.{is_linked, with_links, with_link, sending, promising}
-use Rattle.vx_world.specs.Sound.{IsWhole, IsFed, GoodLink, GoodMessage, GoodPacket, GoodPromise, IsKept, IsStranger, StrangerSays, IsBegun, KnownNode, Sound}
+use Rattle.vx_history.specs.Sound.{IsWhole, IsFed, GoodLink, GoodMessage, GoodPacket, GoodPromise, IsKept, IsStranger, StrangerSays, IsBegun, KnownNode, Sound}
 use Rattle.vx_world.proofs.Lists.{each_append, each_weaker, prefix_refl, refuted, not_both}
 use Rattle.vx_world.proofs.Carry.{IsLater, later_same, link_later, says_later, packets_later, promises_later}
 
 -- what is said of sites by themselves rests on no link
-pub good_of : (w : World) (links : ℕ → ℕ → Link) (packets : List Packet) (promised : List Promise) → Good w → Good (record w { links = links; packets = packets; promised = promised })
+pub good_of : (w : World) (links : ℕ → ℕ → Link) (packets : List Packet) (promised : List Promise) → Good w
+    → Good (record w { links = links; packets = packets; promised = promised })
 good_of w links packets promised s = record { nodes = s.nodes; begun = s.begun; later = s.later; told = s.told }
+
+-- nor on what is in assembly, nor on headers
+pub sound_gathering : (w : World) (g : ℕ → Option Gathering) → Sound w → Sound (record w { gathering = g })
+sound_gathering w g s = record {
+  good = record { nodes = s.good.nodes; begun = s.good.begun; later = s.good.later; told = s.good.told };
+  whole = s.whole;
+  fed = s.fed;
+  links = s.links;
+  packets = s.packets;
+  promised = s.promised;
+  known = s.known;
+}
+
+pub sound_headers : (w : World) (h : ℕ → ℕ) → Sound w → Sound (record w { headers = h })
+sound_headers w h s = record {
+  good = record { nodes = s.good.nodes; begun = s.good.begun; later = s.good.later; told = s.good.told };
+  whole = s.whole;
+  fed = s.fed;
+  links = s.links;
+  packets = s.packets;
+  promised = s.promised;
+  known = s.known;
+}
 
 -- packets that say what is so may be sent
 pub sound_sending : (w : World) (ps : List Packet) → Sound w → AllByRecursion (GoodPacket w.nodes w.links w.lines) ps → Sound (sending w ps)
@@ -44,10 +68,13 @@ sound_promising w es s h = record {
 }
 
 -- links that are made stay made, so who is a stranger then was one before
-pub stranger_of_links : (nodes : ℕ → Node) (links more : ℕ → ℕ → Link) → ((p s : ℕ) → is_linked (links p s) ≡ true → is_linked (more p s) ≡ true) → (l : Line) (i : ℕ) → IsStranger nodes more l i → IsStranger nodes links l i
-stranger_of_links nodes links more made l i (e, none) = (e, refuted (is_linked (links l.origin i)) (λ is. not_both (is_linked (more l.origin i)) (made l.origin i is) none))
+pub stranger_of_links : (nodes : ℕ → Node) (links more : ℕ → ℕ → Link) → ((p s : ℕ) → is_linked (links p s) ≡ true → is_linked (more p s) ≡ true)
+    → (l : Line) (i : ℕ) → IsStranger nodes more l i → IsStranger nodes links l i
+stranger_of_links nodes links more made l i
+    (e, none) = (e, refuted (is_linked (links l.origin i)) (λ is. not_both (is_linked (more l.origin i)) (made l.origin i is) none))
 
-sound_links : (w : World) (f : ℕ → ℕ → Link) → Sound w → ((p s : ℕ) → GoodLink p s (w.nodes p) (w.nodes s) (f p s)) → ((p s : ℕ) → is_linked (w.links p s) ≡ true → is_linked (f p s) ≡ true) → Sound (record w { links = f })
+sound_links : (w : World) (f : ℕ → ℕ → Link) → Sound w → ((p s : ℕ) → GoodLink p s (w.nodes p) (w.nodes s) (f p s))
+    → ((p s : ℕ) → is_linked (w.links p s) ≡ true → is_linked (f p s) ≡ true) → Sound (record w { links = f })
 sound_links w f s h made =
     let before : (l : Line) (i : ℕ) → IsStranger w.nodes f l i → IsStranger w.nodes w.links l i = stranger_of_links w.nodes w.links f made in
     record {
@@ -55,35 +82,44 @@ sound_links w f s h made =
       whole = s.whole;
       fed = s.fed;
       links = h;
-      packets = packets_later w.nodes w.nodes w.links f (λ i. later_same (w.nodes i)) before w.lines w.lines (λ l. prefix_refl (w.lines l).held) w.packets s.packets;
+      packets = packets_later w.nodes w.nodes w.links f (λ i. later_same (w.nodes i)) before w.lines w.lines
+          (λ l. prefix_refl (w.lines l).held) w.packets s.packets;
       promised = promises_later w.nodes w.nodes w.links f (λ i. later_same (w.nodes i)) before w.promised s.promised;
       known = λ i is r q. s.known i is r (before (w.nodes i).line i q);
     }
 
 -- where the links of one site change
-pub still_linked_row : (w : World) (p : ℕ) (row : ℕ → Link) → ((k : ℕ) → is_linked (w.links p k) ≡ true → is_linked (row k) ≡ true) → (i k : ℕ) → is_linked (w.links i k) ≡ true → is_linked ((with_links w p row).links i k) ≡ true
-still_linked_row w p row made = all_updated (λ i (r : ℕ → Link). (k : ℕ) → is_linked (w.links i k) ≡ true → is_linked (r k) ≡ true) w.links p row made (λ _ _ _ m. m)
+pub still_linked_row : (w : World) (p : ℕ) (row : ℕ → Link) → ((k : ℕ) → is_linked (w.links p k) ≡ true → is_linked (row k) ≡ true) → (i k : ℕ)
+    → is_linked (w.links i k) ≡ true → is_linked ((with_links w p row).links i k) ≡ true
+still_linked_row w p row made = all_updated (λ i (r : ℕ → Link). (k : ℕ) → is_linked (w.links i k) ≡ true → is_linked (r k) ≡ true) w.links p row made
+    (λ _ _ _ m. m)
 
-pub still_linked : (w : World) (p q : ℕ) (l : Link) → (is_linked (w.links p q) ≡ true → is_linked l ≡ true) → (i k : ℕ) → is_linked (w.links i k) ≡ true → is_linked ((with_link w p q l).links i k) ≡ true
+pub still_linked : (w : World) (p q : ℕ) (l : Link) → (is_linked (w.links p q) ≡ true → is_linked l ≡ true) → (i k : ℕ) → is_linked (w.links i k) ≡ true
+    → is_linked ((with_link w p q l).links i k) ≡ true
 still_linked w p q l made =
-    still_linked_row w p (updated (w.links p) q l) (all_updated (λ k (l : Link). is_linked (w.links p k) ≡ true → is_linked l ≡ true) (w.links p) q l made (λ _ _ m. m))
+    still_linked_row w p (updated (w.links p) q l)
+    (all_updated (λ k (l : Link). is_linked (w.links p k) ≡ true → is_linked l ≡ true) (w.links p) q l made (λ _ _ m. m))
 
 -- all links of one site
-pub sound_with_links : (w : World) (p : ℕ) (row : ℕ → Link) → Sound w → ((k : ℕ) → GoodLink p k (w.nodes p) (w.nodes k) (row k)) → ((k : ℕ) → is_linked (w.links p k) ≡ true → is_linked (row k) ≡ true) → Sound (with_links w p row)
+pub sound_with_links : (w : World) (p : ℕ) (row : ℕ → Link) → Sound w → ((k : ℕ) → GoodLink p k (w.nodes p) (w.nodes k) (row k))
+    → ((k : ℕ) → is_linked (w.links p k) ≡ true → is_linked (row k) ≡ true) → Sound (with_links w p row)
 sound_with_links w p row s h made =
     sound_links w (updated w.links p row) s
     (all_updated (λ i (r : ℕ → Link). (k : ℕ) → GoodLink i k (w.nodes i) (w.nodes k) (r k)) w.links p row h (λ i _. s.links i))
     (still_linked_row w p row made)
 
 -- one link
-pub sound_with_link : (w : World) (p q : ℕ) (l : Link) → Sound w → GoodLink p q (w.nodes p) (w.nodes q) l → (is_linked (w.links p q) ≡ true → is_linked l ≡ true) → Sound (with_link w p q l)
+pub sound_with_link : (w : World) (p q : ℕ) (l : Link) → Sound w → GoodLink p q (w.nodes p) (w.nodes q) l
+    → (is_linked (w.links p q) ≡ true → is_linked l ≡ true) → Sound (with_link w p q l)
 sound_with_link w p q l s h made =
     sound_with_links w p (updated (w.links p) q l) s
     (all_updated (λ k (l : Link). GoodLink p k (w.nodes p) (w.nodes k) l) (w.links p) q l h (λ k _. s.links p k))
     (all_updated (λ k (l : Link). is_linked (w.links p k) ≡ true → is_linked l ≡ true) (w.links p) q l made (λ _ _ m. m))
 
 -- any later state of the sites and the lines
-pub sound_later : (w : World) (f : ℕ → Node) (h : Line → History) → Sound w → ((i : ℕ) → IsLater (w.nodes i) (f i)) → ((l : Line) → IsPrefixOf (w.lines l).held (h l).held) → Good (record w { nodes = f; lines = h }) → ((i : ℕ) → IsWhole (f i)) → ((i : ℕ) → KnownNode w.nodes w.links i (f i)) → Sound (record w { nodes = f; lines = h })
+pub sound_later : (w : World) (f : ℕ → Node) (h : Line → History) → Sound w → ((i : ℕ) → IsLater (w.nodes i) (f i))
+    → ((l : Line) → IsPrefixOf (w.lines l).held (h l).held) → Good (record w { nodes = f; lines = h }) → ((i : ℕ) → IsWhole (f i))
+    → ((i : ℕ) → KnownNode w.nodes w.links i (f i)) → Sound (record w { nodes = f; lines = h })
 sound_later w f h s later grow good whole known =
     let before : (l : Line) (i : ℕ) → IsStranger f w.links l i → IsStranger w.nodes w.links l i = λ l i q. (sym (later l.origin).line ∙ q.0, q.1) in
     record {
@@ -97,7 +133,8 @@ sound_later w f h s later grow good whole known =
     }
 
 -- one site, with the lines as they are
-pub sound_with_node : (w : World) (i : ℕ) (n : Node) → Sound w → Good (with_node w i n) → IsLater (w.nodes i) n → IsWhole n → KnownNode w.nodes w.links i n → Sound (with_node w i n)
+pub sound_with_node : (w : World) (i : ℕ) (n : Node) → Sound w → Good (with_node w i n) → IsLater (w.nodes i) n → IsWhole n → KnownNode w.nodes w.links i n
+    → Sound (with_node w i n)
 sound_with_node w i n s good later whole known =
     sound_later w (updated w.nodes i n) w.lines s
     (all_updated (λ k (m : Node). IsLater (w.nodes k) m) w.nodes i n later (λ k _. later_same (w.nodes k)))
@@ -107,7 +144,8 @@ sound_with_node w i n s good later whole known =
     (all_updated (λ k (m : Node). KnownNode w.nodes w.links k m) w.nodes i n known (λ k _. s.known k))
 
 -- one site, with its line's record
-pub sound_with_history : (w : World) (i : ℕ) (n : Node) (h : History) → Sound w → Good (with_history w i n h) → IsLater (w.nodes i) n → IsPrefixOf (w.lines n.line).held h.held → IsWhole n → KnownNode w.nodes w.links i n → Sound (with_history w i n h)
+pub sound_with_history : (w : World) (i : ℕ) (n : Node) (h : History) → Sound w → Good (with_history w i n h) → IsLater (w.nodes i) n
+    → IsPrefixOf (w.lines n.line).held h.held → IsWhole n → KnownNode w.nodes w.links i n → Sound (with_history w i n h)
 sound_with_history w i n h s good later grow whole known =
     sound_later w (updated w.nodes i n) (line_updated w.lines n.line h) s
     (all_updated (λ k (m : Node). IsLater (w.nodes k) m) w.nodes i n later (λ k _. later_same (w.nodes k)))
@@ -121,7 +159,8 @@ pub given : (w : World) (i : ℕ) (n : Node) → Good w → IsMade (w.nodes i) �
 given w i n good made past = absurd (made (good.later i past))
 
 -- a site that stays on its line is as good as its own facts say
-pub good_later : (w : World) (i : ℕ) (n : Node) → Good w → IsMade (w.nodes i) → n.line ≡ (w.nodes i).line → (IsMade (w.nodes i) → IsMade n) → GoodNode (w.lines (w.nodes i).line) i n → Good (with_node w i n)
+pub good_later : (w : World) (i : ℕ) (n : Node) → Good w → IsMade (w.nodes i) → n.line ≡ (w.nodes i).line → (IsMade (w.nodes i) → IsMade n)
+    → GoodNode (w.lines (w.nodes i).line) i n → Good (with_node w i n)
 good_later w i n good made line stays node =
     good_stays w i n good
     (subst (λ (l : Line). GoodNode (w.lines l) i n) (sym line) node)
@@ -147,26 +186,30 @@ unlinked_good p q a b l none = record {
 }
 
 -- who is a stranger behind a change of one site on its line was one before
-pub stranger_before : (w : World) (i : ℕ) (n : Node) → IsLater (w.nodes i) n → (l : Line) (k : ℕ) → IsStranger (updated w.nodes i n) w.links l k → IsStranger w.nodes w.links l k
+pub stranger_before : (w : World) (i : ℕ) (n : Node) → IsLater (w.nodes i) n → (l : Line) (k : ℕ) → IsStranger (updated w.nodes i n) w.links l k
+    → IsStranger w.nodes w.links l k
 stranger_before w i n later l k q =
     (sym (all_updated (λ j (m : Node). IsLater (w.nodes j) m) w.nodes i n later (λ j _. later_same (w.nodes j)) l.origin).line ∙ q.0, q.1)
 
 -- ## A site comes to a line
 
 -- what a site said of a line to which it comes only now is that it had nothing of it
-message_joins : (held : List Write) (a n : Node) (line : Line) (to from : Type 0) → a.session ≤ n.session → (n.line ≡ line → from) → (m : Message) → GoodMessage held a line m → StrangerSays to from m → GoodMessage held n line m
+message_joins : (held : List Write) (a n : Node) (line : Line) (to from : Type 0) → a.session ≤ n.session → (n.line ≡ line → from) → (m : Message)
+    → GoodMessage held a line m → StrangerSays to from m → GoodMessage held n line m
 message_joins held a n line to from later stranger (Update number x) h k = h
 message_joins held a n line to from later stranger (NetAck session number) (old, _) k = (omega (arith, old, later), λ e _. omega (arith, k (stranger e)))
 message_joins held a n line to from later stranger (Hello session number stored) (old, _, _) k =
     (omega (arith, old, later), λ e _. omega (arith, (k (stranger e)).0), λ e. omega (arith, (k (stranger e)).1))
 message_joins held a n line to from later stranger (DataAck number) h k = λ e. omega (arith, k (stranger e))
 
-promise_joins : (a n : Node) (line : Line) (number : ℕ) (from : Type 0) → a.session ≤ n.session → (n.line ≡ line → from) → (t : Surety) → IsKept a line number t → (from → ⊥) → IsKept n line number t
+promise_joins : (a n : Node) (line : Line) (number : ℕ) (from : Type 0) → a.session ≤ n.session → (n.line ≡ line → from) → (t : Surety)
+    → IsKept a line number t → (from → ⊥) → IsKept n line number t
 promise_joins a n line number from later stranger Durable h k = λ e. absurd (k (stranger e))
 promise_joins a n line number from later stranger (InSession session) (old, _) k = (omega (arith, old, later), λ e _. absurd (k (stranger e)))
 
 -- a site comes, with nothing, to a line whose origin stands on it and keeps no link to the site
-module _ (w : World) (i : ℕ) (n : Node) (s : Sound w) (stranger : IsStranger w.nodes w.links n.line i) (apart : n.line.origin ≡ i → ⊥) (made : IsMade (w.nodes i)) (stays : IsMade n) (grows : (w.nodes i).session ≤ n.session) (alone : (k : ℕ) → is_linked (w.links i k) ≡ true → ⊥) where
+module _ (w : World) (i : ℕ) (n : Node) (s : Sound w) (stranger : IsStranger w.nodes w.links n.line i) (apart : n.line.origin ≡ i → ⊥)
+    (made : IsMade (w.nodes i)) (stays : IsMade n) (grows : (w.nodes i).session ≤ n.session) (alone : (k : ℕ) → is_linked (w.links i k) ≡ true → ⊥) where
   abbrev joined_nodes : ℕ → Node
   joined_nodes = updated w.nodes i n
 
@@ -174,7 +217,11 @@ module _ (w : World) (i : ℕ) (n : Node) (s : Sound w) (stranger : IsStranger w
   stranger_at k line e g = subst (λ (j : ℕ). IsStranger w.nodes w.links line j) (sym e) (subst (λ (l : Line). IsStranger w.nodes w.links l i) g stranger)
 
   before : (l : Line) (k : ℕ) → IsStranger joined_nodes w.links l k → IsStranger w.nodes w.links l k
-  before l k q = (all_updated (λ j (m : Node). j ≡ l.origin → m.line ≡ l → (w.nodes j).line ≡ l) w.nodes i n (λ e g. absurd (apart (ap (λ (x : Line). x.origin) g ∙ sym e))) (λ j _ _ g. g) l.origin refl q.0, q.1)
+  before l k q = (
+    all_updated (λ j (m : Node). j ≡ l.origin → m.line ≡ l → (w.nodes j).line ≡ l) w.nodes i n
+        (λ e g. absurd (apart (ap (λ (x : Line). x.origin) g ∙ sym e))) (λ j _ _ g. g) l.origin refl q.0,
+    q.1,
+  )
 
   still_made : (k : ℕ) → IsMade (w.nodes k) → IsMade (joined_nodes k)
   still_made = all_updated (λ k (m : Node). IsMade (w.nodes k) → IsMade m) w.nodes i n (λ _. stays) (λ k _ is. is)
@@ -213,7 +260,8 @@ module _ (w : World) (i : ℕ) (n : Node) (s : Sound w) (stranger : IsStranger w
         each_weaker (GoodPacket w.nodes w.links w.lines) (GoodPacket joined_nodes w.links w.lines)
         (λ p q. record {
           said = all_updated (λ j (m : Node). j ≡ p.source → GoodMessage (w.lines p.line).held m p.line p.message) w.nodes i n
-              (λ e. message_joins (w.lines p.line).held (w.nodes i) n p.line _ _ grows (stranger_at p.source p.line (sym e)) p.message (subst (λ (j : ℕ). GoodMessage (w.lines p.line).held (w.nodes j) p.line p.message) (sym e) q.said) q.known)
+              (λ e. message_joins (w.lines p.line).held (w.nodes i) n p.line _ _ grows (stranger_at p.source p.line (sym e)) p.message
+              (subst (λ (j : ℕ). GoodMessage (w.lines p.line).held (w.nodes j) p.line p.message) (sym e) q.said) q.known)
               (λ j _ e. subst (λ (x : ℕ). GoodMessage (w.lines p.line).held (w.nodes x) p.line p.message) (sym e) q.said) p.source refl;
           known = says_later _ _ _ _ (before p.line p.target) (before p.line p.source) p.message q.known;
           begun = still_begun p.line p.source q.begun;
@@ -223,19 +271,22 @@ module _ (w : World) (i : ℕ) (n : Node) (s : Sound w) (stranger : IsStranger w
         each_weaker (GoodPromise w.nodes w.links) (GoodPromise joined_nodes w.links)
         (λ e q. record {
           kept = all_updated (λ j (m : Node). j ≡ e.site → IsKept m e.line e.number e.surety) w.nodes i n
-              (λ f. promise_joins (w.nodes i) n e.line e.number _ grows (stranger_at e.site e.line (sym f)) e.surety (subst (λ (j : ℕ). IsKept (w.nodes j) e.line e.number e.surety) (sym f) q.kept) q.known)
+              (λ f. promise_joins (w.nodes i) n e.line e.number _ grows (stranger_at e.site e.line (sym f)) e.surety
+              (subst (λ (j : ℕ). IsKept (w.nodes j) e.line e.number e.surety) (sym f) q.kept) q.known)
               (λ j _ f. subst (λ (x : ℕ). IsKept (w.nodes x) e.line e.number e.surety) (sym f) q.kept) e.site refl;
           known = λ t. q.known (before e.line e.site t);
           begun = still_begun e.line e.site q.begun;
         })
         w.promised s.promised;
-    known = all_updated (λ k (m : Node). KnownNode joined_nodes w.links k m) w.nodes i n (λ _ _ _. empty) (λ k _ is o q. s.known k is o (before (w.nodes k).line k q));
+    known = all_updated (λ k (m : Node). KnownNode joined_nodes w.links k m) w.nodes i n (λ _ _ _. empty)
+        (λ k _ is o q. s.known k is o (before (w.nodes k).line k q));
   }
 
 -- ## A bare site changes
 
 -- nothing was said of a bare site, and nothing of a line that it may begin
-module _ (w : World) (i sites : ℕ) (n : Node) (h : Line → History) (s : Sound w) (bare : (w.nodes i).state ≡ Bare) (other : (l : Line) → (l.origin ≡ i → ⊥) → w.lines l ≡ h l) where
+module _ (w : World) (i sites : ℕ) (n : Node) (h : Line → History) (s : Sound w) (bare : (w.nodes i).state ≡ Bare)
+    (other : (l : Line) → (l.origin ≡ i → ⊥) → w.lines l ≡ h l) where
   abbrev founded_nodes : ℕ → Node
   founded_nodes = updated w.nodes i n
 
@@ -251,7 +302,8 @@ module _ (w : World) (i sites : ℕ) (n : Node) (h : Line → History) (s : Soun
   stranger_was : (l : Line) (k : ℕ) → IsMade (w.nodes l.origin) → IsStranger founded_nodes w.links l k → IsStranger w.nodes w.links l k
   stranger_was l k made q = (subst (λ (m : Node). m.line ≡ l) (sym (same_elsewhere l.origin made)) q.0, q.1)
 
-  pub sound_founding : Good (record w { sites = sites; nodes = founded_nodes; lines = h }) → IsWhole n → is_origin n.role ≡ true → Sound (record w { sites = sites; nodes = founded_nodes; lines = h })
+  pub sound_founding : Good (record w { sites = sites; nodes = founded_nodes; lines = h }) → IsWhole n → is_origin n.role ≡ true
+      → Sound (record w { sites = sites; nodes = founded_nodes; lines = h })
   sound_founding good whole origin = record {
     good = good;
     whole = all_updated (λ k (m : Node). IsWhole m) w.nodes i n whole (λ k _. s.whole k);

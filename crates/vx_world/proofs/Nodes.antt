@@ -48,7 +48,8 @@ later_longer n x halted fuse = record {
 }
 
 -- an update that a receiver takes
-pub good_taken : (h : History) (s : ℕ) (n : Node) (x : Write) (number : ℕ) → IsMade n → is_origin n.role ≡ false → IsNumber h.held number x → number ≡ length n.log + 1 → GoodNode h s n → GoodNode h s (with_write n x)
+pub good_taken : (h : History) (s : ℕ) (n : Node) (x : Write) (number : ℕ) → IsMade n → is_origin n.role ≡ false → IsNumber h.held number x
+    → number ≡ length n.log + 1 → GoodNode h s n → GoodNode h s (with_write n x)
 good_taken h s n x number made r is next good = record {
   safe_fits = omega (arith, good.safe_fits, length-append n.log (x ∷ []));
   own_line = good.own_line;
@@ -60,14 +61,16 @@ good_taken h s n x number made r is next good = record {
 }
 
 -- the writes that a receiver applies, over what its volumes hold
-applied_content : (n : Node) (k : ℕ) → n.safe ≤ k → n.base ≡ fold_writes n.start (take n.safe n.log) → fold_writes n.base (drop n.safe (take k n.log)) ≡ fold_writes n.start (take k n.log)
+applied_content : (n : Node) (k : ℕ) → n.safe ≤ k → n.base ≡ fold_writes n.start (take n.safe n.log)
+    → fold_writes n.base (drop n.safe (take k n.log)) ≡ fold_writes n.start (take k n.log)
 applied_content n k least e =
     ap (λ (c : Content). fold_writes c (drop n.safe (take k n.log))) e
     ∙ sym (fold_append n.start (take n.safe n.log) (drop n.safe (take k n.log)))
     ∙ ap (λ (t : List Write). fold_writes n.start t)
     (ap (λ (t : List Write). t ++ drop n.safe (take k n.log)) (sym (take-take n.safe k n.log least)) ∙ take-append-drop n.safe (take k n.log))
 
-pub good_applied : (h : History) (s k : ℕ) (mark : Mark) (n : Node) → is_origin n.role ≡ false → n.safe ≤ k → k ≤ length n.log → GoodNode h s n → GoodNode h s (applied n k mark)
+pub good_applied : (h : History) (s k : ℕ) (mark : Mark) (n : Node) → is_origin n.role ≡ false → n.safe ≤ k → k ≤ length n.log → GoodNode h s n
+    → GoodNode h s (applied n k mark)
 good_applied h s k mark n r least most good = record {
   safe_fits = most;
   own_line = good.own_line;
@@ -80,10 +83,22 @@ good_applied h s k mark n r least most good = record {
 
 pub later_applied : (n : Node) (k : ℕ) (mark : Mark) → n.safe ≤ k → (n.mark ≡ Consistent → mark ≡ Consistent) → IsLater n (applied n k mark)
 later_applied n k mark least marks =
-    record { line = refl; origin = refl; session = omega arith; safe = least; present = λ up _. (up, omega arith); mark = marks; made = λ m. m; phase = refl; other = refl }
+    record {
+      line = refl;
+      origin = refl;
+      session = omega arith;
+      safe = least;
+      present = λ up _.
+          (up, omega arith);
+      mark = marks;
+      made = λ m. m;
+      phase = refl;
+      other = refl;
+    }
 
 -- a crash of a receiver
-pub good_dropped : (h : History) (s k : ℕ) (n : Node) → IsMade n → is_origin n.role ≡ false → n.safe ≤ k → k ≤ length n.log → GoodNode h s n → GoodNode h s (crashed n k)
+pub good_dropped : (h : History) (s k : ℕ) (n : Node) → IsMade n → is_origin n.role ≡ false → n.safe ≤ k → k ≤ length n.log → GoodNode h s n
+    → GoodNode h s (crashed n k)
 good_dropped h s k n made r least most good = record {
   safe_fits = omega (arith, kept_length n k least most);
   own_line = λ _ o. not_both (is_origin n.role) o r;
@@ -96,7 +111,18 @@ good_dropped h s k n made r least most good = record {
 
 pub later_crashed : (n : Node) (k : ℕ) → n.safe ≤ k → IsMade n → IsLater n (crashed n k)
 later_crashed n k least made =
-    record { line = refl; origin = refl; session = omega arith; safe = least; present = λ up _. absurd (cc); mark = λ m. m; made = λ _ e. cc; phase = refl; other = refl }
+    record {
+      line = refl;
+      origin = refl;
+      session = omega arith;
+      safe = least;
+      present = λ up _. absurd
+          (cc);
+      mark = λ m. m;
+      made = λ _ e. cc;
+      phase = refl;
+      other = refl;
+    }
 
 -- what a crash keeps
 pub kept_least : (n : Node) (k : ℕ) → n.safe ≤ length n.log → n.safe ≤ kept_of n k
@@ -110,21 +136,25 @@ abbrev pub risen : Node → Mark → Node
 risen n mark = record n { state = Up; session = n.session + 1; halted = None; mark = mark }
 
 -- the mark of a receiver only rises
-pub mark_rises : (s : RState) (number : ℕ) (P : RState → Type 0) → ((mark : Mark) → (s.mark ≡ Consistent → mark ≡ Consistent) → P (record s { mark = mark })) → P (marked_by s number)
+pub mark_rises : (s : RState) (number : ℕ) (P : RState → Type 0)
+    → ((mark : Mark) → (s.mark ≡ Consistent → mark ≡ Consistent) → P (record s { mark = mark })) → P (marked_by s number)
 mark_rises s number P each =
     by_test P (is_log_phase s.phase && leb s.end number) (record s { mark = Consistent }) s
     (λ _. each Consistent (λ _. refl))
     (λ _. each s.mark (λ m. m))
 
 -- a site that comes back is one that has risen
-pub back_by : (P : Node → Type 0) (n : Node) → ((mark : Mark) → (n.mark ≡ Consistent → mark ≡ Consistent) → (is_origin n.role ≡ true → mark ≡ n.mark) → P (risen n mark)) → P (come_back n)
+pub back_by : (P : Node → Type 0) (n : Node)
+    → ((mark : Mark) → (n.mark ≡ Consistent → mark ≡ Consistent) → (is_origin n.role ≡ true → mark ≡ n.mark) → P (risen n mark)) → P (come_back n)
 back_by P n each =
     by_test P (is_origin n.role) (recovered n) _
     (λ _. each n.mark (λ m. m) (λ _. refl))
-    (λ r. mark_rises (record (plain_receiver n) { last = length n.log; waiting = 0; session = n.session + 1 }) (length n.log) (λ s. P (record (recovered n) { session = s.session; mark = s.mark }))
+    (λ r. mark_rises (record (plain_receiver n) { last = length n.log; waiting = 0; session = n.session + 1 }) (length n.log)
+    (λ s. P (record (recovered n) { session = s.session; mark = s.mark }))
     (λ mark marks. each mark marks (λ o. not_both (is_origin n.role) o r)))
 
-pub good_risen : (h : History) (s : ℕ) (mark : Mark) (n : Node) → IsMade n → (is_origin n.role ≡ true → mark ≡ n.mark) → length n.log ≤ n.safe → GoodNode h s n → GoodNode h s (risen n mark)
+pub good_risen : (h : History) (s : ℕ) (mark : Mark) (n : Node) → IsMade n → (is_origin n.role ≡ true → mark ≡ n.mark) → length n.log ≤ n.safe
+    → GoodNode h s n → GoodNode h s (risen n mark)
 good_risen h s mark n made same whole good = record {
   safe_fits = good.safe_fits;
   own_line = λ _. good.own_line made;
@@ -163,7 +193,18 @@ later_begun n down = record {
 }
 
 pub later_halted : (n : Node) (disk : ℕ) → IsLater n (record n { halted = Some disk; fuse = burned n.fuse })
-later_halted n disk = record { line = refl; origin = refl; session = omega arith; safe = omega arith; present = λ up _. (up, omega arith); mark = λ m. m; made = λ m. m; phase = refl; other = refl }
+later_halted n disk = record {
+  line = refl;
+  origin = refl;
+  session = omega arith;
+  safe = omega arith;
+  present = λ up _.
+      (up, omega arith);
+  mark = λ m. m;
+  made = λ m. m;
+  phase = refl;
+  other = refl;
+}
 
 pub good_marked : (h : History) (s : ℕ) (n : Node) → GoodNode h s n → GoodNode h s (record n { mark = Consistent })
 good_marked h s n good = record {
@@ -177,7 +218,18 @@ good_marked h s n good = record {
 }
 
 pub later_marked : (n : Node) → IsLater n (record n { mark = Consistent })
-later_marked n = record { line = refl; origin = refl; session = omega arith; safe = omega arith; present = λ up _. (up, omega arith); mark = λ _. refl; made = λ m. m; phase = refl; other = refl }
+later_marked n = record {
+  line = refl;
+  origin = refl;
+  session = omega arith;
+  safe = omega arith;
+  present = λ up _.
+      (up, omega arith);
+  mark = λ _. refl;
+  made = λ m. m;
+  phase = refl;
+  other = refl;
+}
 
 pub good_joined : (h : History) (s p : ℕ) (a n : Node) → GoodNode h s (joined a p n)
 good_joined h s p a n = record {

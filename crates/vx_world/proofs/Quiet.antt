@@ -1,6 +1,6 @@
 -- Delivering what was sent, and what was sent in answer, leaves nothing to be delivered.
 use Rattle.std.proofs.Common.{◌≡◌, ℕ, suc, ◌+◌, List, [], ◌∷◌, ◌++◌, length, refl, ap, sym, ◌∙◌, subst, append_assoc, drop, Bool, true, false}
-use Rattle.std.specs.Prelude.{if◌then◌else◌, eqb, slice_get, Some, None, Option, ◌&&◌}
+use Rattle.std.specs.Prelude.{leb, slice_get, Some, None, Option, ◌&&◌}
 use Rattle.std.specs.List.{AllByRecursion}
 use Rattle.vx_model.specs.Content.{Write}
 use Rattle.vx_history.specs.World.{World, Packet, Message, Hello, Update, NetAck, DataAck}
@@ -16,10 +16,12 @@ use Rattle.vx_history.proofs.Updates.{by_test}
 use Rattle.vx_history.specs.declared.event.Event.{Event}
 use Rattle.vx_history.specs.declared.event.Event.TheVariants.{Deliver}
 use Rattle.vx_history.specs.declared.event.Said.TheVariants.{Ignored as IsIgnored}
-use Rattle.vx_history.specs.Sends.{is_linked, further_parts, packets_of}
+use Rattle.vx_history.specs.Sends.{is_linked, packets_of}
 use Rattle.vx_history.specs.Refusals.{Outcome, says, is_running, keeps_links}
 use Rattle.vx_model.specs.Sites.{is_up}
 use Rattle.vx_history.specs.Events
+use Rattle.vx_history.specs.Gatherings.{completes}
+use Rattle.vx_model.specs.declared.limits.TheConstants.{MOST_PACKETS}
 use Rattle.vx_history.specs.Step.{step, run}
 use Rattle.vx_world.specs.Settling.{deliver_each, deliver_new, delivery}
 use Rattle.vx_world.proofs.Lists.{each_append}
@@ -27,18 +29,18 @@ use Rattle.vx_world.proofs.Told.{append-nil}
 use Rattle.vx_world.proofs.Batches.{IsIn, in_head, in_tail, in_new}
 use Rattle.vx_world.proofs.Turns.{run_append, new_is, nothing_new}
 
-abbrev is_update : Message → Bool
+abbrev pub is_update : Message → Bool
 is_update (Hello session number stored) = false
 is_update (Update number x) = true
 is_update (NetAck session number) = false
 is_update (DataAck number) = false
 
 -- to which nothing is answered
-abbrev IsLast : Packet → Type 0
+abbrev pub IsLast : Packet → Type 0
 IsLast p = is_update p.message ≡ false
 
 -- a world in which more was sent than in v, none of it to be answered
-record Adds (v w : World) : Type 0 where
+pub record Adds (v w : World) : Type 0 where
   pub more : List Packet
   pub sent : w.packets ≡ v.packets ++ more
   pub last : AllByRecursion IsLast more
@@ -51,18 +53,34 @@ adds_none v w e = record { more = []; sent = e ∙ sym (append-nil v.packets); l
 taken_adds : (v : World) (p : Packet) (x : Write) (action : RAction) → Adds v (Events.update_taken v p x action).world
 taken_adds v p x DoesNothing = adds_none v v refl
 taken_adds v p x Ignores = adds_none v v refl
-taken_adds v p x (IgnoredAck number) = record { more = packets_of p.target p.source (v.nodes p.target).line (NetAck (v.nodes p.target).session number); sent = refl; last = (refl, tt) }
-taken_adds v p x (Take number) = record { more = packets_of p.target p.source (v.nodes p.target).line (NetAck (v.nodes p.target).session number); sent = refl; last = (refl, tt) }
+taken_adds v p x (IgnoredAck number) = record {
+  more = packets_of p.target p.source (v.nodes p.target).line
+      (NetAck (v.nodes p.target).session number);
+  sent = refl;
+  last = (refl, tt);
+}
+taken_adds v p x (Take number) = by_whole (completes (v.gathering p.target) p)
+  where
+    by_whole : (b : Bool) → Adds v (Events.taken_if b v p x number).world
+    by_whole true = record {
+      more = packets_of p.target p.source (v.nodes p.target).line
+          (NetAck (v.nodes p.target).session number);
+      sent = refl;
+      last = (refl, tt);
+    }
+    by_whole false = adds_none v v refl
 taken_adds v p x (AcksFromDisk number) = adds_none v v refl
 
 link_heard_same : (v : World) (p : Packet) (e : SEvent) → (Events.link_heard v p e).world.packets ≡ v.packets
 link_heard_same v p e =
-    by_test (λ (o : Outcome). o.world.packets ≡ v.packets) (keeps_links (v.nodes p.target).role && is_linked (v.links p.target p.source)) _ (says v IsIgnored) (λ _. refl) (λ _. refl)
+    by_test (λ (o : Outcome). o.world.packets ≡ v.packets) (keeps_links (v.nodes p.target).role && is_linked (v.links p.target p.source)) _
+    (says v IsIgnored) (λ _. refl) (λ _. refl)
 
-heard_adds : (v : World) (p : Packet) (m : Message) → Adds v (Events.heard v p m).world
+pub heard_adds : (v : World) (p : Packet) (m : Message) → Adds v (Events.heard v p m).world
 heard_adds v p (Hello session number stored) = adds_none v _ (link_heard_same v p (HearHello session number stored))
 heard_adds v p (Update number x) =
-    by_test (λ (o : Outcome). Adds v o.world) (is_origin (v.nodes p.target).role) (says v IsIgnored) _ (λ _. adds_none v v refl) (λ _. taken_adds v p x (received_step (plain_receiver (v.nodes p.target)) (HearUpdate p.line number)).action)
+    by_test (λ (o : Outcome). Adds v o.world) (is_origin (v.nodes p.target).role) (says v IsIgnored) _ (λ _. adds_none v v refl)
+    (λ _. taken_adds v p x (received_step (plain_receiver (v.nodes p.target)) (HearUpdate p.line number)).action)
 heard_adds v p (NetAck session number) = adds_none v _ (link_heard_same v p (HearNetAck session number))
 heard_adds v p (DataAck number) = adds_none v _ (link_heard_same v p (HearDataAck number))
 
@@ -72,52 +90,72 @@ heard_same v p (Update number x) e = absurd (cc)
 heard_same v p (NetAck session number) e = link_heard_same v p (HearNetAck session number)
 heard_same v p (DataAck number) e = link_heard_same v p (HearDataAck number)
 
-handed_by : (P : World → Type 0) (v : World) (p : Packet) (whole : Bool) → P v → P (Events.heard v p p.message).world → P (Events.handed v p whole).world
-handed_by P v p whole h k =
-    by_test (λ (o : Outcome). P o.world) (is_up (v.nodes p.target).state && is_running (v.nodes p.target).halted) _ (says v IsIgnored)
-    (λ _. by_test (λ (o : Outcome). P o.world) whole (Events.heard v p p.message) (says v (Events.said_of_part (v.nodes p.target) p.line p.message)) (λ _. k) (λ _. h))
-    (λ _. h)
+-- whatever is said of a packet, and whatever is in assembly
+gathers_by : (P : List Packet → Type 0) (p : Packet) (o : Outcome) → P o.world.packets → P (Events.gathers p o).world.packets
+gathers_by P p o h = by_taken (Events.is_taken o.said)
+  where
+    by_taken : (b : Bool) → P (Events.gathered_if b o.world p).packets
+    by_taken true = h
+    by_taken false = h
 
-delivered_adds : (v : World) (number : ℕ) (whole : Bool) (p : Option Packet) → Adds v (Events.delivered v number whole p).world
-delivered_adds v number whole None = adds_none v v refl
-delivered_adds v number whole (Some p) = handed_by (Adds v) v p whole (adds_none v v refl) (heard_adds v p p.message)
+handed_by : (P : List Packet → Type 0) (v : World) (p : Packet) → P v.packets → P (Events.heard v p p.message).world.packets
+    → P (Events.gathers p (Events.handed v p)).world.packets
+handed_by P v p h k =
+    gathers_by P p (Events.handed v p)
+    (by_test (λ (o : Outcome). P o.world.packets) (is_up (v.nodes p.target).state && is_running (v.nodes p.target).halted) _ (says v IsIgnored) (λ _. k)
+    (λ _. h))
 
-delivered_same : (v : World) (k : ℕ) (whole : Bool) (p : Packet) → slice_get v.packets k ≡ Some p → IsLast p → (step v (Deliver (suc k) whole)).world.packets ≡ v.packets
-delivered_same v k whole p e last =
-    subst (λ (q : Option Packet). (Events.delivered v (suc k) whole q).world.packets ≡ v.packets) (sym e)
-    (handed_by (λ (w : World). w.packets ≡ v.packets) v p whole refl (heard_same v p p.message last))
+-- more was sent, none of it to be answered
+abbrev Added : List Packet → List Packet → Type 0
+Added ps qs = (more : List Packet) × (qs ≡ ps ++ more) × AllByRecursion IsLast more
+
+delivered_adds : (v : World) (number : ℕ) (p : Option Packet) → Adds v (Events.delivered v number p).world
+delivered_adds v number None = adds_none v v refl
+delivered_adds v number (Some p) =
+    let h : Adds v (Events.heard v p p.message).world = heard_adds v p p.message in
+    let added : Added v.packets (Events.gathers p (Events.handed v p)).world.packets = handed_by (Added v.packets) v p ([], sym (append-nil v.packets), tt)
+    (h.more, h.sent, h.last) in
+    record { more = added.0; sent = added.1; last = added.2 }
+
+delivered_same : (v : World) (k : ℕ) (p : Packet) → slice_get v.packets k ≡ Some p → IsLast p → (step v (Deliver (suc k))).world.packets ≡ v.packets
+delivered_same v k p e last =
+    by_test (λ (q : Option Packet). (Events.delivered v (suc k) q).world.packets ≡ v.packets) (leb (suc k + MOST_PACKETS) (length v.packets)) None
+    (slice_get v.packets k)
+    (λ _. refl)
+    (λ _. subst (λ (q : Option Packet). (Events.delivered v (suc k) q).world.packets ≡ v.packets) (sym e)
+    (handed_by (λ (ps : List Packet). ps ≡ v.packets) v p refl (heard_same v p p.message last)))
 
 -- ## Batches
 
-batch_adds : (ps : List Packet) (k passed : ℕ) (v : World) → Adds v (run v (deliver_each k passed ps))
-batch_adds [] k passed v = adds_none v v refl
-batch_adds (p ∷ ps) k passed v =
-    let whole : Bool = eqb passed (further_parts p.message) in
-    let u : World = (step v (Deliver (suc k) whole)).world in
-    let first : Adds v u = delivered_adds v (suc k) whole (slice_get v.packets k) in
-    let rest : Adds u (run u (deliver_each (suc k) (if whole then 0 else passed + 1) ps)) = batch_adds ps (suc k) (if whole then 0 else passed + 1) u in
+batch_adds : (ps : List Packet) (k : ℕ) (v : World) → Adds v (run v (deliver_each k ps))
+batch_adds [] k v = adds_none v v refl
+batch_adds (p ∷ ps) k v =
+    let u : World = (step v (Deliver (suc k))).world in
+    let first : Adds v (Events.delivered v (suc k) (Events.packet_at v.packets (suc k))).world = delivered_adds v (suc k)
+    (Events.packet_at v.packets (suc k)) in
+    let rest : Adds u (run u (deliver_each (suc k) ps)) = batch_adds ps (suc k) u in
     record {
       more = first.more ++ rest.more;
       sent = rest.sent ∙ ap (λ (t : List Packet). t ++ rest.more) first.sent ∙ append_assoc v.packets first.more rest.more;
       last = each_append IsLast first.more rest.more first.last rest.last;
     }
 
-batch_same : (ps : List Packet) (k passed : ℕ) (v : World) → IsIn v.packets k ps → AllByRecursion IsLast ps → (run v (deliver_each k passed ps)).packets ≡ v.packets
-batch_same [] k passed v is last = refl
-batch_same (p ∷ ps) k passed v is (last, rest) =
-    let whole : Bool = eqb passed (further_parts p.message) in
-    let u : World = (step v (Deliver (suc k) whole)).world in
-    let same : u.packets ≡ v.packets = delivered_same v k whole p (in_head v.packets k p ps is) last in
-    batch_same ps (suc k) (if whole then 0 else passed + 1) u (subst (λ (x : List Packet). IsIn x (suc k) ps) (sym same) (in_tail v.packets k p ps is)) rest ∙ same
+batch_same : (ps : List Packet) (k : ℕ) (v : World) → IsIn v.packets k ps → AllByRecursion IsLast ps → (run v (deliver_each k ps)).packets ≡ v.packets
+batch_same [] k v is last = refl
+batch_same (p ∷ ps) k v is (last, rest) =
+    let u : World = (step v (Deliver (suc k))).world in
+    let same : u.packets ≡ v.packets = delivered_same v k p (in_head v.packets k p ps is) last in
+    batch_same ps (suc k) u (subst (λ (x : List Packet). IsIn x (suc k) ps) (sym same) (in_tail v.packets k p ps is)) rest ∙ same
 
 -- behind both rounds nothing was sent that was not there behind the first
 pub none_left : (old w : World) → deliver_new (run w (deliver_new old w)) (run w (delivery old w)) ≡ []
 none_left old w =
     let v : World = run w (deliver_new old w) in
-    let adds : Adds w v = batch_adds (drop (length old.packets) w.packets) (length old.packets) 0 w in
-    let second : deliver_new w v ≡ deliver_each (length w.packets) 0 adds.more = new_is w v w.packets adds.more refl adds.sent in
+    let adds : Adds w v = batch_adds (drop (length old.packets) w.packets) (length old.packets) w in
+    let second : deliver_new w v ≡ deliver_each (length w.packets) adds.more = new_is w v w.packets adds.more refl adds.sent in
     let same : (run v (deliver_new w v)).packets ≡ v.packets =
     ap (λ (es : List Event). (run v es).packets) second
-    ∙ batch_same adds.more (length w.packets) 0 v (subst (λ (x : List Packet). IsIn x (length w.packets) adds.more) (sym adds.sent) (in_new w.packets adds.more)) adds.last in
+    ∙ batch_same adds.more (length w.packets) v
+    (subst (λ (x : List Packet). IsIn x (length w.packets) adds.more) (sym adds.sent) (in_new w.packets adds.more)) adds.last in
     subst (λ (x : World). deliver_new v x ≡ []) (sym (run_append w (deliver_new old w) (deliver_new w v)))
     (nothing_new v (run v (deliver_new w v)) v.packets refl same)

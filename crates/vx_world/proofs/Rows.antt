@@ -1,5 +1,5 @@
 -- Small runs of the world, and what is said in them.
-use Rattle.std.proofs.Common.{◌≡◌, ℕ, List, [], ◌∷◌, ◌++◌, refl, true, false}
+use Rattle.std.proofs.Common.{◌≡◌, ℕ, List, [], ◌∷◌, ◌++◌, refl}
 use Rattle.std.specs.Prelude.{replicate, None}
 use Rattle.vx_model.specs.Sizes.{is_raw_shape}
 use Rattle.vx_history.specs.World.{World, empty_world}
@@ -33,14 +33,15 @@ put_one block byte = Write 0 0 block (replicate 512 byte) None
 
 -- a write that fails where its link is not live
 confirmed_row : sayings (run empty_world (linked 64 FailsIfNotLive))
-    (put_one 0 17 ∷ Wait 0 1 ∷ Pump 0 1 ∷ Deliver 2 true ∷ Deliver 3 true ∷ Wait 0 1 ∷ put_one 1 34 ∷ Cut 0 1 ∷ Wait 0 2 ∷ put_one 2 51 ∷ Wait 0 3 ∷ [])
-    ≡ Logged 1 ∷ Pending 1 ∷ Done ∷ Taken ∷ Taken ∷ DoneAt 1 ∷ Logged 2 ∷ Done ∷ Refused (Unconfirmed 2) ∷ Refused (LinkDown (SiteNumber 1)) ∷ Refused (Unknown (ByNumber 3)) ∷ []
+    (put_one 0 17 ∷ Wait 0 1 ∷ Pump 0 1 ∷ Deliver 2 ∷ Deliver 3 ∷ Wait 0 1 ∷ put_one 1 34 ∷ Cut 0 1 ∷ Wait 0 2 ∷ put_one 2 51 ∷ Wait 0 3 ∷ [])
+    ≡ Logged 1 ∷ Pending 1 ∷ Done ∷ Taken ∷ Taken ∷ DoneAt 1 ∷ Logged 2 ∷ Done ∷ Refused (Unconfirmed 2) ∷ Refused (LinkDown (SiteNumber 1)) ∷ Refused
+    (Unknown (ByNumber 3)) ∷ []
 unfolding is_raw_shape
 confirmed_row = refl
 
 -- a receiver that crashes with a record in memory
 restarted_row : sayings (run empty_world (linked 64 FailsIfNotLive))
-    (put_one 0 17 ∷ Wait 0 1 ∷ Pump 0 1 ∷ Deliver 2 true ∷ Crash 1 0 ∷ Recover 1 None ∷ Deliver 4 true ∷ Deliver 3 true ∷ Wait 0 1 ∷ [])
+    (put_one 0 17 ∷ Wait 0 1 ∷ Pump 0 1 ∷ Deliver 2 ∷ Crash 1 0 ∷ Recover 1 None ∷ Deliver 4 ∷ Deliver 3 ∷ Wait 0 1 ∷ [])
     ≡ Logged 1 ∷ Pending 1 ∷ Done ∷ Taken ∷ Done ∷ Recovered 0 ∷ Taken ∷ Ignored ∷ Pending 1 ∷ []
 unfolding is_raw_shape
 restarted_row = refl
@@ -61,14 +62,15 @@ full_row = refl
 
 -- a whole settling by hand: the write of two blocks goes in two packets; then the stalled write goes, and a crash of the origin keeps all
 settled_row : sayings (run empty_world (linked 10 NeverWaits ++ filled))
-    (Connect 0 1 ∷ Deliver 2 true ∷ Pump 0 1 ∷ Deliver 3 true ∷ Deliver 4 true ∷ Deliver 5 false ∷ Deliver 6 true ∷ Deliver 7 true ∷ Deliver 8 true ∷ Deliver 9 true
-    ∷ Apply 1 3 0 ∷ Deliver 10 true ∷ put_one 4 4 ∷ Crash 0 0 ∷ Recover 0 None ∷ Deliver 11 true ∷ [])
-    ≡ Done ∷ Taken ∷ Done ∷ Taken ∷ Taken ∷ Taken ∷ Taken ∷ Taken ∷ Taken ∷ Taken ∷ DoneAt 3 ∷ Taken ∷ DoneAt 4 ∷ Done ∷ Recovered 4 ∷ Refused (Unknown (ByNumber 11)) ∷ []
+    (Connect 0 1 ∷ Deliver 2 ∷ Pump 0 1 ∷ Deliver 3 ∷ Deliver 4 ∷ Deliver 5 ∷ Deliver 6 ∷ Deliver 7 ∷ Deliver 8 ∷ Deliver 9
+    ∷ Apply 1 3 0 ∷ Deliver 10 ∷ put_one 4 4 ∷ Crash 0 0 ∷ Recover 0 None ∷ Deliver 11 ∷ [])
+    ≡ Done ∷ Taken ∷ Done ∷ Taken ∷ Taken ∷ Taken ∷ Taken ∷ Taken ∷ Taken ∷ Taken ∷ DoneAt 3 ∷ Taken ∷ DoneAt 4 ∷ Done ∷ Recovered 4 ∷ Refused
+    (Unknown (ByNumber 11)) ∷ []
 unfolding is_raw_shape
 settled_row = refl
 
 -- updates out of order and repeated
-order_row : sayings (run empty_world (linked 64 NeverWaits)) (put_one 0 17 ∷ put_one 1 34 ∷ Pump 0 1 ∷ Deliver 3 true ∷ Deliver 2 true ∷ Deliver 2 true ∷ Deliver 3 true ∷ Deliver 9 true ∷ [])
+order_row : sayings (run empty_world (linked 64 NeverWaits)) (put_one 0 17 ∷ put_one 1 34 ∷ Pump 0 1 ∷ Deliver 3 ∷ Deliver 2 ∷ Deliver 2 ∷ Deliver 3 ∷ Deliver 9 ∷ [])
     ≡ DoneAt 1 ∷ DoneAt 2 ∷ Done ∷ Ignored ∷ Taken ∷ Ignored ∷ Taken ∷ Refused (Unknown (ByNumber 9)) ∷ []
 unfolding is_raw_shape
 order_row = refl
@@ -90,8 +92,8 @@ abbrev before_settling : World
 before_settling = run empty_world (linked 10 NeverWaits ++ filled)
 
 settling_row : settling before_settling 0 1
-    ≡ Connect 0 1 ∷ Deliver 2 true
-    ∷ Tick 0 1 ∷ Pump 0 1 ∷ Deliver 3 true ∷ Deliver 4 true ∷ Deliver 5 false ∷ Deliver 6 true ∷ Deliver 7 true ∷ Deliver 8 true ∷ Deliver 9 true ∷ Apply 1 3 0 ∷ Deliver 10 true ∷ []
+    ≡ Connect 0 1 ∷ Deliver 2
+    ∷ Tick 0 1 ∷ Pump 0 1 ∷ Deliver 3 ∷ Deliver 4 ∷ Deliver 5 ∷ Deliver 6 ∷ Deliver 7 ∷ Deliver 8 ∷ Deliver 9 ∷ Apply 1 3 0 ∷ Deliver 10 ∷ []
 unfolding is_raw_shape
 settling_row = refl
 

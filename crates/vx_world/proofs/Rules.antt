@@ -16,13 +16,15 @@ own_facts n m same =
     ap (λ (x : Node). let f : SFacts = record { safe = x.safe; line_ok = true } in f) same
     ∙ ap (λ b. let f : SFacts = record { safe = m.safe; line_ok = b } in f) (sym (same_line_self m.line))
 
-pub step_is : (w : World) (p s : ℕ) (e : SEvent) (mid : Link) (plain : PlainLink) (facts : SFacts) → mid ≡ w.links p s → plain ≡ plain_link s mid → facts ≡ facts_of (w.nodes p) (w.nodes p).line
+pub step_is : (w : World) (p s : ℕ) (e : SEvent) (mid : Link) (plain : PlainLink) (facts : SFacts) → mid ≡ w.links p s → plain ≡ plain_link s mid
+    → facts ≡ facts_of (w.nodes p) (w.nodes p).line
     → sent_step plain e facts ≡ link_step w p s e
 step_is w p s e mid plain facts is spelled told =
     ap (λ (l : PlainLink). sent_step l e facts) (spelled ∙ ap (λ (l : Link). plain_link s l) is)
     ∙ ap (λ (f : SFacts). sent_step (plain_link s (w.links p s)) e f) told
 
-pub moved_is : (w new : World) (p s : ℕ) (mid put : Link) (after : PlainLink) (r : Sent) → mid ≡ w.links p s → after ≡ r.link → put ≡ with_plain mid after → new ≡ with_link w p s put
+pub moved_is : (w new : World) (p s : ℕ) (mid put : Link) (after : PlainLink) (r : Sent) → mid ≡ w.links p s → after ≡ r.link → put ≡ with_plain mid after
+    → new ≡ with_link w p s put
     → new ≡ with_link w p s (with_plain (w.links p s) r.link)
 moved_is w new p s mid put after r is stepped made changed =
     changed

@@ -1,5 +1,5 @@
 -- Settling a link ends with all that is durable stored at its receiver.
-use Rattle.std.proofs.Common.{◌≡◌, ℕ, zero, suc, ◌+◌, ◌-◌, ◌≤◌, ◌<◌, List, [], ◌∷◌, ◌++◌, length, refl, ap, sym, ◌∙◌, subst, arith, Bool, true, false}
+use Rattle.std.proofs.Common.{◌≡◌, ℕ, zero, suc, ◌+◌, ◌-◌, ◌≤◌, ◌<◌, List, [], ◌∷◌, ◌++◌, length, refl, ap, sym, ◌∙◌, subst, arith, Bool, true, false, length-append}
 use Rattle.std.specs.Prelude.{if◌then◌else◌, leb, ltb, Some, slice_get}
 use Rattle.std.proofs.lemmas.Bool.Decides.{nat_tests}
 use Rattle.std.proofs.lemmas.List.{length-take}
@@ -18,13 +18,16 @@ use Rattle.vx_history.specs.Sends.{packet, is_linked}
 use Rattle.vx_history.specs.Refusals.{keeps_links}
 use Rattle.vx_history.specs.Step.{step, run}
 use Rattle.vx_world.specs.Settling.{deliver_each, delivery, greeting_events, is_stuck, turn, turns, settling, MaySettle, IsMet}
-use Rattle.vx_world.specs.Sound.{Sound, GoodLink, IsFollowed}
-use Rattle.vx_world.proofs.Lists.{prefix_length}
-use Rattle.vx_world.proofs.Pair.{At, Fit, itself}
-use Rattle.vx_world.proofs.Told.{connect_at, hello_at}
+use Rattle.vx_history.specs.Sound.{Sound, GoodLink, IsFollowed}
+use Rattle.vx_history.specs.Fits.{Fits}
+use Rattle.vx_history.specs.GoodWorld.{GoodWorld}
+use Rattle.std.specs.List.{AllByRecursion}
+use Rattle.vx_world.proofs.Lists.{prefix_length, each_weaker}
+use Rattle.vx_world.proofs.Pair.{At, Fit, places_in, itself}
+use Rattle.vx_world.proofs.ToldApart.{connect_at, hello_at}
 use Rattle.vx_world.proofs.Batches.{fit_link}
-use Rattle.vx_world.proofs.Turns.{run_append, new_is, Sent, sends, Came, comes, Turned, closes}
-use Rattle.vx_world.proofs.Stays.{run_keeps}
+use Rattle.vx_world.proofs.Turns.{IsSmall, run_append, new_is, Sent, sends, Came, comes, Turned, closes}
+use Rattle.vx_world.proofs.Whole.{run_good}
 
 origin_keeps : (r : Role) → is_origin r ≡ true → keeps_links r ≡ true
 origin_keeps Primary e = refl
@@ -35,8 +38,11 @@ origin_keeps Bunker e = absurd (cc)
 not_past : (a b : ℕ) → b < a → leb a b ≡ false
 not_past a b h = grind (arith, nat_tests)
 
--- what a sound world says of a link that may be settled
-module _ (w : World) (p s : ℕ) (sound : Sound w) (may : MaySettle w p s) where
+-- what a good world says of a link that may be settled
+module _ (w : World) (p s : ℕ) (good : GoodWorld w) (may : MaySettle w p s) where
+  sound : Sound w
+  sound = good.sound
+
   origin : is_origin (w.nodes p).role ≡ true
   origin = (sound.links p s).starts may.linked
 
@@ -73,6 +79,11 @@ module _ (w : World) (p s : ℕ) (sound : Sound w) (may : MaySettle w p s) where
 
   pub stands : At w p s (w.nodes p) (w.nodes s) (w.links p s) w.packets
   stands = itself w p s (not_past w.sites p (made_is_given w p sound.good made_p)) (not_past w.sites s (made_is_given w s sound.good made_s))
+      (places_in s (w.nodes s) w.packets (w.gathering s) (good.gathers.each s))
+
+  -- the writes of the sending site are small
+  pub small : AllByRecursion IsSmall (w.nodes p).log
+  small = each_weaker (Fits (w.nodes p)) IsSmall (λ x h. h.few) (w.nodes p).log (good.fits.logs p)
 
   -- no more is stored than is durable
   pub stored_most : (w.links p s).stored ≤ (w.nodes p).safe
@@ -88,7 +99,8 @@ module _ (w : World) (p s : ℕ) (sound : Sound w) (may : MaySettle w p s) where
       )
 
 -- what stands under its names may be settled
-may_by : (v : World) (p s : ℕ) (a b : Node) (l : Link) (ps : List Packet) → At v p s a b l ps → Fit p s a b l → b.role ≡ Secondary → l.bunker ≡ false → MaySettle v p s
+may_by : (v : World) (p s : ℕ) (a b : Node) (l : Link) (ps : List Packet) → At v p s a b l ps → Fit p s a b l → b.role ≡ Secondary → l.bunker ≡ false
+    → MaySettle v p s
 may_by v p s a b l ps at fit role bunker = record {
   here = ap (λ (x : Node). x.state) at.at_p ∙ fit.up_a;
   there = ap (λ (x : Node). x.state) at.at_s ∙ fit.up_b;
@@ -104,7 +116,8 @@ may_by v p s a b l ps at fit role bunker = record {
   mode = ap (λ (x : Link). x.mode) at.at_l ∙ fit.mode;
 }
 
-met_by : (v : World) (p s : ℕ) (a b : Node) (l : Link) (ps : List Packet) → At v p s a b l ps → Fit p s a b l → b.role ≡ Secondary → l.bunker ≡ false → l.session ≡ b.session → l.net ≡ length b.log → l.stored ≡ b.safe → IsMet v p s
+met_by : (v : World) (p s : ℕ) (a b : Node) (l : Link) (ps : List Packet) → At v p s a b l ps → Fit p s a b l → b.role ≡ Secondary → l.bunker ≡ false
+    → l.session ≡ b.session → l.net ≡ length b.log → l.stored ≡ b.safe → IsMet v p s
 met_by v p s a b l ps at fit role bunker session net stored = record {
   may = may_by v p s a b l ps at fit role bunker;
   session = ap (λ (x : Link). x.session) at.at_l ∙ session ∙ ap (λ (x : Node). x.session) (sym at.at_s);
@@ -115,23 +128,27 @@ met_by v p s a b l ps at fit role bunker session net stored = record {
 -- ## The greeting
 
 -- behind it the two sites have met, and the head is as it was
-pub greeted_meets : (w : World) (p s : ℕ) → Sound w → MaySettle w p s → IsMet (run w (greeting_events w p s)) p s × (((run w (greeting_events w p s)).nodes p).safe ≡ (w.nodes p).safe)
-greeted_meets w p s sound may =
+pub greeted_meets : (w : World) (p s : ℕ) → GoodWorld w → MaySettle w p s
+    → IsMet (run w (greeting_events w p s)) p s × (((run w (greeting_events w p s)).nodes p).safe ≡ (w.nodes p).safe)
+greeted_meets w p s good_w may =
+    let sound : Sound w = good_w.sound in
     let a : Node = w.nodes p in
     let b : Node = w.nodes s in
     let l : Link = w.links p s in
-    let hello : Packet = packet s p b.line (Hello b.session (length b.log) b.safe) in
-    let fit : Fit p s a b l = fits w p s sound may in
-    let at : At w p s a b l w.packets = stands w p s sound may in
+    let hello : Packet = packet s p b.line (Hello b.session (length b.log) b.safe) 0 in
+    let fit : Fit p s a b l = fits w p s good_w may in
+    let at : At w p s a b l w.packets = stands w p s good_w may in
     let v : World = (step w (Connect p s)).world in
     let at_v : At v p s a b l (w.packets ++ hello ∷ []) = connect_at w p s a b l w.packets at fit in
     let good : GoodLink p s a b l = sound.links p s in
-    let told = hello_at v p s a b l (w.packets ++ hello ∷ []) at_v fit (length w.packets) (first w.packets hello) (good.session may.linked)
-    (good.stored (followed w p s sound may)) (sound.good.nodes s).safe_fits
-    (λ same. good.net (followed w p s sound may) (may.there, sym same)) in
+    let told = hello_at v p s a b l (w.packets ++ hello ∷ []) at_v fit (length w.packets) (omega (arith, length-append w.packets (hello ∷ [])))
+    (first w.packets hello) (good.session may.linked)
+    (good.stored (followed w p s good_w may)) (sound.good.nodes s).safe_fits
+    (λ same. good.net (followed w p s good_w may) (may.there, sym same)) in
     let m : Link = record l { session = b.session; net = length b.log; stored = b.safe; sent = told.0 } in
     subst (λ (es : List Event). IsMet (run v es) p s × (((run v es).nodes p).safe ≡ a.safe)) (sym (new_is w v w.packets (hello ∷ []) refl at_v.sent)) (
-      met_by (run v (deliver_each (length w.packets) 0 (hello ∷ []))) p s a b m (w.packets ++ hello ∷ []) told.1 (fit_link p s a b l b.session (length b.log) b.safe told.0 l.trimmed fit) may.secondary may.bunker refl refl refl,
+      met_by (run v (deliver_each (length w.packets) (hello ∷ []))) p s a b m (w.packets ++ hello ∷ []) told.1
+          (fit_link p s a b l b.session (length b.log) b.safe told.0 l.trimmed fit) may.secondary may.bunker refl refl refl,
       ap (λ (x : Node). x.safe) told.1.at_p,
     )
   where
@@ -142,26 +159,29 @@ greeted_meets w p s sound may =
 -- ## A turn
 
 -- the world in which a turn is over, before it is looked at whether it has brought anything
-turned : (w : World) (p s : ℕ) → Sound w → IsMet w p s → (v : World) × Turned p s (w.nodes p) (w.nodes s) (w.links p s) v × ((w.links p s).stored < (w.nodes p).safe → (w.links p s).stored < (v.links p s).stored → run w (turn w p s) ≡ v)
-turned w p s sound met =
+turned : (w : World) (p s : ℕ) → GoodWorld w → IsMet w p s
+    → (v : World) × Turned p s (w.nodes p) (w.nodes s) (w.links p s) v × ((w.links p s).stored < (w.nodes p).safe → (w.links p s).stored < (v.links p s).stored → run w (turn w p s) ≡ v)
+turned w p s good_w met =
+    let sound : Sound w = good_w.sound in
+    let small_a : AllByRecursion IsSmall (w.nodes p).log = small w p s good_w met.may in
     let a : Node = w.nodes p in
     let b : Node = w.nodes s in
     let l : Link = w.links p s in
-    let fit : Fit p s a b l = fits w p s sound met.may in
-    let at : At w p s a b l w.packets = stands w p s sound met.may in
+    let fit : Fit p s a b l = fits w p s good_w met.may in
+    let at : At w p s a b l w.packets = stands w p s good_w met.may in
     let small : b.safe ≤ length b.log = (sound.good.nodes s).safe_fits in
     let head : a.safe ≤ length a.log = (sound.good.nodes p).safe_fits in
     let sent : List Event = Tick p s ∷ Pump p s ∷ [] in
     let w1 : World = run w sent in
-    let st : Sent p s a b l w.packets small head fit met.session met.net met.stored w1 = sends p s a b l w.packets small head fit met.session met.net met.stored w at in
+    let st : Sent p s a b l w.packets small head small_a fit met.session met.net met.stored w1 = sends p s a b l w.packets small head small_a fit met.session met.net met.stored w at in
     let came : List Event = delivery w w1 in
     let w2 : World = run w1 came in
-    let c : Came p s a b l w.packets small head fit met.session met.net met.stored w2 = comes p s a b l w.packets small head fit met.session met.net met.stored w w1 at st in
+    let c : Came p s a b l w.packets small head small_a fit met.session met.net met.stored w2 = comes p s a b l w.packets small head small_a fit met.session met.net met.stored w w1 at st in
     let applied : List Event = Apply s (length (w2.nodes s).log - (w2.nodes s).safe) 0 ∷ [] in
     let w3 : World = run w2 applied in
     let heard : List Event = delivery w2 w3 in
     let w4 : World = run w3 heard in
-    let t : Turned p s a b l w4 = closes p s a b l w.packets small head fit met.session met.net met.stored w2 c in
+    let t : Turned p s a b l w4 = closes p s a b l w.packets small head small_a fit met.session met.net met.stored w2 c in
     let last : List Event = if is_stuck l.stored (w4.links p s).stored (w4.nodes p).safe then greeting_events w4 p s else [] in (
       w4,
       t,
@@ -170,7 +190,9 @@ turned w p s sound met =
           ∙ run_append w1 came (applied ++ (heard ++ last))
           ∙ run_append w2 applied (heard ++ last)
           ∙ run_append w3 heard last
-          ∙ ap (λ (es : List Event). run w4 es) (by_test (λ (es : List Event). es ≡ []) (is_stuck l.stored (w4.links p s).stored (w4.nodes p).safe) (greeting_events w4 p s) [] (λ stuck. absurd (not_stuck l.stored (w4.links p s).stored (w4.nodes p).safe raised stuck)) (λ _. refl)),
+          ∙ ap (λ (es : List Event). run w4 es)
+          (by_test (λ (es : List Event). es ≡ []) (is_stuck l.stored (w4.links p s).stored (w4.nodes p).safe) (greeting_events w4 p s) []
+          (λ stuck. absurd (not_stuck l.stored (w4.links p s).stored (w4.nodes p).safe raised stuck)) (λ _. refl)),
     )
   where
     not_stuck : (before stored head : ℕ) → before < stored → is_stuck before stored head ≡ true → ⊥
@@ -194,15 +216,18 @@ more safe have now head below grown some fits = by_cases (leb have safe) refl
     by_cases false e = omega (arith, grown, some_wait safe have e)
 
 -- what a turn does while less is stored than is durable
-pub turn_raises : (w : World) (p s : ℕ) → Sound w → IsMet w p s → (w.links p s).stored < (w.nodes p).safe
-    → IsMet (run w (turn w p s)) p s × ((w.links p s).stored < ((run w (turn w p s)).links p s).stored) × (((run w (turn w p s)).nodes p).safe ≡ (w.nodes p).safe)
-turn_raises w p s sound met below =
+pub turn_raises : (w : World) (p s : ℕ) → GoodWorld w → IsMet w p s → (w.links p s).stored < (w.nodes p).safe
+    → IsMet (run w (turn w p s)) p s × ((w.links p s).stored < ((run w (turn w p s)).links p s).stored) × (((run w
+    (turn w p s)).nodes p).safe ≡ (w.nodes p).safe)
+turn_raises w p s good_w met below =
+    let sound : Sound w = good_w.sound in
     let b : Node = w.nodes s in
     let l : Link = w.links p s in
-    let over = turned w p s sound met in
+    let over = turned w p s good_w met in
     let v : World = over.0 in
     let t : Turned p s (w.nodes p) b l v = over.1 in
-    let fuller : b.safe < length t.site.log = more b.safe (length b.log) (length t.site.log) (w.nodes p).safe (omega (arith, below, met.stored)) t.grown t.some (sound.good.nodes s).safe_fits in
+    let fuller : b.safe < length t.site.log = more b.safe (length b.log) (length t.site.log) (w.nodes p).safe
+    (omega (arith, below, met.stored)) t.grown t.some (sound.good.nodes s).safe_fits in
     let stored : (v.links p s).stored ≡ t.site.safe = ap (λ (x : Link). x.stored) t.at.at_l ∙ t.stored in
     let raised : l.stored < (v.links p s).stored = omega (arith, fuller, t.whole, stored, met.stored) in
     subst (λ (x : World). IsMet x p s × (l.stored < (x.links p s).stored) × ((x.nodes p).safe ≡ (w.nodes p).safe)) (sym (over.2 below raised)) (
@@ -213,18 +238,20 @@ turn_raises w p s sound met below =
 
 -- ## Turns
 
-turns_end : (n : ℕ) (w : World) (p s : ℕ) → Sound w → IsMet w p s → (w.nodes p).safe ≤ (w.links p s).stored + n
+turns_end : (n : ℕ) (w : World) (p s : ℕ) → GoodWorld w → IsMet w p s → (w.nodes p).safe ≤ (w.links p s).stored + n
     → (((run w (turns n w p s)).links p s).stored ≡ ((run w (turns n w p s)).nodes p).safe) × (((run w (turns n w p s)).nodes p).safe ≡ (w.nodes p).safe)
-turns_end zero w p s sound met few = (omega (arith, few, stored_most w p s sound met.may), refl)
-turns_end (suc n) w p s sound met few =
+turns_end zero w p s good_w met few = (omega (arith, few, stored_most w p s good_w met.may), refl)
+turns_end (suc n) w p s good_w met few =
     let t : List Event = turn w p s in
     let v : World = run w t in
-    by_test (λ (es : List Event). (((run w es).links p s).stored ≡ ((run w es).nodes p).safe) × (((run w es).nodes p).safe ≡ (w.nodes p).safe)) (leb (w.nodes p).safe (w.links p s).stored) [] (t ++ turns n v p s)
-    (λ all. (omega (arith, stored_most w p s sound met.may, at_least (w.nodes p).safe (w.links p s).stored all), refl))
+    by_test (λ (es : List Event). (((run w es).links p s).stored ≡ ((run w es).nodes p).safe) × (((run w es).nodes p).safe ≡ (w.nodes p).safe))
+    (leb (w.nodes p).safe (w.links p s).stored) [] (t ++ turns n v p s)
+    (λ all. (omega (arith, stored_most w p s good_w met.may, at_least (w.nodes p).safe (w.links p s).stored all), refl))
     (λ less.
-    let raises = turn_raises w p s sound met (below (w.nodes p).safe (w.links p s).stored less) in
-    let rest = turns_end n v p s (run_keeps w t sound) raises.0 (omega (arith, few, raises.1, raises.2)) in
-    subst (λ (x : World). ((x.links p s).stored ≡ (x.nodes p).safe) × ((x.nodes p).safe ≡ (w.nodes p).safe)) (sym (run_append w t (turns n v p s))) (rest.0, rest.1 ∙ raises.2))
+    let raises = turn_raises w p s good_w met (below (w.nodes p).safe (w.links p s).stored less) in
+    let rest = turns_end n v p s (run_good w t good_w) raises.0 (omega (arith, few, raises.1, raises.2)) in
+    subst (λ (x : World). ((x.links p s).stored ≡ (x.nodes p).safe) × ((x.nodes p).safe ≡ (w.nodes p).safe)) (sym (run_append w t (turns n v p s)))
+    (rest.0, rest.1 ∙ raises.2))
   where
     at_least : (m n : ℕ) → leb m n ≡ true → m ≤ n
     at_least m n e = grind (arith, nat_tests)
@@ -233,12 +260,13 @@ turns_end (suc n) w p s sound met few =
     below m n e = grind (arith, nat_tests)
 
 -- settling ends with all that is durable stored, and the head is as it was
-pub settling_ends : (w : World) (p s : ℕ) → Sound w → MaySettle w p s
+pub settling_ends : (w : World) (p s : ℕ) → GoodWorld w → MaySettle w p s
     → (((run w (settling w p s)).links p s).stored ≡ ((run w (settling w p s)).nodes p).safe) × (((run w (settling w p s)).nodes p).safe ≡ (w.nodes p).safe)
-settling_ends w p s sound may =
+settling_ends w p s good_w may =
     let g : List Event = greeting_events w p s in
     let v : World = run w g in
     let n : ℕ = (w.nodes p).safe in
-    let greeted = greeted_meets w p s sound may in
-    let ends = turns_end n v p s (run_keeps w g sound) greeted.0 (omega (arith, greeted.1)) in
-    subst (λ (x : World). ((x.links p s).stored ≡ (x.nodes p).safe) × ((x.nodes p).safe ≡ (w.nodes p).safe)) (sym (run_append w g (turns n v p s))) (ends.0, ends.1 ∙ greeted.1)
+    let greeted = greeted_meets w p s good_w may in
+    let ends = turns_end n v p s (run_good w g good_w) greeted.0 (omega (arith, greeted.1)) in
+    subst (λ (x : World). ((x.links p s).stored ≡ (x.nodes p).safe) × ((x.nodes p).safe ≡ (w.nodes p).safe)) (sym (run_append w g (turns n v p s)))
+    (ends.0, ends.1 ∙ greeted.1)

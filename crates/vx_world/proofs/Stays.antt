@@ -19,11 +19,11 @@ use Rattle.vx_history.specs.Refusals.{Outcome, unless, at_work, keeps_links}
 use Rattle.vx_model.specs.Sites.{is_up, is_bare}
 use Rattle.vx_model.specs.Sizes.{is_raw_shape}
 use Rattle.vx_history.specs.Events
-use Rattle.vx_history.specs.Step.{done, step, run, link_part, write_at}
+use Rattle.vx_history.specs.Step.{done, outcome_of, step, run, link_part, write_at}
 use Rattle.vx_history.specs.Sends.{with_link}
-use Rattle.vx_world.specs.Sound.{Sound}
+use Rattle.vx_history.specs.Sound.{Sound}
 use Rattle.vx_world.proofs.Lists.{not_false}
-use Rattle.vx_world.proofs.Moves.{sound_with_link, unlinked_good}
+use Rattle.vx_world.proofs.Moves.{sound_headers, sound_with_link, unlinked_good}
 use Rattle.vx_world.proofs.Tests.{Keeps, unless_keeps, at_site_keeps, at_work_keeps, both_keeps, on_link_keeps, when_live_keeps, on_volume_keeps}
 use Rattle.vx_world.proofs.Guards.{primary_origin, up_is, bare_is}
 use Rattle.vx_world.proofs.Changes.{written_if_keeps, apply_keeps}
@@ -37,61 +37,67 @@ less a b e = grind (arith, nat_tests)
 
 write_keeps : (w : World) (p : ℕ) (x : Write) (fails : Option ℕ) → Sound w → Keeps (write_at w p x fails)
 write_keeps w p x fails s =
-    on_volume_keeps w p x.volume x.start (blocks_in x.bytes) (is_too_large (w.nodes p).ring (blocks_in x.bytes)) (Events.written_if (Events.admitted w p x) w p x fails) s
+    on_volume_keeps w p x.volume x.start (blocks_in x.bytes) (is_too_large (w.nodes p).ring (blocks_in x.bytes))
+    (Events.written_if (Events.admitted w p x) w p x fails) s
     (λ up runs r. written_if_keeps (Events.admitted w p x) w p x fails s (record { up = up; origin = primary_origin (w.nodes p).role r; running = runs }))
 
 -- every event keeps it
-pub step_keeps : (w : World) (e : Event) → Sound w → Sound (step w e).world
-step_keeps w (Site name disks blocks) s = may_be_site_keeps w name disks blocks s
-step_keeps w (Raw q) s =
+outcome_keeps : (w : World) (e : Event) → Sound w → Sound (outcome_of w e).world
+outcome_keeps w (Site name disks blocks) s = may_be_site_keeps w name disks blocks s
+outcome_keeps w (Raw q) s =
     let o : Outcome = done (raw_made w q) in
     let shaped : Outcome = unless (not (is_raw_shape (w.nodes q).disks (w.nodes q).blocks)) Size w o in
     at_site_keeps w q (unless (not (is_bare (w.nodes q).state)) WrongRole w shaped) s
     (λ there. unless_keeps (not (is_bare (w.nodes q).state)) WrongRole w shaped s
     (λ bare. unless_keeps (not (is_raw_shape (w.nodes q).disks (w.nodes q).blocks)) Size w o s
     (λ _. raw_keeps w q s (less w.sites q there) (bare_is (w.nodes q).state (not_false (is_bare (w.nodes q).state) bare)))))
-step_keeps w (WriteAt p volume start bytes fails) s = write_keeps w p (record { volume = volume; start = start; bytes = bytes }) fails s
-step_keeps w (Read p volume start count) s = on_volume_keeps w p volume start count false _ s (λ _ _ _. s)
-step_keeps w (Apply q count reached) s =
+outcome_keeps w (WriteAt p volume start bytes fails) s = write_keeps w p (record { volume = volume; start = start; bytes = bytes }) fails s
+outcome_keeps w (Read p volume start count) s = on_volume_keeps w p volume start count false _ s (λ _ _ _. s)
+outcome_keeps w (Apply q count reached) s =
     let o : Outcome = if is_origin (w.nodes q).role then Events.reached_at w q count reached else Events.apply_at w q count in
     at_site_keeps w q (at_work w q o) s
     (λ _. at_work_keeps w q o s
-    (λ up _. by_test Keeps (is_origin (w.nodes q).role) (Events.reached_at w q count reached) (Events.apply_at w q count) (λ _. s) (λ r. apply_keeps w q count s up r)))
-step_keeps w (Pump p q) s =
+    (λ up _. by_test Keeps (is_origin (w.nodes q).role) (Events.reached_at w q count reached) (Events.apply_at w q count) (λ _. s)
+    (λ r. apply_keeps w q count s up r)))
+outcome_keeps w (Pump p q) s =
     on_link_keeps keeps_links w p q _ s (λ up _ linked. when_live_keeps w q (w.links p q) _ s (pump_keeps w p q s up linked))
-step_keeps w (Tick p q) s =
+outcome_keeps w (Tick p q) s =
     let l : PlainLink = plain_link q (w.links p q) in on_link_keeps keeps_links w p q _ s (λ _ _ _. quiet_keeps w p q l.connected l.paused l.net 0 s)
-step_keeps w (Deliver number whole) s = deliver_keeps w number whole s
-step_keeps w (Connect p q) s = on_link_keeps keeps_links w p q _ s (λ _ _ _. connect_keeps w p q s)
-step_keeps w (Cut p q) s =
+outcome_keeps w (Deliver number) s = deliver_keeps w number s
+outcome_keeps w (Connect p q) s = on_link_keeps keeps_links w p q _ s (λ _ _ _. connect_keeps w p q s)
+outcome_keeps w (Cut p q) s =
     let l : PlainLink = plain_link q (w.links p q) in on_link_keeps keeps_links w p q _ s (λ _ _ _. quiet_keeps w p q false l.paused l.sent l.trimmed s)
-step_keeps w (Pause p q) s =
+outcome_keeps w (Pause p q) s =
     let l : PlainLink = plain_link q (w.links p q) in on_link_keeps keeps_links w p q _ s (λ _ _ _. quiet_keeps w p q l.connected true l.sent l.trimmed s)
-step_keeps w (Resume p q) s =
+outcome_keeps w (Resume p q) s =
     let l : PlainLink = plain_link q (w.links p q) in on_link_keeps keeps_links w p q _ s (λ _ _ _. quiet_keeps w p q l.connected false l.sent l.trimmed s)
-step_keeps w (Wait p number) s =
+outcome_keeps w (Wait p number) s =
     let o : Outcome = unless (not (is_origin (w.nodes p).role)) WrongRole w (Events.waited w p number) in
     at_site_keeps w p (at_work w p o) s
     (λ _. at_work_keeps w p o s
     (λ up _. unless_keeps (not (is_origin (w.nodes p).role)) WrongRole w (Events.waited w p number) s
     (λ o. wait_keeps w p number s up (not_false (is_origin (w.nodes p).role) o))))
-step_keeps w (Link p q sync part) s =
+outcome_keeps w (Link p q sync part) s =
     at_site_keeps w p _ s
     (λ _. at_site_keeps w q _ s (λ _. both_keeps w p q (link_part part w p q sync) s (λ up_p up_q _. link_part_keeps part w p q sync s up_p up_q)))
-step_keeps w (Set p q sync) s =
+outcome_keeps w (Set p q sync) s =
     let l : LinkRecord = record (w.links p q) { sync = sync; prot = FailsWhenFull } in
     on_link_keeps is_origin w p q (done (with_link w p q l)) s
     (λ _ _ _. sound_with_link w p q l s (Links.link_like p q (w.nodes p) (w.nodes q) (w.links p q) l refl refl refl refl (λ e. e) (s.links p q)) (λ is. is))
-step_keeps w (Crash q kept) s =
+outcome_keeps w (Crash q kept) s =
     let o : Outcome = done (Events.crash_at w q (Events.kept_of (w.nodes q) kept)) in
     at_site_keeps w q (unless (not (is_up (w.nodes q).state)) NotUp w o) s
     (λ _. unless_keeps (not (is_up (w.nodes q).state)) NotUp w o s
     (λ up. crash_keeps w q kept s (up_is (w.nodes q).state (not_false (is_up (w.nodes q).state) up))))
-step_keeps w (Recover q fails) s = at_site_keeps w q _ s (λ _. recover_keeps w q (w.nodes q).state fails s refl)
-step_keeps w (Fault q disk) s =
+outcome_keeps w (Recover q fails) s = at_site_keeps w q _ s (λ _. recover_keeps w q (w.nodes q).state fails s refl)
+outcome_keeps w (Fault q disk) s =
     at_site_keeps w q _ s
     (λ _. unless_keeps (not (is_up (w.nodes q).state)) NotUp w _ s
     (λ up. fault_keeps w q disk s (up_is (w.nodes q).state (not_false (is_up (w.nodes q).state) up))))
+
+-- whatever headers it writes
+pub step_keeps : (w : World) (e : Event) → Sound w → Sound (step w e).world
+step_keeps w e s = sound_headers (outcome_of w e).world (step w e).world.headers (outcome_keeps w e s)
 
 pub run_keeps : (w : World) (events : List Event) → Sound w → Sound (run w events)
 run_keeps w [] s = s

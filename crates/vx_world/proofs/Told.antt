@@ -1,85 +1,98 @@
--- What each event of settling makes of two sites and their link.
+-- What each event of settling makes of two sites and their link: what is sent, updates and acknowledgements.
 use Rattle.std.proofs.Common.{◌≡◌, ℕ, suc, ◌+◌, ◌-◌, ◌≤◌, ◌<◌, List, [], ◌∷◌, ◌++◌, length, refl, ap, sym, ◌∙◌, subst, arith, Bool, true, false}
 use Rattle.std.specs.Prelude.{if◌then◌else◌, leb, ltb, eqb, not, max, min, slice_get, Some, None, Option, ◌&&◌}
 use Rattle.std.proofs.lemmas.Bool.Decides.{nat_tests}
 use Rattle.vx_model.specs.Content.{Write}
-use Rattle.vx_history.specs.World.{World, Node, Link, Packet, Message, Hello, Update, NetAck, DataAck, with_node}
+use Rattle.vx_history.specs.World.{World, Node, Link, Packet, Message, Update, NetAck, DataAck, with_node}
 use Rattle.vx_model.specs.Sites.{is_origin, same_line}
 use Rattle.vx_history.specs.Admission.{is_live}
-use Rattle.vx_history.specs.Sending.{Sent, sent_step, by_log, pumped_up_to, with_nothing, greeted, with_taken, with_ignored, memory_acknowledged, disk_acknowledged, if_on_line}
-use Rattle.vx_history.specs.Receiving.{Received, takes, repeats, with_next, update_heard, phase_takes, with_applied, records_applied, applied_to}
+use Rattle.vx_history.specs.Sending.{Sent, sent_step, by_log, pumped_up_to, with_nothing, with_ignored, memory_acknowledged, disk_acknowledged, if_on_line}
+use Rattle.vx_history.specs.Receiving.{Received, takes, repeats, with_next, update_heard, phase_takes}
 use Rattle.vx_history.specs.LinkForms.{plain_link, with_plain, plain_receiver}
 use Rattle.vx_model.specs.declared.history.Line.{Line}
-use Rattle.vx_model.specs.declared.site.Mark.{Mark}
 use Rattle.vx_model.specs.declared.site.SiteState.TheVariants.{Up}
-use Rattle.vx_model.specs.declared.link.Link.{Link as PlainLink}
 use Rattle.vx_history.specs.declared.sender.SEvent.{SEvent}
-use Rattle.vx_history.specs.declared.sender.SEvent.TheVariants.{Pump as PumpLink, Tick as TickLink, Connect as ConnectLink, Hello as HearHello, NetAck as HearNetAck, DataAck as HearDataAck}
+use Rattle.vx_history.specs.declared.sender.SEvent.TheVariants.{Pump as PumpLink, Tick as TickLink, NetAck as HearNetAck, DataAck as HearDataAck}
 use Rattle.vx_history.specs.declared.sender.Action.TheVariants.{Updates}
 use Rattle.vx_history.specs.declared.receiver.RState.{RState}
 use Rattle.vx_history.specs.declared.receiver.RAction.{RAction}
 use Rattle.vx_history.specs.declared.receiver.RAction.TheVariants.{Ignored as Ignores, IgnoredAck, Take}
-use Rattle.vx_history.proofs.Updates.{by_test, same_line_self}
-use Rattle.vx_history.specs.declared.event.Event.TheVariants.{Apply, Pump, Tick, Deliver, Connect}
-use Rattle.vx_history.specs.declared.event.Said.TheVariants.{Ignored as IsIgnored, DoneAt}
-use Rattle.vx_history.specs.Sends.{is_linked, with_link, sending, packet, packets_of, updates, between, greeting, sent_by}
+use Rattle.vx_history.proofs.Updates.{at_place, same_line_self}
+use Rattle.vx_history.specs.declared.event.Event.TheVariants.{Pump, Tick, Deliver}
+use Rattle.vx_history.specs.declared.event.Said.TheVariants.{Ignored as IsIgnored, Taken as IsTaken}
+use Rattle.vx_history.specs.Sends.{is_linked, with_link, packet, updates, between, sent_by}
 use Rattle.vx_history.specs.Refusals.{Outcome, says, when_live, on_link, keeps_links, is_running}
 use Rattle.vx_model.specs.Sites.{is_up}
 use Rattle.vx_history.specs.Events
-use Rattle.vx_history.specs.Step.{step, done}
-use Rattle.vx_world.proofs.Pair.{At, Fit, link_event_at, sending_at, with_node_at, with_link_at, link_passes, work_passes, hears, passes, falls}
+use Rattle.vx_history.specs.Gatherings.{key_of, came_after, completes, left_by}
+use Rattle.vx_model.specs.declared.limits.TheConstants.{MOST_PACKETS}
+use Rattle.vx_history.specs.Step.{outcome_of, step, done}
+use Rattle.vx_world.proofs.Pair.{gathers_at, counted_at, At, Fit, link_event_at, sending_at, with_node_at, with_link_at, link_passes, hears, passes, falls}
 
 pub append-nil : {A : Type 0} (xs : List A) → xs ++ [] ≡ xs
 append-nil [] = refl
 append-nil (x ∷ xs) = ap (λ t. x ∷ t) (append-nil xs)
 
 -- by a test that comes out so
-by_true : {A : Type 0} (b : Bool) (x y : A) → b ≡ true → (if b then x else y) ≡ x
+pub by_true : {A : Type 0} (b : Bool) (x y : A) → b ≡ true → (if b then x else y) ≡ x
 by_true true x y e = refl
 by_true false x y e = absurd (cc)
 
-by_false : {A : Type 0} (b : Bool) (x y : A) → b ≡ false → (if b then x else y) ≡ y
+pub by_false : {A : Type 0} (b : Bool) (x y : A) → b ≡ false → (if b then x else y) ≡ y
 by_false true x y e = absurd (cc)
 by_false false x y e = refl
 
-both : (a b : Bool) → a ≡ true → b ≡ true → (a && b) ≡ true
+-- the network keeps what stands behind so many packets
+abbrev pub IsYoung : List Packet → ℕ → Type 0
+IsYoung ps k = length ps ≤ k + MOST_PACKETS
+
+pub both : (a b : Bool) → a ≡ true → b ≡ true → (a && b) ≡ true
 both true b e f = f
 both false b e f = absurd (cc)
 
 module _ (v : World) (p s : ℕ) (a b : Node) (l : Link) (ps : List Packet) (at : At v p s a b l ps) (fit : Fit p s a b l) where
-  nothing_sent : (w : World) (m : Link) → At w p s a b m (ps ++ []) → At w p s a b m ps
+  pub nothing_sent : (w : World) (m : Link) → At w p s a b m (ps ++ []) → At w p s a b m ps
   nothing_sent w m h = subst (λ (x : List Packet). At w p s a b m x) (append-nil ps) h
 
   -- what was sent counts as lost
   pub tick_at : At (step v (Tick p s)).world p s a b (record l { sent = l.net; trimmed = 0 }) ps
   tick_at =
-      nothing_sent (step v (Tick p s)).world (record l { sent = l.net; trimmed = 0 })
-      (subst (λ (o : Outcome). At o.world p s a b (record l { sent = l.net; trimmed = 0 }) (ps ++ [])) (sym (link_passes v p s a b l ps at (done (Events.link_event v p s TickLink)) fit))
-      (link_event_at v p s a b l ps at TickLink))
+      counted_at p s a b (record l { sent = l.net; trimmed = 0 }) ps v (Tick p s)
+      (nothing_sent (outcome_of v (Tick p s)).world (record l { sent = l.net; trimmed = 0 })
+      (subst (λ (o : Outcome). At o.world p s a b (record l { sent = l.net; trimmed = 0 }) (ps ++ []))
+      (sym (link_passes v p s a b l ps at (done (Events.link_event v p s TickLink)) fit))
+      (link_event_at v p s a b l ps at TickLink)))
 
-  live : (is_live (plain_link s l) && by_log l.mode) ≡ true
+  pub live : (is_live (plain_link s l) && by_log l.mode) ≡ true
   live =
       both (is_live (plain_link s l)) (by_log l.mode)
       (both l.attached (l.connected && not l.paused) fit.attached (both l.connected (not l.paused) fit.connected (ap not fit.running)))
       (ap by_log fit.mode)
 
-  pumps : sent_step (plain_link s l) PumpLink (Events.facts_of a a.line) ≡ pumped_up_to (plain_link s l) (max l.sent l.stored) (min a.safe (l.net + 8))
+  pub pumps : sent_step (plain_link s l) PumpLink (Events.facts_of a a.line) ≡ pumped_up_to (plain_link s l) (max l.sent l.stored) (min a.safe (l.net + 8))
   pumps = by_true (is_live (plain_link s l) && by_log l.mode) _ _ live
 
-  pump_passes : (o : Outcome) → on_link v p s (when_live v s (v.links p s) o) ≡ o
+  pub pump_passes : (o : Outcome) → on_link v p s (when_live v s (v.links p s) o) ≡ o
   pump_passes o =
       link_passes v p s a b l ps at _ fit
-      ∙ passes (not ((v.links p s).attached && (v.links p s).connected)) _ v _ (falls ((v.links p s).attached && (v.links p s).connected) (ap (λ (x : Link). x.attached && x.connected) at.at_l ∙ both l.attached l.connected fit.attached fit.connected))
+      ∙ passes (not ((v.links p s).attached && (v.links p s).connected)) _ v _
+      (falls ((v.links p s).attached && (v.links p s).connected)
+      (ap (λ (x : Link). x.attached && x.connected) at.at_l ∙ both l.attached l.connected fit.attached fit.connected))
       ∙ passes (v.links p s).paused _ v o (ap (λ (x : Link). x.paused) at.at_l ∙ fit.running)
 
   -- what the receiver may lack is sent
-  pub pump_at : (low high : ℕ) → max l.sent l.stored ≡ low → min a.safe (l.net + 8) ≡ high → low < high → At (step v (Pump p s)).world p s a b (record l { sent = high }) (ps ++ updates p s a.line (low + 1) (between (low + 1) high a.log))
+  pub pump_at : (low high : ℕ) → max l.sent l.stored ≡ low → min a.safe (l.net + 8) ≡ high → low < high
+      → At (step v (Pump p s)).world p s a b (record l { sent = high }) (ps ++ updates p s a.line (low + 1) (between (low + 1) high a.log))
   pump_at low high is_low is_high less =
       let r : Sent = record { link = record (plain_link s l) { sent = high }; action = Updates (low + 1) high } in
       let e : sent_step (plain_link s l) PumpLink (Events.facts_of a a.line) ≡ r =
-      pumps ∙ ap (λ k. pumped_up_to (plain_link s l) k (min a.safe (l.net + 8))) is_low ∙ ap (λ k. pumped_up_to (plain_link s l) low k) is_high ∙ by_true (ltb low high) _ _ (below low high less) in
-      subst (λ (o : Outcome). At o.world p s a b (record l { sent = high }) (ps ++ updates p s a.line (low + 1) (between (low + 1) high a.log))) (sym (pump_passes (done (Events.link_event v p s PumpLink))))
-      (subst (λ (x : Sent). At (Events.link_event v p s PumpLink) p s a b (with_plain l x.link) (ps ++ sent_by x.action p s a)) e (link_event_at v p s a b l ps at PumpLink))
+      pumps ∙ ap (λ k. pumped_up_to (plain_link s l) k (min a.safe (l.net + 8))) is_low ∙ ap (λ k. pumped_up_to (plain_link s l) low k) is_high ∙ by_true
+      (ltb low high) _ _ (below low high less) in
+      counted_at p s a b (record l { sent = high }) (ps ++ updates p s a.line (low + 1) (between (low + 1) high a.log)) v (Pump p s)
+      (subst (λ (o : Outcome). At o.world p s a b (record l { sent = high }) (ps ++ updates p s a.line (low + 1) (between (low + 1) high a.log)))
+      (sym (pump_passes (done (Events.link_event v p s PumpLink))))
+      (subst (λ (x : Sent). At (Events.link_event v p s PumpLink) p s a b (with_plain l x.link) (ps ++ sent_by x.action p s a)) e
+      (link_event_at v p s a b l ps at PumpLink)))
     where
       below : (m n : ℕ) → m < n → ltb m n ≡ true
       below m n h = grind (arith, nat_tests)
@@ -88,10 +101,13 @@ module _ (v : World) (p s : ℕ) (a b : Node) (l : Link) (ps : List Packet) (at 
   pump_none is_low most =
       let r : Sent = with_nothing (plain_link s l) in
       let e : sent_step (plain_link s l) PumpLink (Events.facts_of a a.line) ≡ r =
-      pumps ∙ ap (λ k. pumped_up_to (plain_link s l) k (min a.safe (l.net + 8))) is_low ∙ by_false (ltb l.sent (min a.safe (l.net + 8))) _ _ (above l.sent (min a.safe (l.net + 8)) most) in
-      nothing_sent (step v (Pump p s)).world l
+      pumps ∙ ap (λ k. pumped_up_to (plain_link s l) k (min a.safe (l.net + 8))) is_low ∙ by_false (ltb l.sent (min a.safe (l.net + 8))) _ _
+      (above l.sent (min a.safe (l.net + 8)) most) in
+      counted_at p s a b l ps v (Pump p s)
+      (nothing_sent (outcome_of v (Pump p s)).world l
       (subst (λ (o : Outcome). At o.world p s a b l (ps ++ [])) (sym (pump_passes (done (Events.link_event v p s PumpLink))))
-      (subst (λ (x : Sent). At (Events.link_event v p s PumpLink) p s a b (with_plain l x.link) (ps ++ sent_by x.action p s a)) e (link_event_at v p s a b l ps at PumpLink)))
+      (subst (λ (x : Sent). At (Events.link_event v p s PumpLink) p s a b (with_plain l x.link) (ps ++ sent_by x.action p s a)) e
+      (link_event_at v p s a b l ps at PumpLink))))
     where
       above : (m n : ℕ) → n ≤ m → ltb m n ≡ false
       above m n h = grind (arith, nat_tests)
@@ -99,54 +115,95 @@ module _ (v : World) (p s : ℕ) (a b : Node) (l : Link) (ps : List Packet) (at 
   -- ## Packets
 
   -- what is delivered is the packet of that number
-  delivered_is : (k : ℕ) (whole : Bool) (q : Packet) → slice_get ps k ≡ Some q → step v (Deliver (suc k) whole) ≡ Events.handed v q whole
-  delivered_is k whole q e = ap (λ (o : Option Packet). Events.delivered v (suc k) whole o) (ap (λ (x : List Packet). slice_get x k) at.sent ∙ e)
+  pub delivered_is : (k : ℕ) (q : Packet) → IsYoung ps k → slice_get ps k ≡ Some q → outcome_of v (Deliver (suc k)) ≡ Events.gathers q (Events.handed v q)
+  delivered_is k q young e =
+      let new : leb (suc k + MOST_PACKETS) (length ps) ≡ false = not_above (suc k + MOST_PACKETS) (length ps) (omega (arith, young)) in
+      ap (λ (x : List Packet). Events.delivered v (suc k) (if leb (suc k + MOST_PACKETS) (length x) then None else slice_get x k)) at.sent
+      ∙ ap (λ (c : Bool). Events.delivered v (suc k) (if c then None else slice_get ps k)) new
+      ∙ ap (λ (o : Option Packet). Events.delivered v (suc k) o) e
+    where
+      not_above : (m n : ℕ) → n < m → leb m n ≡ false
+      not_above m n h = grind (arith, nat_tests)
 
-  -- a part of a message changes nothing
-  pub part_at : (k : ℕ) (q : Packet) → slice_get ps k ≡ Some q → At (step v (Deliver (suc k) false)).world p s a b l ps
-  part_at k q e =
-      subst (λ (o : Outcome). At o.world p s a b l ps) (sym (delivered_is k false q e))
-      (by_test (λ (o : Outcome). At o.world p s a b l ps) (is_up (v.nodes q.target).state && is_running (v.nodes q.target).halted) (says v (Events.said_of_part (v.nodes q.target) q.line q.message)) (says v IsIgnored) (λ _. at) (λ _. at))
-
-  handed_is : (q : Packet) (n : Node) → v.nodes q.target ≡ n → n.state ≡ Up → n.halted ≡ None → Events.handed v q true ≡ Events.heard v q q.message
+  pub handed_is : (q : Packet) (n : Node) → v.nodes q.target ≡ n → n.state ≡ Up → n.halted ≡ None → Events.handed v q ≡ Events.heard v q q.message
   handed_is q n e up none = by_true (is_up (v.nodes q.target).state && is_running (v.nodes q.target).halted) _ _ (hears v p s a b l ps at q.target n e up none)
 
-  update_is : (n : ℕ) (x : Write) (action : RAction) → (update_heard (plain_receiver b) a.line n).action ≡ action → Events.update_heard v (packet p s a.line (Update n x)) n x ≡ Events.update_taken v (packet p s a.line (Update n x)) x action
-  update_is n x action e =
-      let q : Packet = packet p s a.line (Update n x) in
-      ap (λ (y : Node). if is_origin y.role then says v IsIgnored else Events.update_taken v q x (update_heard (plain_receiver y) a.line n).action) at.at_s
+  -- what comes of a packet, by what its target makes of it
+  pub deliver_via : (k : ℕ) (q : Packet) (o : Outcome) (c d : Node) (m : Link) (qs : List Packet) → IsYoung ps k → slice_get ps k ≡ Some q
+      → Events.handed v q ≡ o → At o.world p s c d m qs → At (step v (Deliver (suc k))).world p s c d m qs
+  deliver_via k q o c d m qs young e is h =
+      counted_at p s c d m qs v (Deliver (suc k))
+      (subst (λ (x : Outcome). At x.world p s c d m qs) (sym (delivered_is k q young e))
+      (gathers_at p s c d m qs v q (Events.handed v q) (subst (λ (x : Outcome). At x.world p s c d m qs) (sym is) h)))
+
+  abbrev pub the_update : (n : ℕ) (x : Write) (part : ℕ) → Packet
+  the_update n x part = packet p s a.line (Update n x) part
+
+  abbrev pub the_ack : ℕ → Packet
+  the_ack n = packet s p b.line (NetAck b.session n) 0
+
+  pub update_is : (n : ℕ) (x : Write) (part : ℕ) (action : RAction) → (update_heard (plain_receiver b) a.line n).action ≡ action
+      → Events.handed v (the_update n x part) ≡ Events.update_taken v (the_update n x part) x action
+  update_is n x part action e =
+      let q : Packet = the_update n x part in
+      handed_is q b at.at_s fit.up_b fit.runs_b
+      ∙ ap (λ (y : Node). if is_origin y.role then says v IsIgnored else Events.update_taken v q x (update_heard (plain_receiver y) a.line n).action) at.at_s
       ∙ by_false (is_origin b.role) _ _ fit.receives
       ∙ ap (λ (action : RAction). Events.update_taken v q x action) e
 
-  -- an update is taken
-  pub taken_at : (k n : ℕ) (x : Write) → slice_get ps k ≡ Some (packet p s a.line (Update n x)) → n ≡ length b.log + 1 → ltb (length b.log - b.safe) 16 ≡ true
-      → At (step v (Deliver (suc k) true)).world p s a (Events.with_write b x) l (ps ++ packet s p b.line (NetAck b.session n) ∷ [])
-  taken_at k n x e next room =
-      let q : Packet = packet p s a.line (Update n x) in
+  -- the next number, for which there is room, can be taken
+  pub can_take : (n : ℕ) → n ≡ length b.log + 1 → ltb (length b.log - b.safe) 16 ≡ true → (update_heard (plain_receiver b) a.line n).action ≡ Take n
+  can_take n next room =
       let t : RState = plain_receiver b in
       let taken : takes t a.line n ≡ true =
       both (same_line a.line b.line) (eqb n (length b.log + 1) && (ltb (length b.log - b.safe) 16 && phase_takes b.phase))
       (ap (λ (y : Line). same_line a.line y) fit.line ∙ same_line_self a.line)
-      (both (eqb n (length b.log + 1)) (ltb (length b.log - b.safe) 16 && phase_takes b.phase) (same n (length b.log + 1) next) (both (ltb (length b.log - b.safe) 16) (phase_takes b.phase) room fit.takes)) in
-      let action : (update_heard t a.line n).action ≡ Take n = ap (λ (r : Received). r.action) (by_true (takes t a.line n) (record { state = with_next t; action = Take n }) _ taken) in
-      subst (λ (o : Outcome). At o.world p s a (Events.with_write b x) l (ps ++ packet s p b.line (NetAck b.session n) ∷ []))
-      (sym (delivered_is k true q e ∙ handed_is q b at.at_s fit.up_b fit.runs_b ∙ update_is n x (Take n) action))
-      (subst (λ (y : Node). At (Events.from_memory (with_node v s (Events.with_write y x)) y q n) p s a (Events.with_write b x) l (ps ++ packet s p b.line (NetAck b.session n) ∷ [])) (sym at.at_s)
-      (sending_at (with_node v s (Events.with_write b x)) p s a (Events.with_write b x) l ps (with_node_at v p s a b l ps at (Events.with_write b x) fit.apart) (packet s p b.line (NetAck b.session n) ∷ [])))
+      (both (eqb n (length b.log + 1)) (ltb (length b.log - b.safe) 16 && phase_takes b.phase) (same n (length b.log + 1) next)
+      (both (ltb (length b.log - b.safe) 16) (phase_takes b.phase) room fit.takes)) in
+      ap (λ (r : Received). r.action) (by_true (takes t a.line n) (record { state = with_next t; action = Take n }) _ taken)
     where
       same : (m n : ℕ) → m ≡ n → eqb m n ≡ true
       same m n h = grind (arith, nat_tests)
 
+  -- an update that is whole is taken
+  pub taken_at : (k n : ℕ) (x : Write) (part : ℕ) → IsYoung ps k → slice_get ps k ≡ Some (the_update n x part) → n ≡ length b.log + 1
+      → ltb (length b.log - b.safe) 16 ≡ true → completes (v.gathering s) (the_update n x part) ≡ true
+      → At (step v (Deliver (suc k))).world p s a (Events.with_write b x) l (ps ++ the_ack n ∷ [])
+  taken_at k n x part young e next room whole =
+      let q : Packet = the_update n x part in
+      let c : Node = Events.with_write b x in
+      let qs : List Packet = ps ++ the_ack n ∷ [] in
+      deliver_via k q (Events.taken_if true v q x n) a c l qs young e
+      (update_is n x part (Take n) (can_take n next room) ∙ ap (λ (t : Bool). Events.taken_if t v q x n) whole)
+      (subst (λ (y : Node). At (Events.from_memory (with_node v s (Events.with_write y x)) y q n) p s a c l qs) (sym at.at_s)
+      (sending_at (with_node v s c) p s a c l ps (with_node_at v p s a b l ps at c fit.apart) (the_ack n ∷ [])))
+
+  -- of one that is not whole the part is kept
+  pub kept_at : (k n : ℕ) (x : Write) (part : ℕ) → IsYoung ps k → slice_get ps k ≡ Some (the_update n x part) → n ≡ length b.log + 1
+      → ltb (length b.log - b.safe) 16 ≡ true → completes (v.gathering s) (the_update n x part) ≡ false
+      → At (step v (Deliver (suc k))).world p s a b l ps × ((step v (Deliver (suc k))).world.gathering s ≡ Some
+      (record { key = key_of (the_update n x part); came = came_after (v.gathering s) (the_update n x part) }))
+  kept_at k n x part young e next room some =
+      let q : Packet = the_update n x part in
+      let is : Events.handed v q ≡ says v IsTaken = update_is n x part (Take n) (can_take n next room) ∙ ap (λ (t : Bool). Events.taken_if t v q x n) some in (
+        deliver_via k q (says v IsTaken) a b l ps young e is at,
+        ap (λ (o : Outcome). o.world.gathering s) (delivered_is k q young e)
+            ∙ ap (λ (o : Outcome). (Events.gathers q o).world.gathering s) is
+            ∙ at_place v.gathering s (left_by (v.gathering s) q)
+            ∙ ap (λ (t : Bool). if t then None else Some (record { key = key_of q; came = came_after (v.gathering s) q })) some,
+      )
+
   -- an update for which there is no room is ignored
-  pub ignored_at : (k n : ℕ) (x : Write) → slice_get ps k ≡ Some (packet p s a.line (Update n x)) → length b.log < n → ltb (length b.log - b.safe) 16 ≡ false → At (step v (Deliver (suc k) true)).world p s a b l ps
-  ignored_at k n x e past full =
-      let q : Packet = packet p s a.line (Update n x) in
+  pub ignored_at : (k n : ℕ) (x : Write) (part : ℕ) → IsYoung ps k → slice_get ps k ≡ Some (the_update n x part) → length b.log < n
+      → ltb (length b.log - b.safe) 16 ≡ false → At (step v (Deliver (suc k))).world p s a b l ps
+  ignored_at k n x part young e past full =
       let t : RState = plain_receiver b in
       let action : (update_heard t a.line n).action ≡ Ignores =
-      ap (λ (r : Received). r.action) (by_false (takes t a.line n) _ _ (no_room (same_line a.line b.line) (eqb n (length b.log + 1)) (ltb (length b.log - b.safe) 16) (phase_takes b.phase) full))
+      ap (λ (r : Received). r.action)
+      (by_false (takes t a.line n) _ _
+      (no_room (same_line a.line b.line) (eqb n (length b.log + 1)) (ltb (length b.log - b.safe) 16) (phase_takes b.phase) full))
       ∙ by_false (repeats t a.line n) (IgnoredAck t.last) Ignores (no_repeat (same_line a.line b.line) (leb n (length b.log)) (above n (length b.log) past)) in
-      subst (λ (o : Outcome). At o.world p s a b l ps)
-      (sym (delivered_is k true q e ∙ handed_is q b at.at_s fit.up_b fit.runs_b ∙ update_is n x Ignores action)) at
+      deliver_via k (the_update n x part) (says v IsIgnored) a b l ps young e (update_is n x part Ignores action) at
     where
       no_room : (c d e f : Bool) → e ≡ false → (c && (d && (e && f))) ≡ false
       no_room true true false f h = refl
@@ -161,38 +218,70 @@ module _ (v : World) (p s : ℕ) (a b : Node) (l : Link) (ps : List Packet) (at 
       above : (m n : ℕ) → n < m → leb m n ≡ false
       above m n h = grind (arith, nat_tests)
 
+  -- an update that the site has already is acknowledged again
+  pub again_at : (k n : ℕ) (x : Write) (part : ℕ) → IsYoung ps k → slice_get ps k ≡ Some (the_update n x part) → n ≤ length b.log
+      → At (step v (Deliver (suc k))).world p s a b l (ps ++ the_ack (length b.log) ∷ [])
+  again_at k n x part young e old =
+      let q : Packet = the_update n x part in
+      let t : RState = plain_receiver b in
+      let qs : List Packet = ps ++ the_ack (length b.log) ∷ [] in
+      let untaken : takes t a.line n ≡ false = none_left (same_line a.line b.line) (eqb n (length b.log + 1))
+      (ltb (length b.log - b.safe) 16 && phase_takes b.phase) (above n (length b.log) old) in
+      let known : repeats t a.line n ≡ true = both (same_line a.line b.line) (leb n (length b.log))
+      (ap (λ (y : Line). same_line a.line y) fit.line ∙ same_line_self a.line) (at_most n (length b.log) old) in
+      let action : (update_heard t a.line n).action ≡ IgnoredAck (length b.log) =
+      ap (λ (r : Received). r.action) (by_false (takes t a.line n) _ _ untaken) ∙ by_true (repeats t a.line n) (IgnoredAck t.last) Ignores known in
+      deliver_via k q (Events.update_taken v q x (IgnoredAck (length b.log))) a b l qs young e (update_is n x part (IgnoredAck (length b.log)) action)
+      (subst (λ (y : Node). At (Events.from_memory v y q (length b.log)) p s a b l qs) (sym at.at_s)
+      (sending_at v p s a b l ps at (the_ack (length b.log) ∷ [])))
+    where
+      none_left : (c d e : Bool) → d ≡ false → (c && (d && e)) ≡ false
+      none_left true false e h = refl
+      none_left false d e h = refl
+      none_left true true e h = absurd (cc)
+
+      above : (m n : ℕ) → m ≤ n → eqb m (n + 1) ≡ false
+      above m n h = grind (arith, nat_tests)
+
+      at_most : (m n : ℕ) → m ≤ n → leb m n ≡ true
+      at_most m n h = grind (arith, nat_tests)
+
   -- what the link hears of its receiver
-  pub link_at : (k : ℕ) (m : Message) (e : SEvent) → slice_get ps k ≡ Some (packet s p b.line m) → Events.heard v (packet s p b.line m) m ≡ Events.link_heard v (packet s p b.line m) e
-      → At (step v (Deliver (suc k) true)).world p s a b (with_plain l (sent_step (plain_link s l) e (Events.facts_of a b.line)).link) ps
-  link_at k m e found is =
-      let q : Packet = packet s p b.line m in
+  pub link_at : (k : ℕ) (m : Message) (e : SEvent) → IsYoung ps k → slice_get ps k ≡ Some (packet s p b.line m 0)
+      → Events.heard v (packet s p b.line m 0) m ≡ Events.link_heard v (packet s p b.line m 0) e
+      → At (step v (Deliver (suc k))).world p s a b (with_plain l (sent_step (plain_link s l) e (Events.facts_of a b.line)).link) ps
+  link_at k m e young found is =
+      let q : Packet = packet s p b.line m 0 in
       let r : Link → Node → Sent = λ x y. sent_step (plain_link s x) e (Events.facts_of y b.line) in
       let v' : World = with_link v p s (with_plain (v.links p s) (r (v.links p s) (v.nodes p)).link) in
       let goes : Events.link_heard v q e ≡ says v' (Events.said_of_link (r (v.links p s) (v.nodes p)).action) =
       by_true (keeps_links (v.nodes p).role && is_linked (v.links p s)) _ _
-      (both (keeps_links (v.nodes p).role) (is_linked (v.links p s)) (ap (λ (x : Node). keeps_links x.role) at.at_p ∙ fit.sends) (ap is_linked at.at_l ∙ fit.linked)) in
-      subst (λ (o : Outcome). At o.world p s a b (with_plain l (r l a).link) ps)
-      (sym (delivered_is k true q found ∙ handed_is q a at.at_p fit.up_a fit.runs_a ∙ is ∙ goes))
+      (both (keeps_links (v.nodes p).role) (is_linked (v.links p s)) (ap (λ (x : Node). keeps_links x.role) at.at_p ∙ fit.sends)
+      (ap is_linked at.at_l ∙ fit.linked)) in
+      deliver_via k q (says v' (Events.said_of_link (r (v.links p s) (v.nodes p)).action)) a b (with_plain l (r l a).link) ps young found
+      (handed_is q a at.at_p fit.up_a fit.runs_a ∙ is ∙ goes)
       (with_link_at_via (with_plain (v.links p s) (r (v.links p s) (v.nodes p)).link) (with_plain l (r l a).link)
       (ap (λ (x : Link). with_plain x (r x (v.nodes p)).link) at.at_l ∙ ap (λ (y : Node). with_plain l (r l y).link) at.at_p))
     where
       with_link_at_via : (m n : Link) → m ≡ n → At (with_link v p s m) p s a b n ps
       with_link_at_via m n e = subst (λ (x : Link). At (with_link v p s m) p s a b x ps) e (with_link_at v p s a b l ps at m)
 
-  ours : same_line b.line a.line ≡ true
+  pub ours : same_line b.line a.line ≡ true
   ours = ap (λ (y : Line). same_line y a.line) fit.line ∙ same_line_self a.line
 
-  heard_as : (r : Sent) → if_on_line (Events.facts_of a b.line) (plain_link s l) r ≡ r
+  pub heard_as : (r : Sent) → if_on_line (Events.facts_of a b.line) (plain_link s l) r ≡ r
   heard_as r = by_true (same_line b.line a.line) r (with_ignored (plain_link s l)) ours
 
   -- an acknowledgement from memory in the present session that tells something new
-  pub memory_at : (k n : ℕ) → slice_get ps k ≡ Some (packet s p b.line (NetAck b.session n)) → l.session ≡ b.session → l.net < n → At (step v (Deliver (suc k) true)).world p s a b (record l { net = n }) ps
-  memory_at k n e session new =
+  pub memory_at : (k n : ℕ) → IsYoung ps k → slice_get ps k ≡ Some (the_ack n) → l.session ≡ b.session → l.net < n
+      → At (step v (Deliver (suc k))).world p s a b (record l { net = n }) ps
+  memory_at k n young e session new =
       let t : (by_log l.mode && (eqb b.session l.session && ltb l.net n)) ≡ true =
-      both (by_log l.mode) (eqb b.session l.session && ltb l.net n) (ap by_log fit.mode) (both (eqb b.session l.session) (ltb l.net n) (same b.session l.session (sym session)) (below l.net n new)) in
-      subst (λ (x : Sent). At (step v (Deliver (suc k) true)).world p s a b (with_plain l x.link) ps)
+      both (by_log l.mode) (eqb b.session l.session && ltb l.net n) (ap by_log fit.mode)
+      (both (eqb b.session l.session) (ltb l.net n) (same b.session l.session (sym session)) (below l.net n new)) in
+      subst (λ (x : Sent). At (step v (Deliver (suc k))).world p s a b (with_plain l x.link) ps)
       (heard_as (memory_acknowledged (plain_link s l) b.session n) ∙ by_true (by_log l.mode && (eqb b.session l.session && ltb l.net n)) _ _ t)
-      (link_at k (NetAck b.session n) (HearNetAck b.session n) e refl)
+      (link_at k (NetAck b.session n) (HearNetAck b.session n) young e refl)
     where
       same : (m n : ℕ) → m ≡ n → eqb m n ≡ true
       same m n h = grind (arith, nat_tests)
@@ -200,111 +289,31 @@ module _ (v : World) (p s : ℕ) (a b : Node) (l : Link) (ps : List Packet) (at 
       below : (m n : ℕ) → m < n → ltb m n ≡ true
       below m n h = grind (arith, nat_tests)
 
-  -- an acknowledgement from disk that tells something new
-  pub disk_at : (k n : ℕ) → slice_get ps k ≡ Some (packet s p b.line (DataAck n)) → l.stored < n → At (step v (Deliver (suc k) true)).world p s a b (record l { stored = n; net = max l.net n }) ps
-  disk_at k n e new =
-      let t : (by_log l.mode && ltb l.stored n) ≡ true = both (by_log l.mode) (ltb l.stored n) (ap by_log fit.mode) (below l.stored n new) in
-      subst (λ (x : Sent). At (step v (Deliver (suc k) true)).world p s a b (with_plain l x.link) ps)
-      (heard_as (disk_acknowledged (plain_link s l) n) ∙ by_true (by_log l.mode && ltb l.stored n) _ _ t)
-      (link_at k (DataAck n) (HearDataAck n) e refl)
+  -- one that tells nothing new
+  pub stale_at : (k n : ℕ) → IsYoung ps k → slice_get ps k ≡ Some (the_ack n) → n ≤ l.net → At (step v (Deliver (suc k))).world p s a b l ps
+  stale_at k n young e old =
+      let t : (by_log l.mode && (eqb b.session l.session && ltb l.net n)) ≡ false = nothing (by_log l.mode) (eqb b.session l.session) (ltb l.net n)
+      (not_less l.net n old) in
+      subst (λ (x : Sent). At (step v (Deliver (suc k))).world p s a b (with_plain l x.link) ps)
+      (heard_as (memory_acknowledged (plain_link s l) b.session n) ∙ by_false (by_log l.mode && (eqb b.session l.session && ltb l.net n)) _ _ t)
+      (link_at k (NetAck b.session n) (HearNetAck b.session n) young e refl)
     where
-      below : (m n : ℕ) → m < n → ltb m n ≡ true
-      below m n h = grind (arith, nat_tests)
+      nothing : (c d e : Bool) → e ≡ false → (c && (d && e)) ≡ false
+      nothing true true e h = h
+      nothing true false e h = refl
+      nothing false d e h = refl
 
-  -- ## Greetings
-
-  greets_is : Events.greets a b ≡ true
-  greets_is =
-      both (is_up b.state) (is_running b.halted && (not (is_origin b.role) && same_line b.line a.line)) (ap is_up fit.up_b)
-      (both (is_running b.halted) (not (is_origin b.role) && same_line b.line a.line) (ap is_running fit.runs_b)
-      (both (not (is_origin b.role)) (same_line b.line a.line) (ap not fit.receives) ours))
-
-  -- a link that is connected is connected again: its receiver greets
-  pub connect_at : At (step v (Connect p s)).world p s a b l (ps ++ packet s p b.line (Hello b.session (length b.log) b.safe) ∷ [])
-  connect_at =
-      let w : World = Events.link_event v p s ConnectLink in
-      let m : Link = record l { connected = true } in
-      let back : Events.greeting_back v p s ≡ greeting s p b =
-      ap (λ (x : Node). if Events.greets x (v.nodes s) then greeting s p (v.nodes s) else []) at.at_p
-      ∙ ap (λ (y : Node). if Events.greets a y then greeting s p y else []) at.at_s
-      ∙ by_true (Events.greets a b) (greeting s p b) [] greets_is in
-      subst (λ (o : Outcome). At o.world p s a b l (ps ++ packet s p b.line (Hello b.session (length b.log) b.safe) ∷ []))
-      (sym (link_passes v p s a b l ps at (done (sending w (Events.greeting_back v p s))) fit))
-      (subst (λ (more : List Packet). At (sending w more) p s a b l (ps ++ greeting s p b)) (sym back)
-      (sending_at w p s a b l ps (subst (λ (x : Link). At w p s a b x ps) same (nothing_sent w m (link_event_at v p s a b l ps at ConnectLink))) (greeting s p b)))
-    where
-      same : (let m : Link = record l { connected = true } in m) ≡ l
-      same = ap (λ c. let m : Link = record l { connected = c } in m) (sym fit.connected)
-
-  -- the link knows what its receiver has
-  abbrev pub Knows : ℕ → Type 0
-  Knows k = (sent : ℕ) × At (step v (Deliver (suc k) true)).world p s a b (record l { session = b.session; net = length b.log; stored = b.safe; sent = sent }) ps
-
-  -- a greeting that tells no less than the link knows
-  pub hello_at : (k : ℕ) → slice_get ps k ≡ Some (packet s p b.line (Hello b.session (length b.log) b.safe)) → l.session ≤ b.session → l.stored ≤ b.safe → b.safe ≤ length b.log → (l.session ≡ b.session → l.net ≤ length b.log)
-      → Knows k
-  hello_at k e session stored fits net =
-      by_test (λ (x : PlainLink). At (step v (Deliver (suc k) true)).world p s a b (with_plain l x) ps → Knows k) (ltb l.session b.session)
-      (record (plain_link s l) { session = b.session; stored = max l.stored b.safe; net = max (length b.log) (max l.stored b.safe); sent = max (length b.log) (max l.stored b.safe) })
-      (record (plain_link s l) { net = max l.net (length b.log); stored = max l.stored b.safe })
-      (λ _ h. (max (length b.log) (max l.stored b.safe), told (max (length b.log) (max l.stored b.safe)) b.session (max (length b.log) (max l.stored b.safe)) (max l.stored b.safe) refl (omega (arith, stored, fits)) (omega (arith, stored)) h))
-      (λ not_new h. (l.sent, told l.sent l.session (max l.net (length b.log)) (max l.stored b.safe) (is_same l.session b.session session not_new) (omega (arith, net (is_same l.session b.session session not_new))) (omega (arith, stored)) h))
-      (subst (λ (x : Sent). At (step v (Deliver (suc k) true)).world p s a b (with_plain l x.link) ps)
-      (heard_as (greeted (plain_link s l) b.session (length b.log) b.safe)
-      ∙ by_false (ltb b.session l.session) _ _ (not_less b.session l.session session)
-      ∙ ap with_taken (by_true (by_log l.mode) _ _ (ap by_log fit.mode)))
-      (link_at k (Hello b.session (length b.log) b.safe) (HearHello b.session (length b.log) b.safe) e refl))
-    where
       not_less : (m n : ℕ) → n ≤ m → ltb m n ≡ false
       not_less m n h = grind (arith, nat_tests)
 
-      is_same : (m n : ℕ) → m ≤ n → ltb m n ≡ false → m ≡ n
-      is_same m n h t = grind (arith, nat_tests)
-
-      told : (sent session net stored : ℕ) → session ≡ b.session → net ≡ length b.log → stored ≡ b.safe → At (step v (Deliver (suc k) true)).world p s a b (record l { session = session; net = net; stored = stored; sent = sent }) ps
-          → At (step v (Deliver (suc k) true)).world p s a b (record l { session = b.session; net = length b.log; stored = b.safe; sent = sent }) ps
-      told sent session net stored x y z h =
-          subst (λ i. At (step v (Deliver (suc k) true)).world p s a b (record l { session = i; net = length b.log; stored = b.safe; sent = sent }) ps) x
-          (subst (λ i. At (step v (Deliver (suc k) true)).world p s a b (record l { session = session; net = i; stored = b.safe; sent = sent }) ps) y
-          (subst (λ i. At (step v (Deliver (suc k) true)).world p s a b (record l { session = session; net = net; stored = i; sent = sent }) ps) z h))
-
-  -- ## Records that wait
-
-  apply_passes : (count : ℕ) → step v (Apply s count 0) ≡ Events.apply_at v s count
-  apply_passes count =
-      passes (leb v.sites s) _ v _ at.given_s
-      ∙ work_passes v p s a b l ps at s b _ at.at_s fit.up_b fit.runs_b
-      ∙ by_false (is_origin (v.nodes s).role) _ _ (ap (λ (x : Node). is_origin x.role) at.at_s ∙ fit.receives)
-
-  -- nothing waits
-  pub apply_none : (count : ℕ) → count ≡ 0 → At (step v (Apply s count 0)).world p s a b l ps
-  apply_none count none =
-      let r : Node → Received = λ n. records_applied (plain_receiver n) count in
-      let e : Events.apply_at v s count ≡ says v (DoneAt (v.nodes s).safe) =
-      ap (λ (r : Received). Events.applied_by v s r.state r.action) (by_true (eqb (min count (length (v.nodes s).log - (v.nodes s).safe)) 0) _ _ (nothing count (length (v.nodes s).log - (v.nodes s).safe) none)) in
-      subst (λ (o : Outcome). At o.world p s a b l ps) (sym (apply_passes count ∙ e)) at
+  -- an acknowledgement from disk that tells something new
+  pub disk_at : (k n : ℕ) → IsYoung ps k → slice_get ps k ≡ Some (packet s p b.line (DataAck n) 0) → l.stored < n
+      → At (step v (Deliver (suc k))).world p s a b (record l { stored = n; net = max l.net n }) ps
+  disk_at k n young e new =
+      let t : (by_log l.mode && ltb l.stored n) ≡ true = both (by_log l.mode) (ltb l.stored n) (ap by_log fit.mode) (below l.stored n new) in
+      subst (λ (x : Sent). At (step v (Deliver (suc k))).world p s a b (with_plain l x.link) ps)
+      (heard_as (disk_acknowledged (plain_link s l) n) ∙ by_true (by_log l.mode && ltb l.stored n) _ _ t)
+      (link_at k (DataAck n) (HearDataAck n) young e refl)
     where
-      nothing : (m n : ℕ) → m ≡ 0 → eqb (min m n) 0 ≡ true
-      nothing m n h = grind (arith, nat_tests)
-
-  -- all that waits is applied, and acknowledged
-  pub apply_all : (count : ℕ) → count ≡ length b.log - b.safe → 0 < count
-      → (mark : Mark) × At (step v (Apply s count 0)).world p s a (Events.applied b (length b.log) mark) l (ps ++ packet s p b.line (DataAck (length b.log)) ∷ [])
-  apply_all count all some =
-      let t : RState = plain_receiver b in
-      let r : Received = with_applied t (t.waiting - count) in
-      let e : (n : Node) → Events.applied_by v s (records_applied t count).state (records_applied t count).action ≡ Events.applied_by v s r.state r.action =
-      λ n. ap (λ (r : Received). Events.applied_by v s r.state r.action) (by_false (eqb (min count t.waiting) 0) _ _ (something count t.waiting all some)) in
-      let number : applied_to (length b.log) (t.waiting - count) ≡ length b.log = omega (arith, all) in
-      let is : Events.apply_at v s count ≡ Events.applied_by v s r.state r.action =
-      ap (λ (n : Node). Events.applied_by v s (records_applied (plain_receiver n) count).state (records_applied (plain_receiver n) count).action) at.at_s ∙ e b in (
-        r.state.mark,
-        subst (λ (o : Outcome). At o.world p s a (Events.applied b (length b.log) r.state.mark) l (ps ++ packet s p b.line (DataAck (length b.log)) ∷ [])) (sym (apply_passes count ∙ is))
-            (subst (λ k. At (Events.acknowledged v s (Events.applied (v.nodes s) k r.state.mark)) p s a (Events.applied b (length b.log) r.state.mark) l (ps ++ packet s p b.line (DataAck (length b.log)) ∷ [])) (sym number)
-            (subst (λ (y : Node). At (Events.acknowledged v s (Events.applied y (length b.log) r.state.mark)) p s a (Events.applied b (length b.log) r.state.mark) l (ps ++ packet s p b.line (DataAck (length b.log)) ∷ [])) (sym at.at_s)
-            (subst (λ q. At (sending (with_node v s (Events.applied b (length b.log) r.state.mark)) (packets_of s q b.line (DataAck (length b.log)))) p s a (Events.applied b (length b.log) r.state.mark) l (ps ++ packet s p b.line (DataAck (length b.log)) ∷ [])) (sym fit.other)
-            (sending_at (with_node v s (Events.applied b (length b.log) r.state.mark)) p s a (Events.applied b (length b.log) r.state.mark) l ps (with_node_at v p s a b l ps at (Events.applied b (length b.log) r.state.mark) fit.apart) (packet s p b.line (DataAck (length b.log)) ∷ []))))),
-      )
-    where
-      something : (m n : ℕ) → m ≡ n → 0 < m → eqb (min m n) 0 ≡ false
-      something m n h k = grind (arith, nat_tests)
+      below : (m n : ℕ) → m < n → ltb m n ≡ true
+      below m n h = grind (arith, nat_tests)

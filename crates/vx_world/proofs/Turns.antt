@@ -1,20 +1,28 @@
 -- A turn of settling raises what is stored, and turns come to an end.
-use Rattle.std.proofs.Common.{◌≡◌, ℕ, ◌+◌, ◌-◌, ◌≤◌, ◌<◌, List, [], ◌∷◌, ◌++◌, length, take, drop, refl, ap, sym, ◌∙◌, subst, arith, Bool, true, false, length-append}
+use Rattle.std.proofs.Common.{◌≡◌, ℕ, zero, suc, ◌+◌, ◌*◌, ◌/◌, ◌-◌, ◌≤◌, ◌<◌, List, [], ◌∷◌, ◌++◌, length, take, drop, refl, ap, sym, ◌∙◌, subst, arith, Bool, true, false, length-append}
 use Rattle.std.specs.Prelude.{ltb, eqb, max, min, pred, slice_get, Some}
 use Rattle.std.proofs.lemmas.Bool.Decides.{nat_tests}
+use Rattle.std.proofs.Math.Nat.{lt-div-mul-add}
+use Rattle.std.proofs.Math.Numerals.{sub-one}
+use Rattle.std.proofs.lemmas.Nat.{div_below}
 use Rattle.std.proofs.lemmas.List.{length-take, length-drop}
-use Rattle.vx_model.specs.Content.{Write}
-use Rattle.vx_history.specs.World.{World, Node, Link, Packet, DataAck}
+use Rattle.std.specs.List.{AllByRecursion}
+use Rattle.vx_model.specs.Content.{Write, blocks_in}
+use Rattle.vx_model.specs.declared.history.Line.{Line}
+use Rattle.vx_model.specs.declared.limits.TheConstants.{MOST_CALL_BLOCKS, MOST_PACKETS}
+use Rattle.vx_history.specs.World.{World, Node, Link, Packet, Update, DataAck}
 use Rattle.vx_model.specs.declared.site.Mark.{Mark}
 use Rattle.vx_history.specs.declared.event.Event.{Event}
 use Rattle.vx_history.specs.declared.event.Event.TheVariants.{Apply, Pump, Tick}
-use Rattle.vx_history.specs.Sends.{packet, updates, between}
+use Rattle.vx_history.specs.Sends.{packet, updates, between, further_parts}
 use Rattle.vx_history.specs.Events.{applied}
 use Rattle.vx_history.specs.Step.{step, run}
 use Rattle.vx_world.specs.Settling.{deliver_each, deliver_new, delivery}
 use Rattle.vx_world.proofs.Pair.{At, Fit}
-use Rattle.vx_world.proofs.Told.{append-nil, tick_at, pump_at, pump_none, apply_none, apply_all, disk_at}
-use Rattle.vx_world.proofs.Batches.{in_new, acks, fit_log, fit_link, updates_run, acks_run}
+use Rattle.vx_world.proofs.Told.{append-nil, tick_at, pump_at, pump_none, disk_at}
+use Rattle.vx_world.proofs.ToldApart.{apply_none, apply_all}
+use Rattle.vx_world.proofs.Batches.{in_new, fit_log, fit_link}
+use Rattle.vx_world.proofs.Arriving.{Arrived, Told, parts_length, updates_any, acks_any}
 
 pub run_append : (w : World) (xs ys : List Event) → run w (xs ++ ys) ≡ run (run w xs) ys
 run_append w [] ys = refl
@@ -25,11 +33,11 @@ drop_front [] ys = refl
 drop_front (x ∷ xs) ys = drop_front xs ys
 
 -- what is new is what was sent
-pub new_is : (old w : World) (ps more : List Packet) → old.packets ≡ ps → w.packets ≡ ps ++ more → deliver_new old w ≡ deliver_each (length ps) 0 more
+pub new_is : (old w : World) (ps more : List Packet) → old.packets ≡ ps → w.packets ≡ ps ++ more → deliver_new old w ≡ deliver_each (length ps) more
 new_is old w ps more e f =
-    ap (λ (x : List Packet). deliver_each (length x) 0 (drop (length x) w.packets)) e
-    ∙ ap (λ (x : List Packet). deliver_each (length ps) 0 (drop (length ps) x)) f
-    ∙ ap (λ (x : List Packet). deliver_each (length ps) 0 x) (drop_front ps more)
+    ap (λ (x : List Packet). deliver_each (length x) (drop (length x) w.packets)) e
+    ∙ ap (λ (x : List Packet). deliver_each (length ps) (drop (length ps) x)) f
+    ∙ ap (λ (x : List Packet). deliver_each (length ps) x) (drop_front ps more)
 
 -- nothing is new
 pub nothing_new : (old w : World) (ps : List Packet) → old.packets ≡ ps → w.packets ≡ ps → deliver_new old w ≡ []
@@ -41,6 +49,44 @@ length_between low high log less most = some (low + 1) (take high log) (omega (a
     some : (n : ℕ) (xs : List Write) → n ≤ length xs → 0 < n → 0 < length (drop (pred n) xs)
     some n xs h k = omega (arith, h, k, length-drop (pred n) xs)
 
+-- ## The updates of a turn are few
+
+-- a write of as many blocks as a call may have
+abbrev pub IsSmall : Write → Type 0
+IsSmall x = blocks_in x.bytes ≤ MOST_CALL_BLOCKS
+
+small_parts : (number : ℕ) (x : Write) → IsSmall x → further_parts (Update number x) ≤ 8
+small_parts number x small =
+    let long : length x.bytes < length x.bytes / 512 * 512 + 512 = lt-div-mul-add (let some : 0 < 512 = omega arith in some) in
+    let few : (16 + length x.bytes + 1023) / 1024 < 10 = div_below (16 + length x.bytes + 1023) 1024 10 (omega arith) (omega (arith, long, small)) in
+    less ((16 + length x.bytes + 1023) / 1024) few
+  where
+    less : (n : ℕ) → n < 10 → pred n ≤ 8
+    less n few = subst (λ (i : ℕ). i ≤ 8) (sub-one n) (omega (arith, few))
+
+updates_short : (p s : ℕ) (line : Line) (n : ℕ) (xs : List Write) → AllByRecursion IsSmall xs → length (updates p s line n xs) ≤ 9 * length xs
+updates_short p s line n [] small = omega arith
+updates_short p s line n (x ∷ xs) (here, rest) =
+    let parts : length (updates p s line n (x ∷ xs)) ≡ suc (further_parts (Update n x)) + length (updates p s line (n + 1) xs) = parts_length p s line n x 0
+    (suc (further_parts (Update n x))) (updates p s line (n + 1) xs) in
+    omega (arith, parts, small_parts n x here, updates_short p s line (n + 1) xs rest)
+
+small_drop : (n : ℕ) (xs : List Write) → AllByRecursion IsSmall xs → AllByRecursion IsSmall (drop n xs)
+small_drop zero xs small = small
+small_drop (suc n) [] small = tt
+small_drop (suc n) (x ∷ xs) (here, rest) = small_drop n xs rest
+
+small_take : (n : ℕ) (xs : List Write) → AllByRecursion IsSmall xs → AllByRecursion IsSmall (take n xs)
+small_take zero xs small = tt
+small_take (suc n) [] small = tt
+small_take (suc n) (x ∷ xs) (here, rest) = (here, small_take n xs rest)
+
+-- at most 8 updates
+few_between : (low high : ℕ) (log : List Write) → high ≤ low + 8 → length (between (low + 1) high log) ≤ 8
+few_between low high log most =
+    let front : length (take high log) ≤ high = omega (arith, length-take high log) in
+    omega (arith, most, length-drop (pred (low + 1)) (take high log), front)
+
 by_value : {R : Type 0} (c : Bool) → (c ≡ true → R) → (c ≡ false → R) → R
 by_value true f g = f refl
 by_value false f g = g refl
@@ -51,13 +97,16 @@ is_less m n h = grind (arith, nat_tests)
 is_least : (m n : ℕ) → ltb m n ≡ false → n ≤ m
 is_least m n h = grind (arith, nat_tests)
 
-module _ (p s : ℕ) (a b : Node) (l : Link) (ps : List Packet) (fits : b.safe ≤ length b.log) (whole : a.safe ≤ length a.log) (fit : Fit p s a b l) (session : l.session ≡ b.session) (net : l.net ≡ length b.log) (stored : l.stored ≡ b.safe) where
+module _ (p s : ℕ) (a b : Node) (l : Link) (ps : List Packet) (fits : b.safe ≤ length b.log) (whole : a.safe ≤ length a.log)
+    (small : AllByRecursion IsSmall a.log) (fit : Fit p s a b l) (session : l.session ≡ b.session) (net : l.net ≡ length b.log)
+    (stored : l.stored ≡ b.safe) where
   -- what was sent in a turn: the updates that the receiver may lack, from its next number on
   pub record Sent (w : World) : Type 0 where
     pub high : ℕ
     pub writes : List Write
     pub at : At w p s a b (record l { sent = high; trimmed = 0 }) (ps ++ updates p s a.line (length b.log + 1) writes)
     pub some : length b.log < a.safe → 0 < length writes
+    pub few : length (updates p s a.line (length b.log + 1) writes) ≤ MOST_PACKETS
 
   pub sends : (w : World) → At w p s a b l ps → Sent (run w (Tick p s ∷ Pump p s ∷ []))
   sends w at =
@@ -72,12 +121,20 @@ module _ (p s : ℕ) (a b : Node) (l : Link) (ps : List Packet) (fits : b.safe �
         writes = between (length b.log + 1) high a.log;
         at = pump_at v p s a b m ps at_v fit_v (length b.log) high (omega (arith, net, stored, fits)) refl (is_less (length b.log) high less);
         some = λ _. length_between (length b.log) high a.log (is_less (length b.log) high less) (omega (arith, whole));
+        few = omega (
+          arith,
+          few_between (length b.log) high a.log (omega (arith, net)),
+          updates_short p s a.line (length b.log + 1) (between (length b.log + 1) high a.log)
+              (small_drop (pred (length b.log + 1)) (take high a.log) (small_take high a.log small)),
+        );
       })
       (λ least. record {
         high = l.net;
         writes = [];
-        at = subst (λ (x : List Packet). At (step v (Pump p s)).world p s a b m x) (sym (append-nil ps)) (pump_none v p s a b m ps at_v fit_v (omega (arith, net, stored, fits)) (omega (arith, net, is_least (length b.log) high least)));
+        at = subst (λ (x : List Packet). At (step v (Pump p s)).world p s a b m x) (sym (append-nil ps))
+            (pump_none v p s a b m ps at_v fit_v (omega (arith, net, stored, fits)) (omega (arith, net, is_least (length b.log) high least)));
         some = λ below. absurd (omega (arith, below, net, is_least (length b.log) high least));
+        few = omega arith;
       })
 
   -- what came of it: the receiver has so many writes more, and the link knows it
@@ -95,23 +152,35 @@ module _ (p s : ℕ) (a b : Node) (l : Link) (ps : List Packet) (fits : b.safe �
       let batch : List Packet = updates p s a.line (length b.log + 1) st.writes in
       let m : Link = record l { sent = st.high; trimmed = 0 } in
       let fit_m : Fit p s a b m = fit_link p s a b l l.session l.net l.stored st.high 0 fit in
-      subst Came (sym (run_append w (deliver_new v w) (deliver_new w (run w (deliver_new v w)))))
-      (subst (λ (es : List Event). Came (run (run w es) (deliver_new w (run w es)))) (sym (new_is v w ps batch at.sent st.at.sent))
-      (updates_run p s a (λ (u : World). Came (run u (deliver_new w u))) st.writes (length ps) (length b.log + 1) w b m (ps ++ batch) st.at fit_m (in_new ps batch) refl
-      (λ count u few some at_u.
-      let log : List Write = b.log ++ take count st.writes in
-      let told : List Packet = acks s p b.line b.session (length b.log + 1) count in
-      subst (λ (es : List Event). Came (run u es)) (sym (new_is w u (ps ++ batch) told st.at.sent at_u.sent))
-      (acks_run p s a Came count (length (ps ++ batch)) (length b.log + 1) u (record b { log = log }) m ((ps ++ batch) ++ told) at_u (fit_log p s a b m log fit_m) (in_new (ps ++ batch) told) session (omega (arith, net))
-      (λ x at_x. record {
-        count = count;
+      let first : World = run w (deliver_each (length ps) batch) in
+      let came : Arrived p s a b m (ps ++ batch) st.writes (length batch) first =
+      updates_any p s a st.writes (length ps) (length b.log + 1) w b m (ps ++ batch) st.at fit_m (in_new ps batch) refl
+      (omega (arith, st.few, length-append ps batch)) in
+      let log : List Write = b.log ++ take came.count st.writes in
+      let c : Node = record b { log = log } in
+      let all : List Packet = (ps ++ batch) ++ came.acks in
+      let second : World = run first (deliver_each (length (ps ++ batch)) came.acks) in
+      let told : Told p s a c m all (length b.log + came.count) came.acks second =
+      acks_any p s a c came.acks (length (ps ++ batch)) (length b.log + came.count) first m all came.at (fit_log p s a b m log fit_m)
+      (in_new (ps ++ batch) came.acks) came.are session (omega (arith, net))
+      (omega (arith, came.short, st.few, length-append (ps ++ batch) came.acks)) in
+      let known : told.net ≡ l.net + came.count = knows came.count told.net told.rises told.most (λ some. told.all (came.last some)) in
+      let over : Came second = record {
+        count = came.count;
         log = log;
         high = st.high;
-        packets = (ps ++ batch) ++ told;
-        at = at_x;
-        grown = omega (arith, length-append b.log (take count st.writes), length-take count st.writes, few);
-        some = λ below room. some (st.some below) room;
-      })))))
+        packets = all;
+        at = subst (λ (i : ℕ). At second p s a c (record l { net = i; sent = st.high; trimmed = 0 }) all) known told.at;
+        grown = omega (arith, length-append b.log (take came.count st.writes), length-take came.count st.writes, came.few);
+        some = λ below room. came.some (st.some below) room;
+      } in
+      subst Came (sym (run_append w (deliver_new v w) (deliver_new w (run w (deliver_new v w)))))
+      (subst (λ (es : List Event). Came (run (run w es) (deliver_new w (run w es)))) (sym (new_is v w ps batch at.sent st.at.sent))
+      (subst (λ (es : List Event). Came (run first es)) (sym (new_is w first (ps ++ batch) came.acks st.at.sent came.at.sent)) over))
+    where
+      knows : (count now : ℕ) → l.net ≤ now → now ≤ length b.log + count → (0 < count → now ≡ length b.log + count) → now ≡ l.net + count
+      knows zero now least most all = omega (arith, least, most, net)
+      knows (suc k) now least most all = omega (arith, all (omega arith), net)
 
 -- a turn is over: all that the receiver has is on its disks, and the link knows it
 pub record Turned (p s : ℕ) (a b : Node) (l : Link) (w : World) : Type 0 where
@@ -148,13 +217,16 @@ fit_applied p s a b l number mark fit = record {
   mode = fit.mode;
 }
 
-module _ (p s : ℕ) (a b : Node) (l : Link) (ps : List Packet) (fits : b.safe ≤ length b.log) (whole : a.safe ≤ length a.log) (fit : Fit p s a b l) (session : l.session ≡ b.session) (net : l.net ≡ length b.log) (stored : l.stored ≡ b.safe) where
-  pub closes : (w : World) → Came p s a b l ps fits whole fit session net stored w
+module _ (p s : ℕ) (a b : Node) (l : Link) (ps : List Packet) (fits : b.safe ≤ length b.log) (whole : a.safe ≤ length a.log)
+    (small : AllByRecursion IsSmall a.log) (fit : Fit p s a b l) (session : l.session ≡ b.session) (net : l.net ≡ length b.log)
+    (stored : l.stored ≡ b.safe) where
+  pub closes : (w : World) → Came p s a b l ps fits whole small fit session net stored w
       → let x = run w (Apply s (length (w.nodes s).log - (w.nodes s).safe) 0 ∷ []) in Turned p s a b l (run x (delivery w x))
   closes w came =
       let n : Node = record b { log = came.log } in
       subst (λ (y : Node). let x = run w (Apply s (length y.log - y.safe) 0 ∷ []) in Turned p s a b l (run x (delivery w x))) (sym came.at.at_s)
-      (by_value (eqb (length came.log - b.safe) 0) (λ none. at_rest (is_none (length came.log - b.safe) none)) (λ some. at_work (is_some (length came.log - b.safe) some)))
+      (by_value (eqb (length came.log - b.safe) 0) (λ none. at_rest (is_none (length came.log - b.safe) none))
+      (λ some. at_work (is_some (length came.log - b.safe) some)))
     where
       is_none : (m : ℕ) → eqb m 0 ≡ true → m ≡ 0
       is_none m h = grind (arith, nat_tests)
@@ -163,7 +235,8 @@ module _ (p s : ℕ) (a b : Node) (l : Link) (ps : List Packet) (fits : b.safe �
       is_some m h = grind (arith, nat_tests)
 
       fit_came : Fit p s a (record b { log = came.log }) (record l { net = l.net + came.count; sent = came.high; trimmed = 0 })
-      fit_came = fit_log p s a b (record l { net = l.net + came.count; sent = came.high; trimmed = 0 }) came.log (fit_link p s a b l l.session (l.net + came.count) l.stored came.high 0 fit)
+      fit_came = fit_log p s a b (record l { net = l.net + came.count; sent = came.high; trimmed = 0 }) came.log
+          (fit_link p s a b l l.session (l.net + came.count) l.stored came.high 0 fit)
 
       at_rest : length came.log - b.safe ≡ 0 → (let x = run w (Apply s (length came.log - b.safe) 0 ∷ []) in Turned p s a b l (run x (delivery w x)))
       at_rest none =
@@ -198,13 +271,14 @@ module _ (p s : ℕ) (a b : Node) (l : Link) (ps : List Packet) (fits : b.safe �
           let done = apply_all w p s a n m came.packets came.at fit_came (length came.log - b.safe) refl some in
           let mark : Mark = done.0 in
           let z : Node = applied n (length came.log) mark in
-          let ack : Packet = packet s p b.line (DataAck (length came.log)) in
+          let ack : Packet = packet s p b.line (DataAck (length came.log)) 0 in
           let at_x : At x p s a z m (came.packets ++ ack ∷ []) = done.1 in
           let fit_x : Fit p s a z m = fit_applied p s a n m (length came.log) mark fit_came in
-          let u : World = run x (deliver_each (length came.packets) 0 (ack ∷ [])) in
+          let u : World = run x (deliver_each (length came.packets) (ack ∷ [])) in
           let link : Link = record m { stored = length came.log; net = max m.net (length came.log) } in
           let at_u : At u p s a z link (came.packets ++ ack ∷ []) =
           disk_at x p s a z m (came.packets ++ ack ∷ []) at_x fit_x (length came.packets) (length came.log)
+          (omega (arith, length-append came.packets (ack ∷ [])))
           (first came.packets ack) (omega (arith, stored, some)) in
           let over : Turned p s a b l u = record {
             site = z;
@@ -221,8 +295,9 @@ module _ (p s : ℕ) (a b : Node) (l : Link) (ps : List Packet) (fits : b.safe �
             role = refl;
             bunker = refl;
           } in
-          subst (λ (es : List Event). Turned p s a b l (run x (es ++ deliver_new x (run x es)))) (sym (new_is w x came.packets (ack ∷ []) came.at.sent at_x.sent))
-          (subst (λ (v : World). Turned p s a b l v) (sym (run_append x (deliver_each (length came.packets) 0 (ack ∷ [])) (deliver_new x u)))
+          subst (λ (es : List Event). Turned p s a b l (run x (es ++ deliver_new x (run x es))))
+          (sym (new_is w x came.packets (ack ∷ []) came.at.sent at_x.sent))
+          (subst (λ (v : World). Turned p s a b l v) (sym (run_append x (deliver_each (length came.packets) (ack ∷ [])) (deliver_new x u)))
           (subst (λ (es : List Event). Turned p s a b l (run u es)) (sym (nothing_new x u (came.packets ++ ack ∷ []) at_x.sent at_u.sent)) over))
         where
           first : (xs : List Packet) (y : Packet) → slice_get (xs ++ y ∷ []) (length xs) ≡ Some y

@@ -2,4 +2,5 @@ pub mod Answers
 pub mod Confirming
 pub mod Grown
 pub mod Settling
-pub mod Sound
+pub mod Twins
+pub mod Lines

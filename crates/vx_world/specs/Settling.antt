@@ -1,24 +1,22 @@
 -- The events that settling a link stands for, and which links can be settled.
-use Rattle.std.specs.Prelude.{◌≡◌, ℕ, zero, suc, ◌+◌, ◌-◌, Bool, true, false, ◌&&◌, eqb, ltb, leb, if◌then◌else◌, List, [], ◌∷◌, ◌++◌, length, drop, None}
+use Rattle.std.specs.Prelude.{◌≡◌, ℕ, zero, suc, ◌-◌, Bool, true, false, ◌&&◌, ltb, leb, if◌then◌else◌, List, [], ◌∷◌, ◌++◌, length, drop, None}
 use Rattle.vx_history.specs.World.{Packet, World}
 use Rattle.vx_model.specs.declared.site.Role.TheVariants.{Secondary}
 use Rattle.vx_model.specs.declared.site.SiteState.TheVariants.{Up}
 use Rattle.vx_model.specs.declared.link.Mode.TheVariants.{Log}
 use Rattle.vx_history.specs.declared.event.Event.{Event}
 use Rattle.vx_history.specs.declared.event.Event.TheVariants.{Apply, Pump, Tick, Deliver, Connect}
-use Rattle.vx_history.specs.Sends.{is_linked, further_parts}
+use Rattle.vx_history.specs.Sends.{is_linked}
 use Rattle.vx_history.specs.Step.{step, run}
 
--- These packets are delivered in their order. So many packets stand before the first, and so many of its message were delivered.
-abbrev pub deliver_each : (before passed : ℕ) → List Packet → List Event
-deliver_each before passed [] = []
-deliver_each before passed (p ∷ ps) =
-    let whole = eqb passed (further_parts p.message) in
-    Deliver (suc before) whole ∷ deliver_each (suc before) (if whole then 0 else passed + 1) ps
+-- these packets are delivered in their order; so many stand before the first
+abbrev pub deliver_each : (before : ℕ) → List Packet → List Event
+deliver_each before [] = []
+deliver_each before (p ∷ ps) = Deliver (suc before) ∷ deliver_each (suc before) ps
 
 -- the packets that were sent since the world was the old one
 abbrev pub deliver_new : (old w : World) → List Event
-deliver_new old w = deliver_each (length old.packets) 0 (drop (length old.packets) w.packets)
+deliver_new old w = deliver_each (length old.packets) (drop (length old.packets) w.packets)
 
 -- They are delivered, and then what was sent in answer. Nothing is sent in answer to that: acknowledgements have none.
 abbrev pub delivery : (old w : World) → List Event

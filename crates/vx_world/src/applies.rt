@@ -3,7 +3,7 @@ ghost use Rattle.std.specs.Prelude.{◌≡◌, ◌<◌, length, IfOk};
 ghost use Rattle.vx_history.specs.Receiving.{marked_by};
 ghost use Rattle.vx_history.specs.Refusals.{says};
 ghost use Rattle.vx_history.specs.Events.{apply_at};
-ghost use Rattle.vx_history.specs.Step.{step};
+ghost use Rattle.vx_history.specs.Step.{outcome_of};
 ghost use Rattle.vx_history.specs.declared.receiver.RState.{RState};
 ghost use Rattle.vx_history.specs.declared.event.Event.TheVariants.{Apply};
 ghost use Rattle.vx_sites.specs.Shapes.{world_of};
@@ -16,7 +16,7 @@ use vx_sites::{Message, Packet, World};
 /// The next waiting records, so many, are durable at a receiver, and are acknowledged from disk. At a site where writes arise
 /// nothing changes. Refused with 1, 6 and 20.
 pub fn apply(world: &mut World, site: u32, count: u64, reached: u64) -> Result<Said, OutOfMemory>
-    ensures { IfOk result (λ said. says (world_of world.new) said ≡ step (world_of world.old) (Apply site count reached)) }
+    ensures { IfOk result (λ said. says (world_of world.new) said ≡ outcome_of (world_of world.old) (Apply site count reached)) }
 {
     if let Some(no) = refuse_site(world, site) {
         return Ok(Said::Refused(no));
@@ -49,6 +49,7 @@ fn apply_received(world: &mut World, site: u32, count: u64) -> Result<Said, OutO
         target: node.other,
         line: node.line,
         message: Message::DataAck { number },
+        part: 0,
     };
     world.apply(site, number, mark)?;
     world.send(ack)?;

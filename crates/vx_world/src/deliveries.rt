@@ -1,41 +1,65 @@
 // Packets that are handed to their targets.
 ghost use Rattle.std.specs.Prelude.{◌≡◌, ◌<◌, length, IfOk};
 ghost use Rattle.vx_history.specs.Refusals.{says};
-ghost use Rattle.vx_history.specs.Events.{handed, heard};
-ghost use Rattle.vx_history.specs.Step.{step};
+ghost use Rattle.vx_history.specs.Events.{handed, heard, gathers, is_taken as takes};
+ghost use Rattle.vx_history.specs.Step.{outcome_of};
 ghost use Rattle.vx_history.specs.declared.event.Event.TheVariants.{Deliver};
 ghost use Rattle.vx_sites.specs.Shapes.{world_of, packet_of, message_of};
 
 use crate::hearing::hear_on_link;
-use crate::receiving::{hear_update, say_of_part};
+use crate::receiving::hear_update;
 use crate::targets::is_open;
 use vx_history::{SEvent, Said};
 use vx_model::{Named, No, OutOfMemory};
 use vx_sites::{Message, Packet, World};
 
-/// A packet is handed to its target. Without another part of its message, where it has one, it changes nothing. Refused with 1.
-pub fn deliver(world: &mut World, number: u64, whole: bool) -> Result<Said, OutOfMemory>
-    ensures { IfOk result (λ said. says (world_of world.new) said ≡ step (world_of world.old) (Deliver number whole)) }
+/// A packet is handed to its target, which puts the parts of a message together. Refused with 1.
+pub fn deliver(world: &mut World, number: u64) -> Result<Said, OutOfMemory>
+    ensures { IfOk result (λ said. says (world_of world.new) said ≡ outcome_of (world_of world.old) (Deliver number)) }
 {
     match world.packet(number) {
-        Some(packet) => hand(world, &packet, whole),
+        Some(packet) => hand_on(world, &packet),
         None => Ok(Said::Refused(No::Unknown {
             what: Named::Number(number),
         })),
     }
 }
 
-// The packet comes to its target, which ignores it where it is not up or is halted.
-fn hand(world: &mut World, packet: &Packet, whole: bool) -> Result<Said, OutOfMemory>
-    ensures { IfOk result (λ said. says (world_of world.new) said ≡ handed (world_of world.old) (packet_of packet.now) whole) }
+// What is taken or kept takes the one place of assembly of the packet's target.
+fn hand_on(world: &mut World, packet: &Packet) -> Result<Said, OutOfMemory>
+    ensures { IfOk result (λ said. let p = packet_of packet.now in says (world_of world.new) said ≡ gathers p (handed (world_of world.old) p)) }
 {
-    if !is_open(world, packet.target) {
-        return Ok(Said::Ignored);
+    let said = hand(world, packet)?;
+    if is_taken(&said) {
+        world.gather(packet)?;
     }
-    if whole {
+    Ok(said)
+}
+
+fn is_taken(said: &Said) -> bool
+    ensures { result ≡ takes said.now }
+{
+    match said {
+        Said::Taken => true,
+        Said::Done
+        | Said::DoneAt(_)
+        | Said::Logged(_)
+        | Said::Pending(_)
+        | Said::Got(_)
+        | Said::Ignored
+        | Said::Recovered(_)
+        | Said::Refused(_) => false,
+    }
+}
+
+// The packet comes to its target, which ignores it where it is not up or is halted.
+fn hand(world: &mut World, packet: &Packet) -> Result<Said, OutOfMemory>
+    ensures { IfOk result (λ said. says (world_of world.new) said ≡ handed (world_of world.old) (packet_of packet.now)) }
+{
+    if is_open(world, packet.target) {
         hear(world, packet)
     } else {
-        Ok(say_of_part(world.node(packet.target), packet))
+        Ok(Said::Ignored)
     }
 }
 

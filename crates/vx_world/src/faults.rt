@@ -1,7 +1,7 @@
 // A disk fails.
 ghost use Rattle.std.specs.Prelude.{◌≡◌};
 ghost use Rattle.vx_history.specs.Refusals.{says};
-ghost use Rattle.vx_history.specs.Step.{step};
+ghost use Rattle.vx_history.specs.Step.{outcome_of};
 ghost use Rattle.vx_history.specs.declared.event.Event.TheVariants.{Fault};
 ghost use Rattle.vx_sites.specs.Shapes.{world_of};
 
@@ -12,7 +12,7 @@ use vx_sites::refusals::{refuse_not_up, refuse_site};
 
 /// The disk halts its site. Refused with 1 and 6.
 pub fn fault(world: &mut World, site: u32, disk: u32) -> Said
-    ensures { says (world_of world.new) result ≡ step (world_of world.old) (Fault site disk) }
+    ensures { says (world_of world.new) result ≡ outcome_of (world_of world.old) (Fault site disk) }
 {
     if let Some(no) = refuse_site(world, site) {
         return Said::Refused(no);

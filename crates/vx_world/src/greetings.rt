@@ -3,7 +3,7 @@ ghost use Rattle.std.specs.Prelude.{◌≡◌, ◌<◌, length, IfOk, OnOk};
 ghost use Rattle.vx_history.specs.Refusals.{says};
 ghost use Rattle.vx_history.specs.Sends.{sending};
 ghost use Rattle.vx_history.specs.Events.{greets, greeting_back};
-ghost use Rattle.vx_history.specs.Step.{step};
+ghost use Rattle.vx_history.specs.Step.{outcome_of};
 ghost use Rattle.vx_history.specs.declared.event.Event.TheVariants.{Connect};
 ghost use Rattle.vx_sites.specs.Shapes.{world_of, node_of};
 
@@ -18,7 +18,7 @@ use vx_sites::{Node, World};
 /// The link is connected. The site that it leads to greets the other, where it is up, not halted, and a receiver on its line.
 /// Refused with 1, 5, 6 and 20.
 pub fn connect(world: &mut World, from: u32, to: u32) -> Result<Said, OutOfMemory>
-    ensures { IfOk result (λ said. says (world_of world.new) said ≡ step (world_of world.old) (Connect from to)) }
+    ensures { IfOk result (λ said. says (world_of world.new) said ≡ outcome_of (world_of world.old) (Connect from to)) }
 {
     if let Some(no) = refuse_link(world, from, to) {
         return Ok(Said::Refused(no));

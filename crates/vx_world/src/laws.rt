@@ -1,5 +1,5 @@
 // What holds of every world, whatever happens to it.
-ghost use Rattle.std.specs.Prelude.{◌≡◌, ℕ, ◌≤◌, ◌<◌, List, [], take, drop, slice_get, Some, true, false};
+ghost use Rattle.std.specs.Prelude.{◌≡◌, ℕ, ◌≤◌, ◌<◌, Bool, List, [], take, drop, slice_get, Some, true, false};
 ghost use Rattle.vx_model.specs.Content.{Write, IsPrefixOf, IsNumber, fold_writes};
 ghost use Rattle.vx_history.specs.Good.{IsMade};
 ghost use Rattle.vx_history.specs.World.{World, Packet, Promise, Update, empty_world};
@@ -8,7 +8,19 @@ ghost use Rattle.vx_model.specs.declared.history.Line.{Line};
 ghost use Rattle.vx_history.specs.declared.event.Event.{Event};
 ghost use Rattle.vx_world.specs.Grown.{Grown};
 ghost use Rattle.vx_world.specs.Settling.{MaySettle, IsMet, deliver_new, delivery, greeting_events, turn, settling};
-ghost use Rattle.vx_world.specs.Sound.{Sound, IsKept};
+ghost use Rattle.vx_history.specs.Sound.{Sound, IsKept};
+ghost use Rattle.vx_history.specs.GoodWorld.{GoodWorld};
+ghost use Rattle.vx_history.specs.Likes.{IsLike};
+ghost use Rattle.vx_history.specs.Steps.{stopped_by};
+ghost use Rattle.vx_history.specs.Events.{packet_at};
+ghost use Rattle.vx_history.specs.Doubts.{After, Doubted, resolved, crashed_as};
+ghost use Rattle.vx_history.specs.declared.event.Event.TheVariants.{Deliver, Set, Link};
+ghost use Rattle.vx_history.specs.declared.event.LinkPart.TheVariants.{Joins, Made, Marked, Opened};
+ghost use Rattle.vx_model.specs.declared.link.SyncMode.{SyncMode};
+ghost use Rattle.vx_model.specs.declared.site.SiteState.TheVariants.{Up};
+ghost use Rattle.vx_history.specs.Stops.{Stops};
+ghost use Rattle.vx_world.specs.Lines.{NoDoubts, GoodDoubted};
+ghost use Rattle.vx_world.specs.Twins.{Twin, IsAlone, IsElsewhere, GoodTwin};
 ghost use Rattle.vx_history.specs.Step.{step, run};
 
 /// Whatever happens next, and whatever happens in turn: a sound world stays sound, and the world without sites is sound.
@@ -17,6 +29,24 @@ pub fn stays_sound()
     ensures step { (w : World) (e : Event) → Sound w → Sound (step w e).world }
     ensures run { (w : World) (events : List Event) → Sound w → Sound (run w events) }
     ensures always { (events : List Event) → Sound (run empty_world events) }
+{}
+
+/// The same of all that holds of every world: beside that, each write of a log fits the volumes and the ring of its site, and what a
+/// site puts together are parts of a message that was sent to it. So a world that comes of the one without sites is good.
+pub fn stays_good()
+    ensures empty { GoodWorld empty_world }
+    ensures step { (w : World) (e : Event) → GoodWorld w → GoodWorld (step w e).world }
+    ensures run { (w : World) (events : List Event) → GoodWorld w → GoodWorld (run w events) }
+    ensures always { (events : List Event) → GoodWorld (run empty_world events) }
+{}
+
+/// Worlds that differ in notes alone are good together, and every event makes such worlds of them, and says the same of both.
+pub fn looks_at_no_note()
+    ensures step { (w v : World) (e : Event) → IsLike w v → IsLike (step w e).world (step v e).world }
+    ensures said { (w v : World) (e : Event) → IsLike w v → (step v e).said ≡ (step w e).said }
+    ensures run { (w v : World) (events : List Event) → IsLike w v → IsLike (run w events) (run v events) }
+    ensures sound { (w v : World) → Sound w → IsLike w v → Sound v }
+    ensures good { (w v : World) → GoodWorld w → IsLike w v → GoodWorld v }
 {}
 
 /// Whatever the network loses, repeats or reorders, and whenever sites crash: what a receiver has is a first part of what is durable at
@@ -39,14 +69,39 @@ pub fn forgets_nothing()
     ensures number { (w : World) (events : List Event) (l : Line) (n : ℕ) (x : Write) → Sound w → IsMade (w.nodes l.origin) → IsNumber (w.lines l).held n x → IsNumber ((run w events).lines l).held n x }
 {}
 
-/// Settling a link brings all that is durable at its site to its receiver's disks. The receiver's greeting lets the two meet, each turn
+/// Settling a link of a good world brings all that is durable at its site to its receiver's disks. The receiver's greeting lets the two meet, each turn
 /// raises what is stored as long as that is below the head, and at the end it is the head, which has not changed. Where packets are
 /// delivered, with what is sent in answer, none is left.
 pub fn settles()
-    ensures meets { (w : World) (p s : ℕ) → Sound w → MaySettle w p s → IsMet (run w (greeting_events w p s)) p s }
-    ensures raises { (w : World) (p s : ℕ) → Sound w → IsMet w p s → (w.links p s).stored < (w.nodes p).safe → (w.links p s).stored < ((run w (turn w p s)).links p s).stored }
-    ensures meets_again { (w : World) (p s : ℕ) → Sound w → IsMet w p s → (w.links p s).stored < (w.nodes p).safe → IsMet (run w (turn w p s)) p s }
-    ensures ends { (w : World) (p s : ℕ) → Sound w → MaySettle w p s → ((run w (settling w p s)).links p s).stored ≡ ((run w (settling w p s)).nodes p).safe }
+    ensures meets { (w : World) (p s : ℕ) → GoodWorld w → MaySettle w p s → IsMet (run w (greeting_events w p s)) p s }
+    ensures raises { (w : World) (p s : ℕ) → GoodWorld w → IsMet w p s → (w.links p s).stored < (w.nodes p).safe → (w.links p s).stored < ((run w (turn w p s)).links p s).stored }
+    ensures meets_again { (w : World) (p s : ℕ) → GoodWorld w → IsMet w p s → (w.links p s).stored < (w.nodes p).safe → IsMet (run w (turn w p s)) p s }
+    ensures ends { (w : World) (p s : ℕ) → GoodWorld w → MaySettle w p s → ((run w (settling w p s)).links p s).stored ≡ ((run w (settling w p s)).nodes p).safe }
     ensures none_left { (old w : World) → deliver_new (run w (deliver_new old w)) (run w (delivery old w)) ≡ [] }
-    ensures head { (w : World) (p s : ℕ) → Sound w → MaySettle w p s → ((run w (settling w p s)).nodes p).safe ≡ (w.nodes p).safe }
+    ensures head { (w : World) (p s : ℕ) → GoodWorld w → MaySettle w p s → ((run w (settling w p s)).nodes p).safe ≡ (w.nodes p).safe }
+{}
+
+/// What happens elsewhere keeps two worlds that differ in one halted site and its links alone as they are in the rest, and both stay good.
+/// So what a halted site may be on its disks needs no look until it crashes; then it is one of the two.
+pub fn passes_a_halted_site()
+    ensures step { (s : ℕ) (w v : World) (e : Event) → IsElsewhere s e → Twin s w v → Twin s (step w e).world (step v e).world }
+    ensures good { (s : ℕ) (w v : World) (e : Event) → IsElsewhere s e → GoodTwin s w v → GoodTwin s (step w e).world (step v e).world }
+    ensures halts { (s disk : ℕ) (w : World) (e : Event) → GoodWorld w → (w.nodes s).state ≡ Up → IsAlone s w (step w e).world → GoodTwin s (stopped_by w s disk) (resolved (stopped_by w s disk) s (record { node = (stopped_by (step w e).world s disk).nodes s; row = (step w e).world.links s })) }
+    ensures crashes { (d : Doubted) (s kept : ℕ) (taken : Bool) (a : After) → d.after s ≡ Some a → GoodTwin s d.world (resolved d.world s a) → GoodWorld (crashed_as d s kept taken).world }
+{}
+
+/// The events that write a header of a log change one site and its links alone.
+pub fn changes_one_site()
+    ensures settings { (w : World) (s q : ℕ) (sync : SyncMode) → (w.nodes s).state ≡ Up → IsAlone s w (step w (Set s q sync)).world }
+    ensures heard { (w : World) (s number : ℕ) (p : Packet) → (w.nodes s).state ≡ Up → packet_at w.packets number ≡ Some p → p.target ≡ s → ((n : ℕ) (x : Write) → p.message ≡ Update n x → ⊥) → IsAlone s w (step w (Deliver number)).world }
+    ensures joins { (w : World) (s p : ℕ) (sync : SyncMode) → (w.nodes s).state ≡ Up → IsAlone s w (step w (Link p s sync Joins)).world }
+    ensures made { (w : World) (s q : ℕ) (sync : SyncMode) → (w.nodes s).state ≡ Up → IsAlone s w (step w (Link s q sync Made)).world }
+    ensures marked { (w : World) (s p : ℕ) (sync : SyncMode) → (w.nodes s).state ≡ Up → IsAlone s w (step w (Link p s sync Marked)).world }
+    ensures opened { (w : World) (s q : ℕ) (sync : SyncMode) → (w.nodes s).state ≡ Up → IsAlone s w (step w (Link s q sync Opened)).world }
+{}
+
+/// However a line ends that begins where no site is in doubt, its world is good, and so it is with the site that the line halted as it
+/// may be on its disks.
+pub fn lines_stay_good()
+    ensures { (d new : Doubted) (events : List Event) (fails : List (ℕ × ℕ)) → GoodWorld d.world → NoDoubts d → Stops d events fails new → GoodDoubted new }
 {}

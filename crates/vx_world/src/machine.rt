@@ -1,7 +1,7 @@
 // The step of the world: what an event makes of it, and what is answered.
 ghost use Rattle.std.specs.Prelude.{◌≡◌, IfOk, OnOk};
 ghost use Rattle.vx_history.specs.Refusals.{says};
-ghost use Rattle.vx_history.specs.Step.{step as step_of};
+ghost use Rattle.vx_history.specs.Step.{outcome_of};
 ghost use Rattle.vx_sites.specs.Shapes.{world_of};
 ghost use Rattle.vx_world.specs.Answers.{numbers_sent};
 
@@ -31,10 +31,10 @@ pub struct Answer {
     pub sent: Option<(u64, u64)>,
 }
 
-/// The event happens. A refused event changes nothing. Where memory ran out nothing is said of the world.
+/// The event happens, and headers are not counted. A refused event changes nothing. Where memory ran out nothing is said of the world.
 pub fn step(world: &mut World, event: &Event) -> Result<Answer, OutOfMemory>
-    ensures world { OnOk result (world_of world.new ≡ (step_of (world_of world.old) event.now).world) }
-    ensures said { IfOk result (λ answer. answer.said ≡ (step_of (world_of world.old) event.now).said) }
+    ensures world { OnOk result (world_of world.new ≡ (outcome_of (world_of world.old) event.now).world) }
+    ensures said { IfOk result (λ answer. answer.said ≡ (outcome_of (world_of world.old) event.now).said) }
     ensures sent { IfOk result (λ answer. answer.sent ≡ numbers_sent (world_of world.old).packets (world_of world.new).packets) }
 {
     let before = world.packets.len() as u64;
@@ -49,7 +49,7 @@ pub fn step(world: &mut World, event: &Event) -> Result<Answer, OutOfMemory>
 }
 
 fn happen(world: &mut World, event: &Event) -> Result<Said, OutOfMemory>
-    ensures { IfOk result (λ said. says (world_of world.new) said ≡ step_of (world_of world.old) event.now) }
+    ensures { IfOk result (λ said. says (world_of world.new) said ≡ outcome_of (world_of world.old) event.now) }
 {
     match event {
         Event::Site {
@@ -76,7 +76,7 @@ fn happen(world: &mut World, event: &Event) -> Result<Said, OutOfMemory>
             count,
             reached,
         } => apply(world, *site, *count, *reached),
-        Event::Deliver { packet, whole } => deliver(world, *packet, *whole),
+        Event::Deliver { packet } => deliver(world, *packet),
         Event::Wait { site, number } => wait(world, *site, *number),
         Event::Crash { site, kept } => crash(world, *site, *kept),
         Event::Recover { site, fails } => recover(world, *site, *fails),

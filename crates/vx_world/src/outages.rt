@@ -2,7 +2,7 @@
 ghost use Rattle.std.specs.Prelude.{◌≡◌, ◌<◌, length, IfOk, OnOk};
 ghost use Rattle.vx_history.specs.Refusals.{says};
 ghost use Rattle.vx_history.specs.Events.{kept_of, crash_world, crash_at};
-ghost use Rattle.vx_history.specs.Step.{step};
+ghost use Rattle.vx_history.specs.Step.{outcome_of};
 ghost use Rattle.vx_history.specs.declared.event.Event.TheVariants.{Crash};
 ghost use Rattle.vx_sites.specs.Shapes.{world_of};
 
@@ -14,7 +14,7 @@ use vx_sites::refusals::{has_writes, refuse_not_up, refuse_site};
 /// The site is down, and keeps its first writes: as many as are nearest to `kept` of those that a crash may keep. Refused with 1
 /// and 6.
 pub fn crash(world: &mut World, site: u32, kept: u64) -> Result<Said, OutOfMemory>
-    ensures { IfOk result (λ said. says (world_of world.new) said ≡ step (world_of world.old) (Crash site kept)) }
+    ensures { IfOk result (λ said. says (world_of world.new) said ≡ outcome_of (world_of world.old) (Crash site kept)) }
 {
     if let Some(no) = refuse_site(world, site) {
         return Ok(Said::Refused(no));
@@ -34,6 +34,7 @@ fn crash_site(world: &mut World, site: u32, kept: u64) -> Result<(), OutOfMemory
     let kept = (node.log.len() as u64).min(kept.max(node.safe));
     take_down(world, site, kept)?;
     world.lose_touch(site);
+    world.empty(site);
     Ok(())
 }
 

@@ -3,7 +3,7 @@ ghost use Rattle.std.specs.Prelude.{◌≡◌, ◌<◌, length, IfOk, OnOk};
 ghost use Rattle.vx_history.specs.Refusals.{says};
 ghost use Rattle.vx_history.specs.Sends.{sending, sent_by};
 ghost use Rattle.vx_history.specs.Events.{link_event};
-ghost use Rattle.vx_history.specs.Step.{step};
+ghost use Rattle.vx_history.specs.Step.{outcome_of};
 ghost use Rattle.vx_history.specs.declared.sender.SEvent.TheVariants.{Pump as PumpLink};
 ghost use Rattle.vx_history.specs.declared.event.Event.TheVariants.{Pump};
 ghost use Rattle.vx_sites.specs.Shapes.{world_of};
@@ -17,7 +17,7 @@ use vx_sites::refusals::{refuse_dead, refuse_link};
 /// What the receiver may lack is sent: durable writes, up to 8 numbers past the last acknowledged one. Refused with 1, 5, 6, 20,
 /// 14 and 23.
 pub fn pump(world: &mut World, from: u32, to: u32) -> Result<Said, OutOfMemory>
-    ensures { IfOk result (λ said. says (world_of world.new) said ≡ step (world_of world.old) (Pump from to)) }
+    ensures { IfOk result (λ said. says (world_of world.new) said ≡ outcome_of (world_of world.old) (Pump from to)) }
 {
     if let Some(no) = refuse_link(world, from, to) {
         return Ok(Said::Refused(no));

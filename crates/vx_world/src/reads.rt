@@ -2,7 +2,7 @@
 ghost use Rattle.std.specs.Prelude.{◌≡◌, ◌+◌, ◌<◌, ◌≤◌, ◌^◌, IfOk};
 ghost use Rattle.vx_model.specs.Content.{blocks_from};
 ghost use Rattle.vx_history.specs.Refusals.{says};
-ghost use Rattle.vx_history.specs.Step.{step, joined_blocks};
+ghost use Rattle.vx_history.specs.Step.{outcome_of, joined_blocks};
 ghost use Rattle.vx_history.specs.declared.event.Event.TheVariants.{Read};
 ghost use Rattle.vx_sites.specs.Shapes.{world_of, content_of};
 
@@ -20,7 +20,7 @@ pub fn read(
     start: u64,
     count: u32,
 ) -> Result<Said, OutOfMemory>
-    ensures { let w = world_of world.now in IfOk result (λ said. says w said ≡ step w (Read site volume start count)) }
+    ensures { let w = world_of world.now in IfOk result (λ said. says w said ≡ outcome_of w (Read site volume start count)) }
 {
     if let Some(no) = refuse_volume(world, site, volume) {
         return Ok(Said::Refused(no));

@@ -1,13 +1,12 @@
 // Updates that sites hear.
-ghost use Rattle.std.specs.Prelude.{◌≡◌, ◌<◌, ◌-◌, ◌&&◌, not, min, length, IfOk, OnOk, if◌then◌else◌};
-ghost use Rattle.vx_model.specs.Sites.{is_origin};
+ghost use Rattle.std.specs.Prelude.{◌≡◌, ◌<◌, ◌-◌, min, length, IfOk, OnOk};
 ghost use Rattle.vx_history.specs.Refusals.{says};
 ghost use Rattle.vx_history.specs.LinkForms.{plain_receiver};
-ghost use Rattle.vx_history.specs.Receiving.{received_step, takes};
-ghost use Rattle.vx_history.specs.Events.{from_memory, update_heard, update_taken, said_of_part};
+ghost use Rattle.vx_history.specs.Receiving.{received_step};
+ghost use Rattle.vx_history.specs.Events.{from_memory, update_heard, update_taken, taken_if};
+ghost use Rattle.vx_history.specs.Gatherings.{completes};
 ghost use Rattle.vx_history.specs.declared.receiver.REvent.TheVariants.{Update};
-ghost use Rattle.vx_history.specs.declared.event.Said.TheVariants.{Taken, Ignored};
-ghost use Rattle.vx_sites.specs.Shapes.{world_of, node_of, packet_of, message_of};
+ghost use Rattle.vx_sites.specs.Shapes.{world_of, node_of, packet_of};
 
 use vx_history::{RAction, REvent, RState, Said};
 use vx_model::{Line, OutOfMemory};
@@ -43,17 +42,26 @@ fn follow(
     ensures { IfOk result (λ said. says (world_of world.new) said ≡ update_taken (world_of world.old) (packet_of packet.now) write.now action.now) }
 {
     match action {
-        RAction::Take { ack } => {
-            world.receive(packet.target, *write)?;
-            acknowledge(world, packet, *ack)?;
-            Ok(Said::Taken)
-        }
+        RAction::Take { ack } => take(world, packet, write, *ack),
         RAction::IgnoredAck { number } => {
             acknowledge(world, packet, *number)?;
             Ok(Said::Ignored)
         }
         RAction::Nothing | RAction::Ignored | RAction::DataAck { .. } => Ok(Said::Ignored),
     }
+}
+
+// An update that is whole is taken and acknowledged; of one that is not the part is kept.
+fn take(world: &mut World, packet: &Packet, write: &Write, ack: u64) -> Result<Said, OutOfMemory>
+    requires { packet.now.target < length world.old.nodes.items }
+    ensures { IfOk result (λ said. let w = world_of world.old in let p = packet_of packet.now in says (world_of world.new) said ≡ taken_if (completes (w.gathering p.target) p) w p write.now ack) }
+{
+    if !world.completes(packet)? {
+        return Ok(Said::Taken);
+    }
+    world.receive(packet.target, *write)?;
+    acknowledge(world, packet, ack)?;
+    Ok(Said::Taken)
 }
 
 // The target acknowledges this number from memory.
@@ -70,33 +78,9 @@ fn acknowledge(world: &mut World, packet: &Packet, number: u64) -> Result<(), Ou
             session: node.session,
             number,
         },
+        part: 0,
     };
     world.send(answer)
-}
-
-/// What is said of one part of a message that has another: one of an update that could be taken is kept.
-pub fn say_of_part(node: &Node, packet: &Packet) -> Said
-    ensures { result ≡ said_of_part (node_of node.now) packet.now.line (message_of packet.now.message) }
-{
-    match &packet.message {
-        Message::Update { number, .. } => say_of_update(node, &packet.line, *number),
-        Message::Hello { .. } | Message::NetAck { .. } | Message::DataAck { .. } => Said::Ignored,
-    }
-}
-
-fn say_of_update(node: &Node, line: &Line, number: u64) -> Said
-    ensures { result ≡ (if not (is_origin node.now.role) && takes (plain_receiver (node_of node.now)) line.now number then Taken else Ignored) }
-{
-    if has_writes(&node.role) {
-        return Said::Ignored;
-    }
-    match find_action(node, line, number) {
-        RAction::Take { .. } => Said::Taken,
-        RAction::Nothing
-        | RAction::Ignored
-        | RAction::IgnoredAck { .. }
-        | RAction::DataAck { .. } => Said::Ignored,
-    }
 }
 
 // What the rule of receivers says of an update of this line.

@@ -4,7 +4,7 @@ ghost use Rattle.vx_history.specs.Sends.{sending};
 ghost use Rattle.vx_history.specs.Steps.{recovered};
 ghost use Rattle.vx_history.specs.Refusals.{says, unless_at_most};
 ghost use Rattle.vx_history.specs.Events.{recovery, recovery_greeting, come_back};
-ghost use Rattle.vx_history.specs.Step.{step};
+ghost use Rattle.vx_history.specs.Step.{outcome_of};
 ghost use Rattle.vx_history.specs.declared.event.Event.TheVariants.{Recover};
 ghost use Rattle.vx_sites.specs.Shapes.{world_of, node_of};
 
@@ -19,7 +19,7 @@ use vx_sites::{Message, Node, Packet, World};
 /// A site that is down comes up in its next session, and a receiver greets its primary. Where a disk fails the session has begun,
 /// and the site is down still. Refused with 1, with 9 where the site is bare, with 5 where it is not down, and with 19.
 pub fn recover(world: &mut World, site: u32, fails: Option<u32>) -> Result<Said, OutOfMemory>
-    ensures { IfOk result (λ said. says (world_of world.new) said ≡ step (world_of world.old) (Recover site fails)) }
+    ensures { IfOk result (λ said. says (world_of world.new) said ≡ outcome_of (world_of world.old) (Recover site fails)) }
 {
     if let Some(no) = refuse_site(world, site) {
         return Ok(Said::Refused(no));
@@ -89,6 +89,7 @@ fn greet(world: &mut World, site: u32) -> Result<(), OutOfMemory>
             number: node.log.len() as u64,
             stored: node.safe,
         },
+        part: 0,
     };
     world.send(hello)?;
     Ok(())

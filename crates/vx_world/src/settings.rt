@@ -4,7 +4,7 @@ ghost use Rattle.vx_history.specs.Sends.{is_linked};
 ghost use Rattle.vx_history.specs.Receiving.{phase_takes};
 ghost use Rattle.vx_history.specs.Refusals.{says, is_primary as primary, is_consistent, is_stale, is_empty, unless, links_of, follows as following};
 ghost use Rattle.vx_model.specs.declared.link.SyncMode.{SyncMode};
-ghost use Rattle.vx_history.specs.Step.{step, link_part};
+ghost use Rattle.vx_history.specs.Step.{outcome_of, link_part};
 ghost use Rattle.vx_history.specs.declared.event.Event.TheVariants.{Link as LinkSites, Set};
 ghost use Rattle.vx_history.specs.declared.event.LinkPart.TheVariants.{Joins, Made, Marked, Opened};
 ghost use Rattle.vx_model.specs.declared.no.No.TheVariants.{Role as WrongRole};
@@ -20,7 +20,7 @@ use vx_sites::{Link, World};
 
 /// The link has this setting from now on, and srlprot=fail. Refused with 1, 5, 6 and 20.
 pub fn set(world: &mut World, from: u32, to: u32, sync: SyncMode) -> Result<Said, OutOfMemory>
-    ensures { IfOk result (λ said. says (world_of world.new) said ≡ step (world_of world.old) (Set from to sync)) }
+    ensures { IfOk result (λ said. says (world_of world.new) said ≡ outcome_of (world_of world.old) (Set from to sync)) }
 {
     if let Some(no) = refuse_link_of_origin(world, from, to) {
         return Ok(Said::Refused(no));
@@ -40,7 +40,7 @@ pub fn link_sites(
     sync: SyncMode,
     part: LinkPart,
 ) -> Result<Said, OutOfMemory>
-    ensures { IfOk result (λ said. says (world_of world.new) said ≡ step (world_of world.old) (LinkSites from to sync part)) }
+    ensures { IfOk result (λ said. says (world_of world.new) said ≡ outcome_of (world_of world.old) (LinkSites from to sync part)) }
 {
     if let Some(no) = refuse_site(world, from) {
         return Ok(Said::Refused(no));
@@ -83,6 +83,7 @@ fn join(world: &mut World, from: u32, to: u32) -> Result<Said, OutOfMemory>
         return Ok(Said::Refused(no));
     }
     world.join(from, to)?;
+    world.empty(to);
     Ok(Said::Done)
 }
 

@@ -1,7 +1,7 @@
 // Sites that are made.
 ghost use Rattle.std.specs.Prelude.{◌≡◌, IfOk};
 ghost use Rattle.vx_history.specs.Refusals.{says};
-ghost use Rattle.vx_history.specs.Step.{step};
+ghost use Rattle.vx_history.specs.Step.{outcome_of};
 ghost use Rattle.vx_history.specs.declared.event.Event.TheVariants.{Site, Raw};
 ghost use Rattle.vx_sites.specs.Shapes.{world_of};
 
@@ -18,7 +18,7 @@ pub fn add_site(
     disks: u32,
     blocks: u64,
 ) -> Result<Said, OutOfMemory>
-    ensures { IfOk result (λ said. says (world_of world.new) said ≡ step (world_of world.old) (Site name.now disks blocks)) }
+    ensures { IfOk result (λ said. says (world_of world.new) said ≡ outcome_of (world_of world.old) (Site name.now disks blocks)) }
 {
     if let Some(no) = refuse_new_site(world, name, disks, blocks) {
         return Ok(Said::Refused(no));
@@ -29,7 +29,7 @@ pub fn add_site(
 
 /// A bare site becomes a raw set. Refused with 1, 5 and 4.
 pub fn make_raw(world: &mut World, site: u32) -> Result<Said, OutOfMemory>
-    ensures { IfOk result (λ said. says (world_of world.new) said ≡ step (world_of world.old) (Raw site)) }
+    ensures { IfOk result (λ said. says (world_of world.new) said ≡ outcome_of (world_of world.old) (Raw site)) }
 {
     if let Some(no) = refuse_site(world, site) {
         return Ok(Said::Refused(no));

@@ -1,7 +1,7 @@
 // What was sent on a link counts as lost.
 ghost use Rattle.std.specs.Prelude.{◌≡◌, IfOk};
 ghost use Rattle.vx_history.specs.Refusals.{says};
-ghost use Rattle.vx_history.specs.Step.{step};
+ghost use Rattle.vx_history.specs.Step.{outcome_of};
 ghost use Rattle.vx_history.specs.declared.event.Event.TheVariants.{Tick};
 ghost use Rattle.vx_sites.specs.Shapes.{world_of};
 
@@ -13,7 +13,7 @@ use vx_sites::refusals::refuse_link;
 
 /// Sending begins again behind what is acknowledged. Refused with 1, 5, 6 and 20.
 pub fn tick(world: &mut World, from: u32, to: u32) -> Result<Said, OutOfMemory>
-    ensures { IfOk result (λ said. says (world_of world.new) said ≡ step (world_of world.old) (Tick from to)) }
+    ensures { IfOk result (λ said. says (world_of world.new) said ≡ outcome_of (world_of world.old) (Tick from to)) }
 {
     if let Some(no) = refuse_link(world, from, to) {
         return Ok(Said::Refused(no));

@@ -1,7 +1,7 @@
 // A site is asked whether a write is confirmed.
 ghost use Rattle.std.specs.Prelude.{◌≡◌, ◌<◌, length, IfOk};
 ghost use Rattle.vx_history.specs.Refusals.{says};
-ghost use Rattle.vx_history.specs.Step.{step};
+ghost use Rattle.vx_history.specs.Step.{outcome_of};
 ghost use Rattle.vx_history.specs.declared.event.Event.TheVariants.{Wait};
 ghost use Rattle.vx_sites.specs.Refusing.{Refuses};
 ghost use Rattle.vx_sites.specs.Shapes.{world_of};
@@ -15,7 +15,7 @@ use vx_sites::refusals::{has_writes, refuse_site, refuse_work};
 /// Whether the write of this number is confirmed as the site's links say: done, with a promise by each attached link that fails
 /// writes, or pending. Refused with 1, 6, 20 and 5, with 1 for a number that is not durable, and where a link can't confirm it.
 pub fn wait(world: &mut World, site: u32, number: u64) -> Result<Said, OutOfMemory>
-    ensures { IfOk result (λ said. says (world_of world.new) said ≡ step (world_of world.old) (Wait site number)) }
+    ensures { IfOk result (λ said. says (world_of world.new) said ≡ outcome_of (world_of world.old) (Wait site number)) }
 {
     if let Some(no) = refuse_site(world, site) {
         return Ok(Said::Refused(no));

@@ -133,18 +133,8 @@ fn wait(number: u64) -> Event {
     Event::Wait { site: 0, number }
 }
 
-fn part(packet: u64) -> Event {
-    Event::Deliver {
-        packet,
-        whole: false,
-    }
-}
-
 fn deliver(packet: u64) -> Event {
-    Event::Deliver {
-        packet,
-        whole: true,
-    }
+    Event::Deliver { packet }
 }
 
 const PUMP: Event = Event::Pump { site: 0, to: 1 };
@@ -157,7 +147,7 @@ const CONNECT: Event = Event::Connect { site: 0, to: 1 };
 
 #[test]
 fn a_write_fails_where_its_link_is_cut(rt: HostRuntime) -> Result<(), Fail> {
-    let mut world = World::new(rt.alloc());
+    let mut world = World::new(rt.alloc())?;
     assert_eq!(rt;
         first_wrong(&mut world, &two_sites(64, SyncMode::Fail))?,
         None
@@ -183,7 +173,7 @@ fn a_write_fails_where_its_link_is_cut(rt: HostRuntime) -> Result<(), Fail> {
 fn a_receiver_that_crashes_forgets_what_it_acknowledged_from_memory(
     rt: HostRuntime,
 ) -> Result<(), Fail> {
-    let mut world = World::new(rt.alloc());
+    let mut world = World::new(rt.alloc())?;
     assert_eq!(rt;
         first_wrong(&mut world, &two_sites(64, SyncMode::Fail))?,
         None
@@ -222,7 +212,7 @@ fn filling() -> [Row; 3] {
 
 #[test]
 fn a_full_log_stalls_writes_until_the_link_is_settled(rt: HostRuntime) -> Result<(), Fail> {
-    let mut world = World::new(rt.alloc());
+    let mut world = World::new(rt.alloc())?;
     assert_eq!(rt;
         first_wrong(&mut world, &two_sites(10, SyncMode::Off))?,
         None
@@ -236,7 +226,7 @@ fn a_full_log_stalls_writes_until_the_link_is_settled(rt: HostRuntime) -> Result
         (PUMP, "done", 0, Some((3, 6))),
         (deliver(3), "taken", 0, Some((7, 7))),
         (deliver(4), "taken", 0, Some((8, 8))),
-        (part(5), "taken", 0, None),
+        (deliver(5), "taken", 0, None),
         (deliver(6), "taken", 0, Some((9, 9))),
         (deliver(7), "taken", 0, None),
         (deliver(8), "taken", 0, None),
@@ -271,7 +261,7 @@ fn a_full_log_stalls_writes_until_the_link_is_settled(rt: HostRuntime) -> Result
 
 #[test]
 fn a_full_log_fails_writes_where_the_link_is_cut(rt: HostRuntime) -> Result<(), Fail> {
-    let mut world = World::new(rt.alloc());
+    let mut world = World::new(rt.alloc())?;
     assert_eq!(rt;
         first_wrong(&mut world, &two_sites(10, SyncMode::Off))?,
         None
@@ -287,7 +277,7 @@ fn a_full_log_fails_writes_where_the_link_is_cut(rt: HostRuntime) -> Result<(), 
 
 #[test]
 fn updates_are_taken_in_order_and_once(rt: HostRuntime) -> Result<(), Fail> {
-    let mut world = World::new(rt.alloc());
+    let mut world = World::new(rt.alloc())?;
     assert_eq!(rt;
         first_wrong(&mut world, &two_sites(64, SyncMode::Off))?,
         None
@@ -309,7 +299,7 @@ fn updates_are_taken_in_order_and_once(rt: HostRuntime) -> Result<(), Fail> {
 
 #[test]
 fn a_site_has_four_links_at_most(rt: HostRuntime) -> Result<(), Fail> {
-    let mut world = World::new(rt.alloc());
+    let mut world = World::new(rt.alloc())?;
     let names = [b"a", b"b", b"c", b"d", b"e", b"f"];
     for (at, name) in names.iter().enumerate() {
         let rows = [site(name, 64), raw(at as u32)];

@@ -4,7 +4,7 @@ ghost use Rattle.vx_model.specs.Content.{blocks_in};
 ghost use Rattle.vx_model.specs.Answer.{is_wrong_count, is_too_large};
 ghost use Rattle.vx_history.specs.Refusals.{says, unless, unless_at_most};
 ghost use Rattle.vx_history.specs.Events.{links_changed, put_in, admitted, written_if};
-ghost use Rattle.vx_history.specs.Step.{step};
+ghost use Rattle.vx_history.specs.Step.{outcome_of};
 ghost use Rattle.vx_model.specs.declared.no.No.TheVariants.{Size as WrongSize};
 ghost use Rattle.vx_history.specs.declared.event.Event.TheVariants.{Write as WriteAt};
 ghost use Rattle.vx_sites.specs.Refusing.{Refuses};
@@ -27,7 +27,7 @@ pub fn write(
     bytes: Blocks,
     fails: Option<u32>,
 ) -> Result<Said, OutOfMemory>
-    ensures { IfOk result (λ said. says (world_of world.new) said ≡ step (world_of world.old) (WriteAt site volume start bytes fails)) }
+    ensures { IfOk result (λ said. says (world_of world.new) said ≡ outcome_of (world_of world.old) (WriteAt site volume start bytes fails)) }
 {
     if let Some(no) = refuse_volume(world, site, volume) {
         return Ok(Said::Refused(no));

@@ -1,5 +1,5 @@
 -- Whether a block of zeros is taken for a header.
-use Rattle.std.proofs.Common.{sym, subst}
+use Rattle.std.proofs.Common.{subst}
 use Rattle.vx_ringio.specs.Reading.{SeesTop}
 use Rattle.vx_node.proofs.Bares.{zeros_seen, never_valid, never_broken}
 use Rattle.vx_node.proofs.engine.is_log.Goals as goal

@@ -1,6 +1,6 @@
 -- A log that is given up by a site that is up.
 use Rattle.std.proofs.Common.{sym, ◌∙◌, ap}
-use Rattle.vx_node.proofs.Rooming.{reclaimed_at, reclaimed_cut, freed_at, save_units}
+use Rattle.vx_node.proofs.Rooming.{reclaimed_at, reclaimed_cut, freed_at}
 use Rattle.vx_node.proofs.engine.reclaim_group.Goals as goal
 
 pub returns-then-is_down-clause-made : goal.returns-then-is_down-clause-made

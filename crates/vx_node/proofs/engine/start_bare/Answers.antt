@@ -1,5 +1,5 @@
 -- Each case of the start of a bare site.
-use Rattle.std.proofs.Common.{◌≡◌, ◌<◌, ◌∙◌, IsTrue, sym, subst, refl, rules, arith}
+use Rattle.std.proofs.Common.{◌∙◌, IsTrue, sym, subst, refl, rules, arith}
 use Rattle.vx_model.specs.declared.units.Units.{Units}
 use Rattle.vx_rvg.specs.Views.{Placed}
 use Rattle.vx_node.proofs.Bares.{clean_read, clean_untold, bare_came, bare_refused, bare_unread, start_rose}

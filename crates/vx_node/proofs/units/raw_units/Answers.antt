@@ -1,5 +1,5 @@
 use Rattle.std.proofs.Common.{ap, arith, length, ℕ, ◌-◌}
-use Rattle.vx_node.proofs.Values.{raw_more, length-values_from}
+use Rattle.vx_events.proofs.Values.{raw_more, length-values_from}
 use Rattle.vx_node.proofs.units.raw_units.Goals as goal
 
 pub push-requires : goal.push-requires

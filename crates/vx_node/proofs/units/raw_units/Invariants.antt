@@ -1,5 +1,5 @@
 use Rattle.std.proofs.Common.{◌≡◌, ◌-◌}
-use Rattle.vx_node.specs.Facts.{values_from}
+use Rattle.vx_events.specs.Facts.{values_from}
 use Rattle.vx_node.proofs.units.raw_units.Given as goal
 
 abbrev pub invariant-loop-k : goal.invariant-loop-k

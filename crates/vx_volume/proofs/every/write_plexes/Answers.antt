@@ -23,7 +23,7 @@ loop-plex-preserved g c =
     ]
 
 pub returns-then-done-clause-ends : goal.returns-then-done-clause-ends
-returns-then-done-clause-ends g c = ends_some c.args.config.now c.args.vol _ _ _ _ _ _ _ c.requires.fits.few (omega (arith, c.loop-plex-test.false)) c.loop-plex.invariant.loop c.if-done.true
+returns-then-done-clause-ends g c = (ends_some c.args.config.now c.args.vol _ _ _ _ _ _ _ c.requires.fits.few (omega (arith, c.loop-plex-test.false)) c.loop-plex.invariant.loop c.if-done.true, c.loop-plex.invariant.loop.blames)
 
 pub returns-else-done-clause-ends : goal.returns-else-done-clause-ends
 returns-else-done-clause-ends g c = ends_none c.args.config.now c.args.vol _ _ _ _ _ _ _ c.requires.fits.few (omega (arith, c.loop-plex-test.false)) c.loop-plex.invariant.loop c.if-done.false c.requires.some

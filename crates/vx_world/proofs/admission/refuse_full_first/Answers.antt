@@ -14,5 +14,7 @@ returns-in-Some-refuse_one_full c = λ ss was.
     let n = w.nodes c.args.site in
     let row = w.links c.args.site in
     let l = plain_link c.in-Some.to (row c.in-Some.to) in
-    held_first (held_by_room c.args.need n.ring l (log_blocks (drop (hold l) n.log))) (first_full c.args.need n.ring (zip (plain_links row ss) (uses n row ss))) c.in-Some-refuse_one_full.no c.in-Some-refuse_one_full.ensures
-    ∙ sym (ap (λ (to : Option ℕ). refusal_if (first_full c.args.need n.ring (zip (plain_links row (put_before to ss)) (uses n row (put_before to ss))))) c.in-Some.is)
+    held_first (held_by_room c.args.need n.ring l (log_blocks (drop (hold l) n.log)))
+    (first_full c.args.need n.ring (zip (plain_links row ss) (uses n row ss))) c.in-Some-refuse_one_full.no c.in-Some-refuse_one_full.ensures
+    ∙ sym (ap (λ (to : Option ℕ). refusal_if (first_full c.args.need n.ring
+    (zip (plain_links row (put_before to ss)) (uses n row (put_before to ss))))) c.in-Some.is)

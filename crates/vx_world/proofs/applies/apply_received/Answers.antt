@@ -21,5 +21,7 @@ returns c =
       number_is = omega (arith, long, left);
       mark_is = c.mark_at-mark.ensures (record (plain_receiver n) { waiting = length n.log - n.safe - c.args.count }) refl refl refl;
     } in
-    apply_due w (world_of c.send.new.self) c.args.site c.args.count number c.mark_at-mark.result (subst (λ (m : Node). Due c.args.count number c.mark_at-mark.result m) c.node-node.ensures due)
-    (acked w (world_of c.apply.new.self) (world_of c.send.new.self) c.args.site number c.mark_at-mark.result n c.node-node.ensures c.in_ok-apply.ensures c.in_ok-send.ensures)
+    apply_due w (world_of c.send.new.self) c.args.site c.args.count number c.mark_at-mark.result
+    (subst (λ (m : Node). Due c.args.count number c.mark_at-mark.result m) c.node-node.ensures due)
+    (acked w (world_of c.apply.new.self)
+    (world_of c.send.new.self) c.args.site number c.mark_at-mark.result n c.node-node.ensures c.in_ok-apply.ensures c.in_ok-send.ensures)

@@ -10,7 +10,8 @@ loop-k-preserved c =
     let d = content_of c.args.content.now in
     let k = c.loop-k.k in
     let came = joined_blocks (blocks_from d c.args.volume c.args.start k) in
-    let block : c.block-block.result ≡ d.block c.args.volume (c.args.start + k) = c.block-block.ensures.is ∙ ap (λ (n : ℕ). d.block c.args.volume (c.args.start + n)) c.from.ensures in
+    let block : c.block-block.result ≡ d.block c.args.volume (c.args.start + k) = c.block-block.ensures.is ∙ ap
+    (λ (n : ℕ). d.block c.args.volume (c.args.start + n)) c.from.ensures in
     let next : suc k ≡ k + 1 = sym (add-one k) in
     let long : length c.block-block.result ≡ 512 = c.block-block.ensures.long in
     let items = c.in_ok-extend_from_slice.ensures.items in (

@@ -17,6 +17,7 @@ returns c =
     let back : come_back (w.nodes c.args.site) ≡ record (recovered (w.nodes c.args.site)) { mark = mark } =
     subst (λ (m : Node). come_back m ≡ record (recovered m) { mark = mark }) c.node-node.ensures c.mark_after-mark.ensures in
     let done : world_of c.greet.new.world ≡ recovered_at w c.args.site =
-    recovered_is w (world_of c.come_up.new.self) (world_of c.restart_links.new.self) (world_of c.greet.new.world) c.args.site mark back c.come_up.ensures c.restart_links.ensures c.in_ok-greet.ensures in
+    recovered_is w (world_of c.come_up.new.self) (world_of c.restart_links.new.self)
+    (world_of c.greet.new.world) c.args.site mark back c.come_up.ensures c.restart_links.ensures c.in_ok-greet.ensures in
     ap (λ (x : World). says x (Recovered c.len-count.result)) done
     ∙ ap (λ (k : ℕ). says (recovered_at w c.args.site) (Recovered k)) (long ∙ ap (λ (m : Node). length m.log) c.node-node.ensures)

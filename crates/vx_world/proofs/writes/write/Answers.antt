@@ -25,5 +25,6 @@ returns c =
     let size : in_range ≡ sized = c.in_default-refuse_size.ensures in_range in
     let whole : o ≡ write_at w s x c.args.fails =
     range ∙ size ∙ c.in_default.ensures.refuses sized
-    ∙ ap (λ (z : Write). on_volume w s c.args.volume c.args.start (blocks_in z.bytes) (is_too_large (w.nodes s).ring (blocks_in z.bytes)) (written_if (admitted w s z) w s z c.args.fails)) c.new-write.ensures in
+    ∙ ap (λ (z : Write). on_volume w s c.args.volume c.args.start (blocks_in z.bytes) (is_too_large (w.nodes s).ring (blocks_in z.bytes))
+    (written_if (admitted w s z) w s z c.args.fails)) c.new-write.ensures in
     passed c.write_if_let_in.result (world_of c.write_if_let_in.new.world) o (write_at w s x c.args.fails) whole c.write_if_let_in.ensures

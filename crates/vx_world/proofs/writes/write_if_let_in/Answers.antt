@@ -8,5 +8,6 @@ pub returns : goal.returns
 returns c =
     let w = world_of c.args.world.now in
     let s = c.args.site in
-    passed c.write_unless_most.result (world_of c.write_unless_most.new.world) (unless_at_most (w.nodes s).safe w (put_in (links_changed w s c.args.write) s c.args.write c.args.fails))
+    passed c.write_unless_most.result (world_of c.write_unless_most.new.world)
+    (unless_at_most (w.nodes s).safe w (put_in (links_changed w s c.args.write) s c.args.write c.args.fails))
     (written_if (admitted w s c.args.write) w s c.args.write c.args.fails) (c.in_default.ensures c.args.fails) c.write_unless_most.ensures

@@ -1,6 +1,6 @@
 use Rattle.std.proofs.Common.{subst}
 use Rattle.vx_node.specs.Stands.{StandsAt}
-use Rattle.vx_node.proofs.Fusing.{alike_sound, up_fused}
+use Rattle.vx_node.proofs.Fusing.{up_fused}
 use Rattle.vx_node.proofs.engine.Engine.fuse.Goals as goal
 
 pub returns-in-Up-clause-fused : goal.returns-in-Up-clause-fused

@@ -1,7 +1,7 @@
 -- Each case of a start.
-use Rattle.std.proofs.Common.{◌≡◌, sym, subst, ◌∙◌, true, false, IsTrue, rules}
+use Rattle.std.proofs.Common.{subst, rules}
 use Rattle.vx_node.specs.Stands.{StandsAt}
-use Rattle.vx_node.proofs.Recovering.{can_start, start_needs, came_at, refused_at, not_started}
+use Rattle.vx_node.proofs.Recovering.{start_needs, came_at, refused_at}
 use Rattle.vx_node.proofs.engine.Engine.recover.Goals as goal
 
 pub start_in-requires : goal.start_in-requires

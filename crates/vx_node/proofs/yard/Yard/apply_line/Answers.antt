@@ -1,13 +1,14 @@
 -- Each case of a line that applies the log of a site.
 use Rattle.std.proofs.Common.{◌≡◌, ◌∙◌, ap, sym, refl, arith}
 use Rattle.std.specs.Prelude.{Some}
-use Rattle.vx_node.specs.Facts.{seat_of}
+use Rattle.vx_events.specs.Facts.{seat_of}
 use Rattle.vx_node.specs.Yards.{in_files}
 use Rattle.vx_node.proofs.Changing.{told_before}
 use Rattle.vx_node.proofs.Falling.{apply_done, apply_failed}
 use Rattle.vx_node.proofs.Lists.{get_at}
-use Rattle.vx_node.proofs.Refused.{apply_may}
-use Rattle.vx_node.proofs.Seats.{named_none, seat_below, seat_within}
+use Rattle.vx_events.proofs.Refused.{apply_may}
+use Rattle.vx_events.proofs.Places.{seat_within}
+use Rattle.vx_node.proofs.Seats.{named_none, seat_below}
 use Rattle.vx_node.proofs.yard.Yard.apply_line.Goals as goal
 
 pub returns-in_default-clause-works : goal.returns-in_default-clause-works

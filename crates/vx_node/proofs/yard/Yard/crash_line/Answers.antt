@@ -1,10 +1,10 @@
 -- Each case of a line that crashes a site.
-use Rattle.std.proofs.Common.{◌≡◌, ◌∙◌, ap, sym, refl, arith}
+use Rattle.std.proofs.Common.{◌≡◌, ◌∙◌, ap, sym, arith}
 use Rattle.std.specs.Prelude.{Some}
-use Rattle.vx_node.specs.Facts.{seat_of}
+use Rattle.vx_events.specs.Facts.{seat_of}
 use Rattle.vx_node.specs.Yards.{in_files}
 use Rattle.vx_node.proofs.Falling.{crash_worked}
-use Rattle.vx_node.proofs.Refused.{crash_may}
+use Rattle.vx_events.proofs.Refused.{crash_may}
 use Rattle.vx_node.proofs.Seats.{named_none, seat_below}
 use Rattle.vx_node.proofs.yard.Yard.crash_line.Goals as goal
 

@@ -1,11 +1,11 @@
 -- Each case of a line that sets the fuse of a site.
 use Rattle.std.proofs.Common.{◌∙◌, ap, sym, refl, arith}
-use Rattle.vx_node.specs.Facts.{seat_of}
+use Rattle.vx_events.specs.Facts.{seat_of}
 use Rattle.vx_node.specs.Yards.{in_files}
 use Rattle.vx_node.proofs.Changing.{told_before}
 use Rattle.vx_node.proofs.Fusing.{fuse_done}
 use Rattle.vx_node.proofs.Lists.{get_at}
-use Rattle.vx_node.proofs.Refused.{fuse_may}
+use Rattle.vx_events.proofs.Refused.{fuse_may}
 use Rattle.vx_node.proofs.Seats.{named_none, seat_below}
 use Rattle.vx_node.proofs.yard.Yard.fuse_line.Goals as goal
 

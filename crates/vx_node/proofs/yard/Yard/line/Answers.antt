@@ -1,13 +1,26 @@
 -- A line, answered and sent.
-use Rattle.std.proofs.Common.{◌∙◌, ◌++◌, inr, ap, sym}
+use Rattle.std.proofs.Common.{◌∙◌, ◌++◌, inl, inr, ap, subst, sym}
+use Rattle.std.specs.Io.KnownBytes.{Appends}
 use Rattle.vx_node.specs.Replies.{text_of}
 use Rattle.vx_stream.proofs.SendLemmas.{appends_none}
-use Rattle.vx_node.proofs.Answering.{steps_of}
+use Rattle.vx_node.proofs.Happenings.{line_happens, line_stays}
 use Rattle.vx_node.proofs.yard.Yard.line.Goals as goal
+
+pub returns-in_default-clause-line : goal.returns-in_default-clause-line
+returns-in_default-clause-line g c = λ w stands.
+    (inl (line_stays w c.args.self.now c.answer.new.self stands c.answer.ensures.told (c.in_default.ensures.answers w stands.agrees)), appends_none (g.O.Sink.written c.args.out.now))
 
 pub returns-in_default-push_said-clause-line : goal.returns-in_default-push_said-clause-line
 returns-in_default-push_said-clause-line g c = λ w stands.
-    (inr (text_of c.in-Ok.said, steps_of w c.args.words.now c.args.self.now c.answer.new.self c.in-Ok.said (c.in-Ok.ensures.answers w stands)), appends_none (g.O.Sink.written c.args.out.now))
+    (inr (text_of c.in-Ok.said, line_happens w c.args.words.now c.args.self.now c.answer.new.self c.in-Ok.said stands c.answer.ensures.told (c.in-Ok.ensures.answers w stands.agrees)), appends_none (g.O.Sink.written c.args.out.now))
+
+pub returns-in-Ok-send-clause-line : goal.returns-in-Ok-send-clause-line
+returns-in-Ok-send-clause-line g c = λ w stands. (
+  text_of c.in-Ok.said,
+  line_happens w c.args.words.now c.args.self.now c.answer.new.self c.in-Ok.said stands c.answer.ensures.told (c.in-Ok.ensures.answers w stands.agrees),
+  subst (λ xs. Appends (g.O.Sink.written c.args.out.now) (g.O.Sink.written c.send.new.sink) xs)
+      (c.deref.ensures.value ∙ c.in-Ok-push_said.ensures ∙ ap (λ xs. xs ++ text_of c.in-Ok.said) c.new-text.ensures.items) c.in-Ok-send.ensures.bytes,
+)
 
 pub returns-clause-line : goal.returns-clause-line
 returns-clause-line g c = λ w stands.
@@ -15,7 +28,7 @@ returns-clause-line g c = λ w stands.
       text_of c.in-Ok.said,
       bytes.0,
       bytes.1,
-      steps_of w c.args.words.now c.args.self.now c.answer.new.self c.in-Ok.said (c.in-Ok.ensures.answers w stands),
+      line_happens w c.args.words.now c.args.self.now c.answer.new.self c.in-Ok.said stands c.answer.ensures.told (c.in-Ok.ensures.answers w stands.agrees),
       sym (c.deref.ensures.value ∙ c.in-Ok-push_said.ensures ∙ ap (λ xs. xs ++ text_of c.in-Ok.said) c.new-text.ensures.items) ∙ bytes.2,
       bytes.3,
       bytes.4,

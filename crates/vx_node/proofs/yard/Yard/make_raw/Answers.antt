@@ -3,12 +3,13 @@ use Rattle.std.proofs.Common.{◌≡◌, ◌∙◌, ap, sym, refl, arith}
 use Rattle.std.specs.Prelude.{slice_set, Some, map, ◌-◌}
 use Rattle.vx_history.specs.Steps.{raw_volumes}
 use Rattle.vx_order.specs.declared.facts.SiteFacts.{SiteFacts}
-use Rattle.vx_node.specs.Facts.{seat_of, volume_fact}
+use Rattle.vx_events.specs.Facts.{seat_of, volume_fact}
 use Rattle.vx_node.specs.Yards.{in_files}
 use Rattle.vx_node.proofs.Lists.{get_at}
 use Rattle.vx_node.proofs.Raws.{raw_done, raw_failed, raw_told, raw_shape}
-use Rattle.vx_node.proofs.Refused.{raw_may}
-use Rattle.vx_node.proofs.Seats.{named_none, seat_within, some_same}
+use Rattle.vx_events.proofs.Refused.{raw_may}
+use Rattle.vx_events.proofs.Places.{seat_within, some_same}
+use Rattle.vx_node.proofs.Seats.{named_none}
 use Rattle.vx_node.proofs.yard.Yard.make_raw.Goals as goal
 use Rattle.vx_node.proofs.yard.Yard.make_raw.Goals.{then-site-len-via-then-site-len, then-site-len-via-else-site-len+then-site-ge-MOST_SITES, then-site-len-via-else-site-len+else-site-ge-MOST_SITES+then-disks-lt-LEAST_RAW_DISKS, then-site-len-via-else-site-len+else-site-ge-MOST_SITES+else-disks-lt-LEAST_RAW_DISKS+then-disks-gt-MOST_DISKS, then-site-len-via-else-site-len+else-site-ge-MOST_SITES+else-disks-lt-LEAST_RAW_DISKS+else-disks-gt-MOST_DISKS+then-blocks-lt-LEAST_BLOCKS}
 

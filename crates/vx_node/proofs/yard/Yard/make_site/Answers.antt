@@ -3,7 +3,7 @@ use Rattle.std.specs.Prelude.{slice_get, slice_set}
 use Rattle.vx_order.specs.declared.facts.SiteFacts.{SiteFacts}
 use Rattle.vx_node.proofs.Changing.{told_before}
 use Rattle.vx_node.proofs.Lists.{get_at, pop_pushed}
-use Rattle.vx_node.proofs.Refused.{site_may}
+use Rattle.vx_events.proofs.Refused.{site_may}
 use Rattle.vx_node.proofs.Sites.{site_done, site_said, sites_many}
 use Rattle.vx_node.specs.Yards.{in_files}
 use Rattle.vx_node.proofs.yard.Yard.make_site.Goals.{then-site-len-via-then-site-len, then-site-len-via-else-site-len+then-site-ge-MOST_SITES}

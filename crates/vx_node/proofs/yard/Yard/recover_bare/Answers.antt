@@ -1,15 +1,15 @@
 -- Each case of the recovery of a bare site.
 use Rattle.std.proofs.Common.{◌≡◌, ◌≤◌, ◌∙◌, ap, sym, subst, refl, arith}
-use Rattle.std.specs.Prelude.{slice_set, Some, map, ◌-◌, Ok, Err}
+use Rattle.std.specs.Prelude.{slice_set, Some, map, ◌-◌}
 use Rattle.vx_history.specs.Steps.{raw_volumes}
 use Rattle.vx_model.specs.Sizes.{ring_of}
 use Rattle.vx_order.specs.declared.facts.SiteFacts.{SiteFacts}
 use Rattle.vx_node.specs.Engines.{BareUpIs}
-use Rattle.vx_node.specs.Facts.{volume_fact}
+use Rattle.vx_events.specs.Facts.{volume_fact}
 use Rattle.vx_node.proofs.Finds.{bare_found, bare_stays, enough, ring_fits}
 use Rattle.vx_node.proofs.Lists.{get_at}
 use Rattle.vx_node.proofs.Raws.{raw_told}
-use Rattle.vx_node.proofs.Seats.{some_same}
+use Rattle.vx_events.proofs.Places.{some_same}
 use Rattle.vx_node.proofs.yard.Yard.recover_bare.Goals as goal
 
 pub returns-in-Ok-clause-found : goal.returns-in-Ok-clause-found
@@ -36,7 +36,7 @@ returns-in-Ok-clause-found g c = λ w stands below bare.
     (c.ring_blocks.ensures ∙ ring_is)
     (ap (λ (f : SiteFacts). slice_set facts s f) c.make_raw.ensures)
     (ap (λ e. slice_set (slice_set engines s e) s c.recover_bare-engine.result.0) c.replace-engine.ensures.after) refl
-    c.note_up-last.ensures.notes c.note_up-last.ensures.engines c.note_up-last.ensures.racks
+    c.note_up-last.ensures.notes c.note_up-last.ensures.engines c.note_up-last.ensures.racks c.view_at.ensures
 
 pub returns-in-Ok-clause-told : goal.returns-in-Ok-clause-told
 returns-in-Ok-clause-told g c =

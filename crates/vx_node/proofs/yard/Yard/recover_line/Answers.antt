@@ -1,15 +1,16 @@
 -- Each case of a line that recovers a site.
-use Rattle.std.proofs.Common.{◌≡◌, ◌∙◌, ap, sym, refl, arith}
+use Rattle.std.proofs.Common.{◌≡◌, ◌∙◌, ap, sym, arith}
 use Rattle.std.specs.Prelude.{Some}
 use Rattle.vx_model.specs.Sizes.{ring_of}
 use Rattle.vx_order.specs.declared.facts.SiteFacts.{SiteFacts}
-use Rattle.vx_node.specs.Facts.{seat_of}
+use Rattle.vx_events.specs.Facts.{seat_of}
 use Rattle.vx_node.specs.Yards.{in_files}
 use Rattle.vx_node.proofs.Finds.{bare_worked}
 use Rattle.vx_node.proofs.Lists.{get_at}
-use Rattle.vx_node.proofs.Refused.{recover_may}
+use Rattle.vx_events.proofs.Refused.{recover_may}
 use Rattle.vx_node.proofs.Rising.{recover_down, recover_up, shown_there}
-use Rattle.vx_node.proofs.Seats.{named_none, seat_below, seat_within, some_same}
+use Rattle.vx_events.proofs.Places.{seat_within, some_same}
+use Rattle.vx_node.proofs.Seats.{named_none, seat_below}
 use Rattle.vx_node.proofs.yard.Yard.recover_line.Goals as goal
 use Rattle.vx_node.proofs.yard.Yard.recover_line.Goals.{then-site-len-via-then-site-len, then-site-len-via-else-site-len+then-index-lt-LEAST_BLOCKS}
 

@@ -1,8 +1,8 @@
 use Rattle.std.proofs.Common.{◌∙◌, ap, sym, List}
 use Rattle.vx_order.specs.declared.facts.SiteFacts.{SiteFacts}
-use Rattle.vx_node.specs.Facts.{seat_of}
+use Rattle.vx_events.specs.Facts.{seat_of}
 use Rattle.vx_node.specs.Yards.{in_files}
-use Rattle.vx_node.proofs.Refused.{status_may}
+use Rattle.vx_events.proofs.Refused.{status_may}
 use Rattle.vx_node.proofs.Seats.{named_none}
 use Rattle.vx_node.proofs.Statuses.{status_done}
 use Rattle.vx_node.proofs.yard.Yard.status_line.Goals as goal

@@ -2,7 +2,7 @@
 use Rattle.std.proofs.Common.{subst}
 use Rattle.vx_node.specs.Working.{IsFree}
 use Rattle.vx_node.specs.Yards.{in_files}
-use Rattle.vx_node.proofs.Refused.{site_may}
+use Rattle.vx_events.proofs.Refused.{site_may}
 use Rattle.vx_node.proofs.yard.Yard.work.Goals as goal
 
 pub make_site-requires-clause-some : goal.make_site-requires-clause-some

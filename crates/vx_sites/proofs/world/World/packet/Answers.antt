@@ -1,4 +1,5 @@
-use Rattle.std.proofs.Common.{◌<◌, ◌-◌, length, arith}
+use Rattle.std.proofs.Common.{◌<◌, ◌+◌, ◌-◌, length, arith}
+use Rattle.vx_model.specs.declared.limits.TheConstants.{MOST_PACKETS}
 use Rattle.vx_sites.proofs.Packets.{packet_found}
 use Rattle.vx_sites.proofs.world.World.packet.Goals as goal
 
@@ -6,4 +7,5 @@ pub returns : goal.returns
 returns c =
     let some : 0 < c.args.number = omega arith in
     let within : c.args.number - 1 < length c.args.self.now.packets.items = omega arith in
-    packet_found c.args.self.now.packets.items c.args.number c.index.result.now within some c.index.ensures
+    let new : length c.args.self.now.packets.items < c.args.number + MOST_PACKETS = omega arith in
+    packet_found c.args.self.now.packets.items c.args.number c.index.result.now within some new c.index.ensures

@@ -1,0 +1,5 @@
+pub mod Bytes
+pub mod Marks
+pub mod Blocks
+pub mod Runs
+pub mod Loads

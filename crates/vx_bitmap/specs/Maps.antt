@@ -1,0 +1,63 @@
+-- A map of regions in a run of blocks.
+use Rattle.std.specs.Prelude.{◌≡◌, ℕ, ◌+◌, ◌*◌, ◌/◌, ◌%◌, ◌<◌, ◌≤◌, Bool, IsTrue, List, length}
+use Rattle.std.specs.Int.{div_ceil}
+use Rattle.vx_model.specs.declared.errors.Stop.{Stop}
+use Rattle.vx_model.specs.declared.errors.Stop.TheVariants.{No as Refused, OutOfMemory}
+use Rattle.vx_model.specs.declared.limits.TheConstants.{MAP_REGIONS}
+use Rattle.vx_model.specs.declared.no.No.TheVariants.{Device}
+use Rattle.vx_disk.specs.Causes.{DeviceCause}
+use Rattle.vx_model.specs.Content.{block_of}
+use Rattle.vx_disk.specs.Shelf.{Meaning, Image, Keeps}
+use Rattle.vx_bitmap.specs.Bits.{Between, is_marked}
+
+-- where a map stands, and its bytes
+pub record Map : Type 0 where
+  pub unit : ℕ
+  pub first : ℕ
+  pub bytes : List ℕ
+
+-- how many blocks it has, and how many regions these have bits for
+abbrev pub blocks_of : Map → ℕ
+blocks_of map = length map.bytes / 512
+
+abbrev pub regions_of : Map → ℕ
+regions_of map = 8 * length map.bytes
+
+-- its blocks are there
+pub record Lies (map : Map) (m : Meaning) : Type 0 where
+  pub exists : map.unit < m.units
+  pub within : map.first + blocks_of map ≤ m.size map.unit
+
+-- whatever a crash leaves, its blocks hold it
+pub record MapOn (map : Map) (m : Meaning) : Type 0 where
+  pub each : (k : ℕ) → k < blocks_of map → Keeps m map.unit (map.first + k) (block_of map.bytes k)
+
+-- whether an image has a region marked
+abbrev pub is_marked_in : Map → Image → ℕ → Bool
+is_marked_in map i r = is_marked (i map.unit (map.first + r / 4096)) (r % 4096)
+
+-- an image in a change of a run of regions: each of them is as it was or changed, and the others are as they were
+pub record Changing (map : Map) (start end : ℕ) (value : Bool) (m : Meaning) (i : Image) : Type 0 where
+  pub each : MapOn map m → Between start end value (regions_of map) (is_marked map.bytes) (is_marked_in map i)
+
+-- the map of so many regions, from this block on
+pub record Loaded (unit first regions : ℕ) (map : Map) : Type 0 where
+  pub there : map.unit ≡ unit
+  pub begins : map.first ≡ first
+  pub long : length map.bytes ≡ 512 * div_ceil regions MAP_REGIONS
+
+-- each block of it is one that a read may give
+pub record IsRead (map : Map) (m : Meaning) : Type 0 where
+  pub each : IsTrue m.tells → (k : ℕ) → k < blocks_of map → m.reads map.unit (map.first + k) (block_of map.bytes k)
+
+-- it stands where it stood, with as many blocks
+pub record SamePlace (old new : Map) : Type 0 where
+  pub unit : new.unit ≡ old.unit
+  pub first : new.first ≡ old.first
+  pub long : length new.bytes ≡ length old.bytes
+
+-- a map was not read: a disk failed, or memory ran out
+abbrev pub LoadCause : Meaning → Meaning → Stop → Type 0
+LoadCause old new (Refused (Device disk)) = DeviceCause old new (Device disk)
+LoadCause old new (Refused other) = ⊥
+LoadCause old new OutOfMemory = Unit {0}

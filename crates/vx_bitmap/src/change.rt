@@ -1,0 +1,74 @@
+// The change of a run of regions.
+ghost use Rattle.std.specs.Prelude.{◌≡◌, ◌+◌, ◌*◌, ◌/◌, ◌%◌, ◌<◌, ◌≤◌, ◌^◌, ℕ, length, IfErr, OnOk, OnErr, Err};
+ghost use Rattle.vx_bitmap.specs.Bits.{AllAre, Between, Changed, is_marked};
+ghost use Rattle.vx_bitmap.specs.Maps.{Changing, Lies, MapOn};
+ghost use Rattle.vx_disk.specs.Causes.{Cause, DeviceCause, refusal_of};
+ghost use Rattle.vx_disk.specs.Moves.{Moves, Run};
+
+use crate::run::mark_run;
+use vx_disk::{Shelf, ShelfError, put};
+
+// Changes a run of regions of one block, durably. Where all of them have that value already it makes no call.
+fn change_block<S: Shelf>(
+    shelf: &mut S,
+    unit: u32,
+    first: u64,
+    bytes: &mut [u8],
+    block: u64,
+    start: u64,
+    end: u64,
+    value: bool,
+) -> Result<(), ShelfError>
+    requires lies { Lies (record { unit = unit; first = first; bytes = bytes.old }) (S.meaning shelf.old) }
+    requires whole { length bytes.old % 512 ≡ 0 }
+    requires inside { block < length bytes.old / 512 }
+    requires from { 4096 * block ≤ start }
+    requires to { end < 4096 * block + 4096 }
+    requires some { start ≤ end }
+    ensures moves { Moves (Run unit first (length bytes.old / 512)) (Changing (record { unit = unit; first = first; bytes = bytes.old }) start end value (S.meaning shelf.old)) (S.meaning shelf.old) (S.meaning shelf.new) }
+    ensures stands { OnOk result (MapOn (record { unit = unit; first = first; bytes = bytes.old }) (S.meaning shelf.old) → MapOn (record { unit = unit; first = first; bytes = bytes.new }) (S.meaning shelf.new)) }
+    ensures changed { OnOk result (Changed start end value (8 * length bytes.old) (is_marked bytes.old) (is_marked bytes.new)) }
+    ensures refused { OnErr result (bytes.new ≡ bytes.old) }
+    ensures cause { IfErr result (λ e. Cause {T = Unit {0}} (S.meaning shelf.old) (S.meaning shelf.new) unit (Err e)) }
+    ensures nothing { AllAre start end value (is_marked bytes.old) → shelf.new ≡ shelf.old }
+{
+    let at = (512 * block) as usize;
+    let mut fresh = [0; 512];
+    fresh.copy_from_slice(&bytes[at..at + 512]);
+    mark_run(&mut fresh, start - 4096 * block, end - 4096 * block, value);
+    if fresh[..] == bytes[at..at + 512] {
+        return Ok(());
+    }
+    put(shelf, unit, first + block, &fresh)?;
+    bytes[at..at + 512].copy_from_slice(&fresh);
+    Ok(())
+}
+
+/// Changes a run of regions, durably, one block after another. Where all of a block's have that value already it makes no call for it.
+pub(crate) fn change<S: Shelf>(
+    shelf: &mut S,
+    unit: u32,
+    first: u64,
+    bytes: &mut [u8],
+    start: u64,
+    end: u64,
+    value: bool,
+) -> Result<(), ShelfError>
+    requires lies { Lies (record { unit = unit; first = first; bytes = bytes.old }) (S.meaning shelf.old) }
+    requires whole { length bytes.old % 512 ≡ 0 }
+    requires some { start ≤ end }
+    requires last { end < 8 * length bytes.old }
+    ensures moves { Moves (Run unit first (length bytes.old / 512)) (Changing (record { unit = unit; first = first; bytes = bytes.old }) start end value (S.meaning shelf.old)) (S.meaning shelf.old) (S.meaning shelf.new) }
+    ensures stands { OnOk result (MapOn (record { unit = unit; first = first; bytes = bytes.old }) (S.meaning shelf.old) → MapOn (record { unit = unit; first = first; bytes = bytes.new }) (S.meaning shelf.new)) }
+    ensures changed { OnOk result (Changed start end value (8 * length bytes.old) (is_marked bytes.old) (is_marked bytes.new)) }
+    ensures part { Between start end value (8 * length bytes.old) (is_marked bytes.old) (is_marked bytes.new) }
+    ensures cause { IfErr result (λ e. DeviceCause (S.meaning shelf.old) (S.meaning shelf.new) (refusal_of e)) }
+    ensures nothing { AllAre start end value (is_marked bytes.old) → shelf.new ≡ shelf.old }
+{
+    for block in start / 4096..end / 4096 + 1 {
+        let from = start.max(4096 * block);
+        let to = end.min(4096 * block + 4095);
+        change_block(shelf, unit, first, bytes, block, from, to, value)?;
+    }
+    Ok(())
+}

@@ -1,0 +1,9 @@
+pub mod Agreeing
+pub mod Blocks
+pub mod Keeping
+pub mod Passing
+pub mod Places
+pub mod Refused
+pub mod Steps
+pub mod Testing
+pub mod Values

@@ -1,0 +1,116 @@
+-- How the events of a line end: all are done, or one of them is ended by a failing disk, by a fuse or by want of a number.
+use Rattle.std.specs.Prelude.{◌≡◌, ◌⊎◌, ℕ, ◌+◌, ◌≤◌, min, List, [], ◌∷◌, ◌++◌, Some, false}
+use Rattle.vx_model.specs.declared.limits.TheConstants.{MOST_NUMBER}
+use Rattle.vx_model.specs.declared.no.Counted.TheVariants.{Number}
+use Rattle.vx_model.specs.declared.no.No.{No}
+use Rattle.vx_model.specs.declared.no.No.TheVariants.{Device, Limit, Down as IsOff}
+use Rattle.vx_model.specs.declared.site.SiteState.TheVariants.{Bare, Up, Down}
+use Rattle.vx_model.specs.Sites.{is_origin}
+use Rattle.vx_history.specs.Step.{run}
+use Rattle.vx_history.specs.Steps.{raw_set, fused, worked_on}
+use Rattle.vx_history.specs.World.{Node, World, with_node}
+use Rattle.vx_history.specs.declared.event.Event.{Event}
+use Rattle.vx_history.specs.declared.event.Event.TheVariants.{Site as MakeSite, Raw as MakeRaw, Write as WriteAt, Read as ReadAt, Apply as ApplyAt, Crash as CrashAt, Recover as RecoverAt, Fault}
+use Rattle.vx_script.specs.declared.line.ScriptLine.{ScriptLine}
+use Rattle.vx_script.specs.declared.line.ScriptLine.TheVariants.{Site, Raw, Disk, Crash, Fuse, Recover, Write, Put, Read, Show, Apply, Status}
+use Rattle.vx_events.specs.Facts.{site_number}
+use Rattle.vx_events.specs.Fails.{Fails}
+use Rattle.vx_events.specs.Found.{SameDisks}
+use Rattle.vx_events.specs.Fuses.{IsFused}
+use Rattle.vx_events.specs.Lists.{Choice, events_of}
+use Rattle.vx_events.specs.Sayings.{Replies}
+use Rattle.vx_events.specs.Stamps.{most_stamp}
+use Rattle.vx_events.specs.Views.{view_of}
+use Rattle.vx_events.specs.declared.said.Said.{Said}
+use Rattle.vx_events.specs.declared.said.Said.TheVariants.{DoneAt, Recovered, Refused}
+
+-- the site of a line: of a `site` line the one that it makes
+abbrev pub place_of : World → ScriptLine → ℕ
+place_of w (Site name disks blocks) = w.sites
+place_of w (Raw site) = site_number w site
+place_of w (Disk site disk state) = site_number w site
+place_of w (Crash site pick) = site_number w site
+place_of w (Fuse site calls pick) = site_number w site
+place_of w (Recover site) = site_number w site
+place_of w (Write site volume start count fill) = site_number w site
+place_of w (Put site volume start bytes) = site_number w site
+place_of w (Read site volume start count) = site_number w site
+place_of w (Show site volume start count) = site_number w site
+place_of w (Apply site to) = site_number w site
+place_of w (Status site) = site_number w site
+place_of w other = 0
+
+-- The world v with what a line notes of the disks of its site: `fuse` sets a fuse, and behind a line that may write or flush it is lit.
+abbrev pub noted : (site : ℕ) → ScriptLine → World → World
+noted s (Fuse site calls pick) v = fused v s calls
+noted s (Write site volume start count fill) v = worked_on v s
+noted s (Put site volume start bytes) v = worked_on v s
+noted s (Apply site to) v = worked_on v s
+noted s other v = v
+
+-- What a failing disk leaves of an event: of a write that it may stand, and that its site is halted; of an apply that its site is halted; of a
+-- recovery nothing, or that the next session has begun; and of what makes a site or reads nothing.
+abbrev pub LeavesOf : Event → (disk : ℕ) → List Event → Type 0
+LeavesOf (MakeSite name disks blocks) d left = left ≡ []
+LeavesOf (MakeRaw s) d left = left ≡ []
+LeavesOf (WriteAt s volume start bytes fails) d left = left ≡ WriteAt s volume start bytes (Some d) ∷ []
+LeavesOf (ReadAt s volume start count) d left = left ≡ []
+LeavesOf (ApplyAt s count reached) d left = left ≡ Fault s d ∷ []
+LeavesOf (RecoverAt s fails) d left = (left ≡ []) ⊎ (left ≡ RecoverAt s (Some d) ∷ [])
+LeavesOf other d left = ⊥
+
+-- What is begun of an event in which a fuse runs out: a write may stand. Only events that write or flush end so.
+abbrev pub BegunOf : Event → List Event → Type 0
+BegunOf (WriteAt s volume start bytes fails) begun = begun ≡ WriteAt s volume start bytes (Some 0) ∷ []
+BegunOf (ApplyAt s count reached) begun = begun ≡ []
+BegunOf other begun = ⊥
+
+-- the greatest stamp of a log in which no number is left for this event, of a write or of a recovery
+abbrev pub NoneLeft : Event → Node → Type 0
+NoneLeft (WriteAt s volume start bytes fails) n = MOST_NUMBER ≤ most_stamp n
+NoneLeft (RecoverAt s fails) n = MOST_NUMBER ≤ most_stamp n + 2
+NoneLeft other n = ⊥
+
+-- the event takes a number or a session
+abbrev pub MayLack : Event → Type 0
+MayLack (WriteAt s volume start bytes fails) = Unit {0}
+MayLack (RecoverAt s fails) = Unit {0}
+MayLack other = ⊥
+
+-- a refusal that no failing disk gives
+abbrev pub IsNoDevice : No → Type 0
+IsNoDevice (Device disk) = ⊥
+IsNoDevice other = Unit {0}
+
+-- the node of a site before it is recovered: of a bare one a raw set
+pub data Recovering (w : World) (s : ℕ) (c : Choice) (mid : World) (n : Node) : Type 0 where
+  FromUp : (w.nodes s).state ≡ Up → mid ≡ run w (CrashAt s c.kept ∷ []) → n ≡ mid.nodes s → Recovering w s c mid n
+  FromDown : (w.nodes s).state ≡ Down → mid ≡ w → n ≡ mid.nodes s → Recovering w s c mid n
+  FromBare : (w.nodes s).state ≡ Bare → mid ≡ w → n ≡ raw_set s (w.nodes s) → Recovering w s c mid n
+
+-- A line at site s that no test refuses. Of disks that tell no contents it is not known how many numbers are left, and a recovery finds
+-- any state, session and number of writes on them: it still changes its own site alone, which keeps its name, its disks and its volumes.
+pub data Ends (told : Type 0) (w : World) (line : ScriptLine) (s : ℕ) (fails : Fails) (said : Said) (new : World) : Type 0 where
+  -- all events are done, and the last of them is answered
+  AllDone : (c : Choice) → fails ≡ [] → Replies told line s w (events_of w line c) said → new ≡ noted s line (run w (events_of w line c))
+      → Ends told w line s fails said new
+  -- a disk failed in an event, behind those before it
+  DiskFails : (c : Choice) (before : List Event) (e : Event) (rest left : List Event) (disk : ℕ) → events_of w line c ≡ before ++ e ∷ rest
+      → LeavesOf e disk left → fails ≡ (s, disk) ∷ [] → said ≡ Refused (Device disk) → new ≡ noted s line (run w (before ++ left))
+      → Ends told w line s fails said new
+  -- the fuse of the disks ran out in an event: the site is down, with so many of its writes
+  FuseRunsOut : (c : Choice) (e : Event) (begun : List Event) → events_of w line c ≡ e ∷ [] → BegunOf e begun → IsFused (w.nodes s).fuse
+      → fails ≡ [] → said ≡ Refused IsOff → new ≡ noted s line (run w (begun ++ CrashAt s c.kept ∷ [])) → Ends told w line s fails said new
+  -- no number is left for an event
+  NoNumber : (c : Choice) (before : List Event) (e : Event) (rest : List Event) → events_of w line c ≡ before ++ e ∷ rest → MayLack e
+      → (told → NoneLeft e ((run w before).nodes s)) → fails ≡ [] → said ≡ Refused (Limit Number MOST_NUMBER)
+      → new ≡ noted s line (run w before) → Ends told w line s fails said new
+  -- what stood on disks that tell no contents came up, or was refused
+  Finds : (told → ⊥) → (c : Choice) (site : List ℕ) (mid : World) (n k : Node) → line ≡ Recover site → Recovering w s c mid n → SameDisks n k
+      → fails ≡ [] → said ≡ Recovered k.safe (view_of (with_node mid s k) k) → new ≡ with_node mid s k → Ends told w line s fails said new
+  FindsNone : (told → ⊥) → (c : Choice) (site : List ℕ) (mid : World) (n : Node) (why : No) → line ≡ Recover site → Recovering w s c mid n → IsNoDevice why
+      → fails ≡ [] → said ≡ Refused why → new ≡ mid → Ends told w line s fails said new
+  -- a site of another role that was found on them applies its log as a primary does
+  AppliesFound : (told → ⊥) → (site : List ℕ) (to number : ℕ) → line ≡ Apply site to → is_origin (w.nodes s).role ≡ false
+      → min to (w.nodes s).safe ≤ number → number ≤ (w.nodes s).safe → fails ≡ [] → said ≡ DoneAt number → new ≡ worked_on w s
+      → Ends told w line s fails said new

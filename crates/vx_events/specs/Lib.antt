@@ -1,0 +1,11 @@
+pub mod Ends
+pub mod Facts
+pub mod Fails
+pub mod Found
+pub mod Fuses
+pub mod Lines
+pub mod Lists
+pub mod Plain
+pub mod Sayings
+pub mod Stamps
+pub mod Views

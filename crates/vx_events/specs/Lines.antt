@@ -1,0 +1,51 @@
+-- What a line does to the world: its first refusal, or its events and the way in which they end.
+use Rattle.std.specs.Prelude.{◌≡◌, ℕ, ◌*◌, ◌≤◌, ◌<◌, Bool, List, [], replicate, Option, Some, None}
+use Rattle.vx_model.specs.Content.{Write as WriteBlocks}
+use Rattle.vx_model.specs.declared.no.No.{No}
+use Rattle.vx_model.specs.declared.no.No.TheVariants.{Down as IsOff}
+use Rattle.vx_history.specs.World.{Node, World}
+use Rattle.vx_order.specs.Order.{refusal_of}
+use Rattle.vx_script.specs.declared.line.ScriptLine.{ScriptLine}
+use Rattle.vx_script.specs.declared.line.ScriptLine.TheVariants.{Write, Put}
+use Rattle.vx_events.specs.Ends.{Ends, place_of}
+use Rattle.vx_events.specs.Facts.{facts_of, site_number, volume_number}
+use Rattle.vx_events.specs.Fails.{Fails}
+use Rattle.vx_events.specs.Fuses.{IsExact}
+use Rattle.vx_events.specs.declared.said.Said.{Said}
+use Rattle.vx_events.specs.declared.said.Said.TheVariants.{DoneAt, Refused}
+
+-- A write under a fuse that was just set, in a log whose place is known, is exactly four calls: it is done only where four may pass, and
+-- its fuse runs out only where fewer may.
+pub record IsCutBelow (told : Type 0) (n : Node) (x : WriteBlocks) (said : Said) : Type 0 where
+  pub done : told → (calls number : ℕ) → IsExact n x calls → said ≡ DoneAt number → 4 ≤ calls
+  pub off : told → (calls : ℕ) → IsExact n x calls → said ≡ Refused IsOff → calls < 4
+
+abbrev pub write_in : World → (site volume : List ℕ) → (start : ℕ) → (bytes : List ℕ) → WriteBlocks
+write_in w site volume start bytes = record { volume = volume_number (w.nodes (site_number w site)) volume; start = start; bytes = bytes }
+
+-- what is known of the calls of a line: how many a write makes
+abbrev pub Counts : Type 0 → World → ScriptLine → Said → Type 0
+Counts told w (Write site volume start count fill) said =
+    IsCutBelow told (w.nodes (site_number w site)) (write_in w site volume start (replicate (512 * count) fill)) said
+Counts told w (Put site volume start bytes) said =
+    IsCutBelow told (w.nodes (site_number w site)) (write_in w site volume start bytes) said
+Counts told w other said = Unit {0}
+
+-- a refused line changes nothing
+pub record IsRefused (why : No) (w : World) (fails : Fails) (said : Said) (new : World) : Type 0 where
+  pub none : fails ≡ []
+  pub says : said ≡ Refused why
+  pub stays : new ≡ w
+
+-- a line that no test refuses
+pub record IsDone (told : Type 0) (w : World) (line : ScriptLine) (fails : Fails) (said : Said) (new : World) : Type 0 where
+  pub ends : Ends told w line (place_of w line) fails said new
+  pub counts : Counts told w line said
+
+abbrev pub StepBy : Option No → Type 0 → World → ScriptLine → Fails → Said → World → Type 0
+StepBy (Some why) told w line fails said new = IsRefused why w fails said new
+StepBy None told w line fails said new = IsDone told w line fails said new
+
+-- The first refusal that holds in the one order is the reply, and nothing changes. Where there is none, the events of the line happen.
+abbrev pub LineStep : Type 0 → Bool → World → ScriptLine → Fails → Said → World → Type 0
+LineStep told files w line fails said new = StepBy (refusal_of (facts_of w) files line) told w line fails said new

@@ -1,0 +1,51 @@
+-- What a line is answered, by what is said of its last event.
+use Rattle.std.specs.Prelude.{◌≡◌, ℕ, ◌*◌, List, [], ◌∷◌, length}
+use Rattle.vx_history.specs.Refusals.{Outcome}
+use Rattle.vx_history.specs.Step.{step}
+use Rattle.vx_history.specs.World.{World}
+use Rattle.vx_history.specs.declared.event.Event.{Event}
+use Rattle.vx_history.specs.declared.event.Event.TheVariants.{Read as ReadAt}
+use Rattle.vx_history.specs.declared.event.Said.{Said as EventSaid}
+use Rattle.vx_history.specs.declared.event.Said.TheVariants.{Done as IsDone, DoneAt as IsDoneAt, Logged, Pending, Got as HasGot, Taken, Ignored, Recovered as IsRecovered, Refused as IsRefused}
+use Rattle.vx_script.specs.declared.line.ScriptLine.{ScriptLine}
+use Rattle.vx_script.specs.declared.line.ScriptLine.TheVariants.{Status}
+use Rattle.vx_events.specs.Facts.{site_number}
+use Rattle.vx_events.specs.Views.{view_of}
+use Rattle.vx_events.specs.declared.said.Said.{Said}
+use Rattle.vx_events.specs.declared.said.Said.TheVariants.{Done, DoneAt, Got, Shown, Recovered, Refused}
+
+-- The reply that repeats what is said of an event at this site. A recovery is answered with the status of the site too. Of no kind of
+-- line that is built anything else is said.
+abbrev pub Repeats : World → (site : ℕ) → EventSaid → Said → Type 0
+Repeats w s IsDone said = said ≡ Done
+Repeats w s (IsDoneAt number) said = said ≡ DoneAt number
+Repeats w s (Logged number) said = ⊥
+Repeats w s (Pending number) said = ⊥
+Repeats w s (HasGot bytes) said = said ≡ Got bytes
+Repeats w s Taken said = ⊥
+Repeats w s Ignored said = ⊥
+Repeats w s (IsRecovered number) said = said ≡ Recovered number (view_of w (w.nodes s))
+Repeats w s (IsRefused why) said = said ≡ Refused why
+
+-- so many blocks, which are what is said of the read where contents are told
+pub record Gives (told : Type 0) (count : ℕ) (o : EventSaid) (said : Said) : Type 0 where
+  pub bytes : List ℕ
+  pub got : said ≡ Got bytes
+  pub size : length bytes ≡ 512 * count
+  pub is : told → o ≡ HasGot bytes
+
+-- the reply by one event and its outcome
+abbrev pub RepeatsOf : Type 0 → (site : ℕ) → Event → Outcome → Said → Type 0
+RepeatsOf told s (ReadAt p volume start count) o said = Gives told count o.said said
+RepeatsOf told s other o said = Repeats o.world s o.said said
+
+-- a line without events is done, and a `status` shows its site
+abbrev pub SaysItself : World → ScriptLine → Said → Type 0
+SaysItself w (Status site) said = said ≡ Shown (view_of w (w.nodes (site_number w site)))
+SaysItself w other said = said ≡ Done
+
+-- the reply of a line at this site by these events, from this world on: by the last of them
+abbrev pub Replies : Type 0 → ScriptLine → (site : ℕ) → World → List Event → Said → Type 0
+Replies told line s w [] said = SaysItself w line said
+Replies told line s w (e ∷ []) said = RepeatsOf told s e (step w e) said
+Replies told line s w (e ∷ f ∷ es) said = Replies told line s (step w e).world (f ∷ es) said

@@ -1,0 +1,51 @@
+// What the tests of a line and those of its event have to do with each other.
+ghost use Rattle.std.specs.Prelude.{◌≡◌, ◌+◌, ◌*◌, ◌<◌, ◌≤◌, ℕ, List, [], Bool, true, None, length, min, replicate};
+ghost use Rattle.vx_model.specs.Content.{Write, blocks_from};
+ghost use Rattle.vx_model.specs.Sites.{is_origin};
+ghost use Rattle.vx_model.specs.declared.limits.TheConstants.{MOST_NUMBER};
+ghost use Rattle.vx_model.specs.declared.site.Role.TheVariants.{Primary};
+ghost use Rattle.vx_history.specs.Admission.{Goes};
+ghost use Rattle.vx_history.specs.Events.{admitted};
+ghost use Rattle.vx_history.specs.Step.{step, joined_blocks};
+ghost use Rattle.vx_history.specs.World.{World};
+ghost use Rattle.vx_history.specs.declared.event.Event.TheVariants.{Site as MakeSite, Raw as MakeRaw, Write as WriteAt, Read as ReadAt, Apply as ApplyAt, Crash as CrashAt};
+ghost use Rattle.vx_history.specs.declared.event.Said.TheVariants.{Done, DoneAt, Got};
+ghost use Rattle.vx_order.specs.Order.{refusal_of};
+ghost use Rattle.vx_script.specs.declared.line.ScriptLine.TheVariants.{Site, Raw, Crash, Write as WriteLine, Put, Read, Show, Apply};
+ghost use Rattle.vx_events.specs.Facts.{facts_of, site_number, volume_number};
+ghost use Rattle.vx_events.specs.Plain.{IsUnlinked, IsSized};
+
+/// A site without links lets every write in.
+pub fn lets_every_write_in()
+    ensures { (w : World) (s : ℕ) (x : Write) → IsUnlinked w → admitted w s x ≡ Goes [] }
+{}
+
+/// Where no test of a line refuses, its event is not refused by the world: so there is one order of refusals. A write has to find a number,
+/// a world without links, and volumes as large as their table says; a read and an apply a site of the role that reads and applies.
+pub fn tests_agree()
+    ensures site { (w : World) (files : Bool) (name : List ℕ) (disks blocks : ℕ) → refusal_of (facts_of w) files (Site name disks blocks) ≡ None
+        → (step w (MakeSite name disks blocks)).said ≡ Done }
+    ensures raw { (w : World) (files : Bool) (name : List ℕ) → refusal_of (facts_of w) files (Raw name) ≡ None
+        → (step w (MakeRaw (site_number w name))).said ≡ Done }
+    ensures crash { (w : World) (files : Bool) (name : List ℕ) (pick kept : ℕ) → refusal_of (facts_of w) files (Crash name pick) ≡ None
+        → (step w (CrashAt (site_number w name) kept)).said ≡ Done }
+    ensures write { (w : World) (files : Bool) (name volume : List ℕ) (start count fill : ℕ) → refusal_of (facts_of w) files (WriteLine name volume start count fill) ≡ None
+        → IsUnlinked w → IsSized (w.nodes (site_number w name)) → (w.nodes (site_number w name)).safe < MOST_NUMBER
+        → (step w (WriteAt (site_number w name) (volume_number (w.nodes (site_number w name)) volume) start (replicate (512 * count) fill) None)).said
+        ≡ DoneAt ((w.nodes (site_number w name)).safe + 1) }
+    ensures put { (w : World) (files : Bool) (name volume : List ℕ) (start : ℕ) (bytes : List ℕ) → refusal_of (facts_of w) files (Put name volume start bytes) ≡ None
+        → length bytes ≡ 512 → IsUnlinked w → IsSized (w.nodes (site_number w name)) → (w.nodes (site_number w name)).safe < MOST_NUMBER
+        → (step w (WriteAt (site_number w name) (volume_number (w.nodes (site_number w name)) volume) start bytes None)).said
+        ≡ DoneAt ((w.nodes (site_number w name)).safe + 1) }
+    ensures read { (w : World) (files : Bool) (name volume : List ℕ) (start count : ℕ) → refusal_of (facts_of w) files (Read name volume start count) ≡ None
+        → IsSized (w.nodes (site_number w name)) → (w.nodes (site_number w name)).role ≡ Primary
+        → (step w (ReadAt (site_number w name) (volume_number (w.nodes (site_number w name)) volume) start count)).said
+        ≡ Got (joined_blocks (blocks_from (w.nodes (site_number w name)).base (volume_number (w.nodes (site_number w name)) volume) start count)) }
+    ensures show { (w : World) (files : Bool) (name volume : List ℕ) (start count : ℕ) → refusal_of (facts_of w) files (Show name volume start count) ≡ None
+        → IsSized (w.nodes (site_number w name)) → (w.nodes (site_number w name)).role ≡ Primary
+        → (step w (ReadAt (site_number w name) (volume_number (w.nodes (site_number w name)) volume) start count)).said
+        ≡ Got (joined_blocks (blocks_from (w.nodes (site_number w name)).base (volume_number (w.nodes (site_number w name)) volume) start count)) }
+    ensures apply { (w : World) (files : Bool) (name : List ℕ) (to reached : ℕ) → refusal_of (facts_of w) files (Apply name to) ≡ None
+        → is_origin (w.nodes (site_number w name)).role ≡ true → min to (w.nodes (site_number w name)).safe ≤ reached → reached ≤ (w.nodes (site_number w name)).safe
+        → (step w (ApplyAt (site_number w name) to reached)).said ≡ DoneAt reached }
+{}

@@ -1,0 +1,105 @@
+-- A whole write or flush of a volume: its plexes, and a commit that detaches those that failed.
+use Rattle.std.proofs.Common.{◌≡◌, ◌⊎◌, inl, inr, ⊎_elim, ℕ, ◌+◌, ◌/◌, ◌<◌, ◌≤◌, IsTrue, List, length, refl, ap, sym, subst, arith}
+use Rattle.vx_disk.specs.Shelf.{Fits, Flushed, Goes, Lawful, Meaning, Nothing, Written, Wrote, piece}
+use Rattle.vx_layout.specs.Places.{place}
+use Rattle.vx_volume.specs.Plexes.{InRun, Inside, active}
+use Rattle.vx_volume.specs.Volumes.{OnPlexes, PlexFlushed, PlexWrote}
+use Rattle.vx_kept.specs.Commits.{Member}
+use Rattle.vx_kept.specs.Groups.{group_meaning}
+use Rattle.vx_kept.specs.Keeping.{Sees}
+use Rattle.vx_kept.proofs.Flushes.{flush_Flushed, flush_Goes}
+use Rattle.vx_kept.proofs.StateLemmas.{same_shape}
+use Rattle.vx_kept.proofs.Steps.{inside_same, same_Acts}
+use Rattle.vx_kept.proofs.Whole.{whole_Goes, whole_Wrote}
+use Rattle.vx_group.specs.Moves.{AllFlushed, AllWrote, Narrows}
+use Rattle.vx_group.specs.Stands.{Stands, counted, meaning_of}
+use Rattle.vx_group.specs.declared.group_core.GroupCore.{GroupCore}
+use Rattle.vx_group.proofs.Standing.{apart_of_core, kept_of, low_Stands}
+
+-- no commit
+pub no_commit : (core : GroupCore) (m : Meaning) → Narrows core core m m
+no_commit core m = record { acts = same_Acts (Sees core.config (Member core.good m) m) m; shape = same_shape core.config; on = λ v p is. is; faults = refl }
+
+module _ (core : GroupCore) (v block : ℕ) (bytes : List ℕ) (m m' : Meaning) (before : Lawful m) (after : Lawful m') (stands : Stands core m) (fits : Fits (meaning_of core m) v block (length bytes))
+    (write : Goes (OnPlexes core.config v block (length bytes / 512) bytes) m m') where
+  pub run_inside : (k : ℕ) → InRun block (length bytes / 512) k → Inside core.config v k
+  run_inside k run = record { volume = fits.exists; within = let last : k < block + length bytes / 512 = run.last in omega (arith, last, fits.within) }
+
+  pub wrote_Stands : Stands core m'
+  wrote_Stands = low_Stands core (OnPlexes core.config v block (length bytes / 512) bytes) m m' write
+      (λ u b x put. behind u b x put) before after stands
+    where
+      behind : (u b : ℕ) (x : List ℕ) → OnPlexes core.config v block (length bytes / 512) bytes u b x → 512 ≤ b
+      behind u b x put =
+          let it = put.put in
+          let far : 512 ≤ (place core.config v put.plex it.number).1 = (apart_of_core core m stands).above v put.plex it.number (run_inside it.number it.run) put.is_on in
+          let is : (place core.config v put.plex it.number).1 ≡ b = ap (λ (q : ℕ × ℕ). q.1) it.at in
+          omega (arith, far, is)
+
+  module _ (d : GroupCore) (last : Meaning) (lawful : Lawful last) (narrows : Narrows core d m' last) where
+    no_less : (u : ℕ) → counted core.faults u ≤ counted d.faults u
+    no_less u = let same : counted d.faults u ≡ counted core.faults u = ap (λ (f : List ℕ). counted f u) narrows.faults in omega (arith, same)
+
+    pub wrote_Goes : Goes (Written v block bytes) (meaning_of core m) (meaning_of d last)
+    wrote_Goes = whole_Goes core.good core.config d.config v block bytes (counted core.faults) (counted d.faults) m m' last before after lawful (kept_of core m stands) (apart_of_core core m stands) run_inside fits.whole write
+        narrows.acts narrows.shape narrows.on no_less
+
+    module _ (up : IsTrue last.down → ⊥) (wrote : (p : ℕ) → IsTrue (active d.config v p) → PlexWrote core.config v p block (length bytes / 512) block (length bytes / 512) bytes m m') where
+      pub wrote_Wrote : Wrote v block bytes (meaning_of core m) (meaning_of d last)
+      wrote_Wrote = whole_Wrote core.good core.config d.config v block bytes (counted core.faults) (counted d.faults) m m' last before after lawful (kept_of core m stands) (apart_of_core core m stands) run_inside fits.whole write
+          narrows.acts narrows.shape narrows.on no_less up wrote
+
+      pub wrote_all : AllWrote d.config v block bytes m last
+      wrote_all = record { each = λ p is_on. record { each = λ k x in_it is. one p is_on k x in_it is } }
+        where
+          one : (p : ℕ) (is_on : IsTrue (active d.config v p)) (k : ℕ) (x : List ℕ) → Inside d.config v k → last.reads (place d.config v p k).0 (place d.config v p k).1 x
+              → (InRun block (length bytes / 512) k × (x ≡ piece block bytes k)) ⊎ ((InRun block (length bytes / 512) k → ⊥) × m.reads (place d.config v p k).0 (place d.config v p k).1 x)
+          one p is_on k x in_it is =
+              let at : place d.config v p k ≡ place core.config v p k = narrows.shape.place v p k in
+              let in_c = inside_same d.config core.config narrows.shape v k in_it in
+              let is_c : last.reads (place core.config v p k).0 (place core.config v p k).1 x = subst (λ (q : ℕ × ℕ). last.reads q.0 q.1 x) at is in
+              elim (narrows.acts.reads (place core.config v p k).0 (place core.config v p k).1 x ((apart_of_core core m stands).above v p k in_c (narrows.on v p is_on)) is_c) [
+                | inl (inl was) ↦ elim ((wrote p is_on).each k x in_c was) [
+                  | inl put ↦ inl put
+                  | inr out ↦ inr (out.0, subst (λ (q : ℕ × ℕ). m.reads q.0 q.1 x) (sym at) out.1)
+                ]
+                | inl (inr none) ↦ absurd none
+                | inr down ↦ absurd (up down)
+              ]
+
+-- ---- a flush
+
+module _ (core : GroupCore) (v : ℕ) (m m' : Meaning) (before : Lawful m) (after : Lawful m') (stands : Stands core m) (flush : Goes Nothing m m') where
+  pub flushed_Stands : Stands core m'
+  flushed_Stands = low_Stands core Nothing m m' flush (λ u b x none. absurd none) before after stands
+
+  -- whatever is counted
+  pub plain_Goes : (f' : ℕ → ℕ) → ((u : ℕ) → counted core.faults u ≤ f' u) → Goes Nothing (meaning_of core m) (group_meaning core.config f' m')
+  plain_Goes f' no_less = flush_Goes core.good core.config core.config v (counted core.faults) f' m m' m' before after after (kept_of core m stands) (apart_of_core core m stands) flush
+      (same_Acts (Sees core.config (Member core.good m') m') m') (same_shape core.config) (λ w p is. is) no_less
+
+  module _ (d : GroupCore) (last : Meaning) (lawful : Lawful last) (narrows : Narrows core d m' last) where
+    flush_less : (u : ℕ) → counted core.faults u ≤ counted d.faults u
+    flush_less u = let same : counted d.faults u ≡ counted core.faults u = ap (λ (f : List ℕ). counted f u) narrows.faults in omega (arith, same)
+
+    pub flushed_Goes : Goes Nothing (meaning_of core m) (meaning_of d last)
+    flushed_Goes = flush_Goes core.good core.config d.config v (counted core.faults) (counted d.faults) m m' last before after lawful (kept_of core m stands) (apart_of_core core m stands) flush
+        narrows.acts narrows.shape narrows.on flush_less
+
+    module _ (flushed : (p : ℕ) → IsTrue (active d.config v p) → PlexFlushed core.config v p m m') where
+      pub flushed_Flushed : Flushed v (meaning_of core m) (meaning_of d last)
+      flushed_Flushed = flush_Flushed core.good core.config d.config v (counted core.faults) (counted d.faults) m m' last before after lawful (kept_of core m stands) (apart_of_core core m stands) flush
+          narrows.acts narrows.shape narrows.on flush_less (λ p b x is_on in_it left. (flushed p is_on).each b x in_it left)
+
+      pub flushed_all : AllFlushed d.config v m last
+      flushed_all = record { each = λ p is_on. record { each = λ k x in_it left. one p is_on k x in_it left } }
+        where
+          one : (p : ℕ) (is_on : IsTrue (active d.config v p)) (k : ℕ) (x : List ℕ) → Inside d.config v k → last.leaves (place d.config v p k).0 (place d.config v p k).1 x
+              → m.reads (place d.config v p k).0 (place d.config v p k).1 x
+          one p is_on k x in_it left =
+              let at : place d.config v p k ≡ place core.config v p k = narrows.shape.place v p k in
+              let in_c = inside_same d.config core.config narrows.shape v k in_it in
+              let left_c : last.leaves (place core.config v p k).0 (place core.config v p k).1 x = subst (λ (q : ℕ × ℕ). last.leaves q.0 q.1 x) at left in
+              let was : m'.leaves (place core.config v p k).0 (place core.config v p k).1 x = ⊎_elim (λ is. is) (λ none. absurd none)
+              (narrows.acts.leaves (place core.config v p k).0 (place core.config v p k).1 x ((apart_of_core core m stands).above v p k in_c (narrows.on v p is_on)) left_c) in
+              subst (λ (q : ℕ × ℕ). m.reads q.0 q.1 x) (sym at) ((flushed p is_on).each k x in_c was)

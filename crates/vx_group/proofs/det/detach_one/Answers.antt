@@ -1,0 +1,32 @@
+use Rattle.std.proofs.Common.{arith}
+use Rattle.vx_volume.proofs.PlaceLemmas.{active_few}
+use Rattle.vx_group.proofs.CallLemmas.{blames_later, both_Narrows}
+use Rattle.vx_group.proofs.DetLemmas.{bit_here, left_volumes, may_other, may_serial, off_by, on_volumes, one_left, one_on}
+use Rattle.vx_group.proofs.Standing.{sound_of}
+use Rattle.vx_group.proofs.det.detach_one.Goals as goal
+
+pub bounds-flags-plex : goal.bounds-flags-plex
+bounds-flags-plex g c = (active_few c.args.core.now.config (sound_of c.args.core.now (g.S.Shelf.meaning c.args.shelf.now) c.requires.stands) c.args.vol c.args.plex c.requires.is_on)
+
+pub detach-requires-clause-left : goal.detach-requires-clause-left
+detach-requires-clause-left g c = λ lt.
+    left_volumes c.args.core.now.config c.settle_headers.new.core.config c.args.vol c.set_of-set.result c.settle_headers.ensures.volumes
+    (one_left c.args.plex c.set_of-set.result (active_few c.args.core.now.config (sound_of c.args.core.now (g.S.Shelf.meaning c.args.shelf.now) c.requires.stands) c.args.vol c.args.plex c.requires.is_on) c.set_of-set.ensures c.args.core.now.config c.args.vol (may_other c.args.core.now.config c.args.vol c.args.plex c.requires.may c.requires.is_on))
+
+pub detach-requires-clause-those : goal.detach-requires-clause-those
+detach-requires-clause-those g c =
+    on_volumes c.args.core.now.config c.settle_headers.new.core.config c.args.vol c.set_of-set.result c.settle_headers.ensures.volumes
+    (one_on c.args.plex c.set_of-set.result (active_few c.args.core.now.config (sound_of c.args.core.now (g.S.Shelf.meaning c.args.shelf.now) c.requires.stands) c.args.vol c.args.plex c.requires.is_on) c.set_of-set.ensures c.args.core.now.config c.args.vol c.requires.is_on)
+
+pub returns-clause-off : goal.returns-clause-off
+returns-clause-off g c =
+    off_by c.detach.result c.detach.new.core.config c.args.vol c.args.plex c.set_of-set.result (bit_here c.args.plex c.set_of-set.result (active_few c.args.core.now.config (sound_of c.args.core.now (g.S.Shelf.meaning c.args.shelf.now) c.requires.stands) c.args.vol c.args.plex c.requires.is_on) c.set_of-set.ensures) c.detach.ensures.off
+
+pub returns-clause-cause : goal.returns-clause-cause
+returns-clause-cause g c =
+    blames_later c.detach.result (g.S.Shelf.meaning c.args.shelf.now) (g.S.Shelf.meaning c.settle_headers.new.shelf) (g.S.Shelf.meaning c.detach.new.shelf) c.settle_headers.ensures.narrows.acts.disk_faults
+    (c.detach.ensures.sure (let same = c.settle_headers.ensures.serial in let less = may_serial c.args.core.now.config c.args.vol c.args.plex c.requires.may in omega (arith, same, less)))
+
+pub returns-clause-narrows : goal.returns-clause-narrows
+returns-clause-narrows g c =
+    both_Narrows c.args.core.now c.settle_headers.new.core c.detach.new.core (g.S.Shelf.meaning c.args.shelf.now) (g.S.Shelf.meaning c.settle_headers.new.shelf) (g.S.Shelf.meaning c.detach.new.shelf) c.settle_headers.ensures.volumes c.settle_headers.ensures.good c.settle_headers.ensures.narrows c.detach.ensures.narrows

@@ -1,0 +1,25 @@
+use Rattle.std.proofs.Common.{◌∙◌, ℕ, List, ap, subst, Err, arith}
+use Rattle.vx_disk.specs.Shelf.{Nothing}
+use Rattle.vx_disk.proofs.Runs.{nothing_then}
+use Rattle.vx_group.specs.Blames.{Counts}
+use Rattle.vx_group.specs.Stands.{counted, meaning_of}
+use Rattle.vx_group.proofs.CallLemmas.{blames_later, cause_by, counts_less, narrows_Goes, not_down, nothing_Flushed, raised_Goes}
+use Rattle.vx_group.proofs.flushing.flush_in.Goals as goal
+
+pub returns-in-Err-clause-goes : goal.returns-in-Err-clause-goes
+returns-in-Err-clause-goes g c = narrows_Goes c.args.core.now c.make_ready.new.core (g.S.Shelf.meaning c.args.shelf.now) (g.S.Shelf.meaning c.make_ready.new.shelf) (g.met.S.Shelf.lawful c.make_ready.new.shelf) c.requires.stands c.make_ready.ensures.narrows (counted c.args.core.now.faults) (counted c.give_up.new.faults) (λ u. let same = ap (λ (f : List ℕ). counted f u) c.make_ready.ensures.narrows.faults in let less = counts_less c.in-Err.error c.args.vol (counted c.make_ready.new.core.faults) (counted c.give_up.new.faults) c.give_up.ensures.counts u in omega (arith, same, less))
+
+pub returns-in-Err-clause-cause : goal.returns-in-Err-clause-cause
+returns-in-Err-clause-cause g c = cause_by (Unit {0}) c.in-Err.error c.args.core.now.config c.make_ready.new.core.config c.args.vol (counted c.args.core.now.faults) (counted c.give_up.new.faults) (g.S.Shelf.meaning c.args.shelf.now) (g.S.Shelf.meaning c.make_ready.new.shelf) (not_down c.is_down.result (g.S.Shelf.meaning c.args.shelf.now).down c.is_down.ensures c.if-is_down.false) c.in-Err.ensures.cause (subst (λ (f : List ℕ). Counts c.in-Err.error c.args.vol (counted f) (counted c.give_up.new.faults)) c.make_ready.ensures.narrows.faults c.give_up.ensures.counts)
+
+pub returns-in-Ok-flush_plexes-clause-goes : goal.returns-in-Ok-flush_plexes-clause-goes
+returns-in-Ok-flush_plexes-clause-goes g c = nothing_then Nothing (meaning_of c.args.core.now (g.S.Shelf.meaning c.args.shelf.now)) (meaning_of c.make_ready.new.core (g.S.Shelf.meaning c.make_ready.new.shelf)) (meaning_of c.flush_plexes.new.core (g.S.Shelf.meaning c.flush_plexes.new.shelf)) (narrows_Goes c.args.core.now c.make_ready.new.core (g.S.Shelf.meaning c.args.shelf.now) (g.S.Shelf.meaning c.make_ready.new.shelf) (g.met.S.Shelf.lawful c.make_ready.new.shelf) c.requires.stands c.make_ready.ensures.narrows (counted c.args.core.now.faults) (counted c.make_ready.new.core.faults) (λ u. let same = ap (λ (f : List ℕ). counted f u) c.make_ready.ensures.narrows.faults in omega (arith, same))) c.flush_plexes.ensures.goes
+
+pub returns-in-Ok-flush_plexes-clause-ok : goal.returns-in-Ok-flush_plexes-clause-ok
+returns-in-Ok-flush_plexes-clause-ok g c = nothing_Flushed c.args.vol (meaning_of c.args.core.now (g.S.Shelf.meaning c.args.shelf.now)) (meaning_of c.make_ready.new.core (g.S.Shelf.meaning c.make_ready.new.shelf)) (meaning_of c.flush_plexes.new.core (g.S.Shelf.meaning c.flush_plexes.new.shelf)) (narrows_Goes c.args.core.now c.make_ready.new.core (g.S.Shelf.meaning c.args.shelf.now) (g.S.Shelf.meaning c.make_ready.new.shelf) (g.met.S.Shelf.lawful c.make_ready.new.shelf) c.requires.stands c.make_ready.ensures.narrows (counted c.args.core.now.faults) (counted c.make_ready.new.core.faults) (λ u. let same = ap (λ (f : List ℕ). counted f u) c.make_ready.ensures.narrows.faults in omega (arith, same))) c.in-Ok.ensures.cause c.in-Ok-flush_plexes.ensures.ok
+
+pub returns-in-Err-flush_plexes-clause-goes : goal.returns-in-Err-flush_plexes-clause-goes
+returns-in-Err-flush_plexes-clause-goes g c = raised_Goes Nothing (meaning_of c.args.core.now (g.S.Shelf.meaning c.args.shelf.now)) c.flush_plexes.new.core.config (counted c.flush_plexes.new.core.faults) (counted c.give_up-in-Err-flush_plexes.new.faults) (g.S.Shelf.meaning c.flush_plexes.new.shelf) (counts_less c.in-Err-flush_plexes.error c.args.vol (counted c.flush_plexes.new.core.faults) (counted c.give_up-in-Err-flush_plexes.new.faults) c.give_up-in-Err-flush_plexes.ensures.counts) (nothing_then Nothing (meaning_of c.args.core.now (g.S.Shelf.meaning c.args.shelf.now)) (meaning_of c.make_ready.new.core (g.S.Shelf.meaning c.make_ready.new.shelf)) (meaning_of c.flush_plexes.new.core (g.S.Shelf.meaning c.flush_plexes.new.shelf)) (narrows_Goes c.args.core.now c.make_ready.new.core (g.S.Shelf.meaning c.args.shelf.now) (g.S.Shelf.meaning c.make_ready.new.shelf) (g.met.S.Shelf.lawful c.make_ready.new.shelf) c.requires.stands c.make_ready.ensures.narrows (counted c.args.core.now.faults) (counted c.make_ready.new.core.faults) (λ u. let same = ap (λ (f : List ℕ). counted f u) c.make_ready.ensures.narrows.faults in omega (arith, same))) c.flush_plexes.ensures.goes)
+
+pub returns-in-Err-flush_plexes-clause-cause : goal.returns-in-Err-flush_plexes-clause-cause
+returns-in-Err-flush_plexes-clause-cause g c = cause_by (Unit {0}) c.in-Err-flush_plexes.error c.args.core.now.config c.flush_plexes.new.core.config c.args.vol (counted c.args.core.now.faults) (counted c.give_up-in-Err-flush_plexes.new.faults) (g.S.Shelf.meaning c.args.shelf.now) (g.S.Shelf.meaning c.flush_plexes.new.shelf) (not_down c.is_down.result (g.S.Shelf.meaning c.args.shelf.now).down c.is_down.ensures c.if-is_down.false) (blames_later {T = Unit {0}} (Err c.in-Err-flush_plexes.error) (g.S.Shelf.meaning c.args.shelf.now) (g.S.Shelf.meaning c.make_ready.new.shelf) (g.S.Shelf.meaning c.flush_plexes.new.shelf) c.make_ready.ensures.narrows.acts.disk_faults c.in-Err-flush_plexes.ensures.cause) (subst (λ (f : List ℕ). Counts c.in-Err-flush_plexes.error c.args.vol (counted f) (counted c.give_up-in-Err-flush_plexes.new.faults)) (c.flush_plexes.ensures.faults ∙ c.make_ready.ensures.narrows.faults) c.give_up-in-Err-flush_plexes.ensures.counts)

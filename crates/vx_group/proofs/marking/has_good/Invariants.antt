@@ -1,0 +1,5 @@
+use Rattle.vx_copies.specs.Marks.{NoneGood}
+use Rattle.vx_group.proofs.marking.has_good.Given as goal
+
+abbrev pub invariant-loop-k : goal.invariant-loop-k
+invariant-loop-k l = NoneGood l.disks l.k l.good

@@ -1,0 +1,19 @@
+use Rattle.std.proofs.Common.{refl, arith}
+use Rattle.vx_group.proofs.CallLemmas.{blames_later, both_Narrows}
+use Rattle.vx_group.proofs.DetachLemmas.{zero_bit}
+use Rattle.vx_group.proofs.Standing.{some_active}
+use Rattle.vx_group.proofs.settling.make_ready.Goals as goal
+
+pub detach-requires-clause-left : goal.detach-requires-clause-left
+detach-requires-clause-left g c = λ lt.
+    let some = some_active c.settle_headers.new.core (g.S.Shelf.meaning c.settle_headers.new.shelf) c.settle_headers.ensures.stands 0 lt in
+    record { plex = some.plex; is_on = some.is_on; out = zero_bit 0 some.plex refl }
+
+pub returns-clause-narrows : goal.returns-clause-narrows
+returns-clause-narrows g c =
+    both_Narrows c.args.core.now c.settle_headers.new.core c.detach.new.core (g.S.Shelf.meaning c.args.shelf.now) (g.S.Shelf.meaning c.settle_headers.new.shelf) (g.S.Shelf.meaning c.detach.new.shelf) c.settle_headers.ensures.volumes c.settle_headers.ensures.good c.settle_headers.ensures.narrows c.detach.ensures.narrows
+
+pub returns-clause-cause : goal.returns-clause-cause
+returns-clause-cause g c =
+    blames_later c.detach.result (g.S.Shelf.meaning c.args.shelf.now) (g.S.Shelf.meaning c.settle_headers.new.shelf) (g.S.Shelf.meaning c.detach.new.shelf) c.settle_headers.ensures.narrows.acts.disk_faults
+    (c.detach.ensures.sure (let same = c.settle_headers.ensures.serial in let less = c.if-core-ge-MOST_NUMBER.false in omega (arith, same, less)))

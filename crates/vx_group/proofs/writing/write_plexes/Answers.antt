@@ -1,0 +1,60 @@
+use Rattle.std.proofs.Common.{◌/◌, length, Err, sym, subst, arith}
+use Rattle.vx_group.proofs.CallLemmas.{blames_by, ends_blame, left_done, ok_by}
+use Rattle.vx_disk.specs.declared.shelf.ShelfError.{ShelfError}
+use Rattle.vx_volume.specs.Volumes.{PlexWrote}
+use Rattle.vx_group.specs.Blames.{Blames}
+use Rattle.vx_group.proofs.DetachLemmas.{zero_bit}
+use Rattle.vx_group.proofs.Standing.{fit_of, some_active}
+use Rattle.vx_group.proofs.WriteLemmas.{no_commit, wrote_Goes, wrote_Stands, wrote_Wrote, wrote_all}
+use Rattle.vx_group.proofs.writing.write_plexes.Goals as goal
+
+pub write_all-requires-clause-some : goal.write_all-requires-clause-some
+write_all-requires-clause-some g c = some_active c.args.core.now (g.S.Shelf.meaning c.args.shelf.now) c.requires.stands c.args.vol c.requires.fits.exists
+
+pub write_all-requires-clause-disks : goal.write_all-requires-clause-disks
+write_all-requires-clause-disks g c = fit_of c.args.core.now (g.S.Shelf.meaning c.args.shelf.now) c.requires.stands
+
+pub returns-then-failed-eq0-clause-stands : goal.returns-then-failed-eq0-clause-stands
+returns-then-failed-eq0-clause-stands g c = wrote_Stands c.args.core.now c.args.vol c.args.block c.args.bytes.now (g.S.Shelf.meaning c.args.shelf.now) (g.S.Shelf.meaning c.write_all.new.shelf) (g.met.S.Shelf.lawful c.args.shelf.now) (g.met.S.Shelf.lawful c.write_all.new.shelf) c.requires.stands c.requires.fits c.write_all.ensures.goes
+
+pub returns-then-failed-eq0-clause-goes : goal.returns-then-failed-eq0-clause-goes
+returns-then-failed-eq0-clause-goes g c = wrote_Goes c.args.core.now c.args.vol c.args.block c.args.bytes.now (g.S.Shelf.meaning c.args.shelf.now) (g.S.Shelf.meaning c.write_all.new.shelf) (g.met.S.Shelf.lawful c.args.shelf.now) (g.met.S.Shelf.lawful c.write_all.new.shelf) c.requires.stands c.requires.fits c.write_all.ensures.goes c.args.core.now (g.S.Shelf.meaning c.write_all.new.shelf) (g.met.S.Shelf.lawful c.write_all.new.shelf) (no_commit c.args.core.now (g.S.Shelf.meaning c.write_all.new.shelf))
+
+pub returns-then-failed-eq0-clause-ok : goal.returns-then-failed-eq0-clause-ok
+returns-then-failed-eq0-clause-ok g c = wrote_Wrote c.args.core.now c.args.vol c.args.block c.args.bytes.now (g.S.Shelf.meaning c.args.shelf.now) (g.S.Shelf.meaning c.write_all.new.shelf) (g.met.S.Shelf.lawful c.args.shelf.now) (g.met.S.Shelf.lawful c.write_all.new.shelf) c.requires.stands c.requires.fits c.write_all.ensures.goes c.args.core.now (g.S.Shelf.meaning c.write_all.new.shelf) (g.met.S.Shelf.lawful c.write_all.new.shelf) (no_commit c.args.core.now (g.S.Shelf.meaning c.write_all.new.shelf)) c.in-Ok.ensures.ends.0.up (λ p on. c.in-Ok.ensures.ends.0.is_done p on (zero_bit c.in-Ok.failed.set p (omega (arith, c.if-failed-eq0.true))))
+
+pub returns-then-failed-eq0-clause-all : goal.returns-then-failed-eq0-clause-all
+returns-then-failed-eq0-clause-all g c = wrote_all c.args.core.now c.args.vol c.args.block c.args.bytes.now (g.S.Shelf.meaning c.args.shelf.now) (g.S.Shelf.meaning c.write_all.new.shelf) (g.met.S.Shelf.lawful c.args.shelf.now) (g.met.S.Shelf.lawful c.write_all.new.shelf) c.requires.stands c.requires.fits c.write_all.ensures.goes c.args.core.now (g.S.Shelf.meaning c.write_all.new.shelf) (g.met.S.Shelf.lawful c.write_all.new.shelf) (no_commit c.args.core.now (g.S.Shelf.meaning c.write_all.new.shelf)) c.in-Ok.ensures.ends.0.up (λ p on. c.in-Ok.ensures.ends.0.is_done p on (zero_bit c.in-Ok.failed.set p (omega (arith, c.if-failed-eq0.true))))
+
+pub returns-then-core-clause-stands : goal.returns-then-core-clause-stands
+returns-then-core-clause-stands g c = wrote_Stands c.args.core.now c.args.vol c.args.block c.args.bytes.now (g.S.Shelf.meaning c.args.shelf.now) (g.S.Shelf.meaning c.write_all.new.shelf) (g.met.S.Shelf.lawful c.args.shelf.now) (g.met.S.Shelf.lawful c.write_all.new.shelf) c.requires.stands c.requires.fits c.write_all.ensures.goes
+
+pub returns-then-core-clause-goes : goal.returns-then-core-clause-goes
+returns-then-core-clause-goes g c = wrote_Goes c.args.core.now c.args.vol c.args.block c.args.bytes.now (g.S.Shelf.meaning c.args.shelf.now) (g.S.Shelf.meaning c.write_all.new.shelf) (g.met.S.Shelf.lawful c.args.shelf.now) (g.met.S.Shelf.lawful c.write_all.new.shelf) c.requires.stands c.requires.fits c.write_all.ensures.goes c.args.core.now (g.S.Shelf.meaning c.write_all.new.shelf) (g.met.S.Shelf.lawful c.write_all.new.shelf) (no_commit c.args.core.now (g.S.Shelf.meaning c.write_all.new.shelf))
+
+pub returns-then-core-clause-cause : goal.returns-then-core-clause-cause
+returns-then-core-clause-cause g c = ((c.in-Ok.ensures.ends.1.rose (omega (arith, c.if-failed-eq0.false))), c.in-Ok.ensures.ends.0.up)
+
+pub detach-requires-clause-stands : goal.detach-requires-clause-stands
+detach-requires-clause-stands g c = wrote_Stands c.args.core.now c.args.vol c.args.block c.args.bytes.now (g.S.Shelf.meaning c.args.shelf.now) (g.S.Shelf.meaning c.write_all.new.shelf) (g.met.S.Shelf.lawful c.args.shelf.now) (g.met.S.Shelf.lawful c.write_all.new.shelf) c.requires.stands c.requires.fits c.write_all.ensures.goes
+
+pub returns-else-core-clause-goes : goal.returns-else-core-clause-goes
+returns-else-core-clause-goes g c = wrote_Goes c.args.core.now c.args.vol c.args.block c.args.bytes.now (g.S.Shelf.meaning c.args.shelf.now) (g.S.Shelf.meaning c.write_all.new.shelf) (g.met.S.Shelf.lawful c.args.shelf.now) (g.met.S.Shelf.lawful c.write_all.new.shelf) c.requires.stands c.requires.fits c.write_all.ensures.goes c.detach.new.core (g.S.Shelf.meaning c.detach.new.shelf) (g.met.S.Shelf.lawful c.detach.new.shelf) c.detach.ensures.narrows
+
+pub returns-else-core-clause-ok : goal.returns-else-core-clause-ok
+returns-else-core-clause-ok g c = ok_by c.detach.result c.in-Ok.failed.disk (g.S.Shelf.meaning c.write_all.new.shelf) (g.S.Shelf.meaning c.detach.new.shelf) c.detach.ensures.off c.detach.ensures.cause (λ off up. wrote_Wrote c.args.core.now c.args.vol c.args.block c.args.bytes.now (g.S.Shelf.meaning c.args.shelf.now) (g.S.Shelf.meaning c.write_all.new.shelf) (g.met.S.Shelf.lawful c.args.shelf.now) (g.met.S.Shelf.lawful c.write_all.new.shelf) c.requires.stands c.requires.fits c.write_all.ensures.goes c.detach.new.core (g.S.Shelf.meaning c.detach.new.shelf) (g.met.S.Shelf.lawful c.detach.new.shelf) c.detach.ensures.narrows up (left_done c.args.core.now.config c.detach.new.core.config c.args.vol c.in-Ok.failed.set _ (g.S.Shelf.meaning c.args.shelf.now) (g.S.Shelf.meaning c.write_all.new.shelf) (c.detach.ensures.narrows.on c.args.vol) c.in-Ok.ensures.ends.0 off))
+
+pub returns-else-core-clause-all : goal.returns-else-core-clause-all
+returns-else-core-clause-all g c = ok_by c.detach.result c.in-Ok.failed.disk (g.S.Shelf.meaning c.write_all.new.shelf) (g.S.Shelf.meaning c.detach.new.shelf) c.detach.ensures.off c.detach.ensures.cause (λ off up. wrote_all c.args.core.now c.args.vol c.args.block c.args.bytes.now (g.S.Shelf.meaning c.args.shelf.now) (g.S.Shelf.meaning c.write_all.new.shelf) (g.met.S.Shelf.lawful c.args.shelf.now) (g.met.S.Shelf.lawful c.write_all.new.shelf) c.requires.stands c.requires.fits c.write_all.ensures.goes c.detach.new.core (g.S.Shelf.meaning c.detach.new.shelf) (g.met.S.Shelf.lawful c.detach.new.shelf) c.detach.ensures.narrows up (left_done c.args.core.now.config c.detach.new.core.config c.args.vol c.in-Ok.failed.set _ (g.S.Shelf.meaning c.args.shelf.now) (g.S.Shelf.meaning c.write_all.new.shelf) (c.detach.ensures.narrows.on c.args.vol) c.in-Ok.ensures.ends.0 off))
+
+pub returns-else-core-clause-cause : goal.returns-else-core-clause-cause
+returns-else-core-clause-cause g c = blames_by c.detach.result c.in-Ok.failed.disk (g.S.Shelf.meaning c.args.shelf.now) (g.S.Shelf.meaning c.write_all.new.shelf) (g.S.Shelf.meaning c.detach.new.shelf) (c.in-Ok.ensures.ends.1.rose (omega (arith, c.if-failed-eq0.false))) c.write_all.ensures.goes.disk_faults c.detach.ensures.narrows.acts.disk_faults c.detach.ensures.cause
+
+pub returns-in-Err-clause-stands : goal.returns-in-Err-clause-stands
+returns-in-Err-clause-stands g c = wrote_Stands c.args.core.now c.args.vol c.args.block c.args.bytes.now (g.S.Shelf.meaning c.args.shelf.now) (g.S.Shelf.meaning c.write_all.new.shelf) (g.met.S.Shelf.lawful c.args.shelf.now) (g.met.S.Shelf.lawful c.write_all.new.shelf) c.requires.stands c.requires.fits c.write_all.ensures.goes
+
+pub returns-in-Err-clause-goes : goal.returns-in-Err-clause-goes
+returns-in-Err-clause-goes g c = wrote_Goes c.args.core.now c.args.vol c.args.block c.args.bytes.now (g.S.Shelf.meaning c.args.shelf.now) (g.S.Shelf.meaning c.write_all.new.shelf) (g.met.S.Shelf.lawful c.args.shelf.now) (g.met.S.Shelf.lawful c.write_all.new.shelf) c.requires.stands c.requires.fits c.write_all.ensures.goes c.args.core.now (g.S.Shelf.meaning c.write_all.new.shelf) (g.met.S.Shelf.lawful c.write_all.new.shelf) (no_commit c.args.core.now (g.S.Shelf.meaning c.write_all.new.shelf))
+
+pub returns-in-Err-clause-cause : goal.returns-in-Err-clause-cause
+returns-in-Err-clause-cause g c = subst (λ (e : ShelfError). Blames {T = Unit {0}} (g.S.Shelf.meaning c.args.shelf.now) (g.S.Shelf.meaning c.write_all.new.shelf) (Err e)) (sym c.fault_of.ensures) (ends_blame c.args.core.now.config c.args.vol (λ p. PlexWrote c.args.core.now.config c.args.vol p c.args.block (length c.args.bytes.now / 512) c.args.block (length c.args.bytes.now / 512) c.args.bytes.now (g.S.Shelf.meaning c.args.shelf.now) (g.S.Shelf.meaning c.write_all.new.shelf)) (g.S.Shelf.meaning c.args.shelf.now) (g.S.Shelf.meaning c.write_all.new.shelf) c.in-Err.no 0 c.in-Err.ensures.ends)

@@ -1,0 +1,36 @@
+-- Why a call on the shelf below failed.
+use Rattle.std.specs.Prelude.{◌≡◌, ◌≢◌, ◌⊎◌, ℕ, ◌≤◌, IsTrue, Result, Ok, Err}
+use Rattle.vx_disk.specs.Counts.{Rose}
+use Rattle.vx_disk.specs.Shelf.{Meaning}
+use Rattle.vx_disk.specs.declared.shelf.ShelfError.{ShelfError}
+use Rattle.vx_disk.specs.declared.shelf.ShelfError.TheVariants.{Fault, Down}
+use Rattle.vx_model.specs.declared.no.No.{No}
+use Rattle.vx_model.specs.declared.no.No.TheVariants as refusal
+
+-- a fault comes only where the count of its disk rose, and Down only where the shelf is then down
+abbrev pub Blames : {T : Type 0} → Meaning → Meaning → Result T ShelfError → Type 0
+Blames old new (Ok x) = IsTrue new.down → ⊥
+Blames old new (Err (Fault disk)) = Rose (old.disk_faults disk) (new.disk_faults disk) × (IsTrue new.down → ⊥)
+Blames old new (Err Down) = IsTrue new.down
+
+-- the same, but that a fault may also be that of this disk, which failed before
+abbrev pub BlamesOr : {T : Type 0} → ℕ → Meaning → Meaning → Result T ShelfError → Type 0
+BlamesOr device old new (Ok x) = IsTrue new.down → ⊥
+BlamesOr device old new (Err (Fault disk)) = (Rose (old.disk_faults disk) (new.disk_faults disk) ⊎ (disk ≡ device)) × (IsTrue new.down → ⊥)
+BlamesOr device old new (Err Down) = IsTrue new.down
+
+-- a refused commit as a fault, which names this disk where no serial was left
+abbrev pub fault_of : No → ℕ → ShelfError
+fault_of (refusal.Device disk) device = Fault disk
+fault_of refusal.Down device = Down
+fault_of other device = Fault device
+
+-- the count of a volume rose where a call on it failed with a fault, and no other one changed
+pub record Raised (v : ℕ) (old new : ℕ → ℕ) : Type 0 where
+  pub rose : Rose (old v) (new v)
+  pub no_less : (u : ℕ) → old u ≤ new u
+  pub others : (u : ℕ) → u ≢ v → new u ≡ old u
+
+abbrev pub Counts : ShelfError → ℕ → (ℕ → ℕ) → (ℕ → ℕ) → Type 0
+Counts (Fault disk) v old new = Raised v old new
+Counts Down v old new = (u : ℕ) → new u ≡ old u

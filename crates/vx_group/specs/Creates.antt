@@ -1,0 +1,47 @@
+-- A new group.
+use Rattle.std.specs.Prelude.{◌≡◌, ◌⊎◌, ℕ, Err, Ok, Result, []}
+use Rattle.vx_disk.specs.Causes.{DeviceCause}
+use Rattle.vx_disk.specs.Shelf.{Meaning}
+use Rattle.vx_model.specs.declared.errors.Stop.{Stop}
+use Rattle.vx_model.specs.declared.errors.Stop.TheVariants.{No as Refused, OutOfMemory}
+use Rattle.vx_model.specs.declared.no.No.TheVariants.{Size}
+use Rattle.vx_copies.specs.Commits.{HaveLabels}
+use Rattle.vx_copyio.specs.Labelling.{HasSmall}
+use Rattle.vx_copyio.specs.Settling.{AllCleared}
+use Rattle.vx_group.specs.Stands.{Stands}
+use Rattle.vx_group.specs.declared.group_core.GroupCore.{GroupCore}
+
+-- the same units
+pub record SameUnits (old new : Meaning) : Type 0 where
+  pub units : new.units ≡ old.units
+  pub size : (u : ℕ) → new.size u ≡ old.size u
+
+-- each disk has a label and no header
+pub record Prepared (old new : Meaning) : Type 0 where
+  pub same : SameUnits old new
+  pub cleared : AllCleared new.units new
+  pub labels : HaveLabels new
+
+-- the disks are ready for a first commit, or a call on one failed
+abbrev pub IsReady : {T : Type 0} → Meaning → Meaning → Result T Stop → Type 0
+IsReady old new (Ok x) = Prepared old new
+IsReady old new (Err (Refused why)) = DeviceCause old new why
+IsReady old new (Err OutOfMemory) = Unit {0}
+
+-- a group without volumes stands on the disks
+pub record IsNew (site : ℕ) (core : GroupCore) (m : Meaning) : Type 0 where
+  pub stands : Stands core m
+  pub site_is : core.config.site ≡ site
+  pub volumes : core.config.volumes ≡ []
+
+-- what is answered where a group is made
+abbrev pub Created : ℕ → Meaning → Meaning → Result GroupCore Stop → Type 0
+Created site old new (Ok core) = IsNew site core new
+Created site old new (Err (Refused why)) = (HasSmall old × (why ≡ Size)) ⊎ DeviceCause old new why
+Created site old new (Err OutOfMemory) = Unit {0}
+
+-- the same of a group with its shelf, which is handed back where none is made
+abbrev pub GroupCreated : {S G : Type 0} → ℕ → Meaning → (S → Meaning) → (G → GroupCore) → (G → S) → Result G (S × Stop) → Type 0
+GroupCreated site old meaning core shelf (Ok g) = IsNew site (core g) (meaning (shelf g))
+GroupCreated site old meaning core shelf (Err (s, Refused why)) = (HasSmall old × (why ≡ Size)) ⊎ DeviceCause old (meaning s) why
+GroupCreated site old meaning core shelf (Err (s, OutOfMemory)) = Unit {0}

@@ -1,0 +1,29 @@
+// The counts of faults of the volumes.
+ghost use Rattle.std.specs.Prelude.{◌≡◌, ◌≢◌, ◌<◌, ◌≤◌, ℕ};
+ghost use Rattle.vx_disk.specs.Counts.{Rose};
+ghost use Rattle.vx_group.specs.Blames.{Counts};
+ghost use Rattle.vx_group.specs.Stands.{counted};
+
+use vx_disk::ShelfError;
+use vx_model::limits::MOST_VOLUMES;
+
+/// Counts a fault of a volume. The count stays at its greatest value.
+pub fn count_fault(faults: &mut [u64; MOST_VOLUMES], vol: u32)
+    requires inside { vol < MOST_VOLUMES }
+    ensures rose { Rose (counted faults.old vol) (counted faults.new vol) }
+    ensures no_less { (u : ℕ) → counted faults.old u ≤ counted faults.new u }
+    ensures others { (u : ℕ) → u ≢ vol → counted faults.new u ≡ counted faults.old u }
+{
+    faults[vol as usize] = faults[vol as usize].saturating_add(1);
+}
+
+/// Counts a call on a volume that failed with a fault.
+pub fn give_up(faults: &mut [u64; MOST_VOLUMES], vol: u32, error: ShelfError)
+    requires inside { vol < MOST_VOLUMES }
+    ensures counts { Counts error vol (counted faults.old) (counted faults.new) }
+{
+    match error {
+        ShelfError::Fault { .. } => count_fault(faults, vol),
+        ShelfError::Down => {}
+    }
+}

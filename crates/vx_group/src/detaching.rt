@@ -1,0 +1,84 @@
+// Plexes that failed, which are detached by a commit.
+ghost use Rattle.std.specs.Prelude.{◌≡◌, ◌<◌, length, false, IsTrue, OnOk};
+ghost use Rattle.vx_config.specs.Table.{greatest};
+ghost use Rattle.vx_copies.specs.Answers.{good_set};
+ghost use Rattle.vx_group.specs.Blames.{Blames, BlamesOr, fault_of as fault_is};
+ghost use Rattle.vx_group.specs.Moves.{AreOff, Narrows};
+ghost use Rattle.vx_group.specs.Stands.{Stands};
+ghost use Rattle.vx_kept.specs.States.{AreOn, SomeLeft};
+
+use crate::GroupCore;
+use vx_config::Disks;
+use vx_disk::{Shelf, ShelfError};
+use vx_kept::commit_stale;
+use vx_model::No;
+use vx_volume::Failed;
+
+/// The set of the disks that are held as good, from the last one on.
+pub fn good_of(disks: &Disks) -> u8
+    ensures { result ≡ good_set disks.now }
+{
+    let disks = disks.as_slice();
+    let mut good = 0;
+    for k in 0..disks.len() {
+        let disk = disks[disks.len() - 1 - k];
+        good = 2 * good + if disk.failed { 0 } else { 1 };
+    }
+    good
+}
+
+/// A refusal as a fault, which names this disk where no serial was left.
+pub fn fault_of(no: No, device: u32) -> ShelfError
+    ensures { result ≡ fault_is no device }
+{
+    match no {
+        No::Device { disk } => ShelfError::Fault { disk },
+        No::Down => ShelfError::Down,
+        _ => ShelfError::Fault { disk: device },
+    }
+}
+
+/// Commits the configuration with the plexes of a set STALE, and as it stands where the set is empty.
+///
+/// A fault is that of the commit, or where no serial was left that of the failed plexes.
+pub fn detach<S: Shelf>(
+    shelf: &mut S,
+    core: &mut GroupCore,
+    vol: u32,
+    failed: Failed,
+) -> Result<(), ShelfError>
+    requires stands { Stands core.old (S.meaning shelf.old) }
+    requires settled { core.old.unsettled ≡ false }
+    requires left { vol < length core.old.config.volumes → SomeLeft core.old.config vol failed.set }
+    requires those { AreOn core.old.config vol failed.set }
+    ensures stands { Stands core.new (S.meaning shelf.new) }
+    ensures narrows { Narrows core.old core.new (S.meaning shelf.old) (S.meaning shelf.new) }
+    ensures off { OnOk result (AreOff core.new.config vol failed.set) }
+    ensures settled { OnOk result (core.new.unsettled ≡ false) }
+    ensures cause { BlamesOr failed.disk (S.meaning shelf.old) (S.meaning shelf.new) result }
+    ensures sure { core.old.config.serial < greatest → Blames (S.meaning shelf.old) (S.meaning shelf.new) result }
+{
+    match commit_stale(
+        shelf,
+        &mut core.config,
+        vol,
+        failed.set,
+        core.good,
+        &mut core.room,
+    ) {
+        Ok(()) => {
+            core.good = good_of(&core.config.disks);
+            if shelf.is_down() {
+                return Err(ShelfError::Down);
+            }
+            Ok(())
+        }
+        Err(no) => {
+            core.unsettled = true;
+            if shelf.is_down() {
+                return Err(ShelfError::Down);
+            }
+            Err(fault_of(no, failed.disk))
+        }
+    }
+}

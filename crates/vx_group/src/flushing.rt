@@ -1,0 +1,68 @@
+// A flush of a volume.
+ghost use Rattle.std.specs.Prelude.{◌≡◌, ◌<◌, IsTrue, OnOk};
+ghost use Rattle.vx_disk.specs.Causes.{Cause};
+ghost use Rattle.vx_disk.specs.Shelf.{Flushed, Goes, Nothing};
+ghost use Rattle.vx_group.specs.Blames.{Blames};
+ghost use Rattle.vx_group.specs.Moves.{AllFlushed};
+ghost use Rattle.vx_group.specs.Stands.{Stands, meaning_of};
+
+use crate::GroupCore;
+use crate::counting::give_up;
+use crate::detaching::{detach, fault_of};
+use crate::settling::make_ready;
+use vx_disk::{Shelf, ShelfError};
+use vx_volume::flush_all;
+
+// Flushes each plex that is ACTIVE, and detaches those that failed.
+fn flush_plexes<S: Shelf>(shelf: &mut S, core: &mut GroupCore, vol: u32) -> Result<(), ShelfError>
+    requires stands { Stands core.old (S.meaning shelf.old) }
+    requires there { vol < (meaning_of core.old (S.meaning shelf.old)).units }
+    requires up { IsTrue (S.meaning shelf.old).down → ⊥ }
+    ensures stands { Stands core.new (S.meaning shelf.new) }
+    ensures goes { Goes Nothing (meaning_of core.old (S.meaning shelf.old)) (meaning_of core.new (S.meaning shelf.new)) }
+    ensures ok { OnOk result (Flushed vol (meaning_of core.old (S.meaning shelf.old)) (meaning_of core.new (S.meaning shelf.new))) }
+    ensures all { OnOk result (AllFlushed core.new.config vol (S.meaning shelf.old) (S.meaning shelf.new)) }
+    ensures faults { core.new.faults ≡ core.old.faults }
+    ensures cause { Blames (S.meaning shelf.old) (S.meaning shelf.new) result }
+{
+    match flush_all(&core.config, vol, shelf) {
+        Ok(failed) => {
+            if failed.set == 0 {
+                return Ok(());
+            }
+            if core.unsettled {
+                return Err(ShelfError::Fault { disk: failed.disk });
+            }
+            detach(shelf, core, vol, failed)
+        }
+        Err(no) => Err(fault_of(no, 0)),
+    }
+}
+
+/// Makes a volume durable.
+pub fn flush_in<S: Shelf>(shelf: &mut S, core: &mut GroupCore, vol: u32) -> Result<(), ShelfError>
+    requires stands { Stands core.old (S.meaning shelf.old) }
+    requires there { vol < (meaning_of core.old (S.meaning shelf.old)).units }
+    ensures stands { Stands core.new (S.meaning shelf.new) }
+    ensures goes { Goes Nothing (meaning_of core.old (S.meaning shelf.old)) (meaning_of core.new (S.meaning shelf.new)) }
+    ensures ok { OnOk result (Flushed vol (meaning_of core.old (S.meaning shelf.old)) (meaning_of core.new (S.meaning shelf.new))) }
+    ensures cause { Cause (meaning_of core.old (S.meaning shelf.old)) (meaning_of core.new (S.meaning shelf.new)) vol result }
+{
+    if shelf.is_down() {
+        return Err(ShelfError::Down);
+    }
+    match make_ready(shelf, core) {
+        Ok(()) => {}
+        Err(error) => {
+            give_up(&mut core.faults, vol, error);
+            return Err(error);
+        }
+    }
+    match flush_plexes(shelf, core, vol) {
+        Ok(()) => Ok(()),
+        Err(error) => {
+            give_up(&mut core.faults, vol, error);
+            Err(error)
+        }
+    }
+}

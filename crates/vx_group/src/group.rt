@@ -1,0 +1,127 @@
+// A group as a shelf.
+ghost use Rattle.std.specs.Prelude.{◌≡◌, ◌<◌, ◌≤◌, false, Some, None, Err, OnOk};
+ghost use Rattle.vx_disk.specs.Shelf.{Goes, Nothing};
+ghost use Rattle.vx_group.specs.Dets.{DetStops, det_refusal};
+ghost use Rattle.vx_group.specs.Moves.{Narrows};
+ghost use Rattle.vx_model.specs.declared.no.No.{No as NoValue};
+ghost use Rattle.vx_volume.specs.Plexes.{active};
+ghost use Rattle.vx_copyio.specs.Labelling.{HasSmall};
+ghost use Rattle.vx_model.specs.declared.errors.Stop.TheVariants.{No as Refused};
+ghost use Rattle.vx_model.specs.declared.limits.TheConstants.{MOST_DISKS};
+ghost use Rattle.vx_model.specs.declared.no.No.TheVariants.{Size};
+ghost use Rattle.vx_group.specs.Creates.{GroupCreated};
+ghost use Rattle.vx_group.specs.Laws.{group_lawful};
+ghost use Rattle.vx_group.specs.Stands.{Stands, meaning_of};
+
+use crate::GroupCore;
+use crate::create::start;
+use crate::det::det_in;
+use crate::flushing::flush_in;
+use crate::reading::read_in;
+use crate::writing::write_in;
+use std::alloc::Global;
+use vx_config::Config;
+use vx_disk::{Shelf, ShelfError};
+use vx_model::Stop;
+
+/// A group over a shelf. Its units are its volumes.
+#[derive(Drop)]
+pub struct Group<S: Shelf> {
+    shelf: S,
+    core: GroupCore,
+    ghost stands: { Stands core (S.meaning shelf) },
+}
+
+impl<S: Shelf> Group<S> {
+    /// Makes a group without volumes of the disks of a shelf.
+    ///
+    /// Answers 4 exactly where a disk has fewer than 1,024 blocks, and then nothing has changed; else 7 only where the count of the disk
+    /// that it names rose, and 6 only where the shelf is then down. Where none is made the shelf is handed back. It takes memory.
+    pub fn create(alloc: Global, shelf: S, site: u32) -> Result<Group<S>, (S, Stop)>
+        requires some { 0 < (S.meaning shelf).units }
+        requires few { (S.meaning shelf).units ≤ MOST_DISKS }
+        ensures small { HasSmall (S.meaning shelf) → result ≡ Err (shelf, Refused Size) }
+        ensures created { GroupCreated site (S.meaning shelf) (λ s. S.meaning s) (λ g. g.core) (λ g. g.shelf) result }
+    {
+        let mut shelf = shelf;
+        match start(alloc, &mut shelf, site) {
+            Ok(core) => Ok(Group { shelf, core }),
+            Err(stop) => Err((shelf, stop)),
+        }
+    }
+
+    /// The configuration.
+    pub fn config(&self) -> &Config
+        ensures { result.now ≡ self.now.core.config }
+    {
+        &self.core.config
+    }
+
+    /// Detaches a plex. Nothing changes where it is not ACTIVE.
+    ///
+    /// Answers 1 exactly where there is no such volume or plex, else 10 exactly where no other plex of the volume is ACTIVE, else 19
+    /// exactly where fewer than 65,536 serials are left, and then nothing has changed; else 7 only where the count of the disk that it
+    /// names rose, and 6 only where the shelf is then down. It makes no device call but those of a commit, behind a refused commit those
+    /// that write headers back, and takes no memory.
+    pub fn det(&mut self, vol: u32, plex: u32) -> Result<(), Stop>
+        ensures refused { (no : NoValue) → det_refusal self.old.core.config vol plex ≡ Some no → (result ≡ Err (Refused no)) × (self.new.core ≡ self.old.core) × (self.new.shelf ≡ self.old.shelf) }
+        ensures goes { Goes Nothing (meaning_of self.old.core (S.meaning self.old.shelf)) (meaning_of self.new.core (S.meaning self.new.shelf)) }
+        ensures narrows { Narrows self.old.core self.new.core (S.meaning self.old.shelf) (S.meaning self.new.shelf) }
+        ensures off { OnOk result (active self.new.core.config vol plex ≡ false) }
+        ensures cause { det_refusal self.old.core.config vol plex ≡ None → DetStops (S.meaning self.old.shelf) (S.meaning self.new.shelf) result }
+    {
+        det_in(&mut self.shelf, &mut self.core, vol, plex)
+    }
+
+    /// Hands out the shelf below and the rest. It makes no device call and takes no memory.
+    pub fn apart(self) -> (S, GroupCore)
+        ensures shelf { result.0 ≡ self.shelf }
+        ensures core { result.1 ≡ self.core }
+        ensures stands { Stands result.1 (S.meaning result.0) }
+    {
+        (self.shelf, self.core)
+    }
+
+    /// Joins them again, where what the core says stands on the shelf. It makes no device call and takes no memory.
+    pub fn together(shelf: S, core: GroupCore) -> Group<S>
+        requires stands { Stands core (S.meaning shelf) }
+        ensures shelf { result.shelf ≡ shelf }
+        ensures core { result.core ≡ core }
+    {
+        Group { shelf, core }
+    }
+}
+
+impl<S: Shelf> Shelf for Group<S> {
+    ghost meaning = { λ g. meaning_of g.core (S.meaning g.shelf) };
+
+    fn units(&self) -> u32 {
+        self.core.config.volumes.as_slice().len() as u32
+    }
+
+    fn size(&self, unit: u32) -> u64 {
+        self.core.config.volumes.as_slice()[unit as usize].blocks
+    }
+
+    fn read(&mut self, unit: u32, block: u64, into: &mut [u8]) -> Result<(), ShelfError> {
+        read_in(&mut self.shelf, &mut self.core, unit, block, into)
+    }
+
+    fn write(&mut self, unit: u32, block: u64, bytes: &[u8]) -> Result<(), ShelfError> {
+        write_in(&mut self.shelf, &mut self.core, unit, block, bytes)
+    }
+
+    fn flush(&mut self, unit: u32) -> Result<(), ShelfError> {
+        flush_in(&mut self.shelf, &mut self.core, unit)
+    }
+
+    fn faults(&self, unit: u32) -> u64 {
+        self.core.faults[unit as usize]
+    }
+
+    fn is_down(&self) -> bool {
+        self.shelf.is_down()
+    }
+
+    ghost lawful = { λ g. group_lawful g.core (S.meaning g.shelf) (S.lawful g.shelf) g.stands };
+}

@@ -1,0 +1,20 @@
+// A group but for the shelf below it.
+use vx_config::Config;
+use vx_copies::Room;
+use vx_model::limits::MOST_VOLUMES;
+
+/// All of a group but the shelf below it.
+#[derive(Drop)]
+pub struct GroupCore {
+    pub(crate) config: Config,
+    /// The disks that the newest committed configuration holds as good.
+    pub(crate) good: u8,
+    /// The memory of a commit.
+    pub(crate) room: Room,
+    /// A commit was refused, and none was made since.
+    pub(crate) unsettled: bool,
+    /// Of each volume the plex that the next read asks first.
+    pub(crate) next: [u32; MOST_VOLUMES],
+    /// Of each volume how many calls on it failed.
+    pub(crate) faults: [u64; MOST_VOLUMES],
+}

@@ -1,0 +1,22 @@
+//! A mirrored group of disks, which is itself a shelf whose units are its volumes.
+//!
+//! A write goes to each plex that is ACTIVE. Where some of them fail, they are made STALE by a commit before the answer.
+#![tactic(auto)]
+
+mod counting;
+mod create;
+mod det;
+mod detaching;
+mod flushing;
+mod group;
+mod group_core;
+mod marking;
+mod reading;
+mod settling;
+mod writing;
+
+pub use group::Group;
+pub use group_core::GroupCore;
+
+#[cfg(test)]
+mod tests;

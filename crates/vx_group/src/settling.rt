@@ -1,0 +1,75 @@
+// The headers of the good disks, which are written back before the commit behind a refused one.
+ghost use Rattle.std.specs.Prelude.{◌≡◌, ◌<◌, false, IsTrue, OnOk};
+ghost use Rattle.vx_group.specs.Blames.{Blames};
+ghost use Rattle.vx_group.specs.Moves.{Narrows};
+ghost use Rattle.vx_group.specs.Stands.{Stands};
+
+use crate::GroupCore;
+use crate::detaching::detach;
+use crate::marking::{has_good, hold_failed};
+use vx_copyio::settle;
+use vx_disk::{Shelf, ShelfError};
+use vx_model::limits::MOST_NUMBER;
+use vx_volume::Failed;
+
+/// Writes the headers of each good disk back after a refused commit, so that a commit may follow. A disk that fails is held as failed from
+/// then on; where none of the set is left, nothing has changed in memory.
+pub fn settle_headers<S: Shelf>(shelf: &mut S, core: &mut GroupCore) -> Result<(), ShelfError>
+    requires stands { Stands core.old (S.meaning shelf.old) }
+    requires up { IsTrue (S.meaning shelf.old).down → ⊥ }
+    ensures stands { Stands core.new (S.meaning shelf.new) }
+    ensures narrows { Narrows core.old core.new (S.meaning shelf.old) (S.meaning shelf.new) }
+    ensures volumes { core.new.config.volumes ≡ core.old.config.volumes }
+    ensures serial { core.new.config.serial ≡ core.old.config.serial }
+    ensures good { core.new.good ≡ core.old.good }
+    ensures settled { OnOk result (core.new.unsettled ≡ false) }
+    ensures cause { Blames (S.meaning shelf.old) (S.meaning shelf.new) result }
+{
+    if !core.unsettled {
+        return Ok(());
+    }
+    let kept = core.config.disks.copy();
+    let mut device = 0;
+    let mut failed = false;
+    for disk in 0..kept.as_slice().len() as u32 {
+        if !core.config.disks.as_slice()[disk as usize].failed {
+            match settle(shelf, disk) {
+                Ok(()) => {}
+                Err(ShelfError::Fault { disk: unit }) => {
+                    hold_failed(&mut core.config, disk);
+                    device = unit;
+                    failed = true;
+                }
+                Err(ShelfError::Down) => {
+                    core.config.disks = kept;
+                    return Err(ShelfError::Down);
+                }
+            }
+        }
+    }
+    if !has_good(&core.config.disks, core.good) {
+        core.config.disks = kept;
+        return Err(ShelfError::Fault { disk: device });
+    }
+    core.unsettled = false;
+    Ok(())
+}
+
+/// Makes the group ready for a write: after a refused commit it writes headers back, and commits the configuration as it stands.
+/// Where no serial is left it does nothing.
+pub fn make_ready<S: Shelf>(shelf: &mut S, core: &mut GroupCore) -> Result<(), ShelfError>
+    requires stands { Stands core.old (S.meaning shelf.old) }
+    requires up { IsTrue (S.meaning shelf.old).down → ⊥ }
+    ensures stands { Stands core.new (S.meaning shelf.new) }
+    ensures narrows { Narrows core.old core.new (S.meaning shelf.old) (S.meaning shelf.new) }
+    ensures cause { Blames (S.meaning shelf.old) (S.meaning shelf.new) result }
+{
+    if !core.unsettled || core.config.serial >= MOST_NUMBER {
+        return Ok(());
+    }
+    match settle_headers(shelf, core) {
+        Ok(()) => {}
+        Err(error) => return Err(error),
+    }
+    detach(shelf, core, 0, Failed { set: 0, disk: 0 })
+}

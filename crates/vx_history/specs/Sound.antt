@@ -1,0 +1,127 @@
+-- What holds of sites, links, packets and promises in every world that can come about. What links, packets and promises say of their
+-- sites is kept by every event only together with the further facts, which are numbered here.
+use Rattle.std.specs.Prelude.{◌≡◌, ◌≢◌, ℕ, ◌≤◌, true, false, List, length}
+use Rattle.std.specs.List.{AllByRecursion}
+use Rattle.vx_model.specs.Content.{Write, IsNumber}
+use Rattle.vx_history.specs.World.{Node, Link, History, Message, Packet, Promise, Surety, World, Hello, Update, NetAck, DataAck, Durable, InSession}
+use Rattle.vx_model.specs.Sites.{is_origin}
+use Rattle.vx_history.specs.Receiving.{phase_takes}
+use Rattle.vx_history.specs.Good.{Good, IsMade}
+use Rattle.vx_model.specs.declared.history.Line.{Line}
+use Rattle.vx_model.specs.declared.site.Mark.TheVariants.{Consistent}
+use Rattle.vx_model.specs.declared.site.SiteState.TheVariants.{Up, Down}
+use Rattle.vx_model.specs.declared.link.Mode.TheVariants.{Log}
+use Rattle.vx_history.specs.Sends.{is_linked}
+
+-- Fact 1. "The present session" is the session of a site that is up. After a crash a site stands in its old session still, without the
+-- records that it had in memory; its session rises as it comes up again.
+abbrev pub IsPresent : Node → ℕ → Type 0
+IsPresent n session = (n.state ≡ Up) × (n.session ≡ session)
+
+-- Fact 2. A site that is down has no write that a further crash could lose: as it comes up it is not halted, and then an origin has none.
+abbrev pub IsWhole : Node → Type 0
+IsWhole n = n.state ≡ Down → length n.log ≤ n.safe
+
+-- Fact 3. A receiver's primary is the site that began its line: so its acknowledgements go to the site that sends it updates.
+abbrev pub IsFed : Node → Type 0
+IsFed n = is_origin n.role ≡ false → n.other ≡ n.line.origin
+
+-- ## Links
+
+-- the link of an origin, now a, to a receiver on the same line, now b
+abbrev pub IsFollowed : Node → Node → Link → Type 0
+IsFollowed a b l = (is_linked l ≡ true) × (is_origin a.role ≡ true) × (is_origin b.role ≡ false) × (b.line ≡ a.line)
+
+-- Fact 4. A bare site has no link and is at the end of none: else a session could begin again from 1.
+abbrev pub HasEnds : Node → Node → Link → Type 0
+HasEnds a b l = is_linked l ≡ true → IsMade a × IsMade b
+
+-- Fact 5. Links start at origins: only of these is it known what their receivers have, and a site that comes to another's line has none.
+abbrev pub StartsAtOrigin : Node → Link → Type 0
+StartsAtOrigin a l = is_linked l ≡ true → is_origin a.role ≡ true
+
+-- Fact 6. A link goes to another site: so the site at its other end, on the line of an origin, receives.
+abbrev pub GoesElsewhere : (p s : ℕ) → Link → Type 0
+GoesElsewhere p s l = is_linked l ≡ true → p ≢ s
+
+-- Fact 7. By the log only a site is fed that takes updates: else settling would not come to an end.
+abbrev pub FeedsTaker : Node → Node → Link → Type 0
+FeedsTaker a b l = IsFollowed a b l → l.mode ≡ Log → phase_takes b.phase ≡ true
+
+-- What the link of site p, now a, to site s, now b, says of b: its session is not above that of b, what is stored is on the disks
+-- there, what was acknowledged in the present session is in memory there, and by the log a consistent site is fed.
+pub record GoodLink (p s : ℕ) (a b : Node) (l : Link) : Type 0 where
+  pub ends : HasEnds a b l
+  pub starts : StartsAtOrigin a l
+  pub apart : GoesElsewhere p s l
+  pub session : is_linked l ≡ true → l.session ≤ b.session
+  pub stored : IsFollowed a b l → l.stored ≤ b.safe
+  pub net : IsFollowed a b l → IsPresent b l.session → l.net ≤ length b.log
+  pub log : IsFollowed a b l → l.mode ≡ Log → b.mark ≡ Consistent
+  pub takes : FeedsTaker a b l
+
+-- ## Packets
+
+-- What a message says that was sent on this line, of which this is held, from the site that is now n. No session in it is above that
+-- of the site. An update is its line's. An acknowledgement from memory holds in the session in which it was sent. One from disk holds
+-- as long as the site stands on that line.
+-- Fact 8. And so does what any greeting of that line says is stored, whatever its session: a link may hear of a later session by an
+-- old greeting.
+abbrev pub GoodMessage : List Write → Node → Line → Message → Type 0
+GoodMessage held n line (Update number write) = IsNumber held number write
+GoodMessage held n line (NetAck session number) =
+    (session ≤ n.session) × (n.line ≡ line → IsPresent n session → number ≤ length n.log)
+GoodMessage held n line (Hello session number stored) =
+    (session ≤ n.session) × (n.line ≡ line → IsPresent n session → number ≤ length n.log) × (n.line ≡ line → stored ≤ n.safe)
+GoodMessage held n line (DataAck number) = n.line ≡ line → number ≤ n.safe
+
+-- Fact 9. The line's origin stands on it and keeps no link to site i. Links are made, and not taken back while their origin stands on
+-- its line: so who is a stranger always was.
+abbrev pub IsStranger : (ℕ → Node) → (ℕ → ℕ → Link) → Line → ℕ → Type 0
+IsStranger nodes links line i = ((nodes line.origin).line ≡ line) × (is_linked (links line.origin i) ≡ false)
+
+-- Strangers are sent no updates, and what they say of the line is that they have nothing of it. So a site may come to a line with an
+-- empty log, and what it said before stays true.
+abbrev pub StrangerSays : (to from : Type 0) → Message → Type 0
+StrangerSays to from (Update number write) = to → ⊥
+StrangerSays to from (NetAck session number) = from → number ≤ 0
+StrangerSays to from (Hello session number stored) = from → (number ≤ 0) × (stored ≤ 0)
+StrangerSays to from (DataAck number) = from → number ≤ 0
+
+-- Fact 10. The site, and the one that began the line, are not bare. So a site that makes its first line finds nothing said on it.
+abbrev pub IsBegun : (ℕ → Node) → Line → ℕ → Type 0
+IsBegun nodes line i = IsMade (nodes i) × IsMade (nodes line.origin)
+
+pub record GoodPacket (nodes : ℕ → Node) (links : ℕ → ℕ → Link) (lines : Line → History) (p : Packet) : Type 0 where
+  pub said : GoodMessage (lines p.line).held (nodes p.source) p.line p.message
+  pub known : StrangerSays (IsStranger nodes links p.line p.target) (IsStranger nodes links p.line p.source) p.message
+  pub begun : IsBegun nodes p.line p.source
+
+-- ## Promises
+
+-- A number is kept on a line, by the site's disks or in this session.
+-- Fact 11. The session is not above the site's: else the promise would speak of a session that is still to come.
+abbrev pub IsKept : Node → Line → ℕ → Surety → Type 0
+IsKept n line number Durable = n.line ≡ line → number ≤ n.safe
+IsKept n line number (InSession session) = (session ≤ n.session) × (n.line ≡ line → IsPresent n session → number ≤ length n.log)
+
+pub record GoodPromise (nodes : ℕ → Node) (links : ℕ → ℕ → Link) (e : Promise) : Type 0 where
+  pub kept : IsKept (nodes e.site) e.line e.number e.surety
+  -- nothing was promised of a stranger
+  pub known : IsStranger nodes links e.line e.site → ⊥
+  pub begun : IsBegun nodes e.line e.site
+
+-- ## Worlds
+
+-- a stranger that stands on the line as a receiver has nothing of it
+abbrev pub KnownNode : (ℕ → Node) → (ℕ → ℕ → Link) → ℕ → Node → Type 0
+KnownNode nodes links i n = IsMade n → is_origin n.role ≡ false → IsStranger nodes links n.line i → length n.log ≤ 0
+
+pub record Sound (w : World) : Type 0 where
+  pub good : Good w
+  pub whole : (i : ℕ) → IsWhole (w.nodes i)
+  pub fed : (i : ℕ) → IsFed (w.nodes i)
+  pub links : (p s : ℕ) → GoodLink p s (w.nodes p) (w.nodes s) (w.links p s)
+  pub packets : AllByRecursion (GoodPacket w.nodes w.links w.lines) w.packets
+  pub promised : AllByRecursion (GoodPromise w.nodes w.links) w.promised
+  pub known : (i : ℕ) → KnownNode w.nodes w.links i (w.nodes i)

@@ -1,0 +1,13 @@
+pub mod Low
+pub mod Lasting
+pub mod Chosen
+pub mod Steps
+pub mod Committed
+pub mod Settles
+pub mod Whole
+pub mod Flushes
+pub mod Facts
+pub mod StateLemmas
+pub mod Narrower
+pub mod Staling
+pub mod Firsts

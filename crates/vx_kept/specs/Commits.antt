@@ -1,0 +1,40 @@
+-- What a group's commit leaves.
+use Rattle.std.specs.Prelude.{◌≡◌, ℕ, ◌<◌, true, Result, Ok, Err}
+use Rattle.vx_disk.specs.Blocks.{bit_at}
+use Rattle.vx_disk.specs.Shelf.{Meaning}
+use Rattle.vx_model.specs.declared.no.No.{No}
+use Rattle.vx_config.specs.declared.config.Config.{Config}
+use Rattle.vx_copies.specs.Answers.{good_set}
+use Rattle.vx_copies.specs.Commits.{CommitStops, Grown}
+use Rattle.vx_copies.specs.Marks.{HasGood}
+use Rattle.vx_kept.specs.Keeping.{AllOn, IsTidy, Kept, SameShape}
+
+-- a disk of a set, by its bit
+pub record Member (good : ℕ) (m : Meaning) (u : ℕ) : Type 0 where
+  pub below : u < m.units
+  pub is : bit_at good u ≡ true
+
+-- memory has d, which the disks keep and are ready for; the set is now that of its good disks
+pub record Taken (c a d : Config) (old new : Meaning) : Type 0 where
+  pub kept : Kept d (Member (good_set d.disks) new) new
+  pub tidy : IsTidy d new
+  pub shape : SameShape d c
+  pub grown : Grown old new a d
+  pub some : HasGood d.disks (good_set d.disks)
+
+-- memory has what it had, but for the serial, and the disks keep that
+pub record Left (good : ℕ) (c a d : Config) (old new : Meaning) (why : No) : Type 0 where
+  pub kept : Kept d (Member good new) new
+  pub volumes : d.volumes ≡ c.volumes
+  pub disks : d.disks ≡ c.disks
+  pub cause : CommitStops good a d.serial old new why
+
+-- how a commit ends
+abbrev pub TakeEnds : {T : Type 0} → ℕ → Config → Config → Config → Meaning → Meaning → Result T No → Type 0
+TakeEnds good c a d old new (Ok x) = Taken c a d old new
+TakeEnds good c a d old new (Err why) = Left good c a d old new why
+
+-- how the first one ends
+abbrev pub FirstEnds : {T : Type 0} → ℕ → Config → Config → Meaning → Meaning → Result T No → Type 0
+FirstEnds good c d old new (Ok x) = Taken c c d old new × AllOn d
+FirstEnds good c d old new (Err why) = CommitStops good c d.serial old new why

@@ -1,0 +1,81 @@
+-- What the disks of a group keep: in each image that a crash may leave, each plex that takes part is ACTIVE in memory.
+use Rattle.std.specs.Prelude.{◌≡◌, ◌⊎◌, ℕ, ◌+◌, ◌<◌, ◌≤◌, Bool, true, false, IsTrue, IsFalse, List, length}
+use Rattle.vx_disk.specs.Moves.{Says}
+use Rattle.vx_disk.specs.Shelf.{Each, Image, Meaning, Or, Values}
+use Rattle.vx_copyfmt.specs.Commits.{Counts, Tidy}
+use Rattle.vx_copyfmt.specs.Imports.{Found}
+use Rattle.vx_config.specs.Checks.{blocks_of}
+use Rattle.vx_config.specs.declared.config.Config.{Config}
+use Rattle.vx_copies.specs.Commits.{Below, HaveLabels, Held}
+use Rattle.vx_copies.specs.Looking.{on_shelf}
+use Rattle.vx_copies.specs.Marks.{failed_at}
+use Rattle.vx_kept.specs.Choice.{chosen, live}
+use Rattle.vx_kept.specs.Groups.{found, found_by}
+use Rattle.vx_layout.specs.Places.{place}
+use Rattle.vx_volume.specs.Plexes.{active}
+
+-- the same volumes, with the same places
+pub record SameShape (x c : Config) : Type 0 where
+  pub volumes : length x.volumes ≡ length c.volumes
+  pub blocks : (v : ℕ) → blocks_of x.volumes v ≡ blocks_of c.volumes v
+  pub place : (v p b : ℕ) → place x v p b ≡ place c v p b
+
+-- a configuration that an image may have beside one in memory: each plex that takes part in it is ACTIVE in memory, and the one that it
+-- chooses takes part
+pub record Kin (c x : Config) : Type 0 where
+  pub shape : SameShape x c
+  pub on : (v p : ℕ) → IsTrue (live x v p) → IsTrue (active c v p)
+  pub some : (v : ℕ) → v < length c.volumes → IsTrue (live x v (chosen x v))
+
+-- An image has a configuration of this kind; and so does what an import finds that can read one of these disks, which the newest committed
+-- configuration holds as good.
+pub record Sees (c : Config) (good : ℕ → Type 0) (m : Meaning) (i : Image) : Type 0 where
+  pub config : Config
+  pub found : found m i ≡ Found config
+  pub kin : Kin c config
+  pub others : (readable : ℕ → Bool) (g : ℕ) (x : Config) → good g → readable g ≡ true → found_by m readable i ≡ Found x → Kin c x
+
+-- the disks are ready for the next serial, and each has a label
+pub record Base (c : Config) (m : Meaning) : Type 0 where
+  pub below : Below c m
+  pub counts : (u : ℕ) → u < m.units → Counts (on_shelf m) (m.leaves u)
+  pub labels : HaveLabels m
+
+-- the disks keep a configuration of this kind, and are ready for the next commit
+pub record Kept (c : Config) (good : ℕ → Type 0) (m : Meaning) : Type 0 where
+  pub below : Below c m
+  pub counts : (u : ℕ) → u < m.units → Counts (on_shelf m) (m.leaves u)
+  pub labels : HaveLabels m
+  pub sees : (i : Image) → Each m.leaves i → Sees c good m i
+
+-- whatever a crash leaves of a disk that is held as good, the next copy goes to one area
+pub record IsTidy (c : Config) (m : Meaning) : Type 0 where
+  pub each : (u : ℕ) → Held c m u → Tidy (on_shelf m) (c.serial + 1) (m.leaves u)
+
+-- each plex that takes part is ACTIVE
+pub record AllOn (c : Config) : Type 0 where
+  pub each : (v p : ℕ) → IsTrue (live c v p) → IsTrue (active c v p)
+
+-- What a run of calls does to blocks of plexes, from block 512 on; of each image that a crash leaves at a moment of it `during` is true.
+pub record Acts (written : Values) (during : Says) (old new : Meaning) : Type 0 where
+  pub units : new.units ≡ old.units
+  pub size : (u : ℕ) → new.size u ≡ old.size u
+  pub tells : new.tells ≡ old.tells
+  pub reads : (u b : ℕ) (v : List ℕ) → 512 ≤ b → new.reads u b v → Or old.reads written u b v ⊎ IsTrue new.down
+  pub leaves : (u b : ℕ) (v : List ℕ) → 512 ≤ b → new.leaves u b v → Or old.leaves written u b v
+  pub later : old.moment ≤ new.moment
+  pub since : (t : ℕ) (i : Image) → t ≤ old.moment → new.left_since t i → old.left_since t i ⊎ (((u b : ℕ) → 512 ≤ b → Or old.leaves written u b (i u b)) × during i)
+  pub keeps : (t : ℕ) (i : Image) → t ≤ old.moment → old.left_since t i → new.left_since t i
+  pub faults : (u : ℕ) → old.faults u ≤ new.faults u
+  pub disk_faults : (d : ℕ) → old.disk_faults d ≤ new.disk_faults d
+  pub falls : IsTrue old.down → IsTrue new.down
+  pub unarmed : IsFalse old.armed → IsFalse new.armed
+  pub safe : IsFalse old.armed → IsTrue new.down → IsTrue old.down
+
+-- a configuration to be committed: the same volumes, of which each plex that takes part is ACTIVE in memory, and no more good disks
+pub record Follows (c d : Config) : Type 0 where
+  pub shape : SameShape d c
+  pub serial : d.serial ≡ c.serial
+  pub narrows : (v p : ℕ) → IsTrue (live d v p) → IsTrue (active c v p)
+  pub some : (v : ℕ) → v < length c.volumes → (p : ℕ) × IsTrue (live d v p)
+  pub disks : (u : ℕ) → failed_at d.disks u ≡ false → failed_at c.disks u ≡ false

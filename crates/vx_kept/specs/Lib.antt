@@ -1,0 +1,6 @@
+pub mod Choice
+pub mod Groups
+pub mod Keeping
+pub mod Commits
+pub mod Facts
+pub mod States

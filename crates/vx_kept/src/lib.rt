@@ -1,0 +1,13 @@
+//! What the disks of a group keep, whatever a crash leaves of them.
+//!
+//! Each image that a crash may leave has a configuration of the group's volumes in which each plex that takes part, ACTIVE or
+//! CLEAN, is ACTIVE in memory.
+#![tactic(auto)]
+
+mod committing;
+mod first;
+mod states;
+
+pub use committing::commit_stale;
+pub use first::commit_first;
+pub use states::{make_active, make_stale};

@@ -1,0 +1,5 @@
+pub mod Steps
+pub mod Rooms
+pub mod Writings
+pub mod Waits
+pub mod Overs

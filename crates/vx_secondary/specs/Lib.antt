@@ -1,0 +1,4 @@
+pub mod Answers
+pub mod Logging
+pub mod Overs
+pub mod Receivers

@@ -1,0 +1,125 @@
+-- Each event makes worlds that differ in notes alone of such worlds, and says the same of both.
+use Rattle.std.proofs.Common.{◌≡◌, ◌∙◌, ℕ, ◌+◌, List, [], ◌∷◌, ap, sym, subst, refl}
+use Rattle.std.specs.Prelude.{Some, not, leb, ltb, bytes_eq}
+use Rattle.vx_model.specs.Sites.{is_origin, is_up, is_bare}
+use Rattle.vx_model.specs.Sizes.{is_raw_shape}
+use Rattle.vx_model.specs.declared.limits.TheConstants.{MOST_DISKS, MOST_SITES}
+use Rattle.vx_model.specs.declared.link.Prot.TheVariants.{Fail as FailsWhenFull}
+use Rattle.vx_model.specs.declared.no.No.TheVariants.{Size, Role as WrongRole, Down as NotUp, Exists, Limit}
+use Rattle.vx_model.specs.declared.no.Counted.TheVariants.{Sites, Disks}
+use Rattle.vx_model.specs.declared.site.SiteState.{SiteState}
+use Rattle.vx_history.specs.World.{World, Node, Link as LinkState, bare_site, updated}
+use Rattle.vx_history.specs.Likes.{IsLike}
+use Rattle.vx_history.specs.Steps.{burned, site_made, raw_set, raw_history}
+use Rattle.vx_history.specs.Refusals.{keeps_links, some_below}
+use Rattle.vx_history.specs.Events
+use Rattle.vx_history.specs.Step.{outcome_of, step, run}
+use Rattle.vx_history.specs.declared.event.Event.{Event}
+use Rattle.vx_history.specs.declared.event.Event.TheVariants.{Site, Raw, Write as WriteAt, Read, Apply, Pump, Tick, Deliver, Connect, Cut, Pause, Resume, Wait, Link, Set, Crash, Recover, Fault}
+use Rattle.vx_history.specs.declared.sender.SEvent.TheVariants.{Connect as ConnectLink, Pump as PumpLink, Tick as TickLink, Cut as CutLink, Pause as PauseLink, Resume as ResumeLink}
+use Rattle.vx_world.proofs.Likely.{noted, Same, tests, some_same, link_changed, pair_updated, like_node, like_history, like_link, like_sending, like_headers, at_site_same, at_work_same, both_same, on_link_same, when_live_same}
+use Rattle.vx_world.proofs.LikeChanges.{write_same, read_same, apply_same, moved_same, event_same, greeting_same}
+use Rattle.vx_world.proofs.LikeCrashes.{deliver_same, wait_same, crash_same, recover_same, part_same}
+
+-- ## Every event
+
+pub site_same : (w v : World) → IsLike w v → (name : List ℕ) (disks blocks : ℕ) → IsLike (site_made w name disks blocks) (site_made v name disks blocks)
+site_same w v like name disks blocks =
+    subst (λ (k : ℕ). IsLike (site_made w name disks blocks) (record v { sites = k + 1; nodes = updated v.nodes k (bare_site name disks blocks) }))
+    (sym like.sites)
+    (record {
+      sites = refl;
+      nodes = λ i. pair_updated (λ (a b : Node). b ≡ noted a b) w.nodes v.nodes w.sites (bare_site name disks blocks) (bare_site name disks blocks) i refl
+          (like.nodes i);
+      links = like.links;
+      lines = like.lines;
+      packets = like.packets;
+      promised = like.promised;
+      gathering = like.gathering;
+    })
+
+pub outcome_same : (w v : World) → IsLike w v → (e : Event) → Same (outcome_of w e) (outcome_of v e)
+outcome_same w v like (Site name disks blocks) =
+    tests (some_below w.sites (λ k. bytes_eq (w.nodes k).name name)) (some_below v.sites (λ k. bytes_eq (v.nodes k).name name)) (Exists name)
+    (Exists name) w v _ _
+    (ap (λ (n : ℕ). some_below n (λ k. bytes_eq (v.nodes k).name name)) like.sites ∙ some_same w.sites (λ k. bytes_eq (w.nodes k).name name)
+    (λ k. bytes_eq (v.nodes k).name name) (λ k. ap (λ (n : Node). bytes_eq n.name name) (like.nodes k))) refl like
+    (λ _. tests (leb MOST_SITES w.sites) (leb MOST_SITES v.sites) (Limit Sites MOST_SITES) (Limit Sites MOST_SITES) w v _ _
+    (ap (λ (k : ℕ). leb MOST_SITES k) like.sites) refl like
+    (λ _. tests (ltb MOST_DISKS disks) (ltb MOST_DISKS disks) (Limit Disks MOST_DISKS) (Limit Disks MOST_DISKS) w v _ _ refl refl like
+    (λ _. tests _ _ Size Size w v _ _ refl refl like (λ _. record { world = site_same w v like name disks blocks; said = refl }))))
+outcome_same w v like (Raw q) =
+    at_site_same w v like q _ _
+    (tests (not (is_bare (w.nodes q).state)) (not (is_bare (v.nodes q).state)) WrongRole WrongRole w v _ _
+    (ap (λ (n : Node). not (is_bare n.state)) (like.nodes q)) refl like
+    (λ _. tests (not (is_raw_shape (w.nodes q).disks (w.nodes q).blocks)) (not (is_raw_shape (v.nodes q).disks (v.nodes q).blocks)) Size Size w v _ _
+    (ap (λ (n : Node). not (is_raw_shape n.disks n.blocks)) (like.nodes q)) refl like
+    (λ _. record {
+      world = like_history w v like q (raw_set q (w.nodes q)) (raw_set q (v.nodes q)) (raw_history (w.nodes q)) (raw_history (v.nodes q))
+          (ap (λ (n : Node). raw_set q n) (like.nodes q)) (ap raw_history (like.nodes q));
+      said = refl;
+    })))
+outcome_same w v like (WriteAt p volume start bytes fails) = write_same w v like p (record { volume = volume; start = start; bytes = bytes }) fails
+outcome_same w v like (Read p volume start count) = read_same w v like p volume start count
+outcome_same w v like (Apply q count reached) = at_site_same w v like q _ _ (at_work_same w v like q _ _ (apply_same w v like q count reached))
+outcome_same w v like (Pump p q) =
+    on_link_same w v like keeps_links p q _ _
+    (λ same _. when_live_same w v like q (w.links p q) (v.links p q) _ _ same (record { world = moved_same w v like p q PumpLink same; said = refl }))
+outcome_same w v like (Tick p q) = event_same w v like p q TickLink
+outcome_same w v like (Deliver number) = deliver_same w v like number
+outcome_same w v like (Connect p q) =
+    on_link_same w v like keeps_links p q _ _
+    (λ same _. record {
+      world = like_sending (Events.link_event w p q ConnectLink) (Events.link_event v p q ConnectLink)
+          (moved_same w v like p q ConnectLink same) (Events.greeting_back w p q) (Events.greeting_back v p q) (greeting_same w v like p q);
+      said = refl;
+    })
+outcome_same w v like (Cut p q) = event_same w v like p q CutLink
+outcome_same w v like (Pause p q) = event_same w v like p q PauseLink
+outcome_same w v like (Resume p q) = event_same w v like p q ResumeLink
+outcome_same w v like (Wait p number) =
+    at_site_same w v like p _ _ (at_work_same w v like p _ _
+    (tests (not (is_origin (w.nodes p).role)) (not (is_origin (v.nodes p).role)) WrongRole WrongRole w v _ _
+    (ap (λ (n : Node). not (is_origin n.role)) (like.nodes p)) refl like (λ _. wait_same w v like p number)))
+outcome_same w v like (Link p q sync part) = at_site_same w v like p _ _
+    (at_site_same w v like q _ _ (both_same w v like p q _ _ (part_same w v like part p q sync)))
+outcome_same w v like (Set p q sync) =
+    on_link_same w v like is_origin p q _ _
+    (λ same _. record {
+      world = like_link w v like p q (record (w.links p q) { sync = sync; prot = FailsWhenFull }) (record (v.links p q) { sync = sync; prot = FailsWhenFull })
+          (link_changed (λ l. let m : LinkState = record l { sync = sync; prot = FailsWhenFull } in m) (λ l. refl) (w.links p q) (v.links p q)
+          (like.links p q));
+      said = refl;
+    })
+outcome_same w v like (Crash q kept) =
+    at_site_same w v like q _ _
+    (tests (not (is_up (w.nodes q).state)) (not (is_up (v.nodes q).state)) NotUp NotUp w v _ _ (ap (λ (n : Node). not (is_up n.state)) (like.nodes q)) refl like
+    (λ _. record {
+      world = subst (λ (k : ℕ). IsLike (Events.crash_at w q (Events.kept_of (w.nodes q) kept)) (Events.crash_at v q k))
+          (sym (ap (λ (n : Node). Events.kept_of n kept) (like.nodes q))) (crash_same w v like q (Events.kept_of (w.nodes q) kept));
+      said = refl;
+    }))
+outcome_same w v like (Recover q fails) =
+    at_site_same w v like q _ _ (subst (λ (s : SiteState). Same (Events.recover_from (w.nodes q).state w q fails) (Events.recover_from s v q fails))
+    (sym (ap (λ (n : Node). n.state) (like.nodes q))) (recover_same w v like q (w.nodes q).state fails))
+outcome_same w v like (Fault q disk) =
+    at_site_same w v like q _ _
+    (tests (not (is_up (w.nodes q).state)) (not (is_up (v.nodes q).state)) NotUp NotUp w v _ _ (ap (λ (n : Node). not (is_up n.state)) (like.nodes q)) refl like
+    (λ _. record {
+      world = like_node w v like q (record (w.nodes q) { halted = Some disk; fuse = burned (w.nodes q).fuse })
+          (record (v.nodes q) { halted = Some disk; fuse = burned (v.nodes q).fuse })
+          (ap (λ (n : Node). let m : Node = record n { halted = Some disk; fuse = burned n.fuse } in m) (like.nodes q));
+      said = refl;
+    }))
+
+-- whatever headers are counted
+pub step_like : (w v : World) (e : Event) → IsLike w v → IsLike (step w e).world (step v e).world
+step_like w v e like = like_headers (outcome_of w e).world (outcome_of v e).world (outcome_same w v like e).world (step w e).world.headers
+    (step v e).world.headers
+
+pub said_like : (w v : World) (e : Event) → IsLike w v → (step v e).said ≡ (step w e).said
+said_like w v e like = (outcome_same w v like e).said
+
+pub run_like : (w v : World) (es : List Event) → IsLike w v → IsLike (run w es) (run v es)
+run_like w v [] like = like
+run_like w v (e ∷ es) like = run_like (step w e).world (step v e).world es (step_like w v e like)

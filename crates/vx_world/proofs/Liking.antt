@@ -1,0 +1,134 @@
+-- Worlds that differ in notes alone are good together.
+use Rattle.std.proofs.Common.{◌≡◌, ◌∙◌, ◌⊎◌, inl, inr, ℕ, ◌≤◌, List, length, ap, sym, subst, refl, arith, Bool, true, false}
+use Rattle.std.specs.Prelude.{Option}
+use Rattle.std.specs.List.{AllByRecursion}
+use Rattle.vx_model.specs.Content.{IsPrefixOf}
+use Rattle.vx_history.specs.Good.{GoodNode, Good, IsMade}
+use Rattle.vx_history.specs.Sends.{is_linked}
+use Rattle.vx_history.specs.World.{Node, Link, History, Gathering, Packet, Promise, World, Fuse}
+use Rattle.vx_model.specs.declared.history.Line.{Line}
+use Rattle.vx_model.specs.declared.site.SiteState.TheVariants.{Bare}
+use Rattle.vx_history.specs.Sound.{Sound, IsWhole, IsFed, GoodLink, GoodPacket, GoodPromise, IsStranger, KnownNode}
+use Rattle.vx_world.proofs.Lists.{prefix_refl}
+use Rattle.vx_world.proofs.Carry.{IsLater, link_later, packets_later, promises_later}
+use Rattle.vx_world.proofs.Moves.{unlinked_good}
+use Rattle.vx_history.specs.Likes.{IsLike}
+use Rattle.vx_history.specs.Fits.{Fits, Fitting, IsSized, IsAlike}
+use Rattle.vx_history.specs.GoodGatherings.{IsPart, Gathers, MayGather}
+use Rattle.vx_history.specs.GoodWorld.{GoodWorld}
+use Rattle.vx_world.proofs.Keeping.{gather_up, fits_there, alike_there}
+use Rattle.vx_world.proofs.Lists.{each_weaker}
+
+abbrev with_notes : Node → Fuse → (ℕ → Bool) → Node
+with_notes a f g = record a { fuse = f; failing = g }
+
+later_note : (a : Node) (f : Fuse) (g : ℕ → Bool) → IsLater a (with_notes a f g)
+later_note a f g = record {
+  line = refl;
+  origin = refl;
+  session = omega arith;
+  safe = omega arith;
+  present = λ up _.
+      (up, omega arith);
+  mark = λ m. m;
+  made = λ m. m;
+  phase = refl;
+  other = refl;
+}
+
+good_note : (h : History) (i : ℕ) (a : Node) (f : Fuse) (failing : ℕ → Bool) → GoodNode h i a → GoodNode h i (with_notes a f failing)
+good_note h i a f failing g = record {
+  safe_fits = g.safe_fits;
+  own_line = g.own_line;
+  receiver_log = g.receiver_log;
+  origin_log = g.origin_log;
+  origin_whole = g.origin_whole;
+  origin_mark = g.origin_mark;
+  content = g.content;
+}
+
+true_or_false : (b : Bool) → (b ≡ true) ⊎ (b ≡ false)
+true_or_false true = inl refl
+true_or_false false = inr refl
+
+module _ (w v : World) (s : Sound w) (like : IsLike w v) where
+  at : (P : Node → Type 0) (i : ℕ) → P (with_notes (w.nodes i) (v.nodes i).fuse (v.nodes i).failing) → P (v.nodes i)
+  at P i h = subst P (sym (like.nodes i)) h
+
+  later : (i : ℕ) → IsLater (w.nodes i) (v.nodes i)
+  later i = at (λ b. IsLater (w.nodes i) b) i (later_note (w.nodes i) (v.nodes i).fuse (v.nodes i).failing)
+
+  made_back : (i : ℕ) → IsMade (v.nodes i) → IsMade (w.nodes i)
+  made_back i = at (λ b. IsMade b → IsMade (w.nodes i)) i (λ is. is)
+
+  before : (l : Line) (i : ℕ) → IsStranger v.nodes v.links l i → IsStranger w.nodes w.links l i
+  before l i (on, none) = (sym (later l.origin).line ∙ on, sym (like.links l.origin i).linked ∙ none)
+
+  node_good : (i : ℕ) → GoodNode (v.lines (v.nodes i).line) i (v.nodes i)
+  node_good i =
+      subst (λ (h : History). GoodNode h i (v.nodes i)) (sym (like.lines (v.nodes i).line))
+      (at (λ b. GoodNode (w.lines b.line) i b) i (good_note (w.lines (w.nodes i).line) i (w.nodes i) (v.nodes i).fuse (v.nodes i).failing (s.good.nodes i)))
+
+  sites_like : Good v
+  sites_like = record {
+    nodes = node_good;
+    begun = λ i made. subst (λ (l : Line). IsMade (v.nodes l.origin)) (sym (later i).line)
+        ((later (w.nodes i).line.origin).made (s.good.begun i (made_back i made)));
+    later = λ i past. at (λ b. b.state ≡ Bare) i (s.good.later i (subst (λ (k : ℕ). k ≤ i) like.sites past));
+    told = λ l. subst (λ (h : History). h.told ≤ length h.held) (sym (like.lines l)) (s.good.told l);
+  }
+
+  link_good : (p q : ℕ) → GoodLink p q (v.nodes p) (v.nodes q) (v.links p q)
+  link_good p q = elim (true_or_false (is_linked (w.links p q))) [
+    | inl is ↦
+        subst (λ (l : Link). GoodLink p q (v.nodes p) (v.nodes q) l) (sym ((like.links p q).same is))
+        (link_later p q (w.nodes p) (w.nodes q) (v.nodes p) (v.nodes q) (w.links p q) (later p) (later q) (s.links p q))
+    | inr none ↦ unlinked_good p q (v.nodes p) (v.nodes q) (v.links p q) (λ is. let e : true ≡ false = sym is ∙ (like.links p q).linked ∙ none in absurd (cc))
+  ]
+
+  held_grow : (l : Line) → IsPrefixOf (w.lines l).held (v.lines l).held
+  held_grow l = subst (λ (h : History). IsPrefixOf (w.lines l).held h.held) (sym (like.lines l)) (prefix_refl (w.lines l).held)
+
+  pub sound_like : Sound v
+  sound_like = record {
+    good = sites_like;
+    whole = λ i. at (λ b. IsWhole b) i (s.whole i);
+    fed = λ i. at (λ b. IsFed b) i (s.fed i);
+    links = link_good;
+    packets = subst (λ (ps : List Packet). AllByRecursion (GoodPacket v.nodes v.links v.lines) ps) (sym like.packets)
+        (packets_later w.nodes v.nodes w.links v.links later before w.lines v.lines held_grow w.packets s.packets);
+    promised = subst (λ (es : List Promise). AllByRecursion (GoodPromise v.nodes v.links) es) (sym like.promised)
+        (promises_later w.nodes v.nodes w.links v.links later before w.promised s.promised);
+    known = λ i. at (λ b. KnownNode v.nodes v.links i b) i (λ is r q. s.known i is r (before (w.nodes i).line i q));
+  }
+
+  volumes : (i : ℕ) → (v.nodes i).volumes ≡ (w.nodes i).volumes
+  volumes i = ap (λ (n : Node). n.volumes) (like.nodes i)
+
+  rings : (i : ℕ) → (v.nodes i).ring ≡ (w.nodes i).ring
+  rings i = ap (λ (n : Node). n.ring) (like.nodes i)
+
+  pub fits_like : Fitting w → Fitting v
+  fits_like f = record {
+    sized = λ i. at (λ b. IsSized b) i (record { start = (f.sized i).start; base = (f.sized i).base; bare = (f.sized i).bare });
+    logs = λ i. at (λ b. AllByRecursion (Fits b) b.log) i
+        (each_weaker (Fits (w.nodes i)) (Fits (with_notes (w.nodes i) (v.nodes i).fuse (v.nodes i).failing))
+        (fits_there (w.nodes i) (with_notes (w.nodes i) (v.nodes i).fuse (v.nodes i).failing) refl refl) (w.nodes i).log (f.logs i));
+    held = λ l. subst (λ (h : History). AllByRecursion (Fits (v.nodes l.origin)) h.held) (sym (like.lines l))
+        (each_weaker (Fits (w.nodes l.origin)) (Fits (v.nodes l.origin))
+        (fits_there (w.nodes l.origin) (v.nodes l.origin) (volumes l.origin) (rings l.origin)) (w.lines l).held (f.held l));
+    alike = λ i made. subst (λ (l : Line). IsAlike (v.nodes l.origin) (v.nodes i)) (sym (later i).line)
+        (alike_there (w.nodes (w.nodes i).line.origin) (w.nodes i) (v.nodes (w.nodes i).line.origin) (v.nodes i) (volumes (w.nodes i).line.origin)
+        (rings (w.nodes i).line.origin) (volumes i) (rings i) (f.alike i (made_back i made)));
+  }
+
+  gathers_like : Gathers w → Gathers v
+  gathers_like g = record {
+    parts = subst (λ (ps : List Packet). AllByRecursion IsPart ps) (sym like.packets) g.parts;
+    each = λ i. subst (λ (ps : List Packet). MayGather i (v.nodes i) ps (v.gathering i)) (sym like.packets)
+        (subst (λ (h : Option Gathering). MayGather i (v.nodes i) w.packets h) (sym (like.gathering i))
+        (gather_up i (w.nodes i) (v.nodes i) w.packets (w.gathering i) (λ up. ap (λ (n : Node). n.state) (like.nodes i) ∙ up) (g.each i)));
+  }
+
+pub good_like : (w v : World) → GoodWorld w → IsLike w v → GoodWorld v
+good_like w v g like = record { sound = sound_like w v g.sound like; fits = fits_like w v g.sound like g.fits; gathers = gathers_like w v g.sound like g.gathers }

@@ -1,0 +1,224 @@
+-- A line that begins where no site is in doubt leaves a good world, and a good one with what its halted site may be.
+use Rattle.std.proofs.Common.{◌≡◌, ◌∙◌, inl, inr, ℕ, ◌<◌, List, [], ◌∷◌, ◌++◌, ap, sym, subst, refl, Bool, true, false}
+use Rattle.std.specs.Prelude.{Option, Some, None, not, ◌&&◌, ◌||◌, eqb, leb, length, if◌then◌else◌}
+use Rattle.std.proofs.lemmas.Bool.{cases_eq}
+use Rattle.vx_model.specs.Content.{Write as LogWrite, blocks_in}
+use Rattle.vx_model.specs.Answer.{is_too_large, is_wrong_count, is_past}
+use Rattle.vx_model.specs.Sites.{is_up, is_bare}
+use Rattle.vx_model.specs.declared.limits.TheConstants.{MOST_NUMBER}
+use Rattle.vx_model.specs.declared.site.SiteState.TheVariants.{Up}
+use Rattle.vx_history.proofs.Updates.{all_updated, at_place}
+use Rattle.vx_history.specs.Admission.{Admitted, Held_by, Goes}
+use Rattle.vx_history.specs.World.{Node, Link as LinkState, World, updated, with_node}
+use Rattle.vx_history.specs.Doubts.{After, Doubted, resolved, resolved_at, resolved_for, taken_up, crashed_by, crashed_as, happened, halved, Runs}
+use Rattle.vx_history.specs.Events.{admitted, written_if, links_changed, link_after}
+use Rattle.vx_history.specs.Likes.{IsLike, SameLink}
+use Rattle.vx_history.specs.Refusals.{Outcome, unless, is_primary, is_running}
+use Rattle.vx_history.specs.Step.{outcome_of, step}
+use Rattle.vx_history.specs.Steps.{stopped_by, half_written, burned}
+use Rattle.vx_history.specs.Stops.{Stops, AllDone, Halts, Cuts, Reads, IsLikeDoubted, WritesAt, IsPartAt}
+use Rattle.vx_history.specs.GoodWorld.{GoodWorld}
+use Rattle.vx_history.specs.declared.event.Event.{Event}
+use Rattle.vx_history.specs.declared.event.Event.TheVariants.{Site, Raw, Write, Read, Apply, Pump, Tick, Deliver, Connect, Cut, Pause, Resume, Wait, Link, Set, Crash, Recover, Fault}
+use Rattle.vx_history.specs.declared.event.LinkPart.{LinkPart}
+use Rattle.vx_history.specs.declared.event.LinkPart.TheVariants.{Joins, Made, Marked, Opened}
+use Rattle.vx_world.specs.Lines.{NoDoubts, GoodDoubted}
+use Rattle.vx_world.specs.Twins.{Twin, GoodTwin, IsAlone}
+use Rattle.vx_world.proofs.Alone.{same, tested, runs, one_node, counted_alone, set_alone, heard_by, joins_alone, made_alone, marked_alone, opened_alone}
+use Rattle.vx_world.proofs.Crashed.{crashed_good}
+use Rattle.vx_world.proofs.Halving.{aside, half, half_good}
+use Rattle.vx_world.proofs.Likely.{noted, pair_updated, link_self}
+use Rattle.vx_world.proofs.Liking.{good_like}
+use Rattle.vx_world.proofs.Whole.{step_good}
+
+-- ## Events that are done
+
+resolved_good : (o : Option ℕ) (d : Doubted) (taken : Bool) → GoodWorld d.world → NoDoubts d
+    → GoodWorld (resolved_for o d taken).world × NoDoubts (resolved_for o d taken)
+resolved_good None d taken g none = (g, none)
+resolved_good (Some s) d taken g none = (
+  by_taken taken,
+  all_updated (λ _ (o : Option After). o ≡ None) d.after s None refl (λ k _. none k),
+)
+  where
+    by_taken : (b : Bool) → GoodWorld (if b then taken_up d.world s (d.after s) else d.world)
+    by_taken true = subst (λ (o : Option After). GoodWorld (taken_up d.world s o)) (sym (none s)) g
+    by_taken false = g
+
+runs_good : (es : List Event) (d new : Doubted) → GoodWorld d.world → NoDoubts d → Runs d es new → GoodWorld new.world × NoDoubts new
+runs_good [] d new g none is = (subst (λ (x : Doubted). GoodWorld x.world) (sym is) g, subst (λ (x : Doubted). NoDoubts x) (sym is) none)
+runs_good (e ∷ es) d new g none (taken, rest) =
+    let r = resolved_good (crashed_by e) d taken g none in
+    runs_good es (happened d e taken) new (step_good (resolved_for (crashed_by e) d taken).world e r.0) r.1 rest
+
+-- ## Events that a disk or a fuse ends
+
+-- a write that a disk ended
+module _ (w : World) (p : ℕ) (up : (w.nodes p).state ≡ Up) where
+  half_alone : (x : LogWrite) (disk : ℕ) → IsAlone p w (half_written (links_changed w p x) p x disk)
+  half_alone x disk =
+      let n : Node = record (w.nodes p) { log = (w.nodes p).log ++ x ∷ []; halted = Some disk; fuse = burned (w.nodes p).fuse } in record {
+        sites = refl;
+        nodes = λ i apart. aside w.nodes p n i apart;
+        rows = λ i apart. aside w.links p (λ k. link_after (w.nodes p) x k (w.links p k)) i apart;
+        lines = refl;
+        packets = refl;
+        promised = refl;
+        gathering = λ _ _. refl;
+        name = ap (λ (m : Node). m.name) (at_place w.nodes p n);
+        up = ap (λ (m : Node). m.state) (at_place w.nodes p n) ∙ up;
+      }
+
+  written_alone : (a : Admitted) (x : LogWrite) (disk : ℕ) → IsAlone p w (written_if a w p x (Some disk)).world
+  written_alone (Held_by why) x disk = same w p up
+  written_alone (Goes changes) x disk = tested w p up (leb MOST_NUMBER (w.nodes p).safe) _ _ (half_alone x disk)
+
+  write_alone : (volume start : ℕ) (bytes : List ℕ) (disk : ℕ) → IsAlone p w (outcome_of w (Write p volume start bytes (Some disk))).world
+  write_alone volume start bytes disk =
+      let x : LogWrite = record { volume = volume; start = start; bytes = bytes } in
+      tested w p up (leb w.sites p) _ _
+      (tested w p up (is_bare (w.nodes p).state) _ _ (tested w p up (not (is_up (w.nodes p).state)) _ _ (runs w p up (w.nodes p).halted _
+      (tested w p up (not (is_primary (w.nodes p).role)) _ _ (tested w p up (leb (length (w.nodes p).volumes) volume) _ _
+      (tested w p up (is_wrong_count (blocks_in bytes) || is_too_large (w.nodes p).ring (blocks_in bytes)) _ _
+      (tested w p up (is_past (w.nodes p).base volume start (blocks_in bytes)) _ _ (written_alone (admitted w p x) x disk))))))))
+
+  fault_alone : (disk : ℕ) → IsAlone p w (outcome_of w (Fault p disk)).world
+  fault_alone disk =
+      tested w p up (leb w.sites p) _ _ (tested w p up (not (is_up (w.nodes p).state)) _ _
+      (one_node w p up (record (w.nodes p) { halted = Some disk; fuse = burned (w.nodes p).fuse }) refl up))
+
+part_alone : (w : World) (site p q : ℕ) (part : LinkPart) → (w.nodes site).state ≡ Up → IsPartAt part p q site → (sync : _)
+    → IsAlone site w (outcome_of w (Link p q sync part)).world
+part_alone w site p q Joins up e = λ sync. subst (λ (i : ℕ). IsAlone site w (outcome_of w (Link p i sync Joins)).world) (sym e) (joins_alone w site up p sync)
+part_alone w site p q Made up e = λ sync. subst (λ (i : ℕ). IsAlone site w (outcome_of w (Link i q sync Made)).world) (sym e) (made_alone w site up q sync)
+part_alone w site p q Marked up e = λ sync. subst (λ (i : ℕ). IsAlone site w (outcome_of w (Link p i sync Marked)).world) (sym e)
+    (marked_alone w site up p sync)
+part_alone w site p q Opened up e = λ sync. subst (λ (i : ℕ). IsAlone site w (outcome_of w (Link i q sync Opened)).world) (sym e)
+    (opened_alone w site up q sync)
+
+writes_alone : (w : World) (e : Event) (site : ℕ) → (w.nodes site).state ≡ Up → WritesAt w e site → IsAlone site w (outcome_of w e).world
+writes_alone w (Site name disks blocks) site up at = absurd at
+writes_alone w (Raw p) site up at = absurd at
+writes_alone w (Write p volume start bytes None) site up at = absurd at
+writes_alone w (Write p volume start bytes (Some disk)) site up at =
+    subst (λ (i : ℕ). IsAlone site w (outcome_of w (Write i volume start bytes (Some disk))).world) (sym at) (write_alone w site up volume start bytes disk)
+writes_alone w (Read p volume start count) site up at = absurd at
+writes_alone w (Apply p count reached) site up at = absurd at
+writes_alone w (Pump p q) site up at = absurd at
+writes_alone w (Tick p q) site up at = absurd at
+writes_alone w (Deliver number) site up at = heard_by w site up number at.0 at.1 at.2 at.3
+writes_alone w (Connect p q) site up at = absurd at
+writes_alone w (Cut p q) site up at = absurd at
+writes_alone w (Pause p q) site up at = absurd at
+writes_alone w (Resume p q) site up at = absurd at
+writes_alone w (Wait p number) site up at = absurd at
+writes_alone w (Link p q sync part) site up at = part_alone w site p q part up at sync
+writes_alone w (Set p q sync) site up at = subst (λ (i : ℕ). IsAlone site w (outcome_of w (Set i q sync)).world) (sym at) (set_alone w site up q sync)
+writes_alone w (Crash p kept) site up at = absurd at
+writes_alone w (Recover p fails) site up at = absurd at
+writes_alone w (Fault p disk) site up at = subst (λ (i : ℕ). IsAlone site w (outcome_of w (Fault i disk)).world) (sym at) (fault_alone w site up disk)
+
+-- headers that are counted, and other notes, are no matter
+like_counted : (w : World) (h : ℕ → ℕ) → IsLike w (record w { headers = h })
+like_counted w h = record {
+  sites = refl;
+  nodes = λ i. refl;
+  links = λ p q. record { linked = refl; same = λ _. refl };
+  lines = λ l. refl;
+  packets = refl;
+  promised = refl;
+  gathering = λ i. refl;
+}
+
+-- worlds that are alike are so with a site as it may be
+like_resolved : (w v : World) (s : ℕ) (a : After) → IsLike w v → IsLike (resolved w s a) (resolved v s a)
+like_resolved w v s a like = record {
+  sites = like.sites;
+  nodes = λ i. pair_updated (λ (m n : Node). n ≡ noted m n) w.nodes v.nodes s a.node a.node i refl (like.nodes i);
+  links = λ p q. pair_updated (λ (r t : ℕ → LinkState). SameLink (r q) (t q)) w.links v.links s a.row a.row p (link_self (a.row q)) (like.links p q);
+  lines = like.lines;
+  packets = like.packets;
+  promised = like.promised;
+  gathering = like.gathering;
+}
+
+twin_like : (s : ℕ) (w v : World) (a : After) → GoodTwin s w (resolved w s a) → IsLike w v → GoodTwin s v (resolved v s a)
+twin_like s w v a t like = record {
+  twin = record {
+    sites = refl;
+    nodes = λ i apart. aside v.nodes s a.node i apart;
+    rows = λ i apart. aside v.links s a.row i apart;
+    lines = refl;
+    packets = refl;
+    promised = refl;
+    gathering = λ i. refl;
+    here = subst (λ (n : ℕ). s < n) (sym like.sites) t.twin.here;
+    name = ap (λ (n : Node). n.name) (at_place v.nodes s a.node) ∙ sym (ap (λ (n : Node). n.name) (at_place w.nodes s a.node)) ∙ t.twin.name ∙ sym
+        (ap (λ (n : Node). n.name) (like.nodes s));
+    up = ap (λ (n : Node). n.state) (like.nodes s) ∙ t.twin.up;
+    up_too = ap (λ (n : Node). n.state) (at_place v.nodes s a.node) ∙ sym (ap (λ (n : Node). n.state) (at_place w.nodes s a.node)) ∙ t.twin.up_too;
+    halted = ap (λ (n : Node). is_running n.halted) (like.nodes s) ∙ t.twin.halted;
+    halted_too = ap (λ (n : Node). is_running n.halted) (at_place v.nodes s a.node) ∙ sym
+        (ap (λ (n : Node). is_running n.halted) (at_place w.nodes s a.node)) ∙ t.twin.halted_too;
+  };
+  good = good_like w v t.good like;
+  good_too = good_like (resolved w s a) (resolved v s a) t.good_too (like_resolved w v s a like);
+}
+
+-- what a halted site may be
+abbrev after_of : Doubted → Event → (site disk : ℕ) → After
+after_of d e site disk = record { node = (stopped_by (step d.world e).world site disk).nodes site; row = (step d.world e).world.links site }
+
+halved_good : (d : Doubted) (e : Event) (site disk : ℕ) → GoodWorld d.world → (d.world.nodes site).state ≡ Up → WritesAt d.world e site
+    → GoodTwin site (halved d e site disk).world (resolved (halved d e site disk).world site (after_of d e site disk))
+halved_good d e site disk g up at =
+    let w : World = d.world in
+    let u : World = (step w e).world in
+    let t : GoodTwin site (stopped_by w site disk) (resolved (stopped_by w site disk) site (record { node = half (u.nodes site) disk; row = u.links site })) =
+    half_good site disk w u g (step_good w e g) up (counted_alone w site e (writes_alone w e site up at)) in
+    twin_like site (stopped_by w site disk) (halved d e site disk).world (after_of d e site disk)
+    (subst (λ (n : Node). GoodTwin site (stopped_by w site disk) (resolved (stopped_by w site disk) site (record { node = n; row = u.links site })))
+    (sym (at_place u.nodes site (half (u.nodes site) disk))) t)
+    (like_counted (stopped_by w site disk) u.headers)
+
+-- ## Lines
+
+like_good : (d new : Doubted) → GoodDoubted d → IsLikeDoubted d new → GoodDoubted new
+like_good d new g like = record {
+  good = good_like d.world new.world g.good like.worlds;
+  twins = λ s a is. twin_like s d.world new.world a (g.twins s a (sym (like.after s) ∙ is)) like.worlds;
+}
+
+quiet_good : (d : Doubted) → GoodWorld d.world → NoDoubts d → GoodDoubted d
+quiet_good d g none = record { good = g; twins = λ s a is. absurd (let e : None ≡ Some a = sym (none s) ∙ is in cc) }
+
+one_doubt : (d : Doubted) (e : Event) (site disk : ℕ) → NoDoubts d
+    → GoodTwin site (halved d e site disk).world (resolved (halved d e site disk).world site (after_of d e site disk)) → GoodDoubted (halved d e site disk)
+one_doubt d e site disk none t = record {
+  good = t.good;
+  twins = λ s. all_updated (λ k (o : Option After). k ≡ s → (a : After) → o ≡ Some a → GoodTwin s (halved d e site disk).world
+      (resolved (halved d e site disk).world s a)) d.after site (Some (after_of d e site disk))
+      (λ here a is. let same : after_of d e site disk ≡ a = cc in
+      subst (λ (i : ℕ). GoodTwin i (halved d e site disk).world (resolved (halved d e site disk).world i a)) here
+      (subst (λ (x : After). GoodTwin site (halved d e site disk).world (resolved (halved d e site disk).world site x)) same t))
+      (λ k _ _ a is. absurd (let f : None ≡ Some a = sym (none k) ∙ is in cc)) s refl;
+}
+
+pub line_good : (d new : Doubted) (events : List Event) (fails : List (ℕ × ℕ)) → GoodWorld d.world → NoDoubts d → Stops d events fails new → GoodDoubted new
+line_good d new events fails g none (AllDone last runs failed like) =
+    let r = runs_good events d last g none runs in like_good last new (quiet_good last r.0 r.1) like
+line_good d new events fails g none (Halts e site disk middle comes failed like) =
+    let r = runs_good comes.before d middle g none comes.runs in
+    like_good (halved middle e site disk) new (one_doubt middle e site disk r.1 (halved_good middle e site disk r.0 comes.opens.0 comes.writes)) like
+line_good d new events fails g none (Cuts e site kept taken middle comes fused failed like) =
+    let r = runs_good comes.before d middle g none comes.runs in
+    let h : Doubted = halved middle e site 0 in
+    let t = halved_good middle e site 0 r.0 comes.opens.0 comes.writes in
+    like_good (crashed_as h site kept taken) new
+    (quiet_good (crashed_as h site kept taken)
+    (crashed_good h site kept taken (after_of middle e site 0) (at_place middle.after site (Some (after_of middle e site 0))) t)
+    (all_updated (λ _ (o : Option After). o ≡ None) h.after site None refl
+    (λ k apart. aside middle.after site (Some (after_of middle e site 0)) k apart ∙ r.1 k)))
+    like
+line_good d new events fails g none (Reads before rest e site disk middle split runs quiet failed like) =
+    let r = runs_good before d middle g none runs in like_good middle new (quiet_good middle r.0 r.1) like

@@ -1,0 +1,128 @@
+#!/usr/bin/env python3
+"""Lists every public call with the names of its clauses, in docs/CONTRACTS.md.
+
+contracts.py --write   writes the list
+contracts.py           fails where the list is not that of the sources, or where a clause that a table of promises names is not in it
+"""
+import re
+import sys
+from pathlib import Path
+
+ROOT = Path(__file__).resolve().parent.parent
+LIST = ROOT / 'docs' / 'CONTRACTS.md'
+TABLES = [ROOT / 'README.md', ROOT / 'docs' / 'AHEAD.md']
+HEAD = '''# Contracts
+
+Every public call, with the names of its clauses; `returns` stands for a clause that has no name. `docs/contracts.py --write` makes this list from the sources, and the checks compare it. A law is a call without a body: its clauses hold of the definitions that they name.
+'''
+
+
+def crates():
+    lines = (ROOT / 'crates.txt').read_text().splitlines()
+    return [line.split(':')[0] for line in lines if ':' in line and not line.startswith('#')]
+
+
+def exported(lib):
+    """The public modules of a crate, and the names that it passes on."""
+    modules = set(re.findall(r'^pub mod (\w+);', lib, re.M))
+    names = set()
+    for use in re.findall(r'^pub use ([^;]*);', lib, re.M):
+        names |= set(re.findall(r'(\w+)\s*(?:,|\}|$)', use))
+    return modules, names
+
+
+class Calls:
+    """The calls of one file, in its order."""
+
+    def __init__(self, module, modules, names):
+        self.open = module in modules or module == 'lib'
+        self.names = names
+        self.owner = None
+        self.shown = False
+        self.trait = False
+        self.found = []
+
+    def line(self, text):
+        block = re.match(r'(?:unsafe )?(impl|pub trait)\b(.*)', text)
+        if block:
+            self.begin(block.group(1), block.group(2))
+        elif text == '}':
+            self.owner, self.shown, self.trait = None, False, False
+        call = re.match(r'\s*(pub(?:\(\w+\))? )?(?:const )?fn (\w+)', text)
+        if call:
+            public = call.group(1) == 'pub ' or (self.owner and self.trait)
+            seen = self.shown if self.owner else self.open or call.group(2) in self.names
+            self.current = [] if public and seen else None
+            if self.current is not None:
+                name = f'{self.owner}::{call.group(2)}' if self.owner else call.group(2)
+                self.found.append((name, self.current))
+        clause = re.match(r'\s*(requires|ensures)\*? (?:(\w+) )?\{', text)
+        if clause and self.found and self.current is not None:
+            self.current.append((clause.group(1), clause.group(2) or 'returns'))
+
+    def begin(self, kind, rest):
+        rest = re.sub(r'^<[^>]*(?:<[^>]*>[^>]*)*>', '', rest).strip()
+        self.trait = kind == 'pub trait'
+        owner = re.search(r'\bfor (\w+)', rest) or re.match(r'(\w+)', rest)
+        self.owner = owner.group(1)
+        self.shown = (self.open or self.owner in self.names) and (self.trait or ' for ' not in f' {rest}')
+
+    current = None
+
+
+def calls(crate):
+    source = ROOT / 'crates' / crate / 'src'
+    top = source / 'lib.rt'
+    if not top.exists():
+        return []
+    modules, names = exported(top.read_text())
+    found = []
+    for path in sorted(source.rglob('*.rt')):
+        if 'tests' in path.parts or path.stem == 'tests':
+            continue
+        reader = Calls(path.stem, modules, names)
+        for text in path.read_text().splitlines():
+            reader.line(text)
+        found += reader.found
+    return found
+
+
+def listed():
+    parts = [HEAD]
+    for crate in crates():
+        rows = [(name, clauses) for name, clauses in calls(crate) if clauses]
+        if not rows:
+            continue
+        parts.append(f'\n## {crate}\n\n')
+        for name, clauses in rows:
+            asks = ', '.join(c for kind, c in clauses if kind == 'requires')
+            gives = ', '.join(c for kind, c in clauses if kind == 'ensures')
+            asked = f' (asks {asks})' if asks else ''
+            parts.append(f'- `{name}`{asked}: {gives or "nothing beside"}\n')
+    return ''.join(parts)
+
+
+def cited():
+    """The clauses that the tables of promises name, as `crate call clause`."""
+    for page in TABLES:
+        for row in page.read_text().splitlines():
+            if row.startswith('|'):
+                yield from ((page.name, *one) for one in re.findall(r'`(vx_\w+) ([\w:]+) (\w+)`', row))
+
+
+def main():
+    text = listed()
+    if '--write' in sys.argv[1:]:
+        LIST.write_text(text)
+        return 0
+    wrong = []
+    if not LIST.exists() or LIST.read_text() != text:
+        wrong.append('docs/CONTRACTS.md is not the list of the sources: run docs/contracts.py --write')
+    known = {(crate, name, clause) for crate in crates() for name, clauses in calls(crate) for _, clause in clauses}
+    wrong += [f'{page} names {" ".join(one)}, which is no clause' for page, *one in cited() if tuple(one) not in known]
+    print('\n'.join(wrong) or 'contracts: the list and the tables of promises are those of the sources')
+    return 1 if wrong else 0
+
+
+if __name__ == '__main__':
+    sys.exit(main())
