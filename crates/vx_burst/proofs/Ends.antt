@@ -33,6 +33,7 @@ use Rattle.vx_burst_threads.specs.Writing.{Stands, IsMade, IsLeft, HasMade, Wrot
 use Rattle.vx_burst_threads.specs.Draining.{JobFits, JobsFit, Drained, DrainedWith}
 use Rattle.vx_burst_threads.specs.Working.{AllSet, HasWorked, EachWorked}
 use Rattle.vx_burst_threads.specs.Joining.{pass_of, backs, IsMadeBy, Meeting, WorkedAndMet}
+use Rattle.vx_burst_threads.specs.Laying.{LaidWith}
 use Rattle.vx_burst_threads.proofs.Making.{stands-more}
 use Rattle.vx_burst_threads.proofs.Draining.{none-of}
 use Rattle.vx_burst.specs.Setting.{IsSetUp, AreSetUp}
@@ -271,7 +272,8 @@ module _ {P : Type 0} (stand : P → Stand) (root : P → P) where
 
   -- what the threads left, with the history that the turn's end gives
   pub joined-of : {E : Type 0} (state : E → State) (base : E → E) (first : E) (z : TableId) (callers : ℕ) (plan : List Planned) (firsts : List P) (olds : List Answered) (engine : E) (out : List P) (news : List Answered)
-      → (h : HasJoined stand root state base first z callers plan firsts olds engine out news) → Joined z (state first) callers plan firsts h.pass h.last out h.closes.log × Legal (state first) h.closes.log × Fits (state first) h.closes.log (state engine)
+      → (h : HasJoined stand root state base first z callers plan firsts olds engine out news)
+      → (j : Joined z (state first) callers plan firsts h.pass h.last out h.closes.log) × LaidWith (IsMadeBy j.xs) olds news × Legal (state first) h.closes.log × Fits (state first) h.closes.log (state engine)
   joined-of state base first z callers plan firsts olds engine out news h = let m = h.worked.met in let pairs = paired plan h.ws h.worked.xs h.worked.worked in
       let start : start_of h.last ≡ state first = m.start ∙ h.own.start_is in let all : callers_of h.last ≡ callers = m.callers ∙ h.own.callers_is in (
         record {
@@ -287,6 +289,7 @@ module _ {P : Type 0} (stand : P → Stand) (root : P → P) where
           has = h.closes.own;
           seen = h.closes.whole (λ by lt. ⊎_elim (worker by) (last by) (split by (length h.ws) (let a = h.all in omega (arith, a, all, lt))));
         },
+        h.worked.laid,
         subst (λ s. Legal s h.closes.log) start h.closes.legal,
         subst (λ s. Fits s h.closes.log (state engine)) start h.closes.fits,
       )

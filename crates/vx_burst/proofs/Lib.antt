@@ -6,3 +6,4 @@ pub mod Waitings
 pub mod Placings
 pub mod Ends
 pub mod Placed
+pub mod Rans

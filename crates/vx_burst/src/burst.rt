@@ -1,6 +1,6 @@
 // A burst.
 ghost use Rattle.vx_turn.specs.Passing.{table_of, first_of, AreDealt};
-ghost use Rattle.std.specs.Prelude.{◌≡◌, ◌≤◌, ◌<◌, ◌+◌, false, [], length, vec_capacity};
+ghost use Rattle.std.specs.Prelude.{◌≡◌, ◌≤◌, ◌<◌, ◌+◌, false, [], length, vec_capacity, IfOk, IfErr};
 ghost use Rattle.vx_settle.specs.Bringing.{HaveLinks};
 ghost use Rattle.vx_burst_threads.specs.Planning.{AllCalls};
 ghost use Rattle.vx_burst.specs.Setting.{HasRoom, AreRooms};
@@ -142,6 +142,12 @@ pub fn run<H: Threads + Wait + Sync, E: Engine, P: Peer, G: Gate>(
     threads: u32,
     gate: &G,
 ) -> Result<Outcome<E, P>, (E, Vec<P>, OutOfMemory)>
+    requires runs { (E.state engine).halted ≡ false }
+    requires few { (threads ≤ MOST_THREADS) × (length peers.items ≤ MOST_PEERS) }
+    requires calls { AllCalls plan.now }
+    requires links { HaveLinks P.stand (E.state engine) peers.items }
+    ensures ok { IfOk result (λ o. Ran P.stand P.root E.state E.root plan.now engine peers.items o.engine o.peers.items o.answers.items) }
+    ensures err { IfErr result (λ e. (e.0 ≡ engine) × (e.1 ≡ peers)) }
 {
     let Some(room) = take_room::<P>(alloc, plan, threads, peers.len()) else {
         return Err((engine, peers, OutOfMemory));
