@@ -1,25 +1,23 @@
 -- What each worker knows alone, said of the whole history once all are met.
-use Rattle.std.proofs.Common.{◌≡◌, ◌≢◌, ◌⊎◌, ℕ, zero, suc, ◌+◌, ◌-◌, ◌<◌, ◌≤◌, ◌==◌, Bool, true, false, List, [], ◌∷◌, ◌++◌, length, map, cond, refl, ap, sym, ◌∙◌, subst, ⊎_elim, inl, inr, arith, append_assoc, length-append, eq-eqb, Some, slice_get, slice_index_or}
+use Rattle.std.proofs.Common.{◌≡◌, ◌⊎◌, ℕ, zero, suc, ◌+◌, ◌<◌, ◌≤◌, ◌==◌, Bool, true, false, List, [], ◌∷◌, ◌++◌, length, cond, refl, ap, sym, ◌∙◌, subst, ⊎_elim, inl, inr, arith, length-append, eq-eqb, Some, slice_get}
 use Rattle.std.proofs.lemmas.Option.{slice_get-get_or, get_or_from_slice_get, slice_get_within}
 use Rattle.atomic_table.specs.Seated.{TableId}
 use Rattle.vx_model.specs.declared.call.Reply.{Reply}
-use Rattle.vx_model.specs.declared.call.Update.{Update}
 use Rattle.vx_turn.specs.declared.ask.Ask.{Ask}
 use Rattle.vx_turn.specs.declared.ask.Ask.TheVariants.{Ordered, Charged}
 use Rattle.vx_turn.specs.declared.ask.Said.{Said}
-use Rattle.vx_turn.specs.declared.ask.Said.TheVariants.{Replied, Worked}
+use Rattle.vx_turn.specs.declared.ask.Said.TheVariants.{Replied}
 use Rattle.vx_turn.specs.declared.ask.Job.TheVariants.{Apply, Fetch, Acked, Wait}
 use Rattle.vx_turn.specs.declared.meaning.Entry.{Entry}
 use Rattle.vx_turn.specs.declared.meaning.State.{State}
 use Rattle.vx_turn.specs.declared.passes.Pass.{Pass}
 use Rattle.vx_turn.specs.Acting.{Among}
-use Rattle.vx_turn.specs.History.{Begins, Legal, Fits, HasLogged, places, places_from, Named, asked}
+use Rattle.vx_turn.specs.History.{Begins, Legal, Fits, HasLogged, places, places_from, Named}
 use Rattle.vx_turn.specs.Turning.{Has}
-use Rattle.vx_turn.specs.Passing.{view_of, seen_of, start_of, mine_of, met_of, callers_of, table_id_of, IsNew, Closes}
-use Rattle.vx_turn.proofs.Histories.{among-split, logged-more, places-rest, places_from-append}
+use Rattle.vx_turn.specs.Passing.{view_of, seen_of, start_of, mine_of, met_of, callers_of, IsNew}
+use Rattle.vx_turn.proofs.Histories.{logged-more}
 use Rattle.vx_turn.proofs.Dealing.{get-snoc}
 use Rattle.vx_settle.specs.declared.peer.Stand.{Stand}
-use Rattle.vx_settle.specs.Peers.{Goes}
 use Rattle.vx_settle.proofs.ManyPeers.{some-one, get-inside}
 use Rattle.vx_burst_threads.specs.declared.plan.Planned.{Planned}
 use Rattle.vx_burst_threads.specs.declared.plan.Answered.{Answered}
@@ -28,14 +26,13 @@ use Rattle.vx_burst_threads.specs.declared.writer.Writer.{Writer}
 use Rattle.vx_burst_threads.specs.declared.writer.Made.{Made}
 use Rattle.vx_burst_threads.specs.declared.worker.Worker.{Worker}
 use Rattle.vx_burst_threads.specs.declared.worker.Worker.TheVariants.{Writes, Drains}
-use Rattle.vx_burst_threads.specs.Planning.{call_for, IsStalled}
-use Rattle.vx_burst_threads.specs.Writing.{Stands, IsMade, IsLeft, HasMade, Wrote}
-use Rattle.vx_burst_threads.specs.Draining.{JobFits, JobsFit, Drained, DrainedWith}
+use Rattle.vx_burst_threads.specs.Planning.{call_for}
+use Rattle.vx_burst_threads.specs.Writing.{Stands, IsLeft, Wrote}
+use Rattle.vx_burst_threads.specs.Draining.{JobFits, JobsFit, DrainedWith}
 use Rattle.vx_burst_threads.specs.Working.{AllSet, HasWorked, EachWorked}
-use Rattle.vx_burst_threads.specs.Joining.{pass_of, backs, IsMadeBy, Meeting, WorkedAndMet}
+use Rattle.vx_burst_threads.specs.Joining.{pass_of, backs, IsMadeBy, Meeting}
 use Rattle.vx_burst_threads.specs.Laying.{LaidWith}
 use Rattle.vx_burst_threads.proofs.Making.{stands-more}
-use Rattle.vx_burst_threads.proofs.Draining.{none-of}
 use Rattle.vx_burst.specs.Setting.{IsSetUp, AreSetUp}
 use Rattle.vx_burst.specs.Finishing.{Went, AckWithin, Underway, IsIdle}
 use Rattle.vx_burst.specs.Ending.{HasJoined}
@@ -108,20 +105,23 @@ module _ {P : Type 0} (stand : P → Stand) (root : P → P) where
     where
       less : Paired plan ws xs
       less = ((let n = pairs.0 in omega (arith, n)), λ i u v y z. pairs.1 (suc i) u v y z)
+
       Goal : Type 0
       Goal = (i : ℕ) × (d : Drainer P) × (e : Drainer P) × (slice_get (w ∷ ws) i ≡ Some (Drains d)) × (slice_get (x ∷ xs) i ≡ Some (Drains e)) × (d.peer ≡ p) × (e.peer ≡ q)
+
       later : (i : ℕ) × (d : Drainer P) × (e : Drainer P) × (slice_get ws i ≡ Some (Drains d)) × (slice_get xs i ≡ Some (Drains e)) × (d.peer ≡ p) × (e.peer ≡ q)
           → (i : ℕ) × (d : Drainer P) × (e : Drainer P) × (slice_get (w ∷ ws) i ≡ Some (Drains d)) × (slice_get (x ∷ xs) i ≡ Some (Drains e)) × (d.peer ≡ p) × (e.peer ≡ q)
       later (i, d, e, s, t, u, v) = (suc i, d, e, s, t, u, v)
+
       one : (u v : Worker P) → u ≡ w → v ≡ x → HasWorked stand root plan u v
           → (slice_get (backs ws) j ≡ Some p → slice_get (backs xs) j ≡ Some q → (i : ℕ) × (d : Drainer P) × (e : Drainer P) × (slice_get ws i ≡ Some (Drains d)) × (slice_get xs i ≡ Some (Drains e)) × (d.peer ≡ p) × (e.peer ≡ q))
           → slice_get (backs (u ∷ ws)) j ≡ Some p → slice_get (backs (v ∷ xs)) j ≡ Some q
           → (i : ℕ) × (d : Drainer P) × (e : Drainer P) × (slice_get (w ∷ ws) i ≡ Some (Drains d)) × (slice_get (x ∷ xs) i ≡ Some (Drains e)) × (d.peer ≡ p) × (e.peer ≡ q)
       one (Writes u) (Writes v) uw vx h rest a b = later (rest a b)
       one (Drains u) (Drains v) uw vx h rest a b = ⊎_elim (λ (y : slice_get (backs ws) j ≡ Some p). ⊎_elim (λ (z : slice_get (backs xs) j ≡ Some q). later (rest y z))
-            (λ (z : (j ≡ length (backs xs)) × (v.peer ≡ q)). absurd (let n = get-inside (backs ws) j p y in let l = backs-long plan ws xs less in let k = z.0 in omega (arith, n, l, k))) (get-snoc (backs xs) v.peer q j b))
+          (λ (z : (j ≡ length (backs xs)) × (v.peer ≡ q)). absurd (let n = get-inside (backs ws) j p y in let l = backs-long plan ws xs less in let k = z.0 in omega (arith, n, l, k))) (get-snoc (backs xs) v.peer q j b))
           (λ (y : (j ≡ length (backs ws)) × (u.peer ≡ p)). ⊎_elim (λ (z : slice_get (backs xs) j ≡ Some q). absurd (let n = get-inside (backs xs) j q z in let l = backs-long plan ws xs less in let k = y.0 in omega (arith, n, l, k)))
-            (λ (z : (j ≡ length (backs xs)) × (v.peer ≡ q)). (0, u, v, ap Some (sym uw), ap Some (sym vx), y.1, z.1)) (get-snoc (backs xs) v.peer q j b)) (get-snoc (backs ws) u.peer p j a)
+          (λ (z : (j ≡ length (backs xs)) × (v.peer ≡ q)). (0, u, v, ap Some (sym uw), ap Some (sym vx), y.1, z.1)) (get-snoc (backs xs) v.peer q j b)) (get-snoc (backs ws) u.peer p j a)
       one (Writes u) (Drains v) uw vx h rest a b = absurd h
       one (Drains u) (Writes v) uw vx h rest a b = absurd h
 
@@ -177,11 +177,11 @@ module _ {P : Type 0} (stand : P → Stand) (root : P → P) where
     writer-class n i e w x at by old new h number = let fresh = (j.set i (Writes w) old).0.none_made in let m = h.made fresh in
         let mine : Among (suc n) (mine_of x.pass) = subst (Among (suc n)) (ap (λ c. places c log) by ∙ places-of i (Writes x) new number) (place-here log n e at) in
         ⊎_elim (λ (o : (d : Made) × Among d x.made.items × (d.place ≡ suc n)). let k = m.1.each o.0 o.1 in
-              let g = stands-get log o.0.place x.pass.number (Ordered (call_for k.planned)) (Replied k.reply) (stands-more (seen_of x.pass) log o.0.place x.pass.number (Ordered (call_for k.planned)) (Replied k.reply) k.stands (begins-of i (Writes x) new)) n (sym o.2) e at in
-              inl (record { made = o.0; by = (x, (i, new), o.1); place = o.2; planned = k.planned; reply = k.reply; is = k.is; asks = g.1; says = g.2 }))
-          (λ (o : IsLeft plan w.thread m.0 x.pass (suc n)).
-              let g = stands-get log (suc n) x.pass.number (Ordered (call_for o.planned)) (Replied o.reply) (stands-more (seen_of x.pass) log (suc n) x.pass.number (Ordered (call_for o.planned)) (Replied o.reply) o.stands (begins-of i (Writes x) new)) n refl e at in
-              inr (subst (λ (y : Ask × Said). IsIdle y.0 y.1 × AckWithin stand root out y.0) (λ k. (sym g.1 k, sym g.2 k)) (o.stalled, tt))) (m.1.only (suc n) mine)
+        let g = stands-get log o.0.place x.pass.number (Ordered (call_for k.planned)) (Replied k.reply) (stands-more (seen_of x.pass) log o.0.place x.pass.number (Ordered (call_for k.planned)) (Replied k.reply) k.stands (begins-of i (Writes x) new)) n (sym o.2) e at in
+        inl (record { made = o.0; by = (x, (i, new), o.1); place = o.2; planned = k.planned; reply = k.reply; is = k.is; asks = g.1; says = g.2 }))
+        (λ (o : IsLeft plan w.thread m.0 x.pass (suc n)).
+        let g = stands-get log (suc n) x.pass.number (Ordered (call_for o.planned)) (Replied o.reply) (stands-more (seen_of x.pass) log (suc n) x.pass.number (Ordered (call_for o.planned)) (Replied o.reply) o.stands (begins-of i (Writes x) new)) n refl e at in
+        inr (subst (λ (y : Ask × Said). IsIdle y.0 y.1 × AckWithin stand root out y.0) (λ k. (sym g.1 k, sym g.2 k)) (o.stalled, tt))) (m.1.only (suc n) mine)
 
     -- where a link's worker's peer came back
     drainer-back : (i : ℕ) (d : Drainer P) → slice_get j.xs i ≡ Some (Drains d) → (k : ℕ) × (slice_get out k ≡ Some d.peer)
@@ -237,6 +237,7 @@ module _ {P : Type 0} (stand : P → Stand) (root : P → P) where
         split zero (suc k) lt = inl (omega arith)
         split (suc i) zero lt = absurd (omega (arith, lt))
         split (suc i) (suc k) lt = ⊎_elim (λ (x : i < k). inl (omega (arith, x))) (λ (x : i ≡ k). inr (ap suc x)) (split i k (omega (arith, lt)))
+
         by-worker : (w x : Worker P) → slice_get j.ws e.caller ≡ Some w → slice_get j.xs e.caller ≡ Some x → HasWorked stand root plan w x → (pass_of x).number ≡ e.caller → Class n e
         by-worker (Writes w) (Writes x) old new h number = writer-class n e.caller e w x at refl old new h number
         by-worker (Drains w) (Drains x) old new h number = drainer-class n e.caller e w x at refl old new h number
@@ -299,10 +300,12 @@ module _ {P : Type 0} (stand : P → Stand) (root : P → P) where
       split zero (suc k) lt = inl (omega arith)
       split (suc i) zero lt = absurd (omega (arith, lt))
       split (suc i) (suc k) lt = ⊎_elim (λ (x : i < k). inl (omega (arith, x))) (λ (x : i ≡ k). inr (ap suc x)) (split i k (omega (arith, lt)))
+
       worker : (by : ℕ) → by < length h.ws → (ps : List ℕ) × Has (view_of h.last) by ps
       worker by lt = let pairs = paired plan h.ws h.worked.xs h.worked.worked in let a = get-some h.ws by lt in let n = pairs.0 in let b = get-some h.worked.xs by (omega (arith, n, lt)) in
           let s = worked-pass z (state first) callers plan by a.0 b.0 (h.set by a.0 a.1) (pairs.1 by a.0 b.0 a.1 b.1) in
           (mine_of (pass_of b.0), inr (subst (λ k. Among (k, mine_of (pass_of b.0)) (met_of h.last)) s.0 (h.worked.met.each b.0 (by, b.1)).1))
+
       last : (by : ℕ) → by ≡ length h.ws → (ps : List ℕ) × Has (view_of h.last) by ps
       last by is = let rest = h.last.at_rest in let number : h.last.number ≡ length h.ws = h.worked.met.same.1 ∙ h.own.number_is in let low : (view_of h.last).low ≡ h.last.number = rest.2 in let one = rest.3 in
           (mine_of h.last, inl (omega (arith, low, number, is), omega (arith, low, one, number, is), refl))

@@ -1,8 +1,8 @@
 -- Places among those that stay.
-use Rattle.std.proofs.Common.{◌≡◌, ◌≢◌, ◌⊎◌, ℕ, zero, suc, ◌+◌, ◌-◌, ◌<◌, ◌≤◌, ◌==◌, Bool, true, false, List, [], ◌∷◌, ◌++◌, length, take, refl, ap, sym, ◌∙◌, subst, ⊎_elim, inl, inr, arith, length-append, eq-eqb, ne_eqb, slice_get, slice_set, slice_index_or, Some}
+use Rattle.std.proofs.Common.{◌≡◌, ◌≢◌, ◌⊎◌, ℕ, zero, suc, ◌+◌, ◌<◌, ◌≤◌, ◌==◌, Bool, true, false, List, [], ◌∷◌, ◌++◌, length, take, refl, ap, sym, ◌∙◌, subst, ⊎_elim, inl, inr, arith, length-append, eq-eqb, ne_eqb, slice_get, slice_set, Some}
 use Rattle.std.proofs.lemmas.List.{append-nil}
 use Rattle.std.proofs.lemmas.Option.{slice_get-get_or, get_or_from_slice_get, slice_get_within}
-use Rattle.std.specs.List.{sum_by, fold, Contains}
+use Rattle.std.specs.List.{fold, Contains}
 use Rattle.std.specs.List.Sorted.{IsPermutation}
 use Rattle.std.proofs.lemmas.List.Sorted.{Contains-permutation, sum_by-IsPermutation, length_permutation, IsPermutation-sym}
 use Rattle.vx_turn.specs.Acting.{Among}
@@ -13,7 +13,7 @@ use Rattle.vx_burst_threads.specs.declared.plan.Answered.{Answered}
 use Rattle.vx_burst.specs.declared.placing.Spot.{Spot}
 use Rattle.vx_burst.specs.Setting.{one_if}
 use Rattle.vx_burst.specs.Finishing.{unplaced}
-use Rattle.vx_burst.specs.Placing.{spot_of, times, Once, AreInside, Noted, Sorted, Numbered, Renumbered}
+use Rattle.vx_burst.specs.Placing.{spot_of, times, Once, Noted, Numbered}
 
 times-append : (k : ℕ) (xs ys : List Spot) → times k (xs ++ ys) ≡ times k xs + times k ys
 times-append k [] ys = omega arith
@@ -63,8 +63,10 @@ noted-more answers k a xs ys at is n = subst (Noted answers (k + 1)) (sym is) (�
   where
     next : unplaced (take (k + 1) answers) ≡ unplaced (take k answers) + one_if (a.place == 0)
     next = let e : suc k ≡ k + 1 = omega arith in subst (λ j. unplaced (take j answers) ≡ unplaced (take k answers) + one_if (a.place == 0)) e (unplaced-more answers k a at)
+
     split : (j : ℕ) → j < k + 1 → (j < k) ⊎ (j ≡ k)
     split j lt = ⊎_elim (λ (x : j ≡ k). inr x) (λ (x : (j < k) ⊎ (k < j)). ⊎_elim (λ (y : j < k). inl y) (λ (y : k < j). absurd (omega (arith, lt, y))) x) (which j k)
+
     zero-case : (a.place ≡ 0) × (spot_of a.place k ≡ []) → Noted answers (k + 1) (xs ++ spot_of a.place k)
     zero-case z = subst (λ l. Noted answers (k + 1) (xs ++ l)) (sym z.1) (subst (Noted answers (k + 1)) (sym (append-nil xs)) (record {
       each = λ i s get. let o = n.each i s get in (let d = o.0 in omega (arith, d), o.1);
@@ -72,6 +74,7 @@ noted-more answers k a xs ys at is n = subst (Noted answers (k + 1)) (sym is) (�
       once = n.once;
       count = let c = n.count in let e : one_if (a.place == 0) ≡ 1 = ap one_if (eq-eqb a.place 0 z.0) in let d = next in omega (arith, c, d, e);
     }))
+
     some-case : (0 < a.place) × (spot_of a.place k ≡ record { place = a.place; at = k } ∷ []) → Noted answers (k + 1) (xs ++ spot_of a.place k)
     some-case z = subst (λ l. Noted answers (k + 1) (xs ++ l)) (sym z.1) (record {
       each = λ i s get. ⊎_elim (λ (x : slice_get xs i ≡ Some s). let o = n.each i s x in (let d = o.0 in omega (arith, d), o.1))
@@ -84,8 +87,10 @@ noted-more answers k a xs ys at is n = subst (Noted answers (k + 1)) (sym is) (�
       where
         spot : Spot
         spot = record { place = a.place; at = k }
+
         apart : (j : ℕ) → (j < k) ⊎ (k < j) → j ≡ k → ⊥
         apart j x e = ⊎_elim (λ (y : j < k). absurd (omega (arith, y, e))) (λ (y : k < j). absurd (omega (arith, y, e))) x
+
         one-few : (b : Bool) → one_if b ≤ 1
         one-few true = omega arith
         one-few false = omega arith
@@ -117,7 +122,7 @@ numbered-more spots n olds news s a b once here at place reply d = record {
   long = set-long news s.at b ∙ d.long;
   each = λ i t lt get. ⊎_elim (λ (x : i ≡ n). let same : t ≡ s = some-one (sym get ∙ (ap (slice_get spots) x ∙ here)) in (b, ap (λ (y : Spot). slice_get (slice_set news s.at b) y.at) same ∙ set-here news s.at b (get-inside news s.at a at), place ∙ ap (λ j. j + 1) (sym x)))
       (λ (x : (i < n) ⊎ (n < i)). ⊎_elim (λ (y : i < n). let o = d.each i t y get in (o.0, set-else news s.at b t.at o.0 (λ e. absurd (let z = once-same spots i n t s once get here e in omega (arith, z, y))) o.1, o.2))
-          (λ (y : n < i). absurd (omega (arith, y, lt))) x) (which i n);
+      (λ (y : n < i). absurd (omega (arith, y, lt))) x) (which i n);
   same = λ k x get. ⊎_elim (λ (o : (k ≡ s.at) × (b ≡ x)). let z = d.same s.at a at in (z.0, ap (slice_get olds) o.0 ∙ z.1, ap (λ (y : Answered). y.reply) (sym o.1) ∙ (reply ∙ z.2))) (λ (o : (k ≢ s.at) × (slice_get news k ≡ Some x)). d.same k x o.1) (get-set news s.at b k x get);
   else = λ k none. get-else news s.at b k (λ e. none n s (omega arith) here (sym e)) ∙ d.else k (λ i t lt get is. none i t (omega (arith, lt)) get is);
 }

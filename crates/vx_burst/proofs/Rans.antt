@@ -1,5 +1,5 @@
 -- The whole of a burst, from its parts.
-use Rattle.std.proofs.Common.{◌≡◌, ℕ, zero, suc, ◌+◌, ◌<◌, ◌==◌, List, [], ◌∷◌, ◌++◌, length, take, drop, refl, ap, sym, ◌∙◌, subst, arith, ne_eqb, Some, slice_get}
+use Rattle.std.proofs.Common.{◌≡◌, ℕ, zero, suc, ◌<◌, ◌==◌, List, [], ◌∷◌, ◌++◌, length, take, drop, refl, ap, sym, subst, arith, ne_eqb}
 use Rattle.atomic_table.specs.Seated.{TableId}
 use Rattle.vx_turn.specs.declared.meaning.Entry.{Entry}
 use Rattle.vx_turn.specs.declared.meaning.State.{State}
@@ -10,10 +10,10 @@ use Rattle.vx_burst_threads.specs.declared.plan.Planned.{Planned}
 use Rattle.vx_burst_threads.specs.declared.plan.Answered.{Answered}
 use Rattle.vx_burst.specs.Setting.{AreBlank, one_if}
 use Rattle.vx_burst.specs.Placing.{Renumbered}
-use Rattle.vx_burst.specs.Finishing.{Underway, Stage, StagesOn, ArePlaced, unplaced, WaitsOn}
+use Rattle.vx_burst.specs.Finishing.{Stage, StagesOn, ArePlaced, unplaced, WaitsOn}
 use Rattle.vx_burst.specs.Ending.{HasJoined, Ran}
 use Rattle.vx_burst.proofs.Underways.{get-some}
-use Rattle.vx_burst.proofs.Ends.{Joined, joined-of, joined-underway}
+use Rattle.vx_burst.proofs.Ends.{joined-of, joined-underway}
 use Rattle.vx_burst.proofs.Placed.{joined-stage}
 
 -- where all have places none has none

@@ -1,5 +1,5 @@
 -- The memory of a burst.
-use Rattle.std.proofs.Common.{◌≡◌, ◌≢◌, ◌⊎◌, ℕ, zero, suc, ◌+◌, ◌-◌, ◌<◌, ◌≤◌, ◌==◌, Bool, true, false, List, [], ◌∷◌, ◌++◌, length, take, cond, refl, ap, sym, ◌∙◌, subst, ⊎_elim, inl, inr, arith, ne_eqb, slice_get, Some, vec_capacity}
+use Rattle.std.proofs.Common.{◌≡◌, ℕ, zero, suc, ◌+◌, ◌-◌, ◌≤◌, ◌==◌, Bool, true, false, List, [], ◌∷◌, ◌++◌, length, take, cond, refl, ap, sym, ◌∙◌, subst, ⊎_elim, arith, slice_get, Some, vec_capacity}
 use Rattle.vx_turn.proofs.Dealing.{get-snoc}
 use Rattle.vx_settle.proofs.ManyPeers.{some-one}
 use Rattle.vx_burst_threads.specs.declared.plan.Planned.{Planned}
@@ -7,7 +7,6 @@ use Rattle.vx_burst_threads.specs.declared.plan.Answered.{Answered}
 use Rattle.vx_burst_threads.specs.Planning.{own_count}
 use Rattle.vx_burst.specs.declared.rooms.Space.{Space}
 use Rattle.vx_burst.specs.Setting.{AreBlank, AreRooms, one_if}
-use Rattle.vx_burst.proofs.Settings.{snoc-long}
 
 pub blank-none : (xs : List Answered) → xs ≡ [] → AreBlank xs
 blank-none xs is k a at = absurd (cc (subst (λ l. slice_get l k ≡ Some a) is at))
@@ -21,7 +20,7 @@ spaces-none plan threads xs is i r at = absurd (cc (subst (λ l. slice_get l i �
 pub spaces-more : (plan : List Planned) (threads thread : ℕ) (xs ys : List Space) (r : Space) → ys ≡ xs ++ r ∷ [] → r.made.items ≡ [] → own_count thread plan ≤ vec_capacity r.made → length xs + thread ≡ threads → AreRooms plan threads xs → AreRooms plan threads ys
 spaces-more plan threads thread xs ys r is none room sum b i x at = ⊎_elim (λ (o : slice_get xs i ≡ Some x). b i x o)
     (λ (o : (i ≡ length xs) × (r ≡ x)). let t : thread ≡ threads - i = (let n = o.0 in omega (arith, sum, n)) in
-        subst (λ (y : ℕ × Space). (y.1.made.items ≡ []) × (own_count y.0 plan ≤ vec_capacity y.1.made)) (λ k. (t k, o.1 k)) (none, room)) (get-snoc xs r x i (subst (λ l. slice_get l i ≡ Some x) is at))
+    subst (λ (y : ℕ × Space). (y.1.made.items ≡ []) × (own_count y.0 plan ≤ vec_capacity y.1.made)) (λ k. (t k, o.1 k)) (none, room)) (get-snoc xs r x i (subst (λ l. slice_get l i ≡ Some x) is at))
 
 -- one member more
 pub own-step : (thread : ℕ) (plan : List Planned) (k : ℕ) (pl : Planned) → slice_get plan k ≡ Some pl → own_count thread (take (suc k) plan) ≡ own_count thread (take k plan) + one_if (pl.thread == thread)

@@ -1,12 +1,11 @@
 -- One more worker is set.
-use Rattle.std.proofs.Common.{◌≡◌, ◌⊎◌, ℕ, zero, suc, ◌+◌, ◌-◌, ◌<◌, ◌≤◌, List, [], ◌∷◌, ◌++◌, length, refl, ap, sym, ◌∙◌, subst, ⊎_elim, inl, inr, arith, append_assoc, length-append, Option, Some, None, slice_get, vec_capacity}
+use Rattle.std.proofs.Common.{◌≡◌, ℕ, ◌+◌, ◌-◌, ◌<◌, ◌≤◌, List, [], ◌∷◌, ◌++◌, length, refl, ap, sym, ◌∙◌, subst, ⊎_elim, arith, append_assoc, length-append, Option, Some, None, slice_get, vec_capacity}
 use Rattle.std.specs.Prelude.{MatchOption}
-use Rattle.std.proofs.lemmas.List.{append-nil}
 use Rattle.atomic_table.specs.Seated.{TableId}
 use Rattle.vx_turn.specs.declared.meaning.State.{State}
 use Rattle.vx_turn.specs.declared.passes.Pass.{Pass}
 use Rattle.vx_turn.specs.declared.passes.Passes.{Passes}
-use Rattle.vx_turn.specs.Passing.{IsNew, AreDealt, Pops, start_of}
+use Rattle.vx_turn.specs.Passing.{IsNew, AreDealt, Pops}
 use Rattle.vx_turn.proofs.Dealing.{get-snoc, get-longer, get-last}
 use Rattle.vx_settle.specs.declared.peer.Stand.{Stand}
 use Rattle.vx_settle.specs.Bringing.{HaveLinks}
@@ -16,11 +15,9 @@ use Rattle.vx_burst_threads.specs.declared.writer.Writer.{Writer}
 use Rattle.vx_burst_threads.specs.declared.worker.Worker.{Worker}
 use Rattle.vx_burst_threads.specs.declared.worker.Worker.TheVariants.{Writes, Drains}
 use Rattle.vx_burst_threads.specs.Planning.{AllCalls, own_count}
-use Rattle.vx_burst_threads.specs.Writing.{IsReady}
-use Rattle.vx_burst_threads.specs.Draining.{IsLinked}
 use Rattle.vx_burst_threads.specs.Joining.{backs}
 use Rattle.vx_burst.specs.declared.rooms.Space.{Space}
-use Rattle.vx_burst.specs.Setting.{AreRooms, IsSetUp, AreSetUp, Set}
+use Rattle.vx_burst.specs.Setting.{AreRooms, IsSetUp, Set}
 
 pub snoc-long : {A : Type 0} (xs ws : List A) (w : A) → xs ≡ ws ++ w ∷ [] → length xs ≡ length ws + 1
 snoc-long xs ws w is = let e : length xs ≡ length (ws ++ w ∷ []) = ap (λ l. length l) is in let a = length-append ws (w ∷ []) in omega (arith, e, a)
@@ -78,8 +75,16 @@ module _ {P : Type 0} where
       let r = l.spaces (length less) room (subst (λ z. slice_get z (length less) ≡ Some room) (sym pop) (get-last less room)) in
       let c : length rooms ≡ length less + 1 = (let e : length rooms ≡ length (less ++ room ∷ []) = ap (λ z. length z) pop in let a = length-append less (room ∷ []) in omega (arith, e, a)) in
       let t : threads - length less ≡ x.thread = (let q = l.left in omega (arith, q, c, thread)) in
-      let up : IsSetUp stand z start callers plan (length ws) (Writes x) = (g.0, omega (arith, thread, nl), (g.0.table, ap (λ m. m.items) made ∙ r.0,
-          subst (λ (y : ℕ × Space). own_count y.0 plan ≤ vec_capacity y.1.made) (λ i. (t i, record { made = sym made i })) r.1, calls)) in record {
+      let up : IsSetUp stand z start callers plan (length ws) (Writes x) = (
+        g.0,
+        omega (arith, thread, nl),
+        (
+          g.0.table,
+          ap (λ m. m.items) made ∙ r.0,
+          subst (λ (y : ℕ × Space). own_count y.0 plan ≤ vec_capacity y.1.made) (λ i. (t i, record { made = sym made i })) r.1,
+          calls,
+        ),
+      ) in record {
         set = set-more stand z start callers plan ws xs (Writes x) old new more l.set up g.1 g.2;
         long = (let e = snoc-long xs ws (Writes x) more in omega (arith, e, nl));
         spaces = λ i s at. l.spaces i s (subst (λ z. slice_get z i ≡ Some s) (sym pop) (get-longer less (room ∷ []) i s at));

@@ -1,10 +1,6 @@
 -- A burst goes on by jobs, and by calls.
-use Rattle.std.proofs.Common.{◌≡◌, ◌⊎◌, ℕ, zero, suc, ◌+◌, ◌<◌, ◌≤◌, true, List, [], ◌∷◌, ◌++◌, length, map, refl, ap, sym, ◌∙◌, subst, ⊎_elim, inl, inr, arith, append_assoc, Option, Some, None, slice_get}
-use Rattle.std.proofs.lemmas.List.{append-nil}
+use Rattle.std.proofs.Common.{◌≡◌, ℕ, zero, suc, ◌<◌, List, [], ◌∷◌, ◌++◌, length, map, refl, ap, sym, ◌∙◌, subst, ⊎_elim, inl, inr, arith, append_assoc, Some, slice_get}
 use mathlib.Core.List.{map-append}
-use Rattle.vx_model.specs.declared.call.Call.{Call}
-use Rattle.vx_model.specs.declared.call.Reply.{Reply}
-use Rattle.vx_model.specs.declared.call.Update.{Update}
 use Rattle.vx_turn.specs.declared.ask.Ask.{Ask}
 use Rattle.vx_turn.specs.declared.ask.Ask.TheVariants.{Ordered, Charged}
 use Rattle.vx_turn.specs.declared.ask.Said.{Said}
@@ -13,9 +9,8 @@ use Rattle.vx_turn.specs.declared.ask.Job.TheVariants.{Apply, Fetch, Acked, Wait
 use Rattle.vx_turn.specs.declared.meaning.Counts.{Counts}
 use Rattle.vx_turn.specs.declared.meaning.Entry.{Entry}
 use Rattle.vx_turn.specs.declared.meaning.State.{State}
-use Rattle.vx_turn.specs.Volumes.{Volumes}
-use Rattle.vx_turn.specs.Acting.{Among, Acts, Rises, Rose}
-use Rattle.vx_turn.specs.History.{Point, point_of, next, point_after, LegalFrom, Legal, HasLogged, asked, Reaches, Fits, Begins}
+use Rattle.vx_turn.specs.Acting.{Among, Acts, Rises}
+use Rattle.vx_turn.specs.History.{Point, point_of, next, point_after, LegalFrom, Legal, HasLogged, asked, Reaches, Fits}
 use Rattle.vx_turn.proofs.Histories.{rises-trans, among-split, logged-more, made, acts-legal, acts-fits, halts-on}
 use Rattle.vx_settle.specs.declared.peer.Stand.{Stand}
 use Rattle.vx_settle.specs.Peers.{Goes}
@@ -72,20 +67,22 @@ jobs-fit start log s t m legal fits = let r = fits.0 in let p : Point = point_af
     let j : JobsRun start.counts.faults start.ring s.counts p m.more = jobs-run start.counts.faults start.ring s.counts p m.more m.jobs r.before r.after in
     let is : point_after (point_of start) (log ++ es) ≡ point_after p es = point-append (point_of start) log es in (
       legal-append start.counts.faults start.ring (point_of start) log es legal j.0,
-      (record {
-        volumes_is = m.volumes ∙ (r.volumes_is ∙ (sym j.1 ∙ ap (λ (q : Point). q.volumes) (sym is)));
-        head_is = m.head ∙ (r.head_is ∙ (sym j.2 ∙ ap (λ (q : Point). q.head) (sym is)));
-        ring_is = m.ring ∙ r.ring_is;
-        line_is = m.line ∙ r.line_is;
-        before = subst (λ (q : Point). Rises q.before t.counts) (sym is) (rises-trans (point_after p es).before s.counts t.counts j.3 m.rises);
-        after = subst (λ (q : Point). Rises q.after t.counts) (sym is) (rises-trans (point_after p es).after s.counts t.counts j.4 m.rises);
-        since = rises-trans start.counts s.counts t.counts r.since m.rises;
-        keeps = λ u k. ⊎_elim (λ (x : Among u start.kept). inl x) (λ (x : HasLogged start.line log u). inr (logged-more start.line log es u x)) (r.keeps u (m.keeps u k));
-        links = m.links ∙ r.links;
-        halts = halts-on start s t r.halts m.halts r.since.0 m.rises.0;
-      },
-      m.trail ∙ (ap (λ l. l ++ m.more) fits.1 ∙ (append_assoc start.trail (map asked log) m.more
-          ∙ ap (λ l. start.trail ++ l) (ap (λ l. map asked log ++ l) (sym (asked-jobs s.counts m.more)) ∙ sym (map-append asked log es))))),
+      (
+        record {
+          volumes_is = m.volumes ∙ (r.volumes_is ∙ (sym j.1 ∙ ap (λ (q : Point). q.volumes) (sym is)));
+          head_is = m.head ∙ (r.head_is ∙ (sym j.2 ∙ ap (λ (q : Point). q.head) (sym is)));
+          ring_is = m.ring ∙ r.ring_is;
+          line_is = m.line ∙ r.line_is;
+          before = subst (λ (q : Point). Rises q.before t.counts) (sym is) (rises-trans (point_after p es).before s.counts t.counts j.3 m.rises);
+          after = subst (λ (q : Point). Rises q.after t.counts) (sym is) (rises-trans (point_after p es).after s.counts t.counts j.4 m.rises);
+          since = rises-trans start.counts s.counts t.counts r.since m.rises;
+          keeps = λ u k. ⊎_elim (λ (x : Among u start.kept). inl x) (λ (x : HasLogged start.line log u). inr (logged-more start.line log es u x)) (r.keeps u (m.keeps u k));
+          links = m.links ∙ r.links;
+          halts = halts-on start s t r.halts m.halts r.since.0 m.rises.0;
+        },
+        m.trail ∙ (ap (λ l. l ++ m.more) fits.1 ∙ (append_assoc start.trail (map asked log) m.more
+            ∙ ap (λ l. start.trail ++ l) (ap (λ l. map asked log ++ l) (sym (asked-jobs s.counts m.more)) ∙ sym (map-append asked log es)))),
+      ),
     )
 
 module _ {P : Type 0} (stand : P → Stand) (root : P → P) where

@@ -1,35 +1,31 @@
 -- One wait more.
-use Rattle.std.proofs.Common.{◌≡◌, ◌≢◌, ◌⊎◌, ℕ, zero, suc, ◌+◌, ◌-◌, ◌<◌, ◌≤◌, ◌==◌, Bool, true, false, List, [], ◌∷◌, ◌++◌, length, map, refl, ap, sym, ◌∙◌, subst, ⊎_elim, inl, inr, arith, append_assoc, Option, Some, None, slice_get, slice_set}
+use Rattle.std.proofs.Common.{◌≡◌, ◌≢◌, ℕ, zero, suc, ◌+◌, ◌-◌, ◌<◌, ◌≤◌, ◌==◌, false, List, [], ◌∷◌, ◌++◌, length, map, refl, ap, sym, ◌∙◌, subst, ⊎_elim, arith, append_assoc, Some, slice_get, slice_set}
 use Rattle.std.proofs.lemmas.List.{append-nil}
 use mathlib.Core.List.{map-append}
 use Rattle.vx_model.specs.Answer.{Answer, Shows, Accepts, WrongSize, OutOfRange, answer_of}
 use Rattle.vx_model.specs.declared.call.Call.{Call}
 use Rattle.vx_model.specs.declared.call.Reply.{Reply}
 use Rattle.vx_model.specs.declared.call.Reply.TheVariants as reply
-use Rattle.vx_model.specs.declared.call.Update.{Update}
-use Rattle.vx_model.specs.declared.no.No.{No}
 use Rattle.vx_model.specs.declared.no.No.TheVariants as no
 use Rattle.vx_turn.specs.declared.ask.Ask.{Ask}
 use Rattle.vx_turn.specs.declared.ask.Ask.TheVariants.{Ordered, Charged}
 use Rattle.vx_turn.specs.declared.ask.Said.{Said}
 use Rattle.vx_turn.specs.declared.ask.Said.TheVariants.{Replied, Worked}
-use Rattle.vx_turn.specs.declared.ask.Job.{Job}
 use Rattle.vx_turn.specs.declared.ask.Job.TheVariants.{Wait}
-use Rattle.vx_turn.specs.declared.ask.JobReply.{JobReply}
 use Rattle.vx_turn.specs.declared.ask.JobReply.TheVariants as job
 use Rattle.vx_turn.specs.declared.meaning.Counts.{Counts}
 use Rattle.vx_turn.specs.declared.meaning.Entry.{Entry}
 use Rattle.vx_turn.specs.declared.meaning.State.{State}
 use Rattle.vx_turn.specs.Volumes.{as_content}
-use Rattle.vx_turn.specs.Acting.{Among, Rose, IsStop, RepliesBy, Replies, head_after}
+use Rattle.vx_turn.specs.Acting.{Among, Rose, RepliesBy, Replies, head_after}
 use Rattle.vx_turn.specs.History.{Point, point_of, next, point_after, LegalFrom, asked}
 use Rattle.vx_turn.proofs.Histories.{rose-wider}
 use Rattle.vx_settle.specs.declared.peer.Stand.{Stand}
 use Rattle.vx_settle.specs.declared.bringing.Ended.{Ended}
 use Rattle.vx_settle.specs.declared.bringing.Ended.TheVariants as ended
 use Rattle.vx_settle.specs.Peers.{Goes}
-use Rattle.vx_settle.specs.Bringing.{Events, IsJob, NoLimit, HaveLinks, Moves, Once, BringsAll, Waits}
-use Rattle.vx_settle.proofs.Bringings.{among-left, among-right, among-one, calm-first}
+use Rattle.vx_settle.specs.Bringing.{Events, IsJob, HaveLinks, Once, BringsAll, Waits}
+use Rattle.vx_settle.proofs.Bringings.{among-left, among-right, among-one}
 use Rattle.vx_settle.proofs.ManyPeers.{some-one, get-set, set-long, get-inside}
 use Rattle.vx_burst_threads.specs.declared.plan.Planned.{Planned}
 use Rattle.vx_burst_threads.specs.declared.plan.Answered.{Answered}
@@ -39,7 +35,7 @@ use Rattle.vx_burst_threads.specs.declared.plan.Waited.{Waited}
 use Rattle.vx_burst_threads.specs.declared.plan.Waited.TheVariants as waited
 use Rattle.vx_burst_threads.specs.Planning.{call_for, IsTold}
 use Rattle.vx_burst.specs.Setting.{one_if}
-use Rattle.vx_burst.specs.Finishing.{head_behind, IsNothing, AckWithin, Underway, Excused, IsCalm, Splits, IsIdle, IsOrdered, Stay, unplaced, ArePlaced, HasExcuse, IsPlaced, Stage, IsWaited, ended_as, WaitedOne, WaitedOn}
+use Rattle.vx_burst.specs.Finishing.{head_behind, IsNothing, AckWithin, Underway, IsIdle, IsOrdered, Stay, unplaced, HasExcuse, Stage, IsWaited, ended_as, WaitedOne, WaitedOn}
 use Rattle.vx_burst.proofs.Underways.{job_entry, asked-jobs, get-some, underway-brings, underway-moves}
 use Rattle.vx_burst.proofs.Stages.{stay-jobs, excuse-later, halted-not, brought-excuse}
 
@@ -143,6 +139,7 @@ module _ {P : Type 0} (stand : P → Stand) (root : P → P) where
     where
       b : Answered
       b = record { place = a.place; reply = a.reply; waited = r }
+
       was : (j : ℕ) (x : Answered) → slice_get (slice_set answers k b) j ≡ Some x → (y : Answered) × (slice_get answers j ≡ Some y) × (y.place ≡ x.place) × (y.reply ≡ x.reply)
       was j x now = ⊎_elim (λ (o : (j ≡ k) × (b ≡ x)). (a, ap (slice_get answers) o.0 ∙ at, ap (λ (y : Answered). y.place) o.1, ap (λ (y : Answered). y.reply) o.1))
           (λ (o : (j ≢ k) × (slice_get answers j ≡ Some x)). (x, o.1, refl, refl)) (get-set answers k b j x now)
@@ -192,59 +189,82 @@ module _ {P : Type 0} (stand : P → Stand) (root : P → P) where
     where
       b : BringsAll stand root t qs w.mid rs
       b = w.brings
+
       o : Once w.mid m e u
       o = w.once
+
       one : List Entry
       one = map (job_entry t.counts) w.brings.moves.more
+
       two : List Entry
       two = map (job_entry w.mid.counts) w.once.moves.more
+
       more : List Entry
       more = map (job_entry t.counts) w.brings.moves.more ++ map (job_entry w.mid.counts) w.once.moves.more
+
       brought : Underway stand root start firsts (log ++ map (job_entry t.counts) w.brings.moves.more) w.mid rs
       brought = underway-brings stand root start firsts log t w.mid qs rs g.underway w.brings
+
       quiet : (ask : Ask) (said : Said) → Among (ask, said) w.once.moves.more → AckWithin stand root rs ask
       quiet ask said k = let same : (Charged (Wait m), w.once.reply) ≡ (ask, said) = among-one {A = Ask × Said} (ask, said) (Charged (Wait m), w.once.reply) (subst (Among (ask, said)) w.once.one k) in
           subst (λ (x : Ask × Said). AckWithin stand root rs x.0) same tt
+
       whole : (log ++ one) ++ two ≡ log ++ more
       whole = append_assoc log one two
+
       under : Underway stand root start firsts (log ++ more) u rs
       under = subst (λ l. Underway stand root start firsts l u rs) whole (underway-moves stand root start firsts (log ++ one) w.mid u rs brought w.once.moves quiet)
+
       asks : map asked more ≡ w.brings.moves.more ++ w.once.moves.more
       asks = map-append asked one two ∙ (ap (λ l. l ++ map asked two) (asked-jobs t.counts w.brings.moves.more) ∙ ap (λ l. w.brings.moves.more ++ l) (asked-jobs w.mid.counts w.once.moves.more))
+
       jobs : (ask : Ask) (said : Said) → Among (ask, said) (w.brings.moves.more ++ w.once.moves.more) → IsJob ask said
       jobs ask said k = ⊎_elim (λ (x : Among (ask, said) w.brings.moves.more). w.brings.moves.jobs ask said x) (λ (x : Among (ask, said) w.once.moves.more). w.once.moves.jobs ask said x)
           (Rattle.vx_turn.proofs.Histories.among-split (ask, said) w.brings.moves.more w.once.moves.more k)
+
       rises : t.counts.faults ≤ u.counts.faults
       rises = let x = w.brings.moves.rises.0 in let y = w.once.moves.rises.0 in omega (arith, x, y)
+
       goes : (i : ℕ) (p q : P) → slice_get qs i ≡ Some p → slice_get rs i ≡ Some q → Goes (stand p) (stand q)
       goes i p q x y = (w.brings.each i p q x y).walks.goes
+
       below : (j k : ℕ) → j < k + 1 → j ≢ k → j < k
       below zero zero lt far = absurd (far refl)
       below zero (suc k) lt far = omega arith
       below (suc j) zero lt far = absurd (omega (arith, lt))
       below (suc j) (suc k) lt far = let r = below j k (omega (arith, lt)) (λ e. far (ap suc e)) in omega (arith, r)
+
       -- what was said stands in the history
       said-in : (s : Said) → w.once.reply ≡ s → Among (Charged (Wait m), s) (map asked (log ++ more))
       said-in s same = subst (Among (Charged (Wait m), s)) (sym (map-append asked log more ∙ ap (λ l. map asked log ++ l) asks))
           (among-right (Charged (Wait m), s) (map asked log) (w.brings.moves.more ++ w.once.moves.more) (among-right (Charged (Wait m), s) w.brings.moves.more w.once.moves.more
           (subst (Among (Charged (Wait m), s)) (sym w.once.one) (0, ap (λ (z : Said). Some (Charged (Wait m), z)) same))))
+
       top : m ≤ t.head
       top = let l = g.long in let inside = get-inside answers k a at in let pl = get-some plan k (omega (arith, l, inside)) in let i = g.each k pl.0 a pl.1 at some in
           let r : i.reply ≡ reply.Logged m = told-logged i.reply a.reply m i.told is in
           let h = logged-below start.counts.faults start.ring (point_of start) log (call_for pl.0) m g.underway.legal
-              (subst (λ z. Among (Ordered (call_for pl.0), Replied z) (map asked log)) r (stay-among (map asked log) stays (a.place - 1) (Ordered (call_for pl.0), Replied i.reply) g.left i.at)) in
+          (subst (λ z. Among (Ordered (call_for pl.0), Replied z) (map asked log)) r (stay-among (map asked log) stays (a.place - 1) (Ordered (call_for pl.0), Replied i.reply) g.left i.at)) in
           let e = g.underway.fits.0.head_is in omega (arith, h, e)
+
       excuse : e ≡ ended.No → HasExcuse stand root start firsts (log ++ more) u rs (Charged (Wait m)) IsNothing (λ front. m)
       excuse stuck calm =
           let since = brought.fits.0.since.0 in let on = w.once.moves.rises.0 in let up = w.brings.moves.head in
           let runs : w.mid.halted ≡ false = halted-not stand root w.mid (λ h. calm.0 (rose-wider start.counts.faults start.counts.faults w.mid.counts.faults u.counts.faults (omega arith) on (brought.fits.0.halts h))) in
           let wide : (x : Ask × Said) → Among x (w.brings.moves.more ++ w.once.moves.more) → Among x (map asked (log ++ more)) = λ x z. subst (Among x) (sym (map-append asked log more ∙ ap (λ l. map asked log ++ l) asks)) (among-right x (map asked log) (w.brings.moves.more ++ w.once.moves.more) z) in
           let z = w.once.no stuck runs (λ x. calm.0 (rose-wider start.counts.faults w.mid.counts.faults u.counts.faults u.counts.faults since (omega arith) x))
-              (λ j cause into x. calm.1 j cause into (wide (Charged j, Worked (job.Refused cause) into) (among-right (Charged j, Worked (job.Refused cause) into) w.brings.moves.more w.once.moves.more x))) (omega (arith, top, up)) in
+          (λ j cause into x. calm.1 j cause into (wide (Charged j, Worked (job.Refused cause) into) (among-right (Charged j, Worked (job.Refused cause) into) w.brings.moves.more w.once.moves.more x))) (omega (arith, top, up)) in
           let last : Entry = job_entry w.mid.counts (Charged (Wait m), w.once.reply) in
-          let single : two ≡ last ∷ [] = ap (map (job_entry w.mid.counts)) w.once.one in
-          (w.once.reply, subst IsNothing (sym z.1) tt, (log ++ one, record { entry = last; rest = []; is = sym whole ∙ (ap (λ l. (log ++ one) ++ l) single ∙ sym (append-nil ((log ++ one) ++ last ∷ []))); asks = refl; says = refl },
-              brought-excuse stand root start firsts log t w.mid u qs rs g.underway w.brings on calm.0 (λ j cause into x. calm.1 j cause into (wide (Charged j, Worked (job.Refused cause) into) (among-left (Charged j, Worked (job.Refused cause) into) w.brings.moves.more w.once.moves.more x))) m top))
+          let single : two ≡ last ∷ [] = ap (map (job_entry w.mid.counts)) w.once.one in (
+            w.once.reply,
+            subst IsNothing (sym z.1) tt,
+            (
+              log ++ one,
+              record { entry = last; rest = []; is = sym whole ∙ (ap (λ l. (log ++ one) ++ l) single ∙ sym (append-nil ((log ++ one) ++ last ∷ []))); asks = refl; says = refl },
+              brought-excuse stand root start firsts log t w.mid u qs rs g.underway w.brings on calm.0 (λ j cause into x. calm.1 j cause into (wide (Charged j, Worked (job.Refused cause) into) (among-left (Charged j, Worked (job.Refused cause) into) w.brings.moves.more w.once.moves.more x))) m top,
+            ),
+          )
+
       here : IsWaited stand root start firsts (log ++ more) u rs (record { place = a.place; reply = a.reply; waited = r })
       here = record {
         done = λ x. let z = w.once.done (ended-done e (sym how ∙ x)) in (m, z.1, is, said-in (Worked (job.Done m) z.1) (z.2 ∙ ap (λ q. Worked (job.Done q) z.1) z.3));
@@ -262,12 +282,12 @@ module _ {P : Type 0} (stand : P → Stand) (root : P → P) where
   waits-more start firsts plan n stays k t u qs rs answers a r w at some one = ⊎_elim
       (λ (o : (m : ℕ) × (e : Ended) × (a.reply ≡ told.Logged m) × Waits stand root t qs m e u rs × (r ≡ ended_as e)). logged-waited start firsts plan w.log n stays k o.0 t u qs rs answers a o.1 r w.stage w.waited at some o.2 o.3 o.4)
       (λ (o : ((m : ℕ) → a.reply ≡ told.Logged m → ⊥) × (r ≡ waited.No) × (u ≡ t) × (rs ≡ qs)). subst (λ (z : State × List P). WaitedOn stand root start firsts plan n stays (k + 1) z.0 z.1 (slice_set answers k (record { place = a.place; reply = a.reply; waited = r })))
-          (λ i. (sym o.2 i, sym o.3 i)) (record {
-            log = w.log;
-            stage = stage-set start firsts plan w.log t qs answers n stays k a r w.stage at;
-            waited = λ j x lt now. ⊎_elim (λ (z : (j ≡ k) × (record { place = a.place; reply = a.reply; waited = r } ≡ x)). subst (IsWaited stand root start firsts w.log t qs) z.1 (waited-none start firsts w.log t qs a r o.0 o.1))
-                (λ (z : (j ≢ k) × (slice_get answers j ≡ Some x)). w.waited j x (below j k lt z.0) z.1) (get-set answers k (record { place = a.place; reply = a.reply; waited = r }) j x now);
-          })) one
+      (λ i. (sym o.2 i, sym o.3 i)) (record {
+        log = w.log;
+        stage = stage-set start firsts plan w.log t qs answers n stays k a r w.stage at;
+        waited = λ j x lt now. ⊎_elim (λ (z : (j ≡ k) × (record { place = a.place; reply = a.reply; waited = r } ≡ x)). subst (IsWaited stand root start firsts w.log t qs) z.1 (waited-none start firsts w.log t qs a r o.0 o.1))
+            (λ (z : (j ≢ k) × (slice_get answers j ≡ Some x)). w.waited j x (below j k lt z.0) z.1) (get-set answers k (record { place = a.place; reply = a.reply; waited = r }) j x now);
+      })) one
     where
       below : (j k : ℕ) → j < k + 1 → j ≢ k → j < k
       below zero zero lt far = absurd (far refl)
@@ -289,5 +309,8 @@ abbrev pub ArePlacesOf : List Answered → List Answered → Type 0
 ArePlacesOf olds answers = (length answers ≡ length olds) × ((j : ℕ) (b : Answered) → slice_get answers j ≡ Some b → (a : Answered) × (slice_get olds j ≡ Some a) × (a.place ≡ b.place))
 
 pub places-set : (olds answers : List Answered) (k : ℕ) (a b : Answered) → slice_get answers k ≡ Some a → a.place ≡ b.place → ArePlacesOf olds answers → ArePlacesOf olds (slice_set answers k b)
-places-set olds answers k a b at same p = (set-long answers k b ∙ p.0, λ j x now. ⊎_elim (λ (o : (j ≡ k) × (b ≡ x)). let z = p.1 j a (ap (slice_get answers) o.0 ∙ at) in (z.0, z.1, z.2 ∙ (same ∙ ap (λ (y : Answered). y.place) o.1)))
-    (λ (o : (j ≢ k) × (slice_get answers j ≡ Some x)). p.1 j x o.1) (get-set answers k b j x now))
+places-set olds answers k a b at same p = (
+  set-long answers k b ∙ p.0,
+  λ j x now. ⊎_elim (λ (o : (j ≡ k) × (b ≡ x)). let z = p.1 j a (ap (slice_get answers) o.0 ∙ at) in (z.0, z.1, z.2 ∙ (same ∙ ap (λ (y : Answered). y.place) o.1)))
+      (λ (o : (j ≢ k) × (slice_get answers j ≡ Some x)). p.1 j x o.1) (get-set answers k b j x now),
+)

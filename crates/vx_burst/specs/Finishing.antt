@@ -1,6 +1,5 @@
 -- How far a burst has come.
-use Rattle.std.specs.Prelude.{◌≡◌, ◌⊎◌, ℕ, ◌+◌, ◌-◌, ◌<◌, ◌≤◌, ◌==◌, Bool, List, [], ◌∷◌, ◌++◌, length, map, slice_get, Some}
-use Rattle.vx_model.specs.declared.call.Call.{Call}
+use Rattle.std.specs.Prelude.{◌≡◌, ◌⊎◌, ℕ, ◌+◌, ◌-◌, ◌<◌, ◌≤◌, ◌==◌, List, [], ◌∷◌, ◌++◌, length, map, slice_get, Some}
 use Rattle.vx_model.specs.declared.call.Reply.{Reply}
 use Rattle.vx_model.specs.declared.call.Update.{Update}
 use Rattle.vx_turn.specs.declared.ask.Ask.{Ask}
@@ -16,7 +15,7 @@ use Rattle.vx_turn.specs.Acting.{Among, Rose}
 use Rattle.vx_turn.specs.History.{Legal, Fits, HasLogged, asked, point_of, point_after}
 use Rattle.vx_settle.specs.declared.peer.Stand.{Stand}
 use Rattle.vx_settle.specs.Peers.{Goes, LiesIn}
-use Rattle.vx_settle.specs.Bringing.{Events, NoLimit, NoGone, HasAcked, AsksAgain, Waits, HaveLinks}
+use Rattle.vx_settle.specs.Bringing.{Events, NoLimit, NoGone, HasAcked, AsksAgain, Waits}
 use Rattle.vx_settle.specs.declared.bringing.Ended.{Ended}
 use Rattle.vx_settle.specs.declared.bringing.Ended.TheVariants as ended
 use Rattle.vx_burst_threads.specs.declared.plan.Told.{Told}

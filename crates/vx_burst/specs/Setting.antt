@@ -1,18 +1,17 @@
 -- The workers of a burst before they work, and the memory that they take.
-use Rattle.std.specs.Prelude.{◌≡◌, ℕ, ◌+◌, ◌-◌, ◌<◌, ◌≤◌, Bool, true, false, List, [], length, vec_capacity, slice_get, Some}
+use Rattle.std.specs.Prelude.{◌≡◌, ℕ, ◌+◌, ◌-◌, ◌≤◌, Bool, true, false, List, [], length, vec_capacity, slice_get, Some}
 use Rattle.atomic_table.specs.Seated.{TableId}
 use Rattle.vx_turn.specs.declared.meaning.State.{State}
 use Rattle.vx_turn.specs.declared.passes.Passes.{Passes}
-use Rattle.vx_turn.specs.Passing.{IsNew, AreDealt, table_id_of}
+use Rattle.vx_turn.specs.Passing.{IsNew, AreDealt}
 use Rattle.vx_settle.specs.declared.peer.Stand.{Stand}
 use Rattle.vx_burst_threads.specs.declared.plan.Planned.{Planned}
 use Rattle.vx_burst_threads.specs.declared.plan.Answered.{Answered}
 use Rattle.vx_burst_threads.specs.declared.worker.Worker.{Worker}
 use Rattle.vx_burst_threads.specs.declared.worker.Worker.TheVariants.{Writes, Drains}
-use Rattle.vx_burst_threads.specs.Planning.{AllCalls, own_count}
+use Rattle.vx_burst_threads.specs.Planning.{own_count}
 use Rattle.vx_burst_threads.specs.Writing.{IsReady}
 use Rattle.vx_burst_threads.specs.Draining.{IsLinked}
-use Rattle.vx_burst_threads.specs.Joining.{backs}
 use Rattle.vx_burst.specs.declared.rooms.Space.{Space}
 use Rattle.vx_burst.specs.declared.rooms.Room.{Room}
 

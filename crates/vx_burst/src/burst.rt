@@ -6,8 +6,8 @@ ghost use Rattle.vx_burst_threads.specs.Planning.{AllCalls};
 ghost use Rattle.vx_burst.specs.Setting.{HasRoom, AreRooms};
 ghost use Rattle.vx_burst.specs.Ending.{HasJoined, Ran};
 
-use crate::limits::{MOST_PEERS, MOST_THREADS};
 use crate::finishing::{ask_rest, wait_all};
+use crate::limits::{MOST_PEERS, MOST_THREADS};
 use crate::placing::renumber;
 use crate::rooms::{Room, Space, take_room};
 use crate::setting::{set_drainers, set_writers};
@@ -161,7 +161,5 @@ pub fn run<H: Threads + Wait + Sync, E: Engine, P: Peer, G: Gate>(
         Ok(made) => made,
         Err((gated, failed)) => return Err((gated.inner, peers, failed)),
     };
-    Ok(work_all(
-        rt, turn, passes, peers, plan, threads, gate, room,
-    ))
+    Ok(work_all(rt, turn, passes, peers, plan, threads, gate, room))
 }

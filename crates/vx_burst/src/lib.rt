@@ -7,11 +7,7 @@ mod finishing;
 mod limits;
 mod placing;
 mod rooms;
-
 mod setting;
 
-#[cfg(test)]
-mod tests;
-
-pub use limits::{MOST_PEERS, MOST_THREADS};
 pub use burst::{Outcome, run};
+pub use limits::{MOST_PEERS, MOST_THREADS};

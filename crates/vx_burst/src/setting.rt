@@ -75,7 +75,10 @@ pub(crate) fn set_drainers<E: Engine, P: Peer>(
         let Some(pass) = passes.pop() else {
             unreachable!();
         };
-        if workers.push(Worker::Drains(Drainer { pass, peer })).is_err() {
+        if workers
+            .push(Worker::Drains(Drainer { pass, peer }))
+            .is_err()
+        {
             unreachable!();
         }
     }

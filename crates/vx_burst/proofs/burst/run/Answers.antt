@@ -1,11 +1,10 @@
-use Rattle.std.proofs.Common.{rules, ◌≡◌, ◌≤◌, ◌<◌, ◌+◌, false, [], length, vec_capacity, IfOk, IfErr, ℕ, ◌-◌, ◌*◌, ◌/◌, ◌%◌, Bool, true, nat_eq, nat_lt, List, ◌∷◌, ◌++◌, slice_index_or, slice_set, bit_and, bit_or, Fits, w8, w32, w64, Bor, MutBor}
+use Rattle.std.proofs.Common.{rules, ◌≡◌, ◌+◌, sym, ap, subst, length, ℕ}
 use Rattle.vx_turn.specs.Passing.{table_of, first_of, AreDealt}
-use Rattle.vx_settle.specs.Bringing.{HaveLinks}
-use Rattle.vx_burst_threads.specs.Planning.{AllCalls}
-use Rattle.vx_burst.specs.Setting.{HasRoom, AreRooms}
-use Rattle.vx_burst.specs.Ending.{HasJoined, Ran}
 use Rattle.vx_burst.proofs.burst.run.Goals as goal
 
--- src/burst.rt:164:8
 pub work_all-requires-clause-dealt : goal.work_all-requires-clause-dealt
-work_all-requires-clause-dealt g c κs within = ?
+work_all-requires-clause-dealt g c κs within =
+    let e : c.len-2.result ≡ length c.args.peers.items = search rules in
+    let same : (first_of c.in-Ok.made.0).inner ≡ c.args.engine = ap (λ x. x.inner) c.in-Ok.ensures.first in
+    subst (λ (x : ℕ × g.row.E.Denot). AreDealt (table_of c.in-Ok.made.0) (g.E.Engine.state x.1) (c.args.threads + x.0 + 1) (c.args.threads + x.0 + 1) c.in-Ok.made.1)
+    (λ i. (e i, sym same i)) c.in-Ok.ensures.ok

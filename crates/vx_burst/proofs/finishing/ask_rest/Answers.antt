@@ -1,4 +1,4 @@
-use Rattle.std.proofs.Common.{rules, ◌≡◌, ◌∙◌, ◌<◌, refl, arith, length}
+use Rattle.std.proofs.Common.{◌∙◌, refl, arith}
 use Rattle.vx_burst.proofs.Stages.{stages-none, stages-then}
 use Rattle.vx_burst.proofs.finishing.ask_rest.Goals as goal
 

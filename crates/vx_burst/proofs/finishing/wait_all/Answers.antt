@@ -1,4 +1,4 @@
-use Rattle.std.proofs.Common.{rules, ◌≡◌, ◌<◌, ◌∙◌, ap, sym, subst, refl, slice_get, slice_set, Some, arith, length, slice_index_or}
+use Rattle.std.proofs.Common.{rules, ◌≡◌, ◌<◌, ◌∙◌, sym, subst, refl, slice_get, Some, arith, length, slice_index_or}
 use Rattle.std.proofs.lemmas.Option.{slice_get-get_or}
 use Rattle.vx_settle.proofs.ManyPeers.{some-one}
 use Rattle.vx_burst_threads.specs.declared.plan.Answered.{Answered}

@@ -1,4 +1,4 @@
-use Rattle.std.proofs.Common.{◌≡◌, length}
+use Rattle.std.proofs.Common.{◌≡◌}
 use Rattle.vx_settle.specs.Bringing.{HaveLinks}
 use Rattle.vx_burst.specs.Finishing.{WaitsOn}
 use Rattle.vx_burst.proofs.Waitings.{ArePlacesOf}

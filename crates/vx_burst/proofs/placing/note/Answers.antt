@@ -1,4 +1,4 @@
-use Rattle.std.proofs.Common.{rules, ◌≡◌, ◌≤◌, ◌<◌, arith, slice_get, Some, slice_index_or, length, vec_capacity}
+use Rattle.std.proofs.Common.{rules, ◌≡◌, ◌<◌, arith, slice_get, Some, slice_index_or, length}
 use Rattle.std.proofs.lemmas.Option.{slice_get-get_or}
 use Rattle.vx_burst.proofs.Placings.{noted-none, noted-more}
 use Rattle.vx_burst.proofs.placing.note.Goals as goal

@@ -1,4 +1,4 @@
-use Rattle.std.proofs.Common.{rules, ◌≡◌, ◌<◌, ◌+◌, arith, refl, slice_get, Some, slice_index_or, length}
+use Rattle.std.proofs.Common.{rules, ◌≡◌, ◌+◌, arith, refl, slice_get, Some, slice_index_or}
 use Rattle.std.proofs.lemmas.Option.{slice_get-get_or}
 use Rattle.vx_burst.proofs.Placings.{numbered-none, numbered-more}
 use Rattle.vx_burst.proofs.placing.number.Goals as goal

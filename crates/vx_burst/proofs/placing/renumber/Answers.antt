@@ -1,6 +1,6 @@
-use Rattle.std.proofs.Common.{rules, ◌≡◌, ◌∙◌, subst, sym, length, ap, List}
+use Rattle.std.proofs.Common.{rules, subst, sym, length, List}
 use Rattle.vx_burst.specs.declared.placing.Spot.{Spot}
-use Rattle.vx_burst.specs.Placing.{Noted, Once, AreInside, Numbered}
+use Rattle.vx_burst.specs.Placing.{Once, AreInside, Numbered}
 use Rattle.vx_burst.proofs.Placings.{noted-sorted}
 use Rattle.vx_burst.proofs.placing.renumber.Goals as goal
 

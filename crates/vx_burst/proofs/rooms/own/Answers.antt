@@ -1,4 +1,4 @@
-use Rattle.std.proofs.Common.{rules, ◌≡◌, ◌==◌, slice_get, Some, refl, ◌∙◌, arith, take, length}
+use Rattle.std.proofs.Common.{rules, ◌≡◌, ◌==◌, slice_get, Some, refl, ◌∙◌, arith}
 use Rattle.std.proofs.lemmas.Option.{slice_get_read}
 use Rattle.vx_burst.proofs.Roomy.{own-next, own-all, one-few}
 use Rattle.vx_burst.proofs.rooms.own.Goals as goal
