@@ -1,0 +1,4 @@
+pub mod Setting
+pub mod Finishing
+pub mod Placing
+pub mod Ending
