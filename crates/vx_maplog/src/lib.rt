@@ -1,0 +1,8 @@
+//! The logs of a volume: where a checked configuration has them, and their maps of regions as they are read.
+#![tactic(auto)]
+
+mod entry;
+mod reading;
+
+pub use entry::{blocks_of, log_of, plexes_of};
+pub use reading::{MOST_MAP_BLOCKS, load};
