@@ -1,11 +1,10 @@
 -- What a dirty region log keeps.
-use Rattle.std.proofs.Common.{◌≡◌, ◌∙◌, inl, inr, ⊎_elim, ℕ, ◌+◌, ◌-◌, ◌*◌, ◌/◌, ◌%◌, ◌<◌, ◌≤◌, Bool, true, false, List, length, refl, sym, ap, subst, arith}
-use Rattle.std.specs.Prelude.{min, if◌then◌else◌}
+use Rattle.std.proofs.Common.{◌≡◌, ◌∙◌, inl, ⊎_elim, ℕ, ◌+◌, ◌*◌, ◌<◌, ◌≤◌, Bool, true, false, List, length, refl, sym, ap, arith}
 use Rattle.std.specs.Int.{div_ceil}
 use Rattle.std.proofs.lemmas.Bool.{cases_eq}
-use Rattle.vx_model.specs.Sizes.{map_blocks, regions_of as regions_in}
+use Rattle.vx_model.specs.Sizes.{map_blocks}
 use Rattle.vx_bitmap.specs.Bits.{AllAre, Between, is_marked}
-use Rattle.vx_bitmap.specs.Maps.{Map, regions_of}
+use Rattle.vx_bitmap.specs.Maps.{Map}
 use Rattle.vx_config.specs.Checks.{blocks_of}
 use Rattle.vx_config.specs.declared.config.Config.{Config}
 use Rattle.vx_config.specs.declared.entry.VolumeLog.TheVariants.{Drl as DrlLog}

@@ -1,5 +1,5 @@
 // The dirty region log of a volume.
-ghost use Rattle.std.specs.Prelude.{◌≡◌, ◌-◌, ◌<◌, ◌≤◌, ◌×◌, true, false, IfErr, IfOk, IsFalse, OnErr, OnOk, Ok};
+ghost use Rattle.std.specs.Prelude.{◌≡◌, ◌-◌, ◌<◌, ◌≤◌, true, false, IfErr, IfOk, IsFalse, OnErr, OnOk};
 ghost use Rattle.vx_bitmap.specs.Bits.{AllAre, Between, Changed};
 ghost use Rattle.vx_bitmap.specs.Maps.{Changing, IsRead, Lies, LoadCause, MapOn, SamePlace, blocks_of as map_blocks, regions_of};
 ghost use Rattle.vx_config.specs.declared.entry.VolumeLog.TheVariants.{Drl as DrlLog};
