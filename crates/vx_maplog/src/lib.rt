@@ -3,6 +3,8 @@
 
 mod entry;
 mod reading;
+mod tested;
 
 pub use entry::{blocks_of, log_of, plexes_of};
 pub use reading::{MOST_MAP_BLOCKS, load};
+pub use tested::has_log;
