@@ -49,6 +49,10 @@ pub record HasLog (c : Config) (v : ℕ) (log : VolumeLog) : Type 0 where
   pub is : log_of c v log ≡ Some entry
   pub some : 0 < blocks_of c.volumes v
 
+abbrev pub blocks_or : Option DiskEntry → ℕ
+blocks_or None = 0
+blocks_or (Some d) = d.blocks
+
 -- the disks of a configuration are units of a shelf, each with at least its blocks
 pub record DisksFit (disks : List DiskEntry) (m : Meaning) : Type 0 where
   pub there : (u : ℕ) (d : DiskEntry) → slice_get disks u ≡ Some d → u < m.units

@@ -7,4 +7,4 @@ mod tested;
 
 pub use entry::{blocks_of, log_of, plexes_of};
 pub use reading::{MOST_MAP_BLOCKS, load};
-pub use tested::has_log;
+pub use tested::{disks_fit, has_log};
