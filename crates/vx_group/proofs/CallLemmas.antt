@@ -121,7 +121,7 @@ left_done c d v set done old new on but off p is_on = by (bit_at set p) refl
 
 -- ---- with other marks
 
-pub with_Stands : (core : GroupCore) (next faults : List ℕ) (m : Meaning) → Stands core m → Stands (record { config = core.config; good = core.good; room = core.room; unsettled = core.unsettled; next = next; faults = faults }) m
+pub with_Stands : (core : GroupCore) (next faults : List ℕ) (m : Meaning) → Stands core m → Stands (record { config = core.config; good = core.good; room = core.room; unsettled = core.unsettled; next = next; faults = faults; unsure = core.unsure }) m
 with_Stands core next faults m s = record {
   wanted = s.wanted;
   serial = s.serial;
@@ -140,7 +140,7 @@ with_Stands core next faults m s = record {
 
 module _ (core : GroupCore) (b : Bool) (m m' : Meaning) (stands : Stands core m) (kept : Kept core.config (Member core.good m') m') (acts : Acts Nothing (Sees core.config (Member core.good m) m) m m') where
   abbrev settled : GroupCore
-  settled = record { config = core.config; good = core.good; room = core.room; unsettled = b; next = core.next; faults = core.faults }
+  settled = record { config = core.config; good = core.good; room = core.room; unsettled = b; next = core.next; faults = core.faults; unsure = core.unsure }
 
   pub settled_Stands : (b ≡ false → IsTidy core.config m') → Stands settled m'
   settled_Stands tidy = made settled m' (wanted_same m m' core.config acts.units acts.size stands.wanted) (can_of core m stands) stands.few stands.small (still_large m m' acts.units acts.size stands.large) stands.on stands.some kept tidy
@@ -153,13 +153,14 @@ module _ (core : GroupCore) (b : Bool) (m m' : Meaning) (stands : Stands core m)
     shape = narrows.shape;
     on = narrows.on;
     faults = narrows.faults;
+    unsure = narrows.unsure;
   }
 
   pub settled_to : Narrows core settled m m'
-  settled_to = record { acts = acts; shape = same_shape core.config; on = λ v p is. is; faults = refl }
+  settled_to = record { acts = acts; shape = same_shape core.config; on = λ v p is. is; faults = refl; unsure = refl }
 
   pub settled_only : Narrows core core m m'
-  settled_only = record { acts = acts; shape = same_shape core.config; on = λ v p is. is; faults = refl }
+  settled_only = record { acts = acts; shape = same_shape core.config; on = λ v p is. is; faults = refl; unsure = refl }
 
 pub sees_volumes : (c d : Config) (G : ℕ → Type 0) (m : Meaning) (i : Image) → d.volumes ≡ c.volumes → Sees c G m i → Sees d G m i
 sees_volumes c d G m i volumes sees = record {
@@ -180,6 +181,7 @@ both_Narrows a b d m m' last config good one two = record {
   shape = then_shape d.config b.config a.config two.shape one.shape;
   on = λ v p is. one.on v p (two.on v p is);
   faults = two.faults ∙ one.faults;
+  unsure = two.unsure ∙ one.unsure;
 }
 
 -- ---- refusals of a volume
