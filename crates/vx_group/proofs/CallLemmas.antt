@@ -172,12 +172,16 @@ sees_volumes c d G m i volumes sees = record {
 
 -- ---- two in a row, of which the first left the configuration
 
+pub both_acts : (a b : GroupCore) (m m' last : Meaning) → b.config.volumes ≡ a.config.volumes → b.good ≡ a.good → Acts Nothing (Sees a.config (Member a.good m) m) m m'
+    → Acts Nothing (Sees b.config (Member b.good m') m') m' last → Acts Nothing (Sees a.config (Member a.good m) m) m last
+both_acts a b m m' last config good one two = wide_Acts (Or Nothing Nothing) Nothing (Sees a.config (Member a.good m) m) m last
+    (both_Acts Nothing Nothing (Sees a.config (Member a.good m) m) (Sees b.config (Member b.good m') m') m m' last one two
+    (λ i sees. sees_back a.good a.config m m' one.units one.size i (sees_volumes b.config a.config (Member a.good m') m' i (sym config) (subst (λ (k : ℕ). Sees b.config (Member k m') m' i) good sees))))
+    (λ u k x. ⊎_elim (λ none. none) (λ none. none))
+
 pub both_Narrows : (a b d : GroupCore) (m m' last : Meaning) → b.config.volumes ≡ a.config.volumes → b.good ≡ a.good → Narrows a b m m' → Narrows b d m' last → Narrows a d m last
 both_Narrows a b d m m' last config good one two = record {
-  acts = wide_Acts (Or Nothing Nothing) Nothing (Sees a.config (Member a.good m) m) m last
-      (both_Acts Nothing Nothing (Sees a.config (Member a.good m) m) (Sees b.config (Member b.good m') m') m m' last one.acts two.acts
-      (λ i sees. sees_back a.good a.config m m' one.acts.units one.acts.size i (sees_volumes b.config a.config (Member a.good m') m' i (sym config) (subst (λ (k : ℕ). Sees b.config (Member k m') m' i) good sees))))
-      (λ u k x. ⊎_elim (λ none. none) (λ none. none));
+  acts = both_acts a b m m' last config good one.acts two.acts;
   shape = then_shape d.config b.config a.config two.shape one.shape;
   on = λ v p is. one.on v p (two.on v p is);
   faults = two.faults ∙ one.faults;

@@ -1,16 +1,18 @@
 -- The commit of a configuration with plexes CLEAN.
 use Rattle.std.proofs.Common.{◌≡◌, ℕ, zero, suc, ◌+◌, Bool, true, false, List, length, refl, ap, sym, ◌∙◌, subst, arith}
-use Rattle.std.specs.Prelude.{◌&&◌, ◌==◌, if◌then◌else◌}
+use Rattle.std.specs.Prelude.{◌&&◌, ◌==◌, if◌then◌else◌, slice_get}
 use Rattle.std.proofs.lemmas.Bool.{and_from, and_parts}
 use Rattle.vx_disk.specs.Shelf.{Each, Image, Lawful, Meaning}
 use Rattle.vx_copyfmt.specs.Commits.{Tidy}
 use Rattle.vx_copyfmt.specs.Imports.{Found, settle}
 use Rattle.vx_model.specs.declared.no.No.{No}
 use Rattle.vx_model.specs.declared.site.PlexState.TheVariants.{Clean}
-use Rattle.vx_config.specs.Changes.{stated}
+use Rattle.vx_config.specs.Changes.{changed_at, stated, with_plex}
 use Rattle.vx_config.specs.Checks.{is_sound}
 use Rattle.vx_config.specs.declared.config.Config.{Config}
 use Rattle.vx_config.specs.declared.entry.DiskEntry.{DiskEntry}
+use Rattle.vx_config.specs.declared.entry.VolumeEntry.{VolumeEntry}
+use Rattle.vx_layout.specs.Places.{plex_in}
 use Rattle.vx_copies.specs.Bodies.{failed_in, fits_units, have_blocks, is_wanted}
 use Rattle.vx_copies.specs.Commits.{Begins, Done, Held, IsTry, Refused, StayFit}
 use Rattle.vx_copies.specs.Looking.{on_shelf}
@@ -21,7 +23,7 @@ use Rattle.vx_kept.specs.Choice.{chosen}
 use Rattle.vx_kept.specs.Cleans.{Shown, at_serial, clean_at, clean_plexes, cleaned, marked}
 use Rattle.vx_kept.specs.Groups.{found_by}
 use Rattle.vx_kept.specs.Keeping.{AllOn, Follows, IsTidy, Kept, Kin}
-use Rattle.vx_kept.specs.States.{whole_of}
+use Rattle.vx_kept.specs.States.{whole_of, whole_or}
 use Rattle.vx_kept.proofs.Chosen.{active_volumes, alike_shape, chosen_live, live_volumes, place_volumes, settle_all, settle_found}
 use Rattle.vx_kept.proofs.CleanLemmas.{AllClean, all_clean, cleaned_more, cleaned_none, plexes_more, plexes_none}
 use Rattle.vx_kept.proofs.Committed.{base_of, below_a, counts_new, labels_new}
@@ -137,3 +139,37 @@ cleaned_serial s unsure (suc n) c =
 -- what is refused is put back
 pub clean_back : (good : ℕ) (unsure : List Bool) (c a d : Config) (old new : Meaning) (why : No) → a ≡ cleaned unsure c (length c.volumes) → Refused good a d old new why → d ≡ cleaned unsure (at_serial d.serial c) (length c.volumes)
 clean_back good unsure c a d old new why is refused = refused.kept ∙ ap (at_serial d.serial) is ∙ sym (cleaned_serial d.serial unsure (length c.volumes) c)
+
+-- ---- the same volumes
+
+whole_volumes : (d c : Config) → d.volumes ≡ c.volumes → (v p : ℕ) → whole_of d v p ≡ whole_of c v p
+unfolding whole_of
+whole_volumes d c same v p = ap (λ (vs : List VolumeEntry). whole_or (plex_in (slice_get vs v) p)) same
+
+one_volumes : (v p : ℕ) (d c : Config) → d.volumes ≡ c.volumes → (clean_at v p d).volumes ≡ (clean_at v p c).volumes
+one_volumes v p d c same =
+    ap (λ (b : Bool). (if b then stated v p Clean (whole_of d v p) d else d).volumes) (active_volumes d c same v p)
+    ∙ ap (λ (w : Bool). (if active c v p then stated v p Clean w d else d).volumes) (whole_volumes d c same v p) ∙ by (active c v p)
+  where
+    by : (b : Bool) → (if b then stated v p Clean (whole_of c v p) d else d).volumes ≡ (if b then stated v p Clean (whole_of c v p) c else c).volumes
+    by true = ap (changed_at (with_plex p Clean (whole_of c v p)) v) same
+    by false = same
+
+plexes_volumes : (v n : ℕ) (d c : Config) → d.volumes ≡ c.volumes → (clean_plexes v d n).volumes ≡ (clean_plexes v c n).volumes
+plexes_volumes v zero d c same = ap (λ (x : Config). x.volumes) (plexes_none v d) ∙ same ∙ ap (λ (x : Config). x.volumes) (sym (plexes_none v c))
+plexes_volumes v (suc n) d c same =
+    ap (λ (x : Config). x.volumes) (plexes_more v n d) ∙ one_volumes v n (clean_plexes v d n) (clean_plexes v c n) (plexes_volumes v n d c same)
+    ∙ ap (λ (x : Config). x.volumes) (sym (plexes_more v n c))
+
+-- what is made CLEAN hangs on the volumes alone
+pub cleaned_volumes : (unsure : List Bool) (n : ℕ) (d c : Config) → d.volumes ≡ c.volumes → (cleaned unsure d n).volumes ≡ (cleaned unsure c n).volumes
+cleaned_volumes unsure zero d c same = ap (λ (x : Config). x.volumes) (cleaned_none unsure d) ∙ same ∙ ap (λ (x : Config). x.volumes) (sym (cleaned_none unsure c))
+cleaned_volumes unsure (suc n) d c same =
+    ap (λ (x : Config). x.volumes) (cleaned_more unsure n d)
+    ∙ by (marked unsure n) (cleaned_volumes unsure n d c same) (plexes_volumes n 8 (cleaned unsure d n) (cleaned unsure c n) (cleaned_volumes unsure n d c same))
+    ∙ ap (λ (x : Config). x.volumes) (sym (cleaned_more unsure n c))
+  where
+    by : (b : Bool) → (cleaned unsure d n).volumes ≡ (cleaned unsure c n).volumes → (clean_plexes n (cleaned unsure d n) 8).volumes ≡ (clean_plexes n (cleaned unsure c n) 8).volumes
+        → (if b then cleaned unsure d n else clean_plexes n (cleaned unsure d n) 8).volumes ≡ (if b then cleaned unsure c n else clean_plexes n (cleaned unsure c n) 8).volumes
+    by true was more = was
+    by false was more = more

@@ -3,9 +3,9 @@ use Rattle.vx_config.specs.declared.entry.DiskEntry.{DiskEntry}
 use Rattle.vx_copies.proofs.OneTry.{wanted_count}
 use Rattle.vx_copies.proofs.Settling.{failed_at as failed_is, no_disk}
 use Rattle.vx_copies.specs.Marks.{NoneGood, failed_at}
-use Rattle.vx_group.specs.Settled.{SettledTo}
+use Rattle.vx_group.specs.Settled.{SameBut, SettledTo}
 use Rattle.vx_group.specs.declared.group_core.GroupCore.{GroupCore}
-use Rattle.vx_group.proofs.ReadyLemmas.{core_back, core_settled, disks_Narrows, disks_Stands, fault_cause, one_failed, settle_acts, settle_end, settle_kept, settle_mark, settle_one, settle_pass, settle_start}
+use Rattle.vx_group.proofs.ReadyLemmas.{core_back, core_settled, disks_Narrows, disks_Stands, fault_cause, one_failed, same_but, settle_acts, settle_end, settle_kept, settle_mark, settle_one, settle_pass, settle_start}
 use Rattle.vx_group.specs.Moves.{Narrows}
 use Rattle.vx_group.specs.Stands.{Stands}
 use Rattle.vx_group.proofs.CallLemmas.{settled_Stands, settled_only}
@@ -91,3 +91,14 @@ returns-clause-stands g c =
 pub returns-clause-narrows : goal.returns-clause-narrows
 returns-clause-narrows g c =
     subst (λ (k : GroupCore). Narrows c.args.core.now k (g.S.Shelf.meaning c.args.shelf.now) (g.S.Shelf.meaning c.loop-disk.shelf)) (sym (core_settled c.args.core.now c.loop-disk.core c.loop-disk.invariant.1)) (disks_Narrows c.args.core.now c.loop-disk.core.config c.loop-disk.disk c.loop-disk.device c.loop-disk.failed (g.S.Shelf.meaning c.args.shelf.now) (g.S.Shelf.meaning c.loop-disk.shelf) c.requires.stands c.loop-disk.invariant.0)
+
+pub returns-in-Err-Down-clause-same : goal.returns-in-Err-Down-clause-same
+returns-in-Err-Down-clause-same g c =
+    subst (λ (k : GroupCore). SameBut c.args.core.now.config k.config) (sym (core_back c.args.core.now c.loop-disk.core c.copy-kept.result c.loop-disk.invariant.1 c.loop-disk.invariant.0.same c.copy-kept.ensures)) (same_but c.args.core.now.config)
+
+pub returns-then-not-has_good-clause-same : goal.returns-then-not-has_good-clause-same
+returns-then-not-has_good-clause-same g c =
+    subst (λ (k : GroupCore). SameBut c.args.core.now.config k.config) (sym (core_back c.args.core.now c.loop-disk.core c.copy-kept.result c.loop-disk.invariant.1 c.loop-disk.invariant.0.same c.copy-kept.ensures)) (same_but c.args.core.now.config)
+
+pub returns-clause-same : goal.returns-clause-same
+returns-clause-same g c = subst (λ (k : GroupCore). SameBut c.args.core.now.config k.config) (sym (core_settled c.args.core.now c.loop-disk.core c.loop-disk.invariant.1)) c.loop-disk.invariant.0.same
