@@ -121,7 +121,7 @@ left_done c d v set done old new on but off p is_on = by (bit_at set p) refl
 
 -- ---- with other marks
 
-pub with_Stands : (core : GroupCore) (next faults : List ℕ) (m : Meaning) → Stands core m → Stands (record { config = core.config; good = core.good; room = core.room; unsettled = core.unsettled; next = next; faults = faults }) m
+pub with_Stands : (core : GroupCore) (next faults : List ℕ) (m : Meaning) → Stands core m → Stands (record { config = core.config; good = core.good; room = core.room; unsettled = core.unsettled; next = next; faults = faults; unsure = core.unsure }) m
 with_Stands core next faults m s = record {
   wanted = s.wanted;
   serial = s.serial;
@@ -140,7 +140,7 @@ with_Stands core next faults m s = record {
 
 module _ (core : GroupCore) (b : Bool) (m m' : Meaning) (stands : Stands core m) (kept : Kept core.config (Member core.good m') m') (acts : Acts Nothing (Sees core.config (Member core.good m) m) m m') where
   abbrev settled : GroupCore
-  settled = record { config = core.config; good = core.good; room = core.room; unsettled = b; next = core.next; faults = core.faults }
+  settled = record { config = core.config; good = core.good; room = core.room; unsettled = b; next = core.next; faults = core.faults; unsure = core.unsure }
 
   pub settled_Stands : (b ≡ false → IsTidy core.config m') → Stands settled m'
   settled_Stands tidy = made settled m' (wanted_same m m' core.config acts.units acts.size stands.wanted) (can_of core m stands) stands.few stands.small (still_large m m' acts.units acts.size stands.large) stands.on stands.some kept tidy
@@ -153,13 +153,14 @@ module _ (core : GroupCore) (b : Bool) (m m' : Meaning) (stands : Stands core m)
     shape = narrows.shape;
     on = narrows.on;
     faults = narrows.faults;
+    unsure = narrows.unsure;
   }
 
   pub settled_to : Narrows core settled m m'
-  settled_to = record { acts = acts; shape = same_shape core.config; on = λ v p is. is; faults = refl }
+  settled_to = record { acts = acts; shape = same_shape core.config; on = λ v p is. is; faults = refl; unsure = refl }
 
   pub settled_only : Narrows core core m m'
-  settled_only = record { acts = acts; shape = same_shape core.config; on = λ v p is. is; faults = refl }
+  settled_only = record { acts = acts; shape = same_shape core.config; on = λ v p is. is; faults = refl; unsure = refl }
 
 pub sees_volumes : (c d : Config) (G : ℕ → Type 0) (m : Meaning) (i : Image) → d.volumes ≡ c.volumes → Sees c G m i → Sees d G m i
 sees_volumes c d G m i volumes sees = record {
@@ -171,15 +172,20 @@ sees_volumes c d G m i volumes sees = record {
 
 -- ---- two in a row, of which the first left the configuration
 
+pub both_acts : (a b : GroupCore) (m m' last : Meaning) → b.config.volumes ≡ a.config.volumes → b.good ≡ a.good → Acts Nothing (Sees a.config (Member a.good m) m) m m'
+    → Acts Nothing (Sees b.config (Member b.good m') m') m' last → Acts Nothing (Sees a.config (Member a.good m) m) m last
+both_acts a b m m' last config good one two = wide_Acts (Or Nothing Nothing) Nothing (Sees a.config (Member a.good m) m) m last
+    (both_Acts Nothing Nothing (Sees a.config (Member a.good m) m) (Sees b.config (Member b.good m') m') m m' last one two
+    (λ i sees. sees_back a.good a.config m m' one.units one.size i (sees_volumes b.config a.config (Member a.good m') m' i (sym config) (subst (λ (k : ℕ). Sees b.config (Member k m') m' i) good sees))))
+    (λ u k x. ⊎_elim (λ none. none) (λ none. none))
+
 pub both_Narrows : (a b d : GroupCore) (m m' last : Meaning) → b.config.volumes ≡ a.config.volumes → b.good ≡ a.good → Narrows a b m m' → Narrows b d m' last → Narrows a d m last
 both_Narrows a b d m m' last config good one two = record {
-  acts = wide_Acts (Or Nothing Nothing) Nothing (Sees a.config (Member a.good m) m) m last
-      (both_Acts Nothing Nothing (Sees a.config (Member a.good m) m) (Sees b.config (Member b.good m') m') m m' last one.acts two.acts
-      (λ i sees. sees_back a.good a.config m m' one.acts.units one.acts.size i (sees_volumes b.config a.config (Member a.good m') m' i (sym config) (subst (λ (k : ℕ). Sees b.config (Member k m') m' i) good sees))))
-      (λ u k x. ⊎_elim (λ none. none) (λ none. none));
+  acts = both_acts a b m m' last config good one.acts two.acts;
   shape = then_shape d.config b.config a.config two.shape one.shape;
   on = λ v p is. one.on v p (two.on v p is);
   faults = two.faults ∙ one.faults;
+  unsure = two.unsure ∙ one.unsure;
 }
 
 -- ---- refusals of a volume

@@ -44,7 +44,7 @@ from_no true none = absurd (none refl)
 from_no false none = refl
 
 module _ (core e : GroupCore) (v set : ℕ) (m m' : Meaning) (stands : Stands core m) (acts : Acts Nothing (Sees core.config (Member core.good m) m) m m')
-    (wanted : is_wanted m'.units m'.size e.config ≡ true) (can : CanSpell e.config) (on : AllOn e.config) (faults : e.faults ≡ core.faults) where
+    (wanted : is_wanted m'.units m'.size e.config ≡ true) (can : CanSpell e.config) (on : AllOn e.config) (faults : e.faults ≡ core.faults) (unsure : e.unsure ≡ core.unsure) where
   few_same : length e.config.volumes ≡ length core.config.volumes → length e.config.volumes ≤ 32
   few_same same = let few = stands.few in omega (arith, same, few)
 
@@ -67,6 +67,7 @@ module _ (core e : GroupCore) (v set : ℕ) (m m' : Meaning) (stands : Stands co
       shape = taken.shape;
       on = λ x q is. stands.on.each x q ((is_staled v set 8 core.config).lives x q (on_live (staled v set core.config 8) x q (sym (active_was x q) ∙ is)));
       faults = faults;
+      unsure = unsure;
     }
 
     pub taken_off : AreOn core.config v set → AreOff e.config v set
@@ -90,6 +91,7 @@ module _ (core e : GroupCore) (v set : ℕ) (m m' : Meaning) (stands : Stands co
       shape = alike_shape e.config core.config core.config left.volumes (same_shape core.config);
       on = λ x q is. sym (active_volumes e.config core.config left.volumes x q) ∙ is;
       faults = faults;
+      unsure = unsure;
     }
 
 -- ---- why

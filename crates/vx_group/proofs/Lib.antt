@@ -6,3 +6,4 @@ pub mod ReadLemmas
 pub mod ReadyLemmas
 pub mod CreateLemmas
 pub mod DetLemmas
+pub mod DeportLemmas

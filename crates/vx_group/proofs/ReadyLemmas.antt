@@ -175,7 +175,7 @@ kept_volumes c d G m volumes serial kept = record {
 
 module _ (core : GroupCore) (d : Config) (n device : ℕ) (failed : Bool) (m m1 : Meaning) (stands : Stands core m) (so_far : SettledTo core.good core.config d n device failed m m1) where
   abbrev with_disks : GroupCore
-  with_disks = record { config = d; good = core.good; room = core.room; unsettled = false; next = core.next; faults = core.faults }
+  with_disks = record { config = d; good = core.good; room = core.room; unsettled = false; next = core.next; faults = core.faults; unsure = core.unsure }
 
   can_same : CanSpell d
   can_same = record {
@@ -197,6 +197,7 @@ module _ (core : GroupCore) (d : Config) (n device : ℕ) (failed : Bool) (m m1 
     shape = alike_shape d core.config core.config so_far.same.volumes (same_shape core.config);
     on = λ v p is. sym (active_volumes d core.config so_far.same.volumes v p) ∙ is;
     faults = refl;
+    unsure = refl;
   }
 
 -- the disks were put back
@@ -210,24 +211,24 @@ put_back c d disks same is =
 
 -- and the core with them
 pub core_back : (core l : GroupCore) (disks : List DiskEntry)
-    → l ≡ record { config = l.config; good = core.good; room = core.room; unsettled = core.unsettled; next = core.next; faults = core.faults } → SameBut core.config l.config → disks ≡ core.config.disks
-    → record { config = record { serial = l.config.serial; site = l.config.site; disks = disks; volumes = l.config.volumes; rvg = l.config.rvg }; good = l.good; room = l.room; unsettled = l.unsettled; next = l.next; faults = l.faults } ≡ core
+    → l ≡ record { config = l.config; good = core.good; room = core.room; unsettled = core.unsettled; next = core.next; faults = core.faults; unsure = core.unsure } → SameBut core.config l.config → disks ≡ core.config.disks
+    → record { config = record { serial = l.config.serial; site = l.config.site; disks = disks; volumes = l.config.volumes; rvg = l.config.rvg }; good = l.good; room = l.room; unsettled = l.unsettled; next = l.next; faults = l.faults; unsure = l.unsure } ≡ core
 core_back core l disks is same back =
-    ap (λ (x : GroupCore). record { config = record { serial = l.config.serial; site = l.config.site; disks = disks; volumes = l.config.volumes; rvg = l.config.rvg }; good = x.good; room = x.room; unsettled = x.unsettled; next = x.next; faults = x.faults }) is
-    ∙ ap (λ (x : Config). record { config = x; good = core.good; room = core.room; unsettled = core.unsettled; next = core.next; faults = core.faults }) (put_back core.config l.config disks same back)
+    ap (λ (x : GroupCore). record { config = record { serial = l.config.serial; site = l.config.site; disks = disks; volumes = l.config.volumes; rvg = l.config.rvg }; good = x.good; room = x.room; unsettled = x.unsettled; next = x.next; faults = x.faults; unsure = x.unsure }) is
+    ∙ ap (λ (x : Config). record { config = x; good = core.good; room = core.room; unsettled = core.unsettled; next = core.next; faults = core.faults; unsure = core.unsure }) (put_back core.config l.config disks same back)
 
 -- and the core that is settled
-pub core_settled : (core l : GroupCore) → l ≡ record { config = l.config; good = core.good; room = core.room; unsettled = core.unsettled; next = core.next; faults = core.faults }
-    → ◌≡◌ {A = GroupCore} (record { config = l.config; good = l.good; room = l.room; unsettled = false; next = l.next; faults = l.faults })
-    (record { config = l.config; good = core.good; room = core.room; unsettled = false; next = core.next; faults = core.faults })
-core_settled core l is = ap (λ (x : GroupCore). record { config = l.config; good = x.good; room = x.room; unsettled = false; next = x.next; faults = x.faults }) is
+pub core_settled : (core l : GroupCore) → l ≡ record { config = l.config; good = core.good; room = core.room; unsettled = core.unsettled; next = core.next; faults = core.faults; unsure = core.unsure }
+    → ◌≡◌ {A = GroupCore} (record { config = l.config; good = l.good; room = l.room; unsettled = false; next = l.next; faults = l.faults; unsure = l.unsure })
+    (record { config = l.config; good = core.good; room = core.room; unsettled = false; next = core.next; faults = core.faults; unsure = core.unsure })
+core_settled core l is = ap (λ (x : GroupCore). record { config = l.config; good = x.good; room = x.room; unsettled = false; next = x.next; faults = x.faults; unsure = x.unsure }) is
 
 pub fault_cause : (old new : Meaning) (n unit : ℕ) (error : ShelfError) → error ≡ Fault unit → Cause {T = Unit {0}} old new n (Err error) → Faulted old new n unit × StaysUp old new
 fault_cause old new n unit error is cause = subst (λ (e : ShelfError). Cause {T = Unit {0}} old new n (Err e)) is cause
 
 -- where none of the set is left, one failed
 pub one_failed : (core l : GroupCore) (n device : ℕ) (failed : Bool) (m m1 : Meaning) → Stands core m → SettledTo core.good core.config l.config n device failed m m1
-    → l ≡ record { config = l.config; good = core.good; room = core.room; unsettled = core.unsettled; next = core.next; faults = core.faults } → NoneGood l.config.disks (length l.config.disks) l.good
+    → l ≡ record { config = l.config; good = core.good; room = core.room; unsettled = core.unsettled; next = core.next; faults = core.faults; unsure = core.unsure } → NoneGood l.config.disks (length l.config.disks) l.good
     → Rose (m.disk_faults device) (m1.disk_faults device)
 one_failed core l n device failed m m1 stands so_far is none = by failed refl
   where

@@ -18,7 +18,7 @@ use Rattle.vx_group.proofs.Standing.{apart_of_core, kept_of, low_Stands}
 
 -- no commit
 pub no_commit : (core : GroupCore) (m : Meaning) → Narrows core core m m
-no_commit core m = record { acts = same_Acts (Sees core.config (Member core.good m) m) m; shape = same_shape core.config; on = λ v p is. is; faults = refl }
+no_commit core m = record { acts = same_Acts (Sees core.config (Member core.good m) m) m; shape = same_shape core.config; on = λ v p is. is; faults = refl; unsure = refl }
 
 module _ (core : GroupCore) (v block : ℕ) (bytes : List ℕ) (m m' : Meaning) (before : Lawful m) (after : Lawful m') (stands : Stands core m) (fits : Fits (meaning_of core m) v block (length bytes))
     (write : Goes (OnPlexes core.config v block (length bytes / 512) bytes) m m') where

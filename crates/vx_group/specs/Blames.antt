@@ -1,5 +1,5 @@
 -- Why a call on the shelf below failed.
-use Rattle.std.specs.Prelude.{◌≡◌, ◌≢◌, ◌⊎◌, ℕ, ◌≤◌, IsTrue, Result, Ok, Err}
+use Rattle.std.specs.Prelude.{◌≡◌, ◌≢◌, ◌⊎◌, ℕ, ◌≤◌, Bool, true, false, IsTrue, List, Result, Ok, Err, slice_index_or}
 use Rattle.vx_disk.specs.Counts.{Rose}
 use Rattle.vx_disk.specs.Shelf.{Meaning}
 use Rattle.vx_disk.specs.declared.shelf.ShelfError.{ShelfError}
@@ -34,3 +34,23 @@ pub record Raised (v : ℕ) (old new : ℕ → ℕ) : Type 0 where
 abbrev pub Counts : ShelfError → ℕ → (ℕ → ℕ) → (ℕ → ℕ) → Type 0
 Counts (Fault disk) v old new = Raised v old new
 Counts Down v old new = (u : ℕ) → new u ≡ old u
+
+-- a fault comes only where the count of its disk rose, and Down only where the shelf is then down; what Ok leaves is not said
+abbrev pub StopsBy : {T : Type 0} → Meaning → Meaning → Result T ShelfError → Type 0
+StopsBy old new (Ok x) = Unit {0}
+StopsBy old new (Err (Fault disk)) = Rose (old.disk_faults disk) (new.disk_faults disk) × (IsTrue new.down → ⊥)
+StopsBy old new (Err Down) = IsTrue new.down
+
+-- a volume is marked as unsure, and no other mark changed
+pub record Marked (v : ℕ) (old new : List Bool) : Type 0 where
+  pub here : slice_index_or new v false ≡ true
+  pub others : (u : ℕ) → u ≢ v → slice_index_or new u false ≡ slice_index_or old u false
+
+abbrev pub Marks : ShelfError → ℕ → List Bool → List Bool → Type 0
+Marks (Fault disk) v old new = Marked v old new
+Marks Down v old new = new ≡ old
+
+-- a write or a flush of a volume marks it exactly where it fails with a fault
+abbrev pub MarksOn : {T : Type 0} → ℕ → List Bool → List Bool → Result T ShelfError → Type 0
+MarksOn v old new (Ok x) = new ≡ old
+MarksOn v old new (Err error) = Marks error v old new

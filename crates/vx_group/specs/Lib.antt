@@ -5,3 +5,4 @@ pub mod Settled
 pub mod Laws
 pub mod Creates
 pub mod Dets
+pub mod Deports

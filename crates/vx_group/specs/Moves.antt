@@ -15,6 +15,7 @@ pub record Narrows (c d : GroupCore) (old new : Meaning) : Type 0 where
   pub shape : SameShape d.config c.config
   pub on : (v p : ℕ) → IsTrue (active d.config v p) → IsTrue (active c.config v p)
   pub faults : d.faults ≡ c.faults
+  pub unsure : d.unsure ≡ c.unsure
 
 -- none of these plexes of a volume is ACTIVE
 pub record AreOff (d : Config) (v set : ℕ) : Type 0 where

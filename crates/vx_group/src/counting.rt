@@ -1,7 +1,7 @@
 // The counts of faults of the volumes.
 ghost use Rattle.std.specs.Prelude.{◌≡◌, ◌≢◌, ◌<◌, ◌≤◌, ℕ};
 ghost use Rattle.vx_disk.specs.Counts.{Rose};
-ghost use Rattle.vx_group.specs.Blames.{Counts};
+ghost use Rattle.vx_group.specs.Blames.{Counts, Marked, Marks};
 ghost use Rattle.vx_group.specs.Stands.{counted};
 
 use vx_disk::ShelfError;
@@ -17,13 +17,30 @@ pub fn count_fault(faults: &mut [u64; MOST_VOLUMES], vol: u32)
     faults[vol as usize] = faults[vol as usize].saturating_add(1);
 }
 
-/// Counts a call on a volume that failed with a fault.
-pub fn give_up(faults: &mut [u64; MOST_VOLUMES], vol: u32, error: ShelfError)
+/// Marks a volume as unsure.
+fn mark(unsure: &mut [bool; MOST_VOLUMES], vol: u32)
+    requires inside { vol < MOST_VOLUMES }
+    ensures { Marked vol unsure.old unsure.new }
+{
+    unsure[vol as usize] = true;
+}
+
+/// Counts a write or a flush of a volume that failed with a fault, and marks the volume as unsure.
+pub fn give_up(
+    faults: &mut [u64; MOST_VOLUMES],
+    unsure: &mut [bool; MOST_VOLUMES],
+    vol: u32,
+    error: ShelfError,
+)
     requires inside { vol < MOST_VOLUMES }
     ensures counts { Counts error vol (counted faults.old) (counted faults.new) }
+    ensures marks { Marks error vol unsure.old unsure.new }
 {
     match error {
-        ShelfError::Fault { .. } => count_fault(faults, vol),
+        ShelfError::Fault { .. } => {
+            count_fault(faults, vol);
+            mark(unsure, vol);
+        }
         ShelfError::Down => {}
     }
 }

@@ -91,5 +91,6 @@ pub fn start<S: Shelf>(alloc: Global, shelf: &mut S, site: u32) -> Result<GroupC
         unsettled: false,
         next: [0; MOST_VOLUMES],
         faults: [0; MOST_VOLUMES],
+        unsure: [false; MOST_VOLUMES],
     })
 }

@@ -2,7 +2,7 @@
 ghost use Rattle.std.specs.Prelude.{◌≡◌, ◌<◌, IsTrue, OnOk};
 ghost use Rattle.vx_disk.specs.Causes.{Cause};
 ghost use Rattle.vx_disk.specs.Shelf.{Flushed, Goes, Nothing};
-ghost use Rattle.vx_group.specs.Blames.{Blames};
+ghost use Rattle.vx_group.specs.Blames.{Blames, MarksOn};
 ghost use Rattle.vx_group.specs.Moves.{AllFlushed};
 ghost use Rattle.vx_group.specs.Stands.{Stands, meaning_of};
 
@@ -23,6 +23,7 @@ fn flush_plexes<S: Shelf>(shelf: &mut S, core: &mut GroupCore, vol: u32) -> Resu
     ensures ok { OnOk result (Flushed vol (meaning_of core.old (S.meaning shelf.old)) (meaning_of core.new (S.meaning shelf.new))) }
     ensures all { OnOk result (AllFlushed core.new.config vol (S.meaning shelf.old) (S.meaning shelf.new)) }
     ensures faults { core.new.faults ≡ core.old.faults }
+    ensures unsure { core.new.unsure ≡ core.old.unsure }
     ensures cause { Blames (S.meaning shelf.old) (S.meaning shelf.new) result }
 {
     match flush_all(&core.config, vol, shelf) {
@@ -47,6 +48,7 @@ pub fn flush_in<S: Shelf>(shelf: &mut S, core: &mut GroupCore, vol: u32) -> Resu
     ensures goes { Goes Nothing (meaning_of core.old (S.meaning shelf.old)) (meaning_of core.new (S.meaning shelf.new)) }
     ensures ok { OnOk result (Flushed vol (meaning_of core.old (S.meaning shelf.old)) (meaning_of core.new (S.meaning shelf.new))) }
     ensures cause { Cause (meaning_of core.old (S.meaning shelf.old)) (meaning_of core.new (S.meaning shelf.new)) vol result }
+    ensures marks { MarksOn vol core.old.unsure core.new.unsure result }
 {
     if shelf.is_down() {
         return Err(ShelfError::Down);
@@ -54,14 +56,14 @@ pub fn flush_in<S: Shelf>(shelf: &mut S, core: &mut GroupCore, vol: u32) -> Resu
     match make_ready(shelf, core) {
         Ok(()) => {}
         Err(error) => {
-            give_up(&mut core.faults, vol, error);
+            give_up(&mut core.faults, &mut core.unsure, vol, error);
             return Err(error);
         }
     }
     match flush_plexes(shelf, core, vol) {
         Ok(()) => Ok(()),
         Err(error) => {
-            give_up(&mut core.faults, vol, error);
+            give_up(&mut core.faults, &mut core.unsure, vol, error);
             Err(error)
         }
     }

@@ -1,7 +1,9 @@
 // A group as a shelf.
-ghost use Rattle.std.specs.Prelude.{◌≡◌, ◌<◌, ◌≤◌, false, Some, None, Err, OnOk};
+ghost use Rattle.std.specs.Prelude.{◌≡◌, ◌<◌, ◌≤◌, ◌-◌, false, Some, None, Err, OnOk};
 ghost use Rattle.vx_disk.specs.Shelf.{Goes, Nothing};
-ghost use Rattle.vx_group.specs.Dets.{DetStops, det_refusal};
+ghost use Rattle.vx_config.specs.Table.{greatest};
+ghost use Rattle.vx_group.specs.Deports.{DeportStops, GroupDeported, IsFull};
+ghost use Rattle.vx_group.specs.Dets.{DetStops, det_refusal, margin};
 ghost use Rattle.vx_group.specs.Moves.{Narrows};
 ghost use Rattle.vx_model.specs.declared.no.No.{No as NoValue};
 ghost use Rattle.vx_volume.specs.Plexes.{active};
@@ -15,6 +17,7 @@ ghost use Rattle.vx_group.specs.Stands.{Stands, meaning_of};
 
 use crate::GroupCore;
 use crate::create::start;
+use crate::deporting::deport_in;
 use crate::det::det_in;
 use crate::flushing::flush_in;
 use crate::reading::read_in;
@@ -71,6 +74,25 @@ impl<S: Shelf> Group<S> {
         ensures cause { det_refusal self.old.core.config vol plex ≡ None → DetStops (S.meaning self.old.shelf) (S.meaning self.new.shelf) result }
     {
         det_in(&mut self.shelf, &mut self.core, vol, plex)
+    }
+
+    /// Deports the group: a commit puts the plexes that are ACTIVE into the state CLEAN, but those of the volumes of which a write or a
+    /// flush failed, and the shelf is handed out.
+    ///
+    /// Answers 19 exactly where fewer than 65,536 serials are left, and then nothing has changed; else 7 only where the count of the disk
+    /// that it names rose, and 6 only where the shelf is then down. A refusal gives the group back. It makes no device call but those of a
+    /// commit, behind a refused commit those that write headers back, and takes no memory.
+    pub fn deport(self) -> Result<S, (Group<S>, Stop)>
+        ensures limit { greatest - margin < self.core.config.serial → IsFull self.core self.shelf (λ g. g.core) (λ g. g.shelf) result }
+        ensures ends { GroupDeported self.core (S.meaning self.shelf) (λ s. S.meaning s) (λ g. g.core) (λ g. g.shelf) result }
+        ensures cause { self.core.config.serial ≤ greatest - margin → DeportStops (S.meaning self.shelf) (λ s. S.meaning s) (λ g. g.shelf) result }
+    {
+        let mut shelf = self.shelf;
+        let mut core = self.core;
+        match deport_in(&mut shelf, &mut core) {
+            Ok(()) => Ok(shelf),
+            Err(stop) => Err((Group { shelf, core }, stop)),
+        }
     }
 
     /// Hands out the shelf below and the rest. It makes no device call and takes no memory.

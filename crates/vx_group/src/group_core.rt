@@ -17,4 +17,6 @@ pub struct GroupCore {
     pub(crate) next: [u32; MOST_VOLUMES],
     /// Of each volume how many calls on it failed.
     pub(crate) faults: [u64; MOST_VOLUMES],
+    /// Of each volume whether a write or a flush of it failed with a fault since the group was made: its plexes may differ.
+    pub(crate) unsure: [bool; MOST_VOLUMES],
 }

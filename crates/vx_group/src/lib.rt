@@ -5,6 +5,7 @@
 
 mod counting;
 mod create;
+mod deporting;
 mod det;
 mod detaching;
 mod flushing;

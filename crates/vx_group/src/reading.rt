@@ -27,6 +27,7 @@ pub fn read_in<S: Shelf>(
     ensures cause { Cause (meaning_of core.old (S.meaning shelf.old)) (meaning_of core.new (S.meaning shelf.new)) vol result }
     ensures counts { CountsOnly vol result (meaning_of core.old (S.meaning shelf.old)).faults (meaning_of core.new (S.meaning shelf.new)).faults }
     ensures same { core.new.config ≡ core.old.config }
+    ensures unsure { core.new.unsure ≡ core.old.unsure }
 {
     if shelf.is_down() {
         return Err(ShelfError::Down);

@@ -2,6 +2,7 @@
 ghost use Rattle.std.specs.Prelude.{◌≡◌, ◌<◌, false, IsTrue, OnOk};
 ghost use Rattle.vx_group.specs.Blames.{Blames};
 ghost use Rattle.vx_group.specs.Moves.{Narrows};
+ghost use Rattle.vx_group.specs.Settled.{SameBut};
 ghost use Rattle.vx_group.specs.Stands.{Stands};
 
 use crate::GroupCore;
@@ -22,6 +23,7 @@ pub fn settle_headers<S: Shelf>(shelf: &mut S, core: &mut GroupCore) -> Result<(
     ensures volumes { core.new.config.volumes ≡ core.old.config.volumes }
     ensures serial { core.new.config.serial ≡ core.old.config.serial }
     ensures good { core.new.good ≡ core.old.good }
+    ensures same { SameBut core.old.config core.new.config }
     ensures settled { OnOk result (core.new.unsettled ≡ false) }
     ensures cause { Blames (S.meaning shelf.old) (S.meaning shelf.new) result }
 {

@@ -2,7 +2,7 @@
 ghost use Rattle.std.specs.Prelude.{◌≡◌, length, IsTrue, OnOk};
 ghost use Rattle.vx_disk.specs.Causes.{Cause};
 ghost use Rattle.vx_disk.specs.Shelf.{Fits, Goes, Written, Wrote};
-ghost use Rattle.vx_group.specs.Blames.{Blames};
+ghost use Rattle.vx_group.specs.Blames.{Blames, MarksOn};
 ghost use Rattle.vx_group.specs.Moves.{AllWrote};
 ghost use Rattle.vx_group.specs.Stands.{Stands, meaning_of};
 
@@ -29,6 +29,7 @@ fn write_plexes<S: Shelf>(
     ensures ok { OnOk result (Wrote vol block bytes.now (meaning_of core.old (S.meaning shelf.old)) (meaning_of core.new (S.meaning shelf.new))) }
     ensures all { OnOk result (AllWrote core.new.config vol block bytes.now (S.meaning shelf.old) (S.meaning shelf.new)) }
     ensures faults { core.new.faults ≡ core.old.faults }
+    ensures unsure { core.new.unsure ≡ core.old.unsure }
     ensures cause { Blames (S.meaning shelf.old) (S.meaning shelf.new) result }
 {
     match write_all(&core.config, vol, shelf, block, bytes) {
@@ -59,6 +60,7 @@ pub fn write_in<S: Shelf>(
     ensures goes { Goes (Written vol block bytes.now) (meaning_of core.old (S.meaning shelf.old)) (meaning_of core.new (S.meaning shelf.new)) }
     ensures ok { OnOk result (Wrote vol block bytes.now (meaning_of core.old (S.meaning shelf.old)) (meaning_of core.new (S.meaning shelf.new))) }
     ensures cause { Cause (meaning_of core.old (S.meaning shelf.old)) (meaning_of core.new (S.meaning shelf.new)) vol result }
+    ensures marks { MarksOn vol core.old.unsure core.new.unsure result }
 {
     if shelf.is_down() {
         return Err(ShelfError::Down);
@@ -66,14 +68,14 @@ pub fn write_in<S: Shelf>(
     match make_ready(shelf, core) {
         Ok(()) => {}
         Err(error) => {
-            give_up(&mut core.faults, vol, error);
+            give_up(&mut core.faults, &mut core.unsure, vol, error);
             return Err(error);
         }
     }
     match write_plexes(shelf, core, vol, block, bytes) {
         Ok(()) => Ok(()),
         Err(error) => {
-            give_up(&mut core.faults, vol, error);
+            give_up(&mut core.faults, &mut core.unsure, vol, error);
             Err(error)
         }
     }

@@ -39,7 +39,7 @@ module _ (c a d : Config) (old new : Meaning) (lawful : Lawful old) (lawful' : L
   abbrev Begun : ℕ → Config → Type 0
   Begun = IsTry a d.serial old new
 
-  below_a : Below a old
+  pub below_a : Below a old
   below_a = record { each = λ u lt b v h is left head. let was = base.below.each u lt b v h is left head in omega (arith, was, follows.serial) }
 
   ready : Ready a old
@@ -92,7 +92,7 @@ module _ (c a d : Config) (old new : Meaning) (lawful : Lawful old) (lawful' : L
 
   -- ---- behind it
 
-  counts_new : (u : ℕ) → u < new.units → Counts (on_shelf new) (new.leaves u)
+  pub counts_new : (u : ℕ) → u < new.units → Counts (on_shelf new) (new.leaves u)
   counts_new u lt = subst (λ (r : ℕ → List ℕ → Option Config). Counts r (new.leaves u)) (shelf_same old new begins.moves.units begins.moves.size) (elim (held_or a.disks u) [
     | inl good ↦ good_counts u (record { below = omega (arith, begins.moves.units, lt); good = good })
     | inr failed ↦ counts_sub (on_shelf old) (old.leaves u) (new.leaves u) (λ b v left. ⊎_elim (λ was. was) (λ (mine : AreasOf (Held a old) u b). absurd (not_both (failed_at a.disks u) mine.on.good failed)) (begins.moves.leaves u b v left))
@@ -105,7 +105,7 @@ module _ (c a d : Config) (old new : Meaning) (lawful : Lawful old) (lawful' : L
         | inr forged ↦ absurd (no_forged (on_shelf old) (a.serial + 1) (old.leaves u) e (tidy.each u mine) forged)
       ]
 
-  labels_new : HaveLabels new
+  pub labels_new : HaveLabels new
   labels_new = record {
     each = λ u v lt left. elim (begins.moves.leaves u 0 v left) [
       | inl was ↦ base.labels.each u v (omega (arith, begins.moves.units, lt)) was
@@ -246,7 +246,7 @@ module _ (c a d : Config) (G : ℕ → Type 0) (old new : Meaning) (lawful : Law
 member_same : (good : ℕ) (m m' : Meaning) → m'.units ≡ m.units → (u : ℕ) → Member good m' u → Member good m u
 member_same good m m' units u it = record { below = omega (arith, units, it.below); is = it.is }
 
-held_of : (d : Config) (m : Meaning) → length d.disks ≡ m.units → (u : ℕ) → Member (good_set d.disks) m u → Held d m u
+pub held_of : (d : Config) (m : Meaning) → length d.disks ≡ m.units → (u : ℕ) → Member (good_set d.disks) m u → Held d m u
 held_of d m count u it =
     let lt : u < length d.disks = omega (arith, count, it.below) in
     let is : not (failed_at d.disks u) ≡ true = sym (good_bit d.disks u lt) ∙ it.is in

@@ -1,15 +1,14 @@
 -- The first commit of a group, over disks without headers.
-use Rattle.std.proofs.Common.{◌≡◌, ◌⊎◌, inl, inr, ℕ, ◌+◌, ◌<◌, ◌≤◌, true, IsTrue, Option, Some, None, List, length, Result, Ok, Err, refl, ap, sym, ◌∙◌, subst, arith}
+use Rattle.std.proofs.Common.{◌≡◌, inl, inr, ℕ, true, Option, Some, None, List, Result, Ok, Err, refl, ap, sym, ◌∙◌}
 use Rattle.vx_disk.specs.Shelf.{Lawful, Meaning}
 use Rattle.vx_copyfmt.specs.Areas.{header_of}
-use Rattle.vx_copyfmt.specs.Commits.{Counts, IsHeaderBlock, Tidy, target_of}
+use Rattle.vx_copyfmt.specs.Commits.{target_of}
 use Rattle.vx_copyfmt.specs.declared.area.AreaHeader.{AreaHeader}
 use Rattle.vx_model.specs.declared.no.No.{No}
 use Rattle.vx_config.specs.Checks.{is_sound}
 use Rattle.vx_config.specs.declared.config.Config.{Config}
 use Rattle.vx_copies.specs.Bodies.{is_wanted}
 use Rattle.vx_copies.specs.Commits.{Begins, CommitEnds, Done, HaveLabels, IsTry, StayFit}
-use Rattle.vx_copies.specs.Looking.{on_shelf}
 use Rattle.vx_copyio.specs.Settling.{AllCleared}
 use Rattle.vx_kept.specs.Choice.{chosen}
 use Rattle.vx_kept.specs.Commits.{FirstEnds, Taken}

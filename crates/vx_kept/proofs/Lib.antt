@@ -11,3 +11,5 @@ pub mod StateLemmas
 pub mod Narrower
 pub mod Staling
 pub mod Firsts
+pub mod CleanLemmas
+pub mod CleanCommits

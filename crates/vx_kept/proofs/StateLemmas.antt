@@ -20,7 +20,7 @@ use Rattle.vx_kept.specs.States.{staled, stale_at, whole_of, whole_or}
 
 -- ---- lists
 
-abbrev map_one : {A : Type 0} → (A → A) → Option A → Option A
+abbrev pub map_one : {A : Type 0} → (A → A) → Option A → Option A
 map_one f None = None
 map_one f (Some x) = Some (f x)
 
@@ -239,19 +239,19 @@ staled_same v set n c d bit is = is ∙ sym (ap (λ (b : Bool). if b then stale_
 
 -- ---- and back
 
-record There (c : Config) (v p : ℕ) : Type 0 where
-  volume : VolumeEntry
-  plex : PlexEntry
-  at_v : slice_get c.volumes v ≡ Some volume
-  at_p : slice_get volume.plexes p ≡ Some plex
-  state : plex.state ≡ Active
+pub record There (c : Config) (v p : ℕ) : Type 0 where
+  pub volume : VolumeEntry
+  pub plex : PlexEntry
+  pub at_v : slice_get c.volumes v ≡ Some volume
+  pub at_p : slice_get volume.plexes p ≡ Some plex
+  pub state : plex.state ≡ Active
 
 is_on_state : (s : PlexState) → is_active s ≡ true → s ≡ Active
 is_on_state Active is = refl
 is_on_state Clean is = absurd (let clash : false ≡ true = is in cc)
 is_on_state Stale is = absurd (let clash : false ≡ true = is in cc)
 
-there_of : (c : Config) (v p : ℕ) → IsTrue (active c v p) → There c v p
+pub there_of : (c : Config) (v p : ℕ) → IsTrue (active c v p) → There c v p
 unfolding active
 there_of c v p is_on = by_volume (slice_get c.volumes v) refl
   where

@@ -4,3 +4,4 @@ pub mod Keeping
 pub mod Commits
 pub mod Facts
 pub mod States
+pub mod Cleans

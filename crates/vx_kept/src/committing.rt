@@ -1,18 +1,20 @@
 // The commit of a group.
-ghost use Rattle.std.specs.Prelude.{◌≡◌, ◌<◌, length, true};
+ghost use Rattle.std.specs.Prelude.{◌≡◌, ◌<◌, ◌≤◌, length, true};
 ghost use Rattle.vx_config.specs.Configs.{CanSpell};
 ghost use Rattle.vx_copyio.specs.Labelling.{AreLarge};
 ghost use Rattle.vx_copies.specs.Bodies.{is_wanted};
 ghost use Rattle.vx_disk.specs.Shelf.{Nothing};
+ghost use Rattle.vx_kept.specs.Cleans.{CleanEnds, cleaned};
 ghost use Rattle.vx_kept.specs.Commits.{Member, TakeEnds};
 ghost use Rattle.vx_kept.specs.Keeping.{Acts, AllOn, IsTidy, Kept, Sees};
 ghost use Rattle.vx_kept.specs.States.{AreOn, SomeLeft, staled};
 
-use crate::{make_active, make_stale};
+use crate::{make_active, make_clean, make_open, make_stale};
 use vx_config::Config;
 use vx_copies::{Room, commit_in};
 use vx_disk::Shelf;
 use vx_model::No;
+use vx_model::limits::MOST_VOLUMES;
 
 /// Commits a configuration with the plexes of a set STALE, and as it stands where the set is empty. It takes no memory.
 ///
@@ -45,6 +47,39 @@ pub fn commit_stale<S: Shelf>(
         Ok(()) => Ok(()),
         Err(no) => {
             make_active(config, vol, set);
+            Err(no)
+        }
+    }
+}
+
+/// Commits a configuration with the plexes that are ACTIVE in the state CLEAN, but those of the volumes that are marked. It takes no memory.
+///
+/// After a refusal it is as it was, but for its serial; else what stands in memory is what was committed. At each moment of it, and after
+/// it, a crash leaves an image in which each plex that takes part is ACTIVE in the configuration of before.
+pub fn commit_clean<S: Shelf>(
+    shelf: &mut S,
+    config: &mut Config,
+    unsure: &[bool; MOST_VOLUMES],
+    good: u8,
+    room: &mut Room,
+) -> Result<(), No>
+    requires few { length config.old.volumes ≤ MOST_VOLUMES }
+    requires large { AreLarge (S.meaning shelf.old) }
+    requires can { CanSpell config.old }
+    requires wanted { is_wanted (S.meaning shelf.old).units (S.meaning shelf.old).size config.old ≡ true }
+    requires on { AllOn config.old }
+    requires kept { Kept config.old (Member good (S.meaning shelf.old)) (S.meaning shelf.old) }
+    requires tidy { IsTidy config.old (S.meaning shelf.old) }
+    ensures can { CanSpell config.new }
+    ensures wanted { is_wanted (S.meaning shelf.new).units (S.meaning shelf.new).size config.new ≡ true }
+    ensures acts { Acts Nothing (Sees config.old (Member good (S.meaning shelf.old)) (S.meaning shelf.old)) (S.meaning shelf.old) (S.meaning shelf.new) }
+    ensures ends { CleanEnds good config.old (cleaned unsure.now config.old (length config.old.volumes)) config.new (S.meaning shelf.old) (S.meaning shelf.new) result }
+{
+    make_clean(config, unsure);
+    match commit_in(shelf, config, good, room) {
+        Ok(()) => Ok(()),
+        Err(no) => {
+            make_open(config);
             Err(no)
         }
     }

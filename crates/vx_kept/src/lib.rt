@@ -4,10 +4,12 @@
 //! CLEAN, is ACTIVE in memory.
 #![tactic(auto)]
 
+mod cleaning;
 mod committing;
 mod first;
 mod states;
 
-pub use committing::commit_stale;
+pub use cleaning::{make_clean, make_open};
+pub use committing::{commit_clean, commit_stale};
 pub use first::commit_first;
 pub use states::{make_active, make_stale};

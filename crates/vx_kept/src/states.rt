@@ -11,7 +11,7 @@ use vx_model::limits::MOST_PLEXES;
 
 // Whether the next attach of a plex has to copy all of its regions.
 #[tactic(auto, unfolding(crate::specs::States::whole_of))]
-fn whole_of(config: &Config, vol: u32, plex: u32) -> bool
+pub fn whole_of(config: &Config, vol: u32, plex: u32) -> bool
     ensures { result ≡ whole_is config.now vol plex }
 {
     match config.volumes.as_slice().get(vol as usize) {

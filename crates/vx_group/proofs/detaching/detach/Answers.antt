@@ -14,31 +14,31 @@ pub commit_stale-requires-clause-tidy : goal.commit_stale-requires-clause-tidy
 commit_stale-requires-clause-tidy g c = tidy_of c.args.core.now (g.S.Shelf.meaning c.args.shelf.now) c.requires.stands c.requires.settled
 
 pub returns-then-is_down-clause-stands : goal.returns-then-is_down-clause-stands
-returns-then-is_down-clause-stands g c = taken_Stands c.args.core.now _ c.args.vol c.args.failed.set (g.S.Shelf.meaning c.args.shelf.now) (g.S.Shelf.meaning c.commit_stale.new.shelf) c.requires.stands c.commit_stale.ensures.acts c.commit_stale.ensures.wanted c.commit_stale.ensures.can c.commit_stale.ensures.on refl c.in-Ok.ensures.ends c.good_of-core.ensures
+returns-then-is_down-clause-stands g c = taken_Stands c.args.core.now _ c.args.vol c.args.failed.set (g.S.Shelf.meaning c.args.shelf.now) (g.S.Shelf.meaning c.commit_stale.new.shelf) c.requires.stands c.commit_stale.ensures.acts c.commit_stale.ensures.wanted c.commit_stale.ensures.can c.commit_stale.ensures.on refl refl c.in-Ok.ensures.ends c.good_of-core.ensures
 
 pub returns-then-is_down-clause-narrows : goal.returns-then-is_down-clause-narrows
-returns-then-is_down-clause-narrows g c = taken_Narrows c.args.core.now _ c.args.vol c.args.failed.set (g.S.Shelf.meaning c.args.shelf.now) (g.S.Shelf.meaning c.commit_stale.new.shelf) c.requires.stands c.commit_stale.ensures.acts c.commit_stale.ensures.wanted c.commit_stale.ensures.can c.commit_stale.ensures.on refl c.in-Ok.ensures.ends c.good_of-core.ensures
+returns-then-is_down-clause-narrows g c = taken_Narrows c.args.core.now _ c.args.vol c.args.failed.set (g.S.Shelf.meaning c.args.shelf.now) (g.S.Shelf.meaning c.commit_stale.new.shelf) c.requires.stands c.commit_stale.ensures.acts c.commit_stale.ensures.wanted c.commit_stale.ensures.can c.commit_stale.ensures.on refl refl c.in-Ok.ensures.ends c.good_of-core.ensures
 
 pub returns-then-is_down-2-clause-stands : goal.returns-then-is_down-2-clause-stands
-returns-then-is_down-2-clause-stands g c = left_Stands c.args.core.now _ c.args.vol c.args.failed.set (g.S.Shelf.meaning c.args.shelf.now) (g.S.Shelf.meaning c.commit_stale.new.shelf) c.requires.stands c.commit_stale.ensures.acts c.commit_stale.ensures.wanted c.commit_stale.ensures.can c.commit_stale.ensures.on refl (staled c.args.vol c.args.failed.set c.args.core.now.config 8) c.in-Err.no c.in-Err.ensures.ends refl refl
+returns-then-is_down-2-clause-stands g c = left_Stands c.args.core.now _ c.args.vol c.args.failed.set (g.S.Shelf.meaning c.args.shelf.now) (g.S.Shelf.meaning c.commit_stale.new.shelf) c.requires.stands c.commit_stale.ensures.acts c.commit_stale.ensures.wanted c.commit_stale.ensures.can c.commit_stale.ensures.on refl refl (staled c.args.vol c.args.failed.set c.args.core.now.config 8) c.in-Err.no c.in-Err.ensures.ends refl refl
 
 pub returns-then-is_down-2-clause-narrows : goal.returns-then-is_down-2-clause-narrows
-returns-then-is_down-2-clause-narrows g c = left_Narrows c.args.core.now _ c.args.vol c.args.failed.set (g.S.Shelf.meaning c.args.shelf.now) (g.S.Shelf.meaning c.commit_stale.new.shelf) c.requires.stands c.commit_stale.ensures.acts c.commit_stale.ensures.wanted c.commit_stale.ensures.can c.commit_stale.ensures.on refl (staled c.args.vol c.args.failed.set c.args.core.now.config 8) c.in-Err.no c.in-Err.ensures.ends refl refl
+returns-then-is_down-2-clause-narrows g c = left_Narrows c.args.core.now _ c.args.vol c.args.failed.set (g.S.Shelf.meaning c.args.shelf.now) (g.S.Shelf.meaning c.commit_stale.new.shelf) c.requires.stands c.commit_stale.ensures.acts c.commit_stale.ensures.wanted c.commit_stale.ensures.can c.commit_stale.ensures.on refl refl (staled c.args.vol c.args.failed.set c.args.core.now.config 8) c.in-Err.no c.in-Err.ensures.ends refl refl
 
 pub returns-else-is_down-clause-stands : goal.returns-else-is_down-clause-stands
-returns-else-is_down-clause-stands g c = taken_Stands c.args.core.now _ c.args.vol c.args.failed.set (g.S.Shelf.meaning c.args.shelf.now) (g.S.Shelf.meaning c.commit_stale.new.shelf) c.requires.stands c.commit_stale.ensures.acts c.commit_stale.ensures.wanted c.commit_stale.ensures.can c.commit_stale.ensures.on refl c.in-Ok.ensures.ends c.good_of-core.ensures
+returns-else-is_down-clause-stands g c = taken_Stands c.args.core.now _ c.args.vol c.args.failed.set (g.S.Shelf.meaning c.args.shelf.now) (g.S.Shelf.meaning c.commit_stale.new.shelf) c.requires.stands c.commit_stale.ensures.acts c.commit_stale.ensures.wanted c.commit_stale.ensures.can c.commit_stale.ensures.on refl refl c.in-Ok.ensures.ends c.good_of-core.ensures
 
 pub returns-else-is_down-clause-narrows : goal.returns-else-is_down-clause-narrows
-returns-else-is_down-clause-narrows g c = taken_Narrows c.args.core.now _ c.args.vol c.args.failed.set (g.S.Shelf.meaning c.args.shelf.now) (g.S.Shelf.meaning c.commit_stale.new.shelf) c.requires.stands c.commit_stale.ensures.acts c.commit_stale.ensures.wanted c.commit_stale.ensures.can c.commit_stale.ensures.on refl c.in-Ok.ensures.ends c.good_of-core.ensures
+returns-else-is_down-clause-narrows g c = taken_Narrows c.args.core.now _ c.args.vol c.args.failed.set (g.S.Shelf.meaning c.args.shelf.now) (g.S.Shelf.meaning c.commit_stale.new.shelf) c.requires.stands c.commit_stale.ensures.acts c.commit_stale.ensures.wanted c.commit_stale.ensures.can c.commit_stale.ensures.on refl refl c.in-Ok.ensures.ends c.good_of-core.ensures
 
 pub returns-else-is_down-clause-off : goal.returns-else-is_down-clause-off
-returns-else-is_down-clause-off g c = taken_off c.args.core.now (record { config = c.commit_stale.new.config; good = c.good_of-core.result; room = c.commit_stale.new.room; unsettled = c.args.core.now.unsettled; next = c.args.core.now.next; faults = c.args.core.now.faults }) c.args.vol c.args.failed.set (g.S.Shelf.meaning c.args.shelf.now) (g.S.Shelf.meaning c.commit_stale.new.shelf) c.requires.stands c.commit_stale.ensures.acts c.commit_stale.ensures.wanted c.commit_stale.ensures.can c.commit_stale.ensures.on refl c.in-Ok.ensures.ends c.good_of-core.ensures c.requires.those
+returns-else-is_down-clause-off g c = taken_off c.args.core.now (record { config = c.commit_stale.new.config; good = c.good_of-core.result; room = c.commit_stale.new.room; unsettled = c.args.core.now.unsettled; next = c.args.core.now.next; faults = c.args.core.now.faults; unsure = c.args.core.now.unsure }) c.args.vol c.args.failed.set (g.S.Shelf.meaning c.args.shelf.now) (g.S.Shelf.meaning c.commit_stale.new.shelf) c.requires.stands c.commit_stale.ensures.acts c.commit_stale.ensures.wanted c.commit_stale.ensures.can c.commit_stale.ensures.on refl refl c.in-Ok.ensures.ends c.good_of-core.ensures c.requires.those
 
 pub returns-else-is_down-2-clause-stands : goal.returns-else-is_down-2-clause-stands
-returns-else-is_down-2-clause-stands g c = left_Stands c.args.core.now _ c.args.vol c.args.failed.set (g.S.Shelf.meaning c.args.shelf.now) (g.S.Shelf.meaning c.commit_stale.new.shelf) c.requires.stands c.commit_stale.ensures.acts c.commit_stale.ensures.wanted c.commit_stale.ensures.can c.commit_stale.ensures.on refl (staled c.args.vol c.args.failed.set c.args.core.now.config 8) c.in-Err.no c.in-Err.ensures.ends refl refl
+returns-else-is_down-2-clause-stands g c = left_Stands c.args.core.now _ c.args.vol c.args.failed.set (g.S.Shelf.meaning c.args.shelf.now) (g.S.Shelf.meaning c.commit_stale.new.shelf) c.requires.stands c.commit_stale.ensures.acts c.commit_stale.ensures.wanted c.commit_stale.ensures.can c.commit_stale.ensures.on refl refl (staled c.args.vol c.args.failed.set c.args.core.now.config 8) c.in-Err.no c.in-Err.ensures.ends refl refl
 
 pub returns-else-is_down-2-clause-narrows : goal.returns-else-is_down-2-clause-narrows
-returns-else-is_down-2-clause-narrows g c = left_Narrows c.args.core.now _ c.args.vol c.args.failed.set (g.S.Shelf.meaning c.args.shelf.now) (g.S.Shelf.meaning c.commit_stale.new.shelf) c.requires.stands c.commit_stale.ensures.acts c.commit_stale.ensures.wanted c.commit_stale.ensures.can c.commit_stale.ensures.on refl (staled c.args.vol c.args.failed.set c.args.core.now.config 8) c.in-Err.no c.in-Err.ensures.ends refl refl
+returns-else-is_down-2-clause-narrows g c = left_Narrows c.args.core.now _ c.args.vol c.args.failed.set (g.S.Shelf.meaning c.args.shelf.now) (g.S.Shelf.meaning c.commit_stale.new.shelf) c.requires.stands c.commit_stale.ensures.acts c.commit_stale.ensures.wanted c.commit_stale.ensures.can c.commit_stale.ensures.on refl refl (staled c.args.vol c.args.failed.set c.args.core.now.config 8) c.in-Err.no c.in-Err.ensures.ends refl refl
 
 pub returns-else-is_down-2-clause-cause : goal.returns-else-is_down-2-clause-cause
 returns-else-is_down-2-clause-cause g c = subst (λ (e : ShelfError). BlamesOr {T = Unit {0}} c.args.failed.disk (g.S.Shelf.meaning c.args.shelf.now) (g.S.Shelf.meaning c.commit_stale.new.shelf) (Err e)) (sym c.fault_of.ensures) (stop_blames c.args.core.now.good (staled c.args.vol c.args.failed.set c.args.core.now.config 8) _ (g.S.Shelf.meaning c.args.shelf.now) (g.S.Shelf.meaning c.commit_stale.new.shelf) (staled_some c.args.core.now.config c.args.vol c.args.failed.set c.args.core.now.good c.requires.stands.some) (not_down c.is_down-in-Err.result (g.S.Shelf.meaning c.commit_stale.new.shelf).down c.is_down-in-Err.ensures c.if-is_down-2.false) c.in-Err.no c.args.failed.disk c.in-Err.ensures.ends.cause)

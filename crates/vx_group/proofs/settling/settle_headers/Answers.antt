@@ -3,9 +3,9 @@ use Rattle.vx_config.specs.declared.entry.DiskEntry.{DiskEntry}
 use Rattle.vx_copies.proofs.OneTry.{wanted_count}
 use Rattle.vx_copies.proofs.Settling.{failed_at as failed_is, no_disk}
 use Rattle.vx_copies.specs.Marks.{NoneGood, failed_at}
-use Rattle.vx_group.specs.Settled.{SettledTo}
+use Rattle.vx_group.specs.Settled.{SameBut, SettledTo}
 use Rattle.vx_group.specs.declared.group_core.GroupCore.{GroupCore}
-use Rattle.vx_group.proofs.ReadyLemmas.{core_back, core_settled, disks_Narrows, disks_Stands, fault_cause, one_failed, settle_acts, settle_end, settle_kept, settle_mark, settle_one, settle_pass, settle_start}
+use Rattle.vx_group.proofs.ReadyLemmas.{core_back, core_settled, disks_Narrows, disks_Stands, fault_cause, one_failed, same_but, settle_acts, settle_end, settle_kept, settle_mark, settle_one, settle_pass, settle_start}
 use Rattle.vx_group.specs.Moves.{Narrows}
 use Rattle.vx_group.specs.Stands.{Stands}
 use Rattle.vx_group.proofs.CallLemmas.{settled_Stands, settled_only}
@@ -32,24 +32,24 @@ loop-disk-preserved g c =
     let there : c.loop-disk.disk < length c.as_slice-in-loop-disk.result.now = (let ds = ap length (c.as_slice.ensures.disks ∙ c.copy-kept.ensures) in let now = ap length c.as_slice-in-loop-disk.ensures.disks in omega (arith, ds, now, c.loop-disk.invariant.0.same.count, c.loop-disk-test.true)) in
     elim c.if-not-as_slice-disk.branch [
       | then-not-as_slice-disk+in-Ok w ↦
-          subst (λ s. SettledTo c.args.core.now.good c.args.core.now.config c.if-not-as_slice-disk.core.config (c.loop-disk.disk + 1) c.if-not-as_slice-disk.device c.if-not-as_slice-disk.failed (g.S.Shelf.meaning c.args.shelf.now) (g.S.Shelf.meaning s) × (c.if-not-as_slice-disk.core ≡ record { config = c.if-not-as_slice-disk.core.config; good = c.args.core.now.good; room = c.args.core.now.room; unsettled = c.args.core.now.unsettled; next = c.args.core.now.next; faults = c.args.core.now.faults })) (sym w.shelf-is)
-          (subst (λ (k : GroupCore). SettledTo c.args.core.now.good c.args.core.now.config k.config (c.loop-disk.disk + 1) c.if-not-as_slice-disk.device c.if-not-as_slice-disk.failed (g.S.Shelf.meaning c.args.shelf.now) (g.S.Shelf.meaning w.settle.new.shelf) × (k ≡ record { config = k.config; good = c.args.core.now.good; room = c.args.core.now.room; unsettled = c.args.core.now.unsettled; next = c.args.core.now.next; faults = c.args.core.now.faults })) (sym w.core-is)
-          (subst (λ (d : ℕ). SettledTo c.args.core.now.good c.args.core.now.config c.loop-disk.core.config (c.loop-disk.disk + 1) d c.if-not-as_slice-disk.failed (g.S.Shelf.meaning c.args.shelf.now) (g.S.Shelf.meaning w.settle.new.shelf) × (c.loop-disk.core ≡ record { config = c.loop-disk.core.config; good = c.args.core.now.good; room = c.args.core.now.room; unsettled = c.args.core.now.unsettled; next = c.args.core.now.next; faults = c.args.core.now.faults })) (sym w.device-is)
-          (subst (λ (f : Bool). SettledTo c.args.core.now.good c.args.core.now.config c.loop-disk.core.config (c.loop-disk.disk + 1) c.loop-disk.device f (g.S.Shelf.meaning c.args.shelf.now) (g.S.Shelf.meaning w.settle.new.shelf) × (c.loop-disk.core ≡ record { config = c.loop-disk.core.config; good = c.args.core.now.good; room = c.args.core.now.room; unsettled = c.args.core.now.unsettled; next = c.args.core.now.next; faults = c.args.core.now.faults })) (sym w.failed-is)
+          subst (λ s. SettledTo c.args.core.now.good c.args.core.now.config c.if-not-as_slice-disk.core.config (c.loop-disk.disk + 1) c.if-not-as_slice-disk.device c.if-not-as_slice-disk.failed (g.S.Shelf.meaning c.args.shelf.now) (g.S.Shelf.meaning s) × (c.if-not-as_slice-disk.core ≡ record { config = c.if-not-as_slice-disk.core.config; good = c.args.core.now.good; room = c.args.core.now.room; unsettled = c.args.core.now.unsettled; next = c.args.core.now.next; faults = c.args.core.now.faults; unsure = c.args.core.now.unsure })) (sym w.shelf-is)
+          (subst (λ (k : GroupCore). SettledTo c.args.core.now.good c.args.core.now.config k.config (c.loop-disk.disk + 1) c.if-not-as_slice-disk.device c.if-not-as_slice-disk.failed (g.S.Shelf.meaning c.args.shelf.now) (g.S.Shelf.meaning w.settle.new.shelf) × (k ≡ record { config = k.config; good = c.args.core.now.good; room = c.args.core.now.room; unsettled = c.args.core.now.unsettled; next = c.args.core.now.next; faults = c.args.core.now.faults; unsure = c.args.core.now.unsure })) (sym w.core-is)
+          (subst (λ (d : ℕ). SettledTo c.args.core.now.good c.args.core.now.config c.loop-disk.core.config (c.loop-disk.disk + 1) d c.if-not-as_slice-disk.failed (g.S.Shelf.meaning c.args.shelf.now) (g.S.Shelf.meaning w.settle.new.shelf) × (c.loop-disk.core ≡ record { config = c.loop-disk.core.config; good = c.args.core.now.good; room = c.args.core.now.room; unsettled = c.args.core.now.unsettled; next = c.args.core.now.next; faults = c.args.core.now.faults; unsure = c.args.core.now.unsure })) (sym w.device-is)
+          (subst (λ (f : Bool). SettledTo c.args.core.now.good c.args.core.now.config c.loop-disk.core.config (c.loop-disk.disk + 1) c.loop-disk.device f (g.S.Shelf.meaning c.args.shelf.now) (g.S.Shelf.meaning w.settle.new.shelf) × (c.loop-disk.core ≡ record { config = c.loop-disk.core.config; good = c.args.core.now.good; room = c.args.core.now.room; unsettled = c.args.core.now.unsettled; next = c.args.core.now.next; faults = c.args.core.now.faults; unsure = c.args.core.now.unsure })) (sym w.failed-is)
           (settle_one c.args.core.now.good c.args.core.now.config c.loop-disk.core.config c.loop-disk.disk c.loop-disk.device c.loop-disk.failed (g.S.Shelf.meaning c.args.shelf.now) (g.S.Shelf.meaning c.loop-disk.shelf) c.loop-disk.invariant.0 (g.S.Shelf.meaning w.settle.new.shelf) w.settle.ensures.goes (g.met.S.Shelf.lawful c.loop-disk.shelf) (g.met.S.Shelf.lawful w.settle.new.shelf) w.in-Ok.ensures.one w.in-Ok.ensures.cause.after, c.loop-disk.invariant.1))))
       | then-not-as_slice-disk+in-Err-Fault w ↦
           let why = fault_cause (g.S.Shelf.meaning c.loop-disk.shelf) (g.S.Shelf.meaning w.settle.new.shelf) c.loop-disk.disk w.in-Err-Fault.unit w.in-Err-Fault.field-0 w.in-Err-Fault.field-0-is w.in-Err-Fault.ensures.cause in
-          let held : GroupCore = record { config = w.hold_failed.new.config; good = c.loop-disk.core.good; room = c.loop-disk.core.room; unsettled = c.loop-disk.core.unsettled; next = c.loop-disk.core.next; faults = c.loop-disk.core.faults } in
-          subst (λ s. SettledTo c.args.core.now.good c.args.core.now.config c.if-not-as_slice-disk.core.config (c.loop-disk.disk + 1) c.if-not-as_slice-disk.device c.if-not-as_slice-disk.failed (g.S.Shelf.meaning c.args.shelf.now) (g.S.Shelf.meaning s) × (c.if-not-as_slice-disk.core ≡ record { config = c.if-not-as_slice-disk.core.config; good = c.args.core.now.good; room = c.args.core.now.room; unsettled = c.args.core.now.unsettled; next = c.args.core.now.next; faults = c.args.core.now.faults })) (sym w.shelf-is)
-          (subst (λ (k : GroupCore). SettledTo c.args.core.now.good c.args.core.now.config k.config (c.loop-disk.disk + 1) c.if-not-as_slice-disk.device c.if-not-as_slice-disk.failed (g.S.Shelf.meaning c.args.shelf.now) (g.S.Shelf.meaning w.settle.new.shelf) × (k ≡ record { config = k.config; good = c.args.core.now.good; room = c.args.core.now.room; unsettled = c.args.core.now.unsettled; next = c.args.core.now.next; faults = c.args.core.now.faults })) (sym w.core-is)
-          (subst (λ (d : ℕ). SettledTo c.args.core.now.good c.args.core.now.config held.config (c.loop-disk.disk + 1) d c.if-not-as_slice-disk.failed (g.S.Shelf.meaning c.args.shelf.now) (g.S.Shelf.meaning w.settle.new.shelf) × (held ≡ record { config = held.config; good = c.args.core.now.good; room = c.args.core.now.room; unsettled = c.args.core.now.unsettled; next = c.args.core.now.next; faults = c.args.core.now.faults })) (sym w.device-is)
-          (subst (λ (f : Bool). SettledTo c.args.core.now.good c.args.core.now.config held.config (c.loop-disk.disk + 1) w.in-Err-Fault.unit f (g.S.Shelf.meaning c.args.shelf.now) (g.S.Shelf.meaning w.settle.new.shelf) × (held ≡ record { config = held.config; good = c.args.core.now.good; room = c.args.core.now.room; unsettled = c.args.core.now.unsettled; next = c.args.core.now.next; faults = c.args.core.now.faults })) (sym w.failed-is)
-          (settle_mark c.args.core.now.good c.args.core.now.config c.loop-disk.core.config c.loop-disk.disk c.loop-disk.device c.loop-disk.failed (g.S.Shelf.meaning c.args.shelf.now) (g.S.Shelf.meaning c.loop-disk.shelf) c.loop-disk.invariant.0 (g.S.Shelf.meaning w.settle.new.shelf) w.settle.ensures.goes (g.met.S.Shelf.lawful c.loop-disk.shelf) (g.met.S.Shelf.lawful w.settle.new.shelf) w.hold_failed.new.config w.in-Err-Fault.unit true (let ds = ap length (c.as_slice.ensures.disks ∙ c.copy-kept.ensures) in omega (arith, ds, c.loop-disk.invariant.0.same.count, c.loop-disk-test.true)) w.hold_failed.ensures.marked (w.hold_failed.ensures.wanted (g.S.Shelf.meaning c.args.shelf.now).units (g.S.Shelf.meaning c.args.shelf.now).size c.loop-disk.invariant.0.wanted) why.0 why.1.after refl, ap (λ (x : GroupCore). record { config = w.hold_failed.new.config; good = x.good; room = x.room; unsettled = x.unsettled; next = x.next; faults = x.faults }) c.loop-disk.invariant.1))))
+          let held : GroupCore = record { config = w.hold_failed.new.config; good = c.loop-disk.core.good; room = c.loop-disk.core.room; unsettled = c.loop-disk.core.unsettled; next = c.loop-disk.core.next; faults = c.loop-disk.core.faults; unsure = c.loop-disk.core.unsure } in
+          subst (λ s. SettledTo c.args.core.now.good c.args.core.now.config c.if-not-as_slice-disk.core.config (c.loop-disk.disk + 1) c.if-not-as_slice-disk.device c.if-not-as_slice-disk.failed (g.S.Shelf.meaning c.args.shelf.now) (g.S.Shelf.meaning s) × (c.if-not-as_slice-disk.core ≡ record { config = c.if-not-as_slice-disk.core.config; good = c.args.core.now.good; room = c.args.core.now.room; unsettled = c.args.core.now.unsettled; next = c.args.core.now.next; faults = c.args.core.now.faults; unsure = c.args.core.now.unsure })) (sym w.shelf-is)
+          (subst (λ (k : GroupCore). SettledTo c.args.core.now.good c.args.core.now.config k.config (c.loop-disk.disk + 1) c.if-not-as_slice-disk.device c.if-not-as_slice-disk.failed (g.S.Shelf.meaning c.args.shelf.now) (g.S.Shelf.meaning w.settle.new.shelf) × (k ≡ record { config = k.config; good = c.args.core.now.good; room = c.args.core.now.room; unsettled = c.args.core.now.unsettled; next = c.args.core.now.next; faults = c.args.core.now.faults; unsure = c.args.core.now.unsure })) (sym w.core-is)
+          (subst (λ (d : ℕ). SettledTo c.args.core.now.good c.args.core.now.config held.config (c.loop-disk.disk + 1) d c.if-not-as_slice-disk.failed (g.S.Shelf.meaning c.args.shelf.now) (g.S.Shelf.meaning w.settle.new.shelf) × (held ≡ record { config = held.config; good = c.args.core.now.good; room = c.args.core.now.room; unsettled = c.args.core.now.unsettled; next = c.args.core.now.next; faults = c.args.core.now.faults; unsure = c.args.core.now.unsure })) (sym w.device-is)
+          (subst (λ (f : Bool). SettledTo c.args.core.now.good c.args.core.now.config held.config (c.loop-disk.disk + 1) w.in-Err-Fault.unit f (g.S.Shelf.meaning c.args.shelf.now) (g.S.Shelf.meaning w.settle.new.shelf) × (held ≡ record { config = held.config; good = c.args.core.now.good; room = c.args.core.now.room; unsettled = c.args.core.now.unsettled; next = c.args.core.now.next; faults = c.args.core.now.faults; unsure = c.args.core.now.unsure })) (sym w.failed-is)
+          (settle_mark c.args.core.now.good c.args.core.now.config c.loop-disk.core.config c.loop-disk.disk c.loop-disk.device c.loop-disk.failed (g.S.Shelf.meaning c.args.shelf.now) (g.S.Shelf.meaning c.loop-disk.shelf) c.loop-disk.invariant.0 (g.S.Shelf.meaning w.settle.new.shelf) w.settle.ensures.goes (g.met.S.Shelf.lawful c.loop-disk.shelf) (g.met.S.Shelf.lawful w.settle.new.shelf) w.hold_failed.new.config w.in-Err-Fault.unit true (let ds = ap length (c.as_slice.ensures.disks ∙ c.copy-kept.ensures) in omega (arith, ds, c.loop-disk.invariant.0.same.count, c.loop-disk-test.true)) w.hold_failed.ensures.marked (w.hold_failed.ensures.wanted (g.S.Shelf.meaning c.args.shelf.now).units (g.S.Shelf.meaning c.args.shelf.now).size c.loop-disk.invariant.0.wanted) why.0 why.1.after refl, ap (λ (x : GroupCore). record { config = w.hold_failed.new.config; good = x.good; room = x.room; unsettled = x.unsettled; next = x.next; faults = x.faults; unsure = x.unsure }) c.loop-disk.invariant.1))))
       | else-not-as_slice-disk w ↦
-          subst (λ s. SettledTo c.args.core.now.good c.args.core.now.config c.if-not-as_slice-disk.core.config (c.loop-disk.disk + 1) c.if-not-as_slice-disk.device c.if-not-as_slice-disk.failed (g.S.Shelf.meaning c.args.shelf.now) (g.S.Shelf.meaning s) × (c.if-not-as_slice-disk.core ≡ record { config = c.if-not-as_slice-disk.core.config; good = c.args.core.now.good; room = c.args.core.now.room; unsettled = c.args.core.now.unsettled; next = c.args.core.now.next; faults = c.args.core.now.faults })) (sym w.shelf-is)
-          (subst (λ (k : GroupCore). SettledTo c.args.core.now.good c.args.core.now.config k.config (c.loop-disk.disk + 1) c.if-not-as_slice-disk.device c.if-not-as_slice-disk.failed (g.S.Shelf.meaning c.args.shelf.now) (g.S.Shelf.meaning c.loop-disk.shelf) × (k ≡ record { config = k.config; good = c.args.core.now.good; room = c.args.core.now.room; unsettled = c.args.core.now.unsettled; next = c.args.core.now.next; faults = c.args.core.now.faults })) (sym w.core-is)
-          (subst (λ (d : ℕ). SettledTo c.args.core.now.good c.args.core.now.config c.loop-disk.core.config (c.loop-disk.disk + 1) d c.if-not-as_slice-disk.failed (g.S.Shelf.meaning c.args.shelf.now) (g.S.Shelf.meaning c.loop-disk.shelf) × (c.loop-disk.core ≡ record { config = c.loop-disk.core.config; good = c.args.core.now.good; room = c.args.core.now.room; unsettled = c.args.core.now.unsettled; next = c.args.core.now.next; faults = c.args.core.now.faults })) (sym w.device-is)
-          (subst (λ (f : Bool). SettledTo c.args.core.now.good c.args.core.now.config c.loop-disk.core.config (c.loop-disk.disk + 1) c.loop-disk.device f (g.S.Shelf.meaning c.args.shelf.now) (g.S.Shelf.meaning c.loop-disk.shelf) × (c.loop-disk.core ≡ record { config = c.loop-disk.core.config; good = c.args.core.now.good; room = c.args.core.now.room; unsettled = c.args.core.now.unsettled; next = c.args.core.now.next; faults = c.args.core.now.faults })) (sym w.failed-is)
+          subst (λ s. SettledTo c.args.core.now.good c.args.core.now.config c.if-not-as_slice-disk.core.config (c.loop-disk.disk + 1) c.if-not-as_slice-disk.device c.if-not-as_slice-disk.failed (g.S.Shelf.meaning c.args.shelf.now) (g.S.Shelf.meaning s) × (c.if-not-as_slice-disk.core ≡ record { config = c.if-not-as_slice-disk.core.config; good = c.args.core.now.good; room = c.args.core.now.room; unsettled = c.args.core.now.unsettled; next = c.args.core.now.next; faults = c.args.core.now.faults; unsure = c.args.core.now.unsure })) (sym w.shelf-is)
+          (subst (λ (k : GroupCore). SettledTo c.args.core.now.good c.args.core.now.config k.config (c.loop-disk.disk + 1) c.if-not-as_slice-disk.device c.if-not-as_slice-disk.failed (g.S.Shelf.meaning c.args.shelf.now) (g.S.Shelf.meaning c.loop-disk.shelf) × (k ≡ record { config = k.config; good = c.args.core.now.good; room = c.args.core.now.room; unsettled = c.args.core.now.unsettled; next = c.args.core.now.next; faults = c.args.core.now.faults; unsure = c.args.core.now.unsure })) (sym w.core-is)
+          (subst (λ (d : ℕ). SettledTo c.args.core.now.good c.args.core.now.config c.loop-disk.core.config (c.loop-disk.disk + 1) d c.if-not-as_slice-disk.failed (g.S.Shelf.meaning c.args.shelf.now) (g.S.Shelf.meaning c.loop-disk.shelf) × (c.loop-disk.core ≡ record { config = c.loop-disk.core.config; good = c.args.core.now.good; room = c.args.core.now.room; unsettled = c.args.core.now.unsettled; next = c.args.core.now.next; faults = c.args.core.now.faults; unsure = c.args.core.now.unsure })) (sym w.device-is)
+          (subst (λ (f : Bool). SettledTo c.args.core.now.good c.args.core.now.config c.loop-disk.core.config (c.loop-disk.disk + 1) c.loop-disk.device f (g.S.Shelf.meaning c.args.shelf.now) (g.S.Shelf.meaning c.loop-disk.shelf) × (c.loop-disk.core ≡ record { config = c.loop-disk.core.config; good = c.args.core.now.good; room = c.args.core.now.room; unsettled = c.args.core.now.unsettled; next = c.args.core.now.next; faults = c.args.core.now.faults; unsure = c.args.core.now.unsure })) (sym w.failed-is)
           (settle_pass c.args.core.now.good c.args.core.now.config c.loop-disk.core.config c.loop-disk.disk c.loop-disk.device c.loop-disk.failed (g.S.Shelf.meaning c.args.shelf.now) (g.S.Shelf.meaning c.loop-disk.shelf) c.loop-disk.invariant.0 (ap (λ (ds : List DiskEntry). failed_at ds c.loop-disk.disk) (sym c.as_slice-in-loop-disk.ensures.disks) ∙ failed_is c.as_slice-in-loop-disk.result.now c.loop-disk.disk no_disk there ∙ w.if-not-as_slice-disk.false), c.loop-disk.invariant.1))))
     ]
 
@@ -91,3 +91,14 @@ returns-clause-stands g c =
 pub returns-clause-narrows : goal.returns-clause-narrows
 returns-clause-narrows g c =
     subst (λ (k : GroupCore). Narrows c.args.core.now k (g.S.Shelf.meaning c.args.shelf.now) (g.S.Shelf.meaning c.loop-disk.shelf)) (sym (core_settled c.args.core.now c.loop-disk.core c.loop-disk.invariant.1)) (disks_Narrows c.args.core.now c.loop-disk.core.config c.loop-disk.disk c.loop-disk.device c.loop-disk.failed (g.S.Shelf.meaning c.args.shelf.now) (g.S.Shelf.meaning c.loop-disk.shelf) c.requires.stands c.loop-disk.invariant.0)
+
+pub returns-in-Err-Down-clause-same : goal.returns-in-Err-Down-clause-same
+returns-in-Err-Down-clause-same g c =
+    subst (λ (k : GroupCore). SameBut c.args.core.now.config k.config) (sym (core_back c.args.core.now c.loop-disk.core c.copy-kept.result c.loop-disk.invariant.1 c.loop-disk.invariant.0.same c.copy-kept.ensures)) (same_but c.args.core.now.config)
+
+pub returns-then-not-has_good-clause-same : goal.returns-then-not-has_good-clause-same
+returns-then-not-has_good-clause-same g c =
+    subst (λ (k : GroupCore). SameBut c.args.core.now.config k.config) (sym (core_back c.args.core.now c.loop-disk.core c.copy-kept.result c.loop-disk.invariant.1 c.loop-disk.invariant.0.same c.copy-kept.ensures)) (same_but c.args.core.now.config)
+
+pub returns-clause-same : goal.returns-clause-same
+returns-clause-same g c = subst (λ (k : GroupCore). SameBut c.args.core.now.config k.config) (sym (core_settled c.args.core.now c.loop-disk.core c.loop-disk.invariant.1)) c.loop-disk.invariant.0.same

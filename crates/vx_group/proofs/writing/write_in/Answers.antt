@@ -1,7 +1,7 @@
-use Rattle.std.proofs.Common.{◌∙◌, ℕ, List, ap, subst, Err, arith}
+use Rattle.std.proofs.Common.{◌∙◌, ℕ, Bool, List, ap, subst, Err, arith}
 use Rattle.vx_disk.specs.Shelf.{Written}
 use Rattle.vx_disk.proofs.Runs.{none_written, nothing_then}
-use Rattle.vx_group.specs.Blames.{Counts}
+use Rattle.vx_group.specs.Blames.{Counts, Marks}
 use Rattle.vx_group.specs.Stands.{counted, meaning_of}
 use Rattle.vx_group.proofs.CallLemmas.{blames_later, cause_by, counts_less, narrows_Goes, not_down, nothing_Wrote, raised_Goes}
 use Rattle.vx_group.proofs.writing.write_in.Goals as goal
@@ -23,3 +23,9 @@ returns-in-Err-write_plexes-clause-goes g c = raised_Goes (Written c.args.vol c.
 
 pub returns-in-Err-write_plexes-clause-cause : goal.returns-in-Err-write_plexes-clause-cause
 returns-in-Err-write_plexes-clause-cause g c = cause_by (Unit {0}) c.in-Err-write_plexes.error c.args.core.now.config c.write_plexes.new.core.config c.args.vol (counted c.args.core.now.faults) (counted c.give_up-in-Err-write_plexes.new.faults) (g.S.Shelf.meaning c.args.shelf.now) (g.S.Shelf.meaning c.write_plexes.new.shelf) (not_down c.is_down.result (g.S.Shelf.meaning c.args.shelf.now).down c.is_down.ensures c.if-is_down.false) (blames_later {T = Unit {0}} (Err c.in-Err-write_plexes.error) (g.S.Shelf.meaning c.args.shelf.now) (g.S.Shelf.meaning c.make_ready.new.shelf) (g.S.Shelf.meaning c.write_plexes.new.shelf) c.make_ready.ensures.narrows.acts.disk_faults c.in-Err-write_plexes.ensures.cause) (subst (λ (f : List ℕ). Counts c.in-Err-write_plexes.error c.args.vol (counted f) (counted c.give_up-in-Err-write_plexes.new.faults)) (c.write_plexes.ensures.faults ∙ c.make_ready.ensures.narrows.faults) c.give_up-in-Err-write_plexes.ensures.counts)
+
+pub returns-in-Err-clause-marks : goal.returns-in-Err-clause-marks
+returns-in-Err-clause-marks g c = subst (λ (l : List Bool). Marks c.in-Err.error c.args.vol l c.give_up.new.unsure) c.make_ready.ensures.narrows.unsure c.give_up.ensures.marks
+
+pub returns-in-Err-write_plexes-clause-marks : goal.returns-in-Err-write_plexes-clause-marks
+returns-in-Err-write_plexes-clause-marks g c = subst (λ (l : List Bool). Marks c.in-Err-write_plexes.error c.args.vol l c.give_up-in-Err-write_plexes.new.unsure) (c.write_plexes.ensures.unsure ∙ c.make_ready.ensures.narrows.unsure) c.give_up-in-Err-write_plexes.ensures.marks

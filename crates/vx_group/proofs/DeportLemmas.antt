@@ -1,0 +1,138 @@
+-- A deport, over the core of a group.
+use Rattle.std.proofs.Common.{◌≡◌, inl, inr, ℕ, ◌<◌, ◌≤◌, Bool, true, false, IsTrue, List, length, Result, Ok, Err, refl, ap, sym, ◌∙◌}
+use Rattle.std.proofs.lemmas.Bool.{cases_lt}
+use Rattle.std.proofs.lemmas.Option.{slice_get_past}
+use Rattle.vx_disk.specs.Shelf.{Meaning, Nothing}
+use Rattle.vx_disk.specs.declared.shelf.ShelfError.{ShelfError}
+use Rattle.vx_disk.specs.declared.shelf.ShelfError.TheVariants.{Fault, Down}
+use Rattle.vx_model.specs.declared.errors.Stop.{Stop}
+use Rattle.vx_model.specs.declared.no.No.{No}
+use Rattle.vx_config.specs.Configs.{CanSpell}
+use Rattle.vx_config.specs.declared.config.Config.{Config}
+use Rattle.vx_copies.specs.Bodies.{is_wanted}
+use Rattle.vx_copies.specs.Commits.{Held}
+use Rattle.vx_layout.specs.Places.{plex_in}
+use Rattle.vx_volume.specs.Plexes.{active, active_or}
+use Rattle.vx_volume.proofs.PlaceLemmas.{active_few}
+use Rattle.vx_kept.specs.Cleans.{Shown, at_serial, cleaned, marked}
+use Rattle.vx_kept.specs.Commits.{Left, Member}
+use Rattle.vx_kept.specs.Keeping.{Acts, Sees}
+use Rattle.vx_kept.proofs.Chosen.{active_volumes}
+use Rattle.vx_kept.proofs.CleanCommits.{cleaned_volumes}
+use Rattle.vx_kept.proofs.CleanLemmas.{AllClean, all_clean}
+use Rattle.vx_kept.proofs.Committed.{take_on}
+use Rattle.vx_kept.proofs.Facts.{from_fact, to_fact}
+use Rattle.vx_kept.proofs.Narrower.{on_live}
+use Rattle.vx_group.specs.Blames.{Blames, StopsBy}
+use Rattle.vx_group.specs.Deports.{Closes, Deported, GivenBack}
+use Rattle.vx_group.specs.Moves.{Narrows}
+use Rattle.vx_group.specs.Settled.{SameBut}
+use Rattle.vx_group.specs.Stands.{Stands}
+use Rattle.vx_group.specs.declared.group_core.GroupCore.{GroupCore}
+use Rattle.vx_group.proofs.CallLemmas.{blames_later, both_Narrows, both_acts}
+use Rattle.vx_group.proofs.DetachLemmas.{left_Narrows, left_Stands}
+use Rattle.vx_group.proofs.ReadyLemmas.{kept_volumes}
+use Rattle.vx_group.proofs.Standing.{sound_of}
+
+clash_of : (b : Bool) → b ≡ true → b ≡ false → ⊥
+clash_of b is off = let clash : true ≡ false = sym is ∙ off in cc
+
+from_no : (b : Bool) → (IsTrue b → ⊥) → b ≡ false
+from_no true none = absurd (none refl)
+from_no false none = refl
+
+-- a plex that is ACTIVE is one of a volume
+active_there : (c : Config) (v p : ℕ) → IsTrue (active c v p) → v < length c.volumes
+unfolding active
+active_there c v p is = elim (cases_lt v (length c.volumes)) [
+  | inl lt ↦ lt
+  | inr le ↦ absurd (clash_of (active c v p) is (ap (λ o. active_or (plex_in o p)) (slice_get_past c.volumes v le)))
+]
+
+-- ---- done
+
+module _ (core : GroupCore) (d : Config) (m m' : Meaning) (stands : Stands core m) (acts : Acts Nothing (Sees core.config (Member core.good m) m) m m')
+    (shown : Shown core.config (cleaned core.unsure core.config (length core.config.volumes)) d m m') where
+  all : AllClean core.unsure (length core.config.volumes) core.config (cleaned core.unsure core.config (length core.config.volumes))
+  all = all_clean core.unsure (length core.config.volumes) core.config
+
+  off_in : (v p : ℕ) → marked core.unsure v ≡ false → active d v p ≡ false
+  off_in v p sure = from_no (active d v p) (λ is_d.
+      let a : Config = cleaned core.unsure core.config (length core.config.volumes) in
+      let is : IsTrue (active a v p) = sym (active_volumes d a shown.grown.volumes v p) ∙ is_d in
+      let is_c : IsTrue (active core.config v p) = stands.on.each v p (sym (all.alike.lives v p) ∙ on_live a v p is) in
+      clash_of (active a v p) is (all.off v p (active_there core.config v p is_c) sure (active_few core.config (sound_of core m stands) v p is_c)))
+
+  pub closed : Deported core m m'
+  closed = record {
+    config = d;
+    finds = shown.finds;
+    site = shown.grown.site ∙ all.alike.site;
+    rvg = shown.grown.rvg ∙ all.alike.rvg;
+    count = shown.grown.disks.count ∙ ap length all.alike.disks;
+    volumes = shown.grown.volumes;
+    off = off_in;
+    acts = acts;
+    kept = to_fact (at_serial d.serial core.config) (Held d m') m' shown.kept;
+  }
+
+-- ---- refused
+
+module _ (core e : GroupCore) (m m' : Meaning) (stands : Stands core m) (acts : Acts Nothing (Sees core.config (Member core.good m) m) m m')
+    (wanted : is_wanted m'.units m'.size e.config ≡ true) (can : CanSpell e.config) (faults : e.faults ≡ core.faults) (unsure : e.unsure ≡ core.unsure)
+    (a : Config) (why : No) (left : Left core.good core.config a e.config m m' why) (good : e.good ≡ core.good) (un : e.unsettled ≡ true) where
+  pub given_back : GivenBack core e m m'
+  given_back =
+      let on = take_on core.config e.config left.volumes stands.on in
+      record {
+        stands = left_Stands core e 0 0 m m' stands acts wanted can on faults unsure a why left good un;
+        narrows = left_Narrows core e 0 0 m m' stands acts wanted can on faults unsure a why left good un;
+        volumes = left.volumes;
+      }
+
+-- ---- behind headers that were written back
+
+module _ (core mid d : GroupCore) (m m1 last : Meaning) (narrows : Narrows core mid m m1) (same : SameBut core.config mid.config) (good : mid.good ≡ core.good) where
+  back_later : GivenBack mid d m1 last → GivenBack core d m last
+  back_later it = record {
+    stands = it.stands;
+    narrows = both_Narrows core mid d m m1 last same.volumes good narrows it.narrows;
+    volumes = it.volumes ∙ same.volumes;
+  }
+
+  deported_later : Deported mid m1 last → Deported core m last
+  deported_later it = record {
+    config = it.config;
+    finds = it.finds;
+    site = it.site ∙ same.site;
+    rvg = it.rvg ∙ same.rvg;
+    count = it.count ∙ same.count;
+    volumes = it.volumes ∙ ap (λ (u : List Bool). (cleaned u mid.config (length mid.config.volumes)).volumes) narrows.unsure
+        ∙ ap (λ (n : ℕ). (cleaned core.unsure mid.config n).volumes) (ap length same.volumes) ∙ cleaned_volumes core.unsure (length core.config.volumes) mid.config core.config same.volumes;
+    off = λ v p sure. it.off v p (ap (λ (u : List Bool). marked u v) narrows.unsure ∙ sure);
+    acts = both_acts core mid m m1 last same.volumes good narrows.acts it.acts;
+    kept = to_fact (at_serial it.config.serial core.config) (Held it.config last) last
+        (kept_volumes (at_serial it.config.serial mid.config) (at_serial it.config.serial core.config) (Held it.config last) last (sym same.volumes) refl
+        (from_fact (at_serial it.config.serial mid.config) (Held it.config last) last it.kept));
+  }
+
+  pub closes_later : {T E : Type 0} (r : Result T E) → Closes mid d m1 last r → Closes core d m last r
+  closes_later (Ok x) it = deported_later it
+  closes_later (Err e) it = back_later it
+
+pub stops_later : {T : Type 0} (r : Result T ShelfError) (old mid new : Meaning) → ((d : ℕ) → old.disk_faults d ≤ mid.disk_faults d) → StopsBy mid new r → StopsBy old new r
+stops_later (Ok x) old mid new before up = tt
+stops_later (Err (Fault d)) old mid new before why = blames_later {T = Unit {0}} (Err (Fault d)) old mid new before why
+stops_later (Err Down) old mid new before down = down
+
+pub blames_stop : (old new : Meaning) (e : ShelfError) → Blames {T = Unit {0}} old new (Err e) → StopsBy {T = Unit {0}} old new (Err e)
+blames_stop old new (Fault d) why = why
+blames_stop old new Down down = down
+
+-- ---- what is answered for want of serials
+
+pub full_ok : {x : Unit {0}} {why : Stop} → ◌≡◌ {A = Result (Unit {0}) Stop} (Ok x) (Err why) → ⊥
+full_ok is = cc
+
+pub full_err : (stop : Stop) {why : Stop} → ◌≡◌ {A = Result (Unit {0}) Stop} (Err stop) (Err why) → stop ≡ why
+full_err stop is = cc

@@ -1,0 +1,8 @@
+use Rattle.vx_group.proofs.DeportLemmas.{full_err, full_ok}
+use Rattle.vx_group.proofs.group.Group.deport.Goals as goal
+
+pub returns-in-Ok-clause-limit : goal.returns-in-Ok-clause-limit
+returns-in-Ok-clause-limit g c = λ lt. full_ok (c.in-Ok.ensures.limit lt).0
+
+pub returns-in-Err-clause-limit : goal.returns-in-Err-clause-limit
+returns-in-Err-clause-limit g c = λ lt. let l = c.in-Err.ensures.limit lt in (full_err c.in-Err.stop l.0, l.1, l.2)

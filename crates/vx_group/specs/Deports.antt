@@ -1,0 +1,61 @@
+-- How a deport ends.
+use Rattle.std.specs.Prelude.{◌≡◌, ℕ, false, length, Result, Ok, Err}
+use Rattle.vx_disk.specs.Causes.{DeviceCause}
+use Rattle.vx_disk.specs.Shelf.{Each, Image, Meaning, Nothing}
+use Rattle.vx_model.specs.declared.errors.Stop.{Stop}
+use Rattle.vx_model.specs.declared.errors.Stop.TheVariants.{No as Refused, OutOfMemory}
+use Rattle.vx_model.specs.declared.no.Counted.TheVariants.{Number as Numbers}
+use Rattle.vx_model.specs.declared.no.No.TheVariants.{Limit}
+use Rattle.vx_config.specs.Table.{greatest}
+use Rattle.vx_config.specs.declared.config.Config.{Config}
+use Rattle.vx_copyfmt.specs.Imports.{Found}
+use Rattle.vx_copies.specs.Commits.{Held}
+use Rattle.vx_kept.specs.Cleans.{at_serial, cleaned, marked}
+use Rattle.vx_kept.specs.Commits.{Member}
+use Rattle.vx_kept.specs.Facts.{KeptFact}
+use Rattle.vx_kept.specs.Groups.{found}
+use Rattle.vx_kept.specs.Keeping.{Acts, Sees}
+use Rattle.vx_volume.specs.Plexes.{active}
+use Rattle.vx_group.specs.Moves.{Narrows}
+use Rattle.vx_group.specs.Stands.{Stands}
+use Rattle.vx_group.specs.declared.group_core.GroupCore.{GroupCore}
+
+-- Whatever a crash leaves, an import that can read all disks finds one configuration: that of the group, with each plex that was ACTIVE
+-- CLEAN, but for those of the volumes that are unsure. No block of a plex was touched. A group in which the plexes are ACTIVE may stand on
+-- the disks.
+pub record Deported (c : GroupCore) (old new : Meaning) : Type 0 where
+  pub config : Config
+  pub finds : (i : Image) → Each new.leaves i → found new i ≡ Found config
+  pub site : config.site ≡ c.config.site
+  pub rvg : config.rvg ≡ c.config.rvg
+  pub count : length config.disks ≡ length c.config.disks
+  pub volumes : config.volumes ≡ (cleaned c.unsure c.config (length c.config.volumes)).volumes
+  pub off : (v p : ℕ) → marked c.unsure v ≡ false → active config v p ≡ false
+  pub acts : Acts Nothing (Sees c.config (Member c.good old) old) old new
+  pub kept : KeptFact (at_serial config.serial c.config) (Held config new) new
+
+-- the group stands as it was, but for its serial and disks that failed
+pub record GivenBack (c d : GroupCore) (old new : Meaning) : Type 0 where
+  pub stands : Stands d new
+  pub narrows : Narrows c d old new
+  pub volumes : d.config.volumes ≡ c.config.volumes
+
+-- how it ends, by the parts of the group
+abbrev pub Closes : {T E : Type 0} → GroupCore → GroupCore → Meaning → Meaning → Result T E → Type 0
+Closes c d old new (Ok x) = Deported c old new
+Closes c d old new (Err stop) = GivenBack c d old new
+
+-- The shelf is handed out, or the group given back. A refusal comes for a device alone, where its serials suffice.
+abbrev pub GroupDeported : {S G : Type 0} → GroupCore → Meaning → (S → Meaning) → (G → GroupCore) → (G → S) → Result S (G × Stop) → Type 0
+GroupDeported c old meaning core shelf (Ok s) = Deported c old (meaning s)
+GroupDeported c old meaning core shelf (Err (g, stop)) = GivenBack c (core g) old (meaning (shelf g))
+
+-- refused for want of serials, and nothing has changed
+abbrev pub IsFull : {S G : Type 0} → GroupCore → S → (G → GroupCore) → (G → S) → Result S (G × Stop) → Type 0
+IsFull c s core shelf (Ok x) = ⊥
+IsFull c s core shelf (Err (g, stop)) = (stop ≡ Refused (Limit Numbers greatest)) × (core g ≡ c) × (shelf g ≡ s)
+
+abbrev pub DeportStops : {S G : Type 0} → Meaning → (S → Meaning) → (G → S) → Result S (G × Stop) → Type 0
+DeportStops old meaning shelf (Ok s) = Unit {0}
+DeportStops old meaning shelf (Err (g, Refused why)) = DeviceCause old (meaning (shelf g)) why
+DeportStops old meaning shelf (Err (g, OutOfMemory)) = ⊥

@@ -1,0 +1,88 @@
+// The commit by which a group is deported.
+ghost use Rattle.std.specs.Prelude.{◌≡◌, ◌<◌, ◌≤◌, ◌-◌, false, Err, IsTrue};
+ghost use Rattle.vx_config.specs.Table.{greatest};
+ghost use Rattle.vx_group.specs.Blames.{StopsBy};
+ghost use Rattle.vx_group.specs.Deports.{Closes};
+ghost use Rattle.vx_group.specs.Dets.{DetStops, margin};
+ghost use Rattle.vx_group.specs.Stands.{Stands};
+ghost use Rattle.vx_model.specs.declared.errors.Stop.TheVariants.{No as Refused};
+ghost use Rattle.vx_model.specs.declared.no.Counted.TheVariants.{Number as Numbers};
+ghost use Rattle.vx_model.specs.declared.no.No.TheVariants.{Limit};
+
+use crate::GroupCore;
+use crate::detaching::fault_of;
+use crate::settling::settle_headers;
+use vx_disk::{Shelf, ShelfError, refusal};
+use vx_kept::commit_clean;
+use vx_model::limits::MOST_NUMBER;
+use vx_model::{Counted, No, Stop};
+
+// So many serials are left at least where a call of its own may commit.
+const MARGIN: u64 = 65_536;
+
+// Commits the configuration with plexes CLEAN.
+fn commit_closed<S: Shelf>(shelf: &mut S, core: &mut GroupCore) -> Result<(), ShelfError>
+    requires stands { Stands core.old (S.meaning shelf.old) }
+    requires settled { core.old.unsettled ≡ false }
+    requires more { core.old.config.serial < greatest }
+    ensures ends { Closes core.old core.new (S.meaning shelf.old) (S.meaning shelf.new) result }
+    ensures cause { StopsBy (S.meaning shelf.old) (S.meaning shelf.new) result }
+{
+    match commit_clean(
+        shelf,
+        &mut core.config,
+        &core.unsure,
+        core.good,
+        &mut core.room,
+    ) {
+        Ok(()) => Ok(()),
+        Err(no) => {
+            core.unsettled = true;
+            if shelf.is_down() {
+                return Err(ShelfError::Down);
+            }
+            Err(fault_of(no, 0))
+        }
+    }
+}
+
+// The same, behind the headers that a refused commit asks for.
+fn close<S: Shelf>(shelf: &mut S, core: &mut GroupCore) -> Result<(), ShelfError>
+    requires stands { Stands core.old (S.meaning shelf.old) }
+    requires more { core.old.config.serial < greatest }
+    requires up { IsTrue (S.meaning shelf.old).down → ⊥ }
+    ensures ends { Closes core.old core.new (S.meaning shelf.old) (S.meaning shelf.new) result }
+    ensures cause { StopsBy (S.meaning shelf.old) (S.meaning shelf.new) result }
+{
+    match settle_headers(shelf, core) {
+        Ok(()) => {}
+        Err(error) => return Err(error),
+    }
+    commit_closed(shelf, core)
+}
+
+/// Deports a group: a commit puts the plexes that are ACTIVE into the state CLEAN, but those of the volumes of which a write or a flush
+/// failed.
+///
+/// Answers 19 exactly where fewer than 65,536 serials are left, and then nothing has changed; else 7 only where the count of the disk that
+/// it names rose, and 6 only where the shelf is then down. After a refusal the group stands as it was. It takes no memory.
+pub fn deport_in<S: Shelf>(shelf: &mut S, core: &mut GroupCore) -> Result<(), Stop>
+    requires stands { Stands core.old (S.meaning shelf.old) }
+    ensures limit { greatest - margin < core.old.config.serial → (result ≡ Err (Refused (Limit Numbers greatest))) × (core.new ≡ core.old) × (shelf.new ≡ shelf.old) }
+    ensures ends { Closes core.old core.new (S.meaning shelf.old) (S.meaning shelf.new) result }
+    ensures cause { core.old.config.serial ≤ greatest - margin → DetStops (S.meaning shelf.old) (S.meaning shelf.new) result }
+{
+    if MOST_NUMBER - MARGIN < core.config.serial {
+        return Err(Stop::No(No::Limit {
+            what: Counted::Number,
+            most: MOST_NUMBER,
+        }));
+    }
+    if shelf.is_down() {
+        return Err(Stop::No(No::Down));
+    }
+    match close(shelf, core) {
+        Ok(()) => Ok(()),
+        Err(error) => Err(Stop::No(refusal(error))),
+    }
+}

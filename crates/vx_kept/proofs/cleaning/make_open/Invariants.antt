@@ -1,0 +1,8 @@
+use Rattle.std.proofs.Common.{◌≡◌, ◌-◌, List, Bool, length}
+use Rattle.vx_config.specs.declared.config.Config.{Config}
+use Rattle.vx_kept.specs.Cleans.{cleaned}
+use Rattle.vx_kept.specs.Keeping.{AllOn}
+use Rattle.vx_kept.proofs.cleaning.make_open.Given as goal
+
+abbrev pub invariant-loop-turn : goal.invariant-loop-turn
+invariant-loop-turn l = (c : Config) (unsure : List Bool) → l.fn.config ≡ cleaned unsure c (length c.volumes) → AllOn c → l.config ≡ cleaned unsure c (length c.volumes - l.turn)
