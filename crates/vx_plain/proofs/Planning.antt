@@ -1,5 +1,5 @@
 -- One member more.
-use Rattle.std.proofs.Common.{◌≡◌, ◌⊎◌, ℕ, List, [], ◌∷◌, ◌++◌, length, subst, ⊎_elim, Some, slice_get}
+use Rattle.std.proofs.Common.{◌≡◌, List, [], ◌∷◌, ◌++◌, length, subst, ⊎_elim, Some, slice_get}
 use Rattle.vx_turn.proofs.Dealing.{get-snoc}
 use Rattle.vx_burst_threads.specs.declared.plan.Planned.{Planned}
 use Rattle.vx_burst_threads.specs.Planning.{AllCalls, IsCall}

@@ -1,15 +1,13 @@
 -- An engine without volumes does as an engine must.
-use Rattle.std.proofs.Common.{◌≡◌, ◌⊎◌, ℕ, zero, suc, ◌+◌, ◌<◌, ◌≤◌, ◌==◌, ◌||◌, Bool, true, false, List, [], ◌∷◌, ◌++◌, length, refl, ap, sym, ◌∙◌, subst, inl, inr, ⊎_elim, arith, Option, Some, slice_get, slice_index_or}
+use Rattle.std.proofs.Common.{◌≡◌, ℕ, zero, suc, ◌+◌, ◌<◌, ◌||◌, Bool, true, false, List, [], ◌∷◌, ◌++◌, refl, sym, ◌∙◌, subst, inl, inr, arith, Some, slice_get}
 use Rattle.std.proofs.lemmas.Bool.{lt-ltb}
-use Rattle.std.specs.Prelude.{eqb, ltb, if◌then◌else◌}
-use Rattle.vx_model.specs.declared.limits.TheConstants.{MOST_CALL_BLOCKS}
-use Rattle.vx_model.specs.Answer.{Answer, Shows, Accepts, WrongSize, OutOfRange, answer_of, is_wrong_count, is_past, is_too_large}
+use Rattle.std.specs.Prelude.{if◌then◌else◌}
+use Rattle.vx_model.specs.Answer.{Shows, Accepts, WrongSize, OutOfRange, is_wrong_count, is_past, is_too_large}
 use Rattle.vx_model.specs.Content.{blocks_in, blocks_from}
 use Rattle.vx_model.specs.declared.call.Call.{Call}
 use Rattle.vx_model.specs.declared.call.Call.TheVariants.{Read, Write as WriteBlocks}
 use Rattle.vx_model.specs.declared.call.Reply.TheVariants.{Refused}
 use Rattle.vx_model.specs.declared.call.Update.{Update}
-use Rattle.vx_model.specs.declared.history.Line.{Line}
 use Rattle.vx_model.specs.declared.no.No.{No}
 use Rattle.vx_model.specs.declared.no.No.TheVariants as no
 use Rattle.vx_turn.specs.declared.ask.Ask.TheVariants.{Ordered, Charged}
@@ -18,11 +16,11 @@ use Rattle.vx_turn.specs.declared.ask.Job.{Job}
 use Rattle.vx_turn.specs.declared.ask.Job.TheVariants.{Apply, Fetch, Acked, Wait}
 use Rattle.vx_turn.specs.declared.ask.JobReply.{JobReply}
 use Rattle.vx_turn.specs.declared.ask.JobReply.TheVariants as job
-use Rattle.vx_turn.specs.Acting.{Acts, RepliesBy, Among, Logs, NamesLink, Says, Nets, volumes_after, IsGone}
+use Rattle.vx_turn.specs.Acting.{Acts, RepliesBy, Logs, NamesLink, Nets, volumes_after}
 use Rattle.vx_turn.specs.Volumes.{as_content}
 use Rattle.vx_settle.specs.declared.peer.Ack.{Ack}
 use Rattle.vx_settle.specs.declared.peer.Stand.{Stand}
-use Rattle.vx_settle.specs.Peers.{Hands, LiesIn}
+use Rattle.vx_settle.specs.Peers.{Hands}
 use Rattle.vx_settle.specs.Bringing.{Events}
 use Rattle.vx_plain.specs.Trails.{shut, no_counts, IsRefused, IsSaid}
 
