@@ -34,7 +34,7 @@ use Rattle.vx_burst_threads.specs.Joining.{pass_of, backs, IsMadeBy, Meeting}
 use Rattle.vx_burst_threads.specs.Laying.{LaidWith}
 use Rattle.vx_burst_threads.proofs.Making.{stands-more}
 use Rattle.vx_burst.specs.Setting.{IsSetUp, AreSetUp}
-use Rattle.vx_burst.specs.Finishing.{Went, AckWithin, Underway, IsIdle}
+use Rattle.vx_burst.specs.Finishing.{Went, AckWithin, Underway, IsIdle, IsOfPlan}
 use Rattle.vx_burst.specs.Ending.{HasJoined}
 use Rattle.vx_burst.proofs.Underways.{get-some}
 
@@ -171,7 +171,7 @@ module _ {P : Type 0} (stand : P → Stand) (root : P → P) where
       pub says : e.said ≡ Replied reply
 
     abbrev pub Class : ℕ → Entry → Type 0
-    Class n e = IsMadeAt n e ⊎ (IsIdle e.ask e.said × AckWithin stand root out e.ask)
+    Class n e = IsMadeAt n e ⊎ (IsIdle e.ask e.said × AckWithin stand root out e.ask × IsOfPlan plan e.ask)
 
     writer-class : (n i : ℕ) (e : Entry) (w x : Writer) → slice_get log n ≡ Some e → e.caller ≡ i → slice_get j.ws i ≡ Some (Writes w) → slice_get j.xs i ≡ Some (Writes x) → Wrote plan w x → x.pass.number ≡ i → Class n e
     writer-class n i e w x at by old new h number = let fresh = (j.set i (Writes w) old).0.none_made in let m = h.made fresh in
@@ -181,7 +181,7 @@ module _ {P : Type 0} (stand : P → Stand) (root : P → P) where
         inl (record { made = o.0; by = (x, (i, new), o.1); place = o.2; planned = k.planned; reply = k.reply; is = k.is; asks = g.1; says = g.2 }))
         (λ (o : IsLeft plan w.thread m.0 x.pass (suc n)).
         let g = stands-get log (suc n) x.pass.number (Ordered (call_for o.planned)) (Replied o.reply) (stands-more (seen_of x.pass) log (suc n) x.pass.number (Ordered (call_for o.planned)) (Replied o.reply) o.stands (begins-of i (Writes x) new)) n refl e at in
-        inr (subst (λ (y : Ask × Said). IsIdle y.0 y.1 × AckWithin stand root out y.0) (λ k. (sym g.1 k, sym g.2 k)) (o.stalled, tt))) (m.1.only (suc n) mine)
+        inr (subst (λ (y : Ask × Said). IsIdle y.0 y.1 × AckWithin stand root out y.0 × IsOfPlan plan y.0) (λ k. (sym g.1 k, sym g.2 k)) (o.stalled, tt, (m.0, o.planned, o.is, refl)))) (m.1.only (suc n) mine)
 
     -- where a link's worker's peer came back
     drainer-back : (i : ℕ) (d : Drainer P) → slice_get j.xs i ≡ Some (Drains d) → (k : ℕ) × (slice_get out k ≡ Some d.peer)
@@ -195,11 +195,11 @@ module _ {P : Type 0} (stand : P → Stand) (root : P → P) where
         among-backs (Writes w ∷ xs) (suc i) d at = among-backs xs i d at
         among-backs (Drains e ∷ xs) (suc i) d at = let r = among-backs xs i d at in (r.0, Rattle.vx_turn.proofs.Dealing.get-longer (backs xs) (e.peer ∷ []) r.0 d.peer r.1)
 
-    job-class : (k : ℕ) (d : Drainer P) → slice_get out k ≡ Some d.peer → (ask : Ask) (said : Said) → JobFits (stand d.peer) ask → IsIdle ask said × AckWithin stand root out ask
-    job-class k d at (Charged (Acked link net stored)) said f = (tt, (k, d.peer, at, f.0, f.1, f.2))
-    job-class k d at (Charged (Apply n)) said f = (tt, tt)
-    job-class k d at (Charged (Fetch n)) said f = (tt, tt)
-    job-class k d at (Charged (Wait n)) said f = (tt, tt)
+    job-class : (k : ℕ) (d : Drainer P) → slice_get out k ≡ Some d.peer → (ask : Ask) (said : Said) → JobFits (stand d.peer) ask → IsIdle ask said × AckWithin stand root out ask × IsOfPlan plan ask
+    job-class k d at (Charged (Acked link net stored)) said f = (tt, (k, d.peer, at, f.0, f.1, f.2), tt)
+    job-class k d at (Charged (Apply n)) said f = (tt, tt, tt)
+    job-class k d at (Charged (Fetch n)) said f = (tt, tt, tt)
+    job-class k d at (Charged (Wait n)) said f = (tt, tt, tt)
     job-class k d at (Ordered call) said f = absurd f
 
     drainer-class : (n i : ℕ) (e : Entry) (c d : Drainer P) → slice_get log n ≡ Some e → e.caller ≡ i → slice_get j.ws i ≡ Some (Drains c) → slice_get j.xs i ≡ Some (Drains d) → DrainedWith stand root c d → d.pass.number ≡ i → Class n e
@@ -245,7 +245,11 @@ module _ {P : Type 0} (stand : P → Stand) (root : P → P) where
         by-worker (Drains w) (Writes x) old new h number = absurd h
 
     made-within : (e : Entry) (n : ℕ) → Class n e → AckWithin stand root out e.ask
-    made-within e n c = ⊎_elim (λ (m : IsMadeAt n e). subst (AckWithin stand root out) (sym m.asks) tt) (λ (m : IsIdle e.ask e.said × AckWithin stand root out e.ask). m.1) c
+    made-within e n c = ⊎_elim (λ (m : IsMadeAt n e). subst (AckWithin stand root out) (sym m.asks) tt) (λ (m : IsIdle e.ask e.said × AckWithin stand root out e.ask × IsOfPlan plan e.ask). m.1) c
+
+    pub of-plan : (e : Entry) (n : ℕ) → Class n e → IsOfPlan plan e.ask
+    of-plan e n c = ⊎_elim (λ (m : IsMadeAt n e). subst (IsOfPlan plan) (sym m.asks) (m.made.at, m.planned, m.is, refl))
+        (λ (m : IsIdle e.ask e.said × AckWithin stand root out e.ask × IsOfPlan plan e.ask). m.2) c
 
     went : (i : ℕ) (a b : P) → slice_get firsts i ≡ Some a → slice_get out i ≡ Some b → Went stand root start log a b
     went i a b x y = let o = back-pair plan j.ws j.xs j.pairs i a b (subst (λ l. slice_get l i ≡ Some a) (sym j.back) x) (subst (λ l. slice_get l i ≡ Some b) j.met.back y) in

@@ -34,7 +34,7 @@ use Rattle.vx_burst.specs.declared.placing.Spot.{Spot}
 use Rattle.vx_burst.specs.Placing.{Noted, Numbered}
 use Rattle.vx_burst.proofs.Placings.{once-same}
 use Rattle.vx_burst.proofs.Underways.{get-some, job_entry}
-use Rattle.vx_burst.proofs.Ends.{classify, IsMadeAt}
+use Rattle.vx_burst.proofs.Ends.{classify, of-plan, IsMadeAt}
 use Rattle.vx_burst.specs.Setting.{AreBlank}
 use Rattle.vx_burst.specs.Setting.{one_if}
 use Rattle.vx_burst.specs.Finishing.{IsIdle, IsOrdered, Stay, unplaced, Underway, IsPlaced, Stage}
@@ -286,6 +286,7 @@ module _ {P : Type 0} (stand : P → Stand) (root : P → P) (z : TableId) (star
         record {
           underway = under;
           left = stay-picked ev 0 log ps (rising-of 0 spots (λ i t at. (let n = noted.each i t at in let a = n.1.2 in let b = n.1.3 in omega (arith, a, b))) spots-rise) top ordered is class;
+          calls = λ e m. of-plan stand root z start callers plan firsts p q out log j e m.0 (classify stand root z start callers plan firsts p q out log j m.0 e m.1);
           count = map-long ev ps ∙ map-long (λ (t : Spot). t.place) spots;
           rest = let c = noted.count in let u = unplaced-ext olds news numbered.long kept in let w = ap unplaced (take-whole olds) in let l = laid.long in omega (arith, c, u, w, l, long);
           long = numbered.long ∙ (laid.long ∙ long);
@@ -341,7 +342,7 @@ module _ {P : Type 0} (stand : P → Stand) (root : P → P) (z : TableId) (star
           class : (i : ℕ) (e : Entry) → slice_get log i ≡ Some e → Among (suc (0 + i)) ps ⊎ IsIdle e.ask e.said
           class i e at = ⊎_elim (λ (m : IsMadeAt stand root z start callers plan firsts p q out log j i e). let c = made-spot m.made m.by in let n : c.0.place ≡ suc (0 + i) = (let a = c.3 in let b = m.place in omega (arith, a, b)) in
               inl (c.1.0, get-map (λ (t : Spot). t.place) spots c.1.0 c.0 c.1.1 ∙ ap Some n))
-              (λ (m : IsIdle e.ask e.said × Rattle.vx_burst.specs.Finishing.AckWithin stand root out e.ask). inr m.0) (classify stand root z start callers plan firsts p q out log j i e at)
+              (λ (m : IsIdle e.ask e.said × Rattle.vx_burst.specs.Finishing.AckWithin stand root out e.ask × Rattle.vx_burst.specs.Finishing.IsOfPlan plan e.ask). inr m.0) (classify stand root z start callers plan firsts p q out log j i e at)
 
           kept : (k : ℕ) (a b : Answered) → slice_get olds k ≡ Some a → slice_get news k ≡ Some b → (a.place ≡ 0 → b.place ≡ 0) × (0 < a.place → 0 < b.place)
           kept k a b x y = (

@@ -12,19 +12,19 @@ use Rattle.vx_turn.specs.declared.meaning.Entry.{Entry}
 use Rattle.vx_turn.specs.declared.meaning.State.{State}
 use Rattle.vx_turn.specs.Acting.{Among, Rose}
 use Rattle.vx_turn.specs.History.{HasLogged, asked}
-use Rattle.vx_turn.proofs.Histories.{made, rose-wider, logged-more}
+use Rattle.vx_turn.proofs.Histories.{made, rose-wider, logged-more, among-split}
 use Rattle.vx_turn.proofs.Dealing.{get-longer, get-last}
 use Rattle.vx_settle.specs.declared.peer.Stand.{Stand}
 use Rattle.vx_settle.specs.Peers.{Goes, LiesIn}
 use Rattle.vx_settle.specs.Bringing.{Events, IsJob, HaveLinks, NoLimit, HasAcked, Drains, BringsAll}
-use Rattle.vx_settle.proofs.Bringings.{among-left, calm-first}
+use Rattle.vx_settle.proofs.Bringings.{among-left, among-one, calm-first}
 use Rattle.vx_settle.proofs.ManyPeers.{some-one, get-set, set-long, get-inside}
 use Rattle.vx_burst_threads.specs.declared.plan.Planned.{Planned}
 use Rattle.vx_burst_threads.specs.declared.plan.Answered.{Answered}
 use Rattle.vx_burst_threads.specs.Planning.{call_for}
 use Rattle.vx_burst.specs.Setting.{one_if}
-use Rattle.vx_burst.specs.Finishing.{Went, Underway, IsSound, Excused, IsCalm, Splits, head_behind, IsIdle, Stay, unplaced, ArePlaced, HasExcuse, IsPlaced, Stage, StagesOn, AskedOne}
-use Rattle.vx_burst.proofs.Underways.{job_entry, asked-jobs, get-some, underway-brings, underway-acts}
+use Rattle.vx_burst.specs.Finishing.{Went, Underway, IsSound, Excused, IsCalm, Splits, head_behind, IsIdle, IsOfPlan, Stay, unplaced, ArePlaced, HasExcuse, IsPlaced, Stage, StagesOn, AskedOne}
+use Rattle.vx_burst.proofs.Underways.{job_entry, jobs-among, asked-jobs, get-some, underway-brings, underway-acts}
 
 -- jobs at the end change nothing of what stays
 pub stay-jobs : (xs more ys : Events) → ((ask : Ask) (said : Said) → Among (ask, said) more → IsJob ask said) → Stay xs ys → Stay (xs ++ more) ys
@@ -45,6 +45,11 @@ unplaced-set [] k a b at none some = absurd (cc at)
 unplaced-set (x ∷ xs) zero a b at none some = let e : one_if (x.place == 0) ≡ 1 = ap one_if (eq-eqb x.place 0 (ap (λ (y : Answered). y.place) (some-one at) ∙ none)) in
     let f : one_if (b.place == 0) ≡ 0 = ap one_if (ne_eqb b.place 0 (λ z. absurd (omega (arith, z, some)))) in omega (arith, e, f)
 unplaced-set (x ∷ xs) (suc k) a b at none some = let r = unplaced-set xs k a b at none some in omega (arith, r)
+
+-- a job is no call
+pub job-of-plan : (plan : List Planned) (ask : Ask) (said : Said) → IsJob ask said → IsOfPlan plan ask
+job-of-plan plan (Charged j) said is = tt
+job-of-plan plan (Ordered call) said is = absurd is
 
 module _ {P : Type 0} (stand : P → Stand) (root : P → P) where
   -- an excuse holds on
@@ -127,6 +132,8 @@ module _ {P : Type 0} (stand : P → Stand) (root : P → P) where
     record {
       underway = subst (λ l. Underway stand root start firsts l t qs) whole (underway-acts stand root start firsts (log ++ jobs) mid t qs (Ordered (call_for pl)) (Replied reply) tt (underway-brings stand root start firsts log s mid ps qs g.underway b) again.acts);
       left = subst (λ l. Stay l stays2) (sym seen) (stay-call (map asked log ++ b.moves.more) stays (Ordered (call_for pl), Replied reply) tt (stay-jobs (map asked log) b.moves.more stays b.moves.jobs g.left));
+      calls = λ e m. ⊎_elim (λ (x : Among e log). g.calls e x) (λ (x : Among e more). ⊎_elim (λ (y : Among e jobs). job-of-plan plan e.ask e.said (b.moves.jobs e.ask e.said (jobs-among s.counts b.moves.more e y)))
+          (λ (y : Among e (last ∷ [])). subst (λ (z : Entry). IsOfPlan plan z.ask) (among-one e last y) (k, pl, at, refl)) (among-split e jobs (last ∷ []) x)) (among-split e log more m);
       count = let c = g.count in let z = Rattle.std.proofs.Common.length-append stays ((Ordered (call_for pl), Replied reply) ∷ []) in omega (arith, c, z);
       rest = let r = g.rest in let u = unplaced-set answers k old a was none (omega (arith, place)) in omega (arith, r, u);
       long = set-long answers k a ∙ g.long;

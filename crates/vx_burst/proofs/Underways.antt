@@ -51,7 +51,7 @@ pub asked-jobs : (c : Counts) (more : Events) → map asked (map (job_entry c) m
 asked-jobs c [] = refl
 asked-jobs c (x ∷ xs) = ap (λ l. x ∷ l) (asked-jobs c xs)
 
-jobs-among : (c : Counts) (more : Events) (e : Entry) → Among e (map (job_entry c) more) → Among (e.ask, e.said) more
+pub jobs-among : (c : Counts) (more : Events) (e : Entry) → Among e (map (job_entry c) more) → Among (e.ask, e.said) more
 jobs-among c [] e m = absurd (cc m.1)
 jobs-among c (x ∷ xs) e (zero, at) = (0, let s : job_entry c x ≡ e = cc at in ap (λ (z : Entry). Some (z.ask, z.said)) s)
 jobs-among c (x ∷ xs) e (suc i, at) = let r = jobs-among c xs e (i, at) in (suc r.0, r.1)

@@ -37,7 +37,7 @@ use Rattle.vx_burst_threads.specs.Planning.{call_for, IsTold}
 use Rattle.vx_burst.specs.Setting.{one_if}
 use Rattle.vx_burst.specs.Finishing.{head_behind, IsNothing, AckWithin, Underway, IsIdle, IsOrdered, Stay, unplaced, HasExcuse, Stage, IsWaited, ended_as, WaitedOne, WaitedOn}
 use Rattle.vx_burst.proofs.Underways.{job_entry, asked-jobs, get-some, underway-brings, underway-moves}
-use Rattle.vx_burst.proofs.Stages.{stay-jobs, excuse-later, halted-not, brought-excuse}
+use Rattle.vx_burst.proofs.Stages.{job-of-plan, stay-jobs, excuse-later, halted-not, brought-excuse}
 
 -- what stays is among the events
 pub stay-among : (xs ys : Events) (i : ℕ) (y : Ask × Said) → Stay xs ys → slice_get ys i ≡ Some y → Among y xs
@@ -96,6 +96,12 @@ unplaced-same [] k a b at same = absurd (cc at)
 unplaced-same (x ∷ xs) zero a b at same = ap (λ n. one_if (n == 0) + unplaced xs) (sym same ∙ ap (λ (y : Answered). y.place) (sym (some-one at)))
 unplaced-same (x ∷ xs) (suc k) a b at same = ap (λ n. one_if (x.place == 0) + n) (unplaced-same xs k a b at same)
 
+-- an event of an entry
+asked-at : (es : List Entry) (i : ℕ) (e : Entry) → slice_get es i ≡ Some e → slice_get (map asked es) i ≡ Some (asked e)
+asked-at [] i e at = absurd (cc at)
+asked-at (x ∷ es) zero e at = ap (λ (z : Entry). Some (asked z)) (some-one at)
+asked-at (x ∷ es) (suc i) e at = asked-at es i e at
+
 module _ {P : Type 0} (stand : P → Stand) (root : P → P) where
   -- jobs change no stage
   stage-moves : (start : State) (firsts : List P) (plan : List Planned) (log more : List Entry) (s t : State) (ps qs : List P) (answers : List Answered) (n : ℕ) (stays es : Events) → Stage stand root start firsts plan log s ps answers n stays
@@ -104,6 +110,7 @@ module _ {P : Type 0} (stand : P → Stand) (root : P → P) where
   stage-moves start firsts plan log more s t ps qs answers n stays es g u is jobs rises long goes = record {
     underway = u;
     left = subst (λ l. Stay l stays) (sym (map-append asked log more ∙ ap (λ l. map asked log ++ l) is)) (stay-jobs (map asked log) es stays jobs g.left);
+    calls = λ e m. ⊎_elim (λ (x : Among e log). g.calls e x) (λ (x : Among e more). job-of-plan plan e.ask e.said (jobs e.ask e.said (subst (Among (asked e)) is (x.0, asked-at more x.0 e x.1)))) (Rattle.vx_turn.proofs.Histories.among-split e log more m);
     count = g.count;
     rest = g.rest;
     long = g.long;
@@ -123,6 +130,7 @@ module _ {P : Type 0} (stand : P → Stand) (root : P → P) where
   stage-set start firsts plan log s ps answers n stays k a r g at = record {
     underway = g.underway;
     left = g.left;
+    calls = g.calls;
     count = g.count;
     rest = ap (λ m. n + m) (unplaced-same answers k a b at refl) ∙ g.rest;
     long = set-long answers k b ∙ g.long;

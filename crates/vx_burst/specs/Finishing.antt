@@ -93,6 +93,11 @@ abbrev pub Stay : Events → Events → Type 0
 Stay [] ys = ys ≡ []
 Stay (x ∷ xs) ys = (IsIdle x.0 x.1 × Stay xs ys) ⊎ ((zs : Events) × (ys ≡ x ∷ zs) × IsOrdered x.0 × Stay xs zs)
 
+-- a call is that of a member of the plan
+abbrev pub IsOfPlan : List Planned → Ask → Type 0
+IsOfPlan plan (Ordered call) = (k : ℕ) × (pl : Planned) × (slice_get plan k ≡ Some pl) × (call ≡ call_for pl)
+IsOfPlan plan (Charged j) = Unit {0}
+
 -- the job has no answer yet
 abbrev pub IsNothing : Said → Type 0
 IsNothing (Worked job.Nothing into) = Unit {0}
@@ -123,6 +128,7 @@ module _ {P : Type 0} (stand : P → Stand) (root : P → P) where
   pub record Stage (start : State) (firsts : List P) (plan : List Planned) (log : List Entry) (s : State) (ps : List P) (answers : List Answered) (taken : ℕ) (stays : Events) : Type 0 where
     pub underway : Underway stand root start firsts log s ps
     pub left : Stay (map asked log) stays
+    pub calls : (e : Entry) → Among e log → IsOfPlan plan e.ask
     pub count : length stays ≡ taken
     pub rest : taken + unplaced answers ≡ length plan
     pub long : length answers ≡ length plan
