@@ -5,7 +5,7 @@ use std::test::*;
 use vx_config::{Config, PlexState};
 use vx_disk::{MemShelf, Rack, Shelf, ShelfError};
 use vx_layout::Shape;
-use vx_model::{Counted, Name, No, Stop};
+use vx_model::{Counted, Name, No, OutOfMemory, Stop};
 
 #[derive(Clone, Copy, Debug, PartialEq, Eq)]
 enum Told {
@@ -122,29 +122,29 @@ fn state(config: &Config, volume: usize, plex: usize) -> Option<PlexState> {
 }
 
 // A group of so many disks of 1,024 blocks, of which these calls fail.
-fn group_of(alloc: Global, fails: &[u64], disks: u32) -> Option<Group<MemShelf>> {
+fn group_of(alloc: Global, fails: &[u64], disks: u32) -> Result<Group<MemShelf>, OutOfMemory> {
     let mut shelf = match MemShelf::new(alloc, fails) {
         Ok(shelf) => shelf,
-        Err(_) => return None,
+        Err(_) => return Err(OutOfMemory),
     };
     if shelf.fit(alloc, None, 7, disks, 1024).is_err() {
-        return None;
+        return Err(OutOfMemory);
     }
     if shelf.units() == 0 || shelf.units() > 8 {
-        return None;
+        return Err(OutOfMemory);
     }
     match Group::create(alloc, shelf, 7) {
-        Ok(group) => Some(group),
-        Err(_) => None,
+        Ok(group) => Ok(group),
+        Err(_) => Err(OutOfMemory),
     }
 }
 
 #[test]
 fn a_write_detaches_the_plex_that_failed(rt: HostRuntime) -> Result<(), Fail> {
     let alloc = rt.alloc();
-    // A new group of three disks has made 33 calls; zeros in runs of 16 blocks, two flushes and a commit follow, and call 87 is the write
-    // to the second plex.
-    let mut group = group_of(alloc, &[87], 3).ok_or(Fail)?;
+    // A new group of three disks has made 33 calls; zeros in runs of 16 blocks, two flushes, a commit and a read follow, and call 88 is the
+    // write to the second plex.
+    let mut group = group_of(alloc, &[88], 3)?;
     assert_eq!(rt;
         make(alloc, &mut group, b"v", &plain(256, 2)),
         Told::Volume(0)
@@ -181,7 +181,7 @@ fn a_write_detaches_the_plex_that_failed(rt: HostRuntime) -> Result<(), Fail> {
 #[test]
 fn a_volume_is_refused(rt: HostRuntime) -> Result<(), Fail> {
     let alloc = rt.alloc();
-    let mut group = group_of(alloc, &[], 2).ok_or(Fail)?;
+    let mut group = group_of(alloc, &[], 2)?;
     assert_eq!(rt;
         make(alloc, &mut group, b"v", &plain(64, 2)),
         Told::Volume(0)
@@ -204,5 +204,87 @@ fn a_volume_is_refused(rt: HostRuntime) -> Result<(), Fail> {
         make(alloc, &mut group, b"x", &plain(1, 1)),
         Told::Space(1, 0)
     );
+    Ok(())
+}
+
+#[test]
+fn each_call_of_a_new_volume_fails(rt: HostRuntime) -> Result<(), Fail> {
+    let alloc = rt.alloc();
+    // A new group of two disks has made 22 calls. Zeros go to each plex, then each is flushed, and a commit begins again where a disk fails.
+    for (call, wanted) in [
+        (23, Told::Device(0)),
+        (24, Told::Device(1)),
+        (25, Told::Device(0)),
+        (26, Told::Device(1)),
+        (27, Told::Volume(0)),
+        (32, Told::Volume(0)),
+        (33, Told::Volume(0)),
+        (38, Told::Volume(0)),
+    ] {
+        let mut group = group_of(alloc, &[call], 2)?;
+        assert_eq!(rt; make(alloc, &mut group, b"v", &plain(16, 2)), wanted);
+        let again = match wanted {
+            Told::Volume(_) => Told::Exists,
+            _ => Told::Volume(0),
+        };
+        assert_eq!(rt; make(alloc, &mut group, b"v", &plain(16, 2)), again);
+        assert_eq!(rt; get(&mut group, 0, 15), Told::Block(0));
+    }
+    Ok(())
+}
+
+#[test]
+fn each_call_of_a_write_fails(rt: HostRuntime) -> Result<(), Fail> {
+    let alloc = rt.alloc();
+    let on = Some(PlexState::Active);
+    let off = Some(PlexState::Stale);
+    // A volume of two plexes is made with call 38. A write has a call for each plex, and where one fails a commit begins with call 41.
+    for (first, second, wanted, states) in [
+        (39, 0, Told::Done, (off, on)),
+        (40, 0, Told::Done, (on, off)),
+        (39, 40, Told::Device(1), (on, on)),
+        (39, 41, Told::Done, (off, on)),
+        (40, 47, Told::Done, (on, off)),
+    ] {
+        let mut group = group_of(alloc, &[first, second], 2)?;
+        assert_eq!(rt;
+            make(alloc, &mut group, b"v", &plain(16, 2)),
+            Told::Volume(0)
+        );
+        assert_eq!(rt; put(&mut group, 0, 3, 0x11), wanted);
+        assert_eq!(rt; state(group.config(), 0, 0), states.0);
+        assert_eq!(rt; state(group.config(), 0, 1), states.1);
+        assert_eq!(rt; put(&mut group, 0, 3, 0x22), Told::Done);
+        assert_eq!(rt; flush(&mut group, 0), Told::Done);
+        assert_eq!(rt; get(&mut group, 0, 3), Told::Block(0x22));
+        assert_eq!(rt; get(&mut group, 0, 3), Told::Block(0x22));
+    }
+    Ok(())
+}
+
+#[test]
+fn each_call_of_a_detach_fails(rt: HostRuntime) -> Result<(), Fail> {
+    let alloc = rt.alloc();
+    let on = Some(PlexState::Active);
+    let off = Some(PlexState::Stale);
+    for (first, second, wanted, is) in [
+        (0, 0, Told::Done, off),
+        (39, 0, Told::Done, off),
+        (45, 0, Told::Done, off),
+        (39, 40, Told::Device(1), on),
+    ] {
+        let mut group = group_of(alloc, &[first, second], 2)?;
+        assert_eq!(rt;
+            make(alloc, &mut group, b"v", &plain(16, 2)),
+            Told::Volume(0)
+        );
+        assert_eq!(rt; det(&mut group, 0, 1), wanted);
+        assert_eq!(rt; state(group.config(), 0, 0), on);
+        assert_eq!(rt; state(group.config(), 0, 1), is);
+        assert_eq!(rt; det(&mut group, 1, 0), Told::Unknown);
+        assert_eq!(rt; det(&mut group, 0, 2), Told::Unknown);
+        assert_eq!(rt; put(&mut group, 0, 3, 0x22), Told::Done);
+        assert_eq!(rt; get(&mut group, 0, 3), Told::Block(0x22));
+    }
     Ok(())
 }
