@@ -104,7 +104,7 @@ AllAt s (e ∷ es) = IsAt s e × AllAt s es
 
 recovery_at : (t : SiteState) (s kept : ℕ) → AllAt s (recovery_of t s kept)
 recovery_at Bare s kept = ((refl, refl), tt)
-recovery_at Up s kept = (tt, (refl, refl), tt)
+recovery_at Up s kept = (tt, ((refl, refl), tt))
 recovery_at Deported s kept = ((refl, refl), tt)
 recovery_at Down s kept = ((refl, refl), tt)
 
@@ -213,17 +213,16 @@ open_of w files other c free h = absurd h
 cut_write : (w : World) (all : List Event) (s kept p volume start : ℕ) (bytes : List ℕ) (f : Option ℕ) (begun : List Event) (fails : Fails) (new : World) → all ≡ WriteAt p volume start bytes f ∷ [] → p ≡ s
     → begun ≡ WriteAt p volume start bytes (Some 0) ∷ [] → IsOpen (w.nodes s) × (s < w.sites) → IsFused (w.nodes s).fuse → fails ≡ [] → IsLike (run w (begun ++ CrashAt s kept ∷ [])) new
     → (events : List Event) × CameOf all s kept events × Stops (sure w) events fails (sure new)
-cut_write w all s kept p volume start bytes f begun fails new is at begins open fused none like =
+cut_write w all s kept p volume start bytes f begun fails new is at begins runs fused none like =
     let e : Event = WriteAt s volume start bytes (Some 0) in
     let here : begun ≡ e ∷ [] = begins ∙ ap (λ (k : ℕ). WriteAt k volume start bytes (Some 0) ∷ []) at in
-    let cut : IsLike (run w (e ∷ CrashAt s kept ∷ [])) new = subst (λ (es : List Event). IsLike (run w (es ++ CrashAt s kept ∷ [])) new) here like in
-    (
+    let cut : IsLike (run w (e ∷ CrashAt s kept ∷ [])) new = subst (λ (es : List Event). IsLike (run w (es ++ CrashAt s kept ∷ [])) new) here like in (
       e ∷ [],
       Broken [] (WriteAt p volume start bytes f) [] begun 0 is begins (sym here),
       Cuts e s kept true (sure w)
-      (record { before = []; rest = []; split = refl; runs = refl; fails = refl; opens = open.0; writes = refl })
-      fused none
-      (record { worlds = like_then (cut_like w s volume start bytes kept open.1 open.0.0) cut; after = λ k. sym (cut_sure w s volume start bytes kept open.1 open.0.0 k) }),
+          (record { before = []; rest = []; split = refl; runs = refl; fails = refl; opens = runs.0; writes = refl })
+          fused none
+          (record { worlds = like_then (cut_like w s volume start bytes kept runs.1 runs.0.0) cut; after = λ k. sym (cut_sure w s volume start bytes kept runs.1 runs.0.0 k) }),
     )
   where
     like_then : {x y z : World} → IsLike x y → IsLike y z → IsLike x z
@@ -240,14 +239,14 @@ cut_write w all s kept p volume start bytes f begun fails new is at begins open 
 -- a fuse that ran out
 fuse_ended : (w : World) (all : List Event) (s kept : ℕ) (e : Event) (begun : List Event) (fails : Fails) (new : World) → all ≡ e ∷ [] → IsAt s e → (BeginsWrite (e ∷ []) → IsOpen (w.nodes s) × (s < w.sites)) → BegunOf e begun
     → IsFused (w.nodes s).fuse → fails ≡ [] → IsLike (run w (begun ++ CrashAt s kept ∷ [])) new → (events : List Event) × CameOf all s kept events × Stops (sure w) events fails (sure new)
-fuse_ended w all s kept (WriteAt p volume start bytes f) begun fails new is at open begins fused none like =
-    cut_write w all s kept p volume start bytes f begun fails new is at.0 begins (open tt) fused none like
-fuse_ended w all s kept (ApplyAt p count reached) begun fails new is at open begins fused none like = (
+fuse_ended w all s kept (WriteAt p volume start bytes f) begun fails new is at may_write begins fused none like =
+    cut_write w all s kept p volume start bytes f begun fails new is at.0 begins (may_write tt) fused none like
+fuse_ended w all s kept (ApplyAt p count reached) begun fails new is at may_write begins fused none like = (
   CrashAt s kept ∷ [],
   Crashed (ApplyAt p count reached) is refl refl,
   all_stop w (CrashAt s kept ∷ []) fails new none (subst (λ (es : List Event). IsLike (run w (es ++ CrashAt s kept ∷ [])) new) begins like),
 )
-fuse_ended w all s kept other begun fails new is at open begins fused none like = absurd begins
+fuse_ended w all s kept other begun fails new is at may_write begins fused none like = absurd begins
 
 -- a line that no test refuses
 module _ (told : Type 0) (is_told : told) (w : World) (files : Bool) (line : ScriptLine) (free : refusal_of (facts_of w) files line ≡ None) where

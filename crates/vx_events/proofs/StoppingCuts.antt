@@ -1,6 +1,6 @@
 -- A fuse that runs out in a write: the crash that keeps it or not is one of a site that may be as it was, or as it is behind the write.
 use Rattle.std.proofs.Common.{◌≡◌, ◌∙◌, ℕ, Bool, true, false, List, [], ◌∷◌, ap, sym, subst, refl}
-use Rattle.std.specs.Prelude.{Option, Some, None, if◌then◌else◌, leb, not, ◌+◌}
+use Rattle.std.specs.Prelude.{Option, Some, None, if◌then◌else◌, leb, not, ◌+◌, ◌<◌}
 use Rattle.vx_model.specs.Answer.{is_too_large}
 use Rattle.vx_model.specs.Content.{Write as WriteBlocks, blocks_in}
 use Rattle.vx_model.specs.Sites.{is_origin, is_up}
@@ -213,22 +213,22 @@ module _ (w : World) (s volume start : ℕ) (bytes : List ℕ) (kept : ℕ) (bel
         gathering = moved.gathering;
       }
 
+  headers_apart : {x y : World} {h : ℕ → ℕ} → IsLike x y → IsLike x (record y { headers = h })
+  headers_apart like = record { sites = like.sites; nodes = like.nodes; links = like.links; lines = like.lines; packets = like.packets; promised = like.promised; gathering = like.gathering }
+
+  -- the crash of the site as it is behind the write
+  abbrev crashed_may : World
+  crashed_may = crash_at (resolved told s may) s (kept_of ((resolved told s may).nodes s) kept)
+
   -- with it on the disks, the crash is that behind the write
   pub cut_like : IsLike (crashed_as (halved (sure w) e s 0) s kept true).world (run w (e ∷ CrashAt s kept ∷ []))
   cut_like =
-      let after : (halved (sure w) e s 0).after s ≡ Some may = at_place (λ k. None) s (Some may) in
-      let a : World = resolved told s may in
-      let like : IsLike a' (crash_at v s (kept_of (v.nodes s) kept)) = crashes_like s kept a v near in
-      let there : (crashed_as (halved (sure w) e s 0) s kept true).world ≡ a' = ap (λ (o : Option After). crash_at (taken_up told s o) s (kept_of ((taken_up told s o).nodes s) kept)) after in
+      let after : (halved (sure w) e s 0).after s ≡ Some may = at_place (λ (k : ℕ). let o : Option After = None in o) s (Some may) in
+      let like : IsLike crashed_may (crash_at v s (kept_of (v.nodes s) kept)) = crashes_like s kept (resolved told s may) v near in
+      let there : (crashed_as (halved (sure w) e s 0) s kept true).world ≡ crashed_may = ap (λ (o : Option After). crash_at (taken_up told s o) s (kept_of ((taken_up told s o).nodes s) kept)) after in
       let behind : outcome_of v (CrashAt s kept) ≡ done (crash_at v s (kept_of (v.nodes s) kept)) = crash_step v s kept (subst (λ (n : ℕ). s < n) (sym moved.sites) below) (moved.up up) in
       subst (λ (x : World). IsLike x (run w (e ∷ CrashAt s kept ∷ []))) (sym there)
-      (subst (λ (o : Outcome). IsLike a' (record o.world { headers = λ i. v.headers i + headers_by (CrashAt s kept) v o i })) (sym behind) (headers_apart like))
-    where
-      abbrev a' : World
-      a' = crash_at (resolved told s may) s (kept_of ((resolved told s may).nodes s) kept)
-
-      headers_apart : {x y : World} {h : ℕ → ℕ} → IsLike x y → IsLike x (record y { headers = h })
-      headers_apart like = record { sites = like.sites; nodes = like.nodes; links = like.links; lines = like.lines; packets = like.packets; promised = like.promised; gathering = like.gathering }
+      (subst (λ (o : Outcome). IsLike crashed_may (record o.world { headers = λ i. v.headers i + headers_by (CrashAt s kept) v o i })) (sym behind) (headers_apart like))
 
   -- and no site is in doubt
   pub cut_sure : (k : ℕ) → (crashed_as (halved (sure w) e s 0) s kept true).after k ≡ None
