@@ -45,7 +45,8 @@ def direct(crate, known):
 def unmapped():
     """What the pages on crates lack."""
     known = stands()
-    rows = dict(re.findall(r'^\| (vx\w*) \|.*\| ([^|]*) \|$', MAP.read_text(), re.M))
+    table = MAP.read_text().split('\n## The crates\n')[1].split('\n## ')[0]
+    rows = dict(re.findall(r'^\| (vx\w*) \|.*\| ([^|]*) \|$', table, re.M))
     told = re.findall(r'^\*\*(vx\w*)\*\* ', PROMISES.read_text(), re.M)
     for crate in known:
         if rows.get(crate) != (', '.join(direct(crate, known)) or 'none'):
