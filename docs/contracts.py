@@ -2,7 +2,7 @@
 """Lists every public call with the names of its clauses, in docs/CONTRACTS.md.
 
 contracts.py --write   writes the list
-contracts.py           fails where the list is not that of the sources, where a clause that a table of promises names is not in it, or where
+contracts.py           fails where the list is not that of the sources, where a clause that a page names is not in it, or where
                        the pages on crates do not have each crate of crates.txt with what it stands on
 """
 import re
@@ -11,7 +11,6 @@ from pathlib import Path
 
 ROOT = Path(__file__).resolve().parent.parent
 LIST = ROOT / 'docs' / 'CONTRACTS.md'
-TABLES = [ROOT / 'README.md', ROOT / 'docs' / 'AHEAD.md']
 MAP = ROOT / 'docs' / 'ARCHITECTURE.md'
 PROMISES = ROOT / 'docs' / 'CRATES.md'
 HEAD = '''# Contracts
@@ -136,11 +135,9 @@ def listed():
 
 
 def cited():
-    """The clauses that the tables of promises name, as `crate call clause`."""
-    for page in TABLES:
-        for row in page.read_text().splitlines():
-            if row.startswith('|'):
-                yield from ((page.name, *one) for one in re.findall(r'`(vx_\w+) ([\w:]+) (\w+)`', row))
+    """The clauses that the pages name, as `crate call clause`."""
+    for page in [ROOT / 'README.md', *sorted((ROOT / 'docs').glob('*.md'))]:
+        yield from ((page.name, *one) for one in re.findall(r'`(vx_\w+) ([\w:]+) (\w+)`', page.read_text()))
 
 
 def main():
@@ -154,7 +151,7 @@ def main():
     known = {(crate, name, clause) for crate in crates() for name, clauses in calls(crate) for _, clause in clauses}
     wrong += [f'{page} names {" ".join(one)}, which is no clause' for page, *one in cited() if tuple(one) not in known]
     wrong += unmapped()
-    print('\n'.join(wrong) or 'contracts: the list, the tables of promises and the pages on crates are those of the sources')
+    print('\n'.join(wrong) or 'contracts: the list, the clauses that pages name and the pages on crates are those of the sources')
     return 1 if wrong else 0
 
 
