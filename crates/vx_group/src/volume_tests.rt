@@ -127,7 +127,7 @@ fn group_of(alloc: Global, fails: &[u64], disks: u32) -> Result<Group<MemShelf>,
         Ok(shelf) => shelf,
         Err(_) => return Err(OutOfMemory),
     };
-    if shelf.fit(alloc, None, 7, disks, 1024).is_err() {
+    if disks == 0 || shelf.fit(alloc, None, 7, disks, 1024).is_err() {
         return Err(OutOfMemory);
     }
     if shelf.units() == 0 || shelf.units() > 8 {
