@@ -27,17 +27,47 @@ use Rattle.vx_burst.specs.Finishing.{Went, Underway, IsSound, Excused, IsCalm, S
 use Rattle.vx_burst.proofs.Underways.{job_entry, jobs-among, asked-jobs, get-some, underway-brings, underway-acts}
 
 -- jobs at the end change nothing of what stays
-pub stay-jobs : (xs more ys : Events) → ((ask : Ask) (said : Said) → Among (ask, said) more → IsJob ask said) → Stay xs ys → Stay (xs ++ more) ys
-stay-jobs [] [] ys jobs s = s
-stay-jobs [] ((Charged j, said) ∷ ms) ys jobs s = inl (tt, stay-jobs [] ms ys (λ ask other m. jobs ask other (suc m.0, m.1)) s)
-stay-jobs [] ((Ordered c, said) ∷ ms) ys jobs s = absurd (jobs (Ordered c) said (0, refl))
-stay-jobs (x ∷ xs) more ys jobs s = ⊎_elim (λ (o : IsIdle x.0 x.1 × Stay xs ys). inl (o.0, stay-jobs xs more ys jobs o.1))
-    (λ (o : (zs : Events) × (ys ≡ x ∷ zs) × Rattle.vx_burst.specs.Finishing.IsOrdered x.0 × Stay xs zs). inr (o.0, o.1, o.2, stay-jobs xs more o.0 jobs o.3)) s
+pub stay-jobs : (IsLeft : ℕ → Call → Type 0) (n : ℕ) (xs more ys : Events) → ((ask : Ask) (said : Said) → Among (ask, said) more → IsJob ask said) → Stay IsLeft n xs ys → Stay IsLeft n (xs ++ more) ys
+stay-jobs IsLeft n [] [] ys jobs s = s
+stay-jobs IsLeft n [] ((Charged j, said) ∷ ms) ys jobs s = inl (tt, stay-jobs IsLeft n [] ms ys (λ ask other m. jobs ask other (suc m.0, m.1)) s)
+stay-jobs IsLeft n [] ((Ordered c, said) ∷ ms) ys jobs s = absurd (jobs (Ordered c) said (0, refl))
+stay-jobs IsLeft n (x ∷ xs) more ys jobs s = ⊎_elim (λ (o : IsLeftOut IsLeft n x.0 x.1 × Stay IsLeft n xs ys). inl (o.0, stay-jobs IsLeft n xs more ys jobs o.1))
+    (λ (o : (zs : Events) × (ys ≡ x ∷ zs) × IsOrdered x.0 × Stay IsLeft (suc n) xs zs). inr (o.0, o.1, o.2, stay-jobs IsLeft (suc n) xs more o.0 jobs o.3)) s
 
-pub stay-call : (xs ys : Events) (x : Ask × Said) → Rattle.vx_burst.specs.Finishing.IsOrdered x.0 → Stay xs ys → Stay (xs ++ x ∷ []) (ys ++ x ∷ [])
-stay-call [] ys x o s = inr ([], ap (λ l. l ++ x ∷ []) s, o, refl)
-stay-call (z ∷ xs) ys x o s = ⊎_elim (λ (p : IsIdle z.0 z.1 × Stay xs ys). inl (p.0, stay-call xs ys x o p.1))
-    (λ (p : (zs : Events) × (ys ≡ z ∷ zs) × Rattle.vx_burst.specs.Finishing.IsOrdered z.0 × Stay xs zs). inr (p.0 ++ x ∷ [], ap (λ l. l ++ x ∷ []) p.1, p.2, stay-call xs p.0 x o p.3)) s
+pub stay-call : (IsLeft : ℕ → Call → Type 0) (n : ℕ) (xs ys : Events) (x : Ask × Said) → IsOrdered x.0 → Stay IsLeft n xs ys → Stay IsLeft n (xs ++ x ∷ []) (ys ++ x ∷ [])
+stay-call IsLeft n [] ys x o s = inr ([], ap (λ l. l ++ x ∷ []) s, o, refl)
+stay-call IsLeft n (z ∷ xs) ys x o s = ⊎_elim (λ (p : IsLeftOut IsLeft n z.0 z.1 × Stay IsLeft n xs ys). inl (p.0, stay-call IsLeft n xs ys x o p.1))
+    (λ (p : (zs : Events) × (ys ≡ z ∷ zs) × IsOrdered z.0 × Stay IsLeft (suc n) xs zs). inr (p.0 ++ x ∷ [], ap (λ l. l ++ x ∷ []) p.1, p.2, stay-call IsLeft (suc n) xs p.0 x o p.3)) s
+
+-- the same calls stay where another reason to leave one out holds wherever the first does
+pub stay-as : (IsLeft IsToo : ℕ → Call → Type 0) (n : ℕ) (xs ys : Events) → ((m : ℕ) (call : Call) → m ≤ n + length ys → IsLeft m call → IsToo m call) → Stay IsLeft n xs ys → Stay IsToo n xs ys
+stay-as IsLeft IsToo n [] ys f s = s
+stay-as IsLeft IsToo n (x ∷ xs) ys f s = ⊎_elim (λ (o : IsLeftOut IsLeft n x.0 x.1 × Stay IsLeft n xs ys). inl (one x.0 x.1 o.0, stay-as IsLeft IsToo n xs ys f o.1))
+    (λ (o : (zs : Events) × (ys ≡ x ∷ zs) × IsOrdered x.0 × Stay IsLeft (suc n) xs zs).
+    let long : length ys ≡ suc (length o.0) = ap (λ l. length l) o.1 in inr (o.0, o.1, o.2, stay-as IsLeft IsToo (suc n) xs o.0 (λ m call le. f m call (omega (arith, le, long))) o.3)) s
+  where
+    one : (ask : Ask) (said : Said) → IsLeftOut IsLeft n ask said → IsLeftOut IsToo n ask said
+    one (Charged j) said h = tt
+    one (Ordered call) (Replied reply) h = (h.0, f n call (omega arith) h.1)
+    one (Ordered call) (Worked reply into) h = absurd h
+
+-- the first ones of a list that grows
+pub take-more : {A : Type 0} (n : ℕ) (xs ys : List A) → n ≤ length xs → take n (xs ++ ys) ≡ take n xs
+take-more zero xs ys le = refl
+take-more (suc n) [] ys le = absurd (omega (arith, le))
+take-more (suc n) (x ∷ xs) ys le = ap (λ l. x ∷ l) (take-more n xs ys (omega (arith, le)))
+
+pub take-front : {A : Type 0} (n : ℕ) (xs ys : List A) → n ≡ length xs → take n (xs ++ ys) ≡ xs
+take-front n [] ys is = ap (λ k. take k ys) is
+take-front zero (x ∷ xs) ys is = absurd (omega (arith, is))
+take-front (suc n) (x ∷ xs) ys is = ap (λ l. x ∷ l) (take-front n xs ys (omega (arith, is)))
+
+-- where one more member has its place, which is behind n others, each call that was left out is still asked again
+pub again-set : (plan : List Planned) (answers : List Answered) (k : ℕ) (old a : Answered) (n m : ℕ) (call : Call) → slice_get answers k ≡ Some old → old.place ≡ 0 → a.place ≡ n + 1 → m ≤ n → IsAskedAgain plan answers m call → IsAskedAgain plan (slice_set answers k a) m call
+again-set plan answers k old a n m call was none place le (j, pl, b, is, at, same, how) = decide j k at refl
+  where
+    decide : (i l : ℕ) → slice_get answers j ≡ Some b → l ≡ k → IsAskedAgain plan (slice_set answers k a) m call
+    decide i l at same-k = ?
 
 -- an answer that gets a place
 pub unplaced-set : (answers : List Answered) (k : ℕ) (a b : Answered) → slice_get answers k ≡ Some a → a.place ≡ 0 → 0 < b.place → unplaced answers ≡ unplaced (slice_set answers k b) + 1
