@@ -2,7 +2,8 @@
 """Lists every public call with the names of its clauses, in docs/CONTRACTS.md.
 
 contracts.py --write   writes the list
-contracts.py           fails where the list is not that of the sources, or where a clause that a table of promises names is not in it
+contracts.py           fails where the list is not that of the sources, where a clause that a table of promises names is not in it, or where
+                       the pages on crates do not have each crate of crates.txt with what it stands on
 """
 import re
 import sys
@@ -11,15 +12,46 @@ from pathlib import Path
 ROOT = Path(__file__).resolve().parent.parent
 LIST = ROOT / 'docs' / 'CONTRACTS.md'
 TABLES = [ROOT / 'README.md', ROOT / 'docs' / 'AHEAD.md']
+MAP = ROOT / 'docs' / 'ARCHITECTURE.md'
+PROMISES = ROOT / 'docs' / 'CRATES.md'
 HEAD = '''# Contracts
 
 Every public call, with the names of its clauses; `returns` stands for a clause that has no name. `docs/contracts.py --write` makes this list from the sources, and the checks compare it. A law is a call without a body: its clauses hold of the definitions that they name.
 '''
 
 
-def crates():
+def stands():
+    """Of each crate of crates.txt the crates of this repository that it stands on."""
     lines = (ROOT / 'crates.txt').read_text().splitlines()
-    return [line.split(':')[0] for line in lines if ':' in line and not line.startswith('#')]
+    found = {line.split(':')[0]: line.split(':')[1].split() for line in lines if ':' in line and not line.startswith('#')}
+    return {crate: [other for other in others if other in found] for crate, others in found.items()}
+
+
+def crates():
+    return list(stands())
+
+
+def below(crate, known):
+    """All crates that a crate stands on, also through others."""
+    return set(known[crate]).union(*(below(other, known) for other in known[crate]))
+
+
+def direct(crate, known):
+    """The crates that a crate stands on, but for those that these stand on themselves."""
+    through = set().union(*(below(other, known) for other in known[crate]))
+    return [other for other in known[crate] if other not in through]
+
+
+def unmapped():
+    """What the pages on crates lack."""
+    known = stands()
+    rows = dict(re.findall(r'^\| (vx\w*) \|.*\| ([^|]*) \|$', MAP.read_text(), re.M))
+    told = re.findall(r'^\*\*(vx\w*)\*\* ', PROMISES.read_text(), re.M)
+    for crate in known:
+        if rows.get(crate) != (', '.join(direct(crate, known)) or 'none'):
+            yield f'docs/ARCHITECTURE.md has no row for {crate} with what it stands on: {", ".join(direct(crate, known)) or "none"}'
+        if told.count(crate) != 1:
+            yield f'docs/CRATES.md has no paragraph on {crate}, or more than one'
 
 
 def exported(lib):
@@ -120,7 +152,8 @@ def main():
         wrong.append('docs/CONTRACTS.md is not the list of the sources: run docs/contracts.py --write')
     known = {(crate, name, clause) for crate in crates() for name, clauses in calls(crate) for _, clause in clauses}
     wrong += [f'{page} names {" ".join(one)}, which is no clause' for page, *one in cited() if tuple(one) not in known]
-    print('\n'.join(wrong) or 'contracts: the list and the tables of promises are those of the sources')
+    wrong += unmapped()
+    print('\n'.join(wrong) or 'contracts: the list, the tables of promises and the pages on crates are those of the sources')
     return 1 if wrong else 0
 
 
