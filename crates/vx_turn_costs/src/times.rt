@@ -1,0 +1,86 @@
+// The time of a call.
+ghost use Rattle.std.specs.Prelude.{◌<◌, ◌≤◌};
+ghost use Rattle.vx_burst_threads.specs.Planning.{AllCalls};
+
+use std::alloc::Global;
+use std::time::{Duration, Instant};
+use vx_burst::{MOST_THREADS, run};
+use vx_burst_threads::{OpenGate, Planned, Told, call_of, tell};
+use vx_plain::{Idle, Shut, reads};
+use vx_turn::Engine;
+
+// Nanoseconds, at most the greatest number.
+fn nanos(time: Duration) -> u64 {
+    time.as_secs()
+        .saturating_mul(1_000_000_000)
+        .saturating_add(time.subsec_nanos() as u64)
+}
+
+// Makes each call of a plan, and says how many were refused.
+fn ask_all(engine: &mut Shut, plan: &[Planned]) -> u64
+    requires { AllCalls plan.now }
+{
+    let mut refused: u64 = 0;
+    for k in 0..plan.len() {
+        let Some(planned) = plan.get(k) else {
+            unreachable!();
+        };
+        let told = tell(&engine.answer(&call_of(planned)));
+        // An answer that is not looked at could be left out by the compiler.
+        if matches!(told, Told::Refused(_)) {
+            refused = refused.saturating_add(1);
+        }
+    }
+    refused
+}
+
+/// Nanoseconds of one of so many calls that one thread makes without a turn, or the greatest number where there is no memory or clock.
+pub fn alone(rt: HostRuntime, alloc: Global, count: usize) -> u64 {
+    let Some(plan) = reads(alloc, count, 1) else {
+        return u64::MAX;
+    };
+    let mut engine = Shut::new();
+    let Ok(start) = Instant::now(&rt) else {
+        return u64::MAX;
+    };
+    let refused = ask_all(&mut engine, plan.as_slice());
+    let Ok(time) = start.elapsed(&rt) else {
+        return u64::MAX;
+    };
+    if refused == 0 {
+        return u64::MAX;
+    }
+    nanos(time) / refused
+}
+
+/// The same of calls that so many threads make through a turn, with the making of their answers.
+pub fn shared(rt: HostRuntime, alloc: Global, count: usize, threads: u32) -> u64
+    requires { (0 < threads) × (threads ≤ MOST_THREADS) }
+{
+    let Some(plan) = reads(alloc, count, threads) else {
+        return u64::MAX;
+    };
+    if count == 0 {
+        return u64::MAX;
+    }
+    let peers: Vec<Idle> = Vec::new(alloc);
+    let Ok(start) = Instant::now(&rt) else {
+        return u64::MAX;
+    };
+    let done = run(
+        &rt,
+        alloc,
+        Shut::new(),
+        peers,
+        plan.as_slice(),
+        threads,
+        &OpenGate,
+    );
+    let Ok(time) = start.elapsed(&rt) else {
+        return u64::MAX;
+    };
+    if done.is_err() {
+        return u64::MAX;
+    }
+    nanos(time) / count as u64
+}
