@@ -94,6 +94,14 @@ abbrev pub Stay : (ℕ → Call → Type 0) → ℕ → Events → Events → Ty
 Stay IsLeft n [] ys = ys ≡ []
 Stay IsLeft n (x ∷ xs) ys = (IsLeftOut IsLeft n x.0 x.1 × Stay IsLeft n xs ys) ⊎ ((zs : Events) × (ys ≡ x ∷ zs) × IsOrdered x.0 × Stay IsLeft (suc n) xs zs)
 
+-- these calls are themselves a legal history, which leads to the engine's volumes and last number
+pub record Leads (start : State) (calls : Events) (s : State) : Type 0 where
+  pub entries : List Entry
+  pub are : map asked entries ≡ calls
+  pub legal : Legal start entries
+  pub volumes_is : s.volumes ≡ (point_after (point_of start) entries).volumes
+  pub head_is : s.head ≡ (point_after (point_of start) entries).head
+
 -- the call is that of a member of the plan which has no place yet, or whose place is behind n others: it was asked again
 abbrev pub IsAskedAgain : List Planned → List Answered → ℕ → Call → Type 0
 IsAskedAgain plan answers n call = (k : ℕ) × (pl : Planned) × (a : Answered) × (slice_get plan k ≡ Some pl) × (slice_get answers k ≡ Some a) × (call ≡ call_for pl) × ((a.place ≡ 0) ⊎ (n < a.place))
