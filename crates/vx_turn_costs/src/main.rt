@@ -34,7 +34,7 @@ fn main(rt: HostRuntime) {
     let threads = [1u32, 2, 4, 8];
     for k in 0..threads.len() {
         let many = threads[k];
-        let time = shared(rt, alloc, count as usize, many.clamp(1, 8));
+        let time = shared(rt, &rt, alloc, count as usize, many.clamp(1, 8));
         let _ = println!(rt; "through a turn, {many} threads: {time} ns a call");
     }
 }

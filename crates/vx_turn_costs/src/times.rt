@@ -3,6 +3,8 @@ ghost use Rattle.std.specs.Prelude.{◌<◌, ◌≤◌};
 ghost use Rattle.vx_burst_threads.specs.Planning.{AllCalls};
 
 use std::alloc::Global;
+use std::sync::Wait;
+use std::thread::Threads;
 use std::time::{Duration, Instant};
 use vx_burst::{MOST_THREADS, run};
 use vx_burst_threads::{OpenGate, Planned, Told, call_of, tell};
@@ -54,7 +56,13 @@ pub fn alone(rt: HostRuntime, alloc: Global, count: usize) -> u64 {
 }
 
 /// The same of calls that so many threads make through a turn, with the making of their answers.
-pub fn shared(rt: HostRuntime, alloc: Global, count: usize, threads: u32) -> u64
+pub fn shared<H: Threads + Wait + Sync>(
+    clock: HostRuntime,
+    rt: &H,
+    alloc: Global,
+    count: usize,
+    threads: u32,
+) -> u64
     requires { (0 < threads) × (threads ≤ MOST_THREADS) }
 {
     let Some(plan) = reads(alloc, count, threads) else {
@@ -64,11 +72,11 @@ pub fn shared(rt: HostRuntime, alloc: Global, count: usize, threads: u32) -> u64
         return u64::MAX;
     }
     let peers: Vec<Idle> = Vec::new(alloc);
-    let Ok(start) = Instant::now(&rt) else {
+    let Ok(start) = Instant::now(&clock) else {
         return u64::MAX;
     };
     let done = run(
-        &rt,
+        rt,
         alloc,
         Shut::new(),
         peers,
@@ -76,7 +84,7 @@ pub fn shared(rt: HostRuntime, alloc: Global, count: usize, threads: u32) -> u64
         threads,
         &OpenGate,
     );
-    let Ok(time) = start.elapsed(&rt) else {
+    let Ok(time) = start.elapsed(&clock) else {
         return u64::MAX;
     };
     if done.is_err() {
