@@ -7,7 +7,7 @@ use std::sync::Wait;
 use std::thread::Threads;
 use std::time::{Duration, Instant};
 use vx_burst::{MOST_THREADS, run};
-use vx_burst_threads::{OpenGate, Planned, Told, call_of, tell};
+use vx_burst_threads::{Answered, OpenGate, Planned, Told, Waited, call_of, tell};
 use vx_plain::{Idle, Shut, reads};
 use vx_turn::Engine;
 
@@ -18,22 +18,37 @@ fn nanos(time: Duration) -> u64 {
         .saturating_add(time.subsec_nanos() as u64)
 }
 
-// Makes each call of a plan, and says how many were refused.
-fn ask_all(engine: &mut Shut, plan: &[Planned]) -> u64
+// Makes each call of a plan, and keeps what it was told behind the others, as a burst does.
+fn ask_all<E: Engine>(engine: &mut E, plan: &[Planned], answers: Vec<Answered>) -> Vec<Answered>
     requires { AllCalls plan.now }
 {
-    let mut refused: u64 = 0;
+    let mut answers = answers;
     for k in 0..plan.len() {
         let Some(planned) = plan.get(k) else {
             unreachable!();
         };
-        let told = tell(&engine.answer(&call_of(planned)));
-        // An answer that is not looked at could be left out by the compiler.
-        if matches!(told, Told::Refused(_)) {
-            refused = refused.saturating_add(1);
+        let reply = engine.answer(&call_of(planned));
+        let answered = Answered {
+            place: k as u64,
+            reply: tell(&reply),
+            waited: Waited::No,
+        };
+        if answers.push(answered).is_err() {
+            return answers;
         }
     }
-    refused
+    answers
+}
+
+// How many of these were refused. Answers that are not looked at could be left out by the compiler.
+fn count_of(answers: &[Answered]) -> u64 {
+    let mut count: u64 = 0;
+    for answered in answers.iter() {
+        if matches!(answered.reply, Told::Refused(_)) {
+            count = count.saturating_add(1);
+        }
+    }
+    count
 }
 
 /// Nanoseconds of one of so many calls that one thread makes without a turn, or the greatest number where there is no memory or clock.
@@ -45,14 +60,18 @@ pub fn alone(rt: HostRuntime, alloc: Global, count: usize) -> u64 {
     let Ok(start) = Instant::now(&rt) else {
         return u64::MAX;
     };
-    let refused = ask_all(&mut engine, plan.as_slice());
+    let Ok(answers) = Vec::with_capacity(alloc, count) else {
+        return u64::MAX;
+    };
+    let answers = ask_all(&mut engine, plan.as_slice(), answers);
     let Ok(time) = start.elapsed(&rt) else {
         return u64::MAX;
     };
-    if refused == 0 {
+    let made = count_of(answers.as_slice());
+    if made == 0 {
         return u64::MAX;
     }
-    nanos(time) / refused
+    nanos(time) / made
 }
 
 /// The same of calls that so many threads make through a turn, with the making of their answers.
