@@ -8,6 +8,7 @@ use Rattle.vx_turn.specs.declared.ask.Ask.TheVariants.{Ordered, Charged}
 use Rattle.vx_turn.specs.declared.ask.Said.{Said}
 use Rattle.vx_turn.specs.declared.ask.Said.TheVariants.{Replied, Worked}
 use Rattle.vx_turn.specs.declared.ask.Job.{Job}
+use Rattle.vx_turn.specs.declared.ask.Job.TheVariants.{Acked}
 use Rattle.vx_turn.specs.declared.ask.JobReply.TheVariants as job
 use Rattle.vx_turn.specs.declared.meaning.Entry.{Entry}
 use Rattle.vx_turn.specs.declared.meaning.State.{State}
@@ -24,7 +25,7 @@ use Rattle.vx_burst_threads.specs.declared.plan.Planned.{Planned}
 use Rattle.vx_burst_threads.specs.declared.plan.Answered.{Answered}
 use Rattle.vx_burst_threads.specs.Planning.{call_for}
 use Rattle.vx_burst.specs.Setting.{one_if}
-use Rattle.vx_burst.specs.Finishing.{Went, Underway, IsSound, Excused, IsCalm, Splits, head_behind, IsLeftOut, IsOrdered, IsOfPlan, Stay, IsAskedAgain, AreBefore, unplaced, ArePlaced, HasExcuse, IsPlaced, Stage, StagesOn, AskedOne}
+use Rattle.vx_burst.specs.Finishing.{AckWithin, Went, Underway, IsSound, AreApart, Excused, IsCalm, Splits, head_behind, IsLeftOut, IsOrdered, IsOfPlan, Stay, IsAskedAgain, AreBefore, unplaced, ArePlaced, HasExcuse, IsPlaced, Stage, StagesOn, AskedOne}
 use Rattle.vx_burst.proofs.Underways.{job_entry, jobs-among, asked-jobs, get-some, underway-brings, underway-acts}
 
 -- jobs at the end change nothing of what stays
@@ -99,6 +100,12 @@ unplaced-set (x ∷ xs) zero a b at none some = let e : one_if (x.place == 0) �
     let f : one_if (b.place == 0) ≡ 0 = ap one_if (ne_eqb b.place 0 (λ z. absurd (omega (arith, z, some)))) in omega (arith, e, f)
 unplaced-set (x ∷ xs) (suc k) a b at none some = let r = unplaced-set xs k a b at none some in omega (arith, r)
 
+-- an event of a history is that of one of its entries
+asked-entry : (es : List Entry) (i : ℕ) (x : Ask × Said) → slice_get (map asked es) i ≡ Some x → (e : Entry) × Among e es × (asked e ≡ x)
+asked-entry [] i x at = absurd (cc at)
+asked-entry (e ∷ es) zero x at = (e, (0, refl), some-one at)
+asked-entry (e ∷ es) (suc i) x at = let r = asked-entry es i x at in (r.0, (suc r.1.0, r.1.1), r.2)
+
 -- a job is no call
 pub job-of-plan : (plan : List Planned) (ask : Ask) (said : Said) → IsJob ask said → IsOfPlan plan ask
 job-of-plan plan (Charged j) said is = tt
@@ -123,7 +130,7 @@ module _ {P : Type 0} (stand : P → Stand) (root : P → P) where
           record { entry = f.1.entry; rest = f.1.rest ++ more; is = ap (λ l. l ++ more) f.1.is ∙ append_assoc (f.0 ++ f.1.entry ∷ []) f.1.rest more; asks = f.1.asks; says = f.1.says },
           f.2,
           λ i p q first now. let inside = get-inside qs i q now in let g = get-some ps i (omega (arith, long, inside)) in let go = goes i g.0 q g.1 now in let e = f.3 i p g.0 first g.1 in
-              (e.0, e.1, (let a = e.2 in let b = go.net in omega (arith, a, b)), λ sound. e.3 (record { line = sound.line; calm = calm-first (stand p).faults (stand g.0).faults (stand q).faults go.faults sound.calm; kept = sound.kept; logged = sound.logged; there = sound.there })),
+              (e.0, e.1, (let a = e.2 in let b = go.net in omega (arith, a, b)), e.3, λ sound. e.4 (record { line = sound.line; calm = calm-first (stand p).faults (stand g.0).faults (stand q).faults go.faults sound.calm; kept = sound.kept; logged = sound.logged; there = sound.there })),
         ),
       )
 
@@ -134,6 +141,18 @@ module _ {P : Type 0} (stand : P → Stand) (root : P → P) where
       decide true n = absurd (n refl)
       decide false n = refl
 
+  -- no acknowledgement of a peer's link has a number above the peer's, where no other is of this link
+  below-peer : (start : State) (firsts : List P) (log : List Entry) (s : State) (ps : List P) → Underway stand root start firsts log s ps → (i : ℕ) (p q : P) (n stored : ℕ) (said : Said) → AreApart stand root firsts
+      → slice_get firsts i ≡ Some p → slice_get ps i ≡ Some q → Among (Charged (Acked (stand p).link n stored), said) (map asked log) → n ≤ (stand q).net
+  below-peer start firsts log s ps u i p q n stored said apart first now m =
+      let e = asked-entry log m.0 (Charged (Acked (stand p).link n stored), said) m.1 in
+      let w : AckWithin stand root ps (Charged (Acked (stand p).link n stored)) = subst (λ (x : Ask × Said). AckWithin stand root ps x.0) e.2 (u.acks e.0 e.1) in
+      let inside = get-inside ps w.0 w.1 w.2 in let long = u.long in let f = get-some firsts w.0 (omega (arith, inside, long)) in
+      let links : (stand f.0).link ≡ (stand p).link = sym (u.each w.0 f.0 w.1 f.1 w.2).goes.link ∙ sym w.3 in
+      let same : w.0 ≡ i = apart w.0 i f.0 p f.1 first links in
+      let is : w.1 ≡ q = some-one (sym w.2 ∙ (ap (slice_get ps) same ∙ now)) in
+      let net : (stand w.1).net ≡ (stand q).net = ap (λ (x : P). (stand x).net) is in let low = w.4 in omega (arith, net, low)
+
   -- the peers were brought: each that is sound has acknowledged the last logged number
   pub brought-excuse : (start : State) (firsts : List P) (log : List Entry) (s mid t : State) (ps qs : List P) → Underway stand root start firsts log s ps → (b : BringsAll stand root s ps mid qs) → mid.counts.faults ≤ t.counts.faults
       → (Rose start.counts.faults t.counts.faults → ⊥) → NoLimit b.moves.more → (number : ℕ) → number ≤ s.head → Excused stand root start firsts qs (log ++ map (job_entry s.counts) b.moves.more) number
@@ -143,6 +162,7 @@ module _ {P : Type 0} (stand : P → Stand) (root : P → P) where
         (stand q).net,
         (let x = w.goes.net in let y = go.net in omega (arith, x, y)),
         omega arith,
+        λ apart n stored said m. below-peer start firsts (log ++ map (job_entry s.counts) b.moves.more) mid qs (underway-brings stand root start firsts log s mid ps qs a b) i p q n stored said apart first now m,
         λ sound.
             let seen : map asked (log ++ map (job_entry s.counts) b.moves.more) ≡ map asked log ++ b.moves.more = map-append asked log (map (job_entry s.counts) b.moves.more) ∙ ap (λ l. map asked log ++ l) (asked-jobs s.counts b.moves.more) in
             let since = a.fits.0.since.0 in let rises = b.moves.rises.0 in

@@ -28,6 +28,10 @@ use Rattle.vx_burst_threads.specs.declared.plan.Waited.TheVariants as waited
 use Rattle.vx_burst_threads.specs.Planning.{call_for, IsTold, IsStalled}
 use Rattle.vx_burst.specs.Setting.{one_if}
 
+-- no acknowledgement of this link has a number above this one
+abbrev pub NoneAbove : ℕ → ℕ → Events → Type 0
+NoneAbove link net es = (n stored : ℕ) (said : Said) → Among (Charged (Acked link n stored), said) es → n ≤ net
+
 module _ {P : Type 0} (stand : P → Stand) (root : P → P) where
   -- the peer p became q: each update that it got was logged in the history, or kept at the start
   pub record Went (start : State) (log : List Entry) (p q : P) : Type 0 where
@@ -58,10 +62,15 @@ module _ {P : Type 0} (stand : P → Stand) (root : P → P) where
     pub logged : (u : Update) → HasLogged start.line front u → LiesIn (stand p).sizes u
     pub there : NoGone (net + 1) (map asked front)
 
-  -- each peer that is sound at the end of these events had acknowledged this number before it, and was not refused
+  -- no two peers are of one link
+  abbrev pub AreApart : List P → Type 0
+  AreApart ps = (i j : ℕ) (p q : P) → slice_get ps i ≡ Some p → slice_get ps j ≡ Some q → (stand p).link ≡ (stand q).link → i ≡ j
+
+  -- each peer that is sound at the end of these events, where it has received up to net, had acknowledged this number before it, and was
+  -- not refused. No acknowledgement of its link has a number above net until then
   abbrev pub Excused : State → List P → List P → List Entry → ℕ → Type 0
   Excused start firsts ps front number = (i : ℕ) (p q : P) → slice_get firsts i ≡ Some p → slice_get ps i ≡ Some q
-      → (net : ℕ) × ((stand p).net ≤ net) × (net ≤ (stand q).net) × (IsSound start front p q net → HasAcked (stand p).link number (map asked front))
+      → (net : ℕ) × ((stand p).net ≤ net) × (net ≤ (stand q).net) × (AreApart firsts → NoneAbove (stand p).link net (map asked front)) × (IsSound start front p q net → HasAcked (stand p).link number (map asked front))
 
 -- the count of faults did not rise in the run, and no job was refused for a greatest number or a digest
 abbrev pub IsCalm : State → List Entry → State → Type 0
