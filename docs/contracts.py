@@ -3,7 +3,7 @@
 
 contracts.py --write   writes the list, and then tests the pages as below
 contracts.py           fails where the list is not that of the sources, where a clause that a page names is not in it, where the pages
-                       on crates do not have each crate of crates.txt with what it stands on, or where a name in backquotes on the
+                       on crates do not have and draw each crate of crates.txt with what it stands on, or where a name in backquotes on the
                        pages on definitions, crates and decisions stands in no source
 """
 import re
@@ -46,12 +46,15 @@ def direct(crate, known):
 def unmapped():
     """What the pages on crates lack."""
     known = stands()
-    table = MAP.read_text().split('\n## The crates\n')[1].split('\n## ')[0]
+    drawing, table = MAP.read_text().split('\n## The crates\n')
+    table = table.split('\n## ')[0]
     rows = dict(re.findall(r'^\| (vx\w*) \|.*\| ([^|]*) \|$', table, re.M))
     told = re.findall(r'^\*\*(vx\w*)\*\* ', PROMISES.read_text(), re.M)
     for crate in known:
         if rows.get(crate) != (', '.join(direct(crate, known)) or 'none'):
             yield f'docs/ARCHITECTURE.md has no row for {crate} with what it stands on: {", ".join(direct(crate, known)) or "none"}'
+        if not re.search(rf'\b{crate}\b', drawing.split('\n## The map\n')[1]):
+            yield f'docs/ARCHITECTURE.md does not draw {crate}'
         if told.count(crate) != 1:
             yield f'docs/CRATES.md has no paragraph on {crate}, or more than one'
 
