@@ -78,6 +78,7 @@ fn two_threads_are_at_the_gate_at_once(rt: HostRuntime) -> Result<(), Fail> {
         return Err("no memory".into());
     };
     is_refused(&rt, &outcome, 2);
+    assert!(&rt; gate.threes.load(Ordering::SeqCst) == 2);
     assert!(&rt; gate.late.load(Ordering::SeqCst) == 0);
     Ok(())
 }

@@ -198,6 +198,8 @@ fn two_writers_see_each_other(rt: HostRuntime) -> Result<(), Fail> {
     let Some(outcome) = small_burst(&rt, rt.alloc(), &gate, 8, [2, 2], plan.as_slice(), 2) else {
         return Err("no memory".into());
     };
+    assert!(&rt; gate.counts.threes.load(Ordering::SeqCst) == 2);
+    assert!(&rt; gate.counts.ones.load(Ordering::SeqCst) == 2);
     assert!(&rt; gate.counts.late.load(Ordering::SeqCst) == 0);
     places(&rt, outcome.answers.as_slice());
     are_confirmed(&rt, outcome.answers.as_slice());
@@ -232,6 +234,8 @@ fn a_writer_and_a_worker_see_each_other(rt: HostRuntime) -> Result<(), Fail> {
     let Some(outcome) = small_burst(&rt, rt.alloc(), &gate, 8, [2, 2], plan.as_slice(), 1) else {
         return Err("no memory".into());
     };
+    assert!(&rt; gate.counts.threes.load(Ordering::SeqCst) == 2);
+    assert!(&rt; gate.counts.twos.load(Ordering::SeqCst) >= 1);
     assert!(&rt; gate.counts.late.load(Ordering::SeqCst) == 0);
     places(&rt, outcome.answers.as_slice());
     are_confirmed(&rt, outcome.answers.as_slice());
