@@ -7,3 +7,8 @@ pub mod ReadyLemmas
 pub mod CreateLemmas
 pub mod DetLemmas
 pub mod DeportLemmas
+pub mod CopyLemmas
+pub mod FoundLemmas
+pub mod ResumeLemmas
+pub mod MendLemmas
+pub mod FinishLemmas

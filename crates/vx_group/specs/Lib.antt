@@ -6,3 +6,7 @@ pub mod Laws
 pub mod Creates
 pub mod Dets
 pub mod Deports
+pub mod Copying
+pub mod Resumes
+pub mod Mends
+pub mod Finishes

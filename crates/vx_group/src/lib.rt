@@ -3,6 +3,7 @@
 //! A write goes to each plex that is ACTIVE. Where some of them fail, they are made STALE by a commit before the answer.
 #![tactic(auto)]
 
+mod copying;
 mod counting;
 mod create;
 mod deporting;
@@ -11,9 +12,13 @@ mod detaching;
 mod flushing;
 mod group;
 mod group_core;
+mod importing;
 mod marking;
+mod mending;
+mod planning;
 mod reading;
 mod settling;
+mod taking;
 mod writing;
 
 pub use group::Group;
