@@ -12,3 +12,4 @@ pub mod FoundLemmas
 pub mod ResumeLemmas
 pub mod MendLemmas
 pub mod FinishLemmas
+pub mod PlanLemmas

@@ -96,18 +96,18 @@ pub record IsFresh (core : GroupCore) : Type 0 where
   pub sure : (v : ℕ) → marked core.unsure v ≡ false
 
 -- What is made of a configuration: its plexes that are CLEAN are ACTIVE, which of its volumes stopped uncleanly, and which plex of each is gone by.
-pub record IsPlan (c : Config) (good : ℕ) (plan : Plan) : Type 0 where
+pub record IsPlan (c : Config) (set : ℕ) (plan : Plan) : Type 0 where
   pub serial : c.serial ≤ greatest - margin
   pub few : length c.volumes ≤ MOST_VOLUMES
-  pub some : HasGood c.disks good
+  pub some : HasGood c.disks set
   pub small : (v : ℕ) → blocks_of c.volumes v < 2 ^ 64
   pub opens : OpenVolumes 0 c plan.core.config
   pub sound : IsTrue (is_sound plan.core.config)
-  pub good : plan.core.good ≡ good
+  pub good : plan.core.good ≡ set
   pub unsettled : plan.core.unsettled ≡ true
   pub fresh : IsFresh plan.core
   pub stopped : (v : ℕ) → v < length c.volumes → marked plan.stopped v ≡ stopped c v
-  pub sources : (v : ℕ) → v < length c.volumes → source_at plan.sources v ≡ source_of good plan.core.config v
+  pub sources : (v : ℕ) → v < length c.volumes → source_at plan.sources v ≡ source_of set plan.core.config v
 
 abbrev pub Planned : Config → ℕ → Result Plan Stop → Type 0
 Planned c good (Ok plan) = IsPlan c good plan
@@ -118,7 +118,7 @@ Planned c good (Err OutOfMemory) = Unit {0}
 pub record IsTaken (old new : Meaning) (plan : Plan) : Type 0 where
   pub config : Config
   pub up : TakenUp old new config plan.core.config
-  pub plan : IsPlan (returned up.readable config) (good_set config.disks) plan
+  pub made : IsPlan (returned up.readable config) (good_set config.disks) plan
   pub stands : Stands plan.core new
 
 -- a configuration was found that is not taken up

@@ -7,7 +7,7 @@ use Rattle.vx_kept.proofs.OpenLemmas.{volumes_start, volumes_step}
 use Rattle.vx_kept.proofs.cleaning.make_open.Goals as goal
 
 pub loop-turn-init : goal.loop-turn-init
-loop-turn-init c = ((λ (x : Config) (marks : List Bool) is on. is), volumes_start _ c.args.config.now (let count = ap length c.as_slice.ensures.volumes in omega (arith, count)), (λ can. can), (λ sound. sound))
+loop-turn-init c = ((λ (x : Config) (marks : List Bool) is on. let same : length x.volumes ≡ length x.volumes - 0 = omega arith in is ∙ ap (cleaned marks x) same), volumes_start _ c.args.config.now (let count = ap length c.as_slice.ensures.volumes in omega (arith, count)), (λ can. can), (λ sound. sound))
 
 pub loop-turn-preserved : goal.loop-turn-preserved
 loop-turn-preserved c = (
