@@ -54,11 +54,18 @@ sees_wider c d G m m' shape on units size i sees =
     let it = sees_same d G m' m (sym units) (λ u. sym (size u)) i sees in
     record { config = it.config; found = it.found; kin = kin_wider it.config it.kin; others = λ R g x no. absurd no }
   where
+    there : (w : ℕ) → w < length c.volumes → w < length d.volumes
+    there w lt = let same : length d.volumes ≡ length c.volumes = shape.volumes in omega (arith, same, lt)
+
     kin_wider : (x : Config) → Kin d x → Kin c x
     kin_wider x kin = record {
-      shape = then_shape x d c kin.shape shape;
-      on = λ w p is. on w p (kin.on w p is);
-      some = λ w lt. kin.some w (let same : length d.volumes ≡ length c.volumes = shape.volumes in omega (arith, same, lt));
+      shape = record {
+        volumes = let le = kin.shape.volumes in let same = shape.volumes in omega (arith, le, same);
+        blocks = λ w lt. kin.shape.blocks w (there w lt) ∙ shape.blocks w;
+        place = λ w p b lt. kin.shape.place w p b (there w lt) ∙ shape.place w p b;
+      };
+      on = λ w p lt is. on w p (kin.on w p (there w lt) is);
+      some = λ w lt. kin.some w (there w lt);
     }
 
 -- ---- serials that were used

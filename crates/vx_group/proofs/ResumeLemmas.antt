@@ -30,7 +30,7 @@ use Rattle.vx_kept.specs.Commits.{Member}
 use Rattle.vx_kept.specs.Groups.{found, found_by, group_meaning}
 use Rattle.vx_kept.specs.Keeping.{AllOn, Kept, Kin, SameShape}
 use Rattle.vx_kept.specs.Opens.{OpenVolumes}
-use Rattle.vx_kept.proofs.Chosen.{live_volumes, place_volumes}
+use Rattle.vx_kept.proofs.Chosen.{live_volumes, place_volumes, same_extends}
 use Rattle.vx_kept.proofs.Facts.{to_fact}
 use Rattle.vx_kept.proofs.Low.{found_same}
 use Rattle.vx_kept.proofs.Narrower.{sound_chosen, stand_apart, wanted_sound}
@@ -125,8 +125,8 @@ module _ (old new : Meaning) (law : Lawful old) (law' : Lawful new) (goes : Goes
   -- the configuration that was found is of its kind
   pub found_kin : Kin c x
   found_kin = record {
-    shape = c_shape;
-    on = λ v p is. c_on.each v p (c_lives v p ∙ is);
+    shape = same_extends x c c_shape;
+    on = λ v p lt is. c_on.each v p (c_lives v p ∙ is);
     some = λ v lt. sound_chosen x (wanted_sound old.units old.size x x_wanted) v (let same : length x.volumes ≡ length c.volumes = c_shape.volumes in omega (arith, same, lt));
   }
 

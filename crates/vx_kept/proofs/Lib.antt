@@ -14,3 +14,4 @@ pub mod Firsts
 pub mod CleanLemmas
 pub mod CleanCommits
 pub mod OpenLemmas
+pub mod Nexts
