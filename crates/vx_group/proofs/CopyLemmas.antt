@@ -1,9 +1,11 @@
 -- A run of blocks that is copied from one plex to all that are ACTIVE, and two such runs in a row.
-use Rattle.std.proofs.Common.{◌≡◌, ◌⊎◌, inl, inr, ⊎_elim, ℕ, ◌+◌, ◌/◌, ◌<◌, ◌≤◌, ◌^◌, false, IsTrue, IsFalse, List, [], length, refl, ap, sym, ◌∙◌, subst, arith}
+use Rattle.std.proofs.Common.{◌≡◌, ◌⊎◌, inl, inr, ⊎_elim, ℕ, zero, suc, ◌+◌, ◌*◌, ◌/◌, ◌<◌, ◌≤◌, ◌^◌, false, IsTrue, IsFalse, List, [], ◌∷◌, length, take, Result, Ok, Err, OnOk, refl, ap, sym, ◌∙◌, subst, arith}
 use Rattle.std.proofs.lemmas.Bool.{cases_lt}
 use Rattle.vx_disk.specs.Counts.{Rose}
 use Rattle.vx_disk.specs.Moves.{Says}
 use Rattle.vx_disk.specs.Shelf.{Fits, Goes, Image, Lawful, Meaning, Nothing, Or, Values, piece}
+use Rattle.vx_disk.specs.declared.shelf.ShelfError.{ShelfError}
+use Rattle.vx_group.specs.Blames.{Blames}
 use Rattle.vx_disk.proofs.Causing.{Rose_after, Rose_before}
 use Rattle.vx_config.specs.Checks.{blocks_of}
 use Rattle.vx_config.specs.declared.config.Config.{Config}
@@ -212,6 +214,31 @@ module _ (core d : GroupCore) (v source block : ℕ) (bytes : List ℕ) (m0 m1 m
       rest = others;
     }
 
+-- the same where the bytes have the length of those that were handed in
+module _ (core : GroupCore) (v source block len : ℕ) (bytes : List ℕ) (m0 m1 m2 : Meaning) (law0 : Lawful m0) (law1 : Lawful m1) (law2 : Lawful m2) (stands : Stands core m0) (same : length bytes ≡ len)
+    (fits : Fits (meaning_of core m0) v block len) (read : Goes Nothing m0 m1) (was_read : PlexRead core.config v source block block (len / 512) bytes m0) (write : Goes (OnPlexes core.config v block (length bytes / 512) bytes) m1 m2) where
+  fits_len : Fits (meaning_of core m0) v block (length bytes)
+  fits_len = subst (λ (n : ℕ). Fits (meaning_of core m0) v block n) (sym same) fits
+
+  read_len : PlexRead core.config v source block block (length bytes / 512) bytes m0
+  read_len = subst (λ (n : ℕ). PlexRead core.config v source block block (n / 512) bytes m0) (sym same) was_read
+
+  pub put_Stands : Stands core m2
+  put_Stands = wrote_Stands core v block bytes m1 m2 law1 law2 (flushed_Stands core v m0 m1 law0 law1 stands read) (record { exists = fits_len.exists; some = fits_len.some; whole = fits_len.whole; within = fits_len.within }) write
+
+  module _ (d : GroupCore) (m3 : Meaning) (law3 : Lawful m3) (narrows : Narrows core d m2 m3) (stands3 : Stands d m3) (spent : Spent core.config d.config m0 m3) (others_on : (w p : ℕ) → (w ≡ v → ⊥) → active d.config w p ≡ active core.config w p) where
+    pub put_Moved : CopyMoved core v source d m0 m3
+    put_Moved = run_Moved core d v source block bytes m0 m1 m2 m3 law0 law1 law2 law3 stands fits_len read read_len write narrows stands3 spent others_on
+
+    pub put_Copied : d.unsettled ≡ false → IsTrue (active d.config v source) → (IsTrue m3.down → ⊥)
+        → ((p : ℕ) → IsTrue (active d.config v p) → PlexWrote core.config v p block (length bytes / 512) block (length bytes / 512) bytes m1 m2) → RunCopied core v source block (len / 512) d m0 m3
+    put_Copied settled source_on up wrote = subst (λ (n : ℕ). RunCopied core v source block (n / 512) d m0 m3) same
+        (run_Copied core d v source block bytes m0 m1 m2 m3 law0 law1 law2 law3 stands fits_len read read_len write narrows stands3 spent others_on settled source_on up wrote)
+
+pub ok_both : {T E : Type 0} (P Q : Type 0) (r : Result T E) → OnOk r P → OnOk r Q → OnOk r (P × Q)
+ok_both P Q (Ok x) p q = (p, q)
+ok_both P Q (Err e) p q = tt
+
 -- ---- no block, and two runs in a row
 
 pub none_Copied : (core : GroupCore) (v source : ℕ) (m : Meaning) → Stands core m → core.unsettled ≡ false → IsTrue (active core.config v source) → (IsTrue m.down → ⊥) → RunCopied core v source 0 0 core m m
@@ -287,6 +314,7 @@ module _ (core d e : GroupCore) (v source first n : ℕ) (m0 m1 m2 : Meaning) (o
     not_second w p k x apart in_it is_on is = at_core m1.reads w p k x (two.rest w p k x apart (inside_d w k in_it) is_on (at_d m2.reads w p k x is))
 
     origin_both : (k : ℕ) → InRun 0 (first + n) k → Inside core.config v k → IsTrue m0.tells → m0.reads (place core.config v source k).0 (place core.config v source k).1 (value k)
+    unfolding value
     origin_both k run in_it tells = by (cases_lt k first)
       where
         by : (c : (k < first) ⊎ (first ≤ k)) → m0.reads (place core.config v source k).0 (place core.config v source k).1 (elim c [ inl lt ↦ one.value k | inr le ↦ two.value k ])
@@ -295,6 +323,7 @@ module _ (core d e : GroupCore) (v source first n : ℕ) (m0 m1 m2 : Meaning) (o
             source_origin k (two.value k) in_it (at_core m1.reads v source k (two.value k) (two.origin k (record { first = le; last = omega (arith, last) }) (inside_d v k in_it) (one.moved.acts.tells ∙ tells))) tells
 
     copied_both : (p k : ℕ) (x : List ℕ) → InRun 0 (first + n) k → Inside core.config v k → IsTrue (active e.config v p) → m2.reads (place core.config v p k).0 (place core.config v p k).1 x → x ≡ value k
+    unfolding value
     copied_both p k x run in_it is_on is = by (cases_lt k first)
       where
         by : (c : (k < first) ⊎ (first ≤ k)) → x ≡ elim c [ inl lt ↦ one.value k | inr le ↦ two.value k ]
@@ -317,7 +346,7 @@ module _ (core d e : GroupCore) (v source first n : ℕ) (m0 m1 m2 : Meaning) (o
     }
 
   -- and a flush behind them
-  module _ (narrows : Narrows d e m1 m2) (spent : Spent d.config e.config m1 m2) (others_on : (w p : ℕ) → (w ≡ v → ⊥) → active e.config w p ≡ active d.config w p) (stands : Stands e m2) (settled : e.unsettled ≡ false) (up : IsTrue m2.down → ⊥) (flushed : AllFlushed e.config v m1 m2) (whole : first ≡ blocks_of core.config.volumes v) (law2 : Lawful m2) where
+  module _ (narrows : Narrows d e m1 m2) (spent : Spent d.config e.config m1 m2) (others_on : (w p : ℕ) → (w ≡ v → ⊥) → active e.config w p ≡ active d.config w p) (stands : Stands e m2) where
     narrows_Moved : CopyMoved d v source e m1 m2
     narrows_Moved = record {
       stands = stands;
@@ -331,35 +360,61 @@ module _ (core d e : GroupCore) (v source first n : ℕ) (m0 m1 m2 : Meaning) (o
           (loose_Acts Nothing (Sees d.config (Member d.good m1) m1) (Sees d.config NoMember m1) m1 m2 narrows.acts (λ i sees. sees_none d.config (Member d.good m1) m1 i sees)) (λ u b x none. absurd none);
     }
 
-    place_e : (w p k : ℕ) → place e.config w p k ≡ place core.config w p k
-    place_e w p k = narrows.shape.place w p k ∙ one.moved.shape.place w p k
-
-    inside_e : (w k : ℕ) → Inside core.config w k → Inside e.config w k
-    inside_e w k in_it = inside_back e.config d.config narrows.shape w k (inside_back d.config core.config one.moved.shape w k in_it)
-
-    whole_run : (k : ℕ) → Inside core.config v k → InRun 0 first k
-    whole_run k in_it = record { first = omega arith; last = let lt : k < blocks_of core.config.volumes v = in_it.within in omega (arith, lt, whole) }
-
-    left_one : (p k : ℕ) (x : List ℕ) → Inside core.config v k → IsTrue (active e.config v p) → m2.leaves (place core.config v p k).0 (place core.config v p k).1 x → x ≡ one.value k
-    left_one p k x in_it is_on left =
-        let at : m2.leaves (place e.config v p k).0 (place e.config v p k).1 x = subst (λ (q : ℕ × ℕ). m2.leaves q.0 q.1 x) (sym (place_e v p k)) left in
-        let was : m1.reads (place e.config v p k).0 (place e.config v p k).1 x = (flushed.each p is_on).each k x (inside_e v k in_it) at in
-        one.copied p k x (whole_run k in_it) in_it (narrows.on v p is_on) (subst (λ (q : ℕ × ℕ). m1.reads q.0 q.1 x) (place_e v p k) was)
-
     pub flush_Moved : CopyMoved core v source e m0 m2
     flush_Moved = both_Moved core d e v source first n m0 m1 m2 one.moved source_origin narrows_Moved
 
-    pub flush_Mirrored : (above : (w p k : ℕ) → Inside core.config w k → IsTrue (active core.config w p) → 512 ≤ (place core.config w p k).1) → Mirrored core v source e m0 m2
-    flush_Mirrored above = record {
-      moved = flush_Moved;
-      settled = settled;
-      up = up;
-      value = one.value;
-      origin = λ k in_it tells. one.origin k (whole_run k in_it) in_it tells;
-      one = left_one;
-      rest = λ w p k x apart in_it is_on is. elim (narrows.acts.reads (place core.config w p k).0 (place core.config w p k).1 x (above w p k in_it (one.moved.on w p (narrows.on w p is_on))) is) [
-        | inl (inl was) ↦ one.rest w p k x (λ same run. apart same) in_it (narrows.on w p is_on) was
-        | inl (inr none) ↦ absurd none
-        | inr down ↦ absurd (up down)
-      ];
-    }
+    module _ (settled : e.unsettled ≡ false) (up : IsTrue m2.down → ⊥) (flushed : AllFlushed e.config v m1 m2) (whole : first ≡ blocks_of core.config.volumes v) where
+      place_e : (w p k : ℕ) → place e.config w p k ≡ place core.config w p k
+      place_e w p k = narrows.shape.place w p k ∙ one.moved.shape.place w p k
+
+      inside_e : (w k : ℕ) → Inside core.config w k → Inside e.config w k
+      inside_e w k in_it = inside_back e.config d.config narrows.shape w k (inside_back d.config core.config one.moved.shape w k in_it)
+
+      whole_run : (k : ℕ) → Inside core.config v k → InRun 0 first k
+      whole_run k in_it = record { first = omega arith; last = let lt : k < blocks_of core.config.volumes v = in_it.within in omega (arith, lt, whole) }
+
+      left_one : (p k : ℕ) (x : List ℕ) → Inside core.config v k → IsTrue (active e.config v p) → m2.leaves (place core.config v p k).0 (place core.config v p k).1 x → x ≡ one.value k
+      left_one p k x in_it is_on left =
+          let at : m2.leaves (place e.config v p k).0 (place e.config v p k).1 x = subst (λ (q : ℕ × ℕ). m2.leaves q.0 q.1 x) (sym (place_e v p k)) left in
+          let was : m1.reads (place e.config v p k).0 (place e.config v p k).1 x = (flushed.each p is_on).each k x (inside_e v k in_it) at in
+          one.copied p k x (whole_run k in_it) in_it (narrows.on v p is_on) (subst (λ (q : ℕ × ℕ). m1.reads q.0 q.1 x) (place_e v p k) was)
+
+      pub flush_Mirrored : (above : (w p k : ℕ) → Inside core.config w k → IsTrue (active core.config w p) → 512 ≤ (place core.config w p k).1) → Mirrored core v source e m0 m2
+      flush_Mirrored above = record {
+        moved = flush_Moved;
+        settled = settled;
+        up = up;
+        value = one.value;
+        origin = λ k in_it tells. one.origin k (whole_run k in_it) in_it tells;
+        one = left_one;
+        rest = λ w p k x apart in_it is_on is. elim (narrows.acts.reads (place core.config w p k).0 (place core.config w p k).1 x (above w p k in_it (one.moved.on w p (narrows.on w p is_on))) is) [
+          | inl (inl was) ↦ one.rest w p k x (λ same run. apart same) in_it (narrows.on w p is_on) was
+          | inl (inr none) ↦ absurd none
+          | inr down ↦ absurd (up down)
+        ];
+      }
+
+-- ---- answers
+
+pub ok_blamed : {T : Type 0} (Q P : Type 0) (r : Result T ShelfError) (old new : Meaning) → OnOk r Q → Blames old new r → (Q → (IsTrue new.down → ⊥) → P) → OnOk r P
+ok_blamed Q P (Ok x) old new is up made_by = made_by is up
+ok_blamed Q P (Err error) old new is why made_by = tt
+
+-- ---- one run of the loop
+
+pub run_fits : (core d : GroupCore) (v done count len total : ℕ) (m : Meaning) → SameShape d.config core.config → v < length core.config.volumes → len ≡ 512 * count → 0 < count → done + count ≤ total → total ≡ blocks_of core.config.volumes v
+    → Fits (meaning_of d m) v done len
+run_fits core d v done count len total m shape there long some within is = record {
+  exists = let same : length d.config.volumes ≡ length core.config.volumes = shape.volumes in omega (arith, same, there);
+  some = omega (arith, long, some);
+  whole = omega (arith, long);
+  within = let same : blocks_of d.config.volumes v ≡ blocks_of core.config.volumes v = shape.blocks v in omega (arith, same, long, within, is);
+}
+
+pub run_copied : (core : GroupCore) (v source first len count : ℕ) (d : GroupCore) (m m' : Meaning) → len ≡ 512 * count → RunCopied core v source first (len / 512) d m m' → RunCopied core v source first count d m m'
+run_copied core v source first len count d m m' long run = let same : len / 512 ≡ count = omega (arith, long) in subst (λ (n : ℕ). RunCopied core v source first n d m m') same run
+
+pub take_length : (n : ℕ) (xs : List ℕ) → n ≤ length xs → length (take n xs) ≡ n
+take_length zero xs le = refl
+take_length (suc n) [] le = absurd (omega (arith, le))
+take_length (suc n) (x ∷ xs) le = ap suc (take_length n xs (omega (arith, le)))

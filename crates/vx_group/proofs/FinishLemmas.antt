@@ -18,7 +18,7 @@ use Rattle.vx_kept.proofs.StateLemmas.{then_shape}
 use Rattle.vx_kept.proofs.Steps.{inside_back}
 use Rattle.vx_group.specs.Blames.{Blames}
 use Rattle.vx_group.specs.Copying.{Spent}
-use Rattle.vx_group.specs.Finishes.{Commits, Finished}
+use Rattle.vx_group.specs.Finishes.{Commits, Finished, Finishes}
 use Rattle.vx_group.specs.Mends.{GoesOn, Mended, Mending}
 use Rattle.vx_group.specs.Moves.{Narrows}
 use Rattle.vx_group.specs.Resumes.{IsMended, SomeRose, source_at}
@@ -57,9 +57,9 @@ both_on core d e m0 m1 m2 one two = record {
 
 -- ---- why
 
-pub blamed_cause : {T : Type 0} (old new : Meaning) (error : ShelfError) → Blames {T = T} old new (Err error) → DeviceCause old new (refusal_of error)
-blamed_cause old new (Fault disk) why = why.0
-blamed_cause old new Down down = down
+pub blamed_cause : (T : Type 0) (old new : Meaning) (error : ShelfError) → Blames {T = T} old new (Err error) → DeviceCause old new (refusal_of error)
+blamed_cause T old new (Fault disk) why = why.0
+blamed_cause T old new Down down = down
 
 -- ---- headers that were settled, and then volumes
 
@@ -111,3 +111,10 @@ module _ (core d e f : GroupCore) (flags : List Bool) (sources : List ℕ) (m0 m
 
       pub all_finished : f.unsettled ≡ false → Finished core flags sources f m0 m3
       all_finished settled = record { on = both_on core e f m0 m2 m3 mend_goes last; settled = settled; mended = all_mended }
+
+    pub finish_all : {T : Type 0} (r : Result T No) → core.config.serial < greatest → ((v : ℕ) → v < length core.config.volumes → IsTrue (active core.config v (source_at sources v))) → Commits e f m2 m3 r → Finishes flags sources core f m0 m3 r
+    finish_all (Ok x) less source_on last = all_finished source_on last.0 last.1
+    finish_all (Err why) less source_on last = (
+      both_on core e f m0 m2 m3 mend_goes last.0,
+      ⊎_elim (λ cause. inl (cause_before m0 m2 m3 mend_goes.disk_faults why cause)) (λ limit. inr (limit.0, spent_rose less limit.1 last.0)) last.1,
+    )

@@ -13,3 +13,4 @@ pub mod ResumeLemmas
 pub mod MendLemmas
 pub mod FinishLemmas
 pub mod PlanLemmas
+pub mod ImportLemmas

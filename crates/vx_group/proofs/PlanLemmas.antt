@@ -1,11 +1,11 @@
 -- Which plex an import goes by, as loops over the plexes find it.
-use Rattle.std.proofs.Common.{◌≡◌, ◌⊎◌, inl, inr, ℕ, zero, suc, ◌+◌, ◌<◌, ◌≤◌, Bool, true, false, IsTrue, Option, Some, None, List, [], ◌∷◌, length, refl, ap, sym, ◌∙◌, subst, arith}
+use Rattle.std.proofs.Common.{◌≡◌, ◌⊎◌, inl, inr, ℕ, zero, suc, ◌+◌, ◌<◌, ◌≤◌, ◌^◌, Bool, true, false, IsTrue, Option, Some, None, List, [], ◌∷◌, length, refl, ap, sym, ◌∙◌, subst, arith}
 use Rattle.std.specs.Prelude.{◌&&◌, ◌||◌, if◌then◌else◌, slice_get}
 use Rattle.std.specs.List.{list_all, list_any}
-use Rattle.std.proofs.lemmas.Bool.{and_left, and_right, cases_lt}
+use Rattle.std.proofs.lemmas.Bool.{and_parts, cases_lt}
 use Rattle.std.proofs.Math.ListN.{get_or, set}
 use Rattle.std.proofs.lemmas.List.{get_or-set_other, get_or-set_same}
-use Rattle.vx_config.specs.Checks.{has_logs, has_plexes, has_shape, is_live, is_sound, is_volume, plex_fills, preferred_is}
+use Rattle.vx_config.specs.Checks.{blocks_of, is_live, is_sound}
 use Rattle.vx_config.specs.declared.config.Config.{Config}
 use Rattle.vx_config.specs.declared.entry.PlexEntry.{PlexEntry}
 use Rattle.vx_config.specs.declared.entry.VolumeEntry.{VolumeEntry}
@@ -92,7 +92,7 @@ first_in_live : (good : ℕ) (ps : List PlexEntry) → list_any is_live ps ≡ t
 first_in_live good ps some = by (list_any (takes_in good) ps) refl
   where
     by : (b : Bool) → list_any (takes_in good) ps ≡ b → live_or (slice_get ps (if b then first_where (takes_in good) ps else first_where is_live ps)) ≡ true
-    by true is = let it = first_passes (takes_in good) ps is in ap live_or it.1 ∙ and_left (is_live it.0) (sits_in good it.0) it.2
+    by true is = let it = first_passes (takes_in good) ps is in ap live_or it.1 ∙ (and_parts (is_live it.0) (sits_in good it.0) it.2).0
     by false is = let it = first_passes is_live ps some in ap live_or it.1 ∙ it.2
 
 any_live : (ps : List PlexEntry) (k : ℕ) → live_or (slice_get ps k) ≡ true → list_any is_live ps ≡ true
@@ -121,3 +121,42 @@ set_more {A} xs ys n y d f lt is at below v less = elim (cases_lt v n) [
       let same : v ≡ n = omega (arith, less, le) in
       ap (λ (k : ℕ). get_or ys k d) same ∙ ap (λ (l : List A). get_or l n d) is ∙ get_or-set_same xs n y d lt ∙ at ∙ ap f (sym same)
 ]
+
+pub at_get : (ps : List PlexEntry) (n : ℕ) (d : PlexEntry) → n < length ps → slice_get ps n ≡ Some (get_or ps n d)
+at_get [] n d lt = absurd (omega (arith, lt))
+at_get (p ∷ ps) zero d lt = refl
+at_get (p ∷ ps) (suc n) d lt = at_get ps n d (omega (arith, lt))
+
+-- ---- blocks of volumes
+
+past_blocks : (vs : List VolumeEntry) (v : ℕ) → length vs ≤ v → blocks_of vs v ≡ 0
+past_blocks [] v le = refl
+past_blocks (x ∷ vs) zero le = absurd (omega (arith, le))
+past_blocks (x ∷ vs) (suc v) le = past_blocks vs v (omega (arith, le))
+
+pub blocks_more : (vs : List VolumeEntry) (n b : ℕ) → b ≡ blocks_of vs n → b < 2 ^ 64 → ((v : ℕ) → v < n → blocks_of vs v < 2 ^ 64) → (v : ℕ) → v < n + 1 → blocks_of vs v < 2 ^ 64
+blocks_more vs n b is small below v lt = elim (cases_lt v n) [
+  | inl less ↦ below v less
+  | inr le ↦ let same : v ≡ n = omega (arith, lt, le) in subst (λ (k : ℕ). blocks_of vs k < 2 ^ 64) (sym same) (omega (arith, is, small))
+]
+
+pub blocks_all : (vs : List VolumeEntry) (n : ℕ) → length vs ≤ n → ((v : ℕ) → v < n → blocks_of vs v < 2 ^ 64) → (v : ℕ) → blocks_of vs v < 2 ^ 64
+blocks_all vs n le below v = elim (cases_lt v n) [
+  | inl less ↦ below v less
+  | inr past ↦ let none = past_blocks vs v (omega (arith, le, past)) in omega (arith, none)
+]
+
+first_few : (test : PlexEntry → Bool) (ps : List PlexEntry) → first_where test ps ≤ length ps
+first_few test [] = omega arith
+first_few test (q ∷ ps) = by (test q) (first_few test ps)
+  where
+    by : (b : Bool) → first_where test ps ≤ length ps → (if b then 0 else suc (first_where test ps)) ≤ suc (length ps)
+    by true le = omega arith
+    by false le = omega (arith, le)
+
+pub in_few : (good : ℕ) (ps : List PlexEntry) → first_in good ps ≤ length ps
+in_few good ps = by (list_any (takes_in good) ps)
+  where
+    by : (b : Bool) → (if b then first_where (takes_in good) ps else first_where is_live ps) ≤ length ps
+    by true = first_few (takes_in good) ps
+    by false = first_few is_live ps

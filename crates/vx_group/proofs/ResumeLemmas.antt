@@ -2,8 +2,8 @@
 use Rattle.std.proofs.Common.{◌≡◌, ◌⊎◌, inl, inr, ⊎_elim, ℕ, zero, suc, ◌+◌, ◌<◌, ◌≤◌, ◌^◌, Bool, true, false, IsTrue, IsFalse, All, Option, Some, None, List, [], ◌∷◌, length, refl, ap, sym, ◌∙◌, subst, arith}
 use Rattle.std.specs.Prelude.{◌&&◌, nat_le, nat_lt, slice_get}
 use Rattle.std.specs.List.{list_all}
-use Rattle.std.proofs.lemmas.Bool.{and_left, and_right, ltb-true}
-use Rattle.std.proofs.lemmas.List.{All-cons, All-nil}
+use Rattle.std.proofs.lemmas.Bool.{and_from, and_parts, ltb-true}
+use Rattle.std.proofs.lemmas.List.Elements.{All-cons, All-nil}
 use Rattle.vx_disk.specs.Shelf.{Each, Goes, Image, Lawful, Meaning, Nothing}
 use Rattle.vx_model.specs.declared.units.Units.{Units}
 use Rattle.vx_copyfmt.specs.Commits.{Counts}
@@ -69,22 +69,22 @@ live_there c sound v p is = (volume_there c.volumes v p is, (let few = count_few
 
 vols_below : (n : ℕ) (vs : List ℕ) → n ≤ 256 → list_all (λ k. nat_lt k n) vs ≡ true → All (λ k. k < 256) vs
 vols_below n [] le is = All-nil (λ k. k < 256)
-vols_below n (x ∷ xs) le is = All-cons (λ k. k < 256) x xs (let lt = ltb-true x n (and_left (nat_lt x n) _ is) in omega (arith, lt, le)) (vols_below n xs le (and_right (nat_lt x n) _ is))
+vols_below n (x ∷ xs) le is = All-cons (λ k. k < 256) x xs (let lt = ltb-true x n ((and_parts (nat_lt x n) _ is).0) in omega (arith, lt, le)) (vols_below n xs le ((and_parts (nat_lt x n) _ is).1))
 
 pub rvg_fits : (c : Config) → is_sound c ≡ true → length c.volumes ≤ 32 → (u : Units) → c.rvg ≡ Some u → UnitsFit u
 unfolding is_sound
 rvg_fits c sound few u at =
-    let group : group_or_none c.volumes c.rvg ≡ true = and_right _ (group_or_none c.volumes c.rvg) sound in
+    let group : group_or_none c.volumes c.rvg ≡ true = (and_parts _ (group_or_none c.volumes c.rvg) sound).1 in
     let is : is_group c.volumes u ≡ true = ap (group_or_none c.volumes) (sym at) ∙ group in
-    let five = and_left _ (nat_le _ (blocks_of c.volumes u.maps)) is in
-    let four = and_left _ (nat_le 8 (blocks_of c.volumes u.srl)) five in
-    let three = and_left _ (pairwise other_than (u.srl ∷ (u.maps ∷ u.vols))) four in
-    let names : list_all (λ k. nat_lt k (length c.volumes)) (u.srl ∷ (u.maps ∷ u.vols)) ≡ true = and_right _ (list_all (λ k. nat_lt k (length c.volumes)) (u.srl ∷ (u.maps ∷ u.vols))) three in
-    let rest = and_right (nat_lt u.srl (length c.volumes)) _ names in
+    let five = (and_parts _ (nat_le _ (blocks_of c.volumes u.maps)) is).0 in
+    let four = (and_parts _ (nat_le 8 (blocks_of c.volumes u.srl)) five).0 in
+    let three = (and_parts _ (pairwise other_than (u.srl ∷ (u.maps ∷ u.vols))) four).0 in
+    let names : list_all (λ k. nat_lt k (length c.volumes)) (u.srl ∷ (u.maps ∷ u.vols)) ≡ true = (and_parts _ (list_all (λ k. nat_lt k (length c.volumes)) (u.srl ∷ (u.maps ∷ u.vols))) three).1 in
+    let rest = (and_parts (nat_lt u.srl (length c.volumes)) _ names).1 in
     record {
-      srl = let lt = ltb-true u.srl (length c.volumes) (and_left (nat_lt u.srl (length c.volumes)) _ names) in omega (arith, lt, few);
-      maps = let lt = ltb-true u.maps (length c.volumes) (and_left (nat_lt u.maps (length c.volumes)) _ rest) in omega (arith, lt, few);
-      vols = vols_below (length c.volumes) u.vols (omega (arith, few)) (and_right (nat_lt u.maps (length c.volumes)) _ rest);
+      srl = let lt = ltb-true u.srl (length c.volumes) ((and_parts (nat_lt u.srl (length c.volumes)) _ names).0) in omega (arith, lt, few);
+      maps = let lt = ltb-true u.maps (length c.volumes) ((and_parts (nat_lt u.maps (length c.volumes)) _ rest).0) in omega (arith, lt, few);
+      vols = vols_below (length c.volumes) u.vols (omega (arith, few)) ((and_parts (nat_lt u.maps (length c.volumes)) _ rest).1);
     }
 
 -- ---- the configuration in memory
@@ -103,7 +103,7 @@ module _ (old new : Meaning) (law : Lawful old) (law' : Lawful new) (goes : Goes
        and_from_sound (is_sound (returned R x)) (is_sound c) (fits_units old.units old.size (returned R x)) (fits_units old.units old.size c) c_sound (ap (λ ds. fits_units old.units old.size (record { serial = c.serial; site = c.site; disks = ds; volumes = c.volumes; rvg = c.rvg })) opens.alike.disks) back)
     where
       and_from_sound : (a b f g : Bool) → b ≡ true → g ≡ f → a && f ≡ true → b && g ≡ true
-      and_from_sound a b f g is same both = rw is (same ∙ and_right a f both)
+      and_from_sound a b f g is same both = and_from b g is (same ∙ (and_parts a f both).1)
 
   c_lives : (v p : ℕ) → live c v p ≡ live x v p
   c_lives v p = opens.alike.lives v p ∙ live_volumes (returned R x) x refl v p
@@ -152,11 +152,13 @@ module _ (old new : Meaning) (law : Lawful old) (law' : Lawful new) (goes : Goes
   pub resumed_Kept : (G : ℕ → Type 0) → Kept c G new
   resumed_Kept G = record {
     below = record { each = λ u lt a v h is left head.
-        let was = (can.newest image R x (seen_image (told_left u a v left)) finds).each u (omega (arith, goes.units, lt)) a v h is (left_old u a v left) head in
+        let was = (can.newest image R x (seen_image (told_left u a v left)) finds).below.each u (omega (arith, goes.units, lt)) a v h is (left_old u a v left) head in
         omega (arith, was, opens.alike.serial) };
-    counts = λ u lt. subst (λ (r : ℕ → List ℕ → Option Config). Counts r (new.leaves u)) (shelf_same old new goes.units goes.size)
-        (counts_sub (on_shelf old) (old.leaves u) (new.leaves u) (λ b v left. left_old u b v left) (can.counts u (omega (arith, goes.units, lt))));
-    labels = record { each = λ u v lt left. can.labels.each u v (omega (arith, goes.units, lt)) (left_old u 0 v left) };
+    counts = λ u lt d a h is among top.
+        let base = can.newest image R x (seen_image (told_left u 0 (d 0) (among 0))) finds in
+        (subst (λ (r : ℕ → List ℕ → Option Config). Counts r (new.leaves u)) (shelf_same old new goes.units goes.size)
+        (counts_sub (on_shelf old) (old.leaves u) (new.leaves u) (λ b v left. left_old u b v left) (base.counts u (omega (arith, goes.units, lt))))) d a h is among top;
+    labels = record { each = λ u v lt left. (can.newest image R x (seen_image (told_left u 0 v left)) finds).labels.each u v (omega (arith, goes.units, lt)) (left_old u 0 v left) };
     sees = λ i each.
         let tells = told_by i each in
         let here : Each old.leaves i = λ u b. left_old u b (i u b) (each u b) in
@@ -197,10 +199,10 @@ module _ (old new : Meaning) (law : Lawful old) (law' : Lawful new) (goes : Goes
       kept_old : Kept c NoMember old
       kept_old = record {
         below = record { each = λ u lt a v h is left head.
-            let was = (can.newest image R x (λ w b. law.shown w b (image w b) (read (old_told u a v left) w b)) finds).each u lt a v h is left head in
+            let was = (can.newest image R x (λ w b. law.shown w b (image w b) (read (old_told u a v left) w b)) finds).below.each u lt a v h is left head in
             omega (arith, was, opens.alike.serial) };
-        counts = can.counts;
-        labels = can.labels;
+        counts = λ u lt d a h is among top. (can.newest image R x (seen_image (old_told u 0 (d 0) (among 0))) finds).counts u lt d a h is among top;
+        labels = record { each = λ u v lt left. (can.newest image R x (seen_image (old_told u 0 v left)) finds).labels.each u v lt left };
         sees = λ i each.
             let tells = old_told 0 0 (i 0 0) (each 0 0) in
             record { config = x; found = can.one image i R x (seen_image tells) each finds; kin = found_kin; others = λ readable g y none told is. absurd none };

@@ -8,7 +8,7 @@ use Rattle.vx_disk.specs.Shelf.{Each, Goes, Image, Meaning, Nothing}
 use Rattle.vx_model.specs.declared.errors.Stop.{Stop}
 use Rattle.vx_model.specs.declared.errors.Stop.TheVariants.{No as Refused, OutOfMemory}
 use Rattle.vx_model.specs.declared.limits.TheConstants.{MOST_VOLUMES}
-use Rattle.vx_model.specs.declared.no.Counted.TheVariants.{Number as Numbers, Volumes as VolumeCount}
+use Rattle.vx_model.specs.declared.no.Counted.TheVariants.{Number as Numbers}
 use Rattle.vx_model.specs.declared.no.No.{No}
 use Rattle.vx_model.specs.declared.no.No.TheVariants as refusal
 use Rattle.vx_config.specs.Checks.{blocks_of, is_live, is_sound}
@@ -16,18 +16,16 @@ use Rattle.vx_config.specs.Table.{greatest}
 use Rattle.vx_config.specs.declared.config.Config.{Config}
 use Rattle.vx_config.specs.declared.entry.PlexEntry.{PlexEntry}
 use Rattle.vx_config.specs.declared.entry.VolumeEntry.{VolumeEntry}
-use Rattle.vx_copyfmt.specs.Commits.{Counts}
 use Rattle.vx_copyfmt.specs.Imports.{Found}
 use Rattle.vx_copyio.specs.Labelling.{HasSmall}
 use Rattle.vx_copies.specs.Answers.{Imported, good_set, returned}
-use Rattle.vx_copies.specs.Commits.{Below, HaveLabels}
-use Rattle.vx_copies.specs.Looking.{on_shelf}
 use Rattle.vx_copies.specs.Marks.{HasGood, NoneGood}
 use Rattle.vx_layout.specs.Places.{place}
 use Rattle.vx_volume.specs.Plexes.{Inside, active, plexes_of}
 use Rattle.vx_kept.specs.Choice.{first_where}
 use Rattle.vx_kept.specs.Cleans.{marked}
 use Rattle.vx_kept.specs.Groups.{found, found_by, group_meaning}
+use Rattle.vx_kept.specs.Keeping.{Base}
 use Rattle.vx_kept.specs.Opens.{OpenVolumes}
 use Rattle.vx_group.specs.Dets.{any_below, margin}
 use Rattle.vx_group.specs.Stands.{Stands, counted, meaning_of}
@@ -65,12 +63,10 @@ source_at sources v = slice_index_or sources v 0
 
 -- ---- what may be taken up
 
--- Each disk has a label and a greater header that counts. Whichever disks can be read, an import over an image finds one configuration, or
--- none; and no header that a crash may leave is above it.
+-- Whichever disks can be read, an import over an image finds one configuration, or none. Where it finds one, each disk has a label and a greater
+-- header that counts, and no header that a crash may leave is above it.
 pub record CanImport (m : Meaning) : Type 0 where
-  pub labels : HaveLabels m
-  pub counts : (u : ℕ) → u < m.units → Counts (on_shelf m) (m.leaves u)
-  pub newest : (i : Image) (readable : ℕ → Bool) (x : Config) → Each m.leaves i → found_by m readable i ≡ Found x → Below x m
+  pub newest : (i : Image) (readable : ℕ → Bool) (x : Config) → Each m.leaves i → found_by m readable i ≡ Found x → Base x m
   pub one : (i j : Image) (readable : ℕ → Bool) (x : Config) → Each m.leaves i → Each m.leaves j → found_by m readable i ≡ Found x → found m j ≡ Found x
 
 -- ---- what is given
@@ -84,11 +80,10 @@ pub record TakenUp (old new : Meaning) (found opened : Config) : Type 0 where
   pub is : found_by old readable image ≡ Found found
   pub opens : OpenVolumes 0 (returned readable found) opened
 
--- a configuration that is not taken up: too few serials are left, or it has too many volumes, or no disk of the set is held as good
+-- a configuration that is not taken up: too few serials are left, or no disk of the set is held as good
 abbrev pub Refuses : Config → ℕ → Option No → Type 0
-Refuses c good None = (c.serial ≤ greatest - margin) × (length c.volumes ≤ MOST_VOLUMES) × HasGood c.disks good
-Refuses c good (Some why) = ((greatest - margin < c.serial) × (why ≡ refusal.Limit Numbers greatest)) ⊎ ((MOST_VOLUMES < length c.volumes) × (why ≡ refusal.Limit VolumeCount MOST_VOLUMES))
-    ⊎ (NoneGood c.disks (length c.disks) good × (why ≡ refusal.NoConfig))
+Refuses c good None = (c.serial ≤ greatest - margin) × HasGood c.disks good
+Refuses c good (Some why) = ((greatest - margin < c.serial) × (why ≡ refusal.Limit Numbers greatest)) ⊎ (NoneGood c.disks (length c.disks) good × (why ≡ refusal.NoConfig))
 
 -- no count of a volume, and none marked
 pub record IsFresh (core : GroupCore) : Type 0 where

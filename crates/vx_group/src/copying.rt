@@ -64,6 +64,7 @@ fn copy_blocks<S: Shelf>(
 ) -> Result<(), ShelfError>
     requires stands { Stands core.old (S.meaning shelf.old) }
     requires settled { core.old.unsettled ≡ false }
+    requires there { vol < length core.old.config.volumes }
     requires is_on { IsTrue (active core.old.config vol source) }
     requires up { IsTrue (S.meaning shelf.old).down → ⊥ }
     ensures moved { CopyMoved core.old vol source core.new (S.meaning shelf.old) (S.meaning shelf.new) }

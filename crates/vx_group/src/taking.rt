@@ -1,6 +1,7 @@
 // The group that an import finds on the disks, before its headers and volumes are settled.
-ghost use Rattle.std.specs.Prelude.{◌≡◌, ◌<◌, ◌≤◌, ◌^◌, ℕ, IsTrue};
-ghost use Rattle.vx_config.specs.Checks.{blocks_of, is_sound};
+ghost use Rattle.std.specs.Prelude.{◌≡◌, ◌<◌, ◌≤◌, ◌^◌, ℕ, length, IsTrue};
+ghost use Rattle.vx_model.specs.declared.limits.TheConstants.{MOST_VOLUMES};
+ghost use Rattle.vx_config.specs.Checks.{blocks_of as blocks_of_is, is_sound};
 ghost use Rattle.vx_copyio.specs.Labelling.{AreLarge};
 ghost use Rattle.vx_disk.specs.Shelf.{Goes, Nothing};
 ghost use Rattle.vx_group.specs.Resumes.{CanImport, Planned, Refuses, Takes};
@@ -9,12 +10,13 @@ use crate::GroupCore;
 use crate::marking::has_good;
 use crate::planning::{sources_of, stopped_of};
 use std::alloc::Global;
-use vx_config::{Config, VolumeEntry};
+use vx_config::Config;
 use vx_copies::{Room, import};
 use vx_disk::Shelf;
 use vx_kept::make_open;
 use vx_model::limits::{MOST_NUMBER, MOST_VOLUMES};
 use vx_model::{Counted, No, Stop};
+use vx_volume::blocks_of;
 
 // So many serials are left at least where a call of its own may commit.
 const MARGIN: u64 = 65_536;
@@ -39,24 +41,20 @@ fn refuse(config: &Config, good: u8) -> Option<No>
             most: MOST_NUMBER,
         });
     }
-    if config.volumes.as_slice().len() > MOST_VOLUMES {
-        return Some(No::Limit {
-            what: Counted::Volumes,
-            most: MOST_VOLUMES as u64,
-        });
-    }
     if !has_good(&config.disks, good) {
         return Some(No::NoConfig);
     }
     None
 }
 
-// The blocks of volumes are numbers of the program.
-fn sizes_fit(volumes: &[VolumeEntry])
-    ensures { (v : ℕ) → blocks_of volumes.now v < 2 ^ 64 }
+// The volumes are few, and their blocks numbers of the program.
+fn sizes_fit(config: &Config)
+    ensures few { length config.now.volumes ≤ MOST_VOLUMES }
+    ensures small { (v : ℕ) → blocks_of_is config.now.volumes v < 2 ^ 64 }
 {
-    for place in 0..volumes.len() {
-        let _blocks = volumes[place].blocks;
+    for vol in 0..config.volumes.as_slice().len() as u32 {
+        // Read for its bound.
+        let _blocks = blocks_of(config, vol);
     }
 }
 
@@ -69,7 +67,7 @@ fn plan_of(alloc: Global, config: Config, good: u8) -> Result<Plan, Stop>
         return Err(Stop::No(no));
     }
     let mut config = config;
-    sizes_fit(config.volumes.as_slice());
+    sizes_fit(&config);
     let stopped = stopped_of(&config);
     make_open(&mut config);
     let sources = sources_of(&config, good);
