@@ -1,8 +1,8 @@
 -- The group that an import takes up stands on its disks.
 use Rattle.std.proofs.Common.{◌≡◌, ◌⊎◌, inl, inr, ⊎_elim, ℕ, zero, suc, ◌+◌, ◌<◌, ◌≤◌, ◌^◌, Bool, true, false, IsTrue, IsFalse, All, Option, Some, None, List, [], ◌∷◌, length, refl, ap, sym, ◌∙◌, subst, arith}
-use Rattle.std.specs.Prelude.{◌&&◌, nat_le, nat_lt, slice_get}
+use Rattle.std.specs.Prelude.{◌&&◌, ◌==◌, not, nat_le, nat_lt, slice_get, slice_index_or}
 use Rattle.std.specs.List.{list_all}
-use Rattle.std.proofs.lemmas.Bool.{and_from, and_parts, ltb-true}
+use Rattle.std.proofs.lemmas.Bool.{and_from, and_parts, eqb-true, ltb-true}
 use Rattle.std.proofs.lemmas.List.Elements.{All-cons, All-nil}
 use Rattle.vx_disk.specs.Shelf.{Each, Goes, Image, Lawful, Meaning, Nothing}
 use Rattle.vx_model.specs.declared.units.Units.{Units}
@@ -10,7 +10,7 @@ use Rattle.vx_copyfmt.specs.Commits.{Counts}
 use Rattle.vx_copyfmt.specs.Imports.{Found}
 use Rattle.vx_copyfmt.proofs.Subs.{counts_sub}
 use Rattle.vx_config.specs.Checks.{blocks_of, group_or_none, is_group, is_sound, is_volume, other_than, pairwise}
-use Rattle.vx_config.specs.Configs.{UnitsFit}
+use Rattle.vx_config.specs.Configs.{CanSpell, UnitsFit}
 use Rattle.vx_config.specs.Table.{greatest}
 use Rattle.vx_config.specs.declared.config.Config.{Config}
 use Rattle.vx_config.specs.declared.entry.PlexEntry.{PlexEntry}
@@ -43,7 +43,7 @@ use Rattle.vx_group.specs.Stands.{Stands}
 use Rattle.vx_group.specs.declared.group_core.GroupCore.{GroupCore}
 use Rattle.vx_group.proofs.DetachLemmas.{some_good}
 use Rattle.vx_group.proofs.FoundLemmas.{found_wanted, wanted_back_again}
-use Rattle.vx_group.proofs.Standing.{still_large}
+use Rattle.vx_group.proofs.Standing.{if_some, still_large}
 
 -- ---- where a plex that takes part is
 
@@ -86,6 +86,25 @@ rvg_fits c sound few u at =
       maps = let lt = ltb-true u.maps (length c.volumes) ((and_parts (nat_lt u.maps (length c.volumes)) _ rest).0) in omega (arith, lt, few);
       vols = vols_below (length c.volumes) u.vols (omega (arith, few)) ((and_parts (nat_lt u.maps (length c.volumes)) _ rest).1);
     }
+
+pub plan_can : (c : Config) (good : ℕ) → is_sound c ≡ true → length c.volumes ≤ 32 → c.serial ≤ greatest → HasGood c.disks good → CanSpell c
+plan_can c good sound few serial some = record {
+  serial = serial;
+  disks = let below : some.disk < length c.disks = some.below in omega (arith, below);
+  rvg = if_some c.rvg (rvg_fits c sound few);
+}
+
+-- arrays of one value
+pub zeros_at : (xs : List ℕ) → list_all (λ x. x == 0) xs ≡ true → (v : ℕ) → slice_index_or xs v 0 ≡ 0
+zeros_at [] is v = refl
+zeros_at (x ∷ xs) is zero = eqb-true x 0 (and_parts (x == 0) (list_all (λ y. y == 0) xs) is).0
+zeros_at (x ∷ xs) is (suc v) = zeros_at xs (and_parts (x == 0) (list_all (λ y. y == 0) xs) is).1 v
+
+pub false_at : (xs : List Bool) → list_all not xs ≡ true → (v : ℕ) → slice_index_or xs v false ≡ false
+false_at [] is v = refl
+false_at (true ∷ xs) is v = absurd (let clash : false ≡ true = is in cc)
+false_at (false ∷ xs) is zero = refl
+false_at (false ∷ xs) is (suc v) = false_at xs is v
 
 -- ---- the configuration in memory
 
