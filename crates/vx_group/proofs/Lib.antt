@@ -11,6 +11,5 @@ pub mod CopyLemmas
 pub mod FoundLemmas
 pub mod ResumeLemmas
 pub mod MendLemmas
-pub mod FinishLemmas
 pub mod PlanLemmas
-pub mod ImportLemmas
+pub mod TakeLemmas

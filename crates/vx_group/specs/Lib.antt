@@ -9,4 +9,3 @@ pub mod Deports
 pub mod Copying
 pub mod Resumes
 pub mod Mends
-pub mod Finishes

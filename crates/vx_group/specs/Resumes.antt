@@ -1,10 +1,9 @@
 -- What an import takes up, and the group that it gives.
-use Rattle.std.specs.Prelude.{◌≡◌, ◌⊎◌, ℕ, ◌<◌, ◌≤◌, ◌-◌, ◌^◌, Bool, true, false, IsTrue, not, ◌&&◌, if◌then◌else◌, Option, Some, None, List, [], length, slice_get, slice_index_or, Result, Ok, Err}
+use Rattle.std.specs.Prelude.{◌≡◌, ◌⊎◌, ℕ, ◌<◌, ◌≤◌, ◌-◌, ◌^◌, Bool, true, false, IsTrue, not, ◌&&◌, if◌then◌else◌, Option, Some, None, List, length, slice_get, slice_index_or, Result, Ok, Err}
 use Rattle.std.specs.List.{list_any}
 use Rattle.vx_disk.specs.Blocks.{bit_at}
-use Rattle.vx_disk.specs.Causes.{DeviceCause}
 use Rattle.vx_disk.specs.Counts.{Rose}
-use Rattle.vx_disk.specs.Shelf.{Each, Goes, Image, Meaning, Nothing}
+use Rattle.vx_disk.specs.Shelf.{Each, Image, Meaning}
 use Rattle.vx_model.specs.declared.errors.Stop.{Stop}
 use Rattle.vx_model.specs.declared.errors.Stop.TheVariants.{No as Refused, OutOfMemory}
 use Rattle.vx_model.specs.declared.limits.TheConstants.{MOST_VOLUMES}
@@ -17,14 +16,13 @@ use Rattle.vx_config.specs.declared.config.Config.{Config}
 use Rattle.vx_config.specs.declared.entry.PlexEntry.{PlexEntry}
 use Rattle.vx_config.specs.declared.entry.VolumeEntry.{VolumeEntry}
 use Rattle.vx_copyfmt.specs.Imports.{Found}
-use Rattle.vx_copyio.specs.Labelling.{HasSmall}
 use Rattle.vx_copies.specs.Answers.{Imported, good_set, returned}
 use Rattle.vx_copies.specs.Marks.{HasGood, NoneGood}
 use Rattle.vx_layout.specs.Places.{place}
 use Rattle.vx_volume.specs.Plexes.{Inside, active, plexes_of}
 use Rattle.vx_kept.specs.Choice.{first_where}
 use Rattle.vx_kept.specs.Cleans.{marked}
-use Rattle.vx_kept.specs.Groups.{found, found_by, group_meaning}
+use Rattle.vx_kept.specs.Groups.{found, found_by}
 use Rattle.vx_kept.specs.Keeping.{Base}
 use Rattle.vx_kept.specs.Opens.{OpenVolumes}
 use Rattle.vx_group.specs.Dets.{any_below, margin}
@@ -136,51 +134,3 @@ pub record IsMended (opened : Config) (v source : ℕ) (core : GroupCore) (old n
   pub value : ℕ → List ℕ
   pub origin : (k : ℕ) → Inside opened v k → IsTrue old.tells → old.reads (place opened v source k).0 (place opened v source k).1 (value k)
   pub one : (k : ℕ) (x : List ℕ) → Inside opened v k → (meaning_of core new).leaves v k x → x ≡ value k
-
--- A group stands on the disks as the one that was found, whose volumes read as the plexes that took part; a volume that stopped uncleanly as
--- the one that it is gone by.
-pub record Resumed (old : Meaning) (core : GroupCore) (new : Meaning) : Type 0 where
-  pub found : Config
-  pub opened : Config
-  pub up : TakenUp old new found opened
-  pub stands : Stands core new
-  pub settled : core.unsettled ≡ false
-  pub fresh : IsFresh core
-  pub goes : Goes Nothing (group_meaning opened (λ v. 0) old) (meaning_of core new)
-  pub on : (v p : ℕ) → IsTrue (active core.config v p) → IsTrue (active opened v p)
-  pub mended : (v : ℕ) → v < length opened.volumes → stopped found v ≡ true → IsMended opened v (source_of (good_set found.disks) opened v) core old new
-
--- ---- how it ends
-
--- nothing was written; or what stands on the disks is the group that was found, as far as it was settled
-pub record HalfResumed (old new : Meaning) : Type 0 where
-  pub found : Config
-  pub core : GroupCore
-  pub opened : Config
-  pub up : TakenUp old new found opened
-  pub stands : Stands core new
-  pub goes : Goes Nothing (group_meaning opened (λ v. 0) old) (meaning_of core new)
-
-abbrev pub Unharmed : Meaning → Meaning → Type 0
-Unharmed old new = Goes Nothing old new ⊎ HalfResumed old new
-
--- the count of a disk rose
-pub record SomeRose (old new : Meaning) : Type 0 where
-  pub disk : ℕ
-  pub rose : Rose (old.disk_faults disk) (new.disk_faults disk)
-
--- a disk is too small for one of a group, or what the reads gave says so, or what was found is not taken up, or a device failed; and where the
--- last serial was used in the call, the count of some disk rose
-abbrev pub ImportStops : Meaning → Meaning → Stop → Type 0
-ImportStops old new (Refused why) =
-    (HasSmall old × (why ≡ refusal.NoConfig)) ⊎ Imported old new (Err (Refused why)) ⊎ NotTaken old new why ⊎ DeviceCause old new why ⊎ ((why ≡ refusal.Limit Numbers greatest) × SomeRose old new)
-ImportStops old new OutOfMemory = Unit {0}
-
-abbrev pub ImportEnds : Meaning → Meaning → Result GroupCore Stop → Type 0
-ImportEnds old new (Ok core) = Resumed old core new
-ImportEnds old new (Err stop) = Unharmed old new × ImportStops old new stop
-
--- the same of a group with its shelf, which is handed back where none is imported
-abbrev pub GroupImported : {S G : Type 0} → Meaning → (S → Meaning) → (G → GroupCore) → (G → S) → Result G (S × Stop) → Type 0
-GroupImported old meaning core shelf (Ok g) = Resumed old (core g) (meaning (shelf g))
-GroupImported old meaning core shelf (Err (s, stop)) = Unharmed old (meaning s) × ImportStops old (meaning s) stop

@@ -12,7 +12,6 @@ mod detaching;
 mod flushing;
 mod group;
 mod group_core;
-mod importing;
 mod marking;
 mod mending;
 mod planning;
