@@ -2,6 +2,7 @@
 use Rattle.std.proofs.Common.{◌≡◌, ◌⊎◌, ℕ, zero, suc, ◌+◌, ◌<◌, ◌≤◌, ◌==◌, Bool, true, false, List, [], ◌∷◌, ◌++◌, length, cond, refl, ap, sym, ◌∙◌, subst, ⊎_elim, inl, inr, arith, length-append, eq-eqb, Some, slice_get}
 use Rattle.std.proofs.lemmas.Option.{slice_get-get_or, get_or_from_slice_get, slice_get_within}
 use Rattle.atomic_table.specs.Seated.{TableId}
+use Rattle.vx_model.specs.declared.call.Call.{Call}
 use Rattle.vx_model.specs.declared.call.Reply.{Reply}
 use Rattle.vx_turn.specs.declared.ask.Ask.{Ask}
 use Rattle.vx_turn.specs.declared.ask.Ask.TheVariants.{Ordered, Charged}
@@ -34,7 +35,7 @@ use Rattle.vx_burst_threads.specs.Joining.{pass_of, backs, IsMadeBy, Meeting}
 use Rattle.vx_burst_threads.specs.Laying.{LaidWith}
 use Rattle.vx_burst_threads.proofs.Making.{stands-more}
 use Rattle.vx_burst.specs.Setting.{IsSetUp, AreSetUp}
-use Rattle.vx_burst.specs.Finishing.{Went, AckWithin, Underway, IsIdle, IsOfPlan}
+use Rattle.vx_burst.specs.Finishing.{Went, AckWithin, Underway, IsLeftOut, IsOfPlan}
 use Rattle.vx_burst.specs.Ending.{HasJoined}
 use Rattle.vx_burst.proofs.Underways.{get-some}
 
@@ -170,8 +171,36 @@ module _ {P : Type 0} (stand : P → Stand) (root : P → P) where
       pub asks : e.ask ≡ Ordered (call_for planned)
       pub says : e.said ≡ Replied reply
 
+    -- the call is that of a member of which nothing was made
+    abbrev pub IsOpen : ℕ → Call → Type 0
+    IsOpen n call = (k : ℕ) × (pl : Planned) × (slice_get plan k ≡ Some pl) × (call ≡ call_for pl) × ((m : Made) → IsMadeBy j.xs m → m.at ≡ k → ⊥)
+
+    -- a job, or a stalled answer that was left open
+    abbrev pub IsIdle : Ask → Said → Type 0
+    IsIdle ask said = IsLeftOut IsOpen 0 ask said
+
     abbrev pub Class : ℕ → Entry → Type 0
     Class n e = IsMadeAt n e ⊎ (IsIdle e.ask e.said × AckWithin stand root out e.ask × IsOfPlan plan e.ask)
+
+    -- nothing was made of a member at which its thread stopped
+    left-open : (i k : ℕ) (x : Writer) (pl : Planned) → slice_get j.xs i ≡ Some (Writes x) → slice_get plan k ≡ Some pl → pl.thread ≡ i + 1 → ((m : Made) → Among m x.made.items → m.at < k)
+        → (m : Made) → IsMadeBy j.xs m → m.at ≡ k → ⊥
+    left-open i k x pl new is own below m (y, (u, here), got) at =
+        let inside = get-inside j.xs u (Writes y) here in let n = j.pairs.0 in let w = get-some j.ws u (omega (arith, n, inside)) in by-writer w.0 w.1 (j.pairs.1 u w.0 (Writes y) w.1 here)
+      where
+        as-worker : Writer → Worker P
+        as-worker v = Writes v
+
+        same-writer : (v w : Writer) → as-worker v ≡ as-worker w → v ≡ w
+        same-writer v w e = cc e
+
+        by-writer : (w : Worker P) → slice_get j.ws u ≡ Some w → HasWorked stand root plan w (Writes y) → ⊥
+        by-writer (Drains d) old h = absurd h
+        by-writer (Writes w) old h = let s = j.set u (Writes w) old in let g = (h.made s.0.none_made).1.each m got in
+            let same : g.planned ≡ pl = some-one (sym g.is ∙ (ap (slice_get plan) at ∙ is)) in
+            let t : w.thread ≡ i + 1 = sym g.own ∙ (ap (λ (z : Planned). z.thread) same ∙ own) in let a = s.1 in let eq : u ≡ i = omega (arith, t, a) in
+            let v : y ≡ x = same-writer y x (some-one (sym here ∙ (ap (slice_get j.xs) eq ∙ new))) in
+            let lt = below m (subst (λ (c : Writer). Among m c.made.items) v got) in omega (arith, lt, at)
 
     writer-class : (n i : ℕ) (e : Entry) (w x : Writer) → slice_get log n ≡ Some e → e.caller ≡ i → slice_get j.ws i ≡ Some (Writes w) → slice_get j.xs i ≡ Some (Writes x) → Wrote plan w x → x.pass.number ≡ i → Class n e
     writer-class n i e w x at by old new h number = let fresh = (j.set i (Writes w) old).0.none_made in let m = h.made fresh in
@@ -181,7 +210,7 @@ module _ {P : Type 0} (stand : P → Stand) (root : P → P) where
         inl (record { made = o.0; by = (x, (i, new), o.1); place = o.2; planned = k.planned; reply = k.reply; is = k.is; asks = g.1; says = g.2 }))
         (λ (o : IsLeft plan w.thread m.0 x.pass (suc n)).
         let g = stands-get log (suc n) x.pass.number (Ordered (call_for o.planned)) (Replied o.reply) (stands-more (seen_of x.pass) log (suc n) x.pass.number (Ordered (call_for o.planned)) (Replied o.reply) o.stands (begins-of i (Writes x) new)) n refl e at in
-        inr (subst (λ (y : Ask × Said). IsIdle y.0 y.1 × AckWithin stand root out y.0 × IsOfPlan plan y.0) (λ k. (sym g.1 k, sym g.2 k)) (o.stalled, tt, (m.0, o.planned, o.is, refl)))) (m.1.only (suc n) mine)
+        inr (subst (λ (y : Ask × Said). IsIdle y.0 y.1 × AckWithin stand root out y.0 × IsOfPlan plan y.0) (λ k. (sym g.1 k, sym g.2 k)) ((o.stalled, (m.0, o.planned, o.is, refl, left-open i m.0 x o.planned new o.is (o.own ∙ (j.set i (Writes w) old).1) (λ d got. (m.1.each d got).done))), tt, (m.0, o.planned, o.is, refl)))) (m.1.only (suc n) mine)
 
     -- where a link's worker's peer came back
     drainer-back : (i : ℕ) (d : Drainer P) → slice_get j.xs i ≡ Some (Drains d) → (k : ℕ) × (slice_get out k ≡ Some d.peer)

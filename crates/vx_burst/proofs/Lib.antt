@@ -6,4 +6,5 @@ pub mod Waitings
 pub mod Placings
 pub mod Ends
 pub mod Placed
+pub mod Legals
 pub mod Rans

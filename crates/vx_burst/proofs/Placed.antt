@@ -2,6 +2,7 @@
 use Rattle.std.proofs.Common.{◌≡◌, ◌⊎◌, ℕ, zero, suc, ◌+◌, ◌-◌, ◌<◌, ◌≤◌, ◌==◌, List, [], ◌∷◌, ◌++◌, length, map, take, refl, ap, sym, ◌∙◌, subst, ⊎_elim, inl, inr, arith, ne_eqb, Some, slice_get, slice_index_or}
 use Rattle.std.proofs.lemmas.Option.{get_or_from_slice_get}
 use Rattle.atomic_table.specs.Seated.{TableId}
+use Rattle.vx_model.specs.declared.call.Call.{Call}
 use Rattle.vx_turn.specs.declared.ask.Ask.{Ask}
 use Rattle.vx_turn.specs.declared.ask.Ask.TheVariants.{Ordered, Charged}
 use Rattle.vx_turn.specs.declared.ask.Said.{Said}
@@ -34,10 +35,10 @@ use Rattle.vx_burst.specs.declared.placing.Spot.{Spot}
 use Rattle.vx_burst.specs.Placing.{Noted, Numbered}
 use Rattle.vx_burst.proofs.Placings.{once-same}
 use Rattle.vx_burst.proofs.Underways.{get-some, job_entry}
-use Rattle.vx_burst.proofs.Ends.{classify, of-plan, IsMadeAt}
+use Rattle.vx_burst.proofs.Ends.{classify, of-plan, IsMadeAt, IsOpen, IsIdle}
 use Rattle.vx_burst.specs.Setting.{AreBlank}
 use Rattle.vx_burst.specs.Setting.{one_if}
-use Rattle.vx_burst.specs.Finishing.{IsIdle, IsOrdered, Stay, unplaced, Underway, IsPlaced, Stage}
+use Rattle.vx_burst.specs.Finishing.{IsLeftOut, IsOrdered, Stay, IsAskedAgain, unplaced, Underway, IsPlaced, Stage}
 use Rattle.vx_burst.proofs.Ends.{Joined, begins-of}
 
 -- an entry that stands at a place, as it is found
@@ -59,13 +60,17 @@ rising-above n [] p r m = absurd (cc m.1)
 rising-above n (q ∷ qs) p r (zero, at) = let e : q ≡ p = some-one at in let a = r.0 in omega (arith, a, e)
 rising-above n (q ∷ qs) p r (suc i, at) = let a = r.0 in let b = rising-above q qs p r.1 (i, at) in omega (arith, a, b)
 
--- where each event at a place that is none of these is idle, those at these places stay
-pub stay-picked : (ev : ℕ → Ask × Said) (n : ℕ) (log : List Entry) (ps : List ℕ) → Rising n ps → ((p : ℕ) → Among p ps → p ≤ n + length log) → ((p : ℕ) → Among p ps → IsOrdered (ev p).0)
-    → ((i : ℕ) (e : Entry) → slice_get log i ≡ Some e → ev (suc (n + i)) ≡ asked e) → ((i : ℕ) (e : Entry) → slice_get log i ≡ Some e → Among (suc (n + i)) ps ⊎ IsIdle e.ask e.said) → Stay (map asked log) (map ev ps)
-stay-picked ev n [] [] r top order is class = refl
-stay-picked ev n [] (p ∷ ps) r top order is class = absurd (let a = top p (0, refl) in let b = r.0 in omega (arith, a, b))
-stay-picked ev n (e ∷ es) ps r top order is class = step ps r top order (class 0 e refl)
-    (λ qs s t o c. stay-picked ev (suc n) es qs s t o (λ i x at. let z : suc (n + suc i) ≡ suc (suc n + i) = omega arith in subst (λ m. ev m ≡ asked x) z (is (suc i) x at)) c) class
+-- the entry may be left out behind any number of calls that stay
+abbrev pub MayLeave : (ℕ → Call → Type 0) → Entry → Type 0
+MayLeave IsLeft e = (m : ℕ) → IsLeftOut IsLeft m e.ask e.said
+
+-- where each event at a place that is none of these may be left out, those at these places stay
+pub stay-picked : (IsLeft : ℕ → Call → Type 0) (r : ℕ) (ev : ℕ → Ask × Said) (n : ℕ) (log : List Entry) (ps : List ℕ) → Rising n ps → ((p : ℕ) → Among p ps → p ≤ n + length log) → ((p : ℕ) → Among p ps → IsOrdered (ev p).0)
+    → ((i : ℕ) (e : Entry) → slice_get log i ≡ Some e → ev (suc (n + i)) ≡ asked e) → ((i : ℕ) (e : Entry) → slice_get log i ≡ Some e → Among (suc (n + i)) ps ⊎ MayLeave IsLeft e) → Stay IsLeft r (map asked log) (map ev ps)
+stay-picked IsLeft l ev n [] [] r top order is class = refl
+stay-picked IsLeft l ev n [] (p ∷ ps) r top order is class = absurd (let a = top p (0, refl) in let b = r.0 in omega (arith, a, b))
+stay-picked IsLeft l ev n (e ∷ es) ps r top order is class = step ps r top order (class 0 e refl)
+    (λ after qs s t o c. stay-picked IsLeft after ev (suc n) es qs s t o (λ i x at. let z : suc (n + suc i) ≡ suc (suc n + i) = omega arith in subst (λ m. ev m ≡ asked x) z (is (suc i) x at)) c) class
   where
     first : ev (suc n) ≡ asked e
     first = let z : suc (n + 0) ≡ suc n = omega arith in subst (λ m. ev m ≡ asked e) z (is 0 e refl)
@@ -73,26 +78,26 @@ stay-picked ev n (e ∷ es) ps r top order is class = step ps r top order (class
     shift : (i : ℕ) → suc (n + suc i) ≡ suc (suc n + i)
     shift i = omega arith
 
-    step : (ps : List ℕ) → Rising n ps → ((p : ℕ) → Among p ps → p ≤ n + length (e ∷ es)) → ((p : ℕ) → Among p ps → IsOrdered (ev p).0) → Among (suc (n + 0)) ps ⊎ IsIdle e.ask e.said
-        → ((qs : List ℕ) → Rising (suc n) qs → ((p : ℕ) → Among p qs → p ≤ suc n + length es) → ((p : ℕ) → Among p qs → IsOrdered (ev p).0) → ((i : ℕ) (x : Entry) → slice_get es i ≡ Some x → Among (suc (suc n + i)) qs ⊎ IsIdle x.ask x.said) → Stay (map asked es) (map ev qs))
-        → ((i : ℕ) (x : Entry) → slice_get (e ∷ es) i ≡ Some x → Among (suc (n + i)) ps ⊎ IsIdle x.ask x.said) → Stay (map asked (e ∷ es)) (map ev ps)
-    step [] r top order c rest class = ⊎_elim (λ (m : Among (suc (n + 0)) []). absurd (cc m.1)) (λ (i : IsIdle e.ask e.said). inl (
-      i,
-      rest [] tt (λ p m. absurd (cc m.1)) (λ p m. absurd (cc m.1))
-          (λ k x at. ⊎_elim (λ (m : Among (suc (n + suc k)) []). absurd (cc m.1)) (λ (m : IsIdle x.ask x.said). inr m) (class (suc k) x at)),
+    step : (ps : List ℕ) → Rising n ps → ((p : ℕ) → Among p ps → p ≤ n + length (e ∷ es)) → ((p : ℕ) → Among p ps → IsOrdered (ev p).0) → Among (suc (n + 0)) ps ⊎ MayLeave IsLeft e
+        → ((after : ℕ) (qs : List ℕ) → Rising (suc n) qs → ((p : ℕ) → Among p qs → p ≤ suc n + length es) → ((p : ℕ) → Among p qs → IsOrdered (ev p).0) → ((i : ℕ) (x : Entry) → slice_get es i ≡ Some x → Among (suc (suc n + i)) qs ⊎ MayLeave IsLeft x) → Stay IsLeft after (map asked es) (map ev qs))
+        → ((i : ℕ) (x : Entry) → slice_get (e ∷ es) i ≡ Some x → Among (suc (n + i)) ps ⊎ MayLeave IsLeft x) → Stay IsLeft l (map asked (e ∷ es)) (map ev ps)
+    step [] r top order c rest class = ⊎_elim (λ (m : Among (suc (n + 0)) []). absurd (cc m.1)) (λ (i : MayLeave IsLeft e). inl (
+      i l,
+      rest l [] tt (λ p m. absurd (cc m.1)) (λ p m. absurd (cc m.1))
+          (λ k x at. ⊎_elim (λ (m : Among (suc (n + suc k)) []). absurd (cc m.1)) (λ (m : MayLeave IsLeft x). inr m) (class (suc k) x at)),
     )) c
     step (p ∷ ps) r top order c rest class = ⊎_elim
         (λ (same : p ≡ suc n). inr (
           map ev ps,
           ap (λ y. y ∷ map ev ps) (ap ev same ∙ first),
           subst (λ (y : Ask × Said). IsOrdered y.0) (ap ev same ∙ first) (order p (0, refl)),
-          rest ps (subst (λ m. Rising m ps) same r.1) (λ q m. (let t = top q (suc m.0, m.1) in omega (arith, t))) (λ q m. order q (suc m.0, m.1))
-              (λ k x at. ⊎_elim (λ (m : Among (suc (n + suc k)) (p ∷ ps)). inl (tail (suc (n + suc k)) (suc (suc n + k)) (shift k) m (λ z. absurd (omega (arith, z, same))))) (λ (m : IsIdle x.ask x.said). inr m) (class (suc k) x at)),
+          rest (suc l) ps (subst (λ m. Rising m ps) same r.1) (λ q m. (let t = top q (suc m.0, m.1) in omega (arith, t))) (λ q m. order q (suc m.0, m.1))
+              (λ k x at. ⊎_elim (λ (m : Among (suc (n + suc k)) (p ∷ ps)). inl (tail (suc (n + suc k)) (suc (suc n + k)) (shift k) m (λ z. absurd (omega (arith, z, same))))) (λ (m : MayLeave IsLeft x). inr m) (class (suc k) x at)),
         ))
         (λ (far : suc n < p). inl (
-          ⊎_elim (λ (m : Among (suc (n + 0)) (p ∷ ps)). absurd (low m far)) (λ (i : IsIdle e.ask e.said). i) c,
-          rest (p ∷ ps) (far, r.1) (λ q m. (let t = top q m in omega (arith, t))) order
-              (λ k x at. ⊎_elim (λ (m : Among (suc (n + suc k)) (p ∷ ps)). inl (subst (λ z. Among z (p ∷ ps)) (shift k) m)) (λ (m : IsIdle x.ask x.said). inr m) (class (suc k) x at)),
+          ⊎_elim (λ (m : Among (suc (n + 0)) (p ∷ ps)). absurd (low m far)) (λ (i : MayLeave IsLeft e). i l) c,
+          rest l (p ∷ ps) (far, r.1) (λ q m. (let t = top q m in omega (arith, t))) order
+              (λ k x at. ⊎_elim (λ (m : Among (suc (n + suc k)) (p ∷ ps)). inl (subst (λ z. Among z (p ∷ ps)) (shift k) m)) (λ (m : MayLeave IsLeft x). inr m) (class (suc k) x at)),
         )) (which p r.0)
       where
         which : (p : ℕ) → n < p → (p ≡ suc n) ⊎ (suc n < p)
@@ -285,7 +290,7 @@ module _ {P : Type 0} (stand : P → Stand) (root : P → P) (z : TableId) (star
         map ev ps,
         record {
           underway = under;
-          left = stay-picked ev 0 log ps (rising-of 0 spots (λ i t at. (let n = noted.each i t at in let a = n.1.2 in let b = n.1.3 in omega (arith, a, b))) spots-rise) top ordered is class;
+          left = stay-picked (IsAskedAgain plan news) 0 ev 0 log ps (rising-of 0 spots (λ i t at. (let n = noted.each i t at in let a = n.1.2 in let b = n.1.3 in omega (arith, a, b))) spots-rise) top ordered is class;
           calls = λ e m. of-plan stand root z start callers plan firsts p q out log j e m.0 (classify stand root z start callers plan firsts p q out log j m.0 e m.1);
           count = map-long ev ps ∙ map-long (λ (t : Spot). t.place) spots;
           rest = let c = noted.count in let u = unplaced-ext olds news numbered.long kept in let w = ap unplaced (take-whole olds) in let l = laid.long in omega (arith, c, u, w, l, long);
@@ -339,10 +344,27 @@ module _ {P : Type 0} (stand : P → Stand) (root : P → P) (z : TableId) (star
           ordered : (n : ℕ) → Among n ps → IsOrdered (ev n).0
           ordered n m = let t = map-get (λ (t : Spot). t.place) spots m.0 n m.1 in subst (λ (y : Ask × Said). IsOrdered y.0) (sym (event m.0 t.0 t.1) ∙ ap ev t.2) tt
 
-          class : (i : ℕ) (e : Entry) → slice_get log i ≡ Some e → Among (suc (0 + i)) ps ⊎ IsIdle e.ask e.said
+          open-again : (m : ℕ) (call : Call) → IsOpen stand root z start callers plan firsts p q out log j 0 call → IsAskedAgain plan news m call
+          open-again m call (k, pl, is, same, none) = let inside = get-inside plan k pl is in let l = numbered.long ∙ (laid.long ∙ long) in let b = get-some news k (omega (arith, inside, l)) in (
+            k,
+            pl,
+            b.0,
+            is,
+            b.1,
+            same,
+            inl (⊎_elim (λ (e : 0 ≡ b.0.place). sym e) (λ (o : (0 < b.0.place) ⊎ (b.0.place < 0)). ⊎_elim (λ (up : 0 < b.0.place). absurd (let n = news-spot k b.0 b.1 up in let f = spot-info n.0 n.1 n.2 in none f.made f.by (f.at ∙ n.3)))
+                (λ (low : b.0.place < 0). absurd (omega (arith, low))) o) (order 0 b.0.place)),
+          )
+
+          may-leave : (ask : Ask) (said : Said) → IsIdle stand root z start callers plan firsts p q out log j ask said → (m : ℕ) → IsLeftOut (IsAskedAgain plan news) m ask said
+          may-leave (Charged i) said h m = tt
+          may-leave (Ordered call) (Replied reply) h m = (h.0, open-again m call h.1)
+          may-leave (Ordered call) (Worked reply into) h m = absurd h
+
+          class : (i : ℕ) (e : Entry) → slice_get log i ≡ Some e → Among (suc (0 + i)) ps ⊎ MayLeave (IsAskedAgain plan news) e
           class i e at = ⊎_elim (λ (m : IsMadeAt stand root z start callers plan firsts p q out log j i e). let c = made-spot m.made m.by in let n : c.0.place ≡ suc (0 + i) = (let a = c.3 in let b = m.place in omega (arith, a, b)) in
               inl (c.1.0, get-map (λ (t : Spot). t.place) spots c.1.0 c.0 c.1.1 ∙ ap Some n))
-              (λ (m : IsIdle e.ask e.said × Rattle.vx_burst.specs.Finishing.AckWithin stand root out e.ask × Rattle.vx_burst.specs.Finishing.IsOfPlan plan e.ask). inr m.0) (classify stand root z start callers plan firsts p q out log j i e at)
+              (λ (m : IsIdle stand root z start callers plan firsts p q out log j e.ask e.said × Rattle.vx_burst.specs.Finishing.AckWithin stand root out e.ask × Rattle.vx_burst.specs.Finishing.IsOfPlan plan e.ask). inr (may-leave e.ask e.said m.0)) (classify stand root z start callers plan firsts p q out log j i e at)
 
           kept : (k : ℕ) (a b : Answered) → slice_get olds k ≡ Some a → slice_get news k ≡ Some b → (a.place ≡ 0 → b.place ≡ 0) × (0 < a.place → 0 < b.place)
           kept k a b x y = (

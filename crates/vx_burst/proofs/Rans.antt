@@ -10,11 +10,12 @@ use Rattle.vx_burst_threads.specs.declared.plan.Planned.{Planned}
 use Rattle.vx_burst_threads.specs.declared.plan.Answered.{Answered}
 use Rattle.vx_burst.specs.Setting.{AreBlank, one_if}
 use Rattle.vx_burst.specs.Placing.{Renumbered}
-use Rattle.vx_burst.specs.Finishing.{Stage, StagesOn, ArePlaced, unplaced, WaitsOn}
+use Rattle.vx_burst.specs.Finishing.{Stage, StagesOn, ArePlaced, IsAskedAgain, unplaced, WaitsOn}
 use Rattle.vx_burst.specs.Ending.{HasJoined, Ran}
 use Rattle.vx_burst.proofs.Underways.{get-some}
 use Rattle.vx_burst.proofs.Ends.{joined-of, joined-underway}
 use Rattle.vx_burst.proofs.Placed.{joined-stage}
+use Rattle.vx_burst.proofs.Legals.{stay-leads}
 
 -- where all have places none has none
 pub unplaced-none : (xs : List Answered) → ArePlaced xs (length xs) → unplaced xs ≡ 0
@@ -72,6 +73,7 @@ module _ {P : Type 0} (stand : P → Stand) (root : P → P) where
         log = w.log;
         stays = a.1;
         stage = stage;
+        leads = let u = stage.underway in stay-leads (IsAskedAgain plan zs) (state first) (state engine) w.log a.1 u.legal u.fits.0.volumes_is u.fits.0.head_is stage.left;
         placed = placed-all zs (length plan) (let r = stage.rest in omega (arith, r));
         waited = λ k x at. w.waited k x (let i = get-inside zs k x at in let l = stage.long in omega (arith, i, l, long)) at;
         rooted = rooted;

@@ -1,5 +1,5 @@
 -- One wait more.
-use Rattle.std.proofs.Common.{◌≡◌, ◌≢◌, ℕ, zero, suc, ◌+◌, ◌-◌, ◌<◌, ◌≤◌, ◌==◌, false, List, [], ◌∷◌, ◌++◌, length, map, refl, ap, sym, ◌∙◌, subst, ⊎_elim, arith, append_assoc, Some, slice_get, slice_set}
+use Rattle.std.proofs.Common.{◌≡◌, ◌≢◌, ℕ, zero, suc, ◌+◌, ◌-◌, ◌<◌, ◌≤◌, ◌==◌, false, List, [], ◌∷◌, ◌++◌, length, map, take, refl, ap, sym, ◌∙◌, subst, ⊎_elim, arith, append_assoc, Some, slice_get, slice_set}
 use Rattle.std.proofs.lemmas.List.{append-nil}
 use mathlib.Core.List.{map-append}
 use Rattle.vx_model.specs.Answer.{Answer, Shows, Accepts, WrongSize, OutOfRange, answer_of}
@@ -33,17 +33,17 @@ use Rattle.vx_burst_threads.specs.declared.plan.Told.{Told}
 use Rattle.vx_burst_threads.specs.declared.plan.Told.TheVariants as told
 use Rattle.vx_burst_threads.specs.declared.plan.Waited.{Waited}
 use Rattle.vx_burst_threads.specs.declared.plan.Waited.TheVariants as waited
-use Rattle.vx_burst_threads.specs.Planning.{call_for, IsTold}
+use Rattle.vx_burst_threads.specs.Planning.{call_for, IsTold, IsStalled}
 use Rattle.vx_burst.specs.Setting.{one_if}
-use Rattle.vx_burst.specs.Finishing.{head_behind, IsNothing, AckWithin, Underway, IsIdle, IsOrdered, Stay, unplaced, HasExcuse, Stage, IsWaited, ended_as, WaitedOne, WaitedOn}
+use Rattle.vx_burst.specs.Finishing.{head_behind, IsNothing, AckWithin, Underway, IsLeftOut, IsOrdered, Stay, IsAskedAgain, AreBefore, unplaced, HasExcuse, Stage, IsWaited, ended_as, WaitedOne, WaitedOn}
 use Rattle.vx_burst.proofs.Underways.{job_entry, asked-jobs, get-some, underway-brings, underway-moves}
-use Rattle.vx_burst.proofs.Stages.{job-of-plan, stay-jobs, excuse-later, halted-not, brought-excuse}
+use Rattle.vx_burst.proofs.Stages.{job-of-plan, stay-jobs, stay-as, again-same, excuse-later, halted-not, brought-excuse}
 
 -- what stays is among the events
-pub stay-among : (xs ys : Events) (i : ℕ) (y : Ask × Said) → Stay xs ys → slice_get ys i ≡ Some y → Among y xs
-stay-among [] ys i y s at = absurd (cc (subst (λ l. slice_get l i ≡ Some y) s at))
-stay-among (x ∷ xs) ys i y s at = ⊎_elim (λ (o : IsIdle x.0 x.1 × Stay xs ys). let r = stay-among xs ys i y o.1 at in (suc r.0, r.1))
-    (λ (o : (zs : Events) × (ys ≡ x ∷ zs) × IsOrdered x.0 × Stay xs zs). first o.0 (λ j t. stay-among xs o.0 j y o.3 t) i (subst (λ l. slice_get l i ≡ Some y) o.1 at)) s
+pub stay-among : (IsLeft : ℕ → Call → Type 0) (n : ℕ) (xs ys : Events) (i : ℕ) (y : Ask × Said) → Stay IsLeft n xs ys → slice_get ys i ≡ Some y → Among y xs
+stay-among IsLeft n [] ys i y s at = absurd (cc (subst (λ l. slice_get l i ≡ Some y) s at))
+stay-among IsLeft n (x ∷ xs) ys i y s at = ⊎_elim (λ (o : IsLeftOut IsLeft n x.0 x.1 × Stay IsLeft n xs ys). let r = stay-among IsLeft n xs ys i y o.1 at in (suc r.0, r.1))
+    (λ (o : (zs : Events) × (ys ≡ x ∷ zs) × IsOrdered x.0 × Stay IsLeft (suc n) xs zs). first o.0 (λ j t. stay-among IsLeft (suc n) xs o.0 j y o.3 t) i (subst (λ l. slice_get l i ≡ Some y) o.1 at)) s
   where
     first : (zs : Events) → ((j : ℕ) → slice_get zs j ≡ Some y → Among y xs) → (i : ℕ) → slice_get (x ∷ zs) i ≡ Some y → Among y (x ∷ xs)
     first zs rest zero at = (0, at)
@@ -109,7 +109,7 @@ module _ {P : Type 0} (stand : P → Stand) (root : P → P) where
       → ((i : ℕ) (p q : P) → slice_get ps i ≡ Some p → slice_get qs i ≡ Some q → Goes (stand p) (stand q)) → Stage stand root start firsts plan (log ++ more) t qs answers n stays
   stage-moves start firsts plan log more s t ps qs answers n stays es g u is jobs rises long goes = record {
     underway = u;
-    left = subst (λ l. Stay l stays) (sym (map-append asked log more ∙ ap (λ l. map asked log ++ l) is)) (stay-jobs (map asked log) es stays jobs g.left);
+    left = subst (λ l. Stay (IsAskedAgain plan answers) 0 l stays) (sym (map-append asked log more ∙ ap (λ l. map asked log ++ l) is)) (stay-jobs (IsAskedAgain plan answers) 0 (map asked log) es stays jobs g.left);
     calls = λ e m. ⊎_elim (λ (x : Among e log). g.calls e x) (λ (x : Among e more). job-of-plan plan e.ask e.said (jobs e.ask e.said (subst (Among (asked e)) is (x.0, asked-at more x.0 e x.1)))) (Rattle.vx_turn.proofs.Histories.among-split e log more m);
     count = g.count;
     rest = g.rest;
@@ -118,7 +118,7 @@ module _ {P : Type 0} (stand : P → Stand) (root : P → P) where
       reply = i.reply;
       at = i.at;
       told = i.told;
-      stalled = λ z. excuse-later stand root start firsts log more s t ps qs (Ordered (call_for pl)) (λ said. said ≡ Replied i.reply) (head_behind start) rises long goes (i.stalled z);
+      stalled = λ z. excuse-later stand root start firsts log more s t ps qs (Ordered (call_for pl)) (λ said. said ≡ Replied i.reply) (AreBefore (take (a.place - 1) stays)) (head_behind start) rises long goes (i.stalled z);
     };
     apart = g.apart;
     rises = g.rises;
@@ -129,7 +129,7 @@ module _ {P : Type 0} (stand : P → Stand) (root : P → P) where
       → slice_get answers k ≡ Some a → Stage stand root start firsts plan log s ps (slice_set answers k (record { place = a.place; reply = a.reply; waited = r })) n stays
   stage-set start firsts plan log s ps answers n stays k a r g at = record {
     underway = g.underway;
-    left = g.left;
+    left = stay-as (IsAskedAgain plan answers) (IsAskedAgain plan (slice_set answers k b)) 0 (map asked log) stays (λ m call le h. again-same plan answers k a b m call at refl h) g.left;
     calls = g.calls;
     count = g.count;
     rest = ap (λ m. n + m) (unplaced-same answers k a b at refl) ∙ g.rest;
@@ -138,7 +138,7 @@ module _ {P : Type 0} (stand : P → Stand) (root : P → P) where
       reply = i.reply;
       at = subst (λ z. slice_get stays (z - 1) ≡ Some (Ordered (call_for pl), Replied i.reply)) o.2 i.at;
       told = subst (IsTold i.reply) o.3 i.told;
-      stalled = i.stalled;
+      stalled = subst (λ z. IsStalled i.reply → HasExcuse stand root start firsts log s ps (Ordered (call_for pl)) (λ said. said ≡ Replied i.reply) (AreBefore (take (z - 1) stays)) (head_behind start)) o.2 i.stalled;
     };
     apart = λ i j x y ix jy some same. let o = was i x ix in let q = was j y jy in g.apart i j o.0 q.0 o.1 q.1 (omega (arith, some, o.2)) (o.2 ∙ (same ∙ sym q.2));
     rises = λ i j pi pj x y lt gi gj own ix jy some. let o = was i x ix in let q = was j y jy in let z = g.rises i j pi pj o.0 q.0 lt gi gj own o.1 q.1 (omega (arith, some, q.2)) in
@@ -158,7 +158,7 @@ module _ {P : Type 0} (stand : P → Stand) (root : P → P) where
   waited-later start firsts log more s t ps qs a rises long goes w = record {
     done = λ e. let o = w.done e in (o.0, o.1, o.2, wide (Charged (Wait o.0), Worked (job.Done o.0) o.1) o.3);
     unconfirmed = λ e. let o = w.unconfirmed e in (o.0, o.1, o.2, wide (Charged (Wait o.0), Worked (job.Refused (no.Unconfirmed o.0)) o.1) o.3);
-    no = λ e n is. excuse-later stand root start firsts log more s t ps qs (Charged (Wait n)) IsNothing (λ front. n) rises long goes (w.no e n is);
+    no = λ e n is. excuse-later stand root start firsts log more s t ps qs (Charged (Wait n)) IsNothing (λ front. Unit {0}) (λ front. n) rises long goes (w.no e n is);
   }
     where
       wide : (x : Ask × Said) → Among x (map asked log) → Among x (map asked (log ++ more))
@@ -252,10 +252,10 @@ module _ {P : Type 0} (stand : P → Stand) (root : P → P) where
       top = let l = g.long in let inside = get-inside answers k a at in let pl = get-some plan k (omega (arith, l, inside)) in let i = g.each k pl.0 a pl.1 at some in
           let r : i.reply ≡ reply.Logged m = told-logged i.reply a.reply m i.told is in
           let h = logged-below start.counts.faults start.ring (point_of start) log (call_for pl.0) m g.underway.legal
-          (subst (λ z. Among (Ordered (call_for pl.0), Replied z) (map asked log)) r (stay-among (map asked log) stays (a.place - 1) (Ordered (call_for pl.0), Replied i.reply) g.left i.at)) in
+          (subst (λ z. Among (Ordered (call_for pl.0), Replied z) (map asked log)) r (stay-among (IsAskedAgain plan answers) 0 (map asked log) stays (a.place - 1) (Ordered (call_for pl.0), Replied i.reply) g.left i.at)) in
           let e = g.underway.fits.0.head_is in omega (arith, h, e)
 
-      excuse : e ≡ ended.No → HasExcuse stand root start firsts (log ++ more) u rs (Charged (Wait m)) IsNothing (λ front. m)
+      excuse : e ≡ ended.No → HasExcuse stand root start firsts (log ++ more) u rs (Charged (Wait m)) IsNothing (λ front. Unit {0}) (λ front. m)
       excuse stuck calm =
           let since = brought.fits.0.since.0 in let on = w.once.moves.rises.0 in let up = w.brings.moves.head in
           let runs : w.mid.halted ≡ false = halted-not stand root w.mid (λ h. calm.0 (rose-wider start.counts.faults start.counts.faults w.mid.counts.faults u.counts.faults (omega arith) on (brought.fits.0.halts h))) in
@@ -269,6 +269,7 @@ module _ {P : Type 0} (stand : P → Stand) (root : P → P) where
             (
               log ++ one,
               record { entry = last; rest = []; is = sym whole ∙ (ap (λ l. (log ++ one) ++ l) single ∙ sym (append-nil ((log ++ one) ++ last ∷ []))); asks = refl; says = refl },
+              tt,
               brought-excuse stand root start firsts log t w.mid u qs rs g.underway w.brings on calm.0 (λ j cause into x. calm.1 j cause into (wide (Charged j, Worked (job.Refused cause) into) (among-left (Charged j, Worked (job.Refused cause) into) w.brings.moves.more w.once.moves.more x))) m top,
             ),
           )
@@ -278,7 +279,7 @@ module _ {P : Type 0} (stand : P → Stand) (root : P → P) where
         done = λ x. let z = w.once.done (ended-done e (sym how ∙ x)) in (m, z.1, is, said-in (Worked (job.Done m) z.1) (z.2 ∙ ap (λ q. Worked (job.Done q) z.1) z.3));
         unconfirmed = λ x. let z = w.once.unconfirmed (ended-unconfirmed e (sym how ∙ x)) in (m, z.0, is, said-in (Worked (job.Refused (no.Unconfirmed m)) z.0) z.1);
         no = λ x q l. let same : told.Logged m ≡ told.Logged q = sym is ∙ l in let eq : m ≡ q = cc same in
-            subst (λ v. HasExcuse stand root start firsts (log ++ more) u rs (Charged (Wait v)) IsNothing (λ front. v)) eq (excuse (ended-no e (sym how ∙ x)));
+            subst (λ v. HasExcuse stand root start firsts (log ++ more) u rs (Charged (Wait v)) IsNothing (λ front. Unit {0}) (λ front. v)) eq (excuse (ended-no e (sym how ∙ x)));
       }
 
   pub waits-none : (start : State) (firsts : List P) (plan : List Planned) (log : List Entry) (n : ℕ) (stays : Events) (s : State) (ps : List P) (answers : List Answered) → Stage stand root start firsts plan log s ps answers n stays

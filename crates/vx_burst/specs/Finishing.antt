@@ -1,5 +1,6 @@
 -- How far a burst has come.
-use Rattle.std.specs.Prelude.{◌≡◌, ◌⊎◌, ℕ, ◌+◌, ◌-◌, ◌<◌, ◌≤◌, ◌==◌, List, [], ◌∷◌, ◌++◌, length, map, slice_get, Some}
+use Rattle.std.specs.Prelude.{◌≡◌, ◌⊎◌, ℕ, suc, ◌+◌, ◌-◌, ◌<◌, ◌≤◌, ◌==◌, List, [], ◌∷◌, ◌++◌, length, map, take, slice_get, Some}
+use Rattle.vx_model.specs.declared.call.Call.{Call}
 use Rattle.vx_model.specs.declared.call.Reply.{Reply}
 use Rattle.vx_model.specs.declared.call.Update.{Update}
 use Rattle.vx_turn.specs.declared.ask.Ask.{Ask}
@@ -26,6 +27,10 @@ use Rattle.vx_burst_threads.specs.declared.plan.Told.TheVariants as told
 use Rattle.vx_burst_threads.specs.declared.plan.Waited.TheVariants as waited
 use Rattle.vx_burst_threads.specs.Planning.{call_for, IsTold, IsStalled}
 use Rattle.vx_burst.specs.Setting.{one_if}
+
+-- no acknowledgement of this link has a number above this one
+abbrev pub NoneAbove : ℕ → ℕ → Events → Type 0
+NoneAbove link net es = (n stored : ℕ) (said : Said) → Among (Charged (Acked link n stored), said) es → n ≤ net
 
 module _ {P : Type 0} (stand : P → Stand) (root : P → P) where
   -- the peer p became q: each update that it got was logged in the history, or kept at the start
@@ -57,10 +62,15 @@ module _ {P : Type 0} (stand : P → Stand) (root : P → P) where
     pub logged : (u : Update) → HasLogged start.line front u → LiesIn (stand p).sizes u
     pub there : NoGone (net + 1) (map asked front)
 
-  -- each peer that is sound at the end of these events had acknowledged this number before it, and was not refused
+  -- no two peers are of one link
+  abbrev pub AreApart : List P → Type 0
+  AreApart ps = (i j : ℕ) (p q : P) → slice_get ps i ≡ Some p → slice_get ps j ≡ Some q → (stand p).link ≡ (stand q).link → i ≡ j
+
+  -- each peer that is sound at the end of these events, where it has received up to net, had acknowledged this number before it, and was
+  -- not refused. No acknowledgement of its link has a number above net until then
   abbrev pub Excused : State → List P → List P → List Entry → ℕ → Type 0
   Excused start firsts ps front number = (i : ℕ) (p q : P) → slice_get firsts i ≡ Some p → slice_get ps i ≡ Some q
-      → (net : ℕ) × ((stand p).net ≤ net) × (net ≤ (stand q).net) × (IsSound start front p q net → HasAcked (stand p).link number (map asked front))
+      → (net : ℕ) × ((stand p).net ≤ net) × (net ≤ (stand q).net) × (AreApart firsts → NoneAbove (stand p).link net (map asked front)) × (IsSound start front p q net → HasAcked (stand p).link number (map asked front))
 
 -- the count of faults did not rise in the run, and no job was refused for a greatest number or a digest
 abbrev pub IsCalm : State → List Entry → State → Type 0
@@ -78,20 +88,36 @@ pub record Splits (log front : List Entry) (ask : Ask) (said : Said) : Type 0 wh
 abbrev pub head_behind : State → List Entry → ℕ
 head_behind start front = (point_after (point_of start) front).head
 
--- a job, or a call that was stalled
-abbrev pub IsIdle : Ask → Said → Type 0
-IsIdle (Charged j) said = Unit {0}
-IsIdle (Ordered call) (Replied reply) = IsStalled reply
-IsIdle ask said = ⊥
-
 abbrev pub IsOrdered : Ask → Type 0
 IsOrdered (Ordered call) = Unit {0}
 IsOrdered ask = ⊥
 
--- the calls that stay of these events: jobs are left out, and so may be calls that were stalled
-abbrev pub Stay : Events → Events → Type 0
-Stay [] ys = ys ≡ []
-Stay (x ∷ xs) ys = (IsIdle x.0 x.1 × Stay xs ys) ⊎ ((zs : Events) × (ys ≡ x ∷ zs) × IsOrdered x.0 × Stay xs zs)
+-- a job is left out, and so may be a stalled answer to a call for which IsLeft says so, behind so many calls that stay
+abbrev pub IsLeftOut : (ℕ → Call → Type 0) → ℕ → Ask → Said → Type 0
+IsLeftOut IsLeft n (Charged j) said = Unit {0}
+IsLeftOut IsLeft n (Ordered call) (Replied reply) = IsStalled reply × IsLeft n call
+IsLeftOut IsLeft n ask said = ⊥
+
+-- the calls that stay of these events, behind n that stay before them
+abbrev pub Stay : (ℕ → Call → Type 0) → ℕ → Events → Events → Type 0
+Stay IsLeft n [] ys = ys ≡ []
+Stay IsLeft n (x ∷ xs) ys = (IsLeftOut IsLeft n x.0 x.1 × Stay IsLeft n xs ys) ⊎ ((zs : Events) × (ys ≡ x ∷ zs) × IsOrdered x.0 × Stay IsLeft (suc n) xs zs)
+
+-- these calls are themselves a legal history, which leads to the engine's volumes and last number
+pub record Leads (start : State) (calls : Events) (s : State) : Type 0 where
+  pub entries : List Entry
+  pub are : map asked entries ≡ calls
+  pub legal : Legal start entries
+  pub volumes_is : s.volumes ≡ (point_after (point_of start) entries).volumes
+  pub head_is : s.head ≡ (point_after (point_of start) entries).head
+
+-- the call is that of a member of the plan which has no place yet, or whose place is behind n others: it was asked again
+abbrev pub IsAskedAgain : List Planned → List Answered → ℕ → Call → Type 0
+IsAskedAgain plan answers n call = (k : ℕ) × (pl : Planned) × (a : Answered) × (slice_get plan k ≡ Some pl) × (slice_get answers k ≡ Some a) × (call ≡ call_for pl) × ((a.place ≡ 0) ⊎ (n < a.place))
+
+-- these calls stay of the events up to a moment
+abbrev pub AreBefore : Events → List Entry → Type 0
+AreBefore ys front = Stay (λ n call. Unit {0}) 0 (map asked front) ys
 
 -- a call is that of a member of the plan
 abbrev pub IsOfPlan : List Planned → Ask → Type 0
@@ -113,21 +139,21 @@ abbrev pub ArePlaced : List Answered → ℕ → Type 0
 ArePlaced answers k = (j : ℕ) (a : Answered) → j < k → slice_get answers j ≡ Some a → 0 < a.place
 
 module _ {P : Type 0} (stand : P → Stand) (root : P → P) where
-  -- where the run is calm, this was asked and answered so at some moment, and then each sound peer had acknowledged the number
-  abbrev pub HasExcuse : State → List P → List Entry → State → List P → Ask → (Said → Type 0) → (List Entry → ℕ) → Type 0
-  HasExcuse start firsts log s ps ask IsSaid number = IsCalm start log s → (said : Said) × IsSaid said × ((front : List Entry) × Splits log front ask said × Excused stand root start firsts ps front (number front))
+  -- where the run is calm, this was asked and answered so at such a moment, and then each sound peer had acknowledged the number
+  abbrev pub HasExcuse : State → List P → List Entry → State → List P → Ask → (Said → Type 0) → (List Entry → Type 0) → (List Entry → ℕ) → Type 0
+  HasExcuse start firsts log s ps ask IsSaid IsMoment number = IsCalm start log s → (said : Said) × IsSaid said × ((front : List Entry) × Splits log front ask said × IsMoment front × Excused stand root start firsts ps front (number front))
 
-  -- the answer stands at its place among the calls that stay. Where it is stalled, that has its excuse
+  -- the answer stands at its place among the calls that stay. Where it is stalled, that has its excuse at just this place
   pub record IsPlaced (start : State) (firsts : List P) (log : List Entry) (s : State) (ps : List P) (stays : Events) (pl : Planned) (a : Answered) : Type 0 where
     pub reply : Reply
     pub at : slice_get stays (a.place - 1) ≡ Some (Ordered (call_for pl), Replied reply)
     pub told : IsTold reply a.reply
-    pub stalled : IsStalled reply → HasExcuse start firsts log s ps (Ordered (call_for pl)) (λ said. said ≡ Replied reply) (head_behind start)
+    pub stalled : IsStalled reply → HasExcuse start firsts log s ps (Ordered (call_for pl)) (λ said. said ≡ Replied reply) (AreBefore (take (a.place - 1) stays)) (head_behind start)
 
   -- so many of the plan's members have their places, from 1, each once, and rising in each thread
   pub record Stage (start : State) (firsts : List P) (plan : List Planned) (log : List Entry) (s : State) (ps : List P) (answers : List Answered) (taken : ℕ) (stays : Events) : Type 0 where
     pub underway : Underway stand root start firsts log s ps
-    pub left : Stay (map asked log) stays
+    pub left : Stay (IsAskedAgain plan answers) 0 (map asked log) stays
     pub calls : (e : Entry) → Among e log → IsOfPlan plan e.ask
     pub count : length stays ≡ taken
     pub rest : taken + unplaced answers ≡ length plan
@@ -150,7 +176,7 @@ module _ {P : Type 0} (stand : P → Stand) (root : P → P) where
   pub record IsWaited (start : State) (firsts : List P) (log : List Entry) (s : State) (ps : List P) (a : Answered) : Type 0 where
     pub done : a.waited ≡ waited.Done → (n : ℕ) × (into : Update) × (a.reply ≡ told.Logged n) × Among (Charged (Wait n), Worked (job.Done n) into) (map asked log)
     pub unconfirmed : a.waited ≡ waited.Unconfirmed → (n : ℕ) × (into : Update) × (a.reply ≡ told.Logged n) × Among (Charged (Wait n), Worked (job.Refused (no.Unconfirmed n)) into) (map asked log)
-    pub no : a.waited ≡ waited.No → (n : ℕ) → a.reply ≡ told.Logged n → HasExcuse start firsts log s ps (Charged (Wait n)) IsNothing (λ front. n)
+    pub no : a.waited ≡ waited.No → (n : ℕ) → a.reply ≡ told.Logged n → HasExcuse start firsts log s ps (Charged (Wait n)) IsNothing (λ front. Unit {0}) (λ front. n)
 
 abbrev pub ended_as : Ended → Waited
 ended_as ended.No = waited.No

@@ -1,7 +1,7 @@
 // A thread that hands what the engine logs over to the peer of a link.
 ghost use Rattle.std.specs.Prelude.{◌≡◌, ◌<◌, length};
 ghost use Rattle.vx_turn.specs.Passing.{table_of, table_id_of, start_of};
-ghost use Rattle.vx_burst_threads.specs.Draining.{Drained, DrainedWith, IsLinked};
+ghost use Rattle.vx_burst_threads.specs.Draining.{Drained, DrainedWith, IsLinked, LeadsOn};
 
 use crate::gate::Gate;
 use std::sync::Wait;
@@ -19,7 +19,7 @@ pub struct Drainer<P> {
 }
 
 // How a worker goes on.
-enum Next {
+pub(crate) enum Next {
     From(u64),
     Idle,
     End,
@@ -73,7 +73,9 @@ fn hand_next<H: Wait, E: Engine, P: Peer, G: Gate>(
 ) -> Next
     requires table { table_id_of pass.old ≡ table_of turn.now }
     requires link { IsLinked pass.old (P.stand peer.old) }
+    requires net { net ≡ (P.stand peer.old).net }
     ensures drained { Drained pass.old (P.stand peer.old) pass.new (P.stand peer.new) }
+    ensures leads { LeadsOn result pass.new (P.stand peer.old) (P.stand peer.new) }
     ensures root { P.root peer.new ≡ P.root peer.old }
 {
     let Some(number) = net.checked_add(1) else {
@@ -107,6 +109,7 @@ fn finish<H: Wait, E: Engine, P: Peer>(
     requires table { table_id_of pass.old ≡ table_of turn.now }
     requires link { IsLinked pass.old (P.stand peer.old) }
     ensures drained { Drained pass.old (P.stand peer.old) pass.new (P.stand peer.new) }
+    ensures received { (P.stand peer.new).net ≡ (P.stand peer.old).net }
     ensures root { P.root peer.new ≡ P.root peer.old }
 {
     let ack = peer.finish();
@@ -126,7 +129,9 @@ fn go_on<H: Wait, E: Engine, P: Peer, G: Gate>(
 ) -> Next
     requires table { table_id_of pass.old ≡ table_of turn.now }
     requires link { IsLinked pass.old (P.stand peer.old) }
+    requires net { net ≡ (P.stand peer.old).net }
     ensures drained { Drained pass.old (P.stand peer.old) pass.new (P.stand peer.new) }
+    ensures leads { LeadsOn result pass.new (P.stand peer.old) (P.stand peer.new) }
     ensures root { P.root peer.new ≡ P.root peer.old }
 {
     let next = hand_next(rt, gate, turn, pass, peer, net, update);

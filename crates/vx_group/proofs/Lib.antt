@@ -13,3 +13,8 @@ pub mod ResumeLemmas
 pub mod MendLemmas
 pub mod PlanLemmas
 pub mod TakeLemmas
+pub mod LongerLemmas
+pub mod ShapeLemmas
+pub mod ZeroLemmas
+pub mod AddLemmas
+pub mod MakeLemmas

@@ -9,3 +9,5 @@ pub mod Deports
 pub mod Copying
 pub mod Resumes
 pub mod Mends
+pub mod Makes
+pub mod Nexts

@@ -1,2 +1,4 @@
 pub mod Shutting
 pub mod Planning
+pub mod Logged
+pub mod Taken
