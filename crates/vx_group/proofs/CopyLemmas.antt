@@ -1,5 +1,5 @@
 -- A run of blocks that is copied from one plex to all that are ACTIVE, and two such runs in a row.
-use Rattle.std.proofs.Common.{◌≡◌, ◌⊎◌, inl, inr, ⊎_elim, ℕ, zero, suc, ◌+◌, ◌*◌, ◌/◌, ◌<◌, ◌≤◌, ◌^◌, false, IsTrue, IsFalse, List, [], ◌∷◌, length, take, Result, Ok, Err, OnOk, refl, ap, sym, ◌∙◌, subst, arith}
+use Rattle.std.proofs.Common.{◌≡◌, ◌⊎◌, inl, inr, ⊎_elim, ℕ, zero, suc, ◌+◌, ◌*◌, ◌/◌, ◌<◌, ◌≤◌, false, IsTrue, List, [], ◌∷◌, length, take, Result, Ok, Err, OnOk, refl, ap, sym, ◌∙◌, subst, arith}
 use Rattle.std.proofs.lemmas.Bool.{cases_lt}
 use Rattle.vx_disk.specs.Counts.{Rose}
 use Rattle.vx_disk.specs.Moves.{Says}
@@ -79,8 +79,10 @@ spent_both c d e m0 m1 m2 before after (inl same) (inr rose) = inr (rose.0, Rose
 
 -- a disk failed between
 pub spent_by : (c d : Config) (m0 m1 m2 m3 : Meaning) (disk : ℕ) → ((u : ℕ) → m0.disk_faults u ≤ m1.disk_faults u) → ((u : ℕ) → m2.disk_faults u ≤ m3.disk_faults u) → Rose (m1.disk_faults disk) (m2.disk_faults disk) → Spent c d m0 m3
-spent_by c d m0 m1 m2 m3 disk before after rose = inr (disk,
-  Rose_after (m0.disk_faults disk) (m2.disk_faults disk) (m3.disk_faults disk) (Rose_before (m0.disk_faults disk) (m1.disk_faults disk) (m2.disk_faults disk) (before disk) rose) (after disk))
+spent_by c d m0 m1 m2 m3 disk before after rose = inr (
+  disk,
+  Rose_after (m0.disk_faults disk) (m2.disk_faults disk) (m3.disk_faults disk) (Rose_before (m0.disk_faults disk) (m1.disk_faults disk) (m2.disk_faults disk) (before disk) rose) (after disk),
+)
 
 -- ---- a read alone
 
@@ -243,8 +245,16 @@ ok_both P Q (Err e) p q = tt
 
 pub none_Copied : (core : GroupCore) (v source : ℕ) (m : Meaning) → Stands core m → core.unsettled ≡ false → IsTrue (active core.config v source) → (IsTrue m.down → ⊥) → RunCopied core v source 0 0 core m m
 none_Copied core v source m stands settled is_on up = record {
-  moved = record { stands = stands; shape = same_shape core.config; on = λ w p is. is; others = λ w p apart. refl; faults = refl; unsure = refl; spent = inl refl;
-    acts = wide_Acts Nothing (FromSource core.config v source m) (Sees core.config NoMember m) m m (same_Acts (Sees core.config NoMember m) m) (λ u b x none. absurd none) };
+  moved = record {
+    stands = stands;
+    shape = same_shape core.config;
+    on = λ w p is. is;
+    others = λ w p apart. refl;
+    faults = refl;
+    unsure = refl;
+    spent = inl refl;
+    acts = wide_Acts Nothing (FromSource core.config v source m) (Sees core.config NoMember m) m m (same_Acts (Sees core.config NoMember m) m) (λ u b x none. absurd none);
+  };
   settled = settled;
   source_on = is_on;
   up = up;

@@ -1,12 +1,12 @@
 -- What an import found fits the shelf, also with the disks that came back held as good.
-use Rattle.std.proofs.Common.{◌≡◌, ◌⊎◌, inl, inr, ℕ, zero, suc, ◌+◌, ◌<◌, Bool, true, false, Option, Some, None, List, [], ◌∷◌, length, refl, ap, sym, ◌∙◌, subst, arith}
+use Rattle.std.proofs.Common.{◌≡◌, ◌⊎◌, inl, inr, ℕ, zero, suc, ◌+◌, Bool, true, false, Option, Some, None, List, [], ◌∷◌, length, refl, ap, sym, ◌∙◌, subst}
 use Rattle.std.specs.Prelude.{◌&&◌, ◌==◌, bytes_eq, nat_lt, if◌then◌else◌, slice_get, flat_map}
 use Rattle.std.specs.List.{list_all}
 use Rattle.vx_disk.specs.Shelf.{Image, Meaning}
 use Rattle.vx_wire.specs.Seals.{digest_of}
 use Rattle.vx_copyfmt.specs.Areas.{header_of}
 use Rattle.vx_copyfmt.specs.Copies.{Body, Copy, Differs, Disk, Holds, area_a, area_b, body_of, copy_at, copy_of, copy_under, greater, holding, judged}
-use Rattle.vx_copyfmt.specs.Imports.{Found, Outcome, by_body, by_labels, by_newest, import_of, is_label, later, newest, on_disk, or_missing, missing, strange}
+use Rattle.vx_copyfmt.specs.Imports.{Found, by_body, by_labels, by_newest, import_of, is_label, later, newest, on_disk, or_missing, missing, strange}
 use Rattle.vx_copyfmt.specs.Labels.{seen_in}
 use Rattle.vx_copyfmt.specs.declared.area.AreaHeader.{AreaHeader}
 use Rattle.vx_config.specs.Checks.{ends_within, in_region, is_sound, runs, volume_runs}

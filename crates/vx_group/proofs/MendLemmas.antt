@@ -1,8 +1,7 @@
 -- Volumes of which one plex was copied to the others, one after the other.
-use Rattle.std.proofs.Common.{◌≡◌, ◌⊎◌, inl, inr, ⊎_elim, ℕ, ◌+◌, ◌<◌, ◌≤◌, Bool, true, false, IsTrue, IsFalse, List, length, refl, ap, sym, ◌∙◌, subst, arith}
+use Rattle.std.proofs.Common.{◌≡◌, ◌⊎◌, inl, inr, ⊎_elim, ℕ, ◌+◌, ◌≤◌, Bool, true, false, IsTrue, List, refl, ap, sym, ◌∙◌, subst, arith}
 use Rattle.std.proofs.lemmas.Bool.{cases_eq, cases_lt}
-use Rattle.vx_disk.specs.Shelf.{Goes, Image, Lawful, Meaning, Nothing, Or, Values}
-use Rattle.vx_config.specs.Checks.{blocks_of}
+use Rattle.vx_disk.specs.Shelf.{Goes, Lawful, Meaning, Nothing, Or, Values}
 use Rattle.vx_layout.specs.Places.{place}
 use Rattle.vx_volume.specs.Plexes.{Inside, active}
 use Rattle.vx_volume.proofs.ReadRuns.{still}
@@ -10,7 +9,7 @@ use Rattle.vx_kept.specs.Cleans.{marked}
 use Rattle.vx_kept.specs.Groups.{OnSome, Outside}
 use Rattle.vx_kept.proofs.Lasting.{cases_bool}
 use Rattle.vx_kept.proofs.StateLemmas.{same_shape, then_shape}
-use Rattle.vx_kept.proofs.Steps.{group-Goes, inside_back, inside_same}
+use Rattle.vx_kept.proofs.Steps.{group-Goes, inside_back}
 use Rattle.vx_group.specs.Copying.{CopyMoved, FromSource, Mirrored, NoMember}
 use Rattle.vx_group.specs.Laws.{group_lawful}
 use Rattle.vx_group.specs.Mends.{GoesOn, Mending}

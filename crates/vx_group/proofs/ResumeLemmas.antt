@@ -1,5 +1,5 @@
 -- The group that an import takes up stands on its disks.
-use Rattle.std.proofs.Common.{◌≡◌, ◌⊎◌, inl, inr, ⊎_elim, ℕ, zero, suc, ◌+◌, ◌<◌, ◌≤◌, ◌^◌, Bool, true, false, IsTrue, IsFalse, All, Option, Some, None, List, [], ◌∷◌, length, refl, ap, sym, ◌∙◌, subst, arith}
+use Rattle.std.proofs.Common.{◌≡◌, inl, inr, ⊎_elim, ℕ, zero, suc, ◌<◌, ◌≤◌, ◌^◌, Bool, true, false, IsTrue, All, Option, Some, None, List, [], ◌∷◌, length, refl, ap, sym, ◌∙◌, subst, arith}
 use Rattle.std.specs.Prelude.{◌&&◌, ◌==◌, not, nat_le, nat_lt, slice_get, slice_index_or}
 use Rattle.std.specs.List.{list_all}
 use Rattle.std.proofs.lemmas.Bool.{and_from, and_parts, eqb-true, ltb-true}
@@ -9,23 +9,22 @@ use Rattle.vx_model.specs.declared.units.Units.{Units}
 use Rattle.vx_copyfmt.specs.Commits.{Counts}
 use Rattle.vx_copyfmt.specs.Imports.{Found}
 use Rattle.vx_copyfmt.proofs.Subs.{counts_sub}
-use Rattle.vx_config.specs.Checks.{blocks_of, group_or_none, is_group, is_sound, is_volume, other_than, pairwise}
+use Rattle.vx_config.specs.Checks.{blocks_of, group_or_none, is_group, is_sound, other_than, pairwise}
 use Rattle.vx_config.specs.Configs.{CanSpell, UnitsFit}
 use Rattle.vx_config.specs.Table.{greatest}
 use Rattle.vx_config.specs.declared.config.Config.{Config}
 use Rattle.vx_config.specs.declared.entry.PlexEntry.{PlexEntry}
 use Rattle.vx_config.specs.declared.entry.VolumeEntry.{VolumeEntry}
 use Rattle.vx_copies.specs.Answers.{good_set, returned}
-use Rattle.vx_copies.specs.Bodies.{failed_in, fits_units, is_wanted}
-use Rattle.vx_copies.specs.Commits.{Below}
+use Rattle.vx_copies.specs.Bodies.{fits_units, is_wanted}
 use Rattle.vx_copies.specs.Looking.{on_shelf}
 use Rattle.vx_copies.specs.Marks.{HasGood}
 use Rattle.vx_copies.proofs.OneTry.{shelf_same, wanted_same}
 use Rattle.vx_copyio.specs.Labelling.{AreLarge}
-use Rattle.vx_layout.specs.Places.{place, plex_at, plex_in}
-use Rattle.vx_volume.specs.Plexes.{active, plexes_of, plexes_or}
+use Rattle.vx_layout.specs.Places.{plex_in}
+use Rattle.vx_volume.specs.Plexes.{plexes_or}
 use Rattle.vx_volume.proofs.PlaceLemmas.{count_few}
-use Rattle.vx_kept.specs.Choice.{chosen, live, live_or}
+use Rattle.vx_kept.specs.Choice.{live, live_or}
 use Rattle.vx_kept.specs.Commits.{Member}
 use Rattle.vx_kept.specs.Groups.{found, found_by, group_meaning}
 use Rattle.vx_kept.specs.Keeping.{AllOn, Kept, Kin, SameShape}
@@ -119,7 +118,7 @@ module _ (old new : Meaning) (law : Lawful old) (law' : Lawful new) (goes : Goes
   pub c_wanted : is_wanted new.units new.size c ≡ true
   c_wanted = wanted_same old new c goes.units goes.size
       (let back = wanted_back_again R old.units old.size x x_wanted in
-       and_from_sound (is_sound (returned R x)) (is_sound c) (fits_units old.units old.size (returned R x)) (fits_units old.units old.size c) c_sound (ap (λ ds. fits_units old.units old.size (record { serial = c.serial; site = c.site; disks = ds; volumes = c.volumes; rvg = c.rvg })) opens.alike.disks) back)
+      and_from_sound (is_sound (returned R x)) (is_sound c) (fits_units old.units old.size (returned R x)) (fits_units old.units old.size c) c_sound (ap (λ ds. fits_units old.units old.size (record { serial = c.serial; site = c.site; disks = ds; volumes = c.volumes; rvg = c.rvg })) opens.alike.disks) back)
     where
       and_from_sound : (a b f g : Bool) → b ≡ true → g ≡ f → a && f ≡ true → b && g ≡ true
       and_from_sound a b f g is same both = and_from b g is (same ∙ (and_parts a f both).1)
@@ -170,9 +169,11 @@ module _ (old new : Meaning) (law : Lawful old) (law' : Lawful new) (goes : Goes
 
   pub resumed_Kept : (G : ℕ → Type 0) → Kept c G new
   resumed_Kept G = record {
-    below = record { each = λ u lt a v h is left head.
-        let was = (can.newest image R x (seen_image (told_left u a v left)) finds).below.each u (omega (arith, goes.units, lt)) a v h is (left_old u a v left) head in
-        omega (arith, was, opens.alike.serial) };
+    below = record {
+      each = λ u lt a v h is left head.
+          let was = (can.newest image R x (seen_image (told_left u a v left)) finds).below.each u (omega (arith, goes.units, lt)) a v h is (left_old u a v left) head in
+          omega (arith, was, opens.alike.serial);
+    };
     counts = λ u lt d a h is among top.
         let base = can.newest image R x (seen_image (told_left u 0 (d 0) (among 0))) finds in
         (subst (λ (r : ℕ → List ℕ → Option Config). Counts r (new.leaves u)) (shelf_same old new goes.units goes.size)
@@ -217,9 +218,11 @@ module _ (old new : Meaning) (law : Lawful old) (law' : Lawful new) (goes : Goes
     where
       kept_old : Kept c NoMember old
       kept_old = record {
-        below = record { each = λ u lt a v h is left head.
-            let was = (can.newest image R x (λ w b. law.shown w b (image w b) (read (old_told u a v left) w b)) finds).below.each u lt a v h is left head in
-            omega (arith, was, opens.alike.serial) };
+        below = record {
+          each = λ u lt a v h is left head.
+              let was = (can.newest image R x (λ w b. law.shown w b (image w b) (read (old_told u a v left) w b)) finds).below.each u lt a v h is left head in
+              omega (arith, was, opens.alike.serial);
+        };
         counts = λ u lt d a h is among top. (can.newest image R x (seen_image (old_told u 0 (d 0) (among 0))) finds).counts u lt d a h is among top;
         labels = record { each = λ u v lt left. (can.newest image R x (seen_image (old_told u 0 v left)) finds).labels.each u v lt left };
         sees = λ i each.

@@ -1,11 +1,10 @@
 -- What an import answers, taken up.
-use Rattle.std.proofs.Common.{◌≡◌, ◌⊎◌, inl, inr, ℕ, ◌<◌, ◌≤◌, ◌^◌, Bool, true, false, IsTrue, List, length, Result, Ok, Err, refl, ap, sym, ◌∙◌, subst, arith}
-use Rattle.vx_disk.specs.Counts.{Rose}
-use Rattle.vx_disk.specs.Shelf.{Each, Goes, Image, Lawful, Meaning, Nothing}
+use Rattle.std.proofs.Common.{◌≡◌, inl, inr, ℕ, Bool, true, List, Result, Ok, Err, refl, ap, sym, subst, arith}
+use Rattle.vx_disk.specs.Shelf.{Goes, Lawful, Meaning, Nothing}
 use Rattle.vx_model.specs.declared.errors.Stop.{Stop}
 use Rattle.vx_model.specs.declared.errors.Stop.TheVariants.{No as Refused, OutOfMemory}
 use Rattle.vx_copyfmt.specs.Imports.{Damaged, Format, Found, Missing, NoConfig, Outcome}
-use Rattle.vx_config.specs.Checks.{blocks_of, is_sound}
+use Rattle.vx_config.specs.Checks.{is_sound}
 use Rattle.vx_config.specs.declared.config.Config.{Config}
 use Rattle.vx_config.specs.declared.entry.DiskEntry.{DiskEntry}
 use Rattle.vx_copies.specs.Answers.{Imported, IsAnswer, answer_of, good_set, returned}
@@ -13,7 +12,7 @@ use Rattle.vx_copies.specs.Marks.{HasGood}
 use Rattle.vx_copyio.specs.Labelling.{AreLarge}
 use Rattle.vx_kept.specs.Groups.{found_by}
 use Rattle.vx_kept.proofs.Narrower.{wanted_sound}
-use Rattle.vx_group.specs.Resumes.{CanImport, IsPlan, NotTaken, Planned, Refuses, Takes}
+use Rattle.vx_group.specs.Resumes.{CanImport, IsPlan, Planned, Takes}
 use Rattle.vx_group.specs.declared.taking.Plan.{Plan}
 use Rattle.vx_group.proofs.FoundLemmas.{found_wanted, wanted_back_again}
 use Rattle.vx_group.proofs.ResumeLemmas.{resumed_Stands}

@@ -1,8 +1,7 @@
 use Rattle.std.proofs.Common.{◌+◌, sym, subst, ap, length, arith}
 use Rattle.vx_group.specs.Mends.{Mending}
 use Rattle.vx_group.specs.declared.group_core.GroupCore.{GroupCore}
-use Rattle.vx_group.proofs.MendLemmas.{mend_more, mend_on, mend_skip, none_mended, same_Goes}
-use Rattle.vx_group.specs.Stands.{meaning_of}
+use Rattle.vx_group.proofs.MendLemmas.{mend_more, mend_on, mend_skip}
 use Rattle.vx_group.proofs.mending.mend_volumes.Goals.{then-stopped-vol+in-Ok, else-stopped-vol}
 use Rattle.vx_group.proofs.mending.mend_volumes.Goals as goal
 

@@ -1,5 +1,4 @@
 use Rattle.std.proofs.Common.{Some, ap, sym, ◌∙◌, arith}
-use Rattle.vx_config.specs.Checks.{is_live}
 use Rattle.vx_group.specs.Resumes.{takes_in}
 use Rattle.vx_group.proofs.PlanLemmas.{at_get, first_at, first_none, none_step}
 use Rattle.vx_group.proofs.planning.first_inside.Goals as goal

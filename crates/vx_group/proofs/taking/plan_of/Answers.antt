@@ -1,7 +1,14 @@
-use Rattle.std.proofs.Common.{◌-◌, ◌≤◌, refl, length, arith}
+use Rattle.std.proofs.Common.{ℕ, Bool, false, List, [], ◌∷◌, refl, arith}
 use Rattle.vx_kept.proofs.Narrower.{sound_few}
 use Rattle.vx_group.proofs.ResumeLemmas.{false_at, plan_can, zeros_at}
 use Rattle.vx_group.proofs.taking.plan_of.Goals as goal
+
+-- arrays as they begin
+abbrev zeros : List ℕ
+zeros = 0 ∷ (0 ∷ (0 ∷ (0 ∷ (0 ∷ (0 ∷ (0 ∷ (0 ∷ (0 ∷ (0 ∷ (0 ∷ (0 ∷ (0 ∷ (0 ∷ (0 ∷ (0 ∷ (0 ∷ (0 ∷ (0 ∷ (0 ∷ (0 ∷ (0 ∷ (0 ∷ (0 ∷ (0 ∷ (0 ∷ (0 ∷ (0 ∷ (0 ∷ (0 ∷ (0 ∷ (0 ∷ [])))))))))))))))))))))))))))))))
+
+abbrev falses : List Bool
+falses = false ∷ (false ∷ (false ∷ (false ∷ (false ∷ (false ∷ (false ∷ (false ∷ (false ∷ (false ∷ (false ∷ (false ∷ (false ∷ (false ∷ (false ∷ (false ∷ (false ∷ (false ∷ (false ∷ (false ∷ (false ∷ (false ∷ (false ∷ (false ∷ (false ∷ (false ∷ (false ∷ (false ∷ (false ∷ (false ∷ (false ∷ (false ∷ [])))))))))))))))))))))))))))))))
 
 pub new-requires-clause-can : goal.new-requires-clause-can
 new-requires-clause-can c =
@@ -20,7 +27,7 @@ returns c = record {
   sound = c.make_open.ensures.sound c.requires.sound;
   good = refl;
   unsettled = refl;
-  fresh = record { faults = zeros_at _ refl; sure = false_at _ refl };
+  fresh = record { faults = zeros_at zeros refl; sure = false_at falses refl };
   stopped = c.stopped_of-stopped.ensures;
   sources = λ v lt. c.sources_of-sources.ensures v (let same = c.make_open.ensures.opens.alike.shape.volumes in omega (arith, same, lt));
 }

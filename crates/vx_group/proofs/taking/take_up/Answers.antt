@@ -2,7 +2,7 @@ use Rattle.vx_group.proofs.TakeLemmas.{came_sound, err_takes, takes_all}
 use Rattle.vx_group.proofs.taking.take_up.Goals as goal
 
 pub plan_of-requires : goal.plan_of-requires
-plan_of-requires g c = came_sound (g.S.Shelf.meaning c.args.shelf.now) (g.S.Shelf.meaning c.import.new.shelf) c.in-Ok.config c.in-Ok.good c.in-Ok.ensures.imported
+plan_of-requires g c = record { sound = came_sound (g.S.Shelf.meaning c.args.shelf.now) (g.S.Shelf.meaning c.import.new.shelf) c.in-Ok.config c.in-Ok.good c.in-Ok.ensures.imported }
 
 pub returns-in-Ok-clause-takes : goal.returns-in-Ok-clause-takes
 returns-in-Ok-clause-takes g c =
