@@ -25,7 +25,7 @@ use Rattle.vx_kept.specs.Keeping.{Acts, AllOn, Kept, SameShape, Sees}
 use Rattle.vx_kept.specs.States.{AreOn, staled}
 use Rattle.vx_kept.proofs.Chosen.{active_volumes, alike_shape}
 use Rattle.vx_kept.proofs.Narrower.{on_live}
-use Rattle.vx_kept.proofs.StateLemmas.{is_staled, same_shape}
+use Rattle.vx_kept.proofs.StateLemmas.{active_left, is_staled, same_shape}
 use Rattle.vx_group.specs.Blames.{Blames, BlamesOr, fault_of}
 use Rattle.vx_group.specs.Moves.{AreOff, Narrows}
 use Rattle.vx_group.specs.Stands.{Stands}
@@ -80,6 +80,9 @@ module _ (core e : GroupCore) (v set : ℕ) (m m' : Meaning) (stands : Stands co
           false_true (live (staled v set core.config 8) v q) ((is_staled v set 8 core.config).off q lt in_it) (on_live (staled v set core.config 8) v q (sym (active_was v q) ∙ is)));
     }
 
+    pub taken_others : (x q : ℕ) → (x ≡ v → bit_at set q ≡ true → ⊥) → active e.config x q ≡ active core.config x q
+    taken_others x q apart = active_was x q ∙ active_left v set 8 core.config x q (λ same lt. apart same)
+
   -- refused
   module _ (a : Config) (why : No) (left : Left core.good core.config a e.config m m' why) (good : e.good ≡ core.good) (un : e.unsettled ≡ true) where
     pub left_Stands : Stands e m'
@@ -87,6 +90,9 @@ module _ (core e : GroupCore) (v set : ℕ) (m m' : Meaning) (stands : Stands co
         (subst (λ (g : ℕ). NoneGood e.config.disks (length e.config.disks) g → ⊥) (sym good)
         (subst (λ (ds : List DiskEntry). NoneGood ds (length ds) core.good → ⊥) (sym left.disks) stands.some))
         (subst (λ (g : ℕ). Kept e.config (Member g m') m') (sym good) left.kept) (λ is. absurd (let clash : true ≡ false = sym un ∙ is in cc))
+
+    pub left_others : (x q : ℕ) → (x ≡ v → bit_at set q ≡ true → ⊥) → active e.config x q ≡ active core.config x q
+    left_others x q apart = active_volumes e.config core.config left.volumes x q
 
     pub left_Narrows : Narrows core e m m'
     left_Narrows = record {

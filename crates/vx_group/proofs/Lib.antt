@@ -7,6 +7,12 @@ pub mod ReadyLemmas
 pub mod CreateLemmas
 pub mod DetLemmas
 pub mod DeportLemmas
+pub mod CopyLemmas
+pub mod FoundLemmas
+pub mod ResumeLemmas
+pub mod MendLemmas
+pub mod PlanLemmas
+pub mod TakeLemmas
 pub mod LongerLemmas
 pub mod ShapeLemmas
 pub mod ZeroLemmas

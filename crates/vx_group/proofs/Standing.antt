@@ -27,7 +27,7 @@ use Rattle.vx_group.specs.declared.group_core.GroupCore.{GroupCore}
 
 -- ---- a configuration that fits the shelf
 
-if_some : (o : Option Units) → ((u : Units) → o ≡ Some u → UnitsFit u) → IfSome o UnitsFit
+pub if_some : (o : Option Units) → ((u : Units) → o ≡ Some u → UnitsFit u) → IfSome o UnitsFit
 if_some None each = tt
 if_some (Some u) each = each u refl
 

@@ -1,6 +1,6 @@
 -- A whole write or flush of a volume: its plexes, and a commit that detaches those that failed.
 use Rattle.std.proofs.Common.{◌≡◌, ◌⊎◌, inl, inr, ⊎_elim, ℕ, ◌+◌, ◌/◌, ◌<◌, ◌≤◌, IsTrue, List, length, refl, ap, sym, subst, arith}
-use Rattle.vx_disk.specs.Shelf.{Fits, Flushed, Goes, Lawful, Meaning, Nothing, Written, Wrote, piece}
+use Rattle.vx_disk.specs.Shelf.{Fits, Flushed, Goes, Lawful, Meaning, Nothing, Or, Written, Wrote, piece}
 use Rattle.vx_layout.specs.Places.{place}
 use Rattle.vx_volume.specs.Plexes.{InRun, Inside, active}
 use Rattle.vx_volume.specs.Volumes.{OnPlexes, PlexFlushed, PlexWrote}
@@ -9,8 +9,9 @@ use Rattle.vx_kept.specs.Groups.{group_meaning}
 use Rattle.vx_kept.specs.Keeping.{Sees}
 use Rattle.vx_kept.proofs.Flushes.{flush_Flushed, flush_Goes}
 use Rattle.vx_kept.proofs.StateLemmas.{same_shape}
-use Rattle.vx_kept.proofs.Steps.{inside_same, same_Acts}
-use Rattle.vx_kept.proofs.Whole.{whole_Goes, whole_Wrote}
+use Rattle.vx_kept.proofs.Lasting.{low_Acts}
+use Rattle.vx_kept.proofs.Steps.{both_Acts, inside_same, same_Acts, wide_Acts}
+use Rattle.vx_kept.proofs.Whole.{sees_back, whole_Goes, whole_Wrote}
 use Rattle.vx_group.specs.Moves.{AllFlushed, AllWrote, Narrows}
 use Rattle.vx_group.specs.Stands.{Stands, counted, meaning_of}
 use Rattle.vx_group.specs.declared.group_core.GroupCore.{GroupCore}
@@ -85,6 +86,18 @@ module _ (core : GroupCore) (v : ℕ) (m m' : Meaning) (before : Lawful m) (afte
     pub flushed_Goes : Goes Nothing (meaning_of core m) (meaning_of d last)
     flushed_Goes = flush_Goes core.good core.config d.config v (counted core.faults) (counted d.faults) m m' last before after lawful (kept_of core m stands) (apart_of_core core m stands) flush
         narrows.acts narrows.shape narrows.on flush_less
+
+    pub flushed_Narrows : Narrows core d m last
+    flushed_Narrows = record {
+      acts = wide_Acts (Or Nothing Nothing) Nothing (Sees core.config (Member core.good m) m) m last
+          (both_Acts Nothing Nothing (Sees core.config (Member core.good m) m) (Sees core.config (Member core.good m') m') m m' last
+          (low_Acts core.config (Member core.good m) m m' Nothing flush (λ u b x none. absurd none) before after (kept_of core m stands)) narrows.acts (λ i sees. sees_back core.good core.config m m' flush.units flush.size i sees))
+          (λ u b x. ⊎_elim (λ none. none) (λ none. none));
+      shape = narrows.shape;
+      on = narrows.on;
+      faults = narrows.faults;
+      unsure = narrows.unsure;
+    }
 
     module _ (flushed : (p : ℕ) → IsTrue (active d.config v p) → PlexFlushed core.config v p m m') where
       pub flushed_Flushed : Flushed v (meaning_of core m) (meaning_of d last)

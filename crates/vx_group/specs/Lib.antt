@@ -6,5 +6,8 @@ pub mod Laws
 pub mod Creates
 pub mod Dets
 pub mod Deports
+pub mod Copying
+pub mod Resumes
+pub mod Mends
 pub mod Makes
 pub mod Nexts

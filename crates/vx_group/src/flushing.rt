@@ -1,10 +1,12 @@
 // A flush of a volume.
-ghost use Rattle.std.specs.Prelude.{◌≡◌, ◌<◌, IsTrue, OnOk};
+ghost use Rattle.std.specs.Prelude.{◌≡◌, ◌<◌, ℕ, false, IsTrue, OnOk};
 ghost use Rattle.vx_disk.specs.Causes.{Cause};
 ghost use Rattle.vx_disk.specs.Shelf.{Flushed, Goes, Nothing};
 ghost use Rattle.vx_group.specs.Blames.{Blames, MarksOn};
-ghost use Rattle.vx_group.specs.Moves.{AllFlushed};
+ghost use Rattle.vx_group.specs.Copying.{Spent};
+ghost use Rattle.vx_group.specs.Moves.{AllFlushed, Narrows};
 ghost use Rattle.vx_group.specs.Stands.{Stands, meaning_of};
+ghost use Rattle.vx_volume.specs.Plexes.{active};
 
 use crate::GroupCore;
 use crate::counting::give_up;
@@ -13,8 +15,12 @@ use crate::settling::make_ready;
 use vx_disk::{Shelf, ShelfError};
 use vx_volume::flush_all;
 
-// Flushes each plex that is ACTIVE, and detaches those that failed.
-fn flush_plexes<S: Shelf>(shelf: &mut S, core: &mut GroupCore, vol: u32) -> Result<(), ShelfError>
+/// Flushes each plex that is ACTIVE, and detaches those that failed.
+pub fn flush_plexes<S: Shelf>(
+    shelf: &mut S,
+    core: &mut GroupCore,
+    vol: u32,
+) -> Result<(), ShelfError>
     requires stands { Stands core.old (S.meaning shelf.old) }
     requires there { vol < (meaning_of core.old (S.meaning shelf.old)).units }
     requires up { IsTrue (S.meaning shelf.old).down → ⊥ }
@@ -22,6 +28,10 @@ fn flush_plexes<S: Shelf>(shelf: &mut S, core: &mut GroupCore, vol: u32) -> Resu
     ensures goes { Goes Nothing (meaning_of core.old (S.meaning shelf.old)) (meaning_of core.new (S.meaning shelf.new)) }
     ensures ok { OnOk result (Flushed vol (meaning_of core.old (S.meaning shelf.old)) (meaning_of core.new (S.meaning shelf.new))) }
     ensures all { OnOk result (AllFlushed core.new.config vol (S.meaning shelf.old) (S.meaning shelf.new)) }
+    ensures narrows { Narrows core.old core.new (S.meaning shelf.old) (S.meaning shelf.new) }
+    ensures settled { core.old.unsettled ≡ false → OnOk result (core.new.unsettled ≡ false) }
+    ensures others { (w p : ℕ) → (w ≡ vol → ⊥) → active core.new.config w p ≡ active core.old.config w p }
+    ensures spent { Spent core.old.config core.new.config (S.meaning shelf.old) (S.meaning shelf.new) }
     ensures faults { core.new.faults ≡ core.old.faults }
     ensures unsure { core.new.unsure ≡ core.old.unsure }
     ensures cause { Blames (S.meaning shelf.old) (S.meaning shelf.new) result }

@@ -3,6 +3,7 @@
 //! A write goes to each plex that is ACTIVE. Where some of them fail, they are made STALE by a commit before the answer.
 #![tactic(auto)]
 
+mod copying;
 mod counting;
 mod create;
 mod deporting;
@@ -14,9 +15,12 @@ mod group_core;
 mod lengthening;
 mod making;
 mod marking;
+mod mending;
+mod planning;
 mod reading;
 mod settling;
 mod shaping;
+mod taking;
 mod writing;
 mod zeroing;
 

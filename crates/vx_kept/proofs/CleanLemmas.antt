@@ -14,18 +14,10 @@ use Rattle.vx_volume.specs.Plexes.{active, active_or, is_active}
 use Rattle.vx_kept.specs.Choice.{live, live_or}
 use Rattle.vx_kept.specs.Cleans.{NoneClean, clean, clean_at, clean_or, clean_plexes, cleaned, is_clean, marked}
 use Rattle.vx_kept.specs.Keeping.{AllOn, SameShape}
+use Rattle.vx_kept.specs.Opens.{SameLives as Alike}
 use Rattle.vx_kept.specs.States.{whole_of, whole_or}
 use Rattle.vx_kept.proofs.Narrower.{live_has, on_live}
 use Rattle.vx_kept.proofs.StateLemmas.{map_one, plex_apart, plex_same, same_shape, stated_shape, then_shape, there_of}
-
--- the same volumes, of which the same plexes take part
-pub record Alike (c d : Config) : Type 0 where
-  pub shape : SameShape d c
-  pub serial : d.serial ≡ c.serial
-  pub site : d.site ≡ c.site
-  pub disks : d.disks ≡ c.disks
-  pub rvg : d.rvg ≡ c.rvg
-  pub lives : (x q : ℕ) → live d x q ≡ live c x q
 
 pub alike_refl : (c : Config) → Alike c c
 alike_refl c = record { shape = same_shape c; serial = refl; site = refl; disks = refl; rvg = refl; lives = λ x q. refl }
@@ -210,7 +202,7 @@ unfolding clean
 open_more v n c d none is =
     ap (open_at v n) (is ∙ plexes_more v n c) ∙ open_one v n (clean_plexes v c n) (ap clean_or ((volume_clean v n c).same v n (λ same lt. omega (arith, lt))) ∙ none.each n)
 
-clean_takes : (o : Option PlexEntry) → clean_or o ≡ true → live_or o ≡ true
+pub clean_takes : (o : Option PlexEntry) → clean_or o ≡ true → live_or o ≡ true
 clean_takes None is = absurd (let clash : false ≡ true = is in cc)
 clean_takes (Some p) is = by p.state refl is
   where

@@ -13,4 +13,5 @@ pub mod Staling
 pub mod Firsts
 pub mod CleanLemmas
 pub mod CleanCommits
+pub mod OpenLemmas
 pub mod Nexts

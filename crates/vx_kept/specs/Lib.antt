@@ -5,3 +5,4 @@ pub mod Commits
 pub mod Facts
 pub mod States
 pub mod Cleans
+pub mod Opens

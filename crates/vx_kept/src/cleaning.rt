@@ -5,6 +5,7 @@ ghost use Rattle.vx_config.specs.Configs.{CanSpell};
 ghost use Rattle.vx_config.specs.declared.config.Config.{Config as ConfigValue};
 ghost use Rattle.vx_kept.specs.Cleans.{NoneClean, clean as clean_is, clean_plexes, cleaned, marked};
 ghost use Rattle.vx_kept.specs.Keeping.{AllOn};
+ghost use Rattle.vx_kept.specs.Opens.{OpenFrom, OpenVolumes};
 
 use crate::states::whole_of;
 use vx_config::{Config, PlexState};
@@ -55,6 +56,9 @@ fn clean_volume(config: &mut Config, vol: u32)
 fn open_volume(config: &mut Config, vol: u32)
     ensures back { (c : ConfigValue) → config.old ≡ clean_plexes vol c 8 → NoneClean c vol → config.new ≡ c }
     ensures same { NoneClean config.old vol → config.new ≡ config.old }
+    ensures opens { OpenFrom vol 0 config.old config.new }
+    ensures can { CanSpell config.old → CanSpell config.new }
+    ensures sound { IsTrue (is_sound config.old) → IsTrue (is_sound config.new) }
 {
     for turn in 0..MOST_PLEXES as u32 {
         let plex = MOST_PLEXES as u32 - 1 - turn;
@@ -79,9 +83,12 @@ pub fn make_clean(config: &mut Config, unsure: &[bool; MOST_VOLUMES])
     }
 }
 
-/// Puts them back into the state ACTIVE.
+/// Puts the plexes that are CLEAN into the state ACTIVE. It takes no memory.
 pub fn make_open(config: &mut Config)
-    ensures { (c : ConfigValue) (unsure : List Bool) → config.old ≡ cleaned unsure c (length c.volumes) → AllOn c → config.new ≡ c }
+    ensures opens { OpenVolumes 0 config.old config.new }
+    ensures can { CanSpell config.old → CanSpell config.new }
+    ensures sound { IsTrue (is_sound config.old) → IsTrue (is_sound config.new) }
+    ensures back { (c : ConfigValue) (unsure : List Bool) → config.old ≡ cleaned unsure c (length c.volumes) → AllOn c → config.new ≡ c }
 {
     let count = config.volumes.as_slice().len() as u32;
     for turn in 0..count {

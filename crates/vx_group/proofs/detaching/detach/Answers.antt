@@ -1,9 +1,9 @@
-use Rattle.std.proofs.Common.{refl, sym, subst, Err}
+use Rattle.std.proofs.Common.{true, refl, sym, subst, Err}
 use Rattle.vx_disk.specs.declared.shelf.ShelfError.{ShelfError}
 use Rattle.vx_kept.specs.States.{staled}
 use Rattle.vx_group.specs.Blames.{Blames, BlamesOr}
 use Rattle.vx_group.proofs.CallLemmas.{not_down}
-use Rattle.vx_group.proofs.DetachLemmas.{left_Narrows, left_Stands, staled_less, staled_some, stop_blames, stop_sure, taken_Narrows, taken_Stands, taken_off}
+use Rattle.vx_group.proofs.DetachLemmas.{left_Narrows, left_Stands, left_others, staled_less, staled_some, stop_blames, stop_sure, taken_Narrows, taken_Stands, taken_off, taken_others}
 use Rattle.vx_group.proofs.Standing.{kept_of, tidy_of}
 use Rattle.vx_group.proofs.detaching.detach.Goals as goal
 
@@ -45,3 +45,15 @@ returns-else-is_down-2-clause-cause g c = subst (λ (e : ShelfError). BlamesOr {
 
 pub returns-else-is_down-2-clause-sure : goal.returns-else-is_down-2-clause-sure
 returns-else-is_down-2-clause-sure g c = λ less. subst (λ (e : ShelfError). Blames {T = Unit {0}} (g.S.Shelf.meaning c.args.shelf.now) (g.S.Shelf.meaning c.commit_stale.new.shelf) (Err e)) (sym c.fault_of.ensures) (stop_sure c.args.core.now.good (staled c.args.vol c.args.failed.set c.args.core.now.config 8) _ (g.S.Shelf.meaning c.args.shelf.now) (g.S.Shelf.meaning c.commit_stale.new.shelf) (staled_some c.args.core.now.config c.args.vol c.args.failed.set c.args.core.now.good c.requires.stands.some) (not_down c.is_down-in-Err.result (g.S.Shelf.meaning c.commit_stale.new.shelf).down c.is_down-in-Err.ensures c.if-is_down-2.false) c.in-Err.no c.args.failed.disk (staled_less c.args.core.now.config c.args.vol c.args.failed.set less) c.in-Err.ensures.ends.cause)
+
+pub returns-then-is_down-clause-others : goal.returns-then-is_down-clause-others
+returns-then-is_down-clause-others g c = taken_others c.args.core.now (record { config = c.commit_stale.new.config; good = c.good_of-core.result; room = c.commit_stale.new.room; unsettled = c.args.core.now.unsettled; next = c.args.core.now.next; faults = c.args.core.now.faults; unsure = c.args.core.now.unsure }) c.args.vol c.args.failed.set (g.S.Shelf.meaning c.args.shelf.now) (g.S.Shelf.meaning c.commit_stale.new.shelf) c.requires.stands c.commit_stale.ensures.acts c.commit_stale.ensures.wanted c.commit_stale.ensures.can c.commit_stale.ensures.on refl refl c.in-Ok.ensures.ends c.good_of-core.ensures
+
+pub returns-then-is_down-2-clause-others : goal.returns-then-is_down-2-clause-others
+returns-then-is_down-2-clause-others g c = left_others c.args.core.now (record { config = c.commit_stale.new.config; good = c.args.core.now.good; room = c.commit_stale.new.room; unsettled = true; next = c.args.core.now.next; faults = c.args.core.now.faults; unsure = c.args.core.now.unsure }) c.args.vol c.args.failed.set (g.S.Shelf.meaning c.args.shelf.now) (g.S.Shelf.meaning c.commit_stale.new.shelf) c.requires.stands c.commit_stale.ensures.acts c.commit_stale.ensures.wanted c.commit_stale.ensures.can c.commit_stale.ensures.on refl refl (staled c.args.vol c.args.failed.set c.args.core.now.config 8) c.in-Err.no c.in-Err.ensures.ends refl refl
+
+pub returns-else-is_down-clause-others : goal.returns-else-is_down-clause-others
+returns-else-is_down-clause-others g c = taken_others c.args.core.now (record { config = c.commit_stale.new.config; good = c.good_of-core.result; room = c.commit_stale.new.room; unsettled = c.args.core.now.unsettled; next = c.args.core.now.next; faults = c.args.core.now.faults; unsure = c.args.core.now.unsure }) c.args.vol c.args.failed.set (g.S.Shelf.meaning c.args.shelf.now) (g.S.Shelf.meaning c.commit_stale.new.shelf) c.requires.stands c.commit_stale.ensures.acts c.commit_stale.ensures.wanted c.commit_stale.ensures.can c.commit_stale.ensures.on refl refl c.in-Ok.ensures.ends c.good_of-core.ensures
+
+pub returns-else-is_down-2-clause-others : goal.returns-else-is_down-2-clause-others
+returns-else-is_down-2-clause-others g c = left_others c.args.core.now (record { config = c.commit_stale.new.config; good = c.args.core.now.good; room = c.commit_stale.new.room; unsettled = true; next = c.args.core.now.next; faults = c.args.core.now.faults; unsure = c.args.core.now.unsure }) c.args.vol c.args.failed.set (g.S.Shelf.meaning c.args.shelf.now) (g.S.Shelf.meaning c.commit_stale.new.shelf) c.requires.stands c.commit_stale.ensures.acts c.commit_stale.ensures.wanted c.commit_stale.ensures.can c.commit_stale.ensures.on refl refl (staled c.args.vol c.args.failed.set c.args.core.now.config 8) c.in-Err.no c.in-Err.ensures.ends refl refl

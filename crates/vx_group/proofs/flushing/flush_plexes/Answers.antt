@@ -1,11 +1,12 @@
-use Rattle.std.proofs.Common.{Err, sym, subst, arith}
+use Rattle.std.proofs.Common.{Err, inl, refl, sym, subst, arith}
+use Rattle.vx_group.proofs.CopyLemmas.{spent_by}
 use Rattle.vx_group.proofs.CallLemmas.{blames_by, ends_blame, left_done, ok_by}
 use Rattle.vx_disk.specs.declared.shelf.ShelfError.{ShelfError}
 use Rattle.vx_volume.specs.Volumes.{PlexFlushed}
 use Rattle.vx_group.specs.Blames.{Blames}
 use Rattle.vx_group.proofs.DetachLemmas.{zero_bit}
 use Rattle.vx_group.proofs.Standing.{fit_of, some_active}
-use Rattle.vx_group.proofs.WriteLemmas.{no_commit, flushed_Goes, flushed_Stands, flushed_Flushed, flushed_all}
+use Rattle.vx_group.proofs.WriteLemmas.{no_commit, flushed_Goes, flushed_Stands, flushed_Flushed, flushed_Narrows, flushed_all}
 use Rattle.vx_group.proofs.flushing.flush_plexes.Goals as goal
 
 pub flush_all-requires-clause-some : goal.flush_all-requires-clause-some
@@ -58,3 +59,42 @@ returns-in-Err-clause-goes g c = flushed_Goes c.args.core.now c.args.vol (g.S.Sh
 
 pub returns-in-Err-clause-cause : goal.returns-in-Err-clause-cause
 returns-in-Err-clause-cause g c = subst (λ (e : ShelfError). Blames {T = Unit {0}} (g.S.Shelf.meaning c.args.shelf.now) (g.S.Shelf.meaning c.flush_all.new.shelf) (Err e)) (sym c.fault_of.ensures) (ends_blame c.args.core.now.config c.args.vol (λ p. PlexFlushed c.args.core.now.config c.args.vol p (g.S.Shelf.meaning c.args.shelf.now) (g.S.Shelf.meaning c.flush_all.new.shelf)) (g.S.Shelf.meaning c.args.shelf.now) (g.S.Shelf.meaning c.flush_all.new.shelf) c.in-Err.no 0 c.in-Err.ensures.ends)
+
+pub returns-then-failed-eq0-clause-narrows : goal.returns-then-failed-eq0-clause-narrows
+returns-then-failed-eq0-clause-narrows g c = flushed_Narrows c.args.core.now c.args.vol (g.S.Shelf.meaning c.args.shelf.now) (g.S.Shelf.meaning c.flush_all.new.shelf) (g.met.S.Shelf.lawful c.args.shelf.now) (g.met.S.Shelf.lawful c.flush_all.new.shelf) c.requires.stands c.flush_all.ensures.goes c.args.core.now (g.S.Shelf.meaning c.flush_all.new.shelf) (g.met.S.Shelf.lawful c.flush_all.new.shelf) (no_commit c.args.core.now (g.S.Shelf.meaning c.flush_all.new.shelf))
+
+pub returns-then-core-clause-narrows : goal.returns-then-core-clause-narrows
+returns-then-core-clause-narrows g c = flushed_Narrows c.args.core.now c.args.vol (g.S.Shelf.meaning c.args.shelf.now) (g.S.Shelf.meaning c.flush_all.new.shelf) (g.met.S.Shelf.lawful c.args.shelf.now) (g.met.S.Shelf.lawful c.flush_all.new.shelf) c.requires.stands c.flush_all.ensures.goes c.args.core.now (g.S.Shelf.meaning c.flush_all.new.shelf) (g.met.S.Shelf.lawful c.flush_all.new.shelf) (no_commit c.args.core.now (g.S.Shelf.meaning c.flush_all.new.shelf))
+
+pub returns-else-core-clause-narrows : goal.returns-else-core-clause-narrows
+returns-else-core-clause-narrows g c = flushed_Narrows c.args.core.now c.args.vol (g.S.Shelf.meaning c.args.shelf.now) (g.S.Shelf.meaning c.flush_all.new.shelf) (g.met.S.Shelf.lawful c.args.shelf.now) (g.met.S.Shelf.lawful c.flush_all.new.shelf) c.requires.stands c.flush_all.ensures.goes c.detach.new.core (g.S.Shelf.meaning c.detach.new.shelf) (g.met.S.Shelf.lawful c.detach.new.shelf) c.detach.ensures.narrows
+
+pub returns-in-Err-clause-narrows : goal.returns-in-Err-clause-narrows
+returns-in-Err-clause-narrows g c = flushed_Narrows c.args.core.now c.args.vol (g.S.Shelf.meaning c.args.shelf.now) (g.S.Shelf.meaning c.flush_all.new.shelf) (g.met.S.Shelf.lawful c.args.shelf.now) (g.met.S.Shelf.lawful c.flush_all.new.shelf) c.requires.stands c.flush_all.ensures.goes c.args.core.now (g.S.Shelf.meaning c.flush_all.new.shelf) (g.met.S.Shelf.lawful c.flush_all.new.shelf) (no_commit c.args.core.now (g.S.Shelf.meaning c.flush_all.new.shelf))
+
+pub returns-then-failed-eq0-clause-spent : goal.returns-then-failed-eq0-clause-spent
+returns-then-failed-eq0-clause-spent g c = inl refl
+
+pub returns-then-core-clause-spent : goal.returns-then-core-clause-spent
+returns-then-core-clause-spent g c = inl refl
+
+pub returns-in-Err-clause-spent : goal.returns-in-Err-clause-spent
+returns-in-Err-clause-spent g c = inl refl
+
+pub returns-else-core-clause-spent : goal.returns-else-core-clause-spent
+returns-else-core-clause-spent g c =
+    let old = g.S.Shelf.meaning c.args.shelf.now in
+    spent_by c.args.core.now.config c.detach.new.core.config old old (g.S.Shelf.meaning c.flush_all.new.shelf) (g.S.Shelf.meaning c.detach.new.shelf) c.in-Ok.failed.disk (λ u. omega arith) c.detach.ensures.narrows.acts.disk_faults
+    (c.in-Ok.ensures.ends.1.rose (omega (arith, c.if-failed-eq0.false)))
+
+pub returns-then-failed-eq0-clause-others : goal.returns-then-failed-eq0-clause-others
+returns-then-failed-eq0-clause-others g c = λ w p apart. refl
+
+pub returns-then-core-clause-others : goal.returns-then-core-clause-others
+returns-then-core-clause-others g c = λ w p apart. refl
+
+pub returns-in-Err-clause-others : goal.returns-in-Err-clause-others
+returns-in-Err-clause-others g c = λ w p apart. refl
+
+pub returns-else-core-clause-others : goal.returns-else-core-clause-others
+returns-else-core-clause-others g c = λ w p apart. c.detach.ensures.others w p (λ same bit. apart same)

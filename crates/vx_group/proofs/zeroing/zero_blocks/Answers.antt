@@ -1,6 +1,5 @@
 use Rattle.std.proofs.Common.{arith}
 use Rattle.vx_config.specs.Checks.{blocks_of}
-use Rattle.vx_disk.specs.Shelf.{Meaning}
 use Rattle.vx_group.proofs.ZeroLemmas.{zero_end, zero_more, zero_then}
 use Rattle.vx_group.proofs.zeroing.zero_blocks.Goals as goal
 

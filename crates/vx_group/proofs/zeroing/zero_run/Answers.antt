@@ -1,4 +1,3 @@
-use Rattle.vx_disk.specs.Shelf.{Meaning}
 use Rattle.vx_group.proofs.ZeroLemmas.{run_is, zero_goes, zero_ok}
 use Rattle.vx_group.proofs.zeroing.zero_run.Goals as goal
 

@@ -1,4 +1,3 @@
-use Rattle.vx_disk.specs.Shelf.{Meaning}
 use Rattle.vx_group.proofs.CallLemmas.{blames_later}
 use Rattle.vx_group.proofs.ZeroLemmas.{zero_all, zero_flushed}
 use Rattle.vx_group.proofs.zeroing.zero_volume.Goals as goal

@@ -54,7 +54,7 @@ returns-in-Ok-clause-ends g c =
 pub returns-in-Err-clause-can : goal.returns-in-Err-clause-can
 returns-in-Err-clause-can g c =
     let s = c.commit_in.new.config.serial in
-    let back : c.make_open.new.config ≡ at_serial s c.args.config.now = c.make_open.ensures (at_serial s c.args.config.now) c.args.unsure.now
+    let back : c.make_open.new.config ≡ at_serial s c.args.config.now = c.make_open.ensures.back (at_serial s c.args.config.now) c.args.unsure.now
     (clean_back c.args.good c.args.unsure.now c.args.config.now c.make_clean.new.config c.commit_in.new.config (g.S.Shelf.meaning c.args.shelf.now) (g.S.Shelf.meaning c.commit_in.new.shelf) c.in-Err.no c.make_clean.ensures.cleaned c.in-Err.ensures.ends)
     (all_serial s c.args.config.now c.requires.on) in
     subst CanSpell (sym back) (can_serial s c.args.config.now c.commit_in.new.config c.requires.can c.commit_in.ensures.can refl)
@@ -64,7 +64,7 @@ returns-in-Err-clause-wanted g c =
     let s = c.commit_in.new.config.serial in
     let old : Meaning = g.S.Shelf.meaning c.args.shelf.now in
     let new : Meaning = g.S.Shelf.meaning c.commit_in.new.shelf in
-    let back : c.make_open.new.config ≡ at_serial s c.args.config.now = c.make_open.ensures (at_serial s c.args.config.now) c.args.unsure.now
+    let back : c.make_open.new.config ≡ at_serial s c.args.config.now = c.make_open.ensures.back (at_serial s c.args.config.now) c.args.unsure.now
     (clean_back c.args.good c.args.unsure.now c.args.config.now c.make_clean.new.config c.commit_in.new.config old new c.in-Err.no c.make_clean.ensures.cleaned c.in-Err.ensures.ends)
     (all_serial s c.args.config.now c.requires.on) in
     subst (λ (e : Config). is_wanted new.units new.size e ≡ true) (sym back) (wanted_back s c.args.config.now old new c.commit_in.ensures.begins.moves.units c.commit_in.ensures.begins.moves.size c.requires.wanted)
@@ -75,7 +75,7 @@ returns-in-Err-clause-ends g c =
     let old : Meaning = g.S.Shelf.meaning c.args.shelf.now in
     let new : Meaning = g.S.Shelf.meaning c.commit_in.new.shelf in
     let is = c.make_clean.ensures.cleaned in
-    let back : c.make_open.new.config ≡ at_serial s c.args.config.now = c.make_open.ensures (at_serial s c.args.config.now) c.args.unsure.now
+    let back : c.make_open.new.config ≡ at_serial s c.args.config.now = c.make_open.ensures.back (at_serial s c.args.config.now) c.args.unsure.now
     (clean_back c.args.good c.args.unsure.now c.args.config.now c.make_clean.new.config c.commit_in.new.config old new c.in-Err.no is c.in-Err.ensures.ends)
     (all_serial s c.args.config.now c.requires.on) in
     subst (λ (a : Config). Left c.args.good c.args.config.now a c.make_open.new.config old new c.in-Err.no) is

@@ -1,0 +1,430 @@
+-- A run of blocks that is copied from one plex to all that are ACTIVE, and two such runs in a row.
+use Rattle.std.proofs.Common.{◌≡◌, ◌⊎◌, inl, inr, ⊎_elim, ℕ, zero, suc, ◌+◌, ◌*◌, ◌/◌, ◌<◌, ◌≤◌, false, IsTrue, List, [], ◌∷◌, length, take, Result, Ok, Err, OnOk, refl, ap, sym, ◌∙◌, subst, arith}
+use Rattle.std.proofs.lemmas.Bool.{cases_lt}
+use Rattle.vx_disk.specs.Counts.{Rose}
+use Rattle.vx_disk.specs.Moves.{Says}
+use Rattle.vx_disk.specs.Shelf.{Fits, Goes, Image, Lawful, Meaning, Nothing, Or, Values, piece}
+use Rattle.vx_disk.specs.declared.shelf.ShelfError.{ShelfError}
+use Rattle.vx_group.specs.Blames.{Blames}
+use Rattle.vx_disk.proofs.Causing.{Rose_after, Rose_before}
+use Rattle.vx_config.specs.Checks.{blocks_of}
+use Rattle.vx_config.specs.declared.config.Config.{Config}
+use Rattle.vx_layout.specs.Places.{place}
+use Rattle.vx_volume.specs.Plexes.{Asked, InRun, Inside, RunFits, active}
+use Rattle.vx_volume.specs.Volumes.{OnPlexes, PlexRead, PlexWrote}
+use Rattle.vx_volume.proofs.PlaceLemmas.{fits_of}
+use Rattle.vx_kept.specs.Commits.{Member}
+use Rattle.vx_kept.specs.Keeping.{Acts, Kin, SameShape, Sees}
+use Rattle.vx_kept.proofs.Lasting.{low_Acts, sees_same}
+use Rattle.vx_kept.proofs.StateLemmas.{same_shape, then_shape}
+use Rattle.vx_kept.proofs.Steps.{both_Acts, inside_back, inside_same, same_Acts, wide_Acts}
+use Rattle.vx_kept.proofs.Whole.{sees_back, whole_Acts}
+use Rattle.vx_group.specs.Copying.{CopyMoved, FromSource, Mirrored, NoMember, RunCopied, Spent}
+use Rattle.vx_group.specs.Moves.{AllFlushed, Narrows}
+use Rattle.vx_group.specs.Stands.{Stands, counted, meaning_of}
+use Rattle.vx_group.specs.declared.group_core.GroupCore.{GroupCore}
+use Rattle.vx_group.proofs.Standing.{apart_of_core, fit_of, kept_of, sound_of}
+use Rattle.vx_group.proofs.WriteLemmas.{flushed_Stands, run_inside, wrote_Stands}
+
+-- ---- what is said of each image may be less
+
+module _ (p : Values) (P Q : Says) (old new : Meaning) (acts : Acts p P old new) (less : (i : Image) → P i → Q i) where
+  pub loose_Acts : Acts p Q old new
+  loose_Acts = record {
+    units = acts.units;
+    size = acts.size;
+    tells = acts.tells;
+    reads = acts.reads;
+    leaves = acts.leaves;
+    later = acts.later;
+    since = λ t i le left. ⊎_elim (λ was. inl was) (λ now. inr (now.0, less i now.1)) (acts.since t i le left);
+    keeps = acts.keeps;
+    faults = acts.faults;
+    disk_faults = acts.disk_faults;
+    falls = acts.falls;
+    unarmed = acts.unarmed;
+    safe = acts.safe;
+  }
+
+pub sees_none : (c : Config) (G : ℕ → Type 0) (m : Meaning) (i : Image) → Sees c G m i → Sees c NoMember m i
+sees_none c G m i sees = record { config = sees.config; found = sees.found; kin = sees.kin; others = λ R g x no. absurd no }
+
+-- over fewer plexes that are ACTIVE, and from units that do not change
+pub sees_wider : (c d : Config) (G : ℕ → Type 0) (m m' : Meaning) → SameShape d c → ((w p : ℕ) → IsTrue (active d w p) → IsTrue (active c w p)) → m'.units ≡ m.units → ((u : ℕ) → m'.size u ≡ m.size u)
+    → (i : Image) → Sees d G m' i → Sees c NoMember m i
+sees_wider c d G m m' shape on units size i sees =
+    let it = sees_same d G m' m (sym units) (λ u. sym (size u)) i sees in
+    record { config = it.config; found = it.found; kin = kin_wider it.config it.kin; others = λ R g x no. absurd no }
+  where
+    there : (w : ℕ) → w < length c.volumes → w < length d.volumes
+    there w lt = let same : length d.volumes ≡ length c.volumes = shape.volumes in omega (arith, same, lt)
+
+    kin_wider : (x : Config) → Kin d x → Kin c x
+    kin_wider x kin = record {
+      shape = record {
+        volumes = let le = kin.shape.volumes in let same = shape.volumes in omega (arith, le, same);
+        blocks = λ w lt. kin.shape.blocks w (there w lt) ∙ shape.blocks w;
+        place = λ w p b lt. kin.shape.place w p b (there w lt) ∙ shape.place w p b;
+      };
+      on = λ w p lt is. on w p (kin.on w p (there w lt) is);
+      some = λ w lt. kin.some w (there w lt);
+    }
+
+-- ---- serials that were used
+
+pub spent_both : (c d e : Config) (m0 m1 m2 : Meaning) → ((u : ℕ) → m0.disk_faults u ≤ m1.disk_faults u) → ((u : ℕ) → m1.disk_faults u ≤ m2.disk_faults u) → Spent c d m0 m1 → Spent d e m1 m2 → Spent c e m0 m2
+spent_both c d e m0 m1 m2 before after (inr rose) two = inr (rose.0, Rose_after (m0.disk_faults rose.0) (m1.disk_faults rose.0) (m2.disk_faults rose.0) rose.1 (after rose.0))
+spent_both c d e m0 m1 m2 before after (inl same) (inl more) = inl (more ∙ same)
+spent_both c d e m0 m1 m2 before after (inl same) (inr rose) = inr (rose.0, Rose_before (m0.disk_faults rose.0) (m1.disk_faults rose.0) (m2.disk_faults rose.0) (before rose.0) rose.1)
+
+-- a disk failed between
+pub spent_by : (c d : Config) (m0 m1 m2 m3 : Meaning) (disk : ℕ) → ((u : ℕ) → m0.disk_faults u ≤ m1.disk_faults u) → ((u : ℕ) → m2.disk_faults u ≤ m3.disk_faults u) → Rose (m1.disk_faults disk) (m2.disk_faults disk) → Spent c d m0 m3
+spent_by c d m0 m1 m2 m3 disk before after rose = inr (
+  disk,
+  Rose_after (m0.disk_faults disk) (m2.disk_faults disk) (m3.disk_faults disk) (Rose_before (m0.disk_faults disk) (m1.disk_faults disk) (m2.disk_faults disk) (before disk) rose) (after disk),
+)
+
+-- ---- a read alone
+
+module _ (core : GroupCore) (v source : ℕ) (m0 m1 : Meaning) (law0 : Lawful m0) (law1 : Lawful m1) (stands : Stands core m0) (read : Goes Nothing m0 m1) where
+  pub read_acts : Acts Nothing (Sees core.config (Member core.good m0) m0) m0 m1
+  read_acts = low_Acts core.config (Member core.good m0) m0 m1 Nothing read (λ u b x none. absurd none) law0 law1 (kept_of core m0 stands)
+
+  pub read_Moved : CopyMoved core v source core m0 m1
+  read_Moved = record {
+    stands = flushed_Stands core v m0 m1 law0 law1 stands read;
+    shape = same_shape core.config;
+    on = λ w p is. is;
+    others = λ w p apart. refl;
+    faults = refl;
+    unsure = refl;
+    spent = inl refl;
+    acts = wide_Acts Nothing (FromSource core.config v source m0) (Sees core.config NoMember m0) m0 m1
+        (loose_Acts Nothing (Sees core.config (Member core.good m0) m0) (Sees core.config NoMember m0) m0 m1 read_acts (λ i sees. sees_none core.config (Member core.good m0) m0 i sees)) (λ u b x none. absurd none);
+  }
+
+-- what is asked of a read of the source
+module _ (core : GroupCore) (v source block n : ℕ) (m : Meaning) (stands : Stands core m) (is_on : IsTrue (active core.config v source)) (fits : Fits (meaning_of core m) v block n) where
+  run_in : (k : ℕ) → InRun block (n / 512) k → Inside core.config v k
+  run_in k run = record { volume = fits.exists; within = let last : k < block + n / 512 = run.last in omega (arith, last, fits.within) }
+
+  pub asked_source : Asked core.config v source block (n / 512)
+  asked_source = record { inside = run_in; is_on = is_on; sound = sound_of core m stands; end = let small = stands.small v in omega (arith, fits.within, small) }
+
+  pub fits_source : RunFits core.config v source block (n / 512) m
+  fits_source = fits_of core.config (sound_of core m stands) v source block (n / 512) m (fit_of core m stands) is_on run_in
+
+  -- and of the write behind it
+  pub fits_again : (m' : Meaning) → Fits (meaning_of core m') v block n
+  fits_again m' = record { exists = fits.exists; some = fits.some; whole = fits.whole; within = fits.within }
+
+-- ---- a read, a write, and a commit or none
+
+module _ (core d : GroupCore) (v source block : ℕ) (bytes : List ℕ) (m0 m1 m2 m3 : Meaning) (law0 : Lawful m0) (law1 : Lawful m1) (law2 : Lawful m2) (law3 : Lawful m3) (stands : Stands core m0)
+    (fits : Fits (meaning_of core m0) v block (length bytes)) (read : Goes Nothing m0 m1) (was_read : PlexRead core.config v source block block (length bytes / 512) bytes m0)
+    (write : Goes (OnPlexes core.config v block (length bytes / 512) bytes) m1 m2) (narrows : Narrows core d m2 m3) (stands3 : Stands d m3) (spent : Spent core.config d.config m0 m3) (others_on : (w p : ℕ) → (w ≡ v → ⊥) → active d.config w p ≡ active core.config w p) where
+  abbrev n : ℕ
+  n = length bytes / 512
+
+  abbrev W : Values
+  W = OnPlexes core.config v block n bytes
+
+  stands1 : Stands core m1
+  stands1 = flushed_Stands core v m0 m1 law0 law1 stands read
+
+  fits1 : Fits (meaning_of core m1) v block (length bytes)
+  fits1 = record { exists = fits.exists; some = fits.some; whole = fits.whole; within = fits.within }
+
+  in_run : (k : ℕ) → InRun block n k → Inside core.config v k
+  in_run = run_inside core v block bytes m1 m2 law1 law2 stands1 fits1 write
+
+  no_less : (u : ℕ) → counted core.faults u ≤ counted d.faults u
+  no_less u = let same : counted d.faults u ≡ counted core.faults u = ap (λ (f : List ℕ). counted f u) narrows.faults in omega (arith, same)
+
+  put_acts : Acts W (Sees core.config (Member core.good m1) m1) m1 m3
+  put_acts = whole_Acts core.good core.config d.config v block bytes (counted core.faults) (counted d.faults) m1 m2 m3 law1 law2 law3 (kept_of core m1 stands1) (apart_of_core core m1 stands1) in_run fits.whole write
+      narrows.acts narrows.shape narrows.on no_less
+
+  run_acts : Acts (Or Nothing W) (Sees core.config (Member core.good m0) m0) m0 m3
+  run_acts = both_Acts Nothing W (Sees core.config (Member core.good m0) m0) (Sees core.config (Member core.good m1) m1) m0 m1 m3 (read_acts core v source m0 m1 law0 law1 stands read) put_acts
+      (λ i sees. sees_back core.good core.config m0 m1 read.units read.size i sees)
+
+  as_copy : (u b : ℕ) (x : List ℕ) → Or Nothing W u b x → FromSource core.config v source m0 u b x
+  as_copy u b x (inl none) = absurd none
+  as_copy u b x (inr put) =
+      let it = put.put in record {
+        number = it.number;
+        plex = put.plex;
+        inside = in_run it.number it.run;
+        is_on = put.is_on;
+        at = it.at;
+        value = λ tells. subst (λ (y : List ℕ). m0.reads (place core.config v source it.number).0 (place core.config v source it.number).1 y) (sym it.value) (was_read.each tells it.number it.run);
+      }
+
+  pub run_Moved : CopyMoved core v source d m0 m3
+  run_Moved = record {
+    stands = stands3;
+    shape = narrows.shape;
+    on = narrows.on;
+    others = others_on;
+    faults = narrows.faults;
+    unsure = narrows.unsure;
+    spent = spent;
+    acts = wide_Acts (Or Nothing W) (FromSource core.config v source m0) (Sees core.config NoMember m0) m0 m3
+        (loose_Acts (Or Nothing W) (Sees core.config (Member core.good m0) m0) (Sees core.config NoMember m0) m0 m3 run_acts (λ i sees. sees_none core.config (Member core.good m0) m0 i sees)) as_copy;
+  }
+
+  module _ (settled : d.unsettled ≡ false) (source_on : IsTrue (active d.config v source)) (up : IsTrue m3.down → ⊥)
+      (wrote : (p : ℕ) → IsTrue (active d.config v p) → PlexWrote core.config v p block n block n bytes m1 m2) where
+    before_commit : (w p k : ℕ) (x : List ℕ) → Inside core.config w k → IsTrue (active d.config w p) → m3.reads (place core.config w p k).0 (place core.config w p k).1 x → m2.reads (place core.config w p k).0 (place core.config w p k).1 x
+    before_commit w p k x in_it is_on is = elim (narrows.acts.reads (place core.config w p k).0 (place core.config w p k).1 x ((apart_of_core core m0 stands).above w p k in_it (narrows.on w p is_on)) is) [
+      | inl (inl was) ↦ was
+      | inl (inr none) ↦ absurd none
+      | inr down ↦ absurd (up down)
+    ]
+
+    before_read : (u b : ℕ) (x : List ℕ) → m1.reads u b x → m0.reads u b x
+    before_read u b x is = elim (read.reads u b x is) [
+      | inl (inl was) ↦ was
+      | inl (inr none) ↦ absurd none
+      | inr down ↦ absurd (up (narrows.acts.falls (write.falls down)))
+    ]
+
+    one_value : (p k : ℕ) (x : List ℕ) → InRun block n k → Inside core.config v k → IsTrue (active d.config v p) → m3.reads (place core.config v p k).0 (place core.config v p k).1 x → x ≡ piece block bytes k
+    one_value p k x run in_it is_on is = elim ((wrote p is_on).each k x in_it (before_commit v p k x in_it is_on is)) [ inl put ↦ put.1 | inr out ↦ absurd (out.0 run) ]
+
+    others : (w p k : ℕ) (x : List ℕ) → (w ≡ v → InRun block n k → ⊥) → Inside core.config w k → IsTrue (active d.config w p) → m3.reads (place core.config w p k).0 (place core.config w p k).1 x
+        → m0.reads (place core.config w p k).0 (place core.config w p k).1 x
+    others w p k x apart in_it is_on is = elim (write.reads (place core.config w p k).0 (place core.config w p k).1 x (before_commit w p k x in_it is_on is)) [
+      | inl (inl was) ↦ before_read (place core.config w p k).0 (place core.config w p k).1 x was
+      | inl (inr put) ↦
+          let it = put.put in
+          let one = (apart_of_core core m0 stands).one w p k v put.plex it.number in_it (in_run it.number it.run) (narrows.on w p is_on) put.is_on (sym it.at) in
+          absurd (apart one.0 (subst (λ (j : ℕ). InRun block n j) (sym one.2) it.run))
+      | inr down ↦ absurd (up (narrows.acts.falls down))
+    ]
+
+    pub run_Copied : RunCopied core v source block n d m0 m3
+    run_Copied = record {
+      moved = run_Moved;
+      settled = settled;
+      source_on = source_on;
+      up = up;
+      value = λ k. piece block bytes k;
+      origin = λ k run in_it tells. was_read.each tells k run;
+      copied = one_value;
+      rest = others;
+    }
+
+-- the same where the bytes have the length of those that were handed in
+module _ (core : GroupCore) (v source block len : ℕ) (bytes : List ℕ) (m0 m1 m2 : Meaning) (law0 : Lawful m0) (law1 : Lawful m1) (law2 : Lawful m2) (stands : Stands core m0) (same : length bytes ≡ len)
+    (fits : Fits (meaning_of core m0) v block len) (read : Goes Nothing m0 m1) (was_read : PlexRead core.config v source block block (len / 512) bytes m0) (write : Goes (OnPlexes core.config v block (length bytes / 512) bytes) m1 m2) where
+  fits_len : Fits (meaning_of core m0) v block (length bytes)
+  fits_len = subst (λ (n : ℕ). Fits (meaning_of core m0) v block n) (sym same) fits
+
+  read_len : PlexRead core.config v source block block (length bytes / 512) bytes m0
+  read_len = subst (λ (n : ℕ). PlexRead core.config v source block block (n / 512) bytes m0) (sym same) was_read
+
+  pub put_Stands : Stands core m2
+  put_Stands = wrote_Stands core v block bytes m1 m2 law1 law2 (flushed_Stands core v m0 m1 law0 law1 stands read) (record { exists = fits_len.exists; some = fits_len.some; whole = fits_len.whole; within = fits_len.within }) write
+
+  module _ (d : GroupCore) (m3 : Meaning) (law3 : Lawful m3) (narrows : Narrows core d m2 m3) (stands3 : Stands d m3) (spent : Spent core.config d.config m0 m3) (others_on : (w p : ℕ) → (w ≡ v → ⊥) → active d.config w p ≡ active core.config w p) where
+    pub put_Moved : CopyMoved core v source d m0 m3
+    put_Moved = run_Moved core d v source block bytes m0 m1 m2 m3 law0 law1 law2 law3 stands fits_len read read_len write narrows stands3 spent others_on
+
+    pub put_Copied : d.unsettled ≡ false → IsTrue (active d.config v source) → (IsTrue m3.down → ⊥)
+        → ((p : ℕ) → IsTrue (active d.config v p) → PlexWrote core.config v p block (length bytes / 512) block (length bytes / 512) bytes m1 m2) → RunCopied core v source block (len / 512) d m0 m3
+    put_Copied settled source_on up wrote = subst (λ (n : ℕ). RunCopied core v source block (n / 512) d m0 m3) same
+        (run_Copied core d v source block bytes m0 m1 m2 m3 law0 law1 law2 law3 stands fits_len read read_len write narrows stands3 spent others_on settled source_on up wrote)
+
+pub ok_both : {T E : Type 0} (P Q : Type 0) (r : Result T E) → OnOk r P → OnOk r Q → OnOk r (P × Q)
+ok_both P Q (Ok x) p q = (p, q)
+ok_both P Q (Err e) p q = tt
+
+-- ---- no block, and two runs in a row
+
+pub none_Copied : (core : GroupCore) (v source : ℕ) (m : Meaning) → Stands core m → core.unsettled ≡ false → IsTrue (active core.config v source) → (IsTrue m.down → ⊥) → RunCopied core v source 0 0 core m m
+none_Copied core v source m stands settled is_on up = record {
+  moved = record {
+    stands = stands;
+    shape = same_shape core.config;
+    on = λ w p is. is;
+    others = λ w p apart. refl;
+    faults = refl;
+    unsure = refl;
+    spent = inl refl;
+    acts = wide_Acts Nothing (FromSource core.config v source m) (Sees core.config NoMember m) m m (same_Acts (Sees core.config NoMember m) m) (λ u b x none. absurd none);
+  };
+  settled = settled;
+  source_on = is_on;
+  up = up;
+  value = λ k. [];
+  origin = λ k run in_it tells. absurd (let last : k < 0 + 0 = run.last in omega (arith, last));
+  copied = λ p k x run in_it on is. absurd (let last : k < 0 + 0 = run.last in omega (arith, last));
+  rest = λ w p k x apart in_it on is. is;
+}
+
+module _ (core d e : GroupCore) (v source first n : ℕ) (m0 m1 m2 : Meaning) (one : CopyMoved core v source d m0 m1)
+    (origin : (k : ℕ) (x : List ℕ) → Inside core.config v k → m1.reads (place core.config v source k).0 (place core.config v source k).1 x → IsTrue m0.tells → m0.reads (place core.config v source k).0 (place core.config v source k).1 x)
+    (two : CopyMoved d v source e m1 m2) where
+  as_first : (u b : ℕ) (x : List ℕ) → FromSource d.config v source m1 u b x → FromSource core.config v source m0 u b x
+  as_first u b x it =
+      let in_it = inside_same d.config core.config one.shape v it.number it.inside in record {
+        number = it.number;
+        plex = it.plex;
+        inside = in_it;
+        is_on = one.on v it.plex it.is_on;
+        at = sym (one.shape.place v it.plex it.number) ∙ it.at;
+        value = λ tells. origin it.number x in_it (subst (λ (q : ℕ × ℕ). m1.reads q.0 q.1 x) (one.shape.place v source it.number) (it.value (one.acts.tells ∙ tells))) tells;
+      }
+
+  pub both_Moved : CopyMoved core v source e m0 m2
+  both_Moved = record {
+    stands = two.stands;
+    shape = then_shape e.config d.config core.config two.shape one.shape;
+    on = λ w p is. one.on w p (two.on w p is);
+    others = λ w p apart. two.others w p apart ∙ one.others w p apart;
+    faults = two.faults ∙ one.faults;
+    unsure = two.unsure ∙ one.unsure;
+    spent = spent_both core.config d.config e.config m0 m1 m2 one.acts.disk_faults two.acts.disk_faults one.spent two.spent;
+    acts = wide_Acts (Or (FromSource core.config v source m0) (FromSource d.config v source m1)) (FromSource core.config v source m0) (Sees core.config NoMember m0) m0 m2
+        (both_Acts (FromSource core.config v source m0) (FromSource d.config v source m1) (Sees core.config NoMember m0) (Sees d.config NoMember m1) m0 m1 m2 one.acts two.acts
+        (λ i sees. sees_wider core.config d.config NoMember m0 m1 one.shape one.on one.acts.units one.acts.size i sees))
+        (λ u b x. ⊎_elim (λ put. put) (λ put. as_first u b x put));
+  }
+
+module _ (core d e : GroupCore) (v source first n : ℕ) (m0 m1 m2 : Meaning) (one : RunCopied core v source 0 first d m0 m1) where
+  in_first : (k : ℕ) → k < first → InRun 0 first k
+  in_first k lt = record { first = omega arith; last = omega (arith, lt) }
+
+  -- the source still has what it read
+  pub source_origin : (k : ℕ) (x : List ℕ) → Inside core.config v k → m1.reads (place core.config v source k).0 (place core.config v source k).1 x → IsTrue m0.tells → m0.reads (place core.config v source k).0 (place core.config v source k).1 x
+  source_origin k x in_it is tells = elim (cases_lt k first) [
+    | inl lt ↦
+        let same : x ≡ one.value k = one.copied source k x (in_first k lt) in_it one.source_on is in
+        subst (λ (y : List ℕ). m0.reads (place core.config v source k).0 (place core.config v source k).1 y) (sym same) (one.origin k (in_first k lt) in_it tells)
+    | inr le ↦ one.rest v source k x (λ same run. let last : k < 0 + first = run.last in omega (arith, last, le)) in_it one.source_on is
+  ]
+
+  module _ (two : RunCopied d v source first n e m1 m2) where
+    value : ℕ → List ℕ
+    value k = elim (cases_lt k first) [ inl lt ↦ one.value k | inr le ↦ two.value k ]
+
+    at_d : (s : Values) (w p k : ℕ) (x : List ℕ) → s (place core.config w p k).0 (place core.config w p k).1 x → s (place d.config w p k).0 (place d.config w p k).1 x
+    at_d s w p k x is = subst (λ (q : ℕ × ℕ). s q.0 q.1 x) (sym (one.moved.shape.place w p k)) is
+
+    at_core : (s : Values) (w p k : ℕ) (x : List ℕ) → s (place d.config w p k).0 (place d.config w p k).1 x → s (place core.config w p k).0 (place core.config w p k).1 x
+    at_core s w p k x is = subst (λ (q : ℕ × ℕ). s q.0 q.1 x) (one.moved.shape.place w p k) is
+
+    inside_d : (w k : ℕ) → Inside core.config w k → Inside d.config w k
+    inside_d w k in_it = inside_back d.config core.config one.moved.shape w k in_it
+
+    -- a block that the second run left alone
+    not_second : (w p k : ℕ) (x : List ℕ) → (w ≡ v → InRun first n k → ⊥) → Inside core.config w k → IsTrue (active e.config w p) → m2.reads (place core.config w p k).0 (place core.config w p k).1 x → m1.reads (place core.config w p k).0 (place core.config w p k).1 x
+    not_second w p k x apart in_it is_on is = at_core m1.reads w p k x (two.rest w p k x apart (inside_d w k in_it) is_on (at_d m2.reads w p k x is))
+
+    origin_both : (k : ℕ) → InRun 0 (first + n) k → Inside core.config v k → IsTrue m0.tells → m0.reads (place core.config v source k).0 (place core.config v source k).1 (value k)
+    unfolding value
+    origin_both k run in_it tells = by (cases_lt k first)
+      where
+        by : (c : (k < first) ⊎ (first ≤ k)) → m0.reads (place core.config v source k).0 (place core.config v source k).1 (elim c [ inl lt ↦ one.value k | inr le ↦ two.value k ])
+        by (inl lt) = one.origin k (in_first k lt) in_it tells
+        by (inr le) = let last : k < 0 + (first + n) = run.last in
+            source_origin k (two.value k) in_it (at_core m1.reads v source k (two.value k) (two.origin k (record { first = le; last = omega (arith, last) }) (inside_d v k in_it) (one.moved.acts.tells ∙ tells))) tells
+
+    copied_both : (p k : ℕ) (x : List ℕ) → InRun 0 (first + n) k → Inside core.config v k → IsTrue (active e.config v p) → m2.reads (place core.config v p k).0 (place core.config v p k).1 x → x ≡ value k
+    unfolding value
+    copied_both p k x run in_it is_on is = by (cases_lt k first)
+      where
+        by : (c : (k < first) ⊎ (first ≤ k)) → x ≡ elim c [ inl lt ↦ one.value k | inr le ↦ two.value k ]
+        by (inl lt) = one.copied p k x (in_first k lt) in_it (two.moved.on v p is_on) (not_second v p k x (λ same second. let low : first ≤ k = second.first in omega (arith, low, lt)) in_it is_on is)
+        by (inr le) = let last : k < 0 + (first + n) = run.last in
+            two.copied p k x (record { first = le; last = omega (arith, last) }) (inside_d v k in_it) is_on (at_d m2.reads v p k x is)
+
+    pub both_Copied : RunCopied core v source 0 (first + n) e m0 m2
+    both_Copied = record {
+      moved = both_Moved core d e v source first n m0 m1 m2 one.moved source_origin two.moved;
+      settled = two.settled;
+      source_on = two.source_on;
+      up = two.up;
+      value = value;
+      origin = origin_both;
+      copied = copied_both;
+      rest = λ w p k x apart in_it is_on is.
+          one.rest w p k x (λ same run. let last : k < 0 + first = run.last in apart same (record { first = omega arith; last = omega (arith, last) })) in_it (two.moved.on w p is_on)
+          (not_second w p k x (λ same run. let last : k < first + n = run.last in apart same (record { first = omega arith; last = omega (arith, last) })) in_it is_on is);
+    }
+
+  -- and a flush behind them
+  module _ (narrows : Narrows d e m1 m2) (spent : Spent d.config e.config m1 m2) (others_on : (w p : ℕ) → (w ≡ v → ⊥) → active e.config w p ≡ active d.config w p) (stands : Stands e m2) where
+    narrows_Moved : CopyMoved d v source e m1 m2
+    narrows_Moved = record {
+      stands = stands;
+      shape = narrows.shape;
+      on = narrows.on;
+      others = others_on;
+      faults = narrows.faults;
+      unsure = narrows.unsure;
+      spent = spent;
+      acts = wide_Acts Nothing (FromSource d.config v source m1) (Sees d.config NoMember m1) m1 m2
+          (loose_Acts Nothing (Sees d.config (Member d.good m1) m1) (Sees d.config NoMember m1) m1 m2 narrows.acts (λ i sees. sees_none d.config (Member d.good m1) m1 i sees)) (λ u b x none. absurd none);
+    }
+
+    pub flush_Moved : CopyMoved core v source e m0 m2
+    flush_Moved = both_Moved core d e v source first n m0 m1 m2 one.moved source_origin narrows_Moved
+
+    module _ (settled : e.unsettled ≡ false) (up : IsTrue m2.down → ⊥) (flushed : AllFlushed e.config v m1 m2) (whole : first ≡ blocks_of core.config.volumes v) where
+      place_e : (w p k : ℕ) → place e.config w p k ≡ place core.config w p k
+      place_e w p k = narrows.shape.place w p k ∙ one.moved.shape.place w p k
+
+      inside_e : (w k : ℕ) → Inside core.config w k → Inside e.config w k
+      inside_e w k in_it = inside_back e.config d.config narrows.shape w k (inside_back d.config core.config one.moved.shape w k in_it)
+
+      whole_run : (k : ℕ) → Inside core.config v k → InRun 0 first k
+      whole_run k in_it = record { first = omega arith; last = let lt : k < blocks_of core.config.volumes v = in_it.within in omega (arith, lt, whole) }
+
+      left_one : (p k : ℕ) (x : List ℕ) → Inside core.config v k → IsTrue (active e.config v p) → m2.leaves (place core.config v p k).0 (place core.config v p k).1 x → x ≡ one.value k
+      left_one p k x in_it is_on left =
+          let at : m2.leaves (place e.config v p k).0 (place e.config v p k).1 x = subst (λ (q : ℕ × ℕ). m2.leaves q.0 q.1 x) (sym (place_e v p k)) left in
+          let was : m1.reads (place e.config v p k).0 (place e.config v p k).1 x = (flushed.each p is_on).each k x (inside_e v k in_it) at in
+          one.copied p k x (whole_run k in_it) in_it (narrows.on v p is_on) (subst (λ (q : ℕ × ℕ). m1.reads q.0 q.1 x) (place_e v p k) was)
+
+      pub flush_Mirrored : (above : (w p k : ℕ) → Inside core.config w k → IsTrue (active core.config w p) → 512 ≤ (place core.config w p k).1) → Mirrored core v source e m0 m2
+      flush_Mirrored above = record {
+        moved = flush_Moved;
+        settled = settled;
+        up = up;
+        value = one.value;
+        origin = λ k in_it tells. one.origin k (whole_run k in_it) in_it tells;
+        one = left_one;
+        rest = λ w p k x apart in_it is_on is. elim (narrows.acts.reads (place core.config w p k).0 (place core.config w p k).1 x (above w p k in_it (one.moved.on w p (narrows.on w p is_on))) is) [
+          | inl (inl was) ↦ one.rest w p k x (λ same run. apart same) in_it (narrows.on w p is_on) was
+          | inl (inr none) ↦ absurd none
+          | inr down ↦ absurd (up down)
+        ];
+      }
+
+-- ---- answers
+
+pub ok_blamed : {T : Type 0} (Q P : Type 0) (r : Result T ShelfError) (old new : Meaning) → OnOk r Q → Blames old new r → (Q → (IsTrue new.down → ⊥) → P) → OnOk r P
+ok_blamed Q P (Ok x) old new is up made_by = made_by is up
+ok_blamed Q P (Err error) old new is why made_by = tt
+
+-- ---- one run of the loop
+
+pub run_fits : (core d : GroupCore) (v done count len total : ℕ) (m : Meaning) → SameShape d.config core.config → v < length core.config.volumes → len ≡ 512 * count → 0 < count → done + count ≤ total → total ≡ blocks_of core.config.volumes v
+    → Fits (meaning_of d m) v done len
+run_fits core d v done count len total m shape there long some within is = record {
+  exists = let same : length d.config.volumes ≡ length core.config.volumes = shape.volumes in omega (arith, same, there);
+  some = omega (arith, long, some);
+  whole = omega (arith, long);
+  within = let same : blocks_of d.config.volumes v ≡ blocks_of core.config.volumes v = shape.blocks v in omega (arith, same, long, within, is);
+}
+
+pub run_copied : (core : GroupCore) (v source first len count : ℕ) (d : GroupCore) (m m' : Meaning) → len ≡ 512 * count → RunCopied core v source first (len / 512) d m m' → RunCopied core v source first count d m m'
+run_copied core v source first len count d m m' long run = let same : len / 512 ≡ count = omega (arith, long) in subst (λ (n : ℕ). RunCopied core v source first n d m m') same run
+
+pub take_length : (n : ℕ) (xs : List ℕ) → n ≤ length xs → length (take n xs) ≡ n
+take_length zero xs le = refl
+take_length (suc n) [] le = absurd (omega (arith, le))
+take_length (suc n) (x ∷ xs) le = ap suc (take_length n xs (omega (arith, le)))
