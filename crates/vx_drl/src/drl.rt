@@ -24,7 +24,7 @@ use vx_model::{No, Stop};
 #[derive(Drop)]
 pub struct Drl {
     map: Bitmap,
-    regions: u64,
+    pub(crate) regions: u64,
     held: u64,
 }
 

@@ -22,9 +22,9 @@ use vx_model::{No, Stop, map_blocks};
 #[derive(Drop)]
 pub struct Fmr {
     map: Bitmap,
-    plexes: u64,
+    pub(crate) plexes: u64,
     stride: u64,
-    regions: u64,
+    pub(crate) regions: u64,
 }
 
 impl Model for Fmr {

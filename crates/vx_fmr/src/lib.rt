@@ -5,5 +5,7 @@
 #![tactic(auto)]
 
 mod fmr;
+#[cfg(test)]
+mod tests;
 
 pub use fmr::Fmr;

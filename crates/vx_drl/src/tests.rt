@@ -1,0 +1,177 @@
+// What no clause says: that marks succeed on a shelf in memory and are there behind a crash, and which disk a refusal names.
+use super::*;
+use std::alloc::Global;
+use std::test::*;
+use vx_config::{
+    Config, DiskEntry, Disks, LogEntry, PlexEntry, Plexes, Subdisk, Subdisks, VolumeEntry,
+    VolumeLog, Volumes,
+};
+use vx_disk::{MemShelf, Rack, Shelf};
+use vx_maplog::{disks_fit, has_log};
+use vx_model::{Name, No, OutOfMemory, PlexState, Stop};
+
+fn run(disk: u8, start: u64, blocks: u64) -> Subdisk {
+    Subdisk {
+        disk,
+        start,
+        blocks,
+    }
+}
+
+// A volume of 8,192 blocks on disk 0 whose dirty region log is block 600 of disk 1.
+fn group(alloc: Global) -> Result<Config, OutOfMemory> {
+    let mut disks = Disks::new();
+    disks.push(DiskEntry {
+        blocks: 16_384,
+        failed: false,
+    });
+    disks.push(DiskEntry {
+        blocks: 16_384,
+        failed: false,
+    });
+    let mut subdisks = Subdisks::new(alloc);
+    subdisks.push(run(0, 512, 8192))?;
+    let mut plexes = Plexes::new(alloc);
+    plexes.push(PlexEntry {
+        state: PlexState::Active,
+        whole: false,
+        subdisks,
+    })?;
+    let mut volumes = Volumes::new(alloc);
+    volumes.push(VolumeEntry {
+        name: Name::new(b"v"),
+        blocks: 8192,
+        ncol: 1,
+        width: 0,
+        prefer: None,
+        drl: Some(LogEntry {
+            lost: false,
+            disk: 1,
+            start: 600,
+            blocks: 1,
+        }),
+        fmr: None,
+        plexes,
+    })?;
+    Ok(Config {
+        serial: 1,
+        site: 0,
+        disks,
+        volumes,
+        rvg: None,
+    })
+}
+
+// A shelf in memory of two disks of 16,384 blocks, of which the calls with these numbers fail.
+fn fitted(alloc: Global, fails: &[u64]) -> Result<MemShelf, OutOfMemory> {
+    let mut shelf = MemShelf::new(alloc, fails)?;
+    if shelf.fit(alloc, None, 0, 2, 16_384).is_err() {
+        return Err(OutOfMemory);
+    }
+    Ok(shelf)
+}
+
+fn loaded<S: Shelf>(alloc: Global, shelf: &mut S, config: &Config) -> Result<Drl, Stop> {
+    if !has_log(config, 0, VolumeLog::Drl)
+        || !disks_fit(config.disks.as_slice(), shelf)
+        || shelf.is_down()
+    {
+        return Err(Stop::No(No::Role));
+    }
+    Drl::load(alloc, shelf, config, 0)
+}
+
+#[derive(Clone, Copy, Debug, PartialEq, Eq)]
+enum Told {
+    Done,
+    Device(u32),
+    Other,
+}
+
+fn said(res: Result<(), No>) -> Told {
+    match res {
+        Ok(()) => Told::Done,
+        Err(No::Device { disk }) => Told::Device(disk),
+        Err(_) => Told::Other,
+    }
+}
+
+// Reads the log and marks a run of regions.
+fn marked<S: Shelf>(alloc: Global, shelf: &mut S, config: &Config, first: u64, last: u64) -> Told {
+    if !has_log(config, 0, VolumeLog::Drl)
+        || !disks_fit(config.disks.as_slice(), shelf)
+        || shelf.is_down()
+    {
+        return Told::Other;
+    }
+    match Drl::load(alloc, shelf, config, 0) {
+        Ok(mut drl) => {
+            if first > last || last >= drl.regions {
+                return Told::Other;
+            }
+            said(drl.mark(shelf, first, last))
+        }
+        Err(_) => Told::Other,
+    }
+}
+
+// Reads the log and takes its marks off.
+fn cleared<S: Shelf>(alloc: Global, shelf: &mut S, config: &Config) -> Told {
+    if !has_log(config, 0, VolumeLog::Drl)
+        || !disks_fit(config.disks.as_slice(), shelf)
+        || shelf.is_down()
+    {
+        return Told::Other;
+    }
+    match Drl::load(alloc, shelf, config, 0) {
+        Ok(mut drl) => said(drl.flushed(shelf)),
+        Err(_) => Told::Other,
+    }
+}
+
+// Whether a region is marked, where the log can be read.
+fn is_dirty<S: Shelf>(alloc: Global, shelf: &mut S, config: &Config, region: u64) -> Option<bool> {
+    match loaded(alloc, shelf, config) {
+        Ok(drl) => {
+            if region < drl.regions {
+                Some(drl.dirty(region))
+            } else {
+                None
+            }
+        }
+        Err(_) => None,
+    }
+}
+
+// Marks of 100 regions are there behind a crash, and the first that are flushed behind a load are taken off.
+#[test]
+fn marks_are_there_behind_a_crash(rt: HostRuntime) -> Result<(), Fail> {
+    let alloc = rt.alloc();
+    let config = group(alloc)?;
+    let mut shelf = fitted(alloc, &[])?;
+    assert_eq!(rt; marked(alloc, &mut shelf, &config, 5, 104), Told::Done);
+    shelf.crash(0);
+    if shelf.is_down() {
+        shelf.revive();
+    }
+    assert_eq!(rt; is_dirty(alloc, &mut shelf, &config, 4), Some(false));
+    assert_eq!(rt; is_dirty(alloc, &mut shelf, &config, 5), Some(true));
+    assert_eq!(rt; is_dirty(alloc, &mut shelf, &config, 104), Some(true));
+    assert_eq!(rt; is_dirty(alloc, &mut shelf, &config, 105), Some(false));
+    assert_eq!(rt; is_dirty(alloc, &mut shelf, &config, 128), None);
+    assert_eq!(rt; cleared(alloc, &mut shelf, &config), Told::Done);
+    assert_eq!(rt; is_dirty(alloc, &mut shelf, &config, 5), Some(false));
+    assert_eq!(rt; is_dirty(alloc, &mut shelf, &config, 104), Some(false));
+    Ok(())
+}
+
+// The second call, the write of the mark, fails: refusal 7 names the log's disk.
+#[test]
+fn a_failing_disk_is_named(rt: HostRuntime) -> Result<(), Fail> {
+    let alloc = rt.alloc();
+    let config = group(alloc)?;
+    let mut shelf = fitted(alloc, &[2])?;
+    assert_eq!(rt; marked(alloc, &mut shelf, &config, 7, 7), Told::Device(1));
+    assert_eq!(rt; is_dirty(alloc, &mut shelf, &config, 7), Some(false));
+    Ok(())
+}
