@@ -5,4 +5,5 @@ pub mod Following
 pub mod Masks
 pub mod Parts
 pub mod Seeing
+pub mod Spending
 pub mod Writing

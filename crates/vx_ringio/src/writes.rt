@@ -4,6 +4,7 @@ ghost use Rattle.vx_disk.specs.Causes.{Cause};
 ghost use Rattle.vx_ringio.specs.Bodies.{IsBlocks, all_blocks};
 ghost use Rattle.vx_disk.specs.Burns.{FallsShort, MakesCalls};
 ghost use Rattle.vx_ringio.specs.Classes.{is_of_ring};
+ghost use Rattle.vx_ringio.specs.Spends.{MakesAtLeast, Spends};
 ghost use Rattle.vx_ringio.specs.Tracks.{Lies, Follows, Arrives};
 ghost use Rattle.vx_ringlog.specs.Acts.{body_acts, head_acts};
 ghost use Rattle.vx_ringlog.specs.Cells.{Write as WriteAct, Flush};
@@ -23,6 +24,7 @@ pub fn flush_ring<S: Shelf>(shelf: &mut S, unit: u32) -> Result<(), ShelfError>
     ensures cause { Cause (S.meaning shelf.old) (S.meaning shelf.new) unit result }
     ensures calls { OnOk result (MakesCalls 1 (S.meaning shelf.old) (S.meaning shelf.new)) }
     ensures short { FallsShort 1 (S.meaning shelf.old) (S.meaning shelf.new) }
+    ensures spends { Spends (S.meaning shelf.old) (S.meaning shelf.new) }
 {
     shelf.flush(unit)
 }
@@ -44,6 +46,7 @@ pub fn write_front<S: Shelf>(
     ensures cause { Cause (S.meaning shelf.old) (S.meaning shelf.new) unit result }
     ensures calls { OnOk result (MakesCalls 1 (S.meaning shelf.old) (S.meaning shelf.new)) }
     ensures short { FallsShort 1 (S.meaning shelf.old) (S.meaning shelf.new) }
+    ensures spends { Spends (S.meaning shelf.old) (S.meaning shelf.new) }
 {
     let mut bytes = [0; 512];
     put_record(head, &mut bytes);
@@ -65,6 +68,7 @@ pub fn write_header<S: Shelf>(
     ensures cause { Cause (S.meaning shelf.old) (S.meaning shelf.new) unit result }
     ensures calls { OnOk result (MakesCalls 2 (S.meaning shelf.old) (S.meaning shelf.new)) }
     ensures short { FallsShort 2 (S.meaning shelf.old) (S.meaning shelf.new) }
+    ensures spends { Spends (S.meaning shelf.old) (S.meaning shelf.new) }
 {
     let mut bytes = [0; 512];
     put_header(header, &mut bytes);
@@ -90,6 +94,7 @@ fn write_part<S: Shelf>(
     ensures cause { Cause (S.meaning shelf.old) (S.meaning shelf.new) unit result }
     ensures calls { OnOk result (MakesCalls 1 (S.meaning shelf.old) (S.meaning shelf.new)) }
     ensures short { FallsShort 1 (S.meaning shelf.old) (S.meaning shelf.new) }
+    ensures spends { Spends (S.meaning shelf.old) (S.meaning shelf.new) }
 {
     shelf.write(unit, 2 + first, bytes)
 }
@@ -112,6 +117,8 @@ pub fn write_body<S: Shelf>(
     ensures cause { Cause (S.meaning shelf.old) (S.meaning shelf.new) unit result }
     ensures calls { OnOk result (place % ring + length bytes.now / 512 ≤ ring → MakesCalls 1 (S.meaning shelf.old) (S.meaning shelf.new)) }
     ensures short { place % ring + length bytes.now / 512 ≤ ring → FallsShort 1 (S.meaning shelf.old) (S.meaning shelf.new) }
+    ensures least { OnOk result (MakesAtLeast 1 (S.meaning shelf.old) (S.meaning shelf.new)) }
+    ensures spends { Spends (S.meaning shelf.old) (S.meaning shelf.new) }
 {
     let first = place % ring;
     let before_end = (ring - first).min(bytes.len() as u64 / 512);

@@ -17,6 +17,7 @@ use crate::{Rvg, RvgCore};
 use std::alloc::Global;
 use std::marker::Model;
 use vx_disk::Shelf;
+use vx_model::limits::LEAST_BLOCKS;
 use vx_model::{Blocks, Line, No, OutOfMemory, Stop, Units, Update};
 use vx_overlay::Overlay;
 use vx_srl::{LogRoom, Srl};
@@ -92,7 +93,7 @@ impl Model for StartRoom {
 impl StartRoom {
     /// For a log whose unit has so many blocks.
     pub fn new(alloc: Global, blocks: u64) -> Result<StartRoom, OutOfMemory>
-        requires { 8 ≤ blocks }
+        requires { LEAST_BLOCKS ≤ blocks }
         ensures { IfOk result (λ room. room.ring ≡ ring_of blocks) }
     {
         let log = LogRoom::new(alloc, blocks)?;
@@ -117,7 +118,7 @@ impl<S: Shelf> Rvg<S> {
     /// it refuses, the shelf comes back, and has what it had but for the headers of the log.
     pub fn start_in(room: StartRoom, shelf: S, units: &Units) -> Result<Rvg<S>, (S, No)>
         requires placed { Placed units.now (S.meaning shelf) }
-        requires large { 8 ≤ (S.meaning shelf).size units.now.srl }
+        requires large { LEAST_BLOCKS ≤ (S.meaning shelf).size units.now.srl }
         requires room { room.ring ≡ ring_in units.now (S.meaning shelf) }
         ensures starts { IfOk result (λ g. IsStarted units.now (S.meaning shelf) g.core (S.meaning g.shelf)) }
         ensures up { IfOk result (λ g. IsTrue (S.meaning g.shelf).down → ⊥) }
@@ -151,7 +152,7 @@ impl<S: Shelf> Rvg<S> {
     /// The same, or want of memory, which changes nothing.
     pub fn start(alloc: Global, shelf: S, units: &Units) -> Result<Rvg<S>, (S, Stop)>
         requires placed { Placed units.now (S.meaning shelf) }
-        requires large { 8 ≤ (S.meaning shelf).size units.now.srl }
+        requires large { LEAST_BLOCKS ≤ (S.meaning shelf).size units.now.srl }
         ensures starts { IfOk result (λ g. IsStarted units.now (S.meaning shelf) g.core (S.meaning g.shelf)) }
         ensures up { IfOk result (λ g. IsTrue (S.meaning g.shelf).down → ⊥) }
         ensures moves { IfOk result (λ g. Moves (Run units.now.srl 0 (ring_in units.now (S.meaning shelf) + 2)) (Starting units.now (S.meaning shelf)) (S.meaning shelf) (S.meaning g.shelf)) }

@@ -6,6 +6,7 @@ use Rattle.vx_model.specs.Sizes.{ring_of}
 use Rattle.vx_srl.specs.Starts.{StartCause, Restarting, IsStarted, Room}
 use Rattle.vx_srl.proofs.StartCauses.{fronts_before, limit_since, no_header_cause, scan_cause, take_over_cause}
 use Rattle.vx_srl.proofs.StartLogs.{rests, header_left, scans_left, goes_over, is_started}
+use Rattle.vx_ringio.proofs.Spending.{then_spends}
 use Rattle.vx_srl.proofs.log.Srl.start_in.Goals as goal
 
 pub returns-in-Err-clause-starts : goal.returns-in-Err-clause-starts
@@ -70,3 +71,12 @@ returns-in-Err-take_over-clause-moves g c =
 pub returns-in-Err-take_over-clause-limit : goal.returns-in-Err-take_over-clause-limit
 returns-in-Err-take_over-clause-limit g c =
     limit_since _ _ _ (then_nothing Nothing _ _ _ c.find_header.ensures.goes c.scan.ensures.goes) c.in-Err-take_over.no c.in-Err-take_over.ensures.limit
+
+pub returns-in-Err-scan-clause-spends : goal.returns-in-Err-scan-clause-spends
+returns-in-Err-scan-clause-spends g c = then_spends _ _ _ c.find_header.ensures.spends c.scan.ensures.spends
+
+pub returns-in-Ok-take_over-clause-spends : goal.returns-in-Ok-take_over-clause-spends
+returns-in-Ok-take_over-clause-spends g c = then_spends _ _ _ (then_spends _ _ _ c.find_header.ensures.spends c.scan.ensures.spends) c.take_over.ensures.spends
+
+pub returns-in-Err-take_over-clause-spends : goal.returns-in-Err-take_over-clause-spends
+returns-in-Err-take_over-clause-spends g c = then_spends _ _ _ (then_spends _ _ _ c.find_header.ensures.spends c.scan.ensures.spends) c.take_over.ensures.spends
