@@ -108,6 +108,7 @@ module _ (units : Units) (ring : ℕ) (state : SiteState) (session stamp : ℕ) 
     some = left.some;
     low_is = ap (λ (x : Header). x.low) same ∙ left.low_is;
     writes_are = left.writes_are;
+    place_is = ap (λ (x : Header). x.place) same ∙ left.place_is;
     content = has;
     maps = has_them;
   }
@@ -123,6 +124,7 @@ module _ (units : Units) (ring : ℕ) (state : SiteState) (session stamp : ℕ) 
     some = left.some;
     low_is = ap (λ (x : Header). x.low) is.3 ∙ left.low_is;
     writes_are = left.writes_are;
+    place_is = ap (λ (x : Header). x.place) is.3 ∙ left.place_is;
     content = has;
     maps = has_them;
   }
@@ -317,7 +319,7 @@ module _ (units : Units) (old mid : Meaning) (placed : Placed units old) (moves 
           ap (λ (x : Header). x.state) is_raised.3 ∙ left.state_is,
           omega (arith, ap (λ (x : Header). x.incarnation) is_raised.3, left.session_is),
           omega (arith, ap (λ (x : Header). x.stamp) is_raised.3, left.stamp_most, is_raised.2),
-          record { log = s; ready = ready; low = ap (λ (x : Header). x.low) is_raised.3 ∙ left.low_is; writes = writes_here; maps = maps },
+          record { log = s; ready = ready; low = ap (λ (x : Header). x.low) is_raised.3 ∙ left.low_is; writes = writes_here; place = ap (λ (x : Header). x.place) is_raised.3 ∙ left.place_is; maps = maps },
         )
 
       is_started : IsStarted units old core new

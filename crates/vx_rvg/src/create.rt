@@ -5,6 +5,7 @@ ghost use Rattle.vx_model.specs.Content.{Content};
 ghost use Rattle.vx_model.specs.Sizes.{ring_of};
 ghost use Rattle.vx_model.specs.declared.errors.Stop.TheVariants.{No as Refused};
 ghost use Rattle.vx_model.specs.declared.no.No.TheVariants.{Size};
+ghost use Rattle.vx_ringio.specs.Spends.{Spends};
 ghost use Rattle.vx_rvg.specs.Groups.{new_core, MakeCause};
 ghost use Rattle.vx_rvg.specs.Holdings.{nothing_logged};
 ghost use Rattle.vx_rvg.specs.Stands.{Holds, Stands};
@@ -39,6 +40,8 @@ impl<S: Shelf> Rvg<S> {
         ensures moves { IfOk result (λ g. Moves (Run units.now.srl 0 (ring_of ((S.meaning shelf).size units.now.srl) + 2)) Anything (S.meaning shelf) (S.meaning g.shelf)) }
         ensures cause { LEAST_BLOCKS ≤ (S.meaning shelf).size units.now.srl → IfErr result (λ e. MakeCause (S.meaning shelf) (S.meaning e.0) e.1) }
         ensures left { IfErr result (λ e. Moves (Run units.now.srl 0 (ring_of ((S.meaning shelf).size units.now.srl) + 2)) Anything (S.meaning shelf) (S.meaning e.0)) }
+        ensures spends { IfOk result (λ g. Spends (S.meaning shelf) (S.meaning g.shelf)) }
+        ensures spent { IfErr result (λ e. Spends (S.meaning shelf) (S.meaning e.0)) }
     {
         let mut shelf = shelf;
         let blocks = shelf.size(units.srl);

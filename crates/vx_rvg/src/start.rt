@@ -5,6 +5,7 @@ ghost use Rattle.vx_disk.specs.Shelf.{Goes, Nothing};
 ghost use Rattle.vx_model.specs.Content.{blocks_in};
 ghost use Rattle.vx_model.specs.Sizes.{ring_of};
 ghost use Rattle.vx_overlay.specs.Writes.{entries_of};
+ghost use Rattle.vx_ringio.specs.Spends.{Spends};
 ghost use Rattle.vx_ringio.specs.Tracks.{Lies};
 ghost use Rattle.vx_rvg.specs.Fills.{FillCause, IsFilled, logged_by};
 ghost use Rattle.vx_rvg.specs.Starts.{Starting, IsStarted, StartCause, StartStop, ring_in};
@@ -53,6 +54,7 @@ fn fill<S: Shelf>(shelf: &mut S, srl: &Srl, units: &Units, pending: &mut Overlay
     ensures up { OnOk result (IsTrue (S.meaning shelf.new).down → ⊥) }
     ensures cause { IfErr result (λ why. FillCause srl.now (S.meaning shelf.old) (S.meaning shelf.new) why) }
     ensures goes { Goes Nothing (S.meaning shelf.old) (S.meaning shelf.new) }
+    ensures spends { Spends (S.meaning shelf.old) (S.meaning shelf.new) }
 {
     // The ring has room for all that is held.
     let _ring = srl.ring();
@@ -126,6 +128,8 @@ impl<S: Shelf> Rvg<S> {
         ensures cause { IfErr result (λ e. StartCause units.now (S.meaning shelf) (S.meaning e.0) e.1) }
         ensures limit { IfErr result (λ e. ReadsAtLimit (S.meaning shelf) (S.meaning e.0) e.1) }
         ensures left { IfErr result (λ e. Moves (Run units.now.srl 0 (ring_in units.now (S.meaning shelf) + 2)) (Starting units.now (S.meaning shelf)) (S.meaning shelf) (S.meaning e.0)) }
+        ensures spends { IfOk result (λ g. Spends (S.meaning shelf) (S.meaning g.shelf)) }
+        ensures spent { IfErr result (λ e. Spends (S.meaning shelf) (S.meaning e.0)) }
     {
         let mut shelf = shelf;
         let StartRoom { log, mut pending } = room;
@@ -159,6 +163,8 @@ impl<S: Shelf> Rvg<S> {
         ensures cause { IfErr result (λ e. StartStop units.now (S.meaning shelf) (S.meaning e.0) e.1) }
         ensures limit { IfErr result (λ e. StopReadsAtLimit (S.meaning shelf) (S.meaning e.0) e.1) }
         ensures left { IfErr result (λ e. Moves (Run units.now.srl 0 (ring_in units.now (S.meaning shelf) + 2)) (Starting units.now (S.meaning shelf)) (S.meaning shelf) (S.meaning e.0)) }
+        ensures spends { IfOk result (λ g. Spends (S.meaning shelf) (S.meaning g.shelf)) }
+        ensures spent { IfErr result (λ e. Spends (S.meaning shelf) (S.meaning e.0)) }
     {
         let Ok(room) = StartRoom::new(alloc, shelf.size(units.srl)) else {
             return Err((shelf, Stop::OutOfMemory));

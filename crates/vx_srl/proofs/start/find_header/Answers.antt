@@ -27,3 +27,6 @@ returns-in-Stands-clause-spends g c = then_spends _ _ _ c.read_top.ensures.spend
 
 pub returns-in-Broken-clause-spends : goal.returns-in-Broken-clause-spends
 returns-in-Broken-clause-spends g c = then_spends _ _ _ c.read_top.ensures.spends c.read_top-2.ensures.spends
+
+pub returns-in-Err-read_top-clause-spends : goal.returns-in-Err-read_top-clause-spends
+returns-in-Err-read_top-clause-spends g c = then_spends _ _ _ c.read_top.ensures.spends c.read_top-2.ensures.spends
