@@ -1,3 +1,4 @@
+pub mod Aside
 pub mod Blanks
 pub mod Bodies
 pub mod Classing

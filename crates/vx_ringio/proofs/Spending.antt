@@ -107,7 +107,7 @@ out_sized size size' x y sizes ran =
 
 pub spent_both : (size size' : ℕ → ℕ) → ((u : ℕ) → size' u ≡ size u) → (a b c : Bool) → (IsTrue a → IsTrue b) → (IsTrue b → IsTrue c) → (x y z : Disks)
     → Spent size a b x y → Spent size' b c y z → Spent size a c x z
-spent_both size size' sizes a b c falls then x y z one two = record {
+spent_both size size' sizes a b c falls stays x y z one two = record {
   failing = λ u. two.failing u ∙ one.failing u;
   burnt = elim one.burnt [
     | inl passed ↦ elim two.burnt [
@@ -119,7 +119,7 @@ spent_both size size' sizes a b c falls then x y z one two = record {
     ]
     | inr out ↦ inr (
       record { middle = out.0.middle; passed = out.0.passed; out = out_untouched size out.0.middle y z out.0.out (two.rests out.1 out.0.out.crash.fuse) },
-      then out.1,
+      stays out.1,
     )
   ];
   rests = λ down none.
@@ -201,12 +201,12 @@ spends_none m = record { size = λ u. refl; falls = λ down. down; told = told_n
 
 told_both : (size size' : ℕ → ℕ) → ((u : ℕ) → size' u ≡ size u) → (a b c : Bool) → (IsTrue a → IsTrue b) → (IsTrue b → IsTrue c) → (x y z : Option Disks)
     → WithDisks x y (Spent size a b) → WithDisks y z (Spent size' b c) → WithDisks x z (Spent size a c)
-told_both size size' sizes a b c falls then None None None one two = tt
-told_both size size' sizes a b c falls then None None (Some z) one two = absurd two
-told_both size size' sizes a b c falls then None (Some y) z one two = absurd one
-told_both size size' sizes a b c falls then (Some x) None z one two = absurd one
-told_both size size' sizes a b c falls then (Some x) (Some y) None one two = absurd two
-told_both size size' sizes a b c falls then (Some x) (Some y) (Some z) one two = spent_both size size' sizes a b c falls then x y z one two
+told_both size size' sizes a b c falls stays None None None one two = tt
+told_both size size' sizes a b c falls stays None None (Some z) one two = absurd two
+told_both size size' sizes a b c falls stays None (Some y) z one two = absurd one
+told_both size size' sizes a b c falls stays (Some x) None z one two = absurd one
+told_both size size' sizes a b c falls stays (Some x) (Some y) None one two = absurd two
+told_both size size' sizes a b c falls stays (Some x) (Some y) (Some z) one two = spent_both size size' sizes a b c falls stays x y z one two
 
 pub then_spends : (old mid new : Meaning) → Spends old mid → Spends mid new → Spends old new
 then_spends old mid new one two = record {

@@ -1,6 +1,8 @@
 // The writes of a log.
 ghost use Rattle.std.specs.Prelude.{◌≡◌, ◌+◌, ◌*◌, ◌/◌, ◌%◌, ◌<◌, ◌≤◌, ◌^◌, ℕ, [], ◌∷◌, ◌++◌, length, true, All, OnOk};
 ghost use Rattle.vx_disk.specs.Causes.{Cause};
+ghost use Rattle.vx_disk.specs.Moves.{Anything, Moves, Run};
+ghost use Rattle.vx_disk.specs.Shelf.{Goes, Nothing};
 ghost use Rattle.vx_ringio.specs.Bodies.{IsBlocks, all_blocks};
 ghost use Rattle.vx_disk.specs.Burns.{FallsShort, MakesCalls};
 ghost use Rattle.vx_ringio.specs.Classes.{is_of_ring};
@@ -21,6 +23,7 @@ pub fn flush_ring<S: Shelf>(shelf: &mut S, unit: u32) -> Result<(), ShelfError>
     requires exists { unit < (S.meaning shelf.old).units }
     ensures follows { (ring : ℕ) → Follows unit ring (Flush ∷ []) (S.meaning shelf.old) (S.meaning shelf.new) }
     ensures arrives { OnOk result ((ring : ℕ) → Arrives unit ring (Flush ∷ []) (S.meaning shelf.old) (S.meaning shelf.new)) }
+    ensures goes { Goes Nothing (S.meaning shelf.old) (S.meaning shelf.new) }
     ensures cause { Cause (S.meaning shelf.old) (S.meaning shelf.new) unit result }
     ensures calls { OnOk result (MakesCalls 1 (S.meaning shelf.old) (S.meaning shelf.new)) }
     ensures short { FallsShort 1 (S.meaning shelf.old) (S.meaning shelf.new) }
@@ -53,7 +56,7 @@ pub fn write_front<S: Shelf>(
     shelf.write(unit, 2 + place % ring, &bytes)
 }
 
-/// Writes a header of the log to its block, which goes by its stamp, and makes it durable.
+/// Writes a header of the log to its block, which goes by its stamp, and makes it durable. The blocks of the ring stay as they are.
 pub fn write_header<S: Shelf>(
     shelf: &mut S,
     unit: u32,
@@ -65,6 +68,7 @@ pub fn write_header<S: Shelf>(
     requires of_ring { is_of_ring ring header.now ≡ true }
     ensures follows { Follows unit ring (head_acts (header.now.stamp % 2) header.now) (S.meaning shelf.old) (S.meaning shelf.new) }
     ensures arrives { OnOk result (Arrives unit ring (head_acts (header.now.stamp % 2) header.now) (S.meaning shelf.old) (S.meaning shelf.new)) }
+    ensures aside { Moves (Run unit 0 2) Anything (S.meaning shelf.old) (S.meaning shelf.new) }
     ensures cause { Cause (S.meaning shelf.old) (S.meaning shelf.new) unit result }
     ensures calls { OnOk result (MakesCalls 2 (S.meaning shelf.old) (S.meaning shelf.new)) }
     ensures short { FallsShort 2 (S.meaning shelf.old) (S.meaning shelf.new) }

@@ -1,8 +1,8 @@
 use Rattle.std.proofs.Common.{arith, ◌+◌}
 use Rattle.vx_disk.specs.Shelf.{Nothing}
 use Rattle.vx_disk.proofs.Runs.{then_nothing}
-use Rattle.vx_rvg.proofs.StartFill.{room_for, went_on}
-use Rattle.vx_ringio.proofs.Spending.{then_spends}
+use Rattle.vx_rvg.proofs.StartFill.{begun, room_for, went_on}
+use Rattle.vx_ringio.proofs.Spending.{spends_none, then_spends}
 use Rattle.vx_rvg.proofs.start.fill.Goals as goal
 
 pub returns-in-Err-clause-goes : goal.returns-in-Err-clause-goes
@@ -24,3 +24,6 @@ loop-before-preserved g c = (
 
 pub returns-in-Err-clause-spends : goal.returns-in-Err-clause-spends
 returns-in-Err-clause-spends g c = then_spends _ _ _ c.loop-before.invariant.1 c.fetch.ensures.spends
+
+pub loop-before-init : goal.loop-before-init
+loop-before-init g c = (begun c.args.srl.now c.args.units.now.vols (g.S.Shelf.meaning c.args.shelf.now) _ _ c.args.pending.now c.requires.up c.requires.none c.requires.room (omega arith), spends_none _)

@@ -6,6 +6,7 @@ use Rattle.vx_model.specs.Sizes.{ring_of}
 use Rattle.vx_srl.specs.Starts.{StartCause, Restarting, IsStarted, Room}
 use Rattle.vx_srl.proofs.StartCauses.{fronts_before, limit_since, no_header_cause, scan_cause, take_over_cause}
 use Rattle.vx_srl.proofs.StartLogs.{rests, header_left, scans_left, goes_over, is_started}
+use Rattle.vx_ringio.proofs.Aside.{aside_reads_since}
 use Rattle.vx_ringio.proofs.Spending.{then_spends}
 use Rattle.vx_srl.proofs.log.Srl.start_in.Goals as goal
 
@@ -41,6 +42,7 @@ returns-in-Ok-take_over-clause-starts g c =
           (λ rs h left. c.in-Ok-scan.ensures.finds rs
           (scans_left c.args.unit (c.room.inside.ring) c.in-Ok.standing _ (g.met.S.Shelf.lawful c.args.shelf.now) c.in-Ok.ensures.found _ c.find_header.ensures.goes c.in-Ok.ensures.up h rs left))
           (fronts_before c.args.unit (c.room.inside.ring) c.scan.new.records.items (g.S.Shelf.meaning c.args.shelf.now) (g.S.Shelf.meaning c.find_header.new.shelf) c.find_header.ensures.goes c.in-Ok.ensures.up c.in-Ok-scan.ensures.fronts)
+          (aside_reads_since c.args.unit (g.S.Shelf.meaning c.args.shelf.now) (g.S.Shelf.meaning c.scan.new.shelf) (g.S.Shelf.meaning c.take_over.new.shelf) goes c.take_over.ensures.aside c.in-Ok-take_over.ensures.up)
           c.in-Ok-take_over.ensures.arrives c.in-Ok-take_over.header c.made.result c.in-Ok-take_over.ensures.header c.made.ensures),
       c.in-Ok-take_over.ensures.up,
     )
