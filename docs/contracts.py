@@ -1,8 +1,10 @@
 #!/usr/bin/env python3
 """Lists every public call with the names of its clauses, in docs/CONTRACTS.md.
 
-contracts.py --write   writes the list
-contracts.py           fails where the list is not that of the sources, or where a clause that a table of promises names is not in it
+contracts.py --write   writes the list, and then tests the pages as below
+contracts.py           fails where the list is not that of the sources, where a clause that a page names is not in it, where the pages
+                       on crates do not have each crate of crates.txt with what it stands on, or where a name in backquotes on the
+                       pages on definitions, crates and decisions stands in no source
 """
 import re
 import sys
@@ -10,16 +12,48 @@ from pathlib import Path
 
 ROOT = Path(__file__).resolve().parent.parent
 LIST = ROOT / 'docs' / 'CONTRACTS.md'
-TABLES = [ROOT / 'README.md', ROOT / 'docs' / 'AHEAD.md']
+MAP = ROOT / 'docs' / 'ARCHITECTURE.md'
+PROMISES = ROOT / 'docs' / 'CRATES.md'
+NAMING = [ROOT / 'docs' / page for page in ('MODEL.md', 'CRATES.md', 'CLAIMS.md', 'DECISIONS.md', 'AHEAD.md')]
 HEAD = '''# Contracts
 
 Every public call, with the names of its clauses; `returns` stands for a clause that has no name. `docs/contracts.py --write` makes this list from the sources, and the checks compare it. A law is a call without a body: its clauses hold of the definitions that they name.
 '''
 
 
-def crates():
+def stands():
+    """Of each crate of crates.txt the crates of this repository that it stands on."""
     lines = (ROOT / 'crates.txt').read_text().splitlines()
-    return [line.split(':')[0] for line in lines if ':' in line and not line.startswith('#')]
+    found = {line.split(':')[0]: line.split(':')[1].split() for line in lines if ':' in line and not line.startswith('#')}
+    return {crate: [other for other in others if other in found] for crate, others in found.items()}
+
+
+def crates():
+    return list(stands())
+
+
+def below(crate, known):
+    """All crates that a crate stands on, also through others."""
+    return set(known[crate]).union(*(below(other, known) for other in known[crate]))
+
+
+def direct(crate, known):
+    """The crates that a crate stands on, but for those that these stand on themselves."""
+    through = set().union(*(below(other, known) for other in known[crate]))
+    return [other for other in known[crate] if other not in through]
+
+
+def unmapped():
+    """What the pages on crates lack."""
+    known = stands()
+    table = MAP.read_text().split('\n## The crates\n')[1].split('\n## ')[0]
+    rows = dict(re.findall(r'^\| (vx\w*) \|.*\| ([^|]*) \|$', table, re.M))
+    told = re.findall(r'^\*\*(vx\w*)\*\* ', PROMISES.read_text(), re.M)
+    for crate in known:
+        if rows.get(crate) != (', '.join(direct(crate, known)) or 'none'):
+            yield f'docs/ARCHITECTURE.md has no row for {crate} with what it stands on: {", ".join(direct(crate, known)) or "none"}'
+        if told.count(crate) != 1:
+            yield f'docs/CRATES.md has no paragraph on {crate}, or more than one'
 
 
 def exported(lib):
@@ -102,25 +136,36 @@ def listed():
     return ''.join(parts)
 
 
+def names_of(pattern, text):
+    return set(re.findall(r"[A-Za-z_]\w{3,}", ' '.join(re.findall(pattern, text))))
+
+
+def unknown():
+    """The names in backquotes on the pages on definitions, crates and decisions that stand in no source."""
+    sources = [path for kind in ('src/**/*.rt', 'specs/**/*.antt', 'proofs/**/*.antt') for path in (ROOT / 'crates').glob(f'*/{kind}')]
+    known = set().union(*(names_of('(?s).+', f'{path} {path.read_text()}') for path in sources))
+    for page in NAMING:
+        for name in sorted(names_of('`([^`]+)`', page.read_text()) - known):
+            yield f'docs/{page.name} has the name {name}, which no source has'
+
+
 def cited():
-    """The clauses that the tables of promises name, as `crate call clause`."""
-    for page in TABLES:
-        for row in page.read_text().splitlines():
-            if row.startswith('|'):
-                yield from ((page.name, *one) for one in re.findall(r'`(vx_\w+) ([\w:]+) (\w+)`', row))
+    """The clauses that the pages name, as `crate call clause`."""
+    for page in [ROOT / 'README.md', *sorted((ROOT / 'docs').glob('*.md'))]:
+        yield from ((page.name, *one) for one in re.findall(r'`(vx_\w+) ([\w:]+) (\w+)`', page.read_text()))
 
 
 def main():
     text = listed()
     if '--write' in sys.argv[1:]:
         LIST.write_text(text)
-        return 0
     wrong = []
     if not LIST.exists() or LIST.read_text() != text:
         wrong.append('docs/CONTRACTS.md is not the list of the sources: run docs/contracts.py --write')
     known = {(crate, name, clause) for crate in crates() for name, clauses in calls(crate) for _, clause in clauses}
     wrong += [f'{page} names {" ".join(one)}, which is no clause' for page, *one in cited() if tuple(one) not in known]
-    print('\n'.join(wrong) or 'contracts: the list and the tables of promises are those of the sources')
+    wrong += [*unmapped(), *unknown()]
+    print('\n'.join(wrong) or 'contracts: the list, the clauses and names on the pages and the pages on crates are those of the sources')
     return 1 if wrong else 0
 
 

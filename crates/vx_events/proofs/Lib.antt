@@ -6,5 +6,7 @@ pub mod Places
 pub mod Refused
 pub mod RefusedCalls
 pub mod Steps
+pub mod Stopping
+pub mod StoppingCuts
 pub mod Testing
 pub mod Values

@@ -8,4 +8,5 @@ pub mod Lists
 pub mod Plain
 pub mod Sayings
 pub mod Stamps
+pub mod Stopping
 pub mod Views

@@ -11,9 +11,15 @@ ghost use Rattle.vx_history.specs.World.{World};
 ghost use Rattle.vx_history.specs.declared.event.Event.TheVariants.{Site as MakeSite, Raw as MakeRaw, Write as WriteAt, Read as ReadAt, Apply as ApplyAt, Crash as CrashAt};
 ghost use Rattle.vx_history.specs.declared.event.Said.TheVariants.{Done, DoneAt, Got};
 ghost use Rattle.vx_order.specs.Order.{refusal_of};
+ghost use Rattle.vx_script.specs.declared.line.ScriptLine.{ScriptLine};
 ghost use Rattle.vx_script.specs.declared.line.ScriptLine.TheVariants.{Site, Raw, Crash, Write as WriteLine, Put, Read, Show, Apply};
 ghost use Rattle.vx_events.specs.Facts.{facts_of, site_number, volume_number};
+ghost use Rattle.vx_events.specs.Ends.{place_of};
+ghost use Rattle.vx_events.specs.Fails.{Fails};
+ghost use Rattle.vx_events.specs.Lines.{LineStep};
 ghost use Rattle.vx_events.specs.Plain.{IsUnlinked, IsSized};
+ghost use Rattle.vx_events.specs.Stopping.{StopsAs};
+ghost use Rattle.vx_events.specs.declared.said.Said.{Said};
 
 /// A site without links lets every write in.
 pub fn lets_every_write_in()
@@ -48,4 +54,11 @@ pub fn tests_agree()
     ensures apply { (w : World) (files : Bool) (name : List ℕ) (to reached : ℕ) → refusal_of (facts_of w) files (Apply name to) ≡ None
         → is_origin (w.nodes (site_number w name)).role ≡ true → min to (w.nodes (site_number w name)).safe ≤ reached → reached ≤ (w.nodes (site_number w name)).safe
         → (step w (ApplyAt (site_number w name) to reached)).said ≡ DoneAt reached }
+{}
+
+/// However a line ends over disks that tell their contents, it ends as events of the world do of which one may be ended by a failing disk or
+/// by a fuse. So the laws of what such events keep hold of lines.
+pub fn lines_are_events()
+    ensures { (w : World) (files : Bool) (line : ScriptLine) (fails : Fails) (said : Said) (new : World) → LineStep (Unit {0}) files w line fails said new
+        → StopsAs w line (place_of w line) fails new }
 {}
