@@ -195,7 +195,7 @@ module _ (units : Units) (old mid : Meaning) (placed : Placed units old) (moves 
     -- ---- why it is refused
 
     -- the header of the record was read
-    owner : (block : ℕ) (stored computed : List ℕ) (names : NamesOne l block stored computed mid) → SeesFronts units.srl (ring_in units old) l.held old → SeesOwner units.srl (ring_in units old) block stored old
+    abbrev owner : (block : ℕ) (stored computed : List ℕ) (names : NamesOne l block stored computed mid) → SeesFronts units.srl (ring_in units old) l.held old → SeesOwner units.srl (ring_in units old) block stored old
     owner block stored computed names fronts = record {
       place = names.kept.place;
       head = names.kept.head;

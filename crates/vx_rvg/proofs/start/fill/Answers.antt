@@ -1,7 +1,9 @@
-use Rattle.std.proofs.Common.{arith, ◌+◌}
+use Rattle.std.proofs.Common.{arith, ◌+◌, subst, sym}
+use Rattle.vx_model.specs.declared.no.No.{No}
 use Rattle.vx_disk.specs.Shelf.{Nothing}
 use Rattle.vx_disk.proofs.Runs.{then_nothing}
-use Rattle.vx_rvg.proofs.StartFill.{begun, room_for, went_on}
+use Rattle.vx_rvg.specs.Fills.{FillCause}
+use Rattle.vx_rvg.proofs.StartFill.{begun, filling_stops, room_for, went_on}
 use Rattle.vx_ringio.proofs.Spending.{spends_none, then_spends}
 use Rattle.vx_rvg.proofs.start.fill.Goals as goal
 
@@ -27,3 +29,9 @@ returns-in-Err-clause-spends g c = then_spends _ _ _ c.loop-before.invariant.1 c
 
 pub loop-before-init : goal.loop-before-init
 loop-before-init g c = (begun c.args.srl.now c.args.units.now.vols (g.S.Shelf.meaning c.args.shelf.now) _ _ c.args.pending.now c.requires.up c.requires.none c.requires.room (omega arith), spends_none _)
+
+pub returns-in-Err-clause-cause : goal.returns-in-Err-clause-cause
+returns-in-Err-clause-cause g c =
+    subst (λ (k : No). FillCause c.args.srl.now (g.S.Shelf.meaning c.args.shelf.now) (g.S.Shelf.meaning c.fetch.new.shelf) k) (sym c.refused.ensures)
+    (filling_stops c.args.srl.now c.args.units.now.vols (g.S.Shelf.meaning c.args.shelf.now) (g.S.Shelf.meaning c.loop-before.shelf) (g.S.Shelf.meaning c.fetch.new.shelf) _ _ c.loop-before.pending c.loop-before.invariant.0
+    (c.loop-before.before + 1) c.in-Err.why (c.in-Err.ensures.cause (omega arith)) (c.in-Err.ensures.names (omega arith)))
