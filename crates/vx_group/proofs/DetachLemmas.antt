@@ -21,7 +21,7 @@ use Rattle.vx_volume.specs.Plexes.{active}
 use Rattle.vx_volume.proofs.PlaceLemmas.{active_few}
 use Rattle.vx_kept.specs.Choice.{live}
 use Rattle.vx_kept.specs.Commits.{Left, Member, Taken}
-use Rattle.vx_kept.specs.Keeping.{Acts, AllOn, Kept, Sees}
+use Rattle.vx_kept.specs.Keeping.{Acts, AllOn, Kept, SameShape, Sees}
 use Rattle.vx_kept.specs.States.{AreOn, staled}
 use Rattle.vx_kept.proofs.Chosen.{active_volumes, alike_shape}
 use Rattle.vx_kept.proofs.Narrower.{on_live}
@@ -56,15 +56,18 @@ module _ (core e : GroupCore) (v set : ℕ) (m m' : Meaning) (stands : Stands co
     active_was : (x q : ℕ) → active e.config x q ≡ active (staled v set core.config 8) x q
     active_was x q = active_volumes e.config (staled v set core.config 8) taken.grown.volumes x q
 
+    shape_was : SameShape e.config core.config
+    shape_was = alike_shape e.config (staled v set core.config 8) core.config taken.grown.volumes (is_staled v set 8 core.config).shape
+
     pub taken_Stands : Stands e m'
-    taken_Stands = made e m' wanted can (few_same taken.shape.volumes) (small_same taken.shape.blocks) (still_large m m' acts.units acts.size stands.large) on
+    taken_Stands = made e m' wanted can (few_same shape_was.volumes) (small_same shape_was.blocks) (still_large m m' acts.units acts.size stands.large) on
         (subst (λ (g : ℕ). NoneGood e.config.disks (length e.config.disks) g → ⊥) (sym good) (some_good e.config.disks (good_set e.config.disks) taken.some))
         (subst (λ (g : ℕ). Kept e.config (Member g m') m') (sym good) taken.kept) (λ is. taken.tidy)
 
     pub taken_Narrows : Narrows core e m m'
     taken_Narrows = record {
       acts = acts;
-      shape = taken.shape;
+      shape = shape_was;
       on = λ x q is. stands.on.each x q ((is_staled v set 8 core.config).lives x q (on_live (staled v set core.config 8) x q (sym (active_was x q) ∙ is)));
       faults = faults;
       unsure = unsure;

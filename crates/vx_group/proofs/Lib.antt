@@ -7,3 +7,8 @@ pub mod ReadyLemmas
 pub mod CreateLemmas
 pub mod DetLemmas
 pub mod DeportLemmas
+pub mod LongerLemmas
+pub mod ShapeLemmas
+pub mod ZeroLemmas
+pub mod AddLemmas
+pub mod MakeLemmas

@@ -24,7 +24,7 @@ use Rattle.vx_copies.proofs.MarkedDisks.{mark_grown, mark_other}
 use Rattle.vx_copies.proofs.OneTry.{wanted_same}
 use Rattle.vx_kept.specs.Commits.{Member}
 use Rattle.vx_kept.specs.Keeping.{Acts, IsTidy, Kept, Kin, Sees}
-use Rattle.vx_kept.proofs.Chosen.{active_volumes, alike_shape, place_volumes}
+use Rattle.vx_kept.proofs.Chosen.{active_volumes, alike_shape, extends_volumes}
 use Rattle.vx_kept.proofs.Committed.{fewer, take_on}
 use Rattle.vx_kept.proofs.Settles.{settled_Acts, settled_Kept, settled_tidy, still_tidy}
 use Rattle.vx_kept.proofs.StateLemmas.{same_shape}
@@ -149,12 +149,8 @@ settle_end good c d n device failed m m1 le so_far = record {
 
 pub kin_volumes : (c d x : Config) → d.volumes ≡ c.volumes → Kin c x → Kin d x
 kin_volumes c d x volumes kin = record {
-  shape = record {
-    volumes = kin.shape.volumes ∙ ap length (sym volumes);
-    blocks = λ v. kin.shape.blocks v ∙ ap (λ (vs : List VolumeEntry). blocks_of vs v) (sym volumes);
-    place = λ v p b. kin.shape.place v p b ∙ sym (place_volumes d c volumes v p b);
-  };
-  on = λ v p is. active_volumes d c volumes v p ∙ kin.on v p is;
+  shape = extends_volumes x c d volumes kin.shape;
+  on = λ v p lt is. active_volumes d c volumes v p ∙ kin.on v p (omega (arith, ap length volumes, lt)) is;
   some = λ v lt. kin.some v (omega (arith, ap length volumes, lt));
 }
 

@@ -6,3 +6,5 @@ pub mod Laws
 pub mod Creates
 pub mod Dets
 pub mod Deports
+pub mod Makes
+pub mod Nexts

@@ -1,9 +1,10 @@
 // A group as a shelf.
-ghost use Rattle.std.specs.Prelude.{◌≡◌, ◌<◌, ◌≤◌, ◌-◌, false, Some, None, Err, OnOk};
+ghost use Rattle.std.specs.Prelude.{◌≡◌, ◌<◌, ◌≤◌, ◌-◌, false, IfSome, Some, None, Err, OnOk};
 ghost use Rattle.vx_disk.specs.Shelf.{Goes, Nothing};
 ghost use Rattle.vx_config.specs.Table.{greatest};
 ghost use Rattle.vx_group.specs.Deports.{DeportStops, GroupDeported, IsFull};
 ghost use Rattle.vx_group.specs.Dets.{DetStops, det_refusal, margin};
+ghost use Rattle.vx_group.specs.Makes.{MakeEnds, StayAsWere, Unmoved, make_refusal};
 ghost use Rattle.vx_group.specs.Moves.{Narrows};
 ghost use Rattle.vx_model.specs.declared.no.No.{No as NoValue};
 ghost use Rattle.vx_volume.specs.Plexes.{active};
@@ -20,12 +21,14 @@ use crate::create::start;
 use crate::deporting::deport_in;
 use crate::det::det_in;
 use crate::flushing::flush_in;
+use crate::making::make_in;
 use crate::reading::read_in;
 use crate::writing::write_in;
 use std::alloc::Global;
 use vx_config::Config;
 use vx_disk::{Shelf, ShelfError};
-use vx_model::Stop;
+use vx_layout::Shape;
+use vx_model::{Name, Stop};
 
 /// A group over a shelf. Its units are its volumes.
 #[derive(Drop)]
@@ -58,6 +61,23 @@ impl<S: Shelf> Group<S> {
         ensures { result.now ≡ self.now.core.config }
     {
         &self.core.config
+    }
+
+    /// Makes a volume of a shape, which begins as zeros, and answers its number. The volumes that stood are left as they were.
+    ///
+    /// Answers 2 exactly where a volume has its name, else 19 exactly where there are 32 volumes, more than 8 plexes are wanted, or fewer
+    /// than 65,536 serials are left, else 4 exactly where it is no shape, else 11 where a plex, a column or a log finds no place, or 19
+    /// where there would be more than 1,024 subdisks, or more than 255 of one plex, and so far nothing has changed; else 7 only where the
+    /// count of the disk that it names rose, and 6 only where the shelf is then down. A crash behind a refusal may leave the volume. It
+    /// writes zeros to its plexes and flushes them before the commit. It takes memory.
+    pub fn make_volume(&mut self, alloc: Global, name: &Name, want: &Shape) -> Result<u32, Stop>
+        requires prefer { IfSome want.now.prefer (λ p. p < want.now.mirrors) }
+        ensures refused { (no : NoValue) → make_refusal self.old.core.config name.now want.now ≡ Some no → (result ≡ Err (Refused no)) × (self.new.core ≡ self.old.core) × (self.new.shelf ≡ self.old.shelf) }
+        ensures stays { StayAsWere self.old.core self.new.core (S.meaning self.old.shelf) (S.meaning self.new.shelf) }
+        ensures ends { make_refusal self.old.core.config name.now want.now ≡ None → MakeEnds name.now want.now self.old.core self.new.core (S.meaning self.old.shelf) (S.meaning self.new.shelf) result }
+        ensures unmoved { Unmoved result ((self.new.core ≡ self.old.core) × (self.new.shelf ≡ self.old.shelf)) }
+    {
+        make_in(alloc, &mut self.shelf, &mut self.core, name, want)
     }
 
     /// Detaches a plex. Nothing changes where it is not ACTIVE.

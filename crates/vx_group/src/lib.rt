@@ -11,13 +11,19 @@ mod detaching;
 mod flushing;
 mod group;
 mod group_core;
+mod lengthening;
+mod making;
 mod marking;
 mod reading;
 mod settling;
+mod shaping;
 mod writing;
+mod zeroing;
 
 pub use group::Group;
 pub use group_core::GroupCore;
 
 #[cfg(test)]
 mod tests;
+#[cfg(test)]
+mod volume_tests;

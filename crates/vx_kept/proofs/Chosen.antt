@@ -1,5 +1,5 @@
 -- The plex that an image goes by takes part.
-use Rattle.std.proofs.Common.{◌≡◌, ℕ, zero, suc, Bool, true, false, IsTrue, Option, Some, None, List, [], ◌∷◌, length, refl, ap, sym, ◌∙◌}
+use Rattle.std.proofs.Common.{◌≡◌, ℕ, zero, suc, Bool, true, false, IsTrue, Option, Some, None, List, [], ◌∷◌, length, refl, ap, sym, ◌∙◌, arith}
 use Rattle.std.specs.Prelude.{◌&&◌, ◌||◌, slice_get, if◌then◌else◌}
 use Rattle.std.specs.List.{list_any}
 use Rattle.vx_copyfmt.specs.Imports.{Found, first_of, missing, or_missing, settle}
@@ -12,7 +12,7 @@ use Rattle.vx_copies.specs.Bodies.{failed_in}
 use Rattle.vx_kept.specs.Choice.{chosen, chosen_or, first_plex, first_where, is_whole, live, live_or}
 use Rattle.vx_layout.specs.Places.{place, place_or, plex_in}
 use Rattle.vx_volume.specs.Plexes.{active, active_or}
-use Rattle.vx_kept.specs.Keeping.{SameShape}
+use Rattle.vx_kept.specs.Keeping.{Extends, SameShape}
 
 -- ---- where every disk can be read, none is missing
 
@@ -53,6 +53,24 @@ alike_shape x a c volumes shape = record {
   volumes = ap length volumes ∙ shape.volumes;
   blocks = λ v. ap (λ vs. blocks_of vs v) volumes ∙ shape.blocks v;
   place = λ v p b. place_volumes x a volumes v p b ∙ shape.place v p b;
+}
+
+pub alike_extends : (x a c : Config) → x.volumes ≡ a.volumes → Extends a c → Extends x c
+alike_extends x a c volumes shape = record {
+  volumes = let le = shape.volumes in omega (arith, ap length volumes, le);
+  blocks = λ v lt. ap (λ vs. blocks_of vs v) volumes ∙ shape.blocks v lt;
+  place = λ v p b lt. place_volumes x a volumes v p b ∙ shape.place v p b lt;
+}
+
+pub same_extends : (x c : Config) → SameShape x c → Extends x c
+same_extends x c same = record { volumes = let is = same.volumes in omega (arith, is); blocks = λ v lt. same.blocks v; place = λ v p b lt. same.place v p b }
+
+-- the volumes of memory are the same
+pub extends_volumes : (x c e : Config) → e.volumes ≡ c.volumes → Extends x c → Extends x e
+extends_volumes x c e volumes shape = record {
+  volumes = let le = shape.volumes in omega (arith, ap length volumes, le);
+  blocks = λ v lt. shape.blocks v (omega (arith, ap length volumes, lt)) ∙ ap (λ vs. blocks_of vs v) (sym volumes);
+  place = λ v p b lt. shape.place v p b (omega (arith, ap length volumes, lt)) ∙ sym (place_volumes e c volumes v p b);
 }
 
 -- ---- the first that passes

@@ -24,7 +24,7 @@ use Rattle.vx_kept.specs.Cleans.{Shown, at_serial, clean_at, clean_plexes, clean
 use Rattle.vx_kept.specs.Groups.{found_by}
 use Rattle.vx_kept.specs.Keeping.{AllOn, Follows, IsTidy, Kept, Kin}
 use Rattle.vx_kept.specs.States.{whole_of, whole_or}
-use Rattle.vx_kept.proofs.Chosen.{active_volumes, alike_shape, chosen_live, live_volumes, place_volumes, settle_all, settle_found}
+use Rattle.vx_kept.proofs.Chosen.{active_volumes, alike_extends, chosen_live, extends_volumes, live_volumes, same_extends, settle_all, settle_found}
 use Rattle.vx_kept.proofs.CleanLemmas.{AllClean, all_clean, cleaned_more, cleaned_none, plexes_more, plexes_none}
 use Rattle.vx_kept.proofs.Committed.{base_of, below_a, counts_new, labels_new}
 use Rattle.vx_kept.proofs.Narrower.{sound_chosen}
@@ -46,11 +46,10 @@ module _ (unsure : List Bool) (c a : Config) (is : a ≡ cleaned unsure c (lengt
 
   pub clean_follows : is_sound c ≡ true → AllOn c → Follows c a
   clean_follows sound on = record {
-    shape = all.alike.shape;
+    shape = same_extends a c all.alike.shape;
     serial = all.alike.serial;
-    narrows = λ v p is. on.each v p (sym (all.alike.lives v p) ∙ is);
-    some = λ v lt. (chosen c v, all.alike.lives v (chosen c v) ∙ sound_chosen c sound v lt);
-    disks = λ u good. ap (λ (ds : List DiskEntry). failed_at ds u) (sym all.alike.disks) ∙ good;
+    narrows = λ v p lt is. on.each v p (sym (all.alike.lives v p) ∙ is);
+    some = λ v lt. (chosen c v, all.alike.lives v (chosen c v) ∙ sound_chosen c sound v (let same = all.alike.shape.volumes in omega (arith, same, lt)));
   }
 
 -- ---- done
@@ -58,12 +57,8 @@ module _ (unsure : List Bool) (c a : Config) (is : a ≡ cleaned unsure c (lengt
 -- another serial in memory
 kin_serial : (s : ℕ) (c x : Config) → Kin c x → Kin (at_serial s c) x
 kin_serial s c x kin = record {
-  shape = record {
-    volumes = kin.shape.volumes;
-    blocks = kin.shape.blocks;
-    place = λ v p b. kin.shape.place v p b ∙ sym (place_volumes (at_serial s c) c refl v p b);
-  };
-  on = λ v p is. active_volumes (at_serial s c) c refl v p ∙ kin.on v p is;
+  shape = extends_volumes x c (at_serial s c) refl kin.shape;
+  on = λ v p lt is. active_volumes (at_serial s c) c refl v p ∙ kin.on v p lt is;
   some = kin.some;
 }
 
@@ -74,9 +69,9 @@ module _ (good : ℕ) (c a d : Config) (G : ℕ → Type 0) (old new : Meaning) 
 
   kin : Kin (at_serial d.serial c) d
   kin = kin_serial d.serial c d (record {
-    shape = alike_shape d a c done.grown.volumes follows.shape;
-    on = λ v p is. follows.narrows v p (sym (live_volumes d a done.grown.volumes v p) ∙ is);
-    some = λ v lt. let some = follows.some v lt in live_volumes d a done.grown.volumes v (chosen d v) ∙ chosen_live d a v some.0 done.grown.volumes some.1;
+    shape = alike_extends d a c done.grown.volumes follows.shape;
+    on = λ v p lt is. follows.narrows v p lt (sym (live_volumes d a done.grown.volumes v p) ∙ is);
+    some = λ v lt. let some = follows.some v (let le = follows.shape.volumes in omega (arith, lt, le)) in live_volumes d a done.grown.volumes v (chosen d v) ∙ chosen_live d a v some.0 done.grown.volumes some.1;
   })
 
   found_d : (i : Image) → Each new.leaves i → (R : ℕ → Bool) (g : ℕ) → Held d new g → R g ≡ true → found_by new R i ≡ settle failed_in new.units R d

@@ -9,7 +9,6 @@ use Rattle.vx_copyfmt.proofs.Areas.{lower_older, no_forged, no_torn}
 use Rattle.vx_copyfmt.proofs.Spoiling.{torn_gives}
 use Rattle.vx_copyfmt.proofs.Subs.{counts_sub}
 use Rattle.vx_copyio.specs.Putting.{AreasOf}
-use Rattle.vx_config.specs.Checks.{blocks_of}
 use Rattle.vx_config.specs.declared.config.Config.{Config}
 use Rattle.vx_copies.specs.Bodies.{failed_in}
 use Rattle.vx_copies.specs.Commits.{Becomes, Begins, Below, Done, HaveLabels, Held, IsTry, MayFind, OldOrBegun, Ready, Refused, StayFit}
@@ -25,8 +24,8 @@ use Rattle.vx_copies.proofs.OneTry.{wanted_count}
 use Rattle.vx_copies.proofs.Settling.{not_true}
 use Rattle.vx_kept.specs.Commits.{Left, Member, Taken}
 use Rattle.vx_kept.specs.Groups.{found, found_by}
-use Rattle.vx_kept.specs.Keeping.{Acts, AllOn, Base, Follows, IsTidy, Kept, Kin, SameShape, Sees}
-use Rattle.vx_kept.proofs.Chosen.{active_volumes, alike_shape, live_volumes, place_volumes, chosen_live, settle_all, settle_found}
+use Rattle.vx_kept.specs.Keeping.{Acts, AllOn, Base, Follows, IsTidy, Kept, Extends, Kin, Sees}
+use Rattle.vx_kept.proofs.Chosen.{active_volumes, alike_extends, extends_volumes, live_volumes, chosen_live, settle_all, settle_found}
 use Rattle.vx_kept.proofs.Lasting.{cases_bool, sees_same}
 
 -- what the disks are ready by
@@ -48,9 +47,9 @@ module _ (c a d : Config) (old new : Meaning) (lawful : Lawful old) (lawful' : L
   -- a configuration that was begun is of the kind
   begun_kin : (s : ℕ) (x : Config) → Begun s x → Kin c x
   begun_kin s x try = record {
-    shape = alike_shape x a c try.grown.volumes follows.shape;
-    on = λ v p is. follows.narrows v p (sym (live_volumes x a try.grown.volumes v p) ∙ is);
-    some = λ v lt. let some = follows.some v lt in live_volumes x a try.grown.volumes v (chosen x v) ∙ chosen_live x a v some.0 try.grown.volumes some.1;
+    shape = alike_extends x a c try.grown.volumes follows.shape;
+    on = λ v p lt is. follows.narrows v p lt (sym (live_volumes x a try.grown.volumes v p) ∙ is);
+    some = λ v lt. let some = follows.some v (let le = follows.shape.volumes in omega (arith, lt, le)) in live_volumes x a try.grown.volumes v (chosen x v) ∙ chosen_live x a v some.0 try.grown.volumes some.1;
   }
 
   kin_at : (R : ℕ → Bool) (x : Config) (i : Image) → FindsNew (on_shelf old) failed_in Begun old.units R i → found_by old R i ≡ Found x → Kin c x
@@ -117,10 +116,10 @@ module _ (c a d : Config) (old new : Meaning) (lawful : Lawful old) (lawful' : L
   module _ (good : ℕ) (on : AllOn a) (done : Done good a d old new) (count : length d.disks ≡ new.units) where
     kin_done : Kin d d
     kin_done = record {
-      shape = record { volumes = refl; blocks = λ v. refl; place = λ v p b. refl };
-      on = λ v p is. active_volumes d a done.grown.volumes v p ∙ on.each v p (sym (live_volumes d a done.grown.volumes v p) ∙ is);
+      shape = record { volumes = omega arith; blocks = λ v lt. refl; place = λ v p b lt. refl };
+      on = λ v p lt is. active_volumes d a done.grown.volumes v p ∙ on.each v p (sym (live_volumes d a done.grown.volumes v p) ∙ is);
       some = λ v lt.
-          let same : length d.volumes ≡ length c.volumes = ap length done.grown.volumes ∙ follows.shape.volumes in
+          let same : length d.volumes ≡ length a.volumes = ap length done.grown.volumes in
           let some = follows.some v (omega (arith, same, lt)) in
           live_volumes d a done.grown.volumes v (chosen d v) ∙ chosen_live d a v some.0 done.grown.volumes some.1;
     }
@@ -146,8 +145,8 @@ module _ (c a d : Config) (old new : Meaning) (lawful : Lawful old) (lawful' : L
     pub done_tidy : IsTidy d new
     done_tidy = record { each = λ u held. done.tidy.each below_a u held }
 
-    pub done_shape : SameShape d c
-    done_shape = alike_shape d a c done.grown.volumes follows.shape
+    pub done_shape : Extends d c
+    done_shape = alike_extends d a c done.grown.volumes follows.shape
 
 module _ (c a d : Config) (G : ℕ → Type 0) (old new : Meaning) (lawful : Lawful old) (lawful' : Lawful new) (kept : Kept c G old) (tidy : IsTidy a old) (follows : Follows c a)
     (begins : Begins (IsTry a d.serial old new) a old new) (fit : StayFit a d.serial old new) where
@@ -217,12 +216,8 @@ module _ (c a d : Config) (G : ℕ → Type 0) (old new : Meaning) (lawful : Law
   module _ (e : Config) (serial : e.serial ≡ d.serial) (volumes : e.volumes ≡ c.volumes) (below : Below a old → Below d new) where
     kin_back : (x : Config) → Kin c x → Kin e x
     kin_back x kin = record {
-      shape = record {
-        volumes = kin.shape.volumes ∙ ap length (sym volumes);
-        blocks = λ v. kin.shape.blocks v ∙ ap (λ vs. blocks_of vs v) (sym volumes);
-        place = λ v p b. kin.shape.place v p b ∙ sym (place_volumes e c volumes v p b);
-      };
-      on = λ v p is. active_volumes e c volumes v p ∙ kin.on v p is;
+      shape = extends_volumes x c e volumes kin.shape;
+      on = λ v p lt is. active_volumes e c volumes v p ∙ kin.on v p (omega (arith, ap length volumes, lt)) is;
       some = λ v lt. kin.some v (omega (arith, ap length volumes, lt));
     }
 

@@ -13,6 +13,7 @@ use Rattle.vx_copyio.specs.Settling.{AllCleared}
 use Rattle.vx_kept.specs.Choice.{chosen}
 use Rattle.vx_kept.specs.Commits.{FirstEnds, Taken}
 use Rattle.vx_kept.specs.Keeping.{AllOn, Base, Follows, IsTidy}
+use Rattle.vx_kept.proofs.Chosen.{same_extends}
 use Rattle.vx_kept.proofs.Committed.{base_done, take_on}
 use Rattle.vx_kept.proofs.Narrower.{sound_chosen}
 use Rattle.vx_kept.proofs.StateLemmas.{same_shape}
@@ -43,7 +44,7 @@ cleared_tidy c m cleared labels = record {
 
 -- a configuration follows itself
 pub same_follows : (c : Config) → is_sound c ≡ true → AllOn c → Follows c c
-same_follows c sound on = record { shape = same_shape c; serial = refl; narrows = on.each; some = λ v lt. (chosen c v, sound_chosen c sound v lt); disks = λ u is. is }
+same_follows c sound on = record { shape = same_extends c c (same_shape c); serial = refl; narrows = λ v p lt is. on.each v p is; some = λ v lt. (chosen c v, sound_chosen c sound v lt) }
 
 pub first_done : (good : ℕ) (c d : Config) (old new : Meaning) → Lawful old → Lawful new → AllCleared old.units old → HaveLabels old → is_sound c ≡ true → AllOn c
     → Begins (IsTry c d.serial old new) c old new → StayFit c d.serial old new → Done good c d old new → is_wanted new.units new.size d ≡ true → Taken c c d old new

@@ -13,3 +13,4 @@ pub mod Staling
 pub mod Firsts
 pub mod CleanLemmas
 pub mod CleanCommits
+pub mod Nexts

@@ -25,7 +25,7 @@ use Rattle.vx_kept.specs.Choice.{chosen, chosen_or, live, live_or}
 use Rattle.vx_kept.specs.Groups.{Apart, HasActive}
 use Rattle.vx_kept.specs.Keeping.{AllOn, Follows}
 use Rattle.vx_kept.specs.States.{SomeLeft, staled}
-use Rattle.vx_kept.proofs.Chosen.{any_at, first_live}
+use Rattle.vx_kept.proofs.Chosen.{any_at, first_live, same_extends}
 use Rattle.vx_kept.proofs.StateLemmas.{active_left, is_staled, live_left}
 
 -- ---- a checked configuration
@@ -136,10 +136,10 @@ module _ (v set : ℕ) (c : Config) (left : v < length c.volumes → SomeLeft c 
 
     pub staled_follows : Follows c d
     staled_follows = record {
-      shape = (is_staled v set 8 c).shape;
+      shape = same_extends d c (is_staled v set 8 c).shape;
       serial = (is_staled v set 8 c).serial;
-      narrows = λ x q is. on.each x q ((is_staled v set 8 c).lives x q is);
-      some = λ x lt. elim (cases_eq x v) [
+      narrows = λ x q lt is. on.each x q ((is_staled v set 8 c).lives x q is);
+      some = λ x less. let lt : x < length c.volumes = was_below x less in elim (cases_eq x v) [
         | inl same ↦
             let some = left (omega (arith, same, lt)) in (
               some.plex,
@@ -148,8 +148,10 @@ module _ (v set : ℕ) (c : Config) (left : v < length c.volumes → SomeLeft c 
             )
         | inr apart ↦ (chosen c x, live_left v set 8 c x (chosen c x) (λ s l in_it. apart s) ∙ sound_chosen c sound x lt)
       ];
-      disks = λ u is. ap (λ (ds : List DiskEntry). failed_at ds u) (sym (is_staled v set 8 c).disks) ∙ is;
     }
+      where
+        was_below : (x : ℕ) → x < length d.volumes → x < length c.volumes
+        was_below x less = let same = (is_staled v set 8 c).shape.volumes in omega (arith, same, less)
 
 pub live_by : (v set : ℕ) (c : Config) → (v < length c.volumes → SomeLeft c v set) → (n : ℕ) (d : Config) → d ≡ staled v set c n → has_live (slice_get d.volumes v) ≡ true
 live_by v set c left n d is = ap (λ (x : Config). has_live (slice_get x.volumes v)) is ∙ still_live v set c left n

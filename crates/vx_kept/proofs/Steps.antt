@@ -122,18 +122,24 @@ module _ (c d : Config) (G : ℕ → Type 0) (faults faults' : ℕ → ℕ) (m m
   leaves v b x (inr out) = inl (inr (out_old v b x out))
 
   -- an image in the call, by its configuration x
-  image_during : (j i : Image) (x : Config) → IsTrue m'.tells → Kin c x → Shows x j i → ((u b : ℕ) → 512 ≤ b → Or m.leaves W u b (j u b)) → Each (Or old.leaves V) i
+  image_during : (j i : Image) (x : Config) → IsTrue m'.tells → Kin c x → Shows c x j i → ((u b : ℕ) → 512 ≤ b → Or m.leaves W u b (j u b)) → Each (Or old.leaves V) i
   image_during j i x tells kin shows far v b = elim (inside c v b) [
     | inl in_it ↦
         let p = chosen x v in
-        let is_on = kin.on v p (kin.some v in_it.volume) in
-        let is : i v b ≡ j (place c v p b).0 (place c v p b).1 = shows.here v b (inside_back x c kin.shape v b in_it) ∙ ap (λ (q : ℕ × ℕ). j q.0 q.1) (kin.shape.place v p b) in
+        let is_on = kin.on v p in_it.volume (kin.some v in_it.volume) in
+        let is : i v b ≡ j (place c v p b).0 (place c v p b).1 = shows.here v b in_it ∙ ap (λ (q : ℕ × ℕ). j q.0 q.1) (kin.shape.place v p b in_it.volume) in
         put m.leaves v p b (i v b) in_it is_on (subst (λ (y : List ℕ). Or m.leaves W (place c v p b).0 (place c v p b).1 y) (sym is) (far (place c v p b).0 (place c v p b).1 (apart.above v p b in_it is_on)))
-    | inr out ↦ inl (inr (record { tells = sym acts.tells ∙ tells; outside = out; empty = shows.beyond v b (λ in_it. out (inside_same x c kin.shape v b in_it)) }))
+    | inr out ↦ inl (inr (record { tells = sym acts.tells ∙ tells; outside = out; empty = shows.beyond v b out }))
   ]
 
-  before : (P : Image → Type 0) (i : Image) (left : Imported m' P i) (Q : Image → Type 0) → Q left.image → Imported m Q i
-  before P i left Q was = record { image = left.image; left = was; config = left.config; found = sym (found_same m m' acts.units acts.size (λ u. true) left.image) ∙ left.found; shows = left.shows }
+  shows_old : (x : Config) (j i : Image) → Shows d x j i → Shows c x j i
+  shows_old x j i shows = record { here = λ v b in_it. shows.here v b (inside_back d c same v b in_it); beyond = λ v b out. shows.beyond v b (λ in_it. out (inside_same d c same v b in_it)) }
+
+  shows_new : (x : Config) (j i : Image) → Shows c x j i → Shows d x j i
+  shows_new x j i shows = record { here = λ v b in_it. shows.here v b (inside_same d c same v b in_it); beyond = λ v b out. shows.beyond v b (λ in_it. out (inside_back d c same v b in_it)) }
+
+  before : (P : Image → Type 0) (i : Image) (left : Imported d m' P i) (Q : Image → Type 0) → Q left.image → Imported c m Q i
+  before P i left Q was = record { image = left.image; left = was; config = left.config; found = sym (found_same m m' acts.units acts.size (λ u. true) left.image) ∙ left.found; shows = shows_old left.config left.image i left.shows }
 
   since : (t : ℕ) (i : Image) → t ≤ m.moment → new.left_since t i → old.left_since t i ⊎ Each (Or old.leaves V) i
   since t i le left = elim (acts.since t left.image le left.left) [
@@ -143,7 +149,7 @@ module _ (c d : Config) (G : ℕ → Type 0) (faults faults' : ℕ → ℕ) (m m
         let one : Found left.config ≡ Found sees.config = sym left.found ∙ found_same m m' acts.units acts.size (λ u. true) left.image ∙ sees.found in
         let is : left.config ≡ sees.config = cc in
         elim (cases_bool m'.tells) [
-          | inl tells ↦ inr (image_during left.image i left.config tells (subst (Kin c) (sym is) sees.kin) left.shows now.0)
+          | inl tells ↦ inr (image_during left.image i left.config tells (subst (Kin c) (sym is) sees.kin) (shows_old left.config left.image i left.shows) now.0)
           | inr not ↦ absurd (blind not t left.image left.left)
         ]
   ]
@@ -157,7 +163,7 @@ module _ (c d : Config) (G : ℕ → Type 0) (faults faults' : ℕ → ℕ) (m m
     leaves = leaves;
     later = acts.later;
     since = since;
-    keeps = λ t i le left. record { image = left.image; left = acts.keeps t left.image le left.left; config = left.config; found = found_same m m' acts.units acts.size (λ u. true) left.image ∙ left.found; shows = left.shows };
+    keeps = λ t i le left. record { image = left.image; left = acts.keeps t left.image le left.left; config = left.config; found = found_same m m' acts.units acts.size (λ u. true) left.image ∙ left.found; shows = shows_new left.config left.image i left.shows };
     faults = no_less;
     disk_faults = acts.disk_faults;
     falls = acts.falls;
@@ -200,7 +206,7 @@ module _ (c : Config) (G : ℕ → Type 0) (faults : ℕ → ℕ) (m : Meaning) 
   by_beyond x j v b out (inl held) = absurd (out held)
   by_beyond x j v b out (inr not) = refl
 
-  imported : IsTrue m.tells → (i : Image) × Imported m m.now i
+  imported : IsTrue m.tells → (i : Image) × Imported c m m.now i
   imported tells =
       let it = lawful.image tells in
       let j : Image = it.0 in
@@ -213,13 +219,13 @@ module _ (c : Config) (G : ℕ → Type 0) (faults : ℕ → ℕ) (m : Meaning) 
           config = x;
           found = sees.found;
           shows = record {
-            here = λ v b in_x. by_here x j v b (inside_same x c sees.kin.shape v b in_x) (inside c v b);
-            beyond = λ v b out. by_beyond x j v b (λ in_it. out (inside_back x c sees.kin.shape v b in_it)) (inside c v b);
+            here = λ v b in_it. by_here x j v b in_it (inside c v b);
+            beyond = λ v b out. by_beyond x j v b out (inside c v b);
           };
         },
       )
 
-  within : (i : Image) → Imported m m.now i → Each (seen m.tells c m.leaves) i
+  within : (i : Image) → Imported c m m.now i → Each (seen m.tells c m.leaves) i
   within i left v b =
       let j : Image = left.image in
       let each = lawful.within j left.left in
@@ -232,13 +238,13 @@ module _ (c : Config) (G : ℕ → Type 0) (faults : ℕ → ℕ) (m : Meaning) 
         | inl in_it ↦ inl (record {
           inside = in_it;
           plex = p;
-          is_on = kin.on v p (kin.some v in_it.volume);
+          is_on = kin.on v p in_it.volume (kin.some v in_it.volume);
           value =
-              let here : i v b ≡ j (place c v p b).0 (place c v p b).1 = left.shows.here v b (inside_back left.config c kin.shape v b in_it) ∙ ap (λ (q : ℕ × ℕ). j q.0 q.1) (kin.shape.place v p b) in
+              let here : i v b ≡ j (place c v p b).0 (place c v p b).1 = left.shows.here v b in_it ∙ ap (λ (q : ℕ × ℕ). j q.0 q.1) (kin.shape.place v p b in_it.volume) in
               subst (λ (y : List ℕ). m.leaves (place c v p b).0 (place c v p b).1 y) (sym here) (each (place c v p b).0 (place c v p b).1);
         })
         | inr out ↦ elim (cases_bool m.tells) [
-          | inl tells ↦ inr (record { tells = tells; outside = out; empty = left.shows.beyond v b (λ in_it. out (inside_same left.config c kin.shape v b in_it)) })
+          | inl tells ↦ inr (record { tells = tells; outside = out; empty = left.shows.beyond v b out })
           | inr not ↦ absurd (lawful.none not 0 0 (j 0 0) (each 0 0))
         ]
       ]

@@ -7,7 +7,7 @@ use Rattle.vx_config.specs.declared.config.Config.{Config}
 use Rattle.vx_copies.specs.Answers.{good_set}
 use Rattle.vx_copies.specs.Commits.{CommitStops, Grown}
 use Rattle.vx_copies.specs.Marks.{HasGood}
-use Rattle.vx_kept.specs.Keeping.{AllOn, IsTidy, Kept, SameShape}
+use Rattle.vx_kept.specs.Keeping.{AllOn, Extends, IsTidy, Kept}
 
 -- a disk of a set, by its bit
 pub record Member (good : ℕ) (m : Meaning) (u : ℕ) : Type 0 where
@@ -18,7 +18,7 @@ pub record Member (good : ℕ) (m : Meaning) (u : ℕ) : Type 0 where
 pub record Taken (c a d : Config) (old new : Meaning) : Type 0 where
   pub kept : Kept d (Member (good_set d.disks) new) new
   pub tidy : IsTidy d new
-  pub shape : SameShape d c
+  pub shape : Extends d c
   pub grown : Grown old new a d
   pub some : HasGood d.disks (good_set d.disks)
 
@@ -38,3 +38,15 @@ TakeEnds good c a d old new (Err why) = Left good c a d old new why
 abbrev pub FirstEnds : {T : Type 0} → ℕ → Config → Config → Meaning → Meaning → Result T No → Type 0
 FirstEnds good c d old new (Ok x) = Taken c c d old new × AllOn d
 FirstEnds good c d old new (Err why) = CommitStops good c d.serial old new why
+
+-- the configuration c in memory stands under the serial of d, which was to be committed; d has what it had beside
+pub record Missed (good : ℕ) (c a d : Config) (old new : Meaning) (why : No) : Type 0 where
+  pub kept : Kept (record { serial = d.serial; site = c.site; disks = c.disks; volumes = c.volumes; rvg = c.rvg }) (Member good new) new
+  pub volumes : d.volumes ≡ a.volumes
+  pub disks : d.disks ≡ a.disks
+  pub cause : CommitStops good a d.serial old new why
+
+-- how the commit of another configuration ends
+abbrev pub NextEnds : {T : Type 0} → ℕ → Config → Config → Config → Meaning → Meaning → Result T No → Type 0
+NextEnds good c a d old new (Ok x) = Taken c a d old new
+NextEnds good c a d old new (Err why) = Missed good c a d old new why

@@ -20,18 +20,18 @@ found_by m readable i = import_of (on_shelf m) failed_in m.units readable i
 abbrev pub found : Meaning → Image → Outcome Config
 found m i = found_by m (λ u. true) i
 
--- the volumes by a configuration: each block as its plex has it
-pub record Shows (c : Config) (below above : Image) : Type 0 where
-  pub here : (v b : ℕ) → Inside c v b → above v b ≡ below (place c v (chosen c v) b).0 (place c v (chosen c v) b).1
+-- the volumes of c by a configuration x: each block as its plex has it
+pub record Shows (c x : Config) (below above : Image) : Type 0 where
+  pub here : (v b : ℕ) → Inside c v b → above v b ≡ below (place x v (chosen x v) b).0 (place x v (chosen x v) b).1
   pub beyond : (v b : ℕ) → (Inside c v b → ⊥) → above v b ≡ []
 
--- an image of the volumes, by the configuration of an image of the disks
-pub record Imported (m : Meaning) (P : Image → Type 0) (i : Image) : Type 0 where
+-- an image of the volumes of c, by the configuration of an image of the disks
+pub record Imported (c : Config) (m : Meaning) (P : Image → Type 0) (i : Image) : Type 0 where
   pub image : Image
   pub left : P image
   pub config : Config
   pub found : found m image ≡ Found config
-  pub shows : Shows config image i
+  pub shows : Shows c config image i
 
 -- ---- reads
 
@@ -60,9 +60,9 @@ group_meaning c faults m = record {
   tells = m.tells;
   reads = seen m.tells c m.reads;
   leaves = seen m.tells c m.leaves;
-  now = Imported m m.now;
+  now = Imported c m m.now;
   moment = m.moment;
-  left_since = λ t. Imported m (m.left_since t);
+  left_since = λ t. Imported c m (m.left_since t);
   faults = faults;
   disk_faults = m.disk_faults;
   down = m.down;

@@ -8,7 +8,6 @@ use Rattle.vx_config.specs.Checks.{blocks_of}
 use Rattle.vx_config.specs.declared.config.Config.{Config}
 use Rattle.vx_copies.specs.Commits.{Below, HaveLabels, Held}
 use Rattle.vx_copies.specs.Looking.{on_shelf}
-use Rattle.vx_copies.specs.Marks.{failed_at}
 use Rattle.vx_kept.specs.Choice.{chosen, live}
 use Rattle.vx_kept.specs.Groups.{found, found_by}
 use Rattle.vx_layout.specs.Places.{place}
@@ -20,11 +19,17 @@ pub record SameShape (x c : Config) : Type 0 where
   pub blocks : (v : ℕ) → blocks_of x.volumes v ≡ blocks_of c.volumes v
   pub place : (v p b : ℕ) → place x v p b ≡ place c v p b
 
--- a configuration that an image may have beside one in memory: each plex that takes part in it is ACTIVE in memory, and the one that it
--- chooses takes part
+-- the volumes of c are the first ones of x, with the same places
+pub record Extends (x c : Config) : Type 0 where
+  pub volumes : length c.volumes ≤ length x.volumes
+  pub blocks : (v : ℕ) → v < length c.volumes → blocks_of x.volumes v ≡ blocks_of c.volumes v
+  pub place : (v p b : ℕ) → v < length c.volumes → place x v p b ≡ place c v p b
+
+-- A configuration that an image may have beside one in memory: of the volumes of memory each plex that takes part in it is ACTIVE in memory,
+-- and the one that it chooses takes part. It may have volumes more, which a refused commit was to make.
 pub record Kin (c x : Config) : Type 0 where
-  pub shape : SameShape x c
-  pub on : (v p : ℕ) → IsTrue (live x v p) → IsTrue (active c v p)
+  pub shape : Extends x c
+  pub on : (v p : ℕ) → v < length c.volumes → IsTrue (live x v p) → IsTrue (active c v p)
   pub some : (v : ℕ) → v < length c.volumes → IsTrue (live x v (chosen x v))
 
 -- An image has a configuration of this kind; and so does what an import finds that can read one of these disks, which the newest committed
@@ -72,10 +77,9 @@ pub record Acts (written : Values) (during : Says) (old new : Meaning) : Type 0 
   pub unarmed : IsFalse old.armed → IsFalse new.armed
   pub safe : IsFalse old.armed → IsTrue new.down → IsTrue old.down
 
--- a configuration to be committed: the same volumes, of which each plex that takes part is ACTIVE in memory, and no more good disks
+-- a configuration to be committed: the same volumes, or more behind them, and of the same ones each plex that takes part is ACTIVE in memory
 pub record Follows (c d : Config) : Type 0 where
-  pub shape : SameShape d c
+  pub shape : Extends d c
   pub serial : d.serial ≡ c.serial
-  pub narrows : (v p : ℕ) → IsTrue (live d v p) → IsTrue (active c v p)
-  pub some : (v : ℕ) → v < length c.volumes → (p : ℕ) × IsTrue (live d v p)
-  pub disks : (u : ℕ) → failed_at d.disks u ≡ false → failed_at c.disks u ≡ false
+  pub narrows : (v p : ℕ) → v < length c.volumes → IsTrue (live d v p) → IsTrue (active c v p)
+  pub some : (v : ℕ) → v < length d.volumes → (p : ℕ) × IsTrue (live d v p)

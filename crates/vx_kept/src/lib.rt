@@ -7,9 +7,11 @@
 mod cleaning;
 mod committing;
 mod first;
+mod following;
 mod states;
 
 pub use cleaning::{make_clean, make_open};
 pub use committing::{commit_clean, commit_stale};
 pub use first::commit_first;
+pub use following::commit_next;
 pub use states::{make_active, make_stale};

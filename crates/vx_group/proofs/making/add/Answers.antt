@@ -1,0 +1,35 @@
+use Rattle.std.proofs.Common.{List, refl, sym, subst, arith}
+use Rattle.vx_config.specs.declared.entry.DiskEntry.{DiskEntry}
+use Rattle.vx_group.specs.Nexts.{IsNext}
+use Rattle.vx_group.proofs.DeportLemmas.{blames_stop, stops_later}
+use Rattle.vx_group.proofs.MakeLemmas.{later_adds, later_next, later_stay, settled_stay}
+use Rattle.vx_group.proofs.making.add.Goals as goal
+
+pub returns-in-Err-clause-stays : goal.returns-in-Err-clause-stays
+returns-in-Err-clause-stays g c = settled_stay c.args.core.now c.settle_headers.new.core (g.S.Shelf.meaning c.args.shelf.now) (g.S.Shelf.meaning c.settle_headers.new.shelf) (g.met.S.Shelf.lawful c.settle_headers.new.shelf) c.requires.stands c.settle_headers.ensures.stands c.settle_headers.ensures.narrows c.settle_headers.ensures.same
+
+pub returns-in-Err-clause-adds : goal.returns-in-Err-clause-adds
+returns-in-Err-clause-adds g c = c.settle_headers.ensures.volumes
+
+pub returns-in-Err-clause-cause : goal.returns-in-Err-clause-cause
+returns-in-Err-clause-cause g c = blames_stop (g.S.Shelf.meaning c.args.shelf.now) (g.S.Shelf.meaning c.settle_headers.new.shelf) c.in-Err.error c.in-Err.ensures.cause
+
+pub add_last-requires-clause-settled : goal.add_last-requires-clause-settled
+add_last-requires-clause-settled g c = c.in-Ok.ensures.settled
+
+pub add_last-requires-clause-more : goal.add_last-requires-clause-more
+add_last-requires-clause-more g c = let same = c.settle_headers.ensures.serial in let less = c.requires.more in omega (arith, same, less)
+
+pub add_last-requires-clause-is_next : goal.add_last-requires-clause-is_next
+add_last-requires-clause-is_next g c =
+    subst (λ (ds : List DiskEntry). IsNext c.settle_headers.new.core.config (record { serial = c.args.next.serial; site = c.args.next.site; disks = ds; volumes = c.args.next.volumes; rvg = c.args.next.rvg })) (sym c.copy-next.ensures)
+    (later_next c.args.core.now c.settle_headers.new.core (g.S.Shelf.meaning c.args.shelf.now) (g.S.Shelf.meaning c.settle_headers.new.shelf) (g.met.S.Shelf.lawful c.settle_headers.new.shelf) c.requires.stands c.settle_headers.ensures.stands c.settle_headers.ensures.narrows c.settle_headers.ensures.same c.args.next c.requires.is_next)
+
+pub returns-clause-stays : goal.returns-clause-stays
+returns-clause-stays g c = later_stay c.args.core.now c.settle_headers.new.core (g.S.Shelf.meaning c.args.shelf.now) (g.S.Shelf.meaning c.settle_headers.new.shelf) (g.met.S.Shelf.lawful c.settle_headers.new.shelf) c.requires.stands c.settle_headers.ensures.stands c.settle_headers.ensures.narrows c.settle_headers.ensures.same c.add_last.new.core (g.S.Shelf.meaning c.add_last.new.shelf) (g.met.S.Shelf.lawful c.add_last.new.shelf) c.add_last.ensures.stays
+
+pub returns-clause-adds : goal.returns-clause-adds
+returns-clause-adds g c = later_adds c.args.core.now c.settle_headers.new.core (g.S.Shelf.meaning c.args.shelf.now) (g.S.Shelf.meaning c.settle_headers.new.shelf) (g.met.S.Shelf.lawful c.settle_headers.new.shelf) c.requires.stands c.settle_headers.ensures.stands c.settle_headers.ensures.narrows c.settle_headers.ensures.same c.add_last.new.core (g.S.Shelf.meaning c.add_last.new.shelf) c.args.next _ refl c.add_last.result c.add_last.ensures.adds
+
+pub returns-clause-cause : goal.returns-clause-cause
+returns-clause-cause g c = stops_later c.add_last.result (g.S.Shelf.meaning c.args.shelf.now) (g.S.Shelf.meaning c.settle_headers.new.shelf) (g.S.Shelf.meaning c.add_last.new.shelf) c.settle_headers.ensures.narrows.acts.disk_faults c.add_last.ensures.cause

@@ -1,0 +1,93 @@
+use Rattle.std.proofs.Common.{◌≡◌, ℕ, length, Err, refl, ap, sym, subst, arith}
+use Rattle.vx_disk.specs.Shelf.{Goes, Meaning}
+use Rattle.vx_disk.specs.declared.shelf.ShelfError.{ShelfError}
+use Rattle.vx_volume.specs.Plexes.{SomeActive}
+use Rattle.vx_group.specs.Blames.{StopsBy, fault_of as fault_is}
+use Rattle.vx_group.specs.Makes.{AreZero, ZerosOn}
+use Rattle.vx_group.proofs.AddLemmas.{added, added_Stands, added_stay, missed_Stands, missed_blames, missed_stay, next_can, next_count, next_fit, next_follows, next_on, next_some, next_tidy, next_wanted, zero_Stands, zero_stay}
+use Rattle.vx_group.proofs.CallLemmas.{not_down}
+use Rattle.vx_group.proofs.DeportLemmas.{blames_stop, stops_later}
+use Rattle.vx_group.proofs.Standing.{kept_of, still_large}
+use Rattle.vx_group.proofs.making.add_last.Goals as goal
+
+pub zero_volume-requires-clause-checked : goal.zero_volume-requires-clause-checked
+zero_volume-requires-clause-checked g c = c.requires.is_next.sound
+
+pub zero_volume-requires-clause-volume : goal.zero_volume-requires-clause-volume
+zero_volume-requires-clause-volume g c = let count = next_count c.args.core.now c.args.next (g.S.Shelf.meaning c.args.shelf.now) c.requires.stands c.requires.is_next in omega (arith, ap length c.as_slice.ensures.volumes, count)
+
+pub zero_volume-requires-clause-some : goal.zero_volume-requires-clause-some
+zero_volume-requires-clause-some g c = subst (λ (k : ℕ). SomeActive c.args.next k) (sym (ap length c.as_slice.ensures.volumes)) (next_some c.args.core.now c.args.next (g.S.Shelf.meaning c.args.shelf.now) c.requires.stands c.requires.is_next)
+
+pub zero_volume-requires-clause-disks : goal.zero_volume-requires-clause-disks
+zero_volume-requires-clause-disks g c = next_fit c.args.core.now c.args.next (g.S.Shelf.meaning c.args.shelf.now) c.requires.stands c.requires.is_next
+
+pub returns-in-Err-clause-stands : goal.returns-in-Err-clause-stands
+returns-in-Err-clause-stands g c = zero_Stands c.args.core.now c.args.next (g.S.Shelf.meaning c.args.shelf.now) c.requires.stands c.requires.is_next (g.S.Shelf.meaning c.zero_volume.new.shelf) (g.met.S.Shelf.lawful c.args.shelf.now) (g.met.S.Shelf.lawful c.zero_volume.new.shelf) (subst (λ (k : ℕ). Goes (ZerosOn c.args.next k) (g.S.Shelf.meaning c.args.shelf.now) (g.S.Shelf.meaning c.zero_volume.new.shelf)) (ap length c.as_slice.ensures.volumes) c.zero_volume.ensures.goes)
+
+pub returns-in-Err-clause-stays : goal.returns-in-Err-clause-stays
+returns-in-Err-clause-stays g c = zero_stay c.args.core.now c.args.next (g.S.Shelf.meaning c.args.shelf.now) c.requires.stands c.requires.is_next (g.S.Shelf.meaning c.zero_volume.new.shelf) (g.met.S.Shelf.lawful c.args.shelf.now) (g.met.S.Shelf.lawful c.zero_volume.new.shelf) (subst (λ (k : ℕ). Goes (ZerosOn c.args.next k) (g.S.Shelf.meaning c.args.shelf.now) (g.S.Shelf.meaning c.zero_volume.new.shelf)) (ap length c.as_slice.ensures.volumes) c.zero_volume.ensures.goes)
+
+pub returns-in-Err-clause-adds : goal.returns-in-Err-clause-adds
+returns-in-Err-clause-adds g c = refl
+
+pub returns-in-Err-clause-cause : goal.returns-in-Err-clause-cause
+returns-in-Err-clause-cause g c = blames_stop (g.S.Shelf.meaning c.args.shelf.now) (g.S.Shelf.meaning c.zero_volume.new.shelf) c.in-Err.error c.in-Err.ensures.cause
+
+pub commit_next-requires-clause-large : goal.commit_next-requires-clause-large
+commit_next-requires-clause-large g c = still_large (g.S.Shelf.meaning c.args.shelf.now) (g.S.Shelf.meaning c.zero_volume.new.shelf) c.zero_volume.ensures.goes.units c.zero_volume.ensures.goes.size c.requires.stands.large
+
+pub commit_next-requires-clause-can : goal.commit_next-requires-clause-can
+commit_next-requires-clause-can g c = next_can c.args.core.now c.args.next (g.S.Shelf.meaning c.args.shelf.now) c.requires.stands c.requires.is_next
+
+pub commit_next-requires-clause-wanted : goal.commit_next-requires-clause-wanted
+commit_next-requires-clause-wanted g c = next_wanted c.args.core.now c.args.next (g.S.Shelf.meaning c.args.shelf.now) c.requires.stands c.requires.is_next (g.S.Shelf.meaning c.zero_volume.new.shelf) c.zero_volume.ensures.goes.units c.zero_volume.ensures.goes.size
+
+pub commit_next-requires-clause-on : goal.commit_next-requires-clause-on
+commit_next-requires-clause-on g c = next_on c.args.core.now c.args.next (g.S.Shelf.meaning c.args.shelf.now) c.requires.stands c.requires.is_next
+
+pub commit_next-requires-clause-follows : goal.commit_next-requires-clause-follows
+commit_next-requires-clause-follows g c = next_follows c.args.core.now c.args.next (g.S.Shelf.meaning c.args.shelf.now) c.requires.stands c.requires.is_next
+
+pub commit_next-requires-clause-kept : goal.commit_next-requires-clause-kept
+commit_next-requires-clause-kept g c = kept_of c.args.core.now (g.S.Shelf.meaning c.zero_volume.new.shelf) (zero_Stands c.args.core.now c.args.next (g.S.Shelf.meaning c.args.shelf.now) c.requires.stands c.requires.is_next (g.S.Shelf.meaning c.zero_volume.new.shelf) (g.met.S.Shelf.lawful c.args.shelf.now) (g.met.S.Shelf.lawful c.zero_volume.new.shelf) (subst (λ (k : ℕ). Goes (ZerosOn c.args.next k) (g.S.Shelf.meaning c.args.shelf.now) (g.S.Shelf.meaning c.zero_volume.new.shelf)) (ap length c.as_slice.ensures.volumes) c.zero_volume.ensures.goes))
+
+pub commit_next-requires-clause-tidy : goal.commit_next-requires-clause-tidy
+commit_next-requires-clause-tidy g c = next_tidy c.args.core.now c.args.next (g.S.Shelf.meaning c.args.shelf.now) c.requires.stands c.requires.is_next (g.S.Shelf.meaning c.zero_volume.new.shelf) (g.met.S.Shelf.lawful c.args.shelf.now) (g.met.S.Shelf.lawful c.zero_volume.new.shelf) (subst (λ (k : ℕ). Goes (ZerosOn c.args.next k) (g.S.Shelf.meaning c.args.shelf.now) (g.S.Shelf.meaning c.zero_volume.new.shelf)) (ap length c.as_slice.ensures.volumes) c.zero_volume.ensures.goes) c.requires.settled
+
+pub returns-in-Ok-commit_next-clause-stands : goal.returns-in-Ok-commit_next-clause-stands
+returns-in-Ok-commit_next-clause-stands g c = added_Stands c.args.core.now c.args.next (g.S.Shelf.meaning c.args.shelf.now) c.requires.stands c.requires.is_next (g.S.Shelf.meaning c.zero_volume.new.shelf) (g.met.S.Shelf.lawful c.args.shelf.now) (g.met.S.Shelf.lawful c.zero_volume.new.shelf) (subst (λ (k : ℕ). Goes (ZerosOn c.args.next k) (g.S.Shelf.meaning c.args.shelf.now) (g.S.Shelf.meaning c.zero_volume.new.shelf)) (ap length c.as_slice.ensures.volumes) c.zero_volume.ensures.goes) (g.S.Shelf.meaning c.commit_next.new.shelf) (g.met.S.Shelf.lawful c.commit_next.new.shelf) c.commit_next.ensures.acts _ refl refl c.in-Ok-commit_next.ensures.ends c.good_of-core.ensures c.commit_next.ensures.wanted c.commit_next.ensures.can c.commit_next.ensures.on
+
+pub returns-in-Ok-commit_next-clause-stays : goal.returns-in-Ok-commit_next-clause-stays
+returns-in-Ok-commit_next-clause-stays g c = added_stay c.args.core.now c.args.next (g.S.Shelf.meaning c.args.shelf.now) c.requires.stands c.requires.is_next (g.S.Shelf.meaning c.zero_volume.new.shelf) (g.met.S.Shelf.lawful c.args.shelf.now) (g.met.S.Shelf.lawful c.zero_volume.new.shelf) (subst (λ (k : ℕ). Goes (ZerosOn c.args.next k) (g.S.Shelf.meaning c.args.shelf.now) (g.S.Shelf.meaning c.zero_volume.new.shelf)) (ap length c.as_slice.ensures.volumes) c.zero_volume.ensures.goes) (g.S.Shelf.meaning c.commit_next.new.shelf) (g.met.S.Shelf.lawful c.commit_next.new.shelf) c.commit_next.ensures.acts _ refl refl c.in-Ok-commit_next.ensures.ends c.good_of-core.ensures c.commit_next.ensures.wanted c.commit_next.ensures.can c.commit_next.ensures.on
+
+pub returns-in-Ok-commit_next-clause-adds : goal.returns-in-Ok-commit_next-clause-adds
+returns-in-Ok-commit_next-clause-adds g c = added c.args.core.now c.args.next (g.S.Shelf.meaning c.args.shelf.now) c.requires.stands c.requires.is_next (g.S.Shelf.meaning c.zero_volume.new.shelf) (g.met.S.Shelf.lawful c.args.shelf.now) (g.met.S.Shelf.lawful c.zero_volume.new.shelf) (subst (λ (k : ℕ). Goes (ZerosOn c.args.next k) (g.S.Shelf.meaning c.args.shelf.now) (g.S.Shelf.meaning c.zero_volume.new.shelf)) (ap length c.as_slice.ensures.volumes) c.zero_volume.ensures.goes) (g.S.Shelf.meaning c.commit_next.new.shelf) (g.met.S.Shelf.lawful c.commit_next.new.shelf) c.commit_next.ensures.acts _ refl refl c.in-Ok-commit_next.ensures.ends c.good_of-core.ensures c.commit_next.ensures.wanted c.commit_next.ensures.can c.commit_next.ensures.on (subst (λ (k : ℕ). AreZero c.args.next k (g.S.Shelf.meaning c.zero_volume.new.shelf)) (ap length c.as_slice.ensures.volumes) c.in-Ok.ensures.ok)
+
+pub returns-then-is_down-clause-stands : goal.returns-then-is_down-clause-stands
+returns-then-is_down-clause-stands g c = missed_Stands c.args.core.now c.args.next (g.S.Shelf.meaning c.args.shelf.now) c.requires.stands c.requires.is_next (g.S.Shelf.meaning c.zero_volume.new.shelf) (g.met.S.Shelf.lawful c.args.shelf.now) (g.met.S.Shelf.lawful c.zero_volume.new.shelf) (subst (λ (k : ℕ). Goes (ZerosOn c.args.next k) (g.S.Shelf.meaning c.args.shelf.now) (g.S.Shelf.meaning c.zero_volume.new.shelf)) (ap length c.as_slice.ensures.volumes) c.zero_volume.ensures.goes) (g.S.Shelf.meaning c.commit_next.new.shelf) (g.met.S.Shelf.lawful c.commit_next.new.shelf) c.commit_next.ensures.acts _ refl refl c.commit_next.new.next c.in-Err-commit_next.no c.in-Err-commit_next.ensures.ends c.commit_next.ensures.can refl refl refl
+
+pub returns-then-is_down-clause-stays : goal.returns-then-is_down-clause-stays
+returns-then-is_down-clause-stays g c = missed_stay c.args.core.now c.args.next (g.S.Shelf.meaning c.args.shelf.now) c.requires.stands c.requires.is_next (g.S.Shelf.meaning c.zero_volume.new.shelf) (g.met.S.Shelf.lawful c.args.shelf.now) (g.met.S.Shelf.lawful c.zero_volume.new.shelf) (subst (λ (k : ℕ). Goes (ZerosOn c.args.next k) (g.S.Shelf.meaning c.args.shelf.now) (g.S.Shelf.meaning c.zero_volume.new.shelf)) (ap length c.as_slice.ensures.volumes) c.zero_volume.ensures.goes) (g.S.Shelf.meaning c.commit_next.new.shelf) (g.met.S.Shelf.lawful c.commit_next.new.shelf) c.commit_next.ensures.acts _ refl refl c.commit_next.new.next c.in-Err-commit_next.no c.in-Err-commit_next.ensures.ends c.commit_next.ensures.can refl refl refl
+
+pub returns-then-is_down-clause-adds : goal.returns-then-is_down-clause-adds
+returns-then-is_down-clause-adds g c = refl
+
+pub returns-else-is_down-clause-stands : goal.returns-else-is_down-clause-stands
+returns-else-is_down-clause-stands g c = missed_Stands c.args.core.now c.args.next (g.S.Shelf.meaning c.args.shelf.now) c.requires.stands c.requires.is_next (g.S.Shelf.meaning c.zero_volume.new.shelf) (g.met.S.Shelf.lawful c.args.shelf.now) (g.met.S.Shelf.lawful c.zero_volume.new.shelf) (subst (λ (k : ℕ). Goes (ZerosOn c.args.next k) (g.S.Shelf.meaning c.args.shelf.now) (g.S.Shelf.meaning c.zero_volume.new.shelf)) (ap length c.as_slice.ensures.volumes) c.zero_volume.ensures.goes) (g.S.Shelf.meaning c.commit_next.new.shelf) (g.met.S.Shelf.lawful c.commit_next.new.shelf) c.commit_next.ensures.acts _ refl refl c.commit_next.new.next c.in-Err-commit_next.no c.in-Err-commit_next.ensures.ends c.commit_next.ensures.can refl refl refl
+
+pub returns-else-is_down-clause-stays : goal.returns-else-is_down-clause-stays
+returns-else-is_down-clause-stays g c = missed_stay c.args.core.now c.args.next (g.S.Shelf.meaning c.args.shelf.now) c.requires.stands c.requires.is_next (g.S.Shelf.meaning c.zero_volume.new.shelf) (g.met.S.Shelf.lawful c.args.shelf.now) (g.met.S.Shelf.lawful c.zero_volume.new.shelf) (subst (λ (k : ℕ). Goes (ZerosOn c.args.next k) (g.S.Shelf.meaning c.args.shelf.now) (g.S.Shelf.meaning c.zero_volume.new.shelf)) (ap length c.as_slice.ensures.volumes) c.zero_volume.ensures.goes) (g.S.Shelf.meaning c.commit_next.new.shelf) (g.met.S.Shelf.lawful c.commit_next.new.shelf) c.commit_next.ensures.acts _ refl refl c.commit_next.new.next c.in-Err-commit_next.no c.in-Err-commit_next.ensures.ends c.commit_next.ensures.can refl refl refl
+
+pub returns-else-is_down-clause-adds : goal.returns-else-is_down-clause-adds
+returns-else-is_down-clause-adds g c = refl
+
+pub returns-else-is_down-clause-cause : goal.returns-else-is_down-clause-cause
+returns-else-is_down-clause-cause g c =
+    let m : Meaning = g.S.Shelf.meaning c.args.shelf.now in
+    let m1 : Meaning = g.S.Shelf.meaning c.zero_volume.new.shelf in
+    let m2 : Meaning = g.S.Shelf.meaning c.commit_next.new.shelf in
+    subst (λ (e : ShelfError). StopsBy {T = Unit {0}} m m2 (Err e)) (sym c.fault_of.ensures)
+    (stops_later {T = Unit {0}} (Err (fault_is c.in-Err-commit_next.no 0)) m m1 m2 c.zero_volume.ensures.goes.disk_faults
+    (blames_stop m1 m2 (fault_is c.in-Err-commit_next.no 0)
+    (missed_blames c.args.core.now c.args.next (g.S.Shelf.meaning c.args.shelf.now) c.requires.stands c.requires.is_next m1 m2 _ c.in-Err-commit_next.no c.in-Err-commit_next.ensures.ends.cause (not_down c.is_down.result m2.down c.is_down.ensures c.if-is_down.false) c.requires.more)))

@@ -1,0 +1,151 @@
+// A volume that is made.
+ghost use Rattle.std.specs.Prelude.{◌≡◌, ◌<◌, ℕ, true, false, IsTrue, IfSome, Some, None, Err};
+ghost use Rattle.vx_config.specs.Checks.{is_sound};
+ghost use Rattle.vx_config.specs.Configs.{CanSpell};
+ghost use Rattle.vx_config.specs.Table.{greatest};
+ghost use Rattle.vx_model.specs.declared.errors.Stop.TheVariants.{No as Refused};
+ghost use Rattle.vx_model.specs.declared.no.No.{No as NoValue};
+ghost use Rattle.vx_group.specs.Blames.{StopsBy};
+ghost use Rattle.vx_group.specs.Makes.{MakeEnds, StayAsWere, Unmoved, make_refusal};
+ghost use Rattle.vx_group.specs.Nexts.{Adds, IsNext, PlanEnds};
+ghost use Rattle.vx_group.specs.Stands.{Stands};
+
+use crate::GroupCore;
+use crate::detaching::{fault_of, good_of};
+use crate::lengthening::longer;
+use crate::settling::settle_headers;
+use crate::shaping::{are_few, refuse_volume, volume_of};
+use crate::zeroing::zero_volume;
+use std::alloc::Global;
+use vx_config::Config;
+use vx_disk::{Shelf, ShelfError, refusal};
+use vx_kept::commit_next;
+use vx_layout::{Shape, find_space};
+use vx_model::limits::MOST_SUBDISKS;
+use vx_model::{Counted, Name, No, Stop};
+
+// The width, whose bound is known with it.
+fn width_of(want: &Shape) -> u32
+    ensures { result ≡ want.now.width }
+{
+    want.width
+}
+
+// The configuration with the volume, in the space that is found for it.
+fn plan(alloc: Global, config: &Config, name: &Name, want: &Shape) -> Result<Config, Stop>
+    requires can { CanSpell config.now }
+    requires checked { is_sound config.now ≡ true }
+    requires may { make_refusal config.now name.now want.now ≡ None }
+    requires prefer { IfSome want.now.prefer (λ p. p < want.now.mirrors) }
+    ensures may { make_refusal config.now name.now want.now ≡ None }
+    ensures ends { PlanEnds config.now name.now want.now result }
+{
+    width_of(want);
+    let found = match find_space(alloc, config, want) {
+        Ok(found) => found,
+        Err(stop) => return Err(stop),
+    };
+    if !are_few(&found.plexes) {
+        return Err(Stop::No(No::Limit {
+            what: Counted::Subdisks,
+            most: MOST_SUBDISKS as u64,
+        }));
+    }
+    match volume_of(alloc, name, want, &found) {
+        Ok(volume) => longer(alloc, config, volume),
+        Err(_) => Err(Stop::OutOfMemory),
+    }
+}
+
+// Writes zeros to the plexes of the last volume of the next configuration, and commits it.
+fn add_last<S: Shelf>(shelf: &mut S, core: &mut GroupCore, next: Config) -> Result<(), ShelfError>
+    requires stands { Stands core.old (S.meaning shelf.old) }
+    requires settled { core.old.unsettled ≡ false }
+    requires more { core.old.config.serial < greatest }
+    requires is_next { IsNext core.old.config next }
+    requires up { IsTrue (S.meaning shelf.old).down → ⊥ }
+    ensures stands { Stands core.new (S.meaning shelf.new) }
+    ensures stays { StayAsWere core.old core.new (S.meaning shelf.old) (S.meaning shelf.new) }
+    ensures adds { Adds core.old core.new next (S.meaning shelf.new) result }
+    ensures cause { StopsBy (S.meaning shelf.old) (S.meaning shelf.new) result }
+{
+    let mut next = next;
+    let vol = core.config.volumes.as_slice().len() as u32;
+    match zero_volume(shelf, &next, vol) {
+        Ok(()) => {}
+        Err(error) => return Err(error),
+    }
+    match commit_next(shelf, &core.config, &mut next, core.good, &mut core.room) {
+        Ok(()) => {
+            core.good = good_of(&next.disks);
+            core.config = next;
+            Ok(())
+        }
+        Err(no) => {
+            core.config.serial = next.serial;
+            core.unsettled = true;
+            if shelf.is_down() {
+                return Err(ShelfError::Down);
+            }
+            Err(fault_of(no, 0))
+        }
+    }
+}
+
+// The same, behind the headers that a refused commit asks for.
+fn add<S: Shelf>(shelf: &mut S, core: &mut GroupCore, next: Config) -> Result<(), ShelfError>
+    requires stands { Stands core.old (S.meaning shelf.old) }
+    requires more { core.old.config.serial < greatest }
+    requires is_next { IsNext core.old.config next }
+    requires up { IsTrue (S.meaning shelf.old).down → ⊥ }
+    ensures stands { Stands core.new (S.meaning shelf.new) }
+    ensures stays { StayAsWere core.old core.new (S.meaning shelf.old) (S.meaning shelf.new) }
+    ensures adds { Adds core.old core.new next (S.meaning shelf.new) result }
+    ensures cause { StopsBy (S.meaning shelf.old) (S.meaning shelf.new) result }
+{
+    match settle_headers(shelf, core) {
+        Ok(()) => {}
+        Err(error) => return Err(error),
+    }
+    let mut next = next;
+    next.disks = core.config.disks.copy();
+    add_last(shelf, core, next)
+}
+
+/// Makes a volume, which begins as zeros, and answers its number.
+///
+/// Answers 2 exactly where a volume has its name, else 19 exactly where there are 32 volumes, more than 8 plexes are wanted, or fewer than
+/// 65,536 serials are left, else 4 exactly where it is no shape, else 11 with what find_space says, or 19 where its subdisks are too many,
+/// and so far nothing has changed; else 7 only where the count of the disk that it names rose, and 6 only where the shelf is then down. It
+/// takes memory.
+pub fn make_in<S: Shelf>(
+    alloc: Global,
+    shelf: &mut S,
+    core: &mut GroupCore,
+    name: &Name,
+    want: &Shape,
+) -> Result<u32, Stop>
+    requires stands { Stands core.old (S.meaning shelf.old) }
+    requires prefer { IfSome want.now.prefer (λ p. p < want.now.mirrors) }
+    ensures stands { Stands core.new (S.meaning shelf.new) }
+    ensures refused { (no : NoValue) → make_refusal core.old.config name.now want.now ≡ Some no → (result ≡ Err (Refused no)) × (core.new ≡ core.old) × (shelf.new ≡ shelf.old) }
+    ensures stays { StayAsWere core.old core.new (S.meaning shelf.old) (S.meaning shelf.new) }
+    ensures ends { make_refusal core.old.config name.now want.now ≡ None → MakeEnds name.now want.now core.old core.new (S.meaning shelf.old) (S.meaning shelf.new) result }
+    ensures unmoved { Unmoved result ((core.new ≡ core.old) × (shelf.new ≡ shelf.old)) }
+{
+    if let Some(no) = refuse_volume(&core.config, name, want) {
+        return Err(Stop::No(no));
+    }
+    let next = match plan(alloc, &core.config, name, want) {
+        Ok(next) => next,
+        Err(stop) => return Err(stop),
+    };
+    if shelf.is_down() {
+        return Err(Stop::No(No::Down));
+    }
+    let vol = core.config.volumes.as_slice().len() as u32;
+    match add(shelf, core, next) {
+        Ok(()) => Ok(vol),
+        Err(error) => Err(Stop::No(refusal(error))),
+    }
+}
