@@ -1,10 +1,10 @@
 -- What calls make of the disks of a rack, one after another.
-use Rattle.std.proofs.Common.{◌≡◌, ◌⊎◌, inl, inr, ℕ, ◌+◌, ◌-◌, ◌≤◌, ◌<◌, Bool, List, Option, Some, None, Result, Ok, Err, IsTrue, refl, sym, ◌∙◌, ap, subst, arith}
+use Rattle.std.proofs.Common.{◌≡◌, ◌⊎◌, inl, inr, ℕ, ◌+◌, ◌-◌, ◌≤◌, ◌<◌, Bool, List, Option, Some, None, Result, Ok, Err, OnOk, IsTrue, refl, sym, ◌∙◌, ap, subst, arith}
 use Rattle.std.proofs.lemmas.Option.{none-some}
 use Rattle.vx_disk.specs.declared.shelf.ShelfError.{ShelfError}
 use Rattle.vx_disk.specs.declared.shelf.ShelfError.TheVariants.{Fault, Down}
 use Rattle.vx_disk.specs.Burns.{FewerLeft, MakesCalls}
-use Rattle.vx_disk.specs.Causes.{Calls, Cause, OnDisks, WithDisks}
+use Rattle.vx_disk.specs.Causes.{Calls, Cause, OnDisks, WithDisks, Works}
 use Rattle.vx_disk.specs.Disks.{Burns, Disks, RanOut, SameBlocks, Untouched}
 use Rattle.vx_disk.specs.Shelf.{DisksFlushed, DisksWrote, Goes, Meaning, Nothing, Values, Written}
 use Rattle.vx_ringio.specs.Spends.{BurntOut, Loses, MakesAtLeast, Passed, Spends, Spent}
@@ -249,3 +249,20 @@ both_on j k (Some x) (Some y) (Some z) one two = loses_both j k x.fuse y.fuse z.
 
 pub then_at_least : (j k : ℕ) (old mid new : Meaning) → MakesAtLeast j old mid → MakesAtLeast k mid new → MakesAtLeast (j + k) old new
 then_at_least j k old mid new one two = record { fuses = both_on j k old.disks mid.disks new.disks one.fuses two.fuses }
+
+-- ---- disks that are made to fail
+
+told_works : (size : ℕ → ℕ) (a b : Bool) (x y : Option Disks) (u : ℕ) → WithDisks x y (Spent size a b) → Works y u → Works x u
+told_works size a b None None u on works = tt
+told_works size a b None (Some y) u on works = absurd on
+told_works size a b (Some x) None u on works = absurd on
+told_works size a b (Some x) (Some y) u on works = sym (on.failing u) ∙ works
+
+-- a disk that works behind calls worked before them
+pub works_since : (old mid : Meaning) (u : ℕ) → Spends old mid → Works mid.disks u → Works old.disks u
+works_since old mid u spends works = told_works old.size old.down mid.down old.disks mid.disks u spends.told works
+
+-- what is so is so at Ok
+pub on_always : {T E : Type 0} {P : Type 0} → (r : Result T E) → P → OnOk r P
+on_always (Ok x) p = p
+on_always (Err e) p = tt

@@ -1,6 +1,6 @@
 // The writes of a log.
 ghost use Rattle.std.specs.Prelude.{◌≡◌, ◌+◌, ◌*◌, ◌/◌, ◌%◌, ◌<◌, ◌≤◌, ◌^◌, ℕ, [], ◌∷◌, ◌++◌, length, true, All, OnOk};
-ghost use Rattle.vx_disk.specs.Causes.{Cause};
+ghost use Rattle.vx_disk.specs.Causes.{Cause, Works};
 ghost use Rattle.vx_disk.specs.Moves.{Anything, Moves, Run};
 ghost use Rattle.vx_disk.specs.Shelf.{Goes, Nothing};
 ghost use Rattle.vx_ringio.specs.Bodies.{IsBlocks, all_blocks};
@@ -73,6 +73,7 @@ pub fn write_header<S: Shelf>(
     ensures calls { OnOk result (MakesCalls 2 (S.meaning shelf.old) (S.meaning shelf.new)) }
     ensures short { FallsShort 2 (S.meaning shelf.old) (S.meaning shelf.new) }
     ensures spends { Spends (S.meaning shelf.old) (S.meaning shelf.new) }
+    ensures works { OnOk result (Works (S.meaning shelf.old).disks unit) }
 {
     let mut bytes = [0; 512];
     put_header(header, &mut bytes);
@@ -99,6 +100,7 @@ fn write_part<S: Shelf>(
     ensures calls { OnOk result (MakesCalls 1 (S.meaning shelf.old) (S.meaning shelf.new)) }
     ensures short { FallsShort 1 (S.meaning shelf.old) (S.meaning shelf.new) }
     ensures spends { Spends (S.meaning shelf.old) (S.meaning shelf.new) }
+    ensures works { OnOk result (Works (S.meaning shelf.old).disks unit) }
 {
     shelf.write(unit, 2 + first, bytes)
 }
@@ -123,6 +125,7 @@ pub fn write_body<S: Shelf>(
     ensures short { place % ring + length bytes.now / 512 ≤ ring → FallsShort 1 (S.meaning shelf.old) (S.meaning shelf.new) }
     ensures least { OnOk result (MakesAtLeast 1 (S.meaning shelf.old) (S.meaning shelf.new)) }
     ensures spends { Spends (S.meaning shelf.old) (S.meaning shelf.new) }
+    ensures works { OnOk result (Works (S.meaning shelf.old).disks unit) }
 {
     let first = place % ring;
     let before_end = (ring - first).min(bytes.len() as u64 / 512);

@@ -1,12 +1,13 @@
 // The bringing of logged writes into their volumes.
-ghost use Rattle.std.specs.Prelude.{◌≡◌, ◌+◌, ◌<◌, ◌≤◌, length, Some, None, IsTrue, IsFalse, IfOk, OnOk, IsSome};
+ghost use Rattle.std.specs.Prelude.{◌≡◌, ◌+◌, ◌<◌, ◌≤◌, ℕ, length, Some, None, IsTrue, IsFalse, IfOk, OnOk, IsSome};
+ghost use Rattle.vx_disk.specs.Causes.{Works};
 ghost use Rattle.vx_disk.specs.Moves.{Moves, Anything, Nowhere};
 ghost use Rattle.vx_ringio.specs.Spends.{Spends};
 ghost use Rattle.vx_rvg.specs.Brings.{Brings, BringsOne, VolumesFlushed};
-ghost use Rattle.vx_rvg.specs.Groups.{unless_halted, ApplyIs};
+ghost use Rattle.vx_rvg.specs.Groups.{unless_halted, applied_to, ApplyIs};
 ghost use Rattle.vx_rvg.specs.Stands.{Resting, Rests};
 ghost use Rattle.vx_srl.specs.Causes.{Stopped};
-ghost use Rattle.vx_rvg.specs.Views.{IsSound, Placed, Waits, last_of};
+ghost use Rattle.vx_rvg.specs.Views.{IsSound, Placed, Waits, last_of, unit_of};
 
 use crate::patch::patch;
 use crate::{Rvg, RvgCore};
@@ -50,6 +51,7 @@ fn flush_volumes<S: Shelf>(shelf: &mut S, core: &RvgCore) -> Result<(), ShelfErr
     ensures moves { Moves Nowhere Anything (S.meaning shelf.old) (S.meaning shelf.new) }
     ensures stopped { Stopped (S.meaning shelf.old) (S.meaning shelf.new) result }
     ensures spends { Spends (S.meaning shelf.old) (S.meaning shelf.new) }
+    ensures works { OnOk result ((v : ℕ) → v < length core.now.units.vols → Works (S.meaning shelf.old).disks (unit_of core.now.units.vols v)) }
 {
     for vol in 0..core.volumes() {
         shelf.flush(core.unit(vol))?;
@@ -67,6 +69,7 @@ fn bring<S: Shelf>(shelf: &mut S, core: &RvgCore, to: u64) -> Result<u64, ShelfE
     ensures moves { Moves (Waits core.now (S.meaning shelf.old)) Anything (S.meaning shelf.old) (S.meaning shelf.new) }
     ensures stopped { Stopped (S.meaning shelf.old) (S.meaning shelf.new) result }
     ensures spends { Spends (S.meaning shelf.old) (S.meaning shelf.new) }
+    ensures works { OnOk result ((v : ℕ) → v < length core.now.units.vols → Works (S.meaning shelf.old).disks (unit_of core.now.units.vols v)) }
 {
     // A log bounds the blocks of its records by its ring.
     let _ring = core.srl.ring();
@@ -88,6 +91,7 @@ pub(crate) fn apply_to<S: Shelf>(shelf: &mut S, core: &mut RvgCore, count: u64) 
     ensures stands { OnOk result (Rests core.old core.new (S.meaning shelf.old) (S.meaning shelf.new)) }
     ensures moves { Moves (Waits core.old (S.meaning shelf.old)) (Resting core.old (S.meaning shelf.old)) (S.meaning shelf.old) (S.meaning shelf.new) }
     ensures spends { Spends (S.meaning shelf.old) (S.meaning shelf.new) }
+    ensures works { OnOk result (core.old.applied < applied_to core.old count → (v : ℕ) → v < length core.old.units.vols → Works (S.meaning shelf.old).disks (unit_of core.old.units.vols v)) }
 {
     if let Some(disk) = core.halted {
         return Err(No::Halted { disk });
@@ -125,6 +129,7 @@ impl<S: Shelf> Rvg<S> {
         ensures stands { OnOk result (Rests self.old.core self.new.core (S.meaning self.old.shelf) (S.meaning self.new.shelf)) }
         ensures moves { Moves (Waits self.old.core (S.meaning self.old.shelf)) (Resting self.old.core (S.meaning self.old.shelf)) (S.meaning self.old.shelf) (S.meaning self.new.shelf) }
         ensures spends { Spends (S.meaning self.old.shelf) (S.meaning self.new.shelf) }
+        ensures works { OnOk result (self.old.core.applied < applied_to self.old.core count → (v : ℕ) → v < length self.old.core.units.vols → Works (S.meaning self.old.shelf).disks (unit_of self.old.core.units.vols v)) }
     {
         apply_to(&mut self.shelf, &mut self.core, count)
     }

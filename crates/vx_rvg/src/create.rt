@@ -1,5 +1,6 @@
 // The making of a group.
 ghost use Rattle.std.specs.Prelude.{◌≡◌, ℕ, ◌+◌, ◌<◌, ◌≤◌, List, Err, IfOk, IfErr, IsTrue};
+ghost use Rattle.vx_disk.specs.Causes.{Works};
 ghost use Rattle.vx_disk.specs.Moves.{Moves, Run, Anything};
 ghost use Rattle.vx_model.specs.Content.{Content};
 ghost use Rattle.vx_model.specs.Sizes.{ring_of};
@@ -42,6 +43,7 @@ impl<S: Shelf> Rvg<S> {
         ensures left { IfErr result (λ e. Moves (Run units.now.srl 0 (ring_of ((S.meaning shelf).size units.now.srl) + 2)) Anything (S.meaning shelf) (S.meaning e.0)) }
         ensures spends { IfOk result (λ g. Spends (S.meaning shelf) (S.meaning g.shelf)) }
         ensures spent { IfErr result (λ e. Spends (S.meaning shelf) (S.meaning e.0)) }
+        ensures works { IfOk result (λ g. Works (S.meaning shelf).disks units.now.srl) }
     {
         let mut shelf = shelf;
         let blocks = shelf.size(units.srl);

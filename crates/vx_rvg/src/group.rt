@@ -1,6 +1,6 @@
 // A replicated volume group: what it answers, and its reads and writes.
 ghost use Rattle.std.specs.Prelude.{◌≡◌, ◌+◌, ◌-◌, ◌<◌, ◌≤◌, ◌%◌, [], ◌∷◌, length, drop, Some, None, IsTrue, IsFalse, OnOk, IsSome};
-ghost use Rattle.vx_disk.specs.Causes.{OnDisks};
+ghost use Rattle.vx_disk.specs.Causes.{OnDisks, Works};
 ghost use Rattle.vx_disk.specs.Disks.{Untouched};
 ghost use Rattle.vx_disk.specs.Moves.{Moves, Run};
 ghost use Rattle.vx_disk.specs.Shelf.{Goes, Nothing};
@@ -56,6 +56,7 @@ impl<S: Shelf> Rvg<S> {
         ensures short { BodyFits self.old.core.log bytes.now → FallsShort 4 (S.meaning self.old.shelf) (S.meaning self.new.shelf) }
         ensures least { OnOk result (MakesAtLeast 4 (S.meaning self.old.shelf) (S.meaning self.new.shelf)) }
         ensures spends { Spends (S.meaning self.old.shelf) (S.meaning self.new.shelf) }
+        ensures works { OnOk result (Works (S.meaning self.old.shelf).disks self.old.core.log.unit) }
     {
         let unit = self.core.unit(vol);
         let size = self.shelf.size(unit);
@@ -90,6 +91,7 @@ impl<S: Shelf> Rvg<S> {
         ensures down { (S.meaning self.new.shelf).down ≡ (S.meaning self.old.shelf).down }
         ensures disks { OnDisks (S.meaning self.old.shelf).disks (S.meaning self.new.shelf).disks Untouched }
         ensures spends { Spends (S.meaning self.old.shelf) (S.meaning self.new.shelf) }
+        ensures works { OnOk result (Works (S.meaning self.old.shelf).disks (unit_of self.old.core.units.vols vol)) }
     {
         let unit = self.core.unit(vol);
         let size = self.shelf.size(unit);

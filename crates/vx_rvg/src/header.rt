@@ -1,6 +1,6 @@
 // The calls that write a header of the log, and the reading of a logged write.
 ghost use Rattle.std.specs.Prelude.{◌≡◌, ◌+◌, ◌<◌, ◌≤◌, ℕ, Some, None, Ok, Err, OnOk, OnErr, IfErr, IsSome, IsTrue, IsFalse};
-ghost use Rattle.vx_disk.specs.Causes.{OnDisks};
+ghost use Rattle.vx_disk.specs.Causes.{OnDisks, Works};
 ghost use Rattle.vx_disk.specs.Disks.{Untouched};
 ghost use Rattle.vx_disk.specs.Moves.{Moves, Run};
 ghost use Rattle.vx_disk.specs.Shelf.{Goes, Nothing};
@@ -111,6 +111,7 @@ impl<S: Shelf> Rvg<S> {
         ensures down { (S.meaning self.new.shelf).down ≡ (S.meaning self.old.shelf).down }
         ensures disks { OnDisks (S.meaning self.old.shelf).disks (S.meaning self.new.shelf).disks Untouched }
         ensures spends { Spends (S.meaning self.old.shelf) (S.meaning self.new.shelf) }
+        ensures works { OnOk result (Works (S.meaning self.old.shelf).disks self.old.core.log.unit) }
     {
         if let Some(disk) = self.core.halted {
             return Err(SrlNo::Other(No::Halted { disk }));

@@ -1,5 +1,6 @@
 // The start of a group from what stands on its shelf.
 ghost use Rattle.std.specs.Prelude.{◌≡◌, ◌+◌, ◌≤◌, [], ◌∷◌, ◌++◌, length, IfOk, IfErr, IsTrue, OnOk};
+ghost use Rattle.vx_disk.specs.Causes.{Works};
 ghost use Rattle.vx_disk.specs.Moves.{Moves, Run};
 ghost use Rattle.vx_disk.specs.Shelf.{Goes, Nothing};
 ghost use Rattle.vx_model.specs.Content.{blocks_in};
@@ -130,6 +131,7 @@ impl<S: Shelf> Rvg<S> {
         ensures left { IfErr result (λ e. Moves (Run units.now.srl 0 (ring_in units.now (S.meaning shelf) + 2)) (Starting units.now (S.meaning shelf)) (S.meaning shelf) (S.meaning e.0)) }
         ensures spends { IfOk result (λ g. Spends (S.meaning shelf) (S.meaning g.shelf)) }
         ensures spent { IfErr result (λ e. Spends (S.meaning shelf) (S.meaning e.0)) }
+        ensures works { IfOk result (λ g. Works (S.meaning shelf).disks units.now.srl) }
     {
         let mut shelf = shelf;
         let StartRoom { log, mut pending } = room;
@@ -165,6 +167,7 @@ impl<S: Shelf> Rvg<S> {
         ensures left { IfErr result (λ e. Moves (Run units.now.srl 0 (ring_in units.now (S.meaning shelf) + 2)) (Starting units.now (S.meaning shelf)) (S.meaning shelf) (S.meaning e.0)) }
         ensures spends { IfOk result (λ g. Spends (S.meaning shelf) (S.meaning g.shelf)) }
         ensures spent { IfErr result (λ e. Spends (S.meaning shelf) (S.meaning e.0)) }
+        ensures works { IfOk result (λ g. Works (S.meaning shelf).disks units.now.srl) }
     {
         let Ok(room) = StartRoom::new(alloc, shelf.size(units.srl)) else {
             return Err((shelf, Stop::OutOfMemory));

@@ -1,5 +1,6 @@
 // The making of a log.
 ghost use Rattle.std.specs.Prelude.{◌≡◌, ◌⊎◌, ◌+◌, ◌<◌, ◌≤◌, ◌%◌, ℕ, true, Err, OnOk, IfOk};
+ghost use Rattle.vx_disk.specs.Causes.{Works};
 ghost use Rattle.vx_disk.specs.Moves.{Moves, Run, Anything};
 ghost use Rattle.vx_model.specs.Sizes.{ring_of};
 ghost use Rattle.vx_model.specs.declared.errors.Stop.TheVariants.{No as Refused};
@@ -63,6 +64,7 @@ fn write_new<S: Shelf>(
     ensures written { OnOk result (HasNewHeaders unit ring first.now second.now (S.meaning shelf.old) (S.meaning shelf.new)) }
     ensures cause { Ended (S.meaning shelf.old) (S.meaning shelf.new) result }
     ensures spends { Spends (S.meaning shelf.old) (S.meaning shelf.new) }
+    ensures works { OnOk result (Works (S.meaning shelf.old).disks unit) }
 {
     blank_ring(shelf, unit, ring)?;
     write_header(shelf, unit, ring, second)?;
@@ -91,6 +93,7 @@ impl Srl {
             → Makes unit (ring_of ((S.meaning shelf.old).size unit)) head state.now (S.meaning shelf.old) (S.meaning shelf.new) result }
         ensures moves { Moves (Run unit 0 (ring_of ((S.meaning shelf.old).size unit) + 2)) Anything (S.meaning shelf.old) (S.meaning shelf.new) }
         ensures spends { Spends (S.meaning shelf.old) (S.meaning shelf.new) }
+        ensures works { OnOk result (Works (S.meaning shelf.old).disks unit) }
     {
         let size = shelf.size(unit);
         if size < LEAST_BLOCKS {

@@ -1,5 +1,6 @@
 // The start of a log from what stands on its unit.
 ghost use Rattle.std.specs.Prelude.{◌≡◌, ◌⊎◌, ◌+◌, ◌-◌, ◌<◌, ◌≤◌, ◌%◌, ℕ, List, true, IsTrue, IfOk, IfErr, OnOk};
+ghost use Rattle.vx_disk.specs.Causes.{Works};
 ghost use Rattle.vx_disk.specs.Moves.{Anything, Moves, Run};
 ghost use Rattle.vx_disk.specs.Shelf.{Goes, Nothing};
 ghost use Rattle.vx_model.specs.Sizes.{ring_of};
@@ -88,6 +89,7 @@ fn find_header<S: Shelf>(shelf: &mut S, unit: u32, ring: u64) -> Result<Standing
     ensures spends { Spends (S.meaning shelf.old) (S.meaning shelf.new) }
     ensures up { OnOk result (IsTrue (S.meaning shelf.new).down → ⊥) }
     ensures cause { IfErr result (λ why. StandingCause unit ring (S.meaning shelf.old) (S.meaning shelf.new) why) }
+    ensures works { OnOk result (Works (S.meaning shelf.old).disks unit) }
 {
     let first = match read_top(shelf, unit, ring, 0) {
         Ok(top) => top,
@@ -231,6 +233,7 @@ impl Srl {
         ensures limit { IfErr result (λ why. ReadsAtLimit (S.meaning shelf.old) (S.meaning shelf.new) why) }
         ensures moves { Moves (Run unit 0 (ring_of ((S.meaning shelf.old).size unit) + 2)) (Restarting unit (ring_of ((S.meaning shelf.old).size unit)) (S.meaning shelf.old)) (S.meaning shelf.old) (S.meaning shelf.new) }
         ensures spends { Spends (S.meaning shelf.old) (S.meaning shelf.new) }
+        ensures works { OnOk result (Works (S.meaning shelf.old).disks unit) }
     {
         let LogRoom { ring, mut records } = room;
         let standing = match find_header(shelf, unit, ring) {
@@ -255,6 +258,7 @@ impl Srl {
         ensures limit { IfErr result (λ stop. StopReadsAtLimit (S.meaning shelf.old) (S.meaning shelf.new) stop) }
         ensures moves { Moves (Run unit 0 (ring_of ((S.meaning shelf.old).size unit) + 2)) (Restarting unit (ring_of ((S.meaning shelf.old).size unit)) (S.meaning shelf.old)) (S.meaning shelf.old) (S.meaning shelf.new) }
         ensures spends { Spends (S.meaning shelf.old) (S.meaning shelf.new) }
+        ensures works { OnOk result (Works (S.meaning shelf.old).disks unit) }
     {
         let Ok(room) = LogRoom::new(alloc, shelf.size(unit)) else {
             return Err(Stop::OutOfMemory);

@@ -2,7 +2,7 @@ use Rattle.std.proofs.Common.{arith}
 use Rattle.std.proofs.lemmas.Result.{on_ok_weaker}
 use Rattle.vx_ringio.proofs.Classing.{class_top, one_follows, flushed_follows, flushed_arrives}
 use Rattle.vx_ringio.proofs.Following.{sooner}
-use Rattle.vx_ringio.proofs.Spending.{spends_write, then_spends}
+use Rattle.vx_ringio.proofs.Spending.{on_always, spends_write, then_spends}
 use Rattle.vx_ringio.proofs.Aside.{aside_flushed, header_aside}
 use Rattle.vx_ringio.proofs.writes.write_header.Goals as goal
 
@@ -33,3 +33,6 @@ returns-in_err-write-clause-aside g c = header_aside _ _ _ _ _ c.put_header.arra
 
 pub returns-clause-aside : goal.returns-clause-aside
 returns-clause-aside g c = aside_flushed _ _ _ _ (header_aside _ _ _ _ _ c.put_header.array_long (omega arith) c.write.ensures.goes) c.flush_ring.ensures.goes
+
+pub returns-clause-works : goal.returns-clause-works
+returns-clause-works g c = on_always c.flush_ring.result c.in_ok-write.ensures.works

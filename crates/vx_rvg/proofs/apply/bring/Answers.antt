@@ -2,7 +2,7 @@ use Rattle.std.proofs.Common.{◌≤◌, ◌+◌, subst, arith}
 use Rattle.vx_srl.specs.Views.{IsOrdered, all_of}
 use Rattle.vx_rvg.specs.Views.{Core, volume_size}
 use Rattle.vx_rvg.proofs.ApplyAll.{all_bring, due_few, more_moves, one_brought, rest_moves}
-use Rattle.vx_ringio.proofs.Spending.{then_spends}
+use Rattle.vx_ringio.proofs.Spending.{then_spends, works_since}
 use Rattle.vx_rvg.proofs.apply.bring.Goals as goal
 
 pub returns-in_err-count-clause-moves : goal.returns-in_err-count-clause-moves
@@ -42,3 +42,6 @@ returns-in_err-flush_volumes-clause-spends g c = then_spends _ _ _ c.loop-n.inva
 
 pub returns-clause-spends : goal.returns-clause-spends
 returns-clause-spends g c = then_spends _ _ _ c.loop-n.invariant.2 c.flush_volumes.ensures.spends
+
+pub returns-clause-works : goal.returns-clause-works
+returns-clause-works g c = λ v low. works_since _ _ _ c.loop-n.invariant.2 (c.in_ok-flush_volumes.ensures.works v low)

@@ -32,3 +32,6 @@ pub returns-in-Ok-clause-least : goal.returns-in-Ok-clause-least
 returns-in-Ok-clause-least g c =
     least_four c.args.srl.now c.stage.new.self _ (g.S.Shelf.meaning c.args.shelf.now) (g.S.Shelf.meaning c.stage.new.shelf) (g.S.Shelf.meaning c.seal.new.shelf) c.requires.idle
     (c.in_default.ensures.stages c.requires.room (next_free c.args.srl.now most_number c.requires.idle c.requires.number)).1 c.in_default.ensures.least c.in-Ok.ensures.calls
+
+pub returns-in-Ok-clause-works : goal.returns-in-Ok-clause-works
+returns-in-Ok-clause-works g c = c.in_default.ensures.works

@@ -1,6 +1,6 @@
 use Rattle.std.proofs.lemmas.Result.{on_ok_weaker}
 use Rattle.vx_srl.proofs.MakeNew.{then_any, new_headers}
-use Rattle.vx_ringio.proofs.Spending.{then_spends}
+use Rattle.vx_ringio.proofs.Spending.{on_always, then_spends, works_since}
 use Rattle.vx_srl.proofs.create.write_new.Goals as goal
 
 pub returns-clause-moves : goal.returns-clause-moves
@@ -16,3 +16,6 @@ returns-in_err-write_header-clause-spends g c = then_spends _ _ _ c.blank_ring.e
 
 pub returns-clause-spends : goal.returns-clause-spends
 returns-clause-spends g c = then_spends _ _ _ (then_spends _ _ _ c.blank_ring.ensures.spends c.write_header.ensures.spends) c.write_header-2.ensures.spends
+
+pub returns-clause-works : goal.returns-clause-works
+returns-clause-works g c = on_always c.write_header-2.result (works_since _ _ _ c.blank_ring.ensures.spends c.in_ok-write_header.ensures.works)
