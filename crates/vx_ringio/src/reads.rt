@@ -1,10 +1,11 @@
 // The reads of a log.
 ghost use Rattle.std.specs.Prelude.{◌≡◌, ◌+◌, ◌*◌, ◌/◌, ◌%◌, ◌<◌, ◌≤◌, ℕ, length, IsTrue, OnOk, IfOk};
-ghost use Rattle.vx_disk.specs.Causes.{Cause, OnDisks};
+ghost use Rattle.vx_disk.specs.Causes.{Cause, OnDisks, Works};
 ghost use Rattle.vx_disk.specs.Disks.{Untouched};
 ghost use Rattle.vx_disk.specs.Shelf.{Goes, Nothing};
 ghost use Rattle.vx_ringio.specs.Bodies.{IsBlocks, all_blocks};
 ghost use Rattle.vx_ringio.specs.Reading.{ReadsAs, IsTop, SeesFront, SeesTop, DigestsDiffer, TopIsOfRing, ShowsFront, FrontDigestsDiffer, FrontCanSpell, GaveBlocks, ShowsBlocks};
+ghost use Rattle.vx_ringio.specs.Spends.{Spends};
 ghost use Rattle.vx_ringio.specs.Tracks.{Lies};
 ghost use Rattle.vx_ringlog.specs.Cells.{Image};
 ghost use Rattle.vx_ringlog.specs.Chain.{block as block_of_place};
@@ -51,7 +52,9 @@ pub fn read_top<S: Shelf>(
     ensures differ { IfOk result DigestsDiffer }
     ensures of_ring { IfOk result (TopIsOfRing ring) }
     ensures goes { Goes Nothing (S.meaning shelf.old) (S.meaning shelf.new) }
+    ensures spends { Spends (S.meaning shelf.old) (S.meaning shelf.new) }
     ensures cause { Cause (S.meaning shelf.old) (S.meaning shelf.new) unit result }
+    ensures works { OnOk result (Works (S.meaning shelf.old).disks unit) }
 {
     let mut bytes = [0; 512];
     shelf.read(unit, block, &mut bytes)?;
@@ -73,6 +76,7 @@ pub fn read_front<S: Shelf>(
     ensures differ { IfOk result FrontDigestsDiffer }
     ensures spell { IfOk result FrontCanSpell }
     ensures goes { Goes Nothing (S.meaning shelf.old) (S.meaning shelf.new) }
+    ensures spends { Spends (S.meaning shelf.old) (S.meaning shelf.new) }
     ensures cause { Cause (S.meaning shelf.old) (S.meaning shelf.new) unit result }
 {
     let mut bytes = [0; 512];
@@ -98,7 +102,9 @@ fn read_part<S: Shelf>(
     ensures goes { Goes Nothing (S.meaning shelf.old) (S.meaning shelf.new) }
     ensures down { (S.meaning shelf.new).down ≡ (S.meaning shelf.old).down }
     ensures disks { OnDisks (S.meaning shelf.old).disks (S.meaning shelf.new).disks Untouched }
+    ensures spends { Spends (S.meaning shelf.old) (S.meaning shelf.new) }
     ensures cause { Cause (S.meaning shelf.old) (S.meaning shelf.new) unit result }
+    ensures works { OnOk result (Works (S.meaning shelf.old).disks unit) }
 {
     shelf.read(unit, 2 + first, into)
 }
@@ -121,7 +127,9 @@ pub fn read_body<S: Shelf>(
     ensures goes { Goes Nothing (S.meaning shelf.old) (S.meaning shelf.new) }
     ensures down { (S.meaning shelf.new).down ≡ (S.meaning shelf.old).down }
     ensures disks { OnDisks (S.meaning shelf.old).disks (S.meaning shelf.new).disks Untouched }
+    ensures spends { Spends (S.meaning shelf.old) (S.meaning shelf.new) }
     ensures cause { Cause (S.meaning shelf.old) (S.meaning shelf.new) unit result }
+    ensures works { OnOk result (Works (S.meaning shelf.old).disks unit) }
 {
     let first = place % ring;
     let before_end = (ring - first).min(into.len() as u64 / 512);

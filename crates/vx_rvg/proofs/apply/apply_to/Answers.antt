@@ -34,3 +34,6 @@ returns-in-Err-clause-sound g c =
 
 pub returns-in-Err-clause-moves : goal.returns-in-Err-clause-moves
 returns-in-Err-clause-moves g c = apply_moves c.args.core.now _ _ c.requires.sound c.bring.ensures.moves
+
+pub returns-in-Ok-clause-works : goal.returns-in-Ok-clause-works
+returns-in-Ok-clause-works g c = λ less v low. c.in-Ok.ensures.works v low

@@ -3,6 +3,7 @@ use Rattle.std.proofs.Common.{◌≤◌, ◌+◌, length, sym, subst}
 use Rattle.vx_model.specs.Content.{blocks_in}
 use Rattle.vx_rvg.specs.Views.{Core, IsSound}
 use Rattle.vx_rvg.proofs.WriteCommit.{commit_failed, commit_moves, commit_sound, commit_stands, waiting_room}
+use Rattle.vx_disk.specs.Causes.{Works}
 use Rattle.vx_rvg.proofs.write.commit.Goals as goal
 
 pub add_all-requires-clause-room : goal.add_all-requires-clause-room
@@ -38,3 +39,6 @@ pub returns-in-Err-clause-moves : goal.returns-in-Err-clause-moves
 returns-in-Err-clause-moves g c =
     commit_moves _ c.args.core.now c.core.view_is c.args.vol c.args.start c.args.bytes.now (g.S.Shelf.meaning c.args.shelf.now) (g.S.Shelf.meaning c.log_record.new.shelf)
     c.requires.sound c.requires.some c.requires.volume c.requires.blocks c.requires.within c.log_record.new.srl c.in-Err.ensures.moves
+
+pub returns-in-Ok-clause-works : goal.returns-in-Ok-clause-works
+returns-in-Ok-clause-works g c = subst (λ (k : Core). Works (g.S.Shelf.meaning c.args.shelf.now).disks k.log.unit) c.core.view_is c.in-Ok.ensures.works

@@ -8,6 +8,8 @@ use Rattle.vx_rvg.specs.contracts.rvg_core.RvgCore.{the_view}
 use Rattle.vx_rvg.specs.declared.group.Rvg.{Rvg}
 use Rattle.vx_rvg.proofs.ReadAnswers.{on_err, on_ok, shows_at}
 use Rattle.vx_rvg.proofs.ReadStands.{rest_sound, rest_stands}
+use Rattle.vx_disk.specs.Causes.{Works}
+use Rattle.vx_rvg.specs.Views.{unit_of}
 use Rattle.vx_rvg.proofs.group.Rvg.read.Goals as goal
 use Rattle.vx_rvg.proofs.group.Rvg.read.Goals.{in-Ok, in-Err}
 
@@ -33,3 +35,13 @@ pub returns-clause-stands : goal.returns-clause-stands
 returns-clause-stands g c =
     subst (λ (r : Rvg g.row.S.Denot g.S.Shelf). (x : Holding) → Stands r.core x (g.S.Shelf.meaning r.shelf) → IsFalse (g.S.Shelf.meaning c.read.new.self).down → Stands (the_view c.self.inside.0.1.0) x (g.S.Shelf.meaning c.read.new.self)) c.self.view_is
     (λ x stands up. rest_stands _ (g.S.Shelf.meaning c.self.inside.0.0) (g.S.Shelf.meaning c.read.new.self) c.read.ensures.goes up x stands)
+
+pub returns-clause-works : goal.returns-clause-works
+returns-clause-works g c =
+    let works : Type 0 = Works (g.S.Shelf.meaning c.args.self.now.shelf).disks (unit_of c.args.self.now.core.units.vols c.args.vol) in
+    elim c.match-read.branch [
+      | in-Ok w ↦ on_ok c.match-read.result works w.result-is
+          (subst (λ (r : Rvg g.row.S.Denot g.S.Shelf). Works (g.S.Shelf.meaning r.shelf).disks (unit_of r.core.units.vols c.args.vol)) c.self.view_is
+          (subst (λ (u : ℕ). Works (g.S.Shelf.meaning c.self.inside.0.0).disks u) c.unit-unit.ensures w.in-Ok.ensures.works))
+      | in-Err w ↦ on_err c.match-read.result w.refusal.result works w.result-is
+    ]

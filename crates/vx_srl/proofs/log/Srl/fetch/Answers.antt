@@ -1,8 +1,9 @@
-use Rattle.std.proofs.Common.{ℕ, ◌*◌, ◌/◌, ◌≤◌, ◌∙◌, List, ap, sym, arith, length, take, length-take}
+use Rattle.std.proofs.Common.{ℕ, ◌*◌, ◌/◌, ◌≤◌, ◌∙◌, List, ap, sym, subst, arith, length, take, length-take}
 use Rattle.vx_wire.specs.Seals.{digest_of}
 use Rattle.vx_srl.specs.Views.{Log}
 use Rattle.vx_srl.proofs.ScanBodies.{body_shown}
 use Rattle.vx_srl.proofs.FetchKept.{count_within, count_few, never_differ, fetched, agrees, names}
+use Rattle.vx_disk.specs.Causes.{Works}
 use Rattle.vx_srl.proofs.log.Srl.fetch.Goals as goal
 
 short : (count ring : ℕ) (xs : List ℕ) → count ≤ ring → length (take (512 * count) xs) / 512 ≤ ring
@@ -46,3 +47,6 @@ returns-in-Differs-clause-names g c =
     c.in-Differs.stored c.in-Differs.ensures.is.0 (g.S.Shelf.meaning c.args.shelf.now) c.in-Differs.computed
     (λ tells. body_shown c.self.inside.unit c.self.inside.ring c.index-kept.result.now.place c.index-kept.result.now.head c.read_body.new.into (g.S.Shelf.meaning c.args.shelf.now) c.in-Differs.computed
     (omega (arith, c.read_body.ensures.size, length-take {A = ℕ})) (c.in_default.ensures.gave tells) c.in-Differs.ensures.is.1)
+
+pub returns-clause-works : goal.returns-clause-works
+returns-clause-works g c = subst (λ (l : Log). Works (g.S.Shelf.meaning c.args.shelf.now).disks l.unit) c.self.view_is c.in_default.ensures.works

@@ -1,6 +1,8 @@
-use Rattle.std.proofs.Common.{arith}
+use Rattle.std.proofs.Common.{arith, subst}
 use Rattle.vx_srl.proofs.StageRecord.{body_blocks}
 use Rattle.vx_srl.proofs.StageKept.{goes_kept, leads_kept}
+use Rattle.vx_disk.specs.Causes.{Works}
+use Rattle.vx_srl.specs.Views.{Log}
 use Rattle.vx_srl.proofs.log.Srl.stage.Goals as goal
 
 pub write_body-requires-clause-body : goal.write_body-requires-clause-body
@@ -20,3 +22,6 @@ pub returns-clause-leads : goal.returns-clause-leads
 returns-clause-leads g c =
     leads_kept _ _ _ _ _ _ _ _ c.self.invariant c.args.self.now c.self.view_is c.args.vol c.args.block c.args.bytes.now c.next_front-head.new.disk c.requires.blocks
     (omega (arith, c.free-free.ensures, c.if-free-need.false)) c.next_front-head.ensures.body _ _ c.keep.new.self c.keep.ensures c.in_default.ensures.arrives
+
+pub returns-clause-works : goal.returns-clause-works
+returns-clause-works g c = subst (λ (l : Log). Works (g.S.Shelf.meaning c.args.shelf.now).disks l.unit) c.self.view_is c.in_default.ensures.works
