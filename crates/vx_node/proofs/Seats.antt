@@ -42,6 +42,6 @@ module _ {R : Type 0} {g : Ghosts R} where
   pub named_none : (y : Yard R g) (name : List ℕ) → seat_of y.facts.items name ≡ None → Named y.facts.items name → ⊥
   named_none y name is n = never_some (sym is ∙ n.at.is)
 
-  -- its engine is one of the eight
-  pub seat_below : (w : World) (y : Yard R g) (name : List ℕ) (s len : ℕ) → YardAgrees w y → seat_of y.facts.items name ≡ Some s → len ≡ length y.engines.items → s < len
-  seat_below w y name s len stands is many = omega (arith, (seated w y name s stands is).below, stands.engines.few, stands.engines.eight, many)
+  -- its disk set is one of the eight
+  pub seat_below : (w : World) (y : Yard R g) (name : List ℕ) (s len : ℕ) → YardAgrees w y → seat_of y.facts.items name ≡ Some s → len ≡ length y.disk_sets.items → s < len
+  seat_below w y name s len stands is many = omega (arith, (seated w y name s stands is).below, stands.disk_sets.few, stands.disk_sets.eight, many)

@@ -7,8 +7,8 @@ ghost use Rattle.vx_events.specs.Views.{view_of};
 ghost use Rattle.vx_node.specs.Working.{Worked, IsFree};
 ghost use Rattle.vx_node.specs.Yards.{YardAgrees};
 
-use crate::Said;
-use crate::yard::{Yard, seat};
+use crate::place::seat;
+use crate::{Said, Yard};
 use std::alloc::Global;
 use vx_disk::Rack;
 use vx_model::{Name, No, SiteName, SiteState};
@@ -69,10 +69,10 @@ impl<R: Rack> Yard<R> {
     /// How a site stands.
     pub(crate) fn view_at(&self, alloc: Global, site: usize) -> SiteView
         requires site { site < length self.now.facts.items }
-        requires engine { site < length self.now.engines.items }
+        requires disk_set { site < length self.now.disk_sets.items }
         ensures { (w : World) → YardAgrees w self.now → site < w.sites → result ≡ view_of w (w.nodes site) }
     {
-        let session = self.engines[site].session();
+        let session = self.disk_sets[site].session();
         view(alloc, &self.facts, session, &self.facts[site])
     }
 
@@ -83,7 +83,7 @@ impl<R: Rack> Yard<R> {
         let Some(site) = seat(&self.facts, name) else {
             return Said::Refused(No::Role);
         };
-        if site >= self.facts.len() || site >= self.engines.len() {
+        if site >= self.facts.len() || site >= self.disk_sets.len() {
             return Said::Refused(No::Role);
         }
         Said::Shown(self.view_at(alloc, site))

@@ -1,4 +1,4 @@
-use Rattle.vx_node.proofs.Writing.{put_answered}
+use Rattle.vx_node.proofs.WriteLine.{put_answered}
 use Rattle.vx_node.proofs.yard.Yard.put_line.Goals as goal
 
 pub returns-clause-works : goal.returns-clause-works

@@ -5,10 +5,10 @@ use Rattle.vx_model.specs.Sizes.{ring_of}
 use Rattle.vx_order.specs.declared.facts.SiteFacts.{SiteFacts}
 use Rattle.vx_events.specs.Facts.{seat_of}
 use Rattle.vx_node.specs.Yards.{in_files}
-use Rattle.vx_node.proofs.Finds.{bare_worked}
+use Rattle.vx_node.proofs.RecoverBare.{bare_worked}
 use Rattle.vx_node.proofs.Lists.{get_at}
 use Rattle.vx_events.proofs.Refused.{recover_may}
-use Rattle.vx_node.proofs.Rising.{recover_down, recover_up, shown_there}
+use Rattle.vx_node.proofs.RecoverLine.{recover_down, recover_up, shown_there}
 use Rattle.vx_events.proofs.Places.{seat_within, some_same}
 use Rattle.vx_node.proofs.Seats.{named_none, seat_below}
 use Rattle.vx_node.proofs.yard.Yard.recover_line.Goals as goal
@@ -26,7 +26,7 @@ returns-then-site-len-clause-works g c = λ w stands free.
     let is : seat_of facts c.args.name.now ≡ Some c.in-Some.site = ap (λ fs. seat_of fs c.args.name.now) (sym c.deref.ensures.value) ∙ sym c.seat.ensures ∙ c.in-Some.is in
     elim c.then-site-len.branch [
       | then-site-len-via-then-site-len v ↦
-          absurd (omega (arith, v.if-site-len.true, seat_below w c.args.self.now c.args.name.now c.in-Some.site c.len.result stands is (omega (arith, c.len.ensures, c.args.self.now.engines.ok))))
+          absurd (omega (arith, v.if-site-len.true, seat_below w c.args.self.now c.args.name.now c.in-Some.site c.len.result stands is (omega (arith, c.len.ensures, c.args.self.now.disk_sets.ok))))
       | then-site-len-via-else-site-len+then-index-lt-LEAST_BLOCKS v ↦
           absurd (omega (
             arith,

@@ -4,7 +4,7 @@ use Rattle.vx_events.specs.Facts.{seat_of}
 use Rattle.vx_node.specs.Yards.{in_files}
 use Rattle.vx_events.proofs.Refused.{status_may}
 use Rattle.vx_node.proofs.Seats.{named_none}
-use Rattle.vx_node.proofs.Statuses.{status_done}
+use Rattle.vx_node.proofs.StatusLine.{status_done}
 use Rattle.vx_node.proofs.yard.Yard.status_line.Goals as goal
 
 pub returns-in_default : goal.returns-in_default

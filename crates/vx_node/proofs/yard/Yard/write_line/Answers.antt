@@ -2,7 +2,7 @@ use Rattle.std.proofs.Common.{◌≡◌, ◌∙◌, ◌*◌, ◌≤◌, ℕ, ap,
 use Rattle.std.specs.Prelude.{min, replicate}
 use Rattle.vx_events.proofs.RefusedCalls.{write_may}
 use Rattle.vx_node.specs.Yards.{in_files}
-use Rattle.vx_node.proofs.Writing.{write_answered}
+use Rattle.vx_node.proofs.WriteLine.{write_answered}
 use Rattle.vx_node.proofs.yard.Yard.write_line.Goals.{then-count-lt1-via-then-count-lt1, then-count-lt1-via-else-count-lt1+then-count-gt-MOST_CALL_BLOCKS}
 use Rattle.vx_node.proofs.yard.Yard.write_line.Goals as goal
 

@@ -1,0 +1,50 @@
+// The line that crashes a site.
+ghost use Rattle.std.specs.Prelude.{◌≡◌, ◌<◌, length};
+ghost use Rattle.vx_history.specs.World.{World};
+ghost use Rattle.vx_model.specs.declared.site.SiteState.TheVariants.{Up as UpState};
+ghost use Rattle.vx_script.specs.declared.line.ScriptLine.TheVariants.{Crash};
+ghost use Rattle.vx_node.specs.Asked.{AsAsked, CrashesBy, OfSite};
+ghost use Rattle.vx_node.specs.Rising.{Fell};
+ghost use Rattle.vx_node.specs.Working.{Worked, IsFree};
+ghost use Rattle.vx_node.specs.Yards.{YardAgrees, IsTold, in_files};
+
+use crate::place::seat;
+use crate::{DiskSet, Said, Yard, facts};
+use std::mem;
+use vx_disk::Rack;
+use vx_model::{Name, No};
+
+impl<R: Rack> Yard<R> {
+    /// Crashes the disks of a site that is up.
+    pub(crate) fn go_down(&mut self, site: usize, pick: u64)
+        requires facts { site < length self.old.facts.items }
+        requires disk_set { site < length self.old.disk_sets.items }
+        ensures fell { (w : World) → YardAgrees w self.old → site < w.sites → (w.nodes site).state ≡ UpState → Fell w site self.old self.new }
+        ensures asked { (w : World) → YardAgrees w self.old → site < w.sites → (w.nodes site).state ≡ UpState → OfSite (CrashesBy pick) site self.old self.new }
+        ensures facts { length self.new.facts.items ≡ length self.old.facts.items }
+        ensures disk_sets { length self.new.disk_sets.items ≡ length self.old.disk_sets.items }
+        ensures told { IsTold self.new → IsTold self.old }
+        ensures files { in_files self.new ≡ in_files self.old }
+    {
+        let disk_set = mem::replace(&mut self.disk_sets[site], DiskSet::Gone);
+        self.disk_sets[site] = disk_set.crash(pick);
+        facts::go_down(&mut self.facts[site]);
+    }
+
+    /// Crashes a site that is up.
+    pub(crate) fn crash_line(&mut self, name: &Name, pick: u64) -> Said
+        ensures works { (w : World) → YardAgrees w self.old → IsFree self.old (Crash name.now pick) → Worked w (Crash name.now pick) result self.old self.new }
+        ensures asked { (w : World) → YardAgrees w self.old → IsFree self.old (Crash name.now pick) → AsAsked w (Crash name.now pick) self.old self.new }
+        ensures told { IsTold self.new → IsTold self.old }
+        ensures files { in_files self.new ≡ in_files self.old }
+    {
+        let Some(site) = seat(&self.facts, name) else {
+            return Said::Refused(No::Role);
+        };
+        if site >= self.disk_sets.len() {
+            return Said::Refused(No::Role);
+        }
+        self.go_down(site, pick);
+        Said::Done
+    }
+}
