@@ -1,9 +1,10 @@
 #!/usr/bin/env python3
 """Lists every public call with the names of its clauses, in docs/CONTRACTS.md.
 
-contracts.py --write   writes the list
-contracts.py           fails where the list is not that of the sources, where a clause that a table of promises names is not in it, or where
-                       the pages on crates do not have each crate of crates.txt with what it stands on
+contracts.py --write   writes the list, and then tests the pages as below
+contracts.py           fails where the list is not that of the sources, where a clause that a page names is not in it, where the pages
+                       on crates do not have each crate of crates.txt with what it stands on, or where a name in backquotes on the
+                       pages on definitions, crates and decisions stands in no source
 """
 import re
 import sys
@@ -11,9 +12,9 @@ from pathlib import Path
 
 ROOT = Path(__file__).resolve().parent.parent
 LIST = ROOT / 'docs' / 'CONTRACTS.md'
-TABLES = [ROOT / 'README.md', ROOT / 'docs' / 'AHEAD.md']
 MAP = ROOT / 'docs' / 'ARCHITECTURE.md'
 PROMISES = ROOT / 'docs' / 'CRATES.md'
+NAMING = [ROOT / 'docs' / page for page in ('MODEL.md', 'CRATES.md', 'CLAIMS.md', 'DECISIONS.md', 'AHEAD.md')]
 HEAD = '''# Contracts
 
 Every public call, with the names of its clauses; `returns` stands for a clause that has no name. `docs/contracts.py --write` makes this list from the sources, and the checks compare it. A law is a call without a body: its clauses hold of the definitions that they name.
@@ -45,7 +46,8 @@ def direct(crate, known):
 def unmapped():
     """What the pages on crates lack."""
     known = stands()
-    rows = dict(re.findall(r'^\| (vx\w*) \|.*\| ([^|]*) \|$', MAP.read_text(), re.M))
+    table = MAP.read_text().split('\n## The crates\n')[1].split('\n## ')[0]
+    rows = dict(re.findall(r'^\| (vx\w*) \|.*\| ([^|]*) \|$', table, re.M))
     told = re.findall(r'^\*\*(vx\w*)\*\* ', PROMISES.read_text(), re.M)
     for crate in known:
         if rows.get(crate) != (', '.join(direct(crate, known)) or 'none'):
@@ -134,26 +136,36 @@ def listed():
     return ''.join(parts)
 
 
+def names_of(pattern, text):
+    return set(re.findall(r"[A-Za-z_]\w{3,}", ' '.join(re.findall(pattern, text))))
+
+
+def unknown():
+    """The names in backquotes on the pages on definitions, crates and decisions that stand in no source."""
+    sources = [path for kind in ('src/**/*.rt', 'specs/**/*.antt', 'proofs/**/*.antt') for path in (ROOT / 'crates').glob(f'*/{kind}')]
+    known = set().union(*(names_of('(?s).+', f'{path} {path.read_text()}') for path in sources))
+    for page in NAMING:
+        for name in sorted(names_of('`([^`]+)`', page.read_text()) - known):
+            yield f'docs/{page.name} has the name {name}, which no source has'
+
+
 def cited():
-    """The clauses that the tables of promises name, as `crate call clause`."""
-    for page in TABLES:
-        for row in page.read_text().splitlines():
-            if row.startswith('|'):
-                yield from ((page.name, *one) for one in re.findall(r'`(vx_\w+) ([\w:]+) (\w+)`', row))
+    """The clauses that the pages name, as `crate call clause`."""
+    for page in [ROOT / 'README.md', *sorted((ROOT / 'docs').glob('*.md'))]:
+        yield from ((page.name, *one) for one in re.findall(r'`(vx_\w+) ([\w:]+) (\w+)`', page.read_text()))
 
 
 def main():
     text = listed()
     if '--write' in sys.argv[1:]:
         LIST.write_text(text)
-        return 0
     wrong = []
     if not LIST.exists() or LIST.read_text() != text:
         wrong.append('docs/CONTRACTS.md is not the list of the sources: run docs/contracts.py --write')
     known = {(crate, name, clause) for crate in crates() for name, clauses in calls(crate) for _, clause in clauses}
     wrong += [f'{page} names {" ".join(one)}, which is no clause' for page, *one in cited() if tuple(one) not in known]
-    wrong += unmapped()
-    print('\n'.join(wrong) or 'contracts: the list, the tables of promises and the pages on crates are those of the sources')
+    wrong += [*unmapped(), *unknown()]
+    print('\n'.join(wrong) or 'contracts: the list, the clauses and names on the pages and the pages on crates are those of the sources')
     return 1 if wrong else 0
 
 

@@ -1,7 +1,6 @@
 -- A line that begins where no site is in doubt leaves a good world, and a good one with what its halted site may be.
-use Rattle.std.proofs.Common.{◌≡◌, ◌∙◌, inl, inr, ℕ, ◌<◌, List, [], ◌∷◌, ◌++◌, ap, sym, subst, refl, Bool, true, false}
-use Rattle.std.specs.Prelude.{Option, Some, None, not, ◌&&◌, ◌||◌, eqb, leb, length, if◌then◌else◌}
-use Rattle.std.proofs.lemmas.Bool.{cases_eq}
+use Rattle.std.proofs.Common.{◌≡◌, ◌∙◌, ℕ, ◌<◌, List, [], ◌∷◌, ◌++◌, ap, sym, subst, refl, Bool, true, false}
+use Rattle.std.specs.Prelude.{Option, Some, None, not, ◌||◌, leb, length, if◌then◌else◌}
 use Rattle.vx_model.specs.Content.{Write as LogWrite, blocks_in}
 use Rattle.vx_model.specs.Answer.{is_too_large, is_wrong_count, is_past}
 use Rattle.vx_model.specs.Sites.{is_up, is_bare}
@@ -9,11 +8,11 @@ use Rattle.vx_model.specs.declared.limits.TheConstants.{MOST_NUMBER}
 use Rattle.vx_model.specs.declared.site.SiteState.TheVariants.{Up}
 use Rattle.vx_history.proofs.Updates.{all_updated, at_place}
 use Rattle.vx_history.specs.Admission.{Admitted, Held_by, Goes}
-use Rattle.vx_history.specs.World.{Node, Link as LinkState, World, updated, with_node}
-use Rattle.vx_history.specs.Doubts.{After, Doubted, resolved, resolved_at, resolved_for, taken_up, crashed_by, crashed_as, happened, halved, Runs}
+use Rattle.vx_history.specs.World.{Node, Link as LinkState, World}
+use Rattle.vx_history.specs.Doubts.{After, Doubted, resolved, resolved_for, taken_up, crashed_by, crashed_as, happened, halved, Runs}
 use Rattle.vx_history.specs.Events.{admitted, written_if, links_changed, link_after}
 use Rattle.vx_history.specs.Likes.{IsLike, SameLink}
-use Rattle.vx_history.specs.Refusals.{Outcome, unless, is_primary, is_running}
+use Rattle.vx_history.specs.Refusals.{is_primary, is_running}
 use Rattle.vx_history.specs.Step.{outcome_of, step}
 use Rattle.vx_history.specs.Steps.{stopped_by, half_written, burned}
 use Rattle.vx_history.specs.Stops.{Stops, AllDone, Halts, Cuts, Reads, IsLikeDoubted, WritesAt, IsPartAt}
@@ -23,7 +22,7 @@ use Rattle.vx_history.specs.declared.event.Event.TheVariants.{Site, Raw, Write, 
 use Rattle.vx_history.specs.declared.event.LinkPart.{LinkPart}
 use Rattle.vx_history.specs.declared.event.LinkPart.TheVariants.{Joins, Made, Marked, Opened}
 use Rattle.vx_world.specs.Lines.{NoDoubts, GoodDoubted}
-use Rattle.vx_world.specs.Twins.{Twin, GoodTwin, IsAlone}
+use Rattle.vx_world.specs.Twins.{GoodTwin, IsAlone}
 use Rattle.vx_world.proofs.Alone.{same, tested, runs, one_node, counted_alone, set_alone, heard_by, joins_alone, made_alone, marked_alone, opened_alone}
 use Rattle.vx_world.proofs.Crashed.{crashed_good}
 use Rattle.vx_world.proofs.Halving.{aside, half, half_good}

@@ -1,5 +1,6 @@
 pub mod Answers
 pub mod Confirming
+pub mod Counted
 pub mod Grown
 pub mod Settling
 pub mod Twins

@@ -1,105 +1,95 @@
 // Whether the links of a site let a write in.
-ghost use Rattle.std.specs.Prelude.{◌≡◌, ◌+◌, ◌<◌, ℕ, List, Option, length, drop, zip};
-ghost use Rattle.vx_model.specs.Content.{blocks_in};
-ghost use Rattle.vx_history.specs.Admission.{hold, held_by_room, first_down, first_full};
-ghost use Rattle.vx_history.specs.LinkForms.{plain_link};
+ghost use Rattle.std.specs.Prelude.{◌≡◌, ◌++◌, ◌<◌, ◌≤◌, ℕ, [], Option, length, IfOk, OnOk};
 ghost use Rattle.vx_history.specs.Refusals.{unless_at_most, some_below, is_waited_for as waited_for};
-ghost use Rattle.vx_history.specs.Events.{is_in_place as in_place, link_in_place, put_before, linked_sites, plain_links, uses, log_blocks, admitted, links_changed, put_in, written_if};
-ghost use Rattle.vx_policy.specs.Verdicts.{refusal_if};
+ghost use Rattle.vx_history.specs.Events.{is_in_place as in_place, link_in_place, put_before, linked_sites, plain_links, admitted, links_changed, put_in, written_if};
 ghost use Rattle.vx_sites.specs.Refusing.{unless_refused};
-ghost use Rattle.vx_sites.specs.Shapes.{world_of, link_of};
+ghost use Rattle.vx_sites.specs.Shapes.{world_of, node_of, link_of};
+ghost use Rattle.vx_world.specs.Counted.{AreCounted, most_counted, refusal_by};
 
-use vx_model::{Mode, No, SiteName, SyncMode};
-use vx_policy::{is_down, refuse_full};
+use vx_model::{Link as PlainLink, Mode, No, OutOfMemory, SyncMode};
+use vx_policy::{Facts, Verdict, decide};
 use vx_sites::row::used_above;
-use vx_sites::{Link, World, Write};
+use vx_sites::{Link, Node, World, Write};
 
-/// 14, 12 or 13 where a link of the site holds the write.
-pub fn refuse_by_links(world: &World, site: u32, sites: u32, write: &Write) -> Option<No>
+// As many links as the rule of admission takes.
+const MOST: usize = 8;
+
+/// 14, 12 or 13 where a link of the site holds the write, by the rule of admission over the links in the order of their making.
+pub fn refuse_by_links(world: &World, site: u32, links: &[PlainLink], write: &Write) -> Option<No>
     requires within { site < length world.now.nodes.items }
-    requires sites { sites ≡ length world.now.nodes.items }
+    requires few { length links.now ≤ 8 }
+    requires listed { let w = world_of world.now in links.now ≡ plain_links (w.links site) (linked_sites (w.links site) w.sites 0 w.sites) }
     ensures { let w = world_of world.now in let x = write.now in (fails : Option ℕ) → unless_refused result w (unless_at_most (w.nodes site).safe w (put_in (links_changed w site x) site x fails)) ≡ written_if (admitted w site x) w site x fails }
 {
-    if let Some(no) = refuse_down(world, site, sites) {
-        return Some(no);
-    }
-    refuse_first_full(world, site, sites, write)
-}
-
-// From the last place to the first.
-fn refuse_down(world: &World, site: u32, sites: u32) -> Option<No>
-    ensures { let row = (world_of world.now).links site in result ≡ refusal_if (first_down (plain_links row (linked_sites row sites 0 sites))) }
-{
-    let mut first = None;
-    for back in 0..sites {
-        let to = find_link(world, site, sites, sites - 1 - back);
-        first = refuse_down_first(world, site, to, first);
-    }
-    first
-}
-
-// The link to `to` stands before those of which `rest` is the first refusal.
-fn refuse_down_first(world: &World, site: u32, to: Option<u32>, rest: Option<No>) -> Option<No>
-    ensures { let row = (world_of world.now).links site in (ss : List ℕ) → rest ≡ refusal_if (first_down (plain_links row ss)) → result ≡ refusal_if (first_down (plain_links row (put_before to ss))) }
-{
-    let Some(to) = to else {
-        return rest;
+    let node = world.node(site);
+    let facts = Facts {
+        need: (write.as_bytes().len() / 512 + 1) as u64,
+        room: room_of(node),
+        head: node.safe,
+        used: count_used(node, links),
     };
-    if is_down(&world.link(site, to).plain(to)) {
-        Some(No::LinkDown {
-            link: SiteName::Number(to),
-        })
-    } else {
-        rest
-    }
+    find_refusal(decide(links, &facts))
 }
 
-fn refuse_first_full(world: &World, site: u32, sites: u32, write: &Write) -> Option<No>
-    requires { site < length world.now.nodes.items }
-    ensures { let w = world_of world.now in let n = w.nodes site in let row = w.links site in let ss = linked_sites row sites 0 sites in result ≡ refusal_if (first_full (blocks_in write.now.bytes + 1) n.ring (zip (plain_links row ss) (uses n row ss))) }
+fn find_refusal(verdict: Verdict) -> Option<No>
+    ensures { result ≡ refusal_by verdict }
 {
-    let need = (write.as_bytes().len() / 512 + 1) as u64;
-    let mut first = None;
-    for back in 0..sites {
-        let to = find_link(world, site, sites, sites - 1 - back);
-        first = refuse_full_first(world, site, to, need, first);
+    match verdict {
+        Verdict::Refuse(no) => Some(no),
+        Verdict::Go { .. } => None,
     }
-    first
 }
 
-fn refuse_full_first(
+// The blocks of the site's log that hold records.
+fn room_of(node: &Node) -> u64
+    ensures is { result ≡ (node_of node.now).ring }
+    ensures few { result < most_counted }
+{
+    u64::from(node.ring)
+}
+
+// For each link, in order, the blocks of the log that the numbers above its hold take, counted up to 2^32.
+fn count_used(node: &Node, links: &[PlainLink]) -> [u64; 8]
+    requires few { length links.now ≤ 8 }
+    ensures counted { AreCounted (node_of node.now).log links.now (length links.now) result }
+    ensures long { length result ≡ 8 }
+{
+    let mut used = [0; 8];
+    for at in 0..links.len() {
+        used[at] = used_above(&node.log, &links[at]);
+    }
+    used
+}
+
+/// The links of the site in the order of their making. More of them than the rule of admission takes have no memory.
+pub fn list_links(world: &World, site: u32, sites: u32) -> Result<Vec<PlainLink>, OutOfMemory>
+    ensures listed { IfOk result (λ links. let row = (world_of world.now).links site in links.items ≡ plain_links row (linked_sites row sites 0 sites)) }
+    ensures few { IfOk result (λ links. length links.items ≤ 8) }
+{
+    let mut links = Vec::new(world.alloc);
+    for place in 0..sites {
+        let to = find_link(world, site, sites, place);
+        add_link(&mut links, world, site, to)?;
+    }
+    if links.len() > MOST {
+        return Err(OutOfMemory);
+    }
+    Ok(links)
+}
+
+// The link to `to`, where there is one, stands behind the others.
+fn add_link(
+    links: &mut Vec<PlainLink>,
     world: &World,
     site: u32,
     to: Option<u32>,
-    need: u64,
-    rest: Option<No>,
-) -> Option<No>
-    requires within { site < length world.now.nodes.items }
-    requires some { 0 < need }
-    ensures { let w = world_of world.now in let n = w.nodes site in let row = w.links site in (ss : List ℕ) → rest ≡ refusal_if (first_full need n.ring (zip (plain_links row ss) (uses n row ss))) → result ≡ refusal_if (first_full need n.ring (zip (plain_links row (put_before to ss)) (uses n row (put_before to ss)))) }
+) -> Result<(), OutOfMemory>
+    ensures { OnOk result (let row = (world_of world.now).links site in links.new.items ≡ links.old.items ++ plain_links row (put_before to [])) }
 {
-    let Some(to) = to else {
-        return rest;
-    };
-    match refuse_one_full(world, site, to, need) {
-        Some(no) => Some(no),
-        None => rest,
+    if let Some(to) = to {
+        links.push(world.link(site, to).plain(to))?;
     }
-}
-
-fn refuse_one_full(world: &World, site: u32, to: u32, need: u64) -> Option<No>
-    requires within { site < length world.now.nodes.items }
-    requires some { 0 < need }
-    ensures { let w = world_of world.now in let n = w.nodes site in let l = plain_link to (w.links site to) in result ≡ refusal_if (held_by_room need n.ring l (log_blocks (drop (hold l) n.log))) }
-{
-    let node = world.node(site);
-    let link = world.link(site, to).plain(to);
-    refuse_full(
-        &link,
-        used_above(&node.log, &link),
-        need,
-        u64::from(node.ring),
-    )
+    Ok(())
 }
 
 // The site of the link that was made in this place.

@@ -10,7 +10,7 @@ ghost use Rattle.vx_history.specs.declared.event.Event.TheVariants.{Write as Wri
 ghost use Rattle.vx_sites.specs.Refusing.{Refuses};
 ghost use Rattle.vx_sites.specs.Shapes.{world_of};
 
-use crate::admission::{is_waited_for, refuse_by_links};
+use crate::admission::{is_waited_for, list_links, refuse_by_links};
 use vx_history::Said;
 use vx_model::limits::MOST_NUMBER;
 use vx_model::{Blocks, No, OutOfMemory};
@@ -66,7 +66,8 @@ fn write_if_let_in(
     ensures { let w = world_of world.old in IfOk result (λ said. says (world_of world.new) said ≡ written_if (admitted w site write) w site write fails) }
 {
     let sites = world.count_sites()?;
-    if let Some(no) = refuse_by_links(world, site, sites, &write) {
+    let links = list_links(world, site, sites)?;
+    if let Some(no) = refuse_by_links(world, site, &links, &write) {
         return Ok(Said::Refused(no));
     }
     write_unless_most(world, site, write, fails)
