@@ -241,7 +241,7 @@ module _ {R : Type 0} {g : Ghosts R} where
   -- the same where its fuse ran out before
   pub cut_crashed : {links : List KeptLink} (n : Node) (e : DiskSet R g) (rvg : Rvg R g) (shelf new : R) → e ≡ Up rvg → shelf ≡ rvg.shelf → CutAt links n e → Lawful (g.meaning new) → IsRack (g.meaning new) → Stopped (g.meaning shelf) (g.meaning new)
       → CrashedAt {g = g} links n (Down new)
-  cut_crashed n e rvg shelf new is same cut lawful rack stopped = held_crashed n rvg.shelf shelf new same (subst (CutAt links n) is cut) lawful rack stopped
+  cut_crashed {links} n e rvg shelf new is same cut lawful rack stopped = held_crashed n rvg.shelf shelf new same (subst (CutAt links n) is cut) lawful rack stopped
 
   -- a write or an apply whose fuse ran out, and the crash behind it
   pub wrote_off : {links : List KeptLink} (n : Node) (x : Write) (old mid new : DiskSet R g) (why : No) → is_off why ≡ true → WroteUp links n x old mid (Err why) → (CutAt links (half_begun n x) mid → CrashedAt links (half_begun n x) new) → (IsToldAt new → IsToldAt mid) → WroteAt links n x old new (Err why)

@@ -1,6 +1,6 @@
 -- What stands after calls that change no contents, and of a raw set as it is made.
 use Rattle.std.proofs.Common.{◌≡◌, ◌∙◌, ◌+◌, ◌-◌, ◌<◌, ◌≤◌, ℕ, zero, suc, List, [], length, ap, ⊎_elim, sym, subst, refl, arith, IsTrue}
-use Rattle.std.specs.Prelude.{Option, Some, None, slice_get, codes, replicate, ◌++◌}
+use Rattle.std.specs.Prelude.{IsFalse, Option, Some, None, slice_get, codes, replicate, ◌++◌}
 use Rattle.std.proofs.lemmas.List.{length-replicate}
 use Rattle.vx_model.specs.declared.state.KeptLink.{KeptLink}
 use Rattle.vx_disk.specs.Causes.{WithDisks, OnDisks}

@@ -1,7 +1,8 @@
 -- What a read gives of a site that is up.
-use Rattle.std.proofs.Common.{◌≡◌, ◌∙◌, ℕ, ◌+◌, ◌-◌, ◌≤◌, Bool, true, false, List, ap, sym, subst, refl, arith}
+use Rattle.std.proofs.Common.{◌≡◌, ◌∙◌, ℕ, ◌+◌, ◌-◌, ◌*◌, ◌≤◌, ◌++◌, length, take, Bool, true, false, List, ap, sym, subst, refl, arith}
 use Rattle.std.specs.Prelude.{Option, Some, None, Result, Ok, Err, OnOk, IsTrue, IsFalse, ltb, if◌then◌else◌}
 use Rattle.std.proofs.lemmas.Bool.Decides.{nat_tests}
+use Rattle.std.proofs.lemmas.List.{take-append-le, take_all}
 use Rattle.vx_model.specs.Content.{Content}
 use Rattle.vx_history.specs.World.{Node}
 use Rattle.vx_model.specs.declared.no.No.{No}
@@ -26,6 +27,7 @@ use Rattle.vx_rvg.proofs.ReadStands.{rest_stands}
 use Rattle.vx_node.specs.declared.disk_set.DiskSet.{DiskSet}
 use Rattle.vx_node.specs.declared.disk_set.DiskSet.TheVariants.{Up}
 use Rattle.vx_node.specs.DiskSets.{CanRead, ReadAt}
+use Rattle.vx_node.specs.Fetching.{Gave, GaveAt}
 use Rattle.vx_node.specs.Holds.{HasWrites}
 use Rattle.vx_node.specs.Fuses.{HasFuse}
 use Rattle.vx_node.specs.Stands.{IsUpAt, StandsAt}
@@ -33,6 +35,10 @@ use Rattle.vx_node.specs.Lasts.{StandsWith}
 use Rattle.vx_node.proofs.LastWrites.{stands_with, still_with}
 use Rattle.vx_node.proofs.MakeGroup.{fuse_untouched}
 use Rattle.vx_node.proofs.StaysUp.{told_now, never_both, up_found, up_with}
+
+-- what was written over a list of the same length is all of it
+pub written_over : (len : ℕ) (xs rest : List ℕ) → len ≡ length xs → take len (xs ++ rest) ≡ xs
+written_over len xs rest is = take-append-le len xs rest (omega (arith, is)) ∙ take_all len xs (omega (arith, is))
 
 -- what a read answers of a site
 abbrev ReadAs : List KeptLink → Node → ℕ → ℕ → ℕ → List ℕ → Core → Meaning → Meaning → Result (Unit {0}) No → Type 0
@@ -108,3 +114,22 @@ module _ {R : Type 0} {g : Ghosts R} where
       (by_disk_set links n volume start count bytes rvg new result
       (subst (λ (k : Core). ReadAs links n volume start count bytes k (g.meaning rvg.shelf) (g.meaning new.shelf) result) (sym same)
       (read_as n rvg.core (g.meaning rvg.shelf) (g.meaning new.shelf) volume start count bytes up can lawful after rvg.sound.log_unit goes down (fuse_untouched n.fuse (g.meaning rvg.shelf) (g.meaning new.shelf) disks rack rack' up.fuse) result answers gives)))
+
+  -- the same with the blocks in a place for them
+  pub gave_blocks : (links : List KeptLink) (n : Node) (volume start count k : ℕ) (bytes items : List ℕ) (old new : DiskSet R g) (done : Unit {0}) → count ≡ k → items ≡ bytes → length bytes ≡ 512 * count
+      → (CanRead n volume start k → ReadAt links n volume start k bytes old new (Ok done)) → CanRead n volume start count → Gave links n volume start count items new
+  gave_blocks links n volume start count k bytes items old new done same is size reads can =
+      let got = reads (subst (λ (j : ℕ). CanRead n volume start j) same can) in
+      subst (λ (xs : List ℕ). Gave links n volume start count xs new) (sym is) (record {
+        size = size;
+        shows = λ told. subst (λ (j : ℕ). Shows n.base volume start j bytes) (sym same) (got.0 told);
+        stands = got.1;
+      })
+
+  pub gave_none : (links : List KeptLink) (n : Node) (volume start count k : ℕ) (bytes : List ℕ) (old new : DiskSet R g) (no : No) → count ≡ k
+      → (CanRead n volume start k → ReadAt links n volume start k bytes old new (Err no)) → CanRead n volume start count → GaveAt links n volume start count old new (Err no)
+  gave_none links n volume start count k bytes old new why same reads can = by why (reads (subst (λ (j : ℕ). CanRead n volume start j) same can))
+    where
+      by : (why : No) → ReadAt links n volume start k bytes old new (Err why) → GaveAt links n volume start count old new (Err why)
+      by (Device disk) h = h
+      by other h = h
