@@ -68,7 +68,7 @@ value_there f k (suc n) (suc b) bytes is = ap f (omega arith) ∙ value_there f 
 
 -- with the blocks of the map unit as an image has them
 abbrev with_maps : Units → Meaning → Image → Holding → Holding
-with_maps units m i h = record { low = h.low; writes = h.writes; content = h.content; maps = values_from (λ b. i units.maps b) 0 (m.size units.maps) }
+with_maps units m i h = record { low = h.low; writes = h.writes; place = h.place; content = h.content; maps = values_from (λ b. i units.maps b) 0 (m.size units.maps) }
 
 found_left : (units : Units) (ring : ℕ) (state : State) (session stamp : ℕ) (h : Holding) (m : Meaning) (i : Image) → IsTrue m.tells
     → ((u b : ℕ) → Keeps m u b (i u b)) → HasSizes units.vols h.content m → Found units ring state session stamp i h → Left units ring state session stamp (with_maps units m i h) m
@@ -88,6 +88,7 @@ found_left units ring state session stamp h m i tells one sizes found = record {
   some = found.some;
   low_is = found.low_is;
   writes_are = found.writes_are;
+  place_is = found.place_is;
   sizes = sizes;
   content = record {
     each = λ v b low. keeps_option m (unit_of units.vols v) b (i (unit_of units.vols v) b) (h.content.block v b) (newest_of h.content.size h.writes v b)
@@ -123,6 +124,7 @@ left_found units ring state session stamp h m i lawful now left = record {
   some = left.some;
   low_is = left.low_is;
   writes_are = left.writes_are;
+  place_is = left.place_is;
   content = has_content units.vols h.content h.writes m i left.content (lawful.within i now);
   maps = has_maps units h.maps m i left.maps (λ b. lawful.within i now units.maps b);
 }
@@ -166,6 +168,7 @@ left_below units ring state session stamp most h m le left = record {
   some = left.some;
   low_is = left.low_is;
   writes_are = left.writes_are;
+  place_is = left.place_is;
   sizes = left.sizes;
   content = left.content;
   maps = left.maps;

@@ -30,9 +30,9 @@ last_same xs c h has = record {
   content = has.content;
 }
 
-kept_by : (xs : List Write) (c : Content) (h : Holding) (low count k : ℕ) → k ≡ length h.writes - count → HasLast xs c h → 0 < low → low + count ≡ length xs + 1 → count ≤ length h.writes
-    → HasLast xs c (record { low = low; writes = drop k h.writes; content = h.content; maps = h.maps })
-kept_by xs c h low count k is has some last few =
+kept_by : (xs : List Write) (c : Content) (h : Holding) (low place count k : ℕ) → k ≡ length h.writes - count → HasLast xs c h → 0 < low → low + count ≡ length xs + 1 → count ≤ length h.writes
+    → HasLast xs c (record { low = low; writes = drop k h.writes; place = place; content = h.content; maps = h.maps })
+kept_by xs c h low place count k is has some last few =
     let at : h.low - 1 + k ≡ low - 1 = omega (arith, is, has.some, has.last, some, last, few) in
     record {
       some = some;
@@ -41,8 +41,8 @@ kept_by xs c h low count k is has some last few =
       content = has.content;
     }
 
-pub last_kept : (xs : List Write) (c : Content) (h : Holding) (low count : ℕ) → HasLast xs c h → 0 < low → low + count ≡ length xs + 1 → count ≤ length h.writes → HasLast xs c (with_last low count h)
-last_kept xs c h low count has some last few = kept_by xs c h low count (length h.writes - count) refl has some last few
+pub last_kept : (xs : List Write) (c : Content) (h : Holding) (low place count : ℕ) → HasLast xs c h → 0 < low → low + count ≡ length xs + 1 → count ≤ length h.writes → HasLast xs c (with_last low place count h)
+last_kept xs c h low place count has some last few = kept_by xs c h low place count (length h.writes - count) refl has some last few
 
 none_more : (k : ℕ) → take {A = Write} k [] ≡ []
 none_more zero = refl
@@ -79,7 +79,7 @@ still_with core core' xs c m m' stands stood = record { held = stood.held; has =
 module _ (core after : Core) (xs : List Write) (c : Content) (m : Meaning) (some : 0 < after.log.header.low) (last : after.log.header.low + length after.log.held ≡ length xs + 1)
     (few : length after.log.held ≤ length core.log.held) where
   kept_with : (h : Holding) → HasLast xs c h → Stands core h m → HasLast xs c (kept_in after h)
-  kept_with h has stands = last_kept xs c h after.log.header.low (length after.log.held) has some last (omega (arith, few, stands_count core h m stands))
+  kept_with h has stands = last_kept xs c h after.log.header.low after.log.header.place (length after.log.held) has some last (omega (arith, few, stands_count core h m stands))
 
   pub saving_with : (i : Image) → Saving core after m i → StandsWith core xs c m → FoundOf core i xs c ⊎ FoundOf after i xs c
   saving_with i saving stood =

@@ -70,6 +70,7 @@ left_still units ring state session stamp h m new tells size less left = record 
   some = left.some;
   low_is = left.low_is;
   writes_are = left.writes_are;
+  place_is = left.place_is;
   sizes = record { each = λ v there. left.sizes.each v there ∙ sym (size (unit_of units.vols v)); none = left.sizes.none };
   content = record {
     each = λ v b low. keeps_less m new (unit_of units.vols v) b (h.content.block v b) (newest_of h.content.size h.writes v b) (less (unit_of units.vols v) b) (left.content.each v b low);

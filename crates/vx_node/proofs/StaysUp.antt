@@ -101,6 +101,7 @@ found_below units ring state session stamp most i h le found = record {
   some = found.some;
   low_is = found.low_is;
   writes_are = found.writes_are;
+  place_is = found.place_is;
   content = found.content;
   maps = found.maps;
 }

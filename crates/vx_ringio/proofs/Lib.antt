@@ -1,3 +1,4 @@
+pub mod Aside
 pub mod Blanks
 pub mod Bodies
 pub mod Classing
@@ -5,4 +6,5 @@ pub mod Following
 pub mod Masks
 pub mod Parts
 pub mod Seeing
+pub mod Spending
 pub mod Writing

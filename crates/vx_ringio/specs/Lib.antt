@@ -1,4 +1,5 @@
 pub mod Bodies
 pub mod Classes
 pub mod Reading
+pub mod Spends
 pub mod Tracks

@@ -3,6 +3,7 @@ ghost use Rattle.std.specs.Prelude.{◌≡◌, ◌+◌, ◌*◌, ◌<◌, ◌≤
 ghost use Rattle.vx_disk.specs.Causes.{Cause};
 ghost use Rattle.vx_disk.specs.Moves.{Moves, Run, Anything};
 ghost use Rattle.vx_ringio.specs.Reading.{LeavesAs, ReadsZero};
+ghost use Rattle.vx_ringio.specs.Spends.{Spends};
 ghost use Rattle.vx_ringio.specs.Tracks.{Lies};
 ghost use Rattle.vx_srlfmt.specs.Kinds.{Other};
 
@@ -17,6 +18,7 @@ fn blank_chunk<S: Shelf>(shelf: &mut S, unit: u32, used: u64, chunk: u64) -> Res
     ensures moves { Moves (Run unit 0 used) Anything (S.meaning shelf.old) (S.meaning shelf.new) }
     ensures ok { OnOk result (ReadsZero unit (16 * chunk) (S.meaning shelf.old) → ReadsZero unit (min (16 * (chunk + 1)) used) (S.meaning shelf.new)) }
     ensures cause { Cause (S.meaning shelf.old) (S.meaning shelf.new) unit result }
+    ensures spends { Spends (S.meaning shelf.old) (S.meaning shelf.new) }
 {
     let zeros = [0; 8192];
     let first = 16 * chunk;
@@ -31,6 +33,7 @@ pub fn blank_ring<S: Shelf>(shelf: &mut S, unit: u32, ring: u64) -> Result<(), S
     ensures moves { Moves (Run unit 0 (ring + 2)) Anything (S.meaning shelf.old) (S.meaning shelf.new) }
     ensures leaves { OnOk result (IsTrue (S.meaning shelf.old).tells → LeavesAs unit ring (λ b. Other) (S.meaning shelf.new)) }
     ensures cause { Cause (S.meaning shelf.old) (S.meaning shelf.new) unit result }
+    ensures spends { Spends (S.meaning shelf.old) (S.meaning shelf.new) }
 {
     let used = ring + 2;
     for chunk in 0..used.div_ceil(16) {

@@ -5,6 +5,7 @@ ghost use Rattle.vx_disk.specs.Disks.{Untouched};
 ghost use Rattle.vx_disk.specs.Shelf.{Goes, Nothing};
 ghost use Rattle.vx_ringio.specs.Bodies.{IsBlocks, all_blocks};
 ghost use Rattle.vx_ringio.specs.Reading.{ReadsAs, IsTop, SeesFront, SeesTop, DigestsDiffer, TopIsOfRing, ShowsFront, FrontDigestsDiffer, FrontCanSpell, GaveBlocks, ShowsBlocks};
+ghost use Rattle.vx_ringio.specs.Spends.{Spends};
 ghost use Rattle.vx_ringio.specs.Tracks.{Lies};
 ghost use Rattle.vx_ringlog.specs.Cells.{Image};
 ghost use Rattle.vx_ringlog.specs.Chain.{block as block_of_place};
@@ -51,6 +52,7 @@ pub fn read_top<S: Shelf>(
     ensures differ { IfOk result DigestsDiffer }
     ensures of_ring { IfOk result (TopIsOfRing ring) }
     ensures goes { Goes Nothing (S.meaning shelf.old) (S.meaning shelf.new) }
+    ensures spends { Spends (S.meaning shelf.old) (S.meaning shelf.new) }
     ensures cause { Cause (S.meaning shelf.old) (S.meaning shelf.new) unit result }
 {
     let mut bytes = [0; 512];
@@ -73,6 +75,7 @@ pub fn read_front<S: Shelf>(
     ensures differ { IfOk result FrontDigestsDiffer }
     ensures spell { IfOk result FrontCanSpell }
     ensures goes { Goes Nothing (S.meaning shelf.old) (S.meaning shelf.new) }
+    ensures spends { Spends (S.meaning shelf.old) (S.meaning shelf.new) }
     ensures cause { Cause (S.meaning shelf.old) (S.meaning shelf.new) unit result }
 {
     let mut bytes = [0; 512];
@@ -98,6 +101,7 @@ fn read_part<S: Shelf>(
     ensures goes { Goes Nothing (S.meaning shelf.old) (S.meaning shelf.new) }
     ensures down { (S.meaning shelf.new).down ≡ (S.meaning shelf.old).down }
     ensures disks { OnDisks (S.meaning shelf.old).disks (S.meaning shelf.new).disks Untouched }
+    ensures spends { Spends (S.meaning shelf.old) (S.meaning shelf.new) }
     ensures cause { Cause (S.meaning shelf.old) (S.meaning shelf.new) unit result }
 {
     shelf.read(unit, 2 + first, into)
@@ -121,6 +125,7 @@ pub fn read_body<S: Shelf>(
     ensures goes { Goes Nothing (S.meaning shelf.old) (S.meaning shelf.new) }
     ensures down { (S.meaning shelf.new).down ≡ (S.meaning shelf.old).down }
     ensures disks { OnDisks (S.meaning shelf.old).disks (S.meaning shelf.new).disks Untouched }
+    ensures spends { Spends (S.meaning shelf.old) (S.meaning shelf.new) }
     ensures cause { Cause (S.meaning shelf.old) (S.meaning shelf.new) unit result }
 {
     let first = place % ring;

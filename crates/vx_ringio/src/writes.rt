@@ -1,9 +1,12 @@
 // The writes of a log.
 ghost use Rattle.std.specs.Prelude.{◌≡◌, ◌+◌, ◌*◌, ◌/◌, ◌%◌, ◌<◌, ◌≤◌, ◌^◌, ℕ, [], ◌∷◌, ◌++◌, length, true, All, OnOk};
 ghost use Rattle.vx_disk.specs.Causes.{Cause};
+ghost use Rattle.vx_disk.specs.Moves.{Anything, Moves, Run};
+ghost use Rattle.vx_disk.specs.Shelf.{Goes, Nothing};
 ghost use Rattle.vx_ringio.specs.Bodies.{IsBlocks, all_blocks};
 ghost use Rattle.vx_disk.specs.Burns.{FallsShort, MakesCalls};
 ghost use Rattle.vx_ringio.specs.Classes.{is_of_ring};
+ghost use Rattle.vx_ringio.specs.Spends.{MakesAtLeast, Spends};
 ghost use Rattle.vx_ringio.specs.Tracks.{Lies, Follows, Arrives};
 ghost use Rattle.vx_ringlog.specs.Acts.{body_acts, head_acts};
 ghost use Rattle.vx_ringlog.specs.Cells.{Write as WriteAct, Flush};
@@ -20,9 +23,11 @@ pub fn flush_ring<S: Shelf>(shelf: &mut S, unit: u32) -> Result<(), ShelfError>
     requires exists { unit < (S.meaning shelf.old).units }
     ensures follows { (ring : ℕ) → Follows unit ring (Flush ∷ []) (S.meaning shelf.old) (S.meaning shelf.new) }
     ensures arrives { OnOk result ((ring : ℕ) → Arrives unit ring (Flush ∷ []) (S.meaning shelf.old) (S.meaning shelf.new)) }
+    ensures goes { Goes Nothing (S.meaning shelf.old) (S.meaning shelf.new) }
     ensures cause { Cause (S.meaning shelf.old) (S.meaning shelf.new) unit result }
     ensures calls { OnOk result (MakesCalls 1 (S.meaning shelf.old) (S.meaning shelf.new)) }
     ensures short { FallsShort 1 (S.meaning shelf.old) (S.meaning shelf.new) }
+    ensures spends { Spends (S.meaning shelf.old) (S.meaning shelf.new) }
 {
     shelf.flush(unit)
 }
@@ -44,13 +49,14 @@ pub fn write_front<S: Shelf>(
     ensures cause { Cause (S.meaning shelf.old) (S.meaning shelf.new) unit result }
     ensures calls { OnOk result (MakesCalls 1 (S.meaning shelf.old) (S.meaning shelf.new)) }
     ensures short { FallsShort 1 (S.meaning shelf.old) (S.meaning shelf.new) }
+    ensures spends { Spends (S.meaning shelf.old) (S.meaning shelf.new) }
 {
     let mut bytes = [0; 512];
     put_record(head, &mut bytes);
     shelf.write(unit, 2 + place % ring, &bytes)
 }
 
-/// Writes a header of the log to its block, which goes by its stamp, and makes it durable.
+/// Writes a header of the log to its block, which goes by its stamp, and makes it durable. The blocks of the ring stay as they are.
 pub fn write_header<S: Shelf>(
     shelf: &mut S,
     unit: u32,
@@ -62,9 +68,11 @@ pub fn write_header<S: Shelf>(
     requires of_ring { is_of_ring ring header.now ≡ true }
     ensures follows { Follows unit ring (head_acts (header.now.stamp % 2) header.now) (S.meaning shelf.old) (S.meaning shelf.new) }
     ensures arrives { OnOk result (Arrives unit ring (head_acts (header.now.stamp % 2) header.now) (S.meaning shelf.old) (S.meaning shelf.new)) }
+    ensures aside { Moves (Run unit 0 2) Anything (S.meaning shelf.old) (S.meaning shelf.new) }
     ensures cause { Cause (S.meaning shelf.old) (S.meaning shelf.new) unit result }
     ensures calls { OnOk result (MakesCalls 2 (S.meaning shelf.old) (S.meaning shelf.new)) }
     ensures short { FallsShort 2 (S.meaning shelf.old) (S.meaning shelf.new) }
+    ensures spends { Spends (S.meaning shelf.old) (S.meaning shelf.new) }
 {
     let mut bytes = [0; 512];
     put_header(header, &mut bytes);
@@ -90,6 +98,7 @@ fn write_part<S: Shelf>(
     ensures cause { Cause (S.meaning shelf.old) (S.meaning shelf.new) unit result }
     ensures calls { OnOk result (MakesCalls 1 (S.meaning shelf.old) (S.meaning shelf.new)) }
     ensures short { FallsShort 1 (S.meaning shelf.old) (S.meaning shelf.new) }
+    ensures spends { Spends (S.meaning shelf.old) (S.meaning shelf.new) }
 {
     shelf.write(unit, 2 + first, bytes)
 }
@@ -112,6 +121,8 @@ pub fn write_body<S: Shelf>(
     ensures cause { Cause (S.meaning shelf.old) (S.meaning shelf.new) unit result }
     ensures calls { OnOk result (place % ring + length bytes.now / 512 ≤ ring → MakesCalls 1 (S.meaning shelf.old) (S.meaning shelf.new)) }
     ensures short { place % ring + length bytes.now / 512 ≤ ring → FallsShort 1 (S.meaning shelf.old) (S.meaning shelf.new) }
+    ensures least { OnOk result (MakesAtLeast 1 (S.meaning shelf.old) (S.meaning shelf.new)) }
+    ensures spends { Spends (S.meaning shelf.old) (S.meaning shelf.new) }
 {
     let first = place % ring;
     let before_end = (ring - first).min(bytes.len() as u64 / 512);

@@ -194,6 +194,7 @@ apply_rests core m m' sound moves to count low from brings up = record {
     log = stands.log;
     ready = applied_ready core h.content m stands.log stands.ready sound m' moves to count low from brings up;
     low = stands.low;
+    place = stands.place;
     writes = stands.writes;
     maps = maps_moved (Waits core m) Anything core.units h.maps m m' moves (maps_aside core m sound) stands.maps;
   };

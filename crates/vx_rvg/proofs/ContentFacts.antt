@@ -157,15 +157,16 @@ stands_count core h m stands = ap (λ (xs : List Write). length xs) (sym stands.
 pub stands_last : (core : Core) (h : Holding) (m : Meaning) → Stands core h m → 0 < core.log.header.low → h.low + length h.writes ≡ last_of core + 1
 stands_last core h m stands some = omega (arith, some, stands.low, stands_count core h m stands)
 
-holding_is : (h : Holding) (low : ℕ) (writes : List Write) → low ≡ h.low → writes ≡ h.writes → record { low = low; writes = writes; content = h.content; maps = h.maps } ≡ h
-holding_is h low writes one two = λ i. record { low = one i; writes = two i; content = h.content; maps = h.maps }
+holding_is : (h : Holding) (low place : ℕ) (writes : List Write) → low ≡ h.low → place ≡ h.place → writes ≡ h.writes
+    → record { low = low; writes = writes; place = place; content = h.content; maps = h.maps } ≡ h
+holding_is h low place writes one begins two = λ i. record { low = one i; writes = two i; place = begins i; content = h.content; maps = h.maps }
 
 none_gone : (n k : ℕ) (xs : List Write) → n ≡ k → drop (n - k) xs ≡ xs
 none_gone n k xs is = let none : n - k ≡ 0 = omega (arith, is) in ap (λ (j : ℕ). drop j xs) none
 
 -- a log that gave up nothing has all
 pub kept_all : (core : Core) (h : Holding) (m : Meaning) → Stands core h m → kept_in core h ≡ h
-kept_all core h m stands = holding_is h core.log.header.low (drop (length h.writes - length core.log.held) h.writes) stands.low (none_gone (length h.writes) (length core.log.held) h.writes (stands_count core h m stands))
+kept_all core h m stands = holding_is h core.log.header.low core.log.header.place (drop (length h.writes - length core.log.held) h.writes) stands.low stands.place (none_gone (length h.writes) (length core.log.held) h.writes (stands_count core h m stands))
 
 module _ (core : Core) (h : Holding) (m : Meaning) (i : Image) (unit_is : core.log.unit ≡ core.units.srl) (stands : Stands core h m) where
   -- an image with the log that stands, the maps, and any content
@@ -181,6 +182,7 @@ module _ (core : Core) (h : Holding) (m : Meaning) (i : Image) (unit_is : core.l
     some = omega (arith, recovers_low core.log.unit core.log.ring i stands.log.header stands.log.held recovers, ap (λ (g : Header). g.low) stands.ready.ring.describes.header, stands.low);
     low_is = ap (λ (g : Header). g.low) stands.ready.ring.describes.header ∙ stands.low;
     writes_are = stands.writes;
+    place_is = ap (λ (g : Header). g.place) stands.ready.ring.describes.header ∙ stands.place;
     content = subst (λ (xs : List Write). HasContent core.units.vols d xs i) stands.writes content;
     maps = maps;
   }

@@ -110,6 +110,7 @@ module _ (core : Core) (state : SiteState) (head : ℕ) (all : last_of core ≤ 
       ready = empty_ready h.content s stands.ready m' P moves leads;
       low = refl;
       writes = none_kept;
+      place = refl;
       maps = maps_moved (Run core.log.unit 0 (core.log.ring + 2)) P core.units h.maps m m' moves (maps_beside core m sound.placed sound.log_unit) stands.maps;
     }
 
@@ -137,6 +138,7 @@ module _ (core : Core) (state : SiteState) (head : ℕ) (all : last_of core ≤ 
         some = omega arith;
         low_is = refl;
         writes_are = none_kept;
+        place_is = refl;
         content = subst (λ (ws : List Write). HasContent core.units.vols h.content ws i) none_kept new_has;
         maps = has_them;
       }

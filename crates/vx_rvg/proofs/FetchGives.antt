@@ -88,8 +88,11 @@ module _ (core : Core) (h : Holding) (m : Meaning) (stands : Stands core h m) wh
       ∙ ap (λ (ws : List Write). blocks_taken ws) (writes_drop n stands.log.held ∙ ap (λ (ws : List Write). drop n ws) stands.writes)
       ∙ ap (λ (low : ℕ). blocks_taken (drop (above + 1 - low) h.writes)) stands.low
 
+  -- the blocks of the records
+  pub widths_beside : widths core.log.held ≡ blocks_taken h.writes
+  widths_beside = taken_by stands.log.held core.log.held (held_same core.log stands.log m stands.ready.ring) stands.ready.whole ∙ ap (λ (ws : List Write). blocks_taken ws) stands.writes
+
   pub free_beside : free_of core.log ≡ core.log.ring - blocks_taken h.writes
   free_beside =
       ap (λ (ks : List Kept). core.log.ring - widths ks) all_held
-      ∙ ap (λ (k : ℕ). core.log.ring - k) (taken_by stands.log.held core.log.held (held_same core.log stands.log m stands.ready.ring) stands.ready.whole
-      ∙ ap (λ (ws : List Write). blocks_taken ws) stands.writes)
+      ∙ ap (λ (k : ℕ). core.log.ring - k) widths_beside

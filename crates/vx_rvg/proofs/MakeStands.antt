@@ -47,6 +47,7 @@ new_stands units kept state ring count P c maps l pending old new placed same ma
       ready = ready;
       low = ap (λ (x : Log). x.header.low) made.is;
       writes = ap writes_of held;
+      place = ap (λ (x : Log). x.header.place) made.is;
       maps = maps_moved (Run units.srl 0 count) P units maps old new moves (λ b mine. placed.maps_apart mine.there) holds.maps_are;
     })
   where

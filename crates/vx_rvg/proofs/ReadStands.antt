@@ -53,6 +53,7 @@ pub rest_stands : (core : Core) (m m' : Meaning) → Goes Nothing m m' → IsFal
 rest_stands core m m' goes up h stands = record {
   log = stands.log;
   low = stands.low;
+  place = stands.place;
   writes = stands.writes;
   maps = record { size = stands.maps.size ∙ sym (goes.size core.units.maps); each = λ b bytes there. keeps_rest m m' goes core.units.maps b bytes (stands.maps.each b bytes there) };
   ready = record {

@@ -128,6 +128,7 @@ module _ (core : Core) (g : Header) (n : ℕ) (low_is : g.low ≡ core.log.heade
       ready = save_ready h.content m s stands.ready sound.placed sound.log_unit few m' P moves leads;
       low = refl;
       writes = rest_are;
+      place = refl;
       maps = maps_moved (Run core.log.unit 0 (core.log.ring + 2)) P core.units h.maps m m' moves (maps_beside core m sound.placed sound.log_unit) stands.maps;
     }
 
@@ -157,6 +158,7 @@ module _ (core : Core) (g : Header) (n : ℕ) (low_is : g.low ≡ core.log.heade
         some = recovers_low core.log.unit core.log.ring i g (drop n s.held) recovers;
         low_is = refl;
         writes_are = rest_are;
+        place_is = refl;
         content = subst (λ (ws : List Write). HasContent core.units.vols h.content ws i) rest_are new_has;
         maps = has_them;
       }

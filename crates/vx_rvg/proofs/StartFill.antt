@@ -17,6 +17,7 @@ use Rattle.vx_overlay.proofs.WriteLemmas.{entries_append, entries_count}
 use Rattle.vx_ringlog.specs.Logs.{State}
 use Rattle.vx_ringlog.specs.Records.{Record, given, write_of}
 use Rattle.vx_ringio.proofs.Following.{rest_tracks}
+use Rattle.vx_ringio.proofs.Seeing.{gave_before}
 use Rattle.vx_srl.specs.Calls.{Agrees, FetchCause, Fetches, NamesBody, update_of}
 use Rattle.vx_srl.specs.Rings.{RingOn}
 use Rattle.vx_srl.specs.Views.{IsOrdered, Log, all_of, widths}
@@ -25,7 +26,7 @@ use Rattle.vx_srl.specs.declared.errors.SrlNo.TheVariants.{NoRoom, Other, Overru
 use Rattle.vx_srl.specs.declared.kept.Kept.{Kept}
 use Rattle.vx_srl.proofs.Shared_S1.{Same, held_same, widths_append}
 use Rattle.vx_rvg.specs.Contents.{writes_of}
-use Rattle.vx_rvg.specs.Fills.{FillCause, IsFilled, logged_by}
+use Rattle.vx_rvg.specs.Fills.{FillCause, IsFilled, NamesOne, logged_by}
 use Rattle.vx_rvg.specs.Groups.{no_of}
 use Rattle.vx_rvg.specs.Stands.{IsWholeRecord}
 use Rattle.vx_rvg.specs.Views.{blocks_within, volume_size}
@@ -204,13 +205,25 @@ module _ (l : Log) (vols : List ℕ) (old mid new : Meaning) (k room : ℕ) (pen
 
 fetch_cause : (l : Log) (n : ℕ) (mid new : Meaning) (why : SrlNo) → FetchCause l mid new why → NamesBody l n mid why → FillCause l mid new (no_of why)
 fetch_cause l n mid new (Other (no.Damaged unit block stored computed)) cause names =
-    (cause.0, cause.1, record { place = n - l.header.low; kept = names.0; there = names.1; at = names.2; stored_is = names.3 }, cause.2)
+    (cause.0, cause.1, record { place = n - l.header.low; kept = names.0; there = names.1; at = names.2; stored_is = names.3; body = names.4 }, cause.2)
 fetch_cause l n mid new (Other why) cause names = cause
 fetch_cause l n mid new (NoRoom need free) cause names = absurd cause
 fetch_cause l n mid new (Overrun low) cause names = absurd cause
 
+names_before : (l : Log) (block : ℕ) (stored computed : List ℕ) (old mid : Meaning) → Goes Nothing old mid → (IsTrue mid.down → ⊥) → NamesOne l block stored computed mid → NamesOne l block stored computed old
+names_before l block stored computed old mid goes up names = record {
+  place = names.place;
+  kept = names.kept;
+  there = names.there;
+  at = names.at;
+  stored_is = names.stored_is;
+  body = λ tells.
+      let sees = names.body (still_tells old mid goes tells) in
+      record { body = sees.body; count = sees.count; gave = gave_before l.unit l.ring old mid (names.kept.place + 1) sees.body goes up sees.gave; computed_is = sees.computed_is };
+}
+
 cause_since : (l : Log) (old mid new : Meaning) → Goes Nothing old mid → (IsTrue mid.down → ⊥) → (why : No) → FillCause l mid new why → FillCause l old new why
-cause_since l old mid new goes up (no.Damaged unit block stored computed) cause = (cause.0, cause.1, cause.2, (λ s on tells. cause.3 s (ring_rests l s old mid goes up on) (still_tells old mid goes tells)))
+cause_since l old mid new goes up (no.Damaged unit block stored computed) cause = (cause.0, cause.1, names_before l block stored computed old mid goes up cause.2, (λ s on tells. cause.3 s (ring_rests l s old mid goes up on) (still_tells old mid goes tells)))
 cause_since l old mid new goes up (no.Device disk) cause = cause_from old mid new (no.Device disk) goes.disk_faults cause
 cause_since l old mid new goes up no.Down cause = cause
 cause_since l old mid new goes up other cause = absurd cause

@@ -27,8 +27,9 @@ use Rattle.vx_ringlog.specs.Records.{Record}
 use Rattle.vx_ringio.specs.Classes.{classes}
 use Rattle.vx_ringio.specs.Reading.{SeesFront}
 use Rattle.vx_ringio.specs.Tracks.{Lies}
+use Rattle.vx_ringio.proofs.Aside.{gave_aside}
 use Rattle.vx_srl.specs.Rings.{RingOn}
-use Rattle.vx_srl.specs.Damages.{SeesFronts, SeesOwner}
+use Rattle.vx_srl.specs.Damages.{SeesBody, SeesFronts, SeesOwner}
 use Rattle.vx_srl.specs.Starts.{IsRaised, LeavesLog, Restarting}
 use Rattle.vx_srl.specs.Starts as srl
 use Rattle.vx_srl.specs.Views.{Log}
@@ -108,6 +109,7 @@ module _ (units : Units) (ring : ℕ) (state : SiteState) (session stamp : ℕ) 
     some = left.some;
     low_is = ap (λ (x : Header). x.low) same ∙ left.low_is;
     writes_are = left.writes_are;
+    place_is = ap (λ (x : Header). x.place) same ∙ left.place_is;
     content = has;
     maps = has_them;
   }
@@ -123,6 +125,7 @@ module _ (units : Units) (ring : ℕ) (state : SiteState) (session stamp : ℕ) 
     some = left.some;
     low_is = ap (λ (x : Header). x.low) is.3 ∙ left.low_is;
     writes_are = left.writes_are;
+    place_is = ap (λ (x : Header). x.place) is.3 ∙ left.place_is;
     content = has;
     maps = has_them;
   }
@@ -192,8 +195,8 @@ module _ (units : Units) (old mid : Meaning) (placed : Placed units old) (moves 
     -- ---- why it is refused
 
     -- the header of the record was read
-    owner : (block : ℕ) (stored : List ℕ) (names : NamesOne l block stored) → SeesFronts units.srl (ring_in units old) l.held old → SeesOwner units.srl (ring_in units old) block stored old
-    owner block stored names fronts = record {
+    abbrev owner : (block : ℕ) (stored computed : List ℕ) (names : NamesOne l block stored computed mid) → SeesFronts units.srl (ring_in units old) l.held old → SeesOwner units.srl (ring_in units old) block stored old
+    owner block stored computed names fronts = record {
       place = names.kept.place;
       head = names.kept.head;
       front = one_of (λ (k : Kept). SeesFront units.srl (block_of (ring_in units old) k.place) old (seen.Record k.head)) l.held names.place names.kept fronts names.there;
@@ -201,11 +204,24 @@ module _ (units : Units) (old mid : Meaning) (placed : Placed units old) (moves 
       stored_is = names.stored_is;
     }
 
+    -- and its body
+    body_there : (block : ℕ) (stored computed : List ℕ) (names : NamesOne l block stored computed mid) → IsTrue mid.tells → SeesBody units.srl (ring_in units old) names.kept.place names.kept.head computed old
+    body_there block stored computed names tells =
+        let sees : SeesBody units.srl (ring_in units old) names.kept.place names.kept.head computed mid
+        = subst (λ (r : ℕ). SeesBody units.srl r names.kept.place names.kept.head computed mid) started.ring_is
+        (subst (λ (u : ℕ). SeesBody u l.ring names.kept.place names.kept.head computed mid) started.unit_is (names.body tells)) in
+        record {
+          body = sees.body;
+          count = sees.count;
+          gave = gave_aside units.srl (ring_in units old) old mid started.ring_reads (names.kept.place + 1) sees.body sees.gave;
+          computed_is = sees.computed_is;
+        }
+
     pub fill_stops : (new : Meaning) (why : No) → FillCause l mid new why → StartCause units old new why
     fill_stops new (no.Damaged unit block stored computed) cause = (
       cause.0 ∙ started.unit_is,
       cause.1,
-      (λ tells. inr (owner block stored cause.2 (started.fronts tells))),
+      (λ tells. inr (inr (owner block stored computed cause.2 (started.fronts tells), body_there block stored computed cause.2 (subst IsTrue (sym moves.tells) tells)))),
       (λ state session stamp h left. cause.3 (stood state session stamp h left).1.0 (stood state session stamp h left).1.1 (told state session stamp h left)),
     )
     fill_stops new (no.Device disk) cause = cause_from old mid new (no.Device disk) moves.disk_faults cause
@@ -317,7 +333,7 @@ module _ (units : Units) (old mid : Meaning) (placed : Placed units old) (moves 
           ap (λ (x : Header). x.state) is_raised.3 ∙ left.state_is,
           omega (arith, ap (λ (x : Header). x.incarnation) is_raised.3, left.session_is),
           omega (arith, ap (λ (x : Header). x.stamp) is_raised.3, left.stamp_most, is_raised.2),
-          record { log = s; ready = ready; low = ap (λ (x : Header). x.low) is_raised.3 ∙ left.low_is; writes = writes_here; maps = maps },
+          record { log = s; ready = ready; low = ap (λ (x : Header). x.low) is_raised.3 ∙ left.low_is; writes = writes_here; place = ap (λ (x : Header). x.place) is_raised.3 ∙ left.place_is; maps = maps },
         )
 
       is_started : IsStarted units old core new
@@ -342,7 +358,7 @@ log_stops units old new no.NoConfig cause = (cause.0, (λ state session stamp h 
 log_stops units old new (no.Damaged unit block stored computed) cause = (
   cause.0,
   cause.1,
-  (λ tells. inl (cause.2 tells)),
+  cause.2,
   (λ state session stamp h left. cause.3 left.header left.records (left_log units (ring_in units old) state session stamp h old left)),
 )
 log_stops units old new (no.Limit what most) cause = (

@@ -205,6 +205,7 @@ module _ (core : Core) (vol start : ℕ) (bytes : List ℕ) (m m' : Meaning) (so
     ready = store_ready core h.content vol start bytes m stands.log stands.ready sound exists blocks emptied within m' (Putting core (write_at vol start bytes) m) store_moves
         (subst (λ (w : ℕ). KeepsAll m' w start bytes) unit_is kept) up;
     low = stands.low;
+    place = stands.place;
     writes = stands.writes;
     maps = maps_moved (Run (unit_of core.units.vols vol) start (blocks_in bytes)) (Putting core (write_at vol start bytes) m) core.units h.maps m m' store_moves maps_aside stands.maps;
   }

@@ -10,7 +10,10 @@ use Rattle.vx_ringlog.specs.Cells as cells
 use Rattle.vx_ringlog.specs.Chain.{Recovers}
 use Rattle.vx_ringlog.specs.Logs.{State, Stage, Seal, Found, done}
 use Rattle.vx_ringlog.specs.Records.{Record}
+use Rattle.vx_disk.specs.Burns.{MakesCalls}
 use Rattle.vx_ringio.specs.Classes.{classes}
+use Rattle.vx_ringio.specs.Spends.{MakesAtLeast}
+use Rattle.vx_ringio.proofs.Spending.{at_least, then_at_least}
 use Rattle.vx_srl.specs.Calls.{LogCause, Stages, Seals, sealing, staged_with, staging}
 use Rattle.vx_disk.specs.Causes.{DeviceCause}
 use Rattle.vx_srl.specs.Rings.{Finding, Goes, LeadsTo}
@@ -132,3 +135,12 @@ module _ (l : Log) (vol start : ℕ) (bytes : List ℕ) (old mid new : Meaning) 
 
   pub both_lead : (0 < length l1.staged → LeadsTo l1 sealing l' mid new) → LogsTo l vol start bytes l' old new
   both_lead two = seal_leads l vol start bytes old mid new l' staged_leads (subst (λ (x : Log). LeadsTo x sealing l' mid new) stages.1 (two one_staged))
+
+-- ---- the calls on the shelf
+
+-- of one record: one at least for its blocks, and three to seal it
+pub least_four : (l l' : Log) (k : Kept) (m mid m' : Meaning) → l.staged ≡ [] → l' ≡ staged_with l k → MakesAtLeast 1 m mid → (0 < length l'.staged → MakesCalls (length l'.staged + 2) mid m') → MakesAtLeast 4 m m'
+least_four l l' k m mid m' idle is one seals =
+    let count : length l'.staged ≡ 1 = ap (λ (x : Log). length x.staged) is ∙ ap (λ (ks : List Kept). length (ks ++ k ∷ [])) idle in
+    let three : MakesCalls 3 mid m' = subst (λ (n : ℕ). MakesCalls (n + 2) mid m') count (seals (omega (arith, count))) in
+    then_at_least 1 3 m mid m' one (at_least 3 mid m' three)

@@ -158,13 +158,14 @@ module _ (core : Core) (vol start : ℕ) (bytes : List ℕ) (m : Meaning) (place
           some = omega (arith, recovers_low core.log.unit core.log.ring i s.header (s.held ++ its_record ∷ []) recovers, ap (λ (g : Header). g.low) header, stands.low);
           low_is = ap (λ (g : Header). g.low) header ∙ stands.low;
           writes_are = writes_more_are;
+          place_is = ap (λ (g : Header). g.place) header ∙ stands.place;
           content = more;
           maps = maps;
         }
 
     found_before : Recovers core.log.ring (classes core.log.unit core.log.ring i) s.header s.held → FoundAs core i (with_writes [] h)
     found_before recovers =
-        subst (λ (ws : List Write). FoundAs core i (record { low = h.low; writes = ws; content = h.content; maps = h.maps })) (sym (append-nil h.writes))
+        subst (λ (ws : List Write). FoundAs core i (record { low = h.low; writes = ws; place = h.place; content = h.content; maps = h.maps })) (sym (append-nil h.writes))
         (found_as core h m i unit_is stands recovers has maps)
 
     -- an image in the call has what the group held, or the write too
@@ -178,6 +179,7 @@ module _ (core : Core) (vol start : ℕ) (bytes : List ℕ) (m : Meaning) (place
     ready = write_ready core h.content vol start bytes m s stands.ready placed unit_is exists blocks within m' moves (omega (arith, few, held_length core.log s m stands.ready.ring)) leads;
     low = stands.low;
     writes = ap (λ (rs : List Record). writes_of (s.held ++ (rs ++ its_record ∷ []))) stands.ready.idle ∙ writes_more_are;
+    place = stands.place;
     maps = maps_moved (Run core.log.unit 0 (core.log.ring + 2)) (LogFound core.log vol start bytes m) core.units h.maps m m' moves (maps_beside core m placed unit_is) stands.maps;
   }
 

@@ -9,6 +9,8 @@ pub record Holding : Type 0 where
   -- the number of the first write that the log has, or would have, and the writes from it on
   pub low : ℕ
   pub writes : List Write
+  -- where the first of them begins in the ring of the log, or the next write where there is none
+  pub place : ℕ
   -- the volumes with all of them
   pub content : Content
   -- the blocks of the map unit
@@ -16,23 +18,23 @@ pub record Holding : Type 0 where
 
 -- that of a new group
 abbrev pub nothing_logged : Content → List (List ℕ) → Holding
-nothing_logged c maps = record { low = 1; writes = []; content = c; maps = maps }
+nothing_logged c maps = record { low = 1; writes = []; place = 0; content = c; maps = maps }
 
 -- with these writes behind the others
 abbrev pub with_writes : List Write → Holding → Holding
-with_writes xs h = record { low = h.low; writes = h.writes ++ xs; content = fold_writes h.content xs; maps = h.maps }
+with_writes xs h = record { low = h.low; writes = h.writes ++ xs; place = h.place; content = fold_writes h.content xs; maps = h.maps }
 
 -- with another content
 abbrev pub with_content : Content → Holding → Holding
-with_content c h = record { low = h.low; writes = h.writes; content = c; maps = h.maps }
+with_content c h = record { low = h.low; writes = h.writes; place = h.place; content = c; maps = h.maps }
 
--- with so many of the writes, the last ones, of which the first has this number
-abbrev pub with_last : ℕ → ℕ → Holding → Holding
-with_last low count h = record { low = low; writes = drop (length h.writes - count) h.writes; content = h.content; maps = h.maps }
+-- with so many of the writes, the last ones, of which the first has this number and place
+abbrev pub with_last : ℕ → ℕ → ℕ → Holding → Holding
+with_last low place count h = record { low = low; writes = drop (length h.writes - count) h.writes; place = place; content = h.content; maps = h.maps }
 
 -- what a group still has of it, whose log gave up writes
 abbrev pub kept_in : Core → Holding → Holding
-kept_in core h = with_last core.log.header.low (length core.log.held) h
+kept_in core h = with_last core.log.header.low core.log.header.place (length core.log.held) h
 
 -- so many blocks of the ring are taken by these writes
 abbrev pub blocks_taken : List Write → ℕ

@@ -55,10 +55,11 @@ pub record Stands (core : Core) (h : Holding) (m : Meaning) : Type 0 where
   pub ready : Ready core h.content log m
   pub low : core.log.header.low ≡ h.low
   pub writes : writes_of log.held ≡ h.writes
+  pub place : core.log.header.place ≡ h.place
   pub maps : KeepsMaps core.units h.maps m
 
--- An image has a log of this state and session, with a stamp up to this one, that has these writes from the first number on and no
--- other; the content with them; and the maps.
+-- An image has a log of this state and session, with a stamp up to this one, that has these writes from the first number and the first
+-- place on and no other; the content with them; and the maps.
 pub record Found (units : Units) (ring : ℕ) (state : SiteState) (session stamp : ℕ) (i : Image) (h : Holding) : Type 0 where
   pub header : Header
   pub records : List Record
@@ -69,6 +70,7 @@ pub record Found (units : Units) (ring : ℕ) (state : SiteState) (session stamp
   pub some : 0 < h.low
   pub low_is : header.low ≡ h.low
   pub writes_are : writes_of records ≡ h.writes
+  pub place_is : header.place ≡ h.place
   pub content : HasContent units.vols h.content h.writes i
   pub maps : HasMaps units h.maps i
 
@@ -96,8 +98,8 @@ pub record Retains (core after : Core) (old new : Meaning) : Type 0 where
 pub record Saving (core after : Core) (m : Meaning) (i : Image) : Type 0 where
   pub each : (h : Holding) → Stands core h m → FoundAs core i h ⊎ FoundAs after i (kept_in after h)
 
--- Whatever a crash left, it is one log, of this state and session, that has these writes from the first number on and no other; the
--- content with them; and the maps.
+-- Whatever a crash left, it is one log, of this state and session, that has these writes from the first number and the first place on
+-- and no other; the content with them; and the maps.
 pub record Left (units : Units) (ring : ℕ) (state : SiteState) (session stamp : ℕ) (h : Holding) (m : Meaning) : Type 0 where
   pub header : Header
   pub records : List Record
@@ -110,6 +112,7 @@ pub record Left (units : Units) (ring : ℕ) (state : SiteState) (session stamp 
   pub some : 0 < h.low
   pub low_is : header.low ≡ h.low
   pub writes_are : writes_of records ≡ h.writes
+  pub place_is : header.place ≡ h.place
   pub sizes : HasSizes units.vols h.content m
   pub content : KeepsContent units.vols h.content h.writes m
   pub maps : KeepsMaps units h.maps m

@@ -11,7 +11,7 @@ use Rattle.vx_model.specs.declared.units.Units.{Units}
 use Rattle.vx_disk.specs.Shelf.{Meaning, Image}
 use Rattle.vx_overlay.specs.Pending.{Pending}
 use Rattle.vx_disk.specs.Causes.{DeviceCause}
-use Rattle.vx_srl.specs.Damages.{HasDamage, SeesOwner}
+use Rattle.vx_srl.specs.Damages.{HasDamage}
 use Rattle.vx_srl.specs.Starts.{NoHeader}
 use Rattle.vx_srl.specs.Views.{most_number}
 use Rattle.vx_rvg.specs.Holdings.{Holding}
@@ -40,13 +40,12 @@ pub record Starting (units : Units) (m : Meaning) (i : Image) : Type 0 where
 abbrev pub NothingLeft : Units → Meaning → Type 0
 NothingLeft units m = (state : SiteState) (session stamp : ℕ) (h : Holding) → Left units (ring_in units m) state session stamp h m → ⊥
 
--- Why a start is refused: nothing is a header; a block is damaged, or the body of a record that was taken, which was read once more; a
--- number would go past its limit; or a device call failed.
+-- why a start is refused: nothing is a header; a block is damaged; a number would go past its limit; or a device call failed
 abbrev pub StartCause : Units → Meaning → Meaning → No → Type 0
 StartCause units old new NoConfig = (IsTrue old.tells → NoHeader units.srl (ring_in units old) old) × NothingLeft units old
 StartCause units old new (Damaged unit block stored computed) =
     (unit ≡ units.srl) × (stored ≡ computed → ⊥)
-    × (IsTrue old.tells → HasDamage units.srl (ring_in units old) block stored computed old ⊎ SeesOwner units.srl (ring_in units old) block stored old)
+    × (IsTrue old.tells → HasDamage units.srl (ring_in units old) block stored computed old)
     × NothingLeft units old
 StartCause units old new (Limit what most) = (what ≡ Number) × (most ≡ most_number)
     × ((state : SiteState) (session stamp : ℕ) (h : Holding) → Left units (ring_in units old) state session stamp h old → (most_number ≤ stamp + 2) ⊎ (most_number ≤ session))

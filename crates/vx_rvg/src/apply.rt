@@ -1,6 +1,7 @@
 // The bringing of logged writes into their volumes.
 ghost use Rattle.std.specs.Prelude.{◌≡◌, ◌+◌, ◌<◌, ◌≤◌, length, Some, None, IsTrue, IsFalse, IfOk, OnOk, IsSome};
 ghost use Rattle.vx_disk.specs.Moves.{Moves, Anything, Nowhere};
+ghost use Rattle.vx_ringio.specs.Spends.{Spends};
 ghost use Rattle.vx_rvg.specs.Brings.{Brings, BringsOne, VolumesFlushed};
 ghost use Rattle.vx_rvg.specs.Groups.{unless_halted, ApplyIs};
 ghost use Rattle.vx_rvg.specs.Stands.{Resting, Rests};
@@ -21,6 +22,7 @@ fn bring_one<S: Shelf>(shelf: &mut S, core: &RvgCore, n: u64) -> Result<u64, She
     ensures brings { IfOk result (BringsOne core.now n (S.meaning shelf.old) (S.meaning shelf.new)) }
     ensures moves { Moves (Waits core.now (S.meaning shelf.old)) Anything (S.meaning shelf.old) (S.meaning shelf.new) }
     ensures stopped { Stopped (S.meaning shelf.old) (S.meaning shelf.new) result }
+    ensures spends { Spends (S.meaning shelf.old) (S.meaning shelf.new) }
 {
     // A log bounds the blocks of its records by its ring.
     let _ring = core.srl.ring();
@@ -47,6 +49,7 @@ fn flush_volumes<S: Shelf>(shelf: &mut S, core: &RvgCore) -> Result<(), ShelfErr
     ensures flushed { OnOk result (VolumesFlushed core.now.units.vols (S.meaning shelf.old) (S.meaning shelf.new)) }
     ensures moves { Moves Nowhere Anything (S.meaning shelf.old) (S.meaning shelf.new) }
     ensures stopped { Stopped (S.meaning shelf.old) (S.meaning shelf.new) result }
+    ensures spends { Spends (S.meaning shelf.old) (S.meaning shelf.new) }
 {
     for vol in 0..core.volumes() {
         shelf.flush(core.unit(vol))?;
@@ -63,6 +66,7 @@ fn bring<S: Shelf>(shelf: &mut S, core: &RvgCore, to: u64) -> Result<u64, ShelfE
     ensures brings { IfOk result (Brings core.now to (S.meaning shelf.old) (S.meaning shelf.new)) }
     ensures moves { Moves (Waits core.now (S.meaning shelf.old)) Anything (S.meaning shelf.old) (S.meaning shelf.new) }
     ensures stopped { Stopped (S.meaning shelf.old) (S.meaning shelf.new) result }
+    ensures spends { Spends (S.meaning shelf.old) (S.meaning shelf.new) }
 {
     // A log bounds the blocks of its records by its ring.
     let _ring = core.srl.ring();
@@ -83,6 +87,7 @@ pub(crate) fn apply_to<S: Shelf>(shelf: &mut S, core: &mut RvgCore, count: u64) 
     ensures sound { IsSound core.new (S.meaning shelf.new) }
     ensures stands { OnOk result (Rests core.old core.new (S.meaning shelf.old) (S.meaning shelf.new)) }
     ensures moves { Moves (Waits core.old (S.meaning shelf.old)) (Resting core.old (S.meaning shelf.old)) (S.meaning shelf.old) (S.meaning shelf.new) }
+    ensures spends { Spends (S.meaning shelf.old) (S.meaning shelf.new) }
 {
     if let Some(disk) = core.halted {
         return Err(No::Halted { disk });
@@ -119,6 +124,7 @@ impl<S: Shelf> Rvg<S> {
         ensures nothing { count ≤ self.old.core.applied → self.new.shelf ≡ self.old.shelf }
         ensures stands { OnOk result (Rests self.old.core self.new.core (S.meaning self.old.shelf) (S.meaning self.new.shelf)) }
         ensures moves { Moves (Waits self.old.core (S.meaning self.old.shelf)) (Resting self.old.core (S.meaning self.old.shelf)) (S.meaning self.old.shelf) (S.meaning self.new.shelf) }
+        ensures spends { Spends (S.meaning self.old.shelf) (S.meaning self.new.shelf) }
     {
         apply_to(&mut self.shelf, &mut self.core, count)
     }

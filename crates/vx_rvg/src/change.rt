@@ -1,6 +1,7 @@
 // The change of the state, and the emptying of the log.
 ghost use Rattle.std.specs.Prelude.{◌≡◌, ◌+◌, ◌<◌, ◌≤◌, ℕ, Some, None, Ok, Err, OnOk, IsSome, true};
 ghost use Rattle.vx_disk.specs.Moves.{Moves, Run, Union};
+ghost use Rattle.vx_ringio.specs.Spends.{Spends};
 ghost use Rattle.vx_rvg.specs.Groups.{Fails};
 ghost use Rattle.vx_rvg.specs.Saves.{restart_refusal, with_restart, Empties, RestartIs, refusal_of_change, changed, ChangeIs, change_blocks};
 ghost use Rattle.vx_rvg.specs.Stands.{Saving, Retains};
@@ -27,6 +28,7 @@ fn empty<S: Shelf>(shelf: &mut S, core: &mut RvgCore, state: &State, head: u64) 
     ensures sound { IsSound core.new (S.meaning shelf.new) }
     ensures stands { OnOk result (Retains core.old core.new (S.meaning shelf.old) (S.meaning shelf.new)) }
     ensures moves { Moves (Run core.old.units.srl 0 (core.old.log.ring + 2)) (Saving core.old (with_restart core.old state.now head) (S.meaning shelf.old)) (S.meaning shelf.old) (S.meaning shelf.new) }
+    ensures spends { Spends (S.meaning shelf.old) (S.meaning shelf.new) }
 {
     // Numbers begin at 1.
     let _low = core.srl.low();
@@ -54,6 +56,7 @@ fn restart<S: Shelf>(shelf: &mut S, core: &mut RvgCore, state: &State, head: u64
     ensures stands { OnOk result (Retains core.old core.new (S.meaning shelf.old) (S.meaning shelf.new)) }
     ensures moves { Moves (Union (Waits core.old (S.meaning shelf.old)) (Run core.old.units.srl 0 (core.old.log.ring + 2)))
         (Saving core.old (with_restart core.old state.now head) (S.meaning shelf.old)) (S.meaning shelf.old) (S.meaning shelf.new) }
+    ensures spends { Spends (S.meaning shelf.old) (S.meaning shelf.new) }
 {
     if let Some(disk) = core.halted {
         return Err(No::Halted { disk });
@@ -87,6 +90,7 @@ impl<S: Shelf> Rvg<S> {
         ensures stands { OnOk result (Retains self.old.core self.new.core (S.meaning self.old.shelf) (S.meaning self.new.shelf)) }
         ensures moves { Moves (change_blocks restart self.old.core (S.meaning self.old.shelf))
             (Saving self.old.core (changed self.old.core state.now restart) (S.meaning self.old.shelf)) (S.meaning self.old.shelf) (S.meaning self.new.shelf) }
+        ensures spends { Spends (S.meaning self.old.shelf) (S.meaning self.new.shelf) }
     {
         match restart {
             None => self.set_state(state),

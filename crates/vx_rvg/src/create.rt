@@ -5,6 +5,7 @@ ghost use Rattle.vx_model.specs.Content.{Content};
 ghost use Rattle.vx_model.specs.Sizes.{ring_of};
 ghost use Rattle.vx_model.specs.declared.errors.Stop.TheVariants.{No as Refused};
 ghost use Rattle.vx_model.specs.declared.no.No.TheVariants.{Size};
+ghost use Rattle.vx_ringio.specs.Spends.{Spends};
 ghost use Rattle.vx_rvg.specs.Groups.{new_core, MakeCause};
 ghost use Rattle.vx_rvg.specs.Holdings.{nothing_logged};
 ghost use Rattle.vx_rvg.specs.Stands.{Holds, Stands};
@@ -14,6 +15,7 @@ ghost use Rattle.vx_srlfmt.specs.Headers.{CanSpellState};
 use crate::{Rvg, RvgCore};
 use std::alloc::Global;
 use vx_disk::Shelf;
+use vx_model::limits::LEAST_BLOCKS;
 use vx_model::{No, State, Stop, Units};
 use vx_overlay::Overlay;
 use vx_srl::Srl;
@@ -31,17 +33,19 @@ impl<S: Shelf> Rvg<S> {
     ) -> Result<Rvg<S>, (S, Stop)>
         requires placed { Placed units.now (S.meaning shelf) }
         requires state { CanSpellState state.now }
-        ensures small { (S.meaning shelf).size units.now.srl < 8 → result ≡ Err (shelf, Refused Size) }
+        ensures small { (S.meaning shelf).size units.now.srl < LEAST_BLOCKS → result ≡ Err (shelf, Refused Size) }
         ensures core { IfOk result (λ g. g.core ≡ new_core units.now state.now (ring_of ((S.meaning shelf).size units.now.srl))) }
         ensures stands { IfOk result (λ g. IsTrue (S.meaning shelf).tells → (c : Content) (maps : List (List ℕ)) → Holds units.now c maps (S.meaning shelf) → Stands g.core (nothing_logged c maps) (S.meaning g.shelf)) }
         ensures up { IfOk result (λ g. IsTrue (S.meaning g.shelf).down → ⊥) }
         ensures moves { IfOk result (λ g. Moves (Run units.now.srl 0 (ring_of ((S.meaning shelf).size units.now.srl) + 2)) Anything (S.meaning shelf) (S.meaning g.shelf)) }
-        ensures cause { 8 ≤ (S.meaning shelf).size units.now.srl → IfErr result (λ e. MakeCause (S.meaning shelf) (S.meaning e.0) e.1) }
+        ensures cause { LEAST_BLOCKS ≤ (S.meaning shelf).size units.now.srl → IfErr result (λ e. MakeCause (S.meaning shelf) (S.meaning e.0) e.1) }
         ensures left { IfErr result (λ e. Moves (Run units.now.srl 0 (ring_of ((S.meaning shelf).size units.now.srl) + 2)) Anything (S.meaning shelf) (S.meaning e.0)) }
+        ensures spends { IfOk result (λ g. Spends (S.meaning shelf) (S.meaning g.shelf)) }
+        ensures spent { IfErr result (λ e. Spends (S.meaning shelf) (S.meaning e.0)) }
     {
         let mut shelf = shelf;
         let blocks = shelf.size(units.srl);
-        if blocks < 8 {
+        if blocks < LEAST_BLOCKS {
             return Err((shelf, Stop::No(No::Size)));
         }
         let room = blocks.min(65536) - 2;

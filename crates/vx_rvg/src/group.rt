@@ -7,6 +7,7 @@ ghost use Rattle.vx_disk.specs.Shelf.{Goes, Nothing};
 ghost use Rattle.vx_model.specs.Content.{Write, blocks_in};
 ghost use Rattle.vx_ringio.specs.Bodies.{IsBlocks};
 ghost use Rattle.vx_disk.specs.Burns.{FallsShort, MakesCalls};
+ghost use Rattle.vx_ringio.specs.Spends.{MakesAtLeast, Spends};
 ghost use Rattle.vx_rvg.specs.Contents.{Shows};
 ghost use Rattle.vx_rvg.specs.Groups.{write_refusal, read_refusal, WriteIs, ReadIs};
 ghost use Rattle.vx_rvg.specs.Holdings.{Holding, blocks_taken, with_writes};
@@ -53,6 +54,8 @@ impl<S: Shelf> Rvg<S> {
             (Writing self.old.core (record { volume = vol; start = start; bytes = bytes.now } ∷ []) (S.meaning self.old.shelf)) (S.meaning self.old.shelf) (S.meaning self.new.shelf) }
         ensures calls { OnOk result (BodyFits self.old.core.log bytes.now → MakesCalls 4 (S.meaning self.old.shelf) (S.meaning self.new.shelf)) }
         ensures short { BodyFits self.old.core.log bytes.now → FallsShort 4 (S.meaning self.old.shelf) (S.meaning self.new.shelf) }
+        ensures least { OnOk result (MakesAtLeast 4 (S.meaning self.old.shelf) (S.meaning self.new.shelf)) }
+        ensures spends { Spends (S.meaning self.old.shelf) (S.meaning self.new.shelf) }
     {
         let unit = self.core.unit(vol);
         let size = self.shelf.size(unit);
@@ -86,6 +89,7 @@ impl<S: Shelf> Rvg<S> {
         ensures goes { Goes Nothing (S.meaning self.old.shelf) (S.meaning self.new.shelf) }
         ensures down { (S.meaning self.new.shelf).down ≡ (S.meaning self.old.shelf).down }
         ensures disks { OnDisks (S.meaning self.old.shelf).disks (S.meaning self.new.shelf).disks Untouched }
+        ensures spends { Spends (S.meaning self.old.shelf) (S.meaning self.new.shelf) }
     {
         let unit = self.core.unit(vol);
         let size = self.shelf.size(unit);

@@ -5,6 +5,7 @@ ghost use Rattle.vx_disk.specs.Disks.{Untouched};
 ghost use Rattle.vx_disk.specs.Moves.{Moves, Run};
 ghost use Rattle.vx_disk.specs.Shelf.{Goes, Nothing};
 ghost use Rattle.vx_model.specs.declared.no.No.TheVariants.{Halted};
+ghost use Rattle.vx_ringio.specs.Spends.{Spends};
 ghost use Rattle.vx_rvg.specs.Saves.{reclaim_refusal, reclaimed, change_refusal, with_new_state, SaveIs};
 ghost use Rattle.vx_rvg.specs.Holdings.{Holding};
 ghost use Rattle.vx_rvg.specs.Stands.{Gives, Stands, Saving, Retains};
@@ -29,6 +30,7 @@ pub(crate) fn give_up<S: Shelf>(shelf: &mut S, core: &mut RvgCore, to: u64) -> R
     ensures stands { OnOk result (Retains core.old core.new (S.meaning shelf.old) (S.meaning shelf.new)) }
     ensures moves { Moves (Run core.old.units.srl 0 (core.old.log.ring + 2))
         (Saving core.old (reclaimed core.old to) (S.meaning shelf.old)) (S.meaning shelf.old) (S.meaning shelf.new) }
+    ensures spends { Spends (S.meaning shelf.old) (S.meaning shelf.new) }
 {
     if let Some(disk) = core.halted {
         return Err(No::Halted { disk });
@@ -57,6 +59,7 @@ impl<S: Shelf> Rvg<S> {
         ensures stands { OnOk result (Retains self.old.core self.new.core (S.meaning self.old.shelf) (S.meaning self.new.shelf)) }
         ensures moves { Moves (Run self.old.core.units.srl 0 (self.old.core.log.ring + 2))
             (Saving self.old.core (reclaimed self.old.core to) (S.meaning self.old.shelf)) (S.meaning self.old.shelf) (S.meaning self.new.shelf) }
+        ensures spends { Spends (S.meaning self.old.shelf) (S.meaning self.new.shelf) }
     {
         give_up(&mut self.shelf, &mut self.core, to)
     }
@@ -73,6 +76,7 @@ impl<S: Shelf> Rvg<S> {
         ensures stands { OnOk result (Retains self.old.core self.new.core (S.meaning self.old.shelf) (S.meaning self.new.shelf)) }
         ensures moves { Moves (Run self.old.core.units.srl 0 (self.old.core.log.ring + 2))
             (Saving self.old.core (with_new_state self.old.core state.now) (S.meaning self.old.shelf)) (S.meaning self.old.shelf) (S.meaning self.new.shelf) }
+        ensures spends { Spends (S.meaning self.old.shelf) (S.meaning self.new.shelf) }
     {
         if let Some(disk) = self.core.halted {
             return Err(No::Halted { disk });
@@ -106,6 +110,7 @@ impl<S: Shelf> Rvg<S> {
         ensures goes { Goes Nothing (S.meaning self.old.shelf) (S.meaning self.new.shelf) }
         ensures down { (S.meaning self.new.shelf).down ≡ (S.meaning self.old.shelf).down }
         ensures disks { OnDisks (S.meaning self.old.shelf).disks (S.meaning self.new.shelf).disks Untouched }
+        ensures spends { Spends (S.meaning self.old.shelf) (S.meaning self.new.shelf) }
     {
         if let Some(disk) = self.core.halted {
             return Err(SrlNo::Other(No::Halted { disk }));

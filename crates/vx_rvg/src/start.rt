@@ -5,6 +5,7 @@ ghost use Rattle.vx_disk.specs.Shelf.{Goes, Nothing};
 ghost use Rattle.vx_model.specs.Content.{blocks_in};
 ghost use Rattle.vx_model.specs.Sizes.{ring_of};
 ghost use Rattle.vx_overlay.specs.Writes.{entries_of};
+ghost use Rattle.vx_ringio.specs.Spends.{Spends};
 ghost use Rattle.vx_ringio.specs.Tracks.{Lies};
 ghost use Rattle.vx_rvg.specs.Fills.{FillCause, IsFilled, logged_by};
 ghost use Rattle.vx_rvg.specs.Starts.{Starting, IsStarted, StartCause, StartStop, ring_in};
@@ -17,6 +18,7 @@ use crate::{Rvg, RvgCore};
 use std::alloc::Global;
 use std::marker::Model;
 use vx_disk::Shelf;
+use vx_model::limits::LEAST_BLOCKS;
 use vx_model::{Blocks, Line, No, OutOfMemory, Stop, Units, Update};
 use vx_overlay::Overlay;
 use vx_srl::{LogRoom, Srl};
@@ -52,6 +54,7 @@ fn fill<S: Shelf>(shelf: &mut S, srl: &Srl, units: &Units, pending: &mut Overlay
     ensures up { OnOk result (IsTrue (S.meaning shelf.new).down → ⊥) }
     ensures cause { IfErr result (λ why. FillCause srl.now (S.meaning shelf.old) (S.meaning shelf.new) why) }
     ensures goes { Goes Nothing (S.meaning shelf.old) (S.meaning shelf.new) }
+    ensures spends { Spends (S.meaning shelf.old) (S.meaning shelf.new) }
 {
     // The ring has room for all that is held.
     let _ring = srl.ring();
@@ -92,7 +95,7 @@ impl Model for StartRoom {
 impl StartRoom {
     /// For a log whose unit has so many blocks.
     pub fn new(alloc: Global, blocks: u64) -> Result<StartRoom, OutOfMemory>
-        requires { 8 ≤ blocks }
+        requires { LEAST_BLOCKS ≤ blocks }
         ensures { IfOk result (λ room. room.ring ≡ ring_of blocks) }
     {
         let log = LogRoom::new(alloc, blocks)?;
@@ -117,7 +120,7 @@ impl<S: Shelf> Rvg<S> {
     /// it refuses, the shelf comes back, and has what it had but for the headers of the log.
     pub fn start_in(room: StartRoom, shelf: S, units: &Units) -> Result<Rvg<S>, (S, No)>
         requires placed { Placed units.now (S.meaning shelf) }
-        requires large { 8 ≤ (S.meaning shelf).size units.now.srl }
+        requires large { LEAST_BLOCKS ≤ (S.meaning shelf).size units.now.srl }
         requires room { room.ring ≡ ring_in units.now (S.meaning shelf) }
         ensures starts { IfOk result (λ g. IsStarted units.now (S.meaning shelf) g.core (S.meaning g.shelf)) }
         ensures up { IfOk result (λ g. IsTrue (S.meaning g.shelf).down → ⊥) }
@@ -125,6 +128,8 @@ impl<S: Shelf> Rvg<S> {
         ensures cause { IfErr result (λ e. StartCause units.now (S.meaning shelf) (S.meaning e.0) e.1) }
         ensures limit { IfErr result (λ e. ReadsAtLimit (S.meaning shelf) (S.meaning e.0) e.1) }
         ensures left { IfErr result (λ e. Moves (Run units.now.srl 0 (ring_in units.now (S.meaning shelf) + 2)) (Starting units.now (S.meaning shelf)) (S.meaning shelf) (S.meaning e.0)) }
+        ensures spends { IfOk result (λ g. Spends (S.meaning shelf) (S.meaning g.shelf)) }
+        ensures spent { IfErr result (λ e. Spends (S.meaning shelf) (S.meaning e.0)) }
     {
         let mut shelf = shelf;
         let StartRoom { log, mut pending } = room;
@@ -151,13 +156,15 @@ impl<S: Shelf> Rvg<S> {
     /// The same, or want of memory, which changes nothing.
     pub fn start(alloc: Global, shelf: S, units: &Units) -> Result<Rvg<S>, (S, Stop)>
         requires placed { Placed units.now (S.meaning shelf) }
-        requires large { 8 ≤ (S.meaning shelf).size units.now.srl }
+        requires large { LEAST_BLOCKS ≤ (S.meaning shelf).size units.now.srl }
         ensures starts { IfOk result (λ g. IsStarted units.now (S.meaning shelf) g.core (S.meaning g.shelf)) }
         ensures up { IfOk result (λ g. IsTrue (S.meaning g.shelf).down → ⊥) }
         ensures moves { IfOk result (λ g. Moves (Run units.now.srl 0 (ring_in units.now (S.meaning shelf) + 2)) (Starting units.now (S.meaning shelf)) (S.meaning shelf) (S.meaning g.shelf)) }
         ensures cause { IfErr result (λ e. StartStop units.now (S.meaning shelf) (S.meaning e.0) e.1) }
         ensures limit { IfErr result (λ e. StopReadsAtLimit (S.meaning shelf) (S.meaning e.0) e.1) }
         ensures left { IfErr result (λ e. Moves (Run units.now.srl 0 (ring_in units.now (S.meaning shelf) + 2)) (Starting units.now (S.meaning shelf)) (S.meaning shelf) (S.meaning e.0)) }
+        ensures spends { IfOk result (λ g. Spends (S.meaning shelf) (S.meaning g.shelf)) }
+        ensures spent { IfErr result (λ e. Spends (S.meaning shelf) (S.meaning e.0)) }
     {
         let Ok(room) = StartRoom::new(alloc, shelf.size(units.srl)) else {
             return Err((shelf, Stop::OutOfMemory));

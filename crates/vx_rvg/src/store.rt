@@ -1,15 +1,35 @@
 // The putting of blocks into a volume without the log.
 ghost use Rattle.std.specs.Prelude.{◌≡◌, ◌+◌, ◌<◌, ◌≤◌, length, None, IsTrue, OnOk, IsSome};
+ghost use Rattle.vx_disk.specs.Causes.{Cause};
 ghost use Rattle.vx_disk.specs.Moves.{Moves, Run};
+ghost use Rattle.vx_disk.specs.Shelf.{Fits, Goes, KeepsAll, Written};
 ghost use Rattle.vx_model.specs.Content.{blocks_in};
+ghost use Rattle.vx_ringio.specs.Spends.{Spends};
 ghost use Rattle.vx_rvg.specs.Saves.{reclaim_refusal};
 ghost use Rattle.vx_rvg.specs.Stores.{AreBlocks, Puts, PutsInto, Putting, StoreIs, StoresInto, Storing, store_blocks, store_refusal};
 ghost use Rattle.vx_rvg.specs.Views.{IsSound, last_of, unit_of, volume_size};
 
 use crate::header::give_up;
 use crate::{Rvg, RvgCore};
-use vx_disk::{Shelf, put, refusal};
+use vx_disk::{Shelf, ShelfError, refusal};
 use vx_model::No;
+
+// Writes the blocks, and makes them durable.
+fn put_durably<S: Shelf>(
+    shelf: &mut S,
+    unit: u32,
+    start: u64,
+    bytes: &[u8],
+) -> Result<(), ShelfError>
+    requires { Fits (S.meaning shelf.old) unit start (length bytes.now) }
+    ensures goes { Goes (Written unit start bytes.now) (S.meaning shelf.old) (S.meaning shelf.new) }
+    ensures kept { OnOk result (KeepsAll (S.meaning shelf.new) unit start bytes.now) }
+    ensures cause { Cause (S.meaning shelf.old) (S.meaning shelf.new) unit result }
+    ensures spends { Spends (S.meaning shelf.old) (S.meaning shelf.new) }
+{
+    shelf.write(unit, start, bytes)?;
+    shelf.flush(unit)
+}
 
 // Puts the blocks, durably, where the log holds no record. A device call that fails halts the group.
 fn put_blocks<S: Shelf>(
@@ -29,8 +49,9 @@ fn put_blocks<S: Shelf>(
     ensures stands { OnOk result (PutsInto core.old core.new (record { volume = vol; start = start; bytes = bytes.now }) (S.meaning shelf.old) (S.meaning shelf.new)) }
     ensures moves { Moves (Run (unit_of core.old.units.vols vol) start (blocks_in bytes.now))
         (Putting core.old (record { volume = vol; start = start; bytes = bytes.now }) (S.meaning shelf.old)) (S.meaning shelf.old) (S.meaning shelf.new) }
+    ensures spends { Spends (S.meaning shelf.old) (S.meaning shelf.new) }
 {
-    match put(shelf, core.unit(vol), start, bytes) {
+    match put_durably(shelf, core.unit(vol), start, bytes) {
         Ok(()) => Ok(()),
         Err(error) => {
             let no = refusal(error);
@@ -60,6 +81,7 @@ fn store_applied<S: Shelf>(
     ensures stands { OnOk result (StoresInto core.old core.new (record { volume = vol; start = start; bytes = bytes.now }) (S.meaning shelf.old) (S.meaning shelf.new)) }
     ensures moves { Moves (store_blocks core.old vol start (blocks_in bytes.now))
         (Storing core.old (record { volume = vol; start = start; bytes = bytes.now }) (S.meaning shelf.old)) (S.meaning shelf.old) (S.meaning shelf.new) }
+    ensures spends { Spends (S.meaning shelf.old) (S.meaning shelf.new) }
 {
     let last = core.srl.head();
     if last < core.srl.low() {
@@ -89,6 +111,7 @@ impl<S: Shelf> Rvg<S> {
         ensures stands { OnOk result (StoresInto self.old.core self.new.core (record { volume = vol; start = start; bytes = bytes.now }) (S.meaning self.old.shelf) (S.meaning self.new.shelf)) }
         ensures moves { Moves (store_blocks self.old.core vol start (blocks_in bytes.now))
             (Storing self.old.core (record { volume = vol; start = start; bytes = bytes.now }) (S.meaning self.old.shelf)) (S.meaning self.old.shelf) (S.meaning self.new.shelf) }
+        ensures spends { Spends (S.meaning self.old.shelf) (S.meaning self.new.shelf) }
     {
         let unit = self.core.unit(vol);
         let size = self.shelf.size(unit);

@@ -4,6 +4,7 @@ ghost use Rattle.vx_disk.specs.Moves.{Moves, Run};
 ghost use Rattle.vx_model.specs.Content.{Write, blocks_in};
 ghost use Rattle.vx_ringio.specs.Bodies.{IsBlocks};
 ghost use Rattle.vx_disk.specs.Burns.{FallsShort, MakesCalls};
+ghost use Rattle.vx_ringio.specs.Spends.{MakesAtLeast, Spends};
 ghost use Rattle.vx_ringio.specs.Tracks.{Lies};
 ghost use Rattle.vx_srl.specs.Calls.{staging, sealing};
 ghost use Rattle.vx_srl.specs.Views.{BodyFits, free_of, need_of, most_number, record_of};
@@ -49,6 +50,8 @@ fn log_record<S: Shelf>(
     ensures moves { LogMoves srl.old vol start bytes.now (S.meaning shelf.old) (S.meaning shelf.new) }
     ensures calls { OnOk result (BodyFits srl.old bytes.now → MakesCalls 4 (S.meaning shelf.old) (S.meaning shelf.new)) }
     ensures short { BodyFits srl.old bytes.now → FallsShort 4 (S.meaning shelf.old) (S.meaning shelf.new) }
+    ensures least { OnOk result (MakesAtLeast 4 (S.meaning shelf.old) (S.meaning shelf.new)) }
+    ensures spends { Spends (S.meaning shelf.old) (S.meaning shelf.new) }
 {
     if let Err(why) = srl.stage(shelf, vol, start, bytes) {
         return Err(refused(why));
@@ -85,6 +88,8 @@ pub(crate) fn commit<S: Shelf>(
         (S.meaning shelf.old) (S.meaning shelf.new) }
     ensures calls { OnOk result (BodyFits core.old.log bytes.now → MakesCalls 4 (S.meaning shelf.old) (S.meaning shelf.new)) }
     ensures short { BodyFits core.old.log bytes.now → FallsShort 4 (S.meaning shelf.old) (S.meaning shelf.new) }
+    ensures least { OnOk result (MakesAtLeast 4 (S.meaning shelf.old) (S.meaning shelf.new)) }
+    ensures spends { Spends (S.meaning shelf.old) (S.meaning shelf.new) }
 {
     match log_record(shelf, &mut core.srl, vol, start, bytes) {
         Ok(number) => {

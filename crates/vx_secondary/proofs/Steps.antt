@@ -80,6 +80,7 @@ found_later u r st se a b i k le f = record {
   some = f.some;
   low_is = f.low_is;
   writes_are = f.writes_are;
+  place_is = f.place_is;
   content = f.content;
   maps = f.maps;
 }

@@ -123,7 +123,8 @@ module _ (unit ring : ℕ) (s : Standing) (old : Meaning) (lawful : Lawful old) 
             (amid.each (still left.kinds) (tracks h rs left)))
 
     -- the log that was started
-    module _ (records : List Kept) (heads : (rs : List Record) → ((h : Header) → LeavesLog unit ring h rs old → kept_heads records ≡ heads_of rs)) (fronts : IsTrue old.tells → SeesFronts unit ring records old) (arrives : Arrives unit ring (taking_over s) now new) where
+    module _ (records : List Kept) (heads : (rs : List Record) → ((h : Header) → LeavesLog unit ring h rs old → kept_heads records ≡ heads_of rs)) (fronts : IsTrue old.tells → SeesFronts unit ring records old)
+        (ring_reads : (b : ℕ) (v : List ℕ) → 2 ≤ b → new.reads unit b v → old.reads unit b v) (arrives : Arrives unit ring (taking_over s) now new) where
       abbrev log : Log
       log = record { unit = unit; ring = ring; header = taken_over s; held = records; staged = [] }
 
@@ -168,6 +169,7 @@ module _ (unit ring : ℕ) (s : Standing) (old : Meaning) (lawful : Lawful old) 
         ring_is = refl;
         nothing_staged = refl;
         fronts = fronts;
+        ring_reads = ring_reads;
         each = λ h rs left. (raised_left h rs left, (started left.kinds s.block (1 - s.block) (raised s.header n) (taken_over s) rs, on h rs left, refl, refl, refl));
       }
 

@@ -63,8 +63,9 @@ pub record IsStarted (unit ring : ℕ) (l : Log) (old new : Meaning) : Type 0 wh
   pub unit_is : l.unit ≡ unit
   pub ring_is : l.ring ≡ ring
   pub nothing_staged : l.staged ≡ []
-  -- reads gave the header of each
+  -- reads gave the header of each, and of the blocks of the ring they give what they gave
   pub fronts : IsTrue old.tells → SeesFronts unit ring l.held old
+  pub ring_reads : (b : ℕ) (v : List ℕ) → 2 ≤ b → new.reads unit b v → old.reads unit b v
   pub each : (h : Header) (rs : List Record) → LeavesLog unit ring h rs old
       → IsRaised h l.header × ((s : State) × RingOn l s new × (s.held ≡ rs) × (s.staged ≡ []) × (s.found ≡ rs))
 

@@ -6,6 +6,7 @@ ghost use Rattle.vx_model.specs.declared.errors.Stop.TheVariants.{No as Refused}
 ghost use Rattle.vx_model.specs.declared.no.No.TheVariants.{Size, Limit};
 ghost use Rattle.vx_model.specs.declared.no.Counted.TheVariants.{Number};
 ghost use Rattle.vx_ringio.specs.Classes.{is_of_ring};
+ghost use Rattle.vx_ringio.specs.Spends.{Spends};
 ghost use Rattle.vx_ringio.specs.Tracks.{Lies};
 ghost use Rattle.vx_srl.specs.Causes.{Ended};
 ghost use Rattle.vx_srl.specs.Headers.{new_header};
@@ -17,7 +18,7 @@ use crate::Srl;
 use std::alloc::Global;
 use std::collections::VecDeque;
 use vx_disk::{Shelf, ShelfError, refusal};
-use vx_model::limits::MOST_NUMBER;
+use vx_model::limits::{LEAST_BLOCKS, MOST_NUMBER};
 use vx_model::{Counted, No, State, Stop};
 use vx_ringio::{blank_ring, write_header};
 use vx_srlfmt::Header;
@@ -61,6 +62,7 @@ fn write_new<S: Shelf>(
     ensures moves { Moves (Run unit 0 (ring + 2)) Anything (S.meaning shelf.old) (S.meaning shelf.new) }
     ensures written { OnOk result (HasNewHeaders unit ring first.now second.now (S.meaning shelf.old) (S.meaning shelf.new)) }
     ensures cause { Ended (S.meaning shelf.old) (S.meaning shelf.new) result }
+    ensures spends { Spends (S.meaning shelf.old) (S.meaning shelf.new) }
 {
     blank_ring(shelf, unit, ring)?;
     write_header(shelf, unit, ring, second)?;
@@ -82,15 +84,16 @@ impl Srl {
         requires exists { unit < (S.meaning shelf.old).units }
         requires number { head ≤ most_number }
         requires state { CanSpellState state.now }
-        ensures small { (S.meaning shelf.old).size unit < 8 → result ≡ Err (Refused Size) }
-        ensures limit { 8 ≤ (S.meaning shelf.old).size unit → most_number ≤ head → result ≡ Err (Refused (Limit Number most_number)) }
-        ensures unchanged { ((S.meaning shelf.old).size unit < 8) ⊎ (most_number ≤ head) → shelf.new ≡ shelf.old }
-        ensures makes { 8 ≤ (S.meaning shelf.old).size unit → head < most_number
+        ensures small { (S.meaning shelf.old).size unit < LEAST_BLOCKS → result ≡ Err (Refused Size) }
+        ensures limit { LEAST_BLOCKS ≤ (S.meaning shelf.old).size unit → most_number ≤ head → result ≡ Err (Refused (Limit Number most_number)) }
+        ensures unchanged { ((S.meaning shelf.old).size unit < LEAST_BLOCKS) ⊎ (most_number ≤ head) → shelf.new ≡ shelf.old }
+        ensures makes { LEAST_BLOCKS ≤ (S.meaning shelf.old).size unit → head < most_number
             → Makes unit (ring_of ((S.meaning shelf.old).size unit)) head state.now (S.meaning shelf.old) (S.meaning shelf.new) result }
         ensures moves { Moves (Run unit 0 (ring_of ((S.meaning shelf.old).size unit) + 2)) Anything (S.meaning shelf.old) (S.meaning shelf.new) }
+        ensures spends { Spends (S.meaning shelf.old) (S.meaning shelf.new) }
     {
         let size = shelf.size(unit);
-        if size < 8 {
+        if size < LEAST_BLOCKS {
             return Err(Stop::No(No::Size));
         }
         if head >= MOST_NUMBER {

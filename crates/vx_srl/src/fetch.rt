@@ -3,6 +3,7 @@ ghost use Rattle.std.specs.Prelude.{◌≡◌, ◌+◌, ◌<◌, ◌≤◌, Err,
 ghost use Rattle.vx_disk.specs.Causes.{OnDisks};
 ghost use Rattle.vx_disk.specs.Disks.{Untouched};
 ghost use Rattle.vx_disk.specs.Shelf.{Goes, Nothing};
+ghost use Rattle.vx_ringio.specs.Spends.{Spends};
 ghost use Rattle.vx_ringio.specs.Tracks.{Lies};
 ghost use Rattle.vx_srl.specs.Calls.{Fetches, FetchCause, Agrees, NamesBody};
 ghost use Rattle.vx_srl.specs.Views.{head_of};
@@ -30,6 +31,7 @@ impl Srl {
         ensures goes { Goes Nothing (S.meaning shelf.old) (S.meaning shelf.new) }
         ensures down { (S.meaning shelf.new).down ≡ (S.meaning shelf.old).down }
         ensures disks { OnDisks (S.meaning shelf.old).disks (S.meaning shelf.new).disks Untouched }
+        ensures spends { Spends (S.meaning shelf.old) (S.meaning shelf.new) }
     {
         if n < self.header.low {
             let low = self.header.low;

@@ -1,6 +1,7 @@
 // The calls that write a header: a new state, a raised low number, an emptied log.
 ghost use Rattle.std.specs.Prelude.{◌≡◌, ◌⊎◌, ◌+◌, ◌-◌, ◌<◌, ◌≤◌, ◌%◌, [], length, take, drop, true, Ok, Err, OnOk};
 ghost use Rattle.vx_ringio.specs.Classes.{is_of_ring};
+ghost use Rattle.vx_ringio.specs.Spends.{Spends};
 ghost use Rattle.vx_ringio.specs.Tracks.{Lies, Follows, Arrives};
 ghost use Rattle.vx_ringlog.specs.Acts.{head_acts};
 ghost use Rattle.vx_srl.specs.Calls.{Saves, can_restart, saving, restarting, saved, restarted, no_number};
@@ -118,6 +119,7 @@ impl Srl {
             → Saves self.old (saved self.old (with_state self.old state.now) 0) (S.meaning shelf.old) (S.meaning shelf.new) self.new result }
         ensures goes { Goes self.old (saving (with_state self.old state.now) 0) (S.meaning shelf.old) (S.meaning shelf.new) }
         ensures leads { OnOk result (LeadsTo self.old (saving (with_state self.old state.now) 0) self.new (S.meaning shelf.old) (S.meaning shelf.new)) }
+        ensures spends { Spends (S.meaning shelf.old) (S.meaning shelf.new) }
     {
         if self.header.stamp >= MOST_NUMBER {
             return Err(no_number_left());
@@ -145,6 +147,7 @@ impl Srl {
         ensures goes { Goes self.old (saving (without self.old to) (count_to self.old to)) (S.meaning shelf.old) (S.meaning shelf.new) }
         ensures leads { OnOk result (self.old.header.low ≤ to
             → LeadsTo self.old (saving (without self.old to) (count_to self.old to)) self.new (S.meaning shelf.old) (S.meaning shelf.new)) }
+        ensures spends { Spends (S.meaning shelf.old) (S.meaning shelf.new) }
     {
         if to < self.header.low {
             return Ok(());
@@ -187,6 +190,7 @@ impl Srl {
             → Saves self.old (restarted self.old (emptied self.old state.now head)) (S.meaning shelf.old) (S.meaning shelf.new) self.new result }
         ensures goes { Goes self.old (restarting (emptied self.old state.now head)) (S.meaning shelf.old) (S.meaning shelf.new) }
         ensures leads { OnOk result (LeadsTo self.old (restarting (emptied self.old state.now head)) self.new (S.meaning shelf.old) (S.meaning shelf.new)) }
+        ensures spends { Spends (S.meaning shelf.old) (S.meaning shelf.new) }
     {
         if self.header.stamp >= MOST_NUMBER
             || self.header.run >= MOST_NUMBER

@@ -5,6 +5,7 @@ ghost use Rattle.vx_disk.specs.Causes.{Cause};
 ghost use Rattle.vx_disk.specs.Shelf.{Goes, Nothing};
 ghost use Rattle.vx_ringio.specs.Bodies.{IsBlocks, all_blocks};
 ghost use Rattle.vx_ringio.specs.Reading.{ReadsAs};
+ghost use Rattle.vx_ringio.specs.Spends.{Spends};
 ghost use Rattle.vx_ringio.specs.Tracks.{Lies};
 ghost use Rattle.vx_ringlog.specs.Cells.{Image};
 ghost use Rattle.vx_ringlog.specs.Chain.{HasBody, Scan, total};
@@ -84,6 +85,7 @@ fn take<S: Shelf>(
     ensures shown { IfOk result (λ found. IsTrue (S.meaning shelf.old).tells → BodyShown unit ring place head (S.meaning shelf.old) found) }
     ensures differ { IfOk result Differ }
     ensures goes { Goes Nothing (S.meaning shelf.old) (S.meaning shelf.new) }
+    ensures spends { Spends (S.meaning shelf.old) (S.meaning shelf.new) }
     ensures cause { Cause (S.meaning shelf.old) (S.meaning shelf.new) unit result }
 {
     let mut room = [0; 8192];
@@ -128,6 +130,7 @@ fn look<S: Shelf>(
     ensures shown { IfOk result (λ found. IsTrue (S.meaning shelf.old).tells → IsShown unit ring place (S.meaning shelf.old) found) }
     ensures differ { IfOk result Differ }
     ensures goes { Goes Nothing (S.meaning shelf.old) (S.meaning shelf.new) }
+    ensures spends { Spends (S.meaning shelf.old) (S.meaning shelf.new) }
     ensures cause { Cause (S.meaning shelf.old) (S.meaning shelf.new) unit result }
 {
     let head = match read_front(shelf, unit, ring, place)? {
@@ -175,6 +178,7 @@ pub(crate) fn scan<S: Shelf>(
     ensures takes { OnOk result (AreChained unit ring header.now records.new.items (S.meaning shelf.old)) }
     ensures fronts { OnOk result (IsTrue (S.meaning shelf.old).tells → SeesFronts unit ring records.new.items (S.meaning shelf.old)) }
     ensures goes { Goes Nothing (S.meaning shelf.old) (S.meaning shelf.new) }
+    ensures spends { Spends (S.meaning shelf.old) (S.meaning shelf.new) }
     ensures cause { IfErr result (λ why. ScanCause unit ring header.now (S.meaning shelf.old) (S.meaning shelf.new) why) }
 {
     let mut place = header.place as u64;

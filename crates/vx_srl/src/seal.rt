@@ -1,6 +1,7 @@
 // The sealing of what is staged: it becomes part of the log.
 ghost use Rattle.std.specs.Prelude.{◌≡◌, ◌+◌, ◌-◌, ◌≤◌, ◌<◌, [], length, drop, All, Ok, OnOk};
 ghost use Rattle.vx_disk.specs.Burns.{FallsShort, MakesCalls};
+ghost use Rattle.vx_ringio.specs.Spends.{Spends};
 ghost use Rattle.vx_ringio.specs.Tracks.{Lies, Follows, Arrives};
 ghost use Rattle.vx_srl.specs.Calls.{Seals, sealing};
 ghost use Rattle.vx_srl.specs.Causes.{Ended, Stopped};
@@ -33,6 +34,7 @@ fn write_fronts<S: Shelf>(
     ensures cause { Stopped (S.meaning shelf.old) (S.meaning shelf.new) result }
     ensures calls { OnOk result (MakesCalls (length records.now.items - from) (S.meaning shelf.old) (S.meaning shelf.new)) }
     ensures short { FallsShort (length records.now.items - from) (S.meaning shelf.old) (S.meaning shelf.new) }
+    ensures spends { Spends (S.meaning shelf.old) (S.meaning shelf.new) }
 {
     for k in from..records.len() {
         let kept = records[k];
@@ -50,6 +52,7 @@ impl Srl {
         ensures cause { Ended (S.meaning shelf.old) (S.meaning shelf.new) result }
         ensures calls { OnOk result (MakesCalls (length self.now.staged + 2) (S.meaning shelf.old) (S.meaning shelf.new)) }
         ensures short { FallsShort (length self.now.staged + 2) (S.meaning shelf.old) (S.meaning shelf.new) }
+        ensures spends { Spends (S.meaning shelf.old) (S.meaning shelf.new) }
     {
         flush_ring(shelf, self.unit)?;
         write_fronts(shelf, self.unit, self.ring, &self.records, self.sealed)?;
@@ -68,6 +71,7 @@ impl Srl {
         ensures leads { OnOk result (0 < length self.old.staged → LeadsTo self.old sealing self.new (S.meaning shelf.old) (S.meaning shelf.new)) }
         ensures calls { OnOk result (0 < length self.old.staged → MakesCalls (length self.old.staged + 2) (S.meaning shelf.old) (S.meaning shelf.new)) }
         ensures short { FallsShort (length self.old.staged + 2) (S.meaning shelf.old) (S.meaning shelf.new) }
+        ensures spends { Spends (S.meaning shelf.old) (S.meaning shelf.new) }
     {
         if self.sealed == self.records.len() {
             return Ok(self.head());

@@ -2,6 +2,7 @@
 ghost use Rattle.std.specs.Prelude.{◌≡◌, ◌⊎◌, ◌+◌, ◌<◌, ◌≤◌, ◌/◌, length, Err, OnOk, All};
 ghost use Rattle.vx_ringio.specs.Bodies.{IsBlocks, all_blocks};
 ghost use Rattle.vx_disk.specs.Burns.{FallsShort, MakesCalls};
+ghost use Rattle.vx_ringio.specs.Spends.{MakesAtLeast, Spends};
 ghost use Rattle.vx_ringio.specs.Tracks.{Lies};
 ghost use Rattle.vx_ringlog.specs.Records.{on_disk};
 ghost use Rattle.vx_srl.specs.Calls.{Stages, staging, staged_with, no_number};
@@ -88,6 +89,8 @@ impl Srl {
         ensures leads { OnOk result (LeadsTo self.old (staging (record_of self.old vol block bytes.now)) self.new (S.meaning shelf.old) (S.meaning shelf.new)) }
         ensures calls { OnOk result (BodyFits self.old bytes.now → MakesCalls 1 (S.meaning shelf.old) (S.meaning shelf.new)) }
         ensures short { BodyFits self.old bytes.now → FallsShort 1 (S.meaning shelf.old) (S.meaning shelf.new) }
+        ensures least { OnOk result (MakesAtLeast 1 (S.meaning shelf.old) (S.meaning shelf.new)) }
+        ensures spends { Spends (S.meaning shelf.old) (S.meaning shelf.new) }
     {
         let need = bytes.len() as u64 / 512 + 1;
         let free = self.free();

@@ -1,10 +1,11 @@
 // The start of a log from what stands on its unit.
 ghost use Rattle.std.specs.Prelude.{◌≡◌, ◌⊎◌, ◌+◌, ◌-◌, ◌<◌, ◌≤◌, ◌%◌, ℕ, List, true, IsTrue, IfOk, IfErr, OnOk};
-ghost use Rattle.vx_disk.specs.Moves.{Moves, Run};
+ghost use Rattle.vx_disk.specs.Moves.{Anything, Moves, Run};
 ghost use Rattle.vx_disk.specs.Shelf.{Goes, Nothing};
 ghost use Rattle.vx_model.specs.Sizes.{ring_of};
 ghost use Rattle.vx_ringio.specs.Classes.{is_of_ring};
 ghost use Rattle.vx_ringio.specs.Reading.{IsTop, DigestsDiffer};
+ghost use Rattle.vx_ringio.specs.Spends.{Spends};
 ghost use Rattle.vx_ringio.specs.Tracks.{Lies, Follows, Arrives};
 ghost use Rattle.vx_ringlog.specs.Acts.{head_acts};
 ghost use Rattle.vx_srl.specs.Causes.{Stopped};
@@ -20,7 +21,7 @@ use std::alloc::Global;
 use std::collections::VecDeque;
 use std::marker::Model;
 use vx_disk::{Shelf, ShelfError, refusal};
-use vx_model::limits::MOST_NUMBER;
+use vx_model::limits::{LEAST_BLOCKS, MOST_NUMBER};
 use vx_model::{Counted, No, OutOfMemory, Stop};
 use vx_ringio::{TopSeen, read_top, write_header};
 use vx_srlfmt::Header;
@@ -84,6 +85,7 @@ fn find_header<S: Shelf>(shelf: &mut S, unit: u32, ring: u64) -> Result<Standing
     requires lies { Lies unit ring (S.meaning shelf.old) }
     ensures found { IfOk result (λ standing. IsStanding unit ring standing (S.meaning shelf.old)) }
     ensures goes { Goes Nothing (S.meaning shelf.old) (S.meaning shelf.new) }
+    ensures spends { Spends (S.meaning shelf.old) (S.meaning shelf.new) }
     ensures up { OnOk result (IsTrue (S.meaning shelf.new).down → ⊥) }
     ensures cause { IfErr result (λ why. StandingCause unit ring (S.meaning shelf.old) (S.meaning shelf.new) why) }
 {
@@ -157,9 +159,11 @@ fn take_over<S: Shelf>(
     ensures of_ring { IfOk result (λ header. is_of_ring ring header ≡ true) }
     ensures follows { Follows unit ring (taking_over standing.now) (S.meaning shelf.old) (S.meaning shelf.new) }
     ensures arrives { OnOk result (Arrives unit ring (taking_over standing.now) (S.meaning shelf.old) (S.meaning shelf.new)) }
+    ensures aside { Moves (Run unit 0 2) Anything (S.meaning shelf.old) (S.meaning shelf.new) }
     ensures up { OnOk result (IsTrue (S.meaning shelf.new).down → ⊥) }
     ensures cause { IfErr result (λ why. TakeOverCause standing.now.header (S.meaning shelf.old) (S.meaning shelf.new) why) }
     ensures limit { IfErr result (λ why. ReadsAtLimit (S.meaning shelf.old) (S.meaning shelf.new) why) }
+    ensures spends { Spends (S.meaning shelf.old) (S.meaning shelf.new) }
 {
     let header = &standing.header;
     if header.stamp > MOST_NUMBER - 3 || header.incarnation >= MOST_NUMBER {
@@ -202,7 +206,7 @@ impl Model for LogRoom {
 impl LogRoom {
     /// For a log in a unit of so many blocks.
     pub fn new(alloc: Global, blocks: u64) -> Result<LogRoom, OutOfMemory>
-        requires { 8 ≤ blocks }
+        requires { LEAST_BLOCKS ≤ blocks }
         ensures { IfOk result (λ room. room.ring ≡ ring_of blocks) }
     {
         let ring = blocks.min(65536) - 2;
@@ -221,11 +225,12 @@ impl Srl {
     /// blocks of a log nothing changes but its headers.
     pub fn start_in<S: Shelf>(room: LogRoom, shelf: &mut S, unit: u32) -> Result<Srl, No>
         requires exists { unit < (S.meaning shelf.old).units }
-        requires large { 8 ≤ (S.meaning shelf.old).size unit }
+        requires large { LEAST_BLOCKS ≤ (S.meaning shelf.old).size unit }
         requires room { room.ring ≡ ring_of ((S.meaning shelf.old).size unit) }
         ensures starts { StartInIs unit (ring_of ((S.meaning shelf.old).size unit)) (S.meaning shelf.old) (S.meaning shelf.new) result }
         ensures limit { IfErr result (λ why. ReadsAtLimit (S.meaning shelf.old) (S.meaning shelf.new) why) }
         ensures moves { Moves (Run unit 0 (ring_of ((S.meaning shelf.old).size unit) + 2)) (Restarting unit (ring_of ((S.meaning shelf.old).size unit)) (S.meaning shelf.old)) (S.meaning shelf.old) (S.meaning shelf.new) }
+        ensures spends { Spends (S.meaning shelf.old) (S.meaning shelf.new) }
     {
         let LogRoom { ring, mut records } = room;
         let standing = match find_header(shelf, unit, ring) {
@@ -245,10 +250,11 @@ impl Srl {
     /// The same, or want of memory, which changes nothing.
     pub fn start<S: Shelf>(alloc: Global, shelf: &mut S, unit: u32) -> Result<Srl, Stop>
         requires exists { unit < (S.meaning shelf.old).units }
-        requires large { 8 ≤ (S.meaning shelf.old).size unit }
+        requires large { LEAST_BLOCKS ≤ (S.meaning shelf.old).size unit }
         ensures starts { StartIs unit (ring_of ((S.meaning shelf.old).size unit)) (S.meaning shelf.old) (S.meaning shelf.new) result }
         ensures limit { IfErr result (λ stop. StopReadsAtLimit (S.meaning shelf.old) (S.meaning shelf.new) stop) }
         ensures moves { Moves (Run unit 0 (ring_of ((S.meaning shelf.old).size unit) + 2)) (Restarting unit (ring_of ((S.meaning shelf.old).size unit)) (S.meaning shelf.old)) (S.meaning shelf.old) (S.meaning shelf.new) }
+        ensures spends { Spends (S.meaning shelf.old) (S.meaning shelf.new) }
     {
         let Ok(room) = LogRoom::new(alloc, shelf.size(unit)) else {
             return Err(Stop::OutOfMemory);

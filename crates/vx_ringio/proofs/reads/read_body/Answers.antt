@@ -3,6 +3,7 @@ use Rattle.std.proofs.lemmas.Result.{on_ok_weaker}
 use Rattle.vx_ringio.specs.Classes.{class_of}
 use Rattle.vx_ringio.proofs.Following.{reads_stay}
 use Rattle.vx_ringio.proofs.Parts.{gave_parts, in_parts, places_first, places_parts}
+use Rattle.vx_ringio.proofs.Spending.{then_spends}
 use Rattle.vx_ringio.proofs.reads.read_body.Goals as goal
 
 pub returns-then-is_empty-clause-shows : goal.returns-then-is_empty-clause-shows
@@ -33,3 +34,6 @@ returns-else-is_empty-clause-gave g c =
     on_ok_weaker c.read_part-else-is_empty.result
     (gave_parts c.args.unit c.args.ring c.args.place _ _ (g.S.Shelf.meaning c.args.shelf.now) (g.S.Shelf.meaning c.read_part.new.shelf) parts c.read_part.ensures.goes c.in_ok-read_part.ensures.cause.after c.in_ok-read_part.ensures.gave)
     c.read_part-else-is_empty.ensures.gave
+
+pub returns-else-is_empty-clause-spends : goal.returns-else-is_empty-clause-spends
+returns-else-is_empty-clause-spends g c = then_spends _ _ _ c.read_part.ensures.spends c.read_part-else-is_empty.ensures.spends

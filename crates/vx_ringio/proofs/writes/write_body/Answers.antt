@@ -1,6 +1,8 @@
 use Rattle.std.proofs.Common.{arith, ◌∙◌, eqb-true, sym}
 use Rattle.std.proofs.lemmas.Result.{on_ok_weaker}
 use Rattle.vx_ringio.proofs.Parts.{body_parts, in_parts, first_follows, first_arrives, both_follow, both_arrive}
+use Rattle.vx_disk.proofs.Burning.{then_calls}
+use Rattle.vx_ringio.proofs.Spending.{at_least, at_least_fewer, then_spends}
 use Rattle.vx_ringio.proofs.writes.write_body.Goals as goal
 
 pub write_part-requires-clause-body : goal.write_part-requires-clause-body
@@ -35,3 +37,14 @@ returns-else-is_empty-clause-arrives g c =
     on_ok_weaker c.write_part-else-is_empty.result
     (both_arrive c.args.ring c.args.place _ _ parts c.args.unit _ c.split_at.ensures.by_index.0 _ _ _ c.in_ok-write_part.ensures.arrives)
     c.write_part-else-is_empty.ensures.arrives
+
+pub returns-else-is_empty-clause-spends : goal.returns-else-is_empty-clause-spends
+returns-else-is_empty-clause-spends g c = then_spends _ _ _ c.write_part.ensures.spends c.write_part-else-is_empty.ensures.spends
+
+pub returns-then-is_empty-clause-least : goal.returns-then-is_empty-clause-least
+returns-then-is_empty-clause-least g c = at_least 1 _ _ c.in_ok-write_part.ensures.calls
+
+pub returns-else-is_empty-clause-least : goal.returns-else-is_empty-clause-least
+returns-else-is_empty-clause-least g c = on_ok_weaker c.write_part-else-is_empty.result
+    (λ made. at_least_fewer 1 2 (omega arith) _ _ (at_least 2 _ _ (then_calls 1 1 _ _ _ c.in_ok-write_part.ensures.calls made)))
+    c.write_part-else-is_empty.ensures.calls

@@ -2,6 +2,8 @@ use Rattle.std.proofs.Common.{arith}
 use Rattle.std.proofs.lemmas.Result.{on_ok_weaker}
 use Rattle.vx_ringio.proofs.Classing.{class_top, one_follows, flushed_follows, flushed_arrives}
 use Rattle.vx_ringio.proofs.Following.{sooner}
+use Rattle.vx_ringio.proofs.Spending.{spends_write, then_spends}
+use Rattle.vx_ringio.proofs.Aside.{aside_flushed, header_aside}
 use Rattle.vx_ringio.proofs.writes.write_header.Goals as goal
 
 pub returns-in_err-write-clause-follows : goal.returns-in_err-write-clause-follows
@@ -19,3 +21,15 @@ returns-clause-arrives g c = on_ok_weaker c.flush_ring.result
     (λ flush. flushed_arrives c.args.unit c.args.ring _ _ _ c.put_header.array_long (omega arith) (class_top c.args.ring _ _ c.put_header.ensures c.requires.of_ring) _ _ c.write.ensures.goes
     _ c.in_ok-write.ensures.ok (flush c.args.ring))
     c.flush_ring.ensures.arrives
+
+pub returns-in_err-write-clause-spends : goal.returns-in_err-write-clause-spends
+returns-in_err-write-clause-spends g c = spends_write _ _ _ _ _ c.write.result c.write.ensures.goes c.write.ensures.cause c.write.ensures.disks
+
+pub returns-clause-spends : goal.returns-clause-spends
+returns-clause-spends g c = then_spends _ _ _ (spends_write _ _ _ _ _ c.write.result c.write.ensures.goes c.write.ensures.cause c.write.ensures.disks) c.flush_ring.ensures.spends
+
+pub returns-in_err-write-clause-aside : goal.returns-in_err-write-clause-aside
+returns-in_err-write-clause-aside g c = header_aside _ _ _ _ _ c.put_header.array_long (omega arith) c.write.ensures.goes
+
+pub returns-clause-aside : goal.returns-clause-aside
+returns-clause-aside g c = aside_flushed _ _ _ _ (header_aside _ _ _ _ _ c.put_header.array_long (omega arith) c.write.ensures.goes) c.flush_ring.ensures.goes

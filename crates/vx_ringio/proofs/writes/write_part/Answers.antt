@@ -1,6 +1,7 @@
 use Rattle.std.proofs.lemmas.Result.{on_ok_weaker}
 use Rattle.std.proofs.Common.{arith}
 use Rattle.vx_ringio.proofs.Classing.{part_follows, part_arrives}
+use Rattle.vx_ringio.proofs.Spending.{spends_write}
 use Rattle.vx_ringio.proofs.writes.write_part.Goals as goal
 
 pub returns-clause-follows : goal.returns-clause-follows
@@ -10,3 +11,6 @@ pub returns-clause-arrives : goal.returns-clause-arrives
 returns-clause-arrives g c = on_ok_weaker c.write.result
     (part_arrives c.args.unit c.args.ring c.args.first _ _ (omega arith) c.requires.room c.requires.body _ _ c.write.ensures.goes)
     c.write.ensures.ok
+
+pub returns-clause-spends : goal.returns-clause-spends
+returns-clause-spends g c = spends_write _ _ _ _ _ c.write.result c.write.ensures.goes c.write.ensures.cause c.write.ensures.disks

@@ -2,6 +2,7 @@ use Rattle.std.proofs.Common.{◌≤◌, ◌+◌, subst, arith}
 use Rattle.vx_srl.specs.Views.{IsOrdered, all_of}
 use Rattle.vx_rvg.specs.Views.{Core, volume_size}
 use Rattle.vx_rvg.proofs.ApplyAll.{all_bring, due_few, more_moves, one_brought, rest_moves}
+use Rattle.vx_ringio.proofs.Spending.{then_spends}
 use Rattle.vx_rvg.proofs.apply.bring.Goals as goal
 
 pub returns-in_err-count-clause-moves : goal.returns-in_err-count-clause-moves
@@ -20,6 +21,7 @@ loop-n-preserved g c = (
   one_brought c.args.core.now c.loop-n.n _ _ _ c.loop-n.count c.loop-n.invariant.0 c.in_ok-count.field-0 c.requires.low (subst (λ (x : Core). x.applied ≤ c.loop-n.n) c.core.view_is c.loop-n.auto.n) c.in_ok-count.ensures.brings c.in_ok-count.ensures.moves
       (c.in_ok-count.ensures.stopped),
   omega (arith, c.loop-n-test.true),
+  then_spends _ _ _ c.loop-n.invariant.2 c.in_ok-count.ensures.spends,
 )
 
 pub returns-in_err-flush_volumes-clause-moves : goal.returns-in_err-flush_volumes-clause-moves
@@ -31,3 +33,12 @@ returns-clause-brings g c =
 
 pub returns-clause-moves : goal.returns-clause-moves
 returns-clause-moves g c = rest_moves c.args.core.now c.loop-n.n _ _ _ c.loop-n.count c.loop-n.invariant.0 c.flush_volumes.ensures.moves
+
+pub returns-in_err-count-clause-spends : goal.returns-in_err-count-clause-spends
+returns-in_err-count-clause-spends g c = then_spends _ _ _ c.loop-n.invariant.2 c.in_err-count.ensures.spends
+
+pub returns-in_err-flush_volumes-clause-spends : goal.returns-in_err-flush_volumes-clause-spends
+returns-in_err-flush_volumes-clause-spends g c = then_spends _ _ _ c.loop-n.invariant.2 c.flush_volumes.ensures.spends
+
+pub returns-clause-spends : goal.returns-clause-spends
+returns-clause-spends g c = then_spends _ _ _ c.loop-n.invariant.2 c.flush_volumes.ensures.spends

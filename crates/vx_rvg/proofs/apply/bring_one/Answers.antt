@@ -1,6 +1,7 @@
 use Rattle.std.proofs.Common.{ℕ, ap, arith}
 use Rattle.std.proofs.lemmas.List.{length-take-le}
 use Rattle.vx_rvg.proofs.ApplyOne.{count_few, kept_at, kept_there, one_brings, one_moves, patched_in}
+use Rattle.vx_ringio.proofs.Spending.{spends_write}
 use Rattle.vx_rvg.proofs.apply.bring_one.Goals as goal
 
 pub returns-in_err-write-clause-moves : goal.returns-in_err-write-clause-moves
@@ -26,3 +27,9 @@ returns-clause-brings g c =
     (omega (arith, c.if-size-count.false, c.if-size-count-2.false, c.size-size.ensures, ap (λ (u : ℕ). (g.S.Shelf.meaning c.args.shelf.now).size u) c.unit-unit.ensures))
     c.unit-unit.result c.unit-unit.ensures _ c.patch.new.into (patched_in _ c.args.core.now _ _ _ _ c.core.view_is c.patch.ensures)
     (length-take-le _ _ (omega (arith, count_few _ c.args.n _ c.front-head.ensures c.ring-ring.ensures.ordered))) (c.in_ok-write.ensures.ok)
+
+pub returns-in_err-write-clause-spends : goal.returns-in_err-write-clause-spends
+returns-in_err-write-clause-spends g c = spends_write _ _ _ _ _ c.write.result c.write.ensures.goes c.write.ensures.cause c.write.ensures.disks
+
+pub returns-clause-spends : goal.returns-clause-spends
+returns-clause-spends g c = spends_write _ _ _ _ _ c.write.result c.write.ensures.goes c.write.ensures.cause c.write.ensures.disks

@@ -6,6 +6,7 @@ use Rattle.vx_rvg.specs.Stands.{Saving}
 use Rattle.vx_rvg.specs.Views.{Core, last_of}
 use Rattle.vx_rvg.specs.contracts.rvg_core.RvgCore.{the_view}
 use Rattle.vx_rvg.proofs.StoreMoves.{at_its_last, empty_moves, empty_puts_ok, empty_stores, give_up_part, given_up, is_empty, is_held, put_part, put_stands}
+use Rattle.vx_ringio.proofs.Spending.{then_spends}
 use Rattle.vx_rvg.proofs.store.store_applied.Goals as goal
 
 pub returns-then-last-low-clause-stores : goal.returns-then-last-low-clause-stores
@@ -51,3 +52,6 @@ returns-in-Err-clause-moves g c =
     let mid = g.S.Shelf.meaning c.give_up.new.shelf in
     give_up_part c.args.core.now c.args.vol c.args.start c.args.bytes.now held m mid
     (subst (λ (n : ℕ). Moves (Run c.args.core.now.units.srl 0 (c.args.core.now.log.ring + 2)) (Saving c.args.core.now (reclaimed c.args.core.now n) m) m mid) last_is c.give_up.ensures.moves)
+
+pub returns-in-Ok-clause-spends : goal.returns-in-Ok-clause-spends
+returns-in-Ok-clause-spends g c = then_spends _ _ _ c.give_up.ensures.spends c.put_blocks-in-Ok.ensures.spends

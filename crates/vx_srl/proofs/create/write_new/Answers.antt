@@ -1,5 +1,6 @@
 use Rattle.std.proofs.lemmas.Result.{on_ok_weaker}
 use Rattle.vx_srl.proofs.MakeNew.{then_any, new_headers}
+use Rattle.vx_ringio.proofs.Spending.{then_spends}
 use Rattle.vx_srl.proofs.create.write_new.Goals as goal
 
 pub returns-clause-moves : goal.returns-clause-moves
@@ -9,3 +10,9 @@ pub returns-clause-written : goal.returns-clause-written
 returns-clause-written g c = on_ok_weaker c.write_header-2.result
     (new_headers c.args.unit c.args.ring _ _ _ _ _ _ (g.met.S.Shelf.lawful c.blank_ring.new.shelf) c.in_ok-blank_ring.ensures.leaves c.in_ok-write_header.ensures.arrives)
     c.write_header-2.ensures.arrives
+
+pub returns-in_err-write_header-clause-spends : goal.returns-in_err-write_header-clause-spends
+returns-in_err-write_header-clause-spends g c = then_spends _ _ _ c.blank_ring.ensures.spends c.write_header.ensures.spends
+
+pub returns-clause-spends : goal.returns-clause-spends
+returns-clause-spends g c = then_spends _ _ _ (then_spends _ _ _ c.blank_ring.ensures.spends c.write_header.ensures.spends) c.write_header-2.ensures.spends

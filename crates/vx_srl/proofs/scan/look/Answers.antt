@@ -5,6 +5,7 @@ use Rattle.vx_ringio.specs.Reading.{SeesFront, ShowsFront, FrontCanSpell}
 use Rattle.vx_srlfmt.specs.declared.record.Seen.{Seen}
 use Rattle.vx_ringio.proofs.Following.{reads_stay}
 use Rattle.vx_srl.proofs.ScanLooks.{damaged_agrees, other_agrees, passed_agrees, answer_agrees, answer_shown, answer_stands, answer_fits}
+use Rattle.vx_ringio.proofs.Spending.{then_spends}
 use Rattle.vx_srl.proofs.scan.look.Goals.{then-not-may_follow-via-then-not-may_follow, then-not-may_follow-via-else-not-may_follow+then-head-left}
 use Rattle.vx_srl.proofs.scan.look.Goals as goal
 
@@ -58,3 +59,6 @@ returns-clause-shown g c =
     answer_shown c.args.unit c.args.ring c.args.place c.in-Record.head (g.S.Shelf.meaning c.args.shelf.now) (g.S.Shelf.meaning c.read_front.new.shelf) c.read_front.ensures.goes c.in_ok-head.ensures.cause.after
     (λ tells. subst (λ (s : Seen). SeesFront c.args.unit (block c.args.ring c.args.place) (g.S.Shelf.meaning c.args.shelf.now) s) c.in-Record.is (c.in_ok-head.ensures.sees tells))
     c.take.result c.take.ensures.taken c.take.ensures.shown
+
+pub returns-clause-spends : goal.returns-clause-spends
+returns-clause-spends g c = then_spends _ _ _ c.read_front.ensures.spends c.take.ensures.spends

@@ -1,5 +1,6 @@
 use Rattle.std.proofs.Common.{arith}
 use Rattle.vx_srl.proofs.FrontLaws.{cut_follows, one_more, one_written, short_cut, short_more}
+use Rattle.vx_ringio.proofs.Spending.{then_spends}
 use Rattle.vx_srl.proofs.seal.write_fronts.Goals as goal
 
 pub returns-in_err-write_front-clause-follows : goal.returns-in_err-write_front-clause-follows
@@ -17,4 +18,8 @@ loop-k-preserved g c = (
       _ _ _ c.loop-k.invariant.0 c.in_ok-write_front.ensures.follows c.in_ok-write_front.ensures.arrives c.in_ok-write_front.ensures.cause.after,
   one_more c.args.from c.loop-k.k _ c.loop-k.auto.k (omega arith) _ _ _ c.loop-k.invariant.1 c.in_ok-write_front.ensures.calls,
   short_more c.args.from c.loop-k.k _ c.loop-k.auto.k (omega arith) _ _ _ c.loop-k.invariant.1 c.loop-k.invariant.2 c.in_ok-write_front.ensures.short,
+  then_spends _ _ _ c.loop-k.invariant.3 c.write_front.ensures.spends,
 )
+
+pub returns-in_err-write_front-clause-spends : goal.returns-in_err-write_front-clause-spends
+returns-in_err-write_front-clause-spends g c = then_spends _ _ _ c.loop-k.invariant.3 c.write_front.ensures.spends

@@ -1,6 +1,7 @@
 use Rattle.std.proofs.Common.{arith, ap, ◌∙◌}
 use Rattle.vx_rvg.specs.Starts.{Room}
 use Rattle.vx_rvg.proofs.StartStands.{all_moves, fill_stops, group_sound, group_started, log_moves, log_stops}
+use Rattle.vx_ringio.proofs.Spending.{then_spends}
 use Rattle.vx_rvg.proofs.group.Rvg.start_in.Goals as goal
 
 pub returns-in-Err-clause-cause : goal.returns-in-Err-clause-cause
@@ -37,3 +38,9 @@ pub returns-clause-moves : goal.returns-clause-moves
 returns-clause-moves g c =
     all_moves c.args.units.now (g.S.Shelf.meaning c.args.shelf) (g.S.Shelf.meaning c.start_in.new.shelf) c.requires.placed c.in-Ok.ensures.moves c.in-Ok.srl c.in-Ok.ensures.starts.0
     (g.S.Shelf.meaning c.fill.new.shelf) c.fill.ensures.goes
+
+pub returns-in-Err-fill-clause-spent : goal.returns-in-Err-fill-clause-spent
+returns-in-Err-fill-clause-spent g c = then_spends _ _ _ c.start_in.ensures.spends c.fill.ensures.spends
+
+pub returns-clause-spends : goal.returns-clause-spends
+returns-clause-spends g c = then_spends _ _ _ c.start_in.ensures.spends c.fill.ensures.spends

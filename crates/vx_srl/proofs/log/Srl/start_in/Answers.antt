@@ -6,6 +6,8 @@ use Rattle.vx_model.specs.Sizes.{ring_of}
 use Rattle.vx_srl.specs.Starts.{StartCause, Restarting, IsStarted, Room}
 use Rattle.vx_srl.proofs.StartCauses.{fronts_before, limit_since, no_header_cause, scan_cause, take_over_cause}
 use Rattle.vx_srl.proofs.StartLogs.{rests, header_left, scans_left, goes_over, is_started}
+use Rattle.vx_ringio.proofs.Aside.{aside_reads_since}
+use Rattle.vx_ringio.proofs.Spending.{then_spends}
 use Rattle.vx_srl.proofs.log.Srl.start_in.Goals as goal
 
 pub returns-in-Err-clause-starts : goal.returns-in-Err-clause-starts
@@ -40,6 +42,7 @@ returns-in-Ok-take_over-clause-starts g c =
           (λ rs h left. c.in-Ok-scan.ensures.finds rs
           (scans_left c.args.unit (c.room.inside.ring) c.in-Ok.standing _ (g.met.S.Shelf.lawful c.args.shelf.now) c.in-Ok.ensures.found _ c.find_header.ensures.goes c.in-Ok.ensures.up h rs left))
           (fronts_before c.args.unit (c.room.inside.ring) c.scan.new.records.items (g.S.Shelf.meaning c.args.shelf.now) (g.S.Shelf.meaning c.find_header.new.shelf) c.find_header.ensures.goes c.in-Ok.ensures.up c.in-Ok-scan.ensures.fronts)
+          (aside_reads_since c.args.unit (g.S.Shelf.meaning c.args.shelf.now) (g.S.Shelf.meaning c.scan.new.shelf) (g.S.Shelf.meaning c.take_over.new.shelf) goes c.take_over.ensures.aside c.in-Ok-take_over.ensures.up)
           c.in-Ok-take_over.ensures.arrives c.in-Ok-take_over.header c.made.result c.in-Ok-take_over.ensures.header c.made.ensures),
       c.in-Ok-take_over.ensures.up,
     )
@@ -70,3 +73,12 @@ returns-in-Err-take_over-clause-moves g c =
 pub returns-in-Err-take_over-clause-limit : goal.returns-in-Err-take_over-clause-limit
 returns-in-Err-take_over-clause-limit g c =
     limit_since _ _ _ (then_nothing Nothing _ _ _ c.find_header.ensures.goes c.scan.ensures.goes) c.in-Err-take_over.no c.in-Err-take_over.ensures.limit
+
+pub returns-in-Err-scan-clause-spends : goal.returns-in-Err-scan-clause-spends
+returns-in-Err-scan-clause-spends g c = then_spends _ _ _ c.find_header.ensures.spends c.scan.ensures.spends
+
+pub returns-in-Ok-take_over-clause-spends : goal.returns-in-Ok-take_over-clause-spends
+returns-in-Ok-take_over-clause-spends g c = then_spends _ _ _ (then_spends _ _ _ c.find_header.ensures.spends c.scan.ensures.spends) c.take_over.ensures.spends
+
+pub returns-in-Err-take_over-clause-spends : goal.returns-in-Err-take_over-clause-spends
+returns-in-Err-take_over-clause-spends g c = then_spends _ _ _ (then_spends _ _ _ c.find_header.ensures.spends c.scan.ensures.spends) c.take_over.ensures.spends

@@ -5,6 +5,7 @@ use Rattle.vx_srl.specs.Fronts.{seal_written}
 use Rattle.vx_srl.specs.Views.{Log}
 use Rattle.vx_srl.proofs.FrontLaws.{ended_err, ended_last, flush_cut, fronts_cut, fronts_follow, lies_stays, places_low, seal_arrives, seal_follows}
 use Rattle.vx_srl.proofs.LogLists.{place_low}
+use Rattle.vx_ringio.proofs.Spending.{then_spends}
 use Rattle.vx_srl.proofs.log.Srl.write_staged.Goals as goal
 
 pub returns-in_err-flush_ring-clause-follows : goal.returns-in_err-flush_ring-clause-follows
@@ -54,3 +55,9 @@ pub returns-clause-cause : goal.returns-clause-cause
 returns-clause-cause g c =
     let first = fronts_follow c.self.inside.unit c.self.inside.ring _ _ _ (c.flush_ring.ensures.follows c.self.inside.ring) (c.in_ok-flush_ring.ensures.arrives c.self.inside.ring) _ c.write_fronts.ensures.follows in
     ended_last _ c.self.inside.unit c.self.inside.ring _ _ _ _ c.flush_ring-2.result first c.flush_ring-2.ensures.cause
+
+pub returns-in_err-write_fronts-clause-spends : goal.returns-in_err-write_fronts-clause-spends
+returns-in_err-write_fronts-clause-spends g c = then_spends _ _ _ c.flush_ring.ensures.spends c.write_fronts.ensures.spends
+
+pub returns-clause-spends : goal.returns-clause-spends
+returns-clause-spends g c = then_spends _ _ _ (then_spends _ _ _ c.flush_ring.ensures.spends c.write_fronts.ensures.spends) c.flush_ring-2.ensures.spends
