@@ -17,6 +17,7 @@ pub mod Lists
 pub mod MakeGroup
 pub mod MakeRoom
 pub mod NewYard
+pub mod PlaceOf
 pub mod RawLine
 pub mod RawTable
 pub mod ReadGroup

@@ -36,6 +36,11 @@ module _ {R : Type 0} {g : Ghosts R} where
     pub none : y.racks.items ≡ []
     pub room : MOST_SITES ≤ vec_capacity y.racks
 
+  -- it stands for some world
+  pub record IsKept (y : Yard R g) : Type 0 where
+    pub world : World
+    pub agrees : YardAgrees world y
+
   -- nothing of a line was done
   pub record StaysAgreed (w : World) (old new : Yard R g) : Type 0 where
     pub stands : YardAgrees w new

@@ -3,27 +3,23 @@ ghost use Rattle.std.specs.Prelude.{◌≡◌};
 ghost use Rattle.vx_history.specs.World.{World};
 ghost use Rattle.vx_script.specs.declared.line.ScriptLine.TheVariants.{Apply};
 ghost use Rattle.vx_node.specs.Working.{Worked, IsFree};
-ghost use Rattle.vx_node.specs.Yards.{YardAgrees, IsTold, in_files};
+ghost use Rattle.vx_node.specs.Yards.{IsKept, YardAgrees, IsTold, in_files};
 
-use crate::place::seat;
 use crate::write::refused;
 use crate::{Said, Yard};
 use vx_disk::Rack;
-use vx_model::{Name, No};
+use vx_model::Name;
 
 impl<R: Rack> Yard<R> {
     /// Brings the logged writes of a site up to a number into their volumes.
     pub(crate) fn apply_line(&mut self, name: &Name, to: u64) -> Said
-        ensures works { (w : World) → YardAgrees w self.old → IsFree self.old (Apply name.now to) → Worked w (Apply name.now to) result self.old self.new }
+        requires kept { IsKept self.old }
+        requires free { IsFree self.old (Apply name.now to) }
+        ensures works { (w : World) → YardAgrees w self.old → Worked w (Apply name.now to) result self.old self.new }
         ensures told { IsTold self.new → IsTold self.old }
         ensures files { in_files self.new ≡ in_files self.old }
     {
-        let Some(site) = seat(&self.facts, name) else {
-            return Said::Refused(No::Role);
-        };
-        if site >= self.disk_sets.len() {
-            return Said::Refused(No::Role);
-        }
+        let site = self.site_of(name);
         match self.disk_sets[site].apply(to) {
             Ok(number) => Said::DoneAt(number),
             Err(no) => refused(&mut self.facts[site], no),

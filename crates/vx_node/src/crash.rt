@@ -6,13 +6,12 @@ ghost use Rattle.vx_script.specs.declared.line.ScriptLine.TheVariants.{Crash};
 ghost use Rattle.vx_node.specs.Asked.{AsAsked, CrashesBy, OfSite};
 ghost use Rattle.vx_node.specs.Rising.{Fell};
 ghost use Rattle.vx_node.specs.Working.{Worked, IsFree};
-ghost use Rattle.vx_node.specs.Yards.{YardAgrees, IsTold, in_files};
+ghost use Rattle.vx_node.specs.Yards.{IsKept, YardAgrees, IsTold, in_files};
 
-use crate::place::seat;
 use crate::{DiskSet, Said, Yard, facts};
 use std::mem;
 use vx_disk::Rack;
-use vx_model::{Name, No};
+use vx_model::Name;
 
 impl<R: Rack> Yard<R> {
     /// Crashes the disks of a site that is up.
@@ -33,17 +32,14 @@ impl<R: Rack> Yard<R> {
 
     /// Crashes a site that is up.
     pub(crate) fn crash_line(&mut self, name: &Name, pick: u64) -> Said
-        ensures works { (w : World) → YardAgrees w self.old → IsFree self.old (Crash name.now pick) → Worked w (Crash name.now pick) result self.old self.new }
-        ensures asked { (w : World) → YardAgrees w self.old → IsFree self.old (Crash name.now pick) → AsAsked w (Crash name.now pick) self.old self.new }
+        requires kept { IsKept self.old }
+        requires free { IsFree self.old (Crash name.now pick) }
+        ensures works { (w : World) → YardAgrees w self.old → Worked w (Crash name.now pick) result self.old self.new }
+        ensures asked { (w : World) → YardAgrees w self.old → AsAsked w (Crash name.now pick) self.old self.new }
         ensures told { IsTold self.new → IsTold self.old }
         ensures files { in_files self.new ≡ in_files self.old }
     {
-        let Some(site) = seat(&self.facts, name) else {
-            return Said::Refused(No::Role);
-        };
-        if site >= self.disk_sets.len() {
-            return Said::Refused(No::Role);
-        }
+        let site = self.site_of(name);
         self.go_down(site, pick);
         Said::Done
     }

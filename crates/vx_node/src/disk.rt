@@ -4,12 +4,11 @@ ghost use Rattle.vx_history.specs.World.{World};
 ghost use Rattle.vx_script.specs.declared.line.ScriptLine.TheVariants.{Disk};
 ghost use Rattle.vx_node.specs.Asked.{AsAsked, is_failing};
 ghost use Rattle.vx_node.specs.Working.{Worked, IsFree};
-ghost use Rattle.vx_node.specs.Yards.{YardAgrees, IsTold, in_files};
+ghost use Rattle.vx_node.specs.Yards.{IsKept, YardAgrees, IsTold, in_files};
 
-use crate::place::{seat, unknown};
 use crate::{Said, Yard};
 use vx_disk::Rack;
-use vx_model::{Name, No};
+use vx_model::Name;
 use vx_script::DiskState as DiskWord;
 
 // Whether the calls on the disk are to fail.
@@ -22,17 +21,14 @@ fn is_failing(state: DiskWord) -> bool
 impl<R: Rack> Yard<R> {
     /// Makes the calls on a disk fail, or ends that.
     pub(crate) fn set_disk(&mut self, name: &Name, disk: u64, state: DiskWord) -> Said
-        ensures works { (w : World) → YardAgrees w self.old → IsFree self.old (Disk name.now disk state) → Worked w (Disk name.now disk state) result self.old self.new }
-        ensures asked { (w : World) → YardAgrees w self.old → IsFree self.old (Disk name.now disk state) → AsAsked w (Disk name.now disk state) self.old self.new }
+        requires kept { IsKept self.old }
+        requires free { IsFree self.old (Disk name.now disk state) }
+        ensures works { (w : World) → YardAgrees w self.old → Worked w (Disk name.now disk state) result self.old self.new }
+        ensures asked { (w : World) → YardAgrees w self.old → AsAsked w (Disk name.now disk state) self.old self.new }
         ensures told { IsTold self.new → IsTold self.old }
         ensures files { in_files self.new ≡ in_files self.old }
     {
-        let Some(site) = seat(&self.facts, name) else {
-            return unknown(name);
-        };
-        if site >= self.disk_sets.len() {
-            return Said::Refused(No::Role);
-        }
+        let site = self.site_of(name);
         self.disk_sets[site].fail(disk, is_failing(state));
         Said::Done
     }

@@ -4,27 +4,23 @@ ghost use Rattle.vx_history.specs.World.{World};
 ghost use Rattle.vx_script.specs.declared.line.ScriptLine.TheVariants.{Fuse};
 ghost use Rattle.vx_node.specs.Asked.{AsAsked};
 ghost use Rattle.vx_node.specs.Working.{Worked, IsFree};
-ghost use Rattle.vx_node.specs.Yards.{YardAgrees, IsTold, in_files};
+ghost use Rattle.vx_node.specs.Yards.{IsKept, YardAgrees, IsTold, in_files};
 
-use crate::place::seat;
 use crate::{Said, Yard};
 use vx_disk::Rack;
-use vx_model::{Name, No};
+use vx_model::Name;
 
 impl<R: Rack> Yard<R> {
     /// Sets the fuse of a site that is up.
     pub(crate) fn fuse_line(&mut self, name: &Name, calls: u64, pick: u64) -> Said
-        ensures works { (w : World) → YardAgrees w self.old → IsFree self.old (Fuse name.now calls pick) → Worked w (Fuse name.now calls pick) result self.old self.new }
-        ensures asked { (w : World) → YardAgrees w self.old → IsFree self.old (Fuse name.now calls pick) → AsAsked w (Fuse name.now calls pick) self.old self.new }
+        requires kept { IsKept self.old }
+        requires free { IsFree self.old (Fuse name.now calls pick) }
+        ensures works { (w : World) → YardAgrees w self.old → Worked w (Fuse name.now calls pick) result self.old self.new }
+        ensures asked { (w : World) → YardAgrees w self.old → AsAsked w (Fuse name.now calls pick) self.old self.new }
         ensures told { IsTold self.new → IsTold self.old }
         ensures files { in_files self.new ≡ in_files self.old }
     {
-        let Some(site) = seat(&self.facts, name) else {
-            return Said::Refused(No::Role);
-        };
-        if site >= self.disk_sets.len() {
-            return Said::Refused(No::Role);
-        }
+        let site = self.site_of(name);
         self.disk_sets[site].fuse(calls, pick);
         Said::Done
     }

@@ -4,16 +4,15 @@ ghost use Rattle.vx_history.specs.World.{World};
 ghost use Rattle.vx_script.specs.declared.line.ScriptLine.TheVariants.{Site, Raw};
 ghost use Rattle.vx_node.specs.Replies.{reply_to};
 ghost use Rattle.vx_node.specs.Working.{WorkIs, IsFree};
-ghost use Rattle.vx_node.specs.Yards.{YardAgrees, IsTold, in_files};
+ghost use Rattle.vx_node.specs.Yards.{IsKept, YardAgrees, IsTold, in_files};
 
 use crate::folder::folder;
-use crate::place::{seat, unknown};
 use crate::{DiskSet, Said, Yard, facts};
 use std::alloc::Global;
 use std::mem;
 use vx_disk::Rack;
 use vx_model::limits::{LEAST_BLOCKS, LEAST_RAW_DISKS, MOST_DISKS, MOST_SITES};
-use vx_model::{Name, No, OutOfMemory, Stop};
+use vx_model::{Name, OutOfMemory, Stop};
 
 // A refusal of the disks as a reply.
 fn stopped(stop: Stop) -> Result<Said, OutOfMemory>
@@ -37,13 +36,15 @@ impl<R: Rack> Yard<R> {
         requires some { 1 ≤ disks }
         requires few { disks ≤ MOST_DISKS }
         requires large { LEAST_BLOCKS ≤ blocks }
-        ensures works { (w : World) → YardAgrees w self.old → IsFree self.old (Site name.now disks blocks) → WorkIs w (Site name.now disks blocks) self.old self.new result }
+        requires kept { IsKept self.old }
+        requires free { IsFree self.old (Site name.now disks blocks) }
+        ensures works { (w : World) → YardAgrees w self.old → WorkIs w (Site name.now disks blocks) self.old self.new result }
         ensures told { IsTold self.new → IsTold self.old }
         ensures files { in_files self.new ≡ in_files self.old }
     {
         let site = self.facts.len();
         if site >= self.disk_sets.len() || site >= MOST_SITES {
-            return Ok(Said::Refused(No::Role));
+            unreachable!();
         }
         self.facts
             .push(facts::bare(alloc, name, disks as u32, blocks))?;
@@ -65,22 +66,17 @@ impl<R: Rack> Yard<R> {
 
     /// Makes a bare site a raw set.
     pub(crate) fn make_raw(&mut self, alloc: Global, name: &Name) -> Result<Said, OutOfMemory>
-        ensures works { (w : World) → YardAgrees w self.old → IsFree self.old (Raw name.now) → WorkIs w (Raw name.now) self.old self.new result }
+        requires kept { IsKept self.old }
+        requires free { IsFree self.old (Raw name.now) }
+        ensures works { (w : World) → YardAgrees w self.old → WorkIs w (Raw name.now) self.old self.new result }
         ensures told { IsTold self.new → IsTold self.old }
         ensures files { in_files self.new ≡ in_files self.old }
     {
-        let Some(site) = seat(&self.facts, name) else {
-            return Ok(unknown(name));
-        };
+        let site = self.site_of(name);
         let disks = self.facts[site].disks;
         let blocks = self.facts[site].blocks;
-        if site >= self.disk_sets.len()
-            || site >= MOST_SITES
-            || disks < LEAST_RAW_DISKS
-            || disks > MOST_DISKS
-            || blocks < LEAST_BLOCKS
-        {
-            return Ok(Said::Refused(No::Role));
+        if disks < LEAST_RAW_DISKS || disks > MOST_DISKS || blocks < LEAST_BLOCKS {
+            unreachable!();
         }
         let volumes = facts::raw_table(alloc, disks - 2, blocks)?;
         let disk_set = mem::replace(&mut self.disk_sets[site], DiskSet::Gone);

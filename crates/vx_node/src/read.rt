@@ -7,13 +7,12 @@ ghost use Rattle.vx_node.specs.DiskSets.{CanRead, Later};
 ghost use Rattle.vx_node.specs.Fetching.{GaveAt, IsReadFree, IsRoom, Fetched};
 ghost use Rattle.vx_node.specs.Stands.{StandsAt};
 ghost use Rattle.vx_node.specs.Working.{Worked, IsFree};
-ghost use Rattle.vx_node.specs.Yards.{YardAgrees, IsTold, in_files};
+ghost use Rattle.vx_node.specs.Yards.{IsKept, YardAgrees, IsTold, in_files};
 
-use crate::place::seat;
-use crate::{DiskSet, Said, Yard, facts};
+use crate::{DiskSet, Said, Yard};
 use vx_disk::Rack;
-use vx_model::limits::{MOST_CALL_BLOCKS, MOST_SITES};
-use vx_model::{Bytes, Name, Named, No};
+use vx_model::limits::MOST_CALL_BLOCKS;
+use vx_model::{Bytes, Name, No};
 
 // So many blocks of a volume, by its number, read into a place for them.
 fn blocks_of<R: Rack>(
@@ -44,7 +43,9 @@ impl<R: Rack> Yard<R> {
         room: Vec<u8>,
     ) -> Said
         requires room { IsRoom count room.items }
-        ensures works { (w : World) → YardAgrees w self.old → IsFree self.old (ReadLine name.now volume.now start count) → Worked w (ReadLine name.now volume.now start count) result self.old self.new }
+        requires kept { IsKept self.old }
+        requires free { IsFree self.old (ReadLine name.now volume.now start count) }
+        ensures works { (w : World) → YardAgrees w self.old → Worked w (ReadLine name.now volume.now start count) result self.old self.new }
         ensures told { IsTold self.new → IsTold self.old }
         ensures files { in_files self.new ≡ in_files self.old }
     {
@@ -61,7 +62,9 @@ impl<R: Rack> Yard<R> {
         room: Vec<u8>,
     ) -> Said
         requires room { IsRoom count room.items }
-        ensures works { (w : World) → YardAgrees w self.old → IsFree self.old (ShowLine name.now volume.now start count) → Worked w (ShowLine name.now volume.now start count) result self.old self.new }
+        requires kept { IsKept self.old }
+        requires free { IsFree self.old (ShowLine name.now volume.now start count) }
+        ensures works { (w : World) → YardAgrees w self.old → Worked w (ShowLine name.now volume.now start count) result self.old self.new }
         ensures told { IsTold self.new → IsTold self.old }
         ensures files { in_files self.new ≡ in_files self.old }
     {
@@ -71,26 +74,16 @@ impl<R: Rack> Yard<R> {
     // Reads blocks of a volume. The tests of the line left no other case than that all of it is there.
     fn fetch(&mut self, name: &Name, volume: &Name, start: u64, count: u64, room: Vec<u8>) -> Said
         requires room { IsRoom count room.items }
-        ensures works { (w : World) → YardAgrees w self.old → IsReadFree self.old name.now volume.now start count → Fetched w name.now volume.now start count result self.old self.new }
+        requires kept { IsKept self.old }
+        requires free { IsReadFree self.old name.now volume.now start count }
+        ensures works { (w : World) → YardAgrees w self.old → Fetched w name.now volume.now start count result self.old self.new }
         ensures told { IsTold self.new → IsTold self.old }
         ensures files { in_files self.new ≡ in_files self.old }
     {
-        let Some(site) = seat(&self.facts, name) else {
-            return Said::Refused(No::Unknown {
-                what: Named::Of(*name),
-            });
-        };
-        let Some(place) = facts::place(&self.facts[site], volume) else {
-            return Said::Refused(No::Unknown {
-                what: Named::Of(*volume),
-            });
-        };
-        if site >= self.disk_sets.len()
-            || place >= MOST_SITES
-            || count == 0
-            || count > MOST_CALL_BLOCKS
-        {
-            return Said::Refused(No::Role);
+        let site = self.site_of(name);
+        let place = self.volume_of(site, volume);
+        if count == 0 || count > MOST_CALL_BLOCKS {
+            unreachable!();
         }
         match blocks_of(&mut self.disk_sets[site], place as u32, start, count, room) {
             Ok(blocks) => Said::Got(blocks),

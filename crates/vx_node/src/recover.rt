@@ -6,9 +6,8 @@ ghost use Rattle.vx_script.specs.declared.line.ScriptLine.TheVariants.{Recover};
 ghost use Rattle.vx_node.specs.Rising.{Finding, NotesUp, Recovering};
 ghost use Rattle.vx_node.specs.Works.{Begins};
 ghost use Rattle.vx_node.specs.Working.{WorkIs, IsFree};
-ghost use Rattle.vx_node.specs.Yards.{YardAgrees, IsTold, in_files};
+ghost use Rattle.vx_node.specs.Yards.{IsKept, YardAgrees, IsTold, in_files};
 
-use crate::place::seat;
 use crate::{DiskSet, Said, Yard, facts};
 use std::alloc::Global;
 use std::mem;
@@ -101,20 +100,20 @@ impl<R: Rack> Yard<R> {
 
     /// Recovers a site: one that is up crashes first, and one that is bare starts what an earlier run left on its disks.
     pub(crate) fn recover_line(&mut self, alloc: Global, name: &Name) -> Result<Said, OutOfMemory>
-        ensures works { (w : World) → YardAgrees w self.old → IsFree self.old (Recover name.now) → WorkIs w (Recover name.now) self.old self.new result }
+        requires kept { IsKept self.old }
+        requires free { IsFree self.old (Recover name.now) }
+        ensures works { (w : World) → YardAgrees w self.old → WorkIs w (Recover name.now) self.old self.new result }
         ensures told { IsTold self.new → IsTold self.old }
         ensures files { in_files self.new ≡ in_files self.old }
     {
-        let Some(site) = seat(&self.facts, name) else {
-            return Ok(Said::Refused(No::Role));
-        };
-        if site >= self.disk_sets.len() || self.facts[site].blocks < LEAST_BLOCKS {
-            return Ok(Said::Refused(No::Role));
+        let site = self.site_of(name);
+        if self.facts[site].blocks < LEAST_BLOCKS {
+            unreachable!();
         }
         let blocks = self.facts[site].blocks;
         match self.facts[site].state {
             SiteState::Bare => self.recover_bare(alloc, name, site),
-            SiteState::Deported => Ok(Said::Refused(No::Role)),
+            SiteState::Deported => unreachable!(),
             SiteState::Up => {
                 let room = StartRoom::new(alloc, blocks)?;
                 self.go_down(site, u64::MAX);

@@ -5,13 +5,12 @@ ghost use Rattle.vx_script.specs.declared.line.ScriptLine.TheVariants.{Status as
 ghost use Rattle.vx_node.specs.Seen.{name_at, group_seen, group_at};
 ghost use Rattle.vx_events.specs.Views.{view_of};
 ghost use Rattle.vx_node.specs.Working.{Worked, IsFree};
-ghost use Rattle.vx_node.specs.Yards.{YardAgrees};
+ghost use Rattle.vx_node.specs.Yards.{IsKept, YardAgrees};
 
-use crate::place::seat;
 use crate::{Said, Yard};
 use std::alloc::Global;
 use vx_disk::Rack;
-use vx_model::{Name, No, SiteName, SiteState};
+use vx_model::{Name, SiteName, SiteState};
 use vx_order::{RvgFacts, SiteFacts};
 use vx_report::{DiskViews, LinkViews, RvgView, SiteView, VolumeViews};
 
@@ -78,14 +77,11 @@ impl<R: Rack> Yard<R> {
 
     /// The status of a site.
     pub(crate) fn status_line(&self, alloc: Global, name: &Name) -> Said
-        ensures works { (w : World) → YardAgrees w self.now → IsFree self.now (StatusLine name.now) → Worked w (StatusLine name.now) result self.now self.now }
+        requires kept { IsKept self.now }
+        requires free { IsFree self.now (StatusLine name.now) }
+        ensures works { (w : World) → YardAgrees w self.now → Worked w (StatusLine name.now) result self.now self.now }
     {
-        let Some(site) = seat(&self.facts, name) else {
-            return Said::Refused(No::Role);
-        };
-        if site >= self.facts.len() || site >= self.disk_sets.len() {
-            return Said::Refused(No::Role);
-        }
+        let site = self.site_of(name);
         Said::Shown(self.view_at(alloc, site))
     }
 }

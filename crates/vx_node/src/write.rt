@@ -5,12 +5,11 @@ ghost use Rattle.vx_script.specs.declared.line.ScriptLine.TheVariants.{Write as 
 ghost use Rattle.vx_events.specs.declared.said.Said.TheVariants.{Refused};
 ghost use Rattle.vx_node.specs.Working.{Worked, IsFree};
 ghost use Rattle.vx_node.specs.Writes.{WriteFree, PutsIs, noted_facts};
-ghost use Rattle.vx_node.specs.Yards.{YardAgrees, IsTold, in_files};
+ghost use Rattle.vx_node.specs.Yards.{IsKept, YardAgrees, IsTold, in_files};
 
-use crate::place::seat;
 use crate::{Said, Yard, facts};
 use vx_disk::Rack;
-use vx_model::limits::{MOST_CALL_BLOCKS, MOST_CALL_BYTES, MOST_SITES};
+use vx_model::limits::{MOST_CALL_BLOCKS, MOST_CALL_BYTES};
 use vx_model::{Block, Name, No};
 use vx_order::SiteFacts;
 
@@ -33,19 +32,14 @@ impl<R: Rack> Yard<R> {
         requires some { 0 < length bytes.now }
         requires few { length bytes.now ≤ MOST_CALL_BYTES }
         requires whole { length bytes.now % 512 ≡ 0 }
-        ensures works { (w : World) → YardAgrees w self.old → WriteFree self.old name.now volume.now start bytes.now → PutsIs w name.now volume.now start bytes.now result self.old self.new }
+        requires kept { IsKept self.old }
+        requires free { WriteFree self.old name.now volume.now start bytes.now }
+        ensures works { (w : World) → YardAgrees w self.old → PutsIs w name.now volume.now start bytes.now result self.old self.new }
         ensures told { IsTold self.new → IsTold self.old }
         ensures files { in_files self.new ≡ in_files self.old }
     {
-        let Some(site) = seat(&self.facts, name) else {
-            return Said::Refused(No::Role);
-        };
-        let Some(place) = facts::place(&self.facts[site], volume) else {
-            return Said::Refused(No::Role);
-        };
-        if site >= self.disk_sets.len() || place >= MOST_SITES {
-            return Said::Refused(No::Role);
-        }
+        let site = self.site_of(name);
+        let place = self.volume_of(site, volume);
         match self.disk_sets[site].write(place as u32, start, bytes) {
             Ok(number) => {
                 facts::set_last(&mut self.facts[site], number);
@@ -66,19 +60,23 @@ impl<R: Rack> Yard<R> {
         bytes: &[u8],
     ) -> Said
         requires bytes { bytes.now ≡ replicate (512 * min count MOST_CALL_BLOCKS) fill }
-        ensures works { (w : World) → YardAgrees w self.old → IsFree self.old (WriteLine name.now volume.now start count fill) → Worked w (WriteLine name.now volume.now start count fill) result self.old self.new }
+        requires kept { IsKept self.old }
+        requires free { IsFree self.old (WriteLine name.now volume.now start count fill) }
+        ensures works { (w : World) → YardAgrees w self.old → Worked w (WriteLine name.now volume.now start count fill) result self.old self.new }
         ensures told { IsTold self.new → IsTold self.old }
         ensures files { in_files self.new ≡ in_files self.old }
     {
         if count < 1 || count > MOST_CALL_BLOCKS {
-            return Said::Refused(No::Size);
+            unreachable!();
         }
         self.write_blocks(name, volume, start, bytes)
     }
 
     /// Writes one block of these bytes.
     pub(crate) fn put_line(&mut self, name: &Name, volume: &Name, start: u64, bytes: &Block) -> Said
-        ensures works { (w : World) → YardAgrees w self.old → IsFree self.old (PutLine name.now volume.now start bytes.now) → Worked w (PutLine name.now volume.now start bytes.now) result self.old self.new }
+        requires kept { IsKept self.old }
+        requires free { IsFree self.old (PutLine name.now volume.now start bytes.now) }
+        ensures works { (w : World) → YardAgrees w self.old → Worked w (PutLine name.now volume.now start bytes.now) result self.old self.new }
         ensures told { IsTold self.new → IsTold self.old }
         ensures files { in_files self.new ≡ in_files self.old }
     {

@@ -5,7 +5,7 @@ ghost use Rattle.vx_history.specs.World.{World, empty_world};
 ghost use Rattle.vx_node.specs.Asked.{AsAsked};
 ghost use Rattle.vx_node.specs.Holds.{AreFresh, RacksHold, RacksTell, rack_faults};
 ghost use Rattle.vx_node.specs.Working.{IsFree};
-ghost use Rattle.vx_node.specs.Yards.{YardStands, LineIs, IsTold, count_of, in_files};
+ghost use Rattle.vx_node.specs.Yards.{IsKept, YardStands, LineIs, IsTold, count_of, in_files};
 
 use crate::folder::copied;
 use crate::racks::{put_racks, take_racks};
@@ -64,6 +64,7 @@ impl<R: Rack> Yard<R> {
         words: &ScriptLine,
         out: &mut O,
     ) -> Result<(), LineStop>
+        requires kept { IsKept self.old }
         ensures line { (w : World) → YardStands w self.old → LineIs w words.now self.old self.new (O.written out.old) (O.written out.new) result }
         // What the line asks of the rack of its site: a disk, a number of calls or a pick.
         ensures asked { (w : World) → YardStands w self.old → IsFree self.old words.now → AsAsked w words.now self.old self.new }
