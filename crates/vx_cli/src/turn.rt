@@ -2,7 +2,7 @@
 ghost use Rattle.std.specs.Prelude.{◌≡◌, ◌≤◌, ◌<◌, ◌^◌, ℕ, Some};
 ghost use Rattle.vx_history.specs.World.{World};
 ghost use Rattle.vx_stream.specs.Causes.{Rose};
-ghost use Rattle.vx_node.specs.Yards.{YardStands, IsTold, in_files};
+ghost use Rattle.vx_node.specs.Yards.{IsKept, YardStands, IsTold, in_files};
 ghost use Rattle.vx_cli.specs.Turns.{AnswerIs, TurnIs};
 
 use crate::Status;
@@ -24,7 +24,8 @@ fn answer<O: Sink, R: Rack>(
     number: u64,
     line: &[u8],
 ) -> Option<Status>
-    requires { number ≤ MOST_NUMBER }
+    requires kept { IsKept yard.old }
+    requires few { number ≤ MOST_NUMBER }
     ensures answer { (w : World) → YardStands w yard.old
         → AnswerIs number w line.now result yard.old yard.new (O.written sink.old) (O.written sink.new) }
     ensures told { IsTold yard.new → IsTold yard.old }
@@ -55,7 +56,8 @@ pub fn turn<I: Source, O: Sink, R: Rack>(
     line: &mut Vec<u8>,
     number: u64,
 ) -> Option<Status>
-    requires { number < 1000000 }
+    requires kept { IsKept yard.old }
+    requires few { number < 1000000 }
     ensures turn { (w : World) → YardStands w yard.old
         → TurnIs number w held.old.items (I.left source.old) result yard.old yard.new held.new.items (I.left source.new) (O.written sink.old) (O.written sink.new) }
     ensures told { IsTold yard.new → IsTold yard.old }

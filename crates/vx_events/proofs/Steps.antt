@@ -90,7 +90,7 @@ no_place row place zero none = refl
 no_place row place (suc k) none =
     ap (λ (b : Bool). if b then Some k else link_in_place row place k) (not_made (row k).made place (none k)) ∙ no_place row place k none
 
-no_sites : (row : ℕ → LinkOf) (sites place n : ℕ) → ((k : ℕ) → is_linked (row k) ≡ false) → linked_sites row sites place n ≡ []
+pub no_sites : (row : ℕ → LinkOf) (sites place n : ℕ) → ((k : ℕ) → is_linked (row k) ≡ false) → linked_sites row sites place n ≡ []
 no_sites row sites place zero none = refl
 no_sites row sites place (suc k) none =
     ap (λ (o : Option ℕ). put_before o (linked_sites row sites (place + 1) k)) (no_place row place sites none) ∙ no_sites row sites (place + 1) k none

@@ -14,7 +14,7 @@ use Rattle.vx_history.specs.declared.event.Event.TheVariants.{Site as MakeSite, 
 use Rattle.vx_script.specs.declared.line.ScriptLine.{ScriptLine}
 use Rattle.vx_script.specs.declared.line.ScriptLine.TheVariants.{Site, Raw, Disk, Crash, Fuse, Recover, Write, Put, Read, Show, Apply, Status}
 use Rattle.vx_events.specs.Facts.{site_number}
-use Rattle.vx_events.specs.Fails.{Fails}
+use Rattle.vx_events.specs.Fails.{Fails, AreBorne}
 use Rattle.vx_events.specs.Found.{SameDisks}
 use Rattle.vx_history.specs.Stops.{IsFused}
 use Rattle.vx_events.specs.Lists.{Choice, events_of}
@@ -92,7 +92,7 @@ pub data Recovering (w : World) (s : ℕ) (c : Choice) (mid : World) (n : Node) 
 -- any state, session and number of writes on them: it still changes its own site alone, which keeps its name, its disks and its volumes.
 pub data Ends (told : Type 0) (w : World) (line : ScriptLine) (s : ℕ) (fails : Fails) (said : Said) (new : World) : Type 0 where
   -- all events are done, and the last of them is answered
-  AllDone : (c : Choice) → fails ≡ [] → Replies told line s w (events_of w line c) said → new ≡ noted s line (run w (events_of w line c))
+  AllDone : (c : Choice) → AreBorne fails → Replies told line s w (events_of w line c) said → new ≡ noted s line (run w (events_of w line c))
       → Ends told w line s fails said new
   -- a disk failed in an event, behind those before it
   DiskFails : (c : Choice) (before : List Event) (e : Event) (rest left : List Event) (disk : ℕ) → events_of w line c ≡ before ++ e ∷ rest

@@ -14,7 +14,7 @@ use Rattle.vx_report.specs.declared.view.SiteView.{SiteView}
 use Rattle.vx_events.specs.Facts.{site_fact, facts_of, values_from}
 use Rattle.vx_events.specs.Views.{name_of, group_view, group_shown, view_of}
 use Rattle.vx_node.specs.declared.yard.Yard.{Yard}
-use Rattle.vx_node.specs.Stands.{StandsAt}
+use Rattle.vx_node.specs.Stands.{StandsAlone}
 use Rattle.vx_node.specs.Yards.{YardAgrees, YardStands}
 
 values_same : {A : Type 0} (f g : ℕ → A) (k n : ℕ) → ((i : ℕ) → f i ≡ g i) → values_from f k n ≡ values_from g k n
@@ -77,11 +77,11 @@ module _ {R : Type 0} {g : Ghosts R} where
   pub agrees_like : (w v : World) (y : Yard R g) → v.sites ≡ w.sites → ((i : ℕ) → v.nodes i ≡ w.nodes i) → YardAgrees w y → YardAgrees v y
   agrees_like w v y sites nodes agrees = record {
     facts = agrees.facts ∙ sym (facts_like w v sites nodes);
-    engines = record {
-      eight = agrees.engines.eight;
-      few = omega (arith, agrees.engines.few, sites);
-      sites = λ s e below at. subst (λ (n : Node). StandsAt n e) (sym (nodes s)) (agrees.engines.sites s e (omega (arith, below, sites)) at);
-      others = λ s e past at. agrees.engines.others s e (omega (arith, past, sites)) at;
+    disk_sets = record {
+      eight = agrees.disk_sets.eight;
+      few = omega (arith, agrees.disk_sets.few, sites);
+      sites = λ s e below at. subst (λ (n : Node). StandsAlone n e) (sym (nodes s)) (agrees.disk_sets.sites s e (omega (arith, below, sites)) at);
+      others = λ s e past at. agrees.disk_sets.others s e (omega (arith, past, sites)) at;
     };
     none = agrees.none;
     room = agrees.room;

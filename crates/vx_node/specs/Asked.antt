@@ -9,8 +9,8 @@ use Rattle.vx_script.specs.declared.line.DiskState.TheVariants.{Fail, Work}
 use Rattle.vx_script.specs.declared.line.ScriptLine.{ScriptLine}
 use Rattle.vx_script.specs.declared.line.ScriptLine.TheVariants.{Disk, Crash, Fuse}
 use Rattle.vx_events.specs.Facts.{site_number}
-use Rattle.vx_node.specs.declared.engine.Engine.{Engine}
-use Rattle.vx_node.specs.declared.engine.Engine.TheVariants.{Bare, Spoiled, Up, Down, Gone}
+use Rattle.vx_node.specs.declared.disk_set.DiskSet.{DiskSet}
+use Rattle.vx_node.specs.declared.disk_set.DiskSet.TheVariants.{Bare, Spoiled, Up, Down, Gone}
 use Rattle.vx_node.specs.declared.yard.Yard.{Yard}
 
 -- whether the calls on the disk are to fail
@@ -19,15 +19,15 @@ is_failing Fail = true
 is_failing Work = false
 
 module _ {R : Type 0} {g : Ghosts R} where
-  -- what is told of the disks of an engine
-  abbrev pub disks_in : Engine R g → Option Disks
+  -- what is told of the disks of an disk set
+  abbrev pub disks_in : DiskSet R g → Option Disks
   disks_in (Bare rack) = (g.meaning rack).disks
   disks_in (Spoiled rack) = (g.meaning rack).disks
   disks_in (Up rvg) = (g.meaning rvg.shelf).disks
   disks_in (Down rack) = (g.meaning rack).disks
   disks_in Gone = None
 
-  abbrev pub size_in : Engine R g → ℕ → ℕ
+  abbrev pub size_in : DiskSet R g → ℕ → ℕ
   size_in (Bare rack) = (g.meaning rack).size
   size_in (Spoiled rack) = (g.meaning rack).size
   size_in (Up rvg) = (g.meaning rvg.shelf).size
@@ -35,7 +35,7 @@ module _ {R : Type 0} {g : Ghosts R} where
   size_in Gone = λ u. 0
 
   -- how many disks it has
-  abbrev pub units_in : Engine R g → ℕ
+  abbrev pub units_in : DiskSet R g → ℕ
   units_in (Bare rack) = (g.meaning rack).units
   units_in (Spoiled rack) = (g.meaning rack).units
   units_in (Up rvg) = (g.meaning rvg.shelf).units
@@ -43,24 +43,24 @@ module _ {R : Type 0} {g : Ghosts R} where
   units_in Gone = 0
 
   -- each later call on this disk fails, or no longer, and nothing else changed
-  abbrev pub SetsDisk : (disk : ℕ) → (on : Bool) → Engine R g → Engine R g → Type 0
+  abbrev pub SetsDisk : (disk : ℕ) → (on : Bool) → DiskSet R g → DiskSet R g → Type 0
   SetsDisk disk on old new =
       WithDisks (disks_in old) (disks_in new) (λ o n. Untouched o n × (n.failing disk ≡ on) × ((u : ℕ) → u ≢ disk → n.failing u ≡ o.failing u))
 
   -- so many writes and flushes pass, and the next is a crash with this pick
-  abbrev pub SetsFuse : (calls pick : ℕ) → Engine R g → Engine R g → Type 0
+  abbrev pub SetsFuse : (calls pick : ℕ) → DiskSet R g → DiskSet R g → Type 0
   SetsFuse calls pick old new = OnDisks (disks_in old) (disks_in new) (λ o n. SameBlocks o n × (n.fuse ≡ Some (calls, pick)))
 
   -- the disks crashed with this pick
-  abbrev pub CrashesBy : (pick : ℕ) → Engine R g → Engine R g → Type 0
+  abbrev pub CrashesBy : (pick : ℕ) → DiskSet R g → DiskSet R g → Type 0
   CrashesBy pick old new = OnDisks (disks_in old) (disks_in new) (Crashed (size_in old) pick)
 
-  -- the engine of this site did so, and no other changed
-  pub record OfSite (Did : Engine R g → Engine R g → Type 0) (site : ℕ) (old new : Yard R g) : Type 0 where
-    pub before : Engine R g
-    pub after : Engine R g
-    pub there : slice_get old.engines.items site ≡ Some before
-    pub engines : new.engines.items ≡ slice_set old.engines.items site after
+  -- the disk set of this site did so, and no other changed
+  pub record OfSite (Did : DiskSet R g → DiskSet R g → Type 0) (site : ℕ) (old new : Yard R g) : Type 0 where
+    pub before : DiskSet R g
+    pub after : DiskSet R g
+    pub there : slice_get old.disk_sets.items site ≡ Some before
+    pub disk_sets : new.disk_sets.items ≡ slice_set old.disk_sets.items site after
     pub did : Did before after
 
   -- what a line asks of the rack of its site

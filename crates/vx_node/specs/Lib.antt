@@ -1,10 +1,11 @@
 pub mod Asked
 pub mod Changes
-pub mod Engines
+pub mod DiskSets
 pub mod Fetching
 pub mod Fuses
 pub mod Holds
 pub mod Lasts
+pub mod Layouts
 pub mod Lines
 pub mod Racks
 pub mod Replies

@@ -1,18 +1,18 @@
--- The racks of the engines.
+-- The racks of the disk sets.
 use Rattle.std.specs.Prelude.{List, [], ◌∷◌, ◌++◌}
 use Rattle.vx_disk.specs.declared.shelf.Shelf.{Ghosts}
-use Rattle.vx_node.specs.declared.engine.Engine.{Engine}
-use Rattle.vx_node.specs.declared.engine.Engine.TheVariants.{Bare, Spoiled, Up, Down, Gone}
+use Rattle.vx_node.specs.declared.disk_set.DiskSet.{DiskSet}
+use Rattle.vx_node.specs.declared.disk_set.DiskSet.TheVariants.{Bare, Spoiled, Up, Down, Gone}
 
 module _ {R : Type 0} {g : Ghosts R} where
   -- that of one, if it is not taken out
-  abbrev pub rack_in : Engine R g → List R
+  abbrev pub rack_in : DiskSet R g → List R
   rack_in (Bare rack) = rack ∷ []
   rack_in (Spoiled rack) = rack ∷ []
   rack_in (Up rvg) = rvg.shelf ∷ []
   rack_in (Down rack) = rack ∷ []
   rack_in Gone = []
 
-  abbrev pub racks_in : List (Engine R g) → List R
+  abbrev pub racks_in : List (DiskSet R g) → List R
   racks_in [] = []
-  racks_in (engine ∷ engines) = rack_in engine ++ racks_in engines
+  racks_in (disk_set ∷ disk_sets) = rack_in disk_set ++ racks_in disk_sets

@@ -1,21 +1,21 @@
 -- What a yard stands for: how its racks and what it keeps of each site agree with the world.
-use Rattle.std.specs.Prelude.{◌≡◌, ℕ, ◌+◌, ◌-◌, ◌<◌, ◌≤◌, ◌==◌, ◌&&◌, min, List, [], length, count_by, Option, Some, None, slice_get, IsTrue, IsFalse}
+use Rattle.std.specs.Prelude.{◌≡◌, ℕ, ◌+◌, ◌<◌, ◌≤◌, ◌==◌, ◌&&◌, min, List, [], length, count_by, Option, Some, None, slice_get, IsTrue, IsFalse}
 use Rattle.vx_model.specs.declared.limits.TheConstants.{LEAST_BLOCKS, MOST_DISKS, MOST_SITES}
 use Rattle.vx_model.specs.Content.{zero_block}
-use Rattle.vx_model.specs.Sizes.{ring_of}
-use Rattle.vx_history.specs.World.{Node, World, Volume, NoFuse, bare_site}
+use Rattle.vx_history.specs.World.{Node, World, NoFuse, bare_site}
 use Rattle.vx_model.specs.declared.state.KeptLink.{KeptLink}
 use Rattle.vx_model.specs.declared.site.SiteState.TheVariants.{Up as IsUp, Down as IsDown}
 use Rattle.vx_disk.specs.Shelf.{Meaning, Image, Keeps}
 use Rattle.vx_disk.specs.declared.shelf.Shelf.{Ghosts}
 use Rattle.vx_rvg.specs.Views.{Core, last_of}
-use Rattle.vx_node.specs.declared.engine.Engine.{Engine}
-use Rattle.vx_node.specs.declared.engine.Engine.TheVariants.{Bare, Spoiled, Up, Down, Gone}
+use Rattle.vx_node.specs.declared.disk_set.DiskSet.{DiskSet}
+use Rattle.vx_node.specs.declared.disk_set.DiskSet.TheVariants.{Bare, Spoiled, Up, Down, Gone}
 use Rattle.vx_node.specs.Fuses.{HasFuse, IsFirst}
 use Rattle.vx_events.specs.Fuses.{taken}
-use Rattle.vx_node.specs.Holds.{HasWrites, raw_units, state_of, state_with}
+use Rattle.vx_node.specs.Holds.{HasWrites, state_with}
 use Rattle.vx_events.specs.Stamps.{most_stamp}
 use Rattle.vx_node.specs.Lasts.{LeftWith, StandsWith}
+use Rattle.vx_node.specs.Layouts.{LiesOn, units_of}
 use Rattle.vx_events.specs.Fails.{Fails}
 
 -- a rack that is not fitted, is up, and has no fuse
@@ -44,21 +44,19 @@ pub record IsCleanAt (n : Node) (m : Meaning) : Type 0 where
   pub bare : IsBareAt n m
   pub front : (b : ℕ) → b < n.blocks → Keeps m 0 b zero_block
 
--- the disks of a raw set under its replicated volume group
-pub record IsUpAt (n : Node) (c : Core) (m : Meaning) : Type 0 where
+-- the disks of a site under its replicated volume group, whose log keeps these links
+pub record IsUpAt (links : List KeptLink) (n : Node) (c : Core) (m : Meaning) : Type 0 where
   pub state : n.state ≡ IsUp
-  pub fitted : IsFitted n.disks n.blocks m
+  pub up : IsFalse m.down
   pub fuse : HasFuse n.fuse m
-  pub disks : 3 ≤ n.disks
-  pub units : c.units ≡ raw_units n.disks
-  pub ring : c.log.ring ≡ n.ring
-  pub ring_is : n.ring ≡ ring_of n.blocks
-  pub some : LEAST_BLOCKS ≤ n.blocks
+  pub lies : LiesOn n m
   pub low : n.low ≡ 1
-  -- it has no links; of disks that tell no contents that is not known, nor how great its stamp is
-  pub links : List KeptLink
-  pub kept : c.log.header.state ≡ state_with n links
-  pub unlinked : IsTrue m.tells → links ≡ []
+  pub units : c.units ≡ units_of n
+  pub ring : c.log.ring ≡ n.ring
+  -- of disks that tell no contents it is not known which links it keeps, nor how great its stamp is
+  pub found : List KeptLink
+  pub kept : c.log.header.state ≡ state_with n found
+  pub linked : IsTrue m.tells → found ≡ links
   pub session : c.log.header.incarnation ≡ n.session
   pub begun : IsTrue m.tells → 0 < n.session
   pub stamp : IsTrue m.tells → n.halted ≡ None → c.log.header.stamp + 1 ≤ most_stamp n
@@ -70,71 +68,53 @@ pub record IsUpAt (n : Node) (c : Core) (m : Meaning) : Type 0 where
   pub logged : n.safe ≤ length n.log
   -- while no write failed all are durable
   pub durable : n.halted ≡ None → length n.log ≤ n.safe
-  pub few : n.disks ≤ MOST_DISKS
-  pub volumes : length n.volumes ≡ n.disks - 2
-  pub whole : (v : ℕ) (x : Volume) → slice_get n.volumes v ≡ Some x → x.blocks ≡ n.blocks
-  pub sizes : (v : ℕ) → v < n.disks - 2 → n.base.size v ≡ n.blocks
-  pub others : (v : ℕ) → n.disks - 2 ≤ v → n.base.size v ≡ 0
   -- while no write failed, it has the content, and its log the last of the writes; and whatever a crash leaves has the writes that it may keep
   pub content : n.halted ≡ None → IsTrue m.tells → StandsWith c n.log n.base m
-  pub left : (i : Image) → m.now i → HasWrites n i
+  pub left : (i : Image) → m.now i → HasWrites links n i
 
--- the disks of a raw set, up or down: a crash leaves its writes on them
-pub record IsHeldAt (n : Node) (m : Meaning) : Type 0 where
-  pub units : m.units ≡ n.disks
-  pub size : (u : ℕ) → u < n.disks → m.size u ≡ n.blocks
-  pub disks : 3 ≤ n.disks
-  pub few : n.disks ≤ MOST_DISKS
-  pub some : LEAST_BLOCKS ≤ n.blocks
-  pub ring : n.ring ≡ ring_of n.blocks
-  pub logged : n.safe ≤ length n.log
+-- the disks of a site, up or down: a crash leaves its writes on them
+pub record IsHeldAt (links : List KeptLink) (n : Node) (m : Meaning) : Type 0 where
+  pub lies : LiesOn n m
   pub low : n.low ≡ 1
-  pub volumes : length n.volumes ≡ n.disks - 2
-  pub whole : (v : ℕ) (x : Volume) → slice_get n.volumes v ≡ Some x → x.blocks ≡ n.blocks
-  pub sizes : (v : ℕ) → v < n.disks - 2 → n.base.size v ≡ n.blocks
-  pub others : (v : ℕ) → n.disks - 2 ≤ v → n.base.size v ≡ 0
+  pub logged : n.safe ≤ length n.log
   pub begun : IsTrue m.tells → 0 < n.session
-  pub left : (i : Image) → m.now i → HasWrites n i
+  pub left : (i : Image) → m.now i → HasWrites links n i
 
--- the disks of a raw set that crashed: they have one log and one content, that of the site
-pub record IsDownAt (n : Node) (m : Meaning) : Type 0 where
+-- the disks of a site that crashed: they have one log and one content, that of the site
+pub record IsDownAt (links : List KeptLink) (n : Node) (m : Meaning) : Type 0 where
   pub state : n.state ≡ IsDown
   pub unfused : n.fuse ≡ NoFuse
-  pub units : m.units ≡ n.disks
-  pub size : (u : ℕ) → u < n.disks → m.size u ≡ n.blocks
   pub down : IsTrue m.down
   pub unarmed : IsFalse m.armed
-  pub disks : 3 ≤ n.disks
-  pub few : n.disks ≤ MOST_DISKS
-  pub some : LEAST_BLOCKS ≤ n.blocks
-  pub ring : n.ring ≡ ring_of n.blocks
-  pub logged : length n.log ≡ n.safe
+  pub lies : LiesOn n m
   pub low : n.low ≡ 1
-  pub volumes : length n.volumes ≡ n.disks - 2
-  pub whole : (v : ℕ) (x : Volume) → slice_get n.volumes v ≡ Some x → x.blocks ≡ n.blocks
-  pub sizes : (v : ℕ) → v < n.disks - 2 → n.base.size v ≡ n.blocks
-  pub others : (v : ℕ) → n.disks - 2 ≤ v → n.base.size v ≡ 0
+  pub logged : length n.log ≡ n.safe
   pub begun : IsTrue m.tells → 0 < n.session
-  pub left : IsTrue m.tells → LeftWith (raw_units n.disks) n.ring (state_of n) n.session (most_stamp n) n.log n.base m
+  pub left : IsTrue m.tells → LeftWith (units_of n) n.ring (state_with n links) n.session (most_stamp n) n.log n.base m
 
 module _ {R : Type 0} {g : Ghosts R} where
-  abbrev pub StandsAt : Node → Engine R g → Type 0
-  StandsAt n (Bare rack) = IsCleanAt n (g.meaning rack)
-  StandsAt n (Spoiled rack) = IsBareAt n (g.meaning rack)
-  StandsAt n (Up rvg) = IsUpAt n rvg.core (g.meaning rvg.shelf)
-  StandsAt n (Down rack) = IsDownAt n (g.meaning rack)
-  StandsAt n Gone = ⊥
+  -- the disks of a site that keeps these links
+  abbrev pub StandsAt : List KeptLink → Node → DiskSet R g → Type 0
+  StandsAt links n (Bare rack) = IsCleanAt n (g.meaning rack)
+  StandsAt links n (Spoiled rack) = IsBareAt n (g.meaning rack)
+  StandsAt links n (Up rvg) = IsUpAt links n rvg.core (g.meaning rvg.shelf)
+  StandsAt links n (Down rack) = IsDownAt links n (g.meaning rack)
+  StandsAt links n Gone = ⊥
+
+  -- the same of a site without links, as each is that the lines which are built make
+  abbrev pub StandsAlone : Node → DiskSet R g → Type 0
+  StandsAlone n e = StandsAt [] n e
 
   -- a group whose shelf is down: a crash leaves the site's writes on its disks
-  abbrev pub CutAt : Node → Engine R g → Type 0
-  CutAt n (Bare rack) = ⊥
-  CutAt n (Spoiled rack) = ⊥
-  CutAt n (Up rvg) = IsHeldAt n (g.meaning rvg.shelf)
-  CutAt n (Down rack) = ⊥
-  CutAt n Gone = ⊥
+  abbrev pub CutAt : List KeptLink → Node → DiskSet R g → Type 0
+  CutAt links n (Bare rack) = ⊥
+  CutAt links n (Spoiled rack) = ⊥
+  CutAt links n (Up rvg) = IsHeldAt links n (g.meaning rvg.shelf)
+  CutAt links n (Down rack) = ⊥
+  CutAt links n Gone = ⊥
 
-  -- the engine of a number that no site has
-  abbrev pub IsUnused : Engine R g → Type 0
+  -- the disk set of a number that no site has
+  abbrev pub IsUnused : DiskSet R g → Type 0
   IsUnused (Bare rack) = IsUnfitted (g.meaning rack)
   IsUnused (Spoiled rack) = ⊥
   IsUnused (Up rvg) = ⊥
@@ -142,7 +122,7 @@ module _ {R : Type 0} {g : Ghosts R} where
   IsUnused Gone = ⊥
 
   -- whether the contents of its disks are told
-  abbrev pub IsToldAt : Engine R g → Type 0
+  abbrev pub IsToldAt : DiskSet R g → Type 0
   IsToldAt (Bare rack) = IsTrue (g.meaning rack).tells
   IsToldAt (Spoiled rack) = IsTrue (g.meaning rack).tells
   IsToldAt (Up rvg) = IsTrue (g.meaning rvg.shelf).tells
@@ -150,30 +130,30 @@ module _ {R : Type 0} {g : Ghosts R} where
   IsToldAt Gone = ⊥
 
   -- the count of the faults of a disk
-  abbrev pub faults_at : Engine R g → ℕ → ℕ
+  abbrev pub faults_at : DiskSet R g → ℕ → ℕ
   faults_at (Bare rack) d = (g.meaning rack).disk_faults d
   faults_at (Spoiled rack) d = (g.meaning rack).disk_faults d
   faults_at (Up rvg) d = (g.meaning rvg.shelf).disk_faults d
   faults_at (Down rack) d = (g.meaning rack).disk_faults d
   faults_at Gone d = 0
 
-  abbrev pub fault_count : Option (Engine R g) → ℕ → ℕ
+  abbrev pub fault_count : Option (DiskSet R g) → ℕ → ℕ
   fault_count None d = 0
-  fault_count (Some engine) d = faults_at engine d
+  fault_count (Some disk_set) d = faults_at disk_set d
 
   -- the count of a disk of a site
-  abbrev pub faults_of : List (Engine R g) → ℕ → ℕ → ℕ
-  faults_of engines s d = fault_count (slice_get engines s) d
+  abbrev pub faults_of : List (DiskSet R g) → ℕ → ℕ → ℕ
+  faults_of disk_sets s d = fault_count (slice_get disk_sets s) d
 
-  pub record AreTold (engines : List (Engine R g)) : Type 0 where
-    pub each : (s : ℕ) (e : Engine R g) → slice_get engines s ≡ Some e → IsToldAt e
+  pub record AreTold (disk_sets : List (DiskSet R g)) : Type 0 where
+    pub each : (s : ℕ) (e : DiskSet R g) → slice_get disk_sets s ≡ Some e → IsToldAt e
 
-  -- each site of the world has its engine, and the engines of other numbers are not used
-  pub record EnginesStand (w : World) (engines : List (Engine R g)) : Type 0 where
-    pub eight : length engines ≡ MOST_SITES
+  -- each site of the world has its disk set, and the disk sets of other numbers are not used
+  pub record DiskSetsStand (w : World) (disk_sets : List (DiskSet R g)) : Type 0 where
+    pub eight : length disk_sets ≡ MOST_SITES
     pub few : w.sites ≤ MOST_SITES
-    pub sites : (s : ℕ) (e : Engine R g) → s < w.sites → slice_get engines s ≡ Some e → StandsAt (w.nodes s) e
-    pub others : (s : ℕ) (e : Engine R g) → w.sites ≤ s → slice_get engines s ≡ Some e → IsUnused e
+    pub sites : (s : ℕ) (e : DiskSet R g) → s < w.sites → slice_get disk_sets s ≡ Some e → StandsAlone (w.nodes s) e
+    pub others : (s : ℕ) (e : DiskSet R g) → w.sites ≤ s → slice_get disk_sets s ≡ Some e → IsUnused e
 
 -- how often a disk of a site is named
 abbrev pub times : Fails → ℕ → ℕ → ℕ

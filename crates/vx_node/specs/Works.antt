@@ -19,16 +19,13 @@ use Rattle.vx_events.specs.Fuses.{IsExact}
 use Rattle.vx_events.specs.Facts.{site_number, volume_number}
 use Rattle.vx_events.specs.Views.{view_of}
 use Rattle.vx_events.specs.Ends.{IsNoDevice}
+use Rattle.vx_events.specs.Fails.{Fails, AreBorne}
 use Rattle.vx_events.specs.Found.{SameDisks}
 use Rattle.vx_events.specs.Lines.{write_in}
 
--- the failed calls of a line: for each its site and its disk
-abbrev pub Fails : Type 0
-Fails = List (ℕ × ℕ)
-
--- no disk failed, and the line is answered so
+-- the line is answered so, whatever disks failed in it
 pub record Cleanly (fails : Fails) (said reply : Said) (new next : World) : Type 0 where
-  pub none : fails ≡ []
+  pub none : AreBorne fails
   pub says : said ≡ reply
   pub leads : new ≡ next
 

@@ -10,7 +10,7 @@ use Rattle.vx_node.specs.declared.yard.Yard.{Yard}
 use Rattle.vx_node.specs.declared.errors.LineStop.{LineStop}
 use Rattle.vx_node.specs.declared.errors.LineStop.TheVariants.{WriteFault, OutOfMemory}
 use Rattle.vx_events.specs.Facts.{facts_of}
-use Rattle.vx_node.specs.Stands.{EnginesStand, AreTold, RoseAll, faults_of}
+use Rattle.vx_node.specs.Stands.{DiskSetsStand, AreTold, RoseAll, faults_of}
 use Rattle.vx_events.specs.Plain.{IsUnlinked, ArePrimaries}
 use Rattle.vx_node.specs.Steps.{Prints}
 use Rattle.vx_events.specs.Fails.{Fails}
@@ -22,19 +22,24 @@ module _ {R : Type 0} {g : Ghosts R} where
 
   -- the count of faults of a disk of a site
   abbrev pub count_of : Yard R g → ℕ → ℕ → ℕ
-  count_of y = faults_of y.engines.items
+  count_of y = faults_of y.disk_sets.items
 
   -- the contents of all its disks are told
   abbrev pub IsTold : Yard R g → Type 0
-  IsTold y = AreTold y.engines.items
+  IsTold y = AreTold y.disk_sets.items
 
-  -- the yard agrees with this world: it keeps what the tests of a line see of it, and its engines stand for it
+  -- the yard agrees with this world: it keeps what the tests of a line see of it, and its disk sets stand for it
   pub record YardAgrees (w : World) (y : Yard R g) : Type 0 where
     pub facts : y.facts.items ≡ facts_of w
-    pub engines : EnginesStand w y.engines.items
+    pub disk_sets : DiskSetsStand w y.disk_sets.items
     -- room for the racks as they come back
     pub none : y.racks.items ≡ []
     pub room : MOST_SITES ≤ vec_capacity y.racks
+
+  -- it stands for some world
+  pub record IsKept (y : Yard R g) : Type 0 where
+    pub world : World
+    pub agrees : YardAgrees world y
 
   -- nothing of a line was done
   pub record StaysAgreed (w : World) (old new : Yard R g) : Type 0 where

@@ -3,7 +3,7 @@ ghost use Rattle.std.specs.Prelude.{◌≡◌, ◌*◌, IfOk, min, replicate};
 ghost use Rattle.vx_history.specs.World.{World};
 ghost use Rattle.vx_node.specs.Asked.{AsAsked};
 ghost use Rattle.vx_node.specs.Working.{WorkIs, AnswerIs, IsFree};
-ghost use Rattle.vx_node.specs.Yards.{YardAgrees, IsTold, in_files};
+ghost use Rattle.vx_node.specs.Yards.{IsKept, YardAgrees, IsTold, in_files};
 
 use crate::{Said, Yard};
 use std::alloc::Global;
@@ -23,6 +23,7 @@ fn filled(alloc: Global, count: u64, fill: u8) -> Result<Vec<u8>, OutOfMemory>
 impl<R: Rack> Yard<R> {
     // Does a line that no test refuses.
     fn work(&mut self, alloc: Global, words: &ScriptLine) -> Result<Said, OutOfMemory>
+        requires kept { IsKept self.old }
         requires free { IsFree self.old words.now }
         ensures works { (w : World) → YardAgrees w self.old → WorkIs w words.now self.old self.new result }
         ensures asked { (w : World) → YardAgrees w self.old → AsAsked w words.now self.old self.new }
@@ -83,6 +84,7 @@ impl<R: Rack> Yard<R> {
 
     /// What a line is answered: its first refusal in the one order, or what it works.
     pub(crate) fn answer(&mut self, alloc: Global, words: &ScriptLine) -> Result<Said, OutOfMemory>
+        requires kept { IsKept self.old }
         ensures answers { (w : World) → YardAgrees w self.old → AnswerIs w words.now self.old self.new result }
         ensures asked { (w : World) → YardAgrees w self.old → IsFree self.old words.now → AsAsked w words.now self.old self.new }
         ensures told { IsTold self.new → IsTold self.old }

@@ -5,13 +5,12 @@ ghost use Rattle.vx_script.specs.declared.line.ScriptLine.TheVariants.{Status as
 ghost use Rattle.vx_node.specs.Seen.{name_at, group_seen, group_at};
 ghost use Rattle.vx_events.specs.Views.{view_of};
 ghost use Rattle.vx_node.specs.Working.{Worked, IsFree};
-ghost use Rattle.vx_node.specs.Yards.{YardAgrees};
+ghost use Rattle.vx_node.specs.Yards.{IsKept, YardAgrees};
 
-use crate::Said;
-use crate::yard::{Yard, seat};
+use crate::{Said, Yard};
 use std::alloc::Global;
 use vx_disk::Rack;
-use vx_model::{Name, No, SiteName, SiteState};
+use vx_model::{Name, SiteName, SiteState};
 use vx_order::{RvgFacts, SiteFacts};
 use vx_report::{DiskViews, LinkViews, RvgView, SiteView, VolumeViews};
 
@@ -69,23 +68,20 @@ impl<R: Rack> Yard<R> {
     /// How a site stands.
     pub(crate) fn view_at(&self, alloc: Global, site: usize) -> SiteView
         requires site { site < length self.now.facts.items }
-        requires engine { site < length self.now.engines.items }
+        requires disk_set { site < length self.now.disk_sets.items }
         ensures { (w : World) → YardAgrees w self.now → site < w.sites → result ≡ view_of w (w.nodes site) }
     {
-        let session = self.engines[site].session();
+        let session = self.disk_sets[site].session();
         view(alloc, &self.facts, session, &self.facts[site])
     }
 
     /// The status of a site.
     pub(crate) fn status_line(&self, alloc: Global, name: &Name) -> Said
-        ensures works { (w : World) → YardAgrees w self.now → IsFree self.now (StatusLine name.now) → Worked w (StatusLine name.now) result self.now self.now }
+        requires kept { IsKept self.now }
+        requires free { IsFree self.now (StatusLine name.now) }
+        ensures works { (w : World) → YardAgrees w self.now → Worked w (StatusLine name.now) result self.now self.now }
     {
-        let Some(site) = seat(&self.facts, name) else {
-            return Said::Refused(No::Role);
-        };
-        if site >= self.facts.len() || site >= self.engines.len() {
-            return Said::Refused(No::Role);
-        }
+        let site = self.site_of(name);
         Said::Shown(self.view_at(alloc, site))
     }
 }

@@ -1,6 +1,6 @@
 // The units of a raw set.
 ghost use Rattle.std.specs.Prelude.{◌≡◌, ◌≤◌};
-ghost use Rattle.vx_node.specs.Holds.{raw_units as units_of};
+ghost use Rattle.vx_node.specs.Layouts.{raw_units as units_of};
 
 use vx_model::limits::{LEAST_RAW_DISKS, MOST_DISKS};
 use vx_model::{Units, VolumeUnits};

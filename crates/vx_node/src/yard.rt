@@ -1,48 +1,97 @@
-// All sites of a run.
-ghost use Rattle.std.specs.Prelude.{◌≡◌, IfOk, is_some};
-ghost use Rattle.vx_events.specs.Facts.{seat_of};
+// All sites of a run, and the calls on them.
+ghost use Rattle.std.specs.Prelude.{◌≡◌, ◌≤◌, ℕ, IfOk, IfErr, is_some};
+ghost use Rattle.vx_stream.specs.Causes.{Rose};
+ghost use Rattle.vx_history.specs.World.{World, empty_world};
+ghost use Rattle.vx_node.specs.Asked.{AsAsked};
+ghost use Rattle.vx_node.specs.Holds.{AreFresh, RacksHold, RacksTell, rack_faults};
+ghost use Rattle.vx_node.specs.Working.{IsFree};
+ghost use Rattle.vx_node.specs.Yards.{IsKept, YardStands, LineIs, IsTold, count_of, in_files};
 
-use crate::Engine;
+use crate::folder::copied;
+use crate::racks::{put_racks, take_racks};
+use crate::text::push_said;
+use crate::{DiskSet, LineStop};
 use std::alloc::Global;
 use vx_disk::Rack;
-use vx_model::{Name, OutOfMemory};
+use vx_model::OutOfMemory;
+use vx_model::limits::MOST_SITES;
 use vx_order::SiteFacts;
+use vx_script::ScriptLine;
+use vx_stream::{Sink, send};
 
 /// The sites of a run: for each what the tests of a line look at, and its disks.
 #[derive(Drop)]
 pub struct Yard<R: Rack> {
     pub(crate) dir: Option<String>,
     pub(crate) facts: Vec<SiteFacts>,
-    pub(crate) engines: Vec<Engine<R>>,
+    pub(crate) disk_sets: Vec<DiskSet<R>>,
     // Empty, with room for all racks as they come back.
     pub(crate) racks: Vec<R>,
 }
 
-/// The number of the site of this name.
-pub fn seat(sites: &[SiteFacts], name: &Name) -> Option<usize>
-    ensures { result ≡ seat_of sites.now name.now }
-{
-    sites
-        .iter()
-        .position(|site| site.name.as_bytes() == name.as_bytes())
-}
-
-/// The folder of the files, if there is one.
-pub fn folder(dir: &Option<String>) -> Option<&str>
-    ensures { is_some result ≡ is_some dir.now }
-{
-    match dir {
-        Some(dir) => Some(dir.as_str()),
-        None => None,
+impl<R: Rack> Yard<R> {
+    /// A yard without sites, over eight racks.
+    pub fn new(
+        alloc: Global,
+        racks: Vec<R>,
+        dir: Option<&str>,
+    ) -> Result<Yard<R>, (Vec<R>, OutOfMemory)>
+        requires { AreFresh R.meaning racks.items }
+        ensures stands { IfOk result (λ y. YardStands empty_world y) }
+        ensures files { IfOk result (λ y. in_files y ≡ is_some dir.entry) }
+        ensures counts { IfOk result (λ y. (s d : ℕ) → count_of y s d ≡ rack_faults R.meaning racks.items s d) }
+        ensures back { IfErr result (λ e. e.0 ≡ racks) }
+    {
+        let Ok(disk_sets) = Vec::with_capacity(alloc, MOST_SITES) else {
+            return Err((racks, OutOfMemory));
+        };
+        let Ok(dir) = copied(alloc, dir) else {
+            return Err((racks, OutOfMemory));
+        };
+        let (racks, disk_sets) = put_racks(racks, disk_sets);
+        Ok(Yard {
+            dir,
+            facts: Vec::new(alloc),
+            disk_sets,
+            racks,
+        })
     }
-}
 
-/// A copy of the path of a folder, if there is one.
-pub fn copied(alloc: Global, dir: Option<&str>) -> Result<Option<String>, OutOfMemory>
-    ensures { IfOk result (λ path. is_some path ≡ is_some dir.entry) }
-{
-    match dir {
-        Some(dir) => Ok(Some(String::from_str(alloc, dir)?)),
-        None => Ok(None),
+    /// Answers a line of a kind that is built, and writes its reply.
+    pub fn line<O: Sink>(
+        &mut self,
+        alloc: Global,
+        words: &ScriptLine,
+        out: &mut O,
+    ) -> Result<(), LineStop>
+        requires kept { IsKept self.old }
+        ensures line { (w : World) → YardStands w self.old → LineIs w words.now self.old self.new (O.written out.old) (O.written out.new) result }
+        // What the line asks of the rack of its site: a disk, a number of calls or a pick.
+        ensures asked { (w : World) → YardStands w self.old → IsFree self.old words.now → AsAsked w words.now self.old self.new }
+        ensures told { IsTold self.new → IsTold self.old }
+        ensures files { in_files self.new ≡ in_files self.old }
+        ensures later { O.faults out.old ≤ O.faults out.new }
+        ensures cause { result ≡ Err LineStop.WriteFault → Rose (O.faults out.old) (O.faults out.new) }
+    {
+        let Ok(said) = self.answer(alloc, words) else {
+            return Err(LineStop::OutOfMemory);
+        };
+        let mut text = Vec::new(alloc);
+        let Ok(()) = push_said(&mut text, &said) else {
+            return Err(LineStop::OutOfMemory);
+        };
+        match send(out, &text) {
+            Ok(()) => Ok(()),
+            Err(_) => Err(LineStop::WriteFault),
+        }
+    }
+
+    /// The racks, in the order of the sites.
+    pub fn into_racks(self) -> Vec<R>
+        ensures holds { (w : World) → YardStands w self → RacksHold R.meaning w result.items }
+        ensures counts { (w : World) → YardStands w self → (s d : ℕ) → rack_faults R.meaning result.items s d ≡ count_of self s d }
+        ensures told { (w : World) → YardStands w self → RacksTell R.meaning result.items → IsTold self }
+    {
+        take_racks(self.racks, self.disk_sets)
     }
 }

@@ -3,6 +3,9 @@ use Rattle.vx_script.specs.Lines.{IsPlain}
 use Rattle.vx_cli.proofs.TurnLemmas.{reaches_first, reaches_more, reaches_end, turn_end, turn_fault, turn_memory, turn_most}
 use Rattle.vx_cli.proofs.run.answer_all.Goals as goal
 
+pub turn-requires-clause-kept : goal.turn-requires-clause-kept
+turn-requires-clause-kept g c = record { world = c.loop-number.invariant.reaches.world; agrees = c.loop-number.invariant.reaches.stands.agrees }
+
 pub loop-number-init : goal.loop-number-init
 loop-number-init g c = record {
   reaches = reaches_first c.args.yard.now _ _ _ c.requires c.new-held.ensures.items;

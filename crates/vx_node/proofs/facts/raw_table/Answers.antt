@@ -3,7 +3,7 @@ use Rattle.std.specs.Prelude.{map}
 use Rattle.vx_history.specs.Steps.{raw_volumes}
 use Rattle.vx_order.specs.declared.facts.VolumeFacts.{VolumeFacts}
 use Rattle.vx_events.specs.Facts.{volume_fact}
-use Rattle.vx_node.proofs.Tables.{raw_table_more}
+use Rattle.vx_node.proofs.RawTable.{raw_table_more}
 use Rattle.vx_node.proofs.facts.raw_table.Goals as goal
 
 pub loop-k-preserved : goal.loop-k-preserved

@@ -2,7 +2,7 @@
 use Rattle.std.proofs.Common.{◌∙◌, ap, sym}
 use Rattle.vx_order.specs.Order.{refusal_of}
 use Rattle.vx_node.specs.Yards.{in_files}
-use Rattle.vx_node.proofs.Answering.{answer_of}
+use Rattle.vx_node.proofs.AnswerLine.{answer_of}
 use Rattle.vx_node.proofs.yard.Yard.answer.Goals as goal
 
 pub returns-in-None-clause-answers : goal.returns-in-None-clause-answers

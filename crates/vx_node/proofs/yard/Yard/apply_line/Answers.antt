@@ -1,48 +1,40 @@
 -- Each case of a line that applies the log of a site.
-use Rattle.std.proofs.Common.{◌≡◌, ◌∙◌, ap, sym, refl, arith}
+use Rattle.std.proofs.Common.{◌≡◌, ◌∙◌, ap, sym, refl, arith, []}
 use Rattle.std.specs.Prelude.{Some}
 use Rattle.vx_events.specs.Facts.{seat_of}
 use Rattle.vx_node.specs.Yards.{in_files}
-use Rattle.vx_node.proofs.Changing.{told_before}
-use Rattle.vx_node.proofs.Falling.{apply_done, apply_failed}
+use Rattle.vx_node.proofs.ChangeSite.{told_before}
+use Rattle.vx_node.proofs.CrashLine.{apply_done, apply_failed}
 use Rattle.vx_node.proofs.Lists.{get_at}
 use Rattle.vx_events.proofs.Refused.{apply_may}
 use Rattle.vx_events.proofs.Places.{seat_within}
-use Rattle.vx_node.proofs.Seats.{named_none, seat_below}
+use Rattle.vx_node.proofs.Seats.{named_some}
 use Rattle.vx_node.proofs.yard.Yard.apply_line.Goals as goal
 
-pub returns-in_default-clause-works : goal.returns-in_default-clause-works
-returns-in_default-clause-works g c = λ w stands free.
-    let is = sym c.seat.ensures ∙ c.in_default.is in
-    absurd (named_none c.args.self.now c.args.name.now (ap (λ fs. seat_of fs c.args.name.now) (sym c.deref.ensures.value) ∙ is)
-    (apply_may c.args.self.now.facts.items (in_files c.args.self.now) c.args.name.now c.args.to free).site)
-
-pub returns-then-site-len-clause-works : goal.returns-then-site-len-clause-works
-returns-then-site-len-clause-works g c = λ w stands free.
-    let is = ap (λ fs. seat_of fs c.args.name.now) (sym c.deref.ensures.value) ∙ sym c.seat.ensures ∙ c.in-Some.is in
-    absurd (omega (arith, c.if-site-len.true, seat_below w c.args.self.now c.args.name.now c.in-Some.site c.len.result stands is (omega (arith, c.len.ensures, c.args.self.now.engines.ok))))
+pub site_of-site-requires-clause-named : goal.site_of-site-requires-clause-named
+site_of-site-requires-clause-named g c = λ κs within. named_some c.args.self.now c.args.name.now ((apply_may c.args.self.now.facts.items (in_files c.args.self.now) c.args.name.now c.args.to c.requires.free).site)
 
 pub returns-in-Ok-clause-works : goal.returns-in-Ok-clause-works
-returns-in-Ok-clause-works g c = λ w stands free.
-    let engines = c.args.self.now.engines.items in
-    let is : seat_of c.args.self.now.facts.items c.args.name.now ≡ Some c.in-Some.site = ap (λ fs. seat_of fs c.args.name.now) (sym c.deref.ensures.value) ∙ sym c.seat.ensures ∙ c.in-Some.is in
-    let at = get_at engines c.in-Some.site c.index_mut.result.now (omega (arith, c.if-site-len.false, c.len.ensures, c.args.self.now.engines.ok)) c.index_mut.ensures.value in
-    apply_done w c.args.self.now _ c.args.name.now c.args.to c.in-Some.site c.in-Ok.number c.index_mut.result.now c.apply.new.self stands free is at c.in-Ok.ensures.later c.in-Ok.ensures.applied refl refl refl
+returns-in-Ok-clause-works g c = λ w stands.
+    let disk_sets = c.args.self.now.disk_sets.items in
+    let is : seat_of c.args.self.now.facts.items c.args.name.now ≡ Some c.site_of-site.result = c.site_of-site.ensures.seat in
+    let at = get_at disk_sets c.site_of-site.result c.index_mut.result.now c.site_of-site.ensures.disk_set c.index_mut.ensures.value in
+    apply_done w c.args.self.now _ c.args.name.now c.args.to c.site_of-site.result c.in-Ok.number c.index_mut.result.now c.apply.new.self stands c.requires.free is at c.in-Ok.ensures.later (c.in-Ok.ensures.applied []) refl refl refl
 
 pub returns-in-Ok-clause-told : goal.returns-in-Ok-clause-told
-returns-in-Ok-clause-told g c = told_before c.args.self.now.engines.items c.in-Some.site c.index_mut.result.now c.apply.new.self
-    (get_at c.args.self.now.engines.items c.in-Some.site c.index_mut.result.now (omega (arith, c.if-site-len.false, c.len.ensures, c.args.self.now.engines.ok)) c.index_mut.ensures.value) c.in-Ok.ensures.later
+returns-in-Ok-clause-told g c = told_before c.args.self.now.disk_sets.items c.site_of-site.result c.index_mut.result.now c.apply.new.self
+    (get_at c.args.self.now.disk_sets.items c.site_of-site.result c.index_mut.result.now c.site_of-site.ensures.disk_set c.index_mut.ensures.value) c.in-Ok.ensures.later
 
 pub returns-in-Err-clause-works : goal.returns-in-Err-clause-works
-returns-in-Err-clause-works g c = λ w stands free.
+returns-in-Err-clause-works g c = λ w stands.
     let facts = c.args.self.now.facts.items in
-    let engines = c.args.self.now.engines.items in
-    let is : seat_of facts c.args.name.now ≡ Some c.in-Some.site = ap (λ fs. seat_of fs c.args.name.now) (sym c.deref.ensures.value) ∙ sym c.seat.ensures ∙ c.in-Some.is in
-    let at = get_at engines c.in-Some.site c.index_mut.result.now (omega (arith, c.if-site-len.false, c.len.ensures, c.args.self.now.engines.ok)) c.index_mut.ensures.value in
-    apply_failed w c.args.self.now _ c.args.name.now c.args.to c.in-Some.site c.in-Err.no c.refused.result c.index_mut-in-Err.result.now c.refused.new.facts c.index_mut.result.now c.apply.new.self
-    stands free is (get_at facts c.in-Some.site c.index_mut-in-Err.result.now (seat_within facts c.args.name.now c.in-Some.site is) c.index_mut-in-Err.ensures.value) at
-    c.in-Err.ensures.later c.in-Err.ensures.applied c.refused.ensures.noted c.refused.ensures.said refl refl refl
+    let disk_sets = c.args.self.now.disk_sets.items in
+    let is : seat_of c.args.self.now.facts.items c.args.name.now ≡ Some c.site_of-site.result = c.site_of-site.ensures.seat in
+    let at = get_at disk_sets c.site_of-site.result c.index_mut.result.now c.site_of-site.ensures.disk_set c.index_mut.ensures.value in
+    apply_failed w c.args.self.now _ c.args.name.now c.args.to c.site_of-site.result c.in-Err.no c.refused.result c.index_mut-in-Err.result.now c.refused.new.facts c.index_mut.result.now c.apply.new.self
+    stands c.requires.free is (get_at facts c.site_of-site.result c.index_mut-in-Err.result.now (c.site_of-site.ensures.fact) c.index_mut-in-Err.ensures.value) at
+    c.in-Err.ensures.later (c.in-Err.ensures.applied []) c.refused.ensures.noted c.refused.ensures.said refl refl refl
 
 pub returns-in-Err-clause-told : goal.returns-in-Err-clause-told
-returns-in-Err-clause-told g c = told_before c.args.self.now.engines.items c.in-Some.site c.index_mut.result.now c.apply.new.self
-    (get_at c.args.self.now.engines.items c.in-Some.site c.index_mut.result.now (omega (arith, c.if-site-len.false, c.len.ensures, c.args.self.now.engines.ok)) c.index_mut.ensures.value) c.in-Err.ensures.later
+returns-in-Err-clause-told g c = told_before c.args.self.now.disk_sets.items c.site_of-site.result c.index_mut.result.now c.apply.new.self
+    (get_at c.args.self.now.disk_sets.items c.site_of-site.result c.index_mut.result.now c.site_of-site.ensures.disk_set c.index_mut.ensures.value) c.in-Err.ensures.later

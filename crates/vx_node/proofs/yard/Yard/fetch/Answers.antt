@@ -1,67 +1,54 @@
-use Rattle.std.proofs.Common.{◌≡◌, ◌∙◌, length, arith, refl, sym}
-use Rattle.vx_node.proofs.Changing.{told_before}
+use Rattle.std.proofs.Common.{◌≡◌, arith, refl, []}
+use Rattle.std.specs.Prelude.{Some}
+use Rattle.vx_events.specs.Facts.{seat_of, site_fact}
+use Rattle.vx_node.proofs.ChangeSite.{told_before}
 use Rattle.vx_node.proofs.Lists.{get_at}
-use Rattle.vx_node.proofs.Readings.{may_read, reading, no_volume, fetch_done, fetch_failed, seat_is, fact_at, no_guard}
-use Rattle.vx_node.proofs.Seats.{named_none}
-use Rattle.vx_node.proofs.yard.Yard.fetch.Goals.{then-site-len-via-then-site-len, then-site-len-via-else-site-len+then-place-disks, then-site-len-via-else-site-len+else-place-disks+then-count-eq0, then-site-len-via-else-site-len+else-place-disks+else-count-eq0+then-count-gt-MOST_CALL_BLOCKS}
+use Rattle.vx_node.proofs.ReadLine.{may_read, reading, fetch_done, fetch_failed}
+use Rattle.vx_node.proofs.Seats.{named_some, volume_there, seated}
+use Rattle.vx_node.proofs.yard.Yard.fetch.Goals.{then-count-eq0-via-then-count-eq0, then-count-eq0-via-else-count-eq0+then-count-gt-MOST_CALL_BLOCKS}
 use Rattle.vx_node.proofs.yard.Yard.fetch.Goals as goal
 
-pub returns-in_default-clause-works : goal.returns-in_default-clause-works
-returns-in_default-clause-works g c = λ w stands free.
-    let y = c.args.self.now in
-    absurd (named_none y c.args.name.now (seat_is y c.args.name.now c.deref.result.now c.seat.result _ c.deref.ensures.value c.seat.ensures c.in_default.is)
-    (may_read y c.args.name.now c.args.volume.now c.args.start c.args.count free).site)
+pub site_of-site-requires-clause-named : goal.site_of-site-requires-clause-named
+site_of-site-requires-clause-named g c = λ κs within. named_some c.args.self.now c.args.name.now (may_read c.args.self.now c.args.name.now c.args.volume.now c.args.start c.args.count c.requires.free).site
 
-pub returns-in_default-place-clause-works : goal.returns-in_default-place-clause-works
-returns-in_default-place-clause-works g c = λ w stands free.
-    let y = c.args.self.now in
-    let seat = seat_is y c.args.name.now c.deref.result.now c.seat.result _ c.deref.ensures.value c.seat.ensures c.in-Some.is in
-    absurd (no_volume w y c.args.name.now c.args.volume.now c.args.start c.args.count c.in-Some.site c.index-2.result.now stands free seat
-    (fact_at y c.args.name.now c.in-Some.site c.index-2.result.now seat c.index-2.ensures) (sym c.place.ensures ∙ c.in_default-place.is))
+pub volume_of-place-requires-clause-named : goal.volume_of-place-requires-clause-named
+volume_of-place-requires-clause-named g c = λ κs within f at.
+    volume_there c.args.self.now c.args.name.now c.args.volume.now c.args.start c.args.count c.site_of-site.result f (may_read c.args.self.now c.args.name.now c.args.volume.now c.args.start c.args.count c.requires.free) c.site_of-site.ensures.seat at
 
-pub returns-then-site-len-clause-works : goal.returns-then-site-len-clause-works
-returns-then-site-len-clause-works g c = λ w stands free.
-    let y = c.args.self.now in
-    let seat = seat_is y c.args.name.now c.deref.result.now c.seat.result _ c.deref.ensures.value c.seat.ensures c.in-Some.is in
-    let at = fact_at y c.args.name.now c.in-Some.site c.index-2.result.now seat c.index-2.ensures in
-    let read = reading w y c.args.name.now c.args.volume.now c.args.start c.args.count c.in-Some.site c.in-Some-place.place c.index-2.result.now stands free seat at (sym c.place.ensures ∙ c.in-Some-place.is) in
-    let may = may_read y c.args.name.now c.args.volume.now c.args.start c.args.count free in
-    let many : c.len.result ≡ length y.engines.items = omega (arith, c.len.ensures, y.engines.ok) in
-    let guard = no_guard w y c.args.name.now c.args.volume.now c.args.start c.args.count c.in-Some.site c.in-Some-place.place c.len.result c.index.result.now stands read
-    (fact_at y c.args.name.now c.in-Some.site c.index.result.now seat c.index.ensures) many in
-    elim c.then-site-len.branch [
-      | then-site-len-via-then-site-len w ↦ absurd (omega (arith, w.if-site-len.true, guard.0))
-      | then-site-len-via-else-site-len+then-place-disks w ↦ absurd (omega (arith, w.if-place-disks.true, guard.1))
-      | then-site-len-via-else-site-len+else-place-disks+then-count-eq0 w ↦ absurd (omega (arith, w.if-count-eq0.true, may.some))
-      | then-site-len-via-else-site-len+else-place-disks+else-count-eq0+then-count-gt-MOST_CALL_BLOCKS w ↦ absurd (omega (arith, w.if-count-gt-MOST_CALL_BLOCKS.true, may.few))
+pub unreachable-requires : goal.unreachable-requires
+unreachable-requires g c =
+    let may = may_read c.args.self.now c.args.name.now c.args.volume.now c.args.start c.args.count c.requires.free in
+    elim c.then-count-eq0.branch [
+      | then-count-eq0-via-then-count-eq0 w ↦ absurd (omega (arith, w.if-count-eq0.true, may.some))
+      | then-count-eq0-via-else-count-eq0+then-count-gt-MOST_CALL_BLOCKS w ↦ absurd (omega (arith, w.if-count-gt-MOST_CALL_BLOCKS.true, may.few))
     ]
 
 pub returns-in-Ok-clause-works : goal.returns-in-Ok-clause-works
-returns-in-Ok-clause-works g c = λ w stands free.
+returns-in-Ok-clause-works g c = λ w stands.
     let y = c.args.self.now in
-    let seat = seat_is y c.args.name.now c.deref.result.now c.seat.result _ c.deref.ensures.value c.seat.ensures c.in-Some.is in
-    let at = fact_at y c.args.name.now c.in-Some.site c.index-2.result.now seat c.index-2.ensures in
-    let read = reading w y c.args.name.now c.args.volume.now c.args.start c.args.count c.in-Some.site c.in-Some-place.place c.index-2.result.now stands free seat at (sym c.place.ensures ∙ c.in-Some-place.is) in
-    let engine = get_at y.engines.items c.in-Some.site c.index_mut.result.now (omega (arith, c.if-site-len.false, c.len.ensures, y.engines.ok)) c.index_mut.ensures.value in
-    let there = stands.engines.sites c.in-Some.site c.index_mut.result.now read.below engine in
-    fetch_done w y _ c.args.name.now c.args.volume.now c.args.start c.args.count c.in-Some.site c.in-Some-place.place c.in-Ok.blocks c.index_mut.result.now c.blocks_of.new.engine stands read engine
-    c.in-Ok.ensures.later (c.in-Ok.ensures.read (w.nodes c.in-Some.site) there (read.can c.index_mut.result.now there)) refl refl refl
+    let seat : seat_of y.facts.items c.args.name.now ≡ Some c.site_of-site.result = c.site_of-site.ensures.seat in
+    let here = seated w y c.args.name.now c.site_of-site.result stands seat in
+    let read = reading w y c.args.name.now c.args.volume.now c.args.start c.args.count c.site_of-site.result c.volume_of-place.result (site_fact (w.nodes c.site_of-site.result)) stands c.requires.free seat here.fact (c.volume_of-place.ensures.place (site_fact (w.nodes c.site_of-site.result)) here.fact) in
+    let disk_set = get_at y.disk_sets.items c.site_of-site.result c.index_mut.result.now c.site_of-site.ensures.disk_set c.index_mut.ensures.value in
+    let there = stands.disk_sets.sites c.site_of-site.result c.index_mut.result.now read.below disk_set in
+    fetch_done w y _ c.args.name.now c.args.volume.now c.args.start c.args.count c.site_of-site.result c.volume_of-place.result c.in-Ok.blocks c.index_mut.result.now c.blocks_of.new.disk_set stands read disk_set
+    c.in-Ok.ensures.later (c.in-Ok.ensures.read [] (w.nodes c.site_of-site.result) there (read.can c.index_mut.result.now there)) refl refl refl
 
 pub returns-in-Ok-clause-told : goal.returns-in-Ok-clause-told
-returns-in-Ok-clause-told g c = told_before c.args.self.now.engines.items c.in-Some.site c.index_mut.result.now c.blocks_of.new.engine
-    (get_at c.args.self.now.engines.items c.in-Some.site c.index_mut.result.now (omega (arith, c.if-site-len.false, c.len.ensures, c.args.self.now.engines.ok)) c.index_mut.ensures.value) c.in-Ok.ensures.later
+returns-in-Ok-clause-told g c = told_before c.args.self.now.disk_sets.items c.site_of-site.result c.index_mut.result.now c.blocks_of.new.disk_set
+    (get_at c.args.self.now.disk_sets.items c.site_of-site.result c.index_mut.result.now c.site_of-site.ensures.disk_set c.index_mut.ensures.value) c.in-Ok.ensures.later
 
 pub returns-in-Err-clause-works : goal.returns-in-Err-clause-works
-returns-in-Err-clause-works g c = λ w stands free.
+returns-in-Err-clause-works g c = λ w stands.
     let y = c.args.self.now in
-    let seat = seat_is y c.args.name.now c.deref.result.now c.seat.result _ c.deref.ensures.value c.seat.ensures c.in-Some.is in
-    let at = fact_at y c.args.name.now c.in-Some.site c.index-2.result.now seat c.index-2.ensures in
-    let read = reading w y c.args.name.now c.args.volume.now c.args.start c.args.count c.in-Some.site c.in-Some-place.place c.index-2.result.now stands free seat at (sym c.place.ensures ∙ c.in-Some-place.is) in
-    let engine = get_at y.engines.items c.in-Some.site c.index_mut.result.now (omega (arith, c.if-site-len.false, c.len.ensures, y.engines.ok)) c.index_mut.ensures.value in
-    let there = stands.engines.sites c.in-Some.site c.index_mut.result.now read.below engine in
-    fetch_failed w y _ c.args.name.now c.args.volume.now c.args.start c.args.count c.in-Some.site c.in-Some-place.place c.in-Err.no c.index_mut.result.now c.blocks_of.new.engine stands read engine
-    c.in-Err.ensures.later (c.in-Err.ensures.read (w.nodes c.in-Some.site) there (read.can c.index_mut.result.now there)) refl refl refl
+    let seat : seat_of y.facts.items c.args.name.now ≡ Some c.site_of-site.result = c.site_of-site.ensures.seat in
+    let here = seated w y c.args.name.now c.site_of-site.result stands seat in
+    let read = reading w y c.args.name.now c.args.volume.now c.args.start c.args.count c.site_of-site.result c.volume_of-place.result (site_fact (w.nodes c.site_of-site.result)) stands c.requires.free seat here.fact (c.volume_of-place.ensures.place (site_fact (w.nodes c.site_of-site.result)) here.fact) in
+    let disk_set = get_at y.disk_sets.items c.site_of-site.result c.index_mut.result.now c.site_of-site.ensures.disk_set c.index_mut.ensures.value in
+    let there = stands.disk_sets.sites c.site_of-site.result c.index_mut.result.now read.below disk_set in
+    fetch_failed w y _ c.args.name.now c.args.volume.now c.args.start c.args.count c.site_of-site.result c.volume_of-place.result c.in-Err.no c.index_mut.result.now c.blocks_of.new.disk_set stands read disk_set
+    c.in-Err.ensures.later (c.in-Err.ensures.read [] (w.nodes c.site_of-site.result) there (read.can c.index_mut.result.now there)) refl refl refl
 
 pub returns-in-Err-clause-told : goal.returns-in-Err-clause-told
-returns-in-Err-clause-told g c = told_before c.args.self.now.engines.items c.in-Some.site c.index_mut.result.now c.blocks_of.new.engine
-    (get_at c.args.self.now.engines.items c.in-Some.site c.index_mut.result.now (omega (arith, c.if-site-len.false, c.len.ensures, c.args.self.now.engines.ok)) c.index_mut.ensures.value) c.in-Err.ensures.later
+returns-in-Err-clause-told g c = told_before c.args.self.now.disk_sets.items c.site_of-site.result c.index_mut.result.now c.blocks_of.new.disk_set
+    (get_at c.args.self.now.disk_sets.items c.site_of-site.result c.index_mut.result.now c.site_of-site.ensures.disk_set c.index_mut.ensures.value) c.in-Err.ensures.later

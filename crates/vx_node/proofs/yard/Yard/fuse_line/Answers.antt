@@ -1,53 +1,35 @@
 -- Each case of a line that sets the fuse of a site.
-use Rattle.std.proofs.Common.{◌∙◌, ap, sym, refl, arith}
+use Rattle.std.proofs.Common.{◌≡◌, ◌∙◌, ap, sym, refl, arith, []}
+use Rattle.std.specs.Prelude.{Some}
 use Rattle.vx_events.specs.Facts.{seat_of}
 use Rattle.vx_node.specs.Yards.{in_files}
-use Rattle.vx_node.proofs.Changing.{told_before}
-use Rattle.vx_node.proofs.Fusing.{fuse_done}
+use Rattle.vx_node.proofs.ChangeSite.{told_before}
+use Rattle.vx_node.proofs.FuseLine.{fuse_done}
 use Rattle.vx_node.proofs.Lists.{get_at}
 use Rattle.vx_events.proofs.Refused.{fuse_may}
-use Rattle.vx_node.proofs.Seats.{named_none, seat_below}
-use Rattle.vx_node.proofs.Asking.{fuse_asked}
+use Rattle.vx_node.proofs.Seats.{named_some}
+use Rattle.vx_node.proofs.AskRack.{fuse_asked}
 use Rattle.vx_node.proofs.yard.Yard.fuse_line.Goals as goal
 
-pub returns-in_default-clause-works : goal.returns-in_default-clause-works
-returns-in_default-clause-works g c = λ w stands free.
-    let is = sym c.seat.ensures ∙ c.in_default.is in
-    absurd (named_none c.args.self.now c.args.name.now (ap (λ fs. seat_of fs c.args.name.now) (sym c.deref.ensures.value) ∙ is)
-    (fuse_may c.args.self.now.facts.items (in_files c.args.self.now) c.args.name.now c.args.calls c.args.pick free).0)
-
-pub returns-then-site-len-clause-works : goal.returns-then-site-len-clause-works
-returns-then-site-len-clause-works g c = λ w stands free.
-    let is = ap (λ fs. seat_of fs c.args.name.now) (sym c.deref.ensures.value) ∙ sym c.seat.ensures ∙ c.in-Some.is in
-    absurd (omega (arith, c.if-site-len.true, seat_below w c.args.self.now c.args.name.now c.in-Some.site c.len.result stands is (omega (arith, c.len.ensures, c.args.self.now.engines.ok))))
+pub site_of-site-requires-clause-named : goal.site_of-site-requires-clause-named
+site_of-site-requires-clause-named g c = λ κs within. named_some c.args.self.now c.args.name.now ((fuse_may c.args.self.now.facts.items (in_files c.args.self.now) c.args.name.now c.args.calls c.args.pick c.requires.free).0)
 
 pub returns-clause-works : goal.returns-clause-works
-returns-clause-works g c = λ w stands free.
-    let engines = c.args.self.now.engines.items in
-    let is = ap (λ fs. seat_of fs c.args.name.now) (sym c.deref.ensures.value) ∙ sym c.seat.ensures ∙ c.in-Some.is in
-    let at = get_at engines c.in-Some.site c.index_mut.result.now (omega (arith, c.if-site-len.false, c.len.ensures, c.args.self.now.engines.ok)) c.index_mut.ensures.value in
-    fuse_done w c.args.self.now _ c.args.name.now c.args.calls c.args.pick c.in-Some.site c.index_mut.result.now c.fuse.new.self stands free is at c.fuse.ensures.later c.fuse.ensures.fused refl refl refl
+returns-clause-works g c = λ w stands.
+    let disk_sets = c.args.self.now.disk_sets.items in
+    let is : seat_of c.args.self.now.facts.items c.args.name.now ≡ Some c.site_of-site.result = c.site_of-site.ensures.seat in
+    let at = get_at disk_sets c.site_of-site.result c.index_mut.result.now c.site_of-site.ensures.disk_set c.index_mut.ensures.value in
+    fuse_done w c.args.self.now _ c.args.name.now c.args.calls c.args.pick c.site_of-site.result c.index_mut.result.now c.fuse.new.self stands c.requires.free is at c.fuse.ensures.later (c.fuse.ensures.fused []) refl refl refl
 
 pub returns-clause-told : goal.returns-clause-told
 returns-clause-told g c =
-    let engines = c.args.self.now.engines.items in
-    told_before engines c.in-Some.site c.index_mut.result.now c.fuse.new.self
-    (get_at engines c.in-Some.site c.index_mut.result.now (omega (arith, c.if-site-len.false, c.len.ensures, c.args.self.now.engines.ok)) c.index_mut.ensures.value) c.fuse.ensures.later
-
-pub returns-in_default-clause-asked : goal.returns-in_default-clause-asked
-returns-in_default-clause-asked g c = λ w stands free.
-    let is = sym c.seat.ensures ∙ c.in_default.is in
-    absurd (named_none c.args.self.now c.args.name.now (ap (λ fs. seat_of fs c.args.name.now) (sym c.deref.ensures.value) ∙ is)
-    (fuse_may c.args.self.now.facts.items (in_files c.args.self.now) c.args.name.now c.args.calls c.args.pick free).0)
-
-pub returns-then-site-len-clause-asked : goal.returns-then-site-len-clause-asked
-returns-then-site-len-clause-asked g c = λ w stands free.
-    let is = ap (λ fs. seat_of fs c.args.name.now) (sym c.deref.ensures.value) ∙ sym c.seat.ensures ∙ c.in-Some.is in
-    absurd (omega (arith, c.if-site-len.true, seat_below w c.args.self.now c.args.name.now c.in-Some.site c.len.result stands is (omega (arith, c.len.ensures, c.args.self.now.engines.ok))))
+    let disk_sets = c.args.self.now.disk_sets.items in
+    told_before disk_sets c.site_of-site.result c.index_mut.result.now c.fuse.new.self
+    (get_at disk_sets c.site_of-site.result c.index_mut.result.now c.site_of-site.ensures.disk_set c.index_mut.ensures.value) c.fuse.ensures.later
 
 pub returns-clause-asked : goal.returns-clause-asked
-returns-clause-asked g c = λ w stands free.
-    let engines = c.args.self.now.engines.items in
-    let is = ap (λ fs. seat_of fs c.args.name.now) (sym c.deref.ensures.value) ∙ sym c.seat.ensures ∙ c.in-Some.is in
-    let at = get_at engines c.in-Some.site c.index_mut.result.now (omega (arith, c.if-site-len.false, c.len.ensures, c.args.self.now.engines.ok)) c.index_mut.ensures.value in
-    fuse_asked w c.args.self.now _ c.args.name.now c.args.calls c.args.pick c.in-Some.site c.index_mut.result.now c.fuse.new.self stands free is at refl c.fuse.ensures.asked
+returns-clause-asked g c = λ w stands.
+    let disk_sets = c.args.self.now.disk_sets.items in
+    let is : seat_of c.args.self.now.facts.items c.args.name.now ≡ Some c.site_of-site.result = c.site_of-site.ensures.seat in
+    let at = get_at disk_sets c.site_of-site.result c.index_mut.result.now c.site_of-site.ensures.disk_set c.index_mut.ensures.value in
+    fuse_asked w c.args.self.now _ c.args.name.now c.args.calls c.args.pick c.site_of-site.result c.index_mut.result.now c.fuse.new.self stands c.requires.free is at refl (c.fuse.ensures.asked [])

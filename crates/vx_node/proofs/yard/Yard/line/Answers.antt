@@ -3,7 +3,7 @@ use Rattle.std.proofs.Common.{◌∙◌, ◌++◌, inl, inr, ap, subst, sym}
 use Rattle.std.specs.Io.KnownBytes.{Appends}
 use Rattle.vx_node.specs.Replies.{text_of}
 use Rattle.vx_stream.proofs.SendLemmas.{appends_none}
-use Rattle.vx_node.proofs.Happenings.{line_happens, line_stays}
+use Rattle.vx_node.proofs.LineEvents.{line_happens, line_stays}
 use Rattle.vx_node.proofs.yard.Yard.line.Goals as goal
 
 pub returns-in_default-clause-line : goal.returns-in_default-clause-line

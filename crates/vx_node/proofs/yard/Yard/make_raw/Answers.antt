@@ -1,88 +1,82 @@
 -- Each case of a line that makes a raw set.
-use Rattle.std.proofs.Common.{◌≡◌, ◌∙◌, ap, sym, refl, arith}
+use Rattle.std.proofs.Common.{◌≡◌, ◌∙◌, ap, sym, refl, arith, []}
 use Rattle.std.specs.Prelude.{slice_set, Some, map, ◌-◌}
 use Rattle.vx_history.specs.Steps.{raw_volumes}
 use Rattle.vx_order.specs.declared.facts.SiteFacts.{SiteFacts}
 use Rattle.vx_events.specs.Facts.{seat_of, volume_fact}
 use Rattle.vx_node.specs.Yards.{in_files}
 use Rattle.vx_node.proofs.Lists.{get_at}
-use Rattle.vx_node.proofs.Raws.{raw_done, raw_failed, raw_told, raw_shape}
+use Rattle.vx_node.proofs.RawLine.{raw_done, raw_failed, raw_told, raw_shape}
 use Rattle.vx_events.proofs.Refused.{raw_may}
-use Rattle.vx_events.proofs.Places.{seat_within, some_same}
-use Rattle.vx_node.proofs.Seats.{named_none}
+use Rattle.vx_events.proofs.Places.{some_same}
+use Rattle.vx_node.proofs.Seats.{named_some}
 use Rattle.vx_node.proofs.yard.Yard.make_raw.Goals as goal
-use Rattle.vx_node.proofs.yard.Yard.make_raw.Goals.{then-site-len-via-then-site-len, then-site-len-via-else-site-len+then-site-ge-MOST_SITES, then-site-len-via-else-site-len+else-site-ge-MOST_SITES+then-disks-lt-LEAST_RAW_DISKS, then-site-len-via-else-site-len+else-site-ge-MOST_SITES+else-disks-lt-LEAST_RAW_DISKS+then-disks-gt-MOST_DISKS, then-site-len-via-else-site-len+else-site-ge-MOST_SITES+else-disks-lt-LEAST_RAW_DISKS+else-disks-gt-MOST_DISKS+then-blocks-lt-LEAST_BLOCKS}
+use Rattle.vx_node.proofs.yard.Yard.make_raw.Goals.{then-disks-lt-LEAST_RAW_DISKS-via-then-disks-lt-LEAST_RAW_DISKS, then-disks-lt-LEAST_RAW_DISKS-via-else-disks-lt-LEAST_RAW_DISKS+then-disks-gt-MOST_DISKS, then-disks-lt-LEAST_RAW_DISKS-via-else-disks-lt-LEAST_RAW_DISKS+else-disks-gt-MOST_DISKS+then-blocks-lt-LEAST_BLOCKS}
 
-pub returns-in_default-clause-works : goal.returns-in_default-clause-works
-returns-in_default-clause-works g c = λ w stands free.
-    let is = sym c.seat.ensures ∙ c.in_default.is in
-    absurd (named_none c.args.self.now c.args.name.now (ap (λ fs. seat_of fs c.args.name.now) (sym c.deref.ensures.value) ∙ is) (raw_may c.args.self.now.facts.items (in_files c.args.self.now) c.args.name.now free).0)
+pub site_of-site-requires-clause-named : goal.site_of-site-requires-clause-named
+site_of-site-requires-clause-named g c = λ κs within. named_some c.args.self.now c.args.name.now (raw_may c.args.self.now.facts.items (in_files c.args.self.now) c.args.name.now c.requires.free).0
+
+pub unreachable-requires : goal.unreachable-requires
+unreachable-requires g c =
+    let facts = c.args.self.now.facts.items in
+    let kept = c.requires.kept in
+    let s = c.site_of-site.result in
+    let one = get_at facts s c.index.result.now c.site_of-site.ensures.fact c.index.ensures in
+    let two = get_at facts s c.index-2.result.now c.site_of-site.ensures.fact c.index-2.ensures in
+    let may = raw_shape kept.world c.args.self.now c.args.name.now s c.index.result.now kept.agrees c.requires.free c.site_of-site.ensures.seat one in
+    let may2 = raw_shape kept.world c.args.self.now c.args.name.now s c.index-2.result.now kept.agrees c.requires.free c.site_of-site.ensures.seat two in
+    elim c.then-disks-lt-LEAST_RAW_DISKS.branch [
+      | then-disks-lt-LEAST_RAW_DISKS-via-then-disks-lt-LEAST_RAW_DISKS w ↦ absurd (omega (arith, w.if-disks-lt-LEAST_RAW_DISKS.true, may.some))
+      | then-disks-lt-LEAST_RAW_DISKS-via-else-disks-lt-LEAST_RAW_DISKS+then-disks-gt-MOST_DISKS w ↦ absurd (omega (arith, w.if-disks-gt-MOST_DISKS.true, may.few))
+      | then-disks-lt-LEAST_RAW_DISKS-via-else-disks-lt-LEAST_RAW_DISKS+else-disks-gt-MOST_DISKS+then-blocks-lt-LEAST_BLOCKS w ↦ absurd (omega (arith, w.if-blocks-lt-LEAST_BLOCKS.true, may2.large))
+    ]
 
 pub returns-in-Ok-clause-works : goal.returns-in-Ok-clause-works
-returns-in-Ok-clause-works g c = λ w stands free.
+returns-in-Ok-clause-works g c = λ w stands.
     let facts = c.args.self.now.facts.items in
-    let engines = c.args.self.now.engines.items in
-    let s = c.in-Some.site in
-    let is : seat_of facts c.args.name.now ≡ Some s = ap (λ fs. seat_of fs c.args.name.now) (sym c.deref.ensures.value) ∙ sym c.seat.ensures ∙ c.in-Some.is in
-    let within = seat_within facts c.args.name.now s is in
+    let disk_sets = c.args.self.now.disk_sets.items in
+    let s = c.site_of-site.result in
+    let is : seat_of c.args.self.now.facts.items c.args.name.now ≡ Some c.site_of-site.result = c.site_of-site.ensures.seat in
+    let within = c.site_of-site.ensures.fact in
     let one = get_at facts s c.index.result.now within c.index.ensures in
     let two = get_at facts s c.index-2.result.now within c.index-2.ensures in
     let three = get_at facts s c.index_mut-in-Ok.result.now within c.index_mut-in-Ok.ensures.value in
-    let at = get_at engines s c.index_mut.result.now (omega (arith, c.if-site-len.false, c.len.ensures, c.args.self.now.engines.ok)) c.index_mut.ensures.value in
-    raw_done w c.args.self.now _ c.args.name.now s c.index_mut-in-Ok.result.now c.in_ok-volumes.volumes c.replace-engine.result c.make_raw-engine.result.0 c.make_raw-engine.result.1 c.in-Ok.field-0 stands free is three
+    let at = get_at disk_sets s c.index_mut.result.now c.site_of-site.ensures.disk_set c.index_mut.ensures.value in
+    raw_done w c.args.self.now _ c.args.name.now s c.index_mut-in-Ok.result.now c.in_ok-volumes.volumes c.replace-disk_set.result c.make_raw-disk_set.result.0 c.make_raw-disk_set.result.1 c.in-Ok.field-0 stands c.requires.free is three
     (c.in_ok-volumes.ensures
     ∙ ap (λ (f : SiteFacts). map volume_fact (raw_volumes 1 (f.disks - 2) c.index-2.result.now.blocks)) (some_same (sym one ∙ three))
     ∙ ap (λ (f : SiteFacts). map volume_fact (raw_volumes 1 (c.index_mut-in-Ok.result.now.disks - 2) f.blocks)) (some_same (sym two ∙ three)))
-    (at ∙ ap (λ e. Some e) (sym c.replace-engine.ensures.value))
-    c.make_raw-engine.ensures.later c.in-Ok.is c.make_raw-engine.ensures.made
+    (at ∙ ap (λ e. Some e) (sym c.replace-disk_set.ensures.value))
+    c.make_raw-disk_set.ensures.later c.in-Ok.is (c.make_raw-disk_set.ensures.made [])
     (ap (λ (f : SiteFacts). slice_set facts s f) c.make_raw.ensures)
-    (ap (λ e. slice_set (slice_set engines s e) s c.make_raw-engine.result.0) c.replace-engine.ensures.after)
+    (ap (λ e. slice_set (slice_set disk_sets s e) s c.make_raw-disk_set.result.0) c.replace-disk_set.ensures.after)
     refl
 
 pub returns-in-Ok-clause-told : goal.returns-in-Ok-clause-told
 returns-in-Ok-clause-told g c =
-    let engines = c.args.self.now.engines.items in
-    let at = get_at engines c.in-Some.site c.index_mut.result.now (omega (arith, c.if-site-len.false, c.len.ensures, c.args.self.now.engines.ok)) c.index_mut.ensures.value in
-    raw_told engines _ c.in-Some.site c.replace-engine.result c.make_raw-engine.result.0 (at ∙ ap (λ e. Some e) (sym c.replace-engine.ensures.value)) c.make_raw-engine.ensures.later
-    (ap (λ e. slice_set (slice_set engines c.in-Some.site e) c.in-Some.site c.make_raw-engine.result.0) c.replace-engine.ensures.after)
+    let disk_sets = c.args.self.now.disk_sets.items in
+    let at = get_at disk_sets c.site_of-site.result c.index_mut.result.now c.site_of-site.ensures.disk_set c.index_mut.ensures.value in
+    raw_told disk_sets _ c.site_of-site.result c.replace-disk_set.result c.make_raw-disk_set.result.0 (at ∙ ap (λ e. Some e) (sym c.replace-disk_set.ensures.value)) c.make_raw-disk_set.ensures.later
+    (ap (λ e. slice_set (slice_set disk_sets c.site_of-site.result e) c.site_of-site.result c.make_raw-disk_set.result.0) c.replace-disk_set.ensures.after)
 
 pub returns-in-Err-clause-works : goal.returns-in-Err-clause-works
-returns-in-Err-clause-works g c = λ w stands free.
+returns-in-Err-clause-works g c = λ w stands.
     let facts = c.args.self.now.facts.items in
-    let engines = c.args.self.now.engines.items in
-    let s = c.in-Some.site in
-    let is : seat_of facts c.args.name.now ≡ Some s = ap (λ fs. seat_of fs c.args.name.now) (sym c.deref.ensures.value) ∙ sym c.seat.ensures ∙ c.in-Some.is in
-    let at = get_at engines s c.index_mut.result.now (omega (arith, c.if-site-len.false, c.len.ensures, c.args.self.now.engines.ok)) c.index_mut.ensures.value in
-    raw_failed c.in-Err.stop c.stopped.result w c.args.self.now _ c.args.name.now s c.index.result.now c.replace-engine.result c.make_raw-engine.result.0 c.make_raw-engine.result.1 c.stopped.ensures stands free is
-    (get_at facts s c.index.result.now (seat_within facts c.args.name.now s is) c.index.ensures)
-    (at ∙ ap (λ e. Some e) (sym c.replace-engine.ensures.value))
-    c.make_raw-engine.ensures.later c.in-Err.is c.make_raw-engine.ensures.made
+    let disk_sets = c.args.self.now.disk_sets.items in
+    let s = c.site_of-site.result in
+    let is : seat_of c.args.self.now.facts.items c.args.name.now ≡ Some c.site_of-site.result = c.site_of-site.ensures.seat in
+    let at = get_at disk_sets s c.index_mut.result.now c.site_of-site.ensures.disk_set c.index_mut.ensures.value in
+    raw_failed c.in-Err.stop c.stopped.result w c.args.self.now _ c.args.name.now s c.index.result.now c.replace-disk_set.result c.make_raw-disk_set.result.0 c.make_raw-disk_set.result.1 c.stopped.ensures stands c.requires.free is
+    (get_at facts s c.index.result.now (c.site_of-site.ensures.fact) c.index.ensures)
+    (at ∙ ap (λ e. Some e) (sym c.replace-disk_set.ensures.value))
+    c.make_raw-disk_set.ensures.later c.in-Err.is (c.make_raw-disk_set.ensures.made [])
     refl
-    (ap (λ e. slice_set (slice_set engines s e) s c.make_raw-engine.result.0) c.replace-engine.ensures.after)
+    (ap (λ e. slice_set (slice_set disk_sets s e) s c.make_raw-disk_set.result.0) c.replace-disk_set.ensures.after)
     refl
 
 pub returns-in-Err-clause-told : goal.returns-in-Err-clause-told
 returns-in-Err-clause-told g c =
-    let engines = c.args.self.now.engines.items in
-    let at = get_at engines c.in-Some.site c.index_mut.result.now (omega (arith, c.if-site-len.false, c.len.ensures, c.args.self.now.engines.ok)) c.index_mut.ensures.value in
-    raw_told engines _ c.in-Some.site c.replace-engine.result c.make_raw-engine.result.0 (at ∙ ap (λ e. Some e) (sym c.replace-engine.ensures.value)) c.make_raw-engine.ensures.later
-    (ap (λ e. slice_set (slice_set engines c.in-Some.site e) c.in-Some.site c.make_raw-engine.result.0) c.replace-engine.ensures.after)
-
-pub returns-then-site-len-clause-works : goal.returns-then-site-len-clause-works
-returns-then-site-len-clause-works g c = λ w stands free.
-    let facts = c.args.self.now.facts.items in
-    let s = c.in-Some.site in
-    let is : seat_of facts c.args.name.now ≡ Some s = ap (λ fs. seat_of fs c.args.name.now) (sym c.deref.ensures.value) ∙ sym c.seat.ensures ∙ c.in-Some.is in
-    let within = seat_within facts c.args.name.now s is in
-    let one = get_at facts s c.index.result.now within c.index.ensures in
-    let two = get_at facts s c.index-2.result.now within c.index-2.ensures in
-    let may = raw_shape w c.args.self.now c.args.name.now s c.index.result.now stands free is one in
-    let may2 = raw_shape w c.args.self.now c.args.name.now s c.index-2.result.now stands free is two in
-    let engines : c.len.result ≡ 8 = omega (arith, c.len.ensures, c.args.self.now.engines.ok, stands.engines.eight) in
-    elim c.then-site-len.branch [
-      | then-site-len-via-then-site-len w ↦ absurd (omega (arith, w.if-site-len.true, may.below, engines))
-      | then-site-len-via-else-site-len+then-site-ge-MOST_SITES w ↦ absurd (omega (arith, w.if-site-ge-MOST_SITES.true, may.below))
-      | then-site-len-via-else-site-len+else-site-ge-MOST_SITES+then-disks-lt-LEAST_RAW_DISKS w ↦ absurd (omega (arith, w.if-disks-lt-LEAST_RAW_DISKS.true, may.some))
-      | then-site-len-via-else-site-len+else-site-ge-MOST_SITES+else-disks-lt-LEAST_RAW_DISKS+then-disks-gt-MOST_DISKS w ↦ absurd (omega (arith, w.if-disks-gt-MOST_DISKS.true, may.few))
-      | then-site-len-via-else-site-len+else-site-ge-MOST_SITES+else-disks-lt-LEAST_RAW_DISKS+else-disks-gt-MOST_DISKS+then-blocks-lt-LEAST_BLOCKS w ↦ absurd (omega (arith, w.if-blocks-lt-LEAST_BLOCKS.true, may2.large))
-    ]
+    let disk_sets = c.args.self.now.disk_sets.items in
+    let at = get_at disk_sets c.site_of-site.result c.index_mut.result.now c.site_of-site.ensures.disk_set c.index_mut.ensures.value in
+    raw_told disk_sets _ c.site_of-site.result c.replace-disk_set.result c.make_raw-disk_set.result.0 (at ∙ ap (λ e. Some e) (sym c.replace-disk_set.ensures.value)) c.make_raw-disk_set.ensures.later
+    (ap (λ e. slice_set (slice_set disk_sets c.site_of-site.result e) c.site_of-site.result c.make_raw-disk_set.result.0) c.replace-disk_set.ensures.after)

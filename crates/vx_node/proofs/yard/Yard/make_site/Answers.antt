@@ -1,54 +1,55 @@
 use Rattle.std.proofs.Common.{◌≡◌, ◌∙◌, ◌++◌, ◌∷◌, [], ◌<◌, ℕ, length, ap, sym, arith, refl, vec_len}
 use Rattle.std.specs.Prelude.{slice_get, slice_set}
 use Rattle.vx_order.specs.declared.facts.SiteFacts.{SiteFacts}
-use Rattle.vx_node.proofs.Changing.{told_before}
+use Rattle.vx_node.proofs.ChangeSite.{told_before}
 use Rattle.vx_node.proofs.Lists.{get_at, pop_pushed}
 use Rattle.vx_events.proofs.Refused.{site_may}
-use Rattle.vx_node.proofs.Sites.{site_done, site_said, sites_many}
+use Rattle.vx_node.proofs.SiteLine.{site_done, site_said, sites_many}
 use Rattle.vx_node.specs.Yards.{in_files}
 use Rattle.vx_node.proofs.yard.Yard.make_site.Goals.{then-site-len-via-then-site-len, then-site-len-via-else-site-len+then-site-ge-MOST_SITES}
 use Rattle.vx_node.proofs.yard.Yard.make_site.Goals as goal
 
 pub returns-in-Ok-clause-works : goal.returns-in-Ok-clause-works
-returns-in-Ok-clause-works g c = λ w stands free.
+returns-in-Ok-clause-works g c = λ w stands.
     let many = sites_many w c.args.self.now stands in
     let site : c.len-site.result ≡ length c.args.self.now.facts.items = omega (arith, c.len-site.ensures, c.args.self.now.facts.ok) in
-    let at = ap (slice_get c.args.self.now.engines.items) (sym site)
-    ∙ get_at c.args.self.now.engines.items c.len-site.result c.index_mut.result.now (omega (arith, c.if-site-len.false, c.len.ensures, c.args.self.now.engines.ok)) c.index_mut.ensures.value in
-    site_done w c.args.self.now _ c.args.name.now c.args.disks c.args.blocks c.index_mut.result.now c.fit-made.new.self stands free
+    let at = ap (slice_get c.args.self.now.disk_sets.items) (sym site)
+    ∙ get_at c.args.self.now.disk_sets.items c.len-site.result c.index_mut.result.now (omega (arith, c.if-site-len.false, c.len.ensures, c.args.self.now.disk_sets.ok)) c.index_mut.ensures.value in
+    site_done w c.args.self.now _ c.args.name.now c.args.disks c.args.blocks c.index_mut.result.now c.fit-made.new.self stands c.requires.free
     at c.in-Ok.ensures.later
-    (c.in-Ok.ensures.fits (stands.engines.others (length c.args.self.now.facts.items) c.index_mut.result.now (omega (arith, many)) at))
+    (c.in-Ok.ensures.fits (stands.disk_sets.others (length c.args.self.now.facts.items) c.index_mut.result.now (omega (arith, many)) at) [])
     (c.in_ok-push.ensures.items ∙ ap (λ (f : SiteFacts). c.args.self.now.facts.items ++ f ∷ []) c.bare.ensures)
-    (ap (λ (k : ℕ). slice_set c.args.self.now.engines.items k c.fit-made.new.self) site)
+    (ap (λ (k : ℕ). slice_set c.args.self.now.disk_sets.items k c.fit-made.new.self) site)
     refl
 
 pub returns-in-Err-clause-works : goal.returns-in-Err-clause-works
-returns-in-Err-clause-works g c = λ w stands free.
+returns-in-Err-clause-works g c = λ w stands.
     let many = sites_many w c.args.self.now stands in
     let site : c.len-site.result ≡ length c.args.self.now.facts.items = omega (arith, c.len-site.ensures, c.args.self.now.facts.ok) in
-    let at = ap (slice_get c.args.self.now.engines.items) (sym site)
-    ∙ get_at c.args.self.now.engines.items c.len-site.result c.index_mut.result.now (omega (arith, c.if-site-len.false, c.len.ensures, c.args.self.now.engines.ok)) c.index_mut.ensures.value in
-    site_said c.folder.result c.in-Err.stop c.stopped.result w c.args.self.now _ c.args.name.now c.args.disks c.args.blocks c.index_mut.result.now c.fit-made.new.self c.stopped.ensures stands free
+    let at = ap (slice_get c.args.self.now.disk_sets.items) (sym site)
+    ∙ get_at c.args.self.now.disk_sets.items c.len-site.result c.index_mut.result.now (omega (arith, c.if-site-len.false, c.len.ensures, c.args.self.now.disk_sets.ok)) c.index_mut.ensures.value in
+    site_said c.folder.result c.in-Err.stop c.stopped.result w c.args.self.now _ c.args.name.now c.args.disks c.args.blocks c.index_mut.result.now c.fit-made.new.self c.stopped.ensures stands c.requires.free
     c.folder.ensures at c.in-Err.ensures.later
-    (c.in-Err.ensures.fits (stands.engines.others (length c.args.self.now.facts.items) c.index_mut.result.now (omega (arith, many)) at))
+    (c.in-Err.ensures.fits (stands.disk_sets.others (length c.args.self.now.facts.items) c.index_mut.result.now (omega (arith, many)) at))
     (pop_pushed c.args.self.now.facts.items c.push.new.self.items c.pop.new.self.items c.bare.result (vec_len c.push.new.self) c.in_ok-push.ensures.items (omega (arith, c.push.new.self.ok)) c.pop.ensures.rest)
-    (ap (λ (k : ℕ). slice_set c.args.self.now.engines.items k c.fit-made.new.self) site)
+    (ap (λ (k : ℕ). slice_set c.args.self.now.disk_sets.items k c.fit-made.new.self) site)
     refl
 
 pub returns-in-Ok-clause-told : goal.returns-in-Ok-clause-told
-returns-in-Ok-clause-told g c = told_before c.args.self.now.engines.items c.len-site.result c.index_mut.result.now c.fit-made.new.self
-    (get_at c.args.self.now.engines.items c.len-site.result c.index_mut.result.now (omega (arith, c.if-site-len.false, c.len.ensures, c.args.self.now.engines.ok)) c.index_mut.ensures.value) c.in-Ok.ensures.later
+returns-in-Ok-clause-told g c = told_before c.args.self.now.disk_sets.items c.len-site.result c.index_mut.result.now c.fit-made.new.self
+    (get_at c.args.self.now.disk_sets.items c.len-site.result c.index_mut.result.now (omega (arith, c.if-site-len.false, c.len.ensures, c.args.self.now.disk_sets.ok)) c.index_mut.ensures.value) c.in-Ok.ensures.later
 
 pub returns-in-Err-clause-told : goal.returns-in-Err-clause-told
-returns-in-Err-clause-told g c = told_before c.args.self.now.engines.items c.len-site.result c.index_mut.result.now c.fit-made.new.self
-    (get_at c.args.self.now.engines.items c.len-site.result c.index_mut.result.now (omega (arith, c.if-site-len.false, c.len.ensures, c.args.self.now.engines.ok)) c.index_mut.ensures.value) c.in-Err.ensures.later
+returns-in-Err-clause-told g c = told_before c.args.self.now.disk_sets.items c.len-site.result c.index_mut.result.now c.fit-made.new.self
+    (get_at c.args.self.now.disk_sets.items c.len-site.result c.index_mut.result.now (omega (arith, c.if-site-len.false, c.len.ensures, c.args.self.now.disk_sets.ok)) c.index_mut.ensures.value) c.in-Err.ensures.later
 
-pub returns-then-site-len-clause-works : goal.returns-then-site-len-clause-works
-returns-then-site-len-clause-works g c = λ w stands free.
-    let may = site_may c.args.self.now.facts.items (in_files c.args.self.now) c.args.name.now c.args.disks c.args.blocks free in
+pub unreachable-requires : goal.unreachable-requires
+unreachable-requires g c =
+    let stands = c.requires.kept.agrees in
+    let may = site_may c.args.self.now.facts.items (in_files c.args.self.now) c.args.name.now c.args.disks c.args.blocks c.requires.free in
     let site : c.len-site.result < 8 = omega (arith, c.len-site.ensures, c.args.self.now.facts.ok, may.few_sites) in
-    let engines : c.len.result ≡ 8 = omega (arith, c.len.ensures, c.args.self.now.engines.ok, stands.engines.eight) in
+    let disk_sets : c.len.result ≡ 8 = omega (arith, c.len.ensures, c.args.self.now.disk_sets.ok, stands.disk_sets.eight) in
     elim c.then-site-len.branch [
-      | then-site-len-via-then-site-len w ↦ absurd (omega (arith, w.if-site-len.true, site, engines))
+      | then-site-len-via-then-site-len w ↦ absurd (omega (arith, w.if-site-len.true, site, disk_sets))
       | then-site-len-via-else-site-len+then-site-ge-MOST_SITES w ↦ absurd (omega (arith, w.if-site-ge-MOST_SITES.true, site))
     ]

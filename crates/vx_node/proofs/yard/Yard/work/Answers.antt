@@ -5,6 +5,42 @@ use Rattle.vx_node.specs.Yards.{in_files}
 use Rattle.vx_events.proofs.Refused.{site_may}
 use Rattle.vx_node.proofs.yard.Yard.work.Goals as goal
 
+pub make_site-requires-clause-free : goal.make_site-requires-clause-free
+make_site-requires-clause-free g c = λ κs lives. subst (λ line. IsFree c.args.self.now line) c.in-Site.is c.requires.free
+
+pub make_raw-requires-clause-free : goal.make_raw-requires-clause-free
+make_raw-requires-clause-free g c = λ κs lives. subst (λ line. IsFree c.args.self.now line) c.in-Raw.is c.requires.free
+
+pub set_disk-requires-clause-free : goal.set_disk-requires-clause-free
+set_disk-requires-clause-free g c = λ κs lives. subst (λ line. IsFree c.args.self.now line) c.in-Disk.is c.requires.free
+
+pub crash_line-requires-clause-free : goal.crash_line-requires-clause-free
+crash_line-requires-clause-free g c = λ κs lives. subst (λ line. IsFree c.args.self.now line) c.in-Crash.is c.requires.free
+
+pub fuse_line-requires-clause-free : goal.fuse_line-requires-clause-free
+fuse_line-requires-clause-free g c = λ κs lives. subst (λ line. IsFree c.args.self.now line) c.in-Fuse.is c.requires.free
+
+pub recover_line-requires-clause-free : goal.recover_line-requires-clause-free
+recover_line-requires-clause-free g c = λ κs lives. subst (λ line. IsFree c.args.self.now line) c.in-Recover.is c.requires.free
+
+pub write_line-requires-clause-free : goal.write_line-requires-clause-free
+write_line-requires-clause-free g c = λ κs lives. subst (λ line. IsFree c.args.self.now line) c.in-Write.is c.requires.free
+
+pub put_line-requires-clause-free : goal.put_line-requires-clause-free
+put_line-requires-clause-free g c = λ κs lives. subst (λ line. IsFree c.args.self.now line) c.in-Put.is c.requires.free
+
+pub read_line-requires-clause-free : goal.read_line-requires-clause-free
+read_line-requires-clause-free g c = λ κs lives. subst (λ line. IsFree c.args.self.now line) c.in-Read.is c.requires.free
+
+pub show_line-requires-clause-free : goal.show_line-requires-clause-free
+show_line-requires-clause-free g c = λ κs lives. subst (λ line. IsFree c.args.self.now line) c.in-Show.is c.requires.free
+
+pub apply_line-requires-clause-free : goal.apply_line-requires-clause-free
+apply_line-requires-clause-free g c = λ κs lives. subst (λ line. IsFree c.args.self.now line) c.in-Apply.is c.requires.free
+
+pub status_line-requires-clause-free : goal.status_line-requires-clause-free
+status_line-requires-clause-free g c = λ κs lives. subst (λ line. IsFree c.args.self.now line) c.in-Status.is c.requires.free
+
 pub make_site-requires-clause-some : goal.make_site-requires-clause-some
 make_site-requires-clause-some g c = λ κs lives.
     (site_may c.args.self.now.facts.items (in_files c.args.self.now) c.in-Site.site c.in-Site.disks c.in-Site.blocks (subst (λ line. IsFree c.args.self.now line) c.in-Site.is c.requires.free)).some_disks

@@ -1,23 +1,28 @@
 use Rattle.std.proofs.Common.{◌≡◌, ◌∙◌, ◌*◌, ◌≤◌, ℕ, ap, arith}
 use Rattle.std.specs.Prelude.{min, replicate}
 use Rattle.vx_events.proofs.RefusedCalls.{write_may}
+use Rattle.vx_node.specs.Writes.WriteFree.{ByWrite}
 use Rattle.vx_node.specs.Yards.{in_files}
-use Rattle.vx_node.proofs.Writing.{write_answered}
+use Rattle.vx_node.proofs.WriteLine.{write_answered}
 use Rattle.vx_node.proofs.yard.Yard.write_line.Goals.{then-count-lt1-via-then-count-lt1, then-count-lt1-via-else-count-lt1+then-count-gt-MOST_CALL_BLOCKS}
 use Rattle.vx_node.proofs.yard.Yard.write_line.Goals as goal
 
 few_blocks : (n : ℕ) → n ≤ 16 → min n 16 ≡ n
 few_blocks n few = omega (arith, few)
 
-pub returns-then-count-lt1-clause-works : goal.returns-then-count-lt1-clause-works
-returns-then-count-lt1-clause-works g c = λ w stands free.
-    let call = (write_may c.args.self.now.facts.items (in_files c.args.self.now) c.args.name.now c.args.volume.now c.args.start c.args.count c.args.fill free).call in
+pub unreachable-requires : goal.unreachable-requires
+unreachable-requires g c =
+    let call = (write_may c.args.self.now.facts.items (in_files c.args.self.now) c.args.name.now c.args.volume.now c.args.start c.args.count c.args.fill c.requires.free).call in
     elim c.then-count-lt1.branch [
       | then-count-lt1-via-then-count-lt1 w ↦ absurd (omega (arith, w.if-count-lt1.true, call.some))
       | then-count-lt1-via-else-count-lt1+then-count-gt-MOST_CALL_BLOCKS w ↦ absurd (omega (arith, w.if-count-gt-MOST_CALL_BLOCKS.true, call.few))
     ]
 
 pub returns-clause-works : goal.returns-clause-works
-returns-clause-works g c = λ w stands free.
+returns-clause-works g c = λ w stands.
     write_answered w c.args.self.now _ c.args.name.now c.args.volume.now c.args.start c.args.count c.args.fill c.args.bytes.now _
-    (c.requires.bytes ∙ ap (λ (n : ℕ). replicate (512 * n) c.args.fill) (few_blocks c.args.count (omega (arith, c.if-count-lt1.false)))) free (λ f. c.write_blocks.ensures.works w stands f)
+    (c.requires.bytes ∙ ap (λ (n : ℕ). replicate (512 * n) c.args.fill) (few_blocks c.args.count (omega (arith, c.if-count-lt1.false)))) c.requires.free (λ f. c.write_blocks.ensures.works w stands)
+
+pub write_blocks-requires-clause-free : goal.write_blocks-requires-clause-free
+write_blocks-requires-clause-free g c = λ κs within.
+    ByWrite c.args.count c.args.fill c.requires.free (c.requires.bytes ∙ ap (λ (n : ℕ). replicate (512 * n) c.args.fill) (few_blocks c.args.count (omega (arith, c.if-count-lt1.false))))

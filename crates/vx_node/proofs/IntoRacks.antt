@@ -1,0 +1,172 @@
+-- The racks as they come back from their disk sets.
+use Rattle.std.proofs.Common.{◌≡◌, ◌∙◌, ℕ, zero, suc, List, [], ◌∷◌, length, ap, sym, subst, refl, arith, IsTrue}
+use Rattle.std.specs.Prelude.{Option, Some, None, drop, slice_get, take}
+use Rattle.std.specs.Option.{option_and_then}
+use Rattle.vx_history.specs.World.{Node, World}
+use Rattle.vx_model.specs.declared.site.SiteState.TheVariants.{Bare as IsBare, Up as IsUp, Down as IsDown}
+use Rattle.vx_model.specs.declared.site.SiteState.{SiteState}
+use Rattle.vx_model.specs.declared.state.KeptLink.{KeptLink}
+use Rattle.vx_history.specs.KeptLinks.{kept_links}
+use Rattle.vx_model.specs.Content.{Content, Write, fold_writes}
+use Rattle.vx_disk.specs.Shelf.{Meaning, Lawful}
+use Rattle.vx_disk.specs.declared.shelf.Shelf.{Ghosts}
+use Rattle.vx_node.specs.Lasts.{FoundWith}
+use Rattle.vx_rvg.specs.Views.{Core}
+use Rattle.vx_node.specs.declared.disk_set.DiskSet.{DiskSet}
+use Rattle.vx_node.specs.declared.disk_set.DiskSet.TheVariants.{Bare, Spoiled, Up, Down, Gone}
+use Rattle.vx_node.specs.Holds.{Holds, state_with, links_of, RacksHold, RacksTell, rack_count, rack_faults}
+use Rattle.vx_node.specs.Layouts.{units_of}
+use Rattle.vx_events.specs.Plain.{IsUnlinked}
+use Rattle.vx_events.proofs.Steps.{no_sites}
+use Rattle.vx_events.specs.Stamps.{most_stamp}
+use Rattle.vx_node.specs.Racks.{racks_in}
+use Rattle.vx_node.specs.Stands.{DiskSetsStand, StandsAlone, IsUnused, IsBareAt, IsUpAt, IsDownAt, IsToldAt, AreTold, fault_count, faults_of}
+use Rattle.vx_node.proofs.CrashGroup.{left_with}
+use Rattle.vx_node.proofs.StaysUp.{all_taken, durable_content, told_now}
+use Rattle.std.proofs.lemmas.Bool.{cases_lt}
+use Rattle.std.proofs.Common.{⊎_elim}
+
+never_both : {x : SiteState} → x ≡ IsUp → x ≡ IsDown → ⊥
+never_both a b = let e : IsUp ≡ IsDown = sym a ∙ b in cc
+
+-- a site that is up
+up_holds : {links : List KeptLink} (n : Node) (c : Core) (m : Meaning) → IsUpAt links n c m → Holds links n m
+up_holds n c m up = record { up = λ _ i now. up.left i now; down = λ down. absurd (never_both up.state down) }
+
+-- a site that is down
+down_holds : {links : List KeptLink} (n : Node) (m : Meaning) → Lawful m → IsDownAt links n m → Holds links n m
+down_holds {links} n m lawful is = record {
+  up = λ up. absurd (never_both up is.state);
+  down = λ _ i now. record {
+    count = n.safe;
+    least = omega arith;
+    most = omega (arith, is.logged);
+    found = subst (λ (xs : List Write). FoundWith (units_of n) n.ring (state_with n links) n.session (most_stamp n) i xs (fold_writes n.base (drop n.safe (take n.safe n.log)))) (all_taken n is.logged)
+        (subst (λ (c : Content). FoundWith (units_of n) n.ring (state_with n links) n.session (most_stamp n) i n.log c) (durable_content n)
+        (left_with (units_of n) n.ring (state_with n links) n.session (most_stamp n) n.log n.base m i lawful now (is.left (told_now m i lawful now))));
+  };
+}
+
+-- nothing is made of a bare site
+bare_holds : {links : List KeptLink} (n : Node) (m : Meaning) → IsBareAt n m → Holds links n m
+bare_holds n m bare = record {
+  up = λ up. absurd (let e : IsBare ≡ IsUp = sym state ∙ up in cc);
+  down = λ down. absurd (let e : IsBare ≡ IsDown = sym state ∙ down in cc);
+}
+  where
+    state : n.state ≡ IsBare
+    state = ap (λ (k : Node). k.state) bare.is
+
+-- a site of a world without links keeps none
+links_none : (w : World) (s : ℕ) → IsUnlinked w → links_of w s ≡ []
+links_none w s none = ap (λ (sites : List ℕ). kept_links (w.links s) sites) (no_sites (w.links s) w.sites 0 w.sites (none.none s))
+
+some_same : {A : Type 0} {a b : A} → Some a ≡ Some b → a ≡ b
+some_same e = cc
+
+module _ {R : Type 0} {g : Ghosts R} where
+  abbrev rack_of : DiskSet R g → Option R
+  rack_of (Bare rack) = Some rack
+  rack_of (Spoiled rack) = Some rack
+  rack_of (Up rvg) = Some rvg.shelf
+  rack_of (Down rack) = Some rack
+  rack_of Gone = None
+
+  abbrev IsThere : DiskSet R g → Type 0
+  IsThere (Bare rack) = Unit {0}
+  IsThere (Spoiled rack) = Unit {0}
+  IsThere (Up rvg) = Unit {0}
+  IsThere (Down rack) = Unit {0}
+  IsThere Gone = ⊥
+
+  abbrev AllThere : List (DiskSet R g) → Type 0
+  AllThere [] = Unit {0}
+  AllThere (e ∷ es) = IsThere e × AllThere es
+
+  all_there : (es : List (DiskSet R g)) → ((s : ℕ) (e : DiskSet R g) → slice_get es s ≡ Some e → IsThere e) → AllThere es
+  all_there [] f = tt
+  all_there (e ∷ es) f = (f zero e refl, all_there es (λ s e' h. f (suc s) e' h))
+
+  slice_get-racks_in : (es : List (DiskSet R g)) → AllThere es → (s : ℕ) → slice_get (racks_in es) s ≡ option_and_then rack_of (slice_get es s)
+  slice_get-racks_in [] all s = refl
+  slice_get-racks_in (Bare rack ∷ es) all zero = refl
+  slice_get-racks_in (Spoiled rack ∷ es) all zero = refl
+  slice_get-racks_in (Up rvg ∷ es) all zero = refl
+  slice_get-racks_in (Down rack ∷ es) all zero = refl
+  slice_get-racks_in (Gone ∷ es) all zero = absurd all.0
+  slice_get-racks_in (Bare rack ∷ es) all (suc s) = slice_get-racks_in es all.1 s
+  slice_get-racks_in (Spoiled rack ∷ es) all (suc s) = slice_get-racks_in es all.1 s
+  slice_get-racks_in (Up rvg ∷ es) all (suc s) = slice_get-racks_in es all.1 s
+  slice_get-racks_in (Down rack ∷ es) all (suc s) = slice_get-racks_in es all.1 s
+  slice_get-racks_in (Gone ∷ es) all (suc s) = absurd all.0
+
+  length-racks_in : (es : List (DiskSet R g)) → AllThere es → length (racks_in es) ≡ length es
+  length-racks_in [] all = refl
+  length-racks_in (Bare rack ∷ es) all = ap suc (length-racks_in es all.1)
+  length-racks_in (Spoiled rack ∷ es) all = ap suc (length-racks_in es all.1)
+  length-racks_in (Up rvg ∷ es) all = ap suc (length-racks_in es all.1)
+  length-racks_in (Down rack ∷ es) all = ap suc (length-racks_in es all.1)
+  length-racks_in (Gone ∷ es) all = absurd all.0
+
+  stands_there : (n : Node) (e : DiskSet R g) → StandsAlone n e → IsThere e
+  stands_there n (Bare rack) h = tt
+  stands_there n (Spoiled rack) h = tt
+  stands_there n (Up rvg) h = tt
+  stands_there n (Down rack) h = tt
+  stands_there n Gone h = h
+
+  unused_there : (e : DiskSet R g) → IsUnused e → IsThere e
+  unused_there (Bare rack) h = tt
+  unused_there (Spoiled rack) h = tt
+  unused_there (Up rvg) h = tt
+  unused_there (Down rack) h = tt
+  unused_there Gone h = h
+
+  pub disk_sets_there : (w : World) (es : List (DiskSet R g)) → DiskSetsStand w es → AllThere es
+  disk_sets_there w es stand = all_there es (λ s e at. ⊎_elim (λ below. stands_there (w.nodes s) e (stand.sites s e below at)) (λ past. unused_there e (stand.others s e past at)) (cases_lt s w.sites))
+
+  counts_as : (x : Option (DiskSet R g)) (d : ℕ) → rack_count g.meaning (option_and_then rack_of x) d ≡ fault_count x d
+  counts_as None d = refl
+  counts_as (Some (Bare rack)) d = refl
+  counts_as (Some (Spoiled rack)) d = refl
+  counts_as (Some (Up rvg)) d = refl
+  counts_as (Some (Down rack)) d = refl
+  counts_as (Some Gone) d = refl
+
+  pub racks_count : (w : World) (es : List (DiskSet R g)) → DiskSetsStand w es → (s d : ℕ) → rack_faults g.meaning (racks_in es) s d ≡ faults_of es s d
+  racks_count w es stand s d = ap (λ (r : Option R). rack_count g.meaning r d) (slice_get-racks_in es (disk_sets_there w es stand) s) ∙ counts_as (slice_get es s) d
+
+  site_holds : (lawful : (r : R) → Lawful (g.meaning r)) (n : Node) (x : Option (DiskSet R g)) (r : R) → ((e : DiskSet R g) → x ≡ Some e → StandsAlone n e) → option_and_then rack_of x ≡ Some r → Holds [] n (g.meaning r)
+  site_holds lawful n None r stands is = absurd (cc)
+  site_holds lawful n (Some (Bare rack)) r stands is =
+      subst (λ (k : R). Holds [] n (g.meaning k)) (some_same is) (bare_holds n (g.meaning rack) (stands (Bare rack) refl).bare)
+  site_holds lawful n (Some (Spoiled rack)) r stands is =
+      subst (λ (k : R). Holds [] n (g.meaning k)) (some_same is) (bare_holds n (g.meaning rack) (stands (Spoiled rack) refl))
+  site_holds lawful n (Some (Up rvg)) r stands is =
+      subst (λ (k : R). Holds [] n (g.meaning k)) (some_same is) (up_holds n rvg.core (g.meaning rvg.shelf) (stands (Up rvg) refl))
+  site_holds lawful n (Some (Down rack)) r stands is =
+      subst (λ (k : R). Holds [] n (g.meaning k)) (some_same is) (down_holds n (g.meaning rack) (lawful rack) (stands (Down rack) refl))
+  site_holds lawful n (Some Gone) r stands is = absurd (cc)
+
+  -- a site without links has those of the world, which are none
+  pub racks_hold : (lawful : (r : R) → Lawful (g.meaning r)) (w : World) (es : List (DiskSet R g)) → IsUnlinked w → DiskSetsStand w es → RacksHold g.meaning w (racks_in es)
+  racks_hold lawful w es none stand = record {
+    eight = length-racks_in es (disk_sets_there w es stand) ∙ stand.eight;
+    each = λ s r below at.
+        let held = site_holds lawful (w.nodes s) (slice_get es s) r (λ e is. stand.sites s e below is) (sym (slice_get-racks_in es (disk_sets_there w es stand) s) ∙ at) in
+        subst (λ (links : List KeptLink). Holds links (w.nodes s) (g.meaning r)) (sym (links_none w s none)) held;
+  }
+
+  tells_at : (e : DiskSet R g) → IsThere e → ((r : R) → rack_of e ≡ Some r → IsTrue (g.meaning r).tells) → IsToldAt e
+  tells_at (Bare rack) there f = f rack refl
+  tells_at (Spoiled rack) there f = f rack refl
+  tells_at (Up rvg) there f = f rvg.shelf refl
+  tells_at (Down rack) there f = f rack refl
+  tells_at Gone there f = there
+
+  pub racks_tell : (w : World) (es : List (DiskSet R g)) → DiskSetsStand w es → RacksTell g.meaning (racks_in es) → AreTold es
+  racks_tell w es stand tell = record {
+    each = λ s e at. tells_at e
+        (⊎_elim (λ below. stands_there (w.nodes s) e (stand.sites s e below at)) (λ past. unused_there e (stand.others s e past at)) (cases_lt s w.sites))
+        (λ r is. tell.each s r (slice_get-racks_in es (disk_sets_there w es stand) s ∙ ap (λ (x : Option (DiskSet R g)). option_and_then rack_of x) at ∙ is));
+  }

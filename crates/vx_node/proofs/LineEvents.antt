@@ -1,0 +1,224 @@
+-- A line that a yard answered, as the events of the world.
+use Rattle.std.proofs.Common.{◌≡◌, ◌∙◌, inl, inr, ◌-◌, ◌*◌, ◌<◌, ℕ, zero, suc, List, [], ◌∷◌, length, Bool, ap, sym, subst, refl, arith}
+use Rattle.std.specs.Prelude.{Option, Some, None, slice_get, replicate}
+use Rattle.std.proofs.lemmas.Option.{slice_get_within}
+use Rattle.vx_model.specs.Content.{Write as WriteOf}
+use Rattle.vx_model.specs.declared.limits.TheConstants.{MOST_NUMBER}
+use Rattle.vx_model.specs.declared.no.No.{No}
+use Rattle.vx_model.specs.declared.site.SiteState.TheVariants.{Bare as IsBare, Up as IsUp, Down as IsDown}
+use Rattle.vx_history.specs.Steps.{fused}
+use Rattle.vx_history.specs.World.{Node, World, Volume, FuseSet}
+use Rattle.vx_history.specs.declared.event.Event.TheVariants.{Site as MakeSite, Raw as MakeRaw, Read as ReadAt}
+use Rattle.vx_disk.specs.declared.shelf.Shelf.{Ghosts}
+use Rattle.vx_script.specs.declared.line.ScriptLine.{ScriptLine}
+use Rattle.vx_script.specs.declared.line.ScriptLine.TheVariants.{Site, Raw, Disk, Crash, Fuse, Recover, Write, Put, Read, Show, Apply, Status}
+use Rattle.vx_order.specs.Order.{refusal_of}
+use Rattle.vx_events.specs.Ends.{AllDone, place_of as site_of}
+use Rattle.vx_events.specs.Facts.{facts_of, site_number, volume_number}
+use Rattle.vx_events.specs.Fails.{Fails}
+use Rattle.vx_events.specs.Lines.{StepBy, Counts, write_in}
+use Rattle.vx_events.specs.Plain.{IsUnlinked, IsSized, ArePrimaries}
+use Rattle.vx_events.specs.declared.said.Said.{Said}
+use Rattle.vx_events.proofs.Keeping.{node_primary, same_links}
+use Rattle.vx_events.proofs.Steps.{CanPut}
+use Rattle.vx_node.specs.declared.disk_set.DiskSet.{DiskSet}
+use Rattle.vx_node.specs.declared.disk_set.DiskSet.TheVariants.{Bare, Spoiled, Up, Down, Gone}
+use Rattle.vx_node.specs.declared.yard.Yard.{Yard}
+use Rattle.vx_node.specs.Replies.{text_of}
+use Rattle.vx_node.specs.Stands.{StandsAlone}
+use Rattle.vx_node.specs.Working.{Answered}
+use Rattle.vx_node.specs.Works.{Works, WorksBy}
+use Rattle.vx_node.specs.Yards.{YardAgrees, YardStands, StaysAgreed, StaysFor, Steps, IsTold, in_files}
+use Rattle.vx_node.proofs.Alike.{agrees_like}
+use Rattle.vx_node.proofs.SiteEvents.{Happens, first_choice, happens_as, site_happens, raw_happens, only_happens, crash_happens, recover_happens}
+use Rattle.vx_node.proofs.CallEvents.{put_happens, put_counts, read_happens, apply_happens}
+use Rattle.vx_events.proofs.Refused.{crash_may, recover_may, apply_may}
+use Rattle.vx_events.proofs.RefusedCalls.{CallMay, write_may, put_may, read_may, show_may}
+use Rattle.vx_events.proofs.Testing.{seat_in, up_in, running_in, site_free, raw_free, called, call_of, can_put, write_primary, put_primary, blocks_filled}
+
+-- the sizes of a site that is up
+record HasVolumes (n : Node) : Type 0 where
+  named : (v : ℕ) (x : Volume) → slice_get n.volumes v ≡ Some x → n.base.size v ≡ x.blocks
+
+get_some : {A : Type 0} (xs : List A) (i : ℕ) → i < length xs → (x : A) × (slice_get xs i ≡ Some x)
+get_some [] i h = absurd (omega arith)
+get_some (x ∷ xs) zero h = (x, refl)
+get_some (x ∷ xs) (suc i) h = get_some xs i (omega arith)
+
+module _ {R : Type 0} {g : Ghosts R} where
+  volumes_of : (n : Node) (e : DiskSet R g) → StandsAlone n e → n.state ≡ IsUp → HasVolumes n
+  volumes_of n (Bare rack) h up = absurd (let e : IsBare ≡ IsUp = sym (ap (λ (k : Node). k.state) h.bare.is) ∙ up in cc)
+  volumes_of n (Spoiled rack) h up = absurd (let e : IsBare ≡ IsUp = sym (ap (λ (k : Node). k.state) h.is) ∙ up in cc)
+  volumes_of n (Up rvg) h up = record { named = h.lies.laid.named }
+  volumes_of n (Down rack) h up = record { named = h.lies.laid.named }
+  volumes_of n Gone h up = absurd h
+
+  log_whole : (n : Node) (e : DiskSet R g) → StandsAlone n e → n.state ≡ IsDown → length n.log ≡ n.safe
+  log_whole n (Bare rack) h down = absurd (let e : IsBare ≡ IsDown = sym (ap (λ (k : Node). k.state) h.bare.is) ∙ down in cc)
+  log_whole n (Spoiled rack) h down = absurd (let e : IsBare ≡ IsDown = sym (ap (λ (k : Node). k.state) h.is) ∙ down in cc)
+  log_whole n (Up rvg) h down = absurd (let e : IsUp ≡ IsDown = sym h.state ∙ down in cc)
+  log_whole n (Down rack) h down = h.logged
+  log_whole n Gone h down = absurd h
+
+  -- the disk set of a site
+  disk_set_of : (w : World) (y : Yard R g) (s : ℕ) → YardAgrees w y → s < w.sites → (e : DiskSet R g) × StandsAlone (w.nodes s) e
+  disk_set_of w y s agrees below =
+      let e = get_some y.disk_sets.items s (omega (arith, below, agrees.disk_sets.few, agrees.disk_sets.eight)) in (e.0, agrees.disk_sets.sites s e.0 below e.1)
+
+  -- the volumes of a site that is up
+  sized_of : (w : World) (y : Yard R g) (s : ℕ) → YardAgrees w y → s < w.sites → (w.nodes s).state ≡ IsUp → IsSized (w.nodes s)
+  sized_of w y s agrees below up =
+      let e = disk_set_of w y s agrees below in
+      let has = volumes_of (w.nodes s) e.0 e.1 up in
+      record { each = λ v x at. has.named v x at }
+
+  -- the same of a site that a line names
+  sized_in : (w : World) (y : Yard R g) (name volume : List ℕ) (start count : ℕ) → YardAgrees w y → CallMay (facts_of w) name volume start count → IsSized (w.nodes (site_number w name))
+  sized_in w y name volume start count agrees may = sized_of w y (site_number w name) agrees (seat_in w name may.site).0 (up_in w name may.site may.up)
+
+  -- ---- the whole line
+
+  -- the yard stands for the world to which the events came
+  stands_for : (told : Type 0) (w next : World) (line : ScriptLine) (s : ℕ) (fails : Fails) (said : Said) (y : Yard R g) → (IsTold y → told) → YardAgrees next y → (h : Happens told w line s fails said next) → YardStands h.new y
+  stands_for told w next line s fails said y is agrees h = record { agrees = agrees_like next h.new y h.sites h.nodes agrees; unlinked = h.unlinked; primaries = λ t. h.primaries (is t) }
+
+  -- a line that no test refuses
+  works_happen : (told : Type 0) (files : Bool) (w : World) (y : Yard R g) (line : ScriptLine) (fails : Fails) (said : Said) (next : World) → YardAgrees w y → IsUnlinked w → (told → ArePrimaries w)
+      → refusal_of (facts_of w) files line ≡ None → Works told w line fails said next → Happens told w line (site_of w line) fails said next × Counts told w line said
+  works_happen told files w y (Site name disks blocks) fails said next agrees none all free (inl is) = (site_happens told w name disks blocks fails said next none all (site_free w files name disks blocks free) is, tt)
+  works_happen told files w y (Site name disks blocks) fails said next agrees none all free (inr f) =
+      (only_happens told w (Site name disks blocks) w.sites (MakeSite name disks blocks) fails said next none all refl (λ d. refl) refl f, tt)
+  works_happen told files w y (Raw name) fails said next agrees none all free (inl is) = (raw_happens told w name fails said next none all (raw_free w files name free) is, tt)
+  works_happen told files w y (Raw name) fails said next agrees none all free (inr f) =
+      (only_happens told w (Raw name) (site_number w name) (MakeRaw (site_number w name)) fails said next none all refl (λ d. refl) refl f, tt)
+  works_happen told files w y (Disk name disk state) fails said next agrees none all free is = (
+    record {
+      new = w;
+      ends = AllDone first_choice is.none is.says refl;
+      sites = ap (λ (v : World). v.sites) (sym is.leads);
+      nodes = λ i. ap (λ (v : World). v.nodes i) (sym is.leads);
+      unlinked = none;
+      primaries = all;
+    },
+    tt,
+  )
+  works_happen told files w y (Crash name pick) fails said next agrees none all free is =
+      let may = crash_may (facts_of w) files name pick free in (
+        happens_as next is.0 is.2.leads
+            (crash_happens told w name pick fails said is.0 none all (seat_in w name may.0).0 (up_in w name may.0 may.1) is.1 (record { none = is.2.none; says = is.2.says; leads = refl })),
+        tt,
+      )
+  works_happen told files w y (Fuse name calls pick) fails said next agrees none all free is =
+      let s : ℕ = site_number w name in (
+        record {
+          new = fused w s calls;
+          ends = AllDone first_choice is.none is.says refl;
+          sites = ap (λ (v : World). v.sites) (sym is.leads);
+          nodes = λ i. ap (λ (v : World). v.nodes i) (sym is.leads);
+          unlinked = same_links w (fused w s calls) (λ p q. refl) none;
+          primaries = λ t. node_primary w (fused w s calls) s (record (w.nodes s) { fuse = FuseSet calls }) (λ k. refl) ((all t).each s) (all t);
+        },
+        tt,
+      )
+  works_happen told files w y (Recover name) fails said next agrees none all free is =
+      let named = recover_may (facts_of w) files name free in
+      let seat = seat_in w name named in
+      let e = disk_set_of w y (site_number w name) agrees seat.0 in
+      (recover_happens told w name fails said next seat.0 (log_whole (w.nodes (site_number w name)) e.0 e.1) none all is, tt)
+  works_happen told files w y (Write name volume start count fill) fails said next agrees none all free is =
+      let s : ℕ = site_number w name in
+      let x : WriteOf = write_in w name volume start (replicate (512 * count) fill) in
+      let may = write_may (facts_of w) files name volume start count fill free in
+      let can : (w.nodes s).safe < MOST_NUMBER → CanPut w s x = λ below. can_put w name volume start count (replicate (512 * count) fill) (sized_in w y name volume start count agrees may.call) none may (blocks_filled count fill) (write_primary w files name volume start count fill free) below in (
+        put_happens told w (Write name volume start count fill) s x can none all (λ c. refl) (λ v. refl) fails said next is,
+        put_counts told w (Write name volume start count fill) s x can none all (λ c. refl) (λ v. refl) fails said next is,
+      )
+  works_happen told files w y (Put name volume start bytes) fails said next agrees none all free is =
+      let s : ℕ = site_number w name in
+      let x : WriteOf = write_in w name volume start bytes in
+      let may = put_may (facts_of w) files name volume start bytes free in
+      let can : (w.nodes s).safe < MOST_NUMBER → CanPut w s x = λ below. can_put w name volume start 1 bytes (sized_in w y name volume start 1 agrees may.call) none may (omega (arith, is.0)) (put_primary w files name volume start bytes free) below in (
+        put_happens told w (Put name volume start bytes) s x can none all (λ c. refl) (λ v. refl) fails said next is.1,
+        put_counts told w (Put name volume start bytes) s x can none all (λ c. refl) (λ v. refl) fails said next is.1,
+      )
+  works_happen told files w y (Read name volume start count) fails said next agrees none all free (inl is) =
+      let s : ℕ = site_number w name in
+      let may = read_may (facts_of w) files name volume start count free in
+      let c = called w name volume start count (sized_in w y name volume start count agrees may) may in (
+        happens_as next w is.cleanly.leads
+            (read_happens told w (Read name volume start count) s (volume_number (w.nodes s) volume) start count fails said w none all (λ c. refl) (λ v. refl) (λ t. call_of w name volume start count c ((all t).each s))
+            (record { bytes = is.bytes; size = is.size; shows = is.shows; cleanly = record { none = is.cleanly.none; says = is.cleanly.says; leads = refl } })),
+        tt,
+      )
+  works_happen told files w y (Read name volume start count) fails said next agrees none all free (inr f) =
+      let s : ℕ = site_number w name in
+      (only_happens told w (Read name volume start count) s (ReadAt s (volume_number (w.nodes s) volume) start count) fails said next none all refl (λ d. refl) refl f, tt)
+  works_happen told files w y (Show name volume start count) fails said next agrees none all free (inl is) =
+      let s : ℕ = site_number w name in
+      let may = show_may (facts_of w) files name volume start count free in
+      let c = called w name volume start count (sized_in w y name volume start count agrees may) may in (
+        happens_as next w is.cleanly.leads
+            (read_happens told w (Show name volume start count) s (volume_number (w.nodes s) volume) start count fails said w none all (λ c. refl) (λ v. refl) (λ t. call_of w name volume start count c ((all t).each s))
+            (record { bytes = is.bytes; size = is.size; shows = is.shows; cleanly = record { none = is.cleanly.none; says = is.cleanly.says; leads = refl } })),
+        tt,
+      )
+  works_happen told files w y (Show name volume start count) fails said next agrees none all free (inr f) =
+      let s : ℕ = site_number w name in
+      (only_happens told w (Show name volume start count) s (ReadAt s (volume_number (w.nodes s) volume) start count) fails said next none all refl (λ d. refl) refl f, tt)
+  works_happen told files w y (Apply name to) fails said next agrees none all free is =
+      let may = apply_may (facts_of w) files name to free in
+      let up = up_in w name may.site may.up in
+      (apply_happens told w name to fails said next none all (seat_in w name may.site).0 up (running_in w name may.site up may.running) is, tt)
+  works_happen told files w y (Status name) fails said next agrees none all free is = (
+    record {
+      new = w;
+      ends = AllDone first_choice is.none is.says refl;
+      sites = ap (λ (v : World). v.sites) (sym is.leads);
+      nodes = λ i. ap (λ (v : World). v.nodes i) (sym is.leads);
+      unlinked = none;
+      primaries = all;
+    },
+    tt,
+  )
+  works_happen told files w y other fails said next agrees none all free is = absurd is
+
+  -- a line that was answered
+  pub line_happens : (w : World) (line : ScriptLine) (old new : Yard R g) (said : Said) → YardStands w old → (IsTold new → IsTold old) → Answered w line said old new → Steps w line old new (text_of said)
+  line_happens w line old new said stands later a = by (refusal_of (facts_of w) (in_files old) line) refl a.step
+    where
+      by : (why : Option No) → refusal_of (facts_of w) (in_files old) line ≡ why → WorksBy why (IsTold new) w line a.fails said a.world → Steps w line old new (text_of said)
+      by (Some why) is works = record {
+        world = a.world;
+        fails = a.fails;
+        prints = record {
+          said = said;
+          step = subst (λ (o : Option No). StepBy o (IsTold new) w line a.fails said a.world) (sym is) (record { none = works.none; says = works.says; stays = works.leads });
+          is = refl;
+        };
+        stands = record {
+          agrees = a.stands;
+          unlinked = subst (λ (v : World). IsUnlinked v) (sym works.leads) stands.unlinked;
+          primaries = λ t. subst (λ (v : World). ArePrimaries v) (sym works.leads) (stands.primaries (later t));
+        };
+        rose = a.rose;
+      }
+      by None is works =
+          let h = works_happen (IsTold new) (in_files old) w old line a.fails said a.world stands.agrees stands.unlinked (λ t. stands.primaries (later t)) is works in
+          record {
+            world = h.0.new;
+            fails = a.fails;
+            prints = record {
+              said = said;
+              step = subst (λ (o : Option No). StepBy o (IsTold new) w line a.fails said h.0.new) (sym is) (record { ends = h.0.ends; counts = h.1 });
+              is = refl;
+            };
+            stands = stands_for (IsTold new) w a.world line (site_of w line) a.fails said new (λ t. t) a.stands h.0;
+            rose = a.rose;
+          }
+
+  -- a line of which nothing was done
+  pub line_stays : (w : World) (old new : Yard R g) → YardStands w old → (IsTold new → IsTold old) → StaysAgreed w old new → StaysFor w old new
+  line_stays w old new stands later stays = record {
+    stands = record { agrees = stays.stands; unlinked = stands.unlinked; primaries = λ t. stands.primaries (later t) };
+    rose = stays.rose;
+  }

@@ -1,0 +1,28 @@
+// The line that applies what the log of a site holds.
+ghost use Rattle.std.specs.Prelude.{◌≡◌};
+ghost use Rattle.vx_history.specs.World.{World};
+ghost use Rattle.vx_script.specs.declared.line.ScriptLine.TheVariants.{Apply};
+ghost use Rattle.vx_node.specs.Working.{Worked, IsFree};
+ghost use Rattle.vx_node.specs.Yards.{IsKept, YardAgrees, IsTold, in_files};
+
+use crate::write::refused;
+use crate::{Said, Yard};
+use vx_disk::Rack;
+use vx_model::Name;
+
+impl<R: Rack> Yard<R> {
+    /// Brings the logged writes of a site up to a number into their volumes.
+    pub(crate) fn apply_line(&mut self, name: &Name, to: u64) -> Said
+        requires kept { IsKept self.old }
+        requires free { IsFree self.old (Apply name.now to) }
+        ensures works { (w : World) → YardAgrees w self.old → Worked w (Apply name.now to) result self.old self.new }
+        ensures told { IsTold self.new → IsTold self.old }
+        ensures files { in_files self.new ≡ in_files self.old }
+    {
+        let site = self.site_of(name);
+        match self.disk_sets[site].apply(to) {
+            Ok(number) => Said::DoneAt(number),
+            Err(no) => refused(&mut self.facts[site], no),
+        }
+    }
+}

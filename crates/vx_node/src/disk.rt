@@ -1,0 +1,35 @@
+// The line that makes a disk fail, or ends that.
+ghost use Rattle.std.specs.Prelude.{◌≡◌};
+ghost use Rattle.vx_history.specs.World.{World};
+ghost use Rattle.vx_script.specs.declared.line.ScriptLine.TheVariants.{Disk};
+ghost use Rattle.vx_node.specs.Asked.{AsAsked, is_failing};
+ghost use Rattle.vx_node.specs.Working.{Worked, IsFree};
+ghost use Rattle.vx_node.specs.Yards.{IsKept, YardAgrees, IsTold, in_files};
+
+use crate::{Said, Yard};
+use vx_disk::Rack;
+use vx_model::Name;
+use vx_script::DiskState as DiskWord;
+
+// Whether the calls on the disk are to fail.
+fn is_failing(state: DiskWord) -> bool
+    ensures { result ≡ is_failing state }
+{
+    matches!(state, DiskWord::Fail)
+}
+
+impl<R: Rack> Yard<R> {
+    /// Makes the calls on a disk fail, or ends that.
+    pub(crate) fn set_disk(&mut self, name: &Name, disk: u64, state: DiskWord) -> Said
+        requires kept { IsKept self.old }
+        requires free { IsFree self.old (Disk name.now disk state) }
+        ensures works { (w : World) → YardAgrees w self.old → Worked w (Disk name.now disk state) result self.old self.new }
+        ensures asked { (w : World) → YardAgrees w self.old → AsAsked w (Disk name.now disk state) self.old self.new }
+        ensures told { IsTold self.new → IsTold self.old }
+        ensures files { in_files self.new ≡ in_files self.old }
+    {
+        let site = self.site_of(name);
+        self.disk_sets[site].fail(disk, is_failing(state));
+        Said::Done
+    }
+}

@@ -1,0 +1,93 @@
+// The lines that read blocks.
+ghost use Rattle.std.specs.Prelude.{◌≡◌, ◌≤◌, ◌<◌, ◌*◌, length, List};
+ghost use Rattle.vx_model.specs.declared.state.KeptLink.{KeptLink};
+ghost use Rattle.vx_history.specs.World.{World, Node};
+ghost use Rattle.vx_script.specs.declared.line.ScriptLine.TheVariants.{Read as ReadLine, Show as ShowLine};
+ghost use Rattle.vx_node.specs.DiskSets.{CanRead, Later};
+ghost use Rattle.vx_node.specs.Fetching.{GaveAt, IsReadFree, IsRoom, Fetched};
+ghost use Rattle.vx_node.specs.Stands.{StandsAt};
+ghost use Rattle.vx_node.specs.Working.{Worked, IsFree};
+ghost use Rattle.vx_node.specs.Yards.{IsKept, YardAgrees, IsTold, in_files};
+
+use crate::{DiskSet, Said, Yard};
+use vx_disk::Rack;
+use vx_model::limits::MOST_CALL_BLOCKS;
+use vx_model::{Bytes, Name, No};
+
+// So many blocks of a volume, by its number, read into a place for them.
+fn blocks_of<R: Rack>(
+    disk_set: &mut DiskSet<R>,
+    volume: u32,
+    start: u64,
+    count: u64,
+    mut room: Vec<u8>,
+) -> Result<Bytes, No>
+    requires some { 0 < count }
+    requires few { count ≤ MOST_CALL_BLOCKS }
+    requires room { length room.items ≡ 512 * count }
+    ensures read { (links : List KeptLink) (n : Node) → StandsAt links n disk_set.old → CanRead n volume start count → GaveAt links n volume start count disk_set.old disk_set.new result }
+    ensures later { Later disk_set.old disk_set.new }
+{
+    disk_set.read(volume, start, &mut room)?;
+    Ok(Bytes::new(room))
+}
+
+impl<R: Rack> Yard<R> {
+    /// Reads blocks of a volume, as a `read` line asks.
+    pub(crate) fn read_line(
+        &mut self,
+        name: &Name,
+        volume: &Name,
+        start: u64,
+        count: u64,
+        room: Vec<u8>,
+    ) -> Said
+        requires room { IsRoom count room.items }
+        requires kept { IsKept self.old }
+        requires free { IsFree self.old (ReadLine name.now volume.now start count) }
+        ensures works { (w : World) → YardAgrees w self.old → Worked w (ReadLine name.now volume.now start count) result self.old self.new }
+        ensures told { IsTold self.new → IsTold self.old }
+        ensures files { in_files self.new ≡ in_files self.old }
+    {
+        self.fetch(name, volume, start, count, room)
+    }
+
+    /// Reads blocks of a volume, as a `show` line asks.
+    pub(crate) fn show_line(
+        &mut self,
+        name: &Name,
+        volume: &Name,
+        start: u64,
+        count: u64,
+        room: Vec<u8>,
+    ) -> Said
+        requires room { IsRoom count room.items }
+        requires kept { IsKept self.old }
+        requires free { IsFree self.old (ShowLine name.now volume.now start count) }
+        ensures works { (w : World) → YardAgrees w self.old → Worked w (ShowLine name.now volume.now start count) result self.old self.new }
+        ensures told { IsTold self.new → IsTold self.old }
+        ensures files { in_files self.new ≡ in_files self.old }
+    {
+        self.fetch(name, volume, start, count, room)
+    }
+
+    // Reads blocks of a volume. The tests of the line left no other case than that all of it is there.
+    fn fetch(&mut self, name: &Name, volume: &Name, start: u64, count: u64, room: Vec<u8>) -> Said
+        requires room { IsRoom count room.items }
+        requires kept { IsKept self.old }
+        requires free { IsReadFree self.old name.now volume.now start count }
+        ensures works { (w : World) → YardAgrees w self.old → Fetched w name.now volume.now start count result self.old self.new }
+        ensures told { IsTold self.new → IsTold self.old }
+        ensures files { in_files self.new ≡ in_files self.old }
+    {
+        let site = self.site_of(name);
+        let place = self.volume_of(site, volume);
+        if count == 0 || count > MOST_CALL_BLOCKS {
+            unreachable!();
+        }
+        match blocks_of(&mut self.disk_sets[site], place as u32, start, count, room) {
+            Ok(blocks) => Said::Got(blocks),
+            Err(no) => Said::Refused(no),
+        }
+    }
+}
