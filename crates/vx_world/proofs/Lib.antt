@@ -49,4 +49,5 @@ pub mod Halving
 pub mod Alone
 pub mod Crashed
 pub mod Passed
+pub mod Still
 pub mod Lining

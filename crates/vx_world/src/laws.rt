@@ -70,14 +70,14 @@ pub fn forgets_nothing()
 {}
 
 /// Settling a link of a good world brings all that is durable at its site to its receiver's disks. The receiver's greeting lets the two meet, each turn
-/// raises what is stored as long as that is below the head, and at the end it is the head, which has not changed. Where packets are
-/// delivered, with what is sent in answer, none is left.
+/// raises what is stored as long as that is below the head, and at the end it is the head, which has not changed. Only packets between the
+/// two are delivered. Where they are, with what is sent in answer, none between the two is left.
 pub fn settles()
     ensures meets { (w : World) (p s : ℕ) → GoodWorld w → MaySettle w p s → IsMet (run w (greeting_events w p s)) p s }
     ensures raises { (w : World) (p s : ℕ) → GoodWorld w → IsMet w p s → (w.links p s).stored < (w.nodes p).safe → (w.links p s).stored < ((run w (turn w p s)).links p s).stored }
     ensures meets_again { (w : World) (p s : ℕ) → GoodWorld w → IsMet w p s → (w.links p s).stored < (w.nodes p).safe → IsMet (run w (turn w p s)) p s }
     ensures ends { (w : World) (p s : ℕ) → GoodWorld w → MaySettle w p s → ((run w (settling w p s)).links p s).stored ≡ ((run w (settling w p s)).nodes p).safe }
-    ensures none_left { (old w : World) → deliver_new (run w (deliver_new old w)) (run w (delivery old w)) ≡ [] }
+    ensures none_left { (p s : ℕ) (old w : World) → deliver_new p s (run w (deliver_new p s old w)) (run w (delivery p s old w)) ≡ [] }
     ensures head { (w : World) (p s : ℕ) → GoodWorld w → MaySettle w p s → ((run w (settling w p s)).nodes p).safe ≡ (w.nodes p).safe }
 {}
 
