@@ -1,18 +1,16 @@
 -- A halted site stands still: no event changes it or its links, but a crash, and a disk that halts it again.
-use Rattle.std.proofs.Common.{◌≡◌, ◌∙◌, ℕ, ◌<◌, List, ap, sym, subst, refl, arith, Bool, true, false}
-use Rattle.std.specs.Prelude.{Option, Some, None, not, ◌&&◌, ◌||◌, eqb, leb, ltb, bytes_eq, if◌then◌else◌}
-use Rattle.std.proofs.lemmas.Bool.Decides.{nat_tests}
+use Rattle.std.proofs.Common.{◌≡◌, ◌∙◌, ℕ, ◌<◌, List, ap, sym, refl, arith, Bool, true, false}
+use Rattle.std.specs.Prelude.{length, Option, Some, None, not, ◌&&◌, ◌||◌, eqb, leb, ltb, bytes_eq}
 use Rattle.vx_model.specs.Content.{Write as LogWrite, blocks_in}
-use Rattle.vx_model.specs.Answer.{is_too_large}
+use Rattle.vx_model.specs.Answer.{is_too_large, is_wrong_count, is_past}
 use Rattle.vx_model.specs.Sites.{is_origin, is_up, is_bare}
 use Rattle.vx_model.specs.Sizes.{is_raw_shape}
-use Rattle.vx_model.specs.declared.limits.TheConstants.{MOST_DISKS, MOST_LINKS, MOST_NUMBER, MOST_PACKETS, MOST_SITES}
+use Rattle.vx_model.specs.declared.limits.TheConstants.{MOST_DISKS, MOST_LINKS, MOST_NUMBER, MOST_SITES}
 use Rattle.vx_model.specs.declared.link.SyncMode.{SyncMode}
 use Rattle.vx_model.specs.declared.link.Prot.TheVariants.{Fail as FailsWhenFull}
 use Rattle.vx_model.specs.declared.no.No.{No}
-use Rattle.vx_model.specs.declared.no.No.TheVariants.{Size, Role as WrongRole, Down as NotUp, Exists, Limit, Unknown}
+use Rattle.vx_model.specs.declared.no.No.TheVariants.{Role as WrongRole, Down as NotUp, Unknown}
 use Rattle.vx_model.specs.declared.no.Named.TheVariants.{Number as ByNumber}
-use Rattle.vx_model.specs.declared.no.Counted.TheVariants.{Sites, Disks, Links}
 use Rattle.vx_model.specs.declared.site.Mark.TheVariants.{Consistent}
 use Rattle.vx_model.specs.declared.site.Role.{Role}
 use Rattle.vx_model.specs.declared.site.SiteState.{SiteState}
@@ -20,26 +18,26 @@ use Rattle.vx_model.specs.declared.site.SiteState.TheVariants.{Bare, Up, Deporte
 use Rattle.vx_history.proofs.Updates.{by_test}
 use Rattle.vx_history.specs.Admission.{Admitted, Held_by, Goes}
 use Rattle.vx_history.specs.Events
-use Rattle.vx_history.specs.Gatherings.{completes, emptied}
-use Rattle.vx_history.specs.LinkForms.{plain_link, plain_receiver, with_plain}
-use Rattle.vx_history.specs.Receiving.{Received, received_step}
-use Rattle.vx_history.specs.Refusals.{Outcome, says, unless, unless_halted, at_site, at_work, both_at_work, on_link_if, when_live, on_volume, keeps_links, is_primary, is_running, follows, some_below, may_link, may_join, may_be_site, agree, rings_fit, links_of}
-use Rattle.vx_history.specs.Sending.{Sent, sent_step}
-use Rattle.vx_history.specs.Sends.{is_linked, with_links, with_link, sending, promising, sent_by}
-use Rattle.vx_history.specs.Step.{done, outcome_of, step, link_part}
-use Rattle.vx_history.specs.Steps.{site_made, raw_made, raw_set, written, half_written, logged, crashed, crash_left, stopped_by}
+use Rattle.vx_history.specs.Gatherings.{completes}
+use Rattle.vx_history.specs.LinkForms.{plain_receiver, with_plain}
+use Rattle.vx_history.specs.Receiving.{Received, received_step, phase_takes}
+use Rattle.vx_history.specs.Refusals.{Outcome, says, unless, unless_halted, at_site, at_work, both_at_work, on_link_if, on_volume, keeps_links, is_primary, is_consistent, is_stale, is_empty, is_running, is_unconfirmed, holds_back, follows, some_below, may_link, agree, rings_fit, links_of}
+use Rattle.vx_history.specs.Sending.{Sent}
+use Rattle.vx_history.specs.Sends.{is_linked, with_links, with_link, sending, sent_by}
+use Rattle.vx_history.specs.Step.{outcome_of, step, link_part}
+use Rattle.vx_history.specs.Steps.{raw_set, logged, crashed, crash_left}
 use Rattle.vx_history.specs.World.{World, Node, Link as LinkRecord, History, Gathering, Packet, Message, Hello, Update, NetAck, DataAck, with_node, with_history, bare_site, updated}
 use Rattle.vx_history.specs.declared.event.Event.{Event}
 use Rattle.vx_history.specs.declared.event.Event.TheVariants.{Site, Raw, Write as WriteAt, Read, Apply, Pump, Tick, Deliver, Connect, Cut, Pause, Resume, Wait, Link, Set, Crash, Recover, Fault}
 use Rattle.vx_history.specs.declared.event.LinkPart.{LinkPart}
 use Rattle.vx_history.specs.declared.event.LinkPart.TheVariants.{Joins, Made, Marked, Opened}
-use Rattle.vx_history.specs.declared.event.Said.TheVariants.{Ignored as IsIgnored}
+use Rattle.vx_history.specs.declared.event.Said.TheVariants.{Ignored as IsIgnored, Pending}
 use Rattle.vx_history.specs.declared.receiver.RAction.{RAction}
 use Rattle.vx_history.specs.declared.receiver.RAction.TheVariants as act
 use Rattle.vx_history.specs.declared.receiver.REvent.TheVariants.{Update as HearUpdate, Applied}
 use Rattle.vx_history.specs.declared.receiver.RState.{RState}
 use Rattle.vx_history.specs.declared.sender.SEvent.{SEvent}
-use Rattle.vx_history.specs.declared.sender.SEvent.TheVariants.{Hello as HearHello, NetAck as HearNetAck, DataAck as HearDataAck}
+use Rattle.vx_history.specs.declared.sender.SEvent.TheVariants.{Pump as PumpLink, Tick as TickLink, Connect as ConnectLink, Cut as CutLink, Pause as PauseLink, Resume as ResumeLink, Hello as HearHello, NetAck as HearNetAck, DataAck as HearDataAck}
 use Rattle.vx_world.specs.Twins.{IsElsewhere}
 use Rattle.vx_world.proofs.Guards.{bare_is}
 use Rattle.vx_world.proofs.Halving.{aside}
@@ -138,7 +136,10 @@ module _ (s : ℕ) (w : World) (up : (w.nodes s).state ≡ Up) (halted : is_runn
       site_still p _
       (tested (is_bare (w.nodes p).state) _ _
       (λ _. at_work_still p _
-      (λ apart. tested _ _ _ (λ _. tested _ _ _ (λ _. tested _ _ _ (λ _. tested _ _ _ (λ _. is apart)))))))
+      (λ apart. tested (not (is_primary (w.nodes p).role)) _ _
+      (λ _. tested (leb (length (w.nodes p).volumes) volume) _ _
+      (λ _. tested (is_wrong_count count || too_large) _ _
+      (λ _. tested (is_past (w.nodes p).base volume start count) _ _ (λ _. is apart)))))))
 
   applied_still : (q : ℕ) (r : RState) (action : RAction) → (s ≡ q → ⊥) → Leaves (Events.applied_by w q r action)
   applied_still q r act.Nothing apart = same
@@ -213,9 +214,13 @@ module _ (s : ℕ) (w : World) (up : (w.nodes s).state ≡ Up) (halted : is_runn
       (λ _. tested (not (agree (w.nodes p).volumes (w.nodes q).volumes && rings_fit (w.nodes p) (w.nodes q))) _ _
       (λ _. gathering_still (with_node w q (Events.joined (w.nodes p) p (w.nodes q))) _ (node_still q (Events.joined (w.nodes p) p (w.nodes q)) there)))))
   part_still Made p q sync here there =
-      tested _ _ _ (λ _. tested _ _ _ (λ _. row_still w p (updated (w.links p) q (Events.new_link (links_of w p) sync (w.nodes q))) same here))
-  part_still Marked p q sync here there = tested _ _ _ (λ _. node_still q (record (w.nodes q) { mark = Consistent }) there)
-  part_still Opened p q sync here there = tested _ _ _ (λ _. row_still w p _ same here)
+      tested (not (is_primary (w.nodes p).role && follows w p q)) _ _
+      (λ _. tested (is_linked (w.links p q)) _ _ (λ _. row_still w p (updated (w.links p) q (Events.new_link (links_of w p) sync (w.nodes q))) same here))
+  part_still Marked p q sync here there = tested (not (is_primary (w.nodes p).role && (follows w p q && (is_linked (w.links p q) && is_empty (w.nodes p).log)))) _ _ (λ _. node_still q (record (w.nodes q) { mark = Consistent }) there)
+  part_still Opened p q sync here there =
+      tested
+      (not (is_primary (w.nodes p).role && (follows w p q && (is_linked (w.links p q) && (is_empty (w.nodes p).log && (is_stale (w.links p q).mode && (phase_takes (w.nodes q).phase && is_consistent (w.nodes q).mark)))))))
+      _ _ (λ _. row_still w p (updated (w.links p) q (Events.opened (w.links p q) (w.nodes p).safe)) same here)
 
   crash_still : (q k : ℕ) → (s ≡ q → ⊥) → Stands s w (Events.crash_at w q k)
   crash_still q k apart =
@@ -236,62 +241,63 @@ module _ (s : ℕ) (w : World) (up : (w.nodes s).state ≡ Up) (halted : is_runn
   recover_still q Bare fails e = same
   recover_still q Up fails e = same
   recover_still q Deported fails e = same
-  recover_still q Down fails e = tested _ _ _ (λ _. recovery_still q fails
+  recover_still q Down fails e = tested (leb MOST_NUMBER (w.nodes q).session) _ _ (λ _. recovery_still q fails
       (λ here. let g : Up ≡ Down = sym up ∙ ap (λ (i : ℕ). (w.nodes i).state) here ∙ e in absurd (cc)))
 
   outcome_still : (e : Event) → s < w.sites → IsElsewhere s e → Leaves (outcome_of w e)
-  outcome_still (Site name disks blocks) there else =
+  outcome_still (Site name disks blocks) there calm =
       tested (some_below w.sites (λ k. bytes_eq (w.nodes k).name name)) _ _
       (λ _. tested (leb MOST_SITES w.sites) _ _
       (λ _. tested (ltb MOST_DISKS disks) _ _
       (λ _. tested (eqb disks 0 || ltb blocks 8) _ _
       (λ _. record { node = aside w.nodes w.sites (bare_site name disks blocks) s (λ e. absurd (omega (arith, e, there))); row = refl }))))
-  outcome_still (Raw q) there else =
+  outcome_still (Raw q) there calm =
       site_still q _
       (tested (not (is_bare (w.nodes q).state)) _ _
       (λ bare. tested (not (is_raw_shape (w.nodes q).disks (w.nodes q).blocks)) _ _
       (λ _. history_still q (raw_set q (w.nodes q)) _
       (λ here. let g : Up ≡ Bare = sym up ∙ ap (λ (i : ℕ). (w.nodes i).state) here ∙ bare_is (w.nodes q).state
       (not_false (is_bare (w.nodes q).state) bare) in absurd (cc)))))
-  outcome_still (WriteAt p volume start bytes fails) there else =
+  outcome_still (WriteAt p volume start bytes fails) there calm =
       let x : LogWrite = record { volume = volume; start = start; bytes = bytes } in
       volume_still p volume start (blocks_in bytes) (is_too_large (w.nodes p).ring (blocks_in bytes))
       (Events.written_if (Events.admitted w p x) w p x fails) (written_still (Events.admitted w p x) p x fails)
-  outcome_still (Read p volume start count) there else = volume_still p volume start count false _ (λ _. same)
-  outcome_still (Apply q count reached) there else =
+  outcome_still (Read p volume start count) there calm = volume_still p volume start count false _ (λ _. same)
+  outcome_still (Apply q count reached) there calm =
       let r : Received = received_step (plain_receiver (w.nodes q)) (Applied count) in
       work_still q _
       (λ apart. by_test Leaves (is_origin (w.nodes q).role) (Events.reached_at w q count reached) (Events.apply_at w q count) (λ _. same)
       (λ _. applied_still q r.state r.action apart))
-  outcome_still (Pump p q) there else =
+  outcome_still (Pump p q) there calm =
       link_still keeps_links p q _
       (λ apart. tested (not ((w.links p q).attached && (w.links p q).connected)) _ _
-      (λ _. tested (w.links p q).paused _ _ (λ _. moved_still p q _ apart)))
-  outcome_still (Tick p q) there else = link_still keeps_links p q _ (λ apart. moved_still p q _ apart)
-  outcome_still (Deliver number) there else = delivered_still number (Events.packet_at w.packets number)
-  outcome_still (Connect p q) there else =
-      link_still keeps_links p q _ (λ apart. sent_still (Events.link_event w p q _) (Events.greeting_back w p q) (moved_still p q _ apart))
-  outcome_still (Cut p q) there else = link_still keeps_links p q _ (λ apart. moved_still p q _ apart)
-  outcome_still (Pause p q) there else = link_still keeps_links p q _ (λ apart. moved_still p q _ apart)
-  outcome_still (Resume p q) there else = link_still keeps_links p q _ (λ apart. moved_still p q _ apart)
-  outcome_still (Wait p number) there else =
+      (λ _. tested (w.links p q).paused _ _ (λ _. moved_still p q PumpLink apart)))
+  outcome_still (Tick p q) there calm = link_still keeps_links p q _ (λ apart. moved_still p q TickLink apart)
+  outcome_still (Deliver number) there calm = delivered_still number (Events.packet_at w.packets number)
+  outcome_still (Connect p q) there calm =
+      link_still keeps_links p q _ (λ apart. sent_still (Events.link_event w p q ConnectLink) (Events.greeting_back w p q) (moved_still p q ConnectLink apart))
+  outcome_still (Cut p q) there calm = link_still keeps_links p q _ (λ apart. moved_still p q CutLink apart)
+  outcome_still (Pause p q) there calm = link_still keeps_links p q _ (λ apart. moved_still p q PauseLink apart)
+  outcome_still (Resume p q) there calm = link_still keeps_links p q _ (λ apart. moved_still p q ResumeLink apart)
+  outcome_still (Wait p number) there calm =
       work_still p _
       (λ _. tested (not (is_origin (w.nodes p).role)) _ _
-      (λ _. tested _ _ _
-      (λ _. tested _ _ _
-      (λ _. by_test Leaves _ _ _ (λ _. same) (λ _. record { node = refl; row = refl })))))
-  outcome_still (Link p q sync part) there else = both_still p q (link_part part w p q sync) (part_still part p q sync)
-  outcome_still (Set p q sync) there else =
+      (λ _. tested (eqb number 0 || ltb (w.nodes p).safe number) _ _
+      (λ _. tested (some_below w.sites (λ k. is_unconfirmed number k (w.links p k))) _ _
+      (λ _. by_test Leaves (some_below w.sites (λ k. holds_back number k (w.links p k))) (says w (Pending number)) _ (λ _. same)
+      (λ _. record { node = refl; row = refl })))))
+  outcome_still (Link p q sync part) there calm = both_still p q (link_part part w p q sync) (part_still part p q sync)
+  outcome_still (Set p q sync) there calm =
       link_still is_origin p q _
       (λ apart. row_still w p (updated (w.links p) q (record (w.links p q) { sync = sync; prot = FailsWhenFull })) same apart)
-  outcome_still (Crash q kept) there else =
-      site_still q _ (tested (not (is_up (w.nodes q).state)) _ _ (λ _. crash_still q (Events.kept_of (w.nodes q) kept) (λ e. else (sym e))))
-  outcome_still (Recover q fails) there else = site_still q _ (recover_still q (w.nodes q).state fails refl)
-  outcome_still (Fault q disk) there else =
-      site_still q _ (tested (not (is_up (w.nodes q).state)) _ _ (λ _. node_still q _ (λ e. else (sym e))))
+  outcome_still (Crash q kept) there calm =
+      site_still q _ (tested (not (is_up (w.nodes q).state)) _ _ (λ _. crash_still q (Events.kept_of (w.nodes q) kept) (λ e. calm (sym e))))
+  outcome_still (Recover q fails) there calm = site_still q _ (recover_still q (w.nodes q).state fails refl)
+  outcome_still (Fault q disk) there calm =
+      site_still q _ (tested (not (is_up (w.nodes q).state)) _ _ (λ _. node_still q _ (λ e. calm (sym e))))
 
 -- whatever headers it writes
 pub step_still : (s : ℕ) (w : World) (e : Event) → (w.nodes s).state ≡ Up → is_running (w.nodes s).halted ≡ false → s < w.sites → IsElsewhere s e
     → Stands s w (step w e).world
-step_still s w e up halted there else =
-    let is : Stands s w (outcome_of w e).world = outcome_still s w up halted e there else in record { node = is.node; row = is.row }
+step_still s w e up halted there calm =
+    let is : Stands s w (outcome_of w e).world = outcome_still s w up halted e there calm in record { node = is.node; row = is.row }
