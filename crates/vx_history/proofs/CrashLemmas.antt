@@ -6,7 +6,7 @@ use Rattle.vx_model.specs.Content.{Write, Content, fold_writes, IsPrefixOf}
 use Rattle.vx_history.specs.World.{Node, World, Fuse, FuseSet, with_node, with_history}
 use Rattle.vx_model.specs.Sites.{is_origin}
 use Rattle.vx_history.specs.Steps.{crashed, kept_by, crash_left, half_begun, cut_write, recovered, came_up, session_begun, stopped_by, worked_on, fused, burned}
-use Rattle.vx_history.specs.Good.{GoodNode, Good, IsMade}
+use Rattle.vx_history.specs.Good.{GoodNode, Good, IsMade, TellsContent}
 use Rattle.vx_model.specs.declared.history.Line.{Line}
 use Rattle.vx_model.specs.declared.site.Mark.TheVariants.{Consistent}
 use Rattle.vx_history.proofs.GoodLemmas.{made_is_given, good_changed, good_stays, fold_append, prefix_push}
@@ -41,7 +41,7 @@ prefix_longer n k xs held least e most prefix =
 -- a site that crashed with its log, or with a write more that it had begun, and kept the first k
 module _ (w : World) (i k : ℕ) (s : Good w) (made : IsMade (w.nodes i)) (origin : is_origin (w.nodes i).role ≡ true) (n : Node) (same : n.line ≡ (w.nodes i).line)
     (least : n.safe ≤ k) (most : k ≤ length n.log) (held : take n.safe n.log ≡ (w.lines n.line).held) (role : is_origin n.role ≡ true) (mark : n.mark ≡ Consistent)
-    (content : n.base ≡ fold_writes n.start (take n.safe n.log)) where
+    (content : TellsContent n → n.base ≡ fold_writes n.start (take n.safe n.log)) where
   own : n.line.origin ≡ i
   own = ap (λ (l : Line). l.origin) same ∙ (s.nodes i).own_line made origin
 
@@ -53,7 +53,8 @@ module _ (w : World) (i k : ℕ) (s : Good w) (made : IsMade (w.nodes i)) (origi
     origin_log = λ _ _. take-take k k n.log (omega arith);
     origin_whole = λ _ _. omega (arith, kept_length n k least most);
     origin_mark = λ _. mark;
-    content = kept_content n k least most content;
+    plain = λ bare. absurd (cc);
+    content = λ tells. kept_content n k least most (content tells);
   }
 
   there : (j : ℕ) → (j ≡ i → ⊥) → IsMade (w.nodes j) → (w.nodes j).line ≡ n.line → GoodNode (kept_by (w.lines n.line) n k) j (w.nodes j)
@@ -66,6 +67,7 @@ module _ (w : World) (i k : ℕ) (s : Good w) (made : IsMade (w.nodes i)) (origi
         origin_log = λ is_made is_origin'. absurd (apart (sym (good.own_line is_made is_origin') ∙ ap (λ (l : Line). l.origin) e ∙ own));
         origin_whole = good.origin_whole;
         origin_mark = good.origin_mark;
+        plain = good.plain;
         content = good.content;
       }
 
@@ -90,7 +92,7 @@ good_cut w i x k s made origin least most =
     let good = s.nodes i in
     let front : take n.safe (n.log ++ x ∷ []) ≡ take n.safe n.log = take-append-le n.safe n.log (x ∷ []) good.safe_fits in
     good_down w i k s made origin (half_begun n x) refl least (omega (arith, most, length-append n.log (x ∷ []))) (front ∙ good.origin_log made origin) origin (good.origin_mark origin)
-    (good.content ∙ ap (λ (t : List Write). fold_writes n.start t) (sym front))
+    (λ tells. good.content tells ∙ ap (λ (t : List Write). fold_writes n.start t) (sym front))
 
 -- a site of which only the state, the session or the halt changed, and that has no write that is not durable or is halted
 stays_node : (w : World) (i : ℕ) (n : Node) → Good w → IsMade (w.nodes i) → n.line ≡ (w.nodes i).line → GoodNode (w.lines n.line) i n → IsMade n → Good (with_node w i n)
@@ -109,6 +111,7 @@ good_recovered w i s made whole =
       origin_log = λ _ is. good.origin_log made is;
       origin_whole = λ _ _. whole;
       origin_mark = good.origin_mark;
+      plain = λ bare. absurd (cc);
       content = good.content;
     })
     (λ e. cc)
@@ -124,6 +127,7 @@ good_session_begun w i s made =
       origin_log = good.origin_log;
       origin_whole = good.origin_whole;
       origin_mark = good.origin_mark;
+      plain = good.plain;
       content = good.content;
     })
     made
@@ -139,6 +143,7 @@ good_stopped w i disk s made =
       origin_log = good.origin_log;
       origin_whole = λ _ none. absurd (cc);
       origin_mark = good.origin_mark;
+      plain = good.plain;
       content = good.content;
     })
     made
@@ -155,6 +160,7 @@ good_fuse w i fuse s made =
       origin_log = good.origin_log;
       origin_whole = good.origin_whole;
       origin_mark = good.origin_mark;
+      plain = good.plain;
       content = good.content;
     })
     made

@@ -34,6 +34,7 @@ good_bare g h i n bare good = record {
   origin_log = λ made. absurd (made bare);
   origin_whole = good.origin_whole;
   origin_mark = good.origin_mark;
+  plain = good.plain;
   content = good.content;
 }
 
@@ -84,7 +85,8 @@ good_empty = record {
     origin_log = λ made. absurd (made refl);
     origin_whole = λ _ _. omega arith;
     origin_mark = λ _. refl;
-    content = refl;
+    plain = λ _. refl;
+    content = λ _. refl;
   };
   begun = λ i made. absurd (made refl);
   later = λ i _. refl;
@@ -99,7 +101,8 @@ good_bare_site h i name disks blocks = record {
   origin_log = λ made. absurd (made refl);
   origin_whole = λ _ _. omega arith;
   origin_mark = λ _. refl;
-  content = refl;
+  plain = λ _. refl;
+  content = λ _. refl;
 }
 
 pub good_site : (w : World) (name : List ℕ) (disks blocks : ℕ) → Good w → Good (site_made w name disks blocks)
@@ -119,7 +122,8 @@ good_raw w i s given bare =
       origin_log = λ _ _. refl;
       origin_whole = λ _ _. omega arith;
       origin_mark = λ _. refl;
-      content = refl;
+      plain = λ _. refl;
+      content = λ _. refl;
     })
     (λ e. cc) refl (omega arith)
     (λ k _ made e. absurd (subst (λ (l : Line). IsMade (w.nodes l.origin)) e (s.begun k made) bare))
@@ -164,7 +168,8 @@ good_written w i x s working =
       origin_log = λ _ _. log_after n x good.safe_fits whole h.held (good.origin_log made working.origin);
       origin_whole = λ _ _. omega (arith, whole, length-append n.log (x ∷ []));
       origin_mark = good.origin_mark;
-      content = content_after n x good.safe_fits whole good.content;
+      plain = good.plain;
+      content = λ tells. content_after n x good.safe_fits whole (good.content tells);
     })
     made (good.own_line made working.origin) (omega (arith, length-append h.held (x ∷ [])))
     (λ k apart is e. other k apart is e)
@@ -181,6 +186,7 @@ good_written w i x s working =
           origin_log = λ made origin. absurd (apart (sym (good.own_line made origin) ∙ ap (λ (l : Line). l.origin) e ∙ own));
           origin_whole = good.origin_whole;
           origin_mark = good.origin_mark;
+          plain = good.plain;
           content = good.content;
         }
 
@@ -201,6 +207,7 @@ good_half_written w i x disk s working =
       origin_log = λ made origin. front ∙ good.origin_log made origin;
       origin_whole = λ _ none. absurd (cc);
       origin_mark = good.origin_mark;
-      content = good.content ∙ ap (λ (t : List Write). fold_writes n.start t) (sym front);
+      plain = good.plain;
+      content = λ tells. good.content tells ∙ ap (λ (t : List Write). fold_writes n.start t) (sym front);
     })
     (λ is. inl (s.begun i is)) (λ is. is) (λ past. s.later i past)

@@ -305,7 +305,7 @@ recover_from Down w s fails = unless_at_most (w.nodes s).session w (recovery w s
 
 -- ## The events of a link
 
--- a site that begins anew, as a secondary of the primary a at number p
+-- a site that begins anew, as a secondary of the primary a at number p; its replays count on where it stood on that line
 abbrev pub joined : Node → ℕ → Node → Node
 joined a p n =
     record n {
@@ -316,7 +316,7 @@ joined a p n =
       fork = a.fork;
       top = max n.top a.line.generation;
       phase = Quiet;
-      replay = 0;
+      replay = if same_line n.line a.line then n.replay else 0;
       end = 0;
       other = p;
       start = n.base;

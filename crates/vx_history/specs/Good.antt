@@ -1,7 +1,9 @@
 -- What holds of every world that can come about.
-use Rattle.std.specs.Prelude.{◌≡◌, ℕ, ◌≤◌, true, false, length, take, None}
+use Rattle.std.specs.Prelude.{◌≡◌, ◌⊎◌, ℕ, ◌≤◌, true, false, length, take, None}
 use Rattle.vx_model.specs.Content.{fold_writes, IsPrefixOf}
 use Rattle.vx_history.specs.World.{Node, History, World}
+use Rattle.vx_history.specs.Receiving.{phase_takes}
+use Rattle.vx_history.specs.Refusals.{is_bunker}
 use Rattle.vx_model.specs.Sites.{is_origin}
 use Rattle.vx_model.specs.declared.history.Line.{Line}
 use Rattle.vx_model.specs.declared.site.Mark.TheVariants.{Consistent}
@@ -10,6 +12,11 @@ use Rattle.vx_model.specs.declared.site.SiteState.TheVariants.{Bare, Up}
 -- more than disks was made of the site
 abbrev pub IsMade : Node → Type 0
 IsMade n = n.state ≡ Bare → ⊥
+
+-- What the volumes hold is told by the log: where updates are taken, and wherever the site is marked consistent. A site that copies
+-- regions, or keeps the map of a fork, may hold other blocks until it is marked consistent.
+abbrev pub TellsContent : Node → Type 0
+TellsContent n = (phase_takes n.phase ≡ true) ⊎ (n.mark ≡ Consistent)
 
 -- What a site holds, by what is recorded of the line on which it stands.
 pub record GoodNode (h : History) (i : ℕ) (n : Node) : Type 0 where
@@ -23,8 +30,10 @@ pub record GoodNode (h : History) (i : ℕ) (n : Node) : Type 0 where
   -- an origin that is not halted has no write that is not durable
   pub origin_whole : is_origin n.role ≡ true → n.halted ≡ None → length n.log ≤ n.safe
   pub origin_mark : is_origin n.role ≡ true → n.mark ≡ Consistent
+  -- a bare site is no bunker
+  pub plain : n.state ≡ Bare → is_bunker n.role ≡ false
   -- what the volumes hold with the durable writes is those writes put into what they held at number 0
-  pub content : n.base ≡ fold_writes n.start (take n.safe n.log)
+  pub content : TellsContent n → n.base ≡ fold_writes n.start (take n.safe n.log)
 
 pub record Good (w : World) : Type 0 where
   pub nodes : (i : ℕ) → GoodNode (w.lines (w.nodes i).line) i (w.nodes i)

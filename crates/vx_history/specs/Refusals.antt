@@ -57,6 +57,13 @@ is_primary Secondary = false
 is_primary (Handing to) = false
 is_primary Bunker = false
 
+-- a site that holds writes of a line, and no volumes
+abbrev pub is_bunker : Role → Bool
+is_bunker Primary = false
+is_bunker Secondary = false
+is_bunker (Handing to) = false
+is_bunker Bunker = true
+
 -- links start at primaries, at sites that hand over, and at bunkers
 abbrev pub keeps_links : Role → Bool
 keeps_links Primary = true

@@ -1,6 +1,6 @@
 -- What holds of sites, links, packets and promises in every world that can come about. What links, packets and promises say of their
 -- sites is kept by every event only together with the further facts, which are numbered here.
-use Rattle.std.specs.Prelude.{◌≡◌, ◌≢◌, ℕ, ◌≤◌, true, false, List, length}
+use Rattle.std.specs.Prelude.{◌≡◌, ◌≢◌, ℕ, ◌≤◌, true, false, List, length, None}
 use Rattle.std.specs.List.{AllByRecursion}
 use Rattle.vx_model.specs.Content.{Write, IsNumber}
 use Rattle.vx_history.specs.World.{Node, Link, History, Message, Packet, Promise, Surety, World, Hello, Update, NetAck, DataAck, Durable, InSession}
@@ -9,8 +9,11 @@ use Rattle.vx_history.specs.Receiving.{phase_takes}
 use Rattle.vx_history.specs.Good.{Good, IsMade}
 use Rattle.vx_model.specs.declared.history.Line.{Line}
 use Rattle.vx_model.specs.declared.site.Mark.TheVariants.{Consistent}
+use Rattle.vx_model.specs.declared.site.SPhase.TheVariants.{Log as ByLog}
 use Rattle.vx_model.specs.declared.site.SiteState.TheVariants.{Up, Down}
-use Rattle.vx_model.specs.declared.link.Mode.TheVariants.{Log}
+use Rattle.vx_model.specs.declared.link.Mode.{Mode}
+use Rattle.vx_model.specs.declared.link.Mode.TheVariants.{Log, Dcm, Replay, Fork, Stale}
+use Rattle.vx_history.specs.Refusals.{keeps_links, is_bunker}
 use Rattle.vx_history.specs.Sends.{is_linked}
 
 -- Fact 1. "The present session" is the session of a site that is up. After a crash a site stands in its old session still, without the
@@ -22,43 +25,62 @@ IsPresent n session = (n.state ≡ Up) × (n.session ≡ session)
 abbrev pub IsWhole : Node → Type 0
 IsWhole n = n.state ≡ Down → length n.log ≤ n.safe
 
--- Fact 3. A receiver's primary is the site that began its line: so its acknowledgements go to the site that sends it updates.
+-- Fact 3. What a receiver counts as its primary is the site that began its line.
 abbrev pub IsFed : Node → Type 0
 IsFed n = is_origin n.role ≡ false → n.other ≡ n.line.origin
 
+-- Fact 14. No site copies the regions of a replay, and none keeps the map of a fork: no event brings a site there. So the content of each
+-- site is told by its log.
+abbrev pub TakesUpdates : Node → Type 0
+TakesUpdates n = phase_takes n.phase ≡ true
+
+-- Fact 16. A receiver in a replay's last phase that has durable all writes up to the end of the replay is marked consistent, unless it is
+-- down or halted. So what it says that it has stored it says as a consistent site.
+abbrev pub IsMarked : Node → Type 0
+IsMarked n = n.state ≡ Up → n.halted ≡ None → n.phase ≡ ByLog → n.end ≤ n.safe → n.mark ≡ Consistent
+
 -- ## Links
 
--- the link of an origin, now a, to a receiver on the same line, now b
+-- a link from a site, now a, to a receiver on the same line, now b
 abbrev pub IsFollowed : Node → Node → Link → Type 0
-IsFollowed a b l = (is_linked l ≡ true) × (is_origin a.role ≡ true) × (is_origin b.role ≡ false) × (b.line ≡ a.line)
+IsFollowed a b l = (is_linked l ≡ true) × (is_origin b.role ≡ false) × (b.line ≡ a.line)
 
 -- Fact 4. A bare site has no link and is at the end of none: else a session could begin again from 1.
 abbrev pub HasEnds : Node → Node → Link → Type 0
 HasEnds a b l = is_linked l ≡ true → IsMade a × IsMade b
 
--- Fact 5. Links start at origins: only of these is it known what their receivers have, and a site that comes to another's line has none.
-abbrev pub StartsAtOrigin : Node → Link → Type 0
-StartsAtOrigin a l = is_linked l ≡ true → is_origin a.role ≡ true
+-- Fact 5. Links start at sites that send: where writes arise, and at bunkers. A secondary has none.
+abbrev pub StartsAtSender : Node → Link → Type 0
+StartsAtSender a l = is_linked l ≡ true → keeps_links a.role ≡ true
 
 -- Fact 6. A link goes to another site: so the site at its other end, on the line of an origin, receives.
 abbrev pub GoesElsewhere : (p s : ℕ) → Link → Type 0
 GoesElsewhere p s l = is_linked l ≡ true → p ≢ s
 
--- Fact 7. By the log only a site is fed that takes updates: else settling would not come to an end.
-abbrev pub FeedsTaker : Node → Node → Link → Type 0
-FeedsTaker a b l = IsFollowed a b l → l.mode ≡ Log → phase_takes b.phase ≡ true
+-- The site has this number on its disks. And where a replay is to end at it, the site is marked consistent: so a link that then goes by the
+-- log feeds a consistent site.
+abbrev pub HasStored : Node → ℕ → Type 0
+HasStored n k = (k ≤ n.safe) × (n.phase ≡ ByLog → n.end ≤ k → n.mark ≡ Consistent)
 
--- What the link of site p, now a, to site s, now b, says of b: its session is not above that of b, what is stored is on the disks
--- there, what was acknowledged in the present session is in memory there, and by the log a consistent site is fed.
-pub record GoodLink (p s : ℕ) (a b : Node) (l : Link) : Type 0 where
+-- What the mode of an origin's link says of the site that it feeds, on a line that holds these writes.
+-- Fact 7. By the log only a site is fed that takes updates: else settling would not come to an end.
+abbrev pub ModeSays : (held : List Write) → Node → Mode → Type 0
+ModeSays held b Log = (b.mark ≡ Consistent) × (phase_takes b.phase ≡ true)
+ModeSays held b Dcm = Unit {0}
+ModeSays held b (Replay id phase left start end) = Unit {0}
+ModeSays held b (Fork maps) = Unit {0}
+ModeSays held b Stale = Unit {0}
+
+-- What the link of site p, now a, to site s, now b, says of b, where the line of a holds these writes: its session is not above that of b,
+-- what is stored is on the disks there, what was acknowledged in the present session is in memory there, and what its mode says.
+pub record GoodLink (held : List Write) (p s : ℕ) (a b : Node) (l : Link) : Type 0 where
   pub ends : HasEnds a b l
-  pub starts : StartsAtOrigin a l
+  pub starts : StartsAtSender a l
   pub apart : GoesElsewhere p s l
   pub session : is_linked l ≡ true → l.session ≤ b.session
-  pub stored : IsFollowed a b l → l.stored ≤ b.safe
+  pub stored : IsFollowed a b l → HasStored b l.stored
   pub net : IsFollowed a b l → IsPresent b l.session → l.net ≤ length b.log
-  pub log : IsFollowed a b l → l.mode ≡ Log → b.mark ≡ Consistent
-  pub takes : FeedsTaker a b l
+  pub says : is_origin a.role ≡ true → IsFollowed a b l → ModeSays held b l.mode
 
 -- ## Packets
 
@@ -72,13 +94,14 @@ GoodMessage held n line (Update number write) = IsNumber held number write
 GoodMessage held n line (NetAck session number) =
     (session ≤ n.session) × (n.line ≡ line → IsPresent n session → number ≤ length n.log)
 GoodMessage held n line (Hello session number stored) =
-    (session ≤ n.session) × (n.line ≡ line → IsPresent n session → number ≤ length n.log) × (n.line ≡ line → stored ≤ n.safe)
-GoodMessage held n line (DataAck number) = n.line ≡ line → number ≤ n.safe
+    (session ≤ n.session) × (n.line ≡ line → IsPresent n session → number ≤ length n.log) × (n.line ≡ line → HasStored n stored)
+GoodMessage held n line (DataAck number) = n.line ≡ line → HasStored n number
 
--- Fact 9. The line's origin stands on it and keeps no link to site i. Links are made, and not taken back while their origin stands on
--- its line: so who is a stranger always was.
+-- Fact 9. The line's origin stands on it and keeps no link to site i, which is no bunker. Links are made, and not taken back while their
+-- origin stands on its line: so who is a stranger always was. A bunker may stand on the line with its records before it has the link.
 abbrev pub IsStranger : (ℕ → Node) → (ℕ → ℕ → Link) → Line → ℕ → Type 0
-IsStranger nodes links line i = ((nodes line.origin).line ≡ line) × (is_linked (links line.origin i) ≡ false)
+IsStranger nodes links line i =
+    ((nodes line.origin).line ≡ line) × (is_linked (links line.origin i) ≡ false) × (is_bunker (nodes i).role ≡ false)
 
 -- Strangers are sent no updates, and what they say of the line is that they have nothing of it. So a site may come to a line with an
 -- empty log, and what it said before stays true.
@@ -117,11 +140,19 @@ pub record GoodPromise (nodes : ℕ → Node) (links : ℕ → ℕ → Link) (e 
 abbrev pub KnownNode : (ℕ → Node) → (ℕ → ℕ → Link) → ℕ → Node → Type 0
 KnownNode nodes links i n = IsMade n → is_origin n.role ≡ false → IsStranger nodes links n.line i → length n.log ≤ 0
 
+-- Fact 15. A link of a bunker goes to a site that is no stranger on the bunker's line: so what it is sent it was to have.
+abbrev pub FedByBunker : (ℕ → Node) → (ℕ → ℕ → Link) → (p s : ℕ) → Type 0
+FedByBunker nodes links p s =
+    is_linked (links p s) ≡ true → is_origin (nodes p).role ≡ false → IsStranger nodes links (nodes p).line s → ⊥
+
 pub record Sound (w : World) : Type 0 where
   pub good : Good w
   pub whole : (i : ℕ) → IsWhole (w.nodes i)
   pub fed : (i : ℕ) → IsFed (w.nodes i)
-  pub links : (p s : ℕ) → GoodLink p s (w.nodes p) (w.nodes s) (w.links p s)
+  pub takes : (i : ℕ) → TakesUpdates (w.nodes i)
+  pub marked : (i : ℕ) → IsMarked (w.nodes i)
+  pub links : (p s : ℕ) → GoodLink (w.lines (w.nodes p).line).held p s (w.nodes p) (w.nodes s) (w.links p s)
+  pub bunkers : (p s : ℕ) → FedByBunker w.nodes w.links p s
   pub packets : AllByRecursion (GoodPacket w.nodes w.links w.lines) w.packets
   pub promised : AllByRecursion (GoodPromise w.nodes w.links) w.promised
   pub known : (i : ℕ) → KnownNode w.nodes w.links i (w.nodes i)

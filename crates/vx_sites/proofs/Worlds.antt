@@ -1,6 +1,6 @@
 -- A world in memory with one part in place of another.
 use Rattle.std.proofs.Common.{◌≡◌, ℕ, ◌+◌, ◌-◌, ◌<◌, max, List, [], ◌∷◌, ◌++◌, length, get_or, take, drop, refl, sym, ap, ◌∙◌}
-use Rattle.std.specs.Prelude.{None}
+use Rattle.std.specs.Prelude.{None, if◌then◌else◌}
 use Rattle.std.proofs.Math.ListN.{set}
 use Rattle.std.proofs.lemmas.List.{length-set, length-append}
 use Rattle.vx_model.specs.Content.{Write, Content, put, fold_writes, zeros}
@@ -8,7 +8,7 @@ use Rattle.vx_history.specs.World.{Node as PlainNode, Link as PlainLink, History
 use Rattle.vx_history.specs.Sends.{with_links}
 use Rattle.vx_history.specs.Steps.{burned, logged, told_of, written, crashed, raw_volumes, raw_content, raw_set, raw_made}
 use Rattle.vx_model.specs.Sizes.{ring_of}
-use Rattle.vx_model.specs.Sites.{first_line}
+use Rattle.vx_model.specs.Sites.{first_line, same_line}
 use Rattle.vx_history.specs.Events.{applied, joined}
 use Rattle.vx_model.specs.declared.history.Line.{Line}
 use Rattle.vx_model.specs.declared.site.Role.TheVariants.{Primary, Secondary}
@@ -60,11 +60,13 @@ pub applied_is : (n : PlainNode) (k : ℕ) (mark : Mark) (base : Content) → ba
     → (let m : PlainNode = record n { base = base; safe = k; mark = mark } in m) ≡ applied n k mark
 applied_is n k mark base b = ap (λ (c : Content). let m : PlainNode = record n { base = c; safe = k; mark = mark } in m) b
 
-pub joined_is : (a n : PlainNode) (p top : ℕ) (start : Content) (log : List Write) → top ≡ max n.top a.line.generation → start ≡ n.base → log ≡ []
-    → (let m : PlainNode = record n { role = Secondary; mark = Inconsistent; line = a.line; parent = a.parent; fork = a.fork; top = top; phase = Quiet; replay = 0; end = 0; other = p; start = start; log = log; safe = 0; low = 1; fork_map = None } in m) ≡ joined a p n
-joined_is a n p top start log t s l =
-    ap (λ (k : ℕ). let m : PlainNode = record n { role = Secondary; mark = Inconsistent; line = a.line; parent = a.parent; fork = a.fork; top = k; phase = Quiet; replay = 0; end = 0; other = p; start = start; log = log; safe = 0; low = 1; fork_map = None } in m) t
-    ∙ ap (λ (c : Content). let m : PlainNode = record n { role = Secondary; mark = Inconsistent; line = a.line; parent = a.parent; fork = a.fork; top = max n.top a.line.generation; phase = Quiet; replay = 0; end = 0; other = p; start = c; log = log; safe = 0; low = 1; fork_map = None } in m) s
+pub joined_is : (a n : PlainNode) (p top replay : ℕ) (start : Content) (log : List Write) → top ≡ max n.top a.line.generation
+    → replay ≡ (if same_line n.line a.line then n.replay else 0) → start ≡ n.base → log ≡ []
+    → (let m : PlainNode = record n { role = Secondary; mark = Inconsistent; line = a.line; parent = a.parent; fork = a.fork; top = top; phase = Quiet; replay = replay; end = 0; other = p; start = start; log = log; safe = 0; low = 1; fork_map = None } in m) ≡ joined a p n
+joined_is a n p top replay start log t r s l =
+    ap (λ (k : ℕ). let m : PlainNode = record n { role = Secondary; mark = Inconsistent; line = a.line; parent = a.parent; fork = a.fork; top = k; phase = Quiet; replay = replay; end = 0; other = p; start = start; log = log; safe = 0; low = 1; fork_map = None } in m) t
+    ∙ ap (λ (k : ℕ). let m : PlainNode = record n { role = Secondary; mark = Inconsistent; line = a.line; parent = a.parent; fork = a.fork; top = max n.top a.line.generation; phase = Quiet; replay = k; end = 0; other = p; start = start; log = log; safe = 0; low = 1; fork_map = None } in m) r
+    ∙ ap (λ (c : Content). let m : PlainNode = record n { role = Secondary; mark = Inconsistent; line = a.line; parent = a.parent; fork = a.fork; top = max n.top a.line.generation; phase = Quiet; replay = (if same_line n.line a.line then n.replay else 0); end = 0; other = p; start = c; log = log; safe = 0; low = 1; fork_map = None } in m) s
     ∙ ap (λ (xs : List Write). let m : PlainNode = record (joined a p n) { log = xs } in m) l
 
 pub logged_is : (n : PlainNode) (x : Write) (base : Content) (log : List Write) → base ≡ put n.base x → log ≡ n.log ++ x ∷ []

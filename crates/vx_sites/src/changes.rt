@@ -1,14 +1,15 @@
 // What the events of sites make of them.
-ghost use Rattle.std.specs.Prelude.{◌≡◌, ◌+◌, ◌<◌, ◌^◌, length, take, drop, OnOk};
+ghost use Rattle.std.specs.Prelude.{◌≡◌, ◌+◌, ◌<◌, ◌^◌, length, take, drop, if◌then◌else◌, OnOk};
 ghost use Rattle.vx_history.specs.World.{with_node, line_updated};
 ghost use Rattle.vx_history.specs.Steps.{raw_made, stopped_by, session_begun, written, half_written, crashed, kept_by, recovered};
 ghost use Rattle.vx_model.specs.Sizes.{ring_of as ring_blocks};
 ghost use Rattle.vx_history.specs.Events.{applied, joined};
 ghost use Rattle.vx_model.specs.declared.site.Mark.TheVariants.{Consistent};
-ghost use Rattle.vx_sites.specs.Shapes.{world_of};
+ghost use Rattle.vx_model.specs.Sites.{same_line};
+ghost use Rattle.vx_sites.specs.Shapes.{world_of, node_of};
 
 use crate::history::{begin_line, keep_writes, tell_write};
-use crate::{Content, World, Write};
+use crate::{Content, Node, World, Write};
 use vx_model::limits::{LOG_HEADERS, MOST_LOG_BLOCKS, MOST_NUMBER};
 use vx_model::{Line, Mark, OutOfMemory, Role, SPhase, SiteState};
 
@@ -149,18 +150,30 @@ impl World {
     {
         let line = self.nodes[primary as usize].line;
         let node = &mut self.nodes[site as usize];
+        let replay = replay_on(node, &line);
         node.start = node.base.copy(self.alloc)?;
         node.role = Role::Secondary;
         node.mark = Mark::Inconsistent;
         node.line = line;
         node.top = node.top.max(line.generation);
         node.phase = SPhase::Quiet;
-        node.replay = 0;
+        node.replay = replay;
         node.end = 0;
         node.other = primary;
         node.log.clear();
         node.safe = 0;
         Ok(())
+    }
+}
+
+// The number of the last replay that the site took on this line, and 0 where it stands on another one.
+fn replay_on(node: &Node, line: &Line) -> u64
+    ensures { let n = node_of node.now in result ≡ (if same_line n.line line.now then n.replay else 0) }
+{
+    if node.line.generation == line.generation && node.line.origin == line.origin {
+        node.replay
+    } else {
+        0
     }
 }
 

@@ -11,10 +11,11 @@ use Rattle.vx_history.specs.Sends.{packet, packets_from, updates, further_parts}
 use Rattle.vx_history.specs.Events.{with_write}
 use Rattle.vx_history.specs.Step.{step, run}
 use Rattle.vx_history.specs.declared.event.Event.TheVariants.{Deliver}
-use Rattle.vx_world.specs.Settling.{deliver_each}
+use Rattle.std.specs.List.{AllByRecursion}
+use Rattle.vx_world.specs.Settling.{is_between}
 use Rattle.vx_world.proofs.Pair.{At, Fit}
 use Rattle.vx_world.proofs.Told.{append-nil, IsYoung, taken_at, kept_at, ignored_at, again_at, memory_at, stale_at}
-use Rattle.vx_world.proofs.Batches.{IsIn, in_head, in_tail, in_more, fit_log, fit_link}
+use Rattle.vx_world.proofs.Batches.{deliver_each, between_back, IsIn, in_head, in_tail, in_more, fit_log, fit_link}
 use Rattle.vx_world.proofs.PartsCame.{Came, all_true, came_more, kept_came, by_value}
 
 -- ## Acknowledgements
@@ -28,6 +29,15 @@ AreAcks s p line session high (q ∷ qs) = (k : ℕ) × (q ≡ packet s p line (
 abbrev pub HasAck : (s p : ℕ) → Line → (session number : ℕ) → List Packet → Type 0
 HasAck s p line session number [] = ⊥
 HasAck s p line session number (q ∷ qs) = (q ≡ packet s p line (NetAck session number) 0) ⊎ HasAck s p line session number qs
+
+-- they go from the receiver to the site that sends it updates
+pub acks_between : (p s : ℕ) (line : Line) (session high : ℕ) (qs : List Packet) → AreAcks s p line session high qs
+    → AllByRecursion (λ q. is_between p s q ≡ true) qs
+acks_between p s line session high [] are = tt
+acks_between p s line session high (q ∷ qs) are = (
+  ap (λ (r : Packet). is_between p s r) are.1 ∙ between_back p s line (NetAck session are.0) 0,
+  acks_between p s line session high qs are.3,
+)
 
 -- ## Updates
 

@@ -1,9 +1,59 @@
 -- Packets among all that were sent, and sites and links that settle still.
-use Rattle.std.proofs.Common.{◌≡◌, ℕ, zero, suc, ◌+◌, List, [], ◌∷◌, ◌++◌, length, refl, subst, arith}
-use Rattle.std.specs.Prelude.{slice_get, Some}
+use Rattle.std.proofs.Common.{◌≡◌, ◌∙◌, ℕ, zero, suc, ◌+◌, List, [], ◌∷◌, ◌++◌, length, refl, ap, subst, arith, Bool, true, false}
+use Rattle.std.specs.Prelude.{slice_get, Some, eqb, ◌&&◌, ◌||◌, if◌then◌else◌}
+use Rattle.std.specs.List.{AllByRecursion}
 use Rattle.vx_model.specs.Content.{Write}
-use Rattle.vx_history.specs.World.{Node, Link, Packet}
+use Rattle.vx_model.specs.declared.history.Line.{Line}
+use Rattle.vx_history.proofs.Updates.{eqb_self}
+use Rattle.vx_history.specs.World.{Node, Link, Packet, Message, Update}
+use Rattle.vx_history.specs.Sends.{packet, packets_of, updates}
+use Rattle.vx_history.specs.declared.event.Event.{Event}
+use Rattle.vx_history.specs.declared.event.Event.TheVariants.{Deliver}
+use Rattle.vx_world.specs.Settling.{is_between, deliver_between}
+use Rattle.vx_world.proofs.Lists.{each_append}
+use Rattle.vx_world.proofs.Links.{each_packet}
 use Rattle.vx_world.proofs.Pair.{Fit}
+
+-- these packets are delivered in their order; so many stand before the first
+abbrev pub deliver_each : (before : ℕ) → List Packet → List Event
+deliver_each before [] = []
+deliver_each before (p ∷ ps) = Deliver (suc before) ∷ deliver_each (suc before) ps
+
+-- where each goes between the two sites, each is delivered
+pub all_between : (p s k : ℕ) (qs : List Packet) → AllByRecursion (λ q. is_between p s q ≡ true) qs → deliver_between p s k qs ≡ deliver_each k qs
+all_between p s k [] are = refl
+all_between p s k (q ∷ qs) (here, rest) =
+    ap (λ (b : Bool). if b then Deliver (suc k) ∷ deliver_between p s (suc k) qs else deliver_between p s (suc k) qs) here
+    ∙ ap (λ (es : List Event). Deliver (suc k) ∷ es) (all_between p s (suc k) qs rest)
+
+pub between_on : (p s : ℕ) (line : Line) (m : Message) (part : ℕ) → is_between p s (packet p s line m part) ≡ true
+between_on p s line m part = either (eqb p p && eqb s s) _ (both (eqb p p) (eqb s s) (eqb_self p) (eqb_self s))
+  where
+    both : (a b : Bool) → a ≡ true → b ≡ true → (a && b) ≡ true
+    both true b e f = f
+    both false b e f = absurd (cc)
+
+    either : (a b : Bool) → a ≡ true → (a || b) ≡ true
+    either true b e = refl
+    either false b e = absurd (cc)
+
+pub between_back : (p s : ℕ) (line : Line) (m : Message) (part : ℕ) → is_between p s (packet s p line m part) ≡ true
+between_back p s line m part = either _ (eqb s s && eqb p p) (both (eqb s s) (eqb p p) (eqb_self s) (eqb_self p))
+  where
+    both : (a b : Bool) → a ≡ true → b ≡ true → (a && b) ≡ true
+    both true b e f = f
+    both false b e f = absurd (cc)
+
+    either : (a b : Bool) → b ≡ true → (a || b) ≡ true
+    either true b e = refl
+    either false b e = e
+
+-- the updates on a link
+pub updates_between : (p s : ℕ) (line : Line) (n : ℕ) (xs : List Write) → AllByRecursion (λ q. is_between p s q ≡ true) (updates p s line n xs)
+updates_between p s line n [] = tt
+updates_between p s line n (x ∷ xs) =
+    each_append (λ q. is_between p s q ≡ true) (packets_of p s line (Update n x)) (updates p s line (n + 1) xs)
+    (each_packet (λ q. is_between p s q ≡ true) p s line (Update n x) (between_on p s line (Update n x))) (updates_between p s line (n + 1) xs)
 
 -- these packets stand among all that were sent, the first behind k others
 abbrev pub IsIn : List Packet → ℕ → List Packet → Type 0

@@ -1,5 +1,6 @@
 -- What was said of sites before stays true of later states of them.
-use Rattle.std.proofs.Common.{◌≡◌, ℕ, ◌≤◌, List, length, arith, refl, sym, ap, ◌∙◌}
+use Rattle.std.proofs.Common.{◌≡◌, ℕ, ◌≤◌, List, length, arith, refl, sym, ap, ◌∙◌, Bool, true}
+use Rattle.std.specs.Prelude.{◌||◌}
 use Rattle.std.specs.List.{AllByRecursion}
 use Rattle.vx_model.specs.Content.{Write, IsPrefixOf}
 use Rattle.vx_history.specs.World.{Node, Link, History, Packet, Promise, Message, Surety, Hello, Update, NetAck, DataAck, Durable, InSession}
@@ -8,35 +9,70 @@ use Rattle.vx_history.specs.Good.{IsMade}
 use Rattle.vx_history.specs.Receiving.{phase_takes}
 use Rattle.vx_model.specs.declared.history.Line.{Line}
 use Rattle.vx_model.specs.declared.site.Mark.TheVariants.{Consistent}
+use Rattle.vx_model.specs.declared.site.Role.{Role}
+use Rattle.vx_model.specs.declared.site.Role.TheVariants.{Primary, Secondary, Handing, Bunker}
+use Rattle.vx_model.specs.declared.link.Mode.{Mode}
+use Rattle.vx_model.specs.declared.link.Mode.TheVariants.{Log, Dcm, Replay, Fork, Stale}
+use Rattle.vx_history.specs.Refusals.{keeps_links, is_bunker}
 use Rattle.vx_model.specs.declared.site.SiteState.TheVariants.{Up}
-use Rattle.vx_history.specs.Sound.{IsPresent, GoodLink, GoodMessage, GoodPacket, IsKept, GoodPromise, IsStranger, StrangerSays, IsBegun}
+use Rattle.vx_history.specs.Sound.{IsPresent, IsFollowed, HasStored, ModeSays, GoodLink, GoodMessage, GoodPacket, IsKept, GoodPromise, IsStranger, StrangerSays, IsBegun}
 use Rattle.vx_world.proofs.Lists.{prefix_number, each_weaker}
 
--- b may come of a on the same line: no number that a answered for is lost, but those of a session that is over
+-- b may come of a on the same line: no number that a answered for is lost, but those of a session that is over. Its mark, its phase and its
+-- primary may be others; what rests on them is shown where they are used.
 pub record IsLater (a b : Node) : Type 0 where
   pub line : b.line ≡ a.line
   pub origin : is_origin b.role ≡ is_origin a.role
+  pub bunker : is_bunker b.role ≡ is_bunker a.role
   pub session : a.session ≤ b.session
   pub safe : a.safe ≤ b.safe
+  pub stored : (k : ℕ) → HasStored a k → HasStored b k
   pub present : b.state ≡ Up → b.session ≡ a.session → (a.state ≡ Up) × (length a.log ≤ length b.log)
-  pub mark : a.mark ≡ Consistent → b.mark ≡ Consistent
   pub made : IsMade a → IsMade b
-  pub phase : b.phase ≡ a.phase
-  pub other : b.other ≡ a.other
+
+-- in the same phase of a replay to the same end, and no less consistent
+pub stored_still : (a b : Node) → a.safe ≤ b.safe → b.phase ≡ a.phase → b.end ≡ a.end → (a.mark ≡ Consistent → b.mark ≡ Consistent) → (k : ℕ)
+    → HasStored a k → HasStored b k
+stored_still a b safe phase end mark k (disk, ended) = (omega (arith, safe, disk), λ by e. mark (ended (sym phase ∙ by) (omega (arith, e, end))))
 
 pub later_same : (a : Node) → IsLater a a
 later_same a = record {
   line = refl;
   origin = refl;
+  bunker = refl;
   session = omega arith;
   safe = omega arith;
+  stored = λ k h. h;
   present = λ up _.
       (up, omega arith);
-  mark = λ m. m;
   made = λ m. m;
-  phase = refl;
-  other = refl;
 }
+
+-- who sends sends still
+sender_is : (r : Role) → keeps_links r ≡ (is_origin r || is_bunker r)
+sender_is Primary = refl
+sender_is Secondary = refl
+sender_is (Handing to) = refl
+sender_is Bunker = refl
+
+pub sender_later : (a b : Node) → IsLater a b → keeps_links a.role ≡ true → keeps_links b.role ≡ true
+sender_later a b later e =
+    sender_is b.role
+    ∙ ap (λ (x : Bool). x || is_bunker b.role) later.origin
+    ∙ ap (λ (x : Bool). is_origin a.role || x) later.bunker
+    ∙ sym (sender_is a.role) ∙ e
+
+pub origin_sends : (r : Role) → is_origin r ≡ true → keeps_links r ≡ true
+origin_sends r o = sender_is r ∙ ap (λ (x : Bool). x || is_bunker r) o
+
+-- what a mode says of a site it says of one that is no less consistent and takes updates still, whatever more the line holds
+pub mode_later : (f g : List Write) (b d : Node) (m : Mode) → (b.mark ≡ Consistent → d.mark ≡ Consistent)
+    → (phase_takes b.phase ≡ true → phase_takes d.phase ≡ true) → ModeSays f b m → ModeSays g d m
+mode_later f g b d Log mark takes (marked, taken) = (mark marked, takes taken)
+mode_later f g b d Dcm mark takes says = tt
+mode_later f g b d (Replay id phase left start end) mark takes says = tt
+mode_later f g b d (Fork maps) mark takes says = tt
+mode_later f g b d Stale mark takes says = tt
 
 -- a number that was in memory in some session is in memory while that session lasts
 module _ (a b : Node) (later : IsLater a b) where
@@ -51,28 +87,29 @@ module _ (a b : Node) (later : IsLater a b) where
   message_later f g line grow (Update number x) h = prefix_number f g number x grow h
   message_later f g line grow (NetAck session number) (old, h) = (omega (arith, old, later.session), present_later line session number old h)
   message_later f g line grow (Hello session number stored) (old, h, k) =
-      (omega (arith, old, later.session), present_later line session number old h, λ e. omega (arith, k (sym later.line ∙ e), later.safe))
-  message_later f g line grow (DataAck number) h = λ e. omega (arith, h (sym later.line ∙ e), later.safe)
+      (omega (arith, old, later.session), present_later line session number old h, λ e. later.stored stored (k (sym later.line ∙ e)))
+  message_later f g line grow (DataAck number) h = λ e. later.stored number (h (sym later.line ∙ e))
 
   pub kept_later : (line : Line) (number : ℕ) (s : Surety) → IsKept a line number s → IsKept b line number s
   kept_later line number Durable h = λ e. omega (arith, h (sym later.line ∙ e), later.safe)
   kept_later line number (InSession session) (old, h) = (omega (arith, old, later.session), present_later line session number old h)
 
-pub link_later : (p s : ℕ) (a b c d : Node) (l : Link) → IsLater a c → IsLater b d → GoodLink p s a b l → GoodLink p s c d l
-link_later p s a b c d l later_a later_b good = record {
-  ends = λ is. (later_a.made (good.ends is).0, later_b.made (good.ends is).1);
-  starts = λ is. later_a.origin ∙ good.starts is;
-  apart = good.apart;
-  session = λ is. omega (arith, good.session is, later_b.session);
-  stored = λ (is, o, r, e). omega (arith, later_b.safe, good.stored (is, sym later_a.origin ∙ o, sym later_b.origin ∙ r, sym later_b.line ∙ e ∙ later_a.line));
-  net = λ (is, o, r, e) (up, same).
-      let old : d.session ≡ b.session = omega (arith, same, good.session is, later_b.session) in
-      let still = later_b.present up old in
-      omega (arith, still.1, good.net (is, sym later_a.origin ∙ o, sym later_b.origin ∙ r, sym later_b.line ∙ e ∙ later_a.line) (still.0, sym old ∙ same));
-  log = λ (is, o, r, e) m. later_b.mark (good.log (is, sym later_a.origin ∙ o, sym later_b.origin ∙ r, sym later_b.line ∙ e ∙ later_a.line) m);
-  takes = λ (is, o, r, e) m. ap phase_takes later_b.phase ∙ good.takes
-      (is, sym later_a.origin ∙ o, sym later_b.origin ∙ r, sym later_b.line ∙ e ∙ later_a.line) m;
-}
+pub link_later : (f g : List Write) (p s : ℕ) (a b c d : Node) (l : Link) → IsLater a c → IsLater b d
+    → (is_origin c.role ≡ true → IsFollowed c d l → ModeSays f b l.mode → ModeSays g d l.mode) → GoodLink f p s a b l → GoodLink g p s c d l
+link_later f g p s a b c d l later_a later_b modes good =
+    let was : IsFollowed c d l → IsFollowed a b l = λ (is, r, e). (is, sym later_b.origin ∙ r, sym later_b.line ∙ e ∙ later_a.line) in
+    record {
+      ends = λ is. (later_a.made (good.ends is).0, later_b.made (good.ends is).1);
+      starts = λ is. sender_later a c later_a (good.starts is);
+      apart = good.apart;
+      session = λ is. omega (arith, good.session is, later_b.session);
+      stored = λ v. later_b.stored l.stored (good.stored (was v));
+      net = λ v (up, same).
+          let old : d.session ≡ b.session = omega (arith, same, good.session v.0, later_b.session) in
+          let still = later_b.present up old in
+          omega (arith, still.1, good.net (was v) (still.0, sym old ∙ same));
+      says = λ o v. modes o v (good.says (sym later_a.origin ∙ o) (was v));
+    }
 
 -- who is no stranger stays none
 pub says_later : (to from to' from' : Type 0) → (to' → to) → (from' → from) → (m : Message) → StrangerSays to from m → StrangerSays to' from' m

@@ -12,6 +12,7 @@ use Rattle.vx_history.specs.Receiving.{Received, with_applied, applied_to}
 use Rattle.vx_history.specs.LinkForms.{plain_receiver}
 use Rattle.vx_model.specs.declared.site.Mark.{Mark}
 use Rattle.vx_model.specs.declared.site.Mark.TheVariants.{Consistent}
+use Rattle.vx_model.specs.declared.site.SPhase.TheVariants.{Log as ByLog}
 use Rattle.vx_model.specs.declared.site.SiteState.TheVariants.{Up, Down}
 use Rattle.vx_history.specs.declared.receiver.RState.{RState}
 use Rattle.vx_history.specs.declared.receiver.RAction.TheVariants.{Nothing as DoesNothing}
@@ -21,7 +22,7 @@ use Rattle.vx_history.specs.Sends.{packets_of, greeting}
 use Rattle.vx_history.specs.Events
 use Rattle.vx_history.specs.Sound.{IsWhole, GoodPacket, IsBegun, KnownNode, Sound}
 use Rattle.vx_world.proofs.Lists.{prefix_refl, not_both}
-use Rattle.vx_world.proofs.Moves.{sound_sending, sound_with_links, sound_with_node, sound_with_history, good_later, at_changed}
+use Rattle.vx_world.proofs.Moves.{sound_sending, sound_with_links, sound_with_node, sound_with_history, good_later, at_changed, stays_fed}
 use Rattle.vx_world.proofs.Tests.{Keeps, unless_keeps}
 use Rattle.vx_world.proofs.Nodes
 use Rattle.vx_world.proofs.Links
@@ -38,8 +39,9 @@ up_whole n up down = absurd (let e : Up ≡ Down = sym up ∙ down in cc)
 pub links_changed_keeps : (w : World) (p : ℕ) (x : Write) → Sound w → Sound (Events.links_changed w p x)
 links_changed_keeps w p x s =
     sound_with_links w p (λ k. Events.link_after (w.nodes p) x k (w.links p k)) s
-    (λ k. Links.link_changed p k (w.nodes p) (w.nodes k) (w.nodes p) x (w.links p k) (s.links p k))
+    (λ k. Links.link_changed (w.lines (w.nodes p).line).held p k (w.nodes p) (w.nodes k) (w.nodes p) x (w.links p k) (s.links p k))
     (λ k is. is)
+    (λ _ k is. is)
 
 written_keeps : (w : World) (p : ℕ) (x : Write) → Sound w → IsWorking (w.nodes p) → Sound (written w p x)
 written_keeps w p x s works =
@@ -49,6 +51,10 @@ written_keeps w p x s works =
     (Nodes.later_logged n x)
     (prefix_push (w.lines n.line).held (w.lines n.line).held (x ∷ []) (prefix_refl (w.lines n.line).held))
     (up_whole (logged n x) works.up)
+    (s.fed p)
+    (s.takes p)
+    (λ _ _ _ _. (s.good.nodes p).origin_mark works.origin)
+    (stays_fed w p (logged n x) (λ m. m) (λ t. t))
     (origin_known w p (logged n x) works.origin)
 
 half_written_keeps : (w : World) (p : ℕ) (x : Write) (disk : ℕ) → Sound w → IsWorking (w.nodes p) → Sound (half_written w p x disk)
@@ -58,6 +64,10 @@ half_written_keeps w p x disk s works =
     (good_half_written w p x disk s.good works)
     (Nodes.later_longer (w.nodes p) x (Some disk) (burned (w.nodes p).fuse))
     (up_whole m works.up)
+    (s.fed p)
+    (s.takes p)
+    (λ _ none. absurd (cc))
+    (stays_fed w p m (λ m. m) (λ t. t))
     (origin_known w p m works.origin)
 
 put_in_keeps : (w : World) (p : ℕ) (x : Write) (fails : Option ℕ) → Sound w → IsWorking (w.nodes p) → Keeps (Events.put_in w p x fails)
@@ -77,22 +87,23 @@ module _ (v : World) (q t : ℕ) (s : Sound v) (made : IsMade (v.nodes q)) where
   line_begun = (made, s.good.begun q made)
 
   -- a receiver tells what it has
-  pub greeting_good : is_origin (v.nodes q).role ≡ false → AllByRecursion (GoodPacket v.nodes v.links v.lines) (greeting q t (v.nodes q))
-  greeting_good r =
+  pub greeting_good : is_origin (v.nodes q).role ≡ false → (v.nodes q).state ≡ Up → (v.nodes q).halted ≡ None
+      → AllByRecursion (GoodPacket v.nodes v.links v.lines) (greeting q t (v.nodes q))
+  greeting_good r up runs =
       Links.each_packet (GoodPacket v.nodes v.links v.lines) q t (v.nodes q).line (Hello (v.nodes q).session (length (v.nodes q).log) (v.nodes q).safe)
       (λ _. record {
-        said = (omega arith, λ _ _. omega arith, λ _. omega arith);
+        said = (omega arith, λ _ _. omega arith, λ _. (omega arith, s.marked q up runs));
         known = λ g. (s.known q made r g, omega (arith, (s.good.nodes q).safe_fits, s.known q made r g));
         begun = line_begun;
       })
 
   -- and acknowledges what it has on disk, or in memory
-  pub disk_good : is_origin (v.nodes q).role ≡ false
+  pub disk_good : is_origin (v.nodes q).role ≡ false → (v.nodes q).state ≡ Up → (v.nodes q).halted ≡ None
       → AllByRecursion (GoodPacket v.nodes v.links v.lines) (packets_of q t (v.nodes q).line (DataAck (v.nodes q).safe))
-  disk_good r =
+  disk_good r up runs =
       Links.each_packet (GoodPacket v.nodes v.links v.lines) q t (v.nodes q).line (DataAck (v.nodes q).safe)
       (λ _. record {
-        said = λ _. omega arith;
+        said = λ _. (omega arith, s.marked q up runs);
         known = λ g. omega (arith, (s.good.nodes q).safe_fits, s.known q made r g);
         begun = line_begun;
       })
@@ -110,15 +121,16 @@ module _ (v : World) (q t : ℕ) (s : Sound v) (made : IsMade (v.nodes q)) where
 -- ## Records that are applied
 
 acknowledged_keeps : (w : World) (q : ℕ) (n : Node) → Sound w → Sound (with_node w q n) → IsMade n → is_origin n.role ≡ false
-    → Sound (Events.acknowledged w q n)
-acknowledged_keeps w q n s v made r =
+    → n.state ≡ Up → n.halted ≡ None → Sound (Events.acknowledged w q n)
+acknowledged_keeps w q n s v made r up runs =
     sound_sending (with_node w q n) (packets_of q n.other n.line (DataAck n.safe)) v
     (subst (λ (x : Node). AllByRecursion (GoodPacket (updated w.nodes q n) w.links w.lines) (packets_of q n.other x.line (DataAck x.safe)))
     (at_place w.nodes q n)
-    (disk_good (with_node w q n) q n.other v (at_changed IsMade w.nodes q n made) (at_changed (λ (x : Node). is_origin x.role ≡ false) w.nodes q n r)))
+    (disk_good (with_node w q n) q n.other v (at_changed IsMade w.nodes q n made) (at_changed (λ (x : Node). is_origin x.role ≡ false) w.nodes q n r)
+    (at_changed (λ (x : Node). x.state ≡ Up) w.nodes q n up) (at_changed (λ (x : Node). x.halted ≡ None) w.nodes q n runs)))
 
-pub apply_keeps : (w : World) (q count : ℕ) → Sound w → (w.nodes q).state ≡ Up → is_origin (w.nodes q).role ≡ false → Keeps (Events.apply_at w q count)
-apply_keeps w q count s up r =
+pub apply_keeps : (w : World) (q count : ℕ) → Sound w → (w.nodes q).state ≡ Up → (w.nodes q).halted ≡ None → is_origin (w.nodes q).role ≡ false → Keeps (Events.apply_at w q count)
+apply_keeps w q count s up runs r =
     let n : Node = w.nodes q in
     let p : RState = plain_receiver n in
     let left : ℕ = p.waiting - count in
@@ -127,21 +139,27 @@ apply_keeps w q count s up r =
     (λ _. s)
     (λ _. Nodes.mark_rises (record p { waiting = left }) (applied_to p.last left)
     (λ (x : RState). Sound (Events.acknowledged w q (Events.applied n (applied_to p.last left) x.mark)))
-    (λ mark marks. each mark marks (omega (arith, (s.good.nodes q).safe_fits)) (omega arith)))
+    (λ mark marks ends. each mark marks ends (omega (arith, (s.good.nodes q).safe_fits)) (omega arith)))
   where
     each : (mark : Mark) → ((w.nodes q).mark ≡ Consistent → mark ≡ Consistent)
+        → ((w.nodes q).phase ≡ ByLog → (w.nodes q).end ≤ applied_to (length (w.nodes q).log) (length (w.nodes q).log - (w.nodes q).safe - count)
+        → mark ≡ Consistent)
         → (w.nodes q).safe ≤ applied_to (length (w.nodes q).log) (length (w.nodes q).log - (w.nodes q).safe - count)
         → applied_to (length (w.nodes q).log) (length (w.nodes q).log - (w.nodes q).safe - count) ≤ length (w.nodes q).log
         → Sound (Events.acknowledged w q (Events.applied (w.nodes q) (applied_to (length (w.nodes q).log) (length (w.nodes q).log - (w.nodes q).safe - count)) mark))
-    each mark marks least most =
+    each mark marks ends least most =
         let n : Node = w.nodes q in
         let k : ℕ = applied_to (length n.log) (length n.log - n.safe - count) in
         let made : IsMade n = up_is_made n up in
         let m : Node = Events.applied n k mark in
         acknowledged_keeps w q m s
         (sound_with_node w q m s
-        (good_later w q m s.good made refl (λ is. is) (Nodes.good_applied (w.lines n.line) q k mark n r least most (s.good.nodes q)))
+        (good_later w q m s.good made refl (λ is. is) (Nodes.good_applied (w.lines n.line) q k mark n (s.takes q) r least most (s.good.nodes q)))
         (Nodes.later_applied n k mark least marks)
         (up_whole m up)
+        (s.fed q)
+        (s.takes q)
+        (λ _ _. ends)
+        (stays_fed w q m marks (λ t. t))
         (λ is not g. s.known q made not g))
-        made r
+        made r up runs

@@ -13,7 +13,7 @@ use Rattle.vx_history.specs.GoodWorld.{GoodWorld}
 use Rattle.vx_history.specs.Doubts.{After, Doubted, resolved, taken_up, crashed_as}
 use Rattle.vx_world.specs.Twins.{GoodTwin}
 
-not_past : (a b : ℕ) → b < a → leb a b ≡ false
+pub not_past : (a b : ℕ) → b < a → leb a b ≡ false
 not_past a b h = grind (arith, nat_tests)
 
 pub crash_is : (w : World) (s kept : ℕ) → s < w.sites → (w.nodes s).state ≡ Up → (outcome_of w (Crash s kept)).world ≡ crash_at w s (kept_of (w.nodes s) kept)

@@ -1,5 +1,5 @@
 -- Crashes, recoveries and halts keep what holds of the world.
-use Rattle.std.proofs.Common.{◌≡◌, ℕ, ◌+◌, ◌≤◌, [], length, take, refl, sym, ◌∙◌, subst, arith, true, false}
+use Rattle.std.proofs.Common.{◌≡◌, ℕ, ◌+◌, ◌≤◌, [], length, take, refl, sym, ◌∙◌, subst, arith, Bool, true, false}
 use Rattle.std.specs.Prelude.{Option, Some, None}
 use Rattle.std.specs.List.{AllByRecursion}
 use Rattle.std.proofs.lemmas.List.{length-take, take-take}
@@ -10,6 +10,7 @@ use Rattle.vx_history.specs.Steps.{burned, crashed, crash_left, stopped_by}
 use Rattle.vx_history.specs.Good.{IsMade}
 use Rattle.vx_model.specs.declared.site.Mark.{Mark}
 use Rattle.vx_model.specs.declared.site.Mark.TheVariants.{Consistent}
+use Rattle.vx_model.specs.declared.site.SPhase.TheVariants.{Log as ByLog}
 use Rattle.vx_model.specs.declared.site.SiteState.{SiteState}
 use Rattle.vx_model.specs.declared.site.SiteState.TheVariants.{Bare, Up, Deported, Down}
 use Rattle.vx_history.proofs.Updates.{by_test, at_place}
@@ -20,7 +21,7 @@ use Rattle.vx_history.specs.Events
 use Rattle.vx_history.specs.Sound.{GoodPacket, IsWhole, Sound}
 use Rattle.vx_world.proofs.Lists.{prefix_take}
 use Rattle.vx_world.proofs.Carry.{IsLater}
-use Rattle.vx_world.proofs.Moves.{sound_gathering, sound_sending, sound_with_links, sound_with_node, sound_with_history, good_later}
+use Rattle.vx_world.proofs.Moves.{sound_gathering, sound_sending, sound_with_links, sound_with_node, sound_with_history, good_later, stays_fed}
 use Rattle.vx_world.proofs.Tests.{Keeps, unless_keeps}
 use Rattle.vx_world.proofs.Changes.{greeting_good, up_whole, origin_known}
 use Rattle.vx_world.proofs.Nodes
@@ -30,8 +31,9 @@ use Rattle.vx_world.proofs.Links
 lost_keeps : (v : World) (q : ℕ) → Sound v → Sound (with_links v q (λ k. Events.lost_touch (v.links q k)))
 lost_keeps v q s =
     sound_with_links v q (λ k. Events.lost_touch (v.links q k)) s
-    (λ k. Links.link_lost (v.lines (v.nodes k).line) q k (v.nodes q) (v.nodes k) (v.links q k) (s.good.nodes k) (s.links q k))
+    (λ k. Links.link_lost (v.lines (v.nodes q).line).held (v.lines (v.nodes k).line) q k (v.nodes q) (v.nodes k) (v.links q k) (s.good.nodes k) (s.links q k))
     (λ k is. is)
+    (λ _ k is. is)
 
 crashed_whole : (n : Node) (k : ℕ) → n.safe ≤ k → k ≤ length n.log → IsWhole (crashed n k)
 crashed_whole n k least most = λ _. omega (arith, kept_length n k least most)
@@ -45,6 +47,10 @@ origin_crash_keeps w q k s made o least most =
     (Nodes.later_crashed n k least made)
     (subst (λ t. IsPrefixOf t (take k n.log)) (take-take n.safe k n.log least ∙ (s.good.nodes q).origin_log made o) (prefix_take n.safe (take k n.log)))
     (crashed_whole n k least most)
+    (s.fed q)
+    (s.takes q)
+    (λ up. absurd (let e : Down ≡ Up = up in cc))
+    (stays_fed w q (crashed n k) (λ m. m) (λ t. t))
     (origin_known w q (crashed n k) o)
 
 receiver_crash_keeps : (w : World) (q k : ℕ) → Sound w → IsMade (w.nodes q) → is_origin (w.nodes q).role ≡ false → (w.nodes q).safe ≤ k
@@ -56,6 +62,10 @@ receiver_crash_keeps w q k s made r least most =
     (good_later w q (crashed n k) s.good made refl later.made (Nodes.good_dropped (w.lines n.line) q k n made r least most (s.good.nodes q)))
     later
     (crashed_whole n k least most)
+    (s.fed q)
+    (s.takes q)
+    (λ up. absurd (let e : Down ≡ Up = up in cc))
+    (stays_fed w q (crashed n k) (λ m. m) (λ t. t))
     (λ _ _ g. omega (arith, s.known q made r g, length-take k n.log))
 
 pub crash_keeps : (w : World) (q kept : ℕ) → Sound w → (w.nodes q).state ≡ Up → Sound (Events.crash_at w q (Events.kept_of (w.nodes q) kept))
@@ -76,32 +86,43 @@ abbrev pub RisenWorld : World → ℕ → Node → World
 RisenWorld w q m = sending (with_links (with_node w q m) q (λ to. Events.restarted_link m to (w.links q to))) (Events.recovery_greeting q m)
 
 risen_keeps : (w : World) (q : ℕ) (mark : Mark) → Sound w → (w.nodes q).state ≡ Down → ((w.nodes q).mark ≡ Consistent → mark ≡ Consistent)
-    → (is_origin (w.nodes q).role ≡ true → mark ≡ (w.nodes q).mark) → Sound (RisenWorld w q (Nodes.risen (w.nodes q) mark))
-risen_keeps w q mark s down marks same =
+    → (is_origin (w.nodes q).role ≡ true → mark ≡ (w.nodes q).mark)
+    → (is_origin (w.nodes q).role ≡ false → (w.nodes q).phase ≡ ByLog → (w.nodes q).end ≤ length (w.nodes q).log → mark ≡ Consistent) → Sound (RisenWorld w q (Nodes.risen (w.nodes q) mark))
+risen_keeps w q mark s down marks same ends =
     let n : Node = w.nodes q in
     let m : Node = Nodes.risen n mark in
     let made : IsMade n = λ bare. let e : Down ≡ Bare = sym down ∙ bare in cc in
     let later : IsLater n m = Nodes.later_risen n mark marks in
     let u : World = with_node w q m in
     let sound_u : Sound u = sound_with_node w q m s
-    (good_later w q m s.good made refl later.made (Nodes.good_risen (w.lines n.line) q mark n made same (s.whole q down) (s.good.nodes q)))
+    (good_later w q m s.good made refl later.made (Nodes.good_risen (w.lines n.line) q mark n (s.takes q) made same (s.whole q down) (s.good.nodes q)))
     later
     (up_whole m refl)
+    (s.fed q)
+    (s.takes q)
+    (λ _ _. marked (is_origin n.role) refl)
+    (stays_fed w q m marks (λ t. t))
     (λ _ r g. s.known q made r g) in
     let v : World = with_links u q (λ to. Events.restarted_link m to (w.links q to)) in
     let sound_v : Sound v = sound_with_links u q (λ to. Events.restarted_link m to (w.links q to)) sound_u
-    (λ k. Links.link_restarted (u.lines (u.nodes k).line) q k (u.nodes q) (u.nodes k) m (w.links q k) (sound_u.good.nodes k) (sound_u.links q k))
-    (λ k is. is) in
+    (λ k. Links.link_restarted (u.lines (u.nodes q).line).held (u.lines (u.nodes k).line) q k (u.nodes q) (u.nodes k) m (w.links q k) (sound_u.good.nodes k) (sound_u.links q k))
+    (λ k is. is)
+    (λ _ k is. is) in
     let here : v.nodes q ≡ m = at_place w.nodes q m in
     sound_sending v (Events.recovery_greeting q m) sound_v
     (by_test (AllByRecursion (GoodPacket v.nodes v.links v.lines)) (is_origin m.role) [] (greeting q m.other m)
     (λ _. tt)
     (λ r. subst (λ (x : Node). AllByRecursion (GoodPacket v.nodes v.links v.lines) (greeting q m.other x)) here
-    (greeting_good v q m.other sound_v (subst IsMade (sym here) (later.made made)) (subst (λ (x : Node). is_origin x.role ≡ false) (sym here) r))))
+    (greeting_good v q m.other sound_v (subst IsMade (sym here) (later.made made)) (subst (λ (x : Node). is_origin x.role ≡ false) (sym here) r)
+    (subst (λ (x : Node). x.state ≡ Up) (sym here) refl) (subst (λ (x : Node). x.halted ≡ None) (sym here) refl))))
+  where
+    marked : (o : Bool) → is_origin (w.nodes q).role ≡ o → (w.nodes q).phase ≡ ByLog → (w.nodes q).end ≤ (w.nodes q).safe → mark ≡ Consistent
+    marked true o by end = same o ∙ (s.good.nodes q).origin_mark o
+    marked false r by end = ends r by (omega (arith, end, (s.good.nodes q).safe_fits))
 
 recovery_keeps : (w : World) (q : ℕ) (fails : Option ℕ) → Sound w → (w.nodes q).state ≡ Down → Keeps (Events.recovery w q fails)
 recovery_keeps w q None s down =
-    Nodes.back_by (λ (m : Node). Sound (RisenWorld w q m)) (w.nodes q) (λ mark marks same. risen_keeps w q mark s down marks same)
+    Nodes.back_by (λ (m : Node). Sound (RisenWorld w q m)) (w.nodes q) (λ mark marks same ends. risen_keeps w q mark s down marks same ends)
 recovery_keeps w q (Some disk) s down =
     let n : Node = w.nodes q in
     let made : IsMade n = λ bare. let e : Down ≡ Bare = sym down ∙ bare in cc in
@@ -109,6 +130,10 @@ recovery_keeps w q (Some disk) s down =
     (good_session_begun w q s.good made)
     (Nodes.later_begun n down)
     (s.whole q)
+    (s.fed q)
+    (s.takes q)
+    (λ up. absurd (let e : Down ≡ Up = sym down ∙ up in cc))
+    (stays_fed w q (record n { session = n.session + 1 }) (λ m. m) (λ t. t))
     (s.known q)
 
 pub recover_keeps : (w : World) (q : ℕ) (state : SiteState) (fails : Option ℕ) → Sound w → (w.nodes q).state ≡ state
@@ -125,4 +150,8 @@ fault_keeps w q disk s up =
     (good_stopped w q disk s.good (up_is_made n up))
     (Nodes.later_halted n disk)
     (s.whole q)
+    (s.fed q)
+    (s.takes q)
+    (λ _ none. absurd (cc))
+    (stays_fed w q (record n { halted = Some disk; fuse = burned n.fuse }) (λ m. m) (λ t. t))
     (s.known q)

@@ -1,5 +1,5 @@
 -- What is sent on links, and what is delivered, keeps what holds of the world.
-use Rattle.std.proofs.Common.{◌≡◌, ℕ, ◌+◌, ◌≤◌, [], ◌∷◌, length, refl, ap, sym, ◌∙◌, subst, arith, Bool, true, false, length-append}
+use Rattle.std.proofs.Common.{◌≡◌, ℕ, ◌+◌, ◌≤◌, [], ◌∷◌, length, refl, ap, sym, ◌∙◌, subst, arith, take, Bool, true, false, length-append}
 use Rattle.std.specs.Prelude.{leb, ltb, if◌then◌else◌, eqb, min, max, slice_get, Some, None, Option, ◌&&◌, ◌||◌, not, zero, suc}
 use Rattle.std.specs.List.{AllByRecursion}
 use Rattle.vx_model.specs.Content.{Write, IsNumber, IsPrefixOf}
@@ -30,10 +30,10 @@ use Rattle.vx_history.specs.Events
 use Rattle.vx_history.specs.Gatherings.{completes}
 use Rattle.vx_model.specs.declared.limits.TheConstants.{MOST_PACKETS}
 use Rattle.vx_history.specs.Sound.{GoodLink, GoodMessage, GoodPacket, IsStranger, StrangerSays, Sound}
-use Rattle.vx_world.proofs.Lists.{prefix_refl, each_found, not_true, not_both}
-use Rattle.vx_world.proofs.Moves.{sound_gathering, sound_sending, sound_promising, sound_with_link, sound_with_node, good_later, stranger_of_links, still_linked}
+use Rattle.vx_world.proofs.Lists.{prefix_refl, prefix_trans, prefix_take, each_found, not_true, not_both}
+use Rattle.vx_world.proofs.Moves.{sound_gathering, sound_sending, sound_promising, sound_with_link, sound_with_node, good_later, stranger_of_links, still_linked, stays_fed}
 use Rattle.vx_world.proofs.Tests.{Keeps, unless_keeps}
-use Rattle.vx_world.proofs.Guards.{up_is}
+use Rattle.vx_world.proofs.Guards.{up_is, runs_is}
 use Rattle.vx_world.proofs.Changes.{greeting_good, memory_good, up_whole}
 use Rattle.vx_world.proofs.Nodes
 use Rattle.vx_world.proofs.Links
@@ -41,17 +41,18 @@ use Rattle.vx_world.proofs.Links
 -- who has a link of the line's origin is no stranger
 pub no_stranger : (nodes : ℕ → Node) (links : ℕ → ℕ → Link) (p s : ℕ) (line : Line) → line.origin ≡ p → is_linked (links p s) ≡ true
     → IsStranger nodes links line s → ⊥
-no_stranger nodes links p s line e linked (g, none) = not_both (is_linked (links p s)) linked (ap (λ (j : ℕ). is_linked (links j s)) (sym e) ∙ none)
+no_stranger nodes links p s line e linked (g, none, plain) = not_both (is_linked (links p s)) linked (ap (λ (j : ℕ). is_linked (links j s)) (sym e) ∙ none)
 
 -- ## Links
 
 -- a link as its rule leaves it, with what is sent on it
-pub moved_keeps : (w : World) (p q : ℕ) (r : Sent) → Sound w → GoodLink p q (w.nodes p) (w.nodes q) (with_plain (w.links p q) r.link)
+pub moved_keeps : (w : World) (p q : ℕ) (r : Sent) → Sound w
+    → GoodLink (w.lines (w.nodes p).line).held p q (w.nodes p) (w.nodes q) (with_plain (w.links p q) r.link)
     → AllByRecursion (GoodPacket w.nodes (with_link w p q (with_plain (w.links p q) r.link)).links w.lines) (sent_by r.action p q (w.nodes p)) → Sound
     (Events.moved_by w p q r)
 moved_keeps w p q r s good sent =
     sound_sending (with_link w p q (with_plain (w.links p q) r.link)) (sent_by r.action p q (w.nodes p))
-    (sound_with_link w p q (with_plain (w.links p q) r.link) s good (λ is. is))
+    (sound_with_link w p q (with_plain (w.links p q) r.link) s good (λ is. is) (λ _ is. is))
     sent
 
 -- a link of which nothing changes that anything is said of
@@ -59,7 +60,7 @@ pub quiet_keeps : (w : World) (p q : ℕ) (connected paused : Bool) (sent trimme
     → Sound (Events.moved_by w p q (with_nothing (record (plain_link q (w.links p q)) { connected = connected; paused = paused; sent = sent; trimmed = trimmed })))
 quiet_keeps w p q connected paused sent trimmed s =
     moved_keeps w p q (with_nothing (record (plain_link q (w.links p q)) { connected = connected; paused = paused; sent = sent; trimmed = trimmed })) s
-    (Links.link_like p q (w.nodes p) (w.nodes q) (w.links p q) _ refl refl refl refl (λ e. e) (s.links p q))
+    (Links.link_like (w.lines (w.nodes p).line).held p q (w.nodes p) (w.nodes q) (w.links p q) _ refl refl refl refl (λ e. e) (s.links p q))
     tt
 
 pub pump_keeps : (w : World) (p q : ℕ) → Sound w → (w.nodes p).state ≡ Up → is_linked (w.links p q) ≡ true → Sound (Events.link_event w p q PumpLink)
@@ -79,29 +80,47 @@ pump_keeps w p q s up linked =
         → Sound (Events.moved_by w p q (record { link = record (plain_link q (w.links p q)) { sent = high }; action = Updates (low + 1) high }))
     sends low high most =
         let n : Node = w.nodes p in
-        let o : is_origin n.role ≡ true = (s.links p q).starts linked in
         let made : IsMade n = up_is_made n up in
         let m : Link = record (w.links p q) { sent = high } in
         let r : Sent = record { link = record (plain_link q (w.links p q)) { sent = high }; action = Updates (low + 1) high } in
         moved_keeps w p q r s
-        (Links.link_like p q n (w.nodes q) (w.links p q) m refl refl refl refl (λ e. e) (s.links p q))
+        (Links.link_like (w.lines n.line).held p q n (w.nodes q) (w.links p q) m refl refl refl refl (λ e. e) (s.links p q))
         (Links.sent_good (GoodPacket w.nodes (with_link w p q m).links w.lines) p q n (w.lines n.line).held
-        (subst (λ t. IsPrefixOf t (w.lines n.line).held) (sym ((s.good.nodes p).origin_log made o)) (prefix_refl (w.lines n.line).held))
+        (durable made)
         (λ number x is _. record {
           said = is;
-          known = λ g. no_stranger w.nodes w.links p q n.line ((s.good.nodes p).own_line made o) linked
-              (stranger_of_links w.nodes w.links (with_link w p q m).links (still_linked w p q m (λ is. is)) n.line q g);
+          known = λ g. apart made (stranger_of_links w.nodes w.links (with_link w p q m).links (still_linked w p q m (λ is. is)) n.line q g);
           begun = (made, s.good.begun p made);
         })
         (low + 1) high (omega arith) most)
+      where
+        -- what is durable at a site that sends is what its line holds, or a first part of it
+        durable : IsMade (w.nodes p) → IsPrefixOf (take (w.nodes p).safe (w.nodes p).log) (w.lines (w.nodes p).line).held
+        durable made = by_origin (is_origin (w.nodes p).role) refl
+          where
+            by_origin : (b : Bool) → is_origin (w.nodes p).role ≡ b
+                → IsPrefixOf (take (w.nodes p).safe (w.nodes p).log) (w.lines (w.nodes p).line).held
+            by_origin true o = subst (λ t. IsPrefixOf t (w.lines (w.nodes p).line).held) (sym ((s.good.nodes p).origin_log made o))
+                (prefix_refl (w.lines (w.nodes p).line).held)
+            by_origin false r = prefix_trans (take (w.nodes p).safe (w.nodes p).log) (w.nodes p).log (w.lines (w.nodes p).line).held
+                (prefix_take (w.nodes p).safe (w.nodes p).log) ((s.good.nodes p).receiver_log made r)
 
-greets_is : (a b : Node) → Events.greets a b ≡ true → (b.state ≡ Up) × (is_origin b.role ≡ false)
+        -- and who has its link is no stranger
+        apart : IsMade (w.nodes p) → IsStranger w.nodes w.links (w.nodes p).line q → ⊥
+        apart made g = by_origin (is_origin (w.nodes p).role) refl
+          where
+            by_origin : (b : Bool) → is_origin (w.nodes p).role ≡ b → ⊥
+            by_origin true o = no_stranger w.nodes w.links p q (w.nodes p).line ((s.good.nodes p).own_line made o) linked g
+            by_origin false r = s.bunkers p q linked r g
+
+greets_is : (a b : Node) → Events.greets a b ≡ true → (b.state ≡ Up) × (is_origin b.role ≡ false) × (b.halted ≡ None)
 greets_is a b g =
     let rest : (is_running b.halted && (not (is_origin b.role) && same_line b.line a.line)) ≡ true = and_right (is_up b.state)
     (is_running b.halted && (not (is_origin b.role) && same_line b.line a.line)) g in (
       up_is b.state (and_left (is_up b.state) (is_running b.halted && (not (is_origin b.role) && same_line b.line a.line)) g),
       not_true (is_origin b.role) (and_left (not (is_origin b.role)) (same_line b.line a.line)
           (and_right (is_running b.halted) (not (is_origin b.role) && same_line b.line a.line) rest)),
+      runs_is b.halted (and_left (is_running b.halted) (not (is_origin b.role) && same_line b.line a.line) rest),
     )
 
 pub connect_keeps : (w : World) (p q : ℕ) → Sound w → Sound (sending (Events.link_event w p q ConnectLink) (Events.greeting_back w p q))
@@ -111,18 +130,18 @@ connect_keeps w p q s =
     let sound : Sound v = quiet_keeps w p q true l.paused l.sent l.trimmed s in
     sound_sending v (Events.greeting_back w p q) sound
     (by_test (AllByRecursion (GoodPacket v.nodes v.links v.lines)) (Events.greets (w.nodes p) (w.nodes q)) (greeting q p (w.nodes q)) []
-    (λ g. greeting_good v q p sound (up_is_made (w.nodes q) (greets_is (w.nodes p) (w.nodes q) g).0) (greets_is (w.nodes p) (w.nodes q) g).1)
+    (λ g. let is = greets_is (w.nodes p) (w.nodes q) g in greeting_good v q p sound (up_is_made (w.nodes q) is.0) is.1 is.0 is.2)
     (λ _. tt))
 
 -- ## Packets
 
 link_heard_keeps : (w : World) (p : Packet) (e : SEvent) → Sound w
-    → GoodLink p.target p.source (w.nodes p.target) (w.nodes p.source) (with_plain (w.links p.target p.source) (sent_step (plain_link p.source (w.links p.target p.source)) e (Events.facts_of (w.nodes p.target) p.line)).link) → Keeps (Events.link_heard w p e)
+    → GoodLink (w.lines (w.nodes p.target).line).held p.target p.source (w.nodes p.target) (w.nodes p.source) (with_plain (w.links p.target p.source) (sent_step (plain_link p.source (w.links p.target p.source)) e (Events.facts_of (w.nodes p.target) p.line)).link) → Keeps (Events.link_heard w p e)
 link_heard_keeps w p e s good =
     let r : Sent = sent_step (plain_link p.source (w.links p.target p.source)) e (Events.facts_of (w.nodes p.target) p.line) in
     by_test Keeps (keeps_links (w.nodes p.target).role && is_linked (w.links p.target p.source))
     (says (with_link w p.target p.source (with_plain (w.links p.target p.source) r.link)) (Events.said_of_link r.action)) _
-    (λ _. sound_with_link w p.target p.source (with_plain (w.links p.target p.source) r.link) s good (λ is. is))
+    (λ _. sound_with_link w p.target p.source (with_plain (w.links p.target p.source) r.link) s good (λ is. is) (λ _ is. is))
     (λ _. s)
 
 from_memory_keeps : (w : World) (p : Packet) (n : Node) (number : ℕ) → Sound w → w.nodes p.target ≡ n → IsMade n → is_origin n.role ≡ false
@@ -173,6 +192,10 @@ update_keeps w p number x s up is known =
         (good_later w p.target m s.good made refl (λ is. is) (Nodes.good_taken (w.lines n.line) p.target n x number made r here next (s.good.nodes p.target)))
         (Nodes.later_longer n x n.halted n.fuse)
         (up_whole m up)
+        (s.fed p.target)
+        (s.takes p.target)
+        (s.marked p.target)
+        (stays_fed w p.target m (λ m. m) (λ t. t))
         (λ _ _ g. absurd (none g)) in
         from_memory_keeps (with_node w p.target m) p m number v (at_place w.nodes p.target m) made r (omega (arith, next, length-append n.log (x ∷ [])))
 
@@ -185,16 +208,16 @@ heard_keeps : (w : World) (p : Packet) (m : Message) → Sound w → (w.nodes p.
     → StrangerSays (IsStranger w.nodes w.links p.line p.target) (IsStranger w.nodes w.links p.line p.source) m → Keeps (Events.heard w p m)
 heard_keeps w p (Hello session number stored) s up h known =
     link_heard_keeps w p (HearHello session number stored) s
-    (Links.link_hello (w.lines (w.nodes p.source).line) p.target p.source (w.nodes p.target) (w.nodes p.source) (w.links p.target p.source) p.line
+    (Links.link_hello (w.lines (w.nodes p.target).line).held (w.lines (w.nodes p.source).line) p.target p.source (w.nodes p.target) (w.nodes p.source) (w.links p.target p.source) p.line
     (s.good.nodes p.source) (s.links p.target p.source) (w.lines p.line).held session number stored h)
 heard_keeps w p (Update number x) s up h known = update_keeps w p number x s up h known
 heard_keeps w p (NetAck session number) s up h known =
     link_heard_keeps w p (HearNetAck session number) s
-    (Links.link_net_ack (w.lines (w.nodes p.source).line) p.target p.source (w.nodes p.target) (w.nodes p.source) (w.links p.target p.source) p.line
+    (Links.link_net_ack (w.lines (w.nodes p.target).line).held (w.lines (w.nodes p.source).line) p.target p.source (w.nodes p.target) (w.nodes p.source) (w.links p.target p.source) p.line
     (s.good.nodes p.source) (s.links p.target p.source) (w.lines p.line).held session number h)
 heard_keeps w p (DataAck number) s up h known =
     link_heard_keeps w p (HearDataAck number) s
-    (Links.link_data_ack (w.lines (w.nodes p.source).line) p.target p.source (w.nodes p.target) (w.nodes p.source) (w.links p.target p.source) p.line
+    (Links.link_data_ack (w.lines (w.nodes p.target).line).held (w.lines (w.nodes p.source).line) p.target p.source (w.nodes p.target) (w.nodes p.source) (w.links p.target p.source) p.line
     (s.good.nodes p.source) (s.links p.target p.source) (w.lines p.line).held number h)
 
 handed_keeps : (w : World) (p : Packet) → Sound w → GoodPacket w.nodes w.links w.lines p → Keeps (Events.handed w p)

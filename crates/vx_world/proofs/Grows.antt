@@ -219,7 +219,7 @@ recovery_grows : (w : World) (q : ℕ) (fails : Option ℕ) → Leaves w (Events
 recovery_grows w q None =
     Nodes.back_by (λ (m : Node). Grown w
     (sending (with_links (with_node w q m) q (λ to. Events.restarted_link m to (w.links q to))) (Events.recovery_greeting q m))) (w.nodes q)
-    (λ mark _ _.
+    (λ mark _ _ _.
     let m : Node = Nodes.risen (w.nodes q) mark in
     let v : World = with_node w q m in
     let u : World = with_links v q (λ to. Events.restarted_link m to (w.links q to)) in
@@ -328,7 +328,7 @@ outcome_grows w (Wait p number) s =
 outcome_grows w (Link p q sync part) s =
     Guards.at_site_holds (Grown w) w p _ (grown_same w)
     (λ _. Guards.at_site_holds (Grown w) w q _ (grown_same w)
-    (λ _. Guards.both_holds (Grown w) w p q (link_part part w p q sync) (grown_same w) (λ _ up _. link_part_grows part w p q sync up)))
+    (λ _. Guards.both_holds (Grown w) w p q (link_part part w p q sync) (grown_same w) (λ _ up _ _. link_part_grows part w p q sync up)))
 outcome_grows w (Set p q sync) s =
     let l : LinkRecord = record (w.links p q) { sync = sync; prot = FailsWhenFull } in
     Guards.on_link_holds (Grown w) is_origin w p q (done (with_link w p q l)) (grown_same w) (λ _ _ _. grown_links w w (grown_same w) (with_link w p q l).links)

@@ -15,7 +15,7 @@ use Rattle.vx_model.specs.declared.no.SiteName.TheVariants.{Number as SiteNumber
 use Rattle.vx_model.specs.Answer.{is_wrong_count, is_past}
 use Rattle.vx_history.proofs.Updates.{by_test, and_left, and_right}
 use Rattle.vx_history.specs.Sends.{is_linked}
-use Rattle.vx_history.specs.Refusals.{Outcome, refused, unless, unless_halted, is_primary, at_site, at_work, both_at_work, on_link_if, when_live, on_volume}
+use Rattle.vx_history.specs.Refusals.{Outcome, refused, unless, unless_halted, is_primary, is_running, at_site, at_work, both_at_work, on_link_if, when_live, on_volume}
 use Rattle.vx_model.specs.Sites.{is_up, is_bare}
 use Rattle.vx_world.proofs.Lists.{not_false}
 
@@ -30,6 +30,10 @@ bare_is Bare e = refl
 bare_is Up e = absurd (cc)
 bare_is Deported e = absurd (cc)
 bare_is Down e = absurd (cc)
+
+pub runs_is : (halted : Option ℕ) → is_running halted ≡ true → halted ≡ None
+runs_is None e = refl
+runs_is (Some disk) e = absurd (cc)
 
 pub primary_origin : (r : Role) → is_primary r ≡ true → is_origin r ≡ true
 primary_origin Primary e = refl
@@ -61,7 +65,7 @@ module _ (P : World → Type 0) where
       unless_holds (not (is_up (w.nodes p).state)) NotUp w (unless_halted (w.nodes p).halted w o) s
       (λ u. halted_holds (w.nodes p).halted w o s (k (up_is (w.nodes p).state (not_false (is_up (w.nodes p).state) u))))
 
-  pub both_holds : (w : World) (p q : ℕ) (o : Outcome) → P w → ((w.nodes p).state ≡ Up → (w.nodes q).state ≡ Up → (w.nodes p).halted ≡ None → Holds o)
+  pub both_holds : (w : World) (p q : ℕ) (o : Outcome) → P w → ((w.nodes p).state ≡ Up → (w.nodes q).state ≡ Up → (w.nodes p).halted ≡ None → (w.nodes q).halted ≡ None → Holds o)
       → Holds (both_at_work w p q o)
   both_holds w p q o s k =
       unless_holds (not (is_up (w.nodes p).state && is_up (w.nodes q).state)) NotUp w
@@ -70,8 +74,8 @@ module _ (P : World → Type 0) where
       let both : (is_up (w.nodes p).state && is_up (w.nodes q).state) ≡ true = not_false (is_up (w.nodes p).state && is_up (w.nodes q).state) u in
       halted_holds (w.nodes p).halted w (unless_halted (w.nodes q).halted w o) s
       (λ none. halted_holds (w.nodes q).halted w o s
-      (λ _. k (up_is (w.nodes p).state (and_left (is_up (w.nodes p).state) (is_up (w.nodes q).state) both))
-      (up_is (w.nodes q).state (and_right (is_up (w.nodes p).state) (is_up (w.nodes q).state) both)) none)))
+      (λ runs. k (up_is (w.nodes p).state (and_left (is_up (w.nodes p).state) (is_up (w.nodes q).state) both))
+      (up_is (w.nodes q).state (and_right (is_up (w.nodes p).state) (is_up (w.nodes q).state) both)) none runs)))
 
   pub on_link_holds : (test : Role → Bool) (w : World) (p q : ℕ) (o : Outcome) → P w
       → ((w.nodes p).state ≡ Up → test (w.nodes p).role ≡ true → is_linked (w.links p q) ≡ true → Holds o) → Holds (on_link_if test w p q o)

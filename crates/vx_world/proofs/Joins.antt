@@ -1,6 +1,6 @@
 -- Sites that are made, and the events of a link, keep what holds of the world.
 use Rattle.std.proofs.Common.{◌≡◌, ℕ, ◌+◌, ◌≤◌, ◌<◌, List, length, refl, ap, sym, ◌∙◌, subst, arith, Bool, true, false, inl}
-use Rattle.std.specs.Prelude.{if◌then◌else◌, eqb, leb, not, ◌&&◌, ◌||◌, zero, suc, bytes_eq, ltb}
+use Rattle.std.specs.Prelude.{None, if◌then◌else◌, eqb, leb, not, ◌&&◌, ◌||◌, zero, suc, bytes_eq, ltb}
 use Rattle.std.proofs.lemmas.Bool.{eq-eqb}
 use Rattle.std.proofs.lemmas.Bool.Decides.{nat_tests}
 use Rattle.vx_history.specs.World.{World, Node, History, line_updated, with_node, bare_site}
@@ -12,6 +12,9 @@ use Rattle.vx_history.specs.Good.{IsMade}
 use Rattle.vx_model.specs.declared.history.Line.{Line}
 use Rattle.vx_model.specs.declared.site.Mark.{Mark}
 use Rattle.vx_model.specs.declared.site.Mark.TheVariants.{Consistent, Inconsistent}
+use Rattle.vx_model.specs.declared.site.Role.{Role}
+use Rattle.vx_model.specs.declared.site.Role.TheVariants.{Primary, Secondary, Handing, Bunker}
+use Rattle.vx_model.specs.declared.site.SPhase.TheVariants.{Quiet, Log as ByLog}
 use Rattle.vx_model.specs.declared.site.SiteState.TheVariants.{Bare, Up}
 use Rattle.vx_model.specs.declared.link.SyncMode.{SyncMode}
 use Rattle.vx_model.specs.declared.no.No.TheVariants.{Exists, Size, Role as WrongRole, Limit}
@@ -21,17 +24,18 @@ use Rattle.vx_history.proofs.GoodLemmas.{good_site, good_raw, good_stays, made_i
 use Rattle.vx_history.specs.declared.event.LinkPart.{LinkPart}
 use Rattle.vx_history.specs.declared.event.LinkPart.TheVariants.{Joins, Made, Marked, Opened}
 use Rattle.vx_history.specs.Sends.{is_linked, with_link}
-use Rattle.vx_history.specs.Refusals.{Outcome, unless, some_below, is_primary, is_consistent, is_stale, is_empty, is_fresh, may_link, may_join, may_be_site, agree, rings_fit, links_of, follows}
+use Rattle.vx_history.specs.Refusals.{Outcome, unless, some_below, is_primary, is_bunker, is_consistent, is_stale, is_empty, is_fresh, may_link, may_join, may_be_site, agree, rings_fit, links_of, follows}
 use Rattle.vx_history.specs.Events.{joined, new_link, opened}
 use Rattle.vx_history.specs.Gatherings.{emptied}
 use Rattle.vx_history.specs.Step.{done, link_part}
 use Rattle.vx_model.specs.declared.limits.TheConstants.{MOST_DISKS, MOST_LINKS, MOST_SITES}
 use Rattle.vx_history.specs.Sound.{Sound}
 use Rattle.vx_world.proofs.Lists.{not_true, not_false, not_both, or_left, or_right}
-use Rattle.vx_world.proofs.Moves.{sound_gathering, sound_with_node, sound_with_link, sound_joining, sound_founding, good_later, given}
+use Rattle.vx_world.proofs.Moves.{sound_gathering, sound_with_node, sound_with_link, sound_joining, sound_founding, good_later, given, stays_fed}
 use Rattle.vx_world.proofs.Tests.{Keeps, unless_keeps}
 use Rattle.vx_world.proofs.Guards.{primary_origin}
 use Rattle.vx_world.proofs.Changes.{up_whole}
+use Rattle.vx_world.proofs.Carry.{origin_sends}
 use Rattle.vx_world.proofs.Nodes
 
 -- ## Sites
@@ -44,6 +48,8 @@ site_keeps w name disks blocks s =
     (good_site w name disks blocks s.good)
     (λ _. omega arith)
     refl
+    refl
+    (λ up. absurd (let e : Bare ≡ Up = up in cc))
 
 pub may_be_site_keeps : (w : World) (name : List ℕ) (disks blocks : ℕ) → Sound w
     → Keeps (may_be_site w name disks blocks (done (site_made w name disks blocks)))
@@ -67,6 +73,8 @@ raw_keeps w q s there bare =
     (good_raw w q s.good there bare)
     (up_whole n refl)
     refl
+    (s.takes q)
+    (λ _ _ _ _. refl)
 
 -- ## The events of a link
 
@@ -91,26 +99,36 @@ none_below (suc k) test none i below =
     same true = refl
     same false = refl
 
+primary_plain : (r : Role) → is_primary r ≡ true → is_bunker r ≡ false
+primary_plain Primary e = refl
+primary_plain Secondary e = refl
+primary_plain (Handing to) e = refl
+primary_plain Bunker e = absurd (cc)
+
 -- a site without links below its world's number has none
 no_links : (w : World) (q : ℕ) → Sound w → some_below w.sites (λ k. is_linked (w.links q k)) ≡ false → (k : ℕ) → is_linked (w.links q k) ≡ true → ⊥
 no_links w q s none k is =
     not_both (is_linked (w.links q k)) is (none_below w.sites (λ k. is_linked (w.links q k)) none k (made_is_given w k s.good ((s.links q k).ends is).1))
 
 pub join_keeps : (w : World) (p q : ℕ) → Sound w → (w.nodes p).state ≡ Up → (w.nodes q).state ≡ Up → is_origin (w.nodes p).role ≡ true → eqb q p ≡ false
-    → is_linked (w.links p q) ≡ false → ((k : ℕ) → is_linked (w.links q k) ≡ true → ⊥) → Sound (with_node w q (joined (w.nodes p) p (w.nodes q)))
-join_keeps w p q s up_p up_q o other unlinked alone =
+    → is_linked (w.links p q) ≡ false → ((k : ℕ) → is_linked (w.links q k) ≡ true → ⊥)
+    → is_bunker (w.nodes q).role ≡ false → Sound (with_node w q (joined (w.nodes p) p (w.nodes q)))
+join_keeps w p q s up_p up_q o other unlinked alone plain =
     let a : Node = w.nodes p in
     let n : Node = joined a p (w.nodes q) in
     let made_p : IsMade a = up_is_made a up_p in
     let made_q : IsMade (w.nodes q) = up_is_made (w.nodes q) up_q in
     let own : a.line.origin ≡ p = (s.good.nodes p).own_line made_p o in
     sound_joining w q n s
-    (ap (λ (j : ℕ). (w.nodes j).line) own, ap (λ (j : ℕ). is_linked (w.links j q)) own ∙ unlinked)
+    (ap (λ (j : ℕ). (w.nodes j).line) own, ap (λ (j : ℕ). is_linked (w.links j q)) own ∙ unlinked, plain)
     (λ e. not_both (eqb q p) (eq-eqb q p (sym e ∙ own)) other)
     made_q made_q (omega arith) alone
+    (λ by. let e : Quiet ≡ ByLog = by in absurd (cc))
     (good_stays w q n s.good (Nodes.good_joined (w.lines a.line) q p a (w.nodes q)) (λ _. inl (s.good.begun p made_p)) (λ is. is) (given w q n s.good made_q))
     (up_whole n up_q)
     (λ _. sym own)
+    refl
+    (λ _ _ by. let e : Quiet ≡ ByLog = by in absurd (cc))
     (omega arith)
 
 may_join_keeps : (w : World) (p q : ℕ) → Sound w → (w.nodes p).state ≡ Up → (w.nodes q).state ≡ Up
@@ -141,31 +159,37 @@ may_join_keeps w p q s up_p up_q =
         (not_true (eqb q p) (and_left (not (eqb q p)) (is_empty a.log && own) apart))
         unlinked
         (no_links w q s (not_true links alone))
+        (primary_plain (w.nodes q).role (and_left (is_primary (w.nodes q).role) (is_empty (w.nodes q).log && not links) fresh))
 
-make_keeps : (w : World) (p q place : ℕ) (sync : SyncMode) → Sound w → (w.nodes p).state ≡ Up → (w.nodes q).state ≡ Up → is_origin (w.nodes p).role ≡ true
+make_keeps : (w : World) (p q place : ℕ) (sync : SyncMode) → Sound w → (w.nodes p).state ≡ Up → (w.nodes q).state ≡ Up
+    → (w.nodes q).halted ≡ None → is_origin (w.nodes p).role ≡ true
     → is_origin (w.nodes q).role ≡ false → Sound (with_link w p q (new_link place sync (w.nodes q)))
-make_keeps w p q place sync s up_p up_q o r =
+make_keeps w p q place sync s up_p up_q runs_q o r =
     sound_with_link w p q (new_link place sync (w.nodes q)) s
     (record {
       ends = λ _. (up_is_made (w.nodes p) up_p, up_is_made (w.nodes q) up_q);
-      starts = λ _. o;
+      starts = λ _. origin_sends (w.nodes p).role o;
       apart = λ _ e. not_both (is_origin (w.nodes q).role) (ap (λ (j : ℕ). is_origin (w.nodes j).role) (sym e) ∙ o) r;
       session = λ _. omega arith;
-      stored = λ _. omega arith;
+      stored = λ _. (omega arith, λ by end. s.marked q up_q runs_q by (omega (arith, end)));
       net = λ _ _. omega arith;
-      log = λ _ m. absurd (cc);
-      takes = λ _ m. absurd (cc);
+      says = λ _ _. tt;
     })
     (λ _. refl)
+    (λ r _. not_both (is_origin (w.nodes p).role) o r)
 
 mark_keeps : (w : World) (q : ℕ) → Sound w → (w.nodes q).state ≡ Up → Sound (with_node w q (record (w.nodes q) { mark = Consistent }))
 mark_keeps w q s up =
     let n : Node = w.nodes q in
     let m : Node = record n { mark = Consistent } in
     sound_with_node w q m s
-    (good_later w q m s.good (up_is_made n up) refl (λ is. is) (Nodes.good_marked (w.lines n.line) q n (s.good.nodes q)))
+    (good_later w q m s.good (up_is_made n up) refl (λ is. is) (Nodes.good_marked (w.lines n.line) q n (s.takes q) (s.good.nodes q)))
     (Nodes.later_marked n)
     (up_whole m up)
+    (s.fed q)
+    (s.takes q)
+    (λ _ _ _ _. refl)
+    (stays_fed w q m (λ _. refl) (λ t. t))
     (s.known q)
 
 consistent_is : (m : Mark) → is_consistent m ≡ true → m ≡ Consistent
@@ -183,12 +207,12 @@ open_keeps w p q s empty taken marked =
       starts = old.starts;
       apart = old.apart;
       session = old.session;
-      stored = λ _. omega (arith, none);
+      stored = λ _. (omega (arith, none), λ _ _. consistent_is (w.nodes q).mark marked);
       net = λ _ _. omega (arith, none);
-      log = λ _ _. consistent_is (w.nodes q).mark marked;
-      takes = λ _ _. taken;
+      says = λ _ _. (consistent_is (w.nodes q).mark marked, taken);
     })
     (λ is. is)
+    (λ _ is. is)
   where
     equal : (a b : ℕ) → eqb a b ≡ true → a ≡ b
     equal a b e = grind (arith, nat_tests)
@@ -197,21 +221,21 @@ follows_is : (w : World) (p q : ℕ) → follows w p q ≡ true → is_origin (w
 follows_is w p q f = not_true (is_origin (w.nodes q).role) (and_left (not (is_origin (w.nodes q).role)) (same_line (w.nodes q).line (w.nodes p).line) f)
 
 pub link_part_keeps : (part : LinkPart) (w : World) (p q : ℕ) (sync : SyncMode) → Sound w → (w.nodes p).state ≡ Up → (w.nodes q).state ≡ Up
-    → Keeps (link_part part w p q sync)
-link_part_keeps Joins w p q sync s up_p up_q = may_join_keeps w p q s up_p up_q
-link_part_keeps Made w p q sync s up_p up_q =
+    → (w.nodes q).halted ≡ None → Keeps (link_part part w p q sync)
+link_part_keeps Joins w p q sync s up_p up_q runs_q = may_join_keeps w p q s up_p up_q
+link_part_keeps Made w p q sync s up_p up_q runs_q =
     let o : Outcome = done (with_link w p q (new_link (links_of w p) sync (w.nodes q))) in
     let test : Bool = is_primary (w.nodes p).role && follows w p q in
     unless_keeps (not test) WrongRole w (unless (is_linked (w.links p q)) (Exists (w.nodes q).name) w o) s
     (λ c. unless_keeps (is_linked (w.links p q)) (Exists (w.nodes q).name) w o s
-    (λ _. make_keeps w p q (links_of w p) sync s up_p up_q
+    (λ _. make_keeps w p q (links_of w p) sync s up_p up_q runs_q
     (primary_origin (w.nodes p).role (and_left (is_primary (w.nodes p).role) (follows w p q) (not_false test c)))
     (follows_is w p q (and_right (is_primary (w.nodes p).role) (follows w p q) (not_false test c)))))
-link_part_keeps Marked w p q sync s up_p up_q =
+link_part_keeps Marked w p q sync s up_p up_q runs_q =
     unless_keeps (not (is_primary (w.nodes p).role && (follows w p q && (is_linked (w.links p q) && is_empty (w.nodes p).log)))) WrongRole w
     (done (with_node w q (record (w.nodes q) { mark = Consistent }))) s
     (λ _. mark_keeps w q s up_q)
-link_part_keeps Opened w p q sync s up_p up_q =
+link_part_keeps Opened w p q sync s up_p up_q runs_q =
     let a : Node = w.nodes p in
     let marked : Bool = is_consistent (w.nodes q).mark in
     let taken : Bool = phase_takes (w.nodes q).phase in

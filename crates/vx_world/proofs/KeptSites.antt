@@ -62,7 +62,7 @@ pub recovery_leaves : (w : World) (q : ℕ) (fails : Option ℕ) → (w.nodes q)
 recovery_leaves w q None down =
     Nodes.back_by (λ (m : Node). Keeps w
     (sending (with_links (with_node w q m) q (λ to. Events.restarted_link m to (w.links q to))) (Events.recovery_greeting q m))) (w.nodes q)
-    (λ mark _ _.
+    (λ mark _ _ _.
     let n : Node = w.nodes q in
     let m : Node = Nodes.risen n mark in
     let v : World = with_node w q m in

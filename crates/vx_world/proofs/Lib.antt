@@ -49,4 +49,7 @@ pub mod Halving
 pub mod Alone
 pub mod Crashed
 pub mod Passed
+pub mod Halted
+pub mod Still
+pub mod Several
 pub mod Lining

@@ -2,15 +2,17 @@
 use Rattle.std.proofs.Common.{◌≡◌, ◌∙◌, ◌⊎◌, inl, inr, ℕ, ◌≤◌, List, length, ap, sym, subst, refl, arith, Bool, true, false}
 use Rattle.std.specs.Prelude.{Option}
 use Rattle.std.specs.List.{AllByRecursion}
-use Rattle.vx_model.specs.Content.{IsPrefixOf}
+use Rattle.vx_model.specs.Content.{Write, IsPrefixOf}
 use Rattle.vx_history.specs.Good.{GoodNode, Good, IsMade}
 use Rattle.vx_history.specs.Sends.{is_linked}
 use Rattle.vx_history.specs.World.{Node, Link, History, Gathering, Packet, Promise, World, Fuse}
 use Rattle.vx_model.specs.declared.history.Line.{Line}
+use Rattle.vx_model.specs.declared.site.Mark.TheVariants.{Consistent}
 use Rattle.vx_model.specs.declared.site.SiteState.TheVariants.{Bare}
-use Rattle.vx_history.specs.Sound.{Sound, IsWhole, IsFed, GoodLink, GoodPacket, GoodPromise, IsStranger, KnownNode}
+use Rattle.vx_history.specs.Receiving.{phase_takes}
+use Rattle.vx_history.specs.Sound.{Sound, IsWhole, IsFed, TakesUpdates, IsMarked, GoodLink, GoodPacket, GoodPromise, IsStranger, KnownNode}
 use Rattle.vx_world.proofs.Lists.{prefix_refl}
-use Rattle.vx_world.proofs.Carry.{IsLater, link_later, packets_later, promises_later}
+use Rattle.vx_world.proofs.Carry.{IsLater, mode_later, link_later, packets_later, promises_later}
 use Rattle.vx_world.proofs.Moves.{unlinked_good}
 use Rattle.vx_history.specs.Likes.{IsLike}
 use Rattle.vx_history.specs.Fits.{Fits, Fitting, IsSized, IsAlike}
@@ -26,14 +28,13 @@ later_note : (a : Node) (f : Fuse) (g : ℕ → Bool) → IsLater a (with_notes 
 later_note a f g = record {
   line = refl;
   origin = refl;
+  bunker = refl;
   session = omega arith;
   safe = omega arith;
+  stored = λ k h. h;
   present = λ up _.
       (up, omega arith);
-  mark = λ m. m;
   made = λ m. m;
-  phase = refl;
-  other = refl;
 }
 
 good_note : (h : History) (i : ℕ) (a : Node) (f : Fuse) (failing : ℕ → Bool) → GoodNode h i a → GoodNode h i (with_notes a f failing)
@@ -44,6 +45,7 @@ good_note h i a f failing g = record {
   origin_log = g.origin_log;
   origin_whole = g.origin_whole;
   origin_mark = g.origin_mark;
+  plain = g.plain;
   content = g.content;
 }
 
@@ -62,7 +64,7 @@ module _ (w v : World) (s : Sound w) (like : IsLike w v) where
   made_back i = at (λ b. IsMade b → IsMade (w.nodes i)) i (λ is. is)
 
   before : (l : Line) (i : ℕ) → IsStranger v.nodes v.links l i → IsStranger w.nodes w.links l i
-  before l i (on, none) = (sym (later l.origin).line ∙ on, sym (like.links l.origin i).linked ∙ none)
+  before l i (on, none, plain) = (sym (later l.origin).line ∙ on, sym (like.links l.origin i).linked ∙ none, sym (later i).bunker ∙ plain)
 
   node_good : (i : ℕ) → GoodNode (v.lines (v.nodes i).line) i (v.nodes i)
   node_good i =
@@ -78,12 +80,22 @@ module _ (w v : World) (s : Sound w) (like : IsLike w v) where
     told = λ l. subst (λ (h : History). h.told ≤ length h.held) (sym (like.lines l)) (s.good.told l);
   }
 
-  link_good : (p q : ℕ) → GoodLink p q (v.nodes p) (v.nodes q) (v.links p q)
+  still_marked : (q : ℕ) → (w.nodes q).mark ≡ Consistent → (v.nodes q).mark ≡ Consistent
+  still_marked q = at (λ b. (w.nodes q).mark ≡ Consistent → b.mark ≡ Consistent) q (λ m. m)
+
+  still_takes : (q : ℕ) → phase_takes (w.nodes q).phase ≡ true → phase_takes (v.nodes q).phase ≡ true
+  still_takes q = at (λ b. phase_takes (w.nodes q).phase ≡ true → phase_takes b.phase ≡ true) q (λ t. t)
+
+  abbrev held_by : (x : World) (p : ℕ) → List Write
+  held_by x p = (x.lines (x.nodes p).line).held
+
+  link_good : (p q : ℕ) → GoodLink (held_by v p) p q (v.nodes p) (v.nodes q) (v.links p q)
   link_good p q = elim (true_or_false (is_linked (w.links p q))) [
     | inl is ↦
-        subst (λ (l : Link). GoodLink p q (v.nodes p) (v.nodes q) l) (sym ((like.links p q).same is))
-        (link_later p q (w.nodes p) (w.nodes q) (v.nodes p) (v.nodes q) (w.links p q) (later p) (later q) (s.links p q))
-    | inr none ↦ unlinked_good p q (v.nodes p) (v.nodes q) (v.links p q) (λ is. let e : true ≡ false = sym is ∙ (like.links p q).linked ∙ none in absurd (cc))
+        subst (λ (l : Link). GoodLink (held_by v p) p q (v.nodes p) (v.nodes q) l) (sym ((like.links p q).same is))
+        (link_later (held_by w p) (held_by v p) p q (w.nodes p) (w.nodes q) (v.nodes p) (v.nodes q) (w.links p q) (later p) (later q)
+        (λ _ _. mode_later (held_by w p) (held_by v p) (w.nodes q) (v.nodes q) (w.links p q).mode (still_marked q) (still_takes q)) (s.links p q))
+    | inr none ↦ unlinked_good (held_by v p) p q (v.nodes p) (v.nodes q) (v.links p q) (λ is. let e : true ≡ false = sym is ∙ (like.links p q).linked ∙ none in absurd (cc))
   ]
 
   held_grow : (l : Line) → IsPrefixOf (w.lines l).held (v.lines l).held
@@ -94,7 +106,11 @@ module _ (w v : World) (s : Sound w) (like : IsLike w v) where
     good = sites_like;
     whole = λ i. at (λ b. IsWhole b) i (s.whole i);
     fed = λ i. at (λ b. IsFed b) i (s.fed i);
+    takes = λ i. at (λ b. TakesUpdates b) i (s.takes i);
+    marked = λ i. at (λ b. IsMarked b) i (s.marked i);
     links = link_good;
+    bunkers = λ p q is r g. s.bunkers p q (sym (like.links p q).linked ∙ is) (sym (later p).origin ∙ r)
+        (subst (λ (l : Line). IsStranger w.nodes w.links l q) (later p).line (before (v.nodes p).line q g));
     packets = subst (λ (ps : List Packet). AllByRecursion (GoodPacket v.nodes v.links v.lines) ps) (sym like.packets)
         (packets_later w.nodes v.nodes w.links v.links later before w.lines v.lines held_grow w.packets s.packets);
     promised = subst (λ (es : List Promise). AllByRecursion (GoodPromise v.nodes v.links) es) (sym like.promised)

@@ -1,223 +1,548 @@
--- A line that begins where no site is in doubt leaves a good world, and a good one with what its halted site may be.
-use Rattle.std.proofs.Common.{◌≡◌, ◌∙◌, ℕ, ◌<◌, List, [], ◌∷◌, ◌++◌, ap, sym, subst, refl, Bool, true, false}
-use Rattle.std.specs.Prelude.{Option, Some, None, not, ◌||◌, leb, length, if◌then◌else◌}
-use Rattle.vx_model.specs.Content.{Write as LogWrite, blocks_in}
-use Rattle.vx_model.specs.Answer.{is_too_large, is_wrong_count, is_past}
-use Rattle.vx_model.specs.Sites.{is_up, is_bare}
-use Rattle.vx_model.specs.declared.limits.TheConstants.{MOST_NUMBER}
+-- A line leaves a good world, whatever sites are in doubt before and behind it, and whichever of them are as they may be on their disks.
+use Rattle.std.proofs.Common.{◌≡◌, ◌∙◌, inl, inr, ℕ, ◌<◌, List, [], ◌∷◌, ap, sym, subst, refl, Bool, true, false}
+use Rattle.std.specs.Prelude.{Option, Some, None, eqb, leb, not, if◌then◌else◌}
+use Rattle.std.proofs.lemmas.Bool.{cases_eq}
+use Rattle.vx_model.specs.Sites.{is_up}
+use Rattle.vx_model.specs.declared.no.No.TheVariants.{Unknown, Down as NotUp}
+use Rattle.vx_model.specs.declared.no.Named.TheVariants.{Number as ByNumber}
+use Rattle.vx_model.specs.declared.site.SiteState.{SiteState}
 use Rattle.vx_model.specs.declared.site.SiteState.TheVariants.{Up}
-use Rattle.vx_history.proofs.Updates.{all_updated, at_place}
-use Rattle.vx_history.specs.Admission.{Admitted, Held_by, Goes}
-use Rattle.vx_history.specs.World.{Node, Link as LinkState, World}
-use Rattle.vx_history.specs.Doubts.{After, Doubted, resolved, resolved_for, taken_up, crashed_by, crashed_as, happened, halved, Runs}
-use Rattle.vx_history.specs.Events.{admitted, written_if, links_changed, link_after}
-use Rattle.vx_history.specs.Likes.{IsLike, SameLink}
-use Rattle.vx_history.specs.Refusals.{is_primary, is_running}
-use Rattle.vx_history.specs.Step.{outcome_of, step}
-use Rattle.vx_history.specs.Steps.{stopped_by, half_written, burned}
-use Rattle.vx_history.specs.Stops.{Stops, AllDone, Halts, Cuts, Reads, IsLikeDoubted, WritesAt, IsPartAt}
+use Rattle.vx_history.proofs.Updates.{all_updated, at_place, eqb_equal}
+use Rattle.vx_history.specs.Doubts.{After, Doubted, resolved, resolved_at, resolved_for, taken_up, crashed_by, crashed_as, happened, halved, Runs}
+use Rattle.vx_history.specs.Events.{kept_of, crash_at, recover_from}
 use Rattle.vx_history.specs.GoodWorld.{GoodWorld}
+use Rattle.vx_history.specs.Likes.{IsLike, SameLink}
+use Rattle.vx_history.specs.Refusals.{Outcome, unless, is_running}
+use Rattle.vx_history.specs.Step.{outcome_of, step}
+use Rattle.vx_history.specs.Steps.{stopped_by}
+use Rattle.vx_history.specs.Stops.{Stops, AllDone, Halts, Cuts, Reads, IsLikeDoubted, IsOpen, WritesAt}
+use Rattle.vx_history.specs.World.{World, Node, Link as LinkState, updated}
 use Rattle.vx_history.specs.declared.event.Event.{Event}
 use Rattle.vx_history.specs.declared.event.Event.TheVariants.{Site, Raw, Write, Read, Apply, Pump, Tick, Deliver, Connect, Cut, Pause, Resume, Wait, Link, Set, Crash, Recover, Fault}
-use Rattle.vx_history.specs.declared.event.LinkPart.{LinkPart}
-use Rattle.vx_history.specs.declared.event.LinkPart.TheVariants.{Joins, Made, Marked, Opened}
-use Rattle.vx_world.specs.Lines.{NoDoubts, GoodDoubted}
-use Rattle.vx_world.specs.Twins.{GoodTwin, IsAlone}
-use Rattle.vx_world.proofs.Alone.{same, tested, runs, one_node, counted_alone, set_alone, heard_by, joins_alone, made_alone, marked_alone, opened_alone}
-use Rattle.vx_world.proofs.Crashed.{crashed_good}
-use Rattle.vx_world.proofs.Halving.{aside, half, half_good}
-use Rattle.vx_world.proofs.Likely.{noted, pair_updated, link_self}
+use Rattle.vx_world.specs.Lines.{NoDoubts, IsDoubt, GoodDoubted, node_as, row_as, resolved_as}
+use Rattle.vx_world.specs.Twins.{Twin, GoodTwin, IsElsewhere}
+use Rattle.vx_world.proofs.Crashed.{not_past, crash_is}
+use Rattle.vx_world.proofs.Halted.{halved_good, after_of, like_counted}
+use Rattle.vx_world.proofs.Halving.{aside, half}
+use Rattle.vx_world.proofs.Likely.{noted, link_self}
 use Rattle.vx_world.proofs.Liking.{good_like}
-use Rattle.vx_world.proofs.Whole.{step_good}
+use Rattle.vx_world.proofs.Several.{exact_note, like_exact, like_sym, like_trans, like_as, choice_like, none_like, node_none, row_none, twin_of, doubt_stays, step_as, step_as_good}
 
--- ## Events that are done
+-- ## A world in doubt
 
-resolved_good : (o : Option ℕ) (d : Doubted) (taken : Bool) → GoodWorld d.world → NoDoubts d
-    → GoodWorld (resolved_for o d taken).world × NoDoubts (resolved_for o d taken)
-resolved_good None d taken g none = (g, none)
-resolved_good (Some s) d taken g none = (
-  by_taken taken,
-  all_updated (λ _ (o : Option After). o ≡ None) d.after s None refl (λ k _. none k),
-)
-  where
-    by_taken : (b : Bool) → GoodWorld (if b then taken_up d.world s (d.after s) else d.world)
-    by_taken true = subst (λ (o : Option After). GoodWorld (taken_up d.world s o)) (sym (none s)) g
-    by_taken false = g
+-- none of the sites is as it may be
+pub world_good : (d : Doubted) → GoodDoubted d → GoodWorld d.world
+world_good d g =
+    good_like (resolved_as d.world d.after (λ _. false)) d.world (g.good (λ _. false))
+    (like_sym d.world (resolved_as d.world d.after (λ _. false)) (none_like d.world d.after (λ _. false) (λ _. refl)))
 
-runs_good : (es : List Event) (d new : Doubted) → GoodWorld d.world → NoDoubts d → Runs d es new → GoodWorld new.world × NoDoubts new
-runs_good [] d new g none is = (subst (λ (x : Doubted). GoodWorld x.world) (sym is) g, subst (λ (x : Doubted). NoDoubts x) (sym is) none)
-runs_good (e ∷ es) d new g none (taken, rest) =
-    let r = resolved_good (crashed_by e) d taken g none in
-    runs_good es (happened d e taken) new (step_good (resolved_for (crashed_by e) d taken).world e r.0) r.1 rest
-
--- ## Events that a disk or a fuse ends
-
--- a write that a disk ended
-module _ (w : World) (p : ℕ) (up : (w.nodes p).state ≡ Up) where
-  half_alone : (x : LogWrite) (disk : ℕ) → IsAlone p w (half_written (links_changed w p x) p x disk)
-  half_alone x disk =
-      let n : Node = record (w.nodes p) { log = (w.nodes p).log ++ x ∷ []; halted = Some disk; fuse = burned (w.nodes p).fuse } in record {
-        sites = refl;
-        nodes = λ i apart. aside w.nodes p n i apart;
-        rows = λ i apart. aside w.links p (λ k. link_after (w.nodes p) x k (w.links p k)) i apart;
-        lines = refl;
-        packets = refl;
-        promised = refl;
-        gathering = λ _ _. refl;
-        name = ap (λ (m : Node). m.name) (at_place w.nodes p n);
-        up = ap (λ (m : Node). m.state) (at_place w.nodes p n) ∙ up;
-      }
-
-  written_alone : (a : Admitted) (x : LogWrite) (disk : ℕ) → IsAlone p w (written_if a w p x (Some disk)).world
-  written_alone (Held_by why) x disk = same w p up
-  written_alone (Goes changes) x disk = tested w p up (leb MOST_NUMBER (w.nodes p).safe) _ _ (half_alone x disk)
-
-  write_alone : (volume start : ℕ) (bytes : List ℕ) (disk : ℕ) → IsAlone p w (outcome_of w (Write p volume start bytes (Some disk))).world
-  write_alone volume start bytes disk =
-      let x : LogWrite = record { volume = volume; start = start; bytes = bytes } in
-      tested w p up (leb w.sites p) _ _
-      (tested w p up (is_bare (w.nodes p).state) _ _ (tested w p up (not (is_up (w.nodes p).state)) _ _ (runs w p up (w.nodes p).halted _
-      (tested w p up (not (is_primary (w.nodes p).role)) _ _ (tested w p up (leb (length (w.nodes p).volumes) volume) _ _
-      (tested w p up (is_wrong_count (blocks_in bytes) || is_too_large (w.nodes p).ring (blocks_in bytes)) _ _
-      (tested w p up (is_past (w.nodes p).base volume start (blocks_in bytes)) _ _ (written_alone (admitted w p x) x disk))))))))
-
-  fault_alone : (disk : ℕ) → IsAlone p w (outcome_of w (Fault p disk)).world
-  fault_alone disk =
-      tested w p up (leb w.sites p) _ _ (tested w p up (not (is_up (w.nodes p).state)) _ _
-      (one_node w p up (record (w.nodes p) { halted = Some disk; fuse = burned (w.nodes p).fuse }) refl up))
-
-part_alone : (w : World) (site p q : ℕ) (part : LinkPart) → (w.nodes site).state ≡ Up → IsPartAt part p q site → (sync : _)
-    → IsAlone site w (outcome_of w (Link p q sync part)).world
-part_alone w site p q Joins up e = λ sync. subst (λ (i : ℕ). IsAlone site w (outcome_of w (Link p i sync Joins)).world) (sym e) (joins_alone w site up p sync)
-part_alone w site p q Made up e = λ sync. subst (λ (i : ℕ). IsAlone site w (outcome_of w (Link i q sync Made)).world) (sym e) (made_alone w site up q sync)
-part_alone w site p q Marked up e = λ sync. subst (λ (i : ℕ). IsAlone site w (outcome_of w (Link p i sync Marked)).world) (sym e)
-    (marked_alone w site up p sync)
-part_alone w site p q Opened up e = λ sync. subst (λ (i : ℕ). IsAlone site w (outcome_of w (Link i q sync Opened)).world) (sym e)
-    (opened_alone w site up q sync)
-
-writes_alone : (w : World) (e : Event) (site : ℕ) → (w.nodes site).state ≡ Up → WritesAt w e site → IsAlone site w (outcome_of w e).world
-writes_alone w (Site name disks blocks) site up at = absurd at
-writes_alone w (Raw p) site up at = absurd at
-writes_alone w (Write p volume start bytes None) site up at = absurd at
-writes_alone w (Write p volume start bytes (Some disk)) site up at =
-    subst (λ (i : ℕ). IsAlone site w (outcome_of w (Write i volume start bytes (Some disk))).world) (sym at) (write_alone w site up volume start bytes disk)
-writes_alone w (Read p volume start count) site up at = absurd at
-writes_alone w (Apply p count reached) site up at = absurd at
-writes_alone w (Pump p q) site up at = absurd at
-writes_alone w (Tick p q) site up at = absurd at
-writes_alone w (Deliver number) site up at = heard_by w site up number at.0 at.1 at.2 at.3
-writes_alone w (Connect p q) site up at = absurd at
-writes_alone w (Cut p q) site up at = absurd at
-writes_alone w (Pause p q) site up at = absurd at
-writes_alone w (Resume p q) site up at = absurd at
-writes_alone w (Wait p number) site up at = absurd at
-writes_alone w (Link p q sync part) site up at = part_alone w site p q part up at sync
-writes_alone w (Set p q sync) site up at = subst (λ (i : ℕ). IsAlone site w (outcome_of w (Set i q sync)).world) (sym at) (set_alone w site up q sync)
-writes_alone w (Crash p kept) site up at = absurd at
-writes_alone w (Recover p fails) site up at = absurd at
-writes_alone w (Fault p disk) site up at = subst (λ (i : ℕ). IsAlone site w (outcome_of w (Fault i disk)).world) (sym at) (fault_alone w site up disk)
-
--- headers that are counted, and other notes, are no matter
-like_counted : (w : World) (h : ℕ → ℕ) → IsLike w (record w { headers = h })
-like_counted w h = record {
-  sites = refl;
-  nodes = λ i. refl;
-  links = λ p q. record { linked = refl; same = λ _. refl };
-  lines = λ l. refl;
-  packets = refl;
-  promised = refl;
-  gathering = λ i. refl;
+pub quiet_good : (d : Doubted) → GoodWorld d.world → NoDoubts d → GoodDoubted d
+quiet_good d g none = record {
+  doubts = λ s a is. absurd (let e : None ≡ Some a = sym (none s) ∙ is in cc);
+  good = λ c. good_like d.world (resolved_as d.world d.after c) g
+      (like_exact d.world (resolved_as d.world d.after c) refl
+      (λ i. ap (λ (o : Option After). node_as (c i) o (d.world.nodes i)) (none i) ∙ node_none (c i) (d.world.nodes i))
+      (λ i. ap (λ (o : Option After). row_as (c i) o (d.world.links i)) (none i) ∙ row_none (c i) (d.world.links i)) refl refl refl (λ _. refl));
 }
 
--- worlds that are alike are so with a site as it may be
-like_resolved : (w v : World) (s : ℕ) (a : After) → IsLike w v → IsLike (resolved w s a) (resolved v s a)
-like_resolved w v s a like = record {
-  sites = like.sites;
-  nodes = λ i. pair_updated (λ (m n : Node). n ≡ noted m n) w.nodes v.nodes s a.node a.node i refl (like.nodes i);
-  links = λ p q. pair_updated (λ (r t : ℕ → LinkState). SameLink (r q) (t q)) w.links v.links s a.row a.row p (link_self (a.row q)) (like.links p q);
-  lines = like.lines;
-  packets = like.packets;
-  promised = like.promised;
-  gathering = like.gathering;
-}
-
-twin_like : (s : ℕ) (w v : World) (a : After) → GoodTwin s w (resolved w s a) → IsLike w v → GoodTwin s v (resolved v s a)
-twin_like s w v a t like = record {
-  twin = record {
-    sites = refl;
-    nodes = λ i apart. aside v.nodes s a.node i apart;
-    rows = λ i apart. aside v.links s a.row i apart;
-    lines = refl;
-    packets = refl;
-    promised = refl;
-    gathering = λ i. refl;
-    here = subst (λ (n : ℕ). s < n) (sym like.sites) t.twin.here;
-    name = ap (λ (n : Node). n.name) (at_place v.nodes s a.node) ∙ sym (ap (λ (n : Node). n.name) (at_place w.nodes s a.node)) ∙ t.twin.name ∙ sym
-        (ap (λ (n : Node). n.name) (like.nodes s));
-    up = ap (λ (n : Node). n.state) (like.nodes s) ∙ t.twin.up;
-    up_too = ap (λ (n : Node). n.state) (at_place v.nodes s a.node) ∙ sym (ap (λ (n : Node). n.state) (at_place w.nodes s a.node)) ∙ t.twin.up_too;
-    halted = ap (λ (n : Node). is_running n.halted) (like.nodes s) ∙ t.twin.halted;
-    halted_too = ap (λ (n : Node). is_running n.halted) (at_place v.nodes s a.node) ∙ sym
-        (ap (λ (n : Node). is_running n.halted) (at_place w.nodes s a.node)) ∙ t.twin.halted_too;
-  };
-  good = good_like w v t.good like;
-  good_too = good_like (resolved w s a) (resolved v s a) t.good_too (like_resolved w v s a like);
-}
-
--- what a halted site may be
-abbrev after_of : Doubted → Event → (site disk : ℕ) → After
-after_of d e site disk = record { node = (stopped_by (step d.world e).world site disk).nodes site; row = (step d.world e).world.links site }
-
-halved_good : (d : Doubted) (e : Event) (site disk : ℕ) → GoodWorld d.world → (d.world.nodes site).state ≡ Up → WritesAt d.world e site
-    → GoodTwin site (halved d e site disk).world (resolved (halved d e site disk).world site (after_of d e site disk))
-halved_good d e site disk g up at =
+-- one of them is as it may be
+pub twins_good : (d : Doubted) → GoodDoubted d → (s : ℕ) (a : After) → d.after s ≡ Some a → GoodTwin s d.world (resolved d.world s a)
+twins_good d g s a is =
     let w : World = d.world in
-    let u : World = (step w e).world in
-    let t : GoodTwin site (stopped_by w site disk) (resolved (stopped_by w site disk) site (record { node = half (u.nodes site) disk; row = u.links site })) =
-    half_good site disk w u g (step_good w e g) up (counted_alone w site e (writes_alone w e site up at)) in
-    twin_like site (stopped_by w site disk) (halved d e site disk).world (after_of d e site disk)
-    (subst (λ (n : Node). GoodTwin site (stopped_by w site disk) (resolved (stopped_by w site disk) site (record { node = n; row = u.links site })))
-    (sym (at_place u.nodes site (half (u.nodes site) disk))) t)
-    (like_counted (stopped_by w site disk) u.headers)
+    let c : ℕ → Bool = λ i. eqb i s in
+    record {
+      twin = twin_of w s a (g.doubts s a is);
+      good = world_good d g;
+      good_too = good_like (resolved_as w d.after c) (resolved w s a) (g.good c)
+          (like_exact (resolved_as w d.after c) (resolved w s a) refl (λ i. node_is i (eqb i s) refl) (λ i. row_is i (eqb i s) refl) refl refl refl (λ _. refl));
+    }
+  where
+    node_is : (i : ℕ) (b : Bool) → eqb i s ≡ b → (if b then a.node else d.world.nodes i) ≡ node_as b (d.after i) (d.world.nodes i)
+    node_is i true e = sym (ap (λ (o : Option After). node_as true o (d.world.nodes i)) (ap d.after (eqb_equal i s e) ∙ is))
+    node_is i false e = refl
+
+    row_is : (i : ℕ) (b : Bool) → eqb i s ≡ b → (if b then a.row else d.world.links i) ≡ row_as b (d.after i) (d.world.links i)
+    row_is i true e = sym (ap (λ (o : Option After). row_as true o (d.world.links i)) (ap d.after (eqb_equal i s e) ∙ is))
+    row_is i false e = refl
+
+-- what is said of a site in doubt rests on its own node
+doubt_moved : (w v : World) (s : ℕ) (a : After) → v.sites ≡ w.sites → v.nodes s ≡ w.nodes s → IsDoubt w s a → IsDoubt v s a
+doubt_moved w v s a sites node is = record {
+  here = subst (λ (n : ℕ). s < n) (sym sites) is.here;
+  name = is.name ∙ sym (ap (λ (n : Node). n.name) node);
+  up = ap (λ (n : Node). n.state) node ∙ is.up;
+  up_too = is.up_too;
+  halted = ap (λ (n : Node). is_running n.halted) node ∙ is.halted;
+  halted_too = is.halted_too;
+}
+
+doubt_like : (w v : World) (s : ℕ) (a : After) → IsLike w v → IsDoubt w s a → IsDoubt v s a
+doubt_like w v s a like is = record {
+  here = subst (λ (n : ℕ). s < n) (sym like.sites) is.here;
+  name = is.name ∙ sym (ap (λ (n : Node). n.name) (like.nodes s));
+  up = ap (λ (n : Node). n.state) (like.nodes s) ∙ is.up;
+  up_too = is.up_too;
+  halted = ap (λ (n : Node). is_running n.halted) (like.nodes s) ∙ is.halted;
+  halted_too = is.halted_too;
+}
+
+doubt_of : (w : World) (s : ℕ) (a : After) → Twin s w (resolved w s a) → IsDoubt w s a
+doubt_of w s a t = record {
+  here = t.here;
+  name = ap (λ (n : Node). n.name) (sym (at_place w.nodes s a.node)) ∙ t.name;
+  up = t.up;
+  up_too = ap (λ (n : Node). n.state) (sym (at_place w.nodes s a.node)) ∙ t.up_too;
+  halted = t.halted;
+  halted_too = ap (λ (n : Node). is_running n.halted) (sym (at_place w.nodes s a.node)) ∙ t.halted_too;
+}
+
+-- notes are no matter
+pub like_good : (d new : Doubted) → GoodDoubted d → IsLikeDoubted d new → GoodDoubted new
+like_good d new g like = record {
+  doubts = λ s a is. doubt_like d.world new.world s a like.worlds (g.doubts s a (sym (like.after s) ∙ is));
+  good = λ c. good_like (resolved_as d.world d.after c) (resolved_as new.world new.after c) (g.good c)
+      (like_trans (resolved_as d.world d.after c) (resolved_as new.world d.after c) (resolved_as new.world new.after c)
+      (like_as d.world new.world d.after c like.worlds)
+      (choice_like new.world d.after new.after c c (λ i n. ap (λ (o : Option After). node_as (c i) o n) (like.after i))
+      (λ i r. ap (λ (o : Option After). row_as (c i) o r) (like.after i))));
+}
+
+-- ## A site that is resolved
+
+-- the others are in doubt as they were
+others : (after : ℕ → Option After) (s t : ℕ) (a : After) → updated after s None t ≡ Some a → (t ≡ s → ⊥) × (after t ≡ Some a)
+others after s t a =
+    all_updated (λ k (o : Option After). o ≡ Some a → (k ≡ s → ⊥) × (after k ≡ Some a)) after s None
+    (λ e. absurd (let f : None ≡ Some a = e in cc)) (λ k apart e. (apart, e)) t
+
+left_good : (d : Doubted) (s : ℕ) → GoodDoubted d → GoodDoubted (record { world = d.world; after = updated d.after s None })
+left_good d s g = record {
+  doubts = λ t a is. g.doubts t a (others d.after s t a is).1;
+  good = λ c. good_like (resolved_as d.world d.after (updated c s false)) (resolved_as d.world (updated d.after s None) c) (g.good (updated c s false))
+      (choice_like d.world d.after (updated d.after s None) (updated c s false) c (λ i n. node_is c i n (eqb i s)) (λ i r. row_is c i r (eqb i s)));
+}
+  where
+    node_is : (c : ℕ → Bool) (i : ℕ) (n : Node) (b : Bool)
+        → node_as (c i) (if b then None else d.after i) n ≡ node_as (if b then false else c i) (d.after i) n
+    node_is c i n true = node_none (c i) n
+    node_is c i n false = refl
+
+    row_is : (c : ℕ → Bool) (i : ℕ) (r : ℕ → LinkState) (b : Bool)
+        → row_as (c i) (if b then None else d.after i) r ≡ row_as (if b then false else c i) (d.after i) r
+    row_is c i r true = row_none (c i) r
+    row_is c i r false = refl
+
+taken_good : (d : Doubted) (s : ℕ) (a : After) → d.after s ≡ Some a → GoodDoubted d
+    → GoodDoubted (record { world = resolved d.world s a; after = updated d.after s None })
+taken_good d s a is g = record {
+  doubts = λ t b other. let o = others d.after s t b other in
+      doubt_moved d.world (resolved d.world s a) t b refl (aside d.world.nodes s a.node t o.0) (g.doubts t b o.1);
+  good = λ c. good_like (resolved_as d.world d.after (updated c s true)) (resolved_as (resolved d.world s a) (updated d.after s None) c)
+      (g.good (updated c s true))
+      (like_exact (resolved_as d.world d.after (updated c s true)) (resolved_as (resolved d.world s a) (updated d.after s None) c) refl
+      (λ i. node_is c i (eqb i s) refl) (λ i. row_is c i (eqb i s) refl) refl refl refl (λ _. refl));
+}
+  where
+    node_is : (c : ℕ → Bool) (i : ℕ) (b : Bool) → eqb i s ≡ b
+        → node_as (c i) (if b then None else d.after i) (if b then a.node else d.world.nodes i)
+        ≡ node_as (if b then true else c i) (d.after i) (d.world.nodes i)
+    node_is c i true e =
+        node_none (c i) a.node ∙ sym (ap (λ (o : Option After). node_as true o (d.world.nodes i)) (ap d.after (eqb_equal i s e) ∙ is))
+    node_is c i false e = refl
+
+    row_is : (c : ℕ → Bool) (i : ℕ) (b : Bool) → eqb i s ≡ b
+        → row_as (c i) (if b then None else d.after i) (if b then a.row else d.world.links i)
+        ≡ row_as (if b then true else c i) (d.after i) (d.world.links i)
+    row_is c i true e =
+        row_none (c i) a.row ∙ sym (ap (λ (o : Option After). row_as true o (d.world.links i)) (ap d.after (eqb_equal i s e) ∙ is))
+    row_is c i false e = refl
+
+pub resolve_good : (d : Doubted) (s : ℕ) (taken : Bool) → GoodDoubted d → GoodDoubted (resolved_at d s taken)
+resolve_good d s false g = left_good d s g
+resolve_good d s true g = by_after (d.after s) refl
+  where
+    by_after : (o : Option After) → d.after s ≡ o → GoodDoubted (record { world = taken_up d.world s o; after = updated d.after s None })
+    by_after None is = left_good d s g
+    by_after (Some a) is = taken_good d s a is g
+
+-- ## An event that is done
+
+calm_good : (d : Doubted) (e : Event) → GoodDoubted d → ((s : ℕ) (a : After) → d.after s ≡ Some a → IsElsewhere s e)
+    → GoodDoubted (record { world = (step d.world e).world; after = d.after })
+calm_good d e g calm = record {
+  doubts = λ s a is. doubt_stays d.world s a e (g.doubts s a is) (calm s a is);
+  good = λ c. step_as_good d.world d.after g.doubts e c (λ s a is _. calm s a is) (g.good c);
+}
+
+-- what a test lets through, or refuses
+tested : (P : World → Type 0) (b : Bool) (w : World) (o : Outcome) (why : _) → P w → P o.world → P (unless b why w o).world
+tested P true w o why here there = here
+tested P false w o why here there = there
+
+-- a site that is up does not come up
+up_stays : (w : World) (p : ℕ) (fails : Option ℕ) → (w.nodes p).state ≡ Up → (outcome_of w (Recover p fails)).world ≡ w
+up_stays w p fails up =
+    tested (λ (v : World). v ≡ w) (leb w.sites p) w (recover_from (w.nodes p).state w p fails) (Unknown (ByNumber p)) refl
+    (ap (λ (s : SiteState). (recover_from s w p fails).world) up)
+
+recover_good : (d : Doubted) (p : ℕ) (fails : Option ℕ) (a : After) → d.after p ≡ Some a → GoodDoubted d
+    → GoodDoubted (record { world = (step d.world (Recover p fails)).world; after = d.after })
+recover_good d p fails a is g =
+    let w : World = d.world in
+    let h : ℕ → ℕ = (step w (Recover p fails)).world.headers in
+    let like : IsLike w (step w (Recover p fails)).world =
+    subst (λ (v : World). IsLike w (record v { headers = h })) (sym (up_stays w p fails (g.doubts p a is).up)) (like_counted w h) in
+    like_good d (record { world = (step w (Recover p fails)).world; after = d.after }) g (record { worlds = like; after = λ _. refl })
+
+-- a disk that halts a site again
+again_good : (d : Doubted) (p disk : ℕ) (a : After) → d.after p ≡ Some a → GoodDoubted d
+    → GoodDoubted (record { world = (step d.world (Fault p disk)).world; after = d.after })
+again_good d p disk a is g = record {
+  doubts = λ s b other. doubts s b other;
+  good = λ c. by_choice c (c p) refl;
+}
+  where
+    fault_by : (P : World → Type 0) → P d.world → P (stopped_by d.world p disk) → P (outcome_of d.world (Fault p disk)).world
+    fault_by P here there =
+        tested P (leb d.world.sites p) d.world _ (Unknown (ByNumber p)) here
+        (tested P (not (is_up (d.world.nodes p).state)) d.world _ NotUp here there)
+
+    doubts : (s : ℕ) (b : After) → d.after s ≡ Some b → IsDoubt (step d.world (Fault p disk)).world s b
+    doubts s b other = doubt_like (outcome_of d.world (Fault p disk)).world (step d.world (Fault p disk)).world s b
+        (like_counted (outcome_of d.world (Fault p disk)).world (step d.world (Fault p disk)).world.headers)
+        (fault_by (λ (v : World). IsDoubt v s b) (g.doubts s b other) (elim (cases_eq s p) [
+          | inl same ↦
+              subst (λ (i : ℕ). IsDoubt (stopped_by d.world p disk) i b) (sym same)
+              (halts_again (subst (λ (i : ℕ). IsDoubt d.world i b) same (g.doubts s b other)))
+          | inr apart ↦ doubt_moved d.world (stopped_by d.world p disk) s b refl (aside d.world.nodes p (half (d.world.nodes p) disk) s apart) (g.doubts s b other)
+        ]))
+      where
+        halts_again : IsDoubt d.world p b → IsDoubt (stopped_by d.world p disk) p b
+        halts_again i =
+            let here : (stopped_by d.world p disk).nodes p ≡ half (d.world.nodes p) disk = at_place d.world.nodes p (half (d.world.nodes p) disk) in
+            record {
+              here = i.here;
+              name = i.name ∙ sym (ap (λ (n : Node). n.name) here);
+              up = ap (λ (n : Node). n.state) here ∙ i.up;
+              up_too = i.up_too;
+              halted = ap (λ (n : Node). is_running n.halted) here;
+              halted_too = i.halted_too;
+            }
+
+    by_choice : (c : ℕ → Bool) (b : Bool) → c p ≡ b → GoodWorld (resolved_as (step d.world (Fault p disk)).world d.after c)
+    by_choice c false none =
+        step_as_good d.world d.after g.doubts (Fault p disk) c
+        (λ s b other chosen here. let f : true ≡ false = sym chosen ∙ ap c (sym here) ∙ none in absurd (cc)) (g.good c)
+    by_choice c true chosen =
+        let v : World = (outcome_of d.world (Fault p disk)).world in
+        good_like (resolved_as d.world d.after c) (resolved_as (step d.world (Fault p disk)).world d.after c) (g.good c)
+        (like_trans (resolved_as d.world d.after c) (resolved_as v d.after c) (resolved_as (step d.world (Fault p disk)).world d.after c)
+        (fault_by (λ (x : World). IsLike (resolved_as d.world d.after c) (resolved_as x d.after c))
+        (like_exact (resolved_as d.world d.after c) (resolved_as d.world d.after c) refl (λ _. refl) (λ _. refl) refl refl refl (λ _. refl))
+        (like_exact (resolved_as d.world d.after c) (resolved_as (stopped_by d.world p disk) d.after c) refl
+        (λ i. elim (cases_eq i p) [
+          | inl same ↦
+              subst (λ (j : ℕ). node_as (c j) (d.after j) ((stopped_by d.world p disk).nodes j) ≡ node_as (c j) (d.after j) (d.world.nodes j)) (sym same)
+              (covered ((stopped_by d.world p disk).nodes p) ∙ sym (covered (d.world.nodes p)))
+          | inr apart ↦ ap (λ (n : Node). node_as (c i) (d.after i) n) (aside d.world.nodes p (half (d.world.nodes p) disk) i apart)
+        ])
+        (λ _. refl) refl refl refl (λ _. refl)))
+        (like_as v (step d.world (Fault p disk)).world d.after c (like_counted v (step d.world (Fault p disk)).world.headers)))
+      where
+        covered : (n : Node) → node_as (c p) (d.after p) n ≡ a.node
+        covered n = ap (λ (b : Bool). node_as b (d.after p) n) chosen ∙ ap (λ (o : Option After). node_as true o n) is
+
+pub step_good_as : (d : Doubted) (e : Event) → GoodDoubted d → ((s : ℕ) (a : After) → d.after s ≡ Some a → crashed_by e ≡ Some s → ⊥)
+    → GoodDoubted (record { world = (step d.world e).world; after = d.after })
+step_good_as d (Site name disks blocks) g calm = calm_good d (Site name disks blocks) g (λ _ _ _. tt)
+step_good_as d (Raw p) g calm = calm_good d (Raw p) g (λ _ _ _. tt)
+step_good_as d (Write p volume start bytes fails) g calm = calm_good d (Write p volume start bytes fails) g (λ _ _ _. tt)
+step_good_as d (Read p volume start count) g calm = calm_good d (Read p volume start count) g (λ _ _ _. tt)
+step_good_as d (Apply p count reached) g calm = calm_good d (Apply p count reached) g (λ _ _ _. tt)
+step_good_as d (Pump p q) g calm = calm_good d (Pump p q) g (λ _ _ _. tt)
+step_good_as d (Tick p q) g calm = calm_good d (Tick p q) g (λ _ _ _. tt)
+step_good_as d (Deliver number) g calm = calm_good d (Deliver number) g (λ _ _ _. tt)
+step_good_as d (Connect p q) g calm = calm_good d (Connect p q) g (λ _ _ _. tt)
+step_good_as d (Cut p q) g calm = calm_good d (Cut p q) g (λ _ _ _. tt)
+step_good_as d (Pause p q) g calm = calm_good d (Pause p q) g (λ _ _ _. tt)
+step_good_as d (Resume p q) g calm = calm_good d (Resume p q) g (λ _ _ _. tt)
+step_good_as d (Wait p number) g calm = calm_good d (Wait p number) g (λ _ _ _. tt)
+step_good_as d (Link p q sync part) g calm = calm_good d (Link p q sync part) g (λ _ _ _. tt)
+step_good_as d (Set p q sync) g calm = calm_good d (Set p q sync) g (λ _ _ _. tt)
+step_good_as d (Crash p kept) g calm = calm_good d (Crash p kept) g (λ s a is here. calm s a is (ap (λ (i : ℕ). Some i) here))
+step_good_as d (Recover p fails) g calm = by_doubt (d.after p) refl
+  where
+    by_doubt : (o : Option After) → d.after p ≡ o → GoodDoubted (record { world = (step d.world (Recover p fails)).world; after = d.after })
+    by_doubt (Some a) is = recover_good d p fails a is g
+    by_doubt None none = calm_good d (Recover p fails) g
+        (λ s a is here. let f : None ≡ Some a = sym none ∙ ap d.after here ∙ is in absurd (cc))
+step_good_as d (Fault p disk) g calm = by_doubt (d.after p) refl
+  where
+    by_doubt : (o : Option After) → d.after p ≡ o → GoodDoubted (record { world = (step d.world (Fault p disk)).world; after = d.after })
+    by_doubt (Some a) is = again_good d p disk a is g
+    by_doubt None none = calm_good d (Fault p disk) g
+        (λ s a is here. let f : None ≡ Some a = sym none ∙ ap d.after here ∙ is in absurd (cc))
+
+pub happened_good : (d : Doubted) (e : Event) (taken : Bool) → GoodDoubted d → GoodDoubted (happened d e taken)
+happened_good d e taken g = by_crash (crashed_by e) refl
+  where
+    same_site : (s t : ℕ) → Some s ≡ Some t → s ≡ t
+    same_site s t e = cc
+
+    by_crash : (o : Option ℕ) → crashed_by e ≡ o
+        → (let r = resolved_for o d taken in GoodDoubted (record r { world = (step r.world e).world }))
+    by_crash None none = step_good_as d e g (λ s a is here. let f : None ≡ Some s = sym none ∙ here in absurd (cc))
+    by_crash (Some t) crashes =
+        step_good_as (resolved_at d t taken) e (resolve_good d t taken g)
+        (λ s a is here. (others d.after t s a is).0 (same_site s t (sym here ∙ crashes)))
+
+runs_good : (es : List Event) (d new : Doubted) → GoodDoubted d → Runs d es new → GoodDoubted new
+runs_good [] d new g is = subst GoodDoubted (sym is) g
+runs_good (e ∷ es) d new g (taken, rest) = runs_good es (happened d e taken) new (happened_good d e taken g) rest
+
+-- ## An event that a disk or a fuse ends
+
+-- the same event writes at the site, whichever of the others are as they may be
+writes_as : (w : World) (after : ℕ → Option After) (c : ℕ → Bool) (e : Event) (site : ℕ) → WritesAt w e site → WritesAt (resolved_as w after c) e site
+writes_as w after c (Site name disks blocks) site at = at
+writes_as w after c (Raw p) site at = at
+writes_as w after c (Write p volume start bytes None) site at = at
+writes_as w after c (Write p volume start bytes (Some disk)) site at = at
+writes_as w after c (Read p volume start count) site at = at
+writes_as w after c (Apply p count reached) site at = at
+writes_as w after c (Pump p q) site at = at
+writes_as w after c (Tick p q) site at = at
+writes_as w after c (Deliver number) site at = at
+writes_as w after c (Connect p q) site at = at
+writes_as w after c (Cut p q) site at = at
+writes_as w after c (Pause p q) site at = at
+writes_as w after c (Resume p q) site at = at
+writes_as w after c (Wait p number) site at = at
+writes_as w after c (Link p q sync part) site at = at
+writes_as w after c (Set p q sync) site at = at
+writes_as w after c (Crash p kept) site at = at
+writes_as w after c (Recover p fails) site at = at
+writes_as w after c (Fault p disk) site at = at
+
+-- what crashes no site in doubt and is no recovery or fault of one
+calm_write : (w : World) (e : Event) (site : ℕ) → WritesAt w e site → (s : ℕ) → (s ≡ site → ⊥) → IsElsewhere s e
+calm_write w (Site name disks blocks) site at s apart = tt
+calm_write w (Raw p) site at s apart = tt
+calm_write w (Write p volume start bytes fails) site at s apart = tt
+calm_write w (Read p volume start count) site at s apart = tt
+calm_write w (Apply p count reached) site at s apart = tt
+calm_write w (Pump p q) site at s apart = tt
+calm_write w (Tick p q) site at s apart = tt
+calm_write w (Deliver number) site at s apart = tt
+calm_write w (Connect p q) site at s apart = tt
+calm_write w (Cut p q) site at s apart = tt
+calm_write w (Pause p q) site at s apart = tt
+calm_write w (Resume p q) site at s apart = tt
+calm_write w (Wait p number) site at s apart = tt
+calm_write w (Link p q sync part) site at s apart = tt
+calm_write w (Set p q sync) site at s apart = tt
+calm_write w (Crash p kept) site at s apart = absurd at
+calm_write w (Recover p fails) site at s apart = absurd at
+calm_write w (Fault p disk) site at s apart = λ here. apart (sym here ∙ at)
+
+fault_is : (w : World) (s disk : ℕ) → s < w.sites → (w.nodes s).state ≡ Up → (outcome_of w (Fault s disk)).world ≡ stopped_by w s disk
+fault_is w s disk here up = rw (not_past w.sites s here) (rw up refl)
+
+module _ (d : Doubted) (e : Event) (site disk : ℕ) (g : GoodDoubted d) (opens : IsOpen (d.world.nodes site)) (at : WritesAt d.world e site) where
+  -- a site that runs is in no doubt
+  free : d.after site ≡ None
+  free = by_doubt (d.after site) refl
+    where
+      by_doubt : (o : Option After) → d.after site ≡ o → o ≡ None
+      by_doubt None is = refl
+      by_doubt (Some a) is = let f : true ≡ false = sym (ap is_running opens.1) ∙ (g.doubts site a is).halted in absurd (cc)
+
+  apart_of : (s : ℕ) (a : After) → d.after s ≡ Some a → s ≡ site → ⊥
+  apart_of s a is here = let f : None ≡ Some a = sym free ∙ ap d.after (sym here) ∙ is in absurd (cc)
+
+  abbrev h : Doubted
+  h = halved d e site disk
+
+  abbrev mine : After
+  mine = after_of d e site disk
+
+  twin : GoodTwin site h.world (resolved h.world site mine)
+  twin = halved_good d e site disk (world_good d g) opens.0 at
+
+  halved_doubts : (s : ℕ) (a : After) → h.after s ≡ Some a → IsDoubt h.world s a
+  halved_doubts s a =
+      all_updated (λ k (o : Option After). o ≡ Some a → IsDoubt h.world k a) d.after site (Some mine)
+      (λ is. let same : mine ≡ a = cc in subst (λ (x : After). IsDoubt h.world site x) same (doubt_of h.world site mine twin.twin))
+      (λ k apart is. doubt_moved d.world h.world k a refl (aside d.world.nodes site (half (d.world.nodes site) disk) k apart) (g.doubts k a is)) s
+
+  -- a fault of the disk alone would leave the same of the site as it was
+  fault_like : IsLike (step d.world (Fault site disk)).world h.world
+  fault_like =
+      let v : World = stopped_by d.world site disk in
+      let n : ℕ → ℕ = (step d.world (Fault site disk)).world.headers in
+      like_trans (step d.world (Fault site disk)).world v h.world
+      (like_sym v (step d.world (Fault site disk)).world
+      (subst (λ (x : World). IsLike v (record x { headers = n })) (sym (fault_is d.world site disk twin.twin.here opens.0)) (like_counted v n)))
+      (like_counted v h.world.headers)
+
+  -- the site is as it was
+  left : (c : ℕ → Bool) → c site ≡ false → GoodWorld (resolved_as h.world h.after c)
+  left c none =
+      let v : World = (step d.world (Fault site disk)).world in
+      good_like (resolved_as v d.after c) (resolved_as h.world h.after c)
+      (step_as_good d.world d.after g.doubts (Fault site disk) c (λ s a is _ here. apart_of s a is (sym here)) (g.good c))
+      (like_trans (resolved_as v d.after c) (resolved_as h.world d.after c) (resolved_as h.world h.after c)
+      (like_as v h.world d.after c fault_like)
+      (choice_like h.world d.after h.after c c (λ i n. node_is i n (eqb i site) refl) (λ i r. row_is i r (eqb i site) refl)))
+    where
+      unchosen : (i : ℕ) → eqb i site ≡ true → c i ≡ false
+      unchosen i e = ap c (eqb_equal i site e) ∙ none
+
+      node_is : (i : ℕ) (n : Node) (b : Bool) → eqb i site ≡ b
+          → node_as (c i) (if b then Some (after_of d e site disk) else d.after i) n ≡ node_as (c i) (d.after i) n
+      node_is i n true is = ap (λ (x : Bool). node_as x (Some (after_of d e site disk)) n) (unchosen i is) ∙ sym
+          (ap (λ (x : Bool). node_as x (d.after i) n) (unchosen i is))
+      node_is i n false is = refl
+
+      row_is : (i : ℕ) (r : ℕ → LinkState) (b : Bool) → eqb i site ≡ b
+          → row_as (c i) (if b then Some (after_of d e site disk) else d.after i) r ≡ row_as (c i) (d.after i) r
+      row_is i r true is = ap (λ (x : Bool). row_as x (Some (after_of d e site disk)) r) (unchosen i is) ∙ sym
+          (ap (λ (x : Bool). row_as x (d.after i) r) (unchosen i is))
+      row_is i r false is = refl
+
+  -- the site is as it may be, and so are those others that are chosen
+  module _ (c : ℕ → Bool) (chosen : c site ≡ true) where
+    abbrev one : Doubted
+    one = record { world = resolved_as d.world d.after c; after = λ _. None }
+
+    abbrev theirs : After
+    theirs = after_of one e site disk
+
+    node_here : (w : World) → node_as (c site) (d.after site) (w.nodes site) ≡ w.nodes site
+    node_here w = ap (λ (o : Option After). node_as (c site) o (w.nodes site)) free ∙ node_none (c site) (w.nodes site)
+
+    row_here : (w : World) → row_as (c site) (d.after site) (w.links site) ≡ w.links site
+    row_here w = ap (λ (o : Option After). row_as (c site) o (w.links site)) free ∙ row_none (c site) (w.links site)
+
+    other_twin : GoodTwin site (halved one e site disk).world (resolved (halved one e site disk).world site theirs)
+    other_twin = halved_good one e site disk (g.good c) (ap (λ (n : Node). n.state) (node_here d.world) ∙ opens.0) (writes_as d.world d.after c e site at)
+
+    steps : IsLike (step one.world e).world (resolved_as (step d.world e).world d.after c)
+    steps = step_as d.world d.after g.doubts e c (λ s a is _. calm_write d.world e site at s (apart_of s a is))
+
+    half_noted : (m n : Node) → n ≡ noted m n → half n disk ≡ noted (half m disk) (half n disk)
+    half_noted m n is = ap (λ (x : Node). half x disk) is
+
+    abbrev x : World
+    x = resolved (halved one e site disk).world site theirs
+
+    abbrev y : World
+    y = resolved_as h.world h.after c
+
+    y_node : y.nodes site ≡ half ((step d.world e).world.nodes site) disk
+    y_node =
+        ap (λ (b : Bool). node_as b (h.after site) (h.world.nodes site)) chosen
+        ∙ ap (λ (o : Option After). node_as true o (h.world.nodes site)) (at_place d.after site (Some mine))
+        ∙ at_place (step d.world e).world.nodes site (half ((step d.world e).world.nodes site) disk)
+
+    x_node : x.nodes site ≡ half ((step one.world e).world.nodes site) disk
+    x_node =
+        at_place (halved one e site disk).world.nodes site theirs.node
+        ∙ at_place (step one.world e).world.nodes site (half ((step one.world e).world.nodes site) disk)
+
+    node_like : y.nodes site ≡ noted (x.nodes site) (y.nodes site)
+    node_like =
+        let m : Node = (step one.world e).world.nodes site in
+        let n : Node = (step d.world e).world.nodes site in
+        let is : n ≡ noted m n = subst (λ (k : Node). k ≡ noted m k) (node_here (step d.world e).world) (steps.nodes site) in
+        subst (λ (k : Node). k ≡ noted (x.nodes site) k) (sym y_node)
+        (subst (λ (k : Node). half n disk ≡ noted k (half n disk)) (sym x_node) (half_noted m n is))
+
+    y_row : y.links site ≡ (step d.world e).world.links site
+    y_row =
+        ap (λ (b : Bool). row_as b (h.after site) (h.world.links site)) chosen
+        ∙ ap (λ (o : Option After). row_as true o (h.world.links site)) (at_place d.after site (Some mine))
+
+    x_row : x.links site ≡ (step one.world e).world.links site
+    x_row = at_place (halved one e site disk).world.links site theirs.row
+
+    row_like : (q : ℕ) → SameLink (x.links site q) (y.links site q)
+    row_like q =
+        subst (λ (r : ℕ → LinkState). SameLink (x.links site q) (r q)) (sym y_row)
+        (subst (λ (r : ℕ → LinkState). SameLink (r q) ((step d.world e).world.links site q)) (sym x_row)
+        (subst (λ (r : ℕ → LinkState). SameLink ((step one.world e).world.links site q) (r q)) (row_here (step d.world e).world) (steps.links site q)))
+
+    node_apart : (i : ℕ) → (i ≡ site → ⊥) → y.nodes i ≡ x.nodes i
+    node_apart i apart =
+        ap (λ (o : Option After). node_as (c i) o (h.world.nodes i)) (aside d.after site (Some mine) i apart)
+        ∙ ap (λ (n : Node). node_as (c i) (d.after i) n) (aside d.world.nodes site (half (d.world.nodes site) disk) i apart)
+        ∙ sym (aside one.world.nodes site (half (one.world.nodes site) disk) i apart)
+        ∙ sym (aside (halved one e site disk).world.nodes site theirs.node i apart)
+
+    row_apart : (i : ℕ) → (i ≡ site → ⊥) → y.links i ≡ x.links i
+    row_apart i apart =
+        ap (λ (o : Option After). row_as (c i) o (h.world.links i)) (aside d.after site (Some mine) i apart)
+        ∙ sym (aside (halved one e site disk).world.links site theirs.row i apart)
+
+    right : GoodWorld (resolved_as h.world h.after c)
+    right = good_like x y other_twin.good_too (record {
+      sites = refl;
+      nodes = λ i. elim (cases_eq i site) [
+        | inl same ↦ subst (λ (j : ℕ). y.nodes j ≡ noted (x.nodes j) (y.nodes j)) (sym same) node_like
+        | inr apart ↦ exact_note (x.nodes i) (y.nodes i) (node_apart i apart)
+      ];
+      links = λ i q. elim (cases_eq i site) [
+        | inl same ↦ subst (λ (j : ℕ). SameLink (x.links j q) (y.links j q)) (sym same) (row_like q)
+        | inr apart ↦ subst (λ (r : ℕ → LinkState). SameLink (x.links i q) (r q)) (sym (row_apart i apart)) (link_self (x.links i q))
+      ];
+      lines = λ _. refl;
+      packets = refl;
+      promised = refl;
+      gathering = λ _. refl;
+    })
+
+  pub halved_all : GoodDoubted h
+  halved_all = record { doubts = halved_doubts; good = λ c. by_choice c (c site) refl }
+    where
+      by_choice : (c : ℕ → Bool) (b : Bool) → c site ≡ b → GoodWorld (resolved_as (halved d e site disk).world (halved d e site disk).after c)
+      by_choice c true chosen = right c chosen
+      by_choice c false none = left c none
+
+-- a crash of a site in doubt
+pub crashed_all : (d : Doubted) (s kept : ℕ) (taken : Bool) (a : After) → d.after s ≡ Some a → GoodDoubted d → GoodDoubted (crashed_as d s kept taken)
+crashed_all d s kept taken a is g =
+    let r : Doubted = resolved_at d s taken in
+    let v : World = crash_at r.world s (kept_of (r.world.nodes s) kept) in
+    let u : World = (step r.world (Crash s kept)).world in
+    let stands = standing taken in
+    like_good (record { world = u; after = r.after }) (crashed_as d s kept taken)
+    (step_good_as r (Crash s kept) (resolve_good d s taken g) (λ t b other crash. (others d.after s t b other).0 (same_site t s (sym crash))))
+    (record {
+      worlds = like_sym v u (subst (λ (x : World). IsLike v (record x { headers = u.headers })) (sym (crash_is r.world s kept stands.0 stands.1))
+          (like_counted v u.headers));
+      after = λ _. refl;
+    })
+  where
+    same_site : (s t : ℕ) → Some s ≡ Some t → s ≡ t
+    same_site s t e = cc
+
+    standing : (b : Bool) → (s < (resolved_at d s b).world.sites) × (((resolved_at d s b).world.nodes s).state ≡ Up)
+    standing false = ((g.doubts s a is).here, (g.doubts s a is).up)
+    standing true =
+        subst (λ (o : Option After). (s < (taken_up d.world s o).sites) × (((taken_up d.world s o).nodes s).state ≡ Up)) (sym is)
+        ((g.doubts s a is).here, ap (λ (n : Node). n.state) (at_place d.world.nodes s a.node) ∙ (g.doubts s a is).up_too)
 
 -- ## Lines
 
-like_good : (d new : Doubted) → GoodDoubted d → IsLikeDoubted d new → GoodDoubted new
-like_good d new g like = record {
-  good = good_like d.world new.world g.good like.worlds;
-  twins = λ s a is. twin_like s d.world new.world a (g.twins s a (sym (like.after s) ∙ is)) like.worlds;
-}
-
-quiet_good : (d : Doubted) → GoodWorld d.world → NoDoubts d → GoodDoubted d
-quiet_good d g none = record { good = g; twins = λ s a is. absurd (let e : None ≡ Some a = sym (none s) ∙ is in cc) }
-
-one_doubt : (d : Doubted) (e : Event) (site disk : ℕ) → NoDoubts d
-    → GoodTwin site (halved d e site disk).world (resolved (halved d e site disk).world site (after_of d e site disk)) → GoodDoubted (halved d e site disk)
-one_doubt d e site disk none t = record {
-  good = t.good;
-  twins = λ s. all_updated (λ k (o : Option After). k ≡ s → (a : After) → o ≡ Some a → GoodTwin s (halved d e site disk).world
-      (resolved (halved d e site disk).world s a)) d.after site (Some (after_of d e site disk))
-      (λ here a is. let same : after_of d e site disk ≡ a = cc in
-      subst (λ (i : ℕ). GoodTwin i (halved d e site disk).world (resolved (halved d e site disk).world i a)) here
-      (subst (λ (x : After). GoodTwin site (halved d e site disk).world (resolved (halved d e site disk).world site x)) same t))
-      (λ k _ _ a is. absurd (let f : None ≡ Some a = sym (none k) ∙ is in cc)) s refl;
-}
-
-pub line_good : (d new : Doubted) (events : List Event) (fails : List (ℕ × ℕ)) → GoodWorld d.world → NoDoubts d → Stops d events fails new → GoodDoubted new
-line_good d new events fails g none (AllDone last runs failed like) =
-    let r = runs_good events d last g none runs in like_good last new (quiet_good last r.0 r.1) like
-line_good d new events fails g none (Halts e site disk middle comes failed like) =
-    let r = runs_good comes.before d middle g none comes.runs in
-    like_good (halved middle e site disk) new (one_doubt middle e site disk r.1 (halved_good middle e site disk r.0 comes.opens.0 comes.writes)) like
-line_good d new events fails g none (Cuts e site kept taken middle comes fused failed like) =
-    let r = runs_good comes.before d middle g none comes.runs in
+pub line_good : (d new : Doubted) (events : List Event) (fails : List (ℕ × ℕ)) → GoodDoubted d → Stops d events fails new → GoodDoubted new
+line_good d new events fails g (AllDone last runs failed like) = like_good last new (runs_good events d last g runs) like
+line_good d new events fails g (Halts e site disk middle comes failed like) =
+    like_good (halved middle e site disk) new (halved_all middle e site disk (runs_good comes.before d middle g comes.runs) comes.opens comes.writes) like
+line_good d new events fails g (Cuts e site kept taken middle comes fused failed like) =
     let h : Doubted = halved middle e site 0 in
-    let t = halved_good middle e site 0 r.0 comes.opens.0 comes.writes in
     like_good (crashed_as h site kept taken) new
-    (quiet_good (crashed_as h site kept taken)
-    (crashed_good h site kept taken (after_of middle e site 0) (at_place middle.after site (Some (after_of middle e site 0))) t)
-    (all_updated (λ _ (o : Option After). o ≡ None) h.after site None refl
-    (λ k apart. aside middle.after site (Some (after_of middle e site 0)) k apart ∙ r.1 k)))
+    (crashed_all h site kept taken (after_of middle e site 0) (at_place middle.after site (Some (after_of middle e site 0)))
+    (halved_all middle e site 0 (runs_good comes.before d middle g comes.runs) comes.opens comes.writes))
     like
-line_good d new events fails g none (Reads before rest e site disk middle split runs quiet failed like) =
-    let r = runs_good before d middle g none runs in like_good middle new (quiet_good middle r.0 r.1) like
+line_good d new events fails g (Reads before rest e site disk middle split runs quiet failed like) =
+    like_good middle new (runs_good before d middle g runs) like

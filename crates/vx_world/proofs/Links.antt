@@ -1,5 +1,5 @@
 -- Each change of one link keeps what is said of it, and what is sent or promised on it is so.
-use Rattle.std.proofs.Common.{◌≡◌, ℕ, zero, suc, ◌+◌, ◌≤◌, ◌<◌, List, [], ◌∷◌, take, refl, ap, sym, ◌∙◌, subst, arith, Bool, true, false}
+use Rattle.std.proofs.Common.{◌≡◌, ◌⊎◌, inl, inr, ℕ, zero, suc, ◌+◌, ◌≤◌, ◌<◌, List, [], ◌∷◌, take, refl, ap, sym, ◌∙◌, subst, arith, Bool, true, false}
 use Rattle.std.specs.Prelude.{if◌then◌else◌, leb, ltb, eqb, not, max, slice_get, Some, pred, ◌&&◌}
 use Rattle.std.specs.List.{AllByRecursion}
 use Rattle.std.proofs.lemmas.Bool.{leb-true}
@@ -22,39 +22,62 @@ use Rattle.vx_model.specs.declared.link.SyncMode.{SyncMode}
 use Rattle.vx_model.specs.declared.link.SyncMode.TheVariants.{Off, Override, Fail}
 use Rattle.vx_history.specs.declared.sender.SEvent.TheVariants.{Hello as HearHello, NetAck as HearNetAck, DataAck as HearDataAck}
 use Rattle.vx_history.proofs.Updates.{by_test, and_left, and_right, same_line_equal}
-use Rattle.vx_history.specs.Sound.{IsPresent, IsFollowed, GoodLink, GoodMessage, GoodPromise, IsKept, IsStranger, IsBegun}
+use Rattle.vx_history.specs.Sound.{IsPresent, IsFollowed, HasStored, ModeSays, GoodLink, GoodMessage, GoodPromise, IsKept, IsStranger, IsBegun}
 use Rattle.vx_history.specs.Sends.{is_linked, packets_of, packets_from, parts_of, packet, updates, between}
 use Rattle.vx_history.specs.Refusals.{holds_back, is_unconfirmed, some_below, goes, waits}
 use Rattle.vx_history.specs.Events.{facts_of, restarted_link, lost_touch, link_after, promise_of, promises_of}
 use Rattle.vx_world.proofs.Lists.{prefix_get, prefix_take, drop_get, or_left, or_right, each_append, prefix_trans, refuted}
 
+-- a mode that says no more: by the log only where it went by the log
+mode_less : (held : List Write) (b : Node) (l m : Mode) → (m ≡ Log → l ≡ Log) → ModeSays held b l → ModeSays held b m
+mode_less held b l Log log says = subst (λ (x : Mode). ModeSays held b x) (log refl) says
+mode_less held b l Dcm log says = tt
+mode_less held b l (Replay id phase left start end) log says = tt
+mode_less held b l (Fork maps) log says = tt
+mode_less held b l Stale log says = tt
+
 -- a link that differs in nothing that is said of it
-pub link_like : (p s : ℕ) (a b : Node) (l m : Link) → is_linked m ≡ is_linked l → m.session ≡ l.session → m.net ≡ l.net → m.stored ≡ l.stored
-    → (m.mode ≡ Log → l.mode ≡ Log) → GoodLink p s a b l → GoodLink p s a b m
-link_like p s a b l m linked session net stored mode good = record {
+pub link_like : (held : List Write) (p s : ℕ) (a b : Node) (l m : Link) → is_linked m ≡ is_linked l → m.session ≡ l.session → m.net ≡ l.net
+    → m.stored ≡ l.stored → (m.mode ≡ Log → l.mode ≡ Log) → GoodLink held p s a b l → GoodLink held p s a b m
+link_like held p s a b l m linked session net stored mode good = record {
   ends = λ is. good.ends (sym linked ∙ is);
   starts = λ is. good.starts (sym linked ∙ is);
   apart = λ is. good.apart (sym linked ∙ is);
   session = λ is. omega (arith, session, good.session (sym linked ∙ is));
-  stored = λ (is, o, r, e). omega (arith, stored, good.stored (sym linked ∙ is, o, r, e));
-  net = λ (is, o, r, e) present. omega (arith, net, good.net (sym linked ∙ is, o, r, e) (subst (λ k. IsPresent b k) session present));
-  log = λ (is, o, r, e) m. good.log (sym linked ∙ is, o, r, e) (mode m);
-  takes = λ (is, o, r, e) m. good.takes (sym linked ∙ is, o, r, e) (mode m);
+  stored = λ (is, r, e). subst (λ k. HasStored b k) (sym stored) (good.stored (sym linked ∙ is, r, e));
+  net = λ (is, r, e) present. omega (arith, net, good.net (sym linked ∙ is, r, e) (subst (λ k. IsPresent b k) session present));
+  says = λ o (is, r, e). mode_less held b l.mode m.mode mode (good.says o (sym linked ∙ is, r, e));
 }
 
 -- what is acknowledged is only what is stored
-forgotten : (h : History) (p s : ℕ) (a b : Node) (l m : Link) → GoodNode h s b → is_linked m ≡ is_linked l → m.session ≤ b.session → m.net ≡ l.stored
-    → m.stored ≡ l.stored → (m.mode ≡ Log → l.mode ≡ Log) → GoodLink p s a b l → GoodLink p s a b m
-forgotten h p s a b l m node linked session net stored mode good = record {
+forgotten : (held : List Write) (h : History) (p s : ℕ) (a b : Node) (l m : Link) → GoodNode h s b → is_linked m ≡ is_linked l → m.session ≤ b.session
+    → m.net ≡ l.stored → m.stored ≡ l.stored → (m.mode ≡ Log → l.mode ≡ Log) → GoodLink held p s a b l → GoodLink held p s a b m
+forgotten held h p s a b l m node linked session net stored mode good = record {
   ends = λ is. good.ends (sym linked ∙ is);
   starts = λ is. good.starts (sym linked ∙ is);
   apart = λ is. good.apart (sym linked ∙ is);
   session = λ is. session;
-  stored = λ (is, o, r, e). omega (arith, stored, good.stored (sym linked ∙ is, o, r, e));
-  net = λ (is, o, r, e) present. omega (arith, net, good.stored (sym linked ∙ is, o, r, e), node.safe_fits);
-  log = λ (is, o, r, e) m. good.log (sym linked ∙ is, o, r, e) (mode m);
-  takes = λ (is, o, r, e) m. good.takes (sym linked ∙ is, o, r, e) (mode m);
+  stored = λ (is, r, e). subst (λ k. HasStored b k) (sym stored) (good.stored (sym linked ∙ is, r, e));
+  net = λ (is, r, e) present. omega (arith, net, (good.stored (sym linked ∙ is, r, e)).0, node.safe_fits);
+  says = λ o (is, r, e). mode_less held b l.mode m.mode mode (good.says o (sym linked ∙ is, r, e));
 }
+
+-- the greater of two numbers that are stored
+both_stored : (b : Node) (m n : ℕ) → HasStored b m → HasStored b n → HasStored b (max m n)
+both_stored b m n (least, first) (most, second) = (
+  omega (arith, least, most),
+  λ by end. elim (greater m n) [
+    | inl e ↦ first by (omega (arith, end, e))
+    | inr e ↦ second by (omega (arith, end, e))
+  ],
+)
+  where
+    greater : (m n : ℕ) → (max m n ≡ m) ⊎ (max m n ≡ n)
+    greater m n = by (leb n m) refl
+      where
+        by : (c : Bool) → leb n m ≡ c → (max m n ≡ m) ⊎ (max m n ≡ n)
+        by true e = inl (let l : n ≤ m = grind (arith, nat_tests) in omega (arith, l))
+        by false e = inr (let l : m ≤ n = grind (arith, nat_tests) in omega (arith, l))
 
 restarted_by_log : (m : Mode) → mode_restarted m ≡ Log → m ≡ Log
 restarted_by_log Log e = refl
@@ -76,32 +99,34 @@ changed_by_log Stays m e = e
 changed_by_log ToStale m e = absurd (cc)
 changed_by_log ToDcm m e = absurd (cc)
 
-pub link_restarted : (h : History) (p s : ℕ) (a b n : Node) (l : Link) → GoodNode h s b → GoodLink p s a b l → GoodLink p s a b (restarted_link n s l)
-link_restarted h p s a b n l node good =
-    forgotten h p s a b l (restarted_link n s l) node refl (omega arith) refl refl (restarted_by_log l.mode) good
+pub link_restarted : (held : List Write) (h : History) (p s : ℕ) (a b n : Node) (l : Link) → GoodNode h s b → GoodLink held p s a b l
+    → GoodLink held p s a b (restarted_link n s l)
+link_restarted held h p s a b n l node good =
+    forgotten held h p s a b l (restarted_link n s l) node refl (omega arith) refl refl (restarted_by_log l.mode) good
 
-pub link_lost : (h : History) (p s : ℕ) (a b : Node) (l : Link) → GoodNode h s b → GoodLink p s a b l → GoodLink p s a b (lost_touch l)
-link_lost h p s a b l node good = record {
+pub link_lost : (held : List Write) (h : History) (p s : ℕ) (a b : Node) (l : Link) → GoodNode h s b → GoodLink held p s a b l
+    → GoodLink held p s a b (lost_touch l)
+link_lost held h p s a b l node good = record {
   ends = good.ends;
   starts = good.starts;
   apart = good.apart;
   session = good.session;
   stored = good.stored;
-  net = λ v _. omega (arith, good.stored v, node.safe_fits);
-  log = good.log;
-  takes = good.takes;
+  net = λ v _. omega (arith, (good.stored v).0, node.safe_fits);
+  says = good.says;
 }
 
-pub link_changed : (p s : ℕ) (a b n : Node) (x : Write) (l : Link) → GoodLink p s a b l → GoodLink p s a b (link_after n x s l)
-link_changed p s a b n x l good = link_like p s a b l (link_after n x s l) refl refl refl refl (changed_by_log _ l.mode) good
+pub link_changed : (held : List Write) (p s : ℕ) (a b n : Node) (x : Write) (l : Link) → GoodLink held p s a b l
+    → GoodLink held p s a b (link_after n x s l)
+link_changed held p s a b n x l good = link_like held p s a b l (link_after n x s l) refl refl refl refl (changed_by_log _ l.mode) good
 
 -- the sender's link after a message of the link's receiver that was sent on the sender's line
-module _ (h : History) (p s : ℕ) (a b : Node) (l : Link) (line : Line) (node : GoodNode h s b) (good : GoodLink p s a b l) where
+module _ (own : List Write) (h : History) (p s : ℕ) (a b : Node) (l : Link) (line : Line) (node : GoodNode h s b) (good : GoodLink own p s a b l) where
   abbrev pub After : Sent → Type 0
-  After r = GoodLink p s a b (with_plain l r.link)
+  After r = GoodLink own p s a b (with_plain l r.link)
 
   same : After (with_ignored (plain_link s l))
-  same = link_like p s a b l (with_plain l (plain_link s l)) refl refl refl refl (λ e. e) good
+  same = link_like own p s a b l (with_plain l (plain_link s l)) refl refl refl refl (λ e. e) good
 
   on_line : (r : Sent) → (line ≡ a.line → After r) → After (if_on_line (facts_of a line) (plain_link s l) r)
   on_line r heard =
@@ -120,24 +145,22 @@ module _ (h : History) (p s : ℕ) (a b : Node) (l : Link) (line : Line) (node :
         starts = good.starts;
         apart = good.apart;
         session = λ _. old;
-        stored = λ v. omega (arith, good.stored v, disk (v.3 ∙ sym e));
-        net = λ v present. omega (arith, memory (v.3 ∙ sym e) present, good.stored v, disk (v.3 ∙ sym e), node.safe_fits);
-        log = good.log;
-        takes = good.takes;
+        stored = λ v. both_stored b l.stored stored (good.stored v) (disk (v.2 ∙ sym e));
+        net = λ v present. omega (arith, memory (v.2 ∙ sym e) present, (good.stored v).0, (disk (v.2 ∙ sym e)).0, node.safe_fits);
+        says = good.says;
       })
       (λ not_new. record {
         ends = good.ends;
         starts = good.starts;
         apart = good.apart;
         session = good.session;
-        stored = λ v. omega (arith, good.stored v, disk (v.3 ∙ sym e));
-        net = λ v present. omega (arith, good.net v present, memory (v.3 ∙ sym e) (present.0, present.1 ∙ between_both l.session session not_new not_old));
-        log = good.log;
-        takes = good.takes;
+        stored = λ v. both_stored b l.stored stored (good.stored v) (disk (v.2 ∙ sym e));
+        net = λ v present. omega (arith, good.net v present, memory (v.2 ∙ sym e) (present.0, present.1 ∙ between_both l.session session not_new not_old));
+        says = good.says;
       }))
       (λ _. by_test (λ (r : PlainLink). After (with_taken r)) (ltb l.session session) _ _
-      (λ _. forgotten h p s a b l _ node refl old refl refl (overtaken_by_log l.mode number) good)
-      (λ _. link_like p s a b l _ refl refl refl refl (overtaken_by_log l.mode number) good))))
+      (λ _. forgotten own h p s a b l _ node refl old refl refl (overtaken_by_log l.mode number) good)
+      (λ _. link_like own p s a b l _ refl refl refl refl (overtaken_by_log l.mode number) good))))
     where
       between_both : (m n : ℕ) → ltb m n ≡ false → ltb n m ≡ false → m ≡ n
       between_both m n f g = grind (arith, nat_tests)
@@ -153,9 +176,8 @@ module _ (h : History) (p s : ℕ) (a b : Node) (l : Link) (line : Line) (node :
         apart = good.apart;
         session = good.session;
         stored = good.stored;
-        net = λ v present. memory (v.3 ∙ sym e) (present.0, present.1 ∙ sym (is_same session l.session (and_left _ _ (and_right _ _ t))));
-        log = good.log;
-        takes = good.takes;
+        net = λ v present. memory (v.2 ∙ sym e) (present.0, present.1 ∙ sym (is_same session l.session (and_left _ _ (and_right _ _ t))));
+        says = good.says;
       })
       (λ _. same))
     where
@@ -172,10 +194,9 @@ module _ (h : History) (p s : ℕ) (a b : Node) (l : Link) (line : Line) (node :
         starts = good.starts;
         apart = good.apart;
         session = good.session;
-        stored = λ v. disk (v.3 ∙ sym e);
-        net = λ v present. omega (arith, good.net v present, disk (v.3 ∙ sym e), node.safe_fits);
-        log = good.log;
-        takes = good.takes;
+        stored = λ v. disk (v.2 ∙ sym e);
+        net = λ v present. omega (arith, good.net v present, (disk (v.2 ∙ sym e)).0, node.safe_fits);
+        says = good.says;
       })
       (λ _. same))
 
@@ -239,17 +260,20 @@ confirmed l s n made attached fail u h = reaches l.net n
     reaches m n e = grind (arith, nat_tests)
 
 -- a site of a link's other end that stands on an origin's line receives
-pub receives : (nodes : ℕ → Node) (lines : Line → History) (p s : ℕ) (l : Link) → ((i : ℕ) → GoodNode (lines (nodes i).line) i (nodes i))
-    → GoodLink p s (nodes p) (nodes s) l → is_linked l ≡ true → is_origin (nodes p).role ≡ true → (nodes s).line ≡ (nodes p).line
+pub receives : (nodes : ℕ → Node) (lines : Line → History) (held : List Write) (p s : ℕ) (l : Link)
+    → ((i : ℕ) → GoodNode (lines (nodes i).line) i (nodes i)) → GoodLink held p s (nodes p) (nodes s) l → is_linked l ≡ true → is_origin (nodes p).role ≡ true → (nodes s).line ≡ (nodes p).line
     → is_origin (nodes s).role ≡ false
-receives nodes lines p s l good link is o e =
+receives nodes lines held p s l good link is o e =
     refuted (is_origin (nodes s).role)
     (λ q. link.apart is (sym ((good p).own_line (link.ends is).0 o) ∙ ap (λ (x : Line). x.origin) (sym e) ∙ (good s).own_line (link.ends is).1 q))
 
 module _ (nodes : ℕ → Node) (links : ℕ → ℕ → Link) (lines : Line → History) (good : (i : ℕ) → GoodNode (lines (nodes i).line) i (nodes i)) (p : ℕ) (n : ℕ)
     (o : is_origin (nodes p).role ≡ true)
     (known : (s : ℕ) → is_linked (links p s) ≡ true → (IsStranger nodes links (nodes p).line s → ⊥) × IsBegun nodes (nodes p).line s) where
-  promise_good : (s : ℕ) → GoodLink p s (nodes p) (nodes s) (links p s) → is_unconfirmed n s (links p s) ≡ false → holds_back n s (links p s) ≡ false
+  abbrev here : List Write
+  here = (lines (nodes p).line).held
+
+  promise_good : (s : ℕ) → GoodLink here p s (nodes p) (nodes s) (links p s) → is_unconfirmed n s (links p s) ≡ false → holds_back n s (links p s) ≡ false
       → AllByRecursion (GoodPromise nodes links) (promise_of (nodes p) n s (links p s))
   promise_good s link u h =
       let l : Link = links p s in
@@ -259,10 +283,10 @@ module _ (nodes : ℕ → Node) (links : ℕ → ℕ → Link) (lines : Line →
       let made : is_linked l ≡ true = and_left (is_linked l) (l.attached && is_fail l.sync) c in
       let rest : (l.attached && is_fail l.sync) ≡ true = and_right (is_linked l) (l.attached && is_fail l.sync) c in
       let net : n ≤ l.net = confirmed l s n made (and_left l.attached (is_fail l.sync) rest) (and_right l.attached (is_fail l.sync) rest) u h in
-      let followed : (nodes s).line ≡ (nodes p).line → IsFollowed (nodes p) (nodes s) l = λ e. (made, o, receives nodes lines p s l good link made o e, e) in (
+      let followed : (nodes s).line ≡ (nodes p).line → IsFollowed (nodes p) (nodes s) l = λ e. (made, receives nodes lines here p s l good link made o e, e) in (
         record {
           kept = by_test (IsKept (nodes s) (nodes p).line n) (leb n l.stored) Durable (InSession l.session)
-              (λ t e. omega (arith, link.stored (followed e), leb-true n l.stored t))
+              (λ t e. omega (arith, (link.stored (followed e)).0, leb-true n l.stored t))
               (λ _. (link.session made, λ e q. omega (arith, net, link.net (followed e) q)));
           known = (known s made).0;
           begun = (known s made).1;
@@ -271,7 +295,7 @@ module _ (nodes : ℕ → Node) (links : ℕ → ℕ → Link) (lines : Line →
       ))
       (λ _. tt)
 
-  pub promises_good : ((s : ℕ) → GoodLink p s (nodes p) (nodes s) (links p s)) → (k : ℕ) → some_below k (λ s. is_unconfirmed n s (links p s)) ≡ false
+  pub promises_good : ((s : ℕ) → GoodLink here p s (nodes p) (nodes s) (links p s)) → (k : ℕ) → some_below k (λ s. is_unconfirmed n s (links p s)) ≡ false
       → some_below k (λ s. holds_back n s (links p s)) ≡ false → AllByRecursion (GoodPromise nodes links) (promises_of (nodes p) n (links p) k)
   promises_good link zero u h = tt
   promises_good link (suc k) u h =

@@ -1,5 +1,5 @@
 -- The few ways in which an event changes the world, each with what it has to show.
-use Rattle.std.proofs.Common.{◌≡◌, ℕ, ◌≤◌, List, ◌++◌, length, refl, ap, sym, ◌∙◌, subst, arith, true, inl}
+use Rattle.std.proofs.Common.{◌≡◌, ℕ, ◌≤◌, List, ◌++◌, length, refl, ap, sym, ◌∙◌, subst, arith, Bool, true, false, inl}
 use Rattle.std.specs.Prelude.{eqb, Option}
 use Rattle.std.specs.List.{AllByRecursion}
 use Rattle.vx_model.specs.Content.{Write, IsPrefixOf}
@@ -7,13 +7,17 @@ use Rattle.vx_history.specs.World.{World, Node, Link, History, Gathering, Packet
 use Rattle.vx_model.specs.Sites.{is_origin}
 use Rattle.vx_history.specs.Good.{GoodNode, Good, IsMade}
 use Rattle.vx_model.specs.declared.history.Line.{Line}
+use Rattle.vx_model.specs.declared.site.Mark.TheVariants.{Consistent}
+use Rattle.vx_model.specs.declared.site.SPhase.TheVariants.{Log as ByLog}
 use Rattle.vx_model.specs.declared.site.SiteState.TheVariants.{Bare}
+use Rattle.vx_history.specs.Receiving.{phase_takes}
+use Rattle.vx_history.specs.Refusals.{is_bunker}
 use Rattle.vx_history.proofs.Updates.{all_updated, all_lines, by_test, eqb_equal, at_place}
 use Rattle.vx_history.proofs.GoodLemmas.{good_stays}
 use Rattle.vx_history.specs.Sends.{is_linked, with_links, with_link, sending, promising}
-use Rattle.vx_history.specs.Sound.{IsWhole, IsFed, GoodLink, GoodMessage, GoodPacket, GoodPromise, IsKept, IsStranger, StrangerSays, IsBegun, KnownNode, Sound}
+use Rattle.vx_history.specs.Sound.{IsWhole, IsFed, TakesUpdates, IsMarked, IsFollowed, ModeSays, GoodLink, GoodMessage, GoodPacket, GoodPromise, IsKept, IsStranger, StrangerSays, IsBegun, KnownNode, Sound}
 use Rattle.vx_world.proofs.Lists.{each_append, each_weaker, prefix_refl, refuted, not_both}
-use Rattle.vx_world.proofs.Carry.{IsLater, later_same, link_later, says_later, packets_later, promises_later}
+use Rattle.vx_world.proofs.Carry.{IsLater, later_same, mode_later, link_later, says_later, packets_later, promises_later}
 
 -- what is said of sites by themselves rests on no link
 pub good_of : (w : World) (links : ℕ → ℕ → Link) (packets : List Packet) (promised : List Promise) → Good w
@@ -26,7 +30,10 @@ sound_gathering w g s = record {
   good = record { nodes = s.good.nodes; begun = s.good.begun; later = s.good.later; told = s.good.told };
   whole = s.whole;
   fed = s.fed;
+  takes = s.takes;
+  marked = s.marked;
   links = s.links;
+  bunkers = s.bunkers;
   packets = s.packets;
   promised = s.promised;
   known = s.known;
@@ -37,7 +44,10 @@ sound_headers w h s = record {
   good = record { nodes = s.good.nodes; begun = s.good.begun; later = s.good.later; told = s.good.told };
   whole = s.whole;
   fed = s.fed;
+  takes = s.takes;
+  marked = s.marked;
   links = s.links;
+  bunkers = s.bunkers;
   packets = s.packets;
   promised = s.promised;
   known = s.known;
@@ -49,7 +59,10 @@ sound_sending w ps s h = record {
   good = good_of w w.links (w.packets ++ ps) w.promised s.good;
   whole = s.whole;
   fed = s.fed;
+  takes = s.takes;
+  marked = s.marked;
   links = s.links;
+  bunkers = s.bunkers;
   packets = each_append (GoodPacket w.nodes w.links w.lines) w.packets ps s.packets h;
   promised = s.promised;
   known = s.known;
@@ -61,7 +74,10 @@ sound_promising w es s h = record {
   good = good_of w w.links w.packets (w.promised ++ es) s.good;
   whole = s.whole;
   fed = s.fed;
+  takes = s.takes;
+  marked = s.marked;
   links = s.links;
+  bunkers = s.bunkers;
   packets = s.packets;
   promised = each_append (GoodPromise w.nodes w.links) w.promised es s.promised h;
   known = s.known;
@@ -71,17 +87,23 @@ sound_promising w es s h = record {
 pub stranger_of_links : (nodes : ℕ → Node) (links more : ℕ → ℕ → Link) → ((p s : ℕ) → is_linked (links p s) ≡ true → is_linked (more p s) ≡ true)
     → (l : Line) (i : ℕ) → IsStranger nodes more l i → IsStranger nodes links l i
 stranger_of_links nodes links more made l i
-    (e, none) = (e, refuted (is_linked (links l.origin i)) (λ is. not_both (is_linked (more l.origin i)) (made l.origin i is) none))
+    (e, none, plain) = (e, refuted (is_linked (links l.origin i)) (λ is. not_both (is_linked (more l.origin i)) (made l.origin i is) none), plain)
 
-sound_links : (w : World) (f : ℕ → ℕ → Link) → Sound w → ((p s : ℕ) → GoodLink p s (w.nodes p) (w.nodes s) (f p s))
-    → ((p s : ℕ) → is_linked (w.links p s) ≡ true → is_linked (f p s) ≡ true) → Sound (record w { links = f })
-sound_links w f s h made =
+-- links of origins alone may be new
+sound_links : (w : World) (f : ℕ → ℕ → Link) → Sound w
+    → ((p s : ℕ) → GoodLink (w.lines (w.nodes p).line).held p s (w.nodes p) (w.nodes s) (f p s))
+    → ((p s : ℕ) → is_linked (w.links p s) ≡ true → is_linked (f p s) ≡ true)
+    → ((p s : ℕ) → is_linked (f p s) ≡ true → is_origin (w.nodes p).role ≡ false → is_linked (w.links p s) ≡ true) → Sound (record w { links = f })
+sound_links w f s h made old =
     let before : (l : Line) (i : ℕ) → IsStranger w.nodes f l i → IsStranger w.nodes w.links l i = stranger_of_links w.nodes w.links f made in
     record {
       good = good_of w f w.packets w.promised s.good;
       whole = s.whole;
       fed = s.fed;
+      takes = s.takes;
+      marked = s.marked;
       links = h;
+      bunkers = λ p q is r g. s.bunkers p q (old p q is r) r (before (w.nodes p).line q g);
       packets = packets_later w.nodes w.nodes w.links f (λ i. later_same (w.nodes i)) before w.lines w.lines
           (λ l. prefix_refl (w.lines l).held) w.packets s.packets;
       promised = promises_later w.nodes w.nodes w.links f (λ i. later_same (w.nodes i)) before w.promised s.promised;
@@ -101,57 +123,98 @@ still_linked w p q l made =
     (all_updated (λ k (l : Link). is_linked (w.links p k) ≡ true → is_linked l ≡ true) (w.links p) q l made (λ _ _ m. m))
 
 -- all links of one site
-pub sound_with_links : (w : World) (p : ℕ) (row : ℕ → Link) → Sound w → ((k : ℕ) → GoodLink p k (w.nodes p) (w.nodes k) (row k))
-    → ((k : ℕ) → is_linked (w.links p k) ≡ true → is_linked (row k) ≡ true) → Sound (with_links w p row)
-sound_with_links w p row s h made =
+pub sound_with_links : (w : World) (p : ℕ) (row : ℕ → Link) → Sound w
+    → ((k : ℕ) → GoodLink (w.lines (w.nodes p).line).held p k (w.nodes p) (w.nodes k) (row k))
+    → ((k : ℕ) → is_linked (w.links p k) ≡ true → is_linked (row k) ≡ true)
+    → (is_origin (w.nodes p).role ≡ false → (k : ℕ) → is_linked (row k) ≡ true → is_linked (w.links p k) ≡ true) → Sound (with_links w p row)
+sound_with_links w p row s h made old =
     sound_links w (updated w.links p row) s
-    (all_updated (λ i (r : ℕ → Link). (k : ℕ) → GoodLink i k (w.nodes i) (w.nodes k) (r k)) w.links p row h (λ i _. s.links i))
+    (all_updated (λ i (r : ℕ → Link). (k : ℕ) → GoodLink (w.lines (w.nodes i).line).held i k (w.nodes i) (w.nodes k) (r k)) w.links p row h (λ i _. s.links i))
     (still_linked_row w p row made)
+    (all_updated (λ i (r : ℕ → Link). (k : ℕ) → is_linked (r k) ≡ true → is_origin (w.nodes i).role ≡ false → is_linked (w.links i k) ≡ true) w.links p row
+    (λ k is r. old r k is) (λ _ _ _ is _. is))
 
 -- one link
-pub sound_with_link : (w : World) (p q : ℕ) (l : Link) → Sound w → GoodLink p q (w.nodes p) (w.nodes q) l
-    → (is_linked (w.links p q) ≡ true → is_linked l ≡ true) → Sound (with_link w p q l)
-sound_with_link w p q l s h made =
+pub sound_with_link : (w : World) (p q : ℕ) (l : Link) → Sound w → GoodLink (w.lines (w.nodes p).line).held p q (w.nodes p) (w.nodes q) l
+    → (is_linked (w.links p q) ≡ true → is_linked l ≡ true)
+    → (is_origin (w.nodes p).role ≡ false → is_linked l ≡ true → is_linked (w.links p q) ≡ true) → Sound (with_link w p q l)
+sound_with_link w p q l s h made old =
     sound_with_links w p (updated (w.links p) q l) s
-    (all_updated (λ k (l : Link). GoodLink p k (w.nodes p) (w.nodes k) l) (w.links p) q l h (λ k _. s.links p k))
+    (all_updated (λ k (l : Link). GoodLink (w.lines (w.nodes p).line).held p k (w.nodes p) (w.nodes k) l) (w.links p) q l h (λ k _. s.links p k))
     (all_updated (λ k (l : Link). is_linked (w.links p k) ≡ true → is_linked l ≡ true) (w.links p) q l made (λ _ _ m. m))
+    (λ r. all_updated (λ k (l : Link). is_linked l ≡ true → is_linked (w.links p k) ≡ true) (w.links p) q l (old r) (λ _ _ m. m))
 
 -- any later state of the sites and the lines
 pub sound_later : (w : World) (f : ℕ → Node) (h : Line → History) → Sound w → ((i : ℕ) → IsLater (w.nodes i) (f i))
     → ((l : Line) → IsPrefixOf (w.lines l).held (h l).held) → Good (record w { nodes = f; lines = h }) → ((i : ℕ) → IsWhole (f i))
+    → ((i : ℕ) → IsFed (f i)) → ((i : ℕ) → TakesUpdates (f i)) → ((i : ℕ) → IsMarked (f i))
+    → ((p q : ℕ) → is_origin (f p).role ≡ true → IsFollowed (f p) (f q) (w.links p q)
+    → ModeSays (w.lines (w.nodes p).line).held (w.nodes q) (w.links p q).mode → ModeSays (h (f p).line).held (f q) (w.links p q).mode)
     → ((i : ℕ) → KnownNode w.nodes w.links i (f i)) → Sound (record w { nodes = f; lines = h })
-sound_later w f h s later grow good whole known =
-    let before : (l : Line) (i : ℕ) → IsStranger f w.links l i → IsStranger w.nodes w.links l i = λ l i q. (sym (later l.origin).line ∙ q.0, q.1) in
+sound_later w f h s later grow good whole fed takes marked modes known =
+    let before : (l : Line) (i : ℕ) → IsStranger f w.links l i → IsStranger w.nodes w.links l i = λ l i q.
+    (sym (later l.origin).line ∙ q.0, q.1, sym (later i).bunker ∙ q.2) in
     record {
       good = good;
       whole = whole;
-      fed = λ i r. (later i).other ∙ s.fed i (sym (later i).origin ∙ r) ∙ ap (λ (l : Line). l.origin) (sym (later i).line);
-      links = λ p q. link_later p q (w.nodes p) (w.nodes q) (f p) (f q) (w.links p q) (later p) (later q) (s.links p q);
+      fed = fed;
+      takes = takes;
+      marked = marked;
+      links = λ p q. link_later (w.lines (w.nodes p).line).held (h (f p).line).held p q (w.nodes p) (w.nodes q) (f p) (f q) (w.links p q) (later p) (later q)
+          (modes p q) (s.links p q);
+      bunkers = λ p q is r g. s.bunkers p q is (sym (later p).origin ∙ r)
+          (subst (λ (l : Line). IsStranger w.nodes w.links l q) (later p).line (before (f p).line q g));
       packets = packets_later w.nodes f w.links w.links later before w.lines h grow w.packets s.packets;
       promised = promises_later w.nodes f w.links w.links later before w.promised s.promised;
       known = λ i is r q. known i is r (before (f i).line i q);
     }
 
+-- what the modes of links say of a site they say of it as it is now
+abbrev pub StaysFed : World → ℕ → Node → Type 0
+StaysFed w i n = (p : ℕ) (held : List Write) → ModeSays held (w.nodes i) (w.links p i).mode → ModeSays held n (w.links p i).mode
+
+pub stays_fed : (w : World) (i : ℕ) (n : Node) → ((w.nodes i).mark ≡ Consistent → n.mark ≡ Consistent)
+    → (phase_takes (w.nodes i).phase ≡ true → phase_takes n.phase ≡ true) → StaysFed w i n
+stays_fed w i n mark takes = λ p held. mode_later held held (w.nodes i) n (w.links p i).mode mark takes
+
+modes_now : (w : World) (i : ℕ) (n : Node) (h : Line → History) → StaysFed w i n → (p q : ℕ)
+    → ModeSays (w.lines (w.nodes p).line).held (w.nodes q) (w.links p q).mode
+    → ModeSays (h (updated w.nodes i n p).line).held (updated w.nodes i n q) (w.links p q).mode
+modes_now w i n h stays p q says =
+    let held : List Write = (h (updated w.nodes i n p).line).held in
+    all_updated (λ k (d : Node). ModeSays held (w.nodes k) (w.links p k).mode → ModeSays held d (w.links p k).mode) w.nodes i n (stays p held)
+    (λ _ _ x. x) q
+    (mode_later (w.lines (w.nodes p).line).held held (w.nodes q) (w.nodes q) (w.links p q).mode (λ x. x) (λ x. x) says)
+
 -- one site, with the lines as they are
-pub sound_with_node : (w : World) (i : ℕ) (n : Node) → Sound w → Good (with_node w i n) → IsLater (w.nodes i) n → IsWhole n → KnownNode w.nodes w.links i n
-    → Sound (with_node w i n)
-sound_with_node w i n s good later whole known =
+pub sound_with_node : (w : World) (i : ℕ) (n : Node) → Sound w → Good (with_node w i n) → IsLater (w.nodes i) n → IsWhole n → IsFed n → TakesUpdates n
+    → IsMarked n → StaysFed w i n → KnownNode w.nodes w.links i n → Sound (with_node w i n)
+sound_with_node w i n s good later whole fed takes marked stays known =
     sound_later w (updated w.nodes i n) w.lines s
     (all_updated (λ k (m : Node). IsLater (w.nodes k) m) w.nodes i n later (λ k _. later_same (w.nodes k)))
     (λ l. prefix_refl (w.lines l).held)
     good
     (all_updated (λ k (m : Node). IsWhole m) w.nodes i n whole (λ k _. s.whole k))
+    (all_updated (λ k (m : Node). IsFed m) w.nodes i n fed (λ k _. s.fed k))
+    (all_updated (λ k (m : Node). TakesUpdates m) w.nodes i n takes (λ k _. s.takes k))
+    (all_updated (λ k (m : Node). IsMarked m) w.nodes i n marked (λ k _. s.marked k))
+    (λ p q _ _. modes_now w i n w.lines stays p q)
     (all_updated (λ k (m : Node). KnownNode w.nodes w.links k m) w.nodes i n known (λ k _. s.known k))
 
 -- one site, with its line's record
 pub sound_with_history : (w : World) (i : ℕ) (n : Node) (h : History) → Sound w → Good (with_history w i n h) → IsLater (w.nodes i) n
-    → IsPrefixOf (w.lines n.line).held h.held → IsWhole n → KnownNode w.nodes w.links i n → Sound (with_history w i n h)
-sound_with_history w i n h s good later grow whole known =
+    → IsPrefixOf (w.lines n.line).held h.held → IsWhole n → IsFed n → TakesUpdates n → IsMarked n → StaysFed w i n → KnownNode w.nodes w.links i n
+    → Sound (with_history w i n h)
+sound_with_history w i n h s good later grow whole fed takes marked stays known =
     sound_later w (updated w.nodes i n) (line_updated w.lines n.line h) s
     (all_updated (λ k (m : Node). IsLater (w.nodes k) m) w.nodes i n later (λ k _. later_same (w.nodes k)))
     (all_lines (λ l (r : History). IsPrefixOf (w.lines l).held r.held) w.lines n.line h grow (λ l _. prefix_refl (w.lines l).held))
     good
     (all_updated (λ k (m : Node). IsWhole m) w.nodes i n whole (λ k _. s.whole k))
+    (all_updated (λ k (m : Node). IsFed m) w.nodes i n fed (λ k _. s.fed k))
+    (all_updated (λ k (m : Node). TakesUpdates m) w.nodes i n takes (λ k _. s.takes k))
+    (all_updated (λ k (m : Node). IsMarked m) w.nodes i n marked (λ k _. s.marked k))
+    (λ p q _ _. modes_now w i n (line_updated w.lines n.line h) stays p q)
     (all_updated (λ k (m : Node). KnownNode w.nodes w.links k m) w.nodes i n known (λ k _. s.known k))
 
 -- a site that is there is given out
@@ -173,34 +236,31 @@ pub at_changed : (P : Node → Type 0) (f : ℕ → Node) (i : ℕ) (n : Node) �
 at_changed P f i n h = subst P (sym (at_place f i n)) h
 
 -- what is said of a link that is not there
-pub unlinked_good : (p q : ℕ) (a b : Node) (l : Link) → (is_linked l ≡ true → ⊥) → GoodLink p q a b l
-unlinked_good p q a b l none = record {
+pub unlinked_good : (held : List Write) (p q : ℕ) (a b : Node) (l : Link) → (is_linked l ≡ true → ⊥) → GoodLink held p q a b l
+unlinked_good held p q a b l none = record {
   ends = λ e. absurd (none e);
   starts = λ e. absurd (none e);
   apart = λ e. absurd (none e);
   session = λ e. absurd (none e);
   stored = λ v. absurd (none v.0);
   net = λ v _. absurd (none v.0);
-  log = λ v _. absurd (none v.0);
-  takes = λ v _. absurd (none v.0);
+  says = λ _ v. absurd (none v.0);
 }
 
--- who is a stranger behind a change of one site on its line was one before
-pub stranger_before : (w : World) (i : ℕ) (n : Node) → IsLater (w.nodes i) n → (l : Line) (k : ℕ) → IsStranger (updated w.nodes i n) w.links l k
-    → IsStranger w.nodes w.links l k
-stranger_before w i n later l k q =
-    (sym (all_updated (λ j (m : Node). IsLater (w.nodes j) m) w.nodes i n later (λ j _. later_same (w.nodes j)) l.origin).line ∙ q.0, q.1)
+-- what is said of a link, whatever its line holds
+held_good : (f g : List Write) (p q : ℕ) (a b : Node) (l : Link) → GoodLink f p q a b l → GoodLink g p q a b l
+held_good f g p q a b l good = link_later f g p q a b a b l (later_same a) (later_same b) (λ _ _. mode_later f g b b l.mode (λ x. x) (λ x. x)) good
 
 -- ## A site comes to a line
 
 -- what a site said of a line to which it comes only now is that it had nothing of it
-message_joins : (held : List Write) (a n : Node) (line : Line) (to from : Type 0) → a.session ≤ n.session → (n.line ≡ line → from) → (m : Message)
-    → GoodMessage held a line m → StrangerSays to from m → GoodMessage held n line m
-message_joins held a n line to from later stranger (Update number x) h k = h
-message_joins held a n line to from later stranger (NetAck session number) (old, _) k = (omega (arith, old, later), λ e _. omega (arith, k (stranger e)))
-message_joins held a n line to from later stranger (Hello session number stored) (old, _, _) k =
-    (omega (arith, old, later), λ e _. omega (arith, (k (stranger e)).0), λ e. omega (arith, (k (stranger e)).1))
-message_joins held a n line to from later stranger (DataAck number) h k = λ e. omega (arith, k (stranger e))
+message_joins : (held : List Write) (a n : Node) (line : Line) (to from : Type 0) → a.session ≤ n.session → (n.line ≡ line → from)
+    → (n.phase ≡ ByLog → ⊥) → (m : Message) → GoodMessage held a line m → StrangerSays to from m → GoodMessage held n line m
+message_joins held a n line to from later stranger quiet (Update number x) h k = h
+message_joins held a n line to from later stranger quiet (NetAck session number) (old, _) k = (omega (arith, old, later), λ e _. omega (arith, k (stranger e)))
+message_joins held a n line to from later stranger quiet (Hello session number stored) (old, _, _) k =
+    (omega (arith, old, later), λ e _. omega (arith, (k (stranger e)).0), λ e. (omega (arith, (k (stranger e)).1), λ by _. absurd (quiet by)))
+message_joins held a n line to from later stranger quiet (DataAck number) h k = λ e. (omega (arith, k (stranger e)), λ by _. absurd (quiet by))
 
 promise_joins : (a n : Node) (line : Line) (number : ℕ) (from : Type 0) → a.session ≤ n.session → (n.line ≡ line → from) → (t : Surety)
     → IsKept a line number t → (from → ⊥) → IsKept n line number t
@@ -209,7 +269,8 @@ promise_joins a n line number from later stranger (InSession session) (old, _) k
 
 -- a site comes, with nothing, to a line whose origin stands on it and keeps no link to the site
 module _ (w : World) (i : ℕ) (n : Node) (s : Sound w) (stranger : IsStranger w.nodes w.links n.line i) (apart : n.line.origin ≡ i → ⊥)
-    (made : IsMade (w.nodes i)) (stays : IsMade n) (grows : (w.nodes i).session ≤ n.session) (alone : (k : ℕ) → is_linked (w.links i k) ≡ true → ⊥) where
+    (made : IsMade (w.nodes i)) (stays : IsMade n) (grows : (w.nodes i).session ≤ n.session) (alone : (k : ℕ) → is_linked (w.links i k) ≡ true → ⊥)
+    (quiet : n.phase ≡ ByLog → ⊥) where
   abbrev joined_nodes : ℕ → Node
   joined_nodes = updated w.nodes i n
 
@@ -221,6 +282,7 @@ module _ (w : World) (i : ℕ) (n : Node) (s : Sound w) (stranger : IsStranger w
     all_updated (λ j (m : Node). j ≡ l.origin → m.line ≡ l → (w.nodes j).line ≡ l) w.nodes i n
         (λ e g. absurd (apart (ap (λ (x : Line). x.origin) g ∙ sym e))) (λ j _ _ g. g) l.origin refl q.0,
     q.1,
+    all_updated (λ j (m : Node). is_bunker m.role ≡ false → is_bunker (w.nodes j).role ≡ false) w.nodes i n (λ _. stranger.2) (λ _ _ e. e) k q.2,
   )
 
   still_made : (k : ℕ) → IsMade (w.nodes k) → IsMade (joined_nodes k)
@@ -229,38 +291,47 @@ module _ (w : World) (i : ℕ) (n : Node) (s : Sound w) (stranger : IsStranger w
   still_begun : (line : Line) (k : ℕ) → IsBegun w.nodes line k → IsBegun joined_nodes line k
   still_begun line k (here, there) = (still_made k here, still_made line.origin there)
 
-  -- no origin on its new line has a link to it
-  unlinked : (p : ℕ) → is_linked (w.links p i) ≡ true → is_origin (w.nodes p).role ≡ true → n.line ≡ (w.nodes p).line → ⊥
-  unlinked p is o e =
-      let g : n.line.origin ≡ p = ap (λ (x : Line). x.origin) e ∙ (s.good.nodes p).own_line ((s.links p i).ends is).0 o in
-      not_both (is_linked (w.links p i)) is (ap (λ (j : ℕ). is_linked (w.links j i)) (sym g) ∙ stranger.1)
+  -- no site on its new line has a link to it
+  unlinked : (p : ℕ) → is_linked (w.links p i) ≡ true → n.line ≡ (w.nodes p).line → ⊥
+  unlinked p is e = by_origin (is_origin (w.nodes p).role) refl
+    where
+      by_origin : (o : Bool) → is_origin (w.nodes p).role ≡ o → ⊥
+      by_origin true o =
+          let g : n.line.origin ≡ p = ap (λ (x : Line). x.origin) e ∙ (s.good.nodes p).own_line ((s.links p i).ends is).0 o in
+          not_both (is_linked (w.links p i)) is (ap (λ (j : ℕ). is_linked (w.links j i)) (sym g) ∙ stranger.1)
+      by_origin false r = s.bunkers p i is r (subst (λ (l : Line). IsStranger w.nodes w.links l i) e stranger)
 
-  comes : (p : ℕ) → GoodLink p i (w.nodes p) n (w.links p i)
+  comes : (p : ℕ) → GoodLink (w.lines (w.nodes p).line).held p i (w.nodes p) n (w.links p i)
   comes p = record {
     ends = λ e. (((s.links p i).ends e).0, stays);
     starts = (s.links p i).starts;
     apart = (s.links p i).apart;
     session = λ e. omega (arith, (s.links p i).session e, grows);
-    stored = λ v. absurd (unlinked p v.0 v.1 v.3);
-    net = λ v _. absurd (unlinked p v.0 v.1 v.3);
-    log = λ v _. absurd (unlinked p v.0 v.1 v.3);
-    takes = λ v _. absurd (unlinked p v.0 v.1 v.3);
+    stored = λ v. absurd (unlinked p v.0 v.2);
+    net = λ v _. absurd (unlinked p v.0 v.2);
+    says = λ _ v. absurd (unlinked p v.0 v.2);
   }
 
-  pub sound_joining : Good (with_node w i n) → IsWhole n → IsFed n → length n.log ≤ 0 → Sound (with_node w i n)
-  sound_joining good whole fed empty = record {
+  pub sound_joining : Good (with_node w i n) → IsWhole n → IsFed n → TakesUpdates n → IsMarked n → length n.log ≤ 0 → Sound (with_node w i n)
+  sound_joining good whole fed takes marked empty = record {
     good = good;
     whole = all_updated (λ k (m : Node). IsWhole m) w.nodes i n whole (λ k _. s.whole k);
     fed = all_updated (λ k (m : Node). IsFed m) w.nodes i n fed (λ k _. s.fed k);
+    takes = all_updated (λ k (m : Node). TakesUpdates m) w.nodes i n takes (λ k _. s.takes k);
+    marked = all_updated (λ k (m : Node). IsMarked m) w.nodes i n marked (λ k _. s.marked k);
     links =
-        all_updated (λ p (a : Node). (q : ℕ) → GoodLink p q a (joined_nodes q) (w.links p q)) w.nodes i n
-        (λ q. unlinked_good i q n (joined_nodes q) (w.links i q) (alone q))
-        (λ p _. all_updated (λ q (b : Node). GoodLink p q (w.nodes p) b (w.links p q)) w.nodes i n (comes p) (λ q _. s.links p q));
+        all_updated (λ p (a : Node). (q : ℕ) → GoodLink (w.lines a.line).held p q a (joined_nodes q) (w.links p q)) w.nodes i n
+        (λ q. unlinked_good (w.lines n.line).held i q n (joined_nodes q) (w.links i q) (alone q))
+        (λ p _. all_updated (λ q (b : Node). GoodLink (w.lines (w.nodes p).line).held p q (w.nodes p) b (w.links p q)) w.nodes i n (comes p)
+        (λ q _. s.links p q));
+    bunkers = λ p q is. all_updated (λ j (a : Node). is_linked (w.links j q) ≡ true → is_origin a.role ≡ false
+        → IsStranger joined_nodes w.links a.line q → ⊥) w.nodes i n
+        (λ there _ _. alone q there) (λ j _ there r g. s.bunkers j q there r (before (w.nodes j).line q g)) p is;
     packets =
         each_weaker (GoodPacket w.nodes w.links w.lines) (GoodPacket joined_nodes w.links w.lines)
         (λ p q. record {
           said = all_updated (λ j (m : Node). j ≡ p.source → GoodMessage (w.lines p.line).held m p.line p.message) w.nodes i n
-              (λ e. message_joins (w.lines p.line).held (w.nodes i) n p.line _ _ grows (stranger_at p.source p.line (sym e)) p.message
+              (λ e. message_joins (w.lines p.line).held (w.nodes i) n p.line _ _ grows (stranger_at p.source p.line (sym e)) quiet p.message
               (subst (λ (j : ℕ). GoodMessage (w.lines p.line).held (w.nodes j) p.line p.message) (sym e) q.said) q.known)
               (λ j _ e. subst (λ (x : ℕ). GoodMessage (w.lines p.line).held (w.nodes x) p.line p.message) (sym e) q.said) p.source refl;
           known = says_later _ _ _ _ (before p.line p.target) (before p.line p.source) p.message q.known;
@@ -300,20 +371,31 @@ module _ (w : World) (i sites : ℕ) (n : Node) (h : Line → History) (s : Soun
   begun_still line k (here, there) = (subst IsMade (same_elsewhere k here) here, subst IsMade (same_elsewhere line.origin there) there)
 
   stranger_was : (l : Line) (k : ℕ) → IsMade (w.nodes l.origin) → IsStranger founded_nodes w.links l k → IsStranger w.nodes w.links l k
-  stranger_was l k made q = (subst (λ (m : Node). m.line ≡ l) (sym (same_elsewhere l.origin made)) q.0, q.1)
+  stranger_was l k made q = (
+    subst (λ (m : Node). m.line ≡ l) (sym (same_elsewhere l.origin made)) q.0,
+    q.1,
+    all_updated (λ j (m : Node). is_bunker m.role ≡ false → is_bunker (w.nodes j).role ≡ false) w.nodes i n (λ _. (s.good.nodes i).plain bare)
+        (λ _ _ e. e) k q.2,
+  )
 
-  pub sound_founding : Good (record w { sites = sites; nodes = founded_nodes; lines = h }) → IsWhole n → is_origin n.role ≡ true
-      → Sound (record w { sites = sites; nodes = founded_nodes; lines = h })
-  sound_founding good whole origin = record {
+  pub sound_founding : Good (record w { sites = sites; nodes = founded_nodes; lines = h }) → IsWhole n → is_origin n.role ≡ true → TakesUpdates n
+      → IsMarked n → Sound (record w { sites = sites; nodes = founded_nodes; lines = h })
+  sound_founding good whole origin takes marked = record {
     good = good;
     whole = all_updated (λ k (m : Node). IsWhole m) w.nodes i n whole (λ k _. s.whole k);
     fed = all_updated (λ k (m : Node). IsFed m) w.nodes i n (λ r. not_both (is_origin n.role) origin r) (λ k _. s.fed k);
+    takes = all_updated (λ k (m : Node). TakesUpdates m) w.nodes i n takes (λ k _. s.takes k);
+    marked = all_updated (λ k (m : Node). IsMarked m) w.nodes i n marked (λ k _. s.marked k);
     links =
-        all_updated (λ p (a : Node). (q : ℕ) → GoodLink p q a (founded_nodes q) (w.links p q)) w.nodes i n
-        (λ q. unlinked_good i q n (founded_nodes q) (w.links i q) (λ e. made_elsewhere i ((s.links i q).ends e).0 refl))
-        (λ p _. all_updated (λ q (b : Node). GoodLink p q (w.nodes p) b (w.links p q)) w.nodes i n
-        (unlinked_good p i (w.nodes p) n (w.links p i) (λ e. made_elsewhere i ((s.links p i).ends e).1 refl))
-        (λ q _. s.links p q));
+        all_updated (λ p (a : Node). (q : ℕ) → GoodLink (h a.line).held p q a (founded_nodes q) (w.links p q)) w.nodes i n
+        (λ q. unlinked_good (h n.line).held i q n (founded_nodes q) (w.links i q) (λ e. made_elsewhere i ((s.links i q).ends e).0 refl))
+        (λ p _. all_updated (λ q (b : Node). GoodLink (h (w.nodes p).line).held p q (w.nodes p) b (w.links p q)) w.nodes i n
+        (unlinked_good (h (w.nodes p).line).held p i (w.nodes p) n (w.links p i) (λ e. made_elsewhere i ((s.links p i).ends e).1 refl))
+        (λ q _. held_good (w.lines (w.nodes p).line).held (h (w.nodes p).line).held p q (w.nodes p) (w.nodes q) (w.links p q) (s.links p q)));
+    bunkers = λ p q is. all_updated (λ j (a : Node). is_linked (w.links j q) ≡ true → is_origin a.role ≡ false
+        → IsStranger founded_nodes w.links a.line q → ⊥) w.nodes i n
+        (λ there _ _. made_elsewhere i ((s.links i q).ends there).0 refl)
+        (λ j _ there r g. s.bunkers j q there r (stranger_was (w.nodes j).line q (s.good.begun j ((s.links j q).ends there).0) g)) p is;
     packets =
         each_weaker (GoodPacket w.nodes w.links w.lines) (GoodPacket founded_nodes w.links h)
         (λ p q. record {

@@ -23,11 +23,11 @@ use Rattle.vx_history.specs.Events
 use Rattle.vx_history.specs.Gatherings.{completes}
 use Rattle.vx_model.specs.declared.limits.TheConstants.{MOST_PACKETS}
 use Rattle.vx_history.specs.Step.{step, run}
-use Rattle.vx_world.specs.Settling.{deliver_each, deliver_new, delivery}
+use Rattle.vx_world.specs.Settling.{is_between, deliver_between, deliver_new, delivery}
 use Rattle.vx_world.proofs.Lists.{each_append}
 use Rattle.vx_world.proofs.Told.{append-nil}
 use Rattle.vx_world.proofs.Batches.{IsIn, in_head, in_tail, in_new}
-use Rattle.vx_world.proofs.Turns.{run_append, new_is, nothing_new}
+use Rattle.vx_world.proofs.Turns.{run_append, new_between, nothing_new}
 
 abbrev pub is_update : Message → Bool
 is_update (Hello session number stored) = false
@@ -127,35 +127,45 @@ delivered_same v k p e last =
 
 -- ## Batches
 
-batch_adds : (ps : List Packet) (k : ℕ) (v : World) → Adds v (run v (deliver_each k ps))
-batch_adds [] k v = adds_none v v refl
-batch_adds (p ∷ ps) k v =
+-- more is sent, and then more again
+joins : (v u w : World) → Adds v u → Adds u w → Adds v w
+joins v u w first rest = record {
+  more = first.more ++ rest.more;
+  sent = rest.sent ∙ ap (λ (t : List Packet). t ++ rest.more) first.sent ∙ append_assoc v.packets first.more rest.more;
+  last = each_append IsLast first.more rest.more first.last rest.last;
+}
+
+batch_adds : (p s : ℕ) (qs : List Packet) (k : ℕ) (v : World) → Adds v (run v (deliver_between p s k qs))
+batch_adds p s [] k v = adds_none v v refl
+batch_adds p s (q ∷ qs) k v =
     let u : World = (step v (Deliver (suc k))).world in
     let first : Adds v (Events.delivered v (suc k) (Events.packet_at v.packets (suc k))).world = delivered_adds v (suc k)
     (Events.packet_at v.packets (suc k)) in
-    let rest : Adds u (run u (deliver_each (suc k) ps)) = batch_adds ps (suc k) u in
-    record {
-      more = first.more ++ rest.more;
-      sent = rest.sent ∙ ap (λ (t : List Packet). t ++ rest.more) first.sent ∙ append_assoc v.packets first.more rest.more;
-      last = each_append IsLast first.more rest.more first.last rest.last;
-    }
+    let more : Adds v u = record { more = first.more; sent = first.sent; last = first.last } in
+    by_test (λ (es : List Event). Adds v (run v es)) (is_between p s q) (Deliver (suc k) ∷ deliver_between p s (suc k) qs) (deliver_between p s (suc k) qs)
+    (λ _. joins v u (run u (deliver_between p s (suc k) qs)) more (batch_adds p s qs (suc k) u))
+    (λ _. batch_adds p s qs (suc k) v)
 
-batch_same : (ps : List Packet) (k : ℕ) (v : World) → IsIn v.packets k ps → AllByRecursion IsLast ps → (run v (deliver_each k ps)).packets ≡ v.packets
-batch_same [] k v is last = refl
-batch_same (p ∷ ps) k v is (last, rest) =
+batch_same : (p s : ℕ) (qs : List Packet) (k : ℕ) (v : World) → IsIn v.packets k qs → AllByRecursion IsLast qs
+    → (run v (deliver_between p s k qs)).packets ≡ v.packets
+batch_same p s [] k v is last = refl
+batch_same p s (q ∷ qs) k v is (last, rest) =
     let u : World = (step v (Deliver (suc k))).world in
-    let same : u.packets ≡ v.packets = delivered_same v k p (in_head v.packets k p ps is) last in
-    batch_same ps (suc k) u (subst (λ (x : List Packet). IsIn x (suc k) ps) (sym same) (in_tail v.packets k p ps is)) rest ∙ same
+    let same : u.packets ≡ v.packets = delivered_same v k q (in_head v.packets k q qs is) last in
+    by_test (λ (es : List Event). (run v es).packets ≡ v.packets) (is_between p s q) (Deliver (suc k) ∷ deliver_between p s (suc k) qs)
+    (deliver_between p s (suc k) qs)
+    (λ _. batch_same p s qs (suc k) u (subst (λ (x : List Packet). IsIn x (suc k) qs) (sym same) (in_tail v.packets k q qs is)) rest ∙ same)
+    (λ _. batch_same p s qs (suc k) v (in_tail v.packets k q qs is) rest)
 
 -- behind both rounds nothing was sent that was not there behind the first
-pub none_left : (old w : World) → deliver_new (run w (deliver_new old w)) (run w (delivery old w)) ≡ []
-none_left old w =
-    let v : World = run w (deliver_new old w) in
-    let adds : Adds w v = batch_adds (drop (length old.packets) w.packets) (length old.packets) w in
-    let second : deliver_new w v ≡ deliver_each (length w.packets) adds.more = new_is w v w.packets adds.more refl adds.sent in
-    let same : (run v (deliver_new w v)).packets ≡ v.packets =
+pub none_left : (p s : ℕ) (old w : World) → deliver_new p s (run w (deliver_new p s old w)) (run w (delivery p s old w)) ≡ []
+none_left p s old w =
+    let v : World = run w (deliver_new p s old w) in
+    let adds : Adds w v = batch_adds p s (drop (length old.packets) w.packets) (length old.packets) w in
+    let second : deliver_new p s w v ≡ deliver_between p s (length w.packets) adds.more = new_between p s w v w.packets adds.more refl adds.sent in
+    let same : (run v (deliver_new p s w v)).packets ≡ v.packets =
     ap (λ (es : List Event). (run v es).packets) second
-    ∙ batch_same adds.more (length w.packets) v
+    ∙ batch_same p s adds.more (length w.packets) v
     (subst (λ (x : List Packet). IsIn x (length w.packets) adds.more) (sym adds.sent) (in_new w.packets adds.more)) adds.last in
-    subst (λ (x : World). deliver_new v x ≡ []) (sym (run_append w (deliver_new old w) (deliver_new w v)))
-    (nothing_new v (run v (deliver_new w v)) v.packets refl same)
+    subst (λ (x : World). deliver_new p s v x ≡ []) (sym (run_append w (deliver_new p s old w) (deliver_new p s w v)))
+    (nothing_new p s v (run v (deliver_new p s w v)) v.packets refl same)

@@ -8,6 +8,7 @@ use Rattle.vx_history.specs.World.{World, Node, Link, Packet, Hello}
 use Rattle.vx_model.specs.Sites.{is_origin}
 use Rattle.vx_history.specs.Good.{IsMade}
 use Rattle.vx_model.specs.declared.history.Line.{Line}
+use Rattle.vx_model.specs.declared.link.Mode.{Mode}
 use Rattle.vx_model.specs.declared.site.Role.{Role}
 use Rattle.vx_model.specs.declared.site.Role.TheVariants.{Primary, Secondary, Handing, Bunker}
 use Rattle.vx_history.proofs.GoodLemmas.{up_is_made, made_is_given}
@@ -17,15 +18,15 @@ use Rattle.vx_history.specs.declared.event.Event.TheVariants.{Apply, Pump, Tick,
 use Rattle.vx_history.specs.Sends.{packet, is_linked}
 use Rattle.vx_history.specs.Refusals.{keeps_links}
 use Rattle.vx_history.specs.Step.{step, run}
-use Rattle.vx_world.specs.Settling.{deliver_each, delivery, greeting_events, is_stuck, turn, turns, settling, MaySettle, IsMet}
-use Rattle.vx_history.specs.Sound.{Sound, GoodLink, IsFollowed}
+use Rattle.vx_world.specs.Settling.{delivery, greeting_events, is_stuck, turn, turns, settling, MaySettle, IsMet}
+use Rattle.vx_history.specs.Sound.{Sound, GoodLink, IsFollowed, ModeSays}
 use Rattle.vx_history.specs.Fits.{Fits}
 use Rattle.vx_history.specs.GoodWorld.{GoodWorld}
 use Rattle.std.specs.List.{AllByRecursion}
 use Rattle.vx_world.proofs.Lists.{prefix_length, each_weaker}
 use Rattle.vx_world.proofs.Pair.{At, Fit, places_in, itself}
 use Rattle.vx_world.proofs.ToldApart.{connect_at, hello_at}
-use Rattle.vx_world.proofs.Batches.{fit_link}
+use Rattle.vx_world.proofs.Batches.{deliver_each, between_back, fit_link}
 use Rattle.vx_world.proofs.Turns.{IsSmall, run_append, new_is, Sent, sends, Came, comes, Turned, closes}
 use Rattle.vx_world.proofs.Whole.{run_good}
 
@@ -44,13 +45,13 @@ module _ (w : World) (p s : ℕ) (good : GoodWorld w) (may : MaySettle w p s) wh
   sound = good.sound
 
   origin : is_origin (w.nodes p).role ≡ true
-  origin = (sound.links p s).starts may.linked
+  origin = may.sender
 
   receiver : is_origin (w.nodes s).role ≡ false
   receiver = ap is_origin may.secondary
 
   followed : IsFollowed (w.nodes p) (w.nodes s) (w.links p s)
-  followed = (may.linked, origin, receiver, may.line)
+  followed = (may.linked, receiver, may.line)
 
   made_p : IsMade (w.nodes p)
   made_p = up_is_made (w.nodes p) may.here
@@ -68,7 +69,7 @@ module _ (w : World) (p s : ℕ) (good : GoodWorld w) (may : MaySettle w p s) wh
     sends = origin_keeps (w.nodes p).role origin;
     receives = receiver;
     line = may.line;
-    takes = (sound.links p s).takes followed may.mode;
+    takes = (subst (λ (m : Mode). ModeSays (w.lines (w.nodes p).line).held (w.nodes s) m) may.mode ((sound.links p s).says origin followed)).1;
     other = sound.fed s receiver ∙ ap (λ (x : Line). x.origin) may.line ∙ (sound.good.nodes p).own_line made_p origin;
     linked = may.linked;
     attached = may.attached;
@@ -90,7 +91,7 @@ module _ (w : World) (p s : ℕ) (good : GoodWorld w) (may : MaySettle w p s) wh
   stored_most =
       omega (
         arith,
-        (sound.links p s).stored followed,
+        ((sound.links p s).stored followed).0,
         (sound.good.nodes s).safe_fits,
         prefix_length (w.nodes s).log (w.lines (w.nodes s).line).held ((sound.good.nodes s).receiver_log made_s receiver),
         ap (λ (x : Line). length (w.lines x).held) may.line,
@@ -99,13 +100,14 @@ module _ (w : World) (p s : ℕ) (good : GoodWorld w) (may : MaySettle w p s) wh
       )
 
 -- what stands under its names may be settled
-may_by : (v : World) (p s : ℕ) (a b : Node) (l : Link) (ps : List Packet) → At v p s a b l ps → Fit p s a b l → b.role ≡ Secondary → l.bunker ≡ false
+may_by : (v : World) (p s : ℕ) (a b : Node) (l : Link) (ps : List Packet) → At v p s a b l ps → Fit p s a b l → is_origin a.role ≡ true → b.role ≡ Secondary → l.bunker ≡ false
     → MaySettle v p s
-may_by v p s a b l ps at fit role bunker = record {
+may_by v p s a b l ps at fit sender role bunker = record {
   here = ap (λ (x : Node). x.state) at.at_p ∙ fit.up_a;
   there = ap (λ (x : Node). x.state) at.at_s ∙ fit.up_b;
   runs_here = ap (λ (x : Node). x.halted) at.at_p ∙ fit.runs_a;
   runs_there = ap (λ (x : Node). x.halted) at.at_s ∙ fit.runs_b;
+  sender = ap (λ (x : Node). is_origin x.role) at.at_p ∙ sender;
   secondary = ap (λ (x : Node). x.role) at.at_s ∙ role;
   line = ap (λ (x : Node). x.line) at.at_s ∙ fit.line ∙ ap (λ (x : Node). x.line) (sym at.at_p);
   linked = ap is_linked at.at_l ∙ fit.linked;
@@ -116,10 +118,10 @@ may_by v p s a b l ps at fit role bunker = record {
   mode = ap (λ (x : Link). x.mode) at.at_l ∙ fit.mode;
 }
 
-met_by : (v : World) (p s : ℕ) (a b : Node) (l : Link) (ps : List Packet) → At v p s a b l ps → Fit p s a b l → b.role ≡ Secondary → l.bunker ≡ false
+met_by : (v : World) (p s : ℕ) (a b : Node) (l : Link) (ps : List Packet) → At v p s a b l ps → Fit p s a b l → is_origin a.role ≡ true → b.role ≡ Secondary → l.bunker ≡ false
     → l.session ≡ b.session → l.net ≡ length b.log → l.stored ≡ b.safe → IsMet v p s
-met_by v p s a b l ps at fit role bunker session net stored = record {
-  may = may_by v p s a b l ps at fit role bunker;
+met_by v p s a b l ps at fit sender role bunker session net stored = record {
+  may = may_by v p s a b l ps at fit sender role bunker;
   session = ap (λ (x : Link). x.session) at.at_l ∙ session ∙ ap (λ (x : Node). x.session) (sym at.at_s);
   net = ap (λ (x : Link). x.net) at.at_l ∙ net ∙ ap (λ (x : Node). length x.log) (sym at.at_s);
   stored = ap (λ (x : Link). x.stored) at.at_l ∙ stored ∙ ap (λ (x : Node). x.safe) (sym at.at_s);
@@ -140,15 +142,15 @@ greeted_meets w p s good_w may =
     let at : At w p s a b l w.packets = stands w p s good_w may in
     let v : World = (step w (Connect p s)).world in
     let at_v : At v p s a b l (w.packets ++ hello ∷ []) = connect_at w p s a b l w.packets at fit in
-    let good : GoodLink p s a b l = sound.links p s in
+    let good : GoodLink (w.lines a.line).held p s a b l = sound.links p s in
     let told = hello_at v p s a b l (w.packets ++ hello ∷ []) at_v fit (length w.packets) (omega (arith, length-append w.packets (hello ∷ [])))
     (first w.packets hello) (good.session may.linked)
-    (good.stored (followed w p s good_w may)) (sound.good.nodes s).safe_fits
+    (good.stored (followed w p s good_w may)).0 (sound.good.nodes s).safe_fits
     (λ same. good.net (followed w p s good_w may) (may.there, sym same)) in
     let m : Link = record l { session = b.session; net = length b.log; stored = b.safe; sent = told.0 } in
-    subst (λ (es : List Event). IsMet (run v es) p s × (((run v es).nodes p).safe ≡ a.safe)) (sym (new_is w v w.packets (hello ∷ []) refl at_v.sent)) (
+    subst (λ (es : List Event). IsMet (run v es) p s × (((run v es).nodes p).safe ≡ a.safe)) (sym (new_is p s w v w.packets (hello ∷ []) refl at_v.sent (between_back p s b.line (Hello b.session (length b.log) b.safe) 0, tt))) (
       met_by (run v (deliver_each (length w.packets) (hello ∷ []))) p s a b m (w.packets ++ hello ∷ []) told.1
-          (fit_link p s a b l b.session (length b.log) b.safe told.0 l.trimmed fit) may.secondary may.bunker refl refl refl,
+          (fit_link p s a b l b.session (length b.log) b.safe told.0 l.trimmed fit) may.sender may.secondary may.bunker refl refl refl,
       ap (λ (x : Node). x.safe) told.1.at_p,
     )
   where
@@ -174,12 +176,12 @@ turned w p s good_w met =
     let sent : List Event = Tick p s ∷ Pump p s ∷ [] in
     let w1 : World = run w sent in
     let st : Sent p s a b l w.packets small head small_a fit met.session met.net met.stored w1 = sends p s a b l w.packets small head small_a fit met.session met.net met.stored w at in
-    let came : List Event = delivery w w1 in
+    let came : List Event = delivery p s w w1 in
     let w2 : World = run w1 came in
     let c : Came p s a b l w.packets small head small_a fit met.session met.net met.stored w2 = comes p s a b l w.packets small head small_a fit met.session met.net met.stored w w1 at st in
     let applied : List Event = Apply s (length (w2.nodes s).log - (w2.nodes s).safe) 0 ∷ [] in
     let w3 : World = run w2 applied in
-    let heard : List Event = delivery w2 w3 in
+    let heard : List Event = delivery p s w2 w3 in
     let w4 : World = run w3 heard in
     let t : Turned p s a b l w4 = closes p s a b l w.packets small head small_a fit met.session met.net met.stored w2 c in
     let last : List Event = if is_stuck l.stored (w4.links p s).stored (w4.nodes p).safe then greeting_events w4 p s else [] in (
@@ -231,7 +233,7 @@ turn_raises w p s good_w met below =
     let stored : (v.links p s).stored ≡ t.site.safe = ap (λ (x : Link). x.stored) t.at.at_l ∙ t.stored in
     let raised : l.stored < (v.links p s).stored = omega (arith, fuller, t.whole, stored, met.stored) in
     subst (λ (x : World). IsMet x p s × (l.stored < (x.links p s).stored) × ((x.nodes p).safe ≡ (w.nodes p).safe)) (sym (over.2 below raised)) (
-      met_by v p s (w.nodes p) t.site t.link t.packets t.at t.fit (t.role ∙ met.may.secondary) (t.bunker ∙ met.may.bunker) t.session t.net t.stored,
+      met_by v p s (w.nodes p) t.site t.link t.packets t.at t.fit met.may.sender (t.role ∙ met.may.secondary) (t.bunker ∙ met.may.bunker) t.session t.net t.stored,
       raised,
       ap (λ (x : Node). x.safe) t.at.at_p,
     )

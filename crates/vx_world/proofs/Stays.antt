@@ -8,6 +8,7 @@ use Rattle.vx_history.specs.World.{World, Link as LinkRecord, empty_world}
 use Rattle.vx_model.specs.Sites.{is_origin}
 use Rattle.vx_history.specs.Steps.{raw_made}
 use Rattle.vx_model.specs.declared.link.Prot.TheVariants.{Fail as FailsWhenFull}
+use Rattle.vx_model.specs.declared.site.SiteState.TheVariants.{Bare, Up}
 use Rattle.vx_model.specs.declared.no.No.TheVariants.{Size, Role as WrongRole, Down as NotUp}
 use Rattle.vx_history.specs.LinkForms.{plain_link}
 use Rattle.vx_model.specs.declared.link.Link.{Link as PlainLink}
@@ -57,8 +58,8 @@ outcome_keeps w (Apply q count reached) s =
     let o : Outcome = if is_origin (w.nodes q).role then Events.reached_at w q count reached else Events.apply_at w q count in
     at_site_keeps w q (at_work w q o) s
     (λ _. at_work_keeps w q o s
-    (λ up _. by_test Keeps (is_origin (w.nodes q).role) (Events.reached_at w q count reached) (Events.apply_at w q count) (λ _. s)
-    (λ r. apply_keeps w q count s up r)))
+    (λ up runs. by_test Keeps (is_origin (w.nodes q).role) (Events.reached_at w q count reached) (Events.apply_at w q count) (λ _. s)
+    (λ r. apply_keeps w q count s up runs r)))
 outcome_keeps w (Pump p q) s =
     on_link_keeps keeps_links w p q _ s (λ up _ linked. when_live_keeps w q (w.links p q) _ s (pump_keeps w p q s up linked))
 outcome_keeps w (Tick p q) s =
@@ -79,11 +80,12 @@ outcome_keeps w (Wait p number) s =
     (λ o. wait_keeps w p number s up (not_false (is_origin (w.nodes p).role) o))))
 outcome_keeps w (Link p q sync part) s =
     at_site_keeps w p _ s
-    (λ _. at_site_keeps w q _ s (λ _. both_keeps w p q (link_part part w p q sync) s (λ up_p up_q _. link_part_keeps part w p q sync s up_p up_q)))
+    (λ _. at_site_keeps w q _ s (λ _. both_keeps w p q (link_part part w p q sync) s (λ up_p up_q _ runs_q. link_part_keeps part w p q sync s up_p up_q runs_q)))
 outcome_keeps w (Set p q sync) s =
     let l : LinkRecord = record (w.links p q) { sync = sync; prot = FailsWhenFull } in
     on_link_keeps is_origin w p q (done (with_link w p q l)) s
-    (λ _ _ _. sound_with_link w p q l s (Links.link_like p q (w.nodes p) (w.nodes q) (w.links p q) l refl refl refl refl (λ e. e) (s.links p q)) (λ is. is))
+    (λ _ _ _. sound_with_link w p q l s (Links.link_like (w.lines (w.nodes p).line).held p q (w.nodes p) (w.nodes q) (w.links p q) l refl refl refl refl (λ e. e) (s.links p q))
+    (λ is. is) (λ _ is. is))
 outcome_keeps w (Crash q kept) s =
     let o : Outcome = done (Events.crash_at w q (Events.kept_of (w.nodes q) kept)) in
     at_site_keeps w q (unless (not (is_up (w.nodes q).state)) NotUp w o) s
@@ -108,7 +110,10 @@ empty_sound = record {
   good = good_empty;
   whole = λ _ _. omega arith;
   fed = λ _ r. absurd (cc);
-  links = λ p q. unlinked_good p q (empty_world.nodes p) (empty_world.nodes q) (empty_world.links p q) (λ e. cc);
+  takes = λ _. refl;
+  marked = λ _ up. absurd (let e : Bare ≡ Up = up in cc);
+  bunkers = λ p q is. absurd (let e : false ≡ true = is in cc);
+  links = λ p q. unlinked_good [] p q (empty_world.nodes p) (empty_world.nodes q) (empty_world.links p q) (λ e. cc);
   packets = tt;
   promised = tt;
   known = λ i made. absurd (made refl);

@@ -26,7 +26,7 @@ at_site_keeps = Guards.at_site_holds Sound
 pub at_work_keeps : (w : World) (p : ℕ) (o : Outcome) → Sound w → ((w.nodes p).state ≡ Up → (w.nodes p).halted ≡ None → Keeps o) → Keeps (at_work w p o)
 at_work_keeps = Guards.at_work_holds Sound
 
-pub both_keeps : (w : World) (p q : ℕ) (o : Outcome) → Sound w → ((w.nodes p).state ≡ Up → (w.nodes q).state ≡ Up → (w.nodes p).halted ≡ None → Keeps o)
+pub both_keeps : (w : World) (p q : ℕ) (o : Outcome) → Sound w → ((w.nodes p).state ≡ Up → (w.nodes q).state ≡ Up → (w.nodes p).halted ≡ None → (w.nodes q).halted ≡ None → Keeps o)
     → Keeps (both_at_work w p q o)
 both_keeps = Guards.both_holds Sound
 

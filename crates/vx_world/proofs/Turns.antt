@@ -17,12 +17,12 @@ use Rattle.vx_history.specs.declared.event.Event.TheVariants.{Apply, Pump, Tick}
 use Rattle.vx_history.specs.Sends.{packet, updates, between, further_parts}
 use Rattle.vx_history.specs.Events.{applied}
 use Rattle.vx_history.specs.Step.{step, run}
-use Rattle.vx_world.specs.Settling.{deliver_each, deliver_new, delivery}
+use Rattle.vx_world.specs.Settling.{is_between, deliver_between, deliver_new, delivery}
 use Rattle.vx_world.proofs.Pair.{At, Fit}
 use Rattle.vx_world.proofs.Told.{append-nil, tick_at, pump_at, pump_none, disk_at}
 use Rattle.vx_world.proofs.ToldApart.{apply_none, apply_all}
-use Rattle.vx_world.proofs.Batches.{in_new, fit_log, fit_link}
-use Rattle.vx_world.proofs.Arriving.{Arrived, Told, parts_length, updates_any, acks_any}
+use Rattle.vx_world.proofs.Batches.{deliver_each, all_between, between_back, updates_between, in_new, fit_log, fit_link}
+use Rattle.vx_world.proofs.Arriving.{Arrived, Told, parts_length, acks_between, updates_any, acks_any}
 
 pub run_append : (w : World) (xs ys : List Event) → run w (xs ++ ys) ≡ run (run w xs) ys
 run_append w [] ys = refl
@@ -33,15 +33,21 @@ drop_front [] ys = refl
 drop_front (x ∷ xs) ys = drop_front xs ys
 
 -- what is new is what was sent
-pub new_is : (old w : World) (ps more : List Packet) → old.packets ≡ ps → w.packets ≡ ps ++ more → deliver_new old w ≡ deliver_each (length ps) more
-new_is old w ps more e f =
-    ap (λ (x : List Packet). deliver_each (length x) (drop (length x) w.packets)) e
-    ∙ ap (λ (x : List Packet). deliver_each (length ps) (drop (length ps) x)) f
-    ∙ ap (λ (x : List Packet). deliver_each (length ps) x) (drop_front ps more)
+pub new_between : (p s : ℕ) (old w : World) (ps more : List Packet) → old.packets ≡ ps → w.packets ≡ ps ++ more
+    → deliver_new p s old w ≡ deliver_between p s (length ps) more
+new_between p s old w ps more e f =
+    ap (λ (x : List Packet). deliver_between p s (length x) (drop (length x) w.packets)) e
+    ∙ ap (λ (x : List Packet). deliver_between p s (length ps) (drop (length ps) x)) f
+    ∙ ap (λ (x : List Packet). deliver_between p s (length ps) x) (drop_front ps more)
+
+-- and each of it is delivered, where it goes between the two sites
+pub new_is : (p s : ℕ) (old w : World) (ps more : List Packet) → old.packets ≡ ps → w.packets ≡ ps ++ more
+    → AllByRecursion (λ q. is_between p s q ≡ true) more → deliver_new p s old w ≡ deliver_each (length ps) more
+new_is p s old w ps more e f are = new_between p s old w ps more e f ∙ all_between p s (length ps) more are
 
 -- nothing is new
-pub nothing_new : (old w : World) (ps : List Packet) → old.packets ≡ ps → w.packets ≡ ps → deliver_new old w ≡ []
-nothing_new old w ps e f = new_is old w ps [] e (f ∙ sym (append-nil ps))
+pub nothing_new : (p s : ℕ) (old w : World) (ps : List Packet) → old.packets ≡ ps → w.packets ≡ ps → deliver_new p s old w ≡ []
+nothing_new p s old w ps e f = new_between p s old w ps [] e (f ∙ sym (append-nil ps))
 
 length_between : (low high : ℕ) (log : List Write) → low < high → high ≤ length log → 0 < length (between (low + 1) high log)
 length_between low high log less most = some (low + 1) (take high log) (omega (arith, less, most, length-take high log)) (omega arith)
@@ -147,7 +153,7 @@ module _ (p s : ℕ) (a b : Node) (l : Link) (ps : List Packet) (fits : b.safe �
     pub grown : length log ≡ length b.log + count
     pub some : length b.log < a.safe → ltb (length b.log - b.safe) 16 ≡ true → 0 < count
 
-  pub comes : (v w : World) → At v p s a b l ps → Sent w → Came (run w (delivery v w))
+  pub comes : (v w : World) → At v p s a b l ps → Sent w → Came (run w (delivery p s v w))
   comes v w at st =
       let batch : List Packet = updates p s a.line (length b.log + 1) st.writes in
       let m : Link = record l { sent = st.high; trimmed = 0 } in
@@ -174,9 +180,12 @@ module _ (p s : ℕ) (a b : Node) (l : Link) (ps : List Packet) (fits : b.safe �
         grown = omega (arith, length-append b.log (take came.count st.writes), length-take came.count st.writes, came.few);
         some = λ below room. came.some (st.some below) room;
       } in
-      subst Came (sym (run_append w (deliver_new v w) (deliver_new w (run w (deliver_new v w)))))
-      (subst (λ (es : List Event). Came (run (run w es) (deliver_new w (run w es)))) (sym (new_is v w ps batch at.sent st.at.sent))
-      (subst (λ (es : List Event). Came (run first es)) (sym (new_is w first (ps ++ batch) came.acks st.at.sent came.at.sent)) over))
+      subst Came (sym (run_append w (deliver_new p s v w) (deliver_new p s w (run w (deliver_new p s v w)))))
+      (subst (λ (es : List Event). Came (run (run w es) (deliver_new p s w (run w es))))
+      (sym (new_is p s v w ps batch at.sent st.at.sent (updates_between p s a.line (length b.log + 1) st.writes)))
+      (subst (λ (es : List Event). Came (run first es))
+      (sym (new_is p s w first (ps ++ batch) came.acks st.at.sent came.at.sent (acks_between p s b.line b.session (length b.log + came.count) came.acks came.are)))
+      over))
     where
       knows : (count now : ℕ) → l.net ≤ now → now ≤ length b.log + count → (0 < count → now ≡ length b.log + count) → now ≡ l.net + count
       knows zero now least most all = omega (arith, least, most, net)
@@ -221,10 +230,10 @@ module _ (p s : ℕ) (a b : Node) (l : Link) (ps : List Packet) (fits : b.safe �
     (small : AllByRecursion IsSmall a.log) (fit : Fit p s a b l) (session : l.session ≡ b.session) (net : l.net ≡ length b.log)
     (stored : l.stored ≡ b.safe) where
   pub closes : (w : World) → Came p s a b l ps fits whole small fit session net stored w
-      → let x = run w (Apply s (length (w.nodes s).log - (w.nodes s).safe) 0 ∷ []) in Turned p s a b l (run x (delivery w x))
+      → let x = run w (Apply s (length (w.nodes s).log - (w.nodes s).safe) 0 ∷ []) in Turned p s a b l (run x (delivery p s w x))
   closes w came =
       let n : Node = record b { log = came.log } in
-      subst (λ (y : Node). let x = run w (Apply s (length y.log - y.safe) 0 ∷ []) in Turned p s a b l (run x (delivery w x))) (sym came.at.at_s)
+      subst (λ (y : Node). let x = run w (Apply s (length y.log - y.safe) 0 ∷ []) in Turned p s a b l (run x (delivery p s w x))) (sym came.at.at_s)
       (by_value (eqb (length came.log - b.safe) 0) (λ none. at_rest (is_none (length came.log - b.safe) none))
       (λ some. at_work (is_some (length came.log - b.safe) some)))
     where
@@ -238,13 +247,13 @@ module _ (p s : ℕ) (a b : Node) (l : Link) (ps : List Packet) (fits : b.safe �
       fit_came = fit_log p s a b (record l { net = l.net + came.count; sent = came.high; trimmed = 0 }) came.log
           (fit_link p s a b l l.session (l.net + came.count) l.stored came.high 0 fit)
 
-      at_rest : length came.log - b.safe ≡ 0 → (let x = run w (Apply s (length came.log - b.safe) 0 ∷ []) in Turned p s a b l (run x (delivery w x)))
+      at_rest : length came.log - b.safe ≡ 0 → (let x = run w (Apply s (length came.log - b.safe) 0 ∷ []) in Turned p s a b l (run x (delivery p s w x)))
       at_rest none =
           let n : Node = record b { log = came.log } in
           let m : Link = record l { net = l.net + came.count; sent = came.high; trimmed = 0 } in
           let x : World = run w (Apply s (length came.log - b.safe) 0 ∷ []) in
           let at_x : At x p s a n m came.packets = apply_none w p s a n m came.packets came.at fit_came (length came.log - b.safe) none in
-          let quiet : deliver_new w x ≡ [] = nothing_new w x came.packets came.at.sent at_x.sent in
+          let quiet : deliver_new p s w x ≡ [] = nothing_new p s w x came.packets came.at.sent at_x.sent in
           let over : Turned p s a b l x = record {
             site = n;
             link = m;
@@ -260,10 +269,10 @@ module _ (p s : ℕ) (a b : Node) (l : Link) (ps : List Packet) (fits : b.safe �
             role = refl;
             bunker = refl;
           } in
-          subst (λ (es : List Event). Turned p s a b l (run x (es ++ deliver_new x (run x es)))) (sym quiet)
-          (subst (λ (es : List Event). Turned p s a b l (run x es)) (sym (nothing_new x x came.packets at_x.sent at_x.sent)) over)
+          subst (λ (es : List Event). Turned p s a b l (run x (es ++ deliver_new p s x (run x es)))) (sym quiet)
+          (subst (λ (es : List Event). Turned p s a b l (run x es)) (sym (nothing_new p s x x came.packets at_x.sent at_x.sent)) over)
 
-      at_work : 0 < length came.log - b.safe → (let x = run w (Apply s (length came.log - b.safe) 0 ∷ []) in Turned p s a b l (run x (delivery w x)))
+      at_work : 0 < length came.log - b.safe → (let x = run w (Apply s (length came.log - b.safe) 0 ∷ []) in Turned p s a b l (run x (delivery p s w x)))
       at_work some =
           let n : Node = record b { log = came.log } in
           let m : Link = record l { net = l.net + came.count; sent = came.high; trimmed = 0 } in
@@ -295,10 +304,10 @@ module _ (p s : ℕ) (a b : Node) (l : Link) (ps : List Packet) (fits : b.safe �
             role = refl;
             bunker = refl;
           } in
-          subst (λ (es : List Event). Turned p s a b l (run x (es ++ deliver_new x (run x es))))
-          (sym (new_is w x came.packets (ack ∷ []) came.at.sent at_x.sent))
-          (subst (λ (v : World). Turned p s a b l v) (sym (run_append x (deliver_each (length came.packets) (ack ∷ [])) (deliver_new x u)))
-          (subst (λ (es : List Event). Turned p s a b l (run u es)) (sym (nothing_new x u (came.packets ++ ack ∷ []) at_x.sent at_u.sent)) over))
+          subst (λ (es : List Event). Turned p s a b l (run x (es ++ deliver_new p s x (run x es))))
+          (sym (new_is p s w x came.packets (ack ∷ []) came.at.sent at_x.sent (between_back p s b.line (DataAck (length came.log)) 0, tt)))
+          (subst (λ (v : World). Turned p s a b l v) (sym (run_append x (deliver_each (length came.packets) (ack ∷ [])) (deliver_new p s x u)))
+          (subst (λ (es : List Event). Turned p s a b l (run u es)) (sym (nothing_new p s x u (came.packets ++ ack ∷ []) at_x.sent at_u.sent)) over))
         where
           first : (xs : List Packet) (y : Packet) → slice_get (xs ++ y ∷ []) (length xs) ≡ Some y
           first [] y = refl

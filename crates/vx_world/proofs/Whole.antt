@@ -94,7 +94,7 @@ outcome_leaves w (Wait p number) s =
 outcome_leaves w (Link p q sync part) s =
     Guards.at_site_holds (Keeps w) w p _ (keeps_same w)
     (λ _. Guards.at_site_holds (Keeps w) w q _ (keeps_same w)
-    (λ _. Guards.both_holds (Keeps w) w p q (link_part part w p q sync) (keeps_same w) (λ up _ _. link_part_leaves part w p q sync s up)))
+    (λ _. Guards.both_holds (Keeps w) w p q (link_part part w p q sync) (keeps_same w) (λ up _ _ _. link_part_leaves part w p q sync s up)))
 outcome_leaves w (Set p q sync) s =
     let l : LinkRecord = record (w.links p q) { sync = sync; prot = FailsWhenFull } in
     Guards.on_link_holds (Keeps w) is_origin w p q (done (with_link w p q l)) (keeps_same w) (λ _ _ _. keeps_links w w (keeps_same w) (with_link w p q l).links)

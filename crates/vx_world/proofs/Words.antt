@@ -1,5 +1,5 @@
 -- What holds of a sound world, in the words of its laws.
-use Rattle.std.proofs.Common.{◌≡◌, ℕ, ◌≤◌, List, length, take, drop, ap, sym, ◌∙◌, subst, arith, true}
+use Rattle.std.proofs.Common.{◌≡◌, inl, ℕ, ◌≤◌, List, length, take, drop, ap, sym, ◌∙◌, subst, arith, true}
 use Rattle.std.specs.Prelude.{slice_get, Some}
 use Rattle.std.proofs.lemmas.List.{length-take, take-append-drop}
 use Rattle.vx_model.specs.Content.{Write, Content, IsNumber, fold_writes}
@@ -15,7 +15,7 @@ pub whole_content : (w : World) (i : ℕ) → Sound w
     → fold_writes (w.nodes i).base (drop (w.nodes i).safe (w.nodes i).log) ≡ fold_writes (w.nodes i).start (w.nodes i).log
 whole_content w i s =
     let n : Node = w.nodes i in
-    ap (λ (c : Content). fold_writes c (drop n.safe n.log)) (s.good.nodes i).content
+    ap (λ (c : Content). fold_writes c (drop n.safe n.log)) ((s.good.nodes i).content (inl (s.takes i)))
     ∙ sym (fold_append n.start (take n.safe n.log) (drop n.safe n.log))
     ∙ ap (λ (xs : List Write). fold_writes n.start xs) (take-append-drop n.safe n.log)
 

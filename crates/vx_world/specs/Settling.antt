@@ -1,6 +1,7 @@
 -- The events that settling a link stands for, and which links can be settled.
-use Rattle.std.specs.Prelude.{◌≡◌, ℕ, zero, suc, ◌-◌, Bool, true, false, ◌&&◌, ltb, leb, if◌then◌else◌, List, [], ◌∷◌, ◌++◌, length, drop, None}
+use Rattle.std.specs.Prelude.{◌≡◌, ℕ, zero, suc, ◌-◌, Bool, true, false, ◌&&◌, ◌||◌, eqb, ltb, leb, if◌then◌else◌, List, [], ◌∷◌, ◌++◌, length, drop, None}
 use Rattle.vx_history.specs.World.{Packet, World}
+use Rattle.vx_model.specs.Sites.{is_origin}
 use Rattle.vx_model.specs.declared.site.Role.TheVariants.{Secondary}
 use Rattle.vx_model.specs.declared.site.SiteState.TheVariants.{Up}
 use Rattle.vx_model.specs.declared.link.Mode.TheVariants.{Log}
@@ -9,22 +10,27 @@ use Rattle.vx_history.specs.declared.event.Event.TheVariants.{Apply, Pump, Tick,
 use Rattle.vx_history.specs.Sends.{is_linked}
 use Rattle.vx_history.specs.Step.{step, run}
 
--- these packets are delivered in their order; so many stand before the first
-abbrev pub deliver_each : (before : ℕ) → List Packet → List Event
-deliver_each before [] = []
-deliver_each before (p ∷ ps) = Deliver (suc before) ∷ deliver_each (suc before) ps
+-- the packet goes from one of the two sites to the other
+abbrev pub is_between : (p s : ℕ) → Packet → Bool
+is_between p s q = (eqb q.source p && eqb q.target s) || (eqb q.source s && eqb q.target p)
 
--- the packets that were sent since the world was the old one
-abbrev pub deliver_new : (old w : World) → List Event
-deliver_new old w = deliver_each (length old.packets) (drop (length old.packets) w.packets)
+-- those of these packets that go between the two sites are delivered in their order; so many packets stand before the first
+abbrev pub deliver_between : (p s before : ℕ) → List Packet → List Event
+deliver_between p s before [] = []
+deliver_between p s before (q ∷ qs) =
+    if is_between p s q then Deliver (suc before) ∷ deliver_between p s (suc before) qs else deliver_between p s (suc before) qs
+
+-- those of the packets between the two sites that were sent since the world was the old one
+abbrev pub deliver_new : (p s : ℕ) → (old w : World) → List Event
+deliver_new p s old w = deliver_between p s (length old.packets) (drop (length old.packets) w.packets)
 
 -- They are delivered, and then what was sent in answer. Nothing is sent in answer to that: acknowledgements have none.
-abbrev pub delivery : (old w : World) → List Event
-delivery old w = let first = deliver_new old w in first ++ deliver_new w (run w first)
+abbrev pub delivery : (p s : ℕ) → (old w : World) → List Event
+delivery p s old w = let first = deliver_new p s old w in first ++ deliver_new p s w (run w first)
 
 -- the receiver greets, which is delivered; connecting a link that is connected does nothing else
 abbrev pub greeting_events : World → (p s : ℕ) → List Event
-greeting_events w p s = Connect p s ∷ deliver_new w (step w (Connect p s)).world
+greeting_events w p s = Connect p s ∷ deliver_new p s w (step w (Connect p s)).world
 
 -- the link counts less as stored than is durable, and no more than before
 abbrev pub is_stuck : (before stored head : ℕ) → Bool
@@ -36,11 +42,11 @@ abbrev pub turn : World → (p s : ℕ) → List Event
 turn w p s =
     let sent = Tick p s ∷ Pump p s ∷ [] in
     let w1 = run w sent in
-    let came = delivery w w1 in
+    let came = delivery p s w w1 in
     let w2 = run w1 came in
     let applied = Apply s (length (w2.nodes s).log - (w2.nodes s).safe) 0 ∷ [] in
     let w3 = run w2 applied in
-    let heard = delivery w2 w3 in
+    let heard = delivery p s w2 w3 in
     let w4 = run w3 heard in
     sent ++ (came ++ (applied ++ (heard ++ (if is_stuck (w.links p s).stored (w4.links p s).stored (w4.nodes p).safe then greeting_events w4 p s else []))))
 
@@ -54,13 +60,14 @@ turns (suc n) w p s =
 abbrev pub settling : World → (p s : ℕ) → List Event
 settling w p s = let g = greeting_events w p s in g ++ turns (w.nodes p).safe (run w g) p s
 
--- An attached, connected link in mode Log that is not paused and leads to no bunker, from a site to a secondary on its line; both
--- are up, and no disk has halted them.
+-- An attached, connected link in mode Log that is not paused and leads to no bunker, from a site where writes arise to a secondary on its
+-- line; both are up, and no disk has halted them.
 pub record MaySettle (w : World) (p s : ℕ) : Type 0 where
   pub here : (w.nodes p).state ≡ Up
   pub there : (w.nodes s).state ≡ Up
   pub runs_here : (w.nodes p).halted ≡ None
   pub runs_there : (w.nodes s).halted ≡ None
+  pub sender : is_origin (w.nodes p).role ≡ true
   pub secondary : (w.nodes s).role ≡ Secondary
   pub line : (w.nodes s).line ≡ (w.nodes p).line
   pub linked : is_linked (w.links p s) ≡ true

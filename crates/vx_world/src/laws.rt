@@ -13,12 +13,12 @@ ghost use Rattle.vx_history.specs.GoodWorld.{GoodWorld};
 ghost use Rattle.vx_history.specs.Likes.{IsLike};
 ghost use Rattle.vx_history.specs.Steps.{stopped_by};
 ghost use Rattle.vx_history.specs.Events.{packet_at};
-ghost use Rattle.vx_history.specs.Doubts.{After, Doubted, resolved, crashed_as};
+ghost use Rattle.vx_history.specs.Doubts.{After, Doubted, resolved, crashed_as, halved, happened};
 ghost use Rattle.vx_history.specs.declared.event.Event.TheVariants.{Deliver, Set, Link};
 ghost use Rattle.vx_history.specs.declared.event.LinkPart.TheVariants.{Joins, Made, Marked, Opened};
 ghost use Rattle.vx_model.specs.declared.link.SyncMode.{SyncMode};
 ghost use Rattle.vx_model.specs.declared.site.SiteState.TheVariants.{Up};
-ghost use Rattle.vx_history.specs.Stops.{Stops};
+ghost use Rattle.vx_history.specs.Stops.{Stops, IsOpen, WritesAt};
 ghost use Rattle.vx_world.specs.Lines.{NoDoubts, GoodDoubted};
 ghost use Rattle.vx_world.specs.Twins.{Twin, IsAlone, IsElsewhere, GoodTwin};
 ghost use Rattle.vx_history.specs.Step.{step, run};
@@ -70,14 +70,14 @@ pub fn forgets_nothing()
 {}
 
 /// Settling a link of a good world brings all that is durable at its site to its receiver's disks. The receiver's greeting lets the two meet, each turn
-/// raises what is stored as long as that is below the head, and at the end it is the head, which has not changed. Where packets are
-/// delivered, with what is sent in answer, none is left.
+/// raises what is stored as long as that is below the head, and at the end it is the head, which has not changed. Only packets between the
+/// two are delivered. Where they are, with what is sent in answer, none between the two is left.
 pub fn settles()
     ensures meets { (w : World) (p s : ℕ) → GoodWorld w → MaySettle w p s → IsMet (run w (greeting_events w p s)) p s }
     ensures raises { (w : World) (p s : ℕ) → GoodWorld w → IsMet w p s → (w.links p s).stored < (w.nodes p).safe → (w.links p s).stored < ((run w (turn w p s)).links p s).stored }
     ensures meets_again { (w : World) (p s : ℕ) → GoodWorld w → IsMet w p s → (w.links p s).stored < (w.nodes p).safe → IsMet (run w (turn w p s)) p s }
     ensures ends { (w : World) (p s : ℕ) → GoodWorld w → MaySettle w p s → ((run w (settling w p s)).links p s).stored ≡ ((run w (settling w p s)).nodes p).safe }
-    ensures none_left { (old w : World) → deliver_new (run w (deliver_new old w)) (run w (delivery old w)) ≡ [] }
+    ensures none_left { (p s : ℕ) (old w : World) → deliver_new p s (run w (deliver_new p s old w)) (run w (delivery p s old w)) ≡ [] }
     ensures head { (w : World) (p s : ℕ) → GoodWorld w → MaySettle w p s → ((run w (settling w p s)).nodes p).safe ≡ (w.nodes p).safe }
 {}
 
@@ -100,8 +100,19 @@ pub fn changes_one_site()
     ensures opened { (w : World) (s q : ℕ) (sync : SyncMode) → (w.nodes s).state ≡ Up → IsAlone s w (step w (Link s q sync Opened)).world }
 {}
 
-/// However a line ends that begins where no site is in doubt, its world is good, and so it is with the site that the line halted as it
-/// may be on its disks.
+/// With any number of halted sites in doubt: an event that is done, one that a disk ends at a further site, and a crash of a site in doubt
+/// leave a world that is good whichever of the sites in doubt are as they may be on their disks.
+pub fn passes_halted_sites()
+    ensures done { (d : Doubted) (e : Event) (taken : Bool) → GoodDoubted d → GoodDoubted (happened d e taken) }
+    ensures halts { (d : Doubted) (e : Event) (s disk : ℕ) → GoodDoubted d → IsOpen (d.world.nodes s) → WritesAt d.world e s → GoodDoubted (halved d e s disk) }
+    ensures crashes { (d : Doubted) (s kept : ℕ) (taken : Bool) (a : After) → d.after s ≡ Some a → GoodDoubted d → GoodDoubted (crashed_as d s kept taken) }
+{}
+
+/// However a line ends, and whatever sites are in doubt before it: its world is good, whichever of the sites that are in doubt then are as
+/// they may be on their disks. A good world without doubts is a beginning.
 pub fn lines_stay_good()
-    ensures { (d new : Doubted) (events : List Event) (fails : List (ℕ × ℕ)) → GoodWorld d.world → NoDoubts d → Stops d events fails new → GoodDoubted new }
+    ensures line { (d new : Doubted) (events : List Event) (fails : List (ℕ × ℕ)) → GoodDoubted d → Stops d events fails new → GoodDoubted new }
+    ensures begins { (d : Doubted) → GoodWorld d.world → NoDoubts d → GoodDoubted d }
+    ensures world { (d : Doubted) → GoodDoubted d → GoodWorld d.world }
+    ensures twins { (d : Doubted) (s : ℕ) (a : After) → GoodDoubted d → d.after s ≡ Some a → GoodTwin s d.world (resolved d.world s a) }
 {}
