@@ -12,10 +12,12 @@ mod turns;
 mod volume;
 mod writing;
 
+pub use flushing::flush_plex;
 pub use plexes::{blocks_of, is_active, plex_count};
 pub use reading::read_plex;
 pub use sets::{Failed, set_of};
 pub use volume::{Volume, flush, flush_all, read, write, write_all};
+pub use writing::write_plex;
 
 #[cfg(test)]
 mod tests;

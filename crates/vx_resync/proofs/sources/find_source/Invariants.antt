@@ -1,0 +1,5 @@
+use Rattle.vx_resync.proofs.PickLemmas.{NoneGives}
+use Rattle.vx_resync.proofs.sources.find_source.Given as goal
+
+abbrev pub invariant-loop-plex : goal.invariant-loop-plex
+invariant-loop-plex l = NoneGives l.config l.vol l.to l.plex

@@ -1,0 +1,3 @@
+pub mod Sources
+pub mod Picks
+pub mod Copies

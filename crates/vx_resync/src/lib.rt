@@ -1,0 +1,14 @@
+//! Resynchronisation of a volume: the regions in which its plexes may differ are copied from one plex to others.
+//!
+//! A region is 64 blocks of 512 bytes. Which regions are copied is read from the dirty region log or from the map of missed regions.
+#![tactic(auto)]
+
+mod copying;
+mod flushing;
+mod picks;
+mod putting;
+mod regions;
+mod resync;
+mod sources;
+
+pub use resync::{attach, recover};
