@@ -1,5 +1,5 @@
 -- A deport, over the core of a group.
-use Rattle.std.proofs.Common.{◌≡◌, inl, inr, ℕ, ◌<◌, ◌≤◌, Bool, true, false, IsTrue, List, length, Result, Ok, Err, refl, ap, sym, ◌∙◌}
+use Rattle.std.proofs.Common.{◌≡◌, inl, inr, ℕ, ◌<◌, ◌≤◌, Bool, true, false, IsTrue, List, length, Result, Ok, Err, refl, ap, sym, ◌∙◌, arith}
 use Rattle.std.proofs.lemmas.Bool.{cases_lt}
 use Rattle.std.proofs.lemmas.Option.{slice_get_past}
 use Rattle.vx_disk.specs.Shelf.{Meaning, Nothing}
@@ -18,21 +18,22 @@ use Rattle.vx_kept.specs.Cleans.{Shown, at_serial, cleaned, marked}
 use Rattle.vx_kept.specs.Commits.{Left, Member}
 use Rattle.vx_kept.specs.Keeping.{Acts, Sees}
 use Rattle.vx_kept.proofs.Chosen.{active_volumes}
-use Rattle.vx_kept.proofs.CleanCommits.{cleaned_volumes}
 use Rattle.vx_kept.proofs.CleanLemmas.{AllClean, all_clean}
 use Rattle.vx_kept.proofs.Committed.{take_on}
-use Rattle.vx_kept.proofs.Facts.{from_fact, to_fact}
+use Rattle.vx_kept.proofs.Facts.{to_fact}
 use Rattle.vx_kept.proofs.Narrower.{on_live}
+use Rattle.vx_kept.proofs.StateLemmas.{same_shape}
 use Rattle.vx_group.specs.Blames.{Blames, StopsBy}
-use Rattle.vx_group.specs.Deports.{Closes, Deported, GivenBack}
+use Rattle.vx_group.specs.Deports.{CleanCommitted, Closes, CommitCloses, CommitMissed, Deported, IsVolumeOf}
 use Rattle.vx_group.specs.Moves.{Narrows}
+use Rattle.vx_group.specs.Quiesces.{GivenBack, NoVolume, Quiesced, Quiesces}
 use Rattle.vx_group.specs.Settled.{SameBut}
 use Rattle.vx_group.specs.Stands.{Stands}
 use Rattle.vx_group.specs.declared.group_core.GroupCore.{GroupCore}
-use Rattle.vx_group.proofs.CallLemmas.{blames_later, both_Narrows, both_acts}
+use Rattle.vx_group.proofs.CallLemmas.{blames_later}
 use Rattle.vx_group.proofs.DetachLemmas.{left_Narrows, left_Stands}
-use Rattle.vx_group.proofs.ReadyLemmas.{kept_volumes}
-use Rattle.vx_group.proofs.Standing.{sound_of}
+use Rattle.vx_group.proofs.QuiesceLemmas.{both_quiesce, quiet}
+use Rattle.vx_group.proofs.Standing.{apart_of_core, sound_of}
 
 clash_of : (b : Bool) → b ≡ true → b ≡ false → ⊥
 clash_of b is off = let clash : true ≡ false = sym is ∙ off in cc
@@ -63,7 +64,7 @@ module _ (core : GroupCore) (d : Config) (m m' : Meaning) (stands : Stands core 
       let is_c : IsTrue (active core.config v p) = stands.on.each v p (sym (all.alike.lives v p) ∙ on_live a v p is) in
       clash_of (active a v p) is (all.off v p (active_there core.config v p is_c) sure (active_few core.config (sound_of core m stands) v p is_c)))
 
-  pub closed : Deported core m m'
+  pub closed : CleanCommitted core m m'
   closed = record {
     config = d;
     finds = shown.finds;
@@ -81,7 +82,7 @@ module _ (core : GroupCore) (d : Config) (m m' : Meaning) (stands : Stands core 
 module _ (core e : GroupCore) (m m' : Meaning) (stands : Stands core m) (acts : Acts Nothing (Sees core.config (Member core.good m) m) m m')
     (wanted : is_wanted m'.units m'.size e.config ≡ true) (can : CanSpell e.config) (faults : e.faults ≡ core.faults) (unsure : e.unsure ≡ core.unsure)
     (a : Config) (why : No) (left : Left core.good core.config a e.config m m' why) (good : e.good ≡ core.good) (un : e.unsettled ≡ true) where
-  pub given_back : GivenBack core e m m'
+  pub given_back : CommitMissed core e m m'
   given_back =
       let on = take_on core.config e.config left.volumes stands.on in
       record {
@@ -90,35 +91,55 @@ module _ (core e : GroupCore) (m m' : Meaning) (stands : Stands core m) (acts : 
         volumes = left.volumes;
       }
 
--- ---- behind headers that were written back
+-- ---- behind the flushes
 
-module _ (core mid d : GroupCore) (m m1 last : Meaning) (narrows : Narrows core mid m m1) (same : SameBut core.config mid.config) (good : mid.good ≡ core.good) where
-  back_later : GivenBack mid d m1 last → GivenBack core d m last
-  back_later it = record {
+-- a commit, as flushes of no volume
+committed_quiet : (c : GroupCore) (m m' : Meaning) → CleanCommitted c m m' → Quiesces c c NoVolume m m'
+committed_quiet c m m' it = quiet c c m m' (record { acts = it.acts; shape = same_shape c.config; on = λ v p is. is; faults = refl; unsure = refl }) refl
+
+-- headers that were written back
+pub settled_back : (core mid : GroupCore) (m m1 : Meaning) → Stands mid m1 → Narrows core mid m m1 → SameBut core.config mid.config → GivenBack core mid m m1
+settled_back core mid m m1 stands narrows same = record { stands = stands; quiesces = quiet core mid m m1 narrows same.volumes }
+
+module _ (core mid fl d : GroupCore) (m m1 m2 last : Meaning) (begun : Stands core m) (narrows : Narrows core mid m m1) (same : SameBut core.config mid.config) (up1 : IsTrue m1.down → ⊥) where
+  readied : Quiesces core mid NoVolume m m1
+  readied = quiet core mid m m1 narrows same.volumes
+
+  as_mid : (v : ℕ) → IsVolumeOf core v → IsVolumeOf mid v
+  as_mid v lt = let n : length mid.config.volumes ≡ length core.config.volumes = ap length same.volumes in omega (arith, n, lt)
+
+  -- refused before the commit
+  pub back_flushed : GivenBack mid fl m1 m2 → GivenBack core fl m m2
+  back_flushed it = record {
     stands = it.stands;
-    narrows = both_Narrows core mid d m m1 last same.volumes good narrows it.narrows;
-    volumes = it.volumes ∙ same.volumes;
+    quiesces = both_quiesce core mid fl NoVolume NoVolume NoVolume m m1 m2 (apart_of_core core m begun) readied it.quiesces up1 (λ v none. inl none);
   }
 
-  deported_later : Deported mid m1 last → Deported core m last
-  deported_later it = record {
-    config = it.config;
-    finds = it.finds;
-    site = it.site ∙ same.site;
-    rvg = it.rvg ∙ same.rvg;
-    count = it.count ∙ same.count;
-    volumes = it.volumes ∙ ap (λ (u : List Bool). (cleaned u mid.config (length mid.config.volumes)).volumes) narrows.unsure
-        ∙ ap (λ (n : ℕ). (cleaned core.unsure mid.config n).volumes) (ap length same.volumes) ∙ cleaned_volumes core.unsure (length core.config.volumes) mid.config core.config same.volumes;
-    off = λ v p sure. it.off v p (ap (λ (u : List Bool). marked u v) narrows.unsure ∙ sure);
-    acts = both_acts core mid m m1 last same.volumes good narrows.acts it.acts;
-    kept = to_fact (at_serial it.config.serial core.config) (Held it.config last) last
-        (kept_volumes (at_serial it.config.serial mid.config) (at_serial it.config.serial core.config) (Held it.config last) last (sym same.volumes) refl
-        (from_fact (at_serial it.config.serial mid.config) (Held it.config last) last it.kept));
-  }
+  module _ (flushed : Quiesced mid fl (IsVolumeOf mid) m1 m2) where
+    drained : Quiesces core fl (IsVolumeOf core) m m2
+    drained = both_quiesce core mid fl NoVolume (IsVolumeOf mid) (IsVolumeOf core) m m1 m2 (apart_of_core core m begun) readied flushed.quiesces up1 (λ v lt. inr (as_mid v lt))
 
-  pub closes_later : {T E : Type 0} (r : Result T E) → Closes mid d m1 last r → Closes core d m last r
-  closes_later (Ok x) it = deported_later it
-  closes_later (Err e) it = back_later it
+    back_later : CommitMissed fl d m2 last → GivenBack core d m last
+    back_later it = record {
+      stands = it.stands;
+      quiesces = both_quiesce core fl d (IsVolumeOf core) NoVolume NoVolume m m2 last (apart_of_core core m begun) drained (quiet fl d m2 last it.narrows it.volumes) flushed.up (λ v none. absurd none);
+    }
+
+    deported_later : CleanCommitted fl m2 last → Deported core m last
+    deported_later it = record {
+      behind = fl;
+      quiesces = both_quiesce core fl fl (IsVolumeOf core) NoVolume (IsVolumeOf core) m m2 last (apart_of_core core m begun) drained (committed_quiet fl m2 last it) flushed.up (λ v lt. inl lt);
+      config = it.config;
+      finds = it.finds;
+      parts = record { site = it.site ∙ flushed.parts.site ∙ same.site; rvg = it.rvg ∙ flushed.parts.rvg ∙ same.rvg; count = it.count ∙ flushed.parts.count ∙ same.count };
+      volumes = it.volumes ∙ ap (λ (n : ℕ). (cleaned fl.unsure fl.config n).volumes) drained.shape.volumes;
+      off = it.off;
+      kept = it.kept;
+    }
+
+    pub closes_later : {T E : Type 0} (r : Result T E) → CommitCloses fl d m2 last r → Closes core d m last r
+    closes_later (Ok x) it = deported_later it
+    closes_later (Err e) it = back_later it
 
 pub stops_later : {T : Type 0} (r : Result T ShelfError) (old mid new : Meaning) → ((d : ℕ) → old.disk_faults d ≤ mid.disk_faults d) → StopsBy mid new r → StopsBy old new r
 stops_later (Ok x) old mid new before up = tt

@@ -6,8 +6,9 @@ pub mod ReadLemmas
 pub mod ReadyLemmas
 pub mod CreateLemmas
 pub mod DetLemmas
-pub mod DeportLemmas
 pub mod CopyLemmas
+pub mod QuiesceLemmas
+pub mod DeportLemmas
 pub mod FoundLemmas
 pub mod ResumeLemmas
 pub mod MendLemmas

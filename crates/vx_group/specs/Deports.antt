@@ -1,5 +1,5 @@
 -- How a deport ends.
-use Rattle.std.specs.Prelude.{◌≡◌, ℕ, false, length, Result, Ok, Err}
+use Rattle.std.specs.Prelude.{◌≡◌, ℕ, ◌<◌, false, length, Result, Ok, Err}
 use Rattle.vx_disk.specs.Causes.{DeviceCause}
 use Rattle.vx_disk.specs.Shelf.{Each, Image, Meaning, Nothing}
 use Rattle.vx_model.specs.declared.errors.Stop.{Stop}
@@ -17,13 +17,14 @@ use Rattle.vx_kept.specs.Groups.{found}
 use Rattle.vx_kept.specs.Keeping.{Acts, Sees}
 use Rattle.vx_volume.specs.Plexes.{active}
 use Rattle.vx_group.specs.Moves.{Narrows}
+use Rattle.vx_group.specs.Quiesces.{GivenBack, Quiesces, SameParts}
 use Rattle.vx_group.specs.Stands.{Stands}
 use Rattle.vx_group.specs.declared.group_core.GroupCore.{GroupCore}
 
 -- Whatever a crash leaves, an import that can read all disks finds one configuration: that of the group, with each plex that was ACTIVE
 -- CLEAN, but for those of the volumes that are unsure. No block of a plex was touched. A group in which the plexes are ACTIVE may stand on
 -- the disks.
-pub record Deported (c : GroupCore) (old new : Meaning) : Type 0 where
+pub record CleanCommitted (c : GroupCore) (old new : Meaning) : Type 0 where
   pub config : Config
   pub finds : (i : Image) → Each new.leaves i → found new i ≡ Found config
   pub site : config.site ≡ c.config.site
@@ -35,10 +36,32 @@ pub record Deported (c : GroupCore) (old new : Meaning) : Type 0 where
   pub kept : KeptFact (at_serial config.serial c.config) (Held config new) new
 
 -- the group stands as it was, but for its serial and disks that failed
-pub record GivenBack (c d : GroupCore) (old new : Meaning) : Type 0 where
+pub record CommitMissed (c d : GroupCore) (old new : Meaning) : Type 0 where
   pub stands : Stands d new
   pub narrows : Narrows c d old new
   pub volumes : d.config.volumes ≡ c.config.volumes
+
+-- how its commit ends, by the parts of the group
+abbrev pub CommitCloses : {T E : Type 0} → GroupCore → GroupCore → Meaning → Meaning → Result T E → Type 0
+CommitCloses c d old new (Ok x) = CleanCommitted c old new
+CommitCloses c d old new (Err stop) = CommitMissed c d old new
+
+-- one of the volumes of the group
+abbrev pub IsVolumeOf : GroupCore → ℕ → Type 0
+IsVolumeOf c v = v < length c.config.volumes
+
+-- Every volume was flushed, and then a commit made. Whatever a crash leaves, an import that can read all disks finds one configuration: that of
+-- the group behind the flushes, with each plex that was ACTIVE CLEAN, but for those of the volumes that are unsure. Each plex that is CLEAN
+-- by it has in each block what it read. A group in which the plexes are ACTIVE may stand on the disks.
+pub record Deported (c : GroupCore) (old new : Meaning) : Type 0 where
+  pub behind : GroupCore
+  pub quiesces : Quiesces c behind (IsVolumeOf c) old new
+  pub config : Config
+  pub finds : (i : Image) → Each new.leaves i → found new i ≡ Found config
+  pub parts : SameParts c.config config
+  pub volumes : config.volumes ≡ (cleaned behind.unsure behind.config (length c.config.volumes)).volumes
+  pub off : (v p : ℕ) → marked behind.unsure v ≡ false → active config v p ≡ false
+  pub kept : KeptFact (at_serial config.serial behind.config) (Held config new) new
 
 -- how it ends, by the parts of the group
 abbrev pub Closes : {T E : Type 0} → GroupCore → GroupCore → Meaning → Meaning → Result T E → Type 0

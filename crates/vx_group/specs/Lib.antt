@@ -5,8 +5,9 @@ pub mod Settled
 pub mod Laws
 pub mod Creates
 pub mod Dets
-pub mod Deports
 pub mod Copying
+pub mod Quiesces
+pub mod Deports
 pub mod Resumes
 pub mod Mends
 pub mod Makes

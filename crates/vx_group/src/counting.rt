@@ -17,8 +17,8 @@ pub fn count_fault(faults: &mut [u64; MOST_VOLUMES], vol: u32)
     faults[vol as usize] = faults[vol as usize].saturating_add(1);
 }
 
-/// Marks a volume as unsure.
-fn mark(unsure: &mut [bool; MOST_VOLUMES], vol: u32)
+//// Marks a volume as unsure.
+pub fn mark(unsure: &mut [bool; MOST_VOLUMES], vol: u32)
     requires inside { vol < MOST_VOLUMES }
     ensures { Marked vol unsure.old unsure.new }
 {

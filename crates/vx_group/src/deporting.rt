@@ -1,8 +1,8 @@
-// The commit by which a group is deported.
+// The flushes and the commit by which a group is deported.
 ghost use Rattle.std.specs.Prelude.{◌≡◌, ◌<◌, ◌≤◌, ◌-◌, false, Err, IsTrue};
 ghost use Rattle.vx_config.specs.Table.{greatest};
 ghost use Rattle.vx_group.specs.Blames.{StopsBy};
-ghost use Rattle.vx_group.specs.Deports.{Closes};
+ghost use Rattle.vx_group.specs.Deports.{Closes, CommitCloses};
 ghost use Rattle.vx_group.specs.Dets.{DetStops, margin};
 ghost use Rattle.vx_group.specs.Stands.{Stands};
 ghost use Rattle.vx_model.specs.declared.errors.Stop.TheVariants.{No as Refused};
@@ -11,6 +11,7 @@ ghost use Rattle.vx_model.specs.declared.no.No.TheVariants.{Limit};
 
 use crate::GroupCore;
 use crate::detaching::fault_of;
+use crate::quiescing::flush_volumes;
 use crate::settling::settle_headers;
 use vx_disk::{Shelf, ShelfError, refusal};
 use vx_kept::commit_clean;
@@ -25,7 +26,7 @@ fn commit_closed<S: Shelf>(shelf: &mut S, core: &mut GroupCore) -> Result<(), Sh
     requires stands { Stands core.old (S.meaning shelf.old) }
     requires settled { core.old.unsettled ≡ false }
     requires more { core.old.config.serial < greatest }
-    ensures ends { Closes core.old core.new (S.meaning shelf.old) (S.meaning shelf.new) result }
+    ensures ends { CommitCloses core.old core.new (S.meaning shelf.old) (S.meaning shelf.new) result }
     ensures cause { StopsBy (S.meaning shelf.old) (S.meaning shelf.new) result }
 {
     match commit_clean(
@@ -46,7 +47,7 @@ fn commit_closed<S: Shelf>(shelf: &mut S, core: &mut GroupCore) -> Result<(), Sh
     }
 }
 
-// The same, behind the headers that a refused commit asks for.
+// The same, behind the headers that a refused commit asks for, and a flush of every volume.
 fn close<S: Shelf>(shelf: &mut S, core: &mut GroupCore) -> Result<(), ShelfError>
     requires stands { Stands core.old (S.meaning shelf.old) }
     requires more { core.old.config.serial < greatest }
@@ -58,14 +59,19 @@ fn close<S: Shelf>(shelf: &mut S, core: &mut GroupCore) -> Result<(), ShelfError
         Ok(()) => {}
         Err(error) => return Err(error),
     }
+    match flush_volumes(shelf, core) {
+        Ok(()) => {}
+        Err(error) => return Err(error),
+    }
     commit_closed(shelf, core)
 }
 
-/// Deports a group: a commit puts the plexes that are ACTIVE into the state CLEAN, but those of the volumes of which a write or a flush
-/// failed.
+/// Deports a group: every volume is flushed, and then a commit puts the plexes that are ACTIVE into the state CLEAN, but those of the
+/// volumes of which a write or a flush failed.
 ///
 /// Answers 19 exactly where fewer than 65,536 serials are left, and then nothing has changed; else 7 only where the count of the disk that
-/// it names rose, and 6 only where the shelf is then down. After a refusal the group stands as it was. It takes no memory.
+/// it names rose, and 6 only where the shelf is then down. After a refusal the group stands, without the plexes that were detached. It takes no memory.
+#[tactic(auto, using(crate::proofs::QuiesceLemmas::still_back))]
 pub fn deport_in<S: Shelf>(shelf: &mut S, core: &mut GroupCore) -> Result<(), Stop>
     requires stands { Stands core.old (S.meaning shelf.old) }
     ensures limit { greatest - margin < core.old.config.serial → (result ≡ Err (Refused (Limit Numbers greatest))) × (core.new ≡ core.old) × (shelf.new ≡ shelf.old) }

@@ -4,6 +4,7 @@ ghost use Rattle.vx_config.specs.Table.{greatest};
 ghost use Rattle.vx_copies.specs.Answers.{good_set};
 ghost use Rattle.vx_group.specs.Blames.{Blames, BlamesOr, fault_of as fault_is};
 ghost use Rattle.vx_group.specs.Moves.{AreOff, Narrows};
+ghost use Rattle.vx_group.specs.Quiesces.{SameParts};
 ghost use Rattle.vx_group.specs.Stands.{Stands};
 ghost use Rattle.vx_disk.specs.Blocks.{bit_at};
 ghost use Rattle.vx_kept.specs.States.{AreOn, SomeLeft};
@@ -58,6 +59,7 @@ pub fn detach<S: Shelf>(
     ensures off { OnOk result (AreOff core.new.config vol failed.set) }
     ensures others { (w p : ℕ) → (w ≡ vol → bit_at failed.set p ≡ true → ⊥) → active core.new.config w p ≡ active core.old.config w p }
     ensures settled { OnOk result (core.new.unsettled ≡ false) }
+    ensures parts { OnOk result (SameParts core.old.config core.new.config) }
     ensures cause { BlamesOr failed.disk (S.meaning shelf.old) (S.meaning shelf.new) result }
     ensures sure { core.old.config.serial < greatest → Blames (S.meaning shelf.old) (S.meaning shelf.new) result }
 {

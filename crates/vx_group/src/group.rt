@@ -96,12 +96,14 @@ impl<S: Shelf> Group<S> {
         det_in(&mut self.shelf, &mut self.core, vol, plex)
     }
 
-    /// Deports the group: a commit puts the plexes that are ACTIVE into the state CLEAN, but those of the volumes of which a write or a
-    /// flush failed, and the shelf is handed out.
+    /// Deports the group: every volume is flushed, then a commit puts the plexes that are ACTIVE into the state CLEAN, but those of the
+    /// volumes of which a write or a flush failed, and the shelf is handed out. A plex that fails in its flush is detached; where each
+    /// plex of a volume fails, they stay ACTIVE.
     ///
     /// Answers 19 exactly where fewer than 65,536 serials are left, and then nothing has changed; else 7 only where the count of the disk
-    /// that it names rose, and 6 only where the shelf is then down. A refusal gives the group back. It makes no device call but those of a
-    /// commit, behind a refused commit those that write headers back, and takes no memory.
+    /// that it names rose, and 6 only where the shelf is then down. A refusal gives the group back, without the plexes that were
+    /// detached. It makes no device call but flushes and those of commits, behind a refused commit those that write headers back, and takes
+    /// no memory.
     pub fn deport(self) -> Result<S, (Group<S>, Stop)>
         ensures limit { greatest - margin < self.core.config.serial → IsFull self.core self.shelf (λ g. g.core) (λ g. g.shelf) result }
         ensures ends { GroupDeported self.core (S.meaning self.shelf) (λ s. S.meaning s) (λ g. g.core) (λ g. g.shelf) result }

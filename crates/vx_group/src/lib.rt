@@ -17,6 +17,7 @@ mod making;
 mod marking;
 mod mending;
 mod planning;
+mod quiescing;
 mod reading;
 mod settling;
 mod shaping;

@@ -1,6 +1,7 @@
-use Rattle.std.proofs.Common.{true, refl, sym, subst, Err}
+use Rattle.std.proofs.Common.{true, length, ap, ◌∙◌, refl, sym, subst, Err}
 use Rattle.vx_disk.specs.declared.shelf.ShelfError.{ShelfError}
 use Rattle.vx_kept.specs.States.{staled}
+use Rattle.vx_kept.proofs.StateLemmas.{is_staled}
 use Rattle.vx_group.specs.Blames.{Blames, BlamesOr}
 use Rattle.vx_group.proofs.CallLemmas.{not_down}
 use Rattle.vx_group.proofs.DetachLemmas.{left_Narrows, left_Stands, left_others, staled_less, staled_some, stop_blames, stop_sure, taken_Narrows, taken_Stands, taken_off, taken_others}
@@ -57,3 +58,9 @@ returns-else-is_down-clause-others g c = taken_others c.args.core.now (record { 
 
 pub returns-else-is_down-2-clause-others : goal.returns-else-is_down-2-clause-others
 returns-else-is_down-2-clause-others g c = left_others c.args.core.now (record { config = c.commit_stale.new.config; good = c.args.core.now.good; room = c.commit_stale.new.room; unsettled = true; next = c.args.core.now.next; faults = c.args.core.now.faults; unsure = c.args.core.now.unsure }) c.args.vol c.args.failed.set (g.S.Shelf.meaning c.args.shelf.now) (g.S.Shelf.meaning c.commit_stale.new.shelf) c.requires.stands c.commit_stale.ensures.acts c.commit_stale.ensures.wanted c.commit_stale.ensures.can c.commit_stale.ensures.on refl refl (staled c.args.vol c.args.failed.set c.args.core.now.config 8) c.in-Err.no c.in-Err.ensures.ends refl refl
+
+pub returns-else-is_down-clause-parts : goal.returns-else-is_down-clause-parts
+returns-else-is_down-clause-parts g c =
+    let was = is_staled c.args.vol c.args.failed.set 8 c.args.core.now.config in
+    let grown = c.in-Ok.ensures.ends.grown in
+    record { site = grown.site ∙ was.site; rvg = grown.rvg ∙ was.rvg; count = grown.disks.count ∙ ap length was.disks }

@@ -1,0 +1,6 @@
+use Rattle.std.proofs.Common.{ℕ, ◌<◌}
+use Rattle.vx_group.specs.Quiesces.{Quiesced}
+use Rattle.vx_group.proofs.quiescing.flush_volumes.Given as goal
+
+abbrev pub invariant-loop-vol : goal.invariant-loop-vol
+invariant-loop-vol g l = Quiesced l.fn.core l.core (λ (v : ℕ). v < l.vol) (g.S.Shelf.meaning l.fn.shelf) (g.S.Shelf.meaning l.shelf)
