@@ -175,3 +175,94 @@ fn a_failing_disk_is_named(rt: HostRuntime) -> Result<(), Fail> {
     assert_eq!(rt; is_dirty(alloc, &mut shelf, &config, 7), Some(false));
     Ok(())
 }
+
+// Marks a run of regions twice, and takes marks off between where the caller says so.
+fn marked_twice<S: Shelf>(
+    alloc: Global,
+    shelf: &mut S,
+    config: &Config,
+    first: u64,
+    last: u64,
+    cleared: bool,
+) -> Told {
+    if !has_log(config, 0, VolumeLog::Drl)
+        || !disks_fit(config.disks.as_slice(), shelf)
+        || shelf.is_down()
+    {
+        return Told::Other;
+    }
+    match Drl::load(alloc, shelf, config, 0) {
+        Ok(mut drl) => {
+            if first > last || last >= drl.regions {
+                return Told::Other;
+            }
+            let once = said(drl.mark(shelf, first, last));
+            if once != Told::Done {
+                return once;
+            }
+            if cleared {
+                let flushed = said(drl.flushed(shelf));
+                if flushed != Told::Done || last >= drl.regions {
+                    return flushed;
+                }
+            }
+            if last >= drl.regions {
+                return Told::Other;
+            }
+            said(drl.mark(shelf, first, last))
+        }
+        Err(_) => Told::Other,
+    }
+}
+
+// The first three calls read the log, write a mark and flush it; each call behind them would fail.
+#[test]
+fn a_mark_of_what_is_marked_makes_no_call(rt: HostRuntime) -> Result<(), Fail> {
+    let alloc = rt.alloc();
+    let config = group(alloc)?;
+    let mut shelf = fitted(alloc, &[4, 5, 6, 7])?;
+    assert_eq!(rt;
+        marked_twice(alloc, &mut shelf, &config, 5, 9, false),
+        Told::Done
+    );
+    Ok(())
+}
+
+// What a load answers.
+fn load_said<S: Shelf>(alloc: Global, shelf: &mut S, config: &Config) -> Told {
+    match loaded(alloc, shelf, config) {
+        Ok(_) => Told::Done,
+        Err(Stop::No(No::Device { disk })) => Told::Device(disk),
+        Err(_) => Told::Other,
+    }
+}
+
+#[test]
+fn a_load_that_fails_names_the_disk(rt: HostRuntime) -> Result<(), Fail> {
+    let alloc = rt.alloc();
+    let config = group(alloc)?;
+    let mut shelf = fitted(alloc, &[1])?;
+    assert_eq!(rt; load_said(alloc, &mut shelf, &config), Told::Device(1));
+    assert_eq!(rt; load_said(alloc, &mut shelf, &config), Told::Done);
+    Ok(())
+}
+
+// Marks are taken off in two calls, the fourth and the fifth, and set again in two more.
+#[test]
+fn marks_are_taken_off_in_two_calls(rt: HostRuntime) -> Result<(), Fail> {
+    let alloc = rt.alloc();
+    let config = group(alloc)?;
+    for (call, wanted) in [
+        (4, Told::Device(1)),
+        (5, Told::Device(1)),
+        (7, Told::Device(1)),
+        (8, Told::Done),
+    ] {
+        let mut shelf = fitted(alloc, &[call])?;
+        assert_eq!(rt;
+            marked_twice(alloc, &mut shelf, &config, 5, 9, true),
+            wanted
+        );
+    }
+    Ok(())
+}

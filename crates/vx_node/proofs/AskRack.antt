@@ -29,7 +29,7 @@ module _ {R : Type 0} {g : Ghosts R} where
   units_are n (Down rack) h = h.lies.units
   units_are n Gone h = absurd h
 
-  asked_at : (Did : DiskSet R g → DiskSet R g → Type 0) (w : World) (old new : Yard R g) (name : List ℕ) (s : ℕ) (before after : DiskSet R g) → YardAgrees w old → seat_of old.facts.items name ≡ Some s
+  pub asked_at : (Did : DiskSet R g → DiskSet R g → Type 0) (w : World) (old new : Yard R g) (name : List ℕ) (s : ℕ) (before after : DiskSet R g) → YardAgrees w old → seat_of old.facts.items name ≡ Some s
       → slice_get old.disk_sets.items s ≡ Some before → new.disk_sets.items ≡ slice_set old.disk_sets.items s after → Did before after → OfSite Did (site_number w name) old new
   asked_at Did w old new name s before after agrees seat there disk_sets did =
       subst (λ (k : ℕ). OfSite Did k old new) (sym (seated w old name s agrees seat).number) (record { before = before; after = after; there = there; disk_sets = disk_sets; did = did })

@@ -10,6 +10,7 @@ pub mod DiskLine
 pub mod ExactWrite
 pub mod FuseLine
 pub mod IntoRacks
+pub mod KeepsFailing
 pub mod LastWrites
 pub mod Laying
 pub mod LineEvents

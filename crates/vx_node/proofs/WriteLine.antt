@@ -42,7 +42,7 @@ use Rattle.vx_events.proofs.Places.{some_same, never_some, position_within}
 use Rattle.vx_node.proofs.Seats.{Seated, seated, named_fact, named_none}
 use Rattle.vx_node.proofs.SiteLine.{stands_new}
 
-get_there : {A : Type 0} (xs : List A) (i : ℕ) → i < length xs → (x : A) × (slice_get xs i ≡ Some x)
+pub get_there : {A : Type 0} (xs : List A) (i : ℕ) → i < length xs → (x : A) × (slice_get xs i ≡ Some x)
 get_there [] i below = absurd (omega (arith, below))
 get_there (x ∷ xs) zero below = (x, refl)
 get_there (x ∷ xs) (suc i) below = get_there xs i (omega (arith, below))

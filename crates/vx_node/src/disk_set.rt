@@ -26,7 +26,7 @@ pub enum DiskSet<R: Rack> {
 }
 
 impl<R: Rack> DiskSet<R> {
-    ghost use Rattle.vx_node.specs.Asked.{SetsDisk, SetsFuse, CrashesBy, units_in};
+    ghost use Rattle.vx_node.specs.Asked.{SetsDisk, SetsFuse, CrashesBy, SameFailing, units_in};
     ghost use Rattle.vx_node.specs.Holds.{state_with};
     ghost use Rattle.vx_node.specs.Stands.{CutAt, IsUnused};
     ghost use Rattle.vx_history.specs.World.{FuseSet};
@@ -87,6 +87,7 @@ impl<R: Rack> DiskSet<R> {
         ensures crashed { (links : List KeptLink) (n : Node) → StandsAt links n self → n.state ≡ UpState → CrashedAt links n result }
         ensures asked { (links : List KeptLink) (n : Node) → StandsAt links n self → n.state ≡ UpState → CrashesBy pick self result }
         ensures cut { (links : List KeptLink) (n : Node) → CutAt links n self → CrashedAt links n result }
+        ensures failing { SameFailing self result }
         ensures later { Later self result }
     {
         match self {

@@ -5,6 +5,7 @@ ghost use Rattle.vx_model.specs.declared.limits.TheConstants.{MOST_CALL_BYTES};
 ghost use Rattle.vx_model.specs.declared.state.KeptLink.{KeptLink};
 ghost use Rattle.vx_history.specs.World.{Node};
 ghost use Rattle.vx_srl.specs.Views.{free_of};
+ghost use Rattle.vx_node.specs.Asked.{SameFailing};
 ghost use Rattle.vx_node.specs.DiskSets.{Later, CanWrite, WroteUp, is_off};
 ghost use Rattle.vx_node.specs.Rooms.{AppliedAs, RoomIs};
 ghost use Rattle.vx_node.specs.Stands.{IsUpAt, StandsAt};
@@ -29,6 +30,7 @@ fn apply_group<R: Rack>(rvg: &mut Rvg<R>, to: u64) -> Result<u64, No>
         → AppliedAs links n to rvg.new.core (R.meaning rvg.old.shelf) (R.meaning rvg.new.shelf) result }
     ensures reached { IfOk result (λ number. rvg.new.core.applied ≡ number) }
     ensures units { rvg.new.core.units ≡ rvg.old.core.units }
+    ensures failing { SameFailing (DiskSet.Up rvg.old) (DiskSet.Up rvg.new) }
     ensures later { Later (DiskSet.Up rvg.old) (DiskSet.Up rvg.new) }
 {
     let answer = rvg.apply(to);
@@ -45,6 +47,7 @@ fn reclaim_group<R: Rack>(rvg: &mut Rvg<R>) -> Result<(), No>
     ensures free { (links : List KeptLink) (n : Node) → IsUpAt links n rvg.old.core (R.meaning rvg.old.shelf) → n.halted ≡ None → rvg.old.core.applied ≡ n.safe
         → OnOk result (free_of rvg.new.core.log ≡ n.ring) }
     ensures units { rvg.new.core.units ≡ rvg.old.core.units }
+    ensures failing { SameFailing (DiskSet.Up rvg.old) (DiskSet.Up rvg.new) }
     ensures later { Later (DiskSet.Up rvg.old) (DiskSet.Up rvg.new) }
 {
     let to = rvg.applied();
@@ -62,6 +65,7 @@ fn make_room<R: Rack>(rvg: &mut Rvg<R>, count: u64) -> Result<(), No>
         → RoomIs links n (R.meaning rvg.old.shelf) rvg.new.core (R.meaning rvg.new.shelf) result }
     ensures idle { count < free_of rvg.old.core.log → IfErr result (λ no. ⊥) × (rvg.new ≡ rvg.old) }
     ensures units { rvg.new.core.units ≡ rvg.old.core.units }
+    ensures failing { SameFailing (DiskSet.Up rvg.old) (DiskSet.Up rvg.new) }
     ensures later { Later (DiskSet.Up rvg.old) (DiskSet.Up rvg.new) }
 {
     if rvg.free() > count {
@@ -85,6 +89,7 @@ fn write_group<R: Rack>(rvg: &mut Rvg<R>, volume: u32, start: u64, bytes: &[u8])
     requires whole { length bytes.now % 512 ≡ 0 }
     ensures wrote { (links : List KeptLink) (n : Node) → StandsAt links n (DiskSet.Up rvg.old) → CanWrite n volume start (blocks_in bytes.now)
         → WroteUp links n (record { volume = volume; start = start; bytes = bytes.now }) (DiskSet.Up rvg.old) (DiskSet.Up rvg.new) result }
+    ensures failing { SameFailing (DiskSet.Up rvg.old) (DiskSet.Up rvg.new) }
     ensures later { Later (DiskSet.Up rvg.old) (DiskSet.Up rvg.new) }
 {
     if rvg.head() >= MOST_NUMBER {
@@ -108,6 +113,7 @@ impl<R: Rack> DiskSet<R> {
     // Crashes the disks of a group whose shelf is down.
     fn fall(&mut self)
         ensures falls { (links : List KeptLink) (n : Node) → CutAt links n self.old → CrashedAt links n self.new }
+        ensures failing { SameFailing self.old self.new }
         ensures later { Later self.old self.new }
     {
         let disk_set = mem::replace(self, DiskSet::Gone);
@@ -121,6 +127,7 @@ impl<R: Rack> DiskSet<R> {
         requires whole { length bytes.now % 512 ≡ 0 }
         ensures wrote { (links : List KeptLink) (n : Node) → StandsAt links n self.old → CanWrite n volume start (blocks_in bytes.now)
             → WroteAt links n (record { volume = volume; start = start; bytes = bytes.now }) self.old self.new result }
+        ensures failing { SameFailing self.old self.new }
         ensures later { Later self.old self.new }
     {
         match self.write_up(volume, start, bytes) {
@@ -143,6 +150,7 @@ impl<R: Rack> DiskSet<R> {
         requires whole { length bytes.now % 512 ≡ 0 }
         ensures wrote { (links : List KeptLink) (n : Node) → StandsAt links n self.old → CanWrite n volume start (blocks_in bytes.now)
             → WroteUp links n (record { volume = volume; start = start; bytes = bytes.now }) self.old self.new result }
+        ensures failing { SameFailing self.old self.new }
         ensures later { Later self.old self.new }
     {
         match self {
@@ -187,6 +195,7 @@ impl<R: Rack> DiskSet<R> {
     /// runs out crashes.
     pub fn apply(&mut self, to: u64) -> Result<u64, No>
         ensures applied { (links : List KeptLink) (n : Node) → StandsAt links n self.old → CanApply n → AppliedAt links n to self.old self.new result }
+        ensures failing { SameFailing self.old self.new }
         ensures later { Later self.old self.new }
     {
         match self.apply_up(to) {
@@ -204,6 +213,7 @@ impl<R: Rack> DiskSet<R> {
     // The same, before it crashes.
     fn apply_up(&mut self, to: u64) -> Result<u64, No>
         ensures applied { (links : List KeptLink) (n : Node) → StandsAt links n self.old → CanApply n → AppliedUp links n to self.old self.new result }
+        ensures failing { SameFailing self.old self.new }
         ensures later { Later self.old self.new }
     {
         match self {

@@ -206,7 +206,8 @@ fn two_writers_see_each_other(rt: HostRuntime) -> Result<(), Fail> {
     Ok(())
 }
 
-// Holds the second call at point 3 until a worker has taken a record, and the first worker that has until a second call is at point 3.
+// The second call at point 1 returns when a call at point 2 has begun, and the first call at point 2 when a second one at point 1 has. The
+// second call at point 1 holds the turn, through which workers fetch: so all callers but the first come to it behind the first record taken.
 #[derive(Drop)]
 struct WriterAndWorker {
     counts: Counts,
@@ -214,10 +215,13 @@ struct WriterAndWorker {
 
 impl Gate for WriterAndWorker {
     fn pass(&self, point: u8) {
-        if point == 2 && self.counts.twos.fetch_add(1, Ordering::SeqCst) == 0 {
-            self.counts.wait(&self.counts.threes, 2);
+        if point == 1 && self.counts.ones.fetch_add(1, Ordering::SeqCst) == 1 {
+            self.counts.wait(&self.counts.twos, 1);
         }
-        if point == 3 && self.counts.threes.fetch_add(1, Ordering::SeqCst) == 1 {
+        if point == 2 && self.counts.twos.fetch_add(1, Ordering::SeqCst) == 0 {
+            self.counts.wait(&self.counts.ones, 2);
+        }
+        if point == 3 && self.counts.threes.fetch_add(1, Ordering::SeqCst) > 0 {
             self.counts.wait(&self.counts.twos, 1);
         }
     }
@@ -228,13 +232,14 @@ fn a_writer_and_a_worker_see_each_other(rt: HostRuntime) -> Result<(), Fail> {
     let gate = WriterAndWorker {
         counts: Counts::new(),
     };
-    let Some(plan) = writes(rt.alloc(), 2, 1) else {
+    let Some(plan) = writes(rt.alloc(), 4, 4) else {
         return Err("no memory".into());
     };
-    let Some(outcome) = small_burst(&rt, rt.alloc(), &gate, 8, [2, 2], plan.as_slice(), 1) else {
+    let Some(outcome) = small_burst(&rt, rt.alloc(), &gate, 8, [4, 4], plan.as_slice(), 4) else {
         return Err("no memory".into());
     };
-    assert!(&rt; gate.counts.threes.load(Ordering::SeqCst) == 2);
+    assert!(&rt; gate.counts.threes.load(Ordering::SeqCst) == 4);
+    assert!(&rt; gate.counts.ones.load(Ordering::SeqCst) == 4);
     assert!(&rt; gate.counts.twos.load(Ordering::SeqCst) >= 1);
     assert!(&rt; gate.counts.late.load(Ordering::SeqCst) == 0);
     places(&rt, outcome.answers.as_slice());

@@ -10,5 +10,7 @@ mod putting;
 mod regions;
 mod resync;
 mod sources;
+#[cfg(test)]
+mod tests;
 
 pub use resync::{attach, recover};

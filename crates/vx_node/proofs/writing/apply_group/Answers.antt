@@ -1,6 +1,7 @@
 -- An apply of a site that is up.
 use Rattle.std.proofs.Common.{sym, ◌∙◌}
 use Rattle.vx_node.proofs.ApplyGroup.{applied_as, applied_cut}
+use Rattle.vx_node.proofs.KeepsFailing.{failing_spent}
 use Rattle.vx_node.proofs.writing.apply_group.Goals as goal
 
 pub returns-then-is_down-clause-applied : goal.returns-then-is_down-clause-applied
@@ -15,3 +16,9 @@ returns-clause-applied g c = λ links n up none.
     applied_as n c.args.to c.args.rvg.now.core c.apply-answer.new.self.core (g.R.Shelf.meaning c.args.rvg.now.shelf) (g.R.Shelf.meaning c.apply-answer.new.self.shelf) c.apply-answer.result up (record { up = up.state; running = none }) c.args.rvg.now.sound
     (lawful c.args.rvg.now.shelf) (lawful c.apply-answer.new.self.shelf) (sym c.is_down.ensures ∙ c.if-is_down.false)
     c.apply-answer.ensures.answers c.apply-answer.ensures.stands c.apply-answer.ensures.moves
+
+pub returns-then-is_down-clause-failing : goal.returns-then-is_down-clause-failing
+returns-then-is_down-clause-failing g c = failing_spent c.args.rvg.now c.apply-answer.new.self c.apply-answer.ensures.spends
+
+pub returns-clause-failing : goal.returns-clause-failing
+returns-clause-failing g c = failing_spent c.args.rvg.now c.apply-answer.new.self c.apply-answer.ensures.spends

@@ -5,6 +5,8 @@ use Rattle.std.specs.Prelude.{Err}
 use Rattle.std.proofs.lemmas.Result.{err_from_is_err_and}
 use Rattle.vx_node.proofs.ExactWrite.{hand_here, first_after, cut_less, exact_is}
 use Rattle.vx_node.proofs.WriteGroup.{unroomed, written_as, write_cut, wrote_later, wrote_at, wrote_none}
+use Rattle.vx_node.specs.declared.disk_set.DiskSet.TheVariants.{Up}
+use Rattle.vx_node.proofs.KeepsFailing.{failing_same, failing_spent, failing_then}
 use Rattle.vx_node.proofs.writing.write_group.Goals as goal
 
 pub returns-then-head-ge-MOST_NUMBER-clause-wrote : goal.returns-then-head-ge-MOST_NUMBER-clause-wrote
@@ -54,3 +56,15 @@ returns-clause-wrote g c = λ links n stands can.
     (λ calls told exact. exact_is n c.args.rvg.now c.make_room.new.rvg c.args.volume c.args.start c.args.bytes.now stands can.running
     (c.make_room.ensures.later.told (sym c.write-answer.ensures.moves.tells ∙ told)) some (g.R.Shelf.meaning c.write-answer.new.self.shelf) calls exact
     (λ hand. (c.in_ok-make_room.ensures.idle hand).1) c.write-answer.result c.write-answer.ensures.calls)))
+
+pub returns-then-head-ge-MOST_NUMBER-clause-failing : goal.returns-then-head-ge-MOST_NUMBER-clause-failing
+returns-then-head-ge-MOST_NUMBER-clause-failing g c = failing_same (Up c.args.rvg.now)
+
+pub returns-in_err-make_room-clause-failing : goal.returns-in_err-make_room-clause-failing
+returns-in_err-make_room-clause-failing g c = c.make_room.ensures.failing
+
+pub returns-then-is_down-clause-failing : goal.returns-then-is_down-clause-failing
+returns-then-is_down-clause-failing g c = failing_then (Up c.args.rvg.now) (Up c.make_room.new.rvg) (Up c.write-answer.new.self) c.make_room.ensures.failing (failing_spent c.make_room.new.rvg c.write-answer.new.self c.write-answer.ensures.spends)
+
+pub returns-clause-failing : goal.returns-clause-failing
+returns-clause-failing g c = failing_then (Up c.args.rvg.now) (Up c.make_room.new.rvg) (Up c.write-answer.new.self) c.make_room.ensures.failing (failing_spent c.make_room.new.rvg c.write-answer.new.self c.write-answer.ensures.spends)

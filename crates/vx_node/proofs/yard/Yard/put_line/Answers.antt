@@ -13,3 +13,6 @@ write_blocks-requires-clause-free g c = λ κs within.
 pub returns-clause-works : goal.returns-clause-works
 returns-clause-works g c = λ w stands.
     put_answered w c.args.self.now _ c.args.name.now c.args.volume.now c.args.start c.args.bytes.now c.as_bytes.result.now _ c.as_bytes.ensures.bytes c.as_bytes.ensures.whole c.requires.free (λ f. c.write_blocks.ensures.works w stands)
+
+pub returns-clause-asked : goal.returns-clause-asked
+returns-clause-asked g c = λ w stands. c.write_blocks.ensures.asked w stands

@@ -1,8 +1,10 @@
 -- The work of a line that no test refuses.
-use Rattle.std.proofs.Common.{subst}
+use Rattle.std.proofs.Common.{subst, sym}
 use Rattle.vx_node.specs.Working.{IsFree}
 use Rattle.vx_node.specs.Yards.{in_files}
 use Rattle.vx_events.proofs.Refused.{site_may}
+use Rattle.vx_node.specs.Asked.{AsAsked}
+use Rattle.vx_node.proofs.KeepsFailing.{write_unbegun}
 use Rattle.vx_node.proofs.yard.Yard.work.Goals as goal
 
 pub make_site-requires-clause-free : goal.make_site-requires-clause-free
@@ -52,3 +54,8 @@ make_site-requires-clause-few g c = λ κs lives.
 pub make_site-requires-clause-large : goal.make_site-requires-clause-large
 make_site-requires-clause-large g c = λ κs lives.
     (site_may c.args.self.now.facts.items (in_files c.args.self.now) c.in-Site.site c.in-Site.disks c.in-Site.blocks (subst (λ line. IsFree c.args.self.now line) c.in-Site.is c.requires.free)).some_blocks
+
+pub returns-in_err-bytes-in-Write-clause-asked : goal.returns-in_err-bytes-in-Write-clause-asked
+returns-in_err-bytes-in-Write-clause-asked g c = λ w stands.
+    subst (λ line. AsAsked w line c.args.self.now c.args.self.now) (sym c.in-Write.is)
+    (write_unbegun w c.args.self.now c.in-Write.site c.in-Write.volume c.in-Write.block c.in-Write.count c.in-Write.fill stands (subst (λ line. IsFree c.args.self.now line) c.in-Write.is c.requires.free))

@@ -26,3 +26,6 @@ returns-clause-works g c = λ w stands.
 pub write_blocks-requires-clause-free : goal.write_blocks-requires-clause-free
 write_blocks-requires-clause-free g c = λ κs within.
     ByWrite c.args.count c.args.fill c.requires.free (c.requires.bytes ∙ ap (λ (n : ℕ). replicate (512 * n) c.args.fill) (few_blocks c.args.count (omega (arith, c.if-count-lt1.false))))
+
+pub returns-clause-asked : goal.returns-clause-asked
+returns-clause-asked g c = λ w stands. c.write_blocks.ensures.asked w stands
