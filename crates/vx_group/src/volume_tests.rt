@@ -288,3 +288,34 @@ fn each_call_of_a_detach_fails(rt: HostRuntime) -> Result<(), Fail> {
     }
     Ok(())
 }
+
+fn deport(group: Group<MemShelf>) -> Told {
+    match &group.deport() {
+        Ok(_) => Told::Done,
+        Err((_, Stop::No(No::Device { disk }))) => Told::Device(*disk),
+        Err(_) => Told::Other,
+    }
+}
+
+#[test]
+fn a_deport_flushes_before_it_commits(rt: HostRuntime) -> Result<(), Fail> {
+    let alloc = rt.alloc();
+    // A volume of two plexes is made with call 38, and a write has calls 39 and 40. A flush of each plex follows, and a commit begins with
+    // call 43: two failed flushes stop no deport, and the two first calls of the commit on each disk do.
+    for (first, second, wanted) in [
+        (0, 0, Told::Done),
+        (41, 0, Told::Done),
+        (42, 0, Told::Done),
+        (41, 42, Told::Done),
+        (43, 44, Told::Device(1)),
+    ] {
+        let mut group = group_of(alloc, &[first, second], 2)?;
+        assert_eq!(rt;
+            make(alloc, &mut group, b"v", &plain(16, 2)),
+            Told::Volume(0)
+        );
+        assert_eq!(rt; put(&mut group, 0, 3, 0x11), Told::Done);
+        assert_eq!(rt; deport(group), wanted);
+    }
+    Ok(())
+}
