@@ -211,7 +211,7 @@ module _ (core d e f : GroupCore) (flags : List Bool) (sources : List ℕ) (m0 m
             origin = λ k in_it tells.
                 let s = source_at sources v in
                 let read : m1.reads (place core.config v s k).0 (place core.config v s k).1 (was.value k) = subst (λ (q : ℕ × ℕ). m1.reads q.0 q.1 (was.value k)) (first.shape.place v s k)
-                    (was.origin k (inside_back d.config core.config first.shape v k in_it) (first.acts.tells ∙ tells)) in
+                (was.origin k (inside_back d.config core.config first.shape v k in_it) (first.acts.tells ∙ tells)) in
                 elim (first.acts.reads (place core.config v s k).0 (place core.config v s k).1 (was.value k) ((apart_of_core core m0 stands).above v s k in_it (source_on v lt)) read) [
                   | inl (inl is) ↦ is
                   | inl (inr none) ↦ absurd none

@@ -60,7 +60,7 @@ module _ (old m1 : Meaning) (plan : Plan) (taken : IsTaken old m1 plan) where
       let there = in_back v lt in
       let sound : is_sound back ≡ true = wanted_sound old.units old.size back (wanted_back_again taken.up.readable old.units old.size taken.config x_wanted) in
       subst (λ (p : ℕ). IsTrue (active opened v p)) (sym (taken.made.sources v there))
-          (taken.stands.on.each v (source_of set back v) (taken.up.opens.alike.lives v (source_of set back v) ∙ source_live back set v sound there))
+      (taken.stands.on.each v (source_of set back v) (taken.up.opens.alike.lives v (source_of set back v) ∙ source_live back set v sound there))
 
   pub serial_left : opened.serial < greatest
   serial_left = let le = taken.made.serial in let same : opened.serial ≡ back.serial = taken.up.opens.alike.serial in omega (arith, le, same)

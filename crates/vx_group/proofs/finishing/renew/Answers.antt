@@ -15,7 +15,7 @@ pub returns-in-Err : goal.returns-in-Err
 returns-in-Err g c = (
   narrows_on c.args.core.now c.settle_headers.new.core (g.S.Shelf.meaning c.args.shelf.now) (g.S.Shelf.meaning c.settle_headers.new.shelf) (g.met.S.Shelf.lawful c.settle_headers.new.shelf) c.requires.stands c.settle_headers.ensures.stands c.settle_headers.ensures.narrows,
   inl (subst (λ (no : No). DeviceCause (g.S.Shelf.meaning c.args.shelf.now) (g.S.Shelf.meaning c.settle_headers.new.shelf) no) (sym c.refusal.ensures)
-  (blamed_cause (Unit {0}) (g.S.Shelf.meaning c.args.shelf.now) (g.S.Shelf.meaning c.settle_headers.new.shelf) c.in-Err.error c.in-Err.ensures.cause)),
+      (blamed_cause (Unit {0}) (g.S.Shelf.meaning c.args.shelf.now) (g.S.Shelf.meaning c.settle_headers.new.shelf) c.in-Err.error c.in-Err.ensures.cause)),
 )
 
 pub returns-in-Err-mend_volumes : goal.returns-in-Err-mend_volumes
