@@ -41,6 +41,14 @@ sends_one ps f p stands room one = record {
   flying = ap (λ (g : Flying). sent g (carrier p)) stands.flying ∙ sym (sent_last nothing_sent (map carrier ps) (carrier p)) ∙ ap (λ (bs : List (List ℕ)). sent_all nothing_sent bs) (sym (map_last ps p));
 }
 
+-- a packet more is one more at most
+by_room : (f : Flying) (b : List ℕ) (t : Bool) → (if t then record { count = f.count + 1; kept = newest (f.kept ++ b ∷ []) } else f).count ≤ f.count + 1
+by_room f b true = omega arith
+by_room f b false = omega arith
+
+pub count_next : (f f' : Flying) (b : List ℕ) → f' ≡ sent f b → f'.count ≤ f.count + 1
+count_next f f' b is = omega (arith, ap (λ (g : Flying). g.count) is, by_room f b (ltb f.count greatest))
+
 -- ---- the packet of a number
 
 zero_none : (bs : List (List ℕ)) → bytes_at (after bs) 0 ≡ None

@@ -4,7 +4,7 @@ ghost use Rattle.vx_courier.specs.UnderWay.{FlightStands};
 ghost use Rattle.vx_history.specs.Sends.{packets_of, parts_of};
 ghost use Rattle.vx_history.specs.World.{Message as PlainMessage, Packet};
 ghost use Rattle.vx_net.specs.Flights.{greatest};
-ghost use Rattle.vx_packet.specs.Messages.{CanSpell, IsCounted, IsTyped};
+ghost use Rattle.vx_packet.specs.Messages.{CanSpell, IsCounted, IsTyped, parts_of as parts_in_bytes};
 ghost use Rattle.vx_parts.specs.Spelling.{spelled};
 
 use vx_model::Line;
@@ -88,6 +88,7 @@ pub fn send_message<N: Net>(flight: &mut N, envelope: &Envelope, message: &Messa
     ensures sends { (ps : List Packet) (m : PlainMessage) → message.now ≡ spelled m → FlightStands ps (N.flying flight.old)
         → (N.flying flight.old).count + parts_of m ≤ greatest
         → FlightStands (ps ++ packets_of envelope.now.source envelope.now.target envelope.now.line m) (N.flying flight.new) }
+    ensures count { (N.flying flight.new).count ≤ (N.flying flight.old).count + parts_in_bytes message.now }
 {
     is_typed(message);
     let count = parts(message);
