@@ -39,9 +39,10 @@ pub(crate) fn read_updates<S: Shelf>(
     requires running { rvg.old.core.halted ≡ None }
     requires low { rvg.old.core.log.header.low ≤ first }
     requires held { first + count ≤ last_of rvg.old.core + 1 }
+    requires number { first + count ≤ 0x8000_0000_0000_0000 }
     ensures read { IfOk result (λ us. (length us.items ≡ count) × ((h : Holding) → Stands rvg.old.core h (S.meaning rvg.old.shelf) → IsTrue (S.meaning rvg.old.shelf).tells
         → AreRead h rvg.old.core.log.header.state.line first us.items × Stands rvg.old.core h (S.meaning rvg.new.shelf))) }
-    ensures cause { IfErr result (ReadCause rvg.old.core.log (S.meaning rvg.old.shelf) (S.meaning rvg.new.shelf)) }
+    ensures cause { IfErr result (ReadCause rvg.old.core (S.meaning rvg.old.shelf) (S.meaning rvg.new.shelf)) }
     ensures core { rvg.new.core ≡ rvg.old.core }
     ensures goes { Goes Nothing (S.meaning rvg.old.shelf) (S.meaning rvg.new.shelf) }
     ensures down { (S.meaning rvg.new.shelf).down ≡ (S.meaning rvg.old.shelf).down }

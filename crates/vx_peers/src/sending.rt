@@ -39,7 +39,7 @@ pub(crate) fn send_updates<N: Net>(
     updates: &[Update],
 )
     requires generation { IsCounted envelope.now.line.generation }
-    requires numbers { IsCounted (first + length updates.now) }
+    requires numbers { first + length updates.now ≤ 0x8000_0000_0000_0000 }
     requires room { (N.flying flight.old).count + 16 * length updates.now ≤ greatest }
     ensures flies { (ps : List Packet) → FlightStands ps (N.flying flight.old)
         → FlightStands (ps ++ updates_of envelope.now.source envelope.now.target envelope.now.line first (map write_of updates.now)) (N.flying flight.new) }
