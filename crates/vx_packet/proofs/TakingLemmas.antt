@@ -140,7 +140,7 @@ in-kept e m a new k lt is =
     let same : parts_before (Some (record { key = key; parts = parts })) key ≡ parts = rw (same_key-refl key) refl in
     ap (λ (h : Option Held). parts_before h key) held ∙ same ∙ after-is e m a k lt
 
-step-kept : (e : Envelope) (m : Message) (a new : Assembled) (k : ℕ) → CanSpell m → k < parts_of m → HoldsSome e m a
+pub step-kept : (e : Envelope) (m : Message) (a new : Assembled) (k : ℕ) → CanSpell m → k < parts_of m → HoldsSome e m a
     → IsKept (part_of e m k) (parts_after a.held (part_of e m k) (chunk k (payload_of m))) new → HoldsSome e m new
 step-kept e m a new k can lt holds is =
     let few : k < 65 = omega (arith, most m can) in

@@ -6,7 +6,7 @@ ghost use Rattle.vx_packet.specs.Messages.{payload_of, parts_of, chunk, CanSpell
 ghost use Rattle.vx_packet.specs.Packets.{payload_in, part_of, packet_of, IsPacket};
 ghost use Rattle.vx_packet.specs.Takings.{message_key, HoldsSome, Takings, AreNumbers, Includes, NoneBad, SomeWhole};
 ghost use Rattle.vx_packet.specs.declared.assembly.Taken.{Taken};
-ghost use Rattle.vx_packet.specs.declared.assembly.Taken.TheVariants.{Whole};
+ghost use Rattle.vx_packet.specs.declared.assembly.Taken.TheVariants.{Kept, Whole};
 ghost use Rattle.vx_packet.specs.declared.message.Envelope.{Envelope};
 ghost use Rattle.vx_packet.specs.declared.message.Message.{Message};
 ghost use Rattle.vx_packet.specs.declared.part.Part.{Part};
@@ -23,12 +23,13 @@ pub fn one_spelling()
 
 /// The parts of a message may be taken in any order, and any of them again, from where no message or another one is in
 /// assembly. None of the answers is `Bad`. Once each part was taken, one of them was `Whole`, and what is whole then is the
-/// message.
+/// message. What is kept are parts of it, and not all.
 pub fn any_order()
     ensures fresh { (e : Envelope) (m : Message) (a : Assembled) → ((h : Held) → a.held ≡ Some h → h.key ≡ message_key e m → ⊥) → HoldsSome e m a }
     ensures none_bad { (e : Envelope) (m : Message) (old new : Assembled) (ks : List ℕ) (ts : List Taken) → CanSpell m → IsTyped m → HoldsSome e m old → AreNumbers (parts_of m) ks → Takings e m old ks ts new → NoneBad ts }
     ensures whole { (e : Envelope) (m : Message) (old new : Assembled) (ks : List ℕ) (ts : List Taken) → CanSpell m → IsTyped m → HoldsSome e m old → AreNumbers (parts_of m) ks → ((k : ℕ) → k < parts_of m → Includes ks k) → Takings e m old ks ts new → SomeWhole ts }
     ensures message { (e : Envelope) (m : Message) (old new : Assembled) (k : ℕ) → CanSpell m → IsTyped m → HoldsSome e m old → k < parts_of m → Takes old (part_of e m k) (chunk k (payload_of m)) Whole new → new.whole ≡ Some m }
+    ensures kept { (e : Envelope) (m : Message) (old new : Assembled) (k : ℕ) → CanSpell m → HoldsSome e m old → k < parts_of m → Takes old (part_of e m k) (chunk k (payload_of m)) Kept new → HoldsSome e m new }
 {}
 
 /// Where all that an assembly has came in packets, a packet that completes a message is the one of that message and part,

@@ -7,7 +7,7 @@ use Rattle.std.proofs.lemmas.List.{map-set}
 use Rattle.vx_model.specs.declared.history.Line.{Line}
 use Rattle.vx_history.specs.World.{Key, Gathering, Message}
 use Rattle.vx_history.specs.Sends.{packet}
-use Rattle.vx_history.specs.Gatherings.{same_key, came_before, completes}
+use Rattle.vx_history.specs.Gatherings.{same_key, came_before, came_after, completes}
 use Rattle.vx_packet.specs.Assemblies.{Held, same_key as same_in_bytes, parts_before, parts_after}
 use Rattle.vx_packet.specs.Gathering.{Parts, all_came, kept}
 use Rattle.vx_packet.specs.Packets.{part_of}
@@ -48,14 +48,20 @@ before_same (Some h) (Some g) tied key =
     either true = tied.1
     either false = none_map key.parts
 
+-- with a packet too
+pub after_same : (h : Option Held) (g : Option Gathering) → IsTied h g → (source target : ℕ) (line : Line) (m : Message) (k : ℕ) (payload : List ℕ)
+    → map is_some (parts_after h (part_of (record { source = source; target = target; line = line }) (spelled m) k) payload) ≡ came_after g (packet source target line m k)
+unfolding part_of key_of_bytes
+after_same h g tied source target line m k payload =
+    let e : Envelope = record { source = source; target = target; line = line } in
+    let key : KeyInBytes = key_of_bytes e (spelled m) in
+    map-set is_some (parts_before h key) k (Some (kept k payload))
+    ∙ ap (λ (bs : List Bool). set bs k true) (before_same h g tied key)
+    ∙ ap (λ (x : Key). set (came_before g x) k true) (key_is source target line m)
+
 pub whole_same : (h : Option Held) (g : Option Gathering) → IsTied h g → (source target : ℕ) (line : Line) (m : Message) (k : ℕ) (payload : List ℕ)
     → all_came (parts_after h (part_of (record { source = source; target = target; line = line }) (spelled m) k) payload) ≡ completes g
     (packet source target line m k)
-unfolding part_of key_of_bytes
 whole_same h g tied source target line m k payload =
-    let e : Envelope = record { source = source; target = target; line = line } in
-    let key : KeyInBytes = key_of_bytes e (spelled m) in
-    all_map (set (parts_before h key) k (Some (kept k payload)))
-    ∙ ap (λ (bs : List Bool). list_all (λ c. c) bs) (map-set is_some (parts_before h key) k (Some (kept k payload)))
-    ∙ ap (λ (bs : List Bool). list_all (λ c. c) (set bs k true)) (before_same h g tied key)
-    ∙ ap (λ (x : Key). list_all (λ c. c) (set (came_before g x) k true)) (key_is source target line m)
+    all_map (parts_after h (part_of (record { source = source; target = target; line = line }) (spelled m) k) payload)
+    ∙ ap (λ (bs : List Bool). list_all (λ c. c) bs) (after_same h g tied source target line m k payload)

@@ -1,4 +1,4 @@
-use Rattle.vx_packet.proofs.TakingLemmas.{fresh, none-bad, whole-comes, step-whole}
+use Rattle.vx_packet.proofs.TakingLemmas.{fresh, none-bad, step-kept, whole-comes, step-whole}
 use Rattle.vx_packet.proofs.laws.any_order.Goals as goal
 
 pub returns : goal.returns
@@ -7,4 +7,5 @@ returns c = record {
   none_bad = none-bad;
   whole = whole-comes;
   message = λ e m old new k can typed holds below is. step-whole e m old new k can typed holds below is;
+  kept = λ e m old new k can holds below is. step-kept e m old new k can below holds is;
 }

@@ -1,0 +1,199 @@
+-- A packet that is put to what is in assembly at its target.
+use Rattle.std.proofs.Common.{◌≡◌, ◌∙◌, ◌⊎◌, inl, inr, ◌<◌, ℕ, zero, suc, List, [], ◌∷◌, length, map, ap, sym, subst, refl, arith, Bool, true, false}
+use Rattle.std.specs.Prelude.{Option, Some, None, slice_get, slice_index_or, if◌then◌else◌}
+use Rattle.std.specs.Option.{is_some}
+use Rattle.vx_model.specs.Content.{Write}
+use Rattle.vx_model.specs.declared.history.Line.{Line}
+use Rattle.vx_history.specs.Gatherings.{came_after, completes, key_of as world_key, left_by}
+use Rattle.vx_history.specs.Sends.{parts_of as parts_in}
+use Rattle.vx_history.specs.World.{DataAck, Gathering, Hello, Key as WorldKey, Message, NetAck, Packet, Update}
+use Rattle.vx_packet.specs.Assemblies.{Assembled, Held, Takes, key_of, parts_after, parts_before, same_key}
+use Rattle.vx_packet.specs.Gathering.{Parts, all_came}
+use Rattle.vx_packet.specs.Messages.{chunk, parts_of, payload_of, row}
+use Rattle.vx_packet.specs.Packets.{part_of, payload_in}
+use Rattle.vx_packet.specs.Takings.{HoldsSome, IsChunk, message_key}
+use Rattle.vx_packet.specs.declared.assembly.Taken.{Taken}
+use Rattle.vx_packet.specs.declared.assembly.Taken.TheVariants as taken
+use Rattle.vx_packet.specs.declared.key.Key.{Key}
+use Rattle.vx_packet.specs.declared.message.Envelope.{Envelope}
+use Rattle.vx_packet.specs.declared.message.Message.{Message as Spelled}
+use Rattle.vx_packet.specs.declared.part.Part.{Part}
+use Rattle.vx_packet.proofs.KeyLemmas.{same_key-is}
+use Rattle.vx_packet.proofs.PacketLemmas.{payload_in-packet_of}
+use Rattle.vx_packet.proofs.TakingLemmas.{fresh, none-bad, same_key-refl, step-kept, step-whole}
+use Rattle.vx_parts.specs.Spelling.{IsTied, plain, spelled}
+use Rattle.vx_parts.proofs.Counting.{key_is, parts_are}
+use Rattle.vx_parts.proofs.Wholes.{after_same, whole_same}
+use Rattle.vx_courier.specs.Together.{AreOne, AssemblyStands, ComesFrom, IsPutTo}
+use Rattle.vx_courier.specs.UnderWay.{CanFly, carrier, part_carried, way_of}
+
+some_same : {A : Type 0} (x y : A) → Some x ≡ Some y → x ≡ y
+some_same x y e = cc
+
+true_or_false : (b : Bool) → (b ≡ true) ⊎ (b ≡ false)
+true_or_false true = inl refl
+true_or_false false = inr refl
+
+-- ---- keys, field by field
+
+key_kind : (e : Envelope) (m : Spelled) → (message_key e m).kind ≡ (row m).kind
+unfolding message_key
+key_kind e m = refl
+
+key_number : (e : Envelope) (m : Spelled) → (message_key e m).number ≡ (row m).number
+unfolding message_key
+key_number e m = refl
+
+key_line : (e : Envelope) (m : Spelled) → (message_key e m).line ≡ e.line
+unfolding message_key
+key_line e m = refl
+
+key_source : (e : Envelope) (m : Spelled) → (message_key e m).source ≡ e.source
+unfolding message_key
+key_source e m = refl
+
+key_parts : (e : Envelope) (m : Spelled) → (message_key e m).parts ≡ parts_of m
+unfolding message_key
+key_parts e m = refl
+
+part_key : (e : Envelope) (m : Spelled) (k : ℕ) → key_of (part_of e m k) ≡ message_key e m
+unfolding part_of message_key
+part_key e m k = refl
+
+plain_key : (p : Packet) → plain (key_of (part_carried p)) ≡ world_key p
+plain_key p = ap plain (part_key (way_of p) (spelled p.message) p.part) ∙ key_is p.source p.target p.line p.message
+
+-- ---- a message of one part
+
+-- of one part that has not come nothing has
+one_missing : (xs : Parts) (payload : List ℕ) (k : ℕ) → length xs ≡ 1 → all_came xs ≡ false → k < 1 → IsChunk payload k (slice_index_or xs k None)
+one_missing [] payload k long missing low = absurd (omega (arith, long))
+one_missing (None ∷ xs) payload zero long missing low = tt
+one_missing (Some bytes ∷ []) payload zero long missing low = absurd (cc)
+one_missing (Some bytes ∷ x ∷ xs) payload zero long missing low = absurd (omega (arith, long))
+one_missing (x ∷ xs) payload (suc k) long missing low = absurd (omega (arith, low))
+
+-- what is in assembly under the key of a message of one part is as good as a part of it
+alone : (e f : Envelope) (m n : Spelled) (a : Assembled) → message_key f n ≡ message_key e m → parts_of m ≡ 1 → HoldsSome f n a → HoldsSome e m a
+alone e f m n a keys one some =
+    let same : parts_before a.held (message_key f n) ≡ parts_before a.held (message_key e m) = ap (parts_before a.held) keys in
+    let count : parts_of n ≡ parts_of m = sym (key_parts f n) ∙ ap (λ (k : Key). k.parts) keys ∙ key_parts e m in
+    let long : length (parts_before a.held (message_key e m)) ≡ parts_of m = sym (ap length same) ∙ some.count ∙ count in
+    let missing : all_came (parts_before a.held (message_key e m)) ≡ false = sym (ap all_came same) ∙ some.missing in
+    record {
+      count = long;
+      only = λ k low. one_missing (parts_before a.held (message_key e m)) (payload_of m) k (long ∙ one) missing (omega (arith, low, one));
+      missing = missing;
+    }
+
+module _ (ps : List Packet) (site place : ℕ) (p : Packet) (one : AreOne ps) (there : slice_get ps place ≡ Some p) (target : p.target ≡ site) (fly : CanFly p) (g : Option Gathering) (a : Assembled) (stands : AssemblyStands ps site g a) where
+  abbrev e : Envelope
+  e = way_of p
+
+  abbrev m : Spelled
+  m = spelled p.message
+
+  module _ (h : Held) (from : ComesFrom ps site a h) (key : h.key ≡ message_key e m) where
+    abbrev q : Packet
+    q = from.packet
+
+    keys : message_key (way_of q) (spelled q.message) ≡ message_key e m
+    keys = sym from.key ∙ key
+
+    kinds : (row (spelled q.message)).kind ≡ (row m).kind
+    kinds = sym (key_kind (way_of q) (spelled q.message)) ∙ ap (λ (k : Key). k.kind) keys ∙ key_kind e m
+
+    numbers : (row (spelled q.message)).number ≡ (row m).number
+    numbers = sym (key_number (way_of q) (spelled q.message)) ∙ ap (λ (k : Key). k.number) keys ∙ key_number e m
+
+    lines : q.line ≡ p.line
+    lines = sym (key_line (way_of q) (spelled q.message)) ∙ ap (λ (k : Key). k.line) keys ∙ key_line e m
+
+    ways : way_of q ≡ e
+    ways =
+        let source : q.source ≡ p.source = sym (key_source (way_of q) (spelled q.message)) ∙ ap (λ (k : Key). k.source) keys ∙ key_source e m in
+        let targets : q.target ≡ p.target = from.target ∙ sym target in
+        let one_way : (s t s' t' : ℕ) (l l' : Line) → s ≡ s' → t ≡ t' → l ≡ l' → (let w : Envelope = record { source = s; target = t; line = l } in w) ≡ record { source = s'; target = t'; line = l' } = λ s t s' t' l l' a b c. rw (a, b, c) refl in
+        one_way q.source q.target p.source p.target q.line p.line source targets lines
+
+    -- the message of an update is the one in assembly
+    same_update : (number : ℕ) (x : Write) → p.message ≡ Update number x → (n : Message) → q.message ≡ n → n ≡ p.message
+    same_update number x is (Hello session k stored) at = let two : 1 ≡ 2 = sym (ap (λ (t : Message). (row (spelled t)).kind) at) ∙ kinds ∙ ap (λ (t : Message). (row (spelled t)).kind) is in absurd (omega (arith, two))
+    same_update number x is (NetAck session k) at = let two : 3 ≡ 2 = sym (ap (λ (t : Message). (row (spelled t)).kind) at) ∙ kinds ∙ ap (λ (t : Message). (row (spelled t)).kind) is in absurd (omega (arith, two))
+    same_update number x is (DataAck k) at = let two : 4 ≡ 2 = sym (ap (λ (t : Message). (row (spelled t)).kind) at) ∙ kinds ∙ ap (λ (t : Message). (row (spelled t)).kind) is in absurd (omega (arith, two))
+    same_update number x is (Update k y) at =
+        let same : k ≡ number = sym (ap (λ (t : Message). (row (spelled t)).number) at) ∙ numbers ∙ ap (λ (t : Message). (row (spelled t)).number) is in
+        let write : y ≡ x = one.each from.place place number q p y x from.there there lines (at ∙ ap (λ (n : ℕ). Update n y) same) is in
+        ap (λ (n : ℕ). Update n y) same ∙ ap (λ (z : Write). Update number z) write ∙ sym is
+
+    by_key : HoldsSome e m a
+    by_key = by_message p.message refl
+      where
+        single : parts_in p.message ≡ 1 → HoldsSome e m a
+        single is = alone e (way_of q) m (spelled q.message) a keys (parts_are p.message ∙ is) from.some
+
+        by_message : (n : Message) → p.message ≡ n → HoldsSome e m a
+        by_message (Hello session k stored) is = single (ap parts_in is)
+        by_message (NetAck session k) is = single (ap parts_in is)
+        by_message (DataAck k) is = single (ap parts_in is)
+        by_message (Update number x) is =
+            let same : q.message ≡ p.message = same_update number x is q.message refl in
+            subst (λ (f : Envelope). HoldsSome f m a) ways (subst (λ (t : Message). HoldsSome (way_of q) (spelled t) a) same from.some)
+
+  -- what is in assembly under its key are parts of it
+  holds : HoldsSome e m a
+  holds = by_held a.held refl
+    where
+      by_held : (o : Option Held) → a.held ≡ o → HoldsSome e m a
+      by_held None is = fresh e m a (λ h some same. absurd (cc))
+      by_held (Some h) is = elim (true_or_false (same_key h.key (message_key e m))) [
+        | inl same ↦ by_key h (stands.each h is) (same_key-is h.key (message_key e m) same)
+        | inr apart ↦ fresh e m a (λ k some same.
+            let both : h ≡ k = some_same h k (sym is ∙ some) in
+            let key : h.key ≡ message_key e m = ap (λ (i : Held). i.key) both ∙ same in
+            let self : same_key (message_key e m) (message_key e m) ≡ true = same_key-refl (message_key e m) in
+            let other : same_key (message_key e m) (message_key e m) ≡ false = sym (ap (λ (i : Key). same_key i (message_key e m)) key) ∙ apart in
+            absurd (cc))
+      ]
+
+  abbrev payload : List ℕ
+  payload = chunk p.part (payload_of m)
+
+  within : p.part < parts_of m
+  within = omega (arith, fly.within, parts_are p.message)
+
+  whole_is : all_came (parts_after a.held (part_carried p) payload) ≡ completes g p
+  whole_is = whole_same a.held g stands.tied p.source p.target p.line p.message p.part payload
+
+  by_taken : (t : Taken) (new : Assembled) → Takes a (part_carried p) payload t new → IsPutTo ps site g p t new
+  by_taken taken.Kept new is =
+      let missing : completes g p ≡ false = sym whole_is ∙ is.missing in
+      let came : map is_some (parts_after a.held (part_carried p) payload) ≡ came_after g p = after_same a.held g stands.tied p.source p.target p.line p.message p.part payload in
+      let left : left_by g p ≡ Some (record { key = world_key p; came = came_after g p }) = rw missing refl in (
+        missing,
+        record {
+          tied = subst (λ (o : Option Gathering). IsTied new.held o) (sym left) (subst (λ (o : Option Held). IsTied o (Some (record { key = world_key p; came = came_after g p }))) (sym is.held) (plain_key p, came));
+          each = λ h some. record {
+            place = place;
+            packet = p;
+            there = there;
+            target = target;
+            key = ap (λ (i : Held). i.key) (some_same h _ (sym some ∙ is.held)) ∙ part_key e m p.part;
+            some = step-kept e m a new p.part fly.can within holds is;
+          };
+        },
+      )
+  by_taken taken.Whole new is =
+      let all : completes g p ≡ true = sym whole_is ∙ is.all in
+      let left : left_by g p ≡ None = rw all refl in (
+        all,
+        record {
+          tied = subst (λ (o : Option Gathering). IsTied new.held o) (sym left) (subst (λ (o : Option Held). IsTied o None) (sym is.held) tt);
+          each = λ h some. let none : None ≡ Some h = sym is.held ∙ some in absurd (cc);
+        },
+        step-whole e m a new p.part fly.can fly.typed holds within is,
+      )
+  by_taken taken.Bad new is = none-bad e m a new (p.part ∷ []) (taken.Bad ∷ []) fly.can fly.typed holds (within, tt) (new, is, refl)
+
+  pub put_together : (t : Taken) (new : Assembled) → Takes a (part_carried p) (payload_in (part_carried p) (carrier p)) t new → IsPutTo ps site g p t new
+  put_together t new takes = by_taken t new (subst (λ (bs : List ℕ). Takes a (part_carried p) bs t new) (payload_in-packet_of e m p.part) takes)

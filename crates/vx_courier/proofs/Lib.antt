@@ -1,0 +1,3 @@
+pub mod Flying
+pub mod Parts
+pub mod Joining

@@ -1,0 +1,4 @@
+pub mod Sizes
+pub mod Looking
+pub mod Updates
+pub mod Pumps

@@ -1,0 +1,36 @@
+use Rattle.std.proofs.Common.{◌≡◌, ◌∙◌, ◌+◌, ◌≤◌, inl, inr, true, ap, sym, subst, refl, arith}
+use Rattle.vx_model.specs.declared.history.Line.{Line}
+use Rattle.vx_model.specs.declared.link.Link.{Link as PlainLink}
+use Rattle.vx_model.specs.declared.state.State.{State}
+use Rattle.vx_history.specs.Sending.{Sent}
+use Rattle.vx_history.specs.declared.sender.SEvent.TheVariants.{Pump}
+use Rattle.vx_history.specs.declared.sender.SFacts.{SFacts}
+use Rattle.vx_packet.specs.declared.message.Envelope.{Envelope}
+use Rattle.vx_sender.proofs.Events.{updates-fit}
+use Rattle.vx_peers.proofs.Pumps.{moved_none, moved_range, rule_same, sends_none}
+use Rattle.vx_peers.proofs.pumping.pump.Goals as goal
+
+pub returns-in-Nothing-clause-moved : goal.returns-in-Nothing-clause-moved
+returns-in-Nothing-clause-moved g c = λ w from tells link flight.
+    let core = c.args.rvg.now.core in
+    let m = g.S.Shelf.meaning c.args.rvg.now.shelf in
+    let to = c.args.link.now.site in
+    let same = rule_same w c.args.site to core m from c.args.link.now c.head.result link c.head.ensures in
+    let action = sym (ap (λ (r : Sent). r.action) same) ∙ sym c.step.ensures.action in
+    moved_none w c.args.site to core m from c.step.new.link (g.N.Net.flying c.args.flight.now) (c.step.ensures.link ∙ ap (λ (r : Sent). r.link) same)
+    (sends_none w c.args.site to core m from c.step.result action c.in-Nothing.is) flight
+
+pub returns-in_ok-send_range-in-Updates-clause-moved : goal.returns-in_ok-send_range-in-Updates-clause-moved
+returns-in_ok-send_range-in-Updates-clause-moved g c = λ w from tells link flight.
+    let core = c.args.rvg.now.core in
+    let m = g.S.Shelf.meaning c.args.rvg.now.shelf in
+    let to = c.args.link.now.site in
+    let same = rule_same w c.args.site to core m from c.args.link.now c.head.result link c.head.ensures in
+    let action = sym (ap (λ (r : Sent). r.action) same) ∙ sym c.step.ensures.action ∙ c.in-Updates.is in
+    let facts : SFacts = record { safe = c.head.result; line_ok = true } in
+    let fits = updates-fit c.args.link.now Pump facts c.in-Updates.from c.in-Updates.to (sym c.step.ensures.action ∙ c.in-Updates.is) in
+    let sent = c.in_ok-send_range-in-Updates.ensures.sent tells from.held from.stands in
+    moved_range w c.args.site to core m from c.in-Updates.from c.in-Updates.to (record { source = c.args.site; target = to; line = c.state.result.now.line }) c.step.new.link
+    (g.N.Net.flying c.args.flight.now) (g.N.Net.flying c.send_range.new.flight) (c.step.ensures.link ∙ ap (λ (r : Sent). r.link) same) action
+    (ap (λ (s : State). let e : Envelope = record { source = c.args.site; target = to; line = s.line } in e) c.state.ensures) sent.0
+    (omega (arith, fits.3, c.head.ensures)) (omega (arith, fits.1, c.requires.held, from.stands.low)) flight

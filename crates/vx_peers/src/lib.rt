@@ -1,0 +1,8 @@
+//! The ends of a link over the groups of their sites: what a site sends on a link, and what it makes of the packets that come.
+#![tactic(auto)]
+
+mod pumping;
+mod reading;
+mod sending;
+
+pub use pumping::pump;
