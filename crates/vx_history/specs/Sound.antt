@@ -39,6 +39,14 @@ TakesUpdates n = phase_takes n.phase ≡ true
 abbrev pub IsMarked : Node → Type 0
 IsMarked n = n.state ≡ Up → n.halted ≡ None → n.phase ≡ ByLog → n.end ≤ n.safe → n.mark ≡ Consistent
 
+-- Fact 17. A line that is named, by a site, a packet or a promise, has a generation of at most the greatest on which its origin ever stood.
+abbrev pub IsNamed : (ℕ → Node) → Line → Type 0
+IsNamed nodes line = line.generation ≤ (nodes line.origin).top
+
+-- Fact 18. Where writes arise a site stands on the newest line on which it ever stood.
+abbrev pub IsNewest : Node → Type 0
+IsNewest n = is_origin n.role ≡ true → n.top ≡ n.line.generation
+
 -- ## Links
 
 -- a link from a site, now a, to a receiver on the same line, now b
@@ -111,9 +119,10 @@ StrangerSays to from (NetAck session number) = from → number ≤ 0
 StrangerSays to from (Hello session number stored) = from → (number ≤ 0) × (stored ≤ 0)
 StrangerSays to from (DataAck number) = from → number ≤ 0
 
--- Fact 10. The site, and the one that began the line, are not bare. So a site that makes its first line finds nothing said on it.
+-- Fact 10. The site, and the one that began the line, are not bare, and the line is one on which that one stood. So a site that makes its
+-- first line, or one of a higher generation than it ever stood on, finds nothing said on it.
 abbrev pub IsBegun : (ℕ → Node) → Line → ℕ → Type 0
-IsBegun nodes line i = IsMade (nodes i) × IsMade (nodes line.origin)
+IsBegun nodes line i = IsMade (nodes i) × IsMade (nodes line.origin) × IsNamed nodes line
 
 pub record GoodPacket (nodes : ℕ → Node) (links : ℕ → ℕ → Link) (lines : Line → History) (p : Packet) : Type 0 where
   pub said : GoodMessage (lines p.line).held (nodes p.source) p.line p.message
@@ -151,6 +160,8 @@ pub record Sound (w : World) : Type 0 where
   pub fed : (i : ℕ) → IsFed (w.nodes i)
   pub takes : (i : ℕ) → TakesUpdates (w.nodes i)
   pub marked : (i : ℕ) → IsMarked (w.nodes i)
+  pub named : (i : ℕ) → IsNamed w.nodes (w.nodes i).line
+  pub newest : (i : ℕ) → IsNewest (w.nodes i)
   pub links : (p s : ℕ) → GoodLink (w.lines (w.nodes p).line).held p s (w.nodes p) (w.nodes s) (w.links p s)
   pub bunkers : (p s : ℕ) → FedByBunker w.nodes w.links p s
   pub packets : AllByRecursion (GoodPacket w.nodes w.links w.lines) w.packets

@@ -29,6 +29,7 @@ pub record IsLater (a b : Node) : Type 0 where
   pub stored : (k : ℕ) → HasStored a k → HasStored b k
   pub present : b.state ≡ Up → b.session ≡ a.session → (a.state ≡ Up) × (length a.log ≤ length b.log)
   pub made : IsMade a → IsMade b
+  pub top : a.top ≤ b.top
 
 -- in the same phase of a replay to the same end, and no less consistent
 pub stored_still : (a b : Node) → a.safe ≤ b.safe → b.phase ≡ a.phase → b.end ≡ a.end → (a.mark ≡ Consistent → b.mark ≡ Consistent) → (k : ℕ)
@@ -46,6 +47,7 @@ later_same a = record {
   present = λ up _.
       (up, omega arith);
   made = λ m. m;
+  top = omega arith;
 }
 
 -- who sends sends still
@@ -122,7 +124,7 @@ says_later to from to' from' f g (DataAck number) h = λ q. h (g q)
 module _ (f g : ℕ → Node) (links more : ℕ → ℕ → Link) (later : (i : ℕ) → IsLater (f i) (g i))
     (before : (l : Line) (i : ℕ) → IsStranger g more l i → IsStranger f links l i) where
   pub begun_later : (line : Line) (i : ℕ) → IsBegun f line i → IsBegun g line i
-  begun_later line i (here, there) = ((later i).made here, (later line.origin).made there)
+  begun_later line i (here, there, named) = ((later i).made here, (later line.origin).made there, omega (arith, named, (later line.origin).top))
 
   pub packets_later : (h k : Line → History) → ((l : Line) → IsPrefixOf (h l).held (k l).held) → (ps : List Packet)
       → AllByRecursion (GoodPacket f links h) ps → AllByRecursion (GoodPacket g more k) ps

@@ -54,6 +54,7 @@ written_keeps w p x s works =
     (s.fed p)
     (s.takes p)
     (λ _ _ _ _. (s.good.nodes p).origin_mark works.origin)
+    (s.newest p)
     (stays_fed w p (logged n x) (λ m. m) (λ t. t))
     (origin_known w p (logged n x) works.origin)
 
@@ -67,6 +68,7 @@ half_written_keeps w p x disk s works =
     (s.fed p)
     (s.takes p)
     (λ _ none. absurd (cc))
+    (s.newest p)
     (stays_fed w p m (λ m. m) (λ t. t))
     (origin_known w p m works.origin)
 
@@ -84,7 +86,7 @@ written_if_keeps (Goes changes) w p x fails s works =
 
 module _ (v : World) (q t : ℕ) (s : Sound v) (made : IsMade (v.nodes q)) where
   line_begun : IsBegun v.nodes (v.nodes q).line q
-  line_begun = (made, s.good.begun q made)
+  line_begun = (made, s.good.begun q made, s.named q)
 
   -- a receiver tells what it has
   pub greeting_good : is_origin (v.nodes q).role ≡ false → (v.nodes q).state ≡ Up → (v.nodes q).halted ≡ None
@@ -160,6 +162,7 @@ apply_keeps w q count s up runs r =
         (s.fed q)
         (s.takes q)
         (λ _ _. ends)
+        (s.newest q)
         (stays_fed w q m marks (λ t. t))
         (λ is not g. s.known q made not g))
         made r up runs

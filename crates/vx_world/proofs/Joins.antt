@@ -19,7 +19,7 @@ use Rattle.vx_model.specs.declared.site.SiteState.TheVariants.{Bare, Up}
 use Rattle.vx_model.specs.declared.link.SyncMode.{SyncMode}
 use Rattle.vx_model.specs.declared.no.No.TheVariants.{Exists, Size, Role as WrongRole, Limit}
 use Rattle.vx_model.specs.declared.no.Counted.TheVariants.{Sites, Disks, Links}
-use Rattle.vx_history.proofs.Updates.{by_test, and_left, and_right, same_line_equal}
+use Rattle.vx_history.proofs.Updates.{by_test, and_left, and_right, same_line_equal, at_place}
 use Rattle.vx_history.proofs.GoodLemmas.{good_site, good_raw, good_stays, made_is_given, up_is_made}
 use Rattle.vx_history.specs.declared.event.LinkPart.{LinkPart}
 use Rattle.vx_history.specs.declared.event.LinkPart.TheVariants.{Joins, Made, Marked, Opened}
@@ -50,6 +50,8 @@ site_keeps w name disks blocks s =
     refl
     refl
     (λ up. absurd (let e : Bare ≡ Up = up in cc))
+    (omega arith)
+    (λ _. refl)
 
 pub may_be_site_keeps : (w : World) (name : List ℕ) (disks blocks : ℕ) → Sound w
     → Keeps (may_be_site w name disks blocks (done (site_made w name disks blocks)))
@@ -75,6 +77,8 @@ raw_keeps w q s there bare =
     refl
     (s.takes q)
     (λ _ _ _ _. refl)
+    (subst (λ (m : Node). 1 ≤ m.top) (sym (at_place w.nodes q n)) (omega arith))
+    (λ _. refl)
 
 -- ## The events of a link
 
@@ -122,13 +126,14 @@ join_keeps w p q s up_p up_q o other unlinked alone plain =
     sound_joining w q n s
     (ap (λ (j : ℕ). (w.nodes j).line) own, ap (λ (j : ℕ). is_linked (w.links j q)) own ∙ unlinked, plain)
     (λ e. not_both (eqb q p) (eq-eqb q p (sym e ∙ own)) other)
-    made_q made_q (omega arith) alone
+    made_q made_q (omega arith) (omega arith) (s.named p) alone
     (λ by. let e : Quiet ≡ ByLog = by in absurd (cc))
-    (good_stays w q n s.good (Nodes.good_joined (w.lines a.line) q p a (w.nodes q)) (λ _. inl (s.good.begun p made_p)) (λ is. is) (given w q n s.good made_q))
+    (good_stays w q n s.good (Nodes.good_joined (w.lines a.line) q p a (w.nodes q) made_q) (λ _. inl (s.good.begun p made_p)) (λ is. is) (given w q n s.good made_q))
     (up_whole n up_q)
     (λ _. sym own)
     refl
     (λ _ _ by. let e : Quiet ≡ ByLog = by in absurd (cc))
+    (λ o. absurd (cc))
     (omega arith)
 
 may_join_keeps : (w : World) (p q : ℕ) → Sound w → (w.nodes p).state ≡ Up → (w.nodes q).state ≡ Up
@@ -189,6 +194,7 @@ mark_keeps w q s up =
     (s.fed q)
     (s.takes q)
     (λ _ _ _ _. refl)
+    (s.newest q)
     (stays_fed w q m (λ _. refl) (λ t. t))
     (s.known q)
 

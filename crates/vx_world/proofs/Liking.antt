@@ -10,7 +10,7 @@ use Rattle.vx_model.specs.declared.history.Line.{Line}
 use Rattle.vx_model.specs.declared.site.Mark.TheVariants.{Consistent}
 use Rattle.vx_model.specs.declared.site.SiteState.TheVariants.{Bare}
 use Rattle.vx_history.specs.Receiving.{phase_takes}
-use Rattle.vx_history.specs.Sound.{Sound, IsWhole, IsFed, TakesUpdates, IsMarked, GoodLink, GoodPacket, GoodPromise, IsStranger, KnownNode}
+use Rattle.vx_history.specs.Sound.{Sound, IsWhole, IsFed, TakesUpdates, IsMarked, IsNamed, IsNewest, GoodLink, GoodPacket, GoodPromise, IsStranger, KnownNode}
 use Rattle.vx_world.proofs.Lists.{prefix_refl}
 use Rattle.vx_world.proofs.Carry.{IsLater, mode_later, link_later, packets_later, promises_later}
 use Rattle.vx_world.proofs.Moves.{unlinked_good}
@@ -35,6 +35,7 @@ later_note a f g = record {
   present = λ up _.
       (up, omega arith);
   made = λ m. m;
+  top = omega arith;
 }
 
 good_note : (h : History) (i : ℕ) (a : Node) (f : Fuse) (failing : ℕ → Bool) → GoodNode h i a → GoodNode h i (with_notes a f failing)
@@ -108,6 +109,8 @@ module _ (w v : World) (s : Sound w) (like : IsLike w v) where
     fed = λ i. at (λ b. IsFed b) i (s.fed i);
     takes = λ i. at (λ b. TakesUpdates b) i (s.takes i);
     marked = λ i. at (λ b. IsMarked b) i (s.marked i);
+    named = λ i. subst (λ (l : Line). IsNamed v.nodes l) (sym (later i).line) (omega (arith, s.named i, (later (w.nodes i).line.origin).top));
+    newest = λ i. at (λ b. IsNewest b) i (s.newest i);
     links = link_good;
     bunkers = λ p q is r g. s.bunkers p q (sym (like.links p q).linked ∙ is) (sym (later p).origin ∙ r)
         (subst (λ (l : Line). IsStranger w.nodes w.links l q) (later p).line (before (v.nodes p).line q g));

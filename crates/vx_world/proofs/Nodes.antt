@@ -32,6 +32,7 @@ later_logged n x = record {
   stored = stored_still n (logged n x) (omega arith) refl refl (λ m. m);
   present = λ up _. (up, omega (arith, length-append n.log (x ∷ [])));
   made = λ m. m;
+  top = omega arith;
 }
 
 -- one more write, whatever is known of it
@@ -45,6 +46,7 @@ later_longer n x halted fuse = record {
   stored = λ k h. h;
   present = λ up _. (up, omega (arith, length-append n.log (x ∷ [])));
   made = λ m. m;
+  top = omega arith;
 }
 
 -- an update that a receiver takes
@@ -95,6 +97,7 @@ later_applied n k mark least marks =
       present = λ up _.
           (up, omega arith);
       made = λ m. m;
+      top = omega arith;
     }
 
 -- a crash of a receiver
@@ -123,6 +126,7 @@ later_crashed n k least made =
       present = λ up _. absurd
           (cc);
       made = λ _ e. cc;
+      top = omega arith;
     }
 
 -- what a crash keeps
@@ -187,6 +191,7 @@ later_risen n mark marks = record {
   stored = stored_still n (risen n mark) (omega arith) refl refl marks;
   present = λ _ e. absurd (omega (arith, e));
   made = λ _ e. cc;
+  top = omega arith;
 }
 
 -- a session that began at a site that stays down
@@ -200,6 +205,7 @@ later_begun n down = record {
   stored = λ k h. h;
   present = λ up _. absurd (let e : Down ≡ Up = sym down ∙ up in cc);
   made = λ m. m;
+  top = omega arith;
 }
 
 pub later_halted : (n : Node) (disk : ℕ) → IsLater n (record n { halted = Some disk; fuse = burned n.fuse })
@@ -213,6 +219,7 @@ later_halted n disk = record {
   present = λ up _.
       (up, omega arith);
   made = λ m. m;
+  top = omega arith;
 }
 
 pub good_marked : (h : History) (s : ℕ) (n : Node) → phase_takes n.phase ≡ true → GoodNode h s n → GoodNode h s (record n { mark = Consistent })
@@ -238,16 +245,17 @@ later_marked n = record {
   present = λ up _.
       (up, omega arith);
   made = λ m. m;
+  top = omega arith;
 }
 
-pub good_joined : (h : History) (s p : ℕ) (a n : Node) → GoodNode h s (joined a p n)
-good_joined h s p a n = record {
+pub good_joined : (h : History) (s p : ℕ) (a n : Node) → IsMade n → GoodNode h s (joined a p n)
+good_joined h s p a n made = record {
   safe_fits = omega arith;
   own_line = λ _ o. absurd (cc);
   receiver_log = λ _ _. prefix_none h.held;
   origin_log = λ _ o. absurd (cc);
   origin_whole = λ o _. absurd (cc);
   origin_mark = λ o. absurd (cc);
-  plain = λ _. refl;
+  plain = λ bare. absurd (made bare);
   content = λ _. refl;
 }
