@@ -315,6 +315,7 @@ joined a p n =
       parent = a.parent;
       fork = a.fork;
       top = max n.top a.line.generation;
+      stood = n.stood ++ a.line ∷ [];
       phase = Quiet;
       replay = if same_line n.line a.line then n.replay else 0;
       end = 0;

@@ -33,6 +33,7 @@ raw_set site n = record n {
   mark = Consistent;
   line = first_line site;
   top = 1;
+  stood = n.stood ++ first_line site ∷ [];
   session = 1;
   start = raw_content n.disks n.blocks;
   base = raw_content n.disks n.blocks;

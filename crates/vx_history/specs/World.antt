@@ -61,6 +61,8 @@ pub record Node : Type 0 where
   pub fork : ℕ
   -- the greatest generation that it ever stood on
   pub top : ℕ
+  -- the lines on which it ever stood, the first of them first
+  pub stood : List Line
   pub session : ℕ
   pub mark : Mark
   pub phase : SPhase
@@ -174,6 +176,7 @@ bare_site name disks blocks = record {
   parent = no_line;
   fork = 0;
   top = 0;
+  stood = [];
   session = 0;
   mark = Consistent;
   phase = Quiet;

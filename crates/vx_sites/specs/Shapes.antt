@@ -48,6 +48,7 @@ node_of n = record {
   parent = no_line;
   fork = 0;
   top = n.top;
+  stood = n.stood.items;
   session = n.session;
   mark = n.mark;
   phase = n.phase;

@@ -34,6 +34,7 @@ impl World {
         node.mark = Mark::Consistent;
         node.line = line;
         node.top = 1;
+        node.stood.push(line)?;
         node.session = 1;
         node.start = Content::new(self.alloc, volumes, node.blocks);
         node.base = Content::new(self.alloc, volumes, node.blocks);
@@ -156,6 +157,7 @@ impl World {
         node.mark = Mark::Inconsistent;
         node.line = line;
         node.top = node.top.max(line.generation);
+        node.stood.push(line)?;
         node.phase = SPhase::Quiet;
         node.replay = replay;
         node.end = 0;

@@ -23,6 +23,8 @@ pub struct Node {
     pub line: Line,
     /// The greatest generation that it ever stood on.
     pub top: u64,
+    /// The lines on which it ever stood, the first of them first.
+    pub stood: Vec<Line>,
     pub session: u64,
     pub mark: Mark,
     pub phase: SPhase,
@@ -59,6 +61,7 @@ impl Node {
                 origin: 0,
             },
             top: 0,
+            stood: Vec::new(alloc),
             session: 0,
             mark: Mark::Consistent,
             phase: SPhase::Quiet,

@@ -51,6 +51,7 @@ origin_crash_keeps w q k s made o least most =
     (s.takes q)
     (λ up. absurd (let e : Down ≡ Up = up in cc))
     (s.newest q)
+    (λ _. s.stands q made)
     (stays_fed w q (crashed n k) (λ m. m) (λ t. t))
     (origin_known w q (crashed n k) o)
 
@@ -67,6 +68,7 @@ receiver_crash_keeps w q k s made r least most =
     (s.takes q)
     (λ up. absurd (let e : Down ≡ Up = up in cc))
     (s.newest q)
+    (λ _. s.stands q made)
     (stays_fed w q (crashed n k) (λ m. m) (λ t. t))
     (λ _ _ g. omega (arith, s.known q made r g, length-take k n.log))
 
@@ -104,6 +106,7 @@ risen_keeps w q mark s down marks same ends =
     (s.takes q)
     (λ _ _. marked (is_origin n.role) refl)
     (s.newest q)
+    (λ _. s.stands q made)
     (stays_fed w q m marks (λ t. t))
     (λ _ r g. s.known q made r g) in
     let v : World = with_links u q (λ to. Events.restarted_link m to (w.links q to)) in
@@ -137,6 +140,7 @@ recovery_keeps w q (Some disk) s down =
     (s.takes q)
     (λ up. absurd (let e : Down ≡ Up = sym down ∙ up in cc))
     (s.newest q)
+    (s.stands q)
     (stays_fed w q (record n { session = n.session + 1 }) (λ m. m) (λ t. t))
     (s.known q)
 
@@ -158,5 +162,6 @@ fault_keeps w q disk s up =
     (s.takes q)
     (λ _ none. absurd (cc))
     (s.newest q)
+    (s.stands q)
     (stays_fed w q (record n { halted = Some disk; fuse = burned n.fuse }) (λ m. m) (λ t. t))
     (s.known q)

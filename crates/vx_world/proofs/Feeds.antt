@@ -90,7 +90,7 @@ pump_keeps w p q s up linked =
         (λ number x is _. record {
           said = is;
           known = λ g. apart made (stranger_of_links w.nodes w.links (with_link w p q m).links (still_linked w p q m (λ is. is)) n.line q g);
-          begun = (made, s.good.begun p made, s.named p);
+          came = s.stands p made;
         })
         (low + 1) high (omega arith) most)
       where
@@ -196,6 +196,7 @@ update_keeps w p number x s up is known =
         (s.takes p.target)
         (s.marked p.target)
         (s.newest p.target)
+        (s.stands p.target)
         (stays_fed w p.target m (λ m. m) (λ t. t))
         (λ _ _ g. absurd (none g)) in
         from_memory_keeps (with_node w p.target m) p m number v (at_place w.nodes p.target m) made r (omega (arith, next, length-append n.log (x ∷ [])))
@@ -265,6 +266,6 @@ wait_keeps w p number s up o =
     (λ q linked. (
       no_stranger w.nodes w.links p q (w.nodes p).line
           ((s.good.nodes p).own_line made o) linked,
-      (((s.links p q).ends linked).1, s.good.begun p made, s.named p),
+      (s.links p q).came linked,
     ))
     (s.links p) w.sites u h))))

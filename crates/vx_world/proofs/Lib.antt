@@ -2,7 +2,9 @@ pub mod Lists
 pub mod Carry
 pub mod Nodes
 pub mod Links
+pub mod Stood
 pub mod Moves
+pub mod Comes
 pub mod Guards
 pub mod Tests
 pub mod Changes

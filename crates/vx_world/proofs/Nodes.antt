@@ -33,6 +33,7 @@ later_logged n x = record {
   present = λ up _. (up, omega (arith, length-append n.log (x ∷ [])));
   made = λ m. m;
   top = omega arith;
+  stood = refl;
 }
 
 -- one more write, whatever is known of it
@@ -47,6 +48,7 @@ later_longer n x halted fuse = record {
   present = λ up _. (up, omega (arith, length-append n.log (x ∷ [])));
   made = λ m. m;
   top = omega arith;
+  stood = refl;
 }
 
 -- an update that a receiver takes
@@ -98,6 +100,7 @@ later_applied n k mark least marks =
           (up, omega arith);
       made = λ m. m;
       top = omega arith;
+      stood = refl;
     }
 
 -- a crash of a receiver
@@ -127,6 +130,7 @@ later_crashed n k least made =
           (cc);
       made = λ _ e. cc;
       top = omega arith;
+      stood = refl;
     }
 
 -- what a crash keeps
@@ -192,6 +196,7 @@ later_risen n mark marks = record {
   present = λ _ e. absurd (omega (arith, e));
   made = λ _ e. cc;
   top = omega arith;
+  stood = refl;
 }
 
 -- a session that began at a site that stays down
@@ -206,6 +211,7 @@ later_begun n down = record {
   present = λ up _. absurd (let e : Down ≡ Up = sym down ∙ up in cc);
   made = λ m. m;
   top = omega arith;
+  stood = refl;
 }
 
 pub later_halted : (n : Node) (disk : ℕ) → IsLater n (record n { halted = Some disk; fuse = burned n.fuse })
@@ -220,6 +226,7 @@ later_halted n disk = record {
       (up, omega arith);
   made = λ m. m;
   top = omega arith;
+  stood = refl;
 }
 
 pub good_marked : (h : History) (s : ℕ) (n : Node) → phase_takes n.phase ≡ true → GoodNode h s n → GoodNode h s (record n { mark = Consistent })
@@ -246,6 +253,7 @@ later_marked n = record {
       (up, omega arith);
   made = λ m. m;
   top = omega arith;
+  stood = refl;
 }
 
 pub good_joined : (h : History) (s p : ℕ) (a n : Node) → IsMade n → GoodNode h s (joined a p n)

@@ -111,8 +111,9 @@ empty_sound = record {
   whole = λ _ _. omega arith;
   fed = λ _ r. absurd (cc);
   takes = λ _. refl;
-  named = λ _. omega arith;
   newest = λ _ _. refl;
+  stands = λ _ made. absurd (made refl);
+  come = λ _. tt;
   marked = λ _ up. absurd (let e : Bare ≡ Up = up in cc);
   bunkers = λ p q is. absurd (let e : false ≡ true = is in cc);
   links = λ p q. unlinked_good [] p q (empty_world.nodes p) (empty_world.nodes q) (empty_world.links p q) (λ e. cc);
