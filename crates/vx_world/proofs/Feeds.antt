@@ -28,7 +28,7 @@ use Rattle.vx_history.specs.Refusals.{Outcome, says, unless, is_running, keeps_l
 use Rattle.vx_model.specs.Sites.{is_up}
 use Rattle.vx_history.specs.Events
 use Rattle.vx_history.specs.Gatherings.{completes}
-use Rattle.vx_model.specs.declared.limits.TheConstants.{MOST_PACKETS}
+use Rattle.vx_model.specs.declared.limits.TheConstants.{MOST_AHEAD, MOST_PACKETS}
 use Rattle.vx_history.specs.Sound.{GoodLink, GoodMessage, GoodPacket, IsStranger, StrangerSays, Sound}
 use Rattle.vx_world.proofs.Lists.{prefix_refl, prefix_trans, prefix_take, each_found, not_true, not_both}
 use Rattle.vx_world.proofs.Moves.{sound_gathering, sound_sending, sound_promising, sound_with_link, sound_with_node, good_later, stranger_of_links, still_linked, stays_fed}
@@ -68,7 +68,7 @@ pump_keeps w p q s up linked =
     let n : Node = w.nodes p in
     let l : PlainLink = plain_link q (w.links p q) in
     let low : ℕ = max l.sent l.stored in
-    let high : ℕ = min n.safe (l.net + 8) in
+    let high : ℕ = min n.safe (l.net + MOST_AHEAD) in
     by_test (λ (r : Sent). Sound (Events.moved_by w p q r)) (is_live l && by_log l.mode) (pumped_up_to l low high) (with_nothing l)
     (λ _. by_test (λ (r : Sent). Sound (Events.moved_by w p q r)) (ltb low high)
     (record { link = record l { sent = high }; action = Updates (low + 1) high }) (with_nothing (record l { sent = low }))

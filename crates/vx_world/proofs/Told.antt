@@ -25,7 +25,7 @@ use Rattle.vx_history.specs.Refusals.{Outcome, says, when_live, on_link, keeps_l
 use Rattle.vx_model.specs.Sites.{is_up}
 use Rattle.vx_history.specs.Events
 use Rattle.vx_history.specs.Gatherings.{key_of, came_after, completes, left_by}
-use Rattle.vx_model.specs.declared.limits.TheConstants.{MOST_PACKETS}
+use Rattle.vx_model.specs.declared.limits.TheConstants.{MOST_AHEAD, MOST_PACKETS}
 use Rattle.vx_history.specs.Step.{outcome_of, step, done}
 use Rattle.vx_world.proofs.Pair.{gathers_at, counted_at, At, Fit, link_event_at, sending_at, with_node_at, with_link_at, link_passes, hears, passes, falls}
 
@@ -69,7 +69,7 @@ module _ (v : World) (p s : ℕ) (a b : Node) (l : Link) (ps : List Packet) (at 
       (both l.attached (l.connected && not l.paused) fit.attached (both l.connected (not l.paused) fit.connected (ap not fit.running)))
       (ap by_log fit.mode)
 
-  pub pumps : sent_step (plain_link s l) PumpLink (Events.facts_of a a.line) ≡ pumped_up_to (plain_link s l) (max l.sent l.stored) (min a.safe (l.net + 8))
+  pub pumps : sent_step (plain_link s l) PumpLink (Events.facts_of a a.line) ≡ pumped_up_to (plain_link s l) (max l.sent l.stored) (min a.safe (l.net + MOST_AHEAD))
   pumps = by_true (is_live (plain_link s l) && by_log l.mode) _ _ live
 
   pub pump_passes : (o : Outcome) → on_link v p s (when_live v s (v.links p s) o) ≡ o
@@ -81,12 +81,12 @@ module _ (v : World) (p s : ℕ) (a b : Node) (l : Link) (ps : List Packet) (at 
       ∙ passes (v.links p s).paused _ v o (ap (λ (x : Link). x.paused) at.at_l ∙ fit.running)
 
   -- what the receiver may lack is sent
-  pub pump_at : (low high : ℕ) → max l.sent l.stored ≡ low → min a.safe (l.net + 8) ≡ high → low < high
+  pub pump_at : (low high : ℕ) → max l.sent l.stored ≡ low → min a.safe (l.net + MOST_AHEAD) ≡ high → low < high
       → At (step v (Pump p s)).world p s a b (record l { sent = high }) (ps ++ updates p s a.line (low + 1) (between (low + 1) high a.log))
   pump_at low high is_low is_high less =
       let r : Sent = record { link = record (plain_link s l) { sent = high }; action = Updates (low + 1) high } in
       let e : sent_step (plain_link s l) PumpLink (Events.facts_of a a.line) ≡ r =
-      pumps ∙ ap (λ k. pumped_up_to (plain_link s l) k (min a.safe (l.net + 8))) is_low ∙ ap (λ k. pumped_up_to (plain_link s l) low k) is_high ∙ by_true
+      pumps ∙ ap (λ k. pumped_up_to (plain_link s l) k (min a.safe (l.net + MOST_AHEAD))) is_low ∙ ap (λ k. pumped_up_to (plain_link s l) low k) is_high ∙ by_true
       (ltb low high) _ _ (below low high less) in
       counted_at p s a b (record l { sent = high }) (ps ++ updates p s a.line (low + 1) (between (low + 1) high a.log)) v (Pump p s)
       (subst (λ (o : Outcome). At o.world p s a b (record l { sent = high }) (ps ++ updates p s a.line (low + 1) (between (low + 1) high a.log)))
@@ -97,12 +97,12 @@ module _ (v : World) (p s : ℕ) (a b : Node) (l : Link) (ps : List Packet) (at 
       below : (m n : ℕ) → m < n → ltb m n ≡ true
       below m n h = grind (arith, nat_tests)
 
-  pub pump_none : max l.sent l.stored ≡ l.sent → min a.safe (l.net + 8) ≤ l.sent → At (step v (Pump p s)).world p s a b l ps
+  pub pump_none : max l.sent l.stored ≡ l.sent → min a.safe (l.net + MOST_AHEAD) ≤ l.sent → At (step v (Pump p s)).world p s a b l ps
   pump_none is_low most =
       let r : Sent = with_nothing (plain_link s l) in
       let e : sent_step (plain_link s l) PumpLink (Events.facts_of a a.line) ≡ r =
-      pumps ∙ ap (λ k. pumped_up_to (plain_link s l) k (min a.safe (l.net + 8))) is_low ∙ by_false (ltb l.sent (min a.safe (l.net + 8))) _ _
-      (above l.sent (min a.safe (l.net + 8)) most) in
+      pumps ∙ ap (λ k. pumped_up_to (plain_link s l) k (min a.safe (l.net + MOST_AHEAD))) is_low ∙ by_false (ltb l.sent (min a.safe (l.net + MOST_AHEAD))) _ _
+      (above l.sent (min a.safe (l.net + MOST_AHEAD)) most) in
       counted_at p s a b l ps v (Pump p s)
       (nothing_sent (outcome_of v (Pump p s)).world l
       (subst (λ (o : Outcome). At o.world p s a b l (ps ++ [])) (sym (pump_passes (done (Events.link_event v p s PumpLink))))

@@ -7,6 +7,7 @@ use Rattle.std.proofs.Math.Numerals.{sub-one}
 use Rattle.std.proofs.lemmas.Nat.{div_below}
 use Rattle.std.proofs.lemmas.List.{length-take, length-drop}
 use Rattle.std.specs.List.{AllByRecursion}
+use Rattle.vx_model.specs.declared.limits.TheConstants.{MOST_AHEAD}
 use Rattle.vx_model.specs.Content.{Write, blocks_in}
 use Rattle.vx_model.specs.declared.history.Line.{Line}
 use Rattle.vx_model.specs.declared.limits.TheConstants.{MOST_CALL_BLOCKS, MOST_PACKETS}
@@ -116,7 +117,7 @@ module _ (p s : ℕ) (a b : Node) (l : Link) (ps : List Packet) (fits : b.safe �
 
   pub sends : (w : World) → At w p s a b l ps → Sent (run w (Tick p s ∷ Pump p s ∷ []))
   sends w at =
-      let high : ℕ = min a.safe (l.net + 8) in
+      let high : ℕ = min a.safe (l.net + MOST_AHEAD) in
       let v : World = (step w (Tick p s)).world in
       let m : Link = record l { sent = l.net; trimmed = 0 } in
       let at_v : At v p s a b m ps = tick_at w p s a b l ps at fit in
