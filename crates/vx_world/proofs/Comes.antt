@@ -1,5 +1,5 @@
 -- A site comes to a line, or is made more than bare: what that has to show.
-use Rattle.std.proofs.Common.{◌≡◌, ℕ, ◌≤◌, List, [], ◌∷◌, ◌++◌, length, refl, ap, sym, ◌∙◌, subst, arith, Bool, true, false, ◌⊎◌, inl, inr}
+use Rattle.std.proofs.Common.{◌≡◌, ℕ, ◌≤◌, List, [], ◌∷◌, ◌++◌, length, refl, ap, sym, ◌∙◌, subst, arith, Bool, true, false, ◌⊎◌}
 use Rattle.std.specs.Prelude.{eqb}
 use Rattle.std.specs.List.{AllByRecursion}
 use Rattle.vx_model.specs.Content.{Write}
@@ -10,7 +10,7 @@ use Rattle.vx_model.specs.declared.history.Line.{Line}
 use Rattle.vx_model.specs.declared.site.SPhase.TheVariants.{Log as ByLog}
 use Rattle.vx_model.specs.declared.site.SiteState.TheVariants.{Bare}
 use Rattle.vx_history.specs.Refusals.{is_bunker}
-use Rattle.vx_history.proofs.Updates.{all_updated, by_test, eqb_equal, at_place}
+use Rattle.vx_history.proofs.Updates.{all_updated, by_test, eqb_equal}
 use Rattle.vx_history.specs.Sends.{is_linked}
 use Rattle.vx_history.specs.Sound.{IsWhole, IsFed, TakesUpdates, IsMarked, IsNewest, StoodHere, has_line, HasCome, CameTo, GoodLink, GoodMessage, GoodPacket, GoodPromise, IsKept, IsStranger, StrangerSays, KnownNode, Sound}
 use Rattle.vx_world.proofs.Lists.{each_append, each_weaker, not_both}

@@ -54,4 +54,5 @@ pub mod Passed
 pub mod Halted
 pub mod Still
 pub mod Several
+pub mod Doubting
 pub mod Lining

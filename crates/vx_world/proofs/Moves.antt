@@ -1,19 +1,17 @@
 -- The few ways in which an event changes the world, each with what it has to show.
-use Rattle.std.proofs.Common.{◌≡◌, ℕ, ◌≤◌, List, ◌++◌, length, refl, ap, sym, ◌∙◌, subst, arith, Bool, true, false, ◌⊎◌, inl, inr}
-use Rattle.std.specs.Prelude.{eqb, Option}
+use Rattle.std.proofs.Common.{◌≡◌, ℕ, ◌≤◌, List, ◌++◌, sym, ◌∙◌, subst, true, false, ◌⊎◌, inl}
+use Rattle.std.specs.Prelude.{Option}
 use Rattle.std.specs.List.{AllByRecursion}
 use Rattle.vx_model.specs.Content.{Write, IsPrefixOf}
-use Rattle.vx_history.specs.World.{World, Node, Link, History, Gathering, Packet, Promise, Message, Surety, Hello, Update, NetAck, DataAck, Durable, InSession, with_node, with_history, updated, line_updated}
+use Rattle.vx_history.specs.World.{World, Node, Link, History, Gathering, Packet, Promise, with_node, with_history, updated, line_updated}
 use Rattle.vx_model.specs.Sites.{is_origin}
 use Rattle.vx_history.specs.Good.{GoodNode, Good, IsMade}
 use Rattle.vx_model.specs.declared.history.Line.{Line}
 use Rattle.vx_model.specs.declared.site.Mark.TheVariants.{Consistent}
-use Rattle.vx_model.specs.declared.site.SPhase.TheVariants.{Log as ByLog}
 use Rattle.vx_model.specs.declared.site.SiteState.TheVariants.{Bare}
 use Rattle.vx_history.specs.Receiving.{phase_takes}
-use Rattle.vx_history.specs.Refusals.{is_bunker}
-use Rattle.vx_history.proofs.Updates.{all_updated, all_lines, by_test, eqb_equal, at_place}
-use Rattle.vx_history.proofs.GoodLemmas.{good_stays, bare_or_made}
+use Rattle.vx_history.proofs.Updates.{all_updated, all_lines, at_place}
+use Rattle.vx_history.proofs.GoodLemmas.{good_stays}
 use Rattle.vx_history.specs.Sends.{is_linked, with_links, with_link, sending, promising}
 use Rattle.vx_history.specs.Sound.{IsWhole, IsFed, TakesUpdates, IsMarked, IsNewest, StoodHere, HasCome, IsFollowed, ModeSays, GoodLink, GoodPacket, GoodPromise, IsStranger, KnownNode, Sound}
 use Rattle.vx_world.proofs.Lists.{each_append, each_weaker, prefix_refl, refuted, not_both}
