@@ -26,7 +26,6 @@ use Rattle.vx_world.proofs.Halving.{aside, half}
 use Rattle.vx_world.proofs.Liking.{good_like}
 use Rattle.vx_world.proofs.Several.{like_exact, like_sym, like_trans, like_as, choice_like, none_like, node_none, row_none, twin_of, doubt_stays, step_as_good}
 
-
 -- ## A world in doubt
 
 -- none of the sites is as it may be

@@ -83,14 +83,16 @@ raw_keeps w q s there bare =
     (λ _. refl)
     (λ _. last_line (w.nodes q).stood (first_line q))
     (each_append (HasCome (updated w.nodes q n) q) (w.nodes q).stood (first_line q ∷ [])
-    (each_weaker (HasCome w.nodes q) (HasCome (updated w.nodes q n) q) (λ _ c. absurd (c.here bare)) (w.nodes q).stood (s.come q))
-    (record {
-      here = at_changed IsMade w.nodes q n (λ e. let f : Up ≡ Bare = e in cc);
-      there = at_changed IsMade w.nodes q n (λ e. let f : Up ≡ Bare = e in cc);
-      top = at_changed (λ (m : Node). 1 ≤ m.top) w.nodes q n (omega arith);
-      named = at_changed (λ (m : Node). 1 ≤ m.top) w.nodes q n (omega arith);
-      rises = λ _. at_changed (λ (m : Node). 1 ≤ m.line.generation) w.nodes q n (omega arith);
-    }, tt))
+    (each_weaker (HasCome w.nodes q) (HasCome (updated w.nodes q n) q) (λ _ c. absurd (c.here bare)) (w.nodes q).stood (s.come q)) (
+      record {
+        here = at_changed IsMade w.nodes q n (λ e. let f : Up ≡ Bare = e in cc);
+        there = at_changed IsMade w.nodes q n (λ e. let f : Up ≡ Bare = e in cc);
+        top = at_changed (λ (m : Node). 1 ≤ m.top) w.nodes q n (omega arith);
+        named = at_changed (λ (m : Node). 1 ≤ m.top) w.nodes q n (omega arith);
+        rises = λ _. at_changed (λ (m : Node). 1 ≤ m.line.generation) w.nodes q n (omega arith);
+      },
+      tt,
+    ))
 
 -- ## The events of a link
 

@@ -23,7 +23,6 @@ use Rattle.vx_world.proofs.Halving.{aside, half}
 use Rattle.vx_world.proofs.Likely.{noted, link_self}
 use Rattle.vx_world.proofs.Liking.{good_like}
 use Rattle.vx_world.proofs.Several.{exact_note, like_sym, like_trans, like_as, choice_like, node_none, row_none, step_as, step_as_good}
-
 use Rattle.vx_world.proofs.Doubting.{world_good, doubt_moved, doubt_of, like_good, others, resolve_good, step_good_as, runs_good}
 
 -- ## An event that a disk or a fuse ends
