@@ -108,8 +108,9 @@ written_if (Goes changes) w p x fails = unless_at_most (w.nodes p).safe w (put_i
 abbrev pub applied : Node → ℕ → Mark → Node
 applied n number mark = record n { base = fold_writes n.base (drop n.safe (take number n.log)); safe = number; mark = mark }
 
+-- it acknowledges from disk to the one that feeds it
 abbrev pub acknowledged : World → ℕ → Node → World
-acknowledged w s n = sending (with_node w s n) (packets_of s n.other n.line (DataAck n.safe))
+acknowledged w s n = sending (with_node w s n) (packets_of s n.fed_by n.line (DataAck n.safe))
 
 -- by what the rule of a receiver says: nothing waited, or the records are applied and acknowledged from disk
 abbrev pub applied_by : World → ℕ → RState → RAction → Outcome
@@ -155,9 +156,9 @@ greeting_back w p s = if greets (w.nodes p) (w.nodes s) then greeting s p (w.nod
 
 -- ## Packets that are delivered
 
--- a receiver with one more write, which waits
-abbrev pub with_write : Node → Write → Node
-with_write n x = record n { log = n.log ++ x ∷ [] }
+-- a receiver with one more write, which this site sent, and which waits
+abbrev pub with_write : Node → (source : ℕ) → Write → Node
+with_write n source x = record n { log = n.log ++ x ∷ []; fed_by = source }
 
 -- an acknowledgement from memory
 abbrev pub from_memory : World → Node → Packet → ℕ → World
@@ -165,7 +166,7 @@ from_memory w n p number = sending w (packets_of p.target p.source n.line (NetAc
 
 -- an update that is whole is taken and acknowledged; of one that is not the part is kept
 abbrev pub taken_if : (whole : Bool) → World → Packet → Write → (number : ℕ) → Outcome
-taken_if true w p x number = says (from_memory (with_node w p.target (with_write (w.nodes p.target) x)) (w.nodes p.target) p number) IsTaken
+taken_if true w p x number = says (from_memory (with_node w p.target (with_write (w.nodes p.target) p.source x)) (w.nodes p.target) p number) IsTaken
 taken_if false w p x number = says w IsTaken
 
 -- By what the rule of a receiver says of an update, which it says by the header of any of its packets.
@@ -320,6 +321,7 @@ joined a p n =
       replay = if same_line n.line a.line then n.replay else 0;
       end = 0;
       other = p;
+      fed_by = p;
       start = n.base;
       log = [];
       safe = 0;

@@ -69,6 +69,8 @@ pub record Node : Type 0 where
   pub replay : ℕ
   pub end : ℕ
   pub other : ℕ
+  -- who sent the last update that it took; its primary, where it took none since it came up or joined its line
+  pub fed_by : ℕ
   -- what its volumes held at number 0 of its line
   pub start : Content
   -- what a crash keeps with the first `safe` writes
@@ -183,6 +185,7 @@ bare_site name disks blocks = record {
   replay = 0;
   end = 0;
   other = 0xffff_ffff;
+  fed_by = 0xffff_ffff;
   start = no_volumes;
   base = no_volumes;
   log = [];

@@ -55,6 +55,7 @@ node_of n = record {
   replay = n.replay;
   end = n.end;
   other = n.other;
+  fed_by = n.fed_by;
   start = content_of n.start;
   base = content_of n.base;
   log = n.log.items;

@@ -170,7 +170,7 @@ taken_grows w p x (Take number) = by_whole (completes (w.gathering p.target) p)
   where
     by_whole : (b : Bool) → Leaves w (Events.taken_if b w p x number)
     by_whole true =
-        let n : Node = Events.with_write (w.nodes p.target) x in
+        let n : Node = Events.with_write (w.nodes p.target) p.source x in
         grown_sending w (with_node w p.target n) (grown_node w p.target n (λ made. made)) _
     by_whole false = grown_same w
 taken_grows w p x (AcksFromDisk number) = grown_same w

@@ -103,8 +103,8 @@ module _ (w v : World) (like : IsLike w v) where
       let a : Node = Events.applied (w.nodes q) number r.mark in
       let b : Node = Events.applied (v.nodes q) number r.mark in
       let e : b ≡ noted a b = ap (λ (n : Node). Events.applied n number r.mark) (like.nodes q) in record {
-        world = like_sending (with_node w q a) (with_node v q b) (like_node w v like q a b e) (packets_of q a.other a.line (DataAck a.safe))
-            (packets_of q b.other b.line (DataAck b.safe)) (ap (λ (n : Node). packets_of q n.other n.line (DataAck n.safe)) e);
+        world = like_sending (with_node w q a) (with_node v q b) (like_node w v like q a b e) (packets_of q a.fed_by a.line (DataAck a.safe))
+            (packets_of q b.fed_by b.line (DataAck b.safe)) (ap (λ (n : Node). packets_of q n.fed_by n.line (DataAck n.safe)) e);
         said = refl;
       }
 
@@ -207,10 +207,10 @@ module _ (w v : World) (like : IsLike w v) where
 
   pub taken_if_same : (b : Bool) (p : Packet) (x : Write) (number : ℕ) → Same (Events.taken_if b w p x number) (Events.taken_if b v p x number)
   taken_if_same true p x number =
-      let n : Node = Events.with_write (w.nodes p.target) x in
-      let k : Node = Events.with_write (v.nodes p.target) x in record {
+      let n : Node = Events.with_write (w.nodes p.target) p.source x in
+      let k : Node = Events.with_write (v.nodes p.target) p.source x in record {
         world = from_memory_same (with_node w p.target n) (with_node v p.target k)
-            (like_node w v like p.target n k (ap (λ (m : Node). Events.with_write m x) (like.nodes p.target))) (w.nodes p.target)
+            (like_node w v like p.target n k (ap (λ (m : Node). Events.with_write m p.source x) (like.nodes p.target))) (w.nodes p.target)
             (v.nodes p.target) p number (like.nodes p.target);
         said = refl;
       }

@@ -168,8 +168,8 @@ module _ (s : ℕ) (w : World) (up : (w.nodes s).state ≡ Up) (halted : is_runn
   taken_still p x (act.Take number) apart = by_whole (completes (w.gathering p.target) p)
     where
       by_whole : (b : Bool) → Leaves (Events.taken_if b w p x number)
-      by_whole true = sent_still (with_node w p.target (Events.with_write (w.nodes p.target) x)) _
-          (node_still p.target (Events.with_write (w.nodes p.target) x) apart)
+      by_whole true = sent_still (with_node w p.target (Events.with_write (w.nodes p.target) p.source x)) _
+          (node_still p.target (Events.with_write (w.nodes p.target) p.source x) apart)
       by_whole false = same
   taken_still p x (act.DataAck number) apart = same
 

@@ -168,14 +168,14 @@ module _ (v : World) (p s : ℕ) (a b : Node) (l : Link) (ps : List Packet) (at 
   -- an update that is whole is taken
   pub taken_at : (k n : ℕ) (x : Write) (part : ℕ) → IsYoung ps k → slice_get ps k ≡ Some (the_update n x part) → n ≡ length b.log + 1
       → ltb (length b.log - b.safe) 16 ≡ true → completes (v.gathering s) (the_update n x part) ≡ true
-      → At (step v (Deliver (suc k))).world p s a (Events.with_write b x) l (ps ++ the_ack n ∷ [])
+      → At (step v (Deliver (suc k))).world p s a (Events.with_write b p x) l (ps ++ the_ack n ∷ [])
   taken_at k n x part young e next room whole =
       let q : Packet = the_update n x part in
-      let c : Node = Events.with_write b x in
+      let c : Node = Events.with_write b p x in
       let qs : List Packet = ps ++ the_ack n ∷ [] in
       deliver_via k q (Events.taken_if true v q x n) a c l qs young e
       (update_is n x part (Take n) (can_take n next room) ∙ ap (λ (t : Bool). Events.taken_if t v q x n) whole)
-      (subst (λ (y : Node). At (Events.from_memory (with_node v s (Events.with_write y x)) y q n) p s a c l qs) (sym at.at_s)
+      (subst (λ (y : Node). At (Events.from_memory (with_node v s (Events.with_write y p x)) y q n) p s a c l qs) (sym at.at_s)
       (sending_at (with_node v s c) p s a c l ps (with_node_at v p s a b l ps at c fit.apart) (the_ack n ∷ [])))
 
   -- of one that is not whole the part is kept

@@ -149,9 +149,9 @@ module _ (s : ℕ) (w v : World) (twin : Twin s w v) where
       subst (λ (g : Option Gathering). Twin s (taken_if (completes (w.gathering p.target) p) w p x number).world
       (taken_if (completes g p) v p x number).world) (sym (twin.gathering p.target))
       (by_whole (completes (w.gathering p.target) p)
-      (from_both (with_node w p.target (with_write (w.nodes p.target) x)) (with_node v p.target (with_write (v.nodes p.target) x))
-      (twin_node s w v twin p.target (with_write (w.nodes p.target) x) (with_write (v.nodes p.target) x) apart
-      (ap (λ (n : Node). with_write n x) (twin.nodes p.target apart)))
+      (from_both (with_node w p.target (with_write (w.nodes p.target) p.source x)) (with_node v p.target (with_write (v.nodes p.target) p.source x))
+      (twin_node s w v twin p.target (with_write (w.nodes p.target) p.source x) (with_write (v.nodes p.target) p.source x) apart
+      (ap (λ (n : Node). with_write n p.source x) (twin.nodes p.target apart)))
       (w.nodes p.target) (v.nodes p.target) p number (twin.nodes p.target apart)))
     where
       by_whole : (b : Bool) → Twin s (taken_if true w p x number).world (taken_if true v p x number).world
