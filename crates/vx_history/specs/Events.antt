@@ -22,7 +22,7 @@ use Rattle.vx_model.specs.declared.link.SyncMode.{SyncMode}
 use Rattle.vx_model.specs.declared.link.Prot.TheVariants.{Fail as FailsWhenFull}
 use Rattle.vx_model.specs.declared.link.Mode.TheVariants.{Log, Stale}
 use Rattle.vx_history.specs.declared.sender.SEvent.{SEvent}
-use Rattle.vx_history.specs.declared.sender.SEvent.TheVariants.{Hello as HearHello, NetAck as HearNetAck, DataAck as HearDataAck, Restart as RestartLink}
+use Rattle.vx_history.specs.declared.sender.SEvent.TheVariants.{Hello as HearHello, NetAck as HearNetAck, DataAck as HearDataAck, Tick as TickLink, Restart as RestartLink}
 use Rattle.vx_history.specs.declared.sender.SFacts.{SFacts}
 use Rattle.vx_history.specs.declared.sender.Action.{Action}
 use Rattle.vx_history.specs.declared.sender.Action.TheVariants.{Nothing, Ignored, Taken, Updates}
@@ -146,6 +146,13 @@ moved_by w p s r = sending (with_link w p s (with_plain (w.links p s) r.link)) (
 abbrev pub link_event : World → ℕ → ℕ → SEvent → World
 link_event w p s e = moved_by w p s (link_step w p s e)
 
+-- a link on which what was sent counts as lost
+abbrev pub ticked_link : World → ℕ → ℕ → Link
+ticked_link w p s = record (with_plain (w.links p s) (link_step w p s TickLink).link) { since = no_regions }
+
+abbrev pub ticked_at : World → ℕ → ℕ → World
+ticked_at w p s = with_link w p s (ticked_link w p s)
+
 -- whether b greets a, to which a link was connected
 abbrev pub greets : Node → Node → Bool
 greets a b = is_up b.state && (is_running b.halted && (not (is_origin b.role) && same_line b.line a.line))
@@ -264,9 +271,9 @@ waited w p number =
 abbrev pub kept_of : Node → ℕ → ℕ
 kept_of n k = min (length n.log) (max k n.safe)
 
--- a crash loses what the network tells of links
+-- a crash loses what the network tells of links, and what was sent
 abbrev pub lost_touch : Link → Link
-lost_touch l = record l { connected = false; paused = false; net = l.stored }
+lost_touch l = record l { connected = false; paused = false; net = l.stored; since = no_regions }
 
 -- an origin's line holds what its origin kept
 abbrev pub crash_world : World → ℕ → ℕ → World
@@ -348,6 +355,7 @@ new_link place sync b =
       mode = Stale;
       map = no_regions;
       read_to = 0;
+      since = no_regions;
     }
 
 -- it goes by the log from its site's head on

@@ -108,6 +108,8 @@ pub record Link : Type 0 where
   pub map : Regions
   -- the head as the last region of a replay was read
   pub read_to : ℕ
+  -- the regions that were sent since the last tick
+  pub since : Regions
 
 pub data Message : Type 0 where
   Hello : (session number stored : ℕ) → Message
@@ -214,6 +216,7 @@ no_link = record {
   mode = Stale;
   map = no_regions;
   read_to = 0;
+  since = no_regions;
 }
 
 abbrev pub no_history : History

@@ -84,6 +84,7 @@ link_of l = record {
   mode = l.state.mode;
   map = no_regions;
   read_to = 0;
+  since = no_regions;
 }
 
 abbrev pub message_of : Message → PlainMessage

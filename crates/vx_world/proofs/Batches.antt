@@ -6,7 +6,7 @@ use Rattle.std.specs.List.{AllByRecursion}
 use Rattle.vx_model.specs.Content.{Write}
 use Rattle.vx_model.specs.declared.history.Line.{Line}
 use Rattle.vx_history.proofs.Updates.{eqb_self}
-use Rattle.vx_history.specs.World.{Node, Link, Packet, Message, Update}
+use Rattle.vx_history.specs.World.{Node, Link, Packet, Message, Update, Regions}
 use Rattle.vx_history.specs.Sends.{packet, packets_of, updates}
 use Rattle.vx_history.specs.declared.event.Event.{Event}
 use Rattle.vx_history.specs.declared.event.Event.TheVariants.{Deliver}
@@ -113,6 +113,24 @@ fit_log p s a b l log fed fit = record {
 pub fit_link : (p s : ℕ) (a b : Node) (l : Link) (session net stored sent trimmed : ℕ) → Fit p s a b l
     → Fit p s a b (record l { session = session; net = net; stored = stored; sent = sent; trimmed = trimmed })
 fit_link p s a b l session net stored sent trimmed fit = record {
+  apart = fit.apart;
+  up_a = fit.up_a;
+  up_b = fit.up_b;
+  runs_a = fit.runs_a;
+  runs_b = fit.runs_b;
+  sends = fit.sends;
+  receives = fit.receives;
+  line = fit.line;
+  takes = fit.takes;
+  linked = fit.linked;
+  attached = fit.attached;
+  connected = fit.connected;
+  running = fit.running;
+  mode = fit.mode;
+}
+
+pub fit_since : (p s : ℕ) (a b : Node) (l : Link) (since : Regions) → Fit p s a b l → Fit p s a b (record l { since = since })
+fit_since p s a b l since fit = record {
   apart = fit.apart;
   up_a = fit.up_a;
   up_b = fit.up_b;

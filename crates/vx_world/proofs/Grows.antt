@@ -18,7 +18,7 @@ use Rattle.vx_model.specs.declared.site.Mark.TheVariants.{Consistent}
 use Rattle.vx_model.specs.declared.site.SiteState.{SiteState}
 use Rattle.vx_model.specs.declared.site.SiteState.TheVariants.{Bare, Up, Deported, Down}
 use Rattle.vx_history.specs.declared.sender.SEvent.{SEvent}
-use Rattle.vx_history.specs.declared.sender.SEvent.TheVariants.{Connect as ConnectLink, Pump as PumpLink, Tick as TickLink, Cut as CutLink, Pause as PauseLink, Resume as ResumeLink, Hello as HearHello, NetAck as HearNetAck, DataAck as HearDataAck}
+use Rattle.vx_history.specs.declared.sender.SEvent.TheVariants.{Connect as ConnectLink, Pump as PumpLink, Cut as CutLink, Pause as PauseLink, Resume as ResumeLink, Hello as HearHello, NetAck as HearNetAck, DataAck as HearDataAck}
 use Rattle.vx_history.specs.declared.receiver.REvent.TheVariants.{Update as HearUpdate, Applied}
 use Rattle.vx_history.specs.declared.receiver.RState.{RState}
 use Rattle.vx_history.specs.declared.receiver.RAction.{RAction}
@@ -314,7 +314,9 @@ outcome_grows w (Apply q count reached) s =
 outcome_grows w (Pump p q) s =
     Guards.on_link_holds (Grown w) keeps_links w p q _ (grown_same w)
     (λ _ _ _. Guards.when_live_holds (Grown w) w q (w.links p q) (done (Events.link_event w p q PumpLink)) (grown_same w) (moved_grows w p q PumpLink))
-outcome_grows w (Tick p q) s = on_link_grows w p q TickLink
+outcome_grows w (Tick p q) s =
+    Guards.on_link_holds (Grown w) keeps_links w p q (done (Events.ticked_at w p q)) (grown_same w)
+    (λ _ _ _. grown_links w w (grown_same w) (Events.ticked_at w p q).links)
 outcome_grows w (Deliver number) s = delivered_grows w number (Events.packet_at w.packets number)
 outcome_grows w (Connect p q) s =
     let v : World = Events.link_event w p q ConnectLink in

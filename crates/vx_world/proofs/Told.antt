@@ -3,7 +3,7 @@ use Rattle.std.proofs.Common.{◌≡◌, ℕ, suc, ◌+◌, ◌-◌, ◌≤◌, 
 use Rattle.std.specs.Prelude.{if◌then◌else◌, leb, ltb, eqb, not, max, min, slice_get, Some, None, Option, ◌&&◌}
 use Rattle.std.proofs.lemmas.Bool.Decides.{nat_tests}
 use Rattle.vx_model.specs.Content.{Write}
-use Rattle.vx_history.specs.World.{World, Node, Link, Packet, Message, Update, NetAck, DataAck, with_node}
+use Rattle.vx_history.specs.World.{World, Node, Link, Packet, Message, Update, NetAck, DataAck, no_regions, with_node}
 use Rattle.vx_model.specs.Sites.{is_origin, same_line}
 use Rattle.vx_history.specs.Admission.{is_live}
 use Rattle.vx_history.specs.Sending.{Sent, sent_step, by_log, pumped_up_to, with_nothing, with_ignored, memory_acknowledged, disk_acknowledged, if_on_line}
@@ -12,7 +12,7 @@ use Rattle.vx_history.specs.LinkForms.{plain_link, with_plain, plain_receiver}
 use Rattle.vx_model.specs.declared.history.Line.{Line}
 use Rattle.vx_model.specs.declared.site.SiteState.TheVariants.{Up}
 use Rattle.vx_history.specs.declared.sender.SEvent.{SEvent}
-use Rattle.vx_history.specs.declared.sender.SEvent.TheVariants.{Pump as PumpLink, Tick as TickLink, NetAck as HearNetAck, DataAck as HearDataAck}
+use Rattle.vx_history.specs.declared.sender.SEvent.TheVariants.{Pump as PumpLink, NetAck as HearNetAck, DataAck as HearDataAck}
 use Rattle.vx_history.specs.declared.sender.Action.TheVariants.{Updates}
 use Rattle.vx_history.specs.declared.receiver.RState.{RState}
 use Rattle.vx_history.specs.declared.receiver.RAction.{RAction}
@@ -55,13 +55,15 @@ module _ (v : World) (p s : ℕ) (a b : Node) (l : Link) (ps : List Packet) (at 
   nothing_sent w m h = subst (λ (x : List Packet). At w p s a b m x) (append-nil ps) h
 
   -- what was sent counts as lost
-  pub tick_at : At (step v (Tick p s)).world p s a b (record l { sent = l.net; trimmed = 0 }) ps
+  pub tick_at : At (step v (Tick p s)).world p s a b (record l { sent = l.net; trimmed = 0; since = no_regions }) ps
   tick_at =
-      counted_at p s a b (record l { sent = l.net; trimmed = 0 }) ps v (Tick p s)
-      (nothing_sent (outcome_of v (Tick p s)).world (record l { sent = l.net; trimmed = 0 })
-      (subst (λ (o : Outcome). At o.world p s a b (record l { sent = l.net; trimmed = 0 }) (ps ++ []))
-      (sym (link_passes v p s a b l ps at (done (Events.link_event v p s TickLink)) fit))
-      (link_event_at v p s a b l ps at TickLink)))
+      let m : Link = record l { sent = l.net; trimmed = 0; since = no_regions } in
+      let is : Events.ticked_link v p s ≡ m =
+      ap (λ (x : Link). let y : Link = record x { sent = x.net; trimmed = 0; since = no_regions } in y) at.at_l in
+      counted_at p s a b m ps v (Tick p s)
+      (subst (λ (o : Outcome). At o.world p s a b m ps)
+      (sym (link_passes v p s a b l ps at (done (Events.ticked_at v p s)) fit))
+      (subst (λ (x : Link). At (with_link v p s x) p s a b m ps) (sym is) (with_link_at v p s a b l ps at m)))
 
   pub live : (is_live (plain_link s l) && by_log l.mode) ≡ true
   live =

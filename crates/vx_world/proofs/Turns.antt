@@ -10,7 +10,7 @@ use Rattle.std.specs.List.{AllByRecursion}
 use Rattle.vx_model.specs.Content.{Write, blocks_in}
 use Rattle.vx_model.specs.declared.history.Line.{Line}
 use Rattle.vx_model.specs.declared.limits.TheConstants.{MOST_AHEAD, MOST_CALL_BLOCKS, MOST_PACKETS}
-use Rattle.vx_history.specs.World.{World, Node, Link, Packet, Update, DataAck}
+use Rattle.vx_history.specs.World.{World, Node, Link, Packet, Update, DataAck, no_regions}
 use Rattle.vx_model.specs.declared.site.Mark.{Mark}
 use Rattle.vx_history.specs.declared.event.Event.{Event}
 use Rattle.vx_history.specs.declared.event.Event.TheVariants.{Apply, Pump, Tick, Deliver}
@@ -22,7 +22,7 @@ use Rattle.vx_world.specs.Settling.{is_between, deliver_between, deliver_new, de
 use Rattle.vx_world.proofs.Pair.{At, Fit}
 use Rattle.vx_world.proofs.Told.{append-nil, tick_at, pump_at, pump_none, disk_at}
 use Rattle.vx_world.proofs.ToldApart.{apply_none, apply_all}
-use Rattle.vx_world.proofs.Batches.{deliver_each, all_between, between_back, between_none, updates_between, in_new, fit_log, fit_link}
+use Rattle.vx_world.proofs.Batches.{deliver_each, all_between, between_back, between_none, updates_between, in_new, fit_log, fit_link, fit_since}
 use Rattle.vx_world.proofs.Arriving.{Arrived, Told, parts_length, acks_between, updates_any, acks_any}
 
 pub run_append : (w : World) (xs ys : List Event) → run w (xs ++ ys) ≡ run (run w xs) ys
@@ -111,7 +111,7 @@ module _ (p s : ℕ) (a b : Node) (l : Link) (ps : List Packet) (fits : b.safe �
   pub record Sent (w : World) : Type 0 where
     pub high : ℕ
     pub writes : List Write
-    pub at : At w p s a b (record l { sent = high; trimmed = 0 }) (ps ++ updates p s a.line (length b.log + 1) writes)
+    pub at : At w p s a b (record l { sent = high; trimmed = 0; since = no_regions }) (ps ++ updates p s a.line (length b.log + 1) writes)
     pub some : length b.log < a.safe → 0 < length writes
     pub few : length (updates p s a.line (length b.log + 1) writes) ≤ MOST_PACKETS
 
@@ -119,9 +119,9 @@ module _ (p s : ℕ) (a b : Node) (l : Link) (ps : List Packet) (fits : b.safe �
   sends w at =
       let high : ℕ = min a.safe (l.net + MOST_AHEAD) in
       let v : World = (step w (Tick p s)).world in
-      let m : Link = record l { sent = l.net; trimmed = 0 } in
+      let m : Link = record l { sent = l.net; trimmed = 0; since = no_regions } in
       let at_v : At v p s a b m ps = tick_at w p s a b l ps at fit in
-      let fit_v : Fit p s a b m = fit_link p s a b l l.session l.net l.stored l.net 0 fit in
+      let fit_v : Fit p s a b m = fit_since p s a b (record l { sent = l.net; trimmed = 0 }) no_regions (fit_link p s a b l l.session l.net l.stored l.net 0 fit) in
       by_value (ltb (length b.log) high)
       (λ less. record {
         high = high;
@@ -151,15 +151,15 @@ module _ (p s : ℕ) (a b : Node) (l : Link) (ps : List Packet) (fits : b.safe �
     pub fed : ℕ
     pub high : ℕ
     pub packets : List Packet
-    pub at : At w p s a (record b { log = log; fed_by = fed }) (record l { net = l.net + count; sent = high; trimmed = 0 }) packets
+    pub at : At w p s a (record b { log = log; fed_by = fed }) (record l { net = l.net + count; sent = high; trimmed = 0; since = no_regions }) packets
     pub grown : length log ≡ length b.log + count
     pub some : length b.log < a.safe → ltb (length b.log - b.safe) 16 ≡ true → 0 < count
 
   pub comes : (v w : World) → At v p s a b l ps → Sent w → Came (run w (delivery p s v w))
   comes v w at st =
       let batch : List Packet = updates p s a.line (length b.log + 1) st.writes in
-      let m : Link = record l { sent = st.high; trimmed = 0 } in
-      let fit_m : Fit p s a b m = fit_link p s a b l l.session l.net l.stored st.high 0 fit in
+      let m : Link = record l { sent = st.high; trimmed = 0; since = no_regions } in
+      let fit_m : Fit p s a b m = fit_since p s a b (record l { sent = st.high; trimmed = 0 }) no_regions (fit_link p s a b l l.session l.net l.stored st.high 0 fit) in
       let first : World = run w (deliver_each (length ps) batch) in
       let came : Arrived p s a b m (ps ++ batch) st.writes (length batch) first =
       updates_any p s a st.writes (length ps) (length b.log + 1) w b m (ps ++ batch) st.at fit_m (in_new ps batch) refl
@@ -179,7 +179,7 @@ module _ (p s : ℕ) (a b : Node) (l : Link) (ps : List Packet) (fits : b.safe �
         fed = came.fed;
         high = st.high;
         packets = all;
-        at = subst (λ (i : ℕ). At second p s a c (record l { net = i; sent = st.high; trimmed = 0 }) all) known told.at;
+        at = subst (λ (i : ℕ). At second p s a c (record l { net = i; sent = st.high; trimmed = 0; since = no_regions }) all) known told.at;
         grown = omega (arith, length-append b.log (take came.count st.writes), length-take came.count st.writes, came.few);
         some = λ below room. came.some (st.some below) room;
       } in
@@ -246,14 +246,15 @@ module _ (p s : ℕ) (a b : Node) (l : Link) (ps : List Packet) (fits : b.safe �
       is_some : (m : ℕ) → eqb m 0 ≡ false → 0 < m
       is_some m h = grind (arith, nat_tests)
 
-      fit_came : Fit p s a (record b { log = came.log; fed_by = came.fed }) (record l { net = l.net + came.count; sent = came.high; trimmed = 0 })
-      fit_came = fit_log p s a b (record l { net = l.net + came.count; sent = came.high; trimmed = 0 }) came.log came.fed
-          (fit_link p s a b l l.session (l.net + came.count) l.stored came.high 0 fit)
+      fit_came : Fit p s a (record b { log = came.log; fed_by = came.fed }) (record l { net = l.net + came.count; sent = came.high; trimmed = 0; since = no_regions })
+      fit_came = fit_log p s a b (record l { net = l.net + came.count; sent = came.high; trimmed = 0; since = no_regions }) came.log came.fed
+          (fit_since p s a b (record l { net = l.net + came.count; sent = came.high; trimmed = 0 }) no_regions
+          (fit_link p s a b l l.session (l.net + came.count) l.stored came.high 0 fit))
 
       at_rest : length came.log - b.safe ≡ 0 → (let x = run w (Apply s (length came.log - b.safe) 0 ∷ []) in Turned p s a b l (run x (delivery p s w x)))
       at_rest none =
           let n : Node = record b { log = came.log; fed_by = came.fed } in
-          let m : Link = record l { net = l.net + came.count; sent = came.high; trimmed = 0 } in
+          let m : Link = record l { net = l.net + came.count; sent = came.high; trimmed = 0; since = no_regions } in
           let x : World = run w (Apply s (length came.log - b.safe) 0 ∷ []) in
           let at_x : At x p s a n m came.packets = apply_none w p s a n m came.packets came.at fit_came (length came.log - b.safe) none in
           let quiet : deliver_new p s w x ≡ [] = nothing_new p s w x came.packets came.at.sent at_x.sent in
@@ -280,7 +281,7 @@ module _ (p s : ℕ) (a b : Node) (l : Link) (ps : List Packet) (fits : b.safe �
           → (let x = run w (Apply s (length came.log - b.safe) 0 ∷ []) in Turned p s a b l (run x (delivery p s w x)))
       told_back back some =
           let n : Node = record b { log = came.log; fed_by = came.fed } in
-          let m : Link = record l { net = l.net + came.count; sent = came.high; trimmed = 0 } in
+          let m : Link = record l { net = l.net + came.count; sent = came.high; trimmed = 0; since = no_regions } in
           let x : World = run w (Apply s (length came.log - b.safe) 0 ∷ []) in
           let done = apply_all w p s a n m came.packets came.at fit_came (length came.log - b.safe) refl some in
           let mark : Mark = done.0 in
@@ -324,7 +325,7 @@ module _ (p s : ℕ) (a b : Node) (l : Link) (ps : List Packet) (fits : b.safe �
           → (let x = run w (Apply s (length came.log - b.safe) 0 ∷ []) in Turned p s a b l (run x (delivery p s w x)))
       told_apart other some =
           let n : Node = record b { log = came.log; fed_by = came.fed } in
-          let m : Link = record l { net = l.net + came.count; sent = came.high; trimmed = 0 } in
+          let m : Link = record l { net = l.net + came.count; sent = came.high; trimmed = 0; since = no_regions } in
           let x : World = run w (Apply s (length came.log - b.safe) 0 ∷ []) in
           let done = apply_all w p s a n m came.packets came.at fit_came (length came.log - b.safe) refl some in
           let mark : Mark = done.0 in
