@@ -47,9 +47,8 @@ has_line [] line = false
 has_line (l ∷ ls) line = same_line line l || has_line ls line
 
 -- Fact 17. Of a line on which site i ever stood: neither the site nor the line's origin is bare, its generation is at most the greatest on
--- which the one and the other ever stood, and the lines of one origin came to the site in the order of their generations. So a line of a
--- higher generation than its origin ever stood on is one to which nobody came, and to one that it left no site comes back, but from a line
--- of another origin.
+-- which the one and the other ever stood, and it is no newer than the site's present line where both are of one origin. So to a line of a
+-- higher generation than its origin ever stood on nobody came.
 pub record HasCome (nodes : ℕ → Node) (i : ℕ) (line : Line) : Type 0 where
   pub here : IsMade (nodes i)
   pub there : IsMade (nodes line.origin)
