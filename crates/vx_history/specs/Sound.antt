@@ -39,10 +39,6 @@ TakesUpdates n = phase_takes n.phase ≡ true
 abbrev pub IsMarked : Node → Type 0
 IsMarked n = n.state ≡ Up → n.halted ≡ None → n.phase ≡ ByLog → n.end ≤ n.safe → n.mark ≡ Consistent
 
--- Fact 18. Where writes arise a site stands on the newest line on which it ever stood.
-abbrev pub IsNewest : Node → Type 0
-IsNewest n = is_origin n.role ≡ true → n.top ≡ n.line.generation
-
 -- ## Who came to a line
 
 -- the line is one of these
@@ -51,15 +47,18 @@ has_line [] line = false
 has_line (l ∷ ls) line = same_line line l || has_line ls line
 
 -- Fact 17. Of a line on which site i ever stood: neither the site nor the line's origin is bare, its generation is at most the greatest on
--- which the one and the other ever stood, and the lines of one origin came to the site in the order of their generations. So a line of a
--- higher generation than its origin ever stood on is one to which nobody came, and to one that it left no site comes back, but from a line
--- of another origin.
+-- which the one and the other ever stood, and it is no newer than the site's present line where both are of one origin. So to a line of a
+-- higher generation than its origin ever stood on nobody came.
 pub record HasCome (nodes : ℕ → Node) (i : ℕ) (line : Line) : Type 0 where
   pub here : IsMade (nodes i)
   pub there : IsMade (nodes line.origin)
   pub top : line.generation ≤ (nodes i).top
   pub named : line.generation ≤ (nodes line.origin).top
   pub rises : line.origin ≡ (nodes i).line.origin → line.generation ≤ (nodes i).line.generation
+
+-- Fact 18. Where writes arise a site stands on the newest line on which it ever stood.
+abbrev pub IsNewest : Node → Type 0
+IsNewest n = is_origin n.role ≡ true → n.top ≡ n.line.generation
 
 -- Fact 19. A site that is more than bare came to the line on which it stands.
 abbrev pub StoodHere : Node → Type 0
@@ -98,8 +97,8 @@ ModeSays held b (Fork maps) = Unit {0}
 ModeSays held b Stale = Unit {0}
 
 -- Fact 20. A link goes to a site that came to its line. None waits for a site that is still to come.
-abbrev pub GoesToCome : Node → Node → Link → Type 0
-GoesToCome a b l = is_linked l ≡ true → has_line b.stood a.line ≡ true
+abbrev pub HasArrived : Node → Node → Link → Type 0
+HasArrived a b l = is_linked l ≡ true → has_line b.stood a.line ≡ true
 
 -- What the link of site p, now a, to site s, now b, says of b, where the line of a holds these writes: its session is not above that of b,
 -- what is stored is on the disks there, what was acknowledged in the present session is in memory there, and what its mode says.
@@ -107,7 +106,7 @@ pub record GoodLink (held : List Write) (p s : ℕ) (a b : Node) (l : Link) : Ty
   pub ends : HasEnds a b l
   pub starts : StartsAtSender a l
   pub apart : GoesElsewhere p s l
-  pub came : GoesToCome a b l
+  pub came : HasArrived a b l
   pub session : is_linked l ≡ true → l.session ≤ b.session
   pub stored : IsFollowed a b l → HasStored b l.stored
   pub net : IsFollowed a b l → IsPresent b l.session → l.net ≤ length b.log

@@ -51,10 +51,10 @@ node_at nodes i v lt is = seen-at node_of (bare_site [] 0 0) nodes i v lt is
 
 -- a site that is crashed, and one of which more is durable
 pub crashed_is : (n : PlainNode) (k : ℕ) (base : Content) (log : List Write) → base ≡ fold_writes n.base (drop n.safe (take k n.log)) → log ≡ take k n.log
-    → (let m : PlainNode = record n { state = Down; base = base; log = log; safe = k; halted = None; fuse = burned NoFuse } in m) ≡ crashed n k
+    → (let m : PlainNode = record n { state = Down; fed_by = n.other; base = base; log = log; safe = k; halted = None; fuse = burned NoFuse } in m) ≡ crashed n k
 crashed_is n k base log b l =
-    ap (λ (c : Content). let m : PlainNode = record n { state = Down; base = c; log = log; safe = k; halted = None; fuse = NoFuse } in m) b
-    ∙ ap (λ (xs : List Write). let m : PlainNode = record n { state = Down; base = fold_writes n.base (drop n.safe (take k n.log)); log = xs; safe = k; halted = None; fuse = NoFuse } in m) l
+    ap (λ (c : Content). let m : PlainNode = record n { state = Down; fed_by = n.other; base = c; log = log; safe = k; halted = None; fuse = NoFuse } in m) b
+    ∙ ap (λ (xs : List Write). let m : PlainNode = record n { state = Down; fed_by = n.other; base = fold_writes n.base (drop n.safe (take k n.log)); log = xs; safe = k; halted = None; fuse = NoFuse } in m) l
 
 pub applied_is : (n : PlainNode) (k : ℕ) (mark : Mark) (base : Content) → base ≡ fold_writes n.base (drop n.safe (take k n.log))
     → (let m : PlainNode = record n { base = base; safe = k; mark = mark } in m) ≡ applied n k mark
@@ -62,12 +62,12 @@ applied_is n k mark base b = ap (λ (c : Content). let m : PlainNode = record n 
 
 pub joined_is : (a n : PlainNode) (p top replay : ℕ) (stood : List Line) (start : Content) (log : List Write) → top ≡ max n.top a.line.generation
     → stood ≡ n.stood ++ a.line ∷ [] → replay ≡ (if same_line n.line a.line then n.replay else 0) → start ≡ n.base → log ≡ []
-    → (let m : PlainNode = record n { role = Secondary; mark = Inconsistent; line = a.line; parent = a.parent; fork = a.fork; top = top; stood = stood; phase = Quiet; replay = replay; end = 0; other = p; start = start; log = log; safe = 0; low = 1; fork_map = None } in m) ≡ joined a p n
+    → (let m : PlainNode = record n { role = Secondary; mark = Inconsistent; line = a.line; parent = a.parent; fork = a.fork; top = top; stood = stood; phase = Quiet; replay = replay; end = 0; other = p; fed_by = p; start = start; log = log; safe = 0; low = 1; fork_map = None } in m) ≡ joined a p n
 joined_is a n p top replay stood start log t o r s l =
-    ap (λ (k : ℕ). let m : PlainNode = record n { role = Secondary; mark = Inconsistent; line = a.line; parent = a.parent; fork = a.fork; top = k; stood = stood; phase = Quiet; replay = replay; end = 0; other = p; start = start; log = log; safe = 0; low = 1; fork_map = None } in m) t
-    ∙ ap (λ (ls : List Line). let m : PlainNode = record n { role = Secondary; mark = Inconsistent; line = a.line; parent = a.parent; fork = a.fork; top = max n.top a.line.generation; stood = ls; phase = Quiet; replay = replay; end = 0; other = p; start = start; log = log; safe = 0; low = 1; fork_map = None } in m) o
-    ∙ ap (λ (k : ℕ). let m : PlainNode = record n { role = Secondary; mark = Inconsistent; line = a.line; parent = a.parent; fork = a.fork; top = max n.top a.line.generation; stood = n.stood ++ a.line ∷ []; phase = Quiet; replay = k; end = 0; other = p; start = start; log = log; safe = 0; low = 1; fork_map = None } in m) r
-    ∙ ap (λ (c : Content). let m : PlainNode = record n { role = Secondary; mark = Inconsistent; line = a.line; parent = a.parent; fork = a.fork; top = max n.top a.line.generation; stood = n.stood ++ a.line ∷ []; phase = Quiet; replay = (if same_line n.line a.line then n.replay else 0); end = 0; other = p; start = c; log = log; safe = 0; low = 1; fork_map = None } in m) s
+    ap (λ (k : ℕ). let m : PlainNode = record n { role = Secondary; mark = Inconsistent; line = a.line; parent = a.parent; fork = a.fork; top = k; stood = stood; phase = Quiet; replay = replay; end = 0; other = p; fed_by = p; start = start; log = log; safe = 0; low = 1; fork_map = None } in m) t
+    ∙ ap (λ (ls : List Line). let m : PlainNode = record n { role = Secondary; mark = Inconsistent; line = a.line; parent = a.parent; fork = a.fork; top = max n.top a.line.generation; stood = ls; phase = Quiet; replay = replay; end = 0; other = p; fed_by = p; start = start; log = log; safe = 0; low = 1; fork_map = None } in m) o
+    ∙ ap (λ (k : ℕ). let m : PlainNode = record n { role = Secondary; mark = Inconsistent; line = a.line; parent = a.parent; fork = a.fork; top = max n.top a.line.generation; stood = n.stood ++ a.line ∷ []; phase = Quiet; replay = k; end = 0; other = p; fed_by = p; start = start; log = log; safe = 0; low = 1; fork_map = None } in m) r
+    ∙ ap (λ (c : Content). let m : PlainNode = record n { role = Secondary; mark = Inconsistent; line = a.line; parent = a.parent; fork = a.fork; top = max n.top a.line.generation; stood = n.stood ++ a.line ∷ []; phase = Quiet; replay = (if same_line n.line a.line then n.replay else 0); end = 0; other = p; fed_by = p; start = c; log = log; safe = 0; low = 1; fork_map = None } in m) s
     ∙ ap (λ (xs : List Write). let m : PlainNode = record (joined a p n) { log = xs } in m) l
 
 pub logged_is : (n : PlainNode) (x : Write) (base : Content) (log : List Write) → base ≡ put n.base x → log ≡ n.log ++ x ∷ []

@@ -55,6 +55,7 @@ node_of n = record {
   replay = n.replay;
   end = n.end;
   other = n.other;
+  fed_by = n.fed_by;
   start = content_of n.start;
   base = content_of n.base;
   log = n.log.items;
@@ -83,6 +84,7 @@ link_of l = record {
   mode = l.state.mode;
   map = no_regions;
   read_to = 0;
+  since = no_regions;
 }
 
 abbrev pub message_of : Message → PlainMessage

@@ -128,6 +128,7 @@ impl World {
         node.base.put_all(newly_kept(&node.log, node.safe, kept))?;
         node.log.truncate(kept as usize);
         node.state = SiteState::Down;
+        node.fed_by = node.other;
         node.safe = kept;
         node.halted = None;
         Ok(())
@@ -162,6 +163,7 @@ impl World {
         node.replay = replay;
         node.end = 0;
         node.other = primary;
+        node.fed_by = primary;
         node.log.clear();
         node.safe = 0;
         Ok(())

@@ -31,6 +31,8 @@ pub struct Node {
     pub replay: u64,
     pub end: u64,
     pub other: u32,
+    /// Who sent the last update that it took; its primary, where it took none since it came up or joined its line.
+    pub fed_by: u32,
     /// What its volumes held at number 0 of its line.
     pub start: Content,
     /// What a crash keeps with the first `safe` writes.
@@ -68,6 +70,7 @@ impl Node {
             replay: 0,
             end: 0,
             other: 0xffff_ffff,
+            fed_by: 0xffff_ffff,
             start: Content::new(alloc, 0, 0),
             base: Content::new(alloc, 0, 0),
             log: Vec::new(alloc),

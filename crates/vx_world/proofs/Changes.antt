@@ -127,10 +127,10 @@ module _ (v : World) (q t : ℕ) (s : Sound v) (made : IsMade (v.nodes q)) where
 acknowledged_keeps : (w : World) (q : ℕ) (n : Node) → Sound w → Sound (with_node w q n) → IsMade n → is_origin n.role ≡ false
     → n.state ≡ Up → n.halted ≡ None → Sound (Events.acknowledged w q n)
 acknowledged_keeps w q n s v made r up runs =
-    sound_sending (with_node w q n) (packets_of q n.other n.line (DataAck n.safe)) v
-    (subst (λ (x : Node). AllByRecursion (GoodPacket (updated w.nodes q n) w.links w.lines) (packets_of q n.other x.line (DataAck x.safe)))
+    sound_sending (with_node w q n) (packets_of q n.fed_by n.line (DataAck n.safe)) v
+    (subst (λ (x : Node). AllByRecursion (GoodPacket (updated w.nodes q n) w.links w.lines) (packets_of q n.fed_by x.line (DataAck x.safe)))
     (at_place w.nodes q n)
-    (disk_good (with_node w q n) q n.other v (at_changed IsMade w.nodes q n made) (at_changed (λ (x : Node). is_origin x.role ≡ false) w.nodes q n r)
+    (disk_good (with_node w q n) q n.fed_by v (at_changed IsMade w.nodes q n made) (at_changed (λ (x : Node). is_origin x.role ≡ false) w.nodes q n r)
     (at_changed (λ (x : Node). x.state ≡ Up) w.nodes q n up) (at_changed (λ (x : Node). x.halted ≡ None) w.nodes q n runs)))
 
 pub apply_keeps : (w : World) (q count : ℕ) → Sound w → (w.nodes q).state ≡ Up → (w.nodes q).halted ≡ None → is_origin (w.nodes q).role ≡ false → Keeps (Events.apply_at w q count)

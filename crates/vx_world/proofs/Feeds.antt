@@ -180,7 +180,7 @@ update_keeps w p number x s up is known =
     whole r c =
         let n : Node = w.nodes p.target in
         let made : IsMade n = up_is_made n up in
-        let m : Node = Events.with_write n x in
+        let m : Node = Events.with_write n p.source x in
         let t : RState = plain_receiver n in
         let room : Bool = ltb t.waiting 16 && phase_takes t.phase in
         let e : p.line ≡ n.line = same_line_equal p.line n.line (and_left (same_line p.line n.line) (eqb number (length n.log + 1) && room) c) in
@@ -189,8 +189,8 @@ update_keeps w p number x s up is known =
         let here : IsNumber (w.lines n.line).held number x = subst (λ (l : Line). IsNumber (w.lines l).held number x) e is in
         let none : IsStranger w.nodes w.links n.line p.target → ⊥ = subst (λ (l : Line). IsStranger w.nodes w.links l p.target → ⊥) e known in
         let v : Sound (with_node w p.target m) = sound_with_node w p.target m s
-        (good_later w p.target m s.good made refl (λ is. is) (Nodes.good_taken (w.lines n.line) p.target n x number made r here next (s.good.nodes p.target)))
-        (Nodes.later_longer n x n.halted n.fuse)
+        (good_later w p.target m s.good made refl (λ is. is) (Nodes.good_taken (w.lines n.line) p.target n p.source x number made r here next (s.good.nodes p.target)))
+        (Nodes.later_taken n p.source x)
         (up_whole m up)
         (s.fed p.target)
         (s.takes p.target)

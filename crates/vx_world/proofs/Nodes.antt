@@ -52,9 +52,23 @@ later_longer n x halted fuse = record {
 }
 
 -- an update that a receiver takes
-pub good_taken : (h : History) (s : ℕ) (n : Node) (x : Write) (number : ℕ) → IsMade n → is_origin n.role ≡ false → IsNumber h.held number x
-    → number ≡ length n.log + 1 → GoodNode h s n → GoodNode h s (with_write n x)
-good_taken h s n x number made r is next good = record {
+pub later_taken : (n : Node) (source : ℕ) (x : Write) → IsLater n (with_write n source x)
+later_taken n source x = record {
+  line = refl;
+  origin = refl;
+  bunker = refl;
+  session = omega arith;
+  safe = omega arith;
+  stored = λ k h. h;
+  present = λ up _. (up, omega (arith, length-append n.log (x ∷ [])));
+  made = λ m. m;
+  top = omega arith;
+  stood = refl;
+}
+
+pub good_taken : (h : History) (s : ℕ) (n : Node) (source : ℕ) (x : Write) (number : ℕ) → IsMade n → is_origin n.role ≡ false → IsNumber h.held number x
+    → number ≡ length n.log + 1 → GoodNode h s n → GoodNode h s (with_write n source x)
+good_taken h s n source x number made r is next good = record {
   safe_fits = omega (arith, good.safe_fits, length-append n.log (x ∷ []));
   own_line = good.own_line;
   receiver_log = λ _ _. prefix_next n.log h.held number x (good.receiver_log made r) is next;

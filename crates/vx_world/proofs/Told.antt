@@ -3,7 +3,7 @@ use Rattle.std.proofs.Common.{◌≡◌, ℕ, suc, ◌+◌, ◌-◌, ◌≤◌, 
 use Rattle.std.specs.Prelude.{if◌then◌else◌, leb, ltb, eqb, not, max, min, slice_get, Some, None, Option, ◌&&◌}
 use Rattle.std.proofs.lemmas.Bool.Decides.{nat_tests}
 use Rattle.vx_model.specs.Content.{Write}
-use Rattle.vx_history.specs.World.{World, Node, Link, Packet, Message, Update, NetAck, DataAck, with_node}
+use Rattle.vx_history.specs.World.{World, Node, Link, Packet, Message, Update, NetAck, DataAck, no_regions, with_node}
 use Rattle.vx_model.specs.Sites.{is_origin, same_line}
 use Rattle.vx_history.specs.Admission.{is_live}
 use Rattle.vx_history.specs.Sending.{Sent, sent_step, by_log, pumped_up_to, with_nothing, with_ignored, memory_acknowledged, disk_acknowledged, if_on_line}
@@ -12,7 +12,7 @@ use Rattle.vx_history.specs.LinkForms.{plain_link, with_plain, plain_receiver}
 use Rattle.vx_model.specs.declared.history.Line.{Line}
 use Rattle.vx_model.specs.declared.site.SiteState.TheVariants.{Up}
 use Rattle.vx_history.specs.declared.sender.SEvent.{SEvent}
-use Rattle.vx_history.specs.declared.sender.SEvent.TheVariants.{Pump as PumpLink, Tick as TickLink, NetAck as HearNetAck, DataAck as HearDataAck}
+use Rattle.vx_history.specs.declared.sender.SEvent.TheVariants.{Pump as PumpLink, NetAck as HearNetAck, DataAck as HearDataAck}
 use Rattle.vx_history.specs.declared.sender.Action.TheVariants.{Updates}
 use Rattle.vx_history.specs.declared.receiver.RState.{RState}
 use Rattle.vx_history.specs.declared.receiver.RAction.{RAction}
@@ -55,13 +55,15 @@ module _ (v : World) (p s : ℕ) (a b : Node) (l : Link) (ps : List Packet) (at 
   nothing_sent w m h = subst (λ (x : List Packet). At w p s a b m x) (append-nil ps) h
 
   -- what was sent counts as lost
-  pub tick_at : At (step v (Tick p s)).world p s a b (record l { sent = l.net; trimmed = 0 }) ps
+  pub tick_at : At (step v (Tick p s)).world p s a b (record l { sent = l.net; trimmed = 0; since = no_regions }) ps
   tick_at =
-      counted_at p s a b (record l { sent = l.net; trimmed = 0 }) ps v (Tick p s)
-      (nothing_sent (outcome_of v (Tick p s)).world (record l { sent = l.net; trimmed = 0 })
-      (subst (λ (o : Outcome). At o.world p s a b (record l { sent = l.net; trimmed = 0 }) (ps ++ []))
-      (sym (link_passes v p s a b l ps at (done (Events.link_event v p s TickLink)) fit))
-      (link_event_at v p s a b l ps at TickLink)))
+      let m : Link = record l { sent = l.net; trimmed = 0; since = no_regions } in
+      let is : Events.ticked_link v p s ≡ m =
+      ap (λ (x : Link). let y : Link = record x { sent = x.net; trimmed = 0; since = no_regions } in y) at.at_l in
+      counted_at p s a b m ps v (Tick p s)
+      (subst (λ (o : Outcome). At o.world p s a b m ps)
+      (sym (link_passes v p s a b l ps at (done (Events.ticked_at v p s)) fit))
+      (subst (λ (x : Link). At (with_link v p s x) p s a b m ps) (sym is) (with_link_at v p s a b l ps at m)))
 
   pub live : (is_live (plain_link s l) && by_log l.mode) ≡ true
   live =
@@ -168,14 +170,14 @@ module _ (v : World) (p s : ℕ) (a b : Node) (l : Link) (ps : List Packet) (at 
   -- an update that is whole is taken
   pub taken_at : (k n : ℕ) (x : Write) (part : ℕ) → IsYoung ps k → slice_get ps k ≡ Some (the_update n x part) → n ≡ length b.log + 1
       → ltb (length b.log - b.safe) 16 ≡ true → completes (v.gathering s) (the_update n x part) ≡ true
-      → At (step v (Deliver (suc k))).world p s a (Events.with_write b x) l (ps ++ the_ack n ∷ [])
+      → At (step v (Deliver (suc k))).world p s a (Events.with_write b p x) l (ps ++ the_ack n ∷ [])
   taken_at k n x part young e next room whole =
       let q : Packet = the_update n x part in
-      let c : Node = Events.with_write b x in
+      let c : Node = Events.with_write b p x in
       let qs : List Packet = ps ++ the_ack n ∷ [] in
       deliver_via k q (Events.taken_if true v q x n) a c l qs young e
       (update_is n x part (Take n) (can_take n next room) ∙ ap (λ (t : Bool). Events.taken_if t v q x n) whole)
-      (subst (λ (y : Node). At (Events.from_memory (with_node v s (Events.with_write y x)) y q n) p s a c l qs) (sym at.at_s)
+      (subst (λ (y : Node). At (Events.from_memory (with_node v s (Events.with_write y p x)) y q n) p s a c l qs) (sym at.at_s)
       (sending_at (with_node v s c) p s a c l ps (with_node_at v p s a b l ps at c fit.apart) (the_ack n ∷ [])))
 
   -- of one that is not whole the part is kept
