@@ -260,11 +260,11 @@ turn_raises w p s good_w met below =
         let link : (v.links p s).stored ≡ t.link.stored = ap (λ (x : Link). x.stored) t.at.at_l in
         elim t.stored [
           | inl told ↦ (
-              met_by v p s (w.nodes p) t.site t.link t.packets t.at t.fit met.may.sender (t.role ∙ met.may.secondary) (t.bunker ∙ met.may.bunker) t.session
-                  t.net told,
-              omega (arith, fuller v t, told, link),
-              here,
-            )
+            met_by v p s (w.nodes p) t.site t.link t.packets t.at t.fit met.may.sender (t.role ∙ met.may.secondary) (t.bunker ∙ met.may.bunker) t.session
+                t.net told,
+            omega (arith, fuller v t, told, link),
+            here,
+          )
           | inr same ↦ absurd (is_told (w.links p s).stored (v.links p s).stored (v.nodes p).safe calm (omega (arith, below, here)) (link ∙ same))
         ]
 

@@ -34,5 +34,6 @@ fn forget_sent(world: &mut World, from: u32, to: u32) -> Result<(), OutOfMemory>
     let link = world.link(from, to);
     let mut state = link.plain(to);
     vx_sender::step(&mut state, &SEvent::Tick, &facts);
-    world.set_link(from, to, link.with_plain(&state))
+    world.set_link(from, to, link.with_plain(&state))?;
+    Ok(())
 }
