@@ -14,6 +14,8 @@ mod holding;
 mod joining;
 mod laws;
 mod link_laws;
+#[cfg(test)]
+mod link_tests;
 mod links;
 mod order;
 mod packets;
