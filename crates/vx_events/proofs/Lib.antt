@@ -1,10 +1,16 @@
 pub mod Agreeing
 pub mod Blocks
 pub mod Keeping
+pub mod LinkAgreeing
+pub mod LinkJoining
+pub mod LinkStopping
+pub mod LinkTesting
+pub mod LinkWrites
 pub mod Passing
 pub mod Places
 pub mod Refused
 pub mod RefusedCalls
+pub mod Rows
 pub mod Steps
 pub mod Stopping
 pub mod StoppingCuts

@@ -22,33 +22,51 @@ use Rattle.vx_model.specs.Sites.{is_up, is_bare}
 use Rattle.vx_order.specs.Shapes.{line_role, line_unknown, taken, over_limit, wrong_size, site_limit, most_blocks, raw_role, raw_size, disk_unknown}
 use Rattle.vx_model.specs.Sizes.{is_raw_shape, map_blocks}
 use Rattle.vx_order.specs.Calls.{span_role, span_unknown, span_size, span_range}
+use Rattle.vx_order.specs.Asks.{ask_of}
+use Rattle.vx_order.specs.Links.{place_named}
+use Rattle.vx_order.specs.Joining.{ask_taken, ask_limit, ask_size}
+use Rattle.vx_order.specs.Sending.{ask_role, ask_unknown, ask_down, ask_paused, ask_replaying, ask_unconfirmed}
+use Rattle.vx_order.specs.Holding.{span_down, span_full}
 
 -- none of the tests of a line holds
-pub record Passes (sites : List SiteFacts) (files : Bool) (line : ScriptLine) (first second : Option SiteFacts) : Type 0 where
+pub record Passes (sites : List SiteFacts) (files : Bool) (line : ScriptLine) (first second : Option SiteFacts) (here there : Option ℕ) : Type 0 where
   pub known : unknown_one (first_name line) first ≡ None
+  pub other_known : unknown_one (second_name line) second ≡ None
   pub up : down_by (need_of line) first second ≡ None
   pub running : halted_by (halt_of line) first second ≡ None
   pub role : line_role line first ≡ None
   pub call_role : span_role first (span_of line) ≡ None
+  pub link_role : ask_role (ask_of line) here there first second ≡ None
   pub other : line_unknown line first ≡ None
   pub volume : span_unknown first (span_of line) ≡ None
+  pub link : ask_unknown (ask_of line) there first second ≡ None
   pub free : taken sites line ≡ None
+  pub link_free : ask_taken (ask_of line) there first second ≡ None
   pub limit : over_limit (length sites) files line ≡ None
+  pub link_limit : ask_limit (ask_of line) first ≡ None
   pub size : wrong_size line first ≡ None
+  pub link_size : ask_size (ask_of line) first second ≡ None
   pub call_size : span_size first (span_of line) ≡ None
   pub range : span_range first (span_of line) ≡ None
+  pub link_up : ask_down (ask_of line) there first second ≡ None
+  pub call_up : span_down sites first (span_of line) ≡ None
+  pub link_goes : ask_paused (ask_of line) there first ≡ None
+  pub link_mode : ask_replaying (ask_of line) there first second ≡ None
+  pub call_room : span_full sites first (span_of line) ≡ None
+  pub confirmed : ask_unconfirmed (ask_of line) first ≡ None
 
-here : (test : Option No) (tests : List (Option No)) → first_of (test ∷ tests) ≡ None → test ≡ None
+here_none : (test : Option No) (tests : List (Option No)) → first_of (test ∷ tests) ≡ None → test ≡ None
 unfolding first_of
-here None tests e = refl
-here (Some x) tests e = absurd (cc)
+here_none None tests e = refl
+here_none (Some x) tests e = absurd (cc)
 
 rest : (test : Option No) (tests : List (Option No)) → first_of (test ∷ tests) ≡ None → first_of tests ≡ None
 unfolding first_of
 rest None tests e = e
 rest (Some x) tests e = absurd (cc)
 
-pub passes : (sites : List SiteFacts) (files : Bool) (line : ScriptLine) → refusal_of sites files line ≡ None → Passes sites files line (facts_of sites (first_name line)) (facts_of sites (second_name line))
+pub passes : (sites : List SiteFacts) (files : Bool) (line : ScriptLine) → refusal_of sites files line ≡ None
+    → Passes sites files line (facts_of sites (first_name line)) (facts_of sites (second_name line)) (place_named sites (first_name line)) (place_named sites (second_name line))
 unfolding refusal_of
 passes sites files line e =
     let e1 = rest _ _ e in
@@ -63,19 +81,42 @@ passes sites files line e =
     let e10 = rest _ _ e9 in
     let e11 = rest _ _ e10 in
     let e12 = rest _ _ e11 in
+    let e13 = rest _ _ e12 in
+    let e14 = rest _ _ e13 in
+    let e15 = rest _ _ e14 in
+    let e16 = rest _ _ e15 in
+    let e17 = rest _ _ e16 in
+    let e18 = rest _ _ e17 in
+    let e19 = rest _ _ e18 in
+    let e20 = rest _ _ e19 in
+    let e21 = rest _ _ e20 in
+    let e22 = rest _ _ e21 in
+    let e23 = rest _ _ e22 in
     record {
-      known = here _ _ e;
-      up = here _ _ e2;
-      running = here _ _ e3;
-      role = here _ _ e4;
-      call_role = here _ _ e5;
-      other = here _ _ e6;
-      volume = here _ _ e7;
-      free = here _ _ e8;
-      limit = here _ _ e9;
-      size = here _ _ e10;
-      call_size = here _ _ e11;
-      range = here _ _ e12;
+      known = here_none _ _ e;
+      other_known = here_none _ _ e1;
+      up = here_none _ _ e2;
+      running = here_none _ _ e3;
+      role = here_none _ _ e4;
+      call_role = here_none _ _ e5;
+      link_role = here_none _ _ e6;
+      other = here_none _ _ e7;
+      volume = here_none _ _ e8;
+      link = here_none _ _ e9;
+      free = here_none _ _ e10;
+      link_free = here_none _ _ e11;
+      limit = here_none _ _ e12;
+      link_limit = here_none _ _ e13;
+      size = here_none _ _ e14;
+      link_size = here_none _ _ e15;
+      call_size = here_none _ _ e16;
+      range = here_none _ _ e17;
+      link_up = here_none _ _ e18;
+      call_up = here_none _ _ e19;
+      link_goes = here_none _ _ e20;
+      link_mode = here_none _ _ e21;
+      call_room = here_none _ _ e22;
+      confirmed = here_none _ _ e23;
     }
 
 pub when_none : (b : Bool) (why : No) → when b why ≡ None → b ≡ false

@@ -48,14 +48,14 @@ found_up Deported found name e = absurd (cc)
 found_up Down found name e = absurd (cc)
 
 -- what the tests of a run of blocks say of its volume
-record Calling (site : SiteFacts) (span : Span) : Type 0 where
-  up : site.state ≡ Up
-  rvg_is : rvg_of (Some site) ≡ site.rvg
-  volume : VolumeFacts
-  volume_is : volume_of (Some site) span.volume ≡ Some volume
-  found : find (λ (v : VolumeFacts). bytes_eq v.name span.volume) site.volumes ≡ Some volume
+pub record Calling (site : SiteFacts) (span : Span) : Type 0 where
+  pub up : site.state ≡ Up
+  pub rvg_is : rvg_of (Some site) ≡ site.rvg
+  pub volume : VolumeFacts
+  pub volume_is : volume_of (Some site) span.volume ≡ Some volume
+  pub found : find (λ (v : VolumeFacts). bytes_eq v.name span.volume) site.volumes ≡ Some volume
 
-calling : (site : SiteFacts) (span : Span) → span_unknown (Some site) (Some span) ≡ None → Calling site span
+pub calling : (site : SiteFacts) (span : Span) → span_unknown (Some site) (Some span) ≡ None → Calling site span
 calling site span e =
     let found : Option VolumeFacts = find (λ (v : VolumeFacts). bytes_eq v.name span.volume) site.volumes in
     let is = found_up site.state found span.volume e in
@@ -68,12 +68,12 @@ calling site span e =
     }
 
 -- what the test of a run's size says
-record Sized (rvg : Option RvgFacts) (volume : Option VolumeFacts) (span : Span) : Type 0 where
-  some : 1 ≤ span.count
-  few : span.count ≤ 16
-  fits : (is_write span.way && outgrows rvg volume span.count) ≡ false
+pub record Sized (rvg : Option RvgFacts) (volume : Option VolumeFacts) (span : Span) : Type 0 where
+  pub some : 1 ≤ span.count
+  pub few : span.count ≤ 16
+  pub fits : (is_write span.way && outgrows rvg volume span.count) ≡ false
 
-sized : (rvg : Option RvgFacts) (volume : Option VolumeFacts) (span : Span) → call_size rvg volume span ≡ None → Sized rvg volume span
+pub sized : (rvg : Option RvgFacts) (volume : Option VolumeFacts) (span : Span) → call_size rvg volume span ≡ None → Sized rvg volume span
 sized rvg volume span e =
     let all = when_none (span.count == 0 || nat_lt 16 span.count || (is_write span.way && outgrows rvg volume span.count)) _ e in
     let parts = neither (span.count == 0 || nat_lt 16 span.count) (is_write span.way && outgrows rvg volume span.count) all in

@@ -46,6 +46,7 @@ site_fact n = record {
   blocks = n.blocks;
   volumes = map volume_fact n.volumes;
   rvg = group_by n.state n;
+  links = [];
 }
 
 -- so many values of f, from that of k on

@@ -4,9 +4,14 @@ pub mod Fails
 pub mod Found
 pub mod Fuses
 pub mod Lines
+pub mod LinkEnds
+pub mod LinkLists
+pub mod LinkedFacts
+pub mod Listed
 pub mod Lists
 pub mod Plain
 pub mod Sayings
+pub mod Sent
 pub mod Stamps
 pub mod Stopping
 pub mod Views

@@ -6,24 +6,23 @@ use Rattle.vx_history.specs.World.{World}
 use Rattle.vx_history.specs.declared.event.Event.{Event}
 use Rattle.vx_history.specs.declared.event.Event.TheVariants.{Read as ReadAt}
 use Rattle.vx_history.specs.declared.event.Said.{Said as EventSaid}
-use Rattle.vx_history.specs.declared.event.Said.TheVariants.{Done as IsDone, DoneAt as IsDoneAt, Logged, Pending, Got as HasGot, Taken, Ignored, Recovered as IsRecovered, Refused as IsRefused}
+use Rattle.vx_history.specs.declared.event.Said.TheVariants.{Done as IsDone, DoneAt as IsDoneAt, Logged as IsLogged, Pending as IsPending, Got as HasGot, Taken as IsTaken, Ignored as IsIgnored, Recovered as IsRecovered, Refused as IsRefused}
 use Rattle.vx_script.specs.declared.line.ScriptLine.{ScriptLine}
 use Rattle.vx_script.specs.declared.line.ScriptLine.TheVariants.{Status}
 use Rattle.vx_events.specs.Facts.{site_number}
 use Rattle.vx_events.specs.Views.{view_of}
 use Rattle.vx_events.specs.declared.said.Said.{Said}
-use Rattle.vx_events.specs.declared.said.Said.TheVariants.{Done, DoneAt, Got, Shown, Recovered, Refused}
+use Rattle.vx_events.specs.declared.said.Said.TheVariants.{Done, DoneAt, Logged, Pending, Got, Shown, Taken, Ignored, Recovered, Refused}
 
--- The reply that repeats what is said of an event at this site. A recovery is answered with the status of the site too. Of no kind of
--- line that is built anything else is said.
+-- The reply that repeats what is said of an event at this site. A recovery is answered with the status of the site too.
 abbrev pub Repeats : World → (site : ℕ) → EventSaid → Said → Type 0
 Repeats w s IsDone said = said ≡ Done
 Repeats w s (IsDoneAt number) said = said ≡ DoneAt number
-Repeats w s (Logged number) said = ⊥
-Repeats w s (Pending number) said = ⊥
+Repeats w s (IsLogged number) said = said ≡ Logged number
+Repeats w s (IsPending number) said = said ≡ Pending number
 Repeats w s (HasGot bytes) said = said ≡ Got bytes
-Repeats w s Taken said = ⊥
-Repeats w s Ignored said = ⊥
+Repeats w s IsTaken said = said ≡ Taken
+Repeats w s IsIgnored said = said ≡ Ignored
 Repeats w s (IsRecovered number) said = said ≡ Recovered number (view_of w (w.nodes s))
 Repeats w s (IsRefused why) said = said ≡ Refused why
 

@@ -4,6 +4,7 @@
 #![tactic(auto)]
 
 pub mod laws;
+pub mod link_laws;
 mod said;
 
 pub use said::Said;

@@ -13,5 +13,15 @@ pub enum Said {
     Shown(SiteView),
     /// The last number of the log that a site came up with, and how the site stands.
     Recovered(u64, SiteView),
+    /// The number of a write that some link has to confirm.
+    Logged(u64),
+    /// The number of a write that some link has still to confirm.
+    Pending(u64),
+    /// A packet was taken.
+    Taken,
+    /// A packet was ignored.
+    Ignored,
+    /// A link has brought its site up to this number.
+    Settled(u64),
     Refused(No),
 }

@@ -67,6 +67,7 @@ up_fact n k ring same low ring_is head = shown ∙ sym (ap (λ (t : SiteState). 
         ring = sym ring_is i;
         halted = sym same.running i;
       } in r);
+      links = [];
     } in f
 
 -- a session more is not seen

@@ -13,7 +13,7 @@ use Rattle.vx_order.specs.declared.facts.VolumeFacts.{VolumeFacts}
 use Rattle.vx_order.specs.declared.facts.VolumeKind.TheVariants.{Data}
 
 abbrev pub bare_facts : List ℕ → ℕ → ℕ → SiteFacts
-bare_facts name disks blocks = record { name = name; state = Bare; disks = disks; blocks = blocks; volumes = []; rvg = None }
+bare_facts name disks blocks = record { name = name; state = Bare; disks = disks; blocks = blocks; volumes = []; rvg = None; links = [] }
 
 -- volume k + 1 of a raw set: `d` and a digit
 abbrev pub raw_volume_fact : ℕ → ℕ → VolumeFacts

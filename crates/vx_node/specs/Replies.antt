@@ -3,7 +3,7 @@ use Rattle.std.specs.Prelude.{ℕ, zero, suc, ◌+◌, List, [], ◌∷◌, ◌+
 use Rattle.std.specs.Fmt.{decimal}
 use Rattle.vx_model.specs.Content.{block_of, blocks_in}
 use Rattle.vx_events.specs.declared.said.Said.{Said}
-use Rattle.vx_events.specs.declared.said.Said.TheVariants.{Done, DoneAt, Got, Shown, Recovered, Refused}
+use Rattle.vx_events.specs.declared.said.Said.TheVariants.{Done, DoneAt, Got, Shown, Recovered, Logged, Pending, Taken, Ignored, Settled, Refused}
 use Rattle.vx_model.specs.declared.errors.Stop.{Stop}
 use Rattle.vx_model.specs.declared.errors.Stop.TheVariants.{No, OutOfMemory as MemoryStop}
 use Rattle.vx_model.specs.declared.errors.OutOfMemory.{OutOfMemory}
@@ -28,6 +28,11 @@ text_of (DoneAt number) = codes "done " ++ decimal number ++ 10 ∷ []
 text_of (Got bytes) = blocks_text bytes 0 (blocks_in bytes)
 text_of (Shown view) = status_text view
 text_of (Recovered last view) = recovered_text last view
+text_of (Logged number) = codes "logged " ++ decimal number ++ 10 ∷ []
+text_of (Pending number) = codes "pending " ++ decimal number ++ 10 ∷ []
+text_of Taken = codes "taken" ++ 10 ∷ []
+text_of Ignored = codes "ignored" ++ 10 ∷ []
+text_of (Settled number) = codes "settled " ++ decimal number ++ 10 ∷ []
 text_of (Refused why) = refusal_text why
 
 -- what a refusal of the disks is to the line

@@ -7,7 +7,7 @@ ghost use Rattle.vx_events.specs.Facts.{volume_fact, place_of};
 use std::alloc::Global;
 use vx_model::limits::{LEAST_BLOCKS, MOST_DISKS};
 use vx_model::{Line, Mark, Name, OutOfMemory, Role, SiteState, State, ring_blocks};
-use vx_order::{RvgFacts, SiteFacts, VolumeFacts, VolumeKind, VolumeTable};
+use vx_order::{LinkTable, RvgFacts, SiteFacts, VolumeFacts, VolumeKind, VolumeTable};
 
 /// A site of which nothing is made yet.
 pub fn bare(alloc: Global, name: &Name, disks: u32, blocks: u64) -> SiteFacts
@@ -20,6 +20,7 @@ pub fn bare(alloc: Global, name: &Name, disks: u32, blocks: u64) -> SiteFacts
         blocks,
         volumes: VolumeTable::new(alloc),
         rvg: None,
+        links: LinkTable::new(alloc),
     }
 }
 

@@ -14,18 +14,24 @@ pub fn push_said(out: &mut Vec<u8>, said: &Said) -> Result<(), OutOfMemory>
 {
     match said {
         Said::Done => push_text(out, b"done\n"),
-        Said::DoneAt(number) => push_done_at(out, *number),
+        Said::DoneAt(number) => push_numbered(out, b"done ", *number),
         Said::Got(blocks) => push_blocks(out, blocks.as_slice()),
         Said::Shown(view) => push_status(out, view),
         Said::Recovered(last, view) => push_recovered(out, *last, view),
+        Said::Logged(number) => push_numbered(out, b"logged ", *number),
+        Said::Pending(number) => push_numbered(out, b"pending ", *number),
+        Said::Taken => push_text(out, b"taken\n"),
+        Said::Ignored => push_text(out, b"ignored\n"),
+        Said::Settled(number) => push_numbered(out, b"settled ", *number),
         Said::Refused(no) => push_refusal(out, no),
     }
 }
 
-fn push_done_at(out: &mut Vec<u8>, number: u64) -> Result<(), OutOfMemory>
-    ensures { OnOk result (out.new.items ≡ out.old.items ++ (codes "done " ++ decimal number ++ 10 ∷ [])) }
+// A word and a number.
+fn push_numbered(out: &mut Vec<u8>, word: &[u8], number: u64) -> Result<(), OutOfMemory>
+    ensures { OnOk result (out.new.items ≡ out.old.items ++ (word.now ++ decimal number ++ 10 ∷ [])) }
 {
-    push_text(out, b"done ")?;
+    push_text(out, word)?;
     push_number(out, number)?;
     push_text(out, b"\n")
 }

@@ -1,1 +1,3 @@
 pub mod KindLemmas
+pub mod LinkLemmas
+pub mod SizeLemmas

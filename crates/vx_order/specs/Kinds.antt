@@ -13,6 +13,8 @@ use Rattle.vx_order.specs.Sites.{site_named, site_gone, volume_of, rvg_of, halte
 use Rattle.vx_model.specs.Sites.{is_bare, is_up}
 use Rattle.vx_order.specs.Shapes.{most_blocks}
 use Rattle.vx_model.specs.Sizes.{is_raw_shape}
+use Rattle.vx_order.specs.Holding.{span_down, span_full}
+use Rattle.vx_order.specs.Tests.{before}
 use Rattle.vx_order.specs.Calls.{takes_calls, asks_role, is_write, outgrows}
 
 -- a `site` line of this name, number of disks and blocks of each
@@ -67,14 +69,13 @@ call_on rvg (Some volume) span =
     else if nat_lt volume.blocks (span.start + span.count) then Some Range
     else None
 
--- the first refusal, or else the other
-abbrev pub before : Option No → Option No → Option No
-before None other = other
-before (Some refused) other = Some refused
+-- what a write is refused for the links of its site; reads are refused nothing
+abbrev pub links_on : List SiteFacts → Option SiteFacts → Span → Option No
+links_on sites site span = before (span_down sites site (Some span)) (span_full sites site (Some span))
 
 -- a `write`, `put`, `read` or `show` line of the site of this name
-abbrev pub call_refusal : Option SiteFacts → List ℕ → Span → Option No
-call_refusal None name span = Some (Unknown (Of name))
-call_refusal (Some site) name span =
+abbrev pub call_refusal : List SiteFacts → Option SiteFacts → List ℕ → Span → Option No
+call_refusal sites None name span = Some (Unknown (Of name))
+call_refusal sites (Some site) name span =
     if site_gone (Some site) then Some Down
-    else before (halted_one (Some site)) (call_on (rvg_of (Some site)) (volume_of (Some site) span.volume) span)
+    else before (halted_one (Some site)) (before (call_on (rvg_of (Some site)) (volume_of (Some site) span.volume) span) (links_on sites (Some site) span))

@@ -1,6 +1,13 @@
+pub mod Asks
 pub mod Calls
+pub mod Holding
+pub mod Joining
 pub mod Kinds
+pub mod LinkKinds
+pub mod Links
 pub mod Order
+pub mod Packets
+pub mod Sending
 pub mod Shapes
 pub mod Sites
 pub mod Spans

@@ -7,8 +7,12 @@ abbrev pub when : Bool → No → Option No
 when true refused = Some refused
 when false refused = None
 
+-- the first refusal, or else the other
+abbrev pub before : Option No → Option No → Option No
+before None other = other
+before (Some refused) other = Some refused
+
 -- the first test that holds
 unfoldable pub first_of : List (Option No) → Option No
 first_of [] = None
-first_of (None ∷ tests) = first_of tests
-first_of (Some refused ∷ tests) = Some refused
+first_of (test ∷ tests) = before test (first_of tests)

@@ -3,7 +3,7 @@ ghost use Rattle.std.specs.Prelude.{◌≡◌, ◌++◌, ◌∷◌, [], OnOk};
 
 use std::alloc::Global;
 use std::marker::Model;
-use vx_model::{Line, Mark, Name, OutOfMemory, Role, SiteState};
+use vx_model::{Line, Link, Mark, Name, OutOfMemory, Role, SiteState};
 
 /// What a volume is to the replicated volume group of its site.
 #[derive(Clone, Copy, Debug, PartialEq, Eq)]
@@ -43,7 +43,15 @@ pub struct RvgFacts {
     pub halted: Option<u32>,
 }
 
-/// A site. Only an up site has volumes and a replicated volume group.
+/// A link of a site, at the end that sends.
+#[derive(Clone, Copy)]
+pub struct LinkFacts {
+    pub link: Link,
+    /// The blocks of the log's ring that the numbers above the link's hold take.
+    pub used: u64,
+}
+
+/// A site. Only an up site has volumes, a replicated volume group and links.
 #[derive(Drop)]
 pub struct SiteFacts {
     pub name: Name,
@@ -54,6 +62,7 @@ pub struct SiteFacts {
     pub blocks: u64,
     pub volumes: VolumeTable,
     pub rvg: Option<RvgFacts>,
+    pub links: LinkTable,
 }
 
 /// The volumes of a site. Contracts see their list.
@@ -94,5 +103,46 @@ impl VolumeTable {
         ensures { result.now ≡ self.now }
     {
         &self.volumes
+    }
+}
+
+/// The links of a site in the order of their making. Contracts see their list.
+#[derive(Drop)]
+pub struct LinkTable {
+    links: Vec<LinkFacts>,
+}
+
+impl Model for LinkTable {
+    ghost use Rattle.std.specs.Prelude.{List};
+    ghost use Rattle.vx_order.specs.declared.facts.LinkFacts.{LinkFacts};
+
+    ghost Value = { List LinkFacts };
+
+    ghost view = { λ l. l.links.items };
+}
+
+impl LinkTable {
+    /// No links.
+    pub fn new(alloc: Global) -> LinkTable
+        ensures { result ≡ [] }
+    {
+        LinkTable {
+            links: Vec::new(alloc),
+        }
+    }
+
+    /// Adds a link after the others.
+    pub fn push(&mut self, link: LinkFacts) -> Result<(), OutOfMemory>
+        ensures { OnOk result (self.new ≡ self.old ++ link ∷ []) }
+    {
+        self.links.push(link)?;
+        Ok(())
+    }
+
+    /// The links, in order.
+    pub fn as_slice(&self) -> &[LinkFacts]
+        ensures { result.now ≡ self.now }
+    {
+        &self.links
     }
 }

@@ -30,24 +30,25 @@ pub fn status_lines()
 {}
 
 /// A `write` line: an unknown site, one that is neither up nor bare, a halted one, a volume without the role, an
-/// unknown volume, a count outside its bounds or the ring, blocks past the end, in this order.
+/// unknown volume, a count outside its bounds or the ring, blocks past the end, and at a volume that is logged a link that is
+/// down and then one that leaves too little room, in this order.
 pub fn write_lines()
-    ensures { (sites : List SiteFacts) (files : Bool) (name volume : List ℕ) (start count fill : ℕ) → refusal_of sites files (ScriptLine.Write name volume start count fill) ≡ call_refusal (site_named sites name) name (record { volume = volume; start = start; count = count; way = Writes }) }
+    ensures { (sites : List SiteFacts) (files : Bool) (name volume : List ℕ) (start count fill : ℕ) → refusal_of sites files (ScriptLine.Write name volume start count fill) ≡ call_refusal sites (site_named sites name) name (record { volume = volume; start = start; count = count; way = Writes }) }
 {}
 
 /// A `put` line, as a `write` line of one block.
 pub fn put_lines()
-    ensures { (sites : List SiteFacts) (files : Bool) (name volume : List ℕ) (start : ℕ) (bytes : Blocks) → refusal_of sites files (ScriptLine.Put name volume start bytes) ≡ call_refusal (site_named sites name) name (record { volume = volume; start = start; count = 1; way = Writes }) }
+    ensures { (sites : List SiteFacts) (files : Bool) (name volume : List ℕ) (start : ℕ) (bytes : Blocks) → refusal_of sites files (ScriptLine.Put name volume start bytes) ≡ call_refusal sites (site_named sites name) name (record { volume = volume; start = start; count = 1; way = Writes }) }
 {}
 
 /// A `read` line, as a `write` line but for the ring.
 pub fn read_lines()
-    ensures { (sites : List SiteFacts) (files : Bool) (name volume : List ℕ) (start count : ℕ) → refusal_of sites files (ScriptLine.Read name volume start count) ≡ call_refusal (site_named sites name) name (record { volume = volume; start = start; count = count; way = Reads }) }
+    ensures { (sites : List SiteFacts) (files : Bool) (name volume : List ℕ) (start count : ℕ) → refusal_of sites files (ScriptLine.Read name volume start count) ≡ call_refusal sites (site_named sites name) name (record { volume = volume; start = start; count = count; way = Reads }) }
 {}
 
 /// A `show` line, as a `read` line but for the role.
 pub fn show_lines()
-    ensures { (sites : List SiteFacts) (files : Bool) (name volume : List ℕ) (start count : ℕ) → refusal_of sites files (ScriptLine.Show name volume start count) ≡ call_refusal (site_named sites name) name (record { volume = volume; start = start; count = count; way = Shows }) }
+    ensures { (sites : List SiteFacts) (files : Bool) (name volume : List ℕ) (start count : ℕ) → refusal_of sites files (ScriptLine.Show name volume start count) ≡ call_refusal sites (site_named sites name) name (record { volume = volume; start = start; count = count; way = Shows }) }
 {}
 
 /// A `recover` line: an unknown site alone.

@@ -1,23 +1,35 @@
 //! The tests of a script line, in the one order of refusals.
 //!
-//! Complete are the lines `site`, `raw`, `disk`, `crash`, `fuse`, `recover`, `write`, `put`, `read`, `show`, `apply` and
-//! `status`, but for what a write is refused for its site's links. Of every other line the tests for unknown sites, for
+//! Complete are the lines `site`, `raw`, `disk`, `crash`, `fuse`, `recover`, `write`, `put`, `read`, `show`, `apply`,
+//! `status`, `link`, `set`, `connect`, `cut`, `pause`, `resume`, `pump`, `tick`, `wait` and `settle`, over links that go by the
+//! log. A `deliver` line looks at the network alone (`refuse_packet`). Of every other line the tests for unknown sites, for
 //! sites that are not up and for halted sites stand.
 #![tactic(auto)]
 
+mod ask;
 mod calls;
 mod facts;
 mod first;
+mod holding;
+mod joining;
 mod laws;
+mod link_laws;
+#[cfg(test)]
+mod link_tests;
+mod links;
 mod order;
+mod packets;
+mod sending;
 mod shape;
 mod sites;
 mod span;
 mod subject;
 
-pub use facts::{RvgFacts, SiteFacts, VolumeFacts, VolumeKind, VolumeTable};
+pub use facts::{LinkFacts, LinkTable, RvgFacts, SiteFacts, VolumeFacts, VolumeKind, VolumeTable};
 pub use laws::{
     apply_lines, crash_lines, disk_lines, fuse_lines, put_lines, raw_lines, read_lines,
     recover_lines, show_lines, site_lines, status_lines, write_lines,
 };
+pub use link_laws::{link_lines, pump_lines, set_lines, settle_lines, turn_lines, wait_lines};
 pub use order::refuse;
+pub use packets::refuse_packet;

@@ -2,9 +2,17 @@
 ghost use Rattle.std.specs.Prelude.{◌≡◌};
 ghost use Rattle.vx_order.specs.Order.{refusal_of};
 
+use crate::ask::find_ask;
 use crate::calls::{refuse_call_role, refuse_call_size, refuse_range, refuse_unknown_volume};
 use crate::facts::SiteFacts;
 use crate::first::first_of;
+use crate::holding::{refuse_down_link, refuse_full_log};
+use crate::joining::{refuse_linked, refuse_many_links, refuse_unlike};
+use crate::links::find_number;
+use crate::sending::{
+    refuse_cut_off, refuse_link_role, refuse_paused, refuse_replaying, refuse_unconfirmed,
+    refuse_unknown_link,
+};
 use crate::shape::{refuse_limit, refuse_not_bare, refuse_size, refuse_taken, refuse_unknown_disk};
 use crate::sites::{find_facts, refuse_halted, refuse_not_up, refuse_unknown_site};
 use crate::span::find_span;
@@ -19,7 +27,10 @@ pub fn refuse(sites: &[SiteFacts], files: bool, line: &ScriptLine) -> Option<No>
 {
     let first = find_facts(sites, find_first(line));
     let second = find_facts(sites, find_second(line));
+    let here = find_number(sites, find_first(line));
+    let there = find_number(sites, find_second(line));
     let span = find_span(line);
+    let ask = find_ask(line);
     first_of(&[
         refuse_unknown_site(find_first(line), first),
         refuse_unknown_site(find_second(line), second),
@@ -27,20 +38,31 @@ pub fn refuse(sites: &[SiteFacts], files: bool, line: &ScriptLine) -> Option<No>
         refuse_halted(find_halt(line), first, second),
         refuse_not_bare(line, first),
         refuse_call_role(first, &span),
+        refuse_link_role(&ask, here, there, first, second),
         refuse_unknown_disk(line, first),
         refuse_unknown_volume(first, &span),
+        refuse_unknown_link(&ask, there, first, second),
         refuse_taken(sites, line),
+        refuse_linked(&ask, there, first, second),
         refuse_limit(sites.len(), files, line),
+        refuse_many_links(&ask, first),
         refuse_size(line, first),
+        refuse_unlike(&ask, first, second),
         refuse_call_size(first, &span),
         refuse_range(first, &span),
+        refuse_cut_off(&ask, there, first, second),
+        refuse_down_link(sites, first, &span),
+        refuse_paused(&ask, there, first),
+        refuse_replaying(&ask, there, first, second),
+        refuse_full_log(sites, first, &span),
+        refuse_unconfirmed(&ask, first),
     ])
 }
 
 #[cfg(test)]
 mod tests {
     use super::*;
-    use crate::facts::{RvgFacts, VolumeFacts, VolumeKind, VolumeTable};
+    use crate::facts::{LinkTable, RvgFacts, VolumeFacts, VolumeKind, VolumeTable};
     use std::alloc::Global;
     use std::test::Fail;
     use vx_model::{Counted, Line, Mark, Name, Named, OutOfMemory, Role, SiteState};
@@ -54,6 +76,7 @@ mod tests {
             blocks,
             volumes: VolumeTable::new(alloc),
             rvg: None,
+            links: LinkTable::new(alloc),
         }
     }
 

@@ -1,0 +1,59 @@
+// What the tests of a line of links, its events and its ends have to do with each other.
+ghost use Rattle.std.specs.Prelude.{◌≡◌, ◌*◌, ℕ, List, Bool, Some, None, length, replicate};
+ghost use Rattle.vx_model.specs.declared.link.SyncMode.{SyncMode};
+ghost use Rattle.vx_model.specs.declared.link.Prot.{Prot};
+ghost use Rattle.vx_history.specs.Doubts.{Doubted};
+ghost use Rattle.vx_history.specs.Admission.{Goes};
+ghost use Rattle.vx_history.specs.Events.{packet_at, admitted};
+ghost use Rattle.vx_history.specs.declared.admission.Change.{Change};
+ghost use Rattle.vx_history.specs.Step.{step};
+ghost use Rattle.vx_history.specs.World.{Packet, World};
+ghost use Rattle.vx_history.specs.declared.event.Event.TheVariants.{Set as SetAt, Connect as ConnectAt, Cut as CutAt, Pause as PauseAt, Resume as ResumeAt, Tick as TickAt, Pump as PumpAt, Link as LinkAt};
+ghost use Rattle.vx_history.specs.declared.event.LinkPart.TheVariants.{Joins};
+ghost use Rattle.vx_history.specs.Good.{Good};
+ghost use Rattle.vx_history.specs.declared.event.Said.TheVariants.{Done};
+ghost use Rattle.vx_script.specs.declared.line.ScriptLine.{ScriptLine};
+ghost use Rattle.vx_script.specs.declared.line.ScriptLine.TheVariants.{Link, Set, Connect, Cut, Pause, Resume, Tick, Pump, Deliver, Write, Put};
+ghost use Rattle.vx_events.specs.Listed.{AreListed};
+ghost use Rattle.vx_events.specs.Lines.{write_in};
+ghost use Rattle.vx_events.specs.Facts.{facts_of, site_number};
+ghost use Rattle.vx_events.specs.Fails.{Fails};
+ghost use Rattle.vx_events.specs.LinkEnds.{LinkEnds, LinkStops};
+ghost use Rattle.vx_events.specs.LinkedFacts.{linked_facts, refused_by};
+ghost use Rattle.vx_events.specs.Plain.{IsUnlinked};
+ghost use Rattle.vx_events.specs.declared.said.Said.{Said};
+
+/// Where no test of a line on a link refuses, its event is not refused by the world, nor is the first event of a line that makes a link;
+/// and a packet that no test refuses is one that the network still keeps.
+pub fn link_tests_agree()
+    ensures set { (w : World) (files : Bool) (p s : List ℕ) (sync : SyncMode) (prot : Prot) → refused_by w files (Set p s sync prot) ≡ None
+        → (step w (SetAt (site_number w p) (site_number w s) sync)).said ≡ Done }
+    ensures connect { (w : World) (files : Bool) (p s : List ℕ) → refused_by w files (Connect p s) ≡ None → (step w (ConnectAt (site_number w p) (site_number w s))).said ≡ Done }
+    ensures cut { (w : World) (files : Bool) (p s : List ℕ) → refused_by w files (Cut p s) ≡ None → (step w (CutAt (site_number w p) (site_number w s))).said ≡ Done }
+    ensures pause { (w : World) (files : Bool) (p s : List ℕ) → refused_by w files (Pause p s) ≡ None → (step w (PauseAt (site_number w p) (site_number w s))).said ≡ Done }
+    ensures resume { (w : World) (files : Bool) (p s : List ℕ) → refused_by w files (Resume p s) ≡ None → (step w (ResumeAt (site_number w p) (site_number w s))).said ≡ Done }
+    ensures tick { (w : World) (files : Bool) (p s : List ℕ) → refused_by w files (Tick p s) ≡ None → (step w (TickAt (site_number w p) (site_number w s))).said ≡ Done }
+    ensures pump { (w : World) (files : Bool) (p s : List ℕ) → refused_by w files (Pump p s) ≡ None → (step w (PumpAt (site_number w p) (site_number w s))).said ≡ Done }
+    ensures link { (w : World) (files : Bool) (p s : List ℕ) (sync : SyncMode) (prot : Prot) → Good w → AreListed w → refused_by w files (Link p s sync prot) ≡ None
+        → (step w (LinkAt (site_number w p) (site_number w s) sync Joins)).said ≡ Done }
+    ensures deliver { (w : World) (files : Bool) (number : ℕ) → refused_by w files (Deliver number) ≡ None → (q : Packet) × (packet_at w.packets number ≡ Some q) }
+{}
+
+/// A write that no test refuses is let in by the links of its site.
+pub fn links_let_in()
+    ensures write { (w : World) (files : Bool) (name volume : List ℕ) (start count fill : ℕ) → refused_by w files (Write name volume start count fill) ≡ None
+        → (cs : List Change) × (admitted w (site_number w name) (write_in w name volume start (replicate (512 * count) fill)) ≡ Goes cs) }
+    ensures put { (w : World) (files : Bool) (name volume : List ℕ) (start : ℕ) (bytes : List ℕ) → refused_by w files (Put name volume start bytes) ≡ None → length bytes ≡ 512
+        → (cs : List Change) × (admitted w (site_number w name) (write_in w name volume start bytes) ≡ Goes cs) }
+{}
+
+/// Of a world without links the tests see nothing of links.
+pub fn sees_no_links()
+    ensures { (w : World) → IsUnlinked w → linked_facts w ≡ facts_of w }
+{}
+
+/// However a line of links or packets ends, it ends as events of the world do of which one may be ended by a failing disk or by a fuse.
+/// So the laws of what such events keep, where sites may be in doubt, hold of these lines.
+pub fn link_lines_are_events()
+    ensures { (d : Doubted) (line : ScriptLine) (fails : Fails) (said : Said) (new : Doubted) → LinkEnds d line fails said new → LinkStops d line fails new }
+{}

@@ -1,0 +1,189 @@
+// The tests of lines of links, and of writes by the links of their site.
+use crate::{
+    LinkFacts, LinkTable, RvgFacts, SiteFacts, VolumeFacts, VolumeKind, VolumeTable, refuse,
+    refuse_packet,
+};
+use std::alloc::Global;
+use std::test::Fail;
+use vx_model::{
+    Counted, Line, Link, Mark, Mode, Name, Named, No, OutOfMemory, Prot, Role, SiteName, SiteState,
+    SyncMode,
+};
+use vx_script::ScriptLine;
+
+// A site that is up and the primary of its first line, with one volume and so many writes.
+fn primary(alloc: Global, name: Name, number: u32, last: u64) -> Result<SiteFacts, OutOfMemory> {
+    let mut volumes = VolumeTable::new(alloc);
+    volumes.push(VolumeFacts {
+        name: Name::new(b"d1"),
+        blocks: 10,
+        kind: VolumeKind::Data,
+    })?;
+    Ok(SiteFacts {
+        name,
+        state: SiteState::Up,
+        disks: 3,
+        blocks: 10,
+        volumes,
+        rvg: Some(RvgFacts {
+            role: Role::Primary,
+            line: Line {
+                generation: 1,
+                origin: number,
+            },
+            parent: Line::default(),
+            mark: Mark::Consistent,
+            low: 1,
+            last,
+            ring: 8,
+            halted: None,
+        }),
+        links: LinkTable::new(alloc),
+    })
+}
+
+fn link(site: u32, sync: SyncMode, connected: bool, mode: Mode) -> Link {
+    Link {
+        site,
+        bunker: false,
+        attached: true,
+        connected,
+        paused: false,
+        sync,
+        prot: Prot::Fail,
+        session: 1,
+        net: 0,
+        stored: 0,
+        sent: 0,
+        trimmed: 0,
+        mode,
+    }
+}
+
+fn made(primary: Name, secondary: Name) -> ScriptLine {
+    ScriptLine::Link {
+        primary,
+        secondary,
+        sync: SyncMode::Off,
+        prot: Prot::Fail,
+    }
+}
+
+fn write(site: Name) -> ScriptLine {
+    ScriptLine::Write {
+        site,
+        volume: Name::new(b"d1"),
+        block: 4,
+        count: 1,
+        fill: 4,
+    }
+}
+
+#[test]
+fn tests_a_further_link(rt: HostRuntime) -> Result<(), Fail> {
+    let (a, b, c) = (Name::new(b"a"), Name::new(b"b"), Name::new(b"c"));
+    let mut sites = Vec::new(rt.alloc());
+    sites.push(primary(rt.alloc(), a, 0, 0)?)?;
+    sites.push(primary(rt.alloc(), b, 1, 0)?)?;
+    sites.push(primary(rt.alloc(), c, 2, 1)?)?;
+    assert_eq!(rt; refuse(&sites, false, &made(a, b)), None);
+    assert_eq!(rt; refuse(&sites, false, &made(a, a)), Some(No::Role));
+    assert_eq!(rt; refuse(&sites, false, &made(a, c)), Some(No::Role));
+    assert_eq!(rt; refuse(&sites, false, &made(c, b)), Some(No::Role));
+    for number in 2..6 {
+        sites[0].links.push(LinkFacts {
+            link: link(number, SyncMode::Off, true, Mode::Log),
+            used: 0,
+        })?;
+    }
+    let full = No::Limit {
+        what: Counted::Links,
+        most: 4,
+    };
+    assert_eq!(rt; refuse(&sites, false, &made(a, b)), Some(full));
+    assert_eq!(rt;
+        refuse_packet(9, 10),
+        Some(No::Unknown {
+            what: Named::Number(10)
+        })
+    );
+    assert_eq!(rt; refuse_packet(9, 9), None);
+    Ok(())
+}
+
+#[test]
+fn tests_a_link_that_stands(rt: HostRuntime) -> Result<(), Fail> {
+    let (a, b) = (Name::new(b"a"), Name::new(b"b"));
+    let cut = SiteName::Known(b);
+    for (sync, connected, mode, line, wanted) in [
+        (
+            SyncMode::Off,
+            true,
+            Mode::Log,
+            write(a),
+            Some(No::Stalled { link: cut }),
+        ),
+        (
+            SyncMode::Off,
+            false,
+            Mode::Log,
+            write(a),
+            Some(No::LogFull { link: cut }),
+        ),
+        (
+            SyncMode::Fail,
+            false,
+            Mode::Log,
+            write(a),
+            Some(No::LinkDown { link: cut }),
+        ),
+        (SyncMode::Off, false, Mode::Stale, write(a), None),
+        (
+            SyncMode::Fail,
+            false,
+            Mode::Log,
+            ScriptLine::Wait { site: a, number: 3 },
+            Some(No::Unconfirmed { number: 3 }),
+        ),
+        (
+            SyncMode::Off,
+            false,
+            Mode::Log,
+            ScriptLine::Pump {
+                primary: a,
+                secondary: b,
+            },
+            Some(No::LinkDown { link: cut }),
+        ),
+        (
+            SyncMode::Off,
+            true,
+            Mode::Stale,
+            ScriptLine::Settle {
+                primary: a,
+                secondary: b,
+            },
+            Some(No::Role),
+        ),
+        (
+            SyncMode::Off,
+            true,
+            Mode::Log,
+            ScriptLine::Tick {
+                primary: a,
+                secondary: a,
+            },
+            Some(No::Unknown { what: Named::Of(a) }),
+        ),
+    ] {
+        let mut sites = Vec::new(rt.alloc());
+        sites.push(primary(rt.alloc(), a, 0, 3)?)?;
+        sites.push(primary(rt.alloc(), b, 1, 0)?)?;
+        sites[0].links.push(LinkFacts {
+            link: link(1, sync, connected, mode),
+            used: 7,
+        })?;
+        assert_eq!(rt; refuse(&sites, false, &line), wanted);
+    }
+    Ok(())
+}
