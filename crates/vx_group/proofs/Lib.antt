@@ -19,3 +19,5 @@ pub mod ShapeLemmas
 pub mod ZeroLemmas
 pub mod AddLemmas
 pub mod MakeLemmas
+pub mod OpeningLemmas
+pub mod AttachLemmas

@@ -12,3 +12,4 @@ pub mod Resumes
 pub mod Mends
 pub mod Makes
 pub mod Nexts
+pub mod Attaches

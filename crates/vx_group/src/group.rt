@@ -1,7 +1,8 @@
 // A group as a shelf.
-ghost use Rattle.std.specs.Prelude.{◌≡◌, ◌<◌, ◌≤◌, ◌-◌, false, IfSome, Some, None, Err, OnOk};
+ghost use Rattle.std.specs.Prelude.{◌≡◌, ◌<◌, ◌≤◌, ◌-◌, false, IfOk, IfSome, IsTrue, Some, None, Ok, Err, OnOk};
 ghost use Rattle.vx_disk.specs.Shelf.{Goes, Nothing};
 ghost use Rattle.vx_config.specs.Table.{greatest};
+ghost use Rattle.vx_group.specs.Attaches.{AttachEnds, Attaches, att_refusal, copied_regions};
 ghost use Rattle.vx_group.specs.Deports.{DeportStops, GroupDeported, IsFull};
 ghost use Rattle.vx_group.specs.Dets.{DetStops, det_refusal, margin};
 ghost use Rattle.vx_group.specs.Makes.{MakeEnds, StayAsWere, Unmoved, make_refusal};
@@ -17,6 +18,7 @@ ghost use Rattle.vx_group.specs.Laws.{group_lawful};
 ghost use Rattle.vx_group.specs.Stands.{Stands, meaning_of};
 
 use crate::GroupCore;
+use crate::att::att_in;
 use crate::create::start;
 use crate::deporting::deport_in;
 use crate::det::det_in;
@@ -94,6 +96,24 @@ impl<S: Shelf> Group<S> {
         ensures cause { det_refusal self.old.core.config vol plex ≡ None → DetStops (S.meaning self.old.shelf) (S.meaning self.new.shelf) result }
     {
         det_in(&mut self.shelf, &mut self.core, vol, plex)
+    }
+
+    /// Attaches a plex, and answers how many regions were copied: all of the volume, and none where the plex is ACTIVE already; then nothing
+    /// changes. Each volume reads as before, at every moment and in every image.
+    ///
+    /// Answers 1 exactly where there is no such volume or plex, else 19 exactly where fewer than 65,536 serials are left, and then nothing
+    /// has changed; else 7 only where the count of the disk that it names rose, and 6 only where the shelf is then down. Then the plex is
+    /// not ACTIVE, unless the commit that takes it back was refused too. It writes blocks of this plex alone beside those of commits, makes
+    /// them durable before its commit, and takes no memory.
+    pub fn att(&mut self, vol: u32, plex: u32) -> Result<u64, Stop>
+        ensures refused { (no : NoValue) → att_refusal self.old.core.config vol plex ≡ Some no → (result ≡ Err (Refused no)) × (self.new.core ≡ self.old.core) × (self.new.shelf ≡ self.old.shelf) }
+        ensures already { att_refusal self.old.core.config vol plex ≡ None → IsTrue (active self.old.core.config vol plex) → (result ≡ Ok 0) × (self.new.core ≡ self.old.core) × (self.new.shelf ≡ self.old.shelf) }
+        ensures count { active self.old.core.config vol plex ≡ false → IfOk result (λ n. n ≡ copied_regions self.old.core.config vol) }
+        ensures attaches { Attaches vol plex self.old.core self.new.core (S.meaning self.old.shelf) (S.meaning self.new.shelf) }
+        ensures ends { active self.old.core.config vol plex ≡ false → AttachEnds vol plex self.new.core (S.meaning self.new.shelf) result }
+        ensures cause { att_refusal self.old.core.config vol plex ≡ None → DetStops (S.meaning self.old.shelf) (S.meaning self.new.shelf) result }
+    {
+        att_in(&mut self.shelf, &mut self.core, vol, plex)
     }
 
     /// Deports the group: every volume is flushed, then a commit puts the plexes that are ACTIVE into the state CLEAN, but those of the
