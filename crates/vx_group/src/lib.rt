@@ -31,6 +31,8 @@ pub use group::Group;
 pub use group_core::GroupCore;
 
 #[cfg(test)]
+mod attach_tests;
+#[cfg(test)]
 mod tests;
 #[cfg(test)]
 mod volume_tests;
