@@ -19,5 +19,10 @@ pub mod ShapeLemmas
 pub mod ZeroLemmas
 pub mod AddLemmas
 pub mod MakeLemmas
+pub mod FinishLemmas
+pub mod SourceLemmas
+pub mod ImportLemmas
+pub mod CrashLemmas
 pub mod OpeningLemmas
 pub mod AttachLemmas
+pub mod GiveLemmas

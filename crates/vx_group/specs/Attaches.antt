@@ -16,6 +16,7 @@ use Rattle.vx_volume.specs.Plexes.{active, plexes_of}
 use Rattle.vx_kept.specs.Commits.{IsCommitted}
 use Rattle.vx_kept.specs.Keeping.{Acts, SameShape}
 use Rattle.vx_group.specs.Dets.{margin}
+use Rattle.vx_group.specs.GivesUp.{NoCommit}
 use Rattle.vx_group.specs.Stands.{meaning_of}
 use Rattle.vx_group.specs.declared.group_core.GroupCore.{GroupCore}
 
@@ -63,10 +64,6 @@ pub record HasOther (c : Config) (v p : ℕ) : Type 0 where
   pub plex : ℕ
   pub is_on : IsTrue (active c v plex)
   pub apart : plex ≢ p
-
--- a commit was refused, or the shelf is down
-abbrev pub NoCommit : GroupCore → Meaning → Type 0
-NoCommit d m = (d.unsettled ≡ true) ⊎ IsTrue m.down
 
 -- How an attach ends: with the plex ACTIVE in each image, or not ACTIVE; where both the commit that makes it ACTIVE and the one that takes this back are
 -- refused, it has the content of the volume, and may be ACTIVE.

@@ -12,4 +12,7 @@ pub mod Resumes
 pub mod Mends
 pub mod Makes
 pub mod Nexts
+pub mod Finishes
+pub mod Imports
+pub mod GivesUp
 pub mod Attaches

@@ -2,8 +2,9 @@
 ghost use Rattle.std.specs.Prelude.{◌≡◌, ◌⊎◌, ◌<◌, false, None, IsTrue};
 ghost use Rattle.vx_config.specs.Checks.{is_sound};
 ghost use Rattle.vx_config.specs.Table.{greatest};
-ghost use Rattle.vx_group.specs.Attaches.{AttachEnds, Attaches, HasOther, NoCommit, Opens, att_refusal};
+ghost use Rattle.vx_group.specs.Attaches.{AttachEnds, Attaches, HasOther, Opens, att_refusal};
 ghost use Rattle.vx_group.specs.Blames.{Blames};
+ghost use Rattle.vx_group.specs.GivesUp.{NoCommit};
 ghost use Rattle.vx_group.specs.Stands.{Stands};
 ghost use Rattle.vx_volume.specs.Plexes.{SomeActive, active};
 
