@@ -1,6 +1,7 @@
 // A group as a shelf.
-ghost use Rattle.std.specs.Prelude.{◌≡◌, ◌<◌, ◌≤◌, ◌-◌, false, IfOk, IfSome, IsTrue, Some, None, Ok, Err, OnOk};
-ghost use Rattle.vx_disk.specs.Shelf.{Goes, Nothing};
+ghost use Rattle.std.specs.Prelude.{◌≡◌, ◌<◌, ◌≤◌, ◌-◌, false, IfOk, IfSome, IsTrue, Some, None, Ok, Err, OnOk, length};
+ghost use Rattle.vx_disk.specs.Causes.{Calls, Cause, Names, OnDisks, Works};
+ghost use Rattle.vx_disk.specs.Shelf.{DisksFlushed, DisksWrote, Fits, Flushed, Goes, Nothing, Written, Wrote};
 ghost use Rattle.vx_config.specs.Table.{greatest};
 ghost use Rattle.vx_group.specs.Attaches.{AttachEnds, Attaches, att_refusal, copied_regions};
 ghost use Rattle.vx_group.specs.Deports.{DeportStops, GroupDeported, IsFull};
@@ -14,6 +15,7 @@ ghost use Rattle.vx_model.specs.declared.errors.Stop.TheVariants.{No as Refused}
 ghost use Rattle.vx_model.specs.declared.limits.TheConstants.{MOST_DISKS};
 ghost use Rattle.vx_model.specs.declared.no.No.TheVariants.{Size};
 ghost use Rattle.vx_group.specs.Creates.{GroupCreated};
+ghost use Rattle.vx_group.specs.GivesUp.{GivesUp};
 ghost use Rattle.vx_group.specs.Imports.{GroupImported};
 ghost use Rattle.vx_group.specs.Laws.{group_lawful};
 ghost use Rattle.vx_group.specs.Resumes.{CanImport};
@@ -192,11 +194,32 @@ impl<S: Shelf> Shelf for Group<S> {
         read_in(&mut self.shelf, &mut self.core, unit, block, into)
     }
 
-    fn write(&mut self, unit: u32, block: u64, bytes: &[u8]) -> Result<(), ShelfError> {
+    /// Writes to each plex that is ACTIVE. A fault comes only where each of them had a failed call on one of its disks in this call, or where
+    /// a commit was refused; then no plex changes its state.
+    fn write(&mut self, unit: u32, block: u64, bytes: &[u8]) -> Result<(), ShelfError>
+        requires { Fits (meaning_of self.old.core (S.meaning self.old.shelf)) unit block (length bytes.now) }
+        ensures goes { Goes (Written unit block bytes.now) (meaning_of self.old.core (S.meaning self.old.shelf)) (meaning_of self.new.core (S.meaning self.new.shelf)) }
+        ensures ok { OnOk result (Wrote unit block bytes.now (meaning_of self.old.core (S.meaning self.old.shelf)) (meaning_of self.new.core (S.meaning self.new.shelf))) }
+        ensures cause { Cause (meaning_of self.old.core (S.meaning self.old.shelf)) (meaning_of self.new.core (S.meaning self.new.shelf)) unit result }
+        ensures names { Names (meaning_of self.old.core (S.meaning self.old.shelf)).disks unit result }
+        ensures works { OnOk result (Works (meaning_of self.old.core (S.meaning self.old.shelf)).disks unit) }
+        ensures disks { OnDisks (meaning_of self.old.core (S.meaning self.old.shelf)).disks (meaning_of self.new.core (S.meaning self.new.shelf)).disks (λ o n. Calls (meaning_of self.old.core (S.meaning self.old.shelf)) (DisksWrote unit block bytes.now) o n result) }
+        ensures gave_up { GivesUp unit self.old.core self.new.core (S.meaning self.old.shelf) (S.meaning self.new.shelf) result }
+    {
         write_in(&mut self.shelf, &mut self.core, unit, block, bytes)
     }
 
-    fn flush(&mut self, unit: u32) -> Result<(), ShelfError> {
+    /// Flushes each plex that is ACTIVE. A fault comes only as in a write.
+    fn flush(&mut self, unit: u32) -> Result<(), ShelfError>
+        requires { unit < (meaning_of self.old.core (S.meaning self.old.shelf)).units }
+        ensures goes { Goes Nothing (meaning_of self.old.core (S.meaning self.old.shelf)) (meaning_of self.new.core (S.meaning self.new.shelf)) }
+        ensures ok { OnOk result (Flushed unit (meaning_of self.old.core (S.meaning self.old.shelf)) (meaning_of self.new.core (S.meaning self.new.shelf))) }
+        ensures cause { Cause (meaning_of self.old.core (S.meaning self.old.shelf)) (meaning_of self.new.core (S.meaning self.new.shelf)) unit result }
+        ensures names { Names (meaning_of self.old.core (S.meaning self.old.shelf)).disks unit result }
+        ensures works { OnOk result (Works (meaning_of self.old.core (S.meaning self.old.shelf)).disks unit) }
+        ensures disks { OnDisks (meaning_of self.old.core (S.meaning self.old.shelf)).disks (meaning_of self.new.core (S.meaning self.new.shelf)).disks (λ o n. Calls (meaning_of self.old.core (S.meaning self.old.shelf)) (DisksFlushed unit) o n result) }
+        ensures gave_up { GivesUp unit self.old.core self.new.core (S.meaning self.old.shelf) (S.meaning self.new.shelf) result }
+    {
         flush_in(&mut self.shelf, &mut self.core, unit)
     }
 

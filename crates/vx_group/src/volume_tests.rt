@@ -94,7 +94,7 @@ pub fn get<S: Shelf>(shelf: &mut S, unit: u32, block: u64) -> Told {
     }
 }
 
-fn flush<S: Shelf>(shelf: &mut S, unit: u32) -> Told {
+pub fn flush<S: Shelf>(shelf: &mut S, unit: u32) -> Told {
     if unit >= shelf.units() {
         return Told::Other;
     }

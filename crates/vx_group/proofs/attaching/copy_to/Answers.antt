@@ -75,8 +75,8 @@ returns-in-Err-clause-attaches g c =
 pub returns-in-Err-clause-opens : goal.returns-in-Err-clause-opens
 returns-in-Err-clause-opens g c =
     ap (λ (x : Config). active x c.args.vol c.args.plex)
-        (same_back c.args.core.now c.args.vol c.args.plex c.requires.may c.requires.off (g.S.Shelf.meaning c.args.shelf.now) (g.S.Shelf.meaning c.copy_plex.new.shelf) (g.met.S.Shelf.lawful c.args.shelf.now) (g.met.S.Shelf.lawful c.copy_plex.new.shelf) c.requires.stands c.set_state.new.self c.set_state.ensures.changed c.copy_plex.ensures.goes
-        c.set_state-in-Err.new.self c.whole_of-whole.result c.whole_of-whole.ensures c.set_state-in-Err.ensures.changed)
+    (same_back c.args.core.now c.args.vol c.args.plex c.requires.may c.requires.off (g.S.Shelf.meaning c.args.shelf.now) (g.S.Shelf.meaning c.copy_plex.new.shelf) (g.met.S.Shelf.lawful c.args.shelf.now) (g.met.S.Shelf.lawful c.copy_plex.new.shelf) c.requires.stands c.set_state.new.self c.set_state.ensures.changed c.copy_plex.ensures.goes
+    c.set_state-in-Err.new.self c.whole_of-whole.result c.whole_of-whole.ensures c.set_state-in-Err.ensures.changed)
     ∙ c.requires.off
 
 pub returns-in-Err-clause-serial : goal.returns-in-Err-clause-serial
