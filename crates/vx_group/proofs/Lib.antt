@@ -23,3 +23,6 @@ pub mod FinishLemmas
 pub mod SourceLemmas
 pub mod ImportLemmas
 pub mod CrashLemmas
+pub mod OpeningLemmas
+pub mod AttachLemmas
+pub mod GiveLemmas

@@ -14,3 +14,5 @@ pub mod Makes
 pub mod Nexts
 pub mod Finishes
 pub mod Imports
+pub mod GivesUp
+pub mod Attaches

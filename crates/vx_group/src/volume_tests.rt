@@ -8,9 +8,10 @@ use vx_layout::Shape;
 use vx_model::{Counted, Name, No, OutOfMemory, Stop};
 
 #[derive(Clone, Copy, Debug, PartialEq, Eq)]
-enum Told {
+pub enum Told {
     Done,
     Volume(u32),
+    Attached(u64),
     Block(u8),
     Mixed,
     Device(u32),
@@ -24,7 +25,7 @@ enum Told {
     Other,
 }
 
-fn told_of(stop: Stop) -> Told {
+pub fn told_of(stop: Stop) -> Told {
     match stop {
         Stop::No(No::Device { disk }) => Told::Device(disk),
         Stop::No(No::Down) => Told::Down,
@@ -39,7 +40,7 @@ fn told_of(stop: Stop) -> Told {
 }
 
 // So many blocks on so many concatenated plexes.
-fn plain(blocks: u64, mirrors: u32) -> Shape {
+pub fn plain(blocks: u64, mirrors: u32) -> Shape {
     Shape {
         blocks,
         mirrors,
@@ -51,7 +52,7 @@ fn plain(blocks: u64, mirrors: u32) -> Shape {
     }
 }
 
-fn make<S: Shelf>(alloc: Global, group: &mut Group<S>, name: &[u8], want: &Shape) -> Told {
+pub fn make<S: Shelf>(alloc: Global, group: &mut Group<S>, name: &[u8], want: &Shape) -> Told {
     if name.is_empty() || name.len() > 8 || want.prefer.is_some() {
         return Told::Other;
     }
@@ -62,7 +63,7 @@ fn make<S: Shelf>(alloc: Global, group: &mut Group<S>, name: &[u8], want: &Shape
 }
 
 // Writes one block of these bytes.
-fn put<S: Shelf>(shelf: &mut S, unit: u32, block: u64, byte: u8) -> Told {
+pub fn put<S: Shelf>(shelf: &mut S, unit: u32, block: u64, byte: u8) -> Told {
     if unit >= shelf.units() || block >= shelf.size(unit) {
         return Told::Other;
     }
@@ -74,7 +75,7 @@ fn put<S: Shelf>(shelf: &mut S, unit: u32, block: u64, byte: u8) -> Told {
 }
 
 // Reads one block, and tells its byte.
-fn get<S: Shelf>(shelf: &mut S, unit: u32, block: u64) -> Told {
+pub fn get<S: Shelf>(shelf: &mut S, unit: u32, block: u64) -> Told {
     if unit >= shelf.units() || block >= shelf.size(unit) {
         return Told::Other;
     }
@@ -93,7 +94,7 @@ fn get<S: Shelf>(shelf: &mut S, unit: u32, block: u64) -> Told {
     }
 }
 
-fn flush<S: Shelf>(shelf: &mut S, unit: u32) -> Told {
+pub fn flush<S: Shelf>(shelf: &mut S, unit: u32) -> Told {
     if unit >= shelf.units() {
         return Told::Other;
     }
@@ -104,14 +105,14 @@ fn flush<S: Shelf>(shelf: &mut S, unit: u32) -> Told {
     }
 }
 
-fn det<S: Shelf>(group: &mut Group<S>, volume: u32, plex: u32) -> Told {
+pub fn det<S: Shelf>(group: &mut Group<S>, volume: u32, plex: u32) -> Told {
     match group.det(volume, plex) {
         Ok(()) => Told::Done,
         Err(stop) => told_of(stop),
     }
 }
 
-fn state(config: &Config, volume: usize, plex: usize) -> Option<PlexState> {
+pub fn state(config: &Config, volume: usize, plex: usize) -> Option<PlexState> {
     match config.volumes.as_slice().get(volume) {
         Some(volume) => match volume.plexes.as_slice().get(plex) {
             Some(plex) => Some(plex.state),
@@ -122,7 +123,7 @@ fn state(config: &Config, volume: usize, plex: usize) -> Option<PlexState> {
 }
 
 // A group of so many disks of 1,024 blocks, of which these calls fail.
-fn group_of(alloc: Global, fails: &[u64], disks: u32) -> Result<Group<MemShelf>, OutOfMemory> {
+pub fn group_of(alloc: Global, fails: &[u64], disks: u32) -> Result<Group<MemShelf>, OutOfMemory> {
     let mut shelf = match MemShelf::new(alloc, fails) {
         Ok(shelf) => shelf,
         Err(_) => return Err(OutOfMemory),
