@@ -19,3 +19,7 @@ pub mod ShapeLemmas
 pub mod ZeroLemmas
 pub mod AddLemmas
 pub mod MakeLemmas
+pub mod FinishLemmas
+pub mod SourceLemmas
+pub mod ImportLemmas
+pub mod CrashLemmas

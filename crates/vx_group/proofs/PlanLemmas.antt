@@ -10,9 +10,7 @@ use Rattle.vx_config.specs.declared.config.Config.{Config}
 use Rattle.vx_config.specs.declared.entry.PlexEntry.{PlexEntry}
 use Rattle.vx_config.specs.declared.entry.VolumeEntry.{VolumeEntry}
 use Rattle.vx_layout.specs.Places.{plex_in}
-use Rattle.vx_volume.specs.Plexes.{active}
 use Rattle.vx_kept.specs.Choice.{chosen, first_where, live, live_or}
-use Rattle.vx_kept.specs.Keeping.{AllOn}
 use Rattle.vx_kept.proofs.Narrower.{sound_chosen}
 use Rattle.vx_group.specs.Resumes.{first_in, sits_in, source_of, source_or, takes_in}
 
@@ -104,9 +102,9 @@ any_live (q ∷ ps) (suc k) is = by (is_live q) (any_live ps k is)
     by true rest = refl
     by false rest = rest
 
-pub source_on : (c : Config) (good v : ℕ) → is_sound c ≡ true → AllOn c → v < length c.volumes → IsTrue (active c v (source_of good c v))
+pub source_live : (c : Config) (good v : ℕ) → is_sound c ≡ true → v < length c.volumes → IsTrue (live c v (source_of good c v))
 unfolding live source_of
-source_on c good v sound on lt = on.each v (source_or good (slice_get c.volumes v)) (by (slice_get c.volumes v) (chosen c v) (sound_chosen c sound v lt))
+source_live c good v sound lt = by (slice_get c.volumes v) (chosen c v) (sound_chosen c sound v lt)
   where
     by : (o : Option VolumeEntry) (k : ℕ) → live_or (plex_in o k) ≡ true → live_or (plex_in o (source_or good o)) ≡ true
     by None k is = absurd (let clash : false ≡ true = is in cc)

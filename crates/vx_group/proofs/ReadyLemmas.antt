@@ -1,5 +1,5 @@
 -- Headers of the good disks that are written back, one disk after the other.
-use Rattle.std.proofs.Common.{◌≡◌, inl, inr, ⊎_elim, ℕ, ◌+◌, ◌<◌, ◌≤◌, Bool, true, false, IsTrue, Option, IfSome, List, length, length-set, Err, refl, ap, sym, ◌∙◌, subst, arith}
+use Rattle.std.proofs.Common.{◌≡◌, ◌⊎◌, inl, inr, ⊎_elim, ℕ, ◌+◌, ◌<◌, ◌≤◌, Bool, true, false, IsTrue, Option, IfSome, List, length, length-set, Err, refl, ap, sym, ◌∙◌, subst, arith}
 use Rattle.std.proofs.lemmas.Bool.{cases_lt}
 use Rattle.vx_disk.specs.Causes.{Cause, Faulted, StaysUp}
 use Rattle.vx_disk.specs.declared.shelf.ShelfError.{ShelfError}
@@ -26,11 +26,13 @@ use Rattle.vx_kept.specs.Commits.{Member}
 use Rattle.vx_kept.specs.Keeping.{Acts, IsTidy, Kept, Kin, Sees}
 use Rattle.vx_kept.proofs.Chosen.{active_volumes, alike_shape, extends_volumes}
 use Rattle.vx_kept.proofs.Committed.{fewer, take_on}
+use Rattle.vx_kept.proofs.Lasting.{cases_bool}
 use Rattle.vx_kept.proofs.Settles.{settled_Acts, settled_Kept, settled_tidy, still_tidy}
 use Rattle.vx_kept.proofs.StateLemmas.{same_shape}
 use Rattle.vx_kept.proofs.Steps.{both_Acts, same_Acts, wide_Acts}
 use Rattle.vx_kept.proofs.Whole.{sees_back}
 use Rattle.vx_group.specs.Moves.{Narrows}
+use Rattle.vx_group.specs.Quiesces.{AnyFailed}
 use Rattle.vx_group.specs.Settled.{SameBut, SettledTo}
 use Rattle.vx_group.specs.Stands.{Stands}
 use Rattle.vx_group.specs.declared.group_core.GroupCore.{GroupCore}
@@ -232,3 +234,10 @@ one_failed core l n device failed m m1 stands so_far is none = by failed refl
     by true at = so_far.rose at
     by false at = absurd (stands.some (subst (λ (x : Config). NoneGood x.disks (length x.disks) core.good) (so_far.none at)
         (subst (λ (k : ℕ). NoneGood l.config.disks (length l.config.disks) k) (ap (λ (x : GroupCore). x.good) is) none)))
+
+-- where none failed nothing has changed
+pub settled_still : (good : ℕ) (c d : Config) (n device : ℕ) (failed : Bool) (m m1 : Meaning) → SettledTo good c d n device failed m m1 → (d ≡ c) ⊎ AnyFailed m m1
+settled_still good c d n device failed m m1 so_far = elim (cases_bool failed) [
+  | inl is ↦ inr (device, so_far.rose is)
+  | inr not ↦ inl (so_far.none not)
+]

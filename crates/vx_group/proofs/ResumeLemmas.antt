@@ -27,7 +27,7 @@ use Rattle.vx_volume.proofs.PlaceLemmas.{count_few}
 use Rattle.vx_kept.specs.Choice.{live, live_or}
 use Rattle.vx_kept.specs.Commits.{Member}
 use Rattle.vx_kept.specs.Groups.{found, found_by, group_meaning}
-use Rattle.vx_kept.specs.Keeping.{AllOn, Kept, Kin, SameShape}
+use Rattle.vx_kept.specs.Keeping.{AllOn, Base, Kept, Kin, SameShape}
 use Rattle.vx_kept.specs.Opens.{OpenVolumes}
 use Rattle.vx_kept.proofs.Chosen.{live_volumes, place_volumes, same_extends}
 use Rattle.vx_kept.proofs.Facts.{to_fact}
@@ -107,6 +107,10 @@ false_at (false ∷ xs) is (suc v) = false_at xs is v
 
 -- ---- the configuration in memory
 
+-- no header is above what any import finds
+pub based : (m : Meaning) → CanImport m → (i : Image) (R : ℕ → Bool) (x : Config) → Each m.leaves i → found_by m R i ≡ Found x → Base x m
+based m can i R x each is = can.base i x each (can.one i i R x each each is)
+
 module _ (old new : Meaning) (law : Lawful old) (law' : Lawful new) (goes : Goes Nothing old new) (large : AreLarge old) (can : CanImport old) (x c : Config) (R : ℕ → Bool) (image : Image)
     (read : IsTrue old.tells → Each old.reads image) (finds : found_by old R image ≡ Found x) (opens : OpenVolumes 0 (returned R x) c) (sound : is_sound (returned R x) ≡ true → is_sound c ≡ true) where
   x_wanted : is_wanted old.units old.size x ≡ true
@@ -171,14 +175,14 @@ module _ (old new : Meaning) (law : Lawful old) (law' : Lawful new) (goes : Goes
   resumed_Kept G = record {
     below = record {
       each = λ u lt a v h is left head.
-          let was = (can.newest image R x (seen_image (told_left u a v left)) finds).below.each u (omega (arith, goes.units, lt)) a v h is (left_old u a v left) head in
+          let was = (based old can image R x (seen_image (told_left u a v left)) finds).below.each u (omega (arith, goes.units, lt)) a v h is (left_old u a v left) head in
           omega (arith, was, opens.alike.serial);
     };
     counts = λ u lt d a h is among top.
-        let base = can.newest image R x (seen_image (told_left u 0 (d 0) (among 0))) finds in
+        let base = based old can image R x (seen_image (told_left u 0 (d 0) (among 0))) finds in
         (subst (λ (r : ℕ → List ℕ → Option Config). Counts r (new.leaves u)) (shelf_same old new goes.units goes.size)
         (counts_sub (on_shelf old) (old.leaves u) (new.leaves u) (λ b v left. left_old u b v left) (base.counts u (omega (arith, goes.units, lt))))) d a h is among top;
-    labels = record { each = λ u v lt left. (can.newest image R x (seen_image (told_left u 0 v left)) finds).labels.each u v (omega (arith, goes.units, lt)) (left_old u 0 v left) };
+    labels = record { each = λ u v lt left. (based old can image R x (seen_image (told_left u 0 v left)) finds).labels.each u v (omega (arith, goes.units, lt)) (left_old u 0 v left) };
     sees = λ i each.
         let tells = told_by i each in
         let here : Each old.leaves i = λ u b. left_old u b (i u b) (each u b) in
@@ -220,11 +224,11 @@ module _ (old new : Meaning) (law : Lawful old) (law' : Lawful new) (goes : Goes
       kept_old = record {
         below = record {
           each = λ u lt a v h is left head.
-              let was = (can.newest image R x (λ w b. law.shown w b (image w b) (read (old_told u a v left) w b)) finds).below.each u lt a v h is left head in
+              let was = (based old can image R x (λ w b. law.shown w b (image w b) (read (old_told u a v left) w b)) finds).below.each u lt a v h is left head in
               omega (arith, was, opens.alike.serial);
         };
-        counts = λ u lt d a h is among top. (can.newest image R x (seen_image (old_told u 0 (d 0) (among 0))) finds).counts u lt d a h is among top;
-        labels = record { each = λ u v lt left. (can.newest image R x (seen_image (old_told u 0 v left)) finds).labels.each u v lt left };
+        counts = λ u lt d a h is among top. (based old can image R x (seen_image (old_told u 0 (d 0) (among 0))) finds).counts u lt d a h is among top;
+        labels = record { each = λ u v lt left. (based old can image R x (seen_image (old_told u 0 v left)) finds).labels.each u v lt left };
         sees = λ i each.
             let tells = old_told 0 0 (i 0 0) (each 0 0) in
             record { config = x; found = can.one image i R x (seen_image tells) each finds; kin = found_kin; others = λ readable g y none told is. absurd none };

@@ -24,7 +24,7 @@ pub record FromSource (c : Config) (v source : ℕ) (m : Meaning) (u b : ℕ) (x
 
 -- no commit was made, or the count of some disk rose
 abbrev pub Spent : Config → Config → Meaning → Meaning → Type 0
-Spent c d old new = (d.serial ≡ c.serial) ⊎ ((disk : ℕ) × Rose (old.disk_faults disk) (new.disk_faults disk))
+Spent c d old new = (d ≡ c) ⊎ ((disk : ℕ) × Rose (old.disk_faults disk) (new.disk_faults disk))
 
 -- Blocks of the volume were written as the source read them, and plexes that failed detached; no plex is ACTIVE that was not.
 pub record CopyMoved (core : GroupCore) (v source : ℕ) (d : GroupCore) (old new : Meaning) : Type 0 where

@@ -12,3 +12,5 @@ pub mod Resumes
 pub mod Mends
 pub mod Makes
 pub mod Nexts
+pub mod Finishes
+pub mod Imports

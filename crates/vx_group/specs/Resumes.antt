@@ -61,10 +61,10 @@ source_at sources v = slice_index_or sources v 0
 
 -- ---- what may be taken up
 
--- Whichever disks can be read, an import over an image finds one configuration, or none. Where it finds one, each disk has a label and a greater
--- header that counts, and no header that a crash may leave is above it.
+-- Where an image has a configuration, each disk has a label and a greater header that counts, and no header that a crash may leave is above
+-- it. Whichever disks can be read, an import over an image finds the one of every image, or none.
 pub record CanImport (m : Meaning) : Type 0 where
-  pub newest : (i : Image) (readable : ℕ → Bool) (x : Config) → Each m.leaves i → found_by m readable i ≡ Found x → Base x m
+  pub base : (i : Image) (x : Config) → Each m.leaves i → found m i ≡ Found x → Base x m
   pub one : (i j : Image) (readable : ℕ → Bool) (x : Config) → Each m.leaves i → Each m.leaves j → found_by m readable i ≡ Found x → found m j ≡ Found x
 
 -- ---- what is given
@@ -100,7 +100,7 @@ pub record IsPlan (c : Config) (set : ℕ) (plan : Plan) : Type 0 where
   pub unsettled : plan.core.unsettled ≡ true
   pub fresh : IsFresh plan.core
   pub stopped : (v : ℕ) → v < length c.volumes → marked plan.stopped v ≡ stopped c v
-  pub sources : (v : ℕ) → v < length c.volumes → source_at plan.sources v ≡ source_of set plan.core.config v
+  pub sources : (v : ℕ) → v < length c.volumes → source_at plan.sources v ≡ source_of set c v
 
 abbrev pub Planned : Config → ℕ → Result Plan Stop → Type 0
 Planned c good (Ok plan) = IsPlan c good plan

@@ -13,7 +13,9 @@ ghost use Rattle.vx_model.specs.declared.errors.Stop.TheVariants.{No as Refused}
 ghost use Rattle.vx_model.specs.declared.limits.TheConstants.{MOST_DISKS};
 ghost use Rattle.vx_model.specs.declared.no.No.TheVariants.{Size};
 ghost use Rattle.vx_group.specs.Creates.{GroupCreated};
+ghost use Rattle.vx_group.specs.Imports.{GroupImported};
 ghost use Rattle.vx_group.specs.Laws.{group_lawful};
+ghost use Rattle.vx_group.specs.Resumes.{CanImport};
 ghost use Rattle.vx_group.specs.Stands.{Stands, meaning_of};
 
 use crate::GroupCore;
@@ -21,6 +23,7 @@ use crate::create::start;
 use crate::deporting::deport_in;
 use crate::det::det_in;
 use crate::flushing::flush_in;
+use crate::importing::import_in;
 use crate::making::make_in;
 use crate::reading::read_in;
 use crate::writing::write_in;
@@ -51,6 +54,24 @@ impl<S: Shelf> Group<S> {
     {
         let mut shelf = shelf;
         match start(alloc, &mut shelf, site) {
+            Ok(core) => Ok(Group { shelf, core }),
+            Err(stop) => Err((shelf, stop)),
+        }
+    }
+
+    /// Imports a group: it takes up the newest configuration of the disks that can be read, with plexes that were CLEAN in the state ACTIVE
+    /// and returned disks held as good, writes the headers of these disks back, copies each volume that stopped uncleanly whole from the
+    /// plex that it is gone by to each that is ACTIVE, and ends with a commit.
+    ///
+    /// Answers what an import of the configuration answers (25, 9, 22, 8), 9 where a disk has fewer than 1,024 blocks, 19 where fewer
+    /// than 65,536 serials are left, 7 only where the count of the disk that it names rose, and 6 only where the shelf is down. Where none
+    /// is imported the shelf is handed back, and each block of a volume is as a crash might have left it. It takes memory.
+    pub fn import(alloc: Global, shelf: S) -> Result<Group<S>, (S, Stop)>
+        requires can { CanImport (S.meaning shelf) }
+        ensures imported { GroupImported (S.meaning shelf) (λ s. S.meaning s) (λ g. g.core) (λ g. g.shelf) result }
+    {
+        let mut shelf = shelf;
+        match import_in(alloc, &mut shelf) {
             Ok(core) => Ok(Group { shelf, core }),
             Err(stop) => Err((shelf, stop)),
         }

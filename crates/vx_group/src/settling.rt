@@ -1,7 +1,8 @@
 // The headers of the good disks, which are written back before the commit behind a refused one.
-ghost use Rattle.std.specs.Prelude.{◌≡◌, ◌<◌, false, IsTrue, OnOk};
+ghost use Rattle.std.specs.Prelude.{◌≡◌, ◌⊎◌, ◌<◌, false, IsTrue, OnOk};
 ghost use Rattle.vx_group.specs.Blames.{Blames};
 ghost use Rattle.vx_group.specs.Moves.{Narrows};
+ghost use Rattle.vx_group.specs.Quiesces.{AnyFailed};
 ghost use Rattle.vx_group.specs.Settled.{SameBut};
 ghost use Rattle.vx_group.specs.Stands.{Stands};
 
@@ -25,6 +26,7 @@ pub fn settle_headers<S: Shelf>(shelf: &mut S, core: &mut GroupCore) -> Result<(
     ensures good { core.new.good ≡ core.old.good }
     ensures same { SameBut core.old.config core.new.config }
     ensures settled { OnOk result (core.new.unsettled ≡ false) }
+    ensures still { OnOk result ((core.new.config ≡ core.old.config) ⊎ AnyFailed (S.meaning shelf.old) (S.meaning shelf.new)) }
     ensures cause { Blames (S.meaning shelf.old) (S.meaning shelf.new) result }
 {
     if !core.unsettled {

@@ -69,8 +69,8 @@ fn plan_of(alloc: Global, config: Config, good: u8) -> Result<Plan, Stop>
     let mut config = config;
     sizes_fit(&config);
     let stopped = stopped_of(&config);
-    make_open(&mut config);
     let sources = sources_of(&config, good);
+    make_open(&mut config);
     let room = match Room::new(alloc, &config) {
         Ok(room) => room,
         Err(_) => return Err(Stop::OutOfMemory),

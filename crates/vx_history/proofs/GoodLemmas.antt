@@ -85,7 +85,7 @@ good_empty = record {
     origin_log = λ made. absurd (made refl);
     origin_whole = λ _ _. omega arith;
     origin_mark = λ _. refl;
-    plain = λ _. refl;
+    plain = λ _. (refl, refl);
     content = λ _. refl;
   };
   begun = λ i made. absurd (made refl);
@@ -101,7 +101,7 @@ good_bare_site h i name disks blocks = record {
   origin_log = λ made. absurd (made refl);
   origin_whole = λ _ _. omega arith;
   origin_mark = λ _. refl;
-  plain = λ _. refl;
+  plain = λ _. (refl, refl);
   content = λ _. refl;
 }
 
@@ -122,7 +122,7 @@ good_raw w i s given bare =
       origin_log = λ _ _. refl;
       origin_whole = λ _ _. omega arith;
       origin_mark = λ _. refl;
-      plain = λ _. refl;
+      plain = λ bare. absurd (let e : Up ≡ Bare = bare in cc);
       content = λ _. refl;
     })
     (λ e. cc) refl (omega arith)

@@ -22,7 +22,7 @@ use Rattle.vx_model.specs.declared.link.SyncMode.{SyncMode}
 use Rattle.vx_model.specs.declared.link.Prot.TheVariants.{Fail as FailsWhenFull}
 use Rattle.vx_model.specs.declared.link.Mode.TheVariants.{Log, Stale}
 use Rattle.vx_history.specs.declared.sender.SEvent.{SEvent}
-use Rattle.vx_history.specs.declared.sender.SEvent.TheVariants.{Hello as HearHello, NetAck as HearNetAck, DataAck as HearDataAck, Restart as RestartLink}
+use Rattle.vx_history.specs.declared.sender.SEvent.TheVariants.{Hello as HearHello, NetAck as HearNetAck, DataAck as HearDataAck, Tick as TickLink, Restart as RestartLink}
 use Rattle.vx_history.specs.declared.sender.SFacts.{SFacts}
 use Rattle.vx_history.specs.declared.sender.Action.{Action}
 use Rattle.vx_history.specs.declared.sender.Action.TheVariants.{Nothing, Ignored, Taken, Updates}
@@ -108,8 +108,9 @@ written_if (Goes changes) w p x fails = unless_at_most (w.nodes p).safe w (put_i
 abbrev pub applied : Node → ℕ → Mark → Node
 applied n number mark = record n { base = fold_writes n.base (drop n.safe (take number n.log)); safe = number; mark = mark }
 
+-- it acknowledges from disk to the one that feeds it
 abbrev pub acknowledged : World → ℕ → Node → World
-acknowledged w s n = sending (with_node w s n) (packets_of s n.other n.line (DataAck n.safe))
+acknowledged w s n = sending (with_node w s n) (packets_of s n.fed_by n.line (DataAck n.safe))
 
 -- by what the rule of a receiver says: nothing waited, or the records are applied and acknowledged from disk
 abbrev pub applied_by : World → ℕ → RState → RAction → Outcome
@@ -145,6 +146,13 @@ moved_by w p s r = sending (with_link w p s (with_plain (w.links p s) r.link)) (
 abbrev pub link_event : World → ℕ → ℕ → SEvent → World
 link_event w p s e = moved_by w p s (link_step w p s e)
 
+-- a link on which what was sent counts as lost
+abbrev pub ticked_link : World → ℕ → ℕ → Link
+ticked_link w p s = record (with_plain (w.links p s) (link_step w p s TickLink).link) { since = no_regions }
+
+abbrev pub ticked_at : World → ℕ → ℕ → World
+ticked_at w p s = with_link w p s (ticked_link w p s)
+
 -- whether b greets a, to which a link was connected
 abbrev pub greets : Node → Node → Bool
 greets a b = is_up b.state && (is_running b.halted && (not (is_origin b.role) && same_line b.line a.line))
@@ -155,9 +163,9 @@ greeting_back w p s = if greets (w.nodes p) (w.nodes s) then greeting s p (w.nod
 
 -- ## Packets that are delivered
 
--- a receiver with one more write, which waits
-abbrev pub with_write : Node → Write → Node
-with_write n x = record n { log = n.log ++ x ∷ [] }
+-- a receiver with one more write, which this site sent, and which waits
+abbrev pub with_write : Node → (source : ℕ) → Write → Node
+with_write n source x = record n { log = n.log ++ x ∷ []; fed_by = source }
 
 -- an acknowledgement from memory
 abbrev pub from_memory : World → Node → Packet → ℕ → World
@@ -165,7 +173,7 @@ from_memory w n p number = sending w (packets_of p.target p.source n.line (NetAc
 
 -- an update that is whole is taken and acknowledged; of one that is not the part is kept
 abbrev pub taken_if : (whole : Bool) → World → Packet → Write → (number : ℕ) → Outcome
-taken_if true w p x number = says (from_memory (with_node w p.target (with_write (w.nodes p.target) x)) (w.nodes p.target) p number) IsTaken
+taken_if true w p x number = says (from_memory (with_node w p.target (with_write (w.nodes p.target) p.source x)) (w.nodes p.target) p number) IsTaken
 taken_if false w p x number = says w IsTaken
 
 -- By what the rule of a receiver says of an update, which it says by the header of any of its packets.
@@ -263,9 +271,9 @@ waited w p number =
 abbrev pub kept_of : Node → ℕ → ℕ
 kept_of n k = min (length n.log) (max k n.safe)
 
--- a crash loses what the network tells of links
+-- a crash loses what the network tells of links, and what was sent
 abbrev pub lost_touch : Link → Link
-lost_touch l = record l { connected = false; paused = false; net = l.stored }
+lost_touch l = record l { connected = false; paused = false; net = l.stored; since = no_regions }
 
 -- an origin's line holds what its origin kept
 abbrev pub crash_world : World → ℕ → ℕ → World
@@ -315,10 +323,12 @@ joined a p n =
       parent = a.parent;
       fork = a.fork;
       top = max n.top a.line.generation;
+      stood = n.stood ++ a.line ∷ [];
       phase = Quiet;
       replay = if same_line n.line a.line then n.replay else 0;
       end = 0;
       other = p;
+      fed_by = p;
       start = n.base;
       log = [];
       safe = 0;
@@ -345,6 +355,7 @@ new_link place sync b =
       mode = Stale;
       map = no_regions;
       read_to = 0;
+      since = no_regions;
     }
 
 -- it goes by the log from its site's head on

@@ -30,8 +30,8 @@ pub record GoodNode (h : History) (i : ℕ) (n : Node) : Type 0 where
   -- an origin that is not halted has no write that is not durable
   pub origin_whole : is_origin n.role ≡ true → n.halted ≡ None → length n.log ≤ n.safe
   pub origin_mark : is_origin n.role ≡ true → n.mark ≡ Consistent
-  -- a bare site is no bunker
-  pub plain : n.state ≡ Bare → is_bunker n.role ≡ false
+  -- a bare site is no bunker, and stands on no line
+  pub plain : n.state ≡ Bare → (is_bunker n.role ≡ false) × (n.line.generation ≡ 0)
   -- what the volumes hold with the durable writes is those writes put into what they held at number 0
   pub content : TellsContent n → n.base ≡ fold_writes n.start (take n.safe n.log)
 

@@ -1,6 +1,7 @@
 -- What each event makes of a link at its sending end, and what then is to be done.
 use Rattle.std.specs.Prelude.{ℕ, ◌+◌, max, min, Bool, true, false, ◌&&◌, eqb, ltb, if◌then◌else◌}
 use Rattle.vx_history.specs.Admission.{is_live}
+use Rattle.vx_model.specs.declared.limits.TheConstants.{MOST_AHEAD}
 use Rattle.vx_model.specs.declared.link.Link.{Link}
 use Rattle.vx_model.specs.declared.link.Phase.{Phase}
 use Rattle.vx_model.specs.declared.link.Phase.TheVariants.{Start, Regions, Done, Log as ByLogAgain}
@@ -40,7 +41,8 @@ by_log (Replay id phase left start end) = phase_logs phase
 by_log (Fork maps) = false
 by_log Stale = false
 
--- a live link by the log sends what its receiver may lack, up to 8 numbers past the last acknowledged one, and nothing that is not durable
+-- A live link by the log sends what its receiver may lack, so many numbers past the last acknowledged one at most, and nothing that is not
+-- durable.
 abbrev pub pumped_up_to : Link → (low high : ℕ) → Sent
 pumped_up_to l low high =
     if ltb low high
@@ -48,7 +50,7 @@ pumped_up_to l low high =
     else with_nothing (record l { sent = low })
 
 abbrev pub pumped : Link → (safe : ℕ) → Sent
-pumped l safe = if is_live l && by_log l.mode then pumped_up_to l (max l.sent l.stored) (min safe (l.net + 8)) else with_nothing l
+pumped l safe = if is_live l && by_log l.mode then pumped_up_to l (max l.sent l.stored) (min safe (l.net + MOST_AHEAD)) else with_nothing l
 
 -- sending begins again behind what is acknowledged
 abbrev pub ticked : Link → Link

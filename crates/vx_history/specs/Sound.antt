@@ -1,10 +1,10 @@
 -- What holds of sites, links, packets and promises in every world that can come about. What links, packets and promises say of their
 -- sites is kept by every event only together with the further facts, which are numbered here.
-use Rattle.std.specs.Prelude.{◌≡◌, ◌≢◌, ℕ, ◌≤◌, true, false, List, length, None}
+use Rattle.std.specs.Prelude.{◌≡◌, ◌≢◌, ℕ, ◌≤◌, Bool, true, false, ◌||◌, List, [], ◌∷◌, length, None}
 use Rattle.std.specs.List.{AllByRecursion}
 use Rattle.vx_model.specs.Content.{Write, IsNumber}
 use Rattle.vx_history.specs.World.{Node, Link, History, Message, Packet, Promise, Surety, World, Hello, Update, NetAck, DataAck, Durable, InSession}
-use Rattle.vx_model.specs.Sites.{is_origin}
+use Rattle.vx_model.specs.Sites.{is_origin, same_line}
 use Rattle.vx_history.specs.Receiving.{phase_takes}
 use Rattle.vx_history.specs.Good.{Good, IsMade}
 use Rattle.vx_model.specs.declared.history.Line.{Line}
@@ -39,6 +39,31 @@ TakesUpdates n = phase_takes n.phase ≡ true
 abbrev pub IsMarked : Node → Type 0
 IsMarked n = n.state ≡ Up → n.halted ≡ None → n.phase ≡ ByLog → n.end ≤ n.safe → n.mark ≡ Consistent
 
+-- ## Who came to a line
+
+-- the line is one of these
+abbrev pub has_line : List Line → Line → Bool
+has_line [] line = false
+has_line (l ∷ ls) line = same_line line l || has_line ls line
+
+-- Fact 17. Of a line on which site i ever stood: neither the site nor the line's origin is bare, its generation is at most the greatest on
+-- which the one and the other ever stood, and it is no newer than the site's present line where both are of one origin. So to a line of a
+-- higher generation than its origin ever stood on nobody came.
+pub record HasCome (nodes : ℕ → Node) (i : ℕ) (line : Line) : Type 0 where
+  pub here : IsMade (nodes i)
+  pub there : IsMade (nodes line.origin)
+  pub top : line.generation ≤ (nodes i).top
+  pub named : line.generation ≤ (nodes line.origin).top
+  pub rises : line.origin ≡ (nodes i).line.origin → line.generation ≤ (nodes i).line.generation
+
+-- Fact 18. Where writes arise a site stands on the newest line on which it ever stood.
+abbrev pub IsNewest : Node → Type 0
+IsNewest n = is_origin n.role ≡ true → n.top ≡ n.line.generation
+
+-- Fact 19. A site that is more than bare came to the line on which it stands.
+abbrev pub StoodHere : Node → Type 0
+StoodHere n = IsMade n → has_line n.stood n.line ≡ true
+
 -- ## Links
 
 -- a link from a site, now a, to a receiver on the same line, now b
@@ -71,12 +96,17 @@ ModeSays held b (Replay id phase left start end) = Unit {0}
 ModeSays held b (Fork maps) = Unit {0}
 ModeSays held b Stale = Unit {0}
 
+-- Fact 20. A link goes to a site that came to its line. None waits for a site that is still to come.
+abbrev pub HasArrived : Node → Node → Link → Type 0
+HasArrived a b l = is_linked l ≡ true → has_line b.stood a.line ≡ true
+
 -- What the link of site p, now a, to site s, now b, says of b, where the line of a holds these writes: its session is not above that of b,
 -- what is stored is on the disks there, what was acknowledged in the present session is in memory there, and what its mode says.
 pub record GoodLink (held : List Write) (p s : ℕ) (a b : Node) (l : Link) : Type 0 where
   pub ends : HasEnds a b l
   pub starts : StartsAtSender a l
   pub apart : GoesElsewhere p s l
+  pub came : HasArrived a b l
   pub session : is_linked l ≡ true → l.session ≤ b.session
   pub stored : IsFollowed a b l → HasStored b l.stored
   pub net : IsFollowed a b l → IsPresent b l.session → l.net ≤ length b.log
@@ -111,14 +141,16 @@ StrangerSays to from (NetAck session number) = from → number ≤ 0
 StrangerSays to from (Hello session number stored) = from → (number ≤ 0) × (stored ≤ 0)
 StrangerSays to from (DataAck number) = from → number ≤ 0
 
--- Fact 10. The site, and the one that began the line, are not bare. So a site that makes its first line finds nothing said on it.
-abbrev pub IsBegun : (ℕ → Node) → Line → ℕ → Type 0
-IsBegun nodes line i = IsMade (nodes i) × IsMade (nodes line.origin)
+-- Fact 10. What is said on a line, or promised of a site on it, is said by a site, or of one, that came to the line. So a site that makes its
+-- first line, or one of a higher generation than it ever stood on, finds nothing said on it, and a site that comes to a line for the first
+-- time said nothing there.
+abbrev pub CameTo : (ℕ → Node) → Line → ℕ → Type 0
+CameTo nodes line i = has_line (nodes i).stood line ≡ true
 
 pub record GoodPacket (nodes : ℕ → Node) (links : ℕ → ℕ → Link) (lines : Line → History) (p : Packet) : Type 0 where
   pub said : GoodMessage (lines p.line).held (nodes p.source) p.line p.message
   pub known : StrangerSays (IsStranger nodes links p.line p.target) (IsStranger nodes links p.line p.source) p.message
-  pub begun : IsBegun nodes p.line p.source
+  pub came : CameTo nodes p.line p.source
 
 -- ## Promises
 
@@ -132,7 +164,7 @@ pub record GoodPromise (nodes : ℕ → Node) (links : ℕ → ℕ → Link) (e 
   pub kept : IsKept (nodes e.site) e.line e.number e.surety
   -- nothing was promised of a stranger
   pub known : IsStranger nodes links e.line e.site → ⊥
-  pub begun : IsBegun nodes e.line e.site
+  pub came : CameTo nodes e.line e.site
 
 -- ## Worlds
 
@@ -151,6 +183,9 @@ pub record Sound (w : World) : Type 0 where
   pub fed : (i : ℕ) → IsFed (w.nodes i)
   pub takes : (i : ℕ) → TakesUpdates (w.nodes i)
   pub marked : (i : ℕ) → IsMarked (w.nodes i)
+  pub newest : (i : ℕ) → IsNewest (w.nodes i)
+  pub stands : (i : ℕ) → StoodHere (w.nodes i)
+  pub come : (i : ℕ) → AllByRecursion (HasCome w.nodes i) (w.nodes i).stood
   pub links : (p s : ℕ) → GoodLink (w.lines (w.nodes p).line).held p s (w.nodes p) (w.nodes s) (w.links p s)
   pub bunkers : (p s : ℕ) → FedByBunker w.nodes w.links p s
   pub packets : AllByRecursion (GoodPacket w.nodes w.links w.lines) w.packets

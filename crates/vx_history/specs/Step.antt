@@ -11,7 +11,7 @@ use Rattle.vx_history.specs.Steps.{site_made, raw_made, stopped_by}
 use Rattle.vx_model.specs.declared.site.Mark.TheVariants.{Consistent}
 use Rattle.vx_model.specs.declared.link.SyncMode.{SyncMode}
 use Rattle.vx_model.specs.declared.link.Prot.TheVariants.{Fail as FailsWhenFull}
-use Rattle.vx_history.specs.declared.sender.SEvent.TheVariants.{Pump as PumpLink, Tick as TickLink, Connect as ConnectLink, Cut as CutLink, Pause as PauseLink, Resume as ResumeLink}
+use Rattle.vx_history.specs.declared.sender.SEvent.TheVariants.{Pump as PumpLink, Connect as ConnectLink, Cut as CutLink, Pause as PauseLink, Resume as ResumeLink}
 use Rattle.vx_model.specs.declared.no.No.TheVariants.{Exists, Size, Role as WrongRole, Down as NotUp, Device}
 use Rattle.vx_history.specs.declared.event.Said.TheVariants.{Done, Got, Refused}
 use Rattle.vx_history.specs.declared.event.LinkPart.{LinkPart}
@@ -22,7 +22,7 @@ use Rattle.vx_history.specs.Sends.{is_linked, with_link, sending}
 use Rattle.vx_history.specs.Refusals.{Outcome, says, unless, at_site, at_work, both_at_work, on_link, on_link_if, when_live, on_volume, may_be_site, may_join, is_primary, is_consistent, is_stale, is_empty, follows, links_of}
 use Rattle.vx_model.specs.Sizes.{is_raw_shape}
 use Rattle.vx_model.specs.Sites.{is_up, is_bare}
-use Rattle.vx_history.specs.Events.{admitted, written_if, apply_at, reached_at, link_event, greeting_back, delivered, packet_at, waited, kept_of, crash_at, recover_from, joined, new_link, opened}
+use Rattle.vx_history.specs.Events.{admitted, written_if, apply_at, reached_at, link_event, ticked_at, greeting_back, delivered, packet_at, waited, kept_of, crash_at, recover_from, joined, new_link, opened}
 
 abbrev pub done : World → Outcome
 done w = says w Done
@@ -66,7 +66,7 @@ outcome_of w (Read p volume start count) = read_at w p volume start count
 outcome_of w (Apply s count reached) =
     at_site w s (at_work w s (if is_origin (w.nodes s).role then reached_at w s count reached else apply_at w s count))
 outcome_of w (Pump p s) = on_link w p s (when_live w s (w.links p s) (done (link_event w p s PumpLink)))
-outcome_of w (Tick p s) = on_link w p s (done (link_event w p s TickLink))
+outcome_of w (Tick p s) = on_link w p s (done (ticked_at w p s))
 outcome_of w (Deliver number) = delivered w number (packet_at w.packets number)
 outcome_of w (Connect p s) = on_link w p s (done (sending (link_event w p s ConnectLink) (greeting_back w p s)))
 outcome_of w (Cut p s) = on_link w p s (done (link_event w p s CutLink))

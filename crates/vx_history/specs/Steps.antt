@@ -33,6 +33,7 @@ raw_set site n = record n {
   mark = Consistent;
   line = first_line site;
   top = 1;
+  stood = n.stood ++ first_line site ∷ [];
   session = 1;
   start = raw_content n.disks n.blocks;
   base = raw_content n.disks n.blocks;
@@ -69,9 +70,10 @@ written w s x = let n = w.nodes s in with_history w s (logged n x) (told_of (w.l
 abbrev pub half_written : World → ℕ → Write → ℕ → World
 half_written w s x disk = let n = w.nodes s in with_node w s (record n { log = n.log ++ x ∷ []; halted = Some disk; fuse = burned n.fuse })
 
--- a site that crashed and kept its first k writes
+-- a site that crashed and kept its first k writes; who fed it is forgotten
 abbrev pub crashed : Node → ℕ → Node
-crashed n k = record n { state = Down; base = fold_writes n.base (drop n.safe (take k n.log)); log = take k n.log; safe = k; halted = None; fuse = NoFuse }
+crashed n k =
+    record n { state = Down; fed_by = n.other; base = fold_writes n.base (drop n.safe (take k n.log)); log = take k n.log; safe = k; halted = None; fuse = NoFuse }
 
 -- its line holds them
 abbrev pub kept_by : History → Node → ℕ → History

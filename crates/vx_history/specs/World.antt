@@ -61,12 +61,16 @@ pub record Node : Type 0 where
   pub fork : ℕ
   -- the greatest generation that it ever stood on
   pub top : ℕ
+  -- the lines on which it ever stood, the first of them first
+  pub stood : List Line
   pub session : ℕ
   pub mark : Mark
   pub phase : SPhase
   pub replay : ℕ
   pub end : ℕ
   pub other : ℕ
+  -- who sent the last update that it took; its primary, where it took none since it came up or joined its line
+  pub fed_by : ℕ
   -- what its volumes held at number 0 of its line
   pub start : Content
   -- what a crash keeps with the first `safe` writes
@@ -104,6 +108,8 @@ pub record Link : Type 0 where
   pub map : Regions
   -- the head as the last region of a replay was read
   pub read_to : ℕ
+  -- the regions that were sent since the last tick
+  pub since : Regions
 
 pub data Message : Type 0 where
   Hello : (session number stored : ℕ) → Message
@@ -174,12 +180,14 @@ bare_site name disks blocks = record {
   parent = no_line;
   fork = 0;
   top = 0;
+  stood = [];
   session = 0;
   mark = Consistent;
   phase = Quiet;
   replay = 0;
   end = 0;
   other = 0xffff_ffff;
+  fed_by = 0xffff_ffff;
   start = no_volumes;
   base = no_volumes;
   log = [];
@@ -208,6 +216,7 @@ no_link = record {
   mode = Stale;
   map = no_regions;
   read_to = 0;
+  since = no_regions;
 }
 
 abbrev pub no_history : History

@@ -266,6 +266,11 @@ module _ (good : ℕ) (c a d : Config) (old new : Meaning) (lawful : Lawful old)
   base_done on done wanted =
       let count : length d.disks ≡ new.units = wanted_count new.units new.size d wanted in
       record {
+        later = done.later;
+        finds = λ i each.
+            let g = done.left in
+            done.found (below_a c a d old new lawful lawful' base tidy follows begins fit) base.labels i (λ u. true) g.disk each (record { below = (let less = g.below in omega (arith, less, count)); good = g.held }) refl
+            ∙ settle_all new.units d;
         kept = fewer d (Held d new) (Member (good_set d.disks) new) new (held_of d new count) (done_Kept c a d old new lawful lawful' base tidy follows begins fit good on done count);
         tidy = done_tidy c a d old new lawful lawful' base tidy follows begins fit good on done count;
         shape = done_shape c a d old new lawful lawful' base tidy follows begins fit good on done count;

@@ -1,12 +1,14 @@
 -- What a group's commit leaves.
 use Rattle.std.specs.Prelude.{◌≡◌, ℕ, ◌<◌, true, Result, Ok, Err}
 use Rattle.vx_disk.specs.Blocks.{bit_at}
-use Rattle.vx_disk.specs.Shelf.{Meaning}
+use Rattle.vx_disk.specs.Shelf.{Each, Image, Meaning}
 use Rattle.vx_model.specs.declared.no.No.{No}
 use Rattle.vx_config.specs.declared.config.Config.{Config}
+use Rattle.vx_copyfmt.specs.Imports.{Found}
 use Rattle.vx_copies.specs.Answers.{good_set}
 use Rattle.vx_copies.specs.Commits.{CommitStops, Grown}
 use Rattle.vx_copies.specs.Marks.{HasGood}
+use Rattle.vx_kept.specs.Groups.{found}
 use Rattle.vx_kept.specs.Keeping.{AllOn, Extends, IsTidy, Kept}
 
 -- a disk of a set, by its bit
@@ -14,8 +16,10 @@ pub record Member (good : ℕ) (m : Meaning) (u : ℕ) : Type 0 where
   pub below : u < m.units
   pub is : bit_at good u ≡ true
 
--- memory has d, which the disks keep and are ready for; the set is now that of its good disks
+-- memory has d, which the disks keep and are ready for, and each image has, where all disks can be read; the set is now that of its good disks
 pub record Taken (c a d : Config) (old new : Meaning) : Type 0 where
+  pub later : a.serial < d.serial
+  pub finds : (i : Image) → Each new.leaves i → found new i ≡ Found d
   pub kept : Kept d (Member (good_set d.disks) new) new
   pub tidy : IsTidy d new
   pub shape : Extends d c

@@ -1,6 +1,7 @@
 -- What each event of a link leaves of its numbers.
 use Rattle.std.proofs.Common.{◌≡◌, ◌≢◌, ℕ, ◌+◌, ◌≤◌, ◌<◌, arith, refl}
 use Rattle.vx_history.specs.Sending.{sent_step}
+use Rattle.vx_model.specs.declared.limits.TheConstants.{MOST_AHEAD}
 use Rattle.vx_model.specs.declared.link.Link.{Link}
 use Rattle.vx_history.specs.declared.sender.SEvent.{SEvent}
 use Rattle.vx_history.specs.declared.sender.SEvent.TheVariants.{Pump, Tick, Hello, NetAck, DataAck, Connect, Cut, Pause, Resume, Restart}
@@ -20,7 +21,7 @@ stored-rises l Resume f = grind arith
 stored-rises l Restart f = grind arith
 
 pub updates-fit : (l : Link) (e : SEvent) (f : SFacts) (from to : ℕ) → (sent_step l e f).action ≡ Updates from to
-    → (l.sent < from) × (l.stored < from) × (from ≤ to) × (to ≤ f.safe) × (to ≤ l.net + 8)
+    → (l.sent < from) × (l.stored < from) × (from ≤ to) × (to ≤ f.safe) × (to ≤ l.net + MOST_AHEAD)
 updates-fit l Pump f from to h = grind (arith, h)
 updates-fit l Tick f from to h = grind (arith, h)
 updates-fit l (Hello session number stored) f from to h = grind (arith, h)

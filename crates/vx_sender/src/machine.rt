@@ -5,12 +5,13 @@ ghost use Rattle.vx_history.specs.Sending.{sent_step, pumped, ticked, restarted,
 
 use crate::messages::{goes_by_log, hear_data_ack, hear_hello, hear_net_ack};
 use crate::{Action, SEvent, SFacts};
+use vx_model::limits::MOST_AHEAD;
 use vx_model::{Link, Mode};
 
 /// What the event makes of the link, and what is then to be done.
 ///
 /// `Pump` on a live link that goes by the log answers the numbers of the updates that are to be sent: from one above the greater
-/// of `sent` and `stored`, to the lesser of the durable writes and `net + 8`. A message that is not of the site's line is ignored.
+/// of `sent` and `stored`, to the lesser of the durable writes and `net + MOST_AHEAD`. A message that is not of the site's line is ignored.
 /// So is a hello of an earlier session, and an acknowledgement of another session or with nothing new.
 pub fn step(link: &mut Link, event: &SEvent, facts: &SFacts) -> Action
     ensures action { result ≡ (sent_step link.old event.now facts.now).action }
@@ -42,7 +43,7 @@ fn pump(link: &mut Link, safe: u64) -> Action
         return Action::Nothing;
     }
     let low = link.sent.max(link.stored);
-    let high = safe.min(link.net.saturating_add(8));
+    let high = safe.min(link.net.saturating_add(MOST_AHEAD));
     if low < high {
         link.sent = high;
         Action::Updates {

@@ -51,22 +51,23 @@ node_at nodes i v lt is = seen-at node_of (bare_site [] 0 0) nodes i v lt is
 
 -- a site that is crashed, and one of which more is durable
 pub crashed_is : (n : PlainNode) (k : ℕ) (base : Content) (log : List Write) → base ≡ fold_writes n.base (drop n.safe (take k n.log)) → log ≡ take k n.log
-    → (let m : PlainNode = record n { state = Down; base = base; log = log; safe = k; halted = None; fuse = burned NoFuse } in m) ≡ crashed n k
+    → (let m : PlainNode = record n { state = Down; fed_by = n.other; base = base; log = log; safe = k; halted = None; fuse = burned NoFuse } in m) ≡ crashed n k
 crashed_is n k base log b l =
-    ap (λ (c : Content). let m : PlainNode = record n { state = Down; base = c; log = log; safe = k; halted = None; fuse = NoFuse } in m) b
-    ∙ ap (λ (xs : List Write). let m : PlainNode = record n { state = Down; base = fold_writes n.base (drop n.safe (take k n.log)); log = xs; safe = k; halted = None; fuse = NoFuse } in m) l
+    ap (λ (c : Content). let m : PlainNode = record n { state = Down; fed_by = n.other; base = c; log = log; safe = k; halted = None; fuse = NoFuse } in m) b
+    ∙ ap (λ (xs : List Write). let m : PlainNode = record n { state = Down; fed_by = n.other; base = fold_writes n.base (drop n.safe (take k n.log)); log = xs; safe = k; halted = None; fuse = NoFuse } in m) l
 
 pub applied_is : (n : PlainNode) (k : ℕ) (mark : Mark) (base : Content) → base ≡ fold_writes n.base (drop n.safe (take k n.log))
     → (let m : PlainNode = record n { base = base; safe = k; mark = mark } in m) ≡ applied n k mark
 applied_is n k mark base b = ap (λ (c : Content). let m : PlainNode = record n { base = c; safe = k; mark = mark } in m) b
 
-pub joined_is : (a n : PlainNode) (p top replay : ℕ) (start : Content) (log : List Write) → top ≡ max n.top a.line.generation
-    → replay ≡ (if same_line n.line a.line then n.replay else 0) → start ≡ n.base → log ≡ []
-    → (let m : PlainNode = record n { role = Secondary; mark = Inconsistent; line = a.line; parent = a.parent; fork = a.fork; top = top; phase = Quiet; replay = replay; end = 0; other = p; start = start; log = log; safe = 0; low = 1; fork_map = None } in m) ≡ joined a p n
-joined_is a n p top replay start log t r s l =
-    ap (λ (k : ℕ). let m : PlainNode = record n { role = Secondary; mark = Inconsistent; line = a.line; parent = a.parent; fork = a.fork; top = k; phase = Quiet; replay = replay; end = 0; other = p; start = start; log = log; safe = 0; low = 1; fork_map = None } in m) t
-    ∙ ap (λ (k : ℕ). let m : PlainNode = record n { role = Secondary; mark = Inconsistent; line = a.line; parent = a.parent; fork = a.fork; top = max n.top a.line.generation; phase = Quiet; replay = k; end = 0; other = p; start = start; log = log; safe = 0; low = 1; fork_map = None } in m) r
-    ∙ ap (λ (c : Content). let m : PlainNode = record n { role = Secondary; mark = Inconsistent; line = a.line; parent = a.parent; fork = a.fork; top = max n.top a.line.generation; phase = Quiet; replay = (if same_line n.line a.line then n.replay else 0); end = 0; other = p; start = c; log = log; safe = 0; low = 1; fork_map = None } in m) s
+pub joined_is : (a n : PlainNode) (p top replay : ℕ) (stood : List Line) (start : Content) (log : List Write) → top ≡ max n.top a.line.generation
+    → stood ≡ n.stood ++ a.line ∷ [] → replay ≡ (if same_line n.line a.line then n.replay else 0) → start ≡ n.base → log ≡ []
+    → (let m : PlainNode = record n { role = Secondary; mark = Inconsistent; line = a.line; parent = a.parent; fork = a.fork; top = top; stood = stood; phase = Quiet; replay = replay; end = 0; other = p; fed_by = p; start = start; log = log; safe = 0; low = 1; fork_map = None } in m) ≡ joined a p n
+joined_is a n p top replay stood start log t o r s l =
+    ap (λ (k : ℕ). let m : PlainNode = record n { role = Secondary; mark = Inconsistent; line = a.line; parent = a.parent; fork = a.fork; top = k; stood = stood; phase = Quiet; replay = replay; end = 0; other = p; fed_by = p; start = start; log = log; safe = 0; low = 1; fork_map = None } in m) t
+    ∙ ap (λ (ls : List Line). let m : PlainNode = record n { role = Secondary; mark = Inconsistent; line = a.line; parent = a.parent; fork = a.fork; top = max n.top a.line.generation; stood = ls; phase = Quiet; replay = replay; end = 0; other = p; fed_by = p; start = start; log = log; safe = 0; low = 1; fork_map = None } in m) o
+    ∙ ap (λ (k : ℕ). let m : PlainNode = record n { role = Secondary; mark = Inconsistent; line = a.line; parent = a.parent; fork = a.fork; top = max n.top a.line.generation; stood = n.stood ++ a.line ∷ []; phase = Quiet; replay = k; end = 0; other = p; fed_by = p; start = start; log = log; safe = 0; low = 1; fork_map = None } in m) r
+    ∙ ap (λ (c : Content). let m : PlainNode = record n { role = Secondary; mark = Inconsistent; line = a.line; parent = a.parent; fork = a.fork; top = max n.top a.line.generation; stood = n.stood ++ a.line ∷ []; phase = Quiet; replay = (if same_line n.line a.line then n.replay else 0); end = 0; other = p; fed_by = p; start = c; log = log; safe = 0; low = 1; fork_map = None } in m) s
     ∙ ap (λ (xs : List Write). let m : PlainNode = record (joined a p n) { log = xs } in m) l
 
 pub logged_is : (n : PlainNode) (x : Write) (base : Content) (log : List Write) → base ≡ put n.base x → log ≡ n.log ++ x ∷ []
@@ -82,10 +83,10 @@ written_is w i x v lines is told =
     ap (λ (f : Line → PlainHistory). with_node (record w { lines = f }) i (logged (w.nodes i) x)) (told ∙ ap (λ (n : PlainNode). line_updated w.lines n.line (told_of (w.lines n.line) x)) (sym is))
 
 -- a raw set, and what is recorded of its line
-pub raw_is : (n : PlainNode) (site ring volumes : ℕ) (start base : Content) (log : List Write) → ring ≡ ring_of n.blocks → volumes ≡ n.disks - 2
+pub raw_is : (n : PlainNode) (site ring volumes : ℕ) (stood : List Line) (start base : Content) (log : List Write) → ring ≡ ring_of n.blocks → volumes ≡ n.disks - 2 → stood ≡ n.stood ++ first_line site ∷ []
     → start ≡ zeros (sizes volumes n.blocks) → base ≡ zeros (sizes volumes n.blocks) → log ≡ []
-    → (let m : PlainNode = record n { state = Up; ring = ring; volumes = raw_volumes 1 volumes n.blocks; role = Primary; mark = Consistent; line = first_line site; top = 1; session = 1; start = start; base = base; log = log; safe = 0; halted = None } in m) ≡ raw_set site n
-raw_is n site ring volumes start base log r v s b l = rw (r, s, b, l, v) refl
+    → (let m : PlainNode = record n { state = Up; ring = ring; volumes = raw_volumes 1 volumes n.blocks; role = Primary; mark = Consistent; line = first_line site; top = 1; stood = stood; session = 1; start = start; base = base; log = log; safe = 0; halted = None } in m) ≡ raw_set site n
+raw_is n site ring volumes stood start base log r v o s b l = rw (r, o, s, b, l, v) refl
 
 pub raw_made_is : (w : PlainWorld) (i : ℕ) (v : PlainNode) (lines : Line → PlainHistory) (start : Content) (volumes : ℕ) → w.nodes i ≡ v → volumes ≡ v.disks - 2
     → start ≡ zeros (sizes volumes v.blocks) → lines ≡ line_updated w.lines (first_line i) (record no_history { start = start })

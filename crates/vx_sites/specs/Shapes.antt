@@ -48,12 +48,14 @@ node_of n = record {
   parent = no_line;
   fork = 0;
   top = n.top;
+  stood = n.stood.items;
   session = n.session;
   mark = n.mark;
   phase = n.phase;
   replay = n.replay;
   end = n.end;
   other = n.other;
+  fed_by = n.fed_by;
   start = content_of n.start;
   base = content_of n.base;
   log = n.log.items;
@@ -82,6 +84,7 @@ link_of l = record {
   mode = l.state.mode;
   map = no_regions;
   read_to = 0;
+  since = no_regions;
 }
 
 abbrev pub message_of : Message → PlainMessage

@@ -34,6 +34,7 @@ impl World {
         node.mark = Mark::Consistent;
         node.line = line;
         node.top = 1;
+        node.stood.push(line)?;
         node.session = 1;
         node.start = Content::new(self.alloc, volumes, node.blocks);
         node.base = Content::new(self.alloc, volumes, node.blocks);
@@ -127,6 +128,7 @@ impl World {
         node.base.put_all(newly_kept(&node.log, node.safe, kept))?;
         node.log.truncate(kept as usize);
         node.state = SiteState::Down;
+        node.fed_by = node.other;
         node.safe = kept;
         node.halted = None;
         Ok(())
@@ -156,10 +158,12 @@ impl World {
         node.mark = Mark::Inconsistent;
         node.line = line;
         node.top = node.top.max(line.generation);
+        node.stood.push(line)?;
         node.phase = SPhase::Quiet;
         node.replay = replay;
         node.end = 0;
         node.other = primary;
+        node.fed_by = primary;
         node.log.clear();
         node.safe = 0;
         Ok(())

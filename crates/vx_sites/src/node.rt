@@ -23,12 +23,16 @@ pub struct Node {
     pub line: Line,
     /// The greatest generation that it ever stood on.
     pub top: u64,
+    /// The lines on which it ever stood, the first of them first.
+    pub stood: Vec<Line>,
     pub session: u64,
     pub mark: Mark,
     pub phase: SPhase,
     pub replay: u64,
     pub end: u64,
     pub other: u32,
+    /// Who sent the last update that it took; its primary, where it took none since it came up or joined its line.
+    pub fed_by: u32,
     /// What its volumes held at number 0 of its line.
     pub start: Content,
     /// What a crash keeps with the first `safe` writes.
@@ -59,12 +63,14 @@ impl Node {
                 origin: 0,
             },
             top: 0,
+            stood: Vec::new(alloc),
             session: 0,
             mark: Mark::Consistent,
             phase: SPhase::Quiet,
             replay: 0,
             end: 0,
             other: 0xffff_ffff,
+            fed_by: 0xffff_ffff,
             start: Content::new(alloc, 0, 0),
             base: Content::new(alloc, 0, 0),
             log: Vec::new(alloc),

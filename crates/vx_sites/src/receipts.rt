@@ -21,12 +21,14 @@ impl World {
         Some(self.packets[number as usize - 1])
     }
 
-    /// The site receives a write, which waits.
-    pub fn receive(&mut self, site: u32, write: Write) -> Result<(), OutOfMemory>
+    /// The site receives a write from the source, which waits.
+    pub fn receive(&mut self, site: u32, source: u32, write: Write) -> Result<(), OutOfMemory>
         requires { site < length self.old.nodes.items }
-        ensures { OnOk result (let w = world_of self.old in world_of self.new ≡ with_node w site (with_write (w.nodes site) write)) }
+        ensures { OnOk result (let w = world_of self.old in world_of self.new ≡ with_node w site (with_write (w.nodes site) source write)) }
     {
-        self.nodes[site as usize].log.push(write)?;
+        let node = &mut self.nodes[site as usize];
+        node.log.push(write)?;
+        node.fed_by = source;
         Ok(())
     }
 

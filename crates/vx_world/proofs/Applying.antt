@@ -31,8 +31,8 @@ apply_due w v s count number mark due is =
     ∙ sym (ap (λ (b : Bool). let x : Received = if b then record { state = r; action = DoesNothing } else with_applied r left in applied_by w s x.state x.action) due.some)
 
 pub acked : (w mid v : World) (s number : ℕ) (mark : Mark) (m : Node) → m ≡ w.nodes s → mid ≡ with_node w s (applied (w.nodes s) number mark)
-    → v ≡ sending mid (packets_of s m.other m.line (DataAck number)) → v ≡ acknowledged w s (applied (w.nodes s) number mark)
+    → v ≡ sending mid (packets_of s m.fed_by m.line (DataAck number)) → v ≡ acknowledged w s (applied (w.nodes s) number mark)
 acked w mid v s number mark m same changed sent =
     sent
-    ∙ ap (λ (x : World). sending x (packets_of s m.other m.line (DataAck number))) changed
-    ∙ ap (λ (n : Node). sending (with_node w s (applied (w.nodes s) number mark)) (packets_of s n.other n.line (DataAck number))) same
+    ∙ ap (λ (x : World). sending x (packets_of s m.fed_by m.line (DataAck number))) changed
+    ∙ ap (λ (n : Node). sending (with_node w s (applied (w.nodes s) number mark)) (packets_of s n.fed_by n.line (DataAck number))) same

@@ -89,7 +89,7 @@ module _ (p s : ℕ) (a : Node) (Q : World → Type 0) where
   -- what follows behind an update that was taken with one of so many parts
   abbrev pub Taken : Node → Link → List Packet → (k m n : ℕ) → Write → List Packet → Type 0
   Taken b l ps k m n x rest =
-      (w : World) (more : List Packet) → Acks b n more → length more ≤ m → At w p s a (with_write b x) l (ps ++ packet s p b.line (NetAck b.session n) 0 ∷ more)
+      (w : World) (more : List Packet) → Acks b n more → length more ≤ m → At w p s a (with_write b p x) l (ps ++ packet s p b.line (NetAck b.session n) 0 ∷ more)
       → IsIn (ps ++ packet s p b.line (NetAck b.session n) 0 ∷ more) (k + suc m) rest → IsYoung (ps ++ packet s p b.line (NetAck b.session n) 0 ∷ more)
       (k + suc m) → Q (run w (deliver_each (k + suc m) rest))
 
@@ -119,10 +119,10 @@ module _ (p s : ℕ) (a : Node) (Q : World → Type 0) where
       let ack : Packet = packet s p b.line (NetAck b.session n) 0 in
       let tail : List Packet = parts n x (j + 1) m ++ rest in
       let there : suc k + m ≡ k + suc m = omega arith in
-      let c : Node = with_write b x in
+      let c : Node = with_write b p x in
       let long : length (b.log ++ x ∷ []) ≡ n = omega (arith, next, length-append b.log (x ∷ [])) in
       known_run m (suc k) (j + 1) n x rest (step v (Deliver (suc k))).world c l (ps ++ ack ∷ [])
-      (taken_at v p s a b l ps at fit k n x j young (in_head ps k q tail is) next room whole) (fit_log p s a b l (b.log ++ x ∷ []) fit)
+      (taken_at v p s a b l ps at fit k n x j young (in_head ps k q tail is) next room whole) (fit_log p s a b l (b.log ++ x ∷ []) p fit)
       (omega (arith, long)) (in_more ps (ack ∷ []) (suc k) tail (in_tail ps k q tail is)) (young_more ps k ack young)
       (λ w more acks few at_w is_w young_w.
       let same : (ps ++ ack ∷ []) ++ more ≡ ps ++ ack ∷ more = append_assoc ps (ack ∷ []) more in
@@ -199,7 +199,8 @@ pub record Arrived (p s : ℕ) (a b : Node) (l : Link) (ps : List Packet) (xs : 
   pub are : AreAcks s p b.line b.session (length b.log + count) acks
   pub short : length acks ≤ size
   pub last : 0 < count → HasAck s p b.line b.session (length b.log + count) acks
-  pub at : At w p s a (record b { log = b.log ++ take count xs }) l (ps ++ acks)
+  pub fed : ℕ
+  pub at : At w p s a (record b { log = b.log ++ take count xs; fed_by = fed }) l (ps ++ acks)
 
 pub more_acks : (s p : ℕ) (line : Line) (session low high : ℕ) (qs : List Packet) → low ≤ high → AreAcks s p line session low qs → AreAcks s p line session high qs
 more_acks s p line session low high [] few are = tt
@@ -235,6 +236,7 @@ none_came v p s a b l ps xs size some at = record {
   are = tt;
   short = omega arith;
   last = λ h. absurd (omega (arith, h));
+  fed = b.fed_by;
   at = subst (λ (log : List Write). At v p s a (record b { log = log }) l (ps ++ [])) (sym (append-nil b.log))
       (subst (λ (qs : List Packet). At v p s a b l qs) (sym (append-nil ps)) at);
 }
@@ -247,7 +249,7 @@ parts_length p s line n x j (suc m) rest = omega (arith, parts_length p s line n
 -- one came, and then others
 pub one_came : (w : World) (p s : ℕ) (a b : Node) (l : Link) (ps more : List Packet) (n : ℕ) (x : Write) (xs : List Write) (size all : ℕ) → n ≡ length b.log + 1
     → AreAcks s p b.line b.session n more → length more + 1 + size ≤ all
-    → Arrived p s a (with_write b x) l (ps ++ packet s p b.line (NetAck b.session n) 0 ∷ more) xs size w → Arrived p s a b l ps (x ∷ xs) all w
+    → Arrived p s a (with_write b p x) l (ps ++ packet s p b.line (NetAck b.session n) 0 ∷ more) xs size w → Arrived p s a b l ps (x ∷ xs) all w
 one_came w p s a b l ps more n x xs size all next acks room rest =
     let ack : Packet = packet s p b.line (NetAck b.session n) 0 in
     let long : length (b.log ++ x ∷ []) ≡ length b.log + 1 = length-append b.log (x ∷ []) in
@@ -267,9 +269,10 @@ one_came w p s a b l ps more n x xs size all next acks room rest =
       );
       short = omega (arith, room, rest.short, length-append more rest.acks);
       last = λ _. by_count rest.count refl;
-      at = subst (λ (sent : List Packet). At w p s a (record b { log = b.log ++ take (suc rest.count) (x ∷ xs) }) l sent)
+      fed = rest.fed;
+      at = subst (λ (sent : List Packet). At w p s a (record b { log = b.log ++ take (suc rest.count) (x ∷ xs); fed_by = rest.fed }) l sent)
           (append_assoc ps (ack ∷ more) rest.acks)
-          (subst (λ (log : List Write). At w p s a (record b { log = log }) l ((ps ++ ack ∷ more) ++ rest.acks))
+          (subst (λ (log : List Write). At w p s a (record b { log = log; fed_by = rest.fed }) l ((ps ++ ack ∷ more) ++ rest.acks))
           (append_assoc b.log (x ∷ []) (take rest.count xs)) rest.at);
     }
   where
@@ -300,8 +303,8 @@ updates_any p s a (x ∷ xs) k n v b l ps at fit is next young =
     (none_below (v.gathering s) (message_key p a.line (Update n x))) is young
     (λ w more acks few at_w is_w young_w. one_came (run w (deliver_each (k + suc f) rest)) p s a b l ps more n x xs (length rest) size next acks
     (omega (arith, few, long))
-    (updates_any p s a xs (k + suc f) (n + 1) w (with_write b x) l (ps ++ packet s p b.line (NetAck b.session n) 0 ∷ more) at_w
-    (fit_log p s a b l (b.log ++ x ∷ []) fit) is_w
+    (updates_any p s a xs (k + suc f) (n + 1) w (with_write b p x) l (ps ++ packet s p b.line (NetAck b.session n) 0 ∷ more) at_w
+    (fit_log p s a b l (b.log ++ x ∷ []) p fit) is_w
     (omega (arith, next, length-append b.log (x ∷ []))) young_w)))
     (λ full. full_all p s a (λ w. Arrived p s a b l ps (x ∷ xs) size w) (x ∷ xs) k n v b l ps at fit (omega (arith, next)) full is young
     (λ w at_w. none_came w p s a b l ps (x ∷ xs) size (λ _ room. let e : true ≡ false = sym room ∙ full in absurd (cc)) at_w))

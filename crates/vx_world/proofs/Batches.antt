@@ -1,11 +1,12 @@
 -- Packets among all that were sent, and sites and links that settle still.
-use Rattle.std.proofs.Common.{◌≡◌, ◌∙◌, ℕ, zero, suc, ◌+◌, List, [], ◌∷◌, ◌++◌, length, refl, ap, subst, arith, Bool, true, false}
+use Rattle.std.proofs.Common.{◌≡◌, ◌∙◌, ℕ, zero, suc, ◌+◌, List, [], ◌∷◌, ◌++◌, length, refl, ap, sym, subst, arith, Bool, true, false}
+use Rattle.std.proofs.lemmas.Bool.Decides.{nat_tests}
 use Rattle.std.specs.Prelude.{slice_get, Some, eqb, ◌&&◌, ◌||◌, if◌then◌else◌}
 use Rattle.std.specs.List.{AllByRecursion}
 use Rattle.vx_model.specs.Content.{Write}
 use Rattle.vx_model.specs.declared.history.Line.{Line}
 use Rattle.vx_history.proofs.Updates.{eqb_self}
-use Rattle.vx_history.specs.World.{Node, Link, Packet, Message, Update}
+use Rattle.vx_history.specs.World.{Node, Link, Packet, Message, Update, Regions}
 use Rattle.vx_history.specs.Sends.{packet, packets_of, updates}
 use Rattle.vx_history.specs.declared.event.Event.{Event}
 use Rattle.vx_history.specs.declared.event.Event.TheVariants.{Deliver}
@@ -48,6 +49,19 @@ between_back p s line m part = either _ (eqb s s && eqb p p) (both (eqb s s) (eq
     either true b e = refl
     either false b e = e
 
+-- what the receiver says to a third site
+pub between_none : (p s q : ℕ) (line : Line) (m : Message) (part : ℕ) → (p ≡ s → ⊥) → eqb q p ≡ false → is_between p s (packet s q line m part) ≡ false
+between_none p s q line m part apart other = neither (eqb s p) (eqb q s) (eqb s s) (eqb q p) (differs s p (λ e. apart (sym e))) other
+  where
+    neither : (a b c d : Bool) → a ≡ false → d ≡ false → ((a && b) || (c && d)) ≡ false
+    neither false b true false e f = refl
+    neither false b false false e f = refl
+    neither true b c d e f = absurd (cc)
+    neither false b c true e f = absurd (cc)
+
+    differs : (m n : ℕ) → (m ≡ n → ⊥) → eqb m n ≡ false
+    differs m n h = grind (arith, nat_tests)
+
 -- the updates on a link
 pub updates_between : (p s : ℕ) (line : Line) (n : ℕ) (xs : List Write) → AllByRecursion (λ q. is_between p s q ≡ true) (updates p s line n xs)
 updates_between p s line n [] = tt
@@ -78,8 +92,8 @@ in_new [] ys j q e = subst (λ i. slice_get ys i ≡ Some q) (let f : j ≡ zero
 in_new (x ∷ xs) ys j q e = subst (λ i. slice_get (x ∷ xs ++ ys) i ≡ Some q) (let f : suc (length xs + j) ≡ suc (length xs) + j = omega arith in f)
     (in_new xs ys j q e)
 
-pub fit_log : (p s : ℕ) (a b : Node) (l : Link) (log : List Write) → Fit p s a b l → Fit p s a (record b { log = log }) l
-fit_log p s a b l log fit = record {
+pub fit_log : (p s : ℕ) (a b : Node) (l : Link) (log : List Write) (fed : ℕ) → Fit p s a b l → Fit p s a (record b { log = log; fed_by = fed }) l
+fit_log p s a b l log fed fit = record {
   apart = fit.apart;
   up_a = fit.up_a;
   up_b = fit.up_b;
@@ -89,7 +103,6 @@ fit_log p s a b l log fit = record {
   receives = fit.receives;
   line = fit.line;
   takes = fit.takes;
-  other = fit.other;
   linked = fit.linked;
   attached = fit.attached;
   connected = fit.connected;
@@ -109,7 +122,24 @@ fit_link p s a b l session net stored sent trimmed fit = record {
   receives = fit.receives;
   line = fit.line;
   takes = fit.takes;
-  other = fit.other;
+  linked = fit.linked;
+  attached = fit.attached;
+  connected = fit.connected;
+  running = fit.running;
+  mode = fit.mode;
+}
+
+pub fit_since : (p s : ℕ) (a b : Node) (l : Link) (since : Regions) → Fit p s a b l → Fit p s a b (record l { since = since })
+fit_since p s a b l since fit = record {
+  apart = fit.apart;
+  up_a = fit.up_a;
+  up_b = fit.up_b;
+  runs_a = fit.runs_a;
+  runs_b = fit.runs_b;
+  sends = fit.sends;
+  receives = fit.receives;
+  line = fit.line;
+  takes = fit.takes;
   linked = fit.linked;
   attached = fit.attached;
   connected = fit.connected;

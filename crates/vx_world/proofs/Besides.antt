@@ -130,9 +130,9 @@ module _ (s : ℕ) (w v : World) (twin : Twin s w v) where
 
   pub acknowledged_both : (p : ℕ) (n k : Node) → (p ≡ s → ⊥) → k ≡ n → Twin s (acknowledged w p n) (acknowledged v p k)
   acknowledged_both p n k apart e =
-      twin_sending s (with_node w p n) (with_node v p k) (twin_node s w v twin p n k apart e) (packets_of p n.other n.line (DataAck n.safe))
-      (packets_of p k.other k.line (DataAck k.safe))
-      (ap (λ (m : Node). packets_of p m.other m.line (DataAck m.safe)) e)
+      twin_sending s (with_node w p n) (with_node v p k) (twin_node s w v twin p n k apart e) (packets_of p n.fed_by n.line (DataAck n.safe))
+      (packets_of p k.fed_by k.line (DataAck k.safe))
+      (ap (λ (m : Node). packets_of p m.fed_by m.line (DataAck m.safe)) e)
 
   pub applied_both : (p : ℕ) (r : RState) (a : RAction) → (p ≡ s → ⊥) → Twin s (applied_by w p r a).world (applied_by v p r a).world
   applied_both p r act.Nothing apart = twin

@@ -1,5 +1,5 @@
 -- What was said of sites before stays true of later states of them.
-use Rattle.std.proofs.Common.{◌≡◌, ℕ, ◌≤◌, List, length, arith, refl, sym, ap, ◌∙◌, Bool, true}
+use Rattle.std.proofs.Common.{◌≡◌, ℕ, ◌≤◌, List, length, arith, refl, sym, ap, subst, ◌∙◌, Bool, true}
 use Rattle.std.specs.Prelude.{◌||◌}
 use Rattle.std.specs.List.{AllByRecursion}
 use Rattle.vx_model.specs.Content.{Write, IsPrefixOf}
@@ -15,7 +15,7 @@ use Rattle.vx_model.specs.declared.link.Mode.{Mode}
 use Rattle.vx_model.specs.declared.link.Mode.TheVariants.{Log, Dcm, Replay, Fork, Stale}
 use Rattle.vx_history.specs.Refusals.{keeps_links, is_bunker}
 use Rattle.vx_model.specs.declared.site.SiteState.TheVariants.{Up}
-use Rattle.vx_history.specs.Sound.{IsPresent, IsFollowed, HasStored, ModeSays, GoodLink, GoodMessage, GoodPacket, IsKept, GoodPromise, IsStranger, StrangerSays, IsBegun}
+use Rattle.vx_history.specs.Sound.{IsPresent, IsFollowed, HasStored, ModeSays, has_line, HasCome, GoodLink, GoodMessage, GoodPacket, IsKept, GoodPromise, IsStranger, StrangerSays}
 use Rattle.vx_world.proofs.Lists.{prefix_number, each_weaker}
 
 -- b may come of a on the same line: no number that a answered for is lost, but those of a session that is over. Its mark, its phase and its
@@ -29,6 +29,8 @@ pub record IsLater (a b : Node) : Type 0 where
   pub stored : (k : ℕ) → HasStored a k → HasStored b k
   pub present : b.state ≡ Up → b.session ≡ a.session → (a.state ≡ Up) × (length a.log ≤ length b.log)
   pub made : IsMade a → IsMade b
+  pub top : a.top ≤ b.top
+  pub stood : b.stood ≡ a.stood
 
 -- in the same phase of a replay to the same end, and no less consistent
 pub stored_still : (a b : Node) → a.safe ≤ b.safe → b.phase ≡ a.phase → b.end ≡ a.end → (a.mark ≡ Consistent → b.mark ≡ Consistent) → (k : ℕ)
@@ -46,6 +48,8 @@ later_same a = record {
   present = λ up _.
       (up, omega arith);
   made = λ m. m;
+  top = omega arith;
+  stood = refl;
 }
 
 -- who sends sends still
@@ -102,6 +106,7 @@ link_later f g p s a b c d l later_a later_b modes good =
       ends = λ is. (later_a.made (good.ends is).0, later_b.made (good.ends is).1);
       starts = λ is. sender_later a c later_a (good.starts is);
       apart = good.apart;
+      came = λ is. ap (λ (ls : List Line). has_line ls c.line) later_b.stood ∙ ap (λ (k : Line). has_line b.stood k) later_a.line ∙ good.came is;
       session = λ is. omega (arith, good.session is, later_b.session);
       stored = λ v. later_b.stored l.stored (good.stored (was v));
       net = λ v (up, same).
@@ -118,12 +123,19 @@ says_later to from to' from' f g (NetAck session number) h = λ q. h (g q)
 says_later to from to' from' f g (Hello session number stored) h = λ q. h (g q)
 says_later to from to' from' f g (DataAck number) h = λ q. h (g q)
 
+-- who came to a line came to it
+pub come_later : (f g : ℕ → Node) → ((i : ℕ) → IsLater (f i) (g i)) → (i : ℕ) (line : Line) → HasCome f i line → HasCome g i line
+come_later f g later i line h = record {
+  here = (later i).made h.here;
+  there = (later line.origin).made h.there;
+  top = omega (arith, h.top, (later i).top);
+  named = omega (arith, h.named, (later line.origin).top);
+  rises = λ e. subst (λ (k : Line). line.generation ≤ k.generation) (sym (later i).line) (h.rises (e ∙ ap (λ (k : Line). k.origin) (later i).line));
+}
+
 -- worlds of which one is later: its sites, their links and the lines
 module _ (f g : ℕ → Node) (links more : ℕ → ℕ → Link) (later : (i : ℕ) → IsLater (f i) (g i))
     (before : (l : Line) (i : ℕ) → IsStranger g more l i → IsStranger f links l i) where
-  pub begun_later : (line : Line) (i : ℕ) → IsBegun f line i → IsBegun g line i
-  begun_later line i (here, there) = ((later i).made here, (later line.origin).made there)
-
   pub packets_later : (h k : Line → History) → ((l : Line) → IsPrefixOf (h l).held (k l).held) → (ps : List Packet)
       → AllByRecursion (GoodPacket f links h) ps → AllByRecursion (GoodPacket g more k) ps
   packets_later h k grow ps good =
@@ -132,7 +144,7 @@ module _ (f g : ℕ → Node) (links more : ℕ → ℕ → Link) (later : (i : 
         said = message_later (f p.source) (g p.source) (later p.source) (h p.line).held (k p.line).held p.line (grow p.line) p.message q.said;
         known = says_later (IsStranger f links p.line p.target) (IsStranger f links p.line p.source) (IsStranger g more p.line p.target)
             (IsStranger g more p.line p.source) (before p.line p.target) (before p.line p.source) p.message q.known;
-        begun = begun_later p.line p.source q.begun;
+        came = ap (λ (ls : List Line). has_line ls p.line) (later p.source).stood ∙ q.came;
       })
       ps good
 
@@ -142,6 +154,6 @@ module _ (f g : ℕ → Node) (links more : ℕ → ℕ → Link) (later : (i : 
       (λ e q. record {
         kept = kept_later (f e.site) (g e.site) (later e.site) e.line e.number e.surety q.kept;
         known = λ r. q.known (before e.line e.site r);
-        begun = begun_later e.line e.site q.begun;
+        came = ap (λ (ls : List Line). has_line ls e.line) (later e.site).stood ∙ q.came;
       })
       es good

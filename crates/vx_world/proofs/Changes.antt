@@ -20,7 +20,7 @@ use Rattle.vx_history.proofs.Updates.{by_test, at_place}
 use Rattle.vx_history.proofs.GoodLemmas.{good_written, good_half_written, up_is_made, prefix_push}
 use Rattle.vx_history.specs.Sends.{packets_of, greeting}
 use Rattle.vx_history.specs.Events
-use Rattle.vx_history.specs.Sound.{IsWhole, GoodPacket, IsBegun, KnownNode, Sound}
+use Rattle.vx_history.specs.Sound.{IsWhole, GoodPacket, CameTo, KnownNode, Sound}
 use Rattle.vx_world.proofs.Lists.{prefix_refl, not_both}
 use Rattle.vx_world.proofs.Moves.{sound_sending, sound_with_links, sound_with_node, sound_with_history, good_later, at_changed, stays_fed}
 use Rattle.vx_world.proofs.Tests.{Keeps, unless_keeps}
@@ -54,6 +54,8 @@ written_keeps w p x s works =
     (s.fed p)
     (s.takes p)
     (λ _ _ _ _. (s.good.nodes p).origin_mark works.origin)
+    (s.newest p)
+    (s.stands p)
     (stays_fed w p (logged n x) (λ m. m) (λ t. t))
     (origin_known w p (logged n x) works.origin)
 
@@ -67,6 +69,8 @@ half_written_keeps w p x disk s works =
     (s.fed p)
     (s.takes p)
     (λ _ none. absurd (cc))
+    (s.newest p)
+    (s.stands p)
     (stays_fed w p m (λ m. m) (λ t. t))
     (origin_known w p m works.origin)
 
@@ -83,8 +87,8 @@ written_if_keeps (Goes changes) w p x fails s works =
 -- ## What sites say
 
 module _ (v : World) (q t : ℕ) (s : Sound v) (made : IsMade (v.nodes q)) where
-  line_begun : IsBegun v.nodes (v.nodes q).line q
-  line_begun = (made, s.good.begun q made)
+  line_came : CameTo v.nodes (v.nodes q).line q
+  line_came = s.stands q made
 
   -- a receiver tells what it has
   pub greeting_good : is_origin (v.nodes q).role ≡ false → (v.nodes q).state ≡ Up → (v.nodes q).halted ≡ None
@@ -94,7 +98,7 @@ module _ (v : World) (q t : ℕ) (s : Sound v) (made : IsMade (v.nodes q)) where
       (λ _. record {
         said = (omega arith, λ _ _. omega arith, λ _. (omega arith, s.marked q up runs));
         known = λ g. (s.known q made r g, omega (arith, (s.good.nodes q).safe_fits, s.known q made r g));
-        begun = line_begun;
+        came = line_came;
       })
 
   -- and acknowledges what it has on disk, or in memory
@@ -105,7 +109,7 @@ module _ (v : World) (q t : ℕ) (s : Sound v) (made : IsMade (v.nodes q)) where
       (λ _. record {
         said = λ _. (omega arith, s.marked q up runs);
         known = λ g. omega (arith, (s.good.nodes q).safe_fits, s.known q made r g);
-        begun = line_begun;
+        came = line_came;
       })
 
   pub memory_good : (number : ℕ) → is_origin (v.nodes q).role ≡ false → number ≤ length (v.nodes q).log
@@ -115,7 +119,7 @@ module _ (v : World) (q t : ℕ) (s : Sound v) (made : IsMade (v.nodes q)) where
       (λ _. record {
         said = (omega arith, λ _ _. has);
         known = λ g. omega (arith, has, s.known q made r g);
-        begun = line_begun;
+        came = line_came;
       })
 
 -- ## Records that are applied
@@ -123,10 +127,10 @@ module _ (v : World) (q t : ℕ) (s : Sound v) (made : IsMade (v.nodes q)) where
 acknowledged_keeps : (w : World) (q : ℕ) (n : Node) → Sound w → Sound (with_node w q n) → IsMade n → is_origin n.role ≡ false
     → n.state ≡ Up → n.halted ≡ None → Sound (Events.acknowledged w q n)
 acknowledged_keeps w q n s v made r up runs =
-    sound_sending (with_node w q n) (packets_of q n.other n.line (DataAck n.safe)) v
-    (subst (λ (x : Node). AllByRecursion (GoodPacket (updated w.nodes q n) w.links w.lines) (packets_of q n.other x.line (DataAck x.safe)))
+    sound_sending (with_node w q n) (packets_of q n.fed_by n.line (DataAck n.safe)) v
+    (subst (λ (x : Node). AllByRecursion (GoodPacket (updated w.nodes q n) w.links w.lines) (packets_of q n.fed_by x.line (DataAck x.safe)))
     (at_place w.nodes q n)
-    (disk_good (with_node w q n) q n.other v (at_changed IsMade w.nodes q n made) (at_changed (λ (x : Node). is_origin x.role ≡ false) w.nodes q n r)
+    (disk_good (with_node w q n) q n.fed_by v (at_changed IsMade w.nodes q n made) (at_changed (λ (x : Node). is_origin x.role ≡ false) w.nodes q n r)
     (at_changed (λ (x : Node). x.state ≡ Up) w.nodes q n up) (at_changed (λ (x : Node). x.halted ≡ None) w.nodes q n runs)))
 
 pub apply_keeps : (w : World) (q count : ℕ) → Sound w → (w.nodes q).state ≡ Up → (w.nodes q).halted ≡ None → is_origin (w.nodes q).role ≡ false → Keeps (Events.apply_at w q count)
@@ -160,6 +164,8 @@ apply_keeps w q count s up runs r =
         (s.fed q)
         (s.takes q)
         (λ _ _. ends)
+        (s.newest q)
+        (s.stands q)
         (stays_fed w q m marks (λ t. t))
         (λ is not g. s.known q made not g))
         made r up runs

@@ -50,6 +50,8 @@ origin_crash_keeps w q k s made o least most =
     (s.fed q)
     (s.takes q)
     (λ up. absurd (let e : Down ≡ Up = up in cc))
+    (s.newest q)
+    (λ _. s.stands q made)
     (stays_fed w q (crashed n k) (λ m. m) (λ t. t))
     (origin_known w q (crashed n k) o)
 
@@ -65,6 +67,8 @@ receiver_crash_keeps w q k s made r least most =
     (s.fed q)
     (s.takes q)
     (λ up. absurd (let e : Down ≡ Up = up in cc))
+    (s.newest q)
+    (λ _. s.stands q made)
     (stays_fed w q (crashed n k) (λ m. m) (λ t. t))
     (λ _ _ g. omega (arith, s.known q made r g, length-take k n.log))
 
@@ -101,6 +105,8 @@ risen_keeps w q mark s down marks same ends =
     (s.fed q)
     (s.takes q)
     (λ _ _. marked (is_origin n.role) refl)
+    (s.newest q)
+    (λ _. s.stands q made)
     (stays_fed w q m marks (λ t. t))
     (λ _ r g. s.known q made r g) in
     let v : World = with_links u q (λ to. Events.restarted_link m to (w.links q to)) in
@@ -133,6 +139,8 @@ recovery_keeps w q (Some disk) s down =
     (s.fed q)
     (s.takes q)
     (λ up. absurd (let e : Down ≡ Up = sym down ∙ up in cc))
+    (s.newest q)
+    (s.stands q)
     (stays_fed w q (record n { session = n.session + 1 }) (λ m. m) (λ t. t))
     (s.known q)
 
@@ -153,5 +161,7 @@ fault_keeps w q disk s up =
     (s.fed q)
     (s.takes q)
     (λ _ none. absurd (cc))
+    (s.newest q)
+    (s.stands q)
     (stays_fed w q (record n { halted = Some disk; fuse = burned n.fuse }) (λ m. m) (λ t. t))
     (s.known q)

@@ -38,12 +38,12 @@ moved_and_sent w mid new p s e a moved asked sent =
 
 -- an update is taken and acknowledged
 pub taken_and_told : (w mid new : World) (p : Packet) (x : Write) (whole : Bool) (number : ℕ) → whole ≡ true
-    → mid ≡ with_node w p.target (with_write (w.nodes p.target) x)
+    → mid ≡ with_node w p.target (with_write (w.nodes p.target) p.source x)
     → new ≡ from_memory mid (mid.nodes p.target) p number → says new Taken ≡ taken_if whole w p x number
 taken_and_told w mid new p x whole number is put told =
-    let puts : World = with_node w p.target (with_write (w.nodes p.target) x) in
+    let puts : World = with_node w p.target (with_write (w.nodes p.target) p.source x) in
     ap (λ (v : World). says v Taken)
     (told
     ∙ ap (λ (v : World). from_memory v (v.nodes p.target) p number) put
-    ∙ ap (λ (n : Node). from_memory puts n p number) (at_place w.nodes p.target (with_write (w.nodes p.target) x)))
+    ∙ ap (λ (n : Node). from_memory puts n p number) (at_place w.nodes p.target (with_write (w.nodes p.target) p.source x)))
     ∙ ap (λ (b : Bool). taken_if b w p x number) (sym is)

@@ -28,7 +28,7 @@ use Rattle.vx_history.specs.Refusals.{Outcome, says, unless, is_running, keeps_l
 use Rattle.vx_model.specs.Sites.{is_up}
 use Rattle.vx_history.specs.Events
 use Rattle.vx_history.specs.Gatherings.{completes}
-use Rattle.vx_model.specs.declared.limits.TheConstants.{MOST_PACKETS}
+use Rattle.vx_model.specs.declared.limits.TheConstants.{MOST_AHEAD, MOST_PACKETS}
 use Rattle.vx_history.specs.Sound.{GoodLink, GoodMessage, GoodPacket, IsStranger, StrangerSays, Sound}
 use Rattle.vx_world.proofs.Lists.{prefix_refl, prefix_trans, prefix_take, each_found, not_true, not_both}
 use Rattle.vx_world.proofs.Moves.{sound_gathering, sound_sending, sound_promising, sound_with_link, sound_with_node, good_later, stranger_of_links, still_linked, stays_fed}
@@ -68,7 +68,7 @@ pump_keeps w p q s up linked =
     let n : Node = w.nodes p in
     let l : PlainLink = plain_link q (w.links p q) in
     let low : ℕ = max l.sent l.stored in
-    let high : ℕ = min n.safe (l.net + 8) in
+    let high : ℕ = min n.safe (l.net + MOST_AHEAD) in
     by_test (λ (r : Sent). Sound (Events.moved_by w p q r)) (is_live l && by_log l.mode) (pumped_up_to l low high) (with_nothing l)
     (λ _. by_test (λ (r : Sent). Sound (Events.moved_by w p q r)) (ltb low high)
     (record { link = record l { sent = high }; action = Updates (low + 1) high }) (with_nothing (record l { sent = low }))
@@ -90,7 +90,7 @@ pump_keeps w p q s up linked =
         (λ number x is _. record {
           said = is;
           known = λ g. apart made (stranger_of_links w.nodes w.links (with_link w p q m).links (still_linked w p q m (λ is. is)) n.line q g);
-          begun = (made, s.good.begun p made);
+          came = s.stands p made;
         })
         (low + 1) high (omega arith) most)
       where
@@ -180,7 +180,7 @@ update_keeps w p number x s up is known =
     whole r c =
         let n : Node = w.nodes p.target in
         let made : IsMade n = up_is_made n up in
-        let m : Node = Events.with_write n x in
+        let m : Node = Events.with_write n p.source x in
         let t : RState = plain_receiver n in
         let room : Bool = ltb t.waiting 16 && phase_takes t.phase in
         let e : p.line ≡ n.line = same_line_equal p.line n.line (and_left (same_line p.line n.line) (eqb number (length n.log + 1) && room) c) in
@@ -189,12 +189,14 @@ update_keeps w p number x s up is known =
         let here : IsNumber (w.lines n.line).held number x = subst (λ (l : Line). IsNumber (w.lines l).held number x) e is in
         let none : IsStranger w.nodes w.links n.line p.target → ⊥ = subst (λ (l : Line). IsStranger w.nodes w.links l p.target → ⊥) e known in
         let v : Sound (with_node w p.target m) = sound_with_node w p.target m s
-        (good_later w p.target m s.good made refl (λ is. is) (Nodes.good_taken (w.lines n.line) p.target n x number made r here next (s.good.nodes p.target)))
-        (Nodes.later_longer n x n.halted n.fuse)
+        (good_later w p.target m s.good made refl (λ is. is) (Nodes.good_taken (w.lines n.line) p.target n p.source x number made r here next (s.good.nodes p.target)))
+        (Nodes.later_taken n p.source x)
         (up_whole m up)
         (s.fed p.target)
         (s.takes p.target)
         (s.marked p.target)
+        (s.newest p.target)
+        (s.stands p.target)
         (stays_fed w p.target m (λ m. m) (λ t. t))
         (λ _ _ g. absurd (none g)) in
         from_memory_keeps (with_node w p.target m) p m number v (at_place w.nodes p.target m) made r (omega (arith, next, length-append n.log (x ∷ [])))
@@ -264,6 +266,6 @@ wait_keeps w p number s up o =
     (λ q linked. (
       no_stranger w.nodes w.links p q (w.nodes p).line
           ((s.good.nodes p).own_line made o) linked,
-      (((s.links p q).ends linked).1, s.good.begun p made),
+      (s.links p q).came linked,
     ))
     (s.links p) w.sites u h))))

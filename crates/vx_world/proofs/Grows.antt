@@ -11,13 +11,14 @@ use Rattle.vx_history.specs.World.{World, Node, Link as LinkRecord, History, Gat
 use Rattle.vx_model.specs.Sites.{is_origin}
 use Rattle.vx_history.specs.Steps.{burned, logged, told_of, written, half_written, crashed, crash_left, site_made, raw_made, raw_set, raw_history, stopped_by}
 use Rattle.vx_history.specs.Good.{IsMade}
+use Rattle.vx_model.specs.declared.history.Line.{Line}
 use Rattle.vx_model.specs.declared.link.SyncMode.{SyncMode}
 use Rattle.vx_model.specs.declared.link.Prot.TheVariants.{Fail as FailsWhenFull}
 use Rattle.vx_model.specs.declared.site.Mark.TheVariants.{Consistent}
 use Rattle.vx_model.specs.declared.site.SiteState.{SiteState}
 use Rattle.vx_model.specs.declared.site.SiteState.TheVariants.{Bare, Up, Deported, Down}
 use Rattle.vx_history.specs.declared.sender.SEvent.{SEvent}
-use Rattle.vx_history.specs.declared.sender.SEvent.TheVariants.{Connect as ConnectLink, Pump as PumpLink, Tick as TickLink, Cut as CutLink, Pause as PauseLink, Resume as ResumeLink, Hello as HearHello, NetAck as HearNetAck, DataAck as HearDataAck}
+use Rattle.vx_history.specs.declared.sender.SEvent.TheVariants.{Connect as ConnectLink, Pump as PumpLink, Cut as CutLink, Pause as PauseLink, Resume as ResumeLink, Hello as HearHello, NetAck as HearNetAck, DataAck as HearDataAck}
 use Rattle.vx_history.specs.declared.receiver.REvent.TheVariants.{Update as HearUpdate, Applied}
 use Rattle.vx_history.specs.declared.receiver.RState.{RState}
 use Rattle.vx_history.specs.declared.receiver.RAction.{RAction}
@@ -40,9 +41,10 @@ use Rattle.vx_history.specs.Gatherings.{completes, emptied}
 use Rattle.vx_history.specs.Step.{done, outcome_of, step, run, link_part}
 use Rattle.vx_history.specs.Sends.{is_linked, with_link, with_links, sending, promising, sent_by}
 use Rattle.vx_model.specs.declared.limits.TheConstants.{MOST_DISKS, MOST_LINKS, MOST_SITES}
-use Rattle.vx_history.specs.Sound.{Sound}
+use Rattle.vx_history.specs.Sound.{has_line, Sound}
 use Rattle.vx_world.specs.Grown.{Grown}
 use Rattle.vx_world.proofs.Lists.{prefix_refl, prefix_trans, prefix_more, prefix_take, not_false}
+use Rattle.vx_world.proofs.Stood.{more_lines}
 use Rattle.vx_world.proofs.Guards
 use Rattle.vx_world.proofs.Nodes
 use Rattle.vx_world.proofs.Changes.{links_changed_keeps}
@@ -57,6 +59,7 @@ grown_same w = record {
   held = λ l _. prefix_refl (w.lines l).held;
   told = λ l _. omega arith;
   made = λ i made. made;
+  came = λ i _ l h. h;
   sent = ([], sym (append-nil w.packets));
   promised = ([], sym (append-nil w.promised));
 }
@@ -66,6 +69,7 @@ grown_trans u v w g h = record {
   held = λ l made. prefix_trans (u.lines l).held (v.lines l).held (w.lines l).held (g.held l made) (h.held l (g.made l.origin made));
   told = λ l made. omega (arith, g.told l made, h.told l (g.made l.origin made));
   made = λ i made. h.made i (g.made i made);
+  came = λ i made l c. h.came i (g.made i made) l (g.came i made l c);
   sent = (g.sent.0 ++ h.sent.0, h.sent.1 ∙ ap (λ (t : List Packet). t ++ h.sent.0) g.sent.1 ∙ append_assoc u.packets g.sent.0 h.sent.0);
   promised = (
     g.promised.0 ++ h.promised.0,
@@ -76,16 +80,17 @@ grown_trans u v w g h = record {
 
 module _ (w v : World) (g : Grown w v) where
   grown_links : (f : ℕ → ℕ → LinkRecord) → Grown w (record v { links = f })
-  grown_links f = record { held = g.held; told = g.told; made = g.made; sent = g.sent; promised = g.promised }
+  grown_links f = record { held = g.held; told = g.told; made = g.made; came = g.came; sent = g.sent; promised = g.promised }
 
   grown_gathering : (f : ℕ → Option Gathering) → Grown w (record v { gathering = f })
-  grown_gathering f = record { held = g.held; told = g.told; made = g.made; sent = g.sent; promised = g.promised }
+  grown_gathering f = record { held = g.held; told = g.told; made = g.made; came = g.came; sent = g.sent; promised = g.promised }
 
   grown_sending : (more : List Packet) → Grown w (sending v more)
   grown_sending more = record {
     held = g.held;
     told = g.told;
     made = g.made;
+    came = g.came;
     sent = (g.sent.0 ++ more, ap (λ (t : List Packet). t ++ more) g.sent.1 ∙ append_assoc w.packets g.sent.0 more);
     promised = g.promised;
   }
@@ -95,26 +100,33 @@ module _ (w v : World) (g : Grown w v) where
     held = g.held;
     told = g.told;
     made = g.made;
+    came = g.came;
     sent = g.sent;
     promised = (g.promised.0 ++ more, ap (λ (t : List Promise). t ++ more) g.promised.1 ∙ append_assoc w.promised g.promised.0 more);
   }
 
-grown_node : (w : World) (i : ℕ) (n : Node) → (IsMade (w.nodes i) → IsMade n) → Grown w (with_node w i n)
-grown_node w i n stays = record {
+-- the site stood where it stood
+abbrev StoodMore : Node → Node → Type 0
+StoodMore a n = IsMade a → (l : Line) → has_line a.stood l ≡ true → has_line n.stood l ≡ true
+
+grown_node : (w : World) (i : ℕ) (n : Node) → (IsMade (w.nodes i) → IsMade n) → StoodMore (w.nodes i) n → Grown w (with_node w i n)
+grown_node w i n stays stood = record {
   held = λ l _. prefix_refl (w.lines l).held;
   told = λ l _. omega arith;
   made = all_updated (λ k (m : Node). IsMade (w.nodes k) → IsMade m) w.nodes i n stays (λ k _ made. made);
+  came = all_updated (λ k (m : Node). StoodMore (w.nodes k) m) w.nodes i n stood (λ k _ _ l h. h);
   sent = ([], sym (append-nil w.packets));
   promised = ([], sym (append-nil w.promised));
 }
 
-grown_history : (w : World) (i : ℕ) (n : Node) (h : History) → (IsMade (w.nodes i) → IsMade n)
+grown_history : (w : World) (i : ℕ) (n : Node) (h : History) → (IsMade (w.nodes i) → IsMade n) → StoodMore (w.nodes i) n
     → (IsMade (w.nodes n.line.origin) → IsPrefixOf (w.lines n.line).held h.held × ((w.lines n.line).told ≤ h.told)) → Grown w (with_history w i n h)
-grown_history w i n h stays grows = record {
+grown_history w i n h stays stood grows = record {
   held = all_lines (λ l (r : History). IsMade (w.nodes l.origin) → IsPrefixOf (w.lines l).held r.held) w.lines n.line h (λ made. (grows made).0)
       (λ l _ _. prefix_refl (w.lines l).held);
   told = all_lines (λ l (r : History). IsMade (w.nodes l.origin) → (w.lines l).told ≤ r.told) w.lines n.line h (λ made. (grows made).1) (λ l _ _. omega arith);
   made = all_updated (λ k (m : Node). IsMade (w.nodes k) → IsMade m) w.nodes i n stays (λ k _ made. made);
+  came = all_updated (λ k (m : Node). StoodMore (w.nodes k) m) w.nodes i n stood (λ k _ _ l h. h);
   sent = ([], sym (append-nil w.packets));
   promised = ([], sym (append-nil w.promised));
 }
@@ -129,11 +141,11 @@ put_grows : (w v : World) (p : ℕ) (x : Write) (fails : Option ℕ) → Sound v
 put_grows w v p x None s g =
     let n : Node = v.nodes p in
     grown_trans w v (written v p x) g
-    (grown_history v p (logged n x) (told_of (v.lines n.line) x) (λ made. made)
+    (grown_history v p (logged n x) (told_of (v.lines n.line) x) (λ made. made) (λ _ _ h. h)
     (λ _. (prefix_more (v.lines n.line).held (x ∷ []), omega (arith, s.good.told n.line))))
 put_grows w v p x (Some disk) s g =
     grown_trans w v (half_written v p x disk) g
-    (grown_node v p (record (v.nodes p) { log = (v.nodes p).log ++ x ∷ []; halted = Some disk; fuse = burned (v.nodes p).fuse }) (λ made. made))
+    (grown_node v p (record (v.nodes p) { log = (v.nodes p).log ++ x ∷ []; halted = Some disk; fuse = burned (v.nodes p).fuse }) (λ made. made) (λ _ _ h. h))
 
 written_grows : (admitted : Admitted) (w : World) (p : ℕ) (x : Write) (fails : Option ℕ) → Sound w → Sound (Events.links_changed w p x)
     → Leaves w (Events.written_if admitted w p x fails)
@@ -149,7 +161,7 @@ applied_grows w q r (IgnoredAck number) = grown_same w
 applied_grows w q r (Take number) = grown_same w
 applied_grows w q r (AcksFromDisk number) =
     let n : Node = Events.applied (w.nodes q) number r.mark in
-    grown_sending w (with_node w q n) (grown_node w q n (λ made. made)) _
+    grown_sending w (with_node w q n) (grown_node w q n (λ made. made) (λ _ _ h. h)) _
 
 moved_grows : (w : World) (p q : ℕ) (e : SEvent) → Grown w (Events.link_event w p q e)
 moved_grows w p q e =
@@ -170,8 +182,8 @@ taken_grows w p x (Take number) = by_whole (completes (w.gathering p.target) p)
   where
     by_whole : (b : Bool) → Leaves w (Events.taken_if b w p x number)
     by_whole true =
-        let n : Node = Events.with_write (w.nodes p.target) x in
-        grown_sending w (with_node w p.target n) (grown_node w p.target n (λ made. made)) _
+        let n : Node = Events.with_write (w.nodes p.target) p.source x in
+        grown_sending w (with_node w p.target n) (grown_node w p.target n (λ made. made) (λ _ _ h. h)) _
     by_whole false = grown_same w
 taken_grows w p x (AcksFromDisk number) = grown_same w
 
@@ -206,14 +218,14 @@ crash_grows w q k s up least =
     grown_gathering w (with_links (Events.crash_world w q k) q row)
     (by_test (λ (v : World). Grown w (with_links v q row)) (is_origin n.role) (crash_left w q k) (with_node w q (crashed n k))
     (λ o. grown_links w (crash_left w q k)
-    (grown_history w q (crashed n k) (record (w.lines n.line) { held = take k n.log }) (λ _ e. cc)
+    (grown_history w q (crashed n k) (record (w.lines n.line) { held = take k n.log }) (λ _ e. cc) (λ _ _ h. h)
     (λ _. (
       subst (λ t. IsPrefixOf t (take k n.log)) (take-take n.safe k n.log least ∙ (s.good.nodes q).origin_log made o)
           (prefix_take n.safe (take k n.log)),
       omega arith,
     )))
     (with_links (crash_left w q k) q row).links)
-    (λ _. grown_links w (with_node w q (crashed n k)) (grown_node w q (crashed n k) (λ _ e. cc)) (with_links (with_node w q (crashed n k)) q row).links)) _
+    (λ _. grown_links w (with_node w q (crashed n k)) (grown_node w q (crashed n k) (λ _ e. cc) (λ _ _ h. h)) (with_links (with_node w q (crashed n k)) q row).links)) _
 
 recovery_grows : (w : World) (q : ℕ) (fails : Option ℕ) → Leaves w (Events.recovery w q fails)
 recovery_grows w q None =
@@ -223,8 +235,8 @@ recovery_grows w q None =
     let m : Node = Nodes.risen (w.nodes q) mark in
     let v : World = with_node w q m in
     let u : World = with_links v q (λ to. Events.restarted_link m to (w.links q to)) in
-    grown_sending w u (grown_links w v (grown_node w q m (λ _ e. cc)) u.links) (Events.recovery_greeting q m))
-recovery_grows w q (Some disk) = grown_node w q (record (w.nodes q) { session = (w.nodes q).session + 1 }) (λ made. made)
+    grown_sending w u (grown_links w v (grown_node w q m (λ _ e. cc) (λ _ _ h. h)) u.links) (Events.recovery_greeting q m))
+recovery_grows w q (Some disk) = grown_node w q (record (w.nodes q) { session = (w.nodes q).session + 1 }) (λ made. made) (λ _ _ h. h)
 
 recover_grows : (w : World) (q : ℕ) (state : SiteState) (fails : Option ℕ) → Leaves w (Events.recover_from state w q fails)
 recover_grows w q Bare fails = grown_same w
@@ -235,11 +247,11 @@ recover_grows w q Down fails = Guards.unless_holds (Grown w) _ _ w (Events.recov
 site_grows : (w : World) (name : List ℕ) (disks blocks : ℕ) → Sound w → Grown w (site_made w name disks blocks)
 site_grows w name disks blocks s =
     let g : Grown w (with_node w w.sites (bare_site name disks blocks)) = grown_node w w.sites (bare_site name disks blocks)
-    (λ made. absurd (made (s.good.later w.sites (omega arith)))) in
-    record { held = g.held; told = g.told; made = g.made; sent = g.sent; promised = g.promised }
+    (λ made. absurd (made (s.good.later w.sites (omega arith)))) (λ made. absurd (made (s.good.later w.sites (omega arith)))) in
+    record { held = g.held; told = g.told; made = g.made; came = g.came; sent = g.sent; promised = g.promised }
 
 raw_grows : (w : World) (q : ℕ) → (w.nodes q).state ≡ Bare → Grown w (raw_made w q)
-raw_grows w q bare = grown_history w q (raw_set q (w.nodes q)) (raw_history (w.nodes q)) (λ made. absurd (made bare)) (λ made. absurd (made bare))
+raw_grows w q bare = grown_history w q (raw_set q (w.nodes q)) (raw_history (w.nodes q)) (λ made. absurd (made bare)) (λ made. absurd (made bare)) (λ made. absurd (made bare))
 
 link_part_grows : (part : LinkPart) (w : World) (p q : ℕ) (sync : SyncMode) → (w.nodes q).state ≡ Up → Leaves w (link_part part w p q sync)
 link_part_grows Joins w p q sync up =
@@ -251,7 +263,8 @@ link_part_grows Joins w p q sync up =
     (λ _. Guards.unless_holds (Grown w) (is_linked (w.links p q)) (Exists (w.nodes q).name) w few (grown_same w)
     (λ _. Guards.unless_holds (Grown w) (leb MOST_LINKS (links_of w p)) (Limit Links MOST_LINKS) w fits (grown_same w)
     (λ _. Guards.unless_holds (Grown w) (not (agree (w.nodes p).volumes (w.nodes q).volumes && rings_fit (w.nodes p) (w.nodes q))) Size w o (grown_same w)
-    (λ _. grown_gathering w joins (grown_node w q (Events.joined (w.nodes p) p (w.nodes q)) (λ made. made)) _))))
+    (λ _. grown_gathering w joins (grown_node w q (Events.joined (w.nodes p) p (w.nodes q)) (λ made. made)
+    (λ _ l h. more_lines (w.nodes q).stood ((w.nodes p).line ∷ []) l h)) _))))
 link_part_grows Made w p q sync up =
     let l : LinkRecord = Events.new_link (links_of w p) sync (w.nodes q) in
     Guards.unless_holds (Grown w) (not (is_primary (w.nodes p).role && follows w p q)) WrongRole w
@@ -260,7 +273,7 @@ link_part_grows Made w p q sync up =
     (λ _. grown_links w w (grown_same w) (with_link w p q l).links))
 link_part_grows Marked w p q sync up =
     Guards.unless_holds (Grown w) _ WrongRole w (done (with_node w q (record (w.nodes q) { mark = Consistent }))) (grown_same w)
-    (λ _. grown_node w q (record (w.nodes q) { mark = Consistent }) (λ made. made))
+    (λ _. grown_node w q (record (w.nodes q) { mark = Consistent }) (λ made. made) (λ _ _ h. h))
 link_part_grows Opened w p q sync up =
     let l : LinkRecord = Events.opened (w.links p q) (w.nodes p).safe in
     Guards.unless_holds (Grown w) _ WrongRole w (done (with_link w p q l)) (grown_same w) (λ _. grown_links w w (grown_same w) (with_link w p q l).links)
@@ -301,7 +314,9 @@ outcome_grows w (Apply q count reached) s =
 outcome_grows w (Pump p q) s =
     Guards.on_link_holds (Grown w) keeps_links w p q _ (grown_same w)
     (λ _ _ _. Guards.when_live_holds (Grown w) w q (w.links p q) (done (Events.link_event w p q PumpLink)) (grown_same w) (moved_grows w p q PumpLink))
-outcome_grows w (Tick p q) s = on_link_grows w p q TickLink
+outcome_grows w (Tick p q) s =
+    Guards.on_link_holds (Grown w) keeps_links w p q (done (Events.ticked_at w p q)) (grown_same w)
+    (λ _ _ _. grown_links w w (grown_same w) (Events.ticked_at w p q).links)
 outcome_grows w (Deliver number) s = delivered_grows w number (Events.packet_at w.packets number)
 outcome_grows w (Connect p q) s =
     let v : World = Events.link_event w p q ConnectLink in
@@ -342,12 +357,12 @@ outcome_grows w (Recover q fails) s = Guards.at_site_holds (Grown w) w q _ (grow
 outcome_grows w (Fault q disk) s =
     Guards.at_site_holds (Grown w) w q _ (grown_same w)
     (λ _. Guards.unless_holds (Grown w) (not (is_up (w.nodes q).state)) NotUp w (says (stopped_by w q disk) _) (grown_same w)
-    (λ _. grown_node w q (record (w.nodes q) { halted = Some disk; fuse = burned (w.nodes q).fuse }) (λ made. made)))
+    (λ _. grown_node w q (record (w.nodes q) { halted = Some disk; fuse = burned (w.nodes q).fuse }) (λ made. made) (λ _ _ h. h)))
 
 -- whatever headers it writes
 pub step_grows : (w : World) (e : Event) → Sound w → Leaves w (step w e)
 step_grows w e s = let g : Grown w
-    (outcome_of w e).world = outcome_grows w e s in record { held = g.held; told = g.told; made = g.made; sent = g.sent; promised = g.promised }
+    (outcome_of w e).world = outcome_grows w e s in record { held = g.held; told = g.told; made = g.made; came = g.came; sent = g.sent; promised = g.promised }
 
 pub run_grows : (w : World) (events : List Event) → Sound w → Grown w (run w events)
 run_grows w [] s = grown_same w

@@ -1,9 +1,9 @@
 -- Sites that are made, and the events of a link, keep what holds of the world.
-use Rattle.std.proofs.Common.{◌≡◌, ℕ, ◌+◌, ◌≤◌, ◌<◌, List, length, refl, ap, sym, ◌∙◌, subst, arith, Bool, true, false, inl}
+use Rattle.std.proofs.Common.{◌≡◌, ℕ, ◌+◌, ◌≤◌, ◌<◌, List, [], ◌∷◌, length, refl, ap, sym, ◌∙◌, subst, arith, Bool, true, false, inl}
 use Rattle.std.specs.Prelude.{None, if◌then◌else◌, eqb, leb, not, ◌&&◌, ◌||◌, zero, suc, bytes_eq, ltb}
 use Rattle.std.proofs.lemmas.Bool.{eq-eqb}
 use Rattle.std.proofs.lemmas.Bool.Decides.{nat_tests}
-use Rattle.vx_history.specs.World.{World, Node, History, line_updated, with_node, bare_site}
+use Rattle.vx_history.specs.World.{World, Node, History, updated, line_updated, with_node, bare_site}
 use Rattle.vx_model.specs.Sites.{is_origin, same_line}
 use Rattle.vx_history.specs.Receiving.{phase_takes}
 use Rattle.vx_history.specs.Steps.{site_made, raw_made, raw_set, raw_history}
@@ -19,7 +19,7 @@ use Rattle.vx_model.specs.declared.site.SiteState.TheVariants.{Bare, Up}
 use Rattle.vx_model.specs.declared.link.SyncMode.{SyncMode}
 use Rattle.vx_model.specs.declared.no.No.TheVariants.{Exists, Size, Role as WrongRole, Limit}
 use Rattle.vx_model.specs.declared.no.Counted.TheVariants.{Sites, Disks, Links}
-use Rattle.vx_history.proofs.Updates.{by_test, and_left, and_right, same_line_equal}
+use Rattle.vx_history.proofs.Updates.{by_test, and_left, and_right, same_line_equal, at_place}
 use Rattle.vx_history.proofs.GoodLemmas.{good_site, good_raw, good_stays, made_is_given, up_is_made}
 use Rattle.vx_history.specs.declared.event.LinkPart.{LinkPart}
 use Rattle.vx_history.specs.declared.event.LinkPart.TheVariants.{Joins, Made, Marked, Opened}
@@ -29,9 +29,11 @@ use Rattle.vx_history.specs.Events.{joined, new_link, opened}
 use Rattle.vx_history.specs.Gatherings.{emptied}
 use Rattle.vx_history.specs.Step.{done, link_part}
 use Rattle.vx_model.specs.declared.limits.TheConstants.{MOST_DISKS, MOST_LINKS, MOST_SITES}
-use Rattle.vx_history.specs.Sound.{Sound}
-use Rattle.vx_world.proofs.Lists.{not_true, not_false, not_both, or_left, or_right}
-use Rattle.vx_world.proofs.Moves.{sound_gathering, sound_with_node, sound_with_link, sound_joining, sound_founding, good_later, given, stays_fed}
+use Rattle.vx_history.specs.Sound.{has_line, HasCome, Sound}
+use Rattle.vx_world.proofs.Lists.{each_append, each_weaker, not_true, not_false, not_both, or_left, or_right}
+use Rattle.vx_world.proofs.Stood.{last_line, who_came}
+use Rattle.vx_world.proofs.Moves.{sound_gathering, sound_with_node, sound_with_link, good_later, given, stays_fed, at_changed}
+use Rattle.vx_world.proofs.Comes.{MayCome, sound_joining, sound_founding}
 use Rattle.vx_world.proofs.Tests.{Keeps, unless_keeps}
 use Rattle.vx_world.proofs.Guards.{primary_origin}
 use Rattle.vx_world.proofs.Changes.{up_whole}
@@ -50,6 +52,9 @@ site_keeps w name disks blocks s =
     refl
     refl
     (λ up. absurd (let e : Bare ≡ Up = up in cc))
+    (λ _. refl)
+    (λ made. absurd (made refl))
+    tt
 
 pub may_be_site_keeps : (w : World) (name : List ℕ) (disks blocks : ℕ) → Sound w
     → Keeps (may_be_site w name disks blocks (done (site_made w name disks blocks)))
@@ -75,6 +80,19 @@ raw_keeps w q s there bare =
     refl
     (s.takes q)
     (λ _ _ _ _. refl)
+    (λ _. refl)
+    (λ _. last_line (w.nodes q).stood (first_line q))
+    (each_append (HasCome (updated w.nodes q n) q) (w.nodes q).stood (first_line q ∷ [])
+    (each_weaker (HasCome w.nodes q) (HasCome (updated w.nodes q n) q) (λ _ c. absurd (c.here bare)) (w.nodes q).stood (s.come q)) (
+      record {
+        here = at_changed IsMade w.nodes q n (λ e. let f : Up ≡ Bare = e in cc);
+        there = at_changed IsMade w.nodes q n (λ e. let f : Up ≡ Bare = e in cc);
+        top = at_changed (λ (m : Node). 1 ≤ m.top) w.nodes q n (omega arith);
+        named = at_changed (λ (m : Node). 1 ≤ m.top) w.nodes q n (omega arith);
+        rises = λ _. at_changed (λ (m : Node). 1 ≤ m.line.generation) w.nodes q n (omega arith);
+      },
+      tt,
+    ))
 
 -- ## The events of a link
 
@@ -122,13 +140,25 @@ join_keeps w p q s up_p up_q o other unlinked alone plain =
     sound_joining w q n s
     (ap (λ (j : ℕ). (w.nodes j).line) own, ap (λ (j : ℕ). is_linked (w.links j q)) own ∙ unlinked, plain)
     (λ e. not_both (eqb q p) (eq-eqb q p (sym e ∙ own)) other)
-    made_q made_q (omega arith) alone
+    made_q made_q (omega arith)
+    (record {
+      began = s.good.begun p made_p;
+      named = (who_came w s a.line p (s.stands p made_p)).named;
+      tops = omega arith;
+      topped = omega arith;
+      notes = refl;
+      rises = λ line c e.
+          let at : line.generation ≤ a.top = subst (λ (j : ℕ). line.generation ≤ (w.nodes j).top) (e ∙ own) c.named in
+          omega (arith, at, s.newest p o);
+    })
+    alone
     (λ by. let e : Quiet ≡ ByLog = by in absurd (cc))
-    (good_stays w q n s.good (Nodes.good_joined (w.lines a.line) q p a (w.nodes q)) (λ _. inl (s.good.begun p made_p)) (λ is. is) (given w q n s.good made_q))
+    (good_stays w q n s.good (Nodes.good_joined (w.lines a.line) q p a (w.nodes q) made_q) (λ _. inl (s.good.begun p made_p)) (λ is. is) (given w q n s.good made_q))
     (up_whole n up_q)
     (λ _. sym own)
     refl
     (λ _ _ by. let e : Quiet ≡ ByLog = by in absurd (cc))
+    (λ o. absurd (cc))
     (omega arith)
 
 may_join_keeps : (w : World) (p q : ℕ) → Sound w → (w.nodes p).state ≡ Up → (w.nodes q).state ≡ Up
@@ -163,13 +193,14 @@ may_join_keeps w p q s up_p up_q =
 
 make_keeps : (w : World) (p q place : ℕ) (sync : SyncMode) → Sound w → (w.nodes p).state ≡ Up → (w.nodes q).state ≡ Up
     → (w.nodes q).halted ≡ None → is_origin (w.nodes p).role ≡ true
-    → is_origin (w.nodes q).role ≡ false → Sound (with_link w p q (new_link place sync (w.nodes q)))
-make_keeps w p q place sync s up_p up_q runs_q o r =
+    → is_origin (w.nodes q).role ≡ false → (w.nodes q).line ≡ (w.nodes p).line → Sound (with_link w p q (new_link place sync (w.nodes q)))
+make_keeps w p q place sync s up_p up_q runs_q o r same =
     sound_with_link w p q (new_link place sync (w.nodes q)) s
     (record {
       ends = λ _. (up_is_made (w.nodes p) up_p, up_is_made (w.nodes q) up_q);
       starts = λ _. origin_sends (w.nodes p).role o;
       apart = λ _ e. not_both (is_origin (w.nodes q).role) (ap (λ (j : ℕ). is_origin (w.nodes j).role) (sym e) ∙ o) r;
+      came = λ _. subst (λ (l : Line). has_line (w.nodes q).stood l ≡ true) same (s.stands q (up_is_made (w.nodes q) up_q));
       session = λ _. omega arith;
       stored = λ _. (omega arith, λ by end. s.marked q up_q runs_q by (omega (arith, end)));
       net = λ _ _. omega arith;
@@ -189,6 +220,8 @@ mark_keeps w q s up =
     (s.fed q)
     (s.takes q)
     (λ _ _ _ _. refl)
+    (s.newest q)
+    (s.stands q)
     (stays_fed w q m (λ _. refl) (λ t. t))
     (s.known q)
 
@@ -206,6 +239,7 @@ open_keeps w p q s empty taken marked =
       ends = old.ends;
       starts = old.starts;
       apart = old.apart;
+      came = old.came;
       session = old.session;
       stored = λ _. (omega (arith, none), λ _ _. consistent_is (w.nodes q).mark marked);
       net = λ _ _. omega (arith, none);
@@ -230,7 +264,10 @@ link_part_keeps Made w p q sync s up_p up_q runs_q =
     (λ c. unless_keeps (is_linked (w.links p q)) (Exists (w.nodes q).name) w o s
     (λ _. make_keeps w p q (links_of w p) sync s up_p up_q runs_q
     (primary_origin (w.nodes p).role (and_left (is_primary (w.nodes p).role) (follows w p q) (not_false test c)))
-    (follows_is w p q (and_right (is_primary (w.nodes p).role) (follows w p q) (not_false test c)))))
+    (follows_is w p q (and_right (is_primary (w.nodes p).role) (follows w p q) (not_false test c)))
+    (same_line_equal (w.nodes q).line (w.nodes p).line
+    (and_right (not (is_origin (w.nodes q).role)) (same_line (w.nodes q).line (w.nodes p).line)
+    (and_right (is_primary (w.nodes p).role) (follows w p q) (not_false test c))))))
 link_part_keeps Marked w p q sync s up_p up_q runs_q =
     unless_keeps (not (is_primary (w.nodes p).role && (follows w p q && (is_linked (w.links p q) && is_empty (w.nodes p).log)))) WrongRole w
     (done (with_node w q (record (w.nodes q) { mark = Consistent }))) s

@@ -44,7 +44,7 @@ module _ (w : World) (p : Packet) (number : ℕ) (x : Write) (up : (w.nodes p.ta
   pub whole_leaves : p.line ≡ (w.nodes p.target).line → Leaves w (Events.taken_if true w p x number)
   whole_leaves e =
       let n : Node = w.nodes p.target in
-      let m : Node = Events.with_write n x in
+      let m : Node = Events.with_write n p.source x in
       keeps_sending w (with_node w p.target m)
       (keeps_node w p.target m
       (λ f. longer_fitted n x n.halted m refl refl refl (λ made. made) refl (λ v. refl) refl (fits f e))
@@ -97,7 +97,7 @@ taken_up w p x (IgnoredAck number) up = up
 taken_up w p x (Take number) up = by_whole (completes (w.gathering p.target) p)
   where
     by_whole : (b : Bool) → ((Events.taken_if b w p x number).world.nodes p.target).state ≡ Up
-    by_whole true = ap (λ (n : Node). n.state) (at_place w.nodes p.target (Events.with_write (w.nodes p.target) x)) ∙ up
+    by_whole true = ap (λ (n : Node). n.state) (at_place w.nodes p.target (Events.with_write (w.nodes p.target) p.source x)) ∙ up
     by_whole false = up
 taken_up w p x (AcksFromDisk number) up = up
 

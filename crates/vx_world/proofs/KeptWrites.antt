@@ -204,4 +204,4 @@ applied_leaves w q r (AcksFromDisk number) =
       log = λ h. h;
     })
     (bare_same w q n refl refl) (λ u. u))
-    (packets_of q n.other n.line (DataAck n.safe)) (all_parts q n.other n.line (DataAck n.safe))
+    (packets_of q n.fed_by n.line (DataAck n.safe)) (all_parts q n.fed_by n.line (DataAck n.safe))

@@ -2,7 +2,9 @@ pub mod Lists
 pub mod Carry
 pub mod Nodes
 pub mod Links
+pub mod Stood
 pub mod Moves
+pub mod Comes
 pub mod Guards
 pub mod Tests
 pub mod Changes
@@ -52,4 +54,5 @@ pub mod Passed
 pub mod Halted
 pub mod Still
 pub mod Several
+pub mod Doubting
 pub mod Lining

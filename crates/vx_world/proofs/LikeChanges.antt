@@ -12,7 +12,7 @@ use Rattle.vx_history.specs.Admission.{Admitted, Held_by, Goes}
 use Rattle.vx_history.specs.Receiving.{received_step}
 use Rattle.vx_history.specs.Sending.{Sent, sent_step}
 use Rattle.vx_history.specs.LinkForms.{plain_link, plain_receiver, with_plain}
-use Rattle.vx_history.specs.World.{World, Node, Link as LinkState, History, Packet, Message, Gathering, Hello, Update, NetAck, DataAck, with_node}
+use Rattle.vx_history.specs.World.{World, Node, Link as LinkState, History, Packet, Message, Gathering, Hello, Update, NetAck, DataAck, no_regions, with_node}
 use Rattle.vx_history.specs.Likes.{IsLike, SameLink}
 use Rattle.vx_history.specs.Steps.{burned, logged, told_of}
 use Rattle.vx_history.specs.Sends.{is_linked, with_link, sent_by, packets_of, greeting}
@@ -103,8 +103,8 @@ module _ (w v : World) (like : IsLike w v) where
       let a : Node = Events.applied (w.nodes q) number r.mark in
       let b : Node = Events.applied (v.nodes q) number r.mark in
       let e : b ≡ noted a b = ap (λ (n : Node). Events.applied n number r.mark) (like.nodes q) in record {
-        world = like_sending (with_node w q a) (with_node v q b) (like_node w v like q a b e) (packets_of q a.other a.line (DataAck a.safe))
-            (packets_of q b.other b.line (DataAck b.safe)) (ap (λ (n : Node). packets_of q n.other n.line (DataAck n.safe)) e);
+        world = like_sending (with_node w q a) (with_node v q b) (like_node w v like q a b e) (packets_of q a.fed_by a.line (DataAck a.safe))
+            (packets_of q b.fed_by b.line (DataAck b.safe)) (ap (λ (n : Node). packets_of q n.fed_by n.line (DataAck n.safe)) e);
         said = refl;
       }
 
@@ -142,6 +142,15 @@ module _ (w v : World) (like : IsLike w v) where
           plain Ignored = refl
           plain Taken = refl
           plain (Updates from to) = refl
+
+  pub tick_same : (p q : ℕ) → Same (on_link w p q (done (Events.ticked_at w p q))) (on_link v p q (done (Events.ticked_at v p q)))
+  tick_same p q =
+      on_link_same w v like keeps_links p q _ _
+      (λ same _.
+      let l : LinkState = Events.ticked_link w p q in
+      let m : LinkState = Events.ticked_link v p q in
+      let is : m ≡ l = ap (λ (x : LinkState). let y : LinkState = record x { sent = x.net; trimmed = 0; since = no_regions } in y) same in
+      record { world = like_link w v like p q l m (subst (λ (x : LinkState). SameLink l x) (sym is) (link_self l)); said = refl })
 
   pub event_same : (p q : ℕ) (e : SEvent) → Same (on_link w p q (done (Events.link_event w p q e))) (on_link v p q (done (Events.link_event v p q e)))
   event_same p q e = on_link_same w v like keeps_links p q _ _ (λ same _. record { world = moved_same p q e same; said = refl })
@@ -207,10 +216,10 @@ module _ (w v : World) (like : IsLike w v) where
 
   pub taken_if_same : (b : Bool) (p : Packet) (x : Write) (number : ℕ) → Same (Events.taken_if b w p x number) (Events.taken_if b v p x number)
   taken_if_same true p x number =
-      let n : Node = Events.with_write (w.nodes p.target) x in
-      let k : Node = Events.with_write (v.nodes p.target) x in record {
+      let n : Node = Events.with_write (w.nodes p.target) p.source x in
+      let k : Node = Events.with_write (v.nodes p.target) p.source x in record {
         world = from_memory_same (with_node w p.target n) (with_node v p.target k)
-            (like_node w v like p.target n k (ap (λ (m : Node). Events.with_write m x) (like.nodes p.target))) (w.nodes p.target)
+            (like_node w v like p.target n k (ap (λ (m : Node). Events.with_write m p.source x) (like.nodes p.target))) (w.nodes p.target)
             (v.nodes p.target) p number (like.nodes p.target);
         said = refl;
       }

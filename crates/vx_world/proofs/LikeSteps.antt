@@ -16,9 +16,9 @@ use Rattle.vx_history.specs.Events
 use Rattle.vx_history.specs.Step.{outcome_of, step, run}
 use Rattle.vx_history.specs.declared.event.Event.{Event}
 use Rattle.vx_history.specs.declared.event.Event.TheVariants.{Site, Raw, Write as WriteAt, Read, Apply, Pump, Tick, Deliver, Connect, Cut, Pause, Resume, Wait, Link, Set, Crash, Recover, Fault}
-use Rattle.vx_history.specs.declared.sender.SEvent.TheVariants.{Connect as ConnectLink, Pump as PumpLink, Tick as TickLink, Cut as CutLink, Pause as PauseLink, Resume as ResumeLink}
+use Rattle.vx_history.specs.declared.sender.SEvent.TheVariants.{Connect as ConnectLink, Pump as PumpLink, Cut as CutLink, Pause as PauseLink, Resume as ResumeLink}
 use Rattle.vx_world.proofs.Likely.{noted, Same, tests, some_same, link_changed, pair_updated, like_node, like_history, like_link, like_sending, like_headers, at_site_same, at_work_same, both_same, on_link_same, when_live_same}
-use Rattle.vx_world.proofs.LikeChanges.{write_same, read_same, apply_same, moved_same, event_same, greeting_same}
+use Rattle.vx_world.proofs.LikeChanges.{write_same, read_same, apply_same, moved_same, event_same, tick_same, greeting_same}
 use Rattle.vx_world.proofs.LikeCrashes.{deliver_same, wait_same, crash_same, recover_same, part_same}
 
 -- ## Every event
@@ -65,7 +65,7 @@ outcome_same w v like (Apply q count reached) = at_site_same w v like q _ _ (at_
 outcome_same w v like (Pump p q) =
     on_link_same w v like keeps_links p q _ _
     (λ same _. when_live_same w v like q (w.links p q) (v.links p q) _ _ same (record { world = moved_same w v like p q PumpLink same; said = refl }))
-outcome_same w v like (Tick p q) = event_same w v like p q TickLink
+outcome_same w v like (Tick p q) = tick_same w v like p q
 outcome_same w v like (Deliver number) = deliver_same w v like number
 outcome_same w v like (Connect p q) =
     on_link_same w v like keeps_links p q _ _

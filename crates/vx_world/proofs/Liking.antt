@@ -10,9 +10,9 @@ use Rattle.vx_model.specs.declared.history.Line.{Line}
 use Rattle.vx_model.specs.declared.site.Mark.TheVariants.{Consistent}
 use Rattle.vx_model.specs.declared.site.SiteState.TheVariants.{Bare}
 use Rattle.vx_history.specs.Receiving.{phase_takes}
-use Rattle.vx_history.specs.Sound.{Sound, IsWhole, IsFed, TakesUpdates, IsMarked, GoodLink, GoodPacket, GoodPromise, IsStranger, KnownNode}
+use Rattle.vx_history.specs.Sound.{Sound, IsWhole, IsFed, TakesUpdates, IsMarked, IsNewest, StoodHere, HasCome, GoodLink, GoodPacket, GoodPromise, IsStranger, KnownNode}
 use Rattle.vx_world.proofs.Lists.{prefix_refl}
-use Rattle.vx_world.proofs.Carry.{IsLater, mode_later, link_later, packets_later, promises_later}
+use Rattle.vx_world.proofs.Carry.{IsLater, come_later, mode_later, link_later, packets_later, promises_later}
 use Rattle.vx_world.proofs.Moves.{unlinked_good}
 use Rattle.vx_history.specs.Likes.{IsLike}
 use Rattle.vx_history.specs.Fits.{Fits, Fitting, IsSized, IsAlike}
@@ -35,6 +35,8 @@ later_note a f g = record {
   present = λ up _.
       (up, omega arith);
   made = λ m. m;
+  top = omega arith;
+  stood = refl;
 }
 
 good_note : (h : History) (i : ℕ) (a : Node) (f : Fuse) (failing : ℕ → Bool) → GoodNode h i a → GoodNode h i (with_notes a f failing)
@@ -108,6 +110,10 @@ module _ (w v : World) (s : Sound w) (like : IsLike w v) where
     fed = λ i. at (λ b. IsFed b) i (s.fed i);
     takes = λ i. at (λ b. TakesUpdates b) i (s.takes i);
     marked = λ i. at (λ b. IsMarked b) i (s.marked i);
+    newest = λ i. at (λ b. IsNewest b) i (s.newest i);
+    stands = λ i. at (λ b. StoodHere b) i (s.stands i);
+    come = λ i. subst (λ (ls : List Line). AllByRecursion (HasCome v.nodes i) ls) (sym (later i).stood)
+        (each_weaker (HasCome w.nodes i) (HasCome v.nodes i) (come_later w.nodes v.nodes later i) (w.nodes i).stood (s.come i));
     links = link_good;
     bunkers = λ p q is r g. s.bunkers p q (sym (like.links p q).linked ∙ is) (sym (later p).origin ∙ r)
         (subst (λ (l : Line). IsStranger w.nodes w.links l q) (later p).line (before (v.nodes p).line q g));

@@ -22,7 +22,7 @@ use Rattle.vx_model.specs.declared.link.SyncMode.{SyncMode}
 use Rattle.vx_model.specs.declared.link.SyncMode.TheVariants.{Off, Override, Fail}
 use Rattle.vx_history.specs.declared.sender.SEvent.TheVariants.{Hello as HearHello, NetAck as HearNetAck, DataAck as HearDataAck}
 use Rattle.vx_history.proofs.Updates.{by_test, and_left, and_right, same_line_equal}
-use Rattle.vx_history.specs.Sound.{IsPresent, IsFollowed, HasStored, ModeSays, GoodLink, GoodMessage, GoodPromise, IsKept, IsStranger, IsBegun}
+use Rattle.vx_history.specs.Sound.{IsPresent, IsFollowed, HasStored, ModeSays, GoodLink, GoodMessage, GoodPromise, IsKept, IsStranger, CameTo}
 use Rattle.vx_history.specs.Sends.{is_linked, packets_of, packets_from, parts_of, packet, updates, between}
 use Rattle.vx_history.specs.Refusals.{holds_back, is_unconfirmed, some_below, goes, waits}
 use Rattle.vx_history.specs.Events.{facts_of, restarted_link, lost_touch, link_after, promise_of, promises_of}
@@ -43,6 +43,7 @@ link_like held p s a b l m linked session net stored mode good = record {
   ends = λ is. good.ends (sym linked ∙ is);
   starts = λ is. good.starts (sym linked ∙ is);
   apart = λ is. good.apart (sym linked ∙ is);
+  came = λ is. good.came (sym linked ∙ is);
   session = λ is. omega (arith, session, good.session (sym linked ∙ is));
   stored = λ (is, r, e). subst (λ k. HasStored b k) (sym stored) (good.stored (sym linked ∙ is, r, e));
   net = λ (is, r, e) present. omega (arith, net, good.net (sym linked ∙ is, r, e) (subst (λ k. IsPresent b k) session present));
@@ -56,6 +57,7 @@ forgotten held h p s a b l m node linked session net stored mode good = record {
   ends = λ is. good.ends (sym linked ∙ is);
   starts = λ is. good.starts (sym linked ∙ is);
   apart = λ is. good.apart (sym linked ∙ is);
+  came = λ is. good.came (sym linked ∙ is);
   session = λ is. session;
   stored = λ (is, r, e). subst (λ k. HasStored b k) (sym stored) (good.stored (sym linked ∙ is, r, e));
   net = λ (is, r, e) present. omega (arith, net, (good.stored (sym linked ∙ is, r, e)).0, node.safe_fits);
@@ -110,6 +112,7 @@ link_lost held h p s a b l node good = record {
   ends = good.ends;
   starts = good.starts;
   apart = good.apart;
+  came = good.came;
   session = good.session;
   stored = good.stored;
   net = λ v _. omega (arith, (good.stored v).0, node.safe_fits);
@@ -144,6 +147,7 @@ module _ (own : List Write) (h : History) (p s : ℕ) (a b : Node) (l : Link) (l
         ends = good.ends;
         starts = good.starts;
         apart = good.apart;
+        came = good.came;
         session = λ _. old;
         stored = λ v. both_stored b l.stored stored (good.stored v) (disk (v.2 ∙ sym e));
         net = λ v present. omega (arith, memory (v.2 ∙ sym e) present, (good.stored v).0, (disk (v.2 ∙ sym e)).0, node.safe_fits);
@@ -153,6 +157,7 @@ module _ (own : List Write) (h : History) (p s : ℕ) (a b : Node) (l : Link) (l
         ends = good.ends;
         starts = good.starts;
         apart = good.apart;
+        came = good.came;
         session = good.session;
         stored = λ v. both_stored b l.stored stored (good.stored v) (disk (v.2 ∙ sym e));
         net = λ v present. omega (arith, good.net v present, memory (v.2 ∙ sym e) (present.0, present.1 ∙ between_both l.session session not_new not_old));
@@ -174,6 +179,7 @@ module _ (own : List Write) (h : History) (p s : ℕ) (a b : Node) (l : Link) (l
         ends = good.ends;
         starts = good.starts;
         apart = good.apart;
+        came = good.came;
         session = good.session;
         stored = good.stored;
         net = λ v present. memory (v.2 ∙ sym e) (present.0, present.1 ∙ sym (is_same session l.session (and_left _ _ (and_right _ _ t))));
@@ -193,6 +199,7 @@ module _ (own : List Write) (h : History) (p s : ℕ) (a b : Node) (l : Link) (l
         ends = good.ends;
         starts = good.starts;
         apart = good.apart;
+        came = good.came;
         session = good.session;
         stored = λ v. disk (v.2 ∙ sym e);
         net = λ v present. omega (arith, good.net v present, (disk (v.2 ∙ sym e)).0, node.safe_fits);
@@ -269,7 +276,7 @@ receives nodes lines held p s l good link is o e =
 
 module _ (nodes : ℕ → Node) (links : ℕ → ℕ → Link) (lines : Line → History) (good : (i : ℕ) → GoodNode (lines (nodes i).line) i (nodes i)) (p : ℕ) (n : ℕ)
     (o : is_origin (nodes p).role ≡ true)
-    (known : (s : ℕ) → is_linked (links p s) ≡ true → (IsStranger nodes links (nodes p).line s → ⊥) × IsBegun nodes (nodes p).line s) where
+    (known : (s : ℕ) → is_linked (links p s) ≡ true → (IsStranger nodes links (nodes p).line s → ⊥) × CameTo nodes (nodes p).line s) where
   abbrev here : List Write
   here = (lines (nodes p).line).held
 
@@ -289,7 +296,7 @@ module _ (nodes : ℕ → Node) (links : ℕ → ℕ → Link) (lines : Line →
               (λ t e. omega (arith, (link.stored (followed e)).0, leb-true n l.stored t))
               (λ _. (link.session made, λ e q. omega (arith, net, link.net (followed e) q)));
           known = (known s made).0;
-          begun = (known s made).1;
+          came = (known s made).1;
         },
         tt,
       ))

@@ -1,23 +1,21 @@
 -- The few ways in which an event changes the world, each with what it has to show.
-use Rattle.std.proofs.Common.{◌≡◌, ℕ, ◌≤◌, List, ◌++◌, length, refl, ap, sym, ◌∙◌, subst, arith, Bool, true, false, inl}
-use Rattle.std.specs.Prelude.{eqb, Option}
+use Rattle.std.proofs.Common.{◌≡◌, ℕ, ◌≤◌, List, ◌++◌, sym, ◌∙◌, subst, true, false, ◌⊎◌, inl}
+use Rattle.std.specs.Prelude.{Option}
 use Rattle.std.specs.List.{AllByRecursion}
 use Rattle.vx_model.specs.Content.{Write, IsPrefixOf}
-use Rattle.vx_history.specs.World.{World, Node, Link, History, Gathering, Packet, Promise, Message, Surety, Hello, Update, NetAck, DataAck, Durable, InSession, with_node, with_history, updated, line_updated}
+use Rattle.vx_history.specs.World.{World, Node, Link, History, Gathering, Packet, Promise, with_node, with_history, updated, line_updated}
 use Rattle.vx_model.specs.Sites.{is_origin}
 use Rattle.vx_history.specs.Good.{GoodNode, Good, IsMade}
 use Rattle.vx_model.specs.declared.history.Line.{Line}
 use Rattle.vx_model.specs.declared.site.Mark.TheVariants.{Consistent}
-use Rattle.vx_model.specs.declared.site.SPhase.TheVariants.{Log as ByLog}
 use Rattle.vx_model.specs.declared.site.SiteState.TheVariants.{Bare}
 use Rattle.vx_history.specs.Receiving.{phase_takes}
-use Rattle.vx_history.specs.Refusals.{is_bunker}
-use Rattle.vx_history.proofs.Updates.{all_updated, all_lines, by_test, eqb_equal, at_place}
+use Rattle.vx_history.proofs.Updates.{all_updated, all_lines, at_place}
 use Rattle.vx_history.proofs.GoodLemmas.{good_stays}
 use Rattle.vx_history.specs.Sends.{is_linked, with_links, with_link, sending, promising}
-use Rattle.vx_history.specs.Sound.{IsWhole, IsFed, TakesUpdates, IsMarked, IsFollowed, ModeSays, GoodLink, GoodMessage, GoodPacket, GoodPromise, IsKept, IsStranger, StrangerSays, IsBegun, KnownNode, Sound}
+use Rattle.vx_history.specs.Sound.{IsWhole, IsFed, TakesUpdates, IsMarked, IsNewest, StoodHere, HasCome, IsFollowed, ModeSays, GoodLink, GoodPacket, GoodPromise, IsStranger, KnownNode, Sound}
 use Rattle.vx_world.proofs.Lists.{each_append, each_weaker, prefix_refl, refuted, not_both}
-use Rattle.vx_world.proofs.Carry.{IsLater, later_same, mode_later, link_later, says_later, packets_later, promises_later}
+use Rattle.vx_world.proofs.Carry.{IsLater, later_same, come_later, mode_later, link_later, packets_later, promises_later}
 
 -- what is said of sites by themselves rests on no link
 pub good_of : (w : World) (links : ℕ → ℕ → Link) (packets : List Packet) (promised : List Promise) → Good w
@@ -32,6 +30,9 @@ sound_gathering w g s = record {
   fed = s.fed;
   takes = s.takes;
   marked = s.marked;
+  newest = s.newest;
+  stands = s.stands;
+  come = s.come;
   links = s.links;
   bunkers = s.bunkers;
   packets = s.packets;
@@ -46,6 +47,9 @@ sound_headers w h s = record {
   fed = s.fed;
   takes = s.takes;
   marked = s.marked;
+  newest = s.newest;
+  stands = s.stands;
+  come = s.come;
   links = s.links;
   bunkers = s.bunkers;
   packets = s.packets;
@@ -61,6 +65,9 @@ sound_sending w ps s h = record {
   fed = s.fed;
   takes = s.takes;
   marked = s.marked;
+  newest = s.newest;
+  stands = s.stands;
+  come = s.come;
   links = s.links;
   bunkers = s.bunkers;
   packets = each_append (GoodPacket w.nodes w.links w.lines) w.packets ps s.packets h;
@@ -76,6 +83,9 @@ sound_promising w es s h = record {
   fed = s.fed;
   takes = s.takes;
   marked = s.marked;
+  newest = s.newest;
+  stands = s.stands;
+  come = s.come;
   links = s.links;
   bunkers = s.bunkers;
   packets = s.packets;
@@ -102,6 +112,9 @@ sound_links w f s h made old =
       fed = s.fed;
       takes = s.takes;
       marked = s.marked;
+      newest = s.newest;
+      stands = s.stands;
+      come = s.come;
       links = h;
       bunkers = λ p q is r g. s.bunkers p q (old p q is r) r (before (w.nodes p).line q g);
       packets = packets_later w.nodes w.nodes w.links f (λ i. later_same (w.nodes i)) before w.lines w.lines
@@ -147,11 +160,12 @@ sound_with_link w p q l s h made old =
 -- any later state of the sites and the lines
 pub sound_later : (w : World) (f : ℕ → Node) (h : Line → History) → Sound w → ((i : ℕ) → IsLater (w.nodes i) (f i))
     → ((l : Line) → IsPrefixOf (w.lines l).held (h l).held) → Good (record w { nodes = f; lines = h }) → ((i : ℕ) → IsWhole (f i))
-    → ((i : ℕ) → IsFed (f i)) → ((i : ℕ) → TakesUpdates (f i)) → ((i : ℕ) → IsMarked (f i))
+    → ((i : ℕ) → IsFed (f i)) → ((i : ℕ) → TakesUpdates (f i)) → ((i : ℕ) → IsMarked (f i)) → ((i : ℕ) → IsNewest (f i))
+    → ((i : ℕ) → StoodHere (f i))
     → ((p q : ℕ) → is_origin (f p).role ≡ true → IsFollowed (f p) (f q) (w.links p q)
     → ModeSays (w.lines (w.nodes p).line).held (w.nodes q) (w.links p q).mode → ModeSays (h (f p).line).held (f q) (w.links p q).mode)
     → ((i : ℕ) → KnownNode w.nodes w.links i (f i)) → Sound (record w { nodes = f; lines = h })
-sound_later w f h s later grow good whole fed takes marked modes known =
+sound_later w f h s later grow good whole fed takes marked newest stands modes known =
     let before : (l : Line) (i : ℕ) → IsStranger f w.links l i → IsStranger w.nodes w.links l i = λ l i q.
     (sym (later l.origin).line ∙ q.0, q.1, sym (later i).bunker ∙ q.2) in
     record {
@@ -160,6 +174,10 @@ sound_later w f h s later grow good whole fed takes marked modes known =
       fed = fed;
       takes = takes;
       marked = marked;
+      newest = newest;
+      stands = stands;
+      come = λ i. subst (λ (ls : List Line). AllByRecursion (HasCome f i) ls) (sym (later i).stood)
+          (each_weaker (HasCome w.nodes i) (HasCome f i) (come_later w.nodes f later i) (w.nodes i).stood (s.come i));
       links = λ p q. link_later (w.lines (w.nodes p).line).held (h (f p).line).held p q (w.nodes p) (w.nodes q) (f p) (f q) (w.links p q) (later p) (later q)
           (modes p q) (s.links p q);
       bunkers = λ p q is r g. s.bunkers p q is (sym (later p).origin ∙ r)
@@ -188,8 +206,8 @@ modes_now w i n h stays p q says =
 
 -- one site, with the lines as they are
 pub sound_with_node : (w : World) (i : ℕ) (n : Node) → Sound w → Good (with_node w i n) → IsLater (w.nodes i) n → IsWhole n → IsFed n → TakesUpdates n
-    → IsMarked n → StaysFed w i n → KnownNode w.nodes w.links i n → Sound (with_node w i n)
-sound_with_node w i n s good later whole fed takes marked stays known =
+    → IsMarked n → IsNewest n → StoodHere n → StaysFed w i n → KnownNode w.nodes w.links i n → Sound (with_node w i n)
+sound_with_node w i n s good later whole fed takes marked newest stands stays known =
     sound_later w (updated w.nodes i n) w.lines s
     (all_updated (λ k (m : Node). IsLater (w.nodes k) m) w.nodes i n later (λ k _. later_same (w.nodes k)))
     (λ l. prefix_refl (w.lines l).held)
@@ -198,14 +216,16 @@ sound_with_node w i n s good later whole fed takes marked stays known =
     (all_updated (λ k (m : Node). IsFed m) w.nodes i n fed (λ k _. s.fed k))
     (all_updated (λ k (m : Node). TakesUpdates m) w.nodes i n takes (λ k _. s.takes k))
     (all_updated (λ k (m : Node). IsMarked m) w.nodes i n marked (λ k _. s.marked k))
+    (all_updated (λ k (m : Node). IsNewest m) w.nodes i n newest (λ k _. s.newest k))
+    (all_updated (λ k (m : Node). StoodHere m) w.nodes i n stands (λ k _. s.stands k))
     (λ p q _ _. modes_now w i n w.lines stays p q)
     (all_updated (λ k (m : Node). KnownNode w.nodes w.links k m) w.nodes i n known (λ k _. s.known k))
 
 -- one site, with its line's record
 pub sound_with_history : (w : World) (i : ℕ) (n : Node) (h : History) → Sound w → Good (with_history w i n h) → IsLater (w.nodes i) n
-    → IsPrefixOf (w.lines n.line).held h.held → IsWhole n → IsFed n → TakesUpdates n → IsMarked n → StaysFed w i n → KnownNode w.nodes w.links i n
-    → Sound (with_history w i n h)
-sound_with_history w i n h s good later grow whole fed takes marked stays known =
+    → IsPrefixOf (w.lines n.line).held h.held → IsWhole n → IsFed n → TakesUpdates n → IsMarked n → IsNewest n → StoodHere n
+    → StaysFed w i n → KnownNode w.nodes w.links i n → Sound (with_history w i n h)
+sound_with_history w i n h s good later grow whole fed takes marked newest stands stays known =
     sound_later w (updated w.nodes i n) (line_updated w.lines n.line h) s
     (all_updated (λ k (m : Node). IsLater (w.nodes k) m) w.nodes i n later (λ k _. later_same (w.nodes k)))
     (all_lines (λ l (r : History). IsPrefixOf (w.lines l).held r.held) w.lines n.line h grow (λ l _. prefix_refl (w.lines l).held))
@@ -214,6 +234,8 @@ sound_with_history w i n h s good later grow whole fed takes marked stays known 
     (all_updated (λ k (m : Node). IsFed m) w.nodes i n fed (λ k _. s.fed k))
     (all_updated (λ k (m : Node). TakesUpdates m) w.nodes i n takes (λ k _. s.takes k))
     (all_updated (λ k (m : Node). IsMarked m) w.nodes i n marked (λ k _. s.marked k))
+    (all_updated (λ k (m : Node). IsNewest m) w.nodes i n newest (λ k _. s.newest k))
+    (all_updated (λ k (m : Node). StoodHere m) w.nodes i n stands (λ k _. s.stands k))
     (λ p q _ _. modes_now w i n (line_updated w.lines n.line h) stays p q)
     (all_updated (λ k (m : Node). KnownNode w.nodes w.links k m) w.nodes i n known (λ k _. s.known k))
 
@@ -241,179 +263,9 @@ unlinked_good held p q a b l none = record {
   ends = λ e. absurd (none e);
   starts = λ e. absurd (none e);
   apart = λ e. absurd (none e);
+  came = λ e. absurd (none e);
   session = λ e. absurd (none e);
   stored = λ v. absurd (none v.0);
   net = λ v _. absurd (none v.0);
   says = λ _ v. absurd (none v.0);
 }
-
--- what is said of a link, whatever its line holds
-held_good : (f g : List Write) (p q : ℕ) (a b : Node) (l : Link) → GoodLink f p q a b l → GoodLink g p q a b l
-held_good f g p q a b l good = link_later f g p q a b a b l (later_same a) (later_same b) (λ _ _. mode_later f g b b l.mode (λ x. x) (λ x. x)) good
-
--- ## A site comes to a line
-
--- what a site said of a line to which it comes only now is that it had nothing of it
-message_joins : (held : List Write) (a n : Node) (line : Line) (to from : Type 0) → a.session ≤ n.session → (n.line ≡ line → from)
-    → (n.phase ≡ ByLog → ⊥) → (m : Message) → GoodMessage held a line m → StrangerSays to from m → GoodMessage held n line m
-message_joins held a n line to from later stranger quiet (Update number x) h k = h
-message_joins held a n line to from later stranger quiet (NetAck session number) (old, _) k = (omega (arith, old, later), λ e _. omega (arith, k (stranger e)))
-message_joins held a n line to from later stranger quiet (Hello session number stored) (old, _, _) k =
-    (omega (arith, old, later), λ e _. omega (arith, (k (stranger e)).0), λ e. (omega (arith, (k (stranger e)).1), λ by _. absurd (quiet by)))
-message_joins held a n line to from later stranger quiet (DataAck number) h k = λ e. (omega (arith, k (stranger e)), λ by _. absurd (quiet by))
-
-promise_joins : (a n : Node) (line : Line) (number : ℕ) (from : Type 0) → a.session ≤ n.session → (n.line ≡ line → from) → (t : Surety)
-    → IsKept a line number t → (from → ⊥) → IsKept n line number t
-promise_joins a n line number from later stranger Durable h k = λ e. absurd (k (stranger e))
-promise_joins a n line number from later stranger (InSession session) (old, _) k = (omega (arith, old, later), λ e _. absurd (k (stranger e)))
-
--- a site comes, with nothing, to a line whose origin stands on it and keeps no link to the site
-module _ (w : World) (i : ℕ) (n : Node) (s : Sound w) (stranger : IsStranger w.nodes w.links n.line i) (apart : n.line.origin ≡ i → ⊥)
-    (made : IsMade (w.nodes i)) (stays : IsMade n) (grows : (w.nodes i).session ≤ n.session) (alone : (k : ℕ) → is_linked (w.links i k) ≡ true → ⊥)
-    (quiet : n.phase ≡ ByLog → ⊥) where
-  abbrev joined_nodes : ℕ → Node
-  joined_nodes = updated w.nodes i n
-
-  stranger_at : (k : ℕ) (line : Line) → k ≡ i → n.line ≡ line → IsStranger w.nodes w.links line k
-  stranger_at k line e g = subst (λ (j : ℕ). IsStranger w.nodes w.links line j) (sym e) (subst (λ (l : Line). IsStranger w.nodes w.links l i) g stranger)
-
-  before : (l : Line) (k : ℕ) → IsStranger joined_nodes w.links l k → IsStranger w.nodes w.links l k
-  before l k q = (
-    all_updated (λ j (m : Node). j ≡ l.origin → m.line ≡ l → (w.nodes j).line ≡ l) w.nodes i n
-        (λ e g. absurd (apart (ap (λ (x : Line). x.origin) g ∙ sym e))) (λ j _ _ g. g) l.origin refl q.0,
-    q.1,
-    all_updated (λ j (m : Node). is_bunker m.role ≡ false → is_bunker (w.nodes j).role ≡ false) w.nodes i n (λ _. stranger.2) (λ _ _ e. e) k q.2,
-  )
-
-  still_made : (k : ℕ) → IsMade (w.nodes k) → IsMade (joined_nodes k)
-  still_made = all_updated (λ k (m : Node). IsMade (w.nodes k) → IsMade m) w.nodes i n (λ _. stays) (λ k _ is. is)
-
-  still_begun : (line : Line) (k : ℕ) → IsBegun w.nodes line k → IsBegun joined_nodes line k
-  still_begun line k (here, there) = (still_made k here, still_made line.origin there)
-
-  -- no site on its new line has a link to it
-  unlinked : (p : ℕ) → is_linked (w.links p i) ≡ true → n.line ≡ (w.nodes p).line → ⊥
-  unlinked p is e = by_origin (is_origin (w.nodes p).role) refl
-    where
-      by_origin : (o : Bool) → is_origin (w.nodes p).role ≡ o → ⊥
-      by_origin true o =
-          let g : n.line.origin ≡ p = ap (λ (x : Line). x.origin) e ∙ (s.good.nodes p).own_line ((s.links p i).ends is).0 o in
-          not_both (is_linked (w.links p i)) is (ap (λ (j : ℕ). is_linked (w.links j i)) (sym g) ∙ stranger.1)
-      by_origin false r = s.bunkers p i is r (subst (λ (l : Line). IsStranger w.nodes w.links l i) e stranger)
-
-  comes : (p : ℕ) → GoodLink (w.lines (w.nodes p).line).held p i (w.nodes p) n (w.links p i)
-  comes p = record {
-    ends = λ e. (((s.links p i).ends e).0, stays);
-    starts = (s.links p i).starts;
-    apart = (s.links p i).apart;
-    session = λ e. omega (arith, (s.links p i).session e, grows);
-    stored = λ v. absurd (unlinked p v.0 v.2);
-    net = λ v _. absurd (unlinked p v.0 v.2);
-    says = λ _ v. absurd (unlinked p v.0 v.2);
-  }
-
-  pub sound_joining : Good (with_node w i n) → IsWhole n → IsFed n → TakesUpdates n → IsMarked n → length n.log ≤ 0 → Sound (with_node w i n)
-  sound_joining good whole fed takes marked empty = record {
-    good = good;
-    whole = all_updated (λ k (m : Node). IsWhole m) w.nodes i n whole (λ k _. s.whole k);
-    fed = all_updated (λ k (m : Node). IsFed m) w.nodes i n fed (λ k _. s.fed k);
-    takes = all_updated (λ k (m : Node). TakesUpdates m) w.nodes i n takes (λ k _. s.takes k);
-    marked = all_updated (λ k (m : Node). IsMarked m) w.nodes i n marked (λ k _. s.marked k);
-    links =
-        all_updated (λ p (a : Node). (q : ℕ) → GoodLink (w.lines a.line).held p q a (joined_nodes q) (w.links p q)) w.nodes i n
-        (λ q. unlinked_good (w.lines n.line).held i q n (joined_nodes q) (w.links i q) (alone q))
-        (λ p _. all_updated (λ q (b : Node). GoodLink (w.lines (w.nodes p).line).held p q (w.nodes p) b (w.links p q)) w.nodes i n (comes p)
-        (λ q _. s.links p q));
-    bunkers = λ p q is. all_updated (λ j (a : Node). is_linked (w.links j q) ≡ true → is_origin a.role ≡ false
-        → IsStranger joined_nodes w.links a.line q → ⊥) w.nodes i n
-        (λ there _ _. alone q there) (λ j _ there r g. s.bunkers j q there r (before (w.nodes j).line q g)) p is;
-    packets =
-        each_weaker (GoodPacket w.nodes w.links w.lines) (GoodPacket joined_nodes w.links w.lines)
-        (λ p q. record {
-          said = all_updated (λ j (m : Node). j ≡ p.source → GoodMessage (w.lines p.line).held m p.line p.message) w.nodes i n
-              (λ e. message_joins (w.lines p.line).held (w.nodes i) n p.line _ _ grows (stranger_at p.source p.line (sym e)) quiet p.message
-              (subst (λ (j : ℕ). GoodMessage (w.lines p.line).held (w.nodes j) p.line p.message) (sym e) q.said) q.known)
-              (λ j _ e. subst (λ (x : ℕ). GoodMessage (w.lines p.line).held (w.nodes x) p.line p.message) (sym e) q.said) p.source refl;
-          known = says_later _ _ _ _ (before p.line p.target) (before p.line p.source) p.message q.known;
-          begun = still_begun p.line p.source q.begun;
-        })
-        w.packets s.packets;
-    promised =
-        each_weaker (GoodPromise w.nodes w.links) (GoodPromise joined_nodes w.links)
-        (λ e q. record {
-          kept = all_updated (λ j (m : Node). j ≡ e.site → IsKept m e.line e.number e.surety) w.nodes i n
-              (λ f. promise_joins (w.nodes i) n e.line e.number _ grows (stranger_at e.site e.line (sym f)) e.surety
-              (subst (λ (j : ℕ). IsKept (w.nodes j) e.line e.number e.surety) (sym f) q.kept) q.known)
-              (λ j _ f. subst (λ (x : ℕ). IsKept (w.nodes x) e.line e.number e.surety) (sym f) q.kept) e.site refl;
-          known = λ t. q.known (before e.line e.site t);
-          begun = still_begun e.line e.site q.begun;
-        })
-        w.promised s.promised;
-    known = all_updated (λ k (m : Node). KnownNode joined_nodes w.links k m) w.nodes i n (λ _ _ _. empty)
-        (λ k _ is o q. s.known k is o (before (w.nodes k).line k q));
-  }
-
--- ## A bare site changes
-
--- nothing was said of a bare site, and nothing of a line that it may begin
-module _ (w : World) (i sites : ℕ) (n : Node) (h : Line → History) (s : Sound w) (bare : (w.nodes i).state ≡ Bare)
-    (other : (l : Line) → (l.origin ≡ i → ⊥) → w.lines l ≡ h l) where
-  abbrev founded_nodes : ℕ → Node
-  founded_nodes = updated w.nodes i n
-
-  made_elsewhere : (k : ℕ) → IsMade (w.nodes k) → k ≡ i → ⊥
-  made_elsewhere k made e = made (ap (λ (j : ℕ). (w.nodes j).state) e ∙ bare)
-
-  same_elsewhere : (k : ℕ) → IsMade (w.nodes k) → w.nodes k ≡ founded_nodes k
-  same_elsewhere k made = by_test (λ (m : Node). w.nodes k ≡ m) (eqb k i) n (w.nodes k) (λ e. absurd (made_elsewhere k made (eqb_equal k i e))) (λ _. refl)
-
-  begun_still : (line : Line) (k : ℕ) → IsBegun w.nodes line k → IsBegun founded_nodes line k
-  begun_still line k (here, there) = (subst IsMade (same_elsewhere k here) here, subst IsMade (same_elsewhere line.origin there) there)
-
-  stranger_was : (l : Line) (k : ℕ) → IsMade (w.nodes l.origin) → IsStranger founded_nodes w.links l k → IsStranger w.nodes w.links l k
-  stranger_was l k made q = (
-    subst (λ (m : Node). m.line ≡ l) (sym (same_elsewhere l.origin made)) q.0,
-    q.1,
-    all_updated (λ j (m : Node). is_bunker m.role ≡ false → is_bunker (w.nodes j).role ≡ false) w.nodes i n (λ _. (s.good.nodes i).plain bare)
-        (λ _ _ e. e) k q.2,
-  )
-
-  pub sound_founding : Good (record w { sites = sites; nodes = founded_nodes; lines = h }) → IsWhole n → is_origin n.role ≡ true → TakesUpdates n
-      → IsMarked n → Sound (record w { sites = sites; nodes = founded_nodes; lines = h })
-  sound_founding good whole origin takes marked = record {
-    good = good;
-    whole = all_updated (λ k (m : Node). IsWhole m) w.nodes i n whole (λ k _. s.whole k);
-    fed = all_updated (λ k (m : Node). IsFed m) w.nodes i n (λ r. not_both (is_origin n.role) origin r) (λ k _. s.fed k);
-    takes = all_updated (λ k (m : Node). TakesUpdates m) w.nodes i n takes (λ k _. s.takes k);
-    marked = all_updated (λ k (m : Node). IsMarked m) w.nodes i n marked (λ k _. s.marked k);
-    links =
-        all_updated (λ p (a : Node). (q : ℕ) → GoodLink (h a.line).held p q a (founded_nodes q) (w.links p q)) w.nodes i n
-        (λ q. unlinked_good (h n.line).held i q n (founded_nodes q) (w.links i q) (λ e. made_elsewhere i ((s.links i q).ends e).0 refl))
-        (λ p _. all_updated (λ q (b : Node). GoodLink (h (w.nodes p).line).held p q (w.nodes p) b (w.links p q)) w.nodes i n
-        (unlinked_good (h (w.nodes p).line).held p i (w.nodes p) n (w.links p i) (λ e. made_elsewhere i ((s.links p i).ends e).1 refl))
-        (λ q _. held_good (w.lines (w.nodes p).line).held (h (w.nodes p).line).held p q (w.nodes p) (w.nodes q) (w.links p q) (s.links p q)));
-    bunkers = λ p q is. all_updated (λ j (a : Node). is_linked (w.links j q) ≡ true → is_origin a.role ≡ false
-        → IsStranger founded_nodes w.links a.line q → ⊥) w.nodes i n
-        (λ there _ _. made_elsewhere i ((s.links i q).ends there).0 refl)
-        (λ j _ there r g. s.bunkers j q there r (stranger_was (w.nodes j).line q (s.good.begun j ((s.links j q).ends there).0) g)) p is;
-    packets =
-        each_weaker (GoodPacket w.nodes w.links w.lines) (GoodPacket founded_nodes w.links h)
-        (λ p q. record {
-          said = subst (λ (r : History). GoodMessage r.held (founded_nodes p.source) p.line p.message) (other p.line (made_elsewhere p.line.origin q.begun.1))
-              (subst (λ (m : Node). GoodMessage (w.lines p.line).held m p.line p.message) (same_elsewhere p.source q.begun.0) q.said);
-          known = says_later _ _ _ _ (stranger_was p.line p.target q.begun.1) (stranger_was p.line p.source q.begun.1) p.message q.known;
-          begun = begun_still p.line p.source q.begun;
-        })
-        w.packets s.packets;
-    promised =
-        each_weaker (GoodPromise w.nodes w.links) (GoodPromise founded_nodes w.links)
-        (λ e q. record {
-          kept = subst (λ (m : Node). IsKept m e.line e.number e.surety) (same_elsewhere e.site q.begun.0) q.kept;
-          known = λ t. q.known (stranger_was e.line e.site q.begun.1 t);
-          begun = begun_still e.line e.site q.begun;
-        })
-        w.promised s.promised;
-    known = all_updated (λ k (m : Node). KnownNode founded_nodes w.links k m) w.nodes i n
-        (λ made r. not_both (is_origin n.role) origin r)
-        (λ k _ made r q. s.known k made r (stranger_was (w.nodes k).line k (s.good.begun k made) q));
-  }

@@ -32,6 +32,8 @@ later_logged n x = record {
   stored = stored_still n (logged n x) (omega arith) refl refl (λ m. m);
   present = λ up _. (up, omega (arith, length-append n.log (x ∷ [])));
   made = λ m. m;
+  top = omega arith;
+  stood = refl;
 }
 
 -- one more write, whatever is known of it
@@ -45,12 +47,28 @@ later_longer n x halted fuse = record {
   stored = λ k h. h;
   present = λ up _. (up, omega (arith, length-append n.log (x ∷ [])));
   made = λ m. m;
+  top = omega arith;
+  stood = refl;
 }
 
 -- an update that a receiver takes
-pub good_taken : (h : History) (s : ℕ) (n : Node) (x : Write) (number : ℕ) → IsMade n → is_origin n.role ≡ false → IsNumber h.held number x
-    → number ≡ length n.log + 1 → GoodNode h s n → GoodNode h s (with_write n x)
-good_taken h s n x number made r is next good = record {
+pub later_taken : (n : Node) (source : ℕ) (x : Write) → IsLater n (with_write n source x)
+later_taken n source x = record {
+  line = refl;
+  origin = refl;
+  bunker = refl;
+  session = omega arith;
+  safe = omega arith;
+  stored = λ k h. h;
+  present = λ up _. (up, omega (arith, length-append n.log (x ∷ [])));
+  made = λ m. m;
+  top = omega arith;
+  stood = refl;
+}
+
+pub good_taken : (h : History) (s : ℕ) (n : Node) (source : ℕ) (x : Write) (number : ℕ) → IsMade n → is_origin n.role ≡ false → IsNumber h.held number x
+    → number ≡ length n.log + 1 → GoodNode h s n → GoodNode h s (with_write n source x)
+good_taken h s n source x number made r is next good = record {
   safe_fits = omega (arith, good.safe_fits, length-append n.log (x ∷ []));
   own_line = good.own_line;
   receiver_log = λ _ _. prefix_next n.log h.held number x (good.receiver_log made r) is next;
@@ -95,6 +113,8 @@ later_applied n k mark least marks =
       present = λ up _.
           (up, omega arith);
       made = λ m. m;
+      top = omega arith;
+      stood = refl;
     }
 
 -- a crash of a receiver
@@ -123,6 +143,8 @@ later_crashed n k least made =
       present = λ up _. absurd
           (cc);
       made = λ _ e. cc;
+      top = omega arith;
+      stood = refl;
     }
 
 -- what a crash keeps
@@ -187,6 +209,8 @@ later_risen n mark marks = record {
   stored = stored_still n (risen n mark) (omega arith) refl refl marks;
   present = λ _ e. absurd (omega (arith, e));
   made = λ _ e. cc;
+  top = omega arith;
+  stood = refl;
 }
 
 -- a session that began at a site that stays down
@@ -200,6 +224,8 @@ later_begun n down = record {
   stored = λ k h. h;
   present = λ up _. absurd (let e : Down ≡ Up = sym down ∙ up in cc);
   made = λ m. m;
+  top = omega arith;
+  stood = refl;
 }
 
 pub later_halted : (n : Node) (disk : ℕ) → IsLater n (record n { halted = Some disk; fuse = burned n.fuse })
@@ -213,6 +239,8 @@ later_halted n disk = record {
   present = λ up _.
       (up, omega arith);
   made = λ m. m;
+  top = omega arith;
+  stood = refl;
 }
 
 pub good_marked : (h : History) (s : ℕ) (n : Node) → phase_takes n.phase ≡ true → GoodNode h s n → GoodNode h s (record n { mark = Consistent })
@@ -238,16 +266,18 @@ later_marked n = record {
   present = λ up _.
       (up, omega arith);
   made = λ m. m;
+  top = omega arith;
+  stood = refl;
 }
 
-pub good_joined : (h : History) (s p : ℕ) (a n : Node) → GoodNode h s (joined a p n)
-good_joined h s p a n = record {
+pub good_joined : (h : History) (s p : ℕ) (a n : Node) → IsMade n → GoodNode h s (joined a p n)
+good_joined h s p a n made = record {
   safe_fits = omega arith;
   own_line = λ _ o. absurd (cc);
   receiver_log = λ _ _. prefix_none h.held;
   origin_log = λ _ o. absurd (cc);
   origin_whole = λ o _. absurd (cc);
   origin_mark = λ o. absurd (cc);
-  plain = λ _. refl;
+  plain = λ bare. absurd (made bare);
   content = λ _. refl;
 }

@@ -47,7 +47,6 @@ pub record Fit (p s : ℕ) (a b : Node) (l : Link) : Type 0 where
   pub receives : is_origin b.role ≡ false
   pub line : b.line ≡ a.line
   pub takes : phase_takes b.phase ≡ true
-  pub other : b.other ≡ p
   pub linked : is_linked l ≡ true
   pub attached : l.attached ≡ true
   pub connected : l.connected ≡ true

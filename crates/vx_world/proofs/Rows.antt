@@ -1,6 +1,7 @@
 -- Small runs of the world, and what is said in them.
 use Rattle.std.proofs.Common.{◌≡◌, ℕ, List, [], ◌∷◌, ◌++◌, refl}
 use Rattle.std.specs.Prelude.{replicate, None}
+use Rattle.vx_model.specs.Sites.{first_line}
 use Rattle.vx_model.specs.Sizes.{is_raw_shape}
 use Rattle.vx_history.specs.World.{World, empty_world}
 use Rattle.vx_model.specs.declared.link.SyncMode.{SyncMode}
@@ -86,6 +87,11 @@ links_row : sayings (run empty_world (site_of 97 0 ++ site_of 98 1 ++ site_of 99
     ≡ Refused (Limit Links 4) ∷ []
 unfolding is_raw_shape
 links_row = refl
+
+-- a site that joined another's line stood on both
+stood_row : ((run empty_world (linked 64 NeverWaits)).nodes 1).stood ≡ first_line 1 ∷ first_line 0 ∷ []
+unfolding is_raw_shape
+stood_row = refl
 
 -- settling brings three writes, the last of two blocks, to the receiver, in packets 2 to 10
 abbrev before_settling : World

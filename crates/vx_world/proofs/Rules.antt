@@ -1,6 +1,6 @@
 -- The rule of a link, step by step as the program takes it.
 use Rattle.std.proofs.Common.{◌≡◌, ◌∙◌, ℕ, true, sym, ap}
-use Rattle.vx_history.specs.World.{Node, Link, World}
+use Rattle.vx_history.specs.World.{Node, Link, World, no_regions}
 use Rattle.vx_history.specs.Sends.{with_link}
 use Rattle.vx_history.specs.LinkForms.{plain_link, with_plain}
 use Rattle.vx_history.specs.Sending.{Sent, sent_step}
@@ -9,6 +9,16 @@ use Rattle.vx_model.specs.declared.link.Link.{Link as PlainLink}
 use Rattle.vx_history.specs.declared.sender.SEvent.{SEvent}
 use Rattle.vx_history.specs.declared.sender.SFacts.{SFacts}
 use Rattle.vx_history.proofs.Updates.{same_line_self}
+
+-- a link in memory keeps no regions that were sent
+pub ticked_is : (w new : World) (p s : ℕ) (mid put : Link) (after : PlainLink) (r : Sent) → mid ≡ w.links p s → after ≡ r.link → put ≡ with_plain mid after
+    → (record (with_plain mid after) { since = no_regions }) ≡ with_plain mid after → new ≡ with_link w p s put
+    → new ≡ with_link w p s (record (with_plain (w.links p s) r.link) { since = no_regions })
+ticked_is w new p s mid put after r is stepped made none changed =
+    changed
+    ∙ ap (λ (l : Link). with_link w p s l)
+    (made ∙ sym none ∙ ap (λ (l : Link). let m : Link = record (with_plain l after) { since = no_regions } in m) is
+    ∙ ap (λ (l : PlainLink). let m : Link = record (with_plain (w.links p s) l) { since = no_regions } in m) stepped)
 
 -- what a message of the site's own line finds there
 pub own_facts : (n m : Node) → n ≡ m → (let f : SFacts = record { safe = n.safe; line_ok = true } in f) ≡ facts_of m m.line

@@ -1,5 +1,5 @@
 -- Settling a link ends with all that is durable stored at its receiver.
-use Rattle.std.proofs.Common.{◌≡◌, ℕ, zero, suc, ◌+◌, ◌-◌, ◌≤◌, ◌<◌, List, [], ◌∷◌, ◌++◌, length, refl, ap, sym, ◌∙◌, subst, arith, Bool, true, false, length-append}
+use Rattle.std.proofs.Common.{◌≡◌, ℕ, zero, suc, ◌+◌, ◌-◌, ◌≤◌, ◌<◌, List, [], ◌∷◌, ◌++◌, length, refl, ap, sym, ◌∙◌, subst, arith, Bool, true, false, inl, inr, length-append}
 use Rattle.std.specs.Prelude.{if◌then◌else◌, leb, ltb, Some, slice_get}
 use Rattle.std.proofs.lemmas.Bool.Decides.{nat_tests}
 use Rattle.std.proofs.lemmas.List.{length-take}
@@ -70,7 +70,6 @@ module _ (w : World) (p s : ℕ) (good : GoodWorld w) (may : MaySettle w p s) wh
     receives = receiver;
     line = may.line;
     takes = (subst (λ (m : Mode). ModeSays (w.lines (w.nodes p).line).held (w.nodes s) m) may.mode ((sound.links p s).says origin followed)).1;
-    other = sound.fed s receiver ∙ ap (λ (x : Line). x.origin) may.line ∙ (sound.good.nodes p).own_line made_p origin;
     linked = may.linked;
     attached = may.attached;
     connected = may.connected;
@@ -129,9 +128,10 @@ met_by v p s a b l ps at fit sender role bunker session net stored = record {
 
 -- ## The greeting
 
--- behind it the two sites have met, and the head is as it was
+-- behind it the two sites have met, and what is durable at each is as it was
 pub greeted_meets : (w : World) (p s : ℕ) → GoodWorld w → MaySettle w p s
     → IsMet (run w (greeting_events w p s)) p s × (((run w (greeting_events w p s)).nodes p).safe ≡ (w.nodes p).safe)
+    × (((run w (greeting_events w p s)).nodes s).safe ≡ (w.nodes s).safe)
 greeted_meets w p s good_w may =
     let sound : Sound w = good_w.sound in
     let a : Node = w.nodes p in
@@ -148,10 +148,11 @@ greeted_meets w p s good_w may =
     (good.stored (followed w p s good_w may)).0 (sound.good.nodes s).safe_fits
     (λ same. good.net (followed w p s good_w may) (may.there, sym same)) in
     let m : Link = record l { session = b.session; net = length b.log; stored = b.safe; sent = told.0 } in
-    subst (λ (es : List Event). IsMet (run v es) p s × (((run v es).nodes p).safe ≡ a.safe)) (sym (new_is p s w v w.packets (hello ∷ []) refl at_v.sent (between_back p s b.line (Hello b.session (length b.log) b.safe) 0, tt))) (
+    subst (λ (es : List Event). IsMet (run v es) p s × (((run v es).nodes p).safe ≡ a.safe) × (((run v es).nodes s).safe ≡ b.safe)) (sym (new_is p s w v w.packets (hello ∷ []) refl at_v.sent (between_back p s b.line (Hello b.session (length b.log) b.safe) 0, tt))) (
       met_by (run v (deliver_each (length w.packets) (hello ∷ []))) p s a b m (w.packets ++ hello ∷ []) told.1
           (fit_link p s a b l b.session (length b.log) b.safe told.0 l.trimmed fit) may.sender may.secondary may.bunker refl refl refl,
       ap (λ (x : Node). x.safe) told.1.at_p,
+      ap (λ (x : Node). x.safe) told.1.at_s,
     )
   where
     first : (xs : List Packet) (y : Packet) → slice_get (xs ++ y ∷ []) (length xs) ≡ Some y
@@ -160,9 +161,10 @@ greeted_meets w p s good_w may =
 
 -- ## A turn
 
--- the world in which a turn is over, before it is looked at whether it has brought anything
+-- the world in which a turn is over, before it is looked at whether the link heard of it
 turned : (w : World) (p s : ℕ) → GoodWorld w → IsMet w p s
-    → (v : World) × Turned p s (w.nodes p) (w.nodes s) (w.links p s) v × ((w.links p s).stored < (w.nodes p).safe → (w.links p s).stored < (v.links p s).stored → run w (turn w p s) ≡ v)
+    → (v : World) × GoodWorld v × Turned p s (w.nodes p) (w.nodes s) (w.links p s) v
+    × (run w (turn w p s) ≡ run v (if is_stuck (w.links p s).stored (v.links p s).stored (v.nodes p).safe then greeting_events v p s else []))
 turned w p s good_w met =
     let sound : Sound w = good_w.sound in
     let small_a : AllByRecursion IsSmall (w.nodes p).log = small w p s good_w met.may in
@@ -186,19 +188,13 @@ turned w p s good_w met =
     let t : Turned p s a b l w4 = closes p s a b l w.packets small head small_a fit met.session met.net met.stored w2 c in
     let last : List Event = if is_stuck l.stored (w4.links p s).stored (w4.nodes p).safe then greeting_events w4 p s else [] in (
       w4,
+      run_good w3 heard (run_good w2 applied (run_good w1 came (run_good w sent good_w))),
       t,
-      λ below raised.
-          run_append w sent (came ++ (applied ++ (heard ++ last)))
+      run_append w sent (came ++ (applied ++ (heard ++ last)))
           ∙ run_append w1 came (applied ++ (heard ++ last))
           ∙ run_append w2 applied (heard ++ last)
-          ∙ run_append w3 heard last
-          ∙ ap (λ (es : List Event). run w4 es)
-          (by_test (λ (es : List Event). es ≡ []) (is_stuck l.stored (w4.links p s).stored (w4.nodes p).safe) (greeting_events w4 p s) []
-          (λ stuck. absurd (not_stuck l.stored (w4.links p s).stored (w4.nodes p).safe raised stuck)) (λ _. refl)),
+          ∙ run_append w3 heard last,
     )
-  where
-    not_stuck : (before stored head : ℕ) → before < stored → is_stuck before stored head ≡ true → ⊥
-    not_stuck before stored head raised stuck = grind (arith, nat_tests)
 
 waits_none : (safe have head : ℕ) → leb have safe ≡ true → safe < head → have < head
 waits_none safe have head e h = grind (arith, nat_tests)
@@ -217,26 +213,60 @@ more safe have now head below grown some fits = by_cases (leb have safe) refl
     by_cases true e = omega (arith, some (waits_none safe have head e below) (has_room safe have e), fits)
     by_cases false e = omega (arith, grown, some_wait safe have e)
 
--- what a turn does while less is stored than is durable
+is_told : (before stored head : ℕ) → is_stuck before stored head ≡ false → before < head → stored ≡ before → ⊥
+is_told before stored head calm below same = grind (arith, nat_tests)
+
+-- x is w with more stored of what is durable, and the two sites have met there
+abbrev Raised : World → (p s : ℕ) → World → Type 0
+Raised w p s x = IsMet x p s × ((w.links p s).stored < (x.links p s).stored) × ((x.nodes p).safe ≡ (w.nodes p).safe)
+
+-- What a turn does while less is stored than is durable: the link has heard of what was applied, or hears of it by a greeting.
 pub turn_raises : (w : World) (p s : ℕ) → GoodWorld w → IsMet w p s → (w.links p s).stored < (w.nodes p).safe
     → IsMet (run w (turn w p s)) p s × ((w.links p s).stored < ((run w (turn w p s)).links p s).stored) × (((run w
     (turn w p s)).nodes p).safe ≡ (w.nodes p).safe)
 turn_raises w p s good_w met below =
-    let sound : Sound w = good_w.sound in
-    let b : Node = w.nodes s in
-    let l : Link = w.links p s in
     let over = turned w p s good_w met in
     let v : World = over.0 in
-    let t : Turned p s (w.nodes p) b l v = over.1 in
-    let fuller : b.safe < length t.site.log = more b.safe (length b.log) (length t.site.log) (w.nodes p).safe
-    (omega (arith, below, met.stored)) t.grown t.some (sound.good.nodes s).safe_fits in
-    let stored : (v.links p s).stored ≡ t.site.safe = ap (λ (x : Link). x.stored) t.at.at_l ∙ t.stored in
-    let raised : l.stored < (v.links p s).stored = omega (arith, fuller, t.whole, stored, met.stored) in
-    subst (λ (x : World). IsMet x p s × (l.stored < (x.links p s).stored) × ((x.nodes p).safe ≡ (w.nodes p).safe)) (sym (over.2 below raised)) (
-      met_by v p s (w.nodes p) t.site t.link t.packets t.at t.fit met.may.sender (t.role ∙ met.may.secondary) (t.bunker ∙ met.may.bunker) t.session t.net t.stored,
-      raised,
-      ap (λ (x : Node). x.safe) t.at.at_p,
-    )
+    subst (λ (x : World). Raised w p s x) (sym over.3)
+    (by_test (λ (es : List Event). Raised w p s (run v es)) (is_stuck (w.links p s).stored (v.links p s).stored (v.nodes p).safe) (greeting_events v p s) []
+    (λ _. greets v over.1 over.2)
+    (λ calm. rests v over.2 calm))
+  where
+    -- all that the receiver has is more than was stored
+    fuller : (v : World) (t : Turned p s (w.nodes p) (w.nodes s) (w.links p s) v) → (w.links p s).stored < t.site.safe
+    fuller v t =
+        let b : Node = w.nodes s in
+        let more_there : b.safe < length t.site.log = more b.safe (length b.log) (length t.site.log) (w.nodes p).safe
+        (omega (arith, below, met.stored)) t.grown t.some (good_w.sound.good.nodes s).safe_fits in
+        omega (arith, more_there, t.whole, met.stored)
+
+    may_now : (v : World) (t : Turned p s (w.nodes p) (w.nodes s) (w.links p s) v) → MaySettle v p s
+    may_now v t = may_by v p s (w.nodes p) t.site t.link t.packets t.at t.fit met.may.sender (t.role ∙ met.may.secondary) (t.bunker ∙ met.may.bunker)
+
+    greets : (v : World) → GoodWorld v → (t : Turned p s (w.nodes p) (w.nodes s) (w.links p s) v) → Raised w p s (run v (greeting_events v p s))
+    greets v good_v t =
+        let met_now = greeted_meets v p s good_v (may_now v t) in
+        let there : (v.nodes s).safe ≡ t.site.safe = ap (λ (x : Node). x.safe) t.at.at_s in
+        let here : (v.nodes p).safe ≡ (w.nodes p).safe = ap (λ (x : Node). x.safe) t.at.at_p in (
+          met_now.0,
+          omega (arith, fuller v t, there, met_now.2, met_now.0.stored),
+          met_now.1 ∙ here,
+        )
+
+    rests : (v : World) (t : Turned p s (w.nodes p) (w.nodes s) (w.links p s) v)
+        → is_stuck (w.links p s).stored (v.links p s).stored (v.nodes p).safe ≡ false → Raised w p s v
+    rests v t calm =
+        let here : (v.nodes p).safe ≡ (w.nodes p).safe = ap (λ (x : Node). x.safe) t.at.at_p in
+        let link : (v.links p s).stored ≡ t.link.stored = ap (λ (x : Link). x.stored) t.at.at_l in
+        elim t.stored [
+          | inl told ↦ (
+            met_by v p s (w.nodes p) t.site t.link t.packets t.at t.fit met.may.sender (t.role ∙ met.may.secondary) (t.bunker ∙ met.may.bunker) t.session
+                t.net told,
+            omega (arith, fuller v t, told, link),
+            here,
+          )
+          | inr same ↦ absurd (is_told (w.links p s).stored (v.links p s).stored (v.nodes p).safe calm (omega (arith, below, here)) (link ∙ same))
+        ]
 
 -- ## Turns
 

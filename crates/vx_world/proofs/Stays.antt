@@ -63,7 +63,10 @@ outcome_keeps w (Apply q count reached) s =
 outcome_keeps w (Pump p q) s =
     on_link_keeps keeps_links w p q _ s (λ up _ linked. when_live_keeps w q (w.links p q) _ s (pump_keeps w p q s up linked))
 outcome_keeps w (Tick p q) s =
-    let l : PlainLink = plain_link q (w.links p q) in on_link_keeps keeps_links w p q _ s (λ _ _ _. quiet_keeps w p q l.connected l.paused l.net 0 s)
+    let l : LinkRecord = Events.ticked_link w p q in
+    on_link_keeps keeps_links w p q (done (with_link w p q l)) s
+    (λ _ _ _. sound_with_link w p q l s (Links.link_like (w.lines (w.nodes p).line).held p q (w.nodes p) (w.nodes q) (w.links p q) l refl refl refl refl (λ e. e) (s.links p q))
+    (λ is. is) (λ _ is. is))
 outcome_keeps w (Deliver number) s = deliver_keeps w number s
 outcome_keeps w (Connect p q) s = on_link_keeps keeps_links w p q _ s (λ _ _ _. connect_keeps w p q s)
 outcome_keeps w (Cut p q) s =
@@ -111,6 +114,9 @@ empty_sound = record {
   whole = λ _ _. omega arith;
   fed = λ _ r. absurd (cc);
   takes = λ _. refl;
+  newest = λ _ _. refl;
+  stands = λ _ made. absurd (made refl);
+  come = λ _. tt;
   marked = λ _ up. absurd (let e : Bare ≡ Up = up in cc);
   bunkers = λ p q is. absurd (let e : false ≡ true = is in cc);
   links = λ p q. unlinked_good [] p q (empty_world.nodes p) (empty_world.nodes q) (empty_world.links p q) (λ e. cc);

@@ -37,7 +37,7 @@ use Rattle.vx_history.specs.declared.receiver.RAction.TheVariants as act
 use Rattle.vx_history.specs.declared.receiver.REvent.TheVariants.{Update as HearUpdate, Applied}
 use Rattle.vx_history.specs.declared.receiver.RState.{RState}
 use Rattle.vx_history.specs.declared.sender.SEvent.{SEvent}
-use Rattle.vx_history.specs.declared.sender.SEvent.TheVariants.{Pump as PumpLink, Tick as TickLink, Connect as ConnectLink, Cut as CutLink, Pause as PauseLink, Resume as ResumeLink, Hello as HearHello, NetAck as HearNetAck, DataAck as HearDataAck}
+use Rattle.vx_history.specs.declared.sender.SEvent.TheVariants.{Pump as PumpLink, Connect as ConnectLink, Cut as CutLink, Pause as PauseLink, Resume as ResumeLink, Hello as HearHello, NetAck as HearNetAck, DataAck as HearDataAck}
 use Rattle.vx_world.specs.Twins.{IsElsewhere}
 use Rattle.vx_world.proofs.Guards.{bare_is}
 use Rattle.vx_world.proofs.Halving.{aside}
@@ -168,8 +168,8 @@ module _ (s : ℕ) (w : World) (up : (w.nodes s).state ≡ Up) (halted : is_runn
   taken_still p x (act.Take number) apart = by_whole (completes (w.gathering p.target) p)
     where
       by_whole : (b : Bool) → Leaves (Events.taken_if b w p x number)
-      by_whole true = sent_still (with_node w p.target (Events.with_write (w.nodes p.target) x)) _
-          (node_still p.target (Events.with_write (w.nodes p.target) x) apart)
+      by_whole true = sent_still (with_node w p.target (Events.with_write (w.nodes p.target) p.source x)) _
+          (node_still p.target (Events.with_write (w.nodes p.target) p.source x) apart)
       by_whole false = same
   taken_still p x (act.DataAck number) apart = same
 
@@ -272,7 +272,7 @@ module _ (s : ℕ) (w : World) (up : (w.nodes s).state ≡ Up) (halted : is_runn
       link_still keeps_links p q _
       (λ apart. tested (not ((w.links p q).attached && (w.links p q).connected)) _ _
       (λ _. tested (w.links p q).paused _ _ (λ _. moved_still p q PumpLink apart)))
-  outcome_still (Tick p q) there calm = link_still keeps_links p q _ (λ apart. moved_still p q TickLink apart)
+  outcome_still (Tick p q) there calm = link_still keeps_links p q _ (λ apart. row_still w p _ same apart)
   outcome_still (Deliver number) there calm = delivered_still number (Events.packet_at w.packets number)
   outcome_still (Connect p q) there calm =
       link_still keeps_links p q _ (λ apart. sent_still (Events.link_event w p q ConnectLink) (Events.greeting_back w p q) (moved_still p q ConnectLink apart))

@@ -3,7 +3,7 @@ use Rattle.std.proofs.Common.{◌≡◌, ℕ, suc, ◌+◌, ◌-◌, ◌≤◌, 
 use Rattle.std.specs.Prelude.{if◌then◌else◌, leb, ltb, eqb, not, max, min, slice_get, Some, None, Option, ◌&&◌}
 use Rattle.std.proofs.lemmas.Bool.Decides.{nat_tests}
 use Rattle.vx_model.specs.Content.{Write}
-use Rattle.vx_history.specs.World.{World, Node, Link, Packet, Message, Update, NetAck, DataAck, with_node}
+use Rattle.vx_history.specs.World.{World, Node, Link, Packet, Message, Update, NetAck, DataAck, no_regions, with_node}
 use Rattle.vx_model.specs.Sites.{is_origin, same_line}
 use Rattle.vx_history.specs.Admission.{is_live}
 use Rattle.vx_history.specs.Sending.{Sent, sent_step, by_log, pumped_up_to, with_nothing, with_ignored, memory_acknowledged, disk_acknowledged, if_on_line}
@@ -12,7 +12,7 @@ use Rattle.vx_history.specs.LinkForms.{plain_link, with_plain, plain_receiver}
 use Rattle.vx_model.specs.declared.history.Line.{Line}
 use Rattle.vx_model.specs.declared.site.SiteState.TheVariants.{Up}
 use Rattle.vx_history.specs.declared.sender.SEvent.{SEvent}
-use Rattle.vx_history.specs.declared.sender.SEvent.TheVariants.{Pump as PumpLink, Tick as TickLink, NetAck as HearNetAck, DataAck as HearDataAck}
+use Rattle.vx_history.specs.declared.sender.SEvent.TheVariants.{Pump as PumpLink, NetAck as HearNetAck, DataAck as HearDataAck}
 use Rattle.vx_history.specs.declared.sender.Action.TheVariants.{Updates}
 use Rattle.vx_history.specs.declared.receiver.RState.{RState}
 use Rattle.vx_history.specs.declared.receiver.RAction.{RAction}
@@ -25,7 +25,7 @@ use Rattle.vx_history.specs.Refusals.{Outcome, says, when_live, on_link, keeps_l
 use Rattle.vx_model.specs.Sites.{is_up}
 use Rattle.vx_history.specs.Events
 use Rattle.vx_history.specs.Gatherings.{key_of, came_after, completes, left_by}
-use Rattle.vx_model.specs.declared.limits.TheConstants.{MOST_PACKETS}
+use Rattle.vx_model.specs.declared.limits.TheConstants.{MOST_AHEAD, MOST_PACKETS}
 use Rattle.vx_history.specs.Step.{outcome_of, step, done}
 use Rattle.vx_world.proofs.Pair.{gathers_at, counted_at, At, Fit, link_event_at, sending_at, with_node_at, with_link_at, link_passes, hears, passes, falls}
 
@@ -55,13 +55,15 @@ module _ (v : World) (p s : ℕ) (a b : Node) (l : Link) (ps : List Packet) (at 
   nothing_sent w m h = subst (λ (x : List Packet). At w p s a b m x) (append-nil ps) h
 
   -- what was sent counts as lost
-  pub tick_at : At (step v (Tick p s)).world p s a b (record l { sent = l.net; trimmed = 0 }) ps
+  pub tick_at : At (step v (Tick p s)).world p s a b (record l { sent = l.net; trimmed = 0; since = no_regions }) ps
   tick_at =
-      counted_at p s a b (record l { sent = l.net; trimmed = 0 }) ps v (Tick p s)
-      (nothing_sent (outcome_of v (Tick p s)).world (record l { sent = l.net; trimmed = 0 })
-      (subst (λ (o : Outcome). At o.world p s a b (record l { sent = l.net; trimmed = 0 }) (ps ++ []))
-      (sym (link_passes v p s a b l ps at (done (Events.link_event v p s TickLink)) fit))
-      (link_event_at v p s a b l ps at TickLink)))
+      let m : Link = record l { sent = l.net; trimmed = 0; since = no_regions } in
+      let is : Events.ticked_link v p s ≡ m =
+      ap (λ (x : Link). let y : Link = record x { sent = x.net; trimmed = 0; since = no_regions } in y) at.at_l in
+      counted_at p s a b m ps v (Tick p s)
+      (subst (λ (o : Outcome). At o.world p s a b m ps)
+      (sym (link_passes v p s a b l ps at (done (Events.ticked_at v p s)) fit))
+      (subst (λ (x : Link). At (with_link v p s x) p s a b m ps) (sym is) (with_link_at v p s a b l ps at m)))
 
   pub live : (is_live (plain_link s l) && by_log l.mode) ≡ true
   live =
@@ -69,7 +71,7 @@ module _ (v : World) (p s : ℕ) (a b : Node) (l : Link) (ps : List Packet) (at 
       (both l.attached (l.connected && not l.paused) fit.attached (both l.connected (not l.paused) fit.connected (ap not fit.running)))
       (ap by_log fit.mode)
 
-  pub pumps : sent_step (plain_link s l) PumpLink (Events.facts_of a a.line) ≡ pumped_up_to (plain_link s l) (max l.sent l.stored) (min a.safe (l.net + 8))
+  pub pumps : sent_step (plain_link s l) PumpLink (Events.facts_of a a.line) ≡ pumped_up_to (plain_link s l) (max l.sent l.stored) (min a.safe (l.net + MOST_AHEAD))
   pumps = by_true (is_live (plain_link s l) && by_log l.mode) _ _ live
 
   pub pump_passes : (o : Outcome) → on_link v p s (when_live v s (v.links p s) o) ≡ o
@@ -81,12 +83,12 @@ module _ (v : World) (p s : ℕ) (a b : Node) (l : Link) (ps : List Packet) (at 
       ∙ passes (v.links p s).paused _ v o (ap (λ (x : Link). x.paused) at.at_l ∙ fit.running)
 
   -- what the receiver may lack is sent
-  pub pump_at : (low high : ℕ) → max l.sent l.stored ≡ low → min a.safe (l.net + 8) ≡ high → low < high
+  pub pump_at : (low high : ℕ) → max l.sent l.stored ≡ low → min a.safe (l.net + MOST_AHEAD) ≡ high → low < high
       → At (step v (Pump p s)).world p s a b (record l { sent = high }) (ps ++ updates p s a.line (low + 1) (between (low + 1) high a.log))
   pump_at low high is_low is_high less =
       let r : Sent = record { link = record (plain_link s l) { sent = high }; action = Updates (low + 1) high } in
       let e : sent_step (plain_link s l) PumpLink (Events.facts_of a a.line) ≡ r =
-      pumps ∙ ap (λ k. pumped_up_to (plain_link s l) k (min a.safe (l.net + 8))) is_low ∙ ap (λ k. pumped_up_to (plain_link s l) low k) is_high ∙ by_true
+      pumps ∙ ap (λ k. pumped_up_to (plain_link s l) k (min a.safe (l.net + MOST_AHEAD))) is_low ∙ ap (λ k. pumped_up_to (plain_link s l) low k) is_high ∙ by_true
       (ltb low high) _ _ (below low high less) in
       counted_at p s a b (record l { sent = high }) (ps ++ updates p s a.line (low + 1) (between (low + 1) high a.log)) v (Pump p s)
       (subst (λ (o : Outcome). At o.world p s a b (record l { sent = high }) (ps ++ updates p s a.line (low + 1) (between (low + 1) high a.log)))
@@ -97,12 +99,12 @@ module _ (v : World) (p s : ℕ) (a b : Node) (l : Link) (ps : List Packet) (at 
       below : (m n : ℕ) → m < n → ltb m n ≡ true
       below m n h = grind (arith, nat_tests)
 
-  pub pump_none : max l.sent l.stored ≡ l.sent → min a.safe (l.net + 8) ≤ l.sent → At (step v (Pump p s)).world p s a b l ps
+  pub pump_none : max l.sent l.stored ≡ l.sent → min a.safe (l.net + MOST_AHEAD) ≤ l.sent → At (step v (Pump p s)).world p s a b l ps
   pump_none is_low most =
       let r : Sent = with_nothing (plain_link s l) in
       let e : sent_step (plain_link s l) PumpLink (Events.facts_of a a.line) ≡ r =
-      pumps ∙ ap (λ k. pumped_up_to (plain_link s l) k (min a.safe (l.net + 8))) is_low ∙ by_false (ltb l.sent (min a.safe (l.net + 8))) _ _
-      (above l.sent (min a.safe (l.net + 8)) most) in
+      pumps ∙ ap (λ k. pumped_up_to (plain_link s l) k (min a.safe (l.net + MOST_AHEAD))) is_low ∙ by_false (ltb l.sent (min a.safe (l.net + MOST_AHEAD))) _ _
+      (above l.sent (min a.safe (l.net + MOST_AHEAD)) most) in
       counted_at p s a b l ps v (Pump p s)
       (nothing_sent (outcome_of v (Pump p s)).world l
       (subst (λ (o : Outcome). At o.world p s a b l (ps ++ [])) (sym (pump_passes (done (Events.link_event v p s PumpLink))))
@@ -168,14 +170,14 @@ module _ (v : World) (p s : ℕ) (a b : Node) (l : Link) (ps : List Packet) (at 
   -- an update that is whole is taken
   pub taken_at : (k n : ℕ) (x : Write) (part : ℕ) → IsYoung ps k → slice_get ps k ≡ Some (the_update n x part) → n ≡ length b.log + 1
       → ltb (length b.log - b.safe) 16 ≡ true → completes (v.gathering s) (the_update n x part) ≡ true
-      → At (step v (Deliver (suc k))).world p s a (Events.with_write b x) l (ps ++ the_ack n ∷ [])
+      → At (step v (Deliver (suc k))).world p s a (Events.with_write b p x) l (ps ++ the_ack n ∷ [])
   taken_at k n x part young e next room whole =
       let q : Packet = the_update n x part in
-      let c : Node = Events.with_write b x in
+      let c : Node = Events.with_write b p x in
       let qs : List Packet = ps ++ the_ack n ∷ [] in
       deliver_via k q (Events.taken_if true v q x n) a c l qs young e
       (update_is n x part (Take n) (can_take n next room) ∙ ap (λ (t : Bool). Events.taken_if t v q x n) whole)
-      (subst (λ (y : Node). At (Events.from_memory (with_node v s (Events.with_write y x)) y q n) p s a c l qs) (sym at.at_s)
+      (subst (λ (y : Node). At (Events.from_memory (with_node v s (Events.with_write y p x)) y q n) p s a c l qs) (sym at.at_s)
       (sending_at (with_node v s c) p s a c l ps (with_node_at v p s a b l ps at c fit.apart) (the_ack n ∷ [])))
 
   -- of one that is not whole the part is kept

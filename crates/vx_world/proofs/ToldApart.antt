@@ -120,10 +120,10 @@ module _ (v : World) (p s : ℕ) (a b : Node) (l : Link) (ps : List Packet) (at 
       nothing : (m n : ℕ) → m ≡ 0 → eqb (min m n) 0 ≡ true
       nothing m n h = grind (arith, nat_tests)
 
-  -- all that waits is applied, and acknowledged
+  -- all that waits is applied, and acknowledged to the site that feeds the receiver
   pub apply_all : (count : ℕ) → count ≡ length b.log - b.safe → 0 < count
       → (mark : Mark) × At (step v (Apply s count 0)).world p s a (Events.applied b (length b.log) mark) l
-      (ps ++ packet s p b.line (DataAck (length b.log)) 0 ∷ [])
+      (ps ++ packet s b.fed_by b.line (DataAck (length b.log)) 0 ∷ [])
   apply_all count all some =
       let t : RState = plain_receiver b in
       let r : Received = with_applied t (t.waiting - count) in
@@ -134,17 +134,15 @@ module _ (v : World) (p s : ℕ) (a b : Node) (l : Link) (ps : List Packet) (at 
       ap (λ (n : Node). Events.applied_by v s (records_applied (plain_receiver n) count).state (records_applied (plain_receiver n) count).action) at.at_s
       ∙ e b in (
         r.state.mark,
-        counted_at p s a (Events.applied b (length b.log) r.state.mark) l (ps ++ packet s p b.line (DataAck (length b.log)) 0 ∷ []) v (Apply s count 0)
+        counted_at p s a (Events.applied b (length b.log) r.state.mark) l (ps ++ packet s b.fed_by b.line (DataAck (length b.log)) 0 ∷ []) v (Apply s count 0)
             (subst (λ (o : Outcome). At o.world p s a (Events.applied b (length b.log) r.state.mark) l
-            (ps ++ packet s p b.line (DataAck (length b.log)) 0 ∷ [])) (sym (apply_passes count ∙ is))
+            (ps ++ packet s b.fed_by b.line (DataAck (length b.log)) 0 ∷ [])) (sym (apply_passes count ∙ is))
             (subst (λ k. At (Events.acknowledged v s (Events.applied (v.nodes s) k r.state.mark)) p s a (Events.applied b (length b.log) r.state.mark) l
-            (ps ++ packet s p b.line (DataAck (length b.log)) 0 ∷ [])) (sym number)
+            (ps ++ packet s b.fed_by b.line (DataAck (length b.log)) 0 ∷ [])) (sym number)
             (subst (λ (y : Node). At (Events.acknowledged v s (Events.applied y (length b.log) r.state.mark)) p s a
-            (Events.applied b (length b.log) r.state.mark) l (ps ++ packet s p b.line (DataAck (length b.log)) 0 ∷ [])) (sym at.at_s)
-            (subst (λ q. At (sending (with_node v s (Events.applied b (length b.log) r.state.mark)) (packets_of s q b.line (DataAck (length b.log)))) p s a
-            (Events.applied b (length b.log) r.state.mark) l (ps ++ packet s p b.line (DataAck (length b.log)) 0 ∷ [])) (sym fit.other)
+            (Events.applied b (length b.log) r.state.mark) l (ps ++ packet s b.fed_by b.line (DataAck (length b.log)) 0 ∷ [])) (sym at.at_s)
             (sending_at (with_node v s (Events.applied b (length b.log) r.state.mark)) p s a (Events.applied b (length b.log) r.state.mark) l ps
-            (with_node_at v p s a b l ps at (Events.applied b (length b.log) r.state.mark) fit.apart) (packet s p b.line (DataAck (length b.log)) 0 ∷ [])))))),
+            (with_node_at v p s a b l ps at (Events.applied b (length b.log) r.state.mark) fit.apart) (packet s b.fed_by b.line (DataAck (length b.log)) 0 ∷ []))))),
       )
     where
       something : (m n : ℕ) → m ≡ n → 0 < m → eqb (min m n) 0 ≡ false

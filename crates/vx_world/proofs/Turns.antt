@@ -1,6 +1,6 @@
 -- A turn of settling raises what is stored, and turns come to an end.
-use Rattle.std.proofs.Common.{◌≡◌, ℕ, zero, suc, ◌+◌, ◌*◌, ◌/◌, ◌-◌, ◌≤◌, ◌<◌, List, [], ◌∷◌, ◌++◌, length, take, drop, refl, ap, sym, ◌∙◌, subst, arith, Bool, true, false, length-append}
-use Rattle.std.specs.Prelude.{ltb, eqb, max, min, pred, slice_get, Some}
+use Rattle.std.proofs.Common.{◌≡◌, ℕ, zero, suc, ◌+◌, ◌*◌, ◌/◌, ◌-◌, ◌≤◌, ◌<◌, List, [], ◌∷◌, ◌++◌, length, take, drop, refl, ap, sym, ◌∙◌, subst, arith, Bool, true, false, ◌⊎◌, inl, inr, length-append}
+use Rattle.std.specs.Prelude.{ltb, eqb, max, min, pred, slice_get, Some, if◌then◌else◌}
 use Rattle.std.proofs.lemmas.Bool.Decides.{nat_tests}
 use Rattle.std.proofs.Math.Nat.{lt-div-mul-add}
 use Rattle.std.proofs.Math.Numerals.{sub-one}
@@ -9,11 +9,12 @@ use Rattle.std.proofs.lemmas.List.{length-take, length-drop}
 use Rattle.std.specs.List.{AllByRecursion}
 use Rattle.vx_model.specs.Content.{Write, blocks_in}
 use Rattle.vx_model.specs.declared.history.Line.{Line}
-use Rattle.vx_model.specs.declared.limits.TheConstants.{MOST_CALL_BLOCKS, MOST_PACKETS}
-use Rattle.vx_history.specs.World.{World, Node, Link, Packet, Update, DataAck}
+use Rattle.vx_model.specs.declared.limits.TheConstants.{MOST_AHEAD, MOST_CALL_BLOCKS, MOST_PACKETS}
+use Rattle.vx_history.specs.World.{World, Node, Link, Packet, Update, DataAck, no_regions}
 use Rattle.vx_model.specs.declared.site.Mark.{Mark}
 use Rattle.vx_history.specs.declared.event.Event.{Event}
-use Rattle.vx_history.specs.declared.event.Event.TheVariants.{Apply, Pump, Tick}
+use Rattle.vx_history.specs.declared.event.Event.TheVariants.{Apply, Pump, Tick, Deliver}
+use Rattle.vx_history.proofs.Updates.{eqb_equal}
 use Rattle.vx_history.specs.Sends.{packet, updates, between, further_parts}
 use Rattle.vx_history.specs.Events.{applied}
 use Rattle.vx_history.specs.Step.{step, run}
@@ -21,7 +22,7 @@ use Rattle.vx_world.specs.Settling.{is_between, deliver_between, deliver_new, de
 use Rattle.vx_world.proofs.Pair.{At, Fit}
 use Rattle.vx_world.proofs.Told.{append-nil, tick_at, pump_at, pump_none, disk_at}
 use Rattle.vx_world.proofs.ToldApart.{apply_none, apply_all}
-use Rattle.vx_world.proofs.Batches.{deliver_each, all_between, between_back, updates_between, in_new, fit_log, fit_link}
+use Rattle.vx_world.proofs.Batches.{deliver_each, all_between, between_back, between_none, updates_between, in_new, fit_log, fit_link, fit_since}
 use Rattle.vx_world.proofs.Arriving.{Arrived, Told, parts_length, acks_between, updates_any, acks_any}
 
 pub run_append : (w : World) (xs ys : List Event) → run w (xs ++ ys) ≡ run (run w xs) ys
@@ -110,17 +111,17 @@ module _ (p s : ℕ) (a b : Node) (l : Link) (ps : List Packet) (fits : b.safe �
   pub record Sent (w : World) : Type 0 where
     pub high : ℕ
     pub writes : List Write
-    pub at : At w p s a b (record l { sent = high; trimmed = 0 }) (ps ++ updates p s a.line (length b.log + 1) writes)
+    pub at : At w p s a b (record l { sent = high; trimmed = 0; since = no_regions }) (ps ++ updates p s a.line (length b.log + 1) writes)
     pub some : length b.log < a.safe → 0 < length writes
     pub few : length (updates p s a.line (length b.log + 1) writes) ≤ MOST_PACKETS
 
   pub sends : (w : World) → At w p s a b l ps → Sent (run w (Tick p s ∷ Pump p s ∷ []))
   sends w at =
-      let high : ℕ = min a.safe (l.net + 8) in
+      let high : ℕ = min a.safe (l.net + MOST_AHEAD) in
       let v : World = (step w (Tick p s)).world in
-      let m : Link = record l { sent = l.net; trimmed = 0 } in
+      let m : Link = record l { sent = l.net; trimmed = 0; since = no_regions } in
       let at_v : At v p s a b m ps = tick_at w p s a b l ps at fit in
-      let fit_v : Fit p s a b m = fit_link p s a b l l.session l.net l.stored l.net 0 fit in
+      let fit_v : Fit p s a b m = fit_since p s a b (record l { sent = l.net; trimmed = 0 }) no_regions (fit_link p s a b l l.session l.net l.stored l.net 0 fit) in
       by_value (ltb (length b.log) high)
       (λ less. record {
         high = high;
@@ -147,36 +148,38 @@ module _ (p s : ℕ) (a b : Node) (l : Link) (ps : List Packet) (fits : b.safe �
   pub record Came (w : World) : Type 0 where
     pub count : ℕ
     pub log : List Write
+    pub fed : ℕ
     pub high : ℕ
     pub packets : List Packet
-    pub at : At w p s a (record b { log = log }) (record l { net = l.net + count; sent = high; trimmed = 0 }) packets
+    pub at : At w p s a (record b { log = log; fed_by = fed }) (record l { net = l.net + count; sent = high; trimmed = 0; since = no_regions }) packets
     pub grown : length log ≡ length b.log + count
     pub some : length b.log < a.safe → ltb (length b.log - b.safe) 16 ≡ true → 0 < count
 
   pub comes : (v w : World) → At v p s a b l ps → Sent w → Came (run w (delivery p s v w))
   comes v w at st =
       let batch : List Packet = updates p s a.line (length b.log + 1) st.writes in
-      let m : Link = record l { sent = st.high; trimmed = 0 } in
-      let fit_m : Fit p s a b m = fit_link p s a b l l.session l.net l.stored st.high 0 fit in
+      let m : Link = record l { sent = st.high; trimmed = 0; since = no_regions } in
+      let fit_m : Fit p s a b m = fit_since p s a b (record l { sent = st.high; trimmed = 0 }) no_regions (fit_link p s a b l l.session l.net l.stored st.high 0 fit) in
       let first : World = run w (deliver_each (length ps) batch) in
       let came : Arrived p s a b m (ps ++ batch) st.writes (length batch) first =
       updates_any p s a st.writes (length ps) (length b.log + 1) w b m (ps ++ batch) st.at fit_m (in_new ps batch) refl
       (omega (arith, st.few, length-append ps batch)) in
       let log : List Write = b.log ++ take came.count st.writes in
-      let c : Node = record b { log = log } in
+      let c : Node = record b { log = log; fed_by = came.fed } in
       let all : List Packet = (ps ++ batch) ++ came.acks in
       let second : World = run first (deliver_each (length (ps ++ batch)) came.acks) in
       let told : Told p s a c m all (length b.log + came.count) came.acks second =
-      acks_any p s a c came.acks (length (ps ++ batch)) (length b.log + came.count) first m all came.at (fit_log p s a b m log fit_m)
+      acks_any p s a c came.acks (length (ps ++ batch)) (length b.log + came.count) first m all came.at (fit_log p s a b m log came.fed fit_m)
       (in_new (ps ++ batch) came.acks) came.are session (omega (arith, net))
       (omega (arith, came.short, st.few, length-append (ps ++ batch) came.acks)) in
       let known : told.net ≡ l.net + came.count = knows came.count told.net told.rises told.most (λ some. told.all (came.last some)) in
       let over : Came second = record {
         count = came.count;
         log = log;
+        fed = came.fed;
         high = st.high;
         packets = all;
-        at = subst (λ (i : ℕ). At second p s a c (record l { net = i; sent = st.high; trimmed = 0 }) all) known told.at;
+        at = subst (λ (i : ℕ). At second p s a c (record l { net = i; sent = st.high; trimmed = 0; since = no_regions }) all) known told.at;
         grown = omega (arith, length-append b.log (take came.count st.writes), length-take came.count st.writes, came.few);
         some = λ below room. came.some (st.some below) room;
       } in
@@ -191,7 +194,8 @@ module _ (p s : ℕ) (a b : Node) (l : Link) (ps : List Packet) (fits : b.safe �
       knows zero now least most all = omega (arith, least, most, net)
       knows (suc k) now least most all = omega (arith, all (omega arith), net)
 
--- a turn is over: all that the receiver has is on its disks, and the link knows it
+-- A turn is over: all that the receiver has is on its disks. The link knows it, or counts as stored what it counted, where the receiver told
+-- another site.
 pub record Turned (p s : ℕ) (a b : Node) (l : Link) (w : World) : Type 0 where
   pub site : Node
   pub link : Link
@@ -200,7 +204,7 @@ pub record Turned (p s : ℕ) (a b : Node) (l : Link) (w : World) : Type 0 where
   pub fit : Fit p s a site link
   pub session : link.session ≡ site.session
   pub net : link.net ≡ length site.log
-  pub stored : link.stored ≡ site.safe
+  pub stored : (link.stored ≡ site.safe) ⊎ (link.stored ≡ l.stored)
   pub whole : site.safe ≡ length site.log
   pub grown : length b.log ≤ length site.log
   pub some : length b.log < a.safe → ltb (length b.log - b.safe) 16 ≡ true → length b.log < length site.log
@@ -218,7 +222,6 @@ fit_applied p s a b l number mark fit = record {
   receives = fit.receives;
   line = fit.line;
   takes = fit.takes;
-  other = fit.other;
   linked = fit.linked;
   attached = fit.attached;
   connected = fit.connected;
@@ -232,7 +235,7 @@ module _ (p s : ℕ) (a b : Node) (l : Link) (ps : List Packet) (fits : b.safe �
   pub closes : (w : World) → Came p s a b l ps fits whole small fit session net stored w
       → let x = run w (Apply s (length (w.nodes s).log - (w.nodes s).safe) 0 ∷ []) in Turned p s a b l (run x (delivery p s w x))
   closes w came =
-      let n : Node = record b { log = came.log } in
+      let n : Node = record b { log = came.log; fed_by = came.fed } in
       subst (λ (y : Node). let x = run w (Apply s (length y.log - y.safe) 0 ∷ []) in Turned p s a b l (run x (delivery p s w x))) (sym came.at.at_s)
       (by_value (eqb (length came.log - b.safe) 0) (λ none. at_rest (is_none (length came.log - b.safe) none))
       (λ some. at_work (is_some (length came.log - b.safe) some)))
@@ -243,14 +246,15 @@ module _ (p s : ℕ) (a b : Node) (l : Link) (ps : List Packet) (fits : b.safe �
       is_some : (m : ℕ) → eqb m 0 ≡ false → 0 < m
       is_some m h = grind (arith, nat_tests)
 
-      fit_came : Fit p s a (record b { log = came.log }) (record l { net = l.net + came.count; sent = came.high; trimmed = 0 })
-      fit_came = fit_log p s a b (record l { net = l.net + came.count; sent = came.high; trimmed = 0 }) came.log
-          (fit_link p s a b l l.session (l.net + came.count) l.stored came.high 0 fit)
+      fit_came : Fit p s a (record b { log = came.log; fed_by = came.fed }) (record l { net = l.net + came.count; sent = came.high; trimmed = 0; since = no_regions })
+      fit_came = fit_log p s a b (record l { net = l.net + came.count; sent = came.high; trimmed = 0; since = no_regions }) came.log came.fed
+          (fit_since p s a b (record l { net = l.net + came.count; sent = came.high; trimmed = 0 }) no_regions
+          (fit_link p s a b l l.session (l.net + came.count) l.stored came.high 0 fit))
 
       at_rest : length came.log - b.safe ≡ 0 → (let x = run w (Apply s (length came.log - b.safe) 0 ∷ []) in Turned p s a b l (run x (delivery p s w x)))
       at_rest none =
-          let n : Node = record b { log = came.log } in
-          let m : Link = record l { net = l.net + came.count; sent = came.high; trimmed = 0 } in
+          let n : Node = record b { log = came.log; fed_by = came.fed } in
+          let m : Link = record l { net = l.net + came.count; sent = came.high; trimmed = 0; since = no_regions } in
           let x : World = run w (Apply s (length came.log - b.safe) 0 ∷ []) in
           let at_x : At x p s a n m came.packets = apply_none w p s a n m came.packets came.at fit_came (length came.log - b.safe) none in
           let quiet : deliver_new p s w x ≡ [] = nothing_new p s w x came.packets came.at.sent at_x.sent in
@@ -262,7 +266,7 @@ module _ (p s : ℕ) (a b : Node) (l : Link) (ps : List Packet) (fits : b.safe �
             fit = fit_came;
             session = session;
             net = omega (arith, net, came.grown);
-            stored = stored;
+            stored = inl stored;
             whole = omega (arith, none, fits, came.grown);
             grown = omega (arith, came.grown);
             some = λ below room. omega (arith, came.grown, came.some below room);
@@ -272,16 +276,19 @@ module _ (p s : ℕ) (a b : Node) (l : Link) (ps : List Packet) (fits : b.safe �
           subst (λ (es : List Event). Turned p s a b l (run x (es ++ deliver_new p s x (run x es)))) (sym quiet)
           (subst (λ (es : List Event). Turned p s a b l (run x es)) (sym (nothing_new p s x x came.packets at_x.sent at_x.sent)) over)
 
-      at_work : 0 < length came.log - b.safe → (let x = run w (Apply s (length came.log - b.safe) 0 ∷ []) in Turned p s a b l (run x (delivery p s w x)))
-      at_work some =
-          let n : Node = record b { log = came.log } in
-          let m : Link = record l { net = l.net + came.count; sent = came.high; trimmed = 0 } in
+      -- the records are applied, and the receiver tells the link's site
+      told_back : came.fed ≡ p → 0 < length came.log - b.safe
+          → (let x = run w (Apply s (length came.log - b.safe) 0 ∷ []) in Turned p s a b l (run x (delivery p s w x)))
+      told_back back some =
+          let n : Node = record b { log = came.log; fed_by = came.fed } in
+          let m : Link = record l { net = l.net + came.count; sent = came.high; trimmed = 0; since = no_regions } in
           let x : World = run w (Apply s (length came.log - b.safe) 0 ∷ []) in
           let done = apply_all w p s a n m came.packets came.at fit_came (length came.log - b.safe) refl some in
           let mark : Mark = done.0 in
           let z : Node = applied n (length came.log) mark in
           let ack : Packet = packet s p b.line (DataAck (length came.log)) 0 in
-          let at_x : At x p s a z m (came.packets ++ ack ∷ []) = done.1 in
+          let at_x : At x p s a z m (came.packets ++ ack ∷ []) =
+          subst (λ (q : ℕ). At x p s a z m (came.packets ++ packet s q b.line (DataAck (length came.log)) 0 ∷ [])) back done.1 in
           let fit_x : Fit p s a z m = fit_applied p s a n m (length came.log) mark fit_came in
           let u : World = run x (deliver_each (length came.packets) (ack ∷ [])) in
           let link : Link = record m { stored = length came.log; net = max m.net (length came.log) } in
@@ -297,7 +304,7 @@ module _ (p s : ℕ) (a b : Node) (l : Link) (ps : List Packet) (fits : b.safe �
             fit = fit_link p s a z m m.session (max m.net (length came.log)) (length came.log) m.sent m.trimmed fit_x;
             session = session;
             net = omega (arith, net, came.grown);
-            stored = refl;
+            stored = inl refl;
             whole = refl;
             grown = omega (arith, came.grown);
             some = λ below room. omega (arith, came.grown, came.some below room);
@@ -312,3 +319,40 @@ module _ (p s : ℕ) (a b : Node) (l : Link) (ps : List Packet) (fits : b.safe �
           first : (xs : List Packet) (y : Packet) → slice_get (xs ++ y ∷ []) (length xs) ≡ Some y
           first [] y = refl
           first (x ∷ xs) y = first xs y
+
+      -- it tells another site: of what is stored the link hears nothing
+      told_apart : eqb came.fed p ≡ false → 0 < length came.log - b.safe
+          → (let x = run w (Apply s (length came.log - b.safe) 0 ∷ []) in Turned p s a b l (run x (delivery p s w x)))
+      told_apart other some =
+          let n : Node = record b { log = came.log; fed_by = came.fed } in
+          let m : Link = record l { net = l.net + came.count; sent = came.high; trimmed = 0; since = no_regions } in
+          let x : World = run w (Apply s (length came.log - b.safe) 0 ∷ []) in
+          let done = apply_all w p s a n m came.packets came.at fit_came (length came.log - b.safe) refl some in
+          let mark : Mark = done.0 in
+          let z : Node = applied n (length came.log) mark in
+          let ack : Packet = packet s came.fed b.line (DataAck (length came.log)) 0 in
+          let at_x : At x p s a z m (came.packets ++ ack ∷ []) = done.1 in
+          let quiet : deliver_new p s w x ≡ [] =
+          new_between p s w x came.packets (ack ∷ []) came.at.sent at_x.sent
+          ∙ ap (λ (c : Bool). if c then Deliver (suc (length came.packets)) ∷ [] else [])
+          (between_none p s came.fed b.line (DataAck (length came.log)) 0 fit.apart other) in
+          let over : Turned p s a b l x = record {
+            site = z;
+            link = m;
+            packets = came.packets ++ ack ∷ [];
+            at = at_x;
+            fit = fit_applied p s a n m (length came.log) mark fit_came;
+            session = session;
+            net = omega (arith, net, came.grown);
+            stored = inr refl;
+            whole = refl;
+            grown = omega (arith, came.grown);
+            some = λ below room. omega (arith, came.grown, came.some below room);
+            role = refl;
+            bunker = refl;
+          } in
+          subst (λ (es : List Event). Turned p s a b l (run x (es ++ deliver_new p s x (run x es)))) (sym quiet)
+          (subst (λ (es : List Event). Turned p s a b l (run x es)) (sym (nothing_new p s x x (came.packets ++ ack ∷ []) at_x.sent at_x.sent)) over)
+
+      at_work : 0 < length came.log - b.safe → (let x = run w (Apply s (length came.log - b.safe) 0 ∷ []) in Turned p s a b l (run x (delivery p s w x)))
+      at_work some = by_value (eqb came.fed p) (λ back. told_back (eqb_equal came.fed p back) some) (λ other. told_apart other some)

@@ -4,7 +4,7 @@ use Rattle.std.proofs.Common.{◌≡◌, ◌∙◌, inl, inr, ℕ, List, [], ap,
 use Rattle.std.specs.Prelude.{Option, Some, None, not, ◌&&◌, eqb, if◌then◌else◌}
 use Rattle.std.proofs.lemmas.Bool.{cases_eq}
 use Rattle.vx_model.specs.Content.{Write}
-use Rattle.vx_history.specs.Events.{link_event, link_step, facts_of, greets, greeting_back, packet_at, delivered, handed, gathers, gathered_if, is_taken, taken_if, heard, link_heard, update_heard, update_taken, from_memory, with_write, said_of_link}
+use Rattle.vx_history.specs.Events.{link_event, ticked_link, ticked_at, link_step, facts_of, greets, greeting_back, packet_at, delivered, handed, gathers, gathered_if, is_taken, taken_if, heard, link_heard, update_heard, update_taken, from_memory, with_write, said_of_link}
 use Rattle.vx_history.specs.LinkForms.{plain_link, with_plain, plain_receiver}
 use Rattle.vx_history.specs.Receiving.{received_step}
 use Rattle.vx_history.specs.Refusals.{Outcome, says, unless, when_live, is_running, keeps_links}
@@ -12,7 +12,7 @@ use Rattle.vx_history.specs.Sending.{Sent, sent_step}
 use Rattle.vx_history.specs.Sends.{is_linked, with_link, sending, sent_by, packets_of, greeting}
 use Rattle.vx_history.specs.Step.{outcome_of, done}
 use Rattle.vx_history.specs.Steps.{stopped_by, burned}
-use Rattle.vx_history.specs.World.{Node, Link, Packet, Gathering, World, Message, Hello, Update, NetAck, DataAck, with_node}
+use Rattle.vx_history.specs.World.{Node, Link, Packet, Gathering, World, Message, Hello, Update, NetAck, DataAck, no_regions, with_node}
 use Rattle.vx_history.specs.declared.event.Event.TheVariants.{Pump, Tick, Deliver, Connect, Cut, Pause, Resume, Set, Fault}
 use Rattle.vx_history.specs.declared.event.Said.{Said}
 use Rattle.vx_history.specs.declared.event.Said.TheVariants.{Ignored as IsIgnored, Refused}
@@ -24,7 +24,7 @@ use Rattle.vx_history.specs.declared.receiver.RAction.{RAction}
 use Rattle.vx_history.specs.declared.receiver.RAction.TheVariants as act
 use Rattle.vx_history.specs.declared.receiver.REvent.TheVariants.{Update as HearUpdate}
 use Rattle.vx_history.specs.declared.sender.SEvent.{SEvent}
-use Rattle.vx_history.specs.declared.sender.SEvent.TheVariants.{Pump as PumpLink, Tick as TickLink, Connect as ConnectLink, Cut as CutLink, Pause as PauseLink, Resume as ResumeLink, Hello as HearHello, NetAck as HearNetAck, DataAck as HearDataAck}
+use Rattle.vx_history.specs.declared.sender.SEvent.TheVariants.{Pump as PumpLink, Connect as ConnectLink, Cut as CutLink, Pause as PauseLink, Resume as ResumeLink, Hello as HearHello, NetAck as HearNetAck, DataAck as HearDataAck}
 use Rattle.vx_model.specs.declared.site.SiteState.{SiteState}
 use Rattle.vx_model.specs.declared.site.SiteState.TheVariants.{Up}
 use Rattle.vx_history.specs.Gatherings.{completes, left_by}
@@ -52,7 +52,10 @@ module _ (s : ℕ) (w v : World) (twin : Twin s w v) where
       (ap (λ (x : Sent). sent_by x.action p q (v.nodes p)) same ∙ ap (λ (n : Node). sent_by r.action p q n) (twin.nodes p apart))
 
   pub twin_tick : (p q : ℕ) → Twin s (outcome_of w (Tick p q)).world (outcome_of v (Tick p q)).world
-  twin_tick p q = linked s keeps_links w v p q (done (link_event w p q TickLink)) (done (link_event v p q TickLink)) twin (event p q TickLink)
+  twin_tick p q =
+      linked s keeps_links w v p q (done (ticked_at w p q)) (done (ticked_at v p q)) twin
+      (λ apart. twin_link s w v twin p q (ticked_link w p q) (ticked_link v p q) apart
+      (ap (λ (row : ℕ → Link). let y : Link = record (row q) { sent = (row q).net; trimmed = 0; since = no_regions } in y) (twin.rows p apart)))
 
   pub twin_cut : (p q : ℕ) → Twin s (outcome_of w (Cut p q)).world (outcome_of v (Cut p q)).world
   twin_cut p q = linked s keeps_links w v p q (done (link_event w p q CutLink)) (done (link_event v p q CutLink)) twin (event p q CutLink)
@@ -149,9 +152,9 @@ module _ (s : ℕ) (w v : World) (twin : Twin s w v) where
       subst (λ (g : Option Gathering). Twin s (taken_if (completes (w.gathering p.target) p) w p x number).world
       (taken_if (completes g p) v p x number).world) (sym (twin.gathering p.target))
       (by_whole (completes (w.gathering p.target) p)
-      (from_both (with_node w p.target (with_write (w.nodes p.target) x)) (with_node v p.target (with_write (v.nodes p.target) x))
-      (twin_node s w v twin p.target (with_write (w.nodes p.target) x) (with_write (v.nodes p.target) x) apart
-      (ap (λ (n : Node). with_write n x) (twin.nodes p.target apart)))
+      (from_both (with_node w p.target (with_write (w.nodes p.target) p.source x)) (with_node v p.target (with_write (v.nodes p.target) p.source x))
+      (twin_node s w v twin p.target (with_write (w.nodes p.target) p.source x) (with_write (v.nodes p.target) p.source x) apart
+      (ap (λ (n : Node). with_write n p.source x) (twin.nodes p.target apart)))
       (w.nodes p.target) (v.nodes p.target) p number (twin.nodes p.target apart)))
     where
       by_whole : (b : Bool) → Twin s (taken_if true w p x number).world (taken_if true v p x number).world

@@ -23,7 +23,7 @@ use Rattle.vx_history.specs.declared.event.Event.{Event}
 use Rattle.vx_history.specs.declared.event.Event.TheVariants.{Site, Raw, Write as WriteAt, Read, Apply, Pump, Tick, Deliver, Connect, Cut, Pause, Resume, Wait, Link, Set, Crash, Recover, Fault}
 use Rattle.vx_history.specs.declared.event.Said.TheVariants.{Pending, DoneAt}
 use Rattle.vx_history.specs.declared.sender.SEvent.{SEvent}
-use Rattle.vx_history.specs.declared.sender.SEvent.TheVariants.{Connect as ConnectLink, Pump as PumpLink, Tick as TickLink, Cut as CutLink, Pause as PauseLink, Resume as ResumeLink}
+use Rattle.vx_history.specs.declared.sender.SEvent.TheVariants.{Connect as ConnectLink, Pump as PumpLink, Cut as CutLink, Pause as PauseLink, Resume as ResumeLink}
 use Rattle.vx_history.specs.declared.receiver.REvent.TheVariants.{Applied}
 use Rattle.vx_world.proofs.Lists.{not_false}
 use Rattle.vx_world.proofs.Guards
@@ -67,7 +67,8 @@ outcome_leaves w (Apply q count reached) s =
 outcome_leaves w (Pump p q) s =
     Guards.on_link_holds (Keeps w) has_links w p q _ (keeps_same w)
     (λ _ _ _. Guards.when_live_holds (Keeps w) w q (w.links p q) (done (Events.link_event w p q PumpLink)) (keeps_same w) (moved_leaves w p q PumpLink))
-outcome_leaves w (Tick p q) s = on_link_leaves w p q TickLink
+outcome_leaves w (Tick p q) s =
+    Guards.on_link_holds (Keeps w) has_links w p q (done (Events.ticked_at w p q)) (keeps_same w) (λ _ _ _. keeps_links w w (keeps_same w) _)
 outcome_leaves w (Deliver number) s = deliver_leaves w number s
 outcome_leaves w (Connect p q) s =
     let v : World = Events.link_event w p q ConnectLink in

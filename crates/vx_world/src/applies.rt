@@ -13,7 +13,8 @@ use vx_model::{Mark, OutOfMemory, SPhase};
 use vx_sites::refusals::{has_writes, refuse_site, refuse_work};
 use vx_sites::{Message, Packet, World};
 
-/// The next waiting records, so many, are durable at a receiver, and are acknowledged from disk. At a site where writes arise
+/// The next waiting records, so many, are durable at a receiver, and are acknowledged from disk, to the
+/// site that feeds it. At a site where writes arise
 /// nothing changes. Refused with 1, 6 and 20.
 pub fn apply(world: &mut World, site: u32, count: u64, reached: u64) -> Result<Said, OutOfMemory>
     ensures { IfOk result (λ said. says (world_of world.new) said ≡ outcome_of (world_of world.old) (Apply site count reached)) }
@@ -46,7 +47,7 @@ fn apply_received(world: &mut World, site: u32, count: u64) -> Result<Said, OutO
     let mark = mark_at(node.mark, &node.phase, node.end, number);
     let ack = Packet {
         source: site,
-        target: node.other,
+        target: node.fed_by,
         line: node.line,
         message: Message::DataAck { number },
         part: 0,

@@ -62,8 +62,8 @@ pub fn in_order()
     ensures updates { (w : World) (events : List Event) (k number : ℕ) (p : Packet) (x : Write) → Sound w → slice_get (run w events).packets k ≡ Some p → p.message ≡ Update number x → IsNumber ((run w events).lines p.line).held number x }
 {}
 
-/// What a line holds only grows, what was answered on it only rises, and no packet and no promise is forgotten, whatever happens. So a
-/// write that its line holds under a number is held under that number from then on.
+/// What a line holds only grows, what was answered on it only rises, and no packet, no promise and no site that came to a line is
+/// forgotten, whatever happens. So a write that its line holds under a number is held under that number from then on.
 pub fn forgets_nothing()
     ensures run { (w : World) (events : List Event) → Sound w → Grown w (run w events) }
     ensures number { (w : World) (events : List Event) (l : Line) (n : ℕ) (x : Write) → Sound w → IsMade (w.nodes l.origin) → IsNumber (w.lines l).held n x → IsNumber ((run w events).lines l).held n x }

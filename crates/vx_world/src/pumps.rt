@@ -14,7 +14,7 @@ use vx_model::OutOfMemory;
 use vx_sites::World;
 use vx_sites::refusals::{refuse_dead, refuse_link};
 
-/// What the receiver may lack is sent: durable writes, up to 8 numbers past the last acknowledged one. Refused with 1, 5, 6, 20,
+/// What the receiver may lack is sent: durable writes, up to `MOST_AHEAD` numbers past the last acknowledged one. Refused with 1, 5, 6, 20,
 /// 14 and 23.
 pub fn pump(world: &mut World, from: u32, to: u32) -> Result<Said, OutOfMemory>
     ensures { IfOk result (λ said. says (world_of world.new) said ≡ outcome_of (world_of world.old) (Pump from to)) }

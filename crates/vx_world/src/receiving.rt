@@ -59,7 +59,7 @@ fn take(world: &mut World, packet: &Packet, write: &Write, ack: u64) -> Result<S
     if !world.completes(packet)? {
         return Ok(Said::Taken);
     }
-    world.receive(packet.target, *write)?;
+    world.receive(packet.target, packet.source, *write)?;
     acknowledge(world, packet, ack)?;
     Ok(Said::Taken)
 }

@@ -5,7 +5,7 @@ use Rattle.vx_copies.proofs.Settling.{failed_at as failed_is, no_disk}
 use Rattle.vx_copies.specs.Marks.{NoneGood, failed_at}
 use Rattle.vx_group.specs.Settled.{SameBut, SettledTo}
 use Rattle.vx_group.specs.declared.group_core.GroupCore.{GroupCore}
-use Rattle.vx_group.proofs.ReadyLemmas.{core_back, core_settled, disks_Narrows, disks_Stands, fault_cause, one_failed, same_but, settle_acts, settle_end, settle_kept, settle_mark, settle_one, settle_pass, settle_start}
+use Rattle.vx_group.proofs.ReadyLemmas.{core_back, core_settled, disks_Narrows, disks_Stands, fault_cause, one_failed, same_but, settle_acts, settle_end, settle_kept, settle_mark, settle_one, settle_pass, settle_start, settled_still}
 use Rattle.vx_group.specs.Moves.{Narrows}
 use Rattle.vx_group.specs.Stands.{Stands}
 use Rattle.vx_group.proofs.CallLemmas.{settled_Stands, settled_only}
@@ -102,3 +102,7 @@ returns-then-not-has_good-clause-same g c =
 
 pub returns-clause-same : goal.returns-clause-same
 returns-clause-same g c = subst (λ (k : GroupCore). SameBut c.args.core.now.config k.config) (sym (core_settled c.args.core.now c.loop-disk.core c.loop-disk.invariant.1)) c.loop-disk.invariant.0.same
+
+pub returns-clause-still : goal.returns-clause-still
+returns-clause-still g c =
+    settled_still c.args.core.now.good c.args.core.now.config c.loop-disk.core.config c.loop-disk.disk c.loop-disk.device c.loop-disk.failed (g.S.Shelf.meaning c.args.shelf.now) (g.S.Shelf.meaning c.loop-disk.shelf) c.loop-disk.invariant.0

@@ -29,7 +29,7 @@ returns c = record {
   unsettled = refl;
   fresh = record { faults = zeros_at zeros refl; sure = false_at falses refl };
   stopped = c.stopped_of-stopped.ensures;
-  sources = λ v lt. c.sources_of-sources.ensures v (let same = c.make_open.ensures.opens.alike.shape.volumes in omega (arith, same, lt));
+  sources = c.sources_of-sources.ensures;
 }
 
 pub returns-in-Err : goal.returns-in-Err

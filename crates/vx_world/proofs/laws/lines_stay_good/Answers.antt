@@ -1,5 +1,6 @@
 -- Each clause is its theorem.
-use Rattle.vx_world.proofs.Lining.{line_good, quiet_good, world_good, twins_good}
+use Rattle.vx_world.proofs.Doubting.{quiet_good, world_good, twins_good}
+use Rattle.vx_world.proofs.Lining.{line_good}
 use Rattle.vx_world.proofs.laws.lines_stay_good.Goals as goal
 
 pub returns : goal.returns

@@ -15,8 +15,8 @@ returns c =
     let v = c.index_mut-node.result.now in
     let primary : w.nodes c.args.primary ≡ node_of a = node_at c.args.self.now.nodes.items c.args.primary a c.requires.primary c.index.ensures in
     node_changed w c.args.self.now.nodes.items c.args.site v
-    (record v { start = c.in_ok-node.field-0; role = Secondary; mark = Inconsistent; line = a.line; top = c.max-node.result; phase = Quiet; replay = c.replay_on-replay.result; end = 0; other = c.args.primary; log = c.clear.new.self; safe = 0 })
+    (record v { start = c.in_ok-node.field-0; role = Secondary; mark = Inconsistent; line = a.line; top = c.max-node.result; stood = c.push.new.self; phase = Quiet; replay = c.replay_on-replay.result; end = 0; other = c.args.primary; fed_by = c.args.primary; log = c.clear.new.self; safe = 0 })
     (λ (n : Node). joined (w.nodes c.args.primary) c.args.primary n) refl refl c.requires.within c.index_mut-node.ensures.value
-    (joined_is (node_of a) (node_of v) c.args.primary c.max-node.result c.replay_on-replay.result (content_of c.in_ok-node.field-0) c.clear.new.self.items
-    c.max-node.ensures c.replay_on-replay.ensures c.in_ok-node.ensures c.clear.ensures.items
+    (joined_is (node_of a) (node_of v) c.args.primary c.max-node.result c.replay_on-replay.result c.push.new.self.items (content_of c.in_ok-node.field-0) c.clear.new.self.items
+    c.max-node.ensures c.in_ok-push.ensures.items c.replay_on-replay.ensures c.in_ok-node.ensures c.clear.ensures.items
     ∙ ap (λ (n : Node). joined n c.args.primary (node_of v)) (sym primary))

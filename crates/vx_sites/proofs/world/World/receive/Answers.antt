@@ -7,5 +7,5 @@ use Rattle.vx_sites.proofs.world.World.receive.Goals as goal
 
 pub returns : goal.returns
 returns c =
-    node_changed (world_of c.args.self.now) c.args.self.now.nodes.items c.args.site c.index_mut.result.now (record c.index_mut.result.now { log = c.push.new.self })
-    (λ (n : PlainNode). with_write n c.args.write) refl refl c.requires c.index_mut.ensures.value (rw c.in_ok-push.ensures.items refl)
+    node_changed (world_of c.args.self.now) c.args.self.now.nodes.items c.args.site c.index_mut-node.result.now (record c.index_mut-node.result.now { log = c.push.new.self; fed_by = c.args.source })
+    (λ (n : PlainNode). with_write n c.args.source c.args.write) refl refl c.requires c.index_mut-node.ensures.value (rw c.in_ok-push.ensures.items refl)

@@ -1,0 +1,37 @@
+use Rattle.std.proofs.Common.{◌≡◌, inl, true, false, refl, sym, ◌∙◌}
+use Rattle.vx_group.proofs.CallLemmas.{not_down}
+use Rattle.vx_group.proofs.DetachLemmas.{zero_bit}
+use Rattle.vx_group.proofs.FinishLemmas.{commit_left, commit_made, commit_on}
+use Rattle.vx_group.proofs.Standing.{kept_of, some_active, tidy_of}
+use Rattle.vx_group.proofs.finishing.commit_whole.Goals as goal
+
+pub commit_stale-requires-clause-left : goal.commit_stale-requires-clause-left
+commit_stale-requires-clause-left g c = λ lt.
+    let some = some_active c.args.core.now (g.S.Shelf.meaning c.args.shelf.now) c.requires.stands 0 lt in
+    record { plex = some.plex; is_on = some.is_on; out = zero_bit 0 some.plex refl }
+
+pub commit_stale-requires-clause-those : goal.commit_stale-requires-clause-those
+commit_stale-requires-clause-those g c = record { each = λ p is. absurd (let none = zero_bit 0 p refl in let clash : false ≡ true = sym none ∙ is in cc) }
+
+pub commit_stale-requires-clause-kept : goal.commit_stale-requires-clause-kept
+commit_stale-requires-clause-kept g c = kept_of c.args.core.now (g.S.Shelf.meaning c.args.shelf.now) c.requires.stands
+
+pub commit_stale-requires-clause-tidy : goal.commit_stale-requires-clause-tidy
+commit_stale-requires-clause-tidy g c = tidy_of c.args.core.now (g.S.Shelf.meaning c.args.shelf.now) c.requires.stands c.requires.settled
+
+pub returns-then-is_down : goal.returns-then-is_down
+returns-then-is_down g c = (
+  commit_on c.args.core.now _ (g.S.Shelf.meaning c.args.shelf.now) (g.S.Shelf.meaning c.commit_stale.new.shelf) (g.met.S.Shelf.lawful c.commit_stale.new.shelf) c.requires.stands c.commit_stale.ensures.acts c.commit_stale.ensures.wanted c.commit_stale.ensures.can c.commit_stale.ensures.on refl refl
+      c.in-Ok.ensures.ends c.good_of-core.ensures,
+  inl (sym c.is_down.ensures ∙ c.if-is_down.true),
+)
+
+pub returns-else-is_down : goal.returns-else-is_down
+returns-else-is_down g c =
+    commit_made c.args.core.now _ (g.S.Shelf.meaning c.args.shelf.now) (g.S.Shelf.meaning c.commit_stale.new.shelf) (g.met.S.Shelf.lawful c.commit_stale.new.shelf) c.requires.stands c.commit_stale.ensures.acts c.commit_stale.ensures.wanted c.commit_stale.ensures.can c.commit_stale.ensures.on refl refl
+    c.in-Ok.ensures.ends c.good_of-core.ensures c.requires.settled (not_down c.is_down.result (g.S.Shelf.meaning c.commit_stale.new.shelf).down c.is_down.ensures c.if-is_down.false)
+
+pub returns-in-Err : goal.returns-in-Err
+returns-in-Err g c =
+    commit_left c.args.core.now _ (g.S.Shelf.meaning c.args.shelf.now) (g.S.Shelf.meaning c.commit_stale.new.shelf) (g.met.S.Shelf.lawful c.commit_stale.new.shelf) c.requires.stands c.commit_stale.ensures.acts c.commit_stale.ensures.wanted c.commit_stale.ensures.can c.commit_stale.ensures.on refl refl
+    c.in-Err.no c.in-Err.ensures.ends refl refl

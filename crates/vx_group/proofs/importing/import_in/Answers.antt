@@ -1,0 +1,30 @@
+use Rattle.std.proofs.Common.{inl, inr, refl, sym, ◌∙◌}
+use Rattle.vx_group.proofs.ImportLemmas.{import_early, import_late, import_ok, serial_left, source_active}
+use Rattle.vx_group.proofs.MendLemmas.{same_Goes}
+use Rattle.vx_group.proofs.CallLemmas.{not_down}
+use Rattle.vx_group.proofs.importing.import_in.Goals as goal
+
+pub renew-requires-clause-on : goal.renew-requires-clause-on
+renew-requires-clause-on g c = source_active (g.S.Shelf.meaning c.args.shelf.now) (g.S.Shelf.meaning c.take_up.new.shelf) c.in-Ok.plan c.in-Ok.ensures.takes
+
+pub renew-requires-clause-more : goal.renew-requires-clause-more
+renew-requires-clause-more g c = serial_left (g.S.Shelf.meaning c.args.shelf.now) (g.S.Shelf.meaning c.take_up.new.shelf) c.in-Ok.plan c.in-Ok.ensures.takes
+
+pub returns-then-is_down : goal.returns-then-is_down
+returns-then-is_down g c = inl (same_Goes (g.S.Shelf.meaning c.args.shelf.now), inl (sym c.is_down.ensures ∙ c.if-is_down.true, refl))
+
+pub returns-then-not-are_large : goal.returns-then-not-are_large
+returns-then-not-are_large g c = inl (same_Goes (g.S.Shelf.meaning c.args.shelf.now), inr (inl (c.are_large.ensures.small c.if-not-are_large.true, refl)))
+
+pub returns-in-Err : goal.returns-in-Err
+returns-in-Err g c = import_early (g.S.Shelf.meaning c.args.shelf.now) (g.S.Shelf.meaning c.take_up.new.shelf) c.in-Err.stop c.take_up.ensures.goes c.in-Err.ensures.takes
+
+pub returns-in-Ok-renew : goal.returns-in-Ok-renew
+returns-in-Ok-renew g c =
+    import_ok (g.S.Shelf.meaning c.args.shelf.now) (g.S.Shelf.meaning c.take_up.new.shelf) c.in-Ok.plan c.in-Ok.ensures.takes (g.S.Shelf.meaning c.renew.new.shelf) (g.met.S.Shelf.lawful c.args.shelf.now) (g.met.S.Shelf.lawful c.take_up.new.shelf) c.take_up.ensures.goes
+    (c.are_large.ensures.large c.if-not-are_large.false) c.requires.can c.renew.new.core (λ down. not_down c.is_down.result (g.S.Shelf.meaning c.args.shelf.now).down c.is_down.ensures c.if-is_down.false (sym c.take_up.ensures.down ∙ down)) c.in-Ok-renew.ensures
+
+pub returns-in-Err-renew : goal.returns-in-Err-renew
+returns-in-Err-renew g c =
+    import_late (g.S.Shelf.meaning c.args.shelf.now) (g.S.Shelf.meaning c.take_up.new.shelf) c.in-Ok.plan c.in-Ok.ensures.takes (g.S.Shelf.meaning c.renew.new.shelf) (g.met.S.Shelf.lawful c.args.shelf.now) (g.met.S.Shelf.lawful c.take_up.new.shelf) c.take_up.ensures.goes
+    (c.are_large.ensures.large c.if-not-are_large.false) c.requires.can c.renew.new.core c.in-Err-renew.no c.in-Err-renew.ensures

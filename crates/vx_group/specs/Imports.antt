@@ -1,0 +1,66 @@
+-- How an import ends.
+use Rattle.std.specs.Prelude.{◌≡◌, ◌⊎◌, ℕ, ◌<◌, true, false, IsTrue, length, Result, Ok, Err}
+use Rattle.vx_disk.specs.Shelf.{Each, Goes, Image, Meaning, Nothing}
+use Rattle.vx_model.specs.declared.errors.Stop.{Stop}
+use Rattle.vx_model.specs.declared.errors.Stop.TheVariants.{No as Refused, OutOfMemory}
+use Rattle.vx_model.specs.declared.no.No.TheVariants as refusal
+use Rattle.vx_config.specs.declared.config.Config.{Config}
+use Rattle.vx_copyfmt.specs.Imports.{Found}
+use Rattle.vx_copies.specs.Answers.{Imported}
+use Rattle.vx_copyio.specs.Labelling.{HasSmall}
+use Rattle.vx_volume.specs.Plexes.{active}
+use Rattle.vx_kept.specs.Choice.{chosen}
+use Rattle.vx_kept.specs.Groups.{found, group_meaning}
+use Rattle.vx_group.specs.Finishes.{SameOr, StopsLate}
+use Rattle.vx_group.specs.Resumes.{IsFresh, IsMended, NotTaken, TakenUp, stopped}
+use Rattle.vx_group.specs.Stands.{Stands, meaning_of}
+use Rattle.vx_group.specs.declared.group_core.GroupCore.{GroupCore}
+
+-- A group stands on the disks as the one that was found, with each plex that took part ACTIVE, under a later serial; each image has its
+-- configuration. Its volumes read as the plexes that took part. A volume that stopped uncleanly reads as the plex by which an image of it
+-- goes, and a crash leaves of each block one value.
+pub record Resumed (old : Meaning) (core : GroupCore) (new : Meaning) : Type 0 where
+  pub config : Config
+  pub opened : Config
+  pub taken : TakenUp old new config opened
+  pub stands : Stands core new
+  pub settled : core.unsettled ≡ false
+  pub up : IsTrue new.down → ⊥
+  pub fresh : IsFresh core
+  pub same : SameOr opened core.config old new
+  pub on : (v p : ℕ) → IsTrue (active core.config v p) → IsTrue (active opened v p)
+  pub finds : (i : Image) → Each new.leaves i → found new i ≡ Found core.config
+  pub goes : Goes Nothing (group_meaning opened (λ v. 0) old) (meaning_of core new)
+  pub mended : (v : ℕ) → v < length opened.volumes → stopped config v ≡ true → IsMended opened v (chosen config v) core old new
+
+-- what stands on the disks is the group that was found, as far as it was settled
+pub record HalfResumed (old new : Meaning) : Type 0 where
+  pub config : Config
+  pub core : GroupCore
+  pub opened : Config
+  pub taken : TakenUp old new config opened
+  pub stands : Stands core new
+  pub goes : Goes Nothing (group_meaning opened (λ v. 0) old) (meaning_of core new)
+
+-- Why nothing is taken up: the shelf is down, or a disk is too small for one of a group, or what the reads gave says so, or what was found is
+-- not taken up.
+abbrev pub StopsEarly : Meaning → Meaning → Stop → Type 0
+StopsEarly old new (Refused why) = (IsTrue old.down × (why ≡ refusal.Down)) ⊎ (HasSmall old × (why ≡ refusal.NoConfig)) ⊎ Imported old new (Err (Refused why)) ⊎ NotTaken old new why
+StopsEarly old new OutOfMemory = Unit {0}
+
+abbrev pub StopsBehind : Meaning → Meaning → Stop → Type 0
+StopsBehind old new (Refused why) = StopsLate old new why
+StopsBehind old new OutOfMemory = ⊥
+
+-- refused before anything was written, or behind what was taken up
+abbrev pub ImportStops : Meaning → Meaning → Stop → Type 0
+ImportStops old new stop = (Goes Nothing old new × StopsEarly old new stop) ⊎ (HalfResumed old new × StopsBehind old new stop)
+
+abbrev pub ImportEnds : Meaning → Meaning → Result GroupCore Stop → Type 0
+ImportEnds old new (Ok core) = Resumed old core new
+ImportEnds old new (Err stop) = ImportStops old new stop
+
+-- the same of a group with its shelf, which is handed back where none is imported
+abbrev pub GroupImported : {S G : Type 0} → Meaning → (S → Meaning) → (G → GroupCore) → (G → S) → Result G (S × Stop) → Type 0
+GroupImported old meaning core shelf (Ok g) = Resumed old (core g) (meaning (shelf g))
+GroupImported old meaning core shelf (Err (s, stop)) = ImportStops old (meaning s) stop

@@ -1,0 +1,62 @@
+// What an import does behind the configuration that it took up: headers, volumes, the last commit.
+ghost use Rattle.std.specs.Prelude.{◌≡◌, ◌<◌, ℕ, length, false, IsTrue};
+ghost use Rattle.vx_config.specs.Table.{greatest};
+ghost use Rattle.vx_group.specs.Finishes.{CommitsAs, Renews};
+ghost use Rattle.vx_group.specs.Resumes.{source_at};
+ghost use Rattle.vx_group.specs.Stands.{Stands};
+ghost use Rattle.vx_model.specs.declared.limits.TheConstants.{MOST_VOLUMES};
+ghost use Rattle.vx_volume.specs.Plexes.{active};
+
+use crate::GroupCore;
+use crate::detaching::good_of;
+use crate::mending::mend_volumes;
+use crate::settling::settle_headers;
+use vx_disk::{Shelf, refusal};
+use vx_kept::commit_stale;
+use vx_model::No;
+use vx_model::limits::MOST_VOLUMES;
+
+// Commits the configuration as it stands.
+fn commit_whole<S: Shelf>(shelf: &mut S, core: &mut GroupCore) -> Result<(), No>
+    requires stands { Stands core.old (S.meaning shelf.old) }
+    requires settled { core.old.unsettled ≡ false }
+    ensures { CommitsAs core.old core.new (S.meaning shelf.old) (S.meaning shelf.new) result }
+{
+    match commit_stale(shelf, &mut core.config, 0, 0, core.good, &mut core.room) {
+        Ok(()) => {
+            core.good = good_of(&core.config.disks);
+            if shelf.is_down() {
+                return Err(No::Down);
+            }
+            Ok(())
+        }
+        Err(no) => {
+            core.unsettled = true;
+            Err(no)
+        }
+    }
+}
+
+/// Writes the headers of the disks back, copies each volume that is marked from its source to each plex that is ACTIVE, and commits.
+pub fn renew<S: Shelf>(
+    shelf: &mut S,
+    core: &mut GroupCore,
+    stopped: &[bool; MOST_VOLUMES],
+    sources: &[u32; MOST_VOLUMES],
+) -> Result<(), No>
+    requires stands { Stands core.old (S.meaning shelf.old) }
+    requires on { (v : ℕ) → v < length core.old.config.volumes → IsTrue (active core.old.config v (source_at sources.now v)) }
+    requires more { core.old.config.serial < greatest }
+    requires up { IsTrue (S.meaning shelf.old).down → ⊥ }
+    ensures { Renews stopped.now sources.now core.old core.new (S.meaning shelf.old) (S.meaning shelf.new) result }
+{
+    match settle_headers(shelf, core) {
+        Ok(()) => {}
+        Err(error) => return Err(refusal(error)),
+    }
+    match mend_volumes(shelf, core, stopped, sources) {
+        Ok(()) => {}
+        Err(error) => return Err(refusal(error)),
+    }
+    commit_whole(shelf, core)
+}
