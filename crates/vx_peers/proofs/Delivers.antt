@@ -8,7 +8,7 @@ use Rattle.vx_model.specs.declared.call.Update.{Update as Logged}
 use Rattle.vx_model.specs.declared.history.Line.{Line}
 use Rattle.vx_model.specs.declared.no.No.{No}
 use Rattle.vx_model.specs.declared.site.SiteState.{SiteState}
-use Rattle.vx_history.specs.Events.{delivered, from_memory, gathers, handed, heard, packet_at, update_taken, with_write}
+use Rattle.vx_history.specs.Events.{delivered, from_memory, gathers, handed, heard, packet_at, taken_if, update_taken, with_write}
 use Rattle.vx_history.specs.Gatherings.{completes, gathered, left_by}
 use Rattle.vx_history.specs.LinkForms.{plain_receiver}
 use Rattle.vx_history.specs.Receiving.{received_step}
@@ -176,3 +176,140 @@ module _ (w : World) (number : ℕ) (p : Packet) (k : ℕ) (x : Write) (at : pac
             (subst (λ (s : ℕ). FlightStands (w.packets ++ packets_of p.target part.source line (NetAck s m)) f') sessions (sends w.packets flight room))) in
           subst (λ (o : Outcome). StandsFor o p.target c us a f' IsIgnored) (sym (outcome_is ∙ ap (λ (r : RAction). gathers p (update_taken w p x r)) is))
           (record { says = refl; receiver = receives; assembly = later w.packets (packets_of p.target p.source n.line (NetAck n.session m)) p.target (w.gathering p.target) a stands; flight = on })
+
+      -- ---- a part that can be taken
+
+      module _ (m : ℕ) (takes : act ≡ Take m) (size : ℕ → ℕ) (fits : can_log c size (update_on p.line k x) ≡ true) (one : AreOne w.packets) (bytes : List ℕ) (part : Part) (read : ReadOf p k bytes part) where
+        abbrev g : Option Gathering
+        g = w.gathering p.target
+
+        abbrev u : Logged
+        u = record { line = part.line; number = k; vol = x.volume; block = x.start; bytes = x.bytes }
+
+        update_is : update_of (spelled p.message) part.line ≡ Some u
+        update_is = ap (λ (t : Message). update_of (spelled t) part.line) message
+
+        rule_here : action_of c us u ≡ Take m
+        rule_here =
+            ap (λ (s : RState). (received_step s (HearUpdate part.line k)).action) receives.rule
+            ∙ ap (λ (l : Line). (received_step (plain_receiver n) (HearUpdate l k)).action) read.line ∙ takes
+
+        can : can_log c size u ≡ true
+        can = ap (λ (l : Line). can_log c size (record { line = l; number = k; vol = x.volume; block = x.start; bytes = x.bytes })) read.line ∙ fits
+
+        -- it waits where it is whole
+        taken_here : (us' : List Logged) (r : Result RAction No) → TakeIs c size us u r us' → (waits_now r ≡ Some true) × (us' ≡ us ++ u ∷ [])
+        taken_here us' r is =
+            let by_rule : TakenBy (Take m) c size us u r us' = subst (λ (o : RAction). TakenBy o c size us u r us') rule_here is in
+            let kept : KeptIf true us u m r us' = subst (λ (b : Bool). KeptIf b us u m r us') can by_rule in
+            (ap waits_now kept.0, kept.1)
+
+        put_so : (t : Taken) (new : Assembled) → Takes a part (payload_in part bytes) t new → IsPutTo w.packets p.target g p t new
+        put_so t new is =
+            put_together w.packets p.target place p one there refl flies g a stands t new
+            (subst (λ (bs : List ℕ). Takes a (part_carried p) (payload_in (part_carried p) bs) t new) read.bytes_are (subst (λ (q : Part). Takes a q (payload_in q bytes) t new) read.part_is is))
+
+        -- another part is missing
+        kept_world : completes g p ≡ false → delivered w number (packet_at w.packets number) ≡ says (gathered w p) IsTaken
+        kept_world missing =
+            outcome_is ∙ ap (λ (r : RAction). gathers p (update_taken w p x r)) takes
+            ∙ ap (λ (b : Bool). gathers p (taken_if b w p x m)) missing
+
+        gathered_there : (v : World) → (gathered v p).gathering p.target ≡ left_by (v.gathering p.target) p
+        gathered_there v = at_place v.gathering p.target (left_by (v.gathering p.target) p)
+
+        kept_so : (new : Assembled) → IsPutTo w.packets p.target g p taken.Kept new → StandsFor (delivered w number (packet_at w.packets number)) p.target c us new f IsTaken
+        kept_so new put =
+            subst (λ (o : Outcome). StandsFor o p.target c us new f IsTaken) (sym (kept_world put.0))
+            (record {
+              says = refl;
+              receiver = receives;
+              assembly = subst (λ (h : Option Gathering). AssemblyStands w.packets p.target h new) (sym (gathered_there w)) put.1;
+              flight = flight;
+            })
+
+        -- it waits, and is acknowledged
+        abbrev logged_node : Node
+        logged_node = with_write n x
+
+        abbrev acked : World
+        acked = from_memory (with_node w p.target logged_node) n p m
+
+        waits_world : completes g p ≡ true → delivered w number (packet_at w.packets number) ≡ says (gathered acked p) IsTaken
+        waits_world all =
+            outcome_is ∙ ap (λ (r : RAction). gathers p (update_taken w p x r)) takes
+            ∙ ap (λ (b : Bool). gathers p (taken_if b w p x m)) all
+
+        more_rule : receiver_of c (us ++ u ∷ []) ≡ plain_receiver logged_node
+        more_rule =
+            let before : length us ≡ length n.log - n.safe = ap (λ (s : RState). s.waiting) receives.rule in
+            let last : (receiver_of c us).last ≡ length n.log = ap (λ (s : RState). s.last) receives.rule in
+            let longer : length (us ++ u ∷ []) ≡ length us + 1 = length-append us (u ∷ []) in
+            let log : length (n.log ++ x ∷ []) ≡ length n.log + 1 = length-append n.log (x ∷ []) in
+            let waiting : length (us ++ u ∷ []) ≡ length (n.log ++ x ∷ []) - n.safe = omega (arith, before, longer, log, receives.logged) in
+            let number_is : (receiver_of c (us ++ u ∷ [])).last ≡ length (n.log ++ x ∷ []) = omega (arith, last, longer, log) in
+            ap (λ (s : RState). record s { last = (receiver_of c (us ++ u ∷ [])).last; waiting = length (us ++ u ∷ []) }) receives.rule
+            ∙ ap (λ (i : ℕ). record (plain_receiver n) { last = i; waiting = length (us ++ u ∷ []) }) number_is
+            ∙ ap (λ (i : ℕ). record (plain_receiver n) { last = length (n.log ++ x ∷ []); waiting = i }) waiting
+
+        more_waits : map write_of (us ++ u ∷ []) ≡ drop n.safe (n.log ++ x ∷ [])
+        more_waits =
+            map-append write_of us (u ∷ [])
+            ∙ ap (λ (ws : List Write). ws ++ x ∷ []) receives.waits
+            ∙ sym (drop-append-le n.safe n.log (x ∷ []) receives.logged)
+
+        receives_more : Receives logged_node c (us ++ u ∷ [])
+        receives_more = record {
+          up = receives.up;
+          role = receives.role;
+          halted = receives.halted;
+          rule = more_rule;
+          logged = omega (arith, receives.logged, length-append n.log (x ∷ []));
+          waits = more_waits;
+        }
+
+        waits_so : (new : Assembled) (us' : List Logged) → IsPutTo w.packets p.target g p taken.Whole new → us' ≡ us ++ u ∷ [] → (line : Line) (session : ℕ) → line ≡ c.log.header.state.line → session ≡ c.log.header.incarnation → (f' : Flying)
+            → f.count < greatest → SendsOn p.target part.source line session m f f' → StandsFor (delivered w number (packet_at w.packets number)) p.target c us' new f' IsTaken
+        waits_so new us' put us_are line session line_is session_is f' room sends =
+            let lines : line ≡ n.line = line_is ∙ ap (λ (s : RState). s.line) receives.rule in
+            let sessions : session ≡ n.session = session_is ∙ ap (λ (s : RState). s.session) receives.rule in
+            let on : FlightStands (w.packets ++ packets_of p.target p.source n.line (NetAck n.session m)) f'
+            = subst (λ (q : ℕ). FlightStands (w.packets ++ packets_of p.target q n.line (NetAck n.session m)) f') read.source
+              (subst (λ (l : Line). FlightStands (w.packets ++ packets_of p.target part.source l (NetAck n.session m)) f') lines
+              (subst (λ (s : ℕ). FlightStands (w.packets ++ packets_of p.target part.source line (NetAck s m)) f') sessions (sends w.packets flight room))) in
+            let here : (gathered acked p).nodes p.target ≡ logged_node = at_place w.nodes p.target logged_node in
+            subst (λ (o : Outcome). StandsFor o p.target c us' new f' IsTaken) (sym (waits_world put.0))
+            (record {
+              says = refl;
+              receiver = subst (λ (vs : List Logged). Receives ((gathered acked p).nodes p.target) c vs) (sym us_are) (subst (λ (y : Node). Receives y c (us ++ u ∷ [])) (sym here) receives_more);
+              assembly = subst (λ (h : Option Gathering). AssemblyStands (gathered acked p).packets p.target h new) (sym (gathered_there acked))
+                  (later w.packets (packets_of p.target p.source n.line (NetAck n.session m)) p.target (left_by g p) new put.1);
+              flight = on;
+            })
+
+        -- by what the receiver says of it
+        pub some_kept : (us' : List Logged) (new : Assembled) → GatheredIs c size part (payload_in part bytes) us a us' new (Some false) → StandsFor (delivered w number (packet_at w.packets number)) p.target c us' new f IsTaken
+        pub some_waits : (us' : List Logged) (new : Assembled) → GatheredIs c size part (payload_in part bytes) us a us' new (Some true) → (line : Line) (session : ℕ) → line ≡ c.log.header.state.line → session ≡ c.log.header.incarnation → (f' : Flying)
+            → f.count < greatest → SendsOn p.target part.source line session m f f' → StandsFor (delivered w number (packet_at w.packets number)) p.target c us' new f' IsTaken
+        pub never_lost : (us' : List Logged) (new : Assembled) → GatheredIs c size part (payload_in part bytes) us a us' new None → ⊥
+
+        some_kept us' new (taken.Kept, is, by) = subst (λ (vs : List Logged). StandsFor (delivered w number (packet_at w.packets number)) p.target c vs new f IsTaken) (sym by.1) (kept_so new (put_so taken.Kept new is))
+        some_kept us' new (taken.Bad, is, by) = absurd (put_so taken.Bad new is)
+        some_kept us' new (taken.Whole, is, by) =
+            let put = put_so taken.Whole new is in
+            let took = by (spelled p.message) u put.2 update_is in
+            let e : Some false ≡ Some true = took.1.1 ∙ (taken_here us' took.0 took.1.0).0 in absurd (cc)
+
+        some_waits us' new (taken.Kept, is, by) line session line_is session_is f' room sends = let e : Some true ≡ Some false = by.0 in absurd (cc)
+        some_waits us' new (taken.Bad, is, by) line session line_is session_is f' room sends = absurd (put_so taken.Bad new is)
+        some_waits us' new (taken.Whole, is, by) line session line_is session_is f' room sends =
+            let put = put_so taken.Whole new is in
+            let took = by (spelled p.message) u put.2 update_is in
+            waits_so new us' put (taken_here us' took.0 took.1.0).1 line session line_is session_is f' room sends
+
+        never_lost us' new (taken.Kept, is, by) = let e : None ≡ Some false = by.0 in absurd (cc)
+        never_lost us' new (taken.Bad, is, by) = put_so taken.Bad new is
+        never_lost us' new (taken.Whole, is, by) =
+            let put = put_so taken.Whole new is in
+            let took = by (spelled p.message) u put.2 update_is in
+            let e : None ≡ Some true = took.1.1 ∙ (taken_here us' took.0 took.1.0).0 in absurd (cc)
