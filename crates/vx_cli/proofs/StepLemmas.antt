@@ -1,5 +1,5 @@
 -- Steps of lines, and the counts of the disks.
-use Rattle.std.proofs.Common.{◌≡◌, ℕ, ◌+◌, Bool, List, [], ◌∷◌, ◌++◌, ◌<◌, length, Option, Some, None, Result, Ok, Err, arith, ap}
+use Rattle.std.proofs.Common.{◌≡◌, ◌∙◌, ℕ, ◌+◌, Bool, true, false, List, [], ◌∷◌, ◌++◌, ◌<◌, length, Option, Some, None, Result, Ok, Err, arith, ap, refl, sym}
 use Rattle.std.proofs.lemmas.List.Sums.{sum_by-append}
 use Rattle.vx_history.specs.Refusals.{Outcome}
 use Rattle.vx_history.specs.Step.{step}
@@ -8,6 +8,7 @@ use Rattle.vx_history.specs.declared.event.Event.{Event}
 use Rattle.vx_history.specs.declared.event.Event.TheVariants.{Read as ReadAt}
 use Rattle.vx_model.specs.declared.no.No.{No}
 use Rattle.vx_order.specs.Order.{refusal_of}
+use Rattle.vx_script.specs.Grammar.{line_of}
 use Rattle.vx_script.specs.declared.line.ScriptLine.{ScriptLine}
 use Rattle.vx_script.specs.declared.line.ScriptLine.TheVariants.{Write, Put}
 use Rattle.vx_script.proofs.GrammarLemmas.{line_of_long}
@@ -18,7 +19,7 @@ use Rattle.vx_events.specs.Lines.{Counts, StepBy}
 use Rattle.vx_events.specs.Lists.{events_of}
 use Rattle.vx_events.specs.Sayings.{RepeatsOf, Replies}
 use Rattle.vx_events.specs.declared.said.Said.{Said}
-use Rattle.vx_node.specs.Lines.{script_line, only_built}
+use Rattle.vx_node.specs.Lines.{script_line, only_built, if_built, is_built}
 use Rattle.vx_node.specs.Stands.{RoseAll, times}
 use Rattle.vx_node.specs.Steps.{SaidStep, LineStep}
 
@@ -77,3 +78,18 @@ module _ {T U : Type 0} (f : U → T) where
 
   pub line_told : (files : Bool) (w : World) (line : List ℕ) (fails : Fails) (text : List ℕ) (new : World) → LineStep T files w line fails text new → LineStep U files w line fails text new
   line_told files w line fails text new x = said_told files w (script_line line) fails text new x
+
+-- ---- a line that is done is of a kind that is built
+
+built_if : (b : Bool) (line words : ScriptLine) → is_built line ≡ b → if_built b line ≡ Ok (Some words) → is_built words ≡ true
+built_if true line words is e = let same : line ≡ words = cc in ap is_built (sym same) ∙ is
+built_if false line words is e = absurd (cc)
+
+built_by : (r : Result (Option ScriptLine) ℕ) (words : ScriptLine) → only_built r ≡ Ok (Some words) → is_built words ≡ true
+built_by (Err column) words e = absurd (cc)
+built_by (Ok None) words e = absurd (cc)
+built_by (Ok (Some line)) words e = built_if (is_built line) line words refl e
+
+pub line_built : (bytes : List ℕ) (words : ScriptLine) → script_line bytes ≡ Ok (Some words) → is_built words ≡ true
+unfolding script_line
+line_built bytes words e = built_by (line_of bytes) words e

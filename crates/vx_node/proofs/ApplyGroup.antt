@@ -48,7 +48,7 @@ module _ {links : List KeptLink} (n : Node) (c c' : Core) (m new : Meaning) (up 
   pub applied_up : IsFalse new.down → Rests c c' m new → (number k : ℕ) → c' ≡ with_applied c number k → IsUpAt links (worked n) c' new
   applied_up still rests number k is =
       up_with n c c' m new n.halted (burned n.fuse) (Waits c m) (Resting c m) moves still fuse up (applied_log c number k c' is) (ap (λ (x : Core). x.halted) is ∙ up.halted) (λ none. none)
-      (λ none told. rests_with c c' n.log n.base m new rests (up.content none (sym moves.tells ∙ told))) rested
+      (λ none told. rests_with c c' n.log n.base m new (applied_log c number k c' is).ring rests (up.content none (sym moves.tells ∙ told))) rested
 
   -- or halted
   pub applied_halted : IsFalse new.down → (disk : ℕ) → Ended c (Some disk) c' → IsUpAt links (halted_at n disk) c' new

@@ -107,7 +107,7 @@ pub found_left_with : (units : Units) (ring : ℕ) (state : State) (session stam
     → ((u b : ℕ) → Keeps m u b (i u b)) → HasSizes units.vols c m → FoundWith units ring state session stamp i xs c → LeftWith units ring state session stamp xs c m
 found_left_with units ring state session stamp xs c m i tells one sizes with = record {
   held = with_maps units m i with.held;
-  has = record { some = with.has.some; last = with.has.last; writes = with.has.writes; content = with.has.content };
+  has = record { some = with.has.some; last = with.has.last; writes = with.has.writes; content = with.has.content; whole = with.has.whole };
   left = found_left units ring state session stamp with.held m i tells one (subst (λ (k : Content). HasSizes units.vols k m) (sym with.has.content) sizes) with.found;
 }
 

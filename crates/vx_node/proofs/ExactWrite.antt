@@ -1,9 +1,10 @@
 -- How many calls a write is in a log that began empty and did not go round.
-use Rattle.std.proofs.Common.{◌≡◌, ◌∙◌, ◌+◌, ◌<◌, ◌≤◌, ℕ, List, [], ◌∷◌, ◌++◌, length, ap, sym, subst, arith, IsTrue}
+use Rattle.std.proofs.Common.{◌≡◌, ◌∙◌, ◌+◌, ◌<◌, ◌≤◌, ◌-◌, ⊎_elim, ℕ, List, [], ◌∷◌, ◌++◌, length, drop, ap, sym, subst, refl, arith, IsTrue}
 use Rattle.std.specs.Prelude.{◌%◌, Option, Some, None, Result, Ok, Err, OnOk}
 use Rattle.std.proofs.lemmas.List.{append-nil}
 use Rattle.std.proofs.Math.Nat.{mod-eq_of_lt}
-use Rattle.vx_model.specs.Content.{Write, blocks_in}
+use Rattle.vx_model.specs.Content.{Content, Write, blocks_in}
+use Rattle.vx_model.specs.declared.limits.TheConstants.{MOST_CALL_BLOCKS}
 use Rattle.vx_history.specs.World.{Node, Fuse, FuseSet}
 use Rattle.vx_model.specs.declared.no.No.{No}
 use Rattle.vx_model.specs.declared.state.KeptLink.{KeptLink}
@@ -17,10 +18,13 @@ use Rattle.vx_srl.specs.Views.{Log, BodyFits, all_of, end_of, free_of, kept_of, 
 use Rattle.vx_srl.specs.declared.kept.Kept.{Kept}
 use Rattle.vx_srl.proofs.LogLists.{place_sum}
 use Rattle.vx_srl.proofs.Shared_S1.{widths_append}
+use Rattle.vx_rvg.specs.Holdings.{blocks_taken}
 use Rattle.vx_rvg.specs.Views.{Core, IsSound}
+use Rattle.vx_rvg.proofs.FetchGives.{widths_beside}
+use Rattle.vx_node.specs.Lasts.{StandsWith}
 use Rattle.vx_rvg.specs.Groups.{with_write}
 use Rattle.vx_node.specs.Fuses.{HasFuse, IsFirst, LetsPass}
-use Rattle.vx_events.specs.Fuses.{IsExact, taken}
+use Rattle.vx_events.specs.Fuses.{IsExact, KeepsAll, taken}
 use Rattle.vx_node.specs.Stands.{IsUpAt}
 
 pub taken_push : (xs : List Write) (x : Write) → taken (xs ++ x ∷ []) ≡ taken xs + (blocks_in x.bytes + 1)
@@ -66,6 +70,20 @@ first_pushed c c' xs volume start bytes is idle first = record {
       ap (λ (x : Core). widths x.log.held) is ∙ omega (arith, held, first.widths_are, more);
 }
 
+-- a log that holds all of its writes
+taken_same : (xs : List Write) → blocks_taken xs ≡ taken xs
+taken_same [] = refl
+taken_same (x ∷ xs) = let rest = taken_same xs in omega (arith, rest)
+
+first_whole : (c : Core) (xs : List Write) (base : Content) (m : Meaning) → StandsWith c xs base m → taken xs + (MOST_CALL_BLOCKS + 1) ≤ c.log.ring → IsFirst c.log xs
+first_whole c xs base m stood room =
+    let whole = stood.has.whole room in
+    let none : stood.held.low - 1 ≡ 0 = omega (arith, whole.0) in
+    record {
+      place = stood.stands.place ∙ whole.1;
+      widths_are = widths_beside c stood.held m stood.stands ∙ ap (λ (ws : List Write). blocks_taken ws) (stood.has.writes ∙ ap (λ (k : ℕ). drop k xs) none) ∙ taken_same xs;
+    }
+
 -- ---- what the fuse says of its calls
 
 fewer_four : (calls pick : ℕ) (fuse new : Option (ℕ × ℕ)) → fuse ≡ Some (calls, pick) → FewerLeft 4 fuse new → 4 ≤ calls
@@ -94,12 +112,13 @@ lets_pass n m calls set has = subst (λ (f : Fuse). HasFuse f m) set has
 
 -- a site that is up, and a write that is exactly four calls
 module _ {links : List KeptLink} (n : Node) (c : Core) (m : Meaning) (volume start : ℕ) (bytes : List ℕ) (up : IsUpAt links n c m) (none : n.halted ≡ None) (sound : IsSound c m) (told : IsTrue m.tells) (some : 0 < blocks_in bytes)
-    (one : n.session ≡ 1) (room : taken n.log + (blocks_in bytes + 1) ≤ n.ring) where
+    (keeps : KeepsAll n) (room : taken n.log + (blocks_in bytes + 1) ≤ n.ring) where
   idle : c.log.staged ≡ []
   idle = sound.idle (up.halted ∙ none) up.up
 
   pub first_here : IsFirst c.log n.log
-  first_here = up.fresh told none one (omega (arith, room))
+  first_here =
+      ⊎_elim (λ one. up.fresh told none one (omega (arith, room))) (λ (most : taken n.log + (MOST_CALL_BLOCKS + 1) ≤ n.ring). first_whole c n.log n.base m (up.content none told) (omega (arith, most, up.ring))) keeps
 
   pub hand_here : blocks_in bytes < free_of c.log
   hand_here = at_hand c.log n.log bytes first_here idle some (omega (arith, room, up.ring))
@@ -120,32 +139,32 @@ module _ {links : List KeptLink} (n : Node) (c : Core) (m : Meaning) (volume sta
 
 module _ {links : List KeptLink} {R : Type 0} {g : Ghosts R} (n : Node) (old mid : Rvg R g) (volume start : ℕ) (bytes : List ℕ) (up : IsUpAt links n old.core (g.meaning old.shelf)) (none : n.halted ≡ None) (told : IsTrue (g.meaning old.shelf).tells)
     (some : 0 < blocks_in bytes) where
-  at_once : n.session ≡ 1 → taken n.log + (blocks_in bytes + 1) ≤ n.ring → (blocks_in bytes < free_of old.core.log → mid ≡ old) → mid ≡ old
-  at_once one room idle = idle (hand_here n old.core (g.meaning old.shelf) volume start bytes up none old.sound told some one room)
+  at_once : KeepsAll n → taken n.log + (blocks_in bytes + 1) ≤ n.ring → (blocks_in bytes < free_of old.core.log → mid ≡ old) → mid ≡ old
+  at_once keeps room idle = idle (hand_here n old.core (g.meaning old.shelf) volume start bytes up none old.sound told some keeps room)
 
-  pub first_after : n.session ≡ 1 → taken n.log + (blocks_in bytes + 1) ≤ n.ring → (blocks_in bytes < free_of old.core.log → mid ≡ old) → IsFirst mid.core.log n.log
-  first_after one room idle =
-      subst (λ (r : Rvg R g). IsFirst r.core.log n.log) (sym (at_once one room idle)) (first_here n old.core (g.meaning old.shelf) volume start bytes up none old.sound told some one room)
+  pub first_after : KeepsAll n → taken n.log + (blocks_in bytes + 1) ≤ n.ring → (blocks_in bytes < free_of old.core.log → mid ≡ old) → IsFirst mid.core.log n.log
+  first_after keeps room idle =
+      subst (λ (r : Rvg R g). IsFirst r.core.log n.log) (sym (at_once keeps room idle)) (first_here n old.core (g.meaning old.shelf) volume start bytes up none old.sound told some keeps room)
 
   falls_less : (r : Rvg R g) → r ≡ old → (new : Meaning) (calls : ℕ) → IsExact n (record { volume = volume; start = start; bytes = bytes }) calls
       → (BodyFits r.core.log bytes → FallsShort 4 (g.meaning r.shelf) new) → IsTrue new.down → calls < 4
   falls_less r same new calls exact short down =
       let here : BodyFits old.core.log bytes → FallsShort 4 (g.meaning old.shelf) new = subst (λ (k : Rvg R g). BodyFits k.core.log bytes → FallsShort 4 (g.meaning k.shelf) new) same short in
-      less_here n old.core (g.meaning old.shelf) volume start bytes up none old.sound told some exact.first exact.room new calls exact.set
-      (here (fits_here n old.core (g.meaning old.shelf) volume start bytes up none old.sound told some exact.first exact.room)) down
+      less_here n old.core (g.meaning old.shelf) volume start bytes up none old.sound told some exact.keeps exact.room new calls exact.set
+      (here (fits_here n old.core (g.meaning old.shelf) volume start bytes up none old.sound told some exact.keeps exact.room)) down
 
   pub cut_less : (new : Meaning) (calls : ℕ) → IsExact n (record { volume = volume; start = start; bytes = bytes }) calls → (blocks_in bytes < free_of old.core.log → mid ≡ old)
       → (BodyFits mid.core.log bytes → FallsShort 4 (g.meaning mid.shelf) new) → IsTrue new.down → calls < 4
-  cut_less new calls exact idle short down = falls_less mid (at_once exact.first exact.room idle) new calls exact short down
+  cut_less new calls exact idle short down = falls_less mid (at_once exact.keeps exact.room idle) new calls exact short down
 
   makes_four : (r : Rvg R g) → r ≡ old → (new : Meaning) (calls : ℕ) → IsExact n (record { volume = volume; start = start; bytes = bytes }) calls
       → (BodyFits r.core.log bytes → MakesCalls 4 (g.meaning r.shelf) new) → 4 ≤ calls
   makes_four r same new calls exact made =
       let here : BodyFits old.core.log bytes → MakesCalls 4 (g.meaning old.shelf) new = subst (λ (k : Rvg R g). BodyFits k.core.log bytes → MakesCalls 4 (g.meaning k.shelf) new) same made in
-      four_here n old.core (g.meaning old.shelf) volume start bytes up none old.sound told some exact.first exact.room new calls exact.set
-      (here (fits_here n old.core (g.meaning old.shelf) volume start bytes up none old.sound told some exact.first exact.room))
+      four_here n old.core (g.meaning old.shelf) volume start bytes up none old.sound told some exact.keeps exact.room new calls exact.set
+      (here (fits_here n old.core (g.meaning old.shelf) volume start bytes up none old.sound told some exact.keeps exact.room))
 
   pub exact_is : (new : Meaning) (calls : ℕ) → IsExact n (record { volume = volume; start = start; bytes = bytes }) calls → (blocks_in bytes < free_of old.core.log → mid ≡ old)
       → (result : Result ℕ No) → OnOk result (BodyFits mid.core.log bytes → MakesCalls 4 (g.meaning mid.shelf) new) → OnOk result (4 ≤ calls)
-  exact_is new calls exact idle (Ok number) made = makes_four mid (at_once exact.first exact.room idle) new calls exact made
+  exact_is new calls exact idle (Ok number) made = makes_four mid (at_once exact.keeps exact.room idle) new calls exact made
   exact_is new calls exact idle (Err why) made = tt

@@ -112,7 +112,7 @@ up_fused n c m new calls pick rack alike down disks up = record {
   halted = up.halted;
   logged = up.logged;
   durable = up.durable;
-  content = λ none told. still_with c c n.log n.base m new (alike_stands c m new alike) (up.content none (sym alike.contents.tells ∙ told));
+  content = λ none told. still_with c n.log n.base m new (alike_stands c m new alike) (up.content none (sym alike.contents.tells ∙ told));
   left = λ i now. let has = up.left i (alike.contents.now i now) in record { count = has.count; least = has.least; most = has.most; found = has.found };
 }
 

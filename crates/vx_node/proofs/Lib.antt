@@ -3,6 +3,7 @@ pub mod AnswerLine
 pub mod ApplyGroup
 pub mod AskRack
 pub mod CallEvents
+pub mod CallsBurn
 pub mod ChangeSite
 pub mod CrashGroup
 pub mod CrashLine

@@ -26,7 +26,8 @@ use Rattle.vx_node.specs.declared.disk_set.DiskSet.TheVariants.{Bare, Spoiled, U
 use Rattle.vx_node.specs.declared.yard.Yard.{Yard}
 use Rattle.vx_node.specs.Replies.{text_of}
 use Rattle.vx_node.specs.Stands.{StandsAlone}
-use Rattle.vx_node.specs.Working.{Answered}
+use Rattle.vx_node.specs.Working.{Answered, IsFree}
+use Rattle.vx_node.specs.Asked.{HasCalled}
 use Rattle.vx_node.specs.Works.{Works, WorksBy}
 use Rattle.vx_node.specs.Yards.{YardAgrees, YardStands, StaysAgreed, StaysFor, Steps, IsTold, in_files}
 use Rattle.vx_node.proofs.Alike.{agrees_like}
@@ -183,8 +184,9 @@ module _ {R : Type 0} {g : Ghosts R} where
   works_happen told files w y other fails said next agrees none all free is = absurd is
 
   -- a line that was answered
-  pub line_happens : (w : World) (line : ScriptLine) (old new : Yard R g) (said : Said) → YardStands w old → (IsTold new → IsTold old) → Answered w line said old new → Steps w line old new (text_of said)
-  line_happens w line old new said stands later a = by (refusal_of (facts_of w) (in_files old) line) refl a.step
+  pub line_happens : (w : World) (line : ScriptLine) (old new : Yard R g) (said : Said) → YardStands w old → (IsTold new → IsTold old) → Answered w line said old new
+      → (IsFree old line → HasCalled w line said old new) → Steps w line old new (text_of said)
+  line_happens w line old new said stands later a called = by (refusal_of (facts_of w) (in_files old) line) refl a.step
     where
       by : (why : Option No) → refusal_of (facts_of w) (in_files old) line ≡ why → WorksBy why (IsTold new) w line a.fails said a.world → Steps w line old new (text_of said)
       by (Some why) is works = record {
@@ -201,6 +203,7 @@ module _ {R : Type 0} {g : Ghosts R} where
           primaries = λ t. subst (λ (v : World). ArePrimaries v) (sym works.leads) (stands.primaries (later t));
         };
         rose = a.rose;
+        called = λ free. called free;
       }
       by None is works =
           let h = works_happen (IsTold new) (in_files old) w old line a.fails said a.world stands.agrees stands.unlinked (λ t. stands.primaries (later t)) is works in
@@ -214,6 +217,7 @@ module _ {R : Type 0} {g : Ghosts R} where
             };
             stands = stands_for (IsTold new) w a.world line (site_of w line) a.fails said new (λ t. t) a.stands h.0;
             rose = a.rose;
+            called = λ free. called free;
           }
 
   -- a line of which nothing was done

@@ -114,7 +114,7 @@ up_still n c m new goes now down fuse up =
       halted = up.halted;
       logged = up.logged;
       durable = up.durable;
-      content = λ none told. still_with c c n.log n.base m new (rest_stands c m new goes still) (up.content none (sym goes.tells ∙ told));
+      content = λ none told. still_with c n.log n.base m new (rest_stands c m new goes still) (up.content none (sym goes.tells ∙ told));
       left = λ i is. up.left i (now i is);
     }
 
@@ -237,7 +237,7 @@ raw_stands site n c m new lawful unit_is bare some is moves stands = record {
     content : IsTrue new.tells → StandsWith c [] (raw_content n.disks n.blocks) new
     content told = record {
       held = nothing_logged (raw_content n.disks n.blocks) (replicate n.blocks zero_block);
-      has = record { some = omega arith; last = refl; writes = refl; content = refl };
+      has = record { some = omega arith; last = refl; writes = refl; content = refl; whole = λ room. (refl, refl) };
       stands = stands (sym moves.tells ∙ told) (raw_content n.disks n.blocks) (replicate n.blocks zero_block) (raw_holds n m bare some);
     }
 

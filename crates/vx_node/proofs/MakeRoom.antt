@@ -1,5 +1,5 @@
 -- How the log of a site that is up gets room for a write.
-use Rattle.std.proofs.Common.{◌≡◌, ◌∙◌, ◌⊎◌, inl, inr, ⊎_elim, ◌+◌, ◌-◌, ◌<◌, ◌≤◌, ◌^◌, ℕ, Bool, true, false, List, [], ◌∷◌, length, ap, sym, subst, refl, arith, IsTrue, length-append}
+use Rattle.std.proofs.Common.{◌≡◌, ◌∙◌, ◌⊎◌, inl, inr, ⊎_elim, ◌+◌, ◌-◌, ◌<◌, ◌≤◌, ◌^◌, ℕ, zero, suc, Bool, true, false, List, [], ◌∷◌, length, drop, ap, sym, subst, refl, arith, IsTrue, length-append}
 use Rattle.std.specs.Prelude.{IsFalse, Option, Some, None, Result, Ok, Err, OnOk, IsSome, leb, ◌&&◌, ◌||◌, if◌then◌else◌}
 use Rattle.std.proofs.lemmas.Bool.Decides.{nat_tests}
 use Rattle.std.proofs.lemmas.List.{length-drop}
@@ -17,7 +17,12 @@ use Rattle.vx_disk.specs.Shelf.{Meaning, Image, Lawful}
 use Rattle.vx_disk.specs.Moves.{Moves, Run}
 use Rattle.vx_rvg.specs.Groups.{ApplyIs, Fails, Ended, unless_halted}
 use Rattle.vx_rvg.specs.Saves.{SaveIs, reclaim_refusal, reclaimed, log_without}
+use Rattle.vx_model.specs.Content.{Write}
+use Rattle.vx_model.specs.declared.limits.TheConstants.{MOST_CALL_BLOCKS}
+use Rattle.vx_events.specs.Fuses.{taken}
+use Rattle.vx_rvg.specs.Holdings.{blocks_taken}
 use Rattle.vx_rvg.specs.Stands.{Retains, Saving}
+use Rattle.vx_rvg.proofs.FetchGives.{free_beside}
 use Rattle.vx_rvg.specs.Views.{Core, IsSound}
 use Rattle.vx_node.specs.DiskSets.{no_number, halted_at, worked}
 use Rattle.vx_node.specs.Holds.{HasWrites}
@@ -117,6 +122,22 @@ widths_none (k ∷ ks) is = absurd (omega (arith, is))
 all_free : (l : Log) → length l.held ≡ 0 → l.staged ≡ [] → free_of l ≡ l.ring
 all_free l none idle = let w = widths_none (all_of l) (omega (arith, none, ap (λ (ks : List Kept). length ks) idle, length-append l.held l.staged)) in omega (arith, w)
 
+-- ---- a log without room for the largest write
+
+taken_drop : (k : ℕ) (xs : List Write) → blocks_taken (drop k xs) ≤ taken xs
+taken_drop zero [] = omega arith
+taken_drop zero (x ∷ xs) = let rest = taken_drop zero xs in omega (arith, rest)
+taken_drop (suc k) [] = omega arith
+taken_drop (suc k) (x ∷ xs) = let rest = taken_drop k xs in omega (arith, rest)
+
+-- gave writes up that the site has
+pub full_here : {links : List KeptLink} (n : Node) (c : Core) (m : Meaning) → IsUpAt links n c m → n.halted ≡ None → free_of c.log ≤ MOST_CALL_BLOCKS → IsTrue m.tells → taken n.log + (MOST_CALL_BLOCKS + 1) ≤ n.ring → ⊥
+full_here n c m up none less told room =
+    let stood = up.content none told in
+    let free = free_beside c stood.held m stood.stands in
+    let some = taken_drop (stood.held.low - 1) n.log in
+    omega (arith, less, free, ap (λ (xs : List Write). blocks_taken xs) stood.has.writes, some, room, up.ring)
+
 module _ {links : List KeptLink} (n : Node) (c : Core) (m : Meaning) (up : IsUpAt links n c m) where
   log : Emptied c.log (log_without c.log n.safe) n.safe
   log = emptied c.log n.safe up.first up.head
@@ -129,15 +150,16 @@ module _ {links : List KeptLink} (n : Node) (c : Core) (m : Meaning) (up : IsUpA
   last_here none = omega (arith, log.first, log.head, log.none, up.head, many none)
 
   -- an image in it has the site's writes
-  pub saving_found : n.halted ≡ None → (i : Image) → IsTrue m.tells → Saving c (reclaimed c n.safe) m i → HasWrites links n i
-  saving_found none i told saving = ⊎_elim
+  pub saving_found : n.halted ≡ None → free_of c.log ≤ MOST_CALL_BLOCKS → (i : Image) → IsTrue m.tells → Saving c (reclaimed c n.safe) m i → HasWrites links n i
+  saving_found none less i told saving = ⊎_elim
       (λ old. up_found n c m i up none told old)
       (λ next. writes_found n (reclaimed c n.safe) i up.units (log.ring ∙ up.ring) (log.state ∙ kept_whole n c m up told) (log.incarnation ∙ up.session)
       (let t = up.stamp told none in ⊎_elim (λ (same : (log_without c.log n.safe).header.stamp ≡ c.log.header.stamp). omega (arith, t, same)) (λ (more : (c.log.header.low ≤ n.safe) × ((log_without c.log n.safe).header.stamp ≡ c.log.header.stamp + 1)). omega (arith, t, more.1)) log.stamp)
       (many none) next)
-      (saving_with c (reclaimed c n.safe) n.log n.base m log.first (last_here none) (omega (arith, log.none)) i saving (up.content none told))
+      (saving_with c (reclaimed c n.safe) n.log n.base m log.first (last_here none) (omega (arith, log.none)) log.ring
+      (λ room. full_here n c m up none less told (omega (arith, room, up.ring))) i saving (up.content none told))
 
-module _ {links : List KeptLink} (n : Node) (c c' : Core) (m new : Meaning) (up : IsUpAt links n c m) (none : n.halted ≡ None) (lawful : Lawful m) (after : Lawful new)
+module _ {links : List KeptLink} (n : Node) (c c' : Core) (m new : Meaning) (up : IsUpAt links n c m) (none : n.halted ≡ None) (less : free_of c.log ≤ MOST_CALL_BLOCKS) (lawful : Lawful m) (after : Lawful new)
     (moves : Moves (Run c.units.srl 0 (c.log.ring + 2)) (Saving c (reclaimed c n.safe) m) m new) (still : IsFalse new.down) where
   fuse_here : HasFuse (burned n.fuse) new
   fuse_here = fuse_moved n.fuse (Run c.units.srl 0 (c.log.ring + 2)) (Saving c (reclaimed c n.safe) m) m new moves up.fuse
@@ -161,7 +183,8 @@ module _ {links : List KeptLink} (n : Node) (c c' : Core) (m new : Meaning) (up 
     unused = λ told past. let t = up.stamp (sym moves.tells ∙ told) none in ⊎_elim (λ (same : (log_without c.log n.safe).header.stamp ≡ c.log.header.stamp). omega (arith, t, same))
         (λ more. absurd (passes c.log.header.low c.log.header.stamp n.safe passed more.0 past)) (log n c m up).stamp;
     content = λ told.
-        retains_with c (reclaimed c n.safe) n.log n.base m (log n c m up).first (last_here n c m up none) (let few = (log n c m up).none in omega (arith, few)) new
+        retains_with c (reclaimed c n.safe) n.log n.base m (log n c m up).first (last_here n c m up none) (let few = (log n c m up).none in omega (arith, few)) (log n c m up).ring
+        (λ room. full_here n c m up none less (sym moves.tells ∙ told) (omega (arith, room, up.ring))) new
         (subst (λ (k : Core). Retains c k m new) is retains) (up.content none (sym moves.tells ∙ told));
   })
 
@@ -172,7 +195,7 @@ module _ {links : List KeptLink} (n : Node) (c c' : Core) (m new : Meaning) (up 
       all_free c'.log (ap (λ (k : Core). length k.log.held) is ∙ (log n c m up).none) (sound.idle running still) ∙ ap (λ (k : Core). k.log.ring) is ∙ (log n c m up).ring ∙ up.ring
 
   saved_left : (i : Image) → new.now i → HasWrites links n i
-  saved_left i now = ⊎_elim (λ was. up.left i was) (λ saving. saving_found n c m up none i (sym moves.tells ∙ told_now new i after now) saving)
+  saved_left i now = ⊎_elim (λ was. up.left i was) (λ saving. saving_found n c m up none less i (sym moves.tells ∙ told_now new i after now) saving)
       (left_moved (Run c.units.srl 0 (c.log.ring + 2)) (Saving c (reclaimed c n.safe) m) m new i lawful after moves now)
 
   -- or a disk failed
@@ -212,12 +235,12 @@ module _ {links : List KeptLink} (n : Node) (c c' : Core) (m new : Meaning) (up 
       (subst (λ (h : Option ℕ). IsSome (unless_halted h (reclaim_no c.log.header.low c.log.header.stamp n.safe)) → new ≡ m) runs unchanged) rests
 
 -- a reclaim whose fuse ran out
-pub reclaim_cut : {links : List KeptLink} (n : Node) (c : Core) (m new : Meaning) → IsUpAt links n c m → n.halted ≡ None → Lawful m → Lawful new
+pub reclaim_cut : {links : List KeptLink} (n : Node) (c : Core) (m new : Meaning) → IsUpAt links n c m → n.halted ≡ None → free_of c.log ≤ MOST_CALL_BLOCKS → Lawful m → Lawful new
     → Moves (Run c.units.srl 0 (c.log.ring + 2)) (Saving c (reclaimed c n.safe) m) m new → IsTrue new.down → IsFused n.fuse × IsHeldAt links n new
-reclaim_cut n c m new up none lawful after moves down = (
+reclaim_cut n c m new up none less lawful after moves down = (
   fused_by n.fuse (Run c.units.srl 0 (c.log.ring + 2)) (Saving c (reclaimed c n.safe) m) m new moves up.fuse up.up down,
   held_moved n c m new (Run c.units.srl 0 (c.log.ring + 2)) (Saving c (reclaimed c n.safe) m) moves up
-      (λ i now. ⊎_elim (λ was. up.left i was) (λ saving. saving_found n c m up none i (sym moves.tells ∙ told_now new i after now) saving)
+      (λ i now. ⊎_elim (λ was. up.left i was) (λ saving. saving_found n c m up none less i (sym moves.tells ∙ told_now new i after now) saving)
       (left_moved (Run c.units.srl 0 (c.log.ring + 2)) (Saving c (reclaimed c n.safe) m) m new i lawful after moves now)),
 )
 
@@ -249,37 +272,37 @@ room_later links n c' m mid new (Err Down) later is = is
 room_later links n c' m mid new (Err other) later is = is
 
 -- a reclaim up to the number that an apply answered
-pub reclaimed_at : {links : List KeptLink} (n : Node) (c c' : Core) (m new : Meaning) (number : ℕ) → IsUpAt links n c m → n.halted ≡ None → Lawful m → Lawful new → number ≡ n.safe
+pub reclaimed_at : {links : List KeptLink} (n : Node) (c c' : Core) (m new : Meaning) (number : ℕ) → IsUpAt links n c m → n.halted ≡ None → free_of c.log ≤ MOST_CALL_BLOCKS → Lawful m → Lawful new → number ≡ n.safe
     → Moves (Run c.units.srl 0 (c.log.ring + 2)) (Saving c (reclaimed c number) m) m new → IsFalse new.down → (result : Result (Unit {0}) No) → SaveIs (reclaim_refusal c number) c (reclaimed c number) m new c' result
     → (IsSome (reclaim_refusal c number) → new ≡ m) → OnOk result (Retains c c' m new) → RoomIs links n m c' new result
-reclaimed_at {links} n c c' m new number up none lawful after is =
+reclaimed_at {links} n c c' m new number up none less lawful after is =
     subst (λ (k : ℕ). Moves (Run c.units.srl 0 (c.log.ring + 2)) (Saving c (reclaimed c k) m) m new → IsFalse new.down → (result : Result (Unit {0}) No) → SaveIs (reclaim_refusal c k) c (reclaimed c k) m new c' result
     → (IsSome (reclaim_refusal c k) → new ≡ m) → OnOk result (Retains c c' m new) → RoomIs links n m c' new result) (sym is)
-    (λ moves still. reclaimed_as n c c' m new up none lawful after moves still)
+    (λ moves still. reclaimed_as n c c' m new up none less lawful after moves still)
 
 -- whose fuse ran out
-pub reclaimed_cut : {links : List KeptLink} (n : Node) (c : Core) (m new : Meaning) (number : ℕ) → IsUpAt links n c m → n.halted ≡ None → Lawful m → Lawful new → number ≡ n.safe
+pub reclaimed_cut : {links : List KeptLink} (n : Node) (c : Core) (m new : Meaning) (number : ℕ) → IsUpAt links n c m → n.halted ≡ None → free_of c.log ≤ MOST_CALL_BLOCKS → Lawful m → Lawful new → number ≡ n.safe
     → Moves (Run c.units.srl 0 (c.log.ring + 2)) (Saving c (reclaimed c number) m) m new → IsTrue new.down → IsFused n.fuse × IsHeldAt links n new
-reclaimed_cut {links} n c m new number up none lawful after is =
+reclaimed_cut {links} n c m new number up none less lawful after is =
     subst (λ (k : ℕ). Moves (Run c.units.srl 0 (c.log.ring + 2)) (Saving c (reclaimed c k) m) m new → IsTrue new.down → IsFused n.fuse × IsHeldAt links n new) (sym is)
-    (λ moves down. reclaim_cut n c m new up none lawful after moves down)
+    (λ moves down. reclaim_cut n c m new up none less lawful after moves down)
 
 saved_by : (r : Option No) (c after : Core) (m new : Meaning) (c' : Core) (done : Unit {0}) → SaveIs r c after m new c' (Ok done) → c' ≡ after
 saved_by None c after m new c' done is = is
 saved_by (Some why) c after m new c' done is = absurd (let e : Ok done ≡ Err why = is.0 in cc)
 
 -- leaves all blocks free
-pub freed_at : {links : List KeptLink} (n : Node) (c c' : Core) (m new : Meaning) (number : ℕ) → IsUpAt links n c m → n.halted ≡ None → Lawful m → Lawful new → number ≡ n.safe
+pub freed_at : {links : List KeptLink} (n : Node) (c c' : Core) (m new : Meaning) (number : ℕ) → IsUpAt links n c m → n.halted ≡ None → free_of c.log ≤ MOST_CALL_BLOCKS → Lawful m → Lawful new → number ≡ n.safe
     → Moves (Run c.units.srl 0 (c.log.ring + 2)) (Saving c (reclaimed c number) m) m new → IsFalse new.down → (result : Result (Unit {0}) No) → SaveIs (reclaim_refusal c number) c (reclaimed c number) m new c' result
     → IsSound c' new → OnOk result (free_of c'.log ≡ n.ring)
-freed_at n c c' m new number up none lawful after is =
+freed_at n c c' m new number up none less lawful after is =
     subst (λ (k : ℕ). Moves (Run c.units.srl 0 (c.log.ring + 2)) (Saving c (reclaimed c k) m) m new → IsFalse new.down → (result : Result (Unit {0}) No) → SaveIs (reclaim_refusal c k) c (reclaimed c k) m new c' result
     → IsSound c' new → OnOk result (free_of c'.log ≡ n.ring)) (sym is)
     (λ moves still result saves sound. by result moves still saves sound)
   where
     by : (result : Result (Unit {0}) No) → Moves (Run c.units.srl 0 (c.log.ring + 2)) (Saving c (reclaimed c n.safe) m) m new → IsFalse new.down → SaveIs (reclaim_refusal c n.safe) c (reclaimed c n.safe) m new c' result
         → IsSound c' new → OnOk result (free_of c'.log ≡ n.ring)
-    by (Ok done) moves still saves sound = free_reclaimed n c c' m new up none lawful after moves still (saved_by (reclaim_refusal c n.safe) c (reclaimed c n.safe) m new c' done saves) sound
+    by (Ok done) moves still saves sound = free_reclaimed n c c' m new up none less lawful after moves still (saved_by (reclaim_refusal c n.safe) c (reclaimed c n.safe) m new c' done saves) sound
     by (Err why) moves still saves sound = tt
 
 -- ---- a site whose fuse burns twice
@@ -318,6 +341,12 @@ room_again links n c' m new (Err (Device disk)) is = (subst (λ (f : Fuse). IsUp
 room_again links n c' m new (Err (Limit what most)) is = (is.0, is.1, subst (λ (f : Fuse). IsUpAt links (record n { fuse = f }) c' new) (burned_twice n.fuse) is.2)
 room_again links n c' m new (Err Down) is = (fused_before n.fuse is.0, held_again n new is.1)
 room_again links n c' m new (Err other) is = is
+
+-- an apply leaves the log as it is
+pub apply_log : (r : Option No) (c : Core) (count : ℕ) (m new : Meaning) (c' : Core) (result : Result ℕ No) → ApplyIs r c count m new c' result → OnOk result (c'.log ≡ c.log)
+apply_log (Some why) c count m new c' (Ok number) is = absurd (let e : Ok number ≡ Err why = is.0 in cc)
+apply_log None c count m new c' (Ok number) is = ap (λ (k : Core). k.log) is.1.1
+apply_log r c count m new c' (Err why) is = tt
 
 -- the units stay
 fails_units : (c c' : Core) (m new : Meaning) (why : No) → Fails c m new c' why → c'.units ≡ c.units

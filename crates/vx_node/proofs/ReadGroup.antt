@@ -62,7 +62,7 @@ module _ {links : List KeptLink} (n : Node) (c : Core) (m new : Meaning) (volume
   still = down ∙ up.up
 
   content : IsTrue new.tells → StandsWith c n.log n.base new
-  content told = still_with c c n.log n.base m new (rest_stands c m new goes still) (up.content can.running (sym goes.tells ∙ told))
+  content told = still_with c n.log n.base m new (rest_stands c m new goes still) (up.content can.running (sym goes.tells ∙ told))
 
   left : (i : Image) → new.now i → HasWrites links n i
   left i now =

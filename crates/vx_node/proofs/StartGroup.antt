@@ -39,7 +39,7 @@ use Rattle.vx_node.proofs.Laying.{lies_as, sizes_of}
 use Rattle.vx_events.specs.Stamps.{most_stamp}
 use Rattle.vx_node.specs.Fuses.{HasFuse}
 use Rattle.vx_node.specs.Stands.{IsUpAt, IsDownAt, StandsAt, faults_at}
-use Rattle.vx_node.specs.Lasts.{FoundWith, LeftWith, StandsWith}
+use Rattle.vx_node.specs.Lasts.{FoundWith, HasLast, LeftWith, StandsWith}
 use Rattle.vx_node.proofs.CrashGroup.{one_value, found_left_with, left_with}
 use Rattle.vx_node.proofs.LastWrites.{stands_with}
 use Rattle.vx_node.proofs.Sessions.{header_below, found_below_most, next_below}
@@ -190,7 +190,11 @@ module _ {links : List KeptLink} (n : Node) (m up : Meaning) (is : IsDownAt link
         let told : IsTrue up.tells = sym moves.tells ∙ tells in
         let with = left_up told in
         let has = started.each (state_with n links) n.session (most_stamp n) with.held with.left in
-        let stood : StandsWith core n.log n.base new = record { held = with.held; has = with.has; stands = has.3 } in
+        let stood : StandsWith core n.log n.base new = record {
+          held = with.held;
+          has = subst (λ (r : ℕ). HasLast r n.log n.base with.held) (sym started.ring_is) with.has;
+          stands = has.3;
+        } in
         let head : last_of core ≡ n.safe = (let last = stands_last core with.held new has.3 (omega (arith, started.applied)) in omega (arith, last, with.has.last, is.logged)) in
         record {
           node = recovered n;

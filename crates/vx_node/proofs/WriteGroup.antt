@@ -164,7 +164,7 @@ module _ {links : List KeptLink} (n : Node) (volume start : ℕ) (bytes : List �
       up_logged n x c0 c c' m0 m new up can.running roomy after sound'.log_unit moves.tells still lies_new fuse_new begun_new
           (λ told one room. first_pushed c c' n.log volume start bytes is.1 (sound.idle roomy.running roomy.up) (first (sym moves.tells ∙ told) one (let more = taken_push n.log x in omega (arith, room, more))))
           (ap (λ (k : Core). k.units) is.1) (ap (λ (k : Core). k.log.ring) is.1)
-          (ap (λ (k : Core). k.log.header) is.1) (ap (λ (k : Core). k.halted) is.1) (head_more is.1) (λ told. write_with c c' n.log x n.base m new stands (roomy.content (sym moves.tells ∙ told))),
+          (ap (λ (k : Core). k.log.header) is.1) (ap (λ (k : Core). k.halted) is.1) (head_more is.1) (λ told. write_with c c' n.log x n.base m new (ap (λ (k : Core). k.log.ring) is.1) stands (roomy.content (sym moves.tells ∙ told))),
       exact,
     )
     by_writes (Err (Device disk)) below is stands exact = (up_half n x disk c0 c c' m0 m new up roomy moves.tells still lies_new fuse_new begun_new (ended_log c (Some disk) c' is.0) is.0.halted_is (half_left disk), is.1)

@@ -1,5 +1,6 @@
--- What a line asks of the rack of its site: a disk, a number of calls or a pick, as the rack itself takes them; and that other lines make no disk fail.
-use Rattle.std.specs.Prelude.{◌≡◌, ◌≢◌, ℕ, Bool, true, false, Option, Some, None, slice_get, slice_set}
+-- What a line asks of the rack of its site: a disk, a number of calls or a pick, as the rack itself takes them. Other lines make no disk fail,
+-- and a line that writes crashes the disks only where their fuse has no call left.
+use Rattle.std.specs.Prelude.{◌≡◌, ◌≢◌, ◌⊎◌, ℕ, Bool, true, false, Option, Some, None, slice_get, slice_set}
 use Rattle.vx_history.specs.World.{World}
 use Rattle.vx_disk.specs.Causes.{OnDisks, WithDisks}
 use Rattle.vx_disk.specs.Disks.{Disks, Crashed, SameBlocks, Untouched}
@@ -7,11 +8,13 @@ use Rattle.vx_disk.specs.declared.shelf.Shelf.{Ghosts}
 use Rattle.vx_script.specs.declared.line.DiskState.{DiskState}
 use Rattle.vx_script.specs.declared.line.DiskState.TheVariants.{Fail, Work}
 use Rattle.vx_script.specs.declared.line.ScriptLine.{ScriptLine}
-use Rattle.vx_script.specs.declared.line.ScriptLine.TheVariants.{Disk, Crash, Fuse, Write, Put, Apply}
+use Rattle.vx_script.specs.declared.line.ScriptLine.TheVariants.{Site, Raw, Disk, Crash, Fuse, Recover, Write, Put, Read, Show, Apply, Status}
+use Rattle.vx_events.specs.declared.said.Said.{Said}
 use Rattle.vx_events.specs.Facts.{site_number}
 use Rattle.vx_node.specs.declared.disk_set.DiskSet.{DiskSet}
 use Rattle.vx_node.specs.declared.disk_set.DiskSet.TheVariants.{Bare, Spoiled, Up, Down, Gone}
 use Rattle.vx_node.specs.declared.yard.Yard.{Yard}
+use Rattle.vx_node.specs.Burning.{Burnt}
 
 -- whether the calls on the disk are to fail
 abbrev pub is_failing : DiskState → Bool
@@ -59,6 +62,18 @@ module _ {R : Type 0} {g : Ghosts R} where
   pub record SameFailing (old new : DiskSet R g) : Type 0 where
     pub told : WithDisks (disks_in old) (disks_in new) (λ o n. (u : ℕ) → n.failing u ≡ o.failing u)
 
+  -- no block, no fuse and no disk that is made to fail changed
+  pub record LeavesAlone (old new : DiskSet R g) : Type 0 where
+    pub told : OnDisks (disks_in old) (disks_in new) Untouched
+
+  -- the disks crashed with this pick, or nothing was done to them
+  pub record MayCrash (pick : ℕ) (old new : DiskSet R g) : Type 0 where
+    pub told : OnDisks (disks_in old) (disks_in new) (λ o n. Crashed (size_in old) pick o n ⊎ Untouched o n)
+
+  -- the calls of a line that was answered so
+  pub record LeavesFuse (least : ℕ) (said : Said) (old new : DiskSet R g) : Type 0 where
+    pub told : OnDisks (disks_in old) (disks_in new) (Burnt least said (size_in old))
+
   -- the disk set of this site did so, and no other changed
   pub record OfSite (Did : DiskSet R g → DiskSet R g → Type 0) (site : ℕ) (old new : Yard R g) : Type 0 where
     pub before : DiskSet R g
@@ -67,12 +82,25 @@ module _ {R : Type 0} {g : Ghosts R} where
     pub disk_sets : new.disk_sets.items ≡ slice_set old.disk_sets.items site after
     pub did : Did before after
 
-  -- what a line asks of the rack of its site, and of one that writes that it asks nothing of the kind
+  -- what a line asks of the rack of its site, and of the others that they ask nothing of the kind
   abbrev pub AsAsked : World → ScriptLine → Yard R g → Yard R g → Type 0
+  AsAsked w (Site name disks blocks) old new = OfSite SameFailing w.sites old new
+  AsAsked w (Raw site) old new = OfSite SameFailing (site_number w site) old new
   AsAsked w (Disk site disk state) old new = OfSite (SetsDisk disk (is_failing state)) (site_number w site) old new
   AsAsked w (Fuse site calls pick) old new = OfSite (SetsFuse calls pick) (site_number w site) old new
   AsAsked w (Crash site pick) old new = OfSite (CrashesBy pick) (site_number w site) old new
+  AsAsked w (Recover site) old new = OfSite SameFailing (site_number w site) old new
   AsAsked w (Write site volume block count fill) old new = OfSite SameFailing (site_number w site) old new
   AsAsked w (Put site volume block bytes) old new = OfSite SameFailing (site_number w site) old new
+  AsAsked w (Read site volume block count) old new = OfSite LeavesAlone (site_number w site) old new
+  AsAsked w (Show site volume block count) old new = OfSite LeavesAlone (site_number w site) old new
   AsAsked w (Apply site count) old new = OfSite SameFailing (site_number w site) old new
+  AsAsked w (Status site) old new = new.disk_sets.items ≡ old.disk_sets.items
   AsAsked w other old new = Unit {0}
+
+  -- What the calls of a line that was answered so leave of the fuse of its site: a write that is done is four writes and flushes or more.
+  abbrev pub HasCalled : World → ScriptLine → Said → Yard R g → Yard R g → Type 0
+  HasCalled w (Write site volume block count fill) said old new = OfSite (LeavesFuse 4 said) (site_number w site) old new
+  HasCalled w (Put site volume block bytes) said old new = OfSite (LeavesFuse 4 said) (site_number w site) old new
+  HasCalled w (Apply site count) said old new = OfSite (LeavesFuse 0 said) (site_number w site) old new
+  HasCalled w other said old new = Unit {0}

@@ -1,4 +1,5 @@
 pub mod Asked
+pub mod Burning
 pub mod Changes
 pub mod DiskSets
 pub mod Fetching

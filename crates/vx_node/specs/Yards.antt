@@ -1,11 +1,13 @@
 -- A yard, and what its calls promise.
-use Rattle.std.specs.Prelude.{◌≡◌, ◌≢◌, ◌⊎◌, ℕ, ◌≤◌, List, [], ◌++◌, Option, Result, Ok, Err, Bool, is_some}
+use Rattle.std.specs.Prelude.{◌≡◌, ◌≢◌, ◌⊎◌, ℕ, ◌≤◌, List, [], ◌++◌, Option, None, Result, Ok, Err, Bool, is_some}
 use Rattle.vx_model.specs.declared.limits.TheConstants.{MOST_SITES}
 use Rattle.std.specs.Vec.{vec_capacity}
 use Rattle.std.specs.Io.KnownBytes.{Appends}
 use Rattle.vx_history.specs.World.{World}
 use Rattle.vx_disk.specs.declared.shelf.Shelf.{Ghosts}
+use Rattle.vx_order.specs.Order.{refusal_of}
 use Rattle.vx_script.specs.declared.line.ScriptLine.{ScriptLine}
+use Rattle.vx_node.specs.Asked.{HasCalled}
 use Rattle.vx_node.specs.declared.yard.Yard.{Yard}
 use Rattle.vx_node.specs.declared.errors.LineStop.{LineStop}
 use Rattle.vx_node.specs.declared.errors.LineStop.TheVariants.{WriteFault, OutOfMemory}
@@ -59,6 +61,8 @@ module _ {R : Type 0} {g : Ghosts R} where
     pub prints : Prints (IsTold new) (in_files old) w line fails text world
     pub stands : YardStands world new
     pub rose : RoseAll fails (count_of old) (count_of new)
+    -- where no test refuses the line, the fuse of its site is as its calls leave it
+    pub called : refusal_of old.facts.items (in_files old) line ≡ None → HasCalled w line prints.said old new
 
   -- nothing of the line was done
   pub record StaysFor (w : World) (old new : Yard R g) : Type 0 where

@@ -1,7 +1,9 @@
 // What a line is answered.
-ghost use Rattle.std.specs.Prelude.{◌≡◌, ◌*◌, IfOk, min, replicate};
+ghost use Rattle.std.specs.Prelude.{◌≡◌, ◌*◌, IfOk, IsSome, min, replicate, true};
 ghost use Rattle.vx_history.specs.World.{World};
-ghost use Rattle.vx_node.specs.Asked.{AsAsked};
+ghost use Rattle.vx_order.specs.Order.{refusal_of};
+ghost use Rattle.vx_node.specs.Asked.{AsAsked, HasCalled};
+ghost use Rattle.vx_node.specs.Lines.{is_built};
 ghost use Rattle.vx_node.specs.Working.{WorkIs, AnswerIs, IsFree};
 ghost use Rattle.vx_node.specs.Yards.{IsKept, YardAgrees, IsTold, in_files};
 
@@ -23,10 +25,12 @@ fn filled(alloc: Global, count: u64, fill: u8) -> Result<Vec<u8>, OutOfMemory>
 impl<R: Rack> Yard<R> {
     // Does a line that no test refuses.
     fn work(&mut self, alloc: Global, words: &ScriptLine) -> Result<Said, OutOfMemory>
+        requires built { is_built words.now ≡ true }
         requires kept { IsKept self.old }
         requires free { IsFree self.old words.now }
         ensures works { (w : World) → YardAgrees w self.old → WorkIs w words.now self.old self.new result }
         ensures asked { (w : World) → YardAgrees w self.old → AsAsked w words.now self.old self.new }
+        ensures called { (w : World) → YardAgrees w self.old → IfOk result (λ said. HasCalled w words.now said self.old self.new) }
         ensures told { IsTold self.new → IsTold self.old }
         ensures files { in_files self.new ≡ in_files self.old }
     {
@@ -77,16 +81,20 @@ impl<R: Rack> Yard<R> {
             }
             ScriptLine::Apply { site, count } => Ok(self.apply_line(site, *count)),
             ScriptLine::Status { site } => Ok(self.status_line(alloc, site)),
-            // A line that is not built: no script gives it.
-            _ => Err(OutOfMemory),
+            // A line that is not built.
+            _ => unreachable!(),
         }
     }
 
     /// What a line is answered: its first refusal in the one order, or what it works.
     pub(crate) fn answer(&mut self, alloc: Global, words: &ScriptLine) -> Result<Said, OutOfMemory>
+        requires built { is_built words.now ≡ true }
         requires kept { IsKept self.old }
         ensures answers { (w : World) → YardAgrees w self.old → AnswerIs w words.now self.old self.new result }
         ensures asked { (w : World) → YardAgrees w self.old → IsFree self.old words.now → AsAsked w words.now self.old self.new }
+        ensures called { (w : World) → YardAgrees w self.old → IsFree self.old words.now → IfOk result (λ said. HasCalled w words.now said self.old self.new) }
+        // A line that is refused leaves all disks as they are.
+        ensures still { IsSome (refusal_of self.old.facts.items (in_files self.old) words.now) → self.new.disk_sets ≡ self.old.disk_sets }
         ensures told { IsTold self.new → IsTold self.old }
         ensures files { in_files self.new ≡ in_files self.old }
     {

@@ -2,7 +2,7 @@
 ghost use Rattle.std.specs.Prelude.{◌≡◌};
 ghost use Rattle.vx_history.specs.World.{World};
 ghost use Rattle.vx_script.specs.declared.line.ScriptLine.TheVariants.{Apply};
-ghost use Rattle.vx_node.specs.Asked.{AsAsked};
+ghost use Rattle.vx_node.specs.Asked.{AsAsked, HasCalled};
 ghost use Rattle.vx_node.specs.Working.{Worked, IsFree};
 ghost use Rattle.vx_node.specs.Yards.{IsKept, YardAgrees, IsTold, in_files};
 
@@ -18,6 +18,7 @@ impl<R: Rack> Yard<R> {
         requires free { IsFree self.old (Apply name.now to) }
         ensures works { (w : World) → YardAgrees w self.old → Worked w (Apply name.now to) result self.old self.new }
         ensures asked { (w : World) → YardAgrees w self.old → AsAsked w (Apply name.now to) self.old self.new }
+        ensures called { (w : World) → YardAgrees w self.old → HasCalled w (Apply name.now to) result self.old self.new }
         ensures told { IsTold self.new → IsTold self.old }
         ensures files { in_files self.new ≡ in_files self.old }
     {

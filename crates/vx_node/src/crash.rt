@@ -3,7 +3,7 @@ ghost use Rattle.std.specs.Prelude.{◌≡◌, ◌<◌, length};
 ghost use Rattle.vx_history.specs.World.{World};
 ghost use Rattle.vx_model.specs.declared.site.SiteState.TheVariants.{Up as UpState};
 ghost use Rattle.vx_script.specs.declared.line.ScriptLine.TheVariants.{Crash};
-ghost use Rattle.vx_node.specs.Asked.{AsAsked, CrashesBy, OfSite};
+ghost use Rattle.vx_node.specs.Asked.{AsAsked, CrashesBy, OfSite, SameFailing};
 ghost use Rattle.vx_node.specs.Rising.{Fell};
 ghost use Rattle.vx_node.specs.Working.{Worked, IsFree};
 ghost use Rattle.vx_node.specs.Yards.{IsKept, YardAgrees, IsTold, in_files};
@@ -20,6 +20,7 @@ impl<R: Rack> Yard<R> {
         requires disk_set { site < length self.old.disk_sets.items }
         ensures fell { (w : World) → YardAgrees w self.old → site < w.sites → (w.nodes site).state ≡ UpState → Fell w site self.old self.new }
         ensures asked { (w : World) → YardAgrees w self.old → site < w.sites → (w.nodes site).state ≡ UpState → OfSite (CrashesBy pick) site self.old self.new }
+        ensures failing { OfSite SameFailing site self.old self.new }
         ensures facts { length self.new.facts.items ≡ length self.old.facts.items }
         ensures disk_sets { length self.new.disk_sets.items ≡ length self.old.disk_sets.items }
         ensures told { IsTold self.new → IsTold self.old }

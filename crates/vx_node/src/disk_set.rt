@@ -26,7 +26,7 @@ pub enum DiskSet<R: Rack> {
 }
 
 impl<R: Rack> DiskSet<R> {
-    ghost use Rattle.vx_node.specs.Asked.{SetsDisk, SetsFuse, CrashesBy, SameFailing, units_in};
+    ghost use Rattle.vx_node.specs.Asked.{SetsDisk, SetsFuse, CrashesBy, MayCrash, SameFailing, units_in};
     ghost use Rattle.vx_node.specs.Holds.{state_with};
     ghost use Rattle.vx_node.specs.Stands.{CutAt, IsUnused};
     ghost use Rattle.vx_history.specs.World.{FuseSet};
@@ -46,6 +46,7 @@ impl<R: Rack> DiskSet<R> {
         requires few { disks ≤ MOST_DISKS }
         requires large { LEAST_BLOCKS ≤ blocks }
         ensures fits { IsUnused self.old → FitIs dir.entry disks blocks self.old self.new result }
+        ensures failing { SameFailing self.old self.new }
         ensures later { Later self.old self.new }
     {
         match self {
@@ -87,7 +88,7 @@ impl<R: Rack> DiskSet<R> {
         ensures crashed { (links : List KeptLink) (n : Node) → StandsAt links n self → n.state ≡ UpState → CrashedAt links n result }
         ensures asked { (links : List KeptLink) (n : Node) → StandsAt links n self → n.state ≡ UpState → CrashesBy pick self result }
         ensures cut { (links : List KeptLink) (n : Node) → CutAt links n self → CrashedAt links n result }
-        ensures failing { SameFailing self result }
+        ensures stopped { MayCrash pick self result }
         ensures later { Later self result }
     {
         match self {

@@ -2,6 +2,7 @@
 ghost use Rattle.std.specs.Prelude.{◌≡◌, ◌≤◌};
 ghost use Rattle.vx_history.specs.World.{World};
 ghost use Rattle.vx_script.specs.declared.line.ScriptLine.TheVariants.{Site, Raw};
+ghost use Rattle.vx_node.specs.Asked.{AsAsked};
 ghost use Rattle.vx_node.specs.Replies.{reply_to};
 ghost use Rattle.vx_node.specs.Working.{WorkIs, IsFree};
 ghost use Rattle.vx_node.specs.Yards.{IsKept, YardAgrees, IsTold, in_files};
@@ -39,6 +40,7 @@ impl<R: Rack> Yard<R> {
         requires kept { IsKept self.old }
         requires free { IsFree self.old (Site name.now disks blocks) }
         ensures works { (w : World) → YardAgrees w self.old → WorkIs w (Site name.now disks blocks) self.old self.new result }
+        ensures asked { (w : World) → YardAgrees w self.old → AsAsked w (Site name.now disks blocks) self.old self.new }
         ensures told { IsTold self.new → IsTold self.old }
         ensures files { in_files self.new ≡ in_files self.old }
     {
@@ -69,6 +71,7 @@ impl<R: Rack> Yard<R> {
         requires kept { IsKept self.old }
         requires free { IsFree self.old (Raw name.now) }
         ensures works { (w : World) → YardAgrees w self.old → WorkIs w (Raw name.now) self.old self.new result }
+        ensures asked { (w : World) → YardAgrees w self.old → AsAsked w (Raw name.now) self.old self.new }
         ensures told { IsTold self.new → IsTold self.old }
         ensures files { in_files self.new ≡ in_files self.old }
     {

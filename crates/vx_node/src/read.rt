@@ -3,6 +3,8 @@ ghost use Rattle.std.specs.Prelude.{◌≡◌, ◌≤◌, ◌<◌, ◌*◌, leng
 ghost use Rattle.vx_model.specs.declared.state.KeptLink.{KeptLink};
 ghost use Rattle.vx_history.specs.World.{World, Node};
 ghost use Rattle.vx_script.specs.declared.line.ScriptLine.TheVariants.{Read as ReadLine, Show as ShowLine};
+ghost use Rattle.vx_events.specs.Facts.{site_number};
+ghost use Rattle.vx_node.specs.Asked.{AsAsked, LeavesAlone, OfSite};
 ghost use Rattle.vx_node.specs.DiskSets.{CanRead, Later};
 ghost use Rattle.vx_node.specs.Fetching.{GaveAt, IsReadFree, IsRoom, Fetched};
 ghost use Rattle.vx_node.specs.Stands.{StandsAt};
@@ -26,6 +28,7 @@ fn blocks_of<R: Rack>(
     requires few { count ≤ MOST_CALL_BLOCKS }
     requires room { length room.items ≡ 512 * count }
     ensures read { (links : List KeptLink) (n : Node) → StandsAt links n disk_set.old → CanRead n volume start count → GaveAt links n volume start count disk_set.old disk_set.new result }
+    ensures still { LeavesAlone disk_set.old disk_set.new }
     ensures later { Later disk_set.old disk_set.new }
 {
     disk_set.read(volume, start, &mut room)?;
@@ -46,6 +49,7 @@ impl<R: Rack> Yard<R> {
         requires kept { IsKept self.old }
         requires free { IsFree self.old (ReadLine name.now volume.now start count) }
         ensures works { (w : World) → YardAgrees w self.old → Worked w (ReadLine name.now volume.now start count) result self.old self.new }
+        ensures asked { (w : World) → YardAgrees w self.old → AsAsked w (ReadLine name.now volume.now start count) self.old self.new }
         ensures told { IsTold self.new → IsTold self.old }
         ensures files { in_files self.new ≡ in_files self.old }
     {
@@ -65,6 +69,7 @@ impl<R: Rack> Yard<R> {
         requires kept { IsKept self.old }
         requires free { IsFree self.old (ShowLine name.now volume.now start count) }
         ensures works { (w : World) → YardAgrees w self.old → Worked w (ShowLine name.now volume.now start count) result self.old self.new }
+        ensures asked { (w : World) → YardAgrees w self.old → AsAsked w (ShowLine name.now volume.now start count) self.old self.new }
         ensures told { IsTold self.new → IsTold self.old }
         ensures files { in_files self.new ≡ in_files self.old }
     {
@@ -77,6 +82,7 @@ impl<R: Rack> Yard<R> {
         requires kept { IsKept self.old }
         requires free { IsReadFree self.old name.now volume.now start count }
         ensures works { (w : World) → YardAgrees w self.old → Fetched w name.now volume.now start count result self.old self.new }
+        ensures asked { (w : World) → YardAgrees w self.old → OfSite LeavesAlone (site_number w name.now) self.old self.new }
         ensures told { IsTold self.new → IsTold self.old }
         ensures files { in_files self.new ≡ in_files self.old }
     {

@@ -3,6 +3,7 @@ ghost use Rattle.std.specs.Prelude.{◌≡◌, ◌<◌, length};
 ghost use Rattle.vx_history.specs.World.{World};
 ghost use Rattle.vx_model.specs.declared.site.SiteState.TheVariants.{Bare as BareState, Down as DownState};
 ghost use Rattle.vx_script.specs.declared.line.ScriptLine.TheVariants.{Recover};
+ghost use Rattle.vx_node.specs.Asked.{AsAsked, OfSite, SameFailing};
 ghost use Rattle.vx_node.specs.Rising.{Finding, NotesUp, Recovering};
 ghost use Rattle.vx_node.specs.Works.{Begins};
 ghost use Rattle.vx_node.specs.Working.{WorkIs, IsFree};
@@ -41,6 +42,7 @@ impl<R: Rack> Yard<R> {
         requires disk_set { site < length self.old.disk_sets.items }
         ensures rises { (w mid : World) → YardAgrees mid self.old → site < mid.sites → Begins w site mid → (mid.nodes site).state ≡ DownState
             → ring ≡ (mid.nodes site).ring → room.ring ≡ ring → Recovering w site result self.old self.new }
+        ensures failing { OfSite SameFailing site self.old self.new }
         ensures told { IsTold self.new → IsTold self.old }
         ensures files { in_files self.new ≡ in_files self.old }
     {
@@ -61,6 +63,7 @@ impl<R: Rack> Yard<R> {
         requires facts { site < length self.old.facts.items }
         requires disk_set { site < length self.old.disk_sets.items }
         ensures found { (w : World) → YardAgrees w self.old → site < w.sites → (w.nodes site).state ≡ BareState → Finding w site self.old self.new result }
+        ensures failing { OfSite SameFailing site self.old self.new }
         ensures told { IsTold self.new → IsTold self.old }
         ensures files { in_files self.new ≡ in_files self.old }
     {
@@ -103,6 +106,7 @@ impl<R: Rack> Yard<R> {
         requires kept { IsKept self.old }
         requires free { IsFree self.old (Recover name.now) }
         ensures works { (w : World) → YardAgrees w self.old → WorkIs w (Recover name.now) self.old self.new result }
+        ensures asked { (w : World) → YardAgrees w self.old → AsAsked w (Recover name.now) self.old self.new }
         ensures told { IsTold self.new → IsTold self.old }
         ensures files { in_files self.new ≡ in_files self.old }
     {

@@ -4,9 +4,11 @@ ghost use Rattle.vx_model.specs.Content.{zero_block};
 ghost use Rattle.vx_model.specs.Sizes.{ring_of};
 ghost use Rattle.vx_disk.specs.Causes.{DeviceCause};
 ghost use Rattle.vx_disk.specs.Shelf.{Goes, Keeps, Nothing};
+ghost use Rattle.vx_ringio.specs.Spends.{Spends};
 ghost use Rattle.vx_ringio.specs.Tracks.{Lies};
 ghost use Rattle.vx_model.specs.declared.state.KeptLink.{KeptLink};
 ghost use Rattle.vx_history.specs.World.{Node};
+ghost use Rattle.vx_node.specs.Asked.{SameFailing};
 ghost use Rattle.vx_node.specs.DiskSets.{Later, CanHold, CanStart, MadeIs, BareUpIs};
 ghost use Rattle.vx_node.specs.Stands.{IsBareAt, IsCleanAt};
 
@@ -22,6 +24,7 @@ use vx_rvg::{Rvg, StartRoom};
 // A raw set on the disks of a bare site. Where it is not made, something of it may stand on them.
 fn make_group<R: Rack>(alloc: Global, rack: R, site: u32) -> (DiskSet<R>, Result<(), Stop>)
     ensures made { (n : Node) → IsBareAt n (R.meaning rack) → 3 ≤ n.disks → MadeIs site n (DiskSet.Spoiled rack) result.0 result.1 }
+    ensures failing { SameFailing (DiskSet.Spoiled rack) result.0 }
     ensures later { Later (DiskSet.Spoiled rack) result.0 }
 {
     let disks = rack.units();
@@ -40,6 +43,7 @@ fn is_log<R: Rack>(rack: &mut R, ring: u64, block: u64) -> Result<bool, No>
     requires header { block < 2 }
     ensures none { IfOk result (λ found. IsTrue (R.meaning rack.old).tells → Keeps (R.meaning rack.old) 0 block zero_block → IsFalse found) }
     ensures goes { Goes Nothing (R.meaning rack.old) (R.meaning rack.new) }
+    ensures spends { Spends (R.meaning rack.old) (R.meaning rack.new) }
     ensures cause { IfErr result (DeviceCause (R.meaning rack.old) (R.meaning rack.new)) }
 {
     match read_top(rack, 0, ring, block) {
@@ -60,6 +64,7 @@ fn has_log<R: Rack>(rack: &mut R, ring: u64) -> Result<bool, No>
     requires lies { Lies 0 ring (R.meaning rack.old) }
     ensures none { IfOk result (λ found. IsTrue (R.meaning rack.old).tells → ((b : ℕ) → b < 2 → Keeps (R.meaning rack.old) 0 b zero_block) → IsFalse found) }
     ensures goes { Goes Nothing (R.meaning rack.old) (R.meaning rack.new) }
+    ensures spends { Spends (R.meaning rack.old) (R.meaning rack.new) }
     ensures cause { IfErr result (DeviceCause (R.meaning rack.old) (R.meaning rack.new)) }
 {
     if is_log(rack, ring, 0)? {
@@ -92,6 +97,7 @@ fn can_start<R: Rack>(rack: &R, room: &StartRoom) -> bool
 // Starts what stands on the disks of a bare site. Where it is refused, the site stays bare.
 fn start_bare<R: Rack>(rack: R, room: StartRoom) -> (DiskSet<R>, Result<(), No>)
     ensures found { (n : Node) → IsCleanAt n (R.meaning rack) → 3 ≤ n.disks → room.ring ≡ ring_of n.blocks → BareUpIs n (DiskSet.Bare rack) result.0 result.1 }
+    ensures failing { SameFailing (DiskSet.Bare rack) result.0 }
     ensures later { Later (DiskSet.Bare rack) result.0 }
 {
     let mut rack = rack;
@@ -123,6 +129,7 @@ impl<R: Rack> DiskSet<R> {
     /// Makes a bare site's disks a raw set: disk 0 the log, the last disk the maps, and each disk between a volume.
     pub fn make_raw(self, alloc: Global, site: u32) -> (DiskSet<R>, Result<(), Stop>)
         ensures made { (links : List KeptLink) (n : Node) → StandsAt links n self → n.state ≡ BareState → 3 ≤ n.disks → MadeIs site n self result.0 result.1 }
+        ensures failing { SameFailing self result.0 }
         ensures later { Later self result.0 }
     {
         match self {
@@ -135,6 +142,7 @@ impl<R: Rack> DiskSet<R> {
     /// Starts what stands on the disks of a site that crashed, with room taken before. Where it is refused, the disks crash again.
     pub fn recover(self, room: StartRoom) -> (DiskSet<R>, Result<(), No>)
         ensures recovered { (links : List KeptLink) (n : Node) → StandsAt links n self → n.state ≡ DownState → room.ring ≡ n.ring → CameUpIs links n self result.0 result.1 }
+        ensures failing { SameFailing self result.0 }
         ensures later { Later self result.0 }
     {
         match self {
@@ -161,6 +169,7 @@ impl<R: Rack> DiskSet<R> {
     /// Starts what an earlier run left on the disks of a bare site, with room taken before. Where it is refused, the site stays bare.
     pub fn recover_bare(self, room: StartRoom) -> (DiskSet<R>, Result<(), No>)
         ensures found { (links : List KeptLink) (n : Node) → StandsAt links n self → n.state ≡ BareState → 3 ≤ n.disks → room.ring ≡ ring_of n.blocks → BareUpIs n self result.0 result.1 }
+        ensures failing { SameFailing self result.0 }
         ensures later { Later self result.0 }
     {
         match self {

@@ -4,7 +4,7 @@ ghost use Rattle.vx_history.specs.World.{World};
 ghost use Rattle.vx_script.specs.declared.line.ScriptLine.TheVariants.{Write as WriteLine, Put as PutLine};
 ghost use Rattle.vx_events.specs.declared.said.Said.TheVariants.{Refused};
 ghost use Rattle.vx_events.specs.Facts.{site_number};
-ghost use Rattle.vx_node.specs.Asked.{AsAsked, OfSite, SameFailing};
+ghost use Rattle.vx_node.specs.Asked.{AsAsked, LeavesFuse, HasCalled, OfSite};
 ghost use Rattle.vx_node.specs.Working.{Worked, IsFree};
 ghost use Rattle.vx_node.specs.Writes.{WriteFree, PutsIs, noted_facts};
 ghost use Rattle.vx_node.specs.Yards.{IsKept, YardAgrees, IsTold, in_files};
@@ -37,7 +37,7 @@ impl<R: Rack> Yard<R> {
         requires kept { IsKept self.old }
         requires free { WriteFree self.old name.now volume.now start bytes.now }
         ensures works { (w : World) → YardAgrees w self.old → PutsIs w name.now volume.now start bytes.now result self.old self.new }
-        ensures asked { (w : World) → YardAgrees w self.old → OfSite SameFailing (site_number w name.now) self.old self.new }
+        ensures called { (w : World) → YardAgrees w self.old → OfSite (LeavesFuse 4 result) (site_number w name.now) self.old self.new }
         ensures told { IsTold self.new → IsTold self.old }
         ensures files { in_files self.new ≡ in_files self.old }
     {
@@ -67,6 +67,7 @@ impl<R: Rack> Yard<R> {
         requires free { IsFree self.old (WriteLine name.now volume.now start count fill) }
         ensures works { (w : World) → YardAgrees w self.old → Worked w (WriteLine name.now volume.now start count fill) result self.old self.new }
         ensures asked { (w : World) → YardAgrees w self.old → AsAsked w (WriteLine name.now volume.now start count fill) self.old self.new }
+        ensures called { (w : World) → YardAgrees w self.old → HasCalled w (WriteLine name.now volume.now start count fill) result self.old self.new }
         ensures told { IsTold self.new → IsTold self.old }
         ensures files { in_files self.new ≡ in_files self.old }
     {
@@ -82,6 +83,7 @@ impl<R: Rack> Yard<R> {
         requires free { IsFree self.old (PutLine name.now volume.now start bytes.now) }
         ensures works { (w : World) → YardAgrees w self.old → Worked w (PutLine name.now volume.now start bytes.now) result self.old self.new }
         ensures asked { (w : World) → YardAgrees w self.old → AsAsked w (PutLine name.now volume.now start bytes.now) self.old self.new }
+        ensures called { (w : World) → YardAgrees w self.old → HasCalled w (PutLine name.now volume.now start bytes.now) result self.old self.new }
         ensures told { IsTold self.new → IsTold self.old }
         ensures files { in_files self.new ≡ in_files self.old }
     {

@@ -1,11 +1,13 @@
 // Calls on the group of a site that is up: its writes, its reads, and what brings logged writes into their volumes.
-ghost use Rattle.std.specs.Prelude.{◌≡◌, ◌≤◌, ◌<◌, ◌+◌, ◌*◌, ◌%◌, length, None, IfOk, IfErr, OnOk, List};
+ghost use Rattle.std.specs.Prelude.{◌≡◌, ◌≤◌, ◌<◌, ◌+◌, ◌*◌, ◌%◌, length, None, IfOk, IfErr, OnOk, IsFalse, List};
 ghost use Rattle.vx_model.specs.Content.{blocks_in};
-ghost use Rattle.vx_model.specs.declared.limits.TheConstants.{MOST_CALL_BYTES};
+ghost use Rattle.vx_model.specs.declared.limits.TheConstants.{MOST_CALL_BLOCKS, MOST_CALL_BYTES};
 ghost use Rattle.vx_model.specs.declared.state.KeptLink.{KeptLink};
 ghost use Rattle.vx_history.specs.World.{Node};
+ghost use Rattle.vx_ringio.specs.Spends.{Spends};
 ghost use Rattle.vx_srl.specs.Views.{free_of};
-ghost use Rattle.vx_node.specs.Asked.{SameFailing};
+ghost use Rattle.vx_node.specs.Asked.{LeavesFuse};
+ghost use Rattle.vx_node.specs.Burning.{OffIf, said_by};
 ghost use Rattle.vx_node.specs.DiskSets.{Later, CanWrite, WroteUp, is_off};
 ghost use Rattle.vx_node.specs.Rooms.{AppliedAs, RoomIs};
 ghost use Rattle.vx_node.specs.Stands.{IsUpAt, StandsAt};
@@ -29,8 +31,10 @@ fn apply_group<R: Rack>(rvg: &mut Rvg<R>, to: u64) -> Result<u64, No>
     ensures applied { (links : List KeptLink) (n : Node) → IsUpAt links n rvg.old.core (R.meaning rvg.old.shelf) → n.halted ≡ None
         → AppliedAs links n to rvg.new.core (R.meaning rvg.old.shelf) (R.meaning rvg.new.shelf) result }
     ensures reached { IfOk result (λ number. rvg.new.core.applied ≡ number) }
+    ensures log { OnOk result (rvg.new.core.log ≡ rvg.old.core.log) }
     ensures units { rvg.new.core.units ≡ rvg.old.core.units }
-    ensures failing { SameFailing (DiskSet.Up rvg.old) (DiskSet.Up rvg.new) }
+    ensures spends { Spends (R.meaning rvg.old.shelf) (R.meaning rvg.new.shelf) }
+    ensures off { OffIf result (R.meaning rvg.new.shelf).down }
     ensures later { Later (DiskSet.Up rvg.old) (DiskSet.Up rvg.new) }
 {
     let answer = rvg.apply(to);
@@ -43,11 +47,12 @@ fn apply_group<R: Rack>(rvg: &mut Rvg<R>, to: u64) -> Result<u64, No>
 // Gives up all that the log holds, where all of it is in the volumes. A shelf that is down behind it answers so.
 fn reclaim_group<R: Rack>(rvg: &mut Rvg<R>) -> Result<(), No>
     ensures made { (links : List KeptLink) (n : Node) → IsUpAt links n rvg.old.core (R.meaning rvg.old.shelf) → n.halted ≡ None → rvg.old.core.applied ≡ n.safe
-        → RoomIs links n (R.meaning rvg.old.shelf) rvg.new.core (R.meaning rvg.new.shelf) result }
+        → free_of rvg.old.core.log ≤ MOST_CALL_BLOCKS → RoomIs links n (R.meaning rvg.old.shelf) rvg.new.core (R.meaning rvg.new.shelf) result }
     ensures free { (links : List KeptLink) (n : Node) → IsUpAt links n rvg.old.core (R.meaning rvg.old.shelf) → n.halted ≡ None → rvg.old.core.applied ≡ n.safe
-        → OnOk result (free_of rvg.new.core.log ≡ n.ring) }
+        → free_of rvg.old.core.log ≤ MOST_CALL_BLOCKS → OnOk result (free_of rvg.new.core.log ≡ n.ring) }
     ensures units { rvg.new.core.units ≡ rvg.old.core.units }
-    ensures failing { SameFailing (DiskSet.Up rvg.old) (DiskSet.Up rvg.new) }
+    ensures spends { Spends (R.meaning rvg.old.shelf) (R.meaning rvg.new.shelf) }
+    ensures off { OffIf result (R.meaning rvg.new.shelf).down }
     ensures later { Later (DiskSet.Up rvg.old) (DiskSet.Up rvg.new) }
 {
     let to = rvg.applied();
@@ -62,10 +67,11 @@ fn reclaim_group<R: Rack>(rvg: &mut Rvg<R>) -> Result<(), No>
 fn make_room<R: Rack>(rvg: &mut Rvg<R>, count: u64) -> Result<(), No>
     ensures room { OnOk result (count < free_of rvg.new.core.log) }
     ensures made { (links : List KeptLink) (n : Node) → IsUpAt links n rvg.old.core (R.meaning rvg.old.shelf) → n.halted ≡ None → count + 1 ≤ n.ring
-        → RoomIs links n (R.meaning rvg.old.shelf) rvg.new.core (R.meaning rvg.new.shelf) result }
+        → count ≤ MOST_CALL_BLOCKS → RoomIs links n (R.meaning rvg.old.shelf) rvg.new.core (R.meaning rvg.new.shelf) result }
     ensures idle { count < free_of rvg.old.core.log → IfErr result (λ no. ⊥) × (rvg.new ≡ rvg.old) }
     ensures units { rvg.new.core.units ≡ rvg.old.core.units }
-    ensures failing { SameFailing (DiskSet.Up rvg.old) (DiskSet.Up rvg.new) }
+    ensures spends { Spends (R.meaning rvg.old.shelf) (R.meaning rvg.new.shelf) }
+    ensures off { IsFalse (R.meaning rvg.old.shelf).down → OffIf result (R.meaning rvg.new.shelf).down }
     ensures later { Later (DiskSet.Up rvg.old) (DiskSet.Up rvg.new) }
 {
     if rvg.free() > count {
@@ -89,7 +95,7 @@ fn write_group<R: Rack>(rvg: &mut Rvg<R>, volume: u32, start: u64, bytes: &[u8])
     requires whole { length bytes.now % 512 ≡ 0 }
     ensures wrote { (links : List KeptLink) (n : Node) → StandsAt links n (DiskSet.Up rvg.old) → CanWrite n volume start (blocks_in bytes.now)
         → WroteUp links n (record { volume = volume; start = start; bytes = bytes.now }) (DiskSet.Up rvg.old) (DiskSet.Up rvg.new) result }
-    ensures failing { SameFailing (DiskSet.Up rvg.old) (DiskSet.Up rvg.new) }
+    ensures called { IsFalse (R.meaning rvg.old.shelf).down → LeavesFuse 4 (said_by result) (DiskSet.Up rvg.old) (DiskSet.Up rvg.new) }
     ensures later { Later (DiskSet.Up rvg.old) (DiskSet.Up rvg.new) }
 {
     if rvg.head() >= MOST_NUMBER {
@@ -108,12 +114,13 @@ fn write_group<R: Rack>(rvg: &mut Rvg<R>, volume: u32, start: u64, bytes: &[u8])
 
 impl<R: Rack> DiskSet<R> {
     ghost use Rattle.vx_node.specs.DiskSets.{CanRead, CanApply, ReadAt, WroteAt, AppliedUp, AppliedAt, CrashedAt};
+    ghost use Rattle.vx_node.specs.Asked.{LeavesAlone, MayCrash};
     ghost use Rattle.vx_node.specs.Stands.{CutAt};
 
     // Crashes the disks of a group whose shelf is down.
     fn fall(&mut self)
         ensures falls { (links : List KeptLink) (n : Node) → CutAt links n self.old → CrashedAt links n self.new }
-        ensures failing { SameFailing self.old self.new }
+        ensures stopped { MayCrash 0xffff_ffff_ffff_ffff self.old self.new }
         ensures later { Later self.old self.new }
     {
         let disk_set = mem::replace(self, DiskSet::Gone);
@@ -127,7 +134,7 @@ impl<R: Rack> DiskSet<R> {
         requires whole { length bytes.now % 512 ≡ 0 }
         ensures wrote { (links : List KeptLink) (n : Node) → StandsAt links n self.old → CanWrite n volume start (blocks_in bytes.now)
             → WroteAt links n (record { volume = volume; start = start; bytes = bytes.now }) self.old self.new result }
-        ensures failing { SameFailing self.old self.new }
+        ensures called { (links : List KeptLink) (n : Node) → StandsAt links n self.old → LeavesFuse 4 (said_by result) self.old self.new }
         ensures later { Later self.old self.new }
     {
         match self.write_up(volume, start, bytes) {
@@ -150,7 +157,7 @@ impl<R: Rack> DiskSet<R> {
         requires whole { length bytes.now % 512 ≡ 0 }
         ensures wrote { (links : List KeptLink) (n : Node) → StandsAt links n self.old → CanWrite n volume start (blocks_in bytes.now)
             → WroteUp links n (record { volume = volume; start = start; bytes = bytes.now }) self.old self.new result }
-        ensures failing { SameFailing self.old self.new }
+        ensures called { (links : List KeptLink) (n : Node) → StandsAt links n self.old → LeavesFuse 4 (said_by result) self.old self.new }
         ensures later { Later self.old self.new }
     {
         match self {
@@ -175,6 +182,7 @@ impl<R: Rack> DiskSet<R> {
         requires whole { length into.old % 512 ≡ 0 }
         ensures read { (links : List KeptLink) (n : Node) → StandsAt links n self.old → CanRead n volume start (blocks_in into.old)
             → ReadAt links n volume start (blocks_in into.old) into.new self.old self.new result }
+        ensures still { LeavesAlone self.old self.new }
         ensures later { Later self.old self.new }
     {
         match self {
@@ -195,7 +203,7 @@ impl<R: Rack> DiskSet<R> {
     /// runs out crashes.
     pub fn apply(&mut self, to: u64) -> Result<u64, No>
         ensures applied { (links : List KeptLink) (n : Node) → StandsAt links n self.old → CanApply n → AppliedAt links n to self.old self.new result }
-        ensures failing { SameFailing self.old self.new }
+        ensures called { (links : List KeptLink) (n : Node) → StandsAt links n self.old → LeavesFuse 0 (said_by result) self.old self.new }
         ensures later { Later self.old self.new }
     {
         match self.apply_up(to) {
@@ -213,7 +221,7 @@ impl<R: Rack> DiskSet<R> {
     // The same, before it crashes.
     fn apply_up(&mut self, to: u64) -> Result<u64, No>
         ensures applied { (links : List KeptLink) (n : Node) → StandsAt links n self.old → CanApply n → AppliedUp links n to self.old self.new result }
-        ensures failing { SameFailing self.old self.new }
+        ensures called { (links : List KeptLink) (n : Node) → StandsAt links n self.old → LeavesFuse 0 (said_by result) self.old self.new }
         ensures later { Later self.old self.new }
     {
         match self {

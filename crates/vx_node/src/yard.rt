@@ -1,9 +1,11 @@
 // All sites of a run, and the calls on them.
-ghost use Rattle.std.specs.Prelude.{◌≡◌, ◌≤◌, ℕ, IfOk, IfErr, is_some};
+ghost use Rattle.std.specs.Prelude.{◌≡◌, ◌≤◌, ℕ, IfOk, IfErr, IsSome, is_some, true};
 ghost use Rattle.vx_stream.specs.Causes.{Rose};
 ghost use Rattle.vx_history.specs.World.{World, empty_world};
+ghost use Rattle.vx_order.specs.Order.{refusal_of};
 ghost use Rattle.vx_node.specs.Asked.{AsAsked};
 ghost use Rattle.vx_node.specs.Holds.{AreFresh, RacksHold, RacksTell, rack_faults};
+ghost use Rattle.vx_node.specs.Lines.{is_built};
 ghost use Rattle.vx_node.specs.Working.{IsFree};
 ghost use Rattle.vx_node.specs.Yards.{IsKept, YardStands, LineIs, IsTold, count_of, in_files};
 
@@ -64,10 +66,13 @@ impl<R: Rack> Yard<R> {
         words: &ScriptLine,
         out: &mut O,
     ) -> Result<(), LineStop>
+        requires built { is_built words.now ≡ true }
         requires kept { IsKept self.old }
         ensures line { (w : World) → YardStands w self.old → LineIs w words.now self.old self.new (O.written out.old) (O.written out.new) result }
         // What the line asks of the rack of its site: a disk, a number of calls or a pick.
         ensures asked { (w : World) → YardStands w self.old → IsFree self.old words.now → AsAsked w words.now self.old self.new }
+        // A line that is refused leaves all disks as they are.
+        ensures still { IsSome (refusal_of self.old.facts.items (in_files self.old) words.now) → self.new.disk_sets ≡ self.old.disk_sets }
         ensures told { IsTold self.new → IsTold self.old }
         ensures files { in_files self.new ≡ in_files self.old }
         ensures later { O.faults out.old ≤ O.faults out.new }

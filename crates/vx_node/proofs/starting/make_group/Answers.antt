@@ -3,6 +3,7 @@ use Rattle.vx_model.specs.declared.units.Units.{Units}
 use Rattle.vx_rvg.specs.Views.{Placed}
 use Rattle.vx_node.specs.declared.disk_set.DiskSet.TheVariants.{Spoiled}
 use Rattle.vx_node.proofs.MakeGroup.{placed_raw, first_spells, made_stands, raw_failed}
+use Rattle.vx_node.proofs.KeepsFailing.{same_spent}
 use Rattle.vx_node.proofs.starting.make_group.Goals as goal
 
 pub create-requires : goal.create-requires
@@ -22,3 +23,9 @@ pub returns-in-Err-clause-made : goal.returns-in-Err-clause-made
 returns-in-Err-clause-made g c = λ n bare some.
     raw_failed {R = g.row.R.Denot} {g = g.R.Shelf} c.args.site c.units-disks.result n (Spoiled c.args.rack) c.args.rack c.in-Err.rack c.raw_units.result c.in-Err.stop
     refl c.raw_units.ensures bare c.in-Err.ensures.cause some c.in-Err.ensures.left
+
+pub returns-in-Ok-clause-failing : goal.returns-in-Ok-clause-failing
+returns-in-Ok-clause-failing g c = record { told = same_spent (g.R.Shelf.meaning c.args.rack) (g.R.Shelf.meaning c.in-Ok.rvg.shelf) c.in-Ok.ensures.spends }
+
+pub returns-in-Err-clause-failing : goal.returns-in-Err-clause-failing
+returns-in-Err-clause-failing g c = record { told = same_spent (g.R.Shelf.meaning c.args.rack) (g.R.Shelf.meaning c.in-Err.rack) c.in-Err.ensures.spent }

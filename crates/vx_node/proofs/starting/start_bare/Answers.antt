@@ -5,6 +5,8 @@ use Rattle.vx_rvg.specs.Views.{Placed}
 use Rattle.vx_node.proofs.StartBare.{clean_read, clean_untold, bare_came, bare_refused, bare_unread, start_rose}
 use Rattle.vx_node.proofs.MakeGroup.{placed_raw}
 use Rattle.vx_node.proofs.StaysUp.{never_both}
+use Rattle.vx_disk.specs.Disks.{Crashed, Untouched}
+use Rattle.vx_node.proofs.KeepsFailing.{same_on, same_spent, same_then}
 use Rattle.vx_node.proofs.starting.start_bare.Goals as goal
 
 pub returns-in-Ok-false-clause-found : goal.returns-in-Ok-false-clause-found
@@ -45,3 +47,21 @@ returns-in-Err-start_in-clause-found g c = λ n clean some ring.
     untold
     (λ disk is. start_rose c.raw_units-units.result (g.R.Shelf.meaning c.args.rack) (g.R.Shelf.meaning c.has_log.new.rack) (g.R.Shelf.meaning c.in-Err-start_in.rack) (g.R.Shelf.meaning c.crash.new.self) (g.R.Shelf.meaning c.revive.new.self) c.in-Err-start_in.no
     goes c.in-Err-start_in.ensures.cause stopped alike disk is)
+
+pub returns-in-Ok-false-clause-failing : goal.returns-in-Ok-false-clause-failing
+returns-in-Ok-false-clause-failing g c = record { told = same_spent (g.R.Shelf.meaning c.args.rack) (g.R.Shelf.meaning c.has_log.new.rack) c.has_log.ensures.spends }
+
+pub returns-in-Err-clause-failing : goal.returns-in-Err-clause-failing
+returns-in-Err-clause-failing g c = record { told = same_spent (g.R.Shelf.meaning c.args.rack) (g.R.Shelf.meaning c.has_log.new.rack) c.has_log.ensures.spends }
+
+pub returns-in-Ok-clause-failing : goal.returns-in-Ok-clause-failing
+returns-in-Ok-clause-failing g c = record {
+  told = same_then (g.R.Shelf.meaning c.args.rack).disks (g.R.Shelf.meaning c.has_log.new.rack).disks (g.R.Shelf.meaning c.in-Ok.rvg.shelf).disks (same_spent (g.R.Shelf.meaning c.args.rack) (g.R.Shelf.meaning c.has_log.new.rack) c.has_log.ensures.spends) (same_spent (g.R.Shelf.meaning c.has_log.new.rack) (g.R.Shelf.meaning c.in-Ok.rvg.shelf) c.in-Ok.ensures.spends);
+}
+
+pub returns-in-Err-start_in-clause-failing : goal.returns-in-Err-start_in-clause-failing
+returns-in-Err-start_in-clause-failing g c = record {
+  told = same_then (g.R.Shelf.meaning c.args.rack).disks (g.R.Shelf.meaning c.has_log.new.rack).disks (g.R.Shelf.meaning c.revive.new.self).disks (same_spent (g.R.Shelf.meaning c.args.rack) (g.R.Shelf.meaning c.has_log.new.rack) c.has_log.ensures.spends)
+      (same_then (g.R.Shelf.meaning c.has_log.new.rack).disks (g.R.Shelf.meaning c.in-Err-start_in.rack).disks (g.R.Shelf.meaning c.revive.new.self).disks (same_spent (g.R.Shelf.meaning c.has_log.new.rack) (g.R.Shelf.meaning c.in-Err-start_in.rack) c.in-Err-start_in.ensures.spent)
+      (same_then (g.R.Shelf.meaning c.in-Err-start_in.rack).disks (g.R.Shelf.meaning c.crash.new.self).disks (g.R.Shelf.meaning c.revive.new.self).disks (same_on (Crashed (g.R.Shelf.meaning c.in-Err-start_in.rack).size 0xffff_ffff_ffff_ffff) (g.R.Shelf.meaning c.in-Err-start_in.rack).disks (g.R.Shelf.meaning c.crash.new.self).disks c.crash.ensures.disks) (same_on Untouched (g.R.Shelf.meaning c.crash.new.self).disks (g.R.Shelf.meaning c.revive.new.self).disks c.revive.ensures.disks)));
+}

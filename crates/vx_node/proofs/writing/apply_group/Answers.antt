@@ -1,7 +1,10 @@
 -- An apply of a site that is up.
 use Rattle.std.proofs.Common.{sym, ◌∙◌}
 use Rattle.vx_node.proofs.ApplyGroup.{applied_as, applied_cut}
-use Rattle.vx_node.proofs.KeepsFailing.{failing_spent}
+use Rattle.std.specs.Prelude.{None}
+use Rattle.vx_rvg.specs.Groups.{unless_halted}
+use Rattle.vx_node.proofs.CallsBurn.{apply_off}
+use Rattle.vx_node.proofs.MakeRoom.{apply_log}
 use Rattle.vx_node.proofs.writing.apply_group.Goals as goal
 
 pub returns-then-is_down-clause-applied : goal.returns-then-is_down-clause-applied
@@ -17,8 +20,18 @@ returns-clause-applied g c = λ links n up none.
     (lawful c.args.rvg.now.shelf) (lawful c.apply-answer.new.self.shelf) (sym c.is_down.ensures ∙ c.if-is_down.false)
     c.apply-answer.ensures.answers c.apply-answer.ensures.stands c.apply-answer.ensures.moves
 
-pub returns-then-is_down-clause-failing : goal.returns-then-is_down-clause-failing
-returns-then-is_down-clause-failing g c = failing_spent c.args.rvg.now c.apply-answer.new.self c.apply-answer.ensures.spends
+pub returns-then-is_down-clause-off : goal.returns-then-is_down-clause-off
+returns-then-is_down-clause-off g c = sym c.is_down.ensures ∙ c.if-is_down.true
 
-pub returns-clause-failing : goal.returns-clause-failing
-returns-clause-failing g c = failing_spent c.args.rvg.now c.apply-answer.new.self c.apply-answer.ensures.spends
+pub returns-clause-off : goal.returns-clause-off
+returns-clause-off g c = apply_off c.args.rvg.now.core c.args.to (g.R.Shelf.meaning c.args.rvg.now.shelf) (g.R.Shelf.meaning c.apply-answer.new.self.shelf) c.apply-answer.new.self.core c.apply-answer.result (sym c.is_down.ensures ∙ c.if-is_down.false) c.apply-answer.ensures.answers
+
+pub returns-then-is_down-clause-spends : goal.returns-then-is_down-clause-spends
+returns-then-is_down-clause-spends g c = c.apply-answer.ensures.spends
+
+pub returns-clause-spends : goal.returns-clause-spends
+returns-clause-spends g c = c.apply-answer.ensures.spends
+
+pub returns-clause-log : goal.returns-clause-log
+returns-clause-log g c =
+    apply_log (unless_halted c.args.rvg.now.core.halted None) c.args.rvg.now.core c.args.to (g.R.Shelf.meaning c.args.rvg.now.shelf) (g.R.Shelf.meaning c.apply-answer.new.self.shelf) c.apply-answer.new.self.core c.apply-answer.result c.apply-answer.ensures.answers

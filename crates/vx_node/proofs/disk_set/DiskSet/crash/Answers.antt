@@ -2,7 +2,7 @@ use Rattle.std.proofs.Common.{subst}
 use Rattle.vx_node.specs.Stands.{StandsAt}
 use Rattle.vx_node.proofs.CrashGroup.{crashed_at, cut_crashed}
 use Rattle.vx_node.proofs.AskRack.{crash_did}
-use Rattle.vx_node.proofs.KeepsFailing.{failing_crashed}
+use Rattle.vx_node.proofs.KeepsFailing.{stopped_up}
 use Rattle.vx_node.proofs.disk_set.DiskSet.crash.Goals as goal
 
 pub returns-in-Up-clause-crashed : goal.returns-in-Up-clause-crashed
@@ -21,5 +21,5 @@ returns-in-Up-clause-cut g c = λ links n cut.
 pub returns-in-Up-clause-asked : goal.returns-in-Up-clause-asked
 returns-in-Up-clause-asked g c = λ links n stands state. crash_did c.args.self c.in-Up.rvg c.into_shelf-rack.result c.crash.new.self c.args.pick c.in-Up.is c.into_shelf-rack.ensures c.crash.ensures.disks
 
-pub returns-in-Up-clause-failing : goal.returns-in-Up-clause-failing
-returns-in-Up-clause-failing g c = failing_crashed c.args.self c.in-Up.rvg c.into_shelf-rack.result c.crash.new.self c.args.pick c.in-Up.is c.into_shelf-rack.ensures c.crash.ensures.disks
+pub returns-in-Up-clause-stopped : goal.returns-in-Up-clause-stopped
+returns-in-Up-clause-stopped g c = stopped_up c.args.self c.in-Up.rvg c.into_shelf-rack.result c.crash.new.self c.args.pick c.in-Up.is c.into_shelf-rack.ensures c.crash.ensures.disks

@@ -1,7 +1,8 @@
 -- Each case of a start.
 use Rattle.std.proofs.Common.{◌∙◌, ap, sym, refl, []}
 use Rattle.std.specs.Prelude.{Some, slice_set}
-use Rattle.vx_node.proofs.Lists.{get_at}
+use Rattle.vx_node.specs.declared.disk_set.DiskSet.TheVariants.{Gone}
+use Rattle.vx_node.proofs.Lists.{get_at, set_twice}
 use Rattle.vx_node.proofs.RawLine.{raw_told}
 use Rattle.vx_node.proofs.RecoverLine.{risen_line, stayed_line}
 use Rattle.vx_node.proofs.yard.Yard.come_up.Goals as goal
@@ -40,3 +41,31 @@ returns-in-Err-clause-told g c =
     let at = get_at disk_sets c.args.site c.index_mut.result.now c.requires.disk_set c.index_mut.ensures.value in
     raw_told disk_sets _ c.args.site c.replace-disk_set.result c.recover-disk_set.result.0 (at ∙ ap (λ e. Some e) (sym c.replace-disk_set.ensures.value)) c.recover-disk_set.ensures.later
     (ap (λ e. slice_set (slice_set disk_sets c.args.site e) c.args.site c.recover-disk_set.result.0) c.replace-disk_set.ensures.after)
+
+pub returns-in-Ok-clause-failing : goal.returns-in-Ok-clause-failing
+returns-in-Ok-clause-failing g c =
+    let disk_sets = c.args.self.now.disk_sets.items in
+    let s = c.args.site in
+    let at = get_at disk_sets s c.index_mut.result.now c.requires.disk_set c.index_mut.ensures.value in
+    let there = at ∙ ap (λ e. Some e) (sym c.replace-disk_set.ensures.value) in
+    record {
+      before = c.replace-disk_set.result;
+      after = c.recover-disk_set.result.0;
+      there = there;
+      disk_sets = ap (λ es. es.items) c.note_up-last.ensures.disk_sets ∙ ap (λ e. slice_set (slice_set disk_sets s e) s c.recover-disk_set.result.0) c.replace-disk_set.ensures.after ∙ set_twice disk_sets s Gone c.recover-disk_set.result.0;
+      did = c.recover-disk_set.ensures.failing;
+    }
+
+pub returns-in-Err-clause-failing : goal.returns-in-Err-clause-failing
+returns-in-Err-clause-failing g c =
+    let disk_sets = c.args.self.now.disk_sets.items in
+    let s = c.args.site in
+    let at = get_at disk_sets s c.index_mut.result.now c.requires.disk_set c.index_mut.ensures.value in
+    let there = at ∙ ap (λ e. Some e) (sym c.replace-disk_set.ensures.value) in
+    record {
+      before = c.replace-disk_set.result;
+      after = c.recover-disk_set.result.0;
+      there = there;
+      disk_sets = ap (λ e. slice_set (slice_set disk_sets s e) s c.recover-disk_set.result.0) c.replace-disk_set.ensures.after ∙ set_twice disk_sets s Gone c.recover-disk_set.result.0;
+      did = c.recover-disk_set.ensures.failing;
+    }

@@ -6,6 +6,8 @@ use Rattle.vx_node.proofs.Lists.{get_at}
 use Rattle.vx_node.proofs.ReadLine.{may_read, reading, fetch_done, fetch_failed}
 use Rattle.vx_node.proofs.Seats.{named_some, volume_there, seated}
 use Rattle.vx_node.proofs.yard.Yard.fetch.Goals.{then-count-eq0-via-then-count-eq0, then-count-eq0-via-else-count-eq0+then-count-gt-MOST_CALL_BLOCKS}
+use Rattle.vx_node.specs.Asked.{LeavesAlone}
+use Rattle.vx_node.proofs.AskRack.{asked_at}
 use Rattle.vx_node.proofs.yard.Yard.fetch.Goals as goal
 
 pub site_of-site-requires-clause-named : goal.site_of-site-requires-clause-named
@@ -52,3 +54,13 @@ returns-in-Err-clause-works g c = λ w stands.
 pub returns-in-Err-clause-told : goal.returns-in-Err-clause-told
 returns-in-Err-clause-told g c = told_before c.args.self.now.disk_sets.items c.site_of-site.result c.index_mut.result.now c.blocks_of.new.disk_set
     (get_at c.args.self.now.disk_sets.items c.site_of-site.result c.index_mut.result.now c.site_of-site.ensures.disk_set c.index_mut.ensures.value) c.in-Err.ensures.later
+
+pub returns-in-Ok-clause-asked : goal.returns-in-Ok-clause-asked
+returns-in-Ok-clause-asked g c = λ w stands.
+    asked_at LeavesAlone w c.args.self.now _ c.args.name.now c.site_of-site.result c.index_mut.result.now c.blocks_of.new.disk_set stands c.site_of-site.ensures.seat
+    (get_at c.args.self.now.disk_sets.items c.site_of-site.result c.index_mut.result.now c.site_of-site.ensures.disk_set c.index_mut.ensures.value) refl c.in-Ok.ensures.still
+
+pub returns-in-Err-clause-asked : goal.returns-in-Err-clause-asked
+returns-in-Err-clause-asked g c = λ w stands.
+    asked_at LeavesAlone w c.args.self.now _ c.args.name.now c.site_of-site.result c.index_mut.result.now c.blocks_of.new.disk_set stands c.site_of-site.ensures.seat
+    (get_at c.args.self.now.disk_sets.items c.site_of-site.result c.index_mut.result.now c.site_of-site.ensures.disk_set c.index_mut.ensures.value) refl c.in-Err.ensures.still

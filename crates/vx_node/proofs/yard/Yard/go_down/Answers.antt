@@ -4,6 +4,7 @@ use Rattle.vx_node.proofs.CrashLine.{fell}
 use Rattle.vx_node.proofs.RawLine.{raw_told}
 use Rattle.vx_node.specs.declared.disk_set.DiskSet.TheVariants.{Gone}
 use Rattle.vx_node.proofs.Lists.{get_at, set_twice}
+use Rattle.vx_node.proofs.KeepsFailing.{failing_stopped}
 use Rattle.vx_node.proofs.yard.Yard.go_down.Goals as goal
 
 pub returns-clause-fell : goal.returns-clause-fell
@@ -38,4 +39,18 @@ returns-clause-asked g c = λ w stands below up.
       there = there;
       disk_sets = ap (λ e. slice_set (slice_set disk_sets s e) s c.crash.result) c.replace-disk_set.ensures.after ∙ set_twice disk_sets s Gone c.crash.result;
       did = c.crash.ensures.asked [] (w.nodes s) (stands.disk_sets.sites s c.replace-disk_set.result below there) up;
+    }
+
+pub returns-clause-failing : goal.returns-clause-failing
+returns-clause-failing g c =
+    let disk_sets = c.args.self.now.disk_sets.items in
+    let s = c.args.site in
+    let at = get_at disk_sets s c.index_mut.result.now c.requires.disk_set c.index_mut.ensures.value in
+    let there = at ∙ ap (λ e. Some e) (sym c.replace-disk_set.ensures.value) in
+    record {
+      before = c.replace-disk_set.result;
+      after = c.crash.result;
+      there = there;
+      disk_sets = ap (λ e. slice_set (slice_set disk_sets s e) s c.crash.result) c.replace-disk_set.ensures.after ∙ set_twice disk_sets s Gone c.crash.result;
+      did = failing_stopped c.args.pick c.replace-disk_set.result c.crash.result c.crash.ensures.stopped;
     }

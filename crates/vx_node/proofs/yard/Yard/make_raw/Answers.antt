@@ -5,7 +5,11 @@ use Rattle.vx_history.specs.Steps.{raw_volumes}
 use Rattle.vx_order.specs.declared.facts.SiteFacts.{SiteFacts}
 use Rattle.vx_events.specs.Facts.{seat_of, volume_fact}
 use Rattle.vx_node.specs.Yards.{in_files}
-use Rattle.vx_node.proofs.Lists.{get_at}
+use Rattle.vx_node.specs.Asked.{SameFailing}
+use Rattle.vx_node.specs.declared.disk_set.DiskSet.TheVariants.{Gone}
+use Rattle.vx_node.proofs.AskRack.{asked_at}
+use Rattle.vx_node.proofs.KeepsFailing.{failing_same, unbegun}
+use Rattle.vx_node.proofs.Lists.{get_at, set_twice}
 use Rattle.vx_node.proofs.RawLine.{raw_done, raw_failed, raw_told, raw_shape}
 use Rattle.vx_events.proofs.Refused.{raw_may}
 use Rattle.vx_events.proofs.Places.{some_same}
@@ -80,3 +84,27 @@ returns-in-Err-clause-told g c =
     let at = get_at disk_sets c.site_of-site.result c.index_mut.result.now c.site_of-site.ensures.disk_set c.index_mut.ensures.value in
     raw_told disk_sets _ c.site_of-site.result c.replace-disk_set.result c.make_raw-disk_set.result.0 (at ∙ ap (λ e. Some e) (sym c.replace-disk_set.ensures.value)) c.make_raw-disk_set.ensures.later
     (ap (λ e. slice_set (slice_set disk_sets c.site_of-site.result e) c.site_of-site.result c.make_raw-disk_set.result.0) c.replace-disk_set.ensures.after)
+
+pub returns-in-Ok-clause-asked : goal.returns-in-Ok-clause-asked
+returns-in-Ok-clause-asked g c = λ w stands.
+    let disk_sets = c.args.self.now.disk_sets.items in
+    let s = c.site_of-site.result in
+    let at = get_at disk_sets s c.index_mut.result.now c.site_of-site.ensures.disk_set c.index_mut.ensures.value in
+    asked_at SameFailing w c.args.self.now _ c.args.name.now s c.replace-disk_set.result c.make_raw-disk_set.result.0 stands c.site_of-site.ensures.seat
+    (at ∙ ap (λ e. Some e) (sym c.replace-disk_set.ensures.value))
+    (ap (λ e. slice_set (slice_set disk_sets s e) s c.make_raw-disk_set.result.0) c.replace-disk_set.ensures.after ∙ set_twice disk_sets s Gone c.make_raw-disk_set.result.0)
+    c.make_raw-disk_set.ensures.failing
+
+pub returns-in-Err-clause-asked : goal.returns-in-Err-clause-asked
+returns-in-Err-clause-asked g c = λ w stands.
+    let disk_sets = c.args.self.now.disk_sets.items in
+    let s = c.site_of-site.result in
+    let at = get_at disk_sets s c.index_mut.result.now c.site_of-site.ensures.disk_set c.index_mut.ensures.value in
+    asked_at SameFailing w c.args.self.now _ c.args.name.now s c.replace-disk_set.result c.make_raw-disk_set.result.0 stands c.site_of-site.ensures.seat
+    (at ∙ ap (λ e. Some e) (sym c.replace-disk_set.ensures.value))
+    (ap (λ e. slice_set (slice_set disk_sets s e) s c.make_raw-disk_set.result.0) c.replace-disk_set.ensures.after ∙ set_twice disk_sets s Gone c.make_raw-disk_set.result.0)
+    c.make_raw-disk_set.ensures.failing
+
+pub returns-in_err-volumes-clause-asked : goal.returns-in_err-volumes-clause-asked
+returns-in_err-volumes-clause-asked g c = λ w stands.
+    unbegun SameFailing w c.args.self.now c.args.name.now failing_same stands (raw_may c.args.self.now.facts.items (in_files c.args.self.now) c.args.name.now c.requires.free).0

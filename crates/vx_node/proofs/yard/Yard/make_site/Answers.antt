@@ -6,6 +6,8 @@ use Rattle.vx_node.proofs.Lists.{get_at, pop_pushed}
 use Rattle.vx_events.proofs.Refused.{site_may}
 use Rattle.vx_node.proofs.SiteLine.{site_done, site_said, sites_many}
 use Rattle.vx_node.specs.Yards.{in_files}
+use Rattle.vx_node.specs.Asked.{SameFailing}
+use Rattle.vx_node.proofs.KeepsFailing.{failing_same, site_kept, site_still}
 use Rattle.vx_node.proofs.yard.Yard.make_site.Goals.{then-site-len-via-then-site-len, then-site-len-via-else-site-len+then-site-ge-MOST_SITES}
 use Rattle.vx_node.proofs.yard.Yard.make_site.Goals as goal
 
@@ -53,3 +55,22 @@ unreachable-requires g c =
       | then-site-len-via-then-site-len w ↦ absurd (omega (arith, w.if-site-len.true, site, disk_sets))
       | then-site-len-via-else-site-len+then-site-ge-MOST_SITES w ↦ absurd (omega (arith, w.if-site-ge-MOST_SITES.true, site))
     ]
+
+pub returns-in-Ok-clause-asked : goal.returns-in-Ok-clause-asked
+returns-in-Ok-clause-asked g c = λ w stands.
+    let many = sites_many w c.args.self.now stands in
+    site_kept w.sites c.len-site.result c.args.self.now _ c.index_mut.result.now c.fit-made.new.self (omega (arith, c.len-site.ensures, c.args.self.now.facts.ok, many))
+    (get_at c.args.self.now.disk_sets.items c.len-site.result c.index_mut.result.now (omega (arith, c.if-site-len.false, c.len.ensures, c.args.self.now.disk_sets.ok)) c.index_mut.ensures.value)
+    refl c.fit-made.ensures.failing
+
+pub returns-in-Err-clause-asked : goal.returns-in-Err-clause-asked
+returns-in-Err-clause-asked g c = λ w stands.
+    let many = sites_many w c.args.self.now stands in
+    site_kept w.sites c.len-site.result c.args.self.now _ c.index_mut.result.now c.fit-made.new.self (omega (arith, c.len-site.ensures, c.args.self.now.facts.ok, many))
+    (get_at c.args.self.now.disk_sets.items c.len-site.result c.index_mut.result.now (omega (arith, c.if-site-len.false, c.len.ensures, c.args.self.now.disk_sets.ok)) c.index_mut.ensures.value)
+    refl c.fit-made.ensures.failing
+
+pub returns-in_err-push-clause-asked : goal.returns-in_err-push-clause-asked
+returns-in_err-push-clause-asked g c = λ w stands.
+    let may = site_may c.args.self.now.facts.items (in_files c.args.self.now) c.args.name.now c.args.disks c.args.blocks c.requires.free in
+    site_still SameFailing w.sites c.args.self.now _ failing_same (omega (arith, may.few_sites, sites_many w c.args.self.now stands, stands.disk_sets.eight)) refl

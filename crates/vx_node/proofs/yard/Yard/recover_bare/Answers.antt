@@ -7,7 +7,10 @@ use Rattle.vx_order.specs.declared.facts.SiteFacts.{SiteFacts}
 use Rattle.vx_node.specs.DiskSets.{BareUpIs}
 use Rattle.vx_events.specs.Facts.{volume_fact}
 use Rattle.vx_node.proofs.RecoverBare.{bare_found, bare_stays, enough, ring_fits}
-use Rattle.vx_node.proofs.Lists.{get_at}
+use Rattle.vx_node.specs.declared.disk_set.DiskSet.TheVariants.{Gone}
+use Rattle.vx_node.specs.Asked.{SameFailing}
+use Rattle.vx_node.proofs.KeepsFailing.{failing_same, site_still}
+use Rattle.vx_node.proofs.Lists.{get_at, set_twice}
 use Rattle.vx_node.proofs.RawLine.{raw_told}
 use Rattle.vx_events.proofs.Places.{some_same}
 use Rattle.vx_node.proofs.yard.Yard.recover_bare.Goals as goal
@@ -69,3 +72,40 @@ returns-in-Err-clause-told g c =
     let at = get_at disk_sets c.args.site c.index_mut.result.now c.requires.disk_set c.index_mut.ensures.value in
     raw_told disk_sets _ c.args.site c.replace-disk_set.result c.recover_bare-disk_set.result.0 (at ∙ ap (λ e. Some e) (sym c.replace-disk_set.ensures.value)) c.recover_bare-disk_set.ensures.later
     (ap (λ e. slice_set (slice_set disk_sets c.args.site e) c.args.site c.recover_bare-disk_set.result.0) c.replace-disk_set.ensures.after)
+
+pub returns-in-Ok-clause-failing : goal.returns-in-Ok-clause-failing
+returns-in-Ok-clause-failing g c =
+    let disk_sets = c.args.self.now.disk_sets.items in
+    let s = c.args.site in
+    let at = get_at disk_sets s c.index_mut.result.now c.requires.disk_set c.index_mut.ensures.value in
+    let there = at ∙ ap (λ e. Some e) (sym c.replace-disk_set.ensures.value) in
+    record {
+      before = c.replace-disk_set.result;
+      after = c.recover_bare-disk_set.result.0;
+      there = there;
+      disk_sets = ap (λ es. es.items) c.note_up-last.ensures.disk_sets ∙ ap (λ e. slice_set (slice_set disk_sets s e) s c.recover_bare-disk_set.result.0) c.replace-disk_set.ensures.after ∙ set_twice disk_sets s Gone c.recover_bare-disk_set.result.0;
+      did = c.recover_bare-disk_set.ensures.failing;
+    }
+
+pub returns-in-Err-clause-failing : goal.returns-in-Err-clause-failing
+returns-in-Err-clause-failing g c =
+    let disk_sets = c.args.self.now.disk_sets.items in
+    let s = c.args.site in
+    let at = get_at disk_sets s c.index_mut.result.now c.requires.disk_set c.index_mut.ensures.value in
+    let there = at ∙ ap (λ e. Some e) (sym c.replace-disk_set.ensures.value) in
+    record {
+      before = c.replace-disk_set.result;
+      after = c.recover_bare-disk_set.result.0;
+      there = there;
+      disk_sets = ap (λ e. slice_set (slice_set disk_sets s e) s c.recover_bare-disk_set.result.0) c.replace-disk_set.ensures.after ∙ set_twice disk_sets s Gone c.recover_bare-disk_set.result.0;
+      did = c.recover_bare-disk_set.ensures.failing;
+    }
+
+pub returns-then-site-ge-MOST_SITES-clause-failing : goal.returns-then-site-ge-MOST_SITES-clause-failing
+returns-then-site-ge-MOST_SITES-clause-failing g c = site_still SameFailing c.args.site c.args.self.now c.args.self.now failing_same c.requires.disk_set refl
+
+pub returns-in_err-volumes-clause-failing : goal.returns-in_err-volumes-clause-failing
+returns-in_err-volumes-clause-failing g c = site_still SameFailing c.args.site c.args.self.now c.args.self.now failing_same c.requires.disk_set refl
+
+pub returns-in_err-room-clause-failing : goal.returns-in_err-room-clause-failing
+returns-in_err-room-clause-failing g c = site_still SameFailing c.args.site c.args.self.now c.args.self.now failing_same c.requires.disk_set refl

@@ -4,7 +4,9 @@ use Rattle.vx_node.specs.Working.{IsFree}
 use Rattle.vx_node.specs.Yards.{in_files}
 use Rattle.vx_events.proofs.Refused.{site_may}
 use Rattle.vx_node.specs.Asked.{AsAsked}
-use Rattle.vx_node.proofs.KeepsFailing.{write_unbegun}
+use Rattle.vx_events.proofs.RefusedCalls.{write_may, read_may, show_may}
+use Rattle.vx_node.specs.Asked.{LeavesAlone, SameFailing}
+use Rattle.vx_node.proofs.KeepsFailing.{alone_same, failing_same, unbegun}
 use Rattle.vx_node.proofs.yard.Yard.work.Goals as goal
 
 pub make_site-requires-clause-free : goal.make_site-requires-clause-free
@@ -57,5 +59,27 @@ make_site-requires-clause-large g c = λ κs lives.
 
 pub returns-in_err-bytes-in-Write-clause-asked : goal.returns-in_err-bytes-in-Write-clause-asked
 returns-in_err-bytes-in-Write-clause-asked g c = λ w stands.
-    subst (λ line. AsAsked w line c.args.self.now c.args.self.now) (sym c.in-Write.is)
-    (write_unbegun w c.args.self.now c.in-Write.site c.in-Write.volume c.in-Write.block c.in-Write.count c.in-Write.fill stands (subst (λ line. IsFree c.args.self.now line) c.in-Write.is c.requires.free))
+    let y = c.args.self.now in
+    let free = subst (λ line. IsFree y line) c.in-Write.is c.requires.free in
+    subst (λ line. AsAsked w line y y) (sym c.in-Write.is)
+    (unbegun SameFailing w y c.in-Write.site failing_same stands (write_may y.facts.items (in_files y) c.in-Write.site c.in-Write.volume c.in-Write.block c.in-Write.count c.in-Write.fill free).call.site)
+
+pub returns-in_err-room-in-Read-clause-asked : goal.returns-in_err-room-in-Read-clause-asked
+returns-in_err-room-in-Read-clause-asked g c = λ w stands.
+    let y = c.args.self.now in
+    let free = subst (λ line. IsFree y line) c.in-Read.is c.requires.free in
+    subst (λ line. AsAsked w line y y) (sym c.in-Read.is)
+    (unbegun LeavesAlone w y c.in-Read.site alone_same stands (read_may y.facts.items (in_files y) c.in-Read.site c.in-Read.volume c.in-Read.block c.in-Read.count free).site)
+
+pub returns-in_err-room-in-Show-clause-asked : goal.returns-in_err-room-in-Show-clause-asked
+returns-in_err-room-in-Show-clause-asked g c = λ w stands.
+    let y = c.args.self.now in
+    let free = subst (λ line. IsFree y line) c.in-Show.is c.requires.free in
+    subst (λ line. AsAsked w line y y) (sym c.in-Show.is)
+    (unbegun LeavesAlone w y c.in-Show.site alone_same stands (show_may y.facts.items (in_files y) c.in-Show.site c.in-Show.volume c.in-Show.block c.in-Show.count free).site)
+
+pub returns-in_ok-room-in-Read-clause-asked : goal.returns-in_ok-room-in-Read-clause-asked
+returns-in_ok-room-in-Read-clause-asked g c = λ w stands. subst (λ line. AsAsked w line c.args.self.now c.read_line.new.self) (sym c.in-Read.is) (c.read_line.ensures.asked w stands)
+
+pub returns-in_ok-room-in-Show-clause-asked : goal.returns-in_ok-room-in-Show-clause-asked
+returns-in_ok-room-in-Show-clause-asked g c = λ w stands. subst (λ line. AsAsked w line c.args.self.now c.show_line.new.self) (sym c.in-Show.is) (c.show_line.ensures.asked w stands)
