@@ -110,7 +110,7 @@ module _ (w : World) (number : ℕ) (p : Packet) (k : ℕ) (x : Write) (at : pac
 
   -- ---- what the world makes of it
 
-  module _ (c : Core) (us : List Logged) (receives : Receives (w.nodes p.target) c us) (running : (w.nodes p.target).halted ≡ None) where
+  module _ (c : Core) (us : List Logged) (fed : ℕ) (receives : Receives (w.nodes p.target) c us fed) (running : (w.nodes p.target).halted ≡ None) where
     abbrev n : Node
     n = w.nodes p.target
 
@@ -136,12 +136,12 @@ module _ (w : World) (number : ℕ) (p : Packet) (k : ℕ) (x : Write) (at : pac
 
     module _ (a : Assembled) (stands : AssemblyStands w.packets p.target (w.gathering p.target) a) where
       -- nothing came of it
-      ignored_so : update_taken w p x act ≡ says w IsIgnored → StandsFor (delivered w number (packet_at w.packets number)) p.target c us a f IsIgnored
+      ignored_so : update_taken w p x act ≡ says w IsIgnored → StandsFor (delivered w number (packet_at w.packets number)) p.target c us fed a f IsIgnored
       ignored_so is =
-          subst (λ (o : Outcome). StandsFor o p.target c us a f IsIgnored) (sym (outcome_is ∙ ap (gathers p) is))
+          subst (λ (o : Outcome). StandsFor o p.target c us fed a f IsIgnored) (sym (outcome_is ∙ ap (gathers p) is))
           (record { says = refl; receiver = receives; assembly = stands; flight = flight })
 
-      pub ignored_at : (r : RAction) → r ≡ act → (r ≡ Nothing) ⊎ ((r ≡ Ignored) ⊎ ((m : ℕ) × (r ≡ DataAck m))) → StandsFor (delivered w number (packet_at w.packets number)) p.target c us a f IsIgnored
+      pub ignored_at : (r : RAction) → r ≡ act → (r ≡ Nothing) ⊎ ((r ≡ Ignored) ⊎ ((m : ℕ) × (r ≡ DataAck m))) → StandsFor (delivered w number (packet_at w.packets number)) p.target c us fed a f IsIgnored
       ignored_at r is (inl nothing) = ignored_so (ap (update_taken w p x) (sym is ∙ nothing))
       ignored_at r is (inr (inl ignored)) = ignored_so (ap (update_taken w p x) (sym is ∙ ignored))
       ignored_at r is (inr (inr ack)) = ignored_so (ap (update_taken w p x) (sym is ∙ ack.1))
@@ -166,15 +166,15 @@ module _ (w : World) (number : ℕ) (p : Packet) (k : ℕ) (x : Write) (at : pac
 
       -- it is acknowledged again
       pub again_at : (m : ℕ) → act ≡ IgnoredAck m → (bytes : List ℕ) (part : Part) → ReadOf p k bytes part → (line : Line) (session : ℕ) → line ≡ c.log.header.state.line → session ≡ c.log.header.incarnation → (f' : Flying)
-          → f.count < greatest → SendsOn p.target part.source line session m f f' → StandsFor (delivered w number (packet_at w.packets number)) p.target c us a f' IsIgnored
+          → f.count < greatest → SendsOn p.target part.source line session m f f' → StandsFor (delivered w number (packet_at w.packets number)) p.target c us fed a f' IsIgnored
       again_at m is bytes part read line session line_is session_is f' room sends =
           let lines : line ≡ n.line = line_is ∙ ap (λ (s : RState). s.line) receives.rule in
           let sessions : session ≡ n.session = session_is ∙ ap (λ (s : RState). s.session) receives.rule in
           let on : FlightStands (from_memory w n p m).packets f'
           = subst (λ (q : ℕ). FlightStands (w.packets ++ packets_of p.target q n.line (NetAck n.session m)) f') read.source
-            (subst (λ (l : Line). FlightStands (w.packets ++ packets_of p.target part.source l (NetAck n.session m)) f') lines
-            (subst (λ (s : ℕ). FlightStands (w.packets ++ packets_of p.target part.source line (NetAck s m)) f') sessions (sends w.packets flight room))) in
-          subst (λ (o : Outcome). StandsFor o p.target c us a f' IsIgnored) (sym (outcome_is ∙ ap (λ (r : RAction). gathers p (update_taken w p x r)) is))
+          (subst (λ (l : Line). FlightStands (w.packets ++ packets_of p.target part.source l (NetAck n.session m)) f') lines
+          (subst (λ (s : ℕ). FlightStands (w.packets ++ packets_of p.target part.source line (NetAck s m)) f') sessions (sends w.packets flight room))) in
+          subst (λ (o : Outcome). StandsFor o p.target c us fed a f' IsIgnored) (sym (outcome_is ∙ ap (λ (r : RAction). gathers p (update_taken w p x r)) is))
           (record { says = refl; receiver = receives; assembly = later w.packets (packets_of p.target p.source n.line (NetAck n.session m)) p.target (w.gathering p.target) a stands; flight = on })
 
       -- ---- a part that can be taken
@@ -218,9 +218,9 @@ module _ (w : World) (number : ℕ) (p : Packet) (k : ℕ) (x : Write) (at : pac
         gathered_there : (v : World) → (gathered v p).gathering p.target ≡ left_by (v.gathering p.target) p
         gathered_there v = at_place v.gathering p.target (left_by (v.gathering p.target) p)
 
-        kept_so : (new : Assembled) → IsPutTo w.packets p.target g p taken.Kept new → StandsFor (delivered w number (packet_at w.packets number)) p.target c us new f IsTaken
+        kept_so : (new : Assembled) → IsPutTo w.packets p.target g p taken.Kept new → StandsFor (delivered w number (packet_at w.packets number)) p.target c us fed new f IsTaken
         kept_so new put =
-            subst (λ (o : Outcome). StandsFor o p.target c us new f IsTaken) (sym (kept_world put.0))
+            subst (λ (o : Outcome). StandsFor o p.target c us fed new f IsTaken) (sym (kept_world put.0))
             (record {
               says = refl;
               receiver = receives;
@@ -230,7 +230,7 @@ module _ (w : World) (number : ℕ) (p : Packet) (k : ℕ) (x : Write) (at : pac
 
         -- it waits, and is acknowledged
         abbrev logged_node : Node
-        logged_node = with_write n x
+        logged_node = with_write n p.source x
 
         abbrev acked : World
         acked = from_memory (with_node w p.target logged_node) n p m
@@ -248,7 +248,8 @@ module _ (w : World) (number : ℕ) (p : Packet) (k : ℕ) (x : Write) (at : pac
             let log : length (n.log ++ x ∷ []) ≡ length n.log + 1 = length-append n.log (x ∷ []) in
             let waiting : length (us ++ u ∷ []) ≡ length (n.log ++ x ∷ []) - n.safe = omega (arith, before, longer, log, receives.logged) in
             let number_is : (receiver_of c (us ++ u ∷ [])).last ≡ length (n.log ++ x ∷ []) = omega (arith, last, longer, log) in
-            ap (λ (s : RState). record s { last = (receiver_of c (us ++ u ∷ [])).last; waiting = length (us ++ u ∷ []) }) receives.rule
+            let one : receiver_of c (us ++ u ∷ []) ≡ record (plain_receiver n) { last = (receiver_of c (us ++ u ∷ [])).last; waiting = length (us ++ u ∷ []) } = ap (λ (s : RState). record s { last = (receiver_of c (us ++ u ∷ [])).last; waiting = length (us ++ u ∷ []) }) receives.rule in
+            one
             ∙ ap (λ (i : ℕ). record (plain_receiver n) { last = i; waiting = length (us ++ u ∷ []) }) number_is
             ∙ ap (λ (i : ℕ). record (plain_receiver n) { last = length (n.log ++ x ∷ []); waiting = i }) waiting
 
@@ -258,58 +259,59 @@ module _ (w : World) (number : ℕ) (p : Packet) (k : ℕ) (x : Write) (at : pac
             ∙ ap (λ (ws : List Write). ws ++ x ∷ []) receives.waits
             ∙ sym (drop-append-le n.safe n.log (x ∷ []) receives.logged)
 
-        receives_more : Receives logged_node c (us ++ u ∷ [])
+        receives_more : Receives logged_node c (us ++ u ∷ []) part.source
         receives_more = record {
           up = receives.up;
           role = receives.role;
           halted = receives.halted;
           rule = more_rule;
           logged = omega (arith, receives.logged, length-append n.log (x ∷ []));
+          fed_by = read.source;
           waits = more_waits;
         }
 
         waits_so : (new : Assembled) (us' : List Logged) → IsPutTo w.packets p.target g p taken.Whole new → us' ≡ us ++ u ∷ [] → (line : Line) (session : ℕ) → line ≡ c.log.header.state.line → session ≡ c.log.header.incarnation → (f' : Flying)
-            → f.count < greatest → SendsOn p.target part.source line session m f f' → StandsFor (delivered w number (packet_at w.packets number)) p.target c us' new f' IsTaken
+            → f.count < greatest → SendsOn p.target part.source line session m f f' → StandsFor (delivered w number (packet_at w.packets number)) p.target c us' part.source new f' IsTaken
         waits_so new us' put us_are line session line_is session_is f' room sends =
             let lines : line ≡ n.line = line_is ∙ ap (λ (s : RState). s.line) receives.rule in
             let sessions : session ≡ n.session = session_is ∙ ap (λ (s : RState). s.session) receives.rule in
             let on : FlightStands (w.packets ++ packets_of p.target p.source n.line (NetAck n.session m)) f'
             = subst (λ (q : ℕ). FlightStands (w.packets ++ packets_of p.target q n.line (NetAck n.session m)) f') read.source
-              (subst (λ (l : Line). FlightStands (w.packets ++ packets_of p.target part.source l (NetAck n.session m)) f') lines
-              (subst (λ (s : ℕ). FlightStands (w.packets ++ packets_of p.target part.source line (NetAck s m)) f') sessions (sends w.packets flight room))) in
+            (subst (λ (l : Line). FlightStands (w.packets ++ packets_of p.target part.source l (NetAck n.session m)) f') lines
+            (subst (λ (s : ℕ). FlightStands (w.packets ++ packets_of p.target part.source line (NetAck s m)) f') sessions (sends w.packets flight room))) in
             let here : (gathered acked p).nodes p.target ≡ logged_node = at_place w.nodes p.target logged_node in
-            subst (λ (o : Outcome). StandsFor o p.target c us' new f' IsTaken) (sym (waits_world put.0))
+            subst (λ (o : Outcome). StandsFor o p.target c us' part.source new f' IsTaken) (sym (waits_world put.0))
             (record {
               says = refl;
-              receiver = subst (λ (vs : List Logged). Receives ((gathered acked p).nodes p.target) c vs) (sym us_are) (subst (λ (y : Node). Receives y c (us ++ u ∷ [])) (sym here) receives_more);
+              receiver = subst (λ (vs : List Logged). Receives ((gathered acked p).nodes p.target) c vs part.source) (sym us_are) (subst (λ (y : Node). Receives y c (us ++ u ∷ []) part.source) (sym here) receives_more);
               assembly = subst (λ (h : Option Gathering). AssemblyStands (gathered acked p).packets p.target h new) (sym (gathered_there acked))
                   (later w.packets (packets_of p.target p.source n.line (NetAck n.session m)) p.target (left_by g p) new put.1);
               flight = on;
             })
 
         -- by what the receiver says of it
-        pub some_kept : (us' : List Logged) (new : Assembled) → GatheredIs c size part (payload_in part bytes) us a us' new (Some false) → StandsFor (delivered w number (packet_at w.packets number)) p.target c us' new f IsTaken
-        pub some_waits : (us' : List Logged) (new : Assembled) → GatheredIs c size part (payload_in part bytes) us a us' new (Some true) → (line : Line) (session : ℕ) → line ≡ c.log.header.state.line → session ≡ c.log.header.incarnation → (f' : Flying)
-            → f.count < greatest → SendsOn p.target part.source line session m f f' → StandsFor (delivered w number (packet_at w.packets number)) p.target c us' new f' IsTaken
-        pub never_lost : (us' : List Logged) (new : Assembled) → GatheredIs c size part (payload_in part bytes) us a us' new None → ⊥
 
-        some_kept us' new (taken.Kept, is, by) = subst (λ (vs : List Logged). StandsFor (delivered w number (packet_at w.packets number)) p.target c vs new f IsTaken) (sym by.1) (kept_so new (put_so taken.Kept new is))
-        some_kept us' new (taken.Bad, is, by) = absurd (put_so taken.Bad new is)
-        some_kept us' new (taken.Whole, is, by) =
+        pub some_kept : (us' : List Logged) (new : Assembled) → GatheredIs c size part (payload_in part bytes) us a us' new (Some false) → StandsFor (delivered w number (packet_at w.packets number)) p.target c us' fed new f IsTaken
+        some_kept us' new (taken.Kept, (is, by)) = subst (λ (vs : List Logged). StandsFor (delivered w number (packet_at w.packets number)) p.target c vs fed new f IsTaken) (sym by.1) (kept_so new (put_so taken.Kept new is))
+        some_kept us' new (taken.Bad, (is, by)) = absurd (put_so taken.Bad new is)
+        some_kept us' new (taken.Whole, (is, by)) =
             let put = put_so taken.Whole new is in
             let took = by (spelled p.message) u put.2 update_is in
             let e : Some false ≡ Some true = took.1.1 ∙ (taken_here us' took.0 took.1.0).0 in absurd (cc)
 
-        some_waits us' new (taken.Kept, is, by) line session line_is session_is f' room sends = let e : Some true ≡ Some false = by.0 in absurd (cc)
-        some_waits us' new (taken.Bad, is, by) line session line_is session_is f' room sends = absurd (put_so taken.Bad new is)
-        some_waits us' new (taken.Whole, is, by) line session line_is session_is f' room sends =
+        pub some_waits : (us' : List Logged) (new : Assembled) → GatheredIs c size part (payload_in part bytes) us a us' new (Some true) → (line : Line) (session : ℕ) → line ≡ c.log.header.state.line → session ≡ c.log.header.incarnation → (f' : Flying)
+            → f.count < greatest → SendsOn p.target part.source line session m f f' → StandsFor (delivered w number (packet_at w.packets number)) p.target c us' part.source new f' IsTaken
+        some_waits us' new (taken.Kept, (is, by)) line session line_is session_is f' room sends = let e : Some true ≡ Some false = by.0 in absurd (cc)
+        some_waits us' new (taken.Bad, (is, by)) line session line_is session_is f' room sends = absurd (put_so taken.Bad new is)
+        some_waits us' new (taken.Whole, (is, by)) line session line_is session_is f' room sends =
             let put = put_so taken.Whole new is in
             let took = by (spelled p.message) u put.2 update_is in
             waits_so new us' put (taken_here us' took.0 took.1.0).1 line session line_is session_is f' room sends
 
-        never_lost us' new (taken.Kept, is, by) = let e : None ≡ Some false = by.0 in absurd (cc)
-        never_lost us' new (taken.Bad, is, by) = put_so taken.Bad new is
-        never_lost us' new (taken.Whole, is, by) =
+        pub never_lost : (us' : List Logged) (new : Assembled) → GatheredIs c size part (payload_in part bytes) us a us' new None → ⊥
+        never_lost us' new (taken.Kept, (is, by)) = let e : None ≡ Some false = by.0 in absurd (cc)
+        never_lost us' new (taken.Bad, (is, by)) = put_so taken.Bad new is
+        never_lost us' new (taken.Whole, (is, by)) =
             let put = put_so taken.Whole new is in
             let took = by (spelled p.message) u put.2 update_is in
             let e : None ≡ Some true = took.1.1 ∙ (taken_here us' took.0 took.1.0).0 in absurd (cc)

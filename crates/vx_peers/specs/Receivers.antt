@@ -46,24 +46,26 @@ GatheredBy taken.Whole c size line us new us' result = (m : Message) (u : Update
 abbrev pub GatheredIs : Core → (size : ℕ → ℕ) → Part → List ℕ → List Update → Assembled → List Update → Assembled → Option Bool → Type 0
 GatheredIs c size part payload us a us' a' result = (t : Taken) × (Takes a part payload t a' × GatheredBy t c size part.line us a' us' result)
 
--- the group of a site that receives, and what waits behind it: its rule sees the site, and the writes that wait are those behind the durable ones
-pub record Receives (n : Node) (c : Core) (us : List Update) : Type 0 where
+-- the group of a site that receives, what waits behind it, and who feeds it: its rule sees the site, and the writes that wait are those behind
+-- the durable ones
+pub record Receives (n : Node) (c : Core) (us : List Update) (fed : ℕ) : Type 0 where
   pub up : n.state ≡ Up
   pub role : is_origin n.role ≡ false
   pub halted : c.halted ≡ n.halted
   pub rule : receiver_of c us ≡ plain_receiver n
   pub logged : n.safe ≤ length n.log
+  pub fed_by : fed ≡ n.fed_by
   pub waits : map write_of us ≡ drop n.safe n.log
 
 -- A packet was delivered to this site: what is said is what the world says, and what the site and the network have is what the world has.
-pub record StandsFor (o : Outcome) (site : ℕ) (c : Core) (us : List Update) (a : Assembled) (f : Flying) (said : Said) : Type 0 where
+pub record StandsFor (o : Outcome) (site : ℕ) (c : Core) (us : List Update) (fed : ℕ) (a : Assembled) (f : Flying) (said : Said) : Type 0 where
   pub says : said ≡ o.said
-  pub receiver : Receives (o.world.nodes site) c us
+  pub receiver : Receives (o.world.nodes site) c us fed
   pub assembly : AssemblyStands o.world.packets site (o.world.gathering site) a
   pub flight : FlightStands o.world.packets f
 
-abbrev pub DeliveredAt : World → (site number : ℕ) → Core → List Update → Assembled → Flying → Said → Type 0
-DeliveredAt w site number c us a f said = StandsFor (delivered w number (packet_at w.packets number)) site c us a f said
+abbrev pub DeliveredAt : World → (site number : ℕ) → Core → List Update → (fed : ℕ) → Assembled → Flying → Said → Type 0
+DeliveredAt w site number c us fed a f said = StandsFor (delivered w number (packet_at w.packets number)) site c us fed a f said
 
 -- an acknowledgement from memory was sent
 abbrev pub SendsOn : (source target : ℕ) → Line → (session number : ℕ) → Flying → Flying → Type 0

@@ -37,23 +37,26 @@ fn acknowledge<N: Net>(flight: &mut N, from: u32, to: u32, line: &Line, session:
     send_message(flight, &envelope, &Message::NetAck { session, number });
 }
 
-/// Hands the packet of a number, which is of an update, to the site that receives it. A site that is halted ignores it.
+/// Hands the packet of a number, which is of an update, to the site that receives it. A site that is halted ignores it. `fed_by` is the site
+/// that sent the last update that it took, and `site` its own number.
 ///
 /// Want of memory, which changes nothing: where a number is past those that packets carry.
 pub fn deliver_update<S: Shelf, N: Net>(
     secondary: &mut Secondary<S>,
+    fed_by: &mut u32,
     assembly: &mut Assembly,
     site: u32,
     flight: &mut N,
     number: u64,
 ) -> Result<Said, OutOfMemory>
     ensures delivered { (w : World) (p : Packet) (k : ℕ) (x : Write) → packet_at w.packets number ≡ Some p → p.target ≡ site → p.message ≡ PlainUpdate k x
-        → AreOne w.packets → FlightStands w.packets (N.flying flight.old) → Receives (w.nodes site) secondary.old.rvg.core secondary.old.waiting
+        → AreOne w.packets → FlightStands w.packets (N.flying flight.old) → Receives (w.nodes site) secondary.old.rvg.core secondary.old.waiting fed_by.old
         → AssemblyStands w.packets site (w.gathering site) assembly.old
         → can_log secondary.old.rvg.core (S.meaning secondary.old.rvg.shelf).size (update_of p.line k x) ≡ true
-        → IfOk result (λ said. DeliveredAt w site number secondary.new.rvg.core secondary.new.waiting assembly.new (N.flying flight.new) said) }
+        → IfOk result (λ said. DeliveredAt w site number secondary.new.rvg.core secondary.new.waiting fed_by.new assembly.new (N.flying flight.new) said) }
     ensures group { secondary.new.rvg ≡ secondary.old.rvg }
     ensures waiting { OnErr result (secondary.new.waiting ≡ secondary.old.waiting) }
+    ensures fed_by { OnErr result (fed_by.new ≡ fed_by.old) }
     ensures assembly { OnErr result (assembly.new ≡ assembly.old) }
     ensures unsent { OnErr result (N.flying flight.new ≡ N.flying flight.old) }
 {
@@ -78,6 +81,7 @@ pub fn deliver_update<S: Shelf, N: Net>(
             }
             match gather(secondary, assembly, bytes, &part) {
                 Some(true) => {
+                    *fed_by = part.source;
                     acknowledge(flight, site, part.source, &line, session, ack);
                     Ok(Said::Taken)
                 }
