@@ -2,3 +2,4 @@ pub mod Sizes
 pub mod Looking
 pub mod Updates
 pub mod Pumps
+pub mod Delivers

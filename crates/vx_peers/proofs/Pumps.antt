@@ -24,7 +24,8 @@ use Rattle.vx_net.specs.Flights.{Flying}
 use Rattle.vx_packet.specs.declared.message.Envelope.{Envelope}
 use Rattle.vx_rvg.specs.Holdings.{Holding}
 use Rattle.vx_rvg.specs.Views.{Core, last_of}
-use Rattle.vx_peers.specs.Senders.{AreRead, LinkMoved, SendsFrom, SentRange, write_of}
+use Rattle.vx_peers.specs.Senders.{AreRead, LinkMoved, SendsFrom, SentRange}
+use Rattle.vx_secondary.specs.Receivers.{write_of}
 use Rattle.vx_peers.proofs.Updates.{drop_at}
 
 -- the writes that were read are those of the site's log

@@ -8,7 +8,7 @@ use Rattle.vx_packet.specs.Buffers.{AreBlocks}
 use Rattle.vx_packet.specs.Messages.{parts_of as parts_in_bytes}
 use Rattle.vx_packet.specs.declared.message.Message.TheVariants.{Update as MUpdate}
 use Rattle.vx_parts.proofs.Counting.{parts_are}
-use Rattle.vx_peers.specs.Senders.{write_of}
+use Rattle.vx_secondary.specs.Receivers.{write_of}
 
 pred_less : (n : ℕ) → pred n ≤ n
 pred_less zero = omega arith

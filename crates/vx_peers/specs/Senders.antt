@@ -21,6 +21,7 @@ use Rattle.vx_packet.specs.declared.message.Envelope.{Envelope}
 use Rattle.vx_rvg.specs.Holdings.{Holding, update_of}
 use Rattle.vx_rvg.specs.Stands.{Stands}
 use Rattle.vx_rvg.specs.Views.{Core, last_of}
+use Rattle.vx_secondary.specs.Receivers.{write_of}
 use Rattle.vx_srl.specs.declared.errors.SrlNo.{SrlNo}
 use Rattle.vx_srl.specs.declared.errors.SrlNo.TheVariants.{NoRoom, Other, Overrun}
 
@@ -33,10 +34,6 @@ pub record SendsFrom (n : Node) (c : Core) (m : Meaning) : Type 0 where
   pub stands : Stands c held m
   pub some : 0 < held.low
   pub writes : held.writes ≡ drop (held.low - 1) (take n.safe n.log)
-
--- the write of an update
-abbrev pub write_of : Update → Write
-write_of u = record { volume = u.vol; start = u.block; bytes = u.bytes }
 
 -- these updates are the writes that a log holds from a number on, on its line
 pub record AreRead (h : Holding) (line : Line) (first : ℕ) (us : List Update) : Type 0 where

@@ -1,14 +1,16 @@
 // A group that receives the writes of another.
 ghost use Rattle.std.specs.Prelude.{◌≡◌, [], Some, None, Ok, Err, ℕ, IfErr, IfOk};
+ghost use Rattle.vx_history.specs.Receiving.{received_step};
+ghost use Rattle.vx_history.specs.declared.receiver.REvent.TheVariants.{Update as HearUpdate};
 ghost use Rattle.vx_model.specs.declared.no.No.TheVariants.{Halted};
 ghost use Rattle.vx_secondary.specs.Answers.{KeepIs, TakeIs, Takes};
-ghost use Rattle.vx_secondary.specs.Receivers.{Wait};
+ghost use Rattle.vx_secondary.specs.Receivers.{Wait, receiver_of};
 
 use crate::Waiting;
 use crate::rule::{action_of, can_log};
 use std::alloc::Global;
 use vx_disk::Shelf;
-use vx_model::{No, OutOfMemory, Update};
+use vx_model::{Line, No, OutOfMemory, Update};
 use vx_receiver::{RAction, REvent};
 use vx_rvg::Rvg;
 
@@ -30,6 +32,17 @@ impl<S: Shelf> Secondary<S> {
             Ok(waiting) => Ok(Secondary { rvg, waiting }),
             Err(error) => Err((rvg, error)),
         }
+    }
+
+    /// What the rule of receivers says of an update of this line and number, as the header of each of its packets names them.
+    pub fn rule_for(&self, line: &Line, number: u64) -> RAction
+        ensures { result ≡ (received_step (receiver_of self.now.rvg.core self.now.waiting) (HearUpdate line.now number)).action }
+    {
+        let event = REvent::Update {
+            line: *line,
+            number,
+        };
+        action_of(&self.rvg, &self.waiting, &event)
     }
 
     /// Takes an update by the rule of receivers: the next number of its line waits behind the others, while fewer than 16 wait, and any

@@ -3,7 +3,8 @@ use Rattle.vx_model.specs.declared.call.Update.{Update}
 use Rattle.vx_courier.specs.UnderWay.{FlightStands}
 use Rattle.vx_history.specs.Sends.{updates}
 use Rattle.vx_history.specs.World.{Packet}
-use Rattle.vx_peers.specs.Senders.{AreRead, SentRange, write_of}
+use Rattle.vx_peers.specs.Senders.{AreRead, SentRange}
+use Rattle.vx_secondary.specs.Receivers.{write_of}
 use Rattle.vx_peers.proofs.pumping.send_range.Goals as goal
 
 pub returns-clause-sent : goal.returns-clause-sent
