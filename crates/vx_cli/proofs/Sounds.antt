@@ -5,17 +5,18 @@ use Rattle.vx_history.specs.GoodWorld.{GoodWorld}
 use Rattle.vx_history.specs.Likes.{IsLike}
 use Rattle.vx_history.specs.Step.{run}
 use Rattle.vx_history.specs.Steps.{burned}
-use Rattle.vx_history.specs.World.{World, Fuse as FuseOf, FuseSet, with_node}
+use Rattle.vx_history.specs.World.{World, Fuse as FuseOf, FuseSet, updated, with_node}
 use Rattle.vx_history.specs.declared.event.Event.{Event}
 use Rattle.vx_history.specs.declared.event.Event.TheVariants.{Crash as CrashAt}
 use Rattle.vx_model.specs.declared.no.No.{No}
 use Rattle.vx_order.specs.Order.{refusal_of}
 use Rattle.vx_script.specs.declared.line.ScriptLine.{ScriptLine}
-use Rattle.vx_script.specs.declared.line.ScriptLine.TheVariants.{Fuse, Write, Put, Apply}
+use Rattle.vx_script.specs.declared.line.ScriptLine.TheVariants.{Disk, Fuse, Write, Put, Apply}
 use Rattle.vx_world.proofs.Liking.{good_like}
 use Rattle.vx_world.proofs.Whole.{run_good}
 use Rattle.vx_events.specs.Ends.{Ends, AllDone, DiskFails, FuseRunsOut, NoNumber, Finds, FindsNone, AppliesFound, noted, place_of}
 use Rattle.vx_events.specs.Facts.{facts_of}
+use Rattle.vx_events.specs.Failing.{is_failing}
 use Rattle.vx_events.specs.Fails.{Fails}
 use Rattle.vx_events.specs.Lines.{StepBy}
 use Rattle.vx_events.specs.Lists.{events_of}
@@ -37,7 +38,21 @@ fuse_like v s f = record {
 sound_fuse : (v : World) (s : ℕ) (f : FuseOf) → GoodWorld v → GoodWorld (with_node v s (record (v.nodes s) { fuse = f }))
 sound_fuse v s f good = good_like v (with_node v s (record (v.nodes s) { fuse = f })) good (fuse_like v s f)
 
+failing_like : (v : World) (s : ℕ) (failing : ℕ → Bool) → IsLike v (with_node v s (record (v.nodes s) { failing = failing }))
+failing_like v s failing = record {
+  sites = refl;
+  nodes = λ i. all_updated (λ k m. m ≡ record (v.nodes k) { fuse = m.fuse; failing = m.failing }) v.nodes s (record (v.nodes s) { failing = failing }) refl (λ k apart. refl) i;
+  links = λ p q. record { linked = refl; same = λ _. refl };
+  lines = λ l. refl;
+  packets = refl;
+  promised = refl;
+  gathering = λ i. refl;
+}
+
 sound_noted : (s : ℕ) (line : ScriptLine) (v : World) → GoodWorld v → GoodWorld (noted s line v)
+sound_noted s (Disk site disk state) v sound =
+    let failing : ℕ → Bool = updated (v.nodes s).failing disk (is_failing state) in
+    good_like v (with_node v s (record (v.nodes s) { failing = failing })) sound (failing_like v s failing)
 sound_noted s (Fuse site calls pick) v sound = sound_fuse v s (FuseSet calls) sound
 sound_noted s (Write site volume start count fill) v sound = sound_fuse v s (burned (v.nodes s).fuse) sound
 sound_noted s (Put site volume start bytes) v sound = sound_fuse v s (burned (v.nodes s).fuse) sound

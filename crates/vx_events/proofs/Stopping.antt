@@ -11,17 +11,18 @@ use Rattle.vx_history.specs.Likes.{IsLike}
 use Rattle.vx_history.specs.Step.{step, run}
 use Rattle.vx_history.specs.Steps.{burned}
 use Rattle.vx_history.specs.Stops.{Stops, AllDone as EventsDone, Cuts, Reads, IsOpen, IsFused, IsLikeDoubted, all_fails, told_fails, of_disk}
-use Rattle.vx_history.specs.World.{Node, World, Fuse, FuseSet, with_node}
+use Rattle.vx_history.specs.World.{Node, World, Fuse, FuseSet, updated, with_node}
 use Rattle.vx_history.specs.declared.event.Event.{Event}
 use Rattle.vx_history.specs.declared.event.Event.TheVariants.{Site as MakeSite, Raw as MakeRaw, Write as WriteAt, Read as ReadAt, Apply as ApplyAt, Pump, Tick, Deliver, Connect, Cut, Pause, Resume, Wait, Link, Set, Crash as CrashAt, Recover as RecoverAt, Fault}
 use Rattle.vx_order.specs.Order.{refusal_of}
 use Rattle.vx_script.specs.declared.line.ScriptLine.{ScriptLine}
-use Rattle.vx_script.specs.declared.line.ScriptLine.TheVariants.{Site, Raw, Disk, Crash, Fuse as FuseLine, Recover, Write, Put, Read, Show, Apply, Status}
+use Rattle.vx_script.specs.declared.line.ScriptLine.TheVariants.{Site, Raw, Disk as DiskLine, Crash, Fuse as FuseLine, Recover, Write, Put, Read, Show, Apply, Status}
 use Rattle.vx_events.proofs.RefusedCalls.{WriteMay, write_may, put_may}
 use Rattle.vx_events.proofs.StoppingCuts.{cut_like, cut_sure}
 use Rattle.vx_events.proofs.Testing.{seat_in, up_in, running_in}
 use Rattle.vx_events.specs.Ends.{Ends, AllDone, DiskFails, FuseRunsOut, NoNumber, Finds, FindsNone, AppliesFound, place_of, noted, LeavesOf, BegunOf}
 use Rattle.vx_events.specs.Facts.{facts_of, site_number}
+use Rattle.vx_events.specs.Failing.{is_failing}
 use Rattle.vx_events.specs.Fails.{Fails}
 use Rattle.vx_events.specs.Lines.{LineStep, StepBy, IsDone, IsRefused}
 use Rattle.vx_events.specs.Lists.{Choice, events_of, recovery_of}
@@ -79,7 +80,19 @@ like_noted v s f = record {
   gathering = λ i. refl;
 }
 
+like_failing : (v : World) (s : ℕ) (failing : ℕ → Bool) → IsLike v (with_node v s (record (v.nodes s) { failing = failing }))
+like_failing v s failing = record {
+  sites = refl;
+  nodes = all_updated (λ i (n : Node). n ≡ record (v.nodes i) { fuse = n.fuse; failing = n.failing }) v.nodes s (record (v.nodes s) { failing = failing }) refl (λ k _. refl);
+  links = λ p q. record { linked = refl; same = λ _. refl };
+  lines = λ l. refl;
+  packets = refl;
+  promised = refl;
+  gathering = λ i. refl;
+}
+
 line_noted : (s : ℕ) (line : ScriptLine) (v : World) → IsLike v (noted s line v)
+line_noted s (DiskLine site disk state) v = like_failing v s (updated (v.nodes s).failing disk (is_failing state))
 line_noted s (FuseLine site calls pick) v = like_noted v s (FuseSet calls)
 line_noted s (Write site volume start count fill) v = like_noted v s (burned (v.nodes s).fuse)
 line_noted s (Put site volume start bytes) v = like_noted v s (burned (v.nodes s).fuse)
@@ -111,7 +124,7 @@ recovery_at Down s kept = ((refl, refl), tt)
 all_at : (w : World) (line : ScriptLine) (c : Choice) → AllAt (place_of w line) (events_of w line c)
 all_at w (Site name disks blocks) c = (tt, tt)
 all_at w (Raw site) c = (tt, tt)
-all_at w (Disk site disk state) c = tt
+all_at w (DiskLine site disk state) c = tt
 all_at w (Crash site pick) c = (tt, tt)
 all_at w (FuseLine site calls pick) c = tt
 all_at w (Recover site) c = recovery_at (w.nodes (site_number w site)).state (site_number w site) c.kept
@@ -197,7 +210,7 @@ open_of : (w : World) (files : Bool) (line : ScriptLine) (c : Choice) → refusa
     → IsOpen (w.nodes (place_of w line)) × (place_of w line < w.sites)
 open_of w files (Site name disks blocks) c free h = absurd h
 open_of w files (Raw site) c free h = absurd h
-open_of w files (Disk site disk state) c free h = absurd h
+open_of w files (DiskLine site disk state) c free h = absurd h
 open_of w files (Crash site pick) c free h = absurd h
 open_of w files (FuseLine site calls pick) c free h = absurd h
 open_of w files (Recover site) c free h = absurd (recovery_no_write (w.nodes (site_number w site)).state (site_number w site) c.kept h)

@@ -14,6 +14,7 @@ use Rattle.vx_history.specs.declared.event.Event.TheVariants.{Site as MakeSite, 
 use Rattle.vx_script.specs.declared.line.ScriptLine.{ScriptLine}
 use Rattle.vx_script.specs.declared.line.ScriptLine.TheVariants.{Site, Raw, Disk, Crash, Fuse, Recover, Write, Put, Read, Show, Apply, Status}
 use Rattle.vx_events.specs.Facts.{site_number}
+use Rattle.vx_events.specs.Failing.{is_failing, made_fail}
 use Rattle.vx_events.specs.Fails.{Fails, AreBorne}
 use Rattle.vx_events.specs.Found.{SameDisks}
 use Rattle.vx_history.specs.Stops.{IsFused}
@@ -40,8 +41,10 @@ place_of w (Apply site to) = site_number w site
 place_of w (Status site) = site_number w site
 place_of w other = 0
 
--- The world v with what a line notes of the disks of its site: `fuse` sets a fuse, and behind a line that may write or flush it is lit.
+-- The world v with what a line notes of the disks of its site: `disk` makes one fail, or ends that; `fuse` sets a fuse, and behind a line that
+-- may write or flush it is lit.
 abbrev pub noted : (site : ℕ) → ScriptLine → World → World
+noted s (Disk site disk state) v = made_fail v s disk (is_failing state)
 noted s (Fuse site calls pick) v = fused v s calls
 noted s (Write site volume start count fill) v = worked_on v s
 noted s (Put site volume start bytes) v = worked_on v s

@@ -3,7 +3,7 @@ use Rattle.std.specs.Prelude.{◌≡◌, None}
 use Rattle.vx_history.specs.World.{Node}
 use Rattle.vx_model.specs.declared.site.SiteState.TheVariants.{Up}
 
--- the same disks and volumes, up and running
+-- the same disks and volumes, up and running, with the same disks made to fail
 pub record SameDisks (n k : Node) : Type 0 where
   pub name : k.name ≡ n.name
   pub disks : k.disks ≡ n.disks
@@ -11,3 +11,4 @@ pub record SameDisks (n k : Node) : Type 0 where
   pub volumes : k.volumes ≡ n.volumes
   pub up : k.state ≡ Up
   pub running : k.halted ≡ None
+  pub failing : k.failing ≡ n.failing

@@ -1,5 +1,6 @@
 pub mod Ends
 pub mod Facts
+pub mod Failing
 pub mod Fails
 pub mod Found
 pub mod Fuses

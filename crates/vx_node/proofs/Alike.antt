@@ -48,7 +48,7 @@ view_like w v n k sites nodes same = view_in ∙ ap (λ (m : Node). view_of w m)
     view_in : view_of v n ≡ view_of w n
     view_in = ap (λ (r : Option RvgView). let s : SiteView = record (view_of w n) { rvg = r } in s) (shown_is n.state)
 
-apart_place : {A : Type 0} (f : ℕ → A) (s : ℕ) (x : A) (k : ℕ) → (k ≡ s → ⊥) → updated f s x k ≡ f k
+pub apart_place : {A : Type 0} (f : ℕ → A) (s : ℕ) (x : A) (k : ℕ) → (k ≡ s → ⊥) → updated f s x k ≡ f k
 apart_place f s x k apart = by_test (λ r. r ≡ f k) (eqb k s) x (f k) (λ e. absurd (apart (eqb_equal k s e))) (λ _. refl)
 
 -- a node that is changed twice
@@ -88,4 +88,4 @@ module _ {R : Type 0} {g : Ghosts R} where
   }
 
   pub stands_empty : {y : Yard R g} → YardAgrees empty_world y → YardStands empty_world y
-  stands_empty agrees = record { agrees = agrees; unlinked = record { none = λ p s. refl }; primaries = λ _. record { each = λ i. refl } }
+  stands_empty agrees = record { agrees = agrees; unlinked = record { none = λ p s. refl }; primaries = λ _. record { each = λ i. refl }; failing = λ s e below there. absurd (omega (arith, below)) }

@@ -10,9 +10,10 @@ use Rattle.vx_rvg.specs.declared.group.Rvg.{Rvg}
 use Rattle.vx_order.specs.declared.facts.SiteFacts.{SiteFacts}
 use Rattle.vx_script.specs.declared.line.DiskState.{DiskState}
 use Rattle.vx_script.specs.declared.line.ScriptLine.TheVariants.{Disk, Crash, Fuse}
+use Rattle.vx_events.specs.Failing.{is_failing}
 use Rattle.vx_events.specs.Facts.{site_fact, seat_of, site_number}
 use Rattle.vx_events.proofs.Refused.{disk_may, fuse_may, crash_may}
-use Rattle.vx_node.specs.Asked.{SetsDisk, SetsFuse, CrashesBy, OfSite, disks_in, units_in, is_failing}
+use Rattle.vx_node.specs.Asked.{SetsDisk, SetsFuse, CrashesBy, OfSite, disks_in, units_in}
 use Rattle.vx_node.specs.declared.disk_set.DiskSet.{DiskSet}
 use Rattle.vx_node.specs.declared.disk_set.DiskSet.TheVariants.{Bare, Spoiled, Up, Down, Gone}
 use Rattle.vx_node.specs.declared.yard.Yard.{Yard}

@@ -6,12 +6,12 @@ use Rattle.vx_model.specs.declared.no.No.{No}
 use Rattle.vx_model.specs.declared.no.No.TheVariants.{Device, Halted, Size, Range, Limit, Role, Down as IsDown}
 use Rattle.vx_model.specs.declared.state.KeptLink.{KeptLink}
 use Rattle.vx_model.specs.declared.no.Counted.TheVariants.{Number}
-use Rattle.vx_disk.specs.Causes.{OnDisks, WithDisks}
+use Rattle.vx_disk.specs.Causes.{OnDisks, WithDisks, Works as IsWorking}
 use Rattle.vx_disk.specs.Disks.{Disks, Crashed, RanOut, Untouched}
 use Rattle.vx_disk.specs.Shelf.{Meaning}
 use Rattle.vx_disk.specs.declared.shelf.Shelf.{Ghosts}
 use Rattle.vx_disk.proofs.Alikes.{picked_stable}
-use Rattle.vx_ringio.proofs.Spending.{loses_none, loses_both, loses_fewer}
+use Rattle.vx_ringio.proofs.Spending.{loses_none, loses_both, loses_fewer, works_since}
 use Rattle.vx_ringio.specs.Spends.{BurntOut, Loses, MakesAtLeast, Passed, Spends, Spent}
 use Rattle.vx_rvg.specs.Groups.{ApplyIs, Fails, WriteIs, unless_halted, write_refusal}
 use Rattle.vx_rvg.specs.Saves.{SaveIs, reclaim_refusal}
@@ -23,7 +23,7 @@ use Rattle.vx_events.specs.declared.said.Said.{Said}
 use Rattle.vx_events.specs.declared.said.Said.TheVariants.{Refused}
 use Rattle.vx_history.specs.World.{Node, World}
 use Rattle.vx_node.specs.Asked.{LeavesFuse, MayCrash, OfSite, disks_in, size_in}
-use Rattle.vx_node.specs.Burning.{Burnt, OffIf, said_by}
+use Rattle.vx_node.specs.Burning.{Burnt, NoMore, IsLogged, OffIf, said_by}
 use Rattle.vx_node.specs.DiskSets.{is_off}
 use Rattle.vx_node.specs.Stands.{IsUpAt, StandsAlone, StandsAt}
 use Rattle.vx_node.specs.Yards.{YardAgrees}
@@ -107,28 +107,24 @@ spent_off size before after o n up down spent = elim spent.burnt [
   | inr out ↦ out.0
 ]
 
-by_why : (least : ℕ) (size : ℕ → ℕ) (before after : Bool) (why : No) (o n : Disks) → IsFalse before → after ≡ is_off why → Spent size before after o n → Burnt least (Refused why) size o n
-by_why least size before after IsDown o n up off spent = spent_off size before after o n up off spent
-by_why least size before after other o n up off spent = spent_up size before after o n off spent
+by_why : (P : Disks → Disks → Type 0) (size : ℕ → ℕ) (before after : Bool) (why : No) (o n : Disks) → IsFalse before → after ≡ is_off why → Spent size before after o n → Burnt P (Refused why) size o n
+by_why P size before after IsDown o n up off spent = spent_off size before after o n up off spent
+by_why P size before after other o n up off spent = spent_up size before after o n off spent
 
-burnt_by : (least : ℕ) (size : ℕ → ℕ) (before after : Bool) (r : Result ℕ No) (o n : Disks) → IsFalse before → OffIf r after → OnOk r (Loses least o.fuse n.fuse) → Spent size before after o n → Burnt least (said_by r) size o n
-burnt_by least size before after (Ok number) o n up off loses spent = (spent_up size before after o n off spent, loses)
-burnt_by least size before after (Err why) o n up off loses spent = by_why least size before after why o n up off spent
+burnt_by : (P : Disks → Disks → Type 0) (size : ℕ → ℕ) (before after : Bool) (r : Result ℕ No) (o n : Disks) → IsFalse before → OffIf r after → OnOk r (P o n) → Spent size before after o n → Burnt P (said_by r) size o n
+burnt_by P size before after (Ok number) o n up off done spent = (spent_up size before after o n off spent, done)
+burnt_by P size before after (Err why) o n up off done spent = by_why P size before after why o n up off spent
 
-loses_at : (least : ℕ) (r : Result ℕ No) (o n : Disks) → OnOk r (WithDisks (Some o) (Some n) (λ x y. Loses least x.fuse y.fuse)) → OnOk r (Loses least o.fuse n.fuse)
-loses_at least (Ok number) o n on = on
-loses_at least (Err why) o n on = tt
+done_at : (P : Disks → Disks → Type 0) (r : Result ℕ No) (o n : Disks) → OnOk r (WithDisks (Some o) (Some n) P) → OnOk r (P o n)
+done_at P (Ok number) o n on = on
+done_at P (Err why) o n on = tt
 
-burnt_on : (least : ℕ) (size : ℕ → ℕ) (before after : Bool) (r : Result ℕ No) (o n : Option Disks) → IsFalse before → OffIf r after → OnOk r (WithDisks o n (λ x y. Loses least x.fuse y.fuse)) → WithDisks o n (Spent size before after)
-    → OnDisks o n (Burnt least (said_by r) size)
-burnt_on least size before after r None None up off loses spent = tt
-burnt_on least size before after r None (Some n) up off loses spent = absurd spent
-burnt_on least size before after r (Some o) None up off loses spent = absurd spent
-burnt_on least size before after r (Some o) (Some n) up off loses spent = (burnt_by least size before after r o n up off (loses_at least r o n loses) spent, spent.failing)
-
-least_on : (least : ℕ) (r : Result ℕ No) (m new : Meaning) → OnOk r (MakesAtLeast least m new) → OnOk r (WithDisks m.disks new.disks (λ x y. Loses least x.fuse y.fuse))
-least_on least (Ok number) m new made = made.fuses
-least_on least (Err why) m new made = tt
+burnt_on : (P : Disks → Disks → Type 0) (size : ℕ → ℕ) (before after : Bool) (r : Result ℕ No) (o n : Option Disks) → IsFalse before → OffIf r after → OnOk r (WithDisks o n P) → WithDisks o n (Spent size before after)
+    → OnDisks o n (Burnt P (said_by r) size)
+burnt_on P size before after r None None up off done spent = tt
+burnt_on P size before after r None (Some n) up off done spent = absurd spent
+burnt_on P size before after r (Some o) None up off done spent = absurd spent
+burnt_on P size before after r (Some o) (Some n) up off done spent = (burnt_by P size before after r o n up off (done_at P r o n done) spent, spent.failing)
 
 least_both : (size : ℕ → ℕ) (before after : Bool) (k : ℕ) (a b c : Option Disks) → IsFalse after → WithDisks a b (Spent size before after) → WithDisks b c (λ x y. Loses k x.fuse y.fuse) → WithDisks a c (λ x y. Loses k x.fuse y.fuse)
 least_both size before after k None None None up spent made = tt
@@ -144,16 +140,27 @@ pub least_since : (k : ℕ) (r : Result ℕ No) (m mid new : Meaning) → IsFals
 least_since k (Ok number) m mid new up spends made = record { fuses = least_both m.size m.down mid.down k m.disks mid.disks new.disks up spends.told made.fuses }
 least_since k (Err why) m mid new up spends made = tt
 
-none_fewer : (size : ℕ → ℕ) (before after : Bool) (a b : Option Disks) → IsFalse after → WithDisks a b (Spent size before after) → WithDisks a b (λ x y. Loses 0 x.fuse y.fuse)
-none_fewer size before after None None up spent = tt
-none_fewer size before after None (Some b) up spent = absurd spent
-none_fewer size before after (Some a) None up spent = absurd spent
-none_fewer size before after (Some a) (Some b) up spent = (spent_up size before after a b up spent).fuse
+logged_on : (o n : Option Disks) → WithDisks o n (λ x y. Loses 4 x.fuse y.fuse) → IsWorking o 0 → WithDisks o n IsLogged
+logged_on None None loses works = tt
+logged_on None (Some n) loses works = absurd loses
+logged_on (Some o) None loses works = absurd loses
+logged_on (Some o) (Some n) loses works = record { calls = loses; works = works }
 
--- calls that passed are none or more
-pub no_fewer : (r : Result ℕ No) (m new : Meaning) → OffIf r new.down → Spends m new → OnOk r (MakesAtLeast 0 m new)
-no_fewer (Ok number) m new up spends = record { fuses = none_fewer m.size m.down new.down m.disks new.disks up spends.told }
-no_fewer (Err why) m new off spends = tt
+-- a write that is done
+pub is_logged : (r : Result ℕ No) (m mid new : Meaning) (unit : ℕ) → unit ≡ 0 → Spends m mid → OnOk r (MakesAtLeast 4 m new) → OnOk r (IsWorking mid.disks unit) → OnOk r (WithDisks m.disks new.disks IsLogged)
+is_logged (Ok number) m mid new unit is spends made works = logged_on m.disks new.disks made.fuses (works_since m mid 0 spends (subst (λ (u : ℕ). IsWorking mid.disks u) is works))
+is_logged (Err why) m mid new unit is spends made works = tt
+
+done_on : (size : ℕ → ℕ) (before after : Bool) (o n : Option Disks) → WithDisks o n (Spent size before after) → WithDisks o n NoMore
+done_on size before after None None spent = tt
+done_on size before after None (Some n) spent = absurd spent
+done_on size before after (Some o) None spent = absurd spent
+done_on size before after (Some o) (Some n) spent = tt
+
+-- any other call
+pub is_done : (r : Result ℕ No) (m new : Meaning) → Spends m new → OnOk r (WithDisks m.disks new.disks NoMore)
+is_done (Ok number) m new spends = done_on m.size m.down new.down m.disks new.disks spends.told
+is_done (Err why) m new spends = tt
 
 -- the fuse ran out, and the disks crashed again
 again : (size size' : ℕ → ℕ) (pick : ℕ) (o m n : Disks) → BurntOut size o m → Crashed size' pick m n ⊎ Untouched m n → BurntOut size o n
@@ -194,52 +201,51 @@ again_on size size' pick (Some o) None n one two = absurd one
 again_on size size' pick (Some o) (Some m) None one two = absurd two
 again_on size size' pick (Some o) (Some m) (Some n) one two = (again size size' pick o m n one.0 two.0, λ u. two.1 u ∙ one.1 u)
 
-out_as : (least : ℕ) (why : No) (size : ℕ → ℕ) (o n : Option Disks) → is_off why ≡ true → OnDisks o n (Burnt least (Refused why) size) → OnDisks o n (BurntOut size)
-out_as least IsDown size o n off burnt = burnt
-out_as least other size o n off burnt = absurd (let e : false ≡ true = off in cc)
+out_as : (P : Disks → Disks → Type 0) (why : No) (size : ℕ → ℕ) (o n : Option Disks) → is_off why ≡ true → OnDisks o n (Burnt P (Refused why) size) → OnDisks o n (BurntOut size)
+out_as P IsDown size o n off burnt = burnt
+out_as P other size o n off burnt = absurd (let e : false ≡ true = off in cc)
 
-as_out : (least : ℕ) (why : No) (size : ℕ → ℕ) (o n : Option Disks) → is_off why ≡ true → OnDisks o n (BurntOut size) → OnDisks o n (Burnt least (Refused why) size)
-as_out least IsDown size o n off burnt = burnt
-as_out least other size o n off burnt = absurd (let e : false ≡ true = off in cc)
+as_out : (P : Disks → Disks → Type 0) (why : No) (size : ℕ → ℕ) (o n : Option Disks) → is_off why ≡ true → OnDisks o n (BurntOut size) → OnDisks o n (Burnt P (Refused why) size)
+as_out P IsDown size o n off burnt = burnt
+as_out P other size o n off burnt = absurd (let e : false ≡ true = off in cc)
 
 still_on : (o : Option Disks) → OnDisks o o Passed
 still_on None = tt
 still_on (Some d) = (passed_none d, λ u. refl)
 
-still_by : (least : ℕ) (why : No) (size : ℕ → ℕ) (o : Option Disks) → is_off why ≡ false → OnDisks o o (Burnt least (Refused why) size)
-still_by least IsDown size o on = absurd (let e : true ≡ false = on in cc)
-still_by least other size o on = still_on o
+still_by : (P : Disks → Disks → Type 0) (why : No) (size : ℕ → ℕ) (o : Option Disks) → is_off why ≡ false → OnDisks o o (Burnt P (Refused why) size)
+still_by P IsDown size o on = absurd (let e : true ≡ false = on in cc)
+still_by P other size o on = still_on o
 
 module _ {R : Type 0} {g : Ghosts R} where
   -- a call on a group
-  pub called_by : (least : ℕ) (r : Result ℕ No) (old new : Rvg R g) → IsFalse (g.meaning old.shelf).down → OffIf r (g.meaning new.shelf).down → OnOk r (MakesAtLeast least (g.meaning old.shelf) (g.meaning new.shelf))
-      → Spends (g.meaning old.shelf) (g.meaning new.shelf) → LeavesFuse least (said_by r) (Up old) (Up new)
-  called_by least r old new up off made spends = record {
-    told = burnt_on least (g.meaning old.shelf).size (g.meaning old.shelf).down (g.meaning new.shelf).down r (g.meaning old.shelf).disks (g.meaning new.shelf).disks up off
-        (least_on least r (g.meaning old.shelf) (g.meaning new.shelf) made) spends.told;
+  pub called_by : (P : Disks → Disks → Type 0) (r : Result ℕ No) (old new : Rvg R g) → IsFalse (g.meaning old.shelf).down → OffIf r (g.meaning new.shelf).down → OnOk r (WithDisks (g.meaning old.shelf).disks (g.meaning new.shelf).disks P)
+      → Spends (g.meaning old.shelf) (g.meaning new.shelf) → LeavesFuse P (said_by r) (Up old) (Up new)
+  called_by P r old new up off done spends = record {
+    told = burnt_on P (g.meaning old.shelf).size (g.meaning old.shelf).down (g.meaning new.shelf).down r (g.meaning old.shelf).disks (g.meaning new.shelf).disks up off done spends.told;
   }
 
   -- a call that did nothing, and was not answered 6
-  pub called_still : (least : ℕ) (why : No) (e : DiskSet R g) → is_off why ≡ false → LeavesFuse least (Refused why) e e
-  called_still least why e on = record { told = still_by least why (size_in e) (disks_in e) on }
+  pub called_still : (P : Disks → Disks → Type 0) (why : No) (e : DiskSet R g) → is_off why ≡ false → LeavesFuse P (Refused why) e e
+  called_still P why e on = record { told = still_by P why (size_in e) (disks_in e) on }
 
   -- a call in which the fuse ran out, and behind which the disks crashed
-  pub called_cut : (least : ℕ) (why : No) (pick : ℕ) (a b c : DiskSet R g) → is_off why ≡ true → LeavesFuse least (Refused why) a b → MayCrash pick b c → LeavesFuse least (Refused why) a c
-  called_cut least why pick a b c off one two = record {
-    told = as_out least why (size_in a) (disks_in a) (disks_in c) off
-        (again_on (size_in a) (size_in b) pick (disks_in a) (disks_in b) (disks_in c) (out_as least why (size_in a) (disks_in a) (disks_in b) off one.told) two.told);
+  pub called_cut : (P : Disks → Disks → Type 0) (why : No) (pick : ℕ) (a b c : DiskSet R g) → is_off why ≡ true → LeavesFuse P (Refused why) a b → MayCrash pick b c → LeavesFuse P (Refused why) a c
+  called_cut P why pick a b c off one two = record {
+    told = as_out P why (size_in a) (disks_in a) (disks_in c) off
+        (again_on (size_in a) (size_in b) pick (disks_in a) (disks_in b) (disks_in c) (out_as P why (size_in a) (disks_in a) (disks_in b) off one.told) two.told);
   }
 
   -- a call on the group of a site that is up
-  pub called_up : (least : ℕ) (said : Said) (links : List KeptLink) (n : Node) (e after : DiskSet R g) (rvg : Rvg R g) → e ≡ Up rvg → StandsAt links n e → (IsFalse (g.meaning rvg.shelf).down → LeavesFuse least said (Up rvg) after) → LeavesFuse least said e after
-  called_up least said links n e after rvg is stands called =
+  pub called_up : (P : Disks → Disks → Type 0) (said : Said) (links : List KeptLink) (n : Node) (e after : DiskSet R g) (rvg : Rvg R g) → e ≡ Up rvg → StandsAt links n e → (IsUpAt links n rvg.core (g.meaning rvg.shelf) → LeavesFuse P said (Up rvg) after) → LeavesFuse P said e after
+  called_up P said links n e after rvg is stands called =
       let up : IsUpAt links n rvg.core (g.meaning rvg.shelf) = subst (λ (x : DiskSet R g). StandsAt links n x) is stands in
-      subst (λ (x : DiskSet R g). LeavesFuse least said x after) (sym is) (called up.up)
+      subst (λ (x : DiskSet R g). LeavesFuse P said x after) (sym is) (called up)
 
   -- the calls of a line
-  pub called_at : (least : ℕ) (w : World) (old new : Yard R g) (name : List ℕ) (s : ℕ) (before after : DiskSet R g) (said reply : Said) → said ≡ reply → YardAgrees w old → seat_of old.facts.items name ≡ Some s
-      → slice_get old.disk_sets.items s ≡ Some before → new.disk_sets.items ≡ slice_set old.disk_sets.items s after → ((n : Node) → StandsAlone n before → LeavesFuse least reply before after)
-      → OfSite (LeavesFuse least said) (site_number w name) old new
-  called_at least w old new name s before after said reply is agrees seat there disk_sets did =
-      asked_at (LeavesFuse least said) w old new name s before after agrees seat there disk_sets
-      (subst (λ (t : Said). LeavesFuse least t before after) (sym is) (did (w.nodes s) (agrees.disk_sets.sites s before (seated w old name s agrees seat).below there)))
+  pub called_at : (P : Disks → Disks → Type 0) (w : World) (old new : Yard R g) (name : List ℕ) (s : ℕ) (before after : DiskSet R g) (said reply : Said) → said ≡ reply → YardAgrees w old → seat_of old.facts.items name ≡ Some s
+      → slice_get old.disk_sets.items s ≡ Some before → new.disk_sets.items ≡ slice_set old.disk_sets.items s after → ((n : Node) → StandsAlone n before → LeavesFuse P reply before after)
+      → OfSite (LeavesFuse P said) (site_number w name) old new
+  called_at P w old new name s before after said reply is agrees seat there disk_sets did =
+      asked_at (LeavesFuse P said) w old new name s before after agrees seat there disk_sets
+      (subst (λ (t : Said). LeavesFuse P t before after) (sym is) (did (w.nodes s) (agrees.disk_sets.sites s before (seated w old name s agrees seat).below there)))

@@ -95,13 +95,13 @@ module _ {R : Type 0} {g : Ghosts R} where
   -- ---- the disk set of a site within its yard
 
   -- the calls of a line
-  pub called_keeps : (least : ℕ) (said : Said) (s : ℕ) (a b : Yard R g) → OfSite (LeavesFuse least said) s a b → OfSite SameFailing s a b
-  called_keeps least said s a b of = record {
+  pub called_keeps : (P : Disks → Disks → Type 0) (said : Said) (s : ℕ) (a b : Yard R g) → OfSite (LeavesFuse P said) s a b → OfSite SameFailing s a b
+  called_keeps P said s a b of = record {
     before = of.before;
     after = of.after;
     there = of.there;
     disk_sets = of.disk_sets;
-    did = record { told = same_on (Burnt least said (size_in of.before)) (disks_in of.before) (disks_in of.after) of.did.told };
+    did = record { told = same_on (Burnt P said (size_in of.before)) (disks_in of.before) (disks_in of.after) of.did.told };
   }
 
   -- nothing was done

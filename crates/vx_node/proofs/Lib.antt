@@ -9,6 +9,7 @@ pub mod CrashGroup
 pub mod CrashLine
 pub mod DiskLine
 pub mod ExactWrite
+pub mod FailsStay
 pub mod FuseLine
 pub mod IntoRacks
 pub mod KeepsFailing

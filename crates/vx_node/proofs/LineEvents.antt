@@ -1,20 +1,22 @@
 -- A line that a yard answered, as the events of the world.
 use Rattle.std.proofs.Common.{◌≡◌, ◌∙◌, inl, inr, ◌-◌, ◌*◌, ◌<◌, ℕ, zero, suc, List, [], ◌∷◌, length, Bool, ap, sym, subst, refl, arith}
-use Rattle.std.specs.Prelude.{Option, Some, None, slice_get, replicate}
+use Rattle.std.specs.Prelude.{Option, Some, None, IsSome, is_some, slice_get, replicate}
 use Rattle.std.proofs.lemmas.Option.{slice_get_within}
 use Rattle.vx_model.specs.Content.{Write as WriteOf}
 use Rattle.vx_model.specs.declared.limits.TheConstants.{MOST_NUMBER}
 use Rattle.vx_model.specs.declared.no.No.{No}
 use Rattle.vx_model.specs.declared.site.SiteState.TheVariants.{Bare as IsBare, Up as IsUp, Down as IsDown}
 use Rattle.vx_history.specs.Steps.{fused}
-use Rattle.vx_history.specs.World.{Node, World, Volume, FuseSet}
+use Rattle.vx_history.specs.World.{Node, World, Volume, FuseSet, updated}
 use Rattle.vx_history.specs.declared.event.Event.TheVariants.{Site as MakeSite, Raw as MakeRaw, Read as ReadAt}
+use Rattle.vx_disk.specs.Racks.{IsRack}
 use Rattle.vx_disk.specs.declared.shelf.Shelf.{Ghosts}
 use Rattle.vx_script.specs.declared.line.ScriptLine.{ScriptLine}
 use Rattle.vx_script.specs.declared.line.ScriptLine.TheVariants.{Site, Raw, Disk, Crash, Fuse, Recover, Write, Put, Read, Show, Apply, Status}
 use Rattle.vx_order.specs.Order.{refusal_of}
 use Rattle.vx_events.specs.Ends.{AllDone, place_of as site_of}
 use Rattle.vx_events.specs.Facts.{facts_of, site_number, volume_number}
+use Rattle.vx_events.specs.Failing.{is_failing, made_fail}
 use Rattle.vx_events.specs.Fails.{Fails}
 use Rattle.vx_events.specs.Lines.{StepBy, Counts, write_in}
 use Rattle.vx_events.specs.Plain.{IsUnlinked, IsSized, ArePrimaries}
@@ -27,10 +29,11 @@ use Rattle.vx_node.specs.declared.yard.Yard.{Yard}
 use Rattle.vx_node.specs.Replies.{text_of}
 use Rattle.vx_node.specs.Stands.{StandsAlone}
 use Rattle.vx_node.specs.Working.{Answered, IsFree}
-use Rattle.vx_node.specs.Asked.{HasCalled}
+use Rattle.vx_node.specs.Asked.{AllSameFailing, AsAsked, HasCalled}
 use Rattle.vx_node.specs.Works.{Works, WorksBy}
 use Rattle.vx_node.specs.Yards.{YardAgrees, YardStands, StaysAgreed, StaysFor, Steps, IsTold, in_files}
 use Rattle.vx_node.proofs.Alike.{agrees_like}
+use Rattle.vx_node.proofs.FailsStay.{Ties, needs_log, still_told, tied_line, tied_same}
 use Rattle.vx_node.proofs.SiteEvents.{Happens, first_choice, happens_as, site_happens, raw_happens, only_happens, crash_happens, recover_happens}
 use Rattle.vx_node.proofs.CallEvents.{put_happens, put_counts, read_happens, apply_happens}
 use Rattle.vx_events.proofs.Refused.{crash_may, recover_may, apply_may}
@@ -80,8 +83,13 @@ module _ {R : Type 0} {g : Ghosts R} where
   -- ---- the whole line
 
   -- the yard stands for the world to which the events came
-  stands_for : (told : Type 0) (w next : World) (line : ScriptLine) (s : ℕ) (fails : Fails) (said : Said) (y : Yard R g) → (IsTold y → told) → YardAgrees next y → (h : Happens told w line s fails said next) → YardStands h.new y
-  stands_for told w next line s fails said y is agrees h = record { agrees = agrees_like next h.new y h.sites h.nodes agrees; unlinked = h.unlinked; primaries = λ t. h.primaries (is t) }
+  stands_for : (told : Type 0) (w next : World) (line : ScriptLine) (s : ℕ) (fails : Fails) (said : Said) (y : Yard R g) → (IsTold y → told) → YardAgrees next y → Ties next y → (h : Happens told w line s fails said next) → YardStands h.new y
+  stands_for told w next line s fails said y is agrees ties h = record {
+    agrees = agrees_like next h.new y h.sites h.nodes agrees;
+    unlinked = h.unlinked;
+    primaries = λ t. h.primaries (is t);
+    failing = tied_same next h.new y y h.sites (λ i. ap (λ (n : Node). n.failing) (h.nodes i)) (still_told y y refl) ties;
+  }
 
   -- a line that no test refuses
   works_happen : (told : Type 0) (files : Bool) (w : World) (y : Yard R g) (line : ScriptLine) (fails : Fails) (said : Said) (next : World) → YardAgrees w y → IsUnlinked w → (told → ArePrimaries w)
@@ -92,17 +100,19 @@ module _ {R : Type 0} {g : Ghosts R} where
   works_happen told files w y (Raw name) fails said next agrees none all free (inl is) = (raw_happens told w name fails said next none all (raw_free w files name free) is, tt)
   works_happen told files w y (Raw name) fails said next agrees none all free (inr f) =
       (only_happens told w (Raw name) (site_number w name) (MakeRaw (site_number w name)) fails said next none all refl (λ d. refl) refl f, tt)
-  works_happen told files w y (Disk name disk state) fails said next agrees none all free is = (
-    record {
-      new = w;
-      ends = AllDone first_choice is.none is.says refl;
-      sites = ap (λ (v : World). v.sites) (sym is.leads);
-      nodes = λ i. ap (λ (v : World). v.nodes i) (sym is.leads);
-      unlinked = none;
-      primaries = all;
-    },
-    tt,
-  )
+  works_happen told files w y (Disk name disk state) fails said next agrees none all free is =
+      let s : ℕ = site_number w name in
+      let v : World = made_fail w s disk (is_failing state) in (
+        record {
+          new = v;
+          ends = AllDone first_choice is.none is.says refl;
+          sites = ap (λ (u : World). u.sites) (sym is.leads);
+          nodes = λ i. ap (λ (u : World). u.nodes i) (sym is.leads);
+          unlinked = same_links w v (λ p q. refl) none;
+          primaries = λ t. node_primary w v s (let n = w.nodes s in record n { failing = updated n.failing disk (is_failing state) }) (λ k. refl) ((all t).each s) (all t);
+        },
+        tt,
+      )
   works_happen told files w y (Crash name pick) fails said next agrees none all free is =
       let may = crash_may (facts_of w) files name pick free in (
         happens_as next is.0 is.2.leads
@@ -184,9 +194,10 @@ module _ {R : Type 0} {g : Ghosts R} where
   works_happen told files w y other fails said next agrees none all free is = absurd is
 
   -- a line that was answered
-  pub line_happens : (w : World) (line : ScriptLine) (old new : Yard R g) (said : Said) → YardStands w old → (IsTold new → IsTold old) → Answered w line said old new
-      → (IsFree old line → HasCalled w line said old new) → Steps w line old new (text_of said)
-  line_happens w line old new said stands later a called = by (refusal_of (facts_of w) (in_files old) line) refl a.step
+  pub line_happens : ((r : R) → IsRack (g.meaning r)) → (w : World) (line : ScriptLine) (old new : Yard R g) (said : Said) → YardStands w old → (IsTold new → IsTold old) → Answered w line said old new
+      → (IsFree old line → HasCalled w line said old new) → (IsFree old line → AsAsked w line old new) → (IsSome (refusal_of old.facts.items (in_files old) line) → new.disk_sets ≡ old.disk_sets)
+      → Steps w line old new (text_of said)
+  line_happens racks w line old new said stands later a called asked still = by (refusal_of (facts_of w) (in_files old) line) refl a.step
     where
       by : (why : Option No) → refusal_of (facts_of w) (in_files old) line ≡ why → WorksBy why (IsTold new) w line a.fails said a.world → Steps w line old new (text_of said)
       by (Some why) is works = record {
@@ -201,6 +212,8 @@ module _ {R : Type 0} {g : Ghosts R} where
           agrees = a.stands;
           unlinked = subst (λ (v : World). IsUnlinked v) (sym works.leads) stands.unlinked;
           primaries = λ t. subst (λ (v : World). ArePrimaries v) (sym works.leads) (stands.primaries (later t));
+          failing = tied_same w a.world old new (ap (λ (v : World). v.sites) works.leads) (λ i. ap (λ (v : World). (v.nodes i).failing) works.leads)
+              (still_told old new (ap (λ es. es.items) (still (ap (λ fs. is_some (refusal_of fs (in_files old) line)) stands.agrees.facts ∙ ap (λ o. is_some o) is)))) stands.failing;
         };
         rose = a.rose;
         called = λ free. called free;
@@ -212,17 +225,18 @@ module _ {R : Type 0} {g : Ghosts R} where
             fails = a.fails;
             prints = record {
               said = said;
-              step = subst (λ (o : Option No). StepBy o (IsTold new) w line a.fails said h.0.new) (sym is) (record { ends = h.0.ends; counts = h.1 });
+              step = subst (λ (o : Option No). StepBy o (IsTold new) w line a.fails said h.0.new) (sym is) (record { ends = h.0.ends; counts = h.1; works = needs_log racks (in_files old) w old new line said is stands.agrees (called (ap (λ fs. refusal_of fs (in_files old) line) stands.agrees.facts ∙ is)) stands.failing });
               is = refl;
             };
-            stands = stands_for (IsTold new) w a.world line (site_of w line) a.fails said new (λ t. t) a.stands h.0;
+            stands = stands_for (IsTold new) w a.world line (site_of w line) a.fails said new (λ t. t) a.stands
+                (tied_line (IsTold new) (in_files old) w a.world old new line a.fails said is works (asked (ap (λ fs. refusal_of fs (in_files old) line) stands.agrees.facts ∙ is)) stands.failing) h.0;
             rose = a.rose;
             called = λ free. called free;
           }
 
   -- a line of which nothing was done
-  pub line_stays : (w : World) (old new : Yard R g) → YardStands w old → (IsTold new → IsTold old) → StaysAgreed w old new → StaysFor w old new
-  line_stays w old new stands later stays = record {
-    stands = record { agrees = stays.stands; unlinked = stands.unlinked; primaries = λ t. stands.primaries (later t) };
+  pub line_stays : (w : World) (old new : Yard R g) → YardStands w old → (IsTold new → IsTold old) → StaysAgreed w old new → AllSameFailing old new → StaysFor w old new
+  line_stays w old new stands later stays short = record {
+    stands = record { agrees = stays.stands; unlinked = stands.unlinked; primaries = λ t. stands.primaries (later t); failing = tied_same w w old new refl (λ i. refl) short stands.failing };
     rose = stays.rose;
   }

@@ -9,7 +9,7 @@ use Rattle.vx_disk.specs.Racks.{IsRack}
 use Rattle.std.specs.Fmt.{decimal}
 use Rattle.std.proofs.lemmas.Bool.{cases_lt}
 use Rattle.std.proofs.lemmas.Bool.Decides.{nat_tests}
-use Rattle.vx_history.specs.World.{Node, Volume, Fuse, NoFuse, FuseSet, FuseLit, bare_site}
+use Rattle.vx_history.specs.World.{Node, Volume, Fuse, NoFuse, FuseSet, FuseLit}
 use Rattle.vx_model.specs.Content.{Content, zero_block}
 use Rattle.vx_history.specs.Steps.{raw_set, raw_content, raw_volumes}
 use Rattle.vx_model.specs.Sizes.{ring_of}
@@ -44,7 +44,7 @@ use Rattle.vx_node.specs.Holds.{state_with}
 use Rattle.vx_node.specs.Layouts.{raw_units}
 use Rattle.vx_node.proofs.Laying.{lies_as, raw_lies, raw_size, raw_none}
 use Rattle.vx_node.specs.Fuses.{HasFuse, LetsPass}
-use Rattle.vx_node.specs.Stands.{IsFitted, IsBareAt, IsUpAt, faults_at}
+use Rattle.vx_node.specs.Stands.{IsFitted, IsBareAt, bare_with, IsUpAt, faults_at}
 use Rattle.vx_events.proofs.Values.{length-values_from, slice_index-values_from}
 
 pub keeps_still : (m new : Meaning) (u b : ℕ) (x : List ℕ) → Goes Nothing m new → Keeps m u b x → Keeps new u b x
@@ -163,7 +163,7 @@ first_spells site s is = subst (λ (t : State). CanSpellState t) (sym is) (recor
 })
 
 -- what the header of the log of a raw set keeps
-raw_state : (site : ℕ) (n : Node) → n ≡ bare_site n.name n.disks n.blocks → first_state site ≡ state_with (raw_set site n) []
+raw_state : (site : ℕ) (n : Node) → n ≡ bare_with n → first_state site ≡ state_with (raw_set site n) []
 raw_state site n is = sym (ap (λ (k : Node). state_with (raw_set site k) []) is)
 
 -- a block of zeros in a row of them

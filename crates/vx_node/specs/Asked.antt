@@ -1,25 +1,19 @@
 -- What a line asks of the rack of its site: a disk, a number of calls or a pick, as the rack itself takes them. Other lines make no disk fail,
 -- and a line that writes crashes the disks only where their fuse has no call left.
 use Rattle.std.specs.Prelude.{◌≡◌, ◌≢◌, ◌⊎◌, ℕ, Bool, true, false, Option, Some, None, slice_get, slice_set}
-use Rattle.vx_history.specs.World.{World}
+use Rattle.vx_history.specs.World.{Node, World}
 use Rattle.vx_disk.specs.Causes.{OnDisks, WithDisks}
 use Rattle.vx_disk.specs.Disks.{Disks, Crashed, SameBlocks, Untouched}
 use Rattle.vx_disk.specs.declared.shelf.Shelf.{Ghosts}
-use Rattle.vx_script.specs.declared.line.DiskState.{DiskState}
-use Rattle.vx_script.specs.declared.line.DiskState.TheVariants.{Fail, Work}
 use Rattle.vx_script.specs.declared.line.ScriptLine.{ScriptLine}
 use Rattle.vx_script.specs.declared.line.ScriptLine.TheVariants.{Site, Raw, Disk, Crash, Fuse, Recover, Write, Put, Read, Show, Apply, Status}
 use Rattle.vx_events.specs.declared.said.Said.{Said}
 use Rattle.vx_events.specs.Facts.{site_number}
+use Rattle.vx_events.specs.Failing.{is_failing}
 use Rattle.vx_node.specs.declared.disk_set.DiskSet.{DiskSet}
 use Rattle.vx_node.specs.declared.disk_set.DiskSet.TheVariants.{Bare, Spoiled, Up, Down, Gone}
 use Rattle.vx_node.specs.declared.yard.Yard.{Yard}
-use Rattle.vx_node.specs.Burning.{Burnt}
-
--- whether the calls on the disk are to fail
-abbrev pub is_failing : DiskState → Bool
-is_failing Fail = true
-is_failing Work = false
+use Rattle.vx_node.specs.Burning.{Burnt, NoMore, IsLogged}
 
 module _ {R : Type 0} {g : Ghosts R} where
   -- what is told of the disks of an disk set
@@ -62,6 +56,10 @@ module _ {R : Type 0} {g : Ghosts R} where
   pub record SameFailing (old new : DiskSet R g) : Type 0 where
     pub told : WithDisks (disks_in old) (disks_in new) (λ o n. (u : ℕ) → n.failing u ≡ o.failing u)
 
+  -- the disks that lines made fail are made to fail
+  pub record FailsAs (n : Node) (e : DiskSet R g) : Type 0 where
+    pub told : (d : Disks) → disks_in e ≡ Some d → (u : ℕ) → n.failing u ≡ true → d.failing u ≡ true
+
   -- no block, no fuse and no disk that is made to fail changed
   pub record LeavesAlone (old new : DiskSet R g) : Type 0 where
     pub told : OnDisks (disks_in old) (disks_in new) Untouched
@@ -71,8 +69,8 @@ module _ {R : Type 0} {g : Ghosts R} where
     pub told : OnDisks (disks_in old) (disks_in new) (λ o n. Crashed (size_in old) pick o n ⊎ Untouched o n)
 
   -- the calls of a line that was answered so
-  pub record LeavesFuse (least : ℕ) (said : Said) (old new : DiskSet R g) : Type 0 where
-    pub told : OnDisks (disks_in old) (disks_in new) (Burnt least said (size_in old))
+  pub record LeavesFuse (P : Disks → Disks → Type 0) (said : Said) (old new : DiskSet R g) : Type 0 where
+    pub told : OnDisks (disks_in old) (disks_in new) (Burnt P said (size_in old))
 
   -- the disk set of this site did so, and no other changed
   pub record OfSite (Did : DiskSet R g → DiskSet R g → Type 0) (site : ℕ) (old new : Yard R g) : Type 0 where
@@ -81,6 +79,10 @@ module _ {R : Type 0} {g : Ghosts R} where
     pub there : slice_get old.disk_sets.items site ≡ Some before
     pub disk_sets : new.disk_sets.items ≡ slice_set old.disk_sets.items site after
     pub did : Did before after
+
+  -- each disk of each site is made to fail or not as it was before
+  pub record AllSameFailing (old new : Yard R g) : Type 0 where
+    pub each : (s : ℕ) (after : DiskSet R g) → slice_get new.disk_sets.items s ≡ Some after → (before : DiskSet R g) × (slice_get old.disk_sets.items s ≡ Some before) × SameFailing before after
 
   -- what a line asks of the rack of its site, and of the others that they ask nothing of the kind
   abbrev pub AsAsked : World → ScriptLine → Yard R g → Yard R g → Type 0
@@ -98,9 +100,9 @@ module _ {R : Type 0} {g : Ghosts R} where
   AsAsked w (Status site) old new = new.disk_sets.items ≡ old.disk_sets.items
   AsAsked w other old new = Unit {0}
 
-  -- What the calls of a line that was answered so leave of the fuse of its site: a write that is done is four writes and flushes or more.
+  -- What the calls of a line that was answered so leave of the fuse of its site.
   abbrev pub HasCalled : World → ScriptLine → Said → Yard R g → Yard R g → Type 0
-  HasCalled w (Write site volume block count fill) said old new = OfSite (LeavesFuse 4 said) (site_number w site) old new
-  HasCalled w (Put site volume block bytes) said old new = OfSite (LeavesFuse 4 said) (site_number w site) old new
-  HasCalled w (Apply site count) said old new = OfSite (LeavesFuse 0 said) (site_number w site) old new
+  HasCalled w (Write site volume block count fill) said old new = OfSite (LeavesFuse IsLogged said) (site_number w site) old new
+  HasCalled w (Put site volume block bytes) said old new = OfSite (LeavesFuse IsLogged said) (site_number w site) old new
+  HasCalled w (Apply site count) said old new = OfSite (LeavesFuse NoMore said) (site_number w site) old new
   HasCalled w other said old new = Unit {0}

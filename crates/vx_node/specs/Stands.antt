@@ -30,9 +30,13 @@ pub record IsFitted (disks blocks : ℕ) (m : Meaning) : Type 0 where
   pub size : (u : ℕ) → u < disks → m.size u ≡ blocks
   pub up : IsFalse m.down
 
+-- a bare site with this name, these disks, and these of them made to fail
+abbrev pub bare_with : Node → Node
+bare_with n = record (bare_site n.name n.disks n.blocks) { failing = n.failing }
+
 -- the disks of a bare site: those behind the first hold zeros
 pub record IsBareAt (n : Node) (m : Meaning) : Type 0 where
-  pub is : n ≡ bare_site n.name n.disks n.blocks
+  pub is : n ≡ bare_with n
   pub fitted : IsFitted n.disks n.blocks m
   pub unarmed : IsFalse m.armed
   pub few : n.disks ≤ MOST_DISKS

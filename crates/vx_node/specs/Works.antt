@@ -19,6 +19,7 @@ use Rattle.vx_events.specs.Fuses.{IsExact}
 use Rattle.vx_events.specs.Facts.{site_number, volume_number}
 use Rattle.vx_events.specs.Views.{view_of}
 use Rattle.vx_events.specs.Ends.{IsNoDevice}
+use Rattle.vx_events.specs.Failing.{is_failing, made_fail}
 use Rattle.vx_events.specs.Fails.{Fails, AreBorne}
 use Rattle.vx_events.specs.Found.{SameDisks}
 use Rattle.vx_events.specs.Lines.{write_in}
@@ -105,7 +106,7 @@ Works told w (Site name disks blocks) fails said new =
     Cleanly fails said Done new (site_made w name disks blocks) ⊎ OnlyFails w.sites fails said new w
 Works told w (Raw site) fails said new =
     let s = site_number w site in Cleanly fails said Done new (raw_made w s) ⊎ OnlyFails s fails said new w
-Works told w (Disk site disk state) fails said new = Cleanly fails said Done new w
+Works told w (Disk site disk state) fails said new = Cleanly fails said Done new (made_fail w (site_number w site) disk (is_failing state))
 Works told w (Crash site pick) fails said new =
     let s = site_number w site in (mid : World) × Crashes w s mid × Cleanly fails said Done new mid
 Works told w (Fuse site calls pick) fails said new = Cleanly fails said Done new (fused w (site_number w site) calls)

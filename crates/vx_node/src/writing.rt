@@ -7,7 +7,7 @@ ghost use Rattle.vx_history.specs.World.{Node};
 ghost use Rattle.vx_ringio.specs.Spends.{Spends};
 ghost use Rattle.vx_srl.specs.Views.{free_of};
 ghost use Rattle.vx_node.specs.Asked.{LeavesFuse};
-ghost use Rattle.vx_node.specs.Burning.{OffIf, said_by};
+ghost use Rattle.vx_node.specs.Burning.{NoMore, IsLogged, OffIf, said_by};
 ghost use Rattle.vx_node.specs.DiskSets.{Later, CanWrite, WroteUp, is_off};
 ghost use Rattle.vx_node.specs.Rooms.{AppliedAs, RoomIs};
 ghost use Rattle.vx_node.specs.Stands.{IsUpAt, StandsAt};
@@ -95,7 +95,7 @@ fn write_group<R: Rack>(rvg: &mut Rvg<R>, volume: u32, start: u64, bytes: &[u8])
     requires whole { length bytes.now % 512 ≡ 0 }
     ensures wrote { (links : List KeptLink) (n : Node) → StandsAt links n (DiskSet.Up rvg.old) → CanWrite n volume start (blocks_in bytes.now)
         → WroteUp links n (record { volume = volume; start = start; bytes = bytes.now }) (DiskSet.Up rvg.old) (DiskSet.Up rvg.new) result }
-    ensures called { IsFalse (R.meaning rvg.old.shelf).down → LeavesFuse 4 (said_by result) (DiskSet.Up rvg.old) (DiskSet.Up rvg.new) }
+    ensures called { (links : List KeptLink) (n : Node) → IsUpAt links n rvg.old.core (R.meaning rvg.old.shelf) → LeavesFuse IsLogged (said_by result) (DiskSet.Up rvg.old) (DiskSet.Up rvg.new) }
     ensures later { Later (DiskSet.Up rvg.old) (DiskSet.Up rvg.new) }
 {
     if rvg.head() >= MOST_NUMBER {
@@ -134,7 +134,7 @@ impl<R: Rack> DiskSet<R> {
         requires whole { length bytes.now % 512 ≡ 0 }
         ensures wrote { (links : List KeptLink) (n : Node) → StandsAt links n self.old → CanWrite n volume start (blocks_in bytes.now)
             → WroteAt links n (record { volume = volume; start = start; bytes = bytes.now }) self.old self.new result }
-        ensures called { (links : List KeptLink) (n : Node) → StandsAt links n self.old → LeavesFuse 4 (said_by result) self.old self.new }
+        ensures called { (links : List KeptLink) (n : Node) → StandsAt links n self.old → LeavesFuse IsLogged (said_by result) self.old self.new }
         ensures later { Later self.old self.new }
     {
         match self.write_up(volume, start, bytes) {
@@ -157,7 +157,7 @@ impl<R: Rack> DiskSet<R> {
         requires whole { length bytes.now % 512 ≡ 0 }
         ensures wrote { (links : List KeptLink) (n : Node) → StandsAt links n self.old → CanWrite n volume start (blocks_in bytes.now)
             → WroteUp links n (record { volume = volume; start = start; bytes = bytes.now }) self.old self.new result }
-        ensures called { (links : List KeptLink) (n : Node) → StandsAt links n self.old → LeavesFuse 4 (said_by result) self.old self.new }
+        ensures called { (links : List KeptLink) (n : Node) → StandsAt links n self.old → LeavesFuse IsLogged (said_by result) self.old self.new }
         ensures later { Later self.old self.new }
     {
         match self {
@@ -203,7 +203,7 @@ impl<R: Rack> DiskSet<R> {
     /// runs out crashes.
     pub fn apply(&mut self, to: u64) -> Result<u64, No>
         ensures applied { (links : List KeptLink) (n : Node) → StandsAt links n self.old → CanApply n → AppliedAt links n to self.old self.new result }
-        ensures called { (links : List KeptLink) (n : Node) → StandsAt links n self.old → LeavesFuse 0 (said_by result) self.old self.new }
+        ensures called { (links : List KeptLink) (n : Node) → StandsAt links n self.old → LeavesFuse NoMore (said_by result) self.old self.new }
         ensures later { Later self.old self.new }
     {
         match self.apply_up(to) {
@@ -221,7 +221,7 @@ impl<R: Rack> DiskSet<R> {
     // The same, before it crashes.
     fn apply_up(&mut self, to: u64) -> Result<u64, No>
         ensures applied { (links : List KeptLink) (n : Node) → StandsAt links n self.old → CanApply n → AppliedUp links n to self.old self.new result }
-        ensures called { (links : List KeptLink) (n : Node) → StandsAt links n self.old → LeavesFuse 0 (said_by result) self.old self.new }
+        ensures called { (links : List KeptLink) (n : Node) → StandsAt links n self.old → LeavesFuse NoMore (said_by result) self.old self.new }
         ensures later { Later self.old self.new }
     {
         match self {

@@ -9,8 +9,10 @@ use Rattle.vx_node.specs.declared.disk_set.DiskSet.TheVariants.{Up}
 use Rattle.vx_model.specs.declared.limits.TheConstants.{MOST_NUMBER}
 use Rattle.vx_model.specs.declared.no.No.TheVariants.{Limit, Down}
 use Rattle.vx_model.specs.declared.no.Counted.TheVariants.{Number}
+use Rattle.vx_model.specs.declared.units.Units.{Units}
+use Rattle.vx_node.specs.Burning.{IsLogged}
 use Rattle.vx_ringio.proofs.Spending.{then_spends}
-use Rattle.vx_node.proofs.CallsBurn.{called_by, called_still, least_since, write_off}
+use Rattle.vx_node.proofs.CallsBurn.{called_by, called_still, is_logged, least_since, write_off}
 use Rattle.vx_node.proofs.writing.write_group.Goals as goal
 
 pub returns-then-head-ge-MOST_NUMBER-clause-wrote : goal.returns-then-head-ge-MOST_NUMBER-clause-wrote
@@ -62,22 +64,24 @@ returns-clause-wrote g c = λ links n stands can.
     (λ hand. (c.in_ok-make_room.ensures.idle hand).1) c.write-answer.result c.write-answer.ensures.calls)))
 
 pub returns-then-head-ge-MOST_NUMBER-clause-called : goal.returns-then-head-ge-MOST_NUMBER-clause-called
-returns-then-head-ge-MOST_NUMBER-clause-called g c = λ up. called_still 4 (Limit Number MOST_NUMBER) (Up c.args.rvg.now) refl
+returns-then-head-ge-MOST_NUMBER-clause-called g c = λ links n up. called_still IsLogged (Limit Number MOST_NUMBER) (Up c.args.rvg.now) refl
 
 pub returns-in_err-make_room-clause-called : goal.returns-in_err-make_room-clause-called
-returns-in_err-make_room-clause-called g c = λ up.
+returns-in_err-make_room-clause-called g c = λ links n up.
     let p = err_from_is_err_and c.from_residual.result c.from_residual.ensures.1 in
-    rw (p.1, p.2) (called_by 4 (Err c.in_err-make_room.field-0.0) c.args.rvg.now c.make_room.new.rvg up (c.in_err-make_room.ensures.off up) tt c.make_room.ensures.spends)
+    rw (p.1, p.2) (called_by IsLogged (Err c.in_err-make_room.field-0.0) c.args.rvg.now c.make_room.new.rvg up.up (c.in_err-make_room.ensures.off up.up) tt c.make_room.ensures.spends)
 
 pub returns-then-is_down-clause-called : goal.returns-then-is_down-clause-called
-returns-then-is_down-clause-called g c = λ up.
-    called_by 4 (Err Down) c.args.rvg.now c.write-answer.new.self up (sym c.is_down.ensures ∙ c.if-is_down.true) tt
+returns-then-is_down-clause-called g c = λ links n up.
+    called_by IsLogged (Err Down) c.args.rvg.now c.write-answer.new.self up.up (sym c.is_down.ensures ∙ c.if-is_down.true) tt
     (then_spends (g.R.Shelf.meaning c.args.rvg.now.shelf) (g.R.Shelf.meaning c.make_room.new.rvg.shelf) (g.R.Shelf.meaning c.write-answer.new.self.shelf) c.make_room.ensures.spends c.write-answer.ensures.spends)
 
 pub returns-clause-called : goal.returns-clause-called
-returns-clause-called g c = λ up.
-    called_by 4 c.write-answer.result c.args.rvg.now c.write-answer.new.self up
+returns-clause-called g c = λ links n up.
+    called_by IsLogged c.write-answer.result c.args.rvg.now c.write-answer.new.self up.up
     (write_off c.make_room.new.rvg.core c.args.volume _ c.args.start (blocks_in c.args.bytes.now) c.args.bytes.now (g.R.Shelf.meaning c.make_room.new.rvg.shelf) (g.R.Shelf.meaning c.write-answer.new.self.shelf) c.write-answer.new.self.core c.write-answer.result
     (sym c.is_down.ensures ∙ c.if-is_down.false) c.write-answer.ensures.answers)
-    (least_since 4 c.write-answer.result (g.R.Shelf.meaning c.args.rvg.now.shelf) (g.R.Shelf.meaning c.make_room.new.rvg.shelf) (g.R.Shelf.meaning c.write-answer.new.self.shelf) (c.in_ok-make_room.ensures.off up) c.make_room.ensures.spends c.write-answer.ensures.least)
+    (is_logged c.write-answer.result (g.R.Shelf.meaning c.args.rvg.now.shelf) (g.R.Shelf.meaning c.make_room.new.rvg.shelf) (g.R.Shelf.meaning c.write-answer.new.self.shelf) c.make_room.new.rvg.core.log.unit
+    (c.make_room.new.rvg.sound.log_unit ∙ ap (λ (u : Units). u.srl) (c.make_room.ensures.units ∙ up.units)) c.make_room.ensures.spends
+    (least_since 4 c.write-answer.result (g.R.Shelf.meaning c.args.rvg.now.shelf) (g.R.Shelf.meaning c.make_room.new.rvg.shelf) (g.R.Shelf.meaning c.write-answer.new.self.shelf) (c.in_ok-make_room.ensures.off up.up) c.make_room.ensures.spends c.write-answer.ensures.least) c.write-answer.ensures.works)
     (then_spends (g.R.Shelf.meaning c.args.rvg.now.shelf) (g.R.Shelf.meaning c.make_room.new.rvg.shelf) (g.R.Shelf.meaning c.write-answer.new.self.shelf) c.make_room.ensures.spends c.write-answer.ensures.spends)

@@ -1,5 +1,6 @@
 use Rattle.std.proofs.Common.{sym, ◌∙◌}
 use Rattle.vx_node.proofs.CrashGroup.{applied_off, applied_on}
+use Rattle.vx_node.specs.Burning.{NoMore}
 use Rattle.vx_node.proofs.CallsBurn.{called_cut}
 use Rattle.vx_node.proofs.disk_set.DiskSet.apply.Goals as goal
 
@@ -13,7 +14,7 @@ returns-else-is_off-clause-applied g c = λ links n stands can.
 
 pub returns-then-is_off-clause-called : goal.returns-then-is_off-clause-called
 returns-then-is_off-clause-called g c = λ links n stands.
-    called_cut 0 c.in-Err.no 0xffff_ffff_ffff_ffff c.args.self.now c.apply_up.new.self c.fall.new.self (sym c.is_off.ensures ∙ c.if-is_off.true) (c.in-Err.ensures.called links n stands) c.fall.ensures.stopped
+    called_cut NoMore c.in-Err.no 0xffff_ffff_ffff_ffff c.args.self.now c.apply_up.new.self c.fall.new.self (sym c.is_off.ensures ∙ c.if-is_off.true) (c.in-Err.ensures.called links n stands) c.fall.ensures.stopped
 
 pub returns-else-is_off-clause-called : goal.returns-else-is_off-clause-called
 returns-else-is_off-clause-called g c = λ links n stands. c.in-Err.ensures.called links n stands

@@ -1,6 +1,7 @@
 use Rattle.std.proofs.Common.{sym, ◌∙◌}
 use Rattle.vx_history.specs.Steps.{half_begun}
 use Rattle.vx_node.proofs.CrashGroup.{wrote_off, wrote_on}
+use Rattle.vx_node.specs.Burning.{IsLogged}
 use Rattle.vx_node.proofs.CallsBurn.{called_cut}
 use Rattle.vx_node.proofs.disk_set.DiskSet.write.Goals as goal
 
@@ -15,7 +16,7 @@ returns-else-is_off-clause-wrote g c = λ links n stands can.
 
 pub returns-then-is_off-clause-called : goal.returns-then-is_off-clause-called
 returns-then-is_off-clause-called g c = λ links n stands.
-    called_cut 4 c.in-Err.no 0xffff_ffff_ffff_ffff c.args.self.now c.write_up.new.self c.fall.new.self (sym c.is_off.ensures ∙ c.if-is_off.true) (c.in-Err.ensures.called links n stands) c.fall.ensures.stopped
+    called_cut IsLogged c.in-Err.no 0xffff_ffff_ffff_ffff c.args.self.now c.write_up.new.self c.fall.new.self (sym c.is_off.ensures ∙ c.if-is_off.true) (c.in-Err.ensures.called links n stands) c.fall.ensures.stopped
 
 pub returns-else-is_off-clause-called : goal.returns-else-is_off-clause-called
 returns-else-is_off-clause-called g c = λ links n stands. c.in-Err.ensures.called links n stands

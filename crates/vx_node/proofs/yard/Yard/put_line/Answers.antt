@@ -3,6 +3,7 @@ use Rattle.vx_script.specs.declared.line.ScriptLine.TheVariants.{Put as PutLine}
 use Rattle.vx_node.specs.Working.{IsFree}
 use Rattle.vx_node.specs.Writes.WriteFree.{ByPut}
 use Rattle.vx_node.proofs.WriteLine.{put_answered}
+use Rattle.vx_node.specs.Burning.{IsLogged}
 use Rattle.vx_node.proofs.KeepsFailing.{called_keeps}
 use Rattle.vx_node.proofs.yard.Yard.put_line.Goals as goal
 
@@ -19,4 +20,4 @@ pub returns-clause-called : goal.returns-clause-called
 returns-clause-called g c = λ w stands. c.write_blocks.ensures.called w stands
 
 pub returns-clause-asked : goal.returns-clause-asked
-returns-clause-asked g c = λ w stands. called_keeps 4 c.write_blocks.result _ c.args.self.now _ (c.write_blocks.ensures.called w stands)
+returns-clause-asked g c = λ w stands. called_keeps IsLogged c.write_blocks.result _ c.args.self.now _ (c.write_blocks.ensures.called w stands)

@@ -1,11 +1,13 @@
 -- The work of a line that no test refuses.
-use Rattle.std.proofs.Common.{subst, sym}
+use Rattle.std.proofs.Common.{subst, sym, refl}
 use Rattle.vx_node.specs.Working.{IsFree}
 use Rattle.vx_node.specs.Yards.{in_files}
 use Rattle.vx_events.proofs.Refused.{site_may}
 use Rattle.vx_node.specs.Asked.{AsAsked}
 use Rattle.vx_events.proofs.RefusedCalls.{write_may, read_may, show_may}
 use Rattle.vx_node.specs.Asked.{LeavesAlone, SameFailing}
+use Rattle.vx_events.specs.Facts.{site_number}
+use Rattle.vx_node.proofs.FailsStay.{if_err, same_told, still_told}
 use Rattle.vx_node.proofs.KeepsFailing.{alone_same, failing_same, unbegun}
 use Rattle.vx_node.proofs.yard.Yard.work.Goals as goal
 
@@ -77,6 +79,24 @@ returns-in_err-room-in-Show-clause-asked g c = λ w stands.
     let free = subst (λ line. IsFree y line) c.in-Show.is c.requires.free in
     subst (λ line. AsAsked w line y y) (sym c.in-Show.is)
     (unbegun LeavesAlone w y c.in-Show.site alone_same stands (show_may y.facts.items (in_files y) c.in-Show.site c.in-Show.volume c.in-Show.block c.in-Show.count free).site)
+
+pub returns-in-Site-clause-short : goal.returns-in-Site-clause-short
+returns-in-Site-clause-short g c = if_err c.make_site.result (same_told c.requires.kept.world.sites c.args.self.now _ (c.make_site.ensures.asked c.requires.kept.world c.requires.kept.agrees))
+
+pub returns-in-Raw-clause-short : goal.returns-in-Raw-clause-short
+returns-in-Raw-clause-short g c = if_err c.make_raw.result (same_told (site_number c.requires.kept.world c.in-Raw.site) c.args.self.now _ (c.make_raw.ensures.asked c.requires.kept.world c.requires.kept.agrees))
+
+pub returns-in-Recover-clause-short : goal.returns-in-Recover-clause-short
+returns-in-Recover-clause-short g c = if_err c.recover_line.result (same_told (site_number c.requires.kept.world c.in-Recover.site) c.args.self.now _ (c.recover_line.ensures.asked c.requires.kept.world c.requires.kept.agrees))
+
+pub returns-in_err-bytes-in-Write-clause-short : goal.returns-in_err-bytes-in-Write-clause-short
+returns-in_err-bytes-in-Write-clause-short g c = if_err _ (still_told c.args.self.now c.args.self.now refl)
+
+pub returns-in_err-room-in-Read-clause-short : goal.returns-in_err-room-in-Read-clause-short
+returns-in_err-room-in-Read-clause-short g c = if_err _ (still_told c.args.self.now c.args.self.now refl)
+
+pub returns-in_err-room-in-Show-clause-short : goal.returns-in_err-room-in-Show-clause-short
+returns-in_err-room-in-Show-clause-short g c = if_err _ (still_told c.args.self.now c.args.self.now refl)
 
 pub returns-in_ok-room-in-Read-clause-asked : goal.returns-in_ok-room-in-Read-clause-asked
 returns-in_ok-room-in-Read-clause-asked g c = λ w stands. subst (λ line. AsAsked w line c.args.self.now c.read_line.new.self) (sym c.in-Read.is) (c.read_line.ensures.asked w stands)

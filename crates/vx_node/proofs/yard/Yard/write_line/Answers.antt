@@ -5,6 +5,7 @@ use Rattle.vx_node.specs.Writes.WriteFree.{ByWrite}
 use Rattle.vx_node.specs.Yards.{in_files}
 use Rattle.vx_node.proofs.WriteLine.{write_answered}
 use Rattle.vx_node.proofs.yard.Yard.write_line.Goals.{then-count-lt1-via-then-count-lt1, then-count-lt1-via-else-count-lt1+then-count-gt-MOST_CALL_BLOCKS}
+use Rattle.vx_node.specs.Burning.{IsLogged}
 use Rattle.vx_node.proofs.KeepsFailing.{called_keeps}
 use Rattle.vx_node.proofs.yard.Yard.write_line.Goals as goal
 
@@ -32,4 +33,4 @@ pub returns-clause-called : goal.returns-clause-called
 returns-clause-called g c = λ w stands. c.write_blocks.ensures.called w stands
 
 pub returns-clause-asked : goal.returns-clause-asked
-returns-clause-asked g c = λ w stands. called_keeps 4 c.write_blocks.result _ c.args.self.now _ (c.write_blocks.ensures.called w stands)
+returns-clause-asked g c = λ w stands. called_keeps IsLogged c.write_blocks.result _ c.args.self.now _ (c.write_blocks.ensures.called w stands)
