@@ -90,17 +90,21 @@ fn tests_a_further_link(rt: HostRuntime) -> Result<(), Fail> {
     assert_eq!(rt; refuse(&sites, false, &made(a, a)), Some(No::Role));
     assert_eq!(rt; refuse(&sites, false, &made(a, c)), Some(No::Role));
     assert_eq!(rt; refuse(&sites, false, &made(c, b)), Some(No::Role));
+    let mut first = primary(rt.alloc(), a, 0, 0)?;
     for number in 2..6 {
-        sites[0].links.push(LinkFacts {
+        first.links.push(LinkFacts {
             link: link(number, SyncMode::Off, true, Mode::Log),
             used: 0,
         })?;
     }
+    let mut more = Vec::new(rt.alloc());
+    more.push(first)?;
+    more.push(primary(rt.alloc(), b, 1, 0)?)?;
     let full = No::Limit {
         what: Counted::Links,
         most: 4,
     };
-    assert_eq!(rt; refuse(&sites, false, &made(a, b)), Some(full));
+    assert_eq!(rt; refuse(&more, false, &made(a, b)), Some(full));
     assert_eq!(rt;
         refuse_packet(9, 10),
         Some(No::Unknown {
@@ -176,13 +180,14 @@ fn tests_a_link_that_stands(rt: HostRuntime) -> Result<(), Fail> {
             Some(No::Unknown { what: Named::Of(a) }),
         ),
     ] {
-        let mut sites = Vec::new(rt.alloc());
-        sites.push(primary(rt.alloc(), a, 0, 3)?)?;
-        sites.push(primary(rt.alloc(), b, 1, 0)?)?;
-        sites[0].links.push(LinkFacts {
+        let mut first = primary(rt.alloc(), a, 0, 3)?;
+        first.links.push(LinkFacts {
             link: link(1, sync, connected, mode),
             used: 7,
         })?;
+        let mut sites = Vec::new(rt.alloc());
+        sites.push(first)?;
+        sites.push(primary(rt.alloc(), b, 1, 0)?)?;
         assert_eq!(rt; refuse(&sites, false, &line), wanted);
     }
     Ok(())
