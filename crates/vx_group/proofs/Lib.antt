@@ -23,3 +23,4 @@ pub mod FinishLemmas
 pub mod SourceLemmas
 pub mod ImportLemmas
 pub mod CrashLemmas
+pub mod UntoldLemmas

@@ -14,3 +14,4 @@ pub mod Makes
 pub mod Nexts
 pub mod Finishes
 pub mod Imports
+pub mod Untold

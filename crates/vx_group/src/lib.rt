@@ -31,6 +31,10 @@ pub use group::Group;
 pub use group_core::GroupCore;
 
 #[cfg(test)]
+mod import_tests;
+#[cfg(test)]
 mod tests;
+#[cfg(test)]
+mod untold;
 #[cfg(test)]
 mod volume_tests;

@@ -8,7 +8,7 @@ use vx_layout::Shape;
 use vx_model::{Counted, Name, No, OutOfMemory, Stop};
 
 #[derive(Clone, Copy, Debug, PartialEq, Eq)]
-enum Told {
+pub enum Told {
     Done,
     Volume(u32),
     Block(u8),
@@ -21,10 +21,12 @@ enum Told {
     Small,
     LastPlex,
     Unknown,
+    Missing(u32),
+    NoConfig,
     Other,
 }
 
-fn told_of(stop: Stop) -> Told {
+pub fn told_of(stop: Stop) -> Told {
     match stop {
         Stop::No(No::Device { disk }) => Told::Device(disk),
         Stop::No(No::Down) => Told::Down,
@@ -34,12 +36,14 @@ fn told_of(stop: Stop) -> Told {
         Stop::No(No::Size) => Told::Small,
         Stop::No(No::LastPlex) => Told::LastPlex,
         Stop::No(No::Unknown { .. }) => Told::Unknown,
+        Stop::No(No::Missing { disk }) => Told::Missing(disk),
+        Stop::No(No::NoConfig) => Told::NoConfig,
         _ => Told::Other,
     }
 }
 
 // So many blocks on so many concatenated plexes.
-fn plain(blocks: u64, mirrors: u32) -> Shape {
+pub fn plain(blocks: u64, mirrors: u32) -> Shape {
     Shape {
         blocks,
         mirrors,
@@ -51,7 +55,7 @@ fn plain(blocks: u64, mirrors: u32) -> Shape {
     }
 }
 
-fn make<S: Shelf>(alloc: Global, group: &mut Group<S>, name: &[u8], want: &Shape) -> Told {
+pub fn make<S: Shelf>(alloc: Global, group: &mut Group<S>, name: &[u8], want: &Shape) -> Told {
     if name.is_empty() || name.len() > 8 || want.prefer.is_some() {
         return Told::Other;
     }
@@ -62,7 +66,7 @@ fn make<S: Shelf>(alloc: Global, group: &mut Group<S>, name: &[u8], want: &Shape
 }
 
 // Writes one block of these bytes.
-fn put<S: Shelf>(shelf: &mut S, unit: u32, block: u64, byte: u8) -> Told {
+pub fn put<S: Shelf>(shelf: &mut S, unit: u32, block: u64, byte: u8) -> Told {
     if unit >= shelf.units() || block >= shelf.size(unit) {
         return Told::Other;
     }
@@ -74,7 +78,7 @@ fn put<S: Shelf>(shelf: &mut S, unit: u32, block: u64, byte: u8) -> Told {
 }
 
 // Reads one block, and tells its byte.
-fn get<S: Shelf>(shelf: &mut S, unit: u32, block: u64) -> Told {
+pub fn get<S: Shelf>(shelf: &mut S, unit: u32, block: u64) -> Told {
     if unit >= shelf.units() || block >= shelf.size(unit) {
         return Told::Other;
     }
@@ -93,7 +97,7 @@ fn get<S: Shelf>(shelf: &mut S, unit: u32, block: u64) -> Told {
     }
 }
 
-fn flush<S: Shelf>(shelf: &mut S, unit: u32) -> Told {
+pub fn flush<S: Shelf>(shelf: &mut S, unit: u32) -> Told {
     if unit >= shelf.units() {
         return Told::Other;
     }
@@ -111,7 +115,7 @@ fn det<S: Shelf>(group: &mut Group<S>, volume: u32, plex: u32) -> Told {
     }
 }
 
-fn state(config: &Config, volume: usize, plex: usize) -> Option<PlexState> {
+pub fn state(config: &Config, volume: usize, plex: usize) -> Option<PlexState> {
     match config.volumes.as_slice().get(volume) {
         Some(volume) => match volume.plexes.as_slice().get(plex) {
             Some(plex) => Some(plex.state),
