@@ -26,3 +26,4 @@ pub mod CrashLemmas
 pub mod OpeningLemmas
 pub mod AttachLemmas
 pub mod GiveLemmas
+pub mod UntoldLemmas

@@ -16,3 +16,4 @@ pub mod Finishes
 pub mod Imports
 pub mod GivesUp
 pub mod Attaches
+pub mod Untold
