@@ -1,3 +1,4 @@
 pub mod Flying
 pub mod Parts
 pub mod Joining
+pub mod Singles

@@ -5,7 +5,9 @@
 
 mod finding;
 pub mod laws;
+mod reading;
 mod sending;
 
 pub use finding::part_at;
+pub use reading::read_one;
 pub use sending::send_message;

@@ -24,6 +24,7 @@ pub use key::Key;
 pub use map_bytes::MapBytes;
 pub use message::{Envelope, Message};
 pub use part::{Part, decode};
+pub use reading::read_message;
 pub use region_bytes::RegionBytes;
 
 #[cfg(test)]

@@ -22,8 +22,8 @@ use Rattle.vx_history.specs.declared.receiver.REvent.TheVariants.{Update as Hear
 use Rattle.vx_history.specs.declared.receiver.RState.{RState}
 use Rattle.vx_history.proofs.Updates.{at_place}
 use Rattle.vx_courier.specs.Together.{AreOne, AssemblyStands, ComesFrom, IsPutTo}
-use Rattle.vx_courier.specs.UnderWay.{CanFly, FlightStands, carrier, part_carried}
-use Rattle.vx_courier.proofs.Flying.{at_number, can_fly, place_of_number}
+use Rattle.vx_courier.specs.UnderWay.{CanFly, FlightStands, carrier, part_carried, way_of}
+use Rattle.vx_courier.proofs.Flying.{place_of_number}
 use Rattle.vx_courier.proofs.Joining.{put_together}
 use Rattle.vx_net.specs.Flights.{Flying, greatest, packet_at as bytes_at}
 use Rattle.vx_packet.specs.Assemblies.{Assembled, Held, Takes}
@@ -39,24 +39,10 @@ use Rattle.vx_rvg.specs.Holdings.{update_of as update_on}
 use Rattle.vx_rvg.specs.Views.{Core}
 use Rattle.vx_secondary.specs.Answers.{KeptIf, TakeIs, TakenBy, action_of}
 use Rattle.vx_secondary.specs.Receivers.{can_log, receiver_of, write_of}
+use Rattle.vx_peers.proofs.Found.{read_so}
 use Rattle.vx_peers.specs.Receivers.{GatheredBy, GatheredIs, Receives, SendsOn, StandsFor, update_of, waits_now}
 
-some_same : {A : Type 0} (x y : A) → Some x ≡ Some y → x ≡ y
-some_same x y e = cc
-
 -- ---- what is read of a packet
-
-line_of_part : (e : Envelope) (m : Spelled) (k : ℕ) → (part_of e m k).line ≡ e.line
-unfolding part_of
-line_of_part e m k = refl
-
-source_of_part : (e : Envelope) (m : Spelled) (k : ℕ) → (part_of e m k).source ≡ e.source
-unfolding part_of
-source_of_part e m k = refl
-
-number_of_part : (e : Envelope) (m : Spelled) (k : ℕ) → (part_of e m k).number ≡ (row m).number
-unfolding part_of
-number_of_part e m k = refl
 
 pub record ReadOf (p : Packet) (k : ℕ) (bytes : List ℕ) (part : Part) : Type 0 where
   pub part_is : part ≡ part_carried p
@@ -66,46 +52,27 @@ pub record ReadOf (p : Packet) (k : ℕ) (bytes : List ℕ) (part : Part) : Type
   pub source : part.source ≡ p.source
   pub number : part.number ≡ k
 
+number_of_part : (e : Envelope) (m : Spelled) (k : ℕ) → (part_of e m k).number ≡ (row m).number
+unfolding part_of
+number_of_part e m k = refl
+
 module _ (w : World) (number : ℕ) (p : Packet) (k : ℕ) (x : Write) (at : packet_at w.packets number ≡ Some p) (message : p.message ≡ Update k x) (f : Flying) (flight : FlightStands w.packets f) where
-  bytes_are_kept : bytes_at f number ≡ Some (carrier p)
-  bytes_are_kept = at_number w.packets f number flight ∙ ap (λ (o : Option Packet). by_option o) at
-    where
-      by_option : Option Packet → Option (List ℕ)
-      by_option None = None
-      by_option (Some q) = Some (carrier q)
-
-  pub never_none : None ≡ bytes_at f number → ⊥
-  never_none is = let e : None ≡ Some (carrier p) = is ∙ bytes_are_kept in absurd (cc)
-
   abbrev place : ℕ
   place = (place_of_number w.packets number p at).0
 
   there : slice_get w.packets place ≡ Some p
   there = (place_of_number w.packets number p at).2
 
-  flies : CanFly p
-  flies = can_fly w.packets f flight place p there
-
-  same_bytes : (bytes : List ℕ) → Some bytes ≡ bytes_at f number → bytes ≡ carrier p
-  same_bytes bytes is = some_same bytes (carrier p) (is ∙ bytes_are_kept)
-
-  pub never_other : (bytes : List ℕ) → Some bytes ≡ bytes_at f number → (r : Option Part) → ((q : Part) → IsPacket bytes q → r ≡ Some q) → r ≡ None → ⊥
-  never_other bytes some r only none =
-      let found : r ≡ Some (part_carried p) = only (part_carried p) (subst (λ (bs : List ℕ). IsPacket bs (part_carried p)) (sym (same_bytes bytes some)) flies.packet) in
-      let e : None ≡ Some (part_carried p) = sym none ∙ found in absurd (cc)
-
   pub read_of : (bytes : List ℕ) (part : Part) → Some bytes ≡ bytes_at f number → (r : Option Part) → ((q : Part) → IsPacket bytes q → r ≡ Some q) → r ≡ Some part → ReadOf p k bytes part
   read_of bytes part some r only is =
-      let found : r ≡ Some (part_carried p) = only (part_carried p) (subst (λ (bs : List ℕ). IsPacket bs (part_carried p)) (sym (same_bytes bytes some)) flies.packet) in
-      let same : part ≡ part_carried p = some_same part (part_carried p) (sym is ∙ found) in
-      let way : Envelope = record { source = p.source; target = p.target; line = p.line } in
+      let read = read_so w.packets number p at f flight bytes part some r only is in
       record {
-        part_is = same;
-        bytes_are = same_bytes bytes some;
-        fly = flies;
-        line = ap (λ (q : Part). q.line) same ∙ line_of_part way (spelled p.message) p.part;
-        source = ap (λ (q : Part). q.source) same ∙ source_of_part way (spelled p.message) p.part;
-        number = ap (λ (q : Part). q.number) same ∙ number_of_part way (spelled p.message) p.part ∙ ap (λ (m : Message). (row (spelled m)).number) message;
+        part_is = read.part_is;
+        bytes_are = read.bytes_are;
+        fly = read.fly;
+        line = read.line;
+        source = read.source;
+        number = ap (λ (q : Part). q.number) read.part_is ∙ number_of_part (way_of p) (spelled p.message) p.part ∙ ap (λ (m : Message). (row (spelled m)).number) message;
       }
 
   -- ---- what the world makes of it

@@ -8,16 +8,17 @@ use Rattle.vx_history.specs.declared.event.Said.TheVariants.{Ignored as IsIgnore
 use Rattle.vx_model.specs.declared.state.State.{State}
 use Rattle.vx_model.specs.declared.history.Line.{Line}
 use Rattle.vx_peers.specs.Receivers.{GatheredIs, Receives, SendsOn, StandsFor}
-use Rattle.vx_peers.proofs.Delivers.{again_at, ignored_at, never_lost, never_none, never_other, read_of, rule_is, some_kept, some_waits}
+use Rattle.vx_peers.proofs.Delivers.{again_at, ignored_at, never_lost, read_of, rule_is, some_kept, some_waits}
+use Rattle.vx_peers.proofs.Found.{never_none, never_other}
 use Rattle.vx_peers.proofs.delivering.deliver_update.Goals as goal
 
 pub returns-in_default-get-clause-delivered : goal.returns-in_default-get-clause-delivered
 returns-in_default-get-clause-delivered g c = λ w p k x at target message one flight receives stands fits.
-    absurd (never_none w c.args.number p k x at message (g.N.Net.flying c.args.flight.now) flight c.in_default-get.ensures.packet)
+    absurd (never_none w.packets c.args.number p at (g.N.Net.flying c.args.flight.now) flight c.in_default-get.ensures.packet)
 
 pub returns-in_default-decode-clause-delivered : goal.returns-in_default-decode-clause-delivered
 returns-in_default-decode-clause-delivered g c = λ w p k x at target message one flight receives stands fits.
-    absurd (never_other w c.args.number p k x at message (g.N.Net.flying c.args.flight.now) flight c.in-Some-get.bytes.now c.in-Some-get.ensures.packet c.decode.result c.decode.ensures.only c.in_default-decode.is)
+    absurd (never_other w.packets c.args.number p at (g.N.Net.flying c.args.flight.now) flight c.in-Some-get.bytes.now c.in-Some-get.ensures.packet c.decode.result c.decode.ensures.only c.in_default-decode.is)
 
 pub returns-in-Nothing : goal.returns-in-Nothing
 returns-in-Nothing g c = record {
