@@ -1,11 +1,13 @@
 -- What the calls of a line leave of the fuse of its site.
-use Rattle.std.proofs.Common.{◌≡◌, ◌∙◌, ◌⊎◌, inl, inr, ℕ, Bool, true, false, ap, sym, subst, refl, List, IsTrue, arith}
+use Rattle.std.proofs.Common.{◌≡◌, ◌∙◌, ◌⊎◌, ◌<◌, inl, inr, ℕ, Bool, true, false, ap, sym, subst, refl, List, IsTrue, arith}
 use Rattle.std.specs.Prelude.{Option, Some, None, Result, Ok, Err, OnOk, IsFalse, if◌then◌else◌, leb, ltb, ◌&&◌, ◌||◌, ◌+◌, slice_get, slice_set}
 use Rattle.vx_model.specs.Answer.{is_too_large}
 use Rattle.vx_model.specs.declared.no.No.{No}
 use Rattle.vx_model.specs.declared.no.No.TheVariants.{Device, Halted, Size, Range, Limit, Role, Down as IsDown}
 use Rattle.vx_model.specs.declared.state.KeptLink.{KeptLink}
 use Rattle.vx_model.specs.declared.no.Counted.TheVariants.{Number}
+use Rattle.vx_model.specs.Content.{blocks_in}
+use Rattle.vx_disk.specs.Burns.{FallsShort, RackIsShort}
 use Rattle.vx_disk.specs.Causes.{OnDisks, WithDisks, Works as IsWorking}
 use Rattle.vx_disk.specs.Disks.{Disks, Crashed, RanOut, Untouched}
 use Rattle.vx_disk.specs.Shelf.{Meaning}
@@ -17,12 +19,12 @@ use Rattle.vx_rvg.specs.Groups.{ApplyIs, Fails, WriteIs, unless_halted, write_re
 use Rattle.vx_rvg.specs.Saves.{SaveIs, reclaim_refusal}
 use Rattle.vx_rvg.specs.Views.{Core, last_of}
 use Rattle.vx_rvg.specs.declared.group.Rvg.{Rvg}
-use Rattle.vx_srl.specs.Views.{most_number}
+use Rattle.vx_srl.specs.Views.{BodyFits, free_of, most_number}
 use Rattle.vx_events.specs.Facts.{seat_of, site_number}
 use Rattle.vx_events.specs.declared.said.Said.{Said}
 use Rattle.vx_events.specs.declared.said.Said.TheVariants.{Refused}
 use Rattle.vx_history.specs.World.{Node, World}
-use Rattle.vx_node.specs.Asked.{LeavesFuse, MayCrash, OfSite, disks_in, size_in}
+use Rattle.vx_node.specs.Asked.{CutsShort, LeavesFuse, MayCrash, WritesUnder, OfSite, disks_in, size_in}
 use Rattle.vx_node.specs.Burning.{Burnt, NoMore, IsLogged, OffIf, said_by}
 use Rattle.vx_node.specs.DiskSets.{is_off}
 use Rattle.vx_node.specs.Stands.{IsUpAt, StandsAlone, StandsAt}
@@ -36,15 +38,15 @@ use Rattle.vx_node.proofs.StaysUp.{never_both}
 
 -- ---- a shelf that is up behind a call of its group was not found down
 
-abbrev never_off : Option No → Type 0
-never_off None = Unit {0}
-never_off (Some why) = is_off why ≡ false
+abbrev never_down : Option No → Type 0
+never_down None = Unit {0}
+never_down (Some why) = is_off why ≡ false
 
-one_of : (b : Bool) (x y : Option No) → never_off x → never_off y → never_off (if b then x else y)
+one_of : (b : Bool) (x y : Option No) → never_down x → never_down y → never_down (if b then x else y)
 one_of true x y one two = one
 one_of false x y one two = two
 
-unless : (halted : Option ℕ) (rest : Option No) → never_off rest → never_off (unless_halted halted rest)
+unless : (halted : Option ℕ) (rest : Option No) → never_down rest → never_down (unless_halted halted rest)
 unless None rest never = never
 unless (Some disk) rest never = refl
 
@@ -56,7 +58,7 @@ fails_off c old new c' other up fails = absurd fails
 err_off : {T : Type 0} (r : Result T No) (why : No) (down : Bool) → is_off why ≡ false → IsFalse down → r ≡ Err why → OffIf r down
 err_off r why down never up is = subst (λ x. OffIf x down) (sym is) (up ∙ sym never)
 
-apply_by : (refusal : Option No) (c : Core) (count : ℕ) (old new : Meaning) (c' : Core) (r : Result ℕ No) → never_off refusal → IsFalse new.down → ApplyIs refusal c count old new c' r → OffIf r new.down
+apply_by : (refusal : Option No) (c : Core) (count : ℕ) (old new : Meaning) (c' : Core) (r : Result ℕ No) → never_down refusal → IsFalse new.down → ApplyIs refusal c count old new c' r → OffIf r new.down
 apply_by (Some why) c count old new c' r never up is = err_off r why new.down never up is.0
 apply_by None c count old new c' (Ok number) never up is = up
 apply_by None c count old new c' (Err why) never up is = fails_off c old new c' why up is
@@ -64,7 +66,7 @@ apply_by None c count old new c' (Err why) never up is = fails_off c old new c' 
 pub apply_off : (c : Core) (count : ℕ) (old new : Meaning) (c' : Core) (r : Result ℕ No) → IsFalse new.down → ApplyIs (unless_halted c.halted None) c count old new c' r → OffIf r new.down
 apply_off c count old new c' r up is = apply_by (unless_halted c.halted None) c count old new c' r (unless c.halted None tt) up is
 
-save_by : (refusal : Option No) (c after : Core) (old new : Meaning) (c' : Core) (r : Result (Unit {0}) No) → never_off refusal → IsFalse new.down → SaveIs refusal c after old new c' r → OffIf r new.down
+save_by : (refusal : Option No) (c after : Core) (old new : Meaning) (c' : Core) (r : Result (Unit {0}) No) → never_down refusal → IsFalse new.down → SaveIs refusal c after old new c' r → OffIf r new.down
 save_by (Some why) c after old new c' r never up is = err_off r why new.down never up is.0
 save_by None c after old new c' (Ok done) never up is = up
 save_by None c after old new c' (Err why) never up is = fails_off c old new c' why up is
@@ -75,7 +77,7 @@ reclaim_off c to after old new c' r up is =
     (unless c.halted (if leb c.log.header.low to && (leb most_number c.log.header.stamp || leb most_number to) then Some (Limit Number most_number) else None)
     (one_of (leb c.log.header.low to && (leb most_number c.log.header.stamp || leb most_number to)) (Some (Limit Number most_number)) None refl tt)) up is
 
-write_by : (refusal : Option No) (c : Core) (vol start : ℕ) (bytes : List ℕ) (old new : Meaning) (c' : Core) (r : Result ℕ No) → never_off refusal → IsFalse new.down → WriteIs refusal c vol start bytes old new c' r → OffIf r new.down
+write_by : (refusal : Option No) (c : Core) (vol start : ℕ) (bytes : List ℕ) (old new : Meaning) (c' : Core) (r : Result ℕ No) → never_down refusal → IsFalse new.down → WriteIs refusal c vol start bytes old new c' r → OffIf r new.down
 write_by (Some why) c vol start bytes old new c' r never up is = err_off r why new.down never up is.0
 write_by None c vol start bytes old new c' (Ok number) never up is = up
 write_by None c vol start bytes old new c' (Err why) never up is = fails_off c old new c' why up is
@@ -217,7 +219,46 @@ still_by : (P : Disks → Disks → Type 0) (why : No) (size : ℕ → ℕ) (o :
 still_by P IsDown size o on = absurd (let e : true ≡ false = on in cc)
 still_by P other size o on = still_on o
 
+-- ---- a write with room at hand, whose blocks do not pass the end of the ring
+
+pub never_off : {T : Type 0} (why : No) → is_off why ≡ false → (let r : Result T No = Err why in r) ≡ Err IsDown → ⊥
+never_off why on is = let same : why ≡ IsDown = cc in never_both (is_off why) (ap is_off same) on
+
+pub up_not_off : (r : Result ℕ No) (down : Bool) → r ≡ Err IsDown → IsFalse down → OffIf r down → ⊥
+up_not_off r down is up off = let at : OffIf (let e : Result ℕ No = Err IsDown in e) down = subst (λ x. OffIf x down) is off in never_both down at up
+
+off_result : (r : Result ℕ No) → said_by r ≡ Refused IsDown → r ≡ Err IsDown
+off_result (Ok number) is = absurd (cc)
+off_result (Err why) is = let same : why ≡ IsDown = cc in ap (λ (k : No). let r : Result ℕ No = Err k in r) same
+
 module _ {R : Type 0} {g : Ghosts R} where
+  pub cut_short : (old mid : Rvg R g) (bytes : List ℕ) (new : Meaning) → mid ≡ old → (BodyFits mid.core.log bytes → FallsShort 4 (g.meaning mid.shelf) new) → BodyFits old.core.log bytes → IsFalse (g.meaning old.shelf).down → IsTrue new.down
+      → RackIsShort 4 (g.meaning old.shelf).disks
+  cut_short old mid bytes new same short fits up down =
+      let here : BodyFits old.core.log bytes → FallsShort 4 (g.meaning old.shelf) new = subst (λ (k : Rvg R g). BodyFits k.core.log bytes → FallsShort 4 (g.meaning k.shelf) new) same short in
+      (here fits).left up down
+
+  up_same : (rvg there : Rvg R g) → (let e : DiskSet R g = Up there in e) ≡ Up rvg → there ≡ rvg
+  up_same rvg there is = cc
+
+  -- of a site that is up
+  pub cuts_up : (links : List KeptLink) (n : Node) (e : DiskSet R g) (there : Rvg R g) (bytes : List ℕ) (r : Result ℕ No) → e ≡ Up there → StandsAt links n e
+      → (IsFalse (g.meaning there.shelf).down → blocks_in bytes < free_of there.core.log → BodyFits there.core.log bytes → r ≡ Err IsDown → RackIsShort 4 (g.meaning there.shelf).disks) → CutsShort bytes (said_by r) e
+  cuts_up links n e there bytes r at stands cuts = record {
+    short = λ rvg is hand fits said.
+        let up : IsUpAt links n there.core (g.meaning there.shelf) = subst (λ (x : DiskSet R g). StandsAt links n x) at stands in
+        let same : there ≡ rvg = up_same rvg there (sym at ∙ is) in
+        subst (λ (k : Rvg R g). RackIsShort 4 (g.meaning k.shelf).disks) same
+        (cuts up.up (subst (λ (k : Rvg R g). blocks_in bytes < free_of k.core.log) (sym same) hand) (subst (λ (k : Rvg R g). BodyFits k.core.log bytes) (sym same) fits) (off_result r said));
+  }
+
+  -- a call that was not answered 6
+  pub cuts_none : (bytes : List ℕ) (why : No) (e : DiskSet R g) → is_off why ≡ false → CutsShort bytes (Refused why) e
+  cuts_none bytes why e on = record { short = λ rvg is hand fits said. absurd (never_said why on said) }
+    where
+      never_said : (why : No) → is_off why ≡ false → Refused why ≡ Refused IsDown → ⊥
+      never_said why on said = let same : why ≡ IsDown = cc in never_both (is_off why) (ap is_off same) on
+
   -- a call on a group
   pub called_by : (P : Disks → Disks → Type 0) (r : Result ℕ No) (old new : Rvg R g) → IsFalse (g.meaning old.shelf).down → OffIf r (g.meaning new.shelf).down → OnOk r (WithDisks (g.meaning old.shelf).disks (g.meaning new.shelf).disks P)
       → Spends (g.meaning old.shelf) (g.meaning new.shelf) → LeavesFuse P (said_by r) (Up old) (Up new)
@@ -243,9 +284,9 @@ module _ {R : Type 0} {g : Ghosts R} where
       subst (λ (x : DiskSet R g). LeavesFuse P said x after) (sym is) (called up)
 
   -- the calls of a line
-  pub called_at : (P : Disks → Disks → Type 0) (w : World) (old new : Yard R g) (name : List ℕ) (s : ℕ) (before after : DiskSet R g) (said reply : Said) → said ≡ reply → YardAgrees w old → seat_of old.facts.items name ≡ Some s
-      → slice_get old.disk_sets.items s ≡ Some before → new.disk_sets.items ≡ slice_set old.disk_sets.items s after → ((n : Node) → StandsAlone n before → LeavesFuse P reply before after)
-      → OfSite (LeavesFuse P said) (site_number w name) old new
-  called_at P w old new name s before after said reply is agrees seat there disk_sets did =
-      asked_at (LeavesFuse P said) w old new name s before after agrees seat there disk_sets
-      (subst (λ (t : Said). LeavesFuse P t before after) (sym is) (did (w.nodes s) (agrees.disk_sets.sites s before (seated w old name s agrees seat).below there)))
+  pub called_at : (Did : Said → DiskSet R g → DiskSet R g → Type 0) (w : World) (old new : Yard R g) (name : List ℕ) (s : ℕ) (before after : DiskSet R g) (said reply : Said) → said ≡ reply → YardAgrees w old → seat_of old.facts.items name ≡ Some s
+      → slice_get old.disk_sets.items s ≡ Some before → new.disk_sets.items ≡ slice_set old.disk_sets.items s after → ((n : Node) → StandsAlone n before → Did reply before after)
+      → OfSite (Did said) (site_number w name) old new
+  called_at Did w old new name s before after said reply is agrees seat there disk_sets did =
+      asked_at (Did said) w old new name s before after agrees seat there disk_sets
+      (subst (λ (t : Said). Did t before after) (sym is) (did (w.nodes s) (agrees.disk_sets.sites s before (seated w old name s agrees seat).below there)))

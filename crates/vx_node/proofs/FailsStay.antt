@@ -38,7 +38,7 @@ use Rattle.vx_events.proofs.Refused.{disk_may}
 use Rattle.vx_events.proofs.RefusedCalls.{put_may, write_may}
 use Rattle.vx_events.proofs.Testing.{seat_in}
 use Rattle.vx_node.proofs.Alike.{apart_place}
-use Rattle.vx_node.proofs.KeepsFailing.{Same, failing_same, same_on}
+use Rattle.vx_node.proofs.KeepsFailing.{Same, burns_of, failing_same, same_on}
 use Rattle.vx_node.proofs.Lists.{get-set_same, get-set_other}
 
 -- ---- which disks are made to fail is seen by no test, and no disk set stands by it
@@ -336,7 +336,7 @@ module _ {R : Type 0} {g : Ghosts R} where
 
   pub needs_log : ((r : R) → IsRack (g.meaning r)) → (files : Bool) (w : World) (old new : Yard R g) (line : ScriptLine) (said : Said) → refusal_of (facts_of w) files line ≡ None → YardAgrees w old → HasCalled w line said old new → Ties w old → NeedsLog w line said
   needs_log racks files w old new (Write name volume start count fill) said free agrees called ties =
-      works_at racks w old new (site_number w name) said agrees (seat_in w name (write_may (facts_of w) files name volume start count fill free).call.site).0 called ties
+      works_at racks w old new (site_number w name) said agrees (seat_in w name (write_may (facts_of w) files name volume start count fill free).call.site).0 (burns_of (replicate (512 * count) fill) said (site_number w name) old new called) ties
   needs_log racks files w old new (Put name volume start bytes) said free agrees called ties =
-      works_at racks w old new (site_number w name) said agrees (seat_in w name (put_may (facts_of w) files name volume start bytes free).call.site).0 called ties
+      works_at racks w old new (site_number w name) said agrees (seat_in w name (put_may (facts_of w) files name volume start bytes free).call.site).0 (burns_of bytes said (site_number w name) old new called) ties
   needs_log racks files w old new other said free agrees called ties = tt

@@ -11,8 +11,8 @@ use Rattle.vx_rvg.specs.declared.group.Rvg.{Rvg}
 use Rattle.vx_events.specs.Facts.{seat_of, site_number}
 use Rattle.vx_events.proofs.Refused.{Named}
 use Rattle.vx_events.specs.declared.said.Said.{Said}
-use Rattle.vx_node.specs.Asked.{SameFailing, LeavesFuse, LeavesAlone, MayCrash, OfSite, disks_in, size_in}
-use Rattle.vx_node.specs.Burning.{Burnt}
+use Rattle.vx_node.specs.Asked.{SameFailing, LeavesFuse, LeavesAlone, MayCrash, OfSite, WritesUnder, disks_in, size_in}
+use Rattle.vx_node.specs.Burning.{Burnt, IsLogged}
 use Rattle.vx_node.specs.declared.disk_set.DiskSet.{DiskSet}
 use Rattle.vx_node.specs.declared.disk_set.DiskSet.TheVariants.{Up, Down}
 use Rattle.vx_node.specs.declared.yard.Yard.{Yard}
@@ -103,6 +103,16 @@ module _ {R : Type 0} {g : Ghosts R} where
     disk_sets = of.disk_sets;
     did = record { told = same_on (Burnt P said (size_in of.before)) (disks_in of.before) (disks_in of.after) of.did.told };
   }
+
+  -- a write
+  pub burns_of : (bytes : List ℕ) (said : Said) (s : ℕ) (a b : Yard R g) → OfSite (WritesUnder bytes said) s a b → OfSite (LeavesFuse IsLogged said) s a b
+  burns_of bytes said s a b of = record { before = of.before; after = of.after; there = of.there; disk_sets = of.disk_sets; did = of.did.burns }
+
+  pub bytes_as : (bytes other : List ℕ) (said : Said) (s : ℕ) (a b : Yard R g) → bytes ≡ other → OfSite (WritesUnder bytes said) s a b → OfSite (WritesUnder other said) s a b
+  bytes_as bytes other said s a b is of = subst (λ (bs : List ℕ). OfSite (WritesUnder bs said) s a b) is of
+
+  pub writes_keep : (bytes : List ℕ) (said : Said) (s : ℕ) (a b : Yard R g) → OfSite (WritesUnder bytes said) s a b → OfSite SameFailing s a b
+  writes_keep bytes said s a b of = called_keeps IsLogged said s a b (burns_of bytes said s a b of)
 
   -- nothing was done
   pub site_still : (Did : DiskSet R g → DiskSet R g → Type 0) (s : ℕ) (old new : Yard R g) → ((e : DiskSet R g) → Did e e) → s < length old.disk_sets.items → new.disk_sets.items ≡ old.disk_sets.items → OfSite Did s old new

@@ -1,13 +1,19 @@
 -- What a line asks of the rack of its site: a disk, a number of calls or a pick, as the rack itself takes them. Other lines make no disk fail,
 -- and a line that writes crashes the disks only where their fuse has no call left.
-use Rattle.std.specs.Prelude.{◌≡◌, ◌≢◌, ◌⊎◌, ℕ, Bool, true, false, Option, Some, None, slice_get, slice_set}
+use Rattle.std.specs.Prelude.{◌≡◌, ◌≢◌, ◌⊎◌, ℕ, ◌*◌, ◌<◌, List, replicate, Bool, true, false, Option, Some, None, slice_get, slice_set}
+use Rattle.vx_model.specs.Content.{blocks_in}
+use Rattle.vx_model.specs.declared.no.No.TheVariants.{Down as IsOff}
 use Rattle.vx_history.specs.World.{Node, World}
+use Rattle.vx_disk.specs.Burns.{RackIsShort}
 use Rattle.vx_disk.specs.Causes.{OnDisks, WithDisks}
 use Rattle.vx_disk.specs.Disks.{Disks, Crashed, SameBlocks, Untouched}
 use Rattle.vx_disk.specs.declared.shelf.Shelf.{Ghosts}
 use Rattle.vx_script.specs.declared.line.ScriptLine.{ScriptLine}
 use Rattle.vx_script.specs.declared.line.ScriptLine.TheVariants.{Site, Raw, Disk, Crash, Fuse, Recover, Write, Put, Read, Show, Apply, Status}
+use Rattle.vx_rvg.specs.declared.group.Rvg.{Rvg}
+use Rattle.vx_srl.specs.Views.{BodyFits, free_of}
 use Rattle.vx_events.specs.declared.said.Said.{Said}
+use Rattle.vx_events.specs.declared.said.Said.TheVariants.{Refused}
 use Rattle.vx_events.specs.Facts.{site_number}
 use Rattle.vx_events.specs.Failing.{is_failing}
 use Rattle.vx_node.specs.declared.disk_set.DiskSet.{DiskSet}
@@ -72,6 +78,16 @@ module _ {R : Type 0} {g : Ghosts R} where
   pub record LeavesFuse (P : Disks → Disks → Type 0) (said : Said) (old new : DiskSet R g) : Type 0 where
     pub told : OnDisks (disks_in old) (disks_in new) (Burnt P said (size_in old))
 
+  -- A write of these bytes that is answered 6 where there is room at hand, and where its blocks do not pass the end of the ring, came under a
+  -- fuse that had fewer than four calls left. It may be in any session, wherever the log begins.
+  pub record CutsShort (bytes : List ℕ) (said : Said) (old : DiskSet R g) : Type 0 where
+    pub short : (rvg : Rvg R g) → old ≡ Up rvg → blocks_in bytes < free_of rvg.core.log → BodyFits rvg.core.log bytes → said ≡ Refused IsOff → RackIsShort 4 (g.meaning rvg.shelf).disks
+
+  -- the calls of a write of these bytes
+  pub record WritesUnder (bytes : List ℕ) (said : Said) (old new : DiskSet R g) : Type 0 where
+    pub burns : LeavesFuse IsLogged said old new
+    pub cuts : CutsShort bytes said old
+
   -- the disk set of this site did so, and no other changed
   pub record OfSite (Did : DiskSet R g → DiskSet R g → Type 0) (site : ℕ) (old new : Yard R g) : Type 0 where
     pub before : DiskSet R g
@@ -102,7 +118,7 @@ module _ {R : Type 0} {g : Ghosts R} where
 
   -- What the calls of a line that was answered so leave of the fuse of its site.
   abbrev pub HasCalled : World → ScriptLine → Said → Yard R g → Yard R g → Type 0
-  HasCalled w (Write site volume block count fill) said old new = OfSite (LeavesFuse IsLogged said) (site_number w site) old new
-  HasCalled w (Put site volume block bytes) said old new = OfSite (LeavesFuse IsLogged said) (site_number w site) old new
+  HasCalled w (Write site volume block count fill) said old new = OfSite (WritesUnder (replicate (512 * count) fill) said) (site_number w site) old new
+  HasCalled w (Put site volume block bytes) said old new = OfSite (WritesUnder bytes said) (site_number w site) old new
   HasCalled w (Apply site count) said old new = OfSite (LeavesFuse NoMore said) (site_number w site) old new
   HasCalled w other said old new = Unit {0}

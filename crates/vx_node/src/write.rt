@@ -4,8 +4,7 @@ ghost use Rattle.vx_history.specs.World.{World};
 ghost use Rattle.vx_script.specs.declared.line.ScriptLine.TheVariants.{Write as WriteLine, Put as PutLine};
 ghost use Rattle.vx_events.specs.declared.said.Said.TheVariants.{Refused};
 ghost use Rattle.vx_events.specs.Facts.{site_number};
-ghost use Rattle.vx_node.specs.Asked.{AsAsked, LeavesFuse, HasCalled, OfSite};
-ghost use Rattle.vx_node.specs.Burning.{IsLogged};
+ghost use Rattle.vx_node.specs.Asked.{AsAsked, HasCalled, OfSite, WritesUnder};
 ghost use Rattle.vx_node.specs.Working.{Worked, IsFree};
 ghost use Rattle.vx_node.specs.Writes.{WriteFree, PutsIs, noted_facts};
 ghost use Rattle.vx_node.specs.Yards.{IsKept, YardAgrees, IsTold, in_files};
@@ -38,7 +37,7 @@ impl<R: Rack> Yard<R> {
         requires kept { IsKept self.old }
         requires free { WriteFree self.old name.now volume.now start bytes.now }
         ensures works { (w : World) → YardAgrees w self.old → PutsIs w name.now volume.now start bytes.now result self.old self.new }
-        ensures called { (w : World) → YardAgrees w self.old → OfSite (LeavesFuse IsLogged result) (site_number w name.now) self.old self.new }
+        ensures called { (w : World) → YardAgrees w self.old → OfSite (WritesUnder bytes.now result) (site_number w name.now) self.old self.new }
         ensures told { IsTold self.new → IsTold self.old }
         ensures files { in_files self.new ≡ in_files self.old }
     {

@@ -1,12 +1,14 @@
 // Calls on the group of a site that is up: its writes, its reads, and what brings logged writes into their volumes.
-ghost use Rattle.std.specs.Prelude.{◌≡◌, ◌≤◌, ◌<◌, ◌+◌, ◌*◌, ◌%◌, length, None, IfOk, IfErr, OnOk, IsFalse, List};
+ghost use Rattle.std.specs.Prelude.{◌≡◌, ◌≤◌, ◌<◌, ◌+◌, ◌*◌, ◌%◌, length, None, Err, IfOk, IfErr, OnOk, IsFalse, List};
 ghost use Rattle.vx_model.specs.Content.{blocks_in};
 ghost use Rattle.vx_model.specs.declared.limits.TheConstants.{MOST_CALL_BLOCKS, MOST_CALL_BYTES};
 ghost use Rattle.vx_model.specs.declared.state.KeptLink.{KeptLink};
 ghost use Rattle.vx_history.specs.World.{Node};
 ghost use Rattle.vx_ringio.specs.Spends.{Spends};
-ghost use Rattle.vx_srl.specs.Views.{free_of};
-ghost use Rattle.vx_node.specs.Asked.{LeavesFuse};
+ghost use Rattle.vx_disk.specs.Burns.{RackIsShort};
+ghost use Rattle.vx_model.specs.declared.no.No.TheVariants.{Down as IsOff};
+ghost use Rattle.vx_srl.specs.Views.{BodyFits, free_of};
+ghost use Rattle.vx_node.specs.Asked.{LeavesFuse, WritesUnder};
 ghost use Rattle.vx_node.specs.Burning.{NoMore, IsLogged, OffIf, said_by};
 ghost use Rattle.vx_node.specs.DiskSets.{Later, CanWrite, WroteUp, is_off};
 ghost use Rattle.vx_node.specs.Rooms.{AppliedAs, RoomIs};
@@ -96,6 +98,7 @@ fn write_group<R: Rack>(rvg: &mut Rvg<R>, volume: u32, start: u64, bytes: &[u8])
     ensures wrote { (links : List KeptLink) (n : Node) → StandsAt links n (DiskSet.Up rvg.old) → CanWrite n volume start (blocks_in bytes.now)
         → WroteUp links n (record { volume = volume; start = start; bytes = bytes.now }) (DiskSet.Up rvg.old) (DiskSet.Up rvg.new) result }
     ensures called { (links : List KeptLink) (n : Node) → IsUpAt links n rvg.old.core (R.meaning rvg.old.shelf) → LeavesFuse IsLogged (said_by result) (DiskSet.Up rvg.old) (DiskSet.Up rvg.new) }
+    ensures cuts { IsFalse (R.meaning rvg.old.shelf).down → blocks_in bytes.now < free_of rvg.old.core.log → BodyFits rvg.old.core.log bytes.now → result ≡ Err IsOff → RackIsShort 4 (R.meaning rvg.old.shelf).disks }
     ensures later { Later (DiskSet.Up rvg.old) (DiskSet.Up rvg.new) }
 {
     if rvg.head() >= MOST_NUMBER {
@@ -134,7 +137,7 @@ impl<R: Rack> DiskSet<R> {
         requires whole { length bytes.now % 512 ≡ 0 }
         ensures wrote { (links : List KeptLink) (n : Node) → StandsAt links n self.old → CanWrite n volume start (blocks_in bytes.now)
             → WroteAt links n (record { volume = volume; start = start; bytes = bytes.now }) self.old self.new result }
-        ensures called { (links : List KeptLink) (n : Node) → StandsAt links n self.old → LeavesFuse IsLogged (said_by result) self.old self.new }
+        ensures called { (links : List KeptLink) (n : Node) → StandsAt links n self.old → WritesUnder bytes.now (said_by result) self.old self.new }
         ensures later { Later self.old self.new }
     {
         match self.write_up(volume, start, bytes) {
@@ -157,7 +160,7 @@ impl<R: Rack> DiskSet<R> {
         requires whole { length bytes.now % 512 ≡ 0 }
         ensures wrote { (links : List KeptLink) (n : Node) → StandsAt links n self.old → CanWrite n volume start (blocks_in bytes.now)
             → WroteUp links n (record { volume = volume; start = start; bytes = bytes.now }) self.old self.new result }
-        ensures called { (links : List KeptLink) (n : Node) → StandsAt links n self.old → LeavesFuse IsLogged (said_by result) self.old self.new }
+        ensures called { (links : List KeptLink) (n : Node) → StandsAt links n self.old → WritesUnder bytes.now (said_by result) self.old self.new }
         ensures later { Later self.old self.new }
     {
         match self {

@@ -1,5 +1,5 @@
 -- A write of a group, case by case.
-use Rattle.std.proofs.Common.{◌∙◌, ◌<◌, inl, ap, arith, refl, sym}
+use Rattle.std.proofs.Common.{◌∙◌, ◌<◌, ℕ, inl, ap, arith, refl, sym}
 use Rattle.vx_model.specs.Content.{blocks_in}
 use Rattle.std.specs.Prelude.{Err}
 use Rattle.std.proofs.lemmas.Result.{err_from_is_err_and}
@@ -12,7 +12,7 @@ use Rattle.vx_model.specs.declared.no.Counted.TheVariants.{Number}
 use Rattle.vx_model.specs.declared.units.Units.{Units}
 use Rattle.vx_node.specs.Burning.{IsLogged}
 use Rattle.vx_ringio.proofs.Spending.{then_spends}
-use Rattle.vx_node.proofs.CallsBurn.{called_by, called_still, is_logged, least_since, write_off}
+use Rattle.vx_node.proofs.CallsBurn.{called_by, called_still, cut_short, is_logged, least_since, never_off, up_not_off, write_off}
 use Rattle.vx_node.proofs.writing.write_group.Goals as goal
 
 pub returns-then-head-ge-MOST_NUMBER-clause-wrote : goal.returns-then-head-ge-MOST_NUMBER-clause-wrote
@@ -85,3 +85,19 @@ returns-clause-called g c = λ links n up.
     (c.make_room.new.rvg.sound.log_unit ∙ ap (λ (u : Units). u.srl) (c.make_room.ensures.units ∙ up.units)) c.make_room.ensures.spends
     (least_since 4 c.write-answer.result (g.R.Shelf.meaning c.args.rvg.now.shelf) (g.R.Shelf.meaning c.make_room.new.rvg.shelf) (g.R.Shelf.meaning c.write-answer.new.self.shelf) (c.in_ok-make_room.ensures.off up.up) c.make_room.ensures.spends c.write-answer.ensures.least) c.write-answer.ensures.works)
     (then_spends (g.R.Shelf.meaning c.args.rvg.now.shelf) (g.R.Shelf.meaning c.make_room.new.rvg.shelf) (g.R.Shelf.meaning c.write-answer.new.self.shelf) c.make_room.ensures.spends c.write-answer.ensures.spends)
+
+pub returns-then-head-ge-MOST_NUMBER-clause-cuts : goal.returns-then-head-ge-MOST_NUMBER-clause-cuts
+returns-then-head-ge-MOST_NUMBER-clause-cuts g c = λ up hand fits is. absurd (never_off {T = ℕ} (Limit Number MOST_NUMBER) refl is)
+
+pub returns-in_err-make_room-clause-cuts : goal.returns-in_err-make_room-clause-cuts
+returns-in_err-make_room-clause-cuts g c = λ up hand fits is. absurd (c.in_err-make_room.ensures.idle (omega (arith, hand))).0
+
+pub returns-then-is_down-clause-cuts : goal.returns-then-is_down-clause-cuts
+returns-then-is_down-clause-cuts g c = λ up hand fits is.
+    cut_short c.args.rvg.now c.make_room.new.rvg c.args.bytes.now (g.R.Shelf.meaning c.write-answer.new.self.shelf) (c.in_ok-make_room.ensures.idle (omega (arith, hand))).1 c.write-answer.ensures.short fits up (sym c.is_down.ensures ∙ c.if-is_down.true)
+
+pub returns-clause-cuts : goal.returns-clause-cuts
+returns-clause-cuts g c = λ up hand fits is.
+    absurd (up_not_off c.write-answer.result (g.R.Shelf.meaning c.write-answer.new.self.shelf).down is (sym c.is_down.ensures ∙ c.if-is_down.false)
+    (write_off c.make_room.new.rvg.core c.args.volume _ c.args.start (blocks_in c.args.bytes.now) c.args.bytes.now (g.R.Shelf.meaning c.make_room.new.rvg.shelf) (g.R.Shelf.meaning c.write-answer.new.self.shelf) c.write-answer.new.self.core c.write-answer.result
+    (sym c.is_down.ensures ∙ c.if-is_down.false) c.write-answer.ensures.answers))

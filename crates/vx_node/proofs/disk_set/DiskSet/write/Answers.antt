@@ -16,7 +16,11 @@ returns-else-is_off-clause-wrote g c = λ links n stands can.
 
 pub returns-then-is_off-clause-called : goal.returns-then-is_off-clause-called
 returns-then-is_off-clause-called g c = λ links n stands.
-    called_cut IsLogged c.in-Err.no 0xffff_ffff_ffff_ffff c.args.self.now c.write_up.new.self c.fall.new.self (sym c.is_off.ensures ∙ c.if-is_off.true) (c.in-Err.ensures.called links n stands) c.fall.ensures.stopped
+    let called = c.in-Err.ensures.called links n stands in
+    record {
+      burns = called_cut IsLogged c.in-Err.no 0xffff_ffff_ffff_ffff c.args.self.now c.write_up.new.self c.fall.new.self (sym c.is_off.ensures ∙ c.if-is_off.true) called.burns c.fall.ensures.stopped;
+      cuts = called.cuts;
+    }
 
 pub returns-else-is_off-clause-called : goal.returns-else-is_off-clause-called
 returns-else-is_off-clause-called g c = λ links n stands. c.in-Err.ensures.called links n stands

@@ -10,6 +10,7 @@ use Rattle.vx_events.proofs.Refused.{apply_may}
 use Rattle.vx_events.proofs.Places.{seat_within}
 use Rattle.vx_node.proofs.Seats.{named_some}
 use Rattle.vx_events.specs.declared.said.Said.TheVariants.{DoneAt, Refused}
+use Rattle.vx_node.specs.Asked.{LeavesFuse}
 use Rattle.vx_node.specs.Burning.{NoMore}
 use Rattle.vx_node.proofs.CallsBurn.{called_at}
 use Rattle.vx_node.proofs.KeepsFailing.{called_keeps}
@@ -45,22 +46,22 @@ returns-in-Err-clause-told g c = told_before c.args.self.now.disk_sets.items c.s
 
 pub returns-in-Ok-clause-called : goal.returns-in-Ok-clause-called
 returns-in-Ok-clause-called g c = λ w stands.
-    called_at NoMore w c.args.self.now _ c.args.name.now c.site_of-site.result c.index_mut.result.now c.apply.new.self (DoneAt c.in-Ok.number) (DoneAt c.in-Ok.number) refl stands c.site_of-site.ensures.seat
+    called_at (LeavesFuse NoMore) w c.args.self.now _ c.args.name.now c.site_of-site.result c.index_mut.result.now c.apply.new.self (DoneAt c.in-Ok.number) (DoneAt c.in-Ok.number) refl stands c.site_of-site.ensures.seat
     (get_at c.args.self.now.disk_sets.items c.site_of-site.result c.index_mut.result.now c.site_of-site.ensures.disk_set c.index_mut.ensures.value) refl (λ n stood. c.in-Ok.ensures.called [] n stood)
 
 pub returns-in-Ok-clause-asked : goal.returns-in-Ok-clause-asked
 returns-in-Ok-clause-asked g c = λ w stands.
     called_keeps NoMore (DoneAt c.in-Ok.number) _ c.args.self.now _ (
-    called_at NoMore w c.args.self.now _ c.args.name.now c.site_of-site.result c.index_mut.result.now c.apply.new.self (DoneAt c.in-Ok.number) (DoneAt c.in-Ok.number) refl stands c.site_of-site.ensures.seat
+    called_at (LeavesFuse NoMore) w c.args.self.now _ c.args.name.now c.site_of-site.result c.index_mut.result.now c.apply.new.self (DoneAt c.in-Ok.number) (DoneAt c.in-Ok.number) refl stands c.site_of-site.ensures.seat
     (get_at c.args.self.now.disk_sets.items c.site_of-site.result c.index_mut.result.now c.site_of-site.ensures.disk_set c.index_mut.ensures.value) refl (λ n stood. c.in-Ok.ensures.called [] n stood))
 
 pub returns-in-Err-clause-called : goal.returns-in-Err-clause-called
 returns-in-Err-clause-called g c = λ w stands.
-    called_at NoMore w c.args.self.now _ c.args.name.now c.site_of-site.result c.index_mut.result.now c.apply.new.self c.refused.result (Refused c.in-Err.no) c.refused.ensures.said stands c.site_of-site.ensures.seat
+    called_at (LeavesFuse NoMore) w c.args.self.now _ c.args.name.now c.site_of-site.result c.index_mut.result.now c.apply.new.self c.refused.result (Refused c.in-Err.no) c.refused.ensures.said stands c.site_of-site.ensures.seat
     (get_at c.args.self.now.disk_sets.items c.site_of-site.result c.index_mut.result.now c.site_of-site.ensures.disk_set c.index_mut.ensures.value) refl (λ n stood. c.in-Err.ensures.called [] n stood)
 
 pub returns-in-Err-clause-asked : goal.returns-in-Err-clause-asked
 returns-in-Err-clause-asked g c = λ w stands.
     called_keeps NoMore c.refused.result _ c.args.self.now _ (
-    called_at NoMore w c.args.self.now _ c.args.name.now c.site_of-site.result c.index_mut.result.now c.apply.new.self c.refused.result (Refused c.in-Err.no) c.refused.ensures.said stands c.site_of-site.ensures.seat
+    called_at (LeavesFuse NoMore) w c.args.self.now _ c.args.name.now c.site_of-site.result c.index_mut.result.now c.apply.new.self c.refused.result (Refused c.in-Err.no) c.refused.ensures.said stands c.site_of-site.ensures.seat
     (get_at c.args.self.now.disk_sets.items c.site_of-site.result c.index_mut.result.now c.site_of-site.ensures.disk_set c.index_mut.ensures.value) refl (λ n stood. c.in-Err.ensures.called [] n stood))

@@ -7,7 +7,7 @@ use Rattle.vx_node.proofs.Lists.{get_at}
 use Rattle.vx_node.proofs.WriteLine.{may_write, goes, write_done, write_failed, fact_at}
 use Rattle.vx_node.proofs.Seats.{named_some, volume_there, seated}
 use Rattle.vx_events.specs.declared.said.Said.TheVariants.{DoneAt, Refused}
-use Rattle.vx_node.specs.Burning.{IsLogged}
+use Rattle.vx_node.specs.Asked.{WritesUnder}
 use Rattle.vx_node.proofs.CallsBurn.{called_at}
 use Rattle.vx_node.proofs.yard.Yard.write_blocks.Goals as goal
 
@@ -51,10 +51,10 @@ returns-in-Err-clause-told g c = told_before c.args.self.now.disk_sets.items c.s
 
 pub returns-in-Ok-clause-called : goal.returns-in-Ok-clause-called
 returns-in-Ok-clause-called g c = λ w stands.
-    called_at IsLogged w c.args.self.now _ c.args.name.now c.site_of-site.result c.index_mut.result.now c.write.new.self (DoneAt c.in-Ok.number) (DoneAt c.in-Ok.number) refl stands c.site_of-site.ensures.seat
+    called_at (WritesUnder c.args.bytes.now) w c.args.self.now _ c.args.name.now c.site_of-site.result c.index_mut.result.now c.write.new.self (DoneAt c.in-Ok.number) (DoneAt c.in-Ok.number) refl stands c.site_of-site.ensures.seat
     (get_at c.args.self.now.disk_sets.items c.site_of-site.result c.index_mut.result.now c.site_of-site.ensures.disk_set c.index_mut.ensures.value) refl (λ n stood. c.in-Ok.ensures.called [] n stood)
 
 pub returns-in-Err-clause-called : goal.returns-in-Err-clause-called
 returns-in-Err-clause-called g c = λ w stands.
-    called_at IsLogged w c.args.self.now _ c.args.name.now c.site_of-site.result c.index_mut.result.now c.write.new.self c.refused.result (Refused c.in-Err.no) c.refused.ensures.said stands c.site_of-site.ensures.seat
+    called_at (WritesUnder c.args.bytes.now) w c.args.self.now _ c.args.name.now c.site_of-site.result c.index_mut.result.now c.write.new.self c.refused.result (Refused c.in-Err.no) c.refused.ensures.said stands c.site_of-site.ensures.seat
     (get_at c.args.self.now.disk_sets.items c.site_of-site.result c.index_mut.result.now c.site_of-site.ensures.disk_set c.index_mut.ensures.value) refl (λ n stood. c.in-Err.ensures.called [] n stood)

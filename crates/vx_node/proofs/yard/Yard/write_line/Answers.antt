@@ -5,8 +5,7 @@ use Rattle.vx_node.specs.Writes.WriteFree.{ByWrite}
 use Rattle.vx_node.specs.Yards.{in_files}
 use Rattle.vx_node.proofs.WriteLine.{write_answered}
 use Rattle.vx_node.proofs.yard.Yard.write_line.Goals.{then-count-lt1-via-then-count-lt1, then-count-lt1-via-else-count-lt1+then-count-gt-MOST_CALL_BLOCKS}
-use Rattle.vx_node.specs.Burning.{IsLogged}
-use Rattle.vx_node.proofs.KeepsFailing.{called_keeps}
+use Rattle.vx_node.proofs.KeepsFailing.{bytes_as, writes_keep}
 use Rattle.vx_node.proofs.yard.Yard.write_line.Goals as goal
 
 few_blocks : (n : ℕ) → n ≤ 16 → min n 16 ≡ n
@@ -30,7 +29,7 @@ write_blocks-requires-clause-free g c = λ κs within.
     ByWrite c.args.count c.args.fill c.requires.free (c.requires.bytes ∙ ap (λ (n : ℕ). replicate (512 * n) c.args.fill) (few_blocks c.args.count (omega (arith, c.if-count-lt1.false))))
 
 pub returns-clause-called : goal.returns-clause-called
-returns-clause-called g c = λ w stands. c.write_blocks.ensures.called w stands
+returns-clause-called g c = λ w stands. bytes_as c.args.bytes.now (replicate (512 * c.args.count) c.args.fill) c.write_blocks.result _ c.args.self.now _ (c.requires.bytes ∙ ap (λ (n : ℕ). replicate (512 * n) c.args.fill) (few_blocks c.args.count (omega (arith, c.if-count-lt1.false)))) (c.write_blocks.ensures.called w stands)
 
 pub returns-clause-asked : goal.returns-clause-asked
-returns-clause-asked g c = λ w stands. called_keeps IsLogged c.write_blocks.result _ c.args.self.now _ (c.write_blocks.ensures.called w stands)
+returns-clause-asked g c = λ w stands. writes_keep c.args.bytes.now c.write_blocks.result _ c.args.self.now _ (c.write_blocks.ensures.called w stands)
