@@ -23,6 +23,7 @@ pub mod FinishLemmas
 pub mod SourceLemmas
 pub mod ImportLemmas
 pub mod CrashLemmas
+pub mod UntoldLemmas
 pub mod OpeningLemmas
 pub mod AttachLemmas
 pub mod GiveLemmas

@@ -14,5 +14,6 @@ pub mod Makes
 pub mod Nexts
 pub mod Finishes
 pub mod Imports
+pub mod Untold
 pub mod GivesUp
 pub mod Attaches

@@ -35,6 +35,10 @@ pub use group_core::GroupCore;
 #[cfg(test)]
 mod attach_tests;
 #[cfg(test)]
+mod import_tests;
+#[cfg(test)]
 mod tests;
+#[cfg(test)]
+mod untold;
 #[cfg(test)]
 mod volume_tests;

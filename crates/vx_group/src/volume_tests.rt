@@ -22,6 +22,8 @@ pub enum Told {
     Small,
     LastPlex,
     Unknown,
+    Missing(u32),
+    NoConfig,
     Other,
 }
 
@@ -35,6 +37,8 @@ pub fn told_of(stop: Stop) -> Told {
         Stop::No(No::Size) => Told::Small,
         Stop::No(No::LastPlex) => Told::LastPlex,
         Stop::No(No::Unknown { .. }) => Told::Unknown,
+        Stop::No(No::Missing { disk }) => Told::Missing(disk),
+        Stop::No(No::NoConfig) => Told::NoConfig,
         _ => Told::Other,
     }
 }
