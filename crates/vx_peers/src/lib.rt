@@ -11,3 +11,6 @@ mod sending;
 pub use answering::deliver_answer;
 pub use delivering::deliver_update;
 pub use pumping::pump;
+
+#[cfg(test)]
+mod tests;
