@@ -1,5 +1,5 @@
 -- A site comes to a line, or is made more than bare: what that has to show.
-use Rattle.std.proofs.Common.{◌≡◌, ℕ, ◌≤◌, List, [], ◌∷◌, ◌++◌, length, refl, ap, sym, ◌∙◌, subst, arith, Bool, true, false, ◌⊎◌}
+use Rattle.std.proofs.Common.{◌≡◌, ℕ, ◌≤◌, List, [], ◌∷◌, ◌++◌, length, refl, ap, sym, ◌∙◌, subst, arith, Bool, true, false, ◌⊎◌, inl}
 use Rattle.std.specs.Prelude.{eqb}
 use Rattle.std.specs.List.{AllByRecursion}
 use Rattle.vx_model.specs.Content.{Write}
@@ -11,12 +11,14 @@ use Rattle.vx_model.specs.declared.site.SPhase.TheVariants.{Log as ByLog}
 use Rattle.vx_model.specs.declared.site.SiteState.TheVariants.{Bare}
 use Rattle.vx_history.specs.Refusals.{is_bunker}
 use Rattle.vx_history.proofs.Updates.{all_updated, by_test, eqb_equal}
+use Rattle.vx_history.proofs.GoodLemmas.{good_stays}
 use Rattle.vx_history.specs.Sends.{is_linked}
 use Rattle.vx_history.specs.Sound.{IsWhole, IsFed, TakesUpdates, IsMarked, IsNewest, StoodHere, has_line, HasCome, CameTo, GoodLink, GoodMessage, GoodPacket, GoodPromise, IsKept, IsStranger, StrangerSays, KnownNode, Sound}
+use Rattle.vx_world.specs.Comings.{MayCome, MayComeFirst}
 use Rattle.vx_world.proofs.Lists.{each_append, each_weaker, not_both}
 use Rattle.vx_world.proofs.Stood.{more_lines, last_line, who_came}
 use Rattle.vx_world.proofs.Carry.{later_same, mode_later, link_later, says_later}
-use Rattle.vx_world.proofs.Moves.{at_changed, unlinked_good}
+use Rattle.vx_world.proofs.Moves.{at_changed, unlinked_good, given}
 
 -- what is said of a link, whatever its line holds
 held_good : (f g : List Write) (p q : ℕ) (a b : Node) (l : Link) → GoodLink f p q a b l → GoodLink g p q a b l
@@ -36,16 +38,6 @@ kept_comes : (a n : Node) (line : Line) (number : ℕ) (t : Surety) → a.sessio
     → IsKept a line number t → IsKept n line number t
 kept_comes a n line number Durable later here h = λ e. here e e
 kept_comes a n line number (InSession session) later here (old, _) = (omega (arith, old, later), λ e. (here e).1 e)
-
--- What a site shows that comes to a line: who began the line stood on it, the site notes the line behind those on which it stood, and of
--- the lines of that origin on which it stood none is newer.
-pub record MayCome (w : World) (i : ℕ) (n : Node) : Type 0 where
-  pub began : IsMade (w.nodes n.line.origin)
-  pub named : n.line.generation ≤ (w.nodes n.line.origin).top
-  pub tops : (w.nodes i).top ≤ n.top
-  pub topped : n.line.generation ≤ n.top
-  pub notes : n.stood ≡ (w.nodes i).stood ++ n.line ∷ []
-  pub rises : (line : Line) → HasCome w.nodes i line → line.origin ≡ n.line.origin → line.generation ≤ n.line.generation
 
 -- A site comes to a line with whatever it then has of it: what it had said there, what was promised of it there, and what the links say
 -- that lead to it, hold of what it has.
@@ -198,6 +190,39 @@ module _ (w : World) (i : ℕ) (n : Node) (s : Sound w) (stranger : IsStranger w
       (subst (λ (j : ℕ). GoodMessage (w.lines p.line).held (w.nodes j) p.line p.message) e q.said) q.known)
       (λ e at here q. absurd (q.known (stranger_at e.site e.line at here)))
       (λ _ _ _. empty) good whole fed takes marked newest
+
+-- ## A site comes to a line for the first time
+
+-- it said nothing there, nothing was promised of it there, and no link on the line leads to it: so it may have any first part of the line
+module _ (w : World) (i : ℕ) (n : Node) (s : Sound w) (may : MayComeFirst w i n) where
+  never : (line : Line) → n.line ≡ line → CameTo w.nodes line i → ⊥
+  never line e came =
+      not_both (has_line (w.nodes i).stood n.line) (ap (λ (l : Line). has_line (w.nodes i).stood l) e ∙ came) may.new
+
+  first_link : (p : ℕ) → GoodLink (w.lines (w.nodes p).line).held p i (w.nodes p) n (w.links p i)
+  first_link p = record {
+    ends = λ e. (((s.links p i).ends e).0, may.stays);
+    starts = (s.links p i).starts;
+    apart = (s.links p i).apart;
+    came = λ e. ap (λ (ls : List Line). has_line ls (w.nodes p).line) may.comes.notes
+        ∙ more_lines (w.nodes i).stood (n.line ∷ []) (w.nodes p).line ((s.links p i).came e);
+    session = λ e. omega (arith, (s.links p i).session e, may.session);
+    stored = λ v. absurd (never (w.nodes p).line v.2 ((s.links p i).came v.0));
+    net = λ v _. absurd (never (w.nodes p).line v.2 ((s.links p i).came v.0));
+    says = λ _ v. absurd (never (w.nodes p).line v.2 ((s.links p i).came v.0));
+  }
+
+  none_kept : (k : ℕ) → is_linked (w.links i k) ≡ true → ⊥
+  none_kept k is = not_both (is_linked (w.links i k)) is (may.alone k)
+
+  pub comes_first : Sound (with_node w i n)
+  comes_first =
+      sound_coming w i n s may.elsewhere may.made may.stays may.session may.comes none_kept may.plain first_link
+      (λ p e here q. absurd (never p.line here (subst (λ (j : ℕ). CameTo w.nodes p.line j) e q.came)))
+      (λ e at here q. absurd (never e.line here (subst (λ (j : ℕ). CameTo w.nodes e.line j) at q.came)))
+      (λ made r g. may.known made r (before w i n s may.elsewhere may.made may.stays may.session may.comes none_kept may.plain n.line i g))
+      (good_stays w i n s.good may.good (λ _. inl may.comes.began) (λ _. may.stays) (given w i n s.good may.made))
+      may.whole may.fed may.takes may.marked may.newest
 
 -- ## A bare site changes
 

@@ -33,7 +33,7 @@ use Rattle.vx_history.specs.Sound.{has_line, HasCome, Sound}
 use Rattle.vx_world.proofs.Lists.{each_append, each_weaker, not_true, not_false, not_both, or_left, or_right}
 use Rattle.vx_world.proofs.Stood.{last_line, who_came}
 use Rattle.vx_world.proofs.Moves.{sound_gathering, sound_with_node, sound_with_link, good_later, given, stays_fed, at_changed}
-use Rattle.vx_world.proofs.Comes.{MayCome, sound_joining, sound_founding}
+use Rattle.vx_world.proofs.Comes.{sound_joining, sound_founding}
 use Rattle.vx_world.proofs.Tests.{Keeps, unless_keeps}
 use Rattle.vx_world.proofs.Guards.{primary_origin}
 use Rattle.vx_world.proofs.Changes.{up_whole}

@@ -5,3 +5,4 @@ pub mod Grown
 pub mod Settling
 pub mod Twins
 pub mod Lines
+pub mod Comings

@@ -2,10 +2,11 @@
 ghost use Rattle.std.specs.Prelude.{◌≡◌, ℕ, ◌≤◌, ◌<◌, Bool, List, [], take, drop, slice_get, Some, true, false};
 ghost use Rattle.vx_model.specs.Content.{Write, IsPrefixOf, IsNumber, fold_writes};
 ghost use Rattle.vx_history.specs.Good.{IsMade};
-ghost use Rattle.vx_history.specs.World.{World, Packet, Promise, Update, empty_world};
+ghost use Rattle.vx_history.specs.World.{World, Node, Packet, Promise, Update, empty_world, with_node};
 ghost use Rattle.vx_model.specs.Sites.{is_origin};
 ghost use Rattle.vx_model.specs.declared.history.Line.{Line};
 ghost use Rattle.vx_history.specs.declared.event.Event.{Event};
+ghost use Rattle.vx_world.specs.Comings.{MayComeFirst};
 ghost use Rattle.vx_world.specs.Grown.{Grown};
 ghost use Rattle.vx_world.specs.Settling.{MaySettle, IsMet, deliver_new, delivery, greeting_events, turn, settling};
 ghost use Rattle.vx_history.specs.Sound.{Sound, IsKept};
@@ -67,6 +68,12 @@ pub fn in_order()
 pub fn forgets_nothing()
     ensures run { (w : World) (events : List Event) → Sound w → Grown w (run w events) }
     ensures number { (w : World) (events : List Event) (l : Line) (n : ℕ) (x : Write) → Sound w → IsMade (w.nodes l.origin) → IsNumber (w.lines l).held n x → IsNumber ((run w events).lines l).held n x }
+{}
+
+/// A site that never stood on a line may come to it at any number, with that first part of what the line holds: what was sent, what was
+/// promised and what links say stays so.
+pub fn comes_at_any_number()
+    ensures first { (w : World) (i : ℕ) (n : Node) → Sound w → MayComeFirst w i n → Sound (with_node w i n) }
 {}
 
 /// Settling a link of a good world brings all that is durable at its site to its receiver's disks. The receiver's greeting lets the two meet, each turn
