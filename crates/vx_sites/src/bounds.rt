@@ -242,11 +242,12 @@ fn are_same(here: &[u64], there: &[u64]) -> bool
     if here.len() != there.len() {
         return false;
     }
-    let mut same = true;
     for volume in 0..here.len() {
-        same = here[volume] == there[volume] && same;
+        if here[volume] != there[volume] {
+            return false;
+        }
     }
-    same
+    true
 }
 
 fn rings_fit(here: &Node, there: &Node) -> bool
