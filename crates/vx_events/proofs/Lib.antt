@@ -5,6 +5,7 @@ pub mod LinkAgreeing
 pub mod LinkJoining
 pub mod LinkStopping
 pub mod LinkTesting
+pub mod LinkWaiting
 pub mod LinkWrites
 pub mod Passing
 pub mod Places

@@ -47,7 +47,7 @@ use Rattle.vx_events.proofs.Passing.{off, is_site, above}
 use Rattle.vx_events.proofs.Refused.{passes, when_none, neither, not_false, running_by}
 use Rattle.vx_events.proofs.Testing.{none_under}
 
-all_of : (a b : Bool) → (a && b) ≡ true → (a ≡ true) × (b ≡ true)
+pub all_of : (a b : Bool) → (a && b) ≡ true → (a ≡ true) × (b ≡ true)
 all_of true b e = (refl, e)
 all_of false b e = absurd (cc)
 
@@ -102,7 +102,7 @@ among_found n row s (t ∷ ts) (inr more) e = by (t == s) (λ none. among_found 
     by true rest none = absurd (cc)
     by false rest none = rest none
 
-by_test : (b : Bool) → (b ≡ true → ⊥) → b ≡ false
+pub by_test : (b : Bool) → (b ≡ true → ⊥) → b ≡ false
 by_test true never = absurd (never refl)
 by_test false never = refl
 
@@ -133,12 +133,12 @@ below_limit : (k : ℕ) → nat_le MOST_LINKS k ≡ false → k < MOST_LINKS
 below_limit k e = grind (arith, nat_tests)
 
 -- a site that is up and is not halted, as its facts show it
-record IsHere (w : World) (i : ℕ) : Type 0 where
-  up : (w.nodes i).state ≡ Up
-  running : (w.nodes i).halted ≡ None
-  group : rvg_of (Some (linked_fact w i)) ≡ Some (group_fact (w.nodes i))
+pub record IsHere (w : World) (i : ℕ) : Type 0 where
+  pub up : (w.nodes i).state ≡ Up
+  pub running : (w.nodes i).halted ≡ None
+  pub group : rvg_of (Some (linked_fact w i)) ≡ Some (group_fact (w.nodes i))
 
-here_by : (w : World) (i : ℕ) → not (is_up (w.nodes i).state) ≡ false → halted_one (Some (linked_fact w i)) ≡ None → IsHere w i
+pub here_by : (w : World) (i : ℕ) → not (is_up (w.nodes i).state) ≡ false → halted_one (Some (linked_fact w i)) ≡ None → IsHere w i
 here_by w i up running =
     let here : (w.nodes i).state ≡ Up = up_state (w.nodes i).state (not_false (is_up (w.nodes i).state) up) in
     record {
@@ -178,7 +178,7 @@ joins_step w a b sync m =
     ∙ off (leb MOST_LINKS (links_of w a)) (Limit Links MOST_LINKS) w sized (above MOST_LINKS (links_of w a) m.few)
     ∙ off (not (agree (w.nodes a).volumes (w.nodes b).volumes && history.rings_fit (w.nodes a) (w.nodes b))) Size w o (ap not m.fits)
 
-both_hold : (x y : Bool) → x ≡ true → y ≡ true → (x && y) ≡ true
+pub both_hold : (x y : Bool) → x ≡ true → y ≡ true → (x && y) ≡ true
 both_hold true y e f = f
 both_hold false y e f = absurd (cc)
 

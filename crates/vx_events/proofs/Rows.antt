@@ -1,6 +1,6 @@
 -- Small scripts over linked sites: of each line its refusal, or what is said of its last event, and which packets it sends.
 use Rattle.std.proofs.Common.{◌≡◌, ℕ, Bool, false, List, [], ◌∷◌, ◌++◌, refl}
-use Rattle.std.specs.Prelude.{Option, Some, None}
+use Rattle.std.specs.Prelude.{Option, Some, None, codes}
 use Rattle.std.specs.Fmt.{digits}
 use Rattle.vx_model.specs.Sizes.{is_raw_shape}
 use Rattle.vx_model.specs.declared.link.SyncMode.{SyncMode}
@@ -17,7 +17,7 @@ use Rattle.vx_history.specs.declared.event.Said.{Said}
 use Rattle.vx_history.specs.declared.event.Said.TheVariants.{Done, DoneAt, Logged, Pending, Taken, Ignored, Recovered, Refused}
 use Rattle.vx_history.specs.Step.{step, run}
 use Rattle.vx_script.specs.declared.line.ScriptLine.{ScriptLine}
-use Rattle.vx_script.specs.declared.line.ScriptLine.TheVariants.{Site, Raw, Crash, Recover, Write, Read, Wait, Link, Connect, Cut, Pump, Deliver}
+use Rattle.vx_script.specs.declared.line.ScriptLine.TheVariants.{Site, Raw, Crash, Recover, Write, Read, Wait, Link, Connect, Cut, Pump, Deliver, Settle}
 use Rattle.vx_order.specs.Asks.{ask_of}
 use Rattle.vx_order.specs.Order.{refusal_of}
 use Rattle.vx_order.specs.Shapes.{line_role, line_unknown, taken, over_limit, wrong_size}
@@ -26,6 +26,8 @@ use Rattle.vx_order.specs.Subject.{first_name, second_name, need_of, halt_of}
 use Rattle.vx_order.specs.Tests.{first_of}
 use Rattle.vx_events.specs.LinkedFacts.{refused_by}
 use Rattle.vx_events.specs.LinkLists.{link_events}
+use Rattle.vx_report.specs.Statuses.{status_text, rvg_text, link_way}
+use Rattle.vx_events.specs.LinkViews.{linked_view}
 use Rattle.vx_events.specs.Lists.{Choice, events_of}
 use Rattle.vx_events.specs.Sent.{sent_between}
 
@@ -104,6 +106,24 @@ restarted_row = refl
 -- a full log: a live link stalls the write, and one that is cut fails it
 abbrev filled : List ScriptLine
 filled = put_one 0 1 ∷ put_one 1 2 ∷ Write a d1 2 2 3 ∷ []
+
+-- what the status of the first site shows behind a script
+abbrev status : List ScriptLine → List ℕ
+status lines = status_text (linked_view (worked empty_world lines) 0)
+
+-- a settled link gives the log its room back
+abbrev settled : List ScriptLine
+settled = filled ++ put_one 4 4 ∷ Settle a b ∷ put_one 4 4 ∷ Crash a 0 ∷ Recover a ∷ []
+
+settled_row : printed (worked empty_world (linked 10 NeverWaits)) settled
+    ≡ says (DoneAt 1) ∷ says (DoneAt 2) ∷ says (DoneAt 3) ∷ says (Refused (Stalled (Known b))) ∷ sends Taken 2 10 ∷ says (DoneAt 4) ∷ says Done ∷ says (Recovered 4) ∷ []
+unfolding refusal_of first_of first_name second_name need_of halt_of line_role line_unknown taken over_limit wrong_size span_of ask_of is_raw_shape digits
+settled_row = refl
+
+settled_status : status (linked 10 NeverWaits ++ settled)
+    ≡ codes "site a up\nrvg primary 1 a head 4 mark consistent session 2\nlink b attached cut running log net 3 stored 3\n"
+unfolding refusal_of first_of first_name second_name need_of halt_of line_role line_unknown taken over_limit wrong_size span_of ask_of is_raw_shape digits status_text rvg_text link_way
+settled_status = refl
 
 stalled_row : printed (worked empty_world (linked 10 NeverWaits)) (filled ++ put_one 4 4 ∷ Cut a b ∷ put_one 4 4 ∷ [])
     ≡ says (DoneAt 1) ∷ says (DoneAt 2) ∷ says (DoneAt 3) ∷ says (Refused (Stalled (Known b))) ∷ says Done ∷ says (Refused (LogFull (Known b))) ∷ []

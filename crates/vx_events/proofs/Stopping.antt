@@ -1,5 +1,5 @@
 -- How a line ended is an end of events of the world.
-use Rattle.std.proofs.Common.{◌≡◌, ◌∙◌, ◌⊎◌, inl, inr, ℕ, Bool, true, false, List, [], ◌∷◌, ◌++◌, ap, sym, subst, refl}
+use Rattle.std.proofs.Common.{◌≡◌, ◌∙◌, inl, inr, ℕ, Bool, true, false, List, [], ◌∷◌, ◌++◌, ap, sym, subst, refl}
 use Rattle.std.proofs.lemmas.List.{append-nil}
 use Rattle.std.specs.Prelude.{Option, Some, None, ◌<◌}
 use Rattle.vx_model.specs.declared.no.No.{No}
@@ -13,7 +13,7 @@ use Rattle.vx_history.specs.Steps.{burned}
 use Rattle.vx_history.specs.Stops.{Stops, AllDone as EventsDone, Cuts, Reads, IsOpen, IsFused, IsLikeDoubted, all_fails, told_fails, of_disk}
 use Rattle.vx_history.specs.World.{Node, World, Fuse, FuseSet, updated, with_node}
 use Rattle.vx_history.specs.declared.event.Event.{Event}
-use Rattle.vx_history.specs.declared.event.Event.TheVariants.{Site as MakeSite, Raw as MakeRaw, Write as WriteAt, Read as ReadAt, Apply as ApplyAt, Pump, Tick, Deliver, Connect, Cut, Pause, Resume, Wait, Link, Set, Crash as CrashAt, Recover as RecoverAt, Fault}
+use Rattle.vx_history.specs.declared.event.Event.TheVariants.{Site as MakeSite, Raw as MakeRaw, Write as WriteAt, Read as ReadAt, Apply as ApplyAt, Crash as CrashAt, Recover as RecoverAt, Fault}
 use Rattle.vx_order.specs.Order.{refusal_of}
 use Rattle.vx_script.specs.declared.line.ScriptLine.{ScriptLine}
 use Rattle.vx_script.specs.declared.line.ScriptLine.TheVariants.{Site, Raw, Disk as DiskLine, Crash, Fuse as FuseLine, Recover, Write, Put, Read, Show, Apply, Status}
@@ -24,7 +24,7 @@ use Rattle.vx_events.specs.Ends.{Ends, AllDone, DiskFails, FuseRunsOut, NoNumber
 use Rattle.vx_events.specs.Facts.{facts_of, site_number}
 use Rattle.vx_events.specs.Failing.{is_failing}
 use Rattle.vx_events.specs.Fails.{Fails}
-use Rattle.vx_events.specs.Lines.{LineStep, StepBy, IsDone, IsRefused}
+use Rattle.vx_events.specs.Lines.{LineStep, StepBy, IsRefused}
 use Rattle.vx_events.specs.Lists.{Choice, events_of, recovery_of}
 use Rattle.vx_events.specs.Stopping.{sure, CameOf, Whole, Broken, First, Crashed, StopsAs}
 use Rattle.vx_events.specs.declared.said.Said.{Said}

@@ -1,26 +1,25 @@
 -- A fuse that runs out in a write: the crash that keeps it or not is one of a site that may be as it was, or as it is behind the write.
 use Rattle.std.proofs.Common.{◌≡◌, ◌∙◌, ℕ, Bool, true, false, List, [], ◌∷◌, ap, sym, subst, refl}
-use Rattle.std.specs.Prelude.{Option, Some, None, if◌then◌else◌, leb, not, ◌+◌, ◌<◌}
+use Rattle.std.specs.Prelude.{Option, Some, None, if◌then◌else◌, leb, ◌+◌, ◌<◌}
 use Rattle.vx_model.specs.Answer.{is_too_large}
 use Rattle.vx_model.specs.Content.{Write as WriteBlocks, blocks_in}
-use Rattle.vx_model.specs.Sites.{is_origin, is_up}
+use Rattle.vx_model.specs.Sites.{is_origin}
 use Rattle.vx_model.specs.declared.history.Line.{Line}
 use Rattle.vx_model.specs.declared.limits.TheConstants.{MOST_NUMBER}
 use Rattle.vx_model.specs.declared.no.Counted.TheVariants.{Number}
-use Rattle.vx_model.specs.declared.no.No.TheVariants.{Limit, Down as NotUp}
-use Rattle.vx_model.specs.declared.site.SiteState.{SiteState}
+use Rattle.vx_model.specs.declared.no.No.TheVariants.{Limit}
 use Rattle.vx_model.specs.declared.site.SiteState.TheVariants.{Up}
 use Rattle.vx_history.proofs.Updates.{all_updated, at_place}
 use Rattle.vx_history.specs.Admission.{Admitted, Held_by, Goes}
-use Rattle.vx_history.specs.Doubts.{After, Doubted, halved, resolved, taken_up, crashed_as}
-use Rattle.vx_history.specs.Events.{admitted, written_if, put_in, links_changed, crash_at, crash_world, kept_of, lost_touch}
+use Rattle.vx_history.specs.Doubts.{After, halved, resolved, taken_up, crashed_as}
+use Rattle.vx_history.specs.Events.{admitted, written_if, put_in, links_changed, crash_at, kept_of, lost_touch}
 use Rattle.vx_history.specs.Headers.{headers_by}
 use Rattle.vx_history.specs.Likes.{IsLike, SameLink}
-use Rattle.vx_history.specs.Refusals.{Outcome, unless}
-use Rattle.vx_history.specs.Sends.{is_linked, with_links}
+use Rattle.vx_history.specs.Refusals.{Outcome}
+use Rattle.vx_history.specs.Sends.{is_linked}
 use Rattle.vx_history.specs.Step.{step, outcome_of, run, done}
 use Rattle.vx_history.specs.Steps.{crashed, kept_by, half_written, stopped_by, burned}
-use Rattle.vx_history.specs.World.{Node, Link as LinkOf, History, World, Fuse, updated, line_updated, with_node, with_history}
+use Rattle.vx_history.specs.World.{Node, Link as LinkOf, History, World, updated, line_updated, with_node, with_history}
 use Rattle.vx_history.specs.declared.event.Event.{Event}
 use Rattle.vx_history.specs.declared.event.Event.TheVariants.{Write as WriteAt, Crash as CrashAt}
 use Rattle.vx_events.specs.Stopping.{sure}

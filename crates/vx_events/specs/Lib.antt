@@ -7,6 +7,7 @@ pub mod Fuses
 pub mod Lines
 pub mod LinkEnds
 pub mod LinkLists
+pub mod LinkViews
 pub mod LinkedFacts
 pub mod Listed
 pub mod Lists

@@ -6,14 +6,23 @@ use Rattle.vx_model.specs.declared.no.Counted.TheVariants.{Number}
 use Rattle.vx_model.specs.declared.no.No.TheVariants.{Device, Limit, Down as IsOff}
 use Rattle.vx_history.specs.Doubts.{Doubted, Runs, halved, crashed_as}
 use Rattle.vx_history.specs.Stops.{Stops, IsFused, IsLikeDoubted, ComesTo, all_fails}
+use Rattle.vx_history.specs.Step.{run}
+use Rattle.vx_history.specs.World.{World}
 use Rattle.vx_history.specs.declared.event.Event.{Event}
 use Rattle.vx_history.specs.declared.event.Event.TheVariants.{Link as LinkAt, Set as SetAt, Pump as PumpAt, Deliver as DeliverAt, Apply as ApplyAt, Fault}
 use Rattle.vx_script.specs.declared.line.ScriptLine.{ScriptLine}
+use Rattle.vx_script.specs.declared.line.ScriptLine.TheVariants.{Settle}
+use Rattle.vx_events.specs.Facts.{head_of, site_number}
 use Rattle.vx_events.specs.Fails.{Fails}
 use Rattle.vx_events.specs.LinkLists.{link_events}
 use Rattle.vx_events.specs.Sayings.{Replies}
 use Rattle.vx_events.specs.declared.said.Said.{Said}
-use Rattle.vx_events.specs.declared.said.Said.TheVariants.{Refused}
+use Rattle.vx_events.specs.declared.said.Said.TheVariants.{Settled, Refused}
+
+-- the reply of a line of which all events are done: by the last of them, and of a settled link the last number of its first site
+abbrev pub LinkReplies : ScriptLine → World → List Event → Said → Type 0
+LinkReplies (Settle p s) w events said = said ≡ Settled (head_of ((run w events).nodes (site_number w p)))
+LinkReplies line w events said = Replies (Unit {0}) line 0 w events said
 
 -- an event that reads the log of this site before it does anything
 abbrev pub ReadsLog : Event → (site : ℕ) → Type 0
@@ -31,7 +40,7 @@ WritesHeader other = ⊥
 pub data LinkEnds (d : Doubted) (line : ScriptLine) (fails : Fails) (said : Said) (new : Doubted) : Type 0 where
   -- all events are done
   LinksDone : (last : Doubted) → Runs d (link_events d.world line) last → all_fails (link_events d.world line) ≡ [] → fails ≡ []
-      → Replies (Unit {0}) line 0 d.world (link_events d.world line) said → IsLikeDoubted last new → LinkEnds d line fails said new
+      → LinkReplies line d.world (link_events d.world line) said → IsLikeDoubted last new → LinkEnds d line fails said new
   -- a disk of this site failed in an event, which may be on its disks
   LinksHalt : (e : Event) (site disk : ℕ) (middle : Doubted) → ComesTo d (link_events d.world line) e site middle → fails ≡ (site, disk) ∷ []
       → said ≡ Refused (Device disk) → IsLikeDoubted (halved middle e site disk) new → LinkEnds d line fails said new

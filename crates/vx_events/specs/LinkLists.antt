@@ -6,7 +6,8 @@ use Rattle.vx_history.specs.declared.event.Event.{Event}
 use Rattle.vx_history.specs.declared.event.Event.TheVariants.{Link as LinkAt, Set as SetAt, Connect as ConnectAt, Cut as CutAt, Pause as PauseAt, Resume as ResumeAt, Pump as PumpAt, Tick as TickAt, Wait as WaitAt, Deliver as DeliverAt}
 use Rattle.vx_history.specs.declared.event.LinkPart.TheVariants.{Joins, Made, Marked, Opened}
 use Rattle.vx_script.specs.declared.line.ScriptLine.{ScriptLine}
-use Rattle.vx_script.specs.declared.line.ScriptLine.TheVariants.{Link, Set, Connect, Cut, Pause, Resume, Pump, Tick, Wait, Deliver}
+use Rattle.vx_script.specs.declared.line.ScriptLine.TheVariants.{Link, Set, Connect, Cut, Pause, Resume, Pump, Tick, Wait, Deliver, Settle}
+use Rattle.vx_world.specs.Settling.{settling}
 use Rattle.vx_events.specs.Facts.{site_number}
 
 -- a link is made in four steps, each of them durable before the next
@@ -24,4 +25,5 @@ link_events w (Pump p s) = PumpAt (site_number w p) (site_number w s) ∷ []
 link_events w (Tick p s) = TickAt (site_number w p) (site_number w s) ∷ []
 link_events w (Wait p number) = WaitAt (site_number w p) number ∷ []
 link_events w (Deliver number) = DeliverAt number ∷ []
+link_events w (Settle p s) = settling w (site_number w p) (site_number w s)
 link_events w other = []

@@ -1,5 +1,5 @@
 // What the tests of a line of links, its events and its ends have to do with each other.
-ghost use Rattle.std.specs.Prelude.{◌≡◌, ◌*◌, ℕ, List, Bool, Some, None, length, replicate};
+ghost use Rattle.std.specs.Prelude.{◌≡◌, ◌⊎◌, ◌*◌, ℕ, List, Bool, Some, None, length, replicate};
 ghost use Rattle.vx_model.specs.declared.link.SyncMode.{SyncMode};
 ghost use Rattle.vx_model.specs.declared.link.Prot.{Prot};
 ghost use Rattle.vx_history.specs.Doubts.{Doubted};
@@ -8,12 +8,12 @@ ghost use Rattle.vx_history.specs.Events.{packet_at, admitted};
 ghost use Rattle.vx_history.specs.declared.admission.Change.{Change};
 ghost use Rattle.vx_history.specs.Step.{step};
 ghost use Rattle.vx_history.specs.World.{Packet, World};
-ghost use Rattle.vx_history.specs.declared.event.Event.TheVariants.{Set as SetAt, Connect as ConnectAt, Cut as CutAt, Pause as PauseAt, Resume as ResumeAt, Tick as TickAt, Pump as PumpAt, Link as LinkAt};
+ghost use Rattle.vx_history.specs.declared.event.Event.TheVariants.{Set as SetAt, Connect as ConnectAt, Cut as CutAt, Pause as PauseAt, Resume as ResumeAt, Tick as TickAt, Pump as PumpAt, Link as LinkAt, Wait as WaitAt};
 ghost use Rattle.vx_history.specs.declared.event.LinkPart.TheVariants.{Joins};
 ghost use Rattle.vx_history.specs.Good.{Good};
-ghost use Rattle.vx_history.specs.declared.event.Said.TheVariants.{Done};
+ghost use Rattle.vx_history.specs.declared.event.Said.TheVariants.{Done, DoneAt, Pending};
 ghost use Rattle.vx_script.specs.declared.line.ScriptLine.{ScriptLine};
-ghost use Rattle.vx_script.specs.declared.line.ScriptLine.TheVariants.{Link, Set, Connect, Cut, Pause, Resume, Tick, Pump, Deliver, Write, Put};
+ghost use Rattle.vx_script.specs.declared.line.ScriptLine.TheVariants.{Link, Wait, Set, Connect, Cut, Pause, Resume, Tick, Pump, Deliver, Write, Put};
 ghost use Rattle.vx_events.specs.Listed.{AreListed};
 ghost use Rattle.vx_events.specs.Lines.{write_in};
 ghost use Rattle.vx_events.specs.Facts.{facts_of, site_number};
@@ -24,7 +24,7 @@ ghost use Rattle.vx_events.specs.Plain.{IsUnlinked};
 ghost use Rattle.vx_events.specs.declared.said.Said.{Said};
 
 /// Where no test of a line on a link refuses, its event is not refused by the world, nor is the first event of a line that makes a link;
-/// and a packet that no test refuses is one that the network still keeps.
+/// a write that is waited for is confirmed or pending, and a packet that no test refuses is one that the network still keeps.
 pub fn link_tests_agree()
     ensures set { (w : World) (files : Bool) (p s : List ℕ) (sync : SyncMode) (prot : Prot) → refused_by w files (Set p s sync prot) ≡ None
         → (step w (SetAt (site_number w p) (site_number w s) sync)).said ≡ Done }
@@ -36,6 +36,8 @@ pub fn link_tests_agree()
     ensures pump { (w : World) (files : Bool) (p s : List ℕ) → refused_by w files (Pump p s) ≡ None → (step w (PumpAt (site_number w p) (site_number w s))).said ≡ Done }
     ensures link { (w : World) (files : Bool) (p s : List ℕ) (sync : SyncMode) (prot : Prot) → Good w → AreListed w → refused_by w files (Link p s sync prot) ≡ None
         → (step w (LinkAt (site_number w p) (site_number w s) sync Joins)).said ≡ Done }
+    ensures wait { (w : World) (files : Bool) (p : List ℕ) (number : ℕ) → AreListed w → refused_by w files (Wait p number) ≡ None
+        → ((step w (WaitAt (site_number w p) number)).said ≡ DoneAt number) ⊎ ((step w (WaitAt (site_number w p) number)).said ≡ Pending number) }
     ensures deliver { (w : World) (files : Bool) (number : ℕ) → refused_by w files (Deliver number) ≡ None → (q : Packet) × (packet_at w.packets number ≡ Some q) }
 {}
 

@@ -1,4 +1,4 @@
--- What a crash leaves of a group may be imported, where all choices of the disks that can be read agree.
+-- What a crash or a deport leaves of a group may be imported, where all choices of the disks that can be read agree.
 use Rattle.std.proofs.Common.{◌≡◌, ◌⊎◌, inl, inr, ℕ, zero, suc, ◌+◌, ◌<◌, ◌≤◌, Bool, true, false, Option, Some, None, List, refl, ap, sym, ◌∙◌, subst, arith}
 use Rattle.std.specs.Prelude.{◌&&◌, ◌==◌, bytes_eq, nat_lt, if◌then◌else◌}
 use Rattle.std.proofs.lemmas.Bool.{cases_lt, eqb-true, lt-ltb, ltb-true}
@@ -7,7 +7,7 @@ use Rattle.vx_disk.specs.Shelf.{Each, Image, Meaning}
 use Rattle.vx_copyfmt.specs.Areas.{header_of}
 use Rattle.vx_copyfmt.specs.Copies.{Body, Copy, Differs, Disk, Holds, area_a, area_b, body_of, copy_at, copy_of, copy_under, greater, holding, judged}
 use Rattle.vx_copyfmt.specs.Commits.{Counts, IsHeaderBlock, IsTop, target_of}
-use Rattle.vx_copyfmt.specs.Imports.{Found, by_body, by_labels, by_newest, import_of, is_label, later, missing, newest, on_disk, or_missing, strange}
+use Rattle.vx_copyfmt.specs.Imports.{Found, NoConfig, by_body, by_labels, by_newest, first_of, import_of, is_label, later, missing, newest, on_disk, or_missing, strange, strange_label}
 use Rattle.vx_copyfmt.specs.Labels.{seen_in}
 use Rattle.vx_copyfmt.specs.declared.area.AreaHeader.{AreaHeader}
 use Rattle.vx_copyfmt.proofs.Areas.{serial_under, top_copy}
@@ -16,12 +16,19 @@ use Rattle.vx_copyfmt.proofs.Targets.{top_greatest}
 use Rattle.vx_copyfmt.proofs.Told.{false_from}
 use Rattle.vx_config.specs.declared.config.Config.{Config}
 use Rattle.vx_copies.specs.Bodies.{failed_in, of_serial, reads_in}
+use Rattle.vx_copies.specs.Commits.{Held, IsNone, Silent}
 use Rattle.vx_copies.specs.Looking.{on_shelf}
+use Rattle.vx_copies.specs.Marks.{failed_at}
 use Rattle.vx_copies.proofs.OneTry.{shelf_same}
+use Rattle.vx_kept.specs.Cleans.{at_serial}
 use Rattle.vx_kept.specs.Groups.{found, found_by}
 use Rattle.vx_kept.specs.Keeping.{Base, Kept}
+use Rattle.vx_kept.proofs.Chosen.{settle_found}
+use Rattle.vx_kept.proofs.Facts.{from_fact}
 use Rattle.vx_kept.proofs.Low.{found_same, import_low}
+use Rattle.vx_group.specs.Deports.{Deported}
 use Rattle.vx_group.specs.Resumes.{CanImport}
+use Rattle.vx_group.specs.declared.group_core.GroupCore.{GroupCore}
 
 -- ---- each disk with a header has a greater one
 
@@ -215,3 +222,76 @@ module _ (c : Config) (G : ℕ → Type 0) (m m' : Meaning) (kept : Kept c G m) 
     base = λ j x each is. crash_base x (sym (same_low (λ u. true) j each) ∙ is);
     one = λ j k R x each_j each_k is. same_low (λ u. true) k each_k ∙ agree R x (sym (same_low R j each_j) ∙ is);
   }
+
+-- ---- what a deport leaves
+
+-- some number below n passes both, or none does
+both_or : (a b : ℕ → Bool) (n : ℕ) → ((g : ℕ) × (g < n) × (a g ≡ false) × (b g ≡ true)) ⊎ ((u : ℕ) → u < n → a u ≡ false → b u ≡ false)
+both_or a b zero = inr (λ u lt is. absurd (omega (arith, lt)))
+both_or a b (suc n) = by (a n) (b n) refl refl (both_or a b n)
+  where
+    at_last : {P : Type 0} (u : ℕ) → u < suc n → (u < n → P) → (u ≡ n → P) → P
+    at_last u lt before last = elim (cases_lt u n) [ inl less ↦ before less | inr le ↦ last (omega (arith, lt, le)) ]
+
+    by : (x y : Bool) → a n ≡ x → b n ≡ y → ((g : ℕ) × (g < n) × (a g ≡ false) × (b g ≡ true)) ⊎ ((u : ℕ) → u < n → a u ≡ false → b u ≡ false)
+        → ((g : ℕ) × (g < suc n) × (a g ≡ false) × (b g ≡ true)) ⊎ ((u : ℕ) → u < suc n → a u ≡ false → b u ≡ false)
+    by x y at_a at_b (inl it) = inl (it.0, (let lt = it.1 in omega (arith, lt)), it.2, it.3)
+    by false true at_a at_b (inr none) = inl (n, omega arith, at_a, at_b)
+    by true y at_a at_b (inr none) = inr (λ u lt is. at_last u lt (λ less. none u less is) (λ same. absurd (let clash : false ≡ true = sym is ∙ ap a same ∙ at_a in cc)))
+    by false false at_a at_b (inr none) = inr (λ u lt is. at_last u lt (λ less. none u less is) (λ same. ap b same ∙ at_b))
+
+-- where nothing can be read nothing is found
+module _ (reads : ℕ → List ℕ → Option Config) (R : ℕ → Bool) (i : Image) where
+  strange_none : (n : ℕ) → ((u : ℕ) → u < n → R u ≡ false) → strange R i n ≡ None
+  strange_none zero off = refl
+  strange_none (suc n) off =
+      ap (λ (b : Bool). first_of (strange R i n) (if b then strange_label (seen_in (i n 0)) else None)) (off n (omega arith))
+      ∙ ap (λ (o : Option ℕ). first_of o None) (strange_none n (λ u lt. off u (omega (arith, lt))))
+
+  newest_none : (n : ℕ) → ((u : ℕ) → u < n → R u ≡ false) → newest reads R i n ≡ None
+  newest_none zero off = refl
+  newest_none (suc n) off =
+      ap (λ (b : Bool). later (newest reads R i n) (if b && is_label (seen_in (i n 0)) then on_disk n (copy_of reads (i n)) else None)) (off n (omega arith))
+      ∙ ap (λ (o : Option (ℕ × Copy Config)). later o None) (newest_none n (λ u lt. off u (omega (arith, lt))))
+
+  none_found : (units : ℕ) → ((u : ℕ) → u < units → R u ≡ false) → import_of reads failed_in units R i ≡ NoConfig
+  unfolding import_of
+  none_found units off =
+      ap (λ (o : Option ℕ). by_labels o (by_newest failed_in units R (newest reads R i units))) (strange_none units off)
+      ∙ ap (λ (o : Option (ℕ × Copy Config)). by_newest failed_in units R o) (newest_none units off)
+
+must_fail : (f r : Bool) → (f ≡ false → r ≡ false) → r ≡ true → f ≡ true
+must_fail true r off on = refl
+must_fail false r off on = absurd (let clash : false ≡ true = sym (off refl) ∙ on in cc)
+
+-- where it holds no disk as failed none of these says anything
+pub good_silent : (c : Config) (m : Meaning) → ((u : ℕ) → u < m.units → failed_at c.disks u ≡ false) → Silent c m
+good_silent c m good = record { each = λ i R each reads none. absurd (let clash : false ≡ true = sym (good reads.disk reads.below) ∙ reads.failed in cc) }
+
+module _ (core : GroupCore) (old new : Meaning) (it : Deported core old new) where
+  deport_base : (i : Image) (x : Config) → Each new.leaves i → found new i ≡ Found x → Base x new
+  deport_base i x each is =
+      let both : Found it.config ≡ Found x = sym (it.finds i each) ∙ is in
+      let same : it.config ≡ x = cc in
+      let kept = from_fact (at_serial it.config.serial it.behind.config) (Held it.config new) new it.kept in
+      subst (λ (y : Config). Base y new) same (record { below = record { each = λ u lt. kept.below.each u lt }; counts = kept.counts; labels = kept.labels })
+
+  -- where the disks that are held as failed say nothing by themselves
+  pub deport_can : Silent it.config new → CanImport new
+  deport_can silent = record { base = deport_base; one = one }
+    where
+      quiet : (i : Image) (R : ℕ → Bool) (x : Config) → Each new.leaves i → ((u : ℕ) → u < new.units → failed_at it.config.disks u ≡ false → R u ≡ false) → found_by new R i ≡ Found x → ⊥
+      quiet i R x each none is = elim (both_or (λ u. false) R new.units) [
+        | inl k ↦
+            let failed : failed_at it.config.disks k.0 ≡ true = must_fail (failed_at it.config.disks k.0) (R k.0) (none k.0 k.1) k.3 in
+            subst IsNone is (silent.each i R each (record { disk = k.0; below = k.1; failed = failed; read = k.3 }) (λ u held. none u held.below held.good))
+        | inr off ↦ let clash : NoConfig ≡ Found x = sym (none_found (on_shelf new) R i new.units (λ u lt. off u lt refl)) ∙ is in cc
+      ]
+
+      one : (i j : Image) (R : ℕ → Bool) (x : Config) → Each new.leaves i → Each new.leaves j → found_by new R i ≡ Found x → found new j ≡ Found x
+      one i j R x each_i each_j is = elim (both_or (λ u. failed_at it.config.disks u) R new.units) [
+        | inl g ↦
+            let same : it.config ≡ x = settle_found new.units R it.config x (sym (it.reads i R g.0 each_i (record { below = g.1; good = g.2 }) g.3) ∙ is) in
+            it.finds j each_j ∙ ap (λ (y : Config). Found y) same
+        | inr none ↦ absurd (quiet i R x each_i none is)
+      ]

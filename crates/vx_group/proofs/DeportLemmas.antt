@@ -68,6 +68,7 @@ module _ (core : GroupCore) (d : Config) (m m' : Meaning) (stands : Stands core 
   closed = record {
     config = d;
     finds = shown.finds;
+    reads = shown.reads;
     site = shown.grown.site ∙ all.alike.site;
     rvg = shown.grown.rvg ∙ all.alike.rvg;
     count = shown.grown.disks.count ∙ ap length all.alike.disks;
@@ -131,6 +132,7 @@ module _ (core mid fl d : GroupCore) (m m1 m2 last : Meaning) (begun : Stands co
       quiesces = both_quiesce core fl fl (IsVolumeOf core) NoVolume (IsVolumeOf core) m m2 last (apart_of_core core m begun) drained (committed_quiet fl m2 last it) flushed.up (λ v lt. inl lt);
       config = it.config;
       finds = it.finds;
+      reads = it.reads;
       parts = record { site = it.site ∙ flushed.parts.site ∙ same.site; rvg = it.rvg ∙ flushed.parts.rvg ∙ same.rvg; count = it.count ∙ flushed.parts.count ∙ same.count };
       volumes = it.volumes ∙ ap (λ (n : ℕ). (cleaned fl.unsure fl.config n).volumes) drained.shape.volumes;
       off = it.off;

@@ -1,5 +1,5 @@
 -- How a deport ends.
-use Rattle.std.specs.Prelude.{◌≡◌, ℕ, ◌<◌, false, length, Result, Ok, Err}
+use Rattle.std.specs.Prelude.{◌≡◌, ℕ, ◌<◌, Bool, true, false, length, Result, Ok, Err}
 use Rattle.vx_disk.specs.Causes.{DeviceCause}
 use Rattle.vx_disk.specs.Shelf.{Each, Image, Meaning, Nothing}
 use Rattle.vx_model.specs.declared.errors.Stop.{Stop}
@@ -8,12 +8,13 @@ use Rattle.vx_model.specs.declared.no.Counted.TheVariants.{Number as Numbers}
 use Rattle.vx_model.specs.declared.no.No.TheVariants.{Limit}
 use Rattle.vx_config.specs.Table.{greatest}
 use Rattle.vx_config.specs.declared.config.Config.{Config}
-use Rattle.vx_copyfmt.specs.Imports.{Found}
+use Rattle.vx_copyfmt.specs.Imports.{Found, settle}
+use Rattle.vx_copies.specs.Bodies.{failed_in}
 use Rattle.vx_copies.specs.Commits.{Held}
 use Rattle.vx_kept.specs.Cleans.{at_serial, cleaned, marked}
 use Rattle.vx_kept.specs.Commits.{Member}
 use Rattle.vx_kept.specs.Facts.{KeptFact}
-use Rattle.vx_kept.specs.Groups.{found}
+use Rattle.vx_kept.specs.Groups.{found, found_by}
 use Rattle.vx_kept.specs.Keeping.{Acts, Sees}
 use Rattle.vx_volume.specs.Plexes.{active}
 use Rattle.vx_group.specs.Moves.{Narrows}
@@ -27,6 +28,7 @@ use Rattle.vx_group.specs.declared.group_core.GroupCore.{GroupCore}
 pub record CleanCommitted (c : GroupCore) (old new : Meaning) : Type 0 where
   pub config : Config
   pub finds : (i : Image) → Each new.leaves i → found new i ≡ Found config
+  pub reads : (i : Image) (readable : ℕ → Bool) (g : ℕ) → Each new.leaves i → Held config new g → readable g ≡ true → found_by new readable i ≡ settle failed_in new.units readable config
   pub site : config.site ≡ c.config.site
   pub rvg : config.rvg ≡ c.config.rvg
   pub count : length config.disks ≡ length c.config.disks
@@ -58,6 +60,7 @@ pub record Deported (c : GroupCore) (old new : Meaning) : Type 0 where
   pub quiesces : Quiesces c behind (IsVolumeOf c) old new
   pub config : Config
   pub finds : (i : Image) → Each new.leaves i → found new i ≡ Found config
+  pub reads : (i : Image) (readable : ℕ → Bool) (g : ℕ) → Each new.leaves i → Held config new g → readable g ≡ true → found_by new readable i ≡ settle failed_in new.units readable config
   pub parts : SameParts c.config config
   pub volumes : config.volumes ≡ (cleaned behind.unsure behind.config (length c.config.volumes)).volumes
   pub off : (v p : ℕ) → marked behind.unsure v ≡ false → active config v p ≡ false

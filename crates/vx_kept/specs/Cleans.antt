@@ -7,12 +7,13 @@ use Rattle.vx_model.specs.declared.site.PlexState.TheVariants.{Active, Clean, St
 use Rattle.vx_config.specs.Changes.{stated}
 use Rattle.vx_config.specs.declared.config.Config.{Config}
 use Rattle.vx_config.specs.declared.entry.PlexEntry.{PlexEntry}
-use Rattle.vx_copyfmt.specs.Imports.{Found}
+use Rattle.vx_copyfmt.specs.Imports.{Found, settle}
+use Rattle.vx_copies.specs.Bodies.{failed_in}
 use Rattle.vx_copies.specs.Commits.{Grown, Held}
 use Rattle.vx_layout.specs.Places.{plex_at}
 use Rattle.vx_volume.specs.Plexes.{active}
 use Rattle.vx_kept.specs.Commits.{Left}
-use Rattle.vx_kept.specs.Groups.{found}
+use Rattle.vx_kept.specs.Groups.{found, found_by}
 use Rattle.vx_kept.specs.Keeping.{Kept}
 use Rattle.vx_kept.specs.States.{whole_of}
 
@@ -55,10 +56,11 @@ cleaned unsure c (suc n) = if marked unsure n then cleaned unsure c n else clean
 abbrev pub at_serial : ℕ → Config → Config
 at_serial s c = record { serial = s; site = c.site; disks = c.disks; volumes = c.volumes; rvg = c.rvg }
 
--- Whatever a crash leaves, an import that can read all disks finds this configuration. A group in which the plexes are ACTIVE as before
--- may stand on the disks.
+-- Whatever a crash leaves, an import that can read all disks finds this configuration, and one that can read a disk that it holds as good
+-- finds it, or misses another one. A group in which the plexes are ACTIVE as before may stand on the disks.
 pub record Shown (c a d : Config) (old new : Meaning) : Type 0 where
   pub finds : (i : Image) → Each new.leaves i → found new i ≡ Found d
+  pub reads : (i : Image) (readable : ℕ → Bool) (g : ℕ) → Each new.leaves i → Held d new g → readable g ≡ true → found_by new readable i ≡ settle failed_in new.units readable d
   pub grown : Grown old new a d
   pub kept : Kept (at_serial d.serial c) (Held d new) new
 

@@ -3,13 +3,13 @@ use Rattle.std.proofs.Common.{◌≡◌, ◌∙◌, ◌⊎◌, ◌<◌, inl, inr
 use Rattle.std.specs.Prelude.{Option, Some, None, Result, Ok, Err, OnOk, IsFalse, if◌then◌else◌, leb, ltb, ◌&&◌, ◌||◌, ◌+◌, slice_get, slice_set}
 use Rattle.vx_model.specs.Answer.{is_too_large}
 use Rattle.vx_model.specs.declared.no.No.{No}
-use Rattle.vx_model.specs.declared.no.No.TheVariants.{Device, Halted, Size, Range, Limit, Role, Down as IsDown}
+use Rattle.vx_model.specs.declared.no.No.TheVariants.{Device, Size, Range, Limit, Down as IsDown}
 use Rattle.vx_model.specs.declared.state.KeptLink.{KeptLink}
 use Rattle.vx_model.specs.declared.no.Counted.TheVariants.{Number}
 use Rattle.vx_model.specs.Content.{blocks_in}
 use Rattle.vx_disk.specs.Burns.{FallsShort, RackIsShort}
 use Rattle.vx_disk.specs.Causes.{OnDisks, WithDisks, Works as IsWorking}
-use Rattle.vx_disk.specs.Disks.{Disks, Crashed, RanOut, Untouched}
+use Rattle.vx_disk.specs.Disks.{Disks, Crashed, Untouched}
 use Rattle.vx_disk.specs.Shelf.{Meaning}
 use Rattle.vx_disk.specs.declared.shelf.Shelf.{Ghosts}
 use Rattle.vx_disk.proofs.Alikes.{picked_stable}
@@ -24,7 +24,7 @@ use Rattle.vx_events.specs.Facts.{seat_of, site_number}
 use Rattle.vx_events.specs.declared.said.Said.{Said}
 use Rattle.vx_events.specs.declared.said.Said.TheVariants.{Refused}
 use Rattle.vx_history.specs.World.{Node, World}
-use Rattle.vx_node.specs.Asked.{CutsShort, LeavesFuse, MayCrash, WritesUnder, OfSite, disks_in, size_in}
+use Rattle.vx_node.specs.Asked.{CutsShort, LeavesFuse, MayCrash, OfSite, disks_in, size_in}
 use Rattle.vx_node.specs.Burning.{Burnt, NoMore, IsLogged, OffIf, said_by}
 use Rattle.vx_node.specs.DiskSets.{is_off}
 use Rattle.vx_node.specs.Stands.{IsUpAt, StandsAlone, StandsAt}

@@ -1,5 +1,5 @@
 -- What a line that makes a disk fail, or ends that, comes to.
-use Rattle.std.proofs.Common.{◌≡◌, ◌∙◌, ℕ, Bool, List, [], ap, sym, subst, refl}
+use Rattle.std.proofs.Common.{◌≡◌, ℕ, Bool, List, [], ap, sym, subst, refl}
 use Rattle.std.specs.Prelude.{Some, slice_get, slice_set}
 use Rattle.vx_history.specs.World.{Node, World, updated}
 use Rattle.vx_disk.specs.declared.shelf.Shelf.{Ghosts}

@@ -1,7 +1,7 @@
 -- How a site lies on its disks, past calls that leave their number and sizes alone, and of a raw set as it is made.
-use Rattle.std.proofs.Common.{◌≡◌, ◌∙◌, ℕ, zero, suc, ◌+◌, ◌-◌, ◌<◌, ◌≤◌, List, [], ◌∷◌, ◌++◌, length, ap, sym, refl, arith}
+use Rattle.std.proofs.Common.{◌≡◌, ◌∙◌, ℕ, zero, suc, ◌+◌, ◌-◌, ◌<◌, ◌≤◌, List, [], ◌++◌, length, ap, sym, refl, arith}
 use Rattle.std.specs.Fmt.{decimal}
-use Rattle.std.specs.Prelude.{Some, None, slice_get, codes, ltb, if◌then◌else◌}
+use Rattle.std.specs.Prelude.{Some, slice_get, codes}
 use Rattle.std.proofs.lemmas.Bool.Decides.{nat_tests}
 use Rattle.std.proofs.lemmas.Option.{slice_get_within}
 use Rattle.vx_model.specs.Content.{Content}
@@ -14,7 +14,7 @@ use Rattle.vx_disk.specs.Shelf.{Meaning}
 use Rattle.vx_rvg.specs.Contents.{HasSizes}
 use Rattle.vx_rvg.specs.Views.{unit_of}
 use Rattle.vx_events.proofs.Values.{length-values_from, slice_index-values_from}
-use Rattle.vx_node.specs.Layouts.{raw_units, units_of, IsLaid, IsRaw, LiesOn}
+use Rattle.vx_node.specs.Layouts.{raw_units, IsLaid, IsRaw, LiesOn}
 
 -- ---- past a call
 

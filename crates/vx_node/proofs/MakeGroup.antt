@@ -1,17 +1,15 @@
 -- What stands after calls that change no contents, and of a raw set as it is made.
 use Rattle.std.proofs.Common.{◌≡◌, ◌∙◌, ◌+◌, ◌-◌, ◌<◌, ◌≤◌, ℕ, zero, suc, List, [], length, ap, ⊎_elim, sym, subst, refl, arith, IsTrue}
-use Rattle.std.specs.Prelude.{IsFalse, Option, Some, None, slice_get, codes, replicate, ◌++◌}
+use Rattle.std.specs.Prelude.{IsFalse, Option, Some, None, slice_get, replicate}
 use Rattle.std.proofs.lemmas.List.{length-replicate}
 use Rattle.vx_model.specs.declared.state.KeptLink.{KeptLink}
 use Rattle.vx_disk.specs.Causes.{WithDisks, OnDisks}
 use Rattle.vx_disk.specs.Disks.{Disks, Untouched, is_set}
 use Rattle.vx_disk.specs.Racks.{IsRack}
-use Rattle.std.specs.Fmt.{decimal}
 use Rattle.std.proofs.lemmas.Bool.{cases_lt}
-use Rattle.std.proofs.lemmas.Bool.Decides.{nat_tests}
-use Rattle.vx_history.specs.World.{Node, Volume, Fuse, NoFuse, FuseSet, FuseLit}
+use Rattle.vx_history.specs.World.{Node, Fuse, NoFuse, FuseSet, FuseLit}
 use Rattle.vx_model.specs.Content.{Content, zero_block}
-use Rattle.vx_history.specs.Steps.{raw_set, raw_content, raw_volumes}
+use Rattle.vx_history.specs.Steps.{raw_set, raw_content}
 use Rattle.vx_model.specs.Sizes.{ring_of}
 use Rattle.std.proofs.lemmas.List.Elements.{All-nil}
 use Rattle.vx_srlfmt.specs.Headers.{CanSpellState, CanSpellLink}

@@ -1,10 +1,9 @@
 -- How small the number of a volume is that a line names.
 use Rattle.std.proofs.Common.{◌≡◌, ◌∙◌, ◌<◌, ◌≤◌, ℕ, zero, suc, List, [], ◌∷◌, length, ap, sym, refl, arith}
-use Rattle.std.specs.Prelude.{Option, Some, slice_get, map}
+use Rattle.std.specs.Prelude.{Some, slice_get, map}
 use Rattle.std.specs.Str.{bytes_eq}
 use Rattle.std.proofs.lemmas.List.{length-map}
-use Rattle.std.proofs.lemmas.Option.{slice_get_within}
-use Rattle.vx_history.specs.World.{Node, World, Volume}
+use Rattle.vx_history.specs.World.{Node, World}
 use Rattle.vx_disk.specs.declared.shelf.Shelf.{Ghosts}
 use Rattle.vx_order.specs.declared.facts.SiteFacts.{SiteFacts}
 use Rattle.vx_order.specs.declared.facts.VolumeFacts.{VolumeFacts}

@@ -17,7 +17,7 @@ use Rattle.vx_rvg.specs.Holdings.{Holding}
 use Rattle.vx_rvg.specs.Stands.{Found}
 use Rattle.vx_rvg.specs.Views.{Core}
 use Rattle.vx_node.specs.Holds.{HasWrites, state_with}
-use Rattle.vx_node.specs.Layouts.{LiesOn, units_of}
+use Rattle.vx_node.specs.Layouts.{units_of}
 use Rattle.vx_node.proofs.Laying.{lies_moved}
 use Rattle.vx_events.specs.Stamps.{most_stamp}
 use Rattle.vx_node.specs.DiskSets.{worked}

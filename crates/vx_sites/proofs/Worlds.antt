@@ -1,12 +1,12 @@
 -- A world in memory with one part in place of another.
-use Rattle.std.proofs.Common.{◌≡◌, ℕ, ◌+◌, ◌-◌, ◌<◌, max, List, [], ◌∷◌, ◌++◌, length, get_or, take, drop, refl, sym, ap, ◌∙◌}
+use Rattle.std.proofs.Common.{◌≡◌, ℕ, ◌+◌, ◌-◌, ◌<◌, max, List, [], ◌∷◌, ◌++◌, length, get_or, take, drop, replicate, refl, sym, ap, ◌∙◌}
 use Rattle.std.specs.Prelude.{None, if◌then◌else◌}
 use Rattle.std.proofs.Math.ListN.{set}
 use Rattle.std.proofs.lemmas.List.{length-set, length-append}
 use Rattle.vx_model.specs.Content.{Write, Content, put, fold_writes, zeros}
 use Rattle.vx_history.specs.World.{Node as PlainNode, Link as PlainLink, History as PlainHistory, World as PlainWorld, NoFuse, bare_site, no_link, no_history, updated, line_updated, with_node}
 use Rattle.vx_history.specs.Sends.{with_links}
-use Rattle.vx_history.specs.Steps.{burned, logged, told_of, written, crashed, raw_volumes, raw_content, raw_set, raw_made}
+use Rattle.vx_history.specs.Steps.{burned, logged, told_of, written, crashed, raw_content, raw_set, raw_made}
 use Rattle.vx_model.specs.Sizes.{ring_of}
 use Rattle.vx_model.specs.Sites.{first_line, same_line}
 use Rattle.vx_history.specs.Events.{applied, joined}
@@ -18,7 +18,8 @@ use Rattle.vx_model.specs.declared.site.SPhase.TheVariants.{Quiet}
 use Rattle.vx_model.specs.declared.site.SiteState.TheVariants.{Up, Down}
 use Rattle.vx_sites.specs.declared.node.Node.{Node}
 use Rattle.vx_sites.specs.declared.link.Row.{Row}
-use Rattle.vx_sites.specs.Shapes.{sizes, node_of, nodes_of, row_of, links_of}
+use Rattle.vx_sites.proofs.Volumes.{named_raw, sizes_raw}
+use Rattle.vx_sites.specs.Shapes.{sizes, named_volumes, node_of, nodes_of, row_of, links_of}
 use Rattle.vx_sites.proofs.Tables.{seen-at, seen-push, seen-changed}
 
 -- a site changes
@@ -83,16 +84,20 @@ written_is w i x v lines is told =
     ap (λ (f : Line → PlainHistory). with_node (record w { lines = f }) i (logged (w.nodes i) x)) (told ∙ ap (λ (n : PlainNode). line_updated w.lines n.line (told_of (w.lines n.line) x)) (sym is))
 
 -- a raw set, and what is recorded of its line
-pub raw_is : (n : PlainNode) (site ring volumes : ℕ) (stood : List Line) (start base : Content) (log : List Write) → ring ≡ ring_of n.blocks → volumes ≡ n.disks - 2 → stood ≡ n.stood ++ first_line site ∷ []
-    → start ≡ zeros (sizes volumes n.blocks) → base ≡ zeros (sizes volumes n.blocks) → log ≡ []
-    → (let m : PlainNode = record n { state = Up; ring = ring; volumes = raw_volumes 1 volumes n.blocks; role = Primary; mark = Consistent; line = first_line site; top = 1; stood = stood; session = 1; start = start; base = base; log = log; safe = 0; halted = None } in m) ≡ raw_set site n
-raw_is n site ring volumes stood start base log r v o s b l = rw (r, o, s, b, l, v) refl
+pub raw_is : (n : PlainNode) (site ring : ℕ) (blocks : List ℕ) (stood : List Line) (start base : Content) (log : List Write) → ring ≡ ring_of n.blocks
+    → blocks ≡ replicate (n.disks - 2) n.blocks → stood ≡ n.stood ++ first_line site ∷ []
+    → start ≡ zeros (sizes blocks) → base ≡ zeros (sizes blocks) → log ≡ []
+    → (let m : PlainNode = record n { state = Up; ring = ring; volumes = named_volumes 1 blocks; role = Primary; mark = Consistent; line = first_line site; top = 1; stood = stood; session = 1; start = start; base = base; log = log; safe = 0; halted = None } in m) ≡ raw_set site n
+raw_is n site ring blocks stood start base log r v o s b l =
+    rw (r, o, s, b, l, v, named_raw 1 (n.disks - 2) n.blocks, sizes_raw (n.disks - 2) n.blocks) refl
 
-pub raw_made_is : (w : PlainWorld) (i : ℕ) (v : PlainNode) (lines : Line → PlainHistory) (start : Content) (volumes : ℕ) → w.nodes i ≡ v → volumes ≡ v.disks - 2
-    → start ≡ zeros (sizes volumes v.blocks) → lines ≡ line_updated w.lines (first_line i) (record no_history { start = start })
+pub raw_made_is : (w : PlainWorld) (i : ℕ) (v : PlainNode) (lines : Line → PlainHistory) (start : Content) (blocks : List ℕ) → w.nodes i ≡ v
+    → blocks ≡ replicate (v.disks - 2) v.blocks
+    → start ≡ zeros (sizes blocks) → lines ≡ line_updated w.lines (first_line i) (record no_history { start = start })
     → with_node (record w { lines = lines }) i (raw_set i (w.nodes i)) ≡ raw_made w i
-raw_made_is w i v lines start volumes is many made told =
+raw_made_is w i v lines start blocks is many made told =
     let content : start ≡ raw_content (w.nodes i).disks (w.nodes i).blocks =
-    made ∙ ap (λ (k : ℕ). zeros (sizes k v.blocks)) many ∙ ap (λ (n : PlainNode). raw_content n.disks n.blocks) (sym is) in
+    made ∙ ap (λ (bs : List ℕ). zeros (sizes bs)) many ∙ ap zeros (sizes_raw (v.disks - 2) v.blocks)
+    ∙ ap (λ (n : PlainNode). raw_content n.disks n.blocks) (sym is) in
     ap (λ (f : Line → PlainHistory). with_node (record w { lines = f }) i (raw_set i (w.nodes i)))
     (told ∙ ap (λ (c : Content). line_updated w.lines (first_line i) (record no_history { start = c })) content)

@@ -1,12 +1,12 @@
 -- What a world in memory is seen as. Headers are not counted in it.
-use Rattle.std.specs.Prelude.{◌≡◌, ℕ, ◌<◌, true, false, List, [], ◌∷◌, length, map, get_or, ltb, Option, Some, None, if◌then◌else◌}
+use Rattle.std.specs.Prelude.{◌≡◌, ℕ, ◌+◌, ◌<◌, true, false, List, [], ◌∷◌, ◌++◌, length, map, get_or, Option, Some, None, if◌then◌else◌, codes}
+use Rattle.std.specs.Fmt.{decimal}
 use Rattle.vx_model.specs.Content.{Content as PlainContent, zeros, fold_writes}
 use Rattle.vx_model.specs.Sites.{no_line, same_line}
-use Rattle.vx_history.specs.World.{no_regions, no_link, no_history, bare_site, NoFuse}
+use Rattle.vx_history.specs.World.{Volume, no_regions, no_link, no_history, bare_site, NoFuse}
 use Rattle.vx_history.specs.World.{Node as PlainNode, Link as PlainLink, History as PlainHistory, World as PlainWorld}
 use Rattle.vx_history.specs.World.{Message as PlainMessage, Packet as PlainPacket, Key as PlainKey, Gathering as PlainGathering, Surety as PlainSurety, Promise as PlainPromise}
 use Rattle.vx_history.specs.World.{Hello as PlainHello, Update as PlainUpdate, NetAck as PlainNetAck, DataAck as PlainDataAck, Durable as PlainDurable, InSession as PlainInSession}
-use Rattle.vx_history.specs.Steps.{raw_volumes}
 use Rattle.vx_model.specs.declared.history.Line.{Line}
 use Rattle.vx_sites.specs.declared.content.Content.{Content}
 use Rattle.vx_sites.specs.declared.history.History.{History}
@@ -25,12 +25,17 @@ use Rattle.vx_sites.specs.declared.packet.Surety.TheVariants.{Durable, InSession
 use Rattle.vx_sites.specs.declared.packet.Promise.{Promise}
 use Rattle.vx_sites.specs.declared.world.World.{World}
 
--- so many volumes of so many blocks each
-abbrev pub sizes : (volumes blocks : ℕ) → ℕ → ℕ
-sizes volumes blocks v = if ltb v volumes then blocks else 0
+-- volumes of these many blocks each
+abbrev pub sizes : List ℕ → ℕ → ℕ
+sizes blocks v = get_or blocks v 0
+
+-- they are named d1, d2 and so on, the first with number k
+abbrev pub named_volumes : ℕ → List ℕ → List Volume
+named_volumes k [] = []
+named_volumes k (b ∷ bs) = record { name = codes "d" ++ decimal k; blocks = b } ∷ named_volumes (k + 1) bs
 
 abbrev pub content_of : Content → PlainContent
-content_of c = fold_writes (zeros (sizes c.volumes c.blocks)) c.writes.items
+content_of c = fold_writes (zeros (sizes c.sizes.items)) c.writes.items
 
 abbrev pub history_of : History → PlainHistory
 history_of h = record { parent = no_line; fork = 0; start = content_of h.start; held = h.held.items; told = h.told }
@@ -42,7 +47,7 @@ node_of n = record {
   disks = n.disks;
   blocks = n.blocks;
   ring = n.ring;
-  volumes = raw_volumes 1 n.volumes n.blocks;
+  volumes = named_volumes 1 n.volumes.items;
   role = n.role;
   line = n.line;
   parent = no_line;

@@ -11,7 +11,7 @@ ghost use Rattle.vx_model.specs.Sizes.{is_raw_shape as raw_shape};
 ghost use Rattle.vx_model.specs.declared.no.No.TheVariants.{Unknown, Exists, Role as WrongRole, Size as WrongSize, Range as OutOfRange};
 ghost use Rattle.vx_model.specs.declared.no.Named.TheVariants.{Number as ByNumber};
 ghost use Rattle.vx_sites.specs.Refusing.{Refuses};
-ghost use Rattle.vx_sites.specs.Shapes.{world_of, node_of};
+ghost use Rattle.vx_sites.specs.Shapes.{world_of, node_of, named_volumes};
 
 use crate::refusals::{has_writes, refuse_site, refuse_work};
 use crate::{Node, World};
@@ -109,7 +109,7 @@ pub fn refuse_volume(world: &World, site: u32, volume: u32) -> Option<No>
 fn lacks_volume(node: &Node, volume: u32) -> bool
     ensures { result ≡ leb (length (node_of node.now).volumes) volume }
 {
-    node.volumes <= volume
+    node.volumes.len() <= volume as usize
 }
 
 /// 3 where the blocks end past the volume.
@@ -232,7 +232,22 @@ pub fn is_same_line(line: &Line, other: &Line) -> bool
 fn has_same_volumes(here: &Node, there: &Node) -> bool
     ensures { result ≡ agree (node_of here.now).volumes (node_of there.now).volumes }
 {
-    here.volumes == there.volumes && (here.volumes == 0 || here.blocks == there.blocks)
+    are_same(&here.volumes, &there.volumes)
+}
+
+// Whether the sizes are as many and the same.
+fn are_same(here: &[u64], there: &[u64]) -> bool
+    ensures { result ≡ agree (named_volumes 1 here.now) (named_volumes 1 there.now) }
+{
+    if here.len() != there.len() {
+        return false;
+    }
+    for volume in 0..here.len() {
+        if here[volume] != there[volume] {
+            return false;
+        }
+    }
+    true
 }
 
 fn rings_fit(here: &Node, there: &Node) -> bool

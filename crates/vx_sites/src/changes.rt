@@ -20,24 +20,25 @@ impl World {
         ensures { OnOk result (world_of self.new ≡ raw_made (world_of self.old) site) }
     {
         let node = &mut self.nodes[site as usize];
-        let volumes = node.disks.saturating_sub(2);
+        let count = node.disks.saturating_sub(2);
+        let volumes = Vec::from_elem(self.alloc, node.blocks, count as usize)?;
         let line = Line {
             generation: 1,
             origin: site,
         };
-        let start = Content::new(self.alloc, volumes, node.blocks);
+        let start = Content::new(self.alloc, &volumes)?;
         begin_line(self.alloc, &mut self.lines, &line, start)?;
         node.state = SiteState::Up;
         node.ring = ring_of(node.blocks);
-        node.volumes = volumes;
         node.role = Role::Primary;
         node.mark = Mark::Consistent;
         node.line = line;
         node.top = 1;
         node.stood.push(line)?;
         node.session = 1;
-        node.start = Content::new(self.alloc, volumes, node.blocks);
-        node.base = Content::new(self.alloc, volumes, node.blocks);
+        node.start = Content::new(self.alloc, &volumes)?;
+        node.base = Content::new(self.alloc, &volumes)?;
+        node.volumes = volumes;
         node.log.clear();
         node.safe = 0;
         node.halted = None;

@@ -1,6 +1,7 @@
 // Writes, and what volumes hold.
 ghost use Rattle.std.specs.Prelude.{◌≡◌, ◌≤◌, ◌<◌, ◌%◌, length, IfOk, OnOk};
 ghost use Rattle.vx_model.specs.Content.{Content as PlainContent, zeros, put, fold_writes};
+ghost use Rattle.vx_history.specs.World.{no_volumes};
 ghost use Rattle.vx_sites.specs.Shapes.{sizes, content_of};
 
 use std::alloc::Global;
@@ -60,47 +61,50 @@ impl Write {
     }
 }
 
-/// What volumes hold: volumes of so many blocks each, of zeros at first, and the writes to them.
+/// What volumes hold: volumes of these many blocks each, of zeros at first, and the writes to them.
 #[derive(Drop)]
 pub struct Content {
-    pub volumes: u32,
-    pub blocks: u64,
+    /// The blocks of each volume.
+    pub sizes: Vec<u64>,
     pub writes: Vec<Write>,
 }
 
 impl Content {
-    /// So many volumes of so many blocks each, of zeros.
-    pub fn new(alloc: Global, volumes: u32, blocks: u64) -> Content
-        ensures { content_of result ≡ zeros (sizes volumes blocks) }
+    /// No volumes.
+    pub fn none(alloc: Global) -> Content
+        ensures { content_of result ≡ no_volumes }
     {
         Content {
-            volumes,
-            blocks,
+            sizes: Vec::new(alloc),
             writes: Vec::new(alloc),
         }
+    }
+
+    /// Volumes of these many blocks each, of zeros.
+    pub fn new(alloc: Global, blocks: &[u64]) -> Result<Content, OutOfMemory>
+        ensures { IfOk result (λ c. content_of c ≡ zeros (sizes blocks.now)) }
+    {
+        let sizes = Vec::from_slice(alloc, blocks)?;
+        Ok(Content {
+            sizes,
+            writes: Vec::new(alloc),
+        })
     }
 
     /// A copy.
     pub fn copy(&self, alloc: Global) -> Result<Content, OutOfMemory>
         ensures { IfOk result (λ c. content_of c ≡ content_of self.now) }
     {
+        let sizes = Vec::from_slice(alloc, &self.sizes)?;
         let writes = Vec::from_slice(alloc, &self.writes)?;
-        Ok(Content {
-            volumes: self.volumes,
-            blocks: self.blocks,
-            writes,
-        })
+        Ok(Content { sizes, writes })
     }
 
     /// How many blocks the volume has.
     pub fn size(&self, volume: u32) -> u64
         ensures { result ≡ (content_of self.now).size volume }
     {
-        if volume < self.volumes {
-            self.blocks
-        } else {
-            0
-        }
+        size_in(&self.sizes, volume as usize)
     }
 
     /// Puts a write's blocks in place of those that it is over. One that does not end within its volume changes nothing.
@@ -130,6 +134,16 @@ impl Content {
             put_block(write, size, volume, block, &mut bytes);
         }
         bytes
+    }
+}
+
+// How many blocks the volume has, of volumes of these many blocks each.
+fn size_in(blocks: &[u64], volume: usize) -> u64
+    ensures { result ≡ sizes blocks.now volume }
+{
+    match blocks.get(volume) {
+        Some(size) => *size,
+        None => 0,
     }
 }
 

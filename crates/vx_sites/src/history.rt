@@ -25,7 +25,7 @@ impl History {
         ensures { history_of result ≡ no_history }
     {
         History {
-            start: Content::new(alloc, 0, 0),
+            start: Content::none(alloc),
             held: Vec::new(alloc),
             told: 0,
         }

@@ -17,8 +17,8 @@ pub struct Node {
     pub blocks: u64,
     /// The blocks of its log that hold records.
     pub ring: u32,
-    /// How many data volumes its replicated volume group has, each as large as a disk.
-    pub volumes: u32,
+    /// The blocks of each data volume of its replicated volume group.
+    pub volumes: Vec<u64>,
     pub role: Role,
     pub line: Line,
     /// The greatest generation that it ever stood on.
@@ -56,7 +56,7 @@ impl Node {
             disks,
             blocks,
             ring: 0,
-            volumes: 0,
+            volumes: Vec::new(alloc),
             role: Role::Primary,
             line: Line {
                 generation: 0,
@@ -71,8 +71,8 @@ impl Node {
             end: 0,
             other: 0xffff_ffff,
             fed_by: 0xffff_ffff,
-            start: Content::new(alloc, 0, 0),
-            base: Content::new(alloc, 0, 0),
+            start: Content::none(alloc),
+            base: Content::none(alloc),
             log: Vec::new(alloc),
             safe: 0,
             halted: None,

@@ -1,7 +1,7 @@
 use Rattle.std.proofs.Common.{arith}
 use Rattle.std.proofs.lemmas.Bool.Decides.{nat_tests}
-use Rattle.vx_sites.proofs.Volumes.{length_raw_volumes}
+use Rattle.vx_sites.proofs.Volumes.{length_named}
 use Rattle.vx_sites.proofs.bounds.lacks_volume.Goals as goal
 
 pub returns : goal.returns
-returns c = rw (length_raw_volumes 1 c.args.node.now.volumes c.args.node.now.blocks) (grind (arith, nat_tests))
+returns c = rw (length_named 1 c.args.node.now.volumes.items) (grind (arith, nat_tests))

@@ -1,5 +1,3 @@
-use Rattle.std.proofs.Common.{refl}
-use Rattle.std.specs.Prelude.{IsFalse}
 use Rattle.vx_node.specs.Burning.{NoMore, said_by}
 use Rattle.vx_node.specs.declared.disk_set.DiskSet.TheVariants.{Up}
 use Rattle.vx_node.proofs.CallsBurn.{called_by, called_up, is_done}

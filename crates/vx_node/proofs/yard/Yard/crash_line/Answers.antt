@@ -1,5 +1,5 @@
 -- Each case of a line that crashes a site.
-use Rattle.std.proofs.Common.{◌≡◌, ◌∙◌, ap, sym, arith}
+use Rattle.std.proofs.Common.{◌≡◌}
 use Rattle.std.specs.Prelude.{Some}
 use Rattle.vx_events.specs.Facts.{seat_of}
 use Rattle.vx_node.specs.Yards.{in_files}

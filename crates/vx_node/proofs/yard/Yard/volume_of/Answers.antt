@@ -1,6 +1,5 @@
 -- The volume that a line names.
-use Rattle.std.proofs.Common.{◌≡◌, ◌∙◌, ap, sym}
-use Rattle.std.specs.Prelude.{Some, None}
+use Rattle.std.proofs.Common.{◌∙◌, ap, sym}
 use Rattle.vx_order.specs.declared.facts.SiteFacts.{SiteFacts}
 use Rattle.vx_events.specs.Facts.{place_of}
 use Rattle.vx_events.proofs.Places.{some_same}

@@ -8,7 +8,7 @@ pub loop-write-preserved : goal.loop-write-preserved
 loop-write-preserved c =
     let xs : List Write = c.args.self.now.writes.items in
     let i : ℕ = c.loop-write.write-index in
-    let empty : Content = zeros (sizes c.args.self.now.volumes c.args.self.now.blocks) in
+    let empty : Content = zeros (sizes c.args.self.now.sizes.items) in
     let before : Content = fold_writes empty (take i xs) in
     let is : c.write-item.result ≡ get_or xs i c.write-item.result = subst (λ (ys : List Write). c.write-item.result ≡ get_or ys i c.write-item.result) c.deref-write-items.ensures.value c.write-item.is in
     let below : i < length xs = subst (λ (ys : List Write). i < length ys) c.deref-write-items.ensures.value c.loop-write-test.true in

@@ -4,4 +4,4 @@ use Rattle.vx_sites.specs.Shapes.{sizes}
 use Rattle.vx_sites.proofs.content.Content.block.Given as goal
 
 abbrev pub invariant-loop-write : goal.invariant-loop-write
-invariant-loop-write l = (l.bytes ≡ (fold_writes (zeros (sizes l.self.volumes l.self.blocks)) (take l.write-index l.self.writes.items)).block l.volume l.block) × (length l.bytes ≡ 512)
+invariant-loop-write l = (l.bytes ≡ (fold_writes (zeros (sizes l.self.sizes.items)) (take l.write-index l.self.writes.items)).block l.volume l.block) × (length l.bytes ≡ 512)

@@ -6,4 +6,4 @@ use Rattle.vx_sites.proofs.content.Content.put.Goals as goal
 
 pub returns : goal.returns
 returns c =
-    rw c.in_ok-push.ensures.items (fold_append (zeros (sizes c.args.self.now.volumes c.args.self.now.blocks)) c.args.self.now.writes.items (c.args.write ∷ []))
+    rw c.in_ok-push.ensures.items (fold_append (zeros (sizes c.args.self.now.sizes.items)) c.args.self.now.writes.items (c.args.write ∷ []))

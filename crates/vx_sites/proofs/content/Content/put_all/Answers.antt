@@ -5,4 +5,4 @@ use Rattle.vx_sites.proofs.content.Content.put_all.Goals as goal
 
 pub returns : goal.returns
 returns c =
-    rw c.in_ok-extend_from_slice.ensures.items (fold_append (zeros (sizes c.args.self.now.volumes c.args.self.now.blocks)) c.args.self.now.writes.items c.args.writes.now)
+    rw c.in_ok-extend_from_slice.ensures.items (fold_append (zeros (sizes c.args.self.now.sizes.items)) c.args.self.now.writes.items c.args.writes.now)
