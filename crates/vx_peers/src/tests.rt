@@ -61,7 +61,7 @@ fn line() -> Line {
 }
 
 // A pair whose link is live and goes by the log from number 0 on.
-fn pair(alloc: Global) -> Result<Pair, OutOfMemory> {
+fn two_sites(alloc: Global) -> Result<Pair, OutOfMemory> {
     let receiver = match Secondary::new(alloc, made(alloc)?) {
         Ok(receiver) => receiver,
         Err(_) => return Err(OutOfMemory),
@@ -126,7 +126,8 @@ fn handed(pair: &mut Pair, number: u64) -> (bool, u64) {
         &mut pair.flight,
         number,
     );
-    (said == Ok(Said::Taken), pair.flight.count())
+    let taken = matches!(said, Ok(Said::Taken));
+    (taken, pair.flight.count())
 }
 
 // Hands a packet to the sender, whether it is taken.
@@ -140,7 +141,7 @@ fn answered(pair: &mut Pair, number: u64) -> bool {
         &pair.flight,
         number,
     );
-    said == Said::Taken
+    matches!(said, Said::Taken)
 }
 
 // The receiver greets the sender.
@@ -178,7 +179,7 @@ fn shown(pair: &mut Pair, block: u64) -> u8 {
 #[test]
 fn a_gap_waits_for_its_turn(rt: HostRuntime) -> Result<(), Fail> {
     let alloc = rt.alloc();
-    let mut pair = pair(alloc)?;
+    let mut pair = two_sites(alloc)?;
     greet(&mut pair);
     assert_eq!(rt; answered(&mut pair, 1), true);
     assert_eq!(rt; write(&mut pair.sender, 0, &[0x11; 512]), Ok(1));
@@ -201,7 +202,7 @@ fn a_gap_waits_for_its_turn(rt: HostRuntime) -> Result<(), Fail> {
 #[test]
 fn an_update_comes_in_parts(rt: HostRuntime) -> Result<(), Fail> {
     let alloc = rt.alloc();
-    let mut pair = pair(alloc)?;
+    let mut pair = two_sites(alloc)?;
     assert_eq!(rt; write(&mut pair.sender, 4, &[0x33; 1024]), Ok(1));
     assert_eq!(rt; pumped(alloc, &mut pair), 2);
     assert_eq!(rt; handed(&mut pair, 2), (true, 2));
