@@ -24,3 +24,6 @@ pub mod SourceLemmas
 pub mod ImportLemmas
 pub mod CrashLemmas
 pub mod UntoldLemmas
+pub mod OpeningLemmas
+pub mod AttachLemmas
+pub mod GiveLemmas

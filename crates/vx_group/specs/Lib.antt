@@ -15,3 +15,5 @@ pub mod Nexts
 pub mod Finishes
 pub mod Imports
 pub mod Untold
+pub mod GivesUp
+pub mod Attaches

@@ -1,12 +1,14 @@
 // Plexes that failed, which are detached by a commit.
-ghost use Rattle.std.specs.Prelude.{◌≡◌, ◌<◌, ℕ, length, true, false, IsTrue, OnOk};
+ghost use Rattle.std.specs.Prelude.{◌≡◌, ◌<◌, ℕ, length, true, false, IfErr, IsTrue, OnOk};
 ghost use Rattle.vx_config.specs.Table.{greatest};
 ghost use Rattle.vx_copies.specs.Answers.{good_set};
+ghost use Rattle.vx_group.specs.GivesUp.{KeepsVolumes, NoCommit};
 ghost use Rattle.vx_group.specs.Blames.{Blames, BlamesOr, fault_of as fault_is};
 ghost use Rattle.vx_group.specs.Moves.{AreOff, Narrows};
 ghost use Rattle.vx_group.specs.Quiesces.{SameParts};
 ghost use Rattle.vx_group.specs.Stands.{Stands};
 ghost use Rattle.vx_disk.specs.Blocks.{bit_at};
+ghost use Rattle.vx_kept.specs.Commits.{IsCommitted};
 ghost use Rattle.vx_kept.specs.States.{AreOn, SomeLeft};
 ghost use Rattle.vx_volume.specs.Plexes.{active};
 
@@ -60,6 +62,10 @@ pub fn detach<S: Shelf>(
     ensures others { (w p : ℕ) → (w ≡ vol → bit_at failed.set p ≡ true → ⊥) → active core.new.config w p ≡ active core.old.config w p }
     ensures settled { OnOk result (core.new.unsettled ≡ false) }
     ensures parts { OnOk result (SameParts core.old.config core.new.config) }
+    ensures none { failed.set ≡ 0 → core.new.config.volumes ≡ core.old.config.volumes }
+    ensures keeps { KeepsVolumes core.old.config core.new.config result }
+    ensures missed { IfErr result (λ e. NoCommit core.new (S.meaning shelf.new)) }
+    ensures committed { OnOk result (IsCommitted core.new.config (S.meaning shelf.new)) }
     ensures cause { BlamesOr failed.disk (S.meaning shelf.old) (S.meaning shelf.new) result }
     ensures sure { core.old.config.serial < greatest → Blames (S.meaning shelf.old) (S.meaning shelf.new) result }
 {

@@ -4,6 +4,7 @@ ghost use Rattle.vx_disk.specs.Causes.{Cause};
 ghost use Rattle.vx_disk.specs.Shelf.{Flushed, Goes, Nothing};
 ghost use Rattle.vx_group.specs.Blames.{Blames, MarksOn};
 ghost use Rattle.vx_group.specs.Copying.{Spent};
+ghost use Rattle.vx_group.specs.GivesUp.{GivesUp};
 ghost use Rattle.vx_group.specs.Moves.{AllFlushed, Narrows};
 ghost use Rattle.vx_group.specs.Stands.{Stands, meaning_of};
 ghost use Rattle.vx_volume.specs.Plexes.{active};
@@ -34,6 +35,7 @@ pub fn flush_plexes<S: Shelf>(
     ensures spent { Spent core.old.config core.new.config (S.meaning shelf.old) (S.meaning shelf.new) }
     ensures faults { core.new.faults ≡ core.old.faults }
     ensures unsure { core.new.unsure ≡ core.old.unsure }
+    ensures gave_up { GivesUp vol core.old core.new (S.meaning shelf.old) (S.meaning shelf.new) result }
     ensures cause { Blames (S.meaning shelf.old) (S.meaning shelf.new) result }
 {
     match flush_all(&core.config, vol, shelf) {
@@ -57,6 +59,7 @@ pub fn flush_in<S: Shelf>(shelf: &mut S, core: &mut GroupCore, vol: u32) -> Resu
     ensures stands { Stands core.new (S.meaning shelf.new) }
     ensures goes { Goes Nothing (meaning_of core.old (S.meaning shelf.old)) (meaning_of core.new (S.meaning shelf.new)) }
     ensures ok { OnOk result (Flushed vol (meaning_of core.old (S.meaning shelf.old)) (meaning_of core.new (S.meaning shelf.new))) }
+    ensures gave_up { GivesUp vol core.old core.new (S.meaning shelf.old) (S.meaning shelf.new) result }
     ensures cause { Cause (meaning_of core.old (S.meaning shelf.old)) (meaning_of core.new (S.meaning shelf.new)) vol result }
     ensures marks { MarksOn vol core.old.unsure core.new.unsure result }
 {

@@ -1,7 +1,9 @@
 // A group as a shelf.
-ghost use Rattle.std.specs.Prelude.{◌≡◌, ◌<◌, ◌≤◌, ◌-◌, false, IfSome, Some, None, Err, OnOk};
-ghost use Rattle.vx_disk.specs.Shelf.{Goes, Nothing};
+ghost use Rattle.std.specs.Prelude.{◌≡◌, ◌<◌, ◌≤◌, ◌-◌, false, IfOk, IfSome, IsTrue, Some, None, Ok, Err, OnOk, length};
+ghost use Rattle.vx_disk.specs.Causes.{Calls, Cause, Names, OnDisks, Works};
+ghost use Rattle.vx_disk.specs.Shelf.{DisksFlushed, DisksWrote, Fits, Flushed, Goes, Nothing, Written, Wrote};
 ghost use Rattle.vx_config.specs.Table.{greatest};
+ghost use Rattle.vx_group.specs.Attaches.{AttachEnds, Attaches, att_refusal, copied_regions};
 ghost use Rattle.vx_group.specs.Deports.{DeportStops, GroupDeported, IsFull};
 ghost use Rattle.vx_group.specs.Dets.{DetStops, det_refusal, margin};
 ghost use Rattle.vx_group.specs.Makes.{MakeEnds, StayAsWere, Unmoved, make_refusal};
@@ -13,12 +15,14 @@ ghost use Rattle.vx_model.specs.declared.errors.Stop.TheVariants.{No as Refused}
 ghost use Rattle.vx_model.specs.declared.limits.TheConstants.{MOST_DISKS};
 ghost use Rattle.vx_model.specs.declared.no.No.TheVariants.{Size};
 ghost use Rattle.vx_group.specs.Creates.{GroupCreated};
+ghost use Rattle.vx_group.specs.GivesUp.{GivesUp};
 ghost use Rattle.vx_group.specs.Imports.{GroupImported};
 ghost use Rattle.vx_group.specs.Laws.{group_lawful};
 ghost use Rattle.vx_group.specs.Resumes.{CanImport};
 ghost use Rattle.vx_group.specs.Stands.{Stands, meaning_of};
 
 use crate::GroupCore;
+use crate::att::att_in;
 use crate::create::start;
 use crate::deporting::deport_in;
 use crate::det::det_in;
@@ -117,6 +121,24 @@ impl<S: Shelf> Group<S> {
         det_in(&mut self.shelf, &mut self.core, vol, plex)
     }
 
+    /// Attaches a plex, and answers how many regions were copied: all of the volume, and none where the plex is ACTIVE already; then nothing
+    /// changes. Each volume reads as before, at every moment and in every image.
+    ///
+    /// Answers 1 exactly where there is no such volume or plex, else 19 exactly where fewer than 65,536 serials are left, and then nothing
+    /// has changed; else 7 only where the count of the disk that it names rose, and 6 only where the shelf is then down. Then the plex is
+    /// not ACTIVE, unless the commit that takes it back was refused too. It writes blocks of this plex alone beside those of commits, makes
+    /// them durable before its commit, and takes no memory.
+    pub fn att(&mut self, vol: u32, plex: u32) -> Result<u64, Stop>
+        ensures refused { (no : NoValue) → att_refusal self.old.core.config vol plex ≡ Some no → (result ≡ Err (Refused no)) × (self.new.core ≡ self.old.core) × (self.new.shelf ≡ self.old.shelf) }
+        ensures already { att_refusal self.old.core.config vol plex ≡ None → IsTrue (active self.old.core.config vol plex) → (result ≡ Ok 0) × (self.new.core ≡ self.old.core) × (self.new.shelf ≡ self.old.shelf) }
+        ensures count { active self.old.core.config vol plex ≡ false → IfOk result (λ n. n ≡ copied_regions self.old.core.config vol) }
+        ensures attaches { Attaches vol plex self.old.core self.new.core (S.meaning self.old.shelf) (S.meaning self.new.shelf) }
+        ensures ends { active self.old.core.config vol plex ≡ false → AttachEnds vol plex self.new.core (S.meaning self.new.shelf) result }
+        ensures cause { att_refusal self.old.core.config vol plex ≡ None → DetStops (S.meaning self.old.shelf) (S.meaning self.new.shelf) result }
+    {
+        att_in(&mut self.shelf, &mut self.core, vol, plex)
+    }
+
     /// Deports the group: every volume is flushed, then a commit puts the plexes that are ACTIVE into the state CLEAN, but those of the
     /// volumes of which a write or a flush failed, and the shelf is handed out. A plex that fails in its flush is detached; where each
     /// plex of a volume fails, they stay ACTIVE.
@@ -172,11 +194,32 @@ impl<S: Shelf> Shelf for Group<S> {
         read_in(&mut self.shelf, &mut self.core, unit, block, into)
     }
 
-    fn write(&mut self, unit: u32, block: u64, bytes: &[u8]) -> Result<(), ShelfError> {
+    /// Writes to each plex that is ACTIVE. A fault comes only where each of them had a failed call on one of its disks in this call, or where
+    /// a commit was refused; then no plex changes its state.
+    fn write(&mut self, unit: u32, block: u64, bytes: &[u8]) -> Result<(), ShelfError>
+        requires { Fits (meaning_of self.old.core (S.meaning self.old.shelf)) unit block (length bytes.now) }
+        ensures goes { Goes (Written unit block bytes.now) (meaning_of self.old.core (S.meaning self.old.shelf)) (meaning_of self.new.core (S.meaning self.new.shelf)) }
+        ensures ok { OnOk result (Wrote unit block bytes.now (meaning_of self.old.core (S.meaning self.old.shelf)) (meaning_of self.new.core (S.meaning self.new.shelf))) }
+        ensures cause { Cause (meaning_of self.old.core (S.meaning self.old.shelf)) (meaning_of self.new.core (S.meaning self.new.shelf)) unit result }
+        ensures names { Names (meaning_of self.old.core (S.meaning self.old.shelf)).disks unit result }
+        ensures works { OnOk result (Works (meaning_of self.old.core (S.meaning self.old.shelf)).disks unit) }
+        ensures disks { OnDisks (meaning_of self.old.core (S.meaning self.old.shelf)).disks (meaning_of self.new.core (S.meaning self.new.shelf)).disks (λ o n. Calls (meaning_of self.old.core (S.meaning self.old.shelf)) (DisksWrote unit block bytes.now) o n result) }
+        ensures gave_up { GivesUp unit self.old.core self.new.core (S.meaning self.old.shelf) (S.meaning self.new.shelf) result }
+    {
         write_in(&mut self.shelf, &mut self.core, unit, block, bytes)
     }
 
-    fn flush(&mut self, unit: u32) -> Result<(), ShelfError> {
+    /// Flushes each plex that is ACTIVE. A fault comes only as in a write.
+    fn flush(&mut self, unit: u32) -> Result<(), ShelfError>
+        requires { unit < (meaning_of self.old.core (S.meaning self.old.shelf)).units }
+        ensures goes { Goes Nothing (meaning_of self.old.core (S.meaning self.old.shelf)) (meaning_of self.new.core (S.meaning self.new.shelf)) }
+        ensures ok { OnOk result (Flushed unit (meaning_of self.old.core (S.meaning self.old.shelf)) (meaning_of self.new.core (S.meaning self.new.shelf))) }
+        ensures cause { Cause (meaning_of self.old.core (S.meaning self.old.shelf)) (meaning_of self.new.core (S.meaning self.new.shelf)) unit result }
+        ensures names { Names (meaning_of self.old.core (S.meaning self.old.shelf)).disks unit result }
+        ensures works { OnOk result (Works (meaning_of self.old.core (S.meaning self.old.shelf)).disks unit) }
+        ensures disks { OnDisks (meaning_of self.old.core (S.meaning self.old.shelf)).disks (meaning_of self.new.core (S.meaning self.new.shelf)).disks (λ o n. Calls (meaning_of self.old.core (S.meaning self.old.shelf)) (DisksFlushed unit) o n result) }
+        ensures gave_up { GivesUp unit self.old.core self.new.core (S.meaning self.old.shelf) (S.meaning self.new.shelf) result }
+    {
         flush_in(&mut self.shelf, &mut self.core, unit)
     }
 

@@ -3,6 +3,8 @@
 //! A write goes to each plex that is ACTIVE. Where some of them fail, they are made STALE by a commit before the answer.
 #![tactic(auto)]
 
+mod att;
+mod attaching;
 mod copying;
 mod counting;
 mod create;
@@ -30,6 +32,8 @@ mod zeroing;
 pub use group::Group;
 pub use group_core::GroupCore;
 
+#[cfg(test)]
+mod attach_tests;
 #[cfg(test)]
 mod import_tests;
 #[cfg(test)]

@@ -1,6 +1,7 @@
 // The headers of the good disks, which are written back before the commit behind a refused one.
-ghost use Rattle.std.specs.Prelude.{◌≡◌, ◌⊎◌, ◌<◌, false, IsTrue, OnOk};
+ghost use Rattle.std.specs.Prelude.{◌≡◌, ◌⊎◌, ◌<◌, true, false, IfErr, IsTrue, OnOk};
 ghost use Rattle.vx_group.specs.Blames.{Blames};
+ghost use Rattle.vx_group.specs.GivesUp.{NoCommit};
 ghost use Rattle.vx_group.specs.Moves.{Narrows};
 ghost use Rattle.vx_group.specs.Quiesces.{AnyFailed};
 ghost use Rattle.vx_group.specs.Settled.{SameBut};
@@ -26,6 +27,7 @@ pub fn settle_headers<S: Shelf>(shelf: &mut S, core: &mut GroupCore) -> Result<(
     ensures good { core.new.good ≡ core.old.good }
     ensures same { SameBut core.old.config core.new.config }
     ensures settled { OnOk result (core.new.unsettled ≡ false) }
+    ensures missed { IfErr result (λ e. core.new.unsettled ≡ true) }
     ensures still { OnOk result ((core.new.config ≡ core.old.config) ⊎ AnyFailed (S.meaning shelf.old) (S.meaning shelf.new)) }
     ensures cause { Blames (S.meaning shelf.old) (S.meaning shelf.new) result }
 {
@@ -66,6 +68,8 @@ pub fn make_ready<S: Shelf>(shelf: &mut S, core: &mut GroupCore) -> Result<(), S
     requires up { IsTrue (S.meaning shelf.old).down → ⊥ }
     ensures stands { Stands core.new (S.meaning shelf.new) }
     ensures narrows { Narrows core.old core.new (S.meaning shelf.old) (S.meaning shelf.new) }
+    ensures volumes { core.new.config.volumes ≡ core.old.config.volumes }
+    ensures missed { IfErr result (λ e. NoCommit core.new (S.meaning shelf.new)) }
     ensures cause { Blames (S.meaning shelf.old) (S.meaning shelf.new) result }
 {
     if !core.unsettled || core.config.serial >= MOST_NUMBER {

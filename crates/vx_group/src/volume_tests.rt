@@ -11,6 +11,7 @@ use vx_model::{Counted, Name, No, OutOfMemory, Stop};
 pub enum Told {
     Done,
     Volume(u32),
+    Attached(u64),
     Block(u8),
     Mixed,
     Device(u32),
@@ -108,7 +109,7 @@ pub fn flush<S: Shelf>(shelf: &mut S, unit: u32) -> Told {
     }
 }
 
-fn det<S: Shelf>(group: &mut Group<S>, volume: u32, plex: u32) -> Told {
+pub fn det<S: Shelf>(group: &mut Group<S>, volume: u32, plex: u32) -> Told {
     match group.det(volume, plex) {
         Ok(()) => Told::Done,
         Err(stop) => told_of(stop),
@@ -126,7 +127,7 @@ pub fn state(config: &Config, volume: usize, plex: usize) -> Option<PlexState> {
 }
 
 // A group of so many disks of 1,024 blocks, of which these calls fail.
-fn group_of(alloc: Global, fails: &[u64], disks: u32) -> Result<Group<MemShelf>, OutOfMemory> {
+pub fn group_of(alloc: Global, fails: &[u64], disks: u32) -> Result<Group<MemShelf>, OutOfMemory> {
     let mut shelf = match MemShelf::new(alloc, fails) {
         Ok(shelf) => shelf,
         Err(_) => return Err(OutOfMemory),

@@ -16,6 +16,10 @@ pub record Member (good : ℕ) (m : Meaning) (u : ℕ) : Type 0 where
   pub below : u < m.units
   pub is : bit_at good u ≡ true
 
+-- each image that a crash may leave has this configuration
+pub record IsCommitted (c : Config) (m : Meaning) : Type 0 where
+  pub finds : (i : Image) → Each m.leaves i → found m i ≡ Found c
+
 -- memory has d, which the disks keep and are ready for, and each image has, where all disks can be read; the set is now that of its good disks
 pub record Taken (c a d : Config) (old new : Meaning) : Type 0 where
   pub later : a.serial < d.serial

@@ -14,4 +14,4 @@ pub use cleaning::{make_clean, make_open};
 pub use committing::{commit_clean, commit_stale};
 pub use first::commit_first;
 pub use following::commit_next;
-pub use states::{make_active, make_stale};
+pub use states::{make_active, make_stale, whole_of};

@@ -5,3 +5,4 @@ pub mod Loops
 pub mod EveryLemmas
 pub mod BitLemmas
 pub mod TurnLemmas
+pub mod CopyLemmas

@@ -2,3 +2,4 @@ pub mod Plexes
 pub mod Volumes
 pub mod Sets
 pub mod Steps
+pub mod Copies

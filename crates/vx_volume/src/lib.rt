@@ -3,6 +3,7 @@
 //! Blocks are 512 bytes. A plex takes part where the configuration says that it is ACTIVE.
 #![tactic(auto)]
 
+mod copying;
 mod every;
 mod flushing;
 mod plexes;
@@ -12,6 +13,7 @@ mod turns;
 mod volume;
 mod writing;
 
+pub use copying::copy_plex;
 pub use flushing::flush_plex;
 pub use plexes::{blocks_of, is_active, plex_count};
 pub use reading::read_plex;

@@ -5,6 +5,7 @@ use Rattle.vx_kept.proofs.StateLemmas.{is_staled}
 use Rattle.vx_group.specs.Blames.{Blames, BlamesOr}
 use Rattle.vx_group.proofs.CallLemmas.{not_down}
 use Rattle.vx_group.proofs.DetachLemmas.{left_Narrows, left_Stands, left_others, staled_less, staled_some, stop_blames, stop_sure, taken_Narrows, taken_Stands, taken_off, taken_others}
+use Rattle.vx_group.proofs.GiveLemmas.{keeps_volumes, none_changed}
 use Rattle.vx_group.proofs.Standing.{kept_of, tidy_of}
 use Rattle.vx_group.proofs.detaching.detach.Goals as goal
 
@@ -64,3 +65,21 @@ returns-else-is_down-clause-parts g c =
     let was = is_staled c.args.vol c.args.failed.set 8 c.args.core.now.config in
     let grown = c.in-Ok.ensures.ends.grown in
     record { site = grown.site ∙ was.site; rvg = grown.rvg ∙ was.rvg; count = grown.disks.count ∙ ap length was.disks }
+
+pub returns-then-is_down-clause-none : goal.returns-then-is_down-clause-none
+returns-then-is_down-clause-none g c = none_changed c.args.vol c.args.failed.set c.args.core.now.config c.commit_stale.new.config c.in-Ok.ensures.ends.grown.volumes
+
+pub returns-then-is_down-2-clause-none : goal.returns-then-is_down-2-clause-none
+returns-then-is_down-2-clause-none g c = λ is. c.in-Err.ensures.ends.volumes
+
+pub returns-else-is_down-clause-none : goal.returns-else-is_down-clause-none
+returns-else-is_down-clause-none g c = none_changed c.args.vol c.args.failed.set c.args.core.now.config c.commit_stale.new.config c.in-Ok.ensures.ends.grown.volumes
+
+pub returns-else-is_down-2-clause-none : goal.returns-else-is_down-2-clause-none
+returns-else-is_down-2-clause-none g c = λ is. c.in-Err.ensures.ends.volumes
+
+pub returns-else-is_down-2-clause-keeps : goal.returns-else-is_down-2-clause-keeps
+returns-else-is_down-2-clause-keeps g c = keeps_volumes c.args.core.now.config c.commit_stale.new.config c.fault_of.result c.in-Err.ensures.ends.volumes
+
+pub returns-else-is_down-clause-committed : goal.returns-else-is_down-clause-committed
+returns-else-is_down-clause-committed g c = record { finds = c.in-Ok.ensures.ends.finds }

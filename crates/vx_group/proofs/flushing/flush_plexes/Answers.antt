@@ -1,10 +1,12 @@
-use Rattle.std.proofs.Common.{Err, inl, refl, sym, subst, arith}
+use Rattle.std.proofs.Common.{inr, Err, inl, refl, sym, subst, arith}
 use Rattle.vx_group.proofs.CopyLemmas.{spent_by}
 use Rattle.vx_group.proofs.CallLemmas.{blames_by, ends_blame, left_done, ok_by}
 use Rattle.vx_disk.specs.declared.shelf.ShelfError.{ShelfError}
 use Rattle.vx_volume.specs.Volumes.{PlexFlushed}
 use Rattle.vx_group.specs.Blames.{Blames}
 use Rattle.vx_group.proofs.DetachLemmas.{zero_bit}
+use Rattle.vx_group.specs.GivesUp.{GivesUp}
+use Rattle.vx_group.proofs.GiveLemmas.{detach_gives, ends_gives}
 use Rattle.vx_group.proofs.Standing.{fit_of, some_active}
 use Rattle.vx_group.proofs.WriteLemmas.{no_commit, flushed_Goes, flushed_Stands, flushed_Flushed, flushed_Narrows, flushed_all}
 use Rattle.vx_group.proofs.flushing.flush_plexes.Goals as goal
@@ -98,3 +100,12 @@ returns-in-Err-clause-others g c = λ w p apart. refl
 
 pub returns-else-core-clause-others : goal.returns-else-core-clause-others
 returns-else-core-clause-others g c = λ w p apart. c.detach.ensures.others w p (λ same bit. apart same)
+
+pub returns-then-core-clause-gave_up : goal.returns-then-core-clause-gave_up
+returns-then-core-clause-gave_up g c = (refl, inr c.if-core.true)
+
+pub returns-else-core-clause-gave_up : goal.returns-else-core-clause-gave_up
+returns-else-core-clause-gave_up g c = detach_gives c.args.vol c.args.core.now c.detach.new.core c.in-Ok.failed.disk (g.S.Shelf.meaning c.args.shelf.now) (g.S.Shelf.meaning c.flush_all.new.shelf) (g.S.Shelf.meaning c.detach.new.shelf) c.detach.result c.detach.ensures.keeps c.detach.ensures.cause c.detach.ensures.missed
+
+pub returns-in-Err-clause-gave_up : goal.returns-in-Err-clause-gave_up
+returns-in-Err-clause-gave_up g c = subst (λ (e : ShelfError). GivesUp {T = Unit {0}} c.args.vol c.args.core.now c.args.core.now (g.S.Shelf.meaning c.args.shelf.now) (g.S.Shelf.meaning c.flush_all.new.shelf) (Err e)) (sym c.fault_of.ensures) (ends_gives c.args.vol c.args.core.now (λ p. PlexFlushed c.args.core.now.config c.args.vol p (g.S.Shelf.meaning c.args.shelf.now) (g.S.Shelf.meaning c.flush_all.new.shelf)) (g.S.Shelf.meaning c.args.shelf.now) (g.S.Shelf.meaning c.flush_all.new.shelf) c.in-Err.no 0 c.in-Err.ensures.ends)

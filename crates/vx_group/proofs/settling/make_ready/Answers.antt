@@ -1,4 +1,4 @@
-use Rattle.std.proofs.Common.{refl, arith}
+use Rattle.std.proofs.Common.{◌∙◌, refl, arith}
 use Rattle.vx_group.proofs.CallLemmas.{blames_later, both_Narrows}
 use Rattle.vx_group.proofs.DetachLemmas.{zero_bit}
 use Rattle.vx_group.proofs.Standing.{some_active}
@@ -17,3 +17,6 @@ pub returns-clause-cause : goal.returns-clause-cause
 returns-clause-cause g c =
     blames_later c.detach.result (g.S.Shelf.meaning c.args.shelf.now) (g.S.Shelf.meaning c.settle_headers.new.shelf) (g.S.Shelf.meaning c.detach.new.shelf) c.settle_headers.ensures.narrows.acts.disk_faults
     (c.detach.ensures.sure (let same = c.settle_headers.ensures.serial in let less = c.if-core-ge-MOST_NUMBER.false in omega (arith, same, less)))
+
+pub returns-clause-volumes : goal.returns-clause-volumes
+returns-clause-volumes g c = c.detach.ensures.none refl ∙ c.settle_headers.ensures.volumes

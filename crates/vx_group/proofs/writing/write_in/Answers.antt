@@ -1,8 +1,9 @@
-use Rattle.std.proofs.Common.{◌∙◌, ℕ, Bool, List, ap, subst, Err, arith}
+use Rattle.std.proofs.Common.{refl, ◌∙◌, ℕ, Bool, List, ap, subst, Err, arith}
 use Rattle.vx_disk.specs.Shelf.{Written}
 use Rattle.vx_disk.proofs.Runs.{none_written, nothing_then}
 use Rattle.vx_group.specs.Blames.{Counts, Marks}
 use Rattle.vx_group.specs.Stands.{counted, meaning_of}
+use Rattle.vx_group.proofs.GiveLemmas.{later_gives, ready_gives, same_gives}
 use Rattle.vx_group.proofs.CallLemmas.{blames_later, cause_by, counts_less, narrows_Goes, not_down, nothing_Wrote, raised_Goes}
 use Rattle.vx_group.proofs.writing.write_in.Goals as goal
 
@@ -29,3 +30,13 @@ returns-in-Err-clause-marks g c = subst (λ (l : List Bool). Marks c.in-Err.erro
 
 pub returns-in-Err-write_plexes-clause-marks : goal.returns-in-Err-write_plexes-clause-marks
 returns-in-Err-write_plexes-clause-marks g c = subst (λ (l : List Bool). Marks c.in-Err-write_plexes.error c.args.vol l c.give_up-in-Err-write_plexes.new.unsure) (c.write_plexes.ensures.unsure ∙ c.make_ready.ensures.narrows.unsure) c.give_up-in-Err-write_plexes.ensures.marks
+
+pub returns-in-Err-clause-gave_up : goal.returns-in-Err-clause-gave_up
+returns-in-Err-clause-gave_up g c =
+    same_gives c.args.vol c.args.core.now c.make_ready.new.core (record { config = c.make_ready.new.core.config; good = c.make_ready.new.core.good; room = c.make_ready.new.core.room; unsettled = c.make_ready.new.core.unsettled; next = c.make_ready.new.core.next; faults = c.give_up.new.faults; unsure = c.give_up.new.unsure }) c.in-Err.error (g.S.Shelf.meaning c.args.shelf.now) (g.S.Shelf.meaning c.make_ready.new.shelf) refl refl
+    (ready_gives c.args.vol c.args.core.now c.make_ready.new.core c.in-Err.error (g.S.Shelf.meaning c.args.shelf.now) (g.S.Shelf.meaning c.make_ready.new.shelf) c.make_ready.ensures.volumes c.in-Err.ensures.cause c.in-Err.ensures.missed)
+
+pub returns-in-Err-write_plexes-clause-gave_up : goal.returns-in-Err-write_plexes-clause-gave_up
+returns-in-Err-write_plexes-clause-gave_up g c =
+    same_gives c.args.vol c.args.core.now c.write_plexes.new.core (record { config = c.write_plexes.new.core.config; good = c.write_plexes.new.core.good; room = c.write_plexes.new.core.room; unsettled = c.write_plexes.new.core.unsettled; next = c.write_plexes.new.core.next; faults = c.give_up-in-Err-write_plexes.new.faults; unsure = c.give_up-in-Err-write_plexes.new.unsure }) c.in-Err-write_plexes.error (g.S.Shelf.meaning c.args.shelf.now) (g.S.Shelf.meaning c.write_plexes.new.shelf) refl refl
+    (later_gives c.args.vol c.args.core.now c.make_ready.new.core c.write_plexes.new.core c.in-Err-write_plexes.error (g.S.Shelf.meaning c.args.shelf.now) (g.S.Shelf.meaning c.make_ready.new.shelf) (g.S.Shelf.meaning c.write_plexes.new.shelf) c.make_ready.ensures.volumes c.make_ready.ensures.narrows.acts.faults c.in-Err-write_plexes.ensures.gave_up)

@@ -1,9 +1,11 @@
-use Rattle.std.proofs.Common.{◌/◌, length, Err, sym, subst, arith}
+use Rattle.std.proofs.Common.{refl, inr, ◌/◌, length, Err, sym, subst, arith}
 use Rattle.vx_group.proofs.CallLemmas.{blames_by, ends_blame, left_done, ok_by}
 use Rattle.vx_disk.specs.declared.shelf.ShelfError.{ShelfError}
 use Rattle.vx_volume.specs.Volumes.{PlexWrote}
 use Rattle.vx_group.specs.Blames.{Blames}
 use Rattle.vx_group.proofs.DetachLemmas.{zero_bit}
+use Rattle.vx_group.specs.GivesUp.{GivesUp}
+use Rattle.vx_group.proofs.GiveLemmas.{detach_gives, ends_gives}
 use Rattle.vx_group.proofs.Standing.{fit_of, some_active}
 use Rattle.vx_group.proofs.WriteLemmas.{no_commit, wrote_Goes, wrote_Stands, wrote_Wrote, wrote_all}
 use Rattle.vx_group.proofs.writing.write_plexes.Goals as goal
@@ -58,3 +60,12 @@ returns-in-Err-clause-goes g c = wrote_Goes c.args.core.now c.args.vol c.args.bl
 
 pub returns-in-Err-clause-cause : goal.returns-in-Err-clause-cause
 returns-in-Err-clause-cause g c = subst (λ (e : ShelfError). Blames {T = Unit {0}} (g.S.Shelf.meaning c.args.shelf.now) (g.S.Shelf.meaning c.write_all.new.shelf) (Err e)) (sym c.fault_of.ensures) (ends_blame c.args.core.now.config c.args.vol (λ p. PlexWrote c.args.core.now.config c.args.vol p c.args.block (length c.args.bytes.now / 512) c.args.block (length c.args.bytes.now / 512) c.args.bytes.now (g.S.Shelf.meaning c.args.shelf.now) (g.S.Shelf.meaning c.write_all.new.shelf)) (g.S.Shelf.meaning c.args.shelf.now) (g.S.Shelf.meaning c.write_all.new.shelf) c.in-Err.no 0 c.in-Err.ensures.ends)
+
+pub returns-then-core-clause-gave_up : goal.returns-then-core-clause-gave_up
+returns-then-core-clause-gave_up g c = (refl, inr c.if-core.true)
+
+pub returns-else-core-clause-gave_up : goal.returns-else-core-clause-gave_up
+returns-else-core-clause-gave_up g c = detach_gives c.args.vol c.args.core.now c.detach.new.core c.in-Ok.failed.disk (g.S.Shelf.meaning c.args.shelf.now) (g.S.Shelf.meaning c.write_all.new.shelf) (g.S.Shelf.meaning c.detach.new.shelf) c.detach.result c.detach.ensures.keeps c.detach.ensures.cause c.detach.ensures.missed
+
+pub returns-in-Err-clause-gave_up : goal.returns-in-Err-clause-gave_up
+returns-in-Err-clause-gave_up g c = subst (λ (e : ShelfError). GivesUp {T = Unit {0}} c.args.vol c.args.core.now c.args.core.now (g.S.Shelf.meaning c.args.shelf.now) (g.S.Shelf.meaning c.write_all.new.shelf) (Err e)) (sym c.fault_of.ensures) (ends_gives c.args.vol c.args.core.now (λ p. PlexWrote c.args.core.now.config c.args.vol p c.args.block (length c.args.bytes.now / 512) c.args.block (length c.args.bytes.now / 512) c.args.bytes.now (g.S.Shelf.meaning c.args.shelf.now) (g.S.Shelf.meaning c.write_all.new.shelf)) (g.S.Shelf.meaning c.args.shelf.now) (g.S.Shelf.meaning c.write_all.new.shelf) c.in-Err.no 0 c.in-Err.ensures.ends)

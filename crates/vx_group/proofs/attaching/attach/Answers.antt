@@ -1,0 +1,68 @@
+use Rattle.std.proofs.Common.{◌≡◌, ◌<◌, inl, inr, Err, true, false, refl, sym, ◌∙◌, arith}
+use Rattle.vx_config.specs.Table.{greatest}
+use Rattle.vx_kept.proofs.Chosen.{active_volumes}
+use Rattle.vx_group.proofs.AttachLemmas.{has_other, narrows_attaches, same_refusal, then_attaches}
+use Rattle.vx_group.proofs.CallLemmas.{blames_later}
+use Rattle.vx_group.proofs.OpeningLemmas.{may_less, may_volume}
+use Rattle.vx_group.proofs.Standing.{some_active}
+use Rattle.vx_group.proofs.attaching.attach.Goals as goal
+
+pub returns-in-Err-clause-attaches : goal.returns-in-Err-clause-attaches
+returns-in-Err-clause-attaches g c =
+    narrows_attaches c.args.vol c.args.plex c.args.core.now c.settle_headers.new.core (g.S.Shelf.meaning c.args.shelf.now) (g.S.Shelf.meaning c.settle_headers.new.shelf) (g.met.S.Shelf.lawful c.settle_headers.new.shelf) c.requires.stands c.settle_headers.ensures.narrows
+    (λ w q apart. active_volumes c.settle_headers.new.core.config c.args.core.now.config c.settle_headers.ensures.volumes w q)
+
+pub returns-in-Err-clause-ends : goal.returns-in-Err-clause-ends
+returns-in-Err-clause-ends g c = inl (active_volumes c.settle_headers.new.core.config c.args.core.now.config c.settle_headers.ensures.volumes c.args.vol c.args.plex ∙ c.requires.off)
+
+pub copy_to-requires-clause-may : goal.copy_to-requires-clause-may
+copy_to-requires-clause-may g c = same_refusal c.args.core.now.config c.settle_headers.new.core.config c.args.vol c.args.plex c.settle_headers.ensures.volumes c.settle_headers.ensures.serial ∙ c.requires.may
+
+pub copy_to-requires-clause-off : goal.copy_to-requires-clause-off
+copy_to-requires-clause-off g c = active_volumes c.settle_headers.new.core.config c.args.core.now.config c.settle_headers.ensures.volumes c.args.vol c.args.plex ∙ c.requires.off
+
+pub returns-in-Err-copy_to-clause-attaches : goal.returns-in-Err-copy_to-clause-attaches
+returns-in-Err-copy_to-clause-attaches g c =
+    then_attaches c.args.vol c.args.plex c.args.core.now c.settle_headers.new.core c.copy_to.new.core (g.S.Shelf.meaning c.args.shelf.now) (g.S.Shelf.meaning c.settle_headers.new.shelf) (g.S.Shelf.meaning c.copy_to.new.shelf)
+    (narrows_attaches c.args.vol c.args.plex c.args.core.now c.settle_headers.new.core (g.S.Shelf.meaning c.args.shelf.now) (g.S.Shelf.meaning c.settle_headers.new.shelf) (g.met.S.Shelf.lawful c.settle_headers.new.shelf) c.requires.stands c.settle_headers.ensures.narrows
+    (λ w q apart. active_volumes c.settle_headers.new.core.config c.args.core.now.config c.settle_headers.ensures.volumes w q))
+    c.copy_to.ensures.attaches
+
+pub returns-in-Err-copy_to-clause-ends : goal.returns-in-Err-copy_to-clause-ends
+returns-in-Err-copy_to-clause-ends g c = inl c.in-Err-copy_to.ensures.opens
+
+pub returns-in-Err-copy_to-clause-cause : goal.returns-in-Err-copy_to-clause-cause
+returns-in-Err-copy_to-clause-cause g c =
+    blames_later {T = Unit {0}} (Err c.in-Err-copy_to.error) (g.S.Shelf.meaning c.args.shelf.now) (g.S.Shelf.meaning c.settle_headers.new.shelf) (g.S.Shelf.meaning c.copy_to.new.shelf) c.settle_headers.ensures.narrows.acts.disk_faults c.in-Err-copy_to.ensures.cause
+
+pub commit_open-requires-clause-settled : goal.commit_open-requires-clause-settled
+commit_open-requires-clause-settled g c = c.copy_to.ensures.settled ∙ c.in-Ok.ensures.settled
+
+pub commit_open-requires-clause-more : goal.commit_open-requires-clause-more
+commit_open-requires-clause-more g c =
+    let less : c.args.core.now.config.serial < greatest = may_less c.args.core.now.config c.args.vol c.args.plex c.requires.may in
+    let same = c.copy_to.ensures.serial ∙ c.settle_headers.ensures.serial in
+    omega (arith, less, same)
+
+pub commit_open-requires-clause-is_on : goal.commit_open-requires-clause-is_on
+commit_open-requires-clause-is_on g c = c.in-Ok-copy_to.ensures.opens
+
+pub commit_open-requires-clause-other : goal.commit_open-requires-clause-other
+commit_open-requires-clause-other g c =
+    has_other c.settle_headers.new.core.config c.copy_to.new.core.config c.args.vol c.args.plex
+    (some_active c.settle_headers.new.core (g.S.Shelf.meaning c.settle_headers.new.shelf) c.settle_headers.ensures.stands c.args.vol
+    (may_volume c.settle_headers.new.core.config c.args.vol c.args.plex (same_refusal c.args.core.now.config c.settle_headers.new.core.config c.args.vol c.args.plex c.settle_headers.ensures.volumes c.settle_headers.ensures.serial ∙ c.requires.may)))
+    (active_volumes c.settle_headers.new.core.config c.args.core.now.config c.settle_headers.ensures.volumes c.args.vol c.args.plex ∙ c.requires.off)
+    c.copy_to.ensures.attaches.others
+
+pub returns-clause-attaches : goal.returns-clause-attaches
+returns-clause-attaches g c =
+    then_attaches c.args.vol c.args.plex c.args.core.now c.settle_headers.new.core c.commit_open.new.core (g.S.Shelf.meaning c.args.shelf.now) (g.S.Shelf.meaning c.settle_headers.new.shelf) (g.S.Shelf.meaning c.commit_open.new.shelf)
+    (narrows_attaches c.args.vol c.args.plex c.args.core.now c.settle_headers.new.core (g.S.Shelf.meaning c.args.shelf.now) (g.S.Shelf.meaning c.settle_headers.new.shelf) (g.met.S.Shelf.lawful c.settle_headers.new.shelf) c.requires.stands c.settle_headers.ensures.narrows
+    (λ w q apart. active_volumes c.settle_headers.new.core.config c.args.core.now.config c.settle_headers.ensures.volumes w q))
+    (then_attaches c.args.vol c.args.plex c.settle_headers.new.core c.copy_to.new.core c.commit_open.new.core (g.S.Shelf.meaning c.settle_headers.new.shelf) (g.S.Shelf.meaning c.copy_to.new.shelf) (g.S.Shelf.meaning c.commit_open.new.shelf) c.copy_to.ensures.attaches c.commit_open.ensures.attaches)
+
+pub returns-clause-cause : goal.returns-clause-cause
+returns-clause-cause g c =
+    blames_later c.commit_open.result (g.S.Shelf.meaning c.args.shelf.now) (g.S.Shelf.meaning c.settle_headers.new.shelf) (g.S.Shelf.meaning c.commit_open.new.shelf) c.settle_headers.ensures.narrows.acts.disk_faults
+    (blames_later c.commit_open.result (g.S.Shelf.meaning c.settle_headers.new.shelf) (g.S.Shelf.meaning c.copy_to.new.shelf) (g.S.Shelf.meaning c.commit_open.new.shelf) c.copy_to.ensures.attaches.acts.disk_faults c.commit_open.ensures.cause)

@@ -1,0 +1,30 @@
+use Rattle.std.proofs.Common.{◌≡◌, inl, inr, true, false, refl, sym, ◌∙◌, arith}
+use Rattle.vx_group.proofs.AttachLemmas.{narrows_attaches, no_bit, then_attaches}
+use Rattle.vx_group.proofs.CallLemmas.{not_down}
+use Rattle.vx_group.proofs.DetachLemmas.{zero_bit}
+use Rattle.vx_group.proofs.Standing.{some_active}
+use Rattle.vx_group.proofs.attaching.commit_open.Goals as goal
+
+pub detach-requires-clause-left : goal.detach-requires-clause-left
+detach-requires-clause-left g c = λ lt.
+    let some = some_active c.args.core.now (g.S.Shelf.meaning c.args.shelf.now) c.requires.stands 0 lt in
+    record { plex = some.plex; is_on = some.is_on; out = zero_bit 0 some.plex refl }
+
+pub returns-in-Ok-clause-attaches : goal.returns-in-Ok-clause-attaches
+returns-in-Ok-clause-attaches g c =
+    narrows_attaches c.args.vol c.args.plex c.args.core.now c.detach.new.core (g.S.Shelf.meaning c.args.shelf.now) (g.S.Shelf.meaning c.detach.new.shelf) (g.met.S.Shelf.lawful c.detach.new.shelf) c.requires.stands c.detach.ensures.narrows
+    (λ w q apart. c.detach.ensures.others w q (λ same bit. no_bit q bit))
+
+pub returns-then-is_down-clause-attaches : goal.returns-then-is_down-clause-attaches
+returns-then-is_down-clause-attaches g c =
+    then_attaches c.args.vol c.args.plex c.args.core.now c.detach.new.core c.take_back.new.core (g.S.Shelf.meaning c.args.shelf.now) (g.S.Shelf.meaning c.detach.new.shelf) (g.S.Shelf.meaning c.take_back.new.shelf)
+    (narrows_attaches c.args.vol c.args.plex c.args.core.now c.detach.new.core (g.S.Shelf.meaning c.args.shelf.now) (g.S.Shelf.meaning c.detach.new.shelf) (g.met.S.Shelf.lawful c.detach.new.shelf) c.requires.stands c.detach.ensures.narrows
+    (λ w q apart. c.detach.ensures.others w q (λ same bit. no_bit q bit)))
+    c.take_back.ensures.attaches
+
+pub returns-else-is_down-clause-attaches : goal.returns-else-is_down-clause-attaches
+returns-else-is_down-clause-attaches g c =
+    then_attaches c.args.vol c.args.plex c.args.core.now c.detach.new.core c.take_back.new.core (g.S.Shelf.meaning c.args.shelf.now) (g.S.Shelf.meaning c.detach.new.shelf) (g.S.Shelf.meaning c.take_back.new.shelf)
+    (narrows_attaches c.args.vol c.args.plex c.args.core.now c.detach.new.core (g.S.Shelf.meaning c.args.shelf.now) (g.S.Shelf.meaning c.detach.new.shelf) (g.met.S.Shelf.lawful c.detach.new.shelf) c.requires.stands c.detach.ensures.narrows
+    (λ w q apart. c.detach.ensures.others w q (λ same bit. no_bit q bit)))
+    c.take_back.ensures.attaches

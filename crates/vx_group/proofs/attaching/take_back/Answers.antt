@@ -1,0 +1,44 @@
+use Rattle.std.proofs.Common.{◌≡◌, inl, inr, true, false, sym, ◌∙◌, arith}
+use Rattle.vx_volume.proofs.PlaceLemmas.{active_few}
+use Rattle.vx_kept.proofs.Chosen.{active_volumes}
+use Rattle.vx_group.proofs.AttachLemmas.{narrows_attaches, other_left, then_attaches}
+use Rattle.vx_group.proofs.DetLemmas.{bit_here, bit_only, left_volumes, on_volumes, one_on}
+use Rattle.vx_group.proofs.Standing.{sound_of}
+use Rattle.vx_group.proofs.attaching.take_back.Goals as goal
+
+pub returns-in-Err-clause-attaches : goal.returns-in-Err-clause-attaches
+returns-in-Err-clause-attaches g c =
+    narrows_attaches c.args.vol c.args.plex c.args.core.now c.settle_headers.new.core (g.S.Shelf.meaning c.args.shelf.now) (g.S.Shelf.meaning c.settle_headers.new.shelf) (g.met.S.Shelf.lawful c.settle_headers.new.shelf) c.requires.stands c.settle_headers.ensures.narrows
+    (λ w q apart. active_volumes c.settle_headers.new.core.config c.args.core.now.config c.settle_headers.ensures.volumes w q)
+
+pub bounds-flags-plex : goal.bounds-flags-plex
+bounds-flags-plex g c = active_few c.args.core.now.config (sound_of c.args.core.now (g.S.Shelf.meaning c.args.shelf.now) c.requires.stands) c.args.vol c.args.plex c.requires.is_on
+
+pub detach-requires-clause-left : goal.detach-requires-clause-left
+detach-requires-clause-left g c = λ lt.
+    left_volumes c.args.core.now.config c.settle_headers.new.core.config c.args.vol c.set_of-set.result c.settle_headers.ensures.volumes
+    (other_left c.args.core.now.config c.args.vol c.args.plex c.set_of-set.result (active_few c.args.core.now.config (sound_of c.args.core.now (g.S.Shelf.meaning c.args.shelf.now) c.requires.stands) c.args.vol c.args.plex c.requires.is_on) c.set_of-set.ensures c.requires.other)
+
+pub detach-requires-clause-those : goal.detach-requires-clause-those
+detach-requires-clause-those g c =
+    on_volumes c.args.core.now.config c.settle_headers.new.core.config c.args.vol c.set_of-set.result c.settle_headers.ensures.volumes
+    (one_on c.args.plex c.set_of-set.result (active_few c.args.core.now.config (sound_of c.args.core.now (g.S.Shelf.meaning c.args.shelf.now) c.requires.stands) c.args.vol c.args.plex c.requires.is_on) c.set_of-set.ensures c.args.core.now.config c.args.vol c.requires.is_on)
+
+pub returns-in-Ok-detach-clause-attaches : goal.returns-in-Ok-detach-clause-attaches
+returns-in-Ok-detach-clause-attaches g c =
+    then_attaches c.args.vol c.args.plex c.args.core.now c.settle_headers.new.core c.detach.new.core (g.S.Shelf.meaning c.args.shelf.now) (g.S.Shelf.meaning c.settle_headers.new.shelf) (g.S.Shelf.meaning c.detach.new.shelf)
+    (narrows_attaches c.args.vol c.args.plex c.args.core.now c.settle_headers.new.core (g.S.Shelf.meaning c.args.shelf.now) (g.S.Shelf.meaning c.settle_headers.new.shelf) (g.met.S.Shelf.lawful c.settle_headers.new.shelf) c.requires.stands c.settle_headers.ensures.narrows
+    (λ w q apart. active_volumes c.settle_headers.new.core.config c.args.core.now.config c.settle_headers.ensures.volumes w q))
+    (narrows_attaches c.args.vol c.args.plex c.settle_headers.new.core c.detach.new.core (g.S.Shelf.meaning c.settle_headers.new.shelf) (g.S.Shelf.meaning c.detach.new.shelf) (g.met.S.Shelf.lawful c.detach.new.shelf) c.settle_headers.ensures.stands c.detach.ensures.narrows
+    (λ w q apart. c.detach.ensures.others w q (λ same bit. apart same (bit_only c.args.plex c.set_of-set.result (active_few c.args.core.now.config (sound_of c.args.core.now (g.S.Shelf.meaning c.args.shelf.now) c.requires.stands) c.args.vol c.args.plex c.requires.is_on) c.set_of-set.ensures q bit))))
+
+pub returns-in-Ok-detach-clause-off : goal.returns-in-Ok-detach-clause-off
+returns-in-Ok-detach-clause-off g c = inl (c.in-Ok-detach.ensures.off.each c.args.plex (bit_here c.args.plex c.set_of-set.result (active_few c.args.core.now.config (sound_of c.args.core.now (g.S.Shelf.meaning c.args.shelf.now) c.requires.stands) c.args.vol c.args.plex c.requires.is_on) c.set_of-set.ensures))
+
+pub returns-in-Err-detach-clause-attaches : goal.returns-in-Err-detach-clause-attaches
+returns-in-Err-detach-clause-attaches g c =
+    then_attaches c.args.vol c.args.plex c.args.core.now c.settle_headers.new.core c.detach.new.core (g.S.Shelf.meaning c.args.shelf.now) (g.S.Shelf.meaning c.settle_headers.new.shelf) (g.S.Shelf.meaning c.detach.new.shelf)
+    (narrows_attaches c.args.vol c.args.plex c.args.core.now c.settle_headers.new.core (g.S.Shelf.meaning c.args.shelf.now) (g.S.Shelf.meaning c.settle_headers.new.shelf) (g.met.S.Shelf.lawful c.settle_headers.new.shelf) c.requires.stands c.settle_headers.ensures.narrows
+    (λ w q apart. active_volumes c.settle_headers.new.core.config c.args.core.now.config c.settle_headers.ensures.volumes w q))
+    (narrows_attaches c.args.vol c.args.plex c.settle_headers.new.core c.detach.new.core (g.S.Shelf.meaning c.settle_headers.new.shelf) (g.S.Shelf.meaning c.detach.new.shelf) (g.met.S.Shelf.lawful c.detach.new.shelf) c.settle_headers.ensures.stands c.detach.ensures.narrows
+    (λ w q apart. c.detach.ensures.others w q (λ same bit. apart same (bit_only c.args.plex c.set_of-set.result (active_few c.args.core.now.config (sound_of c.args.core.now (g.S.Shelf.meaning c.args.shelf.now) c.requires.stands) c.args.vol c.args.plex c.requires.is_on) c.set_of-set.ensures q bit))))

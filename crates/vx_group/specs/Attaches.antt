@@ -1,0 +1,72 @@
+-- A plex that is attached.
+use Rattle.std.specs.Prelude.{◌≡◌, ◌≢◌, ◌⊎◌, ℕ, ◌-◌, Bool, true, false, nat_le, nat_lt, if◌then◌else◌, IsTrue, Option, Some, None, Result, Ok, Err, length}
+use Rattle.vx_disk.specs.Shelf.{Goes, Image, Meaning, Nothing}
+use Rattle.vx_model.specs.Sizes.{regions_of}
+use Rattle.vx_model.specs.declared.no.Counted.TheVariants.{Number as Numbers}
+use Rattle.vx_model.specs.declared.no.Named.TheVariants.{Number}
+use Rattle.vx_model.specs.declared.no.No.{No}
+use Rattle.vx_model.specs.declared.no.No.TheVariants.{Limit, Unknown}
+use Rattle.vx_model.specs.declared.site.PlexState.TheVariants.{Active}
+use Rattle.vx_config.specs.Changes.{stated}
+use Rattle.vx_config.specs.Checks.{blocks_of}
+use Rattle.vx_config.specs.Table.{greatest}
+use Rattle.vx_config.specs.declared.config.Config.{Config}
+use Rattle.vx_volume.specs.Copies.{OnCopy}
+use Rattle.vx_volume.specs.Plexes.{active, plexes_of}
+use Rattle.vx_kept.specs.Commits.{IsCommitted}
+use Rattle.vx_kept.specs.Keeping.{Acts, SameShape}
+use Rattle.vx_group.specs.Dets.{margin}
+use Rattle.vx_group.specs.GivesUp.{NoCommit}
+use Rattle.vx_group.specs.Stands.{meaning_of}
+use Rattle.vx_group.specs.declared.group_core.GroupCore.{GroupCore}
+
+-- The first refusal that holds: no such volume, no such plex, too few serials.
+abbrev pub att_refusal : Config → ℕ → ℕ → Option No
+att_refusal c v p =
+    if nat_le (length c.volumes) v then Some (Unknown (Number v)) else
+    (if nat_le (plexes_of c v) p then Some (Unknown (Number p)) else
+    (if nat_lt (greatest - margin) c.serial then Some (Limit Numbers greatest) else None))
+
+-- with a plex ACTIVE, of which the next attach has not to copy all regions
+abbrev pub attached : ℕ → ℕ → Config → Config
+attached v p c = stated v p Active false c
+
+-- the regions that an attach copies: all of the volume
+abbrev pub copied_regions : Config → ℕ → ℕ
+copied_regions c v = regions_of (blocks_of c.volumes v)
+
+-- whatever an image has
+abbrev pub AnyImage : Image → Type 0
+AnyImage i = Unit {0}
+
+-- Each volume reads as before, at every moment and in every image; only blocks of this plex were written beside those of the configuration, and no other
+-- plex changed its state.
+pub record Attaches (v p : ℕ) (c d : GroupCore) (old new : Meaning) : Type 0 where
+  pub goes : Goes Nothing (meaning_of c old) (meaning_of d new)
+  pub acts : Acts (OnCopy c.config v p) AnyImage old new
+  pub shape : SameShape d.config c.config
+  pub others : (w q : ℕ) → (w ≡ v → q ≡ p → ⊥) → active d.config w q ≡ active c.config w q
+  pub faults : d.faults ≡ c.faults
+  pub unsure : d.unsure ≡ c.unsure
+
+-- the plex is ACTIVE in memory, where it was copied
+abbrev pub Opens : {T E : Type 0} → ℕ → ℕ → Config → Result T E → Type 0
+Opens v p d (Ok x) = IsTrue (active d v p)
+Opens v p d (Err error) = active d v p ≡ false
+
+-- the plex is ACTIVE, and each image that a crash may leave has this configuration
+pub record IsAttached (v p : ℕ) (d : Config) (m : Meaning) : Type 0 where
+  pub is_on : IsTrue (active d v p)
+  pub committed : IsCommitted d m
+
+-- a plex of the volume is ACTIVE beside this one
+pub record HasOther (c : Config) (v p : ℕ) : Type 0 where
+  pub plex : ℕ
+  pub is_on : IsTrue (active c v plex)
+  pub apart : plex ≢ p
+
+-- How an attach ends: with the plex ACTIVE in each image, or not ACTIVE; where both the commit that makes it ACTIVE and the one that takes this back are
+-- refused, it has the content of the volume, and may be ACTIVE.
+abbrev pub AttachEnds : {T E : Type 0} → ℕ → ℕ → GroupCore → Meaning → Result T E → Type 0
+AttachEnds v p d m (Ok x) = IsAttached v p d.config m
+AttachEnds v p d m (Err error) = (active d.config v p ≡ false) ⊎ NoCommit d m

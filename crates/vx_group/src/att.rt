@@ -1,0 +1,79 @@
+// A plex that is attached by its name.
+ghost use Rattle.std.specs.Prelude.{◌≡◌, ◌⊎◌, ℕ, false, IfErr, IfOk, IsTrue, Some, None, Ok, Err};
+ghost use Rattle.vx_group.specs.Attaches.{AttachEnds, Attaches, att_refusal, copied_regions};
+ghost use Rattle.vx_group.specs.Dets.{DetStops};
+ghost use Rattle.vx_group.specs.Stands.{Stands};
+ghost use Rattle.vx_model.specs.declared.errors.Stop.TheVariants.{No as Refused};
+ghost use Rattle.vx_model.specs.declared.no.No.{No as NoValue};
+ghost use Rattle.vx_volume.specs.Plexes.{active};
+
+use crate::GroupCore;
+use crate::attaching::attach;
+use vx_config::Config;
+use vx_disk::{Shelf, refusal};
+use vx_model::limits::{MOST_NUMBER, REGION};
+use vx_model::{Counted, Named, No, Stop};
+use vx_volume::{blocks_of, is_active, plex_count};
+
+// So many serials are left at least where a call of its own may commit.
+const MARGIN: u64 = 65_536;
+
+// Why a plex may not be attached.
+fn refuse(config: &Config, vol: u32, plex: u32) -> Option<No>
+    ensures { result ≡ att_refusal config.now vol plex }
+{
+    if config.volumes.as_slice().len() <= vol as usize {
+        return Some(No::Unknown {
+            what: Named::Number(u64::from(vol)),
+        });
+    }
+    if plex_count(config, vol) <= plex {
+        return Some(No::Unknown {
+            what: Named::Number(u64::from(plex)),
+        });
+    }
+    if MOST_NUMBER - MARGIN < config.serial {
+        return Some(No::Limit {
+            what: Counted::Number,
+            most: MOST_NUMBER,
+        });
+    }
+    None
+}
+
+/// Attaches a plex, and answers how many regions were copied: all of the volume, and none where the plex is ACTIVE already; then nothing
+/// changes.
+///
+/// Answers 1 exactly where there is no such volume or plex, else 19 exactly where fewer than 65,536 serials are left, and then nothing has
+/// changed; else 7 only where the count of the disk that it names rose, and 6 only where the shelf is then down. Then the plex is not
+/// ACTIVE, unless the commit that takes it back was refused too. It takes no memory.
+pub fn att_in<S: Shelf>(
+    shelf: &mut S,
+    core: &mut GroupCore,
+    vol: u32,
+    plex: u32,
+) -> Result<u64, Stop>
+    requires stands { Stands core.old (S.meaning shelf.old) }
+    ensures stands { Stands core.new (S.meaning shelf.new) }
+    ensures refused { (no : NoValue) → att_refusal core.old.config vol plex ≡ Some no → (result ≡ Err (Refused no)) × (core.new ≡ core.old) × (shelf.new ≡ shelf.old) }
+    ensures already { att_refusal core.old.config vol plex ≡ None → IsTrue (active core.old.config vol plex) → (result ≡ Ok 0) × (core.new ≡ core.old) × (shelf.new ≡ shelf.old) }
+    ensures count { active core.old.config vol plex ≡ false → IfOk result (λ n. n ≡ copied_regions core.old.config vol) }
+    ensures attaches { Attaches vol plex core.old core.new (S.meaning shelf.old) (S.meaning shelf.new) }
+    ensures ends { active core.old.config vol plex ≡ false → AttachEnds vol plex core.new (S.meaning shelf.new) result }
+    ensures cause { att_refusal core.old.config vol plex ≡ None → DetStops (S.meaning shelf.old) (S.meaning shelf.new) result }
+{
+    if let Some(no) = refuse(&core.config, vol, plex) {
+        return Err(Stop::No(no));
+    }
+    if is_active(&core.config, vol, plex) {
+        return Ok(0);
+    }
+    if shelf.is_down() {
+        return Err(Stop::No(No::Down));
+    }
+    let regions = blocks_of(&core.config, vol).div_ceil(REGION);
+    match attach(shelf, core, vol, plex) {
+        Ok(()) => Ok(regions),
+        Err(error) => Err(Stop::No(refusal(error))),
+    }
+}

@@ -1,0 +1,10 @@
+use Rattle.std.proofs.Common.{◌-◌}
+use Rattle.vx_config.specs.Checks.{blocks_of}
+use Rattle.vx_volume.specs.Copies.{CopyLoop}
+use Rattle.vx_volume.proofs.copying.copy_blocks.Given as goal
+
+abbrev pub invariant-loop-done : goal.invariant-loop-done
+invariant-loop-done g l = CopyLoop l.config l.vol l.source l.plex l.done (blocks_of l.config.volumes l.vol) (g.S.Shelf.meaning l.initial.shelf) (g.S.Shelf.meaning l.shelf)
+
+abbrev pub decreases-loop-done : goal.decreases-loop-done
+decreases-loop-done g l = l.blocks - l.done
