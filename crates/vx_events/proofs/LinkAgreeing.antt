@@ -1,6 +1,6 @@
 -- Where no test of a line on a link refuses, its event does not either.
-use Rattle.std.proofs.Common.{◌≡◌, ◌∙◌, ◌+◌, ◌<◌, ◌≤◌, ℕ, zero, suc, List, [], ◌∷◌, length, Bool, true, false, ap, sym, subst, refl, arith}
-use Rattle.std.specs.Prelude.{Option, Some, None, slice_get, not, ◌&&◌, ◌||◌, ◌==◌, nat_lt, nat_le, leb, if◌then◌else◌}
+use Rattle.std.proofs.Common.{◌≡◌, ◌∙◌, ◌+◌, ◌<◌, ℕ, zero, suc, List, [], ◌∷◌, length, Bool, true, false, ap, subst, refl, arith}
+use Rattle.std.specs.Prelude.{Option, Some, None, slice_get, not, ◌&&◌, ◌||◌, ◌==◌, nat_lt, nat_le, if◌then◌else◌}
 use Rattle.std.proofs.lemmas.Bool.Decides.{nat_tests}
 use Rattle.vx_model.specs.Sites.{is_origin}
 use Rattle.vx_model.specs.declared.limits.TheConstants.{MOST_PACKETS}
@@ -13,9 +13,8 @@ use Rattle.vx_model.specs.declared.site.Role.{Role}
 use Rattle.vx_history.specs.Events.{packet_at}
 use Rattle.vx_history.specs.Refusals.{Outcome, unless, at_site, at_work, on_link_if, keeps_links, when_live}
 use Rattle.vx_history.specs.Sends.{is_linked}
-use Rattle.vx_history.specs.Step.{step, outcome_of}
+use Rattle.vx_history.specs.Step.{step}
 use Rattle.vx_history.specs.World.{Link as LinkOf, Packet, World}
-use Rattle.vx_history.specs.declared.event.Event.{Event}
 use Rattle.vx_history.specs.declared.event.Event.TheVariants.{Set as SetAt, Connect as ConnectAt, Cut as CutAt, Pause as PauseAt, Resume as ResumeAt, Tick as TickAt, Pump as PumpAt}
 use Rattle.vx_history.specs.declared.event.Said.TheVariants.{Done}
 use Rattle.vx_order.specs.declared.facts.SiteFacts.{SiteFacts}
@@ -29,7 +28,7 @@ use Rattle.vx_events.specs.Facts.{site_number}
 use Rattle.vx_events.specs.LinkedFacts.{link_fact, linked_fact, linked_facts, refused_by}
 use Rattle.vx_events.proofs.LinkTesting.{OnLink, on_link_by}
 use Rattle.vx_events.proofs.Passing.{off, is_site, is_at_work, above}
-use Rattle.vx_events.proofs.Refused.{passes, when_none, neither, lt_false, some_of}
+use Rattle.vx_events.proofs.Refused.{passes, when_none, neither, lt_false}
 
 -- the tests of an event on such a link do not hold
 pub passes_link : (w : World) (p s : List ℕ) (test : Role → Bool) (o : Outcome) → OnLink w p s test → on_link_if test w (site_number w p) (site_number w s) o ≡ o

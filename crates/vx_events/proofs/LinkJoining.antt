@@ -1,6 +1,6 @@
 -- Where no test of a line that makes a link refuses, its first event is not refused; and where none of a line that waits does, the write is
 -- confirmed or pending.
-use Rattle.std.proofs.Common.{◌≡◌, ◌∙◌, ◌⊎◌, inl, inr, ◌+◌, ◌<◌, ◌≤◌, ℕ, zero, suc, List, [], ◌∷◌, length, Bool, true, false, ap, sym, subst, refl, arith}
+use Rattle.std.proofs.Common.{◌≡◌, ◌∙◌, inl, inr, ◌<◌, ◌≤◌, ℕ, suc, List, [], ◌∷◌, length, Bool, true, false, ap, sym, subst, refl, arith}
 use Rattle.std.specs.Prelude.{Option, Some, None, not, ◌&&◌, ◌||◌, ◌==◌, cond, eqb, leb, nat_le, map, if◌then◌else◌}
 use Rattle.std.specs.List.{find}
 use Rattle.std.proofs.lemmas.Bool.Decides.{nat_tests}
@@ -9,13 +9,12 @@ use Rattle.vx_model.specs.declared.limits.TheConstants.{MOST_LINKS}
 use Rattle.vx_model.specs.declared.link.SyncMode.{SyncMode}
 use Rattle.vx_model.specs.declared.link.Prot.{Prot}
 use Rattle.vx_model.specs.declared.no.Counted.TheVariants.{Links}
-use Rattle.vx_model.specs.declared.no.Named.TheVariants.{Number as ByNumber}
 use Rattle.vx_model.specs.declared.no.No.{No}
-use Rattle.vx_model.specs.declared.no.No.TheVariants.{Unknown, Exists, Size, Role as WrongRole, Down as NotUp, Limit}
+use Rattle.vx_model.specs.declared.no.No.TheVariants.{Exists, Size, Role as WrongRole, Down as NotUp, Limit}
 use Rattle.vx_model.specs.declared.site.Role.{Role}
 use Rattle.vx_model.specs.declared.site.Role.TheVariants.{Primary, Secondary, Handing, Bunker}
 use Rattle.vx_model.specs.declared.site.SiteState.{SiteState}
-use Rattle.vx_model.specs.declared.site.SiteState.TheVariants.{Bare, Up, Deported, Down}
+use Rattle.vx_model.specs.declared.site.SiteState.TheVariants.{Up}
 use Rattle.vx_history.specs.Events.{linked_sites, joined}
 use Rattle.vx_history.specs.Gatherings.{emptied}
 use Rattle.vx_history.specs.Good.{Good}
@@ -30,7 +29,6 @@ use Rattle.vx_history.specs.declared.event.Said.TheVariants.{Done}
 use Rattle.vx_order.specs.declared.facts.SiteFacts.{SiteFacts}
 use Rattle.vx_order.specs.declared.facts.LinkFacts.{LinkFacts}
 use Rattle.vx_order.specs.declared.facts.RvgFacts.{RvgFacts}
-use Rattle.vx_order.specs.declared.facts.VolumeFacts.{VolumeFacts}
 use Rattle.vx_order.specs.Asks.{ask_of}
 use Rattle.vx_order.specs.Calls.{is_primary}
 use Rattle.vx_order.specs.Joining.{is_unused, on_first, are_two, can_link, linked_already, data_sizes, same_sizes, volumes_agree, ring_fits}

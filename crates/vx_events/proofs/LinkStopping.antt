@@ -2,7 +2,7 @@
 use Rattle.std.proofs.Common.{◌≡◌, ◌∙◌, ℕ, List, [], ◌∷◌, ◌++◌, ap, sym, refl}
 use Rattle.std.proofs.lemmas.List.{append_assoc}
 use Rattle.vx_history.specs.Doubts.{Doubted}
-use Rattle.vx_history.specs.Stops.{Stops, AllDone, Halts, Cuts, Reads, all_fails, told_fails}
+use Rattle.vx_history.specs.Stops.{AllDone, Halts, Cuts, Reads, all_fails, told_fails}
 use Rattle.vx_history.specs.declared.event.Event.{Event}
 use Rattle.vx_history.specs.declared.event.Event.TheVariants.{Fault}
 use Rattle.vx_script.specs.declared.line.ScriptLine.{ScriptLine}

@@ -1,7 +1,7 @@
 -- What is known of two sites and the link between them where no test refuses a line on that link.
 use Rattle.std.proofs.Common.{◌≡◌, ◌∙◌, ◌+◌, ◌<◌, ℕ, zero, suc, List, [], ◌∷◌, length, Bool, true, false, ap, sym, subst, refl, arith}
-use Rattle.std.specs.Prelude.{Option, Some, None, slice_get, cond, not, ◌&&◌, ◌==◌, unwrap_or, if◌then◌else◌}
-use Rattle.std.specs.List.{find, position, position_from}
+use Rattle.std.specs.Prelude.{Option, Some, None, cond, not, ◌==◌, unwrap_or, if◌then◌else◌}
+use Rattle.std.specs.List.{find, position_from}
 use Rattle.std.specs.Str.{bytes_eq}
 use Rattle.std.proofs.lemmas.Bool.Decides.{nat_tests}
 use Rattle.std.proofs.lemmas.Iterator.Adapters.{position_from-zero}
@@ -25,7 +25,7 @@ use Rattle.vx_events.specs.LinkedFacts.{link_fact, link_facts, links_by, links_i
 use Rattle.vx_events.specs.Plain.{IsUnlinked}
 use Rattle.vx_events.proofs.Steps.{no_sites}
 use Rattle.vx_events.proofs.Places.{position_within, some_same, never_some}
-use Rattle.vx_events.proofs.Refused.{when_none, not_false, Named, named, running_by}
+use Rattle.vx_events.proofs.Refused.{when_none, not_false, named, running_by}
 use Rattle.vx_events.proofs.Values.{length-values_from, slice_get-values_from}
 
 -- ---- the numbers of sites

@@ -6,23 +6,19 @@ use Rattle.vx_model.specs.Sites.{is_up, is_origin}
 use Rattle.vx_model.specs.declared.no.Named.TheVariants.{Number as ByNumber}
 use Rattle.vx_model.specs.declared.no.No.TheVariants.{Unknown, Role as WrongRole, Down as NotUp, Unconfirmed}
 use Rattle.vx_model.specs.declared.site.SiteState.{SiteState}
-use Rattle.vx_model.specs.declared.site.SiteState.TheVariants.{Up}
-use Rattle.vx_history.specs.Admission.{is_fail, is_live, is_log}
+use Rattle.vx_history.specs.Admission.{is_fail}
 use Rattle.vx_history.specs.Events.{linked_sites, waited, promises_of}
-use Rattle.vx_history.specs.LinkForms.{plain_link}
 use Rattle.vx_history.specs.Refusals.{Outcome, says, unless, at_work, some_below, is_unconfirmed, holds_back, goes}
 use Rattle.vx_history.specs.Sends.{is_linked, promising}
 use Rattle.vx_history.specs.Step.{step, outcome_of}
 use Rattle.vx_history.specs.World.{Node, Link as LinkOf, World}
 use Rattle.vx_history.specs.declared.event.Event.TheVariants.{Wait as WaitAt}
-use Rattle.vx_history.specs.declared.event.Said.{Said}
 use Rattle.vx_history.specs.declared.event.Said.TheVariants.{DoneAt, Pending}
 use Rattle.vx_order.specs.declared.facts.SiteFacts.{SiteFacts}
-use Rattle.vx_order.specs.declared.facts.LinkFacts.{LinkFacts}
 use Rattle.vx_order.specs.declared.facts.RvgFacts.{RvgFacts}
 use Rattle.vx_order.specs.Asks.{ask_of}
 use Rattle.vx_order.specs.Sending.{has_writes, number_unknown, last_number, lacks, unconfirmed_at}
-use Rattle.vx_order.specs.Sites.{site_named, site_off, rvg_of, halted_one}
+use Rattle.vx_order.specs.Sites.{site_off, rvg_of, halted_one}
 use Rattle.vx_order.specs.Subject.{first_name, second_name, need_of, halt_of}
 use Rattle.vx_order.specs.Tests.{when}
 use Rattle.vx_script.specs.declared.line.ScriptLine.TheVariants.{Wait}
@@ -30,7 +26,7 @@ use Rattle.vx_events.specs.Facts.{site_number, group_fact, head_of}
 use Rattle.vx_events.specs.LinkedFacts.{link_fact, link_facts, links_by, links_in, linked_fact, linked_facts, refused_by}
 use Rattle.vx_events.specs.Listed.{IsAmong, AreListed}
 use Rattle.vx_events.proofs.LinkJoining.{IsHere, here_by, all_of, both_hold, by_test}
-use Rattle.vx_events.proofs.LinkTesting.{Seat, seat_at}
+use Rattle.vx_events.proofs.LinkTesting.{seat_at}
 use Rattle.vx_events.proofs.Passing.{off, is_site, is_at_work}
 use Rattle.vx_events.proofs.Refused.{passes, when_none, not_false}
 use Rattle.vx_events.proofs.Testing.{none_under}

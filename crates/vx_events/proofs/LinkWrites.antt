@@ -1,25 +1,18 @@
 -- A write that no test refuses is let in by the links of its site.
 use Rattle.std.proofs.Common.{◌≡◌, ◌∙◌, ◌+◌, ◌≤◌, ℕ, List, [], ◌∷◌, length, zip, Bool, true, false, ap, sym, subst, refl, arith}
-use Rattle.std.specs.Prelude.{Option, Some, None, ◌&&◌, ◌*◌, nat_le, replicate, if◌then◌else◌, bytes_eq, map}
-use Rattle.std.specs.List.{find}
+use Rattle.std.specs.Prelude.{Option, Some, None, ◌&&◌, ◌*◌, nat_le, replicate, if◌then◌else◌, bytes_eq}
 use Rattle.std.proofs.lemmas.Bool.Decides.{nat_tests}
 use Rattle.vx_model.specs.Content.{blocks_in}
 use Rattle.vx_model.specs.Sites.{is_up}
-use Rattle.vx_model.specs.declared.link.Link.{Link as PlainLink}
-use Rattle.vx_model.specs.declared.no.No.{No}
 use Rattle.vx_model.specs.declared.no.No.TheVariants.{LinkDown}
-use Rattle.vx_model.specs.declared.no.SiteName.{SiteName}
 use Rattle.vx_model.specs.declared.site.SiteState.{SiteState}
-use Rattle.vx_model.specs.declared.site.SiteState.TheVariants.{Up}
-use Rattle.vx_history.specs.Admission.{Held, Link_is_down, Log_is_full, Log_stalls, Admitted, Goes, is_down, first_down, first_full, held_by_room, or_else, unless_held, changes}
+use Rattle.vx_history.specs.Admission.{Held, Link_is_down, Log_is_full, Log_stalls, Goes, is_down, first_down, first_full, held_by_room, or_else, unless_held, changes}
 use Rattle.vx_history.specs.Events.{admitted, linked_sites, plain_links, uses, used_above}
 use Rattle.vx_history.specs.LinkForms.{plain_link}
 use Rattle.vx_history.specs.World.{Node, Link, World}
 use Rattle.vx_history.specs.declared.admission.Change.{Change}
 use Rattle.vx_policy.specs.Verdicts.{refusal_if}
 use Rattle.vx_order.specs.declared.facts.SiteFacts.{SiteFacts}
-use Rattle.vx_order.specs.declared.facts.LinkFacts.{LinkFacts}
-use Rattle.vx_order.specs.declared.facts.RvgFacts.{RvgFacts}
 use Rattle.vx_order.specs.declared.facts.VolumeFacts.{VolumeFacts}
 use Rattle.vx_order.specs.declared.facts.VolumeKind.{VolumeKind}
 use Rattle.vx_order.specs.declared.facts.VolumeKind.TheVariants.{Data}
@@ -27,19 +20,19 @@ use Rattle.vx_order.specs.declared.span.Span.{Span}
 use Rattle.vx_order.specs.declared.span.Way.{Way}
 use Rattle.vx_order.specs.declared.span.Way.TheVariants.{Writes}
 use Rattle.vx_order.specs.Calls.{is_data, is_write, span_unknown, span_size}
-use Rattle.vx_order.specs.Holding.{record_size, down_link, down_at, held_down, span_down, with_name, full_by, full_link, full_in, full_at, held_full, span_full}
+use Rattle.vx_order.specs.Holding.{record_size, down_link, held_down, span_down, with_name, full_link, full_in, held_full, span_full}
 use Rattle.vx_order.specs.Links.{site_name}
 use Rattle.vx_order.specs.Sites.{site_named, volume_of, rvg_of}
 use Rattle.vx_order.specs.Spans.{span_of}
 use Rattle.vx_order.specs.Subject.{first_name, halt_of}
 use Rattle.vx_order.specs.Tests.{before}
 use Rattle.vx_script.specs.declared.line.ScriptLine.TheVariants.{Write, Put}
-use Rattle.vx_events.specs.Facts.{site_number, volume_fact, group_fact, group_by}
-use Rattle.vx_events.specs.LinkedFacts.{link_fact, link_facts, links_by, links_in, linked_fact, linked_facts, refused_by}
+use Rattle.vx_events.specs.Facts.{site_number, group_by}
+use Rattle.vx_events.specs.LinkedFacts.{link_facts, links_by, links_in, linked_fact, linked_facts, refused_by}
 use Rattle.vx_events.specs.Lines.{write_in}
 use Rattle.vx_events.proofs.LinkTesting.{Seat, seat_at}
 use Rattle.vx_events.proofs.Refused.{passes}
-use Rattle.vx_events.proofs.RefusedCalls.{Calling, calling, Sized, sized}
+use Rattle.vx_events.proofs.RefusedCalls.{Calling, calling, sized}
 use Rattle.vx_events.proofs.Testing.{found_data, blocks_filled}
 
 module _ (sites : List SiteFacts) (n : Node) (row : ℕ → Link) where

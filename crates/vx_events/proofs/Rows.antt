@@ -1,5 +1,5 @@
 -- Small scripts over linked sites: of each line its refusal, or what is said of its last event, and which packets it sends.
-use Rattle.std.proofs.Common.{◌≡◌, ℕ, Bool, false, List, [], ◌∷◌, ◌++◌, refl}
+use Rattle.std.proofs.Common.{◌≡◌, ℕ, false, List, [], ◌∷◌, ◌++◌, refl}
 use Rattle.std.specs.Prelude.{Option, Some, None, codes}
 use Rattle.std.specs.Fmt.{digits}
 use Rattle.vx_model.specs.Sizes.{is_raw_shape}
@@ -8,7 +8,7 @@ use Rattle.vx_model.specs.declared.link.SyncMode.TheVariants.{Off as NeverWaits,
 use Rattle.vx_model.specs.declared.link.Prot.TheVariants.{Fail as FailsWhenFull}
 use Rattle.vx_model.specs.declared.no.No.{No}
 use Rattle.vx_model.specs.declared.no.No.TheVariants.{Unknown, Unconfirmed, LinkDown, LogFull, Stalled, Limit, Role as WrongRole}
-use Rattle.vx_model.specs.declared.no.Named.TheVariants.{Of, Number}
+use Rattle.vx_model.specs.declared.no.Named.TheVariants.{Number}
 use Rattle.vx_model.specs.declared.no.SiteName.TheVariants.{Known}
 use Rattle.vx_model.specs.declared.no.Counted.TheVariants.{Links}
 use Rattle.vx_history.specs.World.{World, empty_world}

@@ -1,5 +1,5 @@
 -- What the status of a site shows of its links.
-use Rattle.std.specs.Prelude.{ℕ, suc, ◌+◌, List, [], ◌∷◌}
+use Rattle.std.specs.Prelude.{ℕ, ◌+◌, List, [], ◌∷◌}
 use Rattle.vx_history.specs.Events.{linked_sites}
 use Rattle.vx_history.specs.Refusals.{count_below}
 use Rattle.vx_history.specs.World.{Link, Regions, Volume, World}
