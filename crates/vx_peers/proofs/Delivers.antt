@@ -173,7 +173,7 @@ module _ (w : World) (number : ℕ) (p : Packet) (k : ℕ) (x : Write) (at : pac
 
         put_so : (t : Taken) (new : Assembled) → Takes a part (payload_in part bytes) t new → IsPutTo w.packets p.target g p t new
         put_so t new is =
-            put_together w.packets p.target place p one there refl flies g a stands t new
+            put_together w.packets p.target place p one there refl read.fly g a stands t new
             (subst (λ (bs : List ℕ). Takes a (part_carried p) (payload_in (part_carried p) bs) t new) read.bytes_are (subst (λ (q : Part). Takes a q (payload_in q bytes) t new) read.part_is is))
 
         -- another part is missing

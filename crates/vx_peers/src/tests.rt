@@ -53,7 +53,9 @@ struct Pair {
     flight: Flight,
 }
 
-fn line() -> Line {
+fn line() -> Line
+    ensures { result ≡ record { generation = 1; origin = 0 } }
+{
     Line {
         generation: 1,
         origin: 0,
