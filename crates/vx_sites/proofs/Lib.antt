@@ -1,3 +1,4 @@
+pub mod Dispatching
 pub mod Each
 pub mod Entries
 pub mod Folds

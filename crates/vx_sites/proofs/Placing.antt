@@ -1,5 +1,5 @@
 -- What stands in a place of assembly behind a packet.
-use Rattle.std.proofs.Common.{◌≡◌, Bool, true, false, List, refl, sym, ap, ◌∙◌}
+use Rattle.std.proofs.Common.{◌≡◌, Bool, true, false, List, sym, ap, ◌∙◌}
 use Rattle.std.specs.Prelude.{Option, Some, None, if◌then◌else◌}
 use Rattle.vx_history.specs.World.{Key, Gathering, Packet}
 use Rattle.vx_history.specs.Gatherings.{key_of, came_after, all_came, completes, left_by}

@@ -1,35 +1,13 @@
 -- Writes that are sent as updates, one after another.
-use Rattle.std.proofs.Common.{◌≡◌, ◌∙◌, ℕ, zero, suc, ◌+◌, ◌-◌, ◌<◌, List, [], ◌∷◌, ◌++◌, length, get_or, take, drop, min, append_assoc, sym, ap, arith, add-one}
+use Rattle.std.proofs.Common.{◌≡◌, ◌∙◌, ℕ, suc, ◌+◌, ◌-◌, ◌<◌, List, ◌∷◌, ◌++◌, length, get_or, take, drop, min, append_assoc, sym, ap, arith, add-one}
 use Rattle.std.specs.Prelude.{pred}
 use Rattle.std.proofs.Math.Seq.{drop-cons}
 use Rattle.std.proofs.Math.Numerals.{sub-one}
 use Rattle.std.proofs.lemmas.List.{drop-take, take_min}
 use Rattle.vx_model.specs.Content.{Write}
-use Rattle.vx_history.specs.World.{Message, Packet, Update}
-use Rattle.vx_history.specs.Sends.{packet, packets_from, packets_of, updates, between}
+use Rattle.vx_history.specs.World.{Packet, Update}
+use Rattle.vx_history.specs.Sends.{packets_of, updates, between}
 use Rattle.vx_model.specs.declared.history.Line.{Line}
-
--- packets from a part on, with one more at the end
-more_parts : (source target : ℕ) (line : Line) (m : Message) (part count : ℕ)
-    → packets_from source target line m part count ++ packet source target line m (part + count) ∷ [] ≡ packets_from source target line m part (count + 1)
-more_parts source target line m part zero =
-    let here : part + 0 ≡ part = omega arith in ap (λ (k : ℕ). packet source target line m k ∷ []) here
-more_parts source target line m part (suc k) =
-    let next : part + suc k ≡ part + 1 + k = omega arith in
-    let more : suc k + 1 ≡ suc (k + 1) = omega arith in
-    ap (λ (n : ℕ). packet source target line m part ∷ (packets_from source target line m (part + 1) k ++ packet source target line m n ∷ [])) next
-    ∙ ap (λ (ps : List Packet). packet source target line m part ∷ ps) (more_parts source target line m (part + 1) k)
-    ∙ ap (λ (n : ℕ). packets_from source target line m part n) (sym more)
-
--- one more part is sent
-pub one_more_part : (source target : ℕ) (line : Line) (m : Message) (part : ℕ) (now old : List Packet) → now ≡ old ++ packets_from source target line m 0 part
-    → now ++ packet source target line m part ∷ [] ≡ old ++ packets_from source target line m 0 (part + 1)
-one_more_part source target line m part now old h =
-    let here : part ≡ 0 + part = omega arith in
-    ap (λ (ps : List Packet). ps ++ packet source target line m part ∷ []) h
-    ∙ append_assoc old (packets_from source target line m 0 part) (packet source target line m part ∷ [])
-    ∙ ap (λ (n : ℕ). old ++ (packets_from source target line m 0 part ++ packet source target line m n ∷ [])) here
-    ∙ ap (λ (ps : List Packet). old ++ ps) (more_parts source target line m 0 part)
 
 -- one more of the writes is sent
 pub one_sent : (source target : ℕ) (line : Line) (number past : ℕ) (writes : List Write) (x : Write) (now all : List Packet) → past < length writes → x ≡ get_or writes past x

@@ -5,8 +5,8 @@ use Rattle.vx_model.specs.Content.{Content as PlainContent, zeros, fold_writes}
 use Rattle.vx_model.specs.Sites.{no_line, same_line}
 use Rattle.vx_history.specs.World.{Volume, no_regions, no_link, no_history, bare_site, NoFuse}
 use Rattle.vx_history.specs.World.{Node as PlainNode, Link as PlainLink, History as PlainHistory, World as PlainWorld}
-use Rattle.vx_history.specs.World.{Message as PlainMessage, Packet as PlainPacket, Key as PlainKey, Gathering as PlainGathering, Surety as PlainSurety, Promise as PlainPromise}
-use Rattle.vx_history.specs.World.{Hello as PlainHello, Update as PlainUpdate, NetAck as PlainNetAck, DataAck as PlainDataAck, Durable as PlainDurable, InSession as PlainInSession}
+use Rattle.vx_history.specs.World.{Packet as PlainPacket, Key as PlainKey, Gathering as PlainGathering, Surety as PlainSurety, Promise as PlainPromise}
+use Rattle.vx_history.specs.World.{Durable as PlainDurable, InSession as PlainInSession}
 use Rattle.vx_model.specs.declared.history.Line.{Line}
 use Rattle.vx_sites.specs.declared.content.Content.{Content}
 use Rattle.vx_sites.specs.declared.history.History.{History}
@@ -14,8 +14,6 @@ use Rattle.vx_sites.specs.declared.history.Entry.{Entry}
 use Rattle.vx_sites.specs.declared.link.Link.{Link}
 use Rattle.vx_sites.specs.declared.link.Row.{Row}
 use Rattle.vx_sites.specs.declared.node.Node.{Node}
-use Rattle.vx_sites.specs.declared.packet.Message.{Message}
-use Rattle.vx_sites.specs.declared.packet.Message.TheVariants.{Hello, Update, NetAck, DataAck}
 use Rattle.vx_sites.specs.declared.packet.Packet.{Packet}
 use Rattle.vx_sites.specs.declared.gathering.Key.{Key}
 use Rattle.vx_sites.specs.declared.gathering.Gathering.{Gathering}
@@ -24,6 +22,7 @@ use Rattle.vx_sites.specs.declared.packet.Surety.{Surety}
 use Rattle.vx_sites.specs.declared.packet.Surety.TheVariants.{Durable, InSession}
 use Rattle.vx_sites.specs.declared.packet.Promise.{Promise}
 use Rattle.vx_sites.specs.declared.world.World.{World}
+use Rattle.vx_sites.specs.Messages.{message_of}
 
 -- volumes of these many blocks each
 abbrev pub sizes : List ℕ → ℕ → ℕ
@@ -92,12 +91,6 @@ link_of l = record {
   since = no_regions;
 }
 
-abbrev pub message_of : Message → PlainMessage
-message_of (Hello session number stored) = PlainHello session number stored
-message_of (Update number write) = PlainUpdate number write
-message_of (NetAck session number) = PlainNetAck session number
-message_of (DataAck number) = PlainDataAck number
-
 abbrev pub packet_of : Packet → PlainPacket
 packet_of p = record { source = p.source; target = p.target; line = p.line; message = message_of p.message; part = p.part }
 
@@ -154,7 +147,7 @@ world_of w = record {
   nodes = nodes_of w.nodes.items;
   links = links_of w.rows.items;
   lines = lines_of w.lines.items;
-  packets = map packet_of w.packets.items;
+  packets = w.packets;
   promised = map promise_of w.promised.items;
   gathering = places_of w.gathering.items;
   headers = λ i. 0;

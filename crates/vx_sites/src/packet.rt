@@ -1,13 +1,15 @@
 // What sites send, and what they promise.
-ghost use Rattle.std.specs.Prelude.{◌≡◌, ◌≤◌, ◌++◌, map, OnOk};
-ghost use Rattle.vx_history.specs.Sends.{packets_of, payload_size as size_of, parts_of as parts};
+ghost use Rattle.std.specs.Prelude.{◌≡◌, ◌≤◌, IfOk};
+ghost use Rattle.vx_history.specs.Sends.{payload_size as size_of, parts_of as parts};
 ghost use Rattle.vx_history.specs.Gatherings.{kind_of as kind, session_of as session, number_of as number};
-ghost use Rattle.vx_sites.specs.Shapes.{message_of, packet_of};
+ghost use Rattle.vx_sites.specs.Messages.{message_of};
 
 use crate::Write;
+use std::alloc::Global;
 use vx_model::{Line, OutOfMemory};
 
-#[derive(Clone, Copy)]
+/// A message. The blocks of a write lie on the heap.
+#[derive(Drop)]
 pub enum Message {
     Hello {
         session: u64,
@@ -16,7 +18,7 @@ pub enum Message {
     },
     Update {
         number: u64,
-        write: Write,
+        write: Box<Write>,
     },
     NetAck {
         session: u64,
@@ -27,8 +29,45 @@ pub enum Message {
     },
 }
 
+impl Message {
+    /// A copy.
+    pub fn copy(&self, alloc: Global) -> Result<Message, OutOfMemory>
+        ensures { IfOk result (λ m. message_of m ≡ message_of self.now) }
+    {
+        match self {
+            Message::Hello {
+                session,
+                number,
+                stored,
+            } => Ok(Message::Hello {
+                session: *session,
+                number: *number,
+                stored: *stored,
+            }),
+            Message::Update { number, write } => Ok(Message::Update {
+                number: *number,
+                write: Box::new(alloc, **write)?,
+            }),
+            Message::NetAck { session, number } => Ok(Message::NetAck {
+                session: *session,
+                number: *number,
+            }),
+            Message::DataAck { number } => Ok(Message::DataAck { number: *number }),
+        }
+    }
+}
+
+/// A message that a site sends to another, on its line.
+#[derive(Drop)]
+pub struct Dispatch {
+    pub source: u32,
+    pub target: u32,
+    pub line: Line,
+    pub message: Message,
+}
+
 /// A packet, which carries one part of a message.
-#[derive(Clone, Copy)]
+#[derive(Drop)]
 pub struct Packet {
     pub source: u32,
     pub target: u32,
@@ -51,23 +90,6 @@ pub struct Promise {
     pub number: u64,
     pub site: usize,
     pub surety: Surety,
-}
-
-/// The packets of one message, which is that of the given one, behind those that were sent.
-pub fn send_all(packets: &mut Vec<Packet>, packet: Packet) -> Result<(), OutOfMemory>
-    ensures { OnOk result (map packet_of packets.new.items ≡ map packet_of packets.old.items ++ packets_of packet.source packet.target packet.line (message_of packet.message)) }
-{
-    for part in 0..parts_of(&packet.message) {
-        packets.push(with_part(&packet, part))?;
-    }
-    Ok(())
-}
-
-// The packet of another part of its message.
-fn with_part(packet: &Packet, part: u32) -> Packet
-    ensures { packet_of result ≡ record (packet_of packet.now) { part = part } }
-{
-    Packet { part, ..*packet }
 }
 
 /// In how many parts a message goes: a packet has 1,024 bytes of it.

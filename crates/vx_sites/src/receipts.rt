@@ -1,24 +1,25 @@
 // Packets that were sent, and writes that sites receive.
-ghost use Rattle.std.specs.Prelude.{◌≡◌, ◌<◌, length, MatchOption, None, Some, OnOk};
+ghost use Rattle.std.specs.Prelude.{◌≡◌, ◌<◌, length, MatchOption, None, Some, IfOk, OnOk};
 ghost use Rattle.vx_history.specs.World.{with_node};
 ghost use Rattle.vx_history.specs.Sends.{sending, greeting};
 ghost use Rattle.vx_history.specs.Events.{packet_at, with_write};
 ghost use Rattle.vx_sites.specs.Shapes.{world_of, packet_of};
 
-use crate::{Message, Packet, World, Write};
+use crate::{Dispatch, Message, Packet, World, Write};
 use vx_model::OutOfMemory;
 use vx_model::limits::MOST_PACKETS;
 
 impl World {
     /// The packet of this number, the first of which is number 1, among the newest that are kept.
-    pub fn packet(&self, number: u64) -> Option<Packet>
-        ensures { let found = packet_at (world_of self.now).packets number in MatchOption result (found ≡ None) (λ p. found ≡ Some (packet_of p)) }
+    pub fn packet(&self, number: u64) -> Result<Option<Packet>, OutOfMemory>
+        ensures { IfOk result (λ packet. let found = packet_at (world_of self.now).packets number in MatchOption packet (found ≡ None) (λ p. found ≡ Some (packet_of p))) }
     {
-        let sent = self.packets.len() as u64;
+        let sent = self.packets.len();
         if number == 0 || sent < number || MOST_PACKETS as u64 <= sent - number {
-            return None;
+            return Ok(None);
         }
-        Some(self.packets[number as usize - 1])
+        let packet = self.packets.packet(self.alloc, number)?;
+        Ok(Some(packet))
     }
 
     /// The site receives a write from the source, which waits.
@@ -38,7 +39,7 @@ impl World {
         ensures { OnOk result (let w = world_of self.old in world_of self.new ≡ sending w (greeting source target (w.nodes source))) }
     {
         let node = &self.nodes[source as usize];
-        let packet = Packet {
+        let hello = Dispatch {
             source,
             target,
             line: node.line,
@@ -47,8 +48,7 @@ impl World {
                 number: node.log.len() as u64,
                 stored: node.safe,
             },
-            part: 0,
         };
-        self.send(packet)
+        self.send(hello)
     }
 }

@@ -1,10 +1,10 @@
 // Writes that are sent as updates.
-ghost use Rattle.std.specs.Prelude.{◌≡◌, ◌+◌, ◌≤◌, ◌<◌, ◌^◌, ◌++◌, length, map, OnOk};
+ghost use Rattle.std.specs.Prelude.{◌≡◌, ◌+◌, ◌≤◌, ◌<◌, ◌^◌, ◌++◌, length, OnOk};
 ghost use Rattle.vx_history.specs.Sends.{updates, between, sending};
-ghost use Rattle.vx_sites.specs.Shapes.{world_of, packet_of};
+ghost use Rattle.vx_sites.specs.Shapes.{world_of};
 
-use crate::packet::send_all;
-use crate::{Message, Packet, World, Write};
+use crate::{Dispatch, Dispatches, Message, World, Write};
+use std::alloc::Global;
 use vx_model::{Line, OutOfMemory};
 
 // The two ends of an update, and the line that it is of.
@@ -34,6 +34,7 @@ impl World {
             line: node.line,
         };
         send_writes(
+            self.alloc,
             &mut self.packets,
             &route,
             from,
@@ -58,28 +59,25 @@ fn writes_between(log: &[Write], from: u64, to: u64) -> &[Write]
 
 // Sends these writes as updates, the first under this number.
 fn send_writes(
-    packets: &mut Vec<Packet>,
+    alloc: Global,
+    packets: &mut Dispatches,
     route: &Route,
     number: u64,
     writes: &[Write],
 ) -> Result<(), OutOfMemory>
     requires { number + length writes.now ≤ 2 ^ 64 }
-    ensures { OnOk result (map packet_of packets.new.items ≡ map packet_of packets.old.items ++ updates route.now.source route.now.target route.now.line number writes.now) }
+    ensures { OnOk result (packets.new ≡ packets.old ++ updates route.now.source route.now.target route.now.line number writes.now) }
 {
     for (past, write) in writes.iter().enumerate() {
-        send_all(
-            packets,
-            Packet {
-                source: route.source,
-                target: route.target,
-                line: route.line,
-                message: Message::Update {
-                    number: number + past as u64,
-                    write: *write,
-                },
-                part: 0,
+        packets.send(Dispatch {
+            source: route.source,
+            target: route.target,
+            line: route.line,
+            message: Message::Update {
+                number: number + past as u64,
+                write: Box::new(alloc, *write)?,
             },
-        )?;
+        })?;
     }
     Ok(())
 }

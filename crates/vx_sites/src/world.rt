@@ -2,11 +2,11 @@
 ghost use Rattle.std.specs.Prelude.{◌≡◌, ◌+◌, ◌<◌, length, IfOk, OnOk};
 ghost use Rattle.vx_history.specs.World.{empty_world, updated};
 ghost use Rattle.vx_history.specs.Sends.{with_link, sending, packets_of};
-ghost use Rattle.vx_sites.specs.Shapes.{world_of, node_of, link_of, message_of};
+ghost use Rattle.vx_sites.specs.Shapes.{world_of, node_of, link_of};
+ghost use Rattle.vx_sites.specs.Messages.{message_of};
 
 use crate::link::lengthen_rows;
-use crate::packet::send_all;
-use crate::{Entry, Link, Node, Packet, Place, Promise, Row};
+use crate::{Dispatch, Dispatches, Entry, Link, Node, Place, Promise, Row};
 use std::alloc::Global;
 use vx_model::OutOfMemory;
 
@@ -19,7 +19,7 @@ pub struct World {
     pub rows: Vec<Row>,
     pub lines: Vec<Entry>,
     /// All packets that were ever sent, number 1 first.
-    pub packets: Vec<Packet>,
+    pub packets: Dispatches,
     /// All promises that were ever made.
     pub promised: Vec<Promise>,
     /// What each site has in assembly. One without a place has nothing.
@@ -36,7 +36,7 @@ impl World {
             nodes: Vec::new(alloc),
             rows: Vec::new(alloc),
             lines: Vec::new(alloc),
-            packets: Vec::new(alloc),
+            packets: Dispatches::new(alloc),
             promised: Vec::new(alloc),
             gathering: Vec::new(alloc),
         })
@@ -95,9 +95,9 @@ impl World {
     }
 
     /// Sends the packets of a message.
-    pub fn send(&mut self, packet: Packet) -> Result<(), OutOfMemory>
-        ensures { OnOk result (world_of self.new ≡ sending (world_of self.old) (packets_of packet.source packet.target packet.line (message_of packet.message))) }
+    pub fn send(&mut self, dispatch: Dispatch) -> Result<(), OutOfMemory>
+        ensures { OnOk result (world_of self.new ≡ sending (world_of self.old) (packets_of dispatch.source dispatch.target dispatch.line (message_of dispatch.message))) }
     {
-        send_all(&mut self.packets, packet)
+        self.packets.send(dispatch)
     }
 }

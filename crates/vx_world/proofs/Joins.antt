@@ -19,7 +19,7 @@ use Rattle.vx_model.specs.declared.site.SiteState.TheVariants.{Bare, Up}
 use Rattle.vx_model.specs.declared.link.SyncMode.{SyncMode}
 use Rattle.vx_model.specs.declared.no.No.TheVariants.{Exists, Size, Role as WrongRole, Limit}
 use Rattle.vx_model.specs.declared.no.Counted.TheVariants.{Sites, Disks, Links}
-use Rattle.vx_history.proofs.Updates.{by_test, and_left, and_right, same_line_equal, at_place}
+use Rattle.vx_history.proofs.Updates.{by_test, and_left, and_right, same_line_equal}
 use Rattle.vx_history.proofs.GoodLemmas.{good_site, good_raw, good_stays, made_is_given, up_is_made}
 use Rattle.vx_history.specs.declared.event.LinkPart.{LinkPart}
 use Rattle.vx_history.specs.declared.event.LinkPart.TheVariants.{Joins, Made, Marked, Opened}

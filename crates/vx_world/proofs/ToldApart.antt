@@ -14,7 +14,7 @@ use Rattle.vx_history.specs.declared.receiver.RState.{RState}
 use Rattle.vx_history.proofs.Updates.{by_test}
 use Rattle.vx_history.specs.declared.event.Event.TheVariants.{Apply, Deliver, Connect}
 use Rattle.vx_history.specs.declared.event.Said.TheVariants.{DoneAt}
-use Rattle.vx_history.specs.Sends.{sending, packet, packets_of, greeting}
+use Rattle.vx_history.specs.Sends.{sending, packet, greeting}
 use Rattle.vx_history.specs.Refusals.{Outcome, says, is_running}
 use Rattle.vx_model.specs.Sites.{is_up}
 use Rattle.vx_history.specs.Events

@@ -11,7 +11,7 @@ ghost use Rattle.vx_sites.specs.Shapes.{world_of};
 use vx_history::Said;
 use vx_model::{Mark, OutOfMemory, SPhase};
 use vx_sites::refusals::{has_writes, refuse_site, refuse_work};
-use vx_sites::{Message, Packet, World};
+use vx_sites::{Dispatch, Message, World};
 
 /// The next waiting records, so many, are durable at a receiver, and are acknowledged from disk, to the
 /// site that feeds it. At a site where writes arise
@@ -45,12 +45,11 @@ fn apply_received(world: &mut World, site: u32, count: u64) -> Result<Said, OutO
     }
     let number = last - waiting.saturating_sub(count);
     let mark = mark_at(node.mark, &node.phase, node.end, number);
-    let ack = Packet {
+    let ack = Dispatch {
         source: site,
         target: node.fed_by,
         line: node.line,
         message: Message::DataAck { number },
-        part: 0,
     };
     world.apply(site, number, mark)?;
     world.send(ack)?;

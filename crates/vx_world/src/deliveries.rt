@@ -4,7 +4,8 @@ ghost use Rattle.vx_history.specs.Refusals.{says};
 ghost use Rattle.vx_history.specs.Events.{handed, heard, gathers, is_taken as takes};
 ghost use Rattle.vx_history.specs.Step.{outcome_of};
 ghost use Rattle.vx_history.specs.declared.event.Event.TheVariants.{Deliver};
-ghost use Rattle.vx_sites.specs.Shapes.{world_of, packet_of, message_of};
+ghost use Rattle.vx_sites.specs.Shapes.{world_of, packet_of};
+ghost use Rattle.vx_sites.specs.Messages.{message_of};
 
 use crate::hearing::hear_on_link;
 use crate::receiving::hear_update;
@@ -17,7 +18,7 @@ use vx_sites::{Message, Packet, World};
 pub fn deliver(world: &mut World, number: u64) -> Result<Said, OutOfMemory>
     ensures { IfOk result (λ said. says (world_of world.new) said ≡ outcome_of (world_of world.old) (Deliver number)) }
 {
-    match world.packet(number) {
+    match world.packet(number)? {
         Some(packet) => hand_on(world, &packet),
         None => Ok(Said::Refused(No::Unknown {
             what: Named::Number(number),

@@ -37,9 +37,9 @@ pub fn step(world: &mut World, event: &Event) -> Result<Answer, OutOfMemory>
     ensures said { IfOk result (λ answer. answer.said ≡ (outcome_of (world_of world.old) event.now).said) }
     ensures sent { IfOk result (λ answer. answer.sent ≡ numbers_sent (world_of world.old).packets (world_of world.new).packets) }
 {
-    let before = world.packets.len() as u64;
+    let before = world.packets.len();
     let said = happen(world, event)?;
-    let after = world.packets.len() as u64;
+    let after = world.packets.len();
     let sent = if before < after {
         Some((before + 1, after))
     } else {

@@ -11,7 +11,7 @@ ghost use Rattle.vx_sites.specs.Shapes.{world_of, node_of, packet_of};
 use vx_history::{RAction, REvent, RState, Said};
 use vx_model::{Line, OutOfMemory};
 use vx_sites::refusals::has_writes;
-use vx_sites::{Message, Node, Packet, World, Write};
+use vx_sites::{Dispatch, Message, Node, Packet, World, Write};
 
 /// The target hears an update. A site where writes arise ignores it.
 pub fn hear_update(
@@ -70,7 +70,7 @@ fn acknowledge(world: &mut World, packet: &Packet, number: u64) -> Result<(), Ou
     ensures { OnOk result (let w = world_of world.old in world_of world.new ≡ from_memory w (w.nodes packet.now.target) (packet_of packet.now) number) }
 {
     let node = world.node(packet.target);
-    let answer = Packet {
+    let answer = Dispatch {
         source: packet.target,
         target: packet.source,
         line: node.line,
@@ -78,7 +78,6 @@ fn acknowledge(world: &mut World, packet: &Packet, number: u64) -> Result<(), Ou
             session: node.session,
             number,
         },
-        part: 0,
     };
     world.send(answer)
 }

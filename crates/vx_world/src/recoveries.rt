@@ -14,7 +14,7 @@ use vx_model::limits::MOST_NUMBER;
 use vx_model::{Mark, No, OutOfMemory, SiteState};
 use vx_sites::bounds::refuse_most;
 use vx_sites::refusals::{has_writes, refuse_site};
-use vx_sites::{Message, Node, Packet, World};
+use vx_sites::{Dispatch, Message, Node, World};
 
 /// A site that is down comes up in its next session, and a receiver greets its primary. Where a disk fails the session has begun,
 /// and the site is down still. Refused with 1, with 9 where the site is bare, with 5 where it is not down, and with 19.
@@ -80,7 +80,7 @@ fn greet(world: &mut World, site: u32) -> Result<(), OutOfMemory>
     if has_writes(&node.role) {
         return Ok(());
     }
-    let hello = Packet {
+    let hello = Dispatch {
         source: site,
         target: node.other,
         line: node.line,
@@ -89,7 +89,6 @@ fn greet(world: &mut World, site: u32) -> Result<(), OutOfMemory>
             number: node.log.len() as u64,
             stored: node.safe,
         },
-        part: 0,
     };
     world.send(hello)?;
     Ok(())

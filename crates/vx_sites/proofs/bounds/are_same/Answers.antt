@@ -1,5 +1,5 @@
 use Rattle.std.proofs.Common.{◌≡◌, ◌∙◌, ℕ, ◌+◌, ◌<◌, suc, Bool, List, length, take, true, slice_index_or, sym, ap, subst, arith}
-use Rattle.std.specs.Prelude.{eqb, ◌&&◌}
+use Rattle.std.specs.Prelude.{◌&&◌}
 use Rattle.vx_history.specs.Refusals.{agree}
 use Rattle.vx_sites.specs.Shapes.{named_volumes}
 use Rattle.vx_sites.proofs.Volumes.{agree_apart, agree_differs, agree_more, tells_apart, tells_same}

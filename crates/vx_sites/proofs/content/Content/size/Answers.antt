@@ -1,4 +1,4 @@
-use Rattle.std.proofs.Common.{◌≡◌, ◌∙◌, ℕ, List, ap, sym}
+use Rattle.std.proofs.Common.{◌∙◌, ℕ, List, ap, sym}
 use Rattle.vx_model.specs.Content.{zeros}
 use Rattle.vx_sites.specs.Shapes.{sizes}
 use Rattle.vx_sites.proofs.Folds.{size_fold}

@@ -2,7 +2,7 @@ use Rattle.std.proofs.Common.{◌≡◌, ◌∙◌, ℕ, Bool, List, ap}
 use Rattle.std.specs.Prelude.{Option, None}
 use Rattle.vx_history.specs.World.{Gathering, World, updated}
 use Rattle.vx_history.specs.Gatherings.{came_after, all_came, left_by}
-use Rattle.vx_sites.specs.Shapes.{world_of, packet_of, held_of, places_of, plain_key}
+use Rattle.vx_sites.specs.Shapes.{world_of, packet_of, held_of, plain_key}
 use Rattle.vx_sites.specs.declared.gathering.Place.{Place}
 use Rattle.vx_sites.proofs.Tables.{seen-set}
 use Rattle.vx_sites.proofs.Placing.{left_whole, left_part}
