@@ -129,18 +129,18 @@ module _ (told : Type 0) (files : Bool) where
     bad_is : (input : List ℕ) (status : Status) (left w0 w1 : Option (List ℕ)) (f0 f1 : ℕ → ℕ → ℕ) (line column : ℕ)
         → Outcome told files Leaves 0 empty_world input status left w0 w1 f0 f1 → FirstBad input line column → IsUncut status → status ≡ BadLine line column
     bad_is input Done left w0 w1 f0 f1 line column o bad uncut =
-        let good = run_good empty_world o.world o.part.lines o.part.failures o.part.texts o.run in
+        let good = run_good empty_world o.behind o.part.lines o.part.failures o.part.texts o.run in
         let e : o.part.lines ++ o.part.others ≡ bad.before ++ bad.bad ∷ bad.others = sym o.split ∙ bad.split in
         let below = ends_before o.part.lines o.part.others bad.before bad.others bad.bad column e good bad.wrong in
         let none : length o.part.others ≡ 0 = ap length o.ends.0 in
         absurd (omega (arith, below, none, ap length e, length-append o.part.lines o.part.others, length-append bad.before (bad.bad ∷ bad.others)))
     bad_is input (BadLine l c) left w0 w1 f0 f1 line column o bad uncut =
-        let good = run_good empty_world o.world o.part.lines o.part.failures o.part.texts o.run in
+        let good = run_good empty_world o.behind o.part.lines o.part.failures o.part.texts o.run in
         let both = first_bad o.part.lines o.part.others bad.before bad.others bad.bad c column (sym o.split ∙ bad.split) good bad.good bad.wrong o.ends.1 in
         let at : l ≡ line = omega (arith, o.ends.0, both.0, bad.number) in
         ap (λ (k : ℕ). BadLine k c) at ∙ ap (BadLine line) both.1
     bad_is input TooLong left w0 w1 f0 f1 line column o bad uncut =
-        let good = run_good empty_world o.world o.part.lines o.part.failures o.part.texts o.run in
+        let good = run_good empty_world o.behind o.part.lines o.part.failures o.part.texts o.run in
         let below = ends_before o.part.lines o.part.others bad.before bad.others bad.bad column (sym o.split ∙ bad.split) good bad.wrong in
         absurd (omega (arith, below, o.ends.0, bad.few))
     bad_is input Usage left w0 w1 f0 f1 line column o bad uncut = absurd o.ends
@@ -184,10 +184,10 @@ module _ (told : Type 0) (files : Bool) where
         subst (λ (ls : List (List ℕ)). CleanRun told files Leaves ls w0 w1) (sym all)
         (record {
           texts = o.part.texts;
-          world = o.world;
-          run = run_clean empty_world o.world o.part.lines o.part.failures o.part.texts o.run (still_none (all_fails o.part.failures) f0 f1 o.rose still);
+          world = o.behind;
+          run = run_clean empty_world o.behind o.part.lines o.part.failures o.part.texts o.run (still_none (all_fails o.part.failures) f0 f1 o.rose still);
           appends = subst (λ (t : List ℕ). Appends w0 w1 t) o.ends.2 o.appends;
-          leaves = o.leaves;
+          leaves = subst Leaves o.last o.leaves;
         })
 
     clean_is : (input : List ℕ) (status : Status) (left w0 w1 : Option (List ℕ)) (f0 f1 : ℕ → ℕ → ℕ) → Outcome told files Leaves 0 empty_world input status left w0 w1 f0 f1

@@ -1,20 +1,22 @@
 -- How the parts of a run are put together.
-use Rattle.std.proofs.Common.{◌≡◌, ◌≤◌, ◌<◌, ℕ, suc, ◌+◌, Bool, List, [], ◌∷◌, ◌++◌, length, Option, Err, refl, arith, ap, sym, subst, ◌∙◌, append_assoc, append-nil}
+use Rattle.std.proofs.Common.{◌≡◌, ◌≤◌, ◌<◌, ℕ, suc, ◌+◌, Bool, List, [], ◌∷◌, ◌++◌, length, Option, Some, None, Result, Ok, Err, refl, arith, ap, sym, subst, ◌∙◌, append_assoc, append-nil}
 use Rattle.std.specs.List.{concat}
 use Rattle.std.specs.Io.KnownBytes.{Appends}
 use Rattle.vx_history.specs.World.{World}
 use Rattle.vx_script.specs.Lines.{lines_of}
+use Rattle.vx_script.specs.declared.line.ScriptLine.{ScriptLine}
 use Rattle.vx_stream.proofs.SendLemmas.{appends_then}
 use Rattle.vx_node.specs.Lines.{script_line}
 use Rattle.vx_node.specs.Stands.{RoseAll}
 use Rattle.vx_node.specs.Steps.{LineStep}
 use Rattle.vx_events.specs.Fails.{Fails}
+use Rattle.vx_events.proofs.Parts.{none_done}
 use Rattle.vx_cli.specs.declared.status.Status.{Status}
 use Rattle.vx_cli.specs.declared.status.Status.TheVariants.{Done, Usage, BadLine, ReadFault, WriteFault, OutOfMemory, TooLong}
 use Rattle.vx_cli.specs.Reading.{IsWhole}
 use Rattle.vx_cli.specs.Runs.{all_fails}
 use Rattle.vx_cli.specs.Texts.{bad_text, IsCut}
-use Rattle.vx_cli.specs.Ends.{IsBadNext, Part, WriteEnds, AtReply, AtBad, MemoryEnds, ReadEnds, Ends, Outcome}
+use Rattle.vx_cli.specs.Ends.{IsBadNext, Part, WriteEnds, AtReply, AtBad, MemoryEnds, ReadEnds, Ends, PartOfLine, PartOfNext, LastWorld, Outcome}
 use Rattle.vx_cli.proofs.StepLemmas.{rose_more}
 
 -- a number of lines, one further on
@@ -76,6 +78,20 @@ no_part bytes = record { lines = []; others = lines_of bytes; failures = []; tex
 abbrev pub one_part : List ℕ → List (List ℕ) → Fails → List ℕ → Part
 one_part line others fails text = record { lines = line ∷ []; others = others; failures = fails ∷ []; texts = text ∷ [] }
 
+-- nothing of the next line was done
+none_of_line : (r : Result (Option ScriptLine) ℕ) (w : World) → PartOfLine r w w
+none_of_line (Ok (Some words)) w = none_done w words
+none_of_line (Ok None) w = refl
+none_of_line (Err column) w = refl
+
+none_of_next : (others : List (List ℕ)) (w : World) → PartOfNext others w w
+none_of_next [] w = refl
+none_of_next (line ∷ lines) w = none_of_line (script_line line) w
+
+last_same : (status : Status) (others : List (List ℕ)) (w : World) → LastWorld status others w w
+last_same OutOfMemory others w = none_of_next others w
+last_same other others w = refl
+
 module _ {told : Type 0} {files : Bool} {Leaves : World → Type 0} where
   -- a run goes on after a line as the rest does from there
   pub outcome_more : (n : ℕ) (old mid : World) (raw line after : List ℕ) (status : Status) (left w0 w1 w2 : Option (List ℕ)) (f0 f1 f2 : ℕ → ℕ → ℕ) (fails : Fails) (text : List ℕ)
@@ -88,19 +104,28 @@ module _ {told : Type 0} {files : Bool} {Leaves : World → Type 0} where
         out = text ++ rest.out;
         split = whole.lines after ∙ ap (λ (ls : List (List ℕ)). line ∷ ls) rest.split;
         few = let h = rest.few in omega arith;
+        behind = rest.behind;
         run = (mid, step, rest.run);
+        last = rest.last;
         ends = ends_more n status raw line after left rest.part fails text rest.out whole rest.ends;
         appends = appends_then w0 w1 w2 text rest.out wrote rest.appends;
         rose = rose_more fails (all_fails rest.part.failures) f0 f1 f2 rose rest.rose;
         leaves = rest.leaves;
       }
 
+  -- the run ends within its next line
+  pub ends_within : (n : ℕ) (old new : World) (bytes : List ℕ) (status : Status) (left w0 w1 : Option (List ℕ)) (f0 f1 : ℕ → ℕ → ℕ) (out : List ℕ)
+      → n ≤ 1000000 → LastWorld status (lines_of bytes) old new → Ends n status bytes left (no_part bytes) out → Appends w0 w1 out → RoseAll [] f0 f1 → Leaves new
+      → Outcome told files Leaves n old bytes status left w0 w1 f0 f1
+  ends_within n old new bytes status left w0 w1 f0 f1 out few last ends wrote rose leaves =
+      record { part = no_part bytes; world = new; out = out; split = refl; few = omega arith; behind = old; run = refl; last = last; ends = ends; appends = wrote; rose = rose; leaves = leaves }
+
   -- the run ends before its next line
   pub ends_here : (n : ℕ) (old : World) (bytes : List ℕ) (status : Status) (left w0 w1 : Option (List ℕ)) (f0 f1 : ℕ → ℕ → ℕ) (out : List ℕ)
       → n ≤ 1000000 → Ends n status bytes left (no_part bytes) out → Appends w0 w1 out → RoseAll [] f0 f1 → Leaves old
       → Outcome told files Leaves n old bytes status left w0 w1 f0 f1
   ends_here n old bytes status left w0 w1 f0 f1 out few ends wrote rose leaves =
-      record { part = no_part bytes; world = old; out = out; split = refl; few = omega arith; run = refl; ends = ends; appends = wrote; rose = rose; leaves = leaves }
+      ends_within n old old bytes status left w0 w1 f0 f1 out few (last_same status (lines_of bytes) old) ends wrote rose leaves
 
   -- the run ends with a line
   pub ends_one : (n : ℕ) (old new : World) (bytes line : List ℕ) (others : List (List ℕ)) (status : Status) (left w0 w1 : Option (List ℕ)) (f0 f1 : ℕ → ℕ → ℕ)
@@ -113,7 +138,9 @@ module _ {told : Type 0} {files : Bool} {Leaves : World → Type 0} where
         out = out;
         split = split;
         few = omega arith;
+        behind = new;
         run = (new, step, refl);
+        last = last_same status others new;
         ends = ends;
         appends = wrote;
         rose = subst (λ (fs : Fails). RoseAll fs f0 f1) (sym (append-nil fails)) rose;

@@ -19,7 +19,7 @@ use Rattle.vx_cli.specs.Ends.{RunIs}
 use Rattle.vx_cli.specs.Turns.{YardComes}
 use Rattle.vx_cli.proofs.EndsLemmas.{ends_here}
 use Rattle.vx_cli.proofs.ReaderLemmas.{ahead_some}
-use Rattle.vx_cli.proofs.Sounds.{said_sound}
+use Rattle.vx_cli.proofs.Sounds.{said_sound, last_sound}
 use Rattle.vx_cli.proofs.StepLemmas.{line_told, rose_none, rose_same}
 
 -- a run where contents are told is one where even more is told
@@ -62,13 +62,16 @@ module _ {R : Type 0} {g : Ghosts R} where
           out = o.out;
           split = o.split;
           few = o.few;
-          run = subst (λ (f : Bool). Run (RacksTell g.meaning racks) f empty_world o.part.lines o.part.failures o.part.texts o.world) kept
-              (run_told (told o.world o.leaves) (in_files old) empty_world o.part.lines o.part.failures o.part.texts o.world o.run);
+          behind = o.behind;
+          run = subst (λ (f : Bool). Run (RacksTell g.meaning racks) f empty_world o.part.lines o.part.failures o.part.texts o.behind) kept
+              (run_told (told o.world o.leaves) (in_files old) empty_world o.part.lines o.part.failures o.part.texts o.behind o.run);
+          last = o.last;
           ends = o.ends;
           appends = o.appends;
           rose = rose_same (all_fails o.part.failures) (count_of old) (count_of new) f0 f1 (λ s d. sym (counts s d)) (after o.world o.leaves) o.rose;
           leaves = record {
-            good = λ tells. (world_sound (IsTold new) (told o.world o.leaves tells) (in_files old) empty_world o.part.lines o.part.failures o.part.texts o.world empty_good o.run);
+            good = λ tells. last_sound status o.part.others o.behind o.world
+                (world_sound (IsTold new) (told o.world o.leaves tells) (in_files old) empty_world o.part.lines o.part.failures o.part.texts o.behind empty_good o.run) o.last;
             holds = holds o.world o.leaves;
           };
         };

@@ -21,7 +21,12 @@ use Rattle.vx_events.specs.Fails.{Fails}
 use Rattle.vx_events.specs.Lines.{StepBy}
 use Rattle.vx_events.specs.Lists.{events_of}
 use Rattle.vx_events.specs.declared.said.Said.{Said}
+use Rattle.vx_events.proofs.Parts.{part_good}
+use Rattle.vx_node.specs.Lines.{script_line}
 use Rattle.vx_node.specs.Steps.{SaidStep}
+use Rattle.vx_cli.specs.Ends.{PartOfLine, PartOfNext, LastWorld}
+use Rattle.vx_cli.specs.declared.status.Status.{Status}
+use Rattle.vx_cli.specs.declared.status.Status.TheVariants.{OutOfMemory}
 
 -- what a line notes is no more than a note
 fuse_like : (v : World) (s : ℕ) (f : FuseOf) → IsLike v (with_node v s (record (v.nodes s) { fuse = f }))
@@ -80,3 +85,17 @@ pub said_sound : {told : Type 0} → told → (files : Bool) (w : World) (r : Re
 said_sound is files w (Ok None) fails text new sound step = subst GoodWorld (sym step.2) sound
 said_sound is files w (Ok (Some line)) fails text new sound step = step_sound is (refusal_of (facts_of w) files line) w line fails step.said new sound step.step
 said_sound is files w (Err column) fails text new sound step = absurd step
+
+-- so does want of memory within a line
+line_part_sound : (r : Result (Option ScriptLine) ℕ) (w last : World) → GoodWorld w → PartOfLine r w last → GoodWorld last
+line_part_sound (Ok (Some words)) w last good part = part_good w words last good part
+line_part_sound (Ok None) w last good part = subst GoodWorld (sym part) good
+line_part_sound (Err column) w last good part = subst GoodWorld (sym part) good
+
+next_part_sound : (others : List (List ℕ)) (w last : World) → GoodWorld w → PartOfNext others w last → GoodWorld last
+next_part_sound [] w last good part = subst GoodWorld (sym part) good
+next_part_sound (line ∷ lines) w last good part = line_part_sound (script_line line) w last good part
+
+pub last_sound : (status : Status) (others : List (List ℕ)) (w last : World) → GoodWorld w → LastWorld status others w last → GoodWorld last
+last_sound OutOfMemory others w last good part = next_part_sound others w last good part
+last_sound other others w last good part = subst GoodWorld (sym part) good

@@ -10,16 +10,16 @@ use Rattle.vx_stream.proofs.SendLemmas.{appends_none}
 use Rattle.vx_node.specs.declared.yard.Yard.{Yard}
 use Rattle.vx_node.specs.Lines.{script_line}
 use Rattle.vx_node.specs.Steps.{SaidStep}
-use Rattle.vx_node.specs.Yards.{YardStands, StaysFor, Steps, IsTold, count_of, in_files}
+use Rattle.vx_node.specs.Yards.{YardStands, StopsShort, Steps, IsTold, count_of, in_files}
 use Rattle.vx_cli.specs.declared.reader.Next.TheVariants as nexts
 use Rattle.vx_cli.specs.declared.status.Status.{Status}
 use Rattle.vx_cli.specs.declared.status.Status.TheVariants.{Done, Usage, BadLine, ReadFault, WriteFault, OutOfMemory, TooLong}
 use Rattle.vx_cli.specs.Reading.{MayHave, Ahead, Follows, IsWhole, IsLong, IsMore, NextIs}
 use Rattle.vx_cli.specs.Texts.{bad_text}
-use Rattle.vx_cli.specs.Ends.{IsNonEmpty, AtReply, AtBad, Ends, Outcome}
-use Rattle.vx_cli.specs.Turns.{BadIs, Did, WriteStops, StopsAtReply, StopsAtBad, AnswerIs, YardComes, TurnIs, Reaches}
+use Rattle.vx_cli.specs.Ends.{IsNonEmpty, AtReply, AtBad, Ends, PartOfLine, PartOfNext, Outcome}
+use Rattle.vx_cli.specs.Turns.{BadIs, Did, StaysFor, MemoryStops, StopsBefore, StopsWithin, StopsBehind, WriteStops, StopsAtReply, StopsAtBad, AnswerIs, YardComes, TurnIs, Reaches}
 use Rattle.vx_cli.proofs.StepLemmas.{script_line_long, rose_none, line_told}
-use Rattle.vx_cli.proofs.EndsLemmas.{no_part, one_part, outcome_more, ends_here, ends_one, bad_next, bad_first, zero_more}
+use Rattle.vx_cli.proofs.EndsLemmas.{no_part, one_part, outcome_more, ends_within, ends_here, ends_one, bad_next, bad_first, zero_more}
 use Rattle.vx_cli.proofs.ReaderLemmas.{ahead_some}
 
 module _ {R : Type 0} {g : Ghosts R} where
@@ -47,10 +47,10 @@ module _ {R : Type 0} {g : Ghosts R} where
     rose = steps.rose;
   }
 
-  pub memory_answer : (w : World) (line : List ℕ) (words : ScriptLine) (old new : Yard R g) → script_line line ≡ Ok (Some words) → StaysFor w old new ⊎ ((text : List ℕ) × Steps w words old new text)
-      → StaysFor w old new ⊎ ((text : List ℕ) × Did w line old new text)
-  memory_answer w line words old new e (inl same) = inl same
-  memory_answer w line words old new e (inr did) = inr (did.0, did_line w line words old new did.0 e did.1)
+  pub memory_answer : (w : World) (line : List ℕ) (words : ScriptLine) (old new : Yard R g) → script_line line ≡ Ok (Some words) → StopsShort w words old new ⊎ ((text : List ℕ) × Steps w words old new text)
+      → MemoryStops w line old new
+  memory_answer w line words old new e (inl short) = StopsWithin words e short
+  memory_answer w line words old new e (inr did) = StopsBehind did.0 (did_line w line words old new did.0 e did.1)
 
   pub bad_answer : (n : ℕ) (w : World) (line : List ℕ) (column : ℕ) (status : Status) (y : Yard R g) (w0 w1 : Option (List ℕ))
       → script_line line ≡ Err column → YardStands w y → BadIs (n + 1) column status w0 w1 → AnswerIs n w line (Some status) y y w0 w1
@@ -61,7 +61,7 @@ module _ {R : Type 0} {g : Ghosts R} where
     subst (λ (k : ℕ). Appends w0 w1 (bad_text k c)) (sym is.0) (subst (λ (k : ℕ). Appends w0 w1 (bad_text (n + 1) k)) (sym is.1) is.2),
   )
   bad_answer n w line column WriteFault y w0 w1 e stands is = StopsAtBad column is.0 e (stays w y stands) is.1 is.2
-  bad_answer n w line column OutOfMemory y w0 w1 e stands is = (inl (stays w y stands), is)
+  bad_answer n w line column OutOfMemory y w0 w1 e stands is = (StopsBefore (stays w y stands), is)
   bad_answer n w line column Done y w0 w1 e stands is = absurd is
   bad_answer n w line column Usage y w0 w1 e stands is = absurd is
   bad_answer n w line column ReadFault y w0 w1 e stands is = absurd is
@@ -95,14 +95,30 @@ module _ {R : Type 0} {g : Ghosts R} where
       comes_here n w held left bytes WriteFault old new now_left w0 w1 sent ahead (omega arith)
       (AtBad column sent (bad_next (lines_of bytes) line others column split e) (omega arith) (bad_first n column sent cut) refl) wrote same
 
+  -- memory ran out within a line
+  comes_within : (n : ℕ) (w : World) (held : List ℕ) (left : Option (List ℕ)) (bytes line : List ℕ) (others : List (List ℕ)) (words : ScriptLine) (old new : Yard R g)
+      (now_left w0 w1 : Option (List ℕ)) → Ahead held left bytes → lines_of bytes ≡ line ∷ others → n < 1000000 → script_line line ≡ Ok (Some words)
+      → StopsShort w words old new → Appends w0 w1 [] → YardComes n w held left OutOfMemory old new now_left w0 w1
+  comes_within n w held left bytes line others words old new now_left w0 w1 ahead split few e short wrote =
+      let part : PartOfLine (script_line line) w short.world = subst (λ (r : Result (Option ScriptLine) ℕ). PartOfLine r w short.world) (sym e) short.part in
+      record {
+        bytes = bytes;
+        ahead = ahead;
+        outcome = ends_within n w short.world bytes OutOfMemory now_left w0 w1 (count_of old) (count_of new) [] (omega arith)
+            (subst (λ (ls : List (List ℕ)). PartOfNext ls w short.world) (sym split) part)
+            (record { sent = []; unsent = []; texts = refl; last = omega arith; is = refl }) wrote short.rose short.stands;
+      }
+
   memory_stops : (n : ℕ) (w : World) (held : List ℕ) (left : Option (List ℕ)) (bytes line : List ℕ) (others : List (List ℕ)) (old new : Yard R g) (now_left w0 w1 : Option (List ℕ))
-      → Ahead held left bytes → lines_of bytes ≡ line ∷ others → StaysFor w old new ⊎ ((text : List ℕ) × Did w line old new text) → Appends w0 w1 [] → n < 1000000
+      → Ahead held left bytes → lines_of bytes ≡ line ∷ others → MemoryStops w line old new → Appends w0 w1 [] → n < 1000000
       → YardComes n w held left OutOfMemory old new now_left w0 w1
-  memory_stops n w held left bytes line others old new now_left w0 w1 ahead split (inl same) wrote few =
+  memory_stops n w held left bytes line others old new now_left w0 w1 ahead split (StopsBefore same) wrote few =
       comes_here n w held left bytes OutOfMemory old new now_left w0 w1 [] ahead (omega arith) (record { sent = []; unsent = []; texts = refl; last = omega arith; is = refl }) wrote same
-  memory_stops n w held left bytes line others old new now_left w0 w1 ahead split (inr did) wrote few =
-      comes_one n w held left bytes line others OutOfMemory old new now_left w0 w1 did.0 [] ahead few split did.1
-      (record { sent = []; unsent = did.0 ∷ []; texts = refl; last = omega arith; is = refl }) wrote
+  memory_stops n w held left bytes line others old new now_left w0 w1 ahead split (StopsWithin words e short) wrote few =
+      comes_within n w held left bytes line others words old new now_left w0 w1 ahead split few e short wrote
+  memory_stops n w held left bytes line others old new now_left w0 w1 ahead split (StopsBehind text did) wrote few =
+      comes_one n w held left bytes line others OutOfMemory old new now_left w0 w1 text [] ahead few split did
+      (record { sent = []; unsent = text ∷ []; texts = refl; last = omega arith; is = refl }) wrote
 
   -- the run ends at a line that was read
   pub turn_stop : (n : ℕ) (w : World) (held : List ℕ) (left : Option (List ℕ)) (bytes line : List ℕ) (others : List (List ℕ)) (status : Status) (old new : Yard R g)

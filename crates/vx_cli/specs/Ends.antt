@@ -1,12 +1,14 @@
 -- How a run ends, by its status.
-use Rattle.std.specs.Prelude.{◌≡◌, ℕ, ◌+◌, ◌≤◌, ◌<◌, Bool, List, [], ◌∷◌, ◌++◌, length, Option, Err}
+use Rattle.std.specs.Prelude.{◌≡◌, ℕ, ◌+◌, ◌≤◌, ◌<◌, Bool, List, [], ◌∷◌, ◌++◌, length, Option, Some, None, Result, Ok, Err}
 use Rattle.std.specs.List.{concat}
 use Rattle.std.specs.Io.KnownBytes.{Appends}
 use Rattle.vx_history.specs.World.{World, empty_world}
 use Rattle.vx_node.specs.Lines.{script_line}
 use Rattle.vx_node.specs.Stands.{RoseAll}
 use Rattle.vx_events.specs.Fails.{Fails}
+use Rattle.vx_events.specs.Parts.{DonePart}
 use Rattle.vx_script.specs.Lines.{lines_of, whole_lines_of}
+use Rattle.vx_script.specs.declared.line.ScriptLine.{ScriptLine}
 use Rattle.vx_cli.specs.Reading.{MayHave}
 use Rattle.vx_cli.specs.Runs.{Run, all_fails}
 use Rattle.vx_cli.specs.Texts.{bad_text, IsCut}
@@ -67,6 +69,22 @@ Ends n OutOfMemory bytes left part out = MemoryEnds part out
 Ends n TooLong bytes left part out = (n + length part.lines ≡ 1000000) × IsNonEmpty part.others × (out ≡ concat part.texts)
 Ends n Usage bytes left part out = ⊥
 
+-- what want of memory may leave of a line that was read: a first part of its events
+abbrev pub PartOfLine : Result (Option ScriptLine) ℕ → World → World → Type 0
+PartOfLine (Ok (Some words)) w last = DonePart w words last
+PartOfLine (Ok None) w last = last ≡ w
+PartOfLine (Err column) w last = last ≡ w
+
+-- the same of the next of these lines
+abbrev pub PartOfNext : List (List ℕ) → World → World → Type 0
+PartOfNext [] w last = last ≡ w
+PartOfNext (line ∷ lines) w last = PartOfLine (script_line line) w last
+
+-- The last world of a run, by the status: the one behind the lines that were done. Only for want of memory is the next line done in part.
+abbrev pub LastWorld : Status → List (List ℕ) → World → World → Type 0
+LastWorld OutOfMemory others w last = PartOfNext others w last
+LastWorld other others w last = last ≡ w
+
 -- What a run over these bytes came to, from a world in which n lines were done. Its lines are the first of the bytes', and
 -- each is a step. What was written is their replies, by the status. The counts of the disks rose by the failed calls.
 pub record Outcome (told : Type 0) (files : Bool) (Leaves : World → Type 0) (n : ℕ) (old : World) (bytes : List ℕ) (status : Status)
@@ -76,7 +94,9 @@ pub record Outcome (told : Type 0) (files : Bool) (Leaves : World → Type 0) (n
   pub out : List ℕ
   pub split : lines_of bytes ≡ part.lines ++ part.others
   pub few : n + length part.lines ≤ 1000000
-  pub run : Run told files old part.lines part.failures part.texts world
+  pub behind : World
+  pub run : Run told files old part.lines part.failures part.texts behind
+  pub last : LastWorld status part.others behind world
   pub ends : Ends n status bytes left part out
   pub appends : Appends written now_written out
   pub rose : RoseAll (all_fails part.failures) faults now_faults

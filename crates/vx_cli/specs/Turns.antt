@@ -1,13 +1,14 @@
 -- What one turn of the loop does, and where the loop stands.
-use Rattle.std.specs.Prelude.{◌≡◌, ◌⊎◌, ℕ, ◌+◌, Bool, List, [], Option, Some, None, Err}
+use Rattle.std.specs.Prelude.{◌≡◌, ℕ, ◌+◌, Bool, List, [], Option, Some, None, Ok, Err}
 use Rattle.std.specs.Io.KnownBytes.{Appends}
 use Rattle.vx_history.specs.World.{World, empty_world}
 use Rattle.vx_disk.specs.declared.shelf.Shelf.{Ghosts}
+use Rattle.vx_script.specs.declared.line.ScriptLine.{ScriptLine}
 use Rattle.vx_node.specs.Lines.{script_line}
 use Rattle.vx_node.specs.Stands.{RoseAll}
 use Rattle.vx_node.specs.Steps.{LineStep}
 use Rattle.vx_events.specs.Fails.{Fails}
-use Rattle.vx_node.specs.Yards.{YardStands, StaysFor, IsTold, count_of, in_files}
+use Rattle.vx_node.specs.Yards.{YardStands, StopsShort, IsTold, count_of, in_files}
 use Rattle.vx_node.specs.declared.yard.Yard.{Yard}
 use Rattle.vx_cli.specs.Ends.{Outcome}
 use Rattle.vx_cli.specs.Reading.{Ahead, Follows, IsWhole}
@@ -38,6 +39,17 @@ module _ {R : Type 0} {g : Ghosts R} where
     pub stands : YardStands world new
     pub rose : RoseAll fails (count_of old) (count_of new)
 
+  -- nothing of a line was done
+  pub record StaysFor (w : World) (old new : Yard R g) : Type 0 where
+    pub stands : YardStands w new
+    pub rose : RoseAll [] (count_of old) (count_of new)
+
+  -- memory ran out before a line was known, within it, or behind it
+  pub data MemoryStops (w : World) (line : List ℕ) (old new : Yard R g) : Type 0 where
+    StopsBefore : StaysFor w old new → MemoryStops w line old new
+    StopsWithin : (words : ScriptLine) → script_line line ≡ Ok (Some words) → StopsShort w words old new → MemoryStops w line old new
+    StopsBehind : (text : List ℕ) → Did w line old new text → MemoryStops w line old new
+
   -- the sink failed at a reply, or at the line that says where the script is wrong
   pub data WriteStops (n : ℕ) (w : World) (line : List ℕ) (old new : Yard R g) (written now : Option (List ℕ)) : Type 0 where
     StopsAtReply : (text sent : List ℕ) → Did w line old new text → IsCut text sent → Appends written now sent → WriteStops n w line old new written now
@@ -50,8 +62,7 @@ module _ {R : Type 0} {g : Ghosts R} where
   AnswerIs n w line (Some (BadLine at column)) old new written now =
       (at ≡ n + 1) × (script_line line ≡ Err column) × StaysFor w old new × Appends written now (bad_text at column)
   AnswerIs n w line (Some WriteFault) old new written now = WriteStops n w line old new written now
-  AnswerIs n w line (Some OutOfMemory) old new written now =
-      (StaysFor w old new ⊎ ((text : List ℕ) × Did w line old new text)) × Appends written now []
+  AnswerIs n w line (Some OutOfMemory) old new written now = MemoryStops w line old new × Appends written now []
   AnswerIs n w line (Some other) old new written now = ⊥
 
   -- what the rest of a run came to, with the yard that it left

@@ -3,6 +3,7 @@
 
 mod gate;
 mod host_racks;
+pub mod laws;
 mod line;
 mod main_call;
 mod reader;

@@ -11,6 +11,7 @@ pub mod LinkViews
 pub mod LinkedFacts
 pub mod Listed
 pub mod Lists
+pub mod Parts
 pub mod Plain
 pub mod Sayings
 pub mod Sent

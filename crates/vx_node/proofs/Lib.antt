@@ -2,6 +2,7 @@ pub mod Alike
 pub mod AnswerLine
 pub mod ApplyGroup
 pub mod AskRack
+pub mod Built
 pub mod CallEvents
 pub mod CallsBurn
 pub mod ChangeSite

@@ -21,6 +21,7 @@ use Rattle.vx_events.specs.Lines.{StepBy, Counts, write_in}
 use Rattle.vx_events.specs.Plain.{IsUnlinked, IsSized, ArePrimaries}
 use Rattle.vx_events.specs.declared.said.Said.{Said}
 use Rattle.vx_events.proofs.Keeping.{node_primary, same_links}
+use Rattle.vx_events.proofs.Parts.{none_done}
 use Rattle.vx_events.proofs.Steps.{CanPut}
 use Rattle.vx_node.specs.declared.disk_set.DiskSet.{DiskSet}
 use Rattle.vx_node.specs.declared.disk_set.DiskSet.TheVariants.{Bare, Spoiled, Up, Down, Gone}
@@ -30,7 +31,7 @@ use Rattle.vx_node.specs.Stands.{StandsAlone}
 use Rattle.vx_node.specs.Working.{Answered, IsFree}
 use Rattle.vx_node.specs.Asked.{AllSameFailing, AsAsked, HasCalled}
 use Rattle.vx_node.specs.Works.{Works, WorksBy}
-use Rattle.vx_node.specs.Yards.{YardAgrees, YardStands, StaysAgreed, StaysFor, Steps, IsTold, in_files}
+use Rattle.vx_node.specs.Yards.{YardAgrees, YardStands, StaysAgreed, StopsShort, Steps, IsTold, in_files}
 use Rattle.vx_node.proofs.Alike.{agrees_like}
 use Rattle.vx_node.proofs.FailsStay.{Ties, needs_log, still_told, tied_line, tied_same}
 use Rattle.vx_node.proofs.SiteEvents.{Happens, first_choice, happens_as, site_happens, raw_happens, only_happens, crash_happens, recover_happens}
@@ -234,8 +235,10 @@ module _ {R : Type 0} {g : Ghosts R} where
           }
 
   -- a line of which nothing was done
-  pub line_stays : (w : World) (old new : Yard R g) → YardStands w old → (IsTold new → IsTold old) → StaysAgreed w old new → AllSameFailing old new → StaysFor w old new
-  line_stays w old new stands later stays short = record {
+  pub line_stays : (w : World) (line : ScriptLine) (old new : Yard R g) → YardStands w old → (IsTold new → IsTold old) → StaysAgreed w old new → AllSameFailing old new → StopsShort w line old new
+  line_stays w line old new stands later stays short = record {
+    world = w;
+    part = none_done w line;
     stands = record { agrees = stays.stands; unlinked = stands.unlinked; primaries = λ t. stands.primaries (later t); failing = tied_same w w old new refl (λ i. refl) short stands.failing };
     rose = stays.rose;
   }

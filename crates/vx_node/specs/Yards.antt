@@ -14,6 +14,7 @@ use Rattle.vx_node.specs.declared.errors.LineStop.{LineStop}
 use Rattle.vx_node.specs.declared.errors.LineStop.TheVariants.{WriteFault, OutOfMemory}
 use Rattle.vx_events.specs.Facts.{facts_of}
 use Rattle.vx_node.specs.Stands.{DiskSetsStand, AreTold, RoseAll, faults_of}
+use Rattle.vx_events.specs.Parts.{DonePart}
 use Rattle.vx_events.specs.Plain.{IsUnlinked, ArePrimaries}
 use Rattle.vx_node.specs.Steps.{Prints}
 use Rattle.vx_events.specs.Fails.{Fails}
@@ -67,15 +68,18 @@ module _ {R : Type 0} {g : Ghosts R} where
     -- where no test refuses the line, the fuse of its site is as its calls leave it
     pub called : refusal_of old.facts.items (in_files old) line ≡ None → HasCalled w line prints.said old new
 
-  -- nothing of the line was done
-  pub record StaysFor (w : World) (old new : Yard R g) : Type 0 where
-    pub stands : YardStands w new
+  -- Memory ran out within the line: a first part of its events was done, and no call failed. Of the lines that are built that part is empty.
+  pub record StopsShort (w : World) (line : ScriptLine) (old new : Yard R g) : Type 0 where
+    pub world : World
+    pub part : DonePart w line world
+    pub stands : YardStands world new
     pub rose : RoseAll [] (count_of old) (count_of new)
 
-  -- The whole text was written. Or the sink failed, and a part of it is missing. Or memory ran out, and nothing was written.
+  -- The whole text was written. Or the sink failed, and a part of it is missing. Or memory ran out, within the line or behind it, and nothing
+  -- was written.
   abbrev pub LineIs : World → ScriptLine → Yard R g → Yard R g → Option (List ℕ) → Option (List ℕ) → Result (Unit {0}) LineStop → Type 0
   LineIs w line old new written now (Ok done) = (text : List ℕ) × Steps w line old new text × Appends written now text
   LineIs w line old new written now (Err WriteFault) =
       (text : List ℕ) × (sent : List ℕ) × (unsent : List ℕ) × Steps w line old new text × (text ≡ sent ++ unsent) × (unsent ≢ []) × Appends written now sent
   LineIs w line old new written now (Err OutOfMemory) =
-      (StaysFor w old new ⊎ ((text : List ℕ) × Steps w line old new text)) × Appends written now []
+      (StopsShort w line old new ⊎ ((text : List ℕ) × Steps w line old new text)) × Appends written now []

@@ -13,6 +13,7 @@ mod errors;
 mod facts;
 mod folder;
 mod fuse;
+pub mod laws;
 mod make;
 mod place;
 mod racks;

@@ -1,7 +1,7 @@
 use Rattle.std.proofs.Common.{[], ℕ, Ok, ap, subst, ◌∙◌}
 use Rattle.vx_stream.proofs.SendLemmas.{appends_none}
-use Rattle.vx_cli.specs.Turns.{BadIs, StopsAtReply}
-use Rattle.vx_cli.proofs.TurnLemmas.{did_nothing, did_line, bad_answer, memory_answer}
+use Rattle.vx_cli.specs.Turns.{BadIs, StopsAtReply, StopsBefore}
+use Rattle.vx_cli.proofs.TurnLemmas.{stays, did_nothing, did_line, bad_answer, memory_answer}
 use Rattle.vx_cli.proofs.StepLemmas.{line_built}
 use Rattle.vx_cli.proofs.turn.answer.Goals as goal
 
@@ -32,6 +32,9 @@ returns-in-Err-Bad-clause-answer g c =
     let says = rw c.in-Err-Bad.field-0-is at c.in-Err-Bad.ensures in
     let is = subst (λ (k : ℕ). BadIs k c.in-Err-Bad.column c.bad.result (g.O.Sink.written c.args.sink.now) (g.O.Sink.written c.bad.new.sink)) says.0 c.bad.ensures.bad in
     λ w stands. bad_answer c.args.number w c.args.line.now c.in-Err-Bad.column c.bad.result c.args.yard.now _ _ says.1 stands is
+
+pub returns-clause-answer : goal.returns-clause-answer
+returns-clause-answer g c = λ w stands. (StopsBefore (stays w c.args.yard.now stands), appends_none _)
 
 pub line-requires-clause-built : goal.line-requires-clause-built
 line-requires-clause-built g c = λ κs lives. line_built c.args.line.now c.in-Ok-Some.words (c.in-Ok-Some.ensures ∙ ap Ok c.in-Ok-Some.field-0-is)

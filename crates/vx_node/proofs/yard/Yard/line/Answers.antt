@@ -8,7 +8,7 @@ use Rattle.vx_node.proofs.yard.Yard.line.Goals as goal
 
 pub returns-in_default-clause-line : goal.returns-in_default-clause-line
 returns-in_default-clause-line g c = λ w stands.
-    (inl (line_stays w c.args.self.now c.answer.new.self stands c.answer.ensures.told (c.in_default.ensures.answers w stands.agrees) c.in_default.ensures.short), appends_none (g.O.Sink.written c.args.out.now))
+    (inl (line_stays w c.args.words.now c.args.self.now c.answer.new.self stands c.answer.ensures.told (c.in_default.ensures.answers w stands.agrees) c.in_default.ensures.short), appends_none (g.O.Sink.written c.args.out.now))
 
 pub returns-in_default-push_said-clause-line : goal.returns-in_default-push_said-clause-line
 returns-in_default-push_said-clause-line g c = λ w stands. (

@@ -1,0 +1,16 @@
+-- No line that is built goes in parts.
+use Rattle.std.proofs.Common.{◌≡◌, true, false, refl}
+use Rattle.vx_history.specs.World.{World}
+use Rattle.vx_script.specs.declared.line.ScriptLine.{ScriptLine}
+use Rattle.vx_script.specs.declared.line.ScriptLine.TheVariants.{Link, Settle}
+use Rattle.vx_events.specs.Parts.{DonePart, goes_in_parts}
+use Rattle.vx_events.proofs.Parts.{whole_stays}
+use Rattle.vx_node.specs.Lines.{is_built}
+
+built_whole : (line : ScriptLine) → is_built line ≡ true → goes_in_parts line ≡ false
+built_whole (Link p s sync prot) is = absurd (cc)
+built_whole (Settle p s) is = absurd (cc)
+built_whole other is = refl
+
+pub built_stays : (w : World) (line : ScriptLine) (new : World) → is_built line ≡ true → DonePart w line new → new ≡ w
+built_stays w line new is part = whole_stays w line new (built_whole line is) part
