@@ -1,5 +1,5 @@
 -- A packet that is put to what is in assembly at its target.
-use Rattle.std.proofs.Common.{◌≡◌, ◌∙◌, ◌⊎◌, inl, inr, ◌<◌, ℕ, zero, suc, List, [], ◌∷◌, length, map, ap, sym, subst, refl, arith, Bool, true, false}
+use Rattle.std.proofs.Common.{◌≡◌, ◌∙◌, ◌⊎◌, inl, inr, ◌<◌, ℕ, zero, suc, List, [], ◌∷◌, ◌++◌, length, map, ap, sym, subst, refl, arith, Bool, true, false}
 use Rattle.std.specs.Prelude.{Option, Some, None, slice_get, slice_index_or, if◌then◌else◌}
 use Rattle.std.specs.Option.{is_some}
 use Rattle.vx_model.specs.Content.{Write}
@@ -197,3 +197,22 @@ module _ (ps : List Packet) (site place : ℕ) (p : Packet) (one : AreOne ps) (t
 
   pub put_together : (t : Taken) (new : Assembled) → Takes a (part_carried p) (payload_in (part_carried p) (carrier p)) t new → IsPutTo ps site g p t new
   put_together t new takes = by_taken t new (subst (λ (bs : List ℕ). Takes a (part_carried p) bs t new) (payload_in-packet_of e m p.part) takes)
+
+stays : (qs rs : List Packet) (i : ℕ) (q : Packet) → slice_get qs i ≡ Some q → slice_get (qs ++ rs) i ≡ Some q
+stays [] rs i q is = absurd (cc)
+stays (r ∷ qs) rs zero q is = is
+stays (r ∷ qs) rs (suc i) q is = stays qs rs i q is
+
+-- what stands in assembly stands there whatever is sent
+pub stands_later : (ps more : List Packet) (site : ℕ) (g : Option Gathering) (a : Assembled) → AssemblyStands ps site g a → AssemblyStands (ps ++ more) site g a
+stands_later ps more site g a was = record {
+  tied = was.tied;
+  each = λ h some. let from = was.each h some in record {
+    place = from.place;
+    packet = from.packet;
+    there = stays ps more from.place from.packet from.there;
+    target = from.target;
+    key = from.key;
+    some = from.some;
+  };
+}

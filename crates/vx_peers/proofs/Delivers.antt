@@ -24,7 +24,7 @@ use Rattle.vx_history.proofs.Updates.{at_place}
 use Rattle.vx_courier.specs.Together.{AreOne, AssemblyStands, ComesFrom, IsPutTo}
 use Rattle.vx_courier.specs.UnderWay.{CanFly, FlightStands, carrier, part_carried, way_of}
 use Rattle.vx_courier.proofs.Flying.{place_of_number}
-use Rattle.vx_courier.proofs.Joining.{put_together}
+use Rattle.vx_courier.proofs.Joining.{put_together, stands_later}
 use Rattle.vx_net.specs.Flights.{Flying, greatest, packet_at as bytes_at}
 use Rattle.vx_packet.specs.Assemblies.{Assembled, Held, Takes}
 use Rattle.vx_packet.specs.Messages.{row}
@@ -113,24 +113,6 @@ module _ (w : World) (number : ℕ) (p : Packet) (k : ℕ) (x : Write) (at : pac
       ignored_at r is (inr (inl ignored)) = ignored_so (ap (update_taken w p x) (sym is ∙ ignored))
       ignored_at r is (inr (inr ack)) = ignored_so (ap (update_taken w p x) (sym is ∙ ack.1))
 
-      later : (ps more : List Packet) (site : ℕ) (g : Option Gathering) (b : Assembled) → AssemblyStands ps site g b → AssemblyStands (ps ++ more) site g b
-      later ps more site g b was = record {
-        tied = was.tied;
-        each = λ h some. let from = was.each h some in record {
-          place = from.place;
-          packet = from.packet;
-          there = stays ps more from.place from.packet from.there;
-          target = from.target;
-          key = from.key;
-          some = from.some;
-        };
-      }
-        where
-          stays : (qs rs : List Packet) (i : ℕ) (q : Packet) → slice_get qs i ≡ Some q → slice_get (qs ++ rs) i ≡ Some q
-          stays [] rs i q is = absurd (cc)
-          stays (r ∷ qs) rs zero q is = is
-          stays (r ∷ qs) rs (suc i) q is = stays qs rs i q is
-
       -- it is acknowledged again
       pub again_at : (m : ℕ) → act ≡ IgnoredAck m → (bytes : List ℕ) (part : Part) → ReadOf p k bytes part → (line : Line) (session : ℕ) → line ≡ c.log.header.state.line → session ≡ c.log.header.incarnation → (f' : Flying)
           → f.count < greatest → SendsOn p.target part.source line session m f f' → StandsFor (delivered w number (packet_at w.packets number)) p.target c us fed a f' IsIgnored
@@ -142,7 +124,7 @@ module _ (w : World) (number : ℕ) (p : Packet) (k : ℕ) (x : Write) (at : pac
           (subst (λ (l : Line). FlightStands (w.packets ++ packets_of p.target part.source l (NetAck n.session m)) f') lines
           (subst (λ (s : ℕ). FlightStands (w.packets ++ packets_of p.target part.source line (NetAck s m)) f') sessions (sends w.packets flight room))) in
           subst (λ (o : Outcome). StandsFor o p.target c us fed a f' IsIgnored) (sym (outcome_is ∙ ap (λ (r : RAction). gathers p (update_taken w p x r)) is))
-          (record { says = refl; receiver = receives; assembly = later w.packets (packets_of p.target p.source n.line (NetAck n.session m)) p.target (w.gathering p.target) a stands; flight = on })
+          (record { says = refl; receiver = receives; assembly = stands_later w.packets (packets_of p.target p.source n.line (NetAck n.session m)) p.target (w.gathering p.target) a stands; flight = on })
 
       -- ---- a part that can be taken
 
@@ -252,7 +234,7 @@ module _ (w : World) (number : ℕ) (p : Packet) (k : ℕ) (x : Write) (at : pac
               says = refl;
               receiver = subst (λ (vs : List Logged). Receives ((gathered acked p).nodes p.target) c vs part.source) (sym us_are) (subst (λ (y : Node). Receives y c (us ++ u ∷ []) part.source) (sym here) receives_more);
               assembly = subst (λ (h : Option Gathering). AssemblyStands (gathered acked p).packets p.target h new) (sym (gathered_there acked))
-                  (later w.packets (packets_of p.target p.source n.line (NetAck n.session m)) p.target (left_by g p) new put.1);
+                  (stands_later w.packets (packets_of p.target p.source n.line (NetAck n.session m)) p.target (left_by g p) new put.1);
               flight = on;
             })
 

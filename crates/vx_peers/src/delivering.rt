@@ -40,7 +40,8 @@ fn acknowledge<N: Net>(flight: &mut N, from: u32, to: u32, line: &Line, session:
 /// Hands the packet of a number, which is of an update, to the site that receives it. A site that is halted ignores it. `fed_by` is the site
 /// that sent the last update that it took, and `site` its own number.
 ///
-/// Want of memory, which changes nothing: where a number is past those that packets carry.
+/// It takes no memory. Numbers, sessions and generations past those that packets carry are answered as want of memory, which changes
+/// nothing.
 pub fn deliver_update<S: Shelf, N: Net>(
     secondary: &mut Secondary<S>,
     fed_by: &mut u32,
