@@ -12,6 +12,7 @@ pub mod DiskLine
 pub mod ExactWrite
 pub mod FailsStay
 pub mod FuseLine
+pub mod FuseStays
 pub mod IntoRacks
 pub mod KeepsFailing
 pub mod LastWrites

@@ -20,6 +20,7 @@ use Rattle.vx_node.specs.declared.disk_set.DiskSet.{DiskSet}
 use Rattle.vx_node.specs.declared.disk_set.DiskSet.TheVariants.{Bare, Spoiled, Up, Down, Gone}
 use Rattle.vx_node.specs.declared.yard.Yard.{Yard}
 use Rattle.vx_node.specs.Burning.{Burnt, NoMore, IsLogged}
+use Rattle.vx_node.specs.Fuses.{LeftAs}
 
 module _ {R : Type 0} {g : Ghosts R} where
   -- what is told of the disks of an disk set
@@ -66,6 +67,10 @@ module _ {R : Type 0} {g : Ghosts R} where
   pub record FailsAs (n : Node) (e : DiskSet R g) : Type 0 where
     pub told : (d : Disks) → disks_in e ≡ Some d → (u : ℕ) → n.failing u ≡ true → d.failing u ≡ true
 
+  -- the fuse of its disks has no more calls left than the world knows of
+  pub record FusedAs (n : Node) (e : DiskSet R g) : Type 0 where
+    pub told : (d : Disks) → disks_in e ≡ Some d → LeftAs n.fuse d.fuse
+
   -- no block, no fuse and no disk that is made to fail changed
   pub record LeavesAlone (old new : DiskSet R g) : Type 0 where
     pub told : OnDisks (disks_in old) (disks_in new) Untouched
@@ -95,6 +100,15 @@ module _ {R : Type 0} {g : Ghosts R} where
     pub there : slice_get old.disk_sets.items site ≡ Some before
     pub disk_sets : new.disk_sets.items ≡ slice_set old.disk_sets.items site after
     pub did : Did before after
+
+  -- it is no disk set under a group
+  abbrev pub IsIdle : DiskSet R g → Type 0
+  IsIdle (Up rvg) = ⊥
+  IsIdle other = Unit {0}
+
+  -- the disks of each site are as they were, or they are those of a site without a group, and are made to fail or not as they were
+  pub record AllAsBefore (old new : Yard R g) : Type 0 where
+    pub each : (s : ℕ) (after : DiskSet R g) → slice_get new.disk_sets.items s ≡ Some after → (before : DiskSet R g) × (slice_get old.disk_sets.items s ≡ Some before) × ((after ≡ before) ⊎ (SameFailing before after × IsIdle after))
 
   -- each disk of each site is made to fail or not as it was before
   pub record AllSameFailing (old new : Yard R g) : Type 0 where
