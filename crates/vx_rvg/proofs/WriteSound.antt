@@ -1,5 +1,5 @@
 -- A group stays sound over a call on its log.
-use Rattle.std.proofs.Common.{◌≡◌, ℕ, ◌+◌, ◌<◌, ◌≤◌, Bool, true, false, List, [], ◌∷◌, ◌++◌, length, drop, Option, Some, None, IsTrue, IsFalse, refl, sym, ◌∙◌, ap, subst, arith, length-append}
+use Rattle.std.proofs.Common.{◌≡◌, ℕ, ◌+◌, ◌*◌, ◌<◌, ◌≤◌, Bool, true, false, List, [], ◌∷◌, ◌++◌, length, drop, Option, Some, None, IsTrue, IsFalse, refl, sym, ◌∙◌, ap, subst, arith, length-append}
 use Rattle.std.specs.Prelude.{if◌then◌else◌, leb, ltb}
 use Rattle.std.proofs.lemmas.Bool.Decides.{nat_tests}
 use Rattle.std.proofs.lemmas.List.{drop-append-le}
@@ -7,6 +7,7 @@ use Rattle.std.proofs.lemmas.Option.{none-some}
 use Rattle.std.proofs.lemmas.List.Sums.{sum_by-cons}
 use Rattle.vx_model.specs.Content.{blocks_in}
 use Rattle.vx_model.specs.Sizes.{map_blocks}
+use Rattle.vx_model.specs.declared.limits.TheConstants.{LINK_PLACES}
 use Rattle.vx_model.specs.declared.no.No.{No}
 use Rattle.vx_model.specs.declared.no.No.TheVariants as no
 use Rattle.vx_model.specs.declared.units.Units.{Units}
@@ -33,13 +34,16 @@ pub record SameSizes (m m' : Meaning) : Type 0 where
 pub moved_sizes : (mine : Blocks) (P : Says) (m m' : Meaning) → Moves mine P m m' → SameSizes m m'
 moved_sizes mine P m m' moves = record { units = moves.units; size = moves.size }
 
-maps_same : (m m' : Meaning) → SameSizes m m' → (us : List ℕ) → maps_of us m' ≡ maps_of us m
+maps_same : (m m' : Meaning) → ((u : ℕ) → m'.size u ≡ m.size u) → (us : List ℕ) → maps_of us m' ≡ maps_of us m
 maps_same m m' same [] = refl
 maps_same m m' same (u ∷ us) =
-    let here : map_blocks (m'.size u) ≡ map_blocks (m.size u) = ap (λ (n : ℕ). map_blocks n) (same.size u) in
+    let here : map_blocks (m'.size u) ≡ map_blocks (m.size u) = ap (λ (n : ℕ). map_blocks n) (same u) in
     let front = sum_by-cons (λ (v : ℕ). map_blocks (m'.size v)) u us in
     let front' = sum_by-cons (λ (v : ℕ). map_blocks (m.size v)) u us in
     omega (arith, front, front', here, maps_same m m' same us)
+
+pub maps_fit_as : (units : Units) (m m' : Meaning) → ((u : ℕ) → m'.size u ≡ m.size u) → LINK_PLACES * maps_of units.vols m ≤ m.size units.maps → LINK_PLACES * maps_of units.vols m' ≤ m'.size units.maps
+maps_fit_as units m m' same fit = let maps = maps_same m m' same units.vols in omega (arith, maps, same units.maps, fit)
 
 pub placed_same : (units : Units) (m m' : Meaning) → SameSizes m m' → Placed units m → Placed units m'
 placed_same units m m' same placed = record {
@@ -50,7 +54,7 @@ placed_same units m m' same placed = record {
   maps_apart = placed.maps_apart;
   maps_aside = placed.maps_aside;
   distinct = placed.distinct;
-  maps_fit = let maps = maps_same m m' same units.vols in omega (arith, maps, same.size units.maps, placed.maps_fit);
+  maps_fit = maps_fit_as units m m' same.size placed.maps_fit;
 }
 
 pub lies_same : (unit ring : ℕ) (m m' : Meaning) → SameSizes m m' → Lies unit ring m → Lies unit ring m'
