@@ -229,7 +229,8 @@ bare_by Down e = absurd (cc)
 raw_role_none : (site : SiteFacts) → raw_role (Some site) ≡ None → site.state ≡ Bare
 raw_role_none site e = bare_by site.state (not_false (is_bare site.state) (when_none (not (is_bare site.state)) _ e))
 
-raw_set : (disks blocks : ℕ) → is_raw_shape disks blocks ≡ true → (3 ≤ disks) × (8 ≤ blocks) × (LINK_PLACES * (disks - 2) * map_blocks blocks ≤ blocks)
+-- what the shape of a raw set asks
+pub raw_set : (disks blocks : ℕ) → is_raw_shape disks blocks ≡ true → (3 ≤ disks) × (8 ≤ blocks) × (LINK_PLACES * (disks - 2) * map_blocks blocks ≤ blocks)
 unfolding is_raw_shape
 raw_set disks blocks e =
     let all = both (nat_le 3 disks && nat_le disks 32 && nat_le 8 blocks) (nat_le (8 * (disks - 2) * map_blocks blocks) blocks) e in
