@@ -32,19 +32,21 @@ use Rattle.vx_events.proofs.Places.{some_same}
 use Rattle.vx_events.proofs.Refused.{raw_may, recover_may}
 use Rattle.vx_events.proofs.RefusedCalls.{put_may, write_may}
 use Rattle.vx_events.proofs.Testing.{seat_in}
-use Rattle.vx_node.specs.Asked.{AllAsBefore, AllSameFailing, AsAsked, FusedAs, HasCalled, IsIdle, LeavesAlone, LeavesFuse, OfSite, SameFailing, SetsDisk, SetsFuse, WritesUnder, disks_in, size_in}
-use Rattle.vx_node.specs.Burning.{Burnt, IsLogged, NoMore}
-use Rattle.vx_node.specs.Fuses.{HasLeft, LeftAs}
-use Rattle.vx_node.specs.Stands.{IsUnused, StandsAlone}
+use Rattle.vx_node.specs.OfSites.{AllAsBefore, AllSameFailing, AsAsked, HasCalled, IsIdle, OfSite}
+use Rattle.vx_diskset.specs.Asked.{FusedAs, LeavesAlone, LeavesFuse, SameFailing, SetsDisk, SetsFuse, WritesUnder, disks_in, size_in}
+use Rattle.vx_diskset.specs.Burning.{Burnt, IsLogged, NoMore}
+use Rattle.vx_diskset.specs.Fuses.{HasLeft, LeftAs}
+use Rattle.vx_diskset.specs.Stands.{IsUnused, StandsAlone}
 use Rattle.vx_node.specs.Working.{WorkIs}
 use Rattle.vx_node.specs.Works.{Works, FailsAt, Crashes, Fetches, Puts, IsPut, NoNumber, PutFails, PutCut, Begins, CrashesFirst, IsDown as DownBefore, Recovers, ComesUp, StaysDown, NoSession, FindsUp, FindsNone, IsBareStill, BareFails, BareUp, BareNone, Applies, IsApplied, ApplyFails, ApplyCut}
 use Rattle.vx_node.specs.Yards.{YardAgrees}
-use Rattle.vx_node.specs.declared.disk_set.DiskSet.{DiskSet}
-use Rattle.vx_node.specs.declared.disk_set.DiskSet.TheVariants.{Bare, Spoiled, Up, Down, Gone}
+use Rattle.vx_diskset.specs.declared.disk_set.DiskSet.{DiskSet}
+use Rattle.vx_diskset.specs.declared.disk_set.DiskSet.TheVariants.{Bare, Spoiled, Up, Down, Gone}
 use Rattle.vx_node.specs.declared.yard.Yard.{Yard}
 use Rattle.vx_node.proofs.Alike.{apart_place}
 use Rattle.vx_node.proofs.FailsStay.{told_disks}
-use Rattle.vx_node.proofs.KeepsFailing.{burns_of, failing_same}
+use Rattle.vx_node.proofs.OfSites.{burns_of}
+use Rattle.vx_diskset.proofs.KeepsFailing.{failing_same}
 use Rattle.vx_node.proofs.Lists.{get-set_same, get-set_other}
 
 -- ---- the calls that are left

@@ -3,7 +3,8 @@ ghost use Rattle.std.specs.Prelude.{◌≡◌, ◌<◌, IfErr, length};
 ghost use Rattle.vx_history.specs.World.{World};
 ghost use Rattle.vx_model.specs.declared.site.SiteState.TheVariants.{Bare as BareState, Down as DownState};
 ghost use Rattle.vx_script.specs.declared.line.ScriptLine.TheVariants.{Recover};
-ghost use Rattle.vx_node.specs.Asked.{AsAsked, OfSite, SameFailing};
+ghost use Rattle.vx_node.specs.OfSites.{AsAsked, OfSite};
+ghost use Rattle.vx_diskset.specs.Asked.{SameFailing};
 ghost use Rattle.vx_node.specs.Rising.{Finding, NotesUp, Recovering};
 ghost use Rattle.vx_node.specs.Works.{Begins};
 ghost use Rattle.vx_node.specs.Working.{WorkIs, IsFree};
@@ -13,7 +14,8 @@ use crate::{DiskSet, Said, Yard, facts};
 use std::alloc::Global;
 use std::mem;
 use vx_disk::Rack;
-use vx_model::limits::{LEAST_BLOCKS, LEAST_RAW_DISKS, MOST_DISKS, MOST_SITES};
+use vx_diskset::can_be_raw;
+use vx_model::limits::{LEAST_BLOCKS, MOST_SITES};
 use vx_model::{Name, No, OutOfMemory, SiteState, ring_blocks};
 use vx_rvg::StartRoom;
 use vx_script::ScriptLine;
@@ -72,9 +74,7 @@ impl<R: Rack> Yard<R> {
         let disks = self.facts[site].disks;
         let blocks = self.facts[site].blocks;
         if site >= MOST_SITES
-            || disks < LEAST_RAW_DISKS
-            || disks > MOST_DISKS
-            || blocks < LEAST_BLOCKS
+            || !can_be_raw(disks, blocks)
             || self.is_refused(name)
         {
             return Ok(Said::Refused(No::NoConfig));
