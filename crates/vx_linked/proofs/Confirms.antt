@@ -160,9 +160,9 @@ holds_same w listed p number =
     let ss : List ℕ = linked_sites row w.sites 0 w.sites in
     both_ways _ _
     (λ back.
-        let k = below_of w.sites (holds n row number w.sites) back in
-        let parts = all_of (is_linked (row k.0)) (held n row number w.sites k.0) k.2 in
-        among_any n row number w.sites k.0 ss (listed.each p k.0 k.1 parts.0) parts.1)
+    let k = below_of w.sites (holds n row number w.sites) back in
+    let parts = all_of (is_linked (row k.0)) (held n row number w.sites k.0) k.2 in
+    among_any n row number w.sites k.0 ss (listed.each p k.0 k.1 parts.0) parts.1)
     (λ up. holding n row number w.sites ss (all_linked row w.sites 0 w.sites) (all_below row w.sites 0 w.sites) up)
 
 -- ---- the line

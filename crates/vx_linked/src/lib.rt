@@ -21,3 +21,6 @@ pub use pausing::pause;
 pub use resuming::resume;
 pub use ticking::tick;
 pub use waiting::wait;
+
+#[cfg(test)]
+mod tests;
