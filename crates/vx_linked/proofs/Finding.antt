@@ -1,9 +1,8 @@
 -- The link that a line names is found where no test refuses the line.
-use Rattle.std.proofs.Common.{◌≡◌, ◌∙◌, ◌<◌, ℕ, List, length, Bool, true, false, ap, sym, subst, refl, arith}
-use Rattle.std.specs.Prelude.{Option, Some, None, IsSome, not, is_some, nat_lt, cond, slice_get, slice_set, if◌then◌else◌}
-use Rattle.std.specs.List.{find, position, position_or_len}
+use Rattle.std.proofs.Common.{◌≡◌, ◌∙◌, ℕ, List, Bool, true, ap, sym, subst, refl}
+use Rattle.std.specs.Prelude.{Option, Some, None, IsSome, not, is_some, slice_get, slice_set, if◌then◌else◌}
+use Rattle.std.specs.List.{find}
 use Rattle.std.specs.Str.{bytes_eq}
-use Rattle.std.proofs.lemmas.Bool.Decides.{nat_tests}
 use Rattle.std.proofs.lemmas.List.Folds.{find_at}
 use Rattle.vx_history.specs.Refusals.{keeps_links}
 use Rattle.vx_history.specs.World.{World}
@@ -11,7 +10,6 @@ use Rattle.vx_model.specs.Sites.{is_up}
 use Rattle.vx_model.specs.declared.no.No.TheVariants.{Down as NotUp, Role as WrongRole}
 use Rattle.vx_order.specs.Asks.{ask_of}
 use Rattle.vx_order.specs.Links.{link_to, link_towards, place_named}
-use Rattle.vx_order.specs.Order.{refusal_of}
 use Rattle.vx_order.specs.Sending.{not_linked, sends}
 use Rattle.vx_order.specs.Sites.{halted_one, rvg_of, site_named, site_off, unknown_one}
 use Rattle.vx_order.specs.Subject.{first_name, halt_of, need_of, second_name}

@@ -1,12 +1,11 @@
 -- What a site greets with, as the tests of a line see it and as the world has it.
-use Rattle.std.proofs.Common.{◌≡◌, ◌∙◌, ℕ, List, [], ◌++◌, length, Bool, true, false, ap, sym, subst, refl}
+use Rattle.std.proofs.Common.{◌≡◌, ◌∙◌, ℕ, List, [], ◌++◌, length, Bool, true, false, ap, subst, refl}
 use Rattle.std.specs.Prelude.{Option, Some, None, not, ◌&&◌, slice_get, if◌then◌else◌}
 use Rattle.vx_courier.specs.UnderWay.{FlightStands}
 use Rattle.vx_history.specs.Events.{greeting_back, greets}
 use Rattle.vx_history.specs.Refusals.{is_running}
 use Rattle.vx_history.specs.Sends.{greeting, packets_of}
 use Rattle.vx_history.specs.World.{Hello, Node, Packet, World}
-use Rattle.vx_history.proofs.Updates.{by_test}
 use Rattle.vx_model.specs.Sites.{is_origin, is_up, same_line}
 use Rattle.vx_model.specs.declared.site.SiteState.{SiteState}
 use Rattle.vx_model.specs.declared.site.SiteState.TheVariants.{Bare, Up, Deported, Down}

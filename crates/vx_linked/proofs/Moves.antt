@@ -1,12 +1,12 @@
 -- The lines that turn a link, as events of the world.
-use Rattle.std.proofs.Common.{◌≡◌, ◌∙◌, ℕ, List, [], ◌∷◌, ◌++◌, ap, sym, subst, refl}
+use Rattle.std.proofs.Common.{◌≡◌, ◌∙◌, ℕ, List, [], ◌++◌, ap, sym, subst, refl}
 use Rattle.std.proofs.lemmas.List.{append-nil}
 use Rattle.vx_courier.specs.UnderWay.{FlightStands}
 use Rattle.vx_history.specs.Events.{greeting_back, link_event, link_step, ticked_at, ticked_link}
 use Rattle.vx_history.specs.LinkForms.{with_plain}
 use Rattle.vx_history.specs.Refusals.{Outcome, keeps_links, on_link as on_link_at}
 use Rattle.vx_history.specs.Sends.{sending, with_link}
-use Rattle.vx_history.specs.Step.{done, outcome_of, step}
+use Rattle.vx_history.specs.Step.{done, outcome_of}
 use Rattle.vx_history.specs.World.{Link, Packet, World}
 use Rattle.vx_history.specs.declared.event.Event.{Event}
 use Rattle.vx_history.specs.declared.event.Event.TheVariants.{Connect as ConnectAt, Cut as CutAt, Pause as PauseAt, Resume as ResumeAt, Tick as TickAt}
@@ -19,10 +19,10 @@ use Rattle.vx_order.specs.declared.facts.SiteFacts.{SiteFacts}
 use Rattle.vx_events.specs.Facts.{site_number}
 use Rattle.vx_events.specs.LinkedFacts.{link_fact, linked_facts}
 use Rattle.vx_events.proofs.LinkAgreeing.{passes_link}
-use Rattle.vx_linked.specs.Tables.{Found, relinked}
-use Rattle.vx_linked.specs.Turns.{ComesTo, StandsFor, Turned, fact_turned}
+use Rattle.vx_linked.specs.Tables.{relinked}
+use Rattle.vx_linked.specs.Turns.{ComesTo, Turned, fact_turned}
 use Rattle.vx_linked.proofs.Finding.{Tested, on_link}
-use Rattle.vx_linked.proofs.Shown.{here_is, link_there, place_is, relinked_is, site_there}
+use Rattle.vx_linked.proofs.Shown.{link_there, relinked_is}
 
 -- an event with this outcome
 pub comes : (w : World) (e : Event) (sites : List SiteFacts) (f : Flying) (o : Outcome) → outcome_of w e ≡ o → o.said ≡ Done → sites ≡ linked_facts o.world → FlightStands o.world.packets f → ComesTo w e sites f

@@ -12,7 +12,7 @@ use Rattle.vx_model.specs.declared.site.SiteState.{SiteState}
 use Rattle.vx_model.specs.declared.site.SiteState.TheVariants.{Up}
 use Rattle.vx_order.specs.declared.facts.LinkFacts.{LinkFacts}
 use Rattle.vx_order.specs.declared.facts.SiteFacts.{SiteFacts}
-use Rattle.vx_events.specs.Facts.{facts_of, seat_of, site_fact, site_number, values_from}
+use Rattle.vx_events.specs.Facts.{seat_of, site_fact, site_number, values_from}
 use Rattle.vx_events.specs.LinkedFacts.{link_fact, link_facts, links_by, links_in, linked_fact, linked_facts}
 use Rattle.vx_events.proofs.LinkTesting.{all_linked, found_link, seats_same}
 use Rattle.vx_events.proofs.Places.{position_within, some_same}

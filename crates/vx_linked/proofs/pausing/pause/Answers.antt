@@ -1,4 +1,3 @@
-use Rattle.std.proofs.Common.{◌≡◌}
 use Rattle.vx_history.specs.declared.sender.SEvent.TheVariants.{Pause}
 use Rattle.vx_linked.proofs.Finding.{pause_tested, found}
 use Rattle.vx_linked.proofs.Moves.{pause_comes, tested_there, with_facts}

@@ -1,4 +1,3 @@
-use Rattle.std.proofs.Common.{◌≡◌}
 use Rattle.vx_history.specs.declared.sender.SEvent.TheVariants.{Tick}
 use Rattle.vx_linked.proofs.Finding.{tick_tested, found}
 use Rattle.vx_linked.proofs.Moves.{tick_comes, tested_there, with_facts}
