@@ -7,6 +7,7 @@ pub mod LinkStopping
 pub mod LinkTesting
 pub mod LinkWaiting
 pub mod LinkWrites
+pub mod Noting
 pub mod Parts
 pub mod Passing
 pub mod Places
