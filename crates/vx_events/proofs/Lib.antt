@@ -1,5 +1,6 @@
 pub mod Agreeing
 pub mod Blocks
+pub mod Calm
 pub mod Keeping
 pub mod LinkAgreeing
 pub mod LinkJoining

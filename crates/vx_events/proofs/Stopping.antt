@@ -36,7 +36,7 @@ use Rattle.vx_events.specs.declared.said.Said.{Said}
 
 -- ---- events that are done
 
-runs_as : (taken : Bool) (d : Doubted) (es : List Event) → Runs d es (run_as taken d es)
+pub runs_as : (taken : Bool) (d : Doubted) (es : List Event) → Runs d es (run_as taken d es)
 runs_as taken d [] = refl
 runs_as taken d (e ∷ es) = (taken, runs_as taken (happened d e taken) es)
 

@@ -1,5 +1,5 @@
 -- What want of memory may leave of a line: a first part of its events. No event is half done.
-use Rattle.std.specs.Prelude.{◌≡◌, ℕ, Bool, true, false, List, [], ◌++◌, take}
+use Rattle.std.specs.Prelude.{◌≡◌, ℕ, Bool, true, false, List, [], ◌∷◌, ◌++◌, take}
 use Rattle.vx_history.specs.Doubts.{Doubted}
 use Rattle.vx_history.specs.World.{World}
 use Rattle.vx_history.specs.declared.event.Event.{Event}
@@ -25,10 +25,10 @@ abbrev pub MayStop : Bool → List Event → Type 0
 MayStop true before = Unit {0}
 MayStop false before = before ≡ []
 
--- what is left of a line behind these events, of one that goes in parts with what it notes
-abbrev pub PartLeft : Bool → ScriptLine → (before last new : Doubted) → Type 0
-PartLeft true line d last new = AreLeft line d last new
-PartLeft false line d last new = new ≡ last
+-- what is left of a line behind these events, with what it notes; where none of them is done, nothing is noted
+abbrev pub PartLeft : ScriptLine → Doubted → List Event → (new : Doubted) → Type 0
+PartLeft line d [] new = new ≡ d
+PartLeft line d (e ∷ es) new = AreLeft line d (run_as false d (e ∷ es)) new
 
 -- these first events of the line were done, and the rest was not begun
 pub record DonePart (d : Doubted) (line : ScriptLine) (new : Doubted) : Type 0 where
@@ -37,9 +37,12 @@ pub record DonePart (d : Doubted) (line : ScriptLine) (new : Doubted) : Type 0 w
   pub rest : List Event
   pub list : all_events d.world line choice ≡ before ++ rest
   pub stops : MayStop (goes_in_parts line) before
-  pub leads : PartLeft (goes_in_parts line) line d (run_as false d before) new
+  pub leads : PartLeft line d before new
+
+abbrev pub part_left : ScriptLine → Doubted → List Event → Doubted
+part_left line d [] = d
+part_left line d (e ∷ es) = let last = run_as false d (e ∷ es) in record last { world = link_noted d.world line last.world }
 
 -- the first events of a line, so many, with what the line notes
 abbrev pub first_part : Doubted → ScriptLine → Choice → ℕ → Doubted
-first_part d line c k =
-    let last = run_as false d (take k (all_events d.world line c)) in record last { world = link_noted d.world line last.world }
+first_part d line c k = part_left line d (take k (all_events d.world line c))
