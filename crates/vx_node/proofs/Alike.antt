@@ -15,7 +15,7 @@ use Rattle.vx_events.specs.Doubts.{sure}
 use Rattle.vx_events.specs.Facts.{site_fact, facts_of, values_from}
 use Rattle.vx_events.specs.Views.{name_of, group_view, group_shown, view_of}
 use Rattle.vx_node.specs.declared.yard.Yard.{Yard}
-use Rattle.vx_node.specs.Stands.{StandsAlone}
+use Rattle.vx_diskset.specs.Stands.{StandsAlone}
 use Rattle.vx_node.specs.Yards.{YardAgrees, YardStands}
 
 values_same : {A : Type 0} (f g : ℕ → A) (k n : ℕ) → ((i : ℕ) → f i ≡ g i) → values_from f k n ≡ values_from g k n

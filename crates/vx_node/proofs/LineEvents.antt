@@ -29,14 +29,14 @@ use Rattle.vx_events.proofs.Calm.{left_sure, none_sent, refused_same, view_unlin
 use Rattle.vx_events.proofs.Keeping.{node_primary, same_links}
 use Rattle.vx_events.proofs.Parts.{none_done}
 use Rattle.vx_events.proofs.Steps.{CanPut}
-use Rattle.vx_node.specs.declared.disk_set.DiskSet.{DiskSet}
-use Rattle.vx_node.specs.declared.disk_set.DiskSet.TheVariants.{Bare, Spoiled, Up, Down, Gone}
+use Rattle.vx_diskset.specs.declared.disk_set.DiskSet.{DiskSet}
+use Rattle.vx_diskset.specs.declared.disk_set.DiskSet.TheVariants.{Bare, Spoiled, Up, Down, Gone}
 use Rattle.vx_node.specs.declared.yard.Yard.{Yard}
 use Rattle.vx_node.specs.Lines.{is_built}
 use Rattle.vx_node.specs.Replies.{reply_text, text_of}
-use Rattle.vx_node.specs.Stands.{StandsAlone}
+use Rattle.vx_diskset.specs.Stands.{StandsAlone}
 use Rattle.vx_node.specs.Working.{Answered, IsFree}
-use Rattle.vx_node.specs.Asked.{AllSameFailing, AsAsked, HasCalled}
+use Rattle.vx_node.specs.OfSites.{AllSameFailing, AsAsked, HasCalled}
 use Rattle.vx_node.specs.Works.{Works, WorksBy}
 use Rattle.vx_node.specs.Yards.{YardAgrees, YardStands, StaysAgreed, StopsShort, Steps, IsTold, in_files}
 use Rattle.vx_node.proofs.Alike.{agrees_like}

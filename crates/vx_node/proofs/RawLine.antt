@@ -18,16 +18,17 @@ use Rattle.vx_disk.specs.declared.shelf.Shelf.{Ghosts}
 use Rattle.vx_order.specs.declared.facts.SiteFacts.{SiteFacts}
 use Rattle.vx_order.specs.declared.facts.VolumeFacts.{VolumeFacts}
 use Rattle.vx_script.specs.declared.line.ScriptLine.TheVariants.{Raw}
-use Rattle.vx_node.specs.declared.disk_set.DiskSet.{DiskSet}
-use Rattle.vx_node.specs.declared.disk_set.DiskSet.TheVariants.{Bare, Spoiled, Up, Down, Gone}
+use Rattle.vx_diskset.specs.declared.disk_set.DiskSet.{DiskSet}
+use Rattle.vx_diskset.specs.declared.disk_set.DiskSet.TheVariants.{Bare, Spoiled, Up, Down, Gone}
 use Rattle.vx_events.specs.declared.said.Said.{Said}
 use Rattle.vx_events.specs.declared.said.Said.TheVariants.{Done}
 use Rattle.vx_node.specs.declared.yard.Yard.{Yard}
 use Rattle.vx_node.specs.Changes.{raw_facts}
-use Rattle.vx_node.specs.DiskSets.{Later, MadeIs}
+use Rattle.vx_diskset.specs.DiskSets.{Later, MadeIs}
 use Rattle.vx_events.specs.Facts.{site_fact, volume_fact, seat_of}
 use Rattle.vx_node.specs.Replies.{reply_to}
-use Rattle.vx_node.specs.Stands.{DiskSetsStand, StandsAlone, RoseAll, AreTold, faults_of}
+use Rattle.vx_node.specs.Stands.{DiskSetsStand, RoseAll, AreTold, faults_of}
+use Rattle.vx_diskset.specs.Stands.{StandsAlone}
 use Rattle.vx_node.specs.Working.{WorkIs, Worked, IsFree}
 use Rattle.vx_node.specs.Yards.{YardAgrees, in_files, count_of}
 use Rattle.vx_node.proofs.ChangeSite.{facts-updated, rose_none, rose_one, counts_later, counts_rose, disk_sets_set, disk_sets_same, told_before}

@@ -15,19 +15,20 @@ use Rattle.vx_order.specs.declared.facts.SiteFacts.{SiteFacts}
 use Rattle.vx_order.specs.declared.facts.VolumeFacts.{VolumeFacts}
 use Rattle.vx_report.specs.declared.view.SiteView.{SiteView}
 use Rattle.vx_script.specs.declared.line.ScriptLine.TheVariants.{Recover}
-use Rattle.vx_node.specs.declared.disk_set.DiskSet.{DiskSet}
-use Rattle.vx_node.specs.declared.disk_set.DiskSet.TheVariants.{Gone}
+use Rattle.vx_diskset.specs.declared.disk_set.DiskSet.{DiskSet}
+use Rattle.vx_diskset.specs.declared.disk_set.DiskSet.TheVariants.{Gone}
 use Rattle.vx_events.specs.declared.said.Said.{Said}
 use Rattle.vx_events.specs.declared.said.Said.TheVariants.{Recovered, Refused}
 use Rattle.vx_node.specs.declared.yard.Yard.{Yard}
 use Rattle.vx_node.specs.Changes.{raw_facts, up_facts}
-use Rattle.vx_node.specs.DiskSets.{Later, BareUp, BareUpIs}
+use Rattle.vx_diskset.specs.DiskSets.{Later, BareUp, BareUpIs}
 use Rattle.vx_events.specs.Found.{SameDisks}
 use Rattle.vx_events.specs.Facts.{site_fact, volume_fact, seat_of}
 use Rattle.vx_events.specs.Views.{view_of}
-use Rattle.vx_node.specs.Holds.{state_with}
+use Rattle.vx_diskset.specs.Holds.{state_with}
 use Rattle.vx_node.specs.Rising.{NotesUp, Recovering, Finding}
-use Rattle.vx_node.specs.Stands.{DiskSetsStand, StandsAlone, RoseAll, faults_of}
+use Rattle.vx_node.specs.Stands.{DiskSetsStand, RoseAll, faults_of}
+use Rattle.vx_diskset.specs.Stands.{StandsAlone}
 use Rattle.vx_node.specs.Works.{IsBareStill, BareFails, BareUp as RisesBare, BareNone}
 use Rattle.vx_node.specs.Working.{WorkIs}
 use Rattle.vx_node.specs.Yards.{YardAgrees, StaysAgreed, count_of}

@@ -17,20 +17,21 @@ use Rattle.vx_order.specs.declared.facts.RvgFacts.{RvgFacts}
 use Rattle.vx_report.specs.declared.view.SiteView.{SiteView}
 use Rattle.vx_script.specs.declared.line.ScriptLine.TheVariants.{Recover}
 use Rattle.vx_srl.specs.Views.{most_number}
-use Rattle.vx_node.specs.declared.disk_set.DiskSet.{DiskSet}
-use Rattle.vx_node.specs.declared.disk_set.DiskSet.TheVariants.{Bare, Spoiled, Up, Down, Gone}
+use Rattle.vx_diskset.specs.declared.disk_set.DiskSet.{DiskSet}
+use Rattle.vx_diskset.specs.declared.disk_set.DiskSet.TheVariants.{Bare, Spoiled, Up, Down, Gone}
 use Rattle.vx_events.specs.declared.said.Said.{Said}
 use Rattle.vx_events.specs.declared.said.Said.TheVariants.{Recovered, Refused}
 use Rattle.vx_node.specs.declared.yard.Yard.{Yard}
 use Rattle.vx_node.specs.Changes.{up_facts}
-use Rattle.vx_node.specs.DiskSets.{Later, RoseAt, CameUp, CameUpIs, StillDown, no_number}
+use Rattle.vx_diskset.specs.DiskSets.{Later, RoseAt, CameUp, CameUpIs, StillDown, no_number}
 use Rattle.vx_events.specs.Found.{SameDisks}
 use Rattle.vx_model.specs.Sites.{is_origin}
 use Rattle.vx_events.specs.Facts.{site_fact, group_fact, group_by, head_of, volume_fact, seat_of}
-use Rattle.vx_node.specs.Holds.{state_with}
+use Rattle.vx_diskset.specs.Holds.{state_with}
 use Rattle.vx_events.specs.Stamps.{most_stamp}
 use Rattle.vx_node.specs.Rising.{Fell, NotedUp, NotesUp, Recovering}
-use Rattle.vx_node.specs.Stands.{DiskSetsStand, StandsAlone, IsToldAt, AreTold, RoseAll, RoseBy, times, faults_of}
+use Rattle.vx_node.specs.Stands.{DiskSetsStand, AreTold, RoseAll, RoseBy, times, faults_of}
+use Rattle.vx_diskset.specs.Stands.{StandsAlone, IsToldAt}
 use Rattle.vx_node.specs.Works.{Begins, CrashesFirst, IsDown as DownBefore, Recovers, ComesUp, StaysDown, NoSession, FindsUp, FindsNone}
 use Rattle.vx_events.specs.Ends.{IsNoDevice}
 use Rattle.vx_events.specs.Fails.{Fails}

@@ -8,8 +8,9 @@ use Rattle.vx_history.specs.World.{World}
 use Rattle.vx_disk.specs.declared.shelf.Shelf.{Ghosts}
 use Rattle.vx_order.specs.Order.{refusal_of}
 use Rattle.vx_script.specs.declared.line.ScriptLine.{ScriptLine}
-use Rattle.vx_node.specs.Asked.{FailsAs, HasCalled}
-use Rattle.vx_node.specs.declared.disk_set.DiskSet.{DiskSet}
+use Rattle.vx_diskset.specs.Asked.{FailsAs}
+use Rattle.vx_node.specs.OfSites.{HasCalled}
+use Rattle.vx_diskset.specs.declared.disk_set.DiskSet.{DiskSet}
 use Rattle.vx_node.specs.declared.yard.Yard.{Yard}
 use Rattle.vx_node.specs.declared.errors.LineStop.{LineStop}
 use Rattle.vx_node.specs.declared.errors.LineStop.TheVariants.{WriteFault, OutOfMemory}

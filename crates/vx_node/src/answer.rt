@@ -2,7 +2,7 @@
 ghost use Rattle.std.specs.Prelude.{◌≡◌, ◌*◌, IfOk, IfErr, IsSome, min, replicate, true};
 ghost use Rattle.vx_history.specs.World.{World};
 ghost use Rattle.vx_order.specs.Order.{refusal_of};
-ghost use Rattle.vx_node.specs.Asked.{AllSameFailing, AsAsked, HasCalled};
+ghost use Rattle.vx_node.specs.OfSites.{AllSameFailing, AsAsked, HasCalled};
 ghost use Rattle.vx_node.specs.Lines.{is_built};
 ghost use Rattle.vx_node.specs.Working.{WorkIs, AnswerIs, IsFree};
 ghost use Rattle.vx_node.specs.Yards.{IsKept, YardAgrees, IsTold, in_files};

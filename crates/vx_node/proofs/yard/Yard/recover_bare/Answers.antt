@@ -4,12 +4,13 @@ use Rattle.std.specs.Prelude.{slice_set, Some, map, ◌-◌}
 use Rattle.vx_history.specs.Steps.{raw_volumes}
 use Rattle.vx_model.specs.Sizes.{ring_of}
 use Rattle.vx_order.specs.declared.facts.SiteFacts.{SiteFacts}
-use Rattle.vx_node.specs.DiskSets.{BareUpIs}
+use Rattle.vx_diskset.specs.DiskSets.{BareUpIs}
 use Rattle.vx_events.specs.Facts.{volume_fact}
 use Rattle.vx_node.proofs.RecoverBare.{bare_found, bare_stays, enough, ring_fits}
-use Rattle.vx_node.specs.declared.disk_set.DiskSet.TheVariants.{Gone}
-use Rattle.vx_node.specs.Asked.{SameFailing}
-use Rattle.vx_node.proofs.KeepsFailing.{failing_same, site_still}
+use Rattle.vx_diskset.specs.declared.disk_set.DiskSet.TheVariants.{Gone}
+use Rattle.vx_diskset.specs.Asked.{SameFailing}
+use Rattle.vx_diskset.proofs.KeepsFailing.{failing_same}
+use Rattle.vx_node.proofs.OfSites.{site_still}
 use Rattle.vx_node.proofs.Lists.{get_at, set_twice}
 use Rattle.vx_node.proofs.RawLine.{raw_told}
 use Rattle.vx_events.proofs.Places.{some_same}

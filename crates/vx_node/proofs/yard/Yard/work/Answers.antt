@@ -3,12 +3,13 @@ use Rattle.std.proofs.Common.{subst, sym, refl}
 use Rattle.vx_node.specs.Working.{IsFree}
 use Rattle.vx_node.specs.Yards.{in_files}
 use Rattle.vx_events.proofs.Refused.{site_may}
-use Rattle.vx_node.specs.Asked.{AsAsked}
+use Rattle.vx_node.specs.OfSites.{AsAsked}
 use Rattle.vx_events.proofs.RefusedCalls.{write_may, read_may, show_may}
-use Rattle.vx_node.specs.Asked.{LeavesAlone, SameFailing}
+use Rattle.vx_diskset.specs.Asked.{LeavesAlone, SameFailing}
 use Rattle.vx_events.specs.Facts.{site_number}
 use Rattle.vx_node.proofs.FailsStay.{if_err, same_told, still_told}
-use Rattle.vx_node.proofs.KeepsFailing.{alone_same, failing_same, unbegun}
+use Rattle.vx_diskset.proofs.KeepsFailing.{alone_same, failing_same}
+use Rattle.vx_node.proofs.OfSites.{unbegun}
 use Rattle.vx_node.proofs.yard.Yard.work.Goals as goal
 
 pub make_site-requires-clause-free : goal.make_site-requires-clause-free
