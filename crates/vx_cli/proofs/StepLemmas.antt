@@ -84,7 +84,7 @@ module _ {T U : Type 0} (f : U → T) where
   step_by_told : (why : Option No) (d : Doubted) (line : ScriptLine) (fails : Fails) (said : Said) (new : Doubted) → StepBy why T d line fails said new → StepBy why U d line fails said new
   step_by_told (Some why) d line fails said new x = x
   step_by_told None d line fails said new x =
-      record { ends = kind_told (is_of_links line) d line fails said new x.ends; counts = counts_told d.world line said x.counts; works = x.works }
+      record { ends = kind_told (is_of_links line) d line fails said new x.ends; counts = counts_told d.world line said x.counts; works = x.works; calls = x.calls }
 
   pub said_told : (files : Bool) (d : Doubted) (r : Result (Option ScriptLine) ℕ) (fails : Fails) (text : List ℕ) (new : Doubted) → SaidStep T files d r fails text new → SaidStep U files d r fails text new
   said_told files d (Ok None) fails text new x = x

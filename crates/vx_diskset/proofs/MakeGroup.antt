@@ -64,7 +64,7 @@ lets_still calls (Some o) (Some n) P same with lets = (lets.0, same o n with ∙
 pub fuse_still : (f : Fuse) (m new : Meaning) (P : Disks → Disks → Type 0) → ((o n : Disks) → P o n → n.fuse ≡ o.fuse) → new.armed ≡ m.armed → WithDisks m.disks new.disks P → HasFuse f m → HasFuse f new
 fuse_still NoFuse m new P same armed with has = armed ∙ has
 fuse_still (FuseSet calls) m new P same armed with has = lets_still calls m.disks new.disks P same with has
-fuse_still FuseLit m new P same armed with has = tt
+fuse_still (FuseLit most) m new P same armed with has = tt
 
 -- behind a call that only reads
 pub fuse_untouched : (f : Fuse) (m new : Meaning) → OnDisks m.disks new.disks Untouched → IsRack m → IsRack new → HasFuse f m → HasFuse f new

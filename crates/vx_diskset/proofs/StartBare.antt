@@ -109,7 +109,7 @@ module _ (n : Node) (m up new : Meaning) (core : Core) (clean : IsCleanAt n m) (
   ring_here = ap ring_of (goes.size 0 ∙ clean.bare.fitted.size 0 (omega (arith, some)))
 
   pub found_same : SameDisks (raw_set 0 n) (found_bare n core)
-  found_same = record { name = refl; disks = refl; blocks = refl; volumes = refl; up = refl; running = refl; failing = refl }
+  found_same = record { name = refl; disks = refl; blocks = refl; volumes = refl; up = refl; running = refl; failing = refl; fuse = refl }
 
   pub found_up : (links : List KeptLink) → IsUpAt links (found_bare n core) core new
   found_up links = record {

@@ -183,7 +183,7 @@ module _ {links : List KeptLink} (n : Node) (m up : Meaning) (is : IsDownAt link
     }
 
     same_disks : (state : State) (session last : ℕ) (log : List Write) → SameDisks n (found_site n state session last log)
-    same_disks state session last log = record { name = refl; disks = refl; blocks = refl; volumes = refl; up = refl; running = refl; failing = refl }
+    same_disks state session last log = record { name = refl; disks = refl; blocks = refl; volumes = refl; up = refl; running = refl; failing = refl; fuse = refl }
 
     came_by : (b : Bool) → new.tells ≡ b → (core : Core) → core.log.unit ≡ core.units.srl → IsStarted units up core new → Came links n core new
     came_by true tells core unit_is started =

@@ -15,6 +15,7 @@ use Rattle.vx_events.specs.declared.said.Said.TheVariants.{Refused}
 use Rattle.vx_diskset.specs.declared.disk_set.DiskSet.{DiskSet}
 use Rattle.vx_diskset.specs.declared.disk_set.DiskSet.TheVariants.{Bare, Spoiled, Up, Down, Gone}
 use Rattle.vx_diskset.specs.Burning.{Burnt, IsLogged}
+use Rattle.vx_diskset.specs.Fuses.{LeftAs}
 
 module _ {R : Type 0} {g : Ghosts R} where
   -- what is told of the disks of an disk set
@@ -61,6 +62,10 @@ module _ {R : Type 0} {g : Ghosts R} where
   pub record FailsAs (n : Node) (e : DiskSet R g) : Type 0 where
     pub told : (d : Disks) → disks_in e ≡ Some d → (u : ℕ) → n.failing u ≡ true → d.failing u ≡ true
 
+  -- the fuse of its disks has no more calls left than the world knows of
+  pub record FusedAs (n : Node) (e : DiskSet R g) : Type 0 where
+    pub told : (d : Disks) → disks_in e ≡ Some d → LeftAs n.fuse d.fuse
+
   -- no block, no fuse and no disk that is made to fail changed
   pub record LeavesAlone (old new : DiskSet R g) : Type 0 where
     pub told : OnDisks (disks_in old) (disks_in new) Untouched
@@ -82,3 +87,8 @@ module _ {R : Type 0} {g : Ghosts R} where
   pub record WritesUnder (bytes : List ℕ) (said : Said) (old new : DiskSet R g) : Type 0 where
     pub burns : LeavesFuse IsLogged said old new
     pub cuts : CutsShort bytes said old
+
+  -- it is no disk set under a group
+  abbrev pub IsIdle : DiskSet R g → Type 0
+  IsIdle (Up rvg) = ⊥
+  IsIdle other = Unit {0}

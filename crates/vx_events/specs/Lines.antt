@@ -11,7 +11,7 @@ use Rattle.vx_events.specs.Ends.{Ends, place_of}
 use Rattle.vx_events.specs.Facts.{site_number, volume_number}
 use Rattle.vx_events.specs.Failing.{NeedsLog}
 use Rattle.vx_events.specs.Fails.{Fails}
-use Rattle.vx_events.specs.Fuses.{IsExact}
+use Rattle.vx_events.specs.Fuses.{IsExact, NeedsCalls}
 use Rattle.vx_events.specs.LinkEnds.{LinkEnds}
 use Rattle.vx_events.specs.LinkedFacts.{refused_by}
 use Rattle.vx_events.specs.declared.said.Said.{Said}
@@ -65,6 +65,7 @@ pub record IsDone (told : Type 0) (d : Doubted) (line : ScriptLine) (fails : Fai
   pub ends : EndsBy (is_of_links line) told d line fails said new
   pub counts : Counts told d.world line said
   pub works : NeedsLog d.world line said
+  pub calls : NeedsCalls d.world line said
 
 abbrev pub StepBy : Option No → Type 0 → Doubted → ScriptLine → Fails → Said → Doubted → Type 0
 StepBy (Some why) told d line fails said new = IsRefused why d fails said new

@@ -43,7 +43,7 @@ use Rattle.vx_node.proofs.SiteLine.{stands_new}
 
 -- the number of a site says nothing of its disks
 same_set : (s : ℕ) (n k : Node) → SameDisks (raw_set 0 n) k → SameDisks (raw_set s n) k
-same_set s n k same = record { name = same.name; disks = same.disks; blocks = same.blocks; volumes = same.volumes; up = same.up; running = same.running; failing = same.failing }
+same_set s n k same = record { name = same.name; disks = same.disks; blocks = same.blocks; volumes = same.volumes; up = same.up; running = same.running; failing = same.failing; fuse = same.fuse }
 
 module _ {R : Type 0} {g : Ghosts R} where
   -- nothing of the line was done

@@ -1,5 +1,5 @@
 // The line that recovers a site.
-ghost use Rattle.std.specs.Prelude.{◌≡◌, ◌<◌, length};
+ghost use Rattle.std.specs.Prelude.{◌≡◌, ◌<◌, IfErr, length};
 ghost use Rattle.vx_history.specs.World.{World};
 ghost use Rattle.vx_model.specs.declared.site.SiteState.TheVariants.{Bare as BareState, Down as DownState};
 ghost use Rattle.vx_script.specs.declared.line.ScriptLine.TheVariants.{Recover};
@@ -63,6 +63,8 @@ impl<R: Rack> Yard<R> {
     fn recover_bare(&mut self, alloc: Global, name: &Name, site: usize) -> Result<Said, OutOfMemory>
         requires facts { site < length self.old.facts.items }
         requires disk_set { site < length self.old.disk_sets.items }
+        // For want of memory nothing is done.
+        ensures short { IfErr result (λ e. self.new.disk_sets ≡ self.old.disk_sets) }
         ensures found { (w : World) → YardAgrees w self.old → site < w.sites → (w.nodes site).state ≡ BareState → Finding w site self.old self.new result }
         ensures failing { OfSite SameFailing site self.old self.new }
         ensures told { IsTold self.new → IsTold self.old }
@@ -108,6 +110,8 @@ impl<R: Rack> Yard<R> {
         requires free { IsFree self.old (Recover name.now) }
         ensures works { (w : World) → YardAgrees w self.old → WorkIs w (Recover name.now) self.old self.new result }
         ensures asked { (w : World) → YardAgrees w self.old → AsAsked w (Recover name.now) self.old self.new }
+        // For want of memory nothing is done.
+        ensures short { IfErr result (λ e. self.new.disk_sets ≡ self.old.disk_sets) }
         ensures told { IsTold self.new → IsTold self.old }
         ensures files { in_files self.new ≡ in_files self.old }
     {
