@@ -135,8 +135,8 @@ pub data Ends (told : Type 0) (d : Doubted) (line : ScriptLine) (s : ℕ) (fails
   Finds : (told → ⊥) → (c : Choice) (taken : Bool) (site : List ℕ) (mid : Doubted) (n k : Node) → line ≡ Recover site → Recovering d s c taken mid n
       → SameDisks n k → fails ≡ [] → said ≡ Recovered k.safe (linked_view (found_up mid s k).world s) → IsLeft s line taken d (found_up mid s k) new
       → Ends told d line s fails said new
-  FindsNone : (told → ⊥) → (c : Choice) (taken : Bool) (site : List ℕ) (mid : Doubted) (n : Node) (why : No) → line ≡ Recover site → Recovering d s c taken mid n
-      → IsNoDevice why → fails ≡ [] → said ≡ Refused why → IsLeft s line taken d mid new → Ends told d line s fails said new
+  FindsNone : (told → ⊥) → (c : Choice) (taken : Bool) (site : List ℕ) (mid : Doubted) (n : Node) (why : No) → line ≡ Recover site
+      → Recovering d s c taken mid n → IsNoDevice why → fails ≡ [] → said ≡ Refused why → IsLeft s line taken d mid new → Ends told d line s fails said new
   -- a site of another role that was found on them applies its log as a primary does
   AppliesFound : (told → ⊥) → (site : List ℕ) (to number : ℕ) → line ≡ Apply site to → is_origin (d.world.nodes s).role ≡ false
       → min to (d.world.nodes s).safe ≤ number → number ≤ (d.world.nodes s).safe → fails ≡ [] → said ≡ DoneAt number → IsLeft s line false d d new

@@ -66,26 +66,28 @@ pub data LinkEnds (told : Type 0) (d : Doubted) (line : ScriptLine) (fails : Fai
   LinksHalt : (e : Event) (site disk : ℕ) (middle : Doubted) → ComesTo d (link_events d.world line) e site middle → fails ≡ (site, disk) ∷ []
       → said ≡ Refused (Device disk) → AreLeft line d (halved middle e site disk) new → LinkEnds told d line fails said new
   -- a disk of this site failed as waiting records were applied, behind the events before that
-  AppliesPart : (before rest : List Event) (site count reached disk : ℕ) (last : Doubted) → link_events d.world line ≡ before ++ ApplyAt site count reached ∷ rest
-      → Runs d (before ++ Fault site disk ∷ []) last → all_fails before ≡ [] → fails ≡ (site, disk) ∷ [] → said ≡ Refused (Device disk) → AreLeft line d last new
+  AppliesPart : (before rest : List Event) (site count reached disk : ℕ) (last : Doubted)
+      → link_events d.world line ≡ before ++ ApplyAt site count reached ∷ rest → Runs d (before ++ Fault site disk ∷ []) last → all_fails before ≡ []
+      → fails ≡ (site, disk) ∷ [] → said ≡ Refused (Device disk) → AreLeft line d last new
       → LinkEnds told d line fails said new
   -- the fuse of this site ran out in an event
-  LinksCut : (e : Event) (site kept : ℕ) (taken : Bool) (middle : Doubted) → ComesTo d (link_events d.world line) e site middle → IsFused (d.world.nodes site).fuse
-      → fails ≡ [] → said ≡ Refused IsOff → AreLeft line d (crashed_as (halved middle e site 0) site kept taken) new → LinkEnds told d line fails said new
+  LinksCut : (e : Event) (site kept : ℕ) (taken : Bool) (middle : Doubted) → ComesTo d (link_events d.world line) e site middle
+      → IsFused (d.world.nodes site).fuse → fails ≡ [] → said ≡ Refused IsOff → AreLeft line d (crashed_as (halved middle e site 0) site kept taken) new → LinkEnds told d line fails said new
   -- a read of the log failed: the event is not begun
   LogUnread : (before rest : List Event) (e : Event) (site disk : ℕ) (middle : Doubted) → link_events d.world line ≡ before ++ e ∷ rest → ReadsLog e site
-      → Runs d before middle → all_fails before ≡ [] → fails ≡ (site, disk) ∷ [] → said ≡ Refused (Device disk) → AreLeft line d middle new → LinkEnds told d line fails said new
+      → Runs d before middle → all_fails before ≡ [] → fails ≡ (site, disk) ∷ [] → said ≡ Refused (Device disk)
+      → AreLeft line d middle new → LinkEnds told d line fails said new
   -- no number is left for a header: the events before stand
-  NoHeader : (before rest : List Event) (e : Event) (site : ℕ) (middle : Doubted) → link_events d.world line ≡ before ++ e ∷ rest → TakesNumber middle.world e site
-      → Runs d before middle → all_fails before ≡ [] → (told → MOST_NUMBER ≤ most_stamp_at middle.world site + 2) → fails ≡ []
+  NoHeader : (before rest : List Event) (e : Event) (site : ℕ) (middle : Doubted) → link_events d.world line ≡ before ++ e ∷ rest
+      → TakesNumber middle.world e site → Runs d before middle → all_fails before ≡ [] → (told → MOST_NUMBER ≤ most_stamp_at middle.world site + 2) → fails ≡ []
       → said ≡ Refused (Limit Number MOST_NUMBER) → AreLeft line d middle new → LinkEnds told d line fails said new
 
 -- What came of these events: all of them; or the first of them; or those before records were applied, and that a disk failed then.
 pub data CameOfLinks (all events : List Event) : Type 0 where
   AllCame : events ≡ all → CameOfLinks all events
   FirstCame : (rest : List Event) → all ≡ events ++ rest → CameOfLinks all events
-  AppliedPart : (before rest : List Event) (site count reached disk : ℕ) → all ≡ before ++ ApplyAt site count reached ∷ rest → events ≡ before ++ Fault site disk ∷ []
-      → CameOfLinks all events
+  AppliedPart : (before rest : List Event) (site count reached disk : ℕ) → all ≡ before ++ ApplyAt site count reached ∷ rest
+      → events ≡ before ++ Fault site disk ∷ [] → CameOfLinks all events
 
 -- the line ended as these events do
 pub record LinkStops (d : Doubted) (line : ScriptLine) (fails : Fails) (new : Doubted) : Type 0 where

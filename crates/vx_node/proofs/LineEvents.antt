@@ -43,7 +43,8 @@ use Rattle.vx_node.proofs.Alike.{agrees_like}
 use Rattle.vx_node.proofs.Built.{built_plain}
 use Rattle.vx_node.proofs.FailsStay.{Ties, needs_log, still_told, tied_line, tied_same}
 use Rattle.vx_node.proofs.FuseStays.{Lit, failing_short, lit_line, lit_short, lit_still, needs_calls}
-use Rattle.vx_node.proofs.SiteEvents.{Happens, first_choice, happens_as, site_happens, raw_happens, only_happens, crash_happens, recover_happens}
+use Rattle.vx_node.proofs.SiteEvents.{Happens, first_choice, happens_as, site_happens, raw_happens, only_happens, crash_happens}
+use Rattle.vx_node.proofs.RecoverEvents.{recover_happens}
 use Rattle.vx_node.proofs.CallEvents.{put_happens, put_counts, read_happens, apply_happens}
 use Rattle.vx_events.proofs.Refused.{crash_may, recover_may, apply_may}
 use Rattle.vx_events.proofs.RefusedCalls.{CallMay, write_may, put_may, read_may, show_may}
