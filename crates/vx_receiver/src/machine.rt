@@ -35,7 +35,10 @@ fn hear_update(state: &mut RState, line: &Line, number: u64) -> RAction
     if number <= state.last {
         return RAction::IgnoredAck { number: state.last };
     }
-    if number - state.last != 1 || u64::from(state.waiting) >= MOST_WAITING || !takes_updates(&state.phase) {
+    if number - state.last != 1
+        || u64::from(state.waiting) >= MOST_WAITING
+        || !takes_updates(&state.phase)
+    {
         return RAction::Ignored;
     }
     state.last = number;
