@@ -72,7 +72,8 @@ pub data LinkEnds (told : Type 0) (d : Doubted) (line : ScriptLine) (fails : Fai
       → LinkEnds told d line fails said new
   -- the fuse of this site ran out in an event
   LinksCut : (e : Event) (site kept : ℕ) (taken : Bool) (middle : Doubted) → ComesTo d (link_events d.world line) e site middle
-      → IsFused (d.world.nodes site).fuse → fails ≡ [] → said ≡ Refused IsOff → AreLeft line d (crashed_as (halved middle e site 0) site kept taken) new → LinkEnds told d line fails said new
+      → IsFused (d.world.nodes site).fuse → fails ≡ [] → said ≡ Refused IsOff
+      → AreLeft line d (crashed_as (halved middle e site 0) site kept taken) new → LinkEnds told d line fails said new
   -- a read of the log failed: the event is not begun
   LogUnread : (before rest : List Event) (e : Event) (site disk : ℕ) (middle : Doubted) → link_events d.world line ≡ before ++ e ∷ rest → ReadsLog e site
       → Runs d before middle → all_fails before ≡ [] → fails ≡ (site, disk) ∷ [] → said ≡ Refused (Device disk)
