@@ -87,8 +87,3 @@ module _ {R : Type 0} {g : Ghosts R} where
   pub record WritesUnder (bytes : List ℕ) (said : Said) (old new : DiskSet R g) : Type 0 where
     pub burns : LeavesFuse IsLogged said old new
     pub cuts : CutsShort bytes said old
-
-  -- it is no disk set under a group
-  abbrev pub IsIdle : DiskSet R g → Type 0
-  IsIdle (Up rvg) = ⊥
-  IsIdle other = Unit {0}

@@ -32,8 +32,8 @@ use Rattle.vx_events.proofs.Places.{some_same}
 use Rattle.vx_events.proofs.Refused.{raw_may, recover_may}
 use Rattle.vx_events.proofs.RefusedCalls.{put_may, write_may}
 use Rattle.vx_events.proofs.Testing.{seat_in}
-use Rattle.vx_node.specs.OfSites.{AllAsBefore, AllSameFailing, AsAsked, HasCalled, OfSite}
-use Rattle.vx_diskset.specs.Asked.{FusedAs, IsIdle, LeavesAlone, LeavesFuse, SameFailing, SetsDisk, SetsFuse, WritesUnder, disks_in, size_in}
+use Rattle.vx_node.specs.OfSites.{AllAsBefore, AllSameFailing, AsAsked, HasCalled, IsIdle, OfSite}
+use Rattle.vx_diskset.specs.Asked.{FusedAs, LeavesAlone, LeavesFuse, SameFailing, SetsDisk, SetsFuse, WritesUnder, disks_in, size_in}
 use Rattle.vx_diskset.specs.Burning.{Burnt, IsLogged, NoMore}
 use Rattle.vx_diskset.specs.Fuses.{HasLeft, LeftAs}
 use Rattle.vx_diskset.specs.Stands.{IsUnused, StandsAlone}

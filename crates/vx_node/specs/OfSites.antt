@@ -8,8 +8,9 @@ use Rattle.vx_events.specs.declared.said.Said.{Said}
 use Rattle.vx_events.specs.Facts.{site_number}
 use Rattle.vx_events.specs.Failing.{is_failing}
 use Rattle.vx_diskset.specs.declared.disk_set.DiskSet.{DiskSet}
+use Rattle.vx_diskset.specs.declared.disk_set.DiskSet.TheVariants.{Up}
 use Rattle.vx_node.specs.declared.yard.Yard.{Yard}
-use Rattle.vx_diskset.specs.Asked.{SetsDisk, SetsFuse, CrashesBy, SameFailing, IsIdle, LeavesAlone, LeavesFuse, WritesUnder}
+use Rattle.vx_diskset.specs.Asked.{SetsDisk, SetsFuse, CrashesBy, SameFailing, LeavesAlone, LeavesFuse, WritesUnder}
 use Rattle.vx_diskset.specs.Burning.{NoMore}
 
 module _ {R : Type 0} {g : Ghosts R} where
@@ -21,10 +22,14 @@ module _ {R : Type 0} {g : Ghosts R} where
     pub disk_sets : new.disk_sets.items ≡ slice_set old.disk_sets.items site after
     pub did : Did before after
 
+  -- it is no disk set under a group
+  abbrev pub IsIdle : DiskSet R g → Type 0
+  IsIdle (Up rvg) = ⊥
+  IsIdle other = Unit {0}
+
   -- the disks of each site are as they were, or they are those of a site without a group, and are made to fail or not as they were
   pub record AllAsBefore (old new : Yard R g) : Type 0 where
-    pub each : (s : ℕ) (after : DiskSet R g) → slice_get new.disk_sets.items s ≡ Some after
-        → (before : DiskSet R g) × (slice_get old.disk_sets.items s ≡ Some before) × ((after ≡ before) ⊎ (SameFailing before after × IsIdle after))
+    pub each : (s : ℕ) (after : DiskSet R g) → slice_get new.disk_sets.items s ≡ Some after → (before : DiskSet R g) × (slice_get old.disk_sets.items s ≡ Some before) × ((after ≡ before) ⊎ (SameFailing before after × IsIdle after))
 
   -- each disk of each site is made to fail or not as it was before
   pub record AllSameFailing (old new : Yard R g) : Type 0 where

@@ -14,7 +14,8 @@ use crate::{DiskSet, Said, Yard, facts};
 use std::alloc::Global;
 use std::mem;
 use vx_disk::Rack;
-use vx_model::limits::{LEAST_BLOCKS, LEAST_RAW_DISKS, MOST_DISKS, MOST_SITES};
+use vx_diskset::can_be_raw;
+use vx_model::limits::{LEAST_BLOCKS, MOST_SITES};
 use vx_model::{Name, No, OutOfMemory, SiteState, ring_blocks};
 use vx_rvg::StartRoom;
 use vx_script::ScriptLine;
@@ -73,9 +74,7 @@ impl<R: Rack> Yard<R> {
         let disks = self.facts[site].disks;
         let blocks = self.facts[site].blocks;
         if site >= MOST_SITES
-            || disks < LEAST_RAW_DISKS
-            || disks > MOST_DISKS
-            || blocks < LEAST_BLOCKS
+            || !can_be_raw(disks, blocks)
             || self.is_refused(name)
         {
             return Ok(Said::Refused(No::NoConfig));

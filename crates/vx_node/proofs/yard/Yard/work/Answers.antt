@@ -8,9 +8,9 @@ use Rattle.vx_events.proofs.Refused.{site_may}
 use Rattle.vx_node.specs.OfSites.{AsAsked}
 use Rattle.vx_events.proofs.RefusedCalls.{write_may, read_may, show_may}
 use Rattle.vx_diskset.specs.Asked.{LeavesAlone, SameFailing}
-use Rattle.vx_diskset.proofs.KeepsFailing.{alone_same, failing_same}
 use Rattle.vx_node.proofs.FailsStay.{if_err}
 use Rattle.vx_node.proofs.FuseStays.{short_made, short_raw, short_same, short_still}
+use Rattle.vx_diskset.proofs.KeepsFailing.{alone_same, failing_same}
 use Rattle.vx_node.proofs.OfSites.{unbegun}
 use Rattle.vx_node.proofs.yard.Yard.work.Goals as goal
 
