@@ -1,13 +1,17 @@
 -- A map of regions in a run of blocks.
-use Rattle.std.specs.Prelude.{◌≡◌, ℕ, ◌+◌, ◌*◌, ◌/◌, ◌%◌, ◌<◌, ◌≤◌, Bool, IsTrue, List, length}
+use Rattle.std.specs.Prelude.{◌≡◌, ℕ, ◌+◌, ◌*◌, ◌/◌, ◌%◌, ◌<◌, ◌≤◌, Bool, IsTrue, List, length, Result, Ok, Err}
 use Rattle.std.specs.Int.{div_ceil}
 use Rattle.vx_model.specs.declared.errors.Stop.{Stop}
 use Rattle.vx_model.specs.declared.errors.Stop.TheVariants.{No as Refused, OutOfMemory}
 use Rattle.vx_model.specs.declared.limits.TheConstants.{MAP_REGIONS}
+use Rattle.vx_model.specs.declared.no.No.{No}
 use Rattle.vx_model.specs.declared.no.No.TheVariants.{Device}
 use Rattle.vx_disk.specs.Causes.{DeviceCause}
+use Rattle.vx_disk.specs.Counts.{Rose}
 use Rattle.vx_model.specs.Content.{block_of}
 use Rattle.vx_disk.specs.Shelf.{Meaning, Image, Keeps}
+use Rattle.vx_disk.specs.declared.shelf.ShelfError.{ShelfError}
+use Rattle.vx_disk.specs.declared.shelf.ShelfError.TheVariants.{Fault}
 use Rattle.vx_bitmap.specs.Bits.{Between, is_marked}
 
 -- where a map stands, and its bytes
@@ -61,3 +65,15 @@ abbrev pub LoadCause : Meaning → Meaning → Stop → Type 0
 LoadCause old new (Refused (Device disk)) = DeviceCause old new (Device disk)
 LoadCause old new (Refused other) = ⊥
 LoadCause old new OutOfMemory = Unit {0}
+
+-- A change of a map leaves the shelf up, but behind refusal 6; refusal 7 comes only where the count of the map's unit rose.
+abbrev pub UnitCause : {T : Type 0} → ℕ → Meaning → Meaning → Result T No → Type 0
+UnitCause unit old new (Ok x) = IsTrue new.down → IsTrue old.down
+UnitCause unit old new (Err (Device disk)) = Rose (old.faults unit) (new.faults unit) × (IsTrue new.down → ⊥)
+UnitCause unit old new (Err other) = Unit {0}
+
+-- the same of the device calls below it
+abbrev pub ShelfCause : {T : Type 0} → ℕ → Meaning → Meaning → Result T ShelfError → Type 0
+ShelfCause unit old new (Ok x) = IsTrue new.down → IsTrue old.down
+ShelfCause unit old new (Err (Fault disk)) = Rose (old.faults unit) (new.faults unit) × (IsTrue new.down → ⊥)
+ShelfCause unit old new (Err other) = Unit {0}

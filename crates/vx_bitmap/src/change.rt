@@ -1,7 +1,7 @@
 // The change of a run of regions.
 ghost use Rattle.std.specs.Prelude.{◌≡◌, ◌+◌, ◌*◌, ◌/◌, ◌%◌, ◌<◌, ◌≤◌, ◌^◌, ℕ, length, IfErr, OnOk, OnErr, Err};
 ghost use Rattle.vx_bitmap.specs.Bits.{AllAre, Between, Changed, is_marked};
-ghost use Rattle.vx_bitmap.specs.Maps.{Changing, Lies, MapOn};
+ghost use Rattle.vx_bitmap.specs.Maps.{Changing, Lies, MapOn, ShelfCause};
 ghost use Rattle.vx_disk.specs.Causes.{Cause, DeviceCause, refusal_of};
 ghost use Rattle.vx_disk.specs.Moves.{Moves, Run};
 
@@ -30,6 +30,7 @@ fn change_block<S: Shelf>(
     ensures changed { OnOk result (Changed start end value (8 * length bytes.old) (is_marked bytes.old) (is_marked bytes.new)) }
     ensures refused { OnErr result (bytes.new ≡ bytes.old) }
     ensures cause { IfErr result (λ e. Cause {T = Unit {0}} (S.meaning shelf.old) (S.meaning shelf.new) unit (Err e)) }
+    ensures up { ShelfCause unit (S.meaning shelf.old) (S.meaning shelf.new) result }
     ensures nothing { AllAre start end value (is_marked bytes.old) → shelf.new ≡ shelf.old }
 {
     let at = (512 * block) as usize;
@@ -63,6 +64,7 @@ pub(crate) fn change<S: Shelf>(
     ensures changed { OnOk result (Changed start end value (8 * length bytes.old) (is_marked bytes.old) (is_marked bytes.new)) }
     ensures part { Between start end value (8 * length bytes.old) (is_marked bytes.old) (is_marked bytes.new) }
     ensures cause { IfErr result (λ e. DeviceCause (S.meaning shelf.old) (S.meaning shelf.new) (refusal_of e)) }
+    ensures up { ShelfCause unit (S.meaning shelf.old) (S.meaning shelf.new) result }
     ensures nothing { AllAre start end value (is_marked bytes.old) → shelf.new ≡ shelf.old }
 {
     for block in start / 4096..end / 4096 + 1 {

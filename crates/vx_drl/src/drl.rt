@@ -1,7 +1,7 @@
 // The dirty region log of a volume.
 ghost use Rattle.std.specs.Prelude.{◌≡◌, ◌-◌, ◌<◌, ◌≤◌, true, false, IfErr, IfOk, IsFalse, OnErr, OnOk};
 ghost use Rattle.vx_bitmap.specs.Bits.{AllAre, Between, Changed};
-ghost use Rattle.vx_bitmap.specs.Maps.{Changing, IsRead, Lies, LoadCause, MapOn, SamePlace, blocks_of as map_blocks, regions_of};
+ghost use Rattle.vx_bitmap.specs.Maps.{Changing, IsRead, Lies, LoadCause, MapOn, SamePlace, UnitCause, blocks_of as map_blocks, regions_of};
 ghost use Rattle.vx_config.specs.declared.entry.VolumeLog.TheVariants.{Drl as DrlLog};
 ghost use Rattle.vx_disk.specs.Causes.{DeviceCause};
 ghost use Rattle.vx_disk.specs.Moves.{Moves, Run, Settled};
@@ -87,6 +87,7 @@ impl Drl {
         ensures regions { self.new.regions ≡ self.old.regions }
         ensures held { Holds first last self.old self.new }
         ensures cause { IfErr result (DeviceCause (S.meaning shelf.old) (S.meaning shelf.new)) }
+        ensures unit { UnitCause self.old.map.unit (S.meaning shelf.old) (S.meaning shelf.new) result }
         ensures nothing { AllAre first last true (is_dirty self.old) → shelf.new ≡ shelf.old }
     {
         let marked = are_marked(&self.map, first, last);
@@ -109,6 +110,7 @@ impl Drl {
         ensures place { SamePlace self.old.map self.new.map }
         ensures regions { self.new.regions ≡ self.old.regions }
         ensures cause { IfErr result (DeviceCause (S.meaning shelf.old) (S.meaning shelf.new)) }
+        ensures unit { UnitCause self.old.map.unit (S.meaning shelf.old) (S.meaning shelf.new) result }
         ensures few { self.old.held ≤ MOST_HELD → self.new ≡ self.old }
         ensures nothing { self.old.held ≤ MOST_HELD → shelf.new ≡ shelf.old }
     {

@@ -1,7 +1,7 @@
 // The log of missed regions of a volume.
 ghost use Rattle.std.specs.Prelude.{◌≡◌, ◌+◌, ◌-◌, ◌*◌, ◌<◌, ◌≤◌, ℕ, true, false, IfErr, IfOk, IsFalse, OnOk, length};
 ghost use Rattle.vx_bitmap.specs.Bits.{AllAre, Between, Changed};
-ghost use Rattle.vx_bitmap.specs.Maps.{Changing, IsRead, Lies, LoadCause, MapOn, SamePlace, blocks_of as map_blocks_of};
+ghost use Rattle.vx_bitmap.specs.Maps.{Changing, IsRead, Lies, LoadCause, MapOn, SamePlace, UnitCause, blocks_of as map_blocks_of};
 ghost use Rattle.vx_config.specs.declared.entry.VolumeLog.TheVariants.{Fmr as FmrLog};
 ghost use Rattle.vx_disk.specs.Causes.{DeviceCause};
 ghost use Rattle.vx_disk.specs.Moves.{Moves, Run, Settled};
@@ -99,6 +99,7 @@ impl Fmr {
         ensures place { SamePlace self.old.map self.new.map }
         ensures shape { SameShape self.old self.new }
         ensures cause { IfErr result (DeviceCause (S.meaning shelf.old) (S.meaning shelf.new)) }
+        ensures unit { UnitCause self.old.map.unit (S.meaning shelf.old) (S.meaning shelf.new) result }
         ensures nothing { AllAre 0 (self.old.stride - 1) false (has_missed self.old plex) → shelf.new ≡ shelf.old }
     {
         let start = self.place(plex, 0);
@@ -129,6 +130,7 @@ impl Fmr {
         ensures place { SamePlace self.old.map self.new.map }
         ensures shape { SameShape self.old self.new }
         ensures cause { IfErr result (DeviceCause (S.meaning shelf.old) (S.meaning shelf.new)) }
+        ensures unit { UnitCause self.old.map.unit (S.meaning shelf.old) (S.meaning shelf.new) result }
         ensures nothing { AllAre first last true (has_missed self.old plex) → shelf.new ≡ shelf.old }
     {
         let start = self.place(plex, first);

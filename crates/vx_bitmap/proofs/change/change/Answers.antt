@@ -14,4 +14,5 @@ loop-block-preserved g c = (
   subst (λ (n : ℕ). DoneTo c.args.unit c.args.first c.args.start c.args.end c.args.value n c.args.bytes.now c.change_block.new.bytes (g.S.Shelf.meaning c.args.shelf.now) (g.S.Shelf.meaning c.change_block.new.shelf)) (let e : 4096 * c.loop-block.block + 4096 ≡ 4096 * (c.loop-block.block + 1) = omega arith in e)
       (done_next c.args.unit c.args.first c.args.start c.args.end (4096 * c.loop-block.block) c.max-from.result c.min-to.result c.args.value c.args.bytes.now c.loop-block.bytes (g.S.Shelf.meaning c.args.shelf.now) (g.S.Shelf.meaning c.loop-block.shelf) (g.S.Shelf.meaning c.change_block.new.shelf) c.loop-block.invariant.0 c.max-from.ensures c.min-to.ensures c.change_block.new.bytes (c.change_block.auto.bytes) c.in_ok-change_block.ensures.changed c.change_block.ensures.moves c.in_ok-change_block.ensures.stands),
   λ all. c.change_block.ensures.nothing (rest_are c.args.unit c.args.first c.args.start c.args.end (4096 * c.loop-block.block) c.max-from.result c.min-to.result c.args.value c.args.bytes.now c.loop-block.bytes (g.S.Shelf.meaning c.args.shelf.now) (g.S.Shelf.meaning c.loop-block.shelf) (g.S.Shelf.meaning c.change_block.new.shelf) c.loop-block.invariant.0 c.max-from.ensures c.min-to.ensures all c.requires.last) ∙ c.loop-block.invariant.1 all,
+  λ down. c.loop-block.invariant.2 (c.in_ok-change_block.ensures.up down),
 )

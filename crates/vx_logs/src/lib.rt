@@ -1,0 +1,10 @@
+//! A volume with its logs: which regions may differ on its plexes is durably marked before the plexes are written.
+//!
+//! A region is 64 blocks of 512 bytes. A log whose disk fails is lost: it is in memory no more, and the caller commits that.
+#![tactic(auto)]
+
+mod logs;
+mod marking;
+mod sets;
+
+pub use logs::{Logs, Lost};
