@@ -1,5 +1,5 @@
 -- The logs of a volume in memory, and what they have to do with a configuration and a shelf.
-use Rattle.std.specs.Prelude.{◌≡◌, ◌⊎◌, ℕ, ◌+◌, ◌/◌, ◌%◌, Bool, true, false, Option, Some, None, List}
+use Rattle.std.specs.Prelude.{◌≡◌, ◌⊎◌, ℕ, ◌+◌, ◌/◌, ◌%◌, Bool, true, false, Option, Some, None}
 use Rattle.vx_model.specs.Sizes.{regions_of as regions_in}
 use Rattle.vx_bitmap.specs.Bits.{is_marked}
 use Rattle.vx_bitmap.specs.Maps.{MapOn, blocks_of}
@@ -10,7 +10,7 @@ use Rattle.vx_config.specs.declared.entry.PlexEntry.{PlexEntry}
 use Rattle.vx_config.specs.declared.entry.VolumeLog.{VolumeLog}
 use Rattle.vx_config.specs.declared.entry.VolumeLog.TheVariants.{Drl as DrlLog, Fmr as FmrLog}
 use Rattle.vx_disk.specs.Moves.{Blocks, Nowhere, Run}
-use Rattle.vx_disk.specs.Shelf.{Image, Meaning}
+use Rattle.vx_disk.specs.Shelf.{Image, Meaning, Values}
 use Rattle.vx_drl.specs.Dirty.{Dirty}
 use Rattle.vx_fmr.specs.Missed.{FmrLoaded, Missed}
 use Rattle.vx_layout.specs.Places.{plex_at}
@@ -64,6 +64,10 @@ abbrev pub FmrRun : Option Missed → Blocks
 FmrRun None = Nowhere
 FmrRun (Some f) = Run f.map.unit f.map.first (blocks_of f.map)
 
--- any value in a block of one of the logs
-pub record OnLogs (l : Logs) (u b : ℕ) (x : List ℕ) : Type 0 where
+-- the blocks of the logs
+pub record LogsRun (l : Logs) (u b : ℕ) : Type 0 where
   pub here : DrlRun l.drl u b ⊎ FmrRun l.fmr u b
+
+-- any value in one of them
+abbrev pub OnLogs : Logs → Values
+OnLogs l u b x = LogsRun l u b

@@ -6,7 +6,8 @@ use Rattle.vx_disk.specs.Blocks.{bit_at}
 use Rattle.vx_disk.specs.Counts.{Rose}
 use Rattle.vx_disk.specs.Moves.{Anything, Says}
 use Rattle.vx_disk.specs.Shelf.{Image, Meaning}
-use Rattle.vx_fmr.specs.Missed.{Missed, SameShape, has_missed, place_of}
+use Rattle.vx_fmr.specs.Missed.{IsKept, Missed, SameShape, has_missed, place_of}
+use Rattle.vx_model.specs.declared.limits.TheConstants.{MOST_PLEXES}
 use Rattle.vx_model.specs.declared.no.No.{No}
 use Rattle.vx_model.specs.declared.no.No.TheVariants as refusal
 
@@ -17,11 +18,20 @@ alone plex p = p == plex
 abbrev pub below : ℕ → ℕ → ℕ → Bool
 below n set p = ltb p n && bit_at set p
 
--- each plex of a set has a map, and its blocks are there
-pub record FmrHas (set last : ℕ) (f : Missed) (m : Meaning) : Type 0 where
+-- the plexes of a set
+abbrev pub is_one : ℕ → ℕ → Bool
+is_one set p = below MOST_PLEXES set p
+
+-- it has the maps of its plexes, and its blocks are there
+pub record IsMap (last : ℕ) (f : Missed) (m : Meaning) : Type 0 where
   pub lies : Lies f.map m
+  pub kept : IsKept f.map f.plexes f.stride f.regions
   pub inside : last < f.regions
-  pub exist : (p : ℕ) → bit_at set p ≡ true → p < f.plexes
+
+-- each plex of a set has a map
+pub record FmrHas (set last : ℕ) (f : Missed) (m : Meaning) : Type 0 where
+  pub map : IsMap last f m
+  pub exist : (p : ℕ) → is_one set p ≡ true → p < f.plexes
 
 -- whether a region is noted behind a note of a run: one of the run is, and another where it was, unless the map begins anew
 abbrev pub noted : Bool → ℕ → ℕ → ℕ → Bool → Bool
@@ -79,7 +89,10 @@ FmrAnswers those anew first last old new m m' (Ok lost) = FmrEnds those anew fir
 FmrAnswers those anew first last old new m m' (Err refusal.Down) = IsTrue m'.down
 FmrAnswers those anew first last old new m m' (Err other) = ⊥
 
--- each of these plexes has noted the run, where there is a log
-abbrev pub FmrHolds : (ℕ → Bool) → ℕ → ℕ → Option Missed → Type 0
-FmrHolds those first last None = Unit {0}
-FmrHolds those first last (Some f) = (p : ℕ) → those p ≡ true → AllAre first last true (has_missed f p)
+-- no map begins anew, and each plex of the set has noted the run; or the set has none
+pub record IsStill (set : ℕ) (anew : Bool) (first last : ℕ) (f : Missed) : Type 0 where
+  pub each : (p : ℕ) → is_one set p ≡ true → (anew ≡ false) × AllAre first last true (has_missed f p)
+
+abbrev pub FmrStill : ℕ → Bool → ℕ → ℕ → Option Missed → Type 0
+FmrStill set anew first last None = Unit {0}
+FmrStill set anew first last (Some f) = IsStill set anew first last f

@@ -5,6 +5,9 @@
 
 mod logs;
 mod marking;
+mod noting;
 mod sets;
+mod writing;
 
 pub use logs::{Logs, Lost};
+pub use writing::{Put, Written, mark};

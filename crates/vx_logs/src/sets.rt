@@ -1,7 +1,9 @@
 // Sets of plexes.
-ghost use Rattle.std.specs.Prelude.{◌≡◌, ◌<◌, ℕ};
+ghost use Rattle.std.specs.Prelude.{◌≡◌, ◌<◌, ℕ, IsTrue};
+ghost use Rattle.vx_config.specs.Checks.{is_sound};
 ghost use Rattle.vx_disk.specs.Blocks.{bit_at};
 ghost use Rattle.vx_logs.specs.Held.{stale};
+ghost use Rattle.vx_logs.specs.Noting.{is_one};
 ghost use Rattle.vx_model.specs.declared.limits.TheConstants.{MOST_PLEXES};
 
 use vx_config::{Config, PlexState};
@@ -33,9 +35,10 @@ fn is_stale(config: &Config, vol: u32, plex: u32) -> bool
     }
 }
 
-/// The plexes of a volume that are STALE, of the first eight.
+/// The plexes of a volume that are STALE.
 pub(crate) fn stale_set(config: &Config, vol: u32) -> u8
-    ensures { (p : ℕ) → p < MOST_PLEXES → bit_at result p ≡ stale config.now vol p }
+    requires { IsTrue (is_sound config.now) }
+    ensures { (p : ℕ) → is_one result p ≡ stale config.now vol p }
 {
     let mut flags = [false; MOST_PLEXES];
     for plex in 0..MOST_PLEXES {
