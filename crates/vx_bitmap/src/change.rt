@@ -1,9 +1,10 @@
 // The change of a run of regions.
 ghost use Rattle.std.specs.Prelude.{◌≡◌, ◌+◌, ◌*◌, ◌/◌, ◌%◌, ◌<◌, ◌≤◌, ◌^◌, ℕ, length, IfErr, OnOk, OnErr, Err};
 ghost use Rattle.vx_bitmap.specs.Bits.{AllAre, Between, Changed, is_marked};
-ghost use Rattle.vx_bitmap.specs.Maps.{Changing, Lies, MapOn, ShelfCause};
+ghost use Rattle.vx_bitmap.specs.Maps.{ChangedAt, Changing, Lies, MapOn, ShelfCause};
 ghost use Rattle.vx_disk.specs.Causes.{Cause, DeviceCause, refusal_of};
 ghost use Rattle.vx_disk.specs.Moves.{Moves, Run};
+ghost use Rattle.vx_disk.specs.Shelf.{Goes};
 
 use crate::run::mark_run;
 use vx_disk::{Shelf, ShelfError, put};
@@ -26,6 +27,7 @@ fn change_block<S: Shelf>(
     requires to { end < 4096 * block + 4096 }
     requires some { start ≤ end }
     ensures moves { Moves (Run unit first (length bytes.old / 512)) (Changing (record { unit = unit; first = first; bytes = bytes.old }) start end value (S.meaning shelf.old)) (S.meaning shelf.old) (S.meaning shelf.new) }
+    ensures writes { Goes (ChangedAt (record { unit = unit; first = first; bytes = bytes.old }) start end value (S.meaning shelf.old)) (S.meaning shelf.old) (S.meaning shelf.new) }
     ensures stands { OnOk result (MapOn (record { unit = unit; first = first; bytes = bytes.old }) (S.meaning shelf.old) → MapOn (record { unit = unit; first = first; bytes = bytes.new }) (S.meaning shelf.new)) }
     ensures changed { OnOk result (Changed start end value (8 * length bytes.old) (is_marked bytes.old) (is_marked bytes.new)) }
     ensures refused { OnErr result (bytes.new ≡ bytes.old) }
@@ -60,6 +62,7 @@ pub(crate) fn change<S: Shelf>(
     requires some { start ≤ end }
     requires last { end < 8 * length bytes.old }
     ensures moves { Moves (Run unit first (length bytes.old / 512)) (Changing (record { unit = unit; first = first; bytes = bytes.old }) start end value (S.meaning shelf.old)) (S.meaning shelf.old) (S.meaning shelf.new) }
+    ensures writes { Goes (ChangedAt (record { unit = unit; first = first; bytes = bytes.old }) start end value (S.meaning shelf.old)) (S.meaning shelf.old) (S.meaning shelf.new) }
     ensures stands { OnOk result (MapOn (record { unit = unit; first = first; bytes = bytes.old }) (S.meaning shelf.old) → MapOn (record { unit = unit; first = first; bytes = bytes.new }) (S.meaning shelf.new)) }
     ensures changed { OnOk result (Changed start end value (8 * length bytes.old) (is_marked bytes.old) (is_marked bytes.new)) }
     ensures part { Between start end value (8 * length bytes.old) (is_marked bytes.old) (is_marked bytes.new) }

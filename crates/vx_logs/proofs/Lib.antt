@@ -1,3 +1,6 @@
 pub mod NoteLemmas
 pub mod PlexesLemmas
 pub mod LogLemmas
+pub mod MarkLemmas
+pub mod PutLemmas
+pub mod WriteLemmas

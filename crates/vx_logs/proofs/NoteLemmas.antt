@@ -1,16 +1,15 @@
 -- Notes in the map of one plex.
-use Rattle.std.proofs.Common.{◌≡◌, ◌∙◌, ◌⊎◌, inl, inr, ⊎_elim, ℕ, ◌+◌, ◌-◌, ◌*◌, ◌/◌, ◌%◌, ◌^◌, ◌<◌, ◌≤◌, Bool, true, false, refl, sym, ap, subst, arith}
+use Rattle.std.proofs.Common.{◌≡◌, ◌∙◌, ◌⊎◌, inl, inr, ⊎_elim, ℕ, ◌+◌, ◌-◌, ◌*◌, ◌/◌, ◌%◌, ◌^◌, ◌<◌, ◌≤◌, Bool, true, false, List, refl, sym, ap, subst, arith}
 use Rattle.std.specs.Prelude.{leb, ◌&&◌, ◌||◌, ◌==◌, not, Some, if◌then◌else◌, OnOk, Result, Ok, Err}
 use Rattle.std.proofs.lemmas.Bool.{cases_eq, eq-eqb, eqb-true, le-leb}
 use Rattle.vx_bitmap.specs.Bits.{AllAre, Between, Changed, is_among, is_marked}
-use Rattle.vx_bitmap.specs.Maps.{Changing, MapOn, SamePlace, blocks_of, is_marked_in, regions_of}
-use Rattle.vx_disk.specs.Moves.{Beside, Moves, Run}
-use Rattle.vx_disk.specs.Shelf.{Image, Meaning}
-use Rattle.vx_disk.proofs.Moving.{goes_on, wider}
+use Rattle.vx_bitmap.specs.Maps.{ChangedAt, MapOn, SamePlace, blocks_of, marks_with, regions_of}
+use Rattle.vx_disk.specs.Moves.{Run}
+use Rattle.vx_disk.specs.Shelf.{Goes, Meaning, Or}
+use Rattle.vx_disk.proofs.Runs.{both_Goes, weaker}
 use Rattle.vx_fmr.specs.Missed.{IsKept, Missed, OthersSame, SameShape, has_missed, place_of}
 use Rattle.vx_fmr.proofs.Places.{others_same, plex_part}
-use Rattle.vx_logs.specs.Held.{FmrRun}
-use Rattle.vx_logs.specs.Noting.{FmrNoted, MayBe, Noted, NotingIn, SameFmr, alone, noted}
+use Rattle.vx_logs.specs.Noting.{FmrNoted, MayBe, Noted, NotedAt, SameFmr, alone, noted}
 
 -- ---- one bit after another
 
@@ -40,17 +39,18 @@ module _ (f : Missed) (kept : IsKept f.map f.plexes f.stride f.regions) (plex fi
   fits : f.plexes * f.stride ≤ regions_of f.map
   fits = omega (arith, kept.all)
 
-  -- an image in a change of a run of the plex's map
-  pub in_image : (value anew : Bool) (from to : ℕ) (m : Meaning) (i : Image) → ((r : ℕ) (now : Bool) → is_among first last r ≡ true → now ≡ value → ((is_among from to r ≡ true) × (now ≡ true)) ⊎ ((anew ≡ true) × (now ≡ false)))
-      → Changing f.map (place_of f plex first) (place_of f plex last) value m i → NotingIn (alone plex) anew from to f m i
-  in_image value anew from to m i may changing = record {
-    each = λ on p r lt r_low. elim (cases_eq p plex) [
-      | inl is ↦ subst (λ (q : ℕ). MayBe (alone plex) anew from to q r (has_missed f q r) (is_marked_in f.map i (place_of f q r))) (sym is)
-          (elim ((plex_part f.plexes f.stride (regions_of f.map) plex first last value (is_marked f.map.bytes) (is_marked_in f.map i) fits there (changing.each on)).each r r_low) [
+  -- a value of a block in a change of a run of the plex's map
+  pub in_block : (value anew : Bool) (from to : ℕ) (m : Meaning) (u b : ℕ) (x : List ℕ) → ((r : ℕ) (now : Bool) → is_among first last r ≡ true → now ≡ value → ((is_among from to r ≡ true) × (now ≡ true)) ⊎ ((anew ≡ true) × (now ≡ false)))
+      → ChangedAt f.map (place_of f plex first) (place_of f plex last) value m u b x → NotedAt (alone plex) anew from to f m u b x
+  in_block value anew from to m u b x may changed = record {
+    run = changed.run;
+    so = λ on p r lt r_low. elim (cases_eq p plex) [
+      | inl is ↦ subst (λ (q : ℕ). MayBe (alone plex) anew from to q r (has_missed f q r) (marks_with f.map b x (place_of f q r))) (sym is)
+          (elim ((plex_part f.plexes f.stride (regions_of f.map) plex first last value (is_marked f.map.bytes) (marks_with f.map b x) fits there (changed.so on)).each r r_low) [
             | inl same ↦ inl same
-            | inr now ↦ inr (alone_is plex plex refl, may r (is_marked_in f.map i (place_of f plex r)) now.0 now.1)
+            | inr now ↦ inr (alone_is plex plex refl, may r (marks_with f.map b x (place_of f plex r)) now.0 now.1)
           ])
-      | inr other ↦ inl (others_same f.plexes f.stride (regions_of f.map) plex first last value (is_marked f.map.bytes) (is_marked_in f.map i) fits there low (changing.each on) p r lt r_low other)
+      | inr other ↦ inl (others_same f.plexes f.stride (regions_of f.map) plex first last value (is_marked f.map.bytes) (marks_with f.map b x) fits there low (changed.so on) p r lt r_low other)
     ];
   }
 
@@ -109,45 +109,55 @@ module _ (f g h : Missed) (plex first last : ℕ) (shape : SameShape f g) (empti
           at p r lt low ∙ ap (λ (t : Bool). if t then noted false first last r (has_missed g p r) else has_missed g p r) (not_alone p other) ∙ others.each p r lt low other
           ∙ sym (ap (λ (t : Bool). if t then noted anew first last r (has_missed f p r) else has_missed f p r) (not_alone p other))
 
--- ---- the calls of one note, as moves of the map's blocks
+-- ---- the calls of one note, by what they leave of the maps' blocks
 
 module _ (f : Missed) (kept : IsKept f.map f.plexes f.stride f.regions) (plex first last : ℕ) (there : plex < f.plexes) (inside : last < f.regions) (m m' : Meaning) where
   low : last < f.stride
   low = omega (arith, inside, kept.fit)
 
-  pub note_moves : (anew : Bool) → Moves (Run f.map.unit f.map.first (blocks_of f.map)) (Changing f.map (place_of f plex first) (place_of f plex last) true m) m m'
-      → Moves (FmrRun (Some f)) (NotingIn (alone plex) anew first last f m) m m'
-  note_moves anew moves = wider (Run f.map.unit f.map.first (blocks_of f.map)) (FmrRun (Some f)) (Changing f.map (place_of f plex first) (place_of f plex last) true m) (NotingIn (alone plex) anew first last f m) m m' moves
-      (λ u b is. is) (λ i beside changing. in_image f kept plex first last there low true anew first last m i (λ r now among value. inl (among, value)) changing)
+  pub note_writes : (anew : Bool) → Goes (ChangedAt f.map (place_of f plex first) (place_of f plex last) true m) m m' → Goes (NotedAt (alone plex) anew first last f m) m m'
+  note_writes anew goes = weaker (ChangedAt f.map (place_of f plex first) (place_of f plex last) true m) (NotedAt (alone plex) anew first last f m) m m' goes
+      (λ u b x changed. in_block f kept plex first last there low true anew first last m u b x (λ r now among value. inl (among, value)) changed)
 
-  pub begin_moves : (anew : Bool) → anew ≡ true → Moves (Run f.map.unit f.map.first (blocks_of f.map)) (Changing f.map (place_of f plex 0) (place_of f plex (f.stride - 1)) false m) m m'
-      → Moves (FmrRun (Some f)) (NotingIn (alone plex) anew first last f m) m m'
-  begin_moves anew on moves = wider (Run f.map.unit f.map.first (blocks_of f.map)) (FmrRun (Some f)) (Changing f.map (place_of f plex 0) (place_of f plex (f.stride - 1)) false m) (NotingIn (alone plex) anew first last f m) m m' moves
-      (λ u b is. is) (λ i beside changing. in_image f kept plex 0 (f.stride - 1) there (omega (arith, kept.some, kept.fit)) false anew first last m i (λ r now among value. inr (on, value)) changing)
+  pub begin_writes : (anew : Bool) → anew ≡ true → Goes (ChangedAt f.map (place_of f plex 0) (place_of f plex (f.stride - 1)) false m) m m' → Goes (NotedAt (alone plex) anew first last f m) m m'
+  begin_writes anew on goes = weaker (ChangedAt f.map (place_of f plex 0) (place_of f plex (f.stride - 1)) false m) (NotedAt (alone plex) anew first last f m) m m' goes
+      (λ u b x changed. in_block f kept plex 0 (f.stride - 1) there (omega (arith, kept.some, kept.fit)) false anew first last m u b x (λ r now among value. inr (on, value)) changed)
 
 -- a map that stands elsewhere in nothing has the same blocks
 pub same_run : (f g : Missed) → SamePlace f.map g.map → (u b : ℕ) → Run g.map.unit g.map.first (blocks_of g.map) u b → Run f.map.unit f.map.first (blocks_of f.map) u b
 same_run f g place u b run = record { there = run.there ∙ place.unit; first = omega (arith, run.first, place.first); last = omega (arith, run.last, place.first, place.long) }
 
--- one note behind another: an image in the second is one of both
-pub images_then : (those : ℕ → Bool) (anew : Bool) (first last : ℕ) (f g : Missed) (m m1 : Meaning) (i : Image) → SameFmr f g → (MapOn f.map m → MapOn g.map m1)
-    → ((p r : ℕ) → p < f.plexes → r < f.stride → MayBe those anew first last p r (has_missed f p r) (has_missed g p r)) → NotingIn those anew first last g m1 i → NotingIn those anew first last f m i
-images_then those anew first last f g m m1 i same stands far near = record {
-  each = λ on p r lt low.
-      maybe_then those anew first last p r (has_missed f p r) (has_missed g p r) (is_marked_in f.map i (place_of f p r)) (far p r lt low)
-      (subst (λ (b : Bool). MayBe those anew first last p r (has_missed g p r) b) (moved p r) (near.each (stands on) p r (omega (arith, lt, same.shape.plexes)) (omega (arith, low, same.shape.stride))));
+-- a region by the test whether this block has it
+pub with_there : (f : Missed) (b : ℕ) (x : List ℕ) (p r : ℕ) (t : Bool) → (f.map.first + place_of f p r / 4096 == b) ≡ t → marks_with f.map b x (place_of f p r) ≡ (if t then is_marked x (place_of f p r % 4096) else has_missed f p r)
+with_there f b x p r t test = ap (λ (s : Bool). if s then is_marked x (place_of f p r % 4096) else has_missed f p r) test
+
+pub with_moved : (f g : Missed) (b : ℕ) (x : List ℕ) → SameFmr f g → (p r : ℕ) (t : Bool) → (f.map.first + place_of f p r / 4096 == b) ≡ t
+    → marks_with g.map b x (place_of g p r) ≡ (if t then is_marked x (place_of f p r % 4096) else is_marked g.map.bytes (place_of f p r))
+with_moved f g b x same p r t test =
+    ap (λ (s : ℕ). marks_with g.map b x (p * s + r)) same.shape.stride ∙ ap (λ (n : ℕ). if (n + place_of f p r / 4096 == b) then is_marked x (place_of f p r % 4096) else is_marked g.map.bytes (place_of f p r)) same.place.first
+    ∙ ap (λ (s : Bool). if s then is_marked x (place_of f p r % 4096) else is_marked g.map.bytes (place_of f p r)) test
+
+-- one note behind another: what the second leaves of a block is left by both
+pub blocks_then : (those : ℕ → Bool) (anew : Bool) (first last : ℕ) (f g : Missed) (m m1 : Meaning) (u b : ℕ) (x : List ℕ) → SameFmr f g → (MapOn f.map m → MapOn g.map m1)
+    → ((p r : ℕ) → p < f.plexes → r < f.stride → MayBe those anew first last p r (has_missed f p r) (has_missed g p r)) → NotedAt those anew first last g m1 u b x → NotedAt those anew first last f m u b x
+blocks_then those anew first last f g m m1 u b x same stands far near = record {
+  run = same_run f g same.place u b near.run;
+  so = λ on p r lt low. by p r lt low (near.so (stands on) p r (omega (arith, lt, same.shape.plexes)) (omega (arith, low, same.shape.stride))) (f.map.first + place_of f p r / 4096 == b) refl;
 }
   where
-    moved : (p r : ℕ) → is_marked_in g.map i (place_of g p r) ≡ is_marked_in f.map i (place_of f p r)
-    moved p r = ap (λ (s : ℕ). is_marked_in g.map i (p * s + r)) same.shape.stride ∙ ap (λ (u : ℕ). is_marked (i u (g.map.first + (p * f.stride + r) / 4096)) ((p * f.stride + r) % 4096)) same.place.unit
-        ∙ ap (λ (n : ℕ). is_marked (i f.map.unit (n + (p * f.stride + r) / 4096)) ((p * f.stride + r) % 4096)) same.place.first
+    by : (p r : ℕ) → p < f.plexes → r < f.stride → MayBe those anew first last p r (has_missed g p r) (marks_with g.map b x (place_of g p r)) → (t : Bool) → (f.map.first + place_of f p r / 4096 == b) ≡ t
+        → MayBe those anew first last p r (has_missed f p r) (marks_with f.map b x (place_of f p r))
+    by p r lt low now false test = inl (with_there f b x p r false test)
+    by p r lt low now true test =
+        maybe_then those anew first last p r (has_missed f p r) (has_missed g p r) (marks_with f.map b x (place_of f p r)) (far p r lt low)
+        (subst (λ (w : Bool). MayBe those anew first last p r (has_missed g p r) w) (with_moved f g b x same p r true test ∙ sym (with_there f b x p r true test)) now)
 
-pub then_moves : (those : ℕ → Bool) (anew : Bool) (first last : ℕ) (f g : Missed) (m m1 m2 : Meaning) → SameFmr f g → (MapOn f.map m → MapOn g.map m1)
+pub then_writes : (those : ℕ → Bool) (anew : Bool) (first last : ℕ) (f g : Missed) (m m1 m2 : Meaning) → SameFmr f g → (MapOn f.map m → MapOn g.map m1)
     → ((p r : ℕ) → p < f.plexes → r < f.stride → MayBe those anew first last p r (has_missed f p r) (has_missed g p r))
-    → Moves (FmrRun (Some f)) (NotingIn those anew first last f m) m m1 → Moves (FmrRun (Some g)) (NotingIn those anew first last g m1) m1 m2 → Moves (FmrRun (Some f)) (NotingIn those anew first last f m) m m2
-then_moves those anew first last f g m m1 m2 same stands far one two =
-    goes_on (FmrRun (Some f)) (FmrRun (Some g)) (NotingIn those anew first last f m) (NotingIn those anew first last g m1) m m1 m2 one two (same_run f g same.place)
-    (λ i beside near. images_then those anew first last f g m m1 i same stands far near)
+    → Goes (NotedAt those anew first last f m) m m1 → Goes (NotedAt those anew first last g m1) m1 m2 → Goes (NotedAt those anew first last f m) m m2
+then_writes those anew first last f g m m1 m2 same stands far one two =
+    weaker (Or (NotedAt those anew first last f m) (NotedAt those anew first last g m1)) (NotedAt those anew first last f m) m m2 (both_Goes (NotedAt those anew first last f m) (NotedAt those anew first last g m1) m m1 m2 one two)
+    (λ u b x. ⊎_elim (λ is. is) (λ near. blocks_then those anew first last f g m m1 u b x same stands far near))
 
 pub kept_later : (f g : Missed) → IsKept f.map f.plexes f.stride f.regions → SameFmr f g → IsKept g.map g.plexes g.stride g.regions
 kept_later f g kept same = record {
@@ -174,11 +184,11 @@ module _ (f g : Missed) (kept : IsKept f.map f.plexes f.stride f.regions) (plex 
       | inr other ↦ inl (others.each p r lt r_low other)
     ]
 
-    pub both_moves : (MapOn f.map m → MapOn g.map m1) → Moves (Run f.map.unit f.map.first (blocks_of f.map)) (Changing f.map (place_of f plex 0) (place_of f plex (f.stride - 1)) false m) m m1
-        → Moves (Run g.map.unit g.map.first (blocks_of g.map)) (Changing g.map (place_of g plex first) (place_of g plex last) true m1) m1 m2 → Moves (FmrRun (Some f)) (NotingIn (alone plex) anew first last f m) m m2
-    both_moves stands one two =
-        then_moves (alone plex) anew first last f g m m1 m2 (record { place = place; shape = shape }) stands far (begin_moves f kept plex first last there inside m m1 anew on one)
-        (note_moves g kept_on plex first last (omega (arith, there, shape.plexes)) (omega (arith, inside, shape.regions)) m1 m2 anew two)
+    pub both_writes : (MapOn f.map m → MapOn g.map m1) → Goes (ChangedAt f.map (place_of f plex 0) (place_of f plex (f.stride - 1)) false m) m m1
+        → Goes (ChangedAt g.map (place_of g plex first) (place_of g plex last) true m1) m1 m2 → Goes (NotedAt (alone plex) anew first last f m) m m2
+    both_writes stands one two =
+        then_writes (alone plex) anew first last f g m m1 m2 (record { place = place; shape = shape }) stands far (begin_writes f kept plex first last there inside m m1 anew on one)
+        (note_writes g kept_on plex first last (omega (arith, there, shape.plexes)) (omega (arith, inside, shape.regions)) m1 m2 anew two)
 
     pub both_noted : (h : Missed) → (MapOn f.map m → MapOn g.map m1) → (MapOn g.map m1 → MapOn h.map m2) → Changed first last true g.stride (has_missed g plex) (has_missed h plex) → OthersSame plex g h
         → SamePlace g.map h.map → SameShape g h → FmrNoted (alone plex) anew first last f h m m2

@@ -1,22 +1,20 @@
 -- Notes in the maps of several plexes, one after another.
 use Rattle.std.proofs.Common.{◌≡◌, ◌∙◌, inl, inr, ⊎_elim, ℕ, ◌+◌, ◌<◌, ◌≤◌, Bool, true, false, IsTrue, refl, sym, ap, subst, arith}
-use Rattle.std.specs.Prelude.{◌&&◌, ltb, if◌then◌else◌, Some, Result, Ok, Err}
+use Rattle.std.specs.Prelude.{◌&&◌, ltb, if◌then◌else◌}
 use Rattle.std.proofs.lemmas.Bool.{and_parts, cases_eq, cases_lt, eq-eqb, eqb-true, lt-ltb, ltb-true}
 use Rattle.vx_bitmap.specs.Bits.{AllAre}
-use Rattle.vx_bitmap.specs.Maps.{MapOn, SamePlace, UnitCause}
+use Rattle.vx_bitmap.specs.Maps.{marks_with}
 use Rattle.vx_disk.specs.Blocks.{bit_at}
-use Rattle.vx_disk.specs.Moves.{Moves}
-use Rattle.vx_disk.specs.Shelf.{Meaning}
-use Rattle.vx_disk.proofs.Moving.{still, wider}
-use Rattle.vx_fmr.specs.Missed.{IsKept, Missed, SameShape, has_missed}
-use Rattle.vx_logs.specs.Held.{FmrRun}
-use Rattle.vx_logs.specs.Noting.{FmrHas, FmrNoted, IsMap, IsStill, MayBe, Noted, NotingIn, SameFmr, alone, below, is_one, noted}
-use Rattle.vx_logs.proofs.NoteLemmas.{kept_later, noted_maybe, then_moves}
+use Rattle.vx_disk.specs.Shelf.{Goes, Meaning}
+use Rattle.vx_disk.proofs.Runs.{same_Goes, weaker}
+use Rattle.vx_fmr.specs.Missed.{Missed, has_missed, place_of}
+use Rattle.vx_logs.specs.Noting.{FmrHas, FmrNoted, IsMap, IsStill, MayBe, Noted, NotedAt, SameFmr, alone, below, is_one, noted}
+use Rattle.vx_logs.proofs.NoteLemmas.{kept_later, noted_maybe, then_writes}
 
 -- the plexes of the set below one have noted the run
 pub record NotesTo (n set : ℕ) (anew : Bool) (first last : ℕ) (f g : Missed) (m m' : Meaning) : Type 0 where
   pub noted : FmrNoted (below n set) anew first last f g m m'
-  pub moves : Moves (FmrRun (Some f)) (NotingIn (is_one set) anew first last f m) m m'
+  pub writes : Goes (NotedAt (is_one set) anew first last f m) m m'
   pub up : IsTrue m'.down → IsTrue m.down
 
 below_none : (n set p : ℕ) → n ≤ p → below n set p ≡ false
@@ -48,7 +46,7 @@ notes_none set anew first last f m = record {
     notes = record { each = λ p r lt low. sym (ap (λ (t : Bool). if t then noted anew first last r (has_missed f p r) else has_missed f p r) (below_none 0 set p (omega arith))) };
     stands = λ on. on;
   };
-  moves = still (FmrRun (Some f)) (NotingIn (is_one set) anew first last f m) m;
+  writes = same_Goes (NotedAt (is_one set) anew first last f m) m;
   up = λ down. down;
 }
 
@@ -63,7 +61,7 @@ module _ (n set : ℕ) (anew : Bool) (first last : ℕ) (f g : Missed) (m m1 : M
         each = λ p r lt low. at.noted.notes.each p r lt low ∙ ap (λ (t : Bool). if t then noted anew first last r (has_missed f p r) else has_missed f p r) (same p);
       };
     };
-    moves = at.moves;
+    writes = at.writes;
     up = at.up;
   }
     where
@@ -92,11 +90,11 @@ module _ (n set : ℕ) (anew : Bool) (first last : ℕ) (f g : Missed) (m m1 : M
         wider_set (inl same) = inl same
         wider_set (inr changed) = inr (below_one p changed.0, changed.1)
 
-    module _ (h : Missed) (m2 : Meaning) (moves : Moves (FmrRun (Some g)) (NotingIn (alone n) anew first last g m1) m1 m2) where
-      pub notes_moves : Moves (FmrRun (Some f)) (NotingIn (is_one set) anew first last f m) m m2
-      notes_moves = then_moves (is_one set) anew first last f g m m1 m2 at.noted.same at.noted.stands so_far at.moves
-          (wider (FmrRun (Some g)) (FmrRun (Some g)) (NotingIn (alone n) anew first last g m1) (NotingIn (is_one set) anew first last g m1) m1 m2 moves (λ u b is. is)
-          (λ i beside near. record { each = λ on p r lt low. wide p r _ _ (near.each on p r lt low) }))
+    module _ (h : Missed) (m2 : Meaning) (moves : Goes (NotedAt (alone n) anew first last g m1) m1 m2) where
+      pub notes_writes : Goes (NotedAt (is_one set) anew first last f m) m m2
+      notes_writes = then_writes (is_one set) anew first last f g m m1 m2 at.noted.same at.noted.stands so_far at.writes
+          (weaker (NotedAt (alone n) anew first last g m1) (NotedAt (is_one set) anew first last g m1) m1 m2 moves
+          (λ u b x near. record { run = near.run; so = λ on p r lt low. wide p r (has_missed g p r) (marks_with g.map b x (place_of g p r)) (near.so on p r lt low) }))
 
       pub notes_next : FmrNoted (alone n) anew first last g h m1 m2 → (IsTrue m2.down → IsTrue m1.down) → NotesTo (n + 1) set anew first last f h m m2
       notes_next one up = record {
@@ -105,7 +103,7 @@ module _ (n set : ℕ) (anew : Bool) (first last : ℕ) (f g : Missed) (m m1 : M
           stands = λ on. one.stands (at.noted.stands on);
           notes = record { each = λ p r lt low. step p r lt low };
         };
-        moves = notes_moves;
+        writes = notes_writes;
         up = λ down. at.up (up down);
       }
         where
@@ -139,8 +137,8 @@ module _ (n set : ℕ) (anew : Bool) (first last : ℕ) (f g : Missed) (m m1 : M
 pub has_later : (set last n : ℕ) (anew : Bool) (first : ℕ) (f g : Missed) (m m1 : Meaning) → FmrHas set last f m → NotesTo n set anew first last f g m m1 → IsMap last g m1
 has_later set last n anew first f g m m1 has at = record {
   lies = record {
-    exists = omega (arith, has.map.lies.exists, at.noted.same.place.unit, at.moves.units);
-    within = let size : m1.size g.map.unit ≡ m.size f.map.unit = at.moves.size g.map.unit ∙ ap m.size at.noted.same.place.unit in omega (arith, has.map.lies.within, at.noted.same.place.first, at.noted.same.place.long, size);
+    exists = omega (arith, has.map.lies.exists, at.noted.same.place.unit, at.writes.units);
+    within = let size : m1.size g.map.unit ≡ m.size f.map.unit = at.writes.size g.map.unit ∙ ap m.size at.noted.same.place.unit in omega (arith, has.map.lies.within, at.noted.same.place.first, at.noted.same.place.long, size);
   };
   kept = kept_later f g has.map.kept at.noted.same;
   inside = omega (arith, has.map.inside, at.noted.same.shape.regions);

@@ -1,10 +1,9 @@
 -- What a mark of regions in the dirty region log of a volume does, where it has one.
 use Rattle.std.specs.Prelude.{◌≡◌, ℕ, ◌<◌, Bool, true, false, IsTrue, Option, Some, None, Result, Ok, Err}
 use Rattle.vx_bitmap.specs.Bits.{AllAre, Between, Changed}
-use Rattle.vx_bitmap.specs.Maps.{Changing, Lies, MapOn, SamePlace, regions_of}
+use Rattle.vx_bitmap.specs.Maps.{ChangedAt, Lies, MapOn, SamePlace, regions_of}
 use Rattle.vx_disk.specs.Counts.{Rose}
-use Rattle.vx_disk.specs.Moves.{Anything, Says}
-use Rattle.vx_disk.specs.Shelf.{Meaning}
+use Rattle.vx_disk.specs.Shelf.{Meaning, Nothing, Values}
 use Rattle.vx_drl.specs.Dirty.{Dirty, Holds, is_dirty}
 use Rattle.vx_model.specs.declared.no.No.{No}
 use Rattle.vx_model.specs.declared.no.No.TheVariants as refusal
@@ -14,10 +13,10 @@ abbrev pub DrlHas : ℕ → Option Dirty → Meaning → Type 0
 DrlHas last None m = Unit {0}
 DrlHas last (Some d) m = Lies d.map m × (last < d.regions)
 
--- an image in the change of a run of regions to this value
-abbrev pub DrlChanging : ℕ → ℕ → Bool → Option Dirty → Meaning → Says
-DrlChanging first last value None m = Anything
-DrlChanging first last value (Some d) m = Changing d.map first last value m
+-- a value of one of its blocks in the change of a run of regions to this value
+abbrev pub DrlAt : ℕ → ℕ → Bool → Option Dirty → Meaning → Values
+DrlAt first last value None m = Nothing
+DrlAt first last value (Some d) m = ChangedAt d.map first last value m
 
 -- it stands where it stood, with as many regions
 pub record SameDrl (old new : Dirty) : Type 0 where

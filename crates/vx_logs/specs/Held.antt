@@ -10,7 +10,7 @@ use Rattle.vx_config.specs.declared.entry.PlexEntry.{PlexEntry}
 use Rattle.vx_config.specs.declared.entry.VolumeLog.{VolumeLog}
 use Rattle.vx_config.specs.declared.entry.VolumeLog.TheVariants.{Drl as DrlLog, Fmr as FmrLog}
 use Rattle.vx_disk.specs.Moves.{Blocks, Nowhere, Run}
-use Rattle.vx_disk.specs.Shelf.{Image, Meaning, Values}
+use Rattle.vx_disk.specs.Shelf.{Image, Meaning}
 use Rattle.vx_drl.specs.Dirty.{Dirty}
 use Rattle.vx_fmr.specs.Missed.{FmrLoaded, Missed}
 use Rattle.vx_layout.specs.Places.{plex_at}
@@ -67,7 +67,3 @@ FmrRun (Some f) = Run f.map.unit f.map.first (blocks_of f.map)
 -- the blocks of the logs
 pub record LogsRun (l : Logs) (u b : ℕ) : Type 0 where
   pub here : DrlRun l.drl u b ⊎ FmrRun l.fmr u b
-
--- any value in one of them
-abbrev pub OnLogs : Logs → Values
-OnLogs l u b x = LogsRun l u b

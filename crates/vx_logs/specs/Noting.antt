@@ -1,11 +1,11 @@
 -- What a note of regions in the maps of several plexes of a volume does, where it has a log of missed regions.
-use Rattle.std.specs.Prelude.{◌≡◌, ◌⊎◌, ℕ, ◌<◌, Bool, true, false, not, ◌&&◌, ◌||◌, ltb, ◌==◌, IsTrue, if◌then◌else◌, Option, Some, None, Result, Ok, Err}
+use Rattle.std.specs.Prelude.{◌≡◌, ◌⊎◌, ℕ, ◌<◌, Bool, true, false, not, ◌&&◌, ◌||◌, ltb, ◌==◌, IsTrue, if◌then◌else◌, Option, Some, None, List, Result, Ok, Err}
 use Rattle.vx_bitmap.specs.Bits.{AllAre, is_among}
-use Rattle.vx_bitmap.specs.Maps.{Lies, MapOn, SamePlace, is_marked_in}
+use Rattle.vx_bitmap.specs.Maps.{Lies, MapOn, SamePlace, blocks_of, marks_with}
 use Rattle.vx_disk.specs.Blocks.{bit_at}
 use Rattle.vx_disk.specs.Counts.{Rose}
-use Rattle.vx_disk.specs.Moves.{Anything, Says}
-use Rattle.vx_disk.specs.Shelf.{Image, Meaning}
+use Rattle.vx_disk.specs.Moves.{Run}
+use Rattle.vx_disk.specs.Shelf.{Meaning, Nothing, Values}
 use Rattle.vx_fmr.specs.Missed.{IsKept, Missed, SameShape, has_missed, place_of}
 use Rattle.vx_model.specs.declared.limits.TheConstants.{MOST_PLEXES}
 use Rattle.vx_model.specs.declared.no.No.{No}
@@ -45,9 +45,10 @@ pub record Noted (those : ℕ → Bool) (anew : Bool) (first last : ℕ) (old ne
 abbrev pub MayBe : (those : ℕ → Bool) (anew : Bool) (first last p r : ℕ) (was now : Bool) → Type 0
 MayBe those anew first last p r was now = (now ≡ was) ⊎ ((those p ≡ true) × (((is_among first last r ≡ true) × (now ≡ true)) ⊎ ((anew ≡ true) × (now ≡ false))))
 
--- an image in a note
-pub record NotingIn (those : ℕ → Bool) (anew : Bool) (first last : ℕ) (f : Missed) (m : Meaning) (i : Image) : Type 0 where
-  pub each : MapOn f.map m → (p r : ℕ) → p < f.plexes → r < f.stride → MayBe those anew first last p r (has_missed f p r) (is_marked_in f.map i (place_of f p r))
+-- a value of a block of the maps in a note
+pub record NotedAt (those : ℕ → Bool) (anew : Bool) (first last : ℕ) (f : Missed) (m : Meaning) (u b : ℕ) (x : List ℕ) : Type 0 where
+  pub run : Run f.map.unit f.map.first (blocks_of f.map) u b
+  pub so : MapOn f.map m → (p r : ℕ) → p < f.plexes → r < f.stride → MayBe those anew first last p r (has_missed f p r) (marks_with f.map b x (place_of f p r))
 
 -- it stands where it stood, with as many plexes and regions
 pub record SameFmr (old new : Missed) : Type 0 where
@@ -66,9 +67,9 @@ abbrev pub FmrReady : ℕ → ℕ → Option Missed → Meaning → Type 0
 FmrReady set last None m = Unit {0}
 FmrReady set last (Some f) m = FmrHas set last f m
 
-abbrev pub FmrChanging : (ℕ → Bool) → Bool → ℕ → ℕ → Option Missed → Meaning → Says
-FmrChanging those anew first last None m = Anything
-FmrChanging those anew first last (Some f) m = NotingIn those anew first last f m
+abbrev pub FmrAt : (ℕ → Bool) → Bool → ℕ → ℕ → Option Missed → Meaning → Values
+FmrAt those anew first last None m = Nothing
+FmrAt those anew first last (Some f) m = NotedAt those anew first last f m
 
 abbrev pub FmrKeeps : Option Missed → Option Missed → Type 0
 FmrKeeps None None = Unit {0}

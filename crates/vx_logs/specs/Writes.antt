@@ -4,21 +4,21 @@ use Rattle.vx_model.specs.declared.limits.TheConstants.{REGION}
 use Rattle.vx_model.specs.declared.no.No.{No}
 use Rattle.vx_model.specs.declared.no.No.TheVariants as refusal
 use Rattle.vx_bitmap.specs.Bits.{AllAre}
-use Rattle.vx_bitmap.specs.Maps.{MapOn, is_marked_in, regions_of}
+use Rattle.vx_bitmap.specs.Maps.{MapOn, blocks_of, marks_with}
 use Rattle.vx_config.specs.declared.config.Config.{Config}
 use Rattle.vx_disk.specs.Blocks.{bit_at}
 use Rattle.vx_disk.specs.Counts.{Rose}
-use Rattle.vx_disk.specs.Shelf.{Goes, Image, Meaning, Or, Values}
-use Rattle.vx_drl.specs.Dirty.{Dirty, is_dirty}
+use Rattle.vx_disk.specs.Moves.{Run}
+use Rattle.vx_disk.specs.Shelf.{Goes, Meaning, Nothing, Or, Values}
 use Rattle.vx_fmr.specs.Missed.{Missed, has_missed, place_of}
 use Rattle.vx_volume.specs.Plexes.{active}
 use Rattle.vx_volume.specs.Volumes.{AllBut, AllFailed, LastFailed, OnPlexes, PlexWrote}
-use Rattle.vx_logs.specs.Dirtying.{DrlChanging, DrlEnds}
-use Rattle.vx_logs.specs.Held.{LogsStand, OnLogs, stale}
-use Rattle.vx_logs.specs.Noting.{FmrChanging, FmrEnds, SameFmr, is_one, noted}
+use Rattle.vx_logs.specs.Dirtying.{DrlAt, DrlEnds}
+use Rattle.vx_logs.specs.Held.{LogsStand, stale}
+use Rattle.vx_logs.specs.Noting.{FmrAt, FmrEnds, MayBe, SameFmr, is_one, noted}
 use Rattle.vx_logs.specs.declared.logs.Logs.{Logs}
 use Rattle.vx_logs.specs.declared.logs.Lost.{Lost}
-use Rattle.vx_logs.specs.declared.writing.Put.{Put}
+use Rattle.vx_logs.specs.declared.writing.Stored.{Stored}
 use Rattle.vx_logs.specs.declared.writing.Written.{Written}
 use Rattle.vx_logs.specs.declared.writing.Written.TheVariants as outcome
 
@@ -29,10 +29,9 @@ first_region block = block / REGION
 abbrev pub last_region : ℕ → ℕ → ℕ
 last_region block n = (block + n - 1) / REGION
 
--- an image while regions are marked as dirty, and as missed by the plexes that are STALE
-pub record MarkingIn (c : Config) (v first last : ℕ) (l : Logs) (m : Meaning) (i : Image) : Type 0 where
-  pub drl : DrlChanging first last true l.drl m i
-  pub fmr : FmrChanging (stale c v) false first last l.fmr m i
+-- a value of a block of a log while regions are marked: as dirty, and as missed by the plexes that are STALE
+abbrev pub MarkedAt : Config → ℕ → ℕ → ℕ → Logs → Meaning → Values
+MarkedAt c v first last l m = Or (DrlAt first last true l.drl m) (FmrAt (stale c v) false first last l.fmr m)
 
 -- each log has the marks, or is lost, where its disk's count rose; and the logs stand
 pub record Marked (c : Config) (v first last : ℕ) (lost : Lost) (l l' : Logs) (m m' : Meaning) : Type 0 where
@@ -51,17 +50,26 @@ Marks c v first last l l' m m' (Ok lost) = Marked c v first last lost l l' m m'
 Marks c v first last l l' m m' (Err refusal.Down) = IsTrue m'.down
 Marks c v first last l l' m m' (Err other) = ⊥
 
--- an image while plexes are written: the dirty region log is as it was, and so are the maps of all plexes but those that failed
-pub record PuttingIn (c : Config) (v : ℕ) (l : Logs) (m : Meaning) (i : Image) : Type 0 where
-  pub drl : (d : Dirty) → l.drl ≡ Some d → MapOn d.map m → (r : ℕ) → r < regions_of d.map → is_marked_in d.map i r ≡ is_dirty d r
-  pub fmr : (f : Missed) → l.fmr ≡ Some f → MapOn f.map m → (p r : ℕ) → p < f.plexes → r < f.stride → (IsTrue (active c v p) → ⊥) → is_marked_in f.map i (place_of f p r) ≡ has_missed f p r
+-- a value of a block while plexes are written: one of theirs, or one of the maps of plexes that were ACTIVE
+abbrev pub PutAt : Config → ℕ → ℕ → ℕ → List ℕ → Logs → Meaning → Values
+PutAt c v block n bytes l m = Or (OnPlexes c v block n bytes) (FmrAt (active c v) true (first_region block) (last_region block n) l.fmr m)
+
+-- a value of a block of the maps in a write: a plex that is STALE may note its regions, and the map of one that is ACTIVE may begin anew
+pub record WroteAt (c : Config) (v first last : ℕ) (f : Missed) (m : Meaning) (u b : ℕ) (x : List ℕ) : Type 0 where
+  pub run : Run f.map.unit f.map.first (blocks_of f.map) u b
+  pub so : MapOn f.map m → (p r : ℕ) → p < f.plexes → r < f.stride → MayBe (stale c v) false first last p r (has_missed f p r) (marks_with f.map b x (place_of f p r)) ⊎ MayBe (active c v) true first last p r (has_missed f p r) (marks_with f.map b x (place_of f p r))
+
+-- the same, where there is a log
+abbrev pub MapsAt : Config → ℕ → ℕ → ℕ → Option Missed → Meaning → Values
+MapsAt c v first last None m = Nothing
+MapsAt c v first last (Some f) m = WroteAt c v first last f m
 
 -- a plex took the write
 abbrev pub Took : Config → ℕ → ℕ → ℕ → List ℕ → Meaning → Meaning → ℕ → Type 0
 Took c v block n bytes m m' p = PlexWrote c v p block n block n bytes m m'
 
 -- the plexes have the bytes but those that failed, whose maps have the regions of the write alone, or their log is lost
-pub record IsPut (c : Config) (v block n : ℕ) (bytes : List ℕ) (put : Put) (l l' : Logs) (m m' : Meaning) : Type 0 where
+pub record IsPut (c : Config) (v block n : ℕ) (bytes : List ℕ) (put : Stored) (l l' : Logs) (m m' : Meaning) : Type 0 where
   pub plexes : AllBut c v (bit_at put.failed.set) (Took c v block n bytes m m') m m'
   pub disk : LastFailed put.failed m m'
   pub drl : l'.drl ≡ l.drl
@@ -69,16 +77,16 @@ pub record IsPut (c : Config) (v block n : ℕ) (bytes : List ℕ) (put : Put) (
   pub stands : LogsStand l m → LogsStand l' m'
 
 -- each plex failed, and the logs are as they were
-pub record NonePut (c : Config) (v disk : ℕ) (l l' : Logs) (m m' : Meaning) : Type 0 where
+pub record NonePut (c : Config) (v block n : ℕ) (bytes : List ℕ) (disk : ℕ) (l l' : Logs) (m m' : Meaning) : Type 0 where
   pub plexes : AllFailed c v disk m m'
   pub drl : l'.drl ≡ l.drl
   pub fmr : l'.fmr ≡ l.fmr
-  pub stands : LogsStand l m → LogsStand l' m'
+  pub writes : Goes (OnPlexes c v block n bytes) m m'
 
 -- what a write of the plexes answers
-abbrev pub Puts : Config → ℕ → ℕ → ℕ → List ℕ → Logs → Logs → Meaning → Meaning → Result Put No → Type 0
+abbrev pub Puts : Config → ℕ → ℕ → ℕ → List ℕ → Logs → Logs → Meaning → Meaning → Result Stored No → Type 0
 Puts c v block n bytes l l' m m' (Ok put) = IsPut c v block n bytes put l l' m m'
-Puts c v block n bytes l l' m m' (Err (refusal.Device disk)) = NonePut c v disk l l' m m'
+Puts c v block n bytes l l' m m' (Err (refusal.Device disk)) = NonePut c v block n bytes disk l l' m m'
 Puts c v block n bytes l l' m m' (Err refusal.Down) = IsTrue m'.down
 Puts c v block n bytes l l' m m' (Err other) = ⊥
 
@@ -107,10 +115,10 @@ none_lost = record { drl = false; fmr = false }
 pub record WasLost (c : Config) (v first last : ℕ) (lost : Lost) (l l' : Logs) (m m' : Meaning) : Type 0 where
   pub some : (lost.drl ≡ true) ⊎ (lost.fmr ≡ true)
   pub marked : Marked c v first last lost l l' m m'
-  pub goes : Goes (OnLogs l) m m'
+  pub goes : Goes (MarkedAt c v first last l m) m m'
 
 -- The regions were marked, and then the plexes got the bytes.
-pub record WasPut (c : Config) (v block n : ℕ) (bytes : List ℕ) (put : Put) (l l' : Logs) (m m' : Meaning) : Type 0 where
+pub record WasPut (c : Config) (v block n : ℕ) (bytes : List ℕ) (put : Stored) (l l' : Logs) (m m' : Meaning) : Type 0 where
   pub plexes : AllBut c v (bit_at put.failed.set) (Took c v block n bytes m m') m m'
   pub disk : LastFailed put.failed m m'
   pub drl : DrlEnds (first_region block) (last_region block n) false l.drl l'.drl m m'
@@ -124,12 +132,12 @@ pub record NoneTook (c : Config) (v block n disk : ℕ) (l l' : Logs) (m m' : Me
 
 -- what a write answers
 abbrev pub Writes : Config → ℕ → ℕ → ℕ → List ℕ → Logs → Logs → Meaning → Meaning → Result Written No → Type 0
-Writes c v block n bytes l l' m m' (Ok (outcome.Put put)) = WasPut c v block n bytes put l l' m m'
+Writes c v block n bytes l l' m m' (Ok (outcome.Stored put)) = WasPut c v block n bytes put l l' m m'
 Writes c v block n bytes l l' m m' (Ok (outcome.Lost lost)) = WasLost c v (first_region block) (last_region block n) lost l l' m m'
 Writes c v block n bytes l l' m m' (Err (refusal.Device disk)) = NoneTook c v block n disk l l' m m'
 Writes c v block n bytes l l' m m' (Err refusal.Down) = IsTrue m'.down
 Writes c v block n bytes l l' m m' (Err other) = ⊥
 
--- any value in a block of a log, and a block of the write on a plex
-abbrev pub OnAny : Config → ℕ → ℕ → ℕ → List ℕ → Logs → Values
-OnAny c v block n bytes l = Or (OnPlexes c v block n bytes) (OnLogs l)
+-- a value of a block in a write: one of the plexes, of the dirty region log, or of the maps
+pub record WritesAt (c : Config) (v block n : ℕ) (bytes : List ℕ) (l : Logs) (m : Meaning) (u b : ℕ) (x : List ℕ) : Type 0 where
+  pub here : OnPlexes c v block n bytes u b x ⊎ DrlAt (first_region block) (last_region block n) true l.drl m u b x ⊎ MapsAt c v (first_region block) (last_region block n) l.fmr m u b x

@@ -10,4 +10,4 @@ mod sets;
 mod writing;
 
 pub use logs::{Logs, Lost};
-pub use writing::{Put, Written, mark};
+pub use writing::{Stored, Written, mark, put, write};

@@ -1,9 +1,7 @@
 // Marks in the dirty region log of a volume.
-ghost use Rattle.std.specs.Prelude.{◌≤◌};
-ghost use Rattle.vx_disk.specs.Moves.{Moves};
-ghost use Rattle.vx_logs.specs.Dirtying.{DrlAnswers, DrlChanging, DrlHas, DrlHolds, DrlKeeps, DrlWithin};
-ghost use Rattle.vx_logs.specs.Held.{DrlRun};
-ghost use Rattle.std.specs.Prelude.{◌≡◌, true};
+ghost use Rattle.std.specs.Prelude.{◌≡◌, ◌≤◌, true};
+ghost use Rattle.vx_disk.specs.Shelf.{Goes};
+ghost use Rattle.vx_logs.specs.Dirtying.{DrlAnswers, DrlAt, DrlHas, DrlHolds, DrlKeeps, DrlWithin};
 
 use vx_disk::Shelf;
 use vx_drl::Drl;
@@ -21,7 +19,7 @@ pub(crate) fn mark_dirty<S: Shelf>(
 ) -> Result<bool, No>
     requires has { DrlHas last drl.old (S.meaning shelf.old) }
     requires some { first ≤ last }
-    ensures moves { Moves (DrlRun drl.old) (DrlChanging first last true drl.old (S.meaning shelf.old)) (S.meaning shelf.old) (S.meaning shelf.new) }
+    ensures writes { Goes (DrlAt first last true drl.old (S.meaning shelf.old)) (S.meaning shelf.old) (S.meaning shelf.new) }
     ensures answers { DrlAnswers first last drl.old drl.new (S.meaning shelf.old) (S.meaning shelf.new) result }
     ensures keeps { DrlKeeps drl.old drl.new }
     ensures within { DrlWithin first last drl.old drl.new }

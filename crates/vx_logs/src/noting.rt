@@ -1,12 +1,11 @@
 // Notes in the maps of missed regions of a volume.
-ghost use Rattle.std.specs.Prelude.{◌≡◌, ◌≤◌, ◌<◌, IfErr, OnOk, Some, false, true};
+ghost use Rattle.std.specs.Prelude.{◌≡◌, ◌≤◌, ◌<◌, IfErr, OnOk, false, true};
 ghost use Rattle.vx_bitmap.specs.Bits.{AllAre};
 ghost use Rattle.vx_bitmap.specs.Maps.{UnitCause};
 ghost use Rattle.vx_disk.specs.Causes.{DeviceCause};
-ghost use Rattle.vx_disk.specs.Moves.{Moves};
+ghost use Rattle.vx_disk.specs.Shelf.{Goes};
 ghost use Rattle.vx_fmr.specs.Missed.{has_missed};
-ghost use Rattle.vx_logs.specs.Held.{FmrRun};
-ghost use Rattle.vx_logs.specs.Noting.{FmrAnswers, FmrChanging, FmrHas, FmrKeeps, FmrNoted, FmrReady, FmrStill, IsMap, IsStill, NotingIn, SameFmr, alone, is_one};
+ghost use Rattle.vx_logs.specs.Noting.{FmrAnswers, FmrAt, FmrHas, FmrKeeps, FmrNoted, FmrReady, FmrStill, IsMap, IsStill, NotedAt, SameFmr, alone, is_one};
 
 use crate::sets::is_in;
 use vx_disk::Shelf;
@@ -26,7 +25,7 @@ fn note_one<S: Shelf>(
     requires has { IsMap last map.old (S.meaning shelf.old) }
     requires exists { plex < map.old.plexes }
     requires some { first ≤ last }
-    ensures moves { Moves (FmrRun (Some map.old)) (NotingIn (alone plex) anew first last map.old (S.meaning shelf.old)) (S.meaning shelf.old) (S.meaning shelf.new) }
+    ensures writes { Goes (NotedAt (alone plex) anew first last map.old (S.meaning shelf.old)) (S.meaning shelf.old) (S.meaning shelf.new) }
     ensures ok { OnOk result (FmrNoted (alone plex) anew first last map.old map.new (S.meaning shelf.old) (S.meaning shelf.new)) }
     ensures same { SameFmr map.old map.new }
     ensures unit { UnitCause map.old.map.unit (S.meaning shelf.old) (S.meaning shelf.new) result }
@@ -53,7 +52,7 @@ fn note_plexes<S: Shelf>(
 ) -> Result<(), No>
     requires has { FmrHas set last map.old (S.meaning shelf.old) }
     requires some { first ≤ last }
-    ensures moves { Moves (FmrRun (Some map.old)) (NotingIn (is_one set) anew first last map.old (S.meaning shelf.old)) (S.meaning shelf.old) (S.meaning shelf.new) }
+    ensures writes { Goes (NotedAt (is_one set) anew first last map.old (S.meaning shelf.old)) (S.meaning shelf.old) (S.meaning shelf.new) }
     ensures ok { OnOk result (FmrNoted (is_one set) anew first last map.old map.new (S.meaning shelf.old) (S.meaning shelf.new)) }
     ensures same { SameFmr map.old map.new }
     ensures unit { UnitCause map.old.map.unit (S.meaning shelf.old) (S.meaning shelf.new) result }
@@ -85,7 +84,7 @@ pub(crate) fn note_missed<S: Shelf>(
 ) -> Result<bool, No>
     requires ready { FmrReady set last fmr.old (S.meaning shelf.old) }
     requires some { first ≤ last }
-    ensures moves { Moves (FmrRun fmr.old) (FmrChanging (is_one set) anew first last fmr.old (S.meaning shelf.old)) (S.meaning shelf.old) (S.meaning shelf.new) }
+    ensures writes { Goes (FmrAt (is_one set) anew first last fmr.old (S.meaning shelf.old)) (S.meaning shelf.old) (S.meaning shelf.new) }
     ensures answers { FmrAnswers (is_one set) anew first last fmr.old fmr.new (S.meaning shelf.old) (S.meaning shelf.new) result }
     ensures keeps { FmrKeeps fmr.old fmr.new }
     ensures nothing { FmrStill set anew first last fmr.old → shelf.new ≡ shelf.old }
