@@ -1,5 +1,6 @@
 pub mod NoteLemmas
 pub mod PlexesLemmas
+pub mod LoadLemmas
 pub mod LogLemmas
 pub mod MarkLemmas
 pub mod PutLemmas

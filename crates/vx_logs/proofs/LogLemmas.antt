@@ -63,7 +63,7 @@ set_is c sound v set those p = elim (cases_lt p 8) [
 
 -- ---- where a log lies
 
-holds_of : (ds : List DiskEntry) (m : Meaning) → DisksFit ds m → HoldDisks ds m
+pub holds_of : (ds : List DiskEntry) (m : Meaning) → DisksFit ds m → HoldDisks ds m
 holds_of ds m fit = record {
   there = λ u d at. fit.there u (slice_get_within ds u d at);
   size = λ u d at. let size : m.size u ≡ d.blocks = fit.size u (slice_get_within ds u d at) ∙ ap blocks_or at in omega (arith, size);

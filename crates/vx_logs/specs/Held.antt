@@ -1,15 +1,15 @@
 -- The logs of a volume in memory, and what they have to do with a configuration and a shelf.
-use Rattle.std.specs.Prelude.{◌≡◌, ◌⊎◌, ℕ, ◌+◌, ◌/◌, ◌%◌, Bool, true, false, Option, Some, None}
+use Rattle.std.specs.Prelude.{◌≡◌, ◌⊎◌, ℕ, ◌+◌, ◌/◌, ◌%◌, Bool, true, false, not, Option, Some, None}
 use Rattle.vx_model.specs.Sizes.{regions_of as regions_in}
 use Rattle.vx_bitmap.specs.Bits.{is_marked}
-use Rattle.vx_bitmap.specs.Maps.{MapOn, blocks_of}
+use Rattle.vx_bitmap.specs.Maps.{IsRead, MapOn, blocks_of}
 use Rattle.vx_config.specs.Checks.{blocks_of as blocks_in, is_stale}
 use Rattle.vx_config.specs.declared.config.Config.{Config}
 use Rattle.vx_config.specs.declared.entry.LogEntry.{LogEntry}
 use Rattle.vx_config.specs.declared.entry.PlexEntry.{PlexEntry}
 use Rattle.vx_config.specs.declared.entry.VolumeLog.{VolumeLog}
 use Rattle.vx_config.specs.declared.entry.VolumeLog.TheVariants.{Drl as DrlLog, Fmr as FmrLog}
-use Rattle.vx_disk.specs.Moves.{Blocks, Nowhere, Run}
+use Rattle.vx_disk.specs.Moves.{Blocks, Nowhere, Run, Settled}
 use Rattle.vx_disk.specs.Shelf.{Image, Meaning}
 use Rattle.vx_drl.specs.Dirty.{Dirty}
 use Rattle.vx_fmr.specs.Missed.{FmrLoaded, Missed}
@@ -67,3 +67,23 @@ FmrRun (Some f) = Run f.map.unit f.map.first (blocks_of f.map)
 -- the blocks of the logs
 pub record LogsRun (l : Logs) (u b : ℕ) : Type 0 where
   pub here : DrlRun l.drl u b ⊎ FmrRun l.fmr u b
+
+abbrev pub used_or : Option LogEntry → Bool
+used_or None = false
+used_or (Some e) = not e.lost
+
+-- whether a configuration has a log and does not hold it as lost
+abbrev pub is_used : Config → ℕ → VolumeLog → Bool
+is_used c v log = used_or (log_of c v log)
+
+-- what was read of a dirty region log: none where none is in use, and else that one, which stands where a crash leaves one value at most
+abbrev pub DrlFound : Config → ℕ → Option Dirty → Meaning → Meaning → Type 0
+DrlFound c v None m m' = is_used c v DrlLog ≡ false
+DrlFound c v (Some d) m m' =
+    (is_used c v DrlLog ≡ true) × DrlFits c v d × IsRead d.map m × (Settled m (Run d.map.unit d.map.first (blocks_of d.map)) → MapOn d.map m')
+
+-- the same of a log of missed regions
+abbrev pub FmrFound : Config → ℕ → Option Missed → Meaning → Meaning → Type 0
+FmrFound c v None m m' = is_used c v FmrLog ≡ false
+FmrFound c v (Some f) m m' =
+    (is_used c v FmrLog ≡ true) × FmrLoaded c v f × IsRead f.map m × (Settled m (Run f.map.unit f.map.first (blocks_of f.map)) → MapOn f.map m')
