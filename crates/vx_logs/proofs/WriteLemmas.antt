@@ -246,9 +246,9 @@ module _ (c : Config) (sound : is_sound c ≡ true) (v block n : ℕ) (bytes : L
         let few : place_of now.new p r < regions_of now.new.map = omega (arith, narrow, before p now.new.plexes now.new.stride lt, kept.all) in
         let block_low : place_of now.new p r / 4096 < blocks_of now.new.map = omega (arith, few, fits.log.run.long) in
         let is : has_missed now.new p r ≡ true =
-            now.noted.notes.each p r (omega (arith, lt, now.noted.same.shape.plexes)) (omega (arith, narrow, now.noted.same.shape.stride))
-            ∙ ap (λ (t : Bool). if t then noted false (first_region block) (last_region block n) r (has_missed f.0 p r) else has_missed f.0 p r) stale_is
-            ∙ ap (λ (t : Bool). t || (true && has_missed f.0 p r)) (among_is (first_region block) (last_region block n) r low high) in
+        now.noted.notes.each p r (omega (arith, lt, now.noted.same.shape.plexes)) (omega (arith, narrow, now.noted.same.shape.stride))
+        ∙ ap (λ (t : Bool). if t then noted false (first_region block) (last_region block n) r (has_missed f.0 p r) else has_missed f.0 p r) stale_is
+        ∙ ap (λ (t : Bool). t || (true && has_missed f.0 p r)) (among_is (first_region block) (last_region block n) r low high) in
         let stands = now.noted.stands (stand.fmr f.0 f.1) in
         ap (λ (s : ℕ). logged_in e i (p * s + r)) (sym fits.stride) ∙ sym (same_log e now.new.map i (place_of now.new p r) disk start)
         ∙ map_marked now.new.map m1 i (place_of now.new p r) stands block_low is (value now.new now.is p r stale_is stands lt narrow block_low is)
@@ -305,11 +305,14 @@ module _ (c : Config) (sound : is_sound c ≡ true) (v block n : ℕ) (bytes : L
     took_from marks fits fit p is_on up took = record {
       each = λ k x in_it is. elim (took.each k x in_it is) [
         | inl put ↦ inl put
-        | inr out ↦ inr (out.0, elim (marks.reads (place c v p k).0 (place c v p k).1 x out.1) [
-          | inl (inl was) ↦ was
-          | inl (inr at) ↦ absurd (off_logs c sound v some l fits m fit p k (place c v p k).0 (place c v p k).1 in_it is_on refl (marked_run c v (first_region block) (last_region block n) l m (place c v p k).0 (place c v p k).1 x at))
-          | inr down ↦ absurd (up down)
-        ])
+        | inr out ↦ inr (
+          out.0,
+          elim (marks.reads (place c v p k).0 (place c v p k).1 x out.1) [
+            | inl (inl was) ↦ was
+            | inl (inr at) ↦ absurd (off_logs c sound v some l fits m fit p k (place c v p k).0 (place c v p k).1 in_it is_on refl (marked_run c v (first_region block) (last_region block n) l m (place c v p k).0 (place c v p k).1 x at))
+            | inr down ↦ absurd (up down)
+          ],
+        )
       ];
     }
 

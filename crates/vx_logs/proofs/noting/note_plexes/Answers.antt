@@ -21,14 +21,16 @@ loop-plex-preserved g c =
     let few : c.loop-plex.plex < 8 = omega (arith, c.loop-plex-test.true) in
     elim c.if-is_in.branch [
       | then-is_in+in-Ok w ↦
-          rw (w.map-is, w.shelf-is)
-          (notes_next c.loop-plex.plex c.args.set c.args.anew c.args.first c.args.last c.args.map.now c.loop-plex.map (g.S.Shelf.meaning c.args.shelf.now) (g.S.Shelf.meaning c.loop-plex.shelf) c.loop-plex.invariant.0 few (sym c.is_in.ensures ∙ w.if-is_in.true)
-          w.note_one.new.map (g.S.Shelf.meaning w.note_one.new.shelf) w.note_one.ensures.writes w.in-Ok.ensures.ok w.in-Ok.ensures.unit,
-          λ all.
-          let it = still_there c.loop-plex.plex c.args.set c.args.anew c.args.first c.args.last c.args.map.now c.loop-plex.map (g.S.Shelf.meaning c.args.shelf.now) (g.S.Shelf.meaning c.loop-plex.shelf) c.requires.has c.loop-plex.invariant.0 few (sym c.is_in.ensures ∙ w.if-is_in.true) all in
-          w.note_one.ensures.nothing it.0 it.1 ∙ c.loop-plex.invariant.1 all)
+          rw (w.map-is, w.shelf-is) (
+            notes_next c.loop-plex.plex c.args.set c.args.anew c.args.first c.args.last c.args.map.now c.loop-plex.map (g.S.Shelf.meaning c.args.shelf.now) (g.S.Shelf.meaning c.loop-plex.shelf) c.loop-plex.invariant.0 few (sym c.is_in.ensures ∙ w.if-is_in.true)
+                w.note_one.new.map (g.S.Shelf.meaning w.note_one.new.shelf) w.note_one.ensures.writes w.in-Ok.ensures.ok w.in-Ok.ensures.unit,
+            λ all.
+                let it = still_there c.loop-plex.plex c.args.set c.args.anew c.args.first c.args.last c.args.map.now c.loop-plex.map (g.S.Shelf.meaning c.args.shelf.now) (g.S.Shelf.meaning c.loop-plex.shelf) c.requires.has c.loop-plex.invariant.0 few (sym c.is_in.ensures ∙ w.if-is_in.true) all in
+                w.note_one.ensures.nothing it.0 it.1 ∙ c.loop-plex.invariant.1 all,
+          )
       | else-is_in w ↦
-          rw (w.map-is, w.shelf-is)
-          (notes_pass c.loop-plex.plex c.args.set c.args.anew c.args.first c.args.last c.args.map.now c.loop-plex.map (g.S.Shelf.meaning c.args.shelf.now) (g.S.Shelf.meaning c.loop-plex.shelf) c.loop-plex.invariant.0 few (sym c.is_in.ensures ∙ w.if-is_in.false),
-          c.loop-plex.invariant.1)
+          rw (w.map-is, w.shelf-is) (
+            notes_pass c.loop-plex.plex c.args.set c.args.anew c.args.first c.args.last c.args.map.now c.loop-plex.map (g.S.Shelf.meaning c.args.shelf.now) (g.S.Shelf.meaning c.loop-plex.shelf) c.loop-plex.invariant.0 few (sym c.is_in.ensures ∙ w.if-is_in.false),
+            c.loop-plex.invariant.1,
+          )
     ]
