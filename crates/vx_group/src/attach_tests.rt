@@ -9,7 +9,7 @@ use vx_copyio::are_large;
 use vx_disk::{MemShelf, Rack, Shelf};
 use vx_model::OutOfMemory;
 
-fn att<S: Shelf>(group: &mut Group<S>, volume: u32, plex: u32) -> Told {
+pub fn att<S: Shelf>(group: &mut Group<S>, volume: u32, plex: u32) -> Told {
     match group.att(volume, plex) {
         Ok(regions) => Told::Attached(regions),
         Err(stop) => told_of(stop),

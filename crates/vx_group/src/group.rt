@@ -18,6 +18,7 @@ ghost use Rattle.vx_group.specs.Creates.{GroupCreated};
 ghost use Rattle.vx_group.specs.GivesUp.{GivesUp};
 ghost use Rattle.vx_group.specs.Imports.{GroupImported};
 ghost use Rattle.vx_group.specs.Laws.{group_lawful};
+ghost use Rattle.vx_group.specs.Regains.{HoldsPlex, Regains};
 ghost use Rattle.vx_group.specs.Resumes.{CanImport};
 ghost use Rattle.vx_group.specs.Stands.{Stands, meaning_of};
 
@@ -122,7 +123,8 @@ impl<S: Shelf> Group<S> {
     }
 
     /// Attaches a plex, and answers how many regions were copied: all of the volume, and none where the plex is ACTIVE already; then nothing
-    /// changes. Each volume reads as before, at every moment and in every image.
+    /// changes. Each volume reads as before, at every moment and in every image. Disks of the plex that are held as failed are held as good
+    /// first, by a commit of their own.
     ///
     /// Answers 1 exactly where there is no such volume or plex, else 19 exactly where fewer than 65,536 serials are left, and then nothing
     /// has changed; else 7 only where the count of the disk that it names rose, and 6 only where the shelf is then down. Then the plex is
@@ -134,6 +136,8 @@ impl<S: Shelf> Group<S> {
         ensures count { active self.old.core.config vol plex ≡ false → IfOk result (λ n. n ≡ copied_regions self.old.core.config vol) }
         ensures attaches { Attaches vol plex self.old.core self.new.core (S.meaning self.old.shelf) (S.meaning self.new.shelf) }
         ensures ends { active self.old.core.config vol plex ≡ false → AttachEnds vol plex self.new.core (S.meaning self.new.shelf) result }
+        ensures regains { Regains self.old.core.config self.new.core.config vol plex (S.meaning self.old.shelf) (S.meaning self.new.shelf) }
+        ensures held { active self.old.core.config vol plex ≡ false → OnOk result (HoldsPlex self.old.core.config self.new.core.config vol plex (S.meaning self.old.shelf) (S.meaning self.new.shelf)) }
         ensures cause { att_refusal self.old.core.config vol plex ≡ None → DetStops (S.meaning self.old.shelf) (S.meaning self.new.shelf) result }
     {
         att_in(&mut self.shelf, &mut self.core, vol, plex)

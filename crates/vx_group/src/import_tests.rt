@@ -41,7 +41,7 @@ fn refused(told: Told) -> Given {
     }
 }
 
-fn failed_disk(config: &Config) -> Option<usize> {
+pub fn failed_disk(config: &Config) -> Option<usize> {
     let disks = config.disks.as_slice();
     for k in 0..disks.len() {
         if disks[k].failed {
@@ -74,7 +74,7 @@ fn group_on(alloc: Global, shelf: Disks) -> Result<Group<Disks>, OutOfMemory> {
     }
 }
 
-fn revived(disks: MemShelf) -> Disks {
+pub fn revived(disks: MemShelf) -> Disks {
     let mut disks = disks;
     if disks.is_down() {
         disks.revive();
@@ -115,7 +115,7 @@ fn import(alloc: Global, shelf: Disks, volume: usize) -> (Disks, Given) {
 }
 
 // What two reads of a block give behind an import.
-fn reads(alloc: Global, shelf: Disks, volume: u32, block: u64) -> (Told, Told) {
+pub fn reads(alloc: Global, shelf: Disks, volume: u32, block: u64) -> (Told, Told) {
     match Group::import(alloc, shelf) {
         Ok(group) => {
             let mut group = group;

@@ -23,6 +23,7 @@ mod mending;
 mod planning;
 mod quiescing;
 mod reading;
+mod regaining;
 mod settling;
 mod shaping;
 mod taking;
@@ -36,6 +37,8 @@ pub use group_core::GroupCore;
 mod attach_tests;
 #[cfg(test)]
 mod import_tests;
+#[cfg(test)]
+mod regain_tests;
 #[cfg(test)]
 mod tests;
 #[cfg(test)]
