@@ -8,6 +8,7 @@ pub mod ReadyLemmas
 pub mod RegainLemmas
 pub mod CreateLemmas
 pub mod DetLemmas
+pub mod LoseLemmas
 pub mod CopyLemmas
 pub mod QuiesceLemmas
 pub mod DeportLemmas

@@ -17,4 +17,5 @@ pub mod Imports
 pub mod GivesUp
 pub mod Attaches
 pub mod Regains
+pub mod Loses
 pub mod Untold

@@ -11,7 +11,7 @@ ghost use Rattle.vx_group.specs.Stands.{Stands};
 ghost use Rattle.vx_disk.specs.Blocks.{bit_at};
 ghost use Rattle.vx_kept.specs.Commits.{IsCommitted};
 ghost use Rattle.vx_kept.specs.States.{AreOn, SomeLeft};
-ghost use Rattle.vx_volume.specs.Plexes.{active};
+ghost use Rattle.vx_volume.specs.Plexes.{active, uses};
 
 use crate::GroupCore;
 use vx_config::Disks;
@@ -62,6 +62,7 @@ pub fn detach<S: Shelf>(
     ensures off { OnOk result (AreOff core.new.config vol failed.set) }
     ensures others { (w p : ℕ) → (w ≡ vol → bit_at failed.set p ≡ true → ⊥) → active core.new.config w p ≡ active core.old.config w p }
     ensures settled { OnOk result (core.new.unsettled ≡ false) }
+    ensures lies { (w p u : ℕ) → uses core.new.config w p u ≡ uses core.old.config w p u }
     ensures parts { OnOk result (SameParts core.old.config core.new.config) }
     ensures failing { MoreFailed (S.meaning shelf.old) (S.meaning shelf.new) core.old.config.disks core.new.config.disks }
     ensures few { OnOk result (core.new.config.serial ≤ core.old.config.serial + 1 + length core.old.config.disks) }

@@ -1,11 +1,12 @@
 // A group as a shelf.
-ghost use Rattle.std.specs.Prelude.{◌≡◌, ◌<◌, ◌≤◌, ◌-◌, false, IfOk, IfSome, IsTrue, Some, None, Ok, Err, OnOk, length};
+ghost use Rattle.std.specs.Prelude.{◌≡◌, ◌<◌, ◌≤◌, ◌-◌, false, IfOk, IfSome, IsTrue, Some, None, Ok, Err, OnOk, length, ℕ};
 ghost use Rattle.vx_disk.specs.Causes.{Calls, Cause, Names, OnDisks, Works};
 ghost use Rattle.vx_disk.specs.Shelf.{DisksFlushed, DisksWrote, Fits, Flushed, Goes, Nothing, Written, Wrote};
 ghost use Rattle.vx_config.specs.Table.{greatest};
 ghost use Rattle.vx_group.specs.Attaches.{AttachEnds, Attaches, att_refusal, copied_regions};
 ghost use Rattle.vx_group.specs.Deports.{DeportStops, GroupDeported, IsFull};
 ghost use Rattle.vx_group.specs.Dets.{DetStops, det_refusal, margin};
+ghost use Rattle.vx_group.specs.Loses.{Loses};
 ghost use Rattle.vx_group.specs.Makes.{MakeEnds, StayAsWere, Unmoved, make_refusal};
 ghost use Rattle.vx_group.specs.Moves.{Narrows};
 ghost use Rattle.vx_model.specs.declared.no.No.{No as NoValue};
@@ -117,6 +118,7 @@ impl<S: Shelf> Group<S> {
         ensures goes { Goes Nothing (meaning_of self.old.core (S.meaning self.old.shelf)) (meaning_of self.new.core (S.meaning self.new.shelf)) }
         ensures narrows { Narrows self.old.core self.new.core (S.meaning self.old.shelf) (S.meaning self.new.shelf) }
         ensures off { OnOk result (active self.new.core.config vol plex ≡ false) }
+        ensures others { (w p : ℕ) → (w ≡ vol → p ≡ plex → ⊥) → active self.new.core.config w p ≡ active self.old.core.config w p }
         ensures cause { det_refusal self.old.core.config vol plex ≡ None → DetStops (S.meaning self.old.shelf) (S.meaning self.new.shelf) result }
     {
         det_in(&mut self.shelf, &mut self.core, vol, plex)
@@ -209,6 +211,7 @@ impl<S: Shelf> Shelf for Group<S> {
         ensures works { OnOk result (Works (meaning_of self.old.core (S.meaning self.old.shelf)).disks unit) }
         ensures disks { OnDisks (meaning_of self.old.core (S.meaning self.old.shelf)).disks (meaning_of self.new.core (S.meaning self.new.shelf)).disks (λ o n. Calls (meaning_of self.old.core (S.meaning self.old.shelf)) (DisksWrote unit block bytes.now) o n result) }
         ensures gave_up { GivesUp unit self.old.core self.new.core (S.meaning self.old.shelf) (S.meaning self.new.shelf) result }
+        ensures loses { Loses self.old.core.config self.new.core.config (S.meaning self.old.shelf) (S.meaning self.new.shelf) }
     {
         write_in(&mut self.shelf, &mut self.core, unit, block, bytes)
     }
@@ -223,6 +226,7 @@ impl<S: Shelf> Shelf for Group<S> {
         ensures works { OnOk result (Works (meaning_of self.old.core (S.meaning self.old.shelf)).disks unit) }
         ensures disks { OnDisks (meaning_of self.old.core (S.meaning self.old.shelf)).disks (meaning_of self.new.core (S.meaning self.new.shelf)).disks (λ o n. Calls (meaning_of self.old.core (S.meaning self.old.shelf)) (DisksFlushed unit) o n result) }
         ensures gave_up { GivesUp unit self.old.core self.new.core (S.meaning self.old.shelf) (S.meaning self.new.shelf) result }
+        ensures loses { Loses self.old.core.config self.new.core.config (S.meaning self.old.shelf) (S.meaning self.new.shelf) }
     {
         flush_in(&mut self.shelf, &mut self.core, unit)
     }

@@ -3,6 +3,8 @@ use Rattle.vx_disk.specs.declared.shelf.ShelfError.{ShelfError}
 use Rattle.vx_kept.specs.States.{staled}
 use Rattle.vx_kept.proofs.StateLemmas.{is_staled}
 use Rattle.vx_group.specs.Blames.{Blames, BlamesOr}
+use Rattle.vx_group.proofs.LoseLemmas.{staled_lies}
+use Rattle.vx_group.proofs.UsesLemmas.{uses_volumes}
 use Rattle.vx_group.proofs.CallLemmas.{not_down}
 use Rattle.vx_group.proofs.DetachLemmas.{left_Narrows, left_Stands, left_others, staled_less, staled_some, stop_blames, stop_sure, taken_Narrows, taken_Stands, taken_off, taken_others}
 use Rattle.vx_group.proofs.FailingLemmas.{failing_from, few_serial, no_failing}
@@ -105,3 +107,19 @@ pub returns-else-is_down-clause-few : goal.returns-else-is_down-clause-few
 returns-else-is_down-clause-few g c =
     let was = is_staled c.args.vol c.args.failed.set 8 c.args.core.now.config in
     few_serial c.args.core.now.config (staled c.args.vol c.args.failed.set c.args.core.now.config 8) c.commit_stale.new.config was.serial was.disks c.in-Ok.ensures.ends.few
+
+pub returns-then-is_down-clause-lies : goal.returns-then-is_down-clause-lies
+returns-then-is_down-clause-lies g c =
+    staled_lies c.args.vol c.args.failed.set c.args.core.now.config c.commit_stale.new.config c.in-Ok.ensures.ends.grown.volumes
+
+pub returns-else-is_down-clause-lies : goal.returns-else-is_down-clause-lies
+returns-else-is_down-clause-lies g c =
+    staled_lies c.args.vol c.args.failed.set c.args.core.now.config c.commit_stale.new.config c.in-Ok.ensures.ends.grown.volumes
+
+pub returns-then-is_down-2-clause-lies : goal.returns-then-is_down-2-clause-lies
+returns-then-is_down-2-clause-lies g c =
+    uses_volumes c.args.core.now.config c.commit_stale.new.config c.in-Err.ensures.ends.volumes
+
+pub returns-else-is_down-2-clause-lies : goal.returns-else-is_down-2-clause-lies
+returns-else-is_down-2-clause-lies g c =
+    uses_volumes c.args.core.now.config c.commit_stale.new.config c.in-Err.ensures.ends.volumes
