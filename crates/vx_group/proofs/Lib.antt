@@ -31,4 +31,3 @@ pub mod AttachLemmas
 pub mod UsesLemmas
 pub mod SourcesLemmas
 pub mod GiveLemmas
-pub mod UntoldLemmas

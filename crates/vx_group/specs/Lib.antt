@@ -18,4 +18,3 @@ pub mod GivesUp
 pub mod Attaches
 pub mod Regains
 pub mod Loses
-pub mod Untold

@@ -1,3 +1,3 @@
 use Rattle.vx_disk.specs.Shelf.{Nothing}
 use Rattle.vx_group.proofs.Standing.{low_Stands}
-use Rattle.vx_group.proofs.regain_tests.failing.Goals as goal
+use Rattle.vx_group_rows.proofs.regains.failing.Goals as goal

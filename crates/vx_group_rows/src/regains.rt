@@ -1,19 +1,20 @@
 // A disk that fails, is held as failed, works again, and comes back with the plex on it.
-use super::*;
-use crate::attach_tests::att;
-use crate::import_tests::{failed_disk, reads, revived};
-use crate::volume_tests::{Told, det, get, group_of, make, plain, put, state};
+use crate::attaches::att;
+use crate::imports::{failed_disk, reads, revived};
+use crate::volumes::{Told, det, get, group_of, make, plain, put, state};
 use std::alloc::Global;
 use std::test::*;
 use vx_config::{Config, PlexState};
 use vx_disk::{MemShelf, Rack, Shelf};
+use vx_group::Group;
 
 // The group with one of its disks made to fail, or working again.
 fn failing(group: Group<MemShelf>, disk: u32, on: bool) -> Group<MemShelf> {
     let (mut shelf, core) = group.apart();
-    if disk < shelf.units() {
-        shelf.fail(disk, on);
+    if disk >= shelf.units() {
+        return Group::together(shelf, core);
     }
+    shelf.fail(disk, on);
     Group::together(shelf, core)
 }
 
