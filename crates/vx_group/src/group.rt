@@ -4,7 +4,7 @@ ghost use Rattle.vx_disk.specs.Causes.{Calls, Cause, Names, OnDisks, Works};
 ghost use Rattle.vx_disk.specs.Shelf.{DisksFlushed, DisksWrote, Fits, Flushed, Goes, Nothing, Written, Wrote};
 ghost use Rattle.vx_config.specs.Table.{greatest};
 ghost use Rattle.vx_group.specs.Attaches.{AttachEnds, Attaches, att_refusal, copied_regions};
-ghost use Rattle.vx_group.specs.Deports.{DeportStops, GroupDeported, IsFull};
+ghost use Rattle.vx_group.specs.Deports.{DeportStops, GroupCanImport, GroupDeported, IsFull};
 ghost use Rattle.vx_group.specs.Dets.{DetStops, det_refusal, margin};
 ghost use Rattle.vx_group.specs.Loses.{Loses};
 ghost use Rattle.vx_group.specs.Makes.{MakeEnds, StayAsWere, Unmoved, make_refusal};
@@ -156,6 +156,7 @@ impl<S: Shelf> Group<S> {
     pub fn deport(self) -> Result<S, (Group<S>, Stop)>
         ensures limit { greatest - margin < self.core.config.serial → IsFull self.core self.shelf (λ g. g.core) (λ g. g.shelf) result }
         ensures ends { GroupDeported self.core (S.meaning self.shelf) (λ s. S.meaning s) (λ g. g.core) (λ g. g.shelf) result }
+        ensures can { GroupCanImport (λ s. S.meaning s) result }
         ensures cause { self.core.config.serial ≤ greatest - margin → DeportStops (S.meaning self.shelf) (λ s. S.meaning s) (λ g. g.shelf) result }
     {
         let mut shelf = self.shelf;
