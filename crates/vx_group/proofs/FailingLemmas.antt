@@ -92,8 +92,8 @@ pub wanted_flags : (units : ℕ) (size : ℕ → ℕ) (c d : Config) → length 
     → is_wanted units size c ≡ true → is_wanted units size d ≡ true
 wanted_flags units size c d count blocks volumes rvg wanted =
     let sound : is_sound d ≡ is_sound c =
-        ap (λ (vs : List VolumeEntry). is_sound (parts d.serial d.site d.disks vs d.rvg)) volumes ∙ ap (λ (r : Option Units). is_sound (parts d.serial d.site d.disks c.volumes r)) rvg
-        ∙ sound_same c d.serial d.site d.disks count blocks in
+    ap (λ (vs : List VolumeEntry). is_sound (parts d.serial d.site d.disks vs d.rvg)) volumes ∙ ap (λ (r : Option Units). is_sound (parts d.serial d.site d.disks c.volumes r)) rvg
+    ∙ sound_same c d.serial d.site d.disks count blocks in
     ap (λ (b : Bool). b && fits_units units size d) sound
     ∙ ap (λ (n : ℕ). is_sound c && ((n == units) && have_blocks size 0 d.disks)) count
     ∙ ap (λ (b : Bool). is_sound c && ((length c.disks == units) && b)) (have_same size 0 d.disks c.disks count blocks)

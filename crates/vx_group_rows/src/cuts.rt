@@ -14,7 +14,12 @@ const BEFORE: u64 = 34;
 
 // A volume of 16 blocks on two disks, one block of it written and flushed. These calls of the disks fail, and they fall after so many writes
 // and flushes more.
-fn volume(alloc: Global, fails: &[u64], calls: u64, pick: u64) -> Result<Group<Disks>, OutOfMemory> {
+fn volume(
+    alloc: Global,
+    fails: &[u64],
+    calls: u64,
+    pick: u64,
+) -> Result<Group<Disks>, OutOfMemory> {
     let mut disks = disks_of(alloc, fails, 2, 1024)?.shelf;
     disks.fuse(BEFORE + calls, pick);
     let mut group = group_on(alloc, Untold { shelf: disks })?;
@@ -71,10 +76,7 @@ fn each_call_of_a_write_with_its_commit_is_cut(rt: HostRuntime) -> Result<(), Fa
             let mut group = volume(alloc, &[44], calls, pick)?;
             let answer = if calls < 10 { Told::Down } else { Told::Done };
             assert_eq!(rt; put(&mut group, 0, 3, 0x22), answer);
-            assert_eq!(rt;
-                behind(alloc, group, pick),
-                (block, block, calls < header)
-            );
+            assert_eq!(rt; behind(alloc, group, pick), (block, block, calls < header));
         }
     }
     Ok(())
@@ -89,10 +91,7 @@ fn each_call_of_a_detach_is_cut(rt: HostRuntime) -> Result<(), Fail> {
             let mut group = volume(alloc, &[], calls, pick)?;
             let answer = if calls < 8 { Told::Down } else { Told::Done };
             assert_eq!(rt; det(&mut group, 0, 1), answer);
-            assert_eq!(rt;
-                behind(alloc, group, pick),
-                (block, block, calls < header)
-            );
+            assert_eq!(rt; behind(alloc, group, pick), (block, block, calls < header));
         }
     }
     Ok(())

@@ -52,7 +52,12 @@ pub fn failed_disk(config: &Config) -> Option<usize> {
 }
 
 /// So many disks of so many blocks, of which these calls fail.
-pub fn disks_of(alloc: Global, fails: &[u64], disks: u32, blocks: u64) -> Result<Disks, OutOfMemory> {
+pub fn disks_of(
+    alloc: Global,
+    fails: &[u64],
+    disks: u32,
+    blocks: u64,
+) -> Result<Disks, OutOfMemory> {
     let mut shelf = match MemShelf::new(alloc, fails) {
         Ok(shelf) => shelf,
         Err(_) => return Err(OutOfMemory),
@@ -74,7 +79,7 @@ pub fn group_on(alloc: Global, shelf: Disks) -> Result<Group<Disks>, OutOfMemory
     }
 }
 
-pub fn revived(disks: MemShelf) -> Disks {
+fn revived(disks: MemShelf) -> Disks {
     let mut disks = disks;
     if disks.is_down() {
         disks.revive();

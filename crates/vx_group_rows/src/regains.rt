@@ -1,21 +1,23 @@
 // A disk that fails, is held as failed, works again, and comes back with the plex on it.
 use crate::attaches::att;
-use crate::imports::{failed_disk, reads, revived};
+use crate::imports::{Disks, crashed, disks_of, failed_disk, group_on, reads};
+use crate::untold::Untold;
 use crate::volumes::{Told, det, get, group_of, make, plain, put, state};
 use std::alloc::Global;
 use std::test::*;
 use vx_config::{Config, PlexState};
-use vx_disk::{MemShelf, Rack, Shelf};
+use vx_disk::{Rack, Shelf};
 use vx_group::Group;
 
 // The group with one of its disks made to fail, or working again.
-fn failing(group: Group<MemShelf>, disk: u32, on: bool) -> Group<MemShelf> {
-    let (mut shelf, core) = group.apart();
-    if disk >= shelf.units() {
-        return Group::together(shelf, core);
+fn failing(group: Group<Disks>, disk: u32, on: bool) -> Group<Disks> {
+    let (shelf, core) = group.apart();
+    let mut disks = shelf.shelf;
+    if disk >= disks.units() {
+        return Group::together(Untold { shelf: disks }, core);
     }
-    shelf.fail(disk, on);
-    Group::together(shelf, core)
+    disks.fail(disk, on);
+    Group::together(Untold { shelf: disks }, core)
 }
 
 // The state of the second plex of the first volume, and the first disk that is held as failed.
@@ -28,7 +30,7 @@ fn a_disk_comes_back(rt: HostRuntime) -> Result<(), Fail> {
     let alloc = rt.alloc();
     let on = Some(PlexState::Active);
     let off = Some(PlexState::Stale);
-    let mut group = group_of(alloc, &[], 2)?;
+    let mut group = group_on(alloc, disks_of(alloc, &[], 2, 1024)?)?;
     assert_eq!(rt;
         make(alloc, &mut group, b"v", &plain(16, 2)),
         Told::Volume(0)
@@ -46,10 +48,8 @@ fn a_disk_comes_back(rt: HostRuntime) -> Result<(), Fail> {
     assert_eq!(rt; det(&mut group, 0, 0), Told::Done);
     assert_eq!(rt; get(&mut group, 0, 3), Told::Block(0x11));
     assert_eq!(rt; get(&mut group, 0, 4), Told::Block(0x22));
-    let (mut shelf, _core) = group.apart();
-    shelf.crash(0);
     assert_eq!(rt;
-        reads(alloc, revived(shelf), 0, 3),
+        reads(alloc, crashed(group, 0), 0, 3),
         (Told::Block(0x11), Told::Block(0x11))
     );
     Ok(())
