@@ -1,9 +1,9 @@
 // Volumes of a group over a shelf in memory: they are made, written, read and detached, with each device call failing in turn.
-use super::*;
 use std::alloc::Global;
 use std::test::*;
 use vx_config::{Config, PlexState};
 use vx_disk::{MemShelf, Rack, Shelf, ShelfError};
+use vx_group::Group;
 use vx_layout::Shape;
 use vx_model::{Counted, Name, No, OutOfMemory, Stop};
 

@@ -1,14 +1,14 @@
 // Groups that are imported over a shelf in memory behind crashes and deports, with each device call of an import failing or cut in turn.
-use super::*;
 use crate::untold::Untold;
-use crate::volume_tests::{Told, flush, get, make, plain, put, state, told_of};
+use crate::volumes::{Told, flush, get, make, plain, put, state, told_of};
 use std::alloc::Global;
 use std::test::*;
 use vx_config::{Config, PlexState};
 use vx_disk::{MemShelf, Rack, Shelf};
+use vx_group::Group;
 use vx_model::OutOfMemory;
 
-type Disks = Untold<MemShelf>;
+pub type Disks = Untold<MemShelf>;
 
 const ON: Option<PlexState> = Some(PlexState::Active);
 
@@ -41,7 +41,7 @@ fn refused(told: Told) -> Given {
     }
 }
 
-fn failed_disk(config: &Config) -> Option<usize> {
+pub fn failed_disk(config: &Config) -> Option<usize> {
     let disks = config.disks.as_slice();
     for k in 0..disks.len() {
         if disks[k].failed {
@@ -51,8 +51,13 @@ fn failed_disk(config: &Config) -> Option<usize> {
     None
 }
 
-// So many disks of so many blocks, of which these calls fail.
-fn disks_of(alloc: Global, fails: &[u64], disks: u32, blocks: u64) -> Result<Disks, OutOfMemory> {
+/// So many disks of so many blocks, of which these calls fail.
+pub fn disks_of(
+    alloc: Global,
+    fails: &[u64],
+    disks: u32,
+    blocks: u64,
+) -> Result<Disks, OutOfMemory> {
     let mut shelf = match MemShelf::new(alloc, fails) {
         Ok(shelf) => shelf,
         Err(_) => return Err(OutOfMemory),
@@ -63,8 +68,8 @@ fn disks_of(alloc: Global, fails: &[u64], disks: u32, blocks: u64) -> Result<Dis
     Ok(Untold { shelf })
 }
 
-// A group on them.
-fn group_on(alloc: Global, shelf: Disks) -> Result<Group<Disks>, OutOfMemory> {
+/// A group on them.
+pub fn group_on(alloc: Global, shelf: Disks) -> Result<Group<Disks>, OutOfMemory> {
     if shelf.units() == 0 || shelf.units() > 8 {
         return Err(OutOfMemory);
     }
@@ -82,8 +87,8 @@ fn revived(disks: MemShelf) -> Disks {
     Untold { shelf: disks }
 }
 
-// The disks behind a crash.
-fn crashed(group: Group<Disks>, pick: u64) -> Disks {
+/// The disks behind a crash.
+pub fn crashed(group: Group<Disks>, pick: u64) -> Disks {
     let (shelf, _core) = group.apart();
     let mut disks = shelf.shelf;
     disks.crash(pick);
@@ -115,7 +120,7 @@ fn import(alloc: Global, shelf: Disks, volume: usize) -> (Disks, Given) {
 }
 
 // What two reads of a block give behind an import.
-fn reads(alloc: Global, shelf: Disks, volume: u32, block: u64) -> (Told, Told) {
+pub fn reads(alloc: Global, shelf: Disks, volume: u32, block: u64) -> (Told, Told) {
     match Group::import(alloc, shelf) {
         Ok(group) => {
             let mut group = group;
@@ -223,25 +228,6 @@ fn a_group_behind_a_crash(rt: HostRuntime) -> Result<(), Fail> {
     assert_eq!(rt;
         reads(alloc, shelf, 2, 0),
         (Told::Block(0x11), Told::Block(0x11))
-    );
-    Ok(())
-}
-
-#[test]
-fn a_write_that_was_cut(rt: HostRuntime) -> Result<(), Fail> {
-    let alloc = rt.alloc();
-    // A new group has 18 writes and flushes, and a volume of 256 blocks 42.
-    let mut disks = disks_of(alloc, &[], 2, 1024)?.shelf;
-    disks.fuse(60, 0);
-    let mut group = group_on(alloc, Untold { shelf: disks })?;
-    assert_eq!(rt;
-        make(alloc, &mut group, b"v", &plain(256, 2)),
-        Told::Volume(0)
-    );
-    assert_eq!(rt; put(&mut group, 0, 0, 0x11), Told::Down);
-    assert_eq!(rt;
-        reads(alloc, crashed(group, 0), 0, 0),
-        (Told::Block(0), Told::Block(0))
     );
     Ok(())
 }

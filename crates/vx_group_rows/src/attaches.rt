@@ -1,15 +1,15 @@
 // Plexes that are attached: the regions that are copied, each device call of it failing, and what a crash in it leaves.
-use super::*;
-use crate::volume_tests::{Told, det, flush, get, group_of, make, plain, put, state, told_of};
+use crate::volumes::{Told, det, flush, get, group_of, make, plain, put, state, told_of};
 use std::alloc::Global;
 use std::test::*;
 use vx_config::PlexState;
 use vx_copies::import;
 use vx_copyio::are_large;
 use vx_disk::{MemShelf, Rack, Shelf};
+use vx_group::Group;
 use vx_model::OutOfMemory;
 
-fn att<S: Shelf>(group: &mut Group<S>, volume: u32, plex: u32) -> Told {
+pub fn att<S: Shelf>(group: &mut Group<S>, volume: u32, plex: u32) -> Told {
     match group.att(volume, plex) {
         Ok(regions) => Told::Attached(regions),
         Err(stop) => told_of(stop),

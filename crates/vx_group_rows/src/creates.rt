@@ -1,10 +1,10 @@
 // What no clause says: a group that is made over a shelf in memory, with each of its device calls failing in turn.
-use super::*;
 use std::alloc::Global;
 use std::test::*;
 use vx_copies::import;
 use vx_copyio::are_large;
 use vx_disk::{MemShelf, Rack, Shelf};
+use vx_group::Group;
 use vx_model::{No, Stop};
 
 #[derive(Clone, Copy, Debug, PartialEq, Eq)]
