@@ -1,5 +1,5 @@
 -- A link that a pump left, as an event of the world.
-use Rattle.std.proofs.Common.{◌≡◌, ◌∙◌, ◌+◌, ℕ, List, Bool, false, ap, sym, refl}
+use Rattle.std.proofs.Common.{◌≡◌, ◌∙◌, ◌+◌, ℕ, List, false, ap, sym, refl}
 use Rattle.std.specs.Prelude.{max, min, not, ◌&&◌, ltb}
 use Rattle.vx_courier.specs.UnderWay.{FlightStands}
 use Rattle.vx_history.specs.Admission.{is_live}
@@ -8,7 +8,7 @@ use Rattle.vx_history.specs.Headers.{is_refused}
 use Rattle.vx_history.specs.LinkForms.{plain_link, with_plain}
 use Rattle.vx_history.specs.Refusals.{Outcome, unless, when_live}
 use Rattle.vx_history.specs.Sending.{Sent, by_log, pumped_up_to, with_nothing}
-use Rattle.vx_history.specs.Step.{done, outcome_of, step}
+use Rattle.vx_history.specs.Step.{done, outcome_of}
 use Rattle.vx_history.specs.World.{Link, Node, World, updated}
 use Rattle.vx_history.specs.declared.event.Event.TheVariants.{Pump as PumpAt}
 use Rattle.vx_history.specs.declared.event.Said.{Said}
@@ -24,7 +24,7 @@ use Rattle.vx_order.specs.declared.facts.LinkFacts.{LinkFacts}
 use Rattle.vx_order.specs.declared.facts.SiteFacts.{SiteFacts}
 use Rattle.vx_script.specs.declared.line.ScriptLine.TheVariants.{Pump as PumpLine}
 use Rattle.vx_events.specs.Facts.{site_number}
-use Rattle.vx_events.specs.LinkedFacts.{link_fact, linked_facts}
+use Rattle.vx_events.specs.LinkedFacts.{linked_facts}
 use Rattle.vx_events.proofs.LinkAgreeing.{pump_agrees}
 use Rattle.vx_linked.specs.Tables.{IsFree, relinked}
 use Rattle.vx_linked.specs.Turns.{ComesTo, Relinked}
