@@ -25,7 +25,7 @@ use Rattle.vx_order.specs.declared.facts.SiteFacts.{SiteFacts}
 use Rattle.vx_script.specs.declared.line.ScriptLine.TheVariants.{Wait}
 use Rattle.vx_events.specs.Facts.{seat_of, site_number}
 use Rattle.vx_events.specs.LinkedFacts.{link_fact, link_facts, linked_fact, linked_facts, links_by, links_in}
-use Rattle.vx_events.specs.Listed.{AreListed, IsAmong}
+use Rattle.vx_history.specs.Listed.{AreListed, IsAmong}
 use Rattle.vx_events.proofs.LinkTesting.{AllLinked, all_linked, seat_at, up_state}
 use Rattle.vx_events.proofs.LinkWaiting.{wait_agrees}
 use Rattle.vx_events.proofs.Places.{never_some, some_same}

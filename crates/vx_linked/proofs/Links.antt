@@ -9,8 +9,8 @@ use Rattle.vx_history.specs.World.{Node, Link, updated}
 use Rattle.vx_history.proofs.Updates.{by_test, eqb_equal, all_updated, at_place}
 use Rattle.vx_order.specs.declared.facts.LinkFacts.{LinkFacts}
 use Rattle.vx_events.specs.LinkedFacts.{link_fact, link_facts}
+use Rattle.vx_history.specs.Listed.{IsAmong}
 use Rattle.vx_linked.specs.Tables.{leads_to}
-use Rattle.vx_events.specs.Listed.{IsAmong}
 use Rattle.vx_events.proofs.Places.{some_same, never_some}
 
 pub updated_other : {A : Type 0} (f : ℕ → A) (i j : ℕ) (x : A) → (j ≡ i → ⊥) → updated f i x j ≡ f j

@@ -3,7 +3,7 @@ ghost use Rattle.std.specs.Prelude.{◌≡◌, Some};
 ghost use Rattle.std.specs.List.{list_any};
 ghost use Rattle.vx_events.specs.Facts.{site_number};
 ghost use Rattle.vx_events.specs.LinkedFacts.{linked_facts};
-ghost use Rattle.vx_events.specs.Listed.{AreListed};
+ghost use Rattle.vx_history.specs.Listed.{AreListed};
 ghost use Rattle.vx_history.specs.Admission.{is_live as live};
 ghost use Rattle.vx_history.specs.Refusals.{waits as waited_for};
 ghost use Rattle.vx_history.specs.Step.{step};
