@@ -1,6 +1,7 @@
 pub mod Confirms
 pub mod Finding
 pub mod Greets
+pub mod Heard
 pub mod Leaving
 pub mod Links
 pub mod Moves

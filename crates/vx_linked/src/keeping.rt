@@ -18,7 +18,8 @@ fn find_to(links: &[LinkFacts], to: u32) -> Option<&LinkFacts>
     links.iter().find(|l| l.link.site == to)
 }
 
-fn site_at(sites: &[SiteFacts], from: usize) -> Option<&SiteFacts>
+// The site of a number.
+pub(crate) fn site_at(sites: &[SiteFacts], from: usize) -> Option<&SiteFacts>
     ensures { option_copied result ≡ slice_get sites.now from }
 {
     sites.get(from)

@@ -8,6 +8,7 @@
 mod connecting;
 mod cutting;
 mod greeting;
+mod hearing;
 mod keeping;
 pub mod laws;
 mod pausing;
@@ -20,6 +21,7 @@ mod waiting;
 
 pub use connecting::connect;
 pub use cutting::cut;
+pub use hearing::{hearing_link, keep_heard};
 pub use keeping::{link_between, put_link};
 pub use pausing::pause;
 pub use pumped::{keep_pumped, link_named};
