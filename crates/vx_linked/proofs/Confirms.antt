@@ -37,7 +37,7 @@ use Rattle.vx_linked.proofs.Leaving.{wait_by}
 
 -- ---- tests of an event that was not refused
 
-peel : (b : Bool) (why : No) (w : World) (o : Outcome) → is_refused (unless b why w o).said ≡ false → unless b why w o ≡ o
+pub peel : (b : Bool) (why : No) (w : World) (o : Outcome) → is_refused (unless b why w o).said ≡ false → unless b why w o ≡ o
 peel true why w o e = absurd (cc)
 peel false why w o e = refl
 
@@ -45,7 +45,7 @@ peel_halted : (h : Option ℕ) (w : World) (o : Outcome) → is_refused (unless_
 peel_halted None w o e = refl
 peel_halted (Some disk) w o e = absurd (cc)
 
-next : (x y : Outcome) → x ≡ y → is_refused x.said ≡ false → is_refused y.said ≡ false
+pub next : (x y : Outcome) → x ≡ y → is_refused x.said ≡ false → is_refused y.said ≡ false
 next x y is e = subst (λ (o : Outcome). is_refused o.said ≡ false) is e
 
 peel_work : (w : World) (p : ℕ) (o : Outcome) → is_refused (at_work w p o).said ≡ false → at_work w p o ≡ o

@@ -16,16 +16,13 @@ use Rattle.vx_order.specs.Subject.{first_name, halt_of, need_of, second_name}
 use Rattle.vx_order.specs.Tests.{when}
 use Rattle.vx_order.specs.declared.facts.LinkFacts.{LinkFacts}
 use Rattle.vx_order.specs.declared.facts.SiteFacts.{SiteFacts}
-use Rattle.vx_script.specs.declared.line.ScriptLine.TheVariants.{Connect, Cut, Pause, Resume, Tick}
+use Rattle.vx_script.specs.declared.line.ScriptLine.TheVariants.{Connect, Cut, Pause, Pump, Resume, Tick}
 use Rattle.vx_events.specs.Facts.{seat_of}
 use Rattle.vx_events.specs.LinkedFacts.{linked_facts}
 use Rattle.vx_events.proofs.LinkTesting.{OnLink, on_link_by}
 use Rattle.vx_events.proofs.Places.{some_same}
 use Rattle.vx_events.proofs.Refused.{FoundAt, found_at, named, not_false, passes, when_none}
-use Rattle.vx_history.specs.declared.sender.SEvent.{SEvent}
-use Rattle.vx_linked.specs.Tables.{Found, IsFree, place_to, site_relinked}
-use Rattle.vx_linked.specs.Turns.{Turned, fact_turned}
-use Rattle.vx_linked.proofs.Links.{leads_to}
+use Rattle.vx_linked.specs.Tables.{Found, IsFree, leads_to, place_to, relinked, site_relinked}
 use Rattle.vx_linked.proofs.Shown.{first_place}
 
 -- what no test refuses of a line that turns a link
@@ -65,6 +62,12 @@ pub tick_tested : (sites : List SiteFacts) (from to : List ℕ) → IsFree sites
 unfolding first_name second_name need_of halt_of ask_of
 tick_tested sites from to free =
     let t = passes sites free.0 (Tick from to) free.1 in
+    record { known = t.known; other = t.other_known; up = t.up; running = t.running; role = t.link_role; linked = t.link }
+
+pub pump_tested : (sites : List SiteFacts) (from to : List ℕ) → IsFree sites (Pump from to) → Tested sites from to
+unfolding first_name second_name need_of halt_of ask_of
+pump_tested sites from to free =
+    let t = passes sites free.0 (Pump from to) free.1 in
     record { known = t.known; other = t.other_known; up = t.up; running = t.running; role = t.link_role; linked = t.link }
 
 linked_some : (o : Option LinkFacts) (site : SiteFacts) → not_linked o (Some site) ≡ None → (l : LinkFacts) × (o ≡ Some l)
@@ -111,19 +114,27 @@ found sites from to t =
 pub on_link : (w : World) (from to : List ℕ) → Tested (linked_facts w) from to → OnLink w from to keeps_links
 on_link w from to t = on_link_by w from to sends keeps_links (λ n. refl) t.known t.other t.up t.running t.role t.linked
 
--- the link of that place turned, in the site of that place
-pub turned_so : (e : SEvent) (old : List SiteFacts) (from to : List ℕ) (f : Found old from to) (here there place : ℕ) (site new : SiteFacts)
+-- the link of that place changed, in the site of that place
+pub changed_so : (g : LinkFacts → LinkFacts) (old : List SiteFacts) (from to : List ℕ) (f : Found old from to) (here there place : ℕ) (site new : SiteFacts)
     → seat_of old from ≡ Some here → seat_of old to ≡ Some there → slice_get old here ≡ Some site → place_to there site.links ≡ Some place
-    → ((l : LinkFacts) → slice_get site.links place ≡ Some l → new ≡ site_relinked site place (fact_turned e l)) → Turned e from to old (slice_set old here new)
-turned_so e old from to f here there place site new first second at placed turns =
+    → ((l : LinkFacts) → slice_get site.links place ≡ Some l → new ≡ site_relinked site place (g l))
+    → (at : Found old from to) × (slice_set old here new ≡ relinked old at.here at.site at.place (g at.link))
+changed_so g old from to f here there place site new first second at placed turns =
     let same_here : f.here ≡ here = some_same (sym f.first ∙ first) in
     let same_there : f.there ≡ there = some_same (sym f.second ∙ second) in
     let same_site : f.site ≡ site = some_same (sym f.site_is ∙ ap (slice_get old) same_here ∙ at) in
-    let same_place : f.place ≡ place
-    = some_same (sym f.place_is ∙ ap (λ (k : ℕ). place_to k f.site.links) same_there ∙ ap (λ (s : SiteFacts). place_to there s.links) same_site ∙ placed) in
-    let link_is : slice_get site.links place ≡ Some f.link
-    = ap (λ (s : SiteFacts). slice_get s.links place) (sym same_site) ∙ ap (slice_get f.site.links) (sym same_place) ∙ f.link_is in
-    record {
-      at = record { here = here; there = there; site = site; place = place; link = f.link; first = first; second = second; site_is = at; place_is = placed; link_is = link_is };
-      new_is = ap (slice_set old here) (turns f.link link_is);
-    }
+    let same_place : f.place ≡ place = some_same (sym f.place_is ∙ ap (λ (k : ℕ). place_to k f.site.links) same_there ∙ ap (λ (s : SiteFacts). place_to there s.links) same_site ∙ placed) in
+    let link_is : slice_get site.links place ≡ Some f.link = ap (λ (s : SiteFacts). slice_get s.links place) (sym same_site) ∙ ap (slice_get f.site.links) (sym same_place) ∙ f.link_is in (
+      record { here = here; there = there; site = site; place = place; link = f.link; first = first; second = second; site_is = at; place_is = placed; link_is = link_is },
+      ap (slice_set old here) (turns f.link link_is),
+    )
+
+-- a line names one link
+pub one_link : (old : List SiteFacts) (from to : List ℕ) (f : Found old from to) (here there place : ℕ) (site : SiteFacts) (l : LinkFacts) → seat_of old from ≡ Some here → seat_of old to ≡ Some there
+    → slice_get old here ≡ Some site → place_to there site.links ≡ Some place → slice_get site.links place ≡ Some l → l ≡ f.link
+one_link old from to f here there place site l first second at placed is =
+    let same_here : f.here ≡ here = some_same (sym f.first ∙ first) in
+    let same_there : f.there ≡ there = some_same (sym f.second ∙ second) in
+    let same_site : f.site ≡ site = some_same (sym f.site_is ∙ ap (slice_get old) same_here ∙ at) in
+    let same_place : f.place ≡ place = some_same (sym f.place_is ∙ ap (λ (k : ℕ). place_to k f.site.links) same_there ∙ ap (λ (s : SiteFacts). place_to there s.links) same_site ∙ placed) in
+    some_same (sym is ∙ ap (λ (s : SiteFacts). slice_get s.links place) (sym same_site) ∙ ap (slice_get f.site.links) (sym same_place) ∙ f.link_is)

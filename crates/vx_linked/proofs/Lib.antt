@@ -1,7 +1,9 @@
-pub mod Links
-pub mod Shown
-pub mod Finding
-pub mod Moves
-pub mod Leaving
-pub mod Greets
 pub mod Confirms
+pub mod Finding
+pub mod Greets
+pub mod Heard
+pub mod Leaving
+pub mod Links
+pub mod Moves
+pub mod Pumps
+pub mod Shown

@@ -10,6 +10,7 @@ use Rattle.vx_history.proofs.Updates.{by_test, eqb_equal, all_updated, at_place}
 use Rattle.vx_order.specs.declared.facts.LinkFacts.{LinkFacts}
 use Rattle.vx_events.specs.LinkedFacts.{link_fact, link_facts}
 use Rattle.vx_history.specs.Listed.{IsAmong}
+use Rattle.vx_linked.specs.Tables.{leads_to}
 use Rattle.vx_events.proofs.Places.{some_same, never_some}
 
 pub updated_other : {A : Type 0} (f : ℕ → A) (i j : ℕ) (x : A) → (j ≡ i → ⊥) → updated f i x j ≡ f j
@@ -80,9 +81,6 @@ apart row sites place (suc k) = by (link_in_place row place sites) (λ s is. pic
     )
 
 -- ---- the facts of the links with those of one of them in its place
-
-abbrev pub leads_to : (site : ℕ) → LinkFacts → Bool
-leads_to site l = l.link.site == site
 
 same_number : (s t : ℕ) → (s == t) ≡ true → s ≡ t
 same_number s t e = grind (arith, nat_tests)

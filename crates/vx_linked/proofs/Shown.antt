@@ -1,24 +1,27 @@
 -- What the tests of a line see of a world, as one of its links changes.
-use Rattle.std.proofs.Common.{◌≡◌, ◌∙◌, ◌+◌, ◌<◌, ℕ, zero, suc, Bool, true, false, List, [], ◌∷◌, length, get_or, ap, sym, refl, arith}
-use Rattle.std.specs.Prelude.{Option, Some, None, cond, nat_lt, slice_get, slice_set, unwrap_or}
-use Rattle.std.specs.List.{position, position_or_len}
+use Rattle.std.proofs.Common.{◌≡◌, ◌∙◌, ◌+◌, ◌<◌, ℕ, zero, suc, Bool, true, false, List, [], ◌∷◌, length, get_or, ap, sym, subst, refl, arith}
+use Rattle.std.specs.Prelude.{Option, Some, None, IsSome, is_some, cond, nat_lt, slice_get, slice_set, unwrap_or}
+use Rattle.std.specs.List.{find, position, position_or_len}
 use Rattle.std.specs.Str.{bytes_eq}
 use Rattle.std.proofs.lemmas.List.Folds.{find_at}
+use Rattle.std.proofs.lemmas.Option.{slice_get_within}
 use Rattle.vx_history.specs.Events.{linked_sites}
 use Rattle.vx_history.specs.Sends.{with_link}
 use Rattle.vx_history.specs.World.{Node, Link, World, updated}
 use Rattle.vx_history.proofs.Updates.{at_place}
 use Rattle.vx_model.specs.declared.site.SiteState.{SiteState}
-use Rattle.vx_model.specs.declared.site.SiteState.TheVariants.{Up}
+use Rattle.vx_model.specs.declared.site.SiteState.TheVariants.{Bare, Up, Deported, Down}
 use Rattle.vx_order.specs.declared.facts.LinkFacts.{LinkFacts}
 use Rattle.vx_order.specs.declared.facts.SiteFacts.{SiteFacts}
 use Rattle.vx_events.specs.Facts.{seat_of, site_fact, site_number, values_from}
 use Rattle.vx_events.specs.LinkedFacts.{link_fact, link_facts, links_by, links_in, linked_fact, linked_facts}
 use Rattle.vx_events.proofs.LinkTesting.{all_linked, found_link, seats_same}
-use Rattle.vx_events.proofs.Places.{position_within, some_same}
+use Rattle.vx_events.proofs.Places.{never_some, position_within, some_same}
+use Rattle.vx_events.proofs.Refused.{found_at}
 use Rattle.vx_events.proofs.Values.{length-values_from, slice_get-values_from}
-use Rattle.vx_linked.specs.Tables.{Found, place_to, relinked, site_relinked}
-use Rattle.vx_linked.proofs.Links.{apart, leads_to, link_facts_set, made_same, sites_same, updated_other}
+use Rattle.vx_linked.specs.Tables.{Found, HasPlace, Put, fact_between, leads_to, link_of, place_to, relinked, site_relinked}
+use Rattle.vx_linked.specs.Turns.{IsLinkOf}
+use Rattle.vx_linked.proofs.Links.{apart, link_facts_set, made_same, sites_same, updated_other}
 
 place_by : (b : Bool) (n i : ℕ) → cond b (Some n) None ≡ Some i → n ≡ i
 place_by true n i e = some_same e
@@ -130,3 +133,78 @@ pub get_at : {A : Type 0} (xs : List A) (i : ℕ) (x : A) → i < length xs → 
 get_at [] i x h e = absurd (omega arith)
 get_at (y ∷ xs) zero x h e = ap (λ z. Some z) (sym e)
 get_at (y ∷ xs) (suc i) x h e = get_at xs i x (omega arith) e
+
+-- ---- a link between the sites of two numbers
+
+get_site : (w : World) (i : ℕ) (site : SiteFacts) → slice_get (linked_facts w) i ≡ Some site → (i < w.sites) × (site ≡ linked_fact w i)
+get_site w i site is =
+    let inside : i < length (linked_facts w) = slice_get_within (linked_facts w) i site is in
+    let many : length (linked_facts w) ≡ w.sites = length-values_from (λ j. linked_fact w j) 0 w.sites in
+    let below : i < w.sites = omega (arith, inside, many) in
+    let start : 0 + i ≡ i = omega arith in
+    (below, some_same (sym is ∙ slice_get-values_from (λ j. linked_fact w j) 0 w.sites i below ∙ ap (λ (j : ℕ). Some (linked_fact w j)) start))
+
+-- only a site that is up shows links
+up_by : (st : SiteState) (to : ℕ) (ls : List LinkFacts) (l : LinkFacts) → find (leads_to to) (links_by st ls) ≡ Some l → (st ≡ Up) × (find (leads_to to) ls ≡ Some l)
+up_by Bare to ls l is = absurd (never_some is)
+up_by Up to ls l is = (refl, is)
+up_by Deported to ls l is = absurd (never_some is)
+up_by Down to ls l is = absurd (never_some is)
+
+pub between : (w : World) (from to : ℕ) (l : LinkFacts) → fact_between (linked_facts w) from to ≡ Some l → IsLinkOf w from to l
+between w from to l is = by (slice_get (linked_facts w) from) (λ site at. get_site w from site at) is
+  where
+    by : (o : Option SiteFacts) → ((site : SiteFacts) → o ≡ Some site → (from < w.sites) × (site ≡ linked_fact w from)) → link_of o to ≡ Some l → IsLinkOf w from to l
+    by None at e = absurd (never_some e)
+    by (Some site) at e =
+        let there = at site refl in
+        let up = up_by (w.nodes from).state to (links_in w from) l (sym (ap (λ (s : SiteFacts). find (leads_to to) s.links) there.1) ∙ e) in
+        let link = found_link (w.nodes from) (w.links from) (linked_sites (w.links from) w.sites 0 w.sites) to l (all_linked (w.links from) w.sites 0 w.sites) up.1 in
+        record { below = there.0; up = up.0; linked = link.1; link_is = link.0 }
+
+-- the facts with a link put between two sites that are linked
+pub put_is : (w : World) (from to : ℕ) (old new : List SiteFacts) (x : LinkFacts) (l : Link) → old ≡ linked_facts w → Put from to x old new → (w.nodes from).state ≡ Up → l.made ≡ (w.links from to).made
+    → x ≡ link_fact (w.nodes from) to l → new ≡ linked_facts (with_link w from to l)
+put_is w from to old new x l facts put up same is =
+    let site : put.site ≡ linked_fact w from = (get_site w from put.site (sym (ap (λ (fs : List SiteFacts). slice_get fs from) facts) ∙ put.site_is)).1 in
+    let links : put.site.links ≡ links_in w from = ap (λ (s : SiteFacts). s.links) site ∙ ap (λ (t : SiteState). links_by t (links_in w from)) up in
+    let place : put.place ≡ position_or_len (leads_to to) (links_in w from) = first_place (leads_to to) (links_in w from) put.place (ap (place_to to) (sym links) ∙ put.place_is) in
+    put.new_is
+    ∙ ap (λ (fs : List SiteFacts). relinked fs from put.site put.place x) facts
+    ∙ ap (λ (s : SiteFacts). relinked (linked_facts w) from s put.place x) site
+    ∙ ap (λ (k : ℕ). relinked (linked_facts w) from (linked_fact w from) k x) place
+    ∙ ap (λ (y : LinkFacts). relinked (linked_facts w) from (linked_fact w from) (position_or_len (leads_to to) (links_in w from)) y) is
+    ∙ sym (facts_with_link w from to l up same)
+
+-- a link that is found has a place
+pub has_place : (sites : List SiteFacts) (from to : ℕ) → IsSome (fact_between sites from to) → HasPlace sites from to
+has_place sites from to some = by (slice_get sites from) refl some
+  where
+    no_link : IsSome (link_of None to) → ⊥
+    no_link e = let f : false ≡ true = e in absurd (cc)
+
+    by_link : (site : SiteFacts) → slice_get sites from ≡ Some site → (o : Option LinkFacts) → find (leads_to to) site.links ≡ o → IsSome o → HasPlace sites from to
+    by_link site at None is e = let f : false ≡ true = e in absurd (cc)
+    by_link site at (Some l) is e = record {
+      site = site;
+      site_is = at;
+      placed = ap (λ (o : Option ℕ). is_some o) (found_at (leads_to to) site.links l is).is;
+      found = l;
+      found_is = ap (λ (o : Option SiteFacts). link_of o to) at ∙ is;
+    }
+
+    by : (o : Option SiteFacts) → slice_get sites from ≡ o → IsSome (link_of o to) → HasPlace sites from to
+    by None at e = absurd (no_link e)
+    by (Some site) at e = by_link site at (find (leads_to to) site.links) refl e
+
+-- the link of that place put there
+pub put_so : (sites : List SiteFacts) (from to : ℕ) (h : HasPlace sites from to) (site new : SiteFacts) (l : LinkFacts) → slice_get sites from ≡ Some site
+    → ((place : ℕ) → place_to to site.links ≡ Some place → new ≡ site_relinked site place l) → Put from to l sites (slice_set sites from new)
+put_so sites from to h site new l at puts =
+    let same : h.site ≡ site = some_same (sym h.site_is ∙ at) in
+    let k = some_of (place_to to site.links) (subst (λ (s : SiteFacts). IsSome (place_to to s.links)) same h.placed) in
+    record { site = site; place = k.0; site_is = at; place_is = k.1; new_is = ap (slice_set sites from) (puts k.0 k.1) }
+  where
+    some_of : (o : Option ℕ) → IsSome o → (k : ℕ) × (o ≡ Some k)
+    some_of None e = let f : false ≡ true = e in absurd (cc)
+    some_of (Some k) e = (k, refl)

@@ -3,3 +3,4 @@ pub mod Turns
 pub mod Greetings
 pub mod Waits
 pub mod Disks
+pub mod Hearings

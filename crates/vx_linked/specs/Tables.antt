@@ -1,6 +1,6 @@
 -- A link in what the tests of a line see of the sites.
-use Rattle.std.specs.Prelude.{◌≡◌, ℕ, Bool, ◌==◌, List, Option, Some, None, slice_get, slice_set}
-use Rattle.std.specs.List.{position}
+use Rattle.std.specs.Prelude.{◌≡◌, ℕ, Bool, ◌==◌, List, Option, Some, None, IsSome, slice_get, slice_set}
+use Rattle.std.specs.List.{find, position}
 use Rattle.vx_order.specs.declared.facts.SiteFacts.{SiteFacts}
 use Rattle.vx_order.specs.declared.facts.LinkFacts.{LinkFacts}
 use Rattle.vx_order.specs.Order.{refusal_of}
@@ -11,9 +11,20 @@ use Rattle.vx_events.specs.Facts.{seat_of}
 abbrev pub IsFree : List SiteFacts → ScriptLine → Type 0
 IsFree sites line = (files : Bool) × (refusal_of sites files line ≡ None)
 
+abbrev pub leads_to : (site : ℕ) → LinkFacts → Bool
+leads_to site l = l.link.site == site
+
 -- the place of the link to this site among those of another
 abbrev pub place_to : (site : ℕ) → List LinkFacts → Option ℕ
-place_to site links = position (λ (l : LinkFacts). l.link.site == site) links
+place_to site links = position (leads_to site) links
+
+abbrev pub link_of : Option SiteFacts → (site : ℕ) → Option LinkFacts
+link_of None to = None
+link_of (Some site) to = find (leads_to to) site.links
+
+-- the link of the site of this number to that of another
+abbrev pub fact_between : List SiteFacts → (from to : ℕ) → Option LinkFacts
+fact_between sites from to = link_of (slice_get sites from) to
 
 -- The link of a site to another, by their names: the numbers of the sites, the first one, and the link with its place among those of this site.
 pub record Found (sites : List SiteFacts) (from to : List ℕ) : Type 0 where
@@ -35,3 +46,19 @@ site_relinked site place link = record site { links = slice_set site.links place
 -- the sites with another link in that place, and all else as it was
 abbrev pub relinked : (sites : List SiteFacts) → (here : ℕ) → SiteFacts → (place : ℕ) → LinkFacts → List SiteFacts
 relinked sites here site place link = slice_set sites here (site_relinked site place link)
+
+-- a link between the sites of two numbers is this one; each other link, and whatever else there is of the sites, is as it was
+pub record Put (from to : ℕ) (l : LinkFacts) (old new : List SiteFacts) : Type 0 where
+  pub site : SiteFacts
+  pub place : ℕ
+  pub site_is : slice_get old from ≡ Some site
+  pub place_is : place_to to site.links ≡ Some place
+  pub new_is : new ≡ relinked old from site place l
+
+-- a site of this number has a link to that of another, in a place of its own
+pub record HasPlace (sites : List SiteFacts) (from to : ℕ) : Type 0 where
+  pub site : SiteFacts
+  pub site_is : slice_get sites from ≡ Some site
+  pub placed : IsSome (place_to to site.links)
+  pub found : LinkFacts
+  pub found_is : fact_between sites from to ≡ Some found

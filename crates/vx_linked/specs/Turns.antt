@@ -1,14 +1,16 @@
 -- Events of one link that look at nothing of its site, in memory.
-use Rattle.std.specs.Prelude.{◌≡◌, ℕ, true, List}
+use Rattle.std.specs.Prelude.{◌≡◌, ℕ, ◌<◌, true, List}
 use Rattle.vx_courier.specs.UnderWay.{FlightStands}
-use Rattle.vx_events.specs.LinkedFacts.{linked_facts}
+use Rattle.vx_events.specs.LinkedFacts.{link_fact, linked_facts}
 use Rattle.vx_history.specs.Sending.{sent_step}
+use Rattle.vx_history.specs.Sends.{is_linked}
 use Rattle.vx_history.specs.Step.{step}
 use Rattle.vx_history.specs.World.{World}
 use Rattle.vx_history.specs.declared.event.Event.{Event}
 use Rattle.vx_history.specs.declared.event.Said.TheVariants.{Done}
 use Rattle.vx_history.specs.declared.sender.SEvent.{SEvent}
 use Rattle.vx_model.specs.declared.link.Link.{Link as PlainLink}
+use Rattle.vx_model.specs.declared.site.SiteState.TheVariants.{Up}
 use Rattle.vx_net.specs.Flights.{Flying}
 use Rattle.vx_order.specs.declared.facts.SiteFacts.{SiteFacts}
 use Rattle.vx_order.specs.declared.facts.LinkFacts.{LinkFacts}
@@ -35,3 +37,15 @@ fact_turned e l = record l { link = turned e l.link }
 pub record Turned (e : SEvent) (from to : List ℕ) (old new : List SiteFacts) : Type 0 where
   pub at : Found old from to
   pub new_is : new ≡ relinked old at.here at.site at.place (fact_turned e at.link)
+
+-- a site that shows this link to another is up, and the link is that of the world
+pub record IsLinkOf (w : World) (from to : ℕ) (l : LinkFacts) : Type 0 where
+  pub below : from < w.sites
+  pub up : (w.nodes from).state ≡ Up
+  pub linked : is_linked (w.links from to) ≡ true
+  pub link_is : l ≡ link_fact (w.nodes from) to (w.links from to)
+
+-- the link that a line names is this one, with the same blocks above its hold
+pub record Relinked (from to : List ℕ) (l : PlainLink) (old new : List SiteFacts) : Type 0 where
+  pub at : Found old from to
+  pub new_is : new ≡ relinked old at.here at.site at.place (record at.link { link = l })

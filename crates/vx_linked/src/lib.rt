@@ -1,14 +1,18 @@
 //! The links of the sites in memory: the lines that change them without a disk.
 //!
-//! A site is what the tests of a line see of it, with its links in the order of their making, and goes by its name. Each call takes a
-//! line that no test refuses. None takes memory.
+//! A site is what the tests of a line see of it, with its links in the order of their making, and goes by its name. Each call of a line
+//! takes one that no test refuses. Beside them stand the calls that find a link and keep it as it was changed over disks. None takes
+//! memory.
 #![tactic(auto)]
 
 mod connecting;
 mod cutting;
 mod greeting;
+mod hearing;
+mod keeping;
 pub mod laws;
 mod pausing;
+mod pumped;
 mod resuming;
 mod seats;
 mod ticking;
@@ -17,7 +21,10 @@ mod waiting;
 
 pub use connecting::connect;
 pub use cutting::cut;
+pub use hearing::{hearing_link, keep_heard};
+pub use keeping::{link_between, put_link};
 pub use pausing::pause;
+pub use pumped::{keep_pumped, link_named};
 pub use resuming::resume;
 pub use ticking::tick;
 pub use waiting::wait;

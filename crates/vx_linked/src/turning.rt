@@ -4,6 +4,7 @@ ghost use Rattle.vx_order.specs.declared.facts.LinkFacts.{LinkFacts};
 ghost use Rattle.vx_linked.specs.Tables.{Found, site_relinked};
 ghost use Rattle.vx_linked.specs.Turns.{Turned, fact_turned};
 
+use crate::keeping::put_at;
 use crate::seats::{link_place, seat};
 use vx_model::Name;
 use vx_order::{LinkFacts, SiteFacts};
@@ -26,7 +27,7 @@ fn turn_at(site: &mut SiteFacts, place: usize, event: &SEvent)
     ensures { (l : LinkFacts) → slice_get site.old.links place ≡ Some l → site.new ≡ site_relinked site.old place (fact_turned event.now l) }
 {
     let next = turn_link(&site.links.as_slice()[place], event);
-    site.links.set(place, next);
+    put_at(site, place, &next);
 }
 
 /// The link of a site to another has this event behind it.
