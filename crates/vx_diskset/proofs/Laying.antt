@@ -1,20 +1,23 @@
 -- How a site lies on its disks, past calls that leave their number and sizes alone, and of a raw set as it is made.
-use Rattle.std.proofs.Common.{◌≡◌, ◌∙◌, ℕ, zero, suc, ◌+◌, ◌-◌, ◌<◌, ◌≤◌, List, [], ◌++◌, length, ap, sym, refl, arith}
+use Rattle.std.proofs.Common.{◌≡◌, ◌∙◌, ℕ, zero, suc, ◌+◌, ◌-◌, ◌*◌, ◌<◌, ◌≤◌, List, [], ◌++◌, length, ap, sym, refl, arith}
 use Rattle.std.specs.Fmt.{decimal}
 use Rattle.std.specs.Prelude.{Some, slice_get, codes}
 use Rattle.std.proofs.lemmas.Bool.Decides.{nat_tests}
 use Rattle.std.proofs.lemmas.Option.{slice_get_within}
 use Rattle.vx_model.specs.Content.{Content}
-use Rattle.vx_model.specs.Sizes.{ring_of}
+use Rattle.vx_model.specs.Sizes.{map_blocks, ring_of}
+use Rattle.vx_model.specs.declared.limits.TheConstants.{LINK_PLACES}
 use Rattle.vx_model.specs.declared.units.Units.{Units}
 use Rattle.vx_history.specs.Steps.{raw_volumes, raw_content}
 use Rattle.vx_history.specs.World.{Node, Volume}
 use Rattle.vx_disk.specs.Moves.{Blocks, Says, Moves}
 use Rattle.vx_disk.specs.Shelf.{Meaning}
 use Rattle.vx_rvg.specs.Contents.{HasSizes}
-use Rattle.vx_rvg.specs.Views.{unit_of}
-use Rattle.vx_events.proofs.Values.{length-values_from, slice_index-values_from}
-use Rattle.vx_diskset.specs.Layouts.{raw_units, IsLaid, IsRaw, LiesOn}
+use Rattle.vx_rvg.specs.Views.{maps_of, unit_of}
+use Rattle.std.proofs.lemmas.List.Sums.{sum_by-cons, sum_by_push}
+use Rattle.vx_events.specs.Facts.{values_from}
+use Rattle.vx_events.proofs.Values.{length-values_from, slice_index-values_from, values_from-push}
+use Rattle.vx_diskset.specs.Layouts.{raw_units, CanBeRaw, IsLaid, IsRaw, LiesOn}
 
 -- ---- past a call
 
@@ -33,7 +36,7 @@ pub lies_as : (n : Node) (m new : Meaning) → new.units ≡ m.units → ((k : �
 lies_as n m new units size lies = record {
   units = units ∙ lies.units;
   size = λ u there. size u ∙ lies.size u there;
-  some = lies.some;
+  can = lies.can;
   few = lies.few;
   laid = laid_as (raw_units n.disks) n.ring n.volumes n.base.size m new size lies.laid;
 }
@@ -46,7 +49,7 @@ pub lies_sized : (n : Node) (sizes : ℕ → ℕ) (m : Meaning) → ((v : ℕ) �
 lies_sized n sizes m same lies = record {
   units = lies.units;
   size = lies.size;
-  some = lies.some;
+  can = lies.can;
   few = lies.few;
   laid = record {
     large = lies.laid.large;
@@ -66,6 +69,29 @@ sizes_of u ring volumes c m laid = record {
   none = λ v past. laid.none v (omega (arith, past, laid.count));
 }
 
+-- ---- the maps of a raw set
+
+-- so many disks of the same size
+maps_from : (k n blocks : ℕ) (m : Meaning) → ((i : ℕ) → i < n → m.size (k + i) ≡ blocks) → maps_of (values_from (λ j. j) k n) m ≡ n * map_blocks blocks
+maps_from k zero blocks m same = let none : maps_of [] m ≡ 0 = refl in omega (arith, none)
+maps_from k (suc n) blocks m same =
+    let front = sum_by-cons (λ (u : ℕ). map_blocks (m.size u)) k (values_from (λ j. j) (k + 1) n) in
+    let here : map_blocks (m.size k) ≡ map_blocks blocks = ap (λ (s : ℕ). map_blocks s) (ap m.size (omega arith) ∙ same 0 (omega arith)) in
+    let rest = maps_from (k + 1) n blocks m (λ i low. ap m.size (omega arith) ∙ same (suc i) (omega (arith, low))) in
+    omega (arith, front, here, rest)
+
+-- one disk more
+pub maps_more : (n : ℕ) (m : Meaning) → maps_of (values_from (λ j. j) 1 (suc n)) m ≡ maps_of (values_from (λ j. j) 1 n) m + map_blocks (m.size (1 + n))
+maps_more n m =
+    ap (λ (us : List ℕ). maps_of us m) (values_from-push (λ j. j) 1 n) ∙ sum_by_push (λ (u : ℕ). map_blocks (m.size u)) (values_from (λ j. j) 1 n) (1 + n)
+
+-- disks of one size that can be a raw set have room for its maps
+pub maps_fit : (disks blocks : ℕ) (m : Meaning) → CanBeRaw disks blocks → ((u : ℕ) → u < disks → m.size u ≡ blocks) → LINK_PLACES * maps_of (raw_units disks).vols m ≤ m.size (raw_units disks).maps
+maps_fit disks blocks m can size =
+    let all = maps_from 1 (disks - 2) blocks m (λ i low. size (1 + i) (omega (arith, low))) in
+    let last = size (disks - 1) (omega (arith, can.some)) in
+    omega (arith, all, last, can.maps)
+
 -- ---- a raw set as it is made
 
 pub length-raw_volumes : (k n blocks : ℕ) → length (raw_volumes k n blocks) ≡ n
@@ -84,12 +110,12 @@ pub raw_none : (disks blocks v : ℕ) → disks - 2 ≤ v → (raw_content disks
 raw_none disks blocks v h = grind (arith, nat_tests)
 
 -- so many disks of so many blocks hold it
-pub raw_lies : (disks blocks : ℕ) (m : Meaning) → 3 ≤ disks → disks ≤ 8 → 8 ≤ blocks → m.units ≡ disks → ((u : ℕ) → u < disks → m.size u ≡ blocks)
+pub raw_lies : (disks blocks : ℕ) (m : Meaning) → CanBeRaw disks blocks → disks ≤ 8 → 8 ≤ blocks → m.units ≡ disks → ((u : ℕ) → u < disks → m.size u ≡ blocks)
     → IsRaw disks blocks (ring_of blocks) (raw_volumes 1 (disks - 2) blocks) (raw_content disks blocks).size m
-raw_lies disks blocks m some few large units size = record {
+raw_lies disks blocks m can few large units size = record {
   units = units;
   size = size;
-  some = some;
+  can = can;
   few = few;
   laid = record {
     large = omega (arith, large, first);
@@ -101,13 +127,13 @@ raw_lies disks blocks m some few large units size = record {
         raw_size disks blocks v inside ∙ sym (raw_volumes-whole 1 (disks - 2) blocks v x at);
     each = λ v there.
         let inside : v < disks - 2 = omega (arith, there, many) in
-        raw_size disks blocks v inside ∙ sym (ap m.size (slice_index-values_from 1 (disks - 2) v inside) ∙ size (1 + v) (omega (arith, inside, some)));
+        raw_size disks blocks v inside ∙ sym (ap m.size (slice_index-values_from 1 (disks - 2) v inside) ∙ size (1 + v) (omega (arith, inside, can.some)));
     none = λ v past. raw_none disks blocks v (omega (arith, past, many));
   };
 }
   where
     first : m.size 0 ≡ blocks
-    first = size 0 (omega (arith, some))
+    first = size 0 (omega (arith, can.some))
 
     many : length (raw_volumes 1 (disks - 2) blocks) ≡ disks - 2
     many = length-raw_volumes 1 (disks - 2) blocks

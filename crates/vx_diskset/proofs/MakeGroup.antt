@@ -1,5 +1,5 @@
 -- What stands after calls that change no contents, and of a raw set as it is made.
-use Rattle.std.proofs.Common.{inl, ◌≡◌, ◌∙◌, ◌+◌, ◌-◌, ◌<◌, ◌≤◌, ℕ, zero, suc, List, [], length, ap, ⊎_elim, sym, subst, refl, arith, IsTrue}
+use Rattle.std.proofs.Common.{inl, ◌≡◌, ◌∙◌, ◌+◌, ◌-◌, ◌*◌, ◌<◌, ◌≤◌, ℕ, zero, suc, List, [], length, ap, ⊎_elim, sym, subst, refl, arith, IsTrue}
 use Rattle.std.specs.Prelude.{IsFalse, Option, Some, None, slice_get, replicate}
 use Rattle.std.proofs.lemmas.List.{length-replicate}
 use Rattle.vx_diskset.specs.Holds.{Beside}
@@ -19,7 +19,8 @@ use Rattle.vx_model.specs.declared.state.State.{State}
 use Rattle.vx_disk.specs.Shelf.{Meaning, Image, Lawful, Goes, Nothing, Keeps}
 use Rattle.vx_disk.specs.Moves.{Moves, Run, Anything}
 use Rattle.vx_disk.proofs.Moving.{kept_beside}
-use Rattle.vx_rvg.specs.Views.{Core, Placed, unit_of, last_of}
+use Rattle.vx_rvg.specs.Views.{Core, Placed, maps_of, unit_of, last_of}
+use Rattle.vx_model.specs.declared.limits.TheConstants.{LINK_PLACES}
 use Rattle.vx_rvg.specs.Groups.{new_core, MakeCause}
 use Rattle.vx_srl.specs.Views.{widths}
 use Rattle.vx_disk.specs.Counts.{Rose}
@@ -41,7 +42,7 @@ use Rattle.vx_diskset.proofs.LastWrites.{stands_with, still_with}
 use Rattle.vx_diskset.proofs.NeedLemmas.{none_of, takes_none}
 use Rattle.vx_diskset.proofs.StaysUp.{never_both, told_now, fitted_moved, stays_up, writes_found}
 use Rattle.vx_diskset.specs.Holds.{alone, state_with}
-use Rattle.vx_diskset.specs.Layouts.{raw_units}
+use Rattle.vx_diskset.specs.Layouts.{raw_units, CanBeRaw}
 use Rattle.vx_diskset.proofs.Laying.{lies_as, raw_lies, raw_size, raw_none}
 use Rattle.vx_diskset.specs.Fuses.{HasFuse, LetsPass}
 use Rattle.vx_diskset.specs.Stands.{IsFitted, IsBareAt, bare_with, IsUpAt, faults_at}
@@ -66,7 +67,7 @@ lets_still calls (Some o) (Some n) P same with lets = (lets.0, same o n with ∙
 pub fuse_still : (f : Fuse) (m new : Meaning) (P : Disks → Disks → Type 0) → ((o n : Disks) → P o n → n.fuse ≡ o.fuse) → new.armed ≡ m.armed → WithDisks m.disks new.disks P → HasFuse f m → HasFuse f new
 fuse_still NoFuse m new P same armed with has = armed ∙ has
 fuse_still (FuseSet calls) m new P same armed with has = lets_still calls m.disks new.disks P same with has
-fuse_still FuseLit m new P same armed with has = tt
+fuse_still (FuseLit most) m new P same armed with has = tt
 
 -- behind a call that only reads
 pub fuse_untouched : (f : Fuse) (m new : Meaning) → OnDisks m.disks new.disks Untouched → IsRack m → IsRack new → HasFuse f m → HasFuse f new
@@ -137,8 +138,9 @@ bare_moved n count m new moves bare = record {
 }
 
 -- the units of a raw set are there, and none is another
-pub placed_raw : (disks : ℕ) (m : Meaning) → disks ≡ m.units → 3 ≤ disks → Placed (raw_units disks) m
-placed_raw disks m is some = record {
+pub placed_raw : (disks : ℕ) (m : Meaning) → disks ≡ m.units → 3 ≤ disks → LINK_PLACES * maps_of (raw_units disks).vols m ≤ m.size (raw_units disks).maps → Placed (raw_units disks) m
+placed_raw disks m is some maps = record {
+  maps_fit = maps;
   log_exists = omega arith;
   maps_exist = omega (arith, is, some);
   maps_apart = λ same. omega (arith, same, some);
@@ -199,13 +201,13 @@ raw_holds n m bare some = record {
 }
 
 -- a raw set as it is made
-pub raw_stands : (site : ℕ) (n : Node) (c : Core) (m new : Meaning) → Lawful new → c.log.unit ≡ c.units.srl → IsBareAt n m → 3 ≤ n.disks → c ≡ new_core (raw_units n.disks) (first_state site) (ring_of (m.size 0))
+pub raw_stands : (site : ℕ) (n : Node) (c : Core) (m new : Meaning) → Lawful new → c.log.unit ≡ c.units.srl → IsBareAt n m → CanBeRaw n.disks n.blocks → c ≡ new_core (raw_units n.disks) (first_state site) (ring_of (m.size 0))
     → Moves (Run 0 0 (ring_of (m.size 0) + 2)) Anything m new → (IsTrue m.tells → (k : Content) (maps : List (List ℕ)) → Holds (raw_units n.disks) k maps m → Stands c (nothing_logged k maps) new) → IsUpAt alone (raw_set site n) c new
-raw_stands site n c m new lawful unit_is bare some is moves stands = record {
+raw_stands site n c m new lawful unit_is bare can is moves stands = record {
   state = refl;
   up = stays_up (Run 0 0 (ring_of (m.size 0) + 2)) Anything m new moves bare.unarmed bare.fitted.up;
   fuse = subst (λ (k : Node). HasFuse k.fuse new) (sym bare.is) (moves.unarmed bare.unarmed);
-  lies = raw_lies n.disks n.blocks new some bare.few bare.some (moves.units ∙ bare.fitted.units) (λ u there. moves.size u ∙ bare.fitted.size u there);
+  lies = raw_lies n.disks n.blocks new can bare.few bare.some (moves.units ∙ bare.fitted.units) (λ u there. moves.size u ∙ bare.fitted.size u there);
   units = ap (λ (k : Core). k.units) is;
   ring = ring_here;
   low = ap (λ (k : Node). k.low) bare.is;
@@ -232,7 +234,7 @@ raw_stands site n c m new lawful unit_is bare some is moves stands = record {
 }
   where
     ring_here : c.log.ring ≡ ring_of n.blocks
-    ring_here = ap (λ (k : Core). k.log.ring) is ∙ ap ring_of (bare.fitted.size 0 (omega (arith, some)))
+    ring_here = ap (λ (k : Core). k.log.ring) is ∙ ap ring_of (bare.fitted.size 0 (omega (arith, can.some)))
 
     kept_here : c.log.header.state ≡ state_with (raw_set site n) []
     kept_here = ap (λ (k : Core). k.log.header.state) is ∙ raw_state site n bare.is
@@ -245,16 +247,16 @@ raw_stands site n c m new lawful unit_is bare some is moves stands = record {
       held = nothing_logged (raw_content n.disks n.blocks) (replicate n.blocks zero_block);
       has = record { some = omega arith; last = refl; writes = refl; content = refl; whole = λ room. (refl, refl) };
       needs = none_of c.log.header.state.links 0 (ap (λ (k : Core). k.log.header.state.links) is);
-      stands = stands (sym moves.tells ∙ told) (raw_content n.disks n.blocks) (replicate n.blocks zero_block) (raw_holds n m bare some);
+      stands = stands (sym moves.tells ∙ told) (raw_content n.disks n.blocks) (replicate n.blocks zero_block) (raw_holds n m bare can.some);
     }
 
 -- the same with the units as they were made
 pub made_stands : (site d : ℕ) (n : Node) (c : Core) (units : Units) (state : State) (m new : Meaning) → units ≡ raw_units d → state ≡ first_state site → d ≡ m.units → Lawful new → c.log.unit ≡ c.units.srl
-    → IsBareAt n m → 3 ≤ n.disks → c ≡ new_core units state (ring_of (m.size units.srl)) → Moves (Run units.srl 0 (ring_of (m.size units.srl) + 2)) Anything m new
+    → IsBareAt n m → CanBeRaw n.disks n.blocks → c ≡ new_core units state (ring_of (m.size units.srl)) → Moves (Run units.srl 0 (ring_of (m.size units.srl) + 2)) Anything m new
     → (IsTrue m.tells → (k : Content) (maps : List (List ℕ)) → Holds units k maps m → Stands c (nothing_logged k maps) new) → IsUpAt alone (raw_set site n) c new
-made_stands site d n c units state m new units_is state_is d_is lawful unit_is bare some core moves stands =
+made_stands site d n c units state m new units_is state_is d_is lawful unit_is bare can core moves stands =
     let is : units ≡ raw_units n.disks = units_is ∙ ap raw_units (d_is ∙ bare.fitted.units) in
-    raw_stands site n c m new lawful unit_is bare some
+    raw_stands site n c m new lawful unit_is bare can
     (subst (λ (s : State). c ≡ new_core (raw_units n.disks) s (ring_of (m.size 0))) state_is (subst (λ (u : Units). c ≡ new_core u state (ring_of (m.size u.srl))) is core))
     (subst (λ (u : Units). Moves (Run u.srl 0 (ring_of (m.size u.srl) + 2)) Anything m new) is moves)
     (subst (λ (u : Units). IsTrue m.tells → (k : Content) (maps : List (List ℕ)) → Holds u k maps m → Stands c (nothing_logged k maps) new) is stands)
@@ -262,15 +264,15 @@ made_stands site d n c units state m new units_is state_is d_is lawful unit_is b
 module _ {R : Type 0} {g : Ghosts R} where
   -- a raw set that was not made
   pub raw_failed : (site d : ℕ) (n : Node) (old : DiskSet R g) (rack back : R) (units : Units) (stop : Stop) → old ≡ Spoiled rack → units ≡ raw_units d → IsBareAt n (g.meaning rack)
-      → (8 ≤ (g.meaning rack).size units.srl → MakeCause (g.meaning rack) (g.meaning back) stop) → 3 ≤ n.disks
+      → (8 ≤ (g.meaning rack).size units.srl → MakeCause (g.meaning rack) (g.meaning back) stop) → CanBeRaw n.disks n.blocks
       → Moves (Run units.srl 0 (ring_of ((g.meaning rack).size units.srl) + 2)) Anything (g.meaning rack) (g.meaning back) → MadeIs site n old (Spoiled back) (Err stop)
-  raw_failed site d n old rack back units stop is units_is bare cause some moves = why stop (cause large)
+  raw_failed site d n old rack back units stop is units_is bare cause can moves = why stop (cause large)
     where
       srl : units.srl ≡ 0
       srl = ap (λ (u : Units). u.srl) units_is
 
       large : 8 ≤ (g.meaning rack).size units.srl
-      large = omega (arith, ap (g.meaning rack).size srl, bare.fitted.size 0 (omega (arith, some)), bare.some)
+      large = omega (arith, ap (g.meaning rack).size srl, bare.fitted.size 0 (omega (arith, can.some)), bare.some)
 
       stays : IsBareAt n (g.meaning back)
       stays = bare_moved n (ring_of ((g.meaning rack).size 0) + 2) (g.meaning rack) (g.meaning back)

@@ -36,7 +36,7 @@ use Rattle.vx_diskset.specs.declared.disk_set.DiskSet.TheVariants.{Bare, Spoiled
 use Rattle.vx_diskset.specs.DiskSets.{BareUp, BareUpIs, MadeIs}
 use Rattle.vx_events.specs.Found.{SameDisks}
 use Rattle.vx_diskset.specs.Fuses.{HasFuse}
-use Rattle.vx_diskset.specs.Layouts.{raw_units}
+use Rattle.vx_diskset.specs.Layouts.{raw_units, CanBeRaw}
 use Rattle.vx_diskset.proofs.Laying.{raw_lies}
 use Rattle.vx_diskset.specs.Stands.{IsCleanAt, IsUpAt, faults_at}
 use Rattle.vx_diskset.proofs.MakeGroup.{bare_still, keeps_still}
@@ -101,20 +101,20 @@ abbrev pub found_bare : Node → Core → Node
 found_bare n core = found_site (raw_set 0 n) core.log.header.state core.log.header.incarnation (last_of core) (stand_ins core.log)
 
 -- a raw set that a start found on them
-module _ (n : Node) (m up new : Meaning) (core : Core) (clean : IsCleanAt n m) (some : 3 ≤ n.disks) (goes : Goes Nothing m up) (after : Lawful new) (untold : IsTrue new.tells → ⊥)
+module _ (n : Node) (m up new : Meaning) (core : Core) (clean : IsCleanAt n m) (can : CanBeRaw n.disks n.blocks) (goes : Goes Nothing m up) (after : Lawful new) (untold : IsTrue new.tells → ⊥)
     (started : IsStarted (raw_units n.disks) up core new) (moves : Moves (Run (raw_units n.disks).srl 0 (ring_in (raw_units n.disks) up + 2)) (Starting (raw_units n.disks) up) up new)
     (still : IsTrue new.down → ⊥) where
   ring_here : ring_in (raw_units n.disks) up ≡ ring_of n.blocks
-  ring_here = ap ring_of (goes.size 0 ∙ clean.bare.fitted.size 0 (omega (arith, some)))
+  ring_here = ap ring_of (goes.size 0 ∙ clean.bare.fitted.size 0 (omega (arith, can.some)))
 
   pub found_same : SameDisks (raw_set 0 n) (found_bare n core)
-  found_same = record { name = refl; disks = refl; blocks = refl; volumes = refl; up = refl; running = refl; failing = refl }
+  found_same = record { name = refl; disks = refl; blocks = refl; volumes = refl; up = refl; running = refl; failing = refl; fuse = refl }
 
   pub found_up : (beside : Beside) → beside.doubt ≡ None → IsUpAt beside (found_bare n core) core new
   found_up beside sure = record {
     state = refl;
     up = not_true new.down still;
-    lies = raw_lies n.disks n.blocks new some clean.bare.few clean.bare.some (moves.units ∙ goes.units ∙ clean.bare.fitted.units) (λ u there. moves.size u ∙ goes.size u ∙ clean.bare.fitted.size u there);
+    lies = raw_lies n.disks n.blocks new can clean.bare.few clean.bare.some (moves.units ∙ goes.units ∙ clean.bare.fitted.units) (λ u there. moves.size u ∙ goes.size u ∙ clean.bare.fitted.size u there);
     fuse = subst (λ (k : Node). HasFuse k.fuse new) (sym clean.bare.is) (moves.unarmed (goes.unarmed clean.bare.unarmed));
     units = started.units_are;
     ring = started.ring_is ∙ ring_here;
@@ -151,7 +151,7 @@ start_rose units m up back crash last why goes cause stopped alike disk is =
 -- ---- the same of disk sets
 
 module _ {R : Type 0} {g : Ghosts R} where
-  pub bare_came : (n : Node) (d : ℕ) (units : Units) (m : Meaning) (up : R) (rvg : Rvg R g) → units ≡ raw_units d → d ≡ m.units → IsCleanAt n m → 3 ≤ n.disks → Goes Nothing m (g.meaning up)
+  pub bare_came : (n : Node) (d : ℕ) (units : Units) (m : Meaning) (up : R) (rvg : Rvg R g) → units ≡ raw_units d → d ≡ m.units → IsCleanAt n m → CanBeRaw n.disks n.blocks → Goes Nothing m (g.meaning up)
       → Lawful (g.meaning rvg.shelf) → (IsTrue (g.meaning rvg.shelf).tells → ⊥) → IsStarted units (g.meaning up) rvg.core (g.meaning rvg.shelf)
       → Moves (Run units.srl 0 (ring_in units (g.meaning up) + 2)) (Starting units (g.meaning up)) (g.meaning up) (g.meaning rvg.shelf) → (IsTrue (g.meaning rvg.shelf).down → ⊥) → BareUp n (Up rvg)
   bare_came n d units m up rvg is d_is clean some goes after untold started moves still =

@@ -1,5 +1,5 @@
 -- What the start of a site that crashed leaves of it.
-use Rattle.std.proofs.Common.{◌-◌, ◌≡◌, ◌⊎◌, inl, inr, ⊎_elim, ℕ, ◌+◌, ◌<◌, ◌≤◌, Bool, true, false, List, [], length, replicate, Option, None, IsTrue, refl, sym, ◌∙◌, ap, subst, arith}
+use Rattle.std.proofs.Common.{◌-◌, ◌≡◌, ◌⊎◌, inl, inr, ⊎_elim, ℕ, ◌+◌, ◌*◌, ◌<◌, ◌≤◌, Bool, true, false, List, [], length, replicate, Option, None, IsTrue, refl, sym, ◌∙◌, ap, subst, arith}
 use Rattle.std.proofs.lemmas.List.{length-replicate}
 use Rattle.std.specs.Prelude.{IsFalse}
 use Rattle.vx_model.specs.Content.{Content, Write}
@@ -22,7 +22,9 @@ use Rattle.std.specs.Prelude.{MatchOption, Some, Err}
 use Rattle.vx_rvg.specs.Holdings.{Holding}
 use Rattle.vx_rvg.specs.Stands.{Left}
 use Rattle.vx_rvg.specs.Starts.{IsStarted, Starting, StartCause, NothingLeft, ring_in}
-use Rattle.vx_rvg.specs.Views.{Core, Placed, last_of, unit_of}
+use Rattle.vx_rvg.specs.Views.{Core, Placed, last_of, maps_of, unit_of}
+use Rattle.vx_rvg.proofs.WriteSound.{maps_fit_as}
+use Rattle.vx_model.specs.declared.limits.TheConstants.{LINK_PLACES}
 use Rattle.vx_rvg.proofs.ContentFacts.{stands_last}
 use Rattle.vx_srl.specs.Starts.{ReadsAtLimit}
 use Rattle.vx_srl.specs.Views.{most_number}
@@ -35,7 +37,7 @@ use Rattle.vx_diskset.specs.DiskSets.{CanStart, CameUp, CameUpIs, no_number}
 use Rattle.vx_events.specs.Found.{SameDisks}
 use Rattle.vx_diskset.specs.Holds.{HasWrites, state_with}
 use Rattle.vx_diskset.specs.Layouts.{LiesOn, raw_units, units_of}
-use Rattle.vx_diskset.proofs.Laying.{lies_as, sizes_of}
+use Rattle.vx_diskset.proofs.Laying.{lies_as, maps_fit, sizes_of}
 use Rattle.vx_diskset.specs.Holds.{most_header}
 use Rattle.vx_diskset.specs.Fuses.{HasFuse}
 use Rattle.vx_diskset.specs.Stands.{IsUpAt, IsDownAt, StandsAt, faults_at}
@@ -190,7 +192,7 @@ module _ {beside : Beside} (n : Node) (m up : Meaning) (is : IsDownAt beside n m
     }
 
     same_disks : (state : State) (session last : ℕ) (log : List Write) → SameDisks n (found_site n state session last log)
-    same_disks state session last log = record { name = refl; disks = refl; blocks = refl; volumes = refl; up = refl; running = refl; failing = refl }
+    same_disks state session last log = record { name = refl; disks = refl; blocks = refl; volumes = refl; up = refl; running = refl; failing = refl; fuse = refl }
 
     came_by : (b : Bool) → new.tells ≡ b → (core : Core) → core.log.unit ≡ core.units.srl → core.log.staged ≡ [] → IsStarted units up core new → Came beside n core new
     came_by true tells core unit_is idle started =
@@ -339,10 +341,11 @@ module _ {beside : Beside} (n : Node) (m up new last : Meaning) (is : IsDownAt b
 pub can_start : {beside : Beside} (n : Node) (m : Meaning) (ring : ℕ) → IsDownAt beside n m → ring ≡ n.ring → CanStart ring m
 can_start n m ring is ring_is = record {
   holds = record {
-    some = omega (arith, is.lies.units, is.lies.some);
+    some = omega (arith, is.lies.units, is.lies.can.some);
     few = omega (arith, is.lies.units, is.lies.few);
     large = is.lies.laid.large;
     is_ring = ring_is ∙ is.lies.laid.ring_is;
+    maps = subst (λ (k : ℕ). LINK_PLACES * maps_of (raw_units k).vols m ≤ m.size (raw_units k).maps) (sym is.lies.units) (maps_fit n.disks n.blocks m is.lies.can is.lies.size);
   };
   down = is.down;
 }
@@ -352,7 +355,8 @@ pub start_needs : (disks ring : ℕ) (units : Units) (m up : Meaning) → CanSta
     → Placed units up × (8 ≤ up.size units.srl) × (ring ≡ ring_in units up)
 start_needs disks ring units m up can alike is disks_is =
     let size : up.size units.srl ≡ m.size 0 = ap (λ (u : Units). up.size u.srl) is ∙ alike.contents.size 0 in (
-      subst (λ (u : Units). Placed u up) (sym is) (placed_raw disks up disks_is (omega (arith, disks_is, alike.contents.units, can.holds.some))),
+      subst (λ (u : Units). Placed u up) (sym is) (placed_raw disks up disks_is (omega (arith, disks_is, alike.contents.units, can.holds.some))
+          (subst (λ (k : ℕ). LINK_PLACES * maps_of (raw_units k).vols up ≤ up.size (raw_units k).maps) (sym alike.contents.units ∙ sym disks_is) (maps_fit_as (raw_units m.units) m up alike.contents.size can.holds.maps))),
       omega (arith, size, can.holds.large),
       can.holds.is_ring ∙ sym (ap ring_of size),
     )

@@ -4,7 +4,7 @@ use Rattle.std.specs.Prelude.{IsFalse}
 use Rattle.std.proofs.lemmas.List.{take_all}
 use Rattle.vx_model.specs.Content.{Content, Write, fold_writes}
 use Rattle.vx_history.specs.World.{Node, Fuse, NoFuse, FuseSet, FuseLit}
-use Rattle.vx_history.specs.Steps.{burned}
+use Rattle.vx_history.specs.Steps.{burned, spent}
 use Rattle.vx_model.specs.declared.state.State.{State}
 use Rattle.vx_model.specs.declared.units.Units.{Units}
 use Rattle.vx_srlfmt.specs.declared.header.Header.{Header}
@@ -66,28 +66,34 @@ stays_up mine P m new moves unarmed up = not_true new.down (λ down. never_both 
 pub fused_by : (f : Fuse) (mine : Blocks) (P : Says) (m new : Meaning) → Moves mine P m new → HasFuse f m → IsFalse m.down → IsTrue new.down → IsFused f
 fused_by NoFuse mine P m new moves unarmed up down = never_both m.down (moves.safe unarmed down) up
 fused_by (FuseSet calls) mine P m new moves has up down = tt
-fused_by FuseLit mine P m new moves has up down = tt
+fused_by (FuseLit most) mine P m new moves has up down = tt
 
 -- a fuse behind a call that may write and flush
 pub fuse_moved : (f : Fuse) (mine : Blocks) (P : Says) (m new : Meaning) → Moves mine P m new → HasFuse f m → HasFuse (burned f) new
 fuse_moved NoFuse mine P m new moves unarmed = moves.unarmed unarmed
 fuse_moved (FuseSet calls) mine P m new moves has = tt
-fuse_moved FuseLit mine P m new moves has = tt
+fuse_moved (FuseLit most) mine P m new moves has = tt
 
 pub fuse_burned : (f : Fuse) (m : Meaning) → HasFuse f m → HasFuse (burned f) m
 fuse_burned NoFuse m has = has
 fuse_burned (FuseSet calls) m has = tt
-fuse_burned FuseLit m has = tt
+fuse_burned (FuseLit most) m has = tt
+
+-- the same of a line that is known to have made so many calls
+pub fuse_spent : (n : ℕ) (f : Fuse) (m : Meaning) → HasFuse (burned f) m → HasFuse (spent n f) m
+fuse_spent n NoFuse m has = has
+fuse_spent n (FuseSet calls) m has = tt
+fuse_spent n (FuseLit most) m has = tt
 
 pub burned_twice : (f : Fuse) → burned (burned f) ≡ burned f
 burned_twice NoFuse = refl
 burned_twice (FuseSet calls) = refl
-burned_twice FuseLit = refl
+burned_twice (FuseLit most) = refl
 
 pub fused_before : (f : Fuse) → IsFused (burned f) → IsFused f
 fused_before NoFuse is = is
 fused_before (FuseSet calls) is = tt
-fused_before FuseLit is = tt
+fused_before (FuseLit most) is = tt
 
 -- ---- an image with the group's content has the site's
 

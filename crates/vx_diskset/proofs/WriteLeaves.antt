@@ -4,7 +4,7 @@ use Rattle.std.specs.Prelude.{IsFalse, Some, None}
 use Rattle.std.proofs.lemmas.List.{take-append-le, take_all}
 use Rattle.vx_model.specs.Content.{Write, put, fold_writes}
 use Rattle.vx_history.specs.World.{Node}
-use Rattle.vx_history.specs.Steps.{logged, half_begun, burned}
+use Rattle.vx_history.specs.Steps.{logged, half_begun, burned, write_calls}
 use Rattle.vx_model.specs.declared.state.KeptLink.{KeptLink}
 use Rattle.vx_diskset.specs.Holds.{Beside}
 use Rattle.vx_srlfmt.specs.declared.header.Header.{Header}
@@ -22,7 +22,7 @@ use Rattle.vx_events.specs.Fuses.{taken}
 use Rattle.vx_diskset.specs.Stands.{IsUpAt}
 use Rattle.vx_diskset.proofs.BesideLemmas.{never_besides, site_map}
 use Rattle.vx_diskset.proofs.LastWrites.{FoundOf, stands_with}
-use Rattle.vx_diskset.proofs.StaysUp.{told_now, found_same, writes_found, SameLog}
+use Rattle.vx_diskset.proofs.StaysUp.{told_now, found_same, writes_found, fuse_spent, SameLog}
 
 last_pushed : (xs : List Write) (x : Write) → drop (length xs) (take (suc (length xs)) (xs ++ x ∷ [])) ≡ x ∷ []
 last_pushed [] x = refl
@@ -151,7 +151,7 @@ up_logged {beside} n x c0 c c' m0 m new up none roomy lawful unit_is tells still
   state = up.state;
   up = still;
   lies = lies;
-  fuse = fuse;
+  fuse = fuse_spent write_calls n.fuse new fuse;
   units = units ∙ roomy.units;
   ring = ring ∙ roomy.ring;
   low = up.low;

@@ -15,6 +15,7 @@ use Rattle.vx_events.specs.declared.said.Said.TheVariants.{Refused}
 use Rattle.vx_diskset.specs.declared.disk_set.DiskSet.{DiskSet}
 use Rattle.vx_diskset.specs.declared.disk_set.DiskSet.TheVariants.{Bare, Spoiled, Up, Down, Gone}
 use Rattle.vx_diskset.specs.Burning.{Burnt, IsLogged}
+use Rattle.vx_diskset.specs.Fuses.{LeftAs}
 
 module _ {R : Type 0} {g : Ghosts R} where
   -- what is told of the disks of an disk set
@@ -60,6 +61,10 @@ module _ {R : Type 0} {g : Ghosts R} where
   -- the disks that lines made fail are made to fail
   pub record FailsAs (n : Node) (e : DiskSet R g) : Type 0 where
     pub told : (d : Disks) → disks_in e ≡ Some d → (u : ℕ) → n.failing u ≡ true → d.failing u ≡ true
+
+  -- the fuse of its disks has no more calls left than the world knows of
+  pub record FusedAs (n : Node) (e : DiskSet R g) : Type 0 where
+    pub told : (d : Disks) → disks_in e ≡ Some d → LeftAs n.fuse d.fuse
 
   -- no block, no fuse and no disk that is made to fail changed
   pub record LeavesAlone (old new : DiskSet R g) : Type 0 where

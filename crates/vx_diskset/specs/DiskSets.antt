@@ -1,6 +1,6 @@
 -- What the calls on the disks of a site promise.
-use Rattle.std.specs.Prelude.{◌≡◌, ℕ, ◌+◌, ◌<◌, ◌≤◌, ◌++◌, ◌∷◌, [], ◌⊎◌, min, length, Option, Some, None, Result, Ok, Err, List, IsTrue, Bool, true, false}
-use Rattle.vx_model.specs.declared.limits.TheConstants.{LEAST_BLOCKS, MOST_DISKS}
+use Rattle.std.specs.Prelude.{◌≡◌, ℕ, ◌+◌, ◌*◌, ◌<◌, ◌≤◌, ◌++◌, ◌∷◌, [], ◌⊎◌, min, length, Option, Some, None, Result, Ok, Err, List, IsTrue, Bool, true, false}
+use Rattle.vx_model.specs.declared.limits.TheConstants.{LEAST_BLOCKS, LINK_PLACES, MOST_DISKS}
 use Rattle.vx_model.specs.Content.{Write}
 use Rattle.vx_history.specs.World.{Node, bare_site}
 use Rattle.vx_history.specs.Steps.{logged, raw_set, half_begun, crashed, recovered, burned}
@@ -17,6 +17,7 @@ use Rattle.vx_disk.specs.Racks.{most_blocks}
 use Rattle.vx_disk.specs.Shelf.{Meaning}
 use Rattle.vx_disk.specs.declared.shelf.Shelf.{Ghosts}
 use Rattle.vx_rvg.specs.Contents.{Shows}
+use Rattle.vx_rvg.specs.Views.{maps_of}
 use Rattle.vx_srl.specs.Views.{most_number}
 use Rattle.vx_diskset.specs.declared.disk_set.DiskSet.{DiskSet}
 use Rattle.vx_events.specs.Found.{SameDisks}
@@ -72,6 +73,7 @@ pub record CanHold (ring : ℕ) (m : Meaning) : Type 0 where
   pub few : m.units ≤ MOST_DISKS
   pub large : LEAST_BLOCKS ≤ m.size (raw_units m.units).srl
   pub is_ring : ring ≡ ring_of (m.size (raw_units m.units).srl)
+  pub maps : LINK_PLACES * maps_of (raw_units m.units).vols m ≤ m.size (raw_units m.units).maps
 
 -- the same of disks that are down
 pub record CanStart (ring : ℕ) (m : Meaning) : Type 0 where

@@ -1,5 +1,5 @@
 -- The fuse of the disks of a site.
-use Rattle.std.specs.Prelude.{◌≡◌, ℕ, Option, Some, None, List, IsFalse}
+use Rattle.std.specs.Prelude.{◌≡◌, ◌≤◌, ℕ, Option, Some, None, List, IsFalse}
 use Rattle.vx_model.specs.Content.{Write}
 use Rattle.vx_history.specs.World.{Fuse, NoFuse, FuseSet, FuseLit}
 use Rattle.vx_disk.specs.Disks.{Disks}
@@ -12,11 +12,23 @@ abbrev pub LetsPass : ℕ → Option Disks → Type 0
 LetsPass calls None = ⊥
 LetsPass calls (Some disks) = (pick : ℕ) × (disks.fuse ≡ Some (calls, pick))
 
--- the fuse of a rack, as far as it is known
+-- The fuse of a rack, as far as a single call knows it: behind a line that may have used some of its calls, how many it has left at most is
+-- said of the whole line (`LeftAs`).
 abbrev pub HasFuse : Fuse → Meaning → Type 0
 HasFuse NoFuse m = IsFalse m.armed
 HasFuse (FuseSet calls) m = LetsPass calls m.disks
-HasFuse FuseLit m = Unit {0}
+HasFuse (FuseLit most) m = Unit {0}
+
+-- a fuse is set, with at most so many calls left
+abbrev pub HasLeft : ℕ → Option (ℕ × ℕ) → Type 0
+HasLeft most None = ⊥
+HasLeft most (Some f) = f.0 ≤ most
+
+-- a fuse has no more calls left than the world knows of
+abbrev pub LeftAs : Fuse → Option (ℕ × ℕ) → Type 0
+LeftAs NoFuse f = Unit {0}
+LeftAs (FuseSet calls) f = HasLeft calls f
+LeftAs (FuseLit most) f = HasLeft most f
 
 -- a log that holds these writes, from the beginning of its ring on
 pub record IsFirst (l : Log) (xs : List Write) : Type 0 where

@@ -1,7 +1,7 @@
 -- How the group of a site lies on the units of a shelf, and of a raw set on its disks.
-use Rattle.std.specs.Prelude.{◌≡◌, ℕ, ◌-◌, ◌<◌, ◌≤◌, List, length, Some, slice_get}
-use Rattle.vx_model.specs.declared.limits.TheConstants.{LEAST_BLOCKS, MOST_DISKS}
-use Rattle.vx_model.specs.Sizes.{ring_of}
+use Rattle.std.specs.Prelude.{◌≡◌, ℕ, ◌-◌, ◌*◌, ◌<◌, ◌≤◌, List, length, Some, slice_get}
+use Rattle.vx_model.specs.declared.limits.TheConstants.{LEAST_BLOCKS, LINK_PLACES, MOST_DISKS}
+use Rattle.vx_model.specs.Sizes.{map_blocks, ring_of}
 use Rattle.vx_model.specs.declared.units.Units.{Units}
 use Rattle.vx_history.specs.World.{Node, Volume}
 use Rattle.vx_disk.specs.Shelf.{Meaning}
@@ -26,11 +26,16 @@ pub record IsLaid (u : Units) (ring : ℕ) (volumes : List Volume) (sizes : ℕ 
   pub each : (v : ℕ) → v < length volumes → sizes v ≡ m.size (unit_of u.vols v)
   pub none : (v : ℕ) → length volumes ≤ v → sizes v ≡ 0
 
+-- so many disks of so many blocks can be a raw set: the last has room for the maps of the volumes between
+pub record CanBeRaw (disks blocks : ℕ) : Type 0 where
+  pub some : 3 ≤ disks
+  pub maps : LINK_PLACES * (disks - 2) * map_blocks blocks ≤ blocks
+
 -- so many disks of so many blocks, each of them a unit of the shelf, with a raw set on them
 pub record IsRaw (disks blocks ring : ℕ) (volumes : List Volume) (sizes : ℕ → ℕ) (m : Meaning) : Type 0 where
   pub units : m.units ≡ disks
   pub size : (u : ℕ) → u < disks → m.size u ≡ blocks
-  pub some : 3 ≤ disks
+  pub can : CanBeRaw disks blocks
   pub few : disks ≤ MOST_DISKS
   pub laid : IsLaid (raw_units disks) ring volumes sizes m
 

@@ -12,3 +12,4 @@ mod writing;
 
 pub use disk_set::DiskSet;
 pub use reading::blocks_of;
+pub use units::can_be_raw;

@@ -1,5 +1,5 @@
 // How a group is made on the disks of a site, and how it is started again.
-ghost use Rattle.std.specs.Prelude.{◌≡◌, ◌≤◌, ◌<◌, ℕ, IfOk, IfErr, IsTrue, IsFalse, List};
+ghost use Rattle.std.specs.Prelude.{◌≡◌, ◌≤◌, ◌<◌, ◌*◌, ℕ, IfOk, IfErr, IsTrue, IsFalse, List};
 ghost use Rattle.vx_model.specs.Content.{zero_block};
 ghost use Rattle.vx_model.specs.Sizes.{ring_of};
 ghost use Rattle.vx_disk.specs.Causes.{DeviceCause};
@@ -10,25 +10,42 @@ ghost use Rattle.vx_diskset.specs.Holds.{Beside};
 ghost use Rattle.vx_history.specs.World.{Node};
 ghost use Rattle.vx_diskset.specs.Asked.{SameFailing};
 ghost use Rattle.vx_diskset.specs.DiskSets.{Later, CanHold, CanStart, MadeIs, BareUpIs};
+ghost use Rattle.vx_diskset.specs.Layouts.{CanBeRaw, raw_units as units_of};
 ghost use Rattle.vx_diskset.specs.Stands.{IsBareAt, IsCleanAt};
+ghost use Rattle.vx_rvg.specs.Views.{maps_of};
 
 use crate::DiskSet;
 use crate::units::raw_units;
 use std::alloc::Global;
 use vx_disk::{Rack, refusal};
-use vx_model::limits::{LEAST_BLOCKS, LEAST_RAW_DISKS, MOST_DISKS};
-use vx_model::{No, Role, State, Stop, ring_blocks};
+use vx_model::limits::{LEAST_BLOCKS, LEAST_RAW_DISKS, LINK_PLACES, MOST_DISKS};
+use vx_model::{No, Role, State, Stop, map_blocks, ring_blocks};
 use vx_ringio::{TopSeen, read_top};
 use vx_rvg::{Rvg, StartRoom};
 
+// Whether the last of so many disks has room for the maps of the volumes between.
+fn has_maps<R: Rack>(rack: &R) -> bool
+    requires some { LEAST_RAW_DISKS ≤ (R.meaning rack.now).units }
+    requires few { (R.meaning rack.now).units ≤ MOST_DISKS }
+    ensures is { IsTrue result → LINK_PLACES * maps_of (units_of (R.meaning rack.now).units).vols (R.meaning rack.now) ≤ (R.meaning rack.now).size (units_of (R.meaning rack.now).units).maps }
+    ensures all { LINK_PLACES * maps_of (units_of (R.meaning rack.now).units).vols (R.meaning rack.now) ≤ (R.meaning rack.now).size (units_of (R.meaning rack.now).units).maps → IsTrue result }
+{
+    let disks = rack.units();
+    let mut maps = 0;
+    for disk in 1..disks - 1 {
+        maps += map_blocks(rack.size(disk));
+    }
+    LINK_PLACES as u64 * maps <= rack.size(disks - 1)
+}
+
 // A raw set on the disks of a bare site. Where it is not made, something of it may stand on them.
 fn make_group<R: Rack>(alloc: Global, rack: R, site: u32) -> (DiskSet<R>, Result<(), Stop>)
-    ensures made { (n : Node) → IsBareAt n (R.meaning rack) → 3 ≤ n.disks → MadeIs site n (DiskSet.Spoiled rack) result.0 result.1 }
+    ensures made { (n : Node) → IsBareAt n (R.meaning rack) → CanBeRaw n.disks n.blocks → MadeIs site n (DiskSet.Spoiled rack) result.0 result.1 }
     ensures failing { SameFailing (DiskSet.Spoiled rack) result.0 }
     ensures later { Later (DiskSet.Spoiled rack) result.0 }
 {
     let disks = rack.units();
-    if disks < LEAST_RAW_DISKS || disks > MOST_DISKS {
+    if disks < LEAST_RAW_DISKS || disks > MOST_DISKS || !has_maps(&rack) {
         return (DiskSet::Spoiled(rack), Err(Stop::No(No::Role)));
     }
     match Rvg::create(alloc, rack, &raw_units(disks), &State::first(site)) {
@@ -83,7 +100,7 @@ fn can_hold<R: Rack>(rack: &R, room: &StartRoom) -> bool
         return false;
     }
     let blocks = rack.size(0);
-    blocks >= LEAST_BLOCKS && room.ring() == ring_blocks(blocks)
+    blocks >= LEAST_BLOCKS && room.ring() == ring_blocks(blocks) && has_maps(rack)
 }
 
 // The same of disks that are down.
@@ -96,7 +113,7 @@ fn can_start<R: Rack>(rack: &R, room: &StartRoom) -> bool
 
 // Starts what stands on the disks of a bare site. Where it is refused, the site stays bare.
 fn start_bare<R: Rack>(rack: R, room: StartRoom) -> (DiskSet<R>, Result<(), No>)
-    ensures found { (n : Node) → IsCleanAt n (R.meaning rack) → 3 ≤ n.disks → room.ring ≡ ring_of n.blocks → BareUpIs n (DiskSet.Bare rack) result.0 result.1 }
+    ensures found { (n : Node) → IsCleanAt n (R.meaning rack) → CanBeRaw n.disks n.blocks → room.ring ≡ ring_of n.blocks → BareUpIs n (DiskSet.Bare rack) result.0 result.1 }
     ensures failing { SameFailing (DiskSet.Bare rack) result.0 }
     ensures later { Later (DiskSet.Bare rack) result.0 }
 {
@@ -128,7 +145,7 @@ impl<R: Rack> DiskSet<R> {
 
     /// Makes a bare site's disks a raw set: disk 0 the log, the last disk the maps, and each disk between a volume.
     pub fn make_raw(self, alloc: Global, site: u32) -> (DiskSet<R>, Result<(), Stop>)
-        ensures made { (beside : Beside) (n : Node) → StandsAt beside n self → n.state ≡ BareState → 3 ≤ n.disks → MadeIs site n self result.0 result.1 }
+        ensures made { (beside : Beside) (n : Node) → StandsAt beside n self → n.state ≡ BareState → CanBeRaw n.disks n.blocks → MadeIs site n self result.0 result.1 }
         ensures failing { SameFailing self result.0 }
         ensures later { Later self result.0 }
     {
@@ -168,7 +185,7 @@ impl<R: Rack> DiskSet<R> {
 
     /// Starts what an earlier run left on the disks of a bare site, with room taken before. Where it is refused, the site stays bare.
     pub fn recover_bare(self, room: StartRoom) -> (DiskSet<R>, Result<(), No>)
-        ensures found { (beside : Beside) (n : Node) → StandsAt beside n self → n.state ≡ BareState → 3 ≤ n.disks → room.ring ≡ ring_of n.blocks → BareUpIs n self result.0 result.1 }
+        ensures found { (beside : Beside) (n : Node) → StandsAt beside n self → n.state ≡ BareState → CanBeRaw n.disks n.blocks → room.ring ≡ ring_of n.blocks → BareUpIs n self result.0 result.1 }
         ensures failing { SameFailing self result.0 }
         ensures later { Later self result.0 }
     {

@@ -267,7 +267,7 @@ module _ {R : Type 0} {g : Ghosts R} where
 
   -- ---- a write is done only where the disk of the log works
 
-  told_disks : ((r : R) → IsRack (g.meaning r)) → (n : Node) (e : DiskSet R g) → StandsAlone n e → (d : Disks) × (disks_in e ≡ Some d)
+  pub told_disks : ((r : R) → IsRack (g.meaning r)) → (n : Node) (e : DiskSet R g) → StandsAlone n e → (d : Disks) × (disks_in e ≡ Some d)
   told_disks racks n (Bare rack) h = ((racks rack).told, (racks rack).is)
   told_disks racks n (Spoiled rack) h = ((racks rack).told, (racks rack).is)
   told_disks racks n (Up rvg) h = ((racks rvg.shelf).told, (racks rvg.shelf).is)

@@ -8,6 +8,7 @@ pub mod CrashLine
 pub mod DiskLine
 pub mod FailsStay
 pub mod FuseLine
+pub mod FuseStays
 pub mod IntoRacks
 pub mod LineEvents
 pub mod Lists

@@ -28,6 +28,7 @@ use Rattle.vx_events.specs.Views.{view_of}
 use Rattle.vx_diskset.specs.Holds.{alone, state_with}
 use Rattle.vx_node.specs.Rising.{NotesUp, Recovering, Finding}
 use Rattle.vx_node.specs.Stands.{DiskSetsStand, RoseAll, faults_of}
+use Rattle.vx_diskset.specs.Layouts.{CanBeRaw}
 use Rattle.vx_diskset.specs.Stands.{StandsAlone}
 use Rattle.vx_node.specs.Works.{IsBareStill, BareFails, BareUp as RisesBare, BareNone}
 use Rattle.vx_node.specs.Working.{WorkIs}
@@ -43,7 +44,7 @@ use Rattle.vx_node.proofs.SiteLine.{stands_new}
 
 -- the number of a site says nothing of its disks
 same_set : (s : ℕ) (n k : Node) → SameDisks (raw_set 0 n) k → SameDisks (raw_set s n) k
-same_set s n k same = record { name = same.name; disks = same.disks; blocks = same.blocks; volumes = same.volumes; up = same.up; running = same.running; failing = same.failing }
+same_set s n k same = record { name = same.name; disks = same.disks; blocks = same.blocks; volumes = same.volumes; up = same.up; running = same.running; failing = same.failing; fuse = same.fuse }
 
 module _ {R : Type 0} {g : Ghosts R} where
   -- nothing of the line was done
@@ -68,8 +69,8 @@ module _ {R : Type 0} {g : Ghosts R} where
     stood : StandsAlone (w.nodes s) before
     stood = stands.disk_sets.sites s before below there
 
-    pub enough : 3 ≤ site.disks → 3 ≤ (w.nodes s).disks
-    enough some = subst (λ (f : SiteFacts). 3 ≤ f.disks) node_fact some
+    pub enough : CanBeRaw site.disks site.blocks → CanBeRaw (w.nodes s).disks (w.nodes s).blocks
+    enough can = subst (λ (f : SiteFacts). CanBeRaw f.disks f.blocks) node_fact can
 
     pub ring_fits : (ring : ℕ) → ring ≡ ring_of site.blocks → ring ≡ ring_of (w.nodes s).blocks
     ring_fits ring is = is ∙ ap (λ (f : SiteFacts). ring_of f.blocks) node_fact

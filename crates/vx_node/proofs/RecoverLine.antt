@@ -128,7 +128,7 @@ module _ {R : Type 0} {g : Ghosts R} where
   pub up_parts : (k : Node) (e : DiskSet R g) → StandsAlone k e → k.state ≡ IsUp → (k.low ≡ 1) × (k.ring ≡ ring_of k.blocks)
   up_parts k (Bare rack) h up = absurd (bare_up (sym (ap (λ (n : Node). n.state) h.bare.is) ∙ up))
   up_parts k (Spoiled rack) h up = absurd (bare_up (sym (ap (λ (n : Node). n.state) h.is) ∙ up))
-  up_parts k (Up rvg) h up = (h.low, h.lies.laid.ring_is ∙ ap ring_of (h.lies.size 0 (omega (arith, h.lies.some))))
+  up_parts k (Up rvg) h up = (h.low, h.lies.laid.ring_is ∙ ap ring_of (h.lies.size 0 (omega (arith, h.lies.can.some))))
   up_parts k (Down rack) h up = absurd (down_up (sym h.state ∙ up))
   up_parts k Gone h up = absurd h
 
@@ -144,7 +144,7 @@ module _ {R : Type 0} {g : Ghosts R} where
   down_ring n (Bare rack) h down = absurd (bare_down (sym (ap (λ (n : Node). n.state) h.bare.is) ∙ down))
   down_ring n (Spoiled rack) h down = absurd (bare_down (sym (ap (λ (n : Node). n.state) h.is) ∙ down))
   down_ring n (Up rvg) h down = absurd (up_down (sym h.state ∙ down))
-  down_ring n (Down rack) h down = h.lies.laid.ring_is ∙ ap ring_of (h.lies.size 0 (omega (arith, h.lies.some)))
+  down_ring n (Down rack) h down = h.lies.laid.ring_is ∙ ap ring_of (h.lies.size 0 (omega (arith, h.lies.can.some)))
   down_ring n Gone h down = absurd h
 
   -- not all contents are told where those of one disk set are not
@@ -318,8 +318,8 @@ module _ {R : Type 0} {g : Ghosts R} where
   some_blocks : (n : Node) (e : DiskSet R g) → StandsAlone n e → 8 ≤ n.blocks
   some_blocks n (Bare rack) h = h.bare.some
   some_blocks n (Spoiled rack) h = h.some
-  some_blocks n (Up rvg) h = omega (arith, h.lies.laid.large, h.lies.size 0 (omega (arith, h.lies.some)))
-  some_blocks n (Down rack) h = omega (arith, h.lies.laid.large, h.lies.size 0 (omega (arith, h.lies.some)))
+  some_blocks n (Up rvg) h = omega (arith, h.lies.laid.large, h.lies.size 0 (omega (arith, h.lies.can.some)))
+  some_blocks n (Down rack) h = omega (arith, h.lies.laid.large, h.lies.size 0 (omega (arith, h.lies.can.some)))
   some_blocks n Gone h = absurd h
 
   never_deported : (n : Node) (e : DiskSet R g) → StandsAlone n e → n.state ≡ Deported → ⊥

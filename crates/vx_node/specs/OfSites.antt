@@ -1,5 +1,5 @@
 -- What a line asks of the rack of its site, and of no other.
-use Rattle.std.specs.Prelude.{◌≡◌, ℕ, ◌*◌, replicate, Some, slice_get, slice_set}
+use Rattle.std.specs.Prelude.{◌≡◌, ◌⊎◌, ℕ, ◌*◌, replicate, Some, slice_get, slice_set}
 use Rattle.vx_history.specs.World.{World}
 use Rattle.vx_disk.specs.declared.shelf.Shelf.{Ghosts}
 use Rattle.vx_script.specs.declared.line.ScriptLine.{ScriptLine}
@@ -8,6 +8,7 @@ use Rattle.vx_events.specs.declared.said.Said.{Said}
 use Rattle.vx_events.specs.Facts.{site_number}
 use Rattle.vx_events.specs.Failing.{is_failing}
 use Rattle.vx_diskset.specs.declared.disk_set.DiskSet.{DiskSet}
+use Rattle.vx_diskset.specs.declared.disk_set.DiskSet.TheVariants.{Up}
 use Rattle.vx_node.specs.declared.yard.Yard.{Yard}
 use Rattle.vx_diskset.specs.Asked.{SetsDisk, SetsFuse, CrashesBy, SameFailing, LeavesAlone, LeavesFuse, WritesUnder}
 use Rattle.vx_diskset.specs.Burning.{NoMore}
@@ -20,6 +21,15 @@ module _ {R : Type 0} {g : Ghosts R} where
     pub there : slice_get old.disk_sets.items site ≡ Some before
     pub disk_sets : new.disk_sets.items ≡ slice_set old.disk_sets.items site after
     pub did : Did before after
+
+  -- it is no disk set under a group
+  abbrev pub IsIdle : DiskSet R g → Type 0
+  IsIdle (Up rvg) = ⊥
+  IsIdle other = Unit {0}
+
+  -- the disks of each site are as they were, or they are those of a site without a group, and are made to fail or not as they were
+  pub record AllAsBefore (old new : Yard R g) : Type 0 where
+    pub each : (s : ℕ) (after : DiskSet R g) → slice_get new.disk_sets.items s ≡ Some after → (before : DiskSet R g) × (slice_get old.disk_sets.items s ≡ Some before) × ((after ≡ before) ⊎ (SameFailing before after × IsIdle after))
 
   -- each disk of each site is made to fail or not as it was before
   pub record AllSameFailing (old new : Yard R g) : Type 0 where

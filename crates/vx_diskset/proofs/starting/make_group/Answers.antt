@@ -1,15 +1,22 @@
-use Rattle.std.proofs.Common.{subst, sym, refl}
+use Rattle.std.proofs.Common.{◌*◌, ◌≤◌, ℕ, subst, sym, refl, rules, arith}
 use Rattle.vx_model.specs.declared.units.Units.{Units}
-use Rattle.vx_rvg.specs.Views.{Placed}
+use Rattle.vx_model.specs.declared.limits.TheConstants.{LINK_PLACES}
+use Rattle.vx_rvg.specs.Views.{Placed, maps_of}
+use Rattle.vx_diskset.specs.Layouts.{raw_units}
 use Rattle.vx_diskset.specs.declared.disk_set.DiskSet.TheVariants.{Spoiled}
 use Rattle.vx_diskset.proofs.MakeGroup.{placed_raw, first_spells, made_stands, raw_failed}
 use Rattle.vx_diskset.proofs.KeepsFailing.{same_spent}
+use Rattle.vx_diskset.proofs.Laying.{maps_fit}
+use Rattle.vx_diskset.proofs.StaysUp.{never_both}
 use Rattle.vx_diskset.proofs.starting.make_group.Goals as goal
+use Rattle.vx_diskset.proofs.starting.make_group.Goals.{then-disks-lt-LEAST_RAW_DISKS-via-then-disks-lt-LEAST_RAW_DISKS, then-disks-lt-LEAST_RAW_DISKS-via-else-disks-lt-LEAST_RAW_DISKS+then-disks-gt-MOST_DISKS, then-disks-lt-LEAST_RAW_DISKS-via-else-disks-lt-LEAST_RAW_DISKS+else-disks-gt-MOST_DISKS+then-not-has_maps}
 
 pub create-requires : goal.create-requires
 create-requires g c = record {
   placed = subst (λ (u : Units). Placed u (g.R.Shelf.meaning c.args.rack)) (sym c.raw_units.ensures)
-      (placed_raw c.units-disks.result (g.R.Shelf.meaning c.args.rack) c.units-disks.ensures c.if-disks-lt-LEAST_RAW_DISKS.false);
+      (placed_raw c.units-disks.result (g.R.Shelf.meaning c.args.rack) c.units-disks.ensures c.if-disks-lt-LEAST_RAW_DISKS.false
+      (subst (λ (k : ℕ). LINK_PLACES * maps_of (raw_units k).vols (g.R.Shelf.meaning c.args.rack) ≤ (g.R.Shelf.meaning c.args.rack).size (raw_units k).maps) (sym c.units-disks.ensures)
+      (c.has_maps.ensures.is (search rules))));
   state = first_spells c.args.site c.first.result c.first.ensures;
 }
 
@@ -29,3 +36,16 @@ returns-in-Ok-clause-failing g c = record { told = same_spent (g.R.Shelf.meaning
 
 pub returns-in-Err-clause-failing : goal.returns-in-Err-clause-failing
 returns-in-Err-clause-failing g c = record { told = same_spent (g.R.Shelf.meaning c.args.rack) (g.R.Shelf.meaning c.in-Err.rack) c.in-Err.ensures.spent }
+
+pub returns-then-disks-lt-LEAST_RAW_DISKS-clause-made : goal.returns-then-disks-lt-LEAST_RAW_DISKS-clause-made
+returns-then-disks-lt-LEAST_RAW_DISKS-clause-made g c = λ n bare can.
+    let m = g.R.Shelf.meaning c.args.rack in
+    elim c.then-disks-lt-LEAST_RAW_DISKS.branch [
+      | then-disks-lt-LEAST_RAW_DISKS-via-then-disks-lt-LEAST_RAW_DISKS w ↦ absurd (omega (arith, w.if-disks-lt-LEAST_RAW_DISKS.true, can.some, bare.fitted.units, c.units-disks.ensures))
+      | then-disks-lt-LEAST_RAW_DISKS-via-else-disks-lt-LEAST_RAW_DISKS+then-disks-gt-MOST_DISKS w ↦ absurd (omega (arith, w.if-disks-gt-MOST_DISKS.true, bare.few, bare.fitted.units, c.units-disks.ensures))
+      | then-disks-lt-LEAST_RAW_DISKS-via-else-disks-lt-LEAST_RAW_DISKS+else-disks-gt-MOST_DISKS+then-not-has_maps w ↦
+        absurd (never_both w.has_maps.result
+        (w.has_maps.ensures.all
+        (subst (λ (k : ℕ). LINK_PLACES * maps_of (raw_units k).vols m ≤ m.size (raw_units k).maps) (sym bare.fitted.units) (maps_fit n.disks n.blocks m can bare.fitted.size)))
+        w.if-not-has_maps.true)
+    ]

@@ -5,7 +5,8 @@ use Rattle.vx_diskset.specs.declared.disk_set.DiskSet.TheVariants.{Up, Down}
 use Rattle.vx_disk.specs.Disks.{Crashed, Untouched}
 use Rattle.vx_diskset.proofs.KeepsFailing.{same_on, same_spent, same_then}
 use Rattle.vx_diskset.specs.Stands.{StandsAt}
-use Rattle.vx_diskset.proofs.StartGroup.{start_needs, came_at, refused_at}
+use Rattle.vx_diskset.proofs.StartGroup.{can_start, start_needs, came_at, refused_at}
+use Rattle.vx_diskset.proofs.StaysUp.{never_both}
 use Rattle.vx_diskset.proofs.disk_set.DiskSet.recover.Goals as goal
 
 pub start_in-requires : goal.start_in-requires
@@ -38,3 +39,8 @@ returns-in-Err-clause-failing g c = subst (λ e. SameFailing e (Down c.crash.new
   told = same_then (g.R.Shelf.meaning c.in-Down.rack).disks (g.R.Shelf.meaning c.revive.new.self).disks (g.R.Shelf.meaning c.crash.new.self).disks (same_on Untouched (g.R.Shelf.meaning c.in-Down.rack).disks (g.R.Shelf.meaning c.revive.new.self).disks c.revive.ensures.disks)
       (same_then (g.R.Shelf.meaning c.revive.new.self).disks (g.R.Shelf.meaning c.in-Err.rack).disks (g.R.Shelf.meaning c.crash.new.self).disks (same_spent (g.R.Shelf.meaning c.revive.new.self) (g.R.Shelf.meaning c.in-Err.rack) c.in-Err.ensures.spent) (same_on (Crashed (g.R.Shelf.meaning c.in-Err.rack).size 0xffff_ffff_ffff_ffff) (g.R.Shelf.meaning c.in-Err.rack).disks (g.R.Shelf.meaning c.crash.new.self).disks c.crash.ensures.disks));
 })
+
+pub returns-then-not-can_start-clause-recovered : goal.returns-then-not-can_start-clause-recovered
+returns-then-not-can_start-clause-recovered g c = λ beside n stands down ring.
+    absurd (never_both c.can_start.result
+    (c.can_start.ensures.all (can_start n (g.R.Shelf.meaning c.in-Down.rack) c.args.room.ring (subst (λ e. StandsAt beside n e) c.in-Down.is stands) ring)) c.if-not-can_start.true)
