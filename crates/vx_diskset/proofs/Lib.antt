@@ -13,6 +13,7 @@ pub mod Laying
 pub mod MakeGroup
 pub mod MakeRoom
 pub mod NeedLemmas
+pub mod PumpGroup
 pub mod ReadGroup
 pub mod Sessions
 pub mod StartBare

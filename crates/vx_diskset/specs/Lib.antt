@@ -8,5 +8,6 @@ pub mod Keeps
 pub mod Lasts
 pub mod Layouts
 pub mod Needs
+pub mod Pumps
 pub mod Rooms
 pub mod Stands

@@ -3,6 +3,7 @@
 
 mod disk_set;
 mod keeping;
+mod pumping;
 mod reading;
 mod room;
 mod starting;

@@ -1,6 +1,6 @@
 -- A pump as an event of its link.
 use Rattle.std.proofs.Common.{◌≡◌, ◌∙◌, ◌⊎◌, inl, inr, ◌+◌, ◌-◌, ◌<◌, ◌≤◌, ℕ, zero, suc, Bool, true, false, List, [], ◌∷◌, ◌++◌, length, map, take, drop, ap, sym, subst, refl, arith}
-use Rattle.std.specs.Prelude.{Option, Some, None, ◌&&◌, slice_get, pred, if◌then◌else◌}
+use Rattle.std.specs.Prelude.{Option, Some, None, ◌&&◌, slice_get, pred, max, min, if◌then◌else◌}
 use Rattle.std.proofs.lemmas.List.{append-nil, length-take}
 use Rattle.std.proofs.Math.ListN.{drop_of_length-le}
 use Rattle.circular_buffer.proofs.Places.{slice_get-drop, slice_get-take}
@@ -11,9 +11,11 @@ use Rattle.vx_model.specs.declared.link.Link.{Link as PlainLink}
 use Rattle.vx_history.specs.Admission.{is_live}
 use Rattle.vx_history.specs.Events.{link_event, link_step}
 use Rattle.vx_history.specs.LinkForms.{plain_link, with_plain}
-use Rattle.vx_history.specs.Sending.{Sent, by_log, pumped, sent_step}
+use Rattle.vx_history.specs.Sending.{Sent, by_log, pumped, pumped_up_to, sent_step, with_nothing}
 use Rattle.vx_history.specs.Sends.{between, sent_by, updates}
 use Rattle.vx_history.specs.World.{Link, Node, Packet, World, updated}
+use Rattle.vx_history.specs.declared.sender.SFacts.{SFacts}
+use Rattle.vx_model.specs.declared.limits.TheConstants.{MOST_AHEAD}
 use Rattle.vx_history.specs.declared.sender.Action.{Action}
 use Rattle.vx_history.specs.declared.sender.Action.TheVariants.{Ignored, Nothing, Taken, Updates}
 use Rattle.vx_history.specs.declared.sender.SEvent.TheVariants.{Pump}
@@ -27,6 +29,14 @@ use Rattle.vx_rvg.specs.Views.{Core, last_of}
 use Rattle.vx_peers.specs.Senders.{AreRead, LinkMoved, SendsFrom, SentRange}
 use Rattle.vx_secondary.specs.Receivers.{write_of}
 use Rattle.vx_peers.proofs.Updates.{drop_at}
+
+-- updates are sent on a live link by the log alone
+pub sends_live : (k : PlainLink) (facts : SFacts) (from to : ℕ) → (sent_step k Pump facts).action ≡ Updates from to → (is_live k && by_log k.mode) ≡ true
+sends_live k facts from to is = by (is_live k && by_log k.mode) is
+  where
+    by : (b : Bool) → (if b then pumped_up_to k (max k.sent k.stored) (min facts.safe (k.net + MOST_AHEAD)) else with_nothing k).action ≡ Updates from to → b ≡ true
+    by true is = refl
+    by false is = absurd (let e : Nothing ≡ Updates from to = is in cc)
 
 -- the writes that were read are those of the site's log
 module _ (n : Node) (h : Holding) (line : Line) (some : 0 < h.low) (writes : h.writes ≡ drop (h.low - 1) (take n.safe n.log)) where

@@ -7,7 +7,7 @@ use Rattle.vx_history.specs.declared.sender.SEvent.TheVariants.{Pump}
 use Rattle.vx_history.specs.declared.sender.SFacts.{SFacts}
 use Rattle.vx_packet.specs.declared.message.Envelope.{Envelope}
 use Rattle.vx_sender.proofs.Events.{updates-fit}
-use Rattle.vx_peers.proofs.Pumps.{moved_none, moved_range, rule_same, sends_none}
+use Rattle.vx_peers.proofs.Pumps.{moved_none, moved_range, rule_same, sends_live, sends_none}
 use Rattle.vx_peers.proofs.pumping.pump.Goals as goal
 
 pub returns-in-Nothing-clause-moved : goal.returns-in-Nothing-clause-moved
@@ -33,4 +33,4 @@ returns-in_ok-send_range-in-Updates-clause-moved g c = λ w from tells link flig
     moved_range w c.args.site to core m from c.in-Updates.from c.in-Updates.to (record { source = c.args.site; target = to; line = c.state.result.now.line }) c.step.new.link
     (g.N.Net.flying c.args.flight.now) (g.N.Net.flying c.send_range.new.flight) (c.step.ensures.link ∙ ap (λ (r : Sent). r.link) same) action
     (ap (λ (s : State). let e : Envelope = record { source = c.args.site; target = to; line = s.line } in e) c.state.ensures) sent.0
-    (omega (arith, fits.3, c.head.ensures)) (omega (arith, fits.1, c.requires.held, from.stands.low)) flight
+    (omega (arith, fits.3, c.head.ensures)) (omega (arith, fits.1, c.requires.held (sends_live c.args.link.now facts c.in-Updates.from c.in-Updates.to (sym c.step.ensures.action ∙ c.in-Updates.is)), from.stands.low)) flight

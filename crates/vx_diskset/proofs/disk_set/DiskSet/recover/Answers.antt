@@ -41,6 +41,6 @@ returns-in-Err-clause-failing g c = subst (λ e. SameFailing e (Down c.crash.new
 })
 
 pub returns-then-not-can_start-clause-recovered : goal.returns-then-not-can_start-clause-recovered
-returns-then-not-can_start-clause-recovered g c = λ links n stands down ring.
+returns-then-not-can_start-clause-recovered g c = λ beside n stands down ring.
     absurd (never_both c.can_start.result
-    (c.can_start.ensures.all (can_start n (g.R.Shelf.meaning c.in-Down.rack) c.args.room.ring (subst (λ e. StandsAt links n e) c.in-Down.is stands) ring)) c.if-not-can_start.true)
+    (c.can_start.ensures.all (can_start n (g.R.Shelf.meaning c.in-Down.rack) c.args.room.ring (subst (λ e. StandsAt beside n e) c.in-Down.is stands) ring)) c.if-not-can_start.true)

@@ -1,0 +1,79 @@
+-- What a pump of a link makes of a site that is up.
+use Rattle.std.proofs.Common.{◌≡◌, ◌∙◌, ◌+◌, ◌-◌, ◌≤◌, ℕ, Bool, true, false, List, length, drop, take, ap, sym, subst, refl, arith, IsTrue}
+use Rattle.std.specs.Prelude.{◌&&◌, IsFalse, None, Some, Result, Ok, Err, OnOk, IfErr, slice_get}
+use Rattle.vx_model.specs.Content.{Write}
+use Rattle.vx_model.specs.declared.errors.Stop.{Stop}
+use Rattle.vx_model.specs.declared.errors.Stop.TheVariants.{No as Refused, OutOfMemory}
+use Rattle.vx_model.specs.declared.link.Link.{Link as PlainLink}
+use Rattle.vx_model.specs.declared.link.Mode.{Mode}
+use Rattle.vx_model.specs.declared.link.Mode.TheVariants.{Log, Dcm, Replay, Fork, Stale}
+use Rattle.vx_model.specs.declared.no.No.TheVariants.{Damaged, Device, Down as IsOff}
+use Rattle.vx_diskset.specs.Holds.{Beside}
+use Rattle.vx_model.specs.declared.state.State.{State}
+use Rattle.vx_history.specs.KeptLinks.{kept_link, kept_mode, kept_start}
+use Rattle.vx_history.specs.LinkForms.{plain_link}
+use Rattle.vx_history.specs.Sending.{by_log}
+use Rattle.vx_history.specs.Doubts.{Doubted}
+use Rattle.vx_history.specs.World.{Link, Node, World}
+use Rattle.vx_history.specs.declared.sender.SEvent.TheVariants.{Pump}
+use Rattle.vx_courier.specs.UnderWay.{FlightStands}
+use Rattle.vx_disk.specs.Shelf.{Meaning}
+use Rattle.vx_disk.specs.declared.shelf.Shelf.{Ghosts}
+use Rattle.vx_net.specs.Flights.{Flying}
+use Rattle.vx_peers.specs.Senders.{LinkMoved, ReadCause, SendsFrom}
+use Rattle.vx_rvg.specs.Views.{Core}
+use Rattle.vx_rvg.specs.declared.group.Rvg.{Rvg}
+use Rattle.vx_diskset.specs.Holds.{beside_of, links_of}
+use Rattle.vx_diskset.specs.Needs.{hold_of, is_needing, mode_hold, mode_needs}
+use Rattle.vx_diskset.specs.Pumps.{PumpedIs}
+use Rattle.vx_diskset.specs.Stands.{IsUpAt}
+use Rattle.vx_diskset.proofs.NeedLemmas.{low_needed}
+use Rattle.vx_diskset.proofs.StaysUp.{all_taken, never_both}
+
+-- ---- what a link by the log needs
+
+mode_by : (m : Mode) (stored : ℕ) → by_log m ≡ true → (mode_needs (kept_mode m) ≡ true) × (mode_hold (kept_mode m) (kept_start m) stored ≤ stored)
+mode_by Log stored is = (refl, omega arith)
+mode_by Dcm stored is = absurd (let e : false ≡ true = is in cc)
+mode_by (Replay id phase left start end) stored is = (refl, omega arith)
+mode_by (Fork maps) stored is = absurd (let e : false ≡ true = is in cc)
+mode_by Stale stored is = absurd (let e : false ≡ true = is in cc)
+
+needing_by : (to : ℕ) (l : Link) → by_log l.mode ≡ true → l.attached ≡ true → (is_needing (kept_link to l) ≡ true) × (hold_of (kept_link to l) ≤ l.stored)
+needing_by to l logs attached = let by = mode_by l.mode l.stored logs in (ap (λ (b : Bool). b && mode_needs (kept_mode l.mode)) attached ∙ by.0, by.1)
+
+module _ {R : Type 0} {g : Ghosts R} where
+  -- so it is there
+  pub never_lacks : (d : Doubted) (site to k : ℕ) (rvg : Rvg R g) (link : PlainLink) → IsUpAt (beside_of d site) (d.world.nodes site) rvg.core (g.meaning rvg.shelf) → (d.world.nodes site).halted ≡ None → IsTrue (g.meaning rvg.shelf).tells
+      → slice_get (links_of d.world site) k ≡ Some (kept_link to (d.world.links site to)) → link ≡ plain_link to (d.world.links site to) → by_log link.mode ≡ true → link.attached ≡ true → rvg.core.log.header.low ≤ link.stored + 1
+  never_lacks d site to k rvg link up none told there is logs attached =
+      let l : Link = d.world.links site to in
+      let by = needing_by to l (sym (ap (λ (x : PlainLink). by_log x.mode) is) ∙ logs) (sym (ap (λ (x : PlainLink). x.attached) is) ∙ attached) in
+      let low = low_needed (beside_of d site) (d.world.nodes site) rvg k (hold_of (kept_link to l)) (kept_link to l) up none told there by.0 refl in
+      omega (arith, low, by.1, ap (λ (x : PlainLink). x.stored) is)
+
+-- ---- the site as the sending end of a link
+
+sends_from : {beside : Beside} (n : Node) (c : Core) (m : Meaning) → IsUpAt beside n c m → n.halted ≡ None → IsTrue m.tells → SendsFrom n c m
+sends_from n c m up none told =
+    let stood = up.content none told in
+    record {
+      line = ap (λ (s : State). s.line) up.kept;
+      head = up.head;
+      held = stood.held;
+      stands = stood.stands;
+      some = stood.has.some;
+      writes = stood.has.writes ∙ ap (λ (xs : List Write). drop (stood.held.low - 1) xs) (all_taken n (omega (arith, up.logged, up.durable none)));
+    }
+
+pub pumped_is : (d : Doubted) (site : ℕ) (c : Core) (m new : Meaning) (link l : PlainLink) (f f' : Flying) (result : Result (Unit {0}) Stop) → IsUpAt (beside_of d site) (d.world.nodes site) c m → (d.world.nodes site).halted ≡ None → IsTrue m.tells
+    → new.down ≡ m.down → link ≡ plain_link link.site (d.world.links site link.site) → FlightStands d.world.packets f
+    → OnOk result ((w : World) → SendsFrom (w.nodes site) c m → IsTrue m.tells → link ≡ plain_link link.site (w.links site link.site) → FlightStands w.packets f → LinkMoved w site link.site Pump l f')
+    → IfErr result (ReadCause c m new) → PumpedIs d.world site link.site l f' m.disk_faults new.disk_faults result
+pumped_is d site c m new link l f f' (Ok done) up none told down is flight moved cause = moved d.world (sends_from (d.world.nodes site) c m up none told) told is flight
+pumped_is d site c m new link l f f' (Err OutOfMemory) up none told down is flight moved cause = tt
+pumped_is d site c m new link l f f' (Err (Refused (Device disk))) up none told down is flight moved cause = cause
+pumped_is d site c m new link l f f' (Err (Refused IsOff)) up none told down is flight moved cause = absurd (never_both new.down cause (down ∙ up.up))
+pumped_is d site c m new link l f f' (Err (Refused (Damaged unit block stored computed))) up none told down is flight moved cause =
+    let stood = up.content none told in absurd (cause stood.held stood.stands told)
+pumped_is d site c m new link l f f' (Err (Refused other)) up none told down is flight moved cause = absurd cause

@@ -1,0 +1,28 @@
+-- A pump of a link, over the group of its site.
+use Rattle.std.proofs.Common.{◌∙◌, arith, sym, subst}
+use Rattle.vx_rvg.specs.Views.{Core}
+use Rattle.vx_diskset.specs.Stands.{IsUpAt}
+use Rattle.vx_diskset.proofs.MakeGroup.{fuse_untouched}
+use Rattle.vx_diskset.proofs.PumpGroup.{never_lacks, pumped_is}
+use Rattle.vx_diskset.proofs.ReadGroup.{reads_up}
+use Rattle.vx_diskset.proofs.pumping.pump_group.Goals as goal
+
+pub returns-then-low-link-clause-pumped : goal.returns-then-low-link-clause-pumped
+returns-then-low-link-clause-pumped g c = λ d k up none told there is flight.
+    let low = never_lacks d c.args.site c.args.link.now.site k c.args.rvg.now c.args.link.now up none told there is (sym c.goes_by_log.ensures ∙ c.if-goes_by_log.true) c.if-link.true in
+    absurd (omega (arith, low, c.low-low.ensures, c.if-low-link.true))
+
+pub returns-clause-pumped : goal.returns-clause-pumped
+returns-clause-pumped g c = λ d k up none told there is flight.
+    pumped_is d c.args.site c.args.rvg.now.core (g.R.Shelf.meaning c.args.rvg.now.shelf) (g.R.Shelf.meaning c.pump.new.rvg.shelf) c.args.link.now c.pump.new.link (g.N.Net.flying c.args.flight.now) (g.N.Net.flying c.pump.new.flight) c.pump.result
+    up none told c.pump.ensures.down is flight c.pump.ensures.moved c.pump.ensures.cause
+
+pub returns-clause-stands : goal.returns-clause-stands
+returns-clause-stands g c = λ beside n up.
+    let lawful = (g.met.R.Shelf g.world.𝓛 g.world.𝓜 g.world.𝓡 ((λ s x. x), (λ x. x), (λ x. x), λ x. x)).lawful in
+    let is_rack = (g.met.R.Rack g.world.𝓛 g.world.𝓜 g.world.𝓡 ((λ s x. x), (λ x. x), (λ x. x), λ x. x)).rack in
+    let old = g.R.Shelf.meaning c.args.rvg.now.shelf in
+    let new = g.R.Shelf.meaning c.pump.new.rvg.shelf in
+    subst (λ (k : Core). IsUpAt beside n k new) (sym c.pump.ensures.core)
+    (reads_up n c.args.rvg.now.core old new (sym up.halted ∙ sym c.in_default.ensures) up (lawful c.args.rvg.now.shelf) (lawful c.pump.new.rvg.shelf) c.args.rvg.now.sound.log_unit c.pump.ensures.goes c.pump.ensures.down
+    (fuse_untouched n.fuse old new c.pump.ensures.disks (is_rack c.args.rvg.now.shelf) (is_rack c.pump.new.rvg.shelf) up.fuse))

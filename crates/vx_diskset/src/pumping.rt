@@ -1,0 +1,107 @@
+// What a site sends on a link, out of its log.
+ghost use Rattle.std.specs.Prelude.{◌≡◌, ◌≤◌, ◌+◌, ◌&&◌, ℕ, List, None, OnErr, Some, IsTrue, slice_get, true};
+ghost use Rattle.vx_courier.specs.UnderWay.{FlightStands};
+ghost use Rattle.vx_model.specs.declared.site.SiteState.TheVariants.{Up as UpState};
+ghost use Rattle.vx_history.specs.Admission.{is_live};
+ghost use Rattle.vx_history.specs.KeptLinks.{kept_link};
+ghost use Rattle.vx_history.specs.LinkForms.{plain_link};
+ghost use Rattle.vx_history.specs.Sending.{by_log};
+ghost use Rattle.vx_history.specs.Doubts.{Doubted};
+ghost use Rattle.vx_history.specs.World.{Node};
+ghost use Rattle.vx_diskset.specs.Asked.{LeavesAlone};
+ghost use Rattle.vx_diskset.specs.DiskSets.{Later};
+ghost use Rattle.vx_diskset.specs.Holds.{Beside, beside_of, links_of};
+ghost use Rattle.vx_diskset.specs.Pumps.{PumpedIs};
+ghost use Rattle.vx_diskset.specs.Stands.{IsUpAt, IsToldAt, StandsAt, faults_at};
+
+use crate::DiskSet;
+use std::alloc::Global;
+use vx_disk::Rack;
+use vx_model::limits::MOST_NUMBER;
+use vx_model::{Link, Mode, No, Phase, Stop};
+use vx_net::Net;
+use vx_peers::pump;
+use vx_rvg::Rvg;
+
+// Whether the writes of a link are sent out of the log.
+fn goes_by_log(mode: &Mode) -> bool
+    ensures { result ≡ by_log mode.now }
+{
+    match mode {
+        Mode::Log => true,
+        Mode::Replay {
+            id: _,
+            phase,
+            left: _,
+            start: _,
+            end: _,
+        } => matches!(phase, Phase::Log),
+        Mode::Dcm | Mode::Fork { maps: _ } | Mode::Stale => false,
+    }
+}
+
+// Sends on a link of a group that runs.
+fn pump_group<R: Rack, N: Net>(
+    alloc: Global,
+    rvg: &mut Rvg<R>,
+    link: &mut Link,
+    site: u32,
+    flight: &mut N,
+) -> Result<(), Stop>
+    ensures pumped { (d : Doubted) (k : ℕ) → IsUpAt (beside_of d site) (d.world.nodes site) rvg.old.core (R.meaning rvg.old.shelf) → (d.world.nodes site).halted ≡ None → IsTrue (R.meaning rvg.old.shelf).tells
+        → slice_get (links_of d.world site) k ≡ Some (kept_link link.old.site (d.world.links site link.old.site)) → link.old ≡ plain_link link.old.site (d.world.links site link.old.site) → FlightStands d.world.packets (N.flying flight.old)
+        → PumpedIs d.world site link.old.site link.new (N.flying flight.new) (R.meaning rvg.old.shelf).disk_faults (R.meaning rvg.new.shelf).disk_faults result }
+    ensures stands { (beside : Beside) (n : Node) → IsUpAt beside n rvg.old.core (R.meaning rvg.old.shelf) → IsUpAt beside n rvg.new.core (R.meaning rvg.new.shelf) }
+    ensures link { OnErr result (link.new ≡ link.old) }
+    ensures unsent { OnErr result (N.flying flight.new ≡ N.flying flight.old) }
+    ensures still { LeavesAlone (DiskSet.Up rvg.old) (DiskSet.Up rvg.new) }
+    ensures later { Later (DiskSet.Up rvg.old) (DiskSet.Up rvg.new) }
+{
+    if let Some(disk) = rvg.halted() {
+        return Err(Stop::No(No::Halted { disk }));
+    }
+    // Numbers are above 0, and none is above the greatest.
+    let _ring = rvg.ring();
+    if rvg.state().line.generation > MOST_NUMBER {
+        return Err(Stop::OutOfMemory);
+    }
+    let low = rvg.low();
+    if goes_by_log(&link.mode) && link.attached && low - 1 > link.stored {
+        return Err(Stop::No(No::Gap {
+            low,
+            need: link.stored + 1,
+        }));
+    }
+    pump(alloc, rvg, link, site, flight)
+}
+
+impl<R: Rack> DiskSet<R> {
+    /// Sends on a live link by the log what its receiver may lack, as the rule of links has it. `site` is the number of the site. It changes
+    /// no disk. Where a write cannot be read nothing is sent, and the link stays as it was.
+    ///
+    /// It takes memory for what it sends, and answers so too where a generation is past those that packets carry. Refusals: 20 where the
+    /// site is halted, 7 where a read failed. Where contents are not told also 21, of a log that lacks what the link needs, and 22.
+    pub fn pump<N: Net>(
+        &mut self,
+        alloc: Global,
+        link: &mut Link,
+        site: u32,
+        flight: &mut N,
+    ) -> Result<(), Stop>
+        ensures pumped { (d : Doubted) (k : ℕ) → StandsAt (beside_of d site) (d.world.nodes site) self.old → (d.world.nodes site).state ≡ UpState → (d.world.nodes site).halted ≡ None → IsToldAt self.old
+            → slice_get (links_of d.world site) k ≡ Some (kept_link link.old.site (d.world.links site link.old.site)) → link.old ≡ plain_link link.old.site (d.world.links site link.old.site) → FlightStands d.world.packets (N.flying flight.old)
+            → PumpedIs d.world site link.old.site link.new (N.flying flight.new) (faults_at self.old) (faults_at self.new) result }
+        ensures stands { (beside : Beside) (n : Node) → StandsAt beside n self.old → StandsAt beside n self.new }
+        ensures link { OnErr result (link.new ≡ link.old) }
+        ensures unsent { OnErr result (N.flying flight.new ≡ N.flying flight.old) }
+        ensures still { LeavesAlone self.old self.new }
+        ensures later { Later self.old self.new }
+    {
+        match self {
+            DiskSet::Up(rvg) => pump_group(alloc, rvg, link, site, flight),
+            DiskSet::Bare(_) | DiskSet::Spoiled(_) | DiskSet::Down(_) | DiskSet::Gone => Err(
+                Stop::No(No::Role),
+            ),
+        }
+    }
+}
