@@ -1,5 +1,5 @@
 -- The packets that were sent, under their numbers.
-use Rattle.std.proofs.Common.{◌≡◌, ℕ, zero, suc, ◌+◌, ◌-◌, ◌<◌, ◌≤◌, Bool, true, false, List, length, refl, sym, ap, ◌∙◌, arith}
+use Rattle.std.proofs.Common.{◌≡◌, ℕ, zero, suc, ◌+◌, ◌-◌, ◌<◌, ◌≤◌, Bool, true, false, List, [], ◌∷◌, length, refl, sym, ap, ◌∙◌, arith}
 use Rattle.std.specs.Prelude.{Option, Some, None, slice_get, leb, if◌then◌else◌}
 use Rattle.std.proofs.lemmas.Bool.Decides.{nat_tests}
 use Rattle.std.proofs.lemmas.Option.{slice_get_past}
@@ -18,6 +18,22 @@ packet_found ps (suc k) p some new is =
     ap (λ (b : Bool). if b then None else slice_get ps k) young
     ∙ ap (λ (i : ℕ). slice_get ps i) (sym here)
     ∙ is
+
+-- a number that is kept is that of a packet
+pub packet_kept : (ps : List Packet) (number : ℕ) → 0 < number → number ≤ length ps → length ps < number + MOST_PACKETS → packet_at ps number ≡ None → ⊥
+packet_kept ps zero some sent new none = absurd (omega (arith, some))
+packet_kept ps (suc k) some sent new none =
+    let there = found ps k (omega (arith, sent)) in
+    let young : leb (suc k + MOST_PACKETS) (length ps) ≡ false = grind (arith, nat_tests) in
+    never (sym there.1 ∙ sym (ap (λ (b : Bool). if b then None else slice_get ps k) young) ∙ none)
+  where
+    found : (qs : List Packet) (i : ℕ) → i < length qs → (q : Packet) × (slice_get qs i ≡ Some q)
+    found [] i h = absurd (omega (arith, h))
+    found (q ∷ qs) zero h = (q, refl)
+    found (q ∷ qs) (suc i) h = found qs i (omega (arith, h))
+
+    never : {q : Packet} → Some q ≡ None → ⊥
+    never e = cc
 
 -- no packet has this number
 pub packet_unknown : (ps : List Packet) (number : ℕ) → length ps < number → packet_at ps number ≡ None

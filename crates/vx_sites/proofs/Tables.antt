@@ -24,7 +24,7 @@ seen-beyond f d (x ∷ xs) zero h = absurd (omega arith)
 seen-beyond f d (x ∷ xs) (suc i) h = seen-beyond f d xs i (omega arith)
 
 -- the equation at one place of two functions, by whether it is the place that was set
-at_each : {A : Type 0} (f : ℕ → A) (i : ℕ) (x : A) (g : ℕ → A) → g i ≡ x → ((k : ℕ) → k ≢ i → g k ≡ f k) → g ≡ updated f i x
+pub at_each : {A : Type 0} (f : ℕ → A) (i : ℕ) (x : A) (g : ℕ → A) → g i ≡ x → ((k : ℕ) → k ≢ i → g k ≡ f k) → g ≡ updated f i x
 at_each {A} f i x g here rest =
     fun_ext (λ k. by_test (λ (y : A). g k ≡ y) (eqb k i) x (f k) (λ e. ap g (eqb_equal k i e) ∙ here) (λ e. rest k (eqb_apart k i e)))
 

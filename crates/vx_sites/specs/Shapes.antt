@@ -1,9 +1,9 @@
 -- What a world in memory is seen as. Headers are not counted in it.
-use Rattle.std.specs.Prelude.{◌≡◌, ℕ, ◌+◌, ◌<◌, true, false, List, [], ◌∷◌, ◌++◌, length, map, get_or, Option, Some, None, if◌then◌else◌, codes}
+use Rattle.std.specs.Prelude.{◌≡◌, ℕ, ◌+◌, ◌<◌, Bool, true, false, eqb, ◌&&◌, ◌||◌, List, [], ◌∷◌, ◌++◌, length, map, get_or, Option, Some, None, if◌then◌else◌, codes}
 use Rattle.std.specs.Fmt.{decimal}
 use Rattle.vx_model.specs.Content.{Content as PlainContent, zeros, fold_writes}
 use Rattle.vx_model.specs.Sites.{no_line, same_line}
-use Rattle.vx_history.specs.World.{Volume, no_regions, no_link, no_history, bare_site, NoFuse}
+use Rattle.vx_history.specs.World.{Volume, Regions, no_regions, no_link, no_history, bare_site, NoFuse}
 use Rattle.vx_history.specs.World.{Node as PlainNode, Link as PlainLink, History as PlainHistory, World as PlainWorld}
 use Rattle.vx_history.specs.World.{Packet as PlainPacket, Key as PlainKey, Gathering as PlainGathering, Surety as PlainSurety, Promise as PlainPromise}
 use Rattle.vx_history.specs.World.{Durable as PlainDurable, InSession as PlainInSession}
@@ -13,6 +13,7 @@ use Rattle.vx_sites.specs.declared.history.History.{History}
 use Rattle.vx_sites.specs.declared.history.Entry.{Entry}
 use Rattle.vx_sites.specs.declared.link.Link.{Link}
 use Rattle.vx_sites.specs.declared.link.Row.{Row}
+use Rattle.vx_sites.specs.declared.maps.Marks.{Marks}
 use Rattle.vx_sites.specs.declared.node.Node.{Node}
 use Rattle.vx_sites.specs.declared.packet.Packet.{Packet}
 use Rattle.vx_sites.specs.declared.gathering.Key.{Key}
@@ -119,12 +120,30 @@ promise_of p = record { line = p.line; number = p.number; site = p.site; surety 
 abbrev pub nodes_of : List Node → ℕ → PlainNode
 nodes_of nodes i = get_or (map node_of nodes) i (bare_site [] 0 0)
 
--- the links of one site, each in the place of the site that it leads to
+-- the links of one site but for their maps, each in the place of the site that it leads to
 abbrev pub row_of : List Link → ℕ → PlainLink
 row_of links s = get_or (map link_of links) s no_link
 
 abbrev pub links_of : List Row → ℕ → ℕ → PlainLink
 links_of rows p = get_or (map (λ r. row_of r.links.items) rows) p (λ s. no_link)
+
+-- the region is one of these
+abbrev pub has_region : ℕ → List ℕ → Bool
+has_region region [] = false
+has_region region (r ∷ rs) = eqb region r || has_region region rs
+
+-- whether a region of a volume is marked in the map of the link from one site to another
+abbrev pub is_marked : List Marks → (from to volume region : ℕ) → Bool
+is_marked [] from to volume region = false
+is_marked (m ∷ ms) from to volume region =
+    (eqb m.from from && (eqb m.to to && (eqb m.volume volume && has_region region m.regions.items))) || is_marked ms from to volume region
+
+abbrev pub with_map : Regions → PlainLink → PlainLink
+with_map map l = record l { map = map }
+
+-- the links of these rows, each with its map
+abbrev pub mapped_links : List Marks → List Row → ℕ → ℕ → PlainLink
+mapped_links maps rows p s = with_map (is_marked maps p s) (links_of rows p s)
 
 -- the first entry of the line
 abbrev pub lines_of : List Entry → Line → PlainHistory
@@ -145,7 +164,7 @@ abbrev pub world_of : World → PlainWorld
 world_of w = record {
   sites = length w.nodes.items;
   nodes = nodes_of w.nodes.items;
-  links = links_of w.rows.items;
+  links = mapped_links w.maps.lists.items w.rows.items;
   lines = lines_of w.lines.items;
   packets = w.packets;
   promised = map promise_of w.promised.items;

@@ -10,9 +10,10 @@ use vx_model::OutOfMemory;
 use vx_model::limits::MOST_PACKETS;
 
 impl World {
-    /// The packet of this number, the first of which is number 1, among the newest that are kept.
+    /// The packet of this number, the first of which is number 1, among the newest that are kept. A number that is not kept takes no memory.
     pub fn packet(&self, number: u64) -> Result<Option<Packet>, OutOfMemory>
-        ensures { IfOk result (λ packet. let found = packet_at (world_of self.now).packets number in MatchOption packet (found ≡ None) (λ p. found ≡ Some (packet_of p))) }
+        ensures found { IfOk result (λ packet. let found = packet_at (world_of self.now).packets number in MatchOption packet (found ≡ None) (λ p. found ≡ Some (packet_of p))) }
+        ensures unknown { packet_at (world_of self.now).packets number ≡ None → result ≡ Ok None }
     {
         let sent = self.packets.len();
         if number == 0 || sent < number || MOST_PACKETS as u64 <= sent - number {

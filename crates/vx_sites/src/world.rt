@@ -6,7 +6,7 @@ ghost use Rattle.vx_sites.specs.Shapes.{world_of, node_of, link_of};
 ghost use Rattle.vx_sites.specs.Messages.{message_of};
 
 use crate::link::lengthen_rows;
-use crate::{Dispatch, Dispatches, Entry, Link, Node, Place, Promise, Row};
+use crate::{ChangeMaps, Dispatch, Dispatches, Entry, Link, Node, Place, Promise, Row};
 use std::alloc::Global;
 use vx_model::OutOfMemory;
 
@@ -17,6 +17,8 @@ pub struct World {
     pub nodes: Vec<Node>,
     /// The links of each site. A site without a row has none.
     pub rows: Vec<Row>,
+    /// The regions that are marked in the maps of links.
+    pub maps: ChangeMaps,
     pub lines: Vec<Entry>,
     /// All packets that were ever sent, number 1 first.
     pub packets: Dispatches,
@@ -35,6 +37,7 @@ impl World {
             alloc,
             nodes: Vec::new(alloc),
             rows: Vec::new(alloc),
+            maps: ChangeMaps::new(alloc),
             lines: Vec::new(alloc),
             packets: Dispatches::new(alloc),
             promised: Vec::new(alloc),

@@ -10,5 +10,5 @@ pub returns-then-site-len : goal.returns-then-site-len
 returns-then-site-len c =
     let w = world_of c.args.self.now in
     let below : c.args.site < length c.args.self.now.rows.items = omega (arith, c.len.ensures, c.args.self.now.rows.ok.0) in
-    row_changed w c.args.self.now.rows.items c.args.site c.index_mut.result.now (record { links = c.change_each.new.links }) (λ (row : ℕ → Link) (k : ℕ). link_after (node_of c.index.result.now) c.args.write.now k (row k)) refl below c.index_mut.ensures.value c.change_each.ensures
+    row_changed w c.args.self.now.maps.lists.items c.args.self.now.rows.items c.args.site c.index_mut.result.now (record { links = c.change_each.new.links }) (λ (row : ℕ → Link) (k : ℕ). link_after (node_of c.index.result.now) c.args.write.now k (row k)) (λ row. refl) refl below c.index_mut.ensures.value c.change_each.ensures
     ∙ ap (λ (n : Node). with_links w c.args.site (λ k. link_after n c.args.write.now k (w.links c.args.site k))) (sym (node_at c.args.self.now.nodes.items c.args.site c.index.result.now c.requires c.index.ensures))
