@@ -95,9 +95,11 @@ crashes false = record {
 }
 
 as_set : ((crashed true).world.links 0 1).sync ≡ FailsIfNotLive
+unfolding is_raw_shape
 as_set = refl
 
 as_before : ((crashed false).world.links 0 1).sync ≡ NeverWaits
+unfolding is_raw_shape
 as_before = refl
 
 in_doubt_no_more : (taken : Bool) → (crashed taken).after 0 ≡ None
