@@ -17,6 +17,7 @@ use Rattle.vx_events.specs.Views.{name_of, group_view, group_shown, view_of}
 use Rattle.vx_node.specs.declared.yard.Yard.{Yard}
 use Rattle.vx_diskset.specs.Stands.{StandsAlone}
 use Rattle.vx_node.specs.Yards.{YardAgrees, YardStands}
+use Rattle.vx_node.proofs.Unlinked.{keeps_linked}
 
 values_same : {A : Type 0} (f g : ℕ → A) (k n : ℕ) → ((i : ℕ) → f i ≡ g i) → values_from f k n ≡ values_from g k n
 values_same f g k zero same = refl
@@ -94,4 +95,4 @@ module _ {R : Type 0} {g : Ghosts R} where
   }
 
   pub stands_empty : {y : Yard R g} → YardAgrees empty_world y → YardStands (sure empty_world) y
-  stands_empty agrees = record { agrees = agrees; calm = refl; unlinked = record { none = λ p s. refl }; primaries = λ _. record { each = λ i. refl }; failing = λ s e below there. absurd (omega (arith, below)); fuses = λ s e below there. absurd (omega (arith, below)) }
+  stands_empty {y} agrees = record { keeps = keeps_linked empty_world y (record { none = λ p s. refl }) agrees; calm = refl; unlinked = record { none = λ p s. refl }; primaries = λ _. record { each = λ i. refl }; failing = λ s e below there. absurd (omega (arith, below)); fuses = λ s e below there. absurd (omega (arith, below)) }

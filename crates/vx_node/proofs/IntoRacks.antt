@@ -26,6 +26,7 @@ use Rattle.vx_diskset.proofs.CrashGroup.{left_with}
 use Rattle.vx_diskset.proofs.StaysUp.{all_taken, durable_content, told_now}
 use Rattle.std.proofs.lemmas.Bool.{cases_lt}
 use Rattle.std.proofs.Common.{⊎_elim}
+use Rattle.vx_node.proofs.Unlinked.{links_none}
 
 never_both : {x : SiteState} → x ≡ IsUp → x ≡ IsDown → ⊥
 never_both a b = let e : IsUp ≡ IsDown = sym a ∙ b in cc
@@ -57,10 +58,6 @@ bare_holds n m bare = record {
   where
     state : n.state ≡ IsBare
     state = ap (λ (k : Node). k.state) bare.is
-
--- a site of a world without links keeps none
-links_none : (w : World) (s : ℕ) → IsUnlinked w → links_of w s ≡ []
-links_none w s none = ap (λ (sites : List ℕ). kept_links (w.links s) sites) (no_sites (w.links s) w.sites 0 w.sites (none.none s))
 
 some_same : {A : Type 0} {a b : A} → Some a ≡ Some b → a ≡ b
 some_same e = cc

@@ -26,4 +26,5 @@ pub mod Seats
 pub mod SiteEvents
 pub mod SiteLine
 pub mod StatusLine
+pub mod Unlinked
 pub mod WriteLine

@@ -41,6 +41,7 @@ use Rattle.vx_node.specs.Works.{Works, WorksBy}
 use Rattle.vx_node.specs.Yards.{YardAgrees, YardStands, StaysAgreed, StopsShort, Steps, IsTold, in_files}
 use Rattle.vx_node.proofs.Alike.{agrees_like}
 use Rattle.vx_node.proofs.Built.{built_plain}
+use Rattle.vx_node.proofs.Unlinked.{keeps_linked, stands_plain}
 use Rattle.vx_node.proofs.FailsStay.{Ties, needs_log, still_told, tied_line, tied_same}
 use Rattle.vx_node.proofs.FuseStays.{Lit, failing_short, lit_line, lit_short, lit_still, needs_calls}
 use Rattle.vx_node.proofs.SiteEvents.{Happens, first_choice, happens_as, site_happens, raw_happens, only_happens, crash_happens}
@@ -95,7 +96,7 @@ module _ {R : Type 0} {g : Ghosts R} where
   -- the yard stands for the world to which the events came
   stands_for : (told : Type 0) (w next : World) (line : ScriptLine) (s : ℕ) (fails : Fails) (said : Said) (y : Yard R g) → (IsTold y → told) → YardAgrees next y → Ties next y → Lit next y → (h : Happens told w line s fails said next) → YardStands (sure h.new) y
   stands_for told w next line s fails said y is agrees ties lit h = record {
-    agrees = agrees_like next h.new y h.sites h.nodes agrees;
+    keeps = keeps_linked h.new y h.unlinked (agrees_like next h.new y h.sites h.nodes agrees);
     calm = refl;
     unlinked = h.unlinked;
     primaries = λ t. h.primaries (is t);
@@ -215,6 +216,9 @@ module _ {R : Type 0} {g : Ghosts R} where
       → Steps (sure w) line old new (reply_text said)
   line_sure racks w line old new said built stands later a called asked still = by (refusal_of (facts_of w) (in_files old) line) refl a.step
     where
+      here : YardAgrees w old
+      here = stands_plain (sure w) old stands
+
       -- the tests of a line that is built see no links
       first : (why : Option No) → refusal_of (facts_of w) (in_files old) line ≡ why → refused_by w (in_files old) line ≡ why
       first why is = refused_same w (in_files old) line stands.unlinked (built_plain line built) ∙ is
@@ -223,31 +227,33 @@ module _ {R : Type 0} {g : Ghosts R} where
       text_is v same = ap (λ sent. text_of said sent) (sym (none_sent w v same))
 
       by : (why : Option No) → refusal_of (facts_of w) (in_files old) line ≡ why → WorksBy why (IsTold new) w line a.fails said a.world → Steps (sure w) line old new (reply_text said)
-      by (Some why) is works = record {
-        next = sure a.world;
-        fails = a.fails;
-        prints = record {
-          said = said;
-          step = subst (λ (o : Option No). StepBy o (IsTold new) (sure w) line a.fails said (sure a.world)) (sym (first (Some why) is))
-              (record { none = works.none; says = works.says; stays = ap (λ (v : World). sure v) works.leads });
-          is = text_is a.world (ap (λ (v : World). v.packets) works.leads);
-        };
-        stands = record {
-          agrees = a.stands;
-          calm = refl;
-          unlinked = subst (λ (v : World). IsUnlinked v) (sym works.leads) stands.unlinked;
-          primaries = λ t. subst (λ (v : World). ArePrimaries v) (sym works.leads) (stands.primaries (later t));
-          failing = tied_same w a.world old new (ap (λ (v : World). v.sites) works.leads) (λ i. ap (λ (v : World). (v.nodes i).failing) works.leads)
-              (still_told old new (ap (λ es. es.items) (still (ap (λ fs. is_some (refusal_of fs (in_files old) line)) stands.agrees.facts ∙ ap (λ o. is_some o) is)))) stands.failing;
-          fuses = lit_still w a.world old new (ap (λ (v : World). v.sites) works.leads) (λ i. ap (λ (v : World). (v.nodes i).fuse) works.leads)
-              (ap (λ es. es.items) (still (ap (λ fs. is_some (refusal_of fs (in_files old) line)) stands.agrees.facts ∙ ap (λ o. is_some o) is))) stands.fuses;
-        };
-        rose = a.rose;
-        called = λ free. called free;
-      }
+      by (Some why) is works =
+          let bare : IsUnlinked a.world = subst (λ (v : World). IsUnlinked v) (sym works.leads) stands.unlinked in
+          record {
+            next = sure a.world;
+            fails = a.fails;
+            prints = record {
+              said = said;
+              step = subst (λ (o : Option No). StepBy o (IsTold new) (sure w) line a.fails said (sure a.world)) (sym (first (Some why) is))
+                  (record { none = works.none; says = works.says; stays = ap (λ (v : World). sure v) works.leads });
+              is = text_is a.world (ap (λ (v : World). v.packets) works.leads);
+            };
+            stands = record {
+              keeps = keeps_linked a.world new bare a.stands;
+              calm = refl;
+              unlinked = bare;
+              primaries = λ t. subst (λ (v : World). ArePrimaries v) (sym works.leads) (stands.primaries (later t));
+              failing = tied_same w a.world old new (ap (λ (v : World). v.sites) works.leads) (λ i. ap (λ (v : World). (v.nodes i).failing) works.leads)
+                  (still_told old new (ap (λ es. es.items) (still (ap (λ fs. is_some (refusal_of fs (in_files old) line)) here.facts ∙ ap (λ o. is_some o) is)))) stands.failing;
+              fuses = lit_still w a.world old new (ap (λ (v : World). v.sites) works.leads) (λ i. ap (λ (v : World). (v.nodes i).fuse) works.leads)
+                  (ap (λ es. es.items) (still (ap (λ fs. is_some (refusal_of fs (in_files old) line)) here.facts ∙ ap (λ o. is_some o) is))) stands.fuses;
+            };
+            rose = a.rose;
+            called = λ free. called free;
+          }
       by None is works =
-          let free_here : IsFree old line = ap (λ fs. refusal_of fs (in_files old) line) stands.agrees.facts ∙ is in
-          let h = works_happen (IsTold new) (in_files old) w old line a.fails said a.world stands.agrees stands.unlinked (λ t. stands.primaries (later t)) is works in
+          let free_here : IsFree old line = ap (λ fs. refusal_of fs (in_files old) line) here.facts ∙ is in
+          let h = works_happen (IsTold new) (in_files old) w old line a.fails said a.world here stands.unlinked (λ t. stands.primaries (later t)) is works in
           record {
             next = sure h.0.new;
             fails = a.fails;
@@ -257,14 +263,14 @@ module _ {R : Type 0} {g : Ghosts R} where
                   (record {
                     ends = subst (λ (links : Bool). EndsBy links (IsTold new) (sure w) line a.fails said (sure h.0.new)) (sym (built_plain line built)) h.0.ends;
                     counts = h.1;
-                    works = needs_log racks (in_files old) w old new line said is stands.agrees (called free_here) stands.failing;
-                    calls = needs_calls racks (in_files old) w old new line said is stands.agrees (called free_here) stands.fuses;
+                    works = needs_log racks (in_files old) w old new line said is here (called free_here) stands.failing;
+                    calls = needs_calls racks (in_files old) w old new line said is here (called free_here) stands.fuses;
                   });
               is = text_is h.0.new h.0.packets;
             };
             stands = stands_for (IsTold new) w a.world line (site_of w line) a.fails said new (λ t. t) a.stands
                 (tied_line (IsTold new) (in_files old) w a.world old new line a.fails said is works (asked free_here) stands.failing)
-                (lit_line (IsTold new) (in_files old) w a.world old new line a.fails said is stands.agrees works (asked free_here) (called free_here) stands.fuses) h.0;
+                (lit_line (IsTold new) (in_files old) w a.world old new line a.fails said is here works (asked free_here) (called free_here) stands.fuses) h.0;
             rose = a.rose;
             called = λ free. called free;
           }
@@ -283,7 +289,7 @@ module _ {R : Type 0} {g : Ghosts R} where
     next = d;
     part = none_done d line;
     stands = record {
-      agrees = stays.stands;
+      keeps = keeps_linked d.world new stands.unlinked stays.stands;
       calm = stands.calm;
       unlinked = stands.unlinked;
       primaries = λ t. stands.primaries (later t);

@@ -16,7 +16,8 @@ use Rattle.vx_node.specs.declared.errors.LineStop.{LineStop}
 use Rattle.vx_node.specs.declared.errors.LineStop.TheVariants.{WriteFault, OutOfMemory}
 use Rattle.vx_events.specs.Doubts.{sure}
 use Rattle.vx_events.specs.Facts.{facts_of}
-use Rattle.vx_node.specs.Stands.{DiskSetsStand, AreTold, RoseAll, faults_of}
+use Rattle.vx_events.specs.LinkedFacts.{linked_facts}
+use Rattle.vx_node.specs.Stands.{DiskSetsStand, SitesStand, AreTold, RoseAll, faults_of}
 use Rattle.vx_events.specs.Parts.{DonePart}
 use Rattle.vx_events.specs.Plain.{IsUnlinked, ArePrimaries}
 use Rattle.vx_node.specs.Steps.{Prints}
@@ -35,11 +36,18 @@ module _ {R : Type 0} {g : Ghosts R} where
   abbrev pub IsTold : Yard R g → Type 0
   IsTold y = AreTold y.disk_sets.items
 
-  -- the yard agrees with this world: it keeps what the tests of a line see of it, and its disk sets stand for it
+  -- the yard keeps this world: what the tests of a line see of it, and disk sets that stand for it
+  pub record YardKeeps (w : World) (y : Yard R g) : Type 0 where
+    pub facts : y.facts.items ≡ linked_facts w
+    pub disk_sets : SitesStand w y.disk_sets.items
+    -- room for the racks as they come back
+    pub none : y.racks.items ≡ []
+    pub room : MOST_SITES ≤ vec_capacity y.racks
+
+  -- the same of a world of which no site keeps a link
   pub record YardAgrees (w : World) (y : Yard R g) : Type 0 where
     pub facts : y.facts.items ≡ facts_of w
     pub disk_sets : DiskSetsStand w y.disk_sets.items
-    -- room for the racks as they come back
     pub none : y.racks.items ≡ []
     pub room : MOST_SITES ≤ vec_capacity y.racks
 
@@ -56,7 +64,7 @@ module _ {R : Type 0} {g : Ghosts R} where
   -- The yard stands for this world. No site is in doubt, and none keeps a link. Each is a primary, where contents are told. The disks that the
   -- world makes fail are made to fail, and a fuse that it knows of has no more calls left than it knows.
   pub record YardStands (d : Doubted) (y : Yard R g) : Type 0 where
-    pub agrees : YardAgrees d.world y
+    pub keeps : YardKeeps d.world y
     pub calm : d ≡ sure d.world
     pub unlinked : IsUnlinked d.world
     pub primaries : IsTold y → ArePrimaries d.world

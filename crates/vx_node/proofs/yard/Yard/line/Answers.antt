@@ -4,18 +4,19 @@ use Rattle.std.specs.Io.KnownBytes.{Appends}
 use Rattle.vx_node.specs.Replies.{reply_text}
 use Rattle.vx_stream.proofs.SendLemmas.{appends_none}
 use Rattle.vx_node.proofs.LineEvents.{line_happens, line_stays}
+use Rattle.vx_node.proofs.Unlinked.{stands_plain}
 use Rattle.vx_node.proofs.yard.Yard.line.Goals as goal
 
 pub returns-in_default-clause-line : goal.returns-in_default-clause-line
 returns-in_default-clause-line g c = λ d stands.
-    (inl (line_stays d c.args.words.now c.args.self.now c.answer.new.self stands c.answer.ensures.told (c.in_default.ensures.answers d.world stands.agrees) c.in_default.ensures.short), appends_none (g.O.Sink.written c.args.out.now))
+    (inl (line_stays d c.args.words.now c.args.self.now c.answer.new.self stands c.answer.ensures.told (c.in_default.ensures.answers d.world (stands_plain d c.args.self.now stands)) c.in_default.ensures.short), appends_none (g.O.Sink.written c.args.out.now))
 
 pub returns-in_default-push_said-clause-line : goal.returns-in_default-push_said-clause-line
 returns-in_default-push_said-clause-line g c = λ d stands. (
   inr (
     reply_text c.in-Ok.said,
-    line_happens (g.met.R.Rack g.world.𝓛 g.world.𝓜 g.world.𝓡 ((λ s x. x), (λ x. x), (λ x. x), λ x. x)).rack d c.args.words.now c.args.self.now c.answer.new.self c.in-Ok.said c.requires.built stands c.answer.ensures.told (c.in-Ok.ensures.answers d.world stands.agrees) (c.in-Ok.ensures.called d.world stands.agrees)
-        (c.answer.ensures.asked d.world stands.agrees) c.answer.ensures.still,
+    line_happens (g.met.R.Rack g.world.𝓛 g.world.𝓜 g.world.𝓡 ((λ s x. x), (λ x. x), (λ x. x), λ x. x)).rack d c.args.words.now c.args.self.now c.answer.new.self c.in-Ok.said c.requires.built stands c.answer.ensures.told (c.in-Ok.ensures.answers d.world (stands_plain d c.args.self.now stands)) (c.in-Ok.ensures.called d.world (stands_plain d c.args.self.now stands))
+        (c.answer.ensures.asked d.world (stands_plain d c.args.self.now stands)) c.answer.ensures.still,
   ),
   appends_none (g.O.Sink.written c.args.out.now),
 )
@@ -23,8 +24,8 @@ returns-in_default-push_said-clause-line g c = λ d stands. (
 pub returns-in-Ok-send-clause-line : goal.returns-in-Ok-send-clause-line
 returns-in-Ok-send-clause-line g c = λ d stands. (
   reply_text c.in-Ok.said,
-  line_happens (g.met.R.Rack g.world.𝓛 g.world.𝓜 g.world.𝓡 ((λ s x. x), (λ x. x), (λ x. x), λ x. x)).rack d c.args.words.now c.args.self.now c.answer.new.self c.in-Ok.said c.requires.built stands c.answer.ensures.told (c.in-Ok.ensures.answers d.world stands.agrees) (c.in-Ok.ensures.called d.world stands.agrees)
-      (c.answer.ensures.asked d.world stands.agrees) c.answer.ensures.still,
+  line_happens (g.met.R.Rack g.world.𝓛 g.world.𝓜 g.world.𝓡 ((λ s x. x), (λ x. x), (λ x. x), λ x. x)).rack d c.args.words.now c.args.self.now c.answer.new.self c.in-Ok.said c.requires.built stands c.answer.ensures.told (c.in-Ok.ensures.answers d.world (stands_plain d c.args.self.now stands)) (c.in-Ok.ensures.called d.world (stands_plain d c.args.self.now stands))
+      (c.answer.ensures.asked d.world (stands_plain d c.args.self.now stands)) c.answer.ensures.still,
   subst (λ xs. Appends (g.O.Sink.written c.args.out.now) (g.O.Sink.written c.send.new.sink) xs)
       (c.deref.ensures.value ∙ c.in-Ok-push_said.ensures ∙ ap (λ xs. xs ++ reply_text c.in-Ok.said) c.new-text.ensures.items) c.in-Ok-send.ensures.bytes,
 )
@@ -35,8 +36,8 @@ returns-clause-line g c = λ d stands.
       reply_text c.in-Ok.said,
       bytes.0,
       bytes.1,
-      line_happens (g.met.R.Rack g.world.𝓛 g.world.𝓜 g.world.𝓡 ((λ s x. x), (λ x. x), (λ x. x), λ x. x)).rack d c.args.words.now c.args.self.now c.answer.new.self c.in-Ok.said c.requires.built stands c.answer.ensures.told (c.in-Ok.ensures.answers d.world stands.agrees) (c.in-Ok.ensures.called d.world stands.agrees)
-          (c.answer.ensures.asked d.world stands.agrees) c.answer.ensures.still,
+      line_happens (g.met.R.Rack g.world.𝓛 g.world.𝓜 g.world.𝓡 ((λ s x. x), (λ x. x), (λ x. x), λ x. x)).rack d c.args.words.now c.args.self.now c.answer.new.self c.in-Ok.said c.requires.built stands c.answer.ensures.told (c.in-Ok.ensures.answers d.world (stands_plain d c.args.self.now stands)) (c.in-Ok.ensures.called d.world (stands_plain d c.args.self.now stands))
+          (c.answer.ensures.asked d.world (stands_plain d c.args.self.now stands)) c.answer.ensures.still,
       sym (c.deref.ensures.value ∙ c.in-Ok-push_said.ensures ∙ ap (λ xs. xs ++ reply_text c.in-Ok.said) c.new-text.ensures.items) ∙ bytes.2,
       bytes.3,
       bytes.4,
