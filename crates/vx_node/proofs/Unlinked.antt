@@ -6,6 +6,7 @@ use Rattle.vx_history.specs.World.{World}
 use Rattle.vx_model.specs.declared.state.KeptLink.{KeptLink}
 use Rattle.vx_disk.specs.declared.shelf.Shelf.{Ghosts}
 use Rattle.vx_diskset.specs.Holds.{links_of}
+use Rattle.vx_node.specs.Holds.{with_links}
 use Rattle.vx_diskset.specs.Stands.{StandsAt}
 use Rattle.vx_events.proofs.LinkTesting.{no_links_seen}
 use Rattle.vx_events.proofs.Steps.{no_sites}
@@ -24,7 +25,7 @@ module _ {R : Type 0} {g : Ghosts R} where
     disk_sets = record {
       eight = keeps.disk_sets.eight;
       few = keeps.disk_sets.few;
-      sites = λ s e below at. subst (λ (links : List KeptLink). StandsAt links (w.nodes s) e) (links_none w s bare) (keeps.disk_sets.sites s e below at);
+      sites = λ s e below at. subst (λ (links : List KeptLink). StandsAt (with_links links) (w.nodes s) e) (links_none w s bare) (keeps.disk_sets.sites s e below at);
       others = keeps.disk_sets.others;
     };
     none = keeps.none;
@@ -37,7 +38,7 @@ module _ {R : Type 0} {g : Ghosts R} where
     disk_sets = record {
       eight = agrees.disk_sets.eight;
       few = agrees.disk_sets.few;
-      sites = λ s e below at. subst (λ (links : List KeptLink). StandsAt links (w.nodes s) e) (sym (links_none w s bare)) (agrees.disk_sets.sites s e below at);
+      sites = λ s e below at. subst (λ (links : List KeptLink). StandsAt (with_links links) (w.nodes s) e) (sym (links_none w s bare)) (agrees.disk_sets.sites s e below at);
       others = agrees.disk_sets.others;
     };
     none = agrees.none;

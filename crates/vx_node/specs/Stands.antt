@@ -5,6 +5,7 @@ use Rattle.vx_history.specs.World.{World}
 use Rattle.vx_disk.specs.declared.shelf.Shelf.{Ghosts}
 use Rattle.vx_diskset.specs.declared.disk_set.DiskSet.{DiskSet}
 use Rattle.vx_diskset.specs.Holds.{links_of}
+use Rattle.vx_node.specs.Holds.{with_links}
 use Rattle.vx_diskset.specs.Stands.{StandsAlone, StandsAt, IsUnused, IsToldAt, faults_at}
 use Rattle.vx_events.specs.Fails.{Fails}
 
@@ -24,7 +25,7 @@ module _ {R : Type 0} {g : Ghosts R} where
   pub record SitesStand (w : World) (disk_sets : List (DiskSet R g)) : Type 0 where
     pub eight : length disk_sets ≡ MOST_SITES
     pub few : w.sites ≤ MOST_SITES
-    pub sites : (s : ℕ) (e : DiskSet R g) → s < w.sites → slice_get disk_sets s ≡ Some e → StandsAt (links_of w s) (w.nodes s) e
+    pub sites : (s : ℕ) (e : DiskSet R g) → s < w.sites → slice_get disk_sets s ≡ Some e → StandsAt (with_links (links_of w s)) (w.nodes s) e
     pub others : (s : ℕ) (e : DiskSet R g) → w.sites ≤ s → slice_get disk_sets s ≡ Some e → IsUnused e
 
   -- the same of a world of which no site keeps a link
