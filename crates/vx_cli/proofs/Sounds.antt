@@ -20,8 +20,8 @@ use Rattle.vx_events.specs.Failing.{is_failing}
 use Rattle.vx_events.specs.Fails.{Fails}
 use Rattle.vx_events.specs.Lines.{StepBy}
 use Rattle.vx_events.specs.Lists.{events_of}
+use Rattle.vx_events.specs.Parts.{DonePart}
 use Rattle.vx_events.specs.declared.said.Said.{Said}
-use Rattle.vx_events.proofs.Parts.{part_good}
 use Rattle.vx_node.specs.Lines.{script_line}
 use Rattle.vx_node.specs.Steps.{SaidStep}
 use Rattle.vx_cli.specs.Ends.{PartOfLine, PartOfNext, LastWorld}
@@ -87,6 +87,9 @@ said_sound is files w (Ok (Some line)) fails text new sound step = step_sound is
 said_sound is files w (Err column) fails text new sound step = absurd step
 
 -- so does want of memory within a line
+pub part_good : (w : World) (line : ScriptLine) (new : World) → GoodWorld w → DonePart w line new → GoodWorld new
+part_good w line new good part = subst GoodWorld (sym part.leads) (run_good w part.before good)
+
 line_part_sound : (r : Result (Option ScriptLine) ℕ) (w last : World) → GoodWorld w → PartOfLine r w last → GoodWorld last
 line_part_sound (Ok (Some words)) w last good part = part_good w words last good part
 line_part_sound (Ok None) w last good part = subst GoodWorld (sym part) good

@@ -68,7 +68,7 @@ module _ {T U : Type 0} (f : U → T) where
 
   step_by_told : (why : Option No) (w : World) (line : ScriptLine) (fails : Fails) (said : Said) (new : World) → StepBy why T w line fails said new → StepBy why U w line fails said new
   step_by_told (Some why) w line fails said new x = x
-  step_by_told None w line fails said new x = record { ends = ends_told w line (place_of w line) fails said new x.ends; counts = counts_told w line said x.counts; works = x.works }
+  step_by_told None w line fails said new x = record { ends = ends_told w line (place_of w line) fails said new x.ends; counts = counts_told w line said x.counts; works = x.works; calls = x.calls }
 
   pub said_told : (files : Bool) (w : World) (r : Result (Option ScriptLine) ℕ) (fails : Fails) (text : List ℕ) (new : World) → SaidStep T files w r fails text new → SaidStep U files w r fails text new
   said_told files w (Ok None) fails text new x = x

@@ -39,7 +39,7 @@ use Rattle.vx_order.specs.Tests.{when, before, first_of}
 use Rattle.vx_script.specs.declared.line.ScriptLine.TheVariants.{Link}
 use Rattle.vx_events.specs.Facts.{site_number, volume_fact, group_fact, group_by, head_of}
 use Rattle.vx_events.specs.LinkedFacts.{link_fact, link_facts, links_by, links_in, linked_fact, linked_facts, refused_by}
-use Rattle.vx_events.specs.Listed.{IsAmong, AreListed}
+use Rattle.vx_history.specs.Listed.{IsAmong, AreListed}
 use Rattle.vx_events.proofs.LinkTesting.{Seat, seat_at, shown, up_state}
 use Rattle.vx_events.proofs.Passing.{off, is_site, above}
 use Rattle.vx_events.proofs.Refused.{passes, when_none, neither, not_false, running_by}

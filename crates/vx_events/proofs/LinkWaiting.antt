@@ -24,7 +24,7 @@ use Rattle.vx_order.specs.Tests.{when}
 use Rattle.vx_script.specs.declared.line.ScriptLine.TheVariants.{Wait}
 use Rattle.vx_events.specs.Facts.{site_number, group_fact, head_of}
 use Rattle.vx_events.specs.LinkedFacts.{link_fact, link_facts, links_by, links_in, linked_fact, linked_facts, refused_by}
-use Rattle.vx_events.specs.Listed.{IsAmong, AreListed}
+use Rattle.vx_history.specs.Listed.{IsAmong, AreListed}
 use Rattle.vx_events.proofs.LinkJoining.{IsHere, here_by, all_of, both_hold, by_test}
 use Rattle.vx_events.proofs.LinkTesting.{seat_at}
 use Rattle.vx_events.proofs.Passing.{off, is_site, is_at_work}

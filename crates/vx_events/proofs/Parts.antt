@@ -1,12 +1,10 @@
 -- A line that is done in part.
 use Rattle.std.proofs.Common.{◌≡◌, ◌∙◌, ℕ, zero, suc, Bool, true, false, List, [], ◌∷◌, ◌++◌, ap, refl, sym, subst}
 use Rattle.std.specs.Prelude.{take, drop}
-use Rattle.vx_history.specs.GoodWorld.{GoodWorld}
 use Rattle.vx_history.specs.Step.{run}
 use Rattle.vx_history.specs.World.{World}
 use Rattle.vx_history.specs.declared.event.Event.{Event}
 use Rattle.vx_script.specs.declared.line.ScriptLine.{ScriptLine}
-use Rattle.vx_world.proofs.Whole.{run_good}
 use Rattle.vx_events.specs.Lists.{Choice}
 use Rattle.vx_events.specs.Parts.{DonePart, MayStop, all_events, goes_in_parts}
 
@@ -42,6 +40,3 @@ part_stops w line c k parts =
       stops = subst (λ (b : Bool). MayStop b (take k es)) (sym parts) tt;
       leads = refl;
     }
-
-pub part_good : (w : World) (line : ScriptLine) (new : World) → GoodWorld w → DonePart w line new → GoodWorld new
-part_good w line new good part = subst GoodWorld (sym part.leads) (run_good w part.before good)

@@ -21,6 +21,7 @@ use Rattle.vx_order.specs.Sites.{facts_of, site_named, unknown_one, down_by, hal
 use Rattle.vx_model.specs.Sites.{is_up, is_bare}
 use Rattle.vx_order.specs.Shapes.{line_role, line_unknown, taken, over_limit, wrong_size, site_limit, most_blocks, raw_role, raw_size, disk_unknown}
 use Rattle.vx_model.specs.Sizes.{is_raw_shape, map_blocks}
+use Rattle.vx_model.specs.declared.limits.TheConstants.{LINK_PLACES}
 use Rattle.vx_order.specs.Calls.{span_role, span_unknown, span_size, span_range}
 use Rattle.vx_order.specs.Asks.{ask_of}
 use Rattle.vx_order.specs.Links.{place_named}
@@ -228,21 +229,23 @@ bare_by Down e = absurd (cc)
 raw_role_none : (site : SiteFacts) → raw_role (Some site) ≡ None → site.state ≡ Bare
 raw_role_none site e = bare_by site.state (not_false (is_bare site.state) (when_none (not (is_bare site.state)) _ e))
 
-raw_set : (disks blocks : ℕ) → is_raw_shape disks blocks ≡ true → (3 ≤ disks) × (8 ≤ blocks)
+-- what the shape of a raw set asks
+pub raw_set : (disks blocks : ℕ) → is_raw_shape disks blocks ≡ true → (3 ≤ disks) × (8 ≤ blocks) × (LINK_PLACES * (disks - 2) * map_blocks blocks ≤ blocks)
 unfolding is_raw_shape
 raw_set disks blocks e =
     let all = both (nat_le 3 disks && nat_le disks 32 && nat_le 8 blocks) (nat_le (8 * (disks - 2) * map_blocks blocks) blocks) e in
     let most = both (nat_le 3 disks && nat_le disks 32) (nat_le 8 blocks) all.0 in
     let few = both (nat_le 3 disks) (nat_le disks 32) most.0 in
-    (le_true 3 disks few.0, le_true 8 blocks most.1)
+    (le_true 3 disks few.0, le_true 8 blocks most.1, le_true (8 * (disks - 2) * map_blocks blocks) blocks all.1)
 
-raw_size_none : (site : SiteFacts) → raw_size (Some site) ≡ None → (3 ≤ site.disks) × (8 ≤ site.blocks)
+raw_size_none : (site : SiteFacts) → raw_size (Some site) ≡ None → (3 ≤ site.disks) × (8 ≤ site.blocks) × (LINK_PLACES * (site.disks - 2) * map_blocks site.blocks ≤ site.blocks)
 raw_size_none site e = raw_set site.disks site.blocks (not_false (is_raw_shape site.disks site.blocks) (when_none (not (is_raw_shape site.disks site.blocks)) _ e))
 
 disk_none : (disk : ℕ) (site : SiteFacts) → disk_unknown disk (Some site) ≡ None → disk < site.disks
 disk_none disk site e = le_false site.disks disk (when_none (nat_le site.disks disk) _ e)
 
 pub raw_may : (sites : List SiteFacts) (files : Bool) (name : List ℕ) → refusal_of sites files (Raw name) ≡ None → (site : Named sites name) × (site.facts.state ≡ Bare) × (3 ≤ site.facts.disks) × (8 ≤ site.facts.blocks)
+    × (LINK_PLACES * (site.facts.disks - 2) * map_blocks site.facts.blocks ≤ site.facts.blocks)
 unfolding first_name line_role wrong_size
 raw_may sites files name e =
     let p = passes sites files (Raw name) e in
@@ -250,7 +253,7 @@ raw_may sites files name e =
     let role : raw_role (Some site.facts) ≡ None = subst (λ (o : Option SiteFacts). raw_role o ≡ None) site.found p.role in
     let size : raw_size (Some site.facts) ≡ None = subst (λ (o : Option SiteFacts). raw_size o ≡ None) site.found p.size in
     let sizes = raw_size_none site.facts size in
-    (site, raw_role_none site.facts role, sizes.0, sizes.1)
+    (site, raw_role_none site.facts role, sizes.0, sizes.1, sizes.2)
 
 pub disk_may : (sites : List SiteFacts) (files : Bool) (name : List ℕ) (disk : ℕ) (state : _) → refusal_of sites files (Disk name disk state) ≡ None → (site : Named sites name) × (disk < site.facts.disks)
 unfolding first_name line_unknown

@@ -9,7 +9,6 @@ pub mod LinkEnds
 pub mod LinkLists
 pub mod LinkViews
 pub mod LinkedFacts
-pub mod Listed
 pub mod Lists
 pub mod Parts
 pub mod Plain

@@ -11,7 +11,7 @@ use Rattle.vx_events.specs.Ends.{Ends, place_of}
 use Rattle.vx_events.specs.Facts.{facts_of, site_number, volume_number}
 use Rattle.vx_events.specs.Failing.{NeedsLog}
 use Rattle.vx_events.specs.Fails.{Fails}
-use Rattle.vx_events.specs.Fuses.{IsExact}
+use Rattle.vx_events.specs.Fuses.{IsExact, NeedsCalls}
 use Rattle.vx_events.specs.declared.said.Said.{Said}
 use Rattle.vx_events.specs.declared.said.Said.TheVariants.{DoneAt, Refused}
 
@@ -43,6 +43,7 @@ pub record IsDone (told : Type 0) (w : World) (line : ScriptLine) (fails : Fails
   pub ends : Ends told w line (place_of w line) fails said new
   pub counts : Counts told w line said
   pub works : NeedsLog w line said
+  pub calls : NeedsCalls w line said
 
 abbrev pub StepBy : Option No → Type 0 → World → ScriptLine → Fails → Said → World → Type 0
 StepBy (Some why) told w line fails said new = IsRefused why w fails said new

@@ -7,7 +7,7 @@ use Rattle.vx_history.specs.declared.event.Event.TheVariants.{Link as LinkAt, Se
 use Rattle.vx_history.specs.declared.event.LinkPart.TheVariants.{Joins, Made, Marked, Opened}
 use Rattle.vx_script.specs.declared.line.ScriptLine.{ScriptLine}
 use Rattle.vx_script.specs.declared.line.ScriptLine.TheVariants.{Link, Set, Connect, Cut, Pause, Resume, Pump, Tick, Wait, Deliver, Settle}
-use Rattle.vx_world.specs.Settling.{settling}
+use Rattle.vx_history.specs.Settling.{settling}
 use Rattle.vx_events.specs.Facts.{site_number}
 
 -- a link is made in four steps, each of them durable before the next

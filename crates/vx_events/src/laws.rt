@@ -6,7 +6,6 @@ ghost use Rattle.vx_model.specs.declared.limits.TheConstants.{MOST_NUMBER};
 ghost use Rattle.vx_model.specs.declared.site.Role.TheVariants.{Primary};
 ghost use Rattle.vx_history.specs.Admission.{Goes};
 ghost use Rattle.vx_history.specs.Events.{admitted};
-ghost use Rattle.vx_history.specs.GoodWorld.{GoodWorld};
 ghost use Rattle.vx_history.specs.Step.{run, step, joined_blocks};
 ghost use Rattle.vx_history.specs.World.{World};
 ghost use Rattle.vx_history.specs.declared.event.Event.TheVariants.{Site as MakeSite, Raw as MakeRaw, Write as WriteAt, Read as ReadAt, Apply as ApplyAt, Crash as CrashAt};
@@ -66,10 +65,8 @@ pub fn lines_are_events()
         → StopsAs w line (place_of w line) fails new }
 {}
 
-/// Where memory runs out within a line, its world is good still. Of a line that does not go in parts nothing is done, and of one that does
-/// any first part of its events.
+/// Where memory runs out within a line that does not go in parts nothing is done, and of one that does any first part of its events is.
 pub fn memory_leaves_a_part()
     ensures none { (w : World) (line : ScriptLine) (new : World) → goes_in_parts line ≡ false → DonePart w line new → new ≡ w }
     ensures any { (w : World) (line : ScriptLine) (c : Choice) (k : ℕ) → goes_in_parts line ≡ true → DonePart w line (run w (take k (all_events w line c))) }
-    ensures good { (w : World) (line : ScriptLine) (new : World) → GoodWorld w → DonePart w line new → GoodWorld new }
 {}

@@ -14,7 +14,7 @@ ghost use Rattle.vx_history.specs.Good.{Good};
 ghost use Rattle.vx_history.specs.declared.event.Said.TheVariants.{Done, DoneAt, Pending};
 ghost use Rattle.vx_script.specs.declared.line.ScriptLine.{ScriptLine};
 ghost use Rattle.vx_script.specs.declared.line.ScriptLine.TheVariants.{Link, Wait, Set, Connect, Cut, Pause, Resume, Tick, Pump, Deliver, Write, Put};
-ghost use Rattle.vx_events.specs.Listed.{AreListed};
+ghost use Rattle.vx_history.specs.Listed.{AreListed};
 ghost use Rattle.vx_events.specs.Lines.{write_in};
 ghost use Rattle.vx_events.specs.Facts.{facts_of, site_number};
 ghost use Rattle.vx_events.specs.Fails.{Fails};
@@ -23,8 +23,10 @@ ghost use Rattle.vx_events.specs.LinkedFacts.{linked_facts, refused_by};
 ghost use Rattle.vx_events.specs.Plain.{IsUnlinked};
 ghost use Rattle.vx_events.specs.declared.said.Said.{Said};
 
-/// Where no test of a line on a link refuses, its event is not refused by the world, nor is the first event of a line that makes a link;
-/// a write that is waited for is confirmed or pending, and a packet that no test refuses is one that the network still keeps.
+/// Where no test of a line on a link refuses, its event is not refused by the world, and a packet that no test refuses is one that the network
+/// still keeps. Where each link has a place of its own among those of its site, a write that is waited for is confirmed or pending; in a good
+/// world of which this holds the first event of a line that makes a link is not refused either. Every world that comes about is such a world
+/// (`stays_good`, `links_are_listed` of vx_world).
 pub fn link_tests_agree()
     ensures set { (w : World) (files : Bool) (p s : List ℕ) (sync : SyncMode) (prot : Prot) → refused_by w files (Set p s sync prot) ≡ None
         → (step w (SetAt (site_number w p) (site_number w s) sync)).said ≡ Done }

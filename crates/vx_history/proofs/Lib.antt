@@ -1,3 +1,4 @@
 pub mod CrashLemmas
 pub mod GoodLemmas
+pub mod Places
 pub mod Updates

@@ -1,6 +1,5 @@
 -- How many headers an event writes to the logs of sites.
 use Rattle.std.specs.Prelude.{ℕ, Bool, true, false, not, ◌&&◌, eqb, ltb, Option, Some, None, if◌then◌else◌}
-use Rattle.vx_model.specs.declared.link.SyncMode.{SyncMode}
 use Rattle.vx_history.specs.World.{Link as LinkState, Packet, World}
 use Rattle.vx_history.specs.Admission.{mode_holds}
 use Rattle.vx_history.specs.Refusals.{Outcome, count_below}

@@ -10,10 +10,12 @@ pub mod Headers
 pub mod KeptLinks
 pub mod Likes
 pub mod LinkForms
+pub mod Listed
 pub mod Receiving
 pub mod Refusals
 pub mod Sending
 pub mod Sends
+pub mod Settling
 pub mod Sound
 pub mod Step
 pub mod Steps

@@ -2,6 +2,7 @@
 use Rattle.std.specs.Prelude.{ℕ, ◌+◌, ◌-◌, min, Bool, true, false, ◌&&◌, eqb, ltb, leb, if◌then◌else◌}
 use Rattle.vx_model.specs.Sites.{same_line}
 use Rattle.vx_model.specs.declared.history.Line.{Line}
+use Rattle.vx_model.specs.declared.limits.TheConstants.{MOST_WAITING}
 use Rattle.vx_model.specs.declared.site.Mark.TheVariants.{Consistent}
 use Rattle.vx_model.specs.declared.site.SPhase.{SPhase}
 use Rattle.vx_model.specs.declared.site.SPhase.TheVariants.{Quiet, Regions, Log, ForkKept}
@@ -29,9 +30,9 @@ is_log_phase Regions = false
 is_log_phase Log = true
 is_log_phase ForkKept = false
 
--- the next number of its line, while fewer than 16 received records wait
+-- the next number of its line, while there is room for a further record that waits
 abbrev pub takes : RState → Line → (number : ℕ) → Bool
-takes s line number = same_line line s.line && (eqb number (s.last + 1) && (ltb s.waiting 16 && phase_takes s.phase))
+takes s line number = same_line line s.line && (eqb number (s.last + 1) && (ltb s.waiting MOST_WAITING && phase_takes s.phase))
 
 -- a number of its line that it has already
 abbrev pub repeats : RState → Line → (number : ℕ) → Bool

@@ -1,11 +1,10 @@
 -- What the events of a primary without links make of the world.
-use Rattle.std.specs.Prelude.{ℕ, ◌+◌, ◌-◌, min, List, [], ◌∷◌, ◌++◌, length, take, drop, ltb, if◌then◌else◌, Some, None, codes, zero, suc}
+use Rattle.std.specs.Prelude.{ℕ, ◌+◌, ◌-◌, List, [], ◌∷◌, ◌++◌, length, take, drop, ltb, if◌then◌else◌, Some, None, codes, zero, suc}
 use Rattle.std.specs.Fmt.{decimal}
 use Rattle.vx_model.specs.Content.{Write, Content, put, fold_writes, zeros}
 use Rattle.vx_history.specs.World.{Node, History, World, Volume, Fuse, NoFuse, FuseSet, FuseLit, bare_site, updated, with_node, with_history}
 use Rattle.vx_model.specs.Sites.{no_line, first_line}
 use Rattle.vx_model.specs.Sizes.{ring_of}
-use Rattle.vx_model.specs.declared.history.Line.{Line}
 use Rattle.vx_model.specs.declared.site.Role.TheVariants.{Primary}
 use Rattle.vx_model.specs.declared.site.Mark.TheVariants.{Consistent}
 use Rattle.vx_model.specs.declared.site.SiteState.TheVariants.{Up, Down}
@@ -51,12 +50,22 @@ raw_made w s = with_history w s (raw_set s (w.nodes s)) (raw_history (w.nodes s)
 -- a fuse behind a line that may write or flush
 abbrev pub burned : Fuse → Fuse
 burned NoFuse = NoFuse
-burned (FuseSet calls) = FuseLit
-burned FuseLit = FuseLit
+burned (FuseSet calls) = FuseLit calls
+burned (FuseLit most) = FuseLit most
+
+-- a fuse behind so many writes and flushes, or more
+abbrev pub spent : ℕ → Fuse → Fuse
+spent n NoFuse = NoFuse
+spent n (FuseSet calls) = FuseLit (calls - n)
+spent n (FuseLit most) = FuseLit (most - n)
+
+-- a write that is done is so many writes and flushes of the site's disks, or more
+abbrev pub write_calls : ℕ
+write_calls = 4
 
 -- a site with one more write, which is durable
 abbrev pub logged : Node → Write → Node
-logged n x = record n { base = put n.base x; log = n.log ++ x ∷ []; safe = n.safe + 1; fuse = burned n.fuse }
+logged n x = record n { base = put n.base x; log = n.log ++ x ∷ []; safe = n.safe + 1; fuse = spent write_calls n.fuse }
 
 -- its line with that write, which was answered
 abbrev pub told_of : History → Write → History

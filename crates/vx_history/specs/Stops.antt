@@ -15,7 +15,7 @@ use Rattle.vx_history.specs.Doubts.{Doubted, Runs, halved, crashed_as}
 abbrev pub IsFused : Fuse → Type 0
 IsFused NoFuse = ⊥
 IsFused (FuseSet calls) = Unit {0}
-IsFused FuseLit = Unit {0}
+IsFused (FuseLit most) = Unit {0}
 
 -- the same doubts over worlds that differ in notes alone
 pub record IsLikeDoubted (d e : Doubted) : Type 0 where

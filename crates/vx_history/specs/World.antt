@@ -1,10 +1,10 @@
 -- Sites, the links between them, lines of history, what sites put together from parts, and all that was ever sent or promised.
-use Rattle.std.specs.Prelude.{[], ℕ, Bool, true, false, List, eqb, ◌&&◌, if◌then◌else◌, Option, None}
+use Rattle.std.specs.Prelude.{[], ℕ, Bool, false, List, eqb, if◌then◌else◌, Option, None}
 use Rattle.vx_model.specs.Sites.{same_line, no_line}
 use Rattle.vx_model.specs.Content.{Write, Content, zeros}
 use Rattle.vx_model.specs.declared.history.Line.{Line}
 use Rattle.vx_model.specs.declared.site.Role.{Role}
-use Rattle.vx_model.specs.declared.site.Role.TheVariants.{Primary, Secondary, Handing, Bunker}
+use Rattle.vx_model.specs.declared.site.Role.TheVariants.{Primary}
 use Rattle.vx_model.specs.declared.site.Mark.{Mark}
 use Rattle.vx_model.specs.declared.site.Mark.TheVariants.{Consistent}
 use Rattle.vx_model.specs.declared.site.SPhase.{SPhase}
@@ -39,11 +39,12 @@ Regions = ℕ → ℕ → Bool
 abbrev pub no_regions : Regions
 no_regions v r = false
 
--- The fuse of a site's disks: none is set; or it was just set, and lets so many writes and flushes pass; or some may have passed.
+-- The fuse of a site's disks: none is set; or it was just set, and lets so many writes and flushes pass; or some may have passed, and at
+-- most so many are left.
 pub data Fuse : Type 0 where
   NoFuse : Fuse
   FuseSet : (calls : ℕ) → Fuse
-  FuseLit : Fuse
+  FuseLit : (most : ℕ) → Fuse
 
 pub record Node : Type 0 where
   pub name : List ℕ

@@ -2,7 +2,7 @@
 use Rattle.std.proofs.Common.{◌≡◌, ◌∙◌, ◌+◌, ℕ, zero, suc, ◌∷◌, ap, sym, subst, refl, arith}
 use Rattle.std.specs.Prelude.{Option, Some, eqb, nat_lt, if◌then◌else◌}
 use Rattle.vx_history.proofs.Updates.{by_test, all_updated, at_place, eqb_equal}
-use Rattle.vx_history.specs.Steps.{burned, worked_on}
+use Rattle.vx_history.specs.Steps.{burned, spent, worked_on}
 use Rattle.vx_history.specs.World.{Node, World, Fuse, NoFuse, FuseSet, FuseLit, empty_world, updated}
 use Rattle.vx_model.specs.declared.no.SiteName.{SiteName}
 use Rattle.vx_model.specs.declared.no.SiteName.TheVariants.{Known, Number}
@@ -14,7 +14,7 @@ use Rattle.vx_report.specs.declared.view.SiteView.{SiteView}
 use Rattle.vx_events.specs.Facts.{site_fact, facts_of, values_from}
 use Rattle.vx_events.specs.Views.{name_of, group_view, group_shown, view_of}
 use Rattle.vx_node.specs.declared.yard.Yard.{Yard}
-use Rattle.vx_node.specs.Stands.{StandsAlone}
+use Rattle.vx_diskset.specs.Stands.{StandsAlone}
 use Rattle.vx_node.specs.Yards.{YardAgrees, YardStands}
 
 values_same : {A : Type 0} (f g : ℕ → A) (k n : ℕ) → ((i : ℕ) → f i ≡ g i) → values_from f k n ≡ values_from g k n
@@ -60,7 +60,7 @@ over v f s m h same i =
 burned_again : (f : Fuse) → burned (burned f) ≡ burned f
 burned_again NoFuse = refl
 burned_again (FuseSet calls) = refl
-burned_again FuseLit = refl
+burned_again (FuseLit most) = refl
 
 abbrev burn : Node → Node
 burn n = record n { fuse = burned n.fuse }
@@ -72,6 +72,11 @@ worked_over v f s m same lit i =
 
 pub burnt : (f : Fuse) → burned (burned f) ≡ burned f
 burnt f = burned_again f
+
+pub burnt_logged : (n : ℕ) (f : Fuse) → burned (spent n f) ≡ spent n f
+burnt_logged n NoFuse = refl
+burnt_logged n (FuseSet calls) = refl
+burnt_logged n (FuseLit most) = refl
 
 module _ {R : Type 0} {g : Ghosts R} where
   pub agrees_like : (w v : World) (y : Yard R g) → v.sites ≡ w.sites → ((i : ℕ) → v.nodes i ≡ w.nodes i) → YardAgrees w y → YardAgrees v y
@@ -88,4 +93,4 @@ module _ {R : Type 0} {g : Ghosts R} where
   }
 
   pub stands_empty : {y : Yard R g} → YardAgrees empty_world y → YardStands empty_world y
-  stands_empty agrees = record { agrees = agrees; unlinked = record { none = λ p s. refl }; primaries = λ _. record { each = λ i. refl }; failing = λ s e below there. absurd (omega (arith, below)) }
+  stands_empty agrees = record { agrees = agrees; unlinked = record { none = λ p s. refl }; primaries = λ _. record { each = λ i. refl }; failing = λ s e below there. absurd (omega (arith, below)); fuses = λ s e below there. absurd (omega (arith, below)) }

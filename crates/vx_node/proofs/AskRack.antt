@@ -1,26 +1,25 @@
 -- What a line asked of the rack of its site.
 use Rattle.std.proofs.Common.{◌≡◌, ◌∙◌, ◌<◌, ℕ, List, ap, sym, subst, arith, Bool}
-use Rattle.std.specs.Prelude.{Option, Some, slice_get, slice_set}
+use Rattle.std.specs.Prelude.{Some, slice_get, slice_set}
 use Rattle.vx_history.specs.World.{Node, World}
 use Rattle.vx_model.specs.declared.site.SiteState.TheVariants.{Up as IsUp}
-use Rattle.vx_disk.specs.Causes.{OnDisks}
-use Rattle.vx_disk.specs.Disks.{Disks, Crashed, SameBlocks}
 use Rattle.vx_disk.specs.declared.shelf.Shelf.{Ghosts}
-use Rattle.vx_rvg.specs.declared.group.Rvg.{Rvg}
 use Rattle.vx_order.specs.declared.facts.SiteFacts.{SiteFacts}
 use Rattle.vx_script.specs.declared.line.DiskState.{DiskState}
 use Rattle.vx_script.specs.declared.line.ScriptLine.TheVariants.{Disk, Crash, Fuse}
 use Rattle.vx_events.specs.Failing.{is_failing}
 use Rattle.vx_events.specs.Facts.{site_fact, seat_of, site_number}
 use Rattle.vx_events.proofs.Refused.{disk_may, fuse_may, crash_may}
-use Rattle.vx_node.specs.Asked.{SetsDisk, SetsFuse, CrashesBy, OfSite, disks_in, units_in}
-use Rattle.vx_node.specs.declared.disk_set.DiskSet.{DiskSet}
-use Rattle.vx_node.specs.declared.disk_set.DiskSet.TheVariants.{Bare, Spoiled, Up, Down, Gone}
+use Rattle.vx_diskset.specs.Asked.{SetsDisk, SetsFuse, CrashesBy, units_in}
+use Rattle.vx_node.specs.OfSites.{OfSite}
+use Rattle.vx_diskset.specs.declared.disk_set.DiskSet.{DiskSet}
+use Rattle.vx_diskset.specs.declared.disk_set.DiskSet.TheVariants.{Bare, Spoiled, Up, Down, Gone}
 use Rattle.vx_node.specs.declared.yard.Yard.{Yard}
-use Rattle.vx_node.specs.Stands.{StandsAlone}
+use Rattle.vx_diskset.specs.Stands.{StandsAlone}
 use Rattle.vx_node.specs.Working.{IsFree}
 use Rattle.vx_node.specs.Yards.{YardAgrees, in_files}
 use Rattle.vx_node.proofs.Seats.{seated, named_fact}
+use Rattle.vx_events.specs.declared.said.Said.{Said}
 
 module _ {R : Type 0} {g : Ghosts R} where
   units_are : (n : Node) (e : DiskSet R g) → StandsAlone n e → units_in e ≡ n.disks
@@ -67,14 +66,10 @@ module _ {R : Type 0} {g : Ghosts R} where
       let up = up_here w old name s agrees seat may.0.facts (named_fact w old name s here seat may.0) may.1 in
       subst (λ (k : ℕ). OfSite (CrashesBy pick) k old new) (sym here.number) (falls w agrees here.below up)
 
-  -- the shelf of a group that crashed
-  pub crash_did : (e : DiskSet R g) (rvg : Rvg R g) (shelf new : R) (pick : ℕ) → e ≡ Up rvg → shelf ≡ rvg.shelf
-      → OnDisks (g.meaning shelf).disks (g.meaning new).disks (Crashed (g.meaning shelf).size pick) → CrashesBy pick e (Down new)
-  crash_did e rvg shelf new pick is same did =
-      subst (λ (x : DiskSet R g). CrashesBy pick x (Down new)) (sym is)
-      (subst (λ (r : R). OnDisks (g.meaning r).disks (g.meaning new).disks (Crashed (g.meaning r).size pick)) same did)
-
-  -- what is told of the shelf of a group is told of its disk set
-  pub fuse_did : (e : DiskSet R g) (rvg : Rvg R g) (new : Option Disks) (calls pick : ℕ) → e ≡ Up rvg → OnDisks (g.meaning rvg.shelf).disks new (λ o n. SameBlocks o n × (n.fuse ≡ Some (calls, pick)))
-      → OnDisks (disks_in e) new (λ o n. SameBlocks o n × (n.fuse ≡ Some (calls, pick)))
-  fuse_did e rvg new calls pick is did = subst (λ (x : DiskSet R g). OnDisks (disks_in x) new (λ o n. SameBlocks o n × (n.fuse ≡ Some (calls, pick)))) (sym is) did
+  -- the calls of a line
+  pub called_at : (Did : Said → DiskSet R g → DiskSet R g → Type 0) (w : World) (old new : Yard R g) (name : List ℕ) (s : ℕ) (before after : DiskSet R g) (said reply : Said) → said ≡ reply → YardAgrees w old → seat_of old.facts.items name ≡ Some s
+      → slice_get old.disk_sets.items s ≡ Some before → new.disk_sets.items ≡ slice_set old.disk_sets.items s after → ((n : Node) → StandsAlone n before → Did reply before after)
+      → OfSite (Did said) (site_number w name) old new
+  called_at Did w old new name s before after said reply is agrees seat there disk_sets did =
+      asked_at (Did said) w old new name s before after agrees seat there disk_sets
+      (subst (λ (t : Said). Did t before after) (sym is) (did (w.nodes s) (agrees.disk_sets.sites s before (seated w old name s agrees seat).below there)))

@@ -12,7 +12,7 @@ use Rattle.vx_history.proofs.Updates.{at_place}
 use Rattle.vx_history.specs.Events.{links_changed}
 use Rattle.vx_history.specs.Refusals.{Outcome, says}
 use Rattle.vx_history.specs.Step.{step, outcome_of, counted, run, done as says_done}
-use Rattle.vx_history.specs.Steps.{written, logged, half_written, half_begun, crashed, stopped_by, worked_on, burned}
+use Rattle.vx_history.specs.Steps.{written, logged, half_written, half_begun, crashed, stopped_by, worked_on, burned, write_calls}
 use Rattle.vx_history.specs.World.{Node, World, updated}
 use Rattle.vx_history.specs.declared.event.Event.{Event}
 use Rattle.vx_history.specs.declared.event.Event.TheVariants.{Write as WriteAt, Read as ReadAt, Apply as ApplyAt, Crash as CrashAt, Fault}
@@ -32,7 +32,7 @@ use Rattle.vx_events.proofs.Keeping.{run_unlinked, run_primaries, node_primary, 
 use Rattle.vx_events.proofs.Passing.{IsCall}
 use Rattle.vx_events.proofs.Steps.{fault_step, read_step, CanPut, write_step, half_step, apply_step}
 use Rattle.vx_node.specs.Works.{Puts, IsPut, NoNumber as NoNumberLeft, PutFails, PutCut, Applies, IsApplied, ApplyFails, ApplyCut, Gets}
-use Rattle.vx_node.proofs.Alike.{over, worked_over, burnt}
+use Rattle.vx_node.proofs.Alike.{over, worked_over, burnt, burnt_logged}
 use Rattle.vx_node.proofs.SiteEvents.{Happens, by_one, after_crash, crash_is}
 
 -- the worlds of a line whose site is noted keep no links, and each site is a primary
@@ -69,7 +69,7 @@ module _ (told : Type 0) (w : World) (line : ScriptLine) (s : ℕ) (x : WriteOf)
         new = worked_on done_world s;
         ends = by_one told w line s (choice 0) e done_outcome fails said (worked_on done_world s) (list (choice 0)) (write_step w s x can) done.none done.says (sym (lit done_world));
         sites = ap (λ (v : World). v.sites) (sym done.leads);
-        nodes = λ i. worked_over done_world w.nodes s (logged (w.nodes s) x) (λ k. refl) (burnt (w.nodes s).fuse) i ∙ ap (λ (v : World). v.nodes i) (sym done.leads);
+        nodes = λ i. worked_over done_world w.nodes s (logged (w.nodes s) x) (λ k. refl) (burnt_logged write_calls (w.nodes s).fuse) i ∙ ap (λ (v : World). v.nodes i) (sym done.leads);
         unlinked = worked_unlinked done_world s (subst (λ (o : Outcome). IsUnlinked o.world) at (run_unlinked w (e ∷ []) (tt, tt) can.unlinked));
         primaries = λ told. worked_primaries done_world s (subst (λ (o : Outcome). ArePrimaries o.world) at (run_primaries w (e ∷ []) (tt, tt) (all told)));
       }

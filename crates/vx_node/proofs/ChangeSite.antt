@@ -13,15 +13,16 @@ use Rattle.vx_model.specs.declared.site.SiteState.TheVariants.{Bare as IsBare, U
 use Rattle.vx_disk.specs.Counts.{Rose}
 use Rattle.vx_disk.specs.declared.shelf.Shelf.{Ghosts}
 use Rattle.vx_order.specs.declared.facts.SiteFacts.{SiteFacts}
-use Rattle.vx_node.specs.declared.disk_set.DiskSet.{DiskSet}
+use Rattle.vx_diskset.specs.declared.disk_set.DiskSet.{DiskSet}
 use Rattle.vx_node.specs.Changes.{last_facts, last_group, halted_facts, halted_group}
-use Rattle.vx_node.specs.DiskSets.{Later, halted_with}
+use Rattle.vx_diskset.specs.DiskSets.{Later, halted_with}
 use Rattle.vx_events.specs.Facts.{site_fact, group_by, group_fact, head_of, values_from}
 use Rattle.vx_model.specs.Sites.{is_origin}
 use Rattle.vx_model.specs.declared.site.Role.{Role}
 use Rattle.vx_model.specs.declared.site.Role.TheVariants.{Primary}
 use Rattle.vx_order.specs.declared.facts.RvgFacts.{RvgFacts}
-use Rattle.vx_node.specs.Stands.{DiskSetsStand, StandsAlone, IsUnused, AreTold, IsToldAt, RoseAll, RoseBy, faults_of, faults_at, fault_count, times}
+use Rattle.vx_node.specs.Stands.{DiskSetsStand, AreTold, RoseAll, RoseBy, faults_of, fault_count, times}
+use Rattle.vx_diskset.specs.Stands.{StandsAlone, IsUnused, IsToldAt, faults_at}
 use Rattle.vx_node.proofs.Lists.{get-set_same, get-set_other, length-set, values_from-set}
 use Rattle.vx_events.proofs.Values.{values_from-push}
 

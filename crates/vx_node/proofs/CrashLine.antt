@@ -11,16 +11,17 @@ use Rattle.vx_disk.specs.declared.shelf.Shelf.{Ghosts}
 use Rattle.vx_order.specs.declared.facts.SiteFacts.{SiteFacts}
 use Rattle.vx_order.specs.declared.facts.RvgFacts.{RvgFacts}
 use Rattle.vx_script.specs.declared.line.ScriptLine.TheVariants.{Crash, Apply}
-use Rattle.vx_node.specs.declared.disk_set.DiskSet.{DiskSet}
-use Rattle.vx_node.specs.declared.disk_set.DiskSet.TheVariants.{Gone}
+use Rattle.vx_diskset.specs.declared.disk_set.DiskSet.{DiskSet}
+use Rattle.vx_diskset.specs.declared.disk_set.DiskSet.TheVariants.{Gone}
 use Rattle.vx_events.specs.declared.said.Said.{Said}
 use Rattle.vx_events.specs.declared.said.Said.TheVariants.{Done, DoneAt, Refused}
 use Rattle.vx_node.specs.declared.yard.Yard.{Yard}
 use Rattle.vx_node.specs.Changes.{down_facts, halted_facts, halted_group}
-use Rattle.vx_node.specs.DiskSets.{Later, CrashedAt, CanApply, AppliedAt, halted_at, worked}
+use Rattle.vx_diskset.specs.DiskSets.{Later, CrashedAt, CanApply, AppliedAt, halted_at, worked}
 use Rattle.vx_events.specs.Facts.{site_fact, group_fact, group_by, facts_of, seat_of}
 use Rattle.vx_node.specs.Rising.{Fell}
-use Rattle.vx_node.specs.Stands.{DiskSetsStand, StandsAlone, RoseAll, faults_of}
+use Rattle.vx_node.specs.Stands.{DiskSetsStand, RoseAll, faults_of}
+use Rattle.vx_diskset.specs.Stands.{StandsAlone}
 use Rattle.vx_node.specs.Works.{Crashes, Applies, IsApplied, ApplyFails, ApplyCut}
 use Rattle.vx_node.specs.Working.{Worked, IsFree}
 use Rattle.vx_node.specs.Writes.{noted_facts}

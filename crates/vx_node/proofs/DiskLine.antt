@@ -5,18 +5,19 @@ use Rattle.vx_history.specs.World.{Node, World, updated}
 use Rattle.vx_disk.specs.declared.shelf.Shelf.{Ghosts}
 use Rattle.vx_script.specs.declared.line.DiskState.{DiskState}
 use Rattle.vx_script.specs.declared.line.ScriptLine.TheVariants.{Disk}
-use Rattle.vx_node.specs.declared.disk_set.DiskSet.{DiskSet}
+use Rattle.vx_diskset.specs.declared.disk_set.DiskSet.{DiskSet}
 use Rattle.vx_events.specs.declared.said.Said.TheVariants.{Done}
 use Rattle.vx_node.specs.declared.yard.Yard.{Yard}
-use Rattle.vx_node.specs.DiskSets.{Later}
+use Rattle.vx_diskset.specs.DiskSets.{Later}
 use Rattle.vx_events.specs.Facts.{seat_of}
 use Rattle.vx_events.specs.Failing.{is_failing, made_fail}
-use Rattle.vx_node.specs.Stands.{StandsAlone}
+use Rattle.vx_diskset.specs.Stands.{StandsAlone}
 use Rattle.vx_node.specs.Works.{Cleanly}
 use Rattle.vx_node.specs.Working.{Worked}
 use Rattle.vx_node.specs.Yards.{YardAgrees}
 use Rattle.vx_node.proofs.CrashLine.{stands_same, rose_still}
-use Rattle.vx_node.proofs.FailsStay.{failing_fact, stands_failing}
+use Rattle.vx_node.proofs.FailsStay.{failing_fact}
+use Rattle.vx_diskset.proofs.FailGroup.{stands_failing}
 use Rattle.vx_node.proofs.Seats.{seated}
 
 module _ {R : Type 0} {g : Ghosts R} where

@@ -8,7 +8,6 @@ use Rattle.vx_history.specs.World.{Node, World, FuseSet, bare_site, updated, wit
 use Rattle.vx_history.specs.Steps.{burned, came_up, crash_left, crashed, cut_write, fused, half_begun, half_written, logged, raw_made, raw_set, recovered, session_begun, site_made, stopped_by, worked_on, written}
 use Rattle.vx_model.specs.Content.{Write as BlocksOf}
 use Rattle.vx_model.specs.declared.limits.TheConstants.{MOST_NUMBER}
-use Rattle.vx_model.specs.declared.state.KeptLink.{KeptLink}
 use Rattle.vx_model.specs.declared.site.SiteState.{SiteState}
 use Rattle.vx_model.specs.declared.site.SiteState.TheVariants.{Bare as IsBare, Up as IsUp, Deported, Down as IsDown}
 use Rattle.vx_disk.specs.Causes.{OnDisks, WithDisks}
@@ -24,13 +23,14 @@ use Rattle.vx_events.specs.Failing.{NeedsLog, is_failing, made_fail}
 use Rattle.vx_events.specs.Fails.{Fails}
 use Rattle.vx_events.specs.declared.said.Said.{Said}
 use Rattle.vx_events.specs.declared.said.Said.TheVariants.{DoneAt}
-use Rattle.vx_node.specs.Asked.{AllSameFailing, AsAsked, LeavesFuse, CrashesBy, FailsAs, HasCalled, LeavesAlone, OfSite, SameFailing, SetsDisk, SetsFuse, disks_in, size_in}
-use Rattle.vx_node.specs.Burning.{Burnt, IsLogged}
-use Rattle.vx_node.specs.Stands.{StandsAlone, StandsAt, bare_with}
+use Rattle.vx_node.specs.OfSites.{AllSameFailing, AsAsked, HasCalled, OfSite}
+use Rattle.vx_diskset.specs.Asked.{LeavesFuse, CrashesBy, FailsAs, LeavesAlone, SameFailing, SetsDisk, SetsFuse, disks_in, size_in}
+use Rattle.vx_diskset.specs.Burning.{Burnt, IsLogged}
+use Rattle.vx_diskset.specs.Stands.{StandsAlone}
 use Rattle.vx_node.specs.Yards.{YardAgrees}
 use Rattle.vx_node.specs.Works.{Works, FailsAt, Crashes, Fetches, Puts, IsPut, NoNumber, PutFails, PutCut, Begins, CrashesFirst, IsDown as DownBefore, Recovers, ComesUp, StaysDown, NoSession, FindsUp, FindsNone, IsBareStill, BareFails, BareUp, BareNone, Applies, IsApplied, ApplyFails, ApplyCut}
-use Rattle.vx_node.specs.declared.disk_set.DiskSet.{DiskSet}
-use Rattle.vx_node.specs.declared.disk_set.DiskSet.TheVariants.{Bare, Spoiled, Up, Down, Gone}
+use Rattle.vx_diskset.specs.declared.disk_set.DiskSet.{DiskSet}
+use Rattle.vx_diskset.specs.declared.disk_set.DiskSet.TheVariants.{Bare, Spoiled, Up, Down, Gone}
 use Rattle.vx_node.specs.declared.yard.Yard.{Yard}
 use Rattle.vx_events.proofs.Places.{some_same}
 use Rattle.vx_events.specs.Lines.{write_in}
@@ -38,13 +38,11 @@ use Rattle.vx_events.proofs.Refused.{disk_may}
 use Rattle.vx_events.proofs.RefusedCalls.{put_may, write_may}
 use Rattle.vx_events.proofs.Testing.{seat_in}
 use Rattle.vx_node.proofs.Alike.{apart_place}
-use Rattle.vx_node.proofs.KeepsFailing.{Same, burns_of, failing_same, same_on}
+use Rattle.vx_diskset.proofs.KeepsFailing.{Same, failing_same, same_on}
+use Rattle.vx_node.proofs.OfSites.{burns_of}
 use Rattle.vx_node.proofs.Lists.{get-set_same, get-set_other}
 
--- ---- which disks are made to fail is seen by no test, and no disk set stands by it
-
-bare_failing : (n : Node) (failing : ℕ → Bool) → n ≡ bare_with n → record n { failing = failing } ≡ bare_with (record n { failing = failing })
-bare_failing n failing is = ap (λ (k : Node). let m : Node = record k { failing = failing } in m) is
+-- ---- which disks are made to fail is seen by no test
 
 group_as : (state : SiteState) (n : Node) (failing : ℕ → Bool) → group_by state (record n { failing = failing }) ≡ group_by state n
 group_as IsBare n failing = refl
@@ -54,49 +52,6 @@ group_as IsDown n failing = refl
 
 pub failing_fact : (n : Node) (failing : ℕ → Bool) → site_fact (record n { failing = failing }) ≡ site_fact n
 failing_fact n failing = ap (λ r. let x : SiteFacts = record (site_fact n) { rvg = r } in x) (group_as n.state n failing)
-
-module _ {R : Type 0} {g : Ghosts R} where
-  pub stands_failing : (links : List KeptLink) (n : Node) (failing : ℕ → Bool) (e : DiskSet R g) → StandsAt links n e → StandsAt links (record n { failing = failing }) e
-  stands_failing links n failing (Bare rack) h = record {
-    bare = record { is = bare_failing n failing h.bare.is; fitted = h.bare.fitted; unarmed = h.bare.unarmed; few = h.bare.few; some = h.bare.some; blank = h.bare.blank };
-    front = h.front;
-  }
-  stands_failing links n failing (Spoiled rack) h = record { is = bare_failing n failing h.is; fitted = h.fitted; unarmed = h.unarmed; few = h.few; some = h.some; blank = h.blank }
-  stands_failing links n failing (Up rvg) h = record {
-    state = h.state;
-    up = h.up;
-    fuse = h.fuse;
-    lies = h.lies;
-    low = h.low;
-    units = h.units;
-    ring = h.ring;
-    found = h.found;
-    kept = h.kept;
-    linked = h.linked;
-    session = h.session;
-    begun = h.begun;
-    stamp = h.stamp;
-    fresh = h.fresh;
-    first = h.first;
-    head = h.head;
-    halted = h.halted;
-    logged = h.logged;
-    durable = h.durable;
-    content = h.content;
-    left = λ i now. let has = h.left i now in record { count = has.count; least = has.least; most = has.most; found = has.found };
-  }
-  stands_failing links n failing (Down rack) h = record {
-    state = h.state;
-    unfused = h.unfused;
-    down = h.down;
-    unarmed = h.unarmed;
-    lies = h.lies;
-    low = h.low;
-    logged = h.logged;
-    begun = h.begun;
-    left = h.left;
-  }
-  stands_failing links n failing Gone h = absurd h
 
 -- ---- what a line leaves of the disks that a world makes fail
 
@@ -312,7 +267,7 @@ module _ {R : Type 0} {g : Ghosts R} where
 
   -- ---- a write is done only where the disk of the log works
 
-  told_disks : ((r : R) → IsRack (g.meaning r)) → (n : Node) (e : DiskSet R g) → StandsAlone n e → (d : Disks) × (disks_in e ≡ Some d)
+  pub told_disks : ((r : R) → IsRack (g.meaning r)) → (n : Node) (e : DiskSet R g) → StandsAlone n e → (d : Disks) × (disks_in e ≡ Some d)
   told_disks racks n (Bare rack) h = ((racks rack).told, (racks rack).is)
   told_disks racks n (Spoiled rack) h = ((racks rack).told, (racks rack).is)
   told_disks racks n (Up rvg) h = ((racks rvg.shelf).told, (racks rvg.shelf).is)

@@ -10,19 +10,21 @@ use Rattle.vx_history.specs.KeptLinks.{kept_links}
 use Rattle.vx_model.specs.Content.{Content, Write, fold_writes}
 use Rattle.vx_disk.specs.Shelf.{Meaning, Lawful}
 use Rattle.vx_disk.specs.declared.shelf.Shelf.{Ghosts}
-use Rattle.vx_node.specs.Lasts.{FoundWith}
+use Rattle.vx_diskset.specs.Lasts.{FoundWith}
 use Rattle.vx_rvg.specs.Views.{Core}
-use Rattle.vx_node.specs.declared.disk_set.DiskSet.{DiskSet}
-use Rattle.vx_node.specs.declared.disk_set.DiskSet.TheVariants.{Bare, Spoiled, Up, Down, Gone}
-use Rattle.vx_node.specs.Holds.{Holds, state_with, links_of, RacksHold, RacksTell, rack_count, rack_faults}
-use Rattle.vx_node.specs.Layouts.{units_of}
+use Rattle.vx_diskset.specs.declared.disk_set.DiskSet.{DiskSet}
+use Rattle.vx_diskset.specs.declared.disk_set.DiskSet.TheVariants.{Bare, Spoiled, Up, Down, Gone}
+use Rattle.vx_diskset.specs.Holds.{Holds, state_with, links_of}
+use Rattle.vx_node.specs.Holds.{RacksHold, RacksTell, rack_count, rack_faults}
+use Rattle.vx_diskset.specs.Layouts.{units_of}
 use Rattle.vx_events.specs.Plain.{IsUnlinked}
 use Rattle.vx_events.proofs.Steps.{no_sites}
 use Rattle.vx_events.specs.Stamps.{most_stamp}
 use Rattle.vx_node.specs.Racks.{racks_in}
-use Rattle.vx_node.specs.Stands.{DiskSetsStand, StandsAlone, IsUnused, IsBareAt, IsUpAt, IsDownAt, IsToldAt, AreTold, fault_count, faults_of}
-use Rattle.vx_node.proofs.CrashGroup.{left_with}
-use Rattle.vx_node.proofs.StaysUp.{all_taken, durable_content, told_now}
+use Rattle.vx_node.specs.Stands.{DiskSetsStand, AreTold, fault_count, faults_of}
+use Rattle.vx_diskset.specs.Stands.{StandsAlone, IsUnused, IsBareAt, IsUpAt, IsDownAt, IsToldAt}
+use Rattle.vx_diskset.proofs.CrashGroup.{left_with}
+use Rattle.vx_diskset.proofs.StaysUp.{all_taken, durable_content, told_now}
 use Rattle.std.proofs.lemmas.Bool.{cases_lt}
 use Rattle.std.proofs.Common.{⊎_elim}
 

@@ -23,17 +23,18 @@ use Rattle.vx_events.specs.declared.said.Said.{Said}
 use Rattle.vx_events.proofs.Keeping.{node_primary, same_links}
 use Rattle.vx_events.proofs.Parts.{none_done}
 use Rattle.vx_events.proofs.Steps.{CanPut}
-use Rattle.vx_node.specs.declared.disk_set.DiskSet.{DiskSet}
-use Rattle.vx_node.specs.declared.disk_set.DiskSet.TheVariants.{Bare, Spoiled, Up, Down, Gone}
+use Rattle.vx_diskset.specs.declared.disk_set.DiskSet.{DiskSet}
+use Rattle.vx_diskset.specs.declared.disk_set.DiskSet.TheVariants.{Bare, Spoiled, Up, Down, Gone}
 use Rattle.vx_node.specs.declared.yard.Yard.{Yard}
 use Rattle.vx_node.specs.Replies.{text_of}
-use Rattle.vx_node.specs.Stands.{StandsAlone}
+use Rattle.vx_diskset.specs.Stands.{StandsAlone}
 use Rattle.vx_node.specs.Working.{Answered, IsFree}
-use Rattle.vx_node.specs.Asked.{AllSameFailing, AsAsked, HasCalled}
+use Rattle.vx_node.specs.OfSites.{AllAsBefore, AsAsked, HasCalled}
 use Rattle.vx_node.specs.Works.{Works, WorksBy}
 use Rattle.vx_node.specs.Yards.{YardAgrees, YardStands, StaysAgreed, StopsShort, Steps, IsTold, in_files}
 use Rattle.vx_node.proofs.Alike.{agrees_like}
 use Rattle.vx_node.proofs.FailsStay.{Ties, needs_log, still_told, tied_line, tied_same}
+use Rattle.vx_node.proofs.FuseStays.{Lit, failing_short, lit_line, lit_short, lit_still, needs_calls}
 use Rattle.vx_node.proofs.SiteEvents.{Happens, first_choice, happens_as, site_happens, raw_happens, only_happens, crash_happens, recover_happens}
 use Rattle.vx_node.proofs.CallEvents.{put_happens, put_counts, read_happens, apply_happens}
 use Rattle.vx_events.proofs.Refused.{crash_may, recover_may, apply_may}
@@ -83,12 +84,13 @@ module _ {R : Type 0} {g : Ghosts R} where
   -- ---- the whole line
 
   -- the yard stands for the world to which the events came
-  stands_for : (told : Type 0) (w next : World) (line : ScriptLine) (s : ℕ) (fails : Fails) (said : Said) (y : Yard R g) → (IsTold y → told) → YardAgrees next y → Ties next y → (h : Happens told w line s fails said next) → YardStands h.new y
-  stands_for told w next line s fails said y is agrees ties h = record {
+  stands_for : (told : Type 0) (w next : World) (line : ScriptLine) (s : ℕ) (fails : Fails) (said : Said) (y : Yard R g) → (IsTold y → told) → YardAgrees next y → Ties next y → Lit next y → (h : Happens told w line s fails said next) → YardStands h.new y
+  stands_for told w next line s fails said y is agrees ties lit h = record {
     agrees = agrees_like next h.new y h.sites h.nodes agrees;
     unlinked = h.unlinked;
     primaries = λ t. h.primaries (is t);
     failing = tied_same next h.new y y h.sites (λ i. ap (λ (n : Node). n.failing) (h.nodes i)) (still_told y y refl) ties;
+    fuses = lit_still next h.new y y h.sites (λ i. ap (λ (n : Node). n.fuse) (h.nodes i)) refl lit;
   }
 
   -- a line that no test refuses
@@ -214,31 +216,35 @@ module _ {R : Type 0} {g : Ghosts R} where
           primaries = λ t. subst (λ (v : World). ArePrimaries v) (sym works.leads) (stands.primaries (later t));
           failing = tied_same w a.world old new (ap (λ (v : World). v.sites) works.leads) (λ i. ap (λ (v : World). (v.nodes i).failing) works.leads)
               (still_told old new (ap (λ es. es.items) (still (ap (λ fs. is_some (refusal_of fs (in_files old) line)) stands.agrees.facts ∙ ap (λ o. is_some o) is)))) stands.failing;
+          fuses = lit_still w a.world old new (ap (λ (v : World). v.sites) works.leads) (λ i. ap (λ (v : World). (v.nodes i).fuse) works.leads)
+              (ap (λ es. es.items) (still (ap (λ fs. is_some (refusal_of fs (in_files old) line)) stands.agrees.facts ∙ ap (λ o. is_some o) is))) stands.fuses;
         };
         rose = a.rose;
         called = λ free. called free;
       }
       by None is works =
+          let free_here : IsFree old line = ap (λ fs. refusal_of fs (in_files old) line) stands.agrees.facts ∙ is in
           let h = works_happen (IsTold new) (in_files old) w old line a.fails said a.world stands.agrees stands.unlinked (λ t. stands.primaries (later t)) is works in
           record {
             world = h.0.new;
             fails = a.fails;
             prints = record {
               said = said;
-              step = subst (λ (o : Option No). StepBy o (IsTold new) w line a.fails said h.0.new) (sym is) (record { ends = h.0.ends; counts = h.1; works = needs_log racks (in_files old) w old new line said is stands.agrees (called (ap (λ fs. refusal_of fs (in_files old) line) stands.agrees.facts ∙ is)) stands.failing });
+              step = subst (λ (o : Option No). StepBy o (IsTold new) w line a.fails said h.0.new) (sym is) (record { ends = h.0.ends; counts = h.1; works = needs_log racks (in_files old) w old new line said is stands.agrees (called free_here) stands.failing; calls = needs_calls racks (in_files old) w old new line said is stands.agrees (called free_here) stands.fuses });
               is = refl;
             };
             stands = stands_for (IsTold new) w a.world line (site_of w line) a.fails said new (λ t. t) a.stands
-                (tied_line (IsTold new) (in_files old) w a.world old new line a.fails said is works (asked (ap (λ fs. refusal_of fs (in_files old) line) stands.agrees.facts ∙ is)) stands.failing) h.0;
+                (tied_line (IsTold new) (in_files old) w a.world old new line a.fails said is works (asked free_here) stands.failing)
+                (lit_line (IsTold new) (in_files old) w a.world old new line a.fails said is stands.agrees works (asked free_here) (called free_here) stands.fuses) h.0;
             rose = a.rose;
             called = λ free. called free;
           }
 
   -- a line of which nothing was done
-  pub line_stays : (w : World) (line : ScriptLine) (old new : Yard R g) → YardStands w old → (IsTold new → IsTold old) → StaysAgreed w old new → AllSameFailing old new → StopsShort w line old new
+  pub line_stays : (w : World) (line : ScriptLine) (old new : Yard R g) → YardStands w old → (IsTold new → IsTold old) → StaysAgreed w old new → AllAsBefore old new → StopsShort w line old new
   line_stays w line old new stands later stays short = record {
     world = w;
     part = none_done w line;
-    stands = record { agrees = stays.stands; unlinked = stands.unlinked; primaries = λ t. stands.primaries (later t); failing = tied_same w w old new refl (λ i. refl) short stands.failing };
+    stands = record { agrees = stays.stands; unlinked = stands.unlinked; primaries = λ t. stands.primaries (later t); failing = tied_same w w old new refl (λ i. refl) (failing_short old new short) stands.failing; fuses = lit_short w old new stays.stands short stands.fuses };
     rose = stays.rose;
   }

@@ -3,11 +3,12 @@ use Rattle.std.proofs.Common.{◌≡◌, ◌∙◌, ℕ, zero, suc, List, [], �
 use Rattle.std.specs.Prelude.{Some, None, slice_get, map}
 use Rattle.vx_history.specs.World.{empty_world}
 use Rattle.vx_disk.specs.declared.shelf.Shelf.{Ghosts}
-use Rattle.vx_node.specs.declared.disk_set.DiskSet.{DiskSet}
-use Rattle.vx_node.specs.declared.disk_set.DiskSet.TheVariants.{Bare}
+use Rattle.vx_diskset.specs.declared.disk_set.DiskSet.{DiskSet}
+use Rattle.vx_diskset.specs.declared.disk_set.DiskSet.TheVariants.{Bare}
 use Rattle.vx_node.specs.Holds.{AreFresh, rack_faults}
-use Rattle.vx_node.specs.Stands.{DiskSetsStand, IsUnused, faults_of}
-use Rattle.vx_node.proofs.StaysUp.{not_true}
+use Rattle.vx_node.specs.Stands.{DiskSetsStand, faults_of}
+use Rattle.vx_diskset.specs.Stands.{IsUnused}
+use Rattle.vx_diskset.proofs.StaysUp.{not_true}
 
 length-bare : {A B : Type 0} (f : A → B) (rs : List A) → length (map f rs) ≡ length rs
 length-bare f [] = refl

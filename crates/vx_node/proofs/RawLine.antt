@@ -18,16 +18,18 @@ use Rattle.vx_disk.specs.declared.shelf.Shelf.{Ghosts}
 use Rattle.vx_order.specs.declared.facts.SiteFacts.{SiteFacts}
 use Rattle.vx_order.specs.declared.facts.VolumeFacts.{VolumeFacts}
 use Rattle.vx_script.specs.declared.line.ScriptLine.TheVariants.{Raw}
-use Rattle.vx_node.specs.declared.disk_set.DiskSet.{DiskSet}
-use Rattle.vx_node.specs.declared.disk_set.DiskSet.TheVariants.{Bare, Spoiled, Up, Down, Gone}
+use Rattle.vx_diskset.specs.declared.disk_set.DiskSet.{DiskSet}
+use Rattle.vx_diskset.specs.declared.disk_set.DiskSet.TheVariants.{Bare, Spoiled, Up, Down, Gone}
 use Rattle.vx_events.specs.declared.said.Said.{Said}
 use Rattle.vx_events.specs.declared.said.Said.TheVariants.{Done}
 use Rattle.vx_node.specs.declared.yard.Yard.{Yard}
 use Rattle.vx_node.specs.Changes.{raw_facts}
-use Rattle.vx_node.specs.DiskSets.{Later, MadeIs}
+use Rattle.vx_diskset.specs.DiskSets.{Later, MadeIs}
 use Rattle.vx_events.specs.Facts.{site_fact, volume_fact, seat_of}
 use Rattle.vx_node.specs.Replies.{reply_to}
-use Rattle.vx_node.specs.Stands.{DiskSetsStand, StandsAlone, RoseAll, AreTold, faults_of}
+use Rattle.vx_node.specs.Stands.{DiskSetsStand, RoseAll, AreTold, faults_of}
+use Rattle.vx_diskset.specs.Layouts.{CanBeRaw}
+use Rattle.vx_diskset.specs.Stands.{StandsAlone}
 use Rattle.vx_node.specs.Working.{WorkIs, Worked, IsFree}
 use Rattle.vx_node.specs.Yards.{YardAgrees, in_files, count_of}
 use Rattle.vx_node.proofs.ChangeSite.{facts-updated, rose_none, rose_one, counts_later, counts_rose, disk_sets_set, disk_sets_same, told_before}
@@ -86,7 +88,7 @@ module _ {R : Type 0} {g : Ghosts R} where
     seat : Seated w y name s
     fact : site ≡ site_fact (w.nodes s)
     bare : (w.nodes s).state ≡ IsBare
-    disks : 3 ≤ (w.nodes s).disks
+    can : CanBeRaw (w.nodes s).disks (w.nodes s).blocks
 
   raw_at : (w : World) (y : Yard R g) (name : List ℕ) (s : ℕ) (site : SiteFacts) → YardAgrees w y → IsFree y (Raw name) → seat_of y.facts.items name ≡ Some s → slice_get y.facts.items s ≡ Some site → RawAt w y name s site
   raw_at w y name s site stands free is there =
@@ -97,7 +99,7 @@ module _ {R : Type 0} {g : Ghosts R} where
         seat = seat;
         fact = some_same (sym there ∙ seat.fact);
         bare = sym (ap (λ (f : SiteFacts). f.state) found) ∙ may.1;
-        disks = subst (λ (f : SiteFacts). 3 ≤ f.disks) found may.2;
+        can = subst (λ (f : SiteFacts). CanBeRaw f.disks f.blocks) found (record { some = may.2; maps = may.4 });
       }
 
   stood_few : (n : Node) (e : DiskSet R g) → StandsAlone n e → n.state ≡ IsBare → n.disks ≤ 8
@@ -125,7 +127,7 @@ module _ {R : Type 0} {g : Ghosts R} where
 
   pub raw_done : (w : World) (old new : Yard R g) (name : List ℕ) (s : ℕ) (site : SiteFacts) (volumes : List VolumeFacts) (before after : DiskSet R g) (r : Result (Unit {0}) Stop) (done : Unit {0}) → YardAgrees w old → IsFree old (Raw name)
       → seat_of old.facts.items name ≡ Some s → slice_get old.facts.items s ≡ Some site → volumes ≡ map volume_fact (raw_volumes 1 (site.disks - 2) site.blocks)
-      → slice_get old.disk_sets.items s ≡ Some before → Later before after → r ≡ Ok done → ((n : Node) → StandsAlone n before → n.state ≡ IsBare → 3 ≤ n.disks → MadeIs s n before after r)
+      → slice_get old.disk_sets.items s ≡ Some before → Later before after → r ≡ Ok done → ((n : Node) → StandsAlone n before → n.state ≡ IsBare → CanBeRaw n.disks n.blocks → MadeIs s n before after r)
       → new.facts.items ≡ slice_set old.facts.items s (raw_facts s volumes site) → new.disk_sets.items ≡ slice_set (slice_set old.disk_sets.items s Gone) s after → new.racks ≡ old.racks
       → Worked w (Raw name) Done old new
   raw_done w old new name s site volumes before after r done stands free is there table at later ok made facts twice racks =
@@ -147,7 +149,7 @@ module _ {R : Type 0} {g : Ghosts R} where
             (facts ∙ ap (slice_set old.facts.items s) fact ∙ ap (λ (fs : List SiteFacts). slice_set fs s (site_fact (raw_set s n))) stands.facts ∙ sym (facts-updated w.nodes w.sites s (raw_set s n)))
             (subst (λ es. DiskSetsStand (raw_made w s) es) (sym disk_sets)
             (disk_sets_set w (raw_made w s) old.disk_sets.items s (raw_set s n) after refl (λ k. refl) found.seat.below stands.disk_sets
-            (subst (MadeIs s n before after) ok (made n stood found.bare found.disks))))
+            (subst (MadeIs s n before after) ok (made n stood found.bare found.can))))
             racks;
         rose = subst (λ es. RoseAll [] (count_of old) (faults_of es)) (sym disk_sets)
             (rose_none (count_of old) (faults_of (slice_set old.disk_sets.items s after)) (λ s' d. counts_later old.disk_sets.items s before after at later s' d));
@@ -155,11 +157,11 @@ module _ {R : Type 0} {g : Ghosts R} where
 
   pub raw_failed : (stop : Stop) (said : Result Said MemoryError) (w : World) (old new : Yard R g) (name : List ℕ) (s : ℕ) (site : SiteFacts) (before after : DiskSet R g) (r : Result (Unit {0}) Stop) → said ≡ reply_to stop → YardAgrees w old → IsFree old (Raw name)
       → seat_of old.facts.items name ≡ Some s → slice_get old.facts.items s ≡ Some site
-      → slice_get old.disk_sets.items s ≡ Some before → Later before after → r ≡ Err stop → ((n : Node) → StandsAlone n before → n.state ≡ IsBare → 3 ≤ n.disks → MadeIs s n before after r)
+      → slice_get old.disk_sets.items s ≡ Some before → Later before after → r ≡ Err stop → ((n : Node) → StandsAlone n before → n.state ≡ IsBare → CanBeRaw n.disks n.blocks → MadeIs s n before after r)
       → new.facts ≡ old.facts → new.disk_sets.items ≡ slice_set (slice_set old.disk_sets.items s Gone) s after → new.racks ≡ old.racks
       → WorkIs w (Raw name) old new said
   raw_failed stop said w old new name s site before after r says stands free is there at later err made facts twice racks =
-      subst (λ r. WorkIs w (Raw name) old new r) (sym says) (by_stop stop (subst (MadeIs s (w.nodes s) before after) err (made (w.nodes s) stood found.bare found.disks)))
+      subst (λ r. WorkIs w (Raw name) old new r) (sym says) (by_stop stop (subst (MadeIs s (w.nodes s) before after) err (made (w.nodes s) stood found.bare found.can)))
     where
       found : RawAt w old name s site
       found = raw_at w old name s site stands free is there

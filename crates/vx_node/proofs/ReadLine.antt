@@ -13,14 +13,16 @@ use Rattle.vx_order.specs.declared.facts.SiteFacts.{SiteFacts}
 use Rattle.vx_order.specs.declared.facts.RvgFacts.{RvgFacts}
 use Rattle.vx_order.specs.declared.facts.VolumeFacts.{VolumeFacts}
 use Rattle.vx_rvg.specs.Contents.{Shows}
-use Rattle.vx_node.specs.declared.disk_set.DiskSet.{DiskSet}
-use Rattle.vx_node.specs.declared.disk_set.DiskSet.TheVariants.{Bare, Spoiled, Up, Down, Gone}
+use Rattle.vx_diskset.specs.declared.disk_set.DiskSet.{DiskSet}
+use Rattle.vx_diskset.specs.declared.disk_set.DiskSet.TheVariants.{Bare, Spoiled, Up, Down, Gone}
 use Rattle.vx_events.specs.declared.said.Said.TheVariants.{Got, Refused}
 use Rattle.vx_node.specs.declared.yard.Yard.{Yard}
-use Rattle.vx_node.specs.DiskSets.{Later, CanRead}
+use Rattle.vx_diskset.specs.DiskSets.{Later, CanRead}
 use Rattle.vx_events.specs.Facts.{site_fact, group_fact, group_by, volume_fact, seat_of, place_of, site_number, volume_number}
-use Rattle.vx_node.specs.Fetching.{GaveAt, Gave, IsReadFree, Fetched}
-use Rattle.vx_node.specs.Stands.{DiskSetsStand, StandsAlone, AreTold, RoseAll, faults_of}
+use Rattle.vx_diskset.specs.Fetching.{GaveAt, Gave}
+use Rattle.vx_node.specs.Fetching.{IsReadFree, Fetched}
+use Rattle.vx_node.specs.Stands.{DiskSetsStand, AreTold, RoseAll, faults_of}
+use Rattle.vx_diskset.specs.Stands.{StandsAlone}
 use Rattle.vx_node.specs.Works.{Fetches, Gets, OnlyFails}
 use Rattle.vx_node.specs.Yards.{YardAgrees, in_files, count_of}
 use Rattle.vx_node.proofs.ChangeSite.{disk_sets_same, rose_none, rose_one, counts_later, counts_rose}

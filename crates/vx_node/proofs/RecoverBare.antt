@@ -15,19 +15,21 @@ use Rattle.vx_order.specs.declared.facts.SiteFacts.{SiteFacts}
 use Rattle.vx_order.specs.declared.facts.VolumeFacts.{VolumeFacts}
 use Rattle.vx_report.specs.declared.view.SiteView.{SiteView}
 use Rattle.vx_script.specs.declared.line.ScriptLine.TheVariants.{Recover}
-use Rattle.vx_node.specs.declared.disk_set.DiskSet.{DiskSet}
-use Rattle.vx_node.specs.declared.disk_set.DiskSet.TheVariants.{Gone}
+use Rattle.vx_diskset.specs.declared.disk_set.DiskSet.{DiskSet}
+use Rattle.vx_diskset.specs.declared.disk_set.DiskSet.TheVariants.{Gone}
 use Rattle.vx_events.specs.declared.said.Said.{Said}
 use Rattle.vx_events.specs.declared.said.Said.TheVariants.{Recovered, Refused}
 use Rattle.vx_node.specs.declared.yard.Yard.{Yard}
 use Rattle.vx_node.specs.Changes.{raw_facts, up_facts}
-use Rattle.vx_node.specs.DiskSets.{Later, BareUp, BareUpIs}
+use Rattle.vx_diskset.specs.DiskSets.{Later, BareUp, BareUpIs}
 use Rattle.vx_events.specs.Found.{SameDisks}
 use Rattle.vx_events.specs.Facts.{site_fact, volume_fact, seat_of}
 use Rattle.vx_events.specs.Views.{view_of}
-use Rattle.vx_node.specs.Holds.{state_with}
+use Rattle.vx_diskset.specs.Holds.{state_with}
 use Rattle.vx_node.specs.Rising.{NotesUp, Recovering, Finding}
-use Rattle.vx_node.specs.Stands.{DiskSetsStand, StandsAlone, RoseAll, faults_of}
+use Rattle.vx_node.specs.Stands.{DiskSetsStand, RoseAll, faults_of}
+use Rattle.vx_diskset.specs.Layouts.{CanBeRaw}
+use Rattle.vx_diskset.specs.Stands.{StandsAlone}
 use Rattle.vx_node.specs.Works.{IsBareStill, BareFails, BareUp as RisesBare, BareNone}
 use Rattle.vx_node.specs.Working.{WorkIs}
 use Rattle.vx_node.specs.Yards.{YardAgrees, StaysAgreed, count_of}
@@ -42,7 +44,7 @@ use Rattle.vx_node.proofs.SiteLine.{stands_new}
 
 -- the number of a site says nothing of its disks
 same_set : (s : ℕ) (n k : Node) → SameDisks (raw_set 0 n) k → SameDisks (raw_set s n) k
-same_set s n k same = record { name = same.name; disks = same.disks; blocks = same.blocks; volumes = same.volumes; up = same.up; running = same.running; failing = same.failing }
+same_set s n k same = record { name = same.name; disks = same.disks; blocks = same.blocks; volumes = same.volumes; up = same.up; running = same.running; failing = same.failing; fuse = same.fuse }
 
 module _ {R : Type 0} {g : Ghosts R} where
   -- nothing of the line was done
@@ -67,8 +69,8 @@ module _ {R : Type 0} {g : Ghosts R} where
     stood : StandsAlone (w.nodes s) before
     stood = stands.disk_sets.sites s before below there
 
-    pub enough : 3 ≤ site.disks → 3 ≤ (w.nodes s).disks
-    enough some = subst (λ (f : SiteFacts). 3 ≤ f.disks) node_fact some
+    pub enough : CanBeRaw site.disks site.blocks → CanBeRaw (w.nodes s).disks (w.nodes s).blocks
+    enough can = subst (λ (f : SiteFacts). CanBeRaw f.disks f.blocks) node_fact can
 
     pub ring_fits : (ring : ℕ) → ring ≡ ring_of site.blocks → ring ≡ ring_of (w.nodes s).blocks
     ring_fits ring is = is ∙ ap (λ (f : SiteFacts). ring_of f.blocks) node_fact

@@ -17,20 +17,21 @@ use Rattle.vx_order.specs.declared.facts.RvgFacts.{RvgFacts}
 use Rattle.vx_report.specs.declared.view.SiteView.{SiteView}
 use Rattle.vx_script.specs.declared.line.ScriptLine.TheVariants.{Recover}
 use Rattle.vx_srl.specs.Views.{most_number}
-use Rattle.vx_node.specs.declared.disk_set.DiskSet.{DiskSet}
-use Rattle.vx_node.specs.declared.disk_set.DiskSet.TheVariants.{Bare, Spoiled, Up, Down, Gone}
+use Rattle.vx_diskset.specs.declared.disk_set.DiskSet.{DiskSet}
+use Rattle.vx_diskset.specs.declared.disk_set.DiskSet.TheVariants.{Bare, Spoiled, Up, Down, Gone}
 use Rattle.vx_events.specs.declared.said.Said.{Said}
 use Rattle.vx_events.specs.declared.said.Said.TheVariants.{Recovered, Refused}
 use Rattle.vx_node.specs.declared.yard.Yard.{Yard}
 use Rattle.vx_node.specs.Changes.{up_facts}
-use Rattle.vx_node.specs.DiskSets.{Later, RoseAt, CameUp, CameUpIs, StillDown, no_number}
+use Rattle.vx_diskset.specs.DiskSets.{Later, RoseAt, CameUp, CameUpIs, StillDown, no_number}
 use Rattle.vx_events.specs.Found.{SameDisks}
 use Rattle.vx_model.specs.Sites.{is_origin}
 use Rattle.vx_events.specs.Facts.{site_fact, group_fact, group_by, head_of, volume_fact, seat_of}
-use Rattle.vx_node.specs.Holds.{state_with}
+use Rattle.vx_diskset.specs.Holds.{state_with}
 use Rattle.vx_events.specs.Stamps.{most_stamp}
 use Rattle.vx_node.specs.Rising.{Fell, NotedUp, NotesUp, Recovering}
-use Rattle.vx_node.specs.Stands.{DiskSetsStand, StandsAlone, IsToldAt, AreTold, RoseAll, RoseBy, times, faults_of}
+use Rattle.vx_node.specs.Stands.{DiskSetsStand, AreTold, RoseAll, RoseBy, times, faults_of}
+use Rattle.vx_diskset.specs.Stands.{StandsAlone, IsToldAt}
 use Rattle.vx_node.specs.Works.{Begins, CrashesFirst, IsDown as DownBefore, Recovers, ComesUp, StaysDown, NoSession, FindsUp, FindsNone}
 use Rattle.vx_events.specs.Ends.{IsNoDevice}
 use Rattle.vx_events.specs.Fails.{Fails}
@@ -128,7 +129,7 @@ module _ {R : Type 0} {g : Ghosts R} where
   pub up_parts : (k : Node) (e : DiskSet R g) → StandsAlone k e → k.state ≡ IsUp → (k.low ≡ 1) × (k.ring ≡ ring_of k.blocks)
   up_parts k (Bare rack) h up = absurd (bare_up (sym (ap (λ (n : Node). n.state) h.bare.is) ∙ up))
   up_parts k (Spoiled rack) h up = absurd (bare_up (sym (ap (λ (n : Node). n.state) h.is) ∙ up))
-  up_parts k (Up rvg) h up = (h.low, h.lies.laid.ring_is ∙ ap ring_of (h.lies.size 0 (omega (arith, h.lies.some))))
+  up_parts k (Up rvg) h up = (h.low, h.lies.laid.ring_is ∙ ap ring_of (h.lies.size 0 (omega (arith, h.lies.can.some))))
   up_parts k (Down rack) h up = absurd (down_up (sym h.state ∙ up))
   up_parts k Gone h up = absurd h
 
@@ -144,7 +145,7 @@ module _ {R : Type 0} {g : Ghosts R} where
   down_ring n (Bare rack) h down = absurd (bare_down (sym (ap (λ (n : Node). n.state) h.bare.is) ∙ down))
   down_ring n (Spoiled rack) h down = absurd (bare_down (sym (ap (λ (n : Node). n.state) h.is) ∙ down))
   down_ring n (Up rvg) h down = absurd (up_down (sym h.state ∙ down))
-  down_ring n (Down rack) h down = h.lies.laid.ring_is ∙ ap ring_of (h.lies.size 0 (omega (arith, h.lies.some)))
+  down_ring n (Down rack) h down = h.lies.laid.ring_is ∙ ap ring_of (h.lies.size 0 (omega (arith, h.lies.can.some)))
   down_ring n Gone h down = absurd h
 
   -- not all contents are told where those of one disk set are not
@@ -318,8 +319,8 @@ module _ {R : Type 0} {g : Ghosts R} where
   some_blocks : (n : Node) (e : DiskSet R g) → StandsAlone n e → 8 ≤ n.blocks
   some_blocks n (Bare rack) h = h.bare.some
   some_blocks n (Spoiled rack) h = h.some
-  some_blocks n (Up rvg) h = omega (arith, h.lies.laid.large, h.lies.size 0 (omega (arith, h.lies.some)))
-  some_blocks n (Down rack) h = omega (arith, h.lies.laid.large, h.lies.size 0 (omega (arith, h.lies.some)))
+  some_blocks n (Up rvg) h = omega (arith, h.lies.laid.large, h.lies.size 0 (omega (arith, h.lies.can.some)))
+  some_blocks n (Down rack) h = omega (arith, h.lies.laid.large, h.lies.size 0 (omega (arith, h.lies.can.some)))
   some_blocks n Gone h = absurd h
 
   never_deported : (n : Node) (e : DiskSet R g) → StandsAlone n e → n.state ≡ Deported → ⊥

@@ -210,7 +210,7 @@ primary_or (Handing to) = inr (λ e. cc)
 primary_or Bunker = inr (λ e. cc)
 
 same_recovered : (n : Node) → SameDisks n (recovered n)
-same_recovered n = record { name = refl; disks = refl; blocks = refl; volumes = refl; up = refl; running = refl; failing = refl }
+same_recovered n = record { name = refl; disks = refl; blocks = refl; volumes = refl; up = refl; running = refl; failing = refl; fuse = refl }
 
 like_node : (w v : World) (s : ℕ) (h : Node → Node) → ((i : ℕ) → v.nodes i ≡ w.nodes i) → (i : ℕ) → updated v.nodes s (h (v.nodes s)) i ≡ updated w.nodes s (h (w.nodes s)) i
 like_node w v s h same i =

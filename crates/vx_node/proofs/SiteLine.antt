@@ -12,16 +12,17 @@ use Rattle.vx_disk.specs.declared.shelf.Shelf.{Ghosts}
 use Rattle.vx_order.specs.Shapes.{most_blocks as most_of}
 use Rattle.vx_order.specs.declared.facts.SiteFacts.{SiteFacts}
 use Rattle.vx_script.specs.declared.line.ScriptLine.TheVariants.{Site}
-use Rattle.vx_node.specs.declared.disk_set.DiskSet.{DiskSet}
+use Rattle.vx_diskset.specs.declared.disk_set.DiskSet.{DiskSet}
 use Rattle.vx_model.specs.declared.errors.OutOfMemory.{OutOfMemory as OutOfMemory'}
 use Rattle.vx_events.specs.declared.said.Said.{Said}
 use Rattle.vx_events.specs.declared.said.Said.TheVariants.{Done}
 use Rattle.vx_node.specs.declared.yard.Yard.{Yard}
 use Rattle.vx_node.specs.Changes.{bare_facts}
-use Rattle.vx_node.specs.DiskSets.{Later, FitIs}
+use Rattle.vx_diskset.specs.DiskSets.{Later, FitIs}
 use Rattle.vx_events.specs.Facts.{site_fact, facts_of}
 use Rattle.vx_node.specs.Replies.{reply_to}
-use Rattle.vx_node.specs.Stands.{DiskSetsStand, StandsAlone, IsUnused, RoseAll, faults_of}
+use Rattle.vx_node.specs.Stands.{DiskSetsStand, RoseAll, faults_of}
+use Rattle.vx_diskset.specs.Stands.{StandsAlone, IsUnused}
 use Rattle.vx_node.specs.Working.{WorkIs, Worked, IsFree}
 use Rattle.vx_node.specs.Yards.{YardAgrees, in_files, count_of}
 use Rattle.vx_node.proofs.ChangeSite.{facts-made, rose_none, rose_one, counts_later, counts_rose, disk_sets_made, disk_sets_unused}

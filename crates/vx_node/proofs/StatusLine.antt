@@ -12,12 +12,12 @@ use Rattle.vx_order.specs.declared.facts.SiteFacts.{SiteFacts}
 use Rattle.vx_report.specs.declared.view.RvgView.{RvgView}
 use Rattle.vx_report.specs.declared.view.SiteView.{SiteView}
 use Rattle.vx_script.specs.declared.line.ScriptLine.TheVariants.{Status}
-use Rattle.vx_node.specs.declared.disk_set.DiskSet.{DiskSet}
+use Rattle.vx_diskset.specs.declared.disk_set.DiskSet.{DiskSet}
 use Rattle.vx_events.specs.declared.said.Said.TheVariants.{Shown}
 use Rattle.vx_node.specs.declared.yard.Yard.{Yard}
 use Rattle.vx_events.specs.Facts.{site_fact, facts_of, group_fact, group_by, head_of, values_from, seat_of}
 use Rattle.vx_node.specs.Seen.{name_at, group_seen, group_at}
-use Rattle.vx_node.specs.Stands.{StandsAlone}
+use Rattle.vx_diskset.specs.Stands.{StandsAlone}
 use Rattle.vx_events.specs.Views.{name_of, group_view, group_shown, view_of}
 use Rattle.vx_node.specs.Working.{Worked}
 use Rattle.vx_node.specs.Yards.{YardAgrees, count_of}

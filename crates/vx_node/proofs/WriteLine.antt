@@ -17,15 +17,16 @@ use Rattle.vx_order.specs.declared.facts.SiteFacts.{SiteFacts}
 use Rattle.vx_order.specs.declared.facts.VolumeFacts.{VolumeFacts}
 use Rattle.vx_order.specs.declared.facts.VolumeKind.TheVariants.{Data}
 use Rattle.vx_script.specs.declared.line.ScriptLine.TheVariants.{Write as WriteLine, Put as PutLine}
-use Rattle.vx_node.specs.declared.disk_set.DiskSet.{DiskSet}
-use Rattle.vx_node.specs.declared.disk_set.DiskSet.TheVariants.{Bare, Spoiled, Up, Down, Gone}
+use Rattle.vx_diskset.specs.declared.disk_set.DiskSet.{DiskSet}
+use Rattle.vx_diskset.specs.declared.disk_set.DiskSet.TheVariants.{Bare, Spoiled, Up, Down, Gone}
 use Rattle.vx_events.specs.declared.said.Said.{Said}
 use Rattle.vx_events.specs.declared.said.Said.TheVariants.{DoneAt, Refused}
 use Rattle.vx_node.specs.declared.yard.Yard.{Yard}
 use Rattle.vx_node.specs.Changes.{last_facts}
-use Rattle.vx_node.specs.DiskSets.{Later, CanWrite, WroteAt, halted_with, worked}
+use Rattle.vx_diskset.specs.DiskSets.{Later, CanWrite, WroteAt, halted_with, worked}
 use Rattle.vx_events.specs.Facts.{site_fact, facts_of, volume_fact, group_by, group_fact, seat_of, place_of, site_number, volume_number}
-use Rattle.vx_node.specs.Stands.{DiskSetsStand, StandsAlone, RoseAll, faults_of}
+use Rattle.vx_node.specs.Stands.{DiskSetsStand, RoseAll, faults_of}
+use Rattle.vx_diskset.specs.Stands.{StandsAlone}
 use Rattle.vx_node.specs.Working.{Worked, IsFree}
 use Rattle.vx_node.specs.Writes.{WriteFree, PutsAt, PutsIs, noted_facts}
 use Rattle.vx_node.specs.Writes.WriteFree.{ByWrite, ByPut}

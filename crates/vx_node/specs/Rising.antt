@@ -5,12 +5,13 @@ use Rattle.vx_history.specs.World.{Node, World}
 use Rattle.vx_model.specs.declared.site.SiteState.TheVariants.{Up as IsUp}
 use Rattle.vx_disk.specs.declared.shelf.Shelf.{Ghosts}
 use Rattle.vx_order.specs.declared.facts.SiteFacts.{SiteFacts}
-use Rattle.vx_node.specs.declared.disk_set.DiskSet.{DiskSet}
+use Rattle.vx_diskset.specs.declared.disk_set.DiskSet.{DiskSet}
 use Rattle.vx_events.specs.declared.said.Said.{Said}
 use Rattle.vx_node.specs.declared.yard.Yard.{Yard}
 use Rattle.vx_node.specs.Changes.{up_facts}
-use Rattle.vx_node.specs.Holds.{state_with}
-use Rattle.vx_node.specs.Stands.{StandsAlone, RoseAll}
+use Rattle.vx_diskset.specs.Holds.{state_with}
+use Rattle.vx_diskset.specs.Stands.{StandsAlone}
+use Rattle.vx_node.specs.Stands.{RoseAll}
 use Rattle.vx_node.specs.Works.{Crashes, Recovers}
 use Rattle.vx_events.specs.Fails.{Fails}
 use Rattle.vx_node.specs.Yards.{YardAgrees, StaysAgreed, IsTold, count_of}

@@ -7,8 +7,9 @@ use Rattle.vx_history.specs.World.{World}
 use Rattle.vx_disk.specs.declared.shelf.Shelf.{Ghosts}
 use Rattle.vx_order.specs.Order.{refusal_of}
 use Rattle.vx_script.specs.declared.line.ScriptLine.{ScriptLine}
-use Rattle.vx_node.specs.Asked.{FailsAs, HasCalled}
-use Rattle.vx_node.specs.declared.disk_set.DiskSet.{DiskSet}
+use Rattle.vx_diskset.specs.Asked.{FailsAs, FusedAs}
+use Rattle.vx_node.specs.OfSites.{HasCalled}
+use Rattle.vx_diskset.specs.declared.disk_set.DiskSet.{DiskSet}
 use Rattle.vx_node.specs.declared.yard.Yard.{Yard}
 use Rattle.vx_node.specs.declared.errors.LineStop.{LineStop}
 use Rattle.vx_node.specs.declared.errors.LineStop.TheVariants.{WriteFault, OutOfMemory}
@@ -51,12 +52,13 @@ module _ {R : Type 0} {g : Ghosts R} where
     pub rose : RoseAll [] (count_of old) (count_of new)
 
   -- The yard stands for this world, in which no site keeps a link. Each is a primary, where contents are told. The disks that the world makes
-  -- fail are made to fail.
+  -- fail are made to fail, and a fuse that it knows of has no more calls left than it knows.
   pub record YardStands (w : World) (y : Yard R g) : Type 0 where
     pub agrees : YardAgrees w y
     pub unlinked : IsUnlinked w
     pub primaries : IsTold y → ArePrimaries w
     pub failing : (s : ℕ) (e : DiskSet R g) → s < w.sites → slice_get y.disk_sets.items s ≡ Some e → FailsAs (w.nodes s) e
+    pub fuses : (s : ℕ) (e : DiskSet R g) → s < w.sites → slice_get y.disk_sets.items s ≡ Some e → FusedAs (w.nodes s) e
 
   -- the line made a step, by which the yard stands for a new world; its text is `text`
   pub record Steps (w : World) (line : ScriptLine) (old new : Yard R g) (text : List ℕ) : Type 0 where

@@ -2,7 +2,7 @@
 ghost use Rattle.std.specs.Prelude.{◌≡◌, ◌*◌, IfOk, IfErr, IsSome, min, replicate, true};
 ghost use Rattle.vx_history.specs.World.{World};
 ghost use Rattle.vx_order.specs.Order.{refusal_of};
-ghost use Rattle.vx_node.specs.Asked.{AllSameFailing, AsAsked, HasCalled};
+ghost use Rattle.vx_node.specs.OfSites.{AllAsBefore, AsAsked, HasCalled};
 ghost use Rattle.vx_node.specs.Lines.{is_built};
 ghost use Rattle.vx_node.specs.Working.{WorkIs, AnswerIs, IsFree};
 ghost use Rattle.vx_node.specs.Yards.{IsKept, YardAgrees, IsTold, in_files};
@@ -31,7 +31,7 @@ impl<R: Rack> Yard<R> {
         ensures works { (w : World) → YardAgrees w self.old → WorkIs w words.now self.old self.new result }
         ensures asked { (w : World) → YardAgrees w self.old → AsAsked w words.now self.old self.new }
         ensures called { (w : World) → YardAgrees w self.old → IfOk result (λ said. HasCalled w words.now said self.old self.new) }
-        ensures short { IfErr result (λ e. AllSameFailing self.old self.new) }
+        ensures short { IfErr result (λ e. AllAsBefore self.old self.new) }
         ensures told { IsTold self.new → IsTold self.old }
         ensures files { in_files self.new ≡ in_files self.old }
     {
@@ -94,8 +94,8 @@ impl<R: Rack> Yard<R> {
         ensures answers { (w : World) → YardAgrees w self.old → AnswerIs w words.now self.old self.new result }
         ensures asked { (w : World) → YardAgrees w self.old → IsFree self.old words.now → AsAsked w words.now self.old self.new }
         ensures called { (w : World) → YardAgrees w self.old → IsFree self.old words.now → IfOk result (λ said. HasCalled w words.now said self.old self.new) }
-        // For want of memory no disk is made to fail.
-        ensures short { IfErr result (λ e. AllSameFailing self.old self.new) }
+        // For want of memory no disk is made to fail, and no fuse is set.
+        ensures short { IfErr result (λ e. AllAsBefore self.old self.new) }
         // A line that is refused leaves all disks as they are.
         ensures still { IsSome (refusal_of self.old.facts.items (in_files self.old) words.now) → self.new.disk_sets ≡ self.old.disk_sets }
         ensures told { IsTold self.new → IsTold self.old }

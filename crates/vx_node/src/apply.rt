@@ -2,7 +2,7 @@
 ghost use Rattle.std.specs.Prelude.{◌≡◌};
 ghost use Rattle.vx_history.specs.World.{World};
 ghost use Rattle.vx_script.specs.declared.line.ScriptLine.TheVariants.{Apply};
-ghost use Rattle.vx_node.specs.Asked.{AsAsked, HasCalled};
+ghost use Rattle.vx_node.specs.OfSites.{AsAsked, HasCalled};
 ghost use Rattle.vx_node.specs.Working.{Worked, IsFree};
 ghost use Rattle.vx_node.specs.Yards.{IsKept, YardAgrees, IsTold, in_files};
 

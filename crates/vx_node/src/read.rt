@@ -1,39 +1,19 @@
 // The lines that read blocks.
-ghost use Rattle.std.specs.Prelude.{◌≡◌, ◌≤◌, ◌<◌, ◌*◌, length, List};
-ghost use Rattle.vx_model.specs.declared.state.KeptLink.{KeptLink};
-ghost use Rattle.vx_history.specs.World.{World, Node};
+ghost use Rattle.std.specs.Prelude.{◌≡◌, ◌<◌};
+ghost use Rattle.vx_history.specs.World.{World};
 ghost use Rattle.vx_script.specs.declared.line.ScriptLine.TheVariants.{Read as ReadLine, Show as ShowLine};
 ghost use Rattle.vx_events.specs.Facts.{site_number};
-ghost use Rattle.vx_node.specs.Asked.{AsAsked, LeavesAlone, OfSite};
-ghost use Rattle.vx_node.specs.DiskSets.{CanRead, Later};
-ghost use Rattle.vx_node.specs.Fetching.{GaveAt, IsReadFree, IsRoom, Fetched};
-ghost use Rattle.vx_node.specs.Stands.{StandsAt};
+ghost use Rattle.vx_node.specs.OfSites.{AsAsked, OfSite};
+ghost use Rattle.vx_diskset.specs.Asked.{LeavesAlone};
+ghost use Rattle.vx_node.specs.Fetching.{IsReadFree, IsRoom, Fetched};
 ghost use Rattle.vx_node.specs.Working.{Worked, IsFree};
 ghost use Rattle.vx_node.specs.Yards.{IsKept, YardAgrees, IsTold, in_files};
 
-use crate::{DiskSet, Said, Yard};
+use crate::{Said, Yard};
 use vx_disk::Rack;
+use vx_diskset::blocks_of;
 use vx_model::limits::MOST_CALL_BLOCKS;
-use vx_model::{Bytes, Name, No};
-
-// So many blocks of a volume, by its number, read into a place for them.
-fn blocks_of<R: Rack>(
-    disk_set: &mut DiskSet<R>,
-    volume: u32,
-    start: u64,
-    count: u64,
-    mut room: Vec<u8>,
-) -> Result<Bytes, No>
-    requires some { 0 < count }
-    requires few { count ≤ MOST_CALL_BLOCKS }
-    requires room { length room.items ≡ 512 * count }
-    ensures read { (links : List KeptLink) (n : Node) → StandsAt links n disk_set.old → CanRead n volume start count → GaveAt links n volume start count disk_set.old disk_set.new result }
-    ensures still { LeavesAlone disk_set.old disk_set.new }
-    ensures later { Later disk_set.old disk_set.new }
-{
-    disk_set.read(volume, start, &mut room)?;
-    Ok(Bytes::new(room))
-}
+use vx_model::Name;
 
 impl<R: Rack> Yard<R> {
     /// Reads blocks of a volume, as a `read` line asks.

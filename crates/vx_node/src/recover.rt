@@ -1,9 +1,10 @@
 // The line that recovers a site.
-ghost use Rattle.std.specs.Prelude.{◌≡◌, ◌<◌, length};
+ghost use Rattle.std.specs.Prelude.{◌≡◌, ◌<◌, IfErr, length};
 ghost use Rattle.vx_history.specs.World.{World};
 ghost use Rattle.vx_model.specs.declared.site.SiteState.TheVariants.{Bare as BareState, Down as DownState};
 ghost use Rattle.vx_script.specs.declared.line.ScriptLine.TheVariants.{Recover};
-ghost use Rattle.vx_node.specs.Asked.{AsAsked, OfSite, SameFailing};
+ghost use Rattle.vx_node.specs.OfSites.{AsAsked, OfSite};
+ghost use Rattle.vx_diskset.specs.Asked.{SameFailing};
 ghost use Rattle.vx_node.specs.Rising.{Finding, NotesUp, Recovering};
 ghost use Rattle.vx_node.specs.Works.{Begins};
 ghost use Rattle.vx_node.specs.Working.{WorkIs, IsFree};
@@ -13,7 +14,8 @@ use crate::{DiskSet, Said, Yard, facts};
 use std::alloc::Global;
 use std::mem;
 use vx_disk::Rack;
-use vx_model::limits::{LEAST_BLOCKS, LEAST_RAW_DISKS, MOST_DISKS, MOST_SITES};
+use vx_diskset::can_be_raw;
+use vx_model::limits::{LEAST_BLOCKS, MOST_SITES};
 use vx_model::{Name, No, OutOfMemory, SiteState, ring_blocks};
 use vx_rvg::StartRoom;
 use vx_script::ScriptLine;
@@ -62,6 +64,8 @@ impl<R: Rack> Yard<R> {
     fn recover_bare(&mut self, alloc: Global, name: &Name, site: usize) -> Result<Said, OutOfMemory>
         requires facts { site < length self.old.facts.items }
         requires disk_set { site < length self.old.disk_sets.items }
+        // For want of memory nothing is done.
+        ensures short { IfErr result (λ e. self.new.disk_sets ≡ self.old.disk_sets) }
         ensures found { (w : World) → YardAgrees w self.old → site < w.sites → (w.nodes site).state ≡ BareState → Finding w site self.old self.new result }
         ensures failing { OfSite SameFailing site self.old self.new }
         ensures told { IsTold self.new → IsTold self.old }
@@ -70,9 +74,7 @@ impl<R: Rack> Yard<R> {
         let disks = self.facts[site].disks;
         let blocks = self.facts[site].blocks;
         if site >= MOST_SITES
-            || disks < LEAST_RAW_DISKS
-            || disks > MOST_DISKS
-            || blocks < LEAST_BLOCKS
+            || !can_be_raw(disks, blocks)
             || self.is_refused(name)
         {
             return Ok(Said::Refused(No::NoConfig));
@@ -107,6 +109,8 @@ impl<R: Rack> Yard<R> {
         requires free { IsFree self.old (Recover name.now) }
         ensures works { (w : World) → YardAgrees w self.old → WorkIs w (Recover name.now) self.old self.new result }
         ensures asked { (w : World) → YardAgrees w self.old → AsAsked w (Recover name.now) self.old self.new }
+        // For want of memory nothing is done.
+        ensures short { IfErr result (λ e. self.new.disk_sets ≡ self.old.disk_sets) }
         ensures told { IsTold self.new → IsTold self.old }
         ensures files { in_files self.new ≡ in_files self.old }
     {

@@ -3,7 +3,7 @@ ghost use Rattle.std.specs.Prelude.{◌≡◌, ◌≤◌, ℕ, IfOk, IfErr, IsSo
 ghost use Rattle.vx_stream.specs.Causes.{Rose};
 ghost use Rattle.vx_history.specs.World.{World, empty_world};
 ghost use Rattle.vx_order.specs.Order.{refusal_of};
-ghost use Rattle.vx_node.specs.Asked.{AsAsked};
+ghost use Rattle.vx_node.specs.OfSites.{AsAsked};
 ghost use Rattle.vx_node.specs.Holds.{AreFresh, RacksHold, RacksTell, rack_faults};
 ghost use Rattle.vx_node.specs.Lines.{is_built};
 ghost use Rattle.vx_node.specs.Working.{IsFree};

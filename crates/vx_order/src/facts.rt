@@ -1,5 +1,5 @@
 // What the tests of a line look at.
-ghost use Rattle.std.specs.Prelude.{◌≡◌, ◌++◌, ◌∷◌, [], OnOk};
+ghost use Rattle.std.specs.Prelude.{◌≡◌, ◌<◌, ◌++◌, ◌∷◌, [], OnOk, length, slice_set};
 
 use std::alloc::Global;
 use std::marker::Model;
@@ -137,6 +137,14 @@ impl LinkTable {
     {
         self.links.push(link)?;
         Ok(())
+    }
+
+    /// Puts a link in the place of another one.
+    pub fn set(&mut self, place: usize, link: LinkFacts)
+        requires place { place < length self.old }
+        ensures { self.new ≡ slice_set self.old place link }
+    {
+        self.links[place] = link;
     }
 
     /// The links, in order.

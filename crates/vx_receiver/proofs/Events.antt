@@ -5,6 +5,7 @@ use Rattle.vx_history.specs.declared.receiver.RState.{RState}
 use Rattle.vx_history.specs.declared.receiver.REvent.{REvent}
 use Rattle.vx_history.specs.declared.receiver.REvent.TheVariants.{Update, Applied, Restart}
 use Rattle.vx_history.specs.declared.receiver.RAction.TheVariants.{Ignored, IgnoredAck, Take}
+use Rattle.vx_model.specs.declared.limits.TheConstants.{MOST_WAITING}
 use Rattle.vx_model.specs.declared.site.Mark.TheVariants.{Consistent, Inconsistent}
 use Rattle.vx_model.specs.declared.site.SPhase.{SPhase}
 use Rattle.vx_model.specs.declared.site.SPhase.TheVariants.{Quiet, Regions, Log, ForkKept}
@@ -15,7 +16,7 @@ takes-next s (Update line n) number h = grind (arith, h)
 takes-next s (Applied count) number h = grind (arith, h)
 takes-next s (Restart last session) number h = grind (arith, h)
 
-pub few-wait : (s : RState) (e : REvent) → s.waiting ≤ 16 → (received_step s e).state.waiting ≤ 16
+pub few-wait : (s : RState) (e : REvent) → s.waiting ≤ MOST_WAITING → (received_step s e).state.waiting ≤ MOST_WAITING
 few-wait s (Update line n) h = grind (arith, h)
 few-wait s (Applied count) h = grind (arith, h)
 few-wait s (Restart last session) h = grind (arith, h)

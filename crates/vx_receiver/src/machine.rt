@@ -4,11 +4,12 @@ ghost use Rattle.vx_model.specs.Sites.{same_line};
 ghost use Rattle.vx_history.specs.Receiving.{received_step, phase_takes, is_log_phase, update_heard, records_applied, marked_by, site_restarted};
 
 use crate::{RAction, REvent, RState};
+use vx_model::limits::MOST_WAITING;
 use vx_model::{Line, Mark, SPhase};
 
 /// What the event makes of the receiver, and what is then to be done: an acknowledgement, or nothing.
 ///
-/// An update of the receiver's line is taken where its number is one above the last received, fewer than 16 received records wait,
+/// An update of the receiver's line is taken where its number is one above the last received, fewer than `MOST_WAITING` received records wait,
 /// and the receiver is in no replay or in its phase Log. One that it has already is acknowledged again. Any other is ignored.
 pub fn step(state: &mut RState, event: &REvent) -> RAction
     ensures action { result ≡ (received_step state.old event.now).action }
@@ -34,7 +35,10 @@ fn hear_update(state: &mut RState, line: &Line, number: u64) -> RAction
     if number <= state.last {
         return RAction::IgnoredAck { number: state.last };
     }
-    if number - state.last != 1 || state.waiting >= 16 || !takes_updates(&state.phase) {
+    if number - state.last != 1
+        || u64::from(state.waiting) >= MOST_WAITING
+        || !takes_updates(&state.phase)
+    {
         return RAction::Ignored;
     }
     state.last = number;

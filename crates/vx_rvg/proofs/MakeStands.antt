@@ -1,5 +1,5 @@
 -- A new group stands with the content that its volumes have by themselves.
-use Rattle.std.proofs.Common.{◌≡◌, None, ℕ, ◌-◌, ◌<◌, ◌≤◌, List, [], length, drop, IsTrue, sym, ◌∙◌, ap, subst, arith, ⊎_elim, All}
+use Rattle.std.proofs.Common.{◌≡◌, None, ℕ, ◌-◌, ◌<◌, ◌≤◌, List, [], length, drop, IsTrue, refl, sym, ◌∙◌, ap, subst, arith, ⊎_elim, All}
 use Rattle.std.proofs.Math.Seq.{drop-nil}
 use Rattle.std.proofs.lemmas.Bool.{cases_lt}
 use Rattle.std.proofs.lemmas.List.Elements.{All-nil}
@@ -10,17 +10,21 @@ use Rattle.vx_disk.specs.Moves.{Moves, Run, Says}
 use Rattle.vx_disk.specs.Shelf.{Meaning, Keeps}
 use Rattle.vx_disk.proofs.Moving.{kept_beside}
 use Rattle.vx_overlay.specs.Pending.{Pending}
+use Rattle.vx_overlay.specs.declared.entry.Entry.{Entry}
 use Rattle.vx_overlay.specs.Writes.{entries_of}
 use Rattle.vx_ringlog.specs.Logs.{State}
 use Rattle.vx_ringlog.specs.Records.{Record}
+use Rattle.vx_ringio.specs.Tracks.{Lies}
+use Rattle.vx_srl.specs.Headers.{new_header}
 use Rattle.vx_srl.specs.Rings.{RingOn}
 use Rattle.vx_srl.specs.Starts.{IsNew}
 use Rattle.vx_srl.specs.Views.{Log}
 use Rattle.vx_rvg.specs.Contents.{writes_of, HasSizes, KeepsContent}
 use Rattle.vx_rvg.specs.Holdings.{nothing_logged}
 use Rattle.vx_rvg.specs.Stands.{Holds, IsWholeRecord, Ready, Stands}
-use Rattle.vx_rvg.specs.Views.{Placed, unit_of}
+use Rattle.vx_rvg.specs.Views.{IsSound, Placed, unit_of}
 use Rattle.vx_rvg.proofs.ContentFacts.{maps_moved}
+use Rattle.vx_rvg.proofs.WriteSound.{lies_same, moved_sizes, placed_same}
 
 -- a block of a volume lies within those that exist
 pub in_volumes : (vols : List ℕ) (c : Content) (m : Meaning) (v b : ℕ) → HasSizes vols c m → b < c.size v → v < length vols
@@ -37,6 +41,24 @@ volume_kept units count P c old new placed moves sizes v b below keeps =
 
 writes_none : (k : ℕ) (rs : List Record) → rs ≡ [] → writes_of (drop k rs) ≡ []
 writes_none k rs is = ap (λ (xs : List Record). writes_of (drop k xs)) is ∙ ap writes_of (drop-nil k)
+
+-- a new group is sound
+pub new_sound : (units kept : Units) (state : SiteState) (ring count : ℕ) (P : Says) (l : Log) (pending : Pending) (old new : Meaning) → Placed units old → kept ≡ units
+    → l ≡ record { unit = units.srl; ring = ring; header = new_header state 0; held = []; staged = [] } → Lies units.srl ring old → pending.capacity ≡ ring → pending.entries ≡ []
+    → Moves (Run units.srl 0 count) P old new → IsSound (record { units = kept; log = l; pending = pending; applied = 0; halted = None }) new
+new_sound units kept state ring count P l pending old new placed same is lies room none moves =
+    let sizes = moved_sizes (Run units.srl 0 count) P old new moves in
+    subst (λ (u : Units). IsSound (record { units = u; log = l; pending = pending; applied = 0; halted = None }) new) (sym same)
+    (subst (λ (k : Log). IsSound (record { units = units; log = k; pending = pending; applied = 0; halted = None }) new) (sym is) (record {
+      placed = placed_same units old new sizes placed;
+      log_unit = refl;
+      lies = lies_same units.srl ring old new sizes lies;
+      idle = λ running up. refl;
+      low = omega arith;
+      known = omega arith;
+      room = room;
+      waiting = ap (λ (es : List Entry). length es) none;
+    }))
 
 pub new_stands : (units kept : Units) (state : SiteState) (ring count : ℕ) (P : Says) (c : Content) (maps : List (List ℕ)) (l : Log) (pending : Pending) (old new : Meaning) → Placed units old → kept ≡ units
     → IsNew units.srl ring 0 state l new → pending.entries ≡ [] → Moves (Run units.srl 0 count) P old new → IsTrue old.tells → Holds units c maps old

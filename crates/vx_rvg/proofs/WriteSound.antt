@@ -1,10 +1,13 @@
 -- A group stays sound over a call on its log.
-use Rattle.std.proofs.Common.{◌≡◌, ℕ, ◌+◌, ◌<◌, ◌≤◌, Bool, true, false, List, [], ◌∷◌, ◌++◌, length, drop, Option, Some, None, IsTrue, IsFalse, refl, sym, ◌∙◌, ap, subst, arith, length-append}
+use Rattle.std.proofs.Common.{◌≡◌, ℕ, ◌+◌, ◌*◌, ◌<◌, ◌≤◌, Bool, true, false, List, [], ◌∷◌, ◌++◌, length, drop, Option, Some, None, IsTrue, IsFalse, refl, sym, ◌∙◌, ap, subst, arith, length-append}
 use Rattle.std.specs.Prelude.{if◌then◌else◌, leb, ltb}
 use Rattle.std.proofs.lemmas.Bool.Decides.{nat_tests}
 use Rattle.std.proofs.lemmas.List.{drop-append-le}
 use Rattle.std.proofs.lemmas.Option.{none-some}
+use Rattle.std.proofs.lemmas.List.Sums.{sum_by-cons}
 use Rattle.vx_model.specs.Content.{blocks_in}
+use Rattle.vx_model.specs.Sizes.{map_blocks}
+use Rattle.vx_model.specs.declared.limits.TheConstants.{LINK_PLACES}
 use Rattle.vx_model.specs.declared.no.No.{No}
 use Rattle.vx_model.specs.declared.no.No.TheVariants as no
 use Rattle.vx_model.specs.declared.units.Units.{Units}
@@ -19,7 +22,7 @@ use Rattle.vx_srl.specs.Views.{Log, kept_of}
 use Rattle.vx_srl.specs.declared.kept.Kept.{Kept}
 use Rattle.vx_rvg.specs.Groups.{Ended, Fails, halted_by, with_write}
 use Rattle.vx_rvg.specs.Logging.{LogEnded}
-use Rattle.vx_rvg.specs.Views.{Core, IsSound, Placed, applied_count, blocks_within, unit_of, volume_size}
+use Rattle.vx_rvg.specs.Views.{Core, IsSound, Placed, applied_count, blocks_within, maps_of, unit_of, volume_size}
 
 -- ---- sizes that a call leaves
 
@@ -31,6 +34,17 @@ pub record SameSizes (m m' : Meaning) : Type 0 where
 pub moved_sizes : (mine : Blocks) (P : Says) (m m' : Meaning) → Moves mine P m m' → SameSizes m m'
 moved_sizes mine P m m' moves = record { units = moves.units; size = moves.size }
 
+maps_same : (m m' : Meaning) → ((u : ℕ) → m'.size u ≡ m.size u) → (us : List ℕ) → maps_of us m' ≡ maps_of us m
+maps_same m m' same [] = refl
+maps_same m m' same (u ∷ us) =
+    let here : map_blocks (m'.size u) ≡ map_blocks (m.size u) = ap (λ (n : ℕ). map_blocks n) (same u) in
+    let front = sum_by-cons (λ (v : ℕ). map_blocks (m'.size v)) u us in
+    let front' = sum_by-cons (λ (v : ℕ). map_blocks (m.size v)) u us in
+    omega (arith, front, front', here, maps_same m m' same us)
+
+pub maps_fit_as : (units : Units) (m m' : Meaning) → ((u : ℕ) → m'.size u ≡ m.size u) → LINK_PLACES * maps_of units.vols m ≤ m.size units.maps → LINK_PLACES * maps_of units.vols m' ≤ m'.size units.maps
+maps_fit_as units m m' same fit = let maps = maps_same m m' same units.vols in omega (arith, maps, same units.maps, fit)
+
 pub placed_same : (units : Units) (m m' : Meaning) → SameSizes m m' → Placed units m → Placed units m'
 placed_same units m m' same placed = record {
   log_exists = omega (arith, same.units, placed.log_exists);
@@ -40,6 +54,7 @@ placed_same units m m' same placed = record {
   maps_apart = placed.maps_apart;
   maps_aside = placed.maps_aside;
   distinct = placed.distinct;
+  maps_fit = maps_fit_as units m m' same.size placed.maps_fit;
 }
 
 pub lies_same : (unit ring : ℕ) (m m' : Meaning) → SameSizes m m' → Lies unit ring m → Lies unit ring m'
@@ -98,6 +113,16 @@ pub log_failed : (core : Core) (l' : Log) (m m' : Meaning) (why : No) → LogEnd
 log_failed core l' m m' (no.Device disk) ended cause = (core_ended core l' (Some disk) ended, cause)
 log_failed core l' m m' no.Down ended cause = (core_ended core l' core.halted ended, cause)
 log_failed core l' m m' other ended cause = absurd cause
+
+was_up : (before after : Bool) → (IsTrue before → IsTrue after) → IsFalse after → IsFalse before
+was_up false after falls not = refl
+was_up true after falls not = let wrong : false ≡ true = sym not ∙ falls refl in cc
+
+-- a group that a call leaves as it is, on units of the same sizes
+pub kept_sound : (core : Core) (m m' : Meaning) → SameSizes m m' → (IsTrue m.down → IsTrue m'.down) → IsSound core m → IsSound core m'
+kept_sound core m m' same falls sound =
+    ended_sound core core.log core.halted m m' same sound (record { unit = refl; ring = refl; header = refl; held = refl })
+    (λ running up. sound.idle running (was_up m.down m'.down falls up))
 
 pub failed_sound : (core : Core) (l' : Log) (m m' : Meaning) (why : No) → SameSizes m m' → IsSound core m → LogEnded core.log l' → DeviceCause m m' why → IsSound (halted_by why (record core { log = l' })) m'
 failed_sound core l' m m' (no.Device disk) same sound ended cause =

@@ -1,5 +1,8 @@
 -- A replicated volume group as its callers see it.
-use Rattle.std.specs.Prelude.{◌≡◌, ◌≢◌, ℕ, ◌+◌, ◌<◌, ◌≤◌, leb, ltb, if◌then◌else◌, Option, None, List, [], ◌∷◌, length, drop, slice_index, IsFalse, Contains}
+use Rattle.std.specs.Prelude.{◌≡◌, ◌≢◌, ℕ, ◌+◌, ◌*◌, ◌<◌, ◌≤◌, leb, ltb, if◌then◌else◌, Option, None, List, [], ◌∷◌, length, drop, slice_index, IsFalse, Contains}
+use Rattle.std.specs.List.{sum_by}
+use Rattle.vx_model.specs.Sizes.{map_blocks}
+use Rattle.vx_model.specs.declared.limits.TheConstants.{LINK_PLACES}
 use Rattle.vx_model.specs.declared.units.Units.{Units}
 use Rattle.vx_disk.specs.Shelf.{Meaning}
 use Rattle.vx_overlay.specs.Pending.{Pending}
@@ -30,7 +33,11 @@ last_of c = head_of c.log
 abbrev pub applied_count : Core → ℕ
 applied_count c = count_to c.log c.applied
 
--- the units exist, and none of them is another
+-- how many blocks the maps of one link take: those of each volume
+abbrev pub maps_of : List ℕ → Meaning → ℕ
+maps_of vols m = sum_by (λ u. map_blocks (m.size u)) vols
+
+-- the units exist, and none of them is another; the map unit has room for a map of each volume for each place of a link
 pub record Placed (units : Units) (m : Meaning) : Type 0 where
   pub log_exists : units.srl < m.units
   pub maps_exist : units.maps < m.units
@@ -39,6 +46,7 @@ pub record Placed (units : Units) (m : Meaning) : Type 0 where
   pub maps_apart : units.maps ≢ units.srl
   pub maps_aside : (v : ℕ) → v < length units.vols → unit_of units.vols v ≢ units.maps
   pub distinct : (v w : ℕ) → v < length units.vols → w < length units.vols → unit_of units.vols v ≡ unit_of units.vols w → v ≡ w
+  pub maps_fit : LINK_PLACES * maps_of units.vols m ≤ m.size units.maps
 
 -- how many blocks a data volume has, and 0 where there is none of this number
 abbrev pub volume_size : List ℕ → Meaning → ℕ → ℕ

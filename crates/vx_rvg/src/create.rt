@@ -17,7 +17,7 @@ use crate::{Rvg, RvgCore};
 use std::alloc::Global;
 use vx_disk::Shelf;
 use vx_model::limits::LEAST_BLOCKS;
-use vx_model::{No, State, Stop, Units};
+use vx_model::{No, State, Stop, Units, ring_blocks};
 use vx_overlay::Overlay;
 use vx_srl::Srl;
 
@@ -50,7 +50,7 @@ impl<S: Shelf> Rvg<S> {
         if blocks < LEAST_BLOCKS {
             return Err((shelf, Stop::No(No::Size)));
         }
-        let room = blocks.min(65536) - 2;
+        let room = ring_blocks(blocks);
         let pending = match Overlay::new(alloc, room) {
             Ok(pending) => pending,
             Err(_) => return Err((shelf, Stop::OutOfMemory)),

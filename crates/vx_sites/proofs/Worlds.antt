@@ -6,7 +6,7 @@ use Rattle.std.proofs.lemmas.List.{length-set, length-append}
 use Rattle.vx_model.specs.Content.{Write, Content, put, fold_writes, zeros}
 use Rattle.vx_history.specs.World.{Node as PlainNode, Link as PlainLink, History as PlainHistory, World as PlainWorld, NoFuse, bare_site, no_link, no_history, updated, line_updated, with_node}
 use Rattle.vx_history.specs.Sends.{with_links}
-use Rattle.vx_history.specs.Steps.{burned, logged, told_of, written, crashed, raw_content, raw_set, raw_made}
+use Rattle.vx_history.specs.Steps.{burned, logged, spent, write_calls, told_of, written, crashed, raw_content, raw_set, raw_made}
 use Rattle.vx_model.specs.Sizes.{ring_of}
 use Rattle.vx_model.specs.Sites.{first_line, same_line}
 use Rattle.vx_history.specs.Events.{applied, joined}
@@ -72,10 +72,10 @@ joined_is a n p top replay stood start log t o r s l =
     ∙ ap (λ (xs : List Write). let m : PlainNode = record (joined a p n) { log = xs } in m) l
 
 pub logged_is : (n : PlainNode) (x : Write) (base : Content) (log : List Write) → base ≡ put n.base x → log ≡ n.log ++ x ∷ []
-    → (let m : PlainNode = record n { base = base; log = log; safe = n.safe + 1; fuse = burned n.fuse } in m) ≡ logged n x
+    → (let m : PlainNode = record n { base = base; log = log; safe = n.safe + 1; fuse = spent write_calls n.fuse } in m) ≡ logged n x
 logged_is n x base log b l =
-    ap (λ (c : Content). let m : PlainNode = record n { base = c; log = log; safe = n.safe + 1; fuse = burned n.fuse } in m) b
-    ∙ ap (λ (xs : List Write). let m : PlainNode = record n { base = put n.base x; log = xs; safe = n.safe + 1; fuse = burned n.fuse } in m) l
+    ap (λ (c : Content). let m : PlainNode = record n { base = c; log = log; safe = n.safe + 1; fuse = spent write_calls n.fuse } in m) b
+    ∙ ap (λ (xs : List Write). let m : PlainNode = record n { base = put n.base x; log = xs; safe = n.safe + 1; fuse = spent write_calls n.fuse } in m) l
 
 -- a write that is logged, and what is recorded of its line
 pub written_is : (w : PlainWorld) (i : ℕ) (x : Write) (v : PlainNode) (lines : Line → PlainHistory) → w.nodes i ≡ v → lines ≡ line_updated w.lines v.line (told_of (w.lines v.line) x)

@@ -12,7 +12,7 @@ use Rattle.vx_history.specs.Events.{with_write}
 use Rattle.vx_history.specs.Step.{step, run}
 use Rattle.vx_history.specs.declared.event.Event.TheVariants.{Deliver}
 use Rattle.std.specs.List.{AllByRecursion}
-use Rattle.vx_world.specs.Settling.{is_between}
+use Rattle.vx_history.specs.Settling.{is_between}
 use Rattle.vx_world.proofs.Pair.{At, Fit}
 use Rattle.vx_world.proofs.Told.{append-nil, IsYoung, taken_at, kept_at, ignored_at, again_at, memory_at, stale_at}
 use Rattle.vx_world.proofs.Batches.{deliver_each, between_back, IsIn, in_head, in_tail, in_more, fit_log, fit_link}

@@ -10,7 +10,7 @@ use Rattle.vx_history.specs.World.{Node, Link, Packet, Message, Update, Regions}
 use Rattle.vx_history.specs.Sends.{packet, packets_of, updates}
 use Rattle.vx_history.specs.declared.event.Event.{Event}
 use Rattle.vx_history.specs.declared.event.Event.TheVariants.{Deliver}
-use Rattle.vx_world.specs.Settling.{is_between, deliver_between}
+use Rattle.vx_history.specs.Settling.{is_between, deliver_between}
 use Rattle.vx_world.proofs.Lists.{each_append}
 use Rattle.vx_world.proofs.Links.{each_packet}
 use Rattle.vx_world.proofs.Pair.{Fit}

@@ -25,6 +25,7 @@ uncounted w h g = record {
   sound = sound_headers (record w { headers = h }) w.headers g.sound;
   fits = record { sized = g.fits.sized; logs = g.fits.logs; held = g.fits.held; alike = g.fits.alike };
   gathers = record { parts = g.gathers.parts; each = g.gathers.each };
+  places = g.places;
 }
 
 crash_good : (w : World) (s kept : ℕ) → s < w.sites → (w.nodes s).state ≡ Up → GoodWorld w → GoodWorld (crash_at w s (kept_of (w.nodes s) kept))

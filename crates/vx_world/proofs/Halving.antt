@@ -14,6 +14,7 @@ use Rattle.vx_history.specs.GoodGatherings.{Gathers}
 use Rattle.vx_history.specs.GoodWorld.{GoodWorld}
 use Rattle.vx_history.specs.Doubts.{After, resolved}
 use Rattle.vx_history.specs.Likes.{IsLike}
+use Rattle.vx_history.specs.Listed.{HasPlaces}
 use Rattle.vx_world.specs.Twins.{Twin, GoodTwin, IsAlone}
 use Rattle.vx_world.proofs.Keeping.{gather_up}
 use Rattle.vx_world.proofs.Moves.{sound_gathering}
@@ -113,14 +114,19 @@ module _ (s disk : ℕ) (w u : World) (good : GoodWorld w) (done : GoodWorld u) 
         | inr apart ↦ ap (λ (n : Node). n.state) (aside was.nodes s (half (u.nodes s) disk) i apart ∙ aside w.nodes s (half (w.nodes s) disk) i apart) ∙ is
       ]
 
+  -- each row is one of before or one of behind the event
+  places : (p : ℕ) → HasPlaces may.sites (may.links p)
+  places p = subst (λ (row : ℕ → Link). HasPlaces w.sites row) (sym (same_row p)) (subst (λ (n : ℕ). HasPlaces n (u.links p)) alone.sites (done.places p))
+
   pub half_good : GoodTwin s was may
   half_good = record {
     twin = twin;
-    good = record { sound = fault_keeps w s disk good.sound up; fits = (stopped_leaves w s disk).fits good.fits; gathers = (stopped_leaves w s disk).gathers good.gathers };
+    good = record { sound = fault_keeps w s disk good.sound up; fits = (stopped_leaves w s disk).fits good.fits; gathers = (stopped_leaves w s disk).gathers good.gathers; places = good.places };
     good_too = record {
       sound = sound_like told may (sound_gathering did w.gathering (fault_keeps u s disk done.sound alone.up)) like;
       fits = fits_like told may (sound_gathering did w.gathering (fault_keeps u s disk done.sound alone.up)) like
           (let f = (stopped_leaves u s disk).fits done.fits in record { sized = f.sized; logs = f.logs; held = f.held; alike = f.alike });
       gathers = gathers;
+      places = places;
     };
   }

@@ -1,4 +1,4 @@
--- The ways in which an event changes the world, by what they make of messages in assembly and of the sizes of writes.
+-- The ways in which an event changes the world, by what they make of messages in assembly, of the sizes of writes and of the places of links.
 use Rattle.std.proofs.Common.{◌≡◌, ◌∙◌, ℕ, zero, suc, ◌+◌, ◌≤◌, List, [], ◌∷◌, ◌++◌, take, refl, ap, sym, subst, arith, Bool, true, false}
 use Rattle.std.specs.Prelude.{Option, Some, None, ◌||◌, eqb, leb, if◌then◌else◌, slice_get}
 use Rattle.std.specs.List.{AllByRecursion}
@@ -7,26 +7,33 @@ use Rattle.vx_model.specs.Content.{Write, Content, blocks_in, put, fold_writes}
 use Rattle.vx_model.specs.declared.history.Line.{Line}
 use Rattle.vx_model.specs.declared.site.SiteState.TheVariants.{Bare, Up}
 use Rattle.vx_model.specs.declared.limits.TheConstants.{MOST_CALL_BLOCKS}
+use Rattle.vx_history.proofs.Places.{places_same}
 use Rattle.vx_history.proofs.Updates.{all_updated, all_lines, eqb_equal, and_left, and_right}
 use Rattle.vx_history.specs.World.{World, Node, Link, History, Packet, Promise, Message, Gathering, Volume, with_node, with_history, updated, line_updated}
 use Rattle.vx_history.specs.Good.{IsMade}
-use Rattle.vx_history.specs.Sends.{packets_from, packets_of, parts_of, sending, promising}
+use Rattle.vx_history.specs.Listed.{HasPlaces}
+use Rattle.vx_history.specs.Sends.{packets_from, packets_of, parts_of, sending, promising, with_link}
 use Rattle.vx_history.specs.Refusals.{agree}
 use Rattle.vx_history.specs.Fits.{Fits, Fitting, IsSized, IsAlike, size_of}
 use Rattle.vx_history.specs.GoodGatherings.{IsPart, Gathers, MayGather}
 use Rattle.vx_world.proofs.Lists.{each_append, each_weaker}
 use Rattle.vx_world.proofs.Told.{append-nil}
 
--- what holds of messages in assembly and of the sizes of writes holds of v, where it holds of w
+-- the links of each site have their places
+abbrev pub ArePlaced : World → Type 0
+ArePlaced w = (p : ℕ) → HasPlaces w.sites (w.links p)
+
+-- what holds of messages in assembly, of the sizes of writes and of the places of links holds of v, where it holds of w
 pub record Keeps (w v : World) : Type 0 where
   pub gathers : Gathers w → Gathers v
   pub fits : Fitting w → Fitting v
+  pub places : ArePlaced w → ArePlaced v
 
 pub keeps_same : (w : World) → Keeps w w
-keeps_same w = record { gathers = λ g. g; fits = λ f. f }
+keeps_same w = record { gathers = λ g. g; fits = λ f. f; places = λ h. h }
 
 pub keeps_trans : (u v w : World) → Keeps u v → Keeps v w → Keeps u w
-keeps_trans u v w h k = record { gathers = λ g. k.gathers (h.gathers g); fits = λ f. k.fits (h.fits f) }
+keeps_trans u v w h k = record { gathers = λ g. k.gathers (h.gathers g); fits = λ f. k.fits (h.fits f); places = λ a. k.places (h.places a) }
 
 -- ## Messages in assembly
 
@@ -132,15 +139,25 @@ fits_alike o n x alike h = record {
 
 -- ## Kinds of changes
 
+-- links in the same places
+abbrev pub SameMade : World → (ℕ → ℕ → Link) → Type 0
+SameMade w f = (p s : ℕ) → (f p s).made ≡ (w.links p s).made
+
+pub made_rows : (w : World) (p : ℕ) (row : ℕ → Link) → ((s : ℕ) → (row s).made ≡ (w.links p s).made) → SameMade w (updated w.links p row)
+made_rows w p row same = all_updated (λ a (r : ℕ → Link). (s : ℕ) → (r s).made ≡ (w.links a s).made) w.links p row same (λ a apart s. refl)
+
+pub made_link : (w : World) (p s : ℕ) (l : Link) → l.made ≡ (w.links p s).made → SameMade w (with_link w p s l).links
+made_link w p s l same = made_rows w p (updated (w.links p) s l) (all_updated (λ t (m : Link). m.made ≡ (w.links p t).made) (w.links p) s l same (λ t apart. refl))
+
 module _ (w v : World) (k : Keeps w v) where
-  pub keeps_links : (f : ℕ → ℕ → Link) → Keeps w (record v { links = f })
-  keeps_links f = record { gathers = λ g. record { parts = (k.gathers g).parts; each = (k.gathers g).each }; fits = λ h. record { sized = (k.fits h).sized; logs = (k.fits h).logs; held = (k.fits h).held; alike = (k.fits h).alike } }
+  pub keeps_links : (f : ℕ → ℕ → Link) → SameMade v f → Keeps w (record v { links = f })
+  keeps_links f same = record { places = λ h p. places_same v.sites (v.links p) (f p) (same p) (k.places h p); gathers = λ g. record { parts = (k.gathers g).parts; each = (k.gathers g).each }; fits = λ h. record { sized = (k.fits h).sized; logs = (k.fits h).logs; held = (k.fits h).held; alike = (k.fits h).alike } }
 
   pub keeps_headers : (f : ℕ → ℕ) → Keeps w (record v { headers = f })
-  keeps_headers f = record { gathers = λ g. record { parts = (k.gathers g).parts; each = (k.gathers g).each }; fits = λ h. record { sized = (k.fits h).sized; logs = (k.fits h).logs; held = (k.fits h).held; alike = (k.fits h).alike } }
+  keeps_headers f = record { places = k.places; gathers = λ g. record { parts = (k.gathers g).parts; each = (k.gathers g).each }; fits = λ h. record { sized = (k.fits h).sized; logs = (k.fits h).logs; held = (k.fits h).held; alike = (k.fits h).alike } }
 
   pub keeps_promising : (more : List Promise) → Keeps w (promising v more)
-  keeps_promising more = record { gathers = λ g. record { parts = (k.gathers g).parts; each = (k.gathers g).each }; fits = λ h. record { sized = (k.fits h).sized; logs = (k.fits h).logs; held = (k.fits h).held; alike = (k.fits h).alike } }
+  keeps_promising more = record { places = k.places; gathers = λ g. record { parts = (k.gathers g).parts; each = (k.gathers g).each }; fits = λ h. record { sized = (k.fits h).sized; logs = (k.fits h).logs; held = (k.fits h).held; alike = (k.fits h).alike } }
 
   pub keeps_sending : (more : List Packet) → AllByRecursion IsPart more → Keeps w (sending v more)
   keeps_sending more parts = record {
@@ -149,6 +166,7 @@ module _ (w v : World) (k : Keeps w v) where
       each = λ i. gather_later i (v.nodes i) (v.nodes i) v.packets more (v.gathering i) (λ up. up) ((k.gathers g).each i);
     };
     fits = λ h. record { sized = (k.fits h).sized; logs = (k.fits h).logs; held = (k.fits h).held; alike = (k.fits h).alike };
+    places = k.places;
   }
 
   -- whatever the writes, what is in assembly is as it says
@@ -156,6 +174,7 @@ module _ (w v : World) (k : Keeps w v) where
   keeps_gathering f each = record {
     gathers = λ g. record { parts = (k.gathers g).parts; each = each (k.gathers g) };
     fits = λ h. record { sized = (k.fits h).sized; logs = (k.fits h).logs; held = (k.fits h).held; alike = (k.fits h).alike };
+    places = k.places;
   }
 
 -- a line with what it holds, which fits the site that began it
@@ -198,6 +217,7 @@ module _ (w : World) (i : ℕ) (n : Node) (fitted : Fitting w → IsFitted (w.no
           (gather_up i (w.nodes i) n w.packets (w.gathering i) up (g.each i)) (λ k _. g.each k);
     };
     fits = λ f. let h = fit_nodes f w.lines f.held in record { sized = h.sized; logs = h.logs; held = h.held; alike = h.alike };
+    places = λ h. h;
   }
 
   pub keeps_history : (h : History) → ((w.nodes i).state ≡ Up → n.state ≡ Up) → (Fitting w → FitsLine w.nodes n.line h) → Keeps w (with_history w i n h)
@@ -207,13 +227,15 @@ module _ (w : World) (i : ℕ) (n : Node) (fitted : Fitting w → IsFitted (w.no
       each = all_updated (λ k (m : Node). MayGather k m w.packets (w.gathering k)) w.nodes i n
           (gather_up i (w.nodes i) n w.packets (w.gathering i) up (g.each i)) (λ k _. g.each k);
     };
+    places = λ h. h;
     fits = λ f. fit_nodes f (line_updated w.lines n.line h) (all_lines (λ l (r : History). FitsLine w.nodes l r) w.lines n.line h (line f) (λ l _. f.held l));
   }
 
   -- a site that goes down has nothing in assembly
-  pub keeps_crash : (lines : Line → History) (links : ℕ → ℕ → Link) → (Fitting w → (l : Line) → FitsLine w.nodes l (lines l))
+  pub keeps_crash : (lines : Line → History) (links : ℕ → ℕ → Link) → SameMade w links → (Fitting w → (l : Line) → FitsLine w.nodes l (lines l))
       → Keeps w (record w { nodes = nodes_now; lines = lines; links = links; gathering = updated w.gathering i None })
-  keeps_crash lines links line = record {
+  keeps_crash lines links same line = record {
+    places = λ h p. places_same w.sites (w.links p) (links p) (same p) (h p);
     gathers = λ g. record {
       parts = g.parts;
       each = λ k. by_place k (eqb k i) refl (g.each k);

@@ -28,7 +28,7 @@ use Rattle.vx_history.specs.declared.receiver.RAction.TheVariants.{Nothing as Do
 use Rattle.vx_world.proofs.Lists.{each_found}
 use Rattle.vx_world.proofs.Guards
 use Rattle.vx_world.proofs.Pair.{after_places, places_in}
-use Rattle.vx_world.proofs.Keeping.{Keeps, keeps_same, keeps_links, keeps_sending, keeps_gathering, keeps_node, fits_alike, all_parts}
+use Rattle.vx_world.proofs.Keeping.{Keeps, keeps_same, keeps_links, made_link, keeps_sending, keeps_gathering, keeps_node, fits_alike, all_parts}
 use Rattle.vx_world.proofs.Quiet.{Adds, heard_adds}
 use Rattle.vx_world.proofs.KeptWrites.{Leaves, longer_fitted, bare_same}
 
@@ -37,7 +37,7 @@ use Rattle.vx_world.proofs.KeptWrites.{Leaves, longer_fitted, bare_same}
 pub link_heard_leaves : (w : World) (p : Packet) (e : SEvent) → Leaves w (Events.link_heard w p e)
 link_heard_leaves w p e =
     by_test (Leaves w) (has_links (w.nodes p.target).role && is_linked (w.links p.target p.source)) _ (says w IsIgnored)
-    (λ _. keeps_links w w (keeps_same w) _)
+    (λ _. keeps_links w w (keeps_same w) _ (made_link w p.target p.source _ refl))
     (λ _. keeps_same w)
 
 module _ (w : World) (p : Packet) (number : ℕ) (x : Write) (up : (w.nodes p.target).state ≡ Up) (is : IsNumber (w.lines p.line).held number x) where

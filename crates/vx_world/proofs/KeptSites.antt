@@ -1,5 +1,5 @@
 -- Crashes, recoveries, and sites that are made or join keep all that holds of the world.
-use Rattle.std.proofs.Common.{◌≡◌, ◌∙◌, ◌⊎◌, inl, inr, ℕ, zero, suc, ◌+◌, ◌-◌, List, [], ◌∷◌, length, take, drop, refl, ap, sym, subst, arith, Bool, true, false}
+use Rattle.std.proofs.Common.{◌≡◌, ◌∙◌, ◌⊎◌, inl, inr, ℕ, zero, suc, ◌+◌, ◌-◌, ◌<◌, List, [], ◌∷◌, length, take, drop, refl, ap, sym, subst, arith, Bool, true, false}
 use Rattle.std.specs.Prelude.{leb, not, if◌then◌else◌, Option, Some, None, eqb, ltb, ◌&&◌, ◌||◌}
 use Rattle.std.specs.List.{AllByRecursion}
 use Rattle.std.proofs.lemmas.Bool.Decides.{nat_tests}
@@ -14,10 +14,12 @@ use Rattle.vx_model.specs.declared.site.Mark.TheVariants.{Consistent}
 use Rattle.vx_model.specs.declared.site.SiteState.{SiteState}
 use Rattle.vx_model.specs.declared.site.SiteState.TheVariants.{Bare, Up, Deported, Down}
 use Rattle.vx_history.proofs.Updates.{all_updated, all_lines, by_test, at_place, and_left, and_right}
-use Rattle.vx_history.proofs.GoodLemmas.{up_is_made}
+use Rattle.vx_history.proofs.GoodLemmas.{up_is_made, made_is_given}
+use Rattle.vx_history.proofs.Places.{places_further, places_made}
 use Rattle.vx_history.specs.World.{World, Node, Link as LinkRecord, Volume, History, Gathering, Hello, with_node, bare_site, updated, line_updated}
 use Rattle.vx_history.specs.Steps.{raw_volumes, burned, crashed, crash_left, kept_by, site_made, raw_made, raw_set, raw_history, stopped_by}
 use Rattle.vx_history.specs.Good.{IsMade}
+use Rattle.vx_history.specs.Listed.{HasPlaces}
 use Rattle.vx_history.specs.Sends.{is_linked, with_link, with_links, sending, greeting}
 use Rattle.vx_history.specs.Refusals.{Outcome, unless, is_primary, follows, may_link, agree, rings_fit, links_of}
 use Rattle.vx_history.specs.Gatherings.{emptied}
@@ -31,7 +33,7 @@ use Rattle.vx_history.specs.declared.event.LinkPart.TheVariants.{Joins, Made, Ma
 use Rattle.vx_world.proofs.Lists.{each_weaker, not_false}
 use Rattle.vx_world.proofs.Guards
 use Rattle.vx_world.proofs.Nodes
-use Rattle.vx_world.proofs.Keeping.{Keeps, keeps_same, keeps_links, keeps_sending, keeps_node, keeps_crash, IsFitted, fold_size, each_take, fits_there, alike_there, gather_up, all_parts}
+use Rattle.vx_world.proofs.Keeping.{Keeps, keeps_same, keeps_links, made_link, made_rows, ArePlaced, keeps_sending, keeps_node, keeps_crash, IsFitted, fold_size, each_take, fits_there, alike_there, gather_up, all_parts}
 use Rattle.vx_world.proofs.KeptWrites.{Leaves, like_fitted, bare_same}
 
 -- ## Crashes and recoveries
@@ -51,12 +53,12 @@ crash_leaves w q k s up =
     } in
     let bare : Fitting w → (crashed n k).state ≡ Bare → n.ring ≡ 0 = λ f e. absurd (let g : Down ≡ Bare = e in cc) in
     by_test (λ (v : World). Keeps w (emptied (with_links v q row) q)) (is_origin n.role) (crash_left w q k) (with_node w q (crashed n k))
-    (λ o. keeps_crash w q (crashed n k) fitted bare (line_updated w.lines n.line (kept_by (w.lines n.line) n k)) (updated w.links q row)
+    (λ o. keeps_crash w q (crashed n k) fitted bare (line_updated w.lines n.line (kept_by (w.lines n.line) n k)) (updated w.links q row) (made_rows w q row (λ to. refl))
     (λ f. all_lines (λ l (r : History). AllByRecursion (Fits (w.nodes l.origin)) r.held) w.lines n.line (kept_by (w.lines n.line) n k)
     (subst (λ (i : ℕ). AllByRecursion (Fits (w.nodes i)) (take k n.log)) (sym ((s.good.nodes q).own_line (up_is_made n up) o))
     (each_take (Fits n) k n.log (f.logs q)))
     (λ l _. f.held l)))
-    (λ _. keeps_crash w q (crashed n k) fitted bare w.lines (updated w.links q row) (λ f. f.held))
+    (λ _. keeps_crash w q (crashed n k) fitted bare w.lines (updated w.links q row) (made_rows w q row (λ to. refl)) (λ f. f.held))
 
 pub recovery_leaves : (w : World) (q : ℕ) (fails : Option ℕ) → (w.nodes q).state ≡ Down → Leaves w (Events.recovery w q fails)
 recovery_leaves w q None down =
@@ -71,7 +73,7 @@ recovery_leaves w q None down =
     (keeps_links w v
     (keeps_node w q m (λ f. like_fitted n m refl refl refl (λ _ e. let g : Down ≡ Bare = sym down ∙ e in cc) refl refl refl)
     (λ f e. absurd (let g : Up ≡ Bare = e in cc)) (λ _. refl))
-    u.links)
+    u.links (made_rows v q (λ to. Events.restarted_link m to (w.links q to)) (λ to. refl)))
     (Events.recovery_greeting q m)
     (by_test (AllByRecursion IsPart) (is_origin m.role) [] (greeting q m.other m) (λ _. tt)
     (λ _. all_parts q m.other m.line (Hello m.session (length m.log) m.safe))))
@@ -134,8 +136,9 @@ module _ (w : World) (i sites : ℕ) (n : Node) (h : Line → History) (s : Soun
       (λ k _ made. all_updated (λ o (m : Node). IsMade (w.nodes o) → IsAlike (w.nodes o) (w.nodes k) → IsAlike m (w.nodes k)) w.nodes i n
       (λ there. absurd (there bare)) (λ _ _ _ alike. alike) (w.nodes k).line.origin (s.good.begun k made) (f.alike k made))
 
-  pub founded_leaves : Keeps w (record w { sites = sites; nodes = founded; lines = h })
-  founded_leaves = record {
+  pub founded_leaves : (ArePlaced w → (p : ℕ) → HasPlaces sites (w.links p)) → Keeps w (record w { sites = sites; nodes = founded; lines = h })
+  founded_leaves placed = record {
+    places = placed;
     gathers = λ g. record {
       parts = g.parts;
       each = all_updated (λ k (m : Node). MayGather k m w.packets (w.gathering k)) w.nodes i n
@@ -154,7 +157,7 @@ module _ (w : World) (i sites : ℕ) (n : Node) (h : Line → History) (s : Soun
 pub site_leaves : (w : World) (name : List ℕ) (disks blocks : ℕ) → Sound w → Keeps w (site_made w name disks blocks)
 site_leaves w name disks blocks s =
     founded_leaves w w.sites (w.sites + 1) (bare_site name disks blocks) w.lines s (s.good.later w.sites (omega arith))
-    (record { start = λ v. refl; base = λ v. refl; bare = λ _. refl }) refl (λ made. absurd (made refl)) (λ l. inr refl)
+    (record { start = λ v. refl; base = λ v. refl; bare = λ _. refl }) refl (λ made. absurd (made refl)) (λ l. inr refl) (λ h p. places_further w.sites (w.links p) (h p))
 
 pub raw_sizes : (k n blocks v : ℕ) → (if ltb v n then blocks else 0) ≡ size_of (raw_volumes k n blocks) v
 raw_sizes k zero blocks v = let e : ltb v 0 ≡ false = grind (arith, nat_tests) in ap (λ (b : Bool). if b then blocks else 0) e
@@ -175,12 +178,13 @@ raw_leaves w q s bare =
       bare = λ e. absurd (let g : Up ≡ Bare = e in cc);
     })
     refl (λ _. refl)
-    (all_lines (λ l (r : History). (r.held ≡ []) ⊎ (r.held ≡ (w.lines l).held)) w.lines (first_line q) (raw_history n) (inl refl) (λ l _. inr refl))
+    (all_lines (λ l (r : History). (r.held ≡ []) ⊎ (r.held ≡ (w.lines l).held)) w.lines (first_line q) (raw_history n) (inl refl) (λ l _. inr refl)) (λ h. h)
 
 -- a site that joins has the sizes of its primary
 pub join_leaves : (w : World) (p q : ℕ) → (w.nodes p).line.origin ≡ p → IsAlike (w.nodes p) (w.nodes q)
     → Keeps w (emptied (with_node w q (Events.joined (w.nodes p) p (w.nodes q))) q)
 join_leaves w p q own alike = record {
+  places = λ h. h;
   gathers = λ g. record {
     parts = g.parts;
     each = all_updated (λ k (h : Option Gathering). MayGather k (joined k) w.packets h) w.gathering q None tt
@@ -212,8 +216,17 @@ join_leaves w p q own alike = record {
     rings : (k : ℕ) → (updated w.nodes q (Events.joined (w.nodes p) p (w.nodes q)) k).ring ≡ (w.nodes k).ring
     rings = all_updated (λ k (m : Node). m.ring ≡ (w.nodes k).ring) w.nodes q (Events.joined (w.nodes p) p (w.nodes q)) refl (λ _ _. refl)
 
-pub link_part_leaves : (part : LinkPart) (w : World) (p q : ℕ) (sync : SyncMode) → Sound w → (w.nodes p).state ≡ Up → Leaves w (link_part part w p q sync)
-link_part_leaves Joins w p q sync s up =
+-- a link that is made in the next place
+made_leaves : (w : World) (p q : ℕ) (l : LinkRecord) → q < w.sites → is_linked (w.links p q) ≡ false → l.made ≡ Some (links_of w p) → Keeps w (with_link w p q l)
+made_leaves w p q l below free made = record {
+  gathers = λ g. record { parts = g.parts; each = g.each };
+  fits = λ f. record { sized = f.sized; logs = f.logs; held = f.held; alike = f.alike };
+  places = λ h. all_updated (λ k (row : ℕ → LinkRecord). HasPlaces w.sites row) w.links p (updated (w.links p) q l)
+      (places_made w.sites (w.links p) q l below free made (h p)) (λ k apart. h k);
+}
+
+pub link_part_leaves : (part : LinkPart) (w : World) (p q : ℕ) (sync : SyncMode) → Sound w → (w.nodes p).state ≡ Up → (w.nodes q).state ≡ Up → Leaves w (link_part part w p q sync)
+link_part_leaves Joins w p q sync s up there =
     let a : Node = w.nodes p in
     let o : Outcome = done (emptied (with_node w q (Events.joined a p (w.nodes q))) q) in
     let fit : Bool = agree a.volumes (w.nodes q).volumes && rings_fit a (w.nodes q) in
@@ -230,19 +243,19 @@ link_part_leaves Joins w p q sync s up =
       rings = and_right
           (agree a.volumes (w.nodes q).volumes) (rings_fit a (w.nodes q)) (not_false fit sizes);
     })))))
-link_part_leaves Made w p q sync s up =
+link_part_leaves Made w p q sync s up there =
     let l : LinkRecord = Events.new_link (links_of w p) sync (w.nodes q) in
     Guards.unless_holds (Keeps w) (not (is_primary (w.nodes p).role && follows w p q)) WrongRole w
     (unless (is_linked (w.links p q)) (Exists (w.nodes q).name) w (done (with_link w p q l))) (keeps_same w)
     (λ _. Guards.unless_holds (Keeps w) (is_linked (w.links p q)) (Exists (w.nodes q).name) w (done (with_link w p q l)) (keeps_same w)
-    (λ _. keeps_links w w (keeps_same w) (with_link w p q l).links))
-link_part_leaves Marked w p q sync s up =
+    (λ free. made_leaves w p q l (made_is_given w q s.good (up_is_made (w.nodes q) there)) free refl))
+link_part_leaves Marked w p q sync s up there =
     let m : Node = record (w.nodes q) { mark = Consistent } in
     Guards.unless_holds (Keeps w) _ WrongRole w (done (with_node w q m)) (keeps_same w)
     (λ _. keeps_node w q m (λ f. like_fitted (w.nodes q) m refl refl refl (λ made. made) refl refl refl) (bare_same w q m refl refl) (λ u. u))
-link_part_leaves Opened w p q sync s up =
+link_part_leaves Opened w p q sync s up there =
     let l : LinkRecord = Events.opened (w.links p q) (w.nodes p).safe in
-    Guards.unless_holds (Keeps w) _ WrongRole w (done (with_link w p q l)) (keeps_same w) (λ _. keeps_links w w (keeps_same w) (with_link w p q l).links)
+    Guards.unless_holds (Keeps w) _ WrongRole w (done (with_link w p q l)) (keeps_same w) (λ _. keeps_links w w (keeps_same w) (with_link w p q l).links (made_link w p q l refl))
 
 pub stopped_leaves : (w : World) (q disk : ℕ) → Keeps w (stopped_by w q disk)
 stopped_leaves w q disk =

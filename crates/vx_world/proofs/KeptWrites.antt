@@ -33,7 +33,7 @@ use Rattle.vx_history.specs.declared.receiver.RAction.{RAction}
 use Rattle.vx_history.specs.declared.receiver.RAction.TheVariants.{Nothing as DoesNothing, Ignored as Ignores, IgnoredAck, Take, DataAck as AcksFromDisk}
 use Rattle.vx_world.proofs.Lists.{each_append, not_false}
 use Rattle.vx_world.proofs.Guards
-use Rattle.vx_world.proofs.Keeping.{Keeps, keeps_same, keeps_trans, keeps_links, keeps_sending, keeps_node, keeps_history, IsFitted, fold_size, all_parts}
+use Rattle.vx_world.proofs.Keeping.{Keeps, keeps_same, keeps_trans, keeps_links, made_link, made_rows, keeps_sending, keeps_node, keeps_history, IsFitted, fold_size, all_parts}
 
 abbrev pub Leaves : World → Outcome → Type 0
 Leaves w o = Keeps w o.world
@@ -106,7 +106,7 @@ written_if_leaves (Held_by why) w p x fails up own fits = keeps_same w
 written_if_leaves (Goes changes) w p x fails up own fits =
     let v : World = Events.links_changed w p x in
     Guards.unless_holds (Keeps w) _ _ w (Events.put_in v p x fails) (keeps_same w)
-    (λ _. keeps_trans w v (Events.put_in v p x fails).world (keeps_links w w (keeps_same w) v.links)
+    (λ _. keeps_trans w v (Events.put_in v p x fails).world (keeps_links w w (keeps_same w) v.links (made_rows w p (λ k. Events.link_after (w.nodes p) x k (w.links p k)) (λ k. refl)))
     (put_leaves v p x up own (λ f. fits (record { sized = f.sized; logs = f.logs; held = f.held; alike = f.alike })) fails))
 
 -- the tests of a write say that it fits
@@ -172,7 +172,7 @@ sent_parts (Updates from to) source target n = updates_parts source target n.lin
 pub moved_leaves : (w : World) (p q : ℕ) (e : SEvent) → Keeps w (Events.link_event w p q e)
 moved_leaves w p q e =
     let l : LinkRecord = with_plain (w.links p q) (Events.link_step w p q e).link in
-    keeps_sending w (with_link w p q l) (keeps_links w w (keeps_same w) (with_link w p q l).links)
+    keeps_sending w (with_link w p q l) (keeps_links w w (keeps_same w) (with_link w p q l).links (made_link w p q l refl))
     (sent_by (Events.link_step w p q e).action p q (w.nodes p)) (sent_parts (Events.link_step w p q e).action p q (w.nodes p))
 
 pub greeting_parts : (w : World) (p q : ℕ) → AllByRecursion IsPart (Events.greeting_back w p q)

@@ -1,10 +1,12 @@
 -- Worlds that differ in notes alone are good together.
 use Rattle.std.proofs.Common.{◌≡◌, ◌∙◌, ◌⊎◌, inl, inr, ℕ, ◌≤◌, List, length, ap, sym, subst, refl, arith, Bool, true, false}
-use Rattle.std.specs.Prelude.{Option}
+use Rattle.std.specs.Prelude.{Option, Some, None}
 use Rattle.std.specs.List.{AllByRecursion}
 use Rattle.vx_model.specs.Content.{Write, IsPrefixOf}
 use Rattle.vx_history.specs.Good.{GoodNode, Good, IsMade}
-use Rattle.vx_history.specs.Sends.{is_linked}
+use Rattle.vx_history.proofs.Places.{places_same}
+use Rattle.vx_history.specs.Listed.{HasPlaces}
+use Rattle.vx_history.specs.Sends.{is_linked, is_made}
 use Rattle.vx_history.specs.World.{Node, Link, History, Gathering, Packet, Promise, World, Fuse}
 use Rattle.vx_model.specs.declared.history.Line.{Line}
 use Rattle.vx_model.specs.declared.site.Mark.TheVariants.{Consistent}
@@ -14,7 +16,7 @@ use Rattle.vx_history.specs.Sound.{Sound, IsWhole, IsFed, TakesUpdates, IsMarked
 use Rattle.vx_world.proofs.Lists.{prefix_refl}
 use Rattle.vx_world.proofs.Carry.{IsLater, come_later, mode_later, link_later, packets_later, promises_later}
 use Rattle.vx_world.proofs.Moves.{unlinked_good}
-use Rattle.vx_history.specs.Likes.{IsLike}
+use Rattle.vx_history.specs.Likes.{IsLike, SameLink}
 use Rattle.vx_history.specs.Fits.{Fits, Fitting, IsSized, IsAlike}
 use Rattle.vx_history.specs.GoodGatherings.{IsPart, Gathers, MayGather}
 use Rattle.vx_history.specs.GoodWorld.{GoodWorld}
@@ -152,5 +154,17 @@ module _ (w v : World) (s : Sound w) (like : IsLike w v) where
         (gather_up i (w.nodes i) (v.nodes i) w.packets (w.gathering i) (λ up. ap (λ (n : Node). n.state) (like.nodes i) ∙ up) (g.each i)));
   }
 
+made_like : (a b : Link) → SameLink a b → b.made ≡ a.made
+made_like a b same = by_made a.made b.made refl refl
+  where
+    by_made : (m n : Option ℕ) → a.made ≡ m → b.made ≡ n → b.made ≡ a.made
+    by_made (Some place) n one two = ap (λ (l : Link). l.made) (same.same (ap is_made one))
+    by_made None None one two = two ∙ sym one
+    by_made None (Some place) one two = absurd (let e : true ≡ false = sym (ap is_made two) ∙ same.linked ∙ ap is_made one in cc)
+
+places_like : (w v : World) → IsLike w v → ((p : ℕ) → HasPlaces w.sites (w.links p)) → (p : ℕ) → HasPlaces v.sites (v.links p)
+places_like w v like h p =
+    subst (λ (n : ℕ). HasPlaces n (v.links p)) (sym like.sites) (places_same w.sites (w.links p) (v.links p) (λ s. made_like (w.links p s) (v.links p s) (like.links p s)) (h p))
+
 pub good_like : (w v : World) → GoodWorld w → IsLike w v → GoodWorld v
-good_like w v g like = record { sound = sound_like w v g.sound like; fits = fits_like w v g.sound like g.fits; gathers = gathers_like w v g.sound like g.gathers }
+good_like w v g like = record { sound = sound_like w v g.sound like; fits = fits_like w v g.sound like g.fits; gathers = gathers_like w v g.sound like g.gathers; places = places_like w v like g.places }

@@ -23,7 +23,7 @@ use Rattle.vx_history.specs.Events
 use Rattle.vx_history.specs.Gatherings.{completes}
 use Rattle.vx_model.specs.declared.limits.TheConstants.{MOST_PACKETS}
 use Rattle.vx_history.specs.Step.{step, run}
-use Rattle.vx_world.specs.Settling.{is_between, deliver_between, deliver_new, delivery}
+use Rattle.vx_history.specs.Settling.{is_between, deliver_between, deliver_new, delivery}
 use Rattle.vx_world.proofs.Lists.{each_append}
 use Rattle.vx_world.proofs.Told.{append-nil}
 use Rattle.vx_world.proofs.Batches.{IsIn, in_head, in_tail, in_new}

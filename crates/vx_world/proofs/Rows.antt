@@ -15,7 +15,7 @@ use Rattle.vx_history.specs.declared.event.Said.TheVariants.{Done, DoneAt, Logge
 use Rattle.vx_history.specs.declared.event.LinkPart.TheVariants.{Joins, Made, Marked, Opened}
 use Rattle.vx_history.specs.declared.event.Event.{Event}
 use Rattle.vx_history.specs.declared.event.Event.TheVariants.{Site, Raw, Write, Pump, Tick, Deliver, Connect, Cut, Wait, Link, Crash, Recover, Apply}
-use Rattle.vx_world.specs.Settling.{settling}
+use Rattle.vx_history.specs.Settling.{settling}
 use Rattle.vx_history.specs.Step.{step, run}
 
 -- what is said of each event in turn

@@ -8,6 +8,7 @@ use Rattle.vx_history.specs.World.{World, Node, Link, Packet, Hello}
 use Rattle.vx_model.specs.Sites.{is_origin}
 use Rattle.vx_history.specs.Good.{IsMade}
 use Rattle.vx_model.specs.declared.history.Line.{Line}
+use Rattle.vx_model.specs.declared.limits.TheConstants.{MOST_WAITING}
 use Rattle.vx_model.specs.declared.link.Mode.{Mode}
 use Rattle.vx_model.specs.declared.site.Role.{Role}
 use Rattle.vx_model.specs.declared.site.Role.TheVariants.{Primary, Secondary, Handing, Bunker}
@@ -18,7 +19,7 @@ use Rattle.vx_history.specs.declared.event.Event.TheVariants.{Apply, Pump, Tick,
 use Rattle.vx_history.specs.Sends.{packet, is_linked}
 use Rattle.vx_history.specs.Refusals.{keeps_links}
 use Rattle.vx_history.specs.Step.{step, run}
-use Rattle.vx_world.specs.Settling.{delivery, greeting_events, is_stuck, turn, turns, settling, MaySettle, IsMet}
+use Rattle.vx_history.specs.Settling.{delivery, greeting_events, is_stuck, turn, turns, settling, MaySettle, IsMet}
 use Rattle.vx_history.specs.Sound.{Sound, GoodLink, IsFollowed, ModeSays}
 use Rattle.vx_history.specs.Fits.{Fits}
 use Rattle.vx_history.specs.GoodWorld.{GoodWorld}
@@ -199,14 +200,14 @@ turned w p s good_w met =
 waits_none : (safe have head : ℕ) → leb have safe ≡ true → safe < head → have < head
 waits_none safe have head e h = grind (arith, nat_tests)
 
-has_room : (safe have : ℕ) → leb have safe ≡ true → ltb (have - safe) 16 ≡ true
+has_room : (safe have : ℕ) → leb have safe ≡ true → ltb (have - safe) MOST_WAITING ≡ true
 has_room safe have e = grind (arith, nat_tests)
 
 some_wait : (safe have : ℕ) → leb have safe ≡ false → safe < have
 some_wait safe have e = grind (arith, nat_tests)
 
 -- either something waited, or what was sent had room
-more : (safe have now head : ℕ) → safe < head → have ≤ now → (have < head → ltb (have - safe) 16 ≡ true → have < now) → safe ≤ have → safe < now
+more : (safe have now head : ℕ) → safe < head → have ≤ now → (have < head → ltb (have - safe) MOST_WAITING ≡ true → have < now) → safe ≤ have → safe < now
 more safe have now head below grown some fits = by_cases (leb have safe) refl
   where
     by_cases : (c : Bool) → leb have safe ≡ c → safe < now

@@ -25,7 +25,7 @@ use Rattle.vx_history.specs.Refusals.{Outcome, says, when_live, on_link, keeps_l
 use Rattle.vx_model.specs.Sites.{is_up}
 use Rattle.vx_history.specs.Events
 use Rattle.vx_history.specs.Gatherings.{key_of, came_after, completes, left_by}
-use Rattle.vx_model.specs.declared.limits.TheConstants.{MOST_AHEAD, MOST_PACKETS}
+use Rattle.vx_model.specs.declared.limits.TheConstants.{MOST_AHEAD, MOST_PACKETS, MOST_WAITING}
 use Rattle.vx_history.specs.Step.{outcome_of, step, done}
 use Rattle.vx_world.proofs.Pair.{gathers_at, counted_at, At, Fit, link_event_at, sending_at, with_node_at, with_link_at, link_passes, hears, passes, falls}
 
@@ -154,14 +154,14 @@ module _ (v : World) (p s : ℕ) (a b : Node) (l : Link) (ps : List Packet) (at 
       ∙ ap (λ (action : RAction). Events.update_taken v q x action) e
 
   -- the next number, for which there is room, can be taken
-  pub can_take : (n : ℕ) → n ≡ length b.log + 1 → ltb (length b.log - b.safe) 16 ≡ true → (update_heard (plain_receiver b) a.line n).action ≡ Take n
+  pub can_take : (n : ℕ) → n ≡ length b.log + 1 → ltb (length b.log - b.safe) MOST_WAITING ≡ true → (update_heard (plain_receiver b) a.line n).action ≡ Take n
   can_take n next room =
       let t : RState = plain_receiver b in
       let taken : takes t a.line n ≡ true =
-      both (same_line a.line b.line) (eqb n (length b.log + 1) && (ltb (length b.log - b.safe) 16 && phase_takes b.phase))
+      both (same_line a.line b.line) (eqb n (length b.log + 1) && (ltb (length b.log - b.safe) MOST_WAITING && phase_takes b.phase))
       (ap (λ (y : Line). same_line a.line y) fit.line ∙ same_line_self a.line)
-      (both (eqb n (length b.log + 1)) (ltb (length b.log - b.safe) 16 && phase_takes b.phase) (same n (length b.log + 1) next)
-      (both (ltb (length b.log - b.safe) 16) (phase_takes b.phase) room fit.takes)) in
+      (both (eqb n (length b.log + 1)) (ltb (length b.log - b.safe) MOST_WAITING && phase_takes b.phase) (same n (length b.log + 1) next)
+      (both (ltb (length b.log - b.safe) MOST_WAITING) (phase_takes b.phase) room fit.takes)) in
       ap (λ (r : Received). r.action) (by_true (takes t a.line n) (record { state = with_next t; action = Take n }) _ taken)
     where
       same : (m n : ℕ) → m ≡ n → eqb m n ≡ true
@@ -169,7 +169,7 @@ module _ (v : World) (p s : ℕ) (a b : Node) (l : Link) (ps : List Packet) (at 
 
   -- an update that is whole is taken
   pub taken_at : (k n : ℕ) (x : Write) (part : ℕ) → IsYoung ps k → slice_get ps k ≡ Some (the_update n x part) → n ≡ length b.log + 1
-      → ltb (length b.log - b.safe) 16 ≡ true → completes (v.gathering s) (the_update n x part) ≡ true
+      → ltb (length b.log - b.safe) MOST_WAITING ≡ true → completes (v.gathering s) (the_update n x part) ≡ true
       → At (step v (Deliver (suc k))).world p s a (Events.with_write b p x) l (ps ++ the_ack n ∷ [])
   taken_at k n x part young e next room whole =
       let q : Packet = the_update n x part in
@@ -182,7 +182,7 @@ module _ (v : World) (p s : ℕ) (a b : Node) (l : Link) (ps : List Packet) (at 
 
   -- of one that is not whole the part is kept
   pub kept_at : (k n : ℕ) (x : Write) (part : ℕ) → IsYoung ps k → slice_get ps k ≡ Some (the_update n x part) → n ≡ length b.log + 1
-      → ltb (length b.log - b.safe) 16 ≡ true → completes (v.gathering s) (the_update n x part) ≡ false
+      → ltb (length b.log - b.safe) MOST_WAITING ≡ true → completes (v.gathering s) (the_update n x part) ≡ false
       → At (step v (Deliver (suc k))).world p s a b l ps × ((step v (Deliver (suc k))).world.gathering s ≡ Some
       (record { key = key_of (the_update n x part); came = came_after (v.gathering s) (the_update n x part) }))
   kept_at k n x part young e next room some =
@@ -197,13 +197,13 @@ module _ (v : World) (p s : ℕ) (a b : Node) (l : Link) (ps : List Packet) (at 
 
   -- an update for which there is no room is ignored
   pub ignored_at : (k n : ℕ) (x : Write) (part : ℕ) → IsYoung ps k → slice_get ps k ≡ Some (the_update n x part) → length b.log < n
-      → ltb (length b.log - b.safe) 16 ≡ false → At (step v (Deliver (suc k))).world p s a b l ps
+      → ltb (length b.log - b.safe) MOST_WAITING ≡ false → At (step v (Deliver (suc k))).world p s a b l ps
   ignored_at k n x part young e past full =
       let t : RState = plain_receiver b in
       let action : (update_heard t a.line n).action ≡ Ignores =
       ap (λ (r : Received). r.action)
       (by_false (takes t a.line n) _ _
-      (no_room (same_line a.line b.line) (eqb n (length b.log + 1)) (ltb (length b.log - b.safe) 16) (phase_takes b.phase) full))
+      (no_room (same_line a.line b.line) (eqb n (length b.log + 1)) (ltb (length b.log - b.safe) MOST_WAITING) (phase_takes b.phase) full))
       ∙ by_false (repeats t a.line n) (IgnoredAck t.last) Ignores (no_repeat (same_line a.line b.line) (leb n (length b.log)) (above n (length b.log) past)) in
       deliver_via k (the_update n x part) (says v IsIgnored) a b l ps young e (update_is n x part Ignores action) at
     where
@@ -228,7 +228,7 @@ module _ (v : World) (p s : ℕ) (a b : Node) (l : Link) (ps : List Packet) (at 
       let t : RState = plain_receiver b in
       let qs : List Packet = ps ++ the_ack (length b.log) ∷ [] in
       let untaken : takes t a.line n ≡ false = none_left (same_line a.line b.line) (eqb n (length b.log + 1))
-      (ltb (length b.log - b.safe) 16 && phase_takes b.phase) (above n (length b.log) old) in
+      (ltb (length b.log - b.safe) MOST_WAITING && phase_takes b.phase) (above n (length b.log) old) in
       let known : repeats t a.line n ≡ true = both (same_line a.line b.line) (leb n (length b.log))
       (ap (λ (y : Line). same_line a.line y) fit.line ∙ same_line_self a.line) (at_most n (length b.log) old) in
       let action : (update_heard t a.line n).action ≡ IgnoredAck (length b.log) =

@@ -18,7 +18,7 @@ use Rattle.vx_history.proofs.Updates.{eqb_equal}
 use Rattle.vx_history.specs.Sends.{packet, updates, between, further_parts}
 use Rattle.vx_history.specs.Events.{applied}
 use Rattle.vx_history.specs.Step.{step, run}
-use Rattle.vx_world.specs.Settling.{is_between, deliver_between, deliver_new, delivery}
+use Rattle.vx_history.specs.Settling.{is_between, deliver_between, deliver_new, delivery}
 use Rattle.vx_world.proofs.Pair.{At, Fit}
 use Rattle.vx_world.proofs.Told.{append-nil, tick_at, pump_at, pump_none, disk_at}
 use Rattle.vx_world.proofs.ToldApart.{apply_none, apply_all}

@@ -1,5 +1,5 @@
 -- Every event keeps all that holds of the world.
-use Rattle.std.proofs.Common.{ℕ, List, [], ◌∷◌, refl, Bool, false}
+use Rattle.std.proofs.Common.{◌≡◌, ℕ, List, [], ◌∷◌, refl, arith, Bool, true, false}
 use Rattle.std.specs.Prelude.{leb, not, if◌then◌else◌, eqb, ltb, ◌||◌, bytes_eq}
 use Rattle.vx_model.specs.Sites.{is_origin, is_up, is_bare}
 use Rattle.vx_model.specs.Sizes.{is_raw_shape}
@@ -11,7 +11,8 @@ use Rattle.vx_model.specs.declared.no.Counted.TheVariants.{Sites, Disks}
 use Rattle.vx_history.proofs.Updates.{by_test}
 use Rattle.vx_history.specs.Receiving.{Received, received_step}
 use Rattle.vx_history.specs.LinkForms.{plain_receiver}
-use Rattle.vx_history.specs.World.{World, Link as LinkRecord, empty_world}
+use Rattle.vx_history.specs.World.{World, Link as LinkRecord, empty_world, no_link}
+use Rattle.vx_history.specs.Listed.{HasPlaces}
 use Rattle.vx_history.specs.Steps.{site_made, raw_made, stopped_by}
 use Rattle.vx_history.specs.Sends.{with_link, sending, promising}
 use Rattle.vx_history.specs.Refusals.{Outcome, says, unless, at_work, on_link, keeps_links as has_links, some_below, is_unconfirmed, holds_back}
@@ -27,7 +28,7 @@ use Rattle.vx_history.specs.declared.sender.SEvent.TheVariants.{Connect as Conne
 use Rattle.vx_history.specs.declared.receiver.REvent.TheVariants.{Applied}
 use Rattle.vx_world.proofs.Lists.{not_false}
 use Rattle.vx_world.proofs.Guards
-use Rattle.vx_world.proofs.Keeping.{Keeps, keeps_same, keeps_links, keeps_headers, keeps_promising, keeps_sending}
+use Rattle.vx_world.proofs.Keeping.{Keeps, keeps_same, keeps_links, made_link, keeps_headers, keeps_promising, keeps_sending}
 use Rattle.vx_world.proofs.Stays.{step_keeps, empty_sound}
 use Rattle.vx_world.proofs.KeptWrites.{Leaves, write_leaves, moved_leaves, greeting_parts, applied_leaves}
 use Rattle.vx_world.proofs.KeptPackets.{deliver_leaves}
@@ -68,7 +69,7 @@ outcome_leaves w (Pump p q) s =
     Guards.on_link_holds (Keeps w) has_links w p q _ (keeps_same w)
     (λ _ _ _. Guards.when_live_holds (Keeps w) w q (w.links p q) (done (Events.link_event w p q PumpLink)) (keeps_same w) (moved_leaves w p q PumpLink))
 outcome_leaves w (Tick p q) s =
-    Guards.on_link_holds (Keeps w) has_links w p q (done (Events.ticked_at w p q)) (keeps_same w) (λ _ _ _. keeps_links w w (keeps_same w) _)
+    Guards.on_link_holds (Keeps w) has_links w p q (done (Events.ticked_at w p q)) (keeps_same w) (λ _ _ _. keeps_links w w (keeps_same w) _ (made_link w p q _ refl))
 outcome_leaves w (Deliver number) s = deliver_leaves w number s
 outcome_leaves w (Connect p q) s =
     let v : World = Events.link_event w p q ConnectLink in
@@ -95,10 +96,10 @@ outcome_leaves w (Wait p number) s =
 outcome_leaves w (Link p q sync part) s =
     Guards.at_site_holds (Keeps w) w p _ (keeps_same w)
     (λ _. Guards.at_site_holds (Keeps w) w q _ (keeps_same w)
-    (λ _. Guards.both_holds (Keeps w) w p q (link_part part w p q sync) (keeps_same w) (λ up _ _ _. link_part_leaves part w p q sync s up)))
+    (λ _. Guards.both_holds (Keeps w) w p q (link_part part w p q sync) (keeps_same w) (λ up there _ _. link_part_leaves part w p q sync s up there)))
 outcome_leaves w (Set p q sync) s =
     let l : LinkRecord = record (w.links p q) { sync = sync; prot = FailsWhenFull } in
-    Guards.on_link_holds (Keeps w) is_origin w p q (done (with_link w p q l)) (keeps_same w) (λ _ _ _. keeps_links w w (keeps_same w) (with_link w p q l).links)
+    Guards.on_link_holds (Keeps w) is_origin w p q (done (with_link w p q l)) (keeps_same w) (λ _ _ _. keeps_links w w (keeps_same w) (with_link w p q l).links (made_link w p q l refl))
 outcome_leaves w (Crash q kept) s =
     let o : Outcome = done (Events.crash_at w q (Events.kept_of (w.nodes q) kept)) in
     Guards.at_site_holds (Keeps w) w q (unless (not (is_up (w.nodes q).state)) NotUp w o) (keeps_same w)
@@ -116,11 +117,19 @@ step_leaves w e s = keeps_headers w (outcome_of w e).world (outcome_leaves w e s
 
 pub step_good : (w : World) (e : Event) → GoodWorld w → GoodWorld (step w e).world
 step_good w e g =
-    let k : Keeps w (step w e).world = step_leaves w e g.sound in record { sound = step_keeps w e g.sound; fits = k.fits g.fits; gathers = k.gathers g.gathers }
+    let k : Keeps w (step w e).world = step_leaves w e g.sound in record { sound = step_keeps w e g.sound; fits = k.fits g.fits; gathers = k.gathers g.gathers; places = k.places g.places }
 
 pub run_good : (w : World) (events : List Event) → GoodWorld w → GoodWorld (run w events)
 run_good w [] g = g
 run_good w (e ∷ es) g = run_good (step w e).world es (step_good w e g)
+
+places_none : HasPlaces 0 (λ s. no_link)
+places_none = record {
+  within = λ s linked. absurd (let e : false ≡ true = linked in cc);
+  below = λ s place at. absurd (cc);
+  apart = λ s t place one two. absurd (cc);
+  filled = λ place less. absurd (omega (arith, less));
+}
 
 pub empty_good : GoodWorld empty_world
 empty_good = record {
@@ -132,4 +141,5 @@ empty_good = record {
     alike = λ i made. absurd (made refl);
   };
   gathers = record { parts = tt; each = λ i. tt };
+  places = λ p. places_none;
 }

@@ -2,7 +2,6 @@ pub mod Answers
 pub mod Confirming
 pub mod Counted
 pub mod Grown
-pub mod Settling
 pub mod Twins
 pub mod Lines
 pub mod Comings

@@ -8,10 +8,11 @@ ghost use Rattle.vx_model.specs.declared.history.Line.{Line};
 ghost use Rattle.vx_history.specs.declared.event.Event.{Event};
 ghost use Rattle.vx_world.specs.Comings.{MayComeFirst};
 ghost use Rattle.vx_world.specs.Grown.{Grown};
-ghost use Rattle.vx_world.specs.Settling.{MaySettle, IsMet, deliver_new, delivery, greeting_events, turn, settling};
+ghost use Rattle.vx_history.specs.Settling.{MaySettle, IsMet, deliver_new, delivery, greeting_events, turn, settling};
 ghost use Rattle.vx_history.specs.Sound.{Sound, IsKept};
 ghost use Rattle.vx_history.specs.GoodWorld.{GoodWorld};
 ghost use Rattle.vx_history.specs.Likes.{IsLike};
+ghost use Rattle.vx_history.specs.Listed.{AreListed};
 ghost use Rattle.vx_history.specs.Steps.{stopped_by};
 ghost use Rattle.vx_history.specs.Events.{packet_at};
 ghost use Rattle.vx_history.specs.Doubts.{After, Doubted, resolved, crashed_as, halved, happened};
@@ -70,10 +71,17 @@ pub fn forgets_nothing()
     ensures number { (w : World) (events : List Event) (l : Line) (n : ℕ) (x : Write) → Sound w → IsMade (w.nodes l.origin) → IsNumber (w.lines l).held n x → IsNumber ((run w events).lines l).held n x }
 {}
 
-/// A site that never stood on a line may come to it at any number, with that first part of what the line holds: what was sent, what was
-/// promised and what links say stays so.
+/// A site that never stood on a line may come to it with nothing of it, and where the line's origin stands on it no more at any number, with
+/// that first part of what the line holds: what was sent, what was promised and what links say stays so.
 pub fn comes_at_any_number()
     ensures first { (w : World) (i : ℕ) (n : Node) → Sound w → MayComeFirst w i n → Sound (with_node w i n) }
+{}
+
+/// In each world that comes about each link has a place of its own among those of its site: the list of the links by their places has all of
+/// them, and each once.
+pub fn links_are_listed()
+    ensures good { (w : World) → GoodWorld w → AreListed w }
+    ensures always { (events : List Event) → AreListed (run empty_world events) }
 {}
 
 /// Settling a link of a good world brings all that is durable at its site to its receiver's disks. The receiver's greeting lets the two meet, each turn

@@ -1,5 +1,6 @@
 // Updates that sites hear.
 ghost use Rattle.std.specs.Prelude.{◌≡◌, ◌<◌, ◌-◌, min, length, IfOk, OnOk};
+ghost use Rattle.vx_model.specs.declared.limits.TheConstants.{MOST_WAITING};
 ghost use Rattle.vx_history.specs.Refusals.{says};
 ghost use Rattle.vx_history.specs.LinkForms.{plain_receiver};
 ghost use Rattle.vx_history.specs.Receiving.{received_step};
@@ -9,6 +10,7 @@ ghost use Rattle.vx_history.specs.declared.receiver.REvent.TheVariants.{Update};
 ghost use Rattle.vx_sites.specs.Shapes.{world_of, node_of, packet_of};
 
 use vx_history::{RAction, REvent, RState, Said};
+use vx_model::limits::MOST_WAITING;
 use vx_model::{Line, OutOfMemory};
 use vx_sites::refusals::has_writes;
 use vx_sites::{Dispatch, Message, Node, Packet, World, Write};
@@ -96,15 +98,16 @@ fn find_action(node: &Node, line: &Line, number: u64) -> RAction
     )
 }
 
-// The site in the form that the rule of receivers takes. More than 16 waiting records count as 16, at which no update is taken.
+// The site in the form that the rule of receivers takes. More waiting records than there may be count as `MOST_WAITING`, at which no update is
+// taken.
 fn receiver(node: &Node) -> RState
-    ensures { let n = node_of node.now in result ≡ record (plain_receiver n) { waiting = min (length n.log - n.safe) 16 } }
+    ensures { let n = node_of node.now in result ≡ record (plain_receiver n) { waiting = min (length n.log - n.safe) MOST_WAITING } }
 {
     let last = node.log.len() as u64;
     RState {
         line: node.line,
         last,
-        waiting: last.saturating_sub(node.safe).min(16) as u32,
+        waiting: last.saturating_sub(node.safe).min(MOST_WAITING) as u32,
         session: node.session,
         mark: node.mark,
         phase: node.phase,

@@ -1,10 +1,9 @@
 -- Each clause is its theorem.
-use Rattle.vx_events.proofs.Parts.{whole_stays, part_stops, part_good}
+use Rattle.vx_events.proofs.Parts.{whole_stays, part_stops}
 use Rattle.vx_events.proofs.laws.memory_leaves_a_part.Goals as goal
 
 pub returns : goal.returns
 returns c = record {
   none = whole_stays;
   any = part_stops;
-  good = part_good;
 }

@@ -1,7 +1,7 @@
 use Rattle.std.proofs.Common.{◌≡◌, ◌+◌, ◌≤◌, ◌++◌, [], vec_len}
 use Rattle.std.specs.Prelude.{reverse, map}
 use Rattle.std.specs.Vec.{vec_capacity}
-use Rattle.vx_node.specs.declared.disk_set.DiskSet.TheVariants.{Bare}
+use Rattle.vx_diskset.specs.declared.disk_set.DiskSet.TheVariants.{Bare}
 use Rattle.vx_node.proofs.racks.put_racks.Given as goal
 
 abbrev pub invariant-loop-rack : goal.invariant-loop-rack

@@ -3,6 +3,7 @@ use Rattle.vx_srl.specs.Views.{IsOrdered, all_of}
 use Rattle.vx_rvg.specs.Views.{Core, volume_size}
 use Rattle.vx_rvg.proofs.ApplyAll.{all_bring, due_few, more_moves, one_brought, rest_moves}
 use Rattle.vx_ringio.proofs.Spending.{then_spends, works_since}
+use Rattle.vx_rvg.proofs.WriteSound.{moved_sizes, placed_same}
 use Rattle.vx_rvg.proofs.apply.bring.Goals as goal
 
 pub returns-in_err-count-clause-moves : goal.returns-in_err-count-clause-moves
@@ -45,3 +46,9 @@ returns-clause-spends g c = then_spends _ _ _ c.loop-n.invariant.2 c.flush_volum
 
 pub returns-clause-works : goal.returns-clause-works
 returns-clause-works g c = λ v low. works_since _ _ _ c.loop-n.invariant.2 (c.in_ok-flush_volumes.ensures.works v low)
+
+pub bring_one-requires-clause-placed : goal.bring_one-requires-clause-placed
+bring_one-requires-clause-placed g c = placed_same c.args.core.now.units _ _ (moved_sizes _ _ _ _ c.loop-n.invariant.0.moves) c.requires.placed
+
+pub flush_volumes-requires : goal.flush_volumes-requires
+flush_volumes-requires g c = record { placed = placed_same c.args.core.now.units _ _ (moved_sizes _ _ _ _ c.loop-n.invariant.0.moves) c.requires.placed }

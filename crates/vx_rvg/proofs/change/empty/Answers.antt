@@ -3,7 +3,7 @@ use Rattle.std.proofs.Common.{sym, subst}
 use Rattle.vx_model.specs.declared.no.No.{No}
 use Rattle.vx_disk.specs.Causes.{DeviceCause}
 use Rattle.vx_rvg.specs.Views.{Core, IsSound}
-use Rattle.vx_rvg.proofs.EmptyStands.{can_at, emptied_fails, emptied_moves, emptied_rests}
+use Rattle.vx_rvg.proofs.EmptyStands.{can_at, emptied_fails, emptied_moves, emptied_rests, emptied_sound}
 use Rattle.vx_rvg.proofs.WriteLog.{no_cause}
 use Rattle.vx_rvg.proofs.change.empty.Goals as goal
 
@@ -30,3 +30,9 @@ returns-in-Err-clause-sound g c =
     c.restart.new.self saves.0 c.refused-no.result
     (subst (λ (why : No). DeviceCause (g.S.Shelf.meaning c.args.shelf.now) (g.S.Shelf.meaning c.restart.new.shelf) why) (sym c.refused-no.ensures)
     (no_cause (g.S.Shelf.meaning c.args.shelf.now) (g.S.Shelf.meaning c.restart.new.shelf) c.in-Err.why saves.1)))
+
+pub returns-in-Ok-clause-sound : goal.returns-in-Ok-clause-sound
+returns-in-Ok-clause-sound g c =
+    let can = can_at _ c.args.core.now c.core.view_is c.args.head c.requires.can in
+    emptied_sound _ c.args.core.now c.core.view_is c.args.state.now c.args.head c.requires.all c.low-low.ensures.some (g.S.Shelf.meaning c.args.shelf.now) c.requires.sound (g.S.Shelf.meaning c.restart.new.shelf) c.in-Ok.ensures.goes
+    c.restart.new.self (c.in-Ok.ensures.saves can.0 can.1 can.2).0

@@ -5,6 +5,8 @@ use Rattle.vx_disk.proofs.Runs.{then_nothing}
 use Rattle.vx_rvg.specs.Fills.{FillCause}
 use Rattle.vx_rvg.proofs.StartFill.{begun, filling_stops, room_for, went_on}
 use Rattle.vx_ringio.proofs.Spending.{spends_none, then_spends}
+use Rattle.vx_rvg.proofs.ReadStands.{rest_sizes}
+use Rattle.vx_rvg.proofs.WriteSound.{placed_same}
 use Rattle.vx_rvg.proofs.start.fill.Goals as goal
 
 pub returns-in-Err-clause-goes : goal.returns-in-Err-clause-goes
@@ -35,3 +37,7 @@ returns-in-Err-clause-cause g c =
     subst (λ (k : No). FillCause c.args.srl.now (g.S.Shelf.meaning c.args.shelf.now) (g.S.Shelf.meaning c.fetch.new.shelf) k) (sym c.refused.ensures)
     (filling_stops c.args.srl.now c.args.units.now.vols (g.S.Shelf.meaning c.args.shelf.now) (g.S.Shelf.meaning c.loop-before.shelf) (g.S.Shelf.meaning c.fetch.new.shelf) _ _ c.loop-before.pending c.loop-before.invariant.0
     (c.loop-before.before + 1) c.in-Err.why (c.in-Err.ensures.cause (omega arith)) (c.in-Err.ensures.names (omega arith)))
+
+pub add_within-requires-clause-placed : goal.add_within-requires-clause-placed
+add_within-requires-clause-placed g c =
+    placed_same c.args.units.now _ _ (rest_sizes _ _ (then_nothing Nothing _ _ _ c.loop-before.invariant.0.goes c.fetch.ensures.goes)) c.requires.placed

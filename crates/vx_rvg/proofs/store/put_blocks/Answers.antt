@@ -2,6 +2,7 @@
 use Rattle.std.proofs.Common.{sym, subst}
 use Rattle.vx_rvg.specs.Views.{Core, IsSound}
 use Rattle.vx_rvg.proofs.StoreStands.{put_cause, store_fails, store_moves, store_puts}
+use Rattle.vx_rvg.proofs.WriteSound.{kept_sound}
 use Rattle.vx_rvg.proofs.store.put_blocks.Goals as goal
 
 pub returns-in-Ok-clause-stands : goal.returns-in-Ok-clause-stands
@@ -25,3 +26,8 @@ pub returns-in-Err-clause-moves : goal.returns-in-Err-clause-moves
 returns-in-Err-clause-moves g c =
     store_moves c.args.core.now c.args.vol c.args.start c.args.bytes.now (g.S.Shelf.meaning c.args.shelf.now) (g.S.Shelf.meaning c.put_durably.new.shelf)
     c.requires.sound c.requires.volume c.requires.blocks c.requires.emptied c.requires.within c.unit.result c.unit.ensures c.put_durably.ensures.goes
+
+pub returns-in-Ok-clause-sound : goal.returns-in-Ok-clause-sound
+returns-in-Ok-clause-sound g c =
+    let goes = c.put_durably.ensures.goes in
+    kept_sound c.args.core.now (g.S.Shelf.meaning c.args.shelf.now) (g.S.Shelf.meaning c.put_durably.new.shelf) (record { units = goes.units; size = goes.size }) goes.falls c.requires.sound

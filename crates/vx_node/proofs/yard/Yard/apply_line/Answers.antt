@@ -9,10 +9,10 @@ use Rattle.vx_node.proofs.Lists.{get_at}
 use Rattle.vx_events.proofs.Refused.{apply_may}
 use Rattle.vx_node.proofs.Seats.{named_some}
 use Rattle.vx_events.specs.declared.said.Said.TheVariants.{DoneAt, Refused}
-use Rattle.vx_node.specs.Asked.{LeavesFuse}
-use Rattle.vx_node.specs.Burning.{NoMore}
-use Rattle.vx_node.proofs.CallsBurn.{called_at}
-use Rattle.vx_node.proofs.KeepsFailing.{called_keeps}
+use Rattle.vx_diskset.specs.Asked.{LeavesFuse}
+use Rattle.vx_diskset.specs.Burning.{NoMore}
+use Rattle.vx_node.proofs.AskRack.{called_at}
+use Rattle.vx_node.proofs.OfSites.{called_keeps}
 use Rattle.vx_node.proofs.yard.Yard.apply_line.Goals as goal
 
 pub site_of-site-requires-clause-named : goal.site_of-site-requires-clause-named

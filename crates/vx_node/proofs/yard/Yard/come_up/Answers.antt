@@ -1,7 +1,7 @@
 -- Each case of a start.
 use Rattle.std.proofs.Common.{◌∙◌, ap, sym, refl, []}
 use Rattle.std.specs.Prelude.{Some, slice_set}
-use Rattle.vx_node.specs.declared.disk_set.DiskSet.TheVariants.{Gone}
+use Rattle.vx_diskset.specs.declared.disk_set.DiskSet.TheVariants.{Gone}
 use Rattle.vx_node.proofs.Lists.{get_at, set_twice}
 use Rattle.vx_node.proofs.RawLine.{raw_told}
 use Rattle.vx_node.proofs.RecoverLine.{risen_line, stayed_line}

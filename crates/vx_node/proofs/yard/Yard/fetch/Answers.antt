@@ -6,7 +6,7 @@ use Rattle.vx_node.proofs.Lists.{get_at}
 use Rattle.vx_node.proofs.ReadLine.{may_read, reading, fetch_done, fetch_failed}
 use Rattle.vx_node.proofs.Seats.{named_some, volume_there, seated}
 use Rattle.vx_node.proofs.yard.Yard.fetch.Goals.{then-count-eq0-via-then-count-eq0, then-count-eq0-via-else-count-eq0+then-count-gt-MOST_CALL_BLOCKS}
-use Rattle.vx_node.specs.Asked.{LeavesAlone}
+use Rattle.vx_diskset.specs.Asked.{LeavesAlone}
 use Rattle.vx_node.proofs.AskRack.{asked_at}
 use Rattle.vx_node.proofs.yard.Yard.fetch.Goals as goal
 

@@ -2,9 +2,9 @@ use Rattle.std.proofs.Common.{◌∙◌, ap, sym, refl, []}
 use Rattle.std.specs.Prelude.{Some, slice_set}
 use Rattle.vx_node.proofs.CrashLine.{fell}
 use Rattle.vx_node.proofs.RawLine.{raw_told}
-use Rattle.vx_node.specs.declared.disk_set.DiskSet.TheVariants.{Gone}
+use Rattle.vx_diskset.specs.declared.disk_set.DiskSet.TheVariants.{Gone}
 use Rattle.vx_node.proofs.Lists.{get_at, set_twice}
-use Rattle.vx_node.proofs.KeepsFailing.{failing_stopped}
+use Rattle.vx_diskset.proofs.KeepsFailing.{failing_stopped}
 use Rattle.vx_node.proofs.yard.Yard.go_down.Goals as goal
 
 pub returns-clause-fell : goal.returns-clause-fell

@@ -5,10 +5,11 @@ use Rattle.vx_history.specs.Steps.{raw_volumes}
 use Rattle.vx_order.specs.declared.facts.SiteFacts.{SiteFacts}
 use Rattle.vx_events.specs.Facts.{seat_of, volume_fact}
 use Rattle.vx_node.specs.Yards.{in_files}
-use Rattle.vx_node.specs.Asked.{SameFailing}
-use Rattle.vx_node.specs.declared.disk_set.DiskSet.TheVariants.{Gone}
+use Rattle.vx_diskset.specs.Asked.{SameFailing}
+use Rattle.vx_diskset.specs.declared.disk_set.DiskSet.TheVariants.{Gone}
 use Rattle.vx_node.proofs.AskRack.{asked_at}
-use Rattle.vx_node.proofs.KeepsFailing.{failing_same, unbegun}
+use Rattle.vx_diskset.proofs.KeepsFailing.{failing_same}
+use Rattle.vx_node.proofs.OfSites.{unbegun}
 use Rattle.vx_node.proofs.Lists.{get_at, set_twice}
 use Rattle.vx_node.proofs.RawLine.{raw_done, raw_failed, raw_told, raw_shape}
 use Rattle.vx_events.proofs.Refused.{raw_may}

@@ -6,8 +6,9 @@ use Rattle.vx_node.proofs.Lists.{get_at, pop_pushed}
 use Rattle.vx_events.proofs.Refused.{site_may}
 use Rattle.vx_node.proofs.SiteLine.{site_done, site_said, sites_many}
 use Rattle.vx_node.specs.Yards.{in_files}
-use Rattle.vx_node.specs.Asked.{SameFailing}
-use Rattle.vx_node.proofs.KeepsFailing.{failing_same, site_kept, site_still}
+use Rattle.vx_diskset.specs.Asked.{SameFailing}
+use Rattle.vx_diskset.proofs.KeepsFailing.{failing_same}
+use Rattle.vx_node.proofs.OfSites.{site_kept, site_still}
 use Rattle.vx_node.proofs.yard.Yard.make_site.Goals.{then-site-len-via-then-site-len, then-site-len-via-else-site-len+then-site-ge-MOST_SITES}
 use Rattle.vx_node.proofs.yard.Yard.make_site.Goals as goal
 

@@ -3,7 +3,7 @@ use Rattle.vx_script.specs.declared.line.ScriptLine.TheVariants.{Put as PutLine}
 use Rattle.vx_node.specs.Working.{IsFree}
 use Rattle.vx_node.specs.Writes.WriteFree.{ByPut}
 use Rattle.vx_node.proofs.WriteLine.{put_answered}
-use Rattle.vx_node.proofs.KeepsFailing.{bytes_as, writes_keep}
+use Rattle.vx_node.proofs.OfSites.{bytes_as, writes_keep}
 use Rattle.vx_node.proofs.yard.Yard.put_line.Goals as goal
 
 pub write_blocks-requires-clause-free : goal.write_blocks-requires-clause-free

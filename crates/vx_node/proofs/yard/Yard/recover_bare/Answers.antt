@@ -1,18 +1,20 @@
 -- Each case of the recovery of a bare site.
-use Rattle.std.proofs.Common.{◌≡◌, ◌≤◌, ◌∙◌, ap, sym, subst, refl, arith, []}
+use Rattle.std.proofs.Common.{◌≡◌, ◌≤◌, ◌∙◌, ap, sym, subst, refl, arith, rules, []}
 use Rattle.std.specs.Prelude.{slice_set, Some, map, ◌-◌}
 use Rattle.vx_history.specs.Steps.{raw_volumes}
 use Rattle.vx_model.specs.Sizes.{ring_of}
 use Rattle.vx_order.specs.declared.facts.SiteFacts.{SiteFacts}
-use Rattle.vx_node.specs.DiskSets.{BareUpIs}
+use Rattle.vx_diskset.specs.DiskSets.{BareUpIs}
 use Rattle.vx_events.specs.Facts.{volume_fact}
 use Rattle.vx_node.proofs.RecoverBare.{bare_found, bare_stays, enough, ring_fits}
-use Rattle.vx_node.specs.declared.disk_set.DiskSet.TheVariants.{Gone}
-use Rattle.vx_node.specs.Asked.{SameFailing}
-use Rattle.vx_node.proofs.KeepsFailing.{failing_same, site_still}
+use Rattle.vx_diskset.specs.declared.disk_set.DiskSet.TheVariants.{Gone}
+use Rattle.vx_diskset.specs.Asked.{SameFailing}
+use Rattle.vx_diskset.proofs.KeepsFailing.{failing_same}
+use Rattle.vx_node.proofs.OfSites.{site_still}
 use Rattle.vx_node.proofs.Lists.{get_at, set_twice}
 use Rattle.vx_node.proofs.RawLine.{raw_told}
 use Rattle.vx_events.proofs.Places.{some_same}
+use Rattle.vx_diskset.specs.Layouts.{CanBeRaw}
 use Rattle.vx_node.proofs.yard.Yard.recover_bare.Goals as goal
 
 pub returns-in-Ok-clause-found : goal.returns-in-Ok-clause-found
@@ -25,11 +27,13 @@ returns-in-Ok-clause-found g c = λ w stands below bare.
     let three = get_at facts s c.index_mut-in-Ok.result.now c.requires.facts c.index_mut-in-Ok.ensures.value in
     let at = get_at disk_sets s c.index_mut.result.now c.requires.disk_set c.index_mut.ensures.value in
     let there = at ∙ ap (λ e. Some e) (sym c.replace-disk_set.ensures.value) in
-    let some : 3 ≤ c.index_mut-in-Ok.result.now.disks = subst (λ (f : SiteFacts). 3 ≤ f.disks) (some_same (sym one ∙ three)) (omega (arith, c.if-disks-lt-LEAST_RAW_DISKS.false)) in
+    let can : CanBeRaw c.index_mut-in-Ok.result.now.disks c.index_mut-in-Ok.result.now.blocks =
+    subst (λ (f : SiteFacts). CanBeRaw f.disks c.index_mut-in-Ok.result.now.blocks) (some_same (sym one ∙ three))
+    (subst (λ (f : SiteFacts). CanBeRaw c.index.result.now.disks f.blocks) (some_same (sym two ∙ three)) (c.can_be_raw.ensures.is (search rules))) in
     let ring_is : ring_of c.index-2.result.now.blocks ≡ ring_of c.index_mut-in-Ok.result.now.blocks = ap (λ (f : SiteFacts). ring_of f.blocks) (some_same (sym two ∙ three)) in
     let found = subst (λ r. BareUpIs (w.nodes s) c.replace-disk_set.result c.recover_bare-disk_set.result.0 r) c.in-Ok.is
     (c.recover_bare-disk_set.ensures.found [] (w.nodes s) (stands.disk_sets.sites s c.replace-disk_set.result below there) bare
-    (enough w c.args.self.now s c.index_mut-in-Ok.result.now c.replace-disk_set.result c.recover_bare-disk_set.result.0 stands below bare three there c.recover_bare-disk_set.ensures.later some)
+    (enough w c.args.self.now s c.index_mut-in-Ok.result.now c.replace-disk_set.result c.recover_bare-disk_set.result.0 stands below bare three there c.recover_bare-disk_set.ensures.later can)
     (ring_fits w c.args.self.now s c.index_mut-in-Ok.result.now c.replace-disk_set.result c.recover_bare-disk_set.result.0 stands below bare three there c.recover_bare-disk_set.ensures.later c.in_ok-room.room.ring (c.in_ok-room.ensures ∙ ring_is))) in
     bare_found w c.args.self.now s c.index_mut-in-Ok.result.now c.replace-disk_set.result c.recover_bare-disk_set.result.0 stands below bare three there c.recover_bare-disk_set.ensures.later
     _ c.note_up-last.new.self c.ring_blocks.result c.note_up-last.result c.view_at.result c.in_ok-volumes.volumes found
@@ -57,11 +61,12 @@ returns-in-Err-clause-found g c = λ w stands below bare.
     let two = get_at facts s c.index-2.result.now c.requires.facts c.index-2.ensures in
     let at = get_at disk_sets s c.index_mut.result.now c.requires.disk_set c.index_mut.ensures.value in
     let there = at ∙ ap (λ e. Some e) (sym c.replace-disk_set.ensures.value) in
-    let some : 3 ≤ c.index.result.now.disks = omega (arith, c.if-disks-lt-LEAST_RAW_DISKS.false) in
+    let can : CanBeRaw c.index.result.now.disks c.index.result.now.blocks =
+    subst (λ (f : SiteFacts). CanBeRaw c.index.result.now.disks f.blocks) (some_same (sym two ∙ one)) (c.can_be_raw.ensures.is (search rules)) in
     let ring_is : ring_of c.index-2.result.now.blocks ≡ ring_of c.index.result.now.blocks = ap (λ (f : SiteFacts). ring_of f.blocks) (some_same (sym two ∙ one)) in
     let found = subst (λ r. BareUpIs (w.nodes s) c.replace-disk_set.result c.recover_bare-disk_set.result.0 r) c.in-Err.is
     (c.recover_bare-disk_set.ensures.found [] (w.nodes s) (stands.disk_sets.sites s c.replace-disk_set.result below there) bare
-    (enough w c.args.self.now s c.index.result.now c.replace-disk_set.result c.recover_bare-disk_set.result.0 stands below bare one there c.recover_bare-disk_set.ensures.later some)
+    (enough w c.args.self.now s c.index.result.now c.replace-disk_set.result c.recover_bare-disk_set.result.0 stands below bare one there c.recover_bare-disk_set.ensures.later can)
     (ring_fits w c.args.self.now s c.index.result.now c.replace-disk_set.result c.recover_bare-disk_set.result.0 stands below bare one there c.recover_bare-disk_set.ensures.later c.in_ok-room.room.ring (c.in_ok-room.ensures ∙ ring_is))) in
     bare_stays w c.args.self.now s c.index.result.now c.replace-disk_set.result c.recover_bare-disk_set.result.0 stands below bare one there c.recover_bare-disk_set.ensures.later
     _ c.in-Err.no found refl (ap (λ e. slice_set (slice_set disk_sets s e) s c.recover_bare-disk_set.result.0) c.replace-disk_set.ensures.after) refl

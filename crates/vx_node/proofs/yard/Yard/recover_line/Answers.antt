@@ -11,8 +11,9 @@ use Rattle.vx_events.proofs.Refused.{recover_may}
 use Rattle.vx_node.proofs.RecoverLine.{recover_down, recover_up, shown_there}
 use Rattle.vx_events.proofs.Places.{some_same}
 use Rattle.vx_node.proofs.Seats.{named_some, seated}
-use Rattle.vx_node.specs.Asked.{SameFailing}
-use Rattle.vx_node.proofs.KeepsFailing.{failing_same, site_by, site_then, unbegun}
+use Rattle.vx_diskset.specs.Asked.{SameFailing}
+use Rattle.vx_diskset.proofs.KeepsFailing.{failing_same}
+use Rattle.vx_node.proofs.OfSites.{site_by, site_then, unbegun}
 use Rattle.vx_node.proofs.yard.Yard.recover_line.Goals as goal
 
 pub site_of-site-requires-clause-named : goal.site_of-site-requires-clause-named

@@ -1,14 +1,17 @@
 -- The work of a line that no test refuses.
-use Rattle.std.proofs.Common.{subst, sym, refl}
+use Rattle.std.proofs.Common.{◌∙◌, ap, subst, sym, refl}
+use Rattle.vx_order.specs.Order.{refusal_of}
+use Rattle.vx_script.specs.declared.line.ScriptLine.TheVariants.{Raw}
 use Rattle.vx_node.specs.Working.{IsFree}
 use Rattle.vx_node.specs.Yards.{in_files}
 use Rattle.vx_events.proofs.Refused.{site_may}
-use Rattle.vx_node.specs.Asked.{AsAsked}
+use Rattle.vx_node.specs.OfSites.{AsAsked}
 use Rattle.vx_events.proofs.RefusedCalls.{write_may, read_may, show_may}
-use Rattle.vx_node.specs.Asked.{LeavesAlone, SameFailing}
-use Rattle.vx_events.specs.Facts.{site_number}
-use Rattle.vx_node.proofs.FailsStay.{if_err, same_told, still_told}
-use Rattle.vx_node.proofs.KeepsFailing.{alone_same, failing_same, unbegun}
+use Rattle.vx_diskset.specs.Asked.{LeavesAlone, SameFailing}
+use Rattle.vx_node.proofs.FailsStay.{if_err}
+use Rattle.vx_node.proofs.FuseStays.{short_made, short_raw, short_same, short_still}
+use Rattle.vx_diskset.proofs.KeepsFailing.{alone_same, failing_same}
+use Rattle.vx_node.proofs.OfSites.{unbegun}
 use Rattle.vx_node.proofs.yard.Yard.work.Goals as goal
 
 pub make_site-requires-clause-free : goal.make_site-requires-clause-free
@@ -81,22 +84,29 @@ returns-in_err-room-in-Show-clause-asked g c = λ w stands.
     (unbegun LeavesAlone w y c.in-Show.site alone_same stands (show_may y.facts.items (in_files y) c.in-Show.site c.in-Show.volume c.in-Show.block c.in-Show.count free).site)
 
 pub returns-in-Site-clause-short : goal.returns-in-Site-clause-short
-returns-in-Site-clause-short g c = if_err c.make_site.result (same_told c.requires.kept.world.sites c.args.self.now _ (c.make_site.ensures.asked c.requires.kept.world c.requires.kept.agrees))
+returns-in-Site-clause-short g c =
+    let w = c.requires.kept.world in
+    short_made w _ c.args.self.now _ c.make_site.result (c.make_site.ensures.works w c.requires.kept.agrees) (c.make_site.ensures.asked w c.requires.kept.agrees)
 
 pub returns-in-Raw-clause-short : goal.returns-in-Raw-clause-short
-returns-in-Raw-clause-short g c = if_err c.make_raw.result (same_told (site_number c.requires.kept.world c.in-Raw.site) c.args.self.now _ (c.make_raw.ensures.asked c.requires.kept.world c.requires.kept.agrees))
+returns-in-Raw-clause-short g c =
+    let w = c.requires.kept.world in
+    let y = c.args.self.now in
+    short_raw w (in_files y) c.in-Raw.site y _ c.make_raw.result
+    (ap (λ fs. refusal_of fs (in_files y) (Raw c.in-Raw.site)) (sym c.requires.kept.agrees.facts) ∙ subst (λ line. IsFree y line) c.in-Raw.is c.requires.free)
+    (c.make_raw.ensures.works w c.requires.kept.agrees) (c.make_raw.ensures.asked w c.requires.kept.agrees)
 
 pub returns-in-Recover-clause-short : goal.returns-in-Recover-clause-short
-returns-in-Recover-clause-short g c = if_err c.recover_line.result (same_told (site_number c.requires.kept.world c.in-Recover.site) c.args.self.now _ (c.recover_line.ensures.asked c.requires.kept.world c.requires.kept.agrees))
+returns-in-Recover-clause-short g c = short_same c.args.self.now _ c.recover_line.result c.recover_line.ensures.short
 
 pub returns-in_err-bytes-in-Write-clause-short : goal.returns-in_err-bytes-in-Write-clause-short
-returns-in_err-bytes-in-Write-clause-short g c = if_err _ (still_told c.args.self.now c.args.self.now refl)
+returns-in_err-bytes-in-Write-clause-short g c = if_err _ (short_still c.args.self.now c.args.self.now refl)
 
 pub returns-in_err-room-in-Read-clause-short : goal.returns-in_err-room-in-Read-clause-short
-returns-in_err-room-in-Read-clause-short g c = if_err _ (still_told c.args.self.now c.args.self.now refl)
+returns-in_err-room-in-Read-clause-short g c = if_err _ (short_still c.args.self.now c.args.self.now refl)
 
 pub returns-in_err-room-in-Show-clause-short : goal.returns-in_err-room-in-Show-clause-short
-returns-in_err-room-in-Show-clause-short g c = if_err _ (still_told c.args.self.now c.args.self.now refl)
+returns-in_err-room-in-Show-clause-short g c = if_err _ (short_still c.args.self.now c.args.self.now refl)
 
 pub returns-in_ok-room-in-Read-clause-asked : goal.returns-in_ok-room-in-Read-clause-asked
 returns-in_ok-room-in-Read-clause-asked g c = λ w stands. subst (λ line. AsAsked w line c.args.self.now c.read_line.new.self) (sym c.in-Read.is) (c.read_line.ensures.asked w stands)

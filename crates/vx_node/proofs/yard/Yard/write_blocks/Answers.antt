@@ -7,8 +7,8 @@ use Rattle.vx_node.proofs.Lists.{get_at}
 use Rattle.vx_node.proofs.WriteLine.{may_write, goes, write_done, write_failed, fact_at}
 use Rattle.vx_node.proofs.Seats.{named_some, volume_there, seated}
 use Rattle.vx_events.specs.declared.said.Said.TheVariants.{DoneAt, Refused}
-use Rattle.vx_node.specs.Asked.{WritesUnder}
-use Rattle.vx_node.proofs.CallsBurn.{called_at}
+use Rattle.vx_diskset.specs.Asked.{WritesUnder}
+use Rattle.vx_node.proofs.AskRack.{called_at}
 use Rattle.vx_node.proofs.yard.Yard.write_blocks.Goals as goal
 
 pub site_of-site-requires-clause-named : goal.site_of-site-requires-clause-named

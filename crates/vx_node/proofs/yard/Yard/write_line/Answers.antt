@@ -5,7 +5,7 @@ use Rattle.vx_node.specs.Writes.WriteFree.{ByWrite}
 use Rattle.vx_node.specs.Yards.{in_files}
 use Rattle.vx_node.proofs.WriteLine.{write_answered}
 use Rattle.vx_node.proofs.yard.Yard.write_line.Goals.{then-count-lt1-via-then-count-lt1, then-count-lt1-via-else-count-lt1+then-count-gt-MOST_CALL_BLOCKS}
-use Rattle.vx_node.proofs.KeepsFailing.{bytes_as, writes_keep}
+use Rattle.vx_node.proofs.OfSites.{bytes_as, writes_keep}
 use Rattle.vx_node.proofs.yard.Yard.write_line.Goals as goal
 
 few_blocks : (n : ℕ) → n ≤ 16 → min n 16 ≡ n

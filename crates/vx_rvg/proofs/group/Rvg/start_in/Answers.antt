@@ -2,6 +2,7 @@ use Rattle.std.proofs.Common.{arith, ap, ◌∙◌}
 use Rattle.vx_rvg.specs.Starts.{Room}
 use Rattle.vx_rvg.proofs.StartStands.{all_moves, fill_stops, group_sound, group_started, log_moves, log_stops}
 use Rattle.vx_ringio.proofs.Spending.{then_spends}
+use Rattle.vx_rvg.proofs.WriteSound.{moved_sizes, placed_same}
 use Rattle.vx_rvg.proofs.group.Rvg.start_in.Goals as goal
 
 pub returns-in-Err-clause-cause : goal.returns-in-Err-clause-cause
@@ -44,3 +45,6 @@ returns-in-Err-fill-clause-spent g c = then_spends _ _ _ c.start_in.ensures.spen
 
 pub returns-clause-spends : goal.returns-clause-spends
 returns-clause-spends g c = then_spends _ _ _ c.start_in.ensures.spends c.fill.ensures.spends
+
+pub fill-requires-clause-placed : goal.fill-requires-clause-placed
+fill-requires-clause-placed g c = placed_same c.args.units.now _ _ (moved_sizes _ _ _ _ c.in-Ok.ensures.moves) c.requires.placed

@@ -1,0 +1,267 @@
+-- What a crash leaves of a site that was up.
+use Rattle.std.proofs.Common.{◌≡◌, ℕ, zero, suc, ◌+◌, ◌-◌, ◌<◌, ◌≤◌, Bool, true, false, List, [], ◌∷◌, length, take, drop, Option, Some, None, IsTrue, MatchOption, refl, sym, ◌∙◌, ap, subst, arith}
+use Rattle.std.proofs.lemmas.List.{length-take}
+use Rattle.std.specs.Prelude.{slice_get, Err}
+use Rattle.vx_model.specs.Content.{Content, Write, put, fold_writes}
+use Rattle.vx_history.specs.World.{Node}
+use Rattle.vx_history.specs.Steps.{crashed, half_begun}
+use Rattle.vx_model.specs.declared.state.State.{State}
+use Rattle.vx_model.specs.declared.units.Units.{Units}
+use Rattle.vx_srlfmt.specs.Kinds.{Kind}
+use Rattle.vx_model.specs.declared.state.KeptLink.{KeptLink}
+use Rattle.vx_disk.specs.Racks.{IsRack, Stopped}
+use Rattle.vx_disk.specs.Shelf.{Meaning, Image, Keeps, Lawful}
+use Rattle.vx_overlay.specs.Writes.{newest_of}
+use Rattle.vx_ringio.specs.Classes.{class_of, classes}
+use Rattle.vx_ringio.proofs.Following.{class_here, class_beyond, left_image}
+use Rattle.vx_ringlog.specs.Chain.{Recovers}
+use Rattle.vx_rvg.specs.Contents.{HasSizes}
+use Rattle.vx_rvg.specs.Holdings.{Holding}
+use Rattle.vx_rvg.specs.Stands.{Found, Left}
+use Rattle.vx_rvg.specs.Views.{Core, unit_of}
+use Rattle.vx_rvg.proofs.ContentFacts.{has_content, has_maps}
+use Rattle.vx_disk.specs.declared.shelf.Shelf.{Ghosts}
+use Rattle.vx_diskset.specs.declared.disk_set.DiskSet.{DiskSet}
+use Rattle.vx_diskset.specs.declared.disk_set.DiskSet.TheVariants.{Up, Down}
+use Rattle.vx_rvg.specs.declared.group.Rvg.{Rvg}
+use Rattle.vx_diskset.specs.DiskSets.{CrashedAt, WroteUp, WroteAt, AppliedUp, AppliedAt, is_off}
+use Rattle.vx_model.specs.declared.no.No.{No}
+use Rattle.vx_model.specs.declared.no.No.TheVariants.{Device, Limit, Down as Off}
+use Rattle.vx_events.specs.Facts.{values_from}
+use Rattle.vx_diskset.specs.Lasts.{FoundWith, LeftWith}
+use Rattle.vx_diskset.specs.Holds.{state_with}
+use Rattle.vx_diskset.specs.Layouts.{raw_units, units_of}
+use Rattle.vx_events.specs.Stamps.{most_stamp}
+use Rattle.vx_diskset.specs.Stands.{IsUpAt, IsHeldAt, IsDownAt, CutAt, IsToldAt}
+use Rattle.vx_diskset.proofs.Laying.{lies_as, lies_sized, sizes_of}
+use Rattle.vx_diskset.proofs.StaysUp.{held_up}
+use Rattle.vx_events.proofs.Values.{length-values_from, slice_index-values_from}
+
+-- ---- a rack that crashed has one value in each block
+
+-- what an image has of a block is all that may be left there
+pub one_value : (m : Meaning) (i : Image) (u b : ℕ) → Lawful m → IsRack m → IsTrue m.down → IsTrue m.tells → m.now i → Keeps m u b (i u b)
+one_value m i u b lawful rack down tells now = record {
+  only = λ v left. latest v left ∙ sym (latest (i u b) (lawful.within i now u b));
+}
+  where
+    latest : (v : List ℕ) → m.leaves u b v → v ≡ rack.told.latest u b
+    latest v left = rack.latest tells u b v (rack.at_rest down u b v left)
+
+-- ---- one image says what is left
+
+keeps_option : (m : Meaning) (u b : ℕ) (here bytes : List ℕ) (o : Option (List ℕ)) → Keeps m u b here
+    → MatchOption o (here ≡ bytes) (λ new. new ≡ bytes) → MatchOption o (Keeps m u b bytes) (λ new. new ≡ bytes)
+keeps_option m u b here bytes (Some new) keeps is = is
+keeps_option m u b here bytes None keeps is = record { only = λ v left. keeps.only v left ∙ is }
+
+value_there : (f : ℕ → List ℕ) (k n b : ℕ) (bytes : List ℕ) → slice_get (values_from f k n) b ≡ Some bytes → f (k + b) ≡ bytes
+value_there f k zero b bytes is = absurd (none_there is)
+  where
+    none_there : {A : Type 0} {x : A} → None ≡ Some x → ⊥
+    none_there e = cc
+value_there f k (suc n) zero bytes is = ap f (omega arith) ∙ same is
+  where
+    same : {A : Type 0} {x y : A} → Some x ≡ Some y → x ≡ y
+    same e = cc
+value_there f k (suc n) (suc b) bytes is = ap f (omega arith) ∙ value_there f (k + 1) n b bytes is
+
+-- with the blocks of the map unit as an image has them
+abbrev with_maps : Units → Meaning → Image → Holding → Holding
+with_maps units m i h = record { low = h.low; writes = h.writes; place = h.place; content = h.content; maps = values_from (λ b. i units.maps b) 0 (m.size units.maps) }
+
+found_left : (units : Units) (ring : ℕ) (state : State) (session stamp : ℕ) (h : Holding) (m : Meaning) (i : Image) → IsTrue m.tells
+    → ((u b : ℕ) → Keeps m u b (i u b)) → HasSizes units.vols h.content m → Found units ring state session stamp i h → Left units ring state session stamp (with_maps units m i h) m
+found_left units ring state session stamp h m i tells one sizes found = record {
+  header = found.header;
+  records = found.records;
+  kinds = classes units.srl ring i;
+  leaves = record {
+    tells = tells;
+    each = λ b v low left. ap (class_of ring) ((one units.srl b).only v left) ∙ sym (class_here units.srl ring i b low);
+    beyond = λ b high. class_beyond units.srl ring i b high;
+  };
+  recovers = found.recovers;
+  state_is = found.state_is;
+  session_is = found.session_is;
+  stamp_most = found.stamp_most;
+  some = found.some;
+  low_is = found.low_is;
+  writes_are = found.writes_are;
+  place_is = found.place_is;
+  sizes = sizes;
+  content = record {
+    each = λ v b low. keeps_option m (unit_of units.vols v) b (i (unit_of units.vols v) b) (h.content.block v b) (newest_of h.content.size h.writes v b)
+        (one (unit_of units.vols v) b) (found.content.each v b low);
+  };
+  maps = record {
+    size = length-values_from (λ b. i units.maps b) 0 (m.size units.maps);
+    each = λ b bytes there.
+        let here : 0 + b ≡ b = omega arith in
+        let is : i units.maps (0 + b) ≡ bytes = value_there (λ b. i units.maps b) 0 (m.size units.maps) b bytes there in
+        subst (λ (v : List ℕ). Keeps m units.maps b v) (sym (ap (λ (k : ℕ). i units.maps k) here) ∙ is) (one units.maps b);
+  };
+}
+
+pub found_left_with : (units : Units) (ring : ℕ) (state : State) (session stamp : ℕ) (xs : List Write) (c : Content) (m : Meaning) (i : Image) → IsTrue m.tells
+    → ((u b : ℕ) → Keeps m u b (i u b)) → HasSizes units.vols c m → FoundWith units ring state session stamp i xs c → LeftWith units ring state session stamp xs c m
+found_left_with units ring state session stamp xs c m i tells one sizes with = record {
+  held = with_maps units m i with.held;
+  has = record { some = with.has.some; last = with.has.last; writes = with.has.writes; content = with.has.content; whole = with.has.whole };
+  left = found_left units ring state session stamp with.held m i tells one (subst (λ (k : Content). HasSizes units.vols k m) (sym with.has.content) sizes) with.found;
+}
+
+-- and what is left says what each image has
+pub left_found : (units : Units) (ring : ℕ) (state : State) (session stamp : ℕ) (h : Holding) (m : Meaning) (i : Image) → Lawful m → m.now i
+    → Left units ring state session stamp h m → Found units ring state session stamp i h
+left_found units ring state session stamp h m i lawful now left = record {
+  header = left.header;
+  records = left.records;
+  recovers = subst (λ (k : ℕ → Kind). Recovers ring k left.header left.records) (λ j. λ b. same b j) left.recovers;
+  state_is = left.state_is;
+  session_is = left.session_is;
+  stamp_most = left.stamp_most;
+  some = left.some;
+  low_is = left.low_is;
+  writes_are = left.writes_are;
+  place_is = left.place_is;
+  content = has_content units.vols h.content h.writes m i left.content (lawful.within i now);
+  maps = has_maps units h.maps m i left.maps (λ b. lawful.within i now units.maps b);
+}
+  where
+    same : (b : ℕ) → left.kinds b ≡ classes units.srl ring i b
+    same b = sym (left_image units.srl ring left.kinds m i left.leaves (lawful.within i now) b)
+
+pub left_with : (units : Units) (ring : ℕ) (state : State) (session stamp : ℕ) (xs : List Write) (c : Content) (m : Meaning) (i : Image) → Lawful m → m.now i
+    → LeftWith units ring state session stamp xs c m → FoundWith units ring state session stamp i xs c
+left_with units ring state session stamp xs c m i lawful now with = record { held = with.held; has = with.has; found = left_found units ring state session stamp with.held m i lawful now with.left }
+
+-- ---- the sizes of a site's volumes
+
+pub folded_size : (c : Content) (xs : List Write) (v : ℕ) → (fold_writes c xs).size v ≡ c.size v
+folded_size c [] v = refl
+folded_size c (x ∷ xs) v = folded_size (put c x) xs v
+
+-- the volumes lie on the disks between the first and the last
+pub site_sizes : (disks blocks : ℕ) (c : Content) (m : Meaning) → 3 ≤ disks → ((u : ℕ) → u < disks → m.size u ≡ blocks)
+    → ((v : ℕ) → v < disks - 2 → c.size v ≡ blocks) → ((v : ℕ) → disks - 2 ≤ v → c.size v ≡ 0) → HasSizes (raw_units disks).vols c m
+site_sizes disks blocks c m some size here none = record {
+  each = λ v there.
+      let inside : v < disks - 2 = omega (arith, there, length-values_from (λ (k : ℕ). k) 1 (disks - 2)) in
+      here v inside ∙ sym (ap m.size (slice_index-values_from 1 (disks - 2) v inside) ∙ size (1 + v) (omega (arith, inside, some)));
+  none = λ v past. none v (omega (arith, past, length-values_from (λ (k : ℕ). k) 1 (disks - 2)));
+}
+
+-- ---- the crash of a site that is up
+
+-- a greater stamp is one that no header has either
+pub left_below : (units : Units) (ring : ℕ) (state : State) (session stamp most : ℕ) (h : Holding) (m : Meaning) → stamp ≤ most → Left units ring state session stamp h m → Left units ring state session most h m
+left_below units ring state session stamp most h m le left = record {
+  header = left.header;
+  records = left.records;
+  kinds = left.kinds;
+  leaves = left.leaves;
+  recovers = left.recovers;
+  state_is = left.state_is;
+  session_is = left.session_is;
+  stamp_most = omega (arith, left.stamp_most, le);
+  some = left.some;
+  low_is = left.low_is;
+  writes_are = left.writes_are;
+  place_is = left.place_is;
+  sizes = left.sizes;
+  content = left.content;
+  maps = left.maps;
+}
+
+-- how many writes a crash kept, with what it left of them where contents are told
+record Kept (links : List KeptLink) (n : Node) (m : Meaning) : Type 0 where
+  count : ℕ
+  least : n.safe ≤ count
+  most : count ≤ length n.log
+  left : IsTrue m.tells → LeftWith (units_of n) n.ring (state_with n links) n.session (most_stamp n) (take count n.log) (fold_writes n.base (drop n.safe (take count n.log))) m
+
+module _ {links : List KeptLink} (n : Node) (m new : Meaning) (up : IsHeldAt links n m) (lawful : Lawful new) (rack : IsRack new) (stopped : Stopped m new) where
+  kept : (b : Bool) → new.tells ≡ b → Kept links n new
+  kept true tells =
+      let i = lawful.image tells in
+      let has = up.left i.0 (stopped.now i.0 i.1) in
+      record {
+        count = has.count;
+        least = has.least;
+        most = has.most;
+        left = λ _. found_left_with (units_of n) n.ring (state_with n links) n.session (most_stamp n) (take has.count n.log) (fold_writes n.base (drop n.safe (take has.count n.log))) new i.0 tells
+            (λ u b. one_value new i.0 u b lawful rack stopped.down tells i.1)
+            (sizes_of (units_of n) n.ring n.volumes (fold_writes n.base (drop n.safe (take has.count n.log))) new
+            (lies_sized n (fold_writes n.base (drop n.safe (take has.count n.log))).size new (folded_size n.base (drop n.safe (take has.count n.log)))
+            (lies_as n m new stopped.units stopped.size up.lies)).laid)
+            has.found;
+      }
+  kept false untold = record {
+    count = n.safe;
+    least = omega arith;
+    most = up.logged;
+    left = λ tells. absurd (never tells untold);
+  }
+    where
+      never : {b : Bool} → b ≡ true → b ≡ false → ⊥
+      never is not = cc
+
+  -- a site that was up is down with one of the numbers that a crash may keep
+  pub crash_down : (count : ℕ) × (n.safe ≤ count) × (count ≤ length n.log) × IsDownAt links (crashed n count) new
+  crash_down =
+      let k = kept new.tells refl in (
+        k.count,
+        k.least,
+        k.most,
+        record {
+          state = refl;
+          unfused = refl;
+          down = stopped.down;
+          unarmed = stopped.unarmed;
+          lies = lies_sized n (fold_writes n.base (drop n.safe (take k.count n.log))).size new (folded_size n.base (drop n.safe (take k.count n.log)))
+              (lies_as n m new stopped.units stopped.size up.lies);
+          low = up.low;
+          logged = omega (arith, length-take k.count n.log, k.most);
+          begun = λ tells. up.begun (sym stopped.tells ∙ tells);
+          left = λ tells.
+              let l = k.left tells in
+              record { held = l.held; has = l.has; left = left_below (units_of n) n.ring (state_with n links) n.session (most_stamp n) (most_stamp (crashed n k.count)) l.held new (omega (arith, k.least)) l.left };
+        },
+      )
+
+module _ {R : Type 0} {g : Ghosts R} where
+  held_crashed : {links : List KeptLink} (n : Node) (old shelf new : R) → shelf ≡ old → IsHeldAt links n (g.meaning old) → Lawful (g.meaning new) → IsRack (g.meaning new) → Stopped (g.meaning shelf) (g.meaning new) → CrashedAt {g = g} links n (Down new)
+  held_crashed n old shelf new is held lawful rack stopped =
+      let k = crash_down n (g.meaning old) (g.meaning new) held lawful rack (subst (λ (r : R). Stopped (g.meaning r) (g.meaning new)) is stopped) in
+      record { count = k.0; least = k.1; most = k.2; stands = k.3 }
+
+  -- the disk set of a site that crashed
+  pub crashed_at : {links : List KeptLink} (n : Node) (core : Core) (old shelf new : R) → shelf ≡ old → IsUpAt links n core (g.meaning old) → Lawful (g.meaning new) → IsRack (g.meaning new) → Stopped (g.meaning shelf) (g.meaning new)
+      → CrashedAt {g = g} links n (Down new)
+  crashed_at n core old shelf new is up lawful rack stopped = held_crashed n old shelf new is (held_up n core (g.meaning old) up) lawful rack stopped
+
+  -- the same where its fuse ran out before
+  pub cut_crashed : {links : List KeptLink} (n : Node) (e : DiskSet R g) (rvg : Rvg R g) (shelf new : R) → e ≡ Up rvg → shelf ≡ rvg.shelf → CutAt links n e → Lawful (g.meaning new) → IsRack (g.meaning new) → Stopped (g.meaning shelf) (g.meaning new)
+      → CrashedAt {g = g} links n (Down new)
+  cut_crashed {links} n e rvg shelf new is same cut lawful rack stopped = held_crashed n rvg.shelf shelf new same (subst (CutAt links n) is cut) lawful rack stopped
+
+  -- a write or an apply whose fuse ran out, and the crash behind it
+  pub wrote_off : {links : List KeptLink} (n : Node) (x : Write) (old mid new : DiskSet R g) (why : No) → is_off why ≡ true → WroteUp links n x old mid (Err why) → (CutAt links (half_begun n x) mid → CrashedAt links (half_begun n x) new) → (IsToldAt new → IsToldAt mid) → WroteAt links n x old new (Err why)
+  wrote_off n x old mid new Off off is falls later = (is.0, falls is.1, (λ calls told exact. is.2 calls (later told) exact), is.3)
+  wrote_off n x old mid new other off is falls later = absurd (cc)
+
+  pub wrote_on : (links : List KeptLink) (n : Node) (x : Write) (old new : DiskSet R g) (why : No) → is_off why ≡ false → WroteUp links n x old new (Err why) → WroteAt links n x old new (Err why)
+  wrote_on links n x old new Off off is = absurd (cc)
+  wrote_on links n x old new (Device disk) off is = is
+  wrote_on links n x old new (Limit what most) off is = is
+  wrote_on links n x old new other off is = is
+
+  pub applied_off : {links : List KeptLink} (n : Node) (to : ℕ) (old mid new : DiskSet R g) (why : No) → is_off why ≡ true → AppliedUp links n to old mid (Err why) → (CutAt links n mid → CrashedAt links n new) → AppliedAt links n to old new (Err why)
+  applied_off n to old mid new Off off is falls = (is.0, falls is.1)
+  applied_off n to old mid new other off is falls = absurd (cc)
+
+  pub applied_on : (links : List KeptLink) (n : Node) (to : ℕ) (old new : DiskSet R g) (why : No) → is_off why ≡ false → AppliedUp links n to old new (Err why) → AppliedAt links n to old new (Err why)
+  applied_on links n to old new Off off is = absurd (cc)
+  applied_on links n to old new (Device disk) off is = is
+  applied_on links n to old new other off is = is

@@ -1,0 +1,139 @@
+-- How a site lies on its disks, past calls that leave their number and sizes alone, and of a raw set as it is made.
+use Rattle.std.proofs.Common.{◌≡◌, ◌∙◌, ℕ, zero, suc, ◌+◌, ◌-◌, ◌*◌, ◌<◌, ◌≤◌, List, [], ◌++◌, length, ap, sym, refl, arith}
+use Rattle.std.specs.Fmt.{decimal}
+use Rattle.std.specs.Prelude.{Some, slice_get, codes}
+use Rattle.std.proofs.lemmas.Bool.Decides.{nat_tests}
+use Rattle.std.proofs.lemmas.Option.{slice_get_within}
+use Rattle.vx_model.specs.Content.{Content}
+use Rattle.vx_model.specs.Sizes.{map_blocks, ring_of}
+use Rattle.vx_model.specs.declared.limits.TheConstants.{LINK_PLACES}
+use Rattle.vx_model.specs.declared.units.Units.{Units}
+use Rattle.vx_history.specs.Steps.{raw_volumes, raw_content}
+use Rattle.vx_history.specs.World.{Node, Volume}
+use Rattle.vx_disk.specs.Moves.{Blocks, Says, Moves}
+use Rattle.vx_disk.specs.Shelf.{Meaning}
+use Rattle.vx_rvg.specs.Contents.{HasSizes}
+use Rattle.vx_rvg.specs.Views.{maps_of, unit_of}
+use Rattle.std.proofs.lemmas.List.Sums.{sum_by-cons, sum_by_push}
+use Rattle.vx_events.specs.Facts.{values_from}
+use Rattle.vx_events.proofs.Values.{length-values_from, slice_index-values_from, values_from-push}
+use Rattle.vx_diskset.specs.Layouts.{raw_units, CanBeRaw, IsLaid, IsRaw, LiesOn}
+
+-- ---- past a call
+
+laid_as : (u : Units) (ring : ℕ) (volumes : List Volume) (sizes : ℕ → ℕ) (m new : Meaning) → ((k : ℕ) → new.size k ≡ m.size k) → IsLaid u ring volumes sizes m → IsLaid u ring volumes sizes new
+laid_as u ring volumes sizes m new size laid = record {
+  large = omega (arith, laid.large, size u.srl);
+  ring_is = laid.ring_is ∙ ap ring_of (sym (size u.srl));
+  few = laid.few;
+  count = laid.count;
+  named = laid.named;
+  each = λ v there. laid.each v there ∙ sym (size (unit_of u.vols v));
+  none = laid.none;
+}
+
+pub lies_as : (n : Node) (m new : Meaning) → new.units ≡ m.units → ((k : ℕ) → new.size k ≡ m.size k) → LiesOn n m → LiesOn n new
+lies_as n m new units size lies = record {
+  units = units ∙ lies.units;
+  size = λ u there. size u ∙ lies.size u there;
+  can = lies.can;
+  few = lies.few;
+  laid = laid_as (raw_units n.disks) n.ring n.volumes n.base.size m new size lies.laid;
+}
+
+pub lies_moved : (n : Node) (mine : Blocks) (P : Says) (m new : Meaning) → Moves mine P m new → LiesOn n m → LiesOn n new
+lies_moved n mine P m new moves lies = lies_as n m new moves.units moves.size lies
+
+-- with another content of the same sizes
+pub lies_sized : (n : Node) (sizes : ℕ → ℕ) (m : Meaning) → ((v : ℕ) → sizes v ≡ n.base.size v) → LiesOn n m → IsRaw n.disks n.blocks n.ring n.volumes sizes m
+lies_sized n sizes m same lies = record {
+  units = lies.units;
+  size = lies.size;
+  can = lies.can;
+  few = lies.few;
+  laid = record {
+    large = lies.laid.large;
+    ring_is = lies.laid.ring_is;
+    few = lies.laid.few;
+    count = lies.laid.count;
+    named = λ v x at. same v ∙ lies.laid.named v x at;
+    each = λ v there. same v ∙ lies.laid.each v there;
+    none = λ v past. same v ∙ lies.laid.none v past;
+  };
+}
+
+-- the content has the sizes of its units
+pub sizes_of : (u : Units) (ring : ℕ) (volumes : List Volume) (c : Content) (m : Meaning) → IsLaid u ring volumes c.size m → HasSizes u.vols c m
+sizes_of u ring volumes c m laid = record {
+  each = λ v there. laid.each v (omega (arith, there, laid.count));
+  none = λ v past. laid.none v (omega (arith, past, laid.count));
+}
+
+-- ---- the maps of a raw set
+
+-- so many disks of the same size
+maps_from : (k n blocks : ℕ) (m : Meaning) → ((i : ℕ) → i < n → m.size (k + i) ≡ blocks) → maps_of (values_from (λ j. j) k n) m ≡ n * map_blocks blocks
+maps_from k zero blocks m same = let none : maps_of [] m ≡ 0 = refl in omega (arith, none)
+maps_from k (suc n) blocks m same =
+    let front = sum_by-cons (λ (u : ℕ). map_blocks (m.size u)) k (values_from (λ j. j) (k + 1) n) in
+    let here : map_blocks (m.size k) ≡ map_blocks blocks = ap (λ (s : ℕ). map_blocks s) (ap m.size (omega arith) ∙ same 0 (omega arith)) in
+    let rest = maps_from (k + 1) n blocks m (λ i low. ap m.size (omega arith) ∙ same (suc i) (omega (arith, low))) in
+    omega (arith, front, here, rest)
+
+-- one disk more
+pub maps_more : (n : ℕ) (m : Meaning) → maps_of (values_from (λ j. j) 1 (suc n)) m ≡ maps_of (values_from (λ j. j) 1 n) m + map_blocks (m.size (1 + n))
+maps_more n m =
+    ap (λ (us : List ℕ). maps_of us m) (values_from-push (λ j. j) 1 n) ∙ sum_by_push (λ (u : ℕ). map_blocks (m.size u)) (values_from (λ j. j) 1 n) (1 + n)
+
+-- disks of one size that can be a raw set have room for its maps
+pub maps_fit : (disks blocks : ℕ) (m : Meaning) → CanBeRaw disks blocks → ((u : ℕ) → u < disks → m.size u ≡ blocks) → LINK_PLACES * maps_of (raw_units disks).vols m ≤ m.size (raw_units disks).maps
+maps_fit disks blocks m can size =
+    let all = maps_from 1 (disks - 2) blocks m (λ i low. size (1 + i) (omega (arith, low))) in
+    let last = size (disks - 1) (omega (arith, can.some)) in
+    omega (arith, all, last, can.maps)
+
+-- ---- a raw set as it is made
+
+pub length-raw_volumes : (k n blocks : ℕ) → length (raw_volumes k n blocks) ≡ n
+length-raw_volumes k zero blocks = refl
+length-raw_volumes k (suc n) blocks = ap suc (length-raw_volumes (k + 1) n blocks)
+
+pub raw_volumes-whole : (k n blocks v : ℕ) (x : Volume) → slice_get (raw_volumes k n blocks) v ≡ Some x → x.blocks ≡ blocks
+raw_volumes-whole k zero blocks v x e = absurd (cc)
+raw_volumes-whole k (suc n) blocks zero x e = ap (λ (y : Volume). y.blocks) (let is : x ≡ record { name = codes "d" ++ decimal k; blocks = blocks } = cc in is)
+raw_volumes-whole k (suc n) blocks (suc v) x e = raw_volumes-whole (k + 1) n blocks v x e
+
+pub raw_size : (disks blocks v : ℕ) → v < disks - 2 → (raw_content disks blocks).size v ≡ blocks
+raw_size disks blocks v h = grind (arith, nat_tests)
+
+pub raw_none : (disks blocks v : ℕ) → disks - 2 ≤ v → (raw_content disks blocks).size v ≡ 0
+raw_none disks blocks v h = grind (arith, nat_tests)
+
+-- so many disks of so many blocks hold it
+pub raw_lies : (disks blocks : ℕ) (m : Meaning) → CanBeRaw disks blocks → disks ≤ 8 → 8 ≤ blocks → m.units ≡ disks → ((u : ℕ) → u < disks → m.size u ≡ blocks)
+    → IsRaw disks blocks (ring_of blocks) (raw_volumes 1 (disks - 2) blocks) (raw_content disks blocks).size m
+raw_lies disks blocks m can few large units size = record {
+  units = units;
+  size = size;
+  can = can;
+  few = few;
+  laid = record {
+    large = omega (arith, large, first);
+    ring_is = ap ring_of (sym first);
+    few = omega (arith, few, many);
+    count = length-values_from (λ (j : ℕ). j) 1 (disks - 2) ∙ sym many;
+    named = λ v x at.
+        let inside : v < disks - 2 = omega (arith, slice_get_within (raw_volumes 1 (disks - 2) blocks) v x at, many) in
+        raw_size disks blocks v inside ∙ sym (raw_volumes-whole 1 (disks - 2) blocks v x at);
+    each = λ v there.
+        let inside : v < disks - 2 = omega (arith, there, many) in
+        raw_size disks blocks v inside ∙ sym (ap m.size (slice_index-values_from 1 (disks - 2) v inside) ∙ size (1 + v) (omega (arith, inside, can.some)));
+    none = λ v past. raw_none disks blocks v (omega (arith, past, many));
+  };
+}
+  where
+    first : m.size 0 ≡ blocks
+    first = size 0 (omega (arith, can.some))
+
+    many : length (raw_volumes 1 (disks - 2) blocks) ≡ disks - 2
+    many = length-raw_volumes 1 (disks - 2) blocks

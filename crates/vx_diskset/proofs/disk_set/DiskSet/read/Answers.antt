@@ -1,0 +1,21 @@
+use Rattle.std.proofs.Common.{subst, sym}
+use Rattle.vx_model.specs.Content.{blocks_in}
+use Rattle.vx_diskset.specs.Asked.{LeavesAlone}
+use Rattle.vx_diskset.specs.declared.disk_set.DiskSet.TheVariants.{Up}
+use Rattle.vx_diskset.proofs.KeepsFailing.{alone_same}
+use Rattle.vx_diskset.proofs.ReadGroup.{read_at}
+use Rattle.vx_diskset.proofs.disk_set.DiskSet.read.Goals as goal
+
+pub returns-then-volume-volumes-clause-read : goal.returns-then-volume-volumes-clause-read
+returns-then-volume-volumes-clause-read g c = λ links n stands can.
+    let lawful = (g.met.R.Shelf g.world.𝓛 g.world.𝓜 g.world.𝓡 ((λ s x. x), (λ x. x), (λ x. x), λ x. x)).lawful in
+    let is_rack = (g.met.R.Rack g.world.𝓛 g.world.𝓜 g.world.𝓡 ((λ s x. x), (λ x. x), (λ x. x), λ x. x)).rack in
+    read_at links n c.args.volume c.args.start (blocks_in c.args.into.now) c.read.new.into c.args.self.now c.in-Up.rvg c.read.new.self c.read.result c.in-Up.is stands can
+    (lawful c.in-Up.rvg.shelf) (lawful c.read.new.self.shelf) c.read.ensures.core c.read.ensures.answers c.read.ensures.gives c.read.ensures.goes c.read.ensures.down c.read.ensures.disks
+    (is_rack c.in-Up.rvg.shelf) (is_rack c.read.new.self.shelf)
+
+pub returns-then-volume-volumes-clause-still : goal.returns-then-volume-volumes-clause-still
+returns-then-volume-volumes-clause-still g c = subst (λ e. LeavesAlone e (Up c.read.new.self)) (sym c.in-Up.is) (record { told = c.read.ensures.disks })
+
+pub returns-else-volume-volumes-clause-still : goal.returns-else-volume-volumes-clause-still
+returns-else-volume-volumes-clause-still g c = subst (λ e. LeavesAlone e (Up c.in-Up.rvg)) (sym c.in-Up.is) (alone_same (Up c.in-Up.rvg))

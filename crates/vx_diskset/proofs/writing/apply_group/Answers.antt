@@ -1,0 +1,37 @@
+-- An apply of a site that is up.
+use Rattle.std.proofs.Common.{sym, ◌∙◌}
+use Rattle.vx_diskset.proofs.ApplyGroup.{applied_as, applied_cut}
+use Rattle.std.specs.Prelude.{None}
+use Rattle.vx_rvg.specs.Groups.{unless_halted}
+use Rattle.vx_diskset.proofs.CallsBurn.{apply_off}
+use Rattle.vx_diskset.proofs.MakeRoom.{apply_log}
+use Rattle.vx_diskset.proofs.writing.apply_group.Goals as goal
+
+pub returns-then-is_down-clause-applied : goal.returns-then-is_down-clause-applied
+returns-then-is_down-clause-applied g c = λ links n up none.
+    let lawful = (g.met.R.Shelf g.world.𝓛 g.world.𝓜 g.world.𝓡 ((λ s x. x), (λ x. x), (λ x. x), λ x. x)).lawful in
+    applied_cut n c.args.rvg.now.core (g.R.Shelf.meaning c.args.rvg.now.shelf) (g.R.Shelf.meaning c.apply-answer.new.self.shelf) up (record { up = up.state; running = none }) (lawful c.args.rvg.now.shelf) (lawful c.apply-answer.new.self.shelf)
+    c.apply-answer.ensures.moves (sym c.is_down.ensures ∙ c.if-is_down.true)
+
+pub returns-clause-applied : goal.returns-clause-applied
+returns-clause-applied g c = λ links n up none.
+    let lawful = (g.met.R.Shelf g.world.𝓛 g.world.𝓜 g.world.𝓡 ((λ s x. x), (λ x. x), (λ x. x), λ x. x)).lawful in
+    applied_as n c.args.to c.args.rvg.now.core c.apply-answer.new.self.core (g.R.Shelf.meaning c.args.rvg.now.shelf) (g.R.Shelf.meaning c.apply-answer.new.self.shelf) c.apply-answer.result up (record { up = up.state; running = none }) c.args.rvg.now.sound
+    (lawful c.args.rvg.now.shelf) (lawful c.apply-answer.new.self.shelf) (sym c.is_down.ensures ∙ c.if-is_down.false)
+    c.apply-answer.ensures.answers c.apply-answer.ensures.stands c.apply-answer.ensures.moves
+
+pub returns-then-is_down-clause-off : goal.returns-then-is_down-clause-off
+returns-then-is_down-clause-off g c = sym c.is_down.ensures ∙ c.if-is_down.true
+
+pub returns-clause-off : goal.returns-clause-off
+returns-clause-off g c = apply_off c.args.rvg.now.core c.args.to (g.R.Shelf.meaning c.args.rvg.now.shelf) (g.R.Shelf.meaning c.apply-answer.new.self.shelf) c.apply-answer.new.self.core c.apply-answer.result (sym c.is_down.ensures ∙ c.if-is_down.false) c.apply-answer.ensures.answers
+
+pub returns-then-is_down-clause-spends : goal.returns-then-is_down-clause-spends
+returns-then-is_down-clause-spends g c = c.apply-answer.ensures.spends
+
+pub returns-clause-spends : goal.returns-clause-spends
+returns-clause-spends g c = c.apply-answer.ensures.spends
+
+pub returns-clause-log : goal.returns-clause-log
+returns-clause-log g c =
+    apply_log (unless_halted c.args.rvg.now.core.halted None) c.args.rvg.now.core c.args.to (g.R.Shelf.meaning c.args.rvg.now.shelf) (g.R.Shelf.meaning c.apply-answer.new.self.shelf) c.apply-answer.new.self.core c.apply-answer.result c.apply-answer.ensures.answers

@@ -1,0 +1,181 @@
+-- What the calls on the disks of a site promise.
+use Rattle.std.specs.Prelude.{◌≡◌, ℕ, ◌+◌, ◌*◌, ◌<◌, ◌≤◌, ◌++◌, ◌∷◌, [], ◌⊎◌, min, length, Option, Some, None, Result, Ok, Err, List, IsTrue, Bool, true, false}
+use Rattle.vx_model.specs.declared.limits.TheConstants.{LEAST_BLOCKS, LINK_PLACES, MOST_DISKS}
+use Rattle.vx_model.specs.Content.{Write}
+use Rattle.vx_history.specs.World.{Node, bare_site}
+use Rattle.vx_history.specs.Steps.{logged, raw_set, half_begun, crashed, recovered, burned}
+use Rattle.vx_model.specs.Sizes.{ring_of}
+use Rattle.vx_model.specs.declared.site.SiteState.TheVariants.{Up as IsUp}
+use Rattle.vx_model.specs.declared.state.KeptLink.{KeptLink}
+use Rattle.vx_model.specs.declared.errors.Stop.{Stop}
+use Rattle.vx_model.specs.declared.errors.Stop.TheVariants.{No as Refused, OutOfMemory}
+use Rattle.vx_model.specs.declared.no.No.{No}
+use Rattle.vx_model.specs.declared.no.No.TheVariants.{Device, Limit, NoConfig, Down as IsDown}
+use Rattle.vx_model.specs.declared.no.Counted.TheVariants.{Number}
+use Rattle.vx_disk.specs.Counts.{Rose}
+use Rattle.vx_disk.specs.Racks.{most_blocks}
+use Rattle.vx_disk.specs.Shelf.{Meaning}
+use Rattle.vx_disk.specs.declared.shelf.Shelf.{Ghosts}
+use Rattle.vx_rvg.specs.Contents.{Shows}
+use Rattle.vx_rvg.specs.Views.{maps_of}
+use Rattle.vx_srl.specs.Views.{most_number}
+use Rattle.vx_diskset.specs.declared.disk_set.DiskSet.{DiskSet}
+use Rattle.vx_events.specs.Found.{SameDisks}
+use Rattle.vx_events.specs.Stamps.{most_stamp}
+use Rattle.vx_history.specs.Stops.{IsFused}
+use Rattle.vx_events.specs.Fuses.{IsExact}
+use Rattle.vx_diskset.specs.Layouts.{raw_units}
+use Rattle.vx_diskset.specs.Stands.{StandsAt, StandsAlone, CutAt, IsUnused, IsToldAt, faults_at}
+
+-- a write that nothing but a failing disk or want of a number can refuse
+pub record CanWrite (n : Node) (volume start count : ℕ) : Type 0 where
+  pub up : n.state ≡ IsUp
+  pub running : n.halted ≡ None
+  pub volume_exists : volume < length n.volumes
+  pub fits : count + 1 ≤ n.ring
+  pub within : start + count ≤ n.base.size volume
+
+-- the same of a read
+pub record CanRead (n : Node) (volume start count : ℕ) : Type 0 where
+  pub up : n.state ≡ IsUp
+  pub running : n.halted ≡ None
+  pub volume_exists : volume < length n.volumes
+  pub within : start + count ≤ n.base.size volume
+
+-- a site with a write that met this failing disk
+abbrev pub halted_with : Node → Write → ℕ → Node
+halted_with n x disk = record n { log = n.log ++ x ∷ []; halted = Some disk; fuse = burned n.fuse }
+
+-- a site that a failing disk halted
+abbrev pub halted_at : Node → ℕ → Node
+halted_at n disk = record n { halted = Some disk; fuse = burned n.fuse }
+
+-- a site whose disks may have been written and flushed
+abbrev pub worked : Node → Node
+worked n = record n { fuse = burned n.fuse }
+
+abbrev pub no_number : No
+no_number = Limit Number most_number
+
+-- whether a shelf that is down refused so
+abbrev pub is_off : No → Bool
+is_off IsDown = true
+is_off other = false
+
+-- an apply that nothing but a failing disk can refuse
+pub record CanApply (n : Node) : Type 0 where
+  pub up : n.state ≡ IsUp
+  pub running : n.halted ≡ None
+
+-- disks on which a raw set can be, in whose log there are so many ring blocks
+pub record CanHold (ring : ℕ) (m : Meaning) : Type 0 where
+  pub some : 3 ≤ m.units
+  pub few : m.units ≤ MOST_DISKS
+  pub large : LEAST_BLOCKS ≤ m.size (raw_units m.units).srl
+  pub is_ring : ring ≡ ring_of (m.size (raw_units m.units).srl)
+  pub maps : LINK_PLACES * maps_of (raw_units m.units).vols m ≤ m.size (raw_units m.units).maps
+
+-- the same of disks that are down
+pub record CanStart (ring : ℕ) (m : Meaning) : Type 0 where
+  pub holds : CanHold ring m
+  pub down : IsTrue m.down
+
+module _ {R : Type 0} {g : Ghosts R} where
+  -- no count of a disk falls, and contents that are told now were told before
+  pub record Later (old new : DiskSet R g) : Type 0 where
+    pub counts : (d : ℕ) → faults_at old d ≤ faults_at new d
+    pub told : IsToldAt new → IsToldAt old
+
+  -- the count of this disk rose
+  abbrev pub RoseAt : DiskSet R g → DiskSet R g → ℕ → Type 0
+  RoseAt old new disk = Rose (faults_at old disk) (faults_at new disk)
+
+  -- the disks of a new site, whatever its name; or a failing disk, want of memory, or more blocks than there may be
+  abbrev pub FitIs : {T : Type 0} → Option T → ℕ → ℕ → DiskSet R g → DiskSet R g → Result (Unit {0}) Stop → Type 0
+  FitIs dir disks blocks old new (Ok done) = (links : List KeptLink) (name : List ℕ) → StandsAt links (bare_site name disks blocks) new
+  FitIs dir disks blocks old new (Err OutOfMemory) = IsUnused new
+  FitIs dir disks blocks old new (Err (Refused (Device disk))) = IsUnused new × RoseAt old new disk
+  FitIs dir disks blocks old new (Err (Refused other)) = most_blocks dir < blocks
+
+  -- the disks of a bare site as a raw set without links, or as they were, with a failing disk or want of memory
+  abbrev pub MadeIs : ℕ → Node → DiskSet R g → DiskSet R g → Result (Unit {0}) Stop → Type 0
+  MadeIs site n old new (Ok done) = StandsAlone (raw_set site n) new
+  MadeIs site n old new (Err OutOfMemory) = (links : List KeptLink) → StandsAt links n new
+  MadeIs site n old new (Err (Refused (Device disk))) = ((links : List KeptLink) → StandsAt links n new) × RoseAt old new disk
+  MadeIs site n old new (Err (Refused other)) = ⊥
+
+  -- a site that crashed, with one of the numbers of writes that a crash may keep
+  pub record CrashedAt (links : List KeptLink) (n : Node) (new : DiskSet R g) : Type 0 where
+    pub count : ℕ
+    pub least : n.safe ≤ count
+    pub most : count ≤ length n.log
+    pub stands : StandsAt links (crashed n count) new
+
+  -- the next number, or a failing disk, or want of a number; or its fuse ran out, and then this holds of the site with the write begun
+  abbrev pub WroteWith : (Node → DiskSet R g → Type 0) → List KeptLink → Node → Write → DiskSet R g → DiskSet R g → Result ℕ No → Type 0
+  WroteWith Off links n x old new (Ok number) = (number ≡ n.safe + 1) × (n.safe < most_number) × StandsAt links (logged n x) new × ((calls : ℕ) → IsToldAt new → IsExact n x calls → 4 ≤ calls)
+  WroteWith Off links n x old new (Err (Device disk)) = StandsAt links (halted_with n x disk) new × RoseAt old new disk × (n.safe < most_number)
+  WroteWith Off links n x old new (Err (Limit what most)) = (Limit what most ≡ no_number) × (IsToldAt new → most_number ≤ most_stamp n) × StandsAt links (worked n) new
+  WroteWith Off links n x old new (Err IsDown) = IsFused n.fuse × Off (half_begun n x) new × ((calls : ℕ) → IsToldAt new → IsExact n x calls → calls < 4) × (n.safe < most_number)
+  WroteWith Off links n x old new (Err other) = ⊥
+
+  -- a write behind which the site of a fuse that ran out crashed, and one behind which it has not crashed yet
+  abbrev pub WroteAt : List KeptLink → Node → Write → DiskSet R g → DiskSet R g → Result ℕ No → Type 0
+  WroteAt links n x old new result = WroteWith (λ k e. CrashedAt links k e) links n x old new result
+
+  abbrev pub WroteUp : List KeptLink → Node → Write → DiskSet R g → DiskSet R g → Result ℕ No → Type 0
+  WroteUp links n x old new result = WroteWith (λ k e. CutAt links k e) links n x old new result
+
+  -- the blocks, which are those of the content where it is told, or a failing disk
+  abbrev pub ReadAt : List KeptLink → Node → ℕ → ℕ → ℕ → List ℕ → DiskSet R g → DiskSet R g → Result (Unit {0}) No → Type 0
+  ReadAt links n volume start count bytes old new (Ok done) = (IsToldAt new → Shows n.base volume start count bytes) × StandsAt links n new
+  ReadAt links n volume start count bytes old new (Err (Device disk)) = StandsAt links n new × RoseAt old new disk
+  ReadAt links n volume start count bytes old new (Err other) = ⊥
+
+  -- A site that came up: in its next session, where contents are told, and else with whatever stands on its disks.
+  pub record CameUp (links : List KeptLink) (n : Node) (new : DiskSet R g) : Type 0 where
+    pub node : Node
+    pub is : IsToldAt new → node ≡ recovered n
+    pub same : SameDisks n node
+    pub stands : StandsAt links node new
+    -- there was a further session
+    pub next : IsToldAt new → n.session < most_number
+
+  -- a site that stays down, maybe in the next session
+  abbrev pub StillDown : List KeptLink → Node → DiskSet R g → Type 0
+  StillDown links n new = StandsAt links n new ⊎ (StandsAt links (record n { session = n.session + 1 }) new × (n.session < most_number))
+
+  -- it came up, or a disk failed, or no number is left; nothing else where contents are told
+  abbrev pub CameUpIs : List KeptLink → Node → DiskSet R g → DiskSet R g → Result (Unit {0}) No → Type 0
+  CameUpIs links n old new (Ok done) = CameUp links n new
+  CameUpIs links n old new (Err (Device disk)) = StillDown links n new × RoseAt old new disk
+  CameUpIs links n old new (Err (Limit what most)) = (Limit what most ≡ no_number) × (IsToldAt new → most_number ≤ most_stamp n + 2) × StandsAt links n new
+  CameUpIs links n old new (Err other) = (IsToldAt new → ⊥) × StandsAt links n new
+
+  -- a raw set that an earlier run left on the disks of a bare site: contents are not told
+  pub record BareUp (n : Node) (new : DiskSet R g) : Type 0 where
+    pub untold : IsToldAt new → ⊥
+    pub node : Node
+    pub same : SameDisks (raw_set 0 n) node
+    pub stands : (links : List KeptLink) → StandsAt links node new
+
+  -- a bare site whose disks hold nothing, or one of which failed; or, where contents are not told, whatever stands on them
+  abbrev pub BareUpIs : Node → DiskSet R g → DiskSet R g → Result (Unit {0}) No → Type 0
+  BareUpIs n old new (Ok done) = BareUp n new
+  BareUpIs n old new (Err (Device disk)) = ((links : List KeptLink) → StandsAt links n new) × RoseAt old new disk
+  BareUpIs n old new (Err NoConfig) = (links : List KeptLink) → StandsAt links n new
+  BareUpIs n old new (Err other) = (IsToldAt new → ⊥) × ((links : List KeptLink) → StandsAt links n new)
+
+  -- the number up to which all writes are in their volumes, or a failing disk; or its fuse ran out, and then this holds of the site
+  abbrev pub AppliedWith : (Node → DiskSet R g → Type 0) → List KeptLink → Node → ℕ → DiskSet R g → DiskSet R g → Result ℕ No → Type 0
+  AppliedWith Off links n to old new (Ok number) = (min to n.safe ≤ number) × (number ≤ n.safe) × StandsAt links (worked n) new
+  AppliedWith Off links n to old new (Err (Device disk)) = StandsAt links (halted_at n disk) new × RoseAt old new disk
+  AppliedWith Off links n to old new (Err IsDown) = IsFused n.fuse × Off n new
+  AppliedWith Off links n to old new (Err other) = ⊥
+
+  -- an apply behind which the site of a fuse that ran out crashed, and one behind which it has not crashed yet
+  abbrev pub AppliedAt : List KeptLink → Node → ℕ → DiskSet R g → DiskSet R g → Result ℕ No → Type 0
+  AppliedAt links n to old new result = AppliedWith (λ k e. CrashedAt links k e) links n to old new result
+
+  abbrev pub AppliedUp : List KeptLink → Node → ℕ → DiskSet R g → DiskSet R g → Result ℕ No → Type 0
+  AppliedUp links n to old new result = AppliedWith (λ k e. CutAt links k e) links n to old new result

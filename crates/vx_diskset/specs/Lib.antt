@@ -1,0 +1,10 @@
+pub mod Asked
+pub mod Burning
+pub mod DiskSets
+pub mod Fetching
+pub mod Fuses
+pub mod Holds
+pub mod Lasts
+pub mod Layouts
+pub mod Rooms
+pub mod Stands

@@ -1,0 +1,141 @@
+-- What the disks of a site stand for: how its rack, or the group over it, agrees with its node of the world.
+use Rattle.std.specs.Prelude.{◌≡◌, ℕ, ◌+◌, ◌<◌, ◌≤◌, List, [], length, None, IsTrue, IsFalse}
+use Rattle.vx_model.specs.declared.limits.TheConstants.{LEAST_BLOCKS, MOST_DISKS}
+use Rattle.vx_model.specs.Content.{zero_block}
+use Rattle.vx_history.specs.World.{Node, NoFuse, bare_site}
+use Rattle.vx_model.specs.declared.state.KeptLink.{KeptLink}
+use Rattle.vx_model.specs.declared.site.SiteState.TheVariants.{Up as IsUp, Down as IsDown}
+use Rattle.vx_disk.specs.Shelf.{Meaning, Image, Keeps}
+use Rattle.vx_disk.specs.declared.shelf.Shelf.{Ghosts}
+use Rattle.vx_rvg.specs.Views.{Core, last_of}
+use Rattle.vx_diskset.specs.declared.disk_set.DiskSet.{DiskSet}
+use Rattle.vx_diskset.specs.declared.disk_set.DiskSet.TheVariants.{Bare, Spoiled, Up, Down, Gone}
+use Rattle.vx_diskset.specs.Fuses.{HasFuse, IsFirst}
+use Rattle.vx_events.specs.Fuses.{taken}
+use Rattle.vx_diskset.specs.Holds.{HasWrites, state_with}
+use Rattle.vx_events.specs.Stamps.{most_stamp}
+use Rattle.vx_diskset.specs.Lasts.{LeftWith, StandsWith}
+use Rattle.vx_diskset.specs.Layouts.{LiesOn, units_of}
+
+-- a rack that is not fitted, is up, and has no fuse
+pub record IsUnfitted (m : Meaning) : Type 0 where
+  pub units : m.units ≡ 0
+  pub up : IsFalse m.down
+  pub unarmed : IsFalse m.armed
+
+-- a rack with so many disks of so many blocks, which is up
+pub record IsFitted (disks blocks : ℕ) (m : Meaning) : Type 0 where
+  pub units : m.units ≡ disks
+  pub size : (u : ℕ) → u < disks → m.size u ≡ blocks
+  pub up : IsFalse m.down
+
+-- a bare site with this name, these disks, and these of them made to fail
+abbrev pub bare_with : Node → Node
+bare_with n = record (bare_site n.name n.disks n.blocks) { failing = n.failing }
+
+-- the disks of a bare site: those behind the first hold zeros
+pub record IsBareAt (n : Node) (m : Meaning) : Type 0 where
+  pub is : n ≡ bare_with n
+  pub fitted : IsFitted n.disks n.blocks m
+  pub unarmed : IsFalse m.armed
+  pub few : n.disks ≤ MOST_DISKS
+  pub some : LEAST_BLOCKS ≤ n.blocks
+  pub blank : (u b : ℕ) → 0 < u → u < n.disks → b < n.blocks → Keeps m u b zero_block
+
+-- the disks of a bare site of which nothing was begun: the first holds zeros too
+pub record IsCleanAt (n : Node) (m : Meaning) : Type 0 where
+  pub bare : IsBareAt n m
+  pub front : (b : ℕ) → b < n.blocks → Keeps m 0 b zero_block
+
+-- the disks of a site under its replicated volume group, whose log keeps these links
+pub record IsUpAt (links : List KeptLink) (n : Node) (c : Core) (m : Meaning) : Type 0 where
+  pub state : n.state ≡ IsUp
+  pub up : IsFalse m.down
+  pub fuse : HasFuse n.fuse m
+  pub lies : LiesOn n m
+  pub low : n.low ≡ 1
+  pub units : c.units ≡ units_of n
+  pub ring : c.log.ring ≡ n.ring
+  -- of disks that tell no contents it is not known which links it keeps, nor how great its stamp is
+  pub found : List KeptLink
+  pub kept : c.log.header.state ≡ state_with n found
+  pub linked : IsTrue m.tells → found ≡ links
+  pub session : c.log.header.incarnation ≡ n.session
+  pub begun : IsTrue m.tells → 0 < n.session
+  pub stamp : IsTrue m.tells → n.halted ≡ None → c.log.header.stamp + 1 ≤ most_stamp n
+  -- in its first session its log begins with the site's first write, as long as it did not go round
+  pub fresh : IsTrue m.tells → n.halted ≡ None → n.session ≡ 1 → taken n.log ≤ n.ring → IsFirst c.log n.log
+  pub first : 0 < c.log.header.low
+  pub head : last_of c ≡ n.safe
+  pub halted : c.halted ≡ n.halted
+  pub logged : n.safe ≤ length n.log
+  -- while no write failed all are durable
+  pub durable : n.halted ≡ None → length n.log ≤ n.safe
+  -- while no write failed, it has the content, and its log the last of the writes; and whatever a crash leaves has the writes that it may keep
+  pub content : n.halted ≡ None → IsTrue m.tells → StandsWith c n.log n.base m
+  pub left : (i : Image) → m.now i → HasWrites links n i
+
+-- the disks of a site, up or down: a crash leaves its writes on them
+pub record IsHeldAt (links : List KeptLink) (n : Node) (m : Meaning) : Type 0 where
+  pub lies : LiesOn n m
+  pub low : n.low ≡ 1
+  pub logged : n.safe ≤ length n.log
+  pub begun : IsTrue m.tells → 0 < n.session
+  pub left : (i : Image) → m.now i → HasWrites links n i
+
+-- the disks of a site that crashed: they have one log and one content, that of the site
+pub record IsDownAt (links : List KeptLink) (n : Node) (m : Meaning) : Type 0 where
+  pub state : n.state ≡ IsDown
+  pub unfused : n.fuse ≡ NoFuse
+  pub down : IsTrue m.down
+  pub unarmed : IsFalse m.armed
+  pub lies : LiesOn n m
+  pub low : n.low ≡ 1
+  pub logged : length n.log ≡ n.safe
+  pub begun : IsTrue m.tells → 0 < n.session
+  pub left : IsTrue m.tells → LeftWith (units_of n) n.ring (state_with n links) n.session (most_stamp n) n.log n.base m
+
+module _ {R : Type 0} {g : Ghosts R} where
+  -- the disks of a site that keeps these links
+  abbrev pub StandsAt : List KeptLink → Node → DiskSet R g → Type 0
+  StandsAt links n (Bare rack) = IsCleanAt n (g.meaning rack)
+  StandsAt links n (Spoiled rack) = IsBareAt n (g.meaning rack)
+  StandsAt links n (Up rvg) = IsUpAt links n rvg.core (g.meaning rvg.shelf)
+  StandsAt links n (Down rack) = IsDownAt links n (g.meaning rack)
+  StandsAt links n Gone = ⊥
+
+  -- the same of a site without links, as each is that the lines which are built make
+  abbrev pub StandsAlone : Node → DiskSet R g → Type 0
+  StandsAlone n e = StandsAt [] n e
+
+  -- a group whose shelf is down: a crash leaves the site's writes on its disks
+  abbrev pub CutAt : List KeptLink → Node → DiskSet R g → Type 0
+  CutAt links n (Bare rack) = ⊥
+  CutAt links n (Spoiled rack) = ⊥
+  CutAt links n (Up rvg) = IsHeldAt links n (g.meaning rvg.shelf)
+  CutAt links n (Down rack) = ⊥
+  CutAt links n Gone = ⊥
+
+  -- the disk set of a number that no site has
+  abbrev pub IsUnused : DiskSet R g → Type 0
+  IsUnused (Bare rack) = IsUnfitted (g.meaning rack)
+  IsUnused (Spoiled rack) = ⊥
+  IsUnused (Up rvg) = ⊥
+  IsUnused (Down rack) = ⊥
+  IsUnused Gone = ⊥
+
+  -- whether the contents of its disks are told
+  abbrev pub IsToldAt : DiskSet R g → Type 0
+  IsToldAt (Bare rack) = IsTrue (g.meaning rack).tells
+  IsToldAt (Spoiled rack) = IsTrue (g.meaning rack).tells
+  IsToldAt (Up rvg) = IsTrue (g.meaning rvg.shelf).tells
+  IsToldAt (Down rack) = IsTrue (g.meaning rack).tells
+  IsToldAt Gone = ⊥
+
+  -- the count of the faults of a disk
+  abbrev pub faults_at : DiskSet R g → ℕ → ℕ
+  faults_at (Bare rack) d = (g.meaning rack).disk_faults d
+  faults_at (Spoiled rack) d = (g.meaning rack).disk_faults d
+  faults_at (Up rvg) d = (g.meaning rvg.shelf).disk_faults d
+  faults_at (Down rack) d = (g.meaning rack).disk_faults d
+  faults_at Gone d = 0

@@ -1,0 +1,133 @@
+// The disks of a site.
+ghost use Rattle.std.specs.Prelude.{◌≡◌, ◌≤◌, ◌<◌, IfSome, IsSome, List};
+ghost use Rattle.vx_model.specs.declared.state.KeptLink.{KeptLink};
+ghost use Rattle.vx_history.specs.World.{Node};
+ghost use Rattle.vx_diskset.specs.DiskSets.{Later};
+ghost use Rattle.vx_diskset.specs.Stands.{StandsAt};
+
+use std::alloc::Global;
+use vx_disk::Rack;
+use vx_model::limits::{LEAST_BLOCKS, MOST_DISKS};
+use vx_model::{No, State, Stop};
+use vx_rvg::Rvg;
+
+/// The rack of a site number, by itself or under a replicated volume group.
+#[derive(Drop)]
+pub enum DiskSet<R: Rack> {
+    /// Its disks alone, if it has any yet.
+    Bare(R),
+    /// The disks of a bare site on which a raw set was begun, and not finished.
+    Spoiled(R),
+    Up(Rvg<R>),
+    /// The disks of a raw set that crashed.
+    Down(R),
+    /// It was taken out, and comes back within the same line.
+    Gone,
+}
+
+impl<R: Rack> DiskSet<R> {
+    ghost use Rattle.vx_diskset.specs.Asked.{SetsDisk, SetsFuse, CrashesBy, MayCrash, SameFailing, units_in};
+    ghost use Rattle.vx_diskset.specs.Holds.{state_with};
+    ghost use Rattle.vx_diskset.specs.Stands.{CutAt, IsUnused};
+    ghost use Rattle.vx_history.specs.World.{FuseSet};
+    ghost use Rattle.vx_diskset.specs.DiskSets.{FitIs, CrashedAt};
+    ghost use Rattle.vx_model.specs.declared.site.SiteState.TheVariants.{Up as UpState};
+
+    /// Makes the disks of a site that has none.
+    pub fn fit(
+        &mut self,
+        alloc: Global,
+        dir: Option<&str>,
+        site: u32,
+        disks: u32,
+        blocks: u64,
+    ) -> Result<(), Stop>
+        requires some { 1 ≤ disks }
+        requires few { disks ≤ MOST_DISKS }
+        requires large { LEAST_BLOCKS ≤ blocks }
+        ensures fits { IsUnused self.old → FitIs dir.entry disks blocks self.old self.new result }
+        ensures failing { SameFailing self.old self.new }
+        ensures later { Later self.old self.new }
+    {
+        match self {
+            DiskSet::Bare(rack) if rack.units() == 0 && !rack.is_down() => {
+                rack.fit(alloc, dir, site, disks, blocks)
+            }
+            _ => Err(Stop::No(No::Role)),
+        }
+    }
+
+    /// Makes each later call on a disk fail, or ends that.
+    pub fn fail(&mut self, disk: u64, on: bool)
+        ensures stands { (links : List KeptLink) (n : Node) → StandsAt links n self.old → StandsAt links n self.new }
+        ensures asked { disk < units_in self.old → SetsDisk disk on self.old self.new }
+        ensures later { Later self.old self.new }
+    {
+        match self {
+            DiskSet::Bare(rack) if disk < rack.units() as u64 => rack.fail(disk as u32, on),
+            DiskSet::Spoiled(rack) if disk < rack.units() as u64 => rack.fail(disk as u32, on),
+            DiskSet::Up(rvg) if disk < rvg.shelf.units() as u64 => rvg.shelf.fail(disk as u32, on),
+            DiskSet::Down(rack) if disk < rack.units() as u64 => rack.fail(disk as u32, on),
+            _ => {}
+        }
+    }
+
+    /// Sets the fuse of a site that is up: so many writes and flushes pass, and the next is a crash.
+    pub fn fuse(&mut self, calls: u64, pick: u64)
+        ensures fused { (links : List KeptLink) (n : Node) → StandsAt links n self.old → n.state ≡ UpState → StandsAt links (record n { fuse = FuseSet calls }) self.new }
+        ensures asked { (links : List KeptLink) (n : Node) → StandsAt links n self.old → n.state ≡ UpState → SetsFuse calls pick self.old self.new }
+        ensures later { Later self.old self.new }
+    {
+        if let DiskSet::Up(rvg) = self {
+            rvg.shelf.fuse(calls, pick);
+        }
+    }
+
+    /// Crashes a site that is up: of the loose blocks each takes its latest value where its bit in `pick` is 1.
+    pub fn crash(self, pick: u64) -> DiskSet<R>
+        ensures crashed { (links : List KeptLink) (n : Node) → StandsAt links n self → n.state ≡ UpState → CrashedAt links n result }
+        ensures asked { (links : List KeptLink) (n : Node) → StandsAt links n self → n.state ≡ UpState → CrashesBy pick self result }
+        ensures cut { (links : List KeptLink) (n : Node) → CutAt links n self → CrashedAt links n result }
+        ensures stopped { MayCrash pick self result }
+        ensures later { Later self result }
+    {
+        match self {
+            DiskSet::Up(rvg) => {
+                let mut rack = rvg.into_shelf();
+                rack.crash(pick);
+                DiskSet::Down(rack)
+            }
+            other => other,
+        }
+    }
+
+    /// The number of the last write of a site that is up.
+    pub fn last(&self) -> u64
+        ensures { (links : List KeptLink) (n : Node) → StandsAt links n self.now → n.state ≡ UpState → result ≡ n.safe }
+    {
+        match self {
+            DiskSet::Up(rvg) => rvg.head(),
+            _ => 0,
+        }
+    }
+
+    /// What the log of a site that is up keeps of it, where nothing is said of links.
+    pub fn state(&self) -> Option<&State>
+        ensures { (links : List KeptLink) (n : Node) → StandsAt links n self.now → n.state ≡ UpState → IfSome result (λ state. state.now ≡ state_with n state.now.links) × IsSome result }
+    {
+        match self {
+            DiskSet::Up(rvg) => Some(rvg.state()),
+            _ => None,
+        }
+    }
+
+    /// The session of a site that is up.
+    pub fn session(&self) -> u64
+        ensures { (links : List KeptLink) (n : Node) → StandsAt links n self.now → n.state ≡ UpState → result ≡ n.session }
+    {
+        match self {
+            DiskSet::Up(rvg) => rvg.session(),
+            _ => 0,
+        }
+    }
+}

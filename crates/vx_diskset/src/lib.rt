@@ -1,0 +1,12 @@
+//! The disks of one site: bare, under a replicated volume group, or down; and what each call on them makes of the site.
+#![tactic(auto)]
+
+mod disk_set;
+mod reading;
+mod starting;
+mod units;
+mod writing;
+
+pub use disk_set::DiskSet;
+pub use reading::blocks_of;
+pub use units::can_be_raw;

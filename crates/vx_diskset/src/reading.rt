@@ -1,0 +1,32 @@
+// Blocks that are read into a place for them.
+ghost use Rattle.std.specs.Prelude.{◌≡◌, ◌≤◌, ◌<◌, ◌*◌, length, List};
+ghost use Rattle.vx_model.specs.declared.state.KeptLink.{KeptLink};
+ghost use Rattle.vx_history.specs.World.{Node};
+ghost use Rattle.vx_diskset.specs.Asked.{LeavesAlone};
+ghost use Rattle.vx_diskset.specs.DiskSets.{CanRead, Later};
+ghost use Rattle.vx_diskset.specs.Fetching.{GaveAt};
+ghost use Rattle.vx_diskset.specs.Stands.{StandsAt};
+
+use crate::DiskSet;
+use vx_disk::Rack;
+use vx_model::limits::MOST_CALL_BLOCKS;
+use vx_model::{Bytes, No};
+
+/// So many blocks of a volume, by its number, read into a place for them.
+pub fn blocks_of<R: Rack>(
+    disk_set: &mut DiskSet<R>,
+    volume: u32,
+    start: u64,
+    count: u64,
+    mut room: Vec<u8>,
+) -> Result<Bytes, No>
+    requires some { 0 < count }
+    requires few { count ≤ MOST_CALL_BLOCKS }
+    requires room { length room.items ≡ 512 * count }
+    ensures read { (links : List KeptLink) (n : Node) → StandsAt links n disk_set.old → CanRead n volume start count → GaveAt links n volume start count disk_set.old disk_set.new result }
+    ensures still { LeavesAlone disk_set.old disk_set.new }
+    ensures later { Later disk_set.old disk_set.new }
+{
+    disk_set.read(volume, start, &mut room)?;
+    Ok(Bytes::new(room))
+}

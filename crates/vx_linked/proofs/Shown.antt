@@ -1,0 +1,132 @@
+-- What the tests of a line see of a world, as one of its links changes.
+use Rattle.std.proofs.Common.{◌≡◌, ◌∙◌, ◌+◌, ◌<◌, ℕ, zero, suc, Bool, true, false, List, [], ◌∷◌, length, get_or, ap, sym, refl, arith}
+use Rattle.std.specs.Prelude.{Option, Some, None, cond, nat_lt, slice_get, slice_set, unwrap_or}
+use Rattle.std.specs.List.{position, position_or_len}
+use Rattle.std.specs.Str.{bytes_eq}
+use Rattle.std.proofs.lemmas.List.Folds.{find_at}
+use Rattle.vx_history.specs.Events.{linked_sites}
+use Rattle.vx_history.specs.Sends.{with_link}
+use Rattle.vx_history.specs.World.{Node, Link, World, updated}
+use Rattle.vx_history.proofs.Updates.{at_place}
+use Rattle.vx_model.specs.declared.site.SiteState.{SiteState}
+use Rattle.vx_model.specs.declared.site.SiteState.TheVariants.{Up}
+use Rattle.vx_order.specs.declared.facts.LinkFacts.{LinkFacts}
+use Rattle.vx_order.specs.declared.facts.SiteFacts.{SiteFacts}
+use Rattle.vx_events.specs.Facts.{seat_of, site_fact, site_number, values_from}
+use Rattle.vx_events.specs.LinkedFacts.{link_fact, link_facts, links_by, links_in, linked_fact, linked_facts}
+use Rattle.vx_events.proofs.LinkTesting.{all_linked, found_link, seats_same}
+use Rattle.vx_events.proofs.Places.{position_within, some_same}
+use Rattle.vx_events.proofs.Values.{length-values_from, slice_get-values_from}
+use Rattle.vx_linked.specs.Tables.{Found, place_to, relinked, site_relinked}
+use Rattle.vx_linked.proofs.Links.{apart, leads_to, link_facts_set, made_same, sites_same, updated_other}
+
+place_by : (b : Bool) (n i : ℕ) → cond b (Some n) None ≡ Some i → n ≡ i
+place_by true n i e = some_same e
+place_by false n i e = absurd (cc)
+
+-- the place that was found is the first one
+pub first_place : {A : Type 0} (p : A → Bool) (xs : List A) (i : ℕ) → position p xs ≡ Some i → i ≡ position_or_len p xs
+first_place p xs i e = sym (place_by (nat_lt (position_or_len p xs) (length xs)) (position_or_len p xs) i e)
+
+-- the values of a function that differs at one place
+values_same : {A : Type 0} (f h : ℕ → A) (k n : ℕ) → ((j : ℕ) → k < j + 1 → h j ≡ f j) → values_from h k n ≡ values_from f k n
+values_same f h k zero same = refl
+values_same f h k (suc n) same =
+    ap (λ y. y ∷ values_from h (k + 1) n) (same k (omega arith)) ∙ ap (λ ys. f k ∷ ys) (values_same f h (k + 1) n (λ j past. same j (omega arith)))
+
+pub values_from-set : {A : Type 0} (f h : ℕ → A) (k n i : ℕ) (x : A) → h (k + i) ≡ x → ((j : ℕ) → (j ≡ k + i → ⊥) → h j ≡ f j) → values_from h k n ≡ slice_set (values_from f k n) i x
+values_from-set f h k zero i x here there = refl
+values_from-set f h k (suc n) zero x here there =
+    let e : k + 0 ≡ k = omega arith in
+    ap (λ y. y ∷ values_from h (k + 1) n) (ap h (sym e) ∙ here) ∙ ap (λ ys. x ∷ ys) (values_same f h (k + 1) n (λ j past. there j (omega arith)))
+values_from-set f h k (suc n) (suc i) x here there =
+    let e : (k + 1) + i ≡ k + suc i = omega arith in
+    ap (λ y. y ∷ values_from h (k + 1) n) (there k (omega arith))
+    ∙ ap (λ ys. f k ∷ ys) (values_from-set f h (k + 1) n i x (ap h e ∙ here) (λ j apart. there j (λ is. apart (is ∙ sym e))))
+
+-- a site with these links
+module _ (w : World) where
+  abbrev shown_with : ℕ → (ℕ → Link) → SiteFacts
+  shown_with i row = record (site_fact (w.nodes i)) { links = links_by (w.nodes i).state (link_facts (w.nodes i) row (linked_sites row w.sites 0 w.sites)) }
+
+  -- The facts of a world in which one link changed, but for its place: those of before, with the facts of this link in its place. That is the
+  -- base of every line that changes a link.
+  pub facts_with_link : (p s : ℕ) (l : Link) → (w.nodes p).state ≡ Up → l.made ≡ (w.links p s).made
+      → linked_facts (with_link w p s l) ≡ slice_set (linked_facts w) p (site_relinked (linked_fact w p) (position_or_len (leads_to s) (links_in w p)) (link_fact (w.nodes p) s l))
+  facts_with_link p s l up same =
+      let n : Node = w.nodes p in
+      let row : ℕ → Link = w.links p in
+      let next : ℕ → Link = updated row s l in
+      let ss : List ℕ = linked_sites row w.sites 0 w.sites in
+      let start : 0 + p ≡ p = omega arith in
+      let place : ℕ = position_or_len (leads_to s) (links_in w p) in
+      let links : link_facts n next (linked_sites next w.sites 0 w.sites) ≡ slice_set (links_in w p) place (link_fact n s l)
+      = ap (link_facts n next) (sites_same row next (made_same row s l same) w.sites 0 w.sites) ∙ link_facts_set n row s l ss (apart row w.sites 0 w.sites) in
+      let here : shown_with p next ≡ site_relinked (linked_fact w p) place (link_fact n s l)
+      = ap (λ (ls : List LinkFacts). let f : SiteFacts = record (site_fact n) { links = links_by n.state ls } in f) links
+      ∙ ap (λ (ls : List LinkFacts). let f : SiteFacts = record (site_fact n) { links = ls } in f)
+      (ap (λ (t : SiteState). links_by t (slice_set (links_in w p) place (link_fact n s l))) up
+      ∙ ap (λ (t : SiteState). slice_set (links_by t (links_in w p)) place (link_fact n s l)) (sym up)) in
+      values_from-set (λ i. linked_fact w i) (λ i. linked_fact (with_link w p s l) i) 0 w.sites p (site_relinked (linked_fact w p) place (link_fact n s l))
+      (ap (λ (i : ℕ). linked_fact (with_link w p s l) i) start ∙ ap (shown_with p) (at_place w.links p next) ∙ here)
+      (λ j apart. ap (shown_with j) (updated_other w.links p j next (λ e. apart (e ∙ sym start))))
+
+-- ---- the link that a line names
+
+pub number_is : (w : World) (name : List ℕ) (k : ℕ) → seat_of (linked_facts w) name ≡ Some k → k ≡ site_number w name
+number_is w name k is = sym (ap (λ (o : Option ℕ). unwrap_or o 0) (sym (seats_same w name) ∙ is))
+
+module _ (w : World) (from to : List ℕ) (f : Found (linked_facts w) from to) where
+  abbrev a : ℕ
+  a = site_number w from
+
+  abbrev b : ℕ
+  b = site_number w to
+
+  pub here_is : f.here ≡ a
+  here_is = number_is w from f.here f.first
+
+  pub there_is : f.there ≡ b
+  there_is = number_is w to f.there f.second
+
+  pub here_below : a < w.sites
+  here_below =
+      let inside : f.here < length (linked_facts w) = position_within (λ site. bytes_eq site.name from) (linked_facts w) f.here f.first in
+      let many : length (linked_facts w) ≡ w.sites = length-values_from (λ i. linked_fact w i) 0 w.sites in
+      omega (arith, inside, many, here_is)
+
+  pub site_there : f.site ≡ linked_fact w a
+  site_there =
+      let start : 0 + a ≡ a = omega arith in
+      some_same
+      (sym f.site_is ∙ ap (slice_get (linked_facts w)) here_is ∙ slice_get-values_from (λ i. linked_fact w i) 0 w.sites a here_below ∙ ap (λ (i : ℕ). Some (linked_fact w i)) start)
+
+  module _ (up : (w.nodes a).state ≡ Up) where
+    links_there : f.site.links ≡ links_in w a
+    links_there = ap (λ (site : SiteFacts). site.links) site_there ∙ ap (λ (t : SiteState). links_by t (links_in w a)) up
+
+    place_there : place_to b (links_in w a) ≡ Some f.place
+    place_there = ap (place_to b) (sym links_there) ∙ ap (λ (k : ℕ). place_to k f.site.links) (sym there_is) ∙ f.place_is
+
+    pub place_is : f.place ≡ position_or_len (leads_to b) (links_in w a)
+    place_is = first_place (leads_to b) (links_in w a) f.place place_there
+
+    pub link_there : f.link ≡ link_fact (w.nodes a) b (w.links a b)
+    link_there =
+        (found_link (w.nodes a) (w.links a) (linked_sites (w.links a) w.sites 0 w.sites) b f.link (all_linked (w.links a) w.sites 0 w.sites)
+        (find_at (leads_to b) (links_in w a) ∙ ap (slice_get (links_in w a)) (sym place_is) ∙ ap (λ (ls : List LinkFacts). slice_get ls f.place) (sym links_there) ∙ f.link_is)).0
+
+    -- the facts with another link in its place
+    pub relinked_is : (l : Link) → l.made ≡ (w.links a b).made → relinked (linked_facts w) f.here f.site f.place (link_fact (w.nodes a) b l) ≡ linked_facts (with_link w a b l)
+    relinked_is l same =
+        let x : LinkFacts = link_fact (w.nodes a) b l in
+        ap (λ (i : ℕ). relinked (linked_facts w) i f.site f.place x) here_is
+        ∙ ap (λ (site : SiteFacts). relinked (linked_facts w) a site f.place x) site_there
+        ∙ ap (λ (k : ℕ). relinked (linked_facts w) a (linked_fact w a) k x) place_is
+        ∙ sym (facts_with_link w a b l up same)
+
+-- an element that an index gave
+pub get_at : {A : Type 0} (xs : List A) (i : ℕ) (x : A) → i < length xs → x ≡ get_or xs i x → slice_get xs i ≡ Some x
+get_at [] i x h e = absurd (omega arith)
+get_at (y ∷ xs) zero x h e = ap (λ z. Some z) (sym e)
+get_at (y ∷ xs) (suc i) x h e = get_at xs i x (omega arith) e

@@ -1,0 +1,5 @@
+pub mod Tables
+pub mod Turns
+pub mod Greetings
+pub mod Waits
+pub mod Disks

@@ -1,6 +1,0 @@
-use Rattle.std.proofs.Common.{subst}
-use Rattle.vx_node.specs.Asked.{MayCrash}
-use Rattle.vx_node.proofs.disk_set.DiskSet.fall.Goals as goal
-
-pub returns-clause-stopped : goal.returns-clause-stopped
-returns-clause-stopped g c = subst (λ e. MayCrash 0xffff_ffff_ffff_ffff e c.crash.result) c.replace-disk_set.ensures.value c.crash.ensures.stopped
