@@ -20,6 +20,9 @@ fn volume(
     calls: u64,
     pick: u64,
 ) -> Result<Group<Disks>, OutOfMemory> {
+    if calls > 100 {
+        return Err(OutOfMemory);
+    }
     let mut disks = disks_of(alloc, fails, 2, 1024)?.shelf;
     disks.fuse(BEFORE + calls, pick);
     let mut group = group_on(alloc, Untold { shelf: disks })?;
