@@ -1,10 +1,10 @@
 -- Regions of a map by its blocks, and a block that changes.
 use Rattle.std.proofs.Common.{◌≡◌, ◌≢◌, ◌∙◌, ◌⊎◌, inl, inr, ⊎_elim, ℕ, ◌+◌, ◌-◌, ◌*◌, ◌/◌, ◌%◌, ◌<◌, ◌≤◌, Bool, true, false, List, ◌++◌, length, take, drop, get_or, refl, sym, ap, subst, arith, length-append, length-take, length-drop}
-use Rattle.std.specs.Prelude.{◌&&◌, leb, if◌then◌else◌, nat_eq}
+use Rattle.std.specs.Prelude.{◌&&◌, ◌==◌, leb, if◌then◌else◌, nat_eq}
 use Rattle.std.specs.Cmp.Lexicographic.{same_text}
 use Rattle.std.proofs.lemmas.Cmp.{nat_list_eq_equiv}
 use lib.Pointwise.{pointwise}
-use Rattle.std.proofs.lemmas.Bool.{cases_eq, cases_lt, le-leb}
+use Rattle.std.proofs.lemmas.Bool.{cases_eq, cases_lt, eqb-true, le-leb}
 use Rattle.std.proofs.lemmas.Bool.Decides.{nat_tests}
 use Rattle.std.proofs.lemmas.List.{drop-take, take_all}
 use Rattle.std.proofs.lemmas.List.{get_or-take, get_or-drop}
@@ -14,8 +14,9 @@ use Rattle.vx_model.specs.Content.{block_of}
 use Rattle.vx_disk.specs.Moves.{Blocks, Moves, Run}
 use Rattle.vx_disk.specs.Shelf.{Covers, Each, Goes, Image, Keeps, KeepsAll, Meaning, Or, Written, piece}
 use Rattle.vx_disk.proofs.Moving.{kept_beside, of_goes}
+use Rattle.vx_disk.proofs.Runs.{weaker}
 use Rattle.vx_bitmap.specs.Bits.{AllAre, bit, Between, Changed, is_among, is_marked}
-use Rattle.vx_bitmap.specs.Maps.{Changing, Map, MapOn, blocks_of, is_marked_in, regions_of}
+use Rattle.vx_bitmap.specs.Maps.{ChangedAt, Changing, Map, MapOn, blocks_of, is_marked_in, regions_of}
 
 -- a region is marked where its block has it marked
 pub by_block : (bytes : List ℕ) (r : ℕ) → is_marked bytes r ≡ is_marked (block_of bytes (r / 4096)) (r % 4096)
@@ -133,6 +134,25 @@ module _ (map : Map) (block start end : ℕ) (value : Bool) (fresh : List ℕ) (
       of_goes (Run map.unit map.first (blocks_of map)) (Changing map start end value m) (Written map.unit (map.first + block) fresh) m m' goes
       (λ u b v is. record { there = is.covers.there; first = omega (arith, is.covers.first); last = omega (arith, is.covers.first, is.covers.last, long, inside) })
       (λ i each. image_changing m i whole long each)
+
+  -- and what it leaves of each block
+  pub block_writes : (m m' : Meaning) → length fresh ≡ 512 → block < blocks_of map → Goes (Written map.unit (map.first + block) fresh) m m' → Goes (ChangedAt map start end value m) m m'
+  block_writes m m' long inside goes =
+      weaker (Written map.unit (map.first + block) fresh) (ChangedAt map start end value m) m m' goes
+      (λ u b x is.
+      let at : map.first + block ≡ b = omega (arith, is.covers.first, is.covers.last, long) in
+      let same : x ≡ fresh = is.value ∙ piece_whole (map.first + block) b fresh long (sym at) in
+      record {
+        run = record { there = is.covers.there; first = omega (arith, at); last = omega (arith, at, inside) };
+        so = λ on. record { each = λ r low. by r x b same at (map.first + r / 4096 == b) refl };
+      })
+    where
+      by : (r : ℕ) (x : List ℕ) (b : ℕ) → x ≡ fresh → map.first + block ≡ b → (t : Bool) → (map.first + r / 4096 == b) ≡ t
+          → ((if t then is_marked x (r % 4096) else is_marked map.bytes r) ≡ is_marked map.bytes r) ⊎ ((is_among start end r ≡ true) × ((if t then is_marked x (r % 4096) else is_marked map.bytes r) ≡ value))
+      by r x b same at false test = inl refl
+      by r x b same at true test =
+          let here : map.first + r / 4096 ≡ b = eqb-true (map.first + r / 4096) b test in
+          chosen (is_among start end r) value (is_marked map.bytes r) (is_marked x (r % 4096)) (ap (λ (y : List ℕ). is_marked y (r % 4096)) same ∙ fresh_marks r (omega (arith, here, at)))
 
   -- behind it the map stands with the fresh block
   pub block_stands : (m m' : Meaning) (bytes : List ℕ) → length fresh ≡ 512 → Goes (Written map.unit (map.first + block) fresh) m m' → KeepsAll m' map.unit (map.first + block) fresh

@@ -1,17 +1,18 @@
 -- A run of regions that passes the ends of blocks.
 use Rattle.std.proofs.Common.{◌≡◌, ◌∙◌, ◌⊎◌, inl, inr, ⊎_elim, ℕ, ◌+◌, ◌-◌, ◌*◌, ◌/◌, ◌%◌, ◌<◌, ◌≤◌, Bool, true, false, List, length, IsTrue, refl, sym, ap, subst, arith}
-use Rattle.std.specs.Prelude.{◌&&◌, leb, ltb, if◌then◌else◌, min, max, Err}
+use Rattle.std.specs.Prelude.{◌&&◌, ◌==◌, leb, ltb, if◌then◌else◌, min, max, Err}
 use Rattle.std.proofs.lemmas.Bool.{and_parts, and_from, cases_lt, lt-ltb, le-leb, leb-true}
 use Rattle.std.proofs.lemmas.Bool.Decides.{nat_tests}
 use Rattle.vx_disk.specs.Causes.{Cause, DeviceCause, refusal_of}
 use Rattle.vx_disk.specs.Counts.{Rose}
 use Rattle.vx_disk.specs.Moves.{Moves, Run}
-use Rattle.vx_disk.specs.Shelf.{Image, Meaning}
+use Rattle.vx_disk.specs.Shelf.{Goes, Image, Meaning, Or, Values}
 use Rattle.vx_disk.specs.declared.shelf.ShelfError.{ShelfError}
 use Rattle.vx_disk.specs.declared.shelf.ShelfError.TheVariants.{Fault, Down}
 use Rattle.vx_disk.proofs.Moving.{goes_on, still}
+use Rattle.vx_disk.proofs.Runs.{both_Goes, weaker}
 use Rattle.vx_bitmap.specs.Bits.{AllAre, Between, Changed, ChangedBelow, is_among, is_marked}
-use Rattle.vx_bitmap.specs.Maps.{Changing, Map, MapOn, blocks_of, is_marked_in, regions_of}
+use Rattle.vx_bitmap.specs.Maps.{ChangedAt, Changing, Map, MapOn, blocks_of, is_marked_in, marks_with, regions_of}
 use Rattle.vx_bitmap.proofs.Marks.{below_end, below_start}
 
 -- ---- tests of the run and of its part in a block
@@ -137,6 +138,40 @@ module _ (unit first start end n from to : ℕ) (value : Bool) (old mid_bytes : 
       wider_run r is =
           let parts = and_parts (leb from r) (leb r to) is in
           among_is start end r (let le = leb-true from r parts.0 in omega (arith, le, from_is)) (let le = leb-true r to parts.1 in omega (arith, le, to_is))
+
+  -- the same block by block
+  pub next_writes : Goes (ChangedAt (record { unit = unit; first = first; bytes = old }) start end value m) m mid → Goes (ChangedAt (record { unit = unit; first = first; bytes = mid_bytes }) from to value mid) mid m'
+      → Goes (ChangedAt (record { unit = unit; first = first; bytes = old }) start end value m) m m'
+  next_writes one two =
+      weaker (Or before (ChangedAt (record { unit = unit; first = first; bytes = mid_bytes }) from to value mid)) before m m' (both_Goes before (ChangedAt (record { unit = unit; first = first; bytes = mid_bytes }) from to value mid) m mid m' one two)
+      (λ u b x. ⊎_elim (λ is. is) (λ is. record {
+        run = record { there = is.run.there; first = is.run.first; last = omega (arith, is.run.last, at.long) };
+        so = λ on. record { each = λ r low. by r x b ((is.so (at.stands on)).each r (omega (arith, low, at.long))) (first + r / 4096 == b) refl low };
+      }))
+    where
+      before : Values
+      before = ChangedAt (record { unit = unit; first = first; bytes = old }) start end value m
+
+      wider_to : (r : ℕ) → is_among from to r ≡ true → is_among start end r ≡ true
+      wider_to r is =
+          let parts = and_parts (leb from r) (leb r to) is in
+          among_is start end r (let le = leb-true from r parts.0 in omega (arith, le, from_is)) (let le = leb-true r to parts.1 in omega (arith, le, to_is))
+
+      by : (r : ℕ) (x : List ℕ) (b : ℕ)
+          → (marks_with (record { unit = unit; first = first; bytes = mid_bytes }) b x r ≡ is_marked mid_bytes r) ⊎ ((is_among from to r ≡ true) × (marks_with (record { unit = unit; first = first; bytes = mid_bytes }) b x r ≡ value))
+          → (t : Bool) → (first + r / 4096 == b) ≡ t → r < 8 * length old
+          → (marks_with (record { unit = unit; first = first; bytes = old }) b x r ≡ is_marked old r) ⊎ ((is_among start end r ≡ true) × (marks_with (record { unit = unit; first = first; bytes = old }) b x r ≡ value))
+      by r x b now false test low = inl (ap (λ (t : Bool). if t then is_marked x (r % 4096) else is_marked old r) test)
+      by r x b now true test low =
+          let here : marks_with (record { unit = unit; first = first; bytes = old }) b x r ≡ is_marked x (r % 4096) = ap (λ (t : Bool). if t then is_marked x (r % 4096) else is_marked old r) test in
+          let there : is_marked x (r % 4096) ≡ marks_with (record { unit = unit; first = first; bytes = mid_bytes }) b x r = sym (ap (λ (t : Bool). if t then is_marked x (r % 4096) else is_marked mid_bytes r) test) in
+          elim now [
+            | inl same ↦ elim (below_is start end n r value (is_marked old r) (is_marked mid_bytes r) (at.below.each r low)) [
+              | inl was ↦ inl (here ∙ there ∙ same ∙ was)
+              | inr set ↦ inr (set.0, here ∙ there ∙ same ∙ set.1)
+            ]
+            | inr set ↦ inr (wider_to r set.0, here ∙ there ∙ set.1)
+          ]
 
   pub done_next : (now : List ℕ) → length now ≡ length mid_bytes → Changed from to value (8 * length mid_bytes) (is_marked mid_bytes) (is_marked now)
       → Moves (Run unit first (length mid_bytes / 512)) (Changing (record { unit = unit; first = first; bytes = mid_bytes }) from to value mid) mid m'

@@ -2,7 +2,7 @@
 ghost use Rattle.std.specs.Prelude.{◌≡◌, ◌+◌, ◌*◌, ◌/◌, ◌<◌, ◌≤◌, ◌%◌, true, false, ℕ, IfOk, IfErr, IsFalse, OnOk, length};
 ghost use Rattle.std.specs.Int.{div_ceil};
 ghost use Rattle.vx_bitmap.specs.Bits.{AllAre, Between, Changed, is_marked as is_marked_is};
-ghost use Rattle.vx_bitmap.specs.Maps.{Changing, IsRead, Lies, LoadCause, Loaded, Map, MapOn, blocks_of, SamePlace, regions_of};
+ghost use Rattle.vx_bitmap.specs.Maps.{ChangedAt, Changing, IsRead, Lies, LoadCause, Loaded, Map, MapOn, UnitCause, blocks_of, SamePlace, regions_of};
 ghost use Rattle.vx_disk.specs.Causes.{DeviceCause};
 ghost use Rattle.vx_disk.specs.Moves.{Moves, Run, Settled};
 ghost use Rattle.vx_disk.specs.Shelf.{Goes, Nothing};
@@ -82,11 +82,13 @@ impl Bitmap {
         requires some { start ≤ end }
         requires inside { end < regions_of self.old }
         ensures moves { Moves (Run self.old.unit self.old.first (blocks_of self.old)) (Changing self.old start end true (S.meaning shelf.old)) (S.meaning shelf.old) (S.meaning shelf.new) }
+        ensures writes { Goes (ChangedAt self.old start end true (S.meaning shelf.old)) (S.meaning shelf.old) (S.meaning shelf.new) }
         ensures stands { OnOk result (MapOn self.old (S.meaning shelf.old) → MapOn self.new (S.meaning shelf.new)) }
         ensures changed { OnOk result (Changed start end true (regions_of self.old) (is_marked_is self.old.bytes) (is_marked_is self.new.bytes)) }
         ensures part { Between start end true (regions_of self.old) (is_marked_is self.old.bytes) (is_marked_is self.new.bytes) }
         ensures place { SamePlace self.old self.new }
         ensures cause { IfErr result (DeviceCause (S.meaning shelf.old) (S.meaning shelf.new)) }
+        ensures unit { UnitCause self.old.unit (S.meaning shelf.old) (S.meaning shelf.new) result }
         ensures nothing { AllAre start end true (is_marked_is self.old.bytes) → shelf.new ≡ shelf.old }
     {
         match change(
@@ -109,11 +111,13 @@ impl Bitmap {
         requires some { start ≤ end }
         requires inside { end < regions_of self.old }
         ensures moves { Moves (Run self.old.unit self.old.first (blocks_of self.old)) (Changing self.old start end false (S.meaning shelf.old)) (S.meaning shelf.old) (S.meaning shelf.new) }
+        ensures writes { Goes (ChangedAt self.old start end false (S.meaning shelf.old)) (S.meaning shelf.old) (S.meaning shelf.new) }
         ensures stands { OnOk result (MapOn self.old (S.meaning shelf.old) → MapOn self.new (S.meaning shelf.new)) }
         ensures changed { OnOk result (Changed start end false (regions_of self.old) (is_marked_is self.old.bytes) (is_marked_is self.new.bytes)) }
         ensures part { Between start end false (regions_of self.old) (is_marked_is self.old.bytes) (is_marked_is self.new.bytes) }
         ensures place { SamePlace self.old self.new }
         ensures cause { IfErr result (DeviceCause (S.meaning shelf.old) (S.meaning shelf.new)) }
+        ensures unit { UnitCause self.old.unit (S.meaning shelf.old) (S.meaning shelf.new) result }
         ensures nothing { AllAre start end false (is_marked_is self.old.bytes) → shelf.new ≡ shelf.old }
     {
         match change(
@@ -135,11 +139,13 @@ impl Bitmap {
         requires lies { Lies self.old (S.meaning shelf.old) }
         requires inside { region < regions_of self.old }
         ensures moves { Moves (Run self.old.unit self.old.first (blocks_of self.old)) (Changing self.old region region true (S.meaning shelf.old)) (S.meaning shelf.old) (S.meaning shelf.new) }
+        ensures writes { Goes (ChangedAt self.old region region true (S.meaning shelf.old)) (S.meaning shelf.old) (S.meaning shelf.new) }
         ensures stands { OnOk result (MapOn self.old (S.meaning shelf.old) → MapOn self.new (S.meaning shelf.new)) }
         ensures changed { OnOk result (Changed region region true (regions_of self.old) (is_marked_is self.old.bytes) (is_marked_is self.new.bytes)) }
         ensures part { Between region region true (regions_of self.old) (is_marked_is self.old.bytes) (is_marked_is self.new.bytes) }
         ensures place { SamePlace self.old self.new }
         ensures cause { IfErr result (DeviceCause (S.meaning shelf.old) (S.meaning shelf.new)) }
+        ensures unit { UnitCause self.old.unit (S.meaning shelf.old) (S.meaning shelf.new) result }
         ensures nothing { AllAre region region true (is_marked_is self.old.bytes) → shelf.new ≡ shelf.old }
     {
         self.set_run(shelf, region, region)
@@ -150,11 +156,13 @@ impl Bitmap {
         requires lies { Lies self.old (S.meaning shelf.old) }
         requires inside { region < regions_of self.old }
         ensures moves { Moves (Run self.old.unit self.old.first (blocks_of self.old)) (Changing self.old region region false (S.meaning shelf.old)) (S.meaning shelf.old) (S.meaning shelf.new) }
+        ensures writes { Goes (ChangedAt self.old region region false (S.meaning shelf.old)) (S.meaning shelf.old) (S.meaning shelf.new) }
         ensures stands { OnOk result (MapOn self.old (S.meaning shelf.old) → MapOn self.new (S.meaning shelf.new)) }
         ensures changed { OnOk result (Changed region region false (regions_of self.old) (is_marked_is self.old.bytes) (is_marked_is self.new.bytes)) }
         ensures part { Between region region false (regions_of self.old) (is_marked_is self.old.bytes) (is_marked_is self.new.bytes) }
         ensures place { SamePlace self.old self.new }
         ensures cause { IfErr result (DeviceCause (S.meaning shelf.old) (S.meaning shelf.new)) }
+        ensures unit { UnitCause self.old.unit (S.meaning shelf.old) (S.meaning shelf.new) result }
         ensures nothing { AllAre region region false (is_marked_is self.old.bytes) → shelf.new ≡ shelf.old }
     {
         self.clear_run(shelf, region, region)

@@ -1,9 +1,10 @@
 // The change of a run of regions.
 ghost use Rattle.std.specs.Prelude.{◌≡◌, ◌+◌, ◌*◌, ◌/◌, ◌%◌, ◌<◌, ◌≤◌, ◌^◌, ℕ, length, IfErr, OnOk, OnErr, Err};
 ghost use Rattle.vx_bitmap.specs.Bits.{AllAre, Between, Changed, is_marked};
-ghost use Rattle.vx_bitmap.specs.Maps.{Changing, Lies, MapOn};
+ghost use Rattle.vx_bitmap.specs.Maps.{ChangedAt, Changing, Lies, MapOn, ShelfCause};
 ghost use Rattle.vx_disk.specs.Causes.{Cause, DeviceCause, refusal_of};
 ghost use Rattle.vx_disk.specs.Moves.{Moves, Run};
+ghost use Rattle.vx_disk.specs.Shelf.{Goes};
 
 use crate::run::mark_run;
 use vx_disk::{Shelf, ShelfError, put};
@@ -26,10 +27,12 @@ fn change_block<S: Shelf>(
     requires to { end < 4096 * block + 4096 }
     requires some { start ≤ end }
     ensures moves { Moves (Run unit first (length bytes.old / 512)) (Changing (record { unit = unit; first = first; bytes = bytes.old }) start end value (S.meaning shelf.old)) (S.meaning shelf.old) (S.meaning shelf.new) }
+    ensures writes { Goes (ChangedAt (record { unit = unit; first = first; bytes = bytes.old }) start end value (S.meaning shelf.old)) (S.meaning shelf.old) (S.meaning shelf.new) }
     ensures stands { OnOk result (MapOn (record { unit = unit; first = first; bytes = bytes.old }) (S.meaning shelf.old) → MapOn (record { unit = unit; first = first; bytes = bytes.new }) (S.meaning shelf.new)) }
     ensures changed { OnOk result (Changed start end value (8 * length bytes.old) (is_marked bytes.old) (is_marked bytes.new)) }
     ensures refused { OnErr result (bytes.new ≡ bytes.old) }
     ensures cause { IfErr result (λ e. Cause {T = Unit {0}} (S.meaning shelf.old) (S.meaning shelf.new) unit (Err e)) }
+    ensures up { ShelfCause unit (S.meaning shelf.old) (S.meaning shelf.new) result }
     ensures nothing { AllAre start end value (is_marked bytes.old) → shelf.new ≡ shelf.old }
 {
     let at = (512 * block) as usize;
@@ -59,10 +62,12 @@ pub(crate) fn change<S: Shelf>(
     requires some { start ≤ end }
     requires last { end < 8 * length bytes.old }
     ensures moves { Moves (Run unit first (length bytes.old / 512)) (Changing (record { unit = unit; first = first; bytes = bytes.old }) start end value (S.meaning shelf.old)) (S.meaning shelf.old) (S.meaning shelf.new) }
+    ensures writes { Goes (ChangedAt (record { unit = unit; first = first; bytes = bytes.old }) start end value (S.meaning shelf.old)) (S.meaning shelf.old) (S.meaning shelf.new) }
     ensures stands { OnOk result (MapOn (record { unit = unit; first = first; bytes = bytes.old }) (S.meaning shelf.old) → MapOn (record { unit = unit; first = first; bytes = bytes.new }) (S.meaning shelf.new)) }
     ensures changed { OnOk result (Changed start end value (8 * length bytes.old) (is_marked bytes.old) (is_marked bytes.new)) }
     ensures part { Between start end value (8 * length bytes.old) (is_marked bytes.old) (is_marked bytes.new) }
     ensures cause { IfErr result (λ e. DeviceCause (S.meaning shelf.old) (S.meaning shelf.new) (refusal_of e)) }
+    ensures up { ShelfCause unit (S.meaning shelf.old) (S.meaning shelf.new) result }
     ensures nothing { AllAre start end value (is_marked bytes.old) → shelf.new ≡ shelf.old }
 {
     for block in start / 4096..end / 4096 + 1 {

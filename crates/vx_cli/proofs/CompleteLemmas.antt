@@ -3,7 +3,9 @@ use Rattle.std.proofs.Common.{◌≡◌, ◌≤◌, ◌<◌, ℕ, suc, Bool, Lis
 use Rattle.std.specs.Prelude.{◌&&◌, ◌==◌}
 use Rattle.std.proofs.lemmas.List.Sums.{sum_by-cons}
 use Rattle.std.specs.Io.KnownBytes.{Appends}
-use Rattle.vx_history.specs.World.{World, empty_world}
+use Rattle.vx_history.specs.Doubts.{Doubted}
+use Rattle.vx_history.specs.World.{empty_world}
+use Rattle.vx_events.specs.Doubts.{sure}
 use Rattle.vx_script.specs.declared.line.ScriptLine.{ScriptLine}
 use Rattle.vx_script.specs.Lines.{lines_of}
 use Rattle.vx_stream.specs.Causes.{Rose}
@@ -100,11 +102,11 @@ not_risen before now still rose = omega (arith, still.same, still.below, rose.ro
 
 module _ (told : Type 0) (files : Bool) where
   -- a line that was done is good
-  said_good : (old new : World) (r : Result (Option ScriptLine) ℕ) (fails : Fails) (text : List ℕ) → SaidStep told files old r fails text new → (column : ℕ) → r ≡ Err column → ⊥
+  said_good : (old new : Doubted) (r : Result (Option ScriptLine) ℕ) (fails : Fails) (text : List ℕ) → SaidStep told files old r fails text new → (column : ℕ) → r ≡ Err column → ⊥
   said_good old new (Ok l) fails text step column e = cc
   said_good old new (Err c) fails text step column e = step
 
-  run_good : (old new : World) (lines : List (List ℕ)) (failures : List Fails) (texts : List (List ℕ)) → Run told files old lines failures texts new → AllGood lines
+  run_good : (old new : Doubted) (lines : List (List ℕ)) (failures : List Fails) (texts : List (List ℕ)) → Run told files old lines failures texts new → AllGood lines
   run_good old new [] [] [] run = tt
   run_good old new [] [] (text ∷ texts) run = tt
   run_good old new [] (fails ∷ failures) texts run = tt
@@ -114,7 +116,7 @@ module _ (told : Type 0) (files : Bool) where
       (said_good old run.0 (script_line line) fails text run.1, run_good run.0 new lines failures texts run.2)
 
   -- where no call failed in all lines, none failed in each
-  run_clean : (old new : World) (lines : List (List ℕ)) (failures : List Fails) (texts : List (List ℕ)) → Run told files old lines failures texts new → all_fails failures ≡ []
+  run_clean : (old new : Doubted) (lines : List (List ℕ)) (failures : List Fails) (texts : List (List ℕ)) → Run told files old lines failures texts new → all_fails failures ≡ []
       → Run told files old lines (no_fails lines) texts new
   run_clean old new [] [] texts run none = run
   run_clean old new [] (fails ∷ failures) texts run none = absurd run
@@ -124,23 +126,23 @@ module _ (told : Type 0) (files : Bool) where
       let both = both_empty fails (all_fails failures) none in
       (run.0, subst (λ (f : Fails). LineStep told files old line f text run.0) both.0 run.1, run_clean run.0 new lines failures texts run.2 both.1)
 
-  module _ {Leaves : World → Type 0} where
+  module _ {Leaves : Doubted → Type 0} where
     -- a wrong line is answered as such, unless something cut the run off
     bad_is : (input : List ℕ) (status : Status) (left w0 w1 : Option (List ℕ)) (f0 f1 : ℕ → ℕ → ℕ) (line column : ℕ)
-        → Outcome told files Leaves 0 empty_world input status left w0 w1 f0 f1 → FirstBad input line column → IsUncut status → status ≡ BadLine line column
+        → Outcome told files Leaves 0 (sure empty_world) input status left w0 w1 f0 f1 → FirstBad input line column → IsUncut status → status ≡ BadLine line column
     bad_is input Done left w0 w1 f0 f1 line column o bad uncut =
-        let good = run_good empty_world o.behind o.part.lines o.part.failures o.part.texts o.run in
+        let good = run_good (sure empty_world) o.behind o.part.lines o.part.failures o.part.texts o.run in
         let e : o.part.lines ++ o.part.others ≡ bad.before ++ bad.bad ∷ bad.others = sym o.split ∙ bad.split in
         let below = ends_before o.part.lines o.part.others bad.before bad.others bad.bad column e good bad.wrong in
         let none : length o.part.others ≡ 0 = ap length o.ends.0 in
         absurd (omega (arith, below, none, ap length e, length-append o.part.lines o.part.others, length-append bad.before (bad.bad ∷ bad.others)))
     bad_is input (BadLine l c) left w0 w1 f0 f1 line column o bad uncut =
-        let good = run_good empty_world o.behind o.part.lines o.part.failures o.part.texts o.run in
+        let good = run_good (sure empty_world) o.behind o.part.lines o.part.failures o.part.texts o.run in
         let both = first_bad o.part.lines o.part.others bad.before bad.others bad.bad c column (sym o.split ∙ bad.split) good bad.good bad.wrong o.ends.1 in
         let at : l ≡ line = omega (arith, o.ends.0, both.0, bad.number) in
         ap (λ (k : ℕ). BadLine k c) at ∙ ap (BadLine line) both.1
     bad_is input TooLong left w0 w1 f0 f1 line column o bad uncut =
-        let good = run_good empty_world o.behind o.part.lines o.part.failures o.part.texts o.run in
+        let good = run_good (sure empty_world) o.behind o.part.lines o.part.failures o.part.texts o.run in
         let below = ends_before o.part.lines o.part.others bad.before bad.others bad.bad column (sym o.split ∙ bad.split) good bad.wrong in
         absurd (omega (arith, below, o.ends.0, bad.few))
     bad_is input Usage left w0 w1 f0 f1 line column o bad uncut = absurd o.ends
@@ -150,7 +152,7 @@ module _ (told : Type 0) (files : Bool) where
 
     -- a good script is done, unless something cut the run off
     done_is : (input : List ℕ) (status : Status) (left w0 w1 : Option (List ℕ)) (f0 f1 : ℕ → ℕ → ℕ)
-        → Outcome told files Leaves 0 empty_world input status left w0 w1 f0 f1 → IsGoodScript input → IsUncut status → status ≡ Done
+        → Outcome told files Leaves 0 (sure empty_world) input status left w0 w1 f0 f1 → IsGoodScript input → IsUncut status → status ≡ Done
     done_is input Done left w0 w1 f0 f1 o script uncut = refl
     done_is input (BadLine l c) left w0 w1 f0 f1 o script uncut =
         absurd (not_bad o.part.others c (others_good o.part.lines o.part.others (subst AllGood o.split script.good)) o.ends.1)
@@ -163,7 +165,7 @@ module _ (told : Type 0) (files : Bool) where
 
     -- a script with too many lines is answered as such, unless something cut the run off
     long_is : (input : List ℕ) (status : Status) (left w0 w1 : Option (List ℕ)) (f0 f1 : ℕ → ℕ → ℕ)
-        → Outcome told files Leaves 0 empty_world input status left w0 w1 f0 f1 → IsTooLong input → IsUncut status → status ≡ TooLong
+        → Outcome told files Leaves 0 (sure empty_world) input status left w0 w1 f0 f1 → IsTooLong input → IsUncut status → status ≡ TooLong
     long_is input Done left w0 w1 f0 f1 o long uncut =
         let e : o.part.lines ++ o.part.others ≡ long.before ++ long.next ∷ long.others = sym o.split ∙ long.split in
         let none : length o.part.others ≡ 0 = ap length o.ends.0 in
@@ -177,7 +179,7 @@ module _ (told : Type 0) (files : Bool) where
     long_is input OutOfMemory left w0 w1 f0 f1 o long uncut = absurd uncut
 
     -- a run that was done, of which no call failed
-    clean_done : (input : List ℕ) (left w0 w1 : Option (List ℕ)) (f0 f1 : ℕ → ℕ → ℕ) → Outcome told files Leaves 0 empty_world input Done left w0 w1 f0 f1 → AreStill f0 f1
+    clean_done : (input : List ℕ) (left w0 w1 : Option (List ℕ)) (f0 f1 : ℕ → ℕ → ℕ) → Outcome told files Leaves 0 (sure empty_world) input Done left w0 w1 f0 f1 → AreStill f0 f1
         → CleanRun told files Leaves (lines_of input) w0 w1
     clean_done input left w0 w1 f0 f1 o still =
         let all : lines_of input ≡ o.part.lines = o.split ∙ ap (λ (ls : List (List ℕ)). o.part.lines ++ ls) o.ends.0 ∙ append-nil o.part.lines in
@@ -185,12 +187,12 @@ module _ (told : Type 0) (files : Bool) where
         (record {
           texts = o.part.texts;
           world = o.behind;
-          run = run_clean empty_world o.behind o.part.lines o.part.failures o.part.texts o.run (still_none (all_fails o.part.failures) f0 f1 o.rose still);
+          run = run_clean (sure empty_world) o.behind o.part.lines o.part.failures o.part.texts o.run (still_none (all_fails o.part.failures) f0 f1 o.rose still);
           appends = subst (λ (t : List ℕ). Appends w0 w1 t) o.ends.2 o.appends;
           leaves = subst Leaves o.last o.leaves;
         })
 
-    clean_is : (input : List ℕ) (status : Status) (left w0 w1 : Option (List ℕ)) (f0 f1 : ℕ → ℕ → ℕ) → Outcome told files Leaves 0 empty_world input status left w0 w1 f0 f1
+    clean_is : (input : List ℕ) (status : Status) (left w0 w1 : Option (List ℕ)) (f0 f1 : ℕ → ℕ → ℕ) → Outcome told files Leaves 0 (sure empty_world) input status left w0 w1 f0 f1
         → IsGoodScript input → (status ≡ ReadFault → ⊥) → (status ≡ WriteFault → ⊥) → AreStill f0 f1 → IsClean told files Leaves status (lines_of input) w0 w1
     clean_is input Done left w0 w1 f0 f1 o script read write still = inl (refl, clean_done input left w0 w1 f0 f1 o still)
     clean_is input (BadLine l c) left w0 w1 f0 f1 o script read write still = let e : BadLine l c ≡ Done = done_is input (BadLine l c) left w0 w1 f0 f1 o script tt in absurd (cc)
@@ -202,10 +204,10 @@ module _ (told : Type 0) (files : Bool) where
 
     -- over the bytes that the source told
     over : (status : Status) (left now_left w0 w1 : Option (List ℕ)) (f0 f1 : ℕ → ℕ → ℕ) (input : List ℕ) → RunIs told files Leaves status left now_left w0 w1 f0 f1 → left ≡ Some input
-        → Outcome told files Leaves 0 empty_world input status now_left w0 w1 f0 f1
+        → Outcome told files Leaves 0 (sure empty_world) input status now_left w0 w1 f0 f1
     over status left now_left w0 w1 f0 f1 input run e =
         let same : run.input ≡ input = subst (λ (l : Option (List ℕ)). MayHave l run.input) e run.has in
-        subst (λ (bytes : List ℕ). Outcome told files Leaves 0 empty_world bytes status now_left w0 w1 f0 f1) same run.outcome
+        subst (λ (bytes : List ℕ). Outcome told files Leaves 0 (sure empty_world) bytes status now_left w0 w1 f0 f1) same run.outcome
 
     pub run_complete : (status : Status) (left now_left w0 w1 : Option (List ℕ)) (f0 f1 : ℕ → ℕ → ℕ) → RunIs told files Leaves status left now_left w0 w1 f0 f1
         → (input : List ℕ) → left ≡ Some input → IsGoodScript input → IsUncut status → status ≡ Done

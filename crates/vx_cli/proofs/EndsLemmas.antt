@@ -2,7 +2,7 @@
 use Rattle.std.proofs.Common.{◌≡◌, ◌≤◌, ◌<◌, ℕ, suc, ◌+◌, Bool, List, [], ◌∷◌, ◌++◌, length, Option, Some, None, Result, Ok, Err, refl, arith, ap, sym, subst, ◌∙◌, append_assoc, append-nil}
 use Rattle.std.specs.List.{concat}
 use Rattle.std.specs.Io.KnownBytes.{Appends}
-use Rattle.vx_history.specs.World.{World}
+use Rattle.vx_history.specs.Doubts.{Doubted}
 use Rattle.vx_script.specs.Lines.{lines_of}
 use Rattle.vx_script.specs.declared.line.ScriptLine.{ScriptLine}
 use Rattle.vx_stream.proofs.SendLemmas.{appends_then}
@@ -79,22 +79,22 @@ abbrev pub one_part : List ℕ → List (List ℕ) → Fails → List ℕ → Pa
 one_part line others fails text = record { lines = line ∷ []; others = others; failures = fails ∷ []; texts = text ∷ [] }
 
 -- nothing of the next line was done
-none_of_line : (r : Result (Option ScriptLine) ℕ) (w : World) → PartOfLine r w w
+none_of_line : (r : Result (Option ScriptLine) ℕ) (w : Doubted) → PartOfLine r w w
 none_of_line (Ok (Some words)) w = none_done w words
 none_of_line (Ok None) w = refl
 none_of_line (Err column) w = refl
 
-none_of_next : (others : List (List ℕ)) (w : World) → PartOfNext others w w
+none_of_next : (others : List (List ℕ)) (w : Doubted) → PartOfNext others w w
 none_of_next [] w = refl
 none_of_next (line ∷ lines) w = none_of_line (script_line line) w
 
-last_same : (status : Status) (others : List (List ℕ)) (w : World) → LastWorld status others w w
+last_same : (status : Status) (others : List (List ℕ)) (w : Doubted) → LastWorld status others w w
 last_same OutOfMemory others w = none_of_next others w
 last_same other others w = refl
 
-module _ {told : Type 0} {files : Bool} {Leaves : World → Type 0} where
+module _ {told : Type 0} {files : Bool} {Leaves : Doubted → Type 0} where
   -- a run goes on after a line as the rest does from there
-  pub outcome_more : (n : ℕ) (old mid : World) (raw line after : List ℕ) (status : Status) (left w0 w1 w2 : Option (List ℕ)) (f0 f1 f2 : ℕ → ℕ → ℕ) (fails : Fails) (text : List ℕ)
+  pub outcome_more : (n : ℕ) (old mid : Doubted) (raw line after : List ℕ) (status : Status) (left w0 w1 w2 : Option (List ℕ)) (f0 f1 f2 : ℕ → ℕ → ℕ) (fails : Fails) (text : List ℕ)
       → IsWhole raw line → LineStep told files old line fails text mid → Appends w0 w1 text → RoseAll fails f0 f1
       → Outcome told files Leaves (n + 1) mid after status left w1 w2 f1 f2 → Outcome told files Leaves n old (raw ++ after) status left w0 w2 f0 f2
   outcome_more n old mid raw line after status left w0 w1 w2 f0 f1 f2 fails text whole step wrote rose rest =
@@ -114,21 +114,21 @@ module _ {told : Type 0} {files : Bool} {Leaves : World → Type 0} where
       }
 
   -- the run ends within its next line
-  pub ends_within : (n : ℕ) (old new : World) (bytes : List ℕ) (status : Status) (left w0 w1 : Option (List ℕ)) (f0 f1 : ℕ → ℕ → ℕ) (out : List ℕ)
+  pub ends_within : (n : ℕ) (old new : Doubted) (bytes : List ℕ) (status : Status) (left w0 w1 : Option (List ℕ)) (f0 f1 : ℕ → ℕ → ℕ) (out : List ℕ)
       → n ≤ 1000000 → LastWorld status (lines_of bytes) old new → Ends n status bytes left (no_part bytes) out → Appends w0 w1 out → RoseAll [] f0 f1 → Leaves new
       → Outcome told files Leaves n old bytes status left w0 w1 f0 f1
   ends_within n old new bytes status left w0 w1 f0 f1 out few last ends wrote rose leaves =
       record { part = no_part bytes; world = new; out = out; split = refl; few = omega arith; behind = old; run = refl; last = last; ends = ends; appends = wrote; rose = rose; leaves = leaves }
 
   -- the run ends before its next line
-  pub ends_here : (n : ℕ) (old : World) (bytes : List ℕ) (status : Status) (left w0 w1 : Option (List ℕ)) (f0 f1 : ℕ → ℕ → ℕ) (out : List ℕ)
+  pub ends_here : (n : ℕ) (old : Doubted) (bytes : List ℕ) (status : Status) (left w0 w1 : Option (List ℕ)) (f0 f1 : ℕ → ℕ → ℕ) (out : List ℕ)
       → n ≤ 1000000 → Ends n status bytes left (no_part bytes) out → Appends w0 w1 out → RoseAll [] f0 f1 → Leaves old
       → Outcome told files Leaves n old bytes status left w0 w1 f0 f1
   ends_here n old bytes status left w0 w1 f0 f1 out few ends wrote rose leaves =
       ends_within n old old bytes status left w0 w1 f0 f1 out few (last_same status (lines_of bytes) old) ends wrote rose leaves
 
   -- the run ends with a line
-  pub ends_one : (n : ℕ) (old new : World) (bytes line : List ℕ) (others : List (List ℕ)) (status : Status) (left w0 w1 : Option (List ℕ)) (f0 f1 : ℕ → ℕ → ℕ)
+  pub ends_one : (n : ℕ) (old new : Doubted) (bytes line : List ℕ) (others : List (List ℕ)) (status : Status) (left w0 w1 : Option (List ℕ)) (f0 f1 : ℕ → ℕ → ℕ)
       (fails : Fails) (text out : List ℕ) → n < 1000000 → lines_of bytes ≡ line ∷ others → LineStep told files old line fails text new → RoseAll fails f0 f1
       → Ends n status bytes left (one_part line others fails text) out → Appends w0 w1 out → Leaves new → Outcome told files Leaves n old bytes status left w0 w1 f0 f1
   ends_one n old new bytes line others status left w0 w1 f0 f1 fails text out few split step rose ends wrote leaves =

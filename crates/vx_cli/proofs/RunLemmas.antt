@@ -1,10 +1,13 @@
 -- A run, and the racks that come back from it.
 use Rattle.std.proofs.Common.{◌≡◌, ℕ, Bool, List, [], ◌∷◌, Option, refl, arith, sym, subst}
-use Rattle.vx_history.specs.World.{World, empty_world}
+use Rattle.vx_history.specs.Doubts.{Doubted}
+use Rattle.vx_history.specs.World.{empty_world}
+use Rattle.vx_events.specs.Doubts.{sure}
 use Rattle.vx_disk.specs.Shelf.{Meaning}
 use Rattle.vx_disk.specs.declared.shelf.Shelf.{Ghosts}
 use Rattle.vx_stream.proofs.SendLemmas.{appends_none}
-use Rattle.vx_history.specs.GoodWorld.{GoodWorld}
+use Rattle.vx_world.specs.Lines.{GoodDoubted}
+use Rattle.vx_world.proofs.Doubting.{quiet_good}
 use Rattle.vx_world.proofs.Whole.{empty_good}
 use Rattle.vx_node.specs.declared.yard.Yard.{Yard}
 use Rattle.vx_node.specs.Holds.{AreFresh, RacksHold, RacksTell, rack_faults}
@@ -19,11 +22,11 @@ use Rattle.vx_cli.specs.Ends.{RunIs}
 use Rattle.vx_cli.specs.Turns.{YardComes}
 use Rattle.vx_cli.proofs.EndsLemmas.{ends_here}
 use Rattle.vx_cli.proofs.ReaderLemmas.{ahead_some}
-use Rattle.vx_cli.proofs.Sounds.{said_sound, last_sound}
+use Rattle.vx_cli.proofs.Sounds.{said_good, last_good}
 use Rattle.vx_cli.proofs.StepLemmas.{line_told, rose_none, rose_same}
 
 -- a run where contents are told is one where even more is told
-run_told : {T U : Type 0} (f : U → T) (files : Bool) (w : World) (lines : List (List ℕ)) (failures : List Fails) (texts : List (List ℕ)) (new : World)
+run_told : {T U : Type 0} (f : U → T) (files : Bool) (w : Doubted) (lines : List (List ℕ)) (failures : List Fails) (texts : List (List ℕ)) (new : Doubted)
     → Run T files w lines failures texts new → Run U files w lines failures texts new
 run_told f files w [] [] [] new run = run
 run_told f files w [] [] (text ∷ texts) new run = run
@@ -34,22 +37,26 @@ run_told f files w (line ∷ lines) (fails ∷ failures) (text ∷ texts) new ru
     (run.0, line_told f files w line fails text run.0 run.1, run_told f files run.0 lines failures texts new run.2)
 
 -- all that holds of every world holds of each world of a run
-world_sound : (told : Type 0) → told → (files : Bool) (w : World) (lines : List (List ℕ)) (failures : List Fails) (texts : List (List ℕ)) (new : World)
-    → GoodWorld w → Run told files w lines failures texts new → GoodWorld new
-world_sound told is files w [] [] [] new sound run = subst GoodWorld (sym run) sound
-world_sound told is files w [] [] (text ∷ texts) new sound run = absurd run
-world_sound told is files w [] (fails ∷ failures) texts new sound run = absurd run
-world_sound told is files w (line ∷ lines) [] texts new sound run = absurd run
-world_sound told is files w (line ∷ lines) (fails ∷ failures) [] new sound run = absurd run
-world_sound told is files w (line ∷ lines) (fails ∷ failures) (text ∷ texts) new sound run =
-    world_sound told is files run.0 lines failures texts new (said_sound is files w (script_line line) fails text run.0 sound run.1) run.2
+world_good : (told : Type 0) → told → (files : Bool) (d : Doubted) (lines : List (List ℕ)) (failures : List Fails) (texts : List (List ℕ)) (new : Doubted)
+    → GoodDoubted d → Run told files d lines failures texts new → GoodDoubted new
+world_good told is files d [] [] [] new good run = subst GoodDoubted (sym run) good
+world_good told is files d [] [] (text ∷ texts) new good run = absurd run
+world_good told is files d [] (fails ∷ failures) texts new good run = absurd run
+world_good told is files d (line ∷ lines) [] texts new good run = absurd run
+world_good told is files d (line ∷ lines) (fails ∷ failures) [] new good run = absurd run
+world_good told is files d (line ∷ lines) (fails ∷ failures) (text ∷ texts) new good run =
+    world_good told is files run.0 lines failures texts new (said_good is files d (script_line line) fails text run.0 good run.1) run.2
+
+-- the world without sites is good, and no site of it is in doubt
+begins_good : GoodDoubted (sure empty_world)
+begins_good = quiet_good (sure empty_world) empty_good (λ s. refl)
 
 module _ {R : Type 0} {g : Ghosts R} where
   -- what a run of a yard came to, with the racks that come back from it
   pub run_is : (files : Bool) (racks : List R) (status : Status) (old new : Yard R g) (left now_left w0 w1 : Option (List ℕ)) (f0 f1 : ℕ → ℕ → ℕ)
-      → YardComes 0 empty_world [] left status old new now_left w0 w1 → in_files old ≡ files
-      → ((w : World) → YardStands w new → RacksHold g.meaning w racks) → ((w : World) → YardStands w new → RacksTell g.meaning racks → IsTold new)
-      → ((s d : ℕ) → count_of old s d ≡ f0 s d) → ((w : World) → YardStands w new → (s d : ℕ) → f1 s d ≡ count_of new s d)
+      → YardComes 0 (sure empty_world) [] left status old new now_left w0 w1 → in_files old ≡ files
+      → ((d : Doubted) → YardStands d new → RacksHold g.meaning d.world racks) → ((w : Doubted) → YardStands w new → RacksTell g.meaning racks → IsTold new)
+      → ((s d : ℕ) → count_of old s d ≡ f0 s d) → ((w : Doubted) → YardStands w new → (s d : ℕ) → f1 s d ≡ count_of new s d)
       → RunIs (RacksTell g.meaning racks) files (Leaves g.meaning racks) status left now_left w0 w1 f0 f1
   run_is files racks status old new left now_left w0 w1 f0 f1 comes kept holds told counts after =
       let o = comes.outcome in
@@ -63,15 +70,16 @@ module _ {R : Type 0} {g : Ghosts R} where
           split = o.split;
           few = o.few;
           behind = o.behind;
-          run = subst (λ (f : Bool). Run (RacksTell g.meaning racks) f empty_world o.part.lines o.part.failures o.part.texts o.behind) kept
-              (run_told (told o.world o.leaves) (in_files old) empty_world o.part.lines o.part.failures o.part.texts o.behind o.run);
+          run = subst (λ (f : Bool). Run (RacksTell g.meaning racks) f (sure empty_world) o.part.lines o.part.failures o.part.texts o.behind) kept
+              (run_told (told o.world o.leaves) (in_files old) (sure empty_world) o.part.lines o.part.failures o.part.texts o.behind o.run);
           last = o.last;
           ends = o.ends;
           appends = o.appends;
           rose = rose_same (all_fails o.part.failures) (count_of old) (count_of new) f0 f1 (λ s d. sym (counts s d)) (after o.world o.leaves) o.rose;
           leaves = record {
-            good = λ tells. last_sound status o.part.others o.behind o.world
-                (world_sound (IsTold new) (told o.world o.leaves tells) (in_files old) empty_world o.part.lines o.part.failures o.part.texts o.behind empty_good o.run) o.last;
+            good = λ tells. last_good status o.part.others o.behind o.world
+                (world_good (IsTold new) (told o.world o.leaves tells) (in_files old) (sure empty_world) o.part.lines o.part.failures o.part.texts o.behind begins_good o.run) o.last;
+            calm = o.leaves.calm;
             holds = holds o.world o.leaves;
           };
         };
@@ -79,8 +87,8 @@ module _ {R : Type 0} {g : Ghosts R} where
 
 module _ {R : Type 0} (meaning : R → Meaning) where
   -- the racks of a world without sites hold it
-  fresh_leave : (racks : List R) → AreFresh meaning racks → Leaves meaning racks empty_world
-  fresh_leave racks fresh = record { good = λ _. empty_good; holds = record { eight = fresh.eight; each = λ s r below at. absurd (omega arith) } }
+  fresh_leave : (racks : List R) → AreFresh meaning racks → Leaves meaning racks (sure empty_world)
+  fresh_leave racks fresh = record { good = λ _. begins_good; calm = refl; holds = record { eight = fresh.eight; each = λ s r below at. absurd (omega arith) } }
 
   -- memory ran out before the run began
   pub run_stops : (T : Type 0) (files : Bool) (racks now : List R) (left w0 : Option (List ℕ)) → AreFresh meaning racks → now ≡ racks
@@ -91,6 +99,6 @@ module _ {R : Type 0} (meaning : R → Meaning) where
       (record {
         input = at.rest;
         has = at.has;
-        outcome = ends_here 0 empty_world at.rest OutOfMemory left w0 w0 (rack_faults meaning racks) (rack_faults meaning racks) [] (omega arith)
+        outcome = ends_here 0 (sure empty_world) at.rest OutOfMemory left w0 w0 (rack_faults meaning racks) (rack_faults meaning racks) [] (omega arith)
             (record { sent = []; unsent = []; texts = refl; last = omega arith; is = refl }) (appends_none w0) (rose_none (rack_faults meaning racks)) (fresh_leave racks fresh);
       })

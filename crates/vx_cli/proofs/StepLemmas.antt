@@ -3,19 +3,21 @@ use Rattle.std.proofs.Common.{◌≡◌, ◌∙◌, ℕ, ◌+◌, Bool, true, fa
 use Rattle.std.proofs.lemmas.List.Sums.{sum_by-append}
 use Rattle.vx_history.specs.Refusals.{Outcome}
 use Rattle.vx_history.specs.Step.{step}
+use Rattle.vx_history.specs.Doubts.{Doubted, happened}
 use Rattle.vx_history.specs.World.{World}
 use Rattle.vx_history.specs.declared.event.Event.{Event}
 use Rattle.vx_history.specs.declared.event.Event.TheVariants.{Read as ReadAt}
 use Rattle.vx_model.specs.declared.no.No.{No}
-use Rattle.vx_order.specs.Order.{refusal_of}
 use Rattle.vx_script.specs.Grammar.{line_of}
 use Rattle.vx_script.specs.declared.line.ScriptLine.{ScriptLine}
 use Rattle.vx_script.specs.declared.line.ScriptLine.TheVariants.{Write, Put}
 use Rattle.vx_script.proofs.GrammarLemmas.{line_of_long}
-use Rattle.vx_events.specs.Ends.{Ends, AllDone, DiskFails, FuseRunsOut, NoNumber, Finds, FindsNone, AppliesFound, place_of}
-use Rattle.vx_events.specs.Facts.{facts_of}
+use Rattle.vx_events.specs.Doubts.{chosen}
+use Rattle.vx_events.specs.Ends.{Ends, AllDone, DiskFails, HeaderFails, FuseRunsOut, NoNumber, Finds, FindsNone, AppliesFound, place_of}
 use Rattle.vx_events.specs.Fails.{Fails}
-use Rattle.vx_events.specs.Lines.{Counts, StepBy}
+use Rattle.vx_events.specs.LinkEnds.{LinkEnds, LinksDone, LinksHalt, AppliesPart, LinksCut, LogUnread, NoHeader}
+use Rattle.vx_events.specs.LinkedFacts.{refused_by}
+use Rattle.vx_events.specs.Lines.{Counts, EndsBy, StepBy, is_of_links}
 use Rattle.vx_events.specs.Lists.{events_of}
 use Rattle.vx_events.specs.Sayings.{RepeatsOf, Replies}
 use Rattle.vx_events.specs.declared.said.Said.{Said}
@@ -47,37 +49,51 @@ module _ {T U : Type 0} (f : U → T) where
   repeats_told s (ReadAt p volume start count) o said x = record { bytes = x.bytes; got = x.got; size = x.size; is = λ u. x.is (f u) }
   repeats_told s other o said x = x
 
-  replies_told : (line : ScriptLine) (s : ℕ) (w : World) (es : List Event) (said : Said) → Replies T line s w es said → Replies U line s w es said
-  replies_told line s w [] said x = x
-  replies_told line s w (e ∷ []) said x = repeats_told s e (step w e) said x
-  replies_told line s w (e ∷ d ∷ es) said x = replies_told line s (step w e).world (d ∷ es) said x
+  replies_told : (line : ScriptLine) (s : ℕ) (taken : Bool) (d : Doubted) (es : List Event) (said : Said) → Replies T line s taken d es said → Replies U line s taken d es said
+  replies_told line s taken d [] said x = x
+  replies_told line s taken d (e ∷ []) said x = repeats_told s e (step (chosen taken d e).world e) said x
+  replies_told line s taken d (e ∷ b ∷ es) said x = replies_told line s taken (happened d e taken) (b ∷ es) said x
 
-  ends_told : (w : World) (line : ScriptLine) (s : ℕ) (fails : Fails) (said : Said) (new : World) → Ends T w line s fails said new → Ends U w line s fails said new
-  ends_told w line s fails said new (AllDone c none replies leads) = AllDone c none (replies_told line s w (events_of w line c) said replies) leads
-  ends_told w line s fails said new (DiskFails c before e rest left disk list leaves one says leads) = DiskFails c before e rest left disk list leaves one says leads
-  ends_told w line s fails said new (FuseRunsOut c e begun list is fused none says leads) = FuseRunsOut c e begun list is fused none says leads
-  ends_told w line s fails said new (NoNumber c before e rest list may least none says leads) = NoNumber c before e rest list may (λ u. least (f u)) none says leads
-  ends_told w line s fails said new (Finds never c site mid n k is from same none says leads) = Finds (λ u. never (f u)) c site mid n k is from same none says leads
-  ends_told w line s fails said new (FindsNone never c site mid n why is from other none says leads) = FindsNone (λ u. never (f u)) c site mid n why is from other none says leads
-  ends_told w line s fails said new (AppliesFound never site to number is role least most none says leads) = AppliesFound (λ u. never (f u)) site to number is role least most none says leads
+  ends_told : (d : Doubted) (line : ScriptLine) (s : ℕ) (fails : Fails) (said : Said) (new : Doubted) → Ends T d line s fails said new → Ends U d line s fails said new
+  ends_told d line s fails said new (AllDone c taken none replies leads) = AllDone c taken none (replies_told line s taken d (events_of d.world line c) said replies) leads
+  ends_told d line s fails said new (DiskFails c taken before e rest left disk list leaves one says leads) = DiskFails c taken before e rest left disk list leaves one says leads
+  ends_told d line s fails said new (HeaderFails c e b disk list leaves writes one says leads) = HeaderFails c e b disk list leaves writes one says leads
+  ends_told d line s fails said new (FuseRunsOut c e begun list is fused none says leads) = FuseRunsOut c e begun list is fused none says leads
+  ends_told d line s fails said new (NoNumber c taken before e rest list may least none says leads) = NoNumber c taken before e rest list may (λ u. least (f u)) none says leads
+  ends_told d line s fails said new (Finds never c taken site mid n k is from same none says leads) = Finds (λ u. never (f u)) c taken site mid n k is from same none says leads
+  ends_told d line s fails said new (FindsNone never c taken site mid n why is from other none says leads) = FindsNone (λ u. never (f u)) c taken site mid n why is from other none says leads
+  ends_told d line s fails said new (AppliesFound never site to number is role least most none says leads) = AppliesFound (λ u. never (f u)) site to number is role least most none says leads
+
+  links_told : (d : Doubted) (line : ScriptLine) (fails : Fails) (said : Said) (new : Doubted) → LinkEnds T d line fails said new → LinkEnds U d line fails said new
+  links_told d line fails said new (LinksDone last runs none is says leads) = LinksDone last runs none is says leads
+  links_told d line fails said new (LinksHalt e site disk middle comes is says leads) = LinksHalt e site disk middle comes is says leads
+  links_told d line fails said new (AppliesPart before rest site count reached disk last split runs none is says leads) = AppliesPart before rest site count reached disk last split runs none is says leads
+  links_told d line fails said new (LinksCut e site kept taken middle comes fused none says leads) = LinksCut e site kept taken middle comes fused none says leads
+  links_told d line fails said new (LogUnread before rest e site disk middle split reads runs none is says leads) = LogUnread before rest e site disk middle split reads runs none is says leads
+  links_told d line fails said new (NoHeader before rest e site middle split takes runs none most is says leads) = NoHeader before rest e site middle split takes runs none (λ u. most (f u)) is says leads
+
+  kind_told : (links : Bool) (d : Doubted) (line : ScriptLine) (fails : Fails) (said : Said) (new : Doubted) → EndsBy links T d line fails said new → EndsBy links U d line fails said new
+  kind_told true d line fails said new x = links_told d line fails said new x
+  kind_told false d line fails said new x = ends_told d line (place_of d.world line) fails said new x
 
   counts_told : (w : World) (line : ScriptLine) (said : Said) → Counts T w line said → Counts U w line said
   counts_told w (Write site volume start count fill) said x = record { done = λ u. x.done (f u); off = λ u. x.off (f u) }
   counts_told w (Put site volume start bytes) said x = record { done = λ u. x.done (f u); off = λ u. x.off (f u) }
   counts_told w other said x = x
 
-  step_by_told : (why : Option No) (w : World) (line : ScriptLine) (fails : Fails) (said : Said) (new : World) → StepBy why T w line fails said new → StepBy why U w line fails said new
-  step_by_told (Some why) w line fails said new x = x
-  step_by_told None w line fails said new x = record { ends = ends_told w line (place_of w line) fails said new x.ends; counts = counts_told w line said x.counts; works = x.works; calls = x.calls }
+  step_by_told : (why : Option No) (d : Doubted) (line : ScriptLine) (fails : Fails) (said : Said) (new : Doubted) → StepBy why T d line fails said new → StepBy why U d line fails said new
+  step_by_told (Some why) d line fails said new x = x
+  step_by_told None d line fails said new x =
+      record { ends = kind_told (is_of_links line) d line fails said new x.ends; counts = counts_told d.world line said x.counts; works = x.works; calls = x.calls }
 
-  pub said_told : (files : Bool) (w : World) (r : Result (Option ScriptLine) ℕ) (fails : Fails) (text : List ℕ) (new : World) → SaidStep T files w r fails text new → SaidStep U files w r fails text new
-  said_told files w (Ok None) fails text new x = x
-  said_told files w (Ok (Some line)) fails text new x =
-      record { said = x.said; step = step_by_told (refusal_of (facts_of w) files line) w line fails x.said new x.step; is = x.is }
-  said_told files w (Err column) fails text new x = x
+  pub said_told : (files : Bool) (d : Doubted) (r : Result (Option ScriptLine) ℕ) (fails : Fails) (text : List ℕ) (new : Doubted) → SaidStep T files d r fails text new → SaidStep U files d r fails text new
+  said_told files d (Ok None) fails text new x = x
+  said_told files d (Ok (Some line)) fails text new x =
+      record { said = x.said; step = step_by_told (refused_by d.world files line) d line fails x.said new x.step; is = x.is }
+  said_told files d (Err column) fails text new x = x
 
-  pub line_told : (files : Bool) (w : World) (line : List ℕ) (fails : Fails) (text : List ℕ) (new : World) → LineStep T files w line fails text new → LineStep U files w line fails text new
-  line_told files w line fails text new x = said_told files w (script_line line) fails text new x
+  pub line_told : (files : Bool) (d : Doubted) (line : List ℕ) (fails : Fails) (text : List ℕ) (new : Doubted) → LineStep T files d line fails text new → LineStep U files d line fails text new
+  line_told files d line fails text new x = said_told files d (script_line line) fails text new x
 
 -- ---- a line that is done is of a kind that is built
 

@@ -1,7 +1,9 @@
 -- One turn of the loop, and the loop.
 use Rattle.std.proofs.Common.{◌≡◌, ◌≤◌, ◌<◌, ℕ, ◌+◌, Bool, List, [], ◌∷◌, ◌++◌, Option, Some, None, Result, Ok, Err, refl, arith, ap, sym, subst, ◌∙◌, append-nil, inl, inr, ◌⊎◌}
 use Rattle.std.specs.Io.KnownBytes.{Appends}
-use Rattle.vx_history.specs.World.{World, empty_world}
+use Rattle.vx_history.specs.Doubts.{Doubted}
+use Rattle.vx_history.specs.World.{empty_world}
+use Rattle.vx_events.specs.Doubts.{sure}
 use Rattle.vx_disk.specs.declared.shelf.Shelf.{Ghosts}
 use Rattle.vx_script.specs.Lines.{lines_of, IsPlain}
 use Rattle.vx_script.specs.declared.line.ScriptLine.{ScriptLine}
@@ -24,11 +26,11 @@ use Rattle.vx_cli.proofs.ReaderLemmas.{ahead_some}
 
 module _ {R : Type 0} {g : Ghosts R} where
   -- nothing was done
-  pub stays : (w : World) (y : Yard R g) → YardStands w y → StaysFor w y y
+  pub stays : (w : Doubted) (y : Yard R g) → YardStands w y → StaysFor w y y
   stays w y stands = record { stands = stands; rose = rose_none (count_of y) }
 
   -- an empty line or a comment
-  pub did_nothing : (w : World) (line : List ℕ) (y : Yard R g) → script_line line ≡ Ok None → YardStands w y → Did w line y y []
+  pub did_nothing : (w : Doubted) (line : List ℕ) (y : Yard R g) → script_line line ≡ Ok None → YardStands w y → Did w line y y []
   did_nothing w line y e stands = record {
     world = w;
     fails = [];
@@ -38,21 +40,21 @@ module _ {R : Type 0} {g : Ghosts R} where
   }
 
   -- a line that the yard did
-  pub did_line : (w : World) (line : List ℕ) (words : ScriptLine) (old new : Yard R g) (text : List ℕ) → script_line line ≡ Ok (Some words) → Steps w words old new text → Did w line old new text
+  pub did_line : (w : Doubted) (line : List ℕ) (words : ScriptLine) (old new : Yard R g) (text : List ℕ) → script_line line ≡ Ok (Some words) → Steps w words old new text → Did w line old new text
   did_line w line words old new text e steps = record {
-    world = steps.world;
+    world = steps.next;
     fails = steps.fails;
-    step = subst (λ (r : Result (Option ScriptLine) ℕ). SaidStep (IsTold new) (in_files old) w r steps.fails text steps.world) (sym e) steps.prints;
+    step = subst (λ (r : Result (Option ScriptLine) ℕ). SaidStep (IsTold new) (in_files old) w r steps.fails text steps.next) (sym e) steps.prints;
     stands = steps.stands;
     rose = steps.rose;
   }
 
-  pub memory_answer : (w : World) (line : List ℕ) (words : ScriptLine) (old new : Yard R g) → script_line line ≡ Ok (Some words) → StopsShort w words old new ⊎ ((text : List ℕ) × Steps w words old new text)
+  pub memory_answer : (w : Doubted) (line : List ℕ) (words : ScriptLine) (old new : Yard R g) → script_line line ≡ Ok (Some words) → StopsShort w words old new ⊎ ((text : List ℕ) × Steps w words old new text)
       → MemoryStops w line old new
   memory_answer w line words old new e (inl short) = StopsWithin words e short
   memory_answer w line words old new e (inr did) = StopsBehind did.0 (did_line w line words old new did.0 e did.1)
 
-  pub bad_answer : (n : ℕ) (w : World) (line : List ℕ) (column : ℕ) (status : Status) (y : Yard R g) (w0 w1 : Option (List ℕ))
+  pub bad_answer : (n : ℕ) (w : Doubted) (line : List ℕ) (column : ℕ) (status : Status) (y : Yard R g) (w0 w1 : Option (List ℕ))
       → script_line line ≡ Err column → YardStands w y → BadIs (n + 1) column status w0 w1 → AnswerIs n w line (Some status) y y w0 w1
   bad_answer n w line column (BadLine l c) y w0 w1 e stands is = (
     is.0,
@@ -68,7 +70,7 @@ module _ {R : Type 0} {g : Ghosts R} where
   bad_answer n w line column TooLong y w0 w1 e stands is = absurd is
 
   -- the run ends before its next line
-  comes_here : (n : ℕ) (w : World) (held : List ℕ) (left : Option (List ℕ)) (bytes : List ℕ) (status : Status) (old new : Yard R g) (now_left w0 w1 : Option (List ℕ)) (out : List ℕ)
+  comes_here : (n : ℕ) (w : Doubted) (held : List ℕ) (left : Option (List ℕ)) (bytes : List ℕ) (status : Status) (old new : Yard R g) (now_left w0 w1 : Option (List ℕ)) (out : List ℕ)
       → Ahead held left bytes → n ≤ 1000000 → Ends n status bytes now_left (no_part bytes) out → Appends w0 w1 out → StaysFor w old new
       → YardComes n w held left status old new now_left w0 w1
   comes_here n w held left bytes status old new now_left w0 w1 out ahead few ends wrote same = record {
@@ -78,7 +80,7 @@ module _ {R : Type 0} {g : Ghosts R} where
   }
 
   -- the run ends with a line
-  comes_one : (n : ℕ) (w : World) (held : List ℕ) (left : Option (List ℕ)) (bytes line : List ℕ) (others : List (List ℕ)) (status : Status) (old new : Yard R g)
+  comes_one : (n : ℕ) (w : Doubted) (held : List ℕ) (left : Option (List ℕ)) (bytes line : List ℕ) (others : List (List ℕ)) (status : Status) (old new : Yard R g)
       (now_left w0 w1 : Option (List ℕ)) (text out : List ℕ) → Ahead held left bytes → n < 1000000 → lines_of bytes ≡ line ∷ others → (did : Did w line old new text)
       → Ends n status bytes now_left (one_part line others did.fails text) out → Appends w0 w1 out → YardComes n w held left status old new now_left w0 w1
   comes_one n w held left bytes line others status old new now_left w0 w1 text out ahead few split did ends wrote = record {
@@ -87,7 +89,7 @@ module _ {R : Type 0} {g : Ghosts R} where
     outcome = ends_one n w did.world bytes line others status now_left w0 w1 (count_of old) (count_of new) did.fails text out few split did.step did.rose ends wrote did.stands;
   }
 
-  write_stops : (n : ℕ) (w : World) (held : List ℕ) (left : Option (List ℕ)) (bytes line : List ℕ) (others : List (List ℕ)) (old new : Yard R g) (now_left w0 w1 : Option (List ℕ))
+  write_stops : (n : ℕ) (w : Doubted) (held : List ℕ) (left : Option (List ℕ)) (bytes line : List ℕ) (others : List (List ℕ)) (old new : Yard R g) (now_left w0 w1 : Option (List ℕ))
       → Ahead held left bytes → lines_of bytes ≡ line ∷ others → WriteStops n w line old new w0 w1 → n < 1000000 → YardComes n w held left WriteFault old new now_left w0 w1
   write_stops n w held left bytes line others old new now_left w0 w1 ahead split (StopsAtReply text sent did cut wrote) few =
       comes_one n w held left bytes line others WriteFault old new now_left w0 w1 text sent ahead few split did (AtReply [] text sent refl cut refl) wrote
@@ -96,20 +98,20 @@ module _ {R : Type 0} {g : Ghosts R} where
       (AtBad column sent (bad_next (lines_of bytes) line others column split e) (omega arith) (bad_first n column sent cut) refl) wrote same
 
   -- memory ran out within a line
-  comes_within : (n : ℕ) (w : World) (held : List ℕ) (left : Option (List ℕ)) (bytes line : List ℕ) (others : List (List ℕ)) (words : ScriptLine) (old new : Yard R g)
+  comes_within : (n : ℕ) (w : Doubted) (held : List ℕ) (left : Option (List ℕ)) (bytes line : List ℕ) (others : List (List ℕ)) (words : ScriptLine) (old new : Yard R g)
       (now_left w0 w1 : Option (List ℕ)) → Ahead held left bytes → lines_of bytes ≡ line ∷ others → n < 1000000 → script_line line ≡ Ok (Some words)
       → StopsShort w words old new → Appends w0 w1 [] → YardComes n w held left OutOfMemory old new now_left w0 w1
   comes_within n w held left bytes line others words old new now_left w0 w1 ahead split few e short wrote =
-      let part : PartOfLine (script_line line) w short.world = subst (λ (r : Result (Option ScriptLine) ℕ). PartOfLine r w short.world) (sym e) short.part in
+      let part : PartOfLine (script_line line) w short.next = subst (λ (r : Result (Option ScriptLine) ℕ). PartOfLine r w short.next) (sym e) short.part in
       record {
         bytes = bytes;
         ahead = ahead;
-        outcome = ends_within n w short.world bytes OutOfMemory now_left w0 w1 (count_of old) (count_of new) [] (omega arith)
-            (subst (λ (ls : List (List ℕ)). PartOfNext ls w short.world) (sym split) part)
+        outcome = ends_within n w short.next bytes OutOfMemory now_left w0 w1 (count_of old) (count_of new) [] (omega arith)
+            (subst (λ (ls : List (List ℕ)). PartOfNext ls w short.next) (sym split) part)
             (record { sent = []; unsent = []; texts = refl; last = omega arith; is = refl }) wrote short.rose short.stands;
       }
 
-  memory_stops : (n : ℕ) (w : World) (held : List ℕ) (left : Option (List ℕ)) (bytes line : List ℕ) (others : List (List ℕ)) (old new : Yard R g) (now_left w0 w1 : Option (List ℕ))
+  memory_stops : (n : ℕ) (w : Doubted) (held : List ℕ) (left : Option (List ℕ)) (bytes line : List ℕ) (others : List (List ℕ)) (old new : Yard R g) (now_left w0 w1 : Option (List ℕ))
       → Ahead held left bytes → lines_of bytes ≡ line ∷ others → MemoryStops w line old new → Appends w0 w1 [] → n < 1000000
       → YardComes n w held left OutOfMemory old new now_left w0 w1
   memory_stops n w held left bytes line others old new now_left w0 w1 ahead split (StopsBefore same) wrote few =
@@ -121,7 +123,7 @@ module _ {R : Type 0} {g : Ghosts R} where
       (record { sent = []; unsent = text ∷ []; texts = refl; last = omega arith; is = refl }) wrote
 
   -- the run ends at a line that was read
-  pub turn_stop : (n : ℕ) (w : World) (held : List ℕ) (left : Option (List ℕ)) (bytes line : List ℕ) (others : List (List ℕ)) (status : Status) (old new : Yard R g)
+  pub turn_stop : (n : ℕ) (w : Doubted) (held : List ℕ) (left : Option (List ℕ)) (bytes line : List ℕ) (others : List (List ℕ)) (status : Status) (old new : Yard R g)
       (now_left w0 w1 : Option (List ℕ)) → Ahead held left bytes → lines_of bytes ≡ line ∷ others → AnswerIs n w line (Some status) old new w0 w1 → n < 1000000
       → YardComes n w held left status old new now_left w0 w1
   turn_stop n w held left bytes line others (BadLine at column) old new now_left w0 w1 ahead split is few =
@@ -136,7 +138,7 @@ module _ {R : Type 0} {g : Ghosts R} where
   turn_stop n w held left bytes line others TooLong old new now_left w0 w1 ahead split is few = absurd is
 
   -- a whole line was answered
-  pub turn_line : (n : ℕ) (w : World) (held : List ℕ) (left : Option (List ℕ)) (line : List ℕ) (r : Option Status) (old new : Yard R g) (now_held : List ℕ) (now_left w0 w1 : Option (List ℕ))
+  pub turn_line : (n : ℕ) (w : Doubted) (held : List ℕ) (left : Option (List ℕ)) (line : List ℕ) (r : Option Status) (old new : Yard R g) (now_held : List ℕ) (now_left w0 w1 : Option (List ℕ))
       → NextIs held left (Ok nexts.Line) line now_held now_left → AnswerIs n w line r old new w0 w1 → n < 1000000 → TurnIs n w held left r old new now_held now_left w0 w1
   turn_line n w held left line None old new now_held now_left w0 w1 next is few = (line, next.0, next.1, next.2, is)
   turn_line n w held left line (Some status) old new now_held now_left w0 w1 next is few =
@@ -144,25 +146,25 @@ module _ {R : Type 0} {g : Ghosts R} where
       turn_stop n w held left (next.0 ++ after.0) line (lines_of after.0) status old new now_left w0 w1 (next.2.before after.0 after.1) (next.1.lines after.0) is few
 
   -- the last line was answered
-  pub turn_last : (n : ℕ) (w : World) (held : List ℕ) (left : Option (List ℕ)) (line : List ℕ) (old new : Yard R g) (now_held : List ℕ) (now_left w0 w1 : Option (List ℕ))
+  pub turn_last : (n : ℕ) (w : Doubted) (held : List ℕ) (left : Option (List ℕ)) (line : List ℕ) (old new : Yard R g) (now_held : List ℕ) (now_left w0 w1 : Option (List ℕ))
       → NextIs held left (Ok nexts.Last) line now_held now_left → AnswerIs n w line None old new w0 w1 → n < 1000000 → YardComes n w held left Done old new now_left w0 w1
   turn_last n w held left line old new now_held now_left w0 w1 next is few =
       comes_one n w held left next.0.bytes line [] Done old new now_left w0 w1 is.0 is.0 next.0.ahead few next.0.lines is.1 (refl, next.1, sym (append-nil is.0)) is.2
 
   -- the run ended at the last line
-  pub turn_last_stop : (n : ℕ) (w : World) (held : List ℕ) (left : Option (List ℕ)) (line : List ℕ) (status : Status) (old new : Yard R g) (now_held : List ℕ) (now_left w0 w1 : Option (List ℕ))
+  pub turn_last_stop : (n : ℕ) (w : Doubted) (held : List ℕ) (left : Option (List ℕ)) (line : List ℕ) (status : Status) (old new : Yard R g) (now_held : List ℕ) (now_left w0 w1 : Option (List ℕ))
       → NextIs held left (Ok nexts.Last) line now_held now_left → AnswerIs n w line (Some status) old new w0 w1 → n < 1000000 → YardComes n w held left status old new now_left w0 w1
   turn_last_stop n w held left line status old new now_held now_left w0 w1 next is few =
       turn_stop n w held left next.0.bytes line [] status old new now_left w0 w1 next.0.ahead next.0.lines is few
 
   -- nothing was left to read
-  pub turn_end : (n : ℕ) (w : World) (held : List ℕ) (left : Option (List ℕ)) (y : Yard R g) (now_left written : Option (List ℕ))
+  pub turn_end : (n : ℕ) (w : Doubted) (held : List ℕ) (left : Option (List ℕ)) (y : Yard R g) (now_left written : Option (List ℕ))
       → Ahead held left [] → MayHave now_left [] → n ≤ 1000000 → YardStands w y → YardComes n w held left Done y y now_left written written
   turn_end n w held left y now_left written ahead end few stands =
       comes_here n w held left [] Done y y now_left written written [] ahead few (refl, end, refl) (appends_none written) (stays w y stands)
 
   -- the source failed
-  pub turn_fault : (n : ℕ) (w : World) (held : List ℕ) (left : Option (List ℕ)) (y : Yard R g) (now_held : List ℕ) (now_left written : Option (List ℕ))
+  pub turn_fault : (n : ℕ) (w : Doubted) (held : List ℕ) (left : Option (List ℕ)) (y : Yard R g) (now_held : List ℕ) (now_left written : Option (List ℕ))
       → IsPlain now_held → Follows held left [] now_held now_left → n ≤ 1000000 → YardStands w y → YardComes n w held left ReadFault y y now_left written written
   turn_fault n w held left y now_held now_left written plain follows few stands =
       let some = ahead_some now_held now_left in let at = some.1 in
@@ -170,21 +172,21 @@ module _ {R : Type 0} {g : Ghosts R} where
       (record { got = now_held; rest = at.rest; has = at.has; split = at.is; lines = sym (whole_lines_of_last now_held plain); is = refl }) (appends_none written) (stays w y stands)
 
   -- memory ran out
-  pub turn_memory : (n : ℕ) (w : World) (held : List ℕ) (left : Option (List ℕ)) (y : Yard R g) (now_left written : Option (List ℕ))
+  pub turn_memory : (n : ℕ) (w : Doubted) (held : List ℕ) (left : Option (List ℕ)) (y : Yard R g) (now_left written : Option (List ℕ))
       → n ≤ 1000000 → YardStands w y → YardComes n w held left OutOfMemory y y now_left written written
   turn_memory n w held left y now_left written few stands =
       let some = ahead_some held left in
       comes_here n w held left some.0 OutOfMemory y y now_left written written [] some.1 few (record { sent = []; unsent = []; texts = refl; last = omega arith; is = refl }) (appends_none written) (stays w y stands)
 
   -- a line was too long
-  pub turn_long : (n : ℕ) (w : World) (held : List ℕ) (left : Option (List ℕ)) (status : Status) (y : Yard R g) (now_left w0 w1 : Option (List ℕ))
+  pub turn_long : (n : ℕ) (w : Doubted) (held : List ℕ) (left : Option (List ℕ)) (status : Status) (y : Yard R g) (now_left w0 w1 : Option (List ℕ))
       → IsLong held left → BadIs (n + 1) 4097 status w0 w1 → n < 1000000 → YardStands w y → YardComes n w held left status y y now_left w0 w1
   turn_long n w held left status y now_left w0 w1 long is few stands =
       turn_stop n w held left long.bytes long.line long.others status y y now_left w0 w1 long.ahead long.lines
       (bad_answer n w long.line 4097 status y w0 w1 (script_line_long long.line long.long) stands is) few
 
   -- as many lines as may be were done, and another byte follows
-  pub turn_most : (n : ℕ) (w : World) (held : List ℕ) (left : Option (List ℕ)) (y : Yard R g) (now_left written : Option (List ℕ))
+  pub turn_most : (n : ℕ) (w : Doubted) (held : List ℕ) (left : Option (List ℕ)) (y : Yard R g) (now_left written : Option (List ℕ))
       → n ≡ 1000000 → IsMore held left → YardStands w y → YardComes n w held left TooLong y y now_left written written
   turn_most n w held left y now_left written most more stands =
       let first = some_line more.first more.others in
@@ -192,7 +194,7 @@ module _ {R : Type 0} {g : Ghosts R} where
       (omega (arith, most), subst IsNonEmpty (sym first.2) tt, refl) (appends_none written) (stays w y stands)
 
   -- the rest of a run with a line before it
-  pub comes_more : (n : ℕ) (w : World) (held : List ℕ) (left : Option (List ℕ)) (raw line text now_held : List ℕ) (now_left : Option (List ℕ)) (status : Status) (old new last : Yard R g)
+  pub comes_more : (n : ℕ) (w : Doubted) (held : List ℕ) (left : Option (List ℕ)) (raw line text now_held : List ℕ) (now_left : Option (List ℕ)) (status : Status) (old new last : Yard R g)
       (last_left w0 w1 w2 : Option (List ℕ)) → IsWhole raw line → Follows held left raw now_held now_left → (did : Did w line old new text) → Appends w0 w1 text
       → (IsTold last → IsTold new) → in_files new ≡ in_files old
       → YardComes (n + 1) did.world now_held now_left status new last last_left w1 w2 → YardComes n w held left status old last last_left w0 w2
@@ -206,9 +208,9 @@ module _ {R : Type 0} {g : Ghosts R} where
       }
 
   -- where the loop begins, and where it stands after one more line
-  pub reaches_first : (y : Yard R g) (held : List ℕ) (left written : Option (List ℕ)) → YardStands empty_world y → held ≡ [] → Reaches 0 y y [] held left left written written
+  pub reaches_first : (y : Yard R g) (held : List ℕ) (left written : Option (List ℕ)) → YardStands (sure empty_world) y → held ≡ [] → Reaches 0 y y [] held left left written written
   reaches_first y held left written stands none = subst (λ (h : List ℕ). Reaches 0 y y [] h left left written written) (sym none)
-      (record { world = empty_world; stands = stands; goes = λ last status last_left last_written told rest. rest })
+      (record { world = (sure empty_world); stands = stands; goes = λ last status last_left last_written told rest. rest })
 
   pub reaches_more : (n : ℕ) (first old new : Yard R g) (held0 held now_held : List ℕ) (left0 left now_left w0 w1 w2 : Option (List ℕ))
       → (at : Reaches n first old held0 held left0 left w0 w1) → TurnIs n at.world held left None old new now_held now_left w1 w2
@@ -225,5 +227,5 @@ module _ {R : Type 0} {g : Ghosts R} where
   -- the run ends in the middle of the loop
   pub reaches_end : (n : ℕ) (first now last : Yard R g) (held0 held : List ℕ) (left0 left w0 w1 : Option (List ℕ)) (status : Status) (last_left w2 : Option (List ℕ))
       → (at : Reaches n first now held0 held left0 left w0 w1) → (IsTold last → IsTold now) → YardComes n at.world held left status now last last_left w1 w2
-      → YardComes 0 empty_world held0 left0 status first last last_left w0 w2
+      → YardComes 0 (sure empty_world) held0 left0 status first last last_left w0 w2
   reaches_end n first now last held0 held left0 left w0 w1 status last_left w2 at told rest = at.goes last status last_left w2 told rest

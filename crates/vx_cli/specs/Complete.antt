@@ -2,7 +2,9 @@
 use Rattle.std.specs.Prelude.{◌≡◌, ◌⊎◌, ℕ, ◌+◌, ◌≤◌, ◌<◌, Bool, List, [], ◌∷◌, ◌++◌, length, map, Option, Err}
 use Rattle.std.specs.List.{concat}
 use Rattle.std.specs.Io.KnownBytes.{Appends}
-use Rattle.vx_history.specs.World.{World, empty_world}
+use Rattle.vx_history.specs.Doubts.{Doubted}
+use Rattle.vx_history.specs.World.{empty_world}
+use Rattle.vx_events.specs.Doubts.{sure}
 use Rattle.vx_node.specs.Lines.{script_line}
 use Rattle.vx_events.specs.Fails.{Fails}
 use Rattle.vx_script.specs.Lines.{lines_of}
@@ -67,13 +69,13 @@ abbrev pub no_fails : List (List ℕ) → List Fails
 no_fails lines = map (λ line. []) lines
 
 -- All lines were done, no call failed in them, and each reply was written.
-pub record CleanRun (told : Type 0) (files : Bool) (Leaves : World → Type 0) (lines : List (List ℕ)) (written now : Option (List ℕ)) : Type 0 where
+pub record CleanRun (told : Type 0) (files : Bool) (Leaves : Doubted → Type 0) (lines : List (List ℕ)) (written now : Option (List ℕ)) : Type 0 where
   pub texts : List (List ℕ)
-  pub world : World
-  pub run : Run told files empty_world lines (no_fails lines) texts world
+  pub world : Doubted
+  pub run : Run told files (sure empty_world) lines (no_fails lines) texts world
   pub appends : Appends written now (concat texts)
   pub leaves : Leaves world
 
 -- such a run was done, or memory ran out
-abbrev pub IsClean : Type 0 → Bool → (World → Type 0) → Status → List (List ℕ) → Option (List ℕ) → Option (List ℕ) → Type 0
+abbrev pub IsClean : Type 0 → Bool → (Doubted → Type 0) → Status → List (List ℕ) → Option (List ℕ) → Option (List ℕ) → Type 0
 IsClean told files Leaves status lines written now = ((status ≡ Done) × CleanRun told files Leaves lines written now) ⊎ (status ≡ OutOfMemory)

@@ -2,7 +2,9 @@
 use Rattle.std.specs.Prelude.{◌≡◌, ℕ, ◌+◌, ◌≤◌, ◌<◌, Bool, List, [], ◌∷◌, ◌++◌, length, Option, Some, None, Result, Ok, Err}
 use Rattle.std.specs.List.{concat}
 use Rattle.std.specs.Io.KnownBytes.{Appends}
-use Rattle.vx_history.specs.World.{World, empty_world}
+use Rattle.vx_history.specs.Doubts.{Doubted}
+use Rattle.vx_history.specs.World.{empty_world}
+use Rattle.vx_events.specs.Doubts.{sure}
 use Rattle.vx_node.specs.Lines.{script_line}
 use Rattle.vx_node.specs.Stands.{RoseAll}
 use Rattle.vx_events.specs.Fails.{Fails}
@@ -70,31 +72,31 @@ Ends n TooLong bytes left part out = (n + length part.lines ≡ 1000000) × IsNo
 Ends n Usage bytes left part out = ⊥
 
 -- what want of memory may leave of a line that was read: a first part of its events
-abbrev pub PartOfLine : Result (Option ScriptLine) ℕ → World → World → Type 0
-PartOfLine (Ok (Some words)) w last = DonePart w words last
-PartOfLine (Ok None) w last = last ≡ w
-PartOfLine (Err column) w last = last ≡ w
+abbrev pub PartOfLine : Result (Option ScriptLine) ℕ → Doubted → Doubted → Type 0
+PartOfLine (Ok (Some words)) d last = DonePart d words last
+PartOfLine (Ok None) d last = last ≡ d
+PartOfLine (Err column) d last = last ≡ d
 
 -- the same of the next of these lines
-abbrev pub PartOfNext : List (List ℕ) → World → World → Type 0
-PartOfNext [] w last = last ≡ w
-PartOfNext (line ∷ lines) w last = PartOfLine (script_line line) w last
+abbrev pub PartOfNext : List (List ℕ) → Doubted → Doubted → Type 0
+PartOfNext [] d last = last ≡ d
+PartOfNext (line ∷ lines) d last = PartOfLine (script_line line) d last
 
 -- The last world of a run, by the status: the one behind the lines that were done. Only for want of memory is the next line done in part.
-abbrev pub LastWorld : Status → List (List ℕ) → World → World → Type 0
-LastWorld OutOfMemory others w last = PartOfNext others w last
-LastWorld other others w last = last ≡ w
+abbrev pub LastWorld : Status → List (List ℕ) → Doubted → Doubted → Type 0
+LastWorld OutOfMemory others d last = PartOfNext others d last
+LastWorld other others d last = last ≡ d
 
 -- What a run over these bytes came to, from a world in which n lines were done. Its lines are the first of the bytes', and
 -- each is a step. What was written is their replies, by the status. The counts of the disks rose by the failed calls.
-pub record Outcome (told : Type 0) (files : Bool) (Leaves : World → Type 0) (n : ℕ) (old : World) (bytes : List ℕ) (status : Status)
+pub record Outcome (told : Type 0) (files : Bool) (Leaves : Doubted → Type 0) (n : ℕ) (old : Doubted) (bytes : List ℕ) (status : Status)
     (left written now_written : Option (List ℕ)) (faults now_faults : ℕ → ℕ → ℕ) : Type 0 where
   pub part : Part
-  pub world : World
+  pub world : Doubted
   pub out : List ℕ
   pub split : lines_of bytes ≡ part.lines ++ part.others
   pub few : n + length part.lines ≤ 1000000
-  pub behind : World
+  pub behind : Doubted
   pub run : Run told files old part.lines part.failures part.texts behind
   pub last : LastWorld status part.others behind world
   pub ends : Ends n status bytes left part out
@@ -103,8 +105,8 @@ pub record Outcome (told : Type 0) (files : Bool) (Leaves : World → Type 0) (n
   pub leaves : Leaves world
 
 -- what a run came to over its whole input, which is the one that the source told, if it told any
-pub record RunIs (told : Type 0) (files : Bool) (Leaves : World → Type 0) (status : Status)
+pub record RunIs (told : Type 0) (files : Bool) (Leaves : Doubted → Type 0) (status : Status)
     (left now_left written now_written : Option (List ℕ)) (faults now_faults : ℕ → ℕ → ℕ) : Type 0 where
   pub input : List ℕ
   pub has : MayHave left input
-  pub outcome : Outcome told files Leaves 0 empty_world input status now_left written now_written faults now_faults
+  pub outcome : Outcome told files Leaves 0 (sure empty_world) input status now_left written now_written faults now_faults

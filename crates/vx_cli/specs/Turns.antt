@@ -1,7 +1,9 @@
 -- What one turn of the loop does, and where the loop stands.
 use Rattle.std.specs.Prelude.{◌≡◌, ℕ, ◌+◌, Bool, List, [], Option, Some, None, Ok, Err}
 use Rattle.std.specs.Io.KnownBytes.{Appends}
-use Rattle.vx_history.specs.World.{World, empty_world}
+use Rattle.vx_history.specs.Doubts.{Doubted}
+use Rattle.vx_history.specs.World.{empty_world}
+use Rattle.vx_events.specs.Doubts.{sure}
 use Rattle.vx_disk.specs.declared.shelf.Shelf.{Ghosts}
 use Rattle.vx_script.specs.declared.line.ScriptLine.{ScriptLine}
 use Rattle.vx_node.specs.Lines.{script_line}
@@ -24,61 +26,61 @@ BadIs line column OutOfMemory written now = Appends written now []
 BadIs line column other written now = ⊥
 
 -- What the rest of a run came to: over the bytes that are ahead.
-pub record Comes (told : Type 0) (files : Bool) (Leaves : World → Type 0) (n : ℕ) (w : World) (held : List ℕ) (left : Option (List ℕ)) (status : Status)
+pub record Comes (told : Type 0) (files : Bool) (Leaves : Doubted → Type 0) (n : ℕ) (d : Doubted) (held : List ℕ) (left : Option (List ℕ)) (status : Status)
     (now_left written now_written : Option (List ℕ)) (faults now_faults : ℕ → ℕ → ℕ) : Type 0 where
   pub bytes : List ℕ
   pub ahead : Ahead held left bytes
-  pub outcome : Outcome told files Leaves n w bytes status now_left written now_written faults now_faults
+  pub outcome : Outcome told files Leaves n d bytes status now_left written now_written faults now_faults
 
 module _ {R : Type 0} {g : Ghosts R} where
   -- a line was done, and its reply is this text
-  pub record Did (w : World) (line : List ℕ) (old new : Yard R g) (text : List ℕ) : Type 0 where
-    pub world : World
+  pub record Did (d : Doubted) (line : List ℕ) (old new : Yard R g) (text : List ℕ) : Type 0 where
+    pub world : Doubted
     pub fails : Fails
-    pub step : LineStep (IsTold new) (in_files old) w line fails text world
+    pub step : LineStep (IsTold new) (in_files old) d line fails text world
     pub stands : YardStands world new
     pub rose : RoseAll fails (count_of old) (count_of new)
 
   -- nothing of a line was done
-  pub record StaysFor (w : World) (old new : Yard R g) : Type 0 where
-    pub stands : YardStands w new
+  pub record StaysFor (d : Doubted) (old new : Yard R g) : Type 0 where
+    pub stands : YardStands d new
     pub rose : RoseAll [] (count_of old) (count_of new)
 
   -- memory ran out before a line was known, within it, or behind it
-  pub data MemoryStops (w : World) (line : List ℕ) (old new : Yard R g) : Type 0 where
-    StopsBefore : StaysFor w old new → MemoryStops w line old new
-    StopsWithin : (words : ScriptLine) → script_line line ≡ Ok (Some words) → StopsShort w words old new → MemoryStops w line old new
-    StopsBehind : (text : List ℕ) → Did w line old new text → MemoryStops w line old new
+  pub data MemoryStops (d : Doubted) (line : List ℕ) (old new : Yard R g) : Type 0 where
+    StopsBefore : StaysFor d old new → MemoryStops d line old new
+    StopsWithin : (words : ScriptLine) → script_line line ≡ Ok (Some words) → StopsShort d words old new → MemoryStops d line old new
+    StopsBehind : (text : List ℕ) → Did d line old new text → MemoryStops d line old new
 
   -- the sink failed at a reply, or at the line that says where the script is wrong
-  pub data WriteStops (n : ℕ) (w : World) (line : List ℕ) (old new : Yard R g) (written now : Option (List ℕ)) : Type 0 where
-    StopsAtReply : (text sent : List ℕ) → Did w line old new text → IsCut text sent → Appends written now sent → WriteStops n w line old new written now
-    StopsAtBad : (column : ℕ) (sent : List ℕ) → script_line line ≡ Err column → StaysFor w old new → IsCut (bad_text (n + 1) column) sent → Appends written now sent
-        → WriteStops n w line old new written now
+  pub data WriteStops (n : ℕ) (d : Doubted) (line : List ℕ) (old new : Yard R g) (written now : Option (List ℕ)) : Type 0 where
+    StopsAtReply : (text sent : List ℕ) → Did d line old new text → IsCut text sent → Appends written now sent → WriteStops n d line old new written now
+    StopsAtBad : (column : ℕ) (sent : List ℕ) → script_line line ≡ Err column → StaysFor d old new → IsCut (bad_text (n + 1) column) sent → Appends written now sent
+        → WriteStops n d line old new written now
 
   -- one line was answered, or the run ended at it
-  abbrev pub AnswerIs : ℕ → World → List ℕ → Option Status → Yard R g → Yard R g → Option (List ℕ) → Option (List ℕ) → Type 0
-  AnswerIs n w line None old new written now = (text : List ℕ) × Did w line old new text × Appends written now text
-  AnswerIs n w line (Some (BadLine at column)) old new written now =
-      (at ≡ n + 1) × (script_line line ≡ Err column) × StaysFor w old new × Appends written now (bad_text at column)
-  AnswerIs n w line (Some WriteFault) old new written now = WriteStops n w line old new written now
-  AnswerIs n w line (Some OutOfMemory) old new written now = MemoryStops w line old new × Appends written now []
-  AnswerIs n w line (Some other) old new written now = ⊥
+  abbrev pub AnswerIs : ℕ → Doubted → List ℕ → Option Status → Yard R g → Yard R g → Option (List ℕ) → Option (List ℕ) → Type 0
+  AnswerIs n d line None old new written now = (text : List ℕ) × Did d line old new text × Appends written now text
+  AnswerIs n d line (Some (BadLine at column)) old new written now =
+      (at ≡ n + 1) × (script_line line ≡ Err column) × StaysFor d old new × Appends written now (bad_text at column)
+  AnswerIs n d line (Some WriteFault) old new written now = WriteStops n d line old new written now
+  AnswerIs n d line (Some OutOfMemory) old new written now = MemoryStops d line old new × Appends written now []
+  AnswerIs n d line (Some other) old new written now = ⊥
 
   -- what the rest of a run came to, with the yard that it left
-  abbrev pub YardComes : ℕ → World → List ℕ → Option (List ℕ) → Status → Yard R g → Yard R g → Option (List ℕ) → Option (List ℕ) → Option (List ℕ) → Type 0
-  YardComes n w held left status old new now_left written now =
-      Comes (IsTold new) (in_files old) (λ v. YardStands v new) n w held left status now_left written now (count_of old) (count_of new)
+  abbrev pub YardComes : ℕ → Doubted → List ℕ → Option (List ℕ) → Status → Yard R g → Yard R g → Option (List ℕ) → Option (List ℕ) → Option (List ℕ) → Type 0
+  YardComes n d held left status old new now_left written now =
+      Comes (IsTold new) (in_files old) (λ v. YardStands v new) n d held left status now_left written now (count_of old) (count_of new)
 
   -- one line was read and answered, or the run ended there
-  abbrev pub TurnIs : ℕ → World → List ℕ → Option (List ℕ) → Option Status → Yard R g → Yard R g → List ℕ → Option (List ℕ) → Option (List ℕ) → Option (List ℕ) → Type 0
-  TurnIs n w held left None old new now_held now_left written now =
-      (line : List ℕ) × (raw : List ℕ) × IsWhole raw line × Follows held left raw now_held now_left × AnswerIs n w line None old new written now
-  TurnIs n w held left (Some status) old new now_held now_left written now = YardComes n w held left status old new now_left written now
+  abbrev pub TurnIs : ℕ → Doubted → List ℕ → Option (List ℕ) → Option Status → Yard R g → Yard R g → List ℕ → Option (List ℕ) → Option (List ℕ) → Option (List ℕ) → Type 0
+  TurnIs n d held left None old new now_held now_left written now =
+      (line : List ℕ) × (raw : List ℕ) × IsWhole raw line × Follows held left raw now_held now_left × AnswerIs n d line None old new written now
+  TurnIs n d held left (Some status) old new now_held now_left written now = YardComes n d held left status old new now_left written now
 
   -- Where the loop stands: what the rest comes to, the whole comes to.
   pub record Reaches (n : ℕ) (first now : Yard R g) (held0 held : List ℕ) (left0 left written0 written : Option (List ℕ)) : Type 0 where
-    pub world : World
+    pub world : Doubted
     pub stands : YardStands world now
     pub goes : (last : Yard R g) (status : Status) (last_left last_written : Option (List ℕ)) → (IsTold last → IsTold now)
-        → YardComes n world held left status now last last_left written last_written → YardComes 0 empty_world held0 left0 status first last last_left written0 last_written
+        → YardComes n world held left status now last last_left written last_written → YardComes 0 (sure empty_world) held0 left0 status first last last_left written0 last_written

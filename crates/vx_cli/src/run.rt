@@ -1,6 +1,7 @@
 // A whole run.
 ghost use Rattle.std.specs.Prelude.{◌≡◌, ◌≤◌, ℕ, [], is_some};
 ghost use Rattle.vx_history.specs.World.{empty_world};
+ghost use Rattle.vx_events.specs.Doubts.{sure};
 ghost use Rattle.vx_stream.specs.Causes.{Rose};
 ghost use Rattle.vx_node.specs.Holds.{AreFresh, RacksTell, rack_faults};
 ghost use Rattle.vx_node.specs.Yards.{YardStands};
@@ -24,8 +25,8 @@ fn answer_all<I: Source, O: Sink, R: Rack>(
     source: &mut I,
     sink: &mut O,
 ) -> Status
-    requires { YardStands empty_world yard.old }
-    ensures run { YardComes 0 empty_world [] (I.left source.old) result yard.old yard.new (I.left source.new) (O.written sink.old) (O.written sink.new) }
+    requires { YardStands (sure empty_world) yard.old }
+    ensures run { YardComes 0 (sure empty_world) [] (I.left source.old) result yard.old yard.new (I.left source.new) (O.written sink.old) (O.written sink.new) }
     ensures read_later { I.faults source.old ≤ I.faults source.new }
     ensures read { result ≡ Status.ReadFault → Rose (I.faults source.old) (I.faults source.new) }
     ensures write_later { O.faults sink.old ≤ O.faults sink.new }

@@ -1,6 +1,6 @@
 // One turn of the loop: a line is read and answered.
 ghost use Rattle.std.specs.Prelude.{◌≡◌, ◌≤◌, ◌<◌, ◌^◌, ℕ, Some};
-ghost use Rattle.vx_history.specs.World.{World};
+ghost use Rattle.vx_history.specs.Doubts.{Doubted};
 ghost use Rattle.vx_stream.specs.Causes.{Rose};
 ghost use Rattle.vx_node.specs.Yards.{IsKept, YardStands, IsTold, in_files};
 ghost use Rattle.vx_cli.specs.Turns.{AnswerIs, TurnIs};
@@ -26,8 +26,8 @@ fn answer<O: Sink, R: Rack>(
 ) -> Option<Status>
     requires kept { IsKept yard.old }
     requires few { number ≤ MOST_NUMBER }
-    ensures answer { (w : World) → YardStands w yard.old
-        → AnswerIs number w line.now result yard.old yard.new (O.written sink.old) (O.written sink.new) }
+    ensures answer { (d : Doubted) → YardStands d yard.old
+        → AnswerIs number d line.now result yard.old yard.new (O.written sink.old) (O.written sink.new) }
     ensures told { IsTold yard.new → IsTold yard.old }
     ensures files { in_files yard.new ≡ in_files yard.old }
     ensures reading { result ≡ Some Status.ReadFault → ⊥ }
@@ -58,8 +58,8 @@ pub fn turn<I: Source, O: Sink, R: Rack>(
 ) -> Option<Status>
     requires kept { IsKept yard.old }
     requires few { number < 1000000 }
-    ensures turn { (w : World) → YardStands w yard.old
-        → TurnIs number w held.old.items (I.left source.old) result yard.old yard.new held.new.items (I.left source.new) (O.written sink.old) (O.written sink.new) }
+    ensures turn { (d : Doubted) → YardStands d yard.old
+        → TurnIs number d held.old.items (I.left source.old) result yard.old yard.new held.new.items (I.left source.new) (O.written sink.old) (O.written sink.new) }
     ensures told { IsTold yard.new → IsTold yard.old }
     ensures files { in_files yard.new ≡ in_files yard.old }
     ensures read_later { I.faults source.old ≤ I.faults source.new }

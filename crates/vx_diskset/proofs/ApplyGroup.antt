@@ -1,18 +1,18 @@
 -- What an apply leaves of a site that is up.
-use Rattle.std.proofs.Common.{◌≡◌, ⊎_elim, ℕ, List, ◌≤◌, Option, Some, None, IsTrue, sym, ◌∙◌, ap, subst, arith}
+use Rattle.std.proofs.Common.{◌≡◌, inl, ⊎_elim, ℕ, List, ◌≤◌, Option, Some, None, IsTrue, sym, ◌∙◌, ap, subst, arith}
 use Rattle.std.specs.Prelude.{min, max, Result, Ok, Err, OnOk, IsFalse}
 use Rattle.vx_history.specs.Steps.{burned}
 use Rattle.vx_history.specs.World.{Node}
 use Rattle.vx_model.specs.declared.no.No.{No}
 use Rattle.vx_model.specs.declared.no.No.TheVariants.{Device, Down}
-use Rattle.vx_model.specs.declared.state.KeptLink.{KeptLink}
+use Rattle.vx_diskset.specs.Holds.{Beside}
 use Rattle.vx_disk.specs.Shelf.{Meaning, Image, Lawful}
 use Rattle.vx_disk.specs.Moves.{Moves}
 use Rattle.vx_rvg.specs.Groups.{ApplyIs, Applies, Ended, unless_halted, with_applied}
 use Rattle.vx_rvg.specs.Stands.{Resting, Rests}
 use Rattle.vx_rvg.specs.Views.{Core, IsSound, Waits, last_of}
 use Rattle.vx_diskset.specs.DiskSets.{CanApply, halted_at, worked}
-use Rattle.vx_diskset.specs.Holds.{HasWrites}
+use Rattle.vx_diskset.specs.Holds.{HasSite}
 use Rattle.vx_diskset.specs.Rooms.{AppliedAs}
 use Rattle.vx_diskset.specs.Fuses.{HasFuse}
 use Rattle.vx_history.specs.Stops.{IsFused}
@@ -32,26 +32,26 @@ applied_log c number k c' is = record {
 pub ended_log : (c : Core) (h : Option ℕ) (c' : Core) → Ended c h c' → SameLog c c'
 ended_log c h c' ended = record { units = ended.units; ring = ended.ring; header = ended.header; held = ended.held }
 
-module _ {links : List KeptLink} (n : Node) (c c' : Core) (m new : Meaning) (up : IsUpAt links n c m) (can : CanApply n) (lawful : Lawful m) (after : Lawful new)
+module _ {beside : Beside} (n : Node) (c c' : Core) (m new : Meaning) (up : IsUpAt beside n c m) (can : CanApply n) (lawful : Lawful m) (after : Lawful new)
     (moves : Moves (Waits c m) (Resting c m) m new) where
   -- whatever a crash leaves behind it
-  rested : (i : Image) → new.now i → HasWrites links n i
+  rested : (i : Image) → new.now i → HasSite beside n i
   rested i now =
       let told : IsTrue m.tells = sym moves.tells ∙ told_now new i after now in
-      ⊎_elim (λ was. up.left i was) (λ resting. up_found n c m i up can.running told (resting_found c n.log n.base m i resting (up.content can.running told)))
+      ⊎_elim (λ was. up.left i was) (λ resting. inl (up_found n c m i up can.running told (resting_found c n.log n.base m i resting (up.content can.running told))))
       (left_moved (Waits c m) (Resting c m) m new i lawful after moves now)
 
   fuse : HasFuse (burned n.fuse) new
   fuse = fuse_moved n.fuse (Waits c m) (Resting c m) m new moves up.fuse
 
   -- it is up as before
-  pub applied_up : IsFalse new.down → Rests c c' m new → (number k : ℕ) → c' ≡ with_applied c number k → IsUpAt links (worked n) c' new
+  pub applied_up : IsFalse new.down → Rests c c' m new → (number k : ℕ) → c' ≡ with_applied c number k → IsUpAt beside (worked n) c' new
   applied_up still rests number k is =
       up_with n c c' m new n.halted (burned n.fuse) (Waits c m) (Resting c m) moves still fuse up (applied_log c number k c' is) (ap (λ (x : Core). x.halted) is ∙ up.halted) (λ none. none)
-      (λ none told. rests_with c c' n.log n.base m new (applied_log c number k c' is).ring rests (up.content none (sym moves.tells ∙ told))) rested
+      (λ none told. rests_with c c' n.log n.base m new (applied_log c number k c' is).ring (applied_log c number k c' is).header rests (up.content none (sym moves.tells ∙ told))) rested
 
   -- or halted
-  pub applied_halted : IsFalse new.down → (disk : ℕ) → Ended c (Some disk) c' → IsUpAt links (halted_at n disk) c' new
+  pub applied_halted : IsFalse new.down → (disk : ℕ) → Ended c (Some disk) c' → IsUpAt beside (halted_at n disk) c' new
   applied_halted still disk ended =
       up_with n c c' m new (Some disk) (burned n.fuse) (Waits c m) (Resting c m) moves still fuse up (ended_log c (Some disk) c' ended) ended.halted_is (λ none. cc)
       (λ none. absurd (never none)) rested
@@ -60,7 +60,7 @@ module _ {links : List KeptLink} (n : Node) (c c' : Core) (m new : Meaning) (up 
       never e = cc
 
 -- an apply whose fuse ran out
-pub applied_cut : {links : List KeptLink} (n : Node) (c : Core) (m new : Meaning) → IsUpAt links n c m → CanApply n → Lawful m → Lawful new → Moves (Waits c m) (Resting c m) m new → IsTrue new.down → IsFused n.fuse × IsHeldAt links n new
+pub applied_cut : {beside : Beside} (n : Node) (c : Core) (m new : Meaning) → IsUpAt beside n c m → CanApply n → Lawful m → Lawful new → Moves (Waits c m) (Resting c m) m new → IsTrue new.down → IsFused n.fuse × IsHeldAt beside n new
 applied_cut n c m new up can lawful after moves down = (
   fused_by n.fuse (Waits c m) (Resting c m) m new moves up.fuse up.up down,
   held_moved n c m new (Waits c m) (Resting c m) moves up (rested n c c m new up can lawful after moves),
@@ -75,8 +75,8 @@ applied_reached (Some why) c to m new c' number is = absurd (let e : Ok number �
 reached : (applied to last safe number : ℕ) → applied ≤ last → last ≡ safe → number ≡ max applied (min to last) → (min to safe ≤ number) × (number ≤ safe)
 reached applied to last safe number known head is = (omega arith, omega arith)
 
-by_result : {links : List KeptLink} (n : Node) (to : ℕ) (c c' : Core) (m new : Meaning) (result : Result ℕ No) → IsUpAt links n c m → CanApply n → IsSound c m → Lawful m → Lawful new → IsFalse new.down
-    → Applies c to m new c' result → OnOk result (Rests c c' m new) → Moves (Waits c m) (Resting c m) m new → AppliedAs links n to c' m new result
+by_result : {beside : Beside} (n : Node) (to : ℕ) (c c' : Core) (m new : Meaning) (result : Result ℕ No) → IsUpAt beside n c m → CanApply n → IsSound c m → Lawful m → Lawful new → IsFalse new.down
+    → Applies c to m new c' result → OnOk result (Rests c c' m new) → Moves (Waits c m) (Resting c m) m new → AppliedAs beside n to c' m new result
 by_result n to c c' m new (Ok number) up can sound lawful after still applies rests moves =
     let number_is = reached c.applied to (last_of c) n.safe number sound.known up.head applies.0 in
     (number_is.0, number_is.1, applied_up n c c' m new up can lawful after moves still rests number applies.1.0 applies.1.1)
@@ -85,8 +85,8 @@ by_result n to c c' m new (Err Down) up can sound lawful after still fails rests
 by_result n to c c' m new (Err other) up can sound lawful after still fails rests moves = fails
 
 -- an apply after which the shelf is up
-pub applied_as : {links : List KeptLink} (n : Node) (to : ℕ) (c c' : Core) (m new : Meaning) (result : Result ℕ No) → IsUpAt links n c m → CanApply n → IsSound c m → Lawful m → Lawful new → IsFalse new.down
-    → ApplyIs (unless_halted c.halted None) c to m new c' result → OnOk result (Rests c c' m new) → Moves (Waits c m) (Resting c m) m new → AppliedAs links n to c' m new result
+pub applied_as : {beside : Beside} (n : Node) (to : ℕ) (c c' : Core) (m new : Meaning) (result : Result ℕ No) → IsUpAt beside n c m → CanApply n → IsSound c m → Lawful m → Lawful new → IsFalse new.down
+    → ApplyIs (unless_halted c.halted None) c to m new c' result → OnOk result (Rests c c' m new) → Moves (Waits c m) (Resting c m) m new → AppliedAs beside n to c' m new result
 applied_as n to c c' m new result up can sound lawful after still is rests moves =
     by_result n to c c' m new result up can sound lawful after still
     (subst (λ (o : Option ℕ). ApplyIs (unless_halted o None) c to m new c' result) (up.halted ∙ can.running) is) rests moves

@@ -4,7 +4,7 @@ use Rattle.std.specs.Prelude.{Option, Some, None, Result, Ok, Err, OnOk, IsFalse
 use Rattle.vx_model.specs.Answer.{is_too_large}
 use Rattle.vx_model.specs.declared.no.No.{No}
 use Rattle.vx_model.specs.declared.no.No.TheVariants.{Device, Size, Range, Limit, Down as IsDown}
-use Rattle.vx_model.specs.declared.state.KeptLink.{KeptLink}
+use Rattle.vx_diskset.specs.Holds.{Beside}
 use Rattle.vx_model.specs.declared.no.Counted.TheVariants.{Number}
 use Rattle.vx_model.specs.Content.{blocks_in}
 use Rattle.vx_disk.specs.Burns.{FallsShort, RackIsShort}
@@ -16,7 +16,7 @@ use Rattle.vx_disk.proofs.Alikes.{picked_stable}
 use Rattle.vx_ringio.proofs.Spending.{loses_none, loses_both, loses_fewer, works_since}
 use Rattle.vx_ringio.specs.Spends.{BurntOut, Loses, MakesAtLeast, Passed, Spends, Spent}
 use Rattle.vx_rvg.specs.Groups.{ApplyIs, Fails, WriteIs, unless_halted, write_refusal}
-use Rattle.vx_rvg.specs.Saves.{SaveIs, reclaim_refusal}
+use Rattle.vx_rvg.specs.Saves.{SaveIs, change_refusal, reclaim_refusal}
 use Rattle.vx_rvg.specs.Views.{Core, last_of}
 use Rattle.vx_rvg.specs.declared.group.Rvg.{Rvg}
 use Rattle.vx_srl.specs.Views.{BodyFits, free_of, most_number}
@@ -26,6 +26,7 @@ use Rattle.vx_history.specs.World.{Node}
 use Rattle.vx_diskset.specs.Asked.{CutsShort, LeavesFuse, MayCrash, disks_in, size_in}
 use Rattle.vx_diskset.specs.Burning.{Burnt, NoMore, IsLogged, OffIf, said_by}
 use Rattle.vx_diskset.specs.DiskSets.{is_off}
+use Rattle.vx_diskset.specs.Keeps.{done_by}
 use Rattle.vx_diskset.specs.Stands.{IsUpAt, StandsAt}
 use Rattle.vx_diskset.specs.declared.disk_set.DiskSet.{DiskSet}
 use Rattle.vx_diskset.specs.declared.disk_set.DiskSet.TheVariants.{Up}
@@ -71,6 +72,11 @@ reclaim_off c to after old new c' r up is =
     save_by (reclaim_refusal c to) c after old new c' r
     (unless c.halted (if leb c.log.header.low to && (leb most_number c.log.header.stamp || leb most_number to) then Some (Limit Number most_number) else None)
     (one_of (leb c.log.header.low to && (leb most_number c.log.header.stamp || leb most_number to)) (Some (Limit Number most_number)) None refl tt)) up is
+
+pub state_off : (c : Core) (after : Core) (old new : Meaning) (c' : Core) (r : Result (Unit {0}) No) → IsFalse new.down → SaveIs (change_refusal c) c after old new c' r → OffIf r new.down
+state_off c after old new c' r up is =
+    save_by (change_refusal c) c after old new c' r
+    (unless c.halted (if leb most_number c.log.header.stamp then Some (Limit Number most_number) else None) (one_of (leb most_number c.log.header.stamp) (Some (Limit Number most_number)) None refl tt)) up is
 
 write_by : (refusal : Option No) (c : Core) (vol start : ℕ) (bytes : List ℕ) (old new : Meaning) (c' : Core) (r : Result ℕ No) → never_down refusal → IsFalse new.down → WriteIs refusal c vol start bytes old new c' r → OffIf r new.down
 write_by (Some why) c vol start bytes old new c' r never up is = err_off r why new.down never up is.0
@@ -122,6 +128,17 @@ burnt_on P size before after r None None up off done spent = tt
 burnt_on P size before after r None (Some n) up off done spent = absurd spent
 burnt_on P size before after r (Some o) None up off done spent = absurd spent
 burnt_on P size before after r (Some o) (Some n) up off done spent = (burnt_by P size before after r o n up off (done_at P r o n done) spent, spent.failing)
+
+-- the same of a call that answers nothing
+done_with : (size : ℕ → ℕ) (before after : Bool) (r : Result (Unit {0}) No) (o n : Disks) → IsFalse before → OffIf r after → Spent size before after o n → Burnt NoMore (done_by r) size o n
+done_with size before after (Ok done) o n up off spent = spent_up size before after o n off spent
+done_with size before after (Err why) o n up off spent = by_why NoMore size before after why o n up off spent
+
+done_burnt : (size : ℕ → ℕ) (before after : Bool) (r : Result (Unit {0}) No) (o n : Option Disks) → IsFalse before → OffIf r after → WithDisks o n (Spent size before after) → OnDisks o n (Burnt NoMore (done_by r) size)
+done_burnt size before after r None None up off spent = tt
+done_burnt size before after r None (Some n) up off spent = absurd spent
+done_burnt size before after r (Some o) None up off spent = absurd spent
+done_burnt size before after r (Some o) (Some n) up off spent = (done_with size before after r o n up off spent, spent.failing)
 
 least_both : (size : ℕ → ℕ) (before after : Bool) (k : ℕ) (a b c : Option Disks) → IsFalse after → WithDisks a b (Spent size before after) → WithDisks b c (λ x y. Loses k x.fuse y.fuse) → WithDisks a c (λ x y. Loses k x.fuse y.fuse)
 least_both size before after k None None None up spent made = tt
@@ -237,11 +254,11 @@ module _ {R : Type 0} {g : Ghosts R} where
   up_same rvg there is = cc
 
   -- of a site that is up
-  pub cuts_up : (links : List KeptLink) (n : Node) (e : DiskSet R g) (there : Rvg R g) (bytes : List ℕ) (r : Result ℕ No) → e ≡ Up there → StandsAt links n e
+  pub cuts_up : (beside : Beside) (n : Node) (e : DiskSet R g) (there : Rvg R g) (bytes : List ℕ) (r : Result ℕ No) → e ≡ Up there → StandsAt beside n e
       → (IsFalse (g.meaning there.shelf).down → blocks_in bytes < free_of there.core.log → BodyFits there.core.log bytes → r ≡ Err IsDown → RackIsShort 4 (g.meaning there.shelf).disks) → CutsShort bytes (said_by r) e
-  cuts_up links n e there bytes r at stands cuts = record {
+  cuts_up beside n e there bytes r at stands cuts = record {
     short = λ rvg is hand fits said.
-        let up : IsUpAt links n there.core (g.meaning there.shelf) = subst (λ (x : DiskSet R g). StandsAt links n x) at stands in
+        let up : IsUpAt beside n there.core (g.meaning there.shelf) = subst (λ (x : DiskSet R g). StandsAt beside n x) at stands in
         let same : there ≡ rvg = up_same rvg there (sym at ∙ is) in
         subst (λ (k : Rvg R g). RackIsShort 4 (g.meaning k.shelf).disks) same
         (cuts up.up (subst (λ (k : Rvg R g). blocks_in bytes < free_of k.core.log) (sym same) hand) (subst (λ (k : Rvg R g). BodyFits k.core.log bytes) (sym same) fits) (off_result r said));
@@ -261,6 +278,12 @@ module _ {R : Type 0} {g : Ghosts R} where
     told = burnt_on P (g.meaning old.shelf).size (g.meaning old.shelf).down (g.meaning new.shelf).down r (g.meaning old.shelf).disks (g.meaning new.shelf).disks up off done spends.told;
   }
 
+  -- a call that answers nothing
+  pub done_called : (r : Result (Unit {0}) No) (old new : Rvg R g) → IsFalse (g.meaning old.shelf).down → OffIf r (g.meaning new.shelf).down → Spends (g.meaning old.shelf) (g.meaning new.shelf) → LeavesFuse NoMore (done_by r) (Up old) (Up new)
+  done_called r old new up off spends = record {
+    told = done_burnt (g.meaning old.shelf).size (g.meaning old.shelf).down (g.meaning new.shelf).down r (g.meaning old.shelf).disks (g.meaning new.shelf).disks up off spends.told;
+  }
+
   -- a call that did nothing, and was not answered 6
   pub called_still : (P : Disks → Disks → Type 0) (why : No) (e : DiskSet R g) → is_off why ≡ false → LeavesFuse P (Refused why) e e
   called_still P why e on = record { told = still_by P why (size_in e) (disks_in e) on }
@@ -273,7 +296,7 @@ module _ {R : Type 0} {g : Ghosts R} where
   }
 
   -- a call on the group of a site that is up
-  pub called_up : (P : Disks → Disks → Type 0) (said : Said) (links : List KeptLink) (n : Node) (e after : DiskSet R g) (rvg : Rvg R g) → e ≡ Up rvg → StandsAt links n e → (IsUpAt links n rvg.core (g.meaning rvg.shelf) → LeavesFuse P said (Up rvg) after) → LeavesFuse P said e after
-  called_up P said links n e after rvg is stands called =
-      let up : IsUpAt links n rvg.core (g.meaning rvg.shelf) = subst (λ (x : DiskSet R g). StandsAt links n x) is stands in
+  pub called_up : (P : Disks → Disks → Type 0) (said : Said) (beside : Beside) (n : Node) (e after : DiskSet R g) (rvg : Rvg R g) → e ≡ Up rvg → StandsAt beside n e → (IsUpAt beside n rvg.core (g.meaning rvg.shelf) → LeavesFuse P said (Up rvg) after) → LeavesFuse P said e after
+  called_up P said beside n e after rvg is stands called =
+      let up : IsUpAt beside n rvg.core (g.meaning rvg.shelf) = subst (λ (x : DiskSet R g). StandsAt beside n x) is stands in
       subst (λ (x : DiskSet R g). LeavesFuse P said x after) (sym is) (called up)

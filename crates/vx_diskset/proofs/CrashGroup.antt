@@ -1,5 +1,5 @@
 -- What a crash leaves of a site that was up.
-use Rattle.std.proofs.Common.{◌≡◌, ℕ, zero, suc, ◌+◌, ◌-◌, ◌<◌, ◌≤◌, Bool, true, false, List, [], ◌∷◌, length, take, drop, Option, Some, None, IsTrue, MatchOption, refl, sym, ◌∙◌, ap, subst, arith}
+use Rattle.std.proofs.Common.{◌≡◌, ◌⊎◌, inl, inr, ⊎_elim, ℕ, zero, suc, ◌+◌, ◌-◌, ◌<◌, ◌≤◌, Bool, true, false, List, [], ◌∷◌, length, take, drop, Option, Some, None, IsTrue, MatchOption, refl, sym, ◌∙◌, ap, subst, arith}
 use Rattle.std.proofs.lemmas.List.{length-take}
 use Rattle.std.specs.Prelude.{slice_get, Err}
 use Rattle.vx_model.specs.Content.{Content, Write, put, fold_writes}
@@ -8,7 +8,7 @@ use Rattle.vx_history.specs.Steps.{crashed, half_begun}
 use Rattle.vx_model.specs.declared.state.State.{State}
 use Rattle.vx_model.specs.declared.units.Units.{Units}
 use Rattle.vx_srlfmt.specs.Kinds.{Kind}
-use Rattle.vx_model.specs.declared.state.KeptLink.{KeptLink}
+use Rattle.vx_diskset.specs.Holds.{Beside}
 use Rattle.vx_disk.specs.Racks.{IsRack, Stopped}
 use Rattle.vx_disk.specs.Shelf.{Meaning, Image, Keeps, Lawful}
 use Rattle.vx_overlay.specs.Writes.{newest_of}
@@ -29,11 +29,12 @@ use Rattle.vx_model.specs.declared.no.No.{No}
 use Rattle.vx_model.specs.declared.no.No.TheVariants.{Device, Limit, Down as Off}
 use Rattle.vx_events.specs.Facts.{values_from}
 use Rattle.vx_diskset.specs.Lasts.{FoundWith, LeftWith}
-use Rattle.vx_diskset.specs.Holds.{state_with}
-use Rattle.vx_diskset.specs.Layouts.{raw_units, units_of}
-use Rattle.vx_events.specs.Stamps.{most_stamp}
+use Rattle.vx_diskset.specs.Holds.{HasDoubted, HasWrites, Kept, itself, state_with, sure_of}
+use Rattle.vx_diskset.specs.Layouts.{LiesOn, raw_units, units_of}
+use Rattle.vx_diskset.specs.Holds.{most_header}
 use Rattle.vx_diskset.specs.Stands.{IsUpAt, IsHeldAt, IsDownAt, CutAt, IsToldAt}
 use Rattle.vx_diskset.proofs.Laying.{lies_as, lies_sized, sizes_of}
+use Rattle.vx_diskset.proofs.BesideLemmas.{doubted, writes_itself}
 use Rattle.vx_diskset.proofs.StaysUp.{held_up}
 use Rattle.vx_events.proofs.Values.{length-values_from, slice_index-values_from}
 
@@ -108,6 +109,7 @@ pub found_left_with : (units : Units) (ring : ℕ) (state : State) (session stam
 found_left_with units ring state session stamp xs c m i tells one sizes with = record {
   held = with_maps units m i with.held;
   has = record { some = with.has.some; last = with.has.last; writes = with.has.writes; content = with.has.content; whole = with.has.whole };
+  needs = with.needs;
   left = found_left units ring state session stamp with.held m i tells one (subst (λ (k : Content). HasSizes units.vols k m) (sym with.has.content) sizes) with.found;
 }
 
@@ -134,7 +136,7 @@ left_found units ring state session stamp h m i lawful now left = record {
 
 pub left_with : (units : Units) (ring : ℕ) (state : State) (session stamp : ℕ) (xs : List Write) (c : Content) (m : Meaning) (i : Image) → Lawful m → m.now i
     → LeftWith units ring state session stamp xs c m → FoundWith units ring state session stamp i xs c
-left_with units ring state session stamp xs c m i lawful now with = record { held = with.held; has = with.has; found = left_found units ring state session stamp with.held m i lawful now with.left }
+left_with units ring state session stamp xs c m i lawful now with = record { held = with.held; has = with.has; needs = with.needs; found = left_found units ring state session stamp with.held m i lawful now with.left }
 
 -- ---- the sizes of a site's volumes
 
@@ -174,94 +176,128 @@ left_below units ring state session stamp most h m le left = record {
   maps = left.maps;
 }
 
--- how many writes a crash kept, with what it left of them where contents are told
-record Kept (links : List KeptLink) (n : Node) (m : Meaning) : Type 0 where
-  count : ℕ
-  least : n.safe ≤ count
-  most : count ≤ length n.log
-  left : IsTrue m.tells → LeftWith (units_of n) n.ring (state_with n links) n.session (most_stamp n) (take count n.log) (fold_writes n.base (drop n.safe (take count n.log))) m
+-- what a crash kept: the site as its node says it, or what it might be besides, with so many of its writes, and what it left of them where
+-- contents are told
+pub record Fell (beside : Beside) (n : Node) (m : Meaning) : Type 0 where
+  pub kept : Kept
+  pub is : (kept ≡ itself beside n) ⊎ (beside.doubt ≡ Some kept)
+  pub count : ℕ
+  pub least : kept.node.safe ≤ count
+  pub most : count ≤ length kept.node.log
+  pub down : IsDownAt (sure_of kept) (crashed kept.node count) m
 
-module _ {links : List KeptLink} (n : Node) (m new : Meaning) (up : IsHeldAt links n m) (lawful : Lawful new) (rack : IsRack new) (stopped : Stopped m new) where
-  kept : (b : Bool) → new.tells ≡ b → Kept links n new
-  kept true tells =
-      let i = lawful.image tells in
-      let has = up.left i.0 (stopped.now i.0 i.1) in
+module _ (k : Kept) (m new : Meaning) (lies : LiesOn k.node m) (low : k.node.low ≡ 1) (begun : IsTrue m.tells → 0 < k.node.session) (lawful : Lawful new) (rack : IsRack new) (stopped : Stopped m new) where
+  abbrev n : Node
+  n = k.node
+
+  lies_at : (count : ℕ) → LiesOn (crashed n count) new
+  lies_at count = lies_sized n (fold_writes n.base (drop n.safe (take count n.log))).size new (folded_size n.base (drop n.safe (take count n.log))) (lies_as n m new stopped.units stopped.size lies)
+
+  left_at : (i : Image) (has : HasWrites (sure_of k) n i) → new.now i → IsTrue new.tells
+      → LeftWith (units_of n) n.ring (state_with n k.links) n.session (most_header (sure_of k) n) (take has.count n.log) (fold_writes n.base (drop n.safe (take has.count n.log))) new
+  left_at i has now tells =
+      found_left_with (units_of n) n.ring (state_with n k.links) n.session (most_header (sure_of k) n) (take has.count n.log) (fold_writes n.base (drop n.safe (take has.count n.log))) new i tells
+      (λ u b. one_value new i u b lawful rack stopped.down tells now)
+      (sizes_of (units_of n) n.ring n.volumes (fold_writes n.base (drop n.safe (take has.count n.log))) new (lies_at has.count).laid)
+      has.found
+
+  down_at : (count : ℕ) → n.safe ≤ count → count ≤ length n.log
+      → (IsTrue new.tells → LeftWith (units_of n) n.ring (state_with n k.links) n.session (most_header (sure_of k) n) (take count n.log) (fold_writes n.base (drop n.safe (take count n.log))) new)
+      → IsDownAt (sure_of k) (crashed n count) new
+  down_at count least most left = record {
+    state = refl;
+    unfused = refl;
+    down = stopped.down;
+    unarmed = stopped.unarmed;
+    sure = refl;
+    lies = lies_at count;
+    low = low;
+    logged = omega (arith, length-take count n.log, most);
+    begun = λ tells. begun (sym stopped.tells ∙ tells);
+    left = λ tells.
+        let l = left tells in
+        record { held = l.held; has = l.has; needs = l.needs; left = left_below (units_of n) n.ring (state_with n k.links) n.session (most_header (sure_of k) n) (most_header (sure_of k) (crashed n count)) l.held new (omega (arith, least)) l.left };
+  }
+
+module _ {beside : Beside} (n : Node) (m new : Meaning) (up : IsHeldAt beside n m) (lawful : Lawful new) (rack : IsRack new) (stopped : Stopped m new) where
+  fell_itself : (i : Image) → HasWrites beside n i → new.now i → IsTrue new.tells → Fell beside n new
+  fell_itself i has now tells =
+      let own = writes_itself n i has in
       record {
-        count = has.count;
-        least = has.least;
-        most = has.most;
-        left = λ _. found_left_with (units_of n) n.ring (state_with n links) n.session (most_stamp n) (take has.count n.log) (fold_writes n.base (drop n.safe (take has.count n.log))) new i.0 tells
-            (λ u b. one_value new i.0 u b lawful rack stopped.down tells i.1)
-            (sizes_of (units_of n) n.ring n.volumes (fold_writes n.base (drop n.safe (take has.count n.log))) new
-            (lies_sized n (fold_writes n.base (drop n.safe (take has.count n.log))).size new (folded_size n.base (drop n.safe (take has.count n.log)))
-            (lies_as n m new stopped.units stopped.size up.lies)).laid)
-            has.found;
+        kept = itself beside n;
+        is = inl refl;
+        count = own.count;
+        least = own.least;
+        most = own.most;
+        down = down_at (itself beside n) m new up.lies up.low up.begun lawful rack stopped own.count own.least own.most (λ told. left_at (itself beside n) m new up.lies up.low up.begun lawful rack stopped i own now told);
       }
-  kept false untold = record {
+
+  fell_besides : (i : Image) → HasDoubted beside.doubt i → new.now i → IsTrue new.tells → Fell beside n new
+  fell_besides i has now tells =
+      let d = doubted beside.doubt i has in
+      let k : Kept = d.0 in
+      let may = up.may k d.1 in
+      record {
+        kept = k;
+        is = inr d.1;
+        count = d.2.count;
+        least = d.2.least;
+        most = d.2.most;
+        down = down_at k m new may.lies may.low may.begun lawful rack stopped d.2.count d.2.least d.2.most (λ told. left_at k m new may.lies may.low may.begun lawful rack stopped i d.2 now told);
+      }
+
+  fell_by : (b : Bool) → new.tells ≡ b → Fell beside n new
+  fell_by true tells =
+      let i = lawful.image tells in
+      ⊎_elim (λ own. fell_itself i.0 own i.1 tells) (λ other. fell_besides i.0 other i.1 tells) (up.left i.0 (stopped.now i.0 i.1))
+  fell_by false untold = record {
+    kept = itself beside n;
+    is = inl refl;
     count = n.safe;
     least = omega arith;
     most = up.logged;
-    left = λ tells. absurd (never tells untold);
+    down = down_at (itself beside n) m new up.lies up.low up.begun lawful rack stopped n.safe (omega arith) up.logged (λ tells. absurd (never tells untold));
   }
     where
       never : {b : Bool} → b ≡ true → b ≡ false → ⊥
       never is not = cc
 
   -- a site that was up is down with one of the numbers that a crash may keep
-  pub crash_down : (count : ℕ) × (n.safe ≤ count) × (count ≤ length n.log) × IsDownAt links (crashed n count) new
-  crash_down =
-      let k = kept new.tells refl in (
-        k.count,
-        k.least,
-        k.most,
-        record {
-          state = refl;
-          unfused = refl;
-          down = stopped.down;
-          unarmed = stopped.unarmed;
-          lies = lies_sized n (fold_writes n.base (drop n.safe (take k.count n.log))).size new (folded_size n.base (drop n.safe (take k.count n.log)))
-              (lies_as n m new stopped.units stopped.size up.lies);
-          low = up.low;
-          logged = omega (arith, length-take k.count n.log, k.most);
-          begun = λ tells. up.begun (sym stopped.tells ∙ tells);
-          left = λ tells.
-              let l = k.left tells in
-              record { held = l.held; has = l.has; left = left_below (units_of n) n.ring (state_with n links) n.session (most_stamp n) (most_stamp (crashed n k.count)) l.held new (omega (arith, k.least)) l.left };
-        },
-      )
+  pub crash_down : Fell beside n new
+  crash_down = fell_by new.tells refl
 
 module _ {R : Type 0} {g : Ghosts R} where
-  held_crashed : {links : List KeptLink} (n : Node) (old shelf new : R) → shelf ≡ old → IsHeldAt links n (g.meaning old) → Lawful (g.meaning new) → IsRack (g.meaning new) → Stopped (g.meaning shelf) (g.meaning new) → CrashedAt {g = g} links n (Down new)
+  held_crashed : {beside : Beside} (n : Node) (old shelf new : R) → shelf ≡ old → IsHeldAt beside n (g.meaning old) → Lawful (g.meaning new) → IsRack (g.meaning new) → Stopped (g.meaning shelf) (g.meaning new) → CrashedAt {g = g} beside n (Down new)
   held_crashed n old shelf new is held lawful rack stopped =
       let k = crash_down n (g.meaning old) (g.meaning new) held lawful rack (subst (λ (r : R). Stopped (g.meaning r) (g.meaning new)) is stopped) in
-      record { count = k.0; least = k.1; most = k.2; stands = k.3 }
+      record { kept = k.kept; is = k.is; count = k.count; least = k.least; most = k.most; stands = k.down }
 
   -- the disk set of a site that crashed
-  pub crashed_at : {links : List KeptLink} (n : Node) (core : Core) (old shelf new : R) → shelf ≡ old → IsUpAt links n core (g.meaning old) → Lawful (g.meaning new) → IsRack (g.meaning new) → Stopped (g.meaning shelf) (g.meaning new)
-      → CrashedAt {g = g} links n (Down new)
+  pub crashed_at : {beside : Beside} (n : Node) (core : Core) (old shelf new : R) → shelf ≡ old → IsUpAt beside n core (g.meaning old) → Lawful (g.meaning new) → IsRack (g.meaning new) → Stopped (g.meaning shelf) (g.meaning new)
+      → CrashedAt {g = g} beside n (Down new)
   crashed_at n core old shelf new is up lawful rack stopped = held_crashed n old shelf new is (held_up n core (g.meaning old) up) lawful rack stopped
 
   -- the same where its fuse ran out before
-  pub cut_crashed : {links : List KeptLink} (n : Node) (e : DiskSet R g) (rvg : Rvg R g) (shelf new : R) → e ≡ Up rvg → shelf ≡ rvg.shelf → CutAt links n e → Lawful (g.meaning new) → IsRack (g.meaning new) → Stopped (g.meaning shelf) (g.meaning new)
-      → CrashedAt {g = g} links n (Down new)
-  cut_crashed {links} n e rvg shelf new is same cut lawful rack stopped = held_crashed n rvg.shelf shelf new same (subst (CutAt links n) is cut) lawful rack stopped
+  pub cut_crashed : {beside : Beside} (n : Node) (e : DiskSet R g) (rvg : Rvg R g) (shelf new : R) → e ≡ Up rvg → shelf ≡ rvg.shelf → CutAt beside n e → Lawful (g.meaning new) → IsRack (g.meaning new) → Stopped (g.meaning shelf) (g.meaning new)
+      → CrashedAt {g = g} beside n (Down new)
+  cut_crashed {beside} n e rvg shelf new is same cut lawful rack stopped = held_crashed n rvg.shelf shelf new same (subst (CutAt beside n) is cut) lawful rack stopped
 
   -- a write or an apply whose fuse ran out, and the crash behind it
-  pub wrote_off : {links : List KeptLink} (n : Node) (x : Write) (old mid new : DiskSet R g) (why : No) → is_off why ≡ true → WroteUp links n x old mid (Err why) → (CutAt links (half_begun n x) mid → CrashedAt links (half_begun n x) new) → (IsToldAt new → IsToldAt mid) → WroteAt links n x old new (Err why)
+  pub wrote_off : {beside : Beside} (n : Node) (x : Write) (old mid new : DiskSet R g) (why : No) → is_off why ≡ true → WroteUp beside n x old mid (Err why) → (CutAt beside (half_begun n x) mid → CrashedAt beside (half_begun n x) new) → (IsToldAt new → IsToldAt mid) → WroteAt beside n x old new (Err why)
   wrote_off n x old mid new Off off is falls later = (is.0, falls is.1, (λ calls told exact. is.2 calls (later told) exact), is.3)
   wrote_off n x old mid new other off is falls later = absurd (cc)
 
-  pub wrote_on : (links : List KeptLink) (n : Node) (x : Write) (old new : DiskSet R g) (why : No) → is_off why ≡ false → WroteUp links n x old new (Err why) → WroteAt links n x old new (Err why)
-  wrote_on links n x old new Off off is = absurd (cc)
-  wrote_on links n x old new (Device disk) off is = is
-  wrote_on links n x old new (Limit what most) off is = is
-  wrote_on links n x old new other off is = is
+  pub wrote_on : (beside : Beside) (n : Node) (x : Write) (old new : DiskSet R g) (why : No) → is_off why ≡ false → WroteUp beside n x old new (Err why) → WroteAt beside n x old new (Err why)
+  wrote_on beside n x old new Off off is = absurd (cc)
+  wrote_on beside n x old new (Device disk) off is = is
+  wrote_on beside n x old new (Limit what most) off is = is
+  wrote_on beside n x old new other off is = is
 
-  pub applied_off : {links : List KeptLink} (n : Node) (to : ℕ) (old mid new : DiskSet R g) (why : No) → is_off why ≡ true → AppliedUp links n to old mid (Err why) → (CutAt links n mid → CrashedAt links n new) → AppliedAt links n to old new (Err why)
+  pub applied_off : {beside : Beside} (n : Node) (to : ℕ) (old mid new : DiskSet R g) (why : No) → is_off why ≡ true → AppliedUp beside n to old mid (Err why) → (CutAt beside n mid → CrashedAt beside n new) → AppliedAt beside n to old new (Err why)
   applied_off n to old mid new Off off is falls = (is.0, falls is.1)
   applied_off n to old mid new other off is falls = absurd (cc)
 
-  pub applied_on : (links : List KeptLink) (n : Node) (to : ℕ) (old new : DiskSet R g) (why : No) → is_off why ≡ false → AppliedUp links n to old new (Err why) → AppliedAt links n to old new (Err why)
-  applied_on links n to old new Off off is = absurd (cc)
-  applied_on links n to old new (Device disk) off is = is
-  applied_on links n to old new other off is = is
+  pub applied_on : (beside : Beside) (n : Node) (to : ℕ) (old new : DiskSet R g) (why : No) → is_off why ≡ false → AppliedUp beside n to old new (Err why) → AppliedAt beside n to old new (Err why)
+  applied_on beside n to old new Off off is = absurd (cc)
+  applied_on beside n to old new (Device disk) off is = is
+  applied_on beside n to old new other off is = is

@@ -7,7 +7,7 @@ use Rattle.vx_model.specs.Content.{Content, Write, blocks_in}
 use Rattle.vx_model.specs.declared.limits.TheConstants.{MOST_CALL_BLOCKS}
 use Rattle.vx_history.specs.World.{Node, Fuse, FuseSet}
 use Rattle.vx_model.specs.declared.no.No.{No}
-use Rattle.vx_model.specs.declared.state.KeptLink.{KeptLink}
+use Rattle.vx_diskset.specs.Holds.{Beside}
 use Rattle.vx_disk.specs.Causes.{WithDisks}
 use Rattle.vx_disk.specs.Disks.{Disks}
 use Rattle.vx_disk.specs.Shelf.{Meaning}
@@ -71,7 +71,7 @@ first_pushed c c' xs volume start bytes is idle first = record {
 }
 
 -- a log that holds all of its writes
-taken_same : (xs : List Write) → blocks_taken xs ≡ taken xs
+pub taken_same : (xs : List Write) → blocks_taken xs ≡ taken xs
 taken_same [] = refl
 taken_same (x ∷ xs) = let rest = taken_same xs in omega (arith, rest)
 
@@ -111,7 +111,7 @@ lets_pass : (n : Node) (m : Meaning) (calls : ℕ) → n.fuse ≡ FuseSet calls 
 lets_pass n m calls set has = subst (λ (f : Fuse). HasFuse f m) set has
 
 -- a site that is up, and a write that is exactly four calls
-module _ {links : List KeptLink} (n : Node) (c : Core) (m : Meaning) (volume start : ℕ) (bytes : List ℕ) (up : IsUpAt links n c m) (none : n.halted ≡ None) (sound : IsSound c m) (told : IsTrue m.tells) (some : 0 < blocks_in bytes)
+module _ {beside : Beside} (n : Node) (c : Core) (m : Meaning) (volume start : ℕ) (bytes : List ℕ) (up : IsUpAt beside n c m) (none : n.halted ≡ None) (sound : IsSound c m) (told : IsTrue m.tells) (some : 0 < blocks_in bytes)
     (keeps : KeepsAll n) (room : taken n.log + (blocks_in bytes + 1) ≤ n.ring) where
   idle : c.log.staged ≡ []
   idle = sound.idle (up.halted ∙ none) up.up
@@ -137,7 +137,7 @@ module _ {links : List KeptLink} (n : Node) (c : Core) (m : Meaning) (volume sta
 
 -- ---- the same of a group before and behind the making of room, which changed nothing
 
-module _ {links : List KeptLink} {R : Type 0} {g : Ghosts R} (n : Node) (old mid : Rvg R g) (volume start : ℕ) (bytes : List ℕ) (up : IsUpAt links n old.core (g.meaning old.shelf)) (none : n.halted ≡ None) (told : IsTrue (g.meaning old.shelf).tells)
+module _ {beside : Beside} {R : Type 0} {g : Ghosts R} (n : Node) (old mid : Rvg R g) (volume start : ℕ) (bytes : List ℕ) (up : IsUpAt beside n old.core (g.meaning old.shelf)) (none : n.halted ≡ None) (told : IsTrue (g.meaning old.shelf).tells)
     (some : 0 < blocks_in bytes) where
   at_once : KeepsAll n → taken n.log + (blocks_in bytes + 1) ≤ n.ring → (blocks_in bytes < free_of old.core.log → mid ≡ old) → mid ≡ old
   at_once keeps room idle = idle (hand_here n old.core (g.meaning old.shelf) volume start bytes up none old.sound told some keeps room)

@@ -1,7 +1,7 @@
 -- What the setting of the fuse leaves of a site.
 use Rattle.std.proofs.Common.{◌≡◌, ◌∙◌, ℕ, List, sym, refl, Option, Some, None, MatchOption}
 use Rattle.vx_history.specs.World.{Node, FuseSet}
-use Rattle.vx_model.specs.declared.state.KeptLink.{KeptLink}
+use Rattle.vx_diskset.specs.Holds.{Beside}
 use Rattle.vx_disk.specs.Causes.{OnDisks}
 use Rattle.vx_disk.specs.Disks.{Disks, SameBlocks}
 use Rattle.vx_disk.specs.Racks.{IsRack, Alike}
@@ -16,6 +16,7 @@ use Rattle.vx_rvg.proofs.WriteSound.{ended_sound}
 use Rattle.vx_diskset.specs.Fuses.{LetsPass}
 use Rattle.vx_diskset.specs.Stands.{IsUpAt}
 use Rattle.vx_diskset.proofs.Laying.{lies_as}
+use Rattle.vx_diskset.proofs.BesideLemmas.{may_same, site_map}
 use Rattle.vx_diskset.proofs.LastWrites.{still_with}
 
 -- ---- a group on a rack of which only the fuse changed
@@ -71,8 +72,8 @@ lets_by calls pick (Some o) None with d is = absurd with
 lets_by calls pick (Some o) (Some n) with d is = (pick, with.0.1)
 
 -- a site that is up, with its fuse
-pub up_fused : {links : List KeptLink} (n : Node) (c : Core) (m new : Meaning) (calls pick : ℕ) → IsRack new → Alike m new → new.down ≡ m.down → OnDisks m.disks new.disks (λ o n. SameBlocks o n × (n.fuse ≡ Some (calls, pick)))
-    → IsUpAt links n c m → IsUpAt links (record n { fuse = FuseSet calls }) c new
+pub up_fused : {beside : Beside} (n : Node) (c : Core) (m new : Meaning) (calls pick : ℕ) → IsRack new → Alike m new → new.down ≡ m.down → OnDisks m.disks new.disks (λ o n. SameBlocks o n × (n.fuse ≡ Some (calls, pick)))
+    → IsUpAt beside n c m → IsUpAt beside (record n { fuse = FuseSet calls }) c new
 up_fused n c m new calls pick rack alike down disks up = record {
   state = up.state;
   up = down ∙ up.up;
@@ -93,6 +94,9 @@ up_fused n c m new calls pick rack alike down disks up = record {
   halted = up.halted;
   logged = up.logged;
   durable = up.durable;
+  takes = up.takes;
   content = λ none told. still_with c n.log n.base m new (alike_stands c m new alike) (up.content none (sym alike.contents.tells ∙ told));
-  left = λ i now. let has = up.left i (alike.contents.now i now) in record { count = has.count; least = has.least; most = has.most; found = has.found };
+  left = λ i now. site_map n (record n { fuse = FuseSet calls }) i (λ has. record { count = has.count; least = has.least; most = has.most; found = has.found }) (up.left i (alike.contents.now i now));
+  sure = up.sure;
+  may = λ k is. may_same k m new alike.contents.units alike.contents.size alike.contents.tells (up.may k is);
 }

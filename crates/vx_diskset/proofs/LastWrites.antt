@@ -9,7 +9,9 @@ use Rattle.vx_rvg.specs.Views.{Core}
 use Rattle.vx_rvg.proofs.ContentFacts.{stands_count, stands_found}
 use Rattle.vx_model.specs.declared.limits.TheConstants.{MOST_CALL_BLOCKS}
 use Rattle.vx_events.specs.Fuses.{taken}
+use Rattle.vx_srlfmt.specs.declared.header.Header.{Header}
 use Rattle.vx_diskset.specs.Lasts.{FoundWith, HasLast, StandsWith}
+use Rattle.vx_diskset.specs.Needs.{NoneNeeds}
 use Rattle.vx_diskset.proofs.ExactWrite.{taken_push}
 
 -- what a group has of itself in an image
@@ -61,10 +63,11 @@ pub writing_found : (core : Core) (xs : List Write) (x : Write) (c : Content) (m
 writing_found core xs x c m i writing stood = by (writing.each stood.held stood.stands).0 (writing.each stood.held stood.stands).1
   where
     by : (k : ℕ) → FoundAs core i (with_writes (take k (x ∷ [])) stood.held) → FoundOf core i xs c ⊎ FoundOf core i (xs ++ x ∷ []) (put c x)
-    by zero found = inl (record { held = with_writes [] stood.held; has = last_same core.log.ring xs c stood.held stood.has; found = found })
+    by zero found = inl (record { held = with_writes [] stood.held; has = last_same core.log.ring xs c stood.held stood.has; needs = stood.needs; found = found })
     by (suc k) found = inr (record {
       held = with_writes (x ∷ []) stood.held;
       has = last_more core.log.ring xs x c stood.held stood.has;
+      needs = stood.needs;
       found = subst (λ (ws : List Write). FoundAs core i (with_writes (x ∷ ws) stood.held)) (none_more k) found;
     })
 
@@ -72,28 +75,34 @@ writing_found core xs x c m i writing stood = by (writing.each stood.held stood.
 in_ring : (core core' : Core) (xs : List Write) (c : Content) (h : Holding) → core'.log.ring ≡ core.log.ring → HasLast core.log.ring xs c h → HasLast core'.log.ring xs c h
 in_ring core core' xs c h same has = subst (λ (r : ℕ). HasLast r xs c h) (sym same) has
 
+-- behind a header that keeps the same links
+same_needs : (core core' : Core) (low : ℕ) → core'.log.header ≡ core.log.header → NoneNeeds core.log.header.state.links low → NoneNeeds core'.log.header.state.links low
+same_needs core core' low same needs = subst (λ (h : Header). NoneNeeds h.state.links low) (sym same) needs
+
 -- behind a write
-pub write_with : (core core' : Core) (xs : List Write) (x : Write) (c : Content) (m m' : Meaning) → core'.log.ring ≡ core.log.ring → ((h : Holding) → Stands core h m → Stands core' (with_writes (x ∷ []) h) m') → StandsWith core xs c m
+pub write_with : (core core' : Core) (xs : List Write) (x : Write) (c : Content) (m m' : Meaning) → core'.log.ring ≡ core.log.ring → core'.log.header ≡ core.log.header → ((h : Holding) → Stands core h m → Stands core' (with_writes (x ∷ []) h) m') → StandsWith core xs c m
     → StandsWith core' (xs ++ x ∷ []) (put c x) m'
-write_with core core' xs x c m m' same stands stood = record {
+write_with core core' xs x c m m' same header stands stood = record {
   held = with_writes (x ∷ []) stood.held;
+  needs = same_needs core core' (stood.held.low - 1) header stood.needs;
   has = in_ring core core' (xs ++ x ∷ []) (put c x) (with_writes (x ∷ []) stood.held) same (last_more core.log.ring xs x c stood.held stood.has);
   stands = stands stood.held stood.stands;
 }
 
 -- an image in a call that changes nothing, and behind it
 pub resting_found : (core : Core) (xs : List Write) (c : Content) (m : Meaning) (i : Image) → Resting core m i → StandsWith core xs c m → FoundOf core i xs c
-resting_found core xs c m i resting stood = record { held = stood.held; has = stood.has; found = resting.each stood.held stood.stands }
+resting_found core xs c m i resting stood = record { held = stood.held; has = stood.has; needs = stood.needs; found = resting.each stood.held stood.stands }
 
-pub rests_with : (core core' : Core) (xs : List Write) (c : Content) (m m' : Meaning) → core'.log.ring ≡ core.log.ring → Rests core core' m m' → StandsWith core xs c m → StandsWith core' xs c m'
-rests_with core core' xs c m m' same rests stood = record { held = stood.held; has = in_ring core core' xs c stood.held same stood.has; stands = rests.each stood.held stood.stands }
+pub rests_with : (core core' : Core) (xs : List Write) (c : Content) (m m' : Meaning) → core'.log.ring ≡ core.log.ring → core'.log.header ≡ core.log.header → Rests core core' m m' → StandsWith core xs c m → StandsWith core' xs c m'
+rests_with core core' xs c m m' same header rests stood = record { held = stood.held; has = in_ring core core' xs c stood.held same stood.has; needs = same_needs core core' (stood.held.low - 1) header stood.needs; stands = rests.each stood.held stood.stands }
 
 pub still_with : (core : Core) (xs : List Write) (c : Content) (m m' : Meaning) → ((h : Holding) → Stands core h m → Stands core h m') → StandsWith core xs c m → StandsWith core xs c m'
-still_with core xs c m m' stands stood = record { held = stood.held; has = stood.has; stands = stands stood.held stood.stands }
+still_with core xs c m m' stands stood = record { held = stood.held; has = stood.has; needs = stood.needs; stands = stands stood.held stood.stands }
 
 -- an image in a call that gives writes up, as there was no room for the largest one, and behind it
 module _ (core after : Core) (xs : List Write) (c : Content) (m : Meaning) (some : 0 < after.log.header.low) (last : after.log.header.low + length after.log.held ≡ length xs + 1)
-    (few : length after.log.held ≤ length core.log.held) (same : after.log.ring ≡ core.log.ring) (full : taken xs + (MOST_CALL_BLOCKS + 1) ≤ core.log.ring → ⊥) where
+    (few : length after.log.held ≤ length core.log.held) (same : after.log.ring ≡ core.log.ring) (full : taken xs + (MOST_CALL_BLOCKS + 1) ≤ core.log.ring → ⊥)
+    (needs : NoneNeeds after.log.header.state.links (after.log.header.low - 1)) where
   kept_with : (h : Holding) → HasLast core.log.ring xs c h → Stands core h m → HasLast after.log.ring xs c (kept_in after h)
   kept_with h has stands =
       in_ring core after xs c (kept_in after h) same
@@ -101,12 +110,12 @@ module _ (core after : Core) (xs : List Write) (c : Content) (m : Meaning) (some
 
   pub saving_with : (i : Image) → Saving core after m i → StandsWith core xs c m → FoundOf core i xs c ⊎ FoundOf after i xs c
   saving_with i saving stood =
-      ⊎_elim (λ old. inl (record { held = stood.held; has = stood.has; found = old })) (λ next. inr (record { held = kept_in after stood.held; has = kept_with stood.held stood.has stood.stands; found = next }))
+      ⊎_elim (λ old. inl (record { held = stood.held; has = stood.has; needs = stood.needs; found = old })) (λ next. inr (record { held = kept_in after stood.held; has = kept_with stood.held stood.has stood.stands; needs = needs; found = next }))
       (saving.each stood.held stood.stands)
 
   pub retains_with : (m' : Meaning) → Retains core after m m' → StandsWith core xs c m → StandsWith after xs c m'
-  retains_with m' retains stood = record { held = kept_in after stood.held; has = kept_with stood.held stood.has stood.stands; stands = retains.each stood.held stood.stands }
+  retains_with m' retains stood = record { held = kept_in after stood.held; has = kept_with stood.held stood.has stood.stands; needs = needs; stands = retains.each stood.held stood.stands }
 
 -- what a crash now leaves
 pub stands_with : (core : Core) (xs : List Write) (c : Content) (m : Meaning) (i : Image) → core.log.unit ≡ core.units.srl → Lawful m → StandsWith core xs c m → m.now i → FoundOf core i xs c
-stands_with core xs c m i unit_is lawful stood now = record { held = stood.held; has = stood.has; found = stands_found core stood.held m i unit_is lawful stood.stands now }
+stands_with core xs c m i unit_is lawful stood now = record { held = stood.held; has = stood.has; needs = stood.needs; found = stands_found core stood.held m i unit_is lawful stood.stands now }

@@ -1,8 +1,8 @@
 -- What stands after calls that change no contents, and of a raw set as it is made.
-use Rattle.std.proofs.Common.{◌≡◌, ◌∙◌, ◌+◌, ◌-◌, ◌*◌, ◌<◌, ◌≤◌, ℕ, zero, suc, List, [], length, ap, ⊎_elim, sym, subst, refl, arith, IsTrue}
+use Rattle.std.proofs.Common.{inl, ◌≡◌, ◌∙◌, ◌+◌, ◌-◌, ◌*◌, ◌<◌, ◌≤◌, ℕ, zero, suc, List, [], length, ap, ⊎_elim, sym, subst, refl, arith, IsTrue}
 use Rattle.std.specs.Prelude.{IsFalse, Option, Some, None, slice_get, replicate}
 use Rattle.std.proofs.lemmas.List.{length-replicate}
-use Rattle.vx_model.specs.declared.state.KeptLink.{KeptLink}
+use Rattle.vx_diskset.specs.Holds.{Beside}
 use Rattle.vx_disk.specs.Causes.{WithDisks, OnDisks}
 use Rattle.vx_disk.specs.Disks.{Disks, Untouched, is_set}
 use Rattle.vx_disk.specs.Racks.{IsRack}
@@ -37,9 +37,11 @@ use Rattle.vx_rvg.specs.Stands.{Holds, Stands}
 use Rattle.vx_rvg.proofs.ReadStands.{rest_stands}
 use Rattle.vx_diskset.proofs.CrashGroup.{site_sizes}
 use Rattle.vx_diskset.specs.Lasts.{StandsWith}
+use Rattle.vx_diskset.proofs.BesideLemmas.{may_same, never_besides}
 use Rattle.vx_diskset.proofs.LastWrites.{stands_with, still_with}
+use Rattle.vx_diskset.proofs.NeedLemmas.{none_of, takes_none}
 use Rattle.vx_diskset.proofs.StaysUp.{never_both, told_now, fitted_moved, stays_up, writes_found}
-use Rattle.vx_diskset.specs.Holds.{state_with}
+use Rattle.vx_diskset.specs.Holds.{alone, state_with}
 use Rattle.vx_diskset.specs.Layouts.{raw_units, CanBeRaw}
 use Rattle.vx_diskset.proofs.Laying.{lies_as, raw_lies, raw_size, raw_none}
 use Rattle.vx_diskset.specs.Fuses.{HasFuse, LetsPass}
@@ -90,7 +92,7 @@ bare_still n m new goes down armed bare = record {
 }
 
 -- a site that is up stays so over calls that change no contents
-pub up_still : {links : List KeptLink} (n : Node) (c : Core) (m new : Meaning) → Goes Nothing m new → ((i : Image) → new.now i → m.now i) → new.down ≡ m.down → HasFuse n.fuse new → IsUpAt links n c m → IsUpAt links n c new
+pub up_still : {beside : Beside} (n : Node) (c : Core) (m new : Meaning) → Goes Nothing m new → ((i : Image) → new.now i → m.now i) → new.down ≡ m.down → HasFuse n.fuse new → IsUpAt beside n c m → IsUpAt beside n c new
 up_still n c m new goes now down fuse up =
     let still : IsFalse new.down = down ∙ up.up in
     record {
@@ -113,12 +115,15 @@ up_still n c m new goes now down fuse up =
       halted = up.halted;
       logged = up.logged;
       durable = up.durable;
+      takes = up.takes;
       content = λ none told. still_with c n.log n.base m new (rest_stands c m new goes still) (up.content none (sym goes.tells ∙ told));
       left = λ i is. up.left i (now i is);
+      sure = up.sure;
+      may = λ k is. may_same k m new goes.units goes.size goes.tells (up.may k is);
     }
 
 -- the volumes of a group are those of its site
-pub up_volumes : {links : List KeptLink} (n : Node) (c : Core) (m : Meaning) → IsUpAt links n c m → length c.units.vols ≡ length n.volumes
+pub up_volumes : {beside : Beside} (n : Node) (c : Core) (m : Meaning) → IsUpAt beside n c m → length c.units.vols ≡ length n.volumes
 up_volumes n c m up = ap (λ (u : Units). length u.vols) up.units ∙ up.lies.laid.count
 
 -- what was done to disk 0 alone leaves a bare site bare
@@ -197,7 +202,7 @@ raw_holds n m bare some = record {
 
 -- a raw set as it is made
 pub raw_stands : (site : ℕ) (n : Node) (c : Core) (m new : Meaning) → Lawful new → c.log.unit ≡ c.units.srl → IsBareAt n m → CanBeRaw n.disks n.blocks → c ≡ new_core (raw_units n.disks) (first_state site) (ring_of (m.size 0))
-    → Moves (Run 0 0 (ring_of (m.size 0) + 2)) Anything m new → (IsTrue m.tells → (k : Content) (maps : List (List ℕ)) → Holds (raw_units n.disks) k maps m → Stands c (nothing_logged k maps) new) → IsUpAt [] (raw_set site n) c new
+    → Moves (Run 0 0 (ring_of (m.size 0) + 2)) Anything m new → (IsTrue m.tells → (k : Content) (maps : List (List ℕ)) → Holds (raw_units n.disks) k maps m → Stands c (nothing_logged k maps) new) → IsUpAt alone (raw_set site n) c new
 raw_stands site n c m new lawful unit_is bare can is moves stands = record {
   state = refl;
   up = stays_up (Run 0 0 (ring_of (m.size 0) + 2)) Anything m new moves bare.unarmed bare.fitted.up;
@@ -218,11 +223,14 @@ raw_stands site n c m new lawful unit_is bare can is moves stands = record {
   halted = ap (λ (k : Core). k.halted) is;
   logged = omega arith;
   durable = λ _. omega arith;
+  takes = λ _. takes_none c.log (ap (λ (k : Core). k.log.held) is);
   content = λ _ told. content told;
+  sure = λ none. refl;
+  may = never_besides None new refl;
   left = λ i now.
       let told = told_now new i lawful now in
-      writes_found (raw_set site n) c i (ap (λ (k : Core). k.units) is) ring_here kept_here (ap (λ (k : Core). k.log.header.incarnation) is)
-      (omega (arith, ap (λ (k : Core). k.log.header.stamp) is)) refl (stands_with c [] (raw_content n.disks n.blocks) new i unit_is lawful (content told) now);
+      inl (writes_found (raw_set site n) c i (ap (λ (k : Core). k.units) is) ring_here kept_here (ap (λ (k : Core). k.log.header.incarnation) is)
+      (omega (arith, ap (λ (k : Core). k.log.header.stamp) is)) refl (stands_with c [] (raw_content n.disks n.blocks) new i unit_is lawful (content told) now));
 }
   where
     ring_here : c.log.ring ≡ ring_of n.blocks
@@ -238,13 +246,14 @@ raw_stands site n c m new lawful unit_is bare can is moves stands = record {
     content told = record {
       held = nothing_logged (raw_content n.disks n.blocks) (replicate n.blocks zero_block);
       has = record { some = omega arith; last = refl; writes = refl; content = refl; whole = λ room. (refl, refl) };
+      needs = none_of c.log.header.state.links 0 (ap (λ (k : Core). k.log.header.state.links) is);
       stands = stands (sym moves.tells ∙ told) (raw_content n.disks n.blocks) (replicate n.blocks zero_block) (raw_holds n m bare can.some);
     }
 
 -- the same with the units as they were made
 pub made_stands : (site d : ℕ) (n : Node) (c : Core) (units : Units) (state : State) (m new : Meaning) → units ≡ raw_units d → state ≡ first_state site → d ≡ m.units → Lawful new → c.log.unit ≡ c.units.srl
     → IsBareAt n m → CanBeRaw n.disks n.blocks → c ≡ new_core units state (ring_of (m.size units.srl)) → Moves (Run units.srl 0 (ring_of (m.size units.srl) + 2)) Anything m new
-    → (IsTrue m.tells → (k : Content) (maps : List (List ℕ)) → Holds units k maps m → Stands c (nothing_logged k maps) new) → IsUpAt [] (raw_set site n) c new
+    → (IsTrue m.tells → (k : Content) (maps : List (List ℕ)) → Holds units k maps m → Stands c (nothing_logged k maps) new) → IsUpAt alone (raw_set site n) c new
 made_stands site d n c units state m new units_is state_is d_is lawful unit_is bare can core moves stands =
     let is : units ≡ raw_units n.disks = units_is ∙ ap raw_units (d_is ∙ bare.fitted.units) in
     raw_stands site n c m new lawful unit_is bare can
@@ -270,7 +279,7 @@ module _ {R : Type 0} {g : Ghosts R} where
           (subst (λ (u : ℕ). Moves (Run u 0 (ring_of ((g.meaning rack).size u) + 2)) Anything (g.meaning rack) (g.meaning back)) srl moves) bare
 
       why : (s : Stop) → MakeCause (g.meaning rack) (g.meaning back) s → MadeIs site n old (Spoiled back) (Err s)
-      why (Refused (Device disk)) h = ((λ links. stays), subst (λ (e : DiskSet R g). Rose (faults_at e disk) ((g.meaning back).disk_faults disk)) (sym is) h)
+      why (Refused (Device disk)) h = ((λ beside. stays), subst (λ (e : DiskSet R g). Rose (faults_at e disk) ((g.meaning back).disk_faults disk)) (sym is) h)
       why (Refused Down) h = absurd (never_both (g.meaning back).down h stays.fitted.up)
       why (Refused other) h = absurd h
-      why OutOfMemory h = λ links. stays
+      why OutOfMemory h = λ beside. stays

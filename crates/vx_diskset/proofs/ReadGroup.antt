@@ -1,5 +1,5 @@
 -- What a read gives of a site that is up.
-use Rattle.std.proofs.Common.{◌≡◌, ◌∙◌, ℕ, ◌+◌, ◌-◌, ◌*◌, ◌≤◌, ◌++◌, length, take, Bool, true, false, List, ap, sym, subst, refl, arith}
+use Rattle.std.proofs.Common.{◌≡◌, ◌∙◌, inl, ℕ, ◌+◌, ◌-◌, ◌*◌, ◌≤◌, ◌++◌, length, take, Bool, true, false, List, ap, sym, subst, refl, arith}
 use Rattle.std.specs.Prelude.{Option, Some, None, Result, Ok, Err, OnOk, IsTrue, IsFalse, ltb, if◌then◌else◌}
 use Rattle.std.proofs.lemmas.Bool.Decides.{nat_tests}
 use Rattle.std.proofs.lemmas.List.{take-append-le, take_all}
@@ -8,7 +8,7 @@ use Rattle.vx_history.specs.World.{Node}
 use Rattle.vx_model.specs.declared.no.No.{No}
 use Rattle.vx_model.specs.declared.no.No.TheVariants.{Range, Device, Down as IsOff}
 use Rattle.vx_model.specs.declared.units.Units.{Units}
-use Rattle.vx_model.specs.declared.state.KeptLink.{KeptLink}
+use Rattle.vx_diskset.specs.Holds.{Beside}
 use Rattle.vx_disk.specs.Counts.{Rose}
 use Rattle.vx_disk.specs.Moves.{Moves, Anything, Nowhere}
 use Rattle.vx_disk.specs.Causes.{OnDisks}
@@ -28,7 +28,7 @@ use Rattle.vx_diskset.specs.declared.disk_set.DiskSet.{DiskSet}
 use Rattle.vx_diskset.specs.declared.disk_set.DiskSet.TheVariants.{Up}
 use Rattle.vx_diskset.specs.DiskSets.{CanRead, ReadAt}
 use Rattle.vx_diskset.specs.Fetching.{Gave, GaveAt}
-use Rattle.vx_diskset.specs.Holds.{HasWrites}
+use Rattle.vx_diskset.specs.Holds.{HasSite}
 use Rattle.vx_diskset.specs.Fuses.{HasFuse}
 use Rattle.vx_diskset.specs.Stands.{IsUpAt, StandsAt}
 use Rattle.vx_diskset.specs.Lasts.{StandsWith}
@@ -41,10 +41,10 @@ pub written_over : (len : ℕ) (xs rest : List ℕ) → len ≡ length xs → ta
 written_over len xs rest is = take-append-le len xs rest (omega (arith, is)) ∙ take_all len xs (omega (arith, is))
 
 -- what a read answers of a site
-abbrev ReadAs : List KeptLink → Node → ℕ → ℕ → ℕ → List ℕ → Core → Meaning → Meaning → Result (Unit {0}) No → Type 0
-ReadAs links n volume start count bytes c' m new (Ok done) = (IsTrue new.tells → Shows n.base volume start count bytes) × IsUpAt links n c' new
-ReadAs links n volume start count bytes c' m new (Err (Device disk)) = IsUpAt links n c' new × Rose (m.disk_faults disk) (new.disk_faults disk)
-ReadAs links n volume start count bytes c' m new (Err other) = ⊥
+abbrev ReadAs : Beside → Node → ℕ → ℕ → ℕ → List ℕ → Core → Meaning → Meaning → Result (Unit {0}) No → Type 0
+ReadAs beside n volume start count bytes c' m new (Ok done) = (IsTrue new.tells → Shows n.base volume start count bytes) × IsUpAt beside n c' new
+ReadAs beside n volume start count bytes c' m new (Err (Device disk)) = IsUpAt beside n c' new × Rose (m.disk_faults disk) (new.disk_faults disk)
+ReadAs beside n volume start count bytes c' m new (Err other) = ⊥
 
 range_by : (b : Bool) → b ≡ false → (if b then Some Range else None) ≡ None
 range_by false e = refl
@@ -53,29 +53,35 @@ range_by true e = absurd (cc)
 in_range : (size last : ℕ) → last ≤ size → (if ltb size last then Some Range else None) ≡ None
 in_range size last within = range_by (ltb size last) (grind (arith, nat_tests))
 
-module _ {links : List KeptLink} (n : Node) (c : Core) (m new : Meaning) (volume start count : ℕ) (bytes : List ℕ) (up : IsUpAt links n c m) (can : CanRead n volume start count) (lawful : Lawful m) (after : Lawful new)
-    (unit_is : c.log.unit ≡ c.units.srl) (goes : Goes Nothing m new) (down : new.down ≡ m.down) (fuse : HasFuse n.fuse new) where
+-- a site that is up stays so over a call that only reads
+module _ {beside : Beside} (n : Node) (c : Core) (m new : Meaning) (running : n.halted ≡ None) (up : IsUpAt beside n c m) (lawful : Lawful m) (after : Lawful new) (unit_is : c.log.unit ≡ c.units.srl) (goes : Goes Nothing m new)
+    (down : new.down ≡ m.down) (fuse : HasFuse n.fuse new) where
   moves : Moves Nowhere Anything m new
   moves = of_nothing m new goes
 
+  content_on : IsTrue new.tells → StandsWith c n.log n.base new
+  content_on told = still_with c n.log n.base m new (rest_stands c m new goes (down ∙ up.up)) (up.content running (sym goes.tells ∙ told))
+
+  left_on : (i : Image) → new.now i → HasSite beside n i
+  left_on i now =
+      let told = told_now new i after now in
+      inl (up_found n c m i up running (sym goes.tells ∙ told) (stands_with c n.log n.base new i unit_is after (content_on told) now))
+
+  pub reads_up : IsUpAt beside n c new
+  reads_up = up_with n c c m new n.halted n.fuse Nowhere Anything moves (down ∙ up.up) fuse up (record { units = refl; ring = refl; header = refl; held = refl }) up.halted (λ none. none) (λ none told. content_on told) left_on
+
+module _ {beside : Beside} (n : Node) (c : Core) (m new : Meaning) (volume start count : ℕ) (bytes : List ℕ) (up : IsUpAt beside n c m) (can : CanRead n volume start count) (lawful : Lawful m) (after : Lawful new)
+    (unit_is : c.log.unit ≡ c.units.srl) (goes : Goes Nothing m new) (down : new.down ≡ m.down) (fuse : HasFuse n.fuse new) where
   still : IsFalse new.down
   still = down ∙ up.up
 
-  content : IsTrue new.tells → StandsWith c n.log n.base new
-  content told = still_with c n.log n.base m new (rest_stands c m new goes still) (up.content can.running (sym goes.tells ∙ told))
-
-  left : (i : Image) → new.now i → HasWrites links n i
-  left i now =
-      let told = told_now new i after now in
-      up_found n c m i up can.running (sym goes.tells ∙ told) (stands_with c n.log n.base new i unit_is after (content told) now)
-
-  read_up : IsUpAt links n c new
-  read_up = up_with n c c m new n.halted n.fuse Nowhere Anything moves still fuse up (record { units = refl; ring = refl; header = refl; held = refl }) up.halted (λ none. none) (λ none told. content told) left
+  read_up : IsUpAt beside n c new
+  read_up = reads_up n c m new can.running up lawful after unit_is goes down fuse
 
   size : m.size (unit_of c.units.vols volume) ≡ n.base.size volume
   size = ap (λ (u : Units). m.size (unit_of u.vols volume)) up.units ∙ sym (up.lies.laid.each volume can.volume_exists)
 
-  by_reads : (result : Result (Unit {0}) No) → Reads m new result → OnOk result ((h : Holding) → Stands c h m → IsTrue m.tells → Shows h.content volume start count bytes) → ReadAs links n volume start count bytes c m new result
+  by_reads : (result : Result (Unit {0}) No) → Reads m new result → OnOk result ((h : Holding) → Stands c h m → IsTrue m.tells → Shows h.content volume start count bytes) → ReadAs beside n volume start count bytes c m new result
   by_reads (Ok done) reads gives = (
     (λ told.
         let stood = up.content can.running (sym goes.tells ∙ told) in
@@ -87,7 +93,7 @@ module _ {links : List KeptLink} (n : Node) (c : Core) (m new : Meaning) (volume
   by_reads (Err other) reads gives = reads
 
   pub read_as : (result : Result (Unit {0}) No) → ReadIs (read_refusal c (m.size (unit_of c.units.vols volume)) start count) m new result
-      → OnOk result ((h : Holding) → Stands c h m → IsTrue m.tells → Shows h.content volume start count bytes) → ReadAs links n volume start count bytes c m new result
+      → OnOk result ((h : Holding) → Stands c h m → IsTrue m.tells → Shows h.content volume start count bytes) → ReadAs beside n volume start count bytes c m new result
   read_as result is gives =
       let range = in_range (m.size (unit_of c.units.vols volume)) (start + count) (omega (arith, can.within, size)) in
       let refusal : read_refusal c (m.size (unit_of c.units.vols volume)) start count ≡ None
@@ -95,41 +101,41 @@ module _ {links : List KeptLink} (n : Node) (c : Core) (m new : Meaning) (volume
       by_reads result (subst (λ (o : Option No). ReadIs o m new result) refusal is) gives
 
 module _ {R : Type 0} {g : Ghosts R} where
-  by_disk_set : (links : List KeptLink) (n : Node) (volume start count : ℕ) (bytes : List ℕ) (rvg new : Rvg R g) (result : Result (Unit {0}) No)
-      → ReadAs links n volume start count bytes new.core (g.meaning rvg.shelf) (g.meaning new.shelf) result → ReadAt links n volume start count bytes (Up rvg) (Up new) result
-  by_disk_set links n volume start count bytes rvg new (Ok done) h = h
-  by_disk_set links n volume start count bytes rvg new (Err (Device disk)) h = h
-  by_disk_set links n volume start count bytes rvg new (Err other) h = h
+  by_disk_set : (beside : Beside) (n : Node) (volume start count : ℕ) (bytes : List ℕ) (rvg new : Rvg R g) (result : Result (Unit {0}) No)
+      → ReadAs beside n volume start count bytes new.core (g.meaning rvg.shelf) (g.meaning new.shelf) result → ReadAt beside n volume start count bytes (Up rvg) (Up new) result
+  by_disk_set beside n volume start count bytes rvg new (Ok done) h = h
+  by_disk_set beside n volume start count bytes rvg new (Err (Device disk)) h = h
+  by_disk_set beside n volume start count bytes rvg new (Err other) h = h
 
   -- the disk set of a site whose blocks are read
-  pub read_at : (links : List KeptLink) (n : Node) (volume start count : ℕ) (bytes : List ℕ) (old : DiskSet R g) (rvg new : Rvg R g) (result : Result (Unit {0}) No) → old ≡ Up rvg → StandsAt links n old
+  pub read_at : (beside : Beside) (n : Node) (volume start count : ℕ) (bytes : List ℕ) (old : DiskSet R g) (rvg new : Rvg R g) (result : Result (Unit {0}) No) → old ≡ Up rvg → StandsAt beside n old
       → CanRead n volume start count → Lawful (g.meaning rvg.shelf) → Lawful (g.meaning new.shelf) → new.core ≡ rvg.core
       → ReadIs (read_refusal rvg.core ((g.meaning rvg.shelf).size (unit_of rvg.core.units.vols volume)) start count) (g.meaning rvg.shelf) (g.meaning new.shelf) result
       → OnOk result ((h : Holding) → Stands rvg.core h (g.meaning rvg.shelf) → IsTrue (g.meaning rvg.shelf).tells → Shows h.content volume start count bytes)
       → Goes Nothing (g.meaning rvg.shelf) (g.meaning new.shelf) → (g.meaning new.shelf).down ≡ (g.meaning rvg.shelf).down
-      → OnDisks (g.meaning rvg.shelf).disks (g.meaning new.shelf).disks Untouched → IsRack (g.meaning rvg.shelf) → IsRack (g.meaning new.shelf) → ReadAt links n volume start count bytes old (Up new) result
-  read_at links n volume start count bytes old rvg new result is stands can lawful after same answers gives goes down disks rack rack' =
-      let up = subst (StandsAt links n) is stands in
-      subst (λ (e : DiskSet R g). ReadAt links n volume start count bytes e (Up new) result) (sym is)
-      (by_disk_set links n volume start count bytes rvg new result
-      (subst (λ (k : Core). ReadAs links n volume start count bytes k (g.meaning rvg.shelf) (g.meaning new.shelf) result) (sym same)
+      → OnDisks (g.meaning rvg.shelf).disks (g.meaning new.shelf).disks Untouched → IsRack (g.meaning rvg.shelf) → IsRack (g.meaning new.shelf) → ReadAt beside n volume start count bytes old (Up new) result
+  read_at beside n volume start count bytes old rvg new result is stands can lawful after same answers gives goes down disks rack rack' =
+      let up = subst (StandsAt beside n) is stands in
+      subst (λ (e : DiskSet R g). ReadAt beside n volume start count bytes e (Up new) result) (sym is)
+      (by_disk_set beside n volume start count bytes rvg new result
+      (subst (λ (k : Core). ReadAs beside n volume start count bytes k (g.meaning rvg.shelf) (g.meaning new.shelf) result) (sym same)
       (read_as n rvg.core (g.meaning rvg.shelf) (g.meaning new.shelf) volume start count bytes up can lawful after rvg.sound.log_unit goes down (fuse_untouched n.fuse (g.meaning rvg.shelf) (g.meaning new.shelf) disks rack rack' up.fuse) result answers gives)))
 
   -- the same with the blocks in a place for them
-  pub gave_blocks : (links : List KeptLink) (n : Node) (volume start count k : ℕ) (bytes items : List ℕ) (old new : DiskSet R g) (done : Unit {0}) → count ≡ k → items ≡ bytes → length bytes ≡ 512 * count
-      → (CanRead n volume start k → ReadAt links n volume start k bytes old new (Ok done)) → CanRead n volume start count → Gave links n volume start count items new
-  gave_blocks links n volume start count k bytes items old new done same is size reads can =
+  pub gave_blocks : (beside : Beside) (n : Node) (volume start count k : ℕ) (bytes items : List ℕ) (old new : DiskSet R g) (done : Unit {0}) → count ≡ k → items ≡ bytes → length bytes ≡ 512 * count
+      → (CanRead n volume start k → ReadAt beside n volume start k bytes old new (Ok done)) → CanRead n volume start count → Gave beside n volume start count items new
+  gave_blocks beside n volume start count k bytes items old new done same is size reads can =
       let got = reads (subst (λ (j : ℕ). CanRead n volume start j) same can) in
-      subst (λ (xs : List ℕ). Gave links n volume start count xs new) (sym is) (record {
+      subst (λ (xs : List ℕ). Gave beside n volume start count xs new) (sym is) (record {
         size = size;
         shows = λ told. subst (λ (j : ℕ). Shows n.base volume start j bytes) (sym same) (got.0 told);
         stands = got.1;
       })
 
-  pub gave_none : (links : List KeptLink) (n : Node) (volume start count k : ℕ) (bytes : List ℕ) (old new : DiskSet R g) (no : No) → count ≡ k
-      → (CanRead n volume start k → ReadAt links n volume start k bytes old new (Err no)) → CanRead n volume start count → GaveAt links n volume start count old new (Err no)
-  gave_none links n volume start count k bytes old new why same reads can = by why (reads (subst (λ (j : ℕ). CanRead n volume start j) same can))
+  pub gave_none : (beside : Beside) (n : Node) (volume start count k : ℕ) (bytes : List ℕ) (old new : DiskSet R g) (no : No) → count ≡ k
+      → (CanRead n volume start k → ReadAt beside n volume start k bytes old new (Err no)) → CanRead n volume start count → GaveAt beside n volume start count old new (Err no)
+  gave_none beside n volume start count k bytes old new why same reads can = by why (reads (subst (λ (j : ℕ). CanRead n volume start j) same can))
     where
-      by : (why : No) → ReadAt links n volume start k bytes old new (Err why) → GaveAt links n volume start count old new (Err why)
+      by : (why : No) → ReadAt beside n volume start k bytes old new (Err why) → GaveAt beside n volume start count old new (Err why)
       by (Device disk) h = h
       by other h = h

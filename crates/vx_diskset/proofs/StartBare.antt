@@ -1,6 +1,6 @@
 -- What the start of a bare site comes to.
 use Rattle.std.proofs.Common.{◌≡◌, ◌∙◌, ◌+◌, ◌-◌, ◌≤◌, ℕ, List, [], take, replicate, ap, sym, subst, refl, arith, IsTrue}
-use Rattle.std.specs.Prelude.{IsFalse, slice_index, Result, Ok, Err}
+use Rattle.std.specs.Prelude.{None, IsFalse, slice_index, Result, Ok, Err}
 use Rattle.std.proofs.lemmas.List.{get_or-take, length-replicate}
 use Rattle.vx_wire.specs.Numbers.{be_bytes}
 use Rattle.vx_model.specs.Content.{Write, zero_block}
@@ -16,7 +16,7 @@ use Rattle.vx_srlfmt.specs.Headers.{header_magic}
 use Rattle.vx_srlfmt.specs.Kinds.{Top}
 use Rattle.vx_srlfmt.specs.declared.header.Header.{Header}
 use Rattle.vx_srlfmt.proofs.HeaderAgain.{begins_header}
-use Rattle.vx_model.specs.declared.state.KeptLink.{KeptLink}
+use Rattle.vx_diskset.specs.Holds.{Beside}
 use Rattle.vx_disk.specs.Counts.{Rose}
 use Rattle.vx_disk.specs.Moves.{Moves, Run}
 use Rattle.vx_disk.specs.Racks.{Alike, Stopped}
@@ -40,7 +40,9 @@ use Rattle.vx_diskset.specs.Layouts.{raw_units, CanBeRaw}
 use Rattle.vx_diskset.proofs.Laying.{raw_lies}
 use Rattle.vx_diskset.specs.Stands.{IsCleanAt, IsUpAt, faults_at}
 use Rattle.vx_diskset.proofs.MakeGroup.{bare_still, keeps_still}
+use Rattle.vx_diskset.proofs.BesideLemmas.{never_besides}
 use Rattle.vx_diskset.proofs.StartGroup.{found_site}
+use Rattle.vx_diskset.proofs.NeedLemmas.{ins_length, stand_ins, takes_ins}
 use Rattle.vx_diskset.proofs.MakeRoom.{rose_later}
 use Rattle.vx_diskset.proofs.StaysUp.{not_true, never_both, told_now}
 
@@ -95,11 +97,8 @@ clean_untold n m last lawful untold clean units size up unarmed = record {
     none : (u b : ℕ) → Keeps last u b zero_block
     none u b = record { only = λ v left. absurd (lawful.none (not_true last.tells untold) u b v left) }
 
-abbrev some_write : Write
-some_write = record { volume = 0; start = 0; bytes = [] }
-
 abbrev pub found_bare : Node → Core → Node
-found_bare n core = found_site (raw_set 0 n) core.log.header.state core.log.header.incarnation (last_of core) (replicate (last_of core) some_write)
+found_bare n core = found_site (raw_set 0 n) core.log.header.state core.log.header.incarnation (last_of core) (stand_ins core.log)
 
 -- a raw set that a start found on them
 module _ (n : Node) (m up new : Meaning) (core : Core) (clean : IsCleanAt n m) (can : CanBeRaw n.disks n.blocks) (goes : Goes Nothing m up) (after : Lawful new) (untold : IsTrue new.tells → ⊥)
@@ -111,8 +110,8 @@ module _ (n : Node) (m up new : Meaning) (core : Core) (clean : IsCleanAt n m) (
   pub found_same : SameDisks (raw_set 0 n) (found_bare n core)
   found_same = record { name = refl; disks = refl; blocks = refl; volumes = refl; up = refl; running = refl; failing = refl; fuse = refl }
 
-  pub found_up : (links : List KeptLink) → IsUpAt links (found_bare n core) core new
-  found_up links = record {
+  pub found_up : (beside : Beside) → beside.doubt ≡ None → IsUpAt beside (found_bare n core) core new
+  found_up beside sure = record {
     state = refl;
     up = not_true new.down still;
     lies = raw_lies n.disks n.blocks new can clean.bare.few clean.bare.some (moves.units ∙ goes.units ∙ clean.bare.fitted.units) (λ u there. moves.size u ∙ goes.size u ∙ clean.bare.fitted.size u there);
@@ -130,10 +129,13 @@ module _ (n : Node) (m up new : Meaning) (core : Core) (clean : IsCleanAt n m) (
     first = omega (arith, started.applied);
     head = refl;
     halted = started.running;
-    logged = omega (arith, length-replicate {A = Write} (last_of core) some_write);
-    durable = λ _. omega (arith, length-replicate {A = Write} (last_of core) some_write);
+    logged = omega (arith, ins_length core.log, started.applied);
+    durable = λ _. omega (arith, ins_length core.log, started.applied);
+    takes = λ _. takes_ins core.log (omega (arith, started.applied));
     content = λ none told. absurd (untold told);
     left = λ i now. absurd (untold (told_now new i after now));
+    sure = λ none. sure;
+    may = never_besides beside.doubt new sure;
   }
 
 rose_wide : (a b c d : ℕ) → a ≤ b → Rose b c → d ≡ c → Rose a d
@@ -160,19 +162,19 @@ module _ {R : Type 0} {g : Ghosts R} where
         untold = untold;
         node = found_bare n rvg.core;
         same = found_same n m (g.meaning up) (g.meaning rvg.shelf) rvg.core clean some goes after untold started' moves' still;
-        stands = λ links. found_up n m (g.meaning up) (g.meaning rvg.shelf) rvg.core clean some goes after untold started' moves' still links;
+        stands = λ beside sure. found_up n m (g.meaning up) (g.meaning rvg.shelf) rvg.core clean some goes after untold started' moves' still beside sure;
       }
 
   -- a start that was refused, where contents are not told
   pub bare_refused : (n : Node) (old : DiskSet R g) (rack : R) (last : R) (why : No) → old ≡ Bare rack → IsCleanAt n (g.meaning last) → (IsTrue (g.meaning last).tells → ⊥)
       → ((disk : ℕ) → why ≡ Device disk → Rose ((g.meaning rack).disk_faults disk) ((g.meaning last).disk_faults disk)) → BareUpIs n old (Bare last) (Err why)
-  bare_refused n old rack last (Device disk) is clean untold rose = ((λ links. clean), subst (λ (e : DiskSet R g). Rose (faults_at e disk) ((g.meaning last).disk_faults disk)) (sym is) (rose disk refl))
-  bare_refused n old rack last NoConfig is clean untold rose = λ links. clean
-  bare_refused n old rack last other is clean untold rose = (untold, λ links. clean)
+  bare_refused n old rack last (Device disk) is clean untold rose = ((λ beside. clean), subst (λ (e : DiskSet R g). Rose (faults_at e disk) ((g.meaning last).disk_faults disk)) (sym is) (rose disk refl))
+  bare_refused n old rack last NoConfig is clean untold rose = λ beside. clean
+  bare_refused n old rack last other is clean untold rose = (untold, λ beside. clean)
 
   -- a header that could not be read
   pub bare_unread : (n : Node) (old : DiskSet R g) (rack : R) (last : R) (why : No) → old ≡ Bare rack → IsCleanAt n (g.meaning last) → DeviceCause (g.meaning rack) (g.meaning last) why → BareUpIs n old (Bare last) (Err why)
-  bare_unread n old rack last (Device disk) is clean cause = ((λ links. clean), subst (λ (e : DiskSet R g). Rose (faults_at e disk) ((g.meaning last).disk_faults disk)) (sym is) cause)
+  bare_unread n old rack last (Device disk) is clean cause = ((λ beside. clean), subst (λ (e : DiskSet R g). Rose (faults_at e disk) ((g.meaning last).disk_faults disk)) (sym is) cause)
   bare_unread n old rack last IsOff is clean cause = absurd (never_both (g.meaning last).down cause clean.bare.fitted.up)
   bare_unread n old rack last other is clean cause = absurd cause
 

@@ -1,5 +1,5 @@
 -- What the start of a site that crashed leaves of it.
-use Rattle.std.proofs.Common.{◌≡◌, ◌⊎◌, inl, inr, ⊎_elim, ℕ, ◌+◌, ◌*◌, ◌<◌, ◌≤◌, Bool, true, false, List, [], length, replicate, Option, None, IsTrue, refl, sym, ◌∙◌, ap, subst, arith}
+use Rattle.std.proofs.Common.{◌-◌, ◌≡◌, ◌⊎◌, inl, inr, ⊎_elim, ℕ, ◌+◌, ◌*◌, ◌<◌, ◌≤◌, Bool, true, false, List, [], length, replicate, Option, None, IsTrue, refl, sym, ◌∙◌, ap, subst, arith}
 use Rattle.std.proofs.lemmas.List.{length-replicate}
 use Rattle.std.specs.Prelude.{IsFalse}
 use Rattle.vx_model.specs.Content.{Content, Write}
@@ -12,7 +12,7 @@ use Rattle.vx_model.specs.declared.no.No.TheVariants.{Device, Limit, NoConfig, D
 use Rattle.vx_model.specs.declared.site.SiteState.TheVariants.{Bare as IsBare, Up as IsUp, Down as IsDown}
 use Rattle.vx_model.specs.declared.state.State.{State}
 use Rattle.vx_model.specs.declared.units.Units.{Units}
-use Rattle.vx_model.specs.declared.state.KeptLink.{KeptLink}
+use Rattle.vx_diskset.specs.Holds.{Beside}
 use Rattle.vx_disk.specs.Counts.{Rose}
 use Rattle.vx_disk.specs.Moves.{Moves, Run}
 use Rattle.vx_disk.specs.Racks.{IsRack, Alike, Stopped}
@@ -38,12 +38,15 @@ use Rattle.vx_events.specs.Found.{SameDisks}
 use Rattle.vx_diskset.specs.Holds.{HasWrites, state_with}
 use Rattle.vx_diskset.specs.Layouts.{LiesOn, raw_units, units_of}
 use Rattle.vx_diskset.proofs.Laying.{lies_as, maps_fit, sizes_of}
-use Rattle.vx_events.specs.Stamps.{most_stamp}
+use Rattle.vx_diskset.specs.Holds.{most_header}
 use Rattle.vx_diskset.specs.Fuses.{HasFuse}
 use Rattle.vx_diskset.specs.Stands.{IsUpAt, IsDownAt, StandsAt, faults_at}
 use Rattle.vx_diskset.specs.Lasts.{FoundWith, HasLast, LeftWith, StandsWith}
 use Rattle.vx_diskset.proofs.CrashGroup.{one_value, found_left_with, left_with}
+use Rattle.vx_diskset.proofs.BesideLemmas.{never_besides}
 use Rattle.vx_diskset.proofs.LastWrites.{stands_with}
+use Rattle.vx_diskset.specs.Needs.{NoneNeeds, TakesAs}
+use Rattle.vx_diskset.proofs.NeedLemmas.{ins_length, stand_ins, takes_ins, takes_told}
 use Rattle.vx_diskset.proofs.Sessions.{header_below, found_below_most, next_below}
 use Rattle.vx_diskset.proofs.StaysUp.{found_below, not_true, never_both, told_now, left_moved, writes_found}
 
@@ -85,20 +88,21 @@ left_still units ring state session stamp h m new tells size less left = record 
 
 pub left_still_with : (units : Units) (ring : ℕ) (state : State) (session stamp : ℕ) (xs : List Write) (c : Content) (m new : Meaning) → new.tells ≡ m.tells → ((u : ℕ) → new.size u ≡ m.size u)
     → ((u b : ℕ) (v : List ℕ) → new.leaves u b v → m.leaves u b v) → LeftWith units ring state session stamp xs c m → LeftWith units ring state session stamp xs c new
-left_still_with units ring state session stamp xs c m new tells size less with = record { held = with.held; has = with.has; left = left_still units ring state session stamp with.held m new tells size less with.left }
+left_still_with units ring state session stamp xs c m new tells size less with = record { held = with.held; has = with.has; needs = with.needs; left = left_still units ring state session stamp with.held m new tells size less with.left }
 
 -- a site that is down stays so
-pub down_still : {links : List KeptLink} (n : Node) (m new : Meaning) → Goes Nothing m new → new.down ≡ m.down → new.armed ≡ m.armed → IsDownAt links n m → IsDownAt links n new
-down_still {links} n m new goes down armed is = record {
+pub down_still : {beside : Beside} (n : Node) (m new : Meaning) → Goes Nothing m new → new.down ≡ m.down → new.armed ≡ m.armed → IsDownAt beside n m → IsDownAt beside n new
+down_still {beside} n m new goes down armed is = record {
   state = is.state;
   unfused = is.unfused;
   down = down ∙ is.down;
   unarmed = armed ∙ is.unarmed;
+  sure = is.sure;
   lies = lies_as n m new goes.units goes.size is.lies;
   logged = is.logged;
   low = is.low;
   begun = λ tells. is.begun (sym goes.tells ∙ tells);
-  left = λ tells. left_still_with (raw_units n.disks) n.ring (state_with n links) n.session (most_stamp n) n.log n.base m new goes.tells goes.size
+  left = λ tells. left_still_with (raw_units n.disks) n.ring (state_with n beside.links) n.session (most_header beside n) n.log n.base m new goes.tells goes.size
       (λ u b v left. ⊎_elim (λ was. was) (λ none. absurd none) (goes.leaves u b v left)) (is.left (sym goes.tells ∙ tells));
 }
 
@@ -124,28 +128,28 @@ found_site n state session last log = record n {
 }
 
 -- a site that came up, as a start has it
-pub record Came (links : List KeptLink) (n : Node) (core : Core) (m : Meaning) : Type 0 where
+pub record Came (beside : Beside) (n : Node) (core : Core) (m : Meaning) : Type 0 where
   pub node : Node
   pub is : IsTrue m.tells → node ≡ recovered n
   pub same : SameDisks n node
-  pub stands : IsUpAt links node core m
+  pub stands : IsUpAt beside node core m
   pub next : IsTrue m.tells → n.session < most_number
 
 never_untold : {b : Bool} → b ≡ true → b ≡ false → ⊥
 never_untold is not = cc
 
 -- a site that is down, revived and started
-module _ {links : List KeptLink} (n : Node) (m up : Meaning) (is : IsDownAt links n m) (alike : Alike m up) (risen : IsFalse up.down) (armed : up.armed ≡ m.armed) where
+module _ {beside : Beside} (n : Node) (m up : Meaning) (is : IsDownAt beside n m) (alike : Alike m up) (risen : IsFalse up.down) (armed : up.armed ≡ m.armed) where
   abbrev units : Units
   units = raw_units n.disks
 
   ring_here : ring_in units up ≡ n.ring
   ring_here = ap ring_of (alike.contents.size 0) ∙ sym is.lies.laid.ring_is
 
-  left_up : IsTrue up.tells → LeftWith units (ring_in units up) (state_with n links) n.session (most_stamp n) n.log n.base up
+  left_up : IsTrue up.tells → LeftWith units (ring_in units up) (state_with n beside.links) n.session (most_header beside n) n.log n.base up
   left_up tells =
-      subst (λ (r : ℕ). LeftWith units r (state_with n links) n.session (most_stamp n) n.log n.base up) (sym ring_here)
-      (left_still_with units n.ring (state_with n links) n.session (most_stamp n) n.log n.base m up alike.contents.tells alike.contents.size alike.contents.leaves (is.left (sym alike.contents.tells ∙ tells)))
+      subst (λ (r : ℕ). LeftWith units r (state_with n beside.links) n.session (most_header beside n) n.log n.base up) (sym ring_here)
+      (left_still_with units n.ring (state_with n beside.links) n.session (most_header beside n) n.log n.base m up alike.contents.tells alike.contents.size alike.contents.leaves (is.left (sym alike.contents.tells ∙ tells)))
 
   module _ (new : Meaning) (lawful : Lawful up) (after : Lawful new)
       (moves : Moves (Run units.srl 0 (ring_in units up + 2)) (Starting units up) up new) where
@@ -156,11 +160,11 @@ module _ {links : List KeptLink} (n : Node) (m up : Meaning) (is : IsDownAt link
     still_up down = never_both up.down (moves.safe unarmed down) risen
 
     -- with the log that a start took up
-    started_up : (core : Core) (state : State) (session last : ℕ) (log : List Write) → (IsTrue new.tells → 1 < session) → IsStarted units up core new → core.log.header.state ≡ state → (IsTrue new.tells → state.links ≡ links)
-        → core.log.header.incarnation ≡ session → (IsTrue new.tells → core.log.header.stamp + 1 ≤ most_stamp (found_site n state session last log)) → last_of core ≡ last → length log ≡ last
-        → (IsTrue new.tells → StandsWith core log n.base new) → ((i : Image) → new.now i → HasWrites links (found_site n state session last log) i)
-        → IsUpAt links (found_site n state session last log) core new
-    started_up core state session last log begun started kept unlinked incarnation stamp head logged content left = record {
+    started_up : (core : Core) (state : State) (session last : ℕ) (log : List Write) → (IsTrue new.tells → 1 < session) → IsStarted units up core new → core.log.header.state ≡ state → (IsTrue new.tells → state.links ≡ beside.links)
+        → core.log.header.incarnation ≡ session → (IsTrue new.tells → core.log.header.stamp + 1 ≤ most_header beside (found_site n state session last log)) → last_of core ≡ last → length log ≡ last
+        → TakesAs core.log log → (IsTrue new.tells → StandsWith core log n.base new) → ((i : Image) → new.now i → HasWrites beside (found_site n state session last log) i)
+        → IsUpAt beside (found_site n state session last log) core new
+    started_up core state session last log begun started kept unlinked incarnation stamp head logged takes content left = record {
       state = refl;
       up = not_true new.down still_up;
       lies = lies_as n m new (moves.units ∙ alike.contents.units) (λ u. moves.size u ∙ alike.contents.size u) is.lies;
@@ -180,71 +184,72 @@ module _ {links : List KeptLink} (n : Node) (m up : Meaning) (is : IsDownAt link
       halted = started.running;
       logged = omega (arith, logged);
       durable = λ _. omega (arith, logged);
+      takes = λ _. takes;
       content = λ _ tells. content tells;
-      left = left;
+      left = λ i now. inl (left i now);
+      sure = λ none. is.sure;
+      may = never_besides beside.doubt new is.sure;
     }
 
     same_disks : (state : State) (session last : ℕ) (log : List Write) → SameDisks n (found_site n state session last log)
     same_disks state session last log = record { name = refl; disks = refl; blocks = refl; volumes = refl; up = refl; running = refl; failing = refl; fuse = refl }
 
-    came_by : (b : Bool) → new.tells ≡ b → (core : Core) → core.log.unit ≡ core.units.srl → IsStarted units up core new → Came links n core new
-    came_by true tells core unit_is started =
+    came_by : (b : Bool) → new.tells ≡ b → (core : Core) → core.log.unit ≡ core.units.srl → core.log.staged ≡ [] → IsStarted units up core new → Came beside n core new
+    came_by true tells core unit_is idle started =
         let told : IsTrue up.tells = sym moves.tells ∙ tells in
         let with = left_up told in
-        let has = started.each (state_with n links) n.session (most_stamp n) with.held with.left in
+        let has = started.each (state_with n beside.links) n.session (most_header beside n) with.held with.left in
         let stood : StandsWith core n.log n.base new = record {
           held = with.held;
           has = subst (λ (r : ℕ). HasLast r n.log n.base with.held) (sym started.ring_is) with.has;
+          needs = subst (λ (s : State). NoneNeeds s.links (with.held.low - 1)) (sym has.0) with.needs;
           stands = has.3;
         } in
         let head : last_of core ≡ n.safe = (let last = stands_last core with.held new has.3 (omega (arith, started.applied)) in omega (arith, last, with.has.last, is.logged)) in
         record {
           node = recovered n;
           is = λ _. refl;
-          same = same_disks (state_with n links) (n.session + 1) n.safe n.log;
-          stands = started_up core (state_with n links) (n.session + 1) n.safe n.log (λ _. let some = is.begun (sym alike.contents.tells ∙ told) in omega (arith, some)) started has.0 (λ _. refl) has.1 (λ _. omega (arith, has.2)) head is.logged (λ _. stood)
+          same = same_disks (state_with n beside.links) (n.session + 1) n.safe n.log;
+          stands = started_up core (state_with n beside.links) (n.session + 1) n.safe n.log (λ _. let some = is.begun (sym alike.contents.tells ∙ told) in omega (arith, some)) started has.0 (λ _. refl) has.1 (λ _. omega (arith, has.2)) head is.logged (takes_told core with.held new n.log idle has.3 with.has.some with.has.writes) (λ _. stood)
               (λ i now. writes_found (recovered n) core i started.units_are (started.ring_is ∙ ring_here) has.0 has.1 (omega (arith, has.2)) is.logged
               (stands_with core n.log n.base new i unit_is after stood now));
           next = λ _.
               let i = after.image tells in
               next_below n.session has.1 (found_below_most core.units core.log.ring core.log.header.state core.log.header.incarnation core.log.header.stamp i.0 n.log n.base (stands_with core n.log n.base new i.0 unit_is after stood i.1));
         }
-    came_by false untold core unit_is started = record {
-      node = found_site n core.log.header.state core.log.header.incarnation (last_of core) (replicate (last_of core) nothing);
+    came_by false untold core unit_is idle started = record {
+      node = found_site n core.log.header.state core.log.header.incarnation (last_of core) (stand_ins core.log);
       is = λ tells. absurd (never_untold tells untold);
-      same = same_disks core.log.header.state core.log.header.incarnation (last_of core) (replicate (last_of core) nothing);
-      stands = started_up core core.log.header.state core.log.header.incarnation (last_of core) (replicate (last_of core) nothing) (λ tells. absurd (never_untold tells untold)) started refl (λ tells. absurd (never_untold tells untold)) refl
-          (λ tells. absurd (never_untold tells untold)) refl (length-replicate {A = Write} (last_of core) nothing) (λ tells. absurd (never_untold tells untold))
+      same = same_disks core.log.header.state core.log.header.incarnation (last_of core) (stand_ins core.log);
+      stands = started_up core core.log.header.state core.log.header.incarnation (last_of core) (stand_ins core.log) (λ tells. absurd (never_untold tells untold)) started refl (λ tells. absurd (never_untold tells untold)) refl
+          (λ tells. absurd (never_untold tells untold)) refl (omega (arith, ins_length core.log, started.applied)) (takes_ins core.log (omega (arith, started.applied))) (λ tells. absurd (never_untold tells untold))
           (λ i now. absurd (never_untold (told_now new i after now) untold));
       next = λ tells. absurd (never_untold tells untold);
     }
-      where
-        nothing : Write
-        nothing = record { volume = 0; start = 0; bytes = [] }
 
     -- a start that was answered
-    pub came : (core : Core) → core.log.unit ≡ core.units.srl → IsStarted units up core new → Came links n core new
-    came core unit_is started = came_by new.tells refl core unit_is started
+    pub came : (core : Core) → core.log.unit ≡ core.units.srl → core.log.staged ≡ [] → IsStarted units up core new → Came beside n core new
+    came core unit_is idle started = came_by new.tells refl core unit_is idle started
 
 -- ---- a start that was refused, and the crash behind it
 
 -- why a site stays down
-abbrev pub RefusedAs : List KeptLink → Node → Meaning → Meaning → No → Type 0
-RefusedAs links n m last (Device disk) = (IsDownAt links n last ⊎ (IsDownAt links (record n { session = n.session + 1 }) last × (n.session < most_number))) × Rose (m.disk_faults disk) (last.disk_faults disk)
-RefusedAs links n m last (Limit what most) =
-    (Limit what most ≡ no_number) × (IsTrue last.tells → most_number ≤ most_stamp n + 2) × IsDownAt links n last
-RefusedAs links n m last other = (IsTrue last.tells → ⊥) × IsDownAt links n last
+abbrev pub RefusedAs : Beside → Node → Meaning → Meaning → No → Type 0
+RefusedAs beside n m last (Device disk) = (IsDownAt beside n last ⊎ (IsDownAt beside (record n { session = n.session + 1 }) last × (n.session < most_number))) × Rose (m.disk_faults disk) (last.disk_faults disk)
+RefusedAs beside n m last (Limit what most) =
+    (Limit what most ≡ no_number) × (IsTrue last.tells → most_number ≤ most_header beside n + 2) × IsDownAt beside n last
+RefusedAs beside n m last other = (IsTrue last.tells → ⊥) × IsDownAt beside n last
 
 limit_same : {a b : Counted} {x y : ℕ} → a ≡ b → x ≡ y → Limit a x ≡ Limit b y
 limit_same e f = λ i. Limit (e i) (f i)
 
-module _ {links : List KeptLink} (n : Node) (m up new last : Meaning) (is : IsDownAt links n m) (alike : Alike m up) (risen : IsFalse up.down) (armed : up.armed ≡ m.armed) (lawful : Lawful up) (after : Lawful new)
+module _ {beside : Beside} (n : Node) (m up new last : Meaning) (is : IsDownAt beside n m) (alike : Alike m up) (risen : IsFalse up.down) (armed : up.armed ≡ m.armed) (lawful : Lawful up) (after : Lawful new)
     (moves : Moves (Run (raw_units n.disks).srl 0 (ring_in (raw_units n.disks) up + 2)) (Starting (raw_units n.disks) up) up new)
     (stopped : Stopped new last) (law : Lawful last) (rack : IsRack last) where
   told_up : IsTrue last.tells → IsTrue up.tells
   told_up tells = sym moves.tells ∙ sym stopped.tells ∙ tells
 
-  left_here : IsTrue last.tells → LeftWith (raw_units n.disks) (ring_in (raw_units n.disks) up) (state_with n links) n.session (most_stamp n) n.log n.base up
+  left_here : IsTrue last.tells → LeftWith (raw_units n.disks) (ring_in (raw_units n.disks) up) (state_with n beside.links) n.session (most_header beside n) n.log n.base up
   left_here tells = left_up n m up is alike risen armed (told_up tells)
 
   begun_here : IsTrue last.tells → 0 < n.session
@@ -254,13 +259,14 @@ module _ {links : List KeptLink} (n : Node) (m up new last : Meaning) (is : IsDo
   lies_last = lies_as n m last (stopped.units ∙ moves.units ∙ alike.contents.units) (λ u. stopped.size u ∙ moves.size u ∙ alike.contents.size u) is.lies
 
   -- down in a session, with what is left there where contents are told
-  down_with : (session : ℕ) → (IsTrue last.tells → 0 < session) → (IsTrue last.tells → LeftWith (raw_units n.disks) n.ring (state_with n links) session (most_stamp (record n { session = session })) n.log n.base last)
-      → IsDownAt links (record n { session = session }) last
+  down_with : (session : ℕ) → (IsTrue last.tells → 0 < session) → (IsTrue last.tells → LeftWith (raw_units n.disks) n.ring (state_with n beside.links) session (most_header beside (record n { session = session })) n.log n.base last)
+      → IsDownAt beside (record n { session = session }) last
   down_with session begun left = record {
     state = is.state;
     unfused = is.unfused;
     down = stopped.down;
     unarmed = stopped.unarmed;
+    sure = is.sure;
     lies = lies_last;
     logged = is.logged;
     low = is.low;
@@ -268,31 +274,32 @@ module _ {links : List KeptLink} (n : Node) (m up new last : Meaning) (is : IsDo
     left = left;
   }
 
-  still_down : (b : Bool) → last.tells ≡ b → IsDownAt links n last ⊎ (IsDownAt links (record n { session = n.session + 1 }) last × (n.session < most_number))
+  still_down : (b : Bool) → last.tells ≡ b → IsDownAt beside n last ⊎ (IsDownAt beside (record n { session = n.session + 1 }) last × (n.session < most_number))
   still_down true tells =
       let i = law.image tells in
       ⊎_elim
-      (λ was. inl (down_with n.session begun_here (λ _. at n.session (most_stamp n) i.0 i.1
-      (left_with (raw_units n.disks) (ring_in (raw_units n.disks) up) (state_with n links) n.session (most_stamp n) n.log n.base up i.0 lawful was (left_here tells)))))
+      (λ was. inl (down_with n.session begun_here (λ _. at n.session (most_header beside n) i.0 i.1
+      (left_with (raw_units n.disks) (ring_in (raw_units n.disks) up) (state_with n beside.links) n.session (most_header beside n) n.log n.base up i.0 lawful was (left_here tells)))))
       (λ starting. ⊎_elim
-      (λ old. inl (down_with n.session begun_here (λ _. at n.session (most_stamp n) i.0 i.1 (record { held = (left_here tells).held; has = (left_here tells).has; found = old }))))
+      (λ old. inl (down_with n.session begun_here (λ _. at n.session (most_header beside n) i.0 i.1 (record { held = (left_here tells).held; has = (left_here tells).has; needs = (left_here tells).needs; found = old }))))
       (λ next. inr (
-        (down_with (n.session + 1) (λ _. omega arith) (λ _. at (n.session + 1) (most_stamp (record n { session = n.session + 1 })) i.0 i.1
+        (down_with (n.session + 1) (λ _. omega arith) (λ _. at (n.session + 1) (most_header beside (record n { session = n.session + 1 })) i.0 i.1
             (record {
               held = (left_here tells).held;
               has = (left_here tells).has;
-              found = found_below (raw_units n.disks) (ring_in (raw_units n.disks) up) (state_with n links) (n.session + 1) (most_stamp n + 3) (most_stamp (record n { session = n.session + 1 })) i.0 (left_here tells).held (omega arith) next;
+              needs = (left_here tells).needs;
+              found = found_below (raw_units n.disks) (ring_in (raw_units n.disks) up) (state_with n beside.links) (n.session + 1) (most_header beside n + 3) (most_header beside (record n { session = n.session + 1 })) i.0 (left_here tells).held (omega arith) next;
             }))),
-        next_below n.session refl (header_below (raw_units n.disks) (ring_in (raw_units n.disks) up) (state_with n links) (n.session + 1) (most_stamp n + 3) i.0 (left_here tells).held next),
+        next_below n.session refl (header_below (raw_units n.disks) (ring_in (raw_units n.disks) up) (state_with n beside.links) (n.session + 1) (most_header beside n + 3) i.0 (left_here tells).held next),
       ))
-      (starting.each (state_with n links) n.session (most_stamp n) (left_here tells).held (left_here tells).left))
+      (starting.each (state_with n beside.links) n.session (most_header beside n) (left_here tells).held (left_here tells).left))
       (left_moved (Run (raw_units n.disks).srl 0 (ring_in (raw_units n.disks) up + 2)) (Starting (raw_units n.disks) up) up new i.0 lawful after moves (stopped.now i.0 i.1))
     where
-      at : (session stamp : ℕ) (i : Image) → last.now i → FoundWith (raw_units n.disks) (ring_in (raw_units n.disks) up) (state_with n links) session stamp i n.log n.base
-          → LeftWith (raw_units n.disks) n.ring (state_with n links) session stamp n.log n.base last
+      at : (session stamp : ℕ) (i : Image) → last.now i → FoundWith (raw_units n.disks) (ring_in (raw_units n.disks) up) (state_with n beside.links) session stamp i n.log n.base
+          → LeftWith (raw_units n.disks) n.ring (state_with n beside.links) session stamp n.log n.base last
       at session stamp i now found =
-          subst (λ (r : ℕ). LeftWith (raw_units n.disks) r (state_with n links) session stamp n.log n.base last) (ring_here n m up is alike risen armed)
-          (found_left_with (raw_units n.disks) (ring_in (raw_units n.disks) up) (state_with n links) session stamp n.log n.base last i tells
+          subst (λ (r : ℕ). LeftWith (raw_units n.disks) r (state_with n beside.links) session stamp n.log n.base last) (ring_here n m up is alike risen armed)
+          (found_left_with (raw_units n.disks) (ring_in (raw_units n.disks) up) (state_with n beside.links) session stamp n.log n.base last i tells
           (λ u b. one_value last i u b law rack stopped.down tells now)
           (sizes_of (units_of n) n.ring n.volumes n.base last lies_last.laid) found)
   still_down false untold = inl (down_with n.session begun_here (λ tells. absurd (never_untold tells untold)))
@@ -303,25 +310,25 @@ module _ {links : List KeptLink} (n : Node) (m up new last : Meaning) (is : IsDo
       (subst (λ (k : ℕ). Rose (up.disk_faults disk) k) (sym (stopped.counts.disk_faults disk)) r)
 
   -- where something was left, no start finds that nothing was
-  nothing_left : NothingLeft (raw_units n.disks) up → (IsTrue last.tells → ⊥) × IsDownAt links n last
+  nothing_left : NothingLeft (raw_units n.disks) up → (IsTrue last.tells → ⊥) × IsDownAt beside n last
   nothing_left none =
-      let untold : IsTrue last.tells → ⊥ = λ tells. none (state_with n links) n.session (most_stamp n) (left_here tells).held (left_here tells).left in
+      let untold : IsTrue last.tells → ⊥ = λ tells. none (state_with n beside.links) n.session (most_header beside n) (left_here tells).held (left_here tells).left in
       (untold, down_with n.session begun_here (λ tells. absurd (untold tells)))
 
   -- its disks were only read
-  only_read : Goes Nothing up new → IsDownAt links n last
+  only_read : Goes Nothing up new → IsDownAt beside n last
   only_read goes = down_with n.session begun_here (λ tells.
-      subst (λ (r : ℕ). LeftWith (raw_units n.disks) r (state_with n links) n.session (most_stamp n) n.log n.base last) (ring_here n m up is alike risen armed)
-      (left_still_with (raw_units n.disks) (ring_in (raw_units n.disks) up) (state_with n links) n.session (most_stamp n) n.log n.base up last (stopped.tells ∙ goes.tells) (λ u. stopped.size u ∙ goes.size u)
+      subst (λ (r : ℕ). LeftWith (raw_units n.disks) r (state_with n beside.links) n.session (most_header beside n) n.log n.base last) (ring_here n m up is alike risen armed)
+      (left_still_with (raw_units n.disks) (ring_in (raw_units n.disks) up) (state_with n beside.links) n.session (most_header beside n) n.log n.base up last (stopped.tells ∙ goes.tells) (λ u. stopped.size u ∙ goes.size u)
       (λ u b v left. ⊎_elim (λ was. was) (λ none. absurd none) (goes.leaves u b v (stopped.leaves u b v left))) (left_here tells)))
 
-  pub refused_as : (why : No) → StartCause (raw_units n.disks) up new why → ReadsAtLimit up new why → RefusedAs links n m last why
+  pub refused_as : (why : No) → StartCause (raw_units n.disks) up new why → ReadsAtLimit up new why → RefusedAs beside n m last why
   refused_as NoConfig h read = nothing_left h.1
   refused_as (Damaged u b stored computed) h read = nothing_left h.3
   refused_as (Limit what most) h read = (
     limit_same h.0 h.1,
-    λ tells. ⊎_elim (λ (stamp : most_number ≤ most_stamp n + 2). stamp) (λ (session : most_number ≤ n.session). let more : most_number ≤ most_stamp n + 2 = omega arith in more)
-        (h.2 (state_with n links) n.session (most_stamp n) (left_here tells).held (left_here tells).left),
+    λ tells. ⊎_elim (λ (stamp : most_number ≤ most_header beside n + 2). stamp) (λ (session : most_number ≤ n.session). let more : most_number ≤ most_header beside n + 2 = omega arith in more)
+        (h.2 (state_with n beside.links) n.session (most_header beside n) (left_here tells).held (left_here tells).left),
     only_read read,
   )
   refused_as (Device disk) h read = (still_down last.tells refl, rose disk h)
@@ -331,7 +338,7 @@ module _ {links : List KeptLink} (n : Node) (m up new last : Meaning) (is : IsDo
 -- ---- the disk set of the site
 
 -- a site that is down can be started
-pub can_start : {links : List KeptLink} (n : Node) (m : Meaning) (ring : ℕ) → IsDownAt links n m → ring ≡ n.ring → CanStart ring m
+pub can_start : {beside : Beside} (n : Node) (m : Meaning) (ring : ℕ) → IsDownAt beside n m → ring ≡ n.ring → CanStart ring m
 can_start n m ring is ring_is = record {
   holds = record {
     some = omega (arith, is.lies.units, is.lies.can.some);
@@ -355,40 +362,40 @@ start_needs disks ring units m up can alike is disks_is =
     )
 
 module _ {R : Type 0} {g : Ghosts R} where
-  never_down : (links : List KeptLink) (n : Node) (e : DiskSet R g) → StandsAt links n e → n.state ≡ IsDown → ((rack : R) → e ≡ Down rack → ⊥) → ⊥
-  never_down links n (Bare rack) h down none = let e : IsBare ≡ IsDown = sym (ap (λ (x : Node). x.state) h.bare.is) ∙ down in absurd (cc)
-  never_down links n (Spoiled rack) h down none = let e : IsBare ≡ IsDown = sym (ap (λ (x : Node). x.state) h.is) ∙ down in absurd (cc)
-  never_down links n (Up rvg) h down none = let e : IsUp ≡ IsDown = sym h.state ∙ down in absurd (cc)
-  never_down links n (Down rack) h down none = none rack refl
-  never_down links n Gone h down none = h
+  never_down : (beside : Beside) (n : Node) (e : DiskSet R g) → StandsAt beside n e → n.state ≡ IsDown → ((rack : R) → e ≡ Down rack → ⊥) → ⊥
+  never_down beside n (Bare rack) h down none = let e : IsBare ≡ IsDown = sym (ap (λ (x : Node). x.state) h.bare.is) ∙ down in absurd (cc)
+  never_down beside n (Spoiled rack) h down none = let e : IsBare ≡ IsDown = sym (ap (λ (x : Node). x.state) h.is) ∙ down in absurd (cc)
+  never_down beside n (Up rvg) h down none = let e : IsUp ≡ IsDown = sym h.state ∙ down in absurd (cc)
+  never_down beside n (Down rack) h down none = none rack refl
+  never_down beside n Gone h down none = h
 
-  pub came_at : {links : List KeptLink} (n : Node) (disks : ℕ) (units : Units) (rack up : R) (rvg : Rvg R g) → units ≡ raw_units disks → disks ≡ (g.meaning up).units → IsDownAt links n (g.meaning rack)
+  pub came_at : {beside : Beside} (n : Node) (disks : ℕ) (units : Units) (rack up : R) (rvg : Rvg R g) → units ≡ raw_units disks → disks ≡ (g.meaning up).units → IsDownAt beside n (g.meaning rack)
       → Alike (g.meaning rack) (g.meaning up) → IsFalse (g.meaning up).down → (g.meaning up).armed ≡ (g.meaning rack).armed → Lawful (g.meaning up) → Lawful (g.meaning rvg.shelf)
       → IsStarted units (g.meaning up) rvg.core (g.meaning rvg.shelf) → Moves (Run units.srl 0 (ring_in units (g.meaning up) + 2)) (Starting units (g.meaning up)) (g.meaning up) (g.meaning rvg.shelf)
-      → CameUp links n (Up rvg)
+      → CameUp beside n (Up rvg)
   came_at n disks units rack up rvg is disks_is down alike risen armed lawful after started moves =
       let same : units ≡ raw_units n.disks = is ∙ ap raw_units (disks_is ∙ alike.contents.units ∙ down.lies.units) in
       let c = came n (g.meaning rack) (g.meaning up) down alike risen armed (g.meaning rvg.shelf) lawful after
       (subst (λ (u : Units). Moves (Run u.srl 0 (ring_in u (g.meaning up) + 2)) (Starting u (g.meaning up)) (g.meaning up) (g.meaning rvg.shelf)) same moves)
-      rvg.core rvg.sound.log_unit (subst (λ (u : Units). IsStarted u (g.meaning up) rvg.core (g.meaning rvg.shelf)) same started) in
+      rvg.core rvg.sound.log_unit (rvg.sound.idle started.running (not_true (g.meaning rvg.shelf).down (λ fell. never_both (g.meaning up).down (moves.safe (armed ∙ down.unarmed) fell) risen))) (subst (λ (u : Units). IsStarted u (g.meaning up) rvg.core (g.meaning rvg.shelf)) same started) in
       record { node = c.node; is = c.is; same = c.same; stands = c.stands; next = c.next }
 
-  down_as : (links : List KeptLink) (n : Node) (old : DiskSet R g) (rack last : R) (why : No) → old ≡ Down rack → RefusedAs links n (g.meaning rack) (g.meaning last) why → CameUpIs links n old (Down last) (Err why)
-  down_as links n old rack last (Device disk) is h = (h.0, subst (λ (e : DiskSet R g). Rose (faults_at e disk) ((g.meaning last).disk_faults disk)) (sym is) h.1)
-  down_as links n old rack last (Limit what most) is h = h
-  down_as links n old rack last other is h = h
+  down_as : (beside : Beside) (n : Node) (old : DiskSet R g) (rack last : R) (why : No) → old ≡ Down rack → RefusedAs beside n (g.meaning rack) (g.meaning last) why → CameUpIs beside n old (Down last) (Err why)
+  down_as beside n old rack last (Device disk) is h = (h.0, subst (λ (e : DiskSet R g). Rose (faults_at e disk) ((g.meaning last).disk_faults disk)) (sym is) h.1)
+  down_as beside n old rack last (Limit what most) is h = h
+  down_as beside n old rack last other is h = h
 
-  pub refused_at : {links : List KeptLink} (n : Node) (disks : ℕ) (units : Units) (old : DiskSet R g) (rack up back last : R) (why : No) → old ≡ Down rack → units ≡ raw_units disks → disks ≡ (g.meaning up).units → IsDownAt links n (g.meaning rack)
+  pub refused_at : {beside : Beside} (n : Node) (disks : ℕ) (units : Units) (old : DiskSet R g) (rack up back last : R) (why : No) → old ≡ Down rack → units ≡ raw_units disks → disks ≡ (g.meaning up).units → IsDownAt beside n (g.meaning rack)
       → Alike (g.meaning rack) (g.meaning up) → IsFalse (g.meaning up).down → (g.meaning up).armed ≡ (g.meaning rack).armed → Lawful (g.meaning up) → Lawful (g.meaning back)
       → StartCause units (g.meaning up) (g.meaning back) why → ReadsAtLimit (g.meaning up) (g.meaning back) why → Moves (Run units.srl 0 (ring_in units (g.meaning up) + 2)) (Starting units (g.meaning up)) (g.meaning up) (g.meaning back)
-      → Stopped (g.meaning back) (g.meaning last) → Lawful (g.meaning last) → IsRack (g.meaning last) → CameUpIs links n old (Down last) (Err why)
-  refused_at {links} n disks units old rack up back last why old_is is disks_is down alike risen armed lawful after cause read moves stopped law is_rack =
+      → Stopped (g.meaning back) (g.meaning last) → Lawful (g.meaning last) → IsRack (g.meaning last) → CameUpIs beside n old (Down last) (Err why)
+  refused_at {beside} n disks units old rack up back last why old_is is disks_is down alike risen armed lawful after cause read moves stopped law is_rack =
       let same : units ≡ raw_units n.disks = is ∙ ap raw_units (disks_is ∙ alike.contents.units ∙ down.lies.units) in
-      down_as links n old rack last why old_is
+      down_as beside n old rack last why old_is
       (refused_as n (g.meaning rack) (g.meaning up) (g.meaning back) (g.meaning last) down alike risen armed lawful after
       (subst (λ (u : Units). Moves (Run u.srl 0 (ring_in u (g.meaning up) + 2)) (Starting u (g.meaning up)) (g.meaning up) (g.meaning back)) same moves)
       stopped law is_rack why (subst (λ (u : Units). StartCause u (g.meaning up) (g.meaning back) why) same cause) read)
 
   -- no site that is down has another disk set, or disks that cannot be started
-  pub not_started : (links : List KeptLink) (n : Node) (e new : DiskSet R g) (why : No) → StandsAt links n e → n.state ≡ IsDown → ((rack : R) → e ≡ Down rack → ⊥) → CameUpIs links n e new (Err why)
-  not_started links n e new why h down none = absurd (never_down links n e h down none)
+  pub not_started : (beside : Beside) (n : Node) (e new : DiskSet R g) (why : No) → StandsAt beside n e → n.state ≡ IsDown → ((rack : R) → e ≡ Down rack → ⊥) → CameUpIs beside n e new (Err why)
+  not_started beside n e new why h down none = absurd (never_down beside n e h down none)

@@ -10,21 +10,23 @@ use Rattle.vx_model.specs.declared.units.Units.{Units}
 use Rattle.vx_srlfmt.specs.declared.header.Header.{Header}
 use Rattle.vx_srl.specs.Views.{widths}
 use Rattle.vx_srl.specs.declared.kept.Kept.{Kept}
-use Rattle.vx_model.specs.declared.state.KeptLink.{KeptLink}
+use Rattle.vx_diskset.specs.Holds.{Beside}
 use Rattle.vx_disk.specs.Shelf.{Meaning, Image, Lawful}
 use Rattle.vx_disk.specs.Moves.{Blocks, Says, Moves}
 use Rattle.vx_rvg.specs.Holdings.{Holding}
 use Rattle.vx_rvg.specs.Stands.{Found}
 use Rattle.vx_rvg.specs.Views.{Core}
-use Rattle.vx_diskset.specs.Holds.{HasWrites, state_with}
+use Rattle.vx_diskset.specs.Holds.{HasSite, HasWrites, state_with}
 use Rattle.vx_diskset.specs.Layouts.{units_of}
 use Rattle.vx_diskset.proofs.Laying.{lies_moved}
-use Rattle.vx_events.specs.Stamps.{most_stamp}
+use Rattle.vx_diskset.specs.Holds.{most_header}
 use Rattle.vx_diskset.specs.DiskSets.{worked}
 use Rattle.vx_diskset.specs.Fuses.{HasFuse}
 use Rattle.vx_history.specs.Stops.{IsFused}
 use Rattle.vx_diskset.specs.Lasts.{FoundWith, StandsWith}
 use Rattle.vx_diskset.proofs.LastWrites.{FoundOf}
+use Rattle.vx_diskset.proofs.BesideLemmas.{may_same, site_map}
+use Rattle.vx_diskset.proofs.NeedLemmas.{takes_same}
 use Rattle.vx_diskset.specs.Stands.{IsFitted, IsUpAt, IsHeldAt}
 
 pub not_true : (b : Bool) → (IsTrue b → ⊥) → IsFalse b
@@ -127,7 +129,7 @@ found_same u u' r r' state state' session session' stamp stamp' xs xs' c c' i eu
     (subst (λ (x : ℕ). FoundWith u r state x stamp' i xs' c') en
     (subst (λ (x : List Write). FoundWith u r state session stamp' i x c') ex
     (subst (λ (x : Content). FoundWith u r state session stamp' i xs x) ec
-    (record { held = with.held; has = with.has; found = found_below u r state session stamp stamp' i with.held le with.found }))))))
+    (record { held = with.held; has = with.has; needs = with.needs; found = found_below u r state session stamp stamp' i with.held le with.found }))))))
 
 -- the content with the writes that are durable and none beside
 pub durable_content : (n : Node) → n.base ≡ fold_writes n.base (drop n.safe (take n.safe n.log))
@@ -137,22 +139,22 @@ durable_content n = ap (λ (xs : List Write). fold_writes n.base xs) (sym (drop-
 pub all_taken : (n : Node) → length n.log ≡ n.safe → n.log ≡ take n.safe n.log
 all_taken n many = sym (take_all n.safe n.log (omega (arith, many)))
 
-pub writes_found : {links : List KeptLink} (n : Node) (core : Core) (i : Image) → core.units ≡ units_of n → core.log.ring ≡ n.ring → core.log.header.state ≡ state_with n links → core.log.header.incarnation ≡ n.session
-    → core.log.header.stamp ≤ most_stamp n → length n.log ≡ n.safe → FoundOf core i n.log n.base → HasWrites links n i
-writes_found {links} n core i units ring state session stamp many found = record {
+pub writes_found : {beside : Beside} (n : Node) (core : Core) (i : Image) → core.units ≡ units_of n → core.log.ring ≡ n.ring → core.log.header.state ≡ state_with n beside.links → core.log.header.incarnation ≡ n.session
+    → core.log.header.stamp ≤ most_header beside n → length n.log ≡ n.safe → FoundOf core i n.log n.base → HasWrites beside n i
+writes_found {beside} n core i units ring state session stamp many found = record {
   count = n.safe;
   least = omega arith;
   most = omega (arith, many);
-  found = found_same core.units (units_of n) core.log.ring n.ring core.log.header.state (state_with n links) core.log.header.incarnation n.session core.log.header.stamp (most_stamp n)
+  found = found_same core.units (units_of n) core.log.ring n.ring core.log.header.state (state_with n beside.links) core.log.header.incarnation n.session core.log.header.stamp (most_header beside n)
       n.log (take n.safe n.log) n.base (fold_writes n.base (drop n.safe (take n.safe n.log))) i units ring state session stamp (all_taken n many) (durable_content n) found;
 }
 
 -- what the header keeps, where contents are told
-pub kept_whole : {links : List KeptLink} (n : Node) (c : Core) (m : Meaning) → IsUpAt links n c m → IsTrue m.tells → c.log.header.state ≡ state_with n links
+pub kept_whole : {beside : Beside} (n : Node) (c : Core) (m : Meaning) → IsUpAt beside n c m → IsTrue m.tells → c.log.header.state ≡ state_with n beside.links
 kept_whole n c m up told = up.kept ∙ ap (state_with n) (up.linked told)
 
 -- an image in a call on a running group that changes no content
-pub up_found : {links : List KeptLink} (n : Node) (c : Core) (m : Meaning) (i : Image) → IsUpAt links n c m → n.halted ≡ None → IsTrue m.tells → FoundOf c i n.log n.base → HasWrites links n i
+pub up_found : {beside : Beside} (n : Node) (c : Core) (m : Meaning) (i : Image) → IsUpAt beside n c m → n.halted ≡ None → IsTrue m.tells → FoundOf c i n.log n.base → HasWrites beside n i
 up_found n c m i up running told found =
     writes_found n c i up.units up.ring (kept_whole n c m up told) up.session (let t = up.stamp told running in omega (arith, t)) (omega (arith, up.logged, up.durable running)) found
 
@@ -166,8 +168,8 @@ pub record SameLog (c c' : Core) : Type 0 where
   pub held : c'.log.held ≡ c.log.held
 
 -- a site that is up after a call that leaves its log alone, maybe halted by it
-pub up_with : {links : List KeptLink} (n : Node) (c c' : Core) (m new : Meaning) (h : Option ℕ) (f : Fuse) (mine : Blocks) (P : Says) → Moves mine P m new → IsFalse new.down → HasFuse f new → IsUpAt links n c m → SameLog c c' → c'.halted ≡ h
-    → (h ≡ None → n.halted ≡ None) → (h ≡ None → IsTrue new.tells → StandsWith c' n.log n.base new) → ((i : Image) → new.now i → HasWrites links n i) → IsUpAt links (record n { halted = h; fuse = f }) c' new
+pub up_with : {beside : Beside} (n : Node) (c c' : Core) (m new : Meaning) (h : Option ℕ) (f : Fuse) (mine : Blocks) (P : Says) → Moves mine P m new → IsFalse new.down → HasFuse f new → IsUpAt beside n c m → SameLog c c' → c'.halted ≡ h
+    → (h ≡ None → n.halted ≡ None) → (h ≡ None → IsTrue new.tells → StandsWith c' n.log n.base new) → ((i : Image) → new.now i → HasSite beside n i) → IsUpAt beside (record n { halted = h; fuse = f }) c' new
 up_with n c c' m new h f mine P moves still fuse up same halted running content left = record {
   state = up.state;
   up = still;
@@ -189,12 +191,15 @@ up_with n c c' m new h f mine P moves still fuse up same halted running content 
   halted = halted;
   logged = up.logged;
   durable = λ none. up.durable (running none);
+  takes = λ none. takes_same c.log c'.log n.log (ap (λ (x : Header). x.low) same.header) same.held (up.takes (running none));
   content = content;
-  left = λ i now. let has = left i now in record { count = has.count; least = has.least; most = has.most; found = has.found };
+  left = λ i now. site_map n (record n { halted = h; fuse = f }) i (λ has. record { count = has.count; least = has.least; most = has.most; found = has.found }) (left i now);
+  sure = λ none. up.sure (running none);
+  may = λ k is. may_same k m new moves.units moves.size moves.tells (up.may k is);
 }
 
 -- a site that is up, with a fuse of which less is known
-pub up_worked : {links : List KeptLink} (n : Node) (c : Core) (m : Meaning) → IsUpAt links n c m → IsUpAt links (worked n) c m
+pub up_worked : {beside : Beside} (n : Node) (c : Core) (m : Meaning) → IsUpAt beside n c m → IsUpAt beside (worked n) c m
 up_worked n c m up = record {
   state = up.state;
   up = up.up;
@@ -215,26 +220,31 @@ up_worked n c m up = record {
   halted = up.halted;
   logged = up.logged;
   durable = up.durable;
+  takes = up.takes;
   content = up.content;
-  left = λ i now. let has = up.left i now in record { count = has.count; least = has.least; most = has.most; found = has.found };
+  left = λ i now. site_map n (worked n) i (λ has. record { count = has.count; least = has.least; most = has.most; found = has.found }) (up.left i now);
+  sure = up.sure;
+  may = up.may;
 }
 
 -- ---- whatever befell the disks of a site that was up
 
-pub held_moved : {links : List KeptLink} (n : Node) (c : Core) (m new : Meaning) (mine : Blocks) (P : Says) → Moves mine P m new → IsUpAt links n c m → ((i : Image) → new.now i → HasWrites links n i) → IsHeldAt links n new
+pub held_moved : {beside : Beside} (n : Node) (c : Core) (m new : Meaning) (mine : Blocks) (P : Says) → Moves mine P m new → IsUpAt beside n c m → ((i : Image) → new.now i → HasSite beside n i) → IsHeldAt beside n new
 held_moved n c m new mine P moves up left = record {
   lies = lies_moved n mine P m new moves up.lies;
   logged = up.logged;
   low = up.low;
   begun = λ told. up.begun (sym moves.tells ∙ told);
   left = left;
+  may = λ k is. may_same k m new moves.units moves.size moves.tells (up.may k is);
 }
 
-pub held_up : {links : List KeptLink} (n : Node) (c : Core) (m : Meaning) → IsUpAt links n c m → IsHeldAt links n m
+pub held_up : {beside : Beside} (n : Node) (c : Core) (m : Meaning) → IsUpAt beside n c m → IsHeldAt beside n m
 held_up n c m up = record {
   lies = up.lies;
   logged = up.logged;
   low = up.low;
   begun = up.begun;
   left = up.left;
+  may = up.may;
 }

@@ -1,5 +1,5 @@
 -- What a write of a site whose log has room answers.
-use Rattle.std.proofs.Common.{◌≡◌, ◌∙◌, ⊎_elim, ◌+◌, ◌-◌, ◌<◌, ◌≤◌, ℕ, Bool, true, false, List, [], ◌∷◌, ◌++◌, length, ap, sym, subst, refl, arith, IsTrue, length-append}
+use Rattle.std.proofs.Common.{◌≡◌, ◌∙◌, inl, ⊎_elim, ◌+◌, ◌-◌, ◌<◌, ◌≤◌, ℕ, Bool, true, false, List, [], ◌∷◌, ◌++◌, length, ap, sym, subst, refl, arith, IsTrue, length-append}
 use Rattle.std.specs.Prelude.{IsFalse, Option, Some, None, Result, Ok, Err, OnOk, IsSome, leb, ltb, if◌then◌else◌}
 use Rattle.std.proofs.lemmas.Bool.Decides.{nat_tests}
 use Rattle.vx_model.specs.Answer.{is_too_large}
@@ -11,7 +11,7 @@ use Rattle.vx_model.specs.declared.no.No.TheVariants.{Device, Limit, Down, Size,
 use Rattle.vx_model.specs.declared.units.Units.{Units}
 use Rattle.vx_srl.specs.Views.{most_number, kept_of}
 use Rattle.vx_srl.specs.declared.kept.Kept.{Kept}
-use Rattle.vx_model.specs.declared.state.KeptLink.{KeptLink}
+use Rattle.vx_diskset.specs.Holds.{Beside}
 use Rattle.vx_disk.specs.Counts.{Rose}
 use Rattle.vx_disk.specs.Shelf.{Meaning, Image, Lawful}
 use Rattle.vx_disk.specs.Moves.{Moves, Run}
@@ -25,27 +25,30 @@ use Rattle.vx_rvg.specs.Views.{Core, IsSound, last_of, unit_of}
 use Rattle.vx_diskset.specs.DiskSets.{CanWrite, WroteUp, halted_with, worked, no_number}
 use Rattle.vx_diskset.specs.Holds.{HasWrites}
 use Rattle.vx_diskset.specs.Layouts.{LiesOn}
-use Rattle.vx_events.specs.Stamps.{most_stamp}
+use Rattle.vx_diskset.specs.Holds.{most_header}
+use Rattle.vx_diskset.specs.Needs.{TakesAs}
 use Rattle.vx_diskset.specs.Rooms.{IsRoomy, RoomIs}
 use Rattle.vx_diskset.specs.Fuses.{HasFuse, IsFirst}
 use Rattle.vx_history.specs.Stops.{IsFused}
 use Rattle.vx_events.specs.Fuses.{IsExact, taken}
 use Rattle.vx_diskset.specs.Stands.{IsUpAt, IsHeldAt}
 use Rattle.vx_diskset.proofs.ApplyGroup.{ended_log}
+use Rattle.vx_diskset.proofs.BesideLemmas.{never_besides, site_map}
 use Rattle.vx_diskset.proofs.ExactWrite.{first_pushed, taken_many, taken_push}
 use Rattle.vx_diskset.proofs.WriteLeaves.{has_begun, half_begins, has_half, has_whole, has_safe, half_of, up_half, up_logged}
 use Rattle.vx_diskset.proofs.Laying.{lies_moved}
 use Rattle.vx_diskset.proofs.LastWrites.{stands_with, write_with, writing_found}
 use Rattle.vx_diskset.proofs.MakeRoom.{rose_later}
+use Rattle.vx_diskset.proofs.NeedLemmas.{takes_push}
 use Rattle.vx_diskset.proofs.StaysUp.{told_now, up_worked, never_both, left_moved, fused_by, fuse_moved, burned_twice, fused_before}
 
 -- what a write answers of a site
-abbrev pub WroteAs : List KeptLink → Node → Write → Meaning → Core → Meaning → Result ℕ No → Type 0
-WroteAs links n x m c' new (Ok number) = (number ≡ n.safe + 1) × (n.safe < most_number) × IsUpAt links (logged n x) c' new × ((calls : ℕ) → IsTrue new.tells → IsExact n x calls → 4 ≤ calls)
-WroteAs links n x m c' new (Err (Device disk)) = IsUpAt links (halted_with n x disk) c' new × Rose (m.disk_faults disk) (new.disk_faults disk)
-WroteAs links n x m c' new (Err (Limit what most)) = (Limit what most ≡ no_number) × (IsTrue new.tells → most_number ≤ most_stamp n) × IsUpAt links (worked n) c' new
-WroteAs links n x m c' new (Err Down) = IsFused n.fuse × IsHeldAt links (half_begun n x) new × ((calls : ℕ) → IsTrue new.tells → IsExact n x calls → calls < 4)
-WroteAs links n x m c' new (Err other) = ⊥
+abbrev pub WroteAs : Beside → Node → Write → Meaning → Core → Meaning → Result ℕ No → Type 0
+WroteAs beside n x m c' new (Ok number) = (number ≡ n.safe + 1) × (n.safe < most_number) × IsUpAt beside (logged n x) c' new × ((calls : ℕ) → IsTrue new.tells → IsExact n x calls → 4 ≤ calls)
+WroteAs beside n x m c' new (Err (Device disk)) = IsUpAt beside (halted_with n x disk) c' new × Rose (m.disk_faults disk) (new.disk_faults disk)
+WroteAs beside n x m c' new (Err (Limit what most)) = (Limit what most ≡ no_number) × (IsTrue new.tells → most_number ≤ most_header beside n) × IsUpAt beside (worked n) c' new
+WroteAs beside n x m c' new (Err Down) = IsFused n.fuse × IsHeldAt beside (half_begun n x) new × ((calls : ℕ) → IsTrue new.tells → IsExact n x calls → calls < 4)
+WroteAs beside n x m c' new (Err other) = ⊥
 
 -- the tests of a write of which only the number is not known to pass
 abbrev tests : ℕ → ℕ → ℕ → ℕ → ℕ → Option No
@@ -75,7 +78,7 @@ number_by last false is = SomeLeft (grind (arith, nat_tests)) refl
 pushed : (low : ℕ) (held staged : List Kept) (k : Kept) → 0 < low → length staged ≡ 0 → low + length (held ++ (staged ++ k ∷ [])) - 1 ≡ low + length held - 1 + 1
 pushed low held staged k first idle = omega (arith, first, idle, length-append held (staged ++ k ∷ []), length-append staged (k ∷ []))
 
-module _ {links : List KeptLink} (n : Node) (volume start : ℕ) (bytes : List ℕ) (c0 c c' : Core) (m0 m new : Meaning) (up : IsUpAt links n c0 m0) (can : CanWrite n volume start (blocks_in bytes)) (roomy : IsRoomy links n c m)
+module _ {beside : Beside} (n : Node) (volume start : ℕ) (bytes : List ℕ) (c0 c c' : Core) (m0 m new : Meaning) (up : IsUpAt beside n c0 m0) (can : CanWrite n volume start (blocks_in bytes)) (roomy : IsRoomy beside n c m)
     (before : IsTrue m.tells → IsTrue m0.tells) (lawful : Lawful m) (after : Lawful new) (sound : IsSound c m) (sound' : IsSound c' new)
     (moves : Moves (Run c.units.srl 0 (c.log.ring + 2)) (Writing c (record { volume = volume; start = start; bytes = bytes } ∷ []) m) m new) where
   abbrev x : Write
@@ -88,38 +91,11 @@ module _ {links : List KeptLink} (n : Node) (volume start : ℕ) (bytes : List �
   size : m.size (unit_of c.units.vols volume) ≡ n.base.size volume
   size = ap (λ (u : Units). m.size (unit_of u.vols volume)) roomy.units ∙ sym (roomy.lies.laid.each volume can.volume_exists)
 
-  -- it is up, and its log has used no stamp
-  up_roomy : most_number ≤ n.safe → (IsTrue m.tells → c.log.header.stamp + 1 ≤ most_stamp n) → IsUpAt links (worked n) c m
-  up_roomy past stamp = record {
-    state = up.state;
-    up = roomy.up;
-    lies = roomy.lies;
-    fuse = roomy.fuse;
-    units = roomy.units;
-    ring = roomy.ring;
-    low = up.low;
-    found = roomy.found;
-    kept = roomy.kept;
-    linked = roomy.linked;
-    session = roomy.session;
-    begun = λ told. up.begun (before told);
-    stamp = λ told _. stamp told;
-    fresh = λ told none one room. absurd (omega (arith, past, many, taken_many n.log, room, up.lies.laid.ring_is));
-    first = roomy.first;
-    head = roomy.head;
-    halted = roomy.running ∙ sym can.running;
-    logged = up.logged;
-    durable = up.durable;
-    content = λ _ told. roomy.content told;
-    left = λ i now. let told = told_now m i lawful now in let has = has_safe n c m i roomy told many (stands_with c n.log n.base m i sound.log_unit lawful (roomy.content told) now) in
-        record { count = has.count; least = has.least; most = has.most; found = has.found };
-  }
-
   fuse_new : HasFuse (burned n.fuse) new
   fuse_new = subst (λ (f : Fuse). HasFuse f new) (burned_twice n.fuse) (fuse_moved (burned n.fuse) (Run c.units.srl 0 (c.log.ring + 2)) (Writing c (x ∷ []) m) m new moves roomy.fuse)
 
   -- what a crash leaves of a write that a disk ended
-  half_left : (disk : ℕ) (i : Image) → new.now i → HasWrites links (halted_with n x disk) i
+  half_left : (disk : ℕ) (i : Image) → new.now i → HasWrites beside (halted_with n x disk) i
   half_left disk i now =
       let told : IsTrue m.tells = sym moves.tells ∙ told_now new i after now in
       ⊎_elim
@@ -134,7 +110,7 @@ module _ {links : List KeptLink} (n : Node) (volume start : ℕ) (bytes : List �
   begun_new told = up.begun (before (sym moves.tells ∙ told))
 
   -- its fuse ran out
-  pub write_cut : IsTrue new.down → IsFused n.fuse × IsHeldAt links (half_begun n x) new
+  pub write_cut : IsTrue new.down → IsFused n.fuse × IsHeldAt beside (half_begun n x) new
   write_cut down = (
     fused_before n.fuse (fused_by (burned n.fuse) (Run c.units.srl 0 (c.log.ring + 2)) (Writing c (x ∷ []) m) m new moves roomy.fuse roomy.up down),
     record {
@@ -142,7 +118,8 @@ module _ {links : List KeptLink} (n : Node) (volume start : ℕ) (bytes : List �
       logged = omega (arith, up.logged, length-append n.log (x ∷ []));
       low = up.low;
       begun = begun_new;
-      left = λ i now. half_begins n x 0 i (half_left 0 i now);
+      left = λ i now. inl (half_begins n x 0 i (half_left 0 i now));
+      may = never_besides beside.doubt new (up.sure can.running);
     },
   )
 
@@ -151,43 +128,42 @@ module _ {links : List KeptLink} (n : Node) (volume start : ℕ) (bytes : List �
       ap (λ (k : Core). last_of k) is
       ∙ pushed c.log.header.low c.log.held c.log.staged (kept_of c.log volume start bytes) roomy.first (ap (λ (ks : List Kept). length ks) (sound.idle roomy.running roomy.up))
 
+  takes_more : c' ≡ with_write c volume start bytes → TakesAs c'.log (n.log ++ x ∷ [])
+  takes_more is =
+      takes_push c.log c'.log (kept_of c.log volume start bytes) n.log x roomy.first (omega (arith, roomy.first, roomy.head, many)) (ap (λ (k : Core). k.log.header.low) is)
+      (ap (λ (k : Core). k.log.held) is ∙ ap (λ (ks : List Kept). c.log.held ++ (ks ++ kept_of c.log volume start bytes ∷ [])) (sound.idle roomy.running roomy.up)) refl roomy.takes
+
   -- the shelf is up behind it
-  module _ (still : IsFalse new.down) (first : IsTrue m.tells → n.session ≡ 1 → taken n.log + (blocks_in bytes + 1) ≤ n.ring → IsFirst c.log n.log) where
+  module _ (below_most : n.safe < most_number) (still : IsFalse new.down) (first : IsTrue m.tells → n.session ≡ 1 → taken n.log + (blocks_in bytes + 1) ≤ n.ring → IsFirst c.log n.log) where
     lies_new : LiesOn n new
     lies_new = lies_moved n (Run c.units.srl 0 (c.log.ring + 2)) (Writing c (x ∷ []) m) m new moves roomy.lies
 
     by_writes : (result : Result ℕ No) → last_of c < most_number → Writes c volume start bytes m new c' result → OnOk result ((h : Holding) → Stands c h m → Stands c' (with_writes (x ∷ []) h) new)
-        → ((calls : ℕ) → IsTrue new.tells → IsExact n x calls → OnOk result (4 ≤ calls)) → WroteAs links n x m c' new result
+        → ((calls : ℕ) → IsTrue new.tells → IsExact n x calls → OnOk result (4 ≤ calls)) → WroteAs beside n x m c' new result
     by_writes (Ok number) below is stands exact = (
       is.0 ∙ ap (λ (k : ℕ). k + 1) roomy.head,
       omega (arith, below, roomy.head),
       up_logged n x c0 c c' m0 m new up can.running roomy after sound'.log_unit moves.tells still lies_new fuse_new begun_new
           (λ told one room. first_pushed c c' n.log volume start bytes is.1 (sound.idle roomy.running roomy.up) (first (sym moves.tells ∙ told) one (let more = taken_push n.log x in omega (arith, room, more))))
+          (takes_more is.1)
           (ap (λ (k : Core). k.units) is.1) (ap (λ (k : Core). k.log.ring) is.1)
-          (ap (λ (k : Core). k.log.header) is.1) (ap (λ (k : Core). k.halted) is.1) (head_more is.1) (λ told. write_with c c' n.log x n.base m new (ap (λ (k : Core). k.log.ring) is.1) stands (roomy.content (sym moves.tells ∙ told))),
+          (ap (λ (k : Core). k.log.header) is.1) (ap (λ (k : Core). k.halted) is.1) (head_more is.1) (λ told. write_with c c' n.log x n.base m new (ap (λ (k : Core). k.log.ring) is.1) (ap (λ (k : Core). k.log.header) is.1) stands (roomy.content (sym moves.tells ∙ told))),
       exact,
     )
-    by_writes (Err (Device disk)) below is stands exact = (up_half n x disk c0 c c' m0 m new up roomy moves.tells still lies_new fuse_new begun_new (ended_log c (Some disk) c' is.0) is.0.halted_is (half_left disk), is.1)
+    by_writes (Err (Device disk)) below is stands exact = (up_half n x disk c0 c c' m0 m new up roomy moves.tells still lies_new fuse_new begun_new (ended_log c (Some disk) c' is.0) is.0.halted_is (up.sure can.running) (half_left disk), is.1)
     by_writes (Err Down) below is stands exact = absurd (never_both new.down is.1 still)
     by_writes (Err (Limit what most)) below is stands exact = absurd is
     by_writes (Err other) below is stands exact = is
 
     by_number : (o : Option No) (result : Result ℕ No) → Number (last_of c) o → WriteIs o c volume start bytes m new c' result → (IsSome o → new ≡ m)
-        → OnOk result ((h : Holding) → Stands c h m → Stands c' (with_writes (x ∷ []) h) new) → ((calls : ℕ) → IsTrue new.tells → IsExact n x calls → OnOk result (4 ≤ calls)) → WroteAs links n x m c' new result
+        → OnOk result ((h : Holding) → Stands c h m → Stands c' (with_writes (x ∷ []) h) new) → ((calls : ℕ) → IsTrue new.tells → IsExact n x calls → OnOk result (4 ≤ calls)) → WroteAs beside n x m c' new result
     by_number o result (SomeLeft below is_none) is unchanged stands exact = by_writes result below (subst (λ (k : Option No). WriteIs k c volume start bytes m new c' result) is_none is) stands exact
-    by_number o result (NoneLeft past is_some) is unchanged stands exact =
-        let refused = subst (λ (k : Option No). WriteIs k c volume start bytes m new c' result) is_some is in
-        let stays : new ≡ m = unchanged (subst (λ (k : Option No). IsSome k) (sym is_some) refl) in
-        subst (λ (r : Result ℕ No). WroteAs links n x m c' new r) (sym refused.0) (
-          refl,
-          (λ told. omega (arith, past, roomy.head)),
-          subst (λ (k : Core). IsUpAt links (worked n) k new) (sym refused.1) (subst (λ (k : Meaning). IsUpAt links (worked n) c k) (sym stays) (up_roomy (omega (arith, past, roomy.head)) (λ told. roomy.unused told (omega (arith, past, roomy.head))))),
-        )
+    by_number o result (NoneLeft past is_some) is unchanged stands exact = absurd (omega (arith, past, below_most, roomy.head))
 
     -- what a write answers
     pub written_as : (result : Result ℕ No) → WriteIs (write_refusal c (m.size (unit_of c.units.vols volume)) start (blocks_in bytes)) c volume start bytes m new c' result
         → (IsSome (write_refusal c (m.size (unit_of c.units.vols volume)) start (blocks_in bytes)) → new ≡ m)
-        → OnOk result ((h : Holding) → Stands c h m → Stands c' (with_writes (x ∷ []) h) new) → ((calls : ℕ) → IsTrue new.tells → IsExact n x calls → OnOk result (4 ≤ calls)) → WroteAs links n x m c' new result
+        → OnOk result ((h : Holding) → Stands c h m → Stands c' (with_writes (x ∷ []) h) new) → ((calls : ℕ) → IsTrue new.tells → IsExact n x calls → OnOk result (4 ≤ calls)) → WroteAs beside n x m c' new result
     written_as result is unchanged stands exact =
         let refusal : write_refusal c (m.size (unit_of c.units.vols volume)) start (blocks_in bytes) ≡ number_test (last_of c)
         = ap (λ (h : Option ℕ). unless_halted h (tests c.log.ring (m.size (unit_of c.units.vols volume)) start (blocks_in bytes) (last_of c))) roomy.running
@@ -196,40 +172,41 @@ module _ {links : List KeptLink} (n : Node) (volume start : ℕ) (bytes : List �
         (subst (λ (o : Option No). WriteIs o c volume start bytes m new c' result) refusal is)
         (subst (λ (o : Option No). IsSome o → new ≡ m) refusal unchanged) stands exact
 
-held_begun : {links : List KeptLink} (n : Node) (x : Write) (m : Meaning) → IsHeldAt links n m → IsHeldAt links (half_begun n x) m
+held_begun : {beside : Beside} (n : Node) (x : Write) (m : Meaning) → IsHeldAt beside n m → IsHeldAt beside (half_begun n x) m
 held_begun n x m held = record {
   lies = held.lies;
   logged = omega (arith, held.logged, length-append n.log (x ∷ []));
   low = held.low;
   begun = held.begun;
-  left = λ i now. has_begun n x i (held.left i now);
+  left = λ i now. site_map n (half_begun n x) i (λ has. has_begun n x i has) (held.left i now);
+  may = held.may;
 }
 
 -- room that was not made refuses the write
-pub unroomed : (links : List KeptLink) (n : Node) (x : Write) (c' : Core) (m new : Meaning) (no : No) → ((calls : ℕ) → IsTrue new.tells → IsExact n x calls → ⊥) → RoomIs links n m c' new (Err no) → WroteAs links n x m c' new (Err no)
-unroomed links n x c' m new (Device disk) never is = (half_of n x disk c' new is.0, is.1)
-unroomed links n x c' m new (Limit what most) never is = is
-unroomed links n x c' m new Down never is = (is.0, held_begun n x new is.1, λ calls told exact. absurd (never calls told exact))
-unroomed links n x c' m new other never is = is
+pub unroomed : (beside : Beside) (n : Node) (x : Write) (c' : Core) (m new : Meaning) (no : No) → ((calls : ℕ) → IsTrue new.tells → IsExact n x calls → ⊥) → RoomIs beside n m c' new (Err no) → WroteAs beside n x m c' new (Err no)
+unroomed beside n x c' m new (Device disk) never is = (half_of n x disk c' new is.0, is.1)
+unroomed beside n x c' m new (Limit what most) never is = is
+unroomed beside n x c' m new Down never is = (is.0, held_begun n x new is.1, λ calls told exact. absurd (never calls told exact))
+unroomed beside n x c' m new other never is = is
 
 -- a call that moved the shelf, and then the write
-pub wrote_later : (links : List KeptLink) (n : Node) (x : Write) (c' : Core) (m mid new : Meaning) (result : Result ℕ No) → ((d : ℕ) → m.disk_faults d ≤ mid.disk_faults d) → WroteAs links n x mid c' new result → WroteAs links n x m c' new result
-wrote_later links n x c' m mid new (Ok number) later is = is
-wrote_later links n x c' m mid new (Err (Device disk)) later is = (is.0, rose_later (m.disk_faults disk) (mid.disk_faults disk) (new.disk_faults disk) (later disk) is.1)
-wrote_later links n x c' m mid new (Err (Limit what most)) later is = is
-wrote_later links n x c' m mid new (Err Down) later is = is
-wrote_later links n x c' m mid new (Err other) later is = is
+pub wrote_later : (beside : Beside) (n : Node) (x : Write) (c' : Core) (m mid new : Meaning) (result : Result ℕ No) → ((d : ℕ) → m.disk_faults d ≤ mid.disk_faults d) → WroteAs beside n x mid c' new result → WroteAs beside n x m c' new result
+wrote_later beside n x c' m mid new (Ok number) later is = is
+wrote_later beside n x c' m mid new (Err (Device disk)) later is = (is.0, rose_later (m.disk_faults disk) (mid.disk_faults disk) (new.disk_faults disk) (later disk) is.1)
+wrote_later beside n x c' m mid new (Err (Limit what most)) later is = is
+wrote_later beside n x c' m mid new (Err Down) later is = is
+wrote_later beside n x c' m mid new (Err other) later is = is
 
 -- ---- the same of disk sets
 
 module _ {R : Type 0} {g : Ghosts R} where
-  pub wrote_at : (links : List KeptLink) (n : Node) (x : Write) (old new : Rvg R g) (result : Result ℕ No) → n.safe < most_number → WroteAs links n x (g.meaning old.shelf) new.core (g.meaning new.shelf) result → WroteUp links n x (Up old) (Up new) result
-  wrote_at links n x old new (Ok number) below is = is
-  wrote_at links n x old new (Err (Device disk)) below is = (is.0, is.1, below)
-  wrote_at links n x old new (Err (Limit what most)) below is = is
-  wrote_at links n x old new (Err Down) below is = (is.0, is.1, is.2, below)
-  wrote_at links n x old new (Err other) below is = is
+  pub wrote_at : (beside : Beside) (n : Node) (x : Write) (old new : Rvg R g) (result : Result ℕ No) → n.safe < most_number → WroteAs beside n x (g.meaning old.shelf) new.core (g.meaning new.shelf) result → WroteUp beside n x (Up old) (Up new) result
+  wrote_at beside n x old new (Ok number) below is = is
+  wrote_at beside n x old new (Err (Device disk)) below is = (is.0, is.1, below)
+  wrote_at beside n x old new (Err (Limit what most)) below is = is
+  wrote_at beside n x old new (Err Down) below is = (is.0, is.1, is.2, below)
+  wrote_at beside n x old new (Err other) below is = is
 
   -- no number is left
-  pub wrote_none : {links : List KeptLink} (n : Node) (x : Write) (rvg : Rvg R g) → IsUpAt links n rvg.core (g.meaning rvg.shelf) → most_number ≤ last_of rvg.core → WroteUp links n x (Up rvg) (Up rvg) (Err no_number)
+  pub wrote_none : {beside : Beside} (n : Node) (x : Write) (rvg : Rvg R g) → IsUpAt beside n rvg.core (g.meaning rvg.shelf) → most_number ≤ last_of rvg.core → WroteUp beside n x (Up rvg) (Up rvg) (Err no_number)
   wrote_none n x rvg up full = (refl, (λ told. omega (arith, full, up.head)), up_worked n rvg.core (g.meaning rvg.shelf) up)

@@ -6,7 +6,7 @@ use Rattle.vx_history.specs.World.{Node, bare_site}
 use Rattle.vx_history.specs.Steps.{logged, raw_set, half_begun, crashed, recovered, burned}
 use Rattle.vx_model.specs.Sizes.{ring_of}
 use Rattle.vx_model.specs.declared.site.SiteState.TheVariants.{Up as IsUp}
-use Rattle.vx_model.specs.declared.state.KeptLink.{KeptLink}
+use Rattle.vx_diskset.specs.Holds.{Beside, Kept, itself, sure_of}
 use Rattle.vx_model.specs.declared.errors.Stop.{Stop}
 use Rattle.vx_model.specs.declared.errors.Stop.TheVariants.{No as Refused, OutOfMemory}
 use Rattle.vx_model.specs.declared.no.No.{No}
@@ -21,7 +21,7 @@ use Rattle.vx_rvg.specs.Views.{maps_of}
 use Rattle.vx_srl.specs.Views.{most_number}
 use Rattle.vx_diskset.specs.declared.disk_set.DiskSet.{DiskSet}
 use Rattle.vx_events.specs.Found.{SameDisks}
-use Rattle.vx_events.specs.Stamps.{most_stamp}
+use Rattle.vx_diskset.specs.Holds.{most_header}
 use Rattle.vx_history.specs.Stops.{IsFused}
 use Rattle.vx_events.specs.Fuses.{IsExact}
 use Rattle.vx_diskset.specs.Layouts.{raw_units}
@@ -92,7 +92,7 @@ module _ {R : Type 0} {g : Ghosts R} where
 
   -- the disks of a new site, whatever its name; or a failing disk, want of memory, or more blocks than there may be
   abbrev pub FitIs : {T : Type 0} → Option T → ℕ → ℕ → DiskSet R g → DiskSet R g → Result (Unit {0}) Stop → Type 0
-  FitIs dir disks blocks old new (Ok done) = (links : List KeptLink) (name : List ℕ) → StandsAt links (bare_site name disks blocks) new
+  FitIs dir disks blocks old new (Ok done) = (beside : Beside) (name : List ℕ) → StandsAt beside (bare_site name disks blocks) new
   FitIs dir disks blocks old new (Err OutOfMemory) = IsUnused new
   FitIs dir disks blocks old new (Err (Refused (Device disk))) = IsUnused new × RoseAt old new disk
   FitIs dir disks blocks old new (Err (Refused other)) = most_blocks dir < blocks
@@ -100,82 +100,84 @@ module _ {R : Type 0} {g : Ghosts R} where
   -- the disks of a bare site as a raw set without links, or as they were, with a failing disk or want of memory
   abbrev pub MadeIs : ℕ → Node → DiskSet R g → DiskSet R g → Result (Unit {0}) Stop → Type 0
   MadeIs site n old new (Ok done) = StandsAlone (raw_set site n) new
-  MadeIs site n old new (Err OutOfMemory) = (links : List KeptLink) → StandsAt links n new
-  MadeIs site n old new (Err (Refused (Device disk))) = ((links : List KeptLink) → StandsAt links n new) × RoseAt old new disk
+  MadeIs site n old new (Err OutOfMemory) = (beside : Beside) → StandsAt beside n new
+  MadeIs site n old new (Err (Refused (Device disk))) = ((beside : Beside) → StandsAt beside n new) × RoseAt old new disk
   MadeIs site n old new (Err (Refused other)) = ⊥
 
-  -- a site that crashed, with one of the numbers of writes that a crash may keep
-  pub record CrashedAt (links : List KeptLink) (n : Node) (new : DiskSet R g) : Type 0 where
+  -- a site that crashed, as its node says it or as what it might be besides, with one of the numbers of writes that a crash may keep
+  pub record CrashedAt (beside : Beside) (n : Node) (new : DiskSet R g) : Type 0 where
+    pub kept : Kept
+    pub is : (kept ≡ itself beside n) ⊎ (beside.doubt ≡ Some kept)
     pub count : ℕ
-    pub least : n.safe ≤ count
-    pub most : count ≤ length n.log
-    pub stands : StandsAt links (crashed n count) new
+    pub least : kept.node.safe ≤ count
+    pub most : count ≤ length kept.node.log
+    pub stands : StandsAt (sure_of kept) (crashed kept.node count) new
 
   -- the next number, or a failing disk, or want of a number; or its fuse ran out, and then this holds of the site with the write begun
-  abbrev pub WroteWith : (Node → DiskSet R g → Type 0) → List KeptLink → Node → Write → DiskSet R g → DiskSet R g → Result ℕ No → Type 0
-  WroteWith Off links n x old new (Ok number) = (number ≡ n.safe + 1) × (n.safe < most_number) × StandsAt links (logged n x) new × ((calls : ℕ) → IsToldAt new → IsExact n x calls → 4 ≤ calls)
-  WroteWith Off links n x old new (Err (Device disk)) = StandsAt links (halted_with n x disk) new × RoseAt old new disk × (n.safe < most_number)
-  WroteWith Off links n x old new (Err (Limit what most)) = (Limit what most ≡ no_number) × (IsToldAt new → most_number ≤ most_stamp n) × StandsAt links (worked n) new
-  WroteWith Off links n x old new (Err IsDown) = IsFused n.fuse × Off (half_begun n x) new × ((calls : ℕ) → IsToldAt new → IsExact n x calls → calls < 4) × (n.safe < most_number)
-  WroteWith Off links n x old new (Err other) = ⊥
+  abbrev pub WroteWith : (Node → DiskSet R g → Type 0) → Beside → Node → Write → DiskSet R g → DiskSet R g → Result ℕ No → Type 0
+  WroteWith Off beside n x old new (Ok number) = (number ≡ n.safe + 1) × (n.safe < most_number) × StandsAt beside (logged n x) new × ((calls : ℕ) → IsToldAt new → IsExact n x calls → 4 ≤ calls)
+  WroteWith Off beside n x old new (Err (Device disk)) = StandsAt beside (halted_with n x disk) new × RoseAt old new disk × (n.safe < most_number)
+  WroteWith Off beside n x old new (Err (Limit what most)) = (Limit what most ≡ no_number) × (IsToldAt new → most_number ≤ most_header beside n) × StandsAt beside (worked n) new
+  WroteWith Off beside n x old new (Err IsDown) = IsFused n.fuse × Off (half_begun n x) new × ((calls : ℕ) → IsToldAt new → IsExact n x calls → calls < 4) × (n.safe < most_number)
+  WroteWith Off beside n x old new (Err other) = ⊥
 
   -- a write behind which the site of a fuse that ran out crashed, and one behind which it has not crashed yet
-  abbrev pub WroteAt : List KeptLink → Node → Write → DiskSet R g → DiskSet R g → Result ℕ No → Type 0
-  WroteAt links n x old new result = WroteWith (λ k e. CrashedAt links k e) links n x old new result
+  abbrev pub WroteAt : Beside → Node → Write → DiskSet R g → DiskSet R g → Result ℕ No → Type 0
+  WroteAt beside n x old new result = WroteWith (λ k e. CrashedAt beside k e) beside n x old new result
 
-  abbrev pub WroteUp : List KeptLink → Node → Write → DiskSet R g → DiskSet R g → Result ℕ No → Type 0
-  WroteUp links n x old new result = WroteWith (λ k e. CutAt links k e) links n x old new result
+  abbrev pub WroteUp : Beside → Node → Write → DiskSet R g → DiskSet R g → Result ℕ No → Type 0
+  WroteUp beside n x old new result = WroteWith (λ k e. CutAt beside k e) beside n x old new result
 
   -- the blocks, which are those of the content where it is told, or a failing disk
-  abbrev pub ReadAt : List KeptLink → Node → ℕ → ℕ → ℕ → List ℕ → DiskSet R g → DiskSet R g → Result (Unit {0}) No → Type 0
-  ReadAt links n volume start count bytes old new (Ok done) = (IsToldAt new → Shows n.base volume start count bytes) × StandsAt links n new
-  ReadAt links n volume start count bytes old new (Err (Device disk)) = StandsAt links n new × RoseAt old new disk
-  ReadAt links n volume start count bytes old new (Err other) = ⊥
+  abbrev pub ReadAt : Beside → Node → ℕ → ℕ → ℕ → List ℕ → DiskSet R g → DiskSet R g → Result (Unit {0}) No → Type 0
+  ReadAt beside n volume start count bytes old new (Ok done) = (IsToldAt new → Shows n.base volume start count bytes) × StandsAt beside n new
+  ReadAt beside n volume start count bytes old new (Err (Device disk)) = StandsAt beside n new × RoseAt old new disk
+  ReadAt beside n volume start count bytes old new (Err other) = ⊥
 
   -- A site that came up: in its next session, where contents are told, and else with whatever stands on its disks.
-  pub record CameUp (links : List KeptLink) (n : Node) (new : DiskSet R g) : Type 0 where
+  pub record CameUp (beside : Beside) (n : Node) (new : DiskSet R g) : Type 0 where
     pub node : Node
     pub is : IsToldAt new → node ≡ recovered n
     pub same : SameDisks n node
-    pub stands : StandsAt links node new
+    pub stands : StandsAt beside node new
     -- there was a further session
     pub next : IsToldAt new → n.session < most_number
 
   -- a site that stays down, maybe in the next session
-  abbrev pub StillDown : List KeptLink → Node → DiskSet R g → Type 0
-  StillDown links n new = StandsAt links n new ⊎ (StandsAt links (record n { session = n.session + 1 }) new × (n.session < most_number))
+  abbrev pub StillDown : Beside → Node → DiskSet R g → Type 0
+  StillDown beside n new = StandsAt beside n new ⊎ (StandsAt beside (record n { session = n.session + 1 }) new × (n.session < most_number))
 
   -- it came up, or a disk failed, or no number is left; nothing else where contents are told
-  abbrev pub CameUpIs : List KeptLink → Node → DiskSet R g → DiskSet R g → Result (Unit {0}) No → Type 0
-  CameUpIs links n old new (Ok done) = CameUp links n new
-  CameUpIs links n old new (Err (Device disk)) = StillDown links n new × RoseAt old new disk
-  CameUpIs links n old new (Err (Limit what most)) = (Limit what most ≡ no_number) × (IsToldAt new → most_number ≤ most_stamp n + 2) × StandsAt links n new
-  CameUpIs links n old new (Err other) = (IsToldAt new → ⊥) × StandsAt links n new
+  abbrev pub CameUpIs : Beside → Node → DiskSet R g → DiskSet R g → Result (Unit {0}) No → Type 0
+  CameUpIs beside n old new (Ok done) = CameUp beside n new
+  CameUpIs beside n old new (Err (Device disk)) = StillDown beside n new × RoseAt old new disk
+  CameUpIs beside n old new (Err (Limit what most)) = (Limit what most ≡ no_number) × (IsToldAt new → most_number ≤ most_header beside n + 2) × StandsAt beside n new
+  CameUpIs beside n old new (Err other) = (IsToldAt new → ⊥) × StandsAt beside n new
 
   -- a raw set that an earlier run left on the disks of a bare site: contents are not told
   pub record BareUp (n : Node) (new : DiskSet R g) : Type 0 where
     pub untold : IsToldAt new → ⊥
     pub node : Node
     pub same : SameDisks (raw_set 0 n) node
-    pub stands : (links : List KeptLink) → StandsAt links node new
+    pub stands : (beside : Beside) → beside.doubt ≡ None → StandsAt beside node new
 
   -- a bare site whose disks hold nothing, or one of which failed; or, where contents are not told, whatever stands on them
   abbrev pub BareUpIs : Node → DiskSet R g → DiskSet R g → Result (Unit {0}) No → Type 0
   BareUpIs n old new (Ok done) = BareUp n new
-  BareUpIs n old new (Err (Device disk)) = ((links : List KeptLink) → StandsAt links n new) × RoseAt old new disk
-  BareUpIs n old new (Err NoConfig) = (links : List KeptLink) → StandsAt links n new
-  BareUpIs n old new (Err other) = (IsToldAt new → ⊥) × ((links : List KeptLink) → StandsAt links n new)
+  BareUpIs n old new (Err (Device disk)) = ((beside : Beside) → StandsAt beside n new) × RoseAt old new disk
+  BareUpIs n old new (Err NoConfig) = (beside : Beside) → StandsAt beside n new
+  BareUpIs n old new (Err other) = (IsToldAt new → ⊥) × ((beside : Beside) → StandsAt beside n new)
 
   -- the number up to which all writes are in their volumes, or a failing disk; or its fuse ran out, and then this holds of the site
-  abbrev pub AppliedWith : (Node → DiskSet R g → Type 0) → List KeptLink → Node → ℕ → DiskSet R g → DiskSet R g → Result ℕ No → Type 0
-  AppliedWith Off links n to old new (Ok number) = (min to n.safe ≤ number) × (number ≤ n.safe) × StandsAt links (worked n) new
-  AppliedWith Off links n to old new (Err (Device disk)) = StandsAt links (halted_at n disk) new × RoseAt old new disk
-  AppliedWith Off links n to old new (Err IsDown) = IsFused n.fuse × Off n new
-  AppliedWith Off links n to old new (Err other) = ⊥
+  abbrev pub AppliedWith : (Node → DiskSet R g → Type 0) → Beside → Node → ℕ → DiskSet R g → DiskSet R g → Result ℕ No → Type 0
+  AppliedWith Off beside n to old new (Ok number) = (min to n.safe ≤ number) × (number ≤ n.safe) × StandsAt beside (worked n) new
+  AppliedWith Off beside n to old new (Err (Device disk)) = StandsAt beside (halted_at n disk) new × RoseAt old new disk
+  AppliedWith Off beside n to old new (Err IsDown) = IsFused n.fuse × Off n new
+  AppliedWith Off beside n to old new (Err other) = ⊥
 
   -- an apply behind which the site of a fuse that ran out crashed, and one behind which it has not crashed yet
-  abbrev pub AppliedAt : List KeptLink → Node → ℕ → DiskSet R g → DiskSet R g → Result ℕ No → Type 0
-  AppliedAt links n to old new result = AppliedWith (λ k e. CrashedAt links k e) links n to old new result
+  abbrev pub AppliedAt : Beside → Node → ℕ → DiskSet R g → DiskSet R g → Result ℕ No → Type 0
+  AppliedAt beside n to old new result = AppliedWith (λ k e. CrashedAt beside k e) beside n to old new result
 
-  abbrev pub AppliedUp : List KeptLink → Node → ℕ → DiskSet R g → DiskSet R g → Result ℕ No → Type 0
-  AppliedUp links n to old new result = AppliedWith (λ k e. CutAt links k e) links n to old new result
+  abbrev pub AppliedUp : Beside → Node → ℕ → DiskSet R g → DiskSet R g → Result ℕ No → Type 0
+  AppliedUp beside n to old new result = AppliedWith (λ k e. CutAt beside k e) beside n to old new result

@@ -4,7 +4,9 @@ pub mod DiskSets
 pub mod Fetching
 pub mod Fuses
 pub mod Holds
+pub mod Keeps
 pub mod Lasts
 pub mod Layouts
+pub mod Needs
 pub mod Rooms
 pub mod Stands

@@ -5,6 +5,7 @@ use Rattle.vx_model.specs.declared.no.No.{No}
 use Rattle.vx_history.specs.Steps.{burned}
 use Rattle.vx_model.specs.declared.no.No.TheVariants.{Device, Limit, Down}
 use Rattle.vx_model.specs.declared.state.KeptLink.{KeptLink}
+use Rattle.vx_diskset.specs.Holds.{Beside}
 use Rattle.vx_disk.specs.Counts.{Rose}
 use Rattle.vx_disk.specs.Shelf.{Meaning}
 use Rattle.vx_rvg.specs.Views.{Core, last_of}
@@ -13,13 +14,14 @@ use Rattle.vx_diskset.specs.DiskSets.{no_number, halted_at, worked}
 use Rattle.vx_diskset.specs.Lasts.{StandsWith}
 use Rattle.vx_diskset.specs.Holds.{state_with}
 use Rattle.vx_diskset.specs.Layouts.{LiesOn, units_of}
-use Rattle.vx_events.specs.Stamps.{most_stamp}
+use Rattle.vx_diskset.specs.Needs.{TakesAs}
+use Rattle.vx_diskset.specs.Holds.{most_header}
 use Rattle.vx_diskset.specs.Fuses.{HasFuse}
 use Rattle.vx_history.specs.Stops.{IsFused}
 use Rattle.vx_diskset.specs.Stands.{IsUpAt, IsHeldAt}
 
 -- a site that is up and runs, before a write: its log may have used the one stamp that the write makes room for
-pub record IsRoomy (links : List KeptLink) (n : Node) (c : Core) (m : Meaning) : Type 0 where
+pub record IsRoomy (beside : Beside) (n : Node) (c : Core) (m : Meaning) : Type 0 where
   pub up : IsFalse m.down
   pub lies : LiesOn n m
   pub fuse : HasFuse (burned n.fuse) m
@@ -27,27 +29,26 @@ pub record IsRoomy (links : List KeptLink) (n : Node) (c : Core) (m : Meaning) :
   pub ring : c.log.ring ≡ n.ring
   pub found : List KeptLink
   pub kept : c.log.header.state ≡ state_with n found
-  pub linked : IsTrue m.tells → found ≡ links
+  pub linked : IsTrue m.tells → found ≡ beside.links
   pub session : c.log.header.incarnation ≡ n.session
   pub first : 0 < c.log.header.low
   pub head : last_of c ≡ n.safe
   pub running : c.halted ≡ None
-  pub stamp : IsTrue m.tells → c.log.header.stamp ≤ most_stamp n
-  -- where no number is left it has used none
-  pub unused : IsTrue m.tells → most_number ≤ n.safe → c.log.header.stamp + 1 ≤ most_stamp n
+  pub stamp : IsTrue m.tells → c.log.header.stamp ≤ most_header beside n
+  pub takes : TakesAs c.log n.log
   pub content : IsTrue m.tells → StandsWith c n.log n.base m
 
 -- what an apply answers of a site that is up: the number, or a failing disk; or its fuse ran out
-abbrev pub AppliedAs : List KeptLink → Node → ℕ → Core → Meaning → Meaning → Result ℕ No → Type 0
-AppliedAs links n to c' m new (Ok number) = (min to n.safe ≤ number) × (number ≤ n.safe) × IsUpAt links (worked n) c' new
-AppliedAs links n to c' m new (Err (Device disk)) = IsUpAt links (halted_at n disk) c' new × Rose (m.disk_faults disk) (new.disk_faults disk)
-AppliedAs links n to c' m new (Err Down) = IsFused n.fuse × IsHeldAt links n new
-AppliedAs links n to c' m new (Err other) = ⊥
+abbrev pub AppliedAs : Beside → Node → ℕ → Core → Meaning → Meaning → Result ℕ No → Type 0
+AppliedAs beside n to c' m new (Ok number) = (min to n.safe ≤ number) × (number ≤ n.safe) × IsUpAt beside (worked n) c' new
+AppliedAs beside n to c' m new (Err (Device disk)) = IsUpAt beside (halted_at n disk) c' new × Rose (m.disk_faults disk) (new.disk_faults disk)
+AppliedAs beside n to c' m new (Err Down) = IsFused n.fuse × IsHeldAt beside n new
+AppliedAs beside n to c' m new (Err other) = ⊥
 
 -- the log of a site that is up has room; or a failing disk, or want of a number; or its fuse ran out
-abbrev pub RoomIs : List KeptLink → Node → Meaning → Core → Meaning → Result (Unit {0}) No → Type 0
-RoomIs links n old c new (Ok done) = IsRoomy links n c new
-RoomIs links n old c new (Err (Device disk)) = IsUpAt links (halted_at n disk) c new × Rose (old.disk_faults disk) (new.disk_faults disk)
-RoomIs links n old c new (Err (Limit what most)) = (Limit what most ≡ no_number) × (IsTrue new.tells → most_number ≤ most_stamp n) × IsUpAt links (worked n) c new
-RoomIs links n old c new (Err Down) = IsFused n.fuse × IsHeldAt links n new
-RoomIs links n old c new (Err other) = ⊥
+abbrev pub RoomIs : Beside → Node → Meaning → Core → Meaning → Result (Unit {0}) No → Type 0
+RoomIs beside n old c new (Ok done) = IsRoomy beside n c new
+RoomIs beside n old c new (Err (Device disk)) = IsUpAt beside (halted_at n disk) c new × Rose (old.disk_faults disk) (new.disk_faults disk)
+RoomIs beside n old c new (Err (Limit what most)) = (Limit what most ≡ no_number) × (IsTrue new.tells → most_number ≤ most_header beside n) × IsUpAt beside (worked n) c new
+RoomIs beside n old c new (Err Down) = IsFused n.fuse × IsHeldAt beside n new
+RoomIs beside n old c new (Err other) = ⊥

@@ -1,9 +1,10 @@
 -- What the disks of a site stand for: how its rack, or the group over it, agrees with its node of the world.
-use Rattle.std.specs.Prelude.{◌≡◌, ℕ, ◌+◌, ◌<◌, ◌≤◌, List, [], length, None, IsTrue, IsFalse}
+use Rattle.std.specs.Prelude.{◌≡◌, ℕ, ◌+◌, ◌<◌, ◌≤◌, List, Some, length, None, IsTrue, IsFalse}
 use Rattle.vx_model.specs.declared.limits.TheConstants.{LEAST_BLOCKS, MOST_DISKS}
 use Rattle.vx_model.specs.Content.{zero_block}
 use Rattle.vx_history.specs.World.{Node, NoFuse, bare_site}
 use Rattle.vx_model.specs.declared.state.KeptLink.{KeptLink}
+use Rattle.vx_diskset.specs.Holds.{Beside}
 use Rattle.vx_model.specs.declared.site.SiteState.TheVariants.{Up as IsUp, Down as IsDown}
 use Rattle.vx_disk.specs.Shelf.{Meaning, Image, Keeps}
 use Rattle.vx_disk.specs.declared.shelf.Shelf.{Ghosts}
@@ -12,10 +13,11 @@ use Rattle.vx_diskset.specs.declared.disk_set.DiskSet.{DiskSet}
 use Rattle.vx_diskset.specs.declared.disk_set.DiskSet.TheVariants.{Bare, Spoiled, Up, Down, Gone}
 use Rattle.vx_diskset.specs.Fuses.{HasFuse, IsFirst}
 use Rattle.vx_events.specs.Fuses.{taken}
-use Rattle.vx_diskset.specs.Holds.{HasWrites, state_with}
-use Rattle.vx_events.specs.Stamps.{most_stamp}
+use Rattle.vx_diskset.specs.Holds.{HasSite, Kept, MayBe, alone, state_with}
+use Rattle.vx_diskset.specs.Holds.{most_header}
 use Rattle.vx_diskset.specs.Lasts.{LeftWith, StandsWith}
 use Rattle.vx_diskset.specs.Layouts.{LiesOn, units_of}
+use Rattle.vx_diskset.specs.Needs.{TakesAs}
 
 -- a rack that is not fitted, is up, and has no fuse
 pub record IsUnfitted (m : Meaning) : Type 0 where
@@ -47,8 +49,8 @@ pub record IsCleanAt (n : Node) (m : Meaning) : Type 0 where
   pub bare : IsBareAt n m
   pub front : (b : ℕ) → b < n.blocks → Keeps m 0 b zero_block
 
--- the disks of a site under its replicated volume group, whose log keeps these links
-pub record IsUpAt (links : List KeptLink) (n : Node) (c : Core) (m : Meaning) : Type 0 where
+-- the disks of a site under its replicated volume group, with what the world has of it beside its node
+pub record IsUpAt (beside : Beside) (n : Node) (c : Core) (m : Meaning) : Type 0 where
   pub state : n.state ≡ IsUp
   pub up : IsFalse m.down
   pub fuse : HasFuse n.fuse m
@@ -56,13 +58,13 @@ pub record IsUpAt (links : List KeptLink) (n : Node) (c : Core) (m : Meaning) : 
   pub low : n.low ≡ 1
   pub units : c.units ≡ units_of n
   pub ring : c.log.ring ≡ n.ring
-  -- of disks that tell no contents it is not known which links it keeps, nor how great its stamp is
+  -- of disks that tell no contents it is not known which links the log keeps, nor how great its stamp is
   pub found : List KeptLink
   pub kept : c.log.header.state ≡ state_with n found
-  pub linked : IsTrue m.tells → found ≡ links
+  pub linked : IsTrue m.tells → found ≡ beside.links
   pub session : c.log.header.incarnation ≡ n.session
   pub begun : IsTrue m.tells → 0 < n.session
-  pub stamp : IsTrue m.tells → n.halted ≡ None → c.log.header.stamp + 1 ≤ most_stamp n
+  pub stamp : IsTrue m.tells → n.halted ≡ None → c.log.header.stamp + 1 ≤ most_header beside n
   -- in its first session its log begins with the site's first write, as long as it did not go round
   pub fresh : IsTrue m.tells → n.halted ≡ None → n.session ≡ 1 → taken n.log ≤ n.ring → IsFirst c.log n.log
   pub first : 0 < c.log.header.low
@@ -71,50 +73,56 @@ pub record IsUpAt (links : List KeptLink) (n : Node) (c : Core) (m : Meaning) : 
   pub logged : n.safe ≤ length n.log
   -- while no write failed all are durable
   pub durable : n.halted ≡ None → length n.log ≤ n.safe
+  pub takes : n.halted ≡ None → TakesAs c.log n.log
   -- while no write failed, it has the content, and its log the last of the writes; and whatever a crash leaves has the writes that it may keep
   pub content : n.halted ≡ None → IsTrue m.tells → StandsWith c n.log n.base m
-  pub left : (i : Image) → m.now i → HasWrites links n i
+  pub left : (i : Image) → m.now i → HasSite beside n i
+  -- a site that runs is what its node says
+  pub sure : n.halted ≡ None → beside.doubt ≡ None
+  pub may : (k : Kept) → beside.doubt ≡ Some k → MayBe k m
 
 -- the disks of a site, up or down: a crash leaves its writes on them
-pub record IsHeldAt (links : List KeptLink) (n : Node) (m : Meaning) : Type 0 where
+pub record IsHeldAt (beside : Beside) (n : Node) (m : Meaning) : Type 0 where
   pub lies : LiesOn n m
   pub low : n.low ≡ 1
   pub logged : n.safe ≤ length n.log
   pub begun : IsTrue m.tells → 0 < n.session
-  pub left : (i : Image) → m.now i → HasWrites links n i
+  pub left : (i : Image) → m.now i → HasSite beside n i
+  pub may : (k : Kept) → beside.doubt ≡ Some k → MayBe k m
 
 -- the disks of a site that crashed: they have one log and one content, that of the site
-pub record IsDownAt (links : List KeptLink) (n : Node) (m : Meaning) : Type 0 where
+pub record IsDownAt (beside : Beside) (n : Node) (m : Meaning) : Type 0 where
   pub state : n.state ≡ IsDown
   pub unfused : n.fuse ≡ NoFuse
   pub down : IsTrue m.down
   pub unarmed : IsFalse m.armed
+  pub sure : beside.doubt ≡ None
   pub lies : LiesOn n m
   pub low : n.low ≡ 1
   pub logged : length n.log ≡ n.safe
   pub begun : IsTrue m.tells → 0 < n.session
-  pub left : IsTrue m.tells → LeftWith (units_of n) n.ring (state_with n links) n.session (most_stamp n) n.log n.base m
+  pub left : IsTrue m.tells → LeftWith (units_of n) n.ring (state_with n beside.links) n.session (most_header beside n) n.log n.base m
 
 module _ {R : Type 0} {g : Ghosts R} where
-  -- the disks of a site that keeps these links
-  abbrev pub StandsAt : List KeptLink → Node → DiskSet R g → Type 0
-  StandsAt links n (Bare rack) = IsCleanAt n (g.meaning rack)
-  StandsAt links n (Spoiled rack) = IsBareAt n (g.meaning rack)
-  StandsAt links n (Up rvg) = IsUpAt links n rvg.core (g.meaning rvg.shelf)
-  StandsAt links n (Down rack) = IsDownAt links n (g.meaning rack)
-  StandsAt links n Gone = ⊥
+  -- the disks of a site, with what the world has of it beside its node
+  abbrev pub StandsAt : Beside → Node → DiskSet R g → Type 0
+  StandsAt beside n (Bare rack) = IsCleanAt n (g.meaning rack)
+  StandsAt beside n (Spoiled rack) = IsBareAt n (g.meaning rack)
+  StandsAt beside n (Up rvg) = IsUpAt beside n rvg.core (g.meaning rvg.shelf)
+  StandsAt beside n (Down rack) = IsDownAt beside n (g.meaning rack)
+  StandsAt beside n Gone = ⊥
 
   -- the same of a site without links, as each is that the lines which are built make
   abbrev pub StandsAlone : Node → DiskSet R g → Type 0
-  StandsAlone n e = StandsAt [] n e
+  StandsAlone n e = StandsAt alone n e
 
   -- a group whose shelf is down: a crash leaves the site's writes on its disks
-  abbrev pub CutAt : List KeptLink → Node → DiskSet R g → Type 0
-  CutAt links n (Bare rack) = ⊥
-  CutAt links n (Spoiled rack) = ⊥
-  CutAt links n (Up rvg) = IsHeldAt links n (g.meaning rvg.shelf)
-  CutAt links n (Down rack) = ⊥
-  CutAt links n Gone = ⊥
+  abbrev pub CutAt : Beside → Node → DiskSet R g → Type 0
+  CutAt beside n (Bare rack) = ⊥
+  CutAt beside n (Spoiled rack) = ⊥
+  CutAt beside n (Up rvg) = IsHeldAt beside n (g.meaning rvg.shelf)
+  CutAt beside n (Down rack) = ⊥
+  CutAt beside n Gone = ⊥
 
   -- the disk set of a number that no site has
   abbrev pub IsUnused : DiskSet R g → Type 0

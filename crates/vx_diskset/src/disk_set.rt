@@ -1,6 +1,6 @@
 // The disks of a site.
 ghost use Rattle.std.specs.Prelude.{◌≡◌, ◌≤◌, ◌<◌, IfSome, IsSome, List};
-ghost use Rattle.vx_model.specs.declared.state.KeptLink.{KeptLink};
+ghost use Rattle.vx_diskset.specs.Holds.{Beside};
 ghost use Rattle.vx_history.specs.World.{Node};
 ghost use Rattle.vx_diskset.specs.DiskSets.{Later};
 ghost use Rattle.vx_diskset.specs.Stands.{StandsAt};
@@ -59,7 +59,7 @@ impl<R: Rack> DiskSet<R> {
 
     /// Makes each later call on a disk fail, or ends that.
     pub fn fail(&mut self, disk: u64, on: bool)
-        ensures stands { (links : List KeptLink) (n : Node) → StandsAt links n self.old → StandsAt links n self.new }
+        ensures stands { (beside : Beside) (n : Node) → StandsAt beside n self.old → StandsAt beside n self.new }
         ensures asked { disk < units_in self.old → SetsDisk disk on self.old self.new }
         ensures later { Later self.old self.new }
     {
@@ -74,8 +74,8 @@ impl<R: Rack> DiskSet<R> {
 
     /// Sets the fuse of a site that is up: so many writes and flushes pass, and the next is a crash.
     pub fn fuse(&mut self, calls: u64, pick: u64)
-        ensures fused { (links : List KeptLink) (n : Node) → StandsAt links n self.old → n.state ≡ UpState → StandsAt links (record n { fuse = FuseSet calls }) self.new }
-        ensures asked { (links : List KeptLink) (n : Node) → StandsAt links n self.old → n.state ≡ UpState → SetsFuse calls pick self.old self.new }
+        ensures fused { (beside : Beside) (n : Node) → StandsAt beside n self.old → n.state ≡ UpState → StandsAt beside (record n { fuse = FuseSet calls }) self.new }
+        ensures asked { (beside : Beside) (n : Node) → StandsAt beside n self.old → n.state ≡ UpState → SetsFuse calls pick self.old self.new }
         ensures later { Later self.old self.new }
     {
         if let DiskSet::Up(rvg) = self {
@@ -85,9 +85,9 @@ impl<R: Rack> DiskSet<R> {
 
     /// Crashes a site that is up: of the loose blocks each takes its latest value where its bit in `pick` is 1.
     pub fn crash(self, pick: u64) -> DiskSet<R>
-        ensures crashed { (links : List KeptLink) (n : Node) → StandsAt links n self → n.state ≡ UpState → CrashedAt links n result }
-        ensures asked { (links : List KeptLink) (n : Node) → StandsAt links n self → n.state ≡ UpState → CrashesBy pick self result }
-        ensures cut { (links : List KeptLink) (n : Node) → CutAt links n self → CrashedAt links n result }
+        ensures crashed { (beside : Beside) (n : Node) → StandsAt beside n self → n.state ≡ UpState → CrashedAt beside n result }
+        ensures asked { (beside : Beside) (n : Node) → StandsAt beside n self → n.state ≡ UpState → CrashesBy pick self result }
+        ensures cut { (beside : Beside) (n : Node) → CutAt beside n self → CrashedAt beside n result }
         ensures stopped { MayCrash pick self result }
         ensures later { Later self result }
     {
@@ -103,7 +103,7 @@ impl<R: Rack> DiskSet<R> {
 
     /// The number of the last write of a site that is up.
     pub fn last(&self) -> u64
-        ensures { (links : List KeptLink) (n : Node) → StandsAt links n self.now → n.state ≡ UpState → result ≡ n.safe }
+        ensures { (beside : Beside) (n : Node) → StandsAt beside n self.now → n.state ≡ UpState → result ≡ n.safe }
     {
         match self {
             DiskSet::Up(rvg) => rvg.head(),
@@ -113,7 +113,7 @@ impl<R: Rack> DiskSet<R> {
 
     /// What the log of a site that is up keeps of it, where nothing is said of links.
     pub fn state(&self) -> Option<&State>
-        ensures { (links : List KeptLink) (n : Node) → StandsAt links n self.now → n.state ≡ UpState → IfSome result (λ state. state.now ≡ state_with n state.now.links) × IsSome result }
+        ensures { (beside : Beside) (n : Node) → StandsAt beside n self.now → n.state ≡ UpState → IfSome result (λ state. state.now ≡ state_with n state.now.links) × IsSome result }
     {
         match self {
             DiskSet::Up(rvg) => Some(rvg.state()),
@@ -123,7 +123,7 @@ impl<R: Rack> DiskSet<R> {
 
     /// The session of a site that is up.
     pub fn session(&self) -> u64
-        ensures { (links : List KeptLink) (n : Node) → StandsAt links n self.now → n.state ≡ UpState → result ≡ n.session }
+        ensures { (beside : Beside) (n : Node) → StandsAt beside n self.now → n.state ≡ UpState → result ≡ n.session }
     {
         match self {
             DiskSet::Up(rvg) => rvg.session(),

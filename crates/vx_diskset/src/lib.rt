@@ -2,7 +2,9 @@
 #![tactic(auto)]
 
 mod disk_set;
+mod keeping;
 mod reading;
+mod room;
 mod starting;
 mod units;
 mod writing;

@@ -1,6 +1,6 @@
 // Blocks that are read into a place for them.
 ghost use Rattle.std.specs.Prelude.{◌≡◌, ◌≤◌, ◌<◌, ◌*◌, length, List};
-ghost use Rattle.vx_model.specs.declared.state.KeptLink.{KeptLink};
+ghost use Rattle.vx_diskset.specs.Holds.{Beside};
 ghost use Rattle.vx_history.specs.World.{Node};
 ghost use Rattle.vx_diskset.specs.Asked.{LeavesAlone};
 ghost use Rattle.vx_diskset.specs.DiskSets.{CanRead, Later};
@@ -23,7 +23,7 @@ pub fn blocks_of<R: Rack>(
     requires some { 0 < count }
     requires few { count ≤ MOST_CALL_BLOCKS }
     requires room { length room.items ≡ 512 * count }
-    ensures read { (links : List KeptLink) (n : Node) → StandsAt links n disk_set.old → CanRead n volume start count → GaveAt links n volume start count disk_set.old disk_set.new result }
+    ensures read { (beside : Beside) (n : Node) → StandsAt beside n disk_set.old → CanRead n volume start count → GaveAt beside n volume start count disk_set.old disk_set.new result }
     ensures still { LeavesAlone disk_set.old disk_set.new }
     ensures later { Later disk_set.old disk_set.new }
 {

@@ -6,7 +6,7 @@ ghost use Rattle.vx_disk.specs.Causes.{DeviceCause};
 ghost use Rattle.vx_disk.specs.Shelf.{Goes, Keeps, Nothing};
 ghost use Rattle.vx_ringio.specs.Spends.{Spends};
 ghost use Rattle.vx_ringio.specs.Tracks.{Lies};
-ghost use Rattle.vx_model.specs.declared.state.KeptLink.{KeptLink};
+ghost use Rattle.vx_diskset.specs.Holds.{Beside};
 ghost use Rattle.vx_history.specs.World.{Node};
 ghost use Rattle.vx_diskset.specs.Asked.{SameFailing};
 ghost use Rattle.vx_diskset.specs.DiskSets.{Later, CanHold, CanStart, MadeIs, BareUpIs};
@@ -145,7 +145,7 @@ impl<R: Rack> DiskSet<R> {
 
     /// Makes a bare site's disks a raw set: disk 0 the log, the last disk the maps, and each disk between a volume.
     pub fn make_raw(self, alloc: Global, site: u32) -> (DiskSet<R>, Result<(), Stop>)
-        ensures made { (links : List KeptLink) (n : Node) → StandsAt links n self → n.state ≡ BareState → CanBeRaw n.disks n.blocks → MadeIs site n self result.0 result.1 }
+        ensures made { (beside : Beside) (n : Node) → StandsAt beside n self → n.state ≡ BareState → CanBeRaw n.disks n.blocks → MadeIs site n self result.0 result.1 }
         ensures failing { SameFailing self result.0 }
         ensures later { Later self result.0 }
     {
@@ -158,7 +158,7 @@ impl<R: Rack> DiskSet<R> {
 
     /// Starts what stands on the disks of a site that crashed, with room taken before. Where it is refused, the disks crash again.
     pub fn recover(self, room: StartRoom) -> (DiskSet<R>, Result<(), No>)
-        ensures recovered { (links : List KeptLink) (n : Node) → StandsAt links n self → n.state ≡ DownState → room.ring ≡ n.ring → CameUpIs links n self result.0 result.1 }
+        ensures recovered { (beside : Beside) (n : Node) → StandsAt beside n self → n.state ≡ DownState → room.ring ≡ n.ring → CameUpIs beside n self result.0 result.1 }
         ensures failing { SameFailing self result.0 }
         ensures later { Later self result.0 }
     {
@@ -185,7 +185,7 @@ impl<R: Rack> DiskSet<R> {
 
     /// Starts what an earlier run left on the disks of a bare site, with room taken before. Where it is refused, the site stays bare.
     pub fn recover_bare(self, room: StartRoom) -> (DiskSet<R>, Result<(), No>)
-        ensures found { (links : List KeptLink) (n : Node) → StandsAt links n self → n.state ≡ BareState → CanBeRaw n.disks n.blocks → room.ring ≡ ring_of n.blocks → BareUpIs n self result.0 result.1 }
+        ensures found { (beside : Beside) (n : Node) → StandsAt beside n self → n.state ≡ BareState → CanBeRaw n.disks n.blocks → room.ring ≡ ring_of n.blocks → BareUpIs n self result.0 result.1 }
         ensures failing { SameFailing self result.0 }
         ensures later { Later self result.0 }
     {

@@ -1,7 +1,7 @@
 // The dirty region log of a volume.
 ghost use Rattle.std.specs.Prelude.{◌≡◌, ◌-◌, ◌<◌, ◌≤◌, true, false, IfErr, IfOk, IsFalse, OnErr, OnOk};
 ghost use Rattle.vx_bitmap.specs.Bits.{AllAre, Between, Changed};
-ghost use Rattle.vx_bitmap.specs.Maps.{Changing, IsRead, Lies, LoadCause, MapOn, SamePlace, blocks_of as map_blocks, regions_of};
+ghost use Rattle.vx_bitmap.specs.Maps.{ChangedAt, Changing, IsRead, Lies, LoadCause, MapOn, SamePlace, UnitCause, blocks_of as map_blocks, regions_of};
 ghost use Rattle.vx_config.specs.declared.entry.VolumeLog.TheVariants.{Drl as DrlLog};
 ghost use Rattle.vx_disk.specs.Causes.{DeviceCause};
 ghost use Rattle.vx_disk.specs.Moves.{Moves, Run, Settled};
@@ -80,6 +80,7 @@ impl Drl {
         requires some { first ≤ last }
         requires inside { last < self.old.regions }
         ensures moves { Moves (Run self.old.map.unit self.old.map.first (map_blocks self.old.map)) (Changing self.old.map first last true (S.meaning shelf.old)) (S.meaning shelf.old) (S.meaning shelf.new) }
+        ensures writes { Goes (ChangedAt self.old.map first last true (S.meaning shelf.old)) (S.meaning shelf.old) (S.meaning shelf.new) }
         ensures stands { OnOk result (MapOn self.old.map (S.meaning shelf.old) → MapOn self.new.map (S.meaning shelf.new)) }
         ensures changed { OnOk result (Changed first last true (regions_of self.old.map) (is_dirty self.old) (is_dirty self.new)) }
         ensures part { Between first last true (regions_of self.old.map) (is_dirty self.old) (is_dirty self.new) }
@@ -87,6 +88,7 @@ impl Drl {
         ensures regions { self.new.regions ≡ self.old.regions }
         ensures held { Holds first last self.old self.new }
         ensures cause { IfErr result (DeviceCause (S.meaning shelf.old) (S.meaning shelf.new)) }
+        ensures unit { UnitCause self.old.map.unit (S.meaning shelf.old) (S.meaning shelf.new) result }
         ensures nothing { AllAre first last true (is_dirty self.old) → shelf.new ≡ shelf.old }
     {
         let marked = are_marked(&self.map, first, last);
@@ -101,6 +103,7 @@ impl Drl {
     pub fn flushed<S: Shelf>(&mut self, shelf: &mut S) -> Result<(), No>
         requires lies { Lies self.old.map (S.meaning shelf.old) }
         ensures moves { Moves (Run self.old.map.unit self.old.map.first (map_blocks self.old.map)) (Changing self.old.map 0 (self.old.regions - 1) false (S.meaning shelf.old)) (S.meaning shelf.old) (S.meaning shelf.new) }
+        ensures writes { Goes (ChangedAt self.old.map 0 (self.old.regions - 1) false (S.meaning shelf.old)) (S.meaning shelf.old) (S.meaning shelf.new) }
         ensures stands { OnOk result (MapOn self.old.map (S.meaning shelf.old) → MapOn self.new.map (S.meaning shelf.new)) }
         ensures cleared { OnOk result (MOST_HELD < self.old.held → Changed 0 (self.old.regions - 1) false (regions_of self.old.map) (is_dirty self.old) (is_dirty self.new)) }
         ensures empty { OnOk result (MOST_HELD < self.old.held → self.new.held ≡ 0) }
@@ -109,6 +112,7 @@ impl Drl {
         ensures place { SamePlace self.old.map self.new.map }
         ensures regions { self.new.regions ≡ self.old.regions }
         ensures cause { IfErr result (DeviceCause (S.meaning shelf.old) (S.meaning shelf.new)) }
+        ensures unit { UnitCause self.old.map.unit (S.meaning shelf.old) (S.meaning shelf.new) result }
         ensures few { self.old.held ≤ MOST_HELD → self.new ≡ self.old }
         ensures nothing { self.old.held ≤ MOST_HELD → shelf.new ≡ shelf.old }
     {

@@ -273,3 +273,11 @@ sites_by false w s kept = refl
 
 pub crash_sites : (w : World) (s kept : ℕ) → (crash_at w s kept).sites ≡ w.sites
 crash_sites w s kept = sites_by (is_origin (w.nodes s).role) w s kept
+
+packets_by : (b : Bool) (w : World) (s kept : ℕ) → (if b then crash_left w s kept else with_node w s (crashed (w.nodes s) kept)).packets ≡ w.packets
+packets_by true w s kept = refl
+packets_by false w s kept = refl
+
+-- a crash sends nothing
+pub crash_packets : (w : World) (s kept : ℕ) → (crash_at w s kept).packets ≡ w.packets
+crash_packets w s kept = packets_by (is_origin (w.nodes s).role) w s kept

@@ -1,5 +1,6 @@
 pub mod Agreeing
 pub mod Blocks
+pub mod Calm
 pub mod Keeping
 pub mod LinkAgreeing
 pub mod LinkJoining
@@ -7,6 +8,7 @@ pub mod LinkStopping
 pub mod LinkTesting
 pub mod LinkWaiting
 pub mod LinkWrites
+pub mod Noting
 pub mod Parts
 pub mod Passing
 pub mod Places

@@ -11,18 +11,19 @@ use Rattle.vx_model.specs.declared.no.No.TheVariants.{Limit}
 use Rattle.vx_model.specs.declared.site.SiteState.TheVariants.{Up}
 use Rattle.vx_history.proofs.Updates.{all_updated, at_place}
 use Rattle.vx_history.specs.Admission.{Admitted, Held_by, Goes}
-use Rattle.vx_history.specs.Doubts.{After, halved, resolved, taken_up, crashed_as}
+use Rattle.vx_history.specs.Doubts.{After, Doubted, halved, resolved, taken_up, crashed_as}
 use Rattle.vx_history.specs.Events.{admitted, written_if, put_in, links_changed, crash_at, kept_of, lost_touch}
 use Rattle.vx_history.specs.Headers.{headers_by}
 use Rattle.vx_history.specs.Likes.{IsLike, SameLink}
 use Rattle.vx_history.specs.Refusals.{Outcome}
 use Rattle.vx_history.specs.Sends.{is_linked}
 use Rattle.vx_history.specs.Step.{step, outcome_of, run, done}
+use Rattle.vx_history.specs.Stops.{IsLikeDoubted}
 use Rattle.vx_history.specs.Steps.{crashed, kept_by, half_written, stopped_by, burned}
 use Rattle.vx_history.specs.World.{Node, Link as LinkOf, History, World, updated, line_updated, with_node, with_history}
 use Rattle.vx_history.specs.declared.event.Event.{Event}
 use Rattle.vx_history.specs.declared.event.Event.TheVariants.{Write as WriteAt, Crash as CrashAt}
-use Rattle.vx_events.specs.Stopping.{sure}
+use Rattle.vx_events.specs.Doubts.{run_as}
 use Rattle.vx_events.proofs.Keeping.{past, past_volume}
 use Rattle.vx_events.proofs.Steps.{crash_step}
 
@@ -180,7 +181,10 @@ module _ (s kept : ℕ) (a v : World) (near : IsNear s a v) where
 
 -- ---- the write that was cut
 
-module _ (w : World) (s volume start : ℕ) (bytes : List ℕ) (kept : ℕ) (below : s < w.sites) (up : (w.nodes s).state ≡ Up) where
+module _ (d : Doubted) (s volume start : ℕ) (bytes : List ℕ) (kept : ℕ) (below : s < d.world.sites) (up : (d.world.nodes s).state ≡ Up) where
+  abbrev w : World
+  w = d.world
+
   abbrev e : Event
   e = WriteAt s volume start bytes (Some 0)
 
@@ -220,15 +224,19 @@ module _ (w : World) (s volume start : ℕ) (bytes : List ℕ) (kept : ℕ) (bel
   crashed_may = crash_at (resolved told s may) s (kept_of ((resolved told s may).nodes s) kept)
 
   -- with it on the disks, the crash is that behind the write
-  pub cut_like : IsLike (crashed_as (halved (sure w) e s 0) s kept true).world (run w (e ∷ CrashAt s kept ∷ []))
-  cut_like =
-      let after : (halved (sure w) e s 0).after s ≡ Some may = at_place (λ (k : ℕ). let o : Option After = None in o) s (Some may) in
+  world_like : IsLike (crashed_as (halved d e s 0) s kept true).world (run w (e ∷ CrashAt s kept ∷ []))
+  world_like =
+      let after : (halved d e s 0).after s ≡ Some may = at_place d.after s (Some may) in
       let like : IsLike crashed_may (crash_at v s (kept_of (v.nodes s) kept)) = crashes_like s kept (resolved told s may) v near in
-      let there : (crashed_as (halved (sure w) e s 0) s kept true).world ≡ crashed_may = ap (λ (o : Option After). crash_at (taken_up told s o) s (kept_of ((taken_up told s o).nodes s) kept)) after in
+      let there : (crashed_as (halved d e s 0) s kept true).world ≡ crashed_may = ap (λ (o : Option After). crash_at (taken_up told s o) s (kept_of ((taken_up told s o).nodes s) kept)) after in
       let behind : outcome_of v (CrashAt s kept) ≡ done (crash_at v s (kept_of (v.nodes s) kept)) = crash_step v s kept (subst (λ (n : ℕ). s < n) (sym moved.sites) below) (moved.up up) in
       subst (λ (x : World). IsLike x (run w (e ∷ CrashAt s kept ∷ []))) (sym there)
       (subst (λ (o : Outcome). IsLike crashed_may (record o.world { headers = λ i. v.headers i + headers_by (CrashAt s kept) v o i })) (sym behind) (headers_apart like))
 
-  -- and no site is in doubt
-  pub cut_sure : (k : ℕ) → (crashed_as (halved (sure w) e s 0) s kept true).after k ≡ None
-  cut_sure k = all_updated (λ _ (x : Option After). x ≡ None) (halved (sure w) e s 0).after s None refl (λ j apart. other_place (λ i. None) s (Some may) j apart) k
+  -- and the site is in doubt no longer
+  pub cut_like : IsLikeDoubted (crashed_as (halved d e s 0) s kept true) (run_as false d (e ∷ CrashAt s kept ∷ []))
+  cut_like = record {
+    worlds = world_like;
+    after = λ k. sym (all_updated (λ j (x : Option After). x ≡ updated d.after s None j) (halved d e s 0).after s None (sym (at_place d.after s None))
+        (λ j apart. other_place d.after s (Some may) j apart ∙ sym (other_place d.after s None j apart)) k);
+  }

@@ -1,27 +1,31 @@
--- How the events of a line end: all are done, or one of them is ended by a failing disk, by a fuse or by want of a number.
-use Rattle.std.specs.Prelude.{◌≡◌, ◌⊎◌, ℕ, ◌+◌, ◌≤◌, min, List, [], ◌∷◌, ◌++◌, Some, false}
+-- How the events of a line end where sites may be in doubt: all are done, or one of them is ended by a failing disk, by a fuse or by want of a
+-- number.
+use Rattle.std.specs.Prelude.{◌≡◌, ◌⊎◌, ℕ, ◌+◌, ◌≤◌, ◌<◌, min, Bool, List, [], ◌∷◌, ◌++◌, Some, false}
 use Rattle.vx_model.specs.declared.limits.TheConstants.{MOST_NUMBER}
 use Rattle.vx_model.specs.declared.no.Counted.TheVariants.{Number}
 use Rattle.vx_model.specs.declared.no.No.{No}
 use Rattle.vx_model.specs.declared.no.No.TheVariants.{Device, Limit, Down as IsOff}
 use Rattle.vx_model.specs.declared.site.SiteState.TheVariants.{Bare, Up, Down}
 use Rattle.vx_model.specs.Sites.{is_origin}
-use Rattle.vx_history.specs.Step.{run}
+use Rattle.vx_history.specs.Doubts.{Doubted, halved}
+use Rattle.vx_history.specs.Headers.{headers_by}
+use Rattle.vx_history.specs.Step.{outcome_of}
 use Rattle.vx_history.specs.Steps.{raw_set, fused, worked_on}
 use Rattle.vx_history.specs.World.{Node, World, with_node}
 use Rattle.vx_history.specs.declared.event.Event.{Event}
 use Rattle.vx_history.specs.declared.event.Event.TheVariants.{Site as MakeSite, Raw as MakeRaw, Write as WriteAt, Read as ReadAt, Apply as ApplyAt, Crash as CrashAt, Recover as RecoverAt, Fault}
 use Rattle.vx_script.specs.declared.line.ScriptLine.{ScriptLine}
 use Rattle.vx_script.specs.declared.line.ScriptLine.TheVariants.{Site, Raw, Disk, Crash, Fuse, Recover, Write, Put, Read, Show, Apply, Status}
+use Rattle.vx_events.specs.Doubts.{IsAs, run_as, with_disks}
 use Rattle.vx_events.specs.Facts.{site_number}
 use Rattle.vx_events.specs.Failing.{is_failing, made_fail}
 use Rattle.vx_events.specs.Fails.{Fails, AreBorne}
 use Rattle.vx_events.specs.Found.{SameDisks}
 use Rattle.vx_history.specs.Stops.{IsFused}
 use Rattle.vx_events.specs.Lists.{Choice, events_of}
+use Rattle.vx_events.specs.LinkViews.{linked_view}
 use Rattle.vx_events.specs.Sayings.{Replies}
-use Rattle.vx_events.specs.Stamps.{most_stamp}
-use Rattle.vx_events.specs.Views.{view_of}
+use Rattle.vx_events.specs.Stamps.{most_stamp_at}
 use Rattle.vx_events.specs.declared.said.Said.{Said}
 use Rattle.vx_events.specs.declared.said.Said.TheVariants.{DoneAt, Recovered, Refused}
 
@@ -51,6 +55,10 @@ noted s (Put site volume start bytes) v = worked_on v s
 noted s (Apply site to) v = worked_on v s
 noted s other v = v
 
+-- what a line at this site leaves of the worlds to which its events came: with what the line notes, and with the doubts that are left
+abbrev pub IsLeft : (site : ℕ) → ScriptLine → (taken : Bool) → (before last new : Doubted) → Type 0
+IsLeft s line taken d last new = IsAs last (noted s line (with_disks taken s d.world last.world)) new
+
 -- What a failing disk leaves of an event: of a write that it may stand, and that its site is halted; of an apply that its site is halted; of a
 -- recovery nothing, or that the next session has begun; and of what makes a site or reads nothing.
 abbrev pub LeavesOf : Event → (disk : ℕ) → List Event → Type 0
@@ -62,17 +70,25 @@ LeavesOf (ApplyAt s count reached) d left = left ≡ Fault s d ∷ []
 LeavesOf (RecoverAt s fails) d left = (left ≡ []) ⊎ (left ≡ RecoverAt s (Some d) ∷ [])
 LeavesOf other d left = ⊥
 
--- What is begun of an event in which a fuse runs out: a write may stand. Only events that write or flush end so.
-abbrev pub BegunOf : Event → List Event → Type 0
-BegunOf (WriteAt s volume start bytes fails) begun = begun ≡ WriteAt s volume start bytes (Some 0) ∷ []
-BegunOf (ApplyAt s count reached) begun = begun ≡ []
-BegunOf other begun = ⊥
+-- the write gives links of its site up, which a header says before the write is logged
+abbrev pub WritesAHeader : World → Event → (site : ℕ) → Type 0
+WritesAHeader w (WriteAt s volume start bytes fails) site =
+    (s ≡ site) × (0 < headers_by (WriteAt s volume start bytes fails) w (outcome_of w (WriteAt s volume start bytes fails)) s)
+WritesAHeader w other site = ⊥
 
--- the greatest stamp of a log in which no number is left for this event, of a write or of a recovery
-abbrev pub NoneLeft : Event → Node → Type 0
-NoneLeft (WriteAt s volume start bytes fails) n = MOST_NUMBER ≤ most_stamp n
-NoneLeft (RecoverAt s fails) n = MOST_NUMBER ≤ most_stamp n + 2
-NoneLeft other n = ⊥
+-- What is begun of an event in which a fuse runs out: a write may stand, but where the fuse ran out in a header before it. Only events that
+-- write or flush end so.
+abbrev pub BegunOf : World → Event → List Event → Type 0
+BegunOf w (WriteAt s volume start bytes fails) begun =
+    (begun ≡ WriteAt s volume start bytes (Some 0) ∷ []) ⊎ ((begun ≡ []) × WritesAHeader w (WriteAt s volume start bytes (Some 0)) s)
+BegunOf w (ApplyAt s count reached) begun = begun ≡ []
+BegunOf w other begun = ⊥
+
+-- the greatest stamp of a site's log in which no number is left for this event, of a write or of a recovery
+abbrev pub NoneLeft : Event → World → (site : ℕ) → Type 0
+NoneLeft (WriteAt s volume start bytes fails) w site = MOST_NUMBER ≤ most_stamp_at w site
+NoneLeft (RecoverAt s fails) w site = MOST_NUMBER ≤ most_stamp_at w site + 2
+NoneLeft other w site = ⊥
 
 -- the event takes a number or a session
 abbrev pub MayLack : Event → Type 0
@@ -85,35 +101,43 @@ abbrev pub IsNoDevice : No → Type 0
 IsNoDevice (Device disk) = ⊥
 IsNoDevice other = Unit {0}
 
--- the node of a site before it is recovered: of a bare one a raw set
-pub data Recovering (w : World) (s : ℕ) (c : Choice) (mid : World) (n : Node) : Type 0 where
-  FromUp : (w.nodes s).state ≡ Up → mid ≡ run w (CrashAt s c.kept ∷ []) → n ≡ mid.nodes s → Recovering w s c mid n
-  FromDown : (w.nodes s).state ≡ Down → mid ≡ w → n ≡ mid.nodes s → Recovering w s c mid n
-  FromBare : (w.nodes s).state ≡ Bare → mid ≡ w → n ≡ raw_set s (w.nodes s) → Recovering w s c mid n
+-- the world in which a site is recovered, and its node there: of a bare one a raw set
+pub data Recovering (d : Doubted) (s : ℕ) (c : Choice) (taken : Bool) (mid : Doubted) (n : Node) : Type 0 where
+  FromUp : (d.world.nodes s).state ≡ Up → mid ≡ run_as taken d (CrashAt s c.kept ∷ []) → n ≡ mid.world.nodes s → Recovering d s c taken mid n
+  FromDown : (d.world.nodes s).state ≡ Down → mid ≡ d → n ≡ mid.world.nodes s → Recovering d s c taken mid n
+  FromBare : (d.world.nodes s).state ≡ Bare → mid ≡ d → n ≡ raw_set s (d.world.nodes s) → Recovering d s c taken mid n
+
+-- this node of the site came up
+abbrev pub found_up : Doubted → (site : ℕ) → Node → Doubted
+found_up d s k = record d { world = with_node d.world s k }
 
 -- A line at site s that no test refuses. Of disks that tell no contents it is not known how many numbers are left, and a recovery finds
 -- any state, session and number of writes on them: it still changes its own site alone, which keeps its name, its disks and its volumes.
-pub data Ends (told : Type 0) (w : World) (line : ScriptLine) (s : ℕ) (fails : Fails) (said : Said) (new : World) : Type 0 where
+pub data Ends (told : Type 0) (d : Doubted) (line : ScriptLine) (s : ℕ) (fails : Fails) (said : Said) (new : Doubted) : Type 0 where
   -- all events are done, and the last of them is answered
-  AllDone : (c : Choice) → AreBorne fails → Replies told line s w (events_of w line c) said → new ≡ noted s line (run w (events_of w line c))
-      → Ends told w line s fails said new
+  AllDone : (c : Choice) (taken : Bool) → AreBorne fails → Replies told line s taken d (events_of d.world line c) said
+      → IsLeft s line taken d (run_as taken d (events_of d.world line c)) new → Ends told d line s fails said new
   -- a disk failed in an event, behind those before it
-  DiskFails : (c : Choice) (before : List Event) (e : Event) (rest left : List Event) (disk : ℕ) → events_of w line c ≡ before ++ e ∷ rest
-      → LeavesOf e disk left → fails ≡ (s, disk) ∷ [] → said ≡ Refused (Device disk) → new ≡ noted s line (run w (before ++ left))
-      → Ends told w line s fails said new
+  DiskFails : (c : Choice) (taken : Bool) (before : List Event) (e : Event) (rest left : List Event) (disk : ℕ) → events_of d.world line c ≡ before ++ e ∷ rest
+      → LeavesOf e disk left → fails ≡ (s, disk) ∷ [] → said ≡ Refused (Device disk) → IsLeft s line taken d (run_as taken d (before ++ left)) new
+      → Ends told d line s fails said new
+  -- a disk failed in the header that a write begins with: that header and the write may be on the disks of the site, which is in doubt
+  HeaderFails : (c : Choice) (e f : Event) (disk : ℕ) → events_of d.world line c ≡ e ∷ [] → LeavesOf e disk (f ∷ []) → WritesAHeader d.world f s
+      → fails ≡ (s, disk) ∷ [] → said ≡ Refused (Device disk) → IsLeft s line false d (halved d f s disk) new → Ends told d line s fails said new
   -- the fuse of the disks ran out in an event: the site is down, with so many of its writes
-  FuseRunsOut : (c : Choice) (e : Event) (begun : List Event) → events_of w line c ≡ e ∷ [] → BegunOf e begun → IsFused (w.nodes s).fuse
-      → fails ≡ [] → said ≡ Refused IsOff → new ≡ noted s line (run w (begun ++ CrashAt s c.kept ∷ [])) → Ends told w line s fails said new
+  FuseRunsOut : (c : Choice) (e : Event) (begun : List Event) → events_of d.world line c ≡ e ∷ [] → BegunOf d.world e begun → IsFused (d.world.nodes s).fuse
+      → fails ≡ [] → said ≡ Refused IsOff → IsLeft s line false d (run_as false d (begun ++ CrashAt s c.kept ∷ [])) new → Ends told d line s fails said new
   -- no number is left for an event
-  NoNumber : (c : Choice) (before : List Event) (e : Event) (rest : List Event) → events_of w line c ≡ before ++ e ∷ rest → MayLack e
-      → (told → NoneLeft e ((run w before).nodes s)) → fails ≡ [] → said ≡ Refused (Limit Number MOST_NUMBER)
-      → new ≡ noted s line (run w before) → Ends told w line s fails said new
+  NoNumber : (c : Choice) (taken : Bool) (before : List Event) (e : Event) (rest : List Event) → events_of d.world line c ≡ before ++ e ∷ rest → MayLack e
+      → (told → NoneLeft e (run_as taken d before).world s) → fails ≡ [] → said ≡ Refused (Limit Number MOST_NUMBER)
+      → IsLeft s line taken d (run_as taken d before) new → Ends told d line s fails said new
   -- what stood on disks that tell no contents came up, or was refused
-  Finds : (told → ⊥) → (c : Choice) (site : List ℕ) (mid : World) (n k : Node) → line ≡ Recover site → Recovering w s c mid n → SameDisks n k
-      → fails ≡ [] → said ≡ Recovered k.safe (view_of (with_node mid s k) k) → new ≡ with_node mid s k → Ends told w line s fails said new
-  FindsNone : (told → ⊥) → (c : Choice) (site : List ℕ) (mid : World) (n : Node) (why : No) → line ≡ Recover site → Recovering w s c mid n → IsNoDevice why
-      → fails ≡ [] → said ≡ Refused why → new ≡ mid → Ends told w line s fails said new
+  Finds : (told → ⊥) → (c : Choice) (taken : Bool) (site : List ℕ) (mid : Doubted) (n k : Node) → line ≡ Recover site → Recovering d s c taken mid n
+      → SameDisks n k → fails ≡ [] → said ≡ Recovered k.safe (linked_view (found_up mid s k).world s) → IsLeft s line taken d (found_up mid s k) new
+      → Ends told d line s fails said new
+  FindsNone : (told → ⊥) → (c : Choice) (taken : Bool) (site : List ℕ) (mid : Doubted) (n : Node) (why : No) → line ≡ Recover site
+      → Recovering d s c taken mid n → IsNoDevice why → fails ≡ [] → said ≡ Refused why → IsLeft s line taken d mid new → Ends told d line s fails said new
   -- a site of another role that was found on them applies its log as a primary does
-  AppliesFound : (told → ⊥) → (site : List ℕ) (to number : ℕ) → line ≡ Apply site to → is_origin (w.nodes s).role ≡ false
-      → min to (w.nodes s).safe ≤ number → number ≤ (w.nodes s).safe → fails ≡ [] → said ≡ DoneAt number → new ≡ worked_on w s
-      → Ends told w line s fails said new
+  AppliesFound : (told → ⊥) → (site : List ℕ) (to number : ℕ) → line ≡ Apply site to → is_origin (d.world.nodes s).role ≡ false
+      → min to (d.world.nodes s).safe ≤ number → number ≤ (d.world.nodes s).safe → fails ≡ [] → said ≡ DoneAt number → IsLeft s line false d d new
+      → Ends told d line s fails said new

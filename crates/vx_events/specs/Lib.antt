@@ -1,3 +1,4 @@
+pub mod Doubts
 pub mod Ends
 pub mod Facts
 pub mod Failing

@@ -1,69 +1,94 @@
 -- How a line of links or packets ends, where sites may be in doubt: all its events are done, or one of them is ended by a failing disk,
 -- by a fuse or by want of a number.
-use Rattle.std.specs.Prelude.{◌≡◌, ℕ, Bool, List, [], ◌∷◌, ◌++◌}
+use Rattle.std.specs.Prelude.{◌≡◌, ℕ, ◌+◌, ◌≤◌, Bool, false, List, [], ◌∷◌, ◌++◌, Option, Some, None}
 use Rattle.vx_model.specs.declared.limits.TheConstants.{MOST_NUMBER}
 use Rattle.vx_model.specs.declared.no.Counted.TheVariants.{Number}
 use Rattle.vx_model.specs.declared.no.No.TheVariants.{Device, Limit, Down as IsOff}
 use Rattle.vx_history.specs.Doubts.{Doubted, Runs, halved, crashed_as}
-use Rattle.vx_history.specs.Stops.{Stops, IsFused, IsLikeDoubted, ComesTo, all_fails}
-use Rattle.vx_history.specs.Step.{run}
-use Rattle.vx_history.specs.World.{World}
+use Rattle.vx_history.specs.Events.{packet_at}
+use Rattle.vx_history.specs.Stops.{Stops, IsFused, IsHeardAt, IsPartAt, ComesTo, all_fails}
+use Rattle.vx_history.specs.Steps.{worked_on}
+use Rattle.vx_history.specs.World.{Packet, World}
 use Rattle.vx_history.specs.declared.event.Event.{Event}
 use Rattle.vx_history.specs.declared.event.Event.TheVariants.{Link as LinkAt, Set as SetAt, Pump as PumpAt, Deliver as DeliverAt, Apply as ApplyAt, Fault}
 use Rattle.vx_script.specs.declared.line.ScriptLine.{ScriptLine}
-use Rattle.vx_script.specs.declared.line.ScriptLine.TheVariants.{Settle}
+use Rattle.vx_script.specs.declared.line.ScriptLine.TheVariants.{Link, Set, Deliver, Settle}
+use Rattle.vx_events.specs.Doubts.{IsAs}
 use Rattle.vx_events.specs.Facts.{head_of, site_number}
 use Rattle.vx_events.specs.Fails.{Fails}
 use Rattle.vx_events.specs.LinkLists.{link_events}
 use Rattle.vx_events.specs.Sayings.{Replies}
+use Rattle.vx_events.specs.Stamps.{most_stamp_at}
 use Rattle.vx_events.specs.declared.said.Said.{Said}
 use Rattle.vx_events.specs.declared.said.Said.TheVariants.{Settled, Refused}
 
--- the reply of a line of which all events are done: by the last of them, and of a settled link the last number of its first site
-abbrev pub LinkReplies : ScriptLine → World → List Event → Said → Type 0
-LinkReplies (Settle p s) w events said = said ≡ Settled (head_of ((run w events).nodes (site_number w p)))
-LinkReplies line w events said = Replies (Unit {0}) line 0 w events said
+-- The reply of a line of which all events are done: by the last of them, and of a settled link the last number of its first site.
+abbrev pub LinkReplies : ScriptLine → (d last : Doubted) → List Event → Said → Type 0
+LinkReplies (Settle p s) d last events said = said ≡ Settled (head_of (last.world.nodes (site_number d.world p)))
+LinkReplies line d last events said = Replies (Unit {0}) line 0 false d events said
+
+-- the fuse of the site that a packet was sent to may have let calls pass
+abbrev pub target_noted : Option Packet → World → World
+target_noted None v = v
+target_noted (Some p) v = worked_on v p.target
+
+-- the world v with what a line of links notes: behind one that may write or flush the disks of a site, its fuse may have let calls pass
+abbrev pub link_noted : World → ScriptLine → World → World
+link_noted w (Link p s sync prot) v = worked_on (worked_on v (site_number w p)) (site_number w s)
+link_noted w (Set p s sync prot) v = worked_on v (site_number w p)
+link_noted w (Deliver number) v = target_noted (packet_at w.packets number) v
+link_noted w (Settle p s) v = worked_on (worked_on v (site_number w p)) (site_number w s)
+link_noted w other v = v
+
+-- what a line of links leaves of the worlds to which its events came
+abbrev pub AreLeft : ScriptLine → (before last new : Doubted) → Type 0
+AreLeft line d last new = IsAs last (link_noted d.world line last.world) new
 
 -- an event that reads the log of this site before it does anything
 abbrev pub ReadsLog : Event → (site : ℕ) → Type 0
 ReadsLog (PumpAt p s) site = p ≡ site
 ReadsLog other site = ⊥
 
--- an event that writes a header, which has a number of its own
-abbrev pub WritesHeader : Event → Type 0
-WritesHeader (LinkAt p s sync part) = Unit {0}
-WritesHeader (SetAt p s sync) = Unit {0}
-WritesHeader (DeliverAt number) = Unit {0}
-WritesHeader (ApplyAt s count reached) = Unit {0}
-WritesHeader other = ⊥
+-- an event that writes a header of this site's log, or records, each of which takes a number
+abbrev pub TakesNumber : World → Event → (site : ℕ) → Type 0
+TakesNumber w (LinkAt p s sync part) site = IsPartAt part p s site
+TakesNumber w (SetAt p s sync) site = p ≡ site
+TakesNumber w (DeliverAt number) site = IsHeardAt w number site
+TakesNumber w (ApplyAt s count reached) site = s ≡ site
+TakesNumber w other site = ⊥
 
-pub data LinkEnds (d : Doubted) (line : ScriptLine) (fails : Fails) (said : Said) (new : Doubted) : Type 0 where
+-- How a line that no test refuses ends. Of disks that tell no contents it is not known how many numbers are left.
+pub data LinkEnds (told : Type 0) (d : Doubted) (line : ScriptLine) (fails : Fails) (said : Said) (new : Doubted) : Type 0 where
   -- all events are done
   LinksDone : (last : Doubted) → Runs d (link_events d.world line) last → all_fails (link_events d.world line) ≡ [] → fails ≡ []
-      → LinkReplies line d.world (link_events d.world line) said → IsLikeDoubted last new → LinkEnds d line fails said new
+      → LinkReplies line d last (link_events d.world line) said → AreLeft line d last new → LinkEnds told d line fails said new
   -- a disk of this site failed in an event, which may be on its disks
   LinksHalt : (e : Event) (site disk : ℕ) (middle : Doubted) → ComesTo d (link_events d.world line) e site middle → fails ≡ (site, disk) ∷ []
-      → said ≡ Refused (Device disk) → IsLikeDoubted (halved middle e site disk) new → LinkEnds d line fails said new
+      → said ≡ Refused (Device disk) → AreLeft line d (halved middle e site disk) new → LinkEnds told d line fails said new
   -- a disk of this site failed as waiting records were applied, behind the events before that
-  AppliesPart : (before rest : List Event) (site count reached disk : ℕ) (last : Doubted) → link_events d.world line ≡ before ++ ApplyAt site count reached ∷ rest
-      → Runs d (before ++ Fault site disk ∷ []) last → all_fails before ≡ [] → fails ≡ (site, disk) ∷ [] → said ≡ Refused (Device disk) → IsLikeDoubted last new
-      → LinkEnds d line fails said new
+  AppliesPart : (before rest : List Event) (site count reached disk : ℕ) (last : Doubted)
+      → link_events d.world line ≡ before ++ ApplyAt site count reached ∷ rest → Runs d (before ++ Fault site disk ∷ []) last → all_fails before ≡ []
+      → fails ≡ (site, disk) ∷ [] → said ≡ Refused (Device disk) → AreLeft line d last new
+      → LinkEnds told d line fails said new
   -- the fuse of this site ran out in an event
-  LinksCut : (e : Event) (site kept : ℕ) (taken : Bool) (middle : Doubted) → ComesTo d (link_events d.world line) e site middle → IsFused (d.world.nodes site).fuse
-      → fails ≡ [] → said ≡ Refused IsOff → IsLikeDoubted (crashed_as (halved middle e site 0) site kept taken) new → LinkEnds d line fails said new
+  LinksCut : (e : Event) (site kept : ℕ) (taken : Bool) (middle : Doubted) → ComesTo d (link_events d.world line) e site middle
+      → IsFused (d.world.nodes site).fuse → fails ≡ [] → said ≡ Refused IsOff
+      → AreLeft line d (crashed_as (halved middle e site 0) site kept taken) new → LinkEnds told d line fails said new
   -- a read of the log failed: the event is not begun
   LogUnread : (before rest : List Event) (e : Event) (site disk : ℕ) (middle : Doubted) → link_events d.world line ≡ before ++ e ∷ rest → ReadsLog e site
-      → Runs d before middle → all_fails before ≡ [] → fails ≡ (site, disk) ∷ [] → said ≡ Refused (Device disk) → IsLikeDoubted middle new → LinkEnds d line fails said new
+      → Runs d before middle → all_fails before ≡ [] → fails ≡ (site, disk) ∷ [] → said ≡ Refused (Device disk)
+      → AreLeft line d middle new → LinkEnds told d line fails said new
   -- no number is left for a header: the events before stand
-  NoHeader : (before rest : List Event) (e : Event) (middle : Doubted) → link_events d.world line ≡ before ++ e ∷ rest → WritesHeader e
-      → Runs d before middle → all_fails before ≡ [] → fails ≡ [] → said ≡ Refused (Limit Number MOST_NUMBER) → IsLikeDoubted middle new → LinkEnds d line fails said new
+  NoHeader : (before rest : List Event) (e : Event) (site : ℕ) (middle : Doubted) → link_events d.world line ≡ before ++ e ∷ rest
+      → TakesNumber middle.world e site → Runs d before middle → all_fails before ≡ [] → (told → MOST_NUMBER ≤ most_stamp_at middle.world site + 2) → fails ≡ []
+      → said ≡ Refused (Limit Number MOST_NUMBER) → AreLeft line d middle new → LinkEnds told d line fails said new
 
 -- What came of these events: all of them; or the first of them; or those before records were applied, and that a disk failed then.
 pub data CameOfLinks (all events : List Event) : Type 0 where
   AllCame : events ≡ all → CameOfLinks all events
   FirstCame : (rest : List Event) → all ≡ events ++ rest → CameOfLinks all events
-  AppliedPart : (before rest : List Event) (site count reached disk : ℕ) → all ≡ before ++ ApplyAt site count reached ∷ rest → events ≡ before ++ Fault site disk ∷ []
-      → CameOfLinks all events
+  AppliedPart : (before rest : List Event) (site count reached disk : ℕ) → all ≡ before ++ ApplyAt site count reached ∷ rest
+      → events ≡ before ++ Fault site disk ∷ [] → CameOfLinks all events
 
 -- the line ended as these events do
 pub record LinkStops (d : Doubted) (line : ScriptLine) (fails : Fails) (new : Doubted) : Type 0 where

@@ -1,10 +1,12 @@
 -- What want of memory may leave of a line: a first part of its events. No event is half done.
-use Rattle.std.specs.Prelude.{◌≡◌, Bool, true, false, List, [], ◌++◌}
-use Rattle.vx_history.specs.Step.{run}
+use Rattle.std.specs.Prelude.{◌≡◌, ℕ, Bool, true, false, List, [], ◌∷◌, ◌++◌, take}
+use Rattle.vx_history.specs.Doubts.{Doubted}
 use Rattle.vx_history.specs.World.{World}
 use Rattle.vx_history.specs.declared.event.Event.{Event}
 use Rattle.vx_script.specs.declared.line.ScriptLine.{ScriptLine}
 use Rattle.vx_script.specs.declared.line.ScriptLine.TheVariants.{Link, Settle}
+use Rattle.vx_events.specs.Doubts.{run_as}
+use Rattle.vx_events.specs.LinkEnds.{AreLeft, link_noted}
 use Rattle.vx_events.specs.LinkLists.{link_events}
 use Rattle.vx_events.specs.Lists.{Choice, events_of}
 
@@ -23,11 +25,24 @@ abbrev pub MayStop : Bool → List Event → Type 0
 MayStop true before = Unit {0}
 MayStop false before = before ≡ []
 
+-- what is left of a line behind these events, with what it notes; where none of them is done, nothing is noted
+abbrev pub PartLeft : ScriptLine → Doubted → List Event → (new : Doubted) → Type 0
+PartLeft line d [] new = new ≡ d
+PartLeft line d (e ∷ es) new = AreLeft line d (run_as false d (e ∷ es)) new
+
 -- these first events of the line were done, and the rest was not begun
-pub record DonePart (w : World) (line : ScriptLine) (new : World) : Type 0 where
+pub record DonePart (d : Doubted) (line : ScriptLine) (new : Doubted) : Type 0 where
   pub choice : Choice
   pub before : List Event
   pub rest : List Event
-  pub list : all_events w line choice ≡ before ++ rest
+  pub list : all_events d.world line choice ≡ before ++ rest
   pub stops : MayStop (goes_in_parts line) before
-  pub leads : new ≡ run w before
+  pub leads : PartLeft line d before new
+
+abbrev pub part_left : ScriptLine → Doubted → List Event → Doubted
+part_left line d [] = d
+part_left line d (e ∷ es) = let last = run_as false d (e ∷ es) in record last { world = link_noted d.world line last.world }
+
+-- the first events of a line, so many, with what the line notes
+abbrev pub first_part : Doubted → ScriptLine → Choice → ℕ → Doubted
+first_part d line c k = part_left line d (take k (all_events d.world line c))

@@ -1,5 +1,6 @@
 -- What a line is answered, by what is said of its last event.
-use Rattle.std.specs.Prelude.{◌≡◌, ℕ, ◌*◌, List, [], ◌∷◌, length}
+use Rattle.std.specs.Prelude.{◌≡◌, ℕ, ◌*◌, Bool, List, [], ◌∷◌, length}
+use Rattle.vx_history.specs.Doubts.{Doubted, happened}
 use Rattle.vx_history.specs.Refusals.{Outcome}
 use Rattle.vx_history.specs.Step.{step}
 use Rattle.vx_history.specs.World.{World}
@@ -9,8 +10,9 @@ use Rattle.vx_history.specs.declared.event.Said.{Said as EventSaid}
 use Rattle.vx_history.specs.declared.event.Said.TheVariants.{Done as IsDone, DoneAt as IsDoneAt, Logged as IsLogged, Pending as IsPending, Got as HasGot, Taken as IsTaken, Ignored as IsIgnored, Recovered as IsRecovered, Refused as IsRefused}
 use Rattle.vx_script.specs.declared.line.ScriptLine.{ScriptLine}
 use Rattle.vx_script.specs.declared.line.ScriptLine.TheVariants.{Status}
+use Rattle.vx_events.specs.Doubts.{chosen}
 use Rattle.vx_events.specs.Facts.{site_number}
-use Rattle.vx_events.specs.Views.{view_of}
+use Rattle.vx_events.specs.LinkViews.{linked_view}
 use Rattle.vx_events.specs.declared.said.Said.{Said}
 use Rattle.vx_events.specs.declared.said.Said.TheVariants.{Done, DoneAt, Logged, Pending, Got, Shown, Taken, Ignored, Recovered, Refused}
 
@@ -23,7 +25,7 @@ Repeats w s (IsPending number) said = said ≡ Pending number
 Repeats w s (HasGot bytes) said = said ≡ Got bytes
 Repeats w s IsTaken said = said ≡ Taken
 Repeats w s IsIgnored said = said ≡ Ignored
-Repeats w s (IsRecovered number) said = said ≡ Recovered number (view_of w (w.nodes s))
+Repeats w s (IsRecovered number) said = said ≡ Recovered number (linked_view w s)
 Repeats w s (IsRefused why) said = said ≡ Refused why
 
 -- so many blocks, which are what is said of the read where contents are told
@@ -40,11 +42,12 @@ RepeatsOf told s other o said = Repeats o.world s o.said said
 
 -- a line without events is done, and a `status` shows its site
 abbrev pub SaysItself : World → ScriptLine → Said → Type 0
-SaysItself w (Status site) said = said ≡ Shown (view_of w (w.nodes (site_number w site)))
+SaysItself w (Status site) said = said ≡ Shown (linked_view w (site_number w site))
 SaysItself w other said = said ≡ Done
 
--- the reply of a line at this site by these events, from this world on: by the last of them
-abbrev pub Replies : Type 0 → ScriptLine → (site : ℕ) → World → List Event → Said → Type 0
-Replies told line s w [] said = SaysItself w line said
-Replies told line s w (e ∷ []) said = RepeatsOf told s e (step w e) said
-Replies told line s w (e ∷ f ∷ es) said = Replies told line s (step w e).world (f ∷ es) said
+-- The reply of a line at this site by these events, from this world on: by the last of them. A crash of a site in doubt takes what it may be
+-- on its disks, or does not.
+abbrev pub Replies : Type 0 → ScriptLine → (site : ℕ) → (taken : Bool) → Doubted → List Event → Said → Type 0
+Replies told line s taken d [] said = SaysItself d.world line said
+Replies told line s taken d (e ∷ []) said = RepeatsOf told s e (step (chosen taken d e).world e) said
+Replies told line s taken d (e ∷ f ∷ es) said = Replies told line s taken (happened d e taken) (f ∷ es) said

@@ -1,12 +1,13 @@
 // What the tests of a line and those of its event have to do with each other.
-ghost use Rattle.std.specs.Prelude.{◌≡◌, ◌+◌, ◌*◌, ◌<◌, ◌≤◌, ℕ, List, [], Bool, true, false, None, length, min, replicate, take};
+ghost use Rattle.std.specs.Prelude.{◌≡◌, ◌+◌, ◌*◌, ◌<◌, ◌≤◌, ℕ, List, [], Bool, true, false, None, length, min, replicate};
 ghost use Rattle.vx_model.specs.Content.{Write, blocks_from};
 ghost use Rattle.vx_model.specs.Sites.{is_origin};
 ghost use Rattle.vx_model.specs.declared.limits.TheConstants.{MOST_NUMBER};
 ghost use Rattle.vx_model.specs.declared.site.Role.TheVariants.{Primary};
 ghost use Rattle.vx_history.specs.Admission.{Goes};
 ghost use Rattle.vx_history.specs.Events.{admitted};
-ghost use Rattle.vx_history.specs.Step.{run, step, joined_blocks};
+ghost use Rattle.vx_history.specs.Doubts.{Doubted};
+ghost use Rattle.vx_history.specs.Step.{step, joined_blocks};
 ghost use Rattle.vx_history.specs.World.{World};
 ghost use Rattle.vx_history.specs.declared.event.Event.TheVariants.{Site as MakeSite, Raw as MakeRaw, Write as WriteAt, Read as ReadAt, Apply as ApplyAt, Crash as CrashAt};
 ghost use Rattle.vx_history.specs.declared.event.Said.TheVariants.{Done, DoneAt, Got};
@@ -14,13 +15,12 @@ ghost use Rattle.vx_order.specs.Order.{refusal_of};
 ghost use Rattle.vx_script.specs.declared.line.ScriptLine.{ScriptLine};
 ghost use Rattle.vx_script.specs.declared.line.ScriptLine.TheVariants.{Site, Raw, Crash, Write as WriteLine, Put, Read, Show, Apply};
 ghost use Rattle.vx_events.specs.Facts.{facts_of, site_number, volume_number};
-ghost use Rattle.vx_events.specs.Ends.{place_of};
 ghost use Rattle.vx_events.specs.Fails.{Fails};
-ghost use Rattle.vx_events.specs.Lines.{LineStep};
+ghost use Rattle.vx_events.specs.Lines.{LineStep, is_of_links};
 ghost use Rattle.vx_events.specs.Lists.{Choice};
-ghost use Rattle.vx_events.specs.Parts.{DonePart, all_events, goes_in_parts};
+ghost use Rattle.vx_events.specs.Parts.{DonePart, first_part, goes_in_parts};
 ghost use Rattle.vx_events.specs.Plain.{IsUnlinked, IsSized};
-ghost use Rattle.vx_events.specs.Stopping.{StopsAs};
+ghost use Rattle.vx_events.specs.Stopping.{StopsBy};
 ghost use Rattle.vx_events.specs.declared.said.Said.{Said};
 
 /// A site without links lets every write in.
@@ -59,14 +59,14 @@ pub fn tests_agree()
 {}
 
 /// However a line ends over disks that tell their contents, it ends as events of the world do of which one may be ended by a failing disk or
-/// by a fuse. So the laws of what such events keep hold of lines.
+/// by a fuse. So the laws of what such events keep, where sites may be in doubt, hold of lines of every kind.
 pub fn lines_are_events()
-    ensures { (w : World) (files : Bool) (line : ScriptLine) (fails : Fails) (said : Said) (new : World) → LineStep (Unit {0}) files w line fails said new
-        → StopsAs w line (place_of w line) fails new }
+    ensures { (d : Doubted) (files : Bool) (line : ScriptLine) (fails : Fails) (said : Said) (new : Doubted) → LineStep (Unit {0}) files d line fails said new
+        → StopsBy (is_of_links line) d line fails new }
 {}
 
 /// Where memory runs out within a line that does not go in parts nothing is done, and of one that does any first part of its events is.
 pub fn memory_leaves_a_part()
-    ensures none { (w : World) (line : ScriptLine) (new : World) → goes_in_parts line ≡ false → DonePart w line new → new ≡ w }
-    ensures any { (w : World) (line : ScriptLine) (c : Choice) (k : ℕ) → goes_in_parts line ≡ true → DonePart w line (run w (take k (all_events w line c))) }
+    ensures none { (d : Doubted) (line : ScriptLine) (new : Doubted) → goes_in_parts line ≡ false → DonePart d line new → new ≡ d }
+    ensures any { (d : Doubted) (line : ScriptLine) (c : Choice) (k : ℕ) → goes_in_parts line ≡ true → DonePart d line (first_part d line c k) }
 {}

@@ -2,7 +2,6 @@
 ghost use Rattle.std.specs.Prelude.{◌≡◌, ◌⊎◌, ◌*◌, ℕ, List, Bool, Some, None, length, replicate};
 ghost use Rattle.vx_model.specs.declared.link.SyncMode.{SyncMode};
 ghost use Rattle.vx_model.specs.declared.link.Prot.{Prot};
-ghost use Rattle.vx_history.specs.Doubts.{Doubted};
 ghost use Rattle.vx_history.specs.Admission.{Goes};
 ghost use Rattle.vx_history.specs.Events.{packet_at, admitted};
 ghost use Rattle.vx_history.specs.declared.admission.Change.{Change};
@@ -12,16 +11,12 @@ ghost use Rattle.vx_history.specs.declared.event.Event.TheVariants.{Set as SetAt
 ghost use Rattle.vx_history.specs.declared.event.LinkPart.TheVariants.{Joins};
 ghost use Rattle.vx_history.specs.Good.{Good};
 ghost use Rattle.vx_history.specs.declared.event.Said.TheVariants.{Done, DoneAt, Pending};
-ghost use Rattle.vx_script.specs.declared.line.ScriptLine.{ScriptLine};
 ghost use Rattle.vx_script.specs.declared.line.ScriptLine.TheVariants.{Link, Wait, Set, Connect, Cut, Pause, Resume, Tick, Pump, Deliver, Write, Put};
 ghost use Rattle.vx_history.specs.Listed.{AreListed};
 ghost use Rattle.vx_events.specs.Lines.{write_in};
 ghost use Rattle.vx_events.specs.Facts.{facts_of, site_number};
-ghost use Rattle.vx_events.specs.Fails.{Fails};
-ghost use Rattle.vx_events.specs.LinkEnds.{LinkEnds, LinkStops};
 ghost use Rattle.vx_events.specs.LinkedFacts.{linked_facts, refused_by};
 ghost use Rattle.vx_events.specs.Plain.{IsUnlinked};
-ghost use Rattle.vx_events.specs.declared.said.Said.{Said};
 
 /// Where no test of a line on a link refuses, its event is not refused by the world, and a packet that no test refuses is one that the network
 /// still keeps. Where each link has a place of its own among those of its site, a write that is waited for is confirmed or pending; in a good
@@ -54,10 +49,4 @@ pub fn links_let_in()
 /// Of a world without links the tests see nothing of links.
 pub fn sees_no_links()
     ensures { (w : World) → IsUnlinked w → linked_facts w ≡ facts_of w }
-{}
-
-/// However a line of links or packets ends, it ends as events of the world do of which one may be ended by a failing disk or by a fuse.
-/// So the laws of what such events keep, where sites may be in doubt, hold of these lines.
-pub fn link_lines_are_events()
-    ensures { (d : Doubted) (line : ScriptLine) (fails : Fails) (said : Said) (new : Doubted) → LinkEnds d line fails said new → LinkStops d line fails new }
 {}

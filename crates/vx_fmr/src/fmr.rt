@@ -1,7 +1,7 @@
 // The log of missed regions of a volume.
 ghost use Rattle.std.specs.Prelude.{◌≡◌, ◌+◌, ◌-◌, ◌*◌, ◌<◌, ◌≤◌, ℕ, true, false, IfErr, IfOk, IsFalse, OnOk, length};
 ghost use Rattle.vx_bitmap.specs.Bits.{AllAre, Between, Changed};
-ghost use Rattle.vx_bitmap.specs.Maps.{Changing, IsRead, Lies, LoadCause, MapOn, SamePlace, blocks_of as map_blocks_of};
+ghost use Rattle.vx_bitmap.specs.Maps.{ChangedAt, Changing, IsRead, Lies, LoadCause, MapOn, SamePlace, UnitCause, blocks_of as map_blocks_of};
 ghost use Rattle.vx_config.specs.declared.entry.VolumeLog.TheVariants.{Fmr as FmrLog};
 ghost use Rattle.vx_disk.specs.Causes.{DeviceCause};
 ghost use Rattle.vx_disk.specs.Moves.{Moves, Run, Settled};
@@ -92,6 +92,7 @@ impl Fmr {
         requires lies { Lies self.old.map (S.meaning shelf.old) }
         requires exists { plex < self.old.plexes }
         ensures moves { Moves (Run self.old.map.unit self.old.map.first (map_blocks_of self.old.map)) (Changing self.old.map (place_of self.old plex 0) (place_of self.old plex (self.old.stride - 1)) false (S.meaning shelf.old)) (S.meaning shelf.old) (S.meaning shelf.new) }
+        ensures writes { Goes (ChangedAt self.old.map (place_of self.old plex 0) (place_of self.old plex (self.old.stride - 1)) false (S.meaning shelf.old)) (S.meaning shelf.old) (S.meaning shelf.new) }
         ensures stands { OnOk result (MapOn self.old.map (S.meaning shelf.old) → MapOn self.new.map (S.meaning shelf.new)) }
         ensures changed { OnOk result (Changed 0 (self.old.stride - 1) false self.old.stride (has_missed self.old plex) (has_missed self.new plex)) }
         ensures part { Between 0 (self.old.stride - 1) false self.old.stride (has_missed self.old plex) (has_missed self.new plex) }
@@ -99,6 +100,7 @@ impl Fmr {
         ensures place { SamePlace self.old.map self.new.map }
         ensures shape { SameShape self.old self.new }
         ensures cause { IfErr result (DeviceCause (S.meaning shelf.old) (S.meaning shelf.new)) }
+        ensures unit { UnitCause self.old.map.unit (S.meaning shelf.old) (S.meaning shelf.new) result }
         ensures nothing { AllAre 0 (self.old.stride - 1) false (has_missed self.old plex) → shelf.new ≡ shelf.old }
     {
         let start = self.place(plex, 0);
@@ -122,6 +124,7 @@ impl Fmr {
         requires some { first ≤ last }
         requires inside { last < self.old.regions }
         ensures moves { Moves (Run self.old.map.unit self.old.map.first (map_blocks_of self.old.map)) (Changing self.old.map (place_of self.old plex first) (place_of self.old plex last) true (S.meaning shelf.old)) (S.meaning shelf.old) (S.meaning shelf.new) }
+        ensures writes { Goes (ChangedAt self.old.map (place_of self.old plex first) (place_of self.old plex last) true (S.meaning shelf.old)) (S.meaning shelf.old) (S.meaning shelf.new) }
         ensures stands { OnOk result (MapOn self.old.map (S.meaning shelf.old) → MapOn self.new.map (S.meaning shelf.new)) }
         ensures changed { OnOk result (Changed first last true self.old.stride (has_missed self.old plex) (has_missed self.new plex)) }
         ensures part { Between first last true self.old.stride (has_missed self.old plex) (has_missed self.new plex) }
@@ -129,6 +132,7 @@ impl Fmr {
         ensures place { SamePlace self.old.map self.new.map }
         ensures shape { SameShape self.old self.new }
         ensures cause { IfErr result (DeviceCause (S.meaning shelf.old) (S.meaning shelf.new)) }
+        ensures unit { UnitCause self.old.map.unit (S.meaning shelf.old) (S.meaning shelf.new) result }
         ensures nothing { AllAre first last true (has_missed self.old plex) → shelf.new ≡ shelf.old }
     {
         let start = self.place(plex, first);

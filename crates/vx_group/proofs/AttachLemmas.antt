@@ -29,7 +29,7 @@ use Rattle.vx_kept.proofs.Lasting.{low_Acts}
 use Rattle.vx_kept.proofs.Narrower.{stand_apart}
 use Rattle.vx_kept.proofs.StateLemmas.{same_shape, then_shape}
 use Rattle.vx_kept.proofs.Steps.{both_Acts, group-Goes, inside_back, inside_same, same_Acts, wide_Acts}
-use Rattle.vx_group.specs.Attaches.{AnyImage, Attaches, HasOther, att_refusal, attached}
+use Rattle.vx_group.specs.Attaches.{AnyImage, Attaches, HasOther, MayAttach, attached}
 use Rattle.vx_group.specs.Dets.{margin}
 use Rattle.vx_group.specs.Blames.{Blames}
 use Rattle.vx_group.specs.Moves.{Narrows}
@@ -218,7 +218,7 @@ no_bit q in_it = let clash : false ≡ true = sym (zero_bit 0 q refl) ∙ in_it 
 
 -- ---- the configuration as the code has it
 
-module _ (core : GroupCore) (v p : ℕ) (may : att_refusal core.config v p ≡ None) (off : active core.config v p ≡ false) (m m' : Meaning) (before : Lawful m) (after : Lawful m') (stands : Stands core m)
+module _ (core : GroupCore) (v p : ℕ) (may : MayAttach core.config v p) (off : active core.config v p ≡ false) (m m' : Meaning) (before : Lawful m) (after : Lawful m') (stands : Stands core m)
     (e : Config) (is : e ≡ attached v p core.config) (goes : Goes (OnCopy e v p) m m') where
   goes_by : Goes (OnCopy (attached v p core.config) v p) m m'
   goes_by = subst (λ (x : Config). Goes (OnCopy x v p) m m') is goes
@@ -240,13 +240,3 @@ module _ (core : GroupCore) (v p : ℕ) (may : att_refusal core.config v p ≡ N
 
     pub back_attaches : Attaches v p core (with_config f core) m m'
     back_attaches = subst (λ (x : Config). Attaches v p core (with_config x core) m m') (sym same_back) (missed_attaches core v p (present core.config v p may) off m m' before after stands goes_by)
-
--- what is refused hangs on volumes and serial
-abbrev refused_by : List VolumeEntry → ℕ → ℕ → ℕ → Option No
-refused_by vs s v p =
-    if nat_le (length vs) v then Some (Unknown (Number v)) else
-    (if nat_le (plexes_or (slice_get vs v)) p then Some (Unknown (Number p)) else
-    (if nat_lt (greatest - margin) s then Some (Limit Numbers greatest) else None))
-
-pub same_refusal : (c d : Config) (v p : ℕ) → d.volumes ≡ c.volumes → d.serial ≡ c.serial → att_refusal d v p ≡ att_refusal c v p
-same_refusal c d v p volumes serial = ap (λ (vs : List VolumeEntry). refused_by vs d.serial v p) volumes ∙ ap (λ (s : ℕ). refused_by c.volumes s v p) serial

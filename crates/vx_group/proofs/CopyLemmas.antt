@@ -23,6 +23,8 @@ use Rattle.vx_group.specs.Copying.{CopyMoved, FromSource, Mirrored, NoMember, Ru
 use Rattle.vx_group.specs.Moves.{AllFlushed, Narrows}
 use Rattle.vx_group.specs.Stands.{Stands, counted, meaning_of}
 use Rattle.vx_group.specs.declared.group_core.GroupCore.{GroupCore}
+use Rattle.vx_group.specs.Loses.{Loses}
+use Rattle.vx_group.proofs.LoseLemmas.{loses_same, then_loses}
 use Rattle.vx_group.proofs.Standing.{apart_of_core, fit_of, kept_of, sound_of}
 use Rattle.vx_group.proofs.WriteLemmas.{flushed_Stands, run_inside, wrote_Stands}
 
@@ -72,17 +74,32 @@ sees_wider c d G m m' shape on units size i sees =
 
 -- ---- serials that were used
 
-pub spent_both : (c d e : Config) (m0 m1 m2 : Meaning) → ((u : ℕ) → m0.disk_faults u ≤ m1.disk_faults u) → ((u : ℕ) → m1.disk_faults u ≤ m2.disk_faults u) → Spent c d m0 m1 → Spent d e m1 m2 → Spent c e m0 m2
-spent_both c d e m0 m1 m2 before after (inr rose) two = inr (rose.0, Rose_after (m0.disk_faults rose.0) (m1.disk_faults rose.0) (m2.disk_faults rose.0) rose.1 (after rose.0))
-spent_both c d e m0 m1 m2 before after (inl same) (inl more) = inl (more ∙ same)
-spent_both c d e m0 m1 m2 before after (inl same) (inr rose) = inr (rose.0, Rose_before (m0.disk_faults rose.0) (m1.disk_faults rose.0) (m2.disk_faults rose.0) (before rose.0) rose.1)
+pub spent_none : (c : Config) (m m' : Meaning) → Spent c c m m'
+spent_none c m m' = record { any = inl refl; loses = loses_same c m m' }
+
+any_both : (c d e : Config) (m0 m1 m2 : Meaning) → ((u : ℕ) → m0.disk_faults u ≤ m1.disk_faults u) → ((u : ℕ) → m1.disk_faults u ≤ m2.disk_faults u)
+    → (d ≡ c) ⊎ ((disk : ℕ) × Rose (m0.disk_faults disk) (m1.disk_faults disk)) → (e ≡ d) ⊎ ((disk : ℕ) × Rose (m1.disk_faults disk) (m2.disk_faults disk))
+    → (e ≡ c) ⊎ ((disk : ℕ) × Rose (m0.disk_faults disk) (m2.disk_faults disk))
+any_both c d e m0 m1 m2 before after (inr rose) two = inr (rose.0, Rose_after (m0.disk_faults rose.0) (m1.disk_faults rose.0) (m2.disk_faults rose.0) rose.1 (after rose.0))
+any_both c d e m0 m1 m2 before after (inl same) (inl more) = inl (more ∙ same)
+any_both c d e m0 m1 m2 before after (inl same) (inr rose) = inr (rose.0, Rose_before (m0.disk_faults rose.0) (m1.disk_faults rose.0) (m2.disk_faults rose.0) (before rose.0) rose.1)
+
+pub spent_both : (c d e : Config) (m0 m1 m2 : Meaning) → ((u : ℕ) → m0.disk_faults u ≤ m1.disk_faults u) → ((u : ℕ) → m1.disk_faults u ≤ m2.disk_faults u) → ((u : ℕ) → m0.faults u ≤ m1.faults u) → ((u : ℕ) → m1.faults u ≤ m2.faults u)
+    → Spent c d m0 m1 → Spent d e m1 m2 → Spent c e m0 m2
+spent_both c d e m0 m1 m2 before after first second one two = record {
+  any = any_both c d e m0 m1 m2 before after one.any two.any;
+  loses = then_loses m0 m1 m2 first second c d e one.loses two.loses;
+}
 
 -- a disk failed between
-pub spent_by : (c d : Config) (m0 m1 m2 m3 : Meaning) (disk : ℕ) → ((u : ℕ) → m0.disk_faults u ≤ m1.disk_faults u) → ((u : ℕ) → m2.disk_faults u ≤ m3.disk_faults u) → Rose (m1.disk_faults disk) (m2.disk_faults disk) → Spent c d m0 m3
-spent_by c d m0 m1 m2 m3 disk before after rose = inr (
-  disk,
-  Rose_after (m0.disk_faults disk) (m2.disk_faults disk) (m3.disk_faults disk) (Rose_before (m0.disk_faults disk) (m1.disk_faults disk) (m2.disk_faults disk) (before disk) rose) (after disk),
-)
+pub spent_by : (c d : Config) (m0 m1 m2 m3 : Meaning) (disk : ℕ) → ((u : ℕ) → m0.disk_faults u ≤ m1.disk_faults u) → ((u : ℕ) → m2.disk_faults u ≤ m3.disk_faults u) → Rose (m1.disk_faults disk) (m2.disk_faults disk) → Loses c d m0 m3 → Spent c d m0 m3
+spent_by c d m0 m1 m2 m3 disk before after rose loses = record {
+  any = inr (
+    disk,
+    Rose_after (m0.disk_faults disk) (m2.disk_faults disk) (m3.disk_faults disk) (Rose_before (m0.disk_faults disk) (m1.disk_faults disk) (m2.disk_faults disk) (before disk) rose) (after disk),
+  );
+  loses = loses;
+}
 
 -- ---- a read alone
 
@@ -98,7 +115,7 @@ module _ (core : GroupCore) (v source : ℕ) (m0 m1 : Meaning) (law0 : Lawful m0
     others = λ w p apart. refl;
     faults = refl;
     unsure = refl;
-    spent = inl refl;
+    spent = spent_none core.config m0 m1;
     acts = wide_Acts Nothing (FromSource core.config v source m0) (Sees core.config NoMember m0) m0 m1
         (loose_Acts Nothing (Sees core.config (Member core.good m0) m0) (Sees core.config NoMember m0) m0 m1 read_acts (λ i sees. sees_none core.config (Member core.good m0) m0 i sees)) (λ u b x none. absurd none);
   }
@@ -252,7 +269,7 @@ none_Copied core v source m stands settled is_on up = record {
     others = λ w p apart. refl;
     faults = refl;
     unsure = refl;
-    spent = inl refl;
+    spent = spent_none core.config m m;
     acts = wide_Acts Nothing (FromSource core.config v source m) (Sees core.config NoMember m) m m (same_Acts (Sees core.config NoMember m) m) (λ u b x none. absurd none);
   };
   settled = settled;
@@ -286,7 +303,7 @@ module _ (core d e : GroupCore) (v source first n : ℕ) (m0 m1 m2 : Meaning) (o
     others = λ w p apart. two.others w p apart ∙ one.others w p apart;
     faults = two.faults ∙ one.faults;
     unsure = two.unsure ∙ one.unsure;
-    spent = spent_both core.config d.config e.config m0 m1 m2 one.acts.disk_faults two.acts.disk_faults one.spent two.spent;
+    spent = spent_both core.config d.config e.config m0 m1 m2 one.acts.disk_faults two.acts.disk_faults one.acts.faults two.acts.faults one.spent two.spent;
     acts = wide_Acts (Or (FromSource core.config v source m0) (FromSource d.config v source m1)) (FromSource core.config v source m0) (Sees core.config NoMember m0) m0 m2
         (both_Acts (FromSource core.config v source m0) (FromSource d.config v source m1) (Sees core.config NoMember m0) (Sees d.config NoMember m1) m0 m1 m2 one.acts two.acts
         (λ i sees. sees_wider core.config d.config NoMember m0 m1 one.shape one.on one.acts.units one.acts.size i sees))

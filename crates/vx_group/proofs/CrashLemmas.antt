@@ -295,3 +295,9 @@ module _ (core : GroupCore) (old new : Meaning) (it : Deported core old new) whe
             it.finds j each_j ∙ ap (λ (y : Config). Found y) same
         | inr none ↦ absurd (quiet i R x each_i none is)
       ]
+
+pub group_can : (core : GroupCore) (old new : Meaning) → Deported core old new → ((i : Image) (x : Config) → Each new.leaves i → found new i ≡ Found x → Silent x new) → CanImport new
+group_can core old new it silent = record {
+  base = λ i x each is. deport_base core old new it i x each is;
+  one = λ i j R x each_i each_j is. (deport_can core old new it (silent i it.config each_i (it.finds i each_i))).one i j R x each_i each_j is;
+}

@@ -30,6 +30,8 @@ use Rattle.vx_group.specs.Quiesces.{GivenBack, NoVolume, Quiesced, Quiesces}
 use Rattle.vx_group.specs.Settled.{SameBut}
 use Rattle.vx_group.specs.Stands.{Stands}
 use Rattle.vx_group.specs.declared.group_core.GroupCore.{GroupCore}
+use Rattle.vx_copies.specs.Commits.{MoreFailed}
+use Rattle.vx_group.proofs.FailingLemmas.{failing_from, no_failing, then_failing}
 use Rattle.vx_group.proofs.CallLemmas.{blames_later}
 use Rattle.vx_group.proofs.DetachLemmas.{left_Narrows, left_Stands}
 use Rattle.vx_group.proofs.QuiesceLemmas.{both_quiesce, quiet}
@@ -74,6 +76,7 @@ module _ (core : GroupCore) (d : Config) (m m' : Meaning) (stands : Stands core 
     count = shown.grown.disks.count ∙ ap length all.alike.disks;
     volumes = shown.grown.volumes;
     off = off_in;
+    failing = failing_from m m' (cleaned core.unsure core.config (length core.config.volumes)).disks core.config.disks d.disks all.alike.disks shown.grown.disks;
     acts = acts;
     kept = to_fact (at_serial d.serial core.config) (Held d m') m' shown.kept;
   }
@@ -90,21 +93,22 @@ module _ (core e : GroupCore) (m m' : Meaning) (stands : Stands core m) (acts : 
         stands = left_Stands core e 0 0 m m' stands acts wanted can on faults unsure a why left good un;
         narrows = left_Narrows core e 0 0 m m' stands acts wanted can on faults unsure a why left good un;
         volumes = left.volumes;
+        disks = left.disks;
       }
 
 -- ---- behind the flushes
 
 -- a commit, as flushes of no volume
 committed_quiet : (c : GroupCore) (m m' : Meaning) → CleanCommitted c m m' → Quiesces c c NoVolume m m'
-committed_quiet c m m' it = quiet c c m m' (record { acts = it.acts; shape = same_shape c.config; on = λ v p is. is; faults = refl; unsure = refl }) refl
+committed_quiet c m m' it = quiet c c m m' (record { acts = it.acts; shape = same_shape c.config; on = λ v p is. is; faults = refl; unsure = refl }) refl (no_failing m m' c.config.disks c.config.disks refl)
 
 -- headers that were written back
-pub settled_back : (core mid : GroupCore) (m m1 : Meaning) → Stands mid m1 → Narrows core mid m m1 → SameBut core.config mid.config → GivenBack core mid m m1
-settled_back core mid m m1 stands narrows same = record { stands = stands; quiesces = quiet core mid m m1 narrows same.volumes }
+pub settled_back : (core mid : GroupCore) (m m1 : Meaning) → Stands mid m1 → Narrows core mid m m1 → SameBut core.config mid.config → MoreFailed m m1 core.config.disks mid.config.disks → GivenBack core mid m m1
+settled_back core mid m m1 stands narrows same failing = record { stands = stands; quiesces = quiet core mid m m1 narrows same.volumes failing }
 
-module _ (core mid fl d : GroupCore) (m m1 m2 last : Meaning) (begun : Stands core m) (narrows : Narrows core mid m m1) (same : SameBut core.config mid.config) (up1 : IsTrue m1.down → ⊥) where
+module _ (core mid fl d : GroupCore) (m m1 m2 last : Meaning) (begun : Stands core m) (narrows : Narrows core mid m m1) (same : SameBut core.config mid.config) (failing : MoreFailed m m1 core.config.disks mid.config.disks) (up1 : IsTrue m1.down → ⊥) where
   readied : Quiesces core mid NoVolume m m1
-  readied = quiet core mid m m1 narrows same.volumes
+  readied = quiet core mid m m1 narrows same.volumes failing
 
   as_mid : (v : ℕ) → IsVolumeOf core v → IsVolumeOf mid v
   as_mid v lt = let n : length mid.config.volumes ≡ length core.config.volumes = ap length same.volumes in omega (arith, n, lt)
@@ -123,7 +127,7 @@ module _ (core mid fl d : GroupCore) (m m1 m2 last : Meaning) (begun : Stands co
     back_later : CommitMissed fl d m2 last → GivenBack core d m last
     back_later it = record {
       stands = it.stands;
-      quiesces = both_quiesce core fl d (IsVolumeOf core) NoVolume NoVolume m m2 last (apart_of_core core m begun) drained (quiet fl d m2 last it.narrows it.volumes) flushed.up (λ v none. absurd none);
+      quiesces = both_quiesce core fl d (IsVolumeOf core) NoVolume NoVolume m m2 last (apart_of_core core m begun) drained (quiet fl d m2 last it.narrows it.volumes (no_failing m2 last fl.config.disks d.config.disks it.disks)) flushed.up (λ v none. absurd none);
     }
 
     deported_later : CleanCommitted fl m2 last → Deported core m last
@@ -136,6 +140,7 @@ module _ (core mid fl d : GroupCore) (m m1 m2 last : Meaning) (begun : Stands co
       parts = record { site = it.site ∙ flushed.parts.site ∙ same.site; rvg = it.rvg ∙ flushed.parts.rvg ∙ same.rvg; count = it.count ∙ flushed.parts.count ∙ same.count };
       volumes = it.volumes ∙ ap (λ (n : ℕ). (cleaned fl.unsure fl.config n).volumes) drained.shape.volumes;
       off = it.off;
+      failing = then_failing m m2 last drained.acts.faults it.acts.faults core.config.disks fl.config.disks it.config.disks drained.loses.disks it.failing;
       kept = it.kept;
     }
 

@@ -18,7 +18,7 @@ use Rattle.vx_config.specs.declared.entry.DiskEntry.{DiskEntry}
 use Rattle.vx_config.specs.declared.entry.VolumeEntry.{VolumeEntry}
 use Rattle.vx_copies.specs.Answers.{good_set}
 use Rattle.vx_copies.specs.Bodies.{is_wanted}
-use Rattle.vx_copies.specs.Commits.{CommitStops, Grown}
+use Rattle.vx_copies.specs.Commits.{CommitStops, Grown, MoreFailed}
 use Rattle.vx_copies.specs.Marks.{NoneGood, blocks_at, failed_at}
 use Rattle.vx_layout.specs.Places.{place}
 use Rattle.vx_volume.specs.Plexes.{Inside, active}
@@ -30,8 +30,8 @@ use Rattle.vx_kept.specs.States.{stale_at, staled}
 use Rattle.vx_kept.proofs.StateLemmas.{then_shape}
 use Rattle.vx_kept.proofs.Steps.{inside_back}
 use Rattle.vx_group.specs.Blames.{Blames}
-use Rattle.vx_group.specs.Copying.{Spent}
 use Rattle.vx_group.specs.Finishes.{CommitMade, CommitsAs, Renewed, Renews, SameOr}
+use Rattle.vx_group.specs.Loses.{Loses}
 use Rattle.vx_group.specs.Mends.{GoesOn, Mending}
 use Rattle.vx_group.specs.Moves.{Narrows}
 use Rattle.vx_group.specs.Quiesces.{AnyFailed}
@@ -39,6 +39,7 @@ use Rattle.vx_group.specs.Resumes.{IsMended, source_at}
 use Rattle.vx_group.specs.Stands.{Stands, counted, meaning_of}
 use Rattle.vx_group.specs.declared.group_core.GroupCore.{GroupCore}
 use Rattle.vx_group.proofs.CallLemmas.{narrows_Goes}
+use Rattle.vx_group.proofs.LoseLemmas.{loses_none, then_loses}
 use Rattle.vx_group.proofs.CreateLemmas.{cause_before}
 use Rattle.vx_group.proofs.DetachLemmas.{left_Narrows, left_Stands, staled_some, taken_Narrows, taken_Stands, zero_bit}
 use Rattle.vx_group.proofs.Standing.{apart_of_core}
@@ -140,6 +141,7 @@ module _ (core e : GroupCore) (m m' : Meaning) (after : Lawful m') (stands : Sta
       settled = settled;
       up = up;
       same = subst (λ (c : Config). SameOr c e.config m m') (none_staled 0 core.config 8) (grown_same (staled 0 0 core.config 8) e.config m m' taken.later taken.grown);
+      loses = subst (λ (c : Config). Loses c e.config m m') (none_staled 0 core.config 8) (loses_none (staled 0 0 core.config 8) e.config m m' taken.grown.volumes taken.grown.disks);
       finds = taken.finds;
     }
 
@@ -159,7 +161,7 @@ module _ (core d e f : GroupCore) (flags : List Bool) (sources : List ℕ) (m0 m
   pub stopped_on : GoesOn d e m1 m2 → GoesOn core e m0 m2
   stopped_on two = both_on core d e m0 m1 m2 first_on two
 
-  module _ (volumes : d.config.volumes ≡ core.config.volumes) (serial : d.config.serial ≡ core.config.serial) (unmoved : (d.config ≡ core.config) ⊎ AnyFailed m0 m1) (up1 : IsTrue m1.down → ⊥)
+  module _ (volumes : d.config.volumes ≡ core.config.volumes) (serial : d.config.serial ≡ core.config.serial) (unmoved : (d.config ≡ core.config) ⊎ AnyFailed m0 m1) (failing : MoreFailed m0 m1 core.config.disks d.config.disks) (up1 : IsTrue m1.down → ⊥)
       (mending : Mending d flags sources (length d.config.volumes) e m1 m2) where
     count_same : length d.config.volumes ≡ length core.config.volumes
     count_same = ap length volumes
@@ -184,16 +186,16 @@ module _ (core d e f : GroupCore) (flags : List Bool) (sources : List ℕ) (m0 m
 
       -- where the last serial was used some disk failed
       spent_rose : core.config.serial < greatest → greatest ≤ e.config.serial → AnyFailed m0 m3
-      spent_rose less none = by mending.spent
+      spent_rose less none = by mending.spent.any
         where
-          by : Spent d.config e.config m1 m2 → AnyFailed m0 m3
+          by : (e.config ≡ d.config) ⊎ AnyFailed m1 m2 → AnyFailed m0 m3
           by (inl same) = absurd (let at : e.config.serial ≡ d.config.serial = ap (λ (c : Config). c.serial) same in omega (arith, at, serial, less, none))
           by (inr rose) = rose_then rose last.disk_faults
 
       all_same : SameOr e.config f.config m2 m3 → SameOr core.config f.config m0 m3
-      all_same end = by unmoved mending.spent end
+      all_same end = by unmoved mending.spent.any end
         where
-          by : (d.config ≡ core.config) ⊎ AnyFailed m0 m1 → Spent d.config e.config m1 m2 → SameOr e.config f.config m2 m3 → SameOr core.config f.config m0 m3
+          by : (d.config ≡ core.config) ⊎ AnyFailed m0 m1 → (e.config ≡ d.config) ⊎ AnyFailed m1 m2 → SameOr e.config f.config m2 m3 → SameOr core.config f.config m0 m3
           by (inr rose) spent is = inr (inl (rose_first rose since_first))
           by (inl one) (inr rose) is = inr (inl (rose_then rose last.disk_faults))
           by (inl one) (inl two) (inl is) =
@@ -201,6 +203,10 @@ module _ (core d e f : GroupCore) (flags : List Bool) (sources : List ℕ) (m0 m
               inl (subst (λ (c : Config). (c.serial < f.config.serial) × (f.config ≡ at_serial f.config.serial c)) both is)
           by (inl one) (inl two) (inr (inl rose)) = inr (inl (rose.0, Rose_before (m0.disk_faults rose.0) (m2.disk_faults rose.0) (m3.disk_faults rose.0) (mend_goes.disk_faults rose.0) rose.1))
           by (inl one) (inl two) (inr (inr rose)) = inr (inr (rose.0, Rose_before (m0.faults rose.0) (m2.faults rose.0) (m3.faults rose.0) (mend_goes.unit_faults rose.0) rose.1))
+
+      all_loses : Loses e.config f.config m2 m3 → Loses core.config f.config m0 m3
+      all_loses end = then_loses m0 m2 m3 mend_goes.unit_faults last.unit_faults core.config e.config f.config
+          (then_loses m0 m1 m2 first.acts.faults mending.on.unit_faults core.config d.config e.config (loses_none core.config d.config m0 m1 volumes failing) mending.spent.loses) end
 
       -- what was read of a volume that was made alike was so before the headers were settled
       all_mended : ((v : ℕ) → v < length core.config.volumes → IsTrue (active core.config v (source_at sources v))) → (v : ℕ) → v < length core.config.volumes → marked flags v ≡ true → IsMended core.config v (source_at sources v) f m0 m3
@@ -222,7 +228,7 @@ module _ (core d e f : GroupCore) (flags : List Bool) (sources : List ℕ) (m0 m
 
     pub renew_all : {T : Type 0} (r : Result T No) → core.config.serial < greatest → ((v : ℕ) → v < length core.config.volumes → IsTrue (active core.config v (source_at sources v))) → CommitsAs e f m2 m3 r → Renews flags sources core f m0 m3 r
     renew_all (Ok x) less source_on made = record {
-      made = record { on = both_on core e f m0 m2 m3 mend_goes made.on; settled = made.settled; up = made.up; same = all_same made.on made.same; finds = made.finds };
+      made = record { on = both_on core e f m0 m2 m3 mend_goes made.on; settled = made.settled; up = made.up; same = all_same made.on made.same; loses = all_loses made.on made.loses; finds = made.finds };
       mended = all_mended made.on source_on;
     }
     renew_all (Err why) less source_on stops = (

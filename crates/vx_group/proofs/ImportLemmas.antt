@@ -25,6 +25,7 @@ use Rattle.vx_group.specs.Resumes.{CanImport, IsMended, IsTaken, Takes, TakenUp,
 use Rattle.vx_group.specs.Stands.{counted, meaning_of}
 use Rattle.vx_group.specs.declared.group_core.GroupCore.{GroupCore}
 use Rattle.vx_group.specs.declared.taking.Plan.{Plan}
+use Rattle.vx_group.proofs.LoseLemmas.{loses_later}
 use Rattle.vx_group.proofs.CreateLemmas.{cause_before}
 use Rattle.vx_group.proofs.FoundLemmas.{found_wanted, wanted_back_again}
 use Rattle.vx_group.proofs.PlanLemmas.{source_live}
@@ -123,6 +124,7 @@ module _ (old m1 : Meaning) (plan : Plan) (taken : IsTaken old m1 plan) where
           sure = λ v. ap (λ (f : List Bool). marked f v) fin.made.on.unsure ∙ taken.made.fresh.sure v;
         };
         same = ⊎_elim (λ same. inl same) (λ fault. inr (fault_before fault)) fin.made.same;
+        loses = loses_later opened d.config old m1 new goes.faults fin.made.on.unit_faults fin.made.loses;
         on = fin.made.on.on;
         finds = fin.made.finds;
         goes = whole_goes fin.made.on;

@@ -3,9 +3,12 @@ pub mod CallLemmas
 pub mod WriteLemmas
 pub mod DetachLemmas
 pub mod ReadLemmas
+pub mod FailingLemmas
 pub mod ReadyLemmas
+pub mod RegainLemmas
 pub mod CreateLemmas
 pub mod DetLemmas
+pub mod LoseLemmas
 pub mod CopyLemmas
 pub mod QuiesceLemmas
 pub mod DeportLemmas
@@ -25,5 +28,6 @@ pub mod ImportLemmas
 pub mod CrashLemmas
 pub mod OpeningLemmas
 pub mod AttachLemmas
+pub mod UsesLemmas
+pub mod SourcesLemmas
 pub mod GiveLemmas
-pub mod UntoldLemmas

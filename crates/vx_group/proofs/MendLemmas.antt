@@ -16,7 +16,7 @@ use Rattle.vx_group.specs.Mends.{GoesOn, Mending}
 use Rattle.vx_group.specs.Resumes.{IsMended, source_at}
 use Rattle.vx_group.specs.Stands.{Stands, counted, meaning_of}
 use Rattle.vx_group.specs.declared.group_core.GroupCore.{GroupCore}
-use Rattle.vx_group.proofs.CopyLemmas.{spent_both}
+use Rattle.vx_group.proofs.CopyLemmas.{spent_both, spent_none}
 use Rattle.vx_group.proofs.Standing.{apart_of_core}
 
 -- ---- what is written back as it was read is nothing
@@ -88,7 +88,7 @@ module _ (d e : GroupCore) (v source : ℕ) (m1 m2 : Meaning) (law1 : Lawful m1)
 pub none_mended : (core : GroupCore) (flags : List Bool) (sources : List ℕ) (m : Meaning) → Stands core m → core.unsettled ≡ false → (IsTrue m.down → ⊥) → Goes Nothing (meaning_of core m) (meaning_of core m) → Mending core flags sources 0 core m m
 none_mended core flags sources m stands settled up goes = record {
   on = record { stands = stands; shape = same_shape core.config; on = λ w p is. is; faults = refl; unsure = refl; goes = goes; unit_faults = λ u. omega arith; disk_faults = λ u. omega arith };
-  spent = inl refl;
+  spent = spent_none core.config m m;
   settled = settled;
   up = up;
   mended = λ v lt mark. absurd (omega (arith, lt));
@@ -159,7 +159,7 @@ module _ (core d : GroupCore) (flags : List Bool) (sources : List ℕ) (n : ℕ)
     pub mend_more : Mirrored d n (source_at sources n) e m1 m2 → Mending core flags sources (n + 1) e old m2
     mend_more mirrored = record {
       on = mend_on moved;
-      spent = spent_both core.config d.config e.config old m1 m2 was.on.disk_faults moved.acts.disk_faults was.spent moved.spent;
+      spent = spent_both core.config d.config e.config old m1 m2 was.on.disk_faults moved.acts.disk_faults was.on.unit_faults moved.acts.faults was.spent moved.spent;
       settled = mirrored.settled;
       up = mirrored.up;
       mended = λ v lt mark. elim (cases_eq v n) [

@@ -1,5 +1,5 @@
 -- A configuration in which one plex more is ACTIVE, over the core of a group.
-use Rattle.std.proofs.Common.{◌≡◌, ◌≢◌, ◌⊎◌, inl, inr, ℕ, zero, suc, ◌-◌, ◌<◌, ◌≤◌, ◌^◌, Bool, true, false, IsTrue, Option, Some, None, List, [], ◌∷◌, length, refl, ap, sym, ◌∙◌, subst, arith}
+use Rattle.std.proofs.Common.{◌≡◌, ◌≢◌, ◌⊎◌, inl, inr, ℕ, zero, suc, ◌+◌, ◌-◌, ◌<◌, ◌≤◌, ◌^◌, Bool, true, false, IsTrue, Option, Some, None, List, [], ◌∷◌, length, refl, ap, sym, ◌∙◌, subst, arith}
 use Rattle.std.specs.Prelude.{◌&&◌, nat_le, nat_lt, if◌then◌else◌, slice_get, not}
 use Rattle.std.proofs.lemmas.Bool.{and_from, and_parts, cases_eq, cases_lt, le-leb, lt-ltb}
 use Rattle.vx_disk.specs.Shelf.{Meaning}
@@ -23,7 +23,7 @@ use Rattle.vx_kept.specs.Keeping.{AllOn, Kept, Kin, SameShape}
 use Rattle.vx_kept.specs.States.{whole_of, whole_or}
 use Rattle.vx_kept.proofs.Narrower.{live_has, on_live}
 use Rattle.vx_kept.proofs.StateLemmas.{active_apart, live_apart, map_one, plex_same, stated_shape}
-use Rattle.vx_group.specs.Attaches.{att_refusal, attached}
+use Rattle.vx_group.specs.Attaches.{MayAttach, att_refusal, attached}
 use Rattle.vx_group.specs.Dets.{margin}
 use Rattle.vx_group.specs.Stands.{Stands}
 use Rattle.vx_group.specs.declared.group_core.GroupCore.{GroupCore}
@@ -65,13 +65,33 @@ module _ (c : Config) (v p : ℕ) (may : att_refusal c v p ≡ None) where
     | inr le ↦ omega (arith, le)
   ]
 
-  pub present : Present c v p
-  present =
-      let one = some_at c.volumes v may_volume in
-      let count : plexes_of c v ≡ length (one.0).plexes = ap plexes_or one.1 in
-      let less : p < plexes_of c v = less_of (plexes_of c v) p (none_of (nat_le (length c.volumes) v) (nat_le (plexes_of c v) p) (nat_lt (greatest - margin) c.serial) _ _ _ may).1 in
-      let two = some_at (one.0).plexes p (omega (arith, count, less)) in
-      record { volume = one.0; plex = two.0; at_v = one.1; at_p = two.1 }
+  -- so it is with as many serials less as a commit uses at most
+  pub may_behind : (d : Config) → d.volumes ≡ c.volumes → d.serial ≤ c.serial + 9 → MayAttach d v p
+  may_behind d volumes few = record {
+    volume = omega (arith, may_volume, ap length volumes);
+    plex = let count : plexes_of d v ≡ plexes_of c v = ap (λ (vs : List VolumeEntry). plexes_or (slice_get vs v)) volumes in
+        let less : p < plexes_of c v = less_of (plexes_of c v) p (none_of (nat_le (length c.volumes) v) (nat_le (plexes_of c v) p) (nat_lt (greatest - margin) c.serial) _ _ _ may).1 in
+        omega (arith, count, less);
+    more = elim (cases_lt (greatest - margin) c.serial) [
+      | inl lt ↦ absurd (let clash : true ≡ false = sym (lt-ltb (greatest - margin) c.serial lt) ∙ (none_of (nat_le (length c.volumes) v) (nat_le (plexes_of c v) p) (nat_lt (greatest - margin) c.serial) _ _ _ may).2 in cc)
+      | inr le ↦ omega (arith, le, few)
+    ];
+  }
+
+pub present : (c : Config) (v p : ℕ) → MayAttach c v p → Present c v p
+present c v p may =
+    let one = some_at c.volumes v may.volume in
+    let count : plexes_of c v ≡ length (one.0).plexes = ap plexes_or one.1 in
+    let two = some_at (one.0).plexes p (let less = may.plex in omega (arith, count, less)) in
+    record { volume = one.0; plex = two.0; at_v = one.1; at_p = two.1 }
+
+-- what may be attached hangs on volumes and serial
+pub same_may : (c d : Config) (v p : ℕ) → d.volumes ≡ c.volumes → d.serial ≡ c.serial → MayAttach c v p → MayAttach d v p
+same_may c d v p volumes serial may = record {
+  volume = let lt = may.volume in omega (arith, lt, ap length volumes);
+  plex = let count : plexes_of d v ≡ plexes_of c v = ap (λ (vs : List VolumeEntry). plexes_or (slice_get vs v)) volumes in let lt = may.plex in omega (arith, count, lt);
+  more = let lt = may.more in omega (arith, lt, serial);
+}
 
 -- ---- the states
 
@@ -80,7 +100,7 @@ stale_state e Stale at off = refl
 stale_state e Active at off = absurd (let on : is_live e ≡ true = rw at refl in let clash : true ≡ false = sym on ∙ off in cc)
 stale_state e Clean at off = absurd (let on : is_live e ≡ true = rw at refl in let clash : true ≡ false = sym on ∙ off in cc)
 
-here_or_apart : (x v q p : ℕ) → ((x ≡ v) × (q ≡ p)) ⊎ (x ≡ v → q ≡ p → ⊥)
+pub here_or_apart : (x v q p : ℕ) → ((x ≡ v) × (q ≡ p)) ⊎ (x ≡ v → q ≡ p → ⊥)
 here_or_apart x v q p = elim (cases_eq x v) [
   | inl same ↦ elim (cases_eq q p) [ inl at ↦ inl (same, at) | inr other ↦ inr (λ s t. other t) ]
   | inr apart ↦ inr (λ s t. apart s)

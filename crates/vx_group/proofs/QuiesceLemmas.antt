@@ -6,6 +6,7 @@ use Rattle.vx_disk.specs.declared.shelf.ShelfError.{ShelfError}
 use Rattle.vx_disk.specs.declared.shelf.ShelfError.TheVariants.{Fault, Down}
 use Rattle.vx_disk.proofs.Causing.{Rose_after, Rose_before}
 use Rattle.vx_config.specs.Table.{greatest}
+use Rattle.vx_copies.specs.Commits.{MoreFailed}
 use Rattle.vx_layout.specs.Places.{place}
 use Rattle.vx_volume.specs.Plexes.{active}
 use Rattle.vx_volume.specs.Volumes.{PlexFlushed}
@@ -22,6 +23,9 @@ use Rattle.vx_group.specs.Moves.{AllFlushed, Narrows}
 use Rattle.vx_group.specs.Quiesces.{AnyFailed, GivenBack, GoesOnBy, NoVolume, QuiesceEnds, Quiesced, Quiesces, SameParts}
 use Rattle.vx_group.specs.Stands.{Stands}
 use Rattle.vx_group.specs.declared.group_core.GroupCore.{GroupCore}
+use Rattle.vx_group.specs.Loses.{Loses}
+use Rattle.vx_group.proofs.FailingLemmas.{no_failing}
+use Rattle.vx_group.proofs.LoseLemmas.{loses_none, loses_same, then_loses}
 use Rattle.vx_group.proofs.CopyLemmas.{loose_Acts, sees_none, sees_wider}
 use Rattle.vx_group.proofs.Standing.{apart_of_core}
 use Rattle.vx_group.proofs.WriteLemmas.{no_commit}
@@ -62,6 +66,7 @@ module _ (c d e : GroupCore) (P Q R : ℕ → Type 0) (m0 m1 m2 : Meaning) (apar
     on = λ v p is. one.on v p (two.on v p is);
     volumes = or_failed c.config.volumes d.config.volumes e.config.volumes m0 m1 m2 one.acts.disk_faults two.acts.disk_faults one.volumes two.volumes;
     unsure = or_failed c.unsure d.unsure e.unsure m0 m1 m2 one.acts.disk_faults two.acts.disk_faults one.unsure two.unsure;
+    loses = then_loses m0 m1 m2 one.acts.faults two.acts.faults c.config d.config e.config one.loses two.loses;
     sure = λ v is. one.sure v (two.sure v is);
     faults = two.faults ∙ one.faults;
     flushed = λ v p it sure is_on. elim (part v it) [
@@ -78,21 +83,23 @@ both_parts c d e one two = record { site = two.site ∙ one.site; rvg = two.rvg 
 -- no block was touched, by a commit or none
 module _ (c d e : GroupCore) (which : ℕ → Type 0) (m m' : Meaning) (narrows : Narrows c d m m') where
   pub stepped : (e.config ≡ d.config) → e.faults ≡ d.faults → (d.config.volumes ≡ c.config.volumes) ⊎ AnyFailed m m' → (e.unsure ≡ c.unsure) ⊎ AnyFailed m m' → ((v : ℕ) → marked e.unsure v ≡ false → marked c.unsure v ≡ false)
-      → ((v p : ℕ) → which v → marked e.unsure v ≡ false → IsTrue (active d.config v p) → PlexFlushed c.config v p m m') → Quiesces c e which m m'
-  stepped same counts volumes unsure sure flushed = record {
+      → ((v p : ℕ) → which v → marked e.unsure v ≡ false → IsTrue (active d.config v p) → PlexFlushed c.config v p m m') → Loses c.config d.config m m' → Quiesces c e which m m'
+  stepped same counts volumes unsure sure flushed loses = record {
     acts = loose_Acts Nothing (Sees c.config (Member c.good m) m) (Sees c.config NoMember m) m m' narrows.acts (λ i sees. sees_none c.config (Member c.good m) m i sees);
     shape = subst (λ x. SameShape x c.config) (sym same) narrows.shape;
     on = λ v p is. narrows.on v p (ap (λ x. active x v p) (sym same) ∙ is);
     volumes = ⊎_elim (λ is. inl (ap (λ x. x.volumes) same ∙ is)) (λ rose. inr rose) volumes;
     unsure = unsure;
+    loses = subst (λ x. Loses c.config x m m') (sym same) loses;
     sure = sure;
     faults = counts ∙ narrows.faults;
     flushed = λ v p it off is_on. flushed v p it off (ap (λ x. active x v p) (sym same) ∙ is_on);
   }
 
 -- no volume was flushed
-pub quiet : (c d : GroupCore) (m m' : Meaning) → Narrows c d m m' → d.config.volumes ≡ c.config.volumes → Quiesces c d NoVolume m m'
-quiet c d m m' narrows volumes = stepped c d d NoVolume m m' narrows refl refl (inl volumes) (inl narrows.unsure) (λ v is. ap (λ (u : List Bool). marked u v) (sym narrows.unsure) ∙ is) (λ v p none. absurd none)
+pub quiet : (c d : GroupCore) (m m' : Meaning) → Narrows c d m m' → d.config.volumes ≡ c.config.volumes → MoreFailed m m' c.config.disks d.config.disks → Quiesces c d NoVolume m m'
+quiet c d m m' narrows volumes failing = stepped c d d NoVolume m m' narrows refl refl (inl volumes) (inl narrows.unsure) (λ v is. ap (λ (u : List Bool). marked u v) (sym narrows.unsure) ∙ is) (λ v p none. absurd none)
+    (loses_none c.config d.config m m' volumes failing)
 
 -- the plexes of one volume, as all its plexes were flushed
 pub flushed_one : (c d e : GroupCore) (vol : ℕ) (m m' : Meaning) → Narrows c d m m' → AllFlushed d.config vol m m' → (v p : ℕ) → v ≡ vol → marked e.unsure v ≡ false → IsTrue (active d.config v p) → PlexFlushed c.config v p m m'
@@ -151,14 +158,15 @@ module _ (core : GroupCore) (vol : ℕ) (m m' : Meaning) (stands : Stands core m
   pub left_back : GivenBack core (with_unsure core unsure) m m'
   left_back = record {
     stands = unsure_Stands core unsure m' stands;
-    quiesces = stepped core core (with_unsure core unsure) NoVolume m m' narrows refl refl (inl refl) (or_marked error vol core.unsure unsure m m' marks why) (sure_marked error vol core.unsure unsure marks) (λ v p none. absurd none);
+    quiesces = stepped core core (with_unsure core unsure) NoVolume m m' narrows refl refl (inl refl) (or_marked error vol core.unsure unsure m m' marks why) (sure_marked error vol core.unsure unsure marks) (λ v p none. absurd none)
+        (loses_same core.config m m');
   }
 
   pub left_on : marked unsure vol ≡ true → (IsTrue m'.down → ⊥) → Quiesced core (with_unsure core unsure) (is_volume vol) m m'
   left_on on up = record {
     stands = unsure_Stands core unsure m' stands;
     quiesces = stepped core core (with_unsure core unsure) (is_volume vol) m m' narrows refl refl (inl refl) (or_marked error vol core.unsure unsure m m' marks why) (sure_marked error vol core.unsure unsure marks)
-        (λ v p at off is_on. off_none marks v p at off on);
+        (λ v p at off is_on. off_none marks v p at off on) (loses_same core.config m m');
     parts = same_parts core;
     settled = settled;
     up = up;
@@ -181,14 +189,14 @@ unsure_blames m m' Down (Err (Fault disk)) on why = absurd on
 unsure_blames m m' Down (Err Down) on why = why
 
 -- no plex failed, or those that failed were detached
-module _ (core d : GroupCore) (vol : ℕ) (m m' : Meaning) (stands : Stands d m') (narrows : Narrows core d m m') (volumes : (d.config.volumes ≡ core.config.volumes) ⊎ AnyFailed m m') where
+module _ (core d : GroupCore) (vol : ℕ) (m m' : Meaning) (stands : Stands d m') (narrows : Narrows core d m m') (volumes : (d.config.volumes ≡ core.config.volumes) ⊎ AnyFailed m m') (loses : Loses core.config d.config m m') where
   sure_as : (v : ℕ) → marked d.unsure v ≡ false → marked core.unsure v ≡ false
   sure_as v is = ap (λ (u : List Bool). marked u v) (sym narrows.unsure) ∙ is
 
   pub one_on : AllFlushed d.config vol m m' → SameParts core.config d.config → d.unsettled ≡ false → (IsTrue m'.down → ⊥) → d.config.serial < greatest → Quiesced core d (is_volume vol) m m'
   one_on all parts settled up more = record {
     stands = stands;
-    quiesces = stepped core d d (is_volume vol) m m' narrows refl refl volumes (inl narrows.unsure) sure_as (flushed_one core d d vol m m' narrows all);
+    quiesces = stepped core d d (is_volume vol) m m' narrows refl refl volumes (inl narrows.unsure) sure_as (flushed_one core d d vol m m' narrows all) loses;
     parts = parts;
     settled = settled;
     up = up;
@@ -196,13 +204,13 @@ module _ (core d : GroupCore) (vol : ℕ) (m m' : Meaning) (stands : Stands d m'
   }
 
   pub one_back : GivenBack core d m m'
-  one_back = record { stands = stands; quiesces = stepped core d d NoVolume m m' narrows refl refl volumes (inl narrows.unsure) sure_as (λ v p none. absurd none) }
+  one_back = record { stands = stands; quiesces = stepped core d d NoVolume m m' narrows refl refl volumes (inl narrows.unsure) sure_as (λ v p none. absurd none) loses }
 
   -- the commit was refused
   pub missed_back : (error : ShelfError) (unsure : List Bool) → Marks error vol d.unsure unsure → AnyFailed m m' → GivenBack core (with_unsure d unsure) m m'
   missed_back error unsure marks rose = record {
     stands = unsure_Stands d unsure m' stands;
-    quiesces = stepped core d (with_unsure d unsure) NoVolume m m' narrows refl refl volumes (inr rose) (λ v is. sure_as v (sure_marked error vol d.unsure unsure marks v is)) (λ v p none. absurd none);
+    quiesces = stepped core d (with_unsure d unsure) NoVolume m m' narrows refl refl volumes (inr rose) (λ v is. sure_as v (sure_marked error vol d.unsure unsure marks v is)) (λ v p none. absurd none) loses;
   }
 
 -- ---- the loop
@@ -210,7 +218,7 @@ module _ (core d : GroupCore) (vol : ℕ) (m m' : Meaning) (stands : Stands d m'
 pub none_quiesced : (core : GroupCore) (m : Meaning) → Stands core m → core.unsettled ≡ false → (IsTrue m.down → ⊥) → core.config.serial < greatest → Quiesced core core (λ (v : ℕ). v < 0) m m
 none_quiesced core m stands settled up more = record {
   stands = stands;
-  quiesces = stepped core core core (λ (v : ℕ). v < 0) m m (no_commit core m) refl refl (inl refl) (inl refl) (λ v is. is) (λ v p lt. absurd (omega (arith, lt)));
+  quiesces = stepped core core core (λ (v : ℕ). v < 0) m m (no_commit core m) refl refl (inl refl) (inl refl) (λ v is. is) (λ v p lt. absurd (omega (arith, lt))) (loses_same core.config m m);
   parts = same_parts core;
   settled = settled;
   up = up;
@@ -246,6 +254,7 @@ all_quiesced core e n m m' le was = record {
     on = was.quiesces.on;
     volumes = was.quiesces.volumes;
     unsure = was.quiesces.unsure;
+    loses = was.quiesces.loses;
     sure = was.quiesces.sure;
     faults = was.quiesces.faults;
     flushed = λ v p lt sure is_on. was.quiesces.flushed v p (omega (arith, lt, le)) sure is_on;
@@ -258,4 +267,4 @@ all_quiesced core e n m m' le was = record {
 
 -- no call at all
 pub still_back : (core : GroupCore) (m : Meaning) → Stands core m → GivenBack core core m m
-still_back core m stands = record { stands = stands; quiesces = quiet core core m m (no_commit core m) refl }
+still_back core m stands = record { stands = stands; quiesces = quiet core core m m (no_commit core m) refl (no_failing m m core.config.disks core.config.disks refl) }

@@ -36,6 +36,7 @@ use Rattle.vx_group.specs.Quiesces.{AnyFailed}
 use Rattle.vx_group.specs.Settled.{SameBut, SettledTo}
 use Rattle.vx_group.specs.Stands.{Stands}
 use Rattle.vx_group.specs.declared.group_core.GroupCore.{GroupCore}
+use Rattle.vx_group.proofs.FailingLemmas.{no_failing, then_failing}
 use Rattle.vx_group.proofs.Standing.{can_of, made, member_to, still_large}
 
 pub same_but : (c : Config) → SameBut c c
@@ -51,6 +52,7 @@ settle_start good c m kept wanted up = record {
   up = up;
   rose = λ is. absurd (let clash : false ≡ true = is in cc);
   none = λ is. refl;
+  failing = no_failing m m c.disks c.disks refl;
 }
 
 module _ (good : ℕ) (c d : Config) (n device : ℕ) (failed : Bool) (m m1 : Meaning) (so_far : SettledTo good c d n device failed m m1) where
@@ -72,6 +74,7 @@ module _ (good : ℕ) (c d : Config) (n device : ℕ) (failed : Bool) (m m1 : Me
     up = so_far.up;
     rose = so_far.rose;
     none = so_far.none;
+    failing = so_far.failing;
   }
 
   module _ (m2 : Meaning) (goes : Goes (HeadersAsLeft n m1) m1 m2) (before : Lawful m1) (after : Lawful m2) where
@@ -106,6 +109,7 @@ module _ (good : ℕ) (c d : Config) (n device : ℕ) (failed : Bool) (m m1 : Me
       up = up;
       rose = later;
       none = so_far.none;
+      failing = then_failing m m1 m2 so_far.acts.faults goes.faults c.disks d.disks d.disks so_far.failing (no_failing m1 m2 d.disks d.disks refl);
     }
 
     -- a disk that failed is held as failed from then on
@@ -129,6 +133,7 @@ module _ (good : ℕ) (c d : Config) (n device : ℕ) (failed : Bool) (m m1 : Me
       up = up;
       rose = λ on. Rose_before (m.disk_faults unit) (m1.disk_faults unit) (m2.disk_faults unit) (so_far.acts.disk_faults unit) fault.disk_count;
       none = λ off. absurd (let clash : true ≡ false = sym set ∙ off in cc);
+      failing = then_failing m m1 m2 so_far.acts.faults goes.faults c.disks d.disks e.disks so_far.failing (mark_grown d d.serial n e m1 m2 fault.count is).disks;
     }
       where
         was_good : (u : ℕ) → failed_at e.disks u ≡ false → failed_at d.disks u ≡ false

@@ -1,6 +1,9 @@
 -- A plex that is attached.
-use Rattle.std.specs.Prelude.{◌≡◌, ◌≢◌, ◌⊎◌, ℕ, ◌-◌, Bool, true, false, nat_le, nat_lt, if◌then◌else◌, IsTrue, Option, Some, None, Result, Ok, Err, length}
+use Rattle.std.specs.Prelude.{◌≡◌, ◌≢◌, ◌⊎◌, ℕ, ◌-◌, ◌<◌, Bool, true, false, nat_le, nat_lt, if◌then◌else◌, IsTrue, Option, Some, None, Result, Ok, Err, length}
+use Rattle.vx_disk.specs.Counts.{Rose}
 use Rattle.vx_disk.specs.Shelf.{Goes, Image, Meaning, Nothing}
+use Rattle.vx_disk.specs.declared.shelf.ShelfError.{ShelfError}
+use Rattle.vx_disk.specs.declared.shelf.ShelfError.TheVariants.{Fault, Down}
 use Rattle.vx_model.specs.Sizes.{regions_of}
 use Rattle.vx_model.specs.declared.no.Counted.TheVariants.{Number as Numbers}
 use Rattle.vx_model.specs.declared.no.Named.TheVariants.{Number}
@@ -13,11 +16,12 @@ use Rattle.vx_config.specs.Table.{greatest}
 use Rattle.vx_config.specs.declared.config.Config.{Config}
 use Rattle.vx_volume.specs.Copies.{OnCopy}
 use Rattle.vx_volume.specs.Plexes.{active, plexes_of}
+use Rattle.vx_volume.specs.Volumes.{PlexBlamed}
 use Rattle.vx_kept.specs.Commits.{IsCommitted}
 use Rattle.vx_kept.specs.Keeping.{Acts, SameShape}
 use Rattle.vx_group.specs.Dets.{margin}
 use Rattle.vx_group.specs.GivesUp.{NoCommit}
-use Rattle.vx_group.specs.Stands.{meaning_of}
+use Rattle.vx_group.specs.Stands.{Stands, meaning_of}
 use Rattle.vx_group.specs.declared.group_core.GroupCore.{GroupCore}
 
 -- The first refusal that holds: no such volume, no such plex, too few serials.
@@ -26,6 +30,12 @@ att_refusal c v p =
     if nat_le (length c.volumes) v then Some (Unknown (Number v)) else
     (if nat_le (plexes_of c v) p then Some (Unknown (Number p)) else
     (if nat_lt (greatest - margin) c.serial then Some (Limit Numbers greatest) else None))
+
+-- there is such a plex, and a serial is left
+pub record MayAttach (c : Config) (v p : ℕ) : Type 0 where
+  pub volume : v < length c.volumes
+  pub plex : p < plexes_of c v
+  pub more : c.serial < greatest
 
 -- with a plex ACTIVE, of which the next attach has not to copy all regions
 abbrev pub attached : ℕ → ℕ → Config → Config
@@ -53,6 +63,26 @@ pub record Attaches (v p : ℕ) (c d : GroupCore) (old new : Meaning) : Type 0 w
 abbrev pub Opens : {T E : Type 0} → ℕ → ℕ → Config → Result T E → Type 0
 Opens v p d (Ok x) = IsTrue (active d v p)
 Opens v p d (Err error) = active d v p ≡ false
+
+-- A copy from one plex of the volume, if it is ACTIVE, to another one: a fault comes only where a call on a disk of one of the two failed.
+abbrev pub CopyTried : {T : Type 0} → Config → ℕ → ℕ → ℕ → ℕ → Meaning → Meaning → Result T ShelfError → Type 0
+CopyTried c v source p device old new (Ok x) = IsTrue new.down → ⊥
+CopyTried c v source p device old new (Err (Fault disk)) =
+    (((active c v source ≡ false) × (disk ≡ device)) ⊎ ((PlexBlamed c v source old new ⊎ PlexBlamed c v p old new) × Rose (old.disk_faults disk) (new.disk_faults disk))) × (IsTrue new.down → ⊥)
+CopyTried c v source p device old new (Err Down) = IsTrue new.down
+
+-- Each plex of the volume that is ACTIVE and below n was tried as the source of a copy, and the copy failed.
+pub record SourcesTried (core : GroupCore) (v p n device : ℕ) (old new : Meaning) : Type 0 where
+  pub stands : Stands core new
+  pub attaches : Attaches v p core core old new
+  pub up : IsTrue new.down → ⊥
+  pub tried : (q : ℕ) → q < n → IsTrue (active core.config v q) → (PlexBlamed core.config v q old new ⊎ PlexBlamed core.config v p old new) × Rose (old.disk_faults device) (new.disk_faults device)
+
+-- a copy fails with a fault only where a call on a disk of the plex failed, or one on a disk of each plex that is ACTIVE
+abbrev pub NoSource : {T : Type 0} → Config → ℕ → ℕ → Meaning → Meaning → Result T ShelfError → Type 0
+NoSource c v p old new (Ok x) = Unit {0}
+NoSource c v p old new (Err (Fault disk)) = (q : ℕ) → IsTrue (active c v q) → PlexBlamed c v q old new ⊎ PlexBlamed c v p old new
+NoSource c v p old new (Err Down) = Unit {0}
 
 -- the plex is ACTIVE, and each image that a crash may leave has this configuration
 pub record IsAttached (v p : ℕ) (d : Config) (m : Meaning) : Type 0 where

@@ -6,6 +6,7 @@ use Rattle.vx_config.specs.declared.config.Config.{Config}
 use Rattle.vx_layout.specs.Places.{place}
 use Rattle.vx_volume.specs.Plexes.{InRun, Inside, active}
 use Rattle.vx_kept.specs.Keeping.{Acts, SameShape, Sees}
+use Rattle.vx_group.specs.Loses.{Loses}
 use Rattle.vx_group.specs.Stands.{Stands}
 use Rattle.vx_group.specs.declared.group_core.GroupCore.{GroupCore}
 
@@ -22,9 +23,10 @@ pub record FromSource (c : Config) (v source : ℕ) (m : Meaning) (u b : ℕ) (x
   pub at : place c v plex number ≡ (u, b)
   pub value : IsTrue m.tells → m.reads (place c v source number).0 (place c v source number).1 x
 
--- no commit was made, or the count of some disk rose
-abbrev pub Spent : Config → Config → Meaning → Meaning → Type 0
-Spent c d old new = (d ≡ c) ⊎ ((disk : ℕ) × Rose (old.disk_faults disk) (new.disk_faults disk))
+-- no commit was made, or the count of some disk rose; and each plex that is not ACTIVE any more failed
+pub record Spent (c d : Config) (old new : Meaning) : Type 0 where
+  pub any : (d ≡ c) ⊎ ((disk : ℕ) × Rose (old.disk_faults disk) (new.disk_faults disk))
+  pub loses : Loses c d old new
 
 -- Blocks of the volume were written as the source read them, and plexes that failed detached; no plex is ACTIVE that was not.
 pub record CopyMoved (core : GroupCore) (v source : ℕ) (d : GroupCore) (old new : Meaning) : Type 0 where

@@ -10,7 +10,7 @@ use Rattle.vx_config.specs.Table.{greatest}
 use Rattle.vx_config.specs.declared.config.Config.{Config}
 use Rattle.vx_copyfmt.specs.Imports.{Found, settle}
 use Rattle.vx_copies.specs.Bodies.{failed_in}
-use Rattle.vx_copies.specs.Commits.{Held}
+use Rattle.vx_copies.specs.Commits.{Held, MoreFailed, Silent}
 use Rattle.vx_kept.specs.Cleans.{at_serial, cleaned, marked}
 use Rattle.vx_kept.specs.Commits.{Member}
 use Rattle.vx_kept.specs.Facts.{KeptFact}
@@ -19,6 +19,7 @@ use Rattle.vx_kept.specs.Keeping.{Acts, Sees}
 use Rattle.vx_volume.specs.Plexes.{active}
 use Rattle.vx_group.specs.Moves.{Narrows}
 use Rattle.vx_group.specs.Quiesces.{GivenBack, Quiesces, SameParts}
+use Rattle.vx_group.specs.Resumes.{CanImport}
 use Rattle.vx_group.specs.Stands.{Stands}
 use Rattle.vx_group.specs.declared.group_core.GroupCore.{GroupCore}
 
@@ -34,6 +35,7 @@ pub record CleanCommitted (c : GroupCore) (old new : Meaning) : Type 0 where
   pub count : length config.disks ≡ length c.config.disks
   pub volumes : config.volumes ≡ (cleaned c.unsure c.config (length c.config.volumes)).volumes
   pub off : (v p : ℕ) → marked c.unsure v ≡ false → active config v p ≡ false
+  pub failing : MoreFailed old new c.config.disks config.disks
   pub acts : Acts Nothing (Sees c.config (Member c.good old) old) old new
   pub kept : KeptFact (at_serial config.serial c.config) (Held config new) new
 
@@ -42,6 +44,7 @@ pub record CommitMissed (c d : GroupCore) (old new : Meaning) : Type 0 where
   pub stands : Stands d new
   pub narrows : Narrows c d old new
   pub volumes : d.config.volumes ≡ c.config.volumes
+  pub disks : d.config.disks ≡ c.config.disks
 
 -- how its commit ends, by the parts of the group
 abbrev pub CommitCloses : {T E : Type 0} → GroupCore → GroupCore → Meaning → Meaning → Result T E → Type 0
@@ -64,6 +67,7 @@ pub record Deported (c : GroupCore) (old new : Meaning) : Type 0 where
   pub parts : SameParts c.config config
   pub volumes : config.volumes ≡ (cleaned behind.unsure behind.config (length c.config.volumes)).volumes
   pub off : (v p : ℕ) → marked behind.unsure v ≡ false → active config v p ≡ false
+  pub failing : MoreFailed old new c.config.disks config.disks
   pub kept : KeptFact (at_serial config.serial behind.config) (Held config new) new
 
 -- how it ends, by the parts of the group
@@ -85,3 +89,9 @@ abbrev pub DeportStops : {S G : Type 0} → Meaning → (S → Meaning) → (G �
 DeportStops old meaning shelf (Ok s) = Unit {0}
 DeportStops old meaning shelf (Err (g, Refused why)) = DeviceCause old (meaning (shelf g)) why
 DeportStops old meaning shelf (Err (g, OutOfMemory)) = ⊥
+
+-- What was handed out may be imported, where of each configuration that a crash may leave the disks that it holds as failed say nothing by themselves;
+-- so it is where it holds none as failed.
+abbrev pub GroupCanImport : {S G : Type 0} → (S → Meaning) → Result S (G × Stop) → Type 0
+GroupCanImport meaning (Ok s) = ((i : Image) (x : Config) → Each (meaning s).leaves i → found (meaning s) i ≡ Found x → Silent x (meaning s)) → CanImport (meaning s)
+GroupCanImport meaning (Err e) = Unit {0}

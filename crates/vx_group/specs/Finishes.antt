@@ -11,6 +11,7 @@ use Rattle.vx_config.specs.declared.config.Config.{Config}
 use Rattle.vx_copyfmt.specs.Imports.{Found}
 use Rattle.vx_kept.specs.Cleans.{at_serial, marked}
 use Rattle.vx_kept.specs.Groups.{found}
+use Rattle.vx_group.specs.Loses.{Loses}
 use Rattle.vx_group.specs.Mends.{GoesOn}
 use Rattle.vx_group.specs.Quiesces.{AnyFailed}
 use Rattle.vx_group.specs.Resumes.{IsMended, source_at}
@@ -30,6 +31,7 @@ pub record CommitMade (core d : GroupCore) (old new : Meaning) : Type 0 where
   pub settled : d.unsettled ≡ false
   pub up : IsTrue new.down → ⊥
   pub same : SameOr core.config d.config old new
+  pub loses : Loses core.config d.config old new
   pub finds : (i : Image) → Each new.leaves i → found new i ≡ Found d.config
 
 -- a commit of the group as it stands; 19 comes exactly where no serial is left

@@ -12,6 +12,7 @@ use Rattle.vx_volume.specs.Plexes.{active}
 use Rattle.vx_kept.specs.Choice.{chosen}
 use Rattle.vx_kept.specs.Groups.{found, group_meaning}
 use Rattle.vx_group.specs.Finishes.{SameOr, StopsLate}
+use Rattle.vx_group.specs.Loses.{Loses}
 use Rattle.vx_group.specs.Resumes.{IsFresh, IsMended, NotTaken, TakenUp, stopped}
 use Rattle.vx_group.specs.Stands.{Stands, meaning_of}
 use Rattle.vx_group.specs.declared.group_core.GroupCore.{GroupCore}
@@ -28,6 +29,7 @@ pub record Resumed (old : Meaning) (core : GroupCore) (new : Meaning) : Type 0 w
   pub up : IsTrue new.down → ⊥
   pub fresh : IsFresh core
   pub same : SameOr opened core.config old new
+  pub loses : Loses opened core.config old new
   pub on : (v p : ℕ) → IsTrue (active core.config v p) → IsTrue (active opened v p)
   pub finds : (i : Image) → Each new.leaves i → found new i ≡ Found core.config
   pub goes : Goes Nothing (group_meaning opened (λ v. 0) old) (meaning_of core new)

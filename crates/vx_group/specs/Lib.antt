@@ -16,4 +16,5 @@ pub mod Finishes
 pub mod Imports
 pub mod GivesUp
 pub mod Attaches
-pub mod Untold
+pub mod Regains
+pub mod Loses

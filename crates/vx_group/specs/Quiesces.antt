@@ -11,6 +11,7 @@ use Rattle.vx_volume.specs.Volumes.{PlexFlushed}
 use Rattle.vx_kept.specs.Cleans.{marked}
 use Rattle.vx_kept.specs.Keeping.{Acts, SameShape, Sees}
 use Rattle.vx_group.specs.Copying.{NoMember}
+use Rattle.vx_group.specs.Loses.{Loses}
 use Rattle.vx_group.specs.Stands.{Stands}
 use Rattle.vx_group.specs.declared.group_core.GroupCore.{GroupCore}
 
@@ -32,6 +33,7 @@ pub record Quiesces (c d : GroupCore) (which : ℕ → Type 0) (old new : Meanin
   pub on : (v p : ℕ) → IsTrue (active d.config v p) → IsTrue (active c.config v p)
   pub volumes : (d.config.volumes ≡ c.config.volumes) ⊎ AnyFailed old new
   pub unsure : (d.unsure ≡ c.unsure) ⊎ AnyFailed old new
+  pub loses : Loses c.config d.config old new
   pub sure : (v : ℕ) → marked d.unsure v ≡ false → marked c.unsure v ≡ false
   pub faults : d.faults ≡ c.faults
   pub flushed : (v p : ℕ) → which v → marked d.unsure v ≡ false → IsTrue (active d.config v p) → PlexFlushed c.config v p old new

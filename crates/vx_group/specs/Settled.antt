@@ -5,7 +5,7 @@ use Rattle.vx_disk.specs.Shelf.{Meaning, Nothing}
 use Rattle.vx_copyfmt.specs.Commits.{Tidy}
 use Rattle.vx_config.specs.declared.config.Config.{Config}
 use Rattle.vx_copies.specs.Bodies.{is_wanted}
-use Rattle.vx_copies.specs.Commits.{Held}
+use Rattle.vx_copies.specs.Commits.{Held, MoreFailed}
 use Rattle.vx_copies.specs.Looking.{on_shelf}
 use Rattle.vx_kept.specs.Commits.{Member}
 use Rattle.vx_kept.specs.Keeping.{Acts, Kept, Sees}
@@ -28,3 +28,4 @@ pub record SettledTo (good : ℕ) (c d : Config) (n device : ℕ) (failed : Bool
   pub up : IsTrue new.down → ⊥
   pub rose : failed ≡ true → Rose (old.disk_faults device) (new.disk_faults device)
   pub none : failed ≡ false → d ≡ c
+  pub failing : MoreFailed old new c.disks d.disks

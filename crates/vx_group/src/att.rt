@@ -1,7 +1,9 @@
 // A plex that is attached by its name.
-ghost use Rattle.std.specs.Prelude.{◌≡◌, ◌⊎◌, ℕ, false, IfErr, IfOk, IsTrue, Some, None, Ok, Err};
+ghost use Rattle.std.specs.Prelude.{◌≡◌, ◌⊎◌, ℕ, false, IfErr, IfOk, IsTrue, OnOk, Some, None, Ok, Err};
 ghost use Rattle.vx_group.specs.Attaches.{AttachEnds, Attaches, att_refusal, copied_regions};
+ghost use Rattle.vx_group.specs.Blames.{Blames};
 ghost use Rattle.vx_group.specs.Dets.{DetStops};
+ghost use Rattle.vx_group.specs.Regains.{HoldsPlex, Regains};
 ghost use Rattle.vx_group.specs.Stands.{Stands};
 ghost use Rattle.vx_model.specs.declared.errors.Stop.TheVariants.{No as Refused};
 ghost use Rattle.vx_model.specs.declared.no.No.{No as NoValue};
@@ -9,8 +11,9 @@ ghost use Rattle.vx_volume.specs.Plexes.{active};
 
 use crate::GroupCore;
 use crate::attaching::attach;
+use crate::regaining::regain;
 use vx_config::Config;
-use vx_disk::{Shelf, refusal};
+use vx_disk::{Shelf, ShelfError, refusal};
 use vx_model::limits::{MOST_NUMBER, REGION};
 use vx_model::{Counted, Named, No, Stop};
 use vx_volume::{blocks_of, is_active, plex_count};
@@ -41,8 +44,33 @@ fn refuse(config: &Config, vol: u32, plex: u32) -> Option<No>
     None
 }
 
+// Attaches a plex that is not ACTIVE, where first the disks on which it lies are held as good.
+fn attach_held<S: Shelf>(
+    shelf: &mut S,
+    core: &mut GroupCore,
+    vol: u32,
+    plex: u32,
+) -> Result<(), ShelfError>
+    requires stands { Stands core.old (S.meaning shelf.old) }
+    requires may { att_refusal core.old.config vol plex ≡ None }
+    requires off { active core.old.config vol plex ≡ false }
+    requires up { IsTrue (S.meaning shelf.old).down → ⊥ }
+    ensures stands { Stands core.new (S.meaning shelf.new) }
+    ensures attaches { Attaches vol plex core.old core.new (S.meaning shelf.old) (S.meaning shelf.new) }
+    ensures ends { AttachEnds vol plex core.new (S.meaning shelf.new) result }
+    ensures regains { Regains core.old.config core.new.config vol plex (S.meaning shelf.old) (S.meaning shelf.new) }
+    ensures held { OnOk result (HoldsPlex core.old.config core.new.config vol plex (S.meaning shelf.old) (S.meaning shelf.new)) }
+    ensures cause { Blames (S.meaning shelf.old) (S.meaning shelf.new) result }
+{
+    match regain(shelf, core, vol, plex) {
+        Ok(()) => {}
+        Err(error) => return Err(error),
+    }
+    attach(shelf, core, vol, plex)
+}
+
 /// Attaches a plex, and answers how many regions were copied: all of the volume, and none where the plex is ACTIVE already; then nothing
-/// changes.
+/// changes. Disks of the plex that are held as failed are held as good first, by a commit of their own.
 ///
 /// Answers 1 exactly where there is no such volume or plex, else 19 exactly where fewer than 65,536 serials are left, and then nothing has
 /// changed; else 7 only where the count of the disk that it names rose, and 6 only where the shelf is then down. Then the plex is not
@@ -60,6 +88,8 @@ pub fn att_in<S: Shelf>(
     ensures count { active core.old.config vol plex ≡ false → IfOk result (λ n. n ≡ copied_regions core.old.config vol) }
     ensures attaches { Attaches vol plex core.old core.new (S.meaning shelf.old) (S.meaning shelf.new) }
     ensures ends { active core.old.config vol plex ≡ false → AttachEnds vol plex core.new (S.meaning shelf.new) result }
+    ensures regains { Regains core.old.config core.new.config vol plex (S.meaning shelf.old) (S.meaning shelf.new) }
+    ensures held { active core.old.config vol plex ≡ false → OnOk result (HoldsPlex core.old.config core.new.config vol plex (S.meaning shelf.old) (S.meaning shelf.new)) }
     ensures cause { att_refusal core.old.config vol plex ≡ None → DetStops (S.meaning shelf.old) (S.meaning shelf.new) result }
 {
     if let Some(no) = refuse(&core.config, vol, plex) {
@@ -72,7 +102,7 @@ pub fn att_in<S: Shelf>(
         return Err(Stop::No(No::Down));
     }
     let regions = blocks_of(&core.config, vol).div_ceil(REGION);
-    match attach(shelf, core, vol, plex) {
+    match attach_held(shelf, core, vol, plex) {
         Ok(()) => Ok(regions),
         Err(error) => Err(Stop::No(refusal(error))),
     }

@@ -72,6 +72,7 @@ fn detach_one<S: Shelf>(
     ensures stands { Stands core.new (S.meaning shelf.new) }
     ensures narrows { Narrows core.old core.new (S.meaning shelf.old) (S.meaning shelf.new) }
     ensures off { OnOk result (active core.new.config vol plex ≡ false) }
+    ensures others { (w p : ℕ) → (w ≡ vol → p ≡ plex → ⊥) → active core.new.config w p ≡ active core.old.config w p }
     ensures cause { Blames (S.meaning shelf.old) (S.meaning shelf.new) result }
 {
     match settle_headers(shelf, core) {
@@ -101,6 +102,7 @@ pub fn det_in<S: Shelf>(
     ensures goes { Goes Nothing (meaning_of core.old (S.meaning shelf.old)) (meaning_of core.new (S.meaning shelf.new)) }
     ensures narrows { Narrows core.old core.new (S.meaning shelf.old) (S.meaning shelf.new) }
     ensures off { OnOk result (active core.new.config vol plex ≡ false) }
+    ensures others { (w p : ℕ) → (w ≡ vol → p ≡ plex → ⊥) → active core.new.config w p ≡ active core.old.config w p }
     ensures cause { det_refusal core.old.config vol plex ≡ None → DetStops (S.meaning shelf.old) (S.meaning shelf.new) result }
 {
     if let Some(no) = refuse(&core.config, vol, plex) {

@@ -1,7 +1,8 @@
 // Plexes that failed, which are detached by a commit.
-ghost use Rattle.std.specs.Prelude.{◌≡◌, ◌<◌, ℕ, length, true, false, IfErr, IsTrue, OnOk};
+ghost use Rattle.std.specs.Prelude.{◌≡◌, ◌+◌, ◌<◌, ◌≤◌, ℕ, length, true, false, IfErr, IsTrue, OnOk};
 ghost use Rattle.vx_config.specs.Table.{greatest};
 ghost use Rattle.vx_copies.specs.Answers.{good_set};
+ghost use Rattle.vx_copies.specs.Commits.{MoreFailed};
 ghost use Rattle.vx_group.specs.GivesUp.{KeepsVolumes, NoCommit};
 ghost use Rattle.vx_group.specs.Blames.{Blames, BlamesOr, fault_of as fault_is};
 ghost use Rattle.vx_group.specs.Moves.{AreOff, Narrows};
@@ -10,7 +11,7 @@ ghost use Rattle.vx_group.specs.Stands.{Stands};
 ghost use Rattle.vx_disk.specs.Blocks.{bit_at};
 ghost use Rattle.vx_kept.specs.Commits.{IsCommitted};
 ghost use Rattle.vx_kept.specs.States.{AreOn, SomeLeft};
-ghost use Rattle.vx_volume.specs.Plexes.{active};
+ghost use Rattle.vx_volume.specs.Plexes.{active, uses};
 
 use crate::GroupCore;
 use vx_config::Disks;
@@ -61,7 +62,11 @@ pub fn detach<S: Shelf>(
     ensures off { OnOk result (AreOff core.new.config vol failed.set) }
     ensures others { (w p : ℕ) → (w ≡ vol → bit_at failed.set p ≡ true → ⊥) → active core.new.config w p ≡ active core.old.config w p }
     ensures settled { OnOk result (core.new.unsettled ≡ false) }
+    ensures lies { (w p u : ℕ) → uses core.new.config w p u ≡ uses core.old.config w p u }
     ensures parts { OnOk result (SameParts core.old.config core.new.config) }
+    ensures failing { MoreFailed (S.meaning shelf.old) (S.meaning shelf.new) core.old.config.disks core.new.config.disks }
+    ensures few { OnOk result (core.new.config.serial ≤ core.old.config.serial + 1 + length core.old.config.disks) }
+    ensures good { core.new.unsettled ≡ true → core.new.good ≡ core.old.good }
     ensures none { failed.set ≡ 0 → core.new.config.volumes ≡ core.old.config.volumes }
     ensures keeps { KeepsVolumes core.old.config core.new.config result }
     ensures missed { IfErr result (λ e. NoCommit core.new (S.meaning shelf.new)) }

@@ -5,6 +5,7 @@ ghost use Rattle.vx_disk.specs.Shelf.{Flushed, Goes, Nothing};
 ghost use Rattle.vx_group.specs.Blames.{Blames, MarksOn};
 ghost use Rattle.vx_group.specs.Copying.{Spent};
 ghost use Rattle.vx_group.specs.GivesUp.{GivesUp};
+ghost use Rattle.vx_group.specs.Loses.{Loses};
 ghost use Rattle.vx_group.specs.Moves.{AllFlushed, Narrows};
 ghost use Rattle.vx_group.specs.Stands.{Stands, meaning_of};
 ghost use Rattle.vx_volume.specs.Plexes.{active};
@@ -60,6 +61,7 @@ pub fn flush_in<S: Shelf>(shelf: &mut S, core: &mut GroupCore, vol: u32) -> Resu
     ensures goes { Goes Nothing (meaning_of core.old (S.meaning shelf.old)) (meaning_of core.new (S.meaning shelf.new)) }
     ensures ok { OnOk result (Flushed vol (meaning_of core.old (S.meaning shelf.old)) (meaning_of core.new (S.meaning shelf.new))) }
     ensures gave_up { GivesUp vol core.old core.new (S.meaning shelf.old) (S.meaning shelf.new) result }
+    ensures loses { Loses core.old.config core.new.config (S.meaning shelf.old) (S.meaning shelf.new) }
     ensures cause { Cause (meaning_of core.old (S.meaning shelf.old)) (meaning_of core.new (S.meaning shelf.new)) vol result }
     ensures marks { MarksOn vol core.old.unsure core.new.unsure result }
 {

@@ -1,11 +1,12 @@
 // A group as a shelf.
-ghost use Rattle.std.specs.Prelude.{◌≡◌, ◌<◌, ◌≤◌, ◌-◌, false, IfOk, IfSome, IsTrue, Some, None, Ok, Err, OnOk, length};
+ghost use Rattle.std.specs.Prelude.{◌≡◌, ◌<◌, ◌≤◌, ◌-◌, false, IfOk, IfSome, IsTrue, Some, None, Ok, Err, OnOk, length, ℕ};
 ghost use Rattle.vx_disk.specs.Causes.{Calls, Cause, Names, OnDisks, Works};
 ghost use Rattle.vx_disk.specs.Shelf.{DisksFlushed, DisksWrote, Fits, Flushed, Goes, Nothing, Written, Wrote};
 ghost use Rattle.vx_config.specs.Table.{greatest};
 ghost use Rattle.vx_group.specs.Attaches.{AttachEnds, Attaches, att_refusal, copied_regions};
-ghost use Rattle.vx_group.specs.Deports.{DeportStops, GroupDeported, IsFull};
+ghost use Rattle.vx_group.specs.Deports.{DeportStops, GroupCanImport, GroupDeported, IsFull};
 ghost use Rattle.vx_group.specs.Dets.{DetStops, det_refusal, margin};
+ghost use Rattle.vx_group.specs.Loses.{Loses};
 ghost use Rattle.vx_group.specs.Makes.{MakeEnds, StayAsWere, Unmoved, make_refusal};
 ghost use Rattle.vx_group.specs.Moves.{Narrows};
 ghost use Rattle.vx_model.specs.declared.no.No.{No as NoValue};
@@ -18,6 +19,7 @@ ghost use Rattle.vx_group.specs.Creates.{GroupCreated};
 ghost use Rattle.vx_group.specs.GivesUp.{GivesUp};
 ghost use Rattle.vx_group.specs.Imports.{GroupImported};
 ghost use Rattle.vx_group.specs.Laws.{group_lawful};
+ghost use Rattle.vx_group.specs.Regains.{HoldsPlex, Regains};
 ghost use Rattle.vx_group.specs.Resumes.{CanImport};
 ghost use Rattle.vx_group.specs.Stands.{Stands, meaning_of};
 
@@ -116,13 +118,15 @@ impl<S: Shelf> Group<S> {
         ensures goes { Goes Nothing (meaning_of self.old.core (S.meaning self.old.shelf)) (meaning_of self.new.core (S.meaning self.new.shelf)) }
         ensures narrows { Narrows self.old.core self.new.core (S.meaning self.old.shelf) (S.meaning self.new.shelf) }
         ensures off { OnOk result (active self.new.core.config vol plex ≡ false) }
+        ensures others { (w p : ℕ) → (w ≡ vol → p ≡ plex → ⊥) → active self.new.core.config w p ≡ active self.old.core.config w p }
         ensures cause { det_refusal self.old.core.config vol plex ≡ None → DetStops (S.meaning self.old.shelf) (S.meaning self.new.shelf) result }
     {
         det_in(&mut self.shelf, &mut self.core, vol, plex)
     }
 
     /// Attaches a plex, and answers how many regions were copied: all of the volume, and none where the plex is ACTIVE already; then nothing
-    /// changes. Each volume reads as before, at every moment and in every image.
+    /// changes. Each volume reads as before, at every moment and in every image. Disks of the plex that are held as failed are held as good
+    /// first, by a commit of their own.
     ///
     /// Answers 1 exactly where there is no such volume or plex, else 19 exactly where fewer than 65,536 serials are left, and then nothing
     /// has changed; else 7 only where the count of the disk that it names rose, and 6 only where the shelf is then down. Then the plex is
@@ -134,6 +138,8 @@ impl<S: Shelf> Group<S> {
         ensures count { active self.old.core.config vol plex ≡ false → IfOk result (λ n. n ≡ copied_regions self.old.core.config vol) }
         ensures attaches { Attaches vol plex self.old.core self.new.core (S.meaning self.old.shelf) (S.meaning self.new.shelf) }
         ensures ends { active self.old.core.config vol plex ≡ false → AttachEnds vol plex self.new.core (S.meaning self.new.shelf) result }
+        ensures regains { Regains self.old.core.config self.new.core.config vol plex (S.meaning self.old.shelf) (S.meaning self.new.shelf) }
+        ensures held { active self.old.core.config vol plex ≡ false → OnOk result (HoldsPlex self.old.core.config self.new.core.config vol plex (S.meaning self.old.shelf) (S.meaning self.new.shelf)) }
         ensures cause { att_refusal self.old.core.config vol plex ≡ None → DetStops (S.meaning self.old.shelf) (S.meaning self.new.shelf) result }
     {
         att_in(&mut self.shelf, &mut self.core, vol, plex)
@@ -150,6 +156,7 @@ impl<S: Shelf> Group<S> {
     pub fn deport(self) -> Result<S, (Group<S>, Stop)>
         ensures limit { greatest - margin < self.core.config.serial → IsFull self.core self.shelf (λ g. g.core) (λ g. g.shelf) result }
         ensures ends { GroupDeported self.core (S.meaning self.shelf) (λ s. S.meaning s) (λ g. g.core) (λ g. g.shelf) result }
+        ensures can { GroupCanImport (λ s. S.meaning s) result }
         ensures cause { self.core.config.serial ≤ greatest - margin → DeportStops (S.meaning self.shelf) (λ s. S.meaning s) (λ g. g.shelf) result }
     {
         let mut shelf = self.shelf;
@@ -205,6 +212,7 @@ impl<S: Shelf> Shelf for Group<S> {
         ensures works { OnOk result (Works (meaning_of self.old.core (S.meaning self.old.shelf)).disks unit) }
         ensures disks { OnDisks (meaning_of self.old.core (S.meaning self.old.shelf)).disks (meaning_of self.new.core (S.meaning self.new.shelf)).disks (λ o n. Calls (meaning_of self.old.core (S.meaning self.old.shelf)) (DisksWrote unit block bytes.now) o n result) }
         ensures gave_up { GivesUp unit self.old.core self.new.core (S.meaning self.old.shelf) (S.meaning self.new.shelf) result }
+        ensures loses { Loses self.old.core.config self.new.core.config (S.meaning self.old.shelf) (S.meaning self.new.shelf) }
     {
         write_in(&mut self.shelf, &mut self.core, unit, block, bytes)
     }
@@ -219,6 +227,7 @@ impl<S: Shelf> Shelf for Group<S> {
         ensures works { OnOk result (Works (meaning_of self.old.core (S.meaning self.old.shelf)).disks unit) }
         ensures disks { OnDisks (meaning_of self.old.core (S.meaning self.old.shelf)).disks (meaning_of self.new.core (S.meaning self.new.shelf)).disks (λ o n. Calls (meaning_of self.old.core (S.meaning self.old.shelf)) (DisksFlushed unit) o n result) }
         ensures gave_up { GivesUp unit self.old.core self.new.core (S.meaning self.old.shelf) (S.meaning self.new.shelf) result }
+        ensures loses { Loses self.old.core.config self.new.core.config (S.meaning self.old.shelf) (S.meaning self.new.shelf) }
     {
         flush_in(&mut self.shelf, &mut self.core, unit)
     }

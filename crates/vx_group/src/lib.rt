@@ -23,6 +23,7 @@ mod mending;
 mod planning;
 mod quiescing;
 mod reading;
+mod regaining;
 mod settling;
 mod shaping;
 mod taking;
@@ -31,14 +32,3 @@ mod zeroing;
 
 pub use group::Group;
 pub use group_core::GroupCore;
-
-#[cfg(test)]
-mod attach_tests;
-#[cfg(test)]
-mod import_tests;
-#[cfg(test)]
-mod tests;
-#[cfg(test)]
-mod untold;
-#[cfg(test)]
-mod volume_tests;

@@ -1,7 +1,8 @@
-// Disks that are held as failed.
+// Disks that are held as failed, or as good.
 ghost use Rattle.std.specs.Prelude.{◌≡◌, ◌<◌, ◌≤◌, ℕ, length, true, IsTrue, IsFalse};
 ghost use Rattle.vx_copies.specs.Bodies.{is_wanted};
 ghost use Rattle.vx_copies.specs.Marks.{HasGood, NoneGood, marked};
+ghost use Rattle.vx_group.specs.Regains.{regained};
 
 use vx_config::{Config, DiskEntry, Disks};
 use vx_copyio::is_member;
@@ -18,6 +19,21 @@ pub fn hold_failed(config: &mut Config, disk: u32)
         DiskEntry {
             blocks,
             failed: true,
+        },
+    );
+}
+
+/// Holds a disk as good.
+pub fn hold_good(config: &mut Config, disk: u32)
+    requires inside { disk < length config.old.disks }
+    ensures { config.new ≡ regained config.old disk }
+{
+    let blocks = config.disks.as_slice()[disk as usize].blocks;
+    config.disks.set(
+        disk as usize,
+        DiskEntry {
+            blocks,
+            failed: false,
         },
     );
 }

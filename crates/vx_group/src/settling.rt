@@ -1,5 +1,6 @@
 // The headers of the good disks, which are written back before the commit behind a refused one.
-ghost use Rattle.std.specs.Prelude.{◌≡◌, ◌⊎◌, ◌<◌, true, false, IfErr, IsTrue, OnOk};
+ghost use Rattle.std.specs.Prelude.{◌≡◌, ◌⊎◌, ◌+◌, ◌<◌, ◌≤◌, length, true, false, IfErr, IsTrue, OnOk};
+ghost use Rattle.vx_copies.specs.Commits.{MoreFailed};
 ghost use Rattle.vx_group.specs.Blames.{Blames};
 ghost use Rattle.vx_group.specs.GivesUp.{NoCommit};
 ghost use Rattle.vx_group.specs.Moves.{Narrows};
@@ -29,6 +30,7 @@ pub fn settle_headers<S: Shelf>(shelf: &mut S, core: &mut GroupCore) -> Result<(
     ensures settled { OnOk result (core.new.unsettled ≡ false) }
     ensures missed { IfErr result (λ e. core.new.unsettled ≡ true) }
     ensures still { OnOk result ((core.new.config ≡ core.old.config) ⊎ AnyFailed (S.meaning shelf.old) (S.meaning shelf.new)) }
+    ensures failing { MoreFailed (S.meaning shelf.old) (S.meaning shelf.new) core.old.config.disks core.new.config.disks }
     ensures cause { Blames (S.meaning shelf.old) (S.meaning shelf.new) result }
 {
     if !core.unsettled {
@@ -69,6 +71,9 @@ pub fn make_ready<S: Shelf>(shelf: &mut S, core: &mut GroupCore) -> Result<(), S
     ensures stands { Stands core.new (S.meaning shelf.new) }
     ensures narrows { Narrows core.old core.new (S.meaning shelf.old) (S.meaning shelf.new) }
     ensures volumes { core.new.config.volumes ≡ core.old.config.volumes }
+    ensures failing { MoreFailed (S.meaning shelf.old) (S.meaning shelf.new) core.old.config.disks core.new.config.disks }
+    ensures few { OnOk result (core.new.config.serial ≤ core.old.config.serial + 1 + length core.old.config.disks) }
+    ensures good { core.new.unsettled ≡ true → core.new.good ≡ core.old.good }
     ensures missed { IfErr result (λ e. NoCommit core.new (S.meaning shelf.new)) }
     ensures cause { Blames (S.meaning shelf.old) (S.meaning shelf.new) result }
 {

@@ -1,9 +1,10 @@
 // A write of a volume.
-ghost use Rattle.std.specs.Prelude.{◌≡◌, length, IsTrue, OnOk};
+ghost use Rattle.std.specs.Prelude.{◌≡◌, ◌≤◌, ℕ, length, IsTrue, OnOk};
 ghost use Rattle.vx_disk.specs.Causes.{Cause};
 ghost use Rattle.vx_disk.specs.Shelf.{Fits, Goes, Written, Wrote};
 ghost use Rattle.vx_group.specs.Blames.{Blames, MarksOn};
 ghost use Rattle.vx_group.specs.GivesUp.{GivesUp};
+ghost use Rattle.vx_group.specs.Loses.{Loses};
 ghost use Rattle.vx_group.specs.Moves.{AllWrote};
 ghost use Rattle.vx_group.specs.Stands.{Stands, meaning_of};
 
@@ -31,7 +32,9 @@ fn write_plexes<S: Shelf>(
     ensures all { OnOk result (AllWrote core.new.config vol block bytes.now (S.meaning shelf.old) (S.meaning shelf.new)) }
     ensures faults { core.new.faults ≡ core.old.faults }
     ensures unsure { core.new.unsure ≡ core.old.unsure }
+    ensures unit_faults { (u : ℕ) → (S.meaning shelf.old).faults u ≤ (S.meaning shelf.new).faults u }
     ensures gave_up { GivesUp vol core.old core.new (S.meaning shelf.old) (S.meaning shelf.new) result }
+    ensures loses { Loses core.old.config core.new.config (S.meaning shelf.old) (S.meaning shelf.new) }
     ensures cause { Blames (S.meaning shelf.old) (S.meaning shelf.new) result }
 {
     match write_all(&core.config, vol, shelf, block, bytes) {
@@ -62,6 +65,7 @@ pub fn write_in<S: Shelf>(
     ensures goes { Goes (Written vol block bytes.now) (meaning_of core.old (S.meaning shelf.old)) (meaning_of core.new (S.meaning shelf.new)) }
     ensures ok { OnOk result (Wrote vol block bytes.now (meaning_of core.old (S.meaning shelf.old)) (meaning_of core.new (S.meaning shelf.new))) }
     ensures gave_up { GivesUp vol core.old core.new (S.meaning shelf.old) (S.meaning shelf.new) result }
+    ensures loses { Loses core.old.config core.new.config (S.meaning shelf.old) (S.meaning shelf.new) }
     ensures cause { Cause (meaning_of core.old (S.meaning shelf.old)) (meaning_of core.new (S.meaning shelf.new)) vol result }
     ensures marks { MarksOn vol core.old.unsure core.new.unsure result }
 {

@@ -267,6 +267,7 @@ module _ (good : ℕ) (c a d : Config) (old new : Meaning) (lawful : Lawful old)
       let count : length d.disks ≡ new.units = wanted_count new.units new.size d wanted in
       record {
         later = done.later;
+        few = done.few;
         finds = λ i each.
             let g = done.left in
             done.found (below_a c a d old new lawful lawful' base tidy follows begins fit) base.labels i (λ u. true) g.disk each (record { below = (let less = g.below in omega (arith, less, count)); good = g.held }) refl

@@ -6,7 +6,7 @@ use Rattle.vx_model.specs.declared.no.No.{No}
 use Rattle.vx_config.specs.declared.config.Config.{Config}
 use Rattle.vx_copyfmt.specs.Imports.{Found}
 use Rattle.vx_copies.specs.Answers.{good_set}
-use Rattle.vx_copies.specs.Commits.{CommitStops, Grown}
+use Rattle.vx_copies.specs.Commits.{CommitStops, Grown, IsFew}
 use Rattle.vx_copies.specs.Marks.{HasGood}
 use Rattle.vx_kept.specs.Groups.{found}
 use Rattle.vx_kept.specs.Keeping.{AllOn, Extends, IsTidy, Kept}
@@ -20,9 +20,11 @@ pub record Member (good : ℕ) (m : Meaning) (u : ℕ) : Type 0 where
 pub record IsCommitted (c : Config) (m : Meaning) : Type 0 where
   pub finds : (i : Image) → Each m.leaves i → found m i ≡ Found c
 
--- memory has d, which the disks keep and are ready for, and each image has, where all disks can be read; the set is now that of its good disks
+-- memory has d, which the disks keep and are ready for, and each image has, where all disks can be read; the set is now that of its good disks;
+-- each serial but one cost a good disk
 pub record Taken (c a d : Config) (old new : Meaning) : Type 0 where
   pub later : a.serial < d.serial
+  pub few : IsFew 1 a d
   pub finds : (i : Image) → Each new.leaves i → found new i ≡ Found d
   pub kept : Kept d (Member (good_set d.disks) new) new
   pub tidy : IsTidy d new

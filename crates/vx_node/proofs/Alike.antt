@@ -11,6 +11,7 @@ use Rattle.vx_model.specs.declared.site.SiteState.TheVariants.{Bare, Up, Deporte
 use Rattle.vx_disk.specs.declared.shelf.Shelf.{Ghosts}
 use Rattle.vx_report.specs.declared.view.RvgView.{RvgView}
 use Rattle.vx_report.specs.declared.view.SiteView.{SiteView}
+use Rattle.vx_events.specs.Doubts.{sure}
 use Rattle.vx_events.specs.Facts.{site_fact, facts_of, values_from}
 use Rattle.vx_events.specs.Views.{name_of, group_view, group_shown, view_of}
 use Rattle.vx_node.specs.declared.yard.Yard.{Yard}
@@ -92,5 +93,5 @@ module _ {R : Type 0} {g : Ghosts R} where
     room = agrees.room;
   }
 
-  pub stands_empty : {y : Yard R g} → YardAgrees empty_world y → YardStands empty_world y
-  stands_empty agrees = record { agrees = agrees; unlinked = record { none = λ p s. refl }; primaries = λ _. record { each = λ i. refl }; failing = λ s e below there. absurd (omega (arith, below)); fuses = λ s e below there. absurd (omega (arith, below)) }
+  pub stands_empty : {y : Yard R g} → YardAgrees empty_world y → YardStands (sure empty_world) y
+  stands_empty agrees = record { agrees = agrees; calm = refl; unlinked = record { none = λ p s. refl }; primaries = λ _. record { each = λ i. refl }; failing = λ s e below there. absurd (omega (arith, below)); fuses = λ s e below there. absurd (omega (arith, below)) }

@@ -25,10 +25,12 @@ use Rattle.vx_events.specs.Fails.{Fails}
 use Rattle.vx_events.specs.Lines.{IsCutBelow}
 use Rattle.vx_events.specs.Lists.{Choice, events_of}
 use Rattle.vx_events.specs.Plain.{IsUnlinked, ArePrimaries}
+use Rattle.vx_events.specs.Stamps.{most_stamp, most_stamp_at}
 use Rattle.vx_events.specs.declared.said.Said.{Said}
 use Rattle.vx_events.specs.declared.said.Said.TheVariants.{DoneAt, Refused}
 use Rattle.vx_events.proofs.Blocks.{shown_are}
-use Rattle.vx_events.proofs.Keeping.{run_unlinked, run_primaries, node_primary, same_links, crash_nodes_are, crash_sites, read_stays}
+use Rattle.vx_events.proofs.Calm.{left_sure}
+use Rattle.vx_events.proofs.Keeping.{run_unlinked, run_primaries, node_primary, same_links, crash_nodes_are, crash_packets, crash_sites, read_stays}
 use Rattle.vx_events.proofs.Passing.{IsCall}
 use Rattle.vx_events.proofs.Steps.{fault_step, read_step, CanPut, write_step, half_step, apply_step}
 use Rattle.vx_node.specs.Works.{Puts, IsPut, NoNumber as NoNumberLeft, PutFails, PutCut, Applies, IsApplied, ApplyFails, ApplyCut, Gets}
@@ -61,6 +63,10 @@ module _ (told : Type 0) (w : World) (line : ScriptLine) (s : ℕ) (x : WriteOf)
   abbrev done_world : World
   done_world = (counted w e done_outcome).world
 
+  -- no number is left, whatever headers took
+  full : MOST_NUMBER ≤ most_stamp (w.nodes s) → MOST_NUMBER ≤ most_stamp_at w s
+  full least = omega (arith, least)
+
   pub put_happens : (fails : Fails) (said : Said) (next : World) → Puts told w s x fails said next → Happens told w line s fails said next
   put_happens fails said next (IsPut below exact done) =
       let can : CanPut w s x = put below in
@@ -72,14 +78,16 @@ module _ (told : Type 0) (w : World) (line : ScriptLine) (s : ℕ) (x : WriteOf)
         nodes = λ i. worked_over done_world w.nodes s (logged (w.nodes s) x) (λ k. refl) (burnt_logged write_calls (w.nodes s).fuse) i ∙ ap (λ (v : World). v.nodes i) (sym done.leads);
         unlinked = worked_unlinked done_world s (subst (λ (o : Outcome). IsUnlinked o.world) at (run_unlinked w (e ∷ []) (tt, tt) can.unlinked));
         primaries = λ told. worked_primaries done_world s (subst (λ (o : Outcome). ArePrimaries o.world) at (run_primaries w (e ∷ []) (tt, tt) (all told)));
+        packets = refl;
       }
   put_happens fails said next (NoNumberLeft most done) = record {
     new = worked_on w s;
-    ends = NoNumber (choice 0) [] e [] (list (choice 0)) tt most done.none done.says (sym (lit w));
+    ends = NoNumber (choice 0) false [] e [] (list (choice 0)) tt (λ told. full (most told)) done.none done.says (left_sure s line w [] (worked_on w s) (sym (lit w)));
     sites = ap (λ (v : World). v.sites) (sym done.leads);
     nodes = λ i. ap (λ (v : World). v.nodes i) (sym done.leads);
     unlinked = worked_unlinked w s none;
     primaries = λ told. worked_primaries w s (all told);
+    packets = refl;
   }
   put_happens fails said next (PutFails disk below f) =
       let can : CanPut w s x = put below in
@@ -89,12 +97,14 @@ module _ (told : Type 0) (w : World) (line : ScriptLine) (s : ℕ) (x : WriteOf)
       let at : step w fe ≡ counted w fe o = ap (λ (p : Outcome). counted w fe p) (half_step w s x disk can) in
       record {
         new = worked_on v s;
-        ends = DiskFails (choice 0) [] e [] (fe ∷ []) disk (list (choice 0)) refl f.one f.says (sym (lit v) ∙ ap (λ (o : Outcome). noted s line o.world) (sym at));
+        ends = DiskFails (choice 0) false [] e [] (fe ∷ []) disk (list (choice 0)) refl f.one f.says
+            (left_sure s line w (fe ∷ []) (worked_on v s) (sym (lit v) ∙ ap (λ (o : Outcome). noted s line o.world) (sym at)));
         sites = ap (λ (v : World). v.sites) (sym f.leads);
         nodes = λ i. worked_over v w.nodes s (record (w.nodes s) { log = (w.nodes s).log ++ x ∷ []; halted = Some disk; fuse = burned (w.nodes s).fuse }) (λ k. refl) (burnt (w.nodes s).fuse) i
             ∙ ap (λ (u : World). u.nodes i) (sym f.leads);
         unlinked = worked_unlinked v s (subst (λ (o : Outcome). IsUnlinked o.world) at (run_unlinked w (fe ∷ []) (tt, tt) can.unlinked));
         primaries = λ told. worked_primaries v s (subst (λ (o : Outcome). ArePrimaries o.world) at (run_primaries w (fe ∷ []) (tt, tt) (all told)));
+        packets = refl;
       }
   put_happens fails said next (PutCut count below fused least most exact done) =
       let can : CanPut w s x = put below in
@@ -113,11 +123,13 @@ module _ (told : Type 0) (w : World) (line : ScriptLine) (s : ℕ) (x : WriteOf)
       λ i. crash_nodes_are v s count i ∙ over v.nodes w.nodes s m (λ k. crashed k count) (λ k. refl) i in
       record {
         new = worked_on (after_crash v s count) s;
-        ends = FuseRunsOut (choice count) e (half ∷ []) (list (choice count)) refl fused done.none done.says (sym (lit (after_crash v s count)) ∙ ap (λ (u : World). noted s line u) (sym ran));
+        ends = FuseRunsOut (choice count) e (half ∷ []) (list (choice count)) (inl refl) fused done.none done.says
+            (left_sure s line w (half ∷ CrashAt s count ∷ []) (worked_on (after_crash v s count) s) (sym (lit (after_crash v s count)) ∙ ap (λ (u : World). noted s line u) (sym ran)));
         sites = crash_sites v s count ∙ ap (λ (v : World). v.sites) (sym done.leads);
         nodes = λ i. worked_over (after_crash v s count) w.nodes s (crashed (half_begun n x) count) left refl i ∙ ap (λ (u : World). u.nodes i) (sym done.leads);
         unlinked = worked_unlinked (after_crash v s count) s (subst IsUnlinked ran (run_unlinked w (half ∷ CrashAt s count ∷ []) (tt, (tt, tt)) can.unlinked));
         primaries = λ told. worked_primaries (after_crash v s count) s (subst ArePrimaries ran (run_primaries w (half ∷ CrashAt s count ∷ []) (tt, (tt, tt)) (all told)));
+        packets = crash_packets v s count;
       }
 
   -- how many calls it makes
@@ -162,6 +174,7 @@ read_happens told w line s volume start count fails said next none all list stil
       nodes = λ i. ap (λ (v : World). v.nodes i) (stays ∙ sym g.cleanly.leads);
       unlinked = run_unlinked w (e ∷ []) (tt, tt) none;
       primaries = λ told. run_primaries w (e ∷ []) (tt, tt) (all told);
+      packets = ap (λ (v : World). v.packets) stays;
     }
 
 -- ---- applies
@@ -186,16 +199,19 @@ apply_by told w name to fails said next none all below up runs number least most
       nodes = λ i. ap (λ (v : World). v.nodes i) (sym leads);
       unlinked = worked_unlinked v s (record { none = none.none });
       primaries = λ told. worked_primaries v s (record { each = (all told).each });
+      packets = refl;
     }
 apply_by told w name to fails said next none all below up runs number least most is_none is leads (inr other) =
     let s : ℕ = site_number w name in
     record {
       new = worked_on w s;
-      ends = AppliesFound (λ told. let no : true ≡ false = ap (λ (r : Role). is_origin r) (sym ((all told).each s)) ∙ other in absurd (cc)) name to number refl other least most is_none is refl;
+      ends = AppliesFound (λ told. let no : true ≡ false = ap (λ (r : Role). is_origin r) (sym ((all told).each s)) ∙ other in absurd (cc)) name to number refl other least most is_none is
+          (left_sure s (Apply name to) w [] (worked_on w s) refl);
       sites = ap (λ (v : World). v.sites) (sym leads);
       nodes = λ i. ap (λ (v : World). v.nodes i) (sym leads);
       unlinked = worked_unlinked w s none;
       primaries = λ told. worked_primaries w s (all told);
+      packets = refl;
     }
 
 pub apply_happens : (told : Type 0) (w : World) (name : List ℕ) (to : ℕ) (fails : Fails) (said : Said) (next : World) → IsUnlinked w → (told → ArePrimaries w) → site_number w name < w.sites
@@ -211,11 +227,13 @@ apply_happens told w name to fails said next none all below up runs (ApplyFails 
     let at : step w (Fault s disk) ≡ counted w (Fault s disk) o = ap (λ (p : Outcome). counted w (Fault s disk) p) (fault_step w s disk below up) in
     record {
       new = worked_on v s;
-      ends = DiskFails c [] (ApplyAt s to 0) [] (Fault s disk ∷ []) disk refl refl f.one f.says (ap (λ (o : Outcome). worked_on o.world s) (sym at));
+      ends = DiskFails c false [] (ApplyAt s to 0) [] (Fault s disk ∷ []) disk refl refl f.one f.says
+          (left_sure s (Apply name to) w (Fault s disk ∷ []) (worked_on v s) (ap (λ (o : Outcome). worked_on o.world s) (sym at)));
       sites = ap (λ (v : World). v.sites) (sym f.leads);
       nodes = λ i. worked_over v w.nodes s (record n { halted = Some disk; fuse = burned n.fuse }) (λ k. refl) (burnt n.fuse) i ∙ ap (λ (v : World). v.nodes i) (sym f.leads);
       unlinked = worked_unlinked v s (same_links w v (λ p q. refl) none);
       primaries = λ told. worked_primaries v s (subst (λ (o : Outcome). ArePrimaries o.world) at (run_primaries w (Fault s disk ∷ []) (tt, tt) (all told)));
+      packets = refl;
     }
 apply_happens told w name to fails said next none all below up runs (ApplyCut mid fused crash done) =
     let s : ℕ = site_number w name in
@@ -224,9 +242,11 @@ apply_happens told w name to fails said next none all below up runs (ApplyCut mi
     let at : step w (CrashAt s k) ≡ says_done (after_crash w s k) = crash_is w s k below up crash.least crash.most in
     record {
       new = worked_on (after_crash w s k) s;
-      ends = FuseRunsOut c (ApplyAt s to 0) [] refl refl fused done.none done.says (ap (λ (o : Outcome). worked_on o.world s) (sym at));
+      ends = FuseRunsOut c (ApplyAt s to 0) [] refl refl fused done.none done.says
+          (left_sure s (Apply name to) w (CrashAt s k ∷ []) (worked_on (after_crash w s k) s) (ap (λ (o : Outcome). worked_on o.world s) (sym at)));
       sites = crash_sites w s k ∙ ap (λ (v : World). v.sites) (sym (done.leads ∙ crash.leads));
       nodes = λ i. worked_over (after_crash w s k) w.nodes s (crashed (w.nodes s) k) (crash_nodes_are w s k) refl i ∙ ap (λ (v : World). v.nodes i) (sym (done.leads ∙ crash.leads));
       unlinked = worked_unlinked (after_crash w s k) s (subst (λ (o : Outcome). IsUnlinked o.world) at (run_unlinked w (CrashAt s k ∷ []) (tt, tt) none));
       primaries = λ told. worked_primaries (after_crash w s k) s (subst (λ (o : Outcome). ArePrimaries o.world) at (run_primaries w (CrashAt s k ∷ []) (tt, tt) (all told)));
+      packets = crash_packets w s k;
     }

@@ -26,12 +26,14 @@ use Rattle.vx_node.specs.Works.{Crashes, Applies, IsApplied, ApplyFails, ApplyCu
 use Rattle.vx_node.specs.Working.{Worked, IsFree}
 use Rattle.vx_node.specs.Writes.{noted_facts}
 use Rattle.vx_node.specs.Yards.{YardAgrees, in_files, count_of}
+use Rattle.vx_diskset.proofs.BesideLemmas.{fell_alone}
 use Rattle.vx_node.proofs.ChangeSite.{facts-updated, rose_none, rose_one, counts_later, counts_rose, disk_sets_set}
 use Rattle.vx_node.proofs.Lists.{set_twice, set_same}
 use Rattle.vx_events.proofs.Refused.{crash_may, apply_may}
 use Rattle.vx_events.proofs.Places.{some_same}
 use Rattle.vx_node.proofs.Seats.{Seated, seated, named_fact}
 use Rattle.vx_node.proofs.SiteLine.{stands_new}
+use Rattle.vx_diskset.specs.Holds.{alone}
 use Rattle.vx_events.proofs.Values.{slice_get-values_from}
 
 -- what the tests found of the site lets its log be applied
@@ -93,12 +95,12 @@ module _ {R : Type 0} {g : Ghosts R} where
   -- ---- a site that goes down
 
   pub fell : (w : World) (old new : Yard R g) (s : ℕ) (f f' : SiteFacts) (before after : DiskSet R g) → YardAgrees w old → s < w.sites → (w.nodes s).state ≡ IsUp
-      → slice_get old.facts.items s ≡ Some f → slice_get old.disk_sets.items s ≡ Some before → Later before after → ((n : Node) → StandsAlone n before → n.state ≡ IsUp → CrashedAt [] n after)
+      → slice_get old.facts.items s ≡ Some f → slice_get old.disk_sets.items s ≡ Some before → Later before after → ((n : Node) → StandsAlone n before → n.state ≡ IsUp → CrashedAt alone n after)
       → f' ≡ down_facts f → new.facts.items ≡ slice_set old.facts.items s f' → new.disk_sets.items ≡ slice_set (slice_set old.disk_sets.items s Gone) s after → new.racks ≡ old.racks
       → Fell w s old new
   fell w old new s f f' before after stands below up at there later crash is facts twice racks =
       let disk_sets : new.disk_sets.items ≡ slice_set old.disk_sets.items s after = twice ∙ set_twice old.disk_sets.items s Gone after in
-      let has = crash (w.nodes s) (stands.disk_sets.sites s before below there) up in
+      let has = fell_alone (w.nodes s) after (crash (w.nodes s) (stands.disk_sets.sites s before below there) up) in
       let fact : f' ≡ site_fact (crashed (w.nodes s) has.count) = is ∙ ap down_facts (some_same (sym at ∙ fact_there w old s stands below)) in
       record {
         world = crash_left w s has.count;
@@ -136,7 +138,7 @@ module _ {R : Type 0} {g : Ghosts R} where
       record { seat = here; can = can_apply (w.nodes s) may.site.facts (named_fact w y name s here seat may.site) may.up may.running }
 
   pub apply_done : (w : World) (old new : Yard R g) (name : List ℕ) (to s number : ℕ) (before after : DiskSet R g) → YardAgrees w old → IsFree old (Apply name to) → seat_of old.facts.items name ≡ Some s
-      → slice_get old.disk_sets.items s ≡ Some before → Later before after → ((n : Node) → StandsAlone n before → CanApply n → AppliedAt [] n to before after (Ok number))
+      → slice_get old.disk_sets.items s ≡ Some before → Later before after → ((n : Node) → StandsAlone n before → CanApply n → AppliedAt alone n to before after (Ok number))
       → new.facts ≡ old.facts → new.disk_sets.items ≡ slice_set old.disk_sets.items s after → new.racks ≡ old.racks → Worked w (Apply name to) (DoneAt number) old new
   apply_done w old new name to s number before after stands free seat there later apply facts disk_sets racks =
       let here = apply_at w old name to s stands free seat in
@@ -151,7 +153,7 @@ module _ {R : Type 0} {g : Ghosts R} where
       }
 
   apply_by : (w : World) (old new : Yard R g) (s to : ℕ) (why : No) (f f' : SiteFacts) (before after : DiskSet R g) (name : List ℕ) → YardAgrees w old → Seated w old name s → slice_get old.facts.items s ≡ Some f
-      → slice_get old.disk_sets.items s ≡ Some before → Later before after → AppliedAt [] (w.nodes s) to before after (Err why)
+      → slice_get old.disk_sets.items s ≡ Some before → Later before after → AppliedAt alone (w.nodes s) to before after (Err why)
       → f' ≡ noted_facts why f → new.facts.items ≡ slice_set old.facts.items s f' → new.disk_sets.items ≡ slice_set old.disk_sets.items s after → new.racks ≡ old.racks → Worked w (Apply name to) (Refused why) old new
   apply_by w old new s to (Device disk) f f' before after name stands seat at there later applied is facts disk_sets racks = record {
     world = stopped_by w s disk;
@@ -164,7 +166,7 @@ module _ {R : Type 0} {g : Ghosts R} where
         (counts_rose old.disk_sets.items s disk before after there applied.1));
   }
   apply_by w old new s to Off f f' before after name stands seat at there later applied is facts disk_sets racks =
-      let has = applied.1 in
+      let has = fell_alone (w.nodes s) after applied.1 in
       record {
         world = crash_left w s has.count;
         fails = [];
@@ -178,7 +180,7 @@ module _ {R : Type 0} {g : Ghosts R} where
 
   pub apply_failed : (w : World) (old new : Yard R g) (name : List ℕ) (to s : ℕ) (why : No) (said : Said) (f f' : SiteFacts) (before after : DiskSet R g) → YardAgrees w old → IsFree old (Apply name to)
       → seat_of old.facts.items name ≡ Some s → slice_get old.facts.items s ≡ Some f → slice_get old.disk_sets.items s ≡ Some before → Later before after
-      → ((n : Node) → StandsAlone n before → CanApply n → AppliedAt [] n to before after (Err why)) → f' ≡ noted_facts why f → said ≡ Refused why
+      → ((n : Node) → StandsAlone n before → CanApply n → AppliedAt alone n to before after (Err why)) → f' ≡ noted_facts why f → said ≡ Refused why
       → new.facts.items ≡ slice_set old.facts.items s f' → new.disk_sets.items ≡ slice_set old.disk_sets.items s after → new.racks ≡ old.racks → Worked w (Apply name to) said old new
   apply_failed w old new name to s why said f f' before after stands free seat at there later apply is says facts disk_sets racks =
       let here = apply_at w old name to s stands free seat in

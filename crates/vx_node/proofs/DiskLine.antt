@@ -18,6 +18,7 @@ use Rattle.vx_node.specs.Yards.{YardAgrees}
 use Rattle.vx_node.proofs.CrashLine.{stands_same, rose_still}
 use Rattle.vx_node.proofs.FailsStay.{failing_fact}
 use Rattle.vx_diskset.proofs.FailGroup.{stands_failing}
+use Rattle.vx_diskset.specs.Holds.{alone}
 use Rattle.vx_node.proofs.Seats.{seated}
 
 module _ {R : Type 0} {g : Ghosts R} where
@@ -35,7 +36,7 @@ module _ {R : Type 0} {g : Ghosts R} where
         fails = [];
         works = subst (λ (k : ℕ). Cleanly [] Done Done (made_fail w s disk on) (made_fail w k disk on)) (sym seat.number) (record { none = refl; says = refl; leads = refl });
         stands = stands_same w (made_fail w s disk on) old new s n after stands seat.below refl (λ k. refl)
-            (stands_failing [] (w.nodes s) failing after (still (w.nodes s) (stands.disk_sets.sites s before seat.below at)))
+            (stands_failing alone (w.nodes s) failing after (still (w.nodes s) (stands.disk_sets.sites s before seat.below at)))
             (failing_fact (w.nodes s) failing) refl (ap (λ fs. fs.items) facts) disk_sets racks;
         rose = rose_still old new s before after at later disk_sets;
       }

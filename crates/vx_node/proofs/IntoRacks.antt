@@ -1,5 +1,5 @@
 -- The racks as they come back from their disk sets.
-use Rattle.std.proofs.Common.{◌≡◌, ◌∙◌, ℕ, zero, suc, List, [], ◌∷◌, length, ap, sym, subst, refl, arith, IsTrue}
+use Rattle.std.proofs.Common.{◌≡◌, ◌∙◌, inl, ℕ, zero, suc, List, [], ◌∷◌, length, ap, sym, subst, refl, arith, IsTrue}
 use Rattle.std.specs.Prelude.{Option, Some, None, drop, slice_get, take}
 use Rattle.std.specs.Option.{option_and_then}
 use Rattle.vx_history.specs.World.{Node, World}
@@ -14,12 +14,11 @@ use Rattle.vx_diskset.specs.Lasts.{FoundWith}
 use Rattle.vx_rvg.specs.Views.{Core}
 use Rattle.vx_diskset.specs.declared.disk_set.DiskSet.{DiskSet}
 use Rattle.vx_diskset.specs.declared.disk_set.DiskSet.TheVariants.{Bare, Spoiled, Up, Down, Gone}
-use Rattle.vx_diskset.specs.Holds.{Holds, state_with, links_of}
-use Rattle.vx_node.specs.Holds.{RacksHold, RacksTell, rack_count, rack_faults}
+use Rattle.vx_diskset.specs.Holds.{alone, Beside, Holds, most_header, state_with, links_of}
+use Rattle.vx_node.specs.Holds.{RacksHold, RacksTell, with_links, rack_count, rack_faults}
 use Rattle.vx_diskset.specs.Layouts.{units_of}
 use Rattle.vx_events.specs.Plain.{IsUnlinked}
 use Rattle.vx_events.proofs.Steps.{no_sites}
-use Rattle.vx_events.specs.Stamps.{most_stamp}
 use Rattle.vx_node.specs.Racks.{racks_in}
 use Rattle.vx_node.specs.Stands.{DiskSetsStand, AreTold, fault_count, faults_of}
 use Rattle.vx_diskset.specs.Stands.{StandsAlone, IsUnused, IsBareAt, IsUpAt, IsDownAt, IsToldAt}
@@ -32,25 +31,25 @@ never_both : {x : SiteState} → x ≡ IsUp → x ≡ IsDown → ⊥
 never_both a b = let e : IsUp ≡ IsDown = sym a ∙ b in cc
 
 -- a site that is up
-up_holds : {links : List KeptLink} (n : Node) (c : Core) (m : Meaning) → IsUpAt links n c m → Holds links n m
+up_holds : {beside : Beside} (n : Node) (c : Core) (m : Meaning) → IsUpAt beside n c m → Holds beside n m
 up_holds n c m up = record { up = λ _ i now. up.left i now; down = λ down. absurd (never_both up.state down) }
 
 -- a site that is down
-down_holds : {links : List KeptLink} (n : Node) (m : Meaning) → Lawful m → IsDownAt links n m → Holds links n m
-down_holds {links} n m lawful is = record {
+down_holds : {beside : Beside} (n : Node) (m : Meaning) → Lawful m → IsDownAt beside n m → Holds beside n m
+down_holds {beside} n m lawful is = record {
   up = λ up. absurd (never_both up is.state);
-  down = λ _ i now. record {
+  down = λ _ i now. inl (record {
     count = n.safe;
     least = omega arith;
     most = omega (arith, is.logged);
-    found = subst (λ (xs : List Write). FoundWith (units_of n) n.ring (state_with n links) n.session (most_stamp n) i xs (fold_writes n.base (drop n.safe (take n.safe n.log)))) (all_taken n is.logged)
-        (subst (λ (c : Content). FoundWith (units_of n) n.ring (state_with n links) n.session (most_stamp n) i n.log c) (durable_content n)
-        (left_with (units_of n) n.ring (state_with n links) n.session (most_stamp n) n.log n.base m i lawful now (is.left (told_now m i lawful now))));
-  };
+    found = subst (λ (xs : List Write). FoundWith (units_of n) n.ring (state_with n beside.links) n.session (most_header beside n) i xs (fold_writes n.base (drop n.safe (take n.safe n.log)))) (all_taken n is.logged)
+        (subst (λ (c : Content). FoundWith (units_of n) n.ring (state_with n beside.links) n.session (most_header beside n) i n.log c) (durable_content n)
+        (left_with (units_of n) n.ring (state_with n beside.links) n.session (most_header beside n) n.log n.base m i lawful now (is.left (told_now m i lawful now))));
+  });
 }
 
 -- nothing is made of a bare site
-bare_holds : {links : List KeptLink} (n : Node) (m : Meaning) → IsBareAt n m → Holds links n m
+bare_holds : {beside : Beside} (n : Node) (m : Meaning) → IsBareAt n m → Holds beside n m
 bare_holds n m bare = record {
   up = λ up. absurd (let e : IsBare ≡ IsUp = sym state ∙ up in cc);
   down = λ down. absurd (let e : IsBare ≡ IsDown = sym state ∙ down in cc);
@@ -138,16 +137,16 @@ module _ {R : Type 0} {g : Ghosts R} where
   pub racks_count : (w : World) (es : List (DiskSet R g)) → DiskSetsStand w es → (s d : ℕ) → rack_faults g.meaning (racks_in es) s d ≡ faults_of es s d
   racks_count w es stand s d = ap (λ (r : Option R). rack_count g.meaning r d) (slice_get-racks_in es (disk_sets_there w es stand) s) ∙ counts_as (slice_get es s) d
 
-  site_holds : (lawful : (r : R) → Lawful (g.meaning r)) (n : Node) (x : Option (DiskSet R g)) (r : R) → ((e : DiskSet R g) → x ≡ Some e → StandsAlone n e) → option_and_then rack_of x ≡ Some r → Holds [] n (g.meaning r)
+  site_holds : (lawful : (r : R) → Lawful (g.meaning r)) (n : Node) (x : Option (DiskSet R g)) (r : R) → ((e : DiskSet R g) → x ≡ Some e → StandsAlone n e) → option_and_then rack_of x ≡ Some r → Holds alone n (g.meaning r)
   site_holds lawful n None r stands is = absurd (cc)
   site_holds lawful n (Some (Bare rack)) r stands is =
-      subst (λ (k : R). Holds [] n (g.meaning k)) (some_same is) (bare_holds n (g.meaning rack) (stands (Bare rack) refl).bare)
+      subst (λ (k : R). Holds alone n (g.meaning k)) (some_same is) (bare_holds n (g.meaning rack) (stands (Bare rack) refl).bare)
   site_holds lawful n (Some (Spoiled rack)) r stands is =
-      subst (λ (k : R). Holds [] n (g.meaning k)) (some_same is) (bare_holds n (g.meaning rack) (stands (Spoiled rack) refl))
+      subst (λ (k : R). Holds alone n (g.meaning k)) (some_same is) (bare_holds n (g.meaning rack) (stands (Spoiled rack) refl))
   site_holds lawful n (Some (Up rvg)) r stands is =
-      subst (λ (k : R). Holds [] n (g.meaning k)) (some_same is) (up_holds n rvg.core (g.meaning rvg.shelf) (stands (Up rvg) refl))
+      subst (λ (k : R). Holds alone n (g.meaning k)) (some_same is) (up_holds n rvg.core (g.meaning rvg.shelf) (stands (Up rvg) refl))
   site_holds lawful n (Some (Down rack)) r stands is =
-      subst (λ (k : R). Holds [] n (g.meaning k)) (some_same is) (down_holds n (g.meaning rack) (lawful rack) (stands (Down rack) refl))
+      subst (λ (k : R). Holds alone n (g.meaning k)) (some_same is) (down_holds n (g.meaning rack) (lawful rack) (stands (Down rack) refl))
   site_holds lawful n (Some Gone) r stands is = absurd (cc)
 
   -- a site without links has those of the world, which are none
@@ -156,7 +155,7 @@ module _ {R : Type 0} {g : Ghosts R} where
     eight = length-racks_in es (disk_sets_there w es stand) ∙ stand.eight;
     each = λ s r below at.
         let held = site_holds lawful (w.nodes s) (slice_get es s) r (λ e is. stand.sites s e below is) (sym (slice_get-racks_in es (disk_sets_there w es stand) s) ∙ at) in
-        subst (λ (links : List KeptLink). Holds links (w.nodes s) (g.meaning r)) (sym (links_none w s none)) held;
+        subst (λ (links : List KeptLink). Holds (with_links links) (w.nodes s) (g.meaning r)) (sym (links_none w s none)) held;
   }
 
   tells_at : (e : DiskSet R g) → IsThere e → ((r : R) → rack_of e ≡ Some r → IsTrue (g.meaning r).tells) → IsToldAt e

@@ -19,6 +19,7 @@ pub mod RawLine
 pub mod RawTable
 pub mod ReadLine
 pub mod RecoverBare
+pub mod RecoverEvents
 pub mod RecoverLine
 pub mod Replies
 pub mod Seats

@@ -1,10 +1,11 @@
 -- A line that a yard answered, as the events of the world.
-use Rattle.std.proofs.Common.{◌≡◌, ◌∙◌, inl, inr, ◌*◌, ◌<◌, ℕ, zero, suc, List, [], ◌∷◌, length, Bool, ap, sym, subst, refl, arith}
+use Rattle.std.proofs.Common.{◌≡◌, ◌∙◌, inl, inr, ◌*◌, ◌<◌, ℕ, zero, suc, List, [], ◌∷◌, length, Bool, true, false, ap, sym, subst, refl, arith}
 use Rattle.std.specs.Prelude.{Option, Some, None, IsSome, is_some, slice_get, replicate}
 use Rattle.vx_model.specs.Content.{Write as WriteOf}
 use Rattle.vx_model.specs.declared.limits.TheConstants.{MOST_NUMBER}
 use Rattle.vx_model.specs.declared.no.No.{No}
 use Rattle.vx_model.specs.declared.site.SiteState.TheVariants.{Bare as IsBare, Up as IsUp, Down as IsDown}
+use Rattle.vx_history.specs.Doubts.{Doubted}
 use Rattle.vx_history.specs.Steps.{fused}
 use Rattle.vx_history.specs.World.{Node, World, Volume, FuseSet, updated}
 use Rattle.vx_history.specs.declared.event.Event.TheVariants.{Site as MakeSite, Raw as MakeRaw, Read as ReadAt}
@@ -14,28 +15,36 @@ use Rattle.vx_script.specs.declared.line.ScriptLine.{ScriptLine}
 use Rattle.vx_script.specs.declared.line.ScriptLine.TheVariants.{Site, Raw, Disk, Crash, Fuse, Recover, Write, Put, Read, Show, Apply, Status}
 use Rattle.vx_order.specs.Order.{refusal_of}
 use Rattle.vx_events.specs.Ends.{AllDone, place_of as site_of}
+use Rattle.vx_events.specs.Doubts.{sure}
 use Rattle.vx_events.specs.Facts.{facts_of, site_number, volume_number}
 use Rattle.vx_events.specs.Failing.{is_failing, made_fail}
 use Rattle.vx_events.specs.Fails.{Fails}
-use Rattle.vx_events.specs.Lines.{StepBy, Counts, write_in}
+use Rattle.vx_events.specs.LinkedFacts.{refused_by}
+use Rattle.vx_events.specs.Lines.{StepBy, EndsBy, Counts, write_in}
 use Rattle.vx_events.specs.Plain.{IsUnlinked, IsSized, ArePrimaries}
+use Rattle.vx_events.specs.Sent.{sent_between}
 use Rattle.vx_events.specs.declared.said.Said.{Said}
+use Rattle.vx_events.specs.declared.said.Said.TheVariants.{Shown}
+use Rattle.vx_events.proofs.Calm.{left_sure, none_sent, refused_same, view_unlinked}
 use Rattle.vx_events.proofs.Keeping.{node_primary, same_links}
 use Rattle.vx_events.proofs.Parts.{none_done}
 use Rattle.vx_events.proofs.Steps.{CanPut}
 use Rattle.vx_diskset.specs.declared.disk_set.DiskSet.{DiskSet}
 use Rattle.vx_diskset.specs.declared.disk_set.DiskSet.TheVariants.{Bare, Spoiled, Up, Down, Gone}
 use Rattle.vx_node.specs.declared.yard.Yard.{Yard}
-use Rattle.vx_node.specs.Replies.{text_of}
+use Rattle.vx_node.specs.Lines.{is_built}
+use Rattle.vx_node.specs.Replies.{reply_text, text_of}
 use Rattle.vx_diskset.specs.Stands.{StandsAlone}
 use Rattle.vx_node.specs.Working.{Answered, IsFree}
 use Rattle.vx_node.specs.OfSites.{AllAsBefore, AsAsked, HasCalled}
 use Rattle.vx_node.specs.Works.{Works, WorksBy}
 use Rattle.vx_node.specs.Yards.{YardAgrees, YardStands, StaysAgreed, StopsShort, Steps, IsTold, in_files}
 use Rattle.vx_node.proofs.Alike.{agrees_like}
+use Rattle.vx_node.proofs.Built.{built_plain}
 use Rattle.vx_node.proofs.FailsStay.{Ties, needs_log, still_told, tied_line, tied_same}
 use Rattle.vx_node.proofs.FuseStays.{Lit, failing_short, lit_line, lit_short, lit_still, needs_calls}
-use Rattle.vx_node.proofs.SiteEvents.{Happens, first_choice, happens_as, site_happens, raw_happens, only_happens, crash_happens, recover_happens}
+use Rattle.vx_node.proofs.SiteEvents.{Happens, first_choice, happens_as, site_happens, raw_happens, only_happens, crash_happens}
+use Rattle.vx_node.proofs.RecoverEvents.{recover_happens}
 use Rattle.vx_node.proofs.CallEvents.{put_happens, put_counts, read_happens, apply_happens}
 use Rattle.vx_events.proofs.Refused.{crash_may, recover_may, apply_may}
 use Rattle.vx_events.proofs.RefusedCalls.{CallMay, write_may, put_may, read_may, show_may}
@@ -84,9 +93,10 @@ module _ {R : Type 0} {g : Ghosts R} where
   -- ---- the whole line
 
   -- the yard stands for the world to which the events came
-  stands_for : (told : Type 0) (w next : World) (line : ScriptLine) (s : ℕ) (fails : Fails) (said : Said) (y : Yard R g) → (IsTold y → told) → YardAgrees next y → Ties next y → Lit next y → (h : Happens told w line s fails said next) → YardStands h.new y
+  stands_for : (told : Type 0) (w next : World) (line : ScriptLine) (s : ℕ) (fails : Fails) (said : Said) (y : Yard R g) → (IsTold y → told) → YardAgrees next y → Ties next y → Lit next y → (h : Happens told w line s fails said next) → YardStands (sure h.new) y
   stands_for told w next line s fails said y is agrees ties lit h = record {
     agrees = agrees_like next h.new y h.sites h.nodes agrees;
+    calm = refl;
     unlinked = h.unlinked;
     primaries = λ t. h.primaries (is t);
     failing = tied_same next h.new y y h.sites (λ i. ap (λ (n : Node). n.failing) (h.nodes i)) (still_told y y refl) ties;
@@ -107,11 +117,12 @@ module _ {R : Type 0} {g : Ghosts R} where
       let v : World = made_fail w s disk (is_failing state) in (
         record {
           new = v;
-          ends = AllDone first_choice is.none is.says refl;
+          ends = AllDone first_choice false is.none is.says (left_sure s (Disk name disk state) w [] v refl);
           sites = ap (λ (u : World). u.sites) (sym is.leads);
           nodes = λ i. ap (λ (u : World). u.nodes i) (sym is.leads);
           unlinked = same_links w v (λ p q. refl) none;
           primaries = λ t. node_primary w v s (let n = w.nodes s in record n { failing = updated n.failing disk (is_failing state) }) (λ k. refl) ((all t).each s) (all t);
+          packets = refl;
         },
         tt,
       )
@@ -125,11 +136,12 @@ module _ {R : Type 0} {g : Ghosts R} where
       let s : ℕ = site_number w name in (
         record {
           new = fused w s calls;
-          ends = AllDone first_choice is.none is.says refl;
+          ends = AllDone first_choice false is.none is.says (left_sure s (Fuse name calls pick) w [] (fused w s calls) refl);
           sites = ap (λ (v : World). v.sites) (sym is.leads);
           nodes = λ i. ap (λ (v : World). v.nodes i) (sym is.leads);
           unlinked = same_links w (fused w s calls) (λ p q. refl) none;
           primaries = λ t. node_primary w (fused w s calls) s (record (w.nodes s) { fuse = FuseSet calls }) (λ k. refl) ((all t).each s) (all t);
+          packets = refl;
         },
         tt,
       )
@@ -182,36 +194,47 @@ module _ {R : Type 0} {g : Ghosts R} where
       let may = apply_may (facts_of w) files name to free in
       let up = up_in w name may.site may.up in
       (apply_happens told w name to fails said next none all (seat_in w name may.site).0 up (running_in w name may.site up may.running) is, tt)
-  works_happen told files w y (Status name) fails said next agrees none all free is = (
-    record {
-      new = w;
-      ends = AllDone first_choice is.none is.says refl;
-      sites = ap (λ (v : World). v.sites) (sym is.leads);
-      nodes = λ i. ap (λ (v : World). v.nodes i) (sym is.leads);
-      unlinked = none;
-      primaries = all;
-    },
-    tt,
-  )
+  works_happen told files w y (Status name) fails said next agrees none all free is =
+      let s : ℕ = site_number w name in (
+        record {
+          new = w;
+          ends = AllDone first_choice false is.none (is.says ∙ ap (λ v. Shown v) (sym (view_unlinked w s none))) (left_sure s (Status name) w [] w refl);
+          sites = ap (λ (v : World). v.sites) (sym is.leads);
+          nodes = λ i. ap (λ (v : World). v.nodes i) (sym is.leads);
+          unlinked = none;
+          primaries = all;
+          packets = refl;
+        },
+        tt,
+      )
   works_happen told files w y other fails said next agrees none all free is = absurd is
 
-  -- a line that was answered
-  pub line_happens : ((r : R) → IsRack (g.meaning r)) → (w : World) (line : ScriptLine) (old new : Yard R g) (said : Said) → YardStands w old → (IsTold new → IsTold old) → Answered w line said old new
+  -- a line that was answered, in a world of which no site is in doubt
+  line_sure : ((r : R) → IsRack (g.meaning r)) → (w : World) (line : ScriptLine) (old new : Yard R g) (said : Said) → is_built line ≡ true → YardStands (sure w) old → (IsTold new → IsTold old) → Answered w line said old new
       → (IsFree old line → HasCalled w line said old new) → (IsFree old line → AsAsked w line old new) → (IsSome (refusal_of old.facts.items (in_files old) line) → new.disk_sets ≡ old.disk_sets)
-      → Steps w line old new (text_of said)
-  line_happens racks w line old new said stands later a called asked still = by (refusal_of (facts_of w) (in_files old) line) refl a.step
+      → Steps (sure w) line old new (reply_text said)
+  line_sure racks w line old new said built stands later a called asked still = by (refusal_of (facts_of w) (in_files old) line) refl a.step
     where
-      by : (why : Option No) → refusal_of (facts_of w) (in_files old) line ≡ why → WorksBy why (IsTold new) w line a.fails said a.world → Steps w line old new (text_of said)
+      -- the tests of a line that is built see no links
+      first : (why : Option No) → refusal_of (facts_of w) (in_files old) line ≡ why → refused_by w (in_files old) line ≡ why
+      first why is = refused_same w (in_files old) line stands.unlinked (built_plain line built) ∙ is
+
+      text_is : (v : World) → v.packets ≡ w.packets → reply_text said ≡ text_of said (sent_between w v)
+      text_is v same = ap (λ sent. text_of said sent) (sym (none_sent w v same))
+
+      by : (why : Option No) → refusal_of (facts_of w) (in_files old) line ≡ why → WorksBy why (IsTold new) w line a.fails said a.world → Steps (sure w) line old new (reply_text said)
       by (Some why) is works = record {
-        world = a.world;
+        next = sure a.world;
         fails = a.fails;
         prints = record {
           said = said;
-          step = subst (λ (o : Option No). StepBy o (IsTold new) w line a.fails said a.world) (sym is) (record { none = works.none; says = works.says; stays = works.leads });
-          is = refl;
+          step = subst (λ (o : Option No). StepBy o (IsTold new) (sure w) line a.fails said (sure a.world)) (sym (first (Some why) is))
+              (record { none = works.none; says = works.says; stays = ap (λ (v : World). sure v) works.leads });
+          is = text_is a.world (ap (λ (v : World). v.packets) works.leads);
         };
         stands = record {
           agrees = a.stands;
+          calm = refl;
           unlinked = subst (λ (v : World). IsUnlinked v) (sym works.leads) stands.unlinked;
           primaries = λ t. subst (λ (v : World). ArePrimaries v) (sym works.leads) (stands.primaries (later t));
           failing = tied_same w a.world old new (ap (λ (v : World). v.sites) works.leads) (λ i. ap (λ (v : World). (v.nodes i).failing) works.leads)
@@ -226,12 +249,18 @@ module _ {R : Type 0} {g : Ghosts R} where
           let free_here : IsFree old line = ap (λ fs. refusal_of fs (in_files old) line) stands.agrees.facts ∙ is in
           let h = works_happen (IsTold new) (in_files old) w old line a.fails said a.world stands.agrees stands.unlinked (λ t. stands.primaries (later t)) is works in
           record {
-            world = h.0.new;
+            next = sure h.0.new;
             fails = a.fails;
             prints = record {
               said = said;
-              step = subst (λ (o : Option No). StepBy o (IsTold new) w line a.fails said h.0.new) (sym is) (record { ends = h.0.ends; counts = h.1; works = needs_log racks (in_files old) w old new line said is stands.agrees (called free_here) stands.failing; calls = needs_calls racks (in_files old) w old new line said is stands.agrees (called free_here) stands.fuses });
-              is = refl;
+              step = subst (λ (o : Option No). StepBy o (IsTold new) (sure w) line a.fails said (sure h.0.new)) (sym (first None is))
+                  (record {
+                    ends = subst (λ (links : Bool). EndsBy links (IsTold new) (sure w) line a.fails said (sure h.0.new)) (sym (built_plain line built)) h.0.ends;
+                    counts = h.1;
+                    works = needs_log racks (in_files old) w old new line said is stands.agrees (called free_here) stands.failing;
+                    calls = needs_calls racks (in_files old) w old new line said is stands.agrees (called free_here) stands.fuses;
+                  });
+              is = text_is h.0.new h.0.packets;
             };
             stands = stands_for (IsTold new) w a.world line (site_of w line) a.fails said new (λ t. t) a.stands
                 (tied_line (IsTold new) (in_files old) w a.world old new line a.fails said is works (asked free_here) stands.failing)
@@ -240,11 +269,26 @@ module _ {R : Type 0} {g : Ghosts R} where
             called = λ free. called free;
           }
 
+  -- a line that was answered
+  pub line_happens : ((r : R) → IsRack (g.meaning r)) → (d : Doubted) (line : ScriptLine) (old new : Yard R g) (said : Said) → is_built line ≡ true → YardStands d old → (IsTold new → IsTold old) → Answered d.world line said old new
+      → (IsFree old line → HasCalled d.world line said old new) → (IsFree old line → AsAsked d.world line old new) → (IsSome (refusal_of old.facts.items (in_files old) line) → new.disk_sets ≡ old.disk_sets)
+      → Steps d line old new (reply_text said)
+  line_happens racks d line old new said built stands later a called asked still =
+      subst (λ (e : Doubted). Steps e line old new (reply_text said)) (sym stands.calm)
+      (line_sure racks d.world line old new said built (subst (λ (e : Doubted). YardStands e old) stands.calm stands) later a called asked still)
+
   -- a line of which nothing was done
-  pub line_stays : (w : World) (line : ScriptLine) (old new : Yard R g) → YardStands w old → (IsTold new → IsTold old) → StaysAgreed w old new → AllAsBefore old new → StopsShort w line old new
-  line_stays w line old new stands later stays short = record {
-    world = w;
-    part = none_done w line;
-    stands = record { agrees = stays.stands; unlinked = stands.unlinked; primaries = λ t. stands.primaries (later t); failing = tied_same w w old new refl (λ i. refl) (failing_short old new short) stands.failing; fuses = lit_short w old new stays.stands short stands.fuses };
+  pub line_stays : (d : Doubted) (line : ScriptLine) (old new : Yard R g) → YardStands d old → (IsTold new → IsTold old) → StaysAgreed d.world old new → AllAsBefore old new → StopsShort d line old new
+  line_stays d line old new stands later stays short = record {
+    next = d;
+    part = none_done d line;
+    stands = record {
+      agrees = stays.stands;
+      calm = stands.calm;
+      unlinked = stands.unlinked;
+      primaries = λ t. stands.primaries (later t);
+      failing = tied_same d.world d.world old new refl (λ i. refl) (failing_short old new short) stands.failing;
+      fuses = lit_short d.world old new stays.stands short stands.fuses;
+    };
     rose = stays.rose;
   }

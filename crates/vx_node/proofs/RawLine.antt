@@ -37,6 +37,7 @@ use Rattle.vx_node.proofs.Lists.{set_twice}
 use Rattle.vx_events.proofs.Refused.{raw_may}
 use Rattle.vx_events.proofs.Places.{some_same}
 use Rattle.vx_node.proofs.Seats.{Seated, seated, named_fact}
+use Rattle.vx_diskset.specs.Holds.{alone}
 use Rattle.vx_node.proofs.SiteLine.{stands_new}
 
 raw_fact_by : (site : ℕ) (n : Node) (parent : Line) (low : ℕ) → n.parent ≡ parent → n.low ≡ low → parent ≡ no_line → low ≡ 1
@@ -182,14 +183,14 @@ module _ {R : Type 0} {g : Ghosts R} where
 
       by_stop : (stop : Stop) → MadeIs s (w.nodes s) before after (Err stop) → WorkIs w (Raw name) old new (reply_to stop)
       by_stop OutOfMemory same = record {
-        stands = stays (same []);
+        stands = stays (same alone);
         rose = subst (λ es. RoseAll [] (count_of old) (faults_of es)) (sym disk_sets) (rose_none (count_of old) (faults_of (slice_set old.disk_sets.items s after)) later_all);
       }
       by_stop (Refused (Device disk)) h = record {
         world = w;
         fails = (s, disk) ∷ [];
         works = inr (record { disk = disk; fails_at = record { one = ap (λ (k : ℕ). let fs : List (ℕ × ℕ) = (k, disk) ∷ [] in fs) (sym found.seat.number); says = refl; leads = refl } });
-        stands = stays (h.0 []);
+        stands = stays (h.0 alone);
         rose = subst (λ es. RoseAll ((s, disk) ∷ []) (count_of old) (faults_of es)) (sym disk_sets)
             (rose_one s disk (count_of old) (faults_of (slice_set old.disk_sets.items s after)) later_all
             (counts_rose old.disk_sets.items s disk before after at h.1));

@@ -30,6 +30,7 @@ use Rattle.vx_node.proofs.Lists.{get-set_same, get_at}
 use Rattle.vx_events.proofs.RefusedCalls.{CallMay, read_may, show_may}
 use Rattle.vx_events.proofs.Places.{some_same, never_some, position_within}
 use Rattle.vx_node.proofs.Seats.{seated, named_fact}
+use Rattle.vx_diskset.specs.Holds.{alone}
 use Rattle.vx_node.proofs.SiteLine.{stands_new}
 
 -- the volume of a fact
@@ -127,7 +128,7 @@ module _ {R : Type 0} {g : Ghosts R} where
 
   -- the disk set gave the blocks
   pub fetch_done : (w : World) (old new : Yard R g) (name volume : List ℕ) (start count s place : ℕ) (bytes : List ℕ) (before after : DiskSet R g) → YardAgrees w old
-      → Reading w old name volume start count s place → slice_get old.disk_sets.items s ≡ Some before → Later before after → Gave [] (w.nodes s) place start count bytes after
+      → Reading w old name volume start count s place → slice_get old.disk_sets.items s ≡ Some before → Later before after → Gave alone (w.nodes s) place start count bytes after
       → new.facts ≡ old.facts → new.disk_sets.items ≡ slice_set old.disk_sets.items s after → new.racks ≡ old.racks
       → Fetched w name volume start count (Got bytes) old new
   fetch_done w old new name volume start count s place bytes before after stands read at later gave facts disk_sets racks = record {
@@ -143,7 +144,7 @@ module _ {R : Type 0} {g : Ghosts R} where
 
   -- one of its disks failed
   pub fetch_failed : (w : World) (old new : Yard R g) (name volume : List ℕ) (start count s place : ℕ) (no : No) (before after : DiskSet R g) → YardAgrees w old
-      → Reading w old name volume start count s place → slice_get old.disk_sets.items s ≡ Some before → Later before after → GaveAt [] (w.nodes s) place start count before after (Err no)
+      → Reading w old name volume start count s place → slice_get old.disk_sets.items s ≡ Some before → Later before after → GaveAt alone (w.nodes s) place start count before after (Err no)
       → new.facts ≡ old.facts → new.disk_sets.items ≡ slice_set old.disk_sets.items s after → new.racks ≡ old.racks
       → Fetched w name volume start count (Refused no) old new
   fetch_failed w old new name volume start count s place (Device disk) before after stands read at later gave facts disk_sets racks = record {

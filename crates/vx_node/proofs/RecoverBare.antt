@@ -25,7 +25,7 @@ use Rattle.vx_diskset.specs.DiskSets.{Later, BareUp, BareUpIs}
 use Rattle.vx_events.specs.Found.{SameDisks}
 use Rattle.vx_events.specs.Facts.{site_fact, volume_fact, seat_of}
 use Rattle.vx_events.specs.Views.{view_of}
-use Rattle.vx_diskset.specs.Holds.{state_with}
+use Rattle.vx_diskset.specs.Holds.{alone, state_with}
 use Rattle.vx_node.specs.Rising.{NotesUp, Recovering, Finding}
 use Rattle.vx_node.specs.Stands.{DiskSetsStand, RoseAll, faults_of}
 use Rattle.vx_diskset.specs.Layouts.{CanBeRaw}
@@ -87,14 +87,14 @@ module _ {R : Type 0} {g : Ghosts R} where
         let here : slice_get y.disk_sets.items s ≡ Some after = ap (λ es. slice_get es s) set ∙ get-set_same old.disk_sets.items s after (slice_get_within old.disk_sets.items s before there) in
         let raw : SiteFacts = raw_facts s volumes site in
         let seen : slice_get y.facts.items s ≡ Some raw = ap (λ fs. slice_get fs s) facts ∙ get-set_same old.facts.items s raw (slice_get_within old.facts.items s site at) in
-        let noted = notes.each after k here (found.stands []) found.same.up in
-        let parts = up_parts k after (found.stands []) found.same.up in
+        let noted = notes.each after k here (found.stands alone refl) found.same.up in
+        let parts = up_parts k after (found.stands alone refl) found.same.up in
         let own = bare_parts n before stood bare in
         let fact : up_facts (state_with k []) k.safe ring raw ≡ site_fact k =
         ap (up_facts (state_with k []) k.safe ring) (raw_fact_of s n site volumes node_fact table own.0 own.1)
-        ∙ up_fact (raw_set s n) k ring (same_set s n k found.same) parts.0 (parts.1 ∙ ap ring_of found.same.blocks ∙ sym (ring_fits ring ring_is)) (head_at k after (found.stands []) found.same.up found.same.running) in
+        ∙ up_fact (raw_set s n) k ring (same_set s n k found.same) parts.0 (parts.1 ∙ ap ring_of found.same.blocks ∙ sym (ring_fits ring ring_is)) (head_at k after (found.stands alone refl) found.same.up found.same.running) in
         let up : YardAgrees (with_node w s k) new =
-        stands_set w (with_node w s k) old new s k (up_facts (state_with k []) k.safe ring raw) after stands below refl (λ j. refl) (found.stands []) fact refl
+        stands_set w (with_node w s k) old new s k (up_facts (state_with k []) k.safe ring raw) after stands below refl (λ j. refl) (found.stands alone refl) fact refl
         (noted.facts raw seen ∙ ap (λ fs. slice_set fs s (up_facts (state_with k []) k.safe ring raw)) facts ∙ set_twice old.facts.items s raw (up_facts (state_with k []) k.safe ring raw))
         disk_sets (racks_is ∙ racks) in
         record {
@@ -126,7 +126,7 @@ module _ {R : Type 0} {g : Ghosts R} where
           world = w;
           fails = (s, disk) ∷ [];
           recovers = BareFails disk bare (record { one = refl; says = refl; leads = refl });
-          stands = stays (h.0 []);
+          stands = stays (h.0 alone);
           rose = subst (λ es. RoseAll ((s, disk) ∷ []) (count_of old) (faults_of es)) (sym disk_sets)
               (rose_one s disk (count_of old) (faults_of (slice_set old.disk_sets.items s after)) (λ i d. counts_later old.disk_sets.items s before after there later i d)
               (counts_rose old.disk_sets.items s disk before after there h.1));
@@ -135,14 +135,14 @@ module _ {R : Type 0} {g : Ghosts R} where
           world = w;
           fails = [];
           recovers = IsBareStill bare (record { none = refl; says = refl; leads = refl });
-          stands = stays (h []);
+          stands = stays (h alone);
           rose = rose_still old new s before after there later disk_sets;
         }
         by other h = record {
           world = w;
           fails = [];
           recovers = BareNone (not_all old.disk_sets.items s before after new.disk_sets.items there disk_sets h.0) other bare tt (record { none = refl; says = refl; leads = refl });
-          stands = stays (h.1 []);
+          stands = stays (h.1 alone);
           rose = rose_still old new s before after there later disk_sets;
         }
 

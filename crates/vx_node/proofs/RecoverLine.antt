@@ -27,8 +27,7 @@ use Rattle.vx_diskset.specs.DiskSets.{Later, RoseAt, CameUp, CameUpIs, StillDown
 use Rattle.vx_events.specs.Found.{SameDisks}
 use Rattle.vx_model.specs.Sites.{is_origin}
 use Rattle.vx_events.specs.Facts.{site_fact, group_fact, group_by, head_of, volume_fact, seat_of}
-use Rattle.vx_diskset.specs.Holds.{state_with}
-use Rattle.vx_events.specs.Stamps.{most_stamp}
+use Rattle.vx_diskset.specs.Holds.{alone, most_header, state_with}
 use Rattle.vx_node.specs.Rising.{Fell, NotedUp, NotesUp, Recovering}
 use Rattle.vx_node.specs.Stands.{DiskSetsStand, AreTold, RoseAll, RoseBy, times, faults_of}
 use Rattle.vx_diskset.specs.Stands.{StandsAlone, IsToldAt}
@@ -191,7 +190,7 @@ module _ {R : Type 0} {g : Ghosts R} where
     rose_here : RoseAll [] (count_of old) (count_of new)
     rose_here = rose_still old new s before after there later disk_sets
 
-    risen_by : IsToldAt after ⊎ (IsToldAt after → ⊥) → (ring last : ℕ) (view : SiteView) (came : CameUp [] node after) → ring ≡ node.ring → last ≡ came.node.safe
+    risen_by : IsToldAt after ⊎ (IsToldAt after → ⊥) → (ring last : ℕ) (view : SiteView) (came : CameUp alone node after) → ring ≡ node.ring → last ≡ came.node.safe
         → YardAgrees (with_node mid s came.node) new → ((w' : World) → YardAgrees w' new → s < w'.sites → view ≡ view_of w' (w'.nodes s)) → Recovering w s (Recovered last view) old new
     risen_by (inl told) ring last view came ring_is last_is up shows =
         let is = came.is told in
@@ -221,7 +220,7 @@ module _ {R : Type 0} {g : Ghosts R} where
       rose = rose_here;
     }
 
-    pub risen : (ring last : ℕ) (view : SiteView) → CameUp [] node after → ring ≡ node.ring
+    pub risen : (ring last : ℕ) (view : SiteView) → CameUp alone node after → ring ≡ node.ring
         → ((k : Node) → StandsAlone k after → k.state ≡ IsUp → NotedUp k s ring last old new)
         → ((w' : World) → YardAgrees w' new → s < w'.sites → view ≡ view_of w' (w'.nodes s)) → Recovering w s (Recovered last view) old new
     risen ring last view came ring_is notes shows =
@@ -248,7 +247,7 @@ module _ {R : Type 0} {g : Ghosts R} where
           (rose_one s disk (count_of old) (faults_of (slice_set old.disk_sets.items s after)) (λ i d. counts_later old.disk_sets.items s before after there later i d)
           (counts_rose old.disk_sets.items s disk before after there rose))
 
-      failed : (disk : ℕ) → RoseAt before after disk → StillDown [] node after → Recovering w s (Refused (Device disk)) old new
+      failed : (disk : ℕ) → RoseAt before after disk → StillDown alone node after → Recovering w s (Refused (Device disk)) old new
       failed disk rose (inl at) = record {
         world = mid;
         fails = (s, disk) ∷ [];
@@ -264,11 +263,11 @@ module _ {R : Type 0} {g : Ghosts R} where
         rose = rose_there disk rose;
       }
 
-      limited : (why : No) → why ≡ no_number → StandsAlone node after → (IsToldAt after → most_number ≤ most_stamp node + 2) → Recovering w s (Refused why) old new
+      limited : (why : No) → why ≡ no_number → StandsAlone node after → (IsToldAt after → most_number ≤ most_header alone node + 2) → Recovering w s (Refused why) old new
       limited why is at most = record {
         world = mid;
         fails = [];
-        recovers = NoSession mid begins (λ told. most (told.each s after (ap (λ es. slice_get es s) disk_sets ∙ get-set_same old.disk_sets.items s after (slice_get_within old.disk_sets.items s before there))))
+        recovers = NoSession mid begins (λ told. let far = most (told.each s after (ap (λ es. slice_get es s) disk_sets ∙ get-set_same old.disk_sets.items s after (slice_get_within old.disk_sets.items s before there))) in omega (arith, far))
             (record { none = refl; says = ap (λ (k : No). Refused k) is; leads = refl });
         stands = stays at;
         rose = rose_here;
@@ -283,21 +282,21 @@ module _ {R : Type 0} {g : Ghosts R} where
         rose = rose_here;
       }
 
-      pub stays_down : (why : No) → CameUpIs [] node before after (Err why) → Recovering w s (Refused why) old new
+      pub stays_down : (why : No) → CameUpIs alone node before after (Err why) → Recovering w s (Refused why) old new
       stays_down (Device disk) h = failed disk h.1 h.0
       stays_down (Limit what most) h = limited (Limit what most) h.0 h.2 h.1
       stays_down other h = untold_still other tt h
 
   -- what a start that was answered comes to, with what was taken of its group
   pub risen_line : (w mid : World) (old y new : Yard R g) (s ring last : ℕ) (view : SiteView) (before after : DiskSet R g) (answer : Result (Unit {0}) No) (done : Unit {0}) → YardAgrees mid old → s < mid.sites → Begins w s mid
-      → (mid.nodes s).state ≡ IsDown → slice_get old.disk_sets.items s ≡ Some before → Later before after → answer ≡ Ok done → ((n : Node) → StandsAlone n before → n.state ≡ IsDown → ring ≡ n.ring → CameUpIs [] n before after answer)
+      → (mid.nodes s).state ≡ IsDown → slice_get old.disk_sets.items s ≡ Some before → Later before after → answer ≡ Ok done → ((n : Node) → StandsAlone n before → n.state ≡ IsDown → ring ≡ n.ring → CameUpIs alone n before after answer)
       → ring ≡ (mid.nodes s).ring → y.facts ≡ old.facts → y.disk_sets.items ≡ slice_set (slice_set old.disk_sets.items s Gone) s after → y.racks ≡ old.racks
       → NotesUp s ring last y new → new.disk_sets ≡ y.disk_sets → new.racks ≡ y.racks → ((w' : World) → YardAgrees w' new → s < w'.sites → view ≡ view_of w' (w'.nodes s)) → Recovering w s (Recovered last view) old new
   risen_line w mid old y new s ring last view before after answer done stands below begins down there later is came ring_is facts disk_sets racks notes disk_sets_same' racks_same shows =
       let set : y.disk_sets.items ≡ slice_set old.disk_sets.items s after = disk_sets ∙ set_twice old.disk_sets.items s Gone after in
       let at : slice_get y.disk_sets.items s ≡ Some after = ap (λ es. slice_get es s) set ∙ get-set_same old.disk_sets.items s after (slice_get_within old.disk_sets.items s before there) in
       risen w mid old new s before after stands below begins down there later (ap (λ es. es.items) disk_sets_same' ∙ set) (racks_same ∙ racks) ring last view
-      (subst (CameUpIs [] (mid.nodes s) before after) is (came (mid.nodes s) (stands.disk_sets.sites s before below there) down ring_is)) ring_is
+      (subst (CameUpIs alone (mid.nodes s) before after) is (came (mid.nodes s) (stands.disk_sets.sites s before below there) down ring_is)) ring_is
       (λ k at_k up.
       let noted = notes.each after k at at_k up in
       record {
@@ -308,11 +307,11 @@ module _ {R : Type 0} {g : Ghosts R} where
 
   -- and what one that was refused
   pub stayed_line : (w mid : World) (old new : Yard R g) (s ring : ℕ) (before after : DiskSet R g) (answer : Result (Unit {0}) No) (why : No) → YardAgrees mid old → s < mid.sites → Begins w s mid
-      → (mid.nodes s).state ≡ IsDown → slice_get old.disk_sets.items s ≡ Some before → Later before after → answer ≡ Err why → ((n : Node) → StandsAlone n before → n.state ≡ IsDown → ring ≡ n.ring → CameUpIs [] n before after answer)
+      → (mid.nodes s).state ≡ IsDown → slice_get old.disk_sets.items s ≡ Some before → Later before after → answer ≡ Err why → ((n : Node) → StandsAlone n before → n.state ≡ IsDown → ring ≡ n.ring → CameUpIs alone n before after answer)
       → ring ≡ (mid.nodes s).ring → new.facts ≡ old.facts → new.disk_sets.items ≡ slice_set (slice_set old.disk_sets.items s Gone) s after → new.racks ≡ old.racks → Recovering w s (Refused why) old new
   stayed_line w mid old new s ring before after answer why stands below begins down there later is came ring_is facts disk_sets racks =
       stays_down w mid old new s before after stands below begins down there later (disk_sets ∙ set_twice old.disk_sets.items s Gone after) racks (ap (λ fs. fs.items) facts) why
-      (subst (CameUpIs [] (mid.nodes s) before after) is (came (mid.nodes s) (stands.disk_sets.sites s before below there) down ring_is))
+      (subst (CameUpIs alone (mid.nodes s) before after) is (came (mid.nodes s) (stands.disk_sets.sites s before below there) down ring_is))
 
   -- ---- what the tests see of a site that stands
 

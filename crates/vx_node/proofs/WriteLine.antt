@@ -33,6 +33,7 @@ use Rattle.vx_node.specs.Writes.WriteFree.{ByWrite, ByPut}
 use Rattle.vx_node.specs.Works.Puts.{IsPut, NoNumber, PutFails, PutCut}
 use Rattle.vx_node.proofs.CrashLine.{stands_set, stands_same, fuse_fact}
 use Rattle.vx_node.specs.Yards.{YardAgrees, in_files, count_of}
+use Rattle.vx_diskset.proofs.BesideLemmas.{fell_alone}
 use Rattle.vx_node.proofs.ChangeSite.{facts-updated, last_fact, halted_fact, rose_none, rose_one, counts_later, counts_rose, disk_sets_set}
 use Rattle.vx_node.proofs.Lists.{get_at, get-set_same, set_same}
 use Rattle.vx_model.specs.declared.site.Role.TheVariants.{Primary}
@@ -41,6 +42,7 @@ use Rattle.vx_events.proofs.RefusedCalls.{WriteMay, write_may, put_may}
 use Rattle.vx_events.proofs.Testing.{write_primary, put_primary}
 use Rattle.vx_events.proofs.Places.{some_same, never_some, position_within}
 use Rattle.vx_node.proofs.Seats.{Seated, seated, named_fact, named_none}
+use Rattle.vx_diskset.specs.Holds.{alone}
 use Rattle.vx_node.proofs.SiteLine.{stands_new}
 
 pub get_there : {A : Type 0} (xs : List A) (i : ℕ) → i < length xs → (x : A) × (slice_get xs i ≡ Some x)
@@ -196,7 +198,7 @@ module _ {R : Type 0} {g : Ghosts R} where
       (rose_none (count_of old) (faults_of (slice_set old.disk_sets.items s after)) (λ i d. counts_later old.disk_sets.items s e after there later i d))
 
   done_at : (w : World) (old new : Yard R g) (s number : ℕ) (x : Write) (f' : SiteFacts) (e after : DiskSet R g) → YardAgrees w old → (w.nodes s).role ≡ Primary → s < w.sites → slice_get old.disk_sets.items s ≡ Some e → Later e after
-      → WroteAt [] (w.nodes s) x e after (Ok number) → f' ≡ last_facts number (site_fact (w.nodes s)) → new.facts.items ≡ slice_set old.facts.items s f' → new.disk_sets.items ≡ slice_set old.disk_sets.items s after
+      → WroteAt alone (w.nodes s) x e after (Ok number) → f' ≡ last_facts number (site_fact (w.nodes s)) → new.facts.items ≡ slice_set old.facts.items s f' → new.disk_sets.items ≡ slice_set old.disk_sets.items s after
       → new.racks ≡ old.racks → PutsAt w s x (DoneAt number) old new
   done_at w old new s number x f' e after stands primary below there later wrote is facts disk_sets racks = record {
     world = written w s x;
@@ -213,7 +215,7 @@ module _ {R : Type 0} {g : Ghosts R} where
   }
 
   failed_at : (w : World) (old new : Yard R g) (s : ℕ) (why : No) (x : Write) (f' : SiteFacts) (e after : DiskSet R g) → YardAgrees w old → (w.nodes s).role ≡ Primary → s < w.sites → slice_get old.facts.items s ≡ Some (site_fact (w.nodes s))
-      → slice_get old.disk_sets.items s ≡ Some e → Later e after → WroteAt [] (w.nodes s) x e after (Err why) → f' ≡ noted_facts why (site_fact (w.nodes s)) → new.facts.items ≡ slice_set old.facts.items s f'
+      → slice_get old.disk_sets.items s ≡ Some e → Later e after → WroteAt alone (w.nodes s) x e after (Err why) → f' ≡ noted_facts why (site_fact (w.nodes s)) → new.facts.items ≡ slice_set old.facts.items s f'
       → new.disk_sets.items ≡ slice_set old.disk_sets.items s after → new.racks ≡ old.racks → PutsAt w s x (Refused why) old new
   failed_at w old new s (Device disk) x f' e after stands primary below fact there later wrote is facts disk_sets racks = record {
     world = half_written w s x disk;
@@ -233,13 +235,13 @@ module _ {R : Type 0} {g : Ghosts R} where
   failed_at w old new s (Limit what most) x f' e after stands primary below fact there later wrote is facts disk_sets racks = record {
     world = worked_on w s;
     fails = [];
-    puts = NoNumber (λ told. wrote.1 (told.each s after (ap (λ es. slice_get es s) disk_sets ∙ get-set_same old.disk_sets.items s after (slice_get_within old.disk_sets.items s e there)))) (record { none = refl; says = ap (λ (k : No). Refused k) wrote.0; leads = refl });
+    puts = NoNumber (λ told. let most = wrote.1 (told.each s after (ap (λ es. slice_get es s) disk_sets ∙ get-set_same old.disk_sets.items s after (slice_get_within old.disk_sets.items s e there))) in omega (arith, most)) (record { none = refl; says = ap (λ (k : No). Refused k) wrote.0; leads = refl });
     stands = stands_same w (worked_on w s) old new s (worked (w.nodes s)) after stands below refl (λ k. refl) wrote.2 (fuse_fact (w.nodes s) (burned (w.nodes s).fuse)) refl
         (facts ∙ ap (λ (f : SiteFacts). slice_set old.facts.items s f) is ∙ set_same old.facts.items s (site_fact (w.nodes s)) fact) disk_sets racks;
     rose = rose_still old new s e after there later disk_sets;
   }
   failed_at w old new s Off x f' e after stands primary below fact there later wrote is facts disk_sets racks =
-      let has = wrote.1 in
+      let has = fell_alone (half_begun (w.nodes s) x) after wrote.1 in
       record {
         world = cut_write w s x has.count;
         fails = [];
@@ -252,7 +254,7 @@ module _ {R : Type 0} {g : Ghosts R} where
   failed_at w old new s other x f' e after stands primary below fact there later wrote is facts disk_sets racks = absurd wrote
 
   pub write_done : (w : World) (old new : Yard R g) (name volume : List ℕ) (start : ℕ) (bytes : List ℕ) (s v number : ℕ) (f f' : SiteFacts) (e after : DiskSet R g) → YardAgrees w old
-      → Goes w old name volume start bytes s v e → slice_get old.facts.items s ≡ Some f → Later e after → WroteAt [] (w.nodes s) (the_write v start bytes) e after (Ok number)
+      → Goes w old name volume start bytes s v e → slice_get old.facts.items s ≡ Some f → Later e after → WroteAt alone (w.nodes s) (the_write v start bytes) e after (Ok number)
       → f' ≡ last_facts number f → new.facts.items ≡ slice_set old.facts.items s f' → new.disk_sets.items ≡ slice_set old.disk_sets.items s after → new.racks ≡ old.racks
       → PutsIs w name volume start bytes (DoneAt number) old new
   write_done w old new name volume start bytes s v number f f' e after stands to at later wrote is facts disk_sets racks =
@@ -261,7 +263,7 @@ module _ {R : Type 0} {g : Ghosts R} where
       (is ∙ ap (λ (k : SiteFacts). last_facts number k) (some_same (sym at ∙ to.fact))) facts disk_sets racks)
 
   pub write_failed : (w : World) (old new : Yard R g) (name volume : List ℕ) (start : ℕ) (bytes : List ℕ) (s v : ℕ) (why : No) (said : Said) (f f' : SiteFacts) (e after : DiskSet R g) → YardAgrees w old
-      → Goes w old name volume start bytes s v e → slice_get old.facts.items s ≡ Some f → Later e after → WroteAt [] (w.nodes s) (the_write v start bytes) e after (Err why)
+      → Goes w old name volume start bytes s v e → slice_get old.facts.items s ≡ Some f → Later e after → WroteAt alone (w.nodes s) (the_write v start bytes) e after (Err why)
       → f' ≡ noted_facts why f → said ≡ Refused why → new.facts.items ≡ slice_set old.facts.items s f' → new.disk_sets.items ≡ slice_set old.disk_sets.items s after → new.racks ≡ old.racks
       → PutsIs w name volume start bytes said old new
   write_failed w old new name volume start bytes s v why said f f' e after stands to at later wrote is says facts disk_sets racks =

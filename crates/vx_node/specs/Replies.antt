@@ -1,5 +1,5 @@
 -- The text of each reply.
-use Rattle.std.specs.Prelude.{ℕ, zero, suc, ◌+◌, List, [], ◌∷◌, ◌++◌, codes}
+use Rattle.std.specs.Prelude.{ℕ, zero, suc, ◌+◌, eqb, List, [], ◌∷◌, ◌++◌, codes, Option, Some, None, if◌then◌else◌}
 use Rattle.std.specs.Fmt.{decimal}
 use Rattle.vx_model.specs.Content.{block_of, blocks_in}
 use Rattle.vx_events.specs.declared.said.Said.{Said}
@@ -22,18 +22,33 @@ blocks_text bytes k (suc n) = block_text (block_of bytes k) ++ blocks_text bytes
 abbrev pub recovered_text : ℕ → SiteView → List ℕ
 recovered_text last view = codes "recovered " ++ decimal last ++ 10 ∷ [] ++ status_text view
 
-abbrev pub text_of : Said → List ℕ
-text_of Done = codes "done" ++ 10 ∷ []
-text_of (DoneAt number) = codes "done " ++ decimal number ++ 10 ∷ []
-text_of (Got bytes) = blocks_text bytes 0 (blocks_in bytes)
-text_of (Shown view) = status_text view
-text_of (Recovered last view) = recovered_text last view
-text_of (Logged number) = codes "logged " ++ decimal number ++ 10 ∷ []
-text_of (Pending number) = codes "pending " ++ decimal number ++ 10 ∷ []
-text_of Taken = codes "taken" ++ 10 ∷ []
-text_of Ignored = codes "ignored" ++ 10 ∷ []
-text_of (Settled number) = codes "settled " ++ decimal number ++ 10 ∷ []
-text_of (Refused why) = refusal_text why
+-- a reply by itself
+abbrev pub reply_text : Said → List ℕ
+reply_text Done = codes "done" ++ 10 ∷ []
+reply_text (DoneAt number) = codes "done " ++ decimal number ++ 10 ∷ []
+reply_text (Got bytes) = blocks_text bytes 0 (blocks_in bytes)
+reply_text (Shown view) = status_text view
+reply_text (Recovered last view) = recovered_text last view
+reply_text (Logged number) = codes "logged " ++ decimal number ++ 10 ∷ []
+reply_text (Pending number) = codes "pending " ++ decimal number ++ 10 ∷ []
+reply_text Taken = codes "taken" ++ 10 ∷ []
+reply_text Ignored = codes "ignored" ++ 10 ∷ []
+reply_text (Settled number) = codes "settled " ++ decimal number ++ 10 ∷ []
+reply_text (Refused why) = refusal_text why
+
+-- what a reply's first line ends with, where packets from the first of these numbers to the second were sent
+abbrev pub sent_text : (first last : ℕ) → List ℕ
+sent_text first last = codes " sent " ++ decimal first ++ 32 ∷ decimal last
+
+-- a text with this at the end of its first line
+abbrev pub first_line_with : List ℕ → List ℕ → List ℕ
+first_line_with more [] = more
+first_line_with more (byte ∷ bytes) = if eqb byte 10 then more ++ byte ∷ bytes else byte ∷ first_line_with more bytes
+
+-- the text that answers a line, in which packets of these numbers were sent
+abbrev pub text_of : Said → Option (ℕ × ℕ) → List ℕ
+text_of said None = reply_text said
+text_of said (Some (first, last)) = first_line_with (sent_text first last) (reply_text said)
 
 -- what a refusal of the disks is to the line
 abbrev pub reply_to : Stop → Result Said OutOfMemory

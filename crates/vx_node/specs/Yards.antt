@@ -3,6 +3,7 @@ use Rattle.std.specs.Prelude.{◌≡◌, ◌≢◌, ◌⊎◌, ℕ, ◌≤◌, �
 use Rattle.vx_model.specs.declared.limits.TheConstants.{MOST_SITES}
 use Rattle.std.specs.Vec.{vec_capacity}
 use Rattle.std.specs.Io.KnownBytes.{Appends}
+use Rattle.vx_history.specs.Doubts.{Doubted}
 use Rattle.vx_history.specs.World.{World}
 use Rattle.vx_disk.specs.declared.shelf.Shelf.{Ghosts}
 use Rattle.vx_order.specs.Order.{refusal_of}
@@ -13,6 +14,7 @@ use Rattle.vx_diskset.specs.declared.disk_set.DiskSet.{DiskSet}
 use Rattle.vx_node.specs.declared.yard.Yard.{Yard}
 use Rattle.vx_node.specs.declared.errors.LineStop.{LineStop}
 use Rattle.vx_node.specs.declared.errors.LineStop.TheVariants.{WriteFault, OutOfMemory}
+use Rattle.vx_events.specs.Doubts.{sure}
 use Rattle.vx_events.specs.Facts.{facts_of}
 use Rattle.vx_node.specs.Stands.{DiskSetsStand, AreTold, RoseAll, faults_of}
 use Rattle.vx_events.specs.Parts.{DonePart}
@@ -51,37 +53,38 @@ module _ {R : Type 0} {g : Ghosts R} where
     pub stands : YardAgrees w new
     pub rose : RoseAll [] (count_of old) (count_of new)
 
-  -- The yard stands for this world, in which no site keeps a link. Each is a primary, where contents are told. The disks that the world makes
-  -- fail are made to fail, and a fuse that it knows of has no more calls left than it knows.
-  pub record YardStands (w : World) (y : Yard R g) : Type 0 where
-    pub agrees : YardAgrees w y
-    pub unlinked : IsUnlinked w
-    pub primaries : IsTold y → ArePrimaries w
-    pub failing : (s : ℕ) (e : DiskSet R g) → s < w.sites → slice_get y.disk_sets.items s ≡ Some e → FailsAs (w.nodes s) e
-    pub fuses : (s : ℕ) (e : DiskSet R g) → s < w.sites → slice_get y.disk_sets.items s ≡ Some e → FusedAs (w.nodes s) e
+  -- The yard stands for this world. No site is in doubt, and none keeps a link. Each is a primary, where contents are told. The disks that the
+  -- world makes fail are made to fail, and a fuse that it knows of has no more calls left than it knows.
+  pub record YardStands (d : Doubted) (y : Yard R g) : Type 0 where
+    pub agrees : YardAgrees d.world y
+    pub calm : d ≡ sure d.world
+    pub unlinked : IsUnlinked d.world
+    pub primaries : IsTold y → ArePrimaries d.world
+    pub failing : (s : ℕ) (e : DiskSet R g) → s < d.world.sites → slice_get y.disk_sets.items s ≡ Some e → FailsAs (d.world.nodes s) e
+    pub fuses : (s : ℕ) (e : DiskSet R g) → s < d.world.sites → slice_get y.disk_sets.items s ≡ Some e → FusedAs (d.world.nodes s) e
 
   -- the line made a step, by which the yard stands for a new world; its text is `text`
-  pub record Steps (w : World) (line : ScriptLine) (old new : Yard R g) (text : List ℕ) : Type 0 where
-    pub world : World
+  pub record Steps (d : Doubted) (line : ScriptLine) (old new : Yard R g) (text : List ℕ) : Type 0 where
+    pub next : Doubted
     pub fails : Fails
-    pub prints : Prints (IsTold new) (in_files old) w line fails text world
-    pub stands : YardStands world new
+    pub prints : Prints (IsTold new) (in_files old) d line fails text next
+    pub stands : YardStands next new
     pub rose : RoseAll fails (count_of old) (count_of new)
     -- where no test refuses the line, the fuse of its site is as its calls leave it
-    pub called : refusal_of old.facts.items (in_files old) line ≡ None → HasCalled w line prints.said old new
+    pub called : refusal_of old.facts.items (in_files old) line ≡ None → HasCalled d.world line prints.said old new
 
   -- Memory ran out within the line: a first part of its events was done, and no call failed. Of the lines that are built that part is empty.
-  pub record StopsShort (w : World) (line : ScriptLine) (old new : Yard R g) : Type 0 where
-    pub world : World
-    pub part : DonePart w line world
-    pub stands : YardStands world new
+  pub record StopsShort (d : Doubted) (line : ScriptLine) (old new : Yard R g) : Type 0 where
+    pub next : Doubted
+    pub part : DonePart d line next
+    pub stands : YardStands next new
     pub rose : RoseAll [] (count_of old) (count_of new)
 
   -- The whole text was written. Or the sink failed, and a part of it is missing. Or memory ran out, within the line or behind it, and nothing
   -- was written.
-  abbrev pub LineIs : World → ScriptLine → Yard R g → Yard R g → Option (List ℕ) → Option (List ℕ) → Result (Unit {0}) LineStop → Type 0
-  LineIs w line old new written now (Ok done) = (text : List ℕ) × Steps w line old new text × Appends written now text
-  LineIs w line old new written now (Err WriteFault) =
-      (text : List ℕ) × (sent : List ℕ) × (unsent : List ℕ) × Steps w line old new text × (text ≡ sent ++ unsent) × (unsent ≢ []) × Appends written now sent
-  LineIs w line old new written now (Err OutOfMemory) =
-      (StopsShort w line old new ⊎ ((text : List ℕ) × Steps w line old new text)) × Appends written now []
+  abbrev pub LineIs : Doubted → ScriptLine → Yard R g → Yard R g → Option (List ℕ) → Option (List ℕ) → Result (Unit {0}) LineStop → Type 0
+  LineIs d line old new written now (Ok done) = (text : List ℕ) × Steps d line old new text × Appends written now text
+  LineIs d line old new written now (Err WriteFault) =
+      (text : List ℕ) × (sent : List ℕ) × (unsent : List ℕ) × Steps d line old new text × (text ≡ sent ++ unsent) × (unsent ≢ []) × Appends written now sent
+  LineIs d line old new written now (Err OutOfMemory) =
+      (StopsShort d line old new ⊎ ((text : List ℕ) × Steps d line old new text)) × Appends written now []

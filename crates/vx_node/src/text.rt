@@ -2,7 +2,7 @@
 ghost use Rattle.std.specs.Prelude.{◌≡◌, ◌≤◌, ◌+◌, ◌*◌, ◌++◌, ◌∷◌, [], OnOk, codes, length};
 ghost use Rattle.std.specs.Fmt.{decimal};
 ghost use Rattle.vx_model.specs.Content.{block_of, blocks_in};
-ghost use Rattle.vx_node.specs.Replies.{text_of, blocks_text, recovered_text};
+ghost use Rattle.vx_node.specs.Replies.{reply_text, blocks_text, recovered_text};
 
 use crate::Said;
 use vx_model::OutOfMemory;
@@ -10,7 +10,7 @@ use vx_report::{SiteView, push_block, push_number, push_refusal, push_status, pu
 
 /// Appends the lines of a reply.
 pub fn push_said(out: &mut Vec<u8>, said: &Said) -> Result<(), OutOfMemory>
-    ensures { OnOk result (out.new.items ≡ out.old.items ++ text_of said.now) }
+    ensures { OnOk result (out.new.items ≡ out.old.items ++ reply_text said.now) }
 {
     match said {
         Said::Done => push_text(out, b"done\n"),

@@ -1,8 +1,10 @@
 // All sites of a run, and the calls on them.
 ghost use Rattle.std.specs.Prelude.{◌≡◌, ◌≤◌, ℕ, IfOk, IfErr, IsSome, is_some, true};
 ghost use Rattle.vx_stream.specs.Causes.{Rose};
-ghost use Rattle.vx_history.specs.World.{World, empty_world};
+ghost use Rattle.vx_history.specs.Doubts.{Doubted};
+ghost use Rattle.vx_history.specs.World.{empty_world};
 ghost use Rattle.vx_order.specs.Order.{refusal_of};
+ghost use Rattle.vx_events.specs.Doubts.{sure};
 ghost use Rattle.vx_node.specs.OfSites.{AsAsked};
 ghost use Rattle.vx_node.specs.Holds.{AreFresh, RacksHold, RacksTell, rack_faults};
 ghost use Rattle.vx_node.specs.Lines.{is_built};
@@ -39,7 +41,7 @@ impl<R: Rack> Yard<R> {
         dir: Option<&str>,
     ) -> Result<Yard<R>, (Vec<R>, OutOfMemory)>
         requires { AreFresh R.meaning racks.items }
-        ensures stands { IfOk result (λ y. YardStands empty_world y) }
+        ensures stands { IfOk result (λ y. YardStands (sure empty_world) y) }
         ensures files { IfOk result (λ y. in_files y ≡ is_some dir.entry) }
         ensures counts { IfOk result (λ y. (s d : ℕ) → count_of y s d ≡ rack_faults R.meaning racks.items s d) }
         ensures back { IfErr result (λ e. e.0 ≡ racks) }
@@ -68,9 +70,9 @@ impl<R: Rack> Yard<R> {
     ) -> Result<(), LineStop>
         requires built { is_built words.now ≡ true }
         requires kept { IsKept self.old }
-        ensures line { (w : World) → YardStands w self.old → LineIs w words.now self.old self.new (O.written out.old) (O.written out.new) result }
+        ensures line { (d : Doubted) → YardStands d self.old → LineIs d words.now self.old self.new (O.written out.old) (O.written out.new) result }
         // What the line asks of the rack of its site: a disk, a number of calls or a pick.
-        ensures asked { (w : World) → YardStands w self.old → IsFree self.old words.now → AsAsked w words.now self.old self.new }
+        ensures asked { (d : Doubted) → YardStands d self.old → IsFree self.old words.now → AsAsked d.world words.now self.old self.new }
         // A line that is refused leaves all disks as they are.
         ensures still { IsSome (refusal_of self.old.facts.items (in_files self.old) words.now) → self.new.disk_sets ≡ self.old.disk_sets }
         ensures told { IsTold self.new → IsTold self.old }
@@ -93,9 +95,9 @@ impl<R: Rack> Yard<R> {
 
     /// The racks, in the order of the sites.
     pub fn into_racks(self) -> Vec<R>
-        ensures holds { (w : World) → YardStands w self → RacksHold R.meaning w result.items }
-        ensures counts { (w : World) → YardStands w self → (s d : ℕ) → rack_faults R.meaning result.items s d ≡ count_of self s d }
-        ensures told { (w : World) → YardStands w self → RacksTell R.meaning result.items → IsTold self }
+        ensures holds { (d : Doubted) → YardStands d self → RacksHold R.meaning d.world result.items }
+        ensures counts { (d : Doubted) → YardStands d self → (s d : ℕ) → rack_faults R.meaning result.items s d ≡ count_of self s d }
+        ensures told { (d : Doubted) → YardStands d self → RacksTell R.meaning result.items → IsTold self }
     {
         take_racks(self.racks, self.disk_sets)
     }

@@ -3,7 +3,7 @@ use Rattle.std.proofs.Common.{◌≡◌, ◌∙◌, ◌+◌, ◌-◌, ◌*◌, �
 use Rattle.vx_model.specs.Content.{block_of}
 use Rattle.vx_bitmap.specs.Bits.{Changed, is_marked}
 use Rattle.vx_bitmap.specs.Maps.{Map}
-use Rattle.vx_bitmap.proofs.Blocks.{all_in_block, block_moves, block_stands, bytes_changed, cut, equal_bytes, put_other, put_same, put_size, unequal_bytes}
+use Rattle.vx_bitmap.proofs.Blocks.{all_in_block, block_moves, block_stands, block_writes, bytes_changed, cut, equal_bytes, put_other, put_same, put_size, unequal_bytes}
 use Rattle.vx_bitmap.proofs.change.change_block.Goals as goal
 
 pub returns-then-eq-clause-changed : goal.returns-then-eq-clause-changed
@@ -71,3 +71,19 @@ returns-clause-nothing g c = λ all.
     let was : c.copy_from_slice.new.self ≡ block_of c.args.bytes.now c.args.block = cut c.args.block c.args.bytes.now c.copy_from_slice.new.self c.copy_from_slice.ensures.after in
     absurd (unequal_bytes c.eq.result _ _ c.eq.ensures c.if-eq.false
     (c.mark_run.ensures.still (all_in_block c.args.bytes.now c.copy_from_slice.new.self c.args.block c.args.start c.args.end c.args.value c.requires.from c.requires.some c.requires.to was all) ∙ c.copy_from_slice.ensures.after))
+
+pub returns-in_err-put-clause-writes : goal.returns-in_err-put-clause-writes
+returns-in_err-put-clause-writes g c =
+    let map : Map = record { unit = c.args.unit; first = c.args.first; bytes = c.args.bytes.now } in
+    let was : c.copy_from_slice.new.self ≡ block_of c.args.bytes.now c.args.block = cut c.args.block c.args.bytes.now c.copy_from_slice.new.self c.copy_from_slice.ensures.after in
+    block_writes map c.args.block c.args.start c.args.end c.args.value c.mark_run.new.block c.requires.from c.requires.some c.requires.to
+    (subst (λ (b : List ℕ). Changed (c.args.start - 4096 * c.args.block) (c.args.end - 4096 * c.args.block) c.args.value 4096 (is_marked b) (is_marked c.mark_run.new.block)) was c.mark_run.ensures.changed)
+    (g.S.Shelf.meaning c.args.shelf.now) (g.S.Shelf.meaning c.put.new.shelf) c.mark_run.array_long c.requires.inside c.put.ensures.goes
+
+pub returns-clause-writes : goal.returns-clause-writes
+returns-clause-writes g c =
+    let map : Map = record { unit = c.args.unit; first = c.args.first; bytes = c.args.bytes.now } in
+    let was : c.copy_from_slice.new.self ≡ block_of c.args.bytes.now c.args.block = cut c.args.block c.args.bytes.now c.copy_from_slice.new.self c.copy_from_slice.ensures.after in
+    block_writes map c.args.block c.args.start c.args.end c.args.value c.mark_run.new.block c.requires.from c.requires.some c.requires.to
+    (subst (λ (b : List ℕ). Changed (c.args.start - 4096 * c.args.block) (c.args.end - 4096 * c.args.block) c.args.value 4096 (is_marked b) (is_marked c.mark_run.new.block)) was c.mark_run.ensures.changed)
+    (g.S.Shelf.meaning c.args.shelf.now) (g.S.Shelf.meaning c.put.new.shelf) c.mark_run.array_long c.requires.inside c.put.ensures.goes

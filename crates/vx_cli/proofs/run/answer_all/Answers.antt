@@ -4,7 +4,7 @@ use Rattle.vx_cli.proofs.TurnLemmas.{reaches_first, reaches_more, reaches_end, t
 use Rattle.vx_cli.proofs.run.answer_all.Goals as goal
 
 pub turn-requires-clause-kept : goal.turn-requires-clause-kept
-turn-requires-clause-kept g c = λ κs within. record { world = c.loop-number.invariant.reaches.world; agrees = c.loop-number.invariant.reaches.stands.agrees }
+turn-requires-clause-kept g c = λ κs within. record { world = c.loop-number.invariant.reaches.world.world; agrees = c.loop-number.invariant.reaches.stands.agrees }
 
 pub loop-number-init : goal.loop-number-init
 loop-number-init g c = record {

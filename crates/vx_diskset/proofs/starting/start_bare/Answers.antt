@@ -13,7 +13,7 @@ use Rattle.vx_diskset.proofs.KeepsFailing.{same_on, same_spent, same_then}
 use Rattle.vx_diskset.proofs.starting.start_bare.Goals as goal
 
 pub returns-in-Ok-false-clause-found : goal.returns-in-Ok-false-clause-found
-returns-in-Ok-false-clause-found g c = λ n clean some ring links. clean_read n (g.R.Shelf.meaning c.args.rack) (g.R.Shelf.meaning c.has_log.new.rack) c.has_log.ensures.goes clean
+returns-in-Ok-false-clause-found g c = λ n clean some ring beside. clean_read n (g.R.Shelf.meaning c.args.rack) (g.R.Shelf.meaning c.has_log.new.rack) c.has_log.ensures.goes clean
 
 pub returns-in-Err-clause-found : goal.returns-in-Err-clause-found
 returns-in-Err-clause-found g c = λ n clean some ring.

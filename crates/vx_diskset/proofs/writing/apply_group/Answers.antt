@@ -8,13 +8,13 @@ use Rattle.vx_diskset.proofs.MakeRoom.{apply_log}
 use Rattle.vx_diskset.proofs.writing.apply_group.Goals as goal
 
 pub returns-then-is_down-clause-applied : goal.returns-then-is_down-clause-applied
-returns-then-is_down-clause-applied g c = λ links n up none.
+returns-then-is_down-clause-applied g c = λ beside n up none.
     let lawful = (g.met.R.Shelf g.world.𝓛 g.world.𝓜 g.world.𝓡 ((λ s x. x), (λ x. x), (λ x. x), λ x. x)).lawful in
     applied_cut n c.args.rvg.now.core (g.R.Shelf.meaning c.args.rvg.now.shelf) (g.R.Shelf.meaning c.apply-answer.new.self.shelf) up (record { up = up.state; running = none }) (lawful c.args.rvg.now.shelf) (lawful c.apply-answer.new.self.shelf)
     c.apply-answer.ensures.moves (sym c.is_down.ensures ∙ c.if-is_down.true)
 
 pub returns-clause-applied : goal.returns-clause-applied
-returns-clause-applied g c = λ links n up none.
+returns-clause-applied g c = λ beside n up none.
     let lawful = (g.met.R.Shelf g.world.𝓛 g.world.𝓜 g.world.𝓡 ((λ s x. x), (λ x. x), (λ x. x), λ x. x)).lawful in
     applied_as n c.args.to c.args.rvg.now.core c.apply-answer.new.self.core (g.R.Shelf.meaning c.args.rvg.now.shelf) (g.R.Shelf.meaning c.apply-answer.new.self.shelf) c.apply-answer.result up (record { up = up.state; running = none }) c.args.rvg.now.sound
     (lawful c.args.rvg.now.shelf) (lawful c.apply-answer.new.self.shelf) (sym c.is_down.ensures ∙ c.if-is_down.false)

@@ -1,45 +1,47 @@
 -- Room in the log, case by case.
-use Rattle.std.proofs.Common.{◌∙◌, ap, arith}
-use Rattle.std.specs.Prelude.{Err, Ok}
+use Rattle.std.proofs.Common.{◌≤◌, ◌∙◌, ℕ, ap, arith}
+use Rattle.vx_model.specs.declared.limits.TheConstants.{MOST_CALL_BLOCKS}
+use Rattle.std.specs.Prelude.{Err, Ok, min}
 use Rattle.std.proofs.lemmas.Result.{err_from_is_err_and}
 use Rattle.vx_srl.specs.Views.{Log, free_of}
 use Rattle.vx_diskset.specs.DiskSets.{worked}
-use Rattle.vx_diskset.proofs.MakeRoom.{room_unapplied, room_later, room_again, all_applied}
+use Rattle.vx_diskset.proofs.MakeRoom.{room_unapplied, room_later, room_again, room_after}
 use Rattle.vx_ringio.proofs.Spending.{spends_none, then_spends}
 use Rattle.vx_diskset.proofs.writing.make_room.Goals as goal
 
 pub returns-in_err-apply_group-clause-made : goal.returns-in_err-apply_group-clause-made
-returns-in_err-apply_group-clause-made g c = λ links n up none fits few.
+returns-in_err-apply_group-clause-made g c = λ beside n up none has few.
     let p = err_from_is_err_and c.from_residual.result c.from_residual.ensures.1 in
     rw (p.1, p.2)
-    (room_unapplied links n c.head-last.result c.apply_group.new.rvg.core (g.R.Shelf.meaning c.args.rvg.now.shelf) (g.R.Shelf.meaning c.apply_group.new.rvg.shelf) _ (c.in_err-apply_group.ensures.applied links n up none))
+    (room_unapplied beside n c.args.hold c.apply_group.new.rvg.core (g.R.Shelf.meaning c.args.rvg.now.shelf) (g.R.Shelf.meaning c.apply_group.new.rvg.shelf) _ (c.in_err-apply_group.ensures.applied beside n up none))
 
 pub returns-in_err-reclaim_group-clause-made : goal.returns-in_err-reclaim_group-clause-made
-returns-in_err-reclaim_group-clause-made g c = λ links n up none fits few.
+returns-in_err-reclaim_group-clause-made g c = λ beside n up none has few.
     let p = err_from_is_err_and c.from_residual-in_err-reclaim_group.result c.from_residual-in_err-reclaim_group.ensures.1 in
-    let applied = c.in_ok-apply_group.ensures.applied links n up none in
-    let number = all_applied links n c.head-last.result c.in_ok-apply_group.field-0 c.apply_group.new.rvg.core (g.R.Shelf.meaning c.args.rvg.now.shelf) (g.R.Shelf.meaning c.apply_group.new.rvg.shelf) (c.head-last.ensures ∙ up.head) applied in
+    let done = c.in_ok-apply_group.ensures.applied beside n up none in
+    let rest = room_after beside n c.args.hold c.args.count c.in_ok-apply_group.field-0 c.apply_group.new.rvg.core.applied c.min-to.result c.apply_group.new.rvg.core (g.R.Shelf.meaning c.args.rvg.now.shelf) (g.R.Shelf.meaning c.apply_group.new.rvg.shelf) (omega (arith, up.logged, up.durable none)) c.in_ok-apply_group.ensures.reached
+    (c.min-to.ensures ∙ ap (λ (k : ℕ). min c.args.hold k) c.applied.ensures) done has in
+    let less : free_of c.apply_group.new.rvg.core.log ≤ MOST_CALL_BLOCKS = omega (arith, c.if-free-count.false, c.free.ensures.is, few, ap (λ (l : Log). free_of l) c.in_ok-apply_group.ensures.log) in
     rw (p.1, p.2)
-    (room_later links n c.reclaim_group.new.rvg.core (g.R.Shelf.meaning c.args.rvg.now.shelf) (g.R.Shelf.meaning c.apply_group.new.rvg.shelf) (g.R.Shelf.meaning c.reclaim_group.new.rvg.shelf) (Err c.in_err-reclaim_group.field-0.0) c.apply_group.ensures.later.counts
-    (room_again links n c.reclaim_group.new.rvg.core (g.R.Shelf.meaning c.apply_group.new.rvg.shelf) (g.R.Shelf.meaning c.reclaim_group.new.rvg.shelf) (Err c.in_err-reclaim_group.field-0.0)
-    (c.in_err-reclaim_group.ensures.made links (worked n) applied.2 none (c.in_ok-apply_group.ensures.reached ∙ number)
-    (omega (arith, c.if-free-count.false, c.free.ensures.is, few, ap (λ (l : Log). free_of l) c.in_ok-apply_group.ensures.log)))))
+    (room_later beside n c.reclaim_group.new.rvg.core (g.R.Shelf.meaning c.args.rvg.now.shelf) (g.R.Shelf.meaning c.apply_group.new.rvg.shelf) (g.R.Shelf.meaning c.reclaim_group.new.rvg.shelf) (Err c.in_err-reclaim_group.field-0.0) c.apply_group.ensures.later.counts
+    (room_again beside n c.reclaim_group.new.rvg.core (g.R.Shelf.meaning c.apply_group.new.rvg.shelf) (g.R.Shelf.meaning c.reclaim_group.new.rvg.shelf) (Err c.in_err-reclaim_group.field-0.0) (c.in_err-reclaim_group.ensures.made beside (worked n) done.2 none rest.0 less)))
 
 pub returns-then-free-count-2-clause-made : goal.returns-then-free-count-2-clause-made
-returns-then-free-count-2-clause-made g c = λ links n up none fits few.
-    let applied = c.in_ok-apply_group.ensures.applied links n up none in
-    let number = all_applied links n c.head-last.result c.in_ok-apply_group.field-0 c.apply_group.new.rvg.core (g.R.Shelf.meaning c.args.rvg.now.shelf) (g.R.Shelf.meaning c.apply_group.new.rvg.shelf) (c.head-last.ensures ∙ up.head) applied in
-    room_again links n c.reclaim_group.new.rvg.core (g.R.Shelf.meaning c.apply_group.new.rvg.shelf) (g.R.Shelf.meaning c.reclaim_group.new.rvg.shelf) (Ok c.in_ok-reclaim_group.field-0)
-    (c.in_ok-reclaim_group.ensures.made links (worked n) applied.2 none (c.in_ok-apply_group.ensures.reached ∙ number)
-    (omega (arith, c.if-free-count.false, c.free.ensures.is, few, ap (λ (l : Log). free_of l) c.in_ok-apply_group.ensures.log)))
+returns-then-free-count-2-clause-made g c = λ beside n up none has few.
+    let done = c.in_ok-apply_group.ensures.applied beside n up none in
+    let rest = room_after beside n c.args.hold c.args.count c.in_ok-apply_group.field-0 c.apply_group.new.rvg.core.applied c.min-to.result c.apply_group.new.rvg.core (g.R.Shelf.meaning c.args.rvg.now.shelf) (g.R.Shelf.meaning c.apply_group.new.rvg.shelf) (omega (arith, up.logged, up.durable none)) c.in_ok-apply_group.ensures.reached
+    (c.min-to.ensures ∙ ap (λ (k : ℕ). min c.args.hold k) c.applied.ensures) done has in
+    let less : free_of c.apply_group.new.rvg.core.log ≤ MOST_CALL_BLOCKS = omega (arith, c.if-free-count.false, c.free.ensures.is, few, ap (λ (l : Log). free_of l) c.in_ok-apply_group.ensures.log) in
+    room_again beside n c.reclaim_group.new.rvg.core (g.R.Shelf.meaning c.apply_group.new.rvg.shelf) (g.R.Shelf.meaning c.reclaim_group.new.rvg.shelf) (Ok c.in_ok-reclaim_group.field-0) (c.in_ok-reclaim_group.ensures.made beside (worked n) done.2 none rest.0 less)
 
 pub returns-else-free-count-2-clause-made : goal.returns-else-free-count-2-clause-made
-returns-else-free-count-2-clause-made g c = λ links n up none fits few.
-    let applied = c.in_ok-apply_group.ensures.applied links n up none in
-    let number = all_applied links n c.head-last.result c.in_ok-apply_group.field-0 c.apply_group.new.rvg.core (g.R.Shelf.meaning c.args.rvg.now.shelf) (g.R.Shelf.meaning c.apply_group.new.rvg.shelf) (c.head-last.ensures ∙ up.head) applied in
-    let free = c.in_ok-reclaim_group.ensures.free links (worked n) applied.2 none (c.in_ok-apply_group.ensures.reached ∙ number)
-    (omega (arith, c.if-free-count.false, c.free.ensures.is, few, ap (λ (l : Log). free_of l) c.in_ok-apply_group.ensures.log)) in
-    absurd (omega (arith, c.if-free-count-2.false, c.free-2.ensures, free, fits))
+returns-else-free-count-2-clause-made g c = λ beside n up none has few.
+    let done = c.in_ok-apply_group.ensures.applied beside n up none in
+    let rest = room_after beside n c.args.hold c.args.count c.in_ok-apply_group.field-0 c.apply_group.new.rvg.core.applied c.min-to.result c.apply_group.new.rvg.core (g.R.Shelf.meaning c.args.rvg.now.shelf) (g.R.Shelf.meaning c.apply_group.new.rvg.shelf) (omega (arith, up.logged, up.durable none)) c.in_ok-apply_group.ensures.reached
+    (c.min-to.ensures ∙ ap (λ (k : ℕ). min c.args.hold k) c.applied.ensures) done has in
+    let less : free_of c.apply_group.new.rvg.core.log ≤ MOST_CALL_BLOCKS = omega (arith, c.if-free-count.false, c.free.ensures.is, few, ap (λ (l : Log). free_of l) c.in_ok-apply_group.ensures.log) in
+    let free = c.in_ok-reclaim_group.ensures.room beside (worked n) c.args.count done.2 none rest.0 less rest.1 in
+    absurd (omega (arith, c.if-free-count-2.false, c.free-2.ensures.is, free))
 
 pub returns-then-free-count-clause-off : goal.returns-then-free-count-clause-off
 returns-then-free-count-clause-off g c = λ up. up

@@ -16,25 +16,25 @@ use Rattle.vx_diskset.proofs.CallsBurn.{called_by, called_still, cut_short, is_l
 use Rattle.vx_diskset.proofs.writing.write_group.Goals as goal
 
 pub returns-then-head-ge-MOST_NUMBER-clause-wrote : goal.returns-then-head-ge-MOST_NUMBER-clause-wrote
-returns-then-head-ge-MOST_NUMBER-clause-wrote g c = λ links n stands can. wrote_none n (record { volume = c.args.volume; start = c.args.start; bytes = c.args.bytes.now }) c.args.rvg.now stands (omega (arith, c.if-head-ge-MOST_NUMBER.true, c.head.ensures))
+returns-then-head-ge-MOST_NUMBER-clause-wrote g c = λ beside n stands can has. wrote_none n (record { volume = c.args.volume; start = c.args.start; bytes = c.args.bytes.now }) c.args.rvg.now stands (omega (arith, c.if-head-ge-MOST_NUMBER.true, c.head.ensures))
 
 pub returns-in_err-make_room-clause-wrote : goal.returns-in_err-make_room-clause-wrote
-returns-in_err-make_room-clause-wrote g c = λ links n stands can.
+returns-in_err-make_room-clause-wrote g c = λ beside n stands can has.
     let p = err_from_is_err_and c.from_residual.result c.from_residual.ensures.1 in
     rw (p.1, p.2)
-    (wrote_at links n (record { volume = c.args.volume; start = c.args.start; bytes = c.args.bytes.now }) c.args.rvg.now c.make_room.new.rvg (Err c.in_err-make_room.field-0.0) (omega (arith, c.if-head-ge-MOST_NUMBER.false, c.head.ensures, stands.head))
-    (unroomed links n (record { volume = c.args.volume; start = c.args.start; bytes = c.args.bytes.now }) c.make_room.new.rvg.core (g.R.Shelf.meaning c.args.rvg.now.shelf) (g.R.Shelf.meaning c.make_room.new.rvg.shelf) c.in_err-make_room.field-0.0
+    (wrote_at beside n (record { volume = c.args.volume; start = c.args.start; bytes = c.args.bytes.now }) c.args.rvg.now c.make_room.new.rvg (Err c.in_err-make_room.field-0.0) (omega (arith, c.if-head-ge-MOST_NUMBER.false, c.head.ensures, stands.head))
+    (unroomed beside n (record { volume = c.args.volume; start = c.args.start; bytes = c.args.bytes.now }) c.make_room.new.rvg.core (g.R.Shelf.meaning c.args.rvg.now.shelf) (g.R.Shelf.meaning c.make_room.new.rvg.shelf) c.in_err-make_room.field-0.0
     (λ calls told exact. (c.in_err-make_room.ensures.idle (omega (
       arith,
       hand_here n c.args.rvg.now.core (g.R.Shelf.meaning c.args.rvg.now.shelf) c.args.volume c.args.start c.args.bytes.now stands can.running c.args.rvg.now.sound
           (c.make_room.ensures.later.told told) (omega (arith, c.requires.some, c.requires.whole)) exact.keeps exact.room,
     ))).0)
-    (c.in_err-make_room.ensures.made links n stands can.running (omega (arith, can.fits)) (omega (arith, c.requires.few)))))
+    (c.in_err-make_room.ensures.made beside n stands can.running has (omega (arith, c.requires.few)))))
 
 pub returns-then-is_down-clause-wrote : goal.returns-then-is_down-clause-wrote
-returns-then-is_down-clause-wrote g c = λ links n stands can.
+returns-then-is_down-clause-wrote g c = λ beside n stands can has.
     let lawful = (g.met.R.Shelf g.world.𝓛 g.world.𝓜 g.world.𝓡 ((λ s x. x), (λ x. x), (λ x. x), λ x. x)).lawful in
-    let roomy = c.in_ok-make_room.ensures.made links n stands can.running (omega (arith, can.fits)) (omega (arith, c.requires.few)) in
+    let roomy = c.in_ok-make_room.ensures.made beside n stands can.running has (omega (arith, c.requires.few)) in
     let cut = write_cut n c.args.volume c.args.start c.args.bytes.now c.args.rvg.now.core c.make_room.new.rvg.core c.write-answer.new.self.core (g.R.Shelf.meaning c.args.rvg.now.shelf) (g.R.Shelf.meaning c.make_room.new.rvg.shelf) (g.R.Shelf.meaning c.write-answer.new.self.shelf)
     stands can roomy c.make_room.ensures.later.told (lawful c.make_room.new.rvg.shelf) (lawful c.write-answer.new.self.shelf) c.make_room.new.rvg.sound c.write-answer.new.self.sound c.write-answer.ensures.moves
     (sym c.is_down.ensures ∙ c.if-is_down.true) in (
@@ -48,15 +48,15 @@ returns-then-is_down-clause-wrote g c = λ links n stands can.
     )
 
 pub returns-clause-wrote : goal.returns-clause-wrote
-returns-clause-wrote g c = λ links n stands can.
+returns-clause-wrote g c = λ beside n stands can has.
     let lawful = (g.met.R.Shelf g.world.𝓛 g.world.𝓜 g.world.𝓡 ((λ s x. x), (λ x. x), (λ x. x), λ x. x)).lawful in
-    let roomy = c.in_ok-make_room.ensures.made links n stands can.running (omega (arith, can.fits)) (omega (arith, c.requires.few)) in
+    let roomy = c.in_ok-make_room.ensures.made beside n stands can.running has (omega (arith, c.requires.few)) in
     let some : 0 < blocks_in c.args.bytes.now = omega (arith, c.requires.some, c.requires.whole) in
-    wrote_at links n (record { volume = c.args.volume; start = c.args.start; bytes = c.args.bytes.now }) c.args.rvg.now c.write-answer.new.self c.write-answer.result (omega (arith, c.if-head-ge-MOST_NUMBER.false, c.head.ensures, stands.head))
-    (wrote_later links n (record { volume = c.args.volume; start = c.args.start; bytes = c.args.bytes.now }) c.write-answer.new.self.core (g.R.Shelf.meaning c.args.rvg.now.shelf) (g.R.Shelf.meaning c.make_room.new.rvg.shelf) (g.R.Shelf.meaning c.write-answer.new.self.shelf) c.write-answer.result c.make_room.ensures.later.counts
+    wrote_at beside n (record { volume = c.args.volume; start = c.args.start; bytes = c.args.bytes.now }) c.args.rvg.now c.write-answer.new.self c.write-answer.result (omega (arith, c.if-head-ge-MOST_NUMBER.false, c.head.ensures, stands.head))
+    (wrote_later beside n (record { volume = c.args.volume; start = c.args.start; bytes = c.args.bytes.now }) c.write-answer.new.self.core (g.R.Shelf.meaning c.args.rvg.now.shelf) (g.R.Shelf.meaning c.make_room.new.rvg.shelf) (g.R.Shelf.meaning c.write-answer.new.self.shelf) c.write-answer.result c.make_room.ensures.later.counts
     (written_as n c.args.volume c.args.start c.args.bytes.now c.args.rvg.now.core c.make_room.new.rvg.core c.write-answer.new.self.core (g.R.Shelf.meaning c.args.rvg.now.shelf) (g.R.Shelf.meaning c.make_room.new.rvg.shelf) (g.R.Shelf.meaning c.write-answer.new.self.shelf)
     stands can roomy c.make_room.ensures.later.told (lawful c.make_room.new.rvg.shelf) (lawful c.write-answer.new.self.shelf) c.make_room.new.rvg.sound c.write-answer.new.self.sound c.write-answer.ensures.moves
-    (sym c.is_down.ensures ∙ c.if-is_down.false)
+    (omega (arith, c.if-head-ge-MOST_NUMBER.false, c.head.ensures, stands.head)) (sym c.is_down.ensures ∙ c.if-is_down.false)
     (λ told one room. first_after n c.args.rvg.now c.make_room.new.rvg c.args.volume c.args.start c.args.bytes.now stands can.running (c.make_room.ensures.later.told told) some (inl one) room (λ hand. (c.in_ok-make_room.ensures.idle hand).1))
     c.write-answer.result c.write-answer.ensures.answers (λ some. ap g.R.Shelf.meaning (c.write-answer.ensures.unchanged some)) c.write-answer.ensures.stands
     (λ calls told exact. exact_is n c.args.rvg.now c.make_room.new.rvg c.args.volume c.args.start c.args.bytes.now stands can.running
@@ -64,20 +64,20 @@ returns-clause-wrote g c = λ links n stands can.
     (λ hand. (c.in_ok-make_room.ensures.idle hand).1) c.write-answer.result c.write-answer.ensures.calls)))
 
 pub returns-then-head-ge-MOST_NUMBER-clause-called : goal.returns-then-head-ge-MOST_NUMBER-clause-called
-returns-then-head-ge-MOST_NUMBER-clause-called g c = λ links n up. called_still IsLogged (Limit Number MOST_NUMBER) (Up c.args.rvg.now) refl
+returns-then-head-ge-MOST_NUMBER-clause-called g c = λ beside n up. called_still IsLogged (Limit Number MOST_NUMBER) (Up c.args.rvg.now) refl
 
 pub returns-in_err-make_room-clause-called : goal.returns-in_err-make_room-clause-called
-returns-in_err-make_room-clause-called g c = λ links n up.
+returns-in_err-make_room-clause-called g c = λ beside n up.
     let p = err_from_is_err_and c.from_residual.result c.from_residual.ensures.1 in
     rw (p.1, p.2) (called_by IsLogged (Err c.in_err-make_room.field-0.0) c.args.rvg.now c.make_room.new.rvg up.up (c.in_err-make_room.ensures.off up.up) tt c.make_room.ensures.spends)
 
 pub returns-then-is_down-clause-called : goal.returns-then-is_down-clause-called
-returns-then-is_down-clause-called g c = λ links n up.
+returns-then-is_down-clause-called g c = λ beside n up.
     called_by IsLogged (Err Down) c.args.rvg.now c.write-answer.new.self up.up (sym c.is_down.ensures ∙ c.if-is_down.true) tt
     (then_spends (g.R.Shelf.meaning c.args.rvg.now.shelf) (g.R.Shelf.meaning c.make_room.new.rvg.shelf) (g.R.Shelf.meaning c.write-answer.new.self.shelf) c.make_room.ensures.spends c.write-answer.ensures.spends)
 
 pub returns-clause-called : goal.returns-clause-called
-returns-clause-called g c = λ links n up.
+returns-clause-called g c = λ beside n up.
     called_by IsLogged c.write-answer.result c.args.rvg.now c.write-answer.new.self up.up
     (write_off c.make_room.new.rvg.core c.args.volume _ c.args.start (blocks_in c.args.bytes.now) c.args.bytes.now (g.R.Shelf.meaning c.make_room.new.rvg.shelf) (g.R.Shelf.meaning c.write-answer.new.self.shelf) c.write-answer.new.self.core c.write-answer.result
     (sym c.is_down.ensures ∙ c.if-is_down.false) c.write-answer.ensures.answers)

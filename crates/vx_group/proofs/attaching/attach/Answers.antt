@@ -1,9 +1,10 @@
 use Rattle.std.proofs.Common.{◌≡◌, ◌<◌, inl, inr, Err, true, false, refl, sym, ◌∙◌, arith}
 use Rattle.vx_config.specs.Table.{greatest}
 use Rattle.vx_kept.proofs.Chosen.{active_volumes}
-use Rattle.vx_group.proofs.AttachLemmas.{has_other, narrows_attaches, same_refusal, then_attaches}
+use Rattle.vx_group.proofs.AttachLemmas.{has_other, narrows_attaches, then_attaches}
 use Rattle.vx_group.proofs.CallLemmas.{blames_later}
-use Rattle.vx_group.proofs.OpeningLemmas.{may_less, may_volume}
+use Rattle.vx_group.proofs.FailingLemmas.{no_failing, then_failing}
+use Rattle.vx_group.proofs.OpeningLemmas.{same_may}
 use Rattle.vx_group.proofs.Standing.{some_active}
 use Rattle.vx_group.proofs.attaching.attach.Goals as goal
 
@@ -16,7 +17,7 @@ pub returns-in-Err-clause-ends : goal.returns-in-Err-clause-ends
 returns-in-Err-clause-ends g c = inl (active_volumes c.settle_headers.new.core.config c.args.core.now.config c.settle_headers.ensures.volumes c.args.vol c.args.plex ∙ c.requires.off)
 
 pub copy_to-requires-clause-may : goal.copy_to-requires-clause-may
-copy_to-requires-clause-may g c = same_refusal c.args.core.now.config c.settle_headers.new.core.config c.args.vol c.args.plex c.settle_headers.ensures.volumes c.settle_headers.ensures.serial ∙ c.requires.may
+copy_to-requires-clause-may g c = same_may c.args.core.now.config c.settle_headers.new.core.config c.args.vol c.args.plex c.settle_headers.ensures.volumes c.settle_headers.ensures.serial c.requires.may
 
 pub copy_to-requires-clause-off : goal.copy_to-requires-clause-off
 copy_to-requires-clause-off g c = active_volumes c.settle_headers.new.core.config c.args.core.now.config c.settle_headers.ensures.volumes c.args.vol c.args.plex ∙ c.requires.off
@@ -40,7 +41,7 @@ commit_open-requires-clause-settled g c = c.copy_to.ensures.settled ∙ c.in-Ok.
 
 pub commit_open-requires-clause-more : goal.commit_open-requires-clause-more
 commit_open-requires-clause-more g c =
-    let less : c.args.core.now.config.serial < greatest = may_less c.args.core.now.config c.args.vol c.args.plex c.requires.may in
+    let less : c.args.core.now.config.serial < greatest = c.requires.may.more in
     let same = c.copy_to.ensures.serial ∙ c.settle_headers.ensures.serial in
     omega (arith, less, same)
 
@@ -51,7 +52,7 @@ pub commit_open-requires-clause-other : goal.commit_open-requires-clause-other
 commit_open-requires-clause-other g c =
     has_other c.settle_headers.new.core.config c.copy_to.new.core.config c.args.vol c.args.plex
     (some_active c.settle_headers.new.core (g.S.Shelf.meaning c.settle_headers.new.shelf) c.settle_headers.ensures.stands c.args.vol
-    (may_volume c.settle_headers.new.core.config c.args.vol c.args.plex (same_refusal c.args.core.now.config c.settle_headers.new.core.config c.args.vol c.args.plex c.settle_headers.ensures.volumes c.settle_headers.ensures.serial ∙ c.requires.may)))
+    (same_may c.args.core.now.config c.settle_headers.new.core.config c.args.vol c.args.plex c.settle_headers.ensures.volumes c.settle_headers.ensures.serial c.requires.may).volume)
     (active_volumes c.settle_headers.new.core.config c.args.core.now.config c.settle_headers.ensures.volumes c.args.vol c.args.plex ∙ c.requires.off)
     c.copy_to.ensures.attaches.others
 
@@ -66,3 +67,19 @@ pub returns-clause-cause : goal.returns-clause-cause
 returns-clause-cause g c =
     blames_later c.commit_open.result (g.S.Shelf.meaning c.args.shelf.now) (g.S.Shelf.meaning c.settle_headers.new.shelf) (g.S.Shelf.meaning c.commit_open.new.shelf) c.settle_headers.ensures.narrows.acts.disk_faults
     (blames_later c.commit_open.result (g.S.Shelf.meaning c.settle_headers.new.shelf) (g.S.Shelf.meaning c.copy_to.new.shelf) (g.S.Shelf.meaning c.commit_open.new.shelf) c.copy_to.ensures.attaches.acts.disk_faults c.commit_open.ensures.cause)
+
+pub returns-in-Err-copy_to-clause-failing : goal.returns-in-Err-copy_to-clause-failing
+returns-in-Err-copy_to-clause-failing g c =
+    then_failing (g.S.Shelf.meaning c.args.shelf.now) (g.S.Shelf.meaning c.settle_headers.new.shelf) (g.S.Shelf.meaning c.copy_to.new.shelf) c.settle_headers.ensures.narrows.acts.faults c.copy_to.ensures.attaches.acts.faults
+    c.args.core.now.config.disks c.settle_headers.new.core.config.disks c.copy_to.new.core.config.disks c.settle_headers.ensures.failing
+    (no_failing (g.S.Shelf.meaning c.settle_headers.new.shelf) (g.S.Shelf.meaning c.copy_to.new.shelf) c.settle_headers.new.core.config.disks c.copy_to.new.core.config.disks c.copy_to.ensures.disks)
+
+pub returns-clause-failing : goal.returns-clause-failing
+returns-clause-failing g c =
+    then_failing (g.S.Shelf.meaning c.args.shelf.now) (g.S.Shelf.meaning c.copy_to.new.shelf) (g.S.Shelf.meaning c.commit_open.new.shelf)
+    (λ u. let one = c.settle_headers.ensures.narrows.acts.faults u in let two = c.copy_to.ensures.attaches.acts.faults u in omega (arith, one, two)) c.commit_open.ensures.attaches.acts.faults
+    c.args.core.now.config.disks c.copy_to.new.core.config.disks c.commit_open.new.core.config.disks
+    (then_failing (g.S.Shelf.meaning c.args.shelf.now) (g.S.Shelf.meaning c.settle_headers.new.shelf) (g.S.Shelf.meaning c.copy_to.new.shelf) c.settle_headers.ensures.narrows.acts.faults c.copy_to.ensures.attaches.acts.faults
+    c.args.core.now.config.disks c.settle_headers.new.core.config.disks c.copy_to.new.core.config.disks c.settle_headers.ensures.failing
+    (no_failing (g.S.Shelf.meaning c.settle_headers.new.shelf) (g.S.Shelf.meaning c.copy_to.new.shelf) c.settle_headers.new.core.config.disks c.copy_to.new.core.config.disks c.copy_to.ensures.disks))
+    c.commit_open.ensures.failing

@@ -2,6 +2,7 @@ use Rattle.std.proofs.Common.{◌≡◌, inl, inr, true, false, refl, sym, ◌�
 use Rattle.vx_group.proofs.AttachLemmas.{narrows_attaches, no_bit, then_attaches}
 use Rattle.vx_group.proofs.CallLemmas.{not_down}
 use Rattle.vx_group.proofs.DetachLemmas.{zero_bit}
+use Rattle.vx_group.proofs.FailingLemmas.{then_failing}
 use Rattle.vx_group.proofs.Standing.{some_active}
 use Rattle.vx_group.proofs.attaching.commit_open.Goals as goal
 
@@ -28,3 +29,13 @@ returns-else-is_down-clause-attaches g c =
     (narrows_attaches c.args.vol c.args.plex c.args.core.now c.detach.new.core (g.S.Shelf.meaning c.args.shelf.now) (g.S.Shelf.meaning c.detach.new.shelf) (g.met.S.Shelf.lawful c.detach.new.shelf) c.requires.stands c.detach.ensures.narrows
     (λ w q apart. c.detach.ensures.others w q (λ same bit. no_bit q bit)))
     c.take_back.ensures.attaches
+
+pub returns-then-is_down-clause-failing : goal.returns-then-is_down-clause-failing
+returns-then-is_down-clause-failing g c =
+    then_failing (g.S.Shelf.meaning c.args.shelf.now) (g.S.Shelf.meaning c.detach.new.shelf) (g.S.Shelf.meaning c.take_back.new.shelf) c.detach.ensures.narrows.acts.faults c.take_back.ensures.attaches.acts.faults
+    c.args.core.now.config.disks c.detach.new.core.config.disks c.take_back.new.core.config.disks c.detach.ensures.failing c.take_back.ensures.failing
+
+pub returns-else-is_down-clause-failing : goal.returns-else-is_down-clause-failing
+returns-else-is_down-clause-failing g c =
+    then_failing (g.S.Shelf.meaning c.args.shelf.now) (g.S.Shelf.meaning c.detach.new.shelf) (g.S.Shelf.meaning c.take_back.new.shelf) c.detach.ensures.narrows.acts.faults c.take_back.ensures.attaches.acts.faults
+    c.args.core.now.config.disks c.detach.new.core.config.disks c.take_back.new.core.config.disks c.detach.ensures.failing c.take_back.ensures.failing

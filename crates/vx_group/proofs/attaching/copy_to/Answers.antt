@@ -1,86 +1,97 @@
-use Rattle.std.proofs.Common.{◌≡◌, ◌<◌, true, false, IsTrue, Err, length, ap, refl, sym, ◌∙◌, subst, arith, ℕ}
-use Rattle.vx_disk.specs.Shelf.{Meaning}
-use Rattle.vx_config.specs.Checks.{is_sound}
+use Rattle.std.proofs.Common.{◌≡◌, ◌<◌, ◌≤◌, inl, inr, true, false, IsTrue, Err, Ok, length, ap, refl, sym, ◌∙◌, subst, arith, ℕ}
 use Rattle.vx_config.specs.declared.config.Config.{Config}
-use Rattle.vx_config.specs.declared.entry.DiskEntry.{DiskEntry}
-use Rattle.vx_volume.specs.Plexes.{DisksFit, active}
-use Rattle.vx_group.specs.Attaches.{Attaches}
+use Rattle.vx_volume.specs.Plexes.{active}
+use Rattle.vx_group.specs.Attaches.{Attaches, MayAttach}
 use Rattle.vx_group.specs.Stands.{Stands}
-use Rattle.vx_group.proofs.AttachLemmas.{back_Stands, back_attaches, copy_blames, same_back, to_Stands, to_attaches}
-use Rattle.vx_group.proofs.OpeningLemmas.{may_volume, open_on, open_shape, open_sound, open_wider, present}
-use Rattle.vx_group.proofs.Standing.{fit_of, some_active, sound_of}
+use Rattle.vx_group.specs.declared.group_core.GroupCore.{GroupCore}
+use Rattle.vx_group.proofs.AttachLemmas.{then_attaches}
+use Rattle.vx_group.proofs.SourcesLemmas.{all_attaches, sources_all, sources_blame, sources_next, sources_start}
 use Rattle.vx_group.proofs.attaching.copy_to.Goals as goal
 
-pub first_active-source-requires-clause-checked : goal.first_active-source-requires-clause-checked
-first_active-source-requires-clause-checked g c = sound_of c.args.core.now (g.S.Shelf.meaning c.args.shelf.now) c.requires.stands
+pub loop-source-init : goal.loop-source-init
+loop-source-init g c =
+    (sources_start c.args.core.now c.args.vol c.args.plex 0 (g.S.Shelf.meaning c.args.shelf.now) (g.met.S.Shelf.lawful c.args.shelf.now) c.requires.stands c.requires.up, refl)
 
-pub first_active-source-requires-clause-some : goal.first_active-source-requires-clause-some
-first_active-source-requires-clause-some g c = some_active c.args.core.now (g.S.Shelf.meaning c.args.shelf.now) c.requires.stands c.args.vol (may_volume c.args.core.now.config c.args.vol c.args.plex c.requires.may)
+pub try_from-requires-clause-stands : goal.try_from-requires-clause-stands
+try_from-requires-clause-stands g c =
+    subst (λ (x : GroupCore). Stands x (g.S.Shelf.meaning c.loop-source.shelf)) (sym c.loop-source.invariant.1) c.loop-source.invariant.0.stands
 
-pub copy_plex-requires-clause-checked : goal.copy_plex-requires-clause-checked
-copy_plex-requires-clause-checked g c =
-    subst (λ (x : Config). is_sound x ≡ true) (sym c.set_state.ensures.changed)
-    (open_sound c.args.core.now.config c.args.vol c.args.plex (present c.args.core.now.config c.args.vol c.args.plex c.requires.may) (sound_of c.args.core.now (g.S.Shelf.meaning c.args.shelf.now) c.requires.stands))
+pub try_from-requires-clause-may : goal.try_from-requires-clause-may
+try_from-requires-clause-may g c =
+    subst (λ (x : GroupCore). MayAttach x.config c.args.vol c.args.plex) (sym c.loop-source.invariant.1) c.requires.may
 
-pub copy_plex-requires-clause-volume : goal.copy_plex-requires-clause-volume
-copy_plex-requires-clause-volume g c =
-    let lt = may_volume c.args.core.now.config c.args.vol c.args.plex c.requires.may in
-    let same = ap (λ (x : Config). length x.volumes) c.set_state.ensures.changed ∙ (open_shape c.args.core.now.config c.args.vol c.args.plex (present c.args.core.now.config c.args.vol c.args.plex c.requires.may)).volumes in
-    omega (arith, lt, same)
+pub try_from-requires-clause-off : goal.try_from-requires-clause-off
+try_from-requires-clause-off g c =
+    ap (λ (x : GroupCore). active x.config c.args.vol c.args.plex) c.loop-source.invariant.1 ∙ c.requires.off
 
-pub copy_plex-requires-clause-from : goal.copy_plex-requires-clause-from
-copy_plex-requires-clause-from g c =
-    ap (λ (x : Config). active x c.args.vol c.first_active-source.result) c.set_state.ensures.changed
-    ∙ open_wider c.args.core.now.config c.args.vol c.args.plex (present c.args.core.now.config c.args.vol c.args.plex c.requires.may) c.args.vol c.first_active-source.result c.first_active-source.ensures
+pub try_from-requires-clause-up : goal.try_from-requires-clause-up
+try_from-requires-clause-up g c =
+    c.loop-source.invariant.0.up
 
-pub copy_plex-requires-clause-to : goal.copy_plex-requires-clause-to
-copy_plex-requires-clause-to g c =
-    ap (λ (x : Config). active x c.args.vol c.args.plex) c.set_state.ensures.changed ∙ open_on c.args.core.now.config c.args.vol c.args.plex (present c.args.core.now.config c.args.vol c.args.plex c.requires.may)
-
-pub copy_plex-requires-clause-apart : goal.copy_plex-requires-clause-apart
-copy_plex-requires-clause-apart g c = λ (at : c.first_active-source.result ≡ c.args.plex).
-    let on : IsTrue (active c.args.core.now.config c.args.vol c.args.plex) = subst (λ (q : ℕ). IsTrue (active c.args.core.now.config c.args.vol q)) at c.first_active-source.ensures in
-    let clash : false ≡ true = sym c.requires.off ∙ on in cc
-
-pub copy_plex-requires-clause-disks : goal.copy_plex-requires-clause-disks
-copy_plex-requires-clause-disks g c =
-    subst (λ (x : Config). DisksFit x.disks (g.S.Shelf.meaning c.args.shelf.now)) (sym c.set_state.ensures.changed) (fit_of c.args.core.now (g.S.Shelf.meaning c.args.shelf.now) c.requires.stands)
-
-pub returns-in-Ok-clause-stands : goal.returns-in-Ok-clause-stands
-returns-in-Ok-clause-stands g c =
-    to_Stands c.args.core.now c.args.vol c.args.plex c.requires.may c.requires.off (g.S.Shelf.meaning c.args.shelf.now) (g.S.Shelf.meaning c.copy_plex.new.shelf) (g.met.S.Shelf.lawful c.args.shelf.now) (g.met.S.Shelf.lawful c.copy_plex.new.shelf) c.requires.stands c.set_state.new.self c.set_state.ensures.changed c.copy_plex.ensures.goes
+pub loop-source-preserved : goal.loop-source-preserved
+loop-source-preserved g c =
+    (sources_next c.args.core.now c.args.vol c.args.plex c.loop-source.source c.loop-source.device (g.S.Shelf.meaning c.args.shelf.now) (g.S.Shelf.meaning c.loop-source.shelf) (g.S.Shelf.meaning c.try_from.new.shelf) c.loop-source.invariant.0 c.loop-source.core c.try_from.new.core c.loop-source.invariant.1 c.in-Err-Fault.ensures.same c.try_from.ensures.attaches c.in-Err-Fault.disk c.in-Err-Fault.field-0 c.in-Err-Fault.field-0-is c.try_from.ensures.stands c.in-Err-Fault.ensures.tried, c.in-Err-Fault.ensures.same ∙ c.loop-source.invariant.1)
 
 pub returns-in-Ok-clause-attaches : goal.returns-in-Ok-clause-attaches
 returns-in-Ok-clause-attaches g c =
-    to_attaches c.args.core.now c.args.vol c.args.plex c.requires.may c.requires.off (g.S.Shelf.meaning c.args.shelf.now) (g.S.Shelf.meaning c.copy_plex.new.shelf) (g.met.S.Shelf.lawful c.args.shelf.now) (g.met.S.Shelf.lawful c.copy_plex.new.shelf) c.requires.stands c.set_state.new.self c.set_state.ensures.changed c.copy_plex.ensures.goes
-    c.first_active-source.result c.first_active-source.ensures c.in-Ok.ensures.ok
+    then_attaches c.args.vol c.args.plex c.args.core.now c.args.core.now c.try_from.new.core (g.S.Shelf.meaning c.args.shelf.now) (g.S.Shelf.meaning c.loop-source.shelf) (g.S.Shelf.meaning c.try_from.new.shelf) c.loop-source.invariant.0.attaches (subst (λ (x : GroupCore). Attaches c.args.vol c.args.plex x c.try_from.new.core (g.S.Shelf.meaning c.loop-source.shelf) (g.S.Shelf.meaning c.try_from.new.shelf)) c.loop-source.invariant.1 c.try_from.ensures.attaches)
 
-pub returns-in-Ok-clause-opens : goal.returns-in-Ok-clause-opens
-returns-in-Ok-clause-opens g c =
-    ap (λ (x : Config). active x c.args.vol c.args.plex) c.set_state.ensures.changed ∙ open_on c.args.core.now.config c.args.vol c.args.plex (present c.args.core.now.config c.args.vol c.args.plex c.requires.may)
+pub returns-in-Ok-clause-settled : goal.returns-in-Ok-clause-settled
+returns-in-Ok-clause-settled g c =
+    c.try_from.ensures.settled ∙ ap (λ (x : GroupCore). x.unsettled) c.loop-source.invariant.1
 
 pub returns-in-Ok-clause-serial : goal.returns-in-Ok-clause-serial
-returns-in-Ok-clause-serial g c = ap (λ (x : Config). x.serial) c.set_state.ensures.changed
+returns-in-Ok-clause-serial g c =
+    c.try_from.ensures.serial ∙ ap (λ (x : GroupCore). x.config.serial) c.loop-source.invariant.1
 
-pub returns-in-Err-clause-stands : goal.returns-in-Err-clause-stands
-returns-in-Err-clause-stands g c =
-    back_Stands c.args.core.now c.args.vol c.args.plex c.requires.may c.requires.off (g.S.Shelf.meaning c.args.shelf.now) (g.S.Shelf.meaning c.copy_plex.new.shelf) (g.met.S.Shelf.lawful c.args.shelf.now) (g.met.S.Shelf.lawful c.copy_plex.new.shelf) c.requires.stands c.set_state.new.self c.set_state.ensures.changed c.copy_plex.ensures.goes
-    c.set_state-in-Err.new.self c.whole_of-whole.result c.whole_of-whole.ensures c.set_state-in-Err.ensures.changed
+pub returns-in-Ok-clause-disks : goal.returns-in-Ok-clause-disks
+returns-in-Ok-clause-disks g c =
+    c.try_from.ensures.disks ∙ ap (λ (x : GroupCore). x.config.disks) c.loop-source.invariant.1
 
-pub returns-in-Err-clause-attaches : goal.returns-in-Err-clause-attaches
-returns-in-Err-clause-attaches g c =
-    back_attaches c.args.core.now c.args.vol c.args.plex c.requires.may c.requires.off (g.S.Shelf.meaning c.args.shelf.now) (g.S.Shelf.meaning c.copy_plex.new.shelf) (g.met.S.Shelf.lawful c.args.shelf.now) (g.met.S.Shelf.lawful c.copy_plex.new.shelf) c.requires.stands c.set_state.new.self c.set_state.ensures.changed c.copy_plex.ensures.goes
-    c.set_state-in-Err.new.self c.whole_of-whole.result c.whole_of-whole.ensures c.set_state-in-Err.ensures.changed
+pub returns-in-Err-Down-clause-attaches : goal.returns-in-Err-Down-clause-attaches
+returns-in-Err-Down-clause-attaches g c =
+    then_attaches c.args.vol c.args.plex c.args.core.now c.args.core.now c.try_from.new.core (g.S.Shelf.meaning c.args.shelf.now) (g.S.Shelf.meaning c.loop-source.shelf) (g.S.Shelf.meaning c.try_from.new.shelf) c.loop-source.invariant.0.attaches (subst (λ (x : GroupCore). Attaches c.args.vol c.args.plex x c.try_from.new.core (g.S.Shelf.meaning c.loop-source.shelf) (g.S.Shelf.meaning c.try_from.new.shelf)) c.loop-source.invariant.1 c.try_from.ensures.attaches)
 
-pub returns-in-Err-clause-opens : goal.returns-in-Err-clause-opens
-returns-in-Err-clause-opens g c =
-    ap (λ (x : Config). active x c.args.vol c.args.plex)
-    (same_back c.args.core.now c.args.vol c.args.plex c.requires.may c.requires.off (g.S.Shelf.meaning c.args.shelf.now) (g.S.Shelf.meaning c.copy_plex.new.shelf) (g.met.S.Shelf.lawful c.args.shelf.now) (g.met.S.Shelf.lawful c.copy_plex.new.shelf) c.requires.stands c.set_state.new.self c.set_state.ensures.changed c.copy_plex.ensures.goes
-    c.set_state-in-Err.new.self c.whole_of-whole.result c.whole_of-whole.ensures c.set_state-in-Err.ensures.changed)
-    ∙ c.requires.off
+pub returns-in-Err-Down-clause-settled : goal.returns-in-Err-Down-clause-settled
+returns-in-Err-Down-clause-settled g c =
+    c.try_from.ensures.settled ∙ ap (λ (x : GroupCore). x.unsettled) c.loop-source.invariant.1
 
-pub returns-in-Err-clause-serial : goal.returns-in-Err-clause-serial
-returns-in-Err-clause-serial g c = ap (λ (x : Config). x.serial) (c.set_state-in-Err.ensures.changed) ∙ ap (λ (x : Config). x.serial) c.set_state.ensures.changed
+pub returns-in-Err-Down-clause-serial : goal.returns-in-Err-Down-clause-serial
+returns-in-Err-Down-clause-serial g c =
+    c.try_from.ensures.serial ∙ ap (λ (x : GroupCore). x.config.serial) c.loop-source.invariant.1
 
-pub returns-in-Err-clause-cause : goal.returns-in-Err-clause-cause
-returns-in-Err-clause-cause g c = copy_blames {T = Unit {0}} c.set_state.new.self c.args.vol c.first_active-source.result c.args.plex (g.S.Shelf.meaning c.args.shelf.now) (g.S.Shelf.meaning c.copy_plex.new.shelf) (Err c.in-Err.error) c.in-Err.ensures.cause
+pub returns-in-Err-Down-clause-disks : goal.returns-in-Err-Down-clause-disks
+returns-in-Err-Down-clause-disks g c =
+    c.try_from.ensures.disks ∙ ap (λ (x : GroupCore). x.config.disks) c.loop-source.invariant.1
+
+pub returns-clause-stands : goal.returns-clause-stands
+returns-clause-stands g c =
+    subst (λ (x : GroupCore). Stands x (g.S.Shelf.meaning c.loop-source.shelf)) (sym c.loop-source.invariant.1) c.loop-source.invariant.0.stands
+
+pub returns-clause-attaches : goal.returns-clause-attaches
+returns-clause-attaches g c =
+    subst (λ (x : GroupCore). Attaches c.args.vol c.args.plex c.args.core.now x (g.S.Shelf.meaning c.args.shelf.now) (g.S.Shelf.meaning c.loop-source.shelf)) (sym c.loop-source.invariant.1) c.loop-source.invariant.0.attaches
+
+pub returns-clause-opens : goal.returns-clause-opens
+returns-clause-opens g c =
+    ap (λ (x : GroupCore). active x.config c.args.vol c.args.plex) c.loop-source.invariant.1 ∙ c.requires.off
+
+pub returns-clause-settled : goal.returns-clause-settled
+returns-clause-settled g c =
+    ap (λ (x : GroupCore). x.unsettled) c.loop-source.invariant.1
+
+pub returns-clause-serial : goal.returns-clause-serial
+returns-clause-serial g c =
+    ap (λ (x : GroupCore). x.config.serial) c.loop-source.invariant.1
+
+pub returns-clause-disks : goal.returns-clause-disks
+returns-clause-disks g c =
+    ap (λ (x : GroupCore). x.config.disks) c.loop-source.invariant.1
+
+pub returns-clause-no_source : goal.returns-clause-no_source
+returns-clause-no_source g c =
+    sources_all c.args.core.now c.args.vol c.args.plex c.loop-source.source c.loop-source.device (g.S.Shelf.meaning c.args.shelf.now) (g.S.Shelf.meaning c.loop-source.shelf) c.loop-source.invariant.0 (let le = c.loop-source-test.false in omega (arith, le))
+
+pub returns-clause-cause : goal.returns-clause-cause
+returns-clause-cause g c =
+    sources_blame c.args.core.now c.args.vol c.args.plex c.loop-source.source c.loop-source.device (g.S.Shelf.meaning c.args.shelf.now) (g.S.Shelf.meaning c.loop-source.shelf) c.loop-source.invariant.0 (let le = c.loop-source-test.false in omega (arith, le)) c.requires.may.volume

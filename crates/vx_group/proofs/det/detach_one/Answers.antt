@@ -1,7 +1,8 @@
-use Rattle.std.proofs.Common.{arith}
+use Rattle.std.proofs.Common.{◌∙◌, arith}
 use Rattle.vx_volume.proofs.PlaceLemmas.{active_few}
 use Rattle.vx_group.proofs.CallLemmas.{blames_later, both_Narrows}
-use Rattle.vx_group.proofs.DetLemmas.{bit_here, left_volumes, may_other, may_serial, off_by, on_volumes, one_left, one_on}
+use Rattle.vx_kept.proofs.Chosen.{active_volumes}
+use Rattle.vx_group.proofs.DetLemmas.{bit_here, bit_only, left_volumes, may_other, may_serial, off_by, on_volumes, one_left, one_on}
 use Rattle.vx_group.proofs.Standing.{sound_of}
 use Rattle.vx_group.proofs.det.detach_one.Goals as goal
 
@@ -30,3 +31,11 @@ returns-clause-cause g c =
 pub returns-clause-narrows : goal.returns-clause-narrows
 returns-clause-narrows g c =
     both_Narrows c.args.core.now c.settle_headers.new.core c.detach.new.core (g.S.Shelf.meaning c.args.shelf.now) (g.S.Shelf.meaning c.settle_headers.new.shelf) (g.S.Shelf.meaning c.detach.new.shelf) c.settle_headers.ensures.volumes c.settle_headers.ensures.good c.settle_headers.ensures.narrows c.detach.ensures.narrows
+
+pub returns-clause-others : goal.returns-clause-others
+returns-clause-others g c =
+    λ w p apart. c.detach.ensures.others w p (λ same bit. apart same (bit_only c.args.plex c.set_of-set.result (active_few c.args.core.now.config (sound_of c.args.core.now (g.S.Shelf.meaning c.args.shelf.now) c.requires.stands) c.args.vol c.args.plex c.requires.is_on) c.set_of-set.ensures p bit)) ∙ active_volumes c.settle_headers.new.core.config c.args.core.now.config c.settle_headers.ensures.volumes w p
+
+pub returns-in-Err-clause-others : goal.returns-in-Err-clause-others
+returns-in-Err-clause-others g c =
+    λ w p apart. active_volumes c.settle_headers.new.core.config c.args.core.now.config c.settle_headers.ensures.volumes w p

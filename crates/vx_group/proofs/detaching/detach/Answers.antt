@@ -3,8 +3,11 @@ use Rattle.vx_disk.specs.declared.shelf.ShelfError.{ShelfError}
 use Rattle.vx_kept.specs.States.{staled}
 use Rattle.vx_kept.proofs.StateLemmas.{is_staled}
 use Rattle.vx_group.specs.Blames.{Blames, BlamesOr}
+use Rattle.vx_group.proofs.LoseLemmas.{staled_lies}
+use Rattle.vx_group.proofs.UsesLemmas.{uses_volumes}
 use Rattle.vx_group.proofs.CallLemmas.{not_down}
 use Rattle.vx_group.proofs.DetachLemmas.{left_Narrows, left_Stands, left_others, staled_less, staled_some, stop_blames, stop_sure, taken_Narrows, taken_Stands, taken_off, taken_others}
+use Rattle.vx_group.proofs.FailingLemmas.{failing_from, few_serial, no_failing}
 use Rattle.vx_group.proofs.GiveLemmas.{keeps_volumes, none_changed}
 use Rattle.vx_group.proofs.Standing.{kept_of, tidy_of}
 use Rattle.vx_group.proofs.detaching.detach.Goals as goal
@@ -83,3 +86,40 @@ returns-else-is_down-2-clause-keeps g c = keeps_volumes c.args.core.now.config c
 
 pub returns-else-is_down-clause-committed : goal.returns-else-is_down-clause-committed
 returns-else-is_down-clause-committed g c = record { finds = c.in-Ok.ensures.ends.finds }
+
+pub returns-then-is_down-clause-failing : goal.returns-then-is_down-clause-failing
+returns-then-is_down-clause-failing g c =
+    failing_from (g.S.Shelf.meaning c.args.shelf.now) (g.S.Shelf.meaning c.commit_stale.new.shelf) (staled c.args.vol c.args.failed.set c.args.core.now.config 8).disks c.args.core.now.config.disks c.commit_stale.new.config.disks
+    (is_staled c.args.vol c.args.failed.set 8 c.args.core.now.config).disks c.in-Ok.ensures.ends.grown.disks
+
+pub returns-else-is_down-clause-failing : goal.returns-else-is_down-clause-failing
+returns-else-is_down-clause-failing g c =
+    failing_from (g.S.Shelf.meaning c.args.shelf.now) (g.S.Shelf.meaning c.commit_stale.new.shelf) (staled c.args.vol c.args.failed.set c.args.core.now.config 8).disks c.args.core.now.config.disks c.commit_stale.new.config.disks
+    (is_staled c.args.vol c.args.failed.set 8 c.args.core.now.config).disks c.in-Ok.ensures.ends.grown.disks
+
+pub returns-then-is_down-2-clause-failing : goal.returns-then-is_down-2-clause-failing
+returns-then-is_down-2-clause-failing g c = no_failing (g.S.Shelf.meaning c.args.shelf.now) (g.S.Shelf.meaning c.commit_stale.new.shelf) c.args.core.now.config.disks c.commit_stale.new.config.disks c.in-Err.ensures.ends.disks
+
+pub returns-else-is_down-2-clause-failing : goal.returns-else-is_down-2-clause-failing
+returns-else-is_down-2-clause-failing g c = no_failing (g.S.Shelf.meaning c.args.shelf.now) (g.S.Shelf.meaning c.commit_stale.new.shelf) c.args.core.now.config.disks c.commit_stale.new.config.disks c.in-Err.ensures.ends.disks
+
+pub returns-else-is_down-clause-few : goal.returns-else-is_down-clause-few
+returns-else-is_down-clause-few g c =
+    let was = is_staled c.args.vol c.args.failed.set 8 c.args.core.now.config in
+    few_serial c.args.core.now.config (staled c.args.vol c.args.failed.set c.args.core.now.config 8) c.commit_stale.new.config was.serial was.disks c.in-Ok.ensures.ends.few
+
+pub returns-then-is_down-clause-lies : goal.returns-then-is_down-clause-lies
+returns-then-is_down-clause-lies g c =
+    staled_lies c.args.vol c.args.failed.set c.args.core.now.config c.commit_stale.new.config c.in-Ok.ensures.ends.grown.volumes
+
+pub returns-else-is_down-clause-lies : goal.returns-else-is_down-clause-lies
+returns-else-is_down-clause-lies g c =
+    staled_lies c.args.vol c.args.failed.set c.args.core.now.config c.commit_stale.new.config c.in-Ok.ensures.ends.grown.volumes
+
+pub returns-then-is_down-2-clause-lies : goal.returns-then-is_down-2-clause-lies
+returns-then-is_down-2-clause-lies g c =
+    uses_volumes c.args.core.now.config c.commit_stale.new.config c.in-Err.ensures.ends.volumes
+
+pub returns-else-is_down-2-clause-lies : goal.returns-else-is_down-2-clause-lies
+returns-else-is_down-2-clause-lies g c =
+    uses_volumes c.args.core.now.config c.commit_stale.new.config c.in-Err.ensures.ends.volumes

@@ -3,6 +3,7 @@ use Rattle.vx_disk.specs.Shelf.{Nothing}
 use Rattle.vx_disk.proofs.Runs.{nothing_then}
 use Rattle.vx_group.specs.Blames.{Counts, Marks}
 use Rattle.vx_group.specs.Stands.{counted, meaning_of}
+use Rattle.vx_group.proofs.LoseLemmas.{loses_none, loses_same, then_loses}
 use Rattle.vx_group.proofs.GiveLemmas.{later_gives, ready_gives, same_gives}
 use Rattle.vx_group.proofs.CallLemmas.{blames_later, cause_by, counts_less, narrows_Goes, not_down, nothing_Flushed, raised_Goes}
 use Rattle.vx_group.proofs.flushing.flush_in.Goals as goal
@@ -40,3 +41,19 @@ pub returns-in-Err-flush_plexes-clause-gave_up : goal.returns-in-Err-flush_plexe
 returns-in-Err-flush_plexes-clause-gave_up g c =
     same_gives c.args.vol c.args.core.now c.flush_plexes.new.core (record { config = c.flush_plexes.new.core.config; good = c.flush_plexes.new.core.good; room = c.flush_plexes.new.core.room; unsettled = c.flush_plexes.new.core.unsettled; next = c.flush_plexes.new.core.next; faults = c.give_up-in-Err-flush_plexes.new.faults; unsure = c.give_up-in-Err-flush_plexes.new.unsure }) c.in-Err-flush_plexes.error (g.S.Shelf.meaning c.args.shelf.now) (g.S.Shelf.meaning c.flush_plexes.new.shelf) refl refl
     (later_gives c.args.vol c.args.core.now c.make_ready.new.core c.flush_plexes.new.core c.in-Err-flush_plexes.error (g.S.Shelf.meaning c.args.shelf.now) (g.S.Shelf.meaning c.make_ready.new.shelf) (g.S.Shelf.meaning c.flush_plexes.new.shelf) c.make_ready.ensures.volumes c.make_ready.ensures.narrows.acts.faults c.in-Err-flush_plexes.ensures.gave_up)
+
+pub returns-then-is_down-clause-loses : goal.returns-then-is_down-clause-loses
+returns-then-is_down-clause-loses g c =
+    loses_same c.args.core.now.config (g.S.Shelf.meaning c.args.shelf.now) (g.S.Shelf.meaning c.args.shelf.now)
+
+pub returns-in-Err-clause-loses : goal.returns-in-Err-clause-loses
+returns-in-Err-clause-loses g c =
+    loses_none c.args.core.now.config c.make_ready.new.core.config (g.S.Shelf.meaning c.args.shelf.now) (g.S.Shelf.meaning c.make_ready.new.shelf) c.make_ready.ensures.volumes c.make_ready.ensures.failing
+
+pub returns-in-Ok-flush_plexes-clause-loses : goal.returns-in-Ok-flush_plexes-clause-loses
+returns-in-Ok-flush_plexes-clause-loses g c =
+    then_loses (g.S.Shelf.meaning c.args.shelf.now) (g.S.Shelf.meaning c.make_ready.new.shelf) (g.S.Shelf.meaning c.flush_plexes.new.shelf) c.make_ready.ensures.narrows.acts.faults c.flush_plexes.ensures.narrows.acts.faults c.args.core.now.config c.make_ready.new.core.config c.flush_plexes.new.core.config (loses_none c.args.core.now.config c.make_ready.new.core.config (g.S.Shelf.meaning c.args.shelf.now) (g.S.Shelf.meaning c.make_ready.new.shelf) c.make_ready.ensures.volumes c.make_ready.ensures.failing) c.flush_plexes.ensures.spent.loses
+
+pub returns-in-Err-flush_plexes-clause-loses : goal.returns-in-Err-flush_plexes-clause-loses
+returns-in-Err-flush_plexes-clause-loses g c =
+    then_loses (g.S.Shelf.meaning c.args.shelf.now) (g.S.Shelf.meaning c.make_ready.new.shelf) (g.S.Shelf.meaning c.flush_plexes.new.shelf) c.make_ready.ensures.narrows.acts.faults c.flush_plexes.ensures.narrows.acts.faults c.args.core.now.config c.make_ready.new.core.config c.flush_plexes.new.core.config (loses_none c.args.core.now.config c.make_ready.new.core.config (g.S.Shelf.meaning c.args.shelf.now) (g.S.Shelf.meaning c.make_ready.new.shelf) c.make_ready.ensures.volumes c.make_ready.ensures.failing) c.flush_plexes.ensures.spent.loses

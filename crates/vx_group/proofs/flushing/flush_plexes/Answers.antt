@@ -1,5 +1,6 @@
 use Rattle.std.proofs.Common.{inr, Err, inl, refl, sym, subst, arith}
-use Rattle.vx_group.proofs.CopyLemmas.{spent_by}
+use Rattle.vx_group.proofs.LoseLemmas.{loses_detach}
+use Rattle.vx_group.proofs.CopyLemmas.{spent_by, spent_none}
 use Rattle.vx_group.proofs.CallLemmas.{blames_by, ends_blame, left_done, ok_by}
 use Rattle.vx_disk.specs.declared.shelf.ShelfError.{ShelfError}
 use Rattle.vx_volume.specs.Volumes.{PlexFlushed}
@@ -75,19 +76,20 @@ pub returns-in-Err-clause-narrows : goal.returns-in-Err-clause-narrows
 returns-in-Err-clause-narrows g c = flushed_Narrows c.args.core.now c.args.vol (g.S.Shelf.meaning c.args.shelf.now) (g.S.Shelf.meaning c.flush_all.new.shelf) (g.met.S.Shelf.lawful c.args.shelf.now) (g.met.S.Shelf.lawful c.flush_all.new.shelf) c.requires.stands c.flush_all.ensures.goes c.args.core.now (g.S.Shelf.meaning c.flush_all.new.shelf) (g.met.S.Shelf.lawful c.flush_all.new.shelf) (no_commit c.args.core.now (g.S.Shelf.meaning c.flush_all.new.shelf))
 
 pub returns-then-failed-eq0-clause-spent : goal.returns-then-failed-eq0-clause-spent
-returns-then-failed-eq0-clause-spent g c = inl refl
+returns-then-failed-eq0-clause-spent g c = spent_none c.args.core.now.config (g.S.Shelf.meaning c.args.shelf.now) (g.S.Shelf.meaning c.flush_all.new.shelf)
 
 pub returns-then-core-clause-spent : goal.returns-then-core-clause-spent
-returns-then-core-clause-spent g c = inl refl
+returns-then-core-clause-spent g c = spent_none c.args.core.now.config (g.S.Shelf.meaning c.args.shelf.now) (g.S.Shelf.meaning c.flush_all.new.shelf)
 
 pub returns-in-Err-clause-spent : goal.returns-in-Err-clause-spent
-returns-in-Err-clause-spent g c = inl refl
+returns-in-Err-clause-spent g c = spent_none c.args.core.now.config (g.S.Shelf.meaning c.args.shelf.now) (g.S.Shelf.meaning c.flush_all.new.shelf)
 
 pub returns-else-core-clause-spent : goal.returns-else-core-clause-spent
 returns-else-core-clause-spent g c =
     let old = g.S.Shelf.meaning c.args.shelf.now in
     spent_by c.args.core.now.config c.detach.new.core.config old old (g.S.Shelf.meaning c.flush_all.new.shelf) (g.S.Shelf.meaning c.detach.new.shelf) c.in-Ok.failed.disk (λ u. omega arith) c.detach.ensures.narrows.acts.disk_faults
     (c.in-Ok.ensures.ends.1.rose (omega (arith, c.if-failed-eq0.false)))
+    (loses_detach (g.S.Shelf.meaning c.args.shelf.now) (g.S.Shelf.meaning c.flush_all.new.shelf) (g.S.Shelf.meaning c.detach.new.shelf) c.flush_all.ensures.goes.faults c.detach.ensures.narrows.acts.faults c.args.core.now.config c.detach.new.core.config c.args.vol c.in-Ok.failed.set (λ p bit. (c.in-Ok.ensures.ends.0.blamed p bit).1) c.detach.ensures.lies c.detach.ensures.others c.detach.ensures.failing)
 
 pub returns-then-failed-eq0-clause-others : goal.returns-then-failed-eq0-clause-others
 returns-then-failed-eq0-clause-others g c = λ w p apart. refl

@@ -1,6 +1,7 @@
-use Rattle.std.proofs.Common.{◌∙◌, refl, arith}
+use Rattle.std.proofs.Common.{◌∙◌, length, refl, arith}
 use Rattle.vx_group.proofs.CallLemmas.{blames_later, both_Narrows}
 use Rattle.vx_group.proofs.DetachLemmas.{zero_bit}
+use Rattle.vx_group.proofs.FailingLemmas.{few_ok, no_failing, then_failing}
 use Rattle.vx_group.proofs.Standing.{some_active}
 use Rattle.vx_group.proofs.settling.make_ready.Goals as goal
 
@@ -20,3 +21,15 @@ returns-clause-cause g c =
 
 pub returns-clause-volumes : goal.returns-clause-volumes
 returns-clause-volumes g c = c.detach.ensures.none refl ∙ c.settle_headers.ensures.volumes
+
+pub returns-clause-failing : goal.returns-clause-failing
+returns-clause-failing g c =
+    then_failing (g.S.Shelf.meaning c.args.shelf.now) (g.S.Shelf.meaning c.settle_headers.new.shelf) (g.S.Shelf.meaning c.detach.new.shelf) c.settle_headers.ensures.narrows.acts.faults c.detach.ensures.narrows.acts.faults
+    c.args.core.now.config.disks c.settle_headers.new.core.config.disks c.detach.new.core.config.disks c.settle_headers.ensures.failing c.detach.ensures.failing
+
+pub returns-clause-few : goal.returns-clause-few
+returns-clause-few g c =
+    few_ok c.detach.result c.args.core.now.config.serial c.settle_headers.new.core.config.serial c.detach.new.core.config.serial (length c.settle_headers.new.core.config.disks) (length c.args.core.now.config.disks) c.detach.ensures.few c.settle_headers.ensures.serial c.settle_headers.ensures.failing.count
+
+pub returns-clause-good : goal.returns-clause-good
+returns-clause-good g c = λ is. c.detach.ensures.good is ∙ c.settle_headers.ensures.good

@@ -5,6 +5,7 @@ use Rattle.vx_copies.proofs.Settling.{failed_at as failed_is, no_disk}
 use Rattle.vx_copies.specs.Marks.{NoneGood, failed_at}
 use Rattle.vx_group.specs.Settled.{SameBut, SettledTo}
 use Rattle.vx_group.specs.declared.group_core.GroupCore.{GroupCore}
+use Rattle.vx_group.proofs.FailingLemmas.{no_failing}
 use Rattle.vx_group.proofs.ReadyLemmas.{core_back, core_settled, disks_Narrows, disks_Stands, fault_cause, one_failed, same_but, settle_acts, settle_end, settle_kept, settle_mark, settle_one, settle_pass, settle_start, settled_still}
 use Rattle.vx_group.specs.Moves.{Narrows}
 use Rattle.vx_group.specs.Stands.{Stands}
@@ -106,3 +107,15 @@ returns-clause-same g c = subst (λ (k : GroupCore). SameBut c.args.core.now.con
 pub returns-clause-still : goal.returns-clause-still
 returns-clause-still g c =
     settled_still c.args.core.now.good c.args.core.now.config c.loop-disk.core.config c.loop-disk.disk c.loop-disk.device c.loop-disk.failed (g.S.Shelf.meaning c.args.shelf.now) (g.S.Shelf.meaning c.loop-disk.shelf) c.loop-disk.invariant.0
+
+pub returns-then-not-core-clause-failing : goal.returns-then-not-core-clause-failing
+returns-then-not-core-clause-failing g c = no_failing (g.S.Shelf.meaning c.args.shelf.now) (g.S.Shelf.meaning c.args.shelf.now) c.args.core.now.config.disks c.args.core.now.config.disks refl
+
+pub returns-in-Err-Down-clause-failing : goal.returns-in-Err-Down-clause-failing
+returns-in-Err-Down-clause-failing g c = no_failing (g.S.Shelf.meaning c.args.shelf.now) (g.S.Shelf.meaning c.settle.new.shelf) c.args.core.now.config.disks c.copy-kept.result c.copy-kept.ensures
+
+pub returns-then-not-has_good-clause-failing : goal.returns-then-not-has_good-clause-failing
+returns-then-not-has_good-clause-failing g c = no_failing (g.S.Shelf.meaning c.args.shelf.now) (g.S.Shelf.meaning c.loop-disk.shelf) c.args.core.now.config.disks c.copy-kept.result c.copy-kept.ensures
+
+pub returns-clause-failing : goal.returns-clause-failing
+returns-clause-failing g c = c.loop-disk.invariant.0.failing

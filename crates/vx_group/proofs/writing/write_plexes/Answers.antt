@@ -1,4 +1,5 @@
 use Rattle.std.proofs.Common.{refl, inr, ◌/◌, length, Err, sym, subst, arith}
+use Rattle.vx_group.proofs.LoseLemmas.{loses_detach, loses_same}
 use Rattle.vx_group.proofs.CallLemmas.{blames_by, ends_blame, left_done, ok_by}
 use Rattle.vx_disk.specs.declared.shelf.ShelfError.{ShelfError}
 use Rattle.vx_volume.specs.Volumes.{PlexWrote}
@@ -69,3 +70,35 @@ returns-else-core-clause-gave_up g c = detach_gives c.args.vol c.args.core.now c
 
 pub returns-in-Err-clause-gave_up : goal.returns-in-Err-clause-gave_up
 returns-in-Err-clause-gave_up g c = subst (λ (e : ShelfError). GivesUp {T = Unit {0}} c.args.vol c.args.core.now c.args.core.now (g.S.Shelf.meaning c.args.shelf.now) (g.S.Shelf.meaning c.write_all.new.shelf) (Err e)) (sym c.fault_of.ensures) (ends_gives c.args.vol c.args.core.now (λ p. PlexWrote c.args.core.now.config c.args.vol p c.args.block (length c.args.bytes.now / 512) c.args.block (length c.args.bytes.now / 512) c.args.bytes.now (g.S.Shelf.meaning c.args.shelf.now) (g.S.Shelf.meaning c.write_all.new.shelf)) (g.S.Shelf.meaning c.args.shelf.now) (g.S.Shelf.meaning c.write_all.new.shelf) c.in-Err.no 0 c.in-Err.ensures.ends)
+
+pub returns-then-failed-eq0-clause-loses : goal.returns-then-failed-eq0-clause-loses
+returns-then-failed-eq0-clause-loses g c =
+    loses_same c.args.core.now.config (g.S.Shelf.meaning c.args.shelf.now) (g.S.Shelf.meaning c.write_all.new.shelf)
+
+pub returns-then-core-clause-loses : goal.returns-then-core-clause-loses
+returns-then-core-clause-loses g c =
+    loses_same c.args.core.now.config (g.S.Shelf.meaning c.args.shelf.now) (g.S.Shelf.meaning c.write_all.new.shelf)
+
+pub returns-in-Err-clause-loses : goal.returns-in-Err-clause-loses
+returns-in-Err-clause-loses g c =
+    loses_same c.args.core.now.config (g.S.Shelf.meaning c.args.shelf.now) (g.S.Shelf.meaning c.write_all.new.shelf)
+
+pub returns-else-core-clause-loses : goal.returns-else-core-clause-loses
+returns-else-core-clause-loses g c =
+    loses_detach (g.S.Shelf.meaning c.args.shelf.now) (g.S.Shelf.meaning c.write_all.new.shelf) (g.S.Shelf.meaning c.detach.new.shelf) c.write_all.ensures.goes.faults c.detach.ensures.narrows.acts.faults c.args.core.now.config c.detach.new.core.config c.args.vol c.in-Ok.failed.set (λ p bit. (c.in-Ok.ensures.ends.0.blamed p bit).1) c.detach.ensures.lies c.detach.ensures.others c.detach.ensures.failing
+
+pub returns-then-failed-eq0-clause-unit_faults : goal.returns-then-failed-eq0-clause-unit_faults
+returns-then-failed-eq0-clause-unit_faults g c =
+    c.write_all.ensures.goes.faults
+
+pub returns-then-core-clause-unit_faults : goal.returns-then-core-clause-unit_faults
+returns-then-core-clause-unit_faults g c =
+    c.write_all.ensures.goes.faults
+
+pub returns-in-Err-clause-unit_faults : goal.returns-in-Err-clause-unit_faults
+returns-in-Err-clause-unit_faults g c =
+    c.write_all.ensures.goes.faults
+
+pub returns-else-core-clause-unit_faults : goal.returns-else-core-clause-unit_faults
+returns-else-core-clause-unit_faults g c =
+    λ u. let one = c.write_all.ensures.goes.faults u in let two = c.detach.ensures.narrows.acts.faults u in omega (arith, one, two)

@@ -6,20 +6,20 @@ use Rattle.vx_diskset.proofs.KeepsFailing.{stopped_up}
 use Rattle.vx_diskset.proofs.disk_set.DiskSet.crash.Goals as goal
 
 pub returns-in-Up-clause-crashed : goal.returns-in-Up-clause-crashed
-returns-in-Up-clause-crashed g c = λ links n stands state.
+returns-in-Up-clause-crashed g c = λ beside n stands state.
     let lawful = (g.met.R.Shelf g.world.𝓛 g.world.𝓜 g.world.𝓡 ((λ s x. x), (λ x. x), (λ x. x), λ x. x)).lawful in
     let is_rack = (g.met.R.Rack g.world.𝓛 g.world.𝓜 g.world.𝓡 ((λ s x. x), (λ x. x), (λ x. x), λ x. x)).rack in
-    crashed_at n c.in-Up.rvg.core c.in-Up.rvg.shelf c.into_shelf-rack.result c.crash.new.self c.into_shelf-rack.ensures (subst (λ e. StandsAt links n e) c.in-Up.is stands)
+    crashed_at n c.in-Up.rvg.core c.in-Up.rvg.shelf c.into_shelf-rack.result c.crash.new.self c.into_shelf-rack.ensures (subst (λ e. StandsAt beside n e) c.in-Up.is stands)
     (lawful c.crash.new.self) (is_rack c.crash.new.self) c.crash.ensures.stopped
 
 pub returns-in-Up-clause-cut : goal.returns-in-Up-clause-cut
-returns-in-Up-clause-cut g c = λ links n cut.
+returns-in-Up-clause-cut g c = λ beside n cut.
     let lawful = (g.met.R.Shelf g.world.𝓛 g.world.𝓜 g.world.𝓡 ((λ s x. x), (λ x. x), (λ x. x), λ x. x)).lawful in
     let is_rack = (g.met.R.Rack g.world.𝓛 g.world.𝓜 g.world.𝓡 ((λ s x. x), (λ x. x), (λ x. x), λ x. x)).rack in
     cut_crashed n _ c.in-Up.rvg c.into_shelf-rack.result c.crash.new.self c.in-Up.is c.into_shelf-rack.ensures cut (lawful c.crash.new.self) (is_rack c.crash.new.self) c.crash.ensures.stopped
 
 pub returns-in-Up-clause-asked : goal.returns-in-Up-clause-asked
-returns-in-Up-clause-asked g c = λ links n stands state. crash_did c.args.self c.in-Up.rvg c.into_shelf-rack.result c.crash.new.self c.args.pick c.in-Up.is c.into_shelf-rack.ensures c.crash.ensures.disks
+returns-in-Up-clause-asked g c = λ beside n stands state. crash_did c.args.self c.in-Up.rvg c.into_shelf-rack.result c.crash.new.self c.args.pick c.in-Up.is c.into_shelf-rack.ensures c.crash.ensures.disks
 
 pub returns-in-Up-clause-stopped : goal.returns-in-Up-clause-stopped
 returns-in-Up-clause-stopped g c = stopped_up c.args.self c.in-Up.rvg c.into_shelf-rack.result c.crash.new.self c.args.pick c.in-Up.is c.into_shelf-rack.ensures c.crash.ensures.disks

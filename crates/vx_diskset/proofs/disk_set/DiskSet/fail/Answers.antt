@@ -10,16 +10,16 @@ pub invariant_of-rvg : goal.invariant_of-rvg
 invariant_of-rvg g c = record { sound = rest_sound c.in-Up.rvg.core _ _ c.fail-in-Up.ensures.goes c.in-Up.rvg.sound }
 
 pub returns-in-Bare-clause-stands : goal.returns-in-Bare-clause-stands
-returns-in-Bare-clause-stands g c = λ links n stands. clean_read n _ _ c.fail.ensures.goes (subst (λ e. StandsAt links n e) c.in-Bare.is stands)
+returns-in-Bare-clause-stands g c = λ beside n stands. clean_read n _ _ c.fail.ensures.goes (subst (λ e. StandsAt beside n e) c.in-Bare.is stands)
 
 pub returns-in-Spoiled-clause-stands : goal.returns-in-Spoiled-clause-stands
-returns-in-Spoiled-clause-stands g c = λ links n stands. bare_still _ _ _ c.fail-in-Spoiled.ensures.goes c.fail-in-Spoiled.ensures.down c.fail-in-Spoiled.ensures.armed (subst (λ e. StandsAt links n e) c.in-Spoiled.is stands)
+returns-in-Spoiled-clause-stands g c = λ beside n stands. bare_still _ _ _ c.fail-in-Spoiled.ensures.goes c.fail-in-Spoiled.ensures.down c.fail-in-Spoiled.ensures.armed (subst (λ e. StandsAt beside n e) c.in-Spoiled.is stands)
 
 pub returns-in-Up-clause-stands : goal.returns-in-Up-clause-stands
-returns-in-Up-clause-stands g c = λ links n stands.
-    let up = subst (λ e. StandsAt links n e) c.in-Up.is stands in
+returns-in-Up-clause-stands g c = λ beside n stands.
+    let up = subst (λ e. StandsAt beside n e) c.in-Up.is stands in
     up_still n c.in-Up.rvg.core _ _ c.fail-in-Up.ensures.goes c.fail-in-Up.ensures.alike.contents.now c.fail-in-Up.ensures.down
     (fuse_still n.fuse _ _ _ (λ o k is. is.0.fuse) c.fail-in-Up.ensures.armed c.fail-in-Up.ensures.disks up.fuse) up
 
 pub returns-in-Down-clause-stands : goal.returns-in-Down-clause-stands
-returns-in-Down-clause-stands g c = λ links n stands. down_still n _ _ c.fail-in-Down.ensures.goes c.fail-in-Down.ensures.down c.fail-in-Down.ensures.armed (subst (λ e. StandsAt links n e) c.in-Down.is stands)
+returns-in-Down-clause-stands g c = λ beside n stands. down_still n _ _ c.fail-in-Down.ensures.goes c.fail-in-Down.ensures.down c.fail-in-Down.ensures.armed (subst (λ e. StandsAt beside n e) c.in-Down.is stands)

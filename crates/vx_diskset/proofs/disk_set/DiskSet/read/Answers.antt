@@ -7,10 +7,10 @@ use Rattle.vx_diskset.proofs.ReadGroup.{read_at}
 use Rattle.vx_diskset.proofs.disk_set.DiskSet.read.Goals as goal
 
 pub returns-then-volume-volumes-clause-read : goal.returns-then-volume-volumes-clause-read
-returns-then-volume-volumes-clause-read g c = λ links n stands can.
+returns-then-volume-volumes-clause-read g c = λ beside n stands can.
     let lawful = (g.met.R.Shelf g.world.𝓛 g.world.𝓜 g.world.𝓡 ((λ s x. x), (λ x. x), (λ x. x), λ x. x)).lawful in
     let is_rack = (g.met.R.Rack g.world.𝓛 g.world.𝓜 g.world.𝓡 ((λ s x. x), (λ x. x), (λ x. x), λ x. x)).rack in
-    read_at links n c.args.volume c.args.start (blocks_in c.args.into.now) c.read.new.into c.args.self.now c.in-Up.rvg c.read.new.self c.read.result c.in-Up.is stands can
+    read_at beside n c.args.volume c.args.start (blocks_in c.args.into.now) c.read.new.into c.args.self.now c.in-Up.rvg c.read.new.self c.read.result c.in-Up.is stands can
     (lawful c.in-Up.rvg.shelf) (lawful c.read.new.self.shelf) c.read.ensures.core c.read.ensures.answers c.read.ensures.gives c.read.ensures.goes c.read.ensures.down c.read.ensures.disks
     (is_rack c.in-Up.rvg.shelf) (is_rack c.read.new.self.shelf)
 

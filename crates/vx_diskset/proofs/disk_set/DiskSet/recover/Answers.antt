@@ -16,17 +16,17 @@ start_in-requires g c =
     record { placed = needs.0; large = needs.1; room = needs.2 }
 
 pub returns-in-Ok-clause-recovered : goal.returns-in-Ok-clause-recovered
-returns-in-Ok-clause-recovered g c = λ links n stands down ring.
+returns-in-Ok-clause-recovered g c = λ beside n stands down ring.
     let lawful = (g.met.R.Shelf g.world.𝓛 g.world.𝓜 g.world.𝓡 ((λ s x. x), (λ x. x), (λ x. x), λ x. x)).lawful in
-    came_at n c.units.result c.raw_units-units.result c.in-Down.rack c.revive.new.self c.in-Ok.rvg c.raw_units-units.ensures c.units.ensures (subst (λ e. StandsAt links n e) c.in-Down.is stands)
+    came_at n c.units.result c.raw_units-units.result c.in-Down.rack c.revive.new.self c.in-Ok.rvg c.raw_units-units.ensures c.units.ensures (subst (λ e. StandsAt beside n e) c.in-Down.is stands)
     c.revive.ensures.alike c.revive.ensures.up c.revive.ensures.armed (lawful c.revive.new.self) (lawful c.in-Ok.rvg.shelf) c.in-Ok.ensures.starts c.in-Ok.ensures.moves
 
 pub returns-in-Err-clause-recovered : goal.returns-in-Err-clause-recovered
-returns-in-Err-clause-recovered g c = λ links n stands down ring.
+returns-in-Err-clause-recovered g c = λ beside n stands down ring.
     let lawful = (g.met.R.Shelf g.world.𝓛 g.world.𝓜 g.world.𝓡 ((λ s x. x), (λ x. x), (λ x. x), λ x. x)).lawful in
     let is_rack = (g.met.R.Rack g.world.𝓛 g.world.𝓜 g.world.𝓡 ((λ s x. x), (λ x. x), (λ x. x), λ x. x)).rack in
     refused_at n c.units.result c.raw_units-units.result c.args.self c.in-Down.rack c.revive.new.self c.in-Err.rack c.crash.new.self c.in-Err.no c.in-Down.is c.raw_units-units.ensures c.units.ensures
-    (subst (λ e. StandsAt links n e) c.in-Down.is stands) c.revive.ensures.alike c.revive.ensures.up c.revive.ensures.armed (lawful c.revive.new.self) (lawful c.in-Err.rack)
+    (subst (λ e. StandsAt beside n e) c.in-Down.is stands) c.revive.ensures.alike c.revive.ensures.up c.revive.ensures.armed (lawful c.revive.new.self) (lawful c.in-Err.rack)
     c.in-Err.ensures.cause c.in-Err.ensures.limit c.in-Err.ensures.left c.crash.ensures.stopped (lawful c.crash.new.self) (is_rack c.crash.new.self)
 
 pub returns-in-Ok-clause-failing : goal.returns-in-Ok-clause-failing

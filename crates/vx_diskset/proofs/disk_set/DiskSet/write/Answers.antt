@@ -1,26 +1,8 @@
-use Rattle.std.proofs.Common.{sym, ◌∙◌}
-use Rattle.vx_history.specs.Steps.{half_begun}
-use Rattle.vx_diskset.proofs.CrashGroup.{wrote_off, wrote_on}
-use Rattle.vx_diskset.specs.Burning.{IsLogged}
-use Rattle.vx_diskset.proofs.CallsBurn.{called_cut}
+-- A write of a site without links is one behind which none needs any number.
+use Rattle.std.proofs.Common.{arith}
+use Rattle.vx_diskset.specs.Holds.{alone}
+use Rattle.vx_diskset.proofs.NeedLemmas.{all_room}
 use Rattle.vx_diskset.proofs.disk_set.DiskSet.write.Goals as goal
 
-pub returns-then-is_off-clause-wrote : goal.returns-then-is_off-clause-wrote
-returns-then-is_off-clause-wrote g c = λ links n stands can.
-    wrote_off n (record { volume = c.args.volume; start = c.args.start; bytes = c.args.bytes.now }) c.args.self.now c.write_up.new.self c.fall.new.self c.in-Err.no (sym c.is_off.ensures ∙ c.if-is_off.true)
-    (c.in-Err.ensures.wrote links n stands can) (c.fall.ensures.falls links (half_begun n (record { volume = c.args.volume; start = c.args.start; bytes = c.args.bytes.now }))) c.fall.ensures.later.told
-
-pub returns-else-is_off-clause-wrote : goal.returns-else-is_off-clause-wrote
-returns-else-is_off-clause-wrote g c = λ links n stands can.
-    wrote_on links n (record { volume = c.args.volume; start = c.args.start; bytes = c.args.bytes.now }) c.args.self.now c.write_up.new.self c.in-Err.no (sym c.is_off.ensures ∙ c.if-is_off.false) (c.in-Err.ensures.wrote links n stands can)
-
-pub returns-then-is_off-clause-called : goal.returns-then-is_off-clause-called
-returns-then-is_off-clause-called g c = λ links n stands.
-    let called = c.in-Err.ensures.called links n stands in
-    record {
-      burns = called_cut IsLogged c.in-Err.no 0xffff_ffff_ffff_ffff c.args.self.now c.write_up.new.self c.fall.new.self (sym c.is_off.ensures ∙ c.if-is_off.true) called.burns c.fall.ensures.stopped;
-      cuts = called.cuts;
-    }
-
-pub returns-else-is_off-clause-called : goal.returns-else-is_off-clause-called
-returns-else-is_off-clause-called g c = λ links n stands. c.in-Err.ensures.called links n stands
+pub returns-clause-wrote : goal.returns-clause-wrote
+returns-clause-wrote g c = λ n stands can. c.write_keeping.ensures.wrote alone n stands can (all_room n c.args.volume c.args.start _ c.last-hold.result c.args.self.now stands can (c.last-hold.ensures alone n stands can.up))

@@ -7,13 +7,13 @@ use Rattle.vx_diskset.proofs.CallsBurn.{called_still, called_up, cuts_none, cuts
 use Rattle.vx_diskset.proofs.disk_set.DiskSet.write_up.Goals as goal
 
 pub returns-then-volume-volumes-clause-called : goal.returns-then-volume-volumes-clause-called
-returns-then-volume-volumes-clause-called g c = λ links n stands. record {
-  burns = called_up IsLogged (said_by c.write_group.result) links n c.args.self.now (Up c.write_group.new.rvg) c.in-Up.rvg c.in-Up.is stands (λ up. c.write_group.ensures.called links n up);
-  cuts = cuts_up links n c.args.self.now c.in-Up.rvg c.args.bytes.now c.write_group.result c.in-Up.is stands c.write_group.ensures.cuts;
+returns-then-volume-volumes-clause-called g c = λ beside n stands. record {
+  burns = called_up IsLogged (said_by c.write_group.result) beside n c.args.self.now (Up c.write_group.new.rvg) c.in-Up.rvg c.in-Up.is stands (λ up. c.write_group.ensures.called beside n up);
+  cuts = cuts_up beside n c.args.self.now c.in-Up.rvg c.args.bytes.now c.write_group.result c.in-Up.is stands c.write_group.ensures.cuts;
 }
 
 pub returns-else-volume-volumes-clause-called : goal.returns-else-volume-volumes-clause-called
-returns-else-volume-volumes-clause-called g c = λ links n stands. record {
-  burns = called_up IsLogged (Refused Role) links n c.args.self.now (Up c.in-Up.rvg) c.in-Up.rvg c.in-Up.is stands (λ up. called_still IsLogged Role (Up c.in-Up.rvg) refl);
+returns-else-volume-volumes-clause-called g c = λ beside n stands. record {
+  burns = called_up IsLogged (Refused Role) beside n c.args.self.now (Up c.in-Up.rvg) c.in-Up.rvg c.in-Up.is stands (λ up. called_still IsLogged Role (Up c.in-Up.rvg) refl);
   cuts = cuts_none c.args.bytes.now Role c.args.self.now refl;
 }

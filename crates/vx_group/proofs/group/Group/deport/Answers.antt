@@ -1,3 +1,4 @@
+use Rattle.vx_group.proofs.CrashLemmas.{group_can}
 use Rattle.vx_group.proofs.DeportLemmas.{full_err, full_ok}
 use Rattle.vx_group.proofs.group.Group.deport.Goals as goal
 
@@ -6,3 +7,6 @@ returns-in-Ok-clause-limit g c = λ lt. full_ok (c.in-Ok.ensures.limit lt).0
 
 pub returns-in-Err-clause-limit : goal.returns-in-Err-clause-limit
 returns-in-Err-clause-limit g c = λ lt. let l = c.in-Err.ensures.limit lt in (full_err c.in-Err.stop l.0, l.1, l.2)
+
+pub returns-in-Ok-clause-can : goal.returns-in-Ok-clause-can
+returns-in-Ok-clause-can g c = group_can c.args.self.core (g.S.Shelf.meaning c.args.self.shelf) (g.S.Shelf.meaning c.deport_in.new.shelf) c.in-Ok.ensures.ends

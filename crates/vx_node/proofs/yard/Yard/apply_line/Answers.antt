@@ -13,6 +13,7 @@ use Rattle.vx_diskset.specs.Asked.{LeavesFuse}
 use Rattle.vx_diskset.specs.Burning.{NoMore}
 use Rattle.vx_node.proofs.AskRack.{called_at}
 use Rattle.vx_node.proofs.OfSites.{called_keeps}
+use Rattle.vx_diskset.specs.Holds.{alone}
 use Rattle.vx_node.proofs.yard.Yard.apply_line.Goals as goal
 
 pub site_of-site-requires-clause-named : goal.site_of-site-requires-clause-named
@@ -23,7 +24,7 @@ returns-in-Ok-clause-works g c = λ w stands.
     let disk_sets = c.args.self.now.disk_sets.items in
     let is : seat_of c.args.self.now.facts.items c.args.name.now ≡ Some c.site_of-site.result = c.site_of-site.ensures.seat in
     let at = get_at disk_sets c.site_of-site.result c.index_mut.result.now c.site_of-site.ensures.disk_set c.index_mut.ensures.value in
-    apply_done w c.args.self.now _ c.args.name.now c.args.to c.site_of-site.result c.in-Ok.number c.index_mut.result.now c.apply.new.self stands c.requires.free is at c.in-Ok.ensures.later (c.in-Ok.ensures.applied []) refl refl refl
+    apply_done w c.args.self.now _ c.args.name.now c.args.to c.site_of-site.result c.in-Ok.number c.index_mut.result.now c.apply.new.self stands c.requires.free is at c.in-Ok.ensures.later (c.in-Ok.ensures.applied alone) refl refl refl
 
 pub returns-in-Ok-clause-told : goal.returns-in-Ok-clause-told
 returns-in-Ok-clause-told g c = told_before c.args.self.now.disk_sets.items c.site_of-site.result c.index_mut.result.now c.apply.new.self
@@ -37,7 +38,7 @@ returns-in-Err-clause-works g c = λ w stands.
     let at = get_at disk_sets c.site_of-site.result c.index_mut.result.now c.site_of-site.ensures.disk_set c.index_mut.ensures.value in
     apply_failed w c.args.self.now _ c.args.name.now c.args.to c.site_of-site.result c.in-Err.no c.refused.result c.index_mut-in-Err.result.now c.refused.new.facts c.index_mut.result.now c.apply.new.self
     stands c.requires.free is (get_at facts c.site_of-site.result c.index_mut-in-Err.result.now (c.site_of-site.ensures.fact) c.index_mut-in-Err.ensures.value) at
-    c.in-Err.ensures.later (c.in-Err.ensures.applied []) c.refused.ensures.noted c.refused.ensures.said refl refl refl
+    c.in-Err.ensures.later (c.in-Err.ensures.applied alone) c.refused.ensures.noted c.refused.ensures.said refl refl refl
 
 pub returns-in-Err-clause-told : goal.returns-in-Err-clause-told
 returns-in-Err-clause-told g c = told_before c.args.self.now.disk_sets.items c.site_of-site.result c.index_mut.result.now c.apply.new.self
@@ -46,21 +47,21 @@ returns-in-Err-clause-told g c = told_before c.args.self.now.disk_sets.items c.s
 pub returns-in-Ok-clause-called : goal.returns-in-Ok-clause-called
 returns-in-Ok-clause-called g c = λ w stands.
     called_at (LeavesFuse NoMore) w c.args.self.now _ c.args.name.now c.site_of-site.result c.index_mut.result.now c.apply.new.self (DoneAt c.in-Ok.number) (DoneAt c.in-Ok.number) refl stands c.site_of-site.ensures.seat
-    (get_at c.args.self.now.disk_sets.items c.site_of-site.result c.index_mut.result.now c.site_of-site.ensures.disk_set c.index_mut.ensures.value) refl (λ n stood. c.in-Ok.ensures.called [] n stood)
+    (get_at c.args.self.now.disk_sets.items c.site_of-site.result c.index_mut.result.now c.site_of-site.ensures.disk_set c.index_mut.ensures.value) refl (λ n stood. c.in-Ok.ensures.called alone n stood)
 
 pub returns-in-Ok-clause-asked : goal.returns-in-Ok-clause-asked
 returns-in-Ok-clause-asked g c = λ w stands.
     called_keeps NoMore (DoneAt c.in-Ok.number) _ c.args.self.now _ (
     called_at (LeavesFuse NoMore) w c.args.self.now _ c.args.name.now c.site_of-site.result c.index_mut.result.now c.apply.new.self (DoneAt c.in-Ok.number) (DoneAt c.in-Ok.number) refl stands c.site_of-site.ensures.seat
-    (get_at c.args.self.now.disk_sets.items c.site_of-site.result c.index_mut.result.now c.site_of-site.ensures.disk_set c.index_mut.ensures.value) refl (λ n stood. c.in-Ok.ensures.called [] n stood))
+    (get_at c.args.self.now.disk_sets.items c.site_of-site.result c.index_mut.result.now c.site_of-site.ensures.disk_set c.index_mut.ensures.value) refl (λ n stood. c.in-Ok.ensures.called alone n stood))
 
 pub returns-in-Err-clause-called : goal.returns-in-Err-clause-called
 returns-in-Err-clause-called g c = λ w stands.
     called_at (LeavesFuse NoMore) w c.args.self.now _ c.args.name.now c.site_of-site.result c.index_mut.result.now c.apply.new.self c.refused.result (Refused c.in-Err.no) c.refused.ensures.said stands c.site_of-site.ensures.seat
-    (get_at c.args.self.now.disk_sets.items c.site_of-site.result c.index_mut.result.now c.site_of-site.ensures.disk_set c.index_mut.ensures.value) refl (λ n stood. c.in-Err.ensures.called [] n stood)
+    (get_at c.args.self.now.disk_sets.items c.site_of-site.result c.index_mut.result.now c.site_of-site.ensures.disk_set c.index_mut.ensures.value) refl (λ n stood. c.in-Err.ensures.called alone n stood)
 
 pub returns-in-Err-clause-asked : goal.returns-in-Err-clause-asked
 returns-in-Err-clause-asked g c = λ w stands.
     called_keeps NoMore c.refused.result _ c.args.self.now _ (
     called_at (LeavesFuse NoMore) w c.args.self.now _ c.args.name.now c.site_of-site.result c.index_mut.result.now c.apply.new.self c.refused.result (Refused c.in-Err.no) c.refused.ensures.said stands c.site_of-site.ensures.seat
-    (get_at c.args.self.now.disk_sets.items c.site_of-site.result c.index_mut.result.now c.site_of-site.ensures.disk_set c.index_mut.ensures.value) refl (λ n stood. c.in-Err.ensures.called [] n stood))
+    (get_at c.args.self.now.disk_sets.items c.site_of-site.result c.index_mut.result.now c.site_of-site.ensures.disk_set c.index_mut.ensures.value) refl (λ n stood. c.in-Err.ensures.called alone n stood))

@@ -5,6 +5,7 @@ use Rattle.vx_diskset.specs.declared.disk_set.DiskSet.TheVariants.{Gone}
 use Rattle.vx_node.proofs.Lists.{get_at, set_twice}
 use Rattle.vx_node.proofs.RawLine.{raw_told}
 use Rattle.vx_node.proofs.RecoverLine.{risen_line, stayed_line}
+use Rattle.vx_diskset.specs.Holds.{alone}
 use Rattle.vx_node.proofs.yard.Yard.come_up.Goals as goal
 
 pub returns-in-Ok-clause-rises : goal.returns-in-Ok-clause-rises
@@ -14,7 +15,7 @@ returns-in-Ok-clause-rises g c = λ w mid stands below begins down ring room.
     let at = get_at disk_sets s c.index_mut.result.now c.requires.disk_set c.index_mut.ensures.value in
     risen_line w mid c.args.self.now _ c.note_up-last.new.self s c.args.ring c.note_up-last.result c.view_at.result c.replace-disk_set.result c.recover-disk_set.result.0 c.recover-disk_set.result.1 c.in-Ok.field-0
     stands below begins down (at ∙ ap (λ e. Some e) (sym c.replace-disk_set.ensures.value)) c.recover-disk_set.ensures.later c.in-Ok.is
-    (λ n stood is_down ring_is. c.recover-disk_set.ensures.recovered [] n stood is_down (room ∙ ring_is)) ring refl
+    (λ n stood is_down ring_is. c.recover-disk_set.ensures.recovered alone n stood is_down (room ∙ ring_is)) ring refl
     (ap (λ e. slice_set (slice_set disk_sets s e) s c.recover-disk_set.result.0) c.replace-disk_set.ensures.after) refl
     c.note_up-last.ensures.notes c.note_up-last.ensures.disk_sets c.note_up-last.ensures.racks c.view_at.ensures
 
@@ -32,7 +33,7 @@ returns-in-Err-clause-rises g c = λ w mid stands below begins down ring room.
     let at = get_at disk_sets s c.index_mut.result.now c.requires.disk_set c.index_mut.ensures.value in
     stayed_line w mid c.args.self.now _ s c.args.ring c.replace-disk_set.result c.recover-disk_set.result.0 c.recover-disk_set.result.1 c.in-Err.no
     stands below begins down (at ∙ ap (λ e. Some e) (sym c.replace-disk_set.ensures.value)) c.recover-disk_set.ensures.later c.in-Err.is
-    (λ n stood is_down ring_is. c.recover-disk_set.ensures.recovered [] n stood is_down (room ∙ ring_is)) ring refl
+    (λ n stood is_down ring_is. c.recover-disk_set.ensures.recovered alone n stood is_down (room ∙ ring_is)) ring refl
     (ap (λ e. slice_set (slice_set disk_sets s e) s c.recover-disk_set.result.0) c.replace-disk_set.ensures.after) refl
 
 pub returns-in-Err-clause-told : goal.returns-in-Err-clause-told

@@ -8,6 +8,7 @@ use Rattle.vx_node.proofs.Seats.{named_some, volume_there, seated}
 use Rattle.vx_node.proofs.yard.Yard.fetch.Goals.{then-count-eq0-via-then-count-eq0, then-count-eq0-via-else-count-eq0+then-count-gt-MOST_CALL_BLOCKS}
 use Rattle.vx_diskset.specs.Asked.{LeavesAlone}
 use Rattle.vx_node.proofs.AskRack.{asked_at}
+use Rattle.vx_diskset.specs.Holds.{alone}
 use Rattle.vx_node.proofs.yard.Yard.fetch.Goals as goal
 
 pub site_of-site-requires-clause-named : goal.site_of-site-requires-clause-named
@@ -34,7 +35,7 @@ returns-in-Ok-clause-works g c = λ w stands.
     let disk_set = get_at y.disk_sets.items c.site_of-site.result c.index_mut.result.now c.site_of-site.ensures.disk_set c.index_mut.ensures.value in
     let there = stands.disk_sets.sites c.site_of-site.result c.index_mut.result.now read.below disk_set in
     fetch_done w y _ c.args.name.now c.args.volume.now c.args.start c.args.count c.site_of-site.result c.volume_of-place.result c.in-Ok.blocks c.index_mut.result.now c.blocks_of.new.disk_set stands read disk_set
-    c.in-Ok.ensures.later (c.in-Ok.ensures.read [] (w.nodes c.site_of-site.result) there (read.can c.index_mut.result.now there)) refl refl refl
+    c.in-Ok.ensures.later (c.in-Ok.ensures.read alone (w.nodes c.site_of-site.result) there (read.can c.index_mut.result.now there)) refl refl refl
 
 pub returns-in-Ok-clause-told : goal.returns-in-Ok-clause-told
 returns-in-Ok-clause-told g c = told_before c.args.self.now.disk_sets.items c.site_of-site.result c.index_mut.result.now c.blocks_of.new.disk_set
@@ -49,7 +50,7 @@ returns-in-Err-clause-works g c = λ w stands.
     let disk_set = get_at y.disk_sets.items c.site_of-site.result c.index_mut.result.now c.site_of-site.ensures.disk_set c.index_mut.ensures.value in
     let there = stands.disk_sets.sites c.site_of-site.result c.index_mut.result.now read.below disk_set in
     fetch_failed w y _ c.args.name.now c.args.volume.now c.args.start c.args.count c.site_of-site.result c.volume_of-place.result c.in-Err.no c.index_mut.result.now c.blocks_of.new.disk_set stands read disk_set
-    c.in-Err.ensures.later (c.in-Err.ensures.read [] (w.nodes c.site_of-site.result) there (read.can c.index_mut.result.now there)) refl refl refl
+    c.in-Err.ensures.later (c.in-Err.ensures.read alone (w.nodes c.site_of-site.result) there (read.can c.index_mut.result.now there)) refl refl refl
 
 pub returns-in-Err-clause-told : goal.returns-in-Err-clause-told
 returns-in-Err-clause-told g c = told_before c.args.self.now.disk_sets.items c.site_of-site.result c.index_mut.result.now c.blocks_of.new.disk_set

@@ -9,6 +9,7 @@ use Rattle.vx_node.proofs.Lists.{get_at}
 use Rattle.vx_events.proofs.Refused.{fuse_may}
 use Rattle.vx_node.proofs.Seats.{named_some}
 use Rattle.vx_node.proofs.AskRack.{fuse_asked}
+use Rattle.vx_diskset.specs.Holds.{alone}
 use Rattle.vx_node.proofs.yard.Yard.fuse_line.Goals as goal
 
 pub site_of-site-requires-clause-named : goal.site_of-site-requires-clause-named
@@ -19,7 +20,7 @@ returns-clause-works g c = λ w stands.
     let disk_sets = c.args.self.now.disk_sets.items in
     let is : seat_of c.args.self.now.facts.items c.args.name.now ≡ Some c.site_of-site.result = c.site_of-site.ensures.seat in
     let at = get_at disk_sets c.site_of-site.result c.index_mut.result.now c.site_of-site.ensures.disk_set c.index_mut.ensures.value in
-    fuse_done w c.args.self.now _ c.args.name.now c.args.calls c.args.pick c.site_of-site.result c.index_mut.result.now c.fuse.new.self stands c.requires.free is at c.fuse.ensures.later (c.fuse.ensures.fused []) refl refl refl
+    fuse_done w c.args.self.now _ c.args.name.now c.args.calls c.args.pick c.site_of-site.result c.index_mut.result.now c.fuse.new.self stands c.requires.free is at c.fuse.ensures.later (c.fuse.ensures.fused alone) refl refl refl
 
 pub returns-clause-told : goal.returns-clause-told
 returns-clause-told g c =
@@ -32,4 +33,4 @@ returns-clause-asked g c = λ w stands.
     let disk_sets = c.args.self.now.disk_sets.items in
     let is : seat_of c.args.self.now.facts.items c.args.name.now ≡ Some c.site_of-site.result = c.site_of-site.ensures.seat in
     let at = get_at disk_sets c.site_of-site.result c.index_mut.result.now c.site_of-site.ensures.disk_set c.index_mut.ensures.value in
-    fuse_asked w c.args.self.now _ c.args.name.now c.args.calls c.args.pick c.site_of-site.result c.index_mut.result.now c.fuse.new.self stands c.requires.free is at refl (c.fuse.ensures.asked [])
+    fuse_asked w c.args.self.now _ c.args.name.now c.args.calls c.args.pick c.site_of-site.result c.index_mut.result.now c.fuse.new.self stands c.requires.free is at refl (c.fuse.ensures.asked alone)

@@ -5,6 +5,7 @@ use Rattle.vx_node.proofs.RawLine.{raw_told}
 use Rattle.vx_diskset.specs.declared.disk_set.DiskSet.TheVariants.{Gone}
 use Rattle.vx_node.proofs.Lists.{get_at, set_twice}
 use Rattle.vx_diskset.proofs.KeepsFailing.{failing_stopped}
+use Rattle.vx_diskset.specs.Holds.{alone}
 use Rattle.vx_node.proofs.yard.Yard.go_down.Goals as goal
 
 pub returns-clause-fell : goal.returns-clause-fell
@@ -16,7 +17,7 @@ returns-clause-fell g c = λ w stands below up.
     fell w c.args.self.now _ s c.index_mut-3.result.now c.go_down.new.facts c.replace-disk_set.result c.crash.result stands below up
     (get_at facts s c.index_mut-3.result.now c.requires.facts c.index_mut-3.ensures.value)
     (at ∙ ap (λ e. Some e) (sym c.replace-disk_set.ensures.value))
-    c.crash.ensures.later (c.crash.ensures.crashed []) c.go_down.ensures refl
+    c.crash.ensures.later (c.crash.ensures.crashed alone) c.go_down.ensures refl
     (ap (λ e. slice_set (slice_set disk_sets s e) s c.crash.result) c.replace-disk_set.ensures.after)
     refl
 
@@ -38,7 +39,7 @@ returns-clause-asked g c = λ w stands below up.
       after = c.crash.result;
       there = there;
       disk_sets = ap (λ e. slice_set (slice_set disk_sets s e) s c.crash.result) c.replace-disk_set.ensures.after ∙ set_twice disk_sets s Gone c.crash.result;
-      did = c.crash.ensures.asked [] (w.nodes s) (stands.disk_sets.sites s c.replace-disk_set.result below there) up;
+      did = c.crash.ensures.asked alone (w.nodes s) (stands.disk_sets.sites s c.replace-disk_set.result below there) up;
     }
 
 pub returns-clause-failing : goal.returns-clause-failing

@@ -1,43 +1,43 @@
 -- A line, answered and sent.
 use Rattle.std.proofs.Common.{◌∙◌, ◌++◌, inl, inr, ap, subst, sym}
 use Rattle.std.specs.Io.KnownBytes.{Appends}
-use Rattle.vx_node.specs.Replies.{text_of}
+use Rattle.vx_node.specs.Replies.{reply_text}
 use Rattle.vx_stream.proofs.SendLemmas.{appends_none}
 use Rattle.vx_node.proofs.LineEvents.{line_happens, line_stays}
 use Rattle.vx_node.proofs.yard.Yard.line.Goals as goal
 
 pub returns-in_default-clause-line : goal.returns-in_default-clause-line
-returns-in_default-clause-line g c = λ w stands.
-    (inl (line_stays w c.args.words.now c.args.self.now c.answer.new.self stands c.answer.ensures.told (c.in_default.ensures.answers w stands.agrees) c.in_default.ensures.short), appends_none (g.O.Sink.written c.args.out.now))
+returns-in_default-clause-line g c = λ d stands.
+    (inl (line_stays d c.args.words.now c.args.self.now c.answer.new.self stands c.answer.ensures.told (c.in_default.ensures.answers d.world stands.agrees) c.in_default.ensures.short), appends_none (g.O.Sink.written c.args.out.now))
 
 pub returns-in_default-push_said-clause-line : goal.returns-in_default-push_said-clause-line
-returns-in_default-push_said-clause-line g c = λ w stands. (
+returns-in_default-push_said-clause-line g c = λ d stands. (
   inr (
-    text_of c.in-Ok.said,
-    line_happens (g.met.R.Rack g.world.𝓛 g.world.𝓜 g.world.𝓡 ((λ s x. x), (λ x. x), (λ x. x), λ x. x)).rack w c.args.words.now c.args.self.now c.answer.new.self c.in-Ok.said stands c.answer.ensures.told (c.in-Ok.ensures.answers w stands.agrees) (c.in-Ok.ensures.called w stands.agrees)
-        (c.answer.ensures.asked w stands.agrees) c.answer.ensures.still,
+    reply_text c.in-Ok.said,
+    line_happens (g.met.R.Rack g.world.𝓛 g.world.𝓜 g.world.𝓡 ((λ s x. x), (λ x. x), (λ x. x), λ x. x)).rack d c.args.words.now c.args.self.now c.answer.new.self c.in-Ok.said c.requires.built stands c.answer.ensures.told (c.in-Ok.ensures.answers d.world stands.agrees) (c.in-Ok.ensures.called d.world stands.agrees)
+        (c.answer.ensures.asked d.world stands.agrees) c.answer.ensures.still,
   ),
   appends_none (g.O.Sink.written c.args.out.now),
 )
 
 pub returns-in-Ok-send-clause-line : goal.returns-in-Ok-send-clause-line
-returns-in-Ok-send-clause-line g c = λ w stands. (
-  text_of c.in-Ok.said,
-  line_happens (g.met.R.Rack g.world.𝓛 g.world.𝓜 g.world.𝓡 ((λ s x. x), (λ x. x), (λ x. x), λ x. x)).rack w c.args.words.now c.args.self.now c.answer.new.self c.in-Ok.said stands c.answer.ensures.told (c.in-Ok.ensures.answers w stands.agrees) (c.in-Ok.ensures.called w stands.agrees)
-      (c.answer.ensures.asked w stands.agrees) c.answer.ensures.still,
+returns-in-Ok-send-clause-line g c = λ d stands. (
+  reply_text c.in-Ok.said,
+  line_happens (g.met.R.Rack g.world.𝓛 g.world.𝓜 g.world.𝓡 ((λ s x. x), (λ x. x), (λ x. x), λ x. x)).rack d c.args.words.now c.args.self.now c.answer.new.self c.in-Ok.said c.requires.built stands c.answer.ensures.told (c.in-Ok.ensures.answers d.world stands.agrees) (c.in-Ok.ensures.called d.world stands.agrees)
+      (c.answer.ensures.asked d.world stands.agrees) c.answer.ensures.still,
   subst (λ xs. Appends (g.O.Sink.written c.args.out.now) (g.O.Sink.written c.send.new.sink) xs)
-      (c.deref.ensures.value ∙ c.in-Ok-push_said.ensures ∙ ap (λ xs. xs ++ text_of c.in-Ok.said) c.new-text.ensures.items) c.in-Ok-send.ensures.bytes,
+      (c.deref.ensures.value ∙ c.in-Ok-push_said.ensures ∙ ap (λ xs. xs ++ reply_text c.in-Ok.said) c.new-text.ensures.items) c.in-Ok-send.ensures.bytes,
 )
 
 pub returns-clause-line : goal.returns-clause-line
-returns-clause-line g c = λ w stands.
+returns-clause-line g c = λ d stands.
     let bytes = c.in-Err.ensures.bytes in (
-      text_of c.in-Ok.said,
+      reply_text c.in-Ok.said,
       bytes.0,
       bytes.1,
-      line_happens (g.met.R.Rack g.world.𝓛 g.world.𝓜 g.world.𝓡 ((λ s x. x), (λ x. x), (λ x. x), λ x. x)).rack w c.args.words.now c.args.self.now c.answer.new.self c.in-Ok.said stands c.answer.ensures.told (c.in-Ok.ensures.answers w stands.agrees) (c.in-Ok.ensures.called w stands.agrees)
-          (c.answer.ensures.asked w stands.agrees) c.answer.ensures.still,
-      sym (c.deref.ensures.value ∙ c.in-Ok-push_said.ensures ∙ ap (λ xs. xs ++ text_of c.in-Ok.said) c.new-text.ensures.items) ∙ bytes.2,
+      line_happens (g.met.R.Rack g.world.𝓛 g.world.𝓜 g.world.𝓡 ((λ s x. x), (λ x. x), (λ x. x), λ x. x)).rack d c.args.words.now c.args.self.now c.answer.new.self c.in-Ok.said c.requires.built stands c.answer.ensures.told (c.in-Ok.ensures.answers d.world stands.agrees) (c.in-Ok.ensures.called d.world stands.agrees)
+          (c.answer.ensures.asked d.world stands.agrees) c.answer.ensures.still,
+      sym (c.deref.ensures.value ∙ c.in-Ok-push_said.ensures ∙ ap (λ xs. xs ++ reply_text c.in-Ok.said) c.new-text.ensures.items) ∙ bytes.2,
       bytes.3,
       bytes.4,
     )

@@ -1,10 +1,11 @@
 -- Each case of a line that makes a raw set.
-use Rattle.std.proofs.Common.{◌≡◌, ◌∙◌, ap, sym, refl, arith, []}
+use Rattle.std.proofs.Common.{◌≡◌, ◌∙◌, ap, sym, refl, arith}
 use Rattle.std.specs.Prelude.{slice_set, Some, map, ◌-◌}
 use Rattle.vx_history.specs.Steps.{raw_volumes}
 use Rattle.vx_order.specs.declared.facts.SiteFacts.{SiteFacts}
 use Rattle.vx_events.specs.Facts.{seat_of, volume_fact}
 use Rattle.vx_node.specs.Yards.{in_files}
+use Rattle.vx_diskset.specs.Holds.{alone}
 use Rattle.vx_diskset.specs.Asked.{SameFailing}
 use Rattle.vx_diskset.specs.declared.disk_set.DiskSet.TheVariants.{Gone}
 use Rattle.vx_node.proofs.AskRack.{asked_at}
@@ -52,7 +53,7 @@ returns-in-Ok-clause-works g c = λ w stands.
     ∙ ap (λ (f : SiteFacts). map volume_fact (raw_volumes 1 (f.disks - 2) c.index-2.result.now.blocks)) (some_same (sym one ∙ three))
     ∙ ap (λ (f : SiteFacts). map volume_fact (raw_volumes 1 (c.index_mut-in-Ok.result.now.disks - 2) f.blocks)) (some_same (sym two ∙ three)))
     (at ∙ ap (λ e. Some e) (sym c.replace-disk_set.ensures.value))
-    c.make_raw-disk_set.ensures.later c.in-Ok.is (c.make_raw-disk_set.ensures.made [])
+    c.make_raw-disk_set.ensures.later c.in-Ok.is (c.make_raw-disk_set.ensures.made alone)
     (ap (λ (f : SiteFacts). slice_set facts s f) c.make_raw.ensures)
     (ap (λ e. slice_set (slice_set disk_sets s e) s c.make_raw-disk_set.result.0) c.replace-disk_set.ensures.after)
     refl
@@ -74,7 +75,7 @@ returns-in-Err-clause-works g c = λ w stands.
     raw_failed c.in-Err.stop c.stopped.result w c.args.self.now _ c.args.name.now s c.index.result.now c.replace-disk_set.result c.make_raw-disk_set.result.0 c.make_raw-disk_set.result.1 c.stopped.ensures stands c.requires.free is
     (get_at facts s c.index.result.now (c.site_of-site.ensures.fact) c.index.ensures)
     (at ∙ ap (λ e. Some e) (sym c.replace-disk_set.ensures.value))
-    c.make_raw-disk_set.ensures.later c.in-Err.is (c.make_raw-disk_set.ensures.made [])
+    c.make_raw-disk_set.ensures.later c.in-Err.is (c.make_raw-disk_set.ensures.made alone)
     refl
     (ap (λ e. slice_set (slice_set disk_sets s e) s c.make_raw-disk_set.result.0) c.replace-disk_set.ensures.after)
     refl

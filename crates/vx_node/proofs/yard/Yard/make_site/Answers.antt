@@ -10,6 +10,7 @@ use Rattle.vx_diskset.specs.Asked.{SameFailing}
 use Rattle.vx_diskset.proofs.KeepsFailing.{failing_same}
 use Rattle.vx_node.proofs.OfSites.{site_kept, site_still}
 use Rattle.vx_node.proofs.yard.Yard.make_site.Goals.{then-site-len-via-then-site-len, then-site-len-via-else-site-len+then-site-ge-MOST_SITES}
+use Rattle.vx_diskset.specs.Holds.{alone}
 use Rattle.vx_node.proofs.yard.Yard.make_site.Goals as goal
 
 pub returns-in-Ok-clause-works : goal.returns-in-Ok-clause-works
@@ -20,7 +21,7 @@ returns-in-Ok-clause-works g c = λ w stands.
     ∙ get_at c.args.self.now.disk_sets.items c.len-site.result c.index_mut.result.now (omega (arith, c.if-site-len.false, c.len.ensures, c.args.self.now.disk_sets.ok)) c.index_mut.ensures.value in
     site_done w c.args.self.now _ c.args.name.now c.args.disks c.args.blocks c.index_mut.result.now c.fit-made.new.self stands c.requires.free
     at c.in-Ok.ensures.later
-    (c.in-Ok.ensures.fits (stands.disk_sets.others (length c.args.self.now.facts.items) c.index_mut.result.now (omega (arith, many)) at) [])
+    (c.in-Ok.ensures.fits (stands.disk_sets.others (length c.args.self.now.facts.items) c.index_mut.result.now (omega (arith, many)) at) alone)
     (c.in_ok-push.ensures.items ∙ ap (λ (f : SiteFacts). c.args.self.now.facts.items ++ f ∷ []) c.bare.ensures)
     (ap (λ (k : ℕ). slice_set c.args.self.now.disk_sets.items k c.fit-made.new.self) site)
     refl

@@ -15,6 +15,7 @@ use Rattle.vx_node.proofs.Lists.{get_at, set_twice}
 use Rattle.vx_node.proofs.RawLine.{raw_told}
 use Rattle.vx_events.proofs.Places.{some_same}
 use Rattle.vx_diskset.specs.Layouts.{CanBeRaw}
+use Rattle.vx_diskset.specs.Holds.{alone}
 use Rattle.vx_node.proofs.yard.Yard.recover_bare.Goals as goal
 
 pub returns-in-Ok-clause-found : goal.returns-in-Ok-clause-found
@@ -32,7 +33,7 @@ returns-in-Ok-clause-found g c = λ w stands below bare.
     (subst (λ (f : SiteFacts). CanBeRaw c.index.result.now.disks f.blocks) (some_same (sym two ∙ three)) (c.can_be_raw.ensures.is (search rules))) in
     let ring_is : ring_of c.index-2.result.now.blocks ≡ ring_of c.index_mut-in-Ok.result.now.blocks = ap (λ (f : SiteFacts). ring_of f.blocks) (some_same (sym two ∙ three)) in
     let found = subst (λ r. BareUpIs (w.nodes s) c.replace-disk_set.result c.recover_bare-disk_set.result.0 r) c.in-Ok.is
-    (c.recover_bare-disk_set.ensures.found [] (w.nodes s) (stands.disk_sets.sites s c.replace-disk_set.result below there) bare
+    (c.recover_bare-disk_set.ensures.found alone (w.nodes s) (stands.disk_sets.sites s c.replace-disk_set.result below there) bare
     (enough w c.args.self.now s c.index_mut-in-Ok.result.now c.replace-disk_set.result c.recover_bare-disk_set.result.0 stands below bare three there c.recover_bare-disk_set.ensures.later can)
     (ring_fits w c.args.self.now s c.index_mut-in-Ok.result.now c.replace-disk_set.result c.recover_bare-disk_set.result.0 stands below bare three there c.recover_bare-disk_set.ensures.later c.in_ok-room.room.ring (c.in_ok-room.ensures ∙ ring_is))) in
     bare_found w c.args.self.now s c.index_mut-in-Ok.result.now c.replace-disk_set.result c.recover_bare-disk_set.result.0 stands below bare three there c.recover_bare-disk_set.ensures.later
@@ -65,7 +66,7 @@ returns-in-Err-clause-found g c = λ w stands below bare.
     subst (λ (f : SiteFacts). CanBeRaw c.index.result.now.disks f.blocks) (some_same (sym two ∙ one)) (c.can_be_raw.ensures.is (search rules)) in
     let ring_is : ring_of c.index-2.result.now.blocks ≡ ring_of c.index.result.now.blocks = ap (λ (f : SiteFacts). ring_of f.blocks) (some_same (sym two ∙ one)) in
     let found = subst (λ r. BareUpIs (w.nodes s) c.replace-disk_set.result c.recover_bare-disk_set.result.0 r) c.in-Err.is
-    (c.recover_bare-disk_set.ensures.found [] (w.nodes s) (stands.disk_sets.sites s c.replace-disk_set.result below there) bare
+    (c.recover_bare-disk_set.ensures.found alone (w.nodes s) (stands.disk_sets.sites s c.replace-disk_set.result below there) bare
     (enough w c.args.self.now s c.index.result.now c.replace-disk_set.result c.recover_bare-disk_set.result.0 stands below bare one there c.recover_bare-disk_set.ensures.later can)
     (ring_fits w c.args.self.now s c.index.result.now c.replace-disk_set.result c.recover_bare-disk_set.result.0 stands below bare one there c.recover_bare-disk_set.ensures.later c.in_ok-room.room.ring (c.in_ok-room.ensures ∙ ring_is))) in
     bare_stays w c.args.self.now s c.index.result.now c.replace-disk_set.result c.recover_bare-disk_set.result.0 stands below bare one there c.recover_bare-disk_set.ensures.later

@@ -9,6 +9,7 @@ use Rattle.vx_node.proofs.Lists.{get_at}
 use Rattle.vx_events.proofs.Refused.{disk_may}
 use Rattle.vx_node.proofs.Seats.{named_some}
 use Rattle.vx_node.proofs.AskRack.{disk_asked}
+use Rattle.vx_diskset.specs.Holds.{alone}
 use Rattle.vx_node.proofs.yard.Yard.set_disk.Goals as goal
 
 pub site_of-site-requires-clause-named : goal.site_of-site-requires-clause-named
@@ -19,7 +20,7 @@ returns-clause-works g c = λ w stands.
     let disk_sets = c.args.self.now.disk_sets.items in
     let is : seat_of c.args.self.now.facts.items c.args.name.now ≡ Some c.site_of-site.result = c.site_of-site.ensures.seat in
     let at = get_at disk_sets c.site_of-site.result c.index_mut.result.now c.site_of-site.ensures.disk_set c.index_mut.ensures.value in
-    disk_done w c.args.self.now _ c.args.name.now c.args.disk c.args.state c.site_of-site.result c.index_mut.result.now c.fail.new.self stands is at c.fail.ensures.later (c.fail.ensures.stands []) refl refl refl
+    disk_done w c.args.self.now _ c.args.name.now c.args.disk c.args.state c.site_of-site.result c.index_mut.result.now c.fail.new.self stands is at c.fail.ensures.later (c.fail.ensures.stands alone) refl refl refl
 
 pub returns-clause-told : goal.returns-clause-told
 returns-clause-told g c =

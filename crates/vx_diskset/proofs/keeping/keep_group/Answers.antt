@@ -1,0 +1,31 @@
+-- A state that is set, case by case.
+use Rattle.std.proofs.Common.{sym, ◌∙◌, ap}
+use Rattle.vx_diskset.proofs.KeepGroup.{keep_cut, kept_as, kept_at}
+use Rattle.vx_diskset.proofs.CallsBurn.{state_off}
+use Rattle.vx_diskset.proofs.keeping.keep_group.Goals as goal
+
+pub returns-then-is_down-clause-kept : goal.returns-then-is_down-clause-kept
+returns-then-is_down-clause-kept g c = λ beside n up can.
+    let lawful = (g.met.R.Shelf g.world.𝓛 g.world.𝓜 g.world.𝓡 ((λ s x. x), (λ x. x), (λ x. x), λ x. x)).lawful in
+    keep_cut n c.args.rvg.now.core c.set_state-answer.new.self.core (g.R.Shelf.meaning c.args.rvg.now.shelf) (g.R.Shelf.meaning c.set_state-answer.new.self.shelf) c.args.state.now up can
+    (lawful c.args.rvg.now.shelf) (lawful c.set_state-answer.new.self.shelf) c.set_state-answer.ensures.moves (sym c.is_down.ensures ∙ c.if-is_down.true)
+
+pub returns-clause-kept : goal.returns-clause-kept
+returns-clause-kept g c = λ beside n up can.
+    let lawful = (g.met.R.Shelf g.world.𝓛 g.world.𝓜 g.world.𝓡 ((λ s x. x), (λ x. x), (λ x. x), λ x. x)).lawful in
+    kept_at beside n c.args.state.now c.args.rvg.now c.set_state-answer.new.self c.set_state-answer.result
+    (kept_as n c.args.rvg.now.core c.set_state-answer.new.self.core (g.R.Shelf.meaning c.args.rvg.now.shelf) (g.R.Shelf.meaning c.set_state-answer.new.self.shelf) c.args.state.now up can
+    (lawful c.args.rvg.now.shelf) (lawful c.set_state-answer.new.self.shelf) c.set_state-answer.ensures.moves (sym c.is_down.ensures ∙ c.if-is_down.false) c.set_state-answer.new.self.sound.log_unit
+    c.set_state-answer.result c.set_state-answer.ensures.answers (λ some. ap g.R.Shelf.meaning (c.set_state-answer.ensures.unchanged some)) c.set_state-answer.ensures.stands)
+
+pub returns-then-is_down-clause-off : goal.returns-then-is_down-clause-off
+returns-then-is_down-clause-off g c = λ up. sym c.is_down.ensures ∙ c.if-is_down.true
+
+pub returns-clause-off : goal.returns-clause-off
+returns-clause-off g c = λ up. state_off c.args.rvg.now.core _ (g.R.Shelf.meaning c.args.rvg.now.shelf) (g.R.Shelf.meaning c.set_state-answer.new.self.shelf) c.set_state-answer.new.self.core c.set_state-answer.result (sym c.is_down.ensures ∙ c.if-is_down.false) c.set_state-answer.ensures.answers
+
+pub returns-then-is_down-clause-spends : goal.returns-then-is_down-clause-spends
+returns-then-is_down-clause-spends g c = c.set_state-answer.ensures.spends
+
+pub returns-clause-spends : goal.returns-clause-spends
+returns-clause-spends g c = c.set_state-answer.ensures.spends

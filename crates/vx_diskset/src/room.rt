@@ -1,0 +1,44 @@
+// The room that writes take in the log of a site.
+ghost use Rattle.std.specs.Prelude.{◌≡◌, ◌≤◌, ◌<◌, ◌+◌, ◌-◌, None, Some, IfSome, IsSome, List, ℕ, drop, slice_get, true};
+ghost use Rattle.vx_model.specs.declared.state.KeptLink.{KeptLink};
+ghost use Rattle.vx_diskset.specs.Holds.{Beside};
+ghost use Rattle.vx_model.specs.declared.site.SiteState.TheVariants.{Up as UpState};
+ghost use Rattle.vx_history.specs.World.{Node};
+ghost use Rattle.vx_events.specs.Fuses.{taken};
+ghost use Rattle.vx_diskset.specs.Needs.{hold_of, is_needing};
+ghost use Rattle.vx_diskset.specs.Stands.{IsToldAt, IsUpAt, StandsAt};
+
+use crate::DiskSet;
+use vx_disk::Rack;
+use vx_rvg::Rvg;
+
+// The blocks that the numbers above one take in the log of a group, if it holds all of them.
+fn used_in<R: Rack>(rvg: &Rvg<R>, above: u64) -> Option<u64>
+    ensures is { (beside : Beside) (n : Node) → IsUpAt beside n rvg.now.core (R.meaning rvg.now.shelf) → n.halted ≡ None → IfSome result (λ blocks. blocks ≡ taken (drop above n.log)) }
+    ensures some { rvg.now.core.log.header.low ≤ above + 1 → IsSome result }
+{
+    // Numbers are above 0.
+    let _ring = rvg.ring();
+    if rvg.low() - 1 > above {
+        return None;
+    }
+    if above >= rvg.head() {
+        return Some(0);
+    }
+    Some(rvg.used(above))
+}
+
+impl<R: Rack> DiskSet<R> {
+    /// The blocks of the log that the writes above a number take, at a site that is up and runs. None where the log does not hold all of
+    /// them any more, as it does for each link that needs it, and for any other site.
+    pub fn used(&self, above: u64) -> Option<u64>
+        ensures is { (beside : Beside) (n : Node) → StandsAt beside n self.now → n.state ≡ UpState → n.halted ≡ None → IfSome result (λ blocks. blocks ≡ taken (drop above n.log)) }
+        ensures some { (beside : Beside) (n : Node) (k : ℕ) (l : KeptLink) → StandsAt beside n self.now → n.state ≡ UpState → n.halted ≡ None → IsToldAt self.now
+            → slice_get beside.links k ≡ Some l → is_needing l ≡ true → above ≡ hold_of l → IsSome result }
+    {
+        match self {
+            DiskSet::Up(rvg) => used_in(rvg, above),
+            _ => None,
+        }
+    }
+}

@@ -1,0 +1,57 @@
+-- Plexes that calls take out of use, in one call and in two in a row.
+use Rattle.std.proofs.Common.{◌≡◌, ◌⊎◌, inl, inr, ⊎_elim, ℕ, ◌≤◌, Bool, true, false, IsTrue, refl, ap, sym, ◌∙◌, subst, arith}
+use Rattle.std.proofs.lemmas.Bool.{cases_eq}
+use Rattle.vx_disk.specs.Blocks.{bit_at}
+use Rattle.vx_disk.specs.Shelf.{Meaning}
+use Rattle.vx_config.specs.declared.config.Config.{Config}
+use Rattle.vx_copies.specs.Commits.{MoreFailed}
+use Rattle.vx_volume.specs.Plexes.{active, uses}
+use Rattle.vx_volume.specs.Volumes.{PlexBlamed}
+use Rattle.vx_kept.specs.States.{staled}
+use Rattle.vx_kept.proofs.Chosen.{active_volumes}
+use Rattle.vx_group.specs.Loses.{Loses}
+use Rattle.vx_group.proofs.FailingLemmas.{no_failing, then_failing}
+use Rattle.vx_group.proofs.UsesLemmas.{blamed_before, blamed_by, blamed_later, uses_staled, uses_volumes}
+
+pub loses_none : (c d : Config) (m m' : Meaning) → d.volumes ≡ c.volumes → MoreFailed m m' c.disks d.disks → Loses c d m m'
+loses_none c d m m' volumes more = record { lies = uses_volumes c d volumes; plexes = λ v p is. inl (active_volumes d c volumes v p ∙ is); disks = more }
+
+pub loses_same : (c : Config) (m m' : Meaning) → Loses c c m m'
+loses_same c m m' = loses_none c c m m' refl (no_failing m m' c.disks c.disks refl)
+
+pub staled_lies : (v set : ℕ) (c d : Config) → d.volumes ≡ (staled v set c 8).volumes → (w p u : ℕ) → uses d w p u ≡ uses c w p u
+staled_lies v set c d volumes w p u = uses_volumes (staled v set c 8) d volumes w p u ∙ uses_staled v set c 8 w p u
+
+module _ (m0 m1 m2 : Meaning) (one : (u : ℕ) → m0.faults u ≤ m1.faults u) (two : (u : ℕ) → m1.faults u ≤ m2.faults u) where
+  pub then_loses : (c d e : Config) → Loses c d m0 m1 → Loses d e m1 m2 → Loses c e m0 m2
+  then_loses c d e first second = record {
+    lies = λ v p u. second.lies v p u ∙ first.lies v p u;
+    plexes = λ v p is. elim (first.plexes v p is) [
+      | inl on ↦ elim (second.plexes v p on) [
+        | inl still ↦ inl still
+        | inr blamed ↦ inr (blamed_later c v p m0 m1 m2 one (blamed_by c d v p m1 m2 (first.lies v p) blamed))
+      ]
+      | inr blamed ↦ inr (blamed_before c v p m0 m1 m2 two blamed)
+    ];
+    disks = then_failing m0 m1 m2 one two c.disks d.disks e.disks first.disks second.disks;
+  }
+
+  -- plexes that failed in a first call are detached by a second one
+  pub loses_detach : (c d : Config) (v set : ℕ) → ((p : ℕ) → bit_at set p ≡ true → PlexBlamed c v p m0 m1) → ((w p u : ℕ) → uses d w p u ≡ uses c w p u)
+      → ((w p : ℕ) → (w ≡ v → bit_at set p ≡ true → ⊥) → active d w p ≡ active c w p) → MoreFailed m1 m2 c.disks d.disks → Loses c d m0 m2
+  loses_detach c d v set blamed lies others more = record {
+    lies = lies;
+    plexes = λ w p is. elim (cases_eq w v) [
+      | inl same ↦ by w p is same (bit_at set p) refl
+      | inr apart ↦ inl (others w p (λ at bit. apart at) ∙ is)
+    ];
+    disks = then_failing m0 m1 m2 one two c.disks c.disks d.disks (no_failing m0 m1 c.disks c.disks refl) more;
+  }
+    where
+      by : (w p : ℕ) → IsTrue (active c w p) → w ≡ v → (b : Bool) → bit_at set p ≡ b → IsTrue (active d w p) ⊎ PlexBlamed c w p m0 m2
+      by w p is same true bit = inr (subst (λ (y : ℕ). PlexBlamed c y p m0 m2) (sym same) (blamed_before c v p m0 m1 m2 two (blamed p bit)))
+      by w p is same false bit = inl (others w p (λ at on. let clash : false ≡ true = sym bit ∙ on in cc) ∙ is)
+
+-- counted from an earlier moment
+pub loses_later : (c d : Config) (m0 m1 m2 : Meaning) → ((u : ℕ) → m0.faults u ≤ m1.faults u) → ((u : ℕ) → m1.faults u ≤ m2.faults u) → Loses c d m1 m2 → Loses c d m0 m2
+loses_later c d m0 m1 m2 one two second = then_loses m0 m1 m2 one two c c d (loses_same c m0 m1) second

@@ -1,0 +1,44 @@
+use Rattle.std.proofs.Common.{◌≡◌, ◌<◌, ◌≤◌, inl, inr, true, false, refl, sym, ◌∙◌, arith, ℕ, Err}
+use Rattle.vx_kept.proofs.Chosen.{active_volumes}
+use Rattle.vx_group.specs.Regains.{HoldsPlex}
+use Rattle.vx_group.proofs.AttachLemmas.{narrows_attaches, then_attaches}
+use Rattle.vx_group.proofs.CallLemmas.{blames_later}
+use Rattle.vx_group.proofs.OpeningLemmas.{may_behind, may_less}
+use Rattle.vx_group.proofs.RegainLemmas.{all_holds, then_holds, then_regains}
+use Rattle.vx_group.proofs.att.attach_held.Goals as goal
+
+pub regain-requires-clause-more : goal.regain-requires-clause-more
+regain-requires-clause-more g c =
+    may_less c.args.core.now.config c.args.vol c.args.plex c.requires.may
+
+pub returns-in-Err-clause-attaches : goal.returns-in-Err-clause-attaches
+returns-in-Err-clause-attaches g c =
+    (narrows_attaches c.args.vol c.args.plex c.args.core.now c.regain.new.core (g.S.Shelf.meaning c.args.shelf.now) (g.S.Shelf.meaning c.regain.new.shelf) (g.met.S.Shelf.lawful c.regain.new.shelf) c.requires.stands c.regain.ensures.narrows (λ w q apart. active_volumes c.regain.new.core.config c.args.core.now.config c.regain.ensures.volumes w q))
+
+pub returns-in-Err-clause-ends : goal.returns-in-Err-clause-ends
+returns-in-Err-clause-ends g c =
+    inl (active_volumes c.regain.new.core.config c.args.core.now.config c.regain.ensures.volumes c.args.vol c.args.plex ∙ c.requires.off)
+
+pub attach-requires-clause-may : goal.attach-requires-clause-may
+attach-requires-clause-may g c =
+    may_behind c.args.core.now.config c.args.vol c.args.plex c.requires.may c.regain.new.core.config c.regain.ensures.volumes c.in-Ok.ensures.few
+
+pub attach-requires-clause-off : goal.attach-requires-clause-off
+attach-requires-clause-off g c =
+    active_volumes c.regain.new.core.config c.args.core.now.config c.regain.ensures.volumes c.args.vol c.args.plex ∙ c.requires.off
+
+pub returns-clause-attaches : goal.returns-clause-attaches
+returns-clause-attaches g c =
+    then_attaches c.args.vol c.args.plex c.args.core.now c.regain.new.core c.attach.new.core (g.S.Shelf.meaning c.args.shelf.now) (g.S.Shelf.meaning c.regain.new.shelf) (g.S.Shelf.meaning c.attach.new.shelf) (narrows_attaches c.args.vol c.args.plex c.args.core.now c.regain.new.core (g.S.Shelf.meaning c.args.shelf.now) (g.S.Shelf.meaning c.regain.new.shelf) (g.met.S.Shelf.lawful c.regain.new.shelf) c.requires.stands c.regain.ensures.narrows (λ w q apart. active_volumes c.regain.new.core.config c.args.core.now.config c.regain.ensures.volumes w q)) c.attach.ensures.attaches
+
+pub returns-clause-regains : goal.returns-clause-regains
+returns-clause-regains g c =
+    then_regains (g.S.Shelf.meaning c.args.shelf.now) (g.S.Shelf.meaning c.regain.new.shelf) (g.S.Shelf.meaning c.attach.new.shelf) c.regain.ensures.narrows.acts.faults c.attach.ensures.attaches.acts.faults c.args.core.now.config c.regain.new.core.config c.attach.new.core.config c.args.vol c.args.plex c.attach.ensures.failing c.regain.ensures.regains
+
+pub returns-clause-held : goal.returns-clause-held
+returns-clause-held g c =
+    all_holds c.attach.result (then_holds (g.S.Shelf.meaning c.args.shelf.now) (g.S.Shelf.meaning c.regain.new.shelf) (g.S.Shelf.meaning c.attach.new.shelf) c.regain.ensures.narrows.acts.faults c.attach.ensures.attaches.acts.faults c.args.core.now.config c.regain.new.core.config c.attach.new.core.config c.args.vol c.args.plex c.attach.ensures.failing c.in-Ok.ensures.held)
+
+pub returns-clause-cause : goal.returns-clause-cause
+returns-clause-cause g c =
+    blames_later c.attach.result (g.S.Shelf.meaning c.args.shelf.now) (g.S.Shelf.meaning c.regain.new.shelf) (g.S.Shelf.meaning c.attach.new.shelf) c.regain.ensures.narrows.acts.disk_faults c.attach.ensures.cause

@@ -1,0 +1,97 @@
+use Rattle.std.proofs.Common.{◌≡◌, ◌<◌, true, false, IsTrue, Err, length, ap, refl, sym, ◌∙◌, subst, arith, ℕ}
+use Rattle.vx_disk.specs.Shelf.{Meaning}
+use Rattle.vx_model.specs.declared.site.PlexState.TheVariants.{Active}
+use Rattle.vx_config.specs.Checks.{is_sound}
+use Rattle.vx_config.specs.declared.config.Config.{Config}
+use Rattle.vx_config.specs.declared.entry.DiskEntry.{DiskEntry}
+use Rattle.vx_volume.specs.Plexes.{DisksFit, active, uses}
+use Rattle.vx_group.specs.Attaches.{Attaches}
+use Rattle.vx_group.specs.Stands.{Stands}
+use Rattle.vx_group.proofs.AttachLemmas.{back_Stands, back_attaches, same_back, to_Stands, to_attaches}
+use Rattle.vx_group.proofs.OpeningLemmas.{open_on, open_shape, open_sound, open_wider, present, with_config}
+use Rattle.vx_group.proofs.SourcesLemmas.{copy_by}
+use Rattle.vx_group.proofs.UsesLemmas.{uses_stated}
+use Rattle.vx_group.proofs.Standing.{fit_of, sound_of}
+use Rattle.vx_group.proofs.attaching.copy_from.Goals as goal
+
+pub copy_plex-requires-clause-checked : goal.copy_plex-requires-clause-checked
+copy_plex-requires-clause-checked g c =
+    subst (λ (x : Config). is_sound x ≡ true) (sym c.set_state.ensures.changed)
+    (open_sound c.args.core.now.config c.args.vol c.args.plex (present c.args.core.now.config c.args.vol c.args.plex c.requires.may) (sound_of c.args.core.now (g.S.Shelf.meaning c.args.shelf.now) c.requires.stands))
+
+pub copy_plex-requires-clause-volume : goal.copy_plex-requires-clause-volume
+copy_plex-requires-clause-volume g c =
+    let lt = c.requires.may.volume in
+    let same = ap (λ (x : Config). length x.volumes) c.set_state.ensures.changed ∙ (open_shape c.args.core.now.config c.args.vol c.args.plex (present c.args.core.now.config c.args.vol c.args.plex c.requires.may)).volumes in
+    omega (arith, lt, same)
+
+pub copy_plex-requires-clause-from : goal.copy_plex-requires-clause-from
+copy_plex-requires-clause-from g c =
+    ap (λ (x : Config). active x c.args.vol c.args.source) c.set_state.ensures.changed
+    ∙ open_wider c.args.core.now.config c.args.vol c.args.plex (present c.args.core.now.config c.args.vol c.args.plex c.requires.may) c.args.vol c.args.source c.requires.from
+
+pub copy_plex-requires-clause-to : goal.copy_plex-requires-clause-to
+copy_plex-requires-clause-to g c =
+    ap (λ (x : Config). active x c.args.vol c.args.plex) c.set_state.ensures.changed ∙ open_on c.args.core.now.config c.args.vol c.args.plex (present c.args.core.now.config c.args.vol c.args.plex c.requires.may)
+
+pub copy_plex-requires-clause-apart : goal.copy_plex-requires-clause-apart
+copy_plex-requires-clause-apart g c = λ (at : c.args.source ≡ c.args.plex).
+    let on : IsTrue (active c.args.core.now.config c.args.vol c.args.plex) = subst (λ (q : ℕ). IsTrue (active c.args.core.now.config c.args.vol q)) at c.requires.from in
+    let clash : false ≡ true = sym c.requires.off ∙ on in cc
+
+pub copy_plex-requires-clause-disks : goal.copy_plex-requires-clause-disks
+copy_plex-requires-clause-disks g c =
+    subst (λ (x : Config). DisksFit x.disks (g.S.Shelf.meaning c.args.shelf.now)) (sym c.set_state.ensures.changed) (fit_of c.args.core.now (g.S.Shelf.meaning c.args.shelf.now) c.requires.stands)
+
+pub returns-in-Ok-clause-stands : goal.returns-in-Ok-clause-stands
+returns-in-Ok-clause-stands g c =
+    to_Stands c.args.core.now c.args.vol c.args.plex c.requires.may c.requires.off (g.S.Shelf.meaning c.args.shelf.now) (g.S.Shelf.meaning c.copy_plex.new.shelf) (g.met.S.Shelf.lawful c.args.shelf.now) (g.met.S.Shelf.lawful c.copy_plex.new.shelf) c.requires.stands c.set_state.new.self c.set_state.ensures.changed c.copy_plex.ensures.goes
+
+pub returns-in-Ok-clause-attaches : goal.returns-in-Ok-clause-attaches
+returns-in-Ok-clause-attaches g c =
+    to_attaches c.args.core.now c.args.vol c.args.plex c.requires.may c.requires.off (g.S.Shelf.meaning c.args.shelf.now) (g.S.Shelf.meaning c.copy_plex.new.shelf) (g.met.S.Shelf.lawful c.args.shelf.now) (g.met.S.Shelf.lawful c.copy_plex.new.shelf) c.requires.stands c.set_state.new.self c.set_state.ensures.changed c.copy_plex.ensures.goes
+    c.args.source c.requires.from c.in-Ok.ensures.ok
+
+pub returns-in-Ok-clause-opens : goal.returns-in-Ok-clause-opens
+returns-in-Ok-clause-opens g c =
+    ap (λ (x : Config). active x c.args.vol c.args.plex) c.set_state.ensures.changed ∙ open_on c.args.core.now.config c.args.vol c.args.plex (present c.args.core.now.config c.args.vol c.args.plex c.requires.may)
+
+pub returns-in-Ok-clause-serial : goal.returns-in-Ok-clause-serial
+returns-in-Ok-clause-serial g c = ap (λ (x : Config). x.serial) c.set_state.ensures.changed
+
+pub returns-in-Err-clause-stands : goal.returns-in-Err-clause-stands
+returns-in-Err-clause-stands g c =
+    back_Stands c.args.core.now c.args.vol c.args.plex c.requires.may c.requires.off (g.S.Shelf.meaning c.args.shelf.now) (g.S.Shelf.meaning c.copy_plex.new.shelf) (g.met.S.Shelf.lawful c.args.shelf.now) (g.met.S.Shelf.lawful c.copy_plex.new.shelf) c.requires.stands c.set_state.new.self c.set_state.ensures.changed c.copy_plex.ensures.goes
+    c.set_state-in-Err.new.self c.whole_of-whole.result c.whole_of-whole.ensures c.set_state-in-Err.ensures.changed
+
+pub returns-in-Err-clause-attaches : goal.returns-in-Err-clause-attaches
+returns-in-Err-clause-attaches g c =
+    back_attaches c.args.core.now c.args.vol c.args.plex c.requires.may c.requires.off (g.S.Shelf.meaning c.args.shelf.now) (g.S.Shelf.meaning c.copy_plex.new.shelf) (g.met.S.Shelf.lawful c.args.shelf.now) (g.met.S.Shelf.lawful c.copy_plex.new.shelf) c.requires.stands c.set_state.new.self c.set_state.ensures.changed c.copy_plex.ensures.goes
+    c.set_state-in-Err.new.self c.whole_of-whole.result c.whole_of-whole.ensures c.set_state-in-Err.ensures.changed
+
+pub returns-in-Err-clause-opens : goal.returns-in-Err-clause-opens
+returns-in-Err-clause-opens g c =
+    ap (λ (x : Config). active x c.args.vol c.args.plex)
+    (same_back c.args.core.now c.args.vol c.args.plex c.requires.may c.requires.off (g.S.Shelf.meaning c.args.shelf.now) (g.S.Shelf.meaning c.copy_plex.new.shelf) (g.met.S.Shelf.lawful c.args.shelf.now) (g.met.S.Shelf.lawful c.copy_plex.new.shelf) c.requires.stands c.set_state.new.self c.set_state.ensures.changed c.copy_plex.ensures.goes
+    c.set_state-in-Err.new.self c.whole_of-whole.result c.whole_of-whole.ensures c.set_state-in-Err.ensures.changed)
+    ∙ c.requires.off
+
+pub returns-in-Err-clause-serial : goal.returns-in-Err-clause-serial
+returns-in-Err-clause-serial g c = ap (λ (x : Config). x.serial) (c.set_state-in-Err.ensures.changed) ∙ ap (λ (x : Config). x.serial) c.set_state.ensures.changed
+
+pub returns-in-Err-clause-cause : goal.returns-in-Err-clause-cause
+returns-in-Err-clause-cause g c =
+    copy_by {T = Unit {0}} c.args.core.now.config c.set_state.new.self c.args.vol c.args.source c.args.plex (g.S.Shelf.meaning c.args.shelf.now) (g.S.Shelf.meaning c.copy_plex.new.shelf)
+    (λ x q u. ap (λ (e : Config). uses e x q u) c.set_state.ensures.changed ∙ uses_stated c.args.vol c.args.plex Active false c.args.core.now.config x q u) (Err c.in-Err.error) c.in-Err.ensures.cause
+
+pub returns-in-Err-clause-same : goal.returns-in-Err-clause-same
+returns-in-Err-clause-same g c =
+    ap (λ (x : Config). with_config x c.args.core.now)
+    (same_back c.args.core.now c.args.vol c.args.plex c.requires.may c.requires.off (g.S.Shelf.meaning c.args.shelf.now) (g.S.Shelf.meaning c.copy_plex.new.shelf) (g.met.S.Shelf.lawful c.args.shelf.now) (g.met.S.Shelf.lawful c.copy_plex.new.shelf) c.requires.stands c.set_state.new.self c.set_state.ensures.changed c.copy_plex.ensures.goes
+    c.set_state-in-Err.new.self c.whole_of-whole.result c.whole_of-whole.ensures c.set_state-in-Err.ensures.changed)
+
+pub returns-in-Ok-clause-disks : goal.returns-in-Ok-clause-disks
+returns-in-Ok-clause-disks g c = ap (λ (x : Config). x.disks) c.set_state.ensures.changed
+
+pub returns-in-Err-clause-disks : goal.returns-in-Err-clause-disks
+returns-in-Err-clause-disks g c = ap (λ (x : Config). x.disks) (c.set_state-in-Err.ensures.changed) ∙ ap (λ (x : Config). x.disks) c.set_state.ensures.changed

@@ -1,0 +1,6 @@
+use Rattle.std.proofs.Common.{◌≡◌}
+use Rattle.vx_group.specs.Attaches.{SourcesTried}
+use Rattle.vx_group.proofs.attaching.copy_to.Given as goal
+
+abbrev pub invariant-loop-source : goal.invariant-loop-source
+invariant-loop-source g l = SourcesTried l.fn.core l.vol l.plex l.source l.device (g.S.Shelf.meaning l.fn.shelf) (g.S.Shelf.meaning l.shelf) × (l.core ≡ l.fn.core)

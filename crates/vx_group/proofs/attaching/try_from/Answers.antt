@@ -1,0 +1,19 @@
+use Rattle.std.proofs.Common.{◌≡◌, inl, inr, true, false, Err, refl, sym, ◌∙◌}
+use Rattle.vx_group.proofs.SourcesLemmas.{no_attaches, tried_by}
+use Rattle.vx_group.proofs.attaching.try_from.Goals as goal
+
+pub returns-then-not-is_active-clause-attaches : goal.returns-then-not-is_active-clause-attaches
+returns-then-not-is_active-clause-attaches g c =
+    no_attaches c.args.vol c.args.plex c.args.core.now (g.S.Shelf.meaning c.args.shelf.now) (g.met.S.Shelf.lawful c.args.shelf.now) c.requires.stands
+
+pub returns-then-not-is_active-clause-tried : goal.returns-then-not-is_active-clause-tried
+returns-then-not-is_active-clause-tried g c =
+    (inl (sym c.is_active.ensures ∙ c.if-not-is_active.true, refl), c.requires.up)
+
+pub copy_from-requires-clause-from : goal.copy_from-requires-clause-from
+copy_from-requires-clause-from g c =
+    sym c.is_active.ensures ∙ c.if-not-is_active.false
+
+pub returns-clause-tried : goal.returns-clause-tried
+returns-clause-tried g c =
+    tried_by c.args.core.now.config c.args.vol c.args.source c.args.plex c.args.device (g.S.Shelf.meaning c.args.shelf.now) (g.S.Shelf.meaning c.copy_from.new.shelf) c.copy_from.result c.copy_from.ensures.cause

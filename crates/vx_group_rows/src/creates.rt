@@ -1,0 +1,80 @@
+// What no clause says: a group that is made over a shelf in memory, with each of its device calls failing in turn.
+use std::alloc::Global;
+use std::test::*;
+use vx_copies::import;
+use vx_copyio::are_large;
+use vx_disk::{MemShelf, Rack, Shelf};
+use vx_group::Group;
+use vx_model::{No, Stop};
+
+#[derive(Clone, Copy, Debug, PartialEq, Eq)]
+enum Told {
+    /// The serial, and the set of the disks that are held as good.
+    Made(u64, u8),
+    Device(u32),
+    Small,
+    Other,
+}
+
+// What an import over the shelf of a new group finds.
+fn found<S: Shelf>(alloc: Global, shelf: &mut S) -> Told {
+    if shelf.is_down() || !are_large(shelf) {
+        return Told::Other;
+    }
+    match import(alloc, shelf) {
+        Ok((config, good)) => Told::Made(config.serial, good),
+        Err(_) => Told::Other,
+    }
+}
+
+// Makes a group, and tells what an import finds behind it.
+fn made(alloc: Global, shelf: MemShelf) -> Told {
+    if shelf.units() == 0 || shelf.units() > 8 {
+        return Told::Other;
+    }
+    match Group::create(alloc, shelf, 7) {
+        Ok(group) => {
+            let (mut shelf, _core) = group.apart();
+            found(alloc, &mut shelf)
+        }
+        Err((_, Stop::No(No::Device { disk }))) => Told::Device(disk),
+        Err((_, Stop::No(No::Size))) => Told::Small,
+        Err(_) => Told::Other,
+    }
+}
+
+#[test]
+fn each_call_of_a_new_group_fails(rt: HostRuntime) -> Result<(), Fail> {
+    let alloc = rt.alloc();
+    // Three calls clear the headers of a disk, two write its label, and six commit to it, of which two are reads.
+    for (call, wanted) in [
+        (0, Told::Made(1, 3)),
+        (1, Told::Device(0)),
+        (3, Told::Device(0)),
+        (4, Told::Device(1)),
+        (6, Told::Device(1)),
+        (7, Told::Device(0)),
+        (8, Told::Device(0)),
+        (9, Told::Device(1)),
+        (10, Told::Device(1)),
+        (11, Told::Made(2, 2)),
+        (16, Told::Made(2, 2)),
+        (17, Told::Made(2, 1)),
+        (22, Told::Made(2, 1)),
+        (23, Told::Other),
+    ] {
+        let mut shelf = MemShelf::new(alloc, &[call])?;
+        assert!(rt; shelf.fit(alloc, None, 7, 2, 1024).is_ok());
+        assert_eq!(rt; made(alloc, shelf), wanted);
+    }
+    Ok(())
+}
+
+#[test]
+fn small_disks_are_refused(rt: HostRuntime) -> Result<(), Fail> {
+    let alloc = rt.alloc();
+    let mut shelf = MemShelf::new(alloc, &[])?;
+    assert!(rt; shelf.fit(alloc, None, 7, 2, 1023).is_ok());
+    assert_eq!(rt; made(alloc, shelf), Told::Small);
+    Ok(())
+}

@@ -1,0 +1,21 @@
+//! Tests of a mirrored group over disks in memory: what no clause says, with calls that fail or are cut in turn.
+//!
+//! They stand apart from the group, which is so proved once and not once more with them.
+#![tactic(auto)]
+
+mod untold;
+
+pub use untold::Untold;
+
+#[cfg(test)]
+mod attaches;
+#[cfg(test)]
+mod creates;
+#[cfg(test)]
+mod cuts;
+#[cfg(test)]
+mod imports;
+#[cfg(test)]
+mod regains;
+#[cfg(test)]
+mod volumes;

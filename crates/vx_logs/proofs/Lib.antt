@@ -1,0 +1,7 @@
+pub mod NoteLemmas
+pub mod PlexesLemmas
+pub mod LoadLemmas
+pub mod LogLemmas
+pub mod MarkLemmas
+pub mod PutLemmas
+pub mod WriteLemmas

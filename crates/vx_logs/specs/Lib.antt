@@ -1,0 +1,5 @@
+pub mod Held
+pub mod Dirtying
+pub mod Noting
+pub mod Marks
+pub mod Writes
