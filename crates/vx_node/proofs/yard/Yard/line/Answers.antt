@@ -42,3 +42,15 @@ returns-clause-line g c = λ d stands.
       bytes.3,
       bytes.4,
     )
+
+pub returns-in_default-clause-asked : goal.returns-in_default-clause-asked
+returns-in_default-clause-asked g c = λ d stands free. c.answer.ensures.asked d.world (stands_plain d c.args.self.now stands) free
+
+pub returns-in_default-push_said-clause-asked : goal.returns-in_default-push_said-clause-asked
+returns-in_default-push_said-clause-asked g c = λ d stands free. c.answer.ensures.asked d.world (stands_plain d c.args.self.now stands) free
+
+pub returns-in-Ok-send-clause-asked : goal.returns-in-Ok-send-clause-asked
+returns-in-Ok-send-clause-asked g c = λ d stands free. c.answer.ensures.asked d.world (stands_plain d c.args.self.now stands) free
+
+pub returns-clause-asked : goal.returns-clause-asked
+returns-clause-asked g c = λ d stands free. c.answer.ensures.asked d.world (stands_plain d c.args.self.now stands) free
