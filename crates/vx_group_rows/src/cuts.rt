@@ -20,6 +20,9 @@ fn volume(
     calls: u64,
     pick: u64,
 ) -> Result<Group<Disks>, OutOfMemory> {
+    if calls > 100 {
+        return Err(OutOfMemory);
+    }
     let mut disks = disks_of(alloc, fails, 2, 1024)?.shelf;
     disks.fuse(BEFORE + calls, pick);
     let mut group = group_on(alloc, Untold { shelf: disks })?;
@@ -70,11 +73,13 @@ fn each_call_of_a_write_is_cut(rt: HostRuntime) -> Result<(), Fail> {
 fn each_call_of_a_write_with_its_commit_is_cut(rt: HostRuntime) -> Result<(), Fail> {
     let alloc = rt.alloc();
     // Call 44 is the write to the second plex, which counts for the fuse too. The commit behind it writes and flushes a body, and then a
-    // header, on the first disk and then on the second one: the configuration counts once the first header is durable, or kept.
-    for (pick, block, header) in [(0, Told::Block(0x11), 6), (u64::MAX, Told::Block(0x22), 5)] {
+    // header, on the first disk and then on the second one. Its first flush makes the block of the first plex durable, and the configuration
+    // counts once the first header is durable, or kept.
+    for (pick, durable, header) in [(0, 4, 6), (u64::MAX, 2, 5)] {
         for calls in 2..11 {
             let mut group = volume(alloc, &[44], calls, pick)?;
             let answer = if calls < 10 { Told::Down } else { Told::Done };
+            let block = Told::Block(if calls < durable { 0x11 } else { 0x22 });
             assert_eq!(rt; put(&mut group, 0, 3, 0x22), answer);
             assert_eq!(rt; behind(alloc, group, pick), (block, block, calls < header));
         }

@@ -8,5 +8,6 @@ use Rattle.vx_history.specs.World.{World}
 pub record LeavesDisks (w v : World) : Type 0 where
   pub sites : v.sites ≡ w.sites
   pub nodes : (i : ℕ) → v.nodes i ≡ w.nodes i
-  pub kept : (i : ℕ) → kept_links (v.links i) (linked_sites (v.links i) v.sites 0 v.sites) ≡ kept_links (w.links i) (linked_sites (w.links i) w.sites 0 w.sites)
+  pub kept : (i : ℕ)
+      → kept_links (v.links i) (linked_sites (v.links i) v.sites 0 v.sites) ≡ kept_links (w.links i) (linked_sites (w.links i) w.sites 0 w.sites)
   pub headers : (i : ℕ) → v.headers i ≡ w.headers i

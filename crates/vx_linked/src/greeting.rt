@@ -98,7 +98,8 @@ pub fn greet<N: Net>(
     stored: u64,
     flight: &mut N,
 ) -> Result<(), OutOfMemory>
-    ensures sends { OnOk result ((ps : List Packet) → FlightStands ps (N.flying flight.old) → FlightStands (ps ++ hello_of rvg from to session stored) (N.flying flight.new)) }
+    ensures sends { OnOk result ((ps : List Packet) → FlightStands ps (N.flying flight.old)
+        → FlightStands (ps ++ hello_of rvg from to session stored) (N.flying flight.new)) }
     ensures done { ((r : RvgFacts) → rvg ≡ Some r → CanGreet (N.flying flight.old) session stored r) → IsOk result }
     ensures silent { rvg ≡ None → N.flying flight.new ≡ N.flying flight.old }
     ensures unsent { OnErr result (N.flying flight.new ≡ N.flying flight.old) }

@@ -54,8 +54,8 @@ fn find_hearing(sites: &[SiteFacts], target: usize, source: u32) -> Option<LinkF
 pub fn hearing_link(sites: &[SiteFacts], target: usize, source: u32) -> Option<LinkFacts>
     ensures link { result ≡ hearing sites.now target source }
     ensures hears { (w : World) (l : LinkValue) → sites.now ≡ linked_facts w → result ≡ Some l → Hears w target source l }
-    ensures deaf { (w : World) (p : Packet) (e : SEvent) → sites.now ≡ linked_facts w → result ≡ None → p.target ≡ target → p.source ≡ source → target < w.sites → source < w.sites
-        → AreListed w → heard w p p.message ≡ link_heard w p e → handed w p ≡ says w Ignored }
+    ensures deaf { (w : World) (p : Packet) (e : SEvent) → sites.now ≡ linked_facts w → result ≡ None → p.target ≡ target → p.source ≡ source
+        → target < w.sites → source < w.sites → AreListed w → heard w p p.message ≡ link_heard w p e → handed w p ≡ says w Ignored }
 {
     find_hearing(sites, target, source)
 }
@@ -65,8 +65,9 @@ pub fn hearing_link(sites: &[SiteFacts], target: usize, source: u32) -> Option<L
 pub fn keep_heard(sites: &mut [SiteFacts], target: usize, source: u32, link: &LinkFacts)
     requires linked { IsSome (fact_between sites.old target source) }
     ensures put { Put target source link.now sites.old sites.new }
-    ensures world { (w : World) (number : ℕ) (p : Packet) (e : SEvent) → sites.old ≡ linked_facts w → packet_at w.packets number ≡ Some p → p.target ≡ target → p.source ≡ source
-        → heard w p p.message ≡ link_heard w p e → IsHearing (w.nodes target) → link.now ≡ link_fact (w.nodes target) source ((step w (DeliverAt number)).world.links target source)
+    ensures world { (w : World) (number : ℕ) (p : Packet) (e : SEvent) → sites.old ≡ linked_facts w → packet_at w.packets number ≡ Some p
+        → p.target ≡ target → p.source ≡ source → heard w p p.message ≡ link_heard w p e → IsHearing (w.nodes target)
+        → link.now ≡ link_fact (w.nodes target) source ((step w (DeliverAt number)).world.links target source)
         → sites.new ≡ linked_facts (step w (DeliverAt number)).world }
 {
     put_link(sites, target, source, link);

@@ -36,7 +36,8 @@ pub fn keep_pumped(sites: &mut [SiteFacts], from: &Name, to: &Name, link: &Link)
     requires free { IsFree sites.old (Pump from.now to.now) }
     ensures kept { Relinked from.now to.now link.now sites.old sites.new }
     ensures world { (w : World) (f : Flying) → sites.old ≡ linked_facts w
-        → link.now ≡ plain_link (site_number w to.now) ((link_event w (site_number w from.now) (site_number w to.now) PumpLink).links (site_number w from.now) (site_number w to.now))
+        → link.now ≡ plain_link (site_number w to.now)
+        ((link_event w (site_number w from.now) (site_number w to.now) PumpLink).links (site_number w from.now) (site_number w to.now))
         → FlightStands (link_event w (site_number w from.now) (site_number w to.now) PumpLink).packets f
         → ComesTo w (PumpAt (site_number w from.now) (site_number w to.now)) sites.new f }
 {
