@@ -18,7 +18,7 @@ use Rattle.vx_diskset.specs.Burning.{Burnt, IsLogged}
 use Rattle.vx_diskset.specs.Fuses.{LeftAs}
 
 module _ {R : Type 0} {g : Ghosts R} where
-  -- what is told of the disks of an disk set
+  -- what is told of the disks of a disk set
   abbrev pub disks_in : DiskSet R g → Option Disks
   disks_in (Bare rack) = (g.meaning rack).disks
   disks_in (Spoiled rack) = (g.meaning rack).disks

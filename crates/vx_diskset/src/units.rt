@@ -1,6 +1,7 @@
 // The units of a raw set.
 ghost use Rattle.std.specs.Prelude.{◌≡◌, ◌≤◌, IsTrue};
 ghost use Rattle.vx_diskset.specs.Layouts.{CanBeRaw, raw_units as units_of};
+ghost use Rattle.vx_model.specs.Sizes.{is_raw_shape as is_raw_shape_is};
 
 use vx_model::limits::{LEAST_BLOCKS, LEAST_RAW_DISKS, MOST_DISKS};
 use vx_model::{Units, VolumeUnits, is_raw_shape};
@@ -27,6 +28,7 @@ pub fn can_be_raw(disks: u32, blocks: u64) -> bool
     ensures is { IsTrue result → CanBeRaw disks blocks }
     ensures few { IsTrue result → disks ≤ MOST_DISKS }
     ensures large { IsTrue result → LEAST_BLOCKS ≤ blocks }
+    ensures exact { disks ≤ MOST_DISKS → result ≡ is_raw_shape_is disks blocks }
 {
     disks <= MOST_DISKS && is_raw_shape(disks, blocks)
 }

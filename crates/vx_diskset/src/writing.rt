@@ -153,7 +153,8 @@ impl<R: Rack> DiskSet<R> {
     }
 
     /// Writes whole blocks to a data volume, by its number, and keeps in the log what it holds above the number `hold`, which links may need.
-    /// Answers the number of the write. A site whose fuse runs out crashes.
+    /// Answers the number of the write. A site whose fuse runs out crashes. Refusals: 19 where no number is left, 7 where a disk failed, and
+    /// 6 where the fuse ran out.
     pub fn write_keeping(
         &mut self,
         volume: u32,

@@ -65,7 +65,7 @@ pub fn lines_are_events()
         → StopsBy (is_of_links line) d line fails new }
 {}
 
-/// Where memory runs out within a line that does not go in parts nothing is done, and of one that does any first part of its events is.
+/// Where memory runs out within a line that does not go in parts nothing is done; of one that does, any first part of its events may be.
 pub fn memory_leaves_a_part()
     ensures none { (d : Doubted) (line : ScriptLine) (new : Doubted) → goes_in_parts line ≡ false → DonePart d line new → new ≡ d }
     ensures any { (d : Doubted) (line : ScriptLine) (c : Choice) (k : ℕ) → goes_in_parts line ≡ true → DonePart d line (first_part d line c k) }

@@ -64,7 +64,8 @@ abbrev pub Opens : {T E : Type 0} → ℕ → ℕ → Config → Result T E → 
 Opens v p d (Ok x) = IsTrue (active d v p)
 Opens v p d (Err error) = active d v p ≡ false
 
--- A copy from one plex of the volume, if it is ACTIVE, to another one: a fault comes only where a call on a disk of one of the two failed.
+-- A copy from one plex of the volume, if it is ACTIVE, to another one: a fault comes only where a call on a disk of one of the two failed, or
+-- where the source is not ACTIVE, and then it names `device`.
 abbrev pub CopyTried : {T : Type 0} → Config → ℕ → ℕ → ℕ → ℕ → Meaning → Meaning → Result T ShelfError → Type 0
 CopyTried c v source p device old new (Ok x) = IsTrue new.down → ⊥
 CopyTried c v source p device old new (Err (Fault disk)) =

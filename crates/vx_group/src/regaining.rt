@@ -42,7 +42,7 @@ fn hold_plex(config: &mut Config, vol: u32, plex: u32) -> bool
 }
 
 /// Holds each disk as good on which a plex lies, and commits this, where one of them was held as failed. A disk that fails in the commit is
-/// held as failed again. After a refusal the configuration is as it was but for its serial, unless the shelf is down.
+/// held as failed again.
 pub fn regain<S: Shelf>(
     shelf: &mut S,
     core: &mut GroupCore,

@@ -15,7 +15,7 @@ pub fn leaves_disks()
     ensures wait { (w : World) (p number : ℕ) → LeavesDisks w (step w (Wait p number)).world }
 {}
 
-/// None but a connect sends a packet.
+/// Of these events none but a connect sends a packet.
 pub fn sends_nothing()
     ensures cut { (w : World) (p s : ℕ) → (step w (Cut p s)).world.packets ≡ w.packets }
     ensures pause { (w : World) (p s : ℕ) → (step w (Pause p s)).world.packets ≡ w.packets }

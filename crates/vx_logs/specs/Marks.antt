@@ -21,6 +21,7 @@ pub record AreMarked (c : Config) (v first last : ℕ) (i : Image) : Type 0 wher
   pub dirty : (e : LogEntry) → InUse c v DrlLog e → (r : ℕ) → first ≤ r → r ≤ last → logged_in e i r ≡ true
   pub missed : (e : LogEntry) → InUse c v FmrLog e → (p r : ℕ) → IsTrue (stale c v p) → first ≤ r → r ≤ last → logged_in e i (p * stride_of c v + r) ≡ true
 
--- An image in a write: until its regions are marked no block but those of the logs has a value that it did not have.
+-- An image in a write, where the logs in use are in memory and stand: until its regions are marked no block but those of the logs has a value
+-- that it did not have.
 pub record MarksFirst (c : Config) (v first last : ℕ) (l : Logs) (m : Meaning) (i : Image) : Type 0 where
   pub so : LogsWhole c v l → LogsStand l m → Beside (LogsRun l) m.leaves i ⊎ AreMarked c v first last i

@@ -33,7 +33,7 @@ last_region block n = (block + n - 1) / REGION
 abbrev pub MarkedAt : Config → ℕ → ℕ → ℕ → Logs → Meaning → Values
 MarkedAt c v first last l m = Or (DrlAt first last true l.drl m) (FmrAt (stale c v) false first last l.fmr m)
 
--- each log has the marks, or is lost, where its disk's count rose; and the logs stand
+-- each log has the marks, or is lost, where its disk's count rose; a log that stood stands; and the shelf is down only where it was
 pub record Marked (c : Config) (v first last : ℕ) (lost : Lost) (l l' : Logs) (m m' : Meaning) : Type 0 where
   pub drl : DrlEnds first last lost.drl l.drl l'.drl m m'
   pub fmr : FmrEnds (stale c v) false first last lost.fmr l.fmr l'.fmr m m'

@@ -89,9 +89,8 @@ pub fn mark<S: Shelf>(
 
 /// Writes whole blocks to each plex that is ACTIVE. The maps of those that fail begin anew, with the regions of this write.
 ///
-/// Answers the plexes that failed, of which one did not, and whether the log of missed regions was lost. The caller commits both. 7 where
-/// each plex failed in this call, and 6 where the shelf is down.
-
+/// Answers the plexes that failed, where one that is ACTIVE did not, and whether the log of missed regions was lost. The caller commits
+/// both. 7 where each plex failed in this call, and 6 where the shelf is down.
 pub fn put<S: Shelf>(
     logs: &mut Logs,
     config: &Config,
