@@ -67,7 +67,7 @@ fn last_done(bytes: &[u8]) -> Option<u64> {
 // The number of the last write in the files of the first site, as a start over a copy of them finds it.
 fn head_in_files(rt: HostRuntime, alloc: Global) -> Option<u64> {
     let shelf = copy_of_files(rt, alloc)?;
-    if shelf.units() != 3 || shelf.size(0) < 8 {
+    if shelf.units() != 3 || shelf.size(0) < 8 || shelf.size(1) != 64 || shelf.size(2) != 64 {
         return None;
     }
     match Rvg::start(alloc, shelf, &three_units()) {

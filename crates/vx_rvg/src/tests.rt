@@ -44,7 +44,7 @@ fn again(alloc: Global, rvg: Rvg<MemShelf>) -> Result<Rvg<MemShelf>, OutOfMemory
     if shelf.is_down() {
         shelf.revive();
     }
-    if shelf.units() != 3 || shelf.size(0) < 8 {
+    if shelf.units() != 3 || shelf.size(0) < 8 || shelf.size(1) != 16 || shelf.size(2) != 16 {
         return Err(OutOfMemory);
     }
     match Rvg::start(alloc, shelf, &three_units()) {

@@ -52,7 +52,7 @@ fn again(
     if shelf.is_down() {
         shelf.revive();
     }
-    if shelf.units() != 3 || shelf.size(0) < 8 {
+    if shelf.units() != 3 || shelf.size(0) < 8 || shelf.size(1) != 18 || shelf.size(2) != 18 {
         return Err(OutOfMemory);
     }
     let rvg = match Rvg::start(alloc, shelf, &three_units()) {
