@@ -184,13 +184,7 @@ impl<R: Rack> DiskSet<R> {
 
     // The same, before it crashes.
     #[tactic(auto, using(crate::proofs::MakeGroup::up_volumes))]
-    fn write_up(
-        &mut self,
-        volume: u32,
-        start: u64,
-        bytes: &[u8],
-        hold: u64,
-    ) -> Result<u64, No>
+    fn write_up(&mut self, volume: u32, start: u64, bytes: &[u8], hold: u64) -> Result<u64, No>
         requires some { 0 < length bytes.now }
         requires few { length bytes.now ≤ MOST_CALL_BYTES }
         requires whole { length bytes.now % 512 ≡ 0 }

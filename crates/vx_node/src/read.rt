@@ -12,8 +12,8 @@ ghost use Rattle.vx_node.specs.Yards.{IsKept, YardAgrees, IsTold, in_files};
 use crate::{Said, Yard};
 use vx_disk::Rack;
 use vx_diskset::blocks_of;
-use vx_model::limits::MOST_CALL_BLOCKS;
 use vx_model::Name;
+use vx_model::limits::MOST_CALL_BLOCKS;
 
 impl<R: Rack> Yard<R> {
     /// Reads blocks of a volume, as a `read` line asks.

@@ -73,10 +73,7 @@ impl<R: Rack> Yard<R> {
     {
         let disks = self.facts[site].disks;
         let blocks = self.facts[site].blocks;
-        if site >= MOST_SITES
-            || !can_be_raw(disks, blocks)
-            || self.is_refused(name)
-        {
+        if site >= MOST_SITES || !can_be_raw(disks, blocks) || self.is_refused(name) {
             return Ok(Said::Refused(No::NoConfig));
         }
         let volumes = facts::raw_table(alloc, disks - 2, blocks)?;

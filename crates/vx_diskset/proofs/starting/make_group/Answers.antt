@@ -44,8 +44,8 @@ returns-then-disks-lt-LEAST_RAW_DISKS-clause-made g c = λ n bare can.
       | then-disks-lt-LEAST_RAW_DISKS-via-then-disks-lt-LEAST_RAW_DISKS w ↦ absurd (omega (arith, w.if-disks-lt-LEAST_RAW_DISKS.true, can.some, bare.fitted.units, c.units-disks.ensures))
       | then-disks-lt-LEAST_RAW_DISKS-via-else-disks-lt-LEAST_RAW_DISKS+then-disks-gt-MOST_DISKS w ↦ absurd (omega (arith, w.if-disks-gt-MOST_DISKS.true, bare.few, bare.fitted.units, c.units-disks.ensures))
       | then-disks-lt-LEAST_RAW_DISKS-via-else-disks-lt-LEAST_RAW_DISKS+else-disks-gt-MOST_DISKS+then-not-has_maps w ↦
-        absurd (never_both w.has_maps.result
-        (w.has_maps.ensures.all
-        (subst (λ (k : ℕ). LINK_PLACES * maps_of (raw_units k).vols m ≤ m.size (raw_units k).maps) (sym bare.fitted.units) (maps_fit n.disks n.blocks m can bare.fitted.size)))
-        w.if-not-has_maps.true)
+          absurd (never_both w.has_maps.result
+          (w.has_maps.ensures.all
+          (subst (λ (k : ℕ). LINK_PLACES * maps_of (raw_units k).vols m ≤ m.size (raw_units k).maps) (sym bare.fitted.units) (maps_fit n.disks n.blocks m can bare.fitted.size)))
+          w.if-not-has_maps.true)
     ]
