@@ -55,7 +55,7 @@ module _ {R : Type 0} {g : Ghosts R} where
   -- what a run of a yard came to, with the racks that come back from it
   pub run_is : (files : Bool) (racks : List R) (status : Status) (old new : Yard R g) (left now_left w0 w1 : Option (List ℕ)) (f0 f1 : ℕ → ℕ → ℕ)
       → YardComes 0 (sure empty_world) [] left status old new now_left w0 w1 → in_files old ≡ files
-      → ((d : Doubted) → YardStands d new → RacksHold g.meaning d.world racks) → ((w : Doubted) → YardStands w new → RacksTell g.meaning racks → IsTold new)
+      → ((d : Doubted) → YardStands d new → RacksHold g.meaning d racks) → ((w : Doubted) → YardStands w new → RacksTell g.meaning racks → IsTold new)
       → ((s d : ℕ) → count_of old s d ≡ f0 s d) → ((w : Doubted) → YardStands w new → (s d : ℕ) → f1 s d ≡ count_of new s d)
       → RunIs (RacksTell g.meaning racks) files (Leaves g.meaning racks) status left now_left w0 w1 f0 f1
   run_is files racks status old new left now_left w0 w1 f0 f1 comes kept holds told counts after =

@@ -29,4 +29,4 @@ module _ {R : Type 0} (meaning : R → Meaning) where
   pub record Leaves (racks : List R) (d : Doubted) : Type 0 where
     pub good : RacksTell meaning racks → GoodDoubted d
     pub calm : d ≡ sure d.world
-    pub holds : RacksHold meaning d.world racks
+    pub holds : RacksHold meaning d racks

@@ -1,5 +1,5 @@
 -- What an apply leaves of a site that is up.
-use Rattle.std.proofs.Common.{◌≡◌, inl, ⊎_elim, ℕ, List, ◌≤◌, Option, Some, None, IsTrue, sym, ◌∙◌, ap, subst, arith}
+use Rattle.std.proofs.Common.{◌≡◌, inl, ⊎_elim, ℕ, ◌≤◌, Option, Some, None, IsTrue, sym, ◌∙◌, ap, subst, arith}
 use Rattle.std.specs.Prelude.{min, max, Result, Ok, Err, OnOk, IsFalse}
 use Rattle.vx_history.specs.Steps.{burned}
 use Rattle.vx_history.specs.World.{Node}

@@ -1,5 +1,5 @@
 -- What the disks of a site may hold of it besides, past calls.
-use Rattle.std.proofs.Common.{◌≡◌, ◌∙◌, ◌⊎◌, inl, inr, ⊎_elim, ℕ, ◌≤◌, length, refl, subst, sym}
+use Rattle.std.proofs.Common.{◌≡◌, ◌∙◌, inl, inr, ⊎_elim, ℕ, ◌≤◌, length, refl, subst, sym}
 use Rattle.std.specs.Prelude.{Option, Some, None}
 use Rattle.vx_history.specs.World.{Node}
 use Rattle.vx_history.specs.Steps.{crashed}

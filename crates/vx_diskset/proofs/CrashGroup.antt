@@ -31,7 +31,7 @@ use Rattle.vx_events.specs.Facts.{values_from}
 use Rattle.vx_diskset.specs.Lasts.{FoundWith, LeftWith}
 use Rattle.vx_diskset.specs.Holds.{HasDoubted, HasWrites, Kept, itself, state_with, sure_of}
 use Rattle.vx_diskset.specs.Layouts.{LiesOn, raw_units, units_of}
-use Rattle.vx_diskset.specs.Holds.{most_header}
+use Rattle.vx_diskset.specs.Holds.{most_with}
 use Rattle.vx_diskset.specs.Stands.{IsUpAt, IsHeldAt, IsDownAt, CutAt, IsToldAt}
 use Rattle.vx_diskset.proofs.Laying.{lies_as, lies_sized, sizes_of}
 use Rattle.vx_diskset.proofs.BesideLemmas.{doubted, writes_itself}
@@ -156,26 +156,6 @@ site_sizes disks blocks c m some size here none = record {
 
 -- ---- the crash of a site that is up
 
--- a greater stamp is one that no header has either
-pub left_below : (units : Units) (ring : ℕ) (state : State) (session stamp most : ℕ) (h : Holding) (m : Meaning) → stamp ≤ most → Left units ring state session stamp h m → Left units ring state session most h m
-left_below units ring state session stamp most h m le left = record {
-  header = left.header;
-  records = left.records;
-  kinds = left.kinds;
-  leaves = left.leaves;
-  recovers = left.recovers;
-  state_is = left.state_is;
-  session_is = left.session_is;
-  stamp_most = omega (arith, left.stamp_most, le);
-  some = left.some;
-  low_is = left.low_is;
-  writes_are = left.writes_are;
-  place_is = left.place_is;
-  sizes = left.sizes;
-  content = left.content;
-  maps = left.maps;
-}
-
 -- what a crash kept: the site as its node says it, or what it might be besides, with so many of its writes, and what it left of them where
 -- contents are told
 pub record Fell (beside : Beside) (n : Node) (m : Meaning) : Type 0 where
@@ -194,15 +174,15 @@ module _ (k : Kept) (m new : Meaning) (lies : LiesOn k.node m) (low : k.node.low
   lies_at count = lies_sized n (fold_writes n.base (drop n.safe (take count n.log))).size new (folded_size n.base (drop n.safe (take count n.log))) (lies_as n m new stopped.units stopped.size lies)
 
   left_at : (i : Image) (has : HasWrites (sure_of k) n i) → new.now i → IsTrue new.tells
-      → LeftWith (units_of n) n.ring (state_with n k.links) n.session (most_header (sure_of k) n) (take has.count n.log) (fold_writes n.base (drop n.safe (take has.count n.log))) new
+      → LeftWith (units_of n) n.ring (state_with n k.links) n.session (most_with (sure_of k) n has.count) (take has.count n.log) (fold_writes n.base (drop n.safe (take has.count n.log))) new
   left_at i has now tells =
-      found_left_with (units_of n) n.ring (state_with n k.links) n.session (most_header (sure_of k) n) (take has.count n.log) (fold_writes n.base (drop n.safe (take has.count n.log))) new i tells
+      found_left_with (units_of n) n.ring (state_with n k.links) n.session (most_with (sure_of k) n has.count) (take has.count n.log) (fold_writes n.base (drop n.safe (take has.count n.log))) new i tells
       (λ u b. one_value new i u b lawful rack stopped.down tells now)
       (sizes_of (units_of n) n.ring n.volumes (fold_writes n.base (drop n.safe (take has.count n.log))) new (lies_at has.count).laid)
       has.found
 
   down_at : (count : ℕ) → n.safe ≤ count → count ≤ length n.log
-      → (IsTrue new.tells → LeftWith (units_of n) n.ring (state_with n k.links) n.session (most_header (sure_of k) n) (take count n.log) (fold_writes n.base (drop n.safe (take count n.log))) new)
+      → (IsTrue new.tells → LeftWith (units_of n) n.ring (state_with n k.links) n.session (most_with (sure_of k) n count) (take count n.log) (fold_writes n.base (drop n.safe (take count n.log))) new)
       → IsDownAt (sure_of k) (crashed n count) new
   down_at count least most left = record {
     state = refl;
@@ -214,9 +194,7 @@ module _ (k : Kept) (m new : Meaning) (lies : LiesOn k.node m) (low : k.node.low
     low = low;
     logged = omega (arith, length-take count n.log, most);
     begun = λ tells. begun (sym stopped.tells ∙ tells);
-    left = λ tells.
-        let l = left tells in
-        record { held = l.held; has = l.has; needs = l.needs; left = left_below (units_of n) n.ring (state_with n k.links) n.session (most_header (sure_of k) n) (most_header (sure_of k) (crashed n count)) l.held new (omega (arith, least)) l.left };
+    left = left;
   }
 
 module _ {beside : Beside} (n : Node) (m new : Meaning) (up : IsHeldAt beside n m) (lawful : Lawful new) (rack : IsRack new) (stopped : Stopped m new) where
@@ -267,7 +245,7 @@ module _ {beside : Beside} (n : Node) (m new : Meaning) (up : IsHeldAt beside n 
   crash_down = fell_by new.tells refl
 
 module _ {R : Type 0} {g : Ghosts R} where
-  held_crashed : {beside : Beside} (n : Node) (old shelf new : R) → shelf ≡ old → IsHeldAt beside n (g.meaning old) → Lawful (g.meaning new) → IsRack (g.meaning new) → Stopped (g.meaning shelf) (g.meaning new) → CrashedAt {g = g} beside n (Down new)
+  pub held_crashed : {beside : Beside} (n : Node) (old shelf new : R) → shelf ≡ old → IsHeldAt beside n (g.meaning old) → Lawful (g.meaning new) → IsRack (g.meaning new) → Stopped (g.meaning shelf) (g.meaning new) → CrashedAt {g = g} beside n (Down new)
   held_crashed n old shelf new is held lawful rack stopped =
       let k = crash_down n (g.meaning old) (g.meaning new) held lawful rack (subst (λ (r : R). Stopped (g.meaning r) (g.meaning new)) is stopped) in
       record { kept = k.kept; is = k.is; count = k.count; least = k.least; most = k.most; stands = k.down }

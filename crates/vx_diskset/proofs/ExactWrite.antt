@@ -1,9 +1,10 @@
 -- How many calls a write is in a log that began empty and did not go round.
-use Rattle.std.proofs.Common.{◌≡◌, ◌∙◌, ◌+◌, ◌<◌, ◌≤◌, ◌-◌, ⊎_elim, ℕ, List, [], ◌∷◌, ◌++◌, length, drop, ap, sym, subst, refl, arith, IsTrue}
+use Rattle.std.proofs.Common.{◌≡◌, ◌∙◌, ◌+◌, ◌<◌, ◌≤◌, ◌-◌, ⊎_elim, ℕ, List, [], ◌∷◌, ◌++◌, length, drop, ap, sym, subst, refl, arith, IsTrue, true}
 use Rattle.std.specs.Prelude.{◌%◌, Option, Some, None, Result, Ok, Err, OnOk}
 use Rattle.std.proofs.lemmas.List.{append-nil}
 use Rattle.std.proofs.Math.Nat.{mod-eq_of_lt}
 use Rattle.vx_model.specs.Content.{Content, Write, blocks_in}
+use Rattle.vx_model.specs.Sites.{is_origin}
 use Rattle.vx_model.specs.declared.limits.TheConstants.{MOST_CALL_BLOCKS}
 use Rattle.vx_history.specs.World.{Node, Fuse, FuseSet}
 use Rattle.vx_model.specs.declared.no.No.{No}
@@ -111,14 +112,14 @@ lets_pass : (n : Node) (m : Meaning) (calls : ℕ) → n.fuse ≡ FuseSet calls 
 lets_pass n m calls set has = subst (λ (f : Fuse). HasFuse f m) set has
 
 -- a site that is up, and a write that is exactly four calls
-module _ {beside : Beside} (n : Node) (c : Core) (m : Meaning) (volume start : ℕ) (bytes : List ℕ) (up : IsUpAt beside n c m) (none : n.halted ≡ None) (sound : IsSound c m) (told : IsTrue m.tells) (some : 0 < blocks_in bytes)
+module _ {beside : Beside} (n : Node) (c : Core) (m : Meaning) (volume start : ℕ) (bytes : List ℕ) (up : IsUpAt beside n c m) (none : n.halted ≡ None) (origin : is_origin n.role ≡ true) (sound : IsSound c m) (told : IsTrue m.tells) (some : 0 < blocks_in bytes)
     (keeps : KeepsAll n) (room : taken n.log + (blocks_in bytes + 1) ≤ n.ring) where
   idle : c.log.staged ≡ []
   idle = sound.idle (up.halted ∙ none) up.up
 
   pub first_here : IsFirst c.log n.log
   first_here =
-      ⊎_elim (λ one. up.fresh told none one (omega (arith, room))) (λ (most : taken n.log + (MOST_CALL_BLOCKS + 1) ≤ n.ring). first_whole c n.log n.base m (up.content none told) (omega (arith, most, up.ring))) keeps
+      ⊎_elim (λ one. up.fresh origin told none one (omega (arith, room))) (λ (most : taken n.log + (MOST_CALL_BLOCKS + 1) ≤ n.ring). first_whole c n.log n.base m (up.content none told) (omega (arith, most, up.ring))) keeps
 
   pub hand_here : blocks_in bytes < free_of c.log
   hand_here = at_hand c.log n.log bytes first_here idle some (omega (arith, room, up.ring))
@@ -137,21 +138,21 @@ module _ {beside : Beside} (n : Node) (c : Core) (m : Meaning) (volume start : �
 
 -- ---- the same of a group before and behind the making of room, which changed nothing
 
-module _ {beside : Beside} {R : Type 0} {g : Ghosts R} (n : Node) (old mid : Rvg R g) (volume start : ℕ) (bytes : List ℕ) (up : IsUpAt beside n old.core (g.meaning old.shelf)) (none : n.halted ≡ None) (told : IsTrue (g.meaning old.shelf).tells)
+module _ {beside : Beside} {R : Type 0} {g : Ghosts R} (n : Node) (old mid : Rvg R g) (volume start : ℕ) (bytes : List ℕ) (up : IsUpAt beside n old.core (g.meaning old.shelf)) (none : n.halted ≡ None) (origin : is_origin n.role ≡ true) (told : IsTrue (g.meaning old.shelf).tells)
     (some : 0 < blocks_in bytes) where
   at_once : KeepsAll n → taken n.log + (blocks_in bytes + 1) ≤ n.ring → (blocks_in bytes < free_of old.core.log → mid ≡ old) → mid ≡ old
-  at_once keeps room idle = idle (hand_here n old.core (g.meaning old.shelf) volume start bytes up none old.sound told some keeps room)
+  at_once keeps room idle = idle (hand_here n old.core (g.meaning old.shelf) volume start bytes up none origin old.sound told some keeps room)
 
   pub first_after : KeepsAll n → taken n.log + (blocks_in bytes + 1) ≤ n.ring → (blocks_in bytes < free_of old.core.log → mid ≡ old) → IsFirst mid.core.log n.log
   first_after keeps room idle =
-      subst (λ (r : Rvg R g). IsFirst r.core.log n.log) (sym (at_once keeps room idle)) (first_here n old.core (g.meaning old.shelf) volume start bytes up none old.sound told some keeps room)
+      subst (λ (r : Rvg R g). IsFirst r.core.log n.log) (sym (at_once keeps room idle)) (first_here n old.core (g.meaning old.shelf) volume start bytes up none origin old.sound told some keeps room)
 
   falls_less : (r : Rvg R g) → r ≡ old → (new : Meaning) (calls : ℕ) → IsExact n (record { volume = volume; start = start; bytes = bytes }) calls
       → (BodyFits r.core.log bytes → FallsShort 4 (g.meaning r.shelf) new) → IsTrue new.down → calls < 4
   falls_less r same new calls exact short down =
       let here : BodyFits old.core.log bytes → FallsShort 4 (g.meaning old.shelf) new = subst (λ (k : Rvg R g). BodyFits k.core.log bytes → FallsShort 4 (g.meaning k.shelf) new) same short in
-      less_here n old.core (g.meaning old.shelf) volume start bytes up none old.sound told some exact.keeps exact.room new calls exact.set
-      (here (fits_here n old.core (g.meaning old.shelf) volume start bytes up none old.sound told some exact.keeps exact.room)) down
+      less_here n old.core (g.meaning old.shelf) volume start bytes up none origin old.sound told some exact.keeps exact.room new calls exact.set
+      (here (fits_here n old.core (g.meaning old.shelf) volume start bytes up none origin old.sound told some exact.keeps exact.room)) down
 
   pub cut_less : (new : Meaning) (calls : ℕ) → IsExact n (record { volume = volume; start = start; bytes = bytes }) calls → (blocks_in bytes < free_of old.core.log → mid ≡ old)
       → (BodyFits mid.core.log bytes → FallsShort 4 (g.meaning mid.shelf) new) → IsTrue new.down → calls < 4
@@ -161,8 +162,8 @@ module _ {beside : Beside} {R : Type 0} {g : Ghosts R} (n : Node) (old mid : Rvg
       → (BodyFits r.core.log bytes → MakesCalls 4 (g.meaning r.shelf) new) → 4 ≤ calls
   makes_four r same new calls exact made =
       let here : BodyFits old.core.log bytes → MakesCalls 4 (g.meaning old.shelf) new = subst (λ (k : Rvg R g). BodyFits k.core.log bytes → MakesCalls 4 (g.meaning k.shelf) new) same made in
-      four_here n old.core (g.meaning old.shelf) volume start bytes up none old.sound told some exact.keeps exact.room new calls exact.set
-      (here (fits_here n old.core (g.meaning old.shelf) volume start bytes up none old.sound told some exact.keeps exact.room))
+      four_here n old.core (g.meaning old.shelf) volume start bytes up none origin old.sound told some exact.keeps exact.room new calls exact.set
+      (here (fits_here n old.core (g.meaning old.shelf) volume start bytes up none origin old.sound told some exact.keeps exact.room))
 
   pub exact_is : (new : Meaning) (calls : ℕ) → IsExact n (record { volume = volume; start = start; bytes = bytes }) calls → (blocks_in bytes < free_of old.core.log → mid ≡ old)
       → (result : Result ℕ No) → OnOk result (BodyFits mid.core.log bytes → MakesCalls 4 (g.meaning mid.shelf) new) → OnOk result (4 ≤ calls)

@@ -1,12 +1,11 @@
 -- Which disks of a site are made to fail is nothing by which its disk set stands.
-use Rattle.std.proofs.Common.{◌≡◌, ℕ, Bool, List, ap}
+use Rattle.std.proofs.Common.{◌≡◌, ℕ, Bool, ap}
 use Rattle.vx_history.specs.World.{Node}
-use Rattle.vx_history.specs.Steps.{logged}
 use Rattle.vx_diskset.specs.Holds.{Beside}
 use Rattle.vx_disk.specs.declared.shelf.Shelf.{Ghosts}
 use Rattle.vx_diskset.specs.Stands.{StandsAt, bare_with}
 use Rattle.vx_diskset.specs.declared.disk_set.DiskSet.{DiskSet}
-use Rattle.vx_diskset.specs.declared.disk_set.DiskSet.TheVariants.{Bare, Spoiled, Up, Down, Gone}
+use Rattle.vx_diskset.specs.declared.disk_set.DiskSet.TheVariants.{Bare, Spoiled, Up, Receives, Down, Gone}
 use Rattle.vx_diskset.proofs.BesideLemmas.{site_map}
 
 bare_failing : (n : Node) (failing : ℕ → Bool) → n ≡ bare_with n → record n { failing = failing } ≡ bare_with (record n { failing = failing })
@@ -39,6 +38,33 @@ module _ {R : Type 0} {g : Ghosts R} where
     halted = h.halted;
     logged = h.logged;
     durable = h.durable;
+    takes = h.takes;
+    content = h.content;
+    left = λ i now. site_map n (record n { failing = failing }) i (λ has. record { count = has.count; least = has.least; most = has.most; found = has.found }) (h.left i now);
+    sure = h.sure;
+    may = h.may;
+  }
+  stands_failing beside n failing (Receives s) h = record {
+    state = h.state;
+    role = h.role;
+    up = h.up;
+    fuse = h.fuse;
+    lies = h.lies;
+    low = h.low;
+    units = h.units;
+    ring = h.ring;
+    found = h.found;
+    kept = h.kept;
+    linked = h.linked;
+    session = h.session;
+    begun = h.begun;
+    stamp = h.stamp;
+    first = h.first;
+    least = h.least;
+    most = h.most;
+    head = h.head;
+    halted = h.halted;
+    waits = h.waits;
     takes = h.takes;
     content = h.content;
     left = λ i now. site_map n (record n { failing = failing }) i (λ has. record { count = has.count; least = has.least; most = has.most; found = has.found }) (h.left i now);

@@ -33,7 +33,7 @@ keeps_each : (m new : Meaning) → Alike m new → (o : Option (List ℕ)) (u b 
 keeps_each m new alike (Some bytes) u b y is = is
 keeps_each m new alike None u b y keeps = keeps_alike m new alike u b y keeps
 
-alike_stands : (core : Core) (m new : Meaning) → Alike m new → (h : Holding) → Stands core h m → Stands core h new
+pub alike_stands : (core : Core) (m new : Meaning) → Alike m new → (h : Holding) → Stands core h m → Stands core h new
 alike_stands core m new alike h stands = record {
   log = stands.log;
   low = stands.low;
@@ -65,7 +65,7 @@ alike_stands core m new alike h stands = record {
     on : RingOn core.log stands.log m
     on = stands.ready.ring
 
-lets_by : (calls pick : ℕ) (old new : Option Disks) → OnDisks old new (λ o n. SameBlocks o n × (n.fuse ≡ Some (calls, pick))) → (d : Disks) → new ≡ Some d → LetsPass calls new
+pub lets_by : (calls pick : ℕ) (old new : Option Disks) → OnDisks old new (λ o n. SameBlocks o n × (n.fuse ≡ Some (calls, pick))) → (d : Disks) → new ≡ Some d → LetsPass calls new
 lets_by calls pick None None with d is = absurd (cc)
 lets_by calls pick None (Some n) with d is = absurd with
 lets_by calls pick (Some o) None with d is = absurd with
@@ -88,7 +88,7 @@ up_fused n c m new calls pick rack alike down disks up = record {
   session = up.session;
   begun = λ told. up.begun (sym alike.contents.tells ∙ told);
   stamp = λ told none. up.stamp (sym alike.contents.tells ∙ told) none;
-  fresh = λ told none one room. up.fresh (sym alike.contents.tells ∙ told) none one room;
+  fresh = λ origin told none one room. up.fresh origin (sym alike.contents.tells ∙ told) none one room;
   first = up.first;
   head = up.head;
   halted = up.halted;

@@ -10,13 +10,13 @@ use Rattle.vx_history.specs.Steps.{burned}
 use Rattle.vx_history.specs.Stops.{IsFused}
 use Rattle.vx_history.specs.World.{Node}
 use Rattle.vx_srlfmt.specs.declared.header.Header.{Header}
-use Rattle.vx_srl.specs.Views.{most_number, widths}
+use Rattle.vx_srl.specs.Views.{most_number}
 use Rattle.vx_srl.specs.declared.kept.Kept.{Kept as KeptRecord}
 use Rattle.vx_disk.specs.Counts.{Rose}
 use Rattle.vx_disk.specs.Moves.{Moves, Run}
 use Rattle.vx_disk.specs.Shelf.{Image, Lawful, Meaning}
-use Rattle.vx_rvg.specs.Groups.{Ended, Fails, unless_halted}
-use Rattle.vx_rvg.specs.Holdings.{Holding, kept_in}
+use Rattle.vx_rvg.specs.Groups.{Ended, unless_halted}
+use Rattle.vx_rvg.specs.Holdings.{Holding}
 use Rattle.vx_rvg.specs.Saves.{SaveIs, change_refusal, with_new_state}
 use Rattle.vx_rvg.specs.Stands.{FoundAs, Retains, Saving, Stands}
 use Rattle.vx_rvg.specs.Views.{Core}
@@ -28,15 +28,15 @@ use Rattle.vx_diskset.specs.declared.disk_set.DiskSet.{DiskSet}
 use Rattle.vx_diskset.specs.declared.disk_set.DiskSet.TheVariants.{Up}
 use Rattle.vx_diskset.specs.DiskSets.{CrashedAt, halted_at, is_off, no_number, worked}
 use Rattle.vx_diskset.specs.Fuses.{HasFuse}
-use Rattle.vx_diskset.specs.Holds.{Beside, HasSite, HasWrites, Kept, MayBe, most_header, state_with, sure_of}
-use Rattle.vx_diskset.specs.Keeps.{CanKeep, KeptAt, KeptUp, Suffices, doubting, kept_anew, restated}
+use Rattle.vx_diskset.specs.Holds.{Beside, HasSite, HasWrites, Kept, MayBe, most_header, most_with, state_with, sure_of}
+use Rattle.vx_diskset.specs.Keeps.{CanKeep, KeptAt, KeptUp, doubting, kept_anew, restated}
 use Rattle.vx_diskset.specs.Lasts.{StandsWith}
 use Rattle.vx_diskset.specs.Layouts.{LiesOn}
 use Rattle.vx_diskset.specs.Needs.{NoneNeeds, hold_of, is_needing}
 use Rattle.vx_diskset.specs.Stands.{CutAt, IsHeldAt, IsUpAt}
 use Rattle.vx_diskset.proofs.BesideLemmas.{never_besides, site_sure}
 use Rattle.vx_diskset.proofs.Laying.{lies_moved}
-use Rattle.vx_diskset.proofs.LastWrites.{FoundOf, stands_with}
+use Rattle.vx_diskset.proofs.LastWrites.{stands_with}
 use Rattle.vx_diskset.proofs.NeedLemmas.{takes_same}
 use Rattle.vx_diskset.proofs.StaysUp.{found_below, fuse_moved, fused_by, kept_whole, left_moved, never_both, told_now, up_found, writes_found}
 
@@ -58,7 +58,7 @@ has_halted {beside} n s disk i has = record {
     held = has.found.held;
     has = has.found.has;
     needs = has.found.needs;
-    found = found_below _ n.ring (state_with n beside.links) n.session (most_header beside n) (most_header (doubting beside n s disk) (halted_at n disk)) i has.found.held (omega arith) has.found.found;
+    found = found_below _ n.ring (state_with n beside.links) n.session (most_with beside n has.count) (most_with (doubting beside n s disk) (halted_at n disk) has.count) i has.found.held (omega arith) has.found.found;
   };
 }
 
@@ -159,7 +159,7 @@ module _ {beside : Beside} (n : Node) (c c' : Core) (m new : Meaning) (s : State
           session = up.session;
           begun = λ told. up.begun (sym moves.tells ∙ told);
           stamp = λ told none. let t = up.stamp (sym moves.tells ∙ told) can.running in omega (arith, t);
-          fresh = λ told none one room. let f = up.fresh (sym moves.tells ∙ told) can.running one room in record { place = f.place; widths_are = f.widths_are };
+          fresh = λ origin told none one room. let f = up.fresh (sym can.role ∙ origin) (sym moves.tells ∙ told) can.running one room in record { place = f.place; widths_are = f.widths_are };
           first = up.first;
           head = up.head;
           halted = up.halted;
@@ -193,7 +193,7 @@ module _ {beside : Beside} (n : Node) (c c' : Core) (m new : Meaning) (s : State
       session = ap (λ (h : Header). h.incarnation) ended.header ∙ up.session;
       begun = λ told. up.begun (sym moves.tells ∙ told);
       stamp = λ told none. absurd (never none);
-      fresh = λ told none. absurd (never none);
+      fresh = λ origin told none. absurd (never none);
       first = omega (arith, up.first, ap (λ (h : Header). h.low) ended.header);
       head = omega (arith, up.head, ap (λ (h : Header). h.low) ended.header, ap (λ (ks : List KeptRecord). length ks) ended.held);
       halted = ended.halted_is;

@@ -12,9 +12,12 @@ pub mod LastWrites
 pub mod Laying
 pub mod MakeGroup
 pub mod MakeRoom
+pub mod Mores
 pub mod NeedLemmas
 pub mod PumpGroup
+pub mod Reaching
 pub mod ReadGroup
+pub mod Receiving
 pub mod Sessions
 pub mod StartBare
 pub mod StartGroup

@@ -109,7 +109,7 @@ up_still n c m new goes now down fuse up =
       session = up.session;
       begun = λ told. up.begun (sym goes.tells ∙ told);
       stamp = λ told none. up.stamp (sym goes.tells ∙ told) none;
-      fresh = λ told none first room. up.fresh (sym goes.tells ∙ told) none first room;
+      fresh = λ origin told none first room. up.fresh origin (sym goes.tells ∙ told) none first room;
       first = up.first;
       head = up.head;
       halted = up.halted;
@@ -217,7 +217,7 @@ raw_stands site n c m new lawful unit_is bare can is moves stands = record {
   session = ap (λ (k : Core). k.log.header.incarnation) is;
   begun = λ told. omega arith;
   stamp = λ told none. omega (arith, ap (λ (k : Core). k.log.header.stamp) is);
-  fresh = λ told none one room. record { place = ap (λ (k : Core). k.log.header.place) is; widths_are = ap (λ (k : Core). widths k.log.held) is };
+  fresh = λ origin told none one room. record { place = ap (λ (k : Core). k.log.header.place) is; widths_are = ap (λ (k : Core). widths k.log.held) is };
   first = omega (arith, ap (λ (k : Core). k.log.header.low) is);
   head = head_here;
   halted = ap (λ (k : Core). k.halted) is;

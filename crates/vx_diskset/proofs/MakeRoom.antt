@@ -62,18 +62,18 @@ roomy_now n c m up none = record {
 
 -- ---- a log that gives up its records up to a number
 
-record GivenUp (l l' : Log) (to : ℕ) : Type 0 where
-  ring : l'.ring ≡ l.ring
-  state : l'.header.state ≡ l.header.state
-  incarnation : l'.header.incarnation ≡ l.header.incarnation
-  first : 0 < l'.header.low
-  least : l.header.low ≤ l'.header.low
-  past : to < l'.header.low
-  low : (l'.header.low ≡ l.header.low) ⊎ (l'.header.low ≡ to + 1)
-  head : head_of l' ≡ head_of l
-  few : length l'.held ≤ length l.held
-  held : l'.held ≡ drop (l'.header.low - l.header.low) l.held
-  stamp : (l'.header.stamp ≡ l.header.stamp) ⊎ (l'.header.stamp ≡ l.header.stamp + 1)
+pub record GivenUp (l l' : Log) (to : ℕ) : Type 0 where
+  pub ring : l'.ring ≡ l.ring
+  pub state : l'.header.state ≡ l.header.state
+  pub incarnation : l'.header.incarnation ≡ l.header.incarnation
+  pub first : 0 < l'.header.low
+  pub least : l.header.low ≤ l'.header.low
+  pub past : to < l'.header.low
+  pub low : (l'.header.low ≡ l.header.low) ⊎ (l'.header.low ≡ to + 1)
+  pub head : head_of l' ≡ head_of l
+  pub few : length l'.held ≤ length l.held
+  pub held : l'.held ≡ drop (l'.header.low - l.header.low) l.held
+  pub stamp : (l'.header.stamp ≡ l.header.stamp) ⊎ (l'.header.stamp ≡ l.header.stamp + 1)
 
 given_by : (l : Log) (to : ℕ) (b : Bool) → leb l.header.low to ≡ b → 0 < l.header.low → to ≤ head_of l → GivenUp l (if b then saved l (without l to) (count_to l to) else l) to
 given_by l to true is first below =
@@ -108,7 +108,7 @@ given_by l to false is first below =
       stamp = inl refl;
     }
 
-given_up : (l : Log) (to : ℕ) → 0 < l.header.low → to ≤ head_of l → GivenUp l (log_without l to) to
+pub given_up : (l : Log) (to : ℕ) → 0 < l.header.low → to ≤ head_of l → GivenUp l (log_without l to) to
 given_up l to first below = given_by l to (leb l.header.low to) refl first below
 
 -- why it is refused

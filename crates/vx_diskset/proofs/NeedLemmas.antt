@@ -1,10 +1,11 @@
 -- What links need of a log, and what its records take, past changes of the log.
-use Rattle.std.proofs.Common.{◌≡◌, ◌∙◌, ◌⊎◌, ⊎_elim, ℕ, zero, suc, ◌+◌, ◌-◌, ◌*◌, ◌<◌, ◌≤◌, List, [], ◌∷◌, ◌++◌, length, drop, map, replicate, ap, sym, subst, refl, arith, length-append, append-nil}
-use Rattle.std.specs.Prelude.{IsTrue, true, Option, Some, None, min, slice_get}
+use Rattle.std.proofs.Common.{◌≡◌, ◌∙◌, ⊎_elim, ℕ, zero, suc, ◌+◌, ◌-◌, ◌*◌, ◌<◌, ◌≤◌, List, [], ◌∷◌, ◌++◌, length, drop, map, replicate, ap, sym, subst, refl, arith, length-append, append-nil}
+use Rattle.std.specs.Prelude.{IsTrue, true, false, Some, None, min, slice_get}
 use Rattle.std.proofs.lemmas.Bool.{cases_lt}
 use Rattle.std.proofs.lemmas.List.{drop-append-le, drop-drop, drop-map, drop_all, length-map, length-replicate}
 use Rattle.std.proofs.Math.Seq.{drop-append-add}
 use Rattle.vx_model.specs.Content.{Write, blocks_in}
+use Rattle.vx_model.specs.Sites.{is_origin}
 use Rattle.vx_model.specs.declared.state.KeptLink.{KeptLink}
 use Rattle.vx_diskset.specs.Holds.{Beside}
 use Rattle.vx_disk.specs.Shelf.{Meaning}
@@ -13,14 +14,14 @@ use Rattle.vx_rvg.specs.Holdings.{Holding}
 use Rattle.vx_rvg.specs.Stands.{Stands}
 use Rattle.vx_rvg.specs.Views.{Core, IsSound, last_of}
 use Rattle.vx_srl.proofs.Shared_S1.{widths_append}
-use Rattle.vx_srl.specs.Views.{Log, all_of, count_to, used_above, widths, width_of}
+use Rattle.vx_srl.specs.Views.{Log, count_to, used_above, widths, width_of}
 use Rattle.vx_srl.specs.declared.kept.Kept.{Kept}
 use Rattle.vx_events.specs.Fuses.{taken}
 use Rattle.vx_history.specs.World.{Node}
 use Rattle.vx_model.specs.declared.site.SiteState.TheVariants.{Bare as IsBare, Up as IsUp, Down as IsDown}
 use Rattle.vx_disk.specs.declared.shelf.Shelf.{Ghosts}
 use Rattle.vx_diskset.specs.declared.disk_set.DiskSet.{DiskSet}
-use Rattle.vx_diskset.specs.declared.disk_set.DiskSet.TheVariants.{Bare, Spoiled, Up, Down, Gone}
+use Rattle.vx_diskset.specs.declared.disk_set.DiskSet.TheVariants.{Bare, Spoiled, Up, Receives, Down, Gone}
 use Rattle.vx_diskset.specs.DiskSets.{CanWrite}
 use Rattle.vx_diskset.specs.Needs.{HasRoom, NoneNeeds, TakesAs, hold_of, is_needing}
 use Rattle.vx_model.specs.declared.state.State.{State}
@@ -165,18 +166,19 @@ takes_ins l some = record {
 -- ---- a site without links has room beside none of its numbers
 
 module _ {R : Type 0} {g : Ghosts R} where
-  all_durable : (n : Node) (e : DiskSet R g) → StandsAlone n e → n.state ≡ IsUp → n.halted ≡ None → length n.log ≡ n.safe
-  all_durable n (Bare rack) h up none = let e : IsBare ≡ IsUp = sym (ap (λ (x : Node). x.state) h.bare.is) ∙ up in absurd (cc)
-  all_durable n (Spoiled rack) h up none = let e : IsBare ≡ IsUp = sym (ap (λ (x : Node). x.state) h.is) ∙ up in absurd (cc)
-  all_durable n (Up rvg) h up none = omega (arith, h.logged, h.durable none)
-  all_durable n (Down rack) h up none = let e : IsDown ≡ IsUp = sym h.state ∙ up in absurd (cc)
-  all_durable n Gone h up none = absurd h
+  all_durable : (n : Node) (e : DiskSet R g) → StandsAlone n e → is_origin n.role ≡ true → n.state ≡ IsUp → n.halted ≡ None → length n.log ≡ n.safe
+  all_durable n (Bare rack) h origin up none = let e : IsBare ≡ IsUp = sym (ap (λ (x : Node). x.state) h.bare.is) ∙ up in absurd (cc)
+  all_durable n (Spoiled rack) h origin up none = let e : IsBare ≡ IsUp = sym (ap (λ (x : Node). x.state) h.is) ∙ up in absurd (cc)
+  all_durable n (Up rvg) h origin up none = omega (arith, h.logged, h.durable none)
+  all_durable n (Receives s) h origin up none = let e : true ≡ false = sym origin ∙ h.role in absurd (cc)
+  all_durable n (Down rack) h origin up none = let e : IsDown ≡ IsUp = sym h.state ∙ up in absurd (cc)
+  all_durable n Gone h origin up none = absurd h
 
   pub all_room : (n : Node) (volume start count hold : ℕ) (e : DiskSet R g) → StandsAlone n e → CanWrite n volume start count → hold ≡ n.safe → HasRoom [] n hold count
   all_room n volume start count hold e h can is = record {
     unneeded = none_of [] hold refl;
     room =
-        let many = all_durable n e h can.up can.running in
+        let many = all_durable n e h can.origin can.up can.running in
         let none = ap (λ (ws : List Write). taken ws) (drop_all hold n.log (omega (arith, many, is))) in
         omega (arith, none, can.fits);
   }

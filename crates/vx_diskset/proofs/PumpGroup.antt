@@ -1,6 +1,6 @@
 -- What a pump of a link makes of a site that is up.
-use Rattle.std.proofs.Common.{◌≡◌, ◌∙◌, ◌+◌, ◌-◌, ◌≤◌, ℕ, Bool, true, false, List, length, drop, take, ap, sym, subst, refl, arith, IsTrue}
-use Rattle.std.specs.Prelude.{◌&&◌, IsFalse, None, Some, Result, Ok, Err, OnOk, IfErr, slice_get}
+use Rattle.std.proofs.Common.{◌≡◌, ◌∙◌, ◌+◌, ◌-◌, ◌≤◌, ℕ, Bool, true, false, List, drop, ap, sym, refl, arith, IsTrue}
+use Rattle.std.specs.Prelude.{◌&&◌, None, Some, Result, Ok, Err, OnOk, IfErr, slice_get}
 use Rattle.vx_model.specs.Content.{Write}
 use Rattle.vx_model.specs.declared.errors.Stop.{Stop}
 use Rattle.vx_model.specs.declared.errors.Stop.TheVariants.{No as Refused, OutOfMemory}

@@ -1,5 +1,5 @@
 -- What a read gives of a site that is up.
-use Rattle.std.proofs.Common.{◌≡◌, ◌∙◌, inl, ℕ, ◌+◌, ◌-◌, ◌*◌, ◌≤◌, ◌++◌, length, take, Bool, true, false, List, ap, sym, subst, refl, arith}
+use Rattle.std.proofs.Common.{◌≡◌, ◌∙◌, inl, ℕ, ◌+◌, ◌*◌, ◌≤◌, ◌++◌, length, take, Bool, true, false, List, ap, sym, subst, refl, arith}
 use Rattle.std.specs.Prelude.{Option, Some, None, Result, Ok, Err, OnOk, IsTrue, IsFalse, ltb, if◌then◌else◌}
 use Rattle.std.proofs.lemmas.Bool.Decides.{nat_tests}
 use Rattle.std.proofs.lemmas.List.{take-append-le, take_all}
@@ -41,7 +41,7 @@ pub written_over : (len : ℕ) (xs rest : List ℕ) → len ≡ length xs → ta
 written_over len xs rest is = take-append-le len xs rest (omega (arith, is)) ∙ take_all len xs (omega (arith, is))
 
 -- what a read answers of a site
-abbrev ReadAs : Beside → Node → ℕ → ℕ → ℕ → List ℕ → Core → Meaning → Meaning → Result (Unit {0}) No → Type 0
+abbrev pub ReadAs : Beside → Node → ℕ → ℕ → ℕ → List ℕ → Core → Meaning → Meaning → Result (Unit {0}) No → Type 0
 ReadAs beside n volume start count bytes c' m new (Ok done) = (IsTrue new.tells → Shows n.base volume start count bytes) × IsUpAt beside n c' new
 ReadAs beside n volume start count bytes c' m new (Err (Device disk)) = IsUpAt beside n c' new × Rose (m.disk_faults disk) (new.disk_faults disk)
 ReadAs beside n volume start count bytes c' m new (Err other) = ⊥

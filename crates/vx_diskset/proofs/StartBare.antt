@@ -1,9 +1,9 @@
 -- What the start of a bare site comes to.
-use Rattle.std.proofs.Common.{◌≡◌, ◌∙◌, ◌+◌, ◌-◌, ◌≤◌, ℕ, List, [], take, replicate, ap, sym, subst, refl, arith, IsTrue}
+use Rattle.std.proofs.Common.{◌≡◌, ◌∙◌, ◌+◌, ◌≤◌, ℕ, List, take, ap, sym, subst, refl, arith, IsTrue}
 use Rattle.std.specs.Prelude.{None, IsFalse, slice_index, Result, Ok, Err}
-use Rattle.std.proofs.lemmas.List.{get_or-take, length-replicate}
+use Rattle.std.proofs.lemmas.List.{get_or-take}
 use Rattle.vx_wire.specs.Numbers.{be_bytes}
-use Rattle.vx_model.specs.Content.{Write, zero_block}
+use Rattle.vx_model.specs.Content.{zero_block}
 use Rattle.vx_history.specs.Steps.{raw_set}
 use Rattle.vx_model.specs.Sizes.{ring_of}
 use Rattle.vx_history.specs.World.{Node}
@@ -125,7 +125,7 @@ module _ (n : Node) (m up new : Meaning) (core : Core) (clean : IsCleanAt n m) (
     session = refl;
     begun = λ told. absurd (untold told);
     stamp = λ told none. absurd (untold told);
-    fresh = λ told none one room. absurd (untold told);
+    fresh = λ origin told none one room. absurd (untold told);
     first = omega (arith, started.applied);
     head = refl;
     halted = started.running;
@@ -162,6 +162,7 @@ module _ {R : Type 0} {g : Ghosts R} where
         untold = untold;
         node = found_bare n rvg.core;
         same = found_same n m (g.meaning up) (g.meaning rvg.shelf) rvg.core clean some goes after untold started' moves' still;
+        whole = omega (arith, ins_length rvg.core.log, started'.applied);
         stands = λ beside sure. found_up n m (g.meaning up) (g.meaning rvg.shelf) rvg.core clean some goes after untold started' moves' still beside sure;
       }
 

@@ -1,6 +1,5 @@
 -- What the start of a site that crashed leaves of it.
-use Rattle.std.proofs.Common.{◌-◌, ◌≡◌, ◌⊎◌, inl, inr, ⊎_elim, ℕ, ◌+◌, ◌*◌, ◌<◌, ◌≤◌, Bool, true, false, List, [], length, replicate, Option, None, IsTrue, refl, sym, ◌∙◌, ap, subst, arith}
-use Rattle.std.proofs.lemmas.List.{length-replicate}
+use Rattle.std.proofs.Common.{◌-◌, ◌≡◌, ◌⊎◌, inl, inr, ⊎_elim, ℕ, ◌+◌, ◌*◌, ◌<◌, ◌≤◌, Bool, true, false, List, [], length, Option, None, IsTrue, refl, sym, ◌∙◌, ap, subst, arith}
 use Rattle.std.specs.Prelude.{IsFalse}
 use Rattle.vx_model.specs.Content.{Content, Write}
 use Rattle.vx_history.specs.World.{Node, Fuse}
@@ -31,7 +30,7 @@ use Rattle.vx_srl.specs.Views.{most_number}
 use Rattle.vx_rvg.specs.declared.group.Rvg.{Rvg}
 use Rattle.vx_disk.specs.declared.shelf.Shelf.{Ghosts}
 use Rattle.vx_diskset.specs.declared.disk_set.DiskSet.{DiskSet}
-use Rattle.vx_diskset.specs.declared.disk_set.DiskSet.TheVariants.{Bare, Spoiled, Up, Down, Gone}
+use Rattle.vx_diskset.specs.declared.disk_set.DiskSet.TheVariants.{Bare, Spoiled, Up, Receives, Down, Gone}
 use Rattle.vx_diskset.proofs.MakeGroup.{placed_raw}
 use Rattle.vx_diskset.specs.DiskSets.{CanStart, CameUp, CameUpIs, no_number}
 use Rattle.vx_events.specs.Found.{SameDisks}
@@ -178,7 +177,7 @@ module _ {beside : Beside} (n : Node) (m up : Meaning) (is : IsDownAt beside n m
       session = incarnation;
       begun = λ tells. let more = begun tells in omega (arith, more);
       stamp = λ tells _. stamp tells;
-      fresh = λ tells _ one room. let more = begun tells in absurd (omega (arith, more, one));
+      fresh = λ origin tells _ one room. let more = begun tells in absurd (omega (arith, more, one));
       first = omega (arith, started.applied);
       head = head;
       halted = started.running;
@@ -366,6 +365,7 @@ module _ {R : Type 0} {g : Ghosts R} where
   never_down beside n (Bare rack) h down none = let e : IsBare ≡ IsDown = sym (ap (λ (x : Node). x.state) h.bare.is) ∙ down in absurd (cc)
   never_down beside n (Spoiled rack) h down none = let e : IsBare ≡ IsDown = sym (ap (λ (x : Node). x.state) h.is) ∙ down in absurd (cc)
   never_down beside n (Up rvg) h down none = let e : IsUp ≡ IsDown = sym h.state ∙ down in absurd (cc)
+  never_down beside n (Receives s) h down none = let e : IsUp ≡ IsDown = sym h.state ∙ down in absurd (cc)
   never_down beside n (Down rack) h down none = none rack refl
   never_down beside n Gone h down none = h
 
@@ -378,7 +378,7 @@ module _ {R : Type 0} {g : Ghosts R} where
       let c = came n (g.meaning rack) (g.meaning up) down alike risen armed (g.meaning rvg.shelf) lawful after
       (subst (λ (u : Units). Moves (Run u.srl 0 (ring_in u (g.meaning up) + 2)) (Starting u (g.meaning up)) (g.meaning up) (g.meaning rvg.shelf)) same moves)
       rvg.core rvg.sound.log_unit (rvg.sound.idle started.running (not_true (g.meaning rvg.shelf).down (λ fell. never_both (g.meaning up).down (moves.safe (armed ∙ down.unarmed) fell) risen))) (subst (λ (u : Units). IsStarted u (g.meaning up) rvg.core (g.meaning rvg.shelf)) same started) in
-      record { node = c.node; is = c.is; same = c.same; stands = c.stands; next = c.next }
+      record { node = c.node; is = c.is; same = c.same; whole = omega (arith, c.stands.logged, c.stands.durable c.same.running); stands = c.stands; next = c.next }
 
   down_as : (beside : Beside) (n : Node) (old : DiskSet R g) (rack last : R) (why : No) → old ≡ Down rack → RefusedAs beside n (g.meaning rack) (g.meaning last) why → CameUpIs beside n old (Down last) (Err why)
   down_as beside n old rack last (Device disk) is h = (h.0, subst (λ (e : DiskSet R g). Rose (faults_at e disk) ((g.meaning last).disk_faults disk)) (sym is) h.1)

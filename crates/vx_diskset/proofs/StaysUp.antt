@@ -184,7 +184,7 @@ up_with n c c' m new h f mine P moves still fuse up same halted running content 
   session = ap (λ (x : Header). x.incarnation) same.header ∙ up.session;
   begun = λ told. up.begun (sym moves.tells ∙ told);
   stamp = λ told none. let t = up.stamp (sym moves.tells ∙ told) (running none) in omega (arith, t, ap (λ (x : Header). x.stamp) same.header);
-  fresh = λ told none first room. let f = up.fresh (sym moves.tells ∙ told) (running none) first room in
+  fresh = λ origin told none first room. let f = up.fresh origin (sym moves.tells ∙ told) (running none) first room in
       record { place = ap (λ (x : Header). x.place) same.header ∙ f.place; widths_are = ap widths same.held ∙ f.widths_are };
   first = omega (arith, up.first, ap (λ (x : Header). x.low) same.header);
   head = omega (arith, up.head, ap (λ (x : Header). x.low) same.header, ap (λ (xs : List Kept). length xs) same.held);

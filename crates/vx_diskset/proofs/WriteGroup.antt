@@ -3,6 +3,7 @@ use Rattle.std.proofs.Common.{◌≡◌, ◌∙◌, inl, ⊎_elim, ◌+◌, ◌-
 use Rattle.std.specs.Prelude.{IsFalse, Option, Some, None, Result, Ok, Err, OnOk, IsSome, leb, ltb, if◌then◌else◌}
 use Rattle.std.proofs.lemmas.Bool.Decides.{nat_tests}
 use Rattle.vx_model.specs.Answer.{is_too_large}
+use Rattle.vx_model.specs.Sites.{is_origin}
 use Rattle.vx_model.specs.Content.{Write, blocks_in}
 use Rattle.vx_history.specs.Steps.{logged, half_begun, burned}
 use Rattle.vx_history.specs.World.{Node, Fuse}
@@ -17,12 +18,13 @@ use Rattle.vx_disk.specs.Shelf.{Meaning, Image, Lawful}
 use Rattle.vx_disk.specs.Moves.{Moves, Run}
 use Rattle.vx_disk.specs.declared.shelf.Shelf.{Ghosts}
 use Rattle.vx_rvg.specs.declared.group.Rvg.{Rvg}
+use Rattle.vx_diskset.specs.declared.disk_set.DiskSet.{DiskSet}
 use Rattle.vx_diskset.specs.declared.disk_set.DiskSet.TheVariants.{Up}
 use Rattle.vx_rvg.specs.Groups.{unless_halted, write_refusal, WriteIs, Writes, with_write}
 use Rattle.vx_rvg.specs.Holdings.{Holding, with_writes}
 use Rattle.vx_rvg.specs.Stands.{Writing, Stands}
 use Rattle.vx_rvg.specs.Views.{Core, IsSound, last_of, unit_of}
-use Rattle.vx_diskset.specs.DiskSets.{CanWrite, WroteUp, halted_with, worked, no_number}
+use Rattle.vx_diskset.specs.DiskSets.{CanLog, halted_with, LoggedUp, no_number, worked, WroteUp}
 use Rattle.vx_diskset.specs.Holds.{HasWrites}
 use Rattle.vx_diskset.specs.Layouts.{LiesOn}
 use Rattle.vx_diskset.specs.Holds.{most_header}
@@ -34,7 +36,7 @@ use Rattle.vx_events.specs.Fuses.{IsExact, taken}
 use Rattle.vx_diskset.specs.Stands.{IsUpAt, IsHeldAt}
 use Rattle.vx_diskset.proofs.ApplyGroup.{ended_log}
 use Rattle.vx_diskset.proofs.BesideLemmas.{never_besides, site_map}
-use Rattle.vx_diskset.proofs.ExactWrite.{first_pushed, taken_many, taken_push}
+use Rattle.vx_diskset.proofs.ExactWrite.{first_pushed, taken_push}
 use Rattle.vx_diskset.proofs.WriteLeaves.{has_begun, half_begins, has_half, has_whole, has_safe, half_of, up_half, up_logged}
 use Rattle.vx_diskset.proofs.Laying.{lies_moved}
 use Rattle.vx_diskset.proofs.LastWrites.{stands_with, write_with, writing_found}
@@ -44,10 +46,10 @@ use Rattle.vx_diskset.proofs.StaysUp.{told_now, up_worked, never_both, left_move
 
 -- what a write answers of a site
 abbrev pub WroteAs : Beside → Node → Write → Meaning → Core → Meaning → Result ℕ No → Type 0
-WroteAs beside n x m c' new (Ok number) = (number ≡ n.safe + 1) × (n.safe < most_number) × IsUpAt beside (logged n x) c' new × ((calls : ℕ) → IsTrue new.tells → IsExact n x calls → 4 ≤ calls)
+WroteAs beside n x m c' new (Ok number) = (number ≡ n.safe + 1) × (n.safe < most_number) × IsUpAt beside (logged n x) c' new × (is_origin n.role ≡ true → (calls : ℕ) → IsTrue new.tells → IsExact n x calls → 4 ≤ calls)
 WroteAs beside n x m c' new (Err (Device disk)) = IsUpAt beside (halted_with n x disk) c' new × Rose (m.disk_faults disk) (new.disk_faults disk)
 WroteAs beside n x m c' new (Err (Limit what most)) = (Limit what most ≡ no_number) × (IsTrue new.tells → most_number ≤ most_header beside n) × IsUpAt beside (worked n) c' new
-WroteAs beside n x m c' new (Err Down) = IsFused n.fuse × IsHeldAt beside (half_begun n x) new × ((calls : ℕ) → IsTrue new.tells → IsExact n x calls → calls < 4)
+WroteAs beside n x m c' new (Err Down) = IsFused n.fuse × IsHeldAt beside (half_begun n x) new × (is_origin n.role ≡ true → (calls : ℕ) → IsTrue new.tells → IsExact n x calls → calls < 4)
 WroteAs beside n x m c' new (Err other) = ⊥
 
 -- the tests of a write of which only the number is not known to pass
@@ -75,10 +77,10 @@ number_by last true is = NoneLeft (grind (arith, nat_tests)) refl
 number_by last false is = SomeLeft (grind (arith, nat_tests)) refl
 
 -- the number of the last record, with one more
-pushed : (low : ℕ) (held staged : List Kept) (k : Kept) → 0 < low → length staged ≡ 0 → low + length (held ++ (staged ++ k ∷ [])) - 1 ≡ low + length held - 1 + 1
+pub pushed : (low : ℕ) (held staged : List Kept) (k : Kept) → 0 < low → length staged ≡ 0 → low + length (held ++ (staged ++ k ∷ [])) - 1 ≡ low + length held - 1 + 1
 pushed low held staged k first idle = omega (arith, first, idle, length-append held (staged ++ k ∷ []), length-append staged (k ∷ []))
 
-module _ {beside : Beside} (n : Node) (volume start : ℕ) (bytes : List ℕ) (c0 c c' : Core) (m0 m new : Meaning) (up : IsUpAt beside n c0 m0) (can : CanWrite n volume start (blocks_in bytes)) (roomy : IsRoomy beside n c m)
+module _ {beside : Beside} (n : Node) (volume start : ℕ) (bytes : List ℕ) (c0 c c' : Core) (m0 m new : Meaning) (up : IsUpAt beside n c0 m0) (can : CanLog n volume start (blocks_in bytes)) (roomy : IsRoomy beside n c m)
     (before : IsTrue m.tells → IsTrue m0.tells) (lawful : Lawful m) (after : Lawful new) (sound : IsSound c m) (sound' : IsSound c' new)
     (moves : Moves (Run c.units.srl 0 (c.log.ring + 2)) (Writing c (record { volume = volume; start = start; bytes = bytes } ∷ []) m) m new) where
   abbrev x : Write
@@ -134,17 +136,17 @@ module _ {beside : Beside} (n : Node) (volume start : ℕ) (bytes : List ℕ) (c
       (ap (λ (k : Core). k.log.held) is ∙ ap (λ (ks : List Kept). c.log.held ++ (ks ++ kept_of c.log volume start bytes ∷ [])) (sound.idle roomy.running roomy.up)) refl roomy.takes
 
   -- the shelf is up behind it
-  module _ (below_most : n.safe < most_number) (still : IsFalse new.down) (first : IsTrue m.tells → n.session ≡ 1 → taken n.log + (blocks_in bytes + 1) ≤ n.ring → IsFirst c.log n.log) where
+  module _ (below_most : n.safe < most_number) (still : IsFalse new.down) (first : is_origin n.role ≡ true → IsTrue m.tells → n.session ≡ 1 → taken n.log + (blocks_in bytes + 1) ≤ n.ring → IsFirst c.log n.log) where
     lies_new : LiesOn n new
     lies_new = lies_moved n (Run c.units.srl 0 (c.log.ring + 2)) (Writing c (x ∷ []) m) m new moves roomy.lies
 
     by_writes : (result : Result ℕ No) → last_of c < most_number → Writes c volume start bytes m new c' result → OnOk result ((h : Holding) → Stands c h m → Stands c' (with_writes (x ∷ []) h) new)
-        → ((calls : ℕ) → IsTrue new.tells → IsExact n x calls → OnOk result (4 ≤ calls)) → WroteAs beside n x m c' new result
+        → (is_origin n.role ≡ true → (calls : ℕ) → IsTrue new.tells → IsExact n x calls → OnOk result (4 ≤ calls)) → WroteAs beside n x m c' new result
     by_writes (Ok number) below is stands exact = (
       is.0 ∙ ap (λ (k : ℕ). k + 1) roomy.head,
       omega (arith, below, roomy.head),
       up_logged n x c0 c c' m0 m new up can.running roomy after sound'.log_unit moves.tells still lies_new fuse_new begun_new
-          (λ told one room. first_pushed c c' n.log volume start bytes is.1 (sound.idle roomy.running roomy.up) (first (sym moves.tells ∙ told) one (let more = taken_push n.log x in omega (arith, room, more))))
+          (λ origin told one room. first_pushed c c' n.log volume start bytes is.1 (sound.idle roomy.running roomy.up) (first origin (sym moves.tells ∙ told) one (let more = taken_push n.log x in omega (arith, room, more))))
           (takes_more is.1)
           (ap (λ (k : Core). k.units) is.1) (ap (λ (k : Core). k.log.ring) is.1)
           (ap (λ (k : Core). k.log.header) is.1) (ap (λ (k : Core). k.halted) is.1) (head_more is.1) (λ told. write_with c c' n.log x n.base m new (ap (λ (k : Core). k.log.ring) is.1) (ap (λ (k : Core). k.log.header) is.1) stands (roomy.content (sym moves.tells ∙ told))),
@@ -156,14 +158,14 @@ module _ {beside : Beside} (n : Node) (volume start : ℕ) (bytes : List ℕ) (c
     by_writes (Err other) below is stands exact = is
 
     by_number : (o : Option No) (result : Result ℕ No) → Number (last_of c) o → WriteIs o c volume start bytes m new c' result → (IsSome o → new ≡ m)
-        → OnOk result ((h : Holding) → Stands c h m → Stands c' (with_writes (x ∷ []) h) new) → ((calls : ℕ) → IsTrue new.tells → IsExact n x calls → OnOk result (4 ≤ calls)) → WroteAs beside n x m c' new result
+        → OnOk result ((h : Holding) → Stands c h m → Stands c' (with_writes (x ∷ []) h) new) → (is_origin n.role ≡ true → (calls : ℕ) → IsTrue new.tells → IsExact n x calls → OnOk result (4 ≤ calls)) → WroteAs beside n x m c' new result
     by_number o result (SomeLeft below is_none) is unchanged stands exact = by_writes result below (subst (λ (k : Option No). WriteIs k c volume start bytes m new c' result) is_none is) stands exact
     by_number o result (NoneLeft past is_some) is unchanged stands exact = absurd (omega (arith, past, below_most, roomy.head))
 
     -- what a write answers
     pub written_as : (result : Result ℕ No) → WriteIs (write_refusal c (m.size (unit_of c.units.vols volume)) start (blocks_in bytes)) c volume start bytes m new c' result
         → (IsSome (write_refusal c (m.size (unit_of c.units.vols volume)) start (blocks_in bytes)) → new ≡ m)
-        → OnOk result ((h : Holding) → Stands c h m → Stands c' (with_writes (x ∷ []) h) new) → ((calls : ℕ) → IsTrue new.tells → IsExact n x calls → OnOk result (4 ≤ calls)) → WroteAs beside n x m c' new result
+        → OnOk result ((h : Holding) → Stands c h m → Stands c' (with_writes (x ∷ []) h) new) → (is_origin n.role ≡ true → (calls : ℕ) → IsTrue new.tells → IsExact n x calls → OnOk result (4 ≤ calls)) → WroteAs beside n x m c' new result
     written_as result is unchanged stands exact =
         let refusal : write_refusal c (m.size (unit_of c.units.vols volume)) start (blocks_in bytes) ≡ number_test (last_of c)
         = ap (λ (h : Option ℕ). unless_halted h (tests c.log.ring (m.size (unit_of c.units.vols volume)) start (blocks_in bytes) (last_of c))) roomy.running
@@ -183,10 +185,10 @@ held_begun n x m held = record {
 }
 
 -- room that was not made refuses the write
-pub unroomed : (beside : Beside) (n : Node) (x : Write) (c' : Core) (m new : Meaning) (no : No) → ((calls : ℕ) → IsTrue new.tells → IsExact n x calls → ⊥) → RoomIs beside n m c' new (Err no) → WroteAs beside n x m c' new (Err no)
+pub unroomed : (beside : Beside) (n : Node) (x : Write) (c' : Core) (m new : Meaning) (no : No) → (is_origin n.role ≡ true → (calls : ℕ) → IsTrue new.tells → IsExact n x calls → ⊥) → RoomIs beside n m c' new (Err no) → WroteAs beside n x m c' new (Err no)
 unroomed beside n x c' m new (Device disk) never is = (half_of n x disk c' new is.0, is.1)
 unroomed beside n x c' m new (Limit what most) never is = is
-unroomed beside n x c' m new Down never is = (is.0, held_begun n x new is.1, λ calls told exact. absurd (never calls told exact))
+unroomed beside n x c' m new Down never is = (is.0, held_begun n x new is.1, λ origin calls told exact. absurd (never origin calls told exact))
 unroomed beside n x c' m new other never is = is
 
 -- a call that moved the shelf, and then the write
@@ -200,7 +202,7 @@ wrote_later beside n x c' m mid new (Err other) later is = is
 -- ---- the same of disk sets
 
 module _ {R : Type 0} {g : Ghosts R} where
-  pub wrote_at : (beside : Beside) (n : Node) (x : Write) (old new : Rvg R g) (result : Result ℕ No) → n.safe < most_number → WroteAs beside n x (g.meaning old.shelf) new.core (g.meaning new.shelf) result → WroteUp beside n x (Up old) (Up new) result
+  pub wrote_at : (beside : Beside) (n : Node) (x : Write) (old new : Rvg R g) (result : Result ℕ No) → n.safe < most_number → WroteAs beside n x (g.meaning old.shelf) new.core (g.meaning new.shelf) result → LoggedUp beside n x (Up old) (Up new) result
   wrote_at beside n x old new (Ok number) below is = is
   wrote_at beside n x old new (Err (Device disk)) below is = (is.0, is.1, below)
   wrote_at beside n x old new (Err (Limit what most)) below is = is
@@ -208,5 +210,13 @@ module _ {R : Type 0} {g : Ghosts R} where
   wrote_at beside n x old new (Err other) below is = is
 
   -- no number is left
-  pub wrote_none : {beside : Beside} (n : Node) (x : Write) (rvg : Rvg R g) → IsUpAt beside n rvg.core (g.meaning rvg.shelf) → most_number ≤ last_of rvg.core → WroteUp beside n x (Up rvg) (Up rvg) (Err no_number)
+  pub wrote_none : {beside : Beside} (n : Node) (x : Write) (rvg : Rvg R g) → IsUpAt beside n rvg.core (g.meaning rvg.shelf) → most_number ≤ last_of rvg.core → LoggedUp beside n x (Up rvg) (Up rvg) (Err no_number)
   wrote_none n x rvg up full = (refl, (λ told. omega (arith, full, up.head)), up_worked n rvg.core (g.meaning rvg.shelf) up)
+
+  -- a write of an origin
+  pub logged_wrote : (beside : Beside) (n : Node) (x : Write) (old new : DiskSet R g) (result : Result ℕ No) → is_origin n.role ≡ true → LoggedUp beside n x old new result → WroteUp beside n x old new result
+  logged_wrote beside n x old new (Ok number) origin h = (h.0, h.1, h.2, λ calls told exact. h.3 origin calls told exact)
+  logged_wrote beside n x old new (Err (Device disk)) origin h = h
+  logged_wrote beside n x old new (Err (Limit what most)) origin h = h
+  logged_wrote beside n x old new (Err Down) origin h = (h.0, h.1, (λ calls told exact. h.2 origin calls told exact), h.3)
+  logged_wrote beside n x old new (Err other) origin h = h

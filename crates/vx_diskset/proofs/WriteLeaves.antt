@@ -1,8 +1,9 @@
 -- What a write leaves of a site that is up.
-use Rattle.std.proofs.Common.{◌≡◌, ◌∙◌, inl, ◌+◌, ◌<◌, ◌≤◌, ℕ, suc, List, [], ◌∷◌, ◌++◌, length, take, drop, ap, sym, subst, refl, arith, IsTrue, length-append}
+use Rattle.std.proofs.Common.{◌≡◌, ◌∙◌, inl, ◌+◌, ◌<◌, ◌≤◌, ℕ, suc, List, [], ◌∷◌, ◌++◌, length, take, drop, ap, sym, subst, refl, arith, IsTrue, true, length-append}
 use Rattle.std.specs.Prelude.{IsFalse, Some, None}
 use Rattle.std.proofs.lemmas.List.{take-append-le, take_all}
 use Rattle.vx_model.specs.Content.{Write, put, fold_writes}
+use Rattle.vx_model.specs.Sites.{is_origin}
 use Rattle.vx_history.specs.World.{Node}
 use Rattle.vx_history.specs.Steps.{logged, half_begun, burned, write_calls}
 use Rattle.vx_model.specs.declared.state.KeptLink.{KeptLink}
@@ -13,7 +14,7 @@ use Rattle.vx_rvg.specs.Views.{Core, last_of}
 use Rattle.vx_diskset.specs.DiskSets.{halted_with, halted_at}
 use Rattle.vx_diskset.specs.Holds.{HasWrites, state_with}
 use Rattle.vx_diskset.specs.Layouts.{LiesOn, units_of}
-use Rattle.vx_diskset.specs.Holds.{most_header}
+use Rattle.vx_diskset.specs.Holds.{most_header, most_with}
 use Rattle.vx_diskset.specs.Lasts.{FoundWith, StandsWith}
 use Rattle.vx_diskset.specs.Needs.{TakesAs}
 use Rattle.vx_diskset.specs.Rooms.{IsRoomy}
@@ -42,7 +43,7 @@ has_begun {beside} n x i has = record {
   count = has.count;
   least = has.least;
   most = omega (arith, has.most, length-append n.log (x ∷ []));
-  found = subst (λ (ws : List Write). FoundWith (units_of n) n.ring (state_with n beside.links) n.session (most_header beside n) i ws (fold_writes n.base (drop n.safe ws)))
+  found = subst (λ (ws : List Write). FoundWith (units_of n) n.ring (state_with n beside.links) n.session (most_with beside n has.count) i ws (fold_writes n.base (drop n.safe ws)))
       (sym (take-append-le has.count n.log (x ∷ []) has.most)) has.found;
 }
 
@@ -56,7 +57,7 @@ has_half {beside} n x disk i has = record {
   count = has.count;
   least = has.least;
   most = omega (arith, has.most, length-append n.log (x ∷ []));
-  found = subst (λ (ws : List Write). FoundWith (units_of n) n.ring (state_with n beside.links) n.session (most_header beside n) i ws (fold_writes n.base (drop n.safe ws)))
+  found = subst (λ (ws : List Write). FoundWith (units_of n) n.ring (state_with n beside.links) n.session (most_with beside n has.count) i ws (fold_writes n.base (drop n.safe ws)))
       (sym (take-append-le has.count n.log (x ∷ []) has.most)) has.found;
 }
 
@@ -70,9 +71,9 @@ has_whole {beside} n c m x disk i roomy told many found = record {
   count = n.safe + 1;
   least = omega arith;
   most = omega (arith, many, length-append n.log (x ∷ []));
-  found = found_same c.units (units_of n) c.log.ring n.ring c.log.header.state (state_with n beside.links) c.log.header.incarnation n.session c.log.header.stamp (most_header beside n)
+  found = found_same c.units (units_of n) c.log.ring n.ring c.log.header.state (state_with n beside.links) c.log.header.incarnation n.session c.log.header.stamp (most_with beside n (n.safe + 1))
       (n.log ++ x ∷ []) (take (n.safe + 1) (n.log ++ x ∷ [])) (put n.base x) (fold_writes n.base (drop n.safe (take (n.safe + 1) (n.log ++ x ∷ [])))) i
-      roomy.units roomy.ring (roomy_kept n c m roomy told) roomy.session (roomy.stamp told) (sym (take_all (n.safe + 1) (n.log ++ x ∷ []) (omega (arith, many, length-append n.log (x ∷ []))))) (content_pushed n x many) found;
+      roomy.units roomy.ring (roomy_kept n c m roomy told) roomy.session (let t = roomy.stamp told in omega (arith, t)) (sym (take_all (n.safe + 1) (n.log ++ x ∷ []) (omega (arith, many, length-append n.log (x ∷ []))))) (content_pushed n x many) found;
 }
 
 -- or that does not
@@ -100,7 +101,7 @@ module _ (n : Node) (x : Write) (disk : ℕ) where
     session = up.session;
     begun = up.begun;
     stamp = λ told none. absurd (never_none none);
-    fresh = λ told none. absurd (never_none none);
+    fresh = λ origin told none. absurd (never_none none);
     first = up.first;
     head = up.head;
     halted = up.halted;
@@ -130,7 +131,7 @@ module _ (n : Node) (x : Write) (disk : ℕ) where
     session = ap (λ (h : Header). h.incarnation) same.header ∙ roomy.session;
     begun = begun;
     stamp = λ told none. absurd (never_none none);
-    fresh = λ told none. absurd (never_none none);
+    fresh = λ origin told none. absurd (never_none none);
     first = omega (arith, roomy.first, ap (λ (h : Header). h.low) same.header);
     head = omega (arith, roomy.head, ap (λ (h : Header). h.low) same.header, ap (λ ks. length ks) same.held);
     halted = halted;
@@ -145,7 +146,7 @@ module _ (n : Node) (x : Write) (disk : ℕ) where
 
 -- a site with one more write
 pub up_logged : {beside : Beside} (n : Node) (x : Write) (c0 c c' : Core) (m0 m new : Meaning) → IsUpAt beside n c0 m0 → n.halted ≡ None → IsRoomy beside n c m → Lawful new → c'.log.unit ≡ c'.units.srl → new.tells ≡ m.tells
-    → IsFalse new.down → LiesOn n new → HasFuse (burned n.fuse) new → (IsTrue new.tells → 0 < n.session) → (IsTrue new.tells → n.session ≡ 1 → taken (n.log ++ x ∷ []) ≤ n.ring → IsFirst c'.log (n.log ++ x ∷ [])) → TakesAs c'.log (n.log ++ x ∷ []) → c'.units ≡ c.units → c'.log.ring ≡ c.log.ring → c'.log.header ≡ c.log.header → c'.halted ≡ c.halted → last_of c' ≡ last_of c + 1
+    → IsFalse new.down → LiesOn n new → HasFuse (burned n.fuse) new → (IsTrue new.tells → 0 < n.session) → (is_origin n.role ≡ true → IsTrue new.tells → n.session ≡ 1 → taken (n.log ++ x ∷ []) ≤ n.ring → IsFirst c'.log (n.log ++ x ∷ [])) → TakesAs c'.log (n.log ++ x ∷ []) → c'.units ≡ c.units → c'.log.ring ≡ c.log.ring → c'.log.header ≡ c.log.header → c'.halted ≡ c.halted → last_of c' ≡ last_of c + 1
     → (IsTrue new.tells → StandsWith c' (n.log ++ x ∷ []) (put n.base x) new) → IsUpAt beside (logged n x) c' new
 up_logged {beside} n x c0 c c' m0 m new up none roomy lawful unit_is tells still lies fuse begun fresh takes units ring header halted head content = record {
   state = up.state;
@@ -161,7 +162,7 @@ up_logged {beside} n x c0 c c' m0 m new up none roomy lawful unit_is tells still
   session = ap (λ (h : Header). h.incarnation) header ∙ roomy.session;
   begun = begun;
   stamp = λ told _. stamped told;
-  fresh = λ told _ one room. fresh told one room;
+  fresh = λ origin told _ one room. fresh origin told one room;
   first = omega (arith, roomy.first, ap (λ (h : Header). h.low) header);
   head = head_is;
   halted = halted ∙ roomy.running ∙ sym none;

@@ -13,7 +13,7 @@ use Rattle.vx_srl.specs.Views.{BodyFits, free_of}
 use Rattle.vx_events.specs.declared.said.Said.{Said}
 use Rattle.vx_events.specs.declared.said.Said.TheVariants.{Refused}
 use Rattle.vx_diskset.specs.declared.disk_set.DiskSet.{DiskSet}
-use Rattle.vx_diskset.specs.declared.disk_set.DiskSet.TheVariants.{Bare, Spoiled, Up, Down, Gone}
+use Rattle.vx_diskset.specs.declared.disk_set.DiskSet.TheVariants.{Bare, Spoiled, Up, Receives, Down, Gone}
 use Rattle.vx_diskset.specs.Burning.{Burnt, IsLogged}
 use Rattle.vx_diskset.specs.Fuses.{LeftAs}
 
@@ -23,6 +23,7 @@ module _ {R : Type 0} {g : Ghosts R} where
   disks_in (Bare rack) = (g.meaning rack).disks
   disks_in (Spoiled rack) = (g.meaning rack).disks
   disks_in (Up rvg) = (g.meaning rvg.shelf).disks
+  disks_in (Receives s) = (g.meaning s.rvg.shelf).disks
   disks_in (Down rack) = (g.meaning rack).disks
   disks_in Gone = None
 
@@ -30,6 +31,7 @@ module _ {R : Type 0} {g : Ghosts R} where
   size_in (Bare rack) = (g.meaning rack).size
   size_in (Spoiled rack) = (g.meaning rack).size
   size_in (Up rvg) = (g.meaning rvg.shelf).size
+  size_in (Receives s) = (g.meaning s.rvg.shelf).size
   size_in (Down rack) = (g.meaning rack).size
   size_in Gone = λ u. 0
 
@@ -38,6 +40,7 @@ module _ {R : Type 0} {g : Ghosts R} where
   units_in (Bare rack) = (g.meaning rack).units
   units_in (Spoiled rack) = (g.meaning rack).units
   units_in (Up rvg) = (g.meaning rvg.shelf).units
+  units_in (Receives s) = (g.meaning s.rvg.shelf).units
   units_in (Down rack) = (g.meaning rack).units
   units_in Gone = 0
 

@@ -4,6 +4,7 @@ use Rattle.vx_model.specs.declared.limits.TheConstants.{LEAST_BLOCKS, LINK_PLACE
 use Rattle.vx_model.specs.Content.{Write}
 use Rattle.vx_history.specs.World.{Node, bare_site}
 use Rattle.vx_history.specs.Steps.{logged, raw_set, half_begun, crashed, recovered, burned}
+use Rattle.vx_model.specs.Sites.{is_origin}
 use Rattle.vx_model.specs.Sizes.{ring_of}
 use Rattle.vx_model.specs.declared.site.SiteState.TheVariants.{Up as IsUp}
 use Rattle.vx_diskset.specs.Holds.{Beside, Kept, itself, sure_of}
@@ -29,6 +30,15 @@ use Rattle.vx_diskset.specs.Stands.{StandsAt, StandsAlone, CutAt, IsUnused, IsTo
 
 -- a write that nothing but a failing disk or want of a number can refuse
 pub record CanWrite (n : Node) (volume start count : ℕ) : Type 0 where
+  pub origin : is_origin n.role ≡ true
+  pub up : n.state ≡ IsUp
+  pub running : n.halted ≡ None
+  pub volume_exists : volume < length n.volumes
+  pub fits : count + 1 ≤ n.ring
+  pub within : start + count ≤ n.base.size volume
+
+-- a write that a site may log, whatever its role
+pub record CanLog (n : Node) (volume start count : ℕ) : Type 0 where
   pub up : n.state ≡ IsUp
   pub running : n.halted ≡ None
   pub volume_exists : volume < length n.volumes
@@ -128,6 +138,15 @@ module _ {R : Type 0} {g : Ghosts R} where
   abbrev pub WroteUp : Beside → Node → Write → DiskSet R g → DiskSet R g → Result ℕ No → Type 0
   WroteUp beside n x old new result = WroteWith (λ k e. CutAt beside k e) beside n x old new result
 
+  -- the same of a site of any role, of which it is not known how many calls a write is
+  abbrev pub LoggedUp : Beside → Node → Write → DiskSet R g → DiskSet R g → Result ℕ No → Type 0
+  LoggedUp beside n x old new (Ok number) = (number ≡ n.safe + 1) × (n.safe < most_number) × StandsAt beside (logged n x) new × (is_origin n.role ≡ true → (calls : ℕ) → IsToldAt new → IsExact n x calls → 4 ≤ calls)
+  LoggedUp beside n x old new (Err (Device disk)) = StandsAt beside (halted_with n x disk) new × RoseAt old new disk × (n.safe < most_number)
+  LoggedUp beside n x old new (Err (Limit what most)) = (Limit what most ≡ no_number) × (IsToldAt new → most_number ≤ most_header beside n) × StandsAt beside (worked n) new
+  LoggedUp beside n x old new (Err IsDown) =
+      IsFused n.fuse × CutAt beside (half_begun n x) new × (is_origin n.role ≡ true → (calls : ℕ) → IsToldAt new → IsExact n x calls → calls < 4) × (n.safe < most_number)
+  LoggedUp beside n x old new (Err other) = ⊥
+
   -- the blocks, which are those of the content where it is told, or a failing disk
   abbrev pub ReadAt : Beside → Node → ℕ → ℕ → ℕ → List ℕ → DiskSet R g → DiskSet R g → Result (Unit {0}) No → Type 0
   ReadAt beside n volume start count bytes old new (Ok done) = (IsToldAt new → Shows n.base volume start count bytes) × StandsAt beside n new
@@ -139,6 +158,8 @@ module _ {R : Type 0} {g : Ghosts R} where
     pub node : Node
     pub is : IsToldAt new → node ≡ recovered n
     pub same : SameDisks n node
+    -- all its writes are durable
+    pub whole : length node.log ≡ node.safe
     pub stands : StandsAt beside node new
     -- there was a further session
     pub next : IsToldAt new → n.session < most_number
@@ -159,6 +180,7 @@ module _ {R : Type 0} {g : Ghosts R} where
     pub untold : IsToldAt new → ⊥
     pub node : Node
     pub same : SameDisks (raw_set 0 n) node
+    pub whole : length node.log ≡ node.safe
     pub stands : (beside : Beside) → beside.doubt ≡ None → StandsAt beside node new
 
   -- a bare site whose disks hold nothing, or one of which failed; or, where contents are not told, whatever stands on them

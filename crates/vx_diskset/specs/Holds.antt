@@ -73,13 +73,17 @@ beside_of d s = record { links = links_of d.world s; headers = d.world.headers s
 abbrev pub most_header : Beside → Node → ℕ
 most_header beside n = most_stamp n + beside.headers
 
+-- nor where so many of its writes are durable
+abbrev pub most_with : Beside → Node → (count : ℕ) → ℕ
+most_with beside n count = most_header beside (record n { safe = count })
+
 -- On these disks stands the site's log, with its state, these links, its session and the last of its writes, up to one of the numbers that a crash may
 -- keep; and the volumes with the log over them have the site's content with the writes up to that number.
 pub record HasWrites (beside : Beside) (n : Node) (i : Image) : Type 0 where
   pub count : ℕ
   pub least : n.safe ≤ count
   pub most : count ≤ length n.log
-  pub found : FoundWith (units_of n) n.ring (state_with n beside.links) n.session (most_header beside n) i (take count n.log) (fold_writes n.base (drop n.safe (take count n.log)))
+  pub found : FoundWith (units_of n) n.ring (state_with n beside.links) n.session (most_with beside n count) i (take count n.log) (fold_writes n.base (drop n.safe (take count n.log)))
 
 -- the same of what it may be besides
 abbrev pub HasDoubted : Option Kept → Image → Type 0

@@ -5,6 +5,7 @@ use Rattle.vx_model.specs.declared.no.No.TheVariants.{Device, Limit, Down as IsD
 use Rattle.vx_model.specs.declared.site.SiteState.TheVariants.{Up as IsUp}
 use Rattle.vx_model.specs.declared.state.KeptLink.{KeptLink}
 use Rattle.vx_model.specs.declared.state.State.{State}
+use Rattle.vx_model.specs.Sites.{is_origin}
 use Rattle.vx_history.specs.Stops.{IsFused}
 use Rattle.vx_history.specs.World.{Node}
 use Rattle.vx_disk.specs.declared.shelf.Shelf.{Ghosts}
@@ -53,6 +54,7 @@ pub record CanKeep (beside : Beside) (n : Node) (s : State) : Type 0 where
   pub up : n.state ≡ IsUp
   pub running : n.halted ≡ None
   pub line : s.line ≡ n.line
+  pub role : is_origin s.role ≡ is_origin n.role
   pub needs : (k : ℕ) (l : KeptLink) → slice_get s.links k ≡ Some l → is_needing l ≡ true → Suffices beside.links n l
 
 -- the reply of a call that answers nothing

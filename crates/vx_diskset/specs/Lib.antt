@@ -9,5 +9,6 @@ pub mod Lasts
 pub mod Layouts
 pub mod Needs
 pub mod Pumps
+pub mod Received
 pub mod Rooms
 pub mod Stands

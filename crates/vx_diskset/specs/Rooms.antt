@@ -1,5 +1,5 @@
 -- A site whose log has room for a write, and how it came to it.
-use Rattle.std.specs.Prelude.{◌≡◌, ℕ, ◌+◌, ◌<◌, ◌≤◌, min, List, None, Result, Ok, Err, IsTrue, IsFalse}
+use Rattle.std.specs.Prelude.{◌≡◌, ℕ, ◌<◌, ◌≤◌, min, List, None, Result, Ok, Err, IsTrue, IsFalse, ◌+◌}
 use Rattle.vx_history.specs.World.{Node}
 use Rattle.vx_model.specs.declared.no.No.{No}
 use Rattle.vx_history.specs.Steps.{burned}
@@ -52,3 +52,15 @@ RoomIs beside n old c new (Err (Device disk)) = IsUpAt beside (halted_at n disk)
 RoomIs beside n old c new (Err (Limit what most)) = (Limit what most ≡ no_number) × (IsTrue new.tells → most_number ≤ most_header beside n) × IsUpAt beside (worked n) c new
 RoomIs beside n old c new (Err Down) = IsFused n.fuse × IsHeldAt beside n new
 RoomIs beside n old c new (Err other) = ⊥
+
+-- the same group with so many writes more in its log
+pub record IsMore (count : ℕ) (c c' : Core) : Type 0 where
+  pub units : c'.units ≡ c.units
+  pub ring : c'.log.ring ≡ c.log.ring
+  pub line : c'.log.header.state.line ≡ c.log.header.state.line
+  pub last : last_of c' ≡ last_of c + count
+
+-- how many writes a call logged that logs one
+abbrev pub count_of : {T : Type 0} → Result T No → ℕ
+count_of (Ok done) = 1
+count_of (Err why) = 0

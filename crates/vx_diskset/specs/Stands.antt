@@ -1,7 +1,9 @@
 -- What the disks of a site stand for: how its rack, or the group over it, agrees with its node of the world.
-use Rattle.std.specs.Prelude.{◌≡◌, ℕ, ◌+◌, ◌<◌, ◌≤◌, List, Some, length, None, IsTrue, IsFalse}
+use Rattle.std.specs.Prelude.{◌≡◌, ℕ, ◌+◌, ◌<◌, ◌≤◌, List, Some, length, take, drop, None, IsTrue, IsFalse, true, false}
 use Rattle.vx_model.specs.declared.limits.TheConstants.{LEAST_BLOCKS, MOST_DISKS}
 use Rattle.vx_model.specs.Content.{zero_block}
+use Rattle.vx_model.specs.Sites.{is_origin}
+use Rattle.vx_model.specs.declared.call.Update.{Update}
 use Rattle.vx_history.specs.World.{Node, NoFuse, bare_site}
 use Rattle.vx_model.specs.declared.state.KeptLink.{KeptLink}
 use Rattle.vx_diskset.specs.Holds.{Beside}
@@ -9,8 +11,9 @@ use Rattle.vx_model.specs.declared.site.SiteState.TheVariants.{Up as IsUp, Down 
 use Rattle.vx_disk.specs.Shelf.{Meaning, Image, Keeps}
 use Rattle.vx_disk.specs.declared.shelf.Shelf.{Ghosts}
 use Rattle.vx_rvg.specs.Views.{Core, last_of}
+use Rattle.vx_secondary.specs.Receivers.{writes_of}
 use Rattle.vx_diskset.specs.declared.disk_set.DiskSet.{DiskSet}
-use Rattle.vx_diskset.specs.declared.disk_set.DiskSet.TheVariants.{Bare, Spoiled, Up, Down, Gone}
+use Rattle.vx_diskset.specs.declared.disk_set.DiskSet.TheVariants.{Bare, Spoiled, Up, Receives, Down, Gone}
 use Rattle.vx_diskset.specs.Fuses.{HasFuse, IsFirst}
 use Rattle.vx_events.specs.Fuses.{taken}
 use Rattle.vx_diskset.specs.Holds.{HasSite, Kept, MayBe, alone, state_with}
@@ -65,8 +68,8 @@ pub record IsUpAt (beside : Beside) (n : Node) (c : Core) (m : Meaning) : Type 0
   pub session : c.log.header.incarnation ≡ n.session
   pub begun : IsTrue m.tells → 0 < n.session
   pub stamp : IsTrue m.tells → n.halted ≡ None → c.log.header.stamp + 1 ≤ most_header beside n
-  -- in its first session its log begins with the site's first write, as long as it did not go round
-  pub fresh : IsTrue m.tells → n.halted ≡ None → n.session ≡ 1 → taken n.log ≤ n.ring → IsFirst c.log n.log
+  -- in its first session the log of an origin begins with the site's first write, as long as it did not go round
+  pub fresh : is_origin n.role ≡ true → IsTrue m.tells → n.halted ≡ None → n.session ≡ 1 → taken n.log ≤ n.ring → IsFirst c.log n.log
   pub first : 0 < c.log.header.low
   pub head : last_of c ≡ n.safe
   pub halted : c.halted ≡ n.halted
@@ -78,6 +81,36 @@ pub record IsUpAt (beside : Beside) (n : Node) (c : Core) (m : Meaning) : Type 0
   pub content : n.halted ≡ None → IsTrue m.tells → StandsWith c n.log n.base m
   pub left : (i : Image) → m.now i → HasSite beside n i
   -- a site that runs is what its node says
+  pub sure : n.halted ≡ None → beside.doubt ≡ None
+  pub may : (k : Kept) → beside.doubt ≡ Some k → MayBe k m
+
+-- The disks of a site that receives, under its replicated volume group, behind which these updates wait. Those that an apply logged before a
+-- disk ended it are in the log, and of the site they wait still.
+pub record IsReceiverAt (beside : Beside) (n : Node) (c : Core) (us : List Update) (m : Meaning) : Type 0 where
+  pub state : n.state ≡ IsUp
+  pub role : is_origin n.role ≡ false
+  pub up : IsFalse m.down
+  pub fuse : HasFuse n.fuse m
+  pub lies : LiesOn n m
+  pub low : n.low ≡ 1
+  pub units : c.units ≡ units_of n
+  pub ring : c.log.ring ≡ n.ring
+  pub found : List KeptLink
+  pub kept : c.log.header.state ≡ state_with n found
+  pub linked : IsTrue m.tells → found ≡ beside.links
+  pub session : c.log.header.incarnation ≡ n.session
+  pub begun : IsTrue m.tells → 0 < n.session
+  pub stamp : IsTrue m.tells → n.halted ≡ None → c.log.header.stamp + 1 ≤ most_header beside n
+  pub first : 0 < c.log.header.low
+  pub least : n.safe ≤ last_of c
+  pub most : last_of c ≤ length n.log
+  pub head : n.halted ≡ None → last_of c ≡ n.safe
+  pub halted : c.halted ≡ n.halted
+  pub waits : writes_of us ≡ drop (last_of c) n.log
+  pub takes : n.halted ≡ None → TakesAs c.log (take n.safe n.log)
+  -- while no call failed, it has the content with the writes that are durable, and its log the last of these
+  pub content : n.halted ≡ None → IsTrue m.tells → StandsWith c (take n.safe n.log) n.base m
+  pub left : (i : Image) → m.now i → HasSite beside n i
   pub sure : n.halted ≡ None → beside.doubt ≡ None
   pub may : (k : Kept) → beside.doubt ≡ Some k → MayBe k m
 
@@ -109,6 +142,7 @@ module _ {R : Type 0} {g : Ghosts R} where
   StandsAt beside n (Bare rack) = IsCleanAt n (g.meaning rack)
   StandsAt beside n (Spoiled rack) = IsBareAt n (g.meaning rack)
   StandsAt beside n (Up rvg) = IsUpAt beside n rvg.core (g.meaning rvg.shelf)
+  StandsAt beside n (Receives s) = IsReceiverAt beside n s.rvg.core s.waiting (g.meaning s.rvg.shelf)
   StandsAt beside n (Down rack) = IsDownAt beside n (g.meaning rack)
   StandsAt beside n Gone = ⊥
 
@@ -121,6 +155,7 @@ module _ {R : Type 0} {g : Ghosts R} where
   CutAt beside n (Bare rack) = ⊥
   CutAt beside n (Spoiled rack) = ⊥
   CutAt beside n (Up rvg) = IsHeldAt beside n (g.meaning rvg.shelf)
+  CutAt beside n (Receives s) = IsHeldAt beside n (g.meaning s.rvg.shelf)
   CutAt beside n (Down rack) = ⊥
   CutAt beside n Gone = ⊥
 
@@ -129,6 +164,7 @@ module _ {R : Type 0} {g : Ghosts R} where
   IsUnused (Bare rack) = IsUnfitted (g.meaning rack)
   IsUnused (Spoiled rack) = ⊥
   IsUnused (Up rvg) = ⊥
+  IsUnused (Receives s) = ⊥
   IsUnused (Down rack) = ⊥
   IsUnused Gone = ⊥
 
@@ -137,6 +173,7 @@ module _ {R : Type 0} {g : Ghosts R} where
   IsToldAt (Bare rack) = IsTrue (g.meaning rack).tells
   IsToldAt (Spoiled rack) = IsTrue (g.meaning rack).tells
   IsToldAt (Up rvg) = IsTrue (g.meaning rvg.shelf).tells
+  IsToldAt (Receives s) = IsTrue (g.meaning s.rvg.shelf).tells
   IsToldAt (Down rack) = IsTrue (g.meaning rack).tells
   IsToldAt Gone = ⊥
 
@@ -145,5 +182,6 @@ module _ {R : Type 0} {g : Ghosts R} where
   faults_at (Bare rack) d = (g.meaning rack).disk_faults d
   faults_at (Spoiled rack) d = (g.meaning rack).disk_faults d
   faults_at (Up rvg) d = (g.meaning rvg.shelf).disk_faults d
+  faults_at (Receives s) d = (g.meaning s.rvg.shelf).disk_faults d
   faults_at (Down rack) d = (g.meaning rack).disk_faults d
   faults_at Gone d = 0

@@ -1,5 +1,5 @@
 // The disks of a site.
-ghost use Rattle.std.specs.Prelude.{◌≡◌, ◌≤◌, ◌<◌, IfSome, IsSome, List};
+ghost use Rattle.std.specs.Prelude.{◌≡◌, ◌≤◌, ◌<◌, IfSome, IsSome, List, None};
 ghost use Rattle.vx_diskset.specs.Holds.{Beside};
 ghost use Rattle.vx_history.specs.World.{Node};
 ghost use Rattle.vx_diskset.specs.DiskSets.{Later};
@@ -10,6 +10,7 @@ use vx_disk::Rack;
 use vx_model::limits::{LEAST_BLOCKS, MOST_DISKS};
 use vx_model::{No, State, Stop};
 use vx_rvg::Rvg;
+use vx_secondary::Secondary;
 
 /// The rack of a site number, by itself or under a replicated volume group.
 #[derive(Drop)]
@@ -19,6 +20,8 @@ pub enum DiskSet<R: Rack> {
     /// The disks of a bare site on which a raw set was begun, and not finished.
     Spoiled(R),
     Up(Rvg<R>),
+    /// The group of a site that is up and receives the writes of another.
+    Receives(Secondary<R>),
     /// The disks of a raw set that crashed.
     Down(R),
     /// It was taken out, and comes back within the same line.
@@ -28,7 +31,7 @@ pub enum DiskSet<R: Rack> {
 impl<R: Rack> DiskSet<R> {
     ghost use Rattle.vx_diskset.specs.Asked.{SetsDisk, SetsFuse, CrashesBy, MayCrash, SameFailing, units_in};
     ghost use Rattle.vx_diskset.specs.Holds.{state_with};
-    ghost use Rattle.vx_diskset.specs.Stands.{CutAt, IsUnused};
+    ghost use Rattle.vx_diskset.specs.Stands.{CutAt, IsToldAt, IsUnused};
     ghost use Rattle.vx_history.specs.World.{FuseSet};
     ghost use Rattle.vx_diskset.specs.DiskSets.{FitIs, CrashedAt};
     ghost use Rattle.vx_model.specs.declared.site.SiteState.TheVariants.{Up as UpState};
@@ -67,6 +70,9 @@ impl<R: Rack> DiskSet<R> {
             DiskSet::Bare(rack) if disk < rack.units() as u64 => rack.fail(disk as u32, on),
             DiskSet::Spoiled(rack) if disk < rack.units() as u64 => rack.fail(disk as u32, on),
             DiskSet::Up(rvg) if disk < rvg.shelf.units() as u64 => rvg.shelf.fail(disk as u32, on),
+            DiskSet::Receives(site) if disk < site.rvg.shelf.units() as u64 => {
+                site.rvg.shelf.fail(disk as u32, on)
+            }
             DiskSet::Down(rack) if disk < rack.units() as u64 => rack.fail(disk as u32, on),
             _ => {}
         }
@@ -78,8 +84,10 @@ impl<R: Rack> DiskSet<R> {
         ensures asked { (beside : Beside) (n : Node) → StandsAt beside n self.old → n.state ≡ UpState → SetsFuse calls pick self.old self.new }
         ensures later { Later self.old self.new }
     {
-        if let DiskSet::Up(rvg) = self {
-            rvg.shelf.fuse(calls, pick);
+        match self {
+            DiskSet::Up(rvg) => rvg.shelf.fuse(calls, pick),
+            DiskSet::Receives(site) => site.rvg.shelf.fuse(calls, pick),
+            _ => {}
         }
     }
 
@@ -97,26 +105,34 @@ impl<R: Rack> DiskSet<R> {
                 rack.crash(pick);
                 DiskSet::Down(rack)
             }
+            DiskSet::Receives(site) => {
+                let mut rack = site.into_rvg().into_shelf();
+                rack.crash(pick);
+                DiskSet::Down(rack)
+            }
             other => other,
         }
     }
 
-    /// The number of the last write of a site that is up.
+    /// The number of the last write that is durable at a site that is up and runs.
     pub fn last(&self) -> u64
-        ensures { (beside : Beside) (n : Node) → StandsAt beside n self.now → n.state ≡ UpState → result ≡ n.safe }
+        ensures { (beside : Beside) (n : Node) → StandsAt beside n self.now → n.state ≡ UpState → n.halted ≡ None → result ≡ n.safe }
     {
         match self {
             DiskSet::Up(rvg) => rvg.head(),
+            DiskSet::Receives(site) => site.rvg.head(),
             _ => 0,
         }
     }
 
-    /// What the log of a site that is up keeps of it, where nothing is said of links.
+    /// What the log of a site that is up keeps of it; of its links only where contents are told.
     pub fn state(&self) -> Option<&State>
-        ensures { (beside : Beside) (n : Node) → StandsAt beside n self.now → n.state ≡ UpState → IfSome result (λ state. state.now ≡ state_with n state.now.links) × IsSome result }
+        ensures is { (beside : Beside) (n : Node) → StandsAt beside n self.now → n.state ≡ UpState → IfSome result (λ state. state.now ≡ state_with n state.now.links) × IsSome result }
+        ensures links { (beside : Beside) (n : Node) → StandsAt beside n self.now → n.state ≡ UpState → IsToldAt self.now → IfSome result (λ state. state.now.links ≡ beside.links) }
     {
         match self {
             DiskSet::Up(rvg) => Some(rvg.state()),
+            DiskSet::Receives(site) => Some(site.rvg.state()),
             _ => None,
         }
     }
@@ -127,6 +143,7 @@ impl<R: Rack> DiskSet<R> {
     {
         match self {
             DiskSet::Up(rvg) => rvg.session(),
+            DiskSet::Receives(site) => site.rvg.session(),
             _ => 0,
         }
     }

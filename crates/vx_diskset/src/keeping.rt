@@ -1,9 +1,11 @@
 // The header of the log of a site, with another state: its role, its mark, its links.
-ghost use Rattle.std.specs.Prelude.{◌≡◌, ℕ, IsFalse};
+ghost use Rattle.std.specs.Prelude.{◌≡◌, ℕ, IsFalse, List};
+ghost use Rattle.vx_model.specs.declared.call.Update.{Update};
 ghost use Rattle.vx_model.specs.declared.state.State.{State};
 ghost use Rattle.vx_history.specs.World.{Node};
 ghost use Rattle.vx_ringio.specs.Spends.{Spends};
 ghost use Rattle.vx_srlfmt.specs.Headers.{CanSpellState};
+ghost use Rattle.vx_secondary.specs.Receivers.{Wait};
 ghost use Rattle.vx_diskset.specs.Asked.{LeavesFuse};
 ghost use Rattle.vx_diskset.specs.Burning.{NoMore, OffIf};
 ghost use Rattle.vx_diskset.specs.DiskSets.{Later};
@@ -21,6 +23,7 @@ use vx_rvg::Rvg;
 fn keep_group<R: Rack>(rvg: &mut Rvg<R>, state: &State) -> Result<(), No>
     requires state { CanSpellState state.now }
     ensures kept { (beside : Beside) (n : Node) → StandsAt beside n (DiskSet.Up rvg.old) → CanKeep beside n state.now → KeptUp beside n state.now (DiskSet.Up rvg.old) (DiskSet.Up rvg.new) result }
+    ensures waiting { (us : List Update) → Wait rvg.old.core (R.meaning rvg.old.shelf).size us → Wait rvg.new.core (R.meaning rvg.new.shelf).size us }
     ensures spends { Spends (R.meaning rvg.old.shelf) (R.meaning rvg.new.shelf) }
     ensures off { IsFalse (R.meaning rvg.old.shelf).down → OffIf result (R.meaning rvg.new.shelf).down }
     ensures later { Later (DiskSet.Up rvg.old) (DiskSet.Up rvg.new) }
@@ -67,6 +70,7 @@ impl<R: Rack> DiskSet<R> {
     {
         match self {
             DiskSet::Up(rvg) => keep_group(rvg, state),
+            DiskSet::Receives(site) => keep_group(&mut site.rvg, state),
             DiskSet::Bare(_) | DiskSet::Spoiled(_) | DiskSet::Down(_) | DiskSet::Gone => Err(
                 No::Role,
             ),

@@ -5,6 +5,7 @@ mod disk_set;
 mod keeping;
 mod pumping;
 mod reading;
+mod receivers;
 mod room;
 mod starting;
 mod units;
@@ -12,4 +13,5 @@ mod writing;
 
 pub use disk_set::DiskSet;
 pub use reading::blocks_of;
+pub use receivers::Reached;
 pub use units::can_be_raw;

@@ -2,6 +2,7 @@
 ghost use Rattle.std.specs.Prelude.{◌≡◌, ◌≤◌, ◌+◌, ◌&&◌, ℕ, List, None, OnErr, Some, IsTrue, slice_get, true};
 ghost use Rattle.vx_courier.specs.UnderWay.{FlightStands};
 ghost use Rattle.vx_model.specs.declared.site.SiteState.TheVariants.{Up as UpState};
+ghost use Rattle.vx_model.specs.Sites.{is_origin};
 ghost use Rattle.vx_history.specs.Admission.{is_live};
 ghost use Rattle.vx_history.specs.KeptLinks.{kept_link};
 ghost use Rattle.vx_history.specs.LinkForms.{plain_link};
@@ -76,7 +77,7 @@ fn pump_group<R: Rack, N: Net>(
 }
 
 impl<R: Rack> DiskSet<R> {
-    /// Sends on a live link by the log what its receiver may lack, as the rule of links has it. `site` is the number of the site. It changes
+    /// Sends on a live link of an origin by the log what its receiver may lack, as the rule of links has it. `site` is the number of the site. It changes
     /// no disk. Where a write cannot be read nothing is sent, and the link stays as it was.
     ///
     /// It takes memory for what it sends, and answers so too where a generation is past those that packets carry. Refusals: 20 where the
@@ -88,7 +89,7 @@ impl<R: Rack> DiskSet<R> {
         site: u32,
         flight: &mut N,
     ) -> Result<(), Stop>
-        ensures pumped { (d : Doubted) (k : ℕ) → StandsAt (beside_of d site) (d.world.nodes site) self.old → (d.world.nodes site).state ≡ UpState → (d.world.nodes site).halted ≡ None → IsToldAt self.old
+        ensures pumped { (d : Doubted) (k : ℕ) → StandsAt (beside_of d site) (d.world.nodes site) self.old → is_origin (d.world.nodes site).role ≡ true → (d.world.nodes site).state ≡ UpState → (d.world.nodes site).halted ≡ None → IsToldAt self.old
             → slice_get (links_of d.world site) k ≡ Some (kept_link link.old.site (d.world.links site link.old.site)) → link.old ≡ plain_link link.old.site (d.world.links site link.old.site) → FlightStands d.world.packets (N.flying flight.old)
             → PumpedIs d.world site link.old.site link.new (N.flying flight.new) (faults_at self.old) (faults_at self.new) result }
         ensures stands { (beside : Beside) (n : Node) → StandsAt beside n self.old → StandsAt beside n self.new }
@@ -99,9 +100,11 @@ impl<R: Rack> DiskSet<R> {
     {
         match self {
             DiskSet::Up(rvg) => pump_group(alloc, rvg, link, site, flight),
-            DiskSet::Bare(_) | DiskSet::Spoiled(_) | DiskSet::Down(_) | DiskSet::Gone => Err(
-                Stop::No(No::Role),
-            ),
+            DiskSet::Bare(_)
+            | DiskSet::Spoiled(_)
+            | DiskSet::Receives(_)
+            | DiskSet::Down(_)
+            | DiskSet::Gone => Err(Stop::No(No::Role)),
         }
     }
 }

@@ -1,6 +1,7 @@
 // How a group is made on the disks of a site, and how it is started again.
-ghost use Rattle.std.specs.Prelude.{◌≡◌, ◌≤◌, ◌<◌, ◌*◌, ℕ, IfOk, IfErr, IsTrue, IsFalse, List};
+ghost use Rattle.std.specs.Prelude.{◌≡◌, ◌≤◌, ◌<◌, ◌*◌, ℕ, [], length, None, IfOk, IfErr, IsTrue, IsFalse, List};
 ghost use Rattle.vx_model.specs.Content.{zero_block};
+ghost use Rattle.vx_model.specs.Sites.{is_origin as is_origin_is};
 ghost use Rattle.vx_model.specs.Sizes.{ring_of};
 ghost use Rattle.vx_disk.specs.Causes.{DeviceCause};
 ghost use Rattle.vx_disk.specs.Shelf.{Goes, Keeps, Nothing};
@@ -22,6 +23,7 @@ use vx_model::limits::{LEAST_BLOCKS, LEAST_RAW_DISKS, LINK_PLACES, MOST_DISKS};
 use vx_model::{No, Role, State, Stop, map_blocks, ring_blocks};
 use vx_ringio::{TopSeen, read_top};
 use vx_rvg::{Rvg, StartRoom};
+use vx_secondary::{Secondary, Waiting};
 
 // Whether the last of so many disks has room for the maps of the volumes between.
 fn has_maps<R: Rack>(rack: &R) -> bool
@@ -138,10 +140,17 @@ fn start_bare<R: Rack>(rack: R, room: StartRoom) -> (DiskSet<R>, Result<(), No>)
     }
 }
 
+// Whether writes of a line arise at a site of this role.
+fn is_origin(role: &Role) -> bool
+    ensures { result ≡ is_origin_is role.now }
+{
+    matches!(role, Role::Primary | Role::Handing { to: _ })
+}
+
 impl<R: Rack> DiskSet<R> {
     ghost use Rattle.vx_model.specs.declared.site.SiteState.TheVariants.{Bare as BareState, Down as DownState};
     ghost use Rattle.vx_diskset.specs.DiskSets.{CameUpIs};
-    ghost use Rattle.vx_diskset.specs.Stands.{StandsAt};
+    ghost use Rattle.vx_diskset.specs.Stands.{IsToldAt, StandsAt};
 
     /// Makes a bare site's disks a raw set: disk 0 the log, the last disk the maps, and each disk between a volume.
     pub fn make_raw(self, alloc: Global, site: u32) -> (DiskSet<R>, Result<(), Stop>)
@@ -180,6 +189,56 @@ impl<R: Rack> DiskSet<R> {
                 }
             }
             other => (other, Err(No::Role)),
+        }
+    }
+
+    // A site whose group runs and has all its writes: by its role it receives, with this room for what waits, or not.
+    fn by_role(self, waiting: Waiting) -> DiskSet<R>
+        requires none { waiting ≡ [] }
+        ensures rises { (beside : Beside) (n : Node) → StandsAt beside n self → n.halted ≡ None → length n.log ≡ n.safe → StandsAt beside n result }
+        ensures told { IsToldAt result → IsToldAt self }
+        ensures failing { SameFailing self result }
+        ensures later { Later self result }
+    {
+        match self {
+            DiskSet::Up(rvg) => {
+                if is_origin(&rvg.state().role) {
+                    DiskSet::Up(rvg)
+                } else {
+                    DiskSet::Receives(Secondary::together(rvg, waiting))
+                }
+            }
+            other => other,
+        }
+    }
+
+    /// Starts what stands on the disks of a site that crashed, with room taken before, also for what waits where the site receives. Where
+    /// it is refused, the disks crash again.
+    pub fn recover_any(self, room: StartRoom, waiting: Waiting) -> (DiskSet<R>, Result<(), No>)
+        requires none { waiting ≡ [] }
+        ensures recovered { (beside : Beside) (n : Node) → StandsAt beside n self → n.state ≡ DownState → room.ring ≡ n.ring → CameUpIs beside n self result.0 result.1 }
+        ensures failing { SameFailing self result.0 }
+        ensures later { Later self result.0 }
+    {
+        let (disk_set, came) = self.recover(room);
+        match came {
+            Ok(()) => (disk_set.by_role(waiting), Ok(())),
+            Err(no) => (disk_set, Err(no)),
+        }
+    }
+
+    /// Starts what an earlier run left on the disks of a bare site, with room taken before, also for what waits where the site receives.
+    /// Where it is refused, the site stays bare.
+    pub fn recover_bare_any(self, room: StartRoom, waiting: Waiting) -> (DiskSet<R>, Result<(), No>)
+        requires none { waiting ≡ [] }
+        ensures found { (beside : Beside) (n : Node) → StandsAt beside n self → n.state ≡ BareState → CanBeRaw n.disks n.blocks → room.ring ≡ ring_of n.blocks → BareUpIs n self result.0 result.1 }
+        ensures failing { SameFailing self result.0 }
+        ensures later { Later self result.0 }
+    {
+        let (disk_set, came) = self.recover_bare(room);
+        match came {
+            Ok(()) => (disk_set.by_role(waiting), Ok(())),
+            Err(no) => (disk_set, Err(no)),
         }
     }
 

@@ -4,6 +4,8 @@ ghost use Rattle.vx_model.specs.Content.{blocks_in};
 ghost use Rattle.vx_model.specs.declared.limits.TheConstants.{MOST_CALL_BLOCKS, MOST_CALL_BYTES};
 ghost use Rattle.vx_diskset.specs.Holds.{Beside, alone};
 ghost use Rattle.vx_history.specs.World.{Node};
+ghost use Rattle.vx_model.specs.declared.call.Update.{Update};
+ghost use Rattle.vx_secondary.specs.Receivers.{Wait};
 ghost use Rattle.vx_ringio.specs.Spends.{Spends};
 ghost use Rattle.vx_disk.specs.Burns.{RackIsShort};
 ghost use Rattle.vx_model.specs.declared.no.No.TheVariants.{Down as IsOff};
@@ -11,9 +13,9 @@ ghost use Rattle.vx_events.specs.Fuses.{taken};
 ghost use Rattle.vx_srl.specs.Views.{BodyFits, free_of};
 ghost use Rattle.vx_diskset.specs.Asked.{LeavesFuse, WritesUnder};
 ghost use Rattle.vx_diskset.specs.Burning.{NoMore, IsLogged, OffIf, said_by};
-ghost use Rattle.vx_diskset.specs.DiskSets.{Later, CanWrite, WroteUp, is_off};
+ghost use Rattle.vx_diskset.specs.DiskSets.{Later, CanLog, CanWrite, LoggedUp, WroteUp, is_off};
 ghost use Rattle.vx_diskset.specs.Needs.{HasRoom, NoneNeeds};
-ghost use Rattle.vx_diskset.specs.Rooms.{AppliedAs, RoomIs};
+ghost use Rattle.vx_diskset.specs.Rooms.{AppliedAs, IsMore, RoomIs, count_of};
 ghost use Rattle.vx_diskset.specs.Stands.{IsUpAt, StandsAlone, StandsAt};
 
 use crate::DiskSet;
@@ -31,12 +33,14 @@ pub(crate) fn is_off(no: &No) -> bool
 }
 
 // Brings logged writes into their volumes. A shelf that is down behind it answers so.
-fn apply_group<R: Rack>(rvg: &mut Rvg<R>, to: u64) -> Result<u64, No>
+pub(crate) fn apply_group<R: Rack>(rvg: &mut Rvg<R>, to: u64) -> Result<u64, No>
     ensures applied { (beside : Beside) (n : Node) → IsUpAt beside n rvg.old.core (R.meaning rvg.old.shelf) → n.halted ≡ None
         → AppliedAs beside n to rvg.new.core (R.meaning rvg.old.shelf) (R.meaning rvg.new.shelf) result }
     ensures reached { IfOk result (λ number. rvg.new.core.applied ≡ number) }
     ensures log { OnOk result (rvg.new.core.log ≡ rvg.old.core.log) }
+    ensures waiting { (us : List Update) → Wait rvg.old.core (R.meaning rvg.old.shelf).size us → Wait rvg.new.core (R.meaning rvg.new.shelf).size us }
     ensures units { rvg.new.core.units ≡ rvg.old.core.units }
+    ensures group { IsMore 0 rvg.old.core rvg.new.core }
     ensures spends { Spends (R.meaning rvg.old.shelf) (R.meaning rvg.new.shelf) }
     ensures off { OffIf result (R.meaning rvg.new.shelf).down }
     ensures later { Later (DiskSet.Up rvg.old) (DiskSet.Up rvg.new) }
@@ -56,10 +60,13 @@ fn reclaim_group<R: Rack>(rvg: &mut Rvg<R>, to: u64) -> Result<(), No>
     ensures room { (beside : Beside) (n : Node) (count : ℕ) → IsUpAt beside n rvg.old.core (R.meaning rvg.old.shelf) → n.halted ≡ None → NoneNeeds beside.links to
         → free_of rvg.old.core.log ≤ MOST_CALL_BLOCKS → count + 1 + taken (drop to n.log) ≤ n.ring → OnOk result (count < free_of rvg.new.core.log) }
     ensures units { rvg.new.core.units ≡ rvg.old.core.units }
+    ensures group { IsMore 0 rvg.old.core rvg.new.core }
     ensures spends { Spends (R.meaning rvg.old.shelf) (R.meaning rvg.new.shelf) }
     ensures off { OffIf result (R.meaning rvg.new.shelf).down }
     ensures later { Later (DiskSet.Up rvg.old) (DiskSet.Up rvg.new) }
 {
+    // Numbers are above 0.
+    let _ring = rvg.ring();
     let answer = rvg.reclaim(to);
     if rvg.shelf.is_down() {
         return Err(No::Down);
@@ -74,6 +81,7 @@ fn make_room<R: Rack>(rvg: &mut Rvg<R>, count: u64, hold: u64) -> Result<(), No>
         → count ≤ MOST_CALL_BLOCKS → RoomIs beside n (R.meaning rvg.old.shelf) rvg.new.core (R.meaning rvg.new.shelf) result }
     ensures idle { count < free_of rvg.old.core.log → IfErr result (λ no. ⊥) × (rvg.new ≡ rvg.old) }
     ensures units { rvg.new.core.units ≡ rvg.old.core.units }
+    ensures group { IsMore 0 rvg.old.core rvg.new.core }
     ensures spends { Spends (R.meaning rvg.old.shelf) (R.meaning rvg.new.shelf) }
     ensures off { IsFalse (R.meaning rvg.old.shelf).down → OffIf result (R.meaning rvg.new.shelf).down }
     ensures later { Later (DiskSet.Up rvg.old) (DiskSet.Up rvg.new) }
@@ -92,7 +100,7 @@ fn make_room<R: Rack>(rvg: &mut Rvg<R>, count: u64, hold: u64) -> Result<(), No>
 }
 
 // Writes whole blocks to a volume of a group whose links need no number up to this one. A shelf that is down behind it answers so.
-fn write_group<R: Rack>(
+pub(crate) fn write_group<R: Rack>(
     rvg: &mut Rvg<R>,
     volume: u32,
     start: u64,
@@ -103,8 +111,11 @@ fn write_group<R: Rack>(
     requires some { 0 < length bytes.now }
     requires few { length bytes.now ≤ MOST_CALL_BYTES }
     requires whole { length bytes.now % 512 ≡ 0 }
-    ensures wrote { (beside : Beside) (n : Node) → StandsAt beside n (DiskSet.Up rvg.old) → CanWrite n volume start (blocks_in bytes.now) → HasRoom beside.links n hold (blocks_in bytes.now)
-        → WroteUp beside n (record { volume = volume; start = start; bytes = bytes.now }) (DiskSet.Up rvg.old) (DiskSet.Up rvg.new) result }
+    ensures wrote { (beside : Beside) (n : Node) → StandsAt beside n (DiskSet.Up rvg.old) → CanLog n volume start (blocks_in bytes.now) → HasRoom beside.links n hold (blocks_in bytes.now)
+        → LoggedUp beside n (record { volume = volume; start = start; bytes = bytes.now }) (DiskSet.Up rvg.old) (DiskSet.Up rvg.new) result }
+    ensures group { IsMore (count_of result) rvg.old.core rvg.new.core }
+    ensures spends { Spends (R.meaning rvg.old.shelf) (R.meaning rvg.new.shelf) }
+    ensures off { IsFalse (R.meaning rvg.old.shelf).down → OffIf result (R.meaning rvg.new.shelf).down }
     ensures called { (beside : Beside) (n : Node) → IsUpAt beside n rvg.old.core (R.meaning rvg.old.shelf) → LeavesFuse IsLogged (said_by result) (DiskSet.Up rvg.old) (DiskSet.Up rvg.new) }
     ensures cuts { IsFalse (R.meaning rvg.old.shelf).down → blocks_in bytes.now < free_of rvg.old.core.log → BodyFits rvg.old.core.log bytes.now → result ≡ Err IsOff → RackIsShort 4 (R.meaning rvg.old.shelf).disks }
     ensures later { Later (DiskSet.Up rvg.old) (DiskSet.Up rvg.new) }
@@ -116,6 +127,8 @@ fn write_group<R: Rack>(
         });
     }
     make_room(rvg, bytes.len() as u64 / 512, hold)?;
+    // Numbers are above 0.
+    let _ring = rvg.ring();
     let answer = rvg.write(volume, start, bytes, 0);
     if rvg.shelf.is_down() {
         return Err(No::Down);
@@ -201,14 +214,16 @@ impl<R: Rack> DiskSet<R> {
                     Err(No::Role)
                 }
             }
-            DiskSet::Bare(_) | DiskSet::Spoiled(_) | DiskSet::Down(_) | DiskSet::Gone => Err(
-                No::Role,
-            ),
+            DiskSet::Bare(_)
+            | DiskSet::Spoiled(_)
+            | DiskSet::Receives(_)
+            | DiskSet::Down(_)
+            | DiskSet::Gone => Err(No::Role),
         }
     }
 
-    /// Reads whole blocks of a data volume, by its number.
-    #[tactic(auto, using(crate::proofs::MakeGroup::up_volumes))]
+    /// Reads whole blocks of a data volume, by its number: the content after the writes that are durable.
+    #[tactic(auto, using(crate::proofs::MakeGroup::up_volumes, crate::proofs::Receiving::receiver_volumes))]
     pub fn read(&mut self, volume: u32, start: u64, into: &mut [u8]) -> Result<(), No>
         requires some { 0 < length into.old }
         requires few { length into.old ≤ MOST_CALL_BYTES }
@@ -222,6 +237,13 @@ impl<R: Rack> DiskSet<R> {
             DiskSet::Up(rvg) => {
                 if volume < rvg.volumes() {
                     rvg.read(volume, start, into)
+                } else {
+                    Err(No::Role)
+                }
+            }
+            DiskSet::Receives(site) => {
+                if volume < site.rvg.volumes() {
+                    site.rvg.read(volume, start, into)
                 } else {
                     Err(No::Role)
                 }
@@ -259,6 +281,7 @@ impl<R: Rack> DiskSet<R> {
     {
         match self {
             DiskSet::Up(rvg) => apply_group(rvg, to),
+            DiskSet::Receives(site) => apply_group(&mut site.rvg, to),
             DiskSet::Bare(_) | DiskSet::Spoiled(_) | DiskSet::Down(_) | DiskSet::Gone => Err(
                 No::Role,
             ),

@@ -1,14 +1,15 @@
 -- A write that no test refuses is let in by the links of its site.
 use Rattle.std.proofs.Common.{◌≡◌, ◌∙◌, ◌+◌, ◌≤◌, ℕ, List, [], ◌∷◌, length, zip, Bool, true, false, ap, sym, subst, refl, arith}
-use Rattle.std.specs.Prelude.{Option, Some, None, ◌&&◌, ◌*◌, nat_le, replicate, if◌then◌else◌, bytes_eq}
+use Rattle.std.specs.Prelude.{Option, Some, None, ◌&&◌, ◌*◌, ltb, nat_le, replicate, if◌then◌else◌, bytes_eq}
 use Rattle.std.proofs.lemmas.Bool.Decides.{nat_tests}
 use Rattle.vx_model.specs.Content.{blocks_in}
 use Rattle.vx_model.specs.Sites.{is_up}
 use Rattle.vx_model.specs.declared.no.No.TheVariants.{LinkDown}
 use Rattle.vx_model.specs.declared.site.SiteState.{SiteState}
-use Rattle.vx_history.specs.Admission.{Held, Link_is_down, Log_is_full, Log_stalls, Goes, is_down, first_down, first_full, held_by_room, or_else, unless_held, changes}
+use Rattle.vx_history.specs.Admission.{Held, Link_is_down, Log_is_full, Log_stalls, Goes, is_down, first_down, first_full, full_log_of, held_by_room, held_when_full, is_holding, or_else, unless_held, changes}
 use Rattle.vx_history.specs.Events.{admitted, linked_sites, plain_links, uses, used_above}
 use Rattle.vx_history.specs.LinkForms.{plain_link}
+use Rattle.vx_model.specs.declared.link.Link.{Link as PlainLink}
 use Rattle.vx_history.specs.World.{Node, Link, World}
 use Rattle.vx_history.specs.declared.admission.Change.{Change}
 use Rattle.vx_policy.specs.Verdicts.{refusal_if}
@@ -35,6 +36,15 @@ use Rattle.vx_events.proofs.Refused.{passes}
 use Rattle.vx_events.proofs.RefusedCalls.{Calling, calling, sized}
 use Rattle.vx_events.proofs.Testing.{found_data, blocks_filled}
 
+-- a link that needs nothing of the log is held by no room
+held_needed : (need room : ℕ) (l : PlainLink) (used : ℕ) → held_by_room need room l (if is_holding l then used else 0) ≡ held_by_room need room l used
+held_needed need room l used = by (is_holding l)
+  where
+    by : (b : Bool) → (if b && ltb room (need + (if b then used else 0)) then held_when_full (full_log_of l) l.site else None)
+        ≡ (if b && ltb room (need + used) then held_when_full (full_log_of l) l.site else None)
+    by true = refl
+    by false = refl
+
 module _ (sites : List SiteFacts) (n : Node) (row : ℕ → Link) where
   -- no link is down
   down_none : (ss : List ℕ) → down_link sites (link_facts n row ss) ≡ None → first_down (plain_links row ss) ≡ None
@@ -49,7 +59,9 @@ module _ (sites : List SiteFacts) (n : Node) (row : ℕ → Link) where
   -- none leaves too little room
   full_none : (need room : ℕ) (ss : List ℕ) → full_link sites need room (link_facts n row ss) ≡ None → first_full need room (zip (plain_links row ss) (uses n row ss)) ≡ None
   full_none need room [] e = refl
-  full_none need room (s ∷ ss) e = by (held_by_room need room (plain_link s (row s)) (used_above n s (row s))) (λ is. full_none need room ss is) e
+  full_none need room (s ∷ ss) e =
+      by (held_by_room need room (plain_link s (row s)) (used_above n s (row s))) (λ is. full_none need room ss is)
+      (subst (λ (h : Option Held). before (with_name (site_name sites s) (refusal_if h)) (full_link sites need room (link_facts n row ss)) ≡ None) (held_needed need room (plain_link s (row s)) (used_above n s (row s))) e)
     where
       by : (h : Option Held) → (full_link sites need room (link_facts n row ss) ≡ None → first_full need room (zip (plain_links row ss) (uses n row ss)) ≡ None) → before (with_name (site_name sites s) (refusal_if h)) (full_link sites need room (link_facts n row ss)) ≡ None
           → or_else h (first_full need room (zip (plain_links row ss) (uses n row ss))) ≡ None

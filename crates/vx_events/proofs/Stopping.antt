@@ -23,7 +23,7 @@ use Rattle.vx_events.proofs.Refused.{Named}
 use Rattle.vx_events.proofs.RefusedCalls.{WriteMay, write_may, put_may}
 use Rattle.vx_events.proofs.StoppingCuts.{cut_like}
 use Rattle.vx_events.specs.Doubts.{run_as}
-use Rattle.vx_events.specs.Ends.{Ends, AllDone, DiskFails, HeaderFails, FuseRunsOut, NoNumber, Finds, FindsNone, AppliesFound, place_of, LeavesOf, BegunOf, WritesAHeader}
+use Rattle.vx_events.specs.Ends.{Ends, AllDone, DiskFails, HeaderFails, FuseRunsOut, NoNumber, Finds, FindsLinks, FindsNone, AppliesFound, place_of, LeavesOf, BegunOf, WritesAHeader}
 use Rattle.vx_events.specs.Facts.{site_number, group_fact, group_by}
 use Rattle.vx_events.specs.Fails.{Fails}
 use Rattle.vx_events.specs.Lines.{LineStep, StepBy, EndsBy, IsRefused, is_of_links}
@@ -286,6 +286,7 @@ module _ (told : Type 0) (is_told : told) (d : Doubted) (files : Bool) (line : S
         stops = all_stop taken d before fails new (none ∙ sym (all_none s before at.0)) (left_like s line taken d (run_as taken d before) new leads);
       })
   ended fails said new (Finds untold c taken site mid n k is from same none says leads) = absurd (untold is_told)
+  ended fails said new (FindsLinks untold c taken site mid n k row is from same fits none says leads) = absurd (untold is_told)
   ended fails said new (FindsNone untold c taken site mid n why is from other none says leads) = absurd (untold is_told)
   ended fails said new (AppliesFound untold site to number is role least most none says leads) = absurd (untold is_told)
 

@@ -11,7 +11,8 @@ use Rattle.vx_history.specs.Doubts.{Doubted, halved}
 use Rattle.vx_history.specs.Headers.{headers_by}
 use Rattle.vx_history.specs.Step.{outcome_of}
 use Rattle.vx_history.specs.Steps.{raw_set, fused, worked_on}
-use Rattle.vx_history.specs.World.{Node, World, with_node}
+use Rattle.vx_history.specs.Sends.{with_links}
+use Rattle.vx_history.specs.World.{Link, Node, World, with_node}
 use Rattle.vx_history.specs.declared.event.Event.{Event}
 use Rattle.vx_history.specs.declared.event.Event.TheVariants.{Site as MakeSite, Raw as MakeRaw, Write as WriteAt, Read as ReadAt, Apply as ApplyAt, Crash as CrashAt, Recover as RecoverAt, Fault}
 use Rattle.vx_script.specs.declared.line.ScriptLine.{ScriptLine}
@@ -24,6 +25,7 @@ use Rattle.vx_events.specs.Found.{SameDisks}
 use Rattle.vx_history.specs.Stops.{IsFused}
 use Rattle.vx_events.specs.Lists.{Choice, events_of}
 use Rattle.vx_events.specs.LinkViews.{linked_view}
+use Rattle.vx_events.specs.LinksFit.{RowFits}
 use Rattle.vx_events.specs.Sayings.{Replies}
 use Rattle.vx_events.specs.Stamps.{most_stamp_at}
 use Rattle.vx_events.specs.declared.said.Said.{Said}
@@ -111,6 +113,10 @@ pub data Recovering (d : Doubted) (s : ℕ) (c : Choice) (taken : Bool) (mid : D
 abbrev pub found_up : Doubted → (site : ℕ) → Node → Doubted
 found_up d s k = record d { world = with_node d.world s k }
 
+-- the same with these links, which the header of its log keeps
+abbrev pub found_linked : Doubted → (site : ℕ) → Node → (row : ℕ → Link) → Doubted
+found_linked d s k row = record d { world = with_links (with_node d.world s k) s row }
+
 -- A line at site s that no test refuses. Of disks that tell no contents it is not known how many numbers are left, and a recovery finds
 -- any state, session and number of writes on them: it still changes its own site alone, which keeps its name, its disks and its volumes.
 pub data Ends (told : Type 0) (d : Doubted) (line : ScriptLine) (s : ℕ) (fails : Fails) (said : Said) (new : Doubted) : Type 0 where
@@ -134,6 +140,11 @@ pub data Ends (told : Type 0) (d : Doubted) (line : ScriptLine) (s : ℕ) (fails
   -- what stood on disks that tell no contents came up, or was refused
   Finds : (told → ⊥) → (c : Choice) (taken : Bool) (site : List ℕ) (mid : Doubted) (n k : Node) → line ≡ Recover site → Recovering d s c taken mid n
       → SameDisks n k → fails ≡ [] → said ≡ Recovered k.safe (linked_view (found_up mid s k).world s) → IsLeft s line taken d (found_up mid s k) new
+      → Ends told d line s fails said new
+  -- the same with the links that its header keeps
+  FindsLinks : (told → ⊥) → (c : Choice) (taken : Bool) (site : List ℕ) (mid : Doubted) (n k : Node) (row : ℕ → Link) → line ≡ Recover site
+      → Recovering d s c taken mid n → SameDisks n k → RowFits s mid.world.sites row → fails ≡ []
+      → said ≡ Recovered k.safe (linked_view (found_linked mid s k row).world s) → IsLeft s line taken d (found_linked mid s k row) new
       → Ends told d line s fails said new
   FindsNone : (told → ⊥) → (c : Choice) (taken : Bool) (site : List ℕ) (mid : Doubted) (n : Node) (why : No) → line ≡ Recover site
       → Recovering d s c taken mid n → IsNoDevice why → fails ≡ [] → said ≡ Refused why → IsLeft s line taken d mid new → Ends told d line s fails said new

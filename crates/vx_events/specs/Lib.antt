@@ -1,4 +1,5 @@
 pub mod Doubts
+pub mod Effects
 pub mod Ends
 pub mod Facts
 pub mod Failing
@@ -10,6 +11,7 @@ pub mod LinkEnds
 pub mod LinkLists
 pub mod LinkViews
 pub mod LinkedFacts
+pub mod LinksFit
 pub mod Lists
 pub mod Parts
 pub mod Plain

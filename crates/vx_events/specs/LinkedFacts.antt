@@ -1,5 +1,6 @@
 -- What the tests of a line see of the world with its links and its packets.
-use Rattle.std.specs.Prelude.{ℕ, Bool, List, [], ◌∷◌, length, Option}
+use Rattle.std.specs.Prelude.{ℕ, Bool, List, [], ◌∷◌, length, Option, if◌then◌else◌}
+use Rattle.vx_history.specs.Admission.{is_holding}
 use Rattle.vx_history.specs.Events.{linked_sites, used_above}
 use Rattle.vx_history.specs.LinkForms.{plain_link}
 use Rattle.vx_history.specs.World.{Node, Link, World}
@@ -14,9 +15,13 @@ use Rattle.vx_script.specs.declared.line.ScriptLine.{ScriptLine}
 use Rattle.vx_script.specs.declared.line.ScriptLine.TheVariants.{Deliver}
 use Rattle.vx_events.specs.Facts.{site_fact, values_from}
 
+-- the blocks of its site's log that a link needs: those of the numbers above its hold, where it needs any
+abbrev pub needed_by : Node → (s : ℕ) → Link → ℕ
+needed_by n s l = if is_holding (plain_link s l) then used_above n s l else 0
+
 -- a link to site s
 abbrev pub link_fact : Node → (s : ℕ) → Link → LinkFacts
-link_fact n s l = record { link = plain_link s l; used = used_above n s l }
+link_fact n s l = record { link = plain_link s l; used = needed_by n s l }
 
 abbrev pub link_facts : Node → (ℕ → Link) → List ℕ → List LinkFacts
 link_facts n row [] = []

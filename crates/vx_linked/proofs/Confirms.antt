@@ -78,12 +78,12 @@ said_then w p number e =
 
 -- ---- the links that hold a number back are those that hold it up
 
-both_ways : (a b : Bool) → (a ≡ true → b ≡ true) → (b ≡ true → a ≡ true) → a ≡ b
+pub both_ways : (a b : Bool) → (a ≡ true → b ≡ true) → (b ≡ true → a ≡ true) → a ≡ b
 both_ways true b f g = sym (f refl)
 both_ways false true f g = g refl
 both_ways false false f g = refl
 
-or_right : (a b : Bool) → b ≡ true → (a || b) ≡ true
+pub or_right : (a b : Bool) → b ≡ true → (a || b) ≡ true
 or_right true b e = refl
 or_right false b e = e
 
@@ -93,13 +93,13 @@ split zero (suc n) h = inr (omega arith)
 split (suc k) zero h = absurd (omega (arith, h))
 split (suc k) (suc n) h = ⊎_elim (λ (e : k ≡ n). inl (ap suc e)) (λ (less : k < n). inr (omega (arith, less))) (split k n (omega (arith, h)))
 
-below_at : (n : ℕ) (test : ℕ → Bool) (k : ℕ) → k < n → test k ≡ true → some_below n test ≡ true
+pub below_at : (n : ℕ) (test : ℕ → Bool) (k : ℕ) → k < n → test k ≡ true → some_below n test ≡ true
 below_at zero test k h e = absurd (omega (arith, h))
 below_at (suc n) test k h e =
     ⊎_elim (λ (is : k ≡ n). ap (λ (b : Bool). b || some_below n test) (subst (λ (j : ℕ). test j ≡ true) is e))
     (λ (less : k < n). or_right (test n) (some_below n test) (below_at n test k less e)) (split k n h)
 
-below_of : (n : ℕ) (test : ℕ → Bool) → some_below n test ≡ true → (k : ℕ) × (k < n) × (test k ≡ true)
+pub below_of : (n : ℕ) (test : ℕ → Bool) → some_below n test ≡ true → (k : ℕ) × (k < n) × (test k ≡ true)
 below_of zero test e = absurd (cc)
 below_of (suc n) test e = by (test n) refl (λ is. let r = below_of n test is in (r.0, omega (arith, r.1), r.2)) e
   where
@@ -115,11 +115,11 @@ picked_below row place (suc k) s e = by (is_in_place (row k).made place) (λ is.
     by true more is = let same : k ≡ s = some_same is in omega (arith, same)
     by false more is = omega (arith, more is)
 
-abbrev AllBelow : ℕ → List ℕ → Type 0
+abbrev pub AllBelow : ℕ → List ℕ → Type 0
 AllBelow n [] = Unit {0}
 AllBelow n (s ∷ ss) = (s < n) × AllBelow n ss
 
-all_below : (row : ℕ → Link) (sites place k : ℕ) → AllBelow sites (linked_sites row sites place k)
+pub all_below : (row : ℕ → Link) (sites place k : ℕ) → AllBelow sites (linked_sites row sites place k)
 all_below row sites place zero = tt
 all_below row sites place (suc k) = by (link_in_place row place sites) (λ s is. picked_below row place sites s is) (all_below row sites (place + 1) k)
   where
@@ -127,7 +127,7 @@ all_below row sites place (suc k) = by (link_in_place row place sites) (λ s is.
     by None there more = more
     by (Some s) there more = (there s refl, more)
 
-all_of : (a b : Bool) → (a && b) ≡ true → (a ≡ true) × (b ≡ true)
+pub all_of : (a b : Bool) → (a && b) ≡ true → (a ≡ true) × (b ≡ true)
 all_of true b e = (refl, e)
 all_of false b e = absurd (cc)
 

@@ -15,7 +15,7 @@ use Rattle.vx_order.specs.declared.facts.RvgFacts.{RvgFacts}
 use Rattle.vx_order.specs.declared.facts.SiteFacts.{SiteFacts}
 use Rattle.vx_events.specs.Facts.{group_by, group_fact, seat_of, site_number}
 use Rattle.vx_events.specs.LinkedFacts.{linked_fact, linked_facts}
-use Rattle.vx_events.proofs.LinkTesting.{seat_at, shown}
+use Rattle.vx_events.proofs.LinkTesting.{seat_at, shown, up_state}
 use Rattle.vx_linked.specs.Greetings.{Tells, greeter, greeter_of, hello_of, receives_on}
 use Rattle.vx_linked.proofs.Finding.{Tested, on_link, seat_named}
 
@@ -36,6 +36,10 @@ both false b e = absurd (cc)
 not_true : (b : Bool) → not b ≡ true → b ≡ false
 not_true true e = absurd (cc)
 not_true false e = refl
+
+runs_none : (h : Option ℕ) → is_running h ≡ true → h ≡ None
+runs_none None e = refl
+runs_none (Some disk) e = let no : false ≡ true = e in absurd (cc)
 
 module _ (w : World) (from to : List ℕ) (tested : Tested (linked_facts w) from to) where
   abbrev a : ℕ
@@ -58,23 +62,25 @@ module _ (w : World) (from to : List ℕ) (tested : Tested (linked_facts w) from
       ∙ ap (greeter_of (Some (group_fact here))) (group_shown there.state there)
       ∙ by_up (is_up there.state) (group_fact here) (group_fact there)
 
-  receives_there : greets here there ≡ true → is_origin there.role ≡ false
+  receives_there : greets here there ≡ true → (there.state ≡ Up) × (there.halted ≡ None) × (is_origin there.role ≡ false)
   receives_there e =
       let up = both (is_up there.state) _ e in
       let runs = both (is_running there.halted) _ up.1 in
-      not_true (is_origin there.role) (both (not (is_origin there.role)) (same_line there.line here.line) runs.1).0
+      (up_state there.state up.0, runs_none there.halted runs.0, not_true (is_origin there.role) (both (not (is_origin there.role)) (same_line there.line here.line) runs.1).0)
 
   -- the greeting that is sent is that of the world
   hello_is : (session stored : ℕ) → Tells there session stored → hello_of (if greets here there then Some (group_fact there) else None) b a session stored ≡ greeting_back w a b
   hello_is session stored tells = by (greets here there) receives_there
     where
-      by : (g : Bool) → (g ≡ true → is_origin there.role ≡ false) → hello_of (if g then Some (group_fact there) else None) b a session stored ≡ (if g then greeting b a there else [])
+      by : (g : Bool) → (g ≡ true → (there.state ≡ Up) × (there.halted ≡ None) × (is_origin there.role ≡ false)) → hello_of (if g then Some (group_fact there) else None) b a session stored ≡ (if g then greeting b a there else [])
       by false receives = refl
       by true receives =
-          let role = receives refl in
-          ap (λ (k : ℕ). packets_of b a there.line (Hello k (if is_origin there.role then there.safe else length there.log) stored)) (tells.session_is role)
+          let up = (receives refl).0 in
+          let runs = (receives refl).1 in
+          let role = (receives refl).2 in
+          ap (λ (k : ℕ). packets_of b a there.line (Hello k (if is_origin there.role then there.safe else length there.log) stored)) (tells.session_is up role)
           ∙ ap (λ (o : Bool). packets_of b a there.line (Hello there.session (if o then there.safe else length there.log) stored)) role
-          ∙ ap (λ (k : ℕ). packets_of b a there.line (Hello there.session (length there.log) k)) (tells.stored_is role)
+          ∙ ap (λ (k : ℕ). packets_of b a there.line (Hello there.session (length there.log) k)) (tells.stored_is up runs role)
 
   pub greeted : (session stored : ℕ) (r : Option RvgFacts) (f : Flying) → Tells there session stored → r ≡ greeter (linked_facts w) from to → FlightStands (w.packets ++ hello_of r b a session stored) f
       → FlightStands (w.packets ++ greeting_back w a b) f

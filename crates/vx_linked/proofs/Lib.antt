@@ -7,3 +7,5 @@ pub mod Links
 pub mod Moves
 pub mod Pumps
 pub mod Shown
+mod Loops
+pub mod LeastHolds

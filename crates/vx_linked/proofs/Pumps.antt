@@ -3,7 +3,7 @@ use Rattle.std.proofs.Common.{◌≡◌, ◌∙◌, ◌+◌, ℕ, List, false, a
 use Rattle.std.specs.Prelude.{max, min, not, ◌&&◌, ltb}
 use Rattle.vx_courier.specs.UnderWay.{FlightStands}
 use Rattle.vx_history.specs.Admission.{is_live}
-use Rattle.vx_history.specs.Events.{link_event, link_step, used_above}
+use Rattle.vx_history.specs.Events.{link_event, link_step}
 use Rattle.vx_history.specs.Headers.{is_refused}
 use Rattle.vx_history.specs.LinkForms.{plain_link, with_plain}
 use Rattle.vx_history.specs.Refusals.{Outcome, unless, when_live}
@@ -24,7 +24,7 @@ use Rattle.vx_order.specs.declared.facts.LinkFacts.{LinkFacts}
 use Rattle.vx_order.specs.declared.facts.SiteFacts.{SiteFacts}
 use Rattle.vx_script.specs.declared.line.ScriptLine.TheVariants.{Pump as PumpLine}
 use Rattle.vx_events.specs.Facts.{site_number}
-use Rattle.vx_events.specs.LinkedFacts.{linked_facts}
+use Rattle.vx_events.specs.LinkedFacts.{linked_facts, needed_by}
 use Rattle.vx_events.proofs.LinkAgreeing.{pump_agrees}
 use Rattle.vx_linked.specs.Tables.{IsFree, relinked}
 use Rattle.vx_linked.specs.Turns.{ComesTo, Relinked}
@@ -50,15 +50,15 @@ module _ (w : World) (from to : List ℕ) (free : IsFree (linked_facts w) (PumpL
   abbrev next_link : Link
   next_link = with_plain l (link_step w a b Pump).link
 
-  up_to_same : (low high : ℕ) → used_above n b (with_plain l (pumped_up_to (plain_link b l) low high).link) ≡ used_above n b l
+  up_to_same : (low high : ℕ) → needed_by n b (with_plain l (pumped_up_to (plain_link b l) low high).link) ≡ needed_by n b l
   up_to_same low high =
-      by_test (λ (t : Sent). used_above n b (with_plain l t.link) ≡ used_above n b l) (ltb low high)
+      by_test (λ (t : Sent). needed_by n b (with_plain l t.link) ≡ needed_by n b l) (ltb low high)
       (let t : Sent = record { link = record (plain_link b l) { sent = high }; action = Updates (low + 1) high } in t) (with_nothing (record (plain_link b l) { sent = low })) (λ more. refl) (λ none. refl)
 
   -- its hold is that of before
-  used_same : used_above n b next_link ≡ used_above n b l
+  used_same : needed_by n b next_link ≡ needed_by n b l
   used_same =
-      by_test (λ (t : Sent). used_above n b (with_plain l t.link) ≡ used_above n b l) (is_live (plain_link b l) && by_log l.mode)
+      by_test (λ (t : Sent). needed_by n b (with_plain l t.link) ≡ needed_by n b l) (is_live (plain_link b l) && by_log l.mode)
       (pumped_up_to (plain_link b l) (max l.sent l.stored) (min n.safe (l.net + MOST_AHEAD))) (with_nothing (plain_link b l))
       (λ live. up_to_same (max l.sent l.stored) (min n.safe (l.net + MOST_AHEAD))) (λ dead. refl)
 
@@ -85,7 +85,7 @@ module _ (w : World) (from to : List ℕ) (free : IsFree (linked_facts w) (PumpL
       let facts : new ≡ linked_facts (link_event w a b Pump)
       = t.new_is
       ∙ ap (λ (x : LinkFacts). relinked (linked_facts w) t.at.here t.at.site t.at.place (record x { link = k })) (link_there w from to t.at up)
-      ∙ ap (λ (j : PlainLink). relinked (linked_facts w) t.at.here t.at.site t.at.place (let x : LinkFacts = record { link = j; used = used_above n b l } in x)) plain
+      ∙ ap (λ (j : PlainLink). relinked (linked_facts w) t.at.here t.at.site t.at.place (let x : LinkFacts = record { link = j; used = needed_by n b l } in x)) plain
       ∙ ap (λ (u : ℕ). relinked (linked_facts w) t.at.here t.at.site t.at.place (let x : LinkFacts = record { link = plain_link b next_link; used = u } in x)) (sym used_same)
       ∙ relinked_is w from to t.at up next_link refl in
       comes w (PumpAt a b) new f (done (link_event w a b Pump)) outcome_is refl facts flight

@@ -21,7 +21,9 @@ use Rattle.vx_events.proofs.Refused.{found_at}
 use Rattle.vx_events.proofs.Values.{length-values_from, slice_get-values_from}
 use Rattle.vx_linked.specs.Tables.{Found, HasPlace, Put, fact_between, leads_to, link_of, place_to, relinked, site_relinked}
 use Rattle.vx_linked.specs.Turns.{IsLinkOf}
-use Rattle.vx_linked.proofs.Links.{apart, link_facts_set, made_same, sites_same, updated_other}
+use Rattle.vx_effects.proofs.Fitting.{updated_other}
+use Rattle.vx_effects.proofs.Rows.{apart, made_same, sites_same}
+use Rattle.vx_linked.proofs.Links.{link_facts_set}
 
 place_by : (b : Bool) (n i : ℕ) → cond b (Some n) None ≡ Some i → n ≡ i
 place_by true n i e = some_same e

@@ -5,6 +5,7 @@ use Rattle.vx_history.specs.Sends.{packets_of}
 use Rattle.vx_history.specs.World.{Hello, Node, Packet}
 use Rattle.vx_model.specs.Sites.{is_origin, same_line}
 use Rattle.vx_model.specs.declared.history.Line.{Line}
+use Rattle.vx_model.specs.declared.site.SiteState.TheVariants.{Up}
 use Rattle.vx_net.specs.Flights.{Flying, greatest}
 use Rattle.vx_order.specs.declared.facts.RvgFacts.{RvgFacts}
 use Rattle.vx_order.specs.declared.facts.SiteFacts.{SiteFacts}
@@ -29,10 +30,10 @@ abbrev pub hello_of : Option RvgFacts → (source target session stored : ℕ) �
 hello_of None source target session stored = []
 hello_of (Some r) source target session stored = packets_of source target r.line (Hello session r.last stored)
 
--- the session of a site that receives, and how many writes a crash there keeps
+-- the session of a site that is up and receives, and, where it runs, how many writes a crash there keeps
 pub record Tells (n : Node) (session stored : ℕ) : Type 0 where
-  pub session_is : is_origin n.role ≡ false → session ≡ n.session
-  pub stored_is : is_origin n.role ≡ false → stored ≡ n.safe
+  pub session_is : n.state ≡ Up → is_origin n.role ≡ false → session ≡ n.session
+  pub stored_is : n.state ≡ Up → n.halted ≡ None → is_origin n.role ≡ false → stored ≡ n.safe
 
 -- a packet can carry the greeting, and a number is left for it
 pub record CanGreet (f : Flying) (session stored : ℕ) (r : RvgFacts) : Type 0 where

@@ -4,3 +4,4 @@ pub mod Greetings
 pub mod Waits
 pub mod Disks
 pub mod Hearings
+pub mod Holds

@@ -8,11 +8,14 @@
 mod connecting;
 mod cutting;
 mod greeting;
+mod growing;
 mod hearing;
+mod holding;
 mod keeping;
 pub mod laws;
 mod pausing;
 mod pumped;
+mod restarting;
 mod resuming;
 mod seats;
 mod ticking;
@@ -21,10 +24,13 @@ mod waiting;
 
 pub use connecting::connect;
 pub use cutting::cut;
+pub use growing::{is_past_count, note_links};
 pub use hearing::{hearing_link, keep_heard};
+pub use holding::{awaits_write, hold_of_site};
 pub use keeping::{link_between, put_link};
 pub use pausing::pause;
 pub use pumped::{keep_pumped, link_named};
+pub use restarting::{are_fine, restart_links};
 pub use resuming::resume;
 pub use ticking::tick;
 pub use waiting::wait;

@@ -13,7 +13,7 @@ use Rattle.vx_events.proofs.Refused.{disk_may, fuse_may, crash_may}
 use Rattle.vx_diskset.specs.Asked.{SetsDisk, SetsFuse, CrashesBy, units_in}
 use Rattle.vx_node.specs.OfSites.{OfSite}
 use Rattle.vx_diskset.specs.declared.disk_set.DiskSet.{DiskSet}
-use Rattle.vx_diskset.specs.declared.disk_set.DiskSet.TheVariants.{Bare, Spoiled, Up, Down, Gone}
+use Rattle.vx_diskset.specs.declared.disk_set.DiskSet.TheVariants.{Bare, Spoiled, Up, Receives, Down, Gone}
 use Rattle.vx_node.specs.declared.yard.Yard.{Yard}
 use Rattle.vx_diskset.specs.Stands.{StandsAlone}
 use Rattle.vx_node.specs.Working.{IsFree}
@@ -26,6 +26,7 @@ module _ {R : Type 0} {g : Ghosts R} where
   units_are n (Bare rack) h = h.bare.fitted.units
   units_are n (Spoiled rack) h = h.fitted.units
   units_are n (Up rvg) h = h.lies.units
+  units_are n (Receives s) h = h.lies.units
   units_are n (Down rack) h = h.lies.units
   units_are n Gone h = absurd h
 

@@ -48,7 +48,7 @@ halted_as IsUp n disk = refl
 halted_as Deported n disk = refl
 halted_as IsDown n disk = refl
 
-stopped_fact : (n : Node) (disk : ℕ) → halted_facts disk (site_fact n) ≡ site_fact (halted_at n disk)
+pub stopped_fact : (n : Node) (disk : ℕ) → halted_facts disk (site_fact n) ≡ site_fact (halted_at n disk)
 stopped_fact n disk = ap (λ r. let f : SiteFacts = record (site_fact n) { rvg = r } in f) (halted_as n.state n disk)
 
 fuse_as : (state : SiteState) (n : Node) (f : Fuse) → group_by state (record n { fuse = f }) ≡ group_by state n

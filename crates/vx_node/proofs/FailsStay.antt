@@ -30,7 +30,7 @@ use Rattle.vx_diskset.specs.Stands.{StandsAlone}
 use Rattle.vx_node.specs.Yards.{YardAgrees}
 use Rattle.vx_node.specs.Works.{Works, FailsAt, Crashes, Fetches, Puts, IsPut, NoNumber, PutFails, PutCut, Begins, CrashesFirst, IsDown as DownBefore, Recovers, ComesUp, StaysDown, NoSession, FindsUp, FindsNone, IsBareStill, BareFails, BareUp, BareNone, Applies, IsApplied, ApplyFails, ApplyCut}
 use Rattle.vx_diskset.specs.declared.disk_set.DiskSet.{DiskSet}
-use Rattle.vx_diskset.specs.declared.disk_set.DiskSet.TheVariants.{Bare, Spoiled, Up, Down, Gone}
+use Rattle.vx_diskset.specs.declared.disk_set.DiskSet.TheVariants.{Bare, Spoiled, Up, Receives, Down, Gone}
 use Rattle.vx_node.specs.declared.yard.Yard.{Yard}
 use Rattle.vx_events.proofs.Places.{some_same}
 use Rattle.vx_events.specs.Lines.{write_in}
@@ -134,7 +134,7 @@ fails_on (Some o) (Some n) f f' is told same d there u on =
     ap (λ (x : Disks). x.failing u) (sym here) ∙ same u ∙ told o refl u (ap (λ (h : ℕ → Bool). h u) (sym is) ∙ on)
 
 -- so many calls of this disk fail, or no longer
-set_on : (disk : ℕ) (on : Bool) (o n : Option Disks) (f : ℕ → Bool) → ((d : Disks) → o ≡ Some d → (u : ℕ) → f u ≡ true → d.failing u ≡ true)
+pub set_on : (disk : ℕ) (on : Bool) (o n : Option Disks) (f : ℕ → Bool) → ((d : Disks) → o ≡ Some d → (u : ℕ) → f u ≡ true → d.failing u ≡ true)
     → WithDisks o n (λ x y. Untouched x y × (y.failing disk ≡ on) × ((u : ℕ) → u ≢ disk → y.failing u ≡ x.failing u)) → (d : Disks) → n ≡ Some d → (u : ℕ) → updated f disk on u ≡ true → d.failing u ≡ true
 set_on disk on None None f told sets d there u fails = absurd (cc)
 set_on disk on None (Some n) f told sets d there u fails = absurd sets
@@ -151,7 +151,7 @@ works_by (Some o) None size d number is on = absurd on
 works_by (Some o) (Some n) size d number is on = let same : o ≡ d = cc in ap (λ (x : Disks). x.failing 0) (sym same) ∙ on.0.1.works
 
 module _ {R : Type 0} {g : Ghosts R} where
-  fails_then : (n m : Node) (e after : DiskSet R g) → m.failing ≡ n.failing → SameFailing e after → FailsAs n e → FailsAs m after
+  pub fails_then : (n m : Node) (e after : DiskSet R g) → m.failing ≡ n.failing → SameFailing e after → FailsAs n e → FailsAs m after
   fails_then n m e after is same fails = record { told = λ d there u on. fails_on (disks_in e) (disks_in after) n.failing m.failing is fails.told same.told d there u on }
 
   -- a site whose disk set did so is one of those of the yard
@@ -219,10 +219,10 @@ module _ {R : Type 0} {g : Ghosts R} where
       ap (λ (x : World). (x.nodes s).failing) is ∙ ap (λ (n : Node). n.failing) (apart_place w.nodes site (let n = w.nodes site in record n { failing = updated n.failing disk on }) s apart) in
       fails_then (w.nodes s) (v.nodes s) e e same (failing_same e) (ties s e (omega (arith, less, ap (λ (x : World). x.sites) is)) was))
 
-  fuse_keeps : (calls pick : ℕ) (a b : DiskSet R g) → SetsFuse calls pick a b → SameFailing a b
+  pub fuse_keeps : (calls pick : ℕ) (a b : DiskSet R g) → SetsFuse calls pick a b → SameFailing a b
   fuse_keeps calls pick a b did = record { told = same_on (λ o n. SameBlocks o n × (n.fuse ≡ Some (calls, pick))) (disks_in a) (disks_in b) did }
 
-  crash_keeps : (pick : ℕ) (a b : DiskSet R g) → CrashesBy pick a b → SameFailing a b
+  pub crash_keeps : (pick : ℕ) (a b : DiskSet R g) → CrashesBy pick a b → SameFailing a b
   crash_keeps pick a b did = record { told = same_on (Crashed (size_in a) pick) (disks_in a) (disks_in b) did }
 
   pub alone_keeps : (a b : DiskSet R g) → LeavesAlone a b → SameFailing a b
@@ -271,6 +271,7 @@ module _ {R : Type 0} {g : Ghosts R} where
   told_disks racks n (Bare rack) h = ((racks rack).told, (racks rack).is)
   told_disks racks n (Spoiled rack) h = ((racks rack).told, (racks rack).is)
   told_disks racks n (Up rvg) h = ((racks rvg.shelf).told, (racks rvg.shelf).is)
+  told_disks racks n (Receives s) h = ((racks s.rvg.shelf).told, (racks s.rvg.shelf).is)
   told_disks racks n (Down rack) h = ((racks rack).told, (racks rack).is)
   told_disks racks n Gone h = absurd h
 

@@ -9,11 +9,11 @@ use Rattle.vx_order.specs.declared.facts.SiteFacts.{SiteFacts}
 use Rattle.vx_script.specs.declared.line.ScriptLine.TheVariants.{Fuse}
 use Rattle.vx_rvg.specs.declared.group.Rvg.{Rvg}
 use Rattle.vx_diskset.specs.declared.disk_set.DiskSet.{DiskSet}
-use Rattle.vx_diskset.specs.declared.disk_set.DiskSet.TheVariants.{Bare, Spoiled, Up, Down, Gone}
+use Rattle.vx_diskset.specs.declared.disk_set.DiskSet.TheVariants.{Bare, Spoiled, Up, Receives, Down, Gone}
 use Rattle.vx_events.specs.declared.said.Said.TheVariants.{Done}
 use Rattle.vx_node.specs.declared.yard.Yard.{Yard}
 use Rattle.vx_diskset.specs.DiskSets.{Later}
-use Rattle.vx_events.specs.Facts.{seat_of}
+use Rattle.vx_events.specs.Facts.{seat_of, site_number}
 use Rattle.vx_diskset.specs.Stands.{StandsAlone}
 use Rattle.vx_node.specs.Works.{Cleanly}
 use Rattle.vx_node.specs.Working.{Worked, IsFree}
@@ -21,16 +21,27 @@ use Rattle.vx_node.specs.Yards.{YardAgrees, in_files}
 use Rattle.vx_node.proofs.CrashLine.{stands_same, rose_still, fuse_fact}
 use Rattle.vx_events.proofs.Refused.{fuse_may}
 use Rattle.vx_node.proofs.Seats.{seated, named_fact}
+use Rattle.std.proofs.Common.{arith}
+use Rattle.std.specs.Prelude.{Option}
+use Rattle.vx_history.proofs.Updates.{at_place}
+use Rattle.vx_history.specs.Doubts.{Doubted}
+use Rattle.vx_history.specs.World.{with_node}
+use Rattle.vx_disk.specs.Disks.{SameBlocks}
+use Rattle.vx_diskset.specs.Asked.{SetsFuse}
+use Rattle.vx_diskset.specs.Fuses.{HasLeft}
+use Rattle.vx_diskset.specs.Holds.{Beside, beside_of}
+use Rattle.vx_diskset.specs.Stands.{StandsAt}
+use Rattle.vx_node.specs.OfSites.{OfSite}
+use Rattle.vx_node.specs.Standing.{Leads, StandsFor}
+use Rattle.vx_node.specs.Yards.{IsTold}
+use Rattle.vx_node.proofs.FailsStay.{fails_then, fuse_keeps}
+use Rattle.vx_node.proofs.FuseStays.{fused_on}
+use Rattle.vx_node.proofs.NamedSite.{asks_at, fact_named, site_at}
+use Rattle.vx_node.proofs.NoteSite.{comes_one, none_left, with_one}
+use Rattle.vx_node.proofs.OneSite.{Changed, stands_still}
+use Rattle.vx_node.proofs.Rows.{fact_like, fact_same}
 
 module _ {R : Type 0} {g : Ghosts R} where
-  -- a site that is up has a group
-  pub never_up : (n : Node) (e : DiskSet R g) → StandsAlone n e → n.state ≡ IsUp → ((rvg : Rvg R g) → e ≡ Up rvg → ⊥) → ⊥
-  never_up n (Bare rack) h up none = let e : IsBare ≡ IsUp = sym (ap (λ (x : Node). x.state) h.bare.is) ∙ up in absurd (cc)
-  never_up n (Spoiled rack) h up none = let e : IsBare ≡ IsUp = sym (ap (λ (x : Node). x.state) h.is) ∙ up in absurd (cc)
-  never_up n (Up rvg) h up none = none rvg refl
-  never_up n (Down rack) h up none = let e : IsDown ≡ IsUp = sym h.state ∙ up in absurd (cc)
-  never_up n Gone h up none = h
-
   -- the line that sets it
   pub fuse_done : (w : World) (old new : Yard R g) (name : List ℕ) (calls pick s : ℕ) (before after : DiskSet R g) → YardAgrees w old → IsFree old (Fuse name calls pick)
       → seat_of old.facts.items name ≡ Some s → slice_get old.disk_sets.items s ≡ Some before → Later before after
@@ -50,3 +61,48 @@ module _ {R : Type 0} {g : Ghosts R} where
             (fuse_fact (w.nodes s) (FuseSet calls)) refl (ap (λ fs. fs.items) facts) disk_sets racks;
         rose = rose_still old new s before after there later disk_sets;
       }
+
+  -- the site of such a line is up
+  pub fuse_up : (d : Doubted) (old : Yard R g) (name : List ℕ) (calls pick s : ℕ) → StandsFor d old → IsFree old (Fuse name calls pick) → seat_of old.facts.items name ≡ Some s → (d.world.nodes s).state ≡ IsUp
+  fuse_up d old name calls pick s stands free seat =
+      let may = fuse_may old.facts.items (in_files old) name calls pick free in
+      ap (λ (f : SiteFacts). f.state) (sym (fact_named d old name s (site_at d old name s stands seat) seat may.0)) ∙ may.1
+
+  pub fuse_leads : (d : Doubted) (old new : Yard R g) (name : List ℕ) (calls pick s : ℕ) (before after : DiskSet R g) → StandsFor d old → IsFree old (Fuse name calls pick) → seat_of old.facts.items name ≡ Some s
+      → Changed old new s before after → ((beside : Beside) (n : Node) → StandsAt beside n before → n.state ≡ IsUp → StandsAt beside (record n { fuse = FuseSet calls }) after)
+      → ((beside : Beside) (n : Node) → StandsAt beside n before → n.state ≡ IsUp → SetsFuse calls pick before after)
+      → new.facts ≡ old.facts → Leads d (Fuse name calls pick) Done old new
+  fuse_leads d old new name calls pick s before after stands free is changed fuses asked facts =
+      let seat = site_at d old name s stands is in
+      let m : Node = d.world.nodes s in
+      let n : Node = record m { fuse = FuseSet calls } in
+      let there = stands.disk_sets.sites s before seat.below changed.there in
+      let up : m.state ≡ IsUp = fuse_up d old name calls pick s stands free is in
+      let sets = asked (beside_of d s) m there up in
+      record {
+        next = with_one d s n;
+        fails = [];
+        done = record {
+          ends = none_left (IsTold new) d (Fuse name calls pick) (site_number d.world name) Done (with_node d.world s n) refl refl (ap (λ (k : ℕ). fused d.world k calls) (sym seat.number));
+          counts = tt;
+          works = tt;
+          calls = tt;
+        };
+        sent = refl;
+        stands = stands_still d (with_one d s n) old new s before after stands seat.below changed
+            (comes_one d s n after refl refl refl refl stands.links refl refl refl (fuses (beside_of d s) m there up)
+            (fails_then m n before after refl (fuse_keeps calls pick before after sets) (stands.failing s before seat.below changed.there))
+            (fused_on (λ o x. SameBlocks o x × (x.fuse ≡ Some (calls, pick))) m n (FuseSet calls) before after refl
+            (λ x y set left. subst (λ (z : Option (ℕ × ℕ)). HasLeft calls z) (sym set.1) (omega arith)) sets (stands.fuses s before seat.below changed.there)))
+            (fact_same n ((with_one d s n).world.nodes s) (d.world.links s) (d.world.links s) d.world.sites d.world.sites (at_place d.world.nodes s n) (λ k. refl) refl
+            ∙ fact_like m n (d.world.links s) d.world.sites (fuse_fact m (FuseSet calls)) (λ k l. refl))
+            (ap (λ fs. fs.items) facts);
+        rose = rose_still old new s before after changed.there changed.later changed.disk_sets;
+      }
+
+  pub fuse_asks : (d : Doubted) (old new : Yard R g) (name : List ℕ) (calls pick s : ℕ) (before after : DiskSet R g) → StandsFor d old → IsFree old (Fuse name calls pick) → seat_of old.facts.items name ≡ Some s
+      → Changed old new s before after → ((beside : Beside) (n : Node) → StandsAt beside n before → n.state ≡ IsUp → SetsFuse calls pick before after) → OfSite (SetsFuse calls pick) (site_number d.world name) old new
+  fuse_asks d old new name calls pick s before after stands free is changed asked =
+      let seat = site_at d old name s stands is in
+      asks_at (SetsFuse calls pick) d old new name s before after stands is changed.there changed.disk_sets
+      (asked (beside_of d s) (d.world.nodes s) (stands.disk_sets.sites s before seat.below changed.there) (fuse_up d old name calls pick s stands free is))

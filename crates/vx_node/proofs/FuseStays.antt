@@ -41,7 +41,7 @@ use Rattle.vx_node.specs.Working.{WorkIs}
 use Rattle.vx_node.specs.Works.{Works, FailsAt, Crashes, Fetches, Puts, IsPut, NoNumber, PutFails, PutCut, Begins, CrashesFirst, IsDown as DownBefore, Recovers, ComesUp, StaysDown, NoSession, FindsUp, FindsNone, IsBareStill, BareFails, BareUp, BareNone, Applies, IsApplied, ApplyFails, ApplyCut}
 use Rattle.vx_node.specs.Yards.{YardAgrees}
 use Rattle.vx_diskset.specs.declared.disk_set.DiskSet.{DiskSet}
-use Rattle.vx_diskset.specs.declared.disk_set.DiskSet.TheVariants.{Bare, Spoiled, Up, Down, Gone}
+use Rattle.vx_diskset.specs.declared.disk_set.DiskSet.TheVariants.{Bare, Spoiled, Up, Receives, Down, Gone}
 use Rattle.vx_node.specs.declared.yard.Yard.{Yard}
 use Rattle.vx_node.proofs.Alike.{apart_place}
 use Rattle.vx_node.proofs.FailsStay.{told_disks}
@@ -69,7 +69,7 @@ no_more_left : (most : ℕ) (x y : Option (ℕ × ℕ)) → Loses 0 x y → HasL
 no_more_left most None y loses h = absurd h
 no_more_left most (Some f) y loses h = subst (λ (z : Option (ℕ × ℕ)). HasLeft most z) (sym loses.2) (omega (arith, loses.1, h))
 
-left_passed : (f : FuseOf) (x y : Option (ℕ × ℕ)) → Loses 0 x y → LeftAs f x → LeftAs (burned f) y
+pub left_passed : (f : FuseOf) (x y : Option (ℕ × ℕ)) → Loses 0 x y → LeftAs f x → LeftAs (burned f) y
 left_passed NoFuse x y loses h = tt
 left_passed (FuseSet calls) x y loses h = no_more_left calls x y loses h
 left_passed (FuseLit most) x y loses h = no_more_left most x y loses h
@@ -95,6 +95,15 @@ may_on : (P : Disks → Disks → Type 0) (k : ℕ) (o n : Option Disks) (f : Fu
 may_on P k None n f d at step on left = absurd (cc)
 may_on P k (Some o) None f d at step on left = absurd on
 may_on P k (Some o) (Some n) f d at step on left = may_pass k f o.fuse n.fuse (step o n on.0) (subst (λ (x : Disks). LeftAs f x.fuse) (sym (some_same at)) left)
+
+-- a disk that was made to fail, or no longer, leaves the fuse
+set_left : (disk : ℕ) (on : Bool) (o n : Option Disks) (f : FuseOf) → WithDisks o n (λ x y. Untouched x y × (y.failing disk ≡ on) × ((u : ℕ) → (u ≡ disk → ⊥) → y.failing u ≡ x.failing u)) → ((d : Disks) → o ≡ Some d → LeftAs f d.fuse)
+    → (d : Disks) → n ≡ Some d → LeftAs f d.fuse
+set_left disk on None None f sets was d at = absurd (cc)
+set_left disk on None (Some n) f sets was d at = absurd sets
+set_left disk on (Some o) None f sets was d at = absurd sets
+set_left disk on (Some o) (Some n) f sets was d at =
+    subst (λ (x : Disks). LeftAs f x.fuse) (some_same at) (subst (λ (z : Option (ℕ × ℕ)). LeftAs f z) (sym sets.0.fuse) (was o refl))
 
 -- ---- what a line leaves of the fuses that the world knows of
 
@@ -166,26 +175,31 @@ fetched w site volume start count fails said new (inr only) = only.fails_at.lead
 -- ---- what calls leave of the fuse of their site
 
 -- a line that a failing disk ended, or want of a number, and one that is done
-device_by : (P : Disks → Disks → Type 0) (size : ℕ → ℕ) (said : Said) (disk : ℕ) (o n : Disks) → said ≡ Refused (Device disk) → Burnt P said size o n → Passed o n
+pub device_by : (P : Disks → Disks → Type 0) (size : ℕ → ℕ) (said : Said) (disk : ℕ) (o n : Disks) → said ≡ Refused (Device disk) → Burnt P said size o n → Passed o n
 device_by P size said disk o n is burnt = subst (λ (t : Said). Burnt P t size o n) is burnt
 
 limit_by : (P : Disks → Disks → Type 0) (size : ℕ → ℕ) (said : Said) (o n : Disks) → said ≡ Refused (Limit Number MOST_NUMBER) → Burnt P said size o n → Passed o n
 limit_by P size said o n is burnt = subst (λ (t : Said). Burnt P t size o n) is burnt
 
-done_by : (P : Disks → Disks → Type 0) (size : ℕ → ℕ) (said : Said) (number : ℕ) (o n : Disks) → said ≡ DoneAt number → Burnt P said size o n → Passed o n × P o n
+pub done_by : (P : Disks → Disks → Type 0) (size : ℕ → ℕ) (said : Said) (number : ℕ) (o n : Disks) → said ≡ DoneAt number → Burnt P said size o n → Passed o n × P o n
 done_by P size said number o n is burnt = subst (λ (t : Said). Burnt P t size o n) is burnt
 
 module _ {R : Type 0} {g : Ghosts R} where
   abbrev pub Lit : World → Yard R g → Type 0
   Lit w y = (s : ℕ) (e : DiskSet R g) → s < w.sites → slice_get y.disk_sets.items s ≡ Some e → FusedAs (w.nodes s) e
 
-  fused_same : (n m : Node) (e : DiskSet R g) → m.fuse ≡ n.fuse → FusedAs n e → FusedAs m e
+  pub fused_same : (n m : Node) (e : DiskSet R g) → m.fuse ≡ n.fuse → FusedAs n e → FusedAs m e
   fused_same n m e same h = record { told = λ d at. subst (λ (f : FuseOf). LeftAs f d.fuse) (sym same) (h.told d at) }
 
-  fused_none : (n : Node) (e : DiskSet R g) → n.fuse ≡ NoFuse → FusedAs n e
+  pub fused_none : (n : Node) (e : DiskSet R g) → n.fuse ≡ NoFuse → FusedAs n e
   fused_none n e none = record { told = λ d at. subst (λ (f : FuseOf). LeftAs f d.fuse) (sym none) tt }
 
-  fused_on : (P : Disks → Disks → Type 0) (n m : Node) (f : FuseOf) (a b : DiskSet R g) → m.fuse ≡ f → ((x y : Disks) → P x y → LeftAs n.fuse x.fuse → LeftAs f y.fuse) → OnDisks (disks_in a) (disks_in b) P → FusedAs n a → FusedAs m b
+  pub fused_set : (n m : Node) (a b : DiskSet R g) (disk : ℕ) (on : Bool) → m.fuse ≡ n.fuse → SetsDisk disk on a b → FusedAs n a → FusedAs m b
+  fused_set n m a b disk on is did h = record {
+    told = λ d at. subst (λ (f : FuseOf). LeftAs f d.fuse) (sym is) (set_left disk on (disks_in a) (disks_in b) n.fuse did h.told d at);
+  }
+
+  pub fused_on : (P : Disks → Disks → Type 0) (n m : Node) (f : FuseOf) (a b : DiskSet R g) → m.fuse ≡ f → ((x y : Disks) → P x y → LeftAs n.fuse x.fuse → LeftAs f y.fuse) → OnDisks (disks_in a) (disks_in b) P → FusedAs n a → FusedAs m b
   fused_on P n m f a b is step on h = record {
     told = λ d at. subst (λ (k : FuseOf). LeftAs k d.fuse) (sym is) (left_on P (disks_in a) (disks_in b) n.fuse f step on h.told d at);
   }
@@ -194,6 +208,7 @@ module _ {R : Type 0} {g : Ghosts R} where
   unfused_at n (Bare rack) h = record { bare = λ is. ap (λ (k : Node). k.fuse) h.bare.is; down = λ is. ap (λ (k : Node). k.fuse) h.bare.is }
   unfused_at n (Spoiled rack) h = record { bare = λ is. ap (λ (k : Node). k.fuse) h.is; down = λ is. ap (λ (k : Node). k.fuse) h.is }
   unfused_at n (Up rvg) h = record { bare = λ is. absurd (let e : IsUp ≡ IsBare = sym h.state ∙ is in cc); down = λ is. absurd (let e : IsUp ≡ IsDown = sym h.state ∙ is in cc) }
+  unfused_at n (Receives s) h = record { bare = λ is. absurd (let e : IsUp ≡ IsBare = sym h.state ∙ is in cc); down = λ is. absurd (let e : IsUp ≡ IsDown = sym h.state ∙ is in cc) }
   unfused_at n (Down rack) h = record { bare = λ is. h.unfused; down = λ is. h.unfused }
   unfused_at n Gone h = absurd h
 
@@ -202,6 +217,7 @@ module _ {R : Type 0} {g : Ghosts R} where
   idle_unfused n (Bare rack) h idle = ap (λ (k : Node). k.fuse) h.bare.is
   idle_unfused n (Spoiled rack) h idle = ap (λ (k : Node). k.fuse) h.is
   idle_unfused n (Up rvg) h idle = absurd idle
+  idle_unfused n (Receives s) h idle = absurd idle
   idle_unfused n (Down rack) h idle = h.unfused
   idle_unfused n Gone h idle = absurd h
 
@@ -316,19 +332,6 @@ module _ {R : Type 0} {g : Ghosts R} where
       lit_turns (SetsDisk disk (is_failing state)) s (w.nodes s).fuse w v old new asked
       (turns_node w v (made_fail w s disk (is_failing state)) s (let n = w.nodes s in record n { failing = updated n.failing disk (is_failing state) }) c.leads refl (λ i. refl))
       (λ was at. fused_set (w.nodes s) (v.nodes s) asked.before asked.after disk (is_failing state) at asked.did was) lit
-    where
-      set_left : (disk : ℕ) (on : Bool) (o n : Option Disks) (f : FuseOf) → WithDisks o n (λ x y. Untouched x y × (y.failing disk ≡ on) × ((u : ℕ) → (u ≡ disk → ⊥) → y.failing u ≡ x.failing u)) → ((d : Disks) → o ≡ Some d → LeftAs f d.fuse)
-          → (d : Disks) → n ≡ Some d → LeftAs f d.fuse
-      set_left disk on None None f sets was d at = absurd (cc)
-      set_left disk on None (Some n) f sets was d at = absurd sets
-      set_left disk on (Some o) None f sets was d at = absurd sets
-      set_left disk on (Some o) (Some n) f sets was d at =
-          subst (λ (x : Disks). LeftAs f x.fuse) (some_same at) (subst (λ (z : Option (ℕ × ℕ)). LeftAs f z) (sym sets.0.fuse) (was o refl))
-
-      fused_set : (n m : Node) (a b : DiskSet R g) (disk : ℕ) (on : Bool) → m.fuse ≡ n.fuse → SetsDisk disk on a b → FusedAs n a → FusedAs m b
-      fused_set n m a b disk on is did h = record {
-        told = λ d at. subst (λ (f : FuseOf). LeftAs f d.fuse) (sym is) (set_left disk on (disks_in a) (disks_in b) n.fuse did h.told d at);
-      }
   lit_line told files w v old new (Crash name pick) fails said free agrees c asked called lit =
       let s : ℕ = site_number w name in
       let mid = crash_turns w s c.0 c.1 in lit_none _ s w v old new asked (turns_then w c.0 v s NoFuse NoFuse mid (turns_self c.0 v s NoFuse c.2.leads mid.here)) lit
@@ -405,6 +408,7 @@ module _ {R : Type 0} {g : Ghosts R} where
   idle_bare n (Bare rack) h bare = tt
   idle_bare n (Spoiled rack) h bare = tt
   idle_bare n (Up rvg) h bare = absurd (let e : IsUp ≡ IsBare = sym h.state ∙ bare in cc)
+  idle_bare n (Receives s) h bare = absurd (let e : IsUp ≡ IsBare = sym h.state ∙ bare in cc)
   idle_bare n (Down rack) h bare = tt
   idle_bare n Gone h bare = tt
 
@@ -412,6 +416,7 @@ module _ {R : Type 0} {g : Ghosts R} where
   idle_unused (Bare rack) h = tt
   idle_unused (Spoiled rack) h = tt
   idle_unused (Up rvg) h = absurd h
+  idle_unused (Receives s) h = absurd h
   idle_unused (Down rack) h = tt
   idle_unused Gone h = tt
 

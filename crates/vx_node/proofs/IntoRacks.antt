@@ -1,29 +1,33 @@
 -- The racks as they come back from their disk sets.
-use Rattle.std.proofs.Common.{◌≡◌, ◌∙◌, inl, ℕ, zero, suc, List, [], ◌∷◌, length, ap, sym, subst, refl, arith, IsTrue}
-use Rattle.std.specs.Prelude.{Option, Some, None, drop, slice_get, take}
+use Rattle.std.proofs.Common.{◌≡◌, ◌∙◌, ◌+◌, ◌++◌, ◌≤◌, inl, inr, ℕ, zero, suc, List, [], ◌∷◌, length, ap, append_assoc, sym, subst, refl, arith, IsTrue}
+use Rattle.std.specs.Prelude.{Option, Some, None, drop, reverse, slice_get, take}
+use Rattle.std.proofs.lemmas.List.{reverse-append}
 use Rattle.std.specs.Option.{option_and_then}
 use Rattle.vx_history.specs.World.{Node, World}
 use Rattle.vx_model.specs.declared.site.SiteState.TheVariants.{Bare as IsBare, Up as IsUp, Down as IsDown}
 use Rattle.vx_model.specs.declared.site.SiteState.{SiteState}
+use Rattle.vx_model.specs.declared.call.Update.{Update}
 use Rattle.vx_model.specs.declared.state.KeptLink.{KeptLink}
-use Rattle.vx_history.specs.KeptLinks.{kept_links}
 use Rattle.vx_model.specs.Content.{Content, Write, fold_writes}
-use Rattle.vx_disk.specs.Shelf.{Meaning, Lawful}
+use Rattle.vx_disk.specs.Shelf.{Image, Meaning, Lawful}
 use Rattle.vx_disk.specs.declared.shelf.Shelf.{Ghosts}
 use Rattle.vx_diskset.specs.Lasts.{FoundWith}
 use Rattle.vx_rvg.specs.Views.{Core}
 use Rattle.vx_diskset.specs.declared.disk_set.DiskSet.{DiskSet}
-use Rattle.vx_diskset.specs.declared.disk_set.DiskSet.TheVariants.{Bare, Spoiled, Up, Down, Gone}
-use Rattle.vx_diskset.specs.Holds.{alone, Beside, Holds, most_header, state_with, links_of}
+use Rattle.vx_diskset.specs.declared.disk_set.DiskSet.TheVariants.{Bare, Spoiled, Up, Receives, Down, Gone}
+use Rattle.vx_diskset.specs.Holds.{alone, Beside, HasSite, HasWrites, Holds, most_header, most_with, state_with, links_of, beside_of}
+use Rattle.vx_events.specs.Doubts.{sure}
+use Rattle.vx_events.specs.Stamps.{most_stamp}
+use Rattle.vx_history.specs.Doubts.{Doubted}
 use Rattle.vx_node.specs.Holds.{RacksHold, RacksTell, with_links, rack_count, rack_faults}
 use Rattle.vx_diskset.specs.Layouts.{units_of}
 use Rattle.vx_events.specs.Plain.{IsUnlinked}
-use Rattle.vx_events.proofs.Steps.{no_sites}
-use Rattle.vx_node.specs.Racks.{racks_in}
+use Rattle.vx_node.specs.Racks.{rack_in, racks_in}
 use Rattle.vx_node.specs.Stands.{DiskSetsStand, AreTold, fault_count, faults_of}
-use Rattle.vx_diskset.specs.Stands.{StandsAlone, IsUnused, IsBareAt, IsUpAt, IsDownAt, IsToldAt}
+use Rattle.vx_diskset.specs.Stands.{StandsAlone, IsUnused, IsBareAt, IsUpAt, IsReceiverAt, IsDownAt, IsToldAt, StandsAt}
+use Rattle.vx_node.specs.Standing.{SitesAgree}
 use Rattle.vx_diskset.proofs.CrashGroup.{left_with}
-use Rattle.vx_diskset.proofs.StaysUp.{all_taken, durable_content, told_now}
+use Rattle.vx_diskset.proofs.StaysUp.{all_taken, durable_content, found_below, told_now}
 use Rattle.std.proofs.lemmas.Bool.{cases_lt}
 use Rattle.std.proofs.Common.{⊎_elim}
 use Rattle.vx_node.proofs.Unlinked.{links_none}
@@ -34,6 +38,10 @@ never_both a b = let e : IsUp ≡ IsDown = sym a ∙ b in cc
 -- a site that is up
 up_holds : {beside : Beside} (n : Node) (c : Core) (m : Meaning) → IsUpAt beside n c m → Holds beside n m
 up_holds n c m up = record { up = λ _ i now. up.left i now; down = λ down. absurd (never_both up.state down) }
+
+-- a site that receives
+receiver_holds : {beside : Beside} (n : Node) (c : Core) (us : List Update) (m : Meaning) → IsReceiverAt beside n c us m → Holds beside n m
+receiver_holds n c us m up = record { up = λ _ i now. up.left i now; down = λ down. absurd (never_both up.state down) }
 
 -- a site that is down
 down_holds : {beside : Beside} (n : Node) (m : Meaning) → Lawful m → IsDownAt beside n m → Holds beside n m
@@ -59,6 +67,27 @@ bare_holds n m bare = record {
     state : n.state ≡ IsBare
     state = ap (λ (k : Node). k.state) bare.is
 
+-- a log of which more headers may have been written
+more_writes : (links : List KeptLink) (headers : ℕ) (n : Node) (i : Image) → HasWrites (with_links links) n i → HasWrites (record { links = links; headers = headers; doubt = None }) n i
+more_writes links headers n i has = record {
+  count = has.count;
+  least = has.least;
+  most = has.most;
+  found = record {
+    held = has.found.held;
+    has = has.found.has;
+    needs = has.found.needs;
+    found = found_below (units_of n) n.ring (state_with n links) n.session (most_with (with_links links) n has.count) (most_stamp (record n { safe = has.count }) + headers) i has.found.held (omega arith) has.found.found;
+  };
+}
+
+more_headers : (links : List KeptLink) (headers : ℕ) (n : Node) (m : Meaning) → Holds (with_links links) n m → Holds (record { links = links; headers = headers; doubt = None }) n m
+more_headers links headers n m holds = record { up = λ up i now. more (holds.up up i now); down = λ down i now. more (holds.down down i now) }
+  where
+    more : {i : Image} → HasSite (with_links links) n i → HasSite (record { links = links; headers = headers; doubt = None }) n i
+    more {i} (inl has) = inl (more_writes links headers n i has)
+    more {i} (inr never) = absurd never
+
 some_same : {A : Type 0} {a b : A} → Some a ≡ Some b → a ≡ b
 some_same e = cc
 
@@ -67,6 +96,7 @@ module _ {R : Type 0} {g : Ghosts R} where
   rack_of (Bare rack) = Some rack
   rack_of (Spoiled rack) = Some rack
   rack_of (Up rvg) = Some rvg.shelf
+  rack_of (Receives s) = Some s.rvg.shelf
   rack_of (Down rack) = Some rack
   rack_of Gone = None
 
@@ -74,6 +104,7 @@ module _ {R : Type 0} {g : Ghosts R} where
   IsThere (Bare rack) = Unit {0}
   IsThere (Spoiled rack) = Unit {0}
   IsThere (Up rvg) = Unit {0}
+  IsThere (Receives s) = Unit {0}
   IsThere (Down rack) = Unit {0}
   IsThere Gone = ⊥
 
@@ -90,11 +121,13 @@ module _ {R : Type 0} {g : Ghosts R} where
   slice_get-racks_in (Bare rack ∷ es) all zero = refl
   slice_get-racks_in (Spoiled rack ∷ es) all zero = refl
   slice_get-racks_in (Up rvg ∷ es) all zero = refl
+  slice_get-racks_in (Receives s ∷ es) all zero = refl
   slice_get-racks_in (Down rack ∷ es) all zero = refl
   slice_get-racks_in (Gone ∷ es) all zero = absurd all.0
   slice_get-racks_in (Bare rack ∷ es) all (suc s) = slice_get-racks_in es all.1 s
   slice_get-racks_in (Spoiled rack ∷ es) all (suc s) = slice_get-racks_in es all.1 s
   slice_get-racks_in (Up rvg ∷ es) all (suc s) = slice_get-racks_in es all.1 s
+  slice_get-racks_in (Receives site ∷ es) all (suc s) = slice_get-racks_in es all.1 s
   slice_get-racks_in (Down rack ∷ es) all (suc s) = slice_get-racks_in es all.1 s
   slice_get-racks_in (Gone ∷ es) all (suc s) = absurd all.0
 
@@ -103,6 +136,7 @@ module _ {R : Type 0} {g : Ghosts R} where
   length-racks_in (Bare rack ∷ es) all = ap suc (length-racks_in es all.1)
   length-racks_in (Spoiled rack ∷ es) all = ap suc (length-racks_in es all.1)
   length-racks_in (Up rvg ∷ es) all = ap suc (length-racks_in es all.1)
+  length-racks_in (Receives s ∷ es) all = ap suc (length-racks_in es all.1)
   length-racks_in (Down rack ∷ es) all = ap suc (length-racks_in es all.1)
   length-racks_in (Gone ∷ es) all = absurd all.0
 
@@ -110,6 +144,7 @@ module _ {R : Type 0} {g : Ghosts R} where
   stands_there n (Bare rack) h = tt
   stands_there n (Spoiled rack) h = tt
   stands_there n (Up rvg) h = tt
+  stands_there n (Receives s) h = tt
   stands_there n (Down rack) h = tt
   stands_there n Gone h = h
 
@@ -117,6 +152,7 @@ module _ {R : Type 0} {g : Ghosts R} where
   unused_there (Bare rack) h = tt
   unused_there (Spoiled rack) h = tt
   unused_there (Up rvg) h = tt
+  unused_there (Receives s) h = tt
   unused_there (Down rack) h = tt
   unused_there Gone h = h
 
@@ -128,6 +164,7 @@ module _ {R : Type 0} {g : Ghosts R} where
   counts_as (Some (Bare rack)) d = refl
   counts_as (Some (Spoiled rack)) d = refl
   counts_as (Some (Up rvg)) d = refl
+  counts_as (Some (Receives s)) d = refl
   counts_as (Some (Down rack)) d = refl
   counts_as (Some Gone) d = refl
 
@@ -142,23 +179,31 @@ module _ {R : Type 0} {g : Ghosts R} where
       subst (λ (k : R). Holds alone n (g.meaning k)) (some_same is) (bare_holds n (g.meaning rack) (stands (Spoiled rack) refl))
   site_holds lawful n (Some (Up rvg)) r stands is =
       subst (λ (k : R). Holds alone n (g.meaning k)) (some_same is) (up_holds n rvg.core (g.meaning rvg.shelf) (stands (Up rvg) refl))
+  site_holds lawful n (Some (Receives s)) r stands is =
+      subst (λ (k : R). Holds alone n (g.meaning k)) (some_same is) (receiver_holds n s.rvg.core s.waiting (g.meaning s.rvg.shelf) (stands (Receives s) refl))
   site_holds lawful n (Some (Down rack)) r stands is =
       subst (λ (k : R). Holds alone n (g.meaning k)) (some_same is) (down_holds n (g.meaning rack) (lawful rack) (stands (Down rack) refl))
   site_holds lawful n (Some Gone) r stands is = absurd (cc)
 
   -- a site without links has those of the world, which are none
-  pub racks_hold : (lawful : (r : R) → Lawful (g.meaning r)) (w : World) (es : List (DiskSet R g)) → IsUnlinked w → DiskSetsStand w es → RacksHold g.meaning w (racks_in es)
-  racks_hold lawful w es none stand = record {
+  sites_hold : (lawful : (r : R) → Lawful (g.meaning r)) (w : World) (es : List (DiskSet R g)) → IsUnlinked w → DiskSetsStand w es → RacksHold g.meaning (sure w) (racks_in es)
+  sites_hold lawful w es none stand = record {
     eight = length-racks_in es (disk_sets_there w es stand) ∙ stand.eight;
     each = λ s r below at.
         let held = site_holds lawful (w.nodes s) (slice_get es s) r (λ e is. stand.sites s e below is) (sym (slice_get-racks_in es (disk_sets_there w es stand) s) ∙ at) in
-        subst (λ (links : List KeptLink). Holds (with_links links) (w.nodes s) (g.meaning r)) (sym (links_none w s none)) held;
+        let linked : Holds (with_links (links_of w s)) (w.nodes s) (g.meaning r) =
+        subst (λ (links : List KeptLink). Holds (with_links links) (w.nodes s) (g.meaning r)) (sym (links_none w s none)) held in
+        more_headers (links_of w s) (w.headers s) (w.nodes s) (g.meaning r) linked;
   }
+
+  pub racks_hold : (lawful : (r : R) → Lawful (g.meaning r)) (d : Doubted) (es : List (DiskSet R g)) → d ≡ sure d.world → IsUnlinked d.world → DiskSetsStand d.world es → RacksHold g.meaning d (racks_in es)
+  racks_hold lawful d es calm none stand = subst (λ (e : Doubted). RacksHold g.meaning e (racks_in es)) (sym calm) (sites_hold lawful d.world es none stand)
 
   tells_at : (e : DiskSet R g) → IsThere e → ((r : R) → rack_of e ≡ Some r → IsTrue (g.meaning r).tells) → IsToldAt e
   tells_at (Bare rack) there f = f rack refl
   tells_at (Spoiled rack) there f = f rack refl
   tells_at (Up rvg) there f = f rvg.shelf refl
+  tells_at (Receives s) there f = f s.rvg.shelf refl
   tells_at (Down rack) there f = f rack refl
   tells_at Gone there f = there
 
@@ -168,3 +213,63 @@ module _ {R : Type 0} {g : Ghosts R} where
         (⊎_elim (λ below. stands_there (w.nodes s) e (stand.sites s e below at)) (λ past. unused_there e (stand.others s e past at)) (cases_lt s w.sites))
         (λ r is. tell.each s r (slice_get-racks_in es (disk_sets_there w es stand) s ∙ ap (λ (x : Option (DiskSet R g)). option_and_then rack_of x) at ∙ is));
   }
+
+  -- ---- sites that may keep links and be in doubt
+
+  stood_there : (beside : Beside) (n : Node) (e : DiskSet R g) → StandsAt beside n e → IsThere e
+  stood_there beside n (Bare rack) h = tt
+  stood_there beside n (Spoiled rack) h = tt
+  stood_there beside n (Up rvg) h = tt
+  stood_there beside n (Receives s) h = tt
+  stood_there beside n (Down rack) h = tt
+  stood_there beside n Gone h = h
+
+  agree_there : (d : Doubted) (es : List (DiskSet R g)) → SitesAgree d es → (s : ℕ) (e : DiskSet R g) → slice_get es s ≡ Some e → IsThere e
+  agree_there d es agree s e at =
+      ⊎_elim (λ below. stood_there (beside_of d s) (d.world.nodes s) e (agree.sites s e below at)) (λ past. unused_there e (agree.others s e past at)) (cases_lt s d.world.sites)
+
+  beside_holds : (lawful : (r : R) → Lawful (g.meaning r)) (beside : Beside) (n : Node) (x : Option (DiskSet R g)) (r : R) → ((e : DiskSet R g) → x ≡ Some e → StandsAt beside n e) → option_and_then rack_of x ≡ Some r → Holds beside n (g.meaning r)
+  beside_holds lawful beside n None r stands is = absurd (cc)
+  beside_holds lawful beside n (Some (Bare rack)) r stands is =
+      subst (λ (k : R). Holds beside n (g.meaning k)) (some_same is) (bare_holds n (g.meaning rack) (stands (Bare rack) refl).bare)
+  beside_holds lawful beside n (Some (Spoiled rack)) r stands is =
+      subst (λ (k : R). Holds beside n (g.meaning k)) (some_same is) (bare_holds n (g.meaning rack) (stands (Spoiled rack) refl))
+  beside_holds lawful beside n (Some (Up rvg)) r stands is =
+      subst (λ (k : R). Holds beside n (g.meaning k)) (some_same is) (up_holds n rvg.core (g.meaning rvg.shelf) (stands (Up rvg) refl))
+  beside_holds lawful beside n (Some (Receives s)) r stands is =
+      subst (λ (k : R). Holds beside n (g.meaning k)) (some_same is) (receiver_holds n s.rvg.core s.waiting (g.meaning s.rvg.shelf) (stands (Receives s) refl))
+  beside_holds lawful beside n (Some (Down rack)) r stands is =
+      subst (λ (k : R). Holds beside n (g.meaning k)) (some_same is) (down_holds n (g.meaning rack) (lawful rack) (stands (Down rack) refl))
+  beside_holds lawful beside n (Some Gone) r stands is = absurd (cc)
+
+  pub racks_keep : (lawful : (r : R) → Lawful (g.meaning r)) (d : Doubted) (es : List (DiskSet R g)) → SitesAgree d es → RacksHold g.meaning d (racks_in es)
+  racks_keep lawful d es agree =
+      let there = all_there es (agree_there d es agree) in
+      record {
+        eight = length-racks_in es there ∙ agree.eight;
+        each = λ s r below at. beside_holds lawful (beside_of d s) (d.world.nodes s) (slice_get es s) r (λ e is. agree.sites s e below is) (sym (slice_get-racks_in es there s) ∙ at);
+      }
+
+  pub racks_counted : (d : Doubted) (es : List (DiskSet R g)) → SitesAgree d es → (s u : ℕ) → rack_faults g.meaning (racks_in es) s u ≡ faults_of es s u
+  racks_counted d es agree s u = ap (λ (r : Option R). rack_count g.meaning r u) (slice_get-racks_in es (all_there es (agree_there d es agree)) s) ∙ counts_as (slice_get es s) u
+
+  pub racks_told : (d : Doubted) (es : List (DiskSet R g)) → SitesAgree d es → RacksTell g.meaning (racks_in es) → AreTold es
+  racks_told d es agree tell = record {
+    each = λ s e at. tells_at e (agree_there d es agree s e at)
+        (λ r is. tell.each s r (slice_get-racks_in es (all_there es (agree_there d es agree)) s ∙ ap (λ (x : Option (DiskSet R g)). option_and_then rack_of x) at ∙ is));
+  }
+
+  -- one disk set gives one rack at most
+  pub rack_few : (e : DiskSet R g) → length (rack_in e) ≤ 1
+  rack_few (Bare rack) = omega arith
+  rack_few (Spoiled rack) = omega arith
+  rack_few (Up rvg) = omega arith
+  rack_few (Receives s) = omega arith
+  rack_few (Down rack) = omega arith
+  rack_few Gone = omega arith
+
+  pub given_back : (racks new : List R) (sets rest : List (DiskSet R g)) (e : DiskSet R g) → sets ≡ rest ++ e ∷ [] → new ≡ racks ++ rack_in e → new ++ racks_in (reverse rest) ≡ racks ++ racks_in (reverse sets)
+  given_back racks new sets rest e front is =
+      ap (λ (xs : List R). xs ++ racks_in (reverse rest)) is
+      ∙ append_assoc racks (rack_in e) (racks_in (reverse rest))
+      ∙ ap (λ (es : List (DiskSet R g)). racks ++ racks_in es) (sym (ap (λ (es : List (DiskSet R g)). reverse es) front ∙ reverse-append rest (e ∷ [])))

@@ -30,7 +30,7 @@ use Rattle.vx_events.proofs.Keeping.{node_primary, same_links}
 use Rattle.vx_events.proofs.Parts.{none_done}
 use Rattle.vx_events.proofs.Steps.{CanPut}
 use Rattle.vx_diskset.specs.declared.disk_set.DiskSet.{DiskSet}
-use Rattle.vx_diskset.specs.declared.disk_set.DiskSet.TheVariants.{Bare, Spoiled, Up, Down, Gone}
+use Rattle.vx_diskset.specs.declared.disk_set.DiskSet.TheVariants.{Bare, Spoiled, Up, Receives, Down, Gone}
 use Rattle.vx_node.specs.declared.yard.Yard.{Yard}
 use Rattle.vx_node.specs.Lines.{is_built}
 use Rattle.vx_node.specs.Replies.{reply_text, text_of}
@@ -65,6 +65,7 @@ module _ {R : Type 0} {g : Ghosts R} where
   volumes_of n (Bare rack) h up = absurd (let e : IsBare ≡ IsUp = sym (ap (λ (k : Node). k.state) h.bare.is) ∙ up in cc)
   volumes_of n (Spoiled rack) h up = absurd (let e : IsBare ≡ IsUp = sym (ap (λ (k : Node). k.state) h.is) ∙ up in cc)
   volumes_of n (Up rvg) h up = record { named = h.lies.laid.named }
+  volumes_of n (Receives s) h up = record { named = h.lies.laid.named }
   volumes_of n (Down rack) h up = record { named = h.lies.laid.named }
   volumes_of n Gone h up = absurd h
 
@@ -72,6 +73,7 @@ module _ {R : Type 0} {g : Ghosts R} where
   log_whole n (Bare rack) h down = absurd (let e : IsBare ≡ IsDown = sym (ap (λ (k : Node). k.state) h.bare.is) ∙ down in cc)
   log_whole n (Spoiled rack) h down = absurd (let e : IsBare ≡ IsDown = sym (ap (λ (k : Node). k.state) h.is) ∙ down in cc)
   log_whole n (Up rvg) h down = absurd (let e : IsUp ≡ IsDown = sym h.state ∙ down in cc)
+  log_whole n (Receives s) h down = absurd (let e : IsUp ≡ IsDown = sym h.state ∙ down in cc)
   log_whole n (Down rack) h down = h.logged
   log_whole n Gone h down = absurd h
 

@@ -1,10 +1,15 @@
 -- A yard without sites.
-use Rattle.std.proofs.Common.{◌≡◌, ◌∙◌, ℕ, zero, suc, List, [], ◌∷◌, length, ap, sym, subst, refl, arith}
+use Rattle.std.proofs.Common.{◌≡◌, ◌∙◌, ◌≤◌, ℕ, zero, suc, List, [], ◌∷◌, length, ap, sym, subst, refl, arith}
 use Rattle.std.specs.Prelude.{Some, None, slice_get, map}
 use Rattle.vx_history.specs.World.{empty_world}
 use Rattle.vx_disk.specs.declared.shelf.Shelf.{Ghosts}
 use Rattle.vx_diskset.specs.declared.disk_set.DiskSet.{DiskSet}
 use Rattle.vx_diskset.specs.declared.disk_set.DiskSet.TheVariants.{Bare}
+use Rattle.std.specs.Vec.{vec_capacity}
+use Rattle.vx_effects.proofs.Leaving.{fit_empty}
+use Rattle.vx_events.specs.Doubts.{sure}
+use Rattle.vx_node.specs.Standing.{StandsFor}
+use Rattle.vx_node.specs.declared.yard.Yard.{Yard}
 use Rattle.vx_node.specs.Holds.{AreFresh, rack_faults}
 use Rattle.vx_node.specs.Stands.{DiskSetsStand, faults_of}
 use Rattle.vx_diskset.specs.Stands.{IsUnused}
@@ -43,3 +48,20 @@ module _ {R : Type 0} {g : Ghosts R} where
       unarmed = not_true (g.meaning found.0).armed (fresh.unarmed s found.0 found.1);
     });
   }
+
+  -- a yard without sites stands for the world without sites
+  pub begins_empty : (y : Yard R g) → y.facts.items ≡ [] → DiskSetsStand empty_world y.disk_sets.items → y.racks.items ≡ [] → 8 ≤ vec_capacity y.racks → StandsFor (sure empty_world) y
+  begins_empty y facts stood none room = record {
+    facts = facts;
+    disk_sets = record { eight = stood.eight; few = stood.few; sites = λ s e below is. absurd (omega (arith, below)); others = stood.others };
+    links = fit_empty;
+    primaries = λ told. record { each = λ i. refl };
+    doubts = λ s a is. absurd (never is);
+    failing = λ s e below is. absurd (omega (arith, below));
+    fuses = λ s e below is. absurd (omega (arith, below));
+    none = none;
+    room = room;
+  }
+    where
+      never : {A : Type 0} {x : A} → None ≡ Some x → ⊥
+      never e = cc

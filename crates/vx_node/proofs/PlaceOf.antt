@@ -10,7 +10,7 @@ use Rattle.vx_order.specs.declared.facts.VolumeFacts.{VolumeFacts}
 use Rattle.vx_events.specs.Facts.{site_fact, volume_fact, place_of}
 use Rattle.vx_events.proofs.Places.{position_within, some_same}
 use Rattle.vx_diskset.specs.declared.disk_set.DiskSet.{DiskSet}
-use Rattle.vx_diskset.specs.declared.disk_set.DiskSet.TheVariants.{Bare, Spoiled, Up, Down, Gone}
+use Rattle.vx_diskset.specs.declared.disk_set.DiskSet.TheVariants.{Bare, Spoiled, Up, Receives, Down, Gone}
 use Rattle.vx_node.specs.declared.yard.Yard.{Yard}
 use Rattle.vx_diskset.specs.Stands.{StandsAlone}
 use Rattle.vx_node.specs.Yards.{YardAgrees}
@@ -27,6 +27,7 @@ module _ {R : Type 0} {g : Ghosts R} where
   few_volumes n (Bare rack) h = omega (arith, ap (λ (k : Node). length k.volumes) h.bare.is)
   few_volumes n (Spoiled rack) h = omega (arith, ap (λ (k : Node). length k.volumes) h.is)
   few_volumes n (Up rvg) h = h.lies.laid.few
+  few_volumes n (Receives s) h = h.lies.laid.few
   few_volumes n (Down rack) h = h.lies.laid.few
   few_volumes n Gone h = absurd h
 

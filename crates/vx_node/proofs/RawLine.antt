@@ -19,7 +19,7 @@ use Rattle.vx_order.specs.declared.facts.SiteFacts.{SiteFacts}
 use Rattle.vx_order.specs.declared.facts.VolumeFacts.{VolumeFacts}
 use Rattle.vx_script.specs.declared.line.ScriptLine.TheVariants.{Raw}
 use Rattle.vx_diskset.specs.declared.disk_set.DiskSet.{DiskSet}
-use Rattle.vx_diskset.specs.declared.disk_set.DiskSet.TheVariants.{Bare, Spoiled, Up, Down, Gone}
+use Rattle.vx_diskset.specs.declared.disk_set.DiskSet.TheVariants.{Bare, Spoiled, Up, Receives, Down, Gone}
 use Rattle.vx_events.specs.declared.said.Said.{Said}
 use Rattle.vx_events.specs.declared.said.Said.TheVariants.{Done}
 use Rattle.vx_node.specs.declared.yard.Yard.{Yard}
@@ -78,6 +78,10 @@ module _ {R : Type 0} {g : Ghosts R} where
     where
       never : IsBare ≡ IsUp → ⊥
       never e = cc
+  bare_parts n (Receives s) stands is = absurd (never (sym is ∙ stands.state))
+    where
+      never : IsBare ≡ IsUp → ⊥
+      never e = cc
   bare_parts n (Down rack) stands is = absurd (never (sym is ∙ stands.state))
     where
       never : IsBare ≡ IsDown → ⊥
@@ -107,6 +111,10 @@ module _ {R : Type 0} {g : Ghosts R} where
   stood_few n (Bare rack) stands is = stands.bare.few
   stood_few n (Spoiled rack) stands is = stands.few
   stood_few n (Up rvg) stands is = absurd (never (sym is ∙ stands.state))
+    where
+      never : IsBare ≡ IsUp → ⊥
+      never e = cc
+  stood_few n (Receives s) stands is = absurd (never (sym is ∙ stands.state))
     where
       never : IsBare ≡ IsUp → ⊥
       never e = cc

@@ -14,7 +14,7 @@ use Rattle.vx_order.specs.declared.facts.RvgFacts.{RvgFacts}
 use Rattle.vx_order.specs.declared.facts.VolumeFacts.{VolumeFacts}
 use Rattle.vx_rvg.specs.Contents.{Shows}
 use Rattle.vx_diskset.specs.declared.disk_set.DiskSet.{DiskSet}
-use Rattle.vx_diskset.specs.declared.disk_set.DiskSet.TheVariants.{Bare, Spoiled, Up, Down, Gone}
+use Rattle.vx_diskset.specs.declared.disk_set.DiskSet.TheVariants.{Bare, Spoiled, Up, Receives, Down, Gone}
 use Rattle.vx_events.specs.declared.said.Said.TheVariants.{Got, Refused}
 use Rattle.vx_node.specs.declared.yard.Yard.{Yard}
 use Rattle.vx_diskset.specs.DiskSets.{Later, CanRead}
@@ -70,6 +70,7 @@ module _ {R : Type 0} {g : Ghosts R} where
   whole_by n (Bare rack) up h = absurd (let e : IsBare ≡ IsUp = sym (ap (λ (k : Node). k.state) h.bare.is) ∙ up in cc)
   whole_by n (Spoiled rack) up h = absurd (let e : IsBare ≡ IsUp = sym (ap (λ (k : Node). k.state) h.is) ∙ up in cc)
   whole_by n (Up rvg) up h = record { few = h.lies.laid.few; named = h.lies.laid.named }
+  whole_by n (Receives s) up h = record { few = h.lies.laid.few; named = h.lies.laid.named }
   whole_by n (Down rack) up h = record { few = h.lies.laid.few; named = h.lies.laid.named }
   whole_by n Gone up h = absurd h
 

@@ -37,7 +37,7 @@ use Rattle.vx_node.proofs.ChangeSite.{disk_sets_same, rose_none, rose_one, count
 use Rattle.vx_node.proofs.CrashLine.{fact_there, stands_set, rose_still}
 use Rattle.vx_node.proofs.Lists.{get-set_same, set_twice}
 use Rattle.vx_node.proofs.RawLine.{bare_parts, raw_fact_of}
-use Rattle.vx_node.proofs.RecoverLine.{head_at, not_all, recover_worked, up_fact, up_parts}
+use Rattle.vx_node.proofs.RecoverLine.{head_whole, not_all, recover_worked, up_fact, up_parts}
 use Rattle.vx_events.proofs.Places.{some_same}
 use Rattle.vx_node.proofs.Seats.{seated}
 use Rattle.vx_node.proofs.SiteLine.{stands_new}
@@ -87,12 +87,12 @@ module _ {R : Type 0} {g : Ghosts R} where
         let here : slice_get y.disk_sets.items s ≡ Some after = ap (λ es. slice_get es s) set ∙ get-set_same old.disk_sets.items s after (slice_get_within old.disk_sets.items s before there) in
         let raw : SiteFacts = raw_facts s volumes site in
         let seen : slice_get y.facts.items s ≡ Some raw = ap (λ fs. slice_get fs s) facts ∙ get-set_same old.facts.items s raw (slice_get_within old.facts.items s site at) in
-        let noted = notes.each after k here (found.stands alone refl) found.same.up in
+        let noted = notes.each after k here (found.stands alone refl) found.same.up found.same.running in
         let parts = up_parts k after (found.stands alone refl) found.same.up in
         let own = bare_parts n before stood bare in
         let fact : up_facts (state_with k []) k.safe ring raw ≡ site_fact k =
         ap (up_facts (state_with k []) k.safe ring) (raw_fact_of s n site volumes node_fact table own.0 own.1)
-        ∙ up_fact (raw_set s n) k ring (same_set s n k found.same) parts.0 (parts.1 ∙ ap ring_of found.same.blocks ∙ sym (ring_fits ring ring_is)) (head_at k after (found.stands alone refl) found.same.up found.same.running) in
+        ∙ up_fact (raw_set s n) k ring (same_set s n k found.same) parts.0 (parts.1 ∙ ap ring_of found.same.blocks ∙ sym (ring_fits ring ring_is)) (head_whole k found.whole) in
         let up : YardAgrees (with_node w s k) new =
         stands_set w (with_node w s k) old new s k (up_facts (state_with k []) k.safe ring raw) after stands below refl (λ j. refl) (found.stands alone refl) fact refl
         (noted.facts raw seen ∙ ap (λ fs. slice_set fs s (up_facts (state_with k []) k.safe ring raw)) facts ∙ set_twice old.facts.items s raw (up_facts (state_with k []) k.safe ring raw))

@@ -18,7 +18,7 @@ use Rattle.vx_report.specs.declared.view.SiteView.{SiteView}
 use Rattle.vx_script.specs.declared.line.ScriptLine.TheVariants.{Recover}
 use Rattle.vx_srl.specs.Views.{most_number}
 use Rattle.vx_diskset.specs.declared.disk_set.DiskSet.{DiskSet}
-use Rattle.vx_diskset.specs.declared.disk_set.DiskSet.TheVariants.{Bare, Spoiled, Up, Down, Gone}
+use Rattle.vx_diskset.specs.declared.disk_set.DiskSet.TheVariants.{Bare, Spoiled, Up, Receives, Down, Gone}
 use Rattle.vx_events.specs.declared.said.Said.{Said}
 use Rattle.vx_events.specs.declared.said.Said.TheVariants.{Recovered, Refused}
 use Rattle.vx_node.specs.declared.yard.Yard.{Yard}
@@ -113,6 +113,10 @@ one_head : (b : Bool) (safe many : ℕ) → many ≡ safe → (if b then safe el
 one_head true safe many is = refl
 one_head false safe many is = is
 
+-- a site has no write beyond the durable ones, so its head is the last of these
+pub head_whole : (k : Node) → length k.log ≡ k.safe → head_of k ≡ k.safe
+head_whole k whole = one_head (is_origin k.role) k.safe (length k.log) whole
+
 true_or : (b : Bool) → IsTrue b ⊎ (IsTrue b → ⊥)
 true_or true = inl refl
 true_or false = inr (λ e. cc)
@@ -122,6 +126,7 @@ module _ {R : Type 0} {g : Ghosts R} where
   told_or (Bare rack) = true_or (g.meaning rack).tells
   told_or (Spoiled rack) = true_or (g.meaning rack).tells
   told_or (Up rvg) = true_or (g.meaning rvg.shelf).tells
+  told_or (Receives s) = true_or (g.meaning s.rvg.shelf).tells
   told_or (Down rack) = true_or (g.meaning rack).tells
   told_or Gone = inr (λ none. none)
 
@@ -129,21 +134,15 @@ module _ {R : Type 0} {g : Ghosts R} where
   up_parts k (Bare rack) h up = absurd (bare_up (sym (ap (λ (n : Node). n.state) h.bare.is) ∙ up))
   up_parts k (Spoiled rack) h up = absurd (bare_up (sym (ap (λ (n : Node). n.state) h.is) ∙ up))
   up_parts k (Up rvg) h up = (h.low, h.lies.laid.ring_is ∙ ap ring_of (h.lies.size 0 (omega (arith, h.lies.can.some))))
+  up_parts k (Receives s) h up = (h.low, h.lies.laid.ring_is ∙ ap ring_of (h.lies.size 0 (omega (arith, h.lies.can.some))))
   up_parts k (Down rack) h up = absurd (down_up (sym h.state ∙ up))
   up_parts k Gone h up = absurd h
-
-  -- a site that runs has no write beyond the durable ones, so its head is the last of these
-  pub head_at : (k : Node) (e : DiskSet R g) → StandsAlone k e → k.state ≡ IsUp → k.halted ≡ None → head_of k ≡ k.safe
-  head_at k (Bare rack) h up runs = absurd (bare_up (sym (ap (λ (n : Node). n.state) h.bare.is) ∙ up))
-  head_at k (Spoiled rack) h up runs = absurd (bare_up (sym (ap (λ (n : Node). n.state) h.is) ∙ up))
-  head_at k (Up rvg) h up runs = one_head (is_origin k.role) k.safe (length k.log) (omega (arith, h.logged, h.durable runs))
-  head_at k (Down rack) h up runs = absurd (down_up (sym h.state ∙ up))
-  head_at k Gone h up runs = absurd h
 
   down_ring : (n : Node) (e : DiskSet R g) → StandsAlone n e → n.state ≡ IsDown → n.ring ≡ ring_of n.blocks
   down_ring n (Bare rack) h down = absurd (bare_down (sym (ap (λ (n : Node). n.state) h.bare.is) ∙ down))
   down_ring n (Spoiled rack) h down = absurd (bare_down (sym (ap (λ (n : Node). n.state) h.is) ∙ down))
   down_ring n (Up rvg) h down = absurd (up_down (sym h.state ∙ down))
+  down_ring n (Receives s) h down = absurd (up_down (sym h.state ∙ down))
   down_ring n (Down rack) h down = h.lies.laid.ring_is ∙ ap ring_of (h.lies.size 0 (omega (arith, h.lies.can.some)))
   down_ring n Gone h down = absurd h
 
@@ -155,11 +154,11 @@ module _ {R : Type 0} {g : Ghosts R} where
 
   -- what was taken of the group into what the tests see
   pub noted_up : (y new : Yard R g) (s ring last : ℕ) (one two : DiskSet R g) (state : State) (f f' : SiteFacts) → slice_get y.disk_sets.items s ≡ Some one → slice_get y.disk_sets.items s ≡ Some two
-      → slice_get y.facts.items s ≡ Some f → ((n : Node) → StandsAlone n one → n.state ≡ IsUp → last ≡ n.safe) → ((n : Node) → StandsAlone n two → n.state ≡ IsUp → state ≡ state_with n state.links)
+      → slice_get y.facts.items s ≡ Some f → ((n : Node) → StandsAlone n one → n.state ≡ IsUp → n.halted ≡ None → last ≡ n.safe) → ((n : Node) → StandsAlone n two → n.state ≡ IsUp → state ≡ state_with n state.links)
       → f' ≡ up_facts state last ring f → new.facts.items ≡ slice_set y.facts.items s f' → NotesUp s ring last y new
   noted_up y new s ring last one two state f f' at_one at_two at last_is kept is facts = record {
-    each = λ e n there stands up.
-        let safe : last ≡ n.safe = last_is n (subst (StandsAlone n) (some_same (sym there ∙ at_one)) stands) up in
+    each = λ e n there stands up running.
+        let safe : last ≡ n.safe = last_is n (subst (StandsAlone n) (some_same (sym there ∙ at_one)) stands) up running in
         let state_is : state ≡ state_with n state.links = kept n (subst (StandsAlone n) (some_same (sym there ∙ at_two)) stands) up in
         record {
           last_is = safe;
@@ -169,7 +168,7 @@ module _ {R : Type 0} {g : Ghosts R} where
   }
 
   pub not_noted : (y new : Yard R g) (s ring last : ℕ) (e : DiskSet R g) → slice_get y.disk_sets.items s ≡ Some e → ((n : Node) → StandsAlone n e → n.state ≡ IsUp → ⊥) → NotesUp s ring last y new
-  not_noted y new s ring last e at none = record { each = λ x n there stands up. absurd (none n (subst (StandsAlone n) (some_same (sym there ∙ at)) stands) up) }
+  not_noted y new s ring last e at none = record { each = λ x n there stands up running. absurd (none n (subst (StandsAlone n) (some_same (sym there ∙ at)) stands) up) }
 
   module _ (w mid : World) (old new : Yard R g) (s : ℕ) (before after : DiskSet R g) (stands : YardAgrees mid old) (below : s < mid.sites) (begins : Begins w s mid) (down : (mid.nodes s).state ≡ IsDown)
       (there : slice_get old.disk_sets.items s ≡ Some before) (later : Later before after) (disk_sets : new.disk_sets.items ≡ slice_set old.disk_sets.items s after) (racks : new.racks ≡ old.racks) where
@@ -180,12 +179,12 @@ module _ {R : Type 0} {g : Ghosts R} where
     stood = stands.disk_sets.sites s before below there
 
     -- the yard stands for the world with this site in its place
-    risen_stands : (ring : ℕ) (k : Node) → ring ≡ node.ring → SameDisks node k → StandsAlone k after
+    risen_stands : (ring : ℕ) (k : Node) → ring ≡ node.ring → SameDisks node k → length k.log ≡ k.safe → StandsAlone k after
         → new.facts.items ≡ slice_set old.facts.items s (up_facts (state_with k []) k.safe ring (site_fact node)) → YardAgrees (with_node mid s k) new
-    risen_stands ring k ring_is same at facts =
+    risen_stands ring k ring_is same whole at facts =
         let parts = up_parts k after at same.up in
         stands_set mid (with_node mid s k) old new s k (up_facts (state_with k []) k.safe ring (site_fact node)) after stands below refl (λ j. refl) at
-        (up_fact node k ring same parts.0 (parts.1 ∙ ap ring_of same.blocks ∙ sym (down_ring node before stood down) ∙ sym ring_is) (head_at k after at same.up same.running)) refl facts disk_sets racks
+        (up_fact node k ring same parts.0 (parts.1 ∙ ap ring_of same.blocks ∙ sym (down_ring node before stood down) ∙ sym ring_is) (head_whole k whole)) refl facts disk_sets racks
 
     rose_here : RoseAll [] (count_of old) (count_of new)
     rose_here = rose_still old new s before after there later disk_sets
@@ -221,12 +220,12 @@ module _ {R : Type 0} {g : Ghosts R} where
     }
 
     pub risen : (ring last : ℕ) (view : SiteView) → CameUp alone node after → ring ≡ node.ring
-        → ((k : Node) → StandsAlone k after → k.state ≡ IsUp → NotedUp k s ring last old new)
+        → ((k : Node) → StandsAlone k after → k.state ≡ IsUp → k.halted ≡ None → NotedUp k s ring last old new)
         → ((w' : World) → YardAgrees w' new → s < w'.sites → view ≡ view_of w' (w'.nodes s)) → Recovering w s (Recovered last view) old new
     risen ring last view came ring_is notes shows =
-        let noted = notes came.node came.stands came.same.up in
+        let noted = notes came.node came.stands came.same.up came.same.running in
         risen_by (told_or after) ring last view came ring_is noted.last_is
-        (risen_stands ring came.node ring_is came.same came.stands (noted.facts (site_fact node) (fact_there mid old s stands below))) shows
+        (risen_stands ring came.node ring_is came.same came.whole came.stands (noted.facts (site_fact node) (fact_there mid old s stands below))) shows
 
     -- ---- a site that stays down
 
@@ -297,8 +296,8 @@ module _ {R : Type 0} {g : Ghosts R} where
       let at : slice_get y.disk_sets.items s ≡ Some after = ap (λ es. slice_get es s) set ∙ get-set_same old.disk_sets.items s after (slice_get_within old.disk_sets.items s before there) in
       risen w mid old new s before after stands below begins down there later (ap (λ es. es.items) disk_sets_same' ∙ set) (racks_same ∙ racks) ring last view
       (subst (CameUpIs alone (mid.nodes s) before after) is (came (mid.nodes s) (stands.disk_sets.sites s before below there) down ring_is)) ring_is
-      (λ k at_k up.
-      let noted = notes.each after k at at_k up in
+      (λ k at_k up running.
+      let noted = notes.each after k at at_k up running in
       record {
         last_is = noted.last_is;
         facts = λ f f_at. noted.facts f (ap (λ fs. slice_get fs.items s) facts ∙ f_at) ∙ ap (λ fs. slice_set fs.items s (up_facts (state_with k []) k.safe ring f)) facts;
@@ -319,6 +318,7 @@ module _ {R : Type 0} {g : Ghosts R} where
   some_blocks n (Bare rack) h = h.bare.some
   some_blocks n (Spoiled rack) h = h.some
   some_blocks n (Up rvg) h = omega (arith, h.lies.laid.large, h.lies.size 0 (omega (arith, h.lies.can.some)))
+  some_blocks n (Receives s) h = omega (arith, h.lies.laid.large, h.lies.size 0 (omega (arith, h.lies.can.some)))
   some_blocks n (Down rack) h = omega (arith, h.lies.laid.large, h.lies.size 0 (omega (arith, h.lies.can.some)))
   some_blocks n Gone h = absurd h
 
@@ -326,6 +326,7 @@ module _ {R : Type 0} {g : Ghosts R} where
   never_deported n (Bare rack) h is = let e : IsBare ≡ Deported = sym (ap (λ (x : Node). x.state) h.bare.is) ∙ is in absurd (cc)
   never_deported n (Spoiled rack) h is = let e : IsBare ≡ Deported = sym (ap (λ (x : Node). x.state) h.is) ∙ is in absurd (cc)
   never_deported n (Up rvg) h is = let e : IsUp ≡ Deported = sym h.state ∙ is in absurd (cc)
+  never_deported n (Receives s) h is = let e : IsUp ≡ Deported = sym h.state ∙ is in absurd (cc)
   never_deported n (Down rack) h is = let e : IsDown ≡ Deported = sym h.state ∙ is in absurd (cc)
   never_deported n Gone h is = h
 

@@ -29,7 +29,7 @@ use Rattle.vx_node.proofs.ChangeSite.{facts-made, rose_none, rose_one, counts_la
 use Rattle.vx_events.proofs.Refused.{SiteMay, site_may}
 use Rattle.vx_events.proofs.Values.{length-values_from}
 
-most_same : {T : Type 0} (dir : Option T) (files : Bool) → is_some dir ≡ files → most_blocks dir ≡ most_of files
+pub most_same : {T : Type 0} (dir : Option T) (files : Bool) → is_some dir ≡ files → most_blocks dir ≡ most_of files
 most_same None true e = absurd (cc)
 most_same None false e = refl
 most_same (Some d) true e = refl

@@ -16,7 +16,7 @@ use Rattle.vx_diskset.specs.declared.disk_set.DiskSet.{DiskSet}
 use Rattle.vx_events.specs.declared.said.Said.TheVariants.{Shown}
 use Rattle.vx_node.specs.declared.yard.Yard.{Yard}
 use Rattle.vx_events.specs.Facts.{site_fact, facts_of, group_fact, group_by, head_of, values_from, seat_of}
-use Rattle.vx_node.specs.Seen.{name_at, group_seen, group_at}
+use Rattle.vx_node.specs.Seen.{name_at, group_seen, group_at, links_seen, site_seen}
 use Rattle.vx_diskset.specs.Stands.{StandsAlone}
 use Rattle.vx_events.specs.Views.{name_of, group_view, group_shown, view_of}
 use Rattle.vx_node.specs.Working.{Worked}
@@ -26,7 +26,7 @@ use Rattle.vx_events.proofs.Places.{some_same}
 use Rattle.vx_node.proofs.Seats.{seated}
 use Rattle.vx_events.proofs.Values.{slice_get-values_from}
 
-past_values : {A : Type 0} (f : ℕ → A) (k n i : ℕ) → n ≤ i → slice_get (values_from f k n) i ≡ None
+pub past_values : {A : Type 0} (f : ℕ → A) (k n i : ℕ) → n ≤ i → slice_get (values_from f k n) i ≡ None
 past_values f k zero i h = refl
 past_values f k (suc n) zero h = absurd (omega arith)
 past_values f k (suc n) (suc i) h = past_values f (k + 1) n i (omega arith)
@@ -70,7 +70,7 @@ view_with n rvg = record { name = n.name; state = n.state; disks = []; volumes =
 
 -- what is shown of these facts
 abbrev pub view_seen : List SiteFacts → ℕ → SiteFacts → SiteView
-view_seen sites session site = record { name = site.name; state = site.state; disks = []; volumes = []; rvg = group_at site.state sites session site.rvg; links = [] }
+view_seen sites session site = site_seen sites session site []
 
 view_same : (w : World) (n : Node) (session : ℕ) → (n.state ≡ Up → session ≡ n.session) → view_seen (facts_of w) session (site_fact n) ≡ view_of w n
 view_same w n session is = ap (λ (g : Option RvgView). view_with n g) (shown_same n.state w n session is)

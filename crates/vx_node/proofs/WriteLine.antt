@@ -5,6 +5,7 @@ use Rattle.std.specs.Option.{option_map}
 use Rattle.std.specs.Str.{bytes_eq}
 use Rattle.std.proofs.lemmas.List.{length-replicate, length-map}
 use Rattle.std.proofs.lemmas.Option.{slice_get-map, slice_get_within}
+use Rattle.vx_model.specs.Sites.{is_origin}
 use Rattle.vx_model.specs.Content.{Write, blocks_in}
 use Rattle.vx_history.specs.World.{Node, World, Volume}
 use Rattle.vx_history.specs.Steps.{written, half_written, logged, half_begun, crashed, cut_write, worked_on, burned}
@@ -18,7 +19,7 @@ use Rattle.vx_order.specs.declared.facts.VolumeFacts.{VolumeFacts}
 use Rattle.vx_order.specs.declared.facts.VolumeKind.TheVariants.{Data}
 use Rattle.vx_script.specs.declared.line.ScriptLine.TheVariants.{Write as WriteLine, Put as PutLine}
 use Rattle.vx_diskset.specs.declared.disk_set.DiskSet.{DiskSet}
-use Rattle.vx_diskset.specs.declared.disk_set.DiskSet.TheVariants.{Bare, Spoiled, Up, Down, Gone}
+use Rattle.vx_diskset.specs.declared.disk_set.DiskSet.TheVariants.{Bare, Spoiled, Up, Receives, Down, Gone}
 use Rattle.vx_events.specs.declared.said.Said.{Said}
 use Rattle.vx_events.specs.declared.said.Said.TheVariants.{DoneAt, Refused}
 use Rattle.vx_node.specs.declared.yard.Yard.{Yard}
@@ -80,6 +81,7 @@ module _ {R : Type 0} {g : Ghosts R} where
   sized n (Bare rack) h up = absurd (let e : IsBare ≡ IsUp = sym (ap (λ (k : Node). k.state) h.bare.is) ∙ up in cc)
   sized n (Spoiled rack) h up = absurd (let e : IsBare ≡ IsUp = sym (ap (λ (k : Node). k.state) h.is) ∙ up in cc)
   sized n (Up rvg) h up = record { few = h.lies.laid.few; named = h.lies.laid.named }
+  sized n (Receives s) h up = record { few = h.lies.laid.few; named = h.lies.laid.named }
   sized n (Down rack) h up = record { few = h.lies.laid.few; named = h.lies.laid.named }
   sized n Gone h up = absurd h
 
@@ -132,6 +134,7 @@ module _ {R : Type 0} {g : Ghosts R} where
     stands = stands;
     primary = primary;
     can = record {
+      origin = ap is_origin primary;
       up = up;
       running = may.call.running (group_fact n) rvg;
       volume_exists = inside;

@@ -48,9 +48,9 @@ halted_group disk (Some rvg) = Some (record rvg { halted = Some disk })
 abbrev pub halted_facts : ℕ → SiteFacts → SiteFacts
 halted_facts disk f = record f { rvg = halted_group disk f.rvg }
 
--- a site that went down shows no group
+-- a site that went down shows no group and no link
 abbrev pub down_facts : SiteFacts → SiteFacts
-down_facts f = record f { state = Down; rvg = None }
+down_facts f = record f { state = Down; rvg = None; links = [] }
 
 -- the group of a site that came up with this state, up to this number, with this ring
 abbrev pub up_group : State → ℕ → ℕ → RvgFacts

@@ -3,6 +3,7 @@ use Rattle.std.specs.Prelude.{◌≡◌, ◌⊎◌, ℕ, ◌*◌, List, length, 
 use Rattle.vx_model.specs.declared.limits.TheConstants.{MOST_CALL_BLOCKS}
 use Rattle.vx_history.specs.World.{World}
 use Rattle.vx_disk.specs.declared.shelf.Shelf.{Ghosts}
+use Rattle.vx_script.specs.declared.line.ScriptLine.{ScriptLine}
 use Rattle.vx_script.specs.declared.line.ScriptLine.TheVariants.{Read, Show}
 use Rattle.vx_events.specs.declared.said.Said.{Said}
 use Rattle.vx_node.specs.declared.yard.Yard.{Yard}
@@ -15,6 +16,10 @@ use Rattle.vx_node.specs.Yards.{YardAgrees, IsTold, count_of}
 -- a place for so many blocks, and for no more than a line may ask
 abbrev pub IsRoom : ℕ → List ℕ → Type 0
 IsRoom count room = length room ≡ 512 * min count MOST_CALL_BLOCKS
+
+-- a line that reads these blocks, whichever of the two it is
+abbrev pub IsReadLine : ScriptLine → List ℕ → List ℕ → ℕ → ℕ → Type 0
+IsReadLine line name volume start count = (line ≡ Read name volume start count) ⊎ (line ≡ Show name volume start count)
 
 module _ {R : Type 0} {g : Ghosts R} where
   -- blocks that a line may read, whichever of the two it is

@@ -1,20 +1,20 @@
--- What the racks hold of the sites of a world, none of which is in doubt.
+-- What the racks hold of the sites of a world, in which sites may be in doubt.
 use Rattle.std.specs.Prelude.{◌≡◌, ℕ, ◌<◌, List, length, None, Option, Some, slice_get, IsTrue}
 use Rattle.vx_model.specs.declared.limits.TheConstants.{MOST_SITES}
-use Rattle.vx_history.specs.World.{World}
+use Rattle.vx_history.specs.Doubts.{Doubted}
 use Rattle.vx_model.specs.declared.state.KeptLink.{KeptLink}
 use Rattle.vx_disk.specs.Shelf.{Meaning}
-use Rattle.vx_diskset.specs.Holds.{Beside, Holds, links_of}
+use Rattle.vx_diskset.specs.Holds.{Beside, Holds, beside_of}
 
 -- links, where no header was written but those that begin sessions
 abbrev pub with_links : List KeptLink → Beside
 with_links links = record { links = links; headers = 0; doubt = None }
 
 module _ {R : Type 0} (meaning : R → Meaning) where
-  -- the rack of each site holds it, with its links
-  pub record RacksHold (w : World) (racks : List R) : Type 0 where
+  -- the rack of each site holds it, with what the world has of it beside its node
+  pub record RacksHold (d : Doubted) (racks : List R) : Type 0 where
     pub eight : length racks ≡ MOST_SITES
-    pub each : (s : ℕ) (r : R) → s < w.sites → slice_get racks s ≡ Some r → Holds (with_links (links_of w s)) (w.nodes s) (meaning r)
+    pub each : (s : ℕ) (r : R) → s < d.world.sites → slice_get racks s ≡ Some r → Holds (beside_of d s) (d.world.nodes s) (meaning r)
 
   -- the contents of each rack are told
   pub record RacksTell (racks : List R) : Type 0 where

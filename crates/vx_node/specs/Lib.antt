@@ -1,12 +1,16 @@
+pub mod Carries
 pub mod Changes
 pub mod Fetching
+pub mod Happenings
 pub mod Holds
 pub mod Lines
+pub mod LinkLines
 pub mod OfSites
 pub mod Racks
 pub mod Replies
 pub mod Rising
 pub mod Seen
+pub mod Standing
 pub mod Stands
 pub mod Steps
 pub mod Working

@@ -8,7 +8,7 @@ use Rattle.vx_events.specs.declared.said.Said.{Said}
 use Rattle.vx_events.specs.Facts.{site_number}
 use Rattle.vx_events.specs.Failing.{is_failing}
 use Rattle.vx_diskset.specs.declared.disk_set.DiskSet.{DiskSet}
-use Rattle.vx_diskset.specs.declared.disk_set.DiskSet.TheVariants.{Up}
+use Rattle.vx_diskset.specs.declared.disk_set.DiskSet.TheVariants.{Up, Receives}
 use Rattle.vx_node.specs.declared.yard.Yard.{Yard}
 use Rattle.vx_diskset.specs.Asked.{SetsDisk, SetsFuse, CrashesBy, SameFailing, LeavesAlone, LeavesFuse, WritesUnder}
 use Rattle.vx_diskset.specs.Burning.{NoMore}
@@ -25,6 +25,7 @@ module _ {R : Type 0} {g : Ghosts R} where
   -- it is no disk set under a group
   abbrev pub IsIdle : DiskSet R g → Type 0
   IsIdle (Up rvg) = ⊥
+  IsIdle (Receives s) = ⊥
   IsIdle other = Unit {0}
 
   -- the disks of each site are as they were, or they are those of a site without a group, and are made to fail or not as they were

@@ -2,7 +2,7 @@
 use Rattle.std.specs.Prelude.{List, [], ◌∷◌, ◌++◌}
 use Rattle.vx_disk.specs.declared.shelf.Shelf.{Ghosts}
 use Rattle.vx_diskset.specs.declared.disk_set.DiskSet.{DiskSet}
-use Rattle.vx_diskset.specs.declared.disk_set.DiskSet.TheVariants.{Bare, Spoiled, Up, Down, Gone}
+use Rattle.vx_diskset.specs.declared.disk_set.DiskSet.TheVariants.{Bare, Spoiled, Up, Receives, Down, Gone}
 
 module _ {R : Type 0} {g : Ghosts R} where
   -- that of one, if it is not taken out
@@ -10,6 +10,7 @@ module _ {R : Type 0} {g : Ghosts R} where
   rack_in (Bare rack) = rack ∷ []
   rack_in (Spoiled rack) = rack ∷ []
   rack_in (Up rvg) = rvg.shelf ∷ []
+  rack_in (Receives s) = s.rvg.shelf ∷ []
   rack_in (Down rack) = rack ∷ []
   rack_in Gone = []
 

@@ -1,5 +1,5 @@
 -- What the yard promises where a site goes down, and where one that is down is started.
-use Rattle.std.specs.Prelude.{◌≡◌, ℕ, [], Some, slice_get, slice_set, Result, Ok, Err}
+use Rattle.std.specs.Prelude.{◌≡◌, ℕ, [], None, Some, slice_get, slice_set, Result, Ok, Err}
 use Rattle.vx_model.specs.declared.errors.OutOfMemory.{OutOfMemory}
 use Rattle.vx_history.specs.World.{Node, World}
 use Rattle.vx_model.specs.declared.site.SiteState.TheVariants.{Up as IsUp}
@@ -31,7 +31,7 @@ module _ {R : Type 0} {g : Ghosts R} where
 
   -- the same of each site for which its disk set stands
   pub record NotesUp (site ring last : ℕ) (old new : Yard R g) : Type 0 where
-    pub each : (e : DiskSet R g) (n : Node) → slice_get old.disk_sets.items site ≡ Some e → StandsAlone n e → n.state ≡ IsUp → NotedUp n site ring last old new
+    pub each : (e : DiskSet R g) (n : Node) → slice_get old.disk_sets.items site ≡ Some e → StandsAlone n e → n.state ≡ IsUp → n.halted ≡ None → NotedUp n site ring last old new
 
   -- a recovery that began in this world was answered so
   pub record Recovering (w : World) (site : ℕ) (said : Said) (old new : Yard R g) : Type 0 where

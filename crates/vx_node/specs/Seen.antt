@@ -1,12 +1,15 @@
 -- What the status of a site is made from.
-use Rattle.std.specs.Prelude.{ℕ, List, Option, Some, None, slice_get}
+use Rattle.std.specs.Prelude.{ℕ, List, [], Option, Some, None, map, slice_get}
 use Rattle.vx_model.specs.declared.no.SiteName.{SiteName}
 use Rattle.vx_model.specs.declared.no.SiteName.TheVariants.{Known, Number}
 use Rattle.vx_model.specs.declared.site.SiteState.{SiteState}
 use Rattle.vx_model.specs.declared.site.SiteState.TheVariants.{Bare, Up, Deported, Down}
 use Rattle.vx_order.specs.declared.facts.SiteFacts.{SiteFacts}
 use Rattle.vx_order.specs.declared.facts.RvgFacts.{RvgFacts}
+use Rattle.vx_order.specs.declared.facts.LinkFacts.{LinkFacts}
+use Rattle.vx_report.specs.declared.view.LinkView.{LinkView}
 use Rattle.vx_report.specs.declared.view.RvgView.{RvgView}
+use Rattle.vx_report.specs.declared.view.SiteView.{SiteView}
 
 -- the name in these facts, or this number where there are none
 abbrev pub name_at : Option SiteFacts → ℕ → SiteName
@@ -34,3 +37,24 @@ group_at Bare sites session rvg = None
 group_at Up sites session rvg = group_in sites session rvg
 group_at Deported sites session rvg = None
 group_at Down sites session rvg = None
+
+-- a link, which keeps no map
+abbrev pub link_seen : List SiteFacts → LinkFacts → LinkView
+link_seen sites l = record {
+  name = name_at (slice_get sites l.link.site) l.link.site;
+  bunker = l.link.bunker;
+  attached = l.link.attached;
+  connected = l.link.connected;
+  paused = l.link.paused;
+  mode = l.link.mode;
+  marked = 0;
+  net = l.link.net;
+  stored = l.link.stored;
+}
+
+abbrev pub links_seen : List SiteFacts → List LinkFacts → List LinkView
+links_seen sites links = map (λ l. link_seen sites l) links
+
+-- a site in this session, with these links
+abbrev pub site_seen : List SiteFacts → ℕ → SiteFacts → List LinkView → SiteView
+site_seen sites session site links = record { name = site.name; state = site.state; disks = []; volumes = []; rvg = group_at site.state sites session site.rvg; links = links }

@@ -1,6 +1,8 @@
 -- A yard, and what its calls promise.
-use Rattle.std.specs.Prelude.{◌≡◌, ◌≢◌, ◌⊎◌, ℕ, ◌≤◌, ◌<◌, List, [], ◌++◌, Option, Some, None, slice_get, Result, Ok, Err, Bool, is_some}
-use Rattle.vx_model.specs.declared.limits.TheConstants.{MOST_SITES}
+use Rattle.std.specs.Prelude.{◌≡◌, ◌≢◌, ◌⊎◌, ℕ, ◌≤◌, ◌<◌, List, [], length, ◌++◌, Option, Some, None, slice_get, Result, Ok, Err, Bool, is_some}
+use Rattle.vx_model.specs.declared.limits.TheConstants.{LEAST_BLOCKS, MOST_DISKS, MOST_SITES}
+use Rattle.vx_model.specs.declared.site.SiteState.TheVariants.{Bare, Deported}
+use Rattle.vx_order.specs.declared.facts.SiteFacts.{SiteFacts}
 use Rattle.std.specs.Vec.{vec_capacity}
 use Rattle.std.specs.Io.KnownBytes.{Appends}
 use Rattle.vx_history.specs.Doubts.{Doubted}
@@ -22,6 +24,13 @@ use Rattle.vx_events.specs.Parts.{DonePart}
 use Rattle.vx_events.specs.Plain.{IsUnlinked, ArePrimaries}
 use Rattle.vx_node.specs.Steps.{Prints}
 use Rattle.vx_events.specs.Fails.{Fails}
+
+-- A site of no more volumes than disks may be, of blocks enough, and in a state that a line may find it in.
+pub record IsShaped (f : SiteFacts) : Type 0 where
+  pub volumes : length f.volumes ≤ MOST_DISKS
+  pub disks : f.state ≡ Bare → f.disks ≤ MOST_DISKS
+  pub blocks : LEAST_BLOCKS ≤ f.blocks
+  pub never : f.state ≡ Deported → ⊥
 
 module _ {R : Type 0} {g : Ghosts R} where
   -- whether its disks are kept in files
@@ -51,10 +60,11 @@ module _ {R : Type 0} {g : Ghosts R} where
     pub none : y.racks.items ≡ []
     pub room : MOST_SITES ≤ vec_capacity y.racks
 
-  -- it stands for some world
+  -- eight disk sets, and no more sites, each of a shape that a site may have
   pub record IsKept (y : Yard R g) : Type 0 where
-    pub world : World
-    pub agrees : YardAgrees world y
+    pub eight : length y.disk_sets.items ≡ MOST_SITES
+    pub few : length y.facts.items ≤ MOST_SITES
+    pub each : (s : ℕ) (f : SiteFacts) → slice_get y.facts.items s ≡ Some f → IsShaped f
 
   -- nothing of a line was done
   pub record StaysAgreed (w : World) (old new : Yard R g) : Type 0 where

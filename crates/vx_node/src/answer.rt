@@ -1,9 +1,11 @@
 // What a line is answered.
 ghost use Rattle.std.specs.Prelude.{◌≡◌, ◌*◌, IfOk, IfErr, IsSome, min, replicate, true};
+ghost use Rattle.vx_history.specs.Doubts.{Doubted};
 ghost use Rattle.vx_history.specs.World.{World};
 ghost use Rattle.vx_order.specs.Order.{refusal_of};
 ghost use Rattle.vx_node.specs.OfSites.{AllAsBefore, AsAsked, HasCalled};
 ghost use Rattle.vx_node.specs.Lines.{is_built};
+ghost use Rattle.vx_node.specs.Standing.{AnswersIs, LeadsIs, StandsFor, goes_with_links};
 ghost use Rattle.vx_node.specs.Working.{WorkIs, AnswerIs, IsFree};
 ghost use Rattle.vx_node.specs.Yards.{IsKept, YardAgrees, IsTold, in_files};
 
@@ -31,7 +33,10 @@ impl<R: Rack> Yard<R> {
         ensures works { (w : World) → YardAgrees w self.old → WorkIs w words.now self.old self.new result }
         ensures asked { (w : World) → YardAgrees w self.old → AsAsked w words.now self.old self.new }
         ensures called { (w : World) → YardAgrees w self.old → IfOk result (λ said. HasCalled w words.now said self.old self.new) }
-        ensures short { IfErr result (λ e. AllAsBefore self.old self.new) }
+        ensures leads { (d : Doubted) → StandsFor d self.old → goes_with_links words.now ≡ true → LeadsIs d words.now self.old self.new result }
+        ensures asks { (d : Doubted) → StandsFor d self.old → goes_with_links words.now ≡ true → AsAsked d.world words.now self.old self.new }
+        ensures calls { (d : Doubted) → StandsFor d self.old → goes_with_links words.now ≡ true → IfOk result (λ said. HasCalled d.world words.now said self.old self.new) }
+        ensures short { (w : World) → YardAgrees w self.old → IfErr result (λ e. AllAsBefore self.old self.new) }
         ensures told { IsTold self.new → IsTold self.old }
         ensures files { in_files self.new ≡ in_files self.old }
     {
@@ -43,7 +48,7 @@ impl<R: Rack> Yard<R> {
             } => self.make_site(alloc, site, *disks, *blocks),
             ScriptLine::Raw { site } => self.make_raw(alloc, site),
             ScriptLine::Disk { site, disk, state } => Ok(self.set_disk(site, *disk, *state)),
-            ScriptLine::Crash { site, pick } => Ok(self.crash_line(site, *pick)),
+            ScriptLine::Crash { site, pick } => Ok(self.crash_line(alloc, site, *pick)),
             ScriptLine::Fuse { site, writes, pick } => Ok(self.fuse_line(site, *writes, *pick)),
             ScriptLine::Recover { site } => self.recover_line(alloc, site),
             ScriptLine::Write {
@@ -54,14 +59,14 @@ impl<R: Rack> Yard<R> {
                 fill,
             } => {
                 let bytes = filled(alloc, *count, *fill)?;
-                Ok(self.write_line(site, volume, *block, *count, *fill, &bytes))
+                Ok(self.write_line(alloc, site, volume, *block, *count, *fill, &bytes))
             }
             ScriptLine::Put {
                 site,
                 volume,
                 block,
                 bytes,
-            } => Ok(self.put_line(site, volume, *block, bytes)),
+            } => Ok(self.put_line(alloc, site, volume, *block, bytes)),
             ScriptLine::Read {
                 site,
                 volume,
@@ -80,8 +85,8 @@ impl<R: Rack> Yard<R> {
                 let room = filled(alloc, *count, 0)?;
                 Ok(self.show_line(site, volume, *block, *count, room))
             }
-            ScriptLine::Apply { site, count } => Ok(self.apply_line(site, *count)),
-            ScriptLine::Status { site } => Ok(self.status_line(alloc, site)),
+            ScriptLine::Apply { site, count } => Ok(self.apply_line(alloc, site, *count)),
+            ScriptLine::Status { site } => self.status_line(alloc, site),
             // A line that is not built.
             _ => unreachable!(),
         }
@@ -94,8 +99,11 @@ impl<R: Rack> Yard<R> {
         ensures answers { (w : World) → YardAgrees w self.old → AnswerIs w words.now self.old self.new result }
         ensures asked { (w : World) → YardAgrees w self.old → IsFree self.old words.now → AsAsked w words.now self.old self.new }
         ensures called { (w : World) → YardAgrees w self.old → IsFree self.old words.now → IfOk result (λ said. HasCalled w words.now said self.old self.new) }
+        ensures leads { (d : Doubted) → StandsFor d self.old → goes_with_links words.now ≡ true → AnswersIs d words.now self.old self.new result }
+        ensures asks { (d : Doubted) → StandsFor d self.old → goes_with_links words.now ≡ true → IsFree self.old words.now → AsAsked d.world words.now self.old self.new }
+        ensures calls { (d : Doubted) → StandsFor d self.old → goes_with_links words.now ≡ true → IsFree self.old words.now → IfOk result (λ said. HasCalled d.world words.now said self.old self.new) }
         // For want of memory no disk is made to fail, and no fuse is set.
-        ensures short { IfErr result (λ e. AllAsBefore self.old self.new) }
+        ensures short { (w : World) → YardAgrees w self.old → IfErr result (λ e. AllAsBefore self.old self.new) }
         // A line that is refused leaves all disks as they are.
         ensures still { IsSome (refusal_of self.old.facts.items (in_files self.old) words.now) → self.new.disk_sets ≡ self.old.disk_sets }
         ensures told { IsTold self.new → IsTold self.old }

@@ -95,11 +95,12 @@ pub fn set_halted(facts: &mut SiteFacts, disk: u32)
 }
 
 /// The site crashed.
-pub fn go_down(facts: &mut SiteFacts)
+pub fn go_down(alloc: Global, facts: &mut SiteFacts)
     ensures { facts.new ≡ down_facts facts.old }
 {
     facts.state = SiteState::Down;
     facts.rvg = None;
+    facts.links = LinkTable::new(alloc);
 }
 
 /// The site came up with a log of this state, up to this number, in a ring of so many blocks.

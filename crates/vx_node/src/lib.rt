@@ -6,20 +6,30 @@
 
 mod answer;
 mod apply;
+mod connect;
 mod crash;
+mod cut;
 mod disk;
 mod errors;
 mod facts;
 mod folder;
 mod fuse;
 pub mod laws;
+mod links;
+mod load;
 mod make;
+mod pause;
 mod place;
+mod pump;
 mod racks;
 mod read;
 mod recover;
+mod resume;
+pub mod sent;
 mod status;
 mod text;
+mod tick;
+mod wait;
 mod write;
 mod yard;
 

@@ -18,6 +18,9 @@ fn give_back<R: Rack>(racks: &mut Vec<R>, disk_set: DiskSet<R>)
         DiskSet::Up(rvg) => {
             let _ = racks.push(rvg.into_shelf());
         }
+        DiskSet::Receives(site) => {
+            let _ = racks.push(site.into_rvg().into_shelf());
+        }
         DiskSet::Gone => {}
     }
 }

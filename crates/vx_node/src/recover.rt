@@ -17,6 +17,7 @@ use vx_disk::Rack;
 use vx_diskset::can_be_raw;
 use vx_model::limits::{LEAST_BLOCKS, MOST_SITES};
 use vx_model::{Name, No, OutOfMemory, SiteState, ring_blocks};
+use vx_report::LinkViews;
 use vx_rvg::StartRoom;
 use vx_script::ScriptLine;
 
@@ -54,7 +55,7 @@ impl<R: Rack> Yard<R> {
         match came {
             Ok(()) => {
                 let last = self.note_up(site, ring);
-                Said::Recovered(last, self.view_at(alloc, site))
+                Said::Recovered(last, self.view_at(alloc, site, LinkViews::new(alloc)))
             }
             Err(no) => Said::Refused(no),
         }
@@ -85,7 +86,7 @@ impl<R: Rack> Yard<R> {
             Ok(()) => {
                 facts::make_raw(&mut self.facts[site], site as u32, volumes);
                 let last = self.note_up(site, ring_blocks(blocks));
-                Ok(Said::Recovered(last, self.view_at(alloc, site)))
+                Ok(Said::Recovered(last, self.view_at(alloc, site, LinkViews::new(alloc))))
             }
             Err(no) => Ok(Said::Refused(no)),
         }
@@ -121,7 +122,7 @@ impl<R: Rack> Yard<R> {
             SiteState::Deported => unreachable!(),
             SiteState::Up => {
                 let room = StartRoom::new(alloc, blocks)?;
-                self.go_down(site, u64::MAX);
+                self.go_down(alloc, site, u64::MAX);
                 Ok(self.come_up(alloc, site, ring_blocks(blocks), room))
             }
             SiteState::Down => {

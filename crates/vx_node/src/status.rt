@@ -1,18 +1,22 @@
 // What the status of a site shows.
-ghost use Rattle.std.specs.Prelude.{◌≡◌, ◌<◌, [], length, slice_get};
+ghost use Rattle.std.specs.Prelude.{◌≡◌, ◌<◌, [], IfOk, Some, length, slice_get};
+ghost use Rattle.vx_history.specs.Doubts.{Doubted};
 ghost use Rattle.vx_history.specs.World.{World};
+ghost use Rattle.vx_order.specs.declared.facts.SiteFacts.{SiteFacts};
 ghost use Rattle.vx_script.specs.declared.line.ScriptLine.TheVariants.{Status as StatusLine};
-ghost use Rattle.vx_node.specs.Seen.{name_at, group_seen, group_at};
+ghost use Rattle.vx_node.specs.Seen.{name_at, group_seen, group_at, link_seen, links_seen, site_seen};
+ghost use Rattle.vx_node.specs.Standing.{LeadsIs, StandsFor};
+ghost use Rattle.vx_events.specs.LinkViews.{linked_view};
 ghost use Rattle.vx_events.specs.Views.{view_of};
-ghost use Rattle.vx_node.specs.Working.{Worked, IsFree};
+ghost use Rattle.vx_node.specs.Working.{WorkIs, IsFree};
 ghost use Rattle.vx_node.specs.Yards.{IsKept, YardAgrees};
 
 use crate::{Said, Yard};
 use std::alloc::Global;
 use vx_disk::Rack;
-use vx_model::{Name, SiteName, SiteState};
-use vx_order::{RvgFacts, SiteFacts};
-use vx_report::{DiskViews, LinkViews, RvgView, SiteView, VolumeViews};
+use vx_model::{Name, OutOfMemory, SiteName, SiteState};
+use vx_order::{LinkFacts, RvgFacts, SiteFacts};
+use vx_report::{DiskViews, LinkView, LinkViews, RvgView, SiteView, VolumeViews};
 
 // The name of a site, or its number where it is not here.
 fn name_of(sites: &[SiteFacts], number: u32) -> SiteName
@@ -51,8 +55,46 @@ fn shown(sites: &[SiteFacts], session: u64, site: &SiteFacts) -> Option<RvgView>
     }
 }
 
-fn view(alloc: Global, sites: &[SiteFacts], session: u64, site: &SiteFacts) -> SiteView
-    ensures { result ≡ record { name = site.now.name; state = site.now.state; disks = []; volumes = []; rvg = group_at site.now.state sites.now session site.now.rvg; links = [] } }
+// A link. It keeps no map, so no region is marked.
+fn link_view(sites: &[SiteFacts], link: &LinkFacts) -> LinkView
+    ensures { result ≡ link_seen sites.now link.now }
+{
+    LinkView {
+        name: name_of(sites, link.link.site),
+        bunker: link.link.bunker,
+        attached: link.link.attached,
+        connected: link.link.connected,
+        paused: link.link.paused,
+        mode: link.link.mode,
+        marked: 0,
+        net: link.link.net,
+        stored: link.link.stored,
+    }
+}
+
+// The links of a site, in order.
+fn link_views(
+    alloc: Global,
+    sites: &[SiteFacts],
+    links: &[LinkFacts],
+) -> Result<LinkViews, OutOfMemory>
+    ensures { IfOk result (λ views. views ≡ links_seen sites.now links.now) }
+{
+    let mut views = LinkViews::new(alloc);
+    for link in links {
+        views.push(link_view(sites, link))?;
+    }
+    Ok(views)
+}
+
+fn view(
+    alloc: Global,
+    sites: &[SiteFacts],
+    session: u64,
+    site: &SiteFacts,
+    links: LinkViews,
+) -> SiteView
+    ensures { result ≡ site_seen sites.now session site.now links }
 {
     SiteView {
         name: site.name,
@@ -60,28 +102,31 @@ fn view(alloc: Global, sites: &[SiteFacts], session: u64, site: &SiteFacts) -> S
         disks: DiskViews::new(alloc),
         volumes: VolumeViews::new(alloc),
         rvg: shown(sites, session, site),
-        links: LinkViews::new(alloc),
+        links,
     }
 }
 
 impl<R: Rack> Yard<R> {
-    /// How a site stands.
-    pub(crate) fn view_at(&self, alloc: Global, site: usize) -> SiteView
+    /// How a site with these links stands.
+    pub(crate) fn view_at(&self, alloc: Global, site: usize, links: LinkViews) -> SiteView
         requires site { site < length self.now.facts.items }
         requires disk_set { site < length self.now.disk_sets.items }
-        ensures { (w : World) → YardAgrees w self.now → site < w.sites → result ≡ view_of w (w.nodes site) }
+        ensures alone { (w : World) → YardAgrees w self.now → site < w.sites → links ≡ [] → result ≡ view_of w (w.nodes site) }
+        ensures linked { (d : Doubted) (f : SiteFacts) → StandsFor d self.now → site < d.world.sites → slice_get self.now.facts.items site ≡ Some f → links ≡ links_seen self.now.facts.items f.links → result ≡ linked_view d.world site }
     {
         let session = self.disk_sets[site].session();
-        view(alloc, &self.facts, session, &self.facts[site])
+        view(alloc, &self.facts, session, &self.facts[site], links)
     }
 
     /// The status of a site.
-    pub(crate) fn status_line(&self, alloc: Global, name: &Name) -> Said
+    pub(crate) fn status_line(&self, alloc: Global, name: &Name) -> Result<Said, OutOfMemory>
         requires kept { IsKept self.now }
         requires free { IsFree self.now (StatusLine name.now) }
-        ensures works { (w : World) → YardAgrees w self.now → Worked w (StatusLine name.now) result self.now self.now }
+        ensures works { (w : World) → YardAgrees w self.now → WorkIs w (StatusLine name.now) self.now self.now result }
+        ensures leads { (d : Doubted) → StandsFor d self.now → LeadsIs d (StatusLine name.now) self.now self.now result }
     {
         let site = self.site_of(name);
-        Said::Shown(self.view_at(alloc, site))
+        let links = link_views(alloc, &self.facts, self.facts[site].links.as_slice())?;
+        Ok(Said::Shown(self.view_at(alloc, site, links)))
     }
 }

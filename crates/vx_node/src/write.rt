@@ -11,19 +11,20 @@ ghost use Rattle.vx_node.specs.Writes.{WriteFree, PutsIs, noted_facts};
 ghost use Rattle.vx_node.specs.Yards.{IsKept, YardAgrees, IsTold, in_files};
 
 use crate::{Said, Yard, facts};
+use std::alloc::Global;
 use vx_disk::Rack;
 use vx_model::limits::{MOST_CALL_BLOCKS, MOST_CALL_BYTES};
 use vx_model::{Block, Name, No};
 use vx_order::SiteFacts;
 
 /// A line on the group of a site was refused: where its disk failed, the site is halted, and where its fuse ran out, it is down.
-pub(crate) fn refused(facts: &mut SiteFacts, no: No) -> Said
+pub(crate) fn refused(alloc: Global, facts: &mut SiteFacts, no: No) -> Said
     ensures noted { facts.new ≡ noted_facts no facts.old }
     ensures said { result ≡ Refused no }
 {
     match no {
         No::Device { disk } => facts::set_halted(facts, disk),
-        No::Down => facts::go_down(facts),
+        No::Down => facts::go_down(alloc, facts),
         _ => {}
     }
     Said::Refused(no)
@@ -31,7 +32,14 @@ pub(crate) fn refused(facts: &mut SiteFacts, no: No) -> Said
 
 impl<R: Rack> Yard<R> {
     /// Writes whole blocks to a volume. The tests of the line found the site and the volume, and the blocks lie within it.
-    fn write_blocks(&mut self, name: &Name, volume: &Name, start: u64, bytes: &[u8]) -> Said
+    fn write_blocks(
+        &mut self,
+        alloc: Global,
+        name: &Name,
+        volume: &Name,
+        start: u64,
+        bytes: &[u8],
+    ) -> Said
         requires some { 0 < length bytes.now }
         requires few { length bytes.now ≤ MOST_CALL_BYTES }
         requires whole { length bytes.now % 512 ≡ 0 }
@@ -49,13 +57,14 @@ impl<R: Rack> Yard<R> {
                 facts::set_last(&mut self.facts[site], number);
                 Said::DoneAt(number)
             }
-            Err(no) => refused(&mut self.facts[site], no),
+            Err(no) => refused(alloc, &mut self.facts[site], no),
         }
     }
 
     /// Writes blocks that are filled with one byte.
     pub(crate) fn write_line(
         &mut self,
+        alloc: Global,
         name: &Name,
         volume: &Name,
         start: u64,
@@ -75,11 +84,18 @@ impl<R: Rack> Yard<R> {
         if count < 1 || count > MOST_CALL_BLOCKS {
             unreachable!();
         }
-        self.write_blocks(name, volume, start, bytes)
+        self.write_blocks(alloc, name, volume, start, bytes)
     }
 
     /// Writes one block of these bytes.
-    pub(crate) fn put_line(&mut self, name: &Name, volume: &Name, start: u64, bytes: &Block) -> Said
+    pub(crate) fn put_line(
+        &mut self,
+        alloc: Global,
+        name: &Name,
+        volume: &Name,
+        start: u64,
+        bytes: &Block,
+    ) -> Said
         requires kept { IsKept self.old }
         requires free { IsFree self.old (PutLine name.now volume.now start bytes.now) }
         ensures works { (w : World) → YardAgrees w self.old → Worked w (PutLine name.now volume.now start bytes.now) result self.old self.new }
@@ -88,6 +104,6 @@ impl<R: Rack> Yard<R> {
         ensures told { IsTold self.new → IsTold self.old }
         ensures files { in_files self.new ≡ in_files self.old }
     {
-        self.write_blocks(name, volume, start, bytes.as_bytes())
+        self.write_blocks(alloc, name, volume, start, bytes.as_bytes())
     }
 }

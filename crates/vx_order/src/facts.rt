@@ -1,8 +1,10 @@
 // What the tests of a line look at.
-ghost use Rattle.std.specs.Prelude.{◌≡◌, ◌<◌, ◌++◌, ◌∷◌, [], OnOk, length, slice_set};
+ghost use Rattle.std.specs.Prelude.{◌≡◌, ◌<◌, ◌++◌, ◌∷◌, [], IfOk, OnOk, length, slice_set};
+ghost use Rattle.vx_model.specs.declared.limits.TheConstants.{LINK_PLACES};
 
 use std::alloc::Global;
 use std::marker::Model;
+use vx_model::limits::LINK_PLACES;
 use vx_model::{Line, Link, Mark, Name, OutOfMemory, Role, SiteState};
 
 /// What a volume is to the replicated volume group of its site.
@@ -47,7 +49,7 @@ pub struct RvgFacts {
 #[derive(Clone, Copy)]
 pub struct LinkFacts {
     pub link: Link,
-    /// The blocks of the log's ring that the numbers above the link's hold take.
+    /// The blocks of the log's ring that the numbers above the link's hold take, or 0 where the link needs nothing of the log.
     pub used: u64,
 }
 
@@ -152,5 +154,53 @@ impl LinkTable {
         ensures { result.now ≡ self.now }
     {
         &self.links
+    }
+}
+
+/// Room for the links of a site, taken before they are known. Contracts see those that are in it.
+#[derive(Drop)]
+pub struct LinkRoom {
+    links: Vec<LinkFacts>,
+}
+
+impl Model for LinkRoom {
+    ghost use Rattle.std.specs.Prelude.{List, ◌≤◌};
+    ghost use Rattle.std.specs.Vec.{vec_capacity};
+    ghost use Rattle.vx_order.specs.declared.facts.LinkFacts.{LinkFacts};
+    ghost use Rattle.vx_model.specs.declared.limits.TheConstants.{LINK_PLACES};
+
+    ghost Value = { List LinkFacts };
+
+    ghost view = { λ r. r.links.items };
+
+    ghost invariant = { λ r. LINK_PLACES ≤ vec_capacity r.links };
+}
+
+impl LinkRoom {
+    /// Room for as many links as the header of a log has places for.
+    pub fn new(alloc: Global) -> Result<LinkRoom, OutOfMemory>
+        ensures { IfOk result (λ room. room ≡ []) }
+    {
+        Ok(LinkRoom {
+            links: Vec::with_capacity(alloc, LINK_PLACES)?,
+        })
+    }
+
+    /// Adds a link after the others.
+    pub fn push(&mut self, link: LinkFacts)
+        requires room { length self.old < LINK_PLACES }
+        ensures { self.new ≡ self.old ++ link ∷ [] }
+    {
+        match self.links.push(link) {
+            Ok(()) => {}
+            Err(_) => unreachable!(),
+        }
+    }
+
+    /// The links as a table.
+    pub fn into_table(self) -> LinkTable
+        ensures { result ≡ self }
+    {
+        LinkTable { links: self.links }
     }
 }

@@ -25,7 +25,9 @@ mod sites;
 mod span;
 mod subject;
 
-pub use facts::{LinkFacts, LinkTable, RvgFacts, SiteFacts, VolumeFacts, VolumeKind, VolumeTable};
+pub use facts::{
+    LinkFacts, LinkRoom, LinkTable, RvgFacts, SiteFacts, VolumeFacts, VolumeKind, VolumeTable,
+};
 pub use laws::{
     apply_lines, crash_lines, disk_lines, fuse_lines, put_lines, raw_lines, read_lines,
     recover_lines, show_lines, site_lines, status_lines, write_lines,

@@ -59,6 +59,15 @@ impl Assembly {
         })
     }
 
+    /// Lets go what is in assembly.
+    pub fn clear(&mut self)
+        ensures none { self.new.held ≡ None }
+        ensures whole { self.new.whole ≡ None }
+    {
+        self.key = None;
+        self.is_whole = false;
+    }
+
     // Begins with a message of this key, if it is not in assembly.
     fn begin(&mut self, key: &Key)
         ensures { self.new.held ≡ Some (record { key = key.now; parts = parts_before self.old.held key.now }) }

@@ -3,7 +3,7 @@ use Rattle.std.proofs.Common.{◌≡◌, ◌∙◌, ◌⊎◌, inl, inr, ◌+◌
 use Rattle.std.specs.Prelude.{Option, Some, None, Result, Ok, Err, ◌&&◌, slice_get, if◌then◌else◌}
 use Rattle.std.proofs.lemmas.List.{drop-append-le, map-append}
 use Rattle.vx_model.specs.Content.{Write}
-use Rattle.vx_model.specs.Sites.{is_origin, is_up}
+use Rattle.vx_model.specs.Sites.{is_origin, is_up, same_line}
 use Rattle.vx_model.specs.declared.call.Update.{Update as Logged}
 use Rattle.vx_model.specs.declared.history.Line.{Line}
 use Rattle.vx_model.specs.declared.no.No.{No}
@@ -11,7 +11,7 @@ use Rattle.vx_model.specs.declared.site.SiteState.{SiteState}
 use Rattle.vx_history.specs.Events.{delivered, from_memory, gathers, handed, heard, packet_at, taken_if, update_taken, with_write}
 use Rattle.vx_history.specs.Gatherings.{completes, gathered, left_by}
 use Rattle.vx_history.specs.LinkForms.{plain_receiver}
-use Rattle.vx_history.specs.Receiving.{received_step}
+use Rattle.vx_history.specs.Receiving.{Received, received_step}
 use Rattle.vx_history.specs.Refusals.{Outcome, is_running, says}
 use Rattle.vx_history.specs.Sends.{packets_of}
 use Rattle.vx_history.specs.World.{Gathering, Message, NetAck, Node, Packet, Update, World, updated, with_node}
@@ -20,7 +20,7 @@ use Rattle.vx_history.specs.declared.receiver.RAction.{RAction}
 use Rattle.vx_history.specs.declared.receiver.RAction.TheVariants.{DataAck, Ignored, IgnoredAck, Nothing, Take}
 use Rattle.vx_history.specs.declared.receiver.REvent.TheVariants.{Update as HearUpdate}
 use Rattle.vx_history.specs.declared.receiver.RState.{RState}
-use Rattle.vx_history.proofs.Updates.{at_place}
+use Rattle.vx_history.proofs.Updates.{at_place, same_line_equal}
 use Rattle.vx_courier.specs.Together.{AreOne, AssemblyStands, ComesFrom, IsPutTo}
 use Rattle.vx_courier.specs.UnderWay.{CanFly, FlightStands, carrier, part_carried, way_of}
 use Rattle.vx_courier.proofs.Flying.{place_of_number}
@@ -51,6 +51,15 @@ pub record ReadOf (p : Packet) (k : ℕ) (bytes : List ℕ) (part : Part) : Type
   pub line : part.line ≡ p.line
   pub source : part.source ≡ p.source
   pub number : part.number ≡ k
+
+abbrev received : RState → RAction → Received
+received s a = record { state = s; action = a }
+
+-- an update that the rule takes is of the receiver's line
+line_of_take : (same rest repeated : Bool) (s t : RState) (k last m : ℕ) → (if same && rest then received s (Take k) else received t (if repeated then IgnoredAck last else Ignored)).action ≡ Take m → same ≡ true
+line_of_take true rest repeated s t k last m is = refl
+line_of_take false rest true s t k last m is = absurd (cc)
+line_of_take false rest false s t k last m is = absurd (cc)
 
 number_of_part : (e : Envelope) (m : Spelled) (k : ℕ) → (part_of e m k).number ≡ (row m).number
 unfolding part_of
@@ -128,7 +137,7 @@ module _ (w : World) (number : ℕ) (p : Packet) (k : ℕ) (x : Write) (at : pac
 
       -- ---- a part that can be taken
 
-      module _ (m : ℕ) (takes : act ≡ Take m) (size : ℕ → ℕ) (fits : can_log c size (update_on p.line k x) ≡ true) (one : AreOne w.packets) (bytes : List ℕ) (part : Part) (read : ReadOf p k bytes part) where
+      module _ (m : ℕ) (takes : act ≡ Take m) (size : ℕ → ℕ) (fits : p.line ≡ c.log.header.state.line → can_log c size (update_on p.line k x) ≡ true) (one : AreOne w.packets) (bytes : List ℕ) (part : Part) (read : ReadOf p k bytes part) where
         abbrev g : Option Gathering
         g = w.gathering p.target
 
@@ -144,7 +153,7 @@ module _ (w : World) (number : ℕ) (p : Packet) (k : ℕ) (x : Write) (at : pac
             ∙ ap (λ (l : Line). (received_step (plain_receiver n) (HearUpdate l k)).action) read.line ∙ takes
 
         can : can_log c size u ≡ true
-        can = ap (λ (l : Line). can_log c size (record { line = l; number = k; vol = x.volume; block = x.start; bytes = x.bytes })) read.line ∙ fits
+        can = ap (λ (l : Line). can_log c size (record { line = l; number = k; vol = x.volume; block = x.start; bytes = x.bytes })) read.line ∙ fits (same_line_equal p.line n.line (line_of_take (same_line p.line n.line) _ _ _ _ _ _ m takes) ∙ sym (ap (λ (s : RState). s.line) receives.rule))
 
         -- it waits where it is whole
         taken_here : (us' : List Logged) (r : Result RAction No) → TakeIs c size us u r us' → (waits_now r ≡ Some true) × (us' ≡ us ++ u ∷ [])

@@ -5,7 +5,7 @@ use Rattle.vx_model.specs.Sites.{is_up, same_line}
 use Rattle.vx_model.specs.declared.history.Line.{Line}
 use Rattle.vx_model.specs.declared.link.Link.{Link as PlainLink}
 use Rattle.vx_model.specs.declared.site.SiteState.{SiteState}
-use Rattle.vx_history.specs.Events.{delivered, facts_of, gathers, handed, heard, link_heard, packet_at, said_of_link}
+use Rattle.vx_history.specs.Events.{delivered, facts_of, gathered_if, gathers, handed, heard, is_taken, link_heard, packet_at, said_of_link}
 use Rattle.vx_history.specs.Gatherings.{gathered, left_by}
 use Rattle.vx_history.specs.LinkForms.{plain_link, with_plain}
 use Rattle.vx_history.specs.Refusals.{Outcome, is_running, keeps_links, says}
@@ -86,7 +86,7 @@ module _ (w : World) (number : ℕ) (p : Packet) (at : packet_at w.packets numbe
   abbrev after : World
   after = with_link w p.target p.source (with_plain l r.link)
 
-  outcome_is : delivered w number (packet_at w.packets number) ≡ gathers p (says after (said_of_link r.action))
+  pub outcome_is : delivered w number (packet_at w.packets number) ≡ gathers p (says after (said_of_link r.action))
   outcome_is =
       ap (delivered w number) at
       ∙ ap (gathers p)
@@ -116,11 +116,21 @@ module _ (w : World) (number : ℕ) (p : Packet) (at : packet_at w.packets numbe
   pub event_is : (m : Spelled) → m ≡ spelled p.message → (o : Option SEvent) → o ≡ event_in m → o ≡ Some (event_for p.message)
   event_is m is o found = found ∙ ap event_in is ∙ event_there p.message answers
 
-  link_there : after.links p.target p.source ≡ with_plain l r.link
+  pub link_there : after.links p.target p.source ≡ with_plain l r.link
   link_there = ap (λ (row : ℕ → Link). row p.source) (at_place w.links p.target (updated (w.links p.target) p.source (with_plain l r.link))) ∙ at_place (w.links p.target) p.source (with_plain l r.link)
 
   link_is : (k : PlainLink) → k ≡ r.link → k ≡ plain_link p.source (after.links p.target p.source)
   link_is k is = is ∙ sym (again p.source l (facts_of n p.line) p.message answers) ∙ ap (plain_link p.source) (sym link_there)
+
+  gathered_links : (took : Bool) (v : World) → (gathered_if took v p).links ≡ v.links
+  gathered_links true v = refl
+  gathered_links false v = refl
+
+  -- and so it is behind the delivery
+  pub link_so : (k : PlainLink) → k ≡ r.link → k ≡ plain_link p.source ((delivered w number (packet_at w.packets number)).world.links p.target p.source)
+  link_so k is =
+      link_is k is
+      ∙ sym (ap (λ (f : ℕ → ℕ → Link). plain_link p.source (f p.target p.source)) (ap (λ (o : Outcome). o.world.links) outcome_is ∙ gathered_links (is_taken (said_of_link r.action)) after))
 
   module _ (a : Assembled) (stands : AssemblyStands w.packets p.target (w.gathering p.target) a) where
     said_ignored : (x : Action) → (x ≡ Taken → ⊥) → said_of_link x ≡ IsIgnored

@@ -2,7 +2,7 @@
 ghost use Rattle.std.specs.Prelude.{◌≡◌, ℕ, Some, true};
 ghost use Rattle.vx_courier.specs.Together.{AreOne, AssemblyStands};
 ghost use Rattle.vx_courier.specs.UnderWay.{FlightStands};
-ghost use Rattle.vx_history.specs.Events.{packet_at};
+ghost use Rattle.vx_history.specs.Events.{delivered, packet_at};
 ghost use Rattle.vx_history.specs.LinkForms.{plain_link};
 ghost use Rattle.vx_history.specs.World.{Packet, World};
 ghost use Rattle.vx_peers.specs.Answers.{AnsweredAt, Listens, event_in, is_answer};
@@ -75,4 +75,31 @@ pub fn deliver_answer<N: Net>(
         }
         Action::Nothing | Action::Ignored | Action::Updates { from: _, to: _ } => Said::Ignored,
     }
+}
+
+/// The link as `deliver_answer` would leave it, which it does not do.
+pub fn heard_link<N: Net>(link: &Link, safe: u64, line: &Line, flight: &N, number: u64) -> Link
+    ensures { (w : World) (p : Packet) (site : ℕ) → packet_at w.packets number ≡ Some p → p.target ≡ site → is_answer p.message ≡ true
+        → FlightStands w.packets (N.flying flight.now) → Listens (w.nodes site) (w.links site p.source) safe line.now → link.now ≡ plain_link p.source (w.links site p.source)
+        → result ≡ plain_link p.source ((delivered w number (packet_at w.packets number)).world.links site p.source) }
+{
+    let Some(bytes) = flight.get(number) else {
+        return *link;
+    };
+    let Some(part) = decode(bytes) else {
+        return *link;
+    };
+    let Some(message) = read_one(bytes, &part) else {
+        return *link;
+    };
+    let Some(event) = event_of(&message) else {
+        return *link;
+    };
+    let facts = SFacts {
+        safe,
+        line_ok: part.line == *line,
+    };
+    let mut heard = *link;
+    let _action = vx_sender::step(&mut heard, &event, &facts);
+    heard
 }

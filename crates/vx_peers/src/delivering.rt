@@ -53,7 +53,7 @@ pub fn deliver_update<S: Shelf, N: Net>(
     ensures delivered { (w : World) (p : Packet) (k : ℕ) (x : Write) → packet_at w.packets number ≡ Some p → p.target ≡ site → p.message ≡ PlainUpdate k x
         → AreOne w.packets → FlightStands w.packets (N.flying flight.old) → Receives (w.nodes site) secondary.old.rvg.core secondary.old.waiting fed_by.old
         → AssemblyStands w.packets site (w.gathering site) assembly.old
-        → can_log secondary.old.rvg.core (S.meaning secondary.old.rvg.shelf).size (update_of p.line k x) ≡ true
+        → (p.line ≡ secondary.old.rvg.core.log.header.state.line → can_log secondary.old.rvg.core (S.meaning secondary.old.rvg.shelf).size (update_of p.line k x) ≡ true)
         → IfOk result (λ said. DeliveredAt w site number secondary.new.rvg.core secondary.new.waiting fed_by.new assembly.new (N.flying flight.new) said) }
     ensures group { secondary.new.rvg ≡ secondary.old.rvg }
     ensures waiting { OnErr result (secondary.new.waiting ≡ secondary.old.waiting) }

@@ -8,7 +8,7 @@ mod pumping;
 mod reading;
 mod sending;
 
-pub use answering::deliver_answer;
+pub use answering::{deliver_answer, heard_link};
 pub use delivering::deliver_update;
 pub use pumping::pump;
 

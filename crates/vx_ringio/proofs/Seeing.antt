@@ -29,16 +29,22 @@ use Rattle.vx_ringio.proofs.Writing.{nth, nth_more}
 
 -- ---- headers of the log
 
-pub is_of : (ring : ℕ) (h : Header) → h.place < ring → 0 < h.low → is_of_ring ring h ≡ true
-is_of ring h place low = and_from (nat_lt h.place ring) (nat_lt 0 h.low) (lt-ltb h.place ring place) (lt-ltb 0 h.low low)
+pub is_of : (ring : ℕ) (h : Header) → h.place < ring → 0 < h.low → h.run ≤ h.stamp → is_of_ring ring h ≡ true
+is_of ring h place low runs =
+    and_from (nat_lt h.place ring) (nat_lt 0 h.low && nat_lt h.run (h.stamp + 1)) (lt-ltb h.place ring place)
+    (and_from (nat_lt 0 h.low) (nat_lt h.run (h.stamp + 1)) (lt-ltb 0 h.low low) (lt-ltb h.run (h.stamp + 1) (omega (arith, runs))))
 
 and_false : (a b : Bool) → (a ≡ false) ⊎ (b ≡ false) → (a && b) ≡ false
 and_false true b or = ⊎_elim (λ no. absurd cc) (λ no. no) or
 and_false false b or = refl
 
-pub is_of_other : (ring : ℕ) (h : Header) → ((h.place < ring) × (h.low ≤ 0)) ⊎ (ring ≤ h.place) → is_of_ring ring h ≡ false
-is_of_other ring h (inl low) = and_false (nat_lt h.place ring) (nat_lt 0 h.low) (inr (le-ltb 0 h.low low.1))
-is_of_other ring h (inr high) = and_false (nat_lt h.place ring) (nat_lt 0 h.low) (inl (le-ltb h.place ring high))
+pub is_of_other : (ring : ℕ) (h : Header) → ((h.place < ring) × (0 < h.low) × (h.stamp < h.run)) ⊎ (((h.place < ring) × (h.low ≤ 0)) ⊎ (ring ≤ h.place)) → is_of_ring ring h ≡ false
+is_of_other ring h (inl over) =
+    and_false (nat_lt h.place ring) (nat_lt 0 h.low && nat_lt h.run (h.stamp + 1))
+    (inr (and_false (nat_lt 0 h.low) (nat_lt h.run (h.stamp + 1)) (inr (le-ltb h.run (h.stamp + 1) (omega (arith, over.2))))))
+is_of_other ring h (inr (inl low)) =
+    and_false (nat_lt h.place ring) (nat_lt 0 h.low && nat_lt h.run (h.stamp + 1)) (inr (and_false (nat_lt 0 h.low) (nat_lt h.run (h.stamp + 1)) (inl (le-ltb 0 h.low low.1))))
+is_of_other ring h (inr (inr high)) = and_false (nat_lt h.place ring) (nat_lt 0 h.low && nat_lt h.run (h.stamp + 1)) (inl (le-ltb h.place ring high))
 
 header_sealed : (b : List ℕ) (h : Header) → IsHeader b h → IsSealed b
 unfolding header_block

@@ -4,9 +4,9 @@ use Rattle.vx_srlfmt.specs.Kinds.{Kind, Top, Front, Body, Damaged, Other, kind_o
 use Rattle.vx_srlfmt.specs.declared.header.Header.{Header}
 use Rattle.vx_disk.specs.Shelf.{Image}
 
--- whether a header is one of a ring of this size: its low place lies in the ring, and numbers begin at 1
+-- whether a header is one of a ring of this size: its low place lies in the ring, numbers begin at 1, and each run began with a header
 abbrev pub is_of_ring : ℕ → Header → Bool
-is_of_ring ring h = nat_lt h.place ring && nat_lt 0 h.low
+is_of_ring ring h = nat_lt h.place ring && (nat_lt 0 h.low && nat_lt h.run (h.stamp + 1))
 
 -- a header of another ring is none
 abbrev pub narrowed : ℕ → Kind → Kind

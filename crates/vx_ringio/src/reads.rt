@@ -22,7 +22,7 @@ fn top_of(ring: u64, block: &[u8; 512]) -> TopSeen
     ensures of_ring { TopIsOfRing ring result }
 {
     if let Some(header) = get_header(block) {
-        if (header.place as u64) < ring && header.low > 0 {
+        if (header.place as u64) < ring && header.low > 0 && header.run <= header.stamp {
             return TopSeen::Valid(header);
         }
         return TopSeen::Other;

@@ -54,7 +54,8 @@ fn head(digest: [u8; 32], firsts: [u8; 16]) -> RecordHead
 }
 
 fn new_header(stamp: u64) -> Header
-    requires { stamp ≤ MOST_NUMBER }
+    requires some { 1 ≤ stamp }
+    requires most { stamp ≤ MOST_NUMBER }
     ensures stamp { result.stamp ≡ stamp }
     ensures spell { CanSpell result }
     ensures of_ring { is_of_ring 6 result ≡ true }

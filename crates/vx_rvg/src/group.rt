@@ -122,10 +122,12 @@ impl<S: Shelf> Rvg<S> {
         self.shelf.size(self.core.unit(vol))
     }
 
-    /// The blocks of its log that hold records. Numbers are above 0, and none is greater than `MOST_NUMBER`.
+    /// The blocks of its log that hold records. Numbers are above 0, and none is greater than `MOST_NUMBER`. Each run of the log began with a
+    /// header, so there are no more than its stamp.
     pub fn ring(&self) -> u64
         ensures is { result ≡ self.now.core.log.ring }
         ensures low { 0 < self.now.core.log.header.low }
+        ensures run { self.now.core.log.header.run ≤ self.now.core.log.header.stamp }
         ensures head { last_of self.now.core ≤ MOST_NUMBER }
     {
         // For its bound.

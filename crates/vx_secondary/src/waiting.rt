@@ -58,7 +58,7 @@ impl Waiting {
     }
 
     /// The oldest waits no longer.
-    pub(crate) fn pop(&mut self)
+    pub fn pop(&mut self)
         ensures { self.new ≡ drop 1 self.old }
     {
         let _oldest = self.updates.pop_front();

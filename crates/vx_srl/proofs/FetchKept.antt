@@ -51,8 +51,12 @@ both : (a b : Bool) → (a && b) ≡ true → b ≡ true
 both true b is = is
 both false b is = cc
 
+first : (a b : Bool) → (a && b) ≡ true → a ≡ true
+first true b is = refl
+first false b is = cc
+
 low_some : (ring : ℕ) (h : Header) → is_of_ring ring h ≡ true → 0 < h.low
-low_some ring h is = ltb-true 0 h.low (both (nat_lt h.place ring) (nat_lt 0 h.low) is)
+low_some ring h is = ltb-true 0 h.low (first (nat_lt 0 h.low) (nat_lt h.run (h.stamp + 1)) (both (nat_lt h.place ring) (nat_lt 0 h.low && nat_lt h.run (h.stamp + 1)) is))
 
 module _ (unit ring : ℕ) (header : Header) (records : List Kept) (capacity sealed end used : ℕ) (kept : IsKept ring header records capacity sealed end used)
     (l : Log) (is : seen unit ring header records sealed ≡ l) (n : ℕ) (low : header.low ≤ n) (high : n ≤ head_of l) (one : Kept) (indexed : one ≡ get_or records (n - header.low) one) where

@@ -1,7 +1,7 @@
 -- Records of a log in memory, and the first of them given up.
-use Rattle.std.proofs.Common.{◌≡◌, ℕ, zero, suc, ◌+◌, ◌-◌, ◌%◌, ◌<◌, ◌≤◌, true, List, [], ◌∷◌, ◌++◌, length, take, drop, get_or, refl, sym, ◌∙◌, ap, subst, inl, inr, arith, length-drop, nat_lt}
+use Rattle.std.proofs.Common.{◌≡◌, ℕ, zero, suc, ◌+◌, ◌-◌, ◌%◌, ◌<◌, ◌≤◌, ◌&&◌, true, List, [], ◌∷◌, ◌++◌, length, take, drop, get_or, refl, sym, ◌∙◌, ap, subst, inl, inr, arith, length-drop, nat_lt}
 use Rattle.std.proofs.Math.Nat.{add-mod_right, mod-add-mod, mod-eq_of_lt, mod-lt}
-use Rattle.std.proofs.lemmas.Bool.{and_parts, cases_lt, ltb-true}
+use Rattle.std.proofs.lemmas.Bool.{and_from, and_parts, cases_lt, lt-ltb, ltb-true}
 use Rattle.std.proofs.lemmas.List.{drop-drop, drop-take, drop_more, take-append-drop, take-take, take_all}
 use Rattle.std.proofs.lemmas.List.Elements.{All-drop}
 use Rattle.vx_srlfmt.specs.Headers.{CanSpell}
@@ -16,10 +16,22 @@ use Rattle.vx_srl.proofs.SealLaws.{placed_behind}
 -- ---- a header of the ring
 
 pub place_low : (ring : ℕ) (h : Header) → is_of_ring ring h ≡ true → h.place < ring
-place_low ring h is = ltb-true h.place ring (and_parts (nat_lt h.place ring) (nat_lt 0 h.low) is).0
+place_low ring h is = ltb-true h.place ring (and_parts (nat_lt h.place ring) (nat_lt 0 h.low && nat_lt h.run (h.stamp + 1)) is).0
+
+low_and_run : (ring : ℕ) (h : Header) → is_of_ring ring h ≡ true → (nat_lt 0 h.low ≡ true) × (nat_lt h.run (h.stamp + 1) ≡ true)
+low_and_run ring h is = and_parts (nat_lt 0 h.low) (nat_lt h.run (h.stamp + 1)) (and_parts (nat_lt h.place ring) (nat_lt 0 h.low && nat_lt h.run (h.stamp + 1)) is).1
 
 pub low_some : (ring : ℕ) (h : Header) → is_of_ring ring h ≡ true → 0 < h.low
-low_some ring h is = ltb-true 0 h.low (and_parts (nat_lt h.place ring) (nat_lt 0 h.low) is).1
+low_some ring h is = ltb-true 0 h.low (low_and_run ring h is).0
+
+-- each run began with a header
+pub run_few : (ring : ℕ) (h : Header) → is_of_ring ring h ≡ true → h.run ≤ h.stamp
+run_few ring h is = let below : h.run < h.stamp + 1 = ltb-true h.run (h.stamp + 1) (low_and_run ring h is).1 in omega (arith, below)
+
+pub numbers_of_ring : (place ring low run stamp : ℕ) → place < ring → 0 < low → run ≤ stamp → (nat_lt place ring && (nat_lt 0 low && nat_lt run (stamp + 1))) ≡ true
+numbers_of_ring place ring low run stamp there some runs =
+    and_from (nat_lt place ring) (nat_lt 0 low && nat_lt run (stamp + 1)) (lt-ltb place ring there)
+    (and_from (nat_lt 0 low) (nat_lt run (stamp + 1)) (lt-ltb 0 low some) (lt-ltb run (stamp + 1) (omega (arith, runs))))
 
 -- ---- places
 

@@ -28,7 +28,8 @@ use vx_srlfmt::Header;
 fn new_header(state: &State, head: u64, stamp: u64) -> Header
     requires number { head < most_number }
     requires state { CanSpellState state.now }
-    requires stamp { stamp ≤ 2 }
+    requires some { 1 ≤ stamp }
+    requires few { stamp ≤ 2 }
     ensures is { result ≡ record (new_header state.now head) { stamp = stamp } }
     ensures spell { CanSpell result }
     ensures of_ring { (ring : ℕ) → 0 < ring → is_of_ring ring result ≡ true }

@@ -77,10 +77,11 @@ impl Srl {
         self.ring
     }
 
-    /// The lowest number that is held, or would be.
+    /// The lowest number that is held, or would be. Each run of the log began with a header.
     pub fn low(&self) -> u64
         ensures is { result ≡ self.now.header.low }
         ensures some { 0 < self.now.header.low }
+        ensures run { self.now.header.run ≤ self.now.header.stamp }
     {
         self.header.low
     }

@@ -1,11 +1,11 @@
 use Rattle.std.proofs.Common.{◌≡◌, subst, sym, arith}
 use Rattle.vx_script.specs.Lines.{IsPlain}
-use Rattle.vx_node.proofs.Unlinked.{stands_plain}
+use Rattle.vx_node.proofs.Kept.{kept_plain}
 use Rattle.vx_cli.proofs.TurnLemmas.{reaches_first, reaches_more, reaches_end, turn_end, turn_fault, turn_memory, turn_most}
 use Rattle.vx_cli.proofs.run.answer_all.Goals as goal
 
 pub turn-requires-clause-kept : goal.turn-requires-clause-kept
-turn-requires-clause-kept g c = λ κs within. record { world = c.loop-number.invariant.reaches.world.world; agrees = stands_plain c.loop-number.invariant.reaches.world _ c.loop-number.invariant.reaches.stands }
+turn-requires-clause-kept g c = λ κs within. kept_plain c.loop-number.invariant.reaches.world _ c.loop-number.invariant.reaches.stands
 
 pub loop-number-init : goal.loop-number-init
 loop-number-init g c = record {

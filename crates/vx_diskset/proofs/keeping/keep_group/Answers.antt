@@ -1,7 +1,9 @@
 -- A state that is set, case by case.
-use Rattle.std.proofs.Common.{sym, ◌∙◌, ap}
+use Rattle.std.proofs.Common.{sym, ◌∙◌, ap, rules}
 use Rattle.vx_diskset.proofs.KeepGroup.{keep_cut, kept_as, kept_at}
 use Rattle.vx_diskset.proofs.CallsBurn.{state_off}
+use Rattle.vx_rvg.specs.Saves.{change_refusal}
+use Rattle.vx_diskset.proofs.Receiving.{wait_kept}
 use Rattle.vx_diskset.proofs.keeping.keep_group.Goals as goal
 
 pub returns-then-is_down-clause-kept : goal.returns-then-is_down-clause-kept
@@ -29,3 +31,13 @@ returns-then-is_down-clause-spends g c = c.set_state-answer.ensures.spends
 
 pub returns-clause-spends : goal.returns-clause-spends
 returns-clause-spends g c = c.set_state-answer.ensures.spends
+
+pub returns-then-is_down-clause-waiting : goal.returns-then-is_down-clause-waiting
+returns-then-is_down-clause-waiting g c = λ us.
+    wait_kept (change_refusal c.args.rvg.now.core) c.args.rvg.now.core c.set_state-answer.new.self.core c.args.state.now (g.R.Shelf.meaning c.args.rvg.now.shelf) (g.R.Shelf.meaning c.set_state-answer.new.self.shelf) c.set_state-answer.result us (search rules)
+    c.set_state-answer.ensures.answers c.set_state-answer.ensures.moves.size
+
+pub returns-clause-waiting : goal.returns-clause-waiting
+returns-clause-waiting g c = λ us.
+    wait_kept (change_refusal c.args.rvg.now.core) c.args.rvg.now.core c.set_state-answer.new.self.core c.args.state.now (g.R.Shelf.meaning c.args.rvg.now.shelf) (g.R.Shelf.meaning c.set_state-answer.new.self.shelf) c.set_state-answer.result us (search rules)
+    c.set_state-answer.ensures.answers c.set_state-answer.ensures.moves.size

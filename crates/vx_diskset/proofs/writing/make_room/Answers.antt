@@ -7,6 +7,7 @@ use Rattle.vx_srl.specs.Views.{Log, free_of}
 use Rattle.vx_diskset.specs.DiskSets.{worked}
 use Rattle.vx_diskset.proofs.MakeRoom.{room_unapplied, room_later, room_again, room_after}
 use Rattle.vx_ringio.proofs.Spending.{spends_none, then_spends}
+use Rattle.vx_diskset.proofs.Mores.{more_after, more_none}
 use Rattle.vx_diskset.proofs.writing.make_room.Goals as goal
 
 pub returns-in_err-apply_group-clause-made : goal.returns-in_err-apply_group-clause-made
@@ -76,3 +77,18 @@ returns-else-free-count-2-clause-off g c = λ up. c.in_ok-reclaim_group.ensures.
 
 pub returns-else-free-count-2-clause-spends : goal.returns-else-free-count-2-clause-spends
 returns-else-free-count-2-clause-spends g c = then_spends (g.R.Shelf.meaning c.args.rvg.now.shelf) (g.R.Shelf.meaning c.apply_group.new.rvg.shelf) (g.R.Shelf.meaning c.reclaim_group.new.rvg.shelf) c.apply_group.ensures.spends c.reclaim_group.ensures.spends
+
+pub returns-then-free-count-clause-group : goal.returns-then-free-count-clause-group
+returns-then-free-count-clause-group g c = more_none c.args.rvg.now.core
+
+pub returns-in_err-apply_group-clause-group : goal.returns-in_err-apply_group-clause-group
+returns-in_err-apply_group-clause-group g c = c.apply_group.ensures.group
+
+pub returns-in_err-reclaim_group-clause-group : goal.returns-in_err-reclaim_group-clause-group
+returns-in_err-reclaim_group-clause-group g c = more_after 0 c.args.rvg.now.core c.apply_group.new.rvg.core c.reclaim_group.new.rvg.core c.apply_group.ensures.group c.reclaim_group.ensures.group
+
+pub returns-then-free-count-2-clause-group : goal.returns-then-free-count-2-clause-group
+returns-then-free-count-2-clause-group g c = more_after 0 c.args.rvg.now.core c.apply_group.new.rvg.core c.reclaim_group.new.rvg.core c.apply_group.ensures.group c.reclaim_group.ensures.group
+
+pub returns-else-free-count-2-clause-group : goal.returns-else-free-count-2-clause-group
+returns-else-free-count-2-clause-group g c = more_after 0 c.args.rvg.now.core c.apply_group.new.rvg.core c.reclaim_group.new.rvg.core c.apply_group.ensures.group c.reclaim_group.ensures.group

@@ -3,6 +3,7 @@ use Rattle.std.proofs.Common.{sym, ◌∙◌, ap, arith, refl}
 use Rattle.vx_rvg.specs.Saves.{reclaim_refusal, reclaimed}
 use Rattle.vx_diskset.proofs.MakeRoom.{reclaimed_as, reclaim_cut, roomed_at, save_units}
 use Rattle.vx_diskset.proofs.CallsBurn.{reclaim_off}
+use Rattle.vx_diskset.proofs.Mores.{more_reclaimed}
 use Rattle.vx_diskset.proofs.writing.reclaim_group.Goals as goal
 
 pub returns-then-is_down-clause-made : goal.returns-then-is_down-clause-made
@@ -48,3 +49,13 @@ pub returns-clause-units : goal.returns-clause-units
 returns-clause-units g c =
     save_units (reclaim_refusal c.args.rvg.now.core c.args.to) c.args.rvg.now.core (reclaimed c.args.rvg.now.core c.args.to) (g.R.Shelf.meaning c.args.rvg.now.shelf) (g.R.Shelf.meaning c.reclaim-answer.new.self.shelf) c.reclaim-answer.new.self.core c.reclaim-answer.result refl
     c.reclaim-answer.ensures.answers
+
+pub returns-then-is_down-clause-group : goal.returns-then-is_down-clause-group
+returns-then-is_down-clause-group g c =
+    more_reclaimed (reclaim_refusal c.args.rvg.now.core c.args.to) c.args.rvg.now.core c.reclaim-answer.new.self.core c.args.to (g.R.Shelf.meaning c.args.rvg.now.shelf) (g.R.Shelf.meaning c.reclaim-answer.new.self.shelf) c.reclaim-answer.result c.ring-ring.ensures.low
+    (omega (arith, c.requires.applied, c.args.rvg.now.sound.known)) c.reclaim-answer.ensures.answers
+
+pub returns-clause-group : goal.returns-clause-group
+returns-clause-group g c =
+    more_reclaimed (reclaim_refusal c.args.rvg.now.core c.args.to) c.args.rvg.now.core c.reclaim-answer.new.self.core c.args.to (g.R.Shelf.meaning c.args.rvg.now.shelf) (g.R.Shelf.meaning c.reclaim-answer.new.self.shelf) c.reclaim-answer.result c.ring-ring.ensures.low
+    (omega (arith, c.requires.applied, c.args.rvg.now.sound.known)) c.reclaim-answer.ensures.answers

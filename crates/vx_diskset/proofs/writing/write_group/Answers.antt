@@ -1,5 +1,5 @@
 -- A write of a group, case by case.
-use Rattle.std.proofs.Common.{◌∙◌, ◌<◌, ℕ, inl, ap, arith, refl, sym}
+use Rattle.std.proofs.Common.{◌∙◌, ◌<◌, ℕ, inl, ap, arith, refl, subst, sym}
 use Rattle.vx_model.specs.Content.{blocks_in}
 use Rattle.std.specs.Prelude.{Err}
 use Rattle.std.proofs.lemmas.Result.{err_from_is_err_and}
@@ -13,6 +13,10 @@ use Rattle.vx_model.specs.declared.units.Units.{Units}
 use Rattle.vx_diskset.specs.Burning.{IsLogged}
 use Rattle.vx_ringio.proofs.Spending.{then_spends}
 use Rattle.vx_diskset.proofs.CallsBurn.{called_by, called_still, cut_short, is_logged, least_since, never_off, up_not_off, write_off}
+use Rattle.vx_ringio.proofs.Spending.{spends_none}
+use Rattle.vx_rvg.specs.Views.{unit_of}
+use Rattle.vx_diskset.specs.Rooms.{IsMore, count_of}
+use Rattle.vx_diskset.proofs.Mores.{more_after, more_down, more_none, more_written}
 use Rattle.vx_diskset.proofs.writing.write_group.Goals as goal
 
 pub returns-then-head-ge-MOST_NUMBER-clause-wrote : goal.returns-then-head-ge-MOST_NUMBER-clause-wrote
@@ -24,9 +28,9 @@ returns-in_err-make_room-clause-wrote g c = λ beside n stands can has.
     rw (p.1, p.2)
     (wrote_at beside n (record { volume = c.args.volume; start = c.args.start; bytes = c.args.bytes.now }) c.args.rvg.now c.make_room.new.rvg (Err c.in_err-make_room.field-0.0) (omega (arith, c.if-head-ge-MOST_NUMBER.false, c.head.ensures, stands.head))
     (unroomed beside n (record { volume = c.args.volume; start = c.args.start; bytes = c.args.bytes.now }) c.make_room.new.rvg.core (g.R.Shelf.meaning c.args.rvg.now.shelf) (g.R.Shelf.meaning c.make_room.new.rvg.shelf) c.in_err-make_room.field-0.0
-    (λ calls told exact. (c.in_err-make_room.ensures.idle (omega (
+    (λ origin calls told exact. (c.in_err-make_room.ensures.idle (omega (
       arith,
-      hand_here n c.args.rvg.now.core (g.R.Shelf.meaning c.args.rvg.now.shelf) c.args.volume c.args.start c.args.bytes.now stands can.running c.args.rvg.now.sound
+      hand_here n c.args.rvg.now.core (g.R.Shelf.meaning c.args.rvg.now.shelf) c.args.volume c.args.start c.args.bytes.now stands can.running origin c.args.rvg.now.sound
           (c.make_room.ensures.later.told told) (omega (arith, c.requires.some, c.requires.whole)) exact.keeps exact.room,
     ))).0)
     (c.in_err-make_room.ensures.made beside n stands can.running has (omega (arith, c.requires.few)))))
@@ -40,8 +44,8 @@ returns-then-is_down-clause-wrote g c = λ beside n stands can has.
     (sym c.is_down.ensures ∙ c.if-is_down.true) in (
       cut.0,
       cut.1,
-      λ calls told exact.
-          cut_less n c.args.rvg.now c.make_room.new.rvg c.args.volume c.args.start c.args.bytes.now stands can.running
+      λ origin calls told exact.
+          cut_less n c.args.rvg.now c.make_room.new.rvg c.args.volume c.args.start c.args.bytes.now stands can.running origin
           (c.make_room.ensures.later.told (sym c.write-answer.ensures.moves.tells ∙ told)) (omega (arith, c.requires.some, c.requires.whole)) (g.R.Shelf.meaning c.write-answer.new.self.shelf) calls exact
           (λ hand. (c.in_ok-make_room.ensures.idle hand).1) c.write-answer.ensures.short (sym c.is_down.ensures ∙ c.if-is_down.true),
       omega (arith, c.if-head-ge-MOST_NUMBER.false, c.head.ensures, stands.head),
@@ -57,9 +61,9 @@ returns-clause-wrote g c = λ beside n stands can has.
     (written_as n c.args.volume c.args.start c.args.bytes.now c.args.rvg.now.core c.make_room.new.rvg.core c.write-answer.new.self.core (g.R.Shelf.meaning c.args.rvg.now.shelf) (g.R.Shelf.meaning c.make_room.new.rvg.shelf) (g.R.Shelf.meaning c.write-answer.new.self.shelf)
     stands can roomy c.make_room.ensures.later.told (lawful c.make_room.new.rvg.shelf) (lawful c.write-answer.new.self.shelf) c.make_room.new.rvg.sound c.write-answer.new.self.sound c.write-answer.ensures.moves
     (omega (arith, c.if-head-ge-MOST_NUMBER.false, c.head.ensures, stands.head)) (sym c.is_down.ensures ∙ c.if-is_down.false)
-    (λ told one room. first_after n c.args.rvg.now c.make_room.new.rvg c.args.volume c.args.start c.args.bytes.now stands can.running (c.make_room.ensures.later.told told) some (inl one) room (λ hand. (c.in_ok-make_room.ensures.idle hand).1))
+    (λ origin told one room. first_after n c.args.rvg.now c.make_room.new.rvg c.args.volume c.args.start c.args.bytes.now stands can.running origin (c.make_room.ensures.later.told told) some (inl one) room (λ hand. (c.in_ok-make_room.ensures.idle hand).1))
     c.write-answer.result c.write-answer.ensures.answers (λ some. ap g.R.Shelf.meaning (c.write-answer.ensures.unchanged some)) c.write-answer.ensures.stands
-    (λ calls told exact. exact_is n c.args.rvg.now c.make_room.new.rvg c.args.volume c.args.start c.args.bytes.now stands can.running
+    (λ origin calls told exact. exact_is n c.args.rvg.now c.make_room.new.rvg c.args.volume c.args.start c.args.bytes.now stands can.running origin
     (c.make_room.ensures.later.told (sym c.write-answer.ensures.moves.tells ∙ told)) some (g.R.Shelf.meaning c.write-answer.new.self.shelf) calls exact
     (λ hand. (c.in_ok-make_room.ensures.idle hand).1) c.write-answer.result c.write-answer.ensures.calls)))
 
@@ -101,3 +105,51 @@ returns-clause-cuts g c = λ up hand fits is.
     absurd (up_not_off c.write-answer.result (g.R.Shelf.meaning c.write-answer.new.self.shelf).down is (sym c.is_down.ensures ∙ c.if-is_down.false)
     (write_off c.make_room.new.rvg.core c.args.volume _ c.args.start (blocks_in c.args.bytes.now) c.args.bytes.now (g.R.Shelf.meaning c.make_room.new.rvg.shelf) (g.R.Shelf.meaning c.write-answer.new.self.shelf) c.write-answer.new.self.core c.write-answer.result
     (sym c.is_down.ensures ∙ c.if-is_down.false) c.write-answer.ensures.answers))
+
+pub returns-then-head-ge-MOST_NUMBER-clause-group : goal.returns-then-head-ge-MOST_NUMBER-clause-group
+returns-then-head-ge-MOST_NUMBER-clause-group g c = more_none c.args.rvg.now.core
+
+pub returns-in_err-make_room-clause-group : goal.returns-in_err-make_room-clause-group
+returns-in_err-make_room-clause-group g c =
+    let p = err_from_is_err_and c.from_residual.result c.from_residual.ensures.1 in
+    subst (λ r. IsMore (count_of r) c.args.rvg.now.core c.make_room.new.rvg.core) (sym p.1) c.make_room.ensures.group
+
+pub returns-then-is_down-clause-group : goal.returns-then-is_down-clause-group
+returns-then-is_down-clause-group g c =
+    more_after 0 c.args.rvg.now.core c.make_room.new.rvg.core c.write-answer.new.self.core c.make_room.ensures.group
+    (more_down c.make_room.new.rvg.core c.write-answer.new.self.core c.args.volume c.args.start c.args.bytes.now (g.R.Shelf.meaning c.make_room.new.rvg.shelf) (g.R.Shelf.meaning c.write-answer.new.self.shelf) c.make_room.new.rvg.sound c.write-answer.ensures.moves.falls c.ring-ring.ensures.low
+    ((g.R.Shelf.meaning c.make_room.new.rvg.shelf).size (unit_of c.make_room.new.rvg.core.units.vols c.args.volume)) (blocks_in c.args.bytes.now) c.write-answer.result (sym c.is_down.ensures ∙ c.if-is_down.true) c.write-answer.ensures.answers)
+
+pub returns-clause-group : goal.returns-clause-group
+returns-clause-group g c =
+    more_after (count_of c.write-answer.result) c.args.rvg.now.core c.make_room.new.rvg.core c.write-answer.new.self.core c.make_room.ensures.group
+    (more_written c.make_room.new.rvg.core c.write-answer.new.self.core c.args.volume c.args.start c.args.bytes.now (g.R.Shelf.meaning c.make_room.new.rvg.shelf) (g.R.Shelf.meaning c.write-answer.new.self.shelf) c.make_room.new.rvg.sound c.write-answer.ensures.moves.falls c.ring-ring.ensures.low
+    ((g.R.Shelf.meaning c.make_room.new.rvg.shelf).size (unit_of c.make_room.new.rvg.core.units.vols c.args.volume)) (blocks_in c.args.bytes.now) c.write-answer.result c.write-answer.ensures.answers)
+
+pub returns-then-head-ge-MOST_NUMBER-clause-spends : goal.returns-then-head-ge-MOST_NUMBER-clause-spends
+returns-then-head-ge-MOST_NUMBER-clause-spends g c = spends_none (g.R.Shelf.meaning c.args.rvg.now.shelf)
+
+pub returns-in_err-make_room-clause-spends : goal.returns-in_err-make_room-clause-spends
+returns-in_err-make_room-clause-spends g c = c.make_room.ensures.spends
+
+pub returns-then-is_down-clause-spends : goal.returns-then-is_down-clause-spends
+returns-then-is_down-clause-spends g c = then_spends (g.R.Shelf.meaning c.args.rvg.now.shelf) (g.R.Shelf.meaning c.make_room.new.rvg.shelf) (g.R.Shelf.meaning c.write-answer.new.self.shelf) c.make_room.ensures.spends c.write-answer.ensures.spends
+
+pub returns-clause-spends : goal.returns-clause-spends
+returns-clause-spends g c = then_spends (g.R.Shelf.meaning c.args.rvg.now.shelf) (g.R.Shelf.meaning c.make_room.new.rvg.shelf) (g.R.Shelf.meaning c.write-answer.new.self.shelf) c.make_room.ensures.spends c.write-answer.ensures.spends
+
+pub returns-then-head-ge-MOST_NUMBER-clause-off : goal.returns-then-head-ge-MOST_NUMBER-clause-off
+returns-then-head-ge-MOST_NUMBER-clause-off g c = λ up. up
+
+pub returns-in_err-make_room-clause-off : goal.returns-in_err-make_room-clause-off
+returns-in_err-make_room-clause-off g c = λ up.
+    let p = err_from_is_err_and c.from_residual.result c.from_residual.ensures.1 in
+    rw (p.1, p.2) (c.in_err-make_room.ensures.off up)
+
+pub returns-then-is_down-clause-off : goal.returns-then-is_down-clause-off
+returns-then-is_down-clause-off g c = λ up. sym c.is_down.ensures ∙ c.if-is_down.true
+
+pub returns-clause-off : goal.returns-clause-off
+returns-clause-off g c = λ up.
+    write_off c.make_room.new.rvg.core c.args.volume _ c.args.start (blocks_in c.args.bytes.now) c.args.bytes.now (g.R.Shelf.meaning c.make_room.new.rvg.shelf) (g.R.Shelf.meaning c.write-answer.new.self.shelf) c.write-answer.new.self.core c.write-answer.result
+    (sym c.is_down.ensures ∙ c.if-is_down.false) c.write-answer.ensures.answers

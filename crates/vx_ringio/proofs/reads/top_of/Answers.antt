@@ -8,11 +8,11 @@ use Rattle.vx_ringio.proofs.reads.top_of.Goals as goal
 none_found : (b : List ℕ) (found : Option Header) → found ≡ None → ((h : Header) → IsHeader b h → found ≡ Some h) → (h : Header) → IsHeader b h → ⊥
 none_found b found none only h is = let some : found ≡ Some h = only h is in cc
 
-pub returns-then-header-gt0-clause-is : goal.returns-then-header-gt0-clause-is
-returns-then-header-gt0-clause-is c = class_top c.args.ring _ _ c.in-Some.ensures.found (is_of c.args.ring c.in-Some.header c.if-header-ring.true c.if-header-gt0.true)
+pub returns-then-header-clause-is : goal.returns-then-header-clause-is
+returns-then-header-clause-is c = class_top c.args.ring _ _ c.in-Some.ensures.found (is_of c.args.ring c.in-Some.header c.if-header-ring.true c.if-header-gt0.true c.if-header.true)
 
-pub returns-then-header-gt0-clause-of_ring : goal.returns-then-header-gt0-clause-of_ring
-returns-then-header-gt0-clause-of_ring c = (c.in-Some.ensures.found.can, is_of c.args.ring c.in-Some.header c.if-header-ring.true c.if-header-gt0.true)
+pub returns-then-header-clause-of_ring : goal.returns-then-header-clause-of_ring
+returns-then-header-clause-of_ring c = (c.in-Some.ensures.found.can, is_of c.args.ring c.in-Some.header c.if-header-ring.true c.if-header-gt0.true c.if-header.true)
 
 pub returns-in-Some-clause-is : goal.returns-in-Some-clause-is
 returns-in-Some-clause-is c = of_other_ring c.args.ring _ c.in-Some.header c.in-Some.ensures.found (is_of_other c.args.ring c.in-Some.header c.else-header-ring.either)

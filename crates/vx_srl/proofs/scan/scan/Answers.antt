@@ -49,6 +49,9 @@ returns-clause-goes g c = elim c.loop-test.branch [
   | then-loop-test+in-Ok-End w ↦ rw w.shelf-is (then_nothing Nothing _ _ _ c.loop.invariant.0.goes w.look.ensures.goes)
 ]
 
+pub returns-in-Ok-Broken-clause-goes : goal.returns-in-Ok-Broken-clause-goes
+returns-in-Ok-Broken-clause-goes g c = then_nothing Nothing _ _ _ c.loop.invariant.0.goes c.look.ensures.goes
+
 pub returns-in-Err-clause-spends : goal.returns-in-Err-clause-spends
 returns-in-Err-clause-spends g c = then_spends _ _ _ c.loop.invariant.1 c.look.ensures.spends
 

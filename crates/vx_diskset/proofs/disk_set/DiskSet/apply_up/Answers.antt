@@ -1,6 +1,8 @@
 use Rattle.vx_diskset.specs.Burning.{NoMore, said_by}
 use Rattle.vx_diskset.specs.declared.disk_set.DiskSet.TheVariants.{Up}
 use Rattle.vx_diskset.proofs.CallsBurn.{called_by, called_up, is_done}
+use Rattle.std.proofs.Common.{refl}
+use Rattle.vx_diskset.proofs.Receiving.{applied_received, durable_of, receiver_as}
 use Rattle.vx_diskset.proofs.disk_set.DiskSet.apply_up.Goals as goal
 
 pub returns-in-Up-clause-called : goal.returns-in-Up-clause-called
@@ -8,3 +10,10 @@ returns-in-Up-clause-called g c = λ beside n stands.
     called_up NoMore (said_by c.apply_group.result) beside n c.args.self.now (Up c.apply_group.new.rvg) c.in-Up.rvg c.in-Up.is stands
     (λ up. called_by NoMore c.apply_group.result c.in-Up.rvg c.apply_group.new.rvg up.up c.apply_group.ensures.off
     (is_done c.apply_group.result (g.R.Shelf.meaning c.in-Up.rvg.shelf) (g.R.Shelf.meaning c.apply_group.new.rvg.shelf) c.apply_group.ensures.spends) c.apply_group.ensures.spends)
+
+pub returns-in-Receives-clause-applied : goal.returns-in-Receives-clause-applied
+returns-in-Receives-clause-applied g c = λ beside n stands can.
+    let lawful = (g.met.R.Shelf g.world.𝓛 g.world.𝓜 g.world.𝓡 ((λ s x. x), (λ x. x), (λ x. x), λ x. x)).lawful in
+    applied_received beside n c.args.self.now c.in-Receives.site
+    (record { rvg = c.apply_group-in-Receives.new.rvg; waiting = c.in-Receives.site.waiting; waits = c.apply_group-in-Receives.ensures.waiting c.in-Receives.site.waiting c.in-Receives.site.waits }) c.in-Receives.is stands can.running refl c.args.to c.apply_group-in-Receives.result
+    (c.apply_group-in-Receives.ensures.applied beside (durable_of n) (receiver_as beside n c.args.self.now c.in-Receives.site c.in-Receives.is stands can.running (lawful c.in-Receives.site.rvg.shelf)) can.running)

@@ -1,8 +1,9 @@
-use Rattle.std.proofs.Common.{subst}
-use Rattle.vx_diskset.specs.Stands.{StandsAt}
-use Rattle.vx_diskset.proofs.CrashGroup.{crashed_at, cut_crashed}
+use Rattle.std.proofs.Common.{◌∙◌, ap, subst}
+use Rattle.vx_diskset.specs.Stands.{CutAt, StandsAt}
+use Rattle.vx_diskset.proofs.CrashGroup.{crashed_at, cut_crashed, held_crashed}
 use Rattle.vx_diskset.proofs.Asking.{crash_did}
 use Rattle.vx_diskset.proofs.KeepsFailing.{stopped_up}
+use Rattle.vx_diskset.proofs.Receiving.{receiver_held}
 use Rattle.vx_diskset.proofs.disk_set.DiskSet.crash.Goals as goal
 
 pub returns-in-Up-clause-crashed : goal.returns-in-Up-clause-crashed
@@ -23,3 +24,18 @@ returns-in-Up-clause-asked g c = λ beside n stands state. crash_did c.args.self
 
 pub returns-in-Up-clause-stopped : goal.returns-in-Up-clause-stopped
 returns-in-Up-clause-stopped g c = stopped_up c.args.self c.in-Up.rvg c.into_shelf-rack.result c.crash.new.self c.args.pick c.in-Up.is c.into_shelf-rack.ensures c.crash.ensures.disks
+
+pub returns-in-Receives-clause-crashed : goal.returns-in-Receives-clause-crashed
+returns-in-Receives-clause-crashed g c = λ beside n stands state.
+    let lawful = (g.met.R.Shelf g.world.𝓛 g.world.𝓜 g.world.𝓡 ((λ s x. x), (λ x. x), (λ x. x), λ x. x)).lawful in
+    let is_rack = (g.met.R.Rack g.world.𝓛 g.world.𝓜 g.world.𝓡 ((λ s x. x), (λ x. x), (λ x. x), λ x. x)).rack in
+    held_crashed n c.in-Receives.site.rvg.shelf c.into_shelf-rack-in-Receives.result c.crash-in-Receives.new.self (c.into_shelf-rack-in-Receives.ensures ∙ ap (λ r. r.shelf) c.into_rvg.ensures)
+    (receiver_held n c.in-Receives.site.rvg.core c.in-Receives.site.waiting (g.R.Shelf.meaning c.in-Receives.site.rvg.shelf) (subst (λ e. StandsAt beside n e) c.in-Receives.is stands))
+    (lawful c.crash-in-Receives.new.self) (is_rack c.crash-in-Receives.new.self) c.crash-in-Receives.ensures.stopped
+
+pub returns-in-Receives-clause-cut : goal.returns-in-Receives-clause-cut
+returns-in-Receives-clause-cut g c = λ beside n cut.
+    let lawful = (g.met.R.Shelf g.world.𝓛 g.world.𝓜 g.world.𝓡 ((λ s x. x), (λ x. x), (λ x. x), λ x. x)).lawful in
+    let is_rack = (g.met.R.Rack g.world.𝓛 g.world.𝓜 g.world.𝓡 ((λ s x. x), (λ x. x), (λ x. x), λ x. x)).rack in
+    held_crashed n c.in-Receives.site.rvg.shelf c.into_shelf-rack-in-Receives.result c.crash-in-Receives.new.self (c.into_shelf-rack-in-Receives.ensures ∙ ap (λ r. r.shelf) c.into_rvg.ensures)
+    (subst (λ e. CutAt beside n e) c.in-Receives.is cut) (lawful c.crash-in-Receives.new.self) (is_rack c.crash-in-Receives.new.self) c.crash-in-Receives.ensures.stopped

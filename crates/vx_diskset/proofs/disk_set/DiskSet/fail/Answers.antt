@@ -1,9 +1,10 @@
-use Rattle.std.proofs.Common.{subst}
+use Rattle.std.proofs.Common.{refl, subst}
 use Rattle.vx_rvg.proofs.ReadStands.{rest_sound}
 use Rattle.vx_diskset.specs.Stands.{StandsAt}
 use Rattle.vx_diskset.proofs.StartBare.{clean_read}
 use Rattle.vx_diskset.proofs.MakeGroup.{bare_still, up_still, fuse_still}
 use Rattle.vx_diskset.proofs.StartGroup.{down_still}
+use Rattle.vx_diskset.proofs.Receiving.{receiver_still, wait_as}
 use Rattle.vx_diskset.proofs.disk_set.DiskSet.fail.Goals as goal
 
 pub invariant_of-rvg : goal.invariant_of-rvg
@@ -23,3 +24,19 @@ returns-in-Up-clause-stands g c = λ beside n stands.
 
 pub returns-in-Down-clause-stands : goal.returns-in-Down-clause-stands
 returns-in-Down-clause-stands g c = λ beside n stands. down_still n _ _ c.fail-in-Down.ensures.goes c.fail-in-Down.ensures.down c.fail-in-Down.ensures.armed (subst (λ e. StandsAt beside n e) c.in-Down.is stands)
+
+pub returns-in-Receives-clause-stands : goal.returns-in-Receives-clause-stands
+returns-in-Receives-clause-stands g c = λ beside n stands.
+    let r = subst (λ e. StandsAt beside n e) c.in-Receives.is stands in
+    receiver_still n c.in-Receives.site.rvg.core c.in-Receives.site.waiting _ _ c.fail-in-Receives.ensures.goes c.fail-in-Receives.ensures.alike.contents.now c.fail-in-Receives.ensures.down
+    (fuse_still n.fuse _ _ _ (λ o k is. is.0.fuse) c.fail-in-Receives.ensures.armed c.fail-in-Receives.ensures.disks r.fuse) r
+
+pub invariant_of-site : goal.invariant_of-site
+invariant_of-site g c = (
+  (rest_sound c.in-Receives.site.rvg.core _ _ c.fail-in-Receives.ensures.goes c.in-Receives.site.rvg.sound, tt),
+  (
+    wait_as c.in-Receives.site.rvg.core c.in-Receives.site.rvg.core (g.R.Shelf.meaning c.in-Receives.site.rvg.shelf).size (g.R.Shelf.meaning c.fail-in-Receives.new.self).size c.in-Receives.site.waiting refl refl refl refl
+        c.fail-in-Receives.ensures.goes.size c.in-Receives.site.waits,
+    tt,
+  ),
+)

@@ -2,9 +2,19 @@ use Rattle.vx_diskset.specs.Burning.{NoMore}
 use Rattle.vx_diskset.specs.Keeps.{done_by}
 use Rattle.vx_diskset.specs.declared.disk_set.DiskSet.TheVariants.{Up}
 use Rattle.vx_diskset.proofs.CallsBurn.{called_up, done_called}
+use Rattle.std.proofs.Common.{refl}
+use Rattle.vx_diskset.proofs.Receiving.{durable_of, kept_received, receiver_as}
 use Rattle.vx_diskset.proofs.disk_set.DiskSet.keep_up.Goals as goal
 
 pub returns-in-Up-clause-called : goal.returns-in-Up-clause-called
 returns-in-Up-clause-called g c = λ beside n stands.
     called_up NoMore (done_by c.keep_group.result) beside n c.args.self.now (Up c.keep_group.new.rvg) c.in-Up.rvg c.in-Up.is stands
     (λ up. done_called c.keep_group.result c.in-Up.rvg c.keep_group.new.rvg up.up (c.keep_group.ensures.off up.up) c.keep_group.ensures.spends)
+
+pub returns-in-Receives-clause-kept : goal.returns-in-Receives-clause-kept
+returns-in-Receives-clause-kept g c = λ beside n stands can.
+    let lawful = (g.met.R.Shelf g.world.𝓛 g.world.𝓜 g.world.𝓡 ((λ s x. x), (λ x. x), (λ x. x), λ x. x)).lawful in
+    kept_received beside n c.args.self.now c.in-Receives.site
+    (record { rvg = c.keep_group-in-Receives.new.rvg; waiting = c.in-Receives.site.waiting; waits = c.keep_group-in-Receives.ensures.waiting c.in-Receives.site.waiting c.in-Receives.site.waits }) c.in-Receives.is stands can.running refl c.args.state.now can.role c.keep_group-in-Receives.result
+    (c.keep_group-in-Receives.ensures.kept beside (durable_of n) (receiver_as beside n c.args.self.now c.in-Receives.site c.in-Receives.is stands can.running (lawful c.in-Receives.site.rvg.shelf))
+    (record { up = can.up; running = can.running; line = can.line; role = can.role; needs = can.needs }))

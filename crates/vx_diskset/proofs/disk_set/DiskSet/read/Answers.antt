@@ -1,9 +1,10 @@
-use Rattle.std.proofs.Common.{subst, sym}
+use Rattle.std.proofs.Common.{refl, subst, sym}
 use Rattle.vx_model.specs.Content.{blocks_in}
 use Rattle.vx_diskset.specs.Asked.{LeavesAlone}
 use Rattle.vx_diskset.specs.declared.disk_set.DiskSet.TheVariants.{Up}
 use Rattle.vx_diskset.proofs.KeepsFailing.{alone_same}
 use Rattle.vx_diskset.proofs.ReadGroup.{read_at}
+use Rattle.vx_diskset.proofs.Receiving.{durable_of, read_received, receiver_as, wait_core}
 use Rattle.vx_diskset.proofs.disk_set.DiskSet.read.Goals as goal
 
 pub returns-then-volume-volumes-clause-read : goal.returns-then-volume-volumes-clause-read
@@ -19,3 +20,20 @@ returns-then-volume-volumes-clause-still g c = subst (λ e. LeavesAlone e (Up c.
 
 pub returns-else-volume-volumes-clause-still : goal.returns-else-volume-volumes-clause-still
 returns-else-volume-volumes-clause-still g c = subst (λ e. LeavesAlone e (Up c.in-Up.rvg)) (sym c.in-Up.is) (alone_same (Up c.in-Up.rvg))
+
+pub returns-then-volume-volumes-2-clause-read : goal.returns-then-volume-volumes-2-clause-read
+returns-then-volume-volumes-2-clause-read g c = λ beside n stands can.
+    let lawful = (g.met.R.Shelf g.world.𝓛 g.world.𝓜 g.world.𝓡 ((λ s x. x), (λ x. x), (λ x. x), λ x. x)).lawful in
+    let is_rack = (g.met.R.Rack g.world.𝓛 g.world.𝓜 g.world.𝓡 ((λ s x. x), (λ x. x), (λ x. x), λ x. x)).rack in
+    read_received beside n c.args.self.now c.in-Receives.site
+    (record {
+      rvg = c.read-then-volume-volumes-2.new.self;
+      waiting = c.in-Receives.site.waiting;
+      waits = wait_core c.in-Receives.site.rvg.core c.read-then-volume-volumes-2.new.self.core (g.R.Shelf.meaning c.in-Receives.site.rvg.shelf) (g.R.Shelf.meaning c.read-then-volume-volumes-2.new.self.shelf) c.in-Receives.site.waiting
+          c.read-then-volume-volumes-2.ensures.core c.read-then-volume-volumes-2.ensures.goes.size c.in-Receives.site.waits;
+    }) c.in-Receives.is stands can.running refl c.args.volume c.args.start (blocks_in c.args.into.now) c.read-then-volume-volumes-2.new.into c.read-then-volume-volumes-2.result
+    (read_at beside (durable_of n) c.args.volume c.args.start (blocks_in c.args.into.now) c.read-then-volume-volumes-2.new.into (Up c.in-Receives.site.rvg) c.in-Receives.site.rvg c.read-then-volume-volumes-2.new.self c.read-then-volume-volumes-2.result refl
+    (receiver_as beside n c.args.self.now c.in-Receives.site c.in-Receives.is stands can.running (lawful c.in-Receives.site.rvg.shelf))
+    (record { up = can.up; running = can.running; volume_exists = can.volume_exists; within = can.within })
+    (lawful c.in-Receives.site.rvg.shelf) (lawful c.read-then-volume-volumes-2.new.self.shelf) c.read-then-volume-volumes-2.ensures.core c.read-then-volume-volumes-2.ensures.answers c.read-then-volume-volumes-2.ensures.gives
+    c.read-then-volume-volumes-2.ensures.goes c.read-then-volume-volumes-2.ensures.down c.read-then-volume-volumes-2.ensures.disks (is_rack c.in-Receives.site.rvg.shelf) (is_rack c.read-then-volume-volumes-2.new.self.shelf))

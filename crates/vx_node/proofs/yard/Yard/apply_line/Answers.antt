@@ -1,5 +1,5 @@
 -- Each case of a line that applies the log of a site.
-use Rattle.std.proofs.Common.{◌≡◌, refl, []}
+use Rattle.std.proofs.Common.{◌≡◌, refl, subst, sym, []}
 use Rattle.std.specs.Prelude.{Some}
 use Rattle.vx_events.specs.Facts.{seat_of}
 use Rattle.vx_node.specs.Yards.{in_files}
@@ -13,7 +13,11 @@ use Rattle.vx_diskset.specs.Asked.{LeavesFuse}
 use Rattle.vx_diskset.specs.Burning.{NoMore}
 use Rattle.vx_node.proofs.AskRack.{called_at}
 use Rattle.vx_node.proofs.OfSites.{called_keeps}
-use Rattle.vx_diskset.specs.Holds.{alone}
+use Rattle.vx_diskset.specs.Holds.{alone, beside_of}
+use Rattle.vx_diskset.specs.Asked.{SameFailing}
+use Rattle.vx_events.specs.declared.said.Said.{Said}
+use Rattle.vx_node.proofs.ApplySite.{applied, apply_refused, calls_keep, can_apply_at}
+use Rattle.vx_node.proofs.NamedSite.{asks_at}
 use Rattle.vx_node.proofs.yard.Yard.apply_line.Goals as goal
 
 pub site_of-site-requires-clause-named : goal.site_of-site-requires-clause-named
@@ -65,3 +69,70 @@ returns-in-Err-clause-asked g c = λ w stands.
     called_keeps NoMore c.refused.result _ c.args.self.now _ (
     called_at (LeavesFuse NoMore) w c.args.self.now _ c.args.name.now c.site_of-site.result c.index_mut.result.now c.apply.new.self c.refused.result (Refused c.in-Err.no) c.refused.ensures.said stands c.site_of-site.ensures.seat
     (get_at c.args.self.now.disk_sets.items c.site_of-site.result c.index_mut.result.now c.site_of-site.ensures.disk_set c.index_mut.ensures.value) refl (λ n stood. c.in-Err.ensures.called alone n stood))
+
+pub returns-in-Ok-clause-leads : goal.returns-in-Ok-clause-leads
+returns-in-Ok-clause-leads g c = λ d stands.
+    let y = c.args.self.now in
+    let s = c.site_of-site.result in
+    let seat : seat_of y.facts.items c.args.name.now ≡ Some c.site_of-site.result = c.site_of-site.ensures.seat in
+    let at = get_at y.disk_sets.items c.site_of-site.result c.index_mut.result.now c.site_of-site.ensures.disk_set c.index_mut.ensures.value in
+    let here = can_apply_at d y c.args.name.now c.args.to s stands c.requires.free seat in
+    let there = stands.disk_sets.sites s c.index_mut.result.now here.seat.below at in
+    applied d y _ c.args.name.now c.args.to s c.index_mut.result.now c.apply.new.self stands here (record { there = at; later = c.in-Ok.ensures.later; disk_sets = refl; racks = refl }) c.in-Ok.number
+    (c.in-Ok.ensures.applied (beside_of d s) (d.world.nodes s) there here.can) (c.in-Ok.ensures.called (beside_of d s) (d.world.nodes s) there) refl
+
+pub returns-in-Err-clause-leads : goal.returns-in-Err-clause-leads
+returns-in-Err-clause-leads g c = λ d stands.
+    let y = c.args.self.now in
+    let s = c.site_of-site.result in
+    let seat : seat_of y.facts.items c.args.name.now ≡ Some c.site_of-site.result = c.site_of-site.ensures.seat in
+    let at = get_at y.disk_sets.items c.site_of-site.result c.index_mut.result.now c.site_of-site.ensures.disk_set c.index_mut.ensures.value in
+    let here = can_apply_at d y c.args.name.now c.args.to s stands c.requires.free seat in
+    let there = stands.disk_sets.sites s c.index_mut.result.now here.seat.below at in
+    apply_refused d y _ c.args.name.now c.args.to s c.index_mut.result.now c.apply.new.self stands here (record { there = at; later = c.in-Err.ensures.later; disk_sets = refl; racks = refl }) c.in-Err.no c.refused.result
+    c.index_mut-in-Err.result.now c.refused.new.facts c.refused.ensures.said (c.in-Err.ensures.applied (beside_of d s) (d.world.nodes s) there here.can) (c.in-Err.ensures.called (beside_of d s) (d.world.nodes s) there)
+    (get_at y.facts.items s c.index_mut-in-Err.result.now (c.site_of-site.ensures.fact) c.index_mut-in-Err.ensures.value) c.refused.ensures.noted refl
+
+pub returns-in-Ok-clause-calls : goal.returns-in-Ok-clause-calls
+returns-in-Ok-clause-calls g c = λ d stands.
+    let y = c.args.self.now in
+    let s = c.site_of-site.result in
+    let seat : seat_of y.facts.items c.args.name.now ≡ Some c.site_of-site.result = c.site_of-site.ensures.seat in
+    let at = get_at y.disk_sets.items c.site_of-site.result c.index_mut.result.now c.site_of-site.ensures.disk_set c.index_mut.ensures.value in
+    let here = can_apply_at d y c.args.name.now c.args.to s stands c.requires.free seat in
+    let there = stands.disk_sets.sites s c.index_mut.result.now here.seat.below at in
+    asks_at (LeavesFuse NoMore (DoneAt c.in-Ok.number)) d y _ c.args.name.now s c.index_mut.result.now c.apply.new.self stands seat at refl
+    (c.in-Ok.ensures.called (beside_of d s) (d.world.nodes s) there)
+
+pub returns-in-Ok-clause-asks : goal.returns-in-Ok-clause-asks
+returns-in-Ok-clause-asks g c = λ d stands.
+    let y = c.args.self.now in
+    let s = c.site_of-site.result in
+    let seat : seat_of y.facts.items c.args.name.now ≡ Some c.site_of-site.result = c.site_of-site.ensures.seat in
+    let at = get_at y.disk_sets.items c.site_of-site.result c.index_mut.result.now c.site_of-site.ensures.disk_set c.index_mut.ensures.value in
+    let here = can_apply_at d y c.args.name.now c.args.to s stands c.requires.free seat in
+    let there = stands.disk_sets.sites s c.index_mut.result.now here.seat.below at in
+    asks_at SameFailing d y _ c.args.name.now s c.index_mut.result.now c.apply.new.self stands seat at refl
+    (calls_keep NoMore (DoneAt c.in-Ok.number) c.index_mut.result.now c.apply.new.self (c.in-Ok.ensures.called (beside_of d s) (d.world.nodes s) there))
+
+pub returns-in-Err-clause-calls : goal.returns-in-Err-clause-calls
+returns-in-Err-clause-calls g c = λ d stands.
+    let y = c.args.self.now in
+    let s = c.site_of-site.result in
+    let seat : seat_of y.facts.items c.args.name.now ≡ Some c.site_of-site.result = c.site_of-site.ensures.seat in
+    let at = get_at y.disk_sets.items c.site_of-site.result c.index_mut.result.now c.site_of-site.ensures.disk_set c.index_mut.ensures.value in
+    let here = can_apply_at d y c.args.name.now c.args.to s stands c.requires.free seat in
+    let there = stands.disk_sets.sites s c.index_mut.result.now here.seat.below at in
+    asks_at (LeavesFuse NoMore c.refused.result) d y _ c.args.name.now s c.index_mut.result.now c.apply.new.self stands seat at refl
+    (subst (λ (r : Said). LeavesFuse NoMore r c.index_mut.result.now c.apply.new.self) (sym c.refused.ensures.said) (c.in-Err.ensures.called (beside_of d s) (d.world.nodes s) there))
+
+pub returns-in-Err-clause-asks : goal.returns-in-Err-clause-asks
+returns-in-Err-clause-asks g c = λ d stands.
+    let y = c.args.self.now in
+    let s = c.site_of-site.result in
+    let seat : seat_of y.facts.items c.args.name.now ≡ Some c.site_of-site.result = c.site_of-site.ensures.seat in
+    let at = get_at y.disk_sets.items c.site_of-site.result c.index_mut.result.now c.site_of-site.ensures.disk_set c.index_mut.ensures.value in
+    let here = can_apply_at d y c.args.name.now c.args.to s stands c.requires.free seat in
+    let there = stands.disk_sets.sites s c.index_mut.result.now here.seat.below at in
+    asks_at SameFailing d y _ c.args.name.now s c.index_mut.result.now c.apply.new.self stands seat at refl
+    (calls_keep NoMore c.refused.result c.index_mut.result.now c.apply.new.self (subst (λ (r : Said). LeavesFuse NoMore r c.index_mut.result.now c.apply.new.self) (sym c.refused.ensures.said) (c.in-Err.ensures.called (beside_of d s) (d.world.nodes s) there)))

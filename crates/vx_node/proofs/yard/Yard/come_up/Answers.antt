@@ -17,7 +17,7 @@ returns-in-Ok-clause-rises g c = λ w mid stands below begins down ring room.
     stands below begins down (at ∙ ap (λ e. Some e) (sym c.replace-disk_set.ensures.value)) c.recover-disk_set.ensures.later c.in-Ok.is
     (λ n stood is_down ring_is. c.recover-disk_set.ensures.recovered alone n stood is_down (room ∙ ring_is)) ring refl
     (ap (λ e. slice_set (slice_set disk_sets s e) s c.recover-disk_set.result.0) c.replace-disk_set.ensures.after) refl
-    c.note_up-last.ensures.notes c.note_up-last.ensures.disk_sets c.note_up-last.ensures.racks c.view_at.ensures
+    c.note_up-last.ensures.notes c.note_up-last.ensures.disk_sets c.note_up-last.ensures.racks (λ v agrees below. c.view_at.ensures.alone v agrees below c.new.ensures)
 
 pub returns-in-Ok-clause-told : goal.returns-in-Ok-clause-told
 returns-in-Ok-clause-told g c =

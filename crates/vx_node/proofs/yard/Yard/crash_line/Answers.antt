@@ -4,6 +4,7 @@ use Rattle.std.specs.Prelude.{Some}
 use Rattle.vx_events.specs.Facts.{seat_of}
 use Rattle.vx_node.specs.Yards.{in_files}
 use Rattle.vx_node.proofs.CrashLine.{crash_worked}
+use Rattle.vx_node.proofs.CrashSite.{crash_asks, crash_leads}
 use Rattle.vx_events.proofs.Refused.{crash_may}
 use Rattle.vx_node.proofs.Seats.{named_some}
 use Rattle.vx_node.proofs.AskRack.{crash_asked}
@@ -21,3 +22,13 @@ pub returns-clause-asked : goal.returns-clause-asked
 returns-clause-asked g c = λ w stands.
     let is : seat_of c.args.self.now.facts.items c.args.name.now ≡ Some c.site_of-site.result = c.site_of-site.ensures.seat in
     crash_asked w c.args.self.now c.go_down.new.self c.args.name.now c.args.pick c.site_of-site.result stands c.requires.free is c.go_down.ensures.asked
+
+pub returns-clause-leads : goal.returns-clause-leads
+returns-clause-leads g c = λ d stands.
+    let is : seat_of c.args.self.now.facts.items c.args.name.now ≡ Some c.site_of-site.result = c.site_of-site.ensures.seat in
+    crash_leads d c.args.self.now c.go_down.new.self c.args.name.now c.args.pick c.site_of-site.result stands c.requires.free is c.go_down.ensures.falls
+
+pub returns-clause-asks : goal.returns-clause-asks
+returns-clause-asks g c = λ d stands.
+    let is : seat_of c.args.self.now.facts.items c.args.name.now ≡ Some c.site_of-site.result = c.site_of-site.ensures.seat in
+    crash_asks d c.args.self.now c.go_down.new.self c.args.name.now c.args.pick c.site_of-site.result stands c.requires.free is c.go_down.ensures.asks

@@ -4,7 +4,7 @@ use Rattle.std.specs.Prelude.{Some}
 use Rattle.vx_events.specs.Facts.{seat_of}
 use Rattle.vx_node.specs.Yards.{in_files}
 use Rattle.vx_node.proofs.ChangeSite.{told_before}
-use Rattle.vx_node.proofs.FuseLine.{fuse_done}
+use Rattle.vx_node.proofs.FuseLine.{fuse_asks, fuse_done, fuse_leads}
 use Rattle.vx_node.proofs.Lists.{get_at}
 use Rattle.vx_events.proofs.Refused.{fuse_may}
 use Rattle.vx_node.proofs.Seats.{named_some}
@@ -34,3 +34,19 @@ returns-clause-asked g c = λ w stands.
     let is : seat_of c.args.self.now.facts.items c.args.name.now ≡ Some c.site_of-site.result = c.site_of-site.ensures.seat in
     let at = get_at disk_sets c.site_of-site.result c.index_mut.result.now c.site_of-site.ensures.disk_set c.index_mut.ensures.value in
     fuse_asked w c.args.self.now _ c.args.name.now c.args.calls c.args.pick c.site_of-site.result c.index_mut.result.now c.fuse.new.self stands c.requires.free is at refl (c.fuse.ensures.asked alone)
+
+pub returns-clause-leads : goal.returns-clause-leads
+returns-clause-leads g c = λ d stands.
+    let disk_sets = c.args.self.now.disk_sets.items in
+    let is : seat_of c.args.self.now.facts.items c.args.name.now ≡ Some c.site_of-site.result = c.site_of-site.ensures.seat in
+    let at = get_at disk_sets c.site_of-site.result c.index_mut.result.now c.site_of-site.ensures.disk_set c.index_mut.ensures.value in
+    fuse_leads d c.args.self.now _ c.args.name.now c.args.calls c.args.pick c.site_of-site.result c.index_mut.result.now c.fuse.new.self stands c.requires.free is
+    (record { there = at; later = c.fuse.ensures.later; disk_sets = refl; racks = refl }) c.fuse.ensures.fused c.fuse.ensures.asked refl
+
+pub returns-clause-asks : goal.returns-clause-asks
+returns-clause-asks g c = λ d stands.
+    let disk_sets = c.args.self.now.disk_sets.items in
+    let is : seat_of c.args.self.now.facts.items c.args.name.now ≡ Some c.site_of-site.result = c.site_of-site.ensures.seat in
+    let at = get_at disk_sets c.site_of-site.result c.index_mut.result.now c.site_of-site.ensures.disk_set c.index_mut.ensures.value in
+    fuse_asks d c.args.self.now _ c.args.name.now c.args.calls c.args.pick c.site_of-site.result c.index_mut.result.now c.fuse.new.self stands c.requires.free is
+    (record { there = at; later = c.fuse.ensures.later; disk_sets = refl; racks = refl }) c.fuse.ensures.asked

@@ -11,10 +11,10 @@ returns-in-Some-clause-notes g c =
     (get_at disk_sets c.args.site c.index.result.now c.requires.disk_set c.index.ensures)
     (get_at disk_sets c.args.site c.index-2.result.now c.requires.disk_set c.index-2.ensures)
     (get_at c.args.self.now.facts.items c.args.site c.index_mut.result.now c.requires.facts c.index_mut.ensures.value)
-    (c.last-last.ensures alone) (λ n stands up. (c.in-Some.ensures alone n stands up).0) c.come_up.ensures refl
+    (c.last-last.ensures alone) (λ n stands up. (c.in-Some.ensures.is alone n stands up).0) c.come_up.ensures refl
 
 pub returns-in_default-clause-notes : goal.returns-in_default-clause-notes
 returns-in_default-clause-notes g c =
     not_noted c.args.self.now _ c.args.site c.args.ring c.last-last.result c.index-2.result.now
     (get_at c.args.self.now.disk_sets.items c.args.site c.index-2.result.now c.requires.disk_set c.index-2.ensures)
-    (λ n stands up. let e : false ≡ true = (c.in_default.ensures alone n stands up).1 in cc)
+    (λ n stands up. let e : false ≡ true = (c.in_default.ensures.is alone n stands up).1 in cc)

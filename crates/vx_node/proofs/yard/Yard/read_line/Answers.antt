@@ -1,4 +1,5 @@
-use Rattle.std.proofs.Common.{inl}
+use Rattle.std.proofs.Common.{inl, refl}
+use Rattle.vx_script.specs.declared.line.ScriptLine.TheVariants.{Read as ReadBlocks}
 use Rattle.vx_node.proofs.yard.Yard.read_line.Goals as goal
 
 pub fetch-requires-clause-free : goal.fetch-requires-clause-free
@@ -9,3 +10,9 @@ returns-clause-works g c = λ w stands. let f = c.fetch.ensures.works w stands i
 
 pub returns-clause-asked : goal.returns-clause-asked
 returns-clause-asked g c = λ w stands. c.fetch.ensures.asked w stands
+
+pub returns-clause-leads : goal.returns-clause-leads
+returns-clause-leads g c = λ d stands. c.fetch.ensures.leads d (ReadBlocks c.args.name.now c.args.volume.now c.args.start c.args.count) stands (inl refl)
+
+pub returns-clause-asks : goal.returns-clause-asks
+returns-clause-asks g c = λ d stands. c.fetch.ensures.asks d stands

@@ -44,7 +44,7 @@ returns-in-Ok-clause-found g c = λ w stands below bare.
     (c.ring_blocks.ensures ∙ ring_is)
     (ap (λ (f : SiteFacts). slice_set facts s f) c.make_raw.ensures)
     (ap (λ e. slice_set (slice_set disk_sets s e) s c.recover_bare-disk_set.result.0) c.replace-disk_set.ensures.after) refl
-    c.note_up-last.ensures.notes c.note_up-last.ensures.disk_sets c.note_up-last.ensures.racks c.view_at.ensures
+    c.note_up-last.ensures.notes c.note_up-last.ensures.disk_sets c.note_up-last.ensures.racks (λ v agrees below. c.view_at.ensures.alone v agrees below c.new-in-Ok.ensures)
 
 pub returns-in-Ok-clause-told : goal.returns-in-Ok-clause-told
 returns-in-Ok-clause-told g c =

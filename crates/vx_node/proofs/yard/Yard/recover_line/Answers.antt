@@ -22,12 +22,12 @@ site_of-site-requires-clause-named g c = λ κs within. named_some c.args.self.n
 pub unreachable-requires : goal.unreachable-requires
 unreachable-requires g c =
     let at = get_at c.args.self.now.facts.items c.site_of-site.result c.index.result.now c.site_of-site.ensures.fact c.index.ensures in
-    absurd (omega (arith, c.if-index-lt-LEAST_BLOCKS.true, (shown_there c.requires.kept.world c.args.self.now c.args.name.now c.site_of-site.result c.index.result.now c.requires.kept.agrees c.site_of-site.ensures.seat at).0))
+    absurd (omega (arith, c.if-index-lt-LEAST_BLOCKS.true, (c.requires.kept.each c.site_of-site.result c.index.result.now at).blocks))
 
 pub unreachable-requires-in-Deported : goal.unreachable-requires-in-Deported
 unreachable-requires-in-Deported g c =
     let at = get_at c.args.self.now.facts.items c.site_of-site.result c.index-3.result.now c.site_of-site.ensures.fact c.index-3.ensures in
-    absurd ((shown_there c.requires.kept.world c.args.self.now c.args.name.now c.site_of-site.result c.index-3.result.now c.requires.kept.agrees c.site_of-site.ensures.seat at).1 c.in-Deported.is)
+    absurd ((c.requires.kept.each c.site_of-site.result c.index-3.result.now at).never c.in-Deported.is)
 
 pub returns-in-Bare-clause-works : goal.returns-in-Bare-clause-works
 returns-in-Bare-clause-works g c = λ w stands.

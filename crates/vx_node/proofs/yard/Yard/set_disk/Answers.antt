@@ -4,7 +4,7 @@ use Rattle.std.specs.Prelude.{Some}
 use Rattle.vx_events.specs.Facts.{seat_of}
 use Rattle.vx_node.specs.Yards.{in_files}
 use Rattle.vx_node.proofs.ChangeSite.{told_before}
-use Rattle.vx_node.proofs.DiskLine.{disk_done}
+use Rattle.vx_node.proofs.DiskLine.{disk_asks, disk_done, disk_leads, disk_set_so}
 use Rattle.vx_node.proofs.Lists.{get_at}
 use Rattle.vx_events.proofs.Refused.{disk_may}
 use Rattle.vx_node.proofs.Seats.{named_some}
@@ -34,3 +34,21 @@ returns-clause-asked g c = λ w stands.
     let is : seat_of c.args.self.now.facts.items c.args.name.now ≡ Some c.site_of-site.result = c.site_of-site.ensures.seat in
     let at = get_at disk_sets c.site_of-site.result c.index_mut.result.now c.site_of-site.ensures.disk_set c.index_mut.ensures.value in
     disk_asked w c.args.self.now _ c.args.name.now c.args.disk c.args.state c.is_failing.result c.site_of-site.result c.index_mut.result.now c.fail.new.self stands c.requires.free is c.is_failing.ensures at refl c.fail.ensures.asked
+
+pub returns-clause-leads : goal.returns-clause-leads
+returns-clause-leads g c = λ d stands.
+    let disk_sets = c.args.self.now.disk_sets.items in
+    let is : seat_of c.args.self.now.facts.items c.args.name.now ≡ Some c.site_of-site.result = c.site_of-site.ensures.seat in
+    let at = get_at disk_sets c.site_of-site.result c.index_mut.result.now c.site_of-site.ensures.disk_set c.index_mut.ensures.value in
+    disk_leads d c.args.self.now _ c.args.name.now c.args.disk c.args.state c.site_of-site.result c.index_mut.result.now c.fail.new.self stands is
+    (record { there = at; later = c.fail.ensures.later; disk_sets = refl; racks = refl }) c.fail.ensures.stands
+    (disk_set_so d c.args.self.now c.args.name.now c.args.disk c.args.state c.is_failing.result c.site_of-site.result c.index_mut.result.now c.fail.new.self stands c.requires.free is c.is_failing.ensures at c.fail.ensures.asked) refl
+
+pub returns-clause-asks : goal.returns-clause-asks
+returns-clause-asks g c = λ d stands.
+    let disk_sets = c.args.self.now.disk_sets.items in
+    let is : seat_of c.args.self.now.facts.items c.args.name.now ≡ Some c.site_of-site.result = c.site_of-site.ensures.seat in
+    let at = get_at disk_sets c.site_of-site.result c.index_mut.result.now c.site_of-site.ensures.disk_set c.index_mut.ensures.value in
+    disk_asks d c.args.self.now _ c.args.name.now c.args.disk c.args.state c.site_of-site.result c.index_mut.result.now c.fail.new.self stands is
+    (record { there = at; later = c.fail.ensures.later; disk_sets = refl; racks = refl })
+    (disk_set_so d c.args.self.now c.args.name.now c.args.disk c.args.state c.is_failing.result c.site_of-site.result c.index_mut.result.now c.fail.new.self stands c.requires.free is c.is_failing.ensures at c.fail.ensures.asked)

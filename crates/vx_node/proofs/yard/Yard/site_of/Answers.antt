@@ -4,7 +4,7 @@ use Rattle.std.specs.Prelude.{Some, None}
 use Rattle.vx_order.specs.declared.facts.SiteFacts.{SiteFacts}
 use Rattle.vx_events.specs.Facts.{seat_of}
 use Rattle.vx_events.proofs.Places.{seat_within}
-use Rattle.vx_node.proofs.Seats.{seated, seat_below, some_none}
+use Rattle.vx_node.proofs.Seats.{some_none}
 use Rattle.vx_node.proofs.yard.Yard.site_of.Goals as goal
 
 pub returns-clause-seat : goal.returns-clause-seat
@@ -18,12 +18,12 @@ returns-clause-fact g c =
 pub returns-clause-disk_set : goal.returns-clause-disk_set
 returns-clause-disk_set g c =
     let is : seat_of c.args.self.now.facts.items c.args.name.now ≡ Some c.in-Some.site = ap (λ (fs : List SiteFacts). seat_of fs c.args.name.now) (sym c.deref.ensures.value) ∙ sym c.seat.ensures ∙ c.in-Some.is in
-    seat_below c.requires.kept.world c.args.self.now c.args.name.now c.in-Some.site _ c.requires.kept.agrees is refl
+    omega (arith, seat_within c.args.self.now.facts.items c.args.name.now c.in-Some.site is, c.requires.kept.few, c.requires.kept.eight)
 
 pub returns-clause-small : goal.returns-clause-small
 returns-clause-small g c =
     let is : seat_of c.args.self.now.facts.items c.args.name.now ≡ Some c.in-Some.site = ap (λ (fs : List SiteFacts). seat_of fs c.args.name.now) (sym c.deref.ensures.value) ∙ sym c.seat.ensures ∙ c.in-Some.is in
-    omega (arith, (seated c.requires.kept.world c.args.self.now c.args.name.now c.in-Some.site c.requires.kept.agrees is).below, c.requires.kept.agrees.disk_sets.few)
+    omega (arith, seat_within c.args.self.now.facts.items c.args.name.now c.in-Some.site is, c.requires.kept.few)
 
 pub unreachable-requires : goal.unreachable-requires
 unreachable-requires g c =

@@ -4,7 +4,7 @@ use Rattle.vx_order.specs.declared.facts.SiteFacts.{SiteFacts}
 use Rattle.vx_events.specs.Facts.{place_of}
 use Rattle.vx_events.proofs.Places.{some_same}
 use Rattle.vx_node.proofs.Lists.{get_at}
-use Rattle.vx_node.proofs.PlaceOf.{volume_small}
+use Rattle.vx_node.proofs.Kept.{volume_small}
 use Rattle.vx_node.proofs.Seats.{some_none}
 use Rattle.vx_node.proofs.yard.Yard.volume_of.Goals as goal
 
@@ -16,7 +16,7 @@ returns-clause-place g c = λ f at.
 pub returns-clause-small : goal.returns-clause-small
 returns-clause-small g c =
     let here = get_at c.args.self.now.facts.items c.args.site c.index.result.now c.requires.site c.index.ensures in
-    volume_small c.requires.kept.world c.args.self.now c.args.site c.index.result.now c.args.name.now c.in-Some.place c.requires.kept.agrees c.requires.site here (sym c.place.ensures ∙ c.in-Some.is)
+    volume_small c.index.result.now c.args.name.now c.in-Some.place (c.requires.kept.each c.args.site c.index.result.now here) (sym c.place.ensures ∙ c.in-Some.is)
 
 pub unreachable-requires : goal.unreachable-requires
 unreachable-requires g c =

@@ -1,11 +1,15 @@
 -- The work of a line that no test refuses.
-use Rattle.std.proofs.Common.{◌∙◌, ap, subst, sym, refl}
+use Rattle.std.proofs.Common.{◌≡◌, ◌∙◌, ap, subst, sym, refl, true, false}
+use Rattle.std.proofs.lemmas.Result.{err_from_is_err_and}
+use Rattle.vx_node.proofs.AnswerFor.{if_ok}
+use Rattle.vx_node.proofs.NamedSite.{unbegun_by, unbegun_site}
+use Rattle.vx_node.specs.Standing.{Leads, LeadsIs, goes_with_links}
 use Rattle.vx_order.specs.Order.{refusal_of}
 use Rattle.vx_script.specs.declared.line.ScriptLine.TheVariants.{Raw}
 use Rattle.vx_node.specs.Working.{IsFree}
 use Rattle.vx_node.specs.Yards.{in_files}
 use Rattle.vx_events.proofs.Refused.{site_may}
-use Rattle.vx_node.specs.OfSites.{AsAsked}
+use Rattle.vx_node.specs.OfSites.{AsAsked, HasCalled}
 use Rattle.vx_events.proofs.RefusedCalls.{write_may, read_may, show_may}
 use Rattle.vx_diskset.specs.Asked.{LeavesAlone, SameFailing}
 use Rattle.vx_node.proofs.FailsStay.{if_err}
@@ -84,32 +88,180 @@ returns-in_err-room-in-Show-clause-asked g c = λ w stands.
     (unbegun LeavesAlone w y c.in-Show.site alone_same stands (show_may y.facts.items (in_files y) c.in-Show.site c.in-Show.volume c.in-Show.block c.in-Show.count free).site)
 
 pub returns-in-Site-clause-short : goal.returns-in-Site-clause-short
-returns-in-Site-clause-short g c =
-    let w = c.requires.kept.world in
-    short_made w _ c.args.self.now _ c.make_site.result (c.make_site.ensures.works w c.requires.kept.agrees) (c.make_site.ensures.asked w c.requires.kept.agrees)
+returns-in-Site-clause-short g c = λ w stands.
+    short_made w _ c.args.self.now _ c.make_site.result (c.make_site.ensures.works w stands) (c.make_site.ensures.asked w stands)
 
 pub returns-in-Raw-clause-short : goal.returns-in-Raw-clause-short
-returns-in-Raw-clause-short g c =
-    let w = c.requires.kept.world in
+returns-in-Raw-clause-short g c = λ w stands.
     let y = c.args.self.now in
     short_raw w (in_files y) c.in-Raw.site y _ c.make_raw.result
-    (ap (λ fs. refusal_of fs (in_files y) (Raw c.in-Raw.site)) (sym c.requires.kept.agrees.facts) ∙ subst (λ line. IsFree y line) c.in-Raw.is c.requires.free)
-    (c.make_raw.ensures.works w c.requires.kept.agrees) (c.make_raw.ensures.asked w c.requires.kept.agrees)
+    (ap (λ fs. refusal_of fs (in_files y) (Raw c.in-Raw.site)) (sym stands.facts) ∙ subst (λ line. IsFree y line) c.in-Raw.is c.requires.free)
+    (c.make_raw.ensures.works w stands) (c.make_raw.ensures.asked w stands)
 
 pub returns-in-Recover-clause-short : goal.returns-in-Recover-clause-short
-returns-in-Recover-clause-short g c = short_same c.args.self.now _ c.recover_line.result c.recover_line.ensures.short
+returns-in-Recover-clause-short g c = λ w stands. short_same c.args.self.now _ c.recover_line.result c.recover_line.ensures.short
+
+pub returns-in-Status-clause-short : goal.returns-in-Status-clause-short
+returns-in-Status-clause-short g c = λ w stands. short_same c.args.self.now c.args.self.now c.status_line.result (if_err c.status_line.result refl)
 
 pub returns-in_err-bytes-in-Write-clause-short : goal.returns-in_err-bytes-in-Write-clause-short
-returns-in_err-bytes-in-Write-clause-short g c = if_err _ (short_still c.args.self.now c.args.self.now refl)
+returns-in_err-bytes-in-Write-clause-short g c = λ w stands. if_err _ (short_still c.args.self.now c.args.self.now refl)
 
 pub returns-in_err-room-in-Read-clause-short : goal.returns-in_err-room-in-Read-clause-short
-returns-in_err-room-in-Read-clause-short g c = if_err _ (short_still c.args.self.now c.args.self.now refl)
+returns-in_err-room-in-Read-clause-short g c = λ w stands. if_err _ (short_still c.args.self.now c.args.self.now refl)
 
 pub returns-in_err-room-in-Show-clause-short : goal.returns-in_err-room-in-Show-clause-short
-returns-in_err-room-in-Show-clause-short g c = if_err _ (short_still c.args.self.now c.args.self.now refl)
+returns-in_err-room-in-Show-clause-short g c = λ w stands. if_err _ (short_still c.args.self.now c.args.self.now refl)
 
 pub returns-in_ok-room-in-Read-clause-asked : goal.returns-in_ok-room-in-Read-clause-asked
 returns-in_ok-room-in-Read-clause-asked g c = λ w stands. subst (λ line. AsAsked w line c.args.self.now c.read_line.new.self) (sym c.in-Read.is) (c.read_line.ensures.asked w stands)
 
 pub returns-in_ok-room-in-Show-clause-asked : goal.returns-in_ok-room-in-Show-clause-asked
 returns-in_ok-room-in-Show-clause-asked g c = λ w stands. subst (λ line. AsAsked w line c.args.self.now c.show_line.new.self) (sym c.in-Show.is) (c.show_line.ensures.asked w stands)
+
+pub returns-in-Site-clause-leads : goal.returns-in-Site-clause-leads
+returns-in-Site-clause-leads g c = λ d stands goes. subst (λ line. LeadsIs d line c.args.self.now c.make_site.new.self c.make_site.result) (sym c.in-Site.is) (c.make_site.ensures.leads d stands)
+
+pub returns-in-Site-clause-asks : goal.returns-in-Site-clause-asks
+returns-in-Site-clause-asks g c = λ d stands goes. subst (λ line. AsAsked d.world line c.args.self.now c.make_site.new.self) (sym c.in-Site.is) (c.make_site.ensures.asks d stands)
+
+pub returns-in-Raw-clause-leads : goal.returns-in-Raw-clause-leads
+returns-in-Raw-clause-leads g c = λ d stands goes. subst (λ line. LeadsIs d line c.args.self.now c.make_raw.new.self c.make_raw.result) (sym c.in-Raw.is) (c.make_raw.ensures.leads d stands)
+
+pub returns-in-Raw-clause-asks : goal.returns-in-Raw-clause-asks
+returns-in-Raw-clause-asks g c = λ d stands goes. subst (λ line. AsAsked d.world line c.args.self.now c.make_raw.new.self) (sym c.in-Raw.is) (c.make_raw.ensures.asks d stands)
+
+pub returns-in-Disk-clause-leads : goal.returns-in-Disk-clause-leads
+returns-in-Disk-clause-leads g c = λ d stands goes. subst (λ line. Leads d line c.set_disk.result c.args.self.now c.set_disk.new.self) (sym c.in-Disk.is) (c.set_disk.ensures.leads d stands)
+
+pub returns-in-Disk-clause-asks : goal.returns-in-Disk-clause-asks
+returns-in-Disk-clause-asks g c = λ d stands goes. subst (λ line. AsAsked d.world line c.args.self.now c.set_disk.new.self) (sym c.in-Disk.is) (c.set_disk.ensures.asks d stands)
+
+pub returns-in-Crash-clause-leads : goal.returns-in-Crash-clause-leads
+returns-in-Crash-clause-leads g c = λ d stands goes. subst (λ line. Leads d line c.crash_line.result c.args.self.now c.crash_line.new.self) (sym c.in-Crash.is) (c.crash_line.ensures.leads d stands)
+
+pub returns-in-Crash-clause-asks : goal.returns-in-Crash-clause-asks
+returns-in-Crash-clause-asks g c = λ d stands goes. subst (λ line. AsAsked d.world line c.args.self.now c.crash_line.new.self) (sym c.in-Crash.is) (c.crash_line.ensures.asks d stands)
+
+pub returns-in-Fuse-clause-leads : goal.returns-in-Fuse-clause-leads
+returns-in-Fuse-clause-leads g c = λ d stands goes. subst (λ line. Leads d line c.fuse_line.result c.args.self.now c.fuse_line.new.self) (sym c.in-Fuse.is) (c.fuse_line.ensures.leads d stands)
+
+pub returns-in-Fuse-clause-asks : goal.returns-in-Fuse-clause-asks
+returns-in-Fuse-clause-asks g c = λ d stands goes. subst (λ line. AsAsked d.world line c.args.self.now c.fuse_line.new.self) (sym c.in-Fuse.is) (c.fuse_line.ensures.asks d stands)
+
+pub returns-in_ok-room-in-Read-clause-leads : goal.returns-in_ok-room-in-Read-clause-leads
+returns-in_ok-room-in-Read-clause-leads g c = λ d stands goes. subst (λ line. Leads d line c.read_line.result c.args.self.now c.read_line.new.self) (sym c.in-Read.is) (c.read_line.ensures.leads d stands)
+
+pub returns-in_ok-room-in-Read-clause-asks : goal.returns-in_ok-room-in-Read-clause-asks
+returns-in_ok-room-in-Read-clause-asks g c = λ d stands goes. subst (λ line. AsAsked d.world line c.args.self.now c.read_line.new.self) (sym c.in-Read.is) (c.read_line.ensures.asks d stands)
+
+pub returns-in_ok-room-in-Show-clause-leads : goal.returns-in_ok-room-in-Show-clause-leads
+returns-in_ok-room-in-Show-clause-leads g c = λ d stands goes. subst (λ line. Leads d line c.show_line.result c.args.self.now c.show_line.new.self) (sym c.in-Show.is) (c.show_line.ensures.leads d stands)
+
+pub returns-in_ok-room-in-Show-clause-asks : goal.returns-in_ok-room-in-Show-clause-asks
+returns-in_ok-room-in-Show-clause-asks g c = λ d stands goes. subst (λ line. AsAsked d.world line c.args.self.now c.show_line.new.self) (sym c.in-Show.is) (c.show_line.ensures.asks d stands)
+
+pub returns-in-Apply-clause-leads : goal.returns-in-Apply-clause-leads
+returns-in-Apply-clause-leads g c = λ d stands goes. subst (λ line. Leads d line c.apply_line.result c.args.self.now c.apply_line.new.self) (sym c.in-Apply.is) (c.apply_line.ensures.leads d stands)
+
+pub returns-in-Apply-clause-asks : goal.returns-in-Apply-clause-asks
+returns-in-Apply-clause-asks g c = λ d stands goes. subst (λ line. AsAsked d.world line c.args.self.now c.apply_line.new.self) (sym c.in-Apply.is) (c.apply_line.ensures.asks d stands)
+
+pub returns-in-Apply-clause-calls : goal.returns-in-Apply-clause-calls
+returns-in-Apply-clause-calls g c = λ d stands goes. subst (λ line. HasCalled d.world line c.apply_line.result c.args.self.now c.apply_line.new.self) (sym c.in-Apply.is) (c.apply_line.ensures.calls d stands)
+
+pub returns-in-Status-clause-leads : goal.returns-in-Status-clause-leads
+returns-in-Status-clause-leads g c = λ d stands goes. subst (λ line. LeadsIs d line c.args.self.now c.args.self.now c.status_line.result) (sym c.in-Status.is) (c.status_line.ensures.leads d stands)
+
+pub returns-in-Status-clause-asks : goal.returns-in-Status-clause-asks
+returns-in-Status-clause-asks g c = λ d stands goes. subst (λ line. AsAsked d.world line c.args.self.now c.args.self.now) (sym c.in-Status.is) refl
+
+pub returns-in-Recover-clause-leads : goal.returns-in-Recover-clause-leads
+returns-in-Recover-clause-leads g c = λ d stands goes. absurd (let e : false ≡ true = subst (λ line. goes_with_links line ≡ true) c.in-Recover.is goes in cc)
+
+pub returns-in-Recover-clause-asks : goal.returns-in-Recover-clause-asks
+returns-in-Recover-clause-asks g c = λ d stands goes. absurd (let e : false ≡ true = subst (λ line. goes_with_links line ≡ true) c.in-Recover.is goes in cc)
+
+pub returns-in-Recover-clause-calls : goal.returns-in-Recover-clause-calls
+returns-in-Recover-clause-calls g c = λ d stands goes. absurd (let e : false ≡ true = subst (λ line. goes_with_links line ≡ true) c.in-Recover.is goes in cc)
+
+pub returns-in_ok-bytes-in-Write-clause-leads : goal.returns-in_ok-bytes-in-Write-clause-leads
+returns-in_ok-bytes-in-Write-clause-leads g c = λ d stands goes. absurd (let e : false ≡ true = subst (λ line. goes_with_links line ≡ true) c.in-Write.is goes in cc)
+
+pub returns-in_ok-bytes-in-Write-clause-asks : goal.returns-in_ok-bytes-in-Write-clause-asks
+returns-in_ok-bytes-in-Write-clause-asks g c = λ d stands goes. absurd (let e : false ≡ true = subst (λ line. goes_with_links line ≡ true) c.in-Write.is goes in cc)
+
+pub returns-in_ok-bytes-in-Write-clause-calls : goal.returns-in_ok-bytes-in-Write-clause-calls
+returns-in_ok-bytes-in-Write-clause-calls g c = λ d stands goes. absurd (let e : false ≡ true = subst (λ line. goes_with_links line ≡ true) c.in-Write.is goes in cc)
+
+pub returns-in_err-bytes-in-Write-clause-leads : goal.returns-in_err-bytes-in-Write-clause-leads
+returns-in_err-bytes-in-Write-clause-leads g c = λ d stands goes. absurd (let e : false ≡ true = subst (λ line. goes_with_links line ≡ true) c.in-Write.is goes in cc)
+
+pub returns-in_err-bytes-in-Write-clause-asks : goal.returns-in_err-bytes-in-Write-clause-asks
+returns-in_err-bytes-in-Write-clause-asks g c = λ d stands goes. absurd (let e : false ≡ true = subst (λ line. goes_with_links line ≡ true) c.in-Write.is goes in cc)
+
+pub returns-in_err-bytes-in-Write-clause-calls : goal.returns-in_err-bytes-in-Write-clause-calls
+returns-in_err-bytes-in-Write-clause-calls g c = λ d stands goes. absurd (let e : false ≡ true = subst (λ line. goes_with_links line ≡ true) c.in-Write.is goes in cc)
+
+pub returns-in-Put-clause-leads : goal.returns-in-Put-clause-leads
+returns-in-Put-clause-leads g c = λ d stands goes. absurd (let e : false ≡ true = subst (λ line. goes_with_links line ≡ true) c.in-Put.is goes in cc)
+
+pub returns-in-Put-clause-asks : goal.returns-in-Put-clause-asks
+returns-in-Put-clause-asks g c = λ d stands goes. absurd (let e : false ≡ true = subst (λ line. goes_with_links line ≡ true) c.in-Put.is goes in cc)
+
+pub returns-in-Put-clause-calls : goal.returns-in-Put-clause-calls
+returns-in-Put-clause-calls g c = λ d stands goes. absurd (let e : false ≡ true = subst (λ line. goes_with_links line ≡ true) c.in-Put.is goes in cc)
+
+pub returns-in-Site-clause-calls : goal.returns-in-Site-clause-calls
+returns-in-Site-clause-calls g c = λ d stands goes. if_ok (λ said. HasCalled d.world c.args.words.now said c.args.self.now c.make_site.new.self) c.make_site.result (λ said. subst (λ line. HasCalled d.world line said c.args.self.now c.make_site.new.self) (sym c.in-Site.is) tt)
+
+pub returns-in-Raw-clause-calls : goal.returns-in-Raw-clause-calls
+returns-in-Raw-clause-calls g c = λ d stands goes. if_ok (λ said. HasCalled d.world c.args.words.now said c.args.self.now c.make_raw.new.self) c.make_raw.result (λ said. subst (λ line. HasCalled d.world line said c.args.self.now c.make_raw.new.self) (sym c.in-Raw.is) tt)
+
+pub returns-in-Disk-clause-calls : goal.returns-in-Disk-clause-calls
+returns-in-Disk-clause-calls g c = λ d stands goes. subst (λ line. HasCalled d.world line c.set_disk.result c.args.self.now c.set_disk.new.self) (sym c.in-Disk.is) tt
+
+pub returns-in-Crash-clause-calls : goal.returns-in-Crash-clause-calls
+returns-in-Crash-clause-calls g c = λ d stands goes. subst (λ line. HasCalled d.world line c.crash_line.result c.args.self.now c.crash_line.new.self) (sym c.in-Crash.is) tt
+
+pub returns-in-Fuse-clause-calls : goal.returns-in-Fuse-clause-calls
+returns-in-Fuse-clause-calls g c = λ d stands goes. subst (λ line. HasCalled d.world line c.fuse_line.result c.args.self.now c.fuse_line.new.self) (sym c.in-Fuse.is) tt
+
+pub returns-in_ok-room-in-Read-clause-calls : goal.returns-in_ok-room-in-Read-clause-calls
+returns-in_ok-room-in-Read-clause-calls g c = λ d stands goes. subst (λ line. HasCalled d.world line c.read_line.result c.args.self.now c.read_line.new.self) (sym c.in-Read.is) tt
+
+pub returns-in_ok-room-in-Show-clause-calls : goal.returns-in_ok-room-in-Show-clause-calls
+returns-in_ok-room-in-Show-clause-calls g c = λ d stands goes. subst (λ line. HasCalled d.world line c.show_line.result c.args.self.now c.show_line.new.self) (sym c.in-Show.is) tt
+
+pub returns-in-Status-clause-calls : goal.returns-in-Status-clause-calls
+returns-in-Status-clause-calls g c = λ d stands goes. if_ok (λ said. HasCalled d.world c.args.words.now said c.args.self.now c.args.self.now) c.status_line.result (λ said. subst (λ line. HasCalled d.world line said c.args.self.now c.args.self.now) (sym c.in-Status.is) tt)
+
+pub returns-in_err-room-in-Read-clause-leads : goal.returns-in_err-room-in-Read-clause-leads
+returns-in_err-room-in-Read-clause-leads g c = λ d stands goes.
+    let p = err_from_is_err_and c.from_residual-in_err-room-in-Read.result c.from_residual-in_err-room-in-Read.ensures.1 in unbegun_by d c.args.words.now c.args.self.now _ c.from_residual-in_err-room-in-Read.result p.0 p.1 refl refl refl stands
+
+pub returns-in_err-room-in-Read-clause-calls : goal.returns-in_err-room-in-Read-clause-calls
+returns-in_err-room-in-Read-clause-calls g c = λ d stands goes.
+    if_ok (λ said. HasCalled d.world c.args.words.now said c.args.self.now c.args.self.now) c.from_residual-in_err-room-in-Read.result (λ said. subst (λ line. HasCalled d.world line said c.args.self.now c.args.self.now) (sym c.in-Read.is) tt)
+
+pub returns-in_err-room-in-Read-clause-asks : goal.returns-in_err-room-in-Read-clause-asks
+returns-in_err-room-in-Read-clause-asks g c = λ d stands goes.
+    let y = c.args.self.now in
+    let free = subst (λ line. IsFree y line) c.in-Read.is c.requires.free in
+    subst (λ line. AsAsked d.world line y y) (sym c.in-Read.is)
+    (unbegun_site LeavesAlone d y c.in-Read.site alone_same stands (read_may y.facts.items (in_files y) c.in-Read.site c.in-Read.volume c.in-Read.block c.in-Read.count free).site)
+
+pub returns-in_err-room-in-Show-clause-leads : goal.returns-in_err-room-in-Show-clause-leads
+returns-in_err-room-in-Show-clause-leads g c = λ d stands goes.
+    let p = err_from_is_err_and c.from_residual-in_err-room-in-Show.result c.from_residual-in_err-room-in-Show.ensures.1 in unbegun_by d c.args.words.now c.args.self.now _ c.from_residual-in_err-room-in-Show.result p.0 p.1 refl refl refl stands
+
+pub returns-in_err-room-in-Show-clause-calls : goal.returns-in_err-room-in-Show-clause-calls
+returns-in_err-room-in-Show-clause-calls g c = λ d stands goes.
+    if_ok (λ said. HasCalled d.world c.args.words.now said c.args.self.now c.args.self.now) c.from_residual-in_err-room-in-Show.result (λ said. subst (λ line. HasCalled d.world line said c.args.self.now c.args.self.now) (sym c.in-Show.is) tt)
+
+pub returns-in_err-room-in-Show-clause-asks : goal.returns-in_err-room-in-Show-clause-asks
+returns-in_err-room-in-Show-clause-asks g c = λ d stands goes.
+    let y = c.args.self.now in
+    let free = subst (λ line. IsFree y line) c.in-Show.is c.requires.free in
+    subst (λ line. AsAsked d.world line y y) (sym c.in-Show.is)
+    (unbegun_site LeavesAlone d y c.in-Show.site alone_same stands (show_may y.facts.items (in_files y) c.in-Show.site c.in-Show.volume c.in-Show.block c.in-Show.count free).site)

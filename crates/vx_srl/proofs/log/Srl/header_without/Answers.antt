@@ -1,7 +1,6 @@
-use Rattle.std.proofs.Common.{◌≡◌, ◌<◌, ◌≤◌, ◌+◌, ◌-◌, length, take, ap, refl, ◌∙◌, ℕ, arith, length-take, nat_lt}
-use Rattle.std.proofs.lemmas.Bool.{and_from, lt-ltb}
+use Rattle.std.proofs.Common.{◌≡◌, ◌<◌, ◌≤◌, ◌+◌, ◌-◌, length, take, ap, refl, ◌∙◌, ℕ, arith, length-take}
 use Rattle.vx_srl.specs.Views.{Log, head_of, place_after}
-use Rattle.vx_srl.proofs.LogLists.{floor_behind, low_some, place_behind, place_below, place_low, place_of_all}
+use Rattle.vx_srl.proofs.LogLists.{floor_behind, low_some, numbers_of_ring, place_behind, place_below, place_low, place_of_all, run_few}
 use Rattle.vx_srl.proofs.Saving.{without_is}
 use Rattle.vx_srl.proofs.log.Srl.header_without.Goals as goal
 use Rattle.vx_srl.proofs.log.Srl.header_without.Goals.{then-gone-len, else-gone-len}
@@ -38,4 +37,5 @@ pub returns-clause-of_ring : goal.returns-clause-of_ring
 returns-clause-of_ring c =
     let ring_is : c.self.inside.ring ≡ c.args.self.now.ring = ap (λ (x : Log). x.ring) c.self.view_is in
     let below = place_below c.self.inside.ring c.self.inside.header.place (take (c.args.to + 1 - c.self.inside.header.low) (take c.self.inside.sealed c.self.inside.records.items)) (place_low c.self.inside.ring c.self.inside.header c.self.invariant.ordered.of_ring) in
-    and_from (nat_lt c.if-gone-len.place c.args.self.now.ring) (nat_lt 0 (c.args.to + 1)) (lt-ltb c.if-gone-len.place c.args.self.now.ring (omega (arith, below, place_is c, ring_is))) (lt-ltb 0 (c.args.to + 1) (omega arith))
+    numbers_of_ring c.if-gone-len.place c.args.self.now.ring (c.args.to + 1) c.self.inside.header.run (c.self.inside.header.stamp + 1)
+    (omega (arith, below, place_is c, ring_is)) (omega arith) (omega (arith, run_few c.self.inside.ring c.self.inside.header c.self.invariant.ordered.of_ring))

@@ -1,0 +1,496 @@
+-- What waits behind a receiver's group, as it is logged and applied.
+use Rattle.std.proofs.Common.{◌≡◌, ◌∙◌, inl, inr, ⊎_elim, ℕ, zero, suc, ◌+◌, ◌-◌, ◌<◌, ◌≤◌, Bool, true, false, List, [], ◌∷◌, ◌++◌, length, take, drop, ap, sym, subst, refl, arith, length-append}
+use Rattle.std.specs.Prelude.{IsTrue, IsFalse, Some, None, Result, Ok, Err, slice_get, min, eqb, if◌then◌else◌}
+use Rattle.std.proofs.lemmas.List.{drop-append-le, drop-drop, length-drop, length-take, take-append-drop, take-take, length-map}
+use Rattle.vx_model.specs.Content.{Content, Write, blocks_in, fold_writes, put}
+use Rattle.vx_model.specs.declared.call.Update.{Update}
+use Rattle.vx_model.specs.declared.no.No.{No}
+use Rattle.vx_model.specs.declared.no.No.TheVariants.{Device, Limit, Down as IsOff}
+use Rattle.vx_model.specs.declared.units.Units.{Units}
+use Rattle.std.proofs.lemmas.Bool.Decides.{nat_tests}
+use Rattle.vx_secondary.specs.declared.secondary.Secondary.{Secondary}
+use Rattle.vx_history.specs.declared.receiver.REvent.TheVariants.{Applied}
+use Rattle.vx_history.specs.declared.receiver.RAction.TheVariants.{Nothing as DoesNothing, DataAck}
+use Rattle.vx_history.specs.declared.receiver.RAction.{RAction}
+use Rattle.vx_history.specs.Receiving.{Received, received_step, with_applied}
+use Rattle.vx_history.specs.LinkForms.{plain_receiver}
+use Rattle.vx_history.specs.Steps.{burned, half_begun, logged, spent, write_calls}
+use Rattle.vx_history.specs.World.{Node, Fuse, NoFuse, FuseSet, FuseLit}
+use Rattle.vx_disk.specs.Shelf.{Image, Meaning}
+use Rattle.vx_disk.specs.declared.shelf.Shelf.{Ghosts}
+use Rattle.vx_rvg.specs.Views.{Core, last_of, unit_of}
+use Rattle.vx_rvg.specs.declared.group.Rvg.{Rvg}
+use Rattle.vx_secondary.specs.Receivers.{Wait, write_of, writes_of}
+use Rattle.vx_secondary.proofs.Writings.{can_parts}
+use Rattle.vx_diskset.specs.declared.receivers.Reached.{Reached}
+use Rattle.vx_diskset.specs.declared.disk_set.DiskSet.{DiskSet}
+use Rattle.vx_diskset.specs.declared.disk_set.DiskSet.TheVariants.{Up, Receives}
+use Rattle.vx_diskset.specs.DiskSets.{CanLog, LoggedUp, halted_at, halted_with, worked, CrashedAt, is_off}
+use Rattle.vx_diskset.specs.Fuses.{HasFuse}
+use Rattle.vx_diskset.specs.Holds.{Beside, HasWrites, most_with, state_with}
+use Rattle.vx_diskset.specs.Lasts.{FoundWith}
+use Rattle.vx_diskset.specs.Layouts.{units_of}
+use Rattle.vx_diskset.specs.Needs.{HasRoom}
+use Rattle.vx_diskset.specs.Received.{CanReceive, LoggedTo, reached, ReachedAt, ReachedBy, ReachedTo, ReachedUp}
+use Rattle.vx_diskset.specs.Rooms.{AppliedAs, IsMore}
+use Rattle.vx_diskset.specs.Stands.{IsHeldAt, IsReceiverAt, IsUpAt, CutAt, StandsAt}
+use Rattle.vx_events.specs.Fuses.{taken}
+use Rattle.vx_diskset.proofs.BesideLemmas.{never_besides, site_map}
+use Rattle.vx_ringio.specs.Spends.{Spends}
+use Rattle.vx_ringio.proofs.Spending.{spends_none, then_spends}
+use Rattle.vx_diskset.proofs.MakeRoom.{rose_later}
+use Rattle.vx_diskset.proofs.Mores.{more_none, more_then, wait_more}
+use Rattle.vx_diskset.proofs.Laying.{lies_sized}
+use Rattle.vx_diskset.proofs.CrashGroup.{folded_size}
+use Rattle.vx_diskset.proofs.NeedLemmas.{needs_less}
+use Rattle.vx_diskset.proofs.Receiving.{as_held, as_receiver, durable_of, never_some, receiver_volumes, up_receiver}
+use Rattle.vx_diskset.proofs.StaysUp.{burned_twice, durable_content, drop-take_none, fuse_burned, fused_before, up_worked}
+
+-- ---- lists
+
+next_of : {A : Type 0} (k : ℕ) (xs : List A) (x : A) (rest : List A) → drop k xs ≡ x ∷ rest → (take (suc k) xs ≡ take k xs ++ x ∷ []) × (drop (suc k) xs ≡ rest)
+next_of zero [] x rest is = absurd (cc)
+next_of zero (y ∷ ys) x rest is = let head : y ≡ x = cc in let tail : ys ≡ rest = cc in (ap (λ z. z ∷ []) head, tail)
+next_of (suc k) [] x rest is = absurd (cc)
+next_of (suc k) (y ∷ ys) x rest is = let r = next_of k ys x rest is in (ap (λ zs. y ∷ zs) r.0, r.1)
+
+fold_both : (c : Content) (xs ys : List Write) → fold_writes (fold_writes c xs) ys ≡ fold_writes c (xs ++ ys)
+fold_both c [] ys = refl
+fold_both c (x ∷ xs) ys = fold_both (put c x) xs ys
+
+-- the writes up to j, and those from there up to k
+parts : (a j k : ℕ) (xs : List Write) → a ≤ j → j ≤ k → k ≤ length xs → drop a (take j xs) ++ drop j (take k xs) ≡ drop a (take k xs)
+parts a j k xs le low most =
+    ap (λ (ws : List Write). drop a ws ++ drop j (take k xs)) (sym (take-take j k xs low))
+    ∙ sym (drop-append-le a (take j (take k xs)) (drop j (take k xs)) (omega (arith, length-take j (take k xs), length-take k xs, le, low, most)))
+    ∙ ap (λ (ws : List Write). drop a ws) (take-append-drop j (take k xs))
+
+content_more : (c : Content) (a j k : ℕ) (xs : List Write) → a ≤ j → j ≤ k → k ≤ length xs → fold_writes (fold_writes c (drop a (take j xs))) (drop j (take k xs)) ≡ fold_writes c (drop a (take k xs))
+content_more c a j k xs le low most = fold_both c (drop a (take j xs)) (drop j (take k xs)) ∙ ap (λ (ws : List Write). fold_writes c ws) (parts a j k xs le low most)
+
+-- ---- a receiver with other parts of its node
+
+like : {beside : Beside} (n : Node) (b b' : Content) (s s' : ℕ) (f f' : Fuse) (c : Core) (us : List Update) (m : Meaning) → b ≡ b' → s ≡ s' → f ≡ f'
+    → IsReceiverAt beside (record n { base = b; safe = s; fuse = f }) c us m → IsReceiverAt beside (record n { base = b'; safe = s'; fuse = f' }) c us m
+like {beside} n b b' s s' f f' c us m eb es ef r =
+    subst (λ (x : Fuse). IsReceiverAt beside (record n { base = b'; safe = s'; fuse = x }) c us m) ef
+    (subst (λ (x : ℕ). IsReceiverAt beside (record n { base = b'; safe = x; fuse = f }) c us m) es
+    (subst (λ (x : Content). IsReceiverAt beside (record n { base = x; safe = s; fuse = f }) c us m) eb r))
+
+receiver_burned : {beside : Beside} (n : Node) (c : Core) (us : List Update) (m : Meaning) → IsReceiverAt beside n c us m → IsReceiverAt beside (worked n) c us m
+receiver_burned n c us m r = record {
+  state = r.state;
+  role = r.role;
+  up = r.up;
+  fuse = fuse_burned n.fuse m r.fuse;
+  lies = r.lies;
+  low = r.low;
+  units = r.units;
+  ring = r.ring;
+  found = r.found;
+  kept = r.kept;
+  linked = r.linked;
+  session = r.session;
+  begun = r.begun;
+  stamp = r.stamp;
+  first = r.first;
+  least = r.least;
+  most = r.most;
+  head = r.head;
+  halted = r.halted;
+  waits = r.waits;
+  takes = r.takes;
+  content = r.content;
+  left = λ i now. site_map n (worked n) i (λ has. record { count = has.count; least = has.least; most = has.most; found = has.found }) (r.left i now);
+  sure = r.sure;
+  may = r.may;
+}
+
+-- none is applied yet
+pub reached_none : {beside : Beside} (n : Node) (c : Core) (us : List Update) (m : Meaning) → IsReceiverAt beside n c us m → IsReceiverAt beside (reached n n.safe) c us m
+reached_none n c us m r = like n n.base (fold_writes n.base (drop n.safe (take n.safe n.log))) n.safe n.safe (burned n.fuse) (burned n.fuse) c us m (durable_content n) refl refl (receiver_burned n c us m r)
+
+pub reached_worked : {beside : Beside} (n : Node) (c : Core) (us : List Update) (m : Meaning) → IsReceiverAt beside (worked n) c us m → IsReceiverAt beside (reached n n.safe) c us m
+reached_worked n c us m r = like n n.base (fold_writes n.base (drop n.safe (take n.safe n.log))) n.safe n.safe (burned n.fuse) (burned n.fuse) c us m (durable_content n) refl refl r
+
+-- those up to j, and from there up to k
+pub reached_more : {beside : Beside} (n : Node) (j k : ℕ) (c : Core) (us : List Update) (m : Meaning) → n.safe ≤ j → j ≤ k → k ≤ length n.log → IsReceiverAt beside (reached (reached n j) k) c us m → IsReceiverAt beside (reached n k) c us m
+reached_more n j k c us m le low most r =
+    like n (fold_writes (fold_writes n.base (drop n.safe (take j n.log))) (drop j (take k n.log))) (fold_writes n.base (drop n.safe (take k n.log))) k k (burned (burned n.fuse)) (burned n.fuse) c us m
+    (content_more n.base n.safe j k n.log le low most) refl (burned_twice n.fuse) r
+
+-- ---- back to the site as it was before
+
+back_writes : {beside : Beside} (n : Node) (number : ℕ) (i : Image) → n.safe ≤ number → HasWrites beside (reached n number) i → HasWrites beside n i
+back_writes {beside} n number i le has = record {
+  count = has.count;
+  least = omega (arith, le, has.least);
+  most = has.most;
+  found = subst (λ (c : Content). FoundWith (units_of n) n.ring (state_with n beside.links) n.session (most_with beside n has.count) i (take has.count n.log) c)
+      (content_more n.base n.safe number has.count n.log le has.least has.most) has.found;
+}
+
+-- the sizes of its volumes are those of its first content
+pub back_held : {beside : Beside} (n : Node) (number : ℕ) (m : Meaning) → n.safe ≤ number → n.safe ≤ length n.log → IsHeldAt beside (reached n number) m → IsHeldAt beside n m
+back_held n number m le some held = record {
+  lies = lies_sized (reached n number) n.base.size m (λ v. sym (folded_size n.base (drop n.safe (take number n.log)) v)) held.lies;
+  low = held.low;
+  logged = some;
+  begun = held.begun;
+  left = λ i now. ⊎_elim (λ one. inl (back_writes n number i le one)) (λ other. inr other) (held.left i now);
+  may = held.may;
+}
+
+pub back_halted : {beside : Beside} (n : Node) (number disk : ℕ) (c : Core) (us : List Update) (m : Meaning) → n.safe ≤ number → IsReceiverAt beside (halted_at (reached n number) disk) c us m → IsReceiverAt beside (halted_at n disk) c us m
+back_halted {beside} n number disk c us m le r = record {
+  state = r.state;
+  role = r.role;
+  up = r.up;
+  fuse = subst (λ (f : Fuse). HasFuse f m) (burned_twice n.fuse) r.fuse;
+  lies = lies_sized (reached n number) n.base.size m (λ v. sym (folded_size n.base (drop n.safe (take number n.log)) v)) r.lies;
+  low = r.low;
+  units = r.units;
+  ring = r.ring;
+  found = r.found;
+  kept = r.kept;
+  linked = r.linked;
+  session = r.session;
+  begun = r.begun;
+  stamp = λ told none. absurd (never_some none);
+  first = r.first;
+  least = omega (arith, le, r.least);
+  most = r.most;
+  head = λ none. absurd (never_some none);
+  halted = r.halted;
+  waits = r.waits;
+  takes = λ none. absurd (never_some none);
+  content = λ none. absurd (never_some none);
+  left = λ i now. ⊎_elim (λ one. inl (of_halted (back_writes n number i le (record { count = one.count; least = one.least; most = one.most; found = one.found })))) (λ other. inr other) (r.left i now);
+  sure = λ none. absurd (never_some none);
+  may = r.may;
+}
+  where
+    of_halted : {i : Image} → HasWrites beside n i → HasWrites beside (halted_at n disk) i
+    of_halted has = record { count = has.count; least = has.least; most = has.most; found = has.found }
+
+-- ---- the oldest of what waits is logged
+
+fuse_less : (k : ℕ) (f : Fuse) (m : Meaning) → HasFuse (spent k f) m → HasFuse (burned f) m
+fuse_less k NoFuse m has = has
+fuse_less k (FuseSet calls) m has = tt
+fuse_less k (FuseLit most) m has = tt
+
+-- a site that is up, with a like content and a fuse of which less is known
+up_like : {beside : Beside} (n : Node) (b : Content) (f : Fuse) (c : Core) (m : Meaning) → n.base ≡ b → HasFuse f m → IsUpAt beside n c m → IsUpAt beside (record n { base = b; fuse = f }) c m
+up_like {beside} n b f c m eb fuse up = subst (λ (x : Content). IsUpAt beside (record n { base = x; fuse = f }) c m) eb (record {
+  state = up.state;
+  up = up.up;
+  fuse = fuse;
+  lies = up.lies;
+  units = up.units;
+  ring = up.ring;
+  low = up.low;
+  found = up.found;
+  kept = up.kept;
+  linked = up.linked;
+  session = up.session;
+  begun = up.begun;
+  stamp = up.stamp;
+  fresh = up.fresh;
+  first = up.first;
+  head = up.head;
+  halted = up.halted;
+  logged = up.logged;
+  durable = up.durable;
+  takes = up.takes;
+  content = up.content;
+  left = λ i now. site_map n (record n { fuse = f }) i (λ has. record { count = has.count; least = has.least; most = has.most; found = has.found }) (up.left i now);
+  sure = up.sure;
+  may = up.may;
+})
+
+-- an image that has the first j writes has the site's
+first_writes : {beside : Beside} (k : Node) (log : List Write) (j : ℕ) (i : Image) → k.log ≡ take j log → j ≤ length log → HasWrites beside k i → HasWrites beside (record k { log = log }) i
+first_writes {beside} k log j i front most has = record {
+  count = has.count;
+  least = has.least;
+  most = omega (arith, below, most);
+  found = subst (λ (ws : List Write). FoundWith (units_of k) k.ring (state_with k beside.links) k.session (most_with beside k has.count) i ws (fold_writes k.base (drop k.safe ws)))
+      (ap (λ (ws : List Write). take has.count ws) front ∙ take-take has.count j log below) has.found;
+}
+  where
+    below : has.count ≤ j
+    below = omega (arith, has.most, ap (λ (ws : List Write). length ws) front, length-take j log)
+
+module _ {beside : Beside} (n : Node) (c : Core) (us rest : List Update) (u : Update) (m : Meaning) (r : IsReceiverAt beside n c us m) (can : CanReceive beside n) (front : us ≡ u ∷ rest) where
+  abbrev pub x : Write
+  x = write_of u
+
+  split : drop n.safe n.log ≡ x ∷ writes_of rest
+  split = sym (r.waits ∙ ap (λ (k : ℕ). drop k n.log) (r.head can.running)) ∙ ap (λ (vs : List Update). writes_of vs) front
+
+  more : suc n.safe ≡ n.safe + 1
+  more = omega arith
+
+  front_next : take n.safe n.log ++ x ∷ [] ≡ take (n.safe + 1) n.log
+  front_next = sym (next_of n.safe n.log x (writes_of rest) split).0 ∙ ap (λ (k : ℕ). take k n.log) more
+
+  rest_next : writes_of rest ≡ drop (n.safe + 1) n.log
+  rest_next = sym (next_of n.safe n.log x (writes_of rest) split).1 ∙ ap (λ (k : ℕ). drop k n.log) more
+
+  long : n.safe ≤ length n.log
+  long = omega (arith, r.least, r.most)
+
+  long_next : n.safe + 1 ≤ length n.log
+  long_next = omega (arith, ap (λ (ws : List Write). length ws) front_next, length-append (take n.safe n.log) (x ∷ []), length-take n.safe n.log, length-take (n.safe + 1) n.log, long)
+
+  -- its content with the write
+  content_next : put n.base x ≡ fold_writes n.base (drop n.safe (take (n.safe + 1) n.log))
+  content_next =
+      ap (λ (ws : List Write). fold_writes n.base ws)
+      (sym (ap (λ (ws : List Write). ws ++ x ∷ []) (drop-take_none n.safe n.log))
+      ∙ sym (drop-append-le n.safe (take n.safe n.log) (x ∷ []) (omega (arith, length-take n.safe n.log, long)))
+      ∙ ap (λ (ws : List Write). drop n.safe ws) front_next)
+
+  -- the group can log it
+  pub can_next : Wait c m.size us → CanLog (durable_of n) u.vol u.block (blocks_in u.bytes)
+  can_next wait =
+      let parts = can_parts c m.size u (wait.fits 0 u (ap (λ (vs : List Update). slice_get vs 0) front)) in
+      let volume : u.vol < length n.volumes = omega (arith, parts.0, receiver_volumes n c us m r) in
+      let size = ap (λ (w : Units). m.size (unit_of w.vols u.vol)) r.units ∙ sym (r.lies.laid.each u.vol volume) in
+      record { up = r.state; running = can.running; volume_exists = volume; fits = omega (arith, parts.1.0, r.ring); within = omega (arith, parts.1.1, size) }
+
+  pub room_next : CanLog (durable_of n) u.vol u.block (blocks_in u.bytes) → (hold : ℕ) → hold ≡ last_of c → HasRoom beside.links (durable_of n) hold (blocks_in u.bytes)
+  room_next able hold is = record {
+    unneeded = needs_less beside.links (length n.log) hold (omega (arith, is, r.most)) can.unneeded;
+    room =
+        let none = ap (λ (k : ℕ). taken (drop k (take n.safe n.log))) (is ∙ r.head can.running) ∙ ap (λ (ws : List Write). taken ws) (drop-take_none n.safe n.log) in
+        omega (arith, none, able.fits);
+  }
+
+  -- with it
+  next_receiver : (c' : Core) (new : Meaning) → IsUpAt beside (logged (durable_of n) x) c' new → IsReceiverAt beside (reached n (n.safe + 1)) c' rest new
+  next_receiver c' new up =
+      up_receiver beside.doubt (record (logged (durable_of n) x) { base = fold_writes n.base (drop n.safe (take (n.safe + 1) n.log)); fuse = burned n.fuse }) n.log c' rest new r.role front_next long_next rest_next (λ i has. has)
+      (λ y is. never_besides beside.doubt new (r.sure can.running) y is) (λ none. r.sure can.running)
+      (up_like (logged (durable_of n) x) (fold_writes n.base (drop n.safe (take (n.safe + 1) n.log))) (burned n.fuse) c' new content_next (fuse_less write_calls n.fuse new up.fuse) up)
+
+  -- a disk failed in it
+  halted_receiver : (disk : ℕ) (c' : Core) (new : Meaning) → IsUpAt beside (halted_with (durable_of n) x disk) c' new → IsReceiverAt beside (halted_at n disk) c' us new
+  halted_receiver disk c' new up = record {
+    state = up.state;
+    role = r.role;
+    up = up.up;
+    fuse = up.fuse;
+    lies = up.lies;
+    low = up.low;
+    units = up.units;
+    ring = up.ring;
+    found = up.found;
+    kept = up.kept;
+    linked = up.linked;
+    session = up.session;
+    begun = up.begun;
+    stamp = λ told none. absurd (never_some none);
+    first = up.first;
+    least = omega (arith, up.head);
+    most = omega (arith, up.head, long);
+    head = λ none. absurd (never_some none);
+    halted = up.halted;
+    waits = r.waits ∙ ap (λ (k : ℕ). drop k n.log) (r.head can.running ∙ sym up.head);
+    takes = λ none. absurd (never_some none);
+    content = λ none. absurd (never_some none);
+    left = λ i now. ⊎_elim (λ one. inl (first_writes (halted_with (durable_of n) x disk) n.log (n.safe + 1) i front_next long_next one)) (λ other. inr other) (up.left i now);
+    sure = λ none. absurd (never_some none);
+    may = up.may;
+  }
+
+  -- its fuse ran out in it
+  held_next : (new : Meaning) → IsHeldAt beside (half_begun (durable_of n) x) new → IsHeldAt beside n new
+  held_next new held = record {
+    lies = held.lies;
+    low = held.low;
+    logged = long;
+    begun = held.begun;
+    left = λ i now. ⊎_elim (λ one. inl (first_writes (half_begun (durable_of n) x) n.log (n.safe + 1) i front_next long_next one)) (λ other. inr other) (held.left i now);
+    may = held.may;
+  }
+
+  module _ {R : Type 0} {g : Ghosts R} (old new : Rvg R g) where
+    pub next_failed : (why : No) → LoggedUp beside (durable_of n) x (Up old) (Up new) (Err why) → LoggedTo beside n 1 us new.core (g.meaning old.shelf) (g.meaning new.shelf) (Err why)
+    next_failed (Device disk) h = (halted_receiver disk new.core (g.meaning new.shelf) h.0, h.1)
+    next_failed (Limit what most) h = (
+      h.0,
+      (λ told. let far = h.1 told in omega (arith, far, long)),
+      (
+        n.safe,
+        omega arith,
+        long,
+        reached_worked n new.core us (g.meaning new.shelf) (as_receiver n us n.halted (burned n.fuse) new.core (g.meaning new.shelf) (r.sure can.running) r.role long (r.waits ∙ ap (λ (k : ℕ). drop k n.log) (r.head can.running)) h.2),
+      ),
+    )
+    next_failed IsOff h = (h.0, held_next (g.meaning new.shelf) h.1)
+    next_failed other h = h
+
+    pub next_done : (number : ℕ) → LoggedUp beside (durable_of n) x (Up old) (Up new) (Ok number) → IsReceiverAt beside (reached n (n.safe + 1)) new.core rest (g.meaning new.shelf)
+    next_done number h = next_receiver new.core (g.meaning new.shelf) h.2
+
+-- ---- several of them
+
+pub front_is : (us : List Update) (u : Update) → Some u ≡ slice_get us 0 → us ≡ u ∷ drop 1 us
+front_is [] u is = absurd (cc)
+front_is (v ∷ vs) u is = let same : u ≡ v = cc in ap (λ (w : Update). w ∷ vs) (sym same)
+
+pub next_can : {beside : Beside} (n : Node) (number : ℕ) → CanReceive beside n → CanReceive beside (reached n number)
+next_can n number can = record { receives = can.receives; up = can.up; running = can.running; unneeded = can.unneeded }
+
+-- so many of the updates are logged
+pub record LoggedSo (us : List Update) (k : ℕ) (c d : Core) (m mid : Meaning) (left : List Update) : Type 0 where
+  pub each : (beside : Beside) (n : Node) → IsReceiverAt beside n c us m → CanReceive beside n → IsReceiverAt beside (reached n (n.safe + k)) d left mid
+  pub left_is : left ≡ drop k us
+  pub more : IsMore k c d
+  pub spends : Spends m mid
+  pub up : IsFalse m.down → IsFalse mid.down
+  pub counts : (disk : ℕ) → m.disk_faults disk ≤ mid.disk_faults disk
+  pub told : IsTrue mid.tells → IsTrue m.tells
+
+pub logged_none : (us : List Update) (c : Core) (m : Meaning) → LoggedSo us 0 c c m m us
+logged_none us c m = record {
+  each = λ beside n r can. subst (λ (k : ℕ). IsReceiverAt beside (reached n k) c us m) (let e : n.safe ≡ n.safe + 0 = omega arith in e) (reached_none n c us m r);
+  left_is = refl;
+  more = more_none c;
+  spends = spends_none m;
+  up = λ up. up;
+  counts = λ disk. omega arith;
+  told = λ told. told;
+}
+
+module _ (us : List Update) (k : ℕ) (c d e : Core) (m mid new : Meaning) (left : List Update) (at : LoggedSo us k c d m mid left) where
+  pub still_waits : Wait c m.size us → Wait d mid.size left
+  still_waits wait = subst (λ (vs : List Update). Wait d mid.size vs) (sym at.left_is) (wait_more k c d m.size mid.size us at.more at.spends.size wait)
+
+  pub some_waits : k < length us → 0 < length left
+  some_waits low = omega (arith, low, ap (λ (vs : List Update). length vs) at.left_is, length-drop k us)
+
+  pub logged_more : (after : List Update) → ((beside : Beside) (n : Node) → IsReceiverAt beside n d left mid → CanReceive beside n → IsReceiverAt beside (reached n (n.safe + 1)) e after new)
+      → after ≡ drop 1 left → IsMore 1 d e → Spends mid new → (IsFalse mid.down → IsFalse new.down) → ((disk : ℕ) → mid.disk_faults disk ≤ new.disk_faults disk) → (IsTrue new.tells → IsTrue mid.tells)
+      → LoggedSo us (k + 1) c e m new after
+  logged_more after next left_is more spends up counts told = record {
+    each = λ beside n r can.
+        let here = at.each beside n r can in
+        let there = next beside (reached n (n.safe + k)) here (next_can n (n.safe + k) can) in
+        subst (λ (j : ℕ). IsReceiverAt beside (reached n j) e after new) (let sum : n.safe + k + 1 ≡ n.safe + (k + 1) = omega arith in sum)
+        (reached_more n (n.safe + k) (n.safe + k + 1) e after new (omega arith) (omega arith) (omega (arith, there.least, there.most)) there);
+    left_is = left_is ∙ ap (λ (vs : List Update). drop 1 vs) at.left_is ∙ drop-drop 1 k us ∙ ap (λ (j : ℕ). drop j us) (let sum : k + 1 ≡ k + 1 = refl in sum);
+    more = more_then k 1 (k + 1) c d e refl at.more more;
+    spends = then_spends m mid new at.spends spends;
+    up = λ here. up (at.up here);
+    counts = λ disk. let one = at.counts disk in let two = counts disk in omega (arith, one, two);
+    told = λ here. at.told (told here);
+  }
+
+  -- what a later call answers of the site
+  pub failed_more : {beside : Beside} (n : Node) (count : ℕ) (after : List Update) (why : No) → IsReceiverAt beside n c us m → CanReceive beside n → LoggedTo beside (reached n (n.safe + k)) 1 after e mid new (Err why) → LoggedTo beside n count after e m new (Err why)
+  failed_more n count after (Device disk) r can h = (back_halted n (n.safe + k) disk e after new (omega arith) h.0, rose_later (m.disk_faults disk) (mid.disk_faults disk) (new.disk_faults disk) (at.counts disk) h.1)
+  failed_more n count after (Limit what most) r can h = (
+    h.0,
+    h.1,
+    (h.2.0, omega (arith, h.2.1), h.2.2, reached_more n (n.safe + k) h.2.0 e after new (omega arith) h.2.1 h.2.2 h.2.3),
+  )
+  failed_more n count after IsOff r can h = (fused_before n.fuse h.0, back_held n (n.safe + k) new (omega arith) (omega (arith, r.least, r.most)) h.1)
+  failed_more n count after other r can h = h
+
+-- ---- and applied
+
+module _ {beside : Beside} (n : Node) (number : ℕ) (c d : Core) (us : List Update) (m mid new : Meaning) (low : n.safe ≤ number) (some : n.safe ≤ length n.log) (r : IsReceiverAt beside (reached n number) c us mid) (running : n.halted ≡ None)
+    (counts : (disk : ℕ) → m.disk_faults disk ≤ mid.disk_faults disk) where
+  long_here : number ≤ length n.log
+  long_here = omega (arith, r.least, r.most)
+
+  waits_here : writes_of us ≡ drop number n.log
+  waits_here = r.waits ∙ ap (λ (k : ℕ). drop k n.log) (r.head running)
+
+  pub applied_done : (to got : ℕ) → AppliedAs beside (durable_of (reached n number)) to d mid new (Ok got) → IsReceiverAt beside (reached n number) d us new
+  applied_done to got h =
+      like n (reached n number).base (reached n number).base number number (burned (burned n.fuse)) (burned n.fuse) d us new refl refl (burned_twice n.fuse)
+      (as_receiver (reached n number) us n.halted (burned (burned n.fuse)) d new (r.sure running) r.role long_here waits_here h.2)
+
+  pub applied_failed : (count to : ℕ) (why : No) → AppliedAs beside (durable_of (reached n number)) to d mid new (Err why) → LoggedTo beside n count us d m new (Err why)
+  applied_failed count to (Device disk) h = (
+    back_halted n number disk d us new low (as_receiver (reached n number) us (Some disk) (burned (burned n.fuse)) d new (r.sure running) r.role long_here waits_here h.0),
+    rose_later (m.disk_faults disk) (mid.disk_faults disk) (new.disk_faults disk) (counts disk) h.1,
+  )
+  applied_failed count to IsOff h = (fused_before n.fuse h.0, back_held n number new low some (as_held (reached n number) new (r.sure running) long_here h.1))
+  applied_failed count to other h = absurd h
+
+-- ---- what the rule of receivers says
+
+rule_none : (n : Node) (count : ℕ) → min count (length n.log - n.safe) ≡ 0 → (received_step (plain_receiver n) (Applied count)).action ≡ DoesNothing
+rule_none n count is = by (eqb (min count (length n.log - n.safe)) 0) refl
+  where
+    by : (b : Bool) → eqb (min count (length n.log - n.safe)) 0 ≡ b
+        → (if b then (let s : Received = record { state = plain_receiver n; action = DoesNothing } in s) else with_applied (plain_receiver n) (length n.log - n.safe - count)).action ≡ DoesNothing
+    by true e = refl
+    by false e = absurd (never (sym (ap (λ (k : ℕ). eqb k 0) is) ∙ e))
+      where
+        never : true ≡ false → ⊥
+        never e = cc
+
+rule_some : (n : Node) (count few : ℕ) → few ≡ min count (length n.log - n.safe) → 0 < few → n.safe ≤ length n.log → (received_step (plain_receiver n) (Applied count)).action ≡ DataAck (n.safe + few)
+rule_some n count few is some low = by (eqb (min count (length n.log - n.safe)) 0) refl
+  where
+    by : (b : Bool) → eqb (min count (length n.log - n.safe)) 0 ≡ b
+        → (if b then (let s : Received = record { state = plain_receiver n; action = DoesNothing } in s) else with_applied (plain_receiver n) (length n.log - n.safe - count)).action ≡ DataAck (n.safe + few)
+    by true e = absurd (let none : min count (length n.log - n.safe) ≡ 0 = grind (arith, nat_tests) in omega (arith, none, is, some))
+    by false e = ap DataAck (omega (arith, is, some, low))
+
+-- ---- the same of disk sets
+
+module _ {R : Type 0} {g : Ghosts R} where
+  count_waits : {beside : Beside} (n : Node) (s : Secondary R g) → IsReceiverAt beside n s.rvg.core s.waiting (g.meaning s.rvg.shelf) → n.halted ≡ None → length s.waiting ≡ length n.log - n.safe
+  count_waits n s r running = omega (arith, ap (λ (ws : List Write). length ws) r.waits, length-map s.waiting write_of, length-drop (last_of s.rvg.core) n.log, r.head running)
+
+  by_result : (beside : Beside) (n : Node) (count few : ℕ) (s new : Secondary R g) (result : Result Reached No) → IsReceiverAt beside n s.rvg.core s.waiting (g.meaning s.rvg.shelf) → n.halted ≡ None → few ≡ min count (length s.waiting) → 0 < few
+      → ReachedTo beside n few new.waiting new.rvg.core (g.meaning s.rvg.shelf) (g.meaning new.rvg.shelf) result → ReachedUp beside n count (Receives s) (Receives new) result
+  by_result beside n count few s new (Ok r) here running is some h =
+      subst (λ (a : RAction). ReachedBy a beside n r (Receives new)) (sym (rule_some n count few (is ∙ ap (λ (k : ℕ). min count k) (count_waits n s here running)) some (omega (arith, here.least, here.most)))) h
+  by_result beside n count few s new (Err (Device disk)) here running is some h = h
+  by_result beside n count few s new (Err (Limit what most)) here running is some h = h
+  by_result beside n count few s new (Err IsOff) here running is some h = h
+  by_result beside n count few s new (Err other) here running is some h = h
+
+  pub reached_up : (beside : Beside) (n : Node) (count few : ℕ) (old : DiskSet R g) (s new : Secondary R g) (result : Result Reached No) → old ≡ Receives s → few ≡ min count (length s.waiting) → 0 < few
+      → (IsReceiverAt beside n s.rvg.core s.waiting (g.meaning s.rvg.shelf) → CanReceive beside n → ReachedTo beside n few new.waiting new.rvg.core (g.meaning s.rvg.shelf) (g.meaning new.rvg.shelf) result)
+      → StandsAt beside n old → CanReceive beside n → ReachedUp beside n count old (Receives new) result
+  reached_up beside n count few old s new result is few_is some reaches stands can =
+      let here = (let r : IsReceiverAt beside n s.rvg.core s.waiting (g.meaning s.rvg.shelf) = subst (λ (e : DiskSet R g). StandsAt beside n e) is stands in r) in
+      subst (λ (e : DiskSet R g). ReachedUp beside n count e (Receives new) result) (sym is) (by_result beside n count few s new result here can.running few_is some (reaches here can))
+
+  -- nothing is asked for, or nothing waits
+  pub reached_idle : (beside : Beside) (n : Node) (count few head : ℕ) (old : DiskSet R g) (s : Secondary R g) → old ≡ Receives s → few ≡ min count (length s.waiting) → few ≡ 0 → head ≡ last_of s.rvg.core → StandsAt beside n old → CanReceive beside n
+      → ReachedUp beside n count old (Receives s) (Ok (record { number = head; acks = false }))
+  reached_idle beside n count few head old s is few_is none head_is stands can =
+      let here = (let r : IsReceiverAt beside n s.rvg.core s.waiting (g.meaning s.rvg.shelf) = subst (λ (e : DiskSet R g). StandsAt beside n e) is stands in r) in
+      subst (λ (a : RAction). ReachedBy a beside n (record { number = head; acks = false }) (Receives s))
+      (sym (rule_none n count (sym (ap (λ (k : ℕ). min count k) (count_waits n s here can.running)) ∙ sym few_is ∙ none)))
+      (head_is ∙ here.head can.running, refl, receiver_burned n s.rvg.core s.waiting (g.meaning s.rvg.shelf) here)
+
+  -- nothing waits at a site that was not started as one that receives
+  pub reached_none_up : (beside : Beside) (n : Node) (count head : ℕ) (old : DiskSet R g) (rvg : Rvg R g) → old ≡ Up rvg → head ≡ last_of rvg.core → StandsAt beside n old → CanReceive beside n
+      → ReachedUp beside n count old (Up rvg) (Ok (record { number = head; acks = false }))
+  reached_none_up beside n count head old rvg is head_is stands can =
+      let here = (let r : IsUpAt beside n rvg.core (g.meaning rvg.shelf) = subst (λ (e : DiskSet R g). StandsAt beside n e) is stands in r) in
+      let whole = here.durable can.running in
+      subst (λ (a : RAction). ReachedBy a beside n (record { number = head; acks = false }) (Up rvg)) (sym (rule_none n count (omega (arith, whole))))
+      (head_is ∙ here.head, refl, up_worked n rvg.core (g.meaning rvg.shelf) here)
+
+  -- an apply whose fuse ran out, and the crash behind it
+  pub reached_off : {beside : Beside} (n : Node) (count : ℕ) (old mid new : DiskSet R g) (why : No) → is_off why ≡ true → ReachedUp beside n count old mid (Err why) → (CutAt beside n mid → CrashedAt beside n new) → ReachedAt beside n count old new (Err why)
+  reached_off n count old mid new IsOff off is falls = (is.0, falls is.1)
+  reached_off n count old mid new other off is falls = absurd (cc)
+
+  pub reached_on : (beside : Beside) (n : Node) (count : ℕ) (old new : DiskSet R g) (why : No) → is_off why ≡ false → ReachedUp beside n count old new (Err why) → ReachedAt beside n count old new (Err why)
+  reached_on beside n count old new IsOff off is = absurd (cc)
+  reached_on beside n count old new (Device disk) off is = is
+  reached_on beside n count old new (Limit what most) off is = is
+  reached_on beside n count old new other off is = is

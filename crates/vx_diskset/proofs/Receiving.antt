@@ -1,0 +1,476 @@
+-- A receiver that runs, seen as a site whose writes end with those that are durable; and what waits behind its group, past calls.
+use Rattle.std.proofs.Common.{◌≡◌, ◌∙◌, inl, inr, ⊎_elim, ℕ, ◌+◌, ◌≤◌, Bool, true, false, List, [], length, take, drop, ap, sym, subst, refl, arith}
+use Rattle.std.specs.Prelude.{IsFalse, Option, Some, None, Result, Ok, Err, OnOk, IsTrue}
+use Rattle.std.proofs.lemmas.List.{drop_all, length-take, take_all}
+use Rattle.vx_model.specs.Content.{Write, fold_writes, Content}
+use Rattle.vx_model.specs.Sites.{is_origin}
+use Rattle.vx_model.specs.declared.call.Update.{Update}
+use Rattle.vx_model.specs.declared.no.No.{No}
+use Rattle.vx_model.specs.declared.no.No.TheVariants.{Device, Limit, Down as IsOff}
+use Rattle.vx_model.specs.declared.state.KeptLink.{KeptLink}
+use Rattle.vx_model.specs.declared.state.State.{State}
+use Rattle.vx_model.specs.declared.units.Units.{Units}
+use Rattle.vx_rvg.specs.Contents.{Shows}
+use Rattle.vx_rvg.specs.Holdings.{Holding}
+use Rattle.vx_rvg.specs.Stands.{Stands}
+use Rattle.vx_rvg.specs.declared.group.Rvg.{Rvg}
+use Rattle.vx_history.specs.World.{Node, Fuse, FuseSet}
+use Rattle.vx_srlfmt.specs.declared.header.Header.{Header}
+use Rattle.vx_srl.specs.declared.kept.Kept.{Kept as KeptRecord}
+use Rattle.vx_disk.specs.Causes.{OnDisks}
+use Rattle.vx_disk.specs.Disks.{SameBlocks, Untouched}
+use Rattle.vx_disk.specs.Racks.{Alike, IsRack}
+use Rattle.vx_disk.specs.Shelf.{Goes, Image, Lawful, Meaning, Nothing}
+use Rattle.vx_rvg.specs.Groups.{ApplyIs, Fails, ReadIs, read_refusal}
+use Rattle.vx_rvg.specs.Saves.{SaveIs, with_new_state}
+use Rattle.vx_rvg.specs.Views.{Core, last_of, unit_of}
+use Rattle.vx_rvg.proofs.ReadStands.{rest_stands}
+use Rattle.vx_secondary.specs.Receivers.{Wait, writes_of}
+use Rattle.vx_secondary.proofs.Writings.{can_same}
+use Rattle.vx_diskset.proofs.MakeGroup.{fuse_untouched}
+use Rattle.vx_diskset.proofs.ReadGroup.{ReadAs, read_as, reads_up}
+use Rattle.vx_diskset.specs.Received.{ShowedAt, received_content}
+use Rattle.vx_diskset.specs.Fuses.{HasFuse}
+use Rattle.vx_diskset.specs.Holds.{Beside, HasDoubted, HasWrites, Kept, MayBe, most_with, state_with}
+use Rattle.vx_diskset.specs.Lasts.{FoundWith, StandsWith}
+use Rattle.vx_diskset.specs.Layouts.{units_of}
+use Rattle.vx_diskset.specs.Needs.{TakesAs}
+use Rattle.vx_diskset.specs.Stands.{IsHeldAt, IsReceiverAt, IsUpAt, StandsAt, IsToldAt}
+use Rattle.vx_diskset.specs.Rooms.{AppliedAs}
+use Rattle.vx_diskset.specs.DiskSets.{AppliedUp, ReadAt, halted_at, worked, BareUp, CameUp, CanRead}
+use Rattle.vx_diskset.specs.Keeps.{KeptUp, doubting, restated}
+use Rattle.vx_diskset.specs.declared.disk_set.DiskSet.{DiskSet}
+use Rattle.vx_diskset.specs.declared.disk_set.DiskSet.TheVariants.{Up, Receives}
+use Rattle.vx_disk.specs.declared.shelf.Shelf.{Ghosts}
+use Rattle.vx_secondary.specs.declared.secondary.Secondary.{Secondary}
+use Rattle.vx_events.proofs.Places.{some_same}
+use Rattle.vx_history.specs.Steps.{burned}
+use Rattle.vx_diskset.proofs.ApplyGroup.{applied_log, ended_log}
+use Rattle.vx_diskset.proofs.BesideLemmas.{may_same, never_besides, site_map}
+use Rattle.vx_diskset.proofs.FuseGroup.{alike_stands, lets_by}
+use Rattle.vx_diskset.proofs.LastWrites.{stands_with, still_with}
+use Rattle.vx_diskset.proofs.Laying.{lies_as}
+use Rattle.vx_diskset.proofs.StaysUp.{SameLog, told_now, writes_found}
+
+-- ---- what waits behind a group
+
+pub wait_as : (c d : Core) (one two : ℕ → ℕ) (us : List Update) → d.units ≡ c.units → d.log.ring ≡ c.log.ring → d.log.header.state.line ≡ c.log.header.state.line → last_of d ≡ last_of c
+    → ((u : ℕ) → two u ≡ one u) → Wait c one us → Wait d two us
+wait_as c d one two us units ring line last sizes wait = record {
+  few = wait.few;
+  line = λ k u is. wait.line k u is ∙ sym line;
+  number = λ k u is. omega (arith, wait.number k u is, last);
+  fits = λ k u is. can_same c e one two u (record { units = units; ring = ring; state = refl; session = refl; stamp = omega arith }) sizes (wait.fits k u is);
+}
+  where
+    e : Core
+    e = record c { units = d.units; log = record c.log { ring = d.log.ring } }
+
+-- the same log
+wait_log : (c d : Core) (one two : ℕ → ℕ) (us : List Update) → SameLog c d → ((u : ℕ) → two u ≡ one u) → Wait c one us → Wait d two us
+wait_log c d one two us same sizes wait =
+    wait_as c d one two us same.units same.ring (ap (λ (h : Header). h.state.line) same.header)
+    (omega (arith, ap (λ (h : Header). h.low) same.header, ap (λ (ks : List KeptRecord). length ks) same.held)) sizes wait
+
+pub failed_log : (c d : Core) (m new : Meaning) (why : No) → Fails c m new d why → SameLog c d
+failed_log c d m new (Device disk) fails = ended_log c (Some disk) d fails.0
+failed_log c d m new IsOff fails = ended_log c c.halted d fails.0
+failed_log c d m new other fails = absurd fails
+
+pub same_log : (c d : Core) → d ≡ c → SameLog c d
+same_log c d is = subst (λ (k : Core). SameLog c k) (sym is) (record { units = refl; ring = refl; header = refl; held = refl })
+
+-- behind an apply
+pub wait_applied : (r : Option No) (c d : Core) (to : ℕ) (m new : Meaning) (result : Result ℕ No) (us : List Update) → ApplyIs r c to m new d result → ((u : ℕ) → new.size u ≡ m.size u) → Wait c m.size us → Wait d new.size us
+wait_applied (Some why) c d to m new result us is sizes wait = wait_log c d m.size new.size us (same_log c d is.1) sizes wait
+wait_applied None c d to m new (Ok number) us is sizes wait = wait_log c d m.size new.size us (applied_log c number is.1.0 d is.1.1) sizes wait
+wait_applied None c d to m new (Err why) us is sizes wait = wait_log c d m.size new.size us (failed_log c d m new why is) sizes wait
+
+-- behind a state of the same line
+pub wait_kept : (r : Option No) (c d : Core) (s : State) (m new : Meaning) (result : Result (Unit {0}) No) (us : List Update) → c.log.header.state.line ≡ s.line → SaveIs r c (with_new_state c s) m new d result
+    → ((u : ℕ) → new.size u ≡ m.size u) → Wait c m.size us → Wait d new.size us
+wait_kept (Some why) c d s m new result us line is sizes wait = wait_log c d m.size new.size us (same_log c d is.1) sizes wait
+wait_kept None c d s m new (Ok done) us line is sizes wait =
+    wait_as c d m.size new.size us (ap (λ (k : Core). k.units) is) (ap (λ (k : Core). k.log.ring) is) (ap (λ (k : Core). k.log.header.state.line) is ∙ sym line) (ap (λ (k : Core). last_of k) is) sizes wait
+wait_kept None c d s m new (Err why) us line is sizes wait = wait_log c d m.size new.size us (failed_log c d m new why is) sizes wait
+
+-- ---- a receiver that runs, as a site with its durable writes
+
+pub never_both_roles : (b : Bool) → b ≡ true → b ≡ false → ⊥
+never_both_roles b origin none = let e : true ≡ false = sym origin ∙ none in cc
+
+-- a site with its durable writes alone
+abbrev pub durable_of : Node → Node
+durable_of n = record n { log = take n.safe n.log }
+
+pub receiver_up : {beside : Beside} (n : Node) (c : Core) (us : List Update) (m : Meaning) → IsReceiverAt beside n c us m → n.halted ≡ None → Lawful m → c.log.unit ≡ c.units.srl → IsUpAt beside (durable_of n) c m
+receiver_up {beside} n c us m r running lawful unit_is = record {
+  state = r.state;
+  up = r.up;
+  fuse = r.fuse;
+  lies = r.lies;
+  low = r.low;
+  units = r.units;
+  ring = r.ring;
+  found = r.found;
+  kept = r.kept;
+  linked = r.linked;
+  session = r.session;
+  begun = r.begun;
+  stamp = r.stamp;
+  fresh = λ origin. absurd (never_both_roles (is_origin n.role) origin r.role);
+  first = r.first;
+  head = r.head running;
+  halted = r.halted;
+  logged = omega (arith, long);
+  durable = λ none. omega (arith, long);
+  takes = r.takes;
+  content = r.content;
+  left = λ i now.
+      let told = told_now m i lawful now in
+      let stood = stands_with c (take n.safe n.log) n.base m i unit_is lawful (r.content running told) now in
+      inl (writes_found (durable_of n) c i r.units r.ring (r.kept ∙ ap (λ (ls : List KeptLink). state_with n ls) (r.linked told)) r.session (let t = r.stamp told running in omega (arith, t)) long stood);
+  sure = r.sure;
+  may = r.may;
+}
+  where
+    long : length (take n.safe n.log) ≡ n.safe
+    long = omega (arith, length-take n.safe n.log, r.least, r.most)
+
+-- what an image has of the durable writes it has of all
+pub more_writes : {beside : Beside} (k : Node) (log : List Write) (i : Image) → k.log ≡ take k.safe log → k.safe ≤ length log → HasWrites beside k i → HasWrites beside (record k { log = log }) i
+more_writes {beside} k log i front most has = record {
+  count = has.count;
+  least = has.least;
+  most = omega (arith, all, most);
+  found = subst (λ (ws : List Write). FoundWith (units_of k) k.ring (state_with k beside.links) k.session (most_with beside k has.count) i ws (fold_writes k.base (drop k.safe ws)))
+      (take_all has.count k.log (omega (arith, long, all)) ∙ front ∙ ap (λ (j : ℕ). take j log) (sym all)) has.found;
+}
+  where
+    long : length k.log ≡ k.safe
+    long = omega (arith, ap (λ (ws : List Write). length ws) front, length-take k.safe log, most)
+
+    all : has.count ≡ k.safe
+    all = omega (arith, has.least, has.most, long)
+
+-- a site that has its durable writes is a receiver with more of them, behind which these wait
+pub up_receiver : {beside : Beside} (doubt : Option Kept) (k : Node) (log : List Write) (c : Core) (us : List Update) (m : Meaning) → is_origin k.role ≡ false → k.log ≡ take k.safe log → k.safe ≤ length log → writes_of us ≡ drop k.safe log
+    → ((i : Image) → HasDoubted beside.doubt i → HasDoubted doubt i) → ((x : Kept) → doubt ≡ Some x → MayBe x m) → (k.halted ≡ None → doubt ≡ None)
+    → IsUpAt beside k c m → IsReceiverAt (record beside { doubt = doubt }) (record k { log = log }) c us m
+up_receiver {beside} doubt k log c us m role front most waits same may sure up = record {
+  state = up.state;
+  role = role;
+  up = up.up;
+  fuse = up.fuse;
+  lies = up.lies;
+  low = up.low;
+  units = up.units;
+  ring = up.ring;
+  found = up.found;
+  kept = up.kept;
+  linked = up.linked;
+  session = up.session;
+  begun = up.begun;
+  stamp = up.stamp;
+  first = up.first;
+  least = omega (arith, up.head);
+  most = omega (arith, up.head, most);
+  head = λ none. up.head;
+  halted = up.halted;
+  waits = waits ∙ ap (λ (j : ℕ). drop j log) (sym up.head);
+  takes = λ none. subst (λ (ws : List Write). TakesAs c.log ws) front (up.takes none);
+  content = λ none told. subst (λ (ws : List Write). StandsWith c ws k.base m) front (up.content none told);
+  left = λ i now. ⊎_elim (λ one. inl (of_doubt (more_writes k log i front most one))) (λ other. inr (same i other)) (up.left i now);
+  sure = sure;
+  may = may;
+}
+  where
+    of_doubt : {i : Image} → HasWrites beside (record k { log = log }) i → HasWrites (record beside { doubt = doubt }) (record k { log = log }) i
+    of_doubt has = record { count = has.count; least = has.least; most = has.most; found = has.found }
+
+-- the same of one whose shelf is down
+pub held_receiver : {beside : Beside} (doubt : Option Kept) (k : Node) (log : List Write) (m : Meaning) → k.log ≡ take k.safe log → k.safe ≤ length log
+    → ((i : Image) → HasDoubted beside.doubt i → HasDoubted doubt i) → ((x : Kept) → doubt ≡ Some x → MayBe x m) → IsHeldAt beside k m → IsHeldAt (record beside { doubt = doubt }) (record k { log = log }) m
+held_receiver {beside} doubt k log m front most same may held = record {
+  lies = held.lies;
+  low = held.low;
+  logged = most;
+  begun = held.begun;
+  left = λ i now. ⊎_elim (λ one. inl (of_doubt (more_writes k log i front most one))) (λ other. inr (same i other)) (held.left i now);
+  may = may;
+}
+  where
+    of_doubt : {i : Image} → HasWrites beside (record k { log = log }) i → HasWrites (record beside { doubt = doubt }) (record k { log = log }) i
+    of_doubt has = record { count = has.count; least = has.least; most = has.most; found = has.found }
+
+-- ---- a receiver over calls that change no contents
+
+pub receiver_held : {beside : Beside} (n : Node) (c : Core) (us : List Update) (m : Meaning) → IsReceiverAt beside n c us m → IsHeldAt beside n m
+receiver_held n c us m r = record { lies = r.lies; low = r.low; logged = omega (arith, r.least, r.most); begun = r.begun; left = r.left; may = r.may }
+
+pub receiver_still : {beside : Beside} (n : Node) (c : Core) (us : List Update) (m new : Meaning) → Goes Nothing m new → ((i : Image) → new.now i → m.now i) → new.down ≡ m.down → HasFuse n.fuse new
+    → IsReceiverAt beside n c us m → IsReceiverAt beside n c us new
+receiver_still n c us m new goes now down fuse r =
+    let still : IsFalse new.down = down ∙ r.up in
+    record {
+      state = r.state;
+      role = r.role;
+      up = still;
+      fuse = fuse;
+      lies = lies_as n m new goes.units goes.size r.lies;
+      low = r.low;
+      units = r.units;
+      ring = r.ring;
+      found = r.found;
+      kept = r.kept;
+      linked = λ told. r.linked (sym goes.tells ∙ told);
+      session = r.session;
+      begun = λ told. r.begun (sym goes.tells ∙ told);
+      stamp = λ told none. r.stamp (sym goes.tells ∙ told) none;
+      first = r.first;
+      least = r.least;
+      most = r.most;
+      head = r.head;
+      halted = r.halted;
+      waits = r.waits;
+      takes = r.takes;
+      content = λ none told. still_with c (take n.safe n.log) n.base m new (rest_stands c m new goes still) (r.content none (sym goes.tells ∙ told));
+      left = λ i is. r.left i (now i is);
+      sure = r.sure;
+      may = λ k is. may_same k m new goes.units goes.size goes.tells (r.may k is);
+    }
+
+-- with its fuse
+pub receiver_fused : {beside : Beside} (n : Node) (c : Core) (us : List Update) (m new : Meaning) (calls pick : ℕ) → IsRack new → Alike m new → new.down ≡ m.down → OnDisks m.disks new.disks (λ o n. SameBlocks o n × (n.fuse ≡ Some (calls, pick)))
+    → IsReceiverAt beside n c us m → IsReceiverAt beside (record n { fuse = FuseSet calls }) c us new
+receiver_fused n c us m new calls pick rack alike down disks r = record {
+  state = r.state;
+  role = r.role;
+  up = down ∙ r.up;
+  fuse = lets_by calls pick m.disks new.disks disks rack.told rack.is;
+  lies = lies_as n m new alike.contents.units alike.contents.size r.lies;
+  low = r.low;
+  units = r.units;
+  ring = r.ring;
+  found = r.found;
+  kept = r.kept;
+  linked = λ told. r.linked (sym alike.contents.tells ∙ told);
+  session = r.session;
+  begun = λ told. r.begun (sym alike.contents.tells ∙ told);
+  stamp = λ told none. r.stamp (sym alike.contents.tells ∙ told) none;
+  first = r.first;
+  least = r.least;
+  most = r.most;
+  head = r.head;
+  halted = r.halted;
+  waits = r.waits;
+  takes = r.takes;
+  content = λ none told. still_with c (take n.safe n.log) n.base m new (alike_stands c m new alike) (r.content none (sym alike.contents.tells ∙ told));
+  left = λ i now. site_map n (record n { fuse = FuseSet calls }) i (λ has. record { count = has.count; least = has.least; most = has.most; found = has.found }) (r.left i (alike.contents.now i now));
+  sure = r.sure;
+  may = λ k is. may_same k m new alike.contents.units alike.contents.size alike.contents.tells (r.may k is);
+}
+
+-- the volumes of its group are those of the site
+pub receiver_volumes : {beside : Beside} (n : Node) (c : Core) (us : List Update) (m : Meaning) → IsReceiverAt beside n c us m → length c.units.vols ≡ length n.volumes
+receiver_volumes n c us m r = ap (λ (u : Units). length u.vols) r.units ∙ r.lies.laid.count
+
+-- ---- what calls on a receiver that runs leave of it
+
+never_may : (beside : Beside) (m : Meaning) → beside.doubt ≡ None → (x : Kept) → beside.doubt ≡ Some x → MayBe x m
+never_may beside m sure x is = never_besides beside.doubt m sure x is
+
+-- a receiver whose node is this one with another halt and another fuse
+pub as_receiver : {beside : Beside} (n : Node) (us : List Update) (halted : Option ℕ) (fuse : Fuse) (c : Core) (m : Meaning) → beside.doubt ≡ None → is_origin n.role ≡ false → n.safe ≤ length n.log → writes_of us ≡ drop n.safe n.log
+    → IsUpAt beside (record (durable_of n) { halted = halted; fuse = fuse }) c m → IsReceiverAt beside (record n { halted = halted; fuse = fuse }) c us m
+as_receiver {beside} n us halted fuse c m sure role most waits up =
+    up_receiver beside.doubt (record (durable_of n) { halted = halted; fuse = fuse }) n.log c us m role refl most waits (λ i has. has) (never_may beside m sure) (λ none. sure) up
+
+pub as_held : {beside : Beside} (n : Node) (m : Meaning) → beside.doubt ≡ None → n.safe ≤ length n.log → IsHeldAt beside (durable_of n) m → IsHeldAt beside n m
+as_held {beside} n m sure most held = held_receiver beside.doubt (durable_of n) n.log m refl most (λ i has. has) (never_may beside m sure) held
+
+-- ---- the same of disk sets
+
+pub never_some : {A : Type 0} {x : A} → Some x ≡ None → ⊥
+never_some e = cc
+
+-- behind a call that changes nothing of the group's core
+pub wait_core : (c d : Core) (m new : Meaning) (us : List Update) → d ≡ c → ((u : ℕ) → new.size u ≡ m.size u) → Wait c m.size us → Wait d new.size us
+wait_core c d m new us is sizes wait = wait_log c d m.size new.size us (same_log c d is) sizes wait
+
+module _ {R : Type 0} {g : Ghosts R} where
+  -- what is known of a receiver
+  abbrev At : Beside → Node → Secondary R g → Type 0
+  At beside n s = IsReceiverAt beside n s.rvg.core s.waiting (g.meaning s.rvg.shelf)
+
+  -- the writes that wait at one that runs
+  waits_safe : {beside : Beside} (n : Node) (s : Secondary R g) → At beside n s → n.halted ≡ None → writes_of s.waiting ≡ drop n.safe n.log
+  waits_safe n s r running = r.waits ∙ ap (λ (k : ℕ). drop k n.log) (r.head running)
+
+  -- as a site with its durable writes
+  pub receiver_as : (beside : Beside) (n : Node) (old : DiskSet R g) (s : Secondary R g) → old ≡ Receives s → StandsAt beside n old → n.halted ≡ None → Lawful (g.meaning s.rvg.shelf) → IsUpAt beside (durable_of n) s.rvg.core (g.meaning s.rvg.shelf)
+  receiver_as beside n old s is stands running lawful =
+      receiver_up n s.rvg.core s.waiting (g.meaning s.rvg.shelf) (subst (λ (e : DiskSet R g). StandsAt beside n e) is stands) running lawful s.rvg.sound.log_unit
+
+  module _ (beside : Beside) (n : Node) (old : DiskSet R g) (s new : Secondary R g) (is : old ≡ Receives s) (stands : StandsAt beside n old) (running : n.halted ≡ None) (waiting : new.waiting ≡ s.waiting) where
+    here : At beside n s
+    here = subst (λ (e : DiskSet R g). StandsAt beside n e) is stands
+
+    waits_new : writes_of new.waiting ≡ drop n.safe n.log
+    waits_new = ap (λ (us : List Update). writes_of us) waiting ∙ waits_safe n s here running
+
+    long : n.safe ≤ length n.log
+    long = omega (arith, here.least, here.most)
+
+    receives : (halted : Option ℕ) (fuse : Fuse) → IsUpAt beside (record (durable_of n) { halted = halted; fuse = fuse }) new.rvg.core (g.meaning new.rvg.shelf) → At beside (record n { halted = halted; fuse = fuse }) new
+    receives halted fuse up = as_receiver n new.waiting halted fuse new.rvg.core (g.meaning new.rvg.shelf) (here.sure running) here.role long waits_new up
+
+    -- a read
+    by_read : (volume start count : ℕ) (bytes : List ℕ) (result : Result (Unit {0}) No) → ReadAt beside (durable_of n) volume start count bytes (Up s.rvg) (Up new.rvg) result → ReadAt beside n volume start count bytes (Receives s) (Receives new) result
+    by_read volume start count bytes (Ok done) h = (h.0, receives n.halted n.fuse h.1)
+    by_read volume start count bytes (Err (Device disk)) h = (receives n.halted n.fuse h.0, h.1)
+    by_read volume start count bytes (Err other) h = h
+
+    pub read_received : (volume start count : ℕ) (bytes : List ℕ) (result : Result (Unit {0}) No) → ReadAt beside (durable_of n) volume start count bytes (Up s.rvg) (Up new.rvg) result → ReadAt beside n volume start count bytes old (Receives new) result
+    read_received volume start count bytes result h =
+        subst (λ (e : DiskSet R g). ReadAt beside n volume start count bytes e (Receives new) result) (sym is) (by_read volume start count bytes result h)
+
+    -- an apply of what is logged
+    by_apply : (to : ℕ) (result : Result ℕ No) → AppliedAs beside (durable_of n) to new.rvg.core (g.meaning s.rvg.shelf) (g.meaning new.rvg.shelf) result → AppliedUp beside n to (Receives s) (Receives new) result
+    by_apply to (Ok number) h = (h.0, h.1, receives n.halted (burned n.fuse) h.2)
+    by_apply to (Err (Device disk)) h = (receives (Some disk) (burned n.fuse) h.0, h.1)
+    by_apply to (Err IsOff) h = (h.0, as_held n (g.meaning new.rvg.shelf) (here.sure running) long h.1)
+    by_apply to (Err other) h = h
+
+    pub applied_received : (to : ℕ) (result : Result ℕ No) → AppliedAs beside (durable_of n) to new.rvg.core (g.meaning s.rvg.shelf) (g.meaning new.rvg.shelf) result → AppliedUp beside n to old (Receives new) result
+    applied_received to result h = subst (λ (e : DiskSet R g). AppliedUp beside n to e (Receives new) result) (sym is) (by_apply to result h)
+
+    -- a state that is kept
+    module _ (k : State) (same_role : is_origin k.role ≡ is_origin n.role) where
+      abbrev doubted : ℕ → Kept
+      doubted disk = record { node = halted_at (restated n k) disk; links = k.links; headers = beside.headers + 1 }
+
+      has_doubted : (disk : ℕ) (i : Image) → HasDoubted (doubting beside (durable_of n) k disk).doubt i → HasDoubted (Some (doubted disk)) i
+      has_doubted disk i has = more_writes (halted_at (restated (durable_of n) k) disk) n.log i refl long has
+
+      may_doubted : (disk : ℕ) (m : Meaning) → ((x : Kept) → (doubting beside (durable_of n) k disk).doubt ≡ Some x → MayBe x m) → (x : Kept) → Some (doubted disk) ≡ Some x → MayBe x m
+      may_doubted disk m may x is =
+          let own = may (record { node = halted_at (restated (durable_of n) k) disk; links = k.links; headers = beside.headers + 1 }) refl in
+          subst (λ (y : Kept). MayBe y m) (some_same is) (record { state = own.state; lies = own.lies; low = own.low; logged = long; begun = own.begun })
+
+      by_keep : (result : Result (Unit {0}) No) → KeptUp beside (durable_of n) k (Up s.rvg) (Up new.rvg) result → KeptUp beside n k (Receives s) (Receives new) result
+      by_keep (Ok done) h =
+          up_receiver None (worked (restated (durable_of n) k)) n.log new.rvg.core new.waiting (g.meaning new.rvg.shelf) (same_role ∙ here.role) refl long waits_new (λ i has. has) (λ x none. absurd (never_some (sym none))) (λ none. refl) h
+      by_keep (Err (Device disk)) h = (
+        up_receiver (Some (doubted disk)) (halted_at (durable_of n) disk) n.log new.rvg.core new.waiting (g.meaning new.rvg.shelf) here.role refl long waits_new (has_doubted disk) (may_doubted disk (g.meaning new.rvg.shelf) h.0.may)
+            (λ none. absurd (never_some none)) h.0,
+        h.1,
+      )
+      by_keep (Err (Limit what most)) h = (h.0, h.1, receives n.halted n.fuse h.2)
+      by_keep (Err IsOff) h = (h.0, held_receiver (Some (doubted 0)) (halted_at (durable_of n) 0) n.log (g.meaning new.rvg.shelf) refl long (has_doubted 0) (may_doubted 0 (g.meaning new.rvg.shelf) h.1.may) h.1)
+      by_keep (Err other) h = h
+
+      pub kept_received : (result : Result (Unit {0}) No) → KeptUp beside (durable_of n) k (Up s.rvg) (Up new.rvg) result → KeptUp beside n k old (Receives new) result
+      kept_received result h = subst (λ (e : DiskSet R g). KeptUp beside n k e (Receives new) result) (sym is) (by_keep result h)
+
+-- ---- what is shown of a receiver
+
+module _ {R : Type 0} {g : Ghosts R} where
+  module _ (beside : Beside) (n : Node) (s new : Secondary R g) (volume start count : ℕ) (bytes : List ℕ) (r : IsReceiverAt beside n s.rvg.core s.waiting (g.meaning s.rvg.shelf)) (can : CanRead n volume start count)
+      (lawful : Lawful (g.meaning s.rvg.shelf)) (after : Lawful (g.meaning new.rvg.shelf)) (same : new.rvg.core ≡ s.rvg.core) (waiting : new.waiting ≡ s.waiting) (goes : Goes Nothing (g.meaning s.rvg.shelf) (g.meaning new.rvg.shelf))
+      (down : (g.meaning new.rvg.shelf).down ≡ (g.meaning s.rvg.shelf).down) (disks : OnDisks (g.meaning s.rvg.shelf).disks (g.meaning new.rvg.shelf).disks Untouched) (rack : IsRack (g.meaning s.rvg.shelf)) (rack' : IsRack (g.meaning new.rvg.shelf)) where
+    up : IsUpAt beside (durable_of n) s.rvg.core (g.meaning s.rvg.shelf)
+    up = receiver_up n s.rvg.core s.waiting (g.meaning s.rvg.shelf) r can.running lawful s.rvg.sound.log_unit
+
+    fuse : HasFuse n.fuse (g.meaning new.rvg.shelf)
+    fuse = fuse_untouched n.fuse (g.meaning s.rvg.shelf) (g.meaning new.rvg.shelf) disks rack rack' r.fuse
+
+    waits : writes_of s.waiting ≡ drop n.safe n.log
+    waits = r.waits ∙ ap (λ (k : ℕ). drop k n.log) (r.head can.running)
+
+    shown_with : (c : Core) → c ≡ s.rvg.core → IsUpAt beside (durable_of n) c (g.meaning new.rvg.shelf) → IsReceiverAt beside n c new.waiting (g.meaning new.rvg.shelf)
+    shown_with c is here =
+        as_receiver n new.waiting n.halted n.fuse c (g.meaning new.rvg.shelf) (r.sure can.running) r.role (omega (arith, r.least, r.most)) (ap (λ (us : List Update). writes_of us) waiting ∙ waits) here
+
+    stands : IsReceiverAt beside n new.rvg.core new.waiting (g.meaning new.rvg.shelf)
+    stands = shown_with new.rvg.core same (subst (λ (c : Core). IsUpAt beside (durable_of n) c (g.meaning new.rvg.shelf)) (sym same)
+        (reads_up (durable_of n) s.rvg.core (g.meaning s.rvg.shelf) (g.meaning new.rvg.shelf) can.running up lawful after s.rvg.sound.log_unit goes down fuse))
+
+    -- a read that was refused
+    refused : (why : No) → ReadIs (read_refusal s.rvg.core ((g.meaning s.rvg.shelf).size (unit_of s.rvg.core.units.vols volume)) start count) (g.meaning s.rvg.shelf) (g.meaning new.rvg.shelf) (Err why)
+        → ReadAs beside (durable_of n) volume start count bytes s.rvg.core (g.meaning s.rvg.shelf) (g.meaning new.rvg.shelf) (Err why)
+    refused why is =
+        read_as (durable_of n) s.rvg.core (g.meaning s.rvg.shelf) (g.meaning new.rvg.shelf) volume start count bytes up
+        (record { up = can.up; running = can.running; volume_exists = can.volume_exists; within = can.within }) lawful after s.rvg.sound.log_unit goes down fuse (Err why) is tt
+
+    by_why : (why : No) → ReadAs beside (durable_of n) volume start count bytes s.rvg.core (g.meaning s.rvg.shelf) (g.meaning new.rvg.shelf) (Err why) → ShowedAt beside n volume start count bytes (Receives s) (Receives new) (Err why)
+    by_why (Device disk) is = (stands, is.1)
+    by_why other is = is
+
+    pub showed : (result : Result (Unit {0}) No) → ReadIs (read_refusal s.rvg.core ((g.meaning s.rvg.shelf).size (unit_of s.rvg.core.units.vols volume)) start count) (g.meaning s.rvg.shelf) (g.meaning new.rvg.shelf) result
+        → OnOk result ((h : Holding) → Stands s.rvg.core h (g.meaning s.rvg.shelf) → IsTrue (g.meaning s.rvg.shelf).tells → Shows (fold_writes h.content (writes_of s.waiting)) volume start count bytes)
+        → ShowedAt beside n volume start count bytes (Receives s) (Receives new) result
+    showed (Ok done) is gives = (
+      (λ told.
+          let here : IsTrue (g.meaning s.rvg.shelf).tells = sym goes.tells ∙ told in
+          let stood = r.content can.running here in
+          subst (λ (c : Content). Shows c volume start count bytes) (ap (λ (c : Content). fold_writes c (writes_of s.waiting)) stood.has.content ∙ ap (λ (xs : List Write). fold_writes n.base xs) waits) (gives stood.held stood.stands here)),
+      stands,
+    )
+    showed (Err why) is gives = by_why why (refused why is)
+
+  pub showed_at : (beside : Beside) (n : Node) (old new : DiskSet R g) (s : Secondary R g) (volume start count : ℕ) (bytes : List ℕ) (result : Result (Unit {0}) No) → old ≡ Receives s
+      → (IsReceiverAt beside n s.rvg.core s.waiting (g.meaning s.rvg.shelf) → ShowedAt beside n volume start count bytes (Receives s) new result) → StandsAt beside n old → ShowedAt beside n volume start count bytes old new result
+  showed_at beside n old new s volume start count bytes result is shows stands =
+      subst (λ (e : DiskSet R g). ShowedAt beside n volume start count bytes e new result) (sym is) (shows (subst (λ (e : DiskSet R g). StandsAt beside n e) is stands))
+
+  -- nothing waits at a site that does not receive
+  pub read_showed : (beside : Beside) (n : Node) (old new : DiskSet R g) (rvg : Rvg R g) (volume start count : ℕ) (bytes : List ℕ) (result : Result (Unit {0}) No) → old ≡ Up rvg → StandsAt beside n old → n.halted ≡ None
+      → ReadAt beside n volume start count bytes old new result → ShowedAt beside n volume start count bytes old new result
+  read_showed beside n old new rvg volume start count bytes result is stands running read = by result read
+    where
+      up : IsUpAt beside n rvg.core (g.meaning rvg.shelf)
+      up = subst (λ (e : DiskSet R g). StandsAt beside n e) is stands
+
+      same : n.base ≡ received_content n
+      same = ap (λ (xs : List Write). fold_writes n.base xs) (sym (drop_all n.safe n.log (up.durable running)))
+
+      by : (result : Result (Unit {0}) No) → ReadAt beside n volume start count bytes old new result → ShowedAt beside n volume start count bytes old new result
+      by (Ok done) h = ((λ told. subst (λ (c : Content). Shows c volume start count bytes) same (h.0 told)), h.1)
+      by (Err (Device disk)) h = h
+      by (Err other) h = h
+
+-- ---- a site that came up
+
+-- with all writes durable
+pub risen_receiver : {beside : Beside} (n : Node) (c : Core) (m : Meaning) → IsUpAt beside n c m → n.halted ≡ None → length n.log ≡ n.safe → is_origin c.log.header.state.role ≡ false → IsReceiverAt beside n c [] m
+risen_receiver {beside} n c m up running whole role =
+    up_receiver beside.doubt n n.log c [] m (sym (ap (λ (s : State). is_origin s.role) up.kept) ∙ role) (sym (take_all n.safe n.log (omega (arith, whole)))) (omega (arith, whole)) (sym (drop_all n.safe n.log (omega (arith, whole))))
+    (λ i has. has) (λ x is. up.may x is) up.sure up
+
+module _ {R : Type 0} {g : Ghosts R} where
+  pub risen_at : (beside : Beside) (n : Node) (old : DiskSet R g) (rvg : Rvg R g) (s : Secondary R g) → old ≡ Up rvg → s.rvg ≡ rvg → s.waiting ≡ [] → is_origin rvg.core.log.header.state.role ≡ false → StandsAt beside n old → n.halted ≡ None → length n.log ≡ n.safe
+      → IsReceiverAt beside n s.rvg.core s.waiting (g.meaning s.rvg.shelf)
+  risen_at beside n old rvg s is group none role stands running whole =
+      subst (λ (us : List Update). IsReceiverAt beside n s.rvg.core us (g.meaning s.rvg.shelf)) (sym none)
+      (subst (λ (k : Rvg R g). IsReceiverAt beside n k.core [] (g.meaning k.shelf)) (sym group)
+      (risen_receiver n rvg.core (g.meaning rvg.shelf) (subst (λ (e : DiskSet R g). StandsAt beside n e) is stands) running whole role))
+
+  pub came_role : {beside : Beside} (n : Node) (mid new : DiskSet R g) → CameUp beside n mid → ((k : Node) → StandsAt beside k mid → k.halted ≡ None → length k.log ≡ k.safe → StandsAt beside k new) → (IsToldAt new → IsToldAt mid) → CameUp beside n new
+  came_role n mid new came rises told = record {
+    node = came.node;
+    is = λ here. came.is (told here);
+    same = came.same;
+    whole = came.whole;
+    stands = rises came.node came.stands came.same.running came.whole;
+    next = λ here. came.next (told here);
+  }
+
+  pub bare_role : (n : Node) (mid new : DiskSet R g) → BareUp n mid → ((beside : Beside) (k : Node) → StandsAt beside k mid → k.halted ≡ None → length k.log ≡ k.safe → StandsAt beside k new) → (IsToldAt new → IsToldAt mid) → BareUp n new
+  bare_role n mid new came rises told = record {
+    untold = λ here. came.untold (told here);
+    node = came.node;
+    same = came.same;
+    whole = came.whole;
+    stands = λ beside sure. rises beside came.node (came.stands beside sure) came.same.running came.whole;
+  }

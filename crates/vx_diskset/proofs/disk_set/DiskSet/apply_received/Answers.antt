@@ -1,0 +1,17 @@
+-- An apply of what waits, before the crash.
+use Rattle.std.proofs.Common.{◌∙◌, ℕ, ap, arith}
+use Rattle.std.specs.Prelude.{min}
+use Rattle.vx_diskset.proofs.Reaching.{reached_idle, reached_none_up, reached_up}
+use Rattle.vx_diskset.proofs.disk_set.DiskSet.apply_received.Goals as goal
+
+pub returns-in-Up-clause-applied : goal.returns-in-Up-clause-applied
+returns-in-Up-clause-applied g c = λ beside n stands can. reached_none_up beside n c.args.count c.head-in-Up.result c.args.self.now c.in-Up.rvg c.in-Up.is c.head-in-Up.ensures stands can
+
+pub returns-then-few-eq0-clause-applied : goal.returns-then-few-eq0-clause-applied
+returns-then-few-eq0-clause-applied g c = λ beside n stands can.
+    reached_idle beside n c.args.count c.min-few.result c.head.result c.args.self.now c.in-Receives.site c.in-Receives.is (c.min-few.ensures ∙ ap (λ (k : ℕ). min c.args.count k) (c.from.ensures ∙ c.len.ensures.is)) (omega (arith, c.if-few-eq0.true)) c.head.ensures stands can
+
+pub returns-else-few-eq0-clause-applied : goal.returns-else-few-eq0-clause-applied
+returns-else-few-eq0-clause-applied g c = λ beside n stands can.
+    reached_up beside n c.args.count c.min-few.result c.args.self.now c.in-Receives.site _ c.apply_oldest.result c.in-Receives.is
+    (c.min-few.ensures ∙ ap (λ (k : ℕ). min c.args.count k) (c.from.ensures ∙ c.len.ensures.is)) (omega (arith, c.if-few-eq0.false)) (λ r able. c.apply_oldest.ensures.reaches beside n r able) stands can

@@ -1,0 +1,21 @@
+-- An apply of what waits, and the crash behind it where the fuse ran out.
+use Rattle.std.proofs.Common.{sym, ◌∙◌}
+use Rattle.vx_diskset.specs.Burning.{NoMore}
+use Rattle.vx_diskset.proofs.CallsBurn.{called_cut}
+use Rattle.vx_diskset.proofs.Reaching.{reached_off, reached_on}
+use Rattle.vx_diskset.proofs.disk_set.DiskSet.apply_waiting.Goals as goal
+
+pub returns-then-is_off-clause-applied : goal.returns-then-is_off-clause-applied
+returns-then-is_off-clause-applied g c = λ beside n stands can.
+    reached_off n c.args.count c.args.self.now c.apply_received.new.self c.fall.new.self c.in-Err.no (sym c.is_off.ensures ∙ c.if-is_off.true) (c.in-Err.ensures.applied beside n stands can) (c.fall.ensures.falls beside n)
+
+pub returns-else-is_off-clause-applied : goal.returns-else-is_off-clause-applied
+returns-else-is_off-clause-applied g c = λ beside n stands can.
+    reached_on beside n c.args.count c.args.self.now c.apply_received.new.self c.in-Err.no (sym c.is_off.ensures ∙ c.if-is_off.false) (c.in-Err.ensures.applied beside n stands can)
+
+pub returns-then-is_off-clause-called : goal.returns-then-is_off-clause-called
+returns-then-is_off-clause-called g c = λ beside n stands.
+    called_cut NoMore c.in-Err.no 0xffff_ffff_ffff_ffff c.args.self.now c.apply_received.new.self c.fall.new.self (sym c.is_off.ensures ∙ c.if-is_off.true) (c.in-Err.ensures.called beside n stands) c.fall.ensures.stopped
+
+pub returns-else-is_off-clause-called : goal.returns-else-is_off-clause-called
+returns-else-is_off-clause-called g c = λ beside n stands. c.in-Err.ensures.called beside n stands

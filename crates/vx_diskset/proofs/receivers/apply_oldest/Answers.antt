@@ -1,0 +1,58 @@
+-- What waits is logged and applied, case by case.
+use Rattle.std.proofs.Common.{◌+◌, ◌∙◌, ℕ, arith, refl}
+use Rattle.std.proofs.lemmas.Result.{err_from_is_err_and}
+use Rattle.vx_ringio.proofs.Spending.{then_spends}
+use Rattle.vx_diskset.specs.Received.{reached}
+use Rattle.vx_diskset.proofs.Reaching.{applied_done, applied_failed}
+use Rattle.vx_diskset.proofs.Receiving.{durable_of, receiver_up}
+use Rattle.vx_diskset.proofs.receivers.apply_oldest.Goals as goal
+
+pub returns-in_err-log_waiting-clause-reaches : goal.returns-in_err-log_waiting-clause-reaches
+returns-in_err-log_waiting-clause-reaches g c = λ beside n r can.
+    let p = err_from_is_err_and c.from_residual.result c.from_residual.ensures.1 in
+    rw (p.1, p.2) (c.in_err-log_waiting.ensures.logs beside n r can)
+
+pub returns-in_err-apply_group-clause-reaches : goal.returns-in_err-apply_group-clause-reaches
+returns-in_err-apply_group-clause-reaches g c = λ beside n r can.
+    let lawful = (g.met.R.Shelf g.world.𝓛 g.world.𝓜 g.world.𝓡 ((λ s x. x), (λ x. x), (λ x. x), λ x. x)).lawful in
+    let number : ℕ = n.safe + c.args.count in
+    let here = c.in_ok-log_waiting.ensures.logs beside n r can in
+    let p = err_from_is_err_and c.from_residual-in_err-apply_group.result c.from_residual-in_err-apply_group.ensures.1 in
+    rw (p.1, p.2)
+    (applied_failed n number c.log_waiting.new.rvg.core c.apply_group.new.rvg.core c.log_waiting.new.waiting (g.R.Shelf.meaning c.args.rvg.now.shelf) (g.R.Shelf.meaning c.log_waiting.new.rvg.shelf) (g.R.Shelf.meaning c.apply_group.new.rvg.shelf) (omega arith) (omega (arith, r.least, r.most)) here can.running
+    c.log_waiting.ensures.later.counts c.args.count c.head-number.result c.in_err-apply_group.field-0.0
+    (c.in_err-apply_group.ensures.applied beside (durable_of (reached n number)) (receiver_up (reached n number) c.log_waiting.new.rvg.core c.log_waiting.new.waiting (g.R.Shelf.meaning c.log_waiting.new.rvg.shelf) here can.running (lawful c.log_waiting.new.rvg.shelf) c.log_waiting.new.rvg.sound.log_unit) can.running))
+
+pub returns-clause-reaches : goal.returns-clause-reaches
+returns-clause-reaches g c = λ beside n r can.
+    let lawful = (g.met.R.Shelf g.world.𝓛 g.world.𝓜 g.world.𝓡 ((λ s x. x), (λ x. x), (λ x. x), λ x. x)).lawful in
+    let number : ℕ = n.safe + c.args.count in
+    let here = c.in_ok-log_waiting.ensures.logs beside n r can in (
+      c.head-number.ensures ∙ here.head can.running,
+      refl,
+      applied_done n number c.log_waiting.new.rvg.core c.apply_group.new.rvg.core c.log_waiting.new.waiting (g.R.Shelf.meaning c.args.rvg.now.shelf) (g.R.Shelf.meaning c.log_waiting.new.rvg.shelf) (g.R.Shelf.meaning c.apply_group.new.rvg.shelf) (omega arith) (omega (arith, r.least, r.most)) here can.running
+          c.log_waiting.ensures.later.counts c.head-number.result c.in_ok-apply_group.field-0
+          (c.in_ok-apply_group.ensures.applied beside (durable_of (reached n number)) (receiver_up (reached n number) c.log_waiting.new.rvg.core c.log_waiting.new.waiting (g.R.Shelf.meaning c.log_waiting.new.rvg.shelf) here can.running (lawful c.log_waiting.new.rvg.shelf) c.log_waiting.new.rvg.sound.log_unit) can.running),
+    )
+
+pub returns-in_err-log_waiting-clause-off : goal.returns-in_err-log_waiting-clause-off
+returns-in_err-log_waiting-clause-off g c = λ up.
+    let p = err_from_is_err_and c.from_residual.result c.from_residual.ensures.1 in
+    rw (p.1, p.2) (c.in_err-log_waiting.ensures.off up)
+
+pub returns-in_err-apply_group-clause-off : goal.returns-in_err-apply_group-clause-off
+returns-in_err-apply_group-clause-off g c = λ up.
+    let p = err_from_is_err_and c.from_residual-in_err-apply_group.result c.from_residual-in_err-apply_group.ensures.1 in
+    rw (p.1, p.2) c.in_err-apply_group.ensures.off
+
+pub returns-in_err-apply_group-clause-spends : goal.returns-in_err-apply_group-clause-spends
+returns-in_err-apply_group-clause-spends g c = then_spends (g.R.Shelf.meaning c.args.rvg.now.shelf) (g.R.Shelf.meaning c.log_waiting.new.rvg.shelf) (g.R.Shelf.meaning c.apply_group.new.rvg.shelf) c.log_waiting.ensures.spends c.apply_group.ensures.spends
+
+pub returns-clause-spends : goal.returns-clause-spends
+returns-clause-spends g c = then_spends (g.R.Shelf.meaning c.args.rvg.now.shelf) (g.R.Shelf.meaning c.log_waiting.new.rvg.shelf) (g.R.Shelf.meaning c.apply_group.new.rvg.shelf) c.log_waiting.ensures.spends c.apply_group.ensures.spends
+
+pub returns-in_err-apply_group-clause-waits : goal.returns-in_err-apply_group-clause-waits
+returns-in_err-apply_group-clause-waits g c = c.apply_group.ensures.waiting c.log_waiting.new.waiting c.log_waiting.ensures.waits
+
+pub returns-clause-waits : goal.returns-clause-waits
+returns-clause-waits g c = c.apply_group.ensures.waiting c.log_waiting.new.waiting c.log_waiting.ensures.waits

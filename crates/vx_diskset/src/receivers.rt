@@ -1,0 +1,188 @@
+// Calls on the disks of a site that receives.
+ghost use Rattle.std.specs.Prelude.{◌≡◌, ◌≤◌, ◌<◌, ◌+◌, ◌-◌, ◌*◌, ◌%◌, [], ℕ, drop, length, take, None, Some, Err, IfOk, IfErr, OnOk, IsFalse, List};
+ghost use Rattle.vx_model.specs.Content.{blocks_in};
+ghost use Rattle.vx_model.specs.declared.limits.TheConstants.{MOST_CALL_BYTES};
+ghost use Rattle.vx_model.specs.declared.site.SiteState.TheVariants.{Up as UpState};
+ghost use Rattle.vx_history.specs.World.{Node};
+ghost use Rattle.vx_ringio.specs.Spends.{Spends};
+ghost use Rattle.vx_secondary.specs.Receivers.{Wait};
+ghost use Rattle.vx_diskset.specs.Asked.{LeavesAlone, LeavesFuse};
+ghost use Rattle.vx_diskset.specs.Burning.{NoMore, OffIf};
+ghost use Rattle.vx_diskset.specs.DiskSets.{CanRead, Later};
+ghost use Rattle.vx_diskset.specs.Holds.{Beside};
+ghost use Rattle.vx_diskset.specs.Received.{CanReceive, LoggedTo, ReachedAt, ReachedTo, ReachedUp, ShowedAt, reached_by};
+ghost use Rattle.vx_diskset.specs.Rooms.{IsMore, count_of};
+ghost use Rattle.vx_diskset.specs.Stands.{IsReceiverAt, StandsAt};
+
+use crate::DiskSet;
+use crate::writing::{apply_group, is_off, write_group};
+use vx_disk::Rack;
+use vx_model::No;
+use vx_rvg::Rvg;
+use vx_secondary::Waiting;
+
+/// How far an apply of what waits came, and whether that is to be acknowledged.
+#[derive(Clone, Copy)]
+pub struct Reached {
+    pub number: u64,
+    pub acks: bool,
+}
+
+// Logs the oldest of what waits behind a group. It waits no longer.
+fn log_next<R: Rack>(rvg: &mut Rvg<R>, waiting: &mut Waiting) -> Result<(), No>
+    requires waits { Wait rvg.old.core (R.meaning rvg.old.shelf).size waiting.old }
+    requires some { 0 < length waiting.old }
+    ensures logs { (beside : Beside) (n : Node) → IsReceiverAt beside n rvg.old.core waiting.old (R.meaning rvg.old.shelf) → CanReceive beside n
+        → LoggedTo beside n 1 waiting.new rvg.new.core (R.meaning rvg.old.shelf) (R.meaning rvg.new.shelf) result }
+    ensures left { waiting.new ≡ drop (count_of result) waiting.old }
+    ensures group { IsMore (count_of result) rvg.old.core rvg.new.core }
+    ensures spends { Spends (R.meaning rvg.old.shelf) (R.meaning rvg.new.shelf) }
+    ensures off { IsFalse (R.meaning rvg.old.shelf).down → OffIf result (R.meaning rvg.new.shelf).down }
+    ensures later { Later (DiskSet.Up rvg.old) (DiskSet.Up rvg.new) }
+{
+    let Some(update) = waiting.get(0) else {
+        unreachable!()
+    };
+    let last = rvg.head();
+    let bytes = update.bytes.as_bytes();
+    write_group(rvg, update.vol, update.block, bytes, last)?;
+    waiting.pop();
+    Ok(())
+}
+
+// Logs the oldest of what waits behind a group, so many of them, in their order. They wait no longer.
+fn log_waiting<R: Rack>(rvg: &mut Rvg<R>, waiting: &mut Waiting, count: u32) -> Result<(), No>
+    requires waits { Wait rvg.old.core (R.meaning rvg.old.shelf).size waiting.old }
+    requires some { count ≤ length waiting.old }
+    ensures logs { (beside : Beside) (n : Node) → IsReceiverAt beside n rvg.old.core waiting.old (R.meaning rvg.old.shelf) → CanReceive beside n
+        → LoggedTo beside n count waiting.new rvg.new.core (R.meaning rvg.old.shelf) (R.meaning rvg.new.shelf) result }
+    ensures waits { Wait rvg.new.core (R.meaning rvg.new.shelf).size waiting.new }
+    ensures spends { Spends (R.meaning rvg.old.shelf) (R.meaning rvg.new.shelf) }
+    ensures off { IsFalse (R.meaning rvg.old.shelf).down → OffIf result (R.meaning rvg.new.shelf).down }
+    ensures later { Later (DiskSet.Up rvg.old) (DiskSet.Up rvg.new) }
+{
+    for _ in 0..count {
+        log_next(rvg, waiting)?;
+    }
+    Ok(())
+}
+
+// Logs the oldest of what waits behind a group, so many of them, and brings all that is logged into the volumes.
+fn apply_oldest<R: Rack>(rvg: &mut Rvg<R>, waiting: &mut Waiting, count: u32) -> Result<Reached, No>
+    requires waits { Wait rvg.old.core (R.meaning rvg.old.shelf).size waiting.old }
+    requires some { count ≤ length waiting.old }
+    ensures reaches { (beside : Beside) (n : Node) → IsReceiverAt beside n rvg.old.core waiting.old (R.meaning rvg.old.shelf) → CanReceive beside n
+        → ReachedTo beside n count waiting.new rvg.new.core (R.meaning rvg.old.shelf) (R.meaning rvg.new.shelf) result }
+    ensures waits { Wait rvg.new.core (R.meaning rvg.new.shelf).size waiting.new }
+    ensures spends { Spends (R.meaning rvg.old.shelf) (R.meaning rvg.new.shelf) }
+    ensures off { IsFalse (R.meaning rvg.old.shelf).down → OffIf result (R.meaning rvg.new.shelf).down }
+    ensures later { Later (DiskSet.Up rvg.old) (DiskSet.Up rvg.new) }
+{
+    log_waiting(rvg, waiting, count)?;
+    let number = rvg.head();
+    apply_group(rvg, number)?;
+    Ok(Reached { number, acks: true })
+}
+
+impl<R: Rack> DiskSet<R> {
+    /// How many writes a site that is up and runs has received, of all of its line: those that wait are among them.
+    pub fn received(&self) -> u64
+        ensures { (beside : Beside) (n : Node) → StandsAt beside n self.now → n.state ≡ UpState → n.halted ≡ None → result ≡ length n.log }
+    {
+        match self {
+            DiskSet::Up(rvg) => rvg.head(),
+            DiskSet::Receives(site) => {
+                // For its bound.
+                let _ring = site.rvg.ring();
+                site.rvg.head() + u64::from(site.waiting.len())
+            }
+            _ => 0,
+        }
+    }
+
+    /// How many of them wait in memory.
+    pub fn waiting(&self) -> u32
+        ensures { (beside : Beside) (n : Node) → StandsAt beside n self.now → n.state ≡ UpState → n.halted ≡ None → result ≡ length n.log - n.safe }
+    {
+        match self {
+            DiskSet::Receives(site) => site.waiting.len(),
+            _ => 0,
+        }
+    }
+
+    /// Reads whole blocks of a data volume, by its number: the content after all writes that were received.
+    #[tactic(auto, using(crate::proofs::MakeGroup::up_volumes, crate::proofs::Receiving::receiver_volumes))]
+    pub fn show(&mut self, volume: u32, start: u64, into: &mut [u8]) -> Result<(), No>
+        requires some { 0 < length into.old }
+        requires few { length into.old ≤ MOST_CALL_BYTES }
+        requires whole { length into.old % 512 ≡ 0 }
+        ensures shows { (beside : Beside) (n : Node) → StandsAt beside n self.old → CanRead n volume start (blocks_in into.old)
+            → ShowedAt beside n volume start (blocks_in into.old) into.new self.old self.new result }
+        ensures still { LeavesAlone self.old self.new }
+        ensures later { Later self.old self.new }
+    {
+        match self {
+            DiskSet::Receives(site) => {
+                if volume < site.rvg.volumes() {
+                    site.show(volume, start, into)
+                } else {
+                    Err(No::Role)
+                }
+            }
+            DiskSet::Up(_) => self.read(volume, start, into),
+            DiskSet::Bare(_) | DiskSet::Spoiled(_) | DiskSet::Down(_) | DiskSet::Gone => Err(
+                No::Role,
+            ),
+        }
+    }
+
+    /// Logs the oldest of what waits at a site that receives, so many of them or all, durably and in their order, and brings all that is logged
+    /// into the volumes. Answers the number up to which all are there, and whether that is to be acknowledged. A site whose fuse runs out
+    /// crashes.
+    ///
+    /// Refusals: 7 where a disk failed: then the site is halted, and may have some of them in its log; 6 where its fuse ran out; 19 where no
+    /// number is left: then the first of them are applied, maybe none.
+    pub fn apply_waiting(&mut self, count: u64) -> Result<Reached, No>
+        ensures applied { (beside : Beside) (n : Node) → StandsAt beside n self.old → CanReceive beside n → ReachedAt beside n count self.old self.new result }
+        ensures called { (beside : Beside) (n : Node) → StandsAt beside n self.old → LeavesFuse NoMore (reached_by result) self.old self.new }
+        ensures later { Later self.old self.new }
+    {
+        match self.apply_received(count) {
+            Ok(reached) => Ok(reached),
+            Err(no) => {
+                if is_off(&no) {
+                    self.fall();
+                    return Err(no);
+                }
+                Err(no)
+            }
+        }
+    }
+
+    // The same, before it crashes.
+    fn apply_received(&mut self, count: u64) -> Result<Reached, No>
+        ensures applied { (beside : Beside) (n : Node) → StandsAt beside n self.old → CanReceive beside n → ReachedUp beside n count self.old self.new result }
+        ensures called { (beside : Beside) (n : Node) → StandsAt beside n self.old → LeavesFuse NoMore (reached_by result) self.old self.new }
+        ensures later { Later self.old self.new }
+    {
+        match self {
+            DiskSet::Receives(site) => {
+                let few = count.min(u64::from(site.waiting.len())) as u32;
+                if few == 0 {
+                    return Ok(Reached {
+                        number: site.rvg.head(),
+                        acks: false,
+                    });
+                }
+                apply_oldest(&mut site.rvg, &mut site.waiting, few)
+            }
+            DiskSet::Up(rvg) => Ok(Reached {
+                number: rvg.head(),
+                acks: false,
+            }),
+            DiskSet::Bare(_) | DiskSet::Spoiled(_) | DiskSet::Down(_) | DiskSet::Gone => Err(
+                No::Role,
+            ),
+        }
+    }
+}

@@ -1,0 +1,16 @@
+pub mod Tests
+pub mod Links
+pub mod Moves
+pub mod Outcomes
+pub mod Headers
+pub mod Fitting
+pub mod Leaving
+pub mod Effects
+pub mod Writes
+pub mod Rises
+pub mod Rows
+pub mod Facts
+pub mod Restarts
+pub mod Rooms
+pub mod WriteLines
+pub mod Origins

@@ -1,0 +1,338 @@
+-- What each event keeps of links, of the states of sites and of sites in doubt, but for those that make a site or a link, or crash a site.
+use Rattle.std.proofs.Common.{◌≡◌, ◌∙◌, ℕ, ◌+◌, ◌<◌, [], ◌∷◌, ◌++◌, length, Bool, true, false, refl, sym, subst, arith}
+use Rattle.std.specs.Prelude.{not, ◌&&◌, ◌||◌, eqb, leb, ltb, Option, Some, None, if◌then◌else◌}
+use Rattle.vx_model.specs.Answer.{is_too_large}
+use Rattle.vx_model.specs.Content.{Write as WriteBlocks, blocks_in, blocks_from}
+use Rattle.vx_model.specs.Sites.{is_origin, is_up, is_bare}
+use Rattle.vx_model.specs.Sizes.{is_raw_shape}
+use Rattle.vx_model.specs.declared.limits.TheConstants.{MOST_LINKS, MOST_NUMBER}
+use Rattle.vx_model.specs.declared.link.Prot.TheVariants.{Fail as FailsWhenFull}
+use Rattle.vx_model.specs.declared.link.SyncMode.{SyncMode}
+use Rattle.vx_model.specs.declared.no.Counted.TheVariants.{Links, Number}
+use Rattle.vx_model.specs.declared.no.Named.TheVariants.{Number as ByNumber}
+use Rattle.vx_model.specs.declared.no.No.{No}
+use Rattle.vx_model.specs.declared.no.No.TheVariants.{Device, Down as NotUp, Exists, Limit, Role as WrongRole, Size, Unconfirmed, Unknown}
+use Rattle.vx_model.specs.declared.site.Mark.TheVariants.{Consistent}
+use Rattle.vx_model.specs.declared.site.SiteState.{SiteState}
+use Rattle.vx_model.specs.declared.site.SiteState.TheVariants.{Bare, Up, Deported, Down}
+use Rattle.vx_history.proofs.Updates.{and_right, by_test}
+use Rattle.vx_history.specs.Admission.{Admitted, Goes, Held_by}
+use Rattle.vx_history.specs.Events.{acknowledged, admitted, applied, applied_by, apply_at, come_back, crash_at, delivered, facts_of, from_memory, gathered_if, greeting_back, handed, heard, is_taken, joined, link_after, link_event, link_heard, link_step, links_changed, lost_touch, opened, packet_at, promises_of, put_in, reached_at, recover_from, recovered_at, recovery, restarted_link, taken_if, ticked_at, ticked_link, update_taken, waited, with_write, written_if}
+use Rattle.vx_history.specs.Gatherings.{completes, emptied, gathered}
+use Rattle.vx_history.specs.LinkForms.{plain_receiver, with_plain}
+use Rattle.vx_history.specs.Receiving.{Received, phase_takes, received_step}
+use Rattle.vx_history.specs.Refusals.{Outcome, agree, at_site, at_work, both_at_work, follows, holds_back, is_consistent, is_empty, is_primary, is_running, is_stale, is_unconfirmed, keeps_links, links_of, may_link, refused, rings_fit, says, some_below, unless, when_live}
+use Rattle.vx_history.specs.Sends.{is_linked, promising, sending, with_link, with_links}
+use Rattle.vx_history.specs.Step.{done, joined_blocks, link_part, outcome_of}
+use Rattle.vx_history.specs.Steps.{burned, crash_left, crashed, half_written, logged, raw_made, raw_set, recovered, stopped_by, written}
+use Rattle.vx_history.specs.World.{DataAck, Hello, Link as LinkOf, Message, NetAck, Node, Packet, Update, World, with_node}
+use Rattle.vx_history.specs.declared.event.Event.{Event}
+use Rattle.vx_history.specs.declared.event.Event.TheVariants.{Site, Raw, Write, Read, Apply, Pump, Tick, Deliver, Connect, Cut, Pause, Resume, Wait, Link, Set, Crash, Recover, Fault}
+use Rattle.vx_history.specs.declared.event.LinkPart.{LinkPart}
+use Rattle.vx_history.specs.declared.event.LinkPart.TheVariants.{Joins, Made, Marked, Opened}
+use Rattle.vx_history.specs.declared.event.Said.TheVariants.{DoneAt, Got, Ignored as IsIgnored, Pending, Refused}
+use Rattle.vx_history.specs.declared.receiver.RAction.{RAction}
+use Rattle.vx_history.specs.declared.receiver.RAction.TheVariants.{Nothing as DoesNothing, Ignored as Ignores, IgnoredAck, Take, DataAck as AcksFromDisk}
+use Rattle.vx_history.specs.declared.receiver.REvent.TheVariants.{Applied, Restart as RestartSite, Update as HearUpdate}
+use Rattle.vx_history.specs.declared.receiver.RState.{RState}
+use Rattle.vx_history.specs.declared.sender.SEvent.{SEvent}
+use Rattle.vx_history.specs.declared.sender.SEvent.TheVariants.{Connect as ConnectLink, Cut as CutLink, DataAck as HearDataAck, Hello as HearHello, NetAck as HearNetAck, Pause as PauseLink, Pump as PumpLink, Resume as ResumeLink}
+use Rattle.vx_events.specs.LinksFit.{IsPlain}
+use Rattle.vx_effects.proofs.Links.{KeepsLink, keeps_restarted, keeps_stepped, keeps_ticked, keeps_touch, none_after, none_of, plain_after}
+use Rattle.vx_effects.proofs.Moves.{All, Moves, Stays, moves_alike, moves_like, moves_link, moves_node, moves_row, moves_same, moves_then}
+use Rattle.vx_effects.proofs.Tests
+
+-- the event makes no site and no link, and crashes no site
+abbrev pub IsSettled : Event → Type 0
+IsSettled (Site name disks blocks) = ⊥
+IsSettled (Raw s) = Unit {0}
+IsSettled (Write s volume start bytes fails) = Unit {0}
+IsSettled (Read s volume start count) = Unit {0}
+IsSettled (Apply s count reached) = Unit {0}
+IsSettled (Pump p s) = Unit {0}
+IsSettled (Tick p s) = Unit {0}
+IsSettled (Deliver number) = Unit {0}
+IsSettled (Connect p s) = Unit {0}
+IsSettled (Cut p s) = Unit {0}
+IsSettled (Pause p s) = Unit {0}
+IsSettled (Resume p s) = Unit {0}
+IsSettled (Wait p number) = Unit {0}
+IsSettled (Link p s sync Joins) = Unit {0}
+IsSettled (Link p s sync Made) = ⊥
+IsSettled (Link p s sync Marked) = Unit {0}
+IsSettled (Link p s sync Opened) = Unit {0}
+IsSettled (Set p s sync) = Unit {0}
+IsSettled (Crash s kept) = ⊥
+IsSettled (Recover s fails) = Unit {0}
+IsSettled (Fault s disk) = Unit {0}
+
+halts : (n m : Node) → m.state ≡ n.state → is_running m.halted ≡ false → Stays n m
+halts n m state halted = record { up = λ up. state ∙ up; halted = λ up h. halted }
+
+not_up : (n m : Node) → (n.state ≡ Up → ⊥) → Stays n m
+not_up n m never = record { up = λ up. absurd (never up); halted = λ up h. absurd (never up) }
+
+keeps_after : (n : Node) (x : WriteBlocks) (s : ℕ) (l : LinkOf) → KeepsLink l (link_after n x s l)
+keeps_after n x s l = record {
+  made = refl;
+  plain = λ p. subst IsPlain (sym (plain_after n x s l p)) p;
+  none = λ e. none_after n x s l e ∙ e;
+}
+
+keeps_opened : (l : LinkOf) (head : ℕ) → is_linked l ≡ true → KeepsLink l (opened l head)
+keeps_opened l head linked = record {
+  made = refl;
+  plain = λ p. record { prot = p.prot; mode = refl; bunker = p.bunker; trimmed = p.trimmed; map = p.map };
+  none = none_of l (opened l head) linked;
+}
+
+keeps_set : (l : LinkOf) (sync : SyncMode) → is_linked l ≡ true → KeepsLink l (record l { sync = sync; prot = FailsWhenFull })
+keeps_set l sync linked = record {
+  made = refl;
+  plain = λ p. record { prot = refl; mode = p.mode; bunker = p.bunker; trimmed = p.trimmed; map = p.map };
+  none = none_of l (record l { sync = sync; prot = FailsWhenFull }) linked;
+}
+
+-- ---- the changes
+
+module _ (E : ℕ → Type 0) (w : World) where
+  pub written_moves : (s : ℕ) (x : WriteBlocks) → Moves E w (written w s x)
+  written_moves s x = moves_like E w (with_node w s (logged (w.nodes s) x)) (written w s x) refl (λ p. refl) (λ p k. refl) (moves_alike E w s (logged (w.nodes s) x) refl refl)
+
+  pub half_moves : (s : ℕ) (x : WriteBlocks) (disk : ℕ) → Moves E w (half_written w s x disk)
+  half_moves s x disk =
+      let n : Node = record (w.nodes s) { log = (w.nodes s).log ++ x ∷ []; halted = Some disk; fuse = burned (w.nodes s).fuse } in
+      moves_node E w s n (λ b. b) (λ h b. b) (λ e. halts (w.nodes s) n refl refl)
+
+  pub changed_moves : (s : ℕ) (x : WriteBlocks) → Moves E w (links_changed w s x)
+  changed_moves s x = moves_row E w s (λ k. link_after (w.nodes s) x k (w.links s k)) (λ k. keeps_after (w.nodes s) x k (w.links s k))
+
+  pub stopped_moves : (s disk : ℕ) → Moves E w (stopped_by w s disk)
+  stopped_moves s disk =
+      let n : Node = record (w.nodes s) { halted = Some disk; fuse = burned (w.nodes s).fuse } in
+      moves_node E w s n (λ b. b) (λ h b. b) (λ e. halts (w.nodes s) n refl refl)
+
+  pub raw_moves : (s : ℕ) → s < w.sites → (w.nodes s).state ≡ Bare → Moves E w (raw_made w s)
+  raw_moves s below bare =
+      let n : Node = raw_set s (w.nodes s) in
+      moves_like E w (with_node w s n) (raw_made w s) refl (λ p. refl) (λ p k. refl)
+      (moves_node E w s n (λ b. bare) (λ h b. absurd (omega (arith, below, h))) (λ e. not_up (w.nodes s) n (λ up. let f : Up ≡ Bare = sym up ∙ bare in cc)))
+
+  pub linked_moves : (p s : ℕ) (l : LinkOf) → KeepsLink (w.links p s) l → (v : World) → v.sites ≡ w.sites → ((i : ℕ) → v.nodes i ≡ w.nodes i)
+      → ((i k : ℕ) → v.links i k ≡ (with_link w p s l).links i k) → Moves E w v
+  linked_moves p s l keeps v sites nodes links = moves_like E w (with_link w p s l) v sites nodes links (moves_link E w p s l keeps)
+
+  pub event_moves : (p s : ℕ) (e : SEvent) → is_linked (w.links p s) ≡ true → Moves E w (link_event w p s e)
+  event_moves p s e linked =
+      linked_moves p s (with_plain (w.links p s) (link_step w p s e).link) (keeps_stepped s (w.links p s) e _ linked) (link_event w p s e) refl (λ i. refl) (λ i k. refl)
+
+  -- a site that comes up was down
+  back_up : (n : Node) → (come_back n).state ≡ Up
+  back_up n =
+      let r : RState = (received_step (plain_receiver n) (RestartSite (length n.log) (n.session + 1))).state in
+      by_test (λ (m : Node). m.state ≡ Up) (is_origin n.role) (recovered n) (record (recovered n) { session = r.session; mark = r.mark }) (λ _. refl) (λ _. refl)
+
+  pub recovered_moves : (s : ℕ) → (w.nodes s).state ≡ Down → Moves E w (recovered_at w s)
+  recovered_moves s down =
+      let n : Node = come_back (w.nodes s) in
+      let up : n.state ≡ Up = back_up (w.nodes s) in
+      let v : World = with_node w s n in
+      let u : World = with_links v s (λ to. restarted_link n to (w.links s to)) in
+      moves_like E w u (recovered_at w s) refl (λ p. refl) (λ p k. refl)
+      (moves_then E w v u
+      (moves_node E w s n (λ b. let f : Up ≡ Bare = sym up ∙ b in absurd (cc)) (λ h b. let f : Down ≡ Bare = sym down ∙ b in absurd (cc))
+      (λ e. not_up (w.nodes s) n (λ is. let f : Up ≡ Down = sym is ∙ down in cc)))
+      (moves_row E v s (λ to. restarted_link n to (w.links s to)) (λ k. keeps_restarted n k (w.links s k))))
+
+-- a site that goes down is in doubt no more
+abbrev pub Apart : ℕ → ℕ → Type 0
+Apart s p = p ≡ s → ⊥
+
+pub crash_moves : (w : World) (s k : ℕ) → (w.nodes s).state ≡ Up → Moves (Apart s) w (crash_at w s k)
+crash_moves w s k up =
+    let n : Node = crashed (w.nodes s) k in
+    let row : ℕ → LinkOf = λ to. lost_touch (w.links s to) in
+    let v : World = with_node w s n in
+    let u : World = with_links v s row in
+    let moves : Moves (Apart s) w u =
+    moves_then (Apart s) w v u
+    (moves_node (Apart s) w s n (λ b. let f : Down ≡ Bare = b in absurd (cc)) (λ h b. let f : Up ≡ Bare = sym up ∙ b in absurd (cc)) (λ e. absurd (e refl)))
+    (moves_row (Apart s) v s row (λ j. keeps_touch (w.links s j))) in
+    by_test (λ (x : World). Moves (Apart s) w (emptied (with_links x s row) s)) (is_origin (w.nodes s).role) (crash_left w s k) (with_node w s n)
+    (λ _. moves_like (Apart s) w u (emptied (with_links (crash_left w s k) s row) s) refl (λ p. refl) (λ p j. refl) moves)
+    (λ _. moves_like (Apart s) w u (emptied (with_links (with_node w s n) s row) s) refl (λ p. refl) (λ p j. refl) moves)
+
+-- ---- the events, behind their tests
+
+module _ (w : World) where
+  abbrev Leaves : Outcome → Type 0
+  Leaves o = Moves All w o.world
+
+  refusals : (why : No) → Leaves (refused w why)
+  refusals why = moves_same All w
+
+  put_moves : (s : ℕ) (x : WriteBlocks) (fails : Option ℕ) → Leaves (put_in (links_changed w s x) s x fails)
+  put_moves s x None = moves_then All w (links_changed w s x) (written (links_changed w s x) s x) (changed_moves All w s x) (written_moves All (links_changed w s x) s x)
+  put_moves s x (Some disk) =
+      moves_then All w (links_changed w s x) (half_written (links_changed w s x) s x disk) (changed_moves All w s x) (half_moves All (links_changed w s x) s x disk)
+
+  written_if_moves : (a : Admitted) (s : ℕ) (x : WriteBlocks) (fails : Option ℕ) → Leaves (written_if a w s x fails)
+  written_if_moves (Held_by why) s x fails = moves_same All w
+  written_if_moves (Goes changes) s x fails =
+      Tests.unless_ends Leaves w refusals (leb MOST_NUMBER (w.nodes s).safe) (Limit Number MOST_NUMBER) (put_in (links_changed w s x) s x fails) (λ _. put_moves s x fails)
+
+  applied_moves : (s : ℕ) (r : RState) (a : RAction) → Leaves (applied_by w s r a)
+  applied_moves s r DoesNothing = moves_same All w
+  applied_moves s r Ignores = moves_same All w
+  applied_moves s r (IgnoredAck number) = moves_same All w
+  applied_moves s r (Take number) = moves_same All w
+  applied_moves s r (AcksFromDisk number) =
+      let n : Node = applied (w.nodes s) number r.mark in
+      moves_like All w (with_node w s n) (acknowledged w s n) refl (λ p. refl) (λ p k. refl) (moves_alike All w s n refl refl)
+
+  recovery_moves : (s : ℕ) (fails : Option ℕ) → (w.nodes s).state ≡ Down → Leaves (recovery w s fails)
+  recovery_moves s None down = recovered_moves All w s down
+  recovery_moves s (Some disk) down = moves_alike All w s (record (w.nodes s) { session = (w.nodes s).session + 1 }) refl refl
+
+  recover_moves : (state : SiteState) (s : ℕ) (fails : Option ℕ) → (w.nodes s).state ≡ state → Leaves (recover_from state w s fails)
+  recover_moves Bare s fails e = moves_same All w
+  recover_moves Up s fails e = moves_same All w
+  recover_moves Deported s fails e = moves_same All w
+  recover_moves Down s fails e =
+      Tests.unless_ends Leaves w refusals (leb MOST_NUMBER (w.nodes s).session) (Limit Number MOST_NUMBER) (recovery w s fails) (λ _. recovery_moves s fails e)
+
+  -- packets that are delivered
+  heard_by_link : (p : Packet) (e : SEvent) → Leaves (link_heard w p e)
+  heard_by_link p e =
+      let l : LinkOf = w.links p.target p.source in
+      by_test Leaves (keeps_links (w.nodes p.target).role && is_linked l) _ (says w IsIgnored)
+      (λ both. moves_link All w p.target p.source _ (keeps_stepped p.source l e _ (and_right (keeps_links (w.nodes p.target).role) (is_linked l) both)))
+      (λ _. moves_same All w)
+
+  taken_moves : (whole : Bool) (p : Packet) (x : WriteBlocks) (number : ℕ) → Leaves (taken_if whole w p x number)
+  taken_moves true p x number =
+      let n : Node = with_write (w.nodes p.target) p.source x in
+      moves_like All w (with_node w p.target n) (taken_if true w p x number).world refl (λ i. refl) (λ i k. refl) (moves_alike All w p.target n refl refl)
+  taken_moves false p x number = moves_same All w
+
+  update_moves : (p : Packet) (x : WriteBlocks) (a : RAction) → Leaves (update_taken w p x a)
+  update_moves p x DoesNothing = moves_same All w
+  update_moves p x Ignores = moves_same All w
+  update_moves p x (IgnoredAck number) = moves_like All w w (from_memory w (w.nodes p.target) p number) refl (λ i. refl) (λ i k. refl) (moves_same All w)
+  update_moves p x (Take number) = taken_moves (completes (w.gathering p.target) p) p x number
+  update_moves p x (AcksFromDisk number) = moves_same All w
+
+  heard_moves : (p : Packet) (m : Message) → Leaves (heard w p m)
+  heard_moves p (Hello session number stored) = heard_by_link p (HearHello session number stored)
+  heard_moves p (Update number x) =
+      by_test Leaves (is_origin (w.nodes p.target).role) (says w IsIgnored) _ (λ _. moves_same All w)
+      (λ _. update_moves p x (received_step (plain_receiver (w.nodes p.target)) (HearUpdate p.line number)).action)
+  heard_moves p (NetAck session number) = heard_by_link p (HearNetAck session number)
+  heard_moves p (DataAck number) = heard_by_link p (HearDataAck number)
+
+  handed_moves : (p : Packet) → Leaves (handed w p)
+  handed_moves p =
+      by_test Leaves (is_up (w.nodes p.target).state && is_running (w.nodes p.target).halted) (heard w p p.message) (says w IsIgnored)
+      (λ _. heard_moves p p.message) (λ _. moves_same All w)
+
+  gathered_moves : (b : Bool) (v : World) (p : Packet) → Moves All w v → Moves All w (gathered_if b v p)
+  gathered_moves true v p m = moves_like All w v (gathered v p) refl (λ i. refl) (λ i k. refl) m
+  gathered_moves false v p m = m
+
+  delivered_moves : (number : ℕ) (p : Option Packet) → Leaves (delivered w number p)
+  delivered_moves number None = moves_same All w
+  delivered_moves number (Some p) = gathered_moves (is_taken (handed w p).said) (handed w p).world p (handed_moves p)
+
+  -- the parts of a line that links
+  part_moves : (part : LinkPart) (p s : ℕ) (sync : SyncMode) → IsSettled (Link p s sync part) → Leaves (link_part part w p s sync)
+  part_moves Joins p s sync one =
+      let n : Node = joined (w.nodes p) p (w.nodes s) in
+      let o : Outcome = done (emptied (with_node w s n) s) in
+      let sized : Outcome = unless (not (agree (w.nodes p).volumes (w.nodes s).volumes && rings_fit (w.nodes p) (w.nodes s))) Size w o in
+      let few : Outcome = unless (leb MOST_LINKS (links_of w p)) (Limit Links MOST_LINKS) w sized in
+      let free : Outcome = unless (is_linked (w.links p s)) (Exists (w.nodes s).name) w few in
+      Tests.unless_ends Leaves w refusals (not (may_link w p s)) WrongRole free
+      (λ _. Tests.unless_ends Leaves w refusals (is_linked (w.links p s)) (Exists (w.nodes s).name) few
+      (λ _. Tests.unless_ends Leaves w refusals (leb MOST_LINKS (links_of w p)) (Limit Links MOST_LINKS) sized
+      (λ _. Tests.unless_ends Leaves w refusals (not (agree (w.nodes p).volumes (w.nodes s).volumes && rings_fit (w.nodes p) (w.nodes s))) Size o
+      (λ _. moves_like All w (with_node w s n) (emptied (with_node w s n) s) refl (λ i. refl) (λ i k. refl) (moves_alike All w s n refl refl)))))
+  part_moves Made p s sync one = absurd one
+  part_moves Marked p s sync one =
+      Tests.unless_ends Leaves w refusals _ WrongRole _ (λ _. moves_alike All w s (record (w.nodes s) { mark = Consistent }) refl refl)
+  part_moves Opened p s sync one =
+      let l : LinkOf = w.links p s in
+      let rest : Bool = is_empty (w.nodes p).log && (is_stale l.mode && (phase_takes (w.nodes s).phase && is_consistent (w.nodes s).mark)) in
+      Tests.unless_ends Leaves w refusals (not (is_primary (w.nodes p).role && (follows w p s && (is_linked l && rest)))) WrongRole
+      (done (with_link w p s (opened l (w.nodes p).safe)))
+      (λ e. moves_link All w p s (opened l (w.nodes p).safe) (keeps_opened l (w.nodes p).safe (third (is_primary (w.nodes p).role) (follows w p s) (is_linked l) rest e)))
+    where
+      third : (a b c d : Bool) → not (a && (b && (c && d))) ≡ false → c ≡ true
+      third true true true d e = refl
+      third true true false d e = absurd (cc)
+      third true false c d e = absurd (cc)
+      third false b c d e = absurd (cc)
+
+  waited_moves : (p number : ℕ) → Leaves (waited w p number)
+  waited_moves p number =
+      let last : Outcome = (if some_below w.sites (λ k. holds_back number k (w.links p k)) then says w (Pending number) else says (promising w (promises_of (w.nodes p) number (w.links p) w.sites)) (DoneAt number)) in
+      let confirmed : Outcome = unless (some_below w.sites (λ k. is_unconfirmed number k (w.links p k))) (Unconfirmed number) w last in
+      Tests.unless_ends Leaves w refusals (eqb number 0 || ltb (w.nodes p).safe number) (Unknown (ByNumber number)) confirmed
+      (λ _. Tests.unless_ends Leaves w refusals (some_below w.sites (λ k. is_unconfirmed number k (w.links p k))) (Unconfirmed number) last
+      (λ _. by_test Leaves (some_below w.sites (λ k. holds_back number k (w.links p k))) (says w (Pending number))
+      (says (promising w (promises_of (w.nodes p) number (w.links p) w.sites)) (DoneAt number)) (λ _. moves_same All w)
+      (λ _. moves_like All w w (promising w (promises_of (w.nodes p) number (w.links p) w.sites)) refl (λ i. refl) (λ i k. refl) (moves_same All w))))
+
+  pub outcome_moves : (e : Event) → IsSettled e → Leaves (outcome_of w e)
+  outcome_moves (Site name disks blocks) one = absurd one
+  outcome_moves (Raw s) one =
+      let o : Outcome = done (raw_made w s) in
+      let sized : Outcome = unless (not (is_raw_shape (w.nodes s).disks (w.nodes s).blocks)) Size w o in
+      Tests.site_ends Leaves w refusals s (unless (not (is_bare (w.nodes s).state)) WrongRole w sized)
+      (λ below. Tests.unless_ends Leaves w refusals (not (is_bare (w.nodes s).state)) WrongRole sized
+      (λ bare. Tests.unless_ends Leaves w refusals (not (is_raw_shape (w.nodes s).disks (w.nodes s).blocks)) Size o
+      (λ _. raw_moves All w s below (Tests.bare_is (w.nodes s).state (Tests.not_false (is_bare (w.nodes s).state) bare)))))
+  outcome_moves (Write s volume start bytes fails) one =
+      let x : WriteBlocks = record { volume = volume; start = start; bytes = bytes } in
+      Tests.volume_ends Leaves w refusals s volume start (blocks_in bytes) (is_too_large (w.nodes s).ring (blocks_in bytes)) (written_if (admitted w s x) w s x fails)
+      (λ _. written_if_moves (admitted w s x) s x fails)
+  outcome_moves (Read s volume start count) one =
+      Tests.volume_ends Leaves w refusals s volume start count false (says w (Got (joined_blocks (blocks_from (w.nodes s).base volume start count)))) (λ _. moves_same All w)
+  outcome_moves (Apply s count reached) one =
+      let o : Outcome = (if is_origin (w.nodes s).role then reached_at w s count reached else apply_at w s count) in
+      let r : Received = received_step (plain_receiver (w.nodes s)) (Applied count) in
+      Tests.site_ends Leaves w refusals s (at_work w s o)
+      (λ _. Tests.work_ends Leaves w refusals s o
+      (λ _ _. by_test Leaves (is_origin (w.nodes s).role) (reached_at w s count reached) (apply_at w s count) (λ _. moves_same All w) (λ _. applied_moves s r.state r.action)))
+  outcome_moves (Pump p s) one =
+      Tests.link_ends Leaves w refusals keeps_links p s (when_live w s (w.links p s) (done (link_event w p s PumpLink)))
+      (λ _ linked. Tests.live_ends Leaves w refusals s (w.links p s) (done (link_event w p s PumpLink)) (event_moves All w p s PumpLink linked))
+  outcome_moves (Tick p s) one =
+      Tests.link_ends Leaves w refusals keeps_links p s (done (ticked_at w p s)) (λ _ linked. moves_link All w p s (ticked_link w p s) (keeps_ticked s (w.links p s) (facts_of (w.nodes p) (w.nodes p).line) linked))
+  outcome_moves (Deliver number) one = delivered_moves number (packet_at w.packets number)
+  outcome_moves (Connect p s) one =
+      Tests.link_ends Leaves w refusals keeps_links p s (done (sending (link_event w p s ConnectLink) (greeting_back w p s)))
+      (λ _ linked. moves_like All w (link_event w p s ConnectLink) (sending (link_event w p s ConnectLink) (greeting_back w p s)) refl (λ i. refl) (λ i k. refl)
+      (event_moves All w p s ConnectLink linked))
+  outcome_moves (Cut p s) one = Tests.link_ends Leaves w refusals keeps_links p s (done (link_event w p s CutLink)) (λ _ linked. event_moves All w p s CutLink linked)
+  outcome_moves (Pause p s) one = Tests.link_ends Leaves w refusals keeps_links p s (done (link_event w p s PauseLink)) (λ _ linked. event_moves All w p s PauseLink linked)
+  outcome_moves (Resume p s) one = Tests.link_ends Leaves w refusals keeps_links p s (done (link_event w p s ResumeLink)) (λ _ linked. event_moves All w p s ResumeLink linked)
+  outcome_moves (Wait p number) one =
+      let led : Outcome = unless (not (is_origin (w.nodes p).role)) WrongRole w (waited w p number) in
+      Tests.site_ends Leaves w refusals p (at_work w p led)
+      (λ _. Tests.work_ends Leaves w refusals p led
+      (λ _ _. Tests.unless_ends Leaves w refusals (not (is_origin (w.nodes p).role)) WrongRole (waited w p number) (λ _. waited_moves p number)))
+  outcome_moves (Link p s sync part) one =
+      let o : Outcome = link_part part w p s sync in
+      Tests.site_ends Leaves w refusals p (at_site w s (both_at_work w p s o))
+      (λ _. Tests.site_ends Leaves w refusals s (both_at_work w p s o)
+      (λ _. Tests.both_ends Leaves w refusals p s o (λ _ _ _ _. part_moves part p s sync one)))
+  outcome_moves (Set p s sync) one =
+      Tests.link_ends Leaves w refusals is_origin p s (done (with_link w p s (record (w.links p s) { sync = sync; prot = FailsWhenFull })))
+      (λ _ linked. moves_link All w p s (record (w.links p s) { sync = sync; prot = FailsWhenFull }) (keeps_set (w.links p s) sync linked))
+  outcome_moves (Crash s kept) one = absurd one
+  outcome_moves (Recover s fails) one =
+      Tests.site_ends Leaves w refusals s (recover_from (w.nodes s).state w s fails) (λ _. recover_moves (w.nodes s).state s fails refl)
+  outcome_moves (Fault s disk) one =
+      let o : Outcome = says (stopped_by w s disk) (Refused (Device disk)) in
+      Tests.site_ends Leaves w refusals s (unless (not (is_up (w.nodes s).state)) NotUp w o)
+      (λ _. Tests.unless_ends Leaves w refusals (not (is_up (w.nodes s).state)) NotUp o (λ _. stopped_moves All w s disk))

@@ -1,0 +1,4 @@
+pub mod Applies
+pub mod Facts
+pub mod Restarts
+pub mod Writes

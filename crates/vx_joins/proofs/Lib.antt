@@ -1,0 +1,6 @@
+pub mod JoinCall
+pub mod JoinGroup
+pub mod SpellsLinks
+pub mod StoresLink
+pub mod TakesUpdate
+pub mod UpdatesFit

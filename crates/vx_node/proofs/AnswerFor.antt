@@ -1,0 +1,81 @@
+-- What a line is answered and prints, where sites may keep links and be in doubt.
+use Rattle.std.proofs.Common.{◌≡◌, ◌∙◌, Bool, true, false, List, [], ap, sym, subst, refl, arith}
+use Rattle.std.specs.Prelude.{IfOk, Option, Some, None, Result, Ok, Err}
+use Rattle.vx_history.specs.Doubts.{Doubted}
+use Rattle.vx_history.specs.World.{World}
+use Rattle.vx_model.specs.declared.errors.OutOfMemory.{OutOfMemory}
+use Rattle.vx_model.specs.declared.no.No.{No}
+use Rattle.vx_disk.specs.declared.shelf.Shelf.{Ghosts}
+use Rattle.vx_order.specs.Order.{refusal_of}
+use Rattle.vx_order.specs.declared.facts.SiteFacts.{SiteFacts}
+use Rattle.vx_script.specs.declared.line.ScriptLine.{ScriptLine}
+use Rattle.vx_script.specs.declared.line.ScriptLine.TheVariants.{Deliver}
+use Rattle.vx_events.proofs.Calm.{none_sent}
+use Rattle.vx_events.proofs.Parts.{none_done}
+use Rattle.vx_events.specs.LinkedFacts.{linked_facts, refused_by}
+use Rattle.vx_events.specs.Lines.{StepBy}
+use Rattle.vx_events.specs.declared.said.Said.{Said}
+use Rattle.vx_events.specs.declared.said.Said.TheVariants.{Refused}
+use Rattle.vx_node.specs.Lines.{is_built}
+use Rattle.vx_node.specs.OfSites.{HasCalled}
+use Rattle.vx_node.specs.Replies.{reply_text, text_of}
+use Rattle.vx_node.specs.Standing.{AnswersFor, AnswersIs, Leads, LeadsIs, StandsFor, StaysFor, StepsFor, StopsFor}
+use Rattle.vx_node.specs.Working.{IsFree}
+use Rattle.vx_node.specs.Yards.{IsTold, count_of, in_files}
+use Rattle.vx_node.specs.declared.yard.Yard.{Yard}
+use Rattle.vx_node.proofs.ChangeSite.{rose_none}
+
+-- a line that is built is refused by what the tests see of the sites
+tested : (w : World) (files : Bool) (line : ScriptLine) → is_built line ≡ true → refused_by w files line ≡ refusal_of (linked_facts w) files line
+tested w files (Deliver number) built = absurd (cc)
+tested w files other built = refl
+
+-- what holds of any answer
+pub if_ok : {T E : Type 0} (P : T → Type 0) (r : Result T E) → ((x : T) → P x) → IfOk r P
+if_ok P (Ok x) all = all x
+if_ok P (Err e) all = tt
+
+module _ {R : Type 0} {g : Ghosts R} where
+  -- a line that no test refuses is answered what it worked
+  pub leads_answer : (d : Doubted) (line : ScriptLine) (old new : Yard R g) (r : Result Said OutOfMemory) → is_built line ≡ true → StandsFor d old → IsFree old line → LeadsIs d line old new r → AnswersIs d line old new r
+  leads_answer d line old new (Ok said) built stands free work =
+      let none : refused_by d.world (in_files old) line ≡ None =
+      tested d.world (in_files old) line built ∙ ap (λ (fs : List SiteFacts). refusal_of fs (in_files old) line) (sym stands.facts) ∙ free in
+      record {
+        next = work.next;
+        fails = work.fails;
+        step = subst (λ (o : Option No). StepBy o (IsTold new) d line work.fails said work.next) (sym none) work.done;
+        sent = work.sent;
+        stands = work.stands;
+        rose = work.rose;
+      }
+  leads_answer d line old new (Err e) built stands free work = work
+
+  -- one that is refused changes nothing
+  pub refusal_answer : (d : Doubted) (line : ScriptLine) (y : Yard R g) (why : No) → is_built line ≡ true → StandsFor d y → refusal_of y.facts.items (in_files y) line ≡ Some why → AnswersFor d line (Refused why) y y
+  refusal_answer d line y why built stands is =
+      let some : refused_by d.world (in_files y) line ≡ Some why =
+      tested d.world (in_files y) line built ∙ ap (λ (fs : List SiteFacts). refusal_of fs (in_files y) line) (sym stands.facts) ∙ is in
+      record {
+        next = d;
+        fails = [];
+        step = subst (λ (o : Option No). StepBy o (IsTold y) d line [] (Refused why) d) (sym some) (record { none = refl; says = refl; stays = refl });
+        sent = refl;
+        stands = stands;
+        rose = rose_none (count_of y) (count_of y) (λ s u. omega arith);
+      }
+
+  -- what it prints
+  pub answer_steps : (d : Doubted) (line : ScriptLine) (old new : Yard R g) (said : Said) → AnswersFor d line said old new → (IsFree old line → HasCalled d.world line said old new) → StepsFor d line old new (reply_text said)
+  answer_steps d line old new said a called = record {
+    next = a.next;
+    fails = a.fails;
+    prints = record { said = said; step = a.step; is = ap (λ sent. text_of said sent) (sym (none_sent d.world a.next.world a.sent)) };
+    stands = a.stands;
+    rose = a.rose;
+    called = λ free. called free;
+  }
+
+  -- of a line for which memory was short nothing is done
+  pub stays_short : (d : Doubted) (line : ScriptLine) (old new : Yard R g) → StaysFor d old new → StopsFor d line old new
+  stays_short d line old new stays = record { next = d; part = none_done d line; stands = stays.stands; rose = stays.rose }

@@ -1,0 +1,123 @@
+-- A site of which a line notes something, and the events of one step, where sites may be in doubt.
+use Rattle.std.proofs.Common.{◌≡◌, ◌∙◌, ◌+◌, ◌<◌, ◌≤◌, ℕ, Bool, false, true, List, [], ◌∷◌, ap, sym, subst, refl, arith, ⊎_elim}
+use Rattle.std.specs.Prelude.{Option, Some, None}
+use Rattle.std.proofs.lemmas.Bool.{cases_eq}
+use Rattle.vx_history.proofs.Updates.{all_updated, at_place}
+use Rattle.vx_history.specs.Doubts.{After, Doubted, crashed_by, resolved_for}
+use Rattle.vx_history.specs.Refusals.{Outcome, is_running}
+use Rattle.vx_history.specs.Step.{counted, outcome_of, run, step}
+use Rattle.vx_history.specs.World.{Node, World, with_node}
+use Rattle.vx_history.specs.declared.event.Event.{Event}
+use Rattle.vx_model.specs.declared.site.Role.TheVariants.{Primary}
+use Rattle.vx_model.specs.declared.site.SiteState.TheVariants.{Bare}
+use Rattle.vx_disk.specs.declared.shelf.Shelf.{Ghosts}
+use Rattle.vx_script.specs.declared.line.ScriptLine.{ScriptLine}
+use Rattle.vx_diskset.specs.Asked.{FailsAs, FusedAs}
+use Rattle.vx_diskset.specs.Holds.{beside_of}
+use Rattle.vx_diskset.specs.Stands.{IsToldAt, StandsAt}
+use Rattle.vx_diskset.specs.declared.disk_set.DiskSet.{DiskSet}
+use Rattle.vx_events.proofs.Calm.{chosen_world, run_world}
+use Rattle.vx_events.specs.Doubts.{run_as}
+use Rattle.vx_events.specs.Effects.{ChangesNode}
+use Rattle.vx_events.specs.Ends.{AllDone, DiskFails, Ends, LeavesOf, noted}
+use Rattle.vx_events.specs.Fails.{Fails}
+use Rattle.vx_events.specs.LinksFit.{IsBlank, DoubtFits, LinksFit}
+use Rattle.vx_events.specs.Lists.{Choice, events_of}
+use Rattle.vx_events.specs.Sayings.{Replies, RepeatsOf}
+use Rattle.vx_events.specs.declared.said.Said.{Said}
+use Rattle.vx_events.specs.declared.said.Said.TheVariants.{Refused}
+use Rattle.vx_model.specs.declared.no.No.TheVariants.{Device}
+use Rattle.vx_node.proofs.Alike.{apart_place}
+use Rattle.vx_node.specs.Standing.{IsSameSite}
+use Rattle.vx_node.proofs.OneSite.{Comes}
+use Rattle.vx_node.proofs.SiteEvents.{first_choice}
+
+-- the world in which a site has this node
+abbrev pub with_one : Doubted → (s : ℕ) → Node → Doubted
+with_one d s n = record d { world = with_node d.world s n }
+
+changes_one : (d : Doubted) (s : ℕ) (n : Node) → ChangesNode s d (with_one d s n)
+changes_one d s n = record {
+  sites = refl;
+  nodes = λ i apart. apart_place d.world.nodes s n i apart;
+  links = λ i k apart. refl;
+  headers = λ i apart. refl;
+  after = λ i apart. refl;
+  gathering = λ i apart. refl;
+}
+
+-- links fit as well where a site is up or not, and halted or not, as it was
+fits_one : (d : Doubted) (s : ℕ) (n : Node) → n.state ≡ (d.world.nodes s).state → n.halted ≡ (d.world.nodes s).halted → LinksFit d → LinksFit (with_one d s n)
+fits_one d s n state halted fits = record {
+  rows = fits.rows;
+  later = λ p past. at_state p ∙ fits.later p past;
+  bare = λ p bare. let blank = fits.bare p (sym (at_state p) ∙ bare) in record { links = blank.links; headers = blank.headers };
+  doubts = λ p a is.
+      let f = fits.doubts p a is in
+      record { up = at_state p ∙ f.up; halted = ap (λ (h : Option ℕ). is_running h) (at_halted p) ∙ f.halted; up_too = f.up_too; halted_too = f.halted_too; row = f.row };
+}
+  where
+    at_state : (p : ℕ) → ((with_one d s n).world.nodes p).state ≡ (d.world.nodes p).state
+    at_state p = all_updated (λ k m. m.state ≡ (d.world.nodes k).state) d.world.nodes s n state (λ k apart. refl) p
+
+    at_halted : (p : ℕ) → ((with_one d s n).world.nodes p).halted ≡ (d.world.nodes p).halted
+    at_halted p = all_updated (λ k m. m.halted ≡ (d.world.nodes k).halted) d.world.nodes s n halted (λ k apart. refl) p
+
+-- a line without events is done
+pub none_left : (told : Type 0) (d : Doubted) (line : ScriptLine) (s : ℕ) (said : Said) (v : World) → events_of d.world line first_choice ≡ [] → Replies told line s false d [] said → v ≡ noted s line d.world
+    → Ends told d line s [] said (record d { world = v })
+none_left told d line s said v is says leads = AllDone first_choice false refl
+    (subst (λ (es : List Event). Replies told line s false d es said) (sym is) says)
+    (record {
+      world = leads ∙ ap (λ (es : List Event). noted s line (run d.world es)) (sym is) ∙ ap (λ (u : World). noted s line u) (sym (run_world d (events_of d.world line first_choice)));
+      after = λ i. ap (λ (es : List Event). (run_as false d es).after i) (sym is);
+    })
+
+-- a line that was done by its one event, which crashes no site
+pub one_left : (told : Type 0) (d : Doubted) (line : ScriptLine) (s : ℕ) (c : Choice) (e : Event) (o : Outcome) (said : Said) (v : World) → events_of d.world line c ≡ e ∷ [] → crashed_by e ≡ None → outcome_of d.world e ≡ o
+    → RepeatsOf told s e (counted d.world e o) said → v ≡ noted s line (counted d.world e o).world → Ends told d line s [] said (record d { world = v })
+one_left told d line s c e o said v is whole at says leads =
+    let here : RepeatsOf told s e (step d.world e) said = subst (λ (p : Outcome). RepeatsOf told s e (counted d.world e p) said) (sym at) says in
+    AllDone c false refl
+    (subst (λ (es : List Event). Replies told line s false d es said) (sym is) (subst (λ (u : World). RepeatsOf told s e (step u e) said) (sym (chosen_world d e)) here))
+    (record {
+      world = leads ∙ ap (λ (p : Outcome). noted s line (counted d.world e p).world) (sym at) ∙ ap (λ (es : List Event). noted s line (run d.world es)) (sym is)
+          ∙ ap (λ (u : World). noted s line u) (sym (run_world d (events_of d.world line c)));
+      after = λ i. ap (λ (k : Option ℕ). (resolved_for k d false).after i) (sym whole) ∙ ap (λ (es : List Event). (run_as false d es).after i) (sym is);
+    })
+
+-- a disk failed, and nothing of the line's one event stands
+pub only_left : (told : Type 0) (d : Doubted) (line : ScriptLine) (s : ℕ) (e : Event) (disk : ℕ) → events_of d.world line first_choice ≡ e ∷ [] → LeavesOf e disk [] → noted s line d.world ≡ d.world
+    → Ends told d line s ((s, disk) ∷ []) (Refused (Device disk)) d
+only_left told d line s e disk is leaves still = DiskFails first_choice false [] e [] [] disk is leaves refl refl (record { world = sym still; after = λ i. refl })
+
+module _ {R : Type 0} {g : Ghosts R} where
+  -- a site whose node is another, with what it has beside it
+  pub comes_one : (d : Doubted) (s : ℕ) (n : Node) (after : DiskSet R g) → n.name ≡ (d.world.nodes s).name → n.disks ≡ (d.world.nodes s).disks → n.blocks ≡ (d.world.nodes s).blocks → n.volumes ≡ (d.world.nodes s).volumes → LinksFit d → n.state ≡ (d.world.nodes s).state → n.halted ≡ (d.world.nodes s).halted → n.role ≡ (d.world.nodes s).role
+      → StandsAt (beside_of d s) n after → FailsAs n after → FusedAs n after → Comes d (with_one d s n) s after
+  comes_one d s n after name disks blocks volumes fits state halted role stands failing fuse =
+      let here : n ≡ (with_one d s n).world.nodes s = sym (at_place d.world.nodes s n) in
+      record {
+        changes = changes_one d s n;
+        links = fits_one d s n state halted fits;
+        stands = subst (λ (m : Node). StandsAt (beside_of d s) m after) here stands;
+        failing = subst (λ (m : Node). FailsAs m after) here failing;
+        fuse = subst (λ (m : Node). FusedAs m after) here fuse;
+        role = λ T was here_told told primary. ap (λ (m : Node). m.role) (sym here) ∙ role ∙ primary;
+        doubt = λ told was a is.
+            let w = was a is in
+            subst (λ (m : Node). IsSameSite told m a.node) here
+            (record { name = w.name ∙ sym name; disks = w.disks ∙ sym disks; blocks = w.blocks ∙ sym blocks; volumes = w.volumes ∙ sym volumes; role = w.role });
+      }
+
+  -- a site of which nothing is noted
+  pub comes_same : (d : Doubted) (s : ℕ) (after : DiskSet R g) → LinksFit d → StandsAt (beside_of d s) (d.world.nodes s) after → FailsAs (d.world.nodes s) after → FusedAs (d.world.nodes s) after → Comes d d s after
+  comes_same d s after fits stands failing fuse = record {
+    changes = record { sites = refl; nodes = λ i apart. refl; links = λ i k apart. refl; headers = λ i apart. refl; after = λ i apart. refl; gathering = λ i apart. refl };
+    links = fits;
+    stands = stands;
+    failing = failing;
+    fuse = fuse;
+    role = λ T was here_told told primary. primary;
+    doubt = λ told was a is. was a is;
+  }

@@ -1,0 +1,62 @@
+-- Rows of links that are the same link by link.
+use Rattle.std.proofs.Common.{◌≡◌, ◌∙◌, ◌+◌, ℕ, zero, suc, List, [], ◌∷◌, ap, refl}
+use Rattle.std.specs.Prelude.{Option, Some, None, if◌then◌else◌}
+use Rattle.vx_history.specs.Events.{is_in_place, link_in_place, linked_sites, put_before}
+use Rattle.vx_history.specs.KeptLinks.{kept_link, kept_links}
+use Rattle.vx_history.specs.World.{Link, Node}
+use Rattle.vx_model.specs.declared.site.SiteState.{SiteState}
+use Rattle.vx_model.specs.declared.state.KeptLink.{KeptLink}
+use Rattle.vx_order.specs.declared.facts.LinkFacts.{LinkFacts}
+use Rattle.vx_order.specs.declared.facts.SiteFacts.{SiteFacts}
+use Rattle.vx_diskset.specs.Holds.{row_links}
+use Rattle.vx_events.specs.Facts.{site_fact}
+use Rattle.vx_events.specs.LinkedFacts.{needed_by, link_fact, link_facts, links_by}
+
+module _ (row new : ℕ → Link) (same : (k : ℕ) → new k ≡ row k) where
+  in_place_same : (place n : ℕ) → link_in_place new place n ≡ link_in_place row place n
+  in_place_same place zero = refl
+  in_place_same place (suc k) =
+      ap (λ (l : Link). if is_in_place l.made place then Some k else link_in_place new place k) (same k)
+      ∙ ap (λ (o : Option ℕ). if is_in_place (row k).made place then Some k else o) (in_place_same place k)
+
+  pub linked_same : (sites place n : ℕ) → linked_sites new sites place n ≡ linked_sites row sites place n
+  linked_same sites place zero = refl
+  linked_same sites place (suc k) =
+      ap (λ (o : Option ℕ). put_before o (linked_sites new sites (place + 1) k)) (in_place_same place sites)
+      ∙ ap (λ (ss : List ℕ). put_before (link_in_place row place sites) ss) (linked_same sites (place + 1) k)
+
+  kept_same : (ss : List ℕ) → kept_links new ss ≡ kept_links row ss
+  kept_same [] = refl
+  kept_same (s ∷ ss) = ap (λ (l : Link). kept_link s l ∷ kept_links new ss) (same s) ∙ ap (λ (ls : List KeptLink). kept_link s (row s) ∷ ls) (kept_same ss)
+
+  -- the header of a log keeps the same of them
+  pub row_links_same : (sites : ℕ) → row_links new sites ≡ row_links row sites
+  row_links_same sites = kept_same (linked_sites new sites 0 sites) ∙ ap (λ (ss : List ℕ). kept_links row ss) (linked_same sites 0 sites)
+
+  shown_same : (n : Node) (ss : List ℕ) → link_facts n new ss ≡ link_facts n row ss
+  shown_same n [] = refl
+  shown_same n (s ∷ ss) = ap (λ (l : Link). link_fact n s l ∷ link_facts n new ss) (same s) ∙ ap (λ (ls : List LinkFacts). link_fact n s (row s) ∷ ls) (shown_same n ss)
+
+  pub link_facts_same : (n : Node) (sites : ℕ) → link_facts n new (linked_sites new sites 0 sites) ≡ link_facts n row (linked_sites row sites 0 sites)
+  link_facts_same n sites = shown_same n (linked_sites new sites 0 sites) ∙ ap (λ (ss : List ℕ). link_facts n row ss) (linked_same sites 0 sites)
+
+-- what the tests see of a site with this node and these links, among so many sites
+abbrev pub fact_from : Node → (ℕ → Link) → ℕ → SiteFacts
+fact_from n row sites = record (site_fact n) { links = links_by n.state (link_facts n row (linked_sites row sites 0 sites)) }
+
+pub fact_same : (n m : Node) (row new : ℕ → Link) (sites many : ℕ) → m ≡ n → ((k : ℕ) → new k ≡ row k) → many ≡ sites → fact_from m new many ≡ fact_from n row sites
+fact_same n m row new sites many node same count =
+    ap (λ (k : Node). fact_from k new many) node ∙ ap (λ (k : ℕ). fact_from n new k) count
+    ∙ ap (λ (ls : List LinkFacts). let f : SiteFacts = record (site_fact n) { links = links_by n.state ls } in f) (link_facts_same row new same n sites)
+
+-- another node, of which the tests see the same
+pub shown_by : (n m : Node) (row : ℕ → Link) → ((s : ℕ) (l : Link) → needed_by m s l ≡ needed_by n s l) → (ss : List ℕ) → link_facts m row ss ≡ link_facts n row ss
+shown_by n m row used [] = refl
+shown_by n m row used (s ∷ ss) =
+    ap (λ (k : ℕ). (let f : LinkFacts = record (link_fact n s (row s)) { used = k } in f) ∷ link_facts m row ss) (used s (row s))
+    ∙ ap (λ (ls : List LinkFacts). link_fact n s (row s) ∷ ls) (shown_by n m row used ss)
+
+pub fact_like : (n m : Node) (row : ℕ → Link) (sites : ℕ) → site_fact m ≡ site_fact n → ((s : ℕ) (l : Link) → needed_by m s l ≡ needed_by n s l) → fact_from m row sites ≡ fact_from n row sites
+fact_like n m row sites same used =
+    ap (λ (x : SiteFacts). let f : SiteFacts = record x { links = links_by x.state (link_facts m row (linked_sites row sites 0 sites)) } in f) same
+    ∙ ap (λ (ls : List LinkFacts). let f : SiteFacts = record (site_fact n) { links = links_by n.state ls } in f) (shown_by n m row used (linked_sites row sites 0 sites))

@@ -1,0 +1,36 @@
+// The lines that work on links in memory.
+ghost use Rattle.std.specs.Prelude.{◌≡◌, true};
+ghost use Rattle.vx_history.specs.Doubts.{Doubted};
+ghost use Rattle.vx_node.specs.Carries.{BringsIs, Carries};
+ghost use Rattle.vx_node.specs.LinkLines.{is_on_links};
+ghost use Rattle.vx_node.specs.Standing.{StandsFor};
+ghost use Rattle.vx_node.specs.Working.{IsFree};
+ghost use Rattle.vx_node.specs.Yards.{IsKept, in_files};
+
+use crate::{Said, Yard};
+use vx_disk::Rack;
+use vx_model::OutOfMemory;
+use vx_script::ScriptLine;
+
+impl<R: Rack> Yard<R> {
+    /// Does a line on links that no test refuses.
+    pub fn work_link(&mut self, words: &ScriptLine) -> Result<Said, OutOfMemory>
+        requires kind { is_on_links words.now ≡ true }
+        requires kept { IsKept self.old }
+        requires free { IsFree self.old words.now }
+        ensures brings { (d : Doubted) → StandsFor d self.old → Carries d self.old → BringsIs d words.now self.old self.new result }
+        ensures still { self.new.disk_sets ≡ self.old.disk_sets }
+        ensures files { in_files self.new ≡ in_files self.old }
+    {
+        match words {
+            ScriptLine::Connect { primary, secondary } => self.connect_line(primary, secondary),
+            ScriptLine::Cut { primary, secondary } => Ok(self.cut_line(primary, secondary)),
+            ScriptLine::Pause { primary, secondary } => Ok(self.pause_line(primary, secondary)),
+            ScriptLine::Resume { primary, secondary } => Ok(self.resume_line(primary, secondary)),
+            ScriptLine::Tick { primary, secondary } => Ok(self.tick_line(primary, secondary)),
+            ScriptLine::Wait { site, number } => Ok(self.wait_line(site, *number)),
+            // A line that is not on links.
+            _ => unreachable!(),
+        }
+    }
+}

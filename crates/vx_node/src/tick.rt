@@ -1,0 +1,26 @@
+// The line that counts what was sent on a link as lost.
+ghost use Rattle.std.specs.Prelude.{◌≡◌};
+ghost use Rattle.vx_history.specs.Doubts.{Doubted};
+ghost use Rattle.vx_script.specs.declared.line.ScriptLine.TheVariants.{Tick};
+ghost use Rattle.vx_node.specs.Carries.{Brings, Carries};
+ghost use Rattle.vx_node.specs.Standing.{StandsFor};
+ghost use Rattle.vx_node.specs.Working.{IsFree};
+ghost use Rattle.vx_node.specs.Yards.{in_files};
+
+use crate::{Said, Yard};
+use vx_disk::Rack;
+use vx_linked::tick;
+use vx_model::Name;
+
+impl<R: Rack> Yard<R> {
+    /// What was sent on the link of a site to another counts as lost.
+    pub(crate) fn tick_line(&mut self, first: &Name, second: &Name) -> Said
+        requires free { IsFree self.old (Tick first.now second.now) }
+        ensures brings { (d : Doubted) → StandsFor d self.old → Carries d self.old → Brings d (Tick first.now second.now) result self.old self.new }
+        ensures still { self.new.disk_sets ≡ self.old.disk_sets }
+        ensures files { in_files self.new ≡ in_files self.old }
+    {
+        tick(&mut self.facts, first, second);
+        Said::Done
+    }
+}
