@@ -10,6 +10,7 @@ pub mod KeepGroup
 pub mod KeepsFailing
 pub mod LastWrites
 pub mod Laying
+pub mod LeavesNumbers
 pub mod MakeGroup
 pub mod MakeRoom
 pub mod Mores
@@ -18,9 +19,12 @@ pub mod PumpGroup
 pub mod Reaching
 pub mod ReadGroup
 pub mod Receiving
+pub mod Roles
 pub mod Sessions
 pub mod StartBare
 pub mod StartGroup
 pub mod StaysUp
+pub mod TakenBack
+pub mod Worked
 pub mod WriteGroup
 pub mod WriteLeaves

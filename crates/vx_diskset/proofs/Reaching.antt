@@ -32,7 +32,11 @@ use Rattle.vx_diskset.specs.Lasts.{FoundWith}
 use Rattle.vx_diskset.specs.Layouts.{units_of}
 use Rattle.vx_diskset.specs.Needs.{HasRoom}
 use Rattle.vx_diskset.specs.Received.{CanReceive, LoggedTo, reached, ReachedAt, ReachedBy, ReachedTo, ReachedUp}
-use Rattle.vx_diskset.specs.Rooms.{AppliedAs, IsMore}
+use Rattle.vx_model.specs.declared.no.Counted.TheVariants.{Number}
+use Rattle.vx_rvg.specs.Groups.{has_numbers}
+use Rattle.vx_srl.specs.Views.{most_number}
+use Rattle.vx_diskset.specs.Rooms.{AppliedAs, HasNumbers, IsMore, NeverLimit}
+use Rattle.vx_diskset.proofs.LeavesNumbers.{lacks_them}
 use Rattle.vx_diskset.specs.Stands.{IsHeldAt, IsReceiverAt, IsUpAt, CutAt, StandsAt}
 use Rattle.vx_events.specs.Fuses.{taken}
 use Rattle.vx_diskset.proofs.BesideLemmas.{never_besides, site_map}
@@ -77,7 +81,7 @@ like {beside} n b b' s s' f f' c us m eb es ef r =
     (subst (λ (x : ℕ). IsReceiverAt beside (record n { base = b'; safe = x; fuse = f }) c us m) es
     (subst (λ (x : Content). IsReceiverAt beside (record n { base = x; safe = s; fuse = f }) c us m) eb r))
 
-receiver_burned : {beside : Beside} (n : Node) (c : Core) (us : List Update) (m : Meaning) → IsReceiverAt beside n c us m → IsReceiverAt beside (worked n) c us m
+pub receiver_burned : {beside : Beside} (n : Node) (c : Core) (us : List Update) (m : Meaning) → IsReceiverAt beside n c us m → IsReceiverAt beside (worked n) c us m
 receiver_burned n c us m r = record {
   state = r.state;
   role = r.role;
@@ -317,20 +321,11 @@ module _ {beside : Beside} (n : Node) (c : Core) (us rest : List Update) (u : Up
   }
 
   module _ {R : Type 0} {g : Ghosts R} (old new : Rvg R g) where
-    pub next_failed : (why : No) → LoggedUp beside (durable_of n) x (Up old) (Up new) (Err why) → LoggedTo beside n 1 us new.core (g.meaning old.shelf) (g.meaning new.shelf) (Err why)
-    next_failed (Device disk) h = (halted_receiver disk new.core (g.meaning new.shelf) h.0, h.1)
-    next_failed (Limit what most) h = (
-      h.0,
-      (λ told. let far = h.1 told in omega (arith, far, long)),
-      (
-        n.safe,
-        omega arith,
-        long,
-        reached_worked n new.core us (g.meaning new.shelf) (as_receiver n us n.halted (burned n.fuse) new.core (g.meaning new.shelf) (r.sure can.running) r.role long (r.waits ∙ ap (λ (k : ℕ). drop k n.log) (r.head can.running)) h.2),
-      ),
-    )
-    next_failed IsOff h = (h.0, held_next (g.meaning new.shelf) h.1)
-    next_failed other h = h
+    pub next_failed : (why : No) → NeverLimit (let result : Result ℕ No = Err why in result) → LoggedUp beside (durable_of n) x (Up old) (Up new) (Err why) → LoggedTo beside n 1 us new.core (g.meaning old.shelf) (g.meaning new.shelf) (Err why)
+    next_failed (Device disk) never h = (halted_receiver disk new.core (g.meaning new.shelf) h.0, h.1)
+    next_failed (Limit what most) never h = absurd never
+    next_failed IsOff never h = (h.0, held_next (g.meaning new.shelf) h.1)
+    next_failed other never h = h
 
     pub next_done : (number : ℕ) → LoggedUp beside (durable_of n) x (Up old) (Up new) (Ok number) → IsReceiverAt beside (reached n (n.safe + 1)) new.core rest (g.meaning new.shelf)
     next_done number h = next_receiver new.core (g.meaning new.shelf) h.2
@@ -349,6 +344,7 @@ pub record LoggedSo (us : List Update) (k : ℕ) (c d : Core) (m mid : Meaning) 
   pub each : (beside : Beside) (n : Node) → IsReceiverAt beside n c us m → CanReceive beside n → IsReceiverAt beside (reached n (n.safe + k)) d left mid
   pub left_is : left ≡ drop k us
   pub more : IsMore k c d
+  pub stamp : d.log.header.stamp ≤ c.log.header.stamp + k
   pub spends : Spends m mid
   pub up : IsFalse m.down → IsFalse mid.down
   pub counts : (disk : ℕ) → m.disk_faults disk ≤ mid.disk_faults disk
@@ -359,6 +355,7 @@ logged_none us c m = record {
   each = λ beside n r can. subst (λ (k : ℕ). IsReceiverAt beside (reached n k) c us m) (let e : n.safe ≡ n.safe + 0 = omega arith in e) (reached_none n c us m r);
   left_is = refl;
   more = more_none c;
+  stamp = omega arith;
   spends = spends_none m;
   up = λ up. up;
   counts = λ disk. omega arith;
@@ -372,10 +369,13 @@ module _ (us : List Update) (k : ℕ) (c d e : Core) (m mid new : Meaning) (left
   pub some_waits : k < length us → 0 < length left
   some_waits low = omega (arith, low, ap (λ (vs : List Update). length vs) at.left_is, length-drop k us)
 
+  pub numbers_left : (count : ℕ) → k < count → HasNumbers c count → HasNumbers d 1
+  numbers_left count low has = record { stamps = omega (arith, at.stamp, low, has.stamps); numbers = omega (arith, at.more.last, low, has.numbers) }
+
   pub logged_more : (after : List Update) → ((beside : Beside) (n : Node) → IsReceiverAt beside n d left mid → CanReceive beside n → IsReceiverAt beside (reached n (n.safe + 1)) e after new)
-      → after ≡ drop 1 left → IsMore 1 d e → Spends mid new → (IsFalse mid.down → IsFalse new.down) → ((disk : ℕ) → mid.disk_faults disk ≤ new.disk_faults disk) → (IsTrue new.tells → IsTrue mid.tells)
+      → after ≡ drop 1 left → IsMore 1 d e → e.log.header.stamp ≤ d.log.header.stamp + 1 → Spends mid new → (IsFalse mid.down → IsFalse new.down) → ((disk : ℕ) → mid.disk_faults disk ≤ new.disk_faults disk) → (IsTrue new.tells → IsTrue mid.tells)
       → LoggedSo us (k + 1) c e m new after
-  logged_more after next left_is more spends up counts told = record {
+  logged_more after next left_is more stamp spends up counts told = record {
     each = λ beside n r can.
         let here = at.each beside n r can in
         let there = next beside (reached n (n.safe + k)) here (next_can n (n.safe + k) can) in
@@ -383,6 +383,7 @@ module _ (us : List Update) (k : ℕ) (c d e : Core) (m mid new : Meaning) (left
         (reached_more n (n.safe + k) (n.safe + k + 1) e after new (omega arith) (omega arith) (omega (arith, there.least, there.most)) there);
     left_is = left_is ∙ ap (λ (vs : List Update). drop 1 vs) at.left_is ∙ drop-drop 1 k us ∙ ap (λ (j : ℕ). drop j us) (let sum : k + 1 ≡ k + 1 = refl in sum);
     more = more_then k 1 (k + 1) c d e refl at.more more;
+    stamp = omega (arith, at.stamp, stamp);
     spends = then_spends m mid new at.spends spends;
     up = λ here. up (at.up here);
     counts = λ disk. let one = at.counts disk in let two = counts disk in omega (arith, one, two);
@@ -392,11 +393,6 @@ module _ (us : List Update) (k : ℕ) (c d e : Core) (m mid new : Meaning) (left
   -- what a later call answers of the site
   pub failed_more : {beside : Beside} (n : Node) (count : ℕ) (after : List Update) (why : No) → IsReceiverAt beside n c us m → CanReceive beside n → LoggedTo beside (reached n (n.safe + k)) 1 after e mid new (Err why) → LoggedTo beside n count after e m new (Err why)
   failed_more n count after (Device disk) r can h = (back_halted n (n.safe + k) disk e after new (omega arith) h.0, rose_later (m.disk_faults disk) (mid.disk_faults disk) (new.disk_faults disk) (at.counts disk) h.1)
-  failed_more n count after (Limit what most) r can h = (
-    h.0,
-    h.1,
-    (h.2.0, omega (arith, h.2.1), h.2.2, reached_more n (n.safe + k) h.2.0 e after new (omega arith) h.2.1 h.2.2 h.2.3),
-  )
   failed_more n count after IsOff r can h = (fused_before n.fuse h.0, back_held n (n.safe + k) new (omega arith) (omega (arith, r.least, r.most)) h.1)
   failed_more n count after other r can h = h
 
@@ -414,6 +410,10 @@ module _ {beside : Beside} (n : Node) (number : ℕ) (c d : Core) (us : List Upd
   applied_done to got h =
       like n (reached n number).base (reached n number).base number number (burned (burned n.fuse)) (burned n.fuse) d us new refl refl (burned_twice n.fuse)
       (as_receiver (reached n number) us n.halted (burned (burned n.fuse)) d new (r.sure running) r.role long_here waits_here h.2)
+
+  -- all of them are in the volumes
+  pub applied_all : (to got : ℕ) → to ≡ number → AppliedAs beside (durable_of (reached n number)) to d mid new (Ok got) → got ≡ number
+  applied_all to got is h = omega (arith, is, h.0, h.1)
 
   pub applied_failed : (count to : ℕ) (why : No) → AppliedAs beside (durable_of (reached n number)) to d mid new (Err why) → LoggedTo beside n count us d m new (Err why)
   applied_failed count to (Device disk) h = (
@@ -455,7 +455,7 @@ module _ {R : Type 0} {g : Ghosts R} where
   by_result beside n count few s new (Ok r) here running is some h =
       subst (λ (a : RAction). ReachedBy a beside n r (Receives new)) (sym (rule_some n count few (is ∙ ap (λ (k : ℕ). min count k) (count_waits n s here running)) some (omega (arith, here.least, here.most)))) h
   by_result beside n count few s new (Err (Device disk)) here running is some h = h
-  by_result beside n count few s new (Err (Limit what most)) here running is some h = h
+  by_result beside n count few s new (Err (Limit what most)) here running is some h = absurd h
   by_result beside n count few s new (Err IsOff) here running is some h = h
   by_result beside n count few s new (Err other) here running is some h = h
 
@@ -474,6 +474,19 @@ module _ {R : Type 0} {g : Ghosts R} where
       subst (λ (a : RAction). ReachedBy a beside n (record { number = head; acks = false }) (Receives s))
       (sym (rule_none n count (sym (ap (λ (k : ℕ). min count k) (count_waits n s here can.running)) ∙ sym few_is ∙ none)))
       (head_is ∙ here.head can.running, refl, receiver_burned n s.rvg.core s.waiting (g.meaning s.rvg.shelf) here)
+
+  -- no number is left for all of them
+  pub reached_full : (beside : Beside) (n : Node) (count few : ℕ) (old : DiskSet R g) (s : Secondary R g) → old ≡ Receives s → few ≡ min count (length s.waiting) → has_numbers s.rvg.core few ≡ false → StandsAt beside n old → CanReceive beside n
+      → ReachedUp beside n count old (Receives s) (Err (Limit Number most_number))
+  reached_full beside n count few old s is few_is full stands can =
+      let here = (let r : IsReceiverAt beside n s.rvg.core s.waiting (g.meaning s.rvg.shelf) = subst (λ (e : DiskSet R g). StandsAt beside n e) is stands in r) in
+      let long = count_waits n s here can.running in (
+        refl,
+        (λ told.
+            let stamp = here.stamp told can.running in
+            ⊎_elim (λ one. omega (arith, one, stamp, few_is, long, here.least, here.most)) (λ two. omega (arith, two, few_is, long, here.least, here.most, here.head can.running)) (lacks_them s.rvg.core few full)),
+        here,
+      )
 
   -- nothing waits at a site that was not started as one that receives
   pub reached_none_up : (beside : Beside) (n : Node) (count head : ℕ) (old : DiskSet R g) (rvg : Rvg R g) → old ≡ Up rvg → head ≡ last_of rvg.core → StandsAt beside n old → CanReceive beside n

@@ -29,15 +29,16 @@ use Rattle.vx_secondary.specs.Receivers.{Wait, writes_of}
 use Rattle.vx_secondary.proofs.Writings.{can_same}
 use Rattle.vx_diskset.proofs.MakeGroup.{fuse_untouched}
 use Rattle.vx_diskset.proofs.ReadGroup.{ReadAs, read_as, reads_up}
-use Rattle.vx_diskset.specs.Received.{ShowedAt, received_content}
+use Rattle.vx_events.specs.Sayings.{received_content}
+use Rattle.vx_diskset.specs.Received.{ShowedAt}
 use Rattle.vx_diskset.specs.Fuses.{HasFuse}
-use Rattle.vx_diskset.specs.Holds.{Beside, HasDoubted, HasWrites, Kept, MayBe, most_with, state_with}
+use Rattle.vx_diskset.specs.Holds.{Beside, HasDoubted, HasWrites, Kept, MayBe, alone, most_with, state_with}
 use Rattle.vx_diskset.specs.Lasts.{FoundWith, StandsWith}
 use Rattle.vx_diskset.specs.Layouts.{units_of}
 use Rattle.vx_diskset.specs.Needs.{TakesAs}
-use Rattle.vx_diskset.specs.Stands.{IsHeldAt, IsReceiverAt, IsUpAt, StandsAt, IsToldAt}
+use Rattle.vx_diskset.specs.Stands.{IsHeldAt, IsReceiverAt, IsUpAt, RoleIs, StandsAt, IsToldAt}
 use Rattle.vx_diskset.specs.Rooms.{AppliedAs}
-use Rattle.vx_diskset.specs.DiskSets.{AppliedUp, ReadAt, halted_at, worked, BareUp, CameUp, CanRead}
+use Rattle.vx_diskset.specs.DiskSets.{AppliedUp, ReadAt, halted_at, worked, BareUp, BareUpBy, CameUp, CameUpBy, CanRead}
 use Rattle.vx_diskset.specs.Keeps.{KeptUp, doubting, restated}
 use Rattle.vx_diskset.specs.declared.disk_set.DiskSet.{DiskSet}
 use Rattle.vx_diskset.specs.declared.disk_set.DiskSet.TheVariants.{Up, Receives}
@@ -456,21 +457,35 @@ module _ {R : Type 0} {g : Ghosts R} where
       (subst (λ (k : Rvg R g). IsReceiverAt beside n k.core [] (g.meaning k.shelf)) (sym group)
       (risen_receiver n rvg.core (g.meaning rvg.shelf) (subst (λ (e : DiskSet R g). StandsAt beside n e) is stands) running whole role))
 
-  pub came_role : {beside : Beside} (n : Node) (mid new : DiskSet R g) → CameUp beside n mid → ((k : Node) → StandsAt beside k mid → k.halted ≡ None → length k.log ≡ k.safe → StandsAt beside k new) → (IsToldAt new → IsToldAt mid) → CameUp beside n new
-  came_role n mid new came rises told = record {
-    node = came.node;
-    is = λ here. came.is (told here);
-    same = came.same;
-    whole = came.whole;
-    stands = rises came.node came.stands came.same.running came.whole;
-    next = λ here. came.next (told here);
+  -- by its role it is an origin
+  pub risen_origin : (beside : Beside) (n : Node) (e : DiskSet R g) (rvg : Rvg R g) → e ≡ Up rvg → is_origin rvg.core.log.header.state.role ≡ true → StandsAt beside n e → is_origin n.role ≡ true
+  risen_origin beside n e rvg is role stands =
+      let up : IsUpAt beside n rvg.core (g.meaning rvg.shelf) = subst (λ (x : DiskSet R g). StandsAt beside n x) is stands in
+      sym (ap (λ (s : State). is_origin s.role) up.kept) ∙ role
+
+  pub came_role : {beside : Beside} (n : Node) (mid new : DiskSet R g) → CameUp beside n mid → ((k : Node) → StandsAt beside k mid → k.halted ≡ None → length k.log ≡ k.safe → StandsAt beside k new) → ((k : Node) → StandsAt beside k mid → RoleIs k new)
+      → (IsToldAt new → IsToldAt mid) → CameUpBy beside n new
+  came_role n mid new came rises role told = record {
+    came = record {
+      node = came.node;
+      is = λ here. came.is (told here);
+      same = came.same;
+      whole = came.whole;
+      stands = rises came.node came.stands came.same.running came.whole;
+      next = λ here. came.next (told here);
+    };
+    role = role came.node came.stands;
   }
 
-  pub bare_role : (n : Node) (mid new : DiskSet R g) → BareUp n mid → ((beside : Beside) (k : Node) → StandsAt beside k mid → k.halted ≡ None → length k.log ≡ k.safe → StandsAt beside k new) → (IsToldAt new → IsToldAt mid) → BareUp n new
-  bare_role n mid new came rises told = record {
-    untold = λ here. came.untold (told here);
-    node = came.node;
-    same = came.same;
-    whole = came.whole;
-    stands = λ beside sure. rises beside came.node (came.stands beside sure) came.same.running came.whole;
+  pub bare_role : (n : Node) (mid new : DiskSet R g) → BareUp n mid → ((beside : Beside) (k : Node) → StandsAt beside k mid → k.halted ≡ None → length k.log ≡ k.safe → StandsAt beside k new) → ((beside : Beside) (k : Node) → StandsAt beside k mid → RoleIs k new)
+      → (IsToldAt new → IsToldAt mid) → BareUpBy n new
+  bare_role n mid new came rises role told = record {
+    came = record {
+      untold = λ here. came.untold (told here);
+      node = came.node;
+      same = came.same;
+      whole = came.whole;
+      stands = λ beside sure. rises beside came.node (came.stands beside sure) came.same.running came.whole;
+    };
+    role = role alone came.node (came.stands alone refl);
   }

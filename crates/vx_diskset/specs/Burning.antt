@@ -5,7 +5,7 @@ use Rattle.vx_model.specs.declared.no.No.TheVariants.{Down as IsDown}
 use Rattle.vx_disk.specs.Disks.{Disks}
 use Rattle.vx_ringio.specs.Spends.{BurntOut, Loses, Passed}
 use Rattle.vx_events.specs.declared.said.Said.{Said}
-use Rattle.vx_events.specs.declared.said.Said.TheVariants.{DoneAt, Refused}
+use Rattle.vx_events.specs.declared.said.Said.TheVariants.{DoneAt, Logged, Refused}
 use Rattle.vx_diskset.specs.DiskSets.{is_off}
 
 -- a shelf is down behind a call that was answered so exactly where the answer is 6
@@ -27,9 +27,10 @@ pub record IsLogged (old new : Disks) : Type 0 where
 abbrev pub NoMore : Disks → Disks → Type 0
 NoMore old new = Unit {0}
 
--- The calls passed: the fuse keeps its pick, and loses none of its calls or some; and this is known where the line is done. Or the line is
--- answered 6, and then the fuse had no call left: the disks are as the crash with its pick left them.
+-- The calls passed: the fuse keeps its pick, and loses none of its calls or some; and this is known where the line is done, also where a link has to
+-- confirm it. Or the line is answered 6, and then the fuse had no call left: the disks are as the crash with its pick left them.
 abbrev pub Burnt : (Disks → Disks → Type 0) → Said → (ℕ → ℕ) → Disks → Disks → Type 0
 Burnt P (DoneAt number) size old new = Passed old new × P old new
+Burnt P (Logged number) size old new = Passed old new × P old new
 Burnt P (Refused IsDown) size old new = BurntOut size old new
 Burnt P other size old new = Passed old new

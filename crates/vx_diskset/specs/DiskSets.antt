@@ -26,7 +26,7 @@ use Rattle.vx_diskset.specs.Holds.{most_header}
 use Rattle.vx_history.specs.Stops.{IsFused}
 use Rattle.vx_events.specs.Fuses.{IsExact}
 use Rattle.vx_diskset.specs.Layouts.{raw_units}
-use Rattle.vx_diskset.specs.Stands.{StandsAt, StandsAlone, CutAt, IsUnused, IsToldAt, faults_at}
+use Rattle.vx_diskset.specs.Stands.{StandsAt, StandsAlone, CutAt, IsUnused, IsToldAt, RoleIs, faults_at}
 
 -- a write that nothing but a failing disk or want of a number can refuse
 pub record CanWrite (n : Node) (volume start count : ℕ) : Type 0 where
@@ -164,6 +164,11 @@ module _ {R : Type 0} {g : Ghosts R} where
     -- there was a further session
     pub next : IsToldAt new → n.session < most_number
 
+  -- the same, with its group as its role has it
+  pub record CameUpBy (beside : Beside) (n : Node) (new : DiskSet R g) : Type 0 where
+    pub came : CameUp beside n new
+    pub role : RoleIs came.node new
+
   -- a site that stays down, maybe in the next session
   abbrev pub StillDown : Beside → Node → DiskSet R g → Type 0
   StillDown beside n new = StandsAt beside n new ⊎ (StandsAt beside (record n { session = n.session + 1 }) new × (n.session < most_number))
@@ -175,6 +180,11 @@ module _ {R : Type 0} {g : Ghosts R} where
   CameUpIs beside n old new (Err (Limit what most)) = (Limit what most ≡ no_number) × (IsToldAt new → most_number ≤ most_header beside n + 2) × StandsAt beside n new
   CameUpIs beside n old new (Err other) = (IsToldAt new → ⊥) × StandsAt beside n new
 
+  -- the same of a site that comes up by its role
+  abbrev pub CameUpByIs : Beside → Node → DiskSet R g → DiskSet R g → Result (Unit {0}) No → Type 0
+  CameUpByIs beside n old new (Ok done) = CameUpBy beside n new
+  CameUpByIs beside n old new (Err why) = CameUpIs beside n old new (Err why)
+
   -- a raw set that an earlier run left on the disks of a bare site: contents are not told
   pub record BareUp (n : Node) (new : DiskSet R g) : Type 0 where
     pub untold : IsToldAt new → ⊥
@@ -183,12 +193,22 @@ module _ {R : Type 0} {g : Ghosts R} where
     pub whole : length node.log ≡ node.safe
     pub stands : (beside : Beside) → beside.doubt ≡ None → StandsAt beside node new
 
+  -- the same, with its group as its role has it
+  pub record BareUpBy (n : Node) (new : DiskSet R g) : Type 0 where
+    pub came : BareUp n new
+    pub role : RoleIs came.node new
+
   -- a bare site whose disks hold nothing, or one of which failed; or, where contents are not told, whatever stands on them
   abbrev pub BareUpIs : Node → DiskSet R g → DiskSet R g → Result (Unit {0}) No → Type 0
   BareUpIs n old new (Ok done) = BareUp n new
   BareUpIs n old new (Err (Device disk)) = ((beside : Beside) → StandsAt beside n new) × RoseAt old new disk
   BareUpIs n old new (Err NoConfig) = (beside : Beside) → StandsAt beside n new
   BareUpIs n old new (Err other) = (IsToldAt new → ⊥) × ((beside : Beside) → StandsAt beside n new)
+
+  -- the same of a site that comes up by its role
+  abbrev pub BareUpByIs : Node → DiskSet R g → DiskSet R g → Result (Unit {0}) No → Type 0
+  BareUpByIs n old new (Ok done) = BareUpBy n new
+  BareUpByIs n old new (Err why) = BareUpIs n old new (Err why)
 
   -- the number up to which all writes are in their volumes, or a failing disk; or its fuse ran out, and then this holds of the site
   abbrev pub AppliedWith : (Node → DiskSet R g → Type 0) → Beside → Node → ℕ → DiskSet R g → DiskSet R g → Result ℕ No → Type 0

@@ -12,3 +12,4 @@ pub mod Pumps
 pub mod Received
 pub mod Rooms
 pub mod Stands
+pub mod Withdrawn

@@ -1,6 +1,5 @@
 -- What the disks of a site that receives promise.
-use Rattle.std.specs.Prelude.{◌≡◌, ℕ, ◌+◌, ◌≤◌, List, true, false, None, drop, length, Result, Ok, Err, IsTrue}
-use Rattle.vx_model.specs.Content.{Content, fold_writes}
+use Rattle.std.specs.Prelude.{◌≡◌, ℕ, ◌+◌, ◌≤◌, List, true, false, None, length, Result, Ok, Err}
 use Rattle.vx_model.specs.Sites.{is_origin}
 use Rattle.vx_model.specs.declared.call.Update.{Update}
 use Rattle.vx_model.specs.declared.no.No.{No}
@@ -20,6 +19,7 @@ use Rattle.vx_disk.specs.declared.shelf.Shelf.{Ghosts}
 use Rattle.vx_rvg.specs.Views.{Core}
 use Rattle.vx_rvg.specs.Contents.{Shows}
 use Rattle.vx_srl.specs.Views.{most_number}
+use Rattle.vx_events.specs.Sayings.{received_content}
 use Rattle.vx_events.specs.declared.said.Said.{Said}
 use Rattle.vx_events.specs.declared.said.Said.TheVariants.{DoneAt, Refused}
 use Rattle.vx_diskset.specs.declared.disk_set.DiskSet.{DiskSet}
@@ -28,10 +28,6 @@ use Rattle.vx_diskset.specs.DiskSets.{CrashedAt, RoseAt, halted_at, no_number, w
 use Rattle.vx_diskset.specs.Holds.{Beside, most_with}
 use Rattle.vx_diskset.specs.Needs.{NoneNeeds}
 use Rattle.vx_diskset.specs.Stands.{CutAt, IsHeldAt, IsReceiverAt, IsToldAt, StandsAt}
-
--- the content of a site after all writes that it received, those that wait included
-abbrev pub received_content : Node → Content
-received_content n = fold_writes n.base (drop n.safe n.log)
 
 -- a site that may apply what it received
 pub record CanReceive (beside : Beside) (n : Node) : Type 0 where
@@ -45,13 +41,10 @@ pub record CanReceive (beside : Beside) (n : Node) : Type 0 where
 abbrev pub reached : Node → ℕ → Node
 reached n number = worked (applied n number n.mark)
 
--- so many of the updates that wait behind its group are logged; or a disk failed, or no number is left behind the first of them; or its fuse ran out
+-- so many of the updates that wait behind its group are logged, for each of which a number is left; or a disk failed, or its fuse ran out
 abbrev pub LoggedTo : Beside → Node → ℕ → List Update → Core → Meaning → Meaning → Result (Unit {0}) No → Type 0
 LoggedTo beside n count us c m new (Ok done) = IsReceiverAt beside (reached n (n.safe + count)) c us new
 LoggedTo beside n count us c m new (Err (Device disk)) = IsReceiverAt beside (halted_at n disk) c us new × Rose (m.disk_faults disk) (new.disk_faults disk)
-LoggedTo beside n count us c m new (Err (Limit what most)) =
-    (Limit what most ≡ no_number) × (IsTrue new.tells → most_number ≤ most_with beside n (length n.log))
-    × ((number : ℕ) × (n.safe ≤ number) × (number ≤ length n.log) × IsReceiverAt beside (reached n number) c us new)
 LoggedTo beside n count us c m new (Err IsDown) = IsFused n.fuse × IsHeldAt beside n new
 LoggedTo beside n count us c m new (Err other) = ⊥
 
@@ -77,13 +70,13 @@ module _ {R : Type 0} {g : Ghosts R} where
   ReachedBy (DataAck number) beside n r new = (r.number ≡ number) × (r.acks ≡ true) × StandsAt beside (reached n number) new
   ReachedBy other beside n r new = (r.number ≡ n.safe) × (r.acks ≡ false) × StandsAt beside (worked n) new
 
-  -- it is applied; or a disk failed, or no number is left behind a first part of it; or the fuse of the site ran out, and then this holds of it
+  -- it is applied; or a disk failed; or no number is left for all of it, and then nothing is; or the fuse of the site ran out, and then this holds
+  -- of it
   abbrev pub ReachedWith : (Node → DiskSet R g → Type 0) → Beside → Node → ℕ → DiskSet R g → DiskSet R g → Result Reached No → Type 0
   ReachedWith Off beside n count old new (Ok r) = ReachedBy (received_step (plain_receiver n) (Applied count)).action beside n r new
   ReachedWith Off beside n count old new (Err (Device disk)) = StandsAt beside (halted_at n disk) new × RoseAt old new disk
   ReachedWith Off beside n count old new (Err (Limit what most)) =
-      (Limit what most ≡ no_number) × (IsToldAt new → most_number ≤ most_with beside n (length n.log))
-      × ((number : ℕ) × (n.safe ≤ number) × (number ≤ length n.log) × StandsAt beside (reached n number) new)
+      (Limit what most ≡ no_number) × (IsToldAt new → most_number ≤ most_with beside n (length n.log)) × StandsAt beside n new
   ReachedWith Off beside n count old new (Err IsDown) = IsFused n.fuse × Off n new
   ReachedWith Off beside n count old new (Err other) = ⊥
 

@@ -1,5 +1,5 @@
 -- A site whose log has room for a write, and how it came to it.
-use Rattle.std.specs.Prelude.{◌≡◌, ℕ, ◌<◌, ◌≤◌, min, List, None, Result, Ok, Err, IsTrue, IsFalse, ◌+◌}
+use Rattle.std.specs.Prelude.{◌≡◌, ℕ, ◌<◌, ◌≤◌, min, List, None, Result, Ok, Err, OnOk, IsTrue, IsFalse, ◌+◌}
 use Rattle.vx_history.specs.World.{Node}
 use Rattle.vx_model.specs.declared.no.No.{No}
 use Rattle.vx_history.specs.Steps.{burned}
@@ -64,3 +64,19 @@ pub record IsMore (count : ℕ) (c c' : Core) : Type 0 where
 abbrev pub count_of : {T : Type 0} → Result T No → ℕ
 count_of (Ok done) = 1
 count_of (Err why) = 0
+
+-- it is not for want of a number that a call was refused
+abbrev pub NeverLimit : {T : Type 0} → Result T No → Type 0
+NeverLimit (Ok done) = Unit {0}
+NeverLimit (Err (Limit what most)) = ⊥
+NeverLimit (Err other) = Unit {0}
+
+-- a stamp and a number are left for each of so many more writes
+pub record HasNumbers (c : Core) (count : ℕ) : Type 0 where
+  pub stamps : c.log.header.stamp + count ≤ most_number
+  pub numbers : last_of c + count ≤ most_number
+
+-- a call that takes one stamp and one number at most: it is not refused for want of one while there is one
+pub record TakesOne {T : Type 0} (c c' : Core) (result : Result T No) : Type 0 where
+  pub never : HasNumbers c 1 → NeverLimit result
+  pub stamp : OnOk result (c'.log.header.stamp ≤ c.log.header.stamp + 1)

@@ -150,6 +150,19 @@ module _ {R : Type 0} {g : Ghosts R} where
   abbrev pub StandsAlone : Node → DiskSet R g → Type 0
   StandsAlone n e = StandsAt alone n e
 
+  -- a site whose group is up without the room in which updates wait is an origin
+  abbrev pub RoleIs : Node → DiskSet R g → Type 0
+  RoleIs n (Bare rack) = Unit {0}
+  RoleIs n (Spoiled rack) = Unit {0}
+  RoleIs n (Up rvg) = is_origin n.role ≡ true
+  RoleIs n (Receives s) = Unit {0}
+  RoleIs n (Down rack) = Unit {0}
+  RoleIs n Gone = Unit {0}
+
+  -- a call that leaves the group of a site with the room in which updates wait, or without it
+  pub record KeepsRole (old new : DiskSet R g) : Type 0 where
+    pub kept : (n : Node) → RoleIs n old → RoleIs n new
+
   -- a group whose shelf is down: a crash leaves the site's writes on its disks
   abbrev pub CutAt : Beside → Node → DiskSet R g → Type 0
   CutAt beside n (Bare rack) = ⊥
@@ -185,3 +198,12 @@ module _ {R : Type 0} {g : Ghosts R} where
   faults_at (Receives s) d = (g.meaning s.rvg.shelf).disk_faults d
   faults_at (Down rack) d = (g.meaning rack).disk_faults d
   faults_at Gone d = 0
+
+  -- all writes up to this number are in the volumes of its group, and none behind it
+  abbrev pub InVolumes : ℕ → DiskSet R g → Type 0
+  InVolumes number (Bare rack) = ⊥
+  InVolumes number (Spoiled rack) = ⊥
+  InVolumes number (Up rvg) = rvg.core.applied ≡ number
+  InVolumes number (Receives s) = s.rvg.core.applied ≡ number
+  InVolumes number (Down rack) = ⊥
+  InVolumes number Gone = ⊥

@@ -3,7 +3,10 @@ ghost use Rattle.std.specs.Prelude.{◌≡◌, ◌≤◌, ◌<◌, IfSome, IsSom
 ghost use Rattle.vx_diskset.specs.Holds.{Beside};
 ghost use Rattle.vx_history.specs.World.{Node};
 ghost use Rattle.vx_diskset.specs.DiskSets.{Later};
-ghost use Rattle.vx_diskset.specs.Stands.{StandsAt};
+ghost use Rattle.vx_diskset.specs.Stands.{KeepsRole, StandsAt};
+ghost use Rattle.vx_rvg.specs.Views.{last_of};
+ghost use Rattle.vx_model.specs.declared.limits.TheConstants.{MOST_NUMBER};
+ghost use Rattle.vx_srlfmt.specs.Headers.{CanSpellState};
 
 use std::alloc::Global;
 use vx_disk::Rack;
@@ -26,6 +29,16 @@ pub enum DiskSet<R: Rack> {
     Down(R),
     /// It was taken out, and comes back within the same line.
     Gone,
+}
+
+// The number of the last write of a group.
+fn last_in<R: Rack>(rvg: &Rvg<R>) -> u64
+    ensures is { result ≡ last_of rvg.now.core }
+    ensures few { result ≤ MOST_NUMBER }
+{
+    // For its bound.
+    let _ring = rvg.ring();
+    rvg.head()
 }
 
 impl<R: Rack> DiskSet<R> {
@@ -64,6 +77,7 @@ impl<R: Rack> DiskSet<R> {
     pub fn fail(&mut self, disk: u64, on: bool)
         ensures stands { (beside : Beside) (n : Node) → StandsAt beside n self.old → StandsAt beside n self.new }
         ensures asked { disk < units_in self.old → SetsDisk disk on self.old self.new }
+        ensures role { KeepsRole self.old self.new }
         ensures later { Later self.old self.new }
     {
         match self {
@@ -82,6 +96,7 @@ impl<R: Rack> DiskSet<R> {
     pub fn fuse(&mut self, calls: u64, pick: u64)
         ensures fused { (beside : Beside) (n : Node) → StandsAt beside n self.old → n.state ≡ UpState → StandsAt beside (record n { fuse = FuseSet calls }) self.new }
         ensures asked { (beside : Beside) (n : Node) → StandsAt beside n self.old → n.state ≡ UpState → SetsFuse calls pick self.old self.new }
+        ensures role { KeepsRole self.old self.new }
         ensures later { Later self.old self.new }
     {
         match self {
@@ -97,6 +112,7 @@ impl<R: Rack> DiskSet<R> {
         ensures asked { (beside : Beside) (n : Node) → StandsAt beside n self → n.state ≡ UpState → CrashesBy pick self result }
         ensures cut { (beside : Beside) (n : Node) → CutAt beside n self → CrashedAt beside n result }
         ensures stopped { MayCrash pick self result }
+        ensures role { KeepsRole self result }
         ensures later { Later self result }
     {
         match self {
@@ -116,11 +132,12 @@ impl<R: Rack> DiskSet<R> {
 
     /// The number of the last write that is durable at a site that is up and runs.
     pub fn last(&self) -> u64
-        ensures { (beside : Beside) (n : Node) → StandsAt beside n self.now → n.state ≡ UpState → n.halted ≡ None → result ≡ n.safe }
+        ensures is { (beside : Beside) (n : Node) → StandsAt beside n self.now → n.state ≡ UpState → n.halted ≡ None → result ≡ n.safe }
+        ensures few { result ≤ MOST_NUMBER }
     {
         match self {
-            DiskSet::Up(rvg) => rvg.head(),
-            DiskSet::Receives(site) => site.rvg.head(),
+            DiskSet::Up(rvg) => last_in(rvg),
+            DiskSet::Receives(site) => last_in(&site.rvg),
             _ => 0,
         }
     }
@@ -129,6 +146,7 @@ impl<R: Rack> DiskSet<R> {
     pub fn state(&self) -> Option<&State>
         ensures is { (beside : Beside) (n : Node) → StandsAt beside n self.now → n.state ≡ UpState → IfSome result (λ state. state.now ≡ state_with n state.now.links) × IsSome result }
         ensures links { (beside : Beside) (n : Node) → StandsAt beside n self.now → n.state ≡ UpState → IsToldAt self.now → IfSome result (λ state. state.now.links ≡ beside.links) }
+        ensures spelled { IfSome result (λ state. CanSpellState state.now) }
     {
         match self {
             DiskSet::Up(rvg) => Some(rvg.state()),
@@ -139,7 +157,8 @@ impl<R: Rack> DiskSet<R> {
 
     /// The session of a site that is up.
     pub fn session(&self) -> u64
-        ensures { (beside : Beside) (n : Node) → StandsAt beside n self.now → n.state ≡ UpState → result ≡ n.session }
+        ensures is { (beside : Beside) (n : Node) → StandsAt beside n self.now → n.state ≡ UpState → result ≡ n.session }
+        ensures few { result ≤ MOST_NUMBER }
     {
         match self {
             DiskSet::Up(rvg) => rvg.session(),

@@ -11,7 +11,7 @@ ghost use Rattle.vx_diskset.specs.Burning.{NoMore, OffIf};
 ghost use Rattle.vx_diskset.specs.DiskSets.{Later};
 ghost use Rattle.vx_diskset.specs.Holds.{Beside};
 ghost use Rattle.vx_diskset.specs.Keeps.{CanKeep, KeptAt, KeptUp, done_by};
-ghost use Rattle.vx_diskset.specs.Stands.{StandsAt};
+ghost use Rattle.vx_diskset.specs.Stands.{KeepsRole, StandsAt};
 
 use crate::DiskSet;
 use crate::writing::is_off;
@@ -47,6 +47,7 @@ impl<R: Rack> DiskSet<R> {
         requires state { CanSpellState state.now }
         ensures kept { (beside : Beside) (n : Node) → StandsAt beside n self.old → CanKeep beside n state.now → KeptAt beside n state.now self.old self.new result }
         ensures called { (beside : Beside) (n : Node) → StandsAt beside n self.old → LeavesFuse NoMore (done_by result) self.old self.new }
+        ensures role { KeepsRole self.old self.new }
         ensures later { Later self.old self.new }
     {
         match self.keep_up(state) {
@@ -66,6 +67,7 @@ impl<R: Rack> DiskSet<R> {
         requires state { CanSpellState state.now }
         ensures kept { (beside : Beside) (n : Node) → StandsAt beside n self.old → CanKeep beside n state.now → KeptUp beside n state.now self.old self.new result }
         ensures called { (beside : Beside) (n : Node) → StandsAt beside n self.old → LeavesFuse NoMore (done_by result) self.old self.new }
+        ensures role { KeepsRole self.old self.new }
         ensures later { Later self.old self.new }
     {
         match self {

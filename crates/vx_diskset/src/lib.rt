@@ -9,6 +9,7 @@ mod receivers;
 mod room;
 mod starting;
 mod units;
+mod withdrawing;
 mod writing;
 
 pub use disk_set::DiskSet;

@@ -1,5 +1,5 @@
 // What a site sends on a link, out of its log.
-ghost use Rattle.std.specs.Prelude.{◌≡◌, ◌≤◌, ◌+◌, ◌&&◌, ℕ, List, None, OnErr, Some, IsTrue, slice_get, true};
+ghost use Rattle.std.specs.Prelude.{◌≡◌, ◌≤◌, ◌+◌, ◌&&◌, ℕ, List, None, OnErr, OnOk, Some, IsTrue, slice_get, true};
 ghost use Rattle.vx_courier.specs.UnderWay.{FlightStands};
 ghost use Rattle.vx_model.specs.declared.site.SiteState.TheVariants.{Up as UpState};
 ghost use Rattle.vx_model.specs.Sites.{is_origin};
@@ -13,7 +13,9 @@ ghost use Rattle.vx_diskset.specs.Asked.{LeavesAlone};
 ghost use Rattle.vx_diskset.specs.DiskSets.{Later};
 ghost use Rattle.vx_diskset.specs.Holds.{Beside, beside_of, links_of};
 ghost use Rattle.vx_diskset.specs.Pumps.{PumpedIs};
-ghost use Rattle.vx_diskset.specs.Stands.{IsUpAt, IsToldAt, StandsAt, faults_at};
+ghost use Rattle.vx_peers.specs.Senders.{SendsMore, pumped_at};
+ghost use Rattle.vx_rvg.specs.Views.{last_of};
+ghost use Rattle.vx_diskset.specs.Stands.{IsToldAt, IsUpAt, KeepsRole, StandsAt, faults_at};
 
 use crate::DiskSet;
 use std::alloc::Global;
@@ -53,6 +55,8 @@ fn pump_group<R: Rack, N: Net>(
         → slice_get (links_of d.world site) k ≡ Some (kept_link link.old.site (d.world.links site link.old.site)) → link.old ≡ plain_link link.old.site (d.world.links site link.old.site) → FlightStands d.world.packets (N.flying flight.old)
         → PumpedIs d.world site link.old.site link.new (N.flying flight.new) (R.meaning rvg.old.shelf).disk_faults (R.meaning rvg.new.shelf).disk_faults result }
     ensures stands { (beside : Beside) (n : Node) → IsUpAt beside n rvg.old.core (R.meaning rvg.old.shelf) → IsUpAt beside n rvg.new.core (R.meaning rvg.new.shelf) }
+    ensures more { OnOk result (SendsMore (N.flying flight.old) (N.flying flight.new)) }
+    ensures rule { OnOk result (link.new ≡ pumped_at link.old (last_of rvg.old.core)) }
     ensures link { OnErr result (link.new ≡ link.old) }
     ensures unsent { OnErr result (N.flying flight.new ≡ N.flying flight.old) }
     ensures still { LeavesAlone (DiskSet.Up rvg.old) (DiskSet.Up rvg.new) }
@@ -80,6 +84,8 @@ impl<R: Rack> DiskSet<R> {
     /// Sends on a live link of an origin by the log what its receiver may lack, as the rule of links has it. `site` is the number of the site. It changes
     /// no disk. Where a write cannot be read nothing is sent, and the link stays as it was.
     ///
+    /// Also where contents are not told it sends packets, if any, and the link is as the rule leaves it.
+    ///
     /// It takes memory for what it sends, and answers so too where a generation is past those that packets carry. Refusals: 20 where the
     /// site is halted, 7 where a read failed. Where contents are not told also 21, of a log that lacks what the link needs, and 22.
     pub fn pump<N: Net>(
@@ -93,9 +99,12 @@ impl<R: Rack> DiskSet<R> {
             → slice_get (links_of d.world site) k ≡ Some (kept_link link.old.site (d.world.links site link.old.site)) → link.old ≡ plain_link link.old.site (d.world.links site link.old.site) → FlightStands d.world.packets (N.flying flight.old)
             → PumpedIs d.world site link.old.site link.new (N.flying flight.new) (faults_at self.old) (faults_at self.new) result }
         ensures stands { (beside : Beside) (n : Node) → StandsAt beside n self.old → StandsAt beside n self.new }
+        ensures more { OnOk result (SendsMore (N.flying flight.old) (N.flying flight.new)) }
+        ensures rule { (beside : Beside) (n : Node) → StandsAt beside n self.old → OnOk result (link.new ≡ pumped_at link.old n.safe) }
         ensures link { OnErr result (link.new ≡ link.old) }
         ensures unsent { OnErr result (N.flying flight.new ≡ N.flying flight.old) }
         ensures still { LeavesAlone self.old self.new }
+        ensures role { KeepsRole self.old self.new }
         ensures later { Later self.old self.new }
     {
         match self {

@@ -1,5 +1,5 @@
 // Calls on the disks of a site that receives.
-ghost use Rattle.std.specs.Prelude.{◌≡◌, ◌≤◌, ◌<◌, ◌+◌, ◌-◌, ◌*◌, ◌%◌, [], ℕ, drop, length, take, None, Some, Err, IfOk, IfErr, OnOk, IsFalse, List};
+ghost use Rattle.std.specs.Prelude.{◌≡◌, ◌≤◌, ◌<◌, ◌+◌, ◌-◌, ◌*◌, ◌%◌, [], ℕ, drop, length, take, true, None, Some, Err, IfOk, IfErr, OnOk, IsFalse, List};
 ghost use Rattle.vx_model.specs.Content.{blocks_in};
 ghost use Rattle.vx_model.specs.declared.limits.TheConstants.{MOST_CALL_BYTES};
 ghost use Rattle.vx_model.specs.declared.site.SiteState.TheVariants.{Up as UpState};
@@ -11,13 +11,14 @@ ghost use Rattle.vx_diskset.specs.Burning.{NoMore, OffIf};
 ghost use Rattle.vx_diskset.specs.DiskSets.{CanRead, Later};
 ghost use Rattle.vx_diskset.specs.Holds.{Beside};
 ghost use Rattle.vx_diskset.specs.Received.{CanReceive, LoggedTo, ReachedAt, ReachedTo, ReachedUp, ShowedAt, reached_by};
-ghost use Rattle.vx_diskset.specs.Rooms.{IsMore, count_of};
-ghost use Rattle.vx_diskset.specs.Stands.{IsReceiverAt, StandsAt};
+ghost use Rattle.vx_diskset.specs.Rooms.{HasNumbers, IsMore, count_of};
+ghost use Rattle.vx_diskset.specs.Stands.{InVolumes, IsReceiverAt, KeepsRole, StandsAt};
 
 use crate::DiskSet;
 use crate::writing::{apply_group, is_off, write_group};
 use vx_disk::Rack;
-use vx_model::No;
+use vx_model::limits::MOST_NUMBER;
+use vx_model::{Counted, No};
 use vx_rvg::Rvg;
 use vx_secondary::Waiting;
 
@@ -32,9 +33,11 @@ pub struct Reached {
 fn log_next<R: Rack>(rvg: &mut Rvg<R>, waiting: &mut Waiting) -> Result<(), No>
     requires waits { Wait rvg.old.core (R.meaning rvg.old.shelf).size waiting.old }
     requires some { 0 < length waiting.old }
+    requires numbers { HasNumbers rvg.old.core 1 }
     ensures logs { (beside : Beside) (n : Node) → IsReceiverAt beside n rvg.old.core waiting.old (R.meaning rvg.old.shelf) → CanReceive beside n
         → LoggedTo beside n 1 waiting.new rvg.new.core (R.meaning rvg.old.shelf) (R.meaning rvg.new.shelf) result }
     ensures left { waiting.new ≡ drop (count_of result) waiting.old }
+    ensures stamp { OnOk result (rvg.new.core.log.header.stamp ≤ rvg.old.core.log.header.stamp + 1) }
     ensures group { IsMore (count_of result) rvg.old.core rvg.new.core }
     ensures spends { Spends (R.meaning rvg.old.shelf) (R.meaning rvg.new.shelf) }
     ensures off { IsFalse (R.meaning rvg.old.shelf).down → OffIf result (R.meaning rvg.new.shelf).down }
@@ -54,6 +57,7 @@ fn log_next<R: Rack>(rvg: &mut Rvg<R>, waiting: &mut Waiting) -> Result<(), No>
 fn log_waiting<R: Rack>(rvg: &mut Rvg<R>, waiting: &mut Waiting, count: u32) -> Result<(), No>
     requires waits { Wait rvg.old.core (R.meaning rvg.old.shelf).size waiting.old }
     requires some { count ≤ length waiting.old }
+    requires numbers { HasNumbers rvg.old.core count }
     ensures logs { (beside : Beside) (n : Node) → IsReceiverAt beside n rvg.old.core waiting.old (R.meaning rvg.old.shelf) → CanReceive beside n
         → LoggedTo beside n count waiting.new rvg.new.core (R.meaning rvg.old.shelf) (R.meaning rvg.new.shelf) result }
     ensures waits { Wait rvg.new.core (R.meaning rvg.new.shelf).size waiting.new }
@@ -71,8 +75,10 @@ fn log_waiting<R: Rack>(rvg: &mut Rvg<R>, waiting: &mut Waiting, count: u32) -> 
 fn apply_oldest<R: Rack>(rvg: &mut Rvg<R>, waiting: &mut Waiting, count: u32) -> Result<Reached, No>
     requires waits { Wait rvg.old.core (R.meaning rvg.old.shelf).size waiting.old }
     requires some { count ≤ length waiting.old }
+    requires numbers { HasNumbers rvg.old.core count }
     ensures reaches { (beside : Beside) (n : Node) → IsReceiverAt beside n rvg.old.core waiting.old (R.meaning rvg.old.shelf) → CanReceive beside n
         → ReachedTo beside n count waiting.new rvg.new.core (R.meaning rvg.old.shelf) (R.meaning rvg.new.shelf) result }
+    ensures brought { (beside : Beside) (n : Node) → IsReceiverAt beside n rvg.old.core waiting.old (R.meaning rvg.old.shelf) → CanReceive beside n → IfOk result (λ r. rvg.new.core.applied ≡ r.number) }
     ensures waits { Wait rvg.new.core (R.meaning rvg.new.shelf).size waiting.new }
     ensures spends { Spends (R.meaning rvg.old.shelf) (R.meaning rvg.new.shelf) }
     ensures off { IsFalse (R.meaning rvg.old.shelf).down → OffIf result (R.meaning rvg.new.shelf).down }
@@ -119,6 +125,7 @@ impl<R: Rack> DiskSet<R> {
         ensures shows { (beside : Beside) (n : Node) → StandsAt beside n self.old → CanRead n volume start (blocks_in into.old)
             → ShowedAt beside n volume start (blocks_in into.old) into.new self.old self.new result }
         ensures still { LeavesAlone self.old self.new }
+        ensures role { KeepsRole self.old self.new }
         ensures later { Later self.old self.new }
     {
         match self {
@@ -140,11 +147,13 @@ impl<R: Rack> DiskSet<R> {
     /// into the volumes. Answers the number up to which all are there, and whether that is to be acknowledged. A site whose fuse runs out
     /// crashes.
     ///
-    /// Refusals: 7 where a disk failed: then the site is halted, and may have some of them in its log; 6 where its fuse ran out; 19 where no
-    /// number is left: then the first of them are applied, maybe none.
+    /// Refusals: 19 where no number is left for one of them, which changes nothing; 7 where a disk failed: then the site is halted, and may
+    /// have some of them in its log; 6 where its fuse ran out.
     pub fn apply_waiting(&mut self, count: u64) -> Result<Reached, No>
         ensures applied { (beside : Beside) (n : Node) → StandsAt beside n self.old → CanReceive beside n → ReachedAt beside n count self.old self.new result }
+        ensures brought { (beside : Beside) (n : Node) → StandsAt beside n self.old → CanReceive beside n → IfOk result (λ r. r.acks ≡ true → InVolumes r.number self.new) }
         ensures called { (beside : Beside) (n : Node) → StandsAt beside n self.old → LeavesFuse NoMore (reached_by result) self.old self.new }
+        ensures role { KeepsRole self.old self.new }
         ensures later { Later self.old self.new }
     {
         match self.apply_received(count) {
@@ -162,7 +171,9 @@ impl<R: Rack> DiskSet<R> {
     // The same, before it crashes.
     fn apply_received(&mut self, count: u64) -> Result<Reached, No>
         ensures applied { (beside : Beside) (n : Node) → StandsAt beside n self.old → CanReceive beside n → ReachedUp beside n count self.old self.new result }
+        ensures brought { (beside : Beside) (n : Node) → StandsAt beside n self.old → CanReceive beside n → IfOk result (λ r. r.acks ≡ true → InVolumes r.number self.new) }
         ensures called { (beside : Beside) (n : Node) → StandsAt beside n self.old → LeavesFuse NoMore (reached_by result) self.old self.new }
+        ensures role { KeepsRole self.old self.new }
         ensures later { Later self.old self.new }
     {
         match self {
@@ -172,6 +183,12 @@ impl<R: Rack> DiskSet<R> {
                     return Ok(Reached {
                         number: site.rvg.head(),
                         acks: false,
+                    });
+                }
+                if !site.rvg.has_numbers(u64::from(few)) {
+                    return Err(No::Limit {
+                        what: Counted::Number,
+                        most: MOST_NUMBER,
                     });
                 }
                 apply_oldest(&mut site.rvg, &mut site.waiting, few)

@@ -149,8 +149,8 @@ fn is_origin(role: &Role) -> bool
 
 impl<R: Rack> DiskSet<R> {
     ghost use Rattle.vx_model.specs.declared.site.SiteState.TheVariants.{Bare as BareState, Down as DownState};
-    ghost use Rattle.vx_diskset.specs.DiskSets.{CameUpIs};
-    ghost use Rattle.vx_diskset.specs.Stands.{IsToldAt, StandsAt};
+    ghost use Rattle.vx_diskset.specs.DiskSets.{BareUpByIs, CameUpByIs, CameUpIs};
+    ghost use Rattle.vx_diskset.specs.Stands.{IsToldAt, RoleIs, StandsAt};
 
     /// Makes a bare site's disks a raw set: disk 0 the log, the last disk the maps, and each disk between a volume.
     pub fn make_raw(self, alloc: Global, site: u32) -> (DiskSet<R>, Result<(), Stop>)
@@ -196,6 +196,7 @@ impl<R: Rack> DiskSet<R> {
     fn by_role(self, waiting: Waiting) -> DiskSet<R>
         requires none { waiting ≡ [] }
         ensures rises { (beside : Beside) (n : Node) → StandsAt beside n self → n.halted ≡ None → length n.log ≡ n.safe → StandsAt beside n result }
+        ensures role { (beside : Beside) (n : Node) → StandsAt beside n self → RoleIs n result }
         ensures told { IsToldAt result → IsToldAt self }
         ensures failing { SameFailing self result }
         ensures later { Later self result }
@@ -216,7 +217,7 @@ impl<R: Rack> DiskSet<R> {
     /// it is refused, the disks crash again.
     pub fn recover_any(self, room: StartRoom, waiting: Waiting) -> (DiskSet<R>, Result<(), No>)
         requires none { waiting ≡ [] }
-        ensures recovered { (beside : Beside) (n : Node) → StandsAt beside n self → n.state ≡ DownState → room.ring ≡ n.ring → CameUpIs beside n self result.0 result.1 }
+        ensures recovered { (beside : Beside) (n : Node) → StandsAt beside n self → n.state ≡ DownState → room.ring ≡ n.ring → CameUpByIs beside n self result.0 result.1 }
         ensures failing { SameFailing self result.0 }
         ensures later { Later self result.0 }
     {
@@ -231,7 +232,7 @@ impl<R: Rack> DiskSet<R> {
     /// Where it is refused, the site stays bare.
     pub fn recover_bare_any(self, room: StartRoom, waiting: Waiting) -> (DiskSet<R>, Result<(), No>)
         requires none { waiting ≡ [] }
-        ensures found { (beside : Beside) (n : Node) → StandsAt beside n self → n.state ≡ BareState → CanBeRaw n.disks n.blocks → room.ring ≡ ring_of n.blocks → BareUpIs n self result.0 result.1 }
+        ensures found { (beside : Beside) (n : Node) → StandsAt beside n self → n.state ≡ BareState → CanBeRaw n.disks n.blocks → room.ring ≡ ring_of n.blocks → BareUpByIs n self result.0 result.1 }
         ensures failing { SameFailing self result.0 }
         ensures later { Later self result.0 }
     {

@@ -15,8 +15,8 @@ ghost use Rattle.vx_diskset.specs.Asked.{LeavesFuse, WritesUnder};
 ghost use Rattle.vx_diskset.specs.Burning.{NoMore, IsLogged, OffIf, said_by};
 ghost use Rattle.vx_diskset.specs.DiskSets.{Later, CanLog, CanWrite, LoggedUp, WroteUp, is_off};
 ghost use Rattle.vx_diskset.specs.Needs.{HasRoom, NoneNeeds};
-ghost use Rattle.vx_diskset.specs.Rooms.{AppliedAs, IsMore, RoomIs, count_of};
-ghost use Rattle.vx_diskset.specs.Stands.{IsUpAt, StandsAlone, StandsAt};
+ghost use Rattle.vx_diskset.specs.Rooms.{AppliedAs, IsMore, NeverLimit, RoomIs, TakesOne, count_of};
+ghost use Rattle.vx_diskset.specs.Stands.{IsUpAt, KeepsRole, StandsAlone, StandsAt};
 
 use crate::DiskSet;
 use std::mem;
@@ -37,6 +37,7 @@ pub(crate) fn apply_group<R: Rack>(rvg: &mut Rvg<R>, to: u64) -> Result<u64, No>
     ensures applied { (beside : Beside) (n : Node) → IsUpAt beside n rvg.old.core (R.meaning rvg.old.shelf) → n.halted ≡ None
         → AppliedAs beside n to rvg.new.core (R.meaning rvg.old.shelf) (R.meaning rvg.new.shelf) result }
     ensures reached { IfOk result (λ number. rvg.new.core.applied ≡ number) }
+    ensures never { NeverLimit result }
     ensures log { OnOk result (rvg.new.core.log ≡ rvg.old.core.log) }
     ensures waiting { (us : List Update) → Wait rvg.old.core (R.meaning rvg.old.shelf).size us → Wait rvg.new.core (R.meaning rvg.new.shelf).size us }
     ensures units { rvg.new.core.units ≡ rvg.old.core.units }
@@ -59,6 +60,7 @@ fn reclaim_group<R: Rack>(rvg: &mut Rvg<R>, to: u64) -> Result<(), No>
         → free_of rvg.old.core.log ≤ MOST_CALL_BLOCKS → RoomIs beside n (R.meaning rvg.old.shelf) rvg.new.core (R.meaning rvg.new.shelf) result }
     ensures room { (beside : Beside) (n : Node) (count : ℕ) → IsUpAt beside n rvg.old.core (R.meaning rvg.old.shelf) → n.halted ≡ None → NoneNeeds beside.links to
         → free_of rvg.old.core.log ≤ MOST_CALL_BLOCKS → count + 1 + taken (drop to n.log) ≤ n.ring → OnOk result (count < free_of rvg.new.core.log) }
+    ensures takes { TakesOne rvg.old.core rvg.new.core result }
     ensures units { rvg.new.core.units ≡ rvg.old.core.units }
     ensures group { IsMore 0 rvg.old.core rvg.new.core }
     ensures spends { Spends (R.meaning rvg.old.shelf) (R.meaning rvg.new.shelf) }
@@ -80,6 +82,7 @@ fn make_room<R: Rack>(rvg: &mut Rvg<R>, count: u64, hold: u64) -> Result<(), No>
     ensures made { (beside : Beside) (n : Node) → IsUpAt beside n rvg.old.core (R.meaning rvg.old.shelf) → n.halted ≡ None → HasRoom beside.links n hold count
         → count ≤ MOST_CALL_BLOCKS → RoomIs beside n (R.meaning rvg.old.shelf) rvg.new.core (R.meaning rvg.new.shelf) result }
     ensures idle { count < free_of rvg.old.core.log → IfErr result (λ no. ⊥) × (rvg.new ≡ rvg.old) }
+    ensures takes { TakesOne rvg.old.core rvg.new.core result }
     ensures units { rvg.new.core.units ≡ rvg.old.core.units }
     ensures group { IsMore 0 rvg.old.core rvg.new.core }
     ensures spends { Spends (R.meaning rvg.old.shelf) (R.meaning rvg.new.shelf) }
@@ -113,6 +116,7 @@ pub(crate) fn write_group<R: Rack>(
     requires whole { length bytes.now % 512 ≡ 0 }
     ensures wrote { (beside : Beside) (n : Node) → StandsAt beside n (DiskSet.Up rvg.old) → CanLog n volume start (blocks_in bytes.now) → HasRoom beside.links n hold (blocks_in bytes.now)
         → LoggedUp beside n (record { volume = volume; start = start; bytes = bytes.now }) (DiskSet.Up rvg.old) (DiskSet.Up rvg.new) result }
+    ensures takes { TakesOne rvg.old.core rvg.new.core result }
     ensures group { IsMore (count_of result) rvg.old.core rvg.new.core }
     ensures spends { Spends (R.meaning rvg.old.shelf) (R.meaning rvg.new.shelf) }
     ensures off { IsFalse (R.meaning rvg.old.shelf).down → OffIf result (R.meaning rvg.new.shelf).down }
@@ -139,12 +143,13 @@ pub(crate) fn write_group<R: Rack>(
 impl<R: Rack> DiskSet<R> {
     ghost use Rattle.vx_diskset.specs.DiskSets.{CanRead, CanApply, ReadAt, WroteAt, AppliedUp, AppliedAt, CrashedAt};
     ghost use Rattle.vx_diskset.specs.Asked.{LeavesAlone, MayCrash};
-    ghost use Rattle.vx_diskset.specs.Stands.{CutAt};
+    ghost use Rattle.vx_diskset.specs.Stands.{CutAt, InVolumes};
 
     /// Crashes the disks of a group whose shelf is down.
     pub(crate) fn fall(&mut self)
         ensures falls { (beside : Beside) (n : Node) → CutAt beside n self.old → CrashedAt beside n self.new }
         ensures stopped { MayCrash 0xffff_ffff_ffff_ffff self.old self.new }
+        ensures role { KeepsRole self.old self.new }
         ensures later { Later self.old self.new }
     {
         let disk_set = mem::replace(self, DiskSet::Gone);
@@ -181,6 +186,7 @@ impl<R: Rack> DiskSet<R> {
         ensures wrote { (beside : Beside) (n : Node) → StandsAt beside n self.old → CanWrite n volume start (blocks_in bytes.now) → HasRoom beside.links n hold (blocks_in bytes.now)
             → WroteAt beside n (record { volume = volume; start = start; bytes = bytes.now }) self.old self.new result }
         ensures called { (beside : Beside) (n : Node) → StandsAt beside n self.old → WritesUnder bytes.now (said_by result) self.old self.new }
+        ensures role { KeepsRole self.old self.new }
         ensures later { Later self.old self.new }
     {
         match self.write_up(volume, start, bytes, hold) {
@@ -204,6 +210,7 @@ impl<R: Rack> DiskSet<R> {
         ensures wrote { (beside : Beside) (n : Node) → StandsAt beside n self.old → CanWrite n volume start (blocks_in bytes.now) → HasRoom beside.links n hold (blocks_in bytes.now)
             → WroteUp beside n (record { volume = volume; start = start; bytes = bytes.now }) self.old self.new result }
         ensures called { (beside : Beside) (n : Node) → StandsAt beside n self.old → WritesUnder bytes.now (said_by result) self.old self.new }
+        ensures role { KeepsRole self.old self.new }
         ensures later { Later self.old self.new }
     {
         match self {
@@ -231,6 +238,7 @@ impl<R: Rack> DiskSet<R> {
         ensures read { (beside : Beside) (n : Node) → StandsAt beside n self.old → CanRead n volume start (blocks_in into.old)
             → ReadAt beside n volume start (blocks_in into.old) into.new self.old self.new result }
         ensures still { LeavesAlone self.old self.new }
+        ensures role { KeepsRole self.old self.new }
         ensures later { Later self.old self.new }
     {
         match self {
@@ -258,7 +266,9 @@ impl<R: Rack> DiskSet<R> {
     /// runs out crashes.
     pub fn apply(&mut self, to: u64) -> Result<u64, No>
         ensures applied { (beside : Beside) (n : Node) → StandsAt beside n self.old → CanApply n → AppliedAt beside n to self.old self.new result }
+        ensures brought { IfOk result (λ number. InVolumes number self.new) }
         ensures called { (beside : Beside) (n : Node) → StandsAt beside n self.old → LeavesFuse NoMore (said_by result) self.old self.new }
+        ensures role { KeepsRole self.old self.new }
         ensures later { Later self.old self.new }
     {
         match self.apply_up(to) {
@@ -276,7 +286,9 @@ impl<R: Rack> DiskSet<R> {
     // The same, before it crashes.
     fn apply_up(&mut self, to: u64) -> Result<u64, No>
         ensures applied { (beside : Beside) (n : Node) → StandsAt beside n self.old → CanApply n → AppliedUp beside n to self.old self.new result }
+        ensures brought { IfOk result (λ number. InVolumes number self.new) }
         ensures called { (beside : Beside) (n : Node) → StandsAt beside n self.old → LeavesFuse NoMore (said_by result) self.old self.new }
+        ensures role { KeepsRole self.old self.new }
         ensures later { Later self.old self.new }
     {
         match self {

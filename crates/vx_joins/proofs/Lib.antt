@@ -3,4 +3,5 @@ pub mod JoinGroup
 pub mod SpellsLinks
 pub mod StoresLink
 pub mod TakesUpdate
+pub mod TookUpdate
 pub mod UpdatesFit

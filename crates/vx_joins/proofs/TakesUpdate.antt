@@ -38,11 +38,11 @@ use Rattle.vx_diskset.specs.Holds.{Beside, HasWrites, most_with, state_with}
 use Rattle.vx_diskset.specs.Lasts.{FoundWith, StandsWith}
 use Rattle.vx_diskset.specs.Layouts.{units_of}
 use Rattle.vx_diskset.specs.Needs.{TakesAs}
-use Rattle.vx_diskset.specs.Stands.{IsReceiverAt, StandsAt}
+use Rattle.vx_diskset.specs.Stands.{IsReceiverAt, RoleIs, StandsAt}
 use Rattle.vx_diskset.specs.declared.disk_set.DiskSet.{DiskSet}
 use Rattle.vx_diskset.specs.declared.disk_set.DiskSet.TheVariants.{Bare, Spoiled, Up, Receives, Down, Gone}
 use Rattle.vx_diskset.proofs.BesideLemmas.{site_sure}
-use Rattle.vx_joins.specs.Deliveries.{DeliveredTo, RoleIs}
+use Rattle.vx_joins.specs.Deliveries.{DeliveredTo}
 
 -- ---- a receiver as its rule sees it
 
@@ -195,7 +195,7 @@ module _ (w : World) (p : Packet) (x : Write) where
 
 -- ---- nothing comes of it
 
-halted_off : (h : Option ℕ) (disk : ℕ) → Some disk ≡ h → is_running h ≡ false
+pub halted_off : (h : Option ℕ) (disk : ℕ) → Some disk ≡ h → is_running h ≡ false
 halted_off h disk is = sym (ap is_running is)
 
 either_way : (a b : Bool) (o z : Outcome) → ((a ≡ false) ⊎ (b ≡ false)) ⊎ (o ≡ z) → (if a && b then o else z) ≡ z
@@ -218,7 +218,7 @@ module _ (w : World) (number : ℕ) (p : Packet) (k : ℕ) (x : Write) (at : pac
       ∙ ap (λ (b : Bool). if b then says w IsIgnored else update_taken w p x (received_step (plain_receiver there) (HearUpdate p.line k)).action) origin
 
   -- it is not up, or is halted, or is an origin
-  ignored_is : ((is_up there.state ≡ false) ⊎ (is_running there.halted ≡ false)) ⊎ (is_origin there.role ≡ true) → behind ≡ says w IsIgnored
+  pub ignored_is : ((is_up there.state ≡ false) ⊎ (is_running there.halted ≡ false)) ⊎ (is_origin there.role ≡ true) → behind ≡ says w IsIgnored
   ignored_is why =
       ap (delivered w number) at
       ∙ ap (gathers p) (either_way (is_up there.state) (is_running there.halted) (heard w p p.message) (says w IsIgnored) (⊎_elim (λ off. inl off) (λ origin. inr (unheard origin)) why))

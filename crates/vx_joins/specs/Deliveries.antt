@@ -1,9 +1,13 @@
 -- What the disks of a site make of the packet of an update that is handed to it.
-use Rattle.std.specs.Prelude.{◌≡◌, ℕ, true}
+use Rattle.std.specs.Prelude.{◌≡◌, ◌⊎◌, ℕ, false}
+use Rattle.vx_model.specs.Content.{Write}
 use Rattle.vx_model.specs.Sites.{is_origin}
-use Rattle.vx_history.specs.Refusals.{Outcome}
-use Rattle.vx_history.specs.World.{Node}
+use Rattle.vx_history.specs.Events.{delivered, packet_at, with_write}
+use Rattle.vx_history.specs.Refusals.{Outcome, says}
+use Rattle.vx_history.specs.Stops.{IsOpen}
+use Rattle.vx_history.specs.World.{Packet, World}
 use Rattle.vx_history.specs.declared.event.Said.{Said}
+use Rattle.vx_history.specs.declared.event.Said.TheVariants.{Ignored as IsIgnored, Taken as IsTaken}
 use Rattle.vx_courier.specs.Together.{AssemblyStands}
 use Rattle.vx_courier.specs.UnderWay.{FlightStands}
 use Rattle.vx_disk.specs.declared.shelf.Shelf.{Ghosts}
@@ -12,18 +16,8 @@ use Rattle.vx_packet.specs.Assemblies.{Assembled}
 use Rattle.vx_diskset.specs.Holds.{Beside}
 use Rattle.vx_diskset.specs.Stands.{StandsAt}
 use Rattle.vx_diskset.specs.declared.disk_set.DiskSet.{DiskSet}
-use Rattle.vx_diskset.specs.declared.disk_set.DiskSet.TheVariants.{Bare, Spoiled, Up, Receives, Down, Gone}
 
 module _ {R : Type 0} {g : Ghosts R} where
-  -- a site whose group is up without the room in which updates wait is an origin
-  abbrev pub RoleIs : Node → DiskSet R g → Type 0
-  RoleIs n (Bare rack) = Unit {0}
-  RoleIs n (Spoiled rack) = Unit {0}
-  RoleIs n (Up rvg) = is_origin n.role ≡ true
-  RoleIs n (Receives s) = Unit {0}
-  RoleIs n (Down rack) = Unit {0}
-  RoleIs n Gone = Unit {0}
-
   -- The packet was delivered to this site: what is said is what the world says; and the disks, who feeds the site, what is in assembly, and
   -- what is under way are what the world has.
   pub record DeliveredTo (o : Outcome) (beside : Beside) (site : ℕ) (e : DiskSet R g) (fed : ℕ) (a : Assembled) (f : Flying) (said : Said) : Type 0 where
@@ -32,3 +26,13 @@ module _ {R : Type 0} {g : Ghosts R} where
     pub fed_by : fed ≡ (o.world.nodes site).fed_by
     pub assembly : AssemblyStands o.world.packets site (o.world.gathering site) a
     pub flight : FlightStands o.world.packets f
+
+  -- What comes of the packet p of an update, whatever is in assembly. A site that is open and receives takes a write of the packet's source, or
+  -- nothing but a part of one; any other ignores it, and nothing changes.
+  pub data TookTo (w : World) (number : ℕ) (p : Packet) (beside : Beside) (e : DiskSet R g) (fed : ℕ) (a a' : Assembled) (f f' : Flying) (said : Said) : Type 0 where
+    TakesOne : IsOpen (w.nodes p.target) → is_origin (w.nodes p.target).role ≡ false → (x : Write) → said ≡ IsTaken
+        → StandsAt beside (with_write (w.nodes p.target) p.source x) e → fed ≡ p.source → TookTo w number p beside e fed a a' f f' said
+    TakesNone : IsOpen (w.nodes p.target) → is_origin (w.nodes p.target).role ≡ false → ((said ≡ IsTaken) ⊎ (said ≡ IsIgnored))
+        → StandsAt beside (w.nodes p.target) e → fed ≡ (w.nodes p.target).fed_by → TookTo w number p beside e fed a a' f f' said
+    IsUnheard : delivered w number (packet_at w.packets number) ≡ says w IsIgnored → said ≡ IsIgnored
+        → StandsAt beside (w.nodes p.target) e → fed ≡ (w.nodes p.target).fed_by → a' ≡ a → f' ≡ f → TookTo w number p beside e fed a a' f f' said

@@ -15,7 +15,7 @@ use Rattle.vx_srl.specs.Views.{most_number}
 use Rattle.vx_diskset.specs.declared.disk_set.DiskSet.{DiskSet}
 use Rattle.vx_diskset.specs.DiskSets.{CrashedAt, RoseAt, halted_at, no_number, worked}
 use Rattle.vx_diskset.specs.Holds.{Beside, Kept, most_header, sure_of}
-use Rattle.vx_diskset.specs.Stands.{IsHeldAt, IsReceiverAt, IsToldAt, IsUpAt, StandsAt}
+use Rattle.vx_diskset.specs.Stands.{IsHeldAt, IsReceiverAt, IsToldAt, IsUpAt, RoleIs, StandsAt}
 
 -- an origin that is up and runs, with nothing logged and no links: nothing but a failing disk or want of a number keeps it from another line
 pub record CanJoin (beside : Beside) (n : Node) : Type 0 where
@@ -46,10 +46,10 @@ JoinedAs beside a p n m c' new (Err IsOff) = IsFused n.fuse × IsHeldAt (joins_i
 JoinedAs beside a p n m c' new (Err other) = ⊥
 
 module _ {R : Type 0} {g : Ghosts R} where
-  -- it stands on the line; or a disk failed, and it may or not; or no number is left; or its fuse ran out, and then this holds of the site that
+  -- it stands on the line, and receives; or a disk failed, and it may or not; or no number is left; or its fuse ran out, and then this holds of the site that
   -- may have come to it or not
   abbrev pub JoinedWith : (Beside → Node → DiskSet R g → Type 0) → Beside → (a : Node) → ℕ → Node → DiskSet R g → DiskSet R g → Result (Unit {0}) No → Type 0
-  JoinedWith Off beside a p n old new (Ok done) = StandsAt (sure_of (joined_anew beside a p n)) (worked (joined a p n)) new
+  JoinedWith Off beside a p n old new (Ok done) = StandsAt (sure_of (joined_anew beside a p n)) (worked (joined a p n)) new × RoleIs (joined a p n) new
   JoinedWith Off beside a p n old new (Err (Device disk)) = StandsAt (joins_in_doubt beside a p n disk) (halted_at n disk) new × RoseAt old new disk
   JoinedWith Off beside a p n old new (Err (Limit what most)) = (Limit what most ≡ no_number) × (IsToldAt new → most_number ≤ most_header beside n) × StandsAt beside n new
   JoinedWith Off beside a p n old new (Err IsOff) = IsFused n.fuse × Off (joins_in_doubt beside a p n 0) (halted_at n 0) new

@@ -15,7 +15,7 @@ ghost use Rattle.vx_diskset.specs.Asked.{LeavesFuse};
 ghost use Rattle.vx_diskset.specs.Burning.{NoMore};
 ghost use Rattle.vx_diskset.specs.DiskSets.{Later};
 ghost use Rattle.vx_diskset.specs.Holds.{Beside, beside_of, links_of, state_with};
-ghost use Rattle.vx_diskset.specs.Stands.{StandsAt};
+ghost use Rattle.vx_diskset.specs.Stands.{KeepsRole, StandsAt};
 ghost use Rattle.vx_joins.specs.Hearings.{HeardAt, IsListening, StoredIs, links_stored, reply_by};
 
 use vx_disk::Rack;
@@ -73,6 +73,7 @@ fn keep_stored<R: Rack>(
     ensures kept { (beside : Beside) (n : Node) → StandsAt beside n disks.old → n.state ≡ UpState → n.halted ≡ None → state.now ≡ state_with n beside.links
         → ((k : ℕ) (x : KeptValue) → slice_get beside.links k ≡ Some x → x.site ≡ to → x.stored ≤ stored) → StoredIs beside n to old stored disks.old disks.new result }
     ensures called { (beside : Beside) (n : Node) → StandsAt beside n disks.old → LeavesFuse NoMore (reply_by result) disks.old disks.new }
+    ensures role { KeepsRole disks.old disks.new }
     ensures later { Later disks.old disks.new }
 {
     if stored <= old {
@@ -112,6 +113,7 @@ pub fn hear<R: Rack, N: Net>(
     ensures called { (beside : Beside) (n : Node) → StandsAt beside n disks.old → LeavesFuse NoMore (reply_by result) disks.old disks.new }
     ensures link { OnErr result (link.new ≡ link.old) }
     ensures assembly { OnErr result (assembly.new ≡ assembly.old) }
+    ensures role { KeepsRole disks.old disks.new }
     ensures later { Later disks.old disks.new }
 {
     let safe = disks.last();

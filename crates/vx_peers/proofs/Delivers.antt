@@ -1,9 +1,9 @@
 -- The packet of an update, as the world has it delivered.
-use Rattle.std.proofs.Common.{◌≡◌, ◌∙◌, ◌⊎◌, inl, inr, ◌+◌, ◌-◌, ◌<◌, ◌≤◌, ℕ, zero, suc, Bool, true, false, List, [], ◌∷◌, ◌++◌, length, map, drop, ap, sym, subst, refl, arith, length-append}
-use Rattle.std.specs.Prelude.{Option, Some, None, Result, Ok, Err, ◌&&◌, slice_get, if◌then◌else◌}
+use Rattle.std.proofs.Common.{◌≡◌, ◌∙◌, ◌⊎◌, inl, inr, ◌+◌, ◌-◌, ◌<◌, ℕ, Bool, true, false, List, [], ◌∷◌, ◌++◌, length, map, drop, ap, sym, subst, refl, arith, length-append}
+use Rattle.std.specs.Prelude.{Option, Some, None, Result, ◌&&◌, slice_get, if◌then◌else◌}
 use Rattle.std.proofs.lemmas.List.{drop-append-le, map-append}
 use Rattle.vx_model.specs.Content.{Write}
-use Rattle.vx_model.specs.Sites.{is_origin, is_up, same_line}
+use Rattle.vx_model.specs.Sites.{is_up, same_line}
 use Rattle.vx_model.specs.declared.call.Update.{Update as Logged}
 use Rattle.vx_model.specs.declared.history.Line.{Line}
 use Rattle.vx_model.specs.declared.no.No.{No}
@@ -14,19 +14,19 @@ use Rattle.vx_history.specs.LinkForms.{plain_receiver}
 use Rattle.vx_history.specs.Receiving.{Received, received_step}
 use Rattle.vx_history.specs.Refusals.{Outcome, is_running, says}
 use Rattle.vx_history.specs.Sends.{packets_of}
-use Rattle.vx_history.specs.World.{Gathering, Message, NetAck, Node, Packet, Update, World, updated, with_node}
+use Rattle.vx_history.specs.World.{Gathering, Message, NetAck, Node, Packet, Update, World, with_node}
 use Rattle.vx_history.specs.declared.event.Said.TheVariants.{Ignored as IsIgnored, Taken as IsTaken}
 use Rattle.vx_history.specs.declared.receiver.RAction.{RAction}
 use Rattle.vx_history.specs.declared.receiver.RAction.TheVariants.{DataAck, Ignored, IgnoredAck, Nothing, Take}
 use Rattle.vx_history.specs.declared.receiver.REvent.TheVariants.{Update as HearUpdate}
 use Rattle.vx_history.specs.declared.receiver.RState.{RState}
 use Rattle.vx_history.proofs.Updates.{at_place, same_line_equal}
-use Rattle.vx_courier.specs.Together.{AreOne, AssemblyStands, ComesFrom, IsPutTo}
+use Rattle.vx_courier.specs.Together.{AreOne, AssemblyStands, IsPutTo}
 use Rattle.vx_courier.specs.UnderWay.{CanFly, FlightStands, carrier, part_carried, way_of}
 use Rattle.vx_courier.proofs.Flying.{place_of_number}
 use Rattle.vx_courier.proofs.Joining.{put_together, stands_later}
 use Rattle.vx_net.specs.Flights.{Flying, greatest, packet_at as bytes_at}
-use Rattle.vx_packet.specs.Assemblies.{Assembled, Held, Takes}
+use Rattle.vx_packet.specs.Assemblies.{Assembled, Takes}
 use Rattle.vx_packet.specs.Messages.{row}
 use Rattle.vx_packet.specs.Packets.{IsPacket, part_of, payload_in}
 use Rattle.vx_packet.specs.declared.assembly.Taken.{Taken}
@@ -40,7 +40,7 @@ use Rattle.vx_rvg.specs.Views.{Core}
 use Rattle.vx_secondary.specs.Answers.{KeptIf, TakeIs, TakenBy, action_of}
 use Rattle.vx_secondary.specs.Receivers.{can_log, receiver_of, write_of}
 use Rattle.vx_peers.proofs.Found.{read_so}
-use Rattle.vx_peers.specs.Receivers.{GatheredBy, GatheredIs, Receives, SendsOn, StandsFor, update_of, waits_now}
+use Rattle.vx_peers.specs.Receivers.{GatheredIs, Receives, SendsOn, StandsFor, update_of, waits_now}
 
 -- ---- what is read of a packet
 

@@ -1,14 +1,11 @@
 -- The packet of a number, as it is found and read.
-use Rattle.std.proofs.Common.{◌≡◌, ◌∙◌, ◌+◌, ◌<◌, ℕ, zero, suc, List, [], ◌∷◌, ◌++◌, ap, sym, subst, refl}
-use Rattle.std.specs.Prelude.{Option, Some, None, slice_get}
-use Rattle.vx_model.specs.declared.history.Line.{Line}
+use Rattle.std.proofs.Common.{◌≡◌, ◌∙◌, ℕ, List, ap, sym, subst, refl}
+use Rattle.std.specs.Prelude.{Option, Some, None}
 use Rattle.vx_history.specs.Events.{packet_at}
-use Rattle.vx_history.specs.World.{Gathering, Packet}
-use Rattle.vx_courier.specs.Together.{AssemblyStands}
+use Rattle.vx_history.specs.World.{Packet}
 use Rattle.vx_courier.specs.UnderWay.{CanFly, FlightStands, carrier, part_carried, way_of}
 use Rattle.vx_courier.proofs.Flying.{at_number, can_fly, place_of_number}
 use Rattle.vx_net.specs.Flights.{Flying, packet_at as bytes_at}
-use Rattle.vx_packet.specs.Assemblies.{Assembled}
 use Rattle.vx_packet.specs.Packets.{IsPacket, part_of}
 use Rattle.vx_packet.specs.declared.message.Envelope.{Envelope}
 use Rattle.vx_packet.specs.declared.message.Message.{Message as Spelled}

@@ -1,14 +1,14 @@
 -- A greeting or an acknowledgement, as the world has it delivered.
-use Rattle.std.proofs.Common.{◌≡◌, ◌∙◌, ◌⊎◌, inl, inr, ◌+◌, ◌<◌, ◌≤◌, ℕ, zero, suc, Bool, true, false, List, ap, sym, subst, refl, arith}
-use Rattle.std.specs.Prelude.{Option, Some, None, ◌&&◌, slice_get, if◌then◌else◌}
+use Rattle.std.proofs.Common.{◌≡◌, ◌∙◌, ◌⊎◌, inl, inr, ℕ, Bool, true, false, List, ap, sym, subst, refl}
+use Rattle.std.specs.Prelude.{Option, Some, None, ◌&&◌, if◌then◌else◌}
 use Rattle.vx_model.specs.Sites.{is_up, same_line}
 use Rattle.vx_model.specs.declared.history.Line.{Line}
 use Rattle.vx_model.specs.declared.link.Link.{Link as PlainLink}
 use Rattle.vx_model.specs.declared.site.SiteState.{SiteState}
-use Rattle.vx_history.specs.Events.{delivered, facts_of, gathered_if, gathers, handed, heard, is_taken, link_heard, packet_at, said_of_link}
+use Rattle.vx_history.specs.Events.{delivered, facts_of, gathered_if, gathers, heard, is_taken, link_heard, packet_at, said_of_link}
 use Rattle.vx_history.specs.Gatherings.{gathered, left_by}
 use Rattle.vx_history.specs.LinkForms.{plain_link, with_plain}
-use Rattle.vx_history.specs.Refusals.{Outcome, is_running, keeps_links, says}
+use Rattle.vx_history.specs.Refusals.{Outcome, is_running, says}
 use Rattle.vx_history.specs.Sending.{Sent, sent_step}
 use Rattle.vx_history.specs.Sends.{is_linked, parts_of, with_link}
 use Rattle.vx_history.specs.World.{DataAck, Gathering, Hello, Link, Message, NetAck, Node, Packet, Update, World, updated}
@@ -21,7 +21,7 @@ use Rattle.vx_history.specs.declared.sender.SEvent.TheVariants as event
 use Rattle.vx_history.specs.declared.sender.SFacts.{SFacts}
 use Rattle.vx_history.proofs.Updates.{at_place}
 use Rattle.vx_courier.specs.Together.{AreOne, AssemblyStands, IsPutTo}
-use Rattle.vx_courier.specs.UnderWay.{CanFly, FlightStands, carrier, part_carried}
+use Rattle.vx_courier.specs.UnderWay.{FlightStands, part_carried}
 use Rattle.vx_courier.proofs.Flying.{place_of_number}
 use Rattle.vx_courier.proofs.Joining.{put_together}
 use Rattle.vx_courier.proofs.Singles.{single_message}

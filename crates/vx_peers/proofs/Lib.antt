@@ -6,3 +6,5 @@ pub mod Found
 pub mod Delivers
 pub mod Hears
 pub mod Links
+pub mod MorePackets
+pub mod GatherWaits

@@ -1,11 +1,10 @@
 -- What an event that comes to a link leaves of it.
-use Rattle.std.proofs.Common.{◌≡◌, ◌∙◌, ◌+◌, ◌≤◌, ℕ, Bool, true, false, ap, sym, subst, refl}
-use Rattle.std.specs.Prelude.{◌&&◌, eqb, ltb, if◌then◌else◌}
+use Rattle.std.proofs.Common.{◌≡◌, ℕ, refl}
+use Rattle.std.specs.Prelude.{◌&&◌, eqb, ltb}
 use Rattle.vx_model.specs.declared.link.Link.{Link as PlainLink}
 use Rattle.vx_history.specs.LinkForms.{plain_link, with_plain}
 use Rattle.vx_history.specs.Sending.{Sent, by_log, sent_step}
 use Rattle.vx_history.specs.World.{Link}
-use Rattle.vx_history.specs.declared.sender.SEvent.{SEvent}
 use Rattle.vx_history.specs.declared.sender.SEvent.TheVariants.{DataAck, Hello, NetAck}
 use Rattle.vx_history.specs.declared.sender.SFacts.{SFacts}
 use Rattle.vx_history.proofs.Updates.{by_test}

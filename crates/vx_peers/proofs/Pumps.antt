@@ -1,6 +1,6 @@
 -- A pump as an event of its link.
-use Rattle.std.proofs.Common.{◌≡◌, ◌∙◌, ◌⊎◌, inl, inr, ◌+◌, ◌-◌, ◌<◌, ◌≤◌, ℕ, zero, suc, Bool, true, false, List, [], ◌∷◌, ◌++◌, length, map, take, drop, ap, sym, subst, refl, arith}
-use Rattle.std.specs.Prelude.{Option, Some, None, ◌&&◌, slice_get, pred, max, min, if◌then◌else◌}
+use Rattle.std.proofs.Common.{◌≡◌, ◌∙◌, ◌⊎◌, inl, inr, ◌+◌, ◌-◌, ◌<◌, ◌≤◌, ℕ, suc, Bool, true, false, List, [], ◌∷◌, ◌++◌, length, map, take, drop, ap, sym, subst, refl, arith}
+use Rattle.std.specs.Prelude.{Some, ◌&&◌, slice_get, pred, max, min, if◌then◌else◌}
 use Rattle.std.proofs.lemmas.List.{append-nil, length-take}
 use Rattle.std.proofs.Math.ListN.{drop_of_length-le}
 use Rattle.circular_buffer.proofs.Places.{slice_get-drop, slice_get-take}

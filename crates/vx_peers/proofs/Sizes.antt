@@ -1,5 +1,5 @@
 -- How many packets an update is.
-use Rattle.std.proofs.Common.{◌≡◌, ◌∙◌, ◌+◌, ◌/◌, ◌≤◌, ℕ, zero, suc, length, ap, arith}
+use Rattle.std.proofs.Common.{◌+◌, ◌/◌, ◌≤◌, ℕ, zero, suc, length, arith}
 use Rattle.std.specs.Prelude.{pred}
 use Rattle.vx_model.specs.declared.call.Update.{Update}
 use Rattle.vx_history.specs.Sends.{parts_of}

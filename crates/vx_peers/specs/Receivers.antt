@@ -1,5 +1,5 @@
 -- The receiving end of a link, over the group of its site.
-use Rattle.std.specs.Prelude.{◌≡◌, ℕ, ◌<◌, ◌≤◌, Bool, true, false, List, ◌++◌, length, map, drop, Option, Some, None, Result, Ok, Err}
+use Rattle.std.specs.Prelude.{◌≡◌, ℕ, ◌<◌, ◌≤◌, Bool, true, false, List, ◌++◌, ◌∷◌, [], ◌⊎◌, length, map, drop, Option, Some, None, Result, Ok}
 use Rattle.vx_model.specs.declared.call.Update.{Update}
 use Rattle.vx_model.specs.declared.history.Line.{Line}
 use Rattle.vx_model.specs.declared.no.No.{No}
@@ -11,6 +11,7 @@ use Rattle.vx_history.specs.Refusals.{Outcome}
 use Rattle.vx_history.specs.Sends.{packets_of}
 use Rattle.vx_history.specs.World.{NetAck, Node, Packet, World}
 use Rattle.vx_history.specs.declared.event.Said.{Said}
+use Rattle.vx_history.specs.declared.event.Said.TheVariants.{Ignored as IsIgnored, Taken as IsTaken}
 use Rattle.vx_history.specs.declared.receiver.RAction.{RAction}
 use Rattle.vx_history.specs.declared.receiver.RAction.TheVariants.{Take}
 use Rattle.vx_courier.specs.Together.{AssemblyStands}
@@ -46,6 +47,11 @@ GatheredBy taken.Whole c size line us new us' result = (m : Message) (u : Update
 abbrev pub GatheredIs : Core → (size : ℕ → ℕ) → Part → List ℕ → List Update → Assembled → List Update → Assembled → Option Bool → Type 0
 GatheredIs c size part payload us a us' a' result = (t : Taken) × (Takes a part payload t a' × GatheredBy t c size part.line us a' us' result)
 
+-- the update waits behind the others where it was whole and taken, and else nothing waits that did not
+abbrev pub WaitsBy : Option Bool → List Update → List Update → Type 0
+WaitsBy (Some true) us us' = (u : Update) × (us' ≡ us ++ u ∷ [])
+WaitsBy other us us' = us' ≡ us
+
 -- the group of a site that receives, what waits behind it, and who feeds it: its rule sees the site, and the writes that wait are those behind
 -- the durable ones
 pub record Receives (n : Node) (c : Core) (us : List Update) (fed : ℕ) : Type 0 where
@@ -66,6 +72,11 @@ pub record StandsFor (o : Outcome) (site : ℕ) (c : Core) (us : List Update) (f
 
 abbrev pub DeliveredAt : World → (site number : ℕ) → Core → List Update → (fed : ℕ) → Assembled → Flying → Said → Type 0
 DeliveredAt w site number c us fed a f said = StandsFor (delivered w number (packet_at w.packets number)) site c us fed a f said
+
+-- What comes of an update of this site, whatever is in assembly: it waits behind the others, and the site feeds the receiver; or none does.
+pub data TookOne (source : ℕ) (us us' : List Update) (fed fed' : ℕ) (said : Said) : Type 0 where
+  OneWaits : (u : Update) → us' ≡ us ++ u ∷ [] → fed' ≡ source → said ≡ IsTaken → TookOne source us us' fed fed' said
+  NoneWaits : us' ≡ us → fed' ≡ fed → ((said ≡ IsTaken) ⊎ (said ≡ IsIgnored)) → TookOne source us us' fed fed' said
 
 -- an acknowledgement from memory was sent
 abbrev pub SendsOn : (source target : ℕ) → Line → (session number : ℕ) → Flying → Flying → Type 0

@@ -1,5 +1,5 @@
 -- The sending end of a link, over the group of its site.
-use Rattle.std.specs.Prelude.{◌≡◌, ℕ, ◌+◌, ◌-◌, ◌<◌, ◌≤◌, List, ◌++◌, map, take, drop, length, Option, Some, slice_get, IsTrue}
+use Rattle.std.specs.Prelude.{◌≡◌, ℕ, ◌+◌, ◌-◌, ◌<◌, List, ◌++◌, map, take, drop, length, true, Some, slice_get, IsTrue}
 use Rattle.vx_model.specs.Content.{Write}
 use Rattle.vx_model.specs.declared.call.Update.{Update}
 use Rattle.vx_model.specs.declared.errors.Stop.{Stop}
@@ -10,9 +10,11 @@ use Rattle.vx_model.specs.declared.no.No.{No}
 use Rattle.vx_model.specs.declared.no.No.TheVariants.{Damaged}
 use Rattle.vx_history.specs.Events.{link_event}
 use Rattle.vx_history.specs.LinkForms.{plain_link}
+use Rattle.vx_history.specs.Sending.{sent_step}
 use Rattle.vx_history.specs.Sends.{updates as updates_of}
 use Rattle.vx_history.specs.World.{Node, Packet, World}
 use Rattle.vx_history.specs.declared.sender.SEvent.{SEvent}
+use Rattle.vx_history.specs.declared.sender.SEvent.TheVariants.{Pump}
 use Rattle.vx_courier.specs.UnderWay.{FlightStands}
 use Rattle.vx_disk.specs.Causes.{DeviceCause}
 use Rattle.vx_disk.specs.Shelf.{Meaning}
@@ -50,6 +52,15 @@ pub record SentRange (h : Holding) (line : Line) (e : Envelope) (from to : ℕ) 
 pub record LinkMoved (w : World) (p s : ℕ) (e : SEvent) (l : PlainLink) (f : Flying) : Type 0 where
   pub link : l ≡ plain_link s ((link_event w p s e).links p s)
   pub flight : FlightStands (link_event w p s e).packets f
+
+-- what is under way is what was, and behind it these packets, each of which bytes can carry
+pub record SendsMore (f f' : Flying) : Type 0 where
+  pub packets : List Packet
+  pub flies : (ps : List Packet) → FlightStands ps f → FlightStands (ps ++ packets) f'
+
+-- the link as its rule leaves it behind a pump, at a site with so many durable writes
+abbrev pub pumped_at : PlainLink → (safe : ℕ) → PlainLink
+pumped_at l safe = (sent_step l Pump (record { safe = safe; line_ok = true })).link
 
 -- ---- refusals of a read
 

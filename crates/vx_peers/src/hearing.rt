@@ -1,10 +1,10 @@
 // A packet of an update, at its receiver.
 ghost use Rattle.std.specs.Prelude.{◌≡◌, None};
 ghost use Rattle.vx_packet.specs.Packets.{IsPacket, payload_in};
-ghost use Rattle.vx_peers.specs.Receivers.{GatheredIs, update_of};
+ghost use Rattle.vx_peers.specs.Receivers.{GatheredIs, WaitsBy, update_of, waits_now};
 
 use vx_disk::Shelf;
-use vx_model::Update;
+use vx_model::{No, Update};
 use vx_packet::{Assembly, Message, Part, Taken};
 use vx_receiver::RAction;
 use vx_secondary::Secondary;
@@ -30,6 +30,16 @@ fn update_in(message: &Message, part: &Part) -> Option<Update>
     }
 }
 
+// Whether an update that was put to a receiver waits now.
+fn waits(answer: &Result<RAction, No>) -> Option<bool>
+    ensures { result ≡ waits_now answer.now }
+{
+    match answer {
+        Ok(RAction::Take { ack: _ }) => Some(true),
+        _ => None,
+    }
+}
+
 /// Puts a part of an update that can be taken to what is in assembly: whether the update is whole now, and waits. None where it is no
 /// update, or none that the group can log.
 pub(crate) fn gather<S: Shelf>(
@@ -41,6 +51,7 @@ pub(crate) fn gather<S: Shelf>(
     requires running { secondary.old.rvg.core.halted ≡ None }
     requires packet { IsPacket bytes.now part.now }
     ensures gathered { GatheredIs secondary.old.rvg.core (S.meaning secondary.old.rvg.shelf).size part.now (payload_in part.now bytes.now) secondary.old.waiting assembly.old secondary.new.waiting assembly.new result }
+    ensures waits { WaitsBy result secondary.old.waiting secondary.new.waiting }
     ensures group { secondary.new.rvg ≡ secondary.old.rvg }
 {
     match assembly.take(bytes, part) {
@@ -48,10 +59,7 @@ pub(crate) fn gather<S: Shelf>(
         Taken::Bad => None,
         Taken::Whole => {
             let update = update_in(assembly.message(), part)?;
-            match secondary.take(&update) {
-                Ok(RAction::Take { ack: _ }) => Some(true),
-                _ => None,
-            }
+            waits(&secondary.take(&update))
         }
     }
 }

@@ -10,7 +10,7 @@ ghost use Rattle.vx_history.specs.Sending.{by_log};
 ghost use Rattle.vx_history.specs.World.{World};
 ghost use Rattle.vx_history.specs.declared.sender.SEvent.TheVariants.{Pump};
 ghost use Rattle.vx_packet.specs.Messages.{IsCounted};
-ghost use Rattle.vx_peers.specs.Senders.{LinkMoved, ReadCause, SendsFrom, SentRange};
+ghost use Rattle.vx_peers.specs.Senders.{LinkMoved, ReadCause, SendsFrom, SendsMore, SentRange, pumped_at};
 ghost use Rattle.vx_ringio.specs.Spends.{Spends};
 ghost use Rattle.vx_rvg.specs.Holdings.{Holding};
 ghost use Rattle.vx_rvg.specs.Stands.{Stands};
@@ -43,6 +43,7 @@ fn send_range<S: Shelf, N: Net>(
     requires number { IsCounted to }
     ensures sent { OnOk result (IsTrue (S.meaning rvg.old.shelf).tells → (h : Holding) → Stands rvg.old.core h (S.meaning rvg.old.shelf)
         → SentRange h rvg.old.core.log.header.state.line envelope.now from to (N.flying flight.old) (N.flying flight.new) × Stands rvg.old.core h (S.meaning rvg.new.shelf)) }
+    ensures more { OnOk result (SendsMore (N.flying flight.old) (N.flying flight.new)) }
     ensures unsent { OnErr result (N.flying flight.new ≡ N.flying flight.old) }
     ensures cause { IfErr result (ReadCause rvg.old.core (S.meaning rvg.old.shelf) (S.meaning rvg.new.shelf)) }
     ensures core { rvg.new.core ≡ rvg.old.core }
@@ -81,6 +82,8 @@ pub fn pump<S: Shelf, N: Net>(
         → link.old ≡ plain_link link.old.site (w.links site link.old.site) → FlightStands w.packets (N.flying flight.old)
         → LinkMoved w site link.old.site Pump link.new (N.flying flight.new)) }
     ensures stands { OnOk result ((h : Holding) → Stands rvg.old.core h (S.meaning rvg.old.shelf) → IsTrue (S.meaning rvg.old.shelf).tells → Stands rvg.old.core h (S.meaning rvg.new.shelf)) }
+    ensures more { OnOk result (SendsMore (N.flying flight.old) (N.flying flight.new)) }
+    ensures rule { OnOk result (link.new ≡ pumped_at link.old (last_of rvg.old.core)) }
     ensures link { OnErr result (link.new ≡ link.old) }
     ensures unsent { OnErr result (N.flying flight.new ≡ N.flying flight.old) }
     ensures cause { IfErr result (ReadCause rvg.old.core (S.meaning rvg.old.shelf) (S.meaning rvg.new.shelf)) }

@@ -1,5 +1,5 @@
 -- What the calls of a replicated volume group answer.
-use Rattle.std.specs.Prelude.{◌≡◌, ℕ, ◌+◌, ◌<◌, min, max, Option, Some, None, Result, Ok, Err, List, [], ◌++◌, length, drop, ltb, leb, if◌then◌else◌, MatchOption, IsTrue}
+use Rattle.std.specs.Prelude.{◌≡◌, ℕ, ◌+◌, ◌<◌, ◌&&◌, Bool, min, max, Option, Some, None, Result, Ok, Err, List, [], ◌++◌, length, drop, ltb, leb, if◌then◌else◌, MatchOption, IsTrue}
 use Rattle.vx_model.specs.Answer.{is_too_large}
 use Rattle.vx_model.specs.Content.{blocks_in, block_of}
 use Rattle.vx_model.specs.declared.no.No.{No}
@@ -20,6 +20,10 @@ use Rattle.vx_srl.specs.declared.errors.SrlNo.{SrlNo}
 use Rattle.vx_srl.specs.declared.errors.SrlNo.TheVariants.{Other}
 use Rattle.vx_overlay.specs.Writes.{entries_at}
 use Rattle.vx_rvg.specs.Views.{Core, last_of}
+
+-- whether a stamp and a number are left for each of so many more headers and writes
+abbrev pub has_numbers : Core → ℕ → Bool
+has_numbers c count = leb (c.log.header.stamp + count) most_number && leb (last_of c + count) most_number
 
 -- a halted group answers 20 first
 abbrev pub unless_halted : Option ℕ → Option No → Option No

@@ -9,11 +9,12 @@ ghost use Rattle.vx_ringio.specs.Bodies.{IsBlocks};
 ghost use Rattle.vx_disk.specs.Burns.{FallsShort, MakesCalls};
 ghost use Rattle.vx_ringio.specs.Spends.{MakesAtLeast, Spends};
 ghost use Rattle.vx_rvg.specs.Contents.{Shows};
-ghost use Rattle.vx_rvg.specs.Groups.{write_refusal, read_refusal, WriteIs, ReadIs};
+ghost use Rattle.vx_rvg.specs.Groups.{has_numbers, write_refusal, read_refusal, WriteIs, ReadIs};
 ghost use Rattle.vx_rvg.specs.Holdings.{Holding, blocks_taken, with_writes};
 ghost use Rattle.vx_rvg.specs.Stands.{Stands, Writing};
 ghost use Rattle.vx_rvg.specs.Views.{IsSound, unit_of, last_of};
 ghost use Rattle.vx_srl.specs.Views.{BodyFits, free_of, need_of, next_of, used_above};
+ghost use Rattle.vx_srlfmt.specs.Headers.{CanSpellState};
 
 use crate::RvgCore;
 use crate::patch::patch;
@@ -183,14 +184,26 @@ impl<S: Shelf> Rvg<S> {
 
     /// How often its log was started, its making counted.
     pub fn session(&self) -> u64
-        ensures { result ≡ self.now.core.log.header.incarnation }
+        ensures is { result ≡ self.now.core.log.header.incarnation }
+        ensures few { result ≤ MOST_NUMBER }
     {
         self.core.srl.session()
     }
 
+    /// Whether its log can take so many more headers and writes: a stamp and a number are left for each.
+    pub fn has_numbers(&self, count: u64) -> bool
+        ensures { result ≡ has_numbers self.now.core count }
+    {
+        // For its bound.
+        let _low = self.core.srl.low();
+        let head = self.core.srl.head();
+        self.core.srl.has_stamps(count) && head <= MOST_NUMBER - count
+    }
+
     /// What its log keeps of the site.
     pub fn state(&self) -> &State
-        ensures { result.now ≡ self.now.core.log.header.state }
+        ensures is { result.now ≡ self.now.core.log.header.state }
+        ensures spelled { CanSpellState result.now }
     {
         self.core.srl.state()
     }

@@ -2,7 +2,8 @@
 ghost use Rattle.std.specs.Prelude.{◌≡◌, ◌+◌, ◌<◌, ◌≤◌, [], length};
 ghost use Rattle.std.specs.VecDeque.{deque_capacity};
 ghost use Rattle.vx_srl.specs.Kepts.{IsKept};
-ghost use Rattle.vx_srl.specs.Views.{IsOrdered, IsFront, free_of, head_of, next_of, used_above, all_of};
+ghost use Rattle.vx_srl.specs.Views.{IsOrdered, IsFront, free_of, head_of, next_of, used_above, all_of, most_number};
+ghost use Rattle.vx_srlfmt.specs.Headers.{CanSpellState};
 
 use crate::Kept;
 use std::collections::VecDeque;
@@ -95,14 +96,16 @@ impl Srl {
 
     /// How often the log was started, its making counted.
     pub fn session(&self) -> u64
-        ensures { result ≡ self.now.header.incarnation }
+        ensures is { result ≡ self.now.header.incarnation }
+        ensures few { result ≤ most_number }
     {
         self.header.incarnation
     }
 
     /// What the log keeps of its site.
     pub fn state(&self) -> &State
-        ensures { result.now ≡ self.now.header.state }
+        ensures is { result.now ≡ self.now.header.state }
+        ensures spelled { CanSpellState result.now }
     {
         &self.header.state
     }

@@ -1,5 +1,5 @@
 // The calls that write a header: a new state, a raised low number, an emptied log.
-ghost use Rattle.std.specs.Prelude.{◌≡◌, ◌⊎◌, ◌+◌, ◌-◌, ◌<◌, ◌≤◌, ◌%◌, [], length, take, drop, true, Ok, Err, OnOk};
+ghost use Rattle.std.specs.Prelude.{◌≡◌, ◌⊎◌, ◌+◌, ◌-◌, ◌<◌, ◌≤◌, ◌%◌, [], length, take, drop, leb, true, Ok, Err, OnOk};
 ghost use Rattle.vx_ringio.specs.Classes.{is_of_ring};
 ghost use Rattle.vx_ringio.specs.Spends.{Spends};
 ghost use Rattle.vx_ringio.specs.Tracks.{Lies, Follows, Arrives};
@@ -169,6 +169,13 @@ impl Srl {
         ensures { result ≡ can_restart self.now head }
     {
         self.header.stamp < MOST_NUMBER && self.header.run < MOST_NUMBER && head < MOST_NUMBER
+    }
+
+    /// Whether so many more headers can be written: a stamp is left for each.
+    pub fn has_stamps(&self, count: u64) -> bool
+        ensures { result ≡ leb (self.now.header.stamp + count) most_number }
+    {
+        count <= MOST_NUMBER && self.header.stamp <= MOST_NUMBER - count
     }
 
     /// Empties the log, and sets its state and the number of its last record, in one write of the header.

@@ -1,9 +1,12 @@
 -- What waits is logged and applied, case by case.
-use Rattle.std.proofs.Common.{◌+◌, ◌∙◌, ℕ, arith, refl}
+use Rattle.std.proofs.Common.{◌≡◌, ◌+◌, ◌∙◌, ℕ, arith, refl, subst, sym}
+use Rattle.std.specs.Prelude.{IfOk, Result}
+use Rattle.vx_model.specs.declared.no.No.{No}
+use Rattle.vx_diskset.specs.declared.receivers.Reached.{Reached}
 use Rattle.std.proofs.lemmas.Result.{err_from_is_err_and}
 use Rattle.vx_ringio.proofs.Spending.{then_spends}
 use Rattle.vx_diskset.specs.Received.{reached}
-use Rattle.vx_diskset.proofs.Reaching.{applied_done, applied_failed}
+use Rattle.vx_diskset.proofs.Reaching.{applied_all, applied_done, applied_failed}
 use Rattle.vx_diskset.proofs.Receiving.{durable_of, receiver_up}
 use Rattle.vx_diskset.proofs.receivers.apply_oldest.Goals as goal
 
@@ -56,3 +59,24 @@ returns-in_err-apply_group-clause-waits g c = c.apply_group.ensures.waiting c.lo
 
 pub returns-clause-waits : goal.returns-clause-waits
 returns-clause-waits g c = c.apply_group.ensures.waiting c.log_waiting.new.waiting c.log_waiting.ensures.waits
+
+pub returns-in_err-log_waiting-clause-brought : goal.returns-in_err-log_waiting-clause-brought
+returns-in_err-log_waiting-clause-brought g c = λ beside n r can.
+    let p = err_from_is_err_and c.from_residual.result c.from_residual.ensures.1 in
+    subst (λ (a : Result Reached No). IfOk a (λ (x : Reached). c.log_waiting.new.rvg.core.applied ≡ x.number)) (sym p.1) tt
+
+pub returns-in_err-apply_group-clause-brought : goal.returns-in_err-apply_group-clause-brought
+returns-in_err-apply_group-clause-brought g c = λ beside n r can.
+    let p = err_from_is_err_and c.from_residual-in_err-apply_group.result c.from_residual-in_err-apply_group.ensures.1 in
+    subst (λ (a : Result Reached No). IfOk a (λ (x : Reached). c.apply_group.new.rvg.core.applied ≡ x.number)) (sym p.1) tt
+
+pub returns-clause-brought : goal.returns-clause-brought
+returns-clause-brought g c = λ beside n r can.
+    let lawful = (g.met.R.Shelf g.world.𝓛 g.world.𝓜 g.world.𝓡 ((λ s x. x), (λ x. x), (λ x. x), λ x. x)).lawful in
+    let number : ℕ = n.safe + c.args.count in
+    let here = c.in_ok-log_waiting.ensures.logs beside n r can in
+    c.in_ok-apply_group.ensures.reached
+    ∙ applied_all n number c.log_waiting.new.rvg.core c.apply_group.new.rvg.core c.log_waiting.new.waiting (g.R.Shelf.meaning c.args.rvg.now.shelf) (g.R.Shelf.meaning c.log_waiting.new.rvg.shelf) (g.R.Shelf.meaning c.apply_group.new.rvg.shelf) (omega arith) (omega (arith, r.least, r.most)) here can.running
+    c.log_waiting.ensures.later.counts c.head-number.result c.in_ok-apply_group.field-0 (c.head-number.ensures ∙ here.head can.running)
+    (c.in_ok-apply_group.ensures.applied beside (durable_of (reached n number)) (receiver_up (reached n number) c.log_waiting.new.rvg.core c.log_waiting.new.waiting (g.R.Shelf.meaning c.log_waiting.new.rvg.shelf) here can.running (lawful c.log_waiting.new.rvg.shelf) c.log_waiting.new.rvg.sound.log_unit) can.running)
+    ∙ sym (c.head-number.ensures ∙ here.head can.running)

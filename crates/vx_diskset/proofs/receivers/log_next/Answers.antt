@@ -25,6 +25,7 @@ returns-in_err-write_group-clause-logs g c = λ beside n r can.
     let p = err_from_is_err_and c.from_residual.result c.from_residual.ensures.1 in
     rw (p.1, p.2)
     (next_failed n c.args.rvg.now.core c.args.waiting.now _ u (g.R.Shelf.meaning c.args.rvg.now.shelf) r can front c.args.rvg.now c.write_group.new.rvg c.in_err-write_group.field-0.0
+    (c.in_err-write_group.ensures.takes.never c.requires.numbers)
     (subst (λ b. LoggedUp beside (durable_of n) (let w : Write = record { volume = u.vol; start = u.block; bytes = b } in w) (Up c.args.rvg.now) (Up c.write_group.new.rvg) (Err c.in_err-write_group.field-0.0)) c.as_bytes-bytes.ensures.bytes
     (c.in_err-write_group.ensures.wrote beside (durable_of n) up (subst (λ b. CanLog (durable_of n) u.vol u.block (blocks_in b)) (sym c.as_bytes-bytes.ensures.bytes) able)
     (subst (λ b. HasRoom beside.links (durable_of n) c.head-last.result (blocks_in b)) (sym c.as_bytes-bytes.ensures.bytes) room))))

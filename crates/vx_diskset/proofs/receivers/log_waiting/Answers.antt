@@ -5,7 +5,7 @@ use Rattle.vx_ringio.proofs.Spending.{then_spends}
 use Rattle.vx_secondary.specs.Receivers.{Wait}
 use Rattle.vx_diskset.specs.Received.{reached}
 use Rattle.vx_diskset.specs.Stands.{IsReceiverAt}
-use Rattle.vx_diskset.proofs.Reaching.{failed_more, logged_more, logged_none, next_can, some_waits, still_waits}
+use Rattle.vx_diskset.proofs.Reaching.{failed_more, logged_more, logged_none, next_can, numbers_left, some_waits, still_waits}
 use Rattle.vx_diskset.proofs.Mores.{wait_more}
 use Rattle.vx_diskset.proofs.receivers.log_waiting.Goals as goal
 
@@ -24,7 +24,7 @@ log_next-requires-clause-some g c κs within =
 pub loop-preserved : goal.loop-preserved
 loop-preserved g c =
     logged_more c.args.waiting.now c.loop.counter c.args.rvg.now.core c.loop.rvg.core c.log_next.new.rvg.core (g.R.Shelf.meaning c.args.rvg.now.shelf) (g.R.Shelf.meaning c.loop.rvg.shelf) (g.R.Shelf.meaning c.log_next.new.rvg.shelf) c.loop.waiting c.loop.invariant
-    c.log_next.new.waiting c.in_ok-log_next.ensures.logs c.in_ok-log_next.ensures.left c.in_ok-log_next.ensures.group c.log_next.ensures.spends c.in_ok-log_next.ensures.off c.log_next.ensures.later.counts c.log_next.ensures.later.told
+    c.log_next.new.waiting c.in_ok-log_next.ensures.logs c.in_ok-log_next.ensures.left c.in_ok-log_next.ensures.group c.in_ok-log_next.ensures.stamp c.log_next.ensures.spends c.in_ok-log_next.ensures.off c.log_next.ensures.later.counts c.log_next.ensures.later.told
 
 pub returns-in_err-log_next-clause-logs : goal.returns-in_err-log_next-clause-logs
 returns-in_err-log_next-clause-logs g c = λ beside n r can.
@@ -63,3 +63,8 @@ returns-clause-logs g c = λ beside n r can.
 
 pub returns-clause-waits : goal.returns-clause-waits
 returns-clause-waits g c = still_waits c.args.waiting.now c.loop.counter c.args.rvg.now.core c.loop.rvg.core c.loop.rvg.core (g.R.Shelf.meaning c.args.rvg.now.shelf) (g.R.Shelf.meaning c.loop.rvg.shelf) (g.R.Shelf.meaning c.loop.rvg.shelf) c.loop.waiting c.loop.invariant c.requires.waits
+
+pub log_next-requires-clause-numbers : goal.log_next-requires-clause-numbers
+log_next-requires-clause-numbers g c κs within =
+    numbers_left c.args.waiting.now c.loop.counter c.args.rvg.now.core c.loop.rvg.core c.loop.rvg.core (g.R.Shelf.meaning c.args.rvg.now.shelf) (g.R.Shelf.meaning c.loop.rvg.shelf) (g.R.Shelf.meaning c.loop.rvg.shelf) c.loop.waiting c.loop.invariant
+    c.args.count (omega (arith, c.loop-test.true)) c.requires.numbers

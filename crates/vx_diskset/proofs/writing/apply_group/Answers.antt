@@ -7,6 +7,7 @@ use Rattle.vx_diskset.proofs.CallsBurn.{apply_off}
 use Rattle.vx_diskset.proofs.MakeRoom.{apply_log}
 use Rattle.vx_diskset.proofs.Receiving.{wait_applied}
 use Rattle.vx_diskset.proofs.Mores.{more_applied}
+use Rattle.vx_diskset.proofs.LeavesNumbers.{apply_never}
 use Rattle.vx_diskset.proofs.writing.apply_group.Goals as goal
 
 pub returns-then-is_down-clause-applied : goal.returns-then-is_down-clause-applied
@@ -51,3 +52,6 @@ returns-then-is_down-clause-group g c = more_applied (unless_halted c.args.rvg.n
 
 pub returns-clause-group : goal.returns-clause-group
 returns-clause-group g c = more_applied (unless_halted c.args.rvg.now.core.halted None) c.args.rvg.now.core c.apply-answer.new.self.core c.args.to (g.R.Shelf.meaning c.args.rvg.now.shelf) (g.R.Shelf.meaning c.apply-answer.new.self.shelf) c.apply-answer.result c.apply-answer.ensures.answers
+
+pub returns-clause-never : goal.returns-clause-never
+returns-clause-never g c = apply_never c.args.rvg.now.core c.args.to (g.R.Shelf.meaning c.args.rvg.now.shelf) (g.R.Shelf.meaning c.apply-answer.new.self.shelf) c.apply-answer.new.self.core c.apply-answer.result c.apply-answer.ensures.answers

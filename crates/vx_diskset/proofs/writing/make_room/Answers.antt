@@ -8,6 +8,7 @@ use Rattle.vx_diskset.specs.DiskSets.{worked}
 use Rattle.vx_diskset.proofs.MakeRoom.{room_unapplied, room_later, room_again, room_after}
 use Rattle.vx_ringio.proofs.Spending.{spends_none, then_spends}
 use Rattle.vx_diskset.proofs.Mores.{more_after, more_none}
+use Rattle.vx_diskset.proofs.LeavesNumbers.{never_as, numbers_log}
 use Rattle.vx_diskset.proofs.writing.make_room.Goals as goal
 
 pub returns-in_err-apply_group-clause-made : goal.returns-in_err-apply_group-clause-made
@@ -92,3 +93,29 @@ returns-then-free-count-2-clause-group g c = more_after 0 c.args.rvg.now.core c.
 
 pub returns-else-free-count-2-clause-group : goal.returns-else-free-count-2-clause-group
 returns-else-free-count-2-clause-group g c = more_after 0 c.args.rvg.now.core c.apply_group.new.rvg.core c.reclaim_group.new.rvg.core c.apply_group.ensures.group c.reclaim_group.ensures.group
+
+pub returns-then-free-count-clause-takes : goal.returns-then-free-count-clause-takes
+returns-then-free-count-clause-takes g c = record { never = λ has. tt; stamp = omega arith }
+
+pub returns-in_err-apply_group-clause-takes : goal.returns-in_err-apply_group-clause-takes
+returns-in_err-apply_group-clause-takes g c =
+    let p = err_from_is_err_and c.from_residual.result c.from_residual.ensures.1 in
+    rw (p.1, p.2) (record { never = λ has. never_as ℕ (Unit {0}) c.in_err-apply_group.field-0.0 c.in_err-apply_group.ensures.never; stamp = tt })
+
+pub returns-in_err-reclaim_group-clause-takes : goal.returns-in_err-reclaim_group-clause-takes
+returns-in_err-reclaim_group-clause-takes g c =
+    let p = err_from_is_err_and c.from_residual-in_err-reclaim_group.result c.from_residual-in_err-reclaim_group.ensures.1 in
+    rw (p.1, p.2)
+    (record {
+      never = λ has. c.in_err-reclaim_group.ensures.takes.never (numbers_log c.args.rvg.now.core c.apply_group.new.rvg.core 1 c.in_ok-apply_group.ensures.log has);
+      stamp = tt;
+    })
+
+pub returns-then-free-count-2-clause-takes : goal.returns-then-free-count-2-clause-takes
+returns-then-free-count-2-clause-takes g c = record {
+  never = λ has. tt;
+  stamp = omega (arith, c.in_ok-reclaim_group.ensures.takes.stamp, ap (λ (l : Log). l.header.stamp) c.in_ok-apply_group.ensures.log);
+}
+
+pub returns-else-free-count-2-clause-takes : goal.returns-else-free-count-2-clause-takes
+returns-else-free-count-2-clause-takes g c = record { never = λ has. tt; stamp = tt }

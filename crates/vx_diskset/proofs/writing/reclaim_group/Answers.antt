@@ -4,6 +4,7 @@ use Rattle.vx_rvg.specs.Saves.{reclaim_refusal, reclaimed}
 use Rattle.vx_diskset.proofs.MakeRoom.{reclaimed_as, reclaim_cut, roomed_at, save_units}
 use Rattle.vx_diskset.proofs.CallsBurn.{reclaim_off}
 use Rattle.vx_diskset.proofs.Mores.{more_reclaimed}
+use Rattle.vx_diskset.proofs.LeavesNumbers.{reclaim_takes}
 use Rattle.vx_diskset.proofs.writing.reclaim_group.Goals as goal
 
 pub returns-then-is_down-clause-made : goal.returns-then-is_down-clause-made
@@ -58,4 +59,12 @@ returns-then-is_down-clause-group g c =
 pub returns-clause-group : goal.returns-clause-group
 returns-clause-group g c =
     more_reclaimed (reclaim_refusal c.args.rvg.now.core c.args.to) c.args.rvg.now.core c.reclaim-answer.new.self.core c.args.to (g.R.Shelf.meaning c.args.rvg.now.shelf) (g.R.Shelf.meaning c.reclaim-answer.new.self.shelf) c.reclaim-answer.result c.ring-ring.ensures.low
+    (omega (arith, c.requires.applied, c.args.rvg.now.sound.known)) c.reclaim-answer.ensures.answers
+
+pub returns-then-is_down-clause-takes : goal.returns-then-is_down-clause-takes
+returns-then-is_down-clause-takes g c = record { never = λ has. tt; stamp = tt }
+
+pub returns-clause-takes : goal.returns-clause-takes
+returns-clause-takes g c =
+    reclaim_takes c.args.rvg.now.core c.args.to (g.R.Shelf.meaning c.args.rvg.now.shelf) (g.R.Shelf.meaning c.reclaim-answer.new.self.shelf) c.reclaim-answer.new.self.core c.reclaim-answer.result c.ring-ring.ensures.low
     (omega (arith, c.requires.applied, c.args.rvg.now.sound.known)) c.reclaim-answer.ensures.answers

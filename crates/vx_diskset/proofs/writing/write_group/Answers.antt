@@ -17,6 +17,7 @@ use Rattle.vx_ringio.proofs.Spending.{spends_none}
 use Rattle.vx_rvg.specs.Views.{unit_of}
 use Rattle.vx_diskset.specs.Rooms.{IsMore, count_of}
 use Rattle.vx_diskset.proofs.Mores.{more_after, more_down, more_none, more_written}
+use Rattle.vx_diskset.proofs.LeavesNumbers.{never_as, write_takes}
 use Rattle.vx_diskset.proofs.writing.write_group.Goals as goal
 
 pub returns-then-head-ge-MOST_NUMBER-clause-wrote : goal.returns-then-head-ge-MOST_NUMBER-clause-wrote
@@ -153,3 +154,19 @@ pub returns-clause-off : goal.returns-clause-off
 returns-clause-off g c = λ up.
     write_off c.make_room.new.rvg.core c.args.volume _ c.args.start (blocks_in c.args.bytes.now) c.args.bytes.now (g.R.Shelf.meaning c.make_room.new.rvg.shelf) (g.R.Shelf.meaning c.write-answer.new.self.shelf) c.write-answer.new.self.core c.write-answer.result
     (sym c.is_down.ensures ∙ c.if-is_down.false) c.write-answer.ensures.answers
+
+pub returns-then-head-ge-MOST_NUMBER-clause-takes : goal.returns-then-head-ge-MOST_NUMBER-clause-takes
+returns-then-head-ge-MOST_NUMBER-clause-takes g c = record { never = λ has. absurd (omega (arith, has.numbers, c.if-head-ge-MOST_NUMBER.true, c.head.ensures)); stamp = tt }
+
+pub returns-in_err-make_room-clause-takes : goal.returns-in_err-make_room-clause-takes
+returns-in_err-make_room-clause-takes g c =
+    let p = err_from_is_err_and c.from_residual.result c.from_residual.ensures.1 in
+    rw (p.1, p.2) (record { never = λ has. never_as (Unit {0}) ℕ c.in_err-make_room.field-0.0 (c.in_err-make_room.ensures.takes.never has); stamp = tt })
+
+pub returns-then-is_down-clause-takes : goal.returns-then-is_down-clause-takes
+returns-then-is_down-clause-takes g c = record { never = λ has. tt; stamp = tt }
+
+pub returns-clause-takes : goal.returns-clause-takes
+returns-clause-takes g c =
+    write_takes c.args.rvg.now.core c.make_room.new.rvg.core c.args.volume ((g.R.Shelf.meaning c.make_room.new.rvg.shelf).size (unit_of c.make_room.new.rvg.core.units.vols c.args.volume)) c.args.start (blocks_in c.args.bytes.now) c.args.bytes.now
+    (g.R.Shelf.meaning c.make_room.new.rvg.shelf) (g.R.Shelf.meaning c.write-answer.new.self.shelf) c.write-answer.new.self.core c.write-answer.result (omega (arith, c.make_room.ensures.group.last)) c.in_ok-make_room.ensures.takes.stamp c.write-answer.ensures.answers

@@ -19,7 +19,7 @@ returns-in-Err-clause-heard g c = λ d p site at target answers one flight liste
     (λ (t : ℕ). IsListening (d.world.nodes t) (d.world.links t p.source) → c.args.link.now ≡ plain_link p.source (d.world.links t p.source) → StandsAt (beside_of d t) (d.world.nodes t) c.args.disks.now
     → c.args.state.now ≡ state_with (d.world.nodes t) (links_of d.world t) → HeardAt d t p.source c.args.number c.args.disks.now c.keep_stored.new.disks c.args.link.now a f (Err c.in-Err.stop)) target
     (λ listening link stands state.
-    let safe = c.last-safe.ensures (beside_of d p.target) (d.world.nodes p.target) stands listening.up listening.running in
+    let safe = c.last-safe.ensures.is (beside_of d p.target) (d.world.nodes p.target) stands listening.up listening.running in
     let line = ap (λ (s : State). s.line) state in
     let listens = (let l : Listens (d.world.nodes p.target) (d.world.links p.target p.source) c.last-safe.result c.args.state.now.line =
     record { up = listening.up; running = listening.running; keeps = listening.keeps; linked = listening.linked; safe_is = safe; line_is = line } in l) in
@@ -39,7 +39,7 @@ returns-in-Ok-clause-heard g c = λ d p site at target answers one flight listen
     (λ (t : ℕ). IsListening (d.world.nodes t) (d.world.links t p.source) → c.args.link.now ≡ plain_link p.source (d.world.links t p.source) → AssemblyStands d.world.packets t (d.world.gathering t) c.args.assembly.now
     → StandsAt (beside_of d t) (d.world.nodes t) c.args.disks.now → c.args.state.now ≡ state_with (d.world.nodes t) (links_of d.world t) → HeardAt d t p.source c.args.number c.args.disks.now c.keep_stored.new.disks moved new f (Ok said)) target
     (λ listening link assembly stands state.
-    let safe = c.last-safe.ensures (beside_of d p.target) (d.world.nodes p.target) stands listening.up listening.running in
+    let safe = c.last-safe.ensures.is (beside_of d p.target) (d.world.nodes p.target) stands listening.up listening.running in
     let line = ap (λ (s : State). s.line) state in
     let listens = (let l : Listens (d.world.nodes p.target) (d.world.links p.target p.source) c.last-safe.result c.args.state.now.line =
     record { up = listening.up; running = listening.running; keeps = listening.keeps; linked = listening.linked; safe_is = safe; line_is = line } in l) in

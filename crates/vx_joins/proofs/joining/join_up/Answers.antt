@@ -18,7 +18,7 @@ together-requires g c = none_wait c.join_group.new.rvg.core (g.R.Shelf.meaning c
 
 pub returns-in-Ok-clause-joined : goal.returns-in-Ok-clause-joined
 returns-in-Ok-clause-joined g c = λ beside a p n up can is.
-    receives_group (worked (joined a p n)) c.together.result c.join_group.new.rvg c.together.ensures.group (c.together.ensures.waiting ∙ c.requires.empty) (c.in-Ok.ensures.joined beside a p n up can is)
+    (receives_group (worked (joined a p n)) c.together.result c.join_group.new.rvg c.together.ensures.group (c.together.ensures.waiting ∙ c.requires.empty) (c.in-Ok.ensures.joined beside a p n up can is), tt)
 
 pub returns-in-Ok-clause-called : goal.returns-in-Ok-clause-called
 returns-in-Ok-clause-called g c = λ beside n up.

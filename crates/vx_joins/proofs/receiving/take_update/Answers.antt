@@ -9,9 +9,11 @@ use Rattle.vx_peers.specs.Receivers.{DeliveredAt}
 use Rattle.vx_diskset.specs.Holds.{beside_of}
 use Rattle.vx_diskset.specs.Stands.{StandsAt}
 use Rattle.vx_diskset.specs.declared.disk_set.DiskSet.TheVariants.{Receives}
-use Rattle.vx_joins.specs.Deliveries.{DeliveredTo}
+use Rattle.vx_peers.proofs.MorePackets.{more_none}
+use Rattle.vx_joins.specs.Deliveries.{DeliveredTo, TookTo}
 use Rattle.vx_joins.proofs.TakesUpdate.{alone_group, alone_same, err_map, halted_to, later_group, later_same, ok_map, receives_at, same_stands, taken_to}
 use Rattle.vx_joins.proofs.UpdatesFit.{fits_group}
+use Rattle.vx_joins.proofs.TookUpdate.{halted_took, running_took}
 use Rattle.vx_joins.proofs.receiving.take_update.Goals as goal
 
 pub returns-in-Some-clause-delivered : goal.returns-in-Some-clause-delivered
@@ -68,3 +70,35 @@ returns-clause-still g c = alone_group c.args.secondary.now c.deliver_update.new
 
 pub returns-clause-later : goal.returns-clause-later
 returns-clause-later g c = later_group c.args.secondary.now c.deliver_update.new.secondary c.deliver_update.ensures.group
+
+pub returns-in-Some-clause-more : goal.returns-in-Some-clause-more
+returns-in-Some-clause-more g c = more_none (g.N.Net.flying c.args.flight.now)
+
+pub returns-clause-more : goal.returns-clause-more
+returns-clause-more g c = c.deliver_update.ensures.more
+
+pub returns-in-Some-clause-took : goal.returns-in-Some-clause-took
+returns-in-Some-clause-took g c = λ d p k x at target message flight stands fed.
+    let w = d.world in
+    let s = c.args.secondary.now in
+    let f = g.N.Net.flying c.args.flight.now in
+    subst
+    (λ (t : ℕ). StandsAt (beside_of d t) (w.nodes t) (Receives s) → c.args.fed_by.now ≡ (w.nodes t).fed_by
+    → TookTo w c.args.number p (beside_of d t) (Receives s) c.args.fed_by.now c.args.assembly.now c.args.assembly.now f f IsIgnored) target
+    (λ stands fed. halted_took w c.args.number p k x at message (beside_of d p.target) s c.in-Some.field-0 c.args.fed_by.now c.args.assembly.now f (sym c.in-Some.is ∙ c.halted.ensures) stands fed)
+    stands fed
+
+pub returns-clause-took : goal.returns-clause-took
+returns-clause-took g c = λ d p k x at target message flight stands fed.
+    let w = d.world in
+    let s = c.args.secondary.now in
+    let new = c.deliver_update.new.secondary in
+    let f = g.N.Net.flying c.args.flight.now in
+    let f' = g.N.Net.flying c.deliver_update.new.flight in
+    let running = sym stands.halted ∙ sym c.halted.ensures ∙ c.in_default.is in
+    subst
+    (λ (t : ℕ). StandsAt (beside_of d t) (w.nodes t) (Receives s) → (w.nodes t).halted ≡ None → c.args.fed_by.now ≡ (w.nodes t).fed_by
+    → IfOk c.deliver_update.result (λ said. TookTo w c.args.number p (beside_of d t) (Receives new) c.deliver_update.new.fed_by c.args.assembly.now c.deliver_update.new.assembly f f' said)) target
+    (λ stands running fed. ok_map c.deliver_update.result (c.deliver_update.ensures.took w p k x at message flight)
+    (λ said took. running_took w c.args.number p k x at message (beside_of d p.target) s new c.args.fed_by.now c.deliver_update.new.fed_by c.args.assembly.now c.deliver_update.new.assembly f f' c.deliver_update.ensures.group stands running fed said took))
+    stands running fed

@@ -1,4 +1,4 @@
-use Rattle.std.proofs.Common.{◌≡◌, ◌∙◌, ap, sym, subst, Some, None, ℕ}
+use Rattle.std.proofs.Common.{◌≡◌, ◌∙◌, ap, sym, subst, ℕ}
 use Rattle.vx_history.specs.Events.{delivered, packet_at}
 use Rattle.vx_history.specs.LinkForms.{plain_link}
 use Rattle.vx_history.specs.Sending.{Sent}

@@ -1,15 +1,14 @@
-use Rattle.std.proofs.Common.{◌≡◌, ◌∙◌, ◌+◌, ◌<◌, inl, inr, ap, sym, subst, refl, arith, Some, None, Option, Bool, ℕ, true, false}
+use Rattle.std.proofs.Common.{◌∙◌, inl, inr, ap, sym, subst, refl, arith, Some, Option, Bool, ℕ}
 use Rattle.vx_packet.specs.Packets.{payload_in}
 use Rattle.vx_rvg.specs.Views.{Core}
 use Rattle.vx_courier.specs.Together.{AssemblyStands}
 use Rattle.vx_history.specs.Events.{delivered, packet_at}
-use Rattle.vx_history.specs.World.{Node}
 use Rattle.vx_history.specs.declared.event.Said.TheVariants.{Ignored as IsIgnored, Taken as IsTaken}
 use Rattle.vx_model.specs.declared.state.State.{State}
-use Rattle.vx_model.specs.declared.history.Line.{Line}
-use Rattle.vx_peers.specs.Receivers.{GatheredIs, Receives, SendsOn, StandsFor}
+use Rattle.vx_peers.specs.Receivers.{GatheredIs, NoneWaits, OneWaits, Receives, SendsOn, StandsFor, WaitsBy}
 use Rattle.vx_peers.proofs.Delivers.{again_at, ignored_at, never_lost, read_of, rule_is, some_kept, some_waits}
 use Rattle.vx_peers.proofs.Found.{never_none, never_other}
+use Rattle.vx_peers.proofs.MorePackets.{more_acknowledged, more_none}
 use Rattle.vx_peers.proofs.delivering.deliver_update.Goals as goal
 
 pub returns-in_default-get-clause-delivered : goal.returns-in_default-get-clause-delivered
@@ -22,6 +21,8 @@ returns-in_default-decode-clause-delivered g c = λ w p k x at target message on
 
 pub returns-in-Nothing : goal.returns-in-Nothing
 returns-in-Nothing g c = record {
+  more = more_none (g.N.Net.flying c.args.flight.now);
+  took = λ w p k x at message flight. NoneWaits refl refl (inr refl);
   delivered = λ w p k x at target message one flight receives stands fits.
       let core = c.args.secondary.now.rvg.core in
       let us = c.args.secondary.now.waiting in
@@ -53,7 +54,7 @@ returns-else-number-gt-MOST_NUMBER-clause-delivered g c = λ w p k x at target m
     let sends = subst (λ (t : ℕ). SendsOn t c.in-Some-decode.part.source c.state.result.now.line c.session-session.result c.in-IgnoredAck.number f (g.N.Net.flying c.acknowledge-in-IgnoredAck.new.flight)) (sym target) c.acknowledge-in-IgnoredAck.ensures.sends in
     subst (λ (t : ℕ). StandsFor (delivered w c.args.number (packet_at w.packets c.args.number)) t core us c.args.fed_by.now c.args.assembly.now (g.N.Net.flying c.acknowledge-in-IgnoredAck.new.flight) IsIgnored) target
     (again_at w c.args.number p k x at message f flight core us c.args.fed_by.now here running c.args.assembly.now there c.in-IgnoredAck.number (sym rule ∙ c.in-IgnoredAck.is) c.in-Some-get.bytes.now c.in-Some-decode.part read
-    c.state.result.now.line c.session-session.result (ap (λ (s : State). s.line) c.state.ensures) c.session-session.ensures (g.N.Net.flying c.acknowledge-in-IgnoredAck.new.flight) (omega (arith, c.if-count-ge-MOST_NUMBER.false, c.count.ensures.count)) sends)
+    c.state.result.now.line c.session-session.result (ap (λ (s : State). s.line) c.state.ensures.is) c.session-session.ensures.is (g.N.Net.flying c.acknowledge-in-IgnoredAck.new.flight) (omega (arith, c.if-count-ge-MOST_NUMBER.false, c.count.ensures.count)) sends)
 
 pub returns-in-None-clause-delivered : goal.returns-in-None-clause-delivered
 returns-in-None-clause-delivered g c = λ w p k x at target message one flight receives stands fits.
@@ -114,6 +115,34 @@ returns-in-Some-true-clause-delivered g c = λ w p k x at target message one fli
     let gathered = subst (λ (r : Option Bool). GatheredIs core size part (payload_in part bytes) us c.args.assembly.now waiting new r) (c.in-Some-true.is ∙ ap (λ (b : Bool). Some b) c.in-Some-true.field-0-test) c.gather.ensures.gathered in
     let f' = g.N.Net.flying c.acknowledge.new.flight in
     let sends = subst (λ (t : ℕ). SendsOn t part.source c.state.result.now.line c.session-session.result c.in-Take.ack f f') (sym target) c.acknowledge.ensures.sends in
-    let done = some_waits w c.args.number p k x at message f flight core us c.args.fed_by.now here running c.args.assembly.now there c.in-Take.ack takes size fits one bytes part read waiting new gathered c.state.result.now.line c.session-session.result (ap (λ (s : State). s.line) c.state.ensures) c.session-session.ensures f' (omega (arith, c.if-count-ge-MOST_NUMBER.false, c.count.ensures.count)) sends in
+    let done = some_waits w c.args.number p k x at message f flight core us c.args.fed_by.now here running c.args.assembly.now there c.in-Take.ack takes size fits one bytes part read waiting new gathered c.state.result.now.line c.session-session.result (ap (λ (s : State). s.line) c.state.ensures.is) c.session-session.ensures.is f' (omega (arith, c.if-count-ge-MOST_NUMBER.false, c.count.ensures.count)) sends in
     subst (λ (v : Core). StandsFor (delivered w c.args.number (packet_at w.packets c.args.number)) c.args.site v waiting part.source new f' IsTaken) (sym (ap (λ r. r.core) c.gather.ensures.group))
     (subst (λ (t : ℕ). StandsFor (delivered w c.args.number (packet_at w.packets c.args.number)) t core waiting part.source new f' IsTaken) target done)
+
+pub returns-else-number-gt-MOST_NUMBER-clause-more : goal.returns-else-number-gt-MOST_NUMBER-clause-more
+returns-else-number-gt-MOST_NUMBER-clause-more g c =
+    more_acknowledged c.args.site c.in-Some-decode.part.source c.state.result.now.line c.session-session.result c.in-IgnoredAck.number (g.N.Net.flying c.args.flight.now) (g.N.Net.flying c.acknowledge-in-IgnoredAck.new.flight)
+    (omega (arith, c.if-count-ge-MOST_NUMBER.false, c.count.ensures.count)) c.acknowledge-in-IgnoredAck.ensures.sends
+
+pub returns-in-Some-true-clause-more : goal.returns-in-Some-true-clause-more
+returns-in-Some-true-clause-more g c =
+    more_acknowledged c.args.site c.in-Some-decode.part.source c.state.result.now.line c.session-session.result c.in-Take.ack (g.N.Net.flying c.args.flight.now) (g.N.Net.flying c.acknowledge.new.flight)
+    (omega (arith, c.if-count-ge-MOST_NUMBER.false, c.count.ensures.count)) c.acknowledge.ensures.sends
+
+pub returns-else-number-gt-MOST_NUMBER-clause-took : goal.returns-else-number-gt-MOST_NUMBER-clause-took
+returns-else-number-gt-MOST_NUMBER-clause-took g c = λ w p k x at message flight. NoneWaits refl refl (inr refl)
+
+pub returns-in-None-clause-took : goal.returns-in-None-clause-took
+returns-in-None-clause-took g c = λ w p k x at message flight. NoneWaits (subst (λ (r : Option Bool). WaitsBy r c.args.secondary.now.waiting c.gather.new.secondary.waiting) c.in-None.is c.gather.ensures.waits) refl (inr refl)
+
+pub returns-in-Some-false-clause-took : goal.returns-in-Some-false-clause-took
+returns-in-Some-false-clause-took g c = λ w p k x at message flight.
+    NoneWaits
+    (subst (λ (r : Option Bool). WaitsBy r c.args.secondary.now.waiting c.gather.new.secondary.waiting) (c.in-Some-false.is ∙ ap (λ (b : Bool). Some b) c.in-Some-false.field-0-test) c.gather.ensures.waits)
+    refl (inl refl)
+
+pub returns-in-Some-true-clause-took : goal.returns-in-Some-true-clause-took
+returns-in-Some-true-clause-took g c = λ w p k x at message flight.
+    let waits = subst (λ (r : Option Bool). WaitsBy r c.args.secondary.now.waiting c.gather.new.secondary.waiting) (c.in-Some-true.is ∙ ap (λ (b : Bool). Some b) c.in-Some-true.field-0-test) c.gather.ensures.waits in
+    let read = read_of w c.args.number p k x at message (g.N.Net.flying c.args.flight.now) flight c.in-Some-get.bytes.now c.in-Some-decode.part c.in-Some-get.ensures.packet c.decode.result c.decode.ensures.only c.in-Some-decode.is in
+    OneWaits waits.0 waits.1 read.source refl

@@ -1,13 +1,13 @@
-use Rattle.std.proofs.Common.{◌≡◌, ◌∙◌, ◌+◌, ◌≤◌, inl, inr, true, ap, sym, subst, refl, arith}
-use Rattle.vx_model.specs.declared.history.Line.{Line}
-use Rattle.vx_model.specs.declared.link.Link.{Link as PlainLink}
+use Rattle.std.proofs.Common.{◌∙◌, ℕ, true, ap, sym, arith}
 use Rattle.vx_model.specs.declared.state.State.{State}
 use Rattle.vx_history.specs.Sending.{Sent}
 use Rattle.vx_history.specs.declared.sender.SEvent.TheVariants.{Pump}
 use Rattle.vx_history.specs.declared.sender.SFacts.{SFacts}
 use Rattle.vx_packet.specs.declared.message.Envelope.{Envelope}
+use Rattle.vx_peers.specs.Senders.{pumped_at}
 use Rattle.vx_sender.proofs.Events.{updates-fit}
 use Rattle.vx_peers.proofs.Pumps.{moved_none, moved_range, rule_same, sends_live, sends_none}
+use Rattle.vx_peers.proofs.MorePackets.{more_none}
 use Rattle.vx_peers.proofs.pumping.pump.Goals as goal
 
 pub returns-in-Nothing-clause-moved : goal.returns-in-Nothing-clause-moved
@@ -32,5 +32,14 @@ returns-in_ok-send_range-in-Updates-clause-moved g c = λ w from tells link flig
     let sent = c.in_ok-send_range-in-Updates.ensures.sent tells from.held from.stands in
     moved_range w c.args.site to core m from c.in-Updates.from c.in-Updates.to (record { source = c.args.site; target = to; line = c.state.result.now.line }) c.step.new.link
     (g.N.Net.flying c.args.flight.now) (g.N.Net.flying c.send_range.new.flight) (c.step.ensures.link ∙ ap (λ (r : Sent). r.link) same) action
-    (ap (λ (s : State). let e : Envelope = record { source = c.args.site; target = to; line = s.line } in e) c.state.ensures) sent.0
+    (ap (λ (s : State). let e : Envelope = record { source = c.args.site; target = to; line = s.line } in e) c.state.ensures.is) sent.0
     (omega (arith, fits.3, c.head.ensures)) (omega (arith, fits.1, c.requires.held (sends_live c.args.link.now facts c.in-Updates.from c.in-Updates.to (sym c.step.ensures.action ∙ c.in-Updates.is)), from.stands.low)) flight
+
+pub returns-in-Nothing-clause-more : goal.returns-in-Nothing-clause-more
+returns-in-Nothing-clause-more g c = more_none (g.N.Net.flying c.args.flight.now)
+
+pub returns-in-Nothing-clause-rule : goal.returns-in-Nothing-clause-rule
+returns-in-Nothing-clause-rule g c = c.step.ensures.link ∙ ap (λ (safe : ℕ). pumped_at c.args.link.now safe) c.head.ensures
+
+pub returns-in_ok-send_range-in-Updates-clause-rule : goal.returns-in_ok-send_range-in-Updates-clause-rule
+returns-in_ok-send_range-in-Updates-clause-rule g c = c.step.ensures.link ∙ ap (λ (safe : ℕ). pumped_at c.args.link.now safe) c.head.ensures

@@ -1,10 +1,10 @@
-use Rattle.std.proofs.Common.{◌≡◌, ◌∙◌, ◌+◌, ◌-◌, ◌≤◌, ◌++◌, List, length, map, ap, sym, subst, refl, arith}
+use Rattle.std.proofs.Common.{◌++◌, List, length, map, ap, subst, arith}
 use Rattle.vx_model.specs.declared.call.Update.{Update}
 use Rattle.vx_courier.specs.UnderWay.{FlightStands}
 use Rattle.vx_history.specs.Sends.{updates}
 use Rattle.vx_history.specs.World.{Packet}
-use Rattle.vx_peers.specs.Senders.{AreRead, SentRange}
 use Rattle.vx_secondary.specs.Receivers.{write_of}
+use Rattle.vx_peers.proofs.MorePackets.{more_updates}
 use Rattle.vx_peers.proofs.pumping.send_range.Goals as goal
 
 pub returns-clause-sent : goal.returns-clause-sent
@@ -23,3 +23,6 @@ returns-clause-sent g c = λ tells h stands.
 pub send_updates-requires-clause-numbers : goal.send_updates-requires-clause-numbers
 send_updates-requires-clause-numbers g c =
     omega (arith, ap (λ (us : List Update). length us) c.deref.ensures.value, c.in_ok-updates.ensures.read.0, c.requires.some, c.requires.number)
+
+pub returns-clause-more : goal.returns-clause-more
+returns-clause-more g c = more_updates c.args.envelope.now c.args.from c.deref.result.now (g.N.Net.flying c.args.flight.now) (g.N.Net.flying c.send_updates.new.flight) c.send_updates.ensures.flies

@@ -1,12 +1,10 @@
-use Rattle.std.proofs.Common.{◌≡◌, ◌∙◌, ◌+◌, ◌-◌, ◌≤◌, IsTrue, IsFalse, length, ap, sym, subst, refl, arith, List, [], ◌∷◌, length-append}
+use Rattle.std.proofs.Common.{◌∙◌, ◌+◌, length, ap, sym, subst, arith, List, [], ◌∷◌, length-append}
 use Rattle.vx_model.specs.declared.call.Update.{Update}
 use Rattle.vx_model.specs.declared.errors.Stop.{Stop}
-use Rattle.vx_rvg.specs.Holdings.{Holding}
-use Rattle.vx_rvg.specs.Stands.{Gives, Stands}
 use Rattle.vx_rvg.specs.Views.{Core, last_of}
 use Rattle.vx_srl.specs.Calls.{FetchCause}
 use Rattle.vx_peers.specs.Senders.{AreRead, ReadCause}
-use Rattle.vx_peers.proofs.Looking.{Fetched, Looked, fetched_more, is_other, looked_on, not_down, not_looked, read_stops, stands_on}
+use Rattle.vx_peers.proofs.Looking.{fetched_more, is_other, not_looked, read_stops, stands_on}
 use Rattle.vx_peers.proofs.Updates.{none_read, read_more}
 use Rattle.vx_peers.proofs.reading.read_updates.Goals as goal
 

@@ -1,4 +1,4 @@
-use Rattle.std.proofs.Common.{◌≡◌, ◌≤◌, length, IsTrue}
+use Rattle.std.proofs.Common.{◌≡◌, length, IsTrue}
 use Rattle.vx_rvg.specs.Holdings.{Holding}
 use Rattle.vx_rvg.specs.Stands.{Stands}
 use Rattle.vx_peers.specs.Senders.{AreRead}

@@ -1,4 +1,4 @@
-use Rattle.std.proofs.Common.{◌≡◌, ◌∙◌, ◌+◌, ◌≤◌, ap, sym, arith}
+use Rattle.std.proofs.Common.{arith}
 use Rattle.vx_peers.proofs.Sizes.{update_parts}
 use Rattle.vx_peers.proofs.sending.send_update.Goals as goal
 

@@ -1,10 +1,7 @@
-use Rattle.std.proofs.Common.{◌≡◌, ◌∙◌, ◌+◌, ◌*◌, ◌≤◌, ◌++◌, ap, sym, subst, refl, arith, map, length, List, append-nil}
-use Rattle.vx_model.specs.declared.call.Update.{Update}
+use Rattle.std.proofs.Common.{◌+◌, arith, map}
 use Rattle.vx_history.specs.Sends.{updates}
-use Rattle.vx_history.specs.World.{Packet}
-use Rattle.vx_courier.specs.UnderWay.{FlightStands}
 use Rattle.vx_secondary.specs.Receivers.{write_of}
-use Rattle.vx_peers.proofs.Updates.{OnTheWay, all_sent, at_place_of, one_sent, start_of}
+use Rattle.vx_peers.proofs.Updates.{all_sent, at_place_of, one_sent, start_of}
 use Rattle.vx_peers.proofs.sending.send_updates.Goals as goal
 
 pub loop-past-init : goal.loop-past-init

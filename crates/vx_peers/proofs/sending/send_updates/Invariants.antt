@@ -1,4 +1,4 @@
-use Rattle.std.proofs.Common.{◌≡◌, ◌+◌, ◌*◌, ◌≤◌, List, map, drop}
+use Rattle.std.proofs.Common.{◌+◌, ◌*◌, ◌≤◌, List, map, drop}
 use Rattle.vx_history.specs.World.{Packet}
 use Rattle.vx_history.specs.Sends.{updates}
 use Rattle.vx_courier.specs.UnderWay.{FlightStands}

@@ -2,6 +2,7 @@ use Rattle.std.proofs.Common.{sym, ◌∙◌}
 use Rattle.vx_diskset.proofs.CrashGroup.{applied_off, applied_on}
 use Rattle.vx_diskset.specs.Burning.{NoMore}
 use Rattle.vx_diskset.proofs.CallsBurn.{called_cut}
+use Rattle.vx_diskset.proofs.Roles.{role_then}
 use Rattle.vx_diskset.proofs.disk_set.DiskSet.apply.Goals as goal
 
 pub returns-then-is_off-clause-applied : goal.returns-then-is_off-clause-applied
@@ -18,3 +19,6 @@ returns-then-is_off-clause-called g c = λ beside n stands.
 
 pub returns-else-is_off-clause-called : goal.returns-else-is_off-clause-called
 returns-else-is_off-clause-called g c = λ beside n stands. c.in-Err.ensures.called beside n stands
+
+pub returns-then-is_off-clause-role : goal.returns-then-is_off-clause-role
+returns-then-is_off-clause-role g c = role_then c.args.self.now c.apply_up.new.self c.fall.new.self c.apply_up.ensures.role c.fall.ensures.role

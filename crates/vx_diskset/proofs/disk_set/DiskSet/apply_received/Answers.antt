@@ -1,7 +1,9 @@
 -- An apply of what waits, before the crash.
-use Rattle.std.proofs.Common.{◌∙◌, ℕ, ap, arith}
+use Rattle.std.proofs.Common.{◌∙◌, ℕ, ap, sym, arith}
 use Rattle.std.specs.Prelude.{min}
-use Rattle.vx_diskset.proofs.Reaching.{reached_idle, reached_none_up, reached_up}
+use Rattle.vx_diskset.proofs.Reaching.{reached_full, reached_idle, reached_none_up, reached_up}
+use Rattle.vx_rvg.specs.Groups.{has_numbers}
+use Rattle.vx_diskset.proofs.LeavesNumbers.{has_them}
 use Rattle.vx_diskset.proofs.disk_set.DiskSet.apply_received.Goals as goal
 
 pub returns-in-Up-clause-applied : goal.returns-in-Up-clause-applied
@@ -11,7 +13,23 @@ pub returns-then-few-eq0-clause-applied : goal.returns-then-few-eq0-clause-appli
 returns-then-few-eq0-clause-applied g c = λ beside n stands can.
     reached_idle beside n c.args.count c.min-few.result c.head.result c.args.self.now c.in-Receives.site c.in-Receives.is (c.min-few.ensures ∙ ap (λ (k : ℕ). min c.args.count k) (c.from.ensures ∙ c.len.ensures.is)) (omega (arith, c.if-few-eq0.true)) c.head.ensures stands can
 
-pub returns-else-few-eq0-clause-applied : goal.returns-else-few-eq0-clause-applied
-returns-else-few-eq0-clause-applied g c = λ beside n stands can.
+pub returns-else-not-has_numbers-clause-applied : goal.returns-else-not-has_numbers-clause-applied
+returns-else-not-has_numbers-clause-applied g c = λ beside n stands can.
     reached_up beside n c.args.count c.min-few.result c.args.self.now c.in-Receives.site _ c.apply_oldest.result c.in-Receives.is
     (c.min-few.ensures ∙ ap (λ (k : ℕ). min c.args.count k) (c.from.ensures ∙ c.len.ensures.is)) (omega (arith, c.if-few-eq0.false)) (λ r able. c.apply_oldest.ensures.reaches beside n r able) stands can
+
+pub returns-then-not-has_numbers-clause-applied : goal.returns-then-not-has_numbers-clause-applied
+returns-then-not-has_numbers-clause-applied g c = λ beside n stands can.
+    reached_full beside n c.args.count c.min-few.result c.args.self.now c.in-Receives.site c.in-Receives.is
+    (c.min-few.ensures ∙ ap (λ (k : ℕ). min c.args.count k) (c.from.ensures ∙ c.len.ensures.is))
+    (ap (λ (k : ℕ). has_numbers c.in-Receives.site.rvg.core k) (sym c.from-in-Receives.ensures) ∙ sym c.has_numbers.ensures ∙ c.if-not-has_numbers.true) stands can
+
+pub returns-in-Up-clause-brought : goal.returns-in-Up-clause-brought
+returns-in-Up-clause-brought g c = λ beside n stands can is. absurd (cc)
+
+pub returns-then-few-eq0-clause-brought : goal.returns-then-few-eq0-clause-brought
+returns-then-few-eq0-clause-brought g c = λ beside n stands can is. absurd (cc)
+
+pub apply_oldest-requires-clause-numbers : goal.apply_oldest-requires-clause-numbers
+apply_oldest-requires-clause-numbers g c κs within =
+    has_them c.in-Receives.site.rvg.core c.min-few.result (ap (λ (k : ℕ). has_numbers c.in-Receives.site.rvg.core k) (sym c.from-in-Receives.ensures) ∙ sym c.has_numbers.ensures ∙ c.if-not-has_numbers.false)

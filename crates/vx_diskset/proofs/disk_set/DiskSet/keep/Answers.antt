@@ -5,6 +5,7 @@ use Rattle.vx_diskset.specs.DiskSets.{halted_at}
 use Rattle.vx_diskset.specs.Keeps.{doubting}
 use Rattle.vx_diskset.proofs.CallsBurn.{called_cut}
 use Rattle.vx_diskset.proofs.KeepGroup.{kept_off, kept_on}
+use Rattle.vx_diskset.proofs.Roles.{role_then}
 use Rattle.vx_diskset.proofs.disk_set.DiskSet.keep.Goals as goal
 
 pub returns-then-is_off-clause-kept : goal.returns-then-is_off-clause-kept
@@ -22,3 +23,6 @@ returns-then-is_off-clause-called g c = λ beside n stands.
 
 pub returns-else-is_off-clause-called : goal.returns-else-is_off-clause-called
 returns-else-is_off-clause-called g c = λ beside n stands. c.in-Err.ensures.called beside n stands
+
+pub returns-then-is_off-clause-role : goal.returns-then-is_off-clause-role
+returns-then-is_off-clause-role g c = role_then c.args.self.now c.keep_up.new.self c.fall.new.self c.keep_up.ensures.role c.fall.ensures.role

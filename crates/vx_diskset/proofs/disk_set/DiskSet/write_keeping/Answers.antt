@@ -3,6 +3,7 @@ use Rattle.vx_history.specs.Steps.{half_begun}
 use Rattle.vx_diskset.proofs.CrashGroup.{wrote_off, wrote_on}
 use Rattle.vx_diskset.specs.Burning.{IsLogged}
 use Rattle.vx_diskset.proofs.CallsBurn.{called_cut}
+use Rattle.vx_diskset.proofs.Roles.{role_then}
 use Rattle.vx_diskset.proofs.disk_set.DiskSet.write_keeping.Goals as goal
 
 pub returns-then-is_off-clause-wrote : goal.returns-then-is_off-clause-wrote
@@ -24,3 +25,6 @@ returns-then-is_off-clause-called g c = λ beside n stands.
 
 pub returns-else-is_off-clause-called : goal.returns-else-is_off-clause-called
 returns-else-is_off-clause-called g c = λ beside n stands. c.in-Err.ensures.called beside n stands
+
+pub returns-then-is_off-clause-role : goal.returns-then-is_off-clause-role
+returns-then-is_off-clause-role g c = role_then c.args.self.now c.write_up.new.self c.fall.new.self c.write_up.ensures.role c.fall.ensures.role

@@ -1,0 +1,28 @@
+-- Disks on which some writes and flushes may have been made stand for their site, of whose fuse less is known.
+use Rattle.std.proofs.Common.{◌≡◌, ◌∙◌, ap, sym, subst}
+use Rattle.vx_history.specs.Steps.{burned}
+use Rattle.vx_history.specs.World.{Fuse, NoFuse, Node}
+use Rattle.vx_disk.specs.Shelf.{Meaning}
+use Rattle.vx_disk.specs.declared.shelf.Shelf.{Ghosts}
+use Rattle.vx_diskset.specs.DiskSets.{worked}
+use Rattle.vx_diskset.specs.Holds.{Beside}
+use Rattle.vx_diskset.specs.Stands.{IsBareAt, IsCleanAt, IsDownAt, StandsAt}
+use Rattle.vx_diskset.specs.declared.disk_set.DiskSet.{DiskSet}
+use Rattle.vx_diskset.specs.declared.disk_set.DiskSet.TheVariants.{Bare, Spoiled, Up, Receives, Down, Gone}
+use Rattle.vx_diskset.proofs.Reaching.{receiver_burned}
+use Rattle.vx_diskset.proofs.StaysUp.{up_worked}
+
+bare_worked : (n : Node) (m : Meaning) → IsBareAt n m → n ≡ worked n
+bare_worked n m bare = let none : n.fuse ≡ NoFuse = ap (λ (k : Node). k.fuse) bare.is in ap (λ (x : Fuse). record n { fuse = x }) (none ∙ sym (ap (λ (x : Fuse). burned x) none))
+
+down_worked : {beside : Beside} (n : Node) (m : Meaning) → IsDownAt beside n m → n ≡ worked n
+down_worked n m down = ap (λ (x : Fuse). record n { fuse = x }) (down.unfused ∙ sym (ap (λ (x : Fuse). burned x) down.unfused))
+
+module _ {R : Type 0} {g : Ghosts R} where
+  pub stands_worked : (beside : Beside) (n : Node) (e : DiskSet R g) → StandsAt beside n e → StandsAt beside (worked n) e
+  stands_worked beside n (Bare rack) stands = subst (λ (k : Node). IsCleanAt k (g.meaning rack)) (bare_worked n (g.meaning rack) stands.bare) stands
+  stands_worked beside n (Spoiled rack) stands = subst (λ (k : Node). IsBareAt k (g.meaning rack)) (bare_worked n (g.meaning rack) stands) stands
+  stands_worked beside n (Up rvg) stands = up_worked n rvg.core (g.meaning rvg.shelf) stands
+  stands_worked beside n (Receives s) stands = receiver_burned n s.rvg.core s.waiting (g.meaning s.rvg.shelf) stands
+  stands_worked beside n (Down rack) stands = subst (λ (k : Node). IsDownAt beside k (g.meaning rack)) (down_worked n (g.meaning rack) stands) stands
+  stands_worked beside n Gone stands = absurd stands
