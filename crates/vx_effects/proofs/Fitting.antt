@@ -1,5 +1,6 @@
 -- Whatever happens, the links of every world fit.
 use Rattle.std.proofs.Common.{◌≡◌, ◌∙◌, ℕ, ◌+◌, ◌≤◌, ◌<◌, List, [], ◌∷◌, Bool, true, false, refl, ap, sym, subst, arith}
+use Rattle.std.proofs.lemmas.Bool.Decides.{nat_tests}
 use Rattle.std.specs.Prelude.{not, ◌&&◌, ◌||◌, eqb, leb, ltb, Option, Some, None, bytes_eq}
 use Rattle.vx_model.specs.Sites.{is_origin, is_up}
 use Rattle.vx_model.specs.declared.limits.TheConstants.{LEAST_BLOCKS, MOST_DISKS, MOST_SITES}
@@ -9,9 +10,10 @@ use Rattle.vx_model.specs.declared.no.No.{No}
 use Rattle.vx_model.specs.declared.no.No.TheVariants.{Down as NotUp, Exists, Limit, Role as WrongRole, Size}
 use Rattle.vx_model.specs.declared.site.Role.{Role}
 use Rattle.vx_model.specs.declared.site.Role.TheVariants.{Primary, Secondary, Handing, Bunker}
-use Rattle.vx_model.specs.declared.site.SiteState.TheVariants.{Bare, Up}
+use Rattle.vx_model.specs.declared.site.SPhase.TheVariants.{Quiet}
+use Rattle.vx_model.specs.declared.site.SiteState.TheVariants.{Bare, Down, Up}
 use Rattle.vx_history.proofs.Places.{places_further, places_made}
-use Rattle.vx_history.proofs.Updates.{all_updated, at_place, by_test, eqb_equal}
+use Rattle.vx_history.proofs.Updates.{all_updated, and_left, at_place, by_test, eqb_equal}
 use Rattle.vx_history.specs.Doubts.{After, Doubted, Runs, happened, resolved, resolved_at, taken_up}
 use Rattle.vx_history.specs.Events.{crash_at, kept_of, new_link}
 use Rattle.vx_history.specs.Headers.{headers_by}
@@ -24,7 +26,7 @@ use Rattle.vx_history.specs.declared.event.Event.{Event}
 use Rattle.vx_history.specs.declared.event.Event.TheVariants.{Site, Raw, Write, Read, Apply, Pump, Tick, Deliver, Connect, Cut, Pause, Resume, Wait, Link, Set, Crash, Recover, Fault}
 use Rattle.vx_history.specs.declared.event.LinkPart.TheVariants.{Joins, Made, Marked, Opened}
 use Rattle.vx_events.specs.Doubts.{run_as}
-use Rattle.vx_events.specs.LinksFit.{DoubtFits, IsBlank, IsPlain, LinksFit, RowFits}
+use Rattle.vx_events.specs.LinksFit.{DoubtFits, IsBlank, IsPlain, IsRested, LinksFit, RowFits, StartsAt}
 use Rattle.vx_effects.proofs.Headers.{bare_none}
 use Rattle.vx_effects.proofs.Moves.{All, fit_moves, moves_like, moves_same}
 use Rattle.vx_effects.proofs.Outcomes.{IsSettled, crash_moves, outcome_moves}
@@ -34,6 +36,9 @@ use Rattle.vx_effects.proofs.Tests
 
 pub updated_other : {A : Type 0} (f : ℕ → A) (i j : ℕ) (x : A) → (j ≡ i → ⊥) → updated f i x j ≡ f j
 updated_other f i j x apart = by_test (λ y. y ≡ f j) (eqb j i) x (f j) (λ e. absurd (apart (eqb_equal j i e))) (λ _. refl)
+
+pub apart_by : (p s : ℕ) → eqb p s ≡ false → p ≡ s → ⊥
+apart_by p s e same = grind (arith, nat_tests)
 
 pub some_one : {A : Type 0} {a b : A} → Some a ≡ Some b → a ≡ b
 some_one e = cc
@@ -60,6 +65,9 @@ fit_taken d s a is fit = record {
   doubts = λ p b e.
       let left = left_doubts d.after s p b e in
       still p b left.1 (fit.doubts p b left.0);
+  starts = λ p. starting p (eqb p s) refl;
+  quiet = all_updated (λ (p : ℕ) (n : Node). n.phase ≡ Quiet) d.world.nodes s a.node f.quiet (λ p _. fit.quiet p);
+  rests = all_updated (λ (p : ℕ) (n : Node). IsRested n) d.world.nodes s a.node (λ down. let e : Up ≡ Down = sym f.up_too ∙ down in absurd (cc)) (λ p _. fit.rests p);
 }
   where
     f : DoubtFits d.world s a
@@ -76,6 +84,17 @@ fit_taken d s a is fit = record {
       headers = (fit.bare p bare).headers;
     }
 
+    -- of the site itself, and of any other
+    starting : (p : ℕ) (b : Bool) → eqb p s ≡ b → StartsAt (updated d.world.nodes s a.node p) (updated d.world.links s a.row p)
+    starting p true e =
+        subst (λ (k : ℕ). StartsAt (updated d.world.nodes s a.node k) (updated d.world.links s a.row k)) (sym (eqb_equal p s e))
+        (subst (λ (n : Node). StartsAt n (updated d.world.links s a.row s)) (sym (at_place d.world.nodes s a.node))
+        (subst (λ (row : ℕ → LinkOf). StartsAt a.node row) (sym (at_place d.world.links s a.row)) f.starts))
+    starting p false e =
+        let other : p ≡ s → ⊥ = apart_by p s e in
+        subst (λ (n : Node). StartsAt n (updated d.world.links s a.row p)) (sym (updated_other d.world.nodes s p a.node other))
+        (subst (λ (row : ℕ → LinkOf). StartsAt (d.world.nodes p) row) (sym (updated_other d.world.links s p a.row other)) (fit.starts p))
+
     still : (p : ℕ) (b : After) → (p ≡ s → ⊥) → DoubtFits d.world p b → DoubtFits (resolved d.world s a) p b
     still p b other g = record {
       up = ap (λ (n : Node). n.state) (updated_other d.world.nodes s p a.node other) ∙ g.up;
@@ -83,6 +102,8 @@ fit_taken d s a is fit = record {
       up_too = g.up_too;
       halted_too = g.halted_too;
       row = g.row;
+      starts = g.starts;
+      quiet = g.quiet;
     }
 
 pub fit_resolved : (d : Doubted) (s : ℕ) (taken : Bool) → LinksFit d → LinksFit (resolved_at d s taken)
@@ -132,7 +153,13 @@ fit_site_made d name disks blocks fit = record {
         up_too = f.up_too;
         halted_too = f.halted_too;
         row = further p a.row f.row;
+        starts = f.starts;
+        quiet = f.quiet;
       };
+  starts = all_updated (λ (p : ℕ) (n : Node). StartsAt n (d.world.links p)) d.world.nodes d.world.sites (bare_site name disks blocks) (λ k _. refl) (λ p _. fit.starts p);
+  quiet = all_updated (λ (p : ℕ) (n : Node). n.phase ≡ Quiet) d.world.nodes d.world.sites (bare_site name disks blocks) refl (λ p _. fit.quiet p);
+  rests = all_updated (λ (p : ℕ) (n : Node). IsRested n) d.world.nodes d.world.sites (bare_site name disks blocks)
+      (λ down. let e : Bare ≡ Down = down in absurd (cc)) (λ p _. fit.rests p);
 }
   where
     v : World
@@ -165,9 +192,10 @@ fit_site d name disks blocks fit =
 new_plain : (place : ℕ) (sync : SyncMode) (n : Node) → IsPlain (new_link place sync n)
 new_plain place sync n = record { prot = refl; mode = refl; bunker = refl; trimmed = refl; map = λ volume region. refl }
 
-fit_link_made : (d : Doubted) (p s : ℕ) (sync : SyncMode) → s < d.world.sites → (s ≡ p → ⊥) → (d.world.nodes p).state ≡ Up → is_linked (d.world.links p s) ≡ false → LinksFit d
+fit_link_made : (d : Doubted) (p s : ℕ) (sync : SyncMode) → s < d.world.sites → (s ≡ p → ⊥) → (d.world.nodes p).state ≡ Up → is_origin (d.world.nodes p).role ≡ true
+    → is_linked (d.world.links p s) ≡ false → LinksFit d
     → LinksFit (record d { world = with_link d.world p s (new_link (links_of d.world p) sync (d.world.nodes s)) })
-fit_link_made d p s sync below other up free fit = record {
+fit_link_made d p s sync below other up keeps free fit = record {
   rows = all_updated (λ (q : ℕ) (row : ℕ → LinkOf). RowFits q d.world.sites row) d.world.links p (updated (d.world.links p) s l)
       (record {
         places = places_made d.world.sites (d.world.links p) s l below free refl (fit.rows p).places;
@@ -187,13 +215,25 @@ fit_link_made d p s sync below other up free fit = record {
   };
   doubts = λ q a is.
       let f : DoubtFits d.world q a = fit.doubts q a is in
-      record { up = f.up; halted = f.halted; up_too = f.up_too; halted_too = f.halted_too; row = f.row };
+      record { up = f.up; halted = f.halted; up_too = f.up_too; halted_too = f.halted_too; row = f.row; starts = f.starts; quiet = f.quiet };
+  starts = all_updated (λ (q : ℕ) (row : ℕ → LinkOf). StartsAt (d.world.nodes q) row) d.world.links p (updated (d.world.links p) s l) (λ _ _. keeps) (λ q _. fit.starts q);
+  quiet = fit.quiet;
+  rests = fit.rests;
 }
   where
     l : LinkOf
     l = new_link (links_of d.world p) sync (d.world.nodes s)
 
--- a primary does not follow itself
+primary_leads : (r : Role) → is_primary r ≡ true → is_origin r ≡ true
+primary_leads Primary e = refl
+primary_leads Secondary e = absurd (cc)
+primary_leads (Handing to) e = absurd (cc)
+primary_leads Bunker e = absurd (cc)
+
+-- writes arise at a primary, which does not follow itself
+follows_keeps : (w : World) (p s : ℕ) → (is_primary (w.nodes p).role && follows w p s) ≡ true → is_origin (w.nodes p).role ≡ true
+follows_keeps w p s e = primary_leads (w.nodes p).role (and_left (is_primary (w.nodes p).role) (follows w p s) e)
+
 follows_other : (w : World) (p s : ℕ) → (is_primary (w.nodes p).role && follows w p s) ≡ true → s ≡ p → ⊥
 follows_other w p s e same =
     let led = first (is_primary (w.nodes p).role) (follows w p s) e in
@@ -230,7 +270,9 @@ fit_made d p s sync fit =
     (λ below. Tests.both_ends Q w refusals p s part
     (λ up _ _ _. Tests.unless_ends Q w refusals (not (is_primary (w.nodes p).role && follows w p s)) WrongRole free
     (λ led. Tests.unless_ends Q w refusals (is_linked (w.links p s)) (Exists (w.nodes s).name) o
-    (λ none. (fit_link_made d p s sync below (follows_other w p s (Tests.not_false (is_primary (w.nodes p).role && follows w p s) led)) up none fit, λ i. refl, λ i. refl)))))) in
+    (λ none.
+    let leads : (is_primary (w.nodes p).role && follows w p s) ≡ true = Tests.not_false (is_primary (w.nodes p).role && follows w p s) led in
+    (fit_link_made d p s sync below (follows_other w p s leads) up (follows_keeps w p s leads) none fit, λ i. refl, λ i. refl)))))) in
     fit_counted (record d { world = (outcome_of w e).world }) (λ i. w.headers i + headers_by e w (outcome_of w e) i)
     (λ i bare. none_more (w.headers i) (headers_by e w (outcome_of w e) i) (bare_none w i (subst (λ (n : Node). n.state ≡ Bare) (all.2 i) bare) e) ∙ sym (all.1 i)) all.0
 

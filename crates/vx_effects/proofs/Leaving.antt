@@ -1,7 +1,7 @@
 -- What disks, fuses and notes leave of a world keeps its links fitting.
 use Rattle.std.proofs.Common.{◌≡◌, ◌∙◌, ℕ, ◌≤◌, ◌<◌, Bool, true, false, refl, ap, sym, subst, arith}
-use Rattle.std.specs.Prelude.{not, ◌&&◌, Option, Some, None}
-use Rattle.vx_history.proofs.Updates.{all_updated, at_place}
+use Rattle.std.specs.Prelude.{not, ◌&&◌, eqb, ltb, Option, Some, None}
+use Rattle.vx_history.proofs.Updates.{all_updated, at_place, by_test, eqb_equal}
 use Rattle.vx_history.specs.Doubts.{After, Doubted, crashed_as, halved, resolved_at, taken_up}
 use Rattle.vx_history.specs.Events.{kept_of, new_link, packet_at}
 use Rattle.vx_history.specs.Headers.{headers_by}
@@ -17,18 +17,20 @@ use Rattle.vx_history.specs.declared.event.LinkPart.TheVariants.{Joins, Made, Ma
 use Rattle.vx_model.specs.declared.link.SyncMode.{SyncMode}
 use Rattle.vx_model.specs.declared.no.No.{No}
 use Rattle.vx_model.specs.declared.no.No.TheVariants.{Exists, Role as WrongRole}
-use Rattle.vx_model.specs.declared.site.SiteState.TheVariants.{Bare, Up}
+use Rattle.vx_model.specs.declared.site.SPhase.TheVariants.{Quiet}
+use Rattle.vx_model.specs.declared.site.SiteState.TheVariants.{Bare, Down, Up}
 use Rattle.vx_script.specs.declared.line.ScriptLine.{ScriptLine}
 use Rattle.vx_script.specs.declared.line.ScriptLine.TheVariants.{Apply as ApplyLine, Deliver as DeliverLine, Disk, Fuse as FuseLine, Link as LinkLine, Put, Set as SetLine, Settle, Write as WriteLine}
 use Rattle.vx_events.specs.Doubts.{IsAs, sure, with_disks}
 use Rattle.vx_events.specs.Ends.{IsLeft, found_linked, noted}
+use Rattle.vx_events.specs.Found.{ComesUpAs}
 use Rattle.vx_events.specs.Facts.{site_number}
 use Rattle.vx_events.specs.Failing.{is_failing, made_fail}
 use Rattle.vx_events.specs.LinkEnds.{AreLeft, link_noted, target_noted}
-use Rattle.vx_events.specs.LinksFit.{DoubtFits, IsBlank, LinksFit, RowFits}
-use Rattle.vx_effects.proofs.Fitting.{fit_crashed, fit_happened, fit_resolved, never_some, none_more, some_one, updated_other}
+use Rattle.vx_events.specs.LinksFit.{DoubtFits, IsBlank, IsRested, LinksFit, RowFits, StartsAt}
+use Rattle.vx_effects.proofs.Fitting.{apart_by, fit_crashed, fit_happened, fit_resolved, never_some, none_more, some_one, updated_other}
 use Rattle.vx_effects.proofs.Headers.{bare_none}
-use Rattle.vx_effects.proofs.Moves.{All, Moves, fit_moves, moves_alike, moves_like}
+use Rattle.vx_effects.proofs.Moves.{All, Moves, Rests, fit_moves, moves_alike, moves_like}
 use Rattle.vx_effects.proofs.Outcomes.{outcome_moves, stopped_moves}
 use Rattle.vx_effects.proofs.Tests
 
@@ -40,6 +42,9 @@ fit_doubt d s a doubt fit = record {
   rows = fit.rows;
   later = fit.later;
   bare = fit.bare;
+  starts = fit.starts;
+  quiet = fit.quiet;
+  rests = fit.rests;
   doubts = all_updated (λ (p : ℕ) (o : Option After). (b : After) → o ≡ Some b → DoubtFits d.world p b) d.after s (Some a)
       (λ b e. subst (λ (c : After). DoubtFits d.world s c) (some_one e) doubt) (λ p _. fit.doubts p);
 }
@@ -128,6 +133,8 @@ fit_halved d e s disk opens writes fit =
       up_too = ap (λ (n : Node). n.state) (at_place v.nodes s there) ∙ stays.up opens.0;
       halted_too = ap (λ (n : Node). is_running n.halted) (at_place v.nodes s there);
       row = subst (λ (n : ℕ). RowFits s n (v.links s)) stays.sites (after.rows s);
+      starts = subst (λ (n : Node). StartsAt n (v.links s)) (sym (at_place v.nodes s there)) (after.starts s);
+      quiet = ap (λ (n : Node). n.phase) (at_place v.nodes s there) ∙ after.quiet s;
     })
     (fit_moves d (record d { world = stopped }) (moves_like All w (stopped_by w s disk) stopped refl (λ p. refl) (λ p k. refl) (stopped_moves All w s disk))
     (λ p bare. none_more (w.headers p) (headers_by e w (outcome_of w e) p) (bare_none w p bare e)) (λ p a is. (is, tt)) fit)
@@ -149,21 +156,26 @@ fit_crashed_as d s kept taken up fit =
 -- ---- notes
 
 -- a site with another fuse, or with other disks that are made to fail
-fit_note : (d : Doubted) (s : ℕ) (n : Node) → n.state ≡ (d.world.nodes s).state → n.halted ≡ (d.world.nodes s).halted → LinksFit d
-    → LinksFit (record d { world = with_node d.world s n })
-fit_note d s n state halted fit = fit_moves d (record d { world = with_node d.world s n }) (moves_alike All d.world s n state halted) (λ p _. refl) (λ p a is. (is, tt)) fit
+pub fit_note : (d : Doubted) (s : ℕ) (n : Node) → n.state ≡ (d.world.nodes s).state → n.halted ≡ (d.world.nodes s).halted → n.role ≡ (d.world.nodes s).role
+    → Rests (d.world.nodes s) n → LinksFit d → LinksFit (record d { world = with_node d.world s n })
+fit_note d s n state halted role rests fit =
+    fit_moves d (record d { world = with_node d.world s n }) (moves_alike All d.world s n state halted role rests) (λ p _. refl) (λ p a is. (is, tt)) fit
+
+-- a note leaves all else
+still : {n m : Node} → (n.phase ≡ Quiet → m.phase ≡ Quiet) → (IsRested n → IsRested m) → Rests n m
+still quiet rests = record { quiet = quiet; rests = rests }
 
 pub fit_failing : (d : Doubted) (s disk : ℕ) (on : Bool) → LinksFit d → LinksFit (record d { world = made_fail d.world s disk on })
-fit_failing d s disk on fit = fit_note d s (record (d.world.nodes s) { failing = updated (d.world.nodes s).failing disk on }) refl refl fit
+fit_failing d s disk on fit = fit_note d s (record (d.world.nodes s) { failing = updated (d.world.nodes s).failing disk on }) refl refl refl (still (λ e. e) (λ e. e)) fit
 
 pub fit_fused : (d : Doubted) (s calls : ℕ) → LinksFit d → LinksFit (record d { world = fused d.world s calls })
-fit_fused d s calls fit = fit_note d s (record (d.world.nodes s) { fuse = FuseSet calls }) refl refl fit
+fit_fused d s calls fit = fit_note d s (record (d.world.nodes s) { fuse = FuseSet calls }) refl refl refl (still (λ e. e) (λ e. e)) fit
 
 pub fit_worked : (d : Doubted) (s : ℕ) → LinksFit d → LinksFit (record d { world = worked_on d.world s })
-fit_worked d s fit = fit_note d s (record (d.world.nodes s) { fuse = burned (d.world.nodes s).fuse }) refl refl fit
+fit_worked d s fit = fit_note d s (record (d.world.nodes s) { fuse = burned (d.world.nodes s).fuse }) refl refl refl (still (λ e. e) (λ e. e)) fit
 
 pub fit_disks : (taken : Bool) (s : ℕ) (w : World) (d : Doubted) → LinksFit d → LinksFit (record d { world = with_disks taken s w d.world })
-fit_disks true s w d fit = fit_note d s (record (d.world.nodes s) { failing = (w.nodes s).failing }) refl refl fit
+fit_disks true s w d fit = fit_note d s (record (d.world.nodes s) { failing = (w.nodes s).failing }) refl refl refl (still (λ e. e) (λ e. e)) fit
 fit_disks false s w d fit = fit
 
 pub fit_noted : (s : ℕ) (line : ScriptLine) (d : Doubted) → LinksFit d → LinksFit (record d { world = noted s line d.world })
@@ -181,6 +193,9 @@ fit_as d new v is fit = record {
   later = subst (λ (w : World). (p : ℕ) → w.sites ≤ p → (w.nodes p).state ≡ Bare) (sym is.world) fit.later;
   bare = subst (λ (w : World). (p : ℕ) → (w.nodes p).state ≡ Bare → IsBlank w p) (sym is.world) fit.bare;
   doubts = λ p a e. subst (λ (w : World). DoubtFits w p a) (sym is.world) (fit.doubts p a (sym (is.after p) ∙ e));
+  starts = λ p. subst (λ (w : World). StartsAt (w.nodes p) (w.links p)) (sym is.world) (fit.starts p);
+  quiet = λ p. subst (λ (w : World). (w.nodes p).phase ≡ Quiet) (sym is.world) (fit.quiet p);
+  rests = λ p. subst (λ (w : World). IsRested (w.nodes p)) (sym is.world) (fit.rests p);
 }
 
 -- what a line leaves of the worlds to which its events came
@@ -189,15 +204,16 @@ fit_left s line taken d last new left fit =
     let v : World = with_disks taken s d.world last.world in
     fit_as last new (noted s line v) left (fit_noted s line (record last { world = v }) (fit_disks taken s d.world last fit))
 
-fit_target : (p : Option Packet) (d : Doubted) → LinksFit d → LinksFit (record d { world = target_noted p d.world })
-fit_target None d fit = fit
-fit_target (Some p) d fit = fit_worked d p.target fit
+fit_target : (sites : ℕ) (p : Option Packet) (d : Doubted) → LinksFit d → LinksFit (record d { world = target_noted sites p d.world })
+fit_target sites None d fit = fit
+fit_target sites (Some p) d fit =
+    by_test (λ (v : World). LinksFit (record d { world = v })) (ltb p.target sites) (worked_on d.world p.target) d.world (λ _. fit_worked d p.target fit) (λ _. fit)
 
 fit_link_noted : (w : World) (line : ScriptLine) (d : Doubted) → LinksFit d → LinksFit (record d { world = link_noted w line d.world })
 fit_link_noted w (LinkLine p s sync prot) d fit =
     fit_worked (record d { world = worked_on d.world (site_number w p) }) (site_number w s) (fit_worked d (site_number w p) fit)
 fit_link_noted w (SetLine p s sync prot) d fit = fit_worked d (site_number w p) fit
-fit_link_noted w (DeliverLine number) d fit = fit_target (packet_at w.packets number) d fit
+fit_link_noted w (DeliverLine number) d fit = fit_target w.sites (packet_at w.packets number) d fit
 fit_link_noted w (Settle p s) d fit =
     fit_worked (record d { world = worked_on d.world (site_number w p) }) (site_number w s) (fit_worked d (site_number w p) fit)
 fit_link_noted w other d fit = fit
@@ -223,13 +239,16 @@ fit_empty = record {
   later = λ p h. refl;
   bare = λ p b. record { links = λ k. refl; headers = refl };
   doubts = λ p a e. absurd (never_some e);
+  starts = λ p k _. refl;
+  quiet = λ p. refl;
+  rests = λ p down. let e : Bare ≡ Down = down in absurd (cc);
 }
 
 -- what is found on the disks of a site that is not in doubt, with links that fit
-pub fit_found : (d : Doubted) (s : ℕ) (k : Node) (row : ℕ → LinkOf) → s < d.world.sites → d.after s ≡ None → k.state ≡ Up → RowFits s d.world.sites row → LinksFit d
+pub fit_found : (d : Doubted) (s : ℕ) (n k : Node) (row : ℕ → LinkOf) → s < d.world.sites → d.after s ≡ None → ComesUpAs s d.world.sites n k row → LinksFit d
     → LinksFit (found_linked d s k row)
-fit_found d s k row below sure up fits fit = record {
-  rows = all_updated (λ (p : ℕ) (r : ℕ → LinkOf). RowFits p d.world.sites r) d.world.links s row fits (λ p _. fit.rows p);
+fit_found d s n k row below sure comes fit = record {
+  rows = all_updated (λ (p : ℕ) (r : ℕ → LinkOf). RowFits p d.world.sites r) d.world.links s row comes.fits (λ p _. fit.rows p);
   later = all_updated (λ (p : ℕ) (n : Node). d.world.sites ≤ p → n.state ≡ Bare) d.world.nodes s k (λ h. absurd (omega (arith, below, h))) (λ p _ h. fit.later p h);
   bare = λ p bare. blank p (apart p bare) (subst (λ (n : Node). n.state ≡ Bare) (updated_other d.world.nodes s p k (apart p bare)) bare);
   doubts = λ p a is.
@@ -241,9 +260,27 @@ fit_found d s k row below sure up fits fit = record {
         up_too = f.up_too;
         halted_too = f.halted_too;
         row = f.row;
+        starts = f.starts;
+        quiet = f.quiet;
       };
+  starts = λ p. starting p (eqb p s) refl;
+  quiet = all_updated (λ (p : ℕ) (m : Node). m.phase ≡ Quiet) d.world.nodes s k comes.quiet (λ p _. fit.quiet p);
+  rests = all_updated (λ (p : ℕ) (m : Node). IsRested m) d.world.nodes s k (λ _. comes.rests) (λ p _. fit.rests p);
 }
   where
+    up : k.state ≡ Up
+    up = comes.same.up
+
+    starting : (p : ℕ) (b : Bool) → eqb p s ≡ b → StartsAt (updated d.world.nodes s k p) (updated d.world.links s row p)
+    starting p true e =
+        subst (λ (i : ℕ). StartsAt (updated d.world.nodes s k i) (updated d.world.links s row i)) (sym (eqb_equal p s e))
+        (subst (λ (m : Node). StartsAt m (updated d.world.links s row s)) (sym (at_place d.world.nodes s k))
+        (subst (λ (r : ℕ → LinkOf). StartsAt k r) (sym (at_place d.world.links s row)) comes.starts))
+    starting p false e =
+        let other : p ≡ s → ⊥ = apart_by p s e in
+        subst (λ (m : Node). StartsAt m (updated d.world.links s row p)) (sym (updated_other d.world.nodes s p k other))
+        (subst (λ (r : ℕ → LinkOf). StartsAt (d.world.nodes p) r) (sym (updated_other d.world.links s p row other)) (fit.starts p))
+
     apart : (p : ℕ) → (updated d.world.nodes s k p).state ≡ Bare → p ≡ s → ⊥
     apart p bare same =
         let here : (updated d.world.nodes s k s).state ≡ Bare = subst (λ (i : ℕ). (updated d.world.nodes s k i).state ≡ Bare) same bare in

@@ -5,6 +5,7 @@ pub mod Outcomes
 pub mod Headers
 pub mod Fitting
 pub mod Leaving
+pub mod Finding
 pub mod Effects
 pub mod Writes
 pub mod Rises
@@ -14,3 +15,8 @@ pub mod Restarts
 pub mod Rooms
 pub mod WriteLines
 pub mod Origins
+pub mod LinkParts
+pub mod LinkRows
+pub mod Notes
+pub mod Packets
+pub mod Halves

@@ -1,9 +1,10 @@
 -- What each event keeps of links, of the states of sites and of sites in doubt, but for those that make a site or a link, or crash a site.
-use Rattle.std.proofs.Common.{◌≡◌, ◌∙◌, ℕ, ◌+◌, ◌<◌, [], ◌∷◌, ◌++◌, length, Bool, true, false, refl, sym, subst, arith}
+use Rattle.std.proofs.Common.{◌≡◌, ◌∙◌, ℕ, zero, suc, ◌+◌, ◌<◌, [], ◌∷◌, ◌++◌, length, Bool, true, false, refl, sym, subst, arith}
+use Rattle.std.proofs.lemmas.Bool.Decides.{nat_tests}
 use Rattle.std.specs.Prelude.{not, ◌&&◌, ◌||◌, eqb, leb, ltb, Option, Some, None, if◌then◌else◌}
 use Rattle.vx_model.specs.Answer.{is_too_large}
 use Rattle.vx_model.specs.Content.{Write as WriteBlocks, blocks_in, blocks_from}
-use Rattle.vx_model.specs.Sites.{is_origin, is_up, is_bare}
+use Rattle.vx_model.specs.Sites.{first_line, is_origin, is_up, is_bare, same_line}
 use Rattle.vx_model.specs.Sizes.{is_raw_shape}
 use Rattle.vx_model.specs.declared.limits.TheConstants.{MOST_LINKS, MOST_NUMBER}
 use Rattle.vx_model.specs.declared.link.Prot.TheVariants.{Fail as FailsWhenFull}
@@ -13,15 +14,16 @@ use Rattle.vx_model.specs.declared.no.Named.TheVariants.{Number as ByNumber}
 use Rattle.vx_model.specs.declared.no.No.{No}
 use Rattle.vx_model.specs.declared.no.No.TheVariants.{Device, Down as NotUp, Exists, Limit, Role as WrongRole, Size, Unconfirmed, Unknown}
 use Rattle.vx_model.specs.declared.site.Mark.TheVariants.{Consistent}
+use Rattle.vx_model.specs.declared.site.SPhase.TheVariants.{Quiet}
 use Rattle.vx_model.specs.declared.site.SiteState.{SiteState}
 use Rattle.vx_model.specs.declared.site.SiteState.TheVariants.{Bare, Up, Deported, Down}
-use Rattle.vx_history.proofs.Updates.{and_right, by_test}
+use Rattle.vx_history.proofs.Updates.{and_left, and_right, by_test, eqb_equal}
 use Rattle.vx_history.specs.Admission.{Admitted, Goes, Held_by}
 use Rattle.vx_history.specs.Events.{acknowledged, admitted, applied, applied_by, apply_at, come_back, crash_at, delivered, facts_of, from_memory, gathered_if, greeting_back, handed, heard, is_taken, joined, link_after, link_event, link_heard, link_step, links_changed, lost_touch, opened, packet_at, promises_of, put_in, reached_at, recover_from, recovered_at, recovery, restarted_link, taken_if, ticked_at, ticked_link, update_taken, waited, with_write, written_if}
 use Rattle.vx_history.specs.Gatherings.{completes, emptied, gathered}
 use Rattle.vx_history.specs.LinkForms.{plain_receiver, with_plain}
 use Rattle.vx_history.specs.Receiving.{Received, phase_takes, received_step}
-use Rattle.vx_history.specs.Refusals.{Outcome, agree, at_site, at_work, both_at_work, follows, holds_back, is_consistent, is_empty, is_primary, is_running, is_stale, is_unconfirmed, keeps_links, links_of, may_link, refused, rings_fit, says, some_below, unless, when_live}
+use Rattle.vx_history.specs.Refusals.{Outcome, agree, at_site, at_work, both_at_work, follows, holds_back, is_consistent, is_empty, is_fresh, is_primary, is_running, is_stale, is_unconfirmed, keeps_links, links_of, may_link, refused, rings_fit, says, some_below, unless, when_live}
 use Rattle.vx_history.specs.Sends.{is_linked, promising, sending, with_link, with_links}
 use Rattle.vx_history.specs.Step.{done, joined_blocks, link_part, outcome_of}
 use Rattle.vx_history.specs.Steps.{burned, crash_left, crashed, half_written, logged, raw_made, raw_set, recovered, stopped_by, written}
@@ -37,9 +39,9 @@ use Rattle.vx_history.specs.declared.receiver.REvent.TheVariants.{Applied, Resta
 use Rattle.vx_history.specs.declared.receiver.RState.{RState}
 use Rattle.vx_history.specs.declared.sender.SEvent.{SEvent}
 use Rattle.vx_history.specs.declared.sender.SEvent.TheVariants.{Connect as ConnectLink, Cut as CutLink, DataAck as HearDataAck, Hello as HearHello, NetAck as HearNetAck, Pause as PauseLink, Pump as PumpLink, Resume as ResumeLink}
-use Rattle.vx_events.specs.LinksFit.{IsPlain}
+use Rattle.vx_events.specs.LinksFit.{IsPlain, IsRested}
 use Rattle.vx_effects.proofs.Links.{KeepsLink, keeps_restarted, keeps_stepped, keeps_ticked, keeps_touch, none_after, none_of, plain_after}
-use Rattle.vx_effects.proofs.Moves.{All, Moves, Stays, moves_alike, moves_like, moves_link, moves_node, moves_row, moves_same, moves_then}
+use Rattle.vx_effects.proofs.Moves.{All, Moves, Rests, Stays, StillKeeps, keeps_role, moves_alike, moves_kept, moves_like, moves_link, moves_node, moves_row, moves_same, moves_then}
 use Rattle.vx_effects.proofs.Tests
 
 -- the event makes no site and no link, and crashes no site
@@ -93,16 +95,63 @@ keeps_set l sync linked = record {
   none = none_of l (record l { sync = sync; prot = FailsWhenFull }) linked;
 }
 
+-- what is written of a site leaves its phase and who feeds it
+calm : {n m : Node} → (n.phase ≡ Quiet → m.phase ≡ Quiet) → (IsRested n → IsRested m) → Rests n m
+calm quiet rests = record { quiet = quiet; rests = rests }
+
+-- a site that is up may be fed by any
+awake : (n m : Node) → m.state ≡ Up → (n.phase ≡ Quiet → m.phase ≡ Quiet) → Rests n m
+awake n m up quiet = record { quiet = quiet; rests = λ _ down. let f : Up ≡ Down = sym up ∙ down in absurd (cc) }
+
+-- ---- the links of a site that joins another line
+
+less_than : (k n : ℕ) → k < suc n → eqb k n ≡ false → k < n
+less_than k n less e = grind (arith, nat_tests)
+
+neither : (a b : Bool) → (a || b) ≡ false → (a ≡ false) × (b ≡ false)
+neither true b e = absurd (cc)
+neither false b e = (refl, e)
+
+none_in : (n : ℕ) (test : ℕ → Bool) → some_below n test ≡ false → (k : ℕ) → k < n → test k ≡ false
+none_in zero test none k less = absurd (omega (arith, less))
+none_in (suc n) test none k less =
+    let split = neither (test n) (some_below n test) none in by_place split.0 (none_in n test split.1 k) (eqb k n) refl
+  where
+    by_place : test n ≡ false → (k < n → test k ≡ false) → (b : Bool) → eqb k n ≡ b → test k ≡ false
+    by_place last rest true e = subst (λ (i : ℕ). test i ≡ false) (sym (eqb_equal k n e)) last
+    by_place last rest false e = rest (less_than k n less e)
+
+module _ (w : World) (p s : ℕ) where
+  no_links : is_fresh w s ≡ true → (k : ℕ) → k < w.sites → is_linked (w.links s k) ≡ false
+  no_links fresh =
+      none_in w.sites (λ k. is_linked (w.links s k))
+      (Tests.not_true (some_below w.sites (λ k. is_linked (w.links s k)))
+      (and_right (is_empty (w.nodes s).log) (not (some_below w.sites (λ k. is_linked (w.links s k))))
+      (and_right (is_primary (w.nodes s).role) (is_empty (w.nodes s).log && not (some_below w.sites (λ k. is_linked (w.links s k)))) fresh)))
+
+  fresh_of : may_link w p s ≡ true → is_fresh w s ≡ true
+  fresh_of may =
+      let lined : Bool = same_line (w.nodes p).line (first_line p) in
+      and_right lined (is_fresh w s)
+      (and_right (is_empty (w.nodes p).log) (lined && is_fresh w s)
+      (and_right (not (eqb s p)) (is_empty (w.nodes p).log && (lined && is_fresh w s))
+      (and_right (is_primary (w.nodes p).role) (not (eqb s p) && (is_empty (w.nodes p).log && (lined && is_fresh w s))) may)))
+
+  -- it keeps none, so its role need not keep any
+  joins_without : may_link w p s ≡ true → StillKeeps w.sites (w.links s) (w.nodes s) (joined (w.nodes p) p (w.nodes s))
+  joins_without may k below linked keeps = let f : true ≡ false = sym linked ∙ no_links (fresh_of may) k below in absurd (cc)
+
 -- ---- the changes
 
 module _ (E : ℕ → Type 0) (w : World) where
   pub written_moves : (s : ℕ) (x : WriteBlocks) → Moves E w (written w s x)
-  written_moves s x = moves_like E w (with_node w s (logged (w.nodes s) x)) (written w s x) refl (λ p. refl) (λ p k. refl) (moves_alike E w s (logged (w.nodes s) x) refl refl)
+  written_moves s x = moves_like E w (with_node w s (logged (w.nodes s) x)) (written w s x) refl (λ p. refl) (λ p k. refl)
+      (moves_alike E w s (logged (w.nodes s) x) refl refl refl (calm (λ e. e) (λ e. e)))
 
   pub half_moves : (s : ℕ) (x : WriteBlocks) (disk : ℕ) → Moves E w (half_written w s x disk)
   half_moves s x disk =
       let n : Node = record (w.nodes s) { log = (w.nodes s).log ++ x ∷ []; halted = Some disk; fuse = burned (w.nodes s).fuse } in
-      moves_node E w s n (λ b. b) (λ h b. b) (λ e. halts (w.nodes s) n refl refl)
+      moves_node E w s n (λ b. b) (λ h b. b) (λ e. halts (w.nodes s) n refl refl) (keeps_role w.sites (w.links s) (w.nodes s) n refl) (calm (λ e. e) (λ e. e))
 
   pub changed_moves : (s : ℕ) (x : WriteBlocks) → Moves E w (links_changed w s x)
   changed_moves s x = moves_row E w s (λ k. link_after (w.nodes s) x k (w.links s k)) (λ k. keeps_after (w.nodes s) x k (w.links s k))
@@ -110,13 +159,14 @@ module _ (E : ℕ → Type 0) (w : World) where
   pub stopped_moves : (s disk : ℕ) → Moves E w (stopped_by w s disk)
   stopped_moves s disk =
       let n : Node = record (w.nodes s) { halted = Some disk; fuse = burned (w.nodes s).fuse } in
-      moves_node E w s n (λ b. b) (λ h b. b) (λ e. halts (w.nodes s) n refl refl)
+      moves_node E w s n (λ b. b) (λ h b. b) (λ e. halts (w.nodes s) n refl refl) (keeps_role w.sites (w.links s) (w.nodes s) n refl) (calm (λ e. e) (λ e. e))
 
   pub raw_moves : (s : ℕ) → s < w.sites → (w.nodes s).state ≡ Bare → Moves E w (raw_made w s)
   raw_moves s below bare =
       let n : Node = raw_set s (w.nodes s) in
       moves_like E w (with_node w s n) (raw_made w s) refl (λ p. refl) (λ p k. refl)
-      (moves_node E w s n (λ b. bare) (λ h b. absurd (omega (arith, below, h))) (λ e. not_up (w.nodes s) n (λ up. let f : Up ≡ Bare = sym up ∙ bare in cc)))
+      (moves_node E w s n (λ b. bare) (λ h b. absurd (omega (arith, below, h))) (λ e. not_up (w.nodes s) n (λ up. let f : Up ≡ Bare = sym up ∙ bare in cc))
+      (λ k _ _ _. refl) (awake (w.nodes s) n refl (λ e. e)))
 
   pub linked_moves : (p s : ℕ) (l : LinkOf) → KeepsLink (w.links p s) l → (v : World) → v.sites ≡ w.sites → ((i : ℕ) → v.nodes i ≡ w.nodes i)
       → ((i k : ℕ) → v.links i k ≡ (with_link w p s l).links i k) → Moves E w v
@@ -132,6 +182,17 @@ module _ (E : ℕ → Type 0) (w : World) where
       let r : RState = (received_step (plain_receiver n) (RestartSite (length n.log) (n.session + 1))).state in
       by_test (λ (m : Node). m.state ≡ Up) (is_origin n.role) (recovered n) (record (recovered n) { session = r.session; mark = r.mark }) (λ _. refl) (λ _. refl)
 
+  -- it has the role that it had, and comes to no replay
+  same_role : (n : Node) → (come_back n).role ≡ n.role
+  same_role n =
+      let r : RState = (received_step (plain_receiver n) (RestartSite (length n.log) (n.session + 1))).state in
+      by_test (λ (m : Node). m.role ≡ n.role) (is_origin n.role) (recovered n) (record (recovered n) { session = r.session; mark = r.mark }) (λ _. refl) (λ _. refl)
+
+  same_phase : (n : Node) → (come_back n).phase ≡ n.phase
+  same_phase n =
+      let r : RState = (received_step (plain_receiver n) (RestartSite (length n.log) (n.session + 1))).state in
+      by_test (λ (m : Node). m.phase ≡ n.phase) (is_origin n.role) (recovered n) (record (recovered n) { session = r.session; mark = r.mark }) (λ _. refl) (λ _. refl)
+
   pub recovered_moves : (s : ℕ) → (w.nodes s).state ≡ Down → Moves E w (recovered_at w s)
   recovered_moves s down =
       let n : Node = come_back (w.nodes s) in
@@ -141,7 +202,8 @@ module _ (E : ℕ → Type 0) (w : World) where
       moves_like E w u (recovered_at w s) refl (λ p. refl) (λ p k. refl)
       (moves_then E w v u
       (moves_node E w s n (λ b. let f : Up ≡ Bare = sym up ∙ b in absurd (cc)) (λ h b. let f : Down ≡ Bare = sym down ∙ b in absurd (cc))
-      (λ e. not_up (w.nodes s) n (λ is. let f : Up ≡ Down = sym is ∙ down in cc)))
+      (λ e. not_up (w.nodes s) n (λ is. let f : Up ≡ Down = sym is ∙ down in cc))
+      (keeps_role w.sites (w.links s) (w.nodes s) n (same_role (w.nodes s))) (awake (w.nodes s) n up (λ e. same_phase (w.nodes s) ∙ e)))
       (moves_row E v s (λ to. restarted_link n to (w.links s to)) (λ k. keeps_restarted n k (w.links s k))))
 
 -- a site that goes down is in doubt no more
@@ -156,7 +218,8 @@ crash_moves w s k up =
     let u : World = with_links v s row in
     let moves : Moves (Apart s) w u =
     moves_then (Apart s) w v u
-    (moves_node (Apart s) w s n (λ b. let f : Down ≡ Bare = b in absurd (cc)) (λ h b. let f : Up ≡ Bare = sym up ∙ b in absurd (cc)) (λ e. absurd (e refl)))
+    (moves_node (Apart s) w s n (λ b. let f : Down ≡ Bare = b in absurd (cc)) (λ h b. let f : Up ≡ Bare = sym up ∙ b in absurd (cc)) (λ e. absurd (e refl))
+    (keeps_role w.sites (w.links s) (w.nodes s) n refl) (calm (λ e. e) (λ _ _. refl)))
     (moves_row (Apart s) v s row (λ j. keeps_touch (w.links s j))) in
     by_test (λ (x : World). Moves (Apart s) w (emptied (with_links x s row) s)) (is_origin (w.nodes s).role) (crash_left w s k) (with_node w s n)
     (λ _. moves_like (Apart s) w u (emptied (with_links (crash_left w s k) s row) s) refl (λ p. refl) (λ p j. refl) moves)
@@ -188,11 +251,11 @@ module _ (w : World) where
   applied_moves s r (Take number) = moves_same All w
   applied_moves s r (AcksFromDisk number) =
       let n : Node = applied (w.nodes s) number r.mark in
-      moves_like All w (with_node w s n) (acknowledged w s n) refl (λ p. refl) (λ p k. refl) (moves_alike All w s n refl refl)
+      moves_like All w (with_node w s n) (acknowledged w s n) refl (λ p. refl) (λ p k. refl) (moves_alike All w s n refl refl refl (calm (λ e. e) (λ e. e)))
 
   recovery_moves : (s : ℕ) (fails : Option ℕ) → (w.nodes s).state ≡ Down → Leaves (recovery w s fails)
   recovery_moves s None down = recovered_moves All w s down
-  recovery_moves s (Some disk) down = moves_alike All w s (record (w.nodes s) { session = (w.nodes s).session + 1 }) refl refl
+  recovery_moves s (Some disk) down = moves_alike All w s (record (w.nodes s) { session = (w.nodes s).session + 1 }) refl refl refl (calm (λ e. e) (λ e. e))
 
   recover_moves : (state : SiteState) (s : ℕ) (fails : Option ℕ) → (w.nodes s).state ≡ state → Leaves (recover_from state w s fails)
   recover_moves Bare s fails e = moves_same All w
@@ -209,31 +272,33 @@ module _ (w : World) where
       (λ both. moves_link All w p.target p.source _ (keeps_stepped p.source l e _ (and_right (keeps_links (w.nodes p.target).role) (is_linked l) both)))
       (λ _. moves_same All w)
 
-  taken_moves : (whole : Bool) (p : Packet) (x : WriteBlocks) (number : ℕ) → Leaves (taken_if whole w p x number)
-  taken_moves true p x number =
+  taken_moves : (whole : Bool) (p : Packet) (x : WriteBlocks) (number : ℕ) → (w.nodes p.target).state ≡ Up → Leaves (taken_if whole w p x number)
+  taken_moves true p x number up =
       let n : Node = with_write (w.nodes p.target) p.source x in
-      moves_like All w (with_node w p.target n) (taken_if true w p x number).world refl (λ i. refl) (λ i k. refl) (moves_alike All w p.target n refl refl)
-  taken_moves false p x number = moves_same All w
+      moves_like All w (with_node w p.target n) (taken_if true w p x number).world refl (λ i. refl) (λ i k. refl)
+      (moves_alike All w p.target n refl refl refl (awake (w.nodes p.target) n up (λ e. e)))
+  taken_moves false p x number up = moves_same All w
 
-  update_moves : (p : Packet) (x : WriteBlocks) (a : RAction) → Leaves (update_taken w p x a)
-  update_moves p x DoesNothing = moves_same All w
-  update_moves p x Ignores = moves_same All w
-  update_moves p x (IgnoredAck number) = moves_like All w w (from_memory w (w.nodes p.target) p number) refl (λ i. refl) (λ i k. refl) (moves_same All w)
-  update_moves p x (Take number) = taken_moves (completes (w.gathering p.target) p) p x number
-  update_moves p x (AcksFromDisk number) = moves_same All w
+  update_moves : (p : Packet) (x : WriteBlocks) (a : RAction) → (w.nodes p.target).state ≡ Up → Leaves (update_taken w p x a)
+  update_moves p x DoesNothing up = moves_same All w
+  update_moves p x Ignores up = moves_same All w
+  update_moves p x (IgnoredAck number) up = moves_like All w w (from_memory w (w.nodes p.target) p number) refl (λ i. refl) (λ i k. refl) (moves_same All w)
+  update_moves p x (Take number) up = taken_moves (completes (w.gathering p.target) p) p x number up
+  update_moves p x (AcksFromDisk number) up = moves_same All w
 
-  heard_moves : (p : Packet) (m : Message) → Leaves (heard w p m)
-  heard_moves p (Hello session number stored) = heard_by_link p (HearHello session number stored)
-  heard_moves p (Update number x) =
+  heard_moves : (p : Packet) (m : Message) → (w.nodes p.target).state ≡ Up → Leaves (heard w p m)
+  heard_moves p (Hello session number stored) up = heard_by_link p (HearHello session number stored)
+  heard_moves p (Update number x) up =
       by_test Leaves (is_origin (w.nodes p.target).role) (says w IsIgnored) _ (λ _. moves_same All w)
-      (λ _. update_moves p x (received_step (plain_receiver (w.nodes p.target)) (HearUpdate p.line number)).action)
-  heard_moves p (NetAck session number) = heard_by_link p (HearNetAck session number)
-  heard_moves p (DataAck number) = heard_by_link p (HearDataAck number)
+      (λ _. update_moves p x (received_step (plain_receiver (w.nodes p.target)) (HearUpdate p.line number)).action up)
+  heard_moves p (NetAck session number) up = heard_by_link p (HearNetAck session number)
+  heard_moves p (DataAck number) up = heard_by_link p (HearDataAck number)
 
   handed_moves : (p : Packet) → Leaves (handed w p)
   handed_moves p =
       by_test Leaves (is_up (w.nodes p.target).state && is_running (w.nodes p.target).halted) (heard w p p.message) (says w IsIgnored)
-      (λ _. heard_moves p p.message) (λ _. moves_same All w)
+      (λ both. heard_moves p p.message (Tests.up_is (w.nodes p.target).state (and_left (is_up (w.nodes p.target).state) (is_running (w.nodes p.target).halted) both)))
+      (λ _. moves_same All w)
 
   gathered_moves : (b : Bool) (v : World) (p : Packet) → Moves All w v → Moves All w (gathered_if b v p)
   gathered_moves true v p m = moves_like All w v (gathered v p) refl (λ i. refl) (λ i k. refl) m
@@ -252,13 +317,14 @@ module _ (w : World) where
       let few : Outcome = unless (leb MOST_LINKS (links_of w p)) (Limit Links MOST_LINKS) w sized in
       let free : Outcome = unless (is_linked (w.links p s)) (Exists (w.nodes s).name) w few in
       Tests.unless_ends Leaves w refusals (not (may_link w p s)) WrongRole free
-      (λ _. Tests.unless_ends Leaves w refusals (is_linked (w.links p s)) (Exists (w.nodes s).name) few
+      (λ may. Tests.unless_ends Leaves w refusals (is_linked (w.links p s)) (Exists (w.nodes s).name) few
       (λ _. Tests.unless_ends Leaves w refusals (leb MOST_LINKS (links_of w p)) (Limit Links MOST_LINKS) sized
       (λ _. Tests.unless_ends Leaves w refusals (not (agree (w.nodes p).volumes (w.nodes s).volumes && rings_fit (w.nodes p) (w.nodes s))) Size o
-      (λ _. moves_like All w (with_node w s n) (emptied (with_node w s n) s) refl (λ i. refl) (λ i k. refl) (moves_alike All w s n refl refl)))))
+      (λ _. moves_like All w (with_node w s n) (emptied (with_node w s n) s) refl (λ i. refl) (λ i k. refl)
+      (moves_kept All w s n refl refl (joins_without w p s (Tests.not_false (may_link w p s) may)) (calm (λ _. refl) (λ _ _. refl)))))))
   part_moves Made p s sync one = absurd one
   part_moves Marked p s sync one =
-      Tests.unless_ends Leaves w refusals _ WrongRole _ (λ _. moves_alike All w s (record (w.nodes s) { mark = Consistent }) refl refl)
+      Tests.unless_ends Leaves w refusals _ WrongRole _ (λ _. moves_alike All w s (record (w.nodes s) { mark = Consistent }) refl refl refl (calm (λ e. e) (λ e. e)))
   part_moves Opened p s sync one =
       let l : LinkOf = w.links p s in
       let rest : Bool = is_empty (w.nodes p).log && (is_stale l.mode && (phase_takes (w.nodes s).phase && is_consistent (w.nodes s).mark)) in

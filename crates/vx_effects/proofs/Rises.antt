@@ -30,7 +30,8 @@ use Rattle.vx_events.specs.Doubts.{IsAs, with_disks}
 use Rattle.vx_events.specs.Effects.{AddsSite, ChangesAt, EffectAt}
 use Rattle.vx_events.specs.Ends.{IsLeft, noted}
 use Rattle.vx_events.specs.Failing.{is_failing}
-use Rattle.vx_effects.specs.Applies.{applied_up_to, behind_apply, waiting_of}
+use Rattle.vx_events.specs.Stamps.{waiting_of}
+use Rattle.vx_effects.specs.Applies.{applied_up_to, behind_apply}
 use Rattle.vx_effects.proofs.Effects.{Turns, effect_of, effect_plain, effect_quiet, quiet_then, turns_like, turns_node, turns_none, updated_self}
 use Rattle.vx_effects.proofs.Fitting.{none_more, updated_other}
 use Rattle.vx_effects.proofs.Tests

@@ -28,6 +28,10 @@ bare_is Up e = absurd (cc)
 bare_is Deported e = absurd (cc)
 bare_is Down e = absurd (cc)
 
+pub not_true : (b : Bool) → not b ≡ true → b ≡ false
+not_true true e = absurd (cc)
+not_true false e = refl
+
 pub not_false : (b : Bool) → not b ≡ false → b ≡ true
 not_false true e = refl
 not_false false e = absurd (cc)

@@ -5,10 +5,7 @@ use Rattle.vx_history.specs.Events.{applied}
 use Rattle.vx_history.specs.LinkForms.{plain_receiver}
 use Rattle.vx_history.specs.Receiving.{marked_by}
 use Rattle.vx_history.specs.World.{Node}
-
--- how many records wait
-abbrev pub waiting_of : Node → ℕ
-waiting_of n = length n.log - n.safe
+use Rattle.vx_events.specs.Stamps.{waiting_of}
 
 -- the number up to which its records are applied, behind the next of them, so many
 abbrev pub applied_up_to : Node → (count : ℕ) → ℕ

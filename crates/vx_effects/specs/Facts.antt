@@ -38,6 +38,10 @@ marked_group mark (Some rvg) = Some (record rvg { mark = mark })
 abbrev pub logged_fact : (number blocks : ℕ) → SiteFacts → SiteFacts
 logged_fact number blocks f = record f { rvg = last_group number f.rvg; links = grown_links number blocks f.links }
 
+-- a site that receives, has no links, and took one more write
+abbrev pub received_fact : (number : ℕ) → SiteFacts → SiteFacts
+received_fact number f = record f { rvg = last_group number f.rvg }
+
 -- a site that a disk halted in such a write
 abbrev pub half_fact : (disk number blocks : ℕ) → SiteFacts → SiteFacts
 half_fact disk number blocks f = record f { rvg = halted_group disk f.rvg; links = grown_links number blocks f.links }

@@ -1,4 +1,5 @@
 pub mod Applies
 pub mod Facts
+pub mod LinkParts
 pub mod Restarts
 pub mod Writes

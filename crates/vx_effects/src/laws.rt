@@ -29,10 +29,15 @@ ghost use Rattle.vx_events.specs.Doubts.{run_as, sure};
 ghost use Rattle.vx_events.specs.Effects.{AddsSite, ChangesAt, ChangesNode, EffectAt};
 ghost use Rattle.vx_events.specs.Ends.{IsLeft, found_linked};
 ghost use Rattle.vx_events.specs.Facts.{site_fact};
+ghost use Rattle.vx_events.specs.Fails.{Fails};
+ghost use Rattle.vx_events.specs.Found.{ComesUpAs};
 ghost use Rattle.vx_events.specs.LinkEnds.{AreLeft};
+ghost use Rattle.vx_events.specs.LinkFinds.{FindsOther};
 ghost use Rattle.vx_events.specs.LinkedFacts.{link_facts, linked_fact, linked_facts};
 ghost use Rattle.vx_events.specs.LinksFit.{LinksFit, RowFits};
-ghost use Rattle.vx_effects.specs.Applies.{applied_up_to, behind_apply, waiting_of};
+ghost use Rattle.vx_events.specs.Stamps.{waiting_of};
+ghost use Rattle.vx_events.specs.declared.said.Said.{Said};
+ghost use Rattle.vx_effects.specs.Applies.{applied_up_to, behind_apply};
 ghost use Rattle.vx_effects.specs.Facts.{down_fact, fact_of, half_fact, halted_fact, logged_fact, marked_fact, risen_fact};
 ghost use Rattle.vx_effects.specs.Restarts.{IsAgain, are_fine, facts_again, needs_of, row_of};
 ghost use Rattle.vx_effects.specs.Writes.{IsLetIn};
@@ -47,7 +52,8 @@ pub fn links_stay_fit()
     ensures halved { (d : Doubted) (e : Event) (s disk : ℕ) → IsOpen (d.world.nodes s) → WritesAt d.world e s → LinksFit d → LinksFit (halved d e s disk) }
     ensures crashed { (d : Doubted) (s kept : ℕ) (taken : Bool) → (d.world.nodes s).state ≡ Up → LinksFit d → LinksFit (crashed_as d s kept taken) }
     ensures left { (s : ℕ) (line : ScriptLine) (taken : Bool) (d last new : Doubted) → IsLeft s line taken d last new → LinksFit last → LinksFit new }
-    ensures found { (d : Doubted) (s : ℕ) (k : Node) (row : ℕ → Link) → s < d.world.sites → d.after s ≡ None → k.state ≡ Up → RowFits s d.world.sites row → LinksFit d → LinksFit (found_linked d s k row) }
+    ensures found { (d : Doubted) (s : ℕ) (n k : Node) (row : ℕ → Link) → s < d.world.sites → d.after s ≡ None → ComesUpAs s d.world.sites n k row → LinksFit d → LinksFit (found_linked d s k row) }
+    ensures finds { (d : Doubted) (line : ScriptLine) (fails : Fails) (said : Said) (last : Doubted) → FindsOther d line fails said last → LinksFit d → LinksFit last }
     ensures links_left { (line : ScriptLine) (d last new : Doubted) → AreLeft line d last new → LinksFit last → LinksFit new }
 {}
 

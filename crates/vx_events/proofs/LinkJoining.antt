@@ -17,7 +17,6 @@ use Rattle.vx_model.specs.declared.site.SiteState.{SiteState}
 use Rattle.vx_model.specs.declared.site.SiteState.TheVariants.{Up}
 use Rattle.vx_history.specs.Events.{linked_sites, joined}
 use Rattle.vx_history.specs.Gatherings.{emptied}
-use Rattle.vx_history.specs.Good.{Good}
 use Rattle.vx_history.specs.Refusals as history
 use Rattle.vx_history.specs.Refusals.{Outcome, unless, unless_halted, at_site, both_at_work, may_join, may_link, is_fresh, agree, is_empty, links_of, some_below}
 use Rattle.vx_history.specs.Sends.{is_linked}
@@ -37,6 +36,7 @@ use Rattle.vx_order.specs.Sites.{site_named, site_off, rvg_of, halted_one}
 use Rattle.vx_order.specs.Subject.{first_name, second_name, need_of, halt_of}
 use Rattle.vx_order.specs.Tests.{when, before, first_of}
 use Rattle.vx_script.specs.declared.line.ScriptLine.TheVariants.{Link}
+use Rattle.vx_events.specs.Durables.{AreDurable}
 use Rattle.vx_events.specs.Facts.{site_number, volume_fact, group_fact, group_by, head_of}
 use Rattle.vx_events.specs.LinkedFacts.{link_fact, link_facts, links_by, links_in, linked_fact, linked_facts, refused_by}
 use Rattle.vx_history.specs.Listed.{IsAmong, AreListed}
@@ -58,20 +58,26 @@ primary_of Bunker e = absurd (cc)
 none_of : (k : ℕ) → (k == 0) ≡ true → k ≡ 0
 none_of k e = grind (arith, nat_tests)
 
+-- a site that is up and is not halted, as its facts show it
+pub record IsHere (w : World) (i : ℕ) : Type 0 where
+  pub up : (w.nodes i).state ≡ Up
+  pub running : (w.nodes i).halted ≡ None
+  pub group : rvg_of (Some (linked_fact w i)) ≡ Some (group_fact (w.nodes i))
+
 -- a site that logged nothing
 record IsUnused (n : Node) : Type 0 where
   role : n.role ≡ Primary
   empty : is_empty n.log ≡ true
 
-unused_of : (w : World) → Good w → (i : ℕ) → (w.nodes i).halted ≡ None → is_unused (Some (group_fact (w.nodes i))) ≡ true → IsUnused (w.nodes i)
-unused_of w good i runs e =
+unused_of : (w : World) → AreDurable w → (i : ℕ) → i < w.sites → IsHere w i → is_unused (Some (group_fact (w.nodes i))) ≡ true → IsUnused (w.nodes i)
+unused_of w whole i below here e =
     let n : Node = w.nodes i in
     let parts = all_of (is_primary n.role) (head_of n == 0) e in
     let role : n.role ≡ Primary = primary_of n.role parts.0 in
     let origin : is_origin n.role ≡ true = ap is_origin role in
     let head : head_of n ≡ n.safe = ap (λ (b : Bool). if b then n.safe else length n.log) origin in
     let safe : n.safe ≡ 0 = sym head ∙ none_of (head_of n) parts.1 in
-    let fits : length n.log ≤ n.safe = (good.nodes i).origin_whole origin runs in
+    let fits : length n.log ≤ n.safe = whole.each i below here.up here.running origin in
     let none : length n.log ≡ 0 = omega (arith, safe, fits) in
     record { role = role; empty = ap (λ (k : ℕ). eqb k 0) none }
 
@@ -130,12 +136,6 @@ free_link (Some l) site e = absurd (cc)
 below_limit : (k : ℕ) → nat_le MOST_LINKS k ≡ false → k < MOST_LINKS
 below_limit k e = grind (arith, nat_tests)
 
--- a site that is up and is not halted, as its facts show it
-pub record IsHere (w : World) (i : ℕ) : Type 0 where
-  pub up : (w.nodes i).state ≡ Up
-  pub running : (w.nodes i).halted ≡ None
-  pub group : rvg_of (Some (linked_fact w i)) ≡ Some (group_fact (w.nodes i))
-
 pub here_by : (w : World) (i : ℕ) → not (is_up (w.nodes i).state) ≡ false → halted_one (Some (linked_fact w i)) ≡ None → IsHere w i
 here_by w i up running =
     let here : (w.nodes i).state ≡ Up = up_state (w.nodes i).state (not_false (is_up (w.nodes i).state) up) in
@@ -181,7 +181,7 @@ both_hold true y e f = f
 both_hold false y e f = absurd (cc)
 
 -- by what the one order says of the sites
-module _ (w : World) (good : Good w) (listed : AreListed w) (p s : List ℕ) (one : Seat w p) (two : Seat w s)
+module _ (w : World) (whole : AreDurable w) (listed : AreListed w) (p s : List ℕ) (one : Seat w p) (two : Seat w s)
     (here : IsHere w (site_number w p)) (there : IsHere w (site_number w s)) where
   abbrev a : ℕ
   a = site_number w p
@@ -209,8 +209,8 @@ module _ (w : World) (good : Good w) (listed : AreListed w) (p s : List ℕ) (on
       let r = all_of (on_first (Some a) (Some (group_fact (w.nodes a)))) _ q.1 in
       let t = all_of (are_two (Some a) (Some b)) _ r.1 in
       let u = all_of (is_unused (Some (group_fact (w.nodes b)))) _ t.1 in
-      let first = unused_of w good a here.running q.0 in
-      let second = unused_of w good b there.running u.0 in
+      let first = unused_of w whole a one.below here q.0 in
+      let second = unused_of w whole b two.below there u.0 in
       let none : link_count (Some (linked_fact w b)) ≡ 0 = none_of (link_count (Some (linked_fact w b))) u.1 in
       both_hold (history.is_primary (w.nodes a).role) _ (ap history.is_primary first.role)
       (both_hold (not (eqb b a)) _ t.0
@@ -232,10 +232,10 @@ module _ (w : World) (good : Good w) (listed : AreListed w) (p s : List ℕ) (on
       ∙ subst (λ (o : Option RvgFacts). (volumes_agree (Some (linked_fact w a)) (Some (linked_fact w b)) && ring_fits o (Some (group_fact (w.nodes b)))) ≡ true) here.group
       (subst (λ (o : Option RvgFacts). (volumes_agree (Some (linked_fact w a)) (Some (linked_fact w b)) && ring_fits (rvg_of (Some (linked_fact w a))) o) ≡ true) there.group e)
 
-pub join_agrees : (w : World) (files : Bool) (p s : List ℕ) (sync : SyncMode) (prot : Prot) → Good w → AreListed w → refused_by w files (Link p s sync prot) ≡ None
+pub join_agrees : (w : World) (files : Bool) (p s : List ℕ) (sync : SyncMode) (prot : Prot) → AreDurable w → AreListed w → refused_by w files (Link p s sync prot) ≡ None
     → (step w (LinkAt (site_number w p) (site_number w s) sync Joins)).said ≡ Done
 unfolding first_name second_name need_of halt_of ask_of first_of
-join_agrees w files p s sync prot good listed free =
+join_agrees w files p s sync prot whole listed free =
     let t = passes (linked_facts w) files (Link p s sync prot) free in
     let a : ℕ = site_number w p in
     let b : ℕ = site_number w s in
@@ -264,15 +264,15 @@ join_agrees w files p s sync prot good listed free =
     (when_none (not (volumes_agree (Some (linked_fact w a)) (Some (linked_fact w b)) && ring_fits (rvg_of (Some (linked_fact w a))) (rvg_of (Some (linked_fact w b))))) _
     (subst (λ (o : Option SiteFacts). when (not (volumes_agree (Some (linked_fact w a)) o && ring_fits (rvg_of (Some (linked_fact w a))) (rvg_of o))) Size ≡ None) two.found
     (subst (λ (o : Option SiteFacts). when (not (volumes_agree o (site_named (linked_facts w) s) && ring_fits (rvg_of o) (rvg_of (site_named (linked_facts w) s)))) Size ≡ None) one.found t.link_size))) in
-    let links : links_of w a ≡ link_count (Some (linked_fact w a)) = listed.count a ∙ sym (counted_here w good listed p s one two here there a here.up) in
+    let links : links_of w a ≡ link_count (Some (linked_fact w a)) = listed.count a ∙ sym (counted_here w whole listed p s one two here there a here.up) in
     ap (λ (o : Outcome). o.said)
     (joins_step w a b sync (record {
       below_a = one.below;
       below_b = two.below;
       first = here;
       second = there;
-      may = can w good listed p s one two here there may;
-      free = free_here w good listed p s one two here there taken;
+      may = can w whole listed p s one two here there may;
+      free = free_here w whole listed p s one two here there taken;
       few = omega (arith, few, links);
-      fits = fits_here w good listed p s one two here there fits;
+      fits = fits_here w whole listed p s one two here there fits;
     }))

@@ -1,7 +1,7 @@
 -- What a line notes is no more than a note: it leaves worlds that differ in notes alone.
 use Rattle.std.proofs.Common.{◌≡◌, ◌∙◌, ℕ, Bool, true, false, ap, sym, subst, refl}
-use Rattle.std.specs.Prelude.{Option, Some, None}
-use Rattle.vx_history.proofs.Updates.{all_updated}
+use Rattle.std.specs.Prelude.{Option, Some, None, ltb}
+use Rattle.vx_history.proofs.Updates.{all_updated, by_test}
 use Rattle.vx_history.specs.Doubts.{Doubted}
 use Rattle.vx_history.specs.Events.{packet_at}
 use Rattle.vx_history.specs.Likes.{IsLike}
@@ -93,14 +93,14 @@ like_worked v s = like_noted v s (burned (v.nodes s).fuse)
 like_twice : (v : World) (p s : ℕ) → IsLike v (worked_on (worked_on v p) s)
 like_twice v p s = like_then (like_worked v p) (like_worked (worked_on v p) s)
 
-like_target : (o : Option Packet) (v : World) → IsLike v (target_noted o v)
-like_target None v = like_self v
-like_target (Some p) v = like_worked v p.target
+like_target : (sites : ℕ) (o : Option Packet) (v : World) → IsLike v (target_noted sites o v)
+like_target sites None v = like_self v
+like_target sites (Some p) v = by_test (λ (u : World). IsLike v u) (ltb p.target sites) (worked_on v p.target) v (λ _. like_worked v p.target) (λ _. like_self v)
 
 links_noted : (w : World) (line : ScriptLine) (v : World) → IsLike v (link_noted w line v)
 links_noted w (Link p s sync prot) v = like_twice v (site_number w p) (site_number w s)
 links_noted w (Set p s sync prot) v = like_worked v (site_number w p)
-links_noted w (Deliver number) v = like_target (packet_at w.packets number) v
+links_noted w (Deliver number) v = like_target w.sites (packet_at w.packets number) v
 links_noted w (Settle p s) v = like_twice v (site_number w p) (site_number w s)
 links_noted w other v = like_self v
 

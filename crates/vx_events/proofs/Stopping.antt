@@ -23,7 +23,7 @@ use Rattle.vx_events.proofs.Refused.{Named}
 use Rattle.vx_events.proofs.RefusedCalls.{WriteMay, write_may, put_may}
 use Rattle.vx_events.proofs.StoppingCuts.{cut_like}
 use Rattle.vx_events.specs.Doubts.{run_as}
-use Rattle.vx_events.specs.Ends.{Ends, AllDone, DiskFails, HeaderFails, FuseRunsOut, NoNumber, Finds, FindsLinks, FindsNone, AppliesFound, place_of, LeavesOf, BegunOf, WritesAHeader}
+use Rattle.vx_events.specs.Ends.{Ends, AllDone, DiskFails, HeaderFails, FuseRunsOut, NoNumber, ShowsReceived, Finds, FindsLinks, FindsNone, AppliesFound, place_of, LeavesOf, BegunOf, WritesAHeader}
 use Rattle.vx_events.specs.Facts.{site_number, group_fact, group_by}
 use Rattle.vx_events.specs.Fails.{Fails}
 use Rattle.vx_events.specs.Lines.{LineStep, StepBy, EndsBy, IsRefused, is_of_links}
@@ -285,14 +285,21 @@ module _ (told : Type 0) (is_told : told) (d : Doubted) (files : Bool) (line : S
         came = First (e ∷ rest) split;
         stops = all_stop taken d before fails new (none ∙ sym (all_none s before at.0)) (left_like s line taken d (run_as taken d before) new leads);
       })
+  ended fails said new (ShowsReceived site volume start count is role gives none leads) =
+      let c : Choice = record { kept = 0; reached = 0 } in
+      stopping fails new c (record {
+        events = [];
+        came = First (events_of d.world line c) refl;
+        stops = all_stop false d [] fails new none (left_like s line false d d new leads);
+      })
   ended fails said new (Finds untold c taken site mid n k is from same none says leads) = absurd (untold is_told)
-  ended fails said new (FindsLinks untold c taken site mid n k row is from same fits none says leads) = absurd (untold is_told)
+  ended fails said new (FindsLinks untold c taken site mid n k row is from comes none says leads) = absurd (untold is_told)
   ended fails said new (FindsNone untold c taken site mid n why is from other none says leads) = absurd (untold is_told)
   ended fails said new (AppliesFound untold site to number is role least most none says leads) = absurd (untold is_told)
 
   -- of any kind
   ended_by_kind : (links : Bool) (fails : Fails) (said : Said) (new : Doubted) → EndsBy links told d line fails said new → StopsBy links d line fails new
-  ended_by_kind true fails said new ends = link_stops told d line fails said new ends
+  ended_by_kind true fails said new ends = link_stops told is_told d line fails said new ends
   ended_by_kind false fails said new ends = ended fails said new ends
 
 -- a line that a test refuses stands for none of its events

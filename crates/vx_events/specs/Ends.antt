@@ -1,6 +1,7 @@
 -- How the events of a line end where sites may be in doubt: all are done, or one of them is ended by a failing disk, by a fuse or by want of a
 -- number.
 use Rattle.std.specs.Prelude.{◌≡◌, ◌⊎◌, ℕ, ◌+◌, ◌≤◌, ◌<◌, min, Bool, List, [], ◌∷◌, ◌++◌, Some, false}
+use Rattle.vx_model.specs.Content.{blocks_from}
 use Rattle.vx_model.specs.declared.limits.TheConstants.{MOST_NUMBER}
 use Rattle.vx_model.specs.declared.no.Counted.TheVariants.{Number}
 use Rattle.vx_model.specs.declared.no.No.{No}
@@ -8,26 +9,28 @@ use Rattle.vx_model.specs.declared.no.No.TheVariants.{Device, Limit, Down as IsO
 use Rattle.vx_model.specs.declared.site.SiteState.TheVariants.{Bare, Up, Down}
 use Rattle.vx_model.specs.Sites.{is_origin}
 use Rattle.vx_history.specs.Doubts.{Doubted, halved}
+use Rattle.vx_history.specs.Events.{recovery_greeting}
 use Rattle.vx_history.specs.Headers.{headers_by}
-use Rattle.vx_history.specs.Step.{outcome_of}
+use Rattle.vx_history.specs.Refusals.{is_primary}
+use Rattle.vx_history.specs.Step.{joined_blocks, outcome_of}
 use Rattle.vx_history.specs.Steps.{raw_set, fused, worked_on}
-use Rattle.vx_history.specs.Sends.{with_links}
+use Rattle.vx_history.specs.Sends.{sending, with_links}
 use Rattle.vx_history.specs.World.{Link, Node, World, with_node}
 use Rattle.vx_history.specs.declared.event.Event.{Event}
+use Rattle.vx_history.specs.declared.event.Said.TheVariants.{Got as HasGot}
 use Rattle.vx_history.specs.declared.event.Event.TheVariants.{Site as MakeSite, Raw as MakeRaw, Write as WriteAt, Read as ReadAt, Apply as ApplyAt, Crash as CrashAt, Recover as RecoverAt, Fault}
 use Rattle.vx_script.specs.declared.line.ScriptLine.{ScriptLine}
 use Rattle.vx_script.specs.declared.line.ScriptLine.TheVariants.{Site, Raw, Disk, Crash, Fuse, Recover, Write, Put, Read, Show, Apply, Status}
 use Rattle.vx_events.specs.Doubts.{IsAs, run_as, with_disks}
-use Rattle.vx_events.specs.Facts.{site_number}
+use Rattle.vx_events.specs.Facts.{site_number, volume_number}
 use Rattle.vx_events.specs.Failing.{is_failing, made_fail}
 use Rattle.vx_events.specs.Fails.{Fails, AreBorne}
-use Rattle.vx_events.specs.Found.{SameDisks}
+use Rattle.vx_events.specs.Found.{ComesUpAs, SameDisks}
 use Rattle.vx_history.specs.Stops.{IsFused}
 use Rattle.vx_events.specs.Lists.{Choice, events_of}
 use Rattle.vx_events.specs.LinkViews.{linked_view}
-use Rattle.vx_events.specs.LinksFit.{RowFits}
-use Rattle.vx_events.specs.Sayings.{Replies}
-use Rattle.vx_events.specs.Stamps.{most_stamp_at}
+use Rattle.vx_events.specs.Sayings.{Gives, Replies, received_content}
+use Rattle.vx_events.specs.Stamps.{most_stamp_at, waiting_of}
 use Rattle.vx_events.specs.declared.said.Said.{Said}
 use Rattle.vx_events.specs.declared.said.Said.TheVariants.{DoneAt, Recovered, Refused}
 
@@ -86,16 +89,20 @@ BegunOf w (WriteAt s volume start bytes fails) begun =
 BegunOf w (ApplyAt s count reached) begun = begun ≡ []
 BegunOf w other begun = ⊥
 
--- the greatest stamp of a site's log in which no number is left for this event, of a write or of a recovery
+-- The greatest stamp of a site's log in which no number is left for this event: a write, a recovery, or an apply of the records that wait at a site that
+-- receives.
 abbrev pub NoneLeft : Event → World → (site : ℕ) → Type 0
 NoneLeft (WriteAt s volume start bytes fails) w site = MOST_NUMBER ≤ most_stamp_at w site
 NoneLeft (RecoverAt s fails) w site = MOST_NUMBER ≤ most_stamp_at w site + 2
+NoneLeft (ApplyAt s count reached) w site =
+    (is_origin (w.nodes site).role ≡ false) × (MOST_NUMBER ≤ most_stamp_at w site + waiting_of (w.nodes site))
 NoneLeft other w site = ⊥
 
--- the event takes a number or a session
+-- the event takes numbers or a session
 abbrev pub MayLack : Event → Type 0
 MayLack (WriteAt s volume start bytes fails) = Unit {0}
 MayLack (RecoverAt s fails) = Unit {0}
+MayLack (ApplyAt s count reached) = Unit {0}
 MayLack other = ⊥
 
 -- a refusal that no failing disk gives
@@ -113,9 +120,9 @@ pub data Recovering (d : Doubted) (s : ℕ) (c : Choice) (taken : Bool) (mid : D
 abbrev pub found_up : Doubted → (site : ℕ) → Node → Doubted
 found_up d s k = record d { world = with_node d.world s k }
 
--- the same with these links, which the header of its log keeps
+-- the same with these links, which the header of its log keeps; one that receives greets
 abbrev pub found_linked : Doubted → (site : ℕ) → Node → (row : ℕ → Link) → Doubted
-found_linked d s k row = record d { world = with_links (with_node d.world s k) s row }
+found_linked d s k row = record d { world = sending (with_links (with_node d.world s k) s row) (recovery_greeting s k) }
 
 -- A line at site s that no test refuses. Of disks that tell no contents it is not known how many numbers are left, and a recovery finds
 -- any state, session and number of writes on them: it still changes its own site alone, which keeps its name, its disks and its volumes.
@@ -137,13 +144,17 @@ pub data Ends (told : Type 0) (d : Doubted) (line : ScriptLine) (s : ℕ) (fails
   NoNumber : (c : Choice) (taken : Bool) (before : List Event) (e : Event) (rest : List Event) → events_of d.world line c ≡ before ++ e ∷ rest → MayLack e
       → (told → NoneLeft e (run_as taken d before).world s) → fails ≡ [] → said ≡ Refused (Limit Number MOST_NUMBER)
       → IsLeft s line taken d (run_as taken d before) new → Ends told d line s fails said new
+  -- a site that is no primary shows its blocks with all writes that came to it, of which some may wait
+  ShowsReceived : (site volume : List ℕ) (start count : ℕ) → line ≡ Show site volume start count → is_primary (d.world.nodes s).role ≡ false
+      → Gives told count (HasGot (joined_blocks (blocks_from (received_content (d.world.nodes s)) (volume_number (d.world.nodes s) volume) start count))) said
+      → fails ≡ [] → IsLeft s line false d d new → Ends told d line s fails said new
   -- what stood on disks that tell no contents came up, or was refused
   Finds : (told → ⊥) → (c : Choice) (taken : Bool) (site : List ℕ) (mid : Doubted) (n k : Node) → line ≡ Recover site → Recovering d s c taken mid n
       → SameDisks n k → fails ≡ [] → said ≡ Recovered k.safe (linked_view (found_up mid s k).world s) → IsLeft s line taken d (found_up mid s k) new
       → Ends told d line s fails said new
   -- the same with the links that its header keeps
   FindsLinks : (told → ⊥) → (c : Choice) (taken : Bool) (site : List ℕ) (mid : Doubted) (n k : Node) (row : ℕ → Link) → line ≡ Recover site
-      → Recovering d s c taken mid n → SameDisks n k → RowFits s mid.world.sites row → fails ≡ []
+      → Recovering d s c taken mid n → ComesUpAs s mid.world.sites n k row → fails ≡ []
       → said ≡ Recovered k.safe (linked_view (found_linked mid s k row).world s) → IsLeft s line taken d (found_linked mid s k row) new
       → Ends told d line s fails said new
   FindsNone : (told → ⊥) → (c : Choice) (taken : Bool) (site : List ℕ) (mid : Doubted) (n : Node) (why : No) → line ≡ Recover site

@@ -6,8 +6,8 @@ use Rattle.vx_script.specs.declared.line.DiskState.TheVariants.{Fail, Work}
 use Rattle.vx_script.specs.declared.line.ScriptLine.{ScriptLine}
 use Rattle.vx_script.specs.declared.line.ScriptLine.TheVariants.{Write, Put}
 use Rattle.vx_events.specs.Facts.{site_number}
+use Rattle.vx_events.specs.Sayings.{is_written}
 use Rattle.vx_events.specs.declared.said.Said.{Said}
-use Rattle.vx_events.specs.declared.said.Said.TheVariants.{DoneAt}
 
 -- whether the calls on the disk are to fail
 abbrev pub is_failing : DiskState → Bool
@@ -20,6 +20,6 @@ made_fail w s disk on = with_node w s (record (w.nodes s) { failing = updated (w
 
 -- a write is done only where the disk of its site's log is not made to fail
 abbrev pub NeedsLog : World → ScriptLine → Said → Type 0
-NeedsLog w (Write site volume start count fill) said = (number : ℕ) → said ≡ DoneAt number → (w.nodes (site_number w site)).failing 0 ≡ false
-NeedsLog w (Put site volume start bytes) said = (number : ℕ) → said ≡ DoneAt number → (w.nodes (site_number w site)).failing 0 ≡ false
+NeedsLog w (Write site volume start count fill) said = is_written said ≡ true → (w.nodes (site_number w site)).failing 0 ≡ false
+NeedsLog w (Put site volume start bytes) said = is_written said ≡ true → (w.nodes (site_number w site)).failing 0 ≡ false
 NeedsLog w other said = Unit {0}

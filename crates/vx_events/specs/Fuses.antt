@@ -1,5 +1,5 @@
 -- The fuse of the disks of a site, as the lines of a script tell of it.
-use Rattle.std.specs.Prelude.{◌≡◌, ◌⊎◌, ℕ, ◌+◌, ◌≤◌, List, [], ◌∷◌}
+use Rattle.std.specs.Prelude.{◌≡◌, ◌⊎◌, ℕ, ◌+◌, ◌≤◌, true, List, [], ◌∷◌}
 use Rattle.vx_model.specs.declared.limits.TheConstants.{MOST_CALL_BLOCKS}
 use Rattle.vx_model.specs.Content.{Write, blocks_in}
 use Rattle.vx_history.specs.Steps.{write_calls}
@@ -7,8 +7,8 @@ use Rattle.vx_history.specs.World.{Fuse, Node, World, NoFuse, FuseSet, FuseLit}
 use Rattle.vx_script.specs.declared.line.ScriptLine.{ScriptLine}
 use Rattle.vx_script.specs.declared.line.ScriptLine.TheVariants.{Write as WriteLine, Put}
 use Rattle.vx_events.specs.Facts.{site_number}
+use Rattle.vx_events.specs.Sayings.{is_written}
 use Rattle.vx_events.specs.declared.said.Said.{Said}
-use Rattle.vx_events.specs.declared.said.Said.TheVariants.{DoneAt}
 
 -- so many blocks of a log's ring are taken by these writes
 abbrev pub taken : List Write → ℕ
@@ -36,6 +36,6 @@ MayPass n (FuseLit most) = n ≤ most
 -- A write is done only where the fuse of its site may let as many calls pass as a write is at least. Each one that is done takes these from the
 -- fuse (`logged`), so under a fuse of so many calls at most a fourth as many writes are done.
 abbrev pub NeedsCalls : World → ScriptLine → Said → Type 0
-NeedsCalls w (WriteLine site volume start count fill) said = (number : ℕ) → said ≡ DoneAt number → MayPass write_calls (w.nodes (site_number w site)).fuse
-NeedsCalls w (Put site volume start bytes) said = (number : ℕ) → said ≡ DoneAt number → MayPass write_calls (w.nodes (site_number w site)).fuse
+NeedsCalls w (WriteLine site volume start count fill) said = is_written said ≡ true → MayPass write_calls (w.nodes (site_number w site)).fuse
+NeedsCalls w (Put site volume start bytes) said = is_written said ≡ true → MayPass write_calls (w.nodes (site_number w site)).fuse
 NeedsCalls w other said = Unit {0}

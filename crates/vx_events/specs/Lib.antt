@@ -1,4 +1,5 @@
 pub mod Doubts
+pub mod Durables
 pub mod Effects
 pub mod Ends
 pub mod Facts
@@ -8,6 +9,7 @@ pub mod Found
 pub mod Fuses
 pub mod Lines
 pub mod LinkEnds
+pub mod LinkFinds
 pub mod LinkLists
 pub mod LinkViews
 pub mod LinkedFacts

@@ -14,13 +14,14 @@ use Rattle.vx_events.specs.Fails.{Fails}
 use Rattle.vx_events.specs.Fuses.{IsExact, NeedsCalls}
 use Rattle.vx_events.specs.LinkEnds.{LinkEnds}
 use Rattle.vx_events.specs.LinkedFacts.{refused_by}
+use Rattle.vx_events.specs.Sayings.{is_written}
 use Rattle.vx_events.specs.declared.said.Said.{Said}
-use Rattle.vx_events.specs.declared.said.Said.TheVariants.{DoneAt, Refused}
+use Rattle.vx_events.specs.declared.said.Said.TheVariants.{Refused}
 
 -- A write under a fuse that was just set, in a log whose place is known, is exactly four calls: it is done only where four may pass, and
 -- its fuse runs out only where fewer may.
 pub record IsCutBelow (told : Type 0) (n : Node) (x : WriteBlocks) (said : Said) : Type 0 where
-  pub done : told → (calls number : ℕ) → IsExact n x calls → said ≡ DoneAt number → 4 ≤ calls
+  pub done : told → (calls : ℕ) → IsExact n x calls → is_written said ≡ true → 4 ≤ calls
   pub off : told → (calls : ℕ) → IsExact n x calls → said ≡ Refused IsOff → calls < 4
 
 abbrev pub write_in : World → (site volume : List ℕ) → (start : ℕ) → (bytes : List ℕ) → WriteBlocks

@@ -1,12 +1,12 @@
 -- How a line of links or packets ends, where sites may be in doubt: all its events are done, or one of them is ended by a failing disk,
 -- by a fuse or by want of a number.
-use Rattle.std.specs.Prelude.{◌≡◌, ℕ, ◌+◌, ◌≤◌, Bool, false, List, [], ◌∷◌, ◌++◌, Option, Some, None}
+use Rattle.std.specs.Prelude.{◌≡◌, ℕ, ◌+◌, ◌≤◌, Bool, false, ltb, if◌then◌else◌, List, [], ◌∷◌, ◌++◌, Option, Some, None}
 use Rattle.vx_model.specs.declared.limits.TheConstants.{MOST_NUMBER}
 use Rattle.vx_model.specs.declared.no.Counted.TheVariants.{Number}
 use Rattle.vx_model.specs.declared.no.No.TheVariants.{Device, Limit, Down as IsOff}
 use Rattle.vx_history.specs.Doubts.{Doubted, Runs, halved, crashed_as}
 use Rattle.vx_history.specs.Events.{packet_at}
-use Rattle.vx_history.specs.Stops.{Stops, IsFused, IsHeardAt, IsPartAt, ComesTo, all_fails}
+use Rattle.vx_history.specs.Stops.{Stops, IsFused, IsHeardAt, IsOpen, IsPartAt, ComesTo, all_fails}
 use Rattle.vx_history.specs.Steps.{worked_on}
 use Rattle.vx_history.specs.World.{Packet, World}
 use Rattle.vx_history.specs.declared.event.Event.{Event}
@@ -16,9 +16,10 @@ use Rattle.vx_script.specs.declared.line.ScriptLine.TheVariants.{Link, Set, Deli
 use Rattle.vx_events.specs.Doubts.{IsAs}
 use Rattle.vx_events.specs.Facts.{head_of, site_number}
 use Rattle.vx_events.specs.Fails.{Fails}
+use Rattle.vx_events.specs.LinkFinds.{FindsOther}
 use Rattle.vx_events.specs.LinkLists.{link_events}
 use Rattle.vx_events.specs.Sayings.{Replies}
-use Rattle.vx_events.specs.Stamps.{most_stamp_at}
+use Rattle.vx_events.specs.Stamps.{most_stamp_at, stamps_of}
 use Rattle.vx_events.specs.declared.said.Said.{Said}
 use Rattle.vx_events.specs.declared.said.Said.TheVariants.{Settled, Refused}
 
@@ -27,16 +28,16 @@ abbrev pub LinkReplies : ScriptLine → (d last : Doubted) → List Event → Sa
 LinkReplies (Settle p s) d last events said = said ≡ Settled (head_of (last.world.nodes (site_number d.world p)))
 LinkReplies line d last events said = Replies (Unit {0}) line 0 false d events said
 
--- the fuse of the site that a packet was sent to may have let calls pass
-abbrev pub target_noted : Option Packet → World → World
-target_noted None v = v
-target_noted (Some p) v = worked_on v p.target
+-- the fuse of the site that a packet was sent to, one of so many, may have let calls pass
+abbrev pub target_noted : (sites : ℕ) → Option Packet → World → World
+target_noted sites None v = v
+target_noted sites (Some p) v = if ltb p.target sites then worked_on v p.target else v
 
 -- the world v with what a line of links notes: behind one that may write or flush the disks of a site, its fuse may have let calls pass
 abbrev pub link_noted : World → ScriptLine → World → World
 link_noted w (Link p s sync prot) v = worked_on (worked_on v (site_number w p)) (site_number w s)
 link_noted w (Set p s sync prot) v = worked_on v (site_number w p)
-link_noted w (Deliver number) v = target_noted (packet_at w.packets number) v
+link_noted w (Deliver number) v = target_noted w.sites (packet_at w.packets number) v
 link_noted w (Settle p s) v = worked_on (worked_on v (site_number w p)) (site_number w s)
 link_noted w other v = v
 
@@ -70,6 +71,11 @@ pub data LinkEnds (told : Type 0) (d : Doubted) (line : ScriptLine) (fails : Fai
       → link_events d.world line ≡ before ++ ApplyAt site count reached ∷ rest → Runs d (before ++ Fault site disk ∷ []) last → all_fails before ≡ []
       → fails ≡ (site, disk) ∷ [] → said ≡ Refused (Device disk) → AreLeft line d last new
       → LinkEnds told d line fails said new
+  -- the fuse of this site ran out as waiting records were applied, behind the events before that: it is down, with some of them
+  AppliesCut : (before rest : List Event) (site count reached kept : ℕ) (taken : Bool) (middle : Doubted)
+      → link_events d.world line ≡ before ++ ApplyAt site count reached ∷ rest → Runs d before middle → all_fails before ≡ []
+      → IsOpen (middle.world.nodes site) → IsFused (d.world.nodes site).fuse → fails ≡ [] → said ≡ Refused IsOff
+      → AreLeft line d (crashed_as (halved middle (Fault site 0) site 0) site kept taken) new → LinkEnds told d line fails said new
   -- the fuse of this site ran out in an event
   LinksCut : (e : Event) (site kept : ℕ) (taken : Bool) (middle : Doubted) → ComesTo d (link_events d.world line) e site middle
       → IsFused (d.world.nodes site).fuse → fails ≡ [] → said ≡ Refused IsOff
@@ -78,10 +84,12 @@ pub data LinkEnds (told : Type 0) (d : Doubted) (line : ScriptLine) (fails : Fai
   LogUnread : (before rest : List Event) (e : Event) (site disk : ℕ) (middle : Doubted) → link_events d.world line ≡ before ++ e ∷ rest → ReadsLog e site
       → Runs d before middle → all_fails before ≡ [] → fails ≡ (site, disk) ∷ [] → said ≡ Refused (Device disk)
       → AreLeft line d middle new → LinkEnds told d line fails said new
-  -- no number is left for a header: the events before stand
+  -- no number is left for a header, or for the records that wait: the events before stand
   NoHeader : (before rest : List Event) (e : Event) (site : ℕ) (middle : Doubted) → link_events d.world line ≡ before ++ e ∷ rest
-      → TakesNumber middle.world e site → Runs d before middle → all_fails before ≡ [] → (told → MOST_NUMBER ≤ most_stamp_at middle.world site + 2) → fails ≡ []
+      → TakesNumber middle.world e site → Runs d before middle → all_fails before ≡ [] → (told → MOST_NUMBER ≤ most_stamp_at middle.world site + stamps_of e middle.world site) → fails ≡ []
       → said ≡ Refused (Limit Number MOST_NUMBER) → AreLeft line d middle new → LinkEnds told d line fails said new
+  -- disks that tell no contents were read, or put something together of packets
+  LinksFind : (told → ⊥) → (last : Doubted) → FindsOther d line fails said last → AreLeft line d last new → LinkEnds told d line fails said new
 
 -- What came of these events: all of them; or the first of them; or those before records were applied, and that a disk failed then.
 pub data CameOfLinks (all events : List Event) : Type 0 where

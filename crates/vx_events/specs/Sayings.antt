@@ -1,9 +1,10 @@
 -- What a line is answered, by what is said of its last event.
-use Rattle.std.specs.Prelude.{◌≡◌, ℕ, ◌*◌, Bool, List, [], ◌∷◌, length}
+use Rattle.std.specs.Prelude.{◌≡◌, ℕ, ◌*◌, Bool, true, false, List, [], ◌∷◌, drop, length}
+use Rattle.vx_model.specs.Content.{Content, fold_writes}
 use Rattle.vx_history.specs.Doubts.{Doubted, happened}
 use Rattle.vx_history.specs.Refusals.{Outcome}
 use Rattle.vx_history.specs.Step.{step}
-use Rattle.vx_history.specs.World.{World}
+use Rattle.vx_history.specs.World.{Node, World}
 use Rattle.vx_history.specs.declared.event.Event.{Event}
 use Rattle.vx_history.specs.declared.event.Event.TheVariants.{Read as ReadAt}
 use Rattle.vx_history.specs.declared.event.Said.{Said as EventSaid}
@@ -28,6 +29,10 @@ Repeats w s IsIgnored said = said ≡ Ignored
 Repeats w s (IsRecovered number) said = said ≡ Recovered number (linked_view w s)
 Repeats w s (IsRefused why) said = said ≡ Refused why
 
+-- the content of a site with all writes that came to it, of which some may wait
+abbrev pub received_content : Node → Content
+received_content n = fold_writes n.base (drop n.safe n.log)
+
 -- so many blocks, which are what is said of the read where contents are told
 pub record Gives (told : Type 0) (count : ℕ) (o : EventSaid) (said : Said) : Type 0 where
   pub bytes : List ℕ
@@ -39,6 +44,12 @@ pub record Gives (told : Type 0) (count : ℕ) (o : EventSaid) (said : Said) : T
 abbrev pub RepeatsOf : Type 0 → (site : ℕ) → Event → Outcome → Said → Type 0
 RepeatsOf told s (ReadAt p volume start count) o said = Gives told count o.said said
 RepeatsOf told s other o said = Repeats o.world s o.said said
+
+-- a write is done, whether some link has to confirm it or none
+abbrev pub is_written : Said → Bool
+is_written (DoneAt number) = true
+is_written (Logged number) = true
+is_written other = false
 
 -- a line without events is done, and a `status` shows its site
 abbrev pub SaysItself : World → ScriptLine → Said → Type 0

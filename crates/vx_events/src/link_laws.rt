@@ -9,19 +9,18 @@ ghost use Rattle.vx_history.specs.Step.{step};
 ghost use Rattle.vx_history.specs.World.{Packet, World};
 ghost use Rattle.vx_history.specs.declared.event.Event.TheVariants.{Set as SetAt, Connect as ConnectAt, Cut as CutAt, Pause as PauseAt, Resume as ResumeAt, Tick as TickAt, Pump as PumpAt, Link as LinkAt, Wait as WaitAt};
 ghost use Rattle.vx_history.specs.declared.event.LinkPart.TheVariants.{Joins};
-ghost use Rattle.vx_history.specs.Good.{Good};
 ghost use Rattle.vx_history.specs.declared.event.Said.TheVariants.{Done, DoneAt, Pending};
 ghost use Rattle.vx_script.specs.declared.line.ScriptLine.TheVariants.{Link, Wait, Set, Connect, Cut, Pause, Resume, Tick, Pump, Deliver, Write, Put};
 ghost use Rattle.vx_history.specs.Listed.{AreListed};
+ghost use Rattle.vx_events.specs.Durables.{AreDurable};
 ghost use Rattle.vx_events.specs.Lines.{write_in};
 ghost use Rattle.vx_events.specs.Facts.{facts_of, site_number};
 ghost use Rattle.vx_events.specs.LinkedFacts.{linked_facts, refused_by};
 ghost use Rattle.vx_events.specs.Plain.{IsUnlinked};
 
 /// Where no test of a line on a link refuses, its event is not refused by the world, and a packet that no test refuses is one that the network
-/// still keeps. Where each link has a place of its own among those of its site, a write that is waited for is confirmed or pending; in a good
-/// world of which this holds the first event of a line that makes a link is not refused either. Every world that comes about is such a world
-/// (`stays_good`, `links_are_listed` of vx_world).
+/// still keeps. Where each link has a place of its own among those of its site, a write that is waited for is confirmed or pending; where
+/// besides all writes are durable at a site that runs and takes them, the first event of a line that makes a link is not refused either.
 pub fn link_tests_agree()
     ensures set { (w : World) (files : Bool) (p s : List ℕ) (sync : SyncMode) (prot : Prot) → refused_by w files (Set p s sync prot) ≡ None
         → (step w (SetAt (site_number w p) (site_number w s) sync)).said ≡ Done }
@@ -31,7 +30,7 @@ pub fn link_tests_agree()
     ensures resume { (w : World) (files : Bool) (p s : List ℕ) → refused_by w files (Resume p s) ≡ None → (step w (ResumeAt (site_number w p) (site_number w s))).said ≡ Done }
     ensures tick { (w : World) (files : Bool) (p s : List ℕ) → refused_by w files (Tick p s) ≡ None → (step w (TickAt (site_number w p) (site_number w s))).said ≡ Done }
     ensures pump { (w : World) (files : Bool) (p s : List ℕ) → refused_by w files (Pump p s) ≡ None → (step w (PumpAt (site_number w p) (site_number w s))).said ≡ Done }
-    ensures link { (w : World) (files : Bool) (p s : List ℕ) (sync : SyncMode) (prot : Prot) → Good w → AreListed w → refused_by w files (Link p s sync prot) ≡ None
+    ensures link { (w : World) (files : Bool) (p s : List ℕ) (sync : SyncMode) (prot : Prot) → AreDurable w → AreListed w → refused_by w files (Link p s sync prot) ≡ None
         → (step w (LinkAt (site_number w p) (site_number w s) sync Joins)).said ≡ Done }
     ensures wait { (w : World) (files : Bool) (p : List ℕ) (number : ℕ) → AreListed w → refused_by w files (Wait p number) ≡ None
         → ((step w (WaitAt (site_number w p) number)).said ≡ DoneAt number) ⊎ ((step w (WaitAt (site_number w p) number)).said ≡ Pending number) }

@@ -113,7 +113,7 @@ picks : (b : Bool) (o : Option LinkFacts) (l : LinkFacts) → (if b then o else 
 picks true o l e = (refl, e)
 picks false o l e = absurd (never_some e)
 
-site_shown : (w : World) (i : ℕ) → i < w.sites → slice_get (linked_facts w) i ≡ Some (linked_fact w i)
+pub site_shown : (w : World) (i : ℕ) → i < w.sites → slice_get (linked_facts w) i ≡ Some (linked_fact w i)
 site_shown w i below = let start : 0 + i ≡ i = omega arith in slice_get-values_from (λ j. linked_fact w j) 0 w.sites i below ∙ ap (λ (j : ℕ). Some (linked_fact w j)) start
 
 pub hears_so : (w : World) (sites : List SiteFacts) (target source : ℕ) (l : LinkFacts) → sites ≡ linked_facts w → hearing sites target source ≡ Some l → Hears w target source l
@@ -130,7 +130,7 @@ hears_so w sites target source l facts is =
 -- ---- where nothing hears
 
 -- a link that stands in the list is found
-among_found : (n : Node) (row : ℕ → Link) (s : ℕ) (ts : List ℕ) → IsAmong s ts → find (leads_to s) (link_facts n row ts) ≡ None → ⊥
+pub among_found : (n : Node) (row : ℕ → Link) (s : ℕ) (ts : List ℕ) → IsAmong s ts → find (leads_to s) (link_facts n row ts) ≡ None → ⊥
 among_found n row s [] h e = h
 among_found n row s (t ∷ ts) (inl same) e = by (t == s) (subst (λ (k : ℕ). (t == k) ≡ true) (sym same) (self t)) e
   where

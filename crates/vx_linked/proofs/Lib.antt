@@ -9,3 +9,5 @@ pub mod Pumps
 pub mod Shown
 mod Loops
 pub mod LeastHolds
+pub mod PartFacts
+pub mod Spelling

@@ -27,6 +27,11 @@ none_any p (y ∷ ys) (suc k) x none is = none_any p ys k x (second (p y) (list_
     second true b e = absurd (cc)
     second false b e = e
 
+pub set_length : {A : Type 0} (xs : List A) (k : ℕ) (x : A) → length (slice_set xs k x) ≡ length xs
+set_length [] k x = refl
+set_length (y ∷ xs) zero x = refl
+set_length (y ∷ xs) (suc k) x = ap suc (set_length xs k x)
+
 -- ---- links that come back
 
 pub facts_more : (ls : List KeptLink) (us : List ℕ) (k : ℕ) (l : KeptLink) (u : ℕ) → slice_get ls k ≡ Some l → slice_get us k ≡ Some u
@@ -47,11 +52,6 @@ facts_few (x ∷ ls) (y ∷ us) (suc k) = let rest : length (facts_again (take k
 module _ (number blocks : ℕ) where
   abbrev below : ℕ → List LinkFacts → List LinkFacts
   below = grown_below number blocks
-
-  pub grown_length : (k : ℕ) (ls : List LinkFacts) → length (below k ls) ≡ length ls
-  grown_length zero ls = refl
-  grown_length (suc k) [] = refl
-  grown_length (suc k) (l ∷ ls) = ap suc (grown_length k ls)
 
   pub grown_get : (k : ℕ) (ls : List LinkFacts) → slice_get (below k ls) k ≡ slice_get ls k
   grown_get zero ls = refl

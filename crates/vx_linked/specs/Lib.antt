@@ -5,3 +5,4 @@ pub mod Waits
 pub mod Disks
 pub mod Hearings
 pub mod Holds
+pub mod Making

@@ -13,7 +13,8 @@ pub use blocks::{block, push_block};
 pub use refusals::{push_refusal, refusal};
 pub use statuses::{push_status, status};
 pub use view::{
-    DiskViews, LinkView, LinkViews, PlexViews, RvgView, SiteView, VolumeView, VolumeViews,
+    DiskViews, LinkView, LinkViewRoom, LinkViews, PlexViews, RvgView, SiteView, VolumeView,
+    VolumeViews,
 };
 pub use vx_model::{SiteName, SiteState};
 pub use words::{push_number, push_text};

@@ -1,8 +1,10 @@
 // What a status is made from.
-ghost use Rattle.std.specs.Prelude.{◌≡◌, ◌++◌, ◌∷◌, [], OnOk};
+ghost use Rattle.std.specs.Prelude.{◌≡◌, ◌<◌, ◌++◌, ◌∷◌, [], IfOk, OnOk, length};
+ghost use Rattle.vx_model.specs.declared.limits.TheConstants.{LINK_PLACES};
 
 use std::alloc::Global;
 use std::marker::Model;
+use vx_model::limits::LINK_PLACES;
 use vx_model::{Mark, Mode, Name, OutOfMemory, PlexState, Role, SiteName, SiteState};
 
 /// The replicated volume group of a site, or its log as a bunker.
@@ -220,5 +222,55 @@ impl LinkViews {
         ensures { result.now ≡ self.now }
     {
         &self.links
+    }
+}
+
+/// Room for the links of a site, taken before they are known. Contracts see those that are in it.
+#[derive(Drop)]
+pub struct LinkViewRoom {
+    links: Vec<LinkView>,
+}
+
+impl Model for LinkViewRoom {
+    ghost use Rattle.std.specs.Prelude.{List, ◌≤◌};
+    ghost use Rattle.std.specs.Vec.{vec_capacity};
+    ghost use Rattle.vx_model.specs.declared.limits.TheConstants.{LINK_PLACES};
+    ghost use Rattle.vx_report.specs.declared.view.LinkView.{LinkView};
+
+    ghost Value = { List LinkView };
+
+    ghost view = { λ r. r.links.items };
+
+    ghost invariant = { λ r. LINK_PLACES ≤ vec_capacity r.links };
+}
+
+impl LinkViewRoom {
+    /// Room for as many links as the header of a log has places for.
+    pub fn new(alloc: Global) -> Result<LinkViewRoom, OutOfMemory>
+        ensures { IfOk result (λ room. room ≡ []) }
+    {
+        Ok(LinkViewRoom {
+            links: Vec::with_capacity(alloc, LINK_PLACES)?,
+        })
+    }
+
+    /// Adds a link after the others.
+    pub fn push(&mut self, link: LinkView)
+        requires room { length self.old < LINK_PLACES }
+        ensures { self.new ≡ self.old ++ link ∷ [] }
+    {
+        // The name stands apart, since the checker loses its type inside the link.
+        let name = link.name;
+        match self.links.push(LinkView { name, ..link }) {
+            Ok(()) => {}
+            Err(_) => unreachable!(),
+        }
+    }
+
+    /// The links, to be shown.
+    pub fn into_views(self) -> LinkViews
+        ensures { result ≡ self }
+    {
+        LinkViews { links: self.links }
     }
 }
