@@ -17,9 +17,10 @@ use Rattle.vx_copyio.specs.Putting.{AreasOf, LeavesSame}
 use Rattle.vx_config.specs.Table.{greatest}
 use Rattle.vx_config.specs.declared.config.Config.{Config}
 use Rattle.vx_copies.specs.Bodies.{failed_in}
-use Rattle.vx_copies.specs.Commits.{AreTidy, Becomes, Behind, Below, Held, IsBefore, IsBlamed, IsOne, LeavesLater, Ready, Remain, Stage, Stands, Underway, lowest_member}
+use Rattle.vx_copies.specs.Commits.{AreTidy, Becomes, Behind, Below, Held, IsBefore, IsBlamed, IsOne, LeavesLater, NamesFailed, Ready, Remain, Stage, Stands, Underway, lowest_member}
 use Rattle.vx_copies.specs.Looking.{on_shelf}
 use Rattle.vx_copies.specs.Marks.{NoneGood, failed_at}
+use Rattle.vx_disk.proofs.Causing.{Rose_after}
 use Rattle.vx_copies.proofs.Growing.{before_first, before_later, grown_both}
 use Rattle.vx_copies.proofs.MarkedDisks.{serial_grown}
 use Rattle.vx_copies.proofs.OneTry.{as_before, held_or, kept_good, later_old, later_torn, new_wider, not_both, shelf_same}
@@ -460,3 +461,8 @@ pub is_blamed : (good : ℕ) (a c : Config) (old new : Meaning) (disk : ℕ) →
 is_blamed good a c old new disk more ends (inl rose) = inl rose
 is_blamed good a c old new disk more (inl none) (inr first) = inr (subst (λ (x : Config). NoneGood x.disks (length x.disks) good) first.0 none, first.1)
 is_blamed good a c old new disk more (inr most) (inr first) = let le : greatest ≤ a.serial = subst (λ (x : Config). greatest ≤ x.serial) first.0 most in absurd (omega (arith, le, more))
+
+-- the device of a try is that of all of them
+pub names_failed : (good : ℕ) (a c d : Config) (old mid new : Meaning) (device : ℕ) → Blamed good a c old mid device → d.disks ≡ c.disks → ((k : ℕ) → mid.disk_faults k ≤ new.disk_faults k) → NamesFailed a d old new device
+names_failed good a c d old mid new device (inl rose) same more = inr (Rose_after (old.disk_faults device) (mid.disk_faults device) (new.disk_faults device) rose (more device))
+names_failed good a c d old mid new device (inr first) same more = inl (same ∙ ap (λ (x : Config). x.disks) first.0)

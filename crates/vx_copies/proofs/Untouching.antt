@@ -1,7 +1,7 @@
 -- Calls that leave the disks of a rack untouched, one after the other.
-use Rattle.std.proofs.Common.{◌≡◌, ℕ, Bool, Option, Some, None, refl, ◌∙◌}
+use Rattle.std.proofs.Common.{Option, Some, None, refl, ◌∙◌}
 use Rattle.vx_disk.specs.Causes.{OnDisks}
-use Rattle.vx_disk.specs.Disks.{Disks, SameBlocks, Untouched}
+use Rattle.vx_disk.specs.Disks.{Disks, Untouched}
 
 untouched_twice : (a b c : Disks) → Untouched a b → Untouched b c → Untouched a c
 untouched_twice a b c one two = record {

@@ -199,6 +199,10 @@ abbrev pub StopsLast : {T : Type 0} → (T → Meaning) → ℕ → Config → �
 StopsLast meaning good c last old new (Stopped why) = NamesLast meaning good c last old new why
 StopsLast meaning good c last old new OutOfMemory = Unit {0}
 
+-- no disk came to be held as failed, or the count of this device rose
+abbrev pub NamesFailed : Config → Config → Meaning → Meaning → ℕ → Type 0
+NamesFailed c d old new device = (d.disks ≡ c.disks) ⊎ Rose (old.disk_faults device) (new.disk_faults device)
+
 -- this finding is none: a disk is missing, or no disk has a configuration
 abbrev pub IsNone : Finding Config → Type 0
 IsNone (Found c) = ⊥

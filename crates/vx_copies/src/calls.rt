@@ -1,10 +1,10 @@
 // Commits.
-ghost use Rattle.std.specs.Prelude.{◌≡◌, ◌⊎◌, ◌+◌, ◌*◌, ◌≤◌, true, Err, OnOk, IfErr};
+ghost use Rattle.std.specs.Prelude.{◌≡◌, ◌⊎◌, ◌+◌, ◌*◌, ◌≤◌, true, Err, OnOk, IfErr, IfOk};
 ghost use Rattle.vx_config.specs.Configs.{CanSpell, subdisk_count};
 ghost use Rattle.vx_config.specs.Table.{greatest};
 ghost use Rattle.vx_copyio.specs.Labelling.{AreLarge};
 ghost use Rattle.vx_copies.specs.Bodies.{is_wanted};
-ghost use Rattle.vx_copies.specs.Commits.{Begins, CommitEnds, CommitStopped, Finds, IsTry, NamesLast, StayFit, StopsLast};
+ghost use Rattle.vx_copies.specs.Commits.{Begins, CommitEnds, CommitStopped, Finds, IsTry, NamesFailed, NamesLast, StayFit, StopsLast};
 ghost use Rattle.vx_copies.specs.Marks.{good_count};
 ghost use Rattle.vx_disk.specs.Burns.{MakesCalls};
 ghost use Rattle.vx_model.specs.declared.errors.Stop.TheVariants.{OutOfMemory as MemoryStop, No as Refused};
@@ -32,7 +32,47 @@ use vx_model::{Counted, No, Stop};
 /// Answers 19 exactly where the serial is the greatest one, and then nothing has changed. Else 7 only where each disk of the set has
 /// failed, or the greatest serial was used: it names the disk that failed last, or, where each was held as failed before, the lowest
 /// of the set. And 6 only where the shelf is then down. After 7 and 6 the configuration is as it was, but for the serial, which is the
-/// last one that was begun.
+/// last one that was begun. At Ok it answers the device that failed last; where no disk
+/// came to be held as failed, this is any number.
+pub fn commit_named<S: Shelf>(
+    shelf: &mut S,
+    config: &mut Config,
+    good: u8,
+    room: &mut Room,
+) -> Result<u32, No>
+    requires large { AreLarge (S.meaning shelf.old) }
+    requires can { CanSpell config.old }
+    requires short { subdisk_count config.old ≤ MOST_SUBDISKS }
+    requires wanted { is_wanted (S.meaning shelf.old).units (S.meaning shelf.old).size config.old ≡ true }
+    ensures can { CanSpell config.new }
+    ensures short { subdisk_count config.new ≤ MOST_SUBDISKS }
+    ensures wanted { is_wanted (S.meaning shelf.new).units (S.meaning shelf.new).size config.new ≡ true }
+    ensures begins { Begins (IsTry config.old config.new.serial (S.meaning shelf.old) (S.meaning shelf.new)) config.old (S.meaning shelf.old) (S.meaning shelf.new) }
+    ensures finds { Finds good (IsTry config.old config.new.serial (S.meaning shelf.old) (S.meaning shelf.new)) config.old (S.meaning shelf.old) (S.meaning shelf.new) }
+    ensures fit { StayFit config.old config.new.serial (S.meaning shelf.old) (S.meaning shelf.new) }
+    ensures ends { CommitEnds good config.old config.new (S.meaning shelf.old) (S.meaning shelf.new) result }
+    ensures calls { OnOk result (config.new.serial ≡ config.old.serial + 1 → MakesCalls (4 * good_count config.new.disks) (S.meaning shelf.old) (S.meaning shelf.new)) }
+    ensures last { IfErr result (NamesLast (λ s. S.meaning s) good config.old config.new.serial shelf.old shelf.new) }
+    ensures named { IfOk result (NamesFailed config.old config.new (S.meaning shelf.old) (S.meaning shelf.new)) }
+    ensures limit { greatest ≤ config.old.serial → (result ≡ Err (Limit Number greatest)) × (config.new ≡ config.old) × (shelf.new ≡ shelf.old) }
+{
+    if config.serial >= MOST_NUMBER {
+        return Err(No::Limit {
+            what: Counted::Number,
+            most: MOST_NUMBER,
+        });
+    }
+    let kept = config.disks.copy();
+    match try_all(shelf, config, good, &mut room.bytes) {
+        Ok(device) => Ok(device),
+        Err(no) => {
+            config.disks = kept;
+            Err(no)
+        }
+    }
+}
+
+/// What `commit_named` does, without the device.
 pub fn commit_in<S: Shelf>(
     shelf: &mut S,
     config: &mut Config,
@@ -54,19 +94,9 @@ pub fn commit_in<S: Shelf>(
     ensures last { IfErr result (NamesLast (λ s. S.meaning s) good config.old config.new.serial shelf.old shelf.new) }
     ensures limit { greatest ≤ config.old.serial → (result ≡ Err (Limit Number greatest)) × (config.new ≡ config.old) × (shelf.new ≡ shelf.old) }
 {
-    if config.serial >= MOST_NUMBER {
-        return Err(No::Limit {
-            what: Counted::Number,
-            most: MOST_NUMBER,
-        });
-    }
-    let kept = config.disks.copy();
-    match try_all(shelf, config, good, &mut room.bytes) {
-        Ok(()) => Ok(()),
-        Err(no) => {
-            config.disks = kept;
-            Err(no)
-        }
+    match commit_named(shelf, config, good, room) {
+        Ok(_) => Ok(()),
+        Err(no) => Err(no),
     }
 }
 

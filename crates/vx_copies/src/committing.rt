@@ -1,10 +1,10 @@
 // The tries of a commit.
-ghost use Rattle.std.specs.Prelude.{◌≡◌, ◌⊎◌, ◌+◌, ◌*◌, ◌<◌, ◌≤◌, length, true, OnOk, IfErr, IsTrue, IsFalse};
+ghost use Rattle.std.specs.Prelude.{◌≡◌, ◌⊎◌, ◌+◌, ◌*◌, ◌<◌, ◌≤◌, length, true, OnOk, IfErr, IfOk, IsTrue, IsFalse};
 ghost use Rattle.vx_config.specs.Configs.{CanSpell, subdisk_count};
 ghost use Rattle.vx_config.specs.Table.{greatest};
 ghost use Rattle.vx_copyio.specs.Labelling.{AreLarge};
 ghost use Rattle.vx_copies.specs.Bodies.{is_wanted};
-ghost use Rattle.vx_copies.specs.Commits.{NamesLast, TriesEnd, TryEnds, Underway, lowest_member};
+ghost use Rattle.vx_copies.specs.Commits.{NamesFailed, NamesLast, TriesEnd, TryEnds, Underway, lowest_member};
 ghost use Rattle.vx_disk.specs.Burns.{MakesCalls};
 ghost use Rattle.vx_copies.specs.Marks.{HasGood, NoneGood, good_count};
 ghost use Rattle.vx_model.specs.declared.limits.TheConstants.{MOST_SUBDISKS};
@@ -66,13 +66,14 @@ fn may_try(config: &Config, good: u8) -> bool
     config.serial < MOST_NUMBER && has_good(&config.disks, good)
 }
 
-// Tries under one serial after the other, until the configuration stands, or no disk of the set is left.
+// Tries under one serial after the other, until the configuration stands, or no disk of the set is left. It answers the
+// device that failed last, where one did.
 pub fn try_all<S: Shelf>(
     shelf: &mut S,
     config: &mut Config,
     good: u8,
     room: &mut [u8],
-) -> Result<(), No>
+) -> Result<u32, No>
     requires large { AreLarge (S.meaning shelf.old) }
     requires can { CanSpell config.old }
     requires short { subdisk_count config.old ≤ MOST_SUBDISKS }
@@ -85,12 +86,13 @@ pub fn try_all<S: Shelf>(
     ensures underway { Underway good config.old config.new (S.meaning shelf.old) (S.meaning shelf.new) }
     ensures ends { TriesEnd good config.old config.new (S.meaning shelf.old) (S.meaning shelf.new) result }
     ensures calls { OnOk result (config.new.serial ≡ config.old.serial + 1 → MakesCalls (4 * good_count config.new.disks) (S.meaning shelf.old) (S.meaning shelf.new)) }
+    ensures named { IfOk result (NamesFailed config.old config.new (S.meaning shelf.old) (S.meaning shelf.new)) }
     ensures last { IfErr result (NamesLast (λ s. S.meaning s) good config.old config.new.serial shelf.old shelf.new) }
 {
     let mut device = lowest(good);
     while may_try(config, good) {
         match try_next(shelf, config, good, room) {
-            Ok(()) => return Ok(()),
+            Ok(()) => return Ok(device),
             Err(ShelfError::Fault { disk }) => device = disk,
             Err(ShelfError::Down) => return Err(No::Down),
         }

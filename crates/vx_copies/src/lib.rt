@@ -19,7 +19,7 @@ mod settle;
 mod spelling;
 mod trying;
 
-pub use calls::{commit, commit_in};
+pub use calls::{commit, commit_in, commit_named};
 pub use importing::import;
 use marking::{has_good, mark};
 pub use room::Room;

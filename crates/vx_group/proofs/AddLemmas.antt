@@ -1,9 +1,9 @@
 -- A volume that is added behind those that stand.
-use Rattle.std.proofs.Common.{◌≡◌, inl, inr, ⊎_elim, ℕ, ◌+◌, ◌<◌, ◌≤◌, ◌^◌, Bool, true, false, IsTrue, Option, Some, None, List, length, Result, Ok, Err, refl, ap, sym, ◌∙◌, subst, arith}
+use Rattle.std.proofs.Common.{◌≡◌, inl, inr, ⊎_elim, ℕ, ◌+◌, ◌<◌, ◌≤◌, ◌^◌, true, false, IsTrue, List, length, Err, refl, ap, sym, ◌∙◌, subst, arith}
 use Rattle.std.specs.Prelude.{◌&&◌, ◌==◌}
 use Rattle.std.proofs.lemmas.Bool.{and_from, and_parts, cases_eq, cases_lt}
 use Rattle.std.proofs.lemmas.Option.{slice_get_past}
-use Rattle.vx_disk.specs.Shelf.{Goes, Lawful, Meaning, Nothing, Or, Values}
+use Rattle.vx_disk.specs.Shelf.{Goes, Lawful, Meaning, Nothing, Or}
 use Rattle.vx_copyfmt.specs.Commits.{Tidy}
 use Rattle.vx_model.specs.declared.no.No.{No}
 use Rattle.vx_config.specs.Checks.{blocks_of, blocks_or_none, is_sound}
@@ -23,7 +23,7 @@ use Rattle.vx_layout.specs.Places.{place}
 use Rattle.vx_volume.specs.Plexes.{DisksFit, Inside, SomeActive, active}
 use Rattle.vx_kept.specs.Commits.{Member, Missed, Taken}
 use Rattle.vx_kept.specs.Groups.{group_meaning}
-use Rattle.vx_kept.specs.Keeping.{Acts, AllOn, Extends, Follows, IsTidy, Kept, Sees}
+use Rattle.vx_kept.specs.Keeping.{Acts, AllOn, Follows, IsTidy, Kept, Sees}
 use Rattle.vx_kept.proofs.Chosen.{active_volumes, alike_shape, place_volumes, same_extends}
 use Rattle.vx_kept.proofs.Lasting.{low_Acts}
 use Rattle.vx_kept.proofs.Narrower.{stand_apart}
@@ -31,13 +31,14 @@ use Rattle.vx_kept.proofs.Staling.{all_serial, can_serial}
 use Rattle.vx_kept.proofs.StateLemmas.{same_shape}
 use Rattle.vx_kept.proofs.Steps.{both_Acts, group-Goes, wide_Acts}
 use Rattle.vx_kept.proofs.Whole.{sees_back}
-use Rattle.vx_group.specs.Blames.{Blames, StopsBy, fault_of}
+use Rattle.vx_kept.specs.Trusts.{Trusts}
+use Rattle.vx_group.specs.Blames.{Blames, fault_of}
 use Rattle.vx_group.specs.Makes.{AreZero, StayAsWere, ZerosOn}
 use Rattle.vx_group.specs.Nexts.{Added, IsNext}
 use Rattle.vx_group.specs.Stands.{Stands, counted, meaning_of}
 use Rattle.vx_group.specs.declared.group_core.GroupCore.{GroupCore}
 use Rattle.vx_group.proofs.DetachLemmas.{some_good, stop_sure}
-use Rattle.vx_group.proofs.LongerLemmas.{active_more, blocks_last, blocks_more, last_some, longer_count, longer_extends, longer_follows, longer_on}
+use Rattle.vx_group.proofs.LongerLemmas.{active_more, blocks_last, blocks_more, last_some, longer_count, longer_follows, longer_on}
 use Rattle.vx_group.proofs.Standing.{apart_of_core, can_of, fit_of, kept_of, low_Stands, made, still_large, tidy_of}
 
 module _ (core : GroupCore) (next : Config) (m : Meaning) (stands : Stands core m) (is_next : IsNext core.config next) where
@@ -149,12 +150,12 @@ module _ (core : GroupCore) (next : Config) (m : Meaning) (stands : Stands core 
 
       -- done
       module _ (taken : Taken core.config next e.config m1 m2) (good : e.good ≡ good_set e.config.disks) (wanted : is_wanted m2.units m2.size e.config ≡ true) (can : CanSpell e.config) (on : AllOn e.config) where
-        pub added_Stands : Stands e m2
-        added_Stands = made e m2 wanted can (let few = is_next.few in let same = ap length taken.grown.volumes in omega (arith, few, same))
+        pub added_Stands : Trusts e.committed e.agreed (good_set e.config.disks) m2 → Stands e m2
+        added_Stands trusts = made e m2 wanted can (let few = is_next.few in let same = ap length taken.grown.volumes in omega (arith, few, same))
             (λ w. let small = next_small w in let same = ap (λ (vs : List VolumeEntry). blocks_of vs w) taken.grown.volumes in omega (arith, small, same))
             (still_large m m2 whole_acts.units whole_acts.size stands.large) on
             (subst (λ (g : ℕ). NoneGood e.config.disks (length e.config.disks) g → ⊥) (sym good) (some_good e.config.disks (good_set e.config.disks) taken.some))
-            (subst (λ (g : ℕ). Kept e.config (Member g m2) m2) (sym good) taken.kept) (λ is. taken.tidy)
+            (subst (λ (g : ℕ). Kept e.config (Member g m2) m2) (sym good) taken.kept) (λ is. taken.tidy) (subst (λ (g : ℕ). Trusts e.committed e.agreed g m2) (sym good) trusts)
 
         pub added_stay : StayAsWere core e m m2
         added_stay = record {
@@ -191,13 +192,13 @@ module _ (core : GroupCore) (next : Config) (m : Meaning) (stands : Stands core 
         back_wanted : is_wanted m2.units m2.size back ≡ true
         back_wanted = wanted_same m m2 back whole_acts.units whole_acts.size (wanted_serial m.units m.size core.config d.serial stands.wanted)
 
-        pub missed_Stands : Stands e m2
-        missed_Stands = made e m2 (subst (λ (x : Config). is_wanted m2.units m2.size x ≡ true) (sym config) back_wanted) (subst CanSpell (sym config) (can_serial d.serial core.config d (can_of core m stands) can refl))
+        pub missed_Stands : Trusts e.committed e.agreed core.good m2 → Stands e m2
+        missed_Stands trusts = made e m2 (subst (λ (x : Config). is_wanted m2.units m2.size x ≡ true) (sym config) back_wanted) (subst CanSpell (sym config) (can_serial d.serial core.config d (can_of core m stands) can refl))
             (let few = stands.few in let same = ap (λ (x : Config). length x.volumes) config in omega (arith, few, same))
             (λ w. let small = stands.small w in let same = ap (λ (x : Config). blocks_of x.volumes w) config in omega (arith, small, same))
             (still_large m m2 whole_acts.units whole_acts.size stands.large) (subst AllOn (sym config) (all_serial d.serial core.config stands.on))
             (subst (λ (g : ℕ). NoneGood e.config.disks (length e.config.disks) g → ⊥) (sym good) (subst (λ (x : Config). NoneGood x.disks (length x.disks) core.good → ⊥) (sym config) stands.some))
-            (subst (λ (g : ℕ). Kept e.config (Member g m2) m2) (sym good) (subst (λ (x : Config). Kept x (Member core.good m2) m2) (sym config) missed.kept)) (λ is. absurd (let clash : true ≡ false = sym un ∙ is in cc))
+            (subst (λ (g : ℕ). Kept e.config (Member g m2) m2) (sym good) (subst (λ (x : Config). Kept x (Member core.good m2) m2) (sym config) missed.kept)) (λ is. absurd (let clash : true ≡ false = sym un ∙ is in cc)) (subst (λ (g : ℕ). Trusts e.committed e.agreed g m2) (sym good) trusts)
 
         pub missed_volumes : e.config.volumes ≡ core.config.volumes
         missed_volumes = ap (λ (x : Config). x.volumes) config

@@ -1,6 +1,5 @@
 -- A plex that is attached, as calls of a group.
-use Rattle.std.proofs.Common.{◌≡◌, ◌≢◌, ◌⊎◌, inl, inr, ⊎_elim, ℕ, ◌-◌, ◌<◌, ◌≤◌, Bool, true, false, IsTrue, Option, Some, None, List, length, set, Result, Ok, Err, refl, ap, sym, ◌∙◌, subst, arith}
-use Rattle.std.specs.Prelude.{nat_le, nat_lt, if◌then◌else◌, slice_get}
+use Rattle.std.proofs.Common.{◌≡◌, ◌≢◌, ◌⊎◌, inl, inr, ⊎_elim, ℕ, ◌<◌, ◌≤◌, Bool, true, false, IsTrue, List, set, Result, Ok, Err, refl, ap, sym, ◌∙◌, subst, arith}
 use Rattle.std.proofs.lemmas.Bool.{cases_eq}
 use Rattle.vx_disk.specs.Blocks.{bit_at}
 use Rattle.vx_disk.specs.Moves.{Says}
@@ -8,21 +7,15 @@ use Rattle.vx_disk.specs.Shelf.{Goes, Image, Lawful, Meaning, Nothing, Or, Value
 use Rattle.vx_disk.specs.declared.shelf.ShelfError.{ShelfError}
 use Rattle.vx_disk.specs.declared.shelf.ShelfError.TheVariants.{Fault, Down}
 use Rattle.vx_disk.proofs.Runs.{then_nothing}
-use Rattle.vx_model.specs.declared.no.Counted.TheVariants.{Number as Numbers}
-use Rattle.vx_model.specs.declared.no.Named.TheVariants.{Number}
-use Rattle.vx_model.specs.declared.no.No.{No}
-use Rattle.vx_model.specs.declared.no.No.TheVariants.{Limit, Unknown}
 use Rattle.vx_model.specs.declared.site.PlexState.TheVariants.{Stale}
 use Rattle.vx_config.specs.Changes.{stated}
-use Rattle.vx_config.specs.Table.{greatest}
 use Rattle.vx_config.specs.declared.config.Config.{Config}
-use Rattle.vx_config.specs.declared.entry.VolumeEntry.{VolumeEntry}
 use Rattle.vx_layout.specs.Places.{place}
 use Rattle.vx_volume.specs.Copies.{CopyCause, IsCopied, OnCopy}
-use Rattle.vx_volume.specs.Plexes.{Inside, SomeActive, active, plexes_or}
+use Rattle.vx_volume.specs.Plexes.{Inside, SomeActive, active}
 use Rattle.vx_volume.specs.Sets.{bits}
 use Rattle.vx_kept.specs.Commits.{Member}
-use Rattle.vx_kept.specs.Groups.{Apart, Imported, OnSome, Outside, Shows, group_meaning, seen}
+use Rattle.vx_kept.specs.Groups.{Apart, OnSome, Outside, Shows, seen}
 use Rattle.vx_kept.specs.Keeping.{Acts, SameShape, Sees}
 use Rattle.vx_kept.specs.States.{AreOn, SomeLeft, whole_of}
 use Rattle.vx_kept.proofs.Lasting.{low_Acts}
@@ -30,7 +23,6 @@ use Rattle.vx_kept.proofs.Narrower.{stand_apart}
 use Rattle.vx_kept.proofs.StateLemmas.{same_shape, then_shape}
 use Rattle.vx_kept.proofs.Steps.{both_Acts, group-Goes, inside_back, inside_same, same_Acts, wide_Acts}
 use Rattle.vx_group.specs.Attaches.{AnyImage, Attaches, HasOther, MayAttach, attached}
-use Rattle.vx_group.specs.Dets.{margin}
 use Rattle.vx_group.specs.Blames.{Blames}
 use Rattle.vx_group.specs.Moves.{Narrows}
 use Rattle.vx_group.specs.Stands.{Stands, counted, meaning_of}

@@ -20,6 +20,7 @@ use Rattle.vx_kept.proofs.Steps.{both_Acts, group-Goes, wide_Acts}
 use Rattle.vx_kept.proofs.Whole.{sees_back}
 use Rattle.vx_group.specs.Blames.{Blames, BlamesOr, Counts, fault_of}
 use Rattle.vx_group.specs.Moves.{AreOff, Narrows}
+use Rattle.vx_kept.specs.Trusts.{Trusts}
 use Rattle.vx_group.specs.Stands.{Stands}
 use Rattle.vx_group.specs.declared.group_core.GroupCore.{GroupCore}
 use Rattle.vx_group.proofs.ReadyLemmas.{kin_volumes}
@@ -121,7 +122,7 @@ left_done c d v set done old new on but off p is_on = by (bit_at set p) refl
 
 -- ---- with other marks
 
-pub with_Stands : (core : GroupCore) (next faults : List ℕ) (m : Meaning) → Stands core m → Stands (record { config = core.config; good = core.good; room = core.room; unsettled = core.unsettled; next = next; faults = faults; unsure = core.unsure }) m
+pub with_Stands : (core : GroupCore) (next faults : List ℕ) (m : Meaning) → Stands core m → Stands (record { config = core.config; good = core.good; room = core.room; unsettled = core.unsettled; committed = core.committed; agreed = core.agreed; next = next; faults = faults; unsure = core.unsure }) m
 with_Stands core next faults m s = record {
   wanted = s.wanted;
   serial = s.serial;
@@ -134,16 +135,17 @@ with_Stands core next faults m s = record {
   some = s.some;
   kept = s.kept;
   tidy = s.tidy;
+  trusts = s.trusts;
 }
 
 -- ---- headers that were written back
 
 module _ (core : GroupCore) (b : Bool) (m m' : Meaning) (stands : Stands core m) (kept : Kept core.config (Member core.good m') m') (acts : Acts Nothing (Sees core.config (Member core.good m) m) m m') where
   abbrev settled : GroupCore
-  settled = record { config = core.config; good = core.good; room = core.room; unsettled = b; next = core.next; faults = core.faults; unsure = core.unsure }
+  settled = record { config = core.config; good = core.good; room = core.room; unsettled = b; committed = core.committed; agreed = core.agreed; next = core.next; faults = core.faults; unsure = core.unsure }
 
-  pub settled_Stands : (b ≡ false → IsTidy core.config m') → Stands settled m'
-  settled_Stands tidy = made settled m' (wanted_same m m' core.config acts.units acts.size stands.wanted) (can_of core m stands) stands.few stands.small (still_large m m' acts.units acts.size stands.large) stands.on stands.some kept tidy
+  pub settled_Stands : (b ≡ false → IsTidy core.config m') → Trusts core.committed core.agreed core.good m' → Stands settled m'
+  settled_Stands tidy trusts = made settled m' (wanted_same m m' core.config acts.units acts.size stands.wanted) (can_of core m stands) stands.few stands.small (still_large m m' acts.units acts.size stands.large) stands.on stands.some kept tidy trusts
 
   pub settled_Narrows : (d : GroupCore) (last : Meaning) → Narrows settled d m' last → Narrows core d m last
   settled_Narrows d last narrows = record {

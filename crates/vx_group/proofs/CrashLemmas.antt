@@ -1,5 +1,5 @@
 -- What a crash or a deport leaves of a group may be imported, where all choices of the disks that can be read agree.
-use Rattle.std.proofs.Common.{◌≡◌, ◌⊎◌, inl, inr, ℕ, zero, suc, ◌+◌, ◌<◌, ◌≤◌, Bool, true, false, Option, Some, None, List, refl, ap, sym, ◌∙◌, subst, arith}
+use Rattle.std.proofs.Common.{◌≡◌, ◌⊎◌, inl, inr, ℕ, zero, suc, ◌<◌, ◌≤◌, Bool, true, false, Option, Some, None, List, refl, ap, sym, ◌∙◌, subst, arith}
 use Rattle.std.specs.Prelude.{◌&&◌, ◌==◌, bytes_eq, nat_lt, if◌then◌else◌}
 use Rattle.std.proofs.lemmas.Bool.{cases_lt, eqb-true, lt-ltb, ltb-true}
 use Rattle.vx_wire.specs.Seals.{digest_of}
@@ -7,7 +7,7 @@ use Rattle.vx_disk.specs.Shelf.{Each, Image, Meaning}
 use Rattle.vx_copyfmt.specs.Areas.{header_of}
 use Rattle.vx_copyfmt.specs.Copies.{Body, Copy, Differs, Disk, Holds, area_a, area_b, body_of, copy_at, copy_of, copy_under, greater, holding, judged}
 use Rattle.vx_copyfmt.specs.Commits.{Counts, IsHeaderBlock, IsTop, target_of}
-use Rattle.vx_copyfmt.specs.Imports.{Found, NoConfig, by_body, by_labels, by_newest, first_of, import_of, is_label, later, missing, newest, on_disk, or_missing, strange, strange_label}
+use Rattle.vx_copyfmt.specs.Imports.{Damaged, Format, Found, Missing, NoConfig, Outcome, by_body, by_labels, by_newest, first_of, import_of, is_label, later, missing, newest, on_disk, or_missing, strange, strange_label}
 use Rattle.vx_copyfmt.specs.Labels.{seen_in}
 use Rattle.vx_copyfmt.specs.declared.area.AreaHeader.{AreaHeader}
 use Rattle.vx_copyfmt.proofs.Areas.{serial_under, top_copy}
@@ -15,19 +15,24 @@ use Rattle.vx_copyfmt.proofs.Subs.{counts_sub}
 use Rattle.vx_copyfmt.proofs.Targets.{top_greatest}
 use Rattle.vx_copyfmt.proofs.Told.{false_from}
 use Rattle.vx_config.specs.declared.config.Config.{Config}
+use Rattle.vx_copies.specs.Answers.{good_set}
 use Rattle.vx_copies.specs.Bodies.{failed_in, of_serial, reads_in}
 use Rattle.vx_copies.specs.Commits.{Held, IsNone, Silent}
 use Rattle.vx_copies.specs.Looking.{on_shelf}
 use Rattle.vx_copies.specs.Marks.{failed_at}
 use Rattle.vx_copies.proofs.OneTry.{shelf_same}
 use Rattle.vx_kept.specs.Cleans.{at_serial}
+use Rattle.vx_kept.specs.Commits.{Member}
 use Rattle.vx_kept.specs.Groups.{found, found_by}
 use Rattle.vx_kept.specs.Keeping.{Base, Kept}
+use Rattle.vx_kept.specs.Trusts.{Trusts, is_plain}
 use Rattle.vx_kept.proofs.Chosen.{settle_found}
 use Rattle.vx_kept.proofs.Facts.{from_fact}
 use Rattle.vx_kept.proofs.Low.{found_same, import_low}
 use Rattle.vx_group.specs.Deports.{Deported}
-use Rattle.vx_group.specs.Resumes.{CanImport}
+use Rattle.vx_group.specs.Resumes.{AtRest, CanImport}
+use Rattle.vx_group.specs.Stands.{Stands}
+use Rattle.vx_group.proofs.Standing.{kept_of}
 use Rattle.vx_group.specs.declared.group_core.GroupCore.{GroupCore}
 
 -- ---- each disk with a header has a greater one
@@ -216,11 +221,15 @@ module _ (c : Config) (G : ℕ → Type 0) (m m' : Meaning) (kept : Kept c G m) 
     labels = record { each = λ u v lt at. ap (λ (w : List ℕ). is_label (seen_in w)) (rest u 0 v at) ∙ label_at u (omega (arith, units, lt)) };
   }
 
-  -- where each import that finds a configuration in the image finds the same
-  pub crash_can : ((R : ℕ → Bool) (x : Config) → found_by m R i ≡ Found x → found m i ≡ Found x) → CanImport m'
-  crash_can agree = record {
+  -- where imports agree
+  pub crash_can : (committed : Bool) (good : ℕ) → Trusts committed true good m → CanImport m'
+  crash_can committed good trusts = record {
     base = λ j x each is. crash_base x (sym (same_low (λ u. true) j each) ∙ is);
-    one = λ j k R x each_j each_k is. same_low (λ u. true) k each_k ∙ agree R x (sym (same_low R j each_j) ∙ is);
+    one = λ j k R x each_j each_k is.
+        let sees = kept.sees i left in
+        let same : x ≡ sees.config = trusts.agree refl i R sees.config x left sees.found (sym (same_low R j each_j) ∙ is) in
+        same_low (λ u. true) k each_k ∙ sees.found ∙ ap (λ (y : Config). Found y) (sym same);
+    plain = λ j R x each is. ap is_plain (same_low R j each) ∙ trusts.plain refl i R x left (sym (same_low (λ u. true) j each) ∙ is);
   }
 
 -- ---- what a deport leaves
@@ -278,7 +287,7 @@ module _ (core : GroupCore) (old new : Meaning) (it : Deported core old new) whe
 
   -- where the disks that are held as failed say nothing by themselves
   pub deport_can : Silent it.config new → CanImport new
-  deport_can silent = record { base = deport_base; one = one }
+  deport_can silent = record { base = deport_base; one = one; plain = plain }
     where
       quiet : (i : Image) (R : ℕ → Bool) (x : Config) → Each new.leaves i → ((u : ℕ) → u < new.units → failed_at it.config.disks u ≡ false → R u ≡ false) → found_by new R i ≡ Found x → ⊥
       quiet i R x each none is = elim (both_or (λ u. false) R new.units) [
@@ -286,6 +295,28 @@ module _ (core : GroupCore) (old new : Meaning) (it : Deported core old new) whe
             let failed : failed_at it.config.disks k.0 ≡ true = must_fail (failed_at it.config.disks k.0) (R k.0) (none k.0 k.1) k.3 in
             subst IsNone is (silent.each i R each (record { disk = k.0; below = k.1; failed = failed; read = k.3 }) (λ u held. none u held.below held.good))
         | inr off ↦ let clash : NoConfig ≡ Found x = sym (none_found (on_shelf new) R i new.units (λ u lt. off u lt refl)) ∙ is in cc
+      ]
+
+      none_plain : (o : Outcome Config) → IsNone o → is_plain o ≡ true
+      none_plain (Found x) none = refl
+      none_plain (Missing disk) none = refl
+      none_plain NoConfig none = refl
+      none_plain (Damaged disk block stored computed) none = absurd none
+      none_plain (Format version) none = absurd none
+
+      settle_plain : (o : Option ℕ) → is_plain (or_missing it.config o) ≡ true
+      settle_plain None = refl
+      settle_plain (Some disk) = refl
+
+      plain : (i : Image) (R : ℕ → Bool) (x : Config) → Each new.leaves i → found new i ≡ Found x → is_plain (found_by new R i) ≡ true
+      plain i R x each is = elim (both_or (λ u. failed_at it.config.disks u) R new.units) [
+        | inl g ↦ ap is_plain (it.reads i R g.0 each (record { below = g.1; good = g.2 }) g.3) ∙ settle_plain (missing (failed_in it.config) R new.units)
+        | inr none ↦ elim (both_or (λ u. false) R new.units) [
+          | inl k ↦
+              let failed : failed_at it.config.disks k.0 ≡ true = must_fail (failed_at it.config.disks k.0) (R k.0) (none k.0 k.1) k.3 in
+              none_plain (found_by new R i) (silent.each i R each (record { disk = k.0; below = k.1; failed = failed; read = k.3 }) (λ u held. none u held.below held.good))
+          | inr off ↦ ap is_plain (none_found (on_shelf new) R i new.units (λ u lt. off u lt refl))
+        ]
       ]
 
       one : (i j : Image) (R : ℕ → Bool) (x : Config) → Each new.leaves i → Each new.leaves j → found_by new R i ≡ Found x → found new j ≡ Found x
@@ -296,8 +327,33 @@ module _ (core : GroupCore) (old new : Meaning) (it : Deported core old new) whe
         | inr none ↦ absurd (quiet i R x each_i none is)
       ]
 
-pub group_can : (core : GroupCore) (old new : Meaning) → Deported core old new → ((i : Image) (x : Config) → Each new.leaves i → found new i ≡ Found x → Silent x new) → CanImport new
-group_can core old new it silent = record {
+  -- or where the newest configuration is committed
+  pub committed_can : Trusts true true (good_set it.config.disks) new → CanImport new
+  committed_can trusts = record {
+    base = deport_base;
+    one = λ i j R x each_i each_j is. it.finds j each_j ∙ ap (λ (y : Config). Found y) (sym (trusts.agree refl i R it.config x each_i (it.finds i each_i) is));
+    plain = λ i R x each is. trusts.plain refl i R x each is;
+  }
+
+pub group_can : (core : GroupCore) (old new : Meaning) → Deported core old new → (core.committed ≡ true) ⊎ ((i : Image) (x : Config) → Each new.leaves i → found new i ≡ Found x → Silent x new) → CanImport new
+group_can core old new it (inl is) = committed_can core old new it (it.trusts is)
+group_can core old new it (inr silent) = record {
   base = λ i x each is. deport_base core old new it i x each is;
   one = λ i j R x each_i each_j is. (deport_can core old new it (silent i it.config each_i (it.finds i each_i))).one i j R x each_i each_j is;
+  plain = λ i R x each is. (deport_can core old new it (silent i it.config each (it.finds i each))).plain i R x each is;
 }
+
+-- ---- a group whose shelf fell
+
+pub rest_can : (core : GroupCore) (m : Meaning) → Stands core m → AtRest m → core.agreed ≡ true → CanImport m
+rest_can core m stands rest agreed = record {
+  base = λ j x each is. (crash_can core.config (Member core.good m) m m kept refl (λ u. refl) j each (λ u b v left. rest.one u b v (j u b) left (each u b)) core.committed core.good trusts).base j x each is;
+  one = λ i j R x each_i each_j is. (crash_can core.config (Member core.good m) m m kept refl (λ u. refl) i each_i (λ u b v left. rest.one u b v (i u b) left (each_i u b)) core.committed core.good trusts).one i j R x each_i each_j is;
+  plain = λ i R x each is. (crash_can core.config (Member core.good m) m m kept refl (λ u. refl) i each (λ u b v left. rest.one u b v (i u b) left (each u b)) core.committed core.good trusts).plain i R x each is;
+}
+  where
+    kept : Kept core.config (Member core.good m) m
+    kept = kept_of core m stands
+
+    trusts : Trusts core.committed true core.good m
+    trusts = subst (λ (b : Bool). Trusts core.committed b core.good m) agreed stands.trusts

@@ -1,5 +1,5 @@
 -- A new group stands on its disks.
-use Rattle.std.proofs.Common.{◌≡◌, inl, inr, ⊎_elim, ℕ, zero, suc, ◌+◌, ◌<◌, ◌≤◌, ◌^◌, true, false, None, List, [], ◌∷◌, ◌++◌, length, Result, Ok, Err, refl, ap, sym, ◌∙◌, subst, arith}
+use Rattle.std.proofs.Common.{◌⊎◌, ◌≡◌, inl, inr, ⊎_elim, ℕ, zero, suc, ◌+◌, ◌<◌, ◌≤◌, ◌^◌, true, false, None, List, [], ◌∷◌, ◌++◌, length, Result, Ok, Err, refl, ap, sym, ◌∙◌, subst, arith}
 use Rattle.std.specs.Prelude.{◌==◌, not}
 use Rattle.std.proofs.lemmas.Bool.{and_from, and_parts, eq-eqb}
 use Rattle.vx_disk.specs.Causes.{DeviceCause, refusal_of}
@@ -33,6 +33,7 @@ use Rattle.vx_copyio.specs.Settling.{AllCleared, HeadersZero}
 use Rattle.vx_kept.specs.Choice.{live}
 use Rattle.vx_kept.specs.Commits.{Member, Taken}
 use Rattle.vx_kept.specs.Keeping.{AllOn, Kept}
+use Rattle.vx_kept.specs.Trusts.{HasFailed, Trusts}
 use Rattle.vx_group.specs.Creates.{IsNew, IsReady, Prepared}
 use Rattle.vx_group.specs.declared.group_core.GroupCore.{GroupCore}
 use Rattle.vx_group.proofs.DetachLemmas.{some_good}
@@ -130,11 +131,12 @@ first_cause good c last old new some more other stops = absurd stops
 -- ---- the group
 
 pub new_Stands : (site : ℕ) (disks : List DiskEntry) (core : GroupCore) (old new : Meaning) → AreLarge new → CanSpell core.config → is_wanted new.units new.size core.config ≡ true
-    → Taken (empty_config site disks) (empty_config site disks) core.config old new → AllOn core.config → core.good ≡ good_set core.config.disks → IsNew site core new
-new_Stands site disks core old new large can wanted taken on good = record {
+    → Taken (empty_config site disks) (empty_config site disks) core.config old new → AllOn core.config → core.good ≡ good_set core.config.disks → Trusts core.committed core.agreed (good_set core.config.disks) new → (core.committed ≡ true) ⊎ HasFailed core.config.disks → IsNew site core new
+new_Stands site disks core old new large can wanted taken on good trusts trust = record {
   stands = made core new wanted can (let none = ap length taken.grown.volumes in omega (arith, none)) (λ v. let none = ap (λ vs. blocks_of vs v) taken.grown.volumes in omega (arith, none)) large on
       (subst (λ (g : ℕ). NoneGood core.config.disks (length core.config.disks) g → ⊥) (sym good) (some_good core.config.disks (good_set core.config.disks) taken.some))
-      (subst (λ (g : ℕ). Kept core.config (Member g new) new) (sym good) taken.kept) (λ is. taken.tidy);
+      (subst (λ (g : ℕ). Kept core.config (Member g new) new) (sym good) taken.kept) (λ is. taken.tidy) (subst (λ (g : ℕ). Trusts core.committed core.agreed g new) (sym good) trusts);
   site_is = taken.grown.site;
   volumes = taken.grown.volumes;
+  trust = trust;
 }

@@ -1,5 +1,5 @@
 -- A deport, over the core of a group.
-use Rattle.std.proofs.Common.{◌≡◌, inl, inr, ℕ, ◌<◌, ◌≤◌, Bool, true, false, IsTrue, List, length, Result, Ok, Err, refl, ap, sym, ◌∙◌, arith}
+use Rattle.std.proofs.Common.{◌≡◌, inl, inr, ℕ, ◌<◌, ◌≤◌, Bool, true, false, IsTrue, length, Result, Ok, Err, refl, ap, sym, ◌∙◌, arith}
 use Rattle.std.proofs.lemmas.Bool.{cases_lt}
 use Rattle.std.proofs.lemmas.Option.{slice_get_past}
 use Rattle.vx_disk.specs.Shelf.{Meaning, Nothing}
@@ -9,6 +9,7 @@ use Rattle.vx_model.specs.declared.errors.Stop.{Stop}
 use Rattle.vx_model.specs.declared.no.No.{No}
 use Rattle.vx_config.specs.Configs.{CanSpell}
 use Rattle.vx_config.specs.declared.config.Config.{Config}
+use Rattle.vx_copies.specs.Answers.{good_set}
 use Rattle.vx_copies.specs.Bodies.{is_wanted}
 use Rattle.vx_copies.specs.Commits.{Held}
 use Rattle.vx_layout.specs.Places.{plex_in}
@@ -23,6 +24,7 @@ use Rattle.vx_kept.proofs.Committed.{take_on}
 use Rattle.vx_kept.proofs.Facts.{to_fact}
 use Rattle.vx_kept.proofs.Narrower.{on_live}
 use Rattle.vx_kept.proofs.StateLemmas.{same_shape}
+use Rattle.vx_kept.specs.Trusts.{Trusts}
 use Rattle.vx_group.specs.Blames.{Blames, StopsBy}
 use Rattle.vx_group.specs.Deports.{CleanCommitted, Closes, CommitCloses, CommitMissed, Deported, IsVolumeOf}
 use Rattle.vx_group.specs.Moves.{Narrows}
@@ -55,7 +57,7 @@ active_there c v p is = elim (cases_lt v (length c.volumes)) [
 -- ---- done
 
 module _ (core : GroupCore) (d : Config) (m m' : Meaning) (stands : Stands core m) (acts : Acts Nothing (Sees core.config (Member core.good m) m) m m')
-    (shown : Shown core.config (cleaned core.unsure core.config (length core.config.volumes)) d m m') where
+    (shown : Shown core.config (cleaned core.unsure core.config (length core.config.volumes)) d m m') (trusts : core.committed ≡ true → Trusts true true (good_set d.disks) m') where
   all : AllClean core.unsure (length core.config.volumes) core.config (cleaned core.unsure core.config (length core.config.volumes))
   all = all_clean core.unsure (length core.config.volumes) core.config
 
@@ -79,18 +81,19 @@ module _ (core : GroupCore) (d : Config) (m m' : Meaning) (stands : Stands core 
     failing = failing_from m m' (cleaned core.unsure core.config (length core.config.volumes)).disks core.config.disks d.disks all.alike.disks shown.grown.disks;
     acts = acts;
     kept = to_fact (at_serial d.serial core.config) (Held d m') m' shown.kept;
+    trusts = trusts;
   }
 
 -- ---- refused
 
 module _ (core e : GroupCore) (m m' : Meaning) (stands : Stands core m) (acts : Acts Nothing (Sees core.config (Member core.good m) m) m m')
     (wanted : is_wanted m'.units m'.size e.config ≡ true) (can : CanSpell e.config) (faults : e.faults ≡ core.faults) (unsure : e.unsure ≡ core.unsure)
-    (a : Config) (why : No) (left : Left core.good core.config a e.config m m' why) (good : e.good ≡ core.good) (un : e.unsettled ≡ true) where
+    (a : Config) (why : No) (left : Left core.good core.config a e.config m m' why) (good : e.good ≡ core.good) (un : e.unsettled ≡ true) (trusts : Trusts e.committed e.agreed core.good m') where
   pub given_back : CommitMissed core e m m'
   given_back =
       let on = take_on core.config e.config left.volumes stands.on in
       record {
-        stands = left_Stands core e 0 0 m m' stands acts wanted can on faults unsure a why left good un;
+        stands = left_Stands core e 0 0 m m' stands acts wanted can on faults unsure a why left good un trusts;
         narrows = left_Narrows core e 0 0 m m' stands acts wanted can on faults unsure a why left good un;
         volumes = left.volumes;
         disks = left.disks;
@@ -106,7 +109,7 @@ committed_quiet c m m' it = quiet c c m m' (record { acts = it.acts; shape = sam
 pub settled_back : (core mid : GroupCore) (m m1 : Meaning) → Stands mid m1 → Narrows core mid m m1 → SameBut core.config mid.config → MoreFailed m m1 core.config.disks mid.config.disks → GivenBack core mid m m1
 settled_back core mid m m1 stands narrows same failing = record { stands = stands; quiesces = quiet core mid m m1 narrows same.volumes failing }
 
-module _ (core mid fl d : GroupCore) (m m1 m2 last : Meaning) (begun : Stands core m) (narrows : Narrows core mid m m1) (same : SameBut core.config mid.config) (failing : MoreFailed m m1 core.config.disks mid.config.disks) (up1 : IsTrue m1.down → ⊥) where
+module _ (core mid fl d : GroupCore) (m m1 m2 last : Meaning) (begun : Stands core m) (narrows : Narrows core mid m m1) (same : SameBut core.config mid.config) (failing : MoreFailed m m1 core.config.disks mid.config.disks) (up1 : IsTrue m1.down → ⊥) (flag : mid.committed ≡ core.committed) where
   readied : Quiesces core mid NoVolume m m1
   readied = quiet core mid m m1 narrows same.volumes failing
 
@@ -142,6 +145,7 @@ module _ (core mid fl d : GroupCore) (m m1 m2 last : Meaning) (begun : Stands co
       off = it.off;
       failing = then_failing m m2 last drained.acts.faults it.acts.faults core.config.disks fl.config.disks it.config.disks drained.loses.disks it.failing;
       kept = it.kept;
+      trusts = λ is. it.trusts (flushed.trust (flag ∙ is));
     }
 
     pub closes_later : {T E : Type 0} (r : Result T E) → CommitCloses fl d m2 last r → Closes core d m last r

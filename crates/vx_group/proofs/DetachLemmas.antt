@@ -26,6 +26,7 @@ use Rattle.vx_kept.specs.States.{AreOn, staled}
 use Rattle.vx_kept.proofs.Chosen.{active_volumes, alike_shape}
 use Rattle.vx_kept.proofs.Narrower.{on_live}
 use Rattle.vx_kept.proofs.StateLemmas.{active_left, is_staled, same_shape}
+use Rattle.vx_kept.specs.Trusts.{Trusts}
 use Rattle.vx_group.specs.Blames.{Blames, BlamesOr, fault_of}
 use Rattle.vx_group.specs.Moves.{AreOff, Narrows}
 use Rattle.vx_group.specs.Stands.{Stands}
@@ -59,10 +60,10 @@ module _ (core e : GroupCore) (v set : ℕ) (m m' : Meaning) (stands : Stands co
     shape_was : SameShape e.config core.config
     shape_was = alike_shape e.config (staled v set core.config 8) core.config taken.grown.volumes (is_staled v set 8 core.config).shape
 
-    pub taken_Stands : Stands e m'
-    taken_Stands = made e m' wanted can (few_same shape_was.volumes) (small_same shape_was.blocks) (still_large m m' acts.units acts.size stands.large) on
+    pub taken_Stands : Trusts e.committed e.agreed (good_set e.config.disks) m' → Stands e m'
+    taken_Stands trusts = made e m' wanted can (few_same shape_was.volumes) (small_same shape_was.blocks) (still_large m m' acts.units acts.size stands.large) on
         (subst (λ (g : ℕ). NoneGood e.config.disks (length e.config.disks) g → ⊥) (sym good) (some_good e.config.disks (good_set e.config.disks) taken.some))
-        (subst (λ (g : ℕ). Kept e.config (Member g m') m') (sym good) taken.kept) (λ is. taken.tidy)
+        (subst (λ (g : ℕ). Kept e.config (Member g m') m') (sym good) taken.kept) (λ is. taken.tidy) (subst (λ (g : ℕ). Trusts e.committed e.agreed g m') (sym good) trusts)
 
     pub taken_Narrows : Narrows core e m m'
     taken_Narrows = record {
@@ -85,11 +86,11 @@ module _ (core e : GroupCore) (v set : ℕ) (m m' : Meaning) (stands : Stands co
 
   -- refused
   module _ (a : Config) (why : No) (left : Left core.good core.config a e.config m m' why) (good : e.good ≡ core.good) (un : e.unsettled ≡ true) where
-    pub left_Stands : Stands e m'
-    left_Stands = made e m' wanted can (few_same (ap length left.volumes)) (small_same (λ x. ap (λ (vs : List VolumeEntry). blocks_of vs x) left.volumes)) (still_large m m' acts.units acts.size stands.large) on
+    pub left_Stands : Trusts e.committed e.agreed core.good m' → Stands e m'
+    left_Stands trusts = made e m' wanted can (few_same (ap length left.volumes)) (small_same (λ x. ap (λ (vs : List VolumeEntry). blocks_of vs x) left.volumes)) (still_large m m' acts.units acts.size stands.large) on
         (subst (λ (g : ℕ). NoneGood e.config.disks (length e.config.disks) g → ⊥) (sym good)
         (subst (λ (ds : List DiskEntry). NoneGood ds (length ds) core.good → ⊥) (sym left.disks) stands.some))
-        (subst (λ (g : ℕ). Kept e.config (Member g m') m') (sym good) left.kept) (λ is. absurd (let clash : true ≡ false = sym un ∙ is in cc))
+        (subst (λ (g : ℕ). Kept e.config (Member g m') m') (sym good) left.kept) (λ is. absurd (let clash : true ≡ false = sym un ∙ is in cc)) (subst (λ (g : ℕ). Trusts e.committed e.agreed g m') (sym good) trusts)
 
     pub left_others : (x q : ℕ) → (x ≡ v → bit_at set q ≡ true → ⊥) → active e.config x q ≡ active core.config x q
     left_others x q apart = active_volumes e.config core.config left.volumes x q

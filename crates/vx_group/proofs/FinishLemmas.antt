@@ -3,7 +3,7 @@ use Rattle.std.proofs.Common.{◌≡◌, ◌⊎◌, inl, inr, ⊎_elim, ℕ, zer
 use Rattle.std.specs.Prelude.{if◌then◌else◌}
 use Rattle.vx_disk.specs.Causes.{DeviceCause, refusal_of}
 use Rattle.vx_disk.specs.Counts.{Rose}
-use Rattle.vx_disk.specs.Shelf.{Goes, Lawful, Meaning, Nothing}
+use Rattle.vx_disk.specs.Shelf.{Lawful, Meaning, Nothing}
 use Rattle.vx_disk.specs.declared.shelf.ShelfError.{ShelfError}
 use Rattle.vx_disk.specs.declared.shelf.ShelfError.TheVariants.{Fault, Down}
 use Rattle.vx_disk.proofs.Causing.{Rose_after, Rose_before}
@@ -21,7 +21,7 @@ use Rattle.vx_copies.specs.Bodies.{is_wanted}
 use Rattle.vx_copies.specs.Commits.{CommitStops, Grown, MoreFailed}
 use Rattle.vx_copies.specs.Marks.{NoneGood, blocks_at, failed_at}
 use Rattle.vx_layout.specs.Places.{place}
-use Rattle.vx_volume.specs.Plexes.{Inside, active}
+use Rattle.vx_volume.specs.Plexes.{active}
 use Rattle.vx_volume.proofs.ReadRuns.{still}
 use Rattle.vx_kept.specs.Cleans.{at_serial, marked}
 use Rattle.vx_kept.specs.Commits.{Left, Member, Taken}
@@ -30,12 +30,13 @@ use Rattle.vx_kept.specs.States.{stale_at, staled}
 use Rattle.vx_kept.proofs.StateLemmas.{then_shape}
 use Rattle.vx_kept.proofs.Steps.{inside_back}
 use Rattle.vx_group.specs.Blames.{Blames}
-use Rattle.vx_group.specs.Finishes.{CommitMade, CommitsAs, Renewed, Renews, SameOr}
+use Rattle.vx_group.specs.Finishes.{CommitMade, CommitsAs, Renews, SameOr}
 use Rattle.vx_group.specs.Loses.{Loses}
 use Rattle.vx_group.specs.Mends.{GoesOn, Mending}
 use Rattle.vx_group.specs.Moves.{Narrows}
 use Rattle.vx_group.specs.Quiesces.{AnyFailed}
 use Rattle.vx_group.specs.Resumes.{IsMended, source_at}
+use Rattle.vx_kept.specs.Trusts.{HasFailed, Trusts}
 use Rattle.vx_group.specs.Stands.{Stands, counted, meaning_of}
 use Rattle.vx_group.specs.declared.group_core.GroupCore.{GroupCore}
 use Rattle.vx_group.proofs.CallLemmas.{narrows_Goes}
@@ -131,23 +132,24 @@ none_staled v c (suc n) = ap (λ (b : Bool). if b then stale_at v n (staled v 0 
 
 module _ (core e : GroupCore) (m m' : Meaning) (after : Lawful m') (stands : Stands core m) (acts : Acts Nothing (Sees core.config (Member core.good m) m) m m')
     (wanted : is_wanted m'.units m'.size e.config ≡ true) (can : CanSpell e.config) (on : AllOn e.config) (faults : e.faults ≡ core.faults) (unsure : e.unsure ≡ core.unsure) where
-  module _ (taken : Taken core.config (staled 0 0 core.config 8) e.config m m') (good : e.good ≡ good_set e.config.disks) where
+  module _ (taken : Taken core.config (staled 0 0 core.config 8) e.config m m') (good : e.good ≡ good_set e.config.disks) (trusts : Trusts e.committed e.agreed (good_set e.config.disks) m') where
     pub commit_on : GoesOn core e m m'
-    commit_on = narrows_on core e m m' after stands (taken_Stands core e 0 0 m m' stands acts wanted can on faults unsure taken good) (taken_Narrows core e 0 0 m m' stands acts wanted can on faults unsure taken good)
+    commit_on = narrows_on core e m m' after stands (taken_Stands core e 0 0 m m' stands acts wanted can on faults unsure taken good trusts) (taken_Narrows core e 0 0 m m' stands acts wanted can on faults unsure taken good)
 
-    pub commit_made : e.unsettled ≡ false → (IsTrue m'.down → ⊥) → CommitMade core e m m'
-    commit_made settled up = record {
+    pub commit_made : e.unsettled ≡ false → (IsTrue m'.down → ⊥) → (e.committed ≡ true) ⊎ HasFailed e.config.disks → CommitMade core e m m'
+    commit_made settled up trust = record {
       on = commit_on;
       settled = settled;
       up = up;
       same = subst (λ (c : Config). SameOr c e.config m m') (none_staled 0 core.config 8) (grown_same (staled 0 0 core.config 8) e.config m m' taken.later taken.grown);
       loses = subst (λ (c : Config). Loses c e.config m m') (none_staled 0 core.config 8) (loses_none (staled 0 0 core.config 8) e.config m m' taken.grown.volumes taken.grown.disks);
       finds = taken.finds;
+      trust = trust;
     }
 
-  pub commit_left : (why : No) → Left core.good core.config (staled 0 0 core.config 8) e.config m m' why → e.good ≡ core.good → e.unsettled ≡ true → GoesOn core e m m' × (DeviceCause m m' why ⊎ ((why ≡ refusal.Limit Numbers greatest) × (greatest ≤ core.config.serial)))
-  commit_left why left good un = (
-    narrows_on core e m m' after stands (left_Stands core e 0 0 m m' stands acts wanted can on faults unsure (staled 0 0 core.config 8) why left good un) (left_Narrows core e 0 0 m m' stands acts wanted can on faults unsure (staled 0 0 core.config 8) why left good un),
+  pub commit_left : (why : No) → Left core.good core.config (staled 0 0 core.config 8) e.config m m' why → e.good ≡ core.good → e.unsettled ≡ true → Trusts e.committed e.agreed core.good m' → GoesOn core e m m' × (DeviceCause m m' why ⊎ ((why ≡ refusal.Limit Numbers greatest) × (greatest ≤ core.config.serial)))
+  commit_left why left good un trusts = (
+    narrows_on core e m m' after stands (left_Stands core e 0 0 m m' stands acts wanted can on faults unsure (staled 0 0 core.config 8) why left good un trusts) (left_Narrows core e 0 0 m m' stands acts wanted can on faults unsure (staled 0 0 core.config 8) why left good un),
     subst (λ (c : Config). DeviceCause m m' why ⊎ ((why ≡ refusal.Limit Numbers greatest) × (greatest ≤ c.serial))) (none_staled 0 core.config 8)
         (stop_late core.good (staled 0 0 core.config 8) e.config.serial m m' (staled_some core.config 0 0 core.good stands.some) why left.cause),
   )
@@ -228,7 +230,7 @@ module _ (core d e f : GroupCore) (flags : List Bool) (sources : List ℕ) (m0 m
 
     pub renew_all : {T : Type 0} (r : Result T No) → core.config.serial < greatest → ((v : ℕ) → v < length core.config.volumes → IsTrue (active core.config v (source_at sources v))) → CommitsAs e f m2 m3 r → Renews flags sources core f m0 m3 r
     renew_all (Ok x) less source_on made = record {
-      made = record { on = both_on core e f m0 m2 m3 mend_goes made.on; settled = made.settled; up = made.up; same = all_same made.on made.same; loses = all_loses made.on made.loses; finds = made.finds };
+      made = record { on = both_on core e f m0 m2 m3 mend_goes made.on; settled = made.settled; up = made.up; same = all_same made.on made.same; loses = all_loses made.on made.loses; finds = made.finds; trust = made.trust };
       mended = all_mended made.on source_on;
     }
     renew_all (Err why) less source_on stops = (

@@ -1,7 +1,6 @@
 -- When a write or a flush of a volume gives up.
-use Rattle.std.proofs.Common.{◌≡◌, ◌⊎◌, inl, inr, ⊎_elim, ℕ, zero, suc, ◌≤◌, Bool, true, false, IsTrue, Option, List, Result, Ok, Err, IfErr, refl, ap, sym, ◌∙◌, subst, arith}
+use Rattle.std.proofs.Common.{◌≡◌, inl, inr, ⊎_elim, ℕ, zero, suc, ◌≤◌, Bool, List, Result, Ok, Err, IfErr, refl, ap, sym, ◌∙◌}
 use Rattle.std.specs.Prelude.{if◌then◌else◌, slice_get}
-use Rattle.vx_disk.specs.Counts.{Rose}
 use Rattle.vx_disk.specs.Shelf.{Meaning}
 use Rattle.vx_disk.specs.declared.shelf.ShelfError.{ShelfError}
 use Rattle.vx_disk.specs.declared.shelf.ShelfError.TheVariants.{Fault, Down}
@@ -11,7 +10,7 @@ use Rattle.vx_model.specs.declared.no.No.TheVariants as refusal
 use Rattle.vx_config.specs.declared.config.Config.{Config}
 use Rattle.vx_config.specs.declared.entry.VolumeEntry.{VolumeEntry}
 use Rattle.vx_layout.specs.Places.{plex_in}
-use Rattle.vx_volume.specs.Plexes.{active, uses, uses_or}
+use Rattle.vx_volume.specs.Plexes.{uses, uses_or}
 use Rattle.vx_volume.specs.Volumes.{EndsAt, PlexBlamed}
 use Rattle.vx_kept.specs.States.{stale_at, staled}
 use Rattle.vx_kept.proofs.Chosen.{active_volumes}

@@ -1,5 +1,5 @@
 -- An import as a whole: what was taken up and then renewed.
-use Rattle.std.proofs.Common.{◌≡◌, ◌⊎◌, inl, inr, ⊎_elim, ℕ, ◌<◌, ◌≤◌, Bool, true, false, IsTrue, List, length, Result, Ok, Err, refl, ap, sym, ◌∙◌, subst, arith}
+use Rattle.std.proofs.Common.{◌≡◌, inl, inr, ⊎_elim, ℕ, ◌<◌, Bool, true, IsTrue, List, length, Err, refl, ap, sym, ◌∙◌, subst, arith}
 use Rattle.vx_disk.specs.Shelf.{Goes, Lawful, Meaning, Nothing}
 use Rattle.vx_disk.proofs.Causing.{Rose_after, Rose_before}
 use Rattle.vx_model.specs.declared.errors.Stop.{Stop}
@@ -12,14 +12,15 @@ use Rattle.vx_copies.specs.Answers.{good_set, returned}
 use Rattle.vx_copies.specs.Bodies.{is_wanted}
 use Rattle.vx_copyio.specs.Labelling.{AreLarge}
 use Rattle.vx_layout.specs.Places.{place}
-use Rattle.vx_volume.specs.Plexes.{Inside, active}
+use Rattle.vx_volume.specs.Plexes.{active}
 use Rattle.vx_volume.proofs.ReadRuns.{still}
 use Rattle.vx_kept.specs.Choice.{chosen}
 use Rattle.vx_kept.specs.Cleans.{marked}
 use Rattle.vx_kept.specs.Groups.{group_meaning}
 use Rattle.vx_kept.proofs.Narrower.{wanted_sound}
-use Rattle.vx_group.specs.Finishes.{AnyFault, Renewed, Renews, SameOr, StopsLate}
-use Rattle.vx_group.specs.Imports.{HalfResumed, ImportEnds, ImportStops, Resumed, StopsBehind, StopsEarly}
+use Rattle.vx_group.specs.Finishes.{AnyFault, Renewed, StopsLate}
+use Rattle.vx_group.specs.Imports.{HalfResumed, ImportStops, Resumed}
+use Rattle.vx_group.specs.Laws.{group_lawful}
 use Rattle.vx_group.specs.Mends.{GoesOn}
 use Rattle.vx_group.specs.Resumes.{CanImport, IsMended, IsTaken, Takes, TakenUp, source_at, source_of, stopped}
 use Rattle.vx_group.specs.Stands.{counted, meaning_of}
@@ -27,6 +28,7 @@ use Rattle.vx_group.specs.declared.group_core.GroupCore.{GroupCore}
 use Rattle.vx_group.specs.declared.taking.Plan.{Plan}
 use Rattle.vx_group.proofs.LoseLemmas.{loses_later}
 use Rattle.vx_group.proofs.CreateLemmas.{cause_before}
+use Rattle.vx_group.proofs.GivingLemmas.{gives_image}
 use Rattle.vx_group.proofs.FoundLemmas.{found_wanted, wanted_back_again}
 use Rattle.vx_group.proofs.PlanLemmas.{source_live}
 use Rattle.vx_group.proofs.ResumeLemmas.{taken_Goes}
@@ -97,7 +99,7 @@ module _ (old m1 : Meaning) (plan : Plan) (taken : IsTaken old m1 plan) where
     fault_before (inl rose) = inl (rose.0, Rose_before (old.disk_faults rose.0) (m1.disk_faults rose.0) (new.disk_faults rose.0) (goes.disk_faults rose.0) rose.1)
     fault_before (inr rose) = inr (rose.0, Rose_before (old.faults rose.0) (m1.faults rose.0) (new.faults rose.0) (goes.faults rose.0) rose.1)
 
-    module _ (up1 : IsTrue m1.down → ⊥) (fin : Renewed plan.core plan.stopped plan.sources d m1 new) where
+    module _ (law2 : Lawful new) (up1 : IsTrue m1.down → ⊥) (fin : Renewed plan.core plan.stopped plan.sources d m1 new) where
       mended : (v : ℕ) → v < length opened.volumes → stopped taken.config v ≡ true → IsMended opened v (chosen taken.config v) d old new
       mended v lt stop =
           let was = fin.mended v lt (taken.made.stopped v (in_back v lt) ∙ stopped_back taken.up.readable taken.config v ∙ stop) in
@@ -127,12 +129,14 @@ module _ (old m1 : Meaning) (plan : Plan) (taken : IsTaken old m1 plan) where
         loses = loses_later opened d.config old m1 new goes.faults fin.made.on.unit_faults fin.made.loses;
         on = fin.made.on.on;
         finds = fin.made.finds;
+        trust = fin.made.trust;
         goes = whole_goes fin.made.on;
         mended = mended;
+        gives = gives_image old taken.config opened d new taken.up.readable taken.up.image law (group_lawful d new law2 fin.made.on.stands) can taken.up.read taken.up.is taken.up.opens mended;
       }
 
-    pub import_ok : (IsTrue m1.down → ⊥) → Renewed plan.core plan.stopped plan.sources d m1 new → Resumed old d new
-    import_ok up1 fin = resumed up1 fin
+    pub import_ok : Lawful new → (IsTrue m1.down → ⊥) → Renewed plan.core plan.stopped plan.sources d m1 new → Resumed old d new
+    import_ok law2 up1 fin = resumed law2 up1 fin
 
     pub import_late : (why : No) → GoesOn plan.core d m1 new × StopsLate m1 new why → ImportStops old new (Refused why)
     import_late why stops = inr (half stops.0, stops_before why stops.1)

@@ -1,4 +1,5 @@
 pub mod Standing
+pub mod TrustLemmas
 pub mod CallLemmas
 pub mod WriteLemmas
 pub mod DetachLemmas
@@ -24,8 +25,10 @@ pub mod AddLemmas
 pub mod MakeLemmas
 pub mod FinishLemmas
 pub mod SourceLemmas
+pub mod GivingLemmas
 pub mod ImportLemmas
 pub mod CrashLemmas
+pub mod FallenLemmas
 pub mod OpeningLemmas
 pub mod AttachLemmas
 pub mod UsesLemmas

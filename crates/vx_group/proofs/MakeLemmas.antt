@@ -1,35 +1,32 @@
 -- A volume that is made: its plan, and what is added behind headers that were written back.
-use Rattle.std.proofs.Common.{◌≡◌, inl, inr, ℕ, ◌+◌, ◌<◌, ◌≤◌, ◌^◌, Bool, true, false, IsTrue, Option, Some, None, List, length, Result, Ok, Err, refl, ap, sym, ◌∙◌, subst, arith}
+use Rattle.std.proofs.Common.{◌≡◌, inl, inr, ℕ, ◌<◌, Bool, true, false, Option, None, List, length, Result, Ok, Err, refl, ap, sym, ◌∙◌, subst, arith}
 use Rattle.std.specs.Prelude.{IfSome, map, slice_get}
-use Rattle.std.specs.List.{list_all, list_any}
 use Rattle.std.proofs.lemmas.Bool.{and_parts, cases_lt}
-use Rattle.vx_disk.specs.Causes.{DeviceCause, refusal_of}
+use Rattle.vx_disk.specs.Causes.{refusal_of}
 use Rattle.vx_disk.specs.Shelf.{Goes, Lawful, Meaning, Nothing}
 use Rattle.vx_disk.specs.declared.shelf.ShelfError.{ShelfError}
 use Rattle.vx_disk.specs.declared.shelf.ShelfError.TheVariants.{Fault, Down}
 use Rattle.vx_disk.proofs.Runs.{same_Goes}
 use Rattle.vx_model.specs.declared.errors.Stop.{Stop}
 use Rattle.vx_model.specs.declared.errors.Stop.TheVariants.{No as Refused, OutOfMemory}
-use Rattle.vx_model.specs.declared.limits.TheConstants.{MOST_SUBDISKS, MOST_VOLUMES}
+use Rattle.vx_model.specs.declared.limits.TheConstants.{MOST_SUBDISKS}
 use Rattle.vx_model.specs.declared.no.No.{No}
 use Rattle.vx_model.specs.declared.no.No.TheVariants as refusal
-use Rattle.vx_model.specs.declared.no.Counted.{Counted}
 use Rattle.vx_model.specs.declared.no.Counted.TheVariants.{Subdisks}
 use Rattle.vx_model.specs.declared.units.Units.{Units}
 use Rattle.vx_config.specs.Checks.{is_sound}
 use Rattle.vx_config.specs.Configs.{subdisk_count}
-use Rattle.vx_config.specs.Table.{greatest}
 use Rattle.vx_config.specs.declared.config.Config.{Config}
 use Rattle.vx_config.specs.declared.entry.DiskEntry.{DiskEntry}
 use Rattle.vx_config.specs.declared.entry.VolumeEntry.{VolumeEntry}
 use Rattle.vx_copies.specs.Bodies.{fits_units, have_blocks, is_wanted}
-use Rattle.vx_copies.proofs.OneTry.{wanted_count, wanted_same}
-use Rattle.vx_layout.specs.Made.{IsMade, made_plex, with_volume}
+use Rattle.vx_copies.proofs.OneTry.{wanted_same}
+use Rattle.vx_layout.specs.Made.{made_plex, with_volume}
 use Rattle.vx_layout.specs.Space.{Finds, IsFound, IsShape}
 use Rattle.vx_layout.specs.declared.shape.Found.{Found}
 use Rattle.vx_layout.specs.declared.shape.Shape.{Shape}
 use Rattle.vx_layout.proofs.SoundLemmas.{sound_stays}
-use Rattle.vx_volume.specs.Plexes.{active, active_or}
+use Rattle.vx_volume.specs.Plexes.{active_or}
 use Rattle.vx_volume.proofs.ReadRuns.{still}
 use Rattle.vx_kept.specs.Choice.{live_or}
 use Rattle.vx_kept.specs.Commits.{Member}
@@ -39,7 +36,7 @@ use Rattle.vx_kept.proofs.Chosen.{active_volumes, alike_shape, extends_volumes, 
 use Rattle.vx_kept.proofs.StateLemmas.{same_shape}
 use Rattle.vx_kept.proofs.Steps.{group-Goes, same_Acts}
 use Rattle.vx_group.specs.Blames.{StopsBy}
-use Rattle.vx_group.specs.Makes.{AreZero, HasMany, IsVolume, MakeEnds, MakeStops, StayAsWere, Unmoved, VolumeMade, has_name, is_few, make_refusal}
+use Rattle.vx_group.specs.Makes.{AreZero, IsVolume, MakeEnds, MakeStops, StayAsWere, Unmoved, VolumeMade, make_refusal}
 use Rattle.vx_group.specs.Moves.{Narrows}
 use Rattle.vx_group.specs.Nexts.{Added, Adds, IsNext, IsPlanned, LongerEnds, PlanEnds}
 use Rattle.vx_group.specs.Settled.{SameBut}
@@ -48,7 +45,7 @@ use Rattle.vx_group.specs.declared.group_core.GroupCore.{GroupCore}
 use Rattle.vx_group.proofs.CallLemmas.{narrows_Goes}
 use Rattle.vx_group.proofs.LongerLemmas.{longer_count, made_on, sound_disks}
 use Rattle.vx_group.proofs.ShapeLemmas.{MayMake, fresh_name, may_make}
-use Rattle.vx_group.proofs.Standing.{apart_of_core, sound_of}
+use Rattle.vx_group.proofs.Standing.{apart_of_core}
 
 -- ---- the plan
 

@@ -1,12 +1,12 @@
 -- A configuration in which one plex more is ACTIVE, over the core of a group.
-use Rattle.std.proofs.Common.{◌≡◌, ◌≢◌, ◌⊎◌, inl, inr, ℕ, zero, suc, ◌+◌, ◌-◌, ◌<◌, ◌≤◌, ◌^◌, Bool, true, false, IsTrue, Option, Some, None, List, [], ◌∷◌, length, refl, ap, sym, ◌∙◌, subst, arith}
-use Rattle.std.specs.Prelude.{◌&&◌, nat_le, nat_lt, if◌then◌else◌, slice_get, not}
+use Rattle.std.proofs.Common.{◌≡◌, ◌⊎◌, inl, inr, ℕ, zero, suc, ◌+◌, ◌-◌, ◌<◌, ◌≤◌, Bool, true, false, IsTrue, Option, Some, None, List, [], ◌∷◌, length, refl, ap, sym, ◌∙◌, subst, arith}
+use Rattle.std.specs.Prelude.{nat_le, nat_lt, if◌then◌else◌, slice_get}
 use Rattle.std.proofs.lemmas.Bool.{and_from, and_parts, cases_eq, cases_lt, le-leb, lt-ltb}
 use Rattle.vx_disk.specs.Shelf.{Meaning}
 use Rattle.vx_model.specs.declared.no.No.{No}
 use Rattle.vx_model.specs.declared.site.PlexState.{PlexState}
 use Rattle.vx_model.specs.declared.site.PlexState.TheVariants.{Active, Clean, Stale}
-use Rattle.vx_config.specs.Changes.{has_live, stated, with_plex, with_state}
+use Rattle.vx_config.specs.Changes.{stated, with_state}
 use Rattle.vx_config.specs.Checks.{is_live, is_sound}
 use Rattle.vx_config.specs.Table.{greatest}
 use Rattle.vx_config.specs.declared.config.Config.{Config}
@@ -182,7 +182,7 @@ module _ (c : Config) (v p : ℕ) (there : Present c v p) where
 
 -- a core with this configuration
 abbrev pub with_config : Config → GroupCore → GroupCore
-with_config c core = record { config = c; good = core.good; room = core.room; unsettled = core.unsettled; next = core.next; faults = core.faults; unsure = core.unsure }
+with_config c core = record { config = c; good = core.good; room = core.room; unsettled = core.unsettled; committed = core.committed; agreed = core.agreed; next = core.next; faults = core.faults; unsure = core.unsure }
 
 -- a core in which the plex is ACTIVE
 abbrev pub opened : ℕ → ℕ → GroupCore → GroupCore
@@ -201,4 +201,4 @@ module _ (core : GroupCore) (v p : ℕ) (there : Present core.config v p) (m : M
       (let few = stands.few in let same = (open_shape core.config v p there).volumes in omega (arith, few, same))
       (λ w. let small = stands.small w in let same = (open_shape core.config v p there).blocks w in omega (arith, small, same))
       stands.large (open_all core.config v p there stands.on) stands.some (kept_wider core.config v p there (Member core.good m) m (kept_of core m stands))
-      (λ is. record { each = λ u held. (tidy_of core m stands is).each u (record { below = held.below; good = held.good }) })
+      (λ is. record { each = λ u held. (tidy_of core m stands is).each u (record { below = held.below; good = held.good }) }) stands.trusts

@@ -15,7 +15,7 @@ use Rattle.vx_kept.specs.Commits.{Member}
 use Rattle.vx_kept.specs.Groups.{Apart}
 use Rattle.vx_kept.specs.Keeping.{SameShape, Sees}
 use Rattle.vx_kept.proofs.StateLemmas.{then_shape}
-use Rattle.vx_kept.proofs.Steps.{both_Acts, inside_back, same_Acts, wide_Acts}
+use Rattle.vx_kept.proofs.Steps.{both_Acts, inside_back, wide_Acts}
 use Rattle.vx_group.specs.Blames.{Blames, Marks}
 use Rattle.vx_group.specs.Copying.{NoMember}
 use Rattle.vx_group.specs.Deports.{IsVolumeOf}
@@ -123,7 +123,7 @@ pub or_marked : (error : ShelfError) (vol : ℕ) (old new : List Bool) (m m' : M
 or_marked (Fault disk) vol old new m m' it why = inr (disk, why.0)
 or_marked Down vol old new m m' it why = inl it
 
-pub unsure_Stands : (core : GroupCore) (unsure : List Bool) (m : Meaning) → Stands core m → Stands (record { config = core.config; good = core.good; room = core.room; unsettled = core.unsettled; next = core.next; faults = core.faults; unsure = unsure }) m
+pub unsure_Stands : (core : GroupCore) (unsure : List Bool) (m : Meaning) → Stands core m → Stands (record { config = core.config; good = core.good; room = core.room; unsettled = core.unsettled; committed = core.committed; agreed = core.agreed; next = core.next; faults = core.faults; unsure = unsure }) m
 unsure_Stands core unsure m s = record {
   wanted = s.wanted;
   serial = s.serial;
@@ -136,6 +136,7 @@ unsure_Stands core unsure m s = record {
   some = s.some;
   kept = s.kept;
   tidy = s.tidy;
+  trusts = s.trusts;
 }
 
 pub same_parts : (c : GroupCore) → SameParts c.config c.config
@@ -147,7 +148,7 @@ abbrev pub is_volume : ℕ → ℕ → Type 0
 is_volume vol v = v ≡ vol
 
 abbrev pub with_unsure : GroupCore → List Bool → GroupCore
-with_unsure core unsure = record { config = core.config; good = core.good; room = core.room; unsettled = core.unsettled; next = core.next; faults = core.faults; unsure = unsure }
+with_unsure core unsure = record { config = core.config; good = core.good; room = core.room; unsettled = core.unsettled; committed = core.committed; agreed = core.agreed; next = core.next; faults = core.faults; unsure = unsure }
 
 -- each plex failed, or the shelf fell
 module _ (core : GroupCore) (vol : ℕ) (m m' : Meaning) (stands : Stands core m') (narrows : Narrows core core m m') (settled : core.unsettled ≡ false) (more : core.config.serial < greatest)
@@ -168,6 +169,7 @@ module _ (core : GroupCore) (vol : ℕ) (m m' : Meaning) (stands : Stands core m
     quiesces = stepped core core (with_unsure core unsure) (is_volume vol) m m' narrows refl refl (inl refl) (or_marked error vol core.unsure unsure m m' marks why) (sure_marked error vol core.unsure unsure marks)
         (λ v p at off is_on. off_none marks v p at off on) (loses_same core.config m m');
     parts = same_parts core;
+    trust = λ is. is;
     settled = settled;
     up = up;
     more = more;
@@ -193,11 +195,12 @@ module _ (core d : GroupCore) (vol : ℕ) (m m' : Meaning) (stands : Stands d m'
   sure_as : (v : ℕ) → marked d.unsure v ≡ false → marked core.unsure v ≡ false
   sure_as v is = ap (λ (u : List Bool). marked u v) (sym narrows.unsure) ∙ is
 
-  pub one_on : AllFlushed d.config vol m m' → SameParts core.config d.config → d.unsettled ≡ false → (IsTrue m'.down → ⊥) → d.config.serial < greatest → Quiesced core d (is_volume vol) m m'
-  one_on all parts settled up more = record {
+  pub one_on : AllFlushed d.config vol m m' → SameParts core.config d.config → (core.committed ≡ true → d.committed ≡ true) → d.unsettled ≡ false → (IsTrue m'.down → ⊥) → d.config.serial < greatest → Quiesced core d (is_volume vol) m m'
+  one_on all parts trust settled up more = record {
     stands = stands;
     quiesces = stepped core d d (is_volume vol) m m' narrows refl refl volumes (inl narrows.unsure) sure_as (flushed_one core d d vol m m' narrows all) loses;
     parts = parts;
+    trust = trust;
     settled = settled;
     up = up;
     more = more;
@@ -220,6 +223,7 @@ none_quiesced core m stands settled up more = record {
   stands = stands;
   quiesces = stepped core core core (λ (v : ℕ). v < 0) m m (no_commit core m) refl refl (inl refl) (inl refl) (λ v is. is) (λ v p lt. absurd (omega (arith, lt))) (loses_same core.config m m);
   parts = same_parts core;
+  trust = λ is. is;
   settled = settled;
   up = up;
   more = more;
@@ -234,6 +238,7 @@ module _ (core d e : GroupCore) (n : ℕ) (m0 m1 m2 : Meaning) (begun : Stands c
     stands = now.stands;
     quiesces = both_quiesce core d e (λ (v : ℕ). v < n) (is_volume n) (λ (v : ℕ). v < n + 1) m0 m1 m2 (apart_of_core core m0 begun) was.quiesces now.quiesces was.up (below_next n);
     parts = both_parts core d e was.parts now.parts;
+    trust = λ is. now.trust (was.trust is);
     settled = now.settled;
     up = now.up;
     more = now.more;
@@ -260,6 +265,7 @@ all_quiesced core e n m m' le was = record {
     flushed = λ v p lt sure is_on. was.quiesces.flushed v p (omega (arith, lt, le)) sure is_on;
   };
   parts = was.parts;
+  trust = was.trust;
   settled = was.settled;
   up = was.up;
   more = was.more;

@@ -16,7 +16,7 @@ use Rattle.vx_config.specs.declared.config.Config.{Config}
 use Rattle.vx_config.specs.declared.entry.DiskEntry.{DiskEntry}
 use Rattle.vx_config.specs.declared.entry.VolumeEntry.{VolumeEntry}
 use Rattle.vx_copies.specs.Bodies.{is_wanted}
-use Rattle.vx_copies.specs.Commits.{Held}
+use Rattle.vx_copies.specs.Commits.{Held, NamesFailed}
 use Rattle.vx_copies.specs.Looking.{on_shelf}
 use Rattle.vx_copies.specs.Marks.{NoneGood, failed_at, marked}
 use Rattle.vx_copies.proofs.Marked.{failed_now}
@@ -27,10 +27,12 @@ use Rattle.vx_kept.specs.Keeping.{Acts, IsTidy, Kept, Kin, Sees}
 use Rattle.vx_kept.proofs.Chosen.{active_volumes, alike_shape, extends_volumes}
 use Rattle.vx_kept.proofs.Committed.{fewer, take_on}
 use Rattle.vx_kept.proofs.Lasting.{cases_bool}
-use Rattle.vx_kept.proofs.Settles.{settled_Acts, settled_Kept, settled_tidy, still_tidy}
+use Rattle.vx_kept.proofs.Settles.{no_more, settled_Acts, settled_Kept, settled_tidy, still_tidy}
 use Rattle.vx_kept.proofs.StateLemmas.{same_shape}
 use Rattle.vx_kept.proofs.Steps.{both_Acts, same_Acts, wide_Acts}
 use Rattle.vx_kept.proofs.Whole.{sees_back}
+use Rattle.vx_kept.specs.Trusts.{Trusts}
+use Rattle.vx_kept.proofs.Trusting.{less_trusts}
 use Rattle.vx_group.specs.Moves.{Narrows}
 use Rattle.vx_group.specs.Quiesces.{AnyFailed}
 use Rattle.vx_group.specs.Settled.{SameBut, SettledTo}
@@ -53,6 +55,7 @@ settle_start good c m kept wanted up = record {
   rose = λ is. absurd (let clash : false ≡ true = is in cc);
   none = λ is. refl;
   failing = no_failing m m c.disks c.disks refl;
+  less = λ u b v left. left;
 }
 
 module _ (good : ℕ) (c d : Config) (n device : ℕ) (failed : Bool) (m m1 : Meaning) (so_far : SettledTo good c d n device failed m m1) where
@@ -75,6 +78,7 @@ module _ (good : ℕ) (c d : Config) (n device : ℕ) (failed : Bool) (m m1 : Me
     rose = so_far.rose;
     none = so_far.none;
     failing = so_far.failing;
+    less = so_far.less;
   }
 
   module _ (m2 : Meaning) (goes : Goes (HeadersAsLeft n m1) m1 m2) (before : Lawful m1) (after : Lawful m2) where
@@ -86,6 +90,9 @@ module _ (good : ℕ) (c d : Config) (n device : ℕ) (failed : Bool) (m m1 : Me
 
     pub settle_kept : Kept c (Member good m2) m2
     settle_kept = fewer c (Member good m1) (Member good m2) m2 (member_to good m1 m2 goes.units) (settled_Kept c (Member good m1) n m1 m2 goes before after so_far.kept)
+
+    pub settle_less : (u b : ℕ) (v : List ℕ) → m2.leaves u b v → m.leaves u b v
+    settle_less u b v left = so_far.less u b v (no_more c (Member good m1) n m1 m2 goes before after so_far.kept u b v left)
 
     held_before : (e : Config) (u : ℕ) → Held e m2 u → Held e m1 u
     held_before e u held = record { below = let b : u < m2.units = held.below in omega (arith, goes.units, b); good = held.good }
@@ -110,6 +117,7 @@ module _ (good : ℕ) (c d : Config) (n device : ℕ) (failed : Bool) (m m1 : Me
       rose = later;
       none = so_far.none;
       failing = then_failing m m1 m2 so_far.acts.faults goes.faults c.disks d.disks d.disks so_far.failing (no_failing m1 m2 d.disks d.disks refl);
+      less = settle_less;
     }
 
     -- a disk that failed is held as failed from then on
@@ -134,6 +142,7 @@ module _ (good : ℕ) (c d : Config) (n device : ℕ) (failed : Bool) (m m1 : Me
       rose = λ on. Rose_before (m.disk_faults unit) (m1.disk_faults unit) (m2.disk_faults unit) (so_far.acts.disk_faults unit) fault.disk_count;
       none = λ off. absurd (let clash : true ≡ false = sym set ∙ off in cc);
       failing = then_failing m m1 m2 so_far.acts.faults goes.faults c.disks d.disks e.disks so_far.failing (mark_grown d d.serial n e m1 m2 fault.count is).disks;
+      less = settle_less;
     }
       where
         was_good : (u : ℕ) → failed_at e.disks u ≡ false → failed_at d.disks u ≡ false
@@ -178,7 +187,7 @@ kept_volumes c d G m volumes serial kept = record {
 
 module _ (core : GroupCore) (d : Config) (n device : ℕ) (failed : Bool) (m m1 : Meaning) (stands : Stands core m) (so_far : SettledTo core.good core.config d n device failed m m1) where
   abbrev with_disks : GroupCore
-  with_disks = record { config = d; good = core.good; room = core.room; unsettled = false; next = core.next; faults = core.faults; unsure = core.unsure }
+  with_disks = record { config = d; good = core.good; room = core.room; unsettled = false; committed = core.committed; agreed = core.agreed; next = core.next; faults = core.faults; unsure = core.unsure }
 
   can_same : CanSpell d
   can_same = record {
@@ -187,12 +196,12 @@ module _ (core : GroupCore) (d : Config) (n device : ℕ) (failed : Bool) (m m1 
     rvg = subst (λ (o : Option Units). IfSome o UnitsFit) (sym so_far.same.rvg) (can_of core m stands).rvg;
   }
 
-  pub disks_Stands : (NoneGood d.disks (length d.disks) core.good → ⊥) → IsTidy d m1 → Stands with_disks m1
-  disks_Stands some tidy = made with_disks m1 (wanted_same m m1 d so_far.acts.units so_far.acts.size so_far.wanted) can_same
+  pub disks_Stands : (NoneGood d.disks (length d.disks) core.good → ⊥) → IsTidy d m1 → Trusts core.committed core.agreed core.good m1 → Stands with_disks m1
+  disks_Stands some tidy trusts = made with_disks m1 (wanted_same m m1 d so_far.acts.units so_far.acts.size so_far.wanted) can_same
       (let few = stands.few in omega (arith, ap length so_far.same.volumes, few))
       (λ v. let small = stands.small v in omega (arith, ap (λ (vs : List VolumeEntry). blocks_of vs v) so_far.same.volumes, small))
       (still_large m m1 so_far.acts.units so_far.acts.size stands.large) (take_on core.config d so_far.same.volumes stands.on) some
-      (kept_volumes core.config d (Member core.good m1) m1 so_far.same.volumes so_far.same.serial so_far.kept) (λ is. tidy)
+      (kept_volumes core.config d (Member core.good m1) m1 so_far.same.volumes so_far.same.serial so_far.kept) (λ is. tidy) trusts
 
   pub disks_Narrows : Narrows core with_disks m m1
   disks_Narrows = record {
@@ -214,24 +223,24 @@ put_back c d disks same is =
 
 -- and the core with them
 pub core_back : (core l : GroupCore) (disks : List DiskEntry)
-    → l ≡ record { config = l.config; good = core.good; room = core.room; unsettled = core.unsettled; next = core.next; faults = core.faults; unsure = core.unsure } → SameBut core.config l.config → disks ≡ core.config.disks
-    → record { config = record { serial = l.config.serial; site = l.config.site; disks = disks; volumes = l.config.volumes; rvg = l.config.rvg }; good = l.good; room = l.room; unsettled = l.unsettled; next = l.next; faults = l.faults; unsure = l.unsure } ≡ core
+    → l ≡ record { config = l.config; good = core.good; room = core.room; unsettled = core.unsettled; committed = core.committed; agreed = core.agreed; next = core.next; faults = core.faults; unsure = core.unsure } → SameBut core.config l.config → disks ≡ core.config.disks
+    → record { config = record { serial = l.config.serial; site = l.config.site; disks = disks; volumes = l.config.volumes; rvg = l.config.rvg }; good = l.good; room = l.room; unsettled = l.unsettled; committed = l.committed; agreed = l.agreed; next = l.next; faults = l.faults; unsure = l.unsure } ≡ core
 core_back core l disks is same back =
-    ap (λ (x : GroupCore). record { config = record { serial = l.config.serial; site = l.config.site; disks = disks; volumes = l.config.volumes; rvg = l.config.rvg }; good = x.good; room = x.room; unsettled = x.unsettled; next = x.next; faults = x.faults; unsure = x.unsure }) is
-    ∙ ap (λ (x : Config). record { config = x; good = core.good; room = core.room; unsettled = core.unsettled; next = core.next; faults = core.faults; unsure = core.unsure }) (put_back core.config l.config disks same back)
+    ap (λ (x : GroupCore). record { config = record { serial = l.config.serial; site = l.config.site; disks = disks; volumes = l.config.volumes; rvg = l.config.rvg }; good = x.good; room = x.room; unsettled = x.unsettled; committed = x.committed; agreed = x.agreed; next = x.next; faults = x.faults; unsure = x.unsure }) is
+    ∙ ap (λ (x : Config). record { config = x; good = core.good; room = core.room; unsettled = core.unsettled; committed = core.committed; agreed = core.agreed; next = core.next; faults = core.faults; unsure = core.unsure }) (put_back core.config l.config disks same back)
 
 -- and the core that is settled
-pub core_settled : (core l : GroupCore) → l ≡ record { config = l.config; good = core.good; room = core.room; unsettled = core.unsettled; next = core.next; faults = core.faults; unsure = core.unsure }
-    → ◌≡◌ {A = GroupCore} (record { config = l.config; good = l.good; room = l.room; unsettled = false; next = l.next; faults = l.faults; unsure = l.unsure })
-    (record { config = l.config; good = core.good; room = core.room; unsettled = false; next = core.next; faults = core.faults; unsure = core.unsure })
-core_settled core l is = ap (λ (x : GroupCore). record { config = l.config; good = x.good; room = x.room; unsettled = false; next = x.next; faults = x.faults; unsure = x.unsure }) is
+pub core_settled : (core l : GroupCore) → l ≡ record { config = l.config; good = core.good; room = core.room; unsettled = core.unsettled; committed = core.committed; agreed = core.agreed; next = core.next; faults = core.faults; unsure = core.unsure }
+    → ◌≡◌ {A = GroupCore} (record { config = l.config; good = l.good; room = l.room; unsettled = false; committed = l.committed; agreed = l.agreed; next = l.next; faults = l.faults; unsure = l.unsure })
+    (record { config = l.config; good = core.good; room = core.room; unsettled = false; committed = core.committed; agreed = core.agreed; next = core.next; faults = core.faults; unsure = core.unsure })
+core_settled core l is = ap (λ (x : GroupCore). record { config = l.config; good = x.good; room = x.room; unsettled = false; committed = x.committed; agreed = x.agreed; next = x.next; faults = x.faults; unsure = x.unsure }) is
 
 pub fault_cause : (old new : Meaning) (n unit : ℕ) (error : ShelfError) → error ≡ Fault unit → Cause {T = Unit {0}} old new n (Err error) → Faulted old new n unit × StaysUp old new
 fault_cause old new n unit error is cause = subst (λ (e : ShelfError). Cause {T = Unit {0}} old new n (Err e)) is cause
 
 -- where none of the set is left, one failed
 pub one_failed : (core l : GroupCore) (n device : ℕ) (failed : Bool) (m m1 : Meaning) → Stands core m → SettledTo core.good core.config l.config n device failed m m1
-    → l ≡ record { config = l.config; good = core.good; room = core.room; unsettled = core.unsettled; next = core.next; faults = core.faults; unsure = core.unsure } → NoneGood l.config.disks (length l.config.disks) l.good
+    → l ≡ record { config = l.config; good = core.good; room = core.room; unsettled = core.unsettled; committed = core.committed; agreed = core.agreed; next = core.next; faults = core.faults; unsure = core.unsure } → NoneGood l.config.disks (length l.config.disks) l.good
     → Rose (m.disk_faults device) (m1.disk_faults device)
 one_failed core l n device failed m m1 stands so_far is none = by failed refl
   where
@@ -246,3 +255,13 @@ settled_still good c d n device failed m m1 so_far = elim (cases_bool failed) [
   | inl is ↦ inr (device, so_far.rose is)
   | inr not ↦ inl (so_far.none not)
 ]
+
+pub settled_named : (good : ℕ) (c d : Config) (n device : ℕ) (failed : Bool) (m m1 : Meaning) → SettledTo good c d n device failed m m1 → NamesFailed c d m m1 device
+settled_named good c d n device failed m m1 so_far = elim (cases_bool failed) [
+  | inl is ↦ inr (so_far.rose is)
+  | inr not ↦ inl (ap (λ (x : Config). x.disks) (so_far.none not))
+]
+
+-- what imports find behind it
+pub settle_trusts : (committed agreed : Bool) (good : ℕ) (c d : Config) (n device : ℕ) (failed : Bool) (m m1 : Meaning) → Lawful m → Lawful m1 → SettledTo good c d n device failed m m1 → Trusts committed agreed good m → Trusts committed agreed good m1
+settle_trusts committed agreed good c d n device failed m m1 before after so_far trusts = less_trusts committed agreed good m m1 before after so_far.acts.units so_far.acts.size so_far.acts.tells (λ u b v lt left. so_far.less u b v left) trusts

@@ -1,17 +1,17 @@
 -- Disks that are held as good again.
-use Rattle.std.proofs.Common.{◌≡◌, ◌⊎◌, inl, inr, ⊎_elim, ℕ, zero, suc, ◌+◌, ◌<◌, ◌≤◌, Bool, true, false, IsTrue, Option, IfSome, List, [], ◌∷◌, length, length-set, Result, Ok, Err, OnOk, refl, ap, sym, ◌∙◌, subst, arith}
-use Rattle.std.specs.Prelude.{slice_set}
+use Rattle.std.proofs.Common.{◌≡◌, inl, inr, ℕ, zero, suc, ◌+◌, ◌<◌, ◌≤◌, Bool, true, false, Option, IfSome, List, [], ◌∷◌, length, length-set, Result, Ok, Err, OnOk, refl, ap, sym, ◌∙◌, subst, arith}
+use Rattle.std.specs.Prelude.{◌&&◌, slice_set}
 use Rattle.std.proofs.lemmas.Bool.{cases_lt}
 use Rattle.vx_disk.specs.Counts.{Rose}
 use Rattle.vx_disk.specs.Shelf.{Meaning}
 use Rattle.vx_disk.proofs.Causing.{Rose_after, Rose_before}
 use Rattle.vx_model.specs.declared.units.Units.{Units}
 use Rattle.vx_config.specs.Checks.{blocks_of}
-use Rattle.vx_config.specs.Configs.{CanSpell, UnitsFit}
+use Rattle.vx_config.specs.Configs.{UnitsFit}
 use Rattle.vx_config.specs.declared.config.Config.{Config}
 use Rattle.vx_config.specs.declared.entry.DiskEntry.{DiskEntry}
 use Rattle.vx_config.specs.declared.entry.VolumeEntry.{VolumeEntry}
-use Rattle.vx_copies.specs.Commits.{MoreFailed}
+use Rattle.vx_copies.specs.Commits.{MoreFailed, NamesFailed}
 use Rattle.vx_copies.specs.Marks.{NoneGood, blocks_at, failed_at}
 use Rattle.vx_copies.proofs.OneTry.{held_or}
 use Rattle.vx_volume.specs.Plexes.{uses}
@@ -22,7 +22,7 @@ use Rattle.vx_kept.proofs.Committed.{take_on}
 use Rattle.vx_kept.proofs.StateLemmas.{same_shape}
 use Rattle.vx_kept.proofs.Steps.{same_Acts}
 use Rattle.vx_group.specs.Moves.{Narrows}
-use Rattle.vx_group.specs.Regains.{HeldOne, HoldsPlex, Regained, Regains, regained}
+use Rattle.vx_group.specs.Regains.{AreHeld, HeldOne, HoldsNow, LiesOnFailed, Regained, Regains, regained}
 use Rattle.vx_group.specs.Stands.{Stands}
 use Rattle.vx_group.specs.declared.group_core.GroupCore.{GroupCore}
 use Rattle.vx_group.proofs.FailingLemmas.{wanted_flags}
@@ -142,7 +142,7 @@ same_narrows c d m volumes faults unsure = record {
 
 module _ (core : GroupCore) (d : Config) (v p n : ℕ) (any : Bool) (m : Meaning) (stands : Stands core m) (is : Regained core.config d v p n any) where
   abbrev held_core : GroupCore
-  held_core = record { config = d; good = core.good; room = core.room; unsettled = true; next = core.next; faults = core.faults; unsure = core.unsure }
+  held_core = record { config = d; good = core.good; room = core.room; unsettled = true; committed = core.committed; agreed = core.agreed; next = core.next; faults = core.faults; unsure = core.unsure }
 
   pub regained_Stands : Stands held_core m
   regained_Stands = made held_core m (wanted_flags m.units m.size core.config d is.same.count is.blocks is.same.volumes is.same.rvg stands.wanted)
@@ -155,7 +155,7 @@ module _ (core : GroupCore) (d : Config) (v p n : ℕ) (any : Bool) (m : Meaning
       (λ x. let small = stands.small x in omega (arith, ap (λ (vs : List VolumeEntry). blocks_of vs x) is.same.volumes, small))
       stands.large (take_on core.config d is.same.volumes stands.on)
       (λ none. stands.some (record { each = λ u lt bit. was_failed u (none.each u (let count = is.same.count in omega (arith, count, lt)) bit) }))
-      (kept_volumes core.config d (Member core.good m) m is.same.volumes is.same.serial (kept_of core m stands)) (λ off. absurd (let clash : true ≡ false = off in cc))
+      (kept_volumes core.config d (Member core.good m) m is.same.volumes is.same.serial (kept_of core m stands)) (λ off. absurd (let clash : true ≡ false = off in cc)) stands.trusts
     where
       was_failed : (u : ℕ) → failed_at d.disks u ≡ true → failed_at core.config.disks u ≡ true
       was_failed u now = elim (held_or core.config.disks u) [
@@ -177,12 +177,23 @@ failed_past [] u le = refl
 failed_past (d ∷ ds) zero le = absurd (omega (arith, le))
 failed_past (d ∷ ds) (suc u) le = failed_past ds u (omega (arith, le))
 
-pub regained_holds : (c d : Config) (v p : ℕ) (any : Bool) (m : Meaning) → Regained c d v p (length c.disks) any → HoldsPlex c d v p m m
-regained_holds c d v p any m is = record {
-  held = λ u on. elim (cases_lt u (length c.disks)) [
-    | inl lt ↦ inl (is.held u lt on)
-    | inr le ↦ inl (failed_past d.disks u (let count = is.same.count in omega (arith, count, le)))
+pub regained_held : (c d : Config) (v p : ℕ) (any : Bool) → Regained c d v p (length c.disks) any → AreHeld d v p
+regained_held c d v p any is = record {
+  each = λ u on. elim (cases_lt u (length c.disks)) [
+    | inl lt ↦ is.held u lt (sym (uses_volumes c d is.same.volumes v p u) ∙ on)
+    | inr le ↦ failed_past d.disks u (let count = is.same.count in omega (arith, count, le))
   ];
+}
+
+-- where none of them was held as failed
+pub none_holds : (c d : Config) (v p : ℕ) (any : Bool) (m : Meaning) → Regained c d v p (length c.disks) any → any ≡ false → HoldsNow c d v p m
+none_holds c d v p any m is off = record {
+  held = regained_held c d v p any is;
+  committed = λ on. absurd (
+      let held : failed_at d.disks on.disk ≡ false = (regained_held c d v p any is).each on.disk (uses_volumes c d is.same.volumes v p on.disk ∙ on.lies) in
+      let same : failed_at d.disks on.disk ≡ failed_at c.disks on.disk = ap (λ (x : Config). failed_at x.disks on.disk) (is.none off) in
+      let clash : false ≡ true = sym held ∙ same ∙ on.failed in cc
+      );
 }
 
 -- where nothing changed
@@ -204,21 +215,6 @@ module _ (m0 m1 m2 : Meaning) (one : (u : ℕ) → m0.faults u ≤ m1.faults u) 
     others = λ u was off. more.stays u (first.others u was off);
   }
 
-  pub then_holds : HoldsPlex c d v p m0 m1 → HoldsPlex c e v p m0 m2
-  then_holds first = record {
-    held = λ u on. elim (held_or e.disks u) [
-      | inl good ↦ inl good
-      | inr failed ↦ elim (first.held u on) [
-        | inl good ↦ inr (Rose_before (m0.faults u) (m1.faults u) (m2.faults u) (one u) (more.blamed u good failed))
-        | inr rose ↦ inr (Rose_after (m0.faults u) (m1.faults u) (m2.faults u) rose (two u))
-      ]
-    ];
-  }
-
-pub ok_holds : {T E P Q : Type 0} (r : Result T E) → (P → Q) → OnOk r P → OnOk r Q
-ok_holds (Ok x) f is = f is
-ok_holds (Err error) f is = tt
-
 pub all_holds : {T E Q : Type 0} (r : Result T E) → Q → OnOk r Q
 all_holds (Ok x) is = is
 all_holds (Err error) is = tt
@@ -231,7 +227,7 @@ module _ (core e : GroupCore) (ds : List DiskEntry) (m m' : Meaning) (stands : S
   config_back = record { serial = e.config.serial; site = e.config.site; disks = ds; volumes = e.config.volumes; rvg = e.config.rvg }
 
   abbrev back : GroupCore
-  back = record { config = config_back; good = e.good; room = e.room; unsettled = e.unsettled; next = e.next; faults = e.faults; unsure = e.unsure }
+  back = record { config = config_back; good = e.good; room = e.room; unsettled = e.unsettled; committed = e.committed; agreed = e.agreed; next = e.next; faults = e.faults; unsure = e.unsure }
 
   pub flags_back : Stands back m'
   flags_back = made back m'
@@ -239,7 +235,49 @@ module _ (core e : GroupCore) (ds : List DiskEntry) (m m' : Meaning) (stands : S
       (record { serial = stands'.serial; disks = let some = stands.disks in omega (arith, ap length is, some); rvg = (can_of e m' stands').rvg })
       stands'.few stands'.small stands'.large (take_on e.config config_back refl stands'.on)
       (subst (λ (xs : List DiskEntry). NoneGood xs (length xs) e.good → ⊥) (sym is) (subst (λ (g : ℕ). NoneGood core.config.disks (length core.config.disks) g → ⊥) (sym good) stands.some))
-      (kept_volumes e.config config_back (Member e.good m') m' refl refl (kept_of e m' stands')) (λ off. absurd (let clash : true ≡ false = sym un ∙ off in cc))
+      (kept_volumes e.config config_back (Member e.good m') m' refl refl (kept_of e m' stands')) (λ off. absurd (let clash : true ≡ false = sym un ∙ off in cc)) stands'.trusts
 
   pub back_narrows : Narrows e back m' m'
   back_narrows = same_narrows e back m' refl refl refl
+
+-- ---- a disk that failed in a call
+
+-- where the plex came to lie on a disk that is held as failed, the device is that of a call
+pub failed_named : (c d : Config) (v p device : ℕ) (old new : Meaning) → AreHeld c v p → d.volumes ≡ c.volumes → LiesOnFailed d v p → NamesFailed c d old new device → Rose (old.disk_faults device) (new.disk_faults device)
+failed_named c d v p device old new held volumes on (inl same) = absurd (
+    let was : failed_at c.disks on.disk ≡ false = held.each on.disk (sym (uses_volumes c d volumes v p on.disk) ∙ on.lies) in
+    let clash : false ≡ true = sym was ∙ ap (λ (ds : List DiskEntry). failed_at ds on.disk) (sym same) ∙ on.failed in cc)
+failed_named c d v p device old new held volumes on (inr rose) = rose
+
+pub lies_failed : (c : Config) (v p disk : ℕ) → uses c v p disk && failed_at c.disks disk ≡ true → LiesOnFailed c v p
+lies_failed c v p disk is = record { disk = disk; lies = (both_true (uses c v p disk) (failed_at c.disks disk) is).0; failed = (both_true (uses c v p disk) (failed_at c.disks disk) is).1 }
+  where
+    both_true : (a b : Bool) → a && b ≡ true → (a ≡ true) × (b ≡ true)
+    both_true true b is = (refl, is)
+    both_true false b is = absurd (let clash : false ≡ true = is in cc)
+
+-- none of the first ones is such a disk
+pub record HeldBelow (c : Config) (v p n : ℕ) : Type 0 where
+  pub each : (u : ℕ) → u < n → uses c v p u ≡ true → failed_at c.disks u ≡ false
+
+pub held_more : (c : Config) (v p n : ℕ) → HeldBelow c v p n → uses c v p n && failed_at c.disks n ≡ false → HeldBelow c v p (n + 1)
+held_more c v p n so_far off = record {
+  each = λ u lt on. elim (cases_lt u n) [
+    | inl below ↦ so_far.each u below on
+    | inr above ↦
+        let same : u ≡ n = omega (arith, lt, above) in
+        subst (λ (k : ℕ). failed_at c.disks k ≡ false) (sym same) (last (uses c v p n) (failed_at c.disks n) off (subst (λ (k : ℕ). uses c v p k ≡ true) same on))
+  ];
+}
+  where
+    last : (a b : Bool) → a && b ≡ false → a ≡ true → b ≡ false
+    last true b is on = is
+    last false b is on = absurd (let clash : false ≡ true = on in cc)
+
+pub all_held : (c : Config) (v p n : ℕ) → HeldBelow c v p n → length c.disks ≤ n → AreHeld c v p
+all_held c v p n so_far le = record {
+  each = λ u on. elim (cases_lt u n) [
+    | inl lt ↦ so_far.each u lt on
+    | inr above ↦ failed_past c.disks u (omega (arith, le, above))
+  ];
+}

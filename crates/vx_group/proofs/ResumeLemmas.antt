@@ -29,6 +29,11 @@ use Rattle.vx_kept.specs.Commits.{Member}
 use Rattle.vx_kept.specs.Groups.{found, found_by, group_meaning}
 use Rattle.vx_kept.specs.Keeping.{AllOn, Base, Kept, Kin, SameShape}
 use Rattle.vx_kept.specs.Opens.{OpenVolumes}
+use Rattle.vx_kept.specs.Trusts.{Trusts, is_plain}
+use Rattle.vx_copies.specs.Marks.{failed_at}
+use Rattle.vx_copies.proofs.Goods.{good_bit}
+use Rattle.vx_copies.proofs.OneTry.{wanted_count}
+use Rattle.vx_copies.proofs.Settling.{not_true}
 use Rattle.vx_kept.proofs.Chosen.{live_volumes, place_volumes, same_extends}
 use Rattle.vx_kept.proofs.Facts.{to_fact}
 use Rattle.vx_kept.proofs.Low.{found_same}
@@ -198,10 +203,37 @@ module _ (old new : Meaning) (law : Lawful old) (law' : Lawful new) (goes : Goes
         };
   }
 
-  pub resumed_Stands : (core : GroupCore) → core.config ≡ c → core.good ≡ good_set x.disks → core.unsettled ≡ true → length c.volumes ≤ 32 → ((v : ℕ) → blocks_of c.volumes v < 2 ^ 64) → c.serial ≤ greatest → HasGood c.disks (good_set x.disks) → Stands core new
-  resumed_Stands core config good un few small serial some =
-      subst (λ (k : Config). Stands (record { config = k; good = core.good; room = core.room; unsettled = core.unsettled; next = core.next; faults = core.faults; unsure = core.unsure }) new) (sym config)
-      (subst (λ (s : ℕ). Stands (record { config = c; good = s; room = core.room; unsettled = core.unsettled; next = core.next; faults = core.faults; unsure = core.unsure }) new) (sym good) (record {
+  -- each import finds it, or none
+  resumed_trusts : Trusts true true (good_set x.disks) new
+  resumed_trusts = record {
+    both = λ is. is;
+    agree = λ is i R y z each in_all in_some. all_x i z each (by_all i z each (can.one i i R z (here i each) (here i each) (was_found R i ∙ in_some))) ∙ sym (all_x i y each in_all);
+    plain = λ is i R y each in_all. ap is_plain (sym (was_found R i)) ∙ can.plain i R y (here i each) (was_found (λ u. true) i ∙ in_all);
+    one = λ is i j y z left_i left_j in_i in_j. all_x j z left_j in_j ∙ sym (all_x i y left_i in_i);
+    members = λ is i y u each in_all lt bit.
+        let count : length x.disks ≡ old.units = wanted_count old.units old.size x x_wanted in
+        let below : u < length x.disks = omega (arith, count, goes.units, lt) in
+        ap (λ (k : Config). failed_at k.disks u) (all_x i y each in_all) ∙ not_true (failed_at x.disks u) (sym (good_bit x.disks u below) ∙ bit);
+  }
+    where
+      here : (i : Image) → Each new.leaves i → Each old.leaves i
+      here i each u b = left_old u b (i u b) (each u b)
+
+      was_found : (R : ℕ → Bool) (i : Image) → found_by old R i ≡ found_by new R i
+      was_found R i = sym (found_same old new goes.units goes.size R i)
+
+      by_all : (i : Image) (z : Config) → Each new.leaves i → found old i ≡ Found z → found new i ≡ Found z
+      by_all i z each is = found_same old new goes.units goes.size (λ u. true) i ∙ is
+
+      all_x : (i : Image) (y : Config) → Each new.leaves i → found new i ≡ Found y → y ≡ x
+      all_x i y each is =
+          let both : Found y ≡ Found x = sym (was_found (λ u. true) i ∙ is) ∙ can.one image i R x (seen_image (told_by i each)) (here i each) finds in
+          cc
+
+  pub resumed_Stands : (core : GroupCore) → core.config ≡ c → core.good ≡ good_set x.disks → core.unsettled ≡ true → core.committed ≡ true → core.agreed ≡ true → length c.volumes ≤ 32 → ((v : ℕ) → blocks_of c.volumes v < 2 ^ 64) → c.serial ≤ greatest → HasGood c.disks (good_set x.disks) → Stands core new
+  resumed_Stands core config good un was_committed was_agreed few small serial some =
+      subst (λ (k : Config). Stands (record { config = k; good = core.good; room = core.room; unsettled = core.unsettled; committed = core.committed; agreed = core.agreed; next = core.next; faults = core.faults; unsure = core.unsure }) new) (sym config)
+      (subst (λ (s : ℕ). Stands (record { config = c; good = s; room = core.room; unsettled = core.unsettled; committed = core.committed; agreed = core.agreed; next = core.next; faults = core.faults; unsure = core.unsure }) new) (sym good) (record {
         wanted = c_wanted;
         serial = serial;
         disks = let below : some.disk < length c.disks = some.below in omega (arith, below);
@@ -213,6 +245,7 @@ module _ (old new : Meaning) (law : Lawful old) (law' : Lawful new) (goes : Goes
         some = some_good c.disks (good_set x.disks) some;
         kept = to_fact c (Member (good_set x.disks) new) new (resumed_Kept (Member (good_set x.disks) new));
         tidy = λ is. absurd (let clash : true ≡ false = sym un ∙ is in cc);
+        trusts = subst (λ (a : Bool). Trusts a core.agreed (good_set x.disks) new) (sym was_committed) (subst (λ (a : Bool). Trusts true a (good_set x.disks) new) (sym was_agreed) resumed_trusts);
       }))
 
   -- reads alone are to the group no step at all

@@ -1,5 +1,5 @@
 -- A volume that may be made.
-use Rattle.std.proofs.Common.{◌≡◌, ◌⊎◌, inl, inr, ℕ, zero, suc, ◌+◌, ◌-◌, ◌<◌, ◌≤◌, ◌^◌, Bool, true, false, Option, Some, None, List, [], ◌∷◌, ◌++◌, length, refl, ap, sym, ◌∙◌, subst, arith}
+use Rattle.std.proofs.Common.{◌≡◌, inl, inr, ℕ, ◌+◌, ◌-◌, ◌<◌, ◌≤◌, ◌^◌, Bool, true, false, Option, Some, None, List, [], ◌∷◌, ◌++◌, length, refl, ap, sym, ◌∙◌, arith}
 use Rattle.std.specs.Prelude.{◌&&◌, ◌||◌, ◌==◌, not, nat_le, nat_lt, if◌then◌else◌, is_some, slice_get}
 use Rattle.std.specs.List.{list_all, list_any}
 use Rattle.std.specs.Str.{bytes_eq}
@@ -16,7 +16,7 @@ use Rattle.vx_config.specs.declared.entry.VolumeEntry.{VolumeEntry}
 use Rattle.vx_layout.specs.Space.{AreLogs, IsShape}
 use Rattle.vx_layout.specs.declared.shape.Shape.{Shape}
 use Rattle.vx_group.specs.Dets.{margin}
-use Rattle.vx_group.specs.Makes.{has_name, is_shape, log_count, log_or, make_refusal}
+use Rattle.vx_group.specs.Makes.{has_name, is_shape, log_or, make_refusal}
 
 none_of : (a b d e f : Bool) (n1 n2 n3 n4 n5 : No) → (if a then Some n1 else (if b then Some n2 else (if d then Some n3 else (if e then Some n4 else (if f then Some n5 else None))))) ≡ None
     → (a ≡ false) × (b ≡ false) × (d ≡ false) × (e ≡ false) × (f ≡ false)

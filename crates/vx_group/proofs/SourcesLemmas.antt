@@ -1,5 +1,5 @@
 -- Plexes that are tried as sources of a copy, one after the other.
-use Rattle.std.proofs.Common.{◌≡◌, ◌⊎◌, inl, inr, ⊎_elim, ℕ, ◌+◌, ◌<◌, ◌≤◌, Bool, true, false, IsTrue, Result, Ok, Err, length, refl, ap, sym, ◌∙◌, subst, arith}
+use Rattle.std.proofs.Common.{◌≡◌, ◌⊎◌, inl, inr, ⊎_elim, ℕ, ◌+◌, ◌<◌, ◌≤◌, true, false, IsTrue, Result, Ok, Err, length, refl, sym, ◌∙◌, subst, arith}
 use Rattle.std.proofs.lemmas.Bool.{cases_lt}
 use Rattle.vx_disk.specs.Counts.{Rose}
 use Rattle.vx_disk.specs.Shelf.{Lawful, Meaning}
@@ -8,13 +8,11 @@ use Rattle.vx_disk.specs.declared.shelf.ShelfError.TheVariants.{Fault, Down}
 use Rattle.vx_disk.proofs.Causing.{Rose_after, Rose_before}
 use Rattle.vx_config.specs.declared.config.Config.{Config}
 use Rattle.vx_volume.specs.Copies.{CopyCause}
-use Rattle.vx_volume.specs.Plexes.{SomeActive, active, uses}
+use Rattle.vx_volume.specs.Plexes.{active, uses}
 use Rattle.vx_volume.specs.Volumes.{PlexBlamed}
 use Rattle.vx_volume.proofs.PlaceLemmas.{active_few}
-use Rattle.vx_kept.proofs.Steps.{same_Acts}
-use Rattle.vx_group.specs.Attaches.{AnyImage, Attaches, CopyTried, SourcesTried}
+use Rattle.vx_group.specs.Attaches.{Attaches, CopyTried, SourcesTried}
 use Rattle.vx_group.specs.Blames.{Blames}
-use Rattle.vx_group.specs.Moves.{Narrows}
 use Rattle.vx_group.specs.Stands.{Stands}
 use Rattle.vx_group.specs.declared.group_core.GroupCore.{GroupCore}
 use Rattle.vx_group.proofs.AttachLemmas.{narrows_attaches, then_attaches}

@@ -22,6 +22,8 @@ use Rattle.vx_kept.proofs.Facts.{from_fact, from_tidy, to_fact, to_tidy}
 use Rattle.vx_kept.proofs.Committed.{fewer}
 use Rattle.vx_kept.proofs.Lasting.{low_Kept}
 use Rattle.vx_kept.proofs.Narrower.{has_active, stand_apart, wanted_sound}
+use Rattle.vx_kept.specs.Trusts.{Trusts}
+use Rattle.vx_kept.proofs.Trusting.{less_trusts}
 use Rattle.vx_group.specs.Stands.{Stands}
 use Rattle.vx_group.specs.declared.group_core.GroupCore.{GroupCore}
 
@@ -85,8 +87,8 @@ module _ (core : GroupCore) (m : Meaning) (stands : Stands core m) where
 -- ---- from the parts
 
 pub made : (core : GroupCore) (m : Meaning) → is_wanted m.units m.size core.config ≡ true → CanSpell core.config → length core.config.volumes ≤ 32 → ((v : ℕ) → blocks_of core.config.volumes v < 2 ^ 64) → AreLarge m → AllOn core.config
-    → (NoneGood core.config.disks (length core.config.disks) core.good → ⊥) → Kept core.config (Member core.good m) m → (core.unsettled ≡ false → IsTidy core.config m) → Stands core m
-made core m wanted can few small large on some kept tidy = record {
+    → (NoneGood core.config.disks (length core.config.disks) core.good → ⊥) → Kept core.config (Member core.good m) m → (core.unsettled ≡ false → IsTidy core.config m) → Trusts core.committed core.agreed core.good m → Stands core m
+made core m wanted can few small large on some kept tidy trusts = record {
   wanted = wanted;
   serial = can.serial;
   disks = can.disks;
@@ -98,6 +100,7 @@ made core m wanted can few small large on some kept tidy = record {
   some = some;
   kept = to_fact core.config (Member core.good m) m kept;
   tidy = λ is. to_tidy core.config m (tidy is);
+  trusts = trusts;
 }
 
 pub still_large : (m m' : Meaning) → m'.units ≡ m.units → ((u : ℕ) → m'.size u ≡ m.size u) → AreLarge m → AreLarge m'
@@ -129,4 +132,5 @@ module _ (core : GroupCore) (W : Values) (m m' : Meaning) (goes : Goes W m m') (
       goes = λ u v w x y held in_v in_w in_x in_y. (stands.tidy is).goes u v w x y (record { below = let lt : u < m'.units = held.below in omega (arith, goes.units, lt); good = held.good })
           (low_same u area_a v (omega arith) in_v) (low_same u area_b w (omega arith) in_w) (low_same u area_a x (omega arith) in_x) (low_same u area_b y (omega arith) in_y);
     };
+    trusts = less_trusts core.committed core.agreed core.good m m' lawful lawful' goes.units goes.size goes.tells low_same stands.trusts;
   }

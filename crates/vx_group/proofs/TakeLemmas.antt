@@ -61,7 +61,7 @@ module _ (old new : Meaning) (y : Config) (good : ℕ) (imported : Imported old 
           config = came.config;
           up = record { readable = imported.readable; image = imported.image; blamed = imported.blamed; read = imported.read; is = came.found; opens = made.opens };
           made = made;
-          stands = resumed_Stands old new law law' goes large can came.config plan.core.config imported.readable imported.image imported.read came.found made.opens (λ is. made.sound) plan.core refl made.good made.unsettled
+          stands = resumed_Stands old new law law' goes large can came.config plan.core.config imported.readable imported.image imported.read came.found made.opens (λ is. made.sound) plan.core refl made.good made.unsettled made.committed made.agreed
               (let few = made.few in let same = alike.shape.volumes in omega (arith, few, same)) (λ v. let small = made.small v in let same = alike.shape.blocks v in omega (arith, small, same))
               (let le = made.serial in let same = alike.serial in omega (arith, le, same))
               (subst (λ (ds : List DiskEntry). HasGood ds (good_set came.config.disks)) (sym alike.disks) made.some);

@@ -1,18 +1,17 @@
 -- Zeros on the plexes of a new volume.
-use Rattle.std.proofs.Common.{◌≡◌, inl, inr, ⊎_elim, ℕ, ◌+◌, ◌-◌, ◌*◌, ◌/◌, ◌<◌, ◌≤◌, Bool, true, false, IsTrue, List, length, replicate, Result, Ok, Err, OnOk, refl, ap, sym, ◌∙◌, subst, arith}
-use Rattle.std.specs.Prelude.{take, drop}
+use Rattle.std.proofs.Common.{◌≡◌, inl, inr, ⊎_elim, ℕ, ◌+◌, ◌-◌, ◌*◌, ◌/◌, ◌<◌, ◌≤◌, IsTrue, List, length, replicate, Result, Ok, Err, OnOk, ap, ◌∙◌, arith}
+use Rattle.std.specs.Prelude.{take}
 use Rattle.std.proofs.lemmas.Bool.{cases_lt}
 use Rattle.std.proofs.lemmas.List.{drop-replicate, length-replicate, take-replicate}
 use Rattle.vx_disk.specs.Blocks.{bit_at}
-use Rattle.vx_disk.specs.Shelf.{Goes, Lawful, Meaning, Nothing, Or, piece}
+use Rattle.vx_disk.specs.Shelf.{Goes, Meaning, Nothing, Or, piece}
 use Rattle.vx_disk.specs.declared.shelf.ShelfError.TheVariants.{Fault}
 use Rattle.vx_disk.proofs.Runs.{both_Goes, same_Goes, weaker}
 use Rattle.vx_wire.specs.Fields.{zeros}
 use Rattle.vx_config.specs.Checks.{blocks_of}
 use Rattle.vx_config.specs.declared.config.Config.{Config}
-use Rattle.vx_layout.specs.Places.{place}
-use Rattle.vx_volume.specs.Plexes.{InRun, Inside, active}
-use Rattle.vx_volume.specs.Volumes.{AllBut, EndsAt, LastFailed, OnPlexes, PlexFlushed, PlexWrote}
+use Rattle.vx_volume.specs.Plexes.{InRun, Inside}
+use Rattle.vx_volume.specs.Volumes.{AllBut, LastFailed, OnPlexes, PlexFlushed, PlexWrote}
 use Rattle.vx_volume.specs.declared.sets.Failed.{Failed}
 use Rattle.vx_group.specs.Blames.{Blames}
 use Rattle.vx_group.specs.Makes.{AreZero, EachFlushed, ZeroBelow, ZeroLoop, ZeroRun, ZerosOn}

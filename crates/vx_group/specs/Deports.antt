@@ -1,5 +1,5 @@
 -- How a deport ends.
-use Rattle.std.specs.Prelude.{◌≡◌, ℕ, ◌<◌, Bool, true, false, length, Result, Ok, Err}
+use Rattle.std.specs.Prelude.{◌≡◌, ◌⊎◌, ℕ, ◌<◌, Bool, true, false, length, Result, Ok, Err}
 use Rattle.vx_disk.specs.Causes.{DeviceCause}
 use Rattle.vx_disk.specs.Shelf.{Each, Image, Meaning, Nothing}
 use Rattle.vx_model.specs.declared.errors.Stop.{Stop}
@@ -16,6 +16,8 @@ use Rattle.vx_kept.specs.Commits.{Member}
 use Rattle.vx_kept.specs.Facts.{KeptFact}
 use Rattle.vx_kept.specs.Groups.{found, found_by}
 use Rattle.vx_kept.specs.Keeping.{Acts, Sees}
+use Rattle.vx_kept.specs.Trusts.{Trusts}
+use Rattle.vx_copies.specs.Answers.{good_set}
 use Rattle.vx_volume.specs.Plexes.{active}
 use Rattle.vx_group.specs.Moves.{Narrows}
 use Rattle.vx_group.specs.Quiesces.{GivenBack, Quiesces, SameParts}
@@ -38,6 +40,7 @@ pub record CleanCommitted (c : GroupCore) (old new : Meaning) : Type 0 where
   pub failing : MoreFailed old new c.config.disks config.disks
   pub acts : Acts Nothing (Sees c.config (Member c.good old) old) old new
   pub kept : KeptFact (at_serial config.serial c.config) (Held config new) new
+  pub trusts : c.committed ≡ true → Trusts true true (good_set config.disks) new
 
 -- the group stands as it was, but for its serial and disks that failed
 pub record CommitMissed (c d : GroupCore) (old new : Meaning) : Type 0 where
@@ -69,6 +72,7 @@ pub record Deported (c : GroupCore) (old new : Meaning) : Type 0 where
   pub off : (v p : ℕ) → marked behind.unsure v ≡ false → active config v p ≡ false
   pub failing : MoreFailed old new c.config.disks config.disks
   pub kept : KeptFact (at_serial config.serial behind.config) (Held config new) new
+  pub trusts : c.committed ≡ true → Trusts true true (good_set config.disks) new
 
 -- how it ends, by the parts of the group
 abbrev pub Closes : {T E : Type 0} → GroupCore → GroupCore → Meaning → Meaning → Result T E → Type 0
@@ -90,8 +94,8 @@ DeportStops old meaning shelf (Ok s) = Unit {0}
 DeportStops old meaning shelf (Err (g, Refused why)) = DeviceCause old (meaning (shelf g)) why
 DeportStops old meaning shelf (Err (g, OutOfMemory)) = ⊥
 
--- What was handed out may be imported, where of each configuration that a crash may leave the disks that it holds as failed say nothing by themselves;
--- so it is where it holds none as failed.
-abbrev pub GroupCanImport : {S G : Type 0} → (S → Meaning) → Result S (G × Stop) → Type 0
-GroupCanImport meaning (Ok s) = ((i : Image) (x : Config) → Each (meaning s).leaves i → found (meaning s) i ≡ Found x → Silent x (meaning s)) → CanImport (meaning s)
-GroupCanImport meaning (Err e) = Unit {0}
+-- What was handed out may be imported, where the newest configuration was committed before; or where of each configuration that a crash may leave the
+-- disks that it holds as failed say nothing by themselves, as where it holds none as failed.
+abbrev pub GroupCanImport : {S G : Type 0} → GroupCore → (S → Meaning) → Result S (G × Stop) → Type 0
+GroupCanImport c meaning (Ok s) = (c.committed ≡ true) ⊎ ((i : Image) (x : Config) → Each (meaning s).leaves i → found (meaning s) i ≡ Found x → Silent x (meaning s)) → CanImport (meaning s)
+GroupCanImport c meaning (Err e) = Unit {0}

@@ -11,6 +11,7 @@ use Rattle.vx_config.specs.declared.config.Config.{Config}
 use Rattle.vx_copyfmt.specs.Imports.{Found}
 use Rattle.vx_kept.specs.Cleans.{at_serial, marked}
 use Rattle.vx_kept.specs.Groups.{found}
+use Rattle.vx_kept.specs.Trusts.{HasFailed}
 use Rattle.vx_group.specs.Loses.{Loses}
 use Rattle.vx_group.specs.Mends.{GoesOn}
 use Rattle.vx_group.specs.Quiesces.{AnyFailed}
@@ -33,6 +34,7 @@ pub record CommitMade (core d : GroupCore) (old new : Meaning) : Type 0 where
   pub same : SameOr core.config d.config old new
   pub loses : Loses core.config d.config old new
   pub finds : (i : Image) → Each new.leaves i → found new i ≡ Found d.config
+  pub trust : (d.committed ≡ true) ⊎ HasFailed d.config.disks
 
 -- a commit of the group as it stands; 19 comes exactly where no serial is left
 abbrev pub CommitsAs : {T : Type 0} → GroupCore → GroupCore → Meaning → Meaning → Result T No → Type 0

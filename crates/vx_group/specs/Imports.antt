@@ -1,5 +1,5 @@
 -- How an import ends.
-use Rattle.std.specs.Prelude.{◌≡◌, ◌⊎◌, ℕ, ◌<◌, true, false, IsTrue, length, Result, Ok, Err}
+use Rattle.std.specs.Prelude.{◌≡◌, ◌⊎◌, ℕ, ◌<◌, true, false, IsTrue, List, length, Result, Ok, Err}
 use Rattle.vx_disk.specs.Shelf.{Each, Goes, Image, Meaning, Nothing}
 use Rattle.vx_model.specs.declared.errors.Stop.{Stop}
 use Rattle.vx_model.specs.declared.errors.Stop.TheVariants.{No as Refused, OutOfMemory}
@@ -8,14 +8,22 @@ use Rattle.vx_config.specs.declared.config.Config.{Config}
 use Rattle.vx_copyfmt.specs.Imports.{Found}
 use Rattle.vx_copies.specs.Answers.{Imported}
 use Rattle.vx_copyio.specs.Labelling.{HasSmall}
-use Rattle.vx_volume.specs.Plexes.{active}
+use Rattle.vx_volume.specs.Plexes.{Inside, active}
 use Rattle.vx_kept.specs.Choice.{chosen}
-use Rattle.vx_kept.specs.Groups.{found, group_meaning}
+use Rattle.vx_kept.specs.Trusts.{HasFailed}
+use Rattle.vx_kept.specs.Groups.{Shows, found, group_meaning}
+use Rattle.vx_kept.specs.Keeping.{Extends}
 use Rattle.vx_group.specs.Finishes.{SameOr, StopsLate}
 use Rattle.vx_group.specs.Loses.{Loses}
-use Rattle.vx_group.specs.Resumes.{IsFresh, IsMended, NotTaken, TakenUp, stopped}
+use Rattle.vx_group.specs.Resumes.{AtRest, IsFresh, IsMended, NotTaken, TakenUp, stopped}
 use Rattle.vx_group.specs.Stands.{Stands, meaning_of}
 use Rattle.vx_group.specs.declared.group_core.GroupCore.{GroupCore}
+
+-- Behind a crash the group gives what an image of the disks shows: a block of a volume that stopped uncleanly reads as the plex by which the image goes
+-- has it.
+pub record GivesImage (old : Meaning) (core : GroupCore) (new : Meaning) : Type 0 where
+  pub reads : (c x : Config) (i above : Image) (v b : ℕ) (value : List ℕ) → AtRest old → Each old.leaves i → found old i ≡ Found x → Extends x c → Shows c x i above → stopped x v ≡ true → Inside c v b
+      → (meaning_of core new).reads v b value → value ≡ above v b
 
 -- A group stands on the disks as the one that was found, with each plex that took part ACTIVE, under a later serial; each image has its
 -- configuration. Its volumes read as the plexes that took part. A volume that stopped uncleanly reads as the plex by which an image of it
@@ -32,8 +40,10 @@ pub record Resumed (old : Meaning) (core : GroupCore) (new : Meaning) : Type 0 w
   pub loses : Loses opened core.config old new
   pub on : (v p : ℕ) → IsTrue (active core.config v p) → IsTrue (active opened v p)
   pub finds : (i : Image) → Each new.leaves i → found new i ≡ Found core.config
+  pub trust : (core.committed ≡ true) ⊎ HasFailed core.config.disks
   pub goes : Goes Nothing (group_meaning opened (λ v. 0) old) (meaning_of core new)
   pub mended : (v : ℕ) → v < length opened.volumes → stopped config v ≡ true → IsMended opened v (chosen config v) core old new
+  pub gives : GivesImage old core new
 
 -- what stands on the disks is the group that was found, as far as it was settled
 pub record HalfResumed (old new : Meaning) : Type 0 where

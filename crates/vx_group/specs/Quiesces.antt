@@ -1,5 +1,5 @@
 -- Volumes that are flushed before a group is deported.
-use Rattle.std.specs.Prelude.{◌≡◌, ◌⊎◌, ℕ, ◌<◌, false, IsTrue, length, Result, Ok, Err}
+use Rattle.std.specs.Prelude.{◌≡◌, ◌⊎◌, ℕ, ◌<◌, true, false, IsTrue, length, Result, Ok, Err}
 use Rattle.vx_disk.specs.Counts.{Rose}
 use Rattle.vx_disk.specs.Shelf.{Meaning, Nothing}
 use Rattle.vx_disk.specs.declared.shelf.ShelfError.{ShelfError}
@@ -47,6 +47,7 @@ pub record Quiesced (c d : GroupCore) (which : ℕ → Type 0) (old new : Meanin
   pub stands : Stands d new
   pub quiesces : Quiesces c d which old new
   pub parts : SameParts c.config d.config
+  pub trust : c.committed ≡ true → d.committed ≡ true
   pub settled : d.unsettled ≡ false
   pub up : IsTrue new.down → ⊥
   pub more : d.config.serial < greatest

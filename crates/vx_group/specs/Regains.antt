@@ -3,7 +3,9 @@ use Rattle.std.specs.Prelude.{◌≡◌, ◌⊎◌, ℕ, ◌<◌, Bool, true, fa
 use Rattle.vx_disk.specs.Counts.{Rose}
 use Rattle.vx_disk.specs.Shelf.{Meaning}
 use Rattle.vx_config.specs.declared.config.Config.{Config}
+use Rattle.vx_copies.specs.Commits.{MoreFailed}
 use Rattle.vx_copies.specs.Marks.{blocks_at, failed_at}
+use Rattle.vx_kept.specs.Commits.{IsCommitted}
 use Rattle.vx_volume.specs.Plexes.{uses}
 use Rattle.vx_group.specs.Settled.{SameBut}
 
@@ -30,6 +32,26 @@ pub record Regains (c d : Config) (v p : ℕ) (old new : Meaning) : Type 0 where
   pub blamed : (u : ℕ) → failed_at c.disks u ≡ false → failed_at d.disks u ≡ true → Rose (old.faults u) (new.faults u)
   pub others : (u : ℕ) → failed_at c.disks u ≡ true → uses c v p u ≡ false → failed_at d.disks u ≡ true
 
--- each disk on which the plex lies is held as good, or a call on it failed
-pub record HoldsPlex (c d : Config) (v p : ℕ) (old new : Meaning) : Type 0 where
-  pub held : (u : ℕ) → uses c v p u ≡ true → (failed_at d.disks u ≡ false) ⊎ Rose (old.faults u) (new.faults u)
+-- each disk on which the plex lies is held as good
+pub record AreHeld (c : Config) (v p : ℕ) : Type 0 where
+  pub each : (u : ℕ) → uses c v p u ≡ true → failed_at c.disks u ≡ false
+
+-- one of them is held as failed
+pub record LiesOnFailed (c : Config) (v p : ℕ) : Type 0 where
+  pub disk : ℕ
+  pub lies : uses c v p disk ≡ true
+  pub failed : failed_at c.disks disk ≡ true
+
+-- each of them is held as good, and where one was held as failed each image has this configuration
+pub record HoldsNow (c d : Config) (v p : ℕ) (m : Meaning) : Type 0 where
+  pub held : AreHeld d v p
+  pub committed : LiesOnFailed c v p → IsCommitted d m
+
+-- There was a moment at which each disk on which the plex lies was held as good, by each image too where one was held as failed before; since then
+-- a disk came to be held as failed only where a call on it failed.
+pub record HoldsPlex {T : Type 0} (meaning : T → Meaning) (c d : Config) (v p : ℕ) (new : T) : Type 0 where
+  pub moment : T
+  pub config : Config
+  pub volumes : config.volumes ≡ c.volumes
+  pub now : HoldsNow c config v p (meaning moment)
+  pub failing : MoreFailed (meaning moment) (meaning new) config.disks d.disks

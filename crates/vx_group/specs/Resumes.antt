@@ -24,6 +24,7 @@ use Rattle.vx_kept.specs.Choice.{first_where}
 use Rattle.vx_kept.specs.Cleans.{marked}
 use Rattle.vx_kept.specs.Groups.{found, found_by}
 use Rattle.vx_kept.specs.Keeping.{Base}
+use Rattle.vx_kept.specs.Trusts.{is_plain}
 use Rattle.vx_kept.specs.Opens.{OpenVolumes}
 use Rattle.vx_group.specs.Dets.{any_below, margin}
 use Rattle.vx_group.specs.Stands.{Stands, counted, meaning_of}
@@ -62,10 +63,16 @@ source_at sources v = slice_index_or sources v 0
 -- ---- what may be taken up
 
 -- Where an image has a configuration, each disk has a label and a greater header that counts, and no header that a crash may leave is above
--- it. Whichever disks can be read, an import over an image finds the one of every image, or none.
+-- it. Whichever disks can be read, an import over an image finds the one of every image, or is
+-- refused with 8 or 9.
 pub record CanImport (m : Meaning) : Type 0 where
   pub base : (i : Image) (x : Config) → Each m.leaves i → found m i ≡ Found x → Base x m
   pub one : (i j : Image) (readable : ℕ → Bool) (x : Config) → Each m.leaves i → Each m.leaves j → found_by m readable i ≡ Found x → found m j ≡ Found x
+  pub plain : (i : Image) (readable : ℕ → Bool) (x : Config) → Each m.leaves i → found m i ≡ Found x → is_plain (found_by m readable i) ≡ true
+
+-- a crash leaves one value of each block, as behind a crash
+pub record AtRest (m : Meaning) : Type 0 where
+  pub one : (u b : ℕ) (v w : List ℕ) → m.leaves u b v → m.leaves u b w → v ≡ w
 
 -- ---- what is given
 
@@ -98,6 +105,8 @@ pub record IsPlan (c : Config) (set : ℕ) (plan : Plan) : Type 0 where
   pub sound : IsTrue (is_sound plan.core.config)
   pub good : plan.core.good ≡ set
   pub unsettled : plan.core.unsettled ≡ true
+  pub committed : plan.core.committed ≡ true
+  pub agreed : plan.core.agreed ≡ true
   pub fresh : IsFresh plan.core
   pub stopped : (v : ℕ) → v < length c.volumes → marked plan.stopped v ≡ stopped c v
   pub sources : (v : ℕ) → v < length c.volumes → source_at plan.sources v ≡ source_of set c v

@@ -1,5 +1,5 @@
 -- Good disks of which the headers were written back, and those that failed and are held as failed since.
-use Rattle.std.specs.Prelude.{◌≡◌, ℕ, ◌+◌, ◌<◌, Bool, true, false, IsTrue, length}
+use Rattle.std.specs.Prelude.{◌≡◌, ℕ, ◌+◌, ◌<◌, Bool, true, false, IsTrue, List, length}
 use Rattle.vx_disk.specs.Counts.{Rose}
 use Rattle.vx_disk.specs.Shelf.{Meaning, Nothing}
 use Rattle.vx_copyfmt.specs.Commits.{Tidy}
@@ -18,7 +18,8 @@ pub record SameBut (c d : Config) : Type 0 where
   pub rvg : d.rvg ≡ c.rvg
   pub count : length d.disks ≡ length c.disks
 
--- The disks below n that d holds as good are ready for the next commit. Where some failed, the count of this device rose.
+-- The disks below n that d holds as good are ready for the next commit. Where some failed, the count of this device rose. A crash leaves no more
+-- than before.
 pub record SettledTo (good : ℕ) (c d : Config) (n device : ℕ) (failed : Bool) (old new : Meaning) : Type 0 where
   pub kept : Kept c (Member good new) new
   pub acts : Acts Nothing (Sees c (Member good old) old) old new
@@ -29,3 +30,4 @@ pub record SettledTo (good : ℕ) (c d : Config) (n device : ℕ) (failed : Bool
   pub rose : failed ≡ true → Rose (old.disk_faults device) (new.disk_faults device)
   pub none : failed ≡ false → d ≡ c
   pub failing : MoreFailed old new c.disks d.disks
+  pub less : (u b : ℕ) (v : List ℕ) → new.leaves u b v → old.leaves u b v

@@ -13,6 +13,7 @@ use Rattle.vx_kept.specs.Commits.{Member}
 use Rattle.vx_kept.specs.Facts.{KeptFact, TidyFact}
 use Rattle.vx_kept.specs.Groups.{group_meaning}
 use Rattle.vx_kept.specs.Keeping.{AllOn}
+use Rattle.vx_kept.specs.Trusts.{Trusts}
 use Rattle.vx_group.specs.declared.group_core.GroupCore.{GroupCore}
 
 -- the count of faults of a volume
@@ -24,7 +25,7 @@ abbrev pub meaning_of : GroupCore → Meaning → Meaning
 meaning_of core m = group_meaning core.config (counted core.faults) m
 
 -- The configuration is checked and fits the shelf, each plex that takes part is ACTIVE, some disk of the set is held as good, and the disks
--- keep it. They are ready for the next commit, unless one was refused.
+-- keep it. They are ready for the next commit, unless one was refused; and imports find of them what the flags say.
 pub record Stands (core : GroupCore) (m : Meaning) : Type 0 where
   pub wanted : is_wanted m.units m.size core.config ≡ true
   pub serial : core.config.serial ≤ greatest
@@ -37,3 +38,4 @@ pub record Stands (core : GroupCore) (m : Meaning) : Type 0 where
   pub some : NoneGood core.config.disks (length core.config.disks) core.good → ⊥
   pub kept : KeptFact core.config (Member core.good m) m
   pub tidy : core.unsettled ≡ false → TidyFact core.config m
+  pub trusts : Trusts core.committed core.agreed core.good m

@@ -1,5 +1,5 @@
 // A plex that is attached by its name.
-ghost use Rattle.std.specs.Prelude.{◌≡◌, ◌⊎◌, ℕ, false, IfErr, IfOk, IsTrue, OnOk, Some, None, Ok, Err};
+ghost use Rattle.std.specs.Prelude.{◌≡◌, ◌⊎◌, ℕ, false, IfErr, IfOk, IsTrue, OnOk, Some, None, Ok, Err, true};
 ghost use Rattle.vx_group.specs.Attaches.{AttachEnds, Attaches, att_refusal, copied_regions};
 ghost use Rattle.vx_group.specs.Blames.{Blames};
 ghost use Rattle.vx_group.specs.Dets.{DetStops};
@@ -59,7 +59,8 @@ fn attach_held<S: Shelf>(
     ensures attaches { Attaches vol plex core.old core.new (S.meaning shelf.old) (S.meaning shelf.new) }
     ensures ends { AttachEnds vol plex core.new (S.meaning shelf.new) result }
     ensures regains { Regains core.old.config core.new.config vol plex (S.meaning shelf.old) (S.meaning shelf.new) }
-    ensures held { OnOk result (HoldsPlex core.old.config core.new.config vol plex (S.meaning shelf.old) (S.meaning shelf.new)) }
+    ensures held { OnOk result (HoldsPlex (λ s. S.meaning s) core.old.config core.new.config vol plex shelf.new) }
+    ensures trust { OnOk result (core.old.committed ≡ true → core.new.committed ≡ true) }
     ensures cause { Blames (S.meaning shelf.old) (S.meaning shelf.new) result }
 {
     match regain(shelf, core, vol, plex) {
@@ -70,7 +71,8 @@ fn attach_held<S: Shelf>(
 }
 
 /// Attaches a plex, and answers how many regions were copied: all of the volume, and none where the plex is ACTIVE already; then nothing
-/// changes. Disks of the plex that are held as failed are held as good first, by a commit of their own.
+/// changes. Disks of the plex that are held as failed are held as good first, by a commit of their own; where one fails in
+/// that, it stays held as failed, and this is refused.
 ///
 /// Answers 1 exactly where there is no such volume or plex, else 19 exactly where fewer than 65,536 serials are left, and then nothing has
 /// changed; else 7 only where the count of the disk that it names rose, and 6 only where the shelf is then down. Then the plex is not
@@ -89,7 +91,8 @@ pub fn att_in<S: Shelf>(
     ensures attaches { Attaches vol plex core.old core.new (S.meaning shelf.old) (S.meaning shelf.new) }
     ensures ends { active core.old.config vol plex ≡ false → AttachEnds vol plex core.new (S.meaning shelf.new) result }
     ensures regains { Regains core.old.config core.new.config vol plex (S.meaning shelf.old) (S.meaning shelf.new) }
-    ensures held { active core.old.config vol plex ≡ false → OnOk result (HoldsPlex core.old.config core.new.config vol plex (S.meaning shelf.old) (S.meaning shelf.new)) }
+    ensures held { active core.old.config vol plex ≡ false → OnOk result (HoldsPlex (λ s. S.meaning s) core.old.config core.new.config vol plex shelf.new) }
+    ensures trust { OnOk result (core.old.committed ≡ true → core.new.committed ≡ true) }
     ensures cause { att_refusal core.old.config vol plex ≡ None → DetStops (S.meaning shelf.old) (S.meaning shelf.new) result }
 {
     if let Some(no) = refuse(&core.config, vol, plex) {

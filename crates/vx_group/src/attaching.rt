@@ -1,5 +1,5 @@
 // The content of a volume that is copied to a plex, and the commit that makes the plex ACTIVE.
-ghost use Rattle.std.specs.Prelude.{◌≡◌, ◌⊎◌, ◌<◌, false, IfErr, IsTrue};
+ghost use Rattle.std.specs.Prelude.{◌≡◌, ◌⊎◌, ◌<◌, false, IfErr, IsTrue, true, OnOk};
 ghost use Rattle.vx_config.specs.Table.{greatest};
 ghost use Rattle.vx_copies.specs.Commits.{MoreFailed};
 ghost use Rattle.vx_group.specs.Attaches.{AttachEnds, Attaches, CopyTried, HasOther, MayAttach, NoSource, Opens};
@@ -35,6 +35,7 @@ fn copy_from<S: Shelf>(
     ensures attaches { Attaches vol plex core.old core.new (S.meaning shelf.old) (S.meaning shelf.new) }
     ensures opens { Opens vol plex core.new.config result }
     ensures settled { core.new.unsettled ≡ core.old.unsettled }
+    ensures trust { core.new.committed ≡ core.old.committed }
     ensures serial { core.new.config.serial ≡ core.old.config.serial }
     ensures disks { core.new.config.disks ≡ core.old.config.disks }
     ensures same { IfErr result (λ e. core.new ≡ core.old) }
@@ -70,6 +71,7 @@ fn try_from<S: Shelf>(
     ensures attaches { Attaches vol plex core.old core.new (S.meaning shelf.old) (S.meaning shelf.new) }
     ensures opens { Opens vol plex core.new.config result }
     ensures settled { core.new.unsettled ≡ core.old.unsettled }
+    ensures trust { core.new.committed ≡ core.old.committed }
     ensures serial { core.new.config.serial ≡ core.old.config.serial }
     ensures disks { core.new.config.disks ≡ core.old.config.disks }
     ensures same { IfErr result (λ e. core.new ≡ core.old) }
@@ -97,6 +99,7 @@ fn copy_to<S: Shelf>(
     ensures attaches { Attaches vol plex core.old core.new (S.meaning shelf.old) (S.meaning shelf.new) }
     ensures opens { Opens vol plex core.new.config result }
     ensures settled { core.new.unsettled ≡ core.old.unsettled }
+    ensures trust { core.new.committed ≡ core.old.committed }
     ensures serial { core.new.config.serial ≡ core.old.config.serial }
     ensures disks { core.new.config.disks ≡ core.old.config.disks }
     ensures no_source { NoSource core.old.config vol plex (S.meaning shelf.old) (S.meaning shelf.new) result }
@@ -155,6 +158,7 @@ fn commit_open<S: Shelf>(
     ensures attaches { Attaches vol plex core.old core.new (S.meaning shelf.old) (S.meaning shelf.new) }
     ensures ends { AttachEnds vol plex core.new (S.meaning shelf.new) result }
     ensures failing { MoreFailed (S.meaning shelf.old) (S.meaning shelf.new) core.old.config.disks core.new.config.disks }
+    ensures trust { OnOk result (core.old.committed ≡ true → core.new.committed ≡ true) }
     ensures cause { Blames (S.meaning shelf.old) (S.meaning shelf.new) result }
 {
     match detach(shelf, core, 0, Failed { set: 0, disk: 0 }) {
@@ -185,6 +189,7 @@ pub fn attach<S: Shelf>(
     ensures attaches { Attaches vol plex core.old core.new (S.meaning shelf.old) (S.meaning shelf.new) }
     ensures ends { AttachEnds vol plex core.new (S.meaning shelf.new) result }
     ensures failing { MoreFailed (S.meaning shelf.old) (S.meaning shelf.new) core.old.config.disks core.new.config.disks }
+    ensures trust { OnOk result (core.old.committed ≡ true → core.new.committed ≡ true) }
     ensures cause { Blames (S.meaning shelf.old) (S.meaning shelf.new) result }
 {
     match settle_headers(shelf, core) {

@@ -10,6 +10,7 @@ ghost use Rattle.vx_model.specs.declared.no.No.TheVariants.{Size};
 
 use crate::GroupCore;
 use crate::detaching::good_of;
+use crate::marking::is_committed;
 use std::alloc::Global;
 use vx_config::{Config, DiskEntry, Disks, Volumes};
 use vx_copies::Room;
@@ -84,11 +85,14 @@ pub fn start<S: Shelf>(alloc: Global, shelf: &mut S, site: u32) -> Result<GroupC
         Err(no) => return Err(Stop::No(no)),
     }
     let good = good_of(&config.disks);
+    let committed = is_committed(false, &config.disks);
     Ok(GroupCore {
         config,
         good,
         room,
         unsettled: false,
+        committed,
+        agreed: committed,
         next: [0; MOST_VOLUMES],
         faults: [0; MOST_VOLUMES],
         unsure: [false; MOST_VOLUMES],

@@ -39,6 +39,8 @@ fn commit_closed<S: Shelf>(shelf: &mut S, core: &mut GroupCore) -> Result<(), Sh
         Ok(()) => Ok(()),
         Err(no) => {
             core.unsettled = true;
+            core.agreed = core.committed;
+            core.committed = false;
             if shelf.is_down() {
                 return Err(ShelfError::Down);
             }

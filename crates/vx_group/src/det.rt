@@ -73,6 +73,8 @@ fn detach_one<S: Shelf>(
     ensures narrows { Narrows core.old core.new (S.meaning shelf.old) (S.meaning shelf.new) }
     ensures off { OnOk result (active core.new.config vol plex ≡ false) }
     ensures others { (w p : ℕ) → (w ≡ vol → p ≡ plex → ⊥) → active core.new.config w p ≡ active core.old.config w p }
+    ensures trust { OnOk result (core.old.committed ≡ true → core.new.committed ≡ true) }
+    ensures agreed { IfErr result (λ e. core.old.committed ≡ true → core.new.agreed ≡ true) }
     ensures cause { Blames (S.meaning shelf.old) (S.meaning shelf.new) result }
 {
     match settle_headers(shelf, core) {
@@ -103,6 +105,8 @@ pub fn det_in<S: Shelf>(
     ensures narrows { Narrows core.old core.new (S.meaning shelf.old) (S.meaning shelf.new) }
     ensures off { OnOk result (active core.new.config vol plex ≡ false) }
     ensures others { (w p : ℕ) → (w ≡ vol → p ≡ plex → ⊥) → active core.new.config w p ≡ active core.old.config w p }
+    ensures trust { OnOk result (core.old.committed ≡ true → core.new.committed ≡ true) }
+    ensures agreed { IfErr result (λ e. core.old.committed ≡ true → core.new.agreed ≡ true) }
     ensures cause { det_refusal core.old.config vol plex ≡ None → DetStops (S.meaning shelf.old) (S.meaning shelf.new) result }
 {
     if let Some(no) = refuse(&core.config, vol, plex) {

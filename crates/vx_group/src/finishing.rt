@@ -9,6 +9,7 @@ ghost use Rattle.vx_volume.specs.Plexes.{active};
 
 use crate::GroupCore;
 use crate::detaching::good_of;
+use crate::marking::is_committed;
 use crate::mending::mend_volumes;
 use crate::settling::settle_headers;
 use vx_disk::{Shelf, refusal};
@@ -23,8 +24,10 @@ fn commit_whole<S: Shelf>(shelf: &mut S, core: &mut GroupCore) -> Result<(), No>
     ensures { CommitsAs core.old core.new (S.meaning shelf.old) (S.meaning shelf.new) result }
 {
     match commit_stale(shelf, &mut core.config, 0, 0, core.good, &mut core.room) {
-        Ok(()) => {
+        Ok(_) => {
             core.good = good_of(&core.config.disks);
+            core.committed = is_committed(core.committed, &core.config.disks);
+            core.agreed = core.committed;
             if shelf.is_down() {
                 return Err(No::Down);
             }
@@ -32,6 +35,8 @@ fn commit_whole<S: Shelf>(shelf: &mut S, core: &mut GroupCore) -> Result<(), No>
         }
         Err(no) => {
             core.unsettled = true;
+            core.agreed = core.committed;
+            core.committed = false;
             Err(no)
         }
     }

@@ -1,6 +1,8 @@
 // A group as a shelf.
-ghost use Rattle.std.specs.Prelude.{◌≡◌, ◌<◌, ◌≤◌, ◌-◌, false, IfOk, IfSome, IsTrue, Some, None, Ok, Err, OnOk, length, ℕ};
+ghost use Rattle.std.specs.Prelude.{◌≡◌, ◌<◌, ◌≤◌, ◌-◌, true, false, IfOk, IfSome, IsTrue, Some, None, Ok, Err, OnOk, length, ℕ, IfErr};
 ghost use Rattle.vx_disk.specs.Causes.{Calls, Cause, Names, OnDisks, Works};
+ghost use Rattle.vx_disk.specs.Disks.{Crashed};
+ghost use Rattle.vx_disk.specs.Racks.{Stopped};
 ghost use Rattle.vx_disk.specs.Shelf.{DisksFlushed, DisksWrote, Fits, Flushed, Goes, Nothing, Written, Wrote};
 ghost use Rattle.vx_config.specs.Table.{greatest};
 ghost use Rattle.vx_group.specs.Attaches.{AttachEnds, Attaches, att_refusal, copied_regions};
@@ -20,11 +22,12 @@ ghost use Rattle.vx_group.specs.GivesUp.{GivesUp};
 ghost use Rattle.vx_group.specs.Imports.{GroupImported};
 ghost use Rattle.vx_group.specs.Laws.{group_lawful};
 ghost use Rattle.vx_group.specs.Regains.{HoldsPlex, Regains};
-ghost use Rattle.vx_group.specs.Resumes.{CanImport};
+ghost use Rattle.vx_group.specs.Resumes.{AtRest, CanImport};
 ghost use Rattle.vx_group.specs.Stands.{Stands, meaning_of};
 
 use crate::GroupCore;
 use crate::att::att_in;
+use crate::crashing::crash_in;
 use crate::create::start;
 use crate::deporting::deport_in;
 use crate::det::det_in;
@@ -35,7 +38,7 @@ use crate::reading::read_in;
 use crate::writing::write_in;
 use std::alloc::Global;
 use vx_config::Config;
-use vx_disk::{Shelf, ShelfError};
+use vx_disk::{Rack, Shelf, ShelfError};
 use vx_layout::Shape;
 use vx_model::{Name, Stop};
 
@@ -102,6 +105,8 @@ impl<S: Shelf> Group<S> {
         ensures refused { (no : NoValue) → make_refusal self.old.core.config name.now want.now ≡ Some no → (result ≡ Err (Refused no)) × (self.new.core ≡ self.old.core) × (self.new.shelf ≡ self.old.shelf) }
         ensures stays { StayAsWere self.old.core self.new.core (S.meaning self.old.shelf) (S.meaning self.new.shelf) }
         ensures ends { make_refusal self.old.core.config name.now want.now ≡ None → MakeEnds name.now want.now self.old.core self.new.core (S.meaning self.old.shelf) (S.meaning self.new.shelf) result }
+        ensures trust { OnOk result (self.old.core.committed ≡ true → self.new.core.committed ≡ true) }
+        ensures agreed { IfErr result (λ e. self.old.core.committed ≡ true → self.new.core.agreed ≡ true) }
         ensures unmoved { Unmoved result ((self.new.core ≡ self.old.core) × (self.new.shelf ≡ self.old.shelf)) }
     {
         make_in(alloc, &mut self.shelf, &mut self.core, name, want)
@@ -119,6 +124,8 @@ impl<S: Shelf> Group<S> {
         ensures narrows { Narrows self.old.core self.new.core (S.meaning self.old.shelf) (S.meaning self.new.shelf) }
         ensures off { OnOk result (active self.new.core.config vol plex ≡ false) }
         ensures others { (w p : ℕ) → (w ≡ vol → p ≡ plex → ⊥) → active self.new.core.config w p ≡ active self.old.core.config w p }
+        ensures trust { OnOk result (self.old.core.committed ≡ true → self.new.core.committed ≡ true) }
+        ensures agreed { IfErr result (λ e. self.old.core.committed ≡ true → self.new.core.agreed ≡ true) }
         ensures cause { det_refusal self.old.core.config vol plex ≡ None → DetStops (S.meaning self.old.shelf) (S.meaning self.new.shelf) result }
     {
         det_in(&mut self.shelf, &mut self.core, vol, plex)
@@ -126,7 +133,7 @@ impl<S: Shelf> Group<S> {
 
     /// Attaches a plex, and answers how many regions were copied: all of the volume, and none where the plex is ACTIVE already; then nothing
     /// changes. Each volume reads as before, at every moment and in every image. Disks of the plex that are held as failed are held as good
-    /// first, by a commit of their own.
+    /// first, by a commit of their own; where one fails in that, it stays held as failed, and the answer is 7.
     ///
     /// Answers 1 exactly where there is no such volume or plex, else 19 exactly where fewer than 65,536 serials are left, and then nothing
     /// has changed; else 7 only where the count of the disk that it names rose, and 6 only where the shelf is then down. Then the plex is
@@ -139,7 +146,8 @@ impl<S: Shelf> Group<S> {
         ensures attaches { Attaches vol plex self.old.core self.new.core (S.meaning self.old.shelf) (S.meaning self.new.shelf) }
         ensures ends { active self.old.core.config vol plex ≡ false → AttachEnds vol plex self.new.core (S.meaning self.new.shelf) result }
         ensures regains { Regains self.old.core.config self.new.core.config vol plex (S.meaning self.old.shelf) (S.meaning self.new.shelf) }
-        ensures held { active self.old.core.config vol plex ≡ false → OnOk result (HoldsPlex self.old.core.config self.new.core.config vol plex (S.meaning self.old.shelf) (S.meaning self.new.shelf)) }
+        ensures held { active self.old.core.config vol plex ≡ false → OnOk result (HoldsPlex (λ s. S.meaning s) self.old.core.config self.new.core.config vol plex self.new.shelf) }
+        ensures trust { OnOk result (self.old.core.committed ≡ true → self.new.core.committed ≡ true) }
         ensures cause { att_refusal self.old.core.config vol plex ≡ None → DetStops (S.meaning self.old.shelf) (S.meaning self.new.shelf) result }
     {
         att_in(&mut self.shelf, &mut self.core, vol, plex)
@@ -156,7 +164,7 @@ impl<S: Shelf> Group<S> {
     pub fn deport(self) -> Result<S, (Group<S>, Stop)>
         ensures limit { greatest - margin < self.core.config.serial → IsFull self.core self.shelf (λ g. g.core) (λ g. g.shelf) result }
         ensures ends { GroupDeported self.core (S.meaning self.shelf) (λ s. S.meaning s) (λ g. g.core) (λ g. g.shelf) result }
-        ensures can { GroupCanImport (λ s. S.meaning s) result }
+        ensures can { GroupCanImport self.core (λ s. S.meaning s) result }
         ensures cause { self.core.config.serial ≤ greatest - margin → DeportStops (S.meaning self.shelf) (λ s. S.meaning s) (λ g. g.shelf) result }
     {
         let mut shelf = self.shelf;
@@ -167,11 +175,23 @@ impl<S: Shelf> Group<S> {
         }
     }
 
-    /// Hands out the shelf below and the rest. It makes no device call and takes no memory.
+    /// Whether all imports over what a crash may leave now agree, whichever disks they can read.
+    ///
+    /// They do while each commit is done, and behind the first one that is refused. Then they may not, until a commit is done by which each disk
+    /// is good: a disk that failed in the refused one may keep a copy of it that no later commit reaches. It makes no device call.
+    pub fn is_agreed(&self) -> bool
+        ensures { result ≡ self.now.core.agreed }
+    {
+        self.core.agreed
+    }
+
+    /// Hands out the shelf below and the rest. Where the shelf fell, and imports agree, it may be imported again. It makes no device call and
+    /// takes no memory.
     pub fn apart(self) -> (S, GroupCore)
         ensures shelf { result.0 ≡ self.shelf }
         ensures core { result.1 ≡ self.core }
         ensures stands { Stands result.1 (S.meaning result.0) }
+        ensures can { AtRest (S.meaning result.0) → result.1.agreed ≡ true → CanImport (S.meaning result.0) }
     {
         (self.shelf, self.core)
     }
@@ -183,6 +203,22 @@ impl<S: Shelf> Group<S> {
         ensures core { result.core ≡ core }
     {
         Group { shelf, core }
+    }
+}
+
+impl<R: Rack> Group<R> {
+    /// Crashes the disks, and hands them out, down. To the volumes this is a crash too: each image that it keeps is one that it might have
+    /// left. Where imports agree, the disks may be imported again once they are revived.
+    pub fn crash(self, pick: u64) -> R
+        ensures stopped { Stopped (R.meaning self.shelf) (R.meaning result) }
+        ensures disks { OnDisks (R.meaning self.shelf).disks (R.meaning result).disks (Crashed (R.meaning self.shelf).size pick) }
+        ensures volumes { Stopped (meaning_of self.core (R.meaning self.shelf)) (meaning_of self.core (R.meaning result)) }
+        ensures can { self.core.agreed ≡ true → CanImport (R.meaning result) }
+    {
+        let mut rack = self.shelf;
+        let core = self.core;
+        crash_in(&mut rack, &core, pick);
+        rack
     }
 }
 
@@ -213,6 +249,8 @@ impl<S: Shelf> Shelf for Group<S> {
         ensures disks { OnDisks (meaning_of self.old.core (S.meaning self.old.shelf)).disks (meaning_of self.new.core (S.meaning self.new.shelf)).disks (λ o n. Calls (meaning_of self.old.core (S.meaning self.old.shelf)) (DisksWrote unit block bytes.now) o n result) }
         ensures gave_up { GivesUp unit self.old.core self.new.core (S.meaning self.old.shelf) (S.meaning self.new.shelf) result }
         ensures loses { Loses self.old.core.config self.new.core.config (S.meaning self.old.shelf) (S.meaning self.new.shelf) }
+        ensures trust { OnOk result (self.old.core.committed ≡ true → self.new.core.committed ≡ true) }
+        ensures agreed { IfErr result (λ e. self.old.core.committed ≡ true → self.new.core.agreed ≡ true) }
     {
         write_in(&mut self.shelf, &mut self.core, unit, block, bytes)
     }
@@ -228,6 +266,8 @@ impl<S: Shelf> Shelf for Group<S> {
         ensures disks { OnDisks (meaning_of self.old.core (S.meaning self.old.shelf)).disks (meaning_of self.new.core (S.meaning self.new.shelf)).disks (λ o n. Calls (meaning_of self.old.core (S.meaning self.old.shelf)) (DisksFlushed unit) o n result) }
         ensures gave_up { GivesUp unit self.old.core self.new.core (S.meaning self.old.shelf) (S.meaning self.new.shelf) result }
         ensures loses { Loses self.old.core.config self.new.core.config (S.meaning self.old.shelf) (S.meaning self.new.shelf) }
+        ensures trust { OnOk result (self.old.core.committed ≡ true → self.new.core.committed ≡ true) }
+        ensures agreed { IfErr result (λ e. self.old.core.committed ≡ true → self.new.core.agreed ≡ true) }
     {
         flush_in(&mut self.shelf, &mut self.core, unit)
     }

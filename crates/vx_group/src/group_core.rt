@@ -13,6 +13,10 @@ pub struct GroupCore {
     pub(crate) room: Room,
     /// A commit was refused, and none was made since.
     pub(crate) unsettled: bool,
+    /// The newest configuration is committed: it is that of each image that a crash may leave.
+    pub(crate) committed: bool,
+    /// Whichever disks can be read behind a crash, an import finds one configuration, or none.
+    pub(crate) agreed: bool,
     /// Of each volume the plex that the next read asks first.
     pub(crate) next: [u32; MOST_VOLUMES],
     /// Of each volume how many calls on it failed.

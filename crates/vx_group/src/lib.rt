@@ -7,6 +7,7 @@ mod att;
 mod attaching;
 mod copying;
 mod counting;
+mod crashing;
 mod create;
 mod deporting;
 mod det;
@@ -30,5 +31,6 @@ mod taking;
 mod writing;
 mod zeroing;
 
+pub use crashing::revive;
 pub use group::Group;
 pub use group_core::GroupCore;

@@ -1,5 +1,5 @@
 // A volume that is made.
-ghost use Rattle.std.specs.Prelude.{◌≡◌, ◌<◌, ℕ, true, false, IsTrue, IfSome, Some, None, Err};
+ghost use Rattle.std.specs.Prelude.{◌≡◌, ◌<◌, ℕ, true, false, IsTrue, IfSome, Some, None, Err, OnOk, IfErr};
 ghost use Rattle.vx_config.specs.Checks.{is_sound};
 ghost use Rattle.vx_config.specs.Configs.{CanSpell};
 ghost use Rattle.vx_config.specs.Table.{greatest};
@@ -13,6 +13,7 @@ ghost use Rattle.vx_group.specs.Stands.{Stands};
 use crate::GroupCore;
 use crate::detaching::{fault_of, good_of};
 use crate::lengthening::longer;
+use crate::marking::is_committed;
 use crate::settling::settle_headers;
 use crate::shaping::{are_few, refuse_volume, volume_of};
 use crate::zeroing::zero_volume;
@@ -67,6 +68,8 @@ fn add_last<S: Shelf>(shelf: &mut S, core: &mut GroupCore, next: Config) -> Resu
     ensures stands { Stands core.new (S.meaning shelf.new) }
     ensures stays { StayAsWere core.old core.new (S.meaning shelf.old) (S.meaning shelf.new) }
     ensures adds { Adds core.old core.new next (S.meaning shelf.new) result }
+    ensures trust { OnOk result (core.old.committed ≡ true → core.new.committed ≡ true) }
+    ensures agreed { IfErr result (λ e. core.old.committed ≡ true → core.new.agreed ≡ true) }
     ensures cause { StopsBy (S.meaning shelf.old) (S.meaning shelf.new) result }
 {
     let mut next = next;
@@ -78,12 +81,16 @@ fn add_last<S: Shelf>(shelf: &mut S, core: &mut GroupCore, next: Config) -> Resu
     match commit_next(shelf, &core.config, &mut next, core.good, &mut core.room) {
         Ok(()) => {
             core.good = good_of(&next.disks);
+            core.committed = is_committed(core.committed, &next.disks);
+            core.agreed = core.committed;
             core.config = next;
             Ok(())
         }
         Err(no) => {
             core.config.serial = next.serial;
             core.unsettled = true;
+            core.agreed = core.committed;
+            core.committed = false;
             if shelf.is_down() {
                 return Err(ShelfError::Down);
             }
@@ -101,6 +108,8 @@ fn add<S: Shelf>(shelf: &mut S, core: &mut GroupCore, next: Config) -> Result<()
     ensures stands { Stands core.new (S.meaning shelf.new) }
     ensures stays { StayAsWere core.old core.new (S.meaning shelf.old) (S.meaning shelf.new) }
     ensures adds { Adds core.old core.new next (S.meaning shelf.new) result }
+    ensures trust { OnOk result (core.old.committed ≡ true → core.new.committed ≡ true) }
+    ensures agreed { IfErr result (λ e. core.old.committed ≡ true → core.new.agreed ≡ true) }
     ensures cause { StopsBy (S.meaning shelf.old) (S.meaning shelf.new) result }
 {
     match settle_headers(shelf, core) {
@@ -131,6 +140,8 @@ pub fn make_in<S: Shelf>(
     ensures refused { (no : NoValue) → make_refusal core.old.config name.now want.now ≡ Some no → (result ≡ Err (Refused no)) × (core.new ≡ core.old) × (shelf.new ≡ shelf.old) }
     ensures stays { StayAsWere core.old core.new (S.meaning shelf.old) (S.meaning shelf.new) }
     ensures ends { make_refusal core.old.config name.now want.now ≡ None → MakeEnds name.now want.now core.old core.new (S.meaning shelf.old) (S.meaning shelf.new) result }
+    ensures trust { OnOk result (core.old.committed ≡ true → core.new.committed ≡ true) }
+    ensures agreed { IfErr result (λ e. core.old.committed ≡ true → core.new.agreed ≡ true) }
     ensures unmoved { Unmoved result ((core.new ≡ core.old) × (shelf.new ≡ shelf.old)) }
 {
     if let Some(no) = refuse_volume(&core.config, name, want) {

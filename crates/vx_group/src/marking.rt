@@ -1,8 +1,9 @@
 // Disks that are held as failed, or as good.
-ghost use Rattle.std.specs.Prelude.{◌≡◌, ◌<◌, ◌≤◌, ℕ, length, true, IsTrue, IsFalse};
+ghost use Rattle.std.specs.Prelude.{◌≡◌, ◌⊎◌, ◌<◌, ◌≤◌, ℕ, length, true, false, IsTrue, IsFalse};
 ghost use Rattle.vx_copies.specs.Bodies.{is_wanted};
 ghost use Rattle.vx_copies.specs.Marks.{HasGood, NoneGood, marked};
 ghost use Rattle.vx_group.specs.Regains.{regained};
+ghost use Rattle.vx_kept.specs.Trusts.{AllGood, HasFailed};
 
 use vx_config::{Config, DiskEntry, Disks};
 use vx_copyio::is_member;
@@ -50,4 +51,21 @@ pub fn has_good(disks: &Disks, good: u8) -> bool
         }
     }
     false
+}
+
+/// Whether behind a commit the newest configuration is committed: where it was so before, or no disk is held as failed.
+pub fn is_committed(committed: bool, disks: &Disks) -> bool
+    ensures some { IsTrue result → (committed ≡ true) ⊎ AllGood disks.now }
+    ensures none { IsFalse result → (committed ≡ false) × (HasFailed disks.now) }
+{
+    if committed {
+        return true;
+    }
+    let disks = disks.as_slice();
+    for k in 0..disks.len() {
+        if disks[k].failed {
+            return false;
+        }
+    }
+    true
 }

@@ -1,6 +1,6 @@
 // The headers of the good disks, which are written back before the commit behind a refused one.
-ghost use Rattle.std.specs.Prelude.{◌≡◌, ◌⊎◌, ◌+◌, ◌<◌, ◌≤◌, length, true, false, IfErr, IsTrue, OnOk};
-ghost use Rattle.vx_copies.specs.Commits.{MoreFailed};
+ghost use Rattle.std.specs.Prelude.{◌≡◌, ◌⊎◌, ◌+◌, ◌<◌, ◌≤◌, length, true, false, IfErr, IfOk, IsTrue, OnOk};
+ghost use Rattle.vx_copies.specs.Commits.{MoreFailed, NamesFailed};
 ghost use Rattle.vx_group.specs.Blames.{Blames};
 ghost use Rattle.vx_group.specs.GivesUp.{NoCommit};
 ghost use Rattle.vx_group.specs.Moves.{Narrows};
@@ -18,7 +18,9 @@ use vx_volume::Failed;
 
 /// Writes the headers of each good disk back after a refused commit, so that a commit may follow. A disk that fails is held as failed from
 /// then on; where none of the set is left, nothing has changed in memory.
-pub fn settle_headers<S: Shelf>(shelf: &mut S, core: &mut GroupCore) -> Result<(), ShelfError>
+///
+/// It answers the device that failed last, where a disk came to be held as failed.
+pub fn settle_named<S: Shelf>(shelf: &mut S, core: &mut GroupCore) -> Result<u32, ShelfError>
     requires stands { Stands core.old (S.meaning shelf.old) }
     requires up { IsTrue (S.meaning shelf.old).down → ⊥ }
     ensures stands { Stands core.new (S.meaning shelf.new) }
@@ -26,15 +28,18 @@ pub fn settle_headers<S: Shelf>(shelf: &mut S, core: &mut GroupCore) -> Result<(
     ensures volumes { core.new.config.volumes ≡ core.old.config.volumes }
     ensures serial { core.new.config.serial ≡ core.old.config.serial }
     ensures good { core.new.good ≡ core.old.good }
+    ensures trust { core.new.committed ≡ core.old.committed }
+    ensures agreed { core.new.agreed ≡ core.old.agreed }
     ensures same { SameBut core.old.config core.new.config }
     ensures settled { OnOk result (core.new.unsettled ≡ false) }
     ensures missed { IfErr result (λ e. core.new.unsettled ≡ true) }
     ensures still { OnOk result ((core.new.config ≡ core.old.config) ⊎ AnyFailed (S.meaning shelf.old) (S.meaning shelf.new)) }
+    ensures named { IfOk result (NamesFailed core.old.config core.new.config (S.meaning shelf.old) (S.meaning shelf.new)) }
     ensures failing { MoreFailed (S.meaning shelf.old) (S.meaning shelf.new) core.old.config.disks core.new.config.disks }
     ensures cause { Blames (S.meaning shelf.old) (S.meaning shelf.new) result }
 {
     if !core.unsettled {
-        return Ok(());
+        return Ok(0);
     }
     let kept = core.config.disks.copy();
     let mut device = 0;
@@ -60,7 +65,31 @@ pub fn settle_headers<S: Shelf>(shelf: &mut S, core: &mut GroupCore) -> Result<(
         return Err(ShelfError::Fault { disk: device });
     }
     core.unsettled = false;
-    Ok(())
+    Ok(device)
+}
+
+/// What `settle_named` does, without the device.
+pub fn settle_headers<S: Shelf>(shelf: &mut S, core: &mut GroupCore) -> Result<(), ShelfError>
+    requires stands { Stands core.old (S.meaning shelf.old) }
+    requires up { IsTrue (S.meaning shelf.old).down → ⊥ }
+    ensures stands { Stands core.new (S.meaning shelf.new) }
+    ensures narrows { Narrows core.old core.new (S.meaning shelf.old) (S.meaning shelf.new) }
+    ensures volumes { core.new.config.volumes ≡ core.old.config.volumes }
+    ensures serial { core.new.config.serial ≡ core.old.config.serial }
+    ensures good { core.new.good ≡ core.old.good }
+    ensures trust { core.new.committed ≡ core.old.committed }
+    ensures agreed { core.new.agreed ≡ core.old.agreed }
+    ensures same { SameBut core.old.config core.new.config }
+    ensures settled { OnOk result (core.new.unsettled ≡ false) }
+    ensures missed { IfErr result (λ e. core.new.unsettled ≡ true) }
+    ensures still { OnOk result ((core.new.config ≡ core.old.config) ⊎ AnyFailed (S.meaning shelf.old) (S.meaning shelf.new)) }
+    ensures failing { MoreFailed (S.meaning shelf.old) (S.meaning shelf.new) core.old.config.disks core.new.config.disks }
+    ensures cause { Blames (S.meaning shelf.old) (S.meaning shelf.new) result }
+{
+    match settle_named(shelf, core) {
+        Ok(_) => Ok(()),
+        Err(error) => Err(error),
+    }
 }
 
 /// Makes the group ready for a write: after a refused commit it writes headers back, and commits the configuration as it stands.
@@ -75,6 +104,8 @@ pub fn make_ready<S: Shelf>(shelf: &mut S, core: &mut GroupCore) -> Result<(), S
     ensures few { OnOk result (core.new.config.serial ≤ core.old.config.serial + 1 + length core.old.config.disks) }
     ensures good { core.new.unsettled ≡ true → core.new.good ≡ core.old.good }
     ensures missed { IfErr result (λ e. NoCommit core.new (S.meaning shelf.new)) }
+    ensures trust { OnOk result (core.old.committed ≡ true → core.new.committed ≡ true) }
+    ensures agreed { IfErr result (λ e. core.old.committed ≡ true → core.new.agreed ≡ true) }
     ensures cause { Blames (S.meaning shelf.old) (S.meaning shelf.new) result }
 {
     if !core.unsettled || core.config.serial >= MOST_NUMBER {

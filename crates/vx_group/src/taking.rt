@@ -80,6 +80,8 @@ fn plan_of(alloc: Global, config: Config, good: u8) -> Result<Plan, Stop>
         good,
         room,
         unsettled: true,
+        committed: true,
+        agreed: true,
         next: [0; MOST_VOLUMES],
         faults: [0; MOST_VOLUMES],
         unsure: [false; MOST_VOLUMES],

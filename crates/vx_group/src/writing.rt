@@ -1,5 +1,5 @@
 // A write of a volume.
-ghost use Rattle.std.specs.Prelude.{◌≡◌, ◌≤◌, ℕ, length, IsTrue, OnOk};
+ghost use Rattle.std.specs.Prelude.{◌≡◌, ◌≤◌, ℕ, length, IsTrue, OnOk, true, IfErr};
 ghost use Rattle.vx_disk.specs.Causes.{Cause};
 ghost use Rattle.vx_disk.specs.Shelf.{Fits, Goes, Written, Wrote};
 ghost use Rattle.vx_group.specs.Blames.{Blames, MarksOn};
@@ -35,6 +35,8 @@ fn write_plexes<S: Shelf>(
     ensures unit_faults { (u : ℕ) → (S.meaning shelf.old).faults u ≤ (S.meaning shelf.new).faults u }
     ensures gave_up { GivesUp vol core.old core.new (S.meaning shelf.old) (S.meaning shelf.new) result }
     ensures loses { Loses core.old.config core.new.config (S.meaning shelf.old) (S.meaning shelf.new) }
+    ensures trust { OnOk result (core.old.committed ≡ true → core.new.committed ≡ true) }
+    ensures agreed { IfErr result (λ e. core.old.committed ≡ true → core.new.agreed ≡ true) }
     ensures cause { Blames (S.meaning shelf.old) (S.meaning shelf.new) result }
 {
     match write_all(&core.config, vol, shelf, block, bytes) {
@@ -66,6 +68,8 @@ pub fn write_in<S: Shelf>(
     ensures ok { OnOk result (Wrote vol block bytes.now (meaning_of core.old (S.meaning shelf.old)) (meaning_of core.new (S.meaning shelf.new))) }
     ensures gave_up { GivesUp vol core.old core.new (S.meaning shelf.old) (S.meaning shelf.new) result }
     ensures loses { Loses core.old.config core.new.config (S.meaning shelf.old) (S.meaning shelf.new) }
+    ensures trust { OnOk result (core.old.committed ≡ true → core.new.committed ≡ true) }
+    ensures agreed { IfErr result (λ e. core.old.committed ≡ true → core.new.agreed ≡ true) }
     ensures cause { Cause (meaning_of core.old (S.meaning shelf.old)) (meaning_of core.new (S.meaning shelf.new)) vol result }
     ensures marks { MarksOn vol core.old.unsure core.new.unsure result }
 {

@@ -12,6 +12,7 @@ pub untold_can : (m : Meaning) → ((u b : ℕ) (v : List ℕ) → m.leaves u b 
 untold_can m none = record {
   base = λ i x each is. absurd (none 0 0 (i 0 0) (each 0 0));
   one = λ i j R x each_i each_j is. absurd (none 0 0 (i 0 0) (each_i 0 0));
+  plain = λ i R x each is. absurd (none 0 0 (i 0 0) (each 0 0));
 }
 
 -- and a group stands on one where it stood on one of the same units
@@ -35,4 +36,11 @@ untold_stands core m m' none units size stands = record {
     others = λ i R g x each held in_it is. absurd (none 0 0 (i 0 0) (each 0 0));
   };
   tidy = λ is. record { goes = λ u v w x y held in_v in_w in_x in_y. absurd (none u area_a v in_v) };
+  trusts = record {
+    both = stands.trusts.both;
+    agree = λ is i R x y each in_all in_some. absurd (none 0 0 (i 0 0) (each 0 0));
+    plain = λ is i R x each in_all. absurd (none 0 0 (i 0 0) (each 0 0));
+    one = λ is i j x y left_i left_j in_i in_j. absurd (none 0 0 (i 0 0) (left_i 0 0));
+    members = λ is i x u each in_all lt bit. absurd (none 0 0 (i 0 0) (each 0 0));
+  };
 }

@@ -12,9 +12,9 @@ use vx_model::OutOfMemory;
 // A new group has 18 writes and flushes, a volume of 16 blocks 12, and a write of it with its flush four.
 const BEFORE: u64 = 34;
 
-// A volume of 16 blocks on two disks, one block of it written and flushed. These calls of the disks fail, and they fall after so many writes
-// and flushes more.
-fn volume(
+/// A volume of 16 blocks on two disks, one block of it written and flushed. These calls of the disks fail, and they fall after so many writes
+/// and flushes more.
+pub fn volume(
     alloc: Global,
     fails: &[u64],
     calls: u64,
@@ -35,8 +35,8 @@ fn volume(
     Ok(group)
 }
 
-// What two reads of the block give behind a crash and an import, and whether the second plex is ACTIVE.
-fn behind(alloc: Global, group: Group<Disks>, pick: u64) -> (Told, Told, bool) {
+/// What two reads of the block give behind a crash and an import, and whether the second plex is ACTIVE.
+pub fn behind(alloc: Global, group: Group<Disks>, pick: u64) -> (Told, Told, bool) {
     match Group::import(alloc, crashed(group, pick)) {
         Ok(group) => {
             let mut group = group;

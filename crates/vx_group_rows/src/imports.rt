@@ -119,7 +119,15 @@ fn import(alloc: Global, shelf: Disks, volume: usize) -> (Disks, Given) {
     }
 }
 
-// What two reads of a block give behind an import.
+/// The group that an import gives, where it gives one.
+pub fn again(alloc: Global, shelf: Disks) -> Option<Group<Disks>> {
+    match Group::import(alloc, shelf) {
+        Ok(group) => Some(group),
+        Err(_) => None,
+    }
+}
+
+/// What two reads of a block give behind an import.
 pub fn reads(alloc: Global, shelf: Disks, volume: u32, block: u64) -> (Told, Told) {
     match Group::import(alloc, shelf) {
         Ok(group) => {

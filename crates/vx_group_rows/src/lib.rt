@@ -3,8 +3,10 @@
 //! They stand apart from the group, which is so proved once and not once more with them.
 #![tactic(auto)]
 
+mod crashes;
 mod untold;
 
+pub use crashes::crash_and_import;
 pub use untold::Untold;
 
 #[cfg(test)]
@@ -13,6 +15,10 @@ mod attaches;
 mod creates;
 #[cfg(test)]
 mod cuts;
+#[cfg(test)]
+mod fails;
+#[cfg(test)]
+mod fallen;
 #[cfg(test)]
 mod imports;
 #[cfg(test)]

@@ -9,8 +9,8 @@ use vx_config::{Config, PlexState};
 use vx_disk::{Rack, Shelf};
 use vx_group::Group;
 
-// The group with one of its disks made to fail, or working again.
-fn failing(group: Group<Disks>, disk: u32, on: bool) -> Group<Disks> {
+/// The group with one of its disks made to fail, or working again.
+pub fn failing(group: Group<Disks>, disk: u32, on: bool) -> Group<Disks> {
     let (shelf, core) = group.apart();
     let mut disks = shelf.shelf;
     if disk >= disks.units() {
@@ -62,12 +62,13 @@ fn each_call_for_a_disk_fails(rt: HostRuntime) -> Result<(), Fail> {
     let off = Some(PlexState::Stale);
     // A volume of two plexes is made with call 38. The write to the second plex fails with call 40, and the second disk in the commit behind
     // it with call 47, so that its second try comes to the first disk alone. An attach begins with call 54: five calls write the headers of
-    // each disk back, and six commit to it. The newest configuration stands on the first disk alone, so that no commit may go without it.
+    // each disk back, and six commit to it. The newest configuration stands on the first disk alone, so that no commit may go without it; and
+    // where the second disk fails, it stays held as failed.
     for (call, wanted) in [
         (54, (Told::Device(0), off, Some(1))),
-        (59, (Told::Attached(1), on, Some(1))),
+        (59, (Told::Device(1), off, Some(1))),
         (64, (Told::Device(0), off, Some(1))),
-        (70, (Told::Attached(1), on, Some(1))),
+        (70, (Told::Device(1), off, Some(1))),
         (77, (Told::Device(1), off, None)),
     ] {
         let mut group = group_of(alloc, &[40, 47, call], 2)?;

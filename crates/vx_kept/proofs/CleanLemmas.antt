@@ -13,7 +13,7 @@ use Rattle.vx_layout.specs.Places.{plex_at, plex_in}
 use Rattle.vx_volume.specs.Plexes.{active, active_or, is_active}
 use Rattle.vx_kept.specs.Choice.{live, live_or}
 use Rattle.vx_kept.specs.Cleans.{NoneClean, clean, clean_at, clean_or, clean_plexes, cleaned, is_clean, marked}
-use Rattle.vx_kept.specs.Keeping.{AllOn, SameShape}
+use Rattle.vx_kept.specs.Keeping.{AllOn}
 use Rattle.vx_kept.specs.Opens.{SameLives as Alike}
 use Rattle.vx_kept.specs.States.{whole_of, whole_or}
 use Rattle.vx_kept.proofs.Narrower.{live_has, on_live}

@@ -13,6 +13,8 @@ use Rattle.vx_copyio.specs.Settling.{AllCleared}
 use Rattle.vx_kept.specs.Choice.{chosen}
 use Rattle.vx_kept.specs.Commits.{FirstEnds, Taken}
 use Rattle.vx_kept.specs.Keeping.{AllOn, Base, Follows, IsTidy}
+use Rattle.vx_kept.specs.Trusts.{TrustFirst}
+use Rattle.vx_kept.proofs.Trusting.{trust_first}
 use Rattle.vx_kept.proofs.Chosen.{same_extends}
 use Rattle.vx_kept.proofs.Committed.{base_done, take_on}
 use Rattle.vx_kept.proofs.Narrower.{sound_chosen}
@@ -55,3 +57,7 @@ pub first_ends : {T : Type 0} (good : ℕ) (c d : Config) (old new : Meaning) �
     → Begins (IsTry c d.serial old new) c old new → StayFit c d.serial old new → is_wanted new.units new.size d ≡ true → (r : Result T No) → CommitEnds good c d old new r → FirstEnds good c d old new r
 first_ends good c d old new before after cleared labels sound on begins fit wanted (Ok x) done = (first_done good c d old new before after cleared labels sound on begins fit done wanted, take_on c d done.grown.volumes on)
 first_ends good c d old new before after cleared labels sound on begins fit wanted (Err why) refused = refused.cause
+
+pub first_trusts : {T : Type 0} (good : ℕ) (c d : Config) (old new : Meaning) → AllCleared old.units old → HaveLabels old → (r : Result T No) → CommitEnds good c d old new r → TrustFirst d new r
+first_trusts good c d old new cleared labels (Ok x) done = trust_first good c d old new (cleared_Base c old cleared labels) done
+first_trusts good c d old new cleared labels (Err why) refused = tt

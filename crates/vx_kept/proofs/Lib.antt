@@ -15,3 +15,4 @@ pub mod CleanLemmas
 pub mod CleanCommits
 pub mod OpenLemmas
 pub mod Nexts
+pub mod Trusting

@@ -11,11 +11,9 @@ use Rattle.vx_config.specs.Changes.{has_live}
 use Rattle.vx_config.specs.Checks.{are_placed, differ, group_or_none, has_logs, has_plexes, has_shape, is_live, is_sound, is_volume, pairwise, plex_fills, preferred_is}
 use Rattle.vx_config.specs.Configs.{subdisk_count}
 use Rattle.vx_config.specs.declared.config.Config.{Config}
-use Rattle.vx_config.specs.declared.entry.DiskEntry.{DiskEntry}
 use Rattle.vx_config.specs.declared.entry.PlexEntry.{PlexEntry}
 use Rattle.vx_config.specs.declared.entry.VolumeEntry.{VolumeEntry}
 use Rattle.vx_copies.specs.Bodies.{is_wanted, fits_units}
-use Rattle.vx_copies.specs.Marks.{failed_at}
 use Rattle.vx_layout.proofs.Pairs.{all_at, and_right}
 use Rattle.vx_layout.proofs.Placing.{from_sound, sound_apart}
 use Rattle.vx_layout.specs.Places.{plex_at, plex_in}

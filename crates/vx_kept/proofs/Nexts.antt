@@ -1,10 +1,10 @@
 -- The commit of a configuration beside the one in memory.
-use Rattle.std.proofs.Common.{◌≡◌, ℕ, true, List, Result, Ok, Err, refl, ap}
+use Rattle.std.proofs.Common.{◌≡◌, ℕ, true, Result, Ok, Err, refl, ap}
 use Rattle.vx_disk.specs.Shelf.{Lawful, Meaning}
 use Rattle.vx_model.specs.declared.no.No.{No}
 use Rattle.vx_config.specs.declared.config.Config.{Config}
 use Rattle.vx_copies.specs.Bodies.{is_wanted}
-use Rattle.vx_copies.specs.Commits.{Begins, CommitEnds, Done, IsTry, Refused, StayFit}
+use Rattle.vx_copies.specs.Commits.{Begins, CommitEnds, IsTry, Refused, StayFit}
 use Rattle.vx_kept.specs.Commits.{Member, Missed, NextEnds}
 use Rattle.vx_kept.specs.Keeping.{AllOn, Follows, IsTidy, Kept}
 use Rattle.vx_kept.proofs.Committed.{take_done, take_on, take_refused}

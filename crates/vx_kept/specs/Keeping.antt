@@ -1,5 +1,5 @@
 -- What the disks of a group keep: in each image that a crash may leave, each plex that takes part is ACTIVE in memory.
-use Rattle.std.specs.Prelude.{◌≡◌, ◌⊎◌, ℕ, ◌+◌, ◌<◌, ◌≤◌, Bool, true, false, IsTrue, IsFalse, List, length}
+use Rattle.std.specs.Prelude.{◌≡◌, ◌⊎◌, ℕ, ◌+◌, ◌<◌, ◌≤◌, Bool, true, IsTrue, IsFalse, List, length}
 use Rattle.vx_disk.specs.Moves.{Says}
 use Rattle.vx_disk.specs.Shelf.{Each, Image, Meaning, Or, Values}
 use Rattle.vx_copyfmt.specs.Commits.{Counts, Tidy}

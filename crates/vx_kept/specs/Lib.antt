@@ -6,3 +6,4 @@ pub mod Facts
 pub mod States
 pub mod Cleans
 pub mod Opens
+pub mod Trusts

@@ -7,6 +7,7 @@ ghost use Rattle.vx_copyio.specs.Labelling.{AreLarge};
 ghost use Rattle.vx_copyio.specs.Settling.{AllCleared};
 ghost use Rattle.vx_kept.specs.Commits.{FirstEnds};
 ghost use Rattle.vx_kept.specs.Keeping.{AllOn};
+ghost use Rattle.vx_kept.specs.Trusts.{TrustFirst};
 
 use vx_config::Config;
 use vx_copies::{Room, commit_in};
@@ -31,6 +32,7 @@ pub fn commit_first<S: Shelf>(
     ensures units { (S.meaning shelf.new).units ≡ (S.meaning shelf.old).units }
     ensures size { (u : ℕ) → (S.meaning shelf.new).size u ≡ (S.meaning shelf.old).size u }
     ensures ends { FirstEnds good config.old config.new (S.meaning shelf.old) (S.meaning shelf.new) result }
+    ensures trusts { TrustFirst config.new (S.meaning shelf.new) result }
 {
     commit_in(shelf, config, good, room)
 }

@@ -1,11 +1,12 @@
 // The commit of a configuration beside the one in memory.
-ghost use Rattle.std.specs.Prelude.{◌≡◌, true};
+ghost use Rattle.std.specs.Prelude.{◌≡◌, true, Bool};
 ghost use Rattle.vx_config.specs.Configs.{CanSpell};
 ghost use Rattle.vx_copies.specs.Bodies.{is_wanted};
 ghost use Rattle.vx_copyio.specs.Labelling.{AreLarge};
 ghost use Rattle.vx_disk.specs.Shelf.{Nothing};
 ghost use Rattle.vx_kept.specs.Commits.{Member, NextEnds};
 ghost use Rattle.vx_kept.specs.Keeping.{Acts, AllOn, Follows, IsTidy, Kept, Sees};
+ghost use Rattle.vx_kept.specs.Trusts.{TrustEnds, Trusts};
 
 use vx_config::Config;
 use vx_copies::{Room, commit_in};
@@ -35,6 +36,7 @@ pub fn commit_next<S: Shelf>(
     ensures on { AllOn next.new }
     ensures acts { Acts Nothing (Sees before.now (Member good (S.meaning shelf.old)) (S.meaning shelf.old)) (S.meaning shelf.old) (S.meaning shelf.new) }
     ensures ends { NextEnds good before.now next.old next.new (S.meaning shelf.old) (S.meaning shelf.new) result }
+    ensures trusts { (committed agreed : Bool) → Trusts committed agreed good (S.meaning shelf.old) → TrustEnds committed good next.new (S.meaning shelf.new) result }
 {
     let _memory = before;
     commit_in(shelf, next, good, room)

@@ -1,4 +1,4 @@
-use Rattle.std.proofs.Common.{Err, ◌+◌, ◌*◌, inl, inr, refl, subst, sym, ◌∙◌, ◌<◌, arith, List}
+use Rattle.std.proofs.Common.{Err, ◌*◌, inl, inr, refl, subst, sym, ◌∙◌, ◌<◌, arith, List}
 use Rattle.vx_disk.specs.declared.shelf.ShelfError.{ShelfError}
 use Rattle.vx_disk.specs.Shelf.{Meaning}
 use Rattle.vx_disk.proofs.Burning.{no_calls}
@@ -9,7 +9,7 @@ use Rattle.vx_copies.specs.Marks.{HasGood, good_count}
 use Rattle.vx_copies.proofs.Lasting.{names_last, one_last}
 use Rattle.vx_copies.proofs.Marked.{some_good}
 use Rattle.vx_copies.proofs.Used.{few_done, none_then}
-use Rattle.vx_copies.proofs.ManyTries.{both_remain, both_stand, both_tidy, both_underway, none_yet, stays_large}
+use Rattle.vx_copies.proofs.ManyTries.{names_failed, both_remain, both_stand, both_tidy, both_underway, none_yet, stays_large}
 use Rattle.vx_copies.proofs.committing.try_all.Goals as goal
 
 pub loop-shelf-init : goal.loop-shelf-init
@@ -88,3 +88,8 @@ pub returns-in-Ok-clause-calls : goal.returns-in-Ok-clause-calls
 returns-in-Ok-clause-calls g c next =
     none_then (4 * good_count c.try_next.new.config.disks) (g.S.Shelf.meaning c.args.shelf.now) (g.S.Shelf.meaning c.loop-shelf.shelf) (g.S.Shelf.meaning c.try_next.new.shelf)
     (c.loop-shelf.invariant.calls (omega (arith, next, c.try_next.ensures.serial))) c.in-Ok.ensures.calls
+
+pub returns-in-Ok-clause-named : goal.returns-in-Ok-clause-named
+returns-in-Ok-clause-named g c =
+    names_failed c.args.good c.args.config.now c.loop-shelf.config c.try_next.new.config (g.S.Shelf.meaning c.args.shelf.now) (g.S.Shelf.meaning c.loop-shelf.shelf) (g.S.Shelf.meaning c.try_next.new.shelf) c.loop-shelf.device
+    c.loop-shelf.invariant.device c.in-Ok.ensures.ends.0 c.try_next.ensures.underway.moves.disk_faults

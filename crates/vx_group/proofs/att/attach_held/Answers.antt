@@ -1,10 +1,9 @@
-use Rattle.std.proofs.Common.{◌≡◌, ◌<◌, ◌≤◌, inl, inr, true, false, refl, sym, ◌∙◌, arith, ℕ, Err}
+use Rattle.std.proofs.Common.{inl, ◌∙◌}
 use Rattle.vx_kept.proofs.Chosen.{active_volumes}
-use Rattle.vx_group.specs.Regains.{HoldsPlex}
 use Rattle.vx_group.proofs.AttachLemmas.{narrows_attaches, then_attaches}
 use Rattle.vx_group.proofs.CallLemmas.{blames_later}
 use Rattle.vx_group.proofs.OpeningLemmas.{may_behind, may_less}
-use Rattle.vx_group.proofs.RegainLemmas.{all_holds, then_holds, then_regains}
+use Rattle.vx_group.proofs.RegainLemmas.{all_holds, then_regains}
 use Rattle.vx_group.proofs.att.attach_held.Goals as goal
 
 pub regain-requires-clause-more : goal.regain-requires-clause-more
@@ -37,7 +36,7 @@ returns-clause-regains g c =
 
 pub returns-clause-held : goal.returns-clause-held
 returns-clause-held g c =
-    all_holds c.attach.result (then_holds (g.S.Shelf.meaning c.args.shelf.now) (g.S.Shelf.meaning c.regain.new.shelf) (g.S.Shelf.meaning c.attach.new.shelf) c.regain.ensures.narrows.acts.faults c.attach.ensures.attaches.acts.faults c.args.core.now.config c.regain.new.core.config c.attach.new.core.config c.args.vol c.args.plex c.attach.ensures.failing c.in-Ok.ensures.held)
+    all_holds c.attach.result (record { moment = c.regain.new.shelf; config = c.regain.new.core.config; volumes = c.regain.ensures.volumes; now = c.in-Ok.ensures.held; failing = c.attach.ensures.failing })
 
 pub returns-clause-cause : goal.returns-clause-cause
 returns-clause-cause g c =

@@ -1,4 +1,4 @@
-use Rattle.std.proofs.Common.{◌≡◌, ◌<◌, inl, inr, Err, true, false, refl, sym, ◌∙◌, arith}
+use Rattle.std.proofs.Common.{◌<◌, inl, Err, ◌∙◌, arith}
 use Rattle.vx_config.specs.Table.{greatest}
 use Rattle.vx_kept.proofs.Chosen.{active_volumes}
 use Rattle.vx_group.proofs.AttachLemmas.{has_other, narrows_attaches, then_attaches}

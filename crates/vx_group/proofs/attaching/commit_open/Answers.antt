@@ -1,6 +1,5 @@
-use Rattle.std.proofs.Common.{◌≡◌, inl, inr, true, false, refl, sym, ◌∙◌, arith}
+use Rattle.std.proofs.Common.{refl}
 use Rattle.vx_group.proofs.AttachLemmas.{narrows_attaches, no_bit, then_attaches}
-use Rattle.vx_group.proofs.CallLemmas.{not_down}
 use Rattle.vx_group.proofs.DetachLemmas.{zero_bit}
 use Rattle.vx_group.proofs.FailingLemmas.{then_failing}
 use Rattle.vx_group.proofs.Standing.{some_active}

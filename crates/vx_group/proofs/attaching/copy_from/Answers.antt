@@ -1,12 +1,8 @@
-use Rattle.std.proofs.Common.{◌≡◌, ◌<◌, true, false, IsTrue, Err, length, ap, refl, sym, ◌∙◌, subst, arith, ℕ}
-use Rattle.vx_disk.specs.Shelf.{Meaning}
+use Rattle.std.proofs.Common.{◌≡◌, true, false, IsTrue, Err, length, ap, sym, ◌∙◌, subst, arith, ℕ}
 use Rattle.vx_model.specs.declared.site.PlexState.TheVariants.{Active}
 use Rattle.vx_config.specs.Checks.{is_sound}
 use Rattle.vx_config.specs.declared.config.Config.{Config}
-use Rattle.vx_config.specs.declared.entry.DiskEntry.{DiskEntry}
 use Rattle.vx_volume.specs.Plexes.{DisksFit, active, uses}
-use Rattle.vx_group.specs.Attaches.{Attaches}
-use Rattle.vx_group.specs.Stands.{Stands}
 use Rattle.vx_group.proofs.AttachLemmas.{back_Stands, back_attaches, same_back, to_Stands, to_attaches}
 use Rattle.vx_group.proofs.OpeningLemmas.{open_on, open_shape, open_sound, open_wider, present, with_config}
 use Rattle.vx_group.proofs.SourcesLemmas.{copy_by}

@@ -1,11 +1,10 @@
-use Rattle.std.proofs.Common.{◌≡◌, ◌<◌, ◌≤◌, inl, inr, true, false, IsTrue, Err, Ok, length, ap, refl, sym, ◌∙◌, subst, arith, ℕ}
-use Rattle.vx_config.specs.declared.config.Config.{Config}
+use Rattle.std.proofs.Common.{ap, refl, sym, ◌∙◌, subst, arith}
 use Rattle.vx_volume.specs.Plexes.{active}
 use Rattle.vx_group.specs.Attaches.{Attaches, MayAttach}
 use Rattle.vx_group.specs.Stands.{Stands}
 use Rattle.vx_group.specs.declared.group_core.GroupCore.{GroupCore}
 use Rattle.vx_group.proofs.AttachLemmas.{then_attaches}
-use Rattle.vx_group.proofs.SourcesLemmas.{all_attaches, sources_all, sources_blame, sources_next, sources_start}
+use Rattle.vx_group.proofs.SourcesLemmas.{sources_all, sources_blame, sources_next, sources_start}
 use Rattle.vx_group.proofs.attaching.copy_to.Goals as goal
 
 pub loop-source-init : goal.loop-source-init

@@ -1,4 +1,4 @@
-use Rattle.std.proofs.Common.{◌≡◌, inl, inr, true, false, refl, sym, ◌∙◌, arith}
+use Rattle.std.proofs.Common.{inl, refl}
 use Rattle.vx_volume.proofs.PlaceLemmas.{active_few}
 use Rattle.vx_kept.proofs.Chosen.{active_volumes}
 use Rattle.vx_group.proofs.AttachLemmas.{narrows_attaches, other_left, then_attaches}

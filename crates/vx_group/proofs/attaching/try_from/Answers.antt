@@ -1,4 +1,4 @@
-use Rattle.std.proofs.Common.{◌≡◌, inl, inr, true, false, Err, refl, sym, ◌∙◌}
+use Rattle.std.proofs.Common.{inl, refl, sym, ◌∙◌}
 use Rattle.vx_group.proofs.SourcesLemmas.{no_attaches, tried_by}
 use Rattle.vx_group.proofs.attaching.try_from.Goals as goal
 

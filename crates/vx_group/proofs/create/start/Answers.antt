@@ -1,4 +1,4 @@
-use Rattle.std.proofs.Common.{◌≡◌, true, inr, ℕ, List, None, length, refl, ap, sym, subst, arith}
+use Rattle.std.proofs.Common.{⊎_elim, false, ◌≡◌, true, inr, ℕ, List, None, length, refl, ap, sym, subst, arith}
 use Rattle.vx_config.specs.declared.config.Config.{Config}
 use Rattle.vx_config.specs.declared.entry.VolumeEntry.{VolumeEntry}
 use Rattle.vx_copies.specs.Bodies.{is_wanted}
@@ -8,6 +8,7 @@ use Rattle.vx_kept.specs.Commits.{Taken}
 use Rattle.vx_kept.specs.Keeping.{AllOn}
 use Rattle.vx_group.proofs.CreateLemmas.{all_good, cause_before, empty_on, empty_wanted, empty_with, first_cause, new_Stands}
 use Rattle.vx_group.proofs.Standing.{still_large}
+use Rattle.vx_group.proofs.TrustLemmas.{committed_or}
 use Rattle.vx_group.proofs.create.start.Goals as goal
 
 pub commit_first-requires-clause-wanted : goal.commit_first-requires-clause-wanted
@@ -34,3 +35,5 @@ returns-clause-created g c =
     new_Stands c.args.site c.disks_of.result _ (g.S.Shelf.meaning c.prepare.new.shelf) (g.S.Shelf.meaning c.commit_first.new.shelf)
     (still_large (g.S.Shelf.meaning c.prepare.new.shelf) (g.S.Shelf.meaning c.commit_first.new.shelf) c.commit_first.ensures.units c.commit_first.ensures.size large) c.commit_first.ensures.can c.commit_first.ensures.wanted
     (subst (λ (x : Config). Taken x x c.commit_first.new.config (g.S.Shelf.meaning c.prepare.new.shelf) (g.S.Shelf.meaning c.commit_first.new.shelf)) (ap (λ (vs : List VolumeEntry). empty_with c.args.site c.disks_of.result vs) c.new.ensures) c.in-Ok-commit_first.ensures.ends.0) c.in-Ok-commit_first.ensures.ends.1 c.good_of-good-2.ensures
+    (c.in-Ok-commit_first.ensures.trusts c.is_committed-committed.result (λ is. ⊎_elim (λ was. absurd (let clash : false ≡ true = was in cc)) (λ all. all) (c.is_committed-committed.ensures.some is)))
+    (committed_or c.is_committed-committed.result c.commit_first.new.config.disks (λ off. (c.is_committed-committed.ensures.none off).1))

@@ -12,7 +12,7 @@ pub returns-in-Err-clause-cause : goal.returns-in-Err-clause-cause
 returns-in-Err-clause-cause g c = blames_stop (g.S.Shelf.meaning c.args.shelf.now) (g.S.Shelf.meaning c.settle_headers.new.shelf) c.in-Err.error c.in-Err.ensures.cause
 
 pub returns-in-Err-flush_volumes-clause-ends : goal.returns-in-Err-flush_volumes-clause-ends
-returns-in-Err-flush_volumes-clause-ends g c = back_flushed c.args.core.now c.settle_headers.new.core c.flush_volumes.new.core c.flush_volumes.new.core (g.S.Shelf.meaning c.args.shelf.now) (g.S.Shelf.meaning c.settle_headers.new.shelf) (g.S.Shelf.meaning c.flush_volumes.new.shelf) (g.S.Shelf.meaning c.flush_volumes.new.shelf) c.requires.stands c.settle_headers.ensures.narrows c.settle_headers.ensures.same c.settle_headers.ensures.failing c.in-Ok.ensures.cause c.in-Err-flush_volumes.ensures.ends
+returns-in-Err-flush_volumes-clause-ends g c = back_flushed c.args.core.now c.settle_headers.new.core c.flush_volumes.new.core c.flush_volumes.new.core (g.S.Shelf.meaning c.args.shelf.now) (g.S.Shelf.meaning c.settle_headers.new.shelf) (g.S.Shelf.meaning c.flush_volumes.new.shelf) (g.S.Shelf.meaning c.flush_volumes.new.shelf) c.requires.stands c.settle_headers.ensures.narrows c.settle_headers.ensures.same c.settle_headers.ensures.failing c.in-Ok.ensures.cause c.settle_headers.ensures.trust c.in-Err-flush_volumes.ensures.ends
 
 pub returns-in-Err-flush_volumes-clause-cause : goal.returns-in-Err-flush_volumes-clause-cause
 returns-in-Err-flush_volumes-clause-cause g c = stops_later {T = Unit {0}} (Err c.in-Err-flush_volumes.error) (g.S.Shelf.meaning c.args.shelf.now) (g.S.Shelf.meaning c.settle_headers.new.shelf) (g.S.Shelf.meaning c.flush_volumes.new.shelf) c.settle_headers.ensures.narrows.acts.disk_faults (blames_stop (g.S.Shelf.meaning c.settle_headers.new.shelf) (g.S.Shelf.meaning c.flush_volumes.new.shelf) c.in-Err-flush_volumes.error c.in-Err-flush_volumes.ensures.cause)
@@ -27,7 +27,7 @@ pub commit_closed-requires-clause-more : goal.commit_closed-requires-clause-more
 commit_closed-requires-clause-more g c = c.in-Ok-flush_volumes.ensures.ends.more
 
 pub returns-clause-ends : goal.returns-clause-ends
-returns-clause-ends g c = closes_later c.args.core.now c.settle_headers.new.core c.flush_volumes.new.core c.commit_closed.new.core (g.S.Shelf.meaning c.args.shelf.now) (g.S.Shelf.meaning c.settle_headers.new.shelf) (g.S.Shelf.meaning c.flush_volumes.new.shelf) (g.S.Shelf.meaning c.commit_closed.new.shelf) c.requires.stands c.settle_headers.ensures.narrows c.settle_headers.ensures.same c.settle_headers.ensures.failing c.in-Ok.ensures.cause c.in-Ok-flush_volumes.ensures.ends c.commit_closed.result c.commit_closed.ensures.ends
+returns-clause-ends g c = closes_later c.args.core.now c.settle_headers.new.core c.flush_volumes.new.core c.commit_closed.new.core (g.S.Shelf.meaning c.args.shelf.now) (g.S.Shelf.meaning c.settle_headers.new.shelf) (g.S.Shelf.meaning c.flush_volumes.new.shelf) (g.S.Shelf.meaning c.commit_closed.new.shelf) c.requires.stands c.settle_headers.ensures.narrows c.settle_headers.ensures.same c.settle_headers.ensures.failing c.in-Ok.ensures.cause c.settle_headers.ensures.trust c.in-Ok-flush_volumes.ensures.ends c.commit_closed.result c.commit_closed.ensures.ends
 
 pub returns-clause-cause : goal.returns-clause-cause
 returns-clause-cause g c = stops_later c.commit_closed.result (g.S.Shelf.meaning c.args.shelf.now) (g.S.Shelf.meaning c.flush_volumes.new.shelf) (g.S.Shelf.meaning c.commit_closed.new.shelf) (λ u. let one = c.settle_headers.ensures.narrows.acts.disk_faults u in let two = c.in-Ok-flush_volumes.ensures.ends.quiesces.acts.disk_faults u in omega (arith, one, two)) c.commit_closed.ensures.cause

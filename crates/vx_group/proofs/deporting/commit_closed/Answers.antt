@@ -1,4 +1,4 @@
-use Rattle.std.proofs.Common.{List, length, Err, refl, sym, subst, arith}
+use Rattle.std.proofs.Common.{inl, true, List, length, Err, refl, sym, subst, arith}
 use Rattle.vx_disk.specs.Shelf.{Meaning}
 use Rattle.vx_disk.specs.declared.shelf.ShelfError.{ShelfError}
 use Rattle.vx_config.specs.declared.config.Config.{Config}
@@ -20,13 +20,13 @@ pub commit_clean-requires-clause-tidy : goal.commit_clean-requires-clause-tidy
 commit_clean-requires-clause-tidy g c = tidy_of c.args.core.now (g.S.Shelf.meaning c.args.shelf.now) c.requires.stands c.requires.settled
 
 pub returns-in-Ok-clause-ends : goal.returns-in-Ok-clause-ends
-returns-in-Ok-clause-ends g c = closed c.args.core.now c.commit_clean.new.config (g.S.Shelf.meaning c.args.shelf.now) (g.S.Shelf.meaning c.commit_clean.new.shelf) c.requires.stands c.commit_clean.ensures.acts c.in-Ok.ensures.ends
+returns-in-Ok-clause-ends g c = closed c.args.core.now c.commit_clean.new.config (g.S.Shelf.meaning c.args.shelf.now) (g.S.Shelf.meaning c.commit_clean.new.shelf) c.requires.stands c.commit_clean.ensures.acts c.in-Ok.ensures.ends (λ is. c.in-Ok.ensures.trusts c.args.core.now.committed c.args.core.now.agreed c.requires.stands.trusts true (λ now. inl is))
 
 pub returns-then-is_down-clause-ends : goal.returns-then-is_down-clause-ends
-returns-then-is_down-clause-ends g c = given_back c.args.core.now _ (g.S.Shelf.meaning c.args.shelf.now) (g.S.Shelf.meaning c.commit_clean.new.shelf) c.requires.stands c.commit_clean.ensures.acts c.commit_clean.ensures.wanted c.commit_clean.ensures.can refl refl _ c.in-Err.no c.in-Err.ensures.ends refl refl
+returns-then-is_down-clause-ends g c = given_back c.args.core.now _ (g.S.Shelf.meaning c.args.shelf.now) (g.S.Shelf.meaning c.commit_clean.new.shelf) c.requires.stands c.commit_clean.ensures.acts c.commit_clean.ensures.wanted c.commit_clean.ensures.can refl refl _ c.in-Err.no c.in-Err.ensures.ends refl refl (c.in-Err.ensures.trusts c.args.core.now.committed c.args.core.now.agreed c.requires.stands.trusts)
 
 pub returns-else-is_down-clause-ends : goal.returns-else-is_down-clause-ends
-returns-else-is_down-clause-ends g c = given_back c.args.core.now _ (g.S.Shelf.meaning c.args.shelf.now) (g.S.Shelf.meaning c.commit_clean.new.shelf) c.requires.stands c.commit_clean.ensures.acts c.commit_clean.ensures.wanted c.commit_clean.ensures.can refl refl _ c.in-Err.no c.in-Err.ensures.ends refl refl
+returns-else-is_down-clause-ends g c = given_back c.args.core.now _ (g.S.Shelf.meaning c.args.shelf.now) (g.S.Shelf.meaning c.commit_clean.new.shelf) c.requires.stands c.commit_clean.ensures.acts c.commit_clean.ensures.wanted c.commit_clean.ensures.can refl refl _ c.in-Err.no c.in-Err.ensures.ends refl refl (c.in-Err.ensures.trusts c.args.core.now.committed c.args.core.now.agreed c.requires.stands.trusts)
 
 pub returns-else-is_down-clause-cause : goal.returns-else-is_down-clause-cause
 returns-else-is_down-clause-cause g c =

@@ -4,6 +4,7 @@ use Rattle.vx_group.proofs.CallLemmas.{blames_later, both_Narrows}
 use Rattle.vx_kept.proofs.Chosen.{active_volumes}
 use Rattle.vx_group.proofs.DetLemmas.{bit_here, bit_only, left_volumes, may_other, may_serial, off_by, on_volumes, one_left, one_on}
 use Rattle.vx_group.proofs.Standing.{sound_of}
+use Rattle.vx_group.proofs.TrustLemmas.{err_from, ok_from}
 use Rattle.vx_group.proofs.det.detach_one.Goals as goal
 
 pub bounds-flags-plex : goal.bounds-flags-plex
@@ -39,3 +40,12 @@ returns-clause-others g c =
 pub returns-in-Err-clause-others : goal.returns-in-Err-clause-others
 returns-in-Err-clause-others g c =
     λ w p apart. active_volumes c.settle_headers.new.core.config c.args.core.now.config c.settle_headers.ensures.volumes w p
+
+pub returns-clause-trust : goal.returns-clause-trust
+returns-clause-trust g c = ok_from c.detach.result (λ keeps is. keeps (c.settle_headers.ensures.trust ∙ is)) c.detach.ensures.trust
+
+pub returns-clause-agreed : goal.returns-clause-agreed
+returns-clause-agreed g c = err_from c.detach.result (λ keeps is. keeps (c.settle_headers.ensures.trust ∙ is)) c.detach.ensures.agreed
+
+pub returns-in-Err-clause-agreed : goal.returns-in-Err-clause-agreed
+returns-in-Err-clause-agreed g c = λ is. c.settle_headers.ensures.agreed ∙ c.requires.stands.trusts.both is

@@ -1,4 +1,4 @@
-use Rattle.std.proofs.Common.{inr, Err, inl, refl, sym, subst, arith}
+use Rattle.std.proofs.Common.{inr, Err, refl, sym, subst, arith}
 use Rattle.vx_group.proofs.LoseLemmas.{loses_detach}
 use Rattle.vx_group.proofs.CopyLemmas.{spent_by, spent_none}
 use Rattle.vx_group.proofs.CallLemmas.{blames_by, ends_blame, left_done, ok_by}

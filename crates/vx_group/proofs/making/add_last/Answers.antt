@@ -1,4 +1,4 @@
-use Rattle.std.proofs.Common.{◌≡◌, ℕ, length, Err, refl, ap, sym, subst, arith}
+use Rattle.std.proofs.Common.{ℕ, length, Err, refl, ap, sym, subst, arith}
 use Rattle.vx_disk.specs.Shelf.{Goes, Meaning}
 use Rattle.vx_disk.specs.declared.shelf.ShelfError.{ShelfError}
 use Rattle.vx_volume.specs.Plexes.{SomeActive}
@@ -56,7 +56,7 @@ pub commit_next-requires-clause-tidy : goal.commit_next-requires-clause-tidy
 commit_next-requires-clause-tidy g c = next_tidy c.args.core.now c.args.next (g.S.Shelf.meaning c.args.shelf.now) c.requires.stands c.requires.is_next (g.S.Shelf.meaning c.zero_volume.new.shelf) (g.met.S.Shelf.lawful c.args.shelf.now) (g.met.S.Shelf.lawful c.zero_volume.new.shelf) (subst (λ (k : ℕ). Goes (ZerosOn c.args.next k) (g.S.Shelf.meaning c.args.shelf.now) (g.S.Shelf.meaning c.zero_volume.new.shelf)) (ap length c.as_slice.ensures.volumes) c.zero_volume.ensures.goes) c.requires.settled
 
 pub returns-in-Ok-commit_next-clause-stands : goal.returns-in-Ok-commit_next-clause-stands
-returns-in-Ok-commit_next-clause-stands g c = added_Stands c.args.core.now c.args.next (g.S.Shelf.meaning c.args.shelf.now) c.requires.stands c.requires.is_next (g.S.Shelf.meaning c.zero_volume.new.shelf) (g.met.S.Shelf.lawful c.args.shelf.now) (g.met.S.Shelf.lawful c.zero_volume.new.shelf) (subst (λ (k : ℕ). Goes (ZerosOn c.args.next k) (g.S.Shelf.meaning c.args.shelf.now) (g.S.Shelf.meaning c.zero_volume.new.shelf)) (ap length c.as_slice.ensures.volumes) c.zero_volume.ensures.goes) (g.S.Shelf.meaning c.commit_next.new.shelf) (g.met.S.Shelf.lawful c.commit_next.new.shelf) c.commit_next.ensures.acts _ refl refl c.in-Ok-commit_next.ensures.ends c.good_of-core.ensures c.commit_next.ensures.wanted c.commit_next.ensures.can c.commit_next.ensures.on
+returns-in-Ok-commit_next-clause-stands g c = added_Stands c.args.core.now c.args.next (g.S.Shelf.meaning c.args.shelf.now) c.requires.stands c.requires.is_next (g.S.Shelf.meaning c.zero_volume.new.shelf) (g.met.S.Shelf.lawful c.args.shelf.now) (g.met.S.Shelf.lawful c.zero_volume.new.shelf) (subst (λ (k : ℕ). Goes (ZerosOn c.args.next k) (g.S.Shelf.meaning c.args.shelf.now) (g.S.Shelf.meaning c.zero_volume.new.shelf)) (ap length c.as_slice.ensures.volumes) c.zero_volume.ensures.goes) (g.S.Shelf.meaning c.commit_next.new.shelf) (g.met.S.Shelf.lawful c.commit_next.new.shelf) c.commit_next.ensures.acts _ refl refl c.in-Ok-commit_next.ensures.ends c.good_of-core.ensures c.commit_next.ensures.wanted c.commit_next.ensures.can c.commit_next.ensures.on (c.in-Ok-commit_next.ensures.trusts c.args.core.now.committed c.args.core.now.agreed (zero_Stands c.args.core.now c.args.next (g.S.Shelf.meaning c.args.shelf.now) c.requires.stands c.requires.is_next (g.S.Shelf.meaning c.zero_volume.new.shelf) (g.met.S.Shelf.lawful c.args.shelf.now) (g.met.S.Shelf.lawful c.zero_volume.new.shelf) (subst (λ (k : ℕ). Goes (ZerosOn c.args.next k) (g.S.Shelf.meaning c.args.shelf.now) (g.S.Shelf.meaning c.zero_volume.new.shelf)) (ap length c.as_slice.ensures.volumes) c.zero_volume.ensures.goes)).trusts c.is_committed-core.result c.is_committed-core.ensures.some)
 
 pub returns-in-Ok-commit_next-clause-stays : goal.returns-in-Ok-commit_next-clause-stays
 returns-in-Ok-commit_next-clause-stays g c = added_stay c.args.core.now c.args.next (g.S.Shelf.meaning c.args.shelf.now) c.requires.stands c.requires.is_next (g.S.Shelf.meaning c.zero_volume.new.shelf) (g.met.S.Shelf.lawful c.args.shelf.now) (g.met.S.Shelf.lawful c.zero_volume.new.shelf) (subst (λ (k : ℕ). Goes (ZerosOn c.args.next k) (g.S.Shelf.meaning c.args.shelf.now) (g.S.Shelf.meaning c.zero_volume.new.shelf)) (ap length c.as_slice.ensures.volumes) c.zero_volume.ensures.goes) (g.S.Shelf.meaning c.commit_next.new.shelf) (g.met.S.Shelf.lawful c.commit_next.new.shelf) c.commit_next.ensures.acts _ refl refl c.in-Ok-commit_next.ensures.ends c.good_of-core.ensures c.commit_next.ensures.wanted c.commit_next.ensures.can c.commit_next.ensures.on
@@ -65,7 +65,7 @@ pub returns-in-Ok-commit_next-clause-adds : goal.returns-in-Ok-commit_next-claus
 returns-in-Ok-commit_next-clause-adds g c = added c.args.core.now c.args.next (g.S.Shelf.meaning c.args.shelf.now) c.requires.stands c.requires.is_next (g.S.Shelf.meaning c.zero_volume.new.shelf) (g.met.S.Shelf.lawful c.args.shelf.now) (g.met.S.Shelf.lawful c.zero_volume.new.shelf) (subst (λ (k : ℕ). Goes (ZerosOn c.args.next k) (g.S.Shelf.meaning c.args.shelf.now) (g.S.Shelf.meaning c.zero_volume.new.shelf)) (ap length c.as_slice.ensures.volumes) c.zero_volume.ensures.goes) (g.S.Shelf.meaning c.commit_next.new.shelf) (g.met.S.Shelf.lawful c.commit_next.new.shelf) c.commit_next.ensures.acts _ refl refl c.in-Ok-commit_next.ensures.ends c.good_of-core.ensures c.commit_next.ensures.wanted c.commit_next.ensures.can c.commit_next.ensures.on (subst (λ (k : ℕ). AreZero c.args.next k (g.S.Shelf.meaning c.zero_volume.new.shelf)) (ap length c.as_slice.ensures.volumes) c.in-Ok.ensures.ok)
 
 pub returns-then-is_down-clause-stands : goal.returns-then-is_down-clause-stands
-returns-then-is_down-clause-stands g c = missed_Stands c.args.core.now c.args.next (g.S.Shelf.meaning c.args.shelf.now) c.requires.stands c.requires.is_next (g.S.Shelf.meaning c.zero_volume.new.shelf) (g.met.S.Shelf.lawful c.args.shelf.now) (g.met.S.Shelf.lawful c.zero_volume.new.shelf) (subst (λ (k : ℕ). Goes (ZerosOn c.args.next k) (g.S.Shelf.meaning c.args.shelf.now) (g.S.Shelf.meaning c.zero_volume.new.shelf)) (ap length c.as_slice.ensures.volumes) c.zero_volume.ensures.goes) (g.S.Shelf.meaning c.commit_next.new.shelf) (g.met.S.Shelf.lawful c.commit_next.new.shelf) c.commit_next.ensures.acts _ refl refl c.commit_next.new.next c.in-Err-commit_next.no c.in-Err-commit_next.ensures.ends c.commit_next.ensures.can refl refl refl
+returns-then-is_down-clause-stands g c = missed_Stands c.args.core.now c.args.next (g.S.Shelf.meaning c.args.shelf.now) c.requires.stands c.requires.is_next (g.S.Shelf.meaning c.zero_volume.new.shelf) (g.met.S.Shelf.lawful c.args.shelf.now) (g.met.S.Shelf.lawful c.zero_volume.new.shelf) (subst (λ (k : ℕ). Goes (ZerosOn c.args.next k) (g.S.Shelf.meaning c.args.shelf.now) (g.S.Shelf.meaning c.zero_volume.new.shelf)) (ap length c.as_slice.ensures.volumes) c.zero_volume.ensures.goes) (g.S.Shelf.meaning c.commit_next.new.shelf) (g.met.S.Shelf.lawful c.commit_next.new.shelf) c.commit_next.ensures.acts _ refl refl c.commit_next.new.next c.in-Err-commit_next.no c.in-Err-commit_next.ensures.ends c.commit_next.ensures.can refl refl refl (c.in-Err-commit_next.ensures.trusts c.args.core.now.committed c.args.core.now.agreed (zero_Stands c.args.core.now c.args.next (g.S.Shelf.meaning c.args.shelf.now) c.requires.stands c.requires.is_next (g.S.Shelf.meaning c.zero_volume.new.shelf) (g.met.S.Shelf.lawful c.args.shelf.now) (g.met.S.Shelf.lawful c.zero_volume.new.shelf) (subst (λ (k : ℕ). Goes (ZerosOn c.args.next k) (g.S.Shelf.meaning c.args.shelf.now) (g.S.Shelf.meaning c.zero_volume.new.shelf)) (ap length c.as_slice.ensures.volumes) c.zero_volume.ensures.goes)).trusts)
 
 pub returns-then-is_down-clause-stays : goal.returns-then-is_down-clause-stays
 returns-then-is_down-clause-stays g c = missed_stay c.args.core.now c.args.next (g.S.Shelf.meaning c.args.shelf.now) c.requires.stands c.requires.is_next (g.S.Shelf.meaning c.zero_volume.new.shelf) (g.met.S.Shelf.lawful c.args.shelf.now) (g.met.S.Shelf.lawful c.zero_volume.new.shelf) (subst (λ (k : ℕ). Goes (ZerosOn c.args.next k) (g.S.Shelf.meaning c.args.shelf.now) (g.S.Shelf.meaning c.zero_volume.new.shelf)) (ap length c.as_slice.ensures.volumes) c.zero_volume.ensures.goes) (g.S.Shelf.meaning c.commit_next.new.shelf) (g.met.S.Shelf.lawful c.commit_next.new.shelf) c.commit_next.ensures.acts _ refl refl c.commit_next.new.next c.in-Err-commit_next.no c.in-Err-commit_next.ensures.ends c.commit_next.ensures.can refl refl refl
@@ -74,7 +74,7 @@ pub returns-then-is_down-clause-adds : goal.returns-then-is_down-clause-adds
 returns-then-is_down-clause-adds g c = refl
 
 pub returns-else-is_down-clause-stands : goal.returns-else-is_down-clause-stands
-returns-else-is_down-clause-stands g c = missed_Stands c.args.core.now c.args.next (g.S.Shelf.meaning c.args.shelf.now) c.requires.stands c.requires.is_next (g.S.Shelf.meaning c.zero_volume.new.shelf) (g.met.S.Shelf.lawful c.args.shelf.now) (g.met.S.Shelf.lawful c.zero_volume.new.shelf) (subst (λ (k : ℕ). Goes (ZerosOn c.args.next k) (g.S.Shelf.meaning c.args.shelf.now) (g.S.Shelf.meaning c.zero_volume.new.shelf)) (ap length c.as_slice.ensures.volumes) c.zero_volume.ensures.goes) (g.S.Shelf.meaning c.commit_next.new.shelf) (g.met.S.Shelf.lawful c.commit_next.new.shelf) c.commit_next.ensures.acts _ refl refl c.commit_next.new.next c.in-Err-commit_next.no c.in-Err-commit_next.ensures.ends c.commit_next.ensures.can refl refl refl
+returns-else-is_down-clause-stands g c = missed_Stands c.args.core.now c.args.next (g.S.Shelf.meaning c.args.shelf.now) c.requires.stands c.requires.is_next (g.S.Shelf.meaning c.zero_volume.new.shelf) (g.met.S.Shelf.lawful c.args.shelf.now) (g.met.S.Shelf.lawful c.zero_volume.new.shelf) (subst (λ (k : ℕ). Goes (ZerosOn c.args.next k) (g.S.Shelf.meaning c.args.shelf.now) (g.S.Shelf.meaning c.zero_volume.new.shelf)) (ap length c.as_slice.ensures.volumes) c.zero_volume.ensures.goes) (g.S.Shelf.meaning c.commit_next.new.shelf) (g.met.S.Shelf.lawful c.commit_next.new.shelf) c.commit_next.ensures.acts _ refl refl c.commit_next.new.next c.in-Err-commit_next.no c.in-Err-commit_next.ensures.ends c.commit_next.ensures.can refl refl refl (c.in-Err-commit_next.ensures.trusts c.args.core.now.committed c.args.core.now.agreed (zero_Stands c.args.core.now c.args.next (g.S.Shelf.meaning c.args.shelf.now) c.requires.stands c.requires.is_next (g.S.Shelf.meaning c.zero_volume.new.shelf) (g.met.S.Shelf.lawful c.args.shelf.now) (g.met.S.Shelf.lawful c.zero_volume.new.shelf) (subst (λ (k : ℕ). Goes (ZerosOn c.args.next k) (g.S.Shelf.meaning c.args.shelf.now) (g.S.Shelf.meaning c.zero_volume.new.shelf)) (ap length c.as_slice.ensures.volumes) c.zero_volume.ensures.goes)).trusts)
 
 pub returns-else-is_down-clause-stays : goal.returns-else-is_down-clause-stays
 returns-else-is_down-clause-stays g c = missed_stay c.args.core.now c.args.next (g.S.Shelf.meaning c.args.shelf.now) c.requires.stands c.requires.is_next (g.S.Shelf.meaning c.zero_volume.new.shelf) (g.met.S.Shelf.lawful c.args.shelf.now) (g.met.S.Shelf.lawful c.zero_volume.new.shelf) (subst (λ (k : ℕ). Goes (ZerosOn c.args.next k) (g.S.Shelf.meaning c.args.shelf.now) (g.S.Shelf.meaning c.zero_volume.new.shelf)) (ap length c.as_slice.ensures.volumes) c.zero_volume.ensures.goes) (g.S.Shelf.meaning c.commit_next.new.shelf) (g.met.S.Shelf.lawful c.commit_next.new.shelf) c.commit_next.ensures.acts _ refl refl c.commit_next.new.next c.in-Err-commit_next.no c.in-Err-commit_next.ensures.ends c.commit_next.ensures.can refl refl refl

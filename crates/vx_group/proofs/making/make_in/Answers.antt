@@ -1,5 +1,4 @@
 use Rattle.std.proofs.Common.{◌≡◌, ℕ, length, Err, refl, ap, sym, ◌∙◌, subst}
-use Rattle.vx_disk.specs.Shelf.{Meaning}
 use Rattle.vx_model.specs.declared.errors.Stop.TheVariants.{No as Refused}
 use Rattle.vx_model.specs.declared.no.No.{No}
 use Rattle.vx_group.specs.Makes.{MakeStops, Unmoved, VolumeMade}

@@ -1,10 +1,8 @@
-use Rattle.std.proofs.Common.{◌≡◌, ◌∙◌, ap, sym, get_or, ℕ, List, false}
+use Rattle.std.proofs.Common.{◌∙◌, ap, sym, get_or, ℕ, List, false}
 use Rattle.std.specs.Prelude.{slice_set}
-use Rattle.vx_config.specs.declared.config.Config.{Config}
 use Rattle.vx_config.specs.declared.entry.DiskEntry.{DiskEntry}
 use Rattle.vx_copies.proofs.Marked.{blocks_is}
 use Rattle.vx_copies.proofs.Settling.{no_disk}
-use Rattle.vx_group.specs.Regains.{regained}
 use Rattle.vx_group.proofs.marking.hold_good.Goals as goal
 
 pub returns : goal.returns

@@ -1,4 +1,4 @@
-use Rattle.std.proofs.Common.{◌≡◌, ◌<◌, ◌≤◌, length, ap, sym, ◌∙◌, arith}
+use Rattle.std.proofs.Common.{length, ap, arith}
 use Rattle.vx_group.proofs.RegainLemmas.{regained_start, regained_step, regained_to}
 use Rattle.vx_group.proofs.regaining.hold_plex.Goals as goal
 

@@ -1,18 +1,17 @@
-use Rattle.std.proofs.Common.{◌≡◌, ◌<◌, ◌≤◌, ◌+◌, true, false, length, ap, refl, sym, ◌∙◌, subst, arith, ℕ, Err}
+use Rattle.std.proofs.Common.{true, length, refl, sym, ◌∙◌, subst, arith}
 use Rattle.vx_config.specs.declared.config.Config.{Config}
 use Rattle.vx_group.specs.Stands.{Stands}
-use Rattle.vx_group.specs.declared.group_core.GroupCore.{GroupCore}
 use Rattle.vx_group.proofs.CallLemmas.{both_Narrows}
-use Rattle.vx_group.proofs.RegainLemmas.{back_narrows, flags_back, regained_Narrows, regained_Stands, regained_holds, regained_regains, same_narrows, same_regains, then_holds, then_regains}
+use Rattle.vx_group.proofs.RegainLemmas.{back_narrows, flags_back, regained_Narrows, regained_Stands, none_holds, regained_held, regained_regains, same_narrows, same_regains, then_regains}
 use Rattle.vx_group.proofs.regaining.regain.Goals as goal
 
 pub returns-then-not-hold_plex-clause-stands : goal.returns-then-not-hold_plex-clause-stands
 returns-then-not-hold_plex-clause-stands g c =
-    subst (λ (x : Config). Stands (record { config = x; good = c.args.core.now.good; room = c.args.core.now.room; unsettled = c.args.core.now.unsettled; next = c.args.core.now.next; faults = c.args.core.now.faults; unsure = c.args.core.now.unsure }) (g.S.Shelf.meaning c.args.shelf.now)) (sym (c.hold_plex.ensures.regained.none c.if-not-hold_plex.true)) c.requires.stands
+    subst (λ (x : Config). Stands (record { config = x; good = c.args.core.now.good; room = c.args.core.now.room; unsettled = c.args.core.now.unsettled; committed = c.args.core.now.committed; agreed = c.args.core.now.agreed; next = c.args.core.now.next; faults = c.args.core.now.faults; unsure = c.args.core.now.unsure }) (g.S.Shelf.meaning c.args.shelf.now)) (sym (c.hold_plex.ensures.regained.none c.if-not-hold_plex.true)) c.requires.stands
 
 pub returns-then-not-hold_plex-clause-narrows : goal.returns-then-not-hold_plex-clause-narrows
 returns-then-not-hold_plex-clause-narrows g c =
-    same_narrows c.args.core.now (record { config = c.hold_plex.new.config; good = c.args.core.now.good; room = c.args.core.now.room; unsettled = c.args.core.now.unsettled; next = c.args.core.now.next; faults = c.args.core.now.faults; unsure = c.args.core.now.unsure }) (g.S.Shelf.meaning c.args.shelf.now) c.hold_plex.ensures.regained.same.volumes refl refl
+    same_narrows c.args.core.now (record { config = c.hold_plex.new.config; good = c.args.core.now.good; room = c.args.core.now.room; unsettled = c.args.core.now.unsettled; committed = c.args.core.now.committed; agreed = c.args.core.now.agreed; next = c.args.core.now.next; faults = c.args.core.now.faults; unsure = c.args.core.now.unsure }) (g.S.Shelf.meaning c.args.shelf.now) c.hold_plex.ensures.regained.same.volumes refl refl
 
 pub returns-then-not-hold_plex-clause-volumes : goal.returns-then-not-hold_plex-clause-volumes
 returns-then-not-hold_plex-clause-volumes g c =
@@ -28,19 +27,27 @@ returns-then-not-hold_plex-clause-regains g c =
 
 pub returns-then-not-hold_plex-clause-held : goal.returns-then-not-hold_plex-clause-held
 returns-then-not-hold_plex-clause-held g c =
-    regained_holds c.args.core.now.config c.hold_plex.new.config c.args.vol c.args.plex c.hold_plex.result (g.S.Shelf.meaning c.args.shelf.now) c.hold_plex.ensures.regained
+    none_holds c.args.core.now.config c.hold_plex.new.config c.args.vol c.args.plex c.hold_plex.result (g.S.Shelf.meaning c.args.shelf.now) c.hold_plex.ensures.regained c.if-not-hold_plex.true
 
-pub make_ready-requires-clause-stands : goal.make_ready-requires-clause-stands
-make_ready-requires-clause-stands g c =
+pub recommit-requires-clause-more : goal.recommit-requires-clause-more
+recommit-requires-clause-more g c =
+    let same = c.hold_plex.ensures.regained.same.serial in let more = c.requires.more in omega (arith, same, more)
+
+pub recommit-requires-clause-held : goal.recommit-requires-clause-held
+recommit-requires-clause-held g c =
+    regained_held c.args.core.now.config c.hold_plex.new.config c.args.vol c.args.plex c.hold_plex.result c.hold_plex.ensures.regained
+
+pub recommit-requires-clause-stands : goal.recommit-requires-clause-stands
+recommit-requires-clause-stands g c =
     regained_Stands c.args.core.now c.hold_plex.new.config c.args.vol c.args.plex (length c.args.core.now.config.disks) c.hold_plex.result (g.S.Shelf.meaning c.args.shelf.now) c.requires.stands c.hold_plex.ensures.regained
 
 pub returns-in-Ok-clause-narrows : goal.returns-in-Ok-clause-narrows
 returns-in-Ok-clause-narrows g c =
-    both_Narrows c.args.core.now (record { config = c.hold_plex.new.config; good = c.args.core.now.good; room = c.args.core.now.room; unsettled = true; next = c.args.core.now.next; faults = c.args.core.now.faults; unsure = c.args.core.now.unsure }) c.make_ready.new.core (g.S.Shelf.meaning c.args.shelf.now) (g.S.Shelf.meaning c.args.shelf.now) (g.S.Shelf.meaning c.make_ready.new.shelf) c.hold_plex.ensures.regained.same.volumes refl (regained_Narrows c.args.core.now c.hold_plex.new.config c.args.vol c.args.plex (length c.args.core.now.config.disks) c.hold_plex.result (g.S.Shelf.meaning c.args.shelf.now) c.requires.stands c.hold_plex.ensures.regained) c.make_ready.ensures.narrows
+    both_Narrows c.args.core.now (record { config = c.hold_plex.new.config; good = c.args.core.now.good; room = c.args.core.now.room; unsettled = true; committed = c.args.core.now.committed; agreed = c.args.core.now.agreed; next = c.args.core.now.next; faults = c.args.core.now.faults; unsure = c.args.core.now.unsure }) c.recommit.new.core (g.S.Shelf.meaning c.args.shelf.now) (g.S.Shelf.meaning c.args.shelf.now) (g.S.Shelf.meaning c.recommit.new.shelf) c.hold_plex.ensures.regained.same.volumes refl (regained_Narrows c.args.core.now c.hold_plex.new.config c.args.vol c.args.plex (length c.args.core.now.config.disks) c.hold_plex.result (g.S.Shelf.meaning c.args.shelf.now) c.requires.stands c.hold_plex.ensures.regained) c.recommit.ensures.narrows
 
 pub returns-in-Ok-clause-volumes : goal.returns-in-Ok-clause-volumes
 returns-in-Ok-clause-volumes g c =
-    c.make_ready.ensures.volumes ∙ c.hold_plex.ensures.regained.same.volumes
+    c.recommit.ensures.volumes ∙ c.hold_plex.ensures.regained.same.volumes
 
 pub returns-in-Ok-clause-few : goal.returns-in-Ok-clause-few
 returns-in-Ok-clause-few g c =
@@ -48,37 +55,36 @@ returns-in-Ok-clause-few g c =
 
 pub returns-in-Ok-clause-regains : goal.returns-in-Ok-clause-regains
 returns-in-Ok-clause-regains g c =
-    then_regains (g.S.Shelf.meaning c.args.shelf.now) (g.S.Shelf.meaning c.args.shelf.now) (g.S.Shelf.meaning c.make_ready.new.shelf) (λ u. omega arith) c.make_ready.ensures.narrows.acts.faults c.args.core.now.config c.hold_plex.new.config c.make_ready.new.core.config c.args.vol c.args.plex c.make_ready.ensures.failing (regained_regains c.args.core.now.config c.hold_plex.new.config c.args.vol c.args.plex (length c.args.core.now.config.disks) c.hold_plex.result (g.S.Shelf.meaning c.args.shelf.now) c.hold_plex.ensures.regained)
+    then_regains (g.S.Shelf.meaning c.args.shelf.now) (g.S.Shelf.meaning c.args.shelf.now) (g.S.Shelf.meaning c.recommit.new.shelf) (λ u. omega arith) c.recommit.ensures.narrows.acts.faults c.args.core.now.config c.hold_plex.new.config c.recommit.new.core.config c.args.vol c.args.plex c.recommit.ensures.failing (regained_regains c.args.core.now.config c.hold_plex.new.config c.args.vol c.args.plex (length c.args.core.now.config.disks) c.hold_plex.result (g.S.Shelf.meaning c.args.shelf.now) c.hold_plex.ensures.regained)
 
 pub returns-in-Ok-clause-held : goal.returns-in-Ok-clause-held
-returns-in-Ok-clause-held g c =
-    then_holds (g.S.Shelf.meaning c.args.shelf.now) (g.S.Shelf.meaning c.args.shelf.now) (g.S.Shelf.meaning c.make_ready.new.shelf) (λ u. omega arith) c.make_ready.ensures.narrows.acts.faults c.args.core.now.config c.hold_plex.new.config c.make_ready.new.core.config c.args.vol c.args.plex c.make_ready.ensures.failing (regained_holds c.args.core.now.config c.hold_plex.new.config c.args.vol c.args.plex c.hold_plex.result (g.S.Shelf.meaning c.args.shelf.now) c.hold_plex.ensures.regained)
+returns-in-Ok-clause-held g c = record { held = c.in-Ok.ensures.held; committed = λ on. c.in-Ok.ensures.committed }
 
 pub returns-then-not-core-clause-narrows : goal.returns-then-not-core-clause-narrows
 returns-then-not-core-clause-narrows g c =
-    both_Narrows c.args.core.now (record { config = c.hold_plex.new.config; good = c.args.core.now.good; room = c.args.core.now.room; unsettled = true; next = c.args.core.now.next; faults = c.args.core.now.faults; unsure = c.args.core.now.unsure }) c.make_ready.new.core (g.S.Shelf.meaning c.args.shelf.now) (g.S.Shelf.meaning c.args.shelf.now) (g.S.Shelf.meaning c.make_ready.new.shelf) c.hold_plex.ensures.regained.same.volumes refl (regained_Narrows c.args.core.now c.hold_plex.new.config c.args.vol c.args.plex (length c.args.core.now.config.disks) c.hold_plex.result (g.S.Shelf.meaning c.args.shelf.now) c.requires.stands c.hold_plex.ensures.regained) c.make_ready.ensures.narrows
+    both_Narrows c.args.core.now (record { config = c.hold_plex.new.config; good = c.args.core.now.good; room = c.args.core.now.room; unsettled = true; committed = c.args.core.now.committed; agreed = c.args.core.now.agreed; next = c.args.core.now.next; faults = c.args.core.now.faults; unsure = c.args.core.now.unsure }) c.recommit.new.core (g.S.Shelf.meaning c.args.shelf.now) (g.S.Shelf.meaning c.args.shelf.now) (g.S.Shelf.meaning c.recommit.new.shelf) c.hold_plex.ensures.regained.same.volumes refl (regained_Narrows c.args.core.now c.hold_plex.new.config c.args.vol c.args.plex (length c.args.core.now.config.disks) c.hold_plex.result (g.S.Shelf.meaning c.args.shelf.now) c.requires.stands c.hold_plex.ensures.regained) c.recommit.ensures.narrows
 
 pub returns-then-not-core-clause-volumes : goal.returns-then-not-core-clause-volumes
 returns-then-not-core-clause-volumes g c =
-    c.make_ready.ensures.volumes ∙ c.hold_plex.ensures.regained.same.volumes
+    c.recommit.ensures.volumes ∙ c.hold_plex.ensures.regained.same.volumes
 
 pub returns-then-not-core-clause-regains : goal.returns-then-not-core-clause-regains
 returns-then-not-core-clause-regains g c =
-    then_regains (g.S.Shelf.meaning c.args.shelf.now) (g.S.Shelf.meaning c.args.shelf.now) (g.S.Shelf.meaning c.make_ready.new.shelf) (λ u. omega arith) c.make_ready.ensures.narrows.acts.faults c.args.core.now.config c.hold_plex.new.config c.make_ready.new.core.config c.args.vol c.args.plex c.make_ready.ensures.failing (regained_regains c.args.core.now.config c.hold_plex.new.config c.args.vol c.args.plex (length c.args.core.now.config.disks) c.hold_plex.result (g.S.Shelf.meaning c.args.shelf.now) c.hold_plex.ensures.regained)
+    then_regains (g.S.Shelf.meaning c.args.shelf.now) (g.S.Shelf.meaning c.args.shelf.now) (g.S.Shelf.meaning c.recommit.new.shelf) (λ u. omega arith) c.recommit.ensures.narrows.acts.faults c.args.core.now.config c.hold_plex.new.config c.recommit.new.core.config c.args.vol c.args.plex c.recommit.ensures.failing (regained_regains c.args.core.now.config c.hold_plex.new.config c.args.vol c.args.plex (length c.args.core.now.config.disks) c.hold_plex.result (g.S.Shelf.meaning c.args.shelf.now) c.hold_plex.ensures.regained)
 
 pub returns-else-not-core-clause-stands : goal.returns-else-not-core-clause-stands
 returns-else-not-core-clause-stands g c =
-    flags_back c.args.core.now c.make_ready.new.core c.copy-kept.result (g.S.Shelf.meaning c.args.shelf.now) (g.S.Shelf.meaning c.make_ready.new.shelf) c.requires.stands c.make_ready.ensures.stands c.copy-kept.ensures (c.make_ready.ensures.failing.count ∙ c.hold_plex.ensures.regained.same.count) (λ u. c.make_ready.ensures.failing.blocks u ∙ c.hold_plex.ensures.regained.blocks u) (c.make_ready.ensures.good c.if-not-core.false) c.if-not-core.false
+    flags_back c.args.core.now c.recommit.new.core c.copy-kept.result (g.S.Shelf.meaning c.args.shelf.now) (g.S.Shelf.meaning c.recommit.new.shelf) c.requires.stands c.recommit.ensures.stands c.copy-kept.ensures (c.recommit.ensures.failing.count ∙ c.hold_plex.ensures.regained.same.count) (λ u. c.recommit.ensures.failing.blocks u ∙ c.hold_plex.ensures.regained.blocks u) (c.recommit.ensures.good c.if-not-core.false) c.if-not-core.false
 
 pub returns-else-not-core-clause-narrows : goal.returns-else-not-core-clause-narrows
 returns-else-not-core-clause-narrows g c =
-    both_Narrows c.args.core.now c.make_ready.new.core (record { config = record { serial = c.make_ready.new.core.config.serial; site = c.make_ready.new.core.config.site; disks = c.copy-kept.result; volumes = c.make_ready.new.core.config.volumes; rvg = c.make_ready.new.core.config.rvg }; good = c.make_ready.new.core.good; room = c.make_ready.new.core.room; unsettled = c.make_ready.new.core.unsettled; next = c.make_ready.new.core.next; faults = c.make_ready.new.core.faults; unsure = c.make_ready.new.core.unsure }) (g.S.Shelf.meaning c.args.shelf.now) (g.S.Shelf.meaning c.make_ready.new.shelf) (g.S.Shelf.meaning c.make_ready.new.shelf) (c.make_ready.ensures.volumes ∙ c.hold_plex.ensures.regained.same.volumes) (c.make_ready.ensures.good c.if-not-core.false) (both_Narrows c.args.core.now (record { config = c.hold_plex.new.config; good = c.args.core.now.good; room = c.args.core.now.room; unsettled = true; next = c.args.core.now.next; faults = c.args.core.now.faults; unsure = c.args.core.now.unsure }) c.make_ready.new.core (g.S.Shelf.meaning c.args.shelf.now) (g.S.Shelf.meaning c.args.shelf.now) (g.S.Shelf.meaning c.make_ready.new.shelf) c.hold_plex.ensures.regained.same.volumes refl (regained_Narrows c.args.core.now c.hold_plex.new.config c.args.vol c.args.plex (length c.args.core.now.config.disks) c.hold_plex.result (g.S.Shelf.meaning c.args.shelf.now) c.requires.stands c.hold_plex.ensures.regained) c.make_ready.ensures.narrows) (back_narrows c.args.core.now c.make_ready.new.core c.copy-kept.result (g.S.Shelf.meaning c.args.shelf.now) (g.S.Shelf.meaning c.make_ready.new.shelf) c.requires.stands c.make_ready.ensures.stands c.copy-kept.ensures (c.make_ready.ensures.failing.count ∙ c.hold_plex.ensures.regained.same.count) (λ u. c.make_ready.ensures.failing.blocks u ∙ c.hold_plex.ensures.regained.blocks u) (c.make_ready.ensures.good c.if-not-core.false) c.if-not-core.false)
+    both_Narrows c.args.core.now c.recommit.new.core (record { config = record { serial = c.recommit.new.core.config.serial; site = c.recommit.new.core.config.site; disks = c.copy-kept.result; volumes = c.recommit.new.core.config.volumes; rvg = c.recommit.new.core.config.rvg }; good = c.recommit.new.core.good; room = c.recommit.new.core.room; unsettled = c.recommit.new.core.unsettled; committed = c.recommit.new.core.committed; agreed = c.recommit.new.core.agreed; next = c.recommit.new.core.next; faults = c.recommit.new.core.faults; unsure = c.recommit.new.core.unsure }) (g.S.Shelf.meaning c.args.shelf.now) (g.S.Shelf.meaning c.recommit.new.shelf) (g.S.Shelf.meaning c.recommit.new.shelf) (c.recommit.ensures.volumes ∙ c.hold_plex.ensures.regained.same.volumes) (c.recommit.ensures.good c.if-not-core.false) (both_Narrows c.args.core.now (record { config = c.hold_plex.new.config; good = c.args.core.now.good; room = c.args.core.now.room; unsettled = true; committed = c.args.core.now.committed; agreed = c.args.core.now.agreed; next = c.args.core.now.next; faults = c.args.core.now.faults; unsure = c.args.core.now.unsure }) c.recommit.new.core (g.S.Shelf.meaning c.args.shelf.now) (g.S.Shelf.meaning c.args.shelf.now) (g.S.Shelf.meaning c.recommit.new.shelf) c.hold_plex.ensures.regained.same.volumes refl (regained_Narrows c.args.core.now c.hold_plex.new.config c.args.vol c.args.plex (length c.args.core.now.config.disks) c.hold_plex.result (g.S.Shelf.meaning c.args.shelf.now) c.requires.stands c.hold_plex.ensures.regained) c.recommit.ensures.narrows) (back_narrows c.args.core.now c.recommit.new.core c.copy-kept.result (g.S.Shelf.meaning c.args.shelf.now) (g.S.Shelf.meaning c.recommit.new.shelf) c.requires.stands c.recommit.ensures.stands c.copy-kept.ensures (c.recommit.ensures.failing.count ∙ c.hold_plex.ensures.regained.same.count) (λ u. c.recommit.ensures.failing.blocks u ∙ c.hold_plex.ensures.regained.blocks u) (c.recommit.ensures.good c.if-not-core.false) c.if-not-core.false)
 
 pub returns-else-not-core-clause-volumes : goal.returns-else-not-core-clause-volumes
 returns-else-not-core-clause-volumes g c =
-    c.make_ready.ensures.volumes ∙ c.hold_plex.ensures.regained.same.volumes
+    c.recommit.ensures.volumes ∙ c.hold_plex.ensures.regained.same.volumes
 
 pub returns-else-not-core-clause-regains : goal.returns-else-not-core-clause-regains
 returns-else-not-core-clause-regains g c =
-    let back : Config = record { serial = c.make_ready.new.core.config.serial; site = c.make_ready.new.core.config.site; disks = c.copy-kept.result; volumes = c.make_ready.new.core.config.volumes; rvg = c.make_ready.new.core.config.rvg } in
-    same_regains c.args.core.now.config back c.args.vol c.args.plex (g.S.Shelf.meaning c.args.shelf.now) (g.S.Shelf.meaning c.make_ready.new.shelf) c.copy-kept.ensures
+    let back : Config = record { serial = c.recommit.new.core.config.serial; site = c.recommit.new.core.config.site; disks = c.copy-kept.result; volumes = c.recommit.new.core.config.volumes; rvg = c.recommit.new.core.config.rvg } in
+    same_regains c.args.core.now.config back c.args.vol c.args.plex (g.S.Shelf.meaning c.args.shelf.now) (g.S.Shelf.meaning c.recommit.new.shelf) c.copy-kept.ensures

@@ -1,8 +1,9 @@
 use Rattle.std.proofs.Common.{◌∙◌, length, refl, arith}
 use Rattle.vx_group.proofs.CallLemmas.{blames_later, both_Narrows}
 use Rattle.vx_group.proofs.DetachLemmas.{zero_bit}
-use Rattle.vx_group.proofs.FailingLemmas.{few_ok, no_failing, then_failing}
+use Rattle.vx_group.proofs.FailingLemmas.{few_ok, then_failing}
 use Rattle.vx_group.proofs.Standing.{some_active}
+use Rattle.vx_group.proofs.TrustLemmas.{err_from, ok_from}
 use Rattle.vx_group.proofs.settling.make_ready.Goals as goal
 
 pub detach-requires-clause-left : goal.detach-requires-clause-left
@@ -33,3 +34,12 @@ returns-clause-few g c =
 
 pub returns-clause-good : goal.returns-clause-good
 returns-clause-good g c = λ is. c.detach.ensures.good is ∙ c.settle_headers.ensures.good
+
+pub returns-clause-trust : goal.returns-clause-trust
+returns-clause-trust g c = ok_from c.detach.result (λ keeps is. keeps (c.settle_headers.ensures.trust ∙ is)) c.detach.ensures.trust
+
+pub returns-clause-agreed : goal.returns-clause-agreed
+returns-clause-agreed g c = err_from c.detach.result (λ keeps is. keeps (c.settle_headers.ensures.trust ∙ is)) c.detach.ensures.agreed
+
+pub returns-in-Err-clause-agreed : goal.returns-in-Err-clause-agreed
+returns-in-Err-clause-agreed g c = λ is. c.settle_headers.ensures.agreed ∙ c.requires.stands.trusts.both is

@@ -1,4 +1,4 @@
-use Rattle.std.proofs.Common.{refl, ap, sym, ◌∙◌}
+use Rattle.std.proofs.Common.{refl, ap, ◌∙◌}
 use Rattle.std.specs.Prelude.{map}
 use Rattle.vx_layout.specs.Made.{made_plex}
 use Rattle.vx_group.proofs.ShapeLemmas.{drl_is, fmr_is, logs_made}

@@ -27,6 +27,8 @@ returns c = record {
   sound = c.make_open.ensures.sound c.requires.sound;
   good = refl;
   unsettled = refl;
+  committed = refl;
+  agreed = refl;
   fresh = record { faults = zeros_at zeros refl; sure = false_at falses refl };
   stopped = c.stopped_of-stopped.ensures;
   sources = c.sources_of-sources.ensures;

@@ -34,12 +34,12 @@ returns-in-Err-write_plexes-clause-marks g c = subst (λ (l : List Bool). Marks 
 
 pub returns-in-Err-clause-gave_up : goal.returns-in-Err-clause-gave_up
 returns-in-Err-clause-gave_up g c =
-    same_gives c.args.vol c.args.core.now c.make_ready.new.core (record { config = c.make_ready.new.core.config; good = c.make_ready.new.core.good; room = c.make_ready.new.core.room; unsettled = c.make_ready.new.core.unsettled; next = c.make_ready.new.core.next; faults = c.give_up.new.faults; unsure = c.give_up.new.unsure }) c.in-Err.error (g.S.Shelf.meaning c.args.shelf.now) (g.S.Shelf.meaning c.make_ready.new.shelf) refl refl
+    same_gives c.args.vol c.args.core.now c.make_ready.new.core (record { config = c.make_ready.new.core.config; good = c.make_ready.new.core.good; room = c.make_ready.new.core.room; unsettled = c.make_ready.new.core.unsettled; committed = c.make_ready.new.core.committed; agreed = c.make_ready.new.core.agreed; next = c.make_ready.new.core.next; faults = c.give_up.new.faults; unsure = c.give_up.new.unsure }) c.in-Err.error (g.S.Shelf.meaning c.args.shelf.now) (g.S.Shelf.meaning c.make_ready.new.shelf) refl refl
     (ready_gives c.args.vol c.args.core.now c.make_ready.new.core c.in-Err.error (g.S.Shelf.meaning c.args.shelf.now) (g.S.Shelf.meaning c.make_ready.new.shelf) c.make_ready.ensures.volumes c.in-Err.ensures.cause c.in-Err.ensures.missed)
 
 pub returns-in-Err-write_plexes-clause-gave_up : goal.returns-in-Err-write_plexes-clause-gave_up
 returns-in-Err-write_plexes-clause-gave_up g c =
-    same_gives c.args.vol c.args.core.now c.write_plexes.new.core (record { config = c.write_plexes.new.core.config; good = c.write_plexes.new.core.good; room = c.write_plexes.new.core.room; unsettled = c.write_plexes.new.core.unsettled; next = c.write_plexes.new.core.next; faults = c.give_up-in-Err-write_plexes.new.faults; unsure = c.give_up-in-Err-write_plexes.new.unsure }) c.in-Err-write_plexes.error (g.S.Shelf.meaning c.args.shelf.now) (g.S.Shelf.meaning c.write_plexes.new.shelf) refl refl
+    same_gives c.args.vol c.args.core.now c.write_plexes.new.core (record { config = c.write_plexes.new.core.config; good = c.write_plexes.new.core.good; room = c.write_plexes.new.core.room; unsettled = c.write_plexes.new.core.unsettled; committed = c.write_plexes.new.core.committed; agreed = c.write_plexes.new.core.agreed; next = c.write_plexes.new.core.next; faults = c.give_up-in-Err-write_plexes.new.faults; unsure = c.give_up-in-Err-write_plexes.new.unsure }) c.in-Err-write_plexes.error (g.S.Shelf.meaning c.args.shelf.now) (g.S.Shelf.meaning c.write_plexes.new.shelf) refl refl
     (later_gives c.args.vol c.args.core.now c.make_ready.new.core c.write_plexes.new.core c.in-Err-write_plexes.error (g.S.Shelf.meaning c.args.shelf.now) (g.S.Shelf.meaning c.make_ready.new.shelf) (g.S.Shelf.meaning c.write_plexes.new.shelf) c.make_ready.ensures.volumes c.make_ready.ensures.narrows.acts.faults c.in-Err-write_plexes.ensures.gave_up)
 
 pub returns-then-is_down-clause-loses : goal.returns-then-is_down-clause-loses
@@ -57,3 +57,12 @@ returns-in-Ok-write_plexes-clause-loses g c =
 pub returns-in-Err-write_plexes-clause-loses : goal.returns-in-Err-write_plexes-clause-loses
 returns-in-Err-write_plexes-clause-loses g c =
     then_loses (g.S.Shelf.meaning c.args.shelf.now) (g.S.Shelf.meaning c.make_ready.new.shelf) (g.S.Shelf.meaning c.write_plexes.new.shelf) c.make_ready.ensures.narrows.acts.faults c.write_plexes.ensures.unit_faults c.args.core.now.config c.make_ready.new.core.config c.write_plexes.new.core.config (loses_none c.args.core.now.config c.make_ready.new.core.config (g.S.Shelf.meaning c.args.shelf.now) (g.S.Shelf.meaning c.make_ready.new.shelf) c.make_ready.ensures.volumes c.make_ready.ensures.failing) c.write_plexes.ensures.loses
+
+pub returns-in-Ok-write_plexes-clause-trust : goal.returns-in-Ok-write_plexes-clause-trust
+returns-in-Ok-write_plexes-clause-trust g c = λ is. c.in-Ok-write_plexes.ensures.trust (c.in-Ok.ensures.trust is)
+
+pub returns-in-Err-write_plexes-clause-agreed : goal.returns-in-Err-write_plexes-clause-agreed
+returns-in-Err-write_plexes-clause-agreed g c = λ is. c.in-Err-write_plexes.ensures.agreed (c.in-Ok.ensures.trust is)
+
+pub returns-then-is_down-clause-agreed : goal.returns-then-is_down-clause-agreed
+returns-then-is_down-clause-agreed g c = c.requires.stands.trusts.both

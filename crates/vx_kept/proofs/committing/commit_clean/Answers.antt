@@ -6,9 +6,10 @@ use Rattle.vx_copies.specs.Bodies.{is_wanted}
 use Rattle.vx_kept.specs.Cleans.{Shown, at_serial}
 use Rattle.vx_kept.specs.Commits.{Left, Member}
 use Rattle.vx_kept.proofs.CleanCommits.{clean_back, clean_follows, clean_shown, clean_tidy, clean_wanted}
-use Rattle.vx_kept.proofs.Committed.{take_acts, take_refused}
+use Rattle.vx_kept.proofs.Committed.{base_of, take_acts, take_refused}
 use Rattle.vx_kept.proofs.Narrower.{sound_few, wanted_sound}
 use Rattle.vx_kept.proofs.Staling.{all_serial, can_serial, wanted_back}
+use Rattle.vx_kept.proofs.Trusting.{sees_of, trust_done, trust_left}
 use Rattle.vx_kept.proofs.committing.commit_clean.Goals as goal
 
 pub commit_in-requires-clause-wanted : goal.commit_in-requires-clause-wanted
@@ -83,3 +84,21 @@ returns-in-Err-clause-ends g c =
     (clean_tidy c.args.unsure.now c.args.config.now c.make_clean.new.config is old c.requires.tidy)
     (clean_follows c.args.unsure.now c.args.config.now c.make_clean.new.config is (wanted_sound old.units old.size c.args.config.now c.requires.wanted) c.requires.on) c.commit_in.ensures.begins c.commit_in.ensures.fit
     c.make_open.new.config c.in-Err.no c.in-Err.ensures.ends back)
+
+pub returns-in-Ok-clause-trusts : goal.returns-in-Ok-clause-trusts
+returns-in-Ok-clause-trusts g c =
+    trust_done c.args.good c.args.config.now c.make_clean.new.config c.commit_in.new.config (g.S.Shelf.meaning c.args.shelf.now) (g.S.Shelf.meaning c.commit_in.new.shelf) (g.met.S.Shelf.lawful c.args.shelf.now) (g.met.S.Shelf.lawful c.commit_in.new.shelf)
+    (base_of c.args.config.now (Member c.args.good (g.S.Shelf.meaning c.args.shelf.now)) (g.S.Shelf.meaning c.args.shelf.now) c.requires.kept)
+    (clean_tidy c.args.unsure.now c.args.config.now c.make_clean.new.config c.make_clean.ensures.cleaned (g.S.Shelf.meaning c.args.shelf.now) c.requires.tidy)
+    (clean_follows c.args.unsure.now c.args.config.now c.make_clean.new.config c.make_clean.ensures.cleaned (wanted_sound (g.S.Shelf.meaning c.args.shelf.now).units (g.S.Shelf.meaning c.args.shelf.now).size c.args.config.now c.requires.wanted) c.requires.on).serial
+    (sees_of c.args.config.now (Member c.args.good (g.S.Shelf.meaning c.args.shelf.now)) (g.S.Shelf.meaning c.args.shelf.now) c.requires.kept) c.commit_in.ensures.begins.moves.units c.commit_in.ensures.begins.moves.size c.commit_in.ensures.begins.moves.tells
+    c.in-Ok.ensures.ends
+
+pub returns-in-Err-clause-trusts : goal.returns-in-Err-clause-trusts
+returns-in-Err-clause-trusts g c =
+    trust_left c.args.good c.args.config.now c.make_clean.new.config c.commit_in.new.config (g.S.Shelf.meaning c.args.shelf.now) (g.S.Shelf.meaning c.commit_in.new.shelf) (g.met.S.Shelf.lawful c.args.shelf.now) (g.met.S.Shelf.lawful c.commit_in.new.shelf)
+    (base_of c.args.config.now (Member c.args.good (g.S.Shelf.meaning c.args.shelf.now)) (g.S.Shelf.meaning c.args.shelf.now) c.requires.kept)
+    (clean_tidy c.args.unsure.now c.args.config.now c.make_clean.new.config c.make_clean.ensures.cleaned (g.S.Shelf.meaning c.args.shelf.now) c.requires.tidy)
+    (clean_follows c.args.unsure.now c.args.config.now c.make_clean.new.config c.make_clean.ensures.cleaned (wanted_sound (g.S.Shelf.meaning c.args.shelf.now).units (g.S.Shelf.meaning c.args.shelf.now).size c.args.config.now c.requires.wanted) c.requires.on).serial
+    (sees_of c.args.config.now (Member c.args.good (g.S.Shelf.meaning c.args.shelf.now)) (g.S.Shelf.meaning c.args.shelf.now) c.requires.kept) c.commit_in.ensures.begins.moves.units c.commit_in.ensures.begins.moves.size c.commit_in.ensures.begins.moves.tells
+    c.commit_in.new.config.serial c.commit_in.ensures.finds

@@ -1,4 +1,4 @@
-use Rattle.std.proofs.Common.{◌≡◌, ◌+◌, ◌*◌, ◌<◌, true, Result, OnOk, IfErr, ℕ, refl, ap, subst, sym, ◌∙◌, arith, List}
+use Rattle.std.proofs.Common.{◌≡◌, ◌+◌, ◌*◌, ◌<◌, true, Result, OnOk, IfErr, IfOk, ℕ, refl, ap, subst, sym, ◌∙◌, arith, List}
 use Rattle.vx_disk.specs.Burns.{MakesCalls}
 use Rattle.vx_disk.specs.Shelf.{Meaning}
 use Rattle.vx_model.specs.declared.no.No.{No}
@@ -6,13 +6,13 @@ use Rattle.vx_config.specs.Table.{greatest}
 use Rattle.vx_config.specs.declared.config.Config.{Config}
 use Rattle.vx_config.specs.declared.entry.DiskEntry.{DiskEntry}
 use Rattle.vx_copies.specs.Bodies.{is_wanted}
-use Rattle.vx_copies.specs.Commits.{Begins, CommitEnds, Finds, IsTry, NamesLast, StayFit}
+use Rattle.vx_copies.specs.Commits.{Begins, CommitEnds, Finds, IsTry, NamesFailed, NamesLast, StayFit}
 use Rattle.vx_copies.specs.Marks.{good_count}
 use Rattle.vx_copies.proofs.Found.{begins_try, finds_try, few_refused, fits_try, is_done, restored, stays_silent, why_refused}
 use Rattle.vx_copies.proofs.ManyTries.{none_yet}
 use Rattle.vx_copies.proofs.OneTry.{wanted_count, wanted_same, wanted_serial}
-use Rattle.vx_copies.proofs.calls.commit_in.Goals.{in-Err, in-Ok}
-use Rattle.vx_copies.proofs.calls.commit_in.Goals as goal
+use Rattle.vx_copies.proofs.calls.commit_named.Goals.{in-Err, in-Ok}
+use Rattle.vx_copies.proofs.calls.commit_named.Goals as goal
 
 pub returns-then-config-ge-MOST_NUMBER-clause-begins : goal.returns-then-config-ge-MOST_NUMBER-clause-begins
 returns-then-config-ge-MOST_NUMBER-clause-begins g c =
@@ -70,14 +70,14 @@ returns-clause-ends g c =
       | in-Ok w ↦
           let ends = w.in-Ok.ensures.ends in
           subst (λ (e : Config). CommitEnds c.args.good a e old new c.match-try_all.result) (sym w.config-is)
-          (subst (λ (r : Result (Unit {0}) No). CommitEnds c.args.good a d old new r) (sym w.result-is)
+          (subst (λ (r : Result ℕ No). CommitEnds c.args.good a d old new r) (sym w.result-is)
           (is_done c.args.good a d old new underway (wanted_count old.units old.size d (wanted_same new old d (sym underway.moves.units) (λ u. sym (underway.moves.size u)) c.try_all.ensures.wanted))
           (g.met.S.Shelf.lawful c.args.shelf.now) (g.met.S.Shelf.lawful c.try_all.new.shelf) ends.1 ends.0 ends.3 ends.2 ends.4))
       | in-Err w ↦
           let back : c.match-try_all.config ≡ record { serial = d.serial; site = a.site; disks = a.disks; volumes = a.volumes; rvg = a.rvg } =
           restored a d c.match-try_all.config old new underway.grown (w.config-is ∙ ap (λ (ds : List DiskEntry). record { serial = d.serial; site = d.site; disks = ds; volumes = d.volumes; rvg = d.rvg }) c.copy-kept.ensures) in
           subst (λ (e : Config). CommitEnds c.args.good a e old new c.match-try_all.result) (sym back)
-          (subst (λ (r : Result (Unit {0}) No). CommitEnds c.args.good a (record { serial = d.serial; site = a.site; disks = a.disks; volumes = a.volumes; rvg = a.rvg }) old new r) (sym w.result-is) (record {
+          (subst (λ (r : Result ℕ No). CommitEnds c.args.good a (record { serial = d.serial; site = a.site; disks = a.disks; volumes = a.volumes; rvg = a.rvg }) old new r) (sym w.result-is) (record {
             cause = why_refused c.args.good a d old new w.in-Err.no more underway.grown underway.moves.units w.in-Err.ensures.ends;
             later = underway.serial;
             few = few_refused c.args.good a d old new w.in-Err.no w.in-Err.ensures.ends;
@@ -106,9 +106,9 @@ pub returns-clause-last : goal.returns-clause-last
 returns-clause-last g c =
     let d : Config = c.try_all.new.config in
     elim c.match-try_all.branch [
-      | in-Ok w ↦ subst (λ (r : Result (Unit {0}) No). IfErr r (NamesLast g.S.Shelf.meaning c.args.good c.args.config.now c.match-try_all.config.serial c.args.shelf.now c.try_all.new.shelf)) (sym w.result-is) tt
+      | in-Ok w ↦ subst (λ (r : Result ℕ No). IfErr r (NamesLast g.S.Shelf.meaning c.args.good c.args.config.now c.match-try_all.config.serial c.args.shelf.now c.try_all.new.shelf)) (sym w.result-is) tt
       | in-Err w ↦
-          subst (λ (r : Result (Unit {0}) No). IfErr r (NamesLast g.S.Shelf.meaning c.args.good c.args.config.now c.match-try_all.config.serial c.args.shelf.now c.try_all.new.shelf)) (sym w.result-is)
+          subst (λ (r : Result ℕ No). IfErr r (NamesLast g.S.Shelf.meaning c.args.good c.args.config.now c.match-try_all.config.serial c.args.shelf.now c.try_all.new.shelf)) (sym w.result-is)
           (subst (λ (n : ℕ). NamesLast g.S.Shelf.meaning c.args.good c.args.config.now n c.args.shelf.now c.try_all.new.shelf w.in-Err.no) (ap (λ (e : Config). e.serial) (sym w.config-is)) w.in-Err.ensures.last)
     ]
 
@@ -119,7 +119,18 @@ returns-clause-calls g c =
     elim c.match-try_all.branch [
       | in-Ok w ↦
           subst (λ (e : Config). OnOk c.match-try_all.result (e.serial ≡ c.args.config.now.serial + 1 → MakesCalls (4 * good_count e.disks) old new)) (sym w.config-is)
-          (subst (λ (r : Result (Unit {0}) No). OnOk r (c.try_all.new.config.serial ≡ c.args.config.now.serial + 1 → MakesCalls (4 * good_count c.try_all.new.config.disks) old new)) (sym w.result-is) w.in-Ok.ensures.calls)
+          (subst (λ (r : Result ℕ No). OnOk r (c.try_all.new.config.serial ≡ c.args.config.now.serial + 1 → MakesCalls (4 * good_count c.try_all.new.config.disks) old new)) (sym w.result-is) w.in-Ok.ensures.calls)
       | in-Err w ↦
-          subst (λ (r : Result (Unit {0}) No). OnOk r (c.match-try_all.config.serial ≡ c.args.config.now.serial + 1 → MakesCalls (4 * good_count c.match-try_all.config.disks) old new)) (sym w.result-is) tt
+          subst (λ (r : Result ℕ No). OnOk r (c.match-try_all.config.serial ≡ c.args.config.now.serial + 1 → MakesCalls (4 * good_count c.match-try_all.config.disks) old new)) (sym w.result-is) tt
+    ]
+
+pub returns-clause-named : goal.returns-clause-named
+returns-clause-named g c =
+    let old : Meaning = g.S.Shelf.meaning c.args.shelf.now in
+    let new : Meaning = g.S.Shelf.meaning c.try_all.new.shelf in
+    elim c.match-try_all.branch [
+      | in-Ok w ↦
+          subst (λ (e : Config). IfOk c.match-try_all.result (NamesFailed c.args.config.now e old new)) (sym w.config-is)
+          (subst (λ (r : Result ℕ No). IfOk r (NamesFailed c.args.config.now c.try_all.new.config old new)) (sym w.result-is) w.in-Ok.ensures.named)
+      | in-Err w ↦ subst (λ (r : Result ℕ No). IfOk r (NamesFailed c.args.config.now c.match-try_all.config old new)) (sym w.result-is) tt
     ]

@@ -1,4 +1,4 @@
-use Rattle.std.proofs.Common.{true, length, ap, ◌∙◌, refl, sym, subst, Err}
+use Rattle.std.proofs.Common.{false, true, length, ap, ◌∙◌, refl, sym, subst, Err}
 use Rattle.vx_disk.specs.declared.shelf.ShelfError.{ShelfError}
 use Rattle.vx_kept.specs.States.{staled}
 use Rattle.vx_kept.proofs.StateLemmas.{is_staled}
@@ -10,7 +10,8 @@ use Rattle.vx_group.proofs.DetachLemmas.{left_Narrows, left_Stands, left_others,
 use Rattle.vx_group.proofs.FailingLemmas.{failing_from, few_serial, no_failing}
 use Rattle.vx_group.proofs.GiveLemmas.{keeps_volumes, none_changed}
 use Rattle.vx_group.proofs.Standing.{kept_of, tidy_of}
-use Rattle.vx_group.proofs.detaching.detach.Goals as goal
+use Rattle.vx_group.proofs.TrustLemmas.{stays_committed}
+use Rattle.vx_group.proofs.detaching.detach_named.Goals as goal
 
 pub commit_stale-requires-clause-kept : goal.commit_stale-requires-clause-kept
 commit_stale-requires-clause-kept g c = kept_of c.args.core.now (g.S.Shelf.meaning c.args.shelf.now) c.requires.stands
@@ -19,28 +20,28 @@ pub commit_stale-requires-clause-tidy : goal.commit_stale-requires-clause-tidy
 commit_stale-requires-clause-tidy g c = tidy_of c.args.core.now (g.S.Shelf.meaning c.args.shelf.now) c.requires.stands c.requires.settled
 
 pub returns-then-is_down-clause-stands : goal.returns-then-is_down-clause-stands
-returns-then-is_down-clause-stands g c = taken_Stands c.args.core.now _ c.args.vol c.args.failed.set (g.S.Shelf.meaning c.args.shelf.now) (g.S.Shelf.meaning c.commit_stale.new.shelf) c.requires.stands c.commit_stale.ensures.acts c.commit_stale.ensures.wanted c.commit_stale.ensures.can c.commit_stale.ensures.on refl refl c.in-Ok.ensures.ends c.good_of-core.ensures
+returns-then-is_down-clause-stands g c = taken_Stands c.args.core.now _ c.args.vol c.args.failed.set (g.S.Shelf.meaning c.args.shelf.now) (g.S.Shelf.meaning c.commit_stale.new.shelf) c.requires.stands c.commit_stale.ensures.acts c.commit_stale.ensures.wanted c.commit_stale.ensures.can c.commit_stale.ensures.on refl refl c.in-Ok.ensures.ends c.good_of-core.ensures (c.in-Ok.ensures.trusts c.args.core.now.committed c.args.core.now.agreed c.requires.stands.trusts c.is_committed-core.result c.is_committed-core.ensures.some)
 
 pub returns-then-is_down-clause-narrows : goal.returns-then-is_down-clause-narrows
 returns-then-is_down-clause-narrows g c = taken_Narrows c.args.core.now _ c.args.vol c.args.failed.set (g.S.Shelf.meaning c.args.shelf.now) (g.S.Shelf.meaning c.commit_stale.new.shelf) c.requires.stands c.commit_stale.ensures.acts c.commit_stale.ensures.wanted c.commit_stale.ensures.can c.commit_stale.ensures.on refl refl c.in-Ok.ensures.ends c.good_of-core.ensures
 
 pub returns-then-is_down-2-clause-stands : goal.returns-then-is_down-2-clause-stands
-returns-then-is_down-2-clause-stands g c = left_Stands c.args.core.now _ c.args.vol c.args.failed.set (g.S.Shelf.meaning c.args.shelf.now) (g.S.Shelf.meaning c.commit_stale.new.shelf) c.requires.stands c.commit_stale.ensures.acts c.commit_stale.ensures.wanted c.commit_stale.ensures.can c.commit_stale.ensures.on refl refl (staled c.args.vol c.args.failed.set c.args.core.now.config 8) c.in-Err.no c.in-Err.ensures.ends refl refl
+returns-then-is_down-2-clause-stands g c = left_Stands c.args.core.now _ c.args.vol c.args.failed.set (g.S.Shelf.meaning c.args.shelf.now) (g.S.Shelf.meaning c.commit_stale.new.shelf) c.requires.stands c.commit_stale.ensures.acts c.commit_stale.ensures.wanted c.commit_stale.ensures.can c.commit_stale.ensures.on refl refl (staled c.args.vol c.args.failed.set c.args.core.now.config 8) c.in-Err.no c.in-Err.ensures.ends refl refl (c.in-Err.ensures.trusts c.args.core.now.committed c.args.core.now.agreed c.requires.stands.trusts)
 
 pub returns-then-is_down-2-clause-narrows : goal.returns-then-is_down-2-clause-narrows
 returns-then-is_down-2-clause-narrows g c = left_Narrows c.args.core.now _ c.args.vol c.args.failed.set (g.S.Shelf.meaning c.args.shelf.now) (g.S.Shelf.meaning c.commit_stale.new.shelf) c.requires.stands c.commit_stale.ensures.acts c.commit_stale.ensures.wanted c.commit_stale.ensures.can c.commit_stale.ensures.on refl refl (staled c.args.vol c.args.failed.set c.args.core.now.config 8) c.in-Err.no c.in-Err.ensures.ends refl refl
 
 pub returns-else-is_down-clause-stands : goal.returns-else-is_down-clause-stands
-returns-else-is_down-clause-stands g c = taken_Stands c.args.core.now _ c.args.vol c.args.failed.set (g.S.Shelf.meaning c.args.shelf.now) (g.S.Shelf.meaning c.commit_stale.new.shelf) c.requires.stands c.commit_stale.ensures.acts c.commit_stale.ensures.wanted c.commit_stale.ensures.can c.commit_stale.ensures.on refl refl c.in-Ok.ensures.ends c.good_of-core.ensures
+returns-else-is_down-clause-stands g c = taken_Stands c.args.core.now _ c.args.vol c.args.failed.set (g.S.Shelf.meaning c.args.shelf.now) (g.S.Shelf.meaning c.commit_stale.new.shelf) c.requires.stands c.commit_stale.ensures.acts c.commit_stale.ensures.wanted c.commit_stale.ensures.can c.commit_stale.ensures.on refl refl c.in-Ok.ensures.ends c.good_of-core.ensures (c.in-Ok.ensures.trusts c.args.core.now.committed c.args.core.now.agreed c.requires.stands.trusts c.is_committed-core.result c.is_committed-core.ensures.some)
 
 pub returns-else-is_down-clause-narrows : goal.returns-else-is_down-clause-narrows
 returns-else-is_down-clause-narrows g c = taken_Narrows c.args.core.now _ c.args.vol c.args.failed.set (g.S.Shelf.meaning c.args.shelf.now) (g.S.Shelf.meaning c.commit_stale.new.shelf) c.requires.stands c.commit_stale.ensures.acts c.commit_stale.ensures.wanted c.commit_stale.ensures.can c.commit_stale.ensures.on refl refl c.in-Ok.ensures.ends c.good_of-core.ensures
 
 pub returns-else-is_down-clause-off : goal.returns-else-is_down-clause-off
-returns-else-is_down-clause-off g c = taken_off c.args.core.now (record { config = c.commit_stale.new.config; good = c.good_of-core.result; room = c.commit_stale.new.room; unsettled = c.args.core.now.unsettled; next = c.args.core.now.next; faults = c.args.core.now.faults; unsure = c.args.core.now.unsure }) c.args.vol c.args.failed.set (g.S.Shelf.meaning c.args.shelf.now) (g.S.Shelf.meaning c.commit_stale.new.shelf) c.requires.stands c.commit_stale.ensures.acts c.commit_stale.ensures.wanted c.commit_stale.ensures.can c.commit_stale.ensures.on refl refl c.in-Ok.ensures.ends c.good_of-core.ensures c.requires.those
+returns-else-is_down-clause-off g c = taken_off c.args.core.now (record { config = c.commit_stale.new.config; good = c.good_of-core.result; room = c.commit_stale.new.room; unsettled = c.args.core.now.unsettled; committed = c.is_committed-core.result; agreed = c.is_committed-core.result; next = c.args.core.now.next; faults = c.args.core.now.faults; unsure = c.args.core.now.unsure }) c.args.vol c.args.failed.set (g.S.Shelf.meaning c.args.shelf.now) (g.S.Shelf.meaning c.commit_stale.new.shelf) c.requires.stands c.commit_stale.ensures.acts c.commit_stale.ensures.wanted c.commit_stale.ensures.can c.commit_stale.ensures.on refl refl c.in-Ok.ensures.ends c.good_of-core.ensures c.requires.those
 
 pub returns-else-is_down-2-clause-stands : goal.returns-else-is_down-2-clause-stands
-returns-else-is_down-2-clause-stands g c = left_Stands c.args.core.now _ c.args.vol c.args.failed.set (g.S.Shelf.meaning c.args.shelf.now) (g.S.Shelf.meaning c.commit_stale.new.shelf) c.requires.stands c.commit_stale.ensures.acts c.commit_stale.ensures.wanted c.commit_stale.ensures.can c.commit_stale.ensures.on refl refl (staled c.args.vol c.args.failed.set c.args.core.now.config 8) c.in-Err.no c.in-Err.ensures.ends refl refl
+returns-else-is_down-2-clause-stands g c = left_Stands c.args.core.now _ c.args.vol c.args.failed.set (g.S.Shelf.meaning c.args.shelf.now) (g.S.Shelf.meaning c.commit_stale.new.shelf) c.requires.stands c.commit_stale.ensures.acts c.commit_stale.ensures.wanted c.commit_stale.ensures.can c.commit_stale.ensures.on refl refl (staled c.args.vol c.args.failed.set c.args.core.now.config 8) c.in-Err.no c.in-Err.ensures.ends refl refl (c.in-Err.ensures.trusts c.args.core.now.committed c.args.core.now.agreed c.requires.stands.trusts)
 
 pub returns-else-is_down-2-clause-narrows : goal.returns-else-is_down-2-clause-narrows
 returns-else-is_down-2-clause-narrows g c = left_Narrows c.args.core.now _ c.args.vol c.args.failed.set (g.S.Shelf.meaning c.args.shelf.now) (g.S.Shelf.meaning c.commit_stale.new.shelf) c.requires.stands c.commit_stale.ensures.acts c.commit_stale.ensures.wanted c.commit_stale.ensures.can c.commit_stale.ensures.on refl refl (staled c.args.vol c.args.failed.set c.args.core.now.config 8) c.in-Err.no c.in-Err.ensures.ends refl refl
@@ -52,16 +53,16 @@ pub returns-else-is_down-2-clause-sure : goal.returns-else-is_down-2-clause-sure
 returns-else-is_down-2-clause-sure g c = λ less. subst (λ (e : ShelfError). Blames {T = Unit {0}} (g.S.Shelf.meaning c.args.shelf.now) (g.S.Shelf.meaning c.commit_stale.new.shelf) (Err e)) (sym c.fault_of.ensures) (stop_sure c.args.core.now.good (staled c.args.vol c.args.failed.set c.args.core.now.config 8) _ (g.S.Shelf.meaning c.args.shelf.now) (g.S.Shelf.meaning c.commit_stale.new.shelf) (staled_some c.args.core.now.config c.args.vol c.args.failed.set c.args.core.now.good c.requires.stands.some) (not_down c.is_down-in-Err.result (g.S.Shelf.meaning c.commit_stale.new.shelf).down c.is_down-in-Err.ensures c.if-is_down-2.false) c.in-Err.no c.args.failed.disk (staled_less c.args.core.now.config c.args.vol c.args.failed.set less) c.in-Err.ensures.ends.cause)
 
 pub returns-then-is_down-clause-others : goal.returns-then-is_down-clause-others
-returns-then-is_down-clause-others g c = taken_others c.args.core.now (record { config = c.commit_stale.new.config; good = c.good_of-core.result; room = c.commit_stale.new.room; unsettled = c.args.core.now.unsettled; next = c.args.core.now.next; faults = c.args.core.now.faults; unsure = c.args.core.now.unsure }) c.args.vol c.args.failed.set (g.S.Shelf.meaning c.args.shelf.now) (g.S.Shelf.meaning c.commit_stale.new.shelf) c.requires.stands c.commit_stale.ensures.acts c.commit_stale.ensures.wanted c.commit_stale.ensures.can c.commit_stale.ensures.on refl refl c.in-Ok.ensures.ends c.good_of-core.ensures
+returns-then-is_down-clause-others g c = taken_others c.args.core.now (record { config = c.commit_stale.new.config; good = c.good_of-core.result; room = c.commit_stale.new.room; unsettled = c.args.core.now.unsettled; committed = c.is_committed-core.result; agreed = c.is_committed-core.result; next = c.args.core.now.next; faults = c.args.core.now.faults; unsure = c.args.core.now.unsure }) c.args.vol c.args.failed.set (g.S.Shelf.meaning c.args.shelf.now) (g.S.Shelf.meaning c.commit_stale.new.shelf) c.requires.stands c.commit_stale.ensures.acts c.commit_stale.ensures.wanted c.commit_stale.ensures.can c.commit_stale.ensures.on refl refl c.in-Ok.ensures.ends c.good_of-core.ensures
 
 pub returns-then-is_down-2-clause-others : goal.returns-then-is_down-2-clause-others
-returns-then-is_down-2-clause-others g c = left_others c.args.core.now (record { config = c.commit_stale.new.config; good = c.args.core.now.good; room = c.commit_stale.new.room; unsettled = true; next = c.args.core.now.next; faults = c.args.core.now.faults; unsure = c.args.core.now.unsure }) c.args.vol c.args.failed.set (g.S.Shelf.meaning c.args.shelf.now) (g.S.Shelf.meaning c.commit_stale.new.shelf) c.requires.stands c.commit_stale.ensures.acts c.commit_stale.ensures.wanted c.commit_stale.ensures.can c.commit_stale.ensures.on refl refl (staled c.args.vol c.args.failed.set c.args.core.now.config 8) c.in-Err.no c.in-Err.ensures.ends refl refl
+returns-then-is_down-2-clause-others g c = left_others c.args.core.now (record { config = c.commit_stale.new.config; good = c.args.core.now.good; room = c.commit_stale.new.room; unsettled = true; committed = false; agreed = c.args.core.now.committed; next = c.args.core.now.next; faults = c.args.core.now.faults; unsure = c.args.core.now.unsure }) c.args.vol c.args.failed.set (g.S.Shelf.meaning c.args.shelf.now) (g.S.Shelf.meaning c.commit_stale.new.shelf) c.requires.stands c.commit_stale.ensures.acts c.commit_stale.ensures.wanted c.commit_stale.ensures.can c.commit_stale.ensures.on refl refl (staled c.args.vol c.args.failed.set c.args.core.now.config 8) c.in-Err.no c.in-Err.ensures.ends refl refl
 
 pub returns-else-is_down-clause-others : goal.returns-else-is_down-clause-others
-returns-else-is_down-clause-others g c = taken_others c.args.core.now (record { config = c.commit_stale.new.config; good = c.good_of-core.result; room = c.commit_stale.new.room; unsettled = c.args.core.now.unsettled; next = c.args.core.now.next; faults = c.args.core.now.faults; unsure = c.args.core.now.unsure }) c.args.vol c.args.failed.set (g.S.Shelf.meaning c.args.shelf.now) (g.S.Shelf.meaning c.commit_stale.new.shelf) c.requires.stands c.commit_stale.ensures.acts c.commit_stale.ensures.wanted c.commit_stale.ensures.can c.commit_stale.ensures.on refl refl c.in-Ok.ensures.ends c.good_of-core.ensures
+returns-else-is_down-clause-others g c = taken_others c.args.core.now (record { config = c.commit_stale.new.config; good = c.good_of-core.result; room = c.commit_stale.new.room; unsettled = c.args.core.now.unsettled; committed = c.is_committed-core.result; agreed = c.is_committed-core.result; next = c.args.core.now.next; faults = c.args.core.now.faults; unsure = c.args.core.now.unsure }) c.args.vol c.args.failed.set (g.S.Shelf.meaning c.args.shelf.now) (g.S.Shelf.meaning c.commit_stale.new.shelf) c.requires.stands c.commit_stale.ensures.acts c.commit_stale.ensures.wanted c.commit_stale.ensures.can c.commit_stale.ensures.on refl refl c.in-Ok.ensures.ends c.good_of-core.ensures
 
 pub returns-else-is_down-2-clause-others : goal.returns-else-is_down-2-clause-others
-returns-else-is_down-2-clause-others g c = left_others c.args.core.now (record { config = c.commit_stale.new.config; good = c.args.core.now.good; room = c.commit_stale.new.room; unsettled = true; next = c.args.core.now.next; faults = c.args.core.now.faults; unsure = c.args.core.now.unsure }) c.args.vol c.args.failed.set (g.S.Shelf.meaning c.args.shelf.now) (g.S.Shelf.meaning c.commit_stale.new.shelf) c.requires.stands c.commit_stale.ensures.acts c.commit_stale.ensures.wanted c.commit_stale.ensures.can c.commit_stale.ensures.on refl refl (staled c.args.vol c.args.failed.set c.args.core.now.config 8) c.in-Err.no c.in-Err.ensures.ends refl refl
+returns-else-is_down-2-clause-others g c = left_others c.args.core.now (record { config = c.commit_stale.new.config; good = c.args.core.now.good; room = c.commit_stale.new.room; unsettled = true; committed = false; agreed = c.args.core.now.committed; next = c.args.core.now.next; faults = c.args.core.now.faults; unsure = c.args.core.now.unsure }) c.args.vol c.args.failed.set (g.S.Shelf.meaning c.args.shelf.now) (g.S.Shelf.meaning c.commit_stale.new.shelf) c.requires.stands c.commit_stale.ensures.acts c.commit_stale.ensures.wanted c.commit_stale.ensures.can c.commit_stale.ensures.on refl refl (staled c.args.vol c.args.failed.set c.args.core.now.config 8) c.in-Err.no c.in-Err.ensures.ends refl refl
 
 pub returns-else-is_down-clause-parts : goal.returns-else-is_down-clause-parts
 returns-else-is_down-clause-parts g c =
@@ -123,3 +124,9 @@ returns-then-is_down-2-clause-lies g c =
 pub returns-else-is_down-2-clause-lies : goal.returns-else-is_down-2-clause-lies
 returns-else-is_down-2-clause-lies g c =
     uses_volumes c.args.core.now.config c.commit_stale.new.config c.in-Err.ensures.ends.volumes
+
+pub returns-else-is_down-clause-trust : goal.returns-else-is_down-clause-trust
+returns-else-is_down-clause-trust g c = stays_committed c.args.core.now.committed c.is_committed-core.result (λ off. (c.is_committed-core.ensures.none off).0)
+
+pub returns-then-is_down-clause-agreed : goal.returns-then-is_down-clause-agreed
+returns-then-is_down-clause-agreed g c = stays_committed c.args.core.now.committed c.is_committed-core.result (λ off. (c.is_committed-core.ensures.none off).0)

@@ -1,0 +1,26 @@
+use Rattle.std.proofs.Common.{refl}
+use Rattle.vx_group.proofs.CallLemmas.{both_Narrows}
+use Rattle.vx_group.proofs.DetachLemmas.{zero_bit}
+use Rattle.vx_group.proofs.Standing.{some_active}
+use Rattle.vx_group.proofs.regaining.recommit.Goals as goal
+
+pub detach_named-requires-clause-left : goal.detach_named-requires-clause-left
+detach_named-requires-clause-left g c = λ lt.
+    let some = some_active c.settle_named.new.core (g.S.Shelf.meaning c.settle_named.new.shelf) c.settle_named.ensures.stands 0 lt in
+    record { plex = some.plex; is_on = some.is_on; out = zero_bit 0 some.plex refl }
+
+pub returns-in-Err-detach_named-clause-narrows : goal.returns-in-Err-detach_named-clause-narrows
+returns-in-Err-detach_named-clause-narrows g c =
+    both_Narrows c.args.core.now c.settle_named.new.core c.detach_named.new.core (g.S.Shelf.meaning c.args.shelf.now) (g.S.Shelf.meaning c.settle_named.new.shelf) (g.S.Shelf.meaning c.detach_named.new.shelf) c.settle_named.ensures.volumes c.settle_named.ensures.good c.settle_named.ensures.narrows c.detach_named.ensures.narrows
+
+pub returns-then-missed-clause-narrows : goal.returns-then-missed-clause-narrows
+returns-then-missed-clause-narrows g c =
+    both_Narrows c.args.core.now c.settle_named.new.core c.detach_named.new.core (g.S.Shelf.meaning c.args.shelf.now) (g.S.Shelf.meaning c.settle_named.new.shelf) (g.S.Shelf.meaning c.detach_named.new.shelf) c.settle_named.ensures.volumes c.settle_named.ensures.good c.settle_named.ensures.narrows c.detach_named.ensures.narrows
+
+pub returns-then-lies_on_failed-clause-narrows : goal.returns-then-lies_on_failed-clause-narrows
+returns-then-lies_on_failed-clause-narrows g c =
+    both_Narrows c.args.core.now c.settle_named.new.core c.detach_named.new.core (g.S.Shelf.meaning c.args.shelf.now) (g.S.Shelf.meaning c.settle_named.new.shelf) (g.S.Shelf.meaning c.detach_named.new.shelf) c.settle_named.ensures.volumes c.settle_named.ensures.good c.settle_named.ensures.narrows c.detach_named.ensures.narrows
+
+pub returns-clause-narrows : goal.returns-clause-narrows
+returns-clause-narrows g c =
+    both_Narrows c.args.core.now c.settle_named.new.core c.detach_named.new.core (g.S.Shelf.meaning c.args.shelf.now) (g.S.Shelf.meaning c.settle_named.new.shelf) (g.S.Shelf.meaning c.detach_named.new.shelf) c.settle_named.ensures.volumes c.settle_named.ensures.good c.settle_named.ensures.narrows c.detach_named.ensures.narrows

@@ -1,0 +1,36 @@
+// A crash of the disks on which a group stands, and what may be imported behind it.
+ghost use Rattle.std.specs.Prelude.{◌≡◌, true, IsTrue, IsFalse};
+ghost use Rattle.vx_disk.specs.Causes.{OnDisks};
+ghost use Rattle.vx_disk.specs.Disks.{Crashed, Untouched};
+ghost use Rattle.vx_disk.specs.Racks.{Alike, Stopped};
+ghost use Rattle.vx_group.specs.Resumes.{CanImport};
+ghost use Rattle.vx_group.specs.Stands.{Stands, meaning_of};
+
+use crate::GroupCore;
+use vx_disk::Rack;
+
+/// Crashes the disks on which a group stands. To its volumes this is a crash too: each image that it keeps is one that it might have left.
+/// Where imports agree, the group may be imported behind it.
+pub fn crash_in<R: Rack>(rack: &mut R, core: &GroupCore, pick: u64)
+    requires stands { Stands core.now (R.meaning rack.old) }
+    ensures stopped { Stopped (R.meaning rack.old) (R.meaning rack.new) }
+    ensures disks { OnDisks (R.meaning rack.old).disks (R.meaning rack.new).disks (Crashed (R.meaning rack.old).size pick) }
+    ensures stands { Stands core.now (R.meaning rack.new) }
+    ensures volumes { Stopped (meaning_of core.now (R.meaning rack.old)) (meaning_of core.now (R.meaning rack.new)) }
+    ensures can { core.now.agreed ≡ true → CanImport (R.meaning rack.new) }
+{
+    let _memory = core;
+    rack.crash(pick);
+}
+
+/// Ends the down state of the disks. What could be imported still may.
+pub fn revive<R: Rack>(rack: &mut R)
+    requires down { IsTrue (R.meaning rack.old).down }
+    ensures alike { Alike (R.meaning rack.old) (R.meaning rack.new) }
+    ensures up { IsFalse (R.meaning rack.new).down }
+    ensures armed { (R.meaning rack.new).armed ≡ (R.meaning rack.old).armed }
+    ensures disks { OnDisks (R.meaning rack.old).disks (R.meaning rack.new).disks Untouched }
+    ensures can { CanImport (R.meaning rack.old) → CanImport (R.meaning rack.new) }
+{
+    rack.revive();
+}

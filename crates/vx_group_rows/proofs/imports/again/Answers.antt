@@ -1,0 +1,5 @@
+use Rattle.vx_group_rows.proofs.UntoldLemmas.{untold_can}
+use Rattle.vx_group_rows.proofs.imports.again.Goals as goal
+
+pub import-requires : goal.import-requires
+import-requires c = record { can = untold_can _ (λ u b v left. left) }
