@@ -11,9 +11,10 @@ use Rattle.vx_world.proofs.Doubting.{quiet_good}
 use Rattle.vx_world.proofs.Whole.{empty_good}
 use Rattle.vx_node.specs.declared.yard.Yard.{Yard}
 use Rattle.vx_node.specs.Holds.{AreFresh, RacksHold, RacksTell, rack_faults}
-use Rattle.vx_node.specs.Lines.{script_line}
 use Rattle.vx_events.specs.Fails.{Fails}
-use Rattle.vx_node.specs.Yards.{YardStands, IsTold, count_of, in_files}
+use Rattle.vx_node.specs.Carries.{Carries}
+use Rattle.vx_node.specs.Standing.{Serves, StandsFor}
+use Rattle.vx_node.specs.Yards.{IsTold, count_of, in_files}
 use Rattle.vx_cli.specs.declared.status.Status.{Status}
 use Rattle.vx_cli.specs.declared.status.Status.TheVariants.{OutOfMemory}
 use Rattle.vx_cli.specs.Reading.{MayHave}
@@ -22,7 +23,6 @@ use Rattle.vx_cli.specs.Ends.{RunIs}
 use Rattle.vx_cli.specs.Turns.{YardComes}
 use Rattle.vx_cli.proofs.EndsLemmas.{ends_here}
 use Rattle.vx_cli.proofs.ReaderLemmas.{ahead_some}
-use Rattle.vx_cli.proofs.Sounds.{said_good, last_good}
 use Rattle.vx_cli.proofs.StepLemmas.{line_told, rose_none, rose_same}
 
 -- a run where contents are told is one where even more is told
@@ -36,27 +36,20 @@ run_told f files w (line ∷ lines) (fails ∷ failures) [] new run = run
 run_told f files w (line ∷ lines) (fails ∷ failures) (text ∷ texts) new run =
     (run.0, line_told f files w line fails text run.0 run.1, run_told f files run.0 lines failures texts new run.2)
 
--- all that holds of every world holds of each world of a run
-world_good : (told : Type 0) → told → (files : Bool) (d : Doubted) (lines : List (List ℕ)) (failures : List Fails) (texts : List (List ℕ)) (new : Doubted)
-    → GoodDoubted d → Run told files d lines failures texts new → GoodDoubted new
-world_good told is files d [] [] [] new good run = subst GoodDoubted (sym run) good
-world_good told is files d [] [] (text ∷ texts) new good run = absurd run
-world_good told is files d [] (fails ∷ failures) texts new good run = absurd run
-world_good told is files d (line ∷ lines) [] texts new good run = absurd run
-world_good told is files d (line ∷ lines) (fails ∷ failures) [] new good run = absurd run
-world_good told is files d (line ∷ lines) (fails ∷ failures) (text ∷ texts) new good run =
-    world_good told is files run.0 lines failures texts new (said_good is files d (script_line line) fails text run.0 good run.1) run.2
-
 -- the world without sites is good, and no site of it is in doubt
 begins_good : GoodDoubted (sure empty_world)
 begins_good = quiet_good (sure empty_world) empty_good (λ s. refl)
 
 module _ {R : Type 0} {g : Ghosts R} where
+  -- where a run begins
+  pub begins : (y : Yard R g) → StandsFor (sure empty_world) y → Carries (sure empty_world) y → Serves (sure empty_world) y
+  begins y stands carries = record { stands = stands; carries = carries; good = λ _. begins_good }
+
   -- what a run of a yard came to, with the racks that come back from it
   pub run_is : (files : Bool) (racks : List R) (status : Status) (old new : Yard R g) (left now_left w0 w1 : Option (List ℕ)) (f0 f1 : ℕ → ℕ → ℕ)
       → YardComes 0 (sure empty_world) [] left status old new now_left w0 w1 → in_files old ≡ files
-      → ((d : Doubted) → YardStands d new → RacksHold g.meaning d racks) → ((w : Doubted) → YardStands w new → RacksTell g.meaning racks → IsTold new)
-      → ((s d : ℕ) → count_of old s d ≡ f0 s d) → ((w : Doubted) → YardStands w new → (s d : ℕ) → f1 s d ≡ count_of new s d)
+      → ((d : Doubted) → StandsFor d new → RacksHold g.meaning d racks) → ((w : Doubted) → StandsFor w new → RacksTell g.meaning racks → IsTold new)
+      → ((s d : ℕ) → count_of old s d ≡ f0 s d) → ((w : Doubted) → StandsFor w new → (s d : ℕ) → f1 s d ≡ count_of new s d)
       → RunIs (RacksTell g.meaning racks) files (Leaves g.meaning racks) status left now_left w0 w1 f0 f1
   run_is files racks status old new left now_left w0 w1 f0 f1 comes kept holds told counts after =
       let o = comes.outcome in
@@ -71,16 +64,14 @@ module _ {R : Type 0} {g : Ghosts R} where
           few = o.few;
           behind = o.behind;
           run = subst (λ (f : Bool). Run (RacksTell g.meaning racks) f (sure empty_world) o.part.lines o.part.failures o.part.texts o.behind) kept
-              (run_told (told o.world o.leaves) (in_files old) (sure empty_world) o.part.lines o.part.failures o.part.texts o.behind o.run);
+              (run_told (told o.world o.leaves.stands) (in_files old) (sure empty_world) o.part.lines o.part.failures o.part.texts o.behind o.run);
           last = o.last;
           ends = o.ends;
           appends = o.appends;
-          rose = rose_same (all_fails o.part.failures) (count_of old) (count_of new) f0 f1 (λ s d. sym (counts s d)) (after o.world o.leaves) o.rose;
+          rose = rose_same (all_fails o.part.failures) (count_of old) (count_of new) f0 f1 (λ s d. sym (counts s d)) (after o.world o.leaves.stands) o.rose;
           leaves = record {
-            good = λ tells. last_good status o.part.others o.behind o.world
-                (world_good (IsTold new) (told o.world o.leaves tells) (in_files old) (sure empty_world) o.part.lines o.part.failures o.part.texts o.behind begins_good o.run) o.last;
-            calm = o.leaves.calm;
-            holds = holds o.world o.leaves;
+            good = λ tells. o.leaves.good (told o.world o.leaves.stands tells);
+            holds = holds o.world o.leaves.stands;
           };
         };
       }
@@ -88,7 +79,7 @@ module _ {R : Type 0} {g : Ghosts R} where
 module _ {R : Type 0} (meaning : R → Meaning) where
   -- the racks of a world without sites hold it
   fresh_leave : (racks : List R) → AreFresh meaning racks → Leaves meaning racks (sure empty_world)
-  fresh_leave racks fresh = record { good = λ _. begins_good; calm = refl; holds = record { eight = fresh.eight; each = λ s r below at. absurd (omega arith) } }
+  fresh_leave racks fresh = record { good = λ _. begins_good; holds = record { eight = fresh.eight; each = λ s r below at. absurd (omega arith) } }
 
   -- memory ran out before the run began
   pub run_stops : (T : Type 0) (files : Bool) (racks now : List R) (left w0 : Option (List ℕ)) → AreFresh meaning racks → now ≡ racks

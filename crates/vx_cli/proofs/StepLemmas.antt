@@ -13,9 +13,9 @@ use Rattle.vx_script.specs.declared.line.ScriptLine.{ScriptLine}
 use Rattle.vx_script.specs.declared.line.ScriptLine.TheVariants.{Write, Put}
 use Rattle.vx_script.proofs.GrammarLemmas.{line_of_long}
 use Rattle.vx_events.specs.Doubts.{chosen}
-use Rattle.vx_events.specs.Ends.{Ends, AllDone, DiskFails, HeaderFails, FuseRunsOut, NoNumber, Finds, FindsLinks, FindsNone, AppliesFound, place_of}
+use Rattle.vx_events.specs.Ends.{Ends, AllDone, DiskFails, HeaderFails, FuseRunsOut, NoNumber, ShowsReceived, Finds, FindsLinks, FindsNone, AppliesFound, place_of}
 use Rattle.vx_events.specs.Fails.{Fails}
-use Rattle.vx_events.specs.LinkEnds.{LinkEnds, LinksDone, LinksHalt, AppliesPart, LinksCut, LogUnread, NoHeader}
+use Rattle.vx_events.specs.LinkEnds.{LinkEnds, LinksDone, LinksHalt, AppliesPart, AppliesCut, LinksCut, LinksFind, LogUnread, NoHeader}
 use Rattle.vx_events.specs.LinkedFacts.{refused_by}
 use Rattle.vx_events.specs.Lines.{Counts, EndsBy, StepBy, is_of_links}
 use Rattle.vx_events.specs.Lists.{events_of}
@@ -60,8 +60,10 @@ module _ {T U : Type 0} (f : U → T) where
   ends_told d line s fails said new (HeaderFails c e b disk list leaves writes one says leads) = HeaderFails c e b disk list leaves writes one says leads
   ends_told d line s fails said new (FuseRunsOut c e begun list is fused none says leads) = FuseRunsOut c e begun list is fused none says leads
   ends_told d line s fails said new (NoNumber c taken before e rest list may least none says leads) = NoNumber c taken before e rest list may (λ u. least (f u)) none says leads
+  ends_told d line s fails said new (ShowsReceived site volume start count is role gives none leads) =
+      ShowsReceived site volume start count is role (record { bytes = gives.bytes; got = gives.got; size = gives.size; is = λ u. gives.is (f u) }) none leads
   ends_told d line s fails said new (Finds never c taken site mid n k is from same none says leads) = Finds (λ u. never (f u)) c taken site mid n k is from same none says leads
-  ends_told d line s fails said new (FindsLinks never c taken site mid n k row is from same fits none says leads) = FindsLinks (λ u. never (f u)) c taken site mid n k row is from same fits none says leads
+  ends_told d line s fails said new (FindsLinks never c taken site mid n k row is from comes none says leads) = FindsLinks (λ u. never (f u)) c taken site mid n k row is from comes none says leads
   ends_told d line s fails said new (FindsNone never c taken site mid n why is from other none says leads) = FindsNone (λ u. never (f u)) c taken site mid n why is from other none says leads
   ends_told d line s fails said new (AppliesFound never site to number is role least most none says leads) = AppliesFound (λ u. never (f u)) site to number is role least most none says leads
 
@@ -69,9 +71,11 @@ module _ {T U : Type 0} (f : U → T) where
   links_told d line fails said new (LinksDone last runs none is says leads) = LinksDone last runs none is says leads
   links_told d line fails said new (LinksHalt e site disk middle comes is says leads) = LinksHalt e site disk middle comes is says leads
   links_told d line fails said new (AppliesPart before rest site count reached disk last split runs none is says leads) = AppliesPart before rest site count reached disk last split runs none is says leads
+  links_told d line fails said new (AppliesCut before rest site count reached kept taken middle split runs none opens fused failed says leads) = AppliesCut before rest site count reached kept taken middle split runs none opens fused failed says leads
   links_told d line fails said new (LinksCut e site kept taken middle comes fused none says leads) = LinksCut e site kept taken middle comes fused none says leads
   links_told d line fails said new (LogUnread before rest e site disk middle split reads runs none is says leads) = LogUnread before rest e site disk middle split reads runs none is says leads
   links_told d line fails said new (NoHeader before rest e site middle split takes runs none most is says leads) = NoHeader before rest e site middle split takes runs none (λ u. most (f u)) is says leads
+  links_told d line fails said new (LinksFind never last finds leads) = LinksFind (λ u. never (f u)) last finds leads
 
   kind_told : (links : Bool) (d : Doubted) (line : ScriptLine) (fails : Fails) (said : Said) (new : Doubted) → EndsBy links T d line fails said new → EndsBy links U d line fails said new
   kind_told true d line fails said new x = links_told d line fails said new x

@@ -12,62 +12,81 @@ use Rattle.vx_stream.proofs.SendLemmas.{appends_none}
 use Rattle.vx_node.specs.declared.yard.Yard.{Yard}
 use Rattle.vx_node.specs.Lines.{script_line}
 use Rattle.vx_node.specs.Steps.{SaidStep}
-use Rattle.vx_node.specs.Yards.{YardStands, StopsShort, Steps, IsTold, count_of, in_files}
+use Rattle.vx_node.specs.Standing.{Serves, StepsFor, StopsFor}
+use Rattle.vx_node.specs.Yards.{IsTold, count_of, in_files}
 use Rattle.vx_cli.specs.declared.reader.Next.TheVariants as nexts
 use Rattle.vx_cli.specs.declared.status.Status.{Status}
 use Rattle.vx_cli.specs.declared.status.Status.TheVariants.{Done, Usage, BadLine, ReadFault, WriteFault, OutOfMemory, TooLong}
 use Rattle.vx_cli.specs.Reading.{MayHave, Ahead, Follows, IsWhole, IsLong, IsMore, NextIs}
 use Rattle.vx_cli.specs.Texts.{bad_text}
 use Rattle.vx_cli.specs.Ends.{IsNonEmpty, AtReply, AtBad, Ends, PartOfLine, PartOfNext, Outcome}
-use Rattle.vx_cli.specs.Turns.{BadIs, Did, StaysFor, MemoryStops, StopsBefore, StopsWithin, StopsBehind, WriteStops, StopsAtReply, StopsAtBad, AnswerIs, YardComes, TurnIs, Reaches}
+use Rattle.vx_cli.specs.Turns.{BadIs, Did, DidPart, StaysFor, MemoryStops, StopsBefore, StopsWithin, StopsBehind, WriteStops, StopsAtReply, StopsAtBad, AnswerIs, YardComes, TurnIs, Reaches}
 use Rattle.vx_cli.proofs.StepLemmas.{script_line_long, rose_none, line_told}
 use Rattle.vx_cli.proofs.EndsLemmas.{no_part, one_part, outcome_more, ends_within, ends_here, ends_one, bad_next, bad_first, zero_more}
 use Rattle.vx_cli.proofs.ReaderLemmas.{ahead_some}
+use Rattle.vx_cli.proofs.Sounds.{part_good, said_good}
 
 module _ {R : Type 0} {g : Ghosts R} where
   -- nothing was done
-  pub stays : (w : Doubted) (y : Yard R g) → YardStands w y → StaysFor w y y
-  stays w y stands = record { stands = stands; rose = rose_none (count_of y) }
+  pub stays : (w : Doubted) (y : Yard R g) → Serves w y → StaysFor w y y
+  stays w y serves = record { serves = serves; rose = rose_none (count_of y) }
 
   -- an empty line or a comment
-  pub did_nothing : (w : Doubted) (line : List ℕ) (y : Yard R g) → script_line line ≡ Ok None → YardStands w y → Did w line y y []
-  did_nothing w line y e stands = record {
+  pub did_nothing : (w : Doubted) (line : List ℕ) (y : Yard R g) → script_line line ≡ Ok None → Serves w y → Did w line y y []
+  did_nothing w line y e serves = record {
     world = w;
     fails = [];
     step = subst (λ (r : Result (Option ScriptLine) ℕ). SaidStep (IsTold y) (in_files y) w r [] [] w) (sym e) (refl, refl, refl);
-    stands = stands;
+    serves = serves;
     rose = rose_none (count_of y);
   }
 
   -- a line that the yard did
-  pub did_line : (w : Doubted) (line : List ℕ) (words : ScriptLine) (old new : Yard R g) (text : List ℕ) → script_line line ≡ Ok (Some words) → Steps w words old new text → Did w line old new text
-  did_line w line words old new text e steps = record {
-    world = steps.next;
-    fails = steps.fails;
-    step = subst (λ (r : Result (Option ScriptLine) ℕ). SaidStep (IsTold new) (in_files old) w r steps.fails text steps.next) (sym e) steps.prints;
-    stands = steps.stands;
-    rose = steps.rose;
+  pub did_line : (w : Doubted) (line : List ℕ) (words : ScriptLine) (old new : Yard R g) (text : List ℕ) → script_line line ≡ Ok (Some words) → Serves w old → (IsTold new → IsTold old) → StepsFor w words old new text
+      → Did w line old new text
+  did_line w line words old new text e serves told steps =
+      let step : SaidStep (IsTold new) (in_files old) w (script_line line) steps.fails text steps.next =
+      subst (λ (r : Result (Option ScriptLine) ℕ). SaidStep (IsTold new) (in_files old) w r steps.fails text steps.next) (sym e) steps.prints in
+      record {
+        world = steps.next;
+        fails = steps.fails;
+        step = step;
+        serves = record {
+          stands = steps.stands;
+          carries = steps.carries serves.carries;
+          good = λ t. said_good t (in_files old) w (script_line line) steps.fails text steps.next (serves.good (told t)) step;
+        };
+        rose = steps.rose;
+      }
+
+  -- a line of which a first part was done
+  did_part : (w : Doubted) (words : ScriptLine) (old new : Yard R g) → Serves w old → (IsTold new → IsTold old) → StopsFor w words old new → DidPart w words old new
+  did_part w words old new serves told stops = record {
+    next = stops.next;
+    part = stops.part;
+    serves = record { stands = stops.stands; carries = stops.carries serves.carries; good = λ t. part_good w words stops.next (serves.good (told t)) stops.part };
+    rose = stops.rose;
   }
 
-  pub memory_answer : (w : Doubted) (line : List ℕ) (words : ScriptLine) (old new : Yard R g) → script_line line ≡ Ok (Some words) → StopsShort w words old new ⊎ ((text : List ℕ) × Steps w words old new text)
-      → MemoryStops w line old new
-  memory_answer w line words old new e (inl short) = StopsWithin words e short
-  memory_answer w line words old new e (inr did) = StopsBehind did.0 (did_line w line words old new did.0 e did.1)
+  pub memory_answer : (w : Doubted) (line : List ℕ) (words : ScriptLine) (old new : Yard R g) → script_line line ≡ Ok (Some words) → Serves w old → (IsTold new → IsTold old)
+      → StopsFor w words old new ⊎ ((text : List ℕ) × StepsFor w words old new text) → MemoryStops w line old new
+  memory_answer w line words old new e serves told (inl short) = StopsWithin words e (did_part w words old new serves told short)
+  memory_answer w line words old new e serves told (inr did) = StopsBehind did.0 (did_line w line words old new did.0 e serves told did.1)
 
   pub bad_answer : (n : ℕ) (w : Doubted) (line : List ℕ) (column : ℕ) (status : Status) (y : Yard R g) (w0 w1 : Option (List ℕ))
-      → script_line line ≡ Err column → YardStands w y → BadIs (n + 1) column status w0 w1 → AnswerIs n w line (Some status) y y w0 w1
-  bad_answer n w line column (BadLine l c) y w0 w1 e stands is = (
+      → script_line line ≡ Err column → Serves w y → BadIs (n + 1) column status w0 w1 → AnswerIs n w line (Some status) y y w0 w1
+  bad_answer n w line column (BadLine l c) y w0 w1 e serves is = (
     is.0,
     e ∙ ap Err (sym is.1),
-    stays w y stands,
+    stays w y serves,
     subst (λ (k : ℕ). Appends w0 w1 (bad_text k c)) (sym is.0) (subst (λ (k : ℕ). Appends w0 w1 (bad_text (n + 1) k)) (sym is.1) is.2),
   )
-  bad_answer n w line column WriteFault y w0 w1 e stands is = StopsAtBad column is.0 e (stays w y stands) is.1 is.2
-  bad_answer n w line column OutOfMemory y w0 w1 e stands is = (StopsBefore (stays w y stands), is)
-  bad_answer n w line column Done y w0 w1 e stands is = absurd is
-  bad_answer n w line column Usage y w0 w1 e stands is = absurd is
-  bad_answer n w line column ReadFault y w0 w1 e stands is = absurd is
-  bad_answer n w line column TooLong y w0 w1 e stands is = absurd is
+  bad_answer n w line column WriteFault y w0 w1 e serves is = StopsAtBad column is.0 e (stays w y serves) is.1 is.2
+  bad_answer n w line column OutOfMemory y w0 w1 e serves is = (StopsBefore (stays w y serves), is)
+  bad_answer n w line column Done y w0 w1 e serves is = absurd is
+  bad_answer n w line column Usage y w0 w1 e serves is = absurd is
+  bad_answer n w line column ReadFault y w0 w1 e serves is = absurd is
+  bad_answer n w line column TooLong y w0 w1 e serves is = absurd is
 
   -- the run ends before its next line
   comes_here : (n : ℕ) (w : Doubted) (held : List ℕ) (left : Option (List ℕ)) (bytes : List ℕ) (status : Status) (old new : Yard R g) (now_left w0 w1 : Option (List ℕ)) (out : List ℕ)
@@ -76,7 +95,7 @@ module _ {R : Type 0} {g : Ghosts R} where
   comes_here n w held left bytes status old new now_left w0 w1 out ahead few ends wrote same = record {
     bytes = bytes;
     ahead = ahead;
-    outcome = ends_here n w bytes status now_left w0 w1 (count_of old) (count_of new) out few ends wrote same.rose same.stands;
+    outcome = ends_here n w bytes status now_left w0 w1 (count_of old) (count_of new) out few ends wrote same.rose same.serves;
   }
 
   -- the run ends with a line
@@ -86,7 +105,7 @@ module _ {R : Type 0} {g : Ghosts R} where
   comes_one n w held left bytes line others status old new now_left w0 w1 text out ahead few split did ends wrote = record {
     bytes = bytes;
     ahead = ahead;
-    outcome = ends_one n w did.world bytes line others status now_left w0 w1 (count_of old) (count_of new) did.fails text out few split did.step did.rose ends wrote did.stands;
+    outcome = ends_one n w did.world bytes line others status now_left w0 w1 (count_of old) (count_of new) did.fails text out few split did.step did.rose ends wrote did.serves;
   }
 
   write_stops : (n : ℕ) (w : Doubted) (held : List ℕ) (left : Option (List ℕ)) (bytes line : List ℕ) (others : List (List ℕ)) (old new : Yard R g) (now_left w0 w1 : Option (List ℕ))
@@ -100,7 +119,7 @@ module _ {R : Type 0} {g : Ghosts R} where
   -- memory ran out within a line
   comes_within : (n : ℕ) (w : Doubted) (held : List ℕ) (left : Option (List ℕ)) (bytes line : List ℕ) (others : List (List ℕ)) (words : ScriptLine) (old new : Yard R g)
       (now_left w0 w1 : Option (List ℕ)) → Ahead held left bytes → lines_of bytes ≡ line ∷ others → n < 1000000 → script_line line ≡ Ok (Some words)
-      → StopsShort w words old new → Appends w0 w1 [] → YardComes n w held left OutOfMemory old new now_left w0 w1
+      → DidPart w words old new → Appends w0 w1 [] → YardComes n w held left OutOfMemory old new now_left w0 w1
   comes_within n w held left bytes line others words old new now_left w0 w1 ahead split few e short wrote =
       let part : PartOfLine (script_line line) w short.next = subst (λ (r : Result (Option ScriptLine) ℕ). PartOfLine r w short.next) (sym e) short.part in
       record {
@@ -108,7 +127,7 @@ module _ {R : Type 0} {g : Ghosts R} where
         ahead = ahead;
         outcome = ends_within n w short.next bytes OutOfMemory now_left w0 w1 (count_of old) (count_of new) [] (omega arith)
             (subst (λ (ls : List (List ℕ)). PartOfNext ls w short.next) (sym split) part)
-            (record { sent = []; unsent = []; texts = refl; last = omega arith; is = refl }) wrote short.rose short.stands;
+            (record { sent = []; unsent = []; texts = refl; last = omega arith; is = refl }) wrote short.rose short.serves;
       }
 
   memory_stops : (n : ℕ) (w : Doubted) (held : List ℕ) (left : Option (List ℕ)) (bytes line : List ℕ) (others : List (List ℕ)) (old new : Yard R g) (now_left w0 w1 : Option (List ℕ))
@@ -159,39 +178,39 @@ module _ {R : Type 0} {g : Ghosts R} where
 
   -- nothing was left to read
   pub turn_end : (n : ℕ) (w : Doubted) (held : List ℕ) (left : Option (List ℕ)) (y : Yard R g) (now_left written : Option (List ℕ))
-      → Ahead held left [] → MayHave now_left [] → n ≤ 1000000 → YardStands w y → YardComes n w held left Done y y now_left written written
-  turn_end n w held left y now_left written ahead end few stands =
-      comes_here n w held left [] Done y y now_left written written [] ahead few (refl, end, refl) (appends_none written) (stays w y stands)
+      → Ahead held left [] → MayHave now_left [] → n ≤ 1000000 → Serves w y → YardComes n w held left Done y y now_left written written
+  turn_end n w held left y now_left written ahead end few serves =
+      comes_here n w held left [] Done y y now_left written written [] ahead few (refl, end, refl) (appends_none written) (stays w y serves)
 
   -- the source failed
   pub turn_fault : (n : ℕ) (w : Doubted) (held : List ℕ) (left : Option (List ℕ)) (y : Yard R g) (now_held : List ℕ) (now_left written : Option (List ℕ))
-      → IsPlain now_held → Follows held left [] now_held now_left → n ≤ 1000000 → YardStands w y → YardComes n w held left ReadFault y y now_left written written
-  turn_fault n w held left y now_held now_left written plain follows few stands =
+      → IsPlain now_held → Follows held left [] now_held now_left → n ≤ 1000000 → Serves w y → YardComes n w held left ReadFault y y now_left written written
+  turn_fault n w held left y now_held now_left written plain follows few serves =
       let some = ahead_some now_held now_left in let at = some.1 in
       comes_here n w held left some.0 ReadFault y y now_left written written [] (follows.before some.0 at) few
-      (record { got = now_held; rest = at.rest; has = at.has; split = at.is; lines = sym (whole_lines_of_last now_held plain); is = refl }) (appends_none written) (stays w y stands)
+      (record { got = now_held; rest = at.rest; has = at.has; split = at.is; lines = sym (whole_lines_of_last now_held plain); is = refl }) (appends_none written) (stays w y serves)
 
   -- memory ran out
   pub turn_memory : (n : ℕ) (w : Doubted) (held : List ℕ) (left : Option (List ℕ)) (y : Yard R g) (now_left written : Option (List ℕ))
-      → n ≤ 1000000 → YardStands w y → YardComes n w held left OutOfMemory y y now_left written written
-  turn_memory n w held left y now_left written few stands =
+      → n ≤ 1000000 → Serves w y → YardComes n w held left OutOfMemory y y now_left written written
+  turn_memory n w held left y now_left written few serves =
       let some = ahead_some held left in
-      comes_here n w held left some.0 OutOfMemory y y now_left written written [] some.1 few (record { sent = []; unsent = []; texts = refl; last = omega arith; is = refl }) (appends_none written) (stays w y stands)
+      comes_here n w held left some.0 OutOfMemory y y now_left written written [] some.1 few (record { sent = []; unsent = []; texts = refl; last = omega arith; is = refl }) (appends_none written) (stays w y serves)
 
   -- a line was too long
   pub turn_long : (n : ℕ) (w : Doubted) (held : List ℕ) (left : Option (List ℕ)) (status : Status) (y : Yard R g) (now_left w0 w1 : Option (List ℕ))
-      → IsLong held left → BadIs (n + 1) 4097 status w0 w1 → n < 1000000 → YardStands w y → YardComes n w held left status y y now_left w0 w1
-  turn_long n w held left status y now_left w0 w1 long is few stands =
+      → IsLong held left → BadIs (n + 1) 4097 status w0 w1 → n < 1000000 → Serves w y → YardComes n w held left status y y now_left w0 w1
+  turn_long n w held left status y now_left w0 w1 long is few serves =
       turn_stop n w held left long.bytes long.line long.others status y y now_left w0 w1 long.ahead long.lines
-      (bad_answer n w long.line 4097 status y w0 w1 (script_line_long long.line long.long) stands is) few
+      (bad_answer n w long.line 4097 status y w0 w1 (script_line_long long.line long.long) serves is) few
 
   -- as many lines as may be were done, and another byte follows
   pub turn_most : (n : ℕ) (w : Doubted) (held : List ℕ) (left : Option (List ℕ)) (y : Yard R g) (now_left written : Option (List ℕ))
-      → n ≡ 1000000 → IsMore held left → YardStands w y → YardComes n w held left TooLong y y now_left written written
-  turn_most n w held left y now_left written most more stands =
+      → n ≡ 1000000 → IsMore held left → Serves w y → YardComes n w held left TooLong y y now_left written written
+  turn_most n w held left y now_left written most more serves =
       let first = some_line more.first more.others in
       comes_here n w held left (more.first ∷ more.others) TooLong y y now_left written written [] more.ahead (omega (arith, most))
-      (omega (arith, most), subst IsNonEmpty (sym first.2) tt, refl) (appends_none written) (stays w y stands)
+      (omega (arith, most), subst IsNonEmpty (sym first.2) tt, refl) (appends_none written) (stays w y serves)
 
   -- the rest of a run with a line before it
   pub comes_more : (n : ℕ) (w : Doubted) (held : List ℕ) (left : Option (List ℕ)) (raw line text now_held : List ℕ) (now_left : Option (List ℕ)) (status : Status) (old new last : Yard R g)
@@ -204,13 +223,13 @@ module _ {R : Type 0} {g : Ghosts R} where
         ahead = follows.before rest.bytes rest.ahead;
         outcome = outcome_more n w did.world raw line rest.bytes status last_left w0 w1 w2 (count_of old) (count_of new) (count_of last) did.fails text whole
             (line_told told (in_files old) w line did.fails text did.world did.step) wrote did.rose
-            (subst (λ (f : Bool). Outcome (IsTold last) f (λ v. YardStands v last) (n + 1) did.world rest.bytes status last_left w1 w2 (count_of new) (count_of last)) files rest.outcome);
+            (subst (λ (f : Bool). Outcome (IsTold last) f (λ v. Serves v last) (n + 1) did.world rest.bytes status last_left w1 w2 (count_of new) (count_of last)) files rest.outcome);
       }
 
   -- where the loop begins, and where it stands after one more line
-  pub reaches_first : (y : Yard R g) (held : List ℕ) (left written : Option (List ℕ)) → YardStands (sure empty_world) y → held ≡ [] → Reaches 0 y y [] held left left written written
-  reaches_first y held left written stands none = subst (λ (h : List ℕ). Reaches 0 y y [] h left left written written) (sym none)
-      (record { world = (sure empty_world); stands = stands; goes = λ last status last_left last_written told rest. rest })
+  pub reaches_first : (y : Yard R g) (held : List ℕ) (left written : Option (List ℕ)) → Serves (sure empty_world) y → held ≡ [] → Reaches 0 y y [] held left left written written
+  reaches_first y held left written serves none = subst (λ (h : List ℕ). Reaches 0 y y [] h left left written written) (sym none)
+      (record { world = (sure empty_world); serves = serves; goes = λ last status last_left last_written told rest. rest })
 
   pub reaches_more : (n : ℕ) (first old new : Yard R g) (held0 held now_held : List ℕ) (left0 left now_left w0 w1 w2 : Option (List ℕ))
       → (at : Reaches n first old held0 held left0 left w0 w1) → TurnIs n at.world held left None old new now_held now_left w1 w2
@@ -219,7 +238,7 @@ module _ {R : Type 0} {g : Ghosts R} where
       let did = is.4.1 in
       record {
         world = did.world;
-        stands = did.stands;
+        serves = did.serves;
         goes = λ last status last_left last_written knows rest. at.goes last status last_left last_written (λ t. told (knows t))
             (comes_more n at.world held left is.1 is.0 is.4.0 now_held now_left status old new last last_left w1 w2 last_written is.2 is.3 did is.4.2 knows files rest);
       }

@@ -1,7 +1,6 @@
 -- Whole runs: the lines, the failed calls in each, and the text of each.
 use Rattle.std.specs.Prelude.{◌≡◌, ℕ, Bool, List, [], ◌∷◌, ◌++◌}
 use Rattle.vx_history.specs.Doubts.{Doubted}
-use Rattle.vx_events.specs.Doubts.{sure}
 use Rattle.vx_world.specs.Lines.{GoodDoubted}
 use Rattle.vx_disk.specs.Shelf.{Meaning}
 use Rattle.vx_node.specs.Holds.{RacksHold, RacksTell}
@@ -25,8 +24,7 @@ all_fails (fails ∷ failures) = fails ++ all_fails failures
 
 module _ {R : Type 0} (meaning : R → Meaning) where
   -- The world at the end of a run: the racks hold it. Where they tell their contents it is good, as every world is that comes about, whichever
-  -- of the sites in doubt are as they may be on their disks. Today no site is in doubt then.
+  -- of the sites in doubt are as they may be on their disks.
   pub record Leaves (racks : List R) (d : Doubted) : Type 0 where
     pub good : RacksTell meaning racks → GoodDoubted d
-    pub calm : d ≡ sure d.world
     pub holds : RacksHold meaning d racks

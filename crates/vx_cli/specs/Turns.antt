@@ -10,7 +10,9 @@ use Rattle.vx_node.specs.Lines.{script_line}
 use Rattle.vx_node.specs.Stands.{RoseAll}
 use Rattle.vx_node.specs.Steps.{LineStep}
 use Rattle.vx_events.specs.Fails.{Fails}
-use Rattle.vx_node.specs.Yards.{YardStands, StopsShort, IsTold, count_of, in_files}
+use Rattle.vx_events.specs.Parts.{DonePart}
+use Rattle.vx_node.specs.Standing.{Serves}
+use Rattle.vx_node.specs.Yards.{IsTold, count_of, in_files}
 use Rattle.vx_node.specs.declared.yard.Yard.{Yard}
 use Rattle.vx_cli.specs.Ends.{Outcome}
 use Rattle.vx_cli.specs.Reading.{Ahead, Follows, IsWhole}
@@ -38,18 +40,25 @@ module _ {R : Type 0} {g : Ghosts R} where
     pub world : Doubted
     pub fails : Fails
     pub step : LineStep (IsTold new) (in_files old) d line fails text world
-    pub stands : YardStands world new
+    pub serves : Serves world new
     pub rose : RoseAll fails (count_of old) (count_of new)
 
   -- nothing of a line was done
   pub record StaysFor (d : Doubted) (old new : Yard R g) : Type 0 where
-    pub stands : YardStands d new
+    pub serves : Serves d new
+    pub rose : RoseAll [] (count_of old) (count_of new)
+
+  -- a first part of the events of a line was done
+  pub record DidPart (d : Doubted) (words : ScriptLine) (old new : Yard R g) : Type 0 where
+    pub next : Doubted
+    pub part : DonePart d words next
+    pub serves : Serves next new
     pub rose : RoseAll [] (count_of old) (count_of new)
 
   -- memory ran out before a line was known, within it, or behind it
   pub data MemoryStops (d : Doubted) (line : List ℕ) (old new : Yard R g) : Type 0 where
     StopsBefore : StaysFor d old new → MemoryStops d line old new
-    StopsWithin : (words : ScriptLine) → script_line line ≡ Ok (Some words) → StopsShort d words old new → MemoryStops d line old new
+    StopsWithin : (words : ScriptLine) → script_line line ≡ Ok (Some words) → DidPart d words old new → MemoryStops d line old new
     StopsBehind : (text : List ℕ) → Did d line old new text → MemoryStops d line old new
 
   -- the sink failed at a reply, or at the line that says where the script is wrong
@@ -70,7 +79,7 @@ module _ {R : Type 0} {g : Ghosts R} where
   -- what the rest of a run came to, with the yard that it left
   abbrev pub YardComes : ℕ → Doubted → List ℕ → Option (List ℕ) → Status → Yard R g → Yard R g → Option (List ℕ) → Option (List ℕ) → Option (List ℕ) → Type 0
   YardComes n d held left status old new now_left written now =
-      Comes (IsTold new) (in_files old) (λ v. YardStands v new) n d held left status now_left written now (count_of old) (count_of new)
+      Comes (IsTold new) (in_files old) (λ v. Serves v new) n d held left status now_left written now (count_of old) (count_of new)
 
   -- one line was read and answered, or the run ended there
   abbrev pub TurnIs : ℕ → Doubted → List ℕ → Option (List ℕ) → Option Status → Yard R g → Yard R g → List ℕ → Option (List ℕ) → Option (List ℕ) → Option (List ℕ) → Type 0
@@ -81,6 +90,6 @@ module _ {R : Type 0} {g : Ghosts R} where
   -- Where the loop stands: what the rest comes to, the whole comes to.
   pub record Reaches (n : ℕ) (first now : Yard R g) (held0 held : List ℕ) (left0 left written0 written : Option (List ℕ)) : Type 0 where
     pub world : Doubted
-    pub stands : YardStands world now
+    pub serves : Serves world now
     pub goes : (last : Yard R g) (status : Status) (last_left last_written : Option (List ℕ)) → (IsTold last → IsTold now)
         → YardComes n world held left status now last last_left written last_written → YardComes 0 (sure empty_world) held0 left0 status first last last_left written0 last_written

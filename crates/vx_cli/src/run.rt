@@ -4,7 +4,7 @@ ghost use Rattle.vx_history.specs.World.{empty_world};
 ghost use Rattle.vx_events.specs.Doubts.{sure};
 ghost use Rattle.vx_stream.specs.Causes.{Rose};
 ghost use Rattle.vx_node.specs.Holds.{AreFresh, RacksTell, rack_faults};
-ghost use Rattle.vx_node.specs.Yards.{YardStands};
+ghost use Rattle.vx_node.specs.Standing.{Serves};
 ghost use Rattle.vx_cli.specs.Ends.{RunIs};
 ghost use Rattle.vx_cli.specs.Runs.{Leaves};
 ghost use Rattle.vx_cli.specs.Turns.{YardComes};
@@ -25,7 +25,7 @@ fn answer_all<I: Source, O: Sink, R: Rack>(
     source: &mut I,
     sink: &mut O,
 ) -> Status
-    requires { YardStands (sure empty_world) yard.old }
+    requires serves { Serves (sure empty_world) yard.old }
     ensures run { YardComes 0 (sure empty_world) [] (I.left source.old) result yard.old yard.new (I.left source.new) (O.written sink.old) (O.written sink.new) }
     ensures read_later { I.faults source.old ≤ I.faults source.new }
     ensures read { result ≡ Status.ReadFault → Rose (I.faults source.old) (I.faults source.new) }

@@ -2,7 +2,8 @@
 ghost use Rattle.std.specs.Prelude.{◌≡◌, ◌≤◌, ◌<◌, ◌^◌, ℕ, Some};
 ghost use Rattle.vx_history.specs.Doubts.{Doubted};
 ghost use Rattle.vx_stream.specs.Causes.{Rose};
-ghost use Rattle.vx_node.specs.Yards.{IsKept, YardStands, IsTold, in_files};
+ghost use Rattle.vx_node.specs.Standing.{Serves};
+ghost use Rattle.vx_node.specs.Yards.{IsKept, IsTold, in_files};
 ghost use Rattle.vx_cli.specs.Turns.{AnswerIs, TurnIs};
 
 use crate::Status;
@@ -26,7 +27,7 @@ fn answer<O: Sink, R: Rack>(
 ) -> Option<Status>
     requires kept { IsKept yard.old }
     requires few { number ≤ MOST_NUMBER }
-    ensures answer { (d : Doubted) → YardStands d yard.old
+    ensures answer { (d : Doubted) → Serves d yard.old
         → AnswerIs number d line.now result yard.old yard.new (O.written sink.old) (O.written sink.new) }
     ensures told { IsTold yard.new → IsTold yard.old }
     ensures files { in_files yard.new ≡ in_files yard.old }
@@ -58,7 +59,7 @@ pub fn turn<I: Source, O: Sink, R: Rack>(
 ) -> Option<Status>
     requires kept { IsKept yard.old }
     requires few { number < 1000000 }
-    ensures turn { (d : Doubted) → YardStands d yard.old
+    ensures turn { (d : Doubted) → Serves d yard.old
         → TurnIs number d held.old.items (I.left source.old) result yard.old yard.new held.new.items (I.left source.new) (O.written sink.old) (O.written sink.new) }
     ensures told { IsTold yard.new → IsTold yard.old }
     ensures files { in_files yard.new ≡ in_files yard.old }

@@ -1,6 +1,6 @@
 -- What a line is answered and prints, where sites may keep links and be in doubt.
-use Rattle.std.proofs.Common.{◌≡◌, ◌∙◌, Bool, true, false, List, [], ap, sym, subst, refl, arith}
-use Rattle.std.specs.Prelude.{IfOk, Option, Some, None, Result, Ok, Err}
+use Rattle.std.proofs.Common.{◌≡◌, ◌∙◌, ◌+◌, Bool, true, List, [], length, ap, sym, subst, refl, arith}
+use Rattle.std.specs.Prelude.{IfOk, Option, Some, None, Result, Ok, Err, nat_lt, suc, ℕ, if◌then◌else◌}
 use Rattle.vx_history.specs.Doubts.{Doubted}
 use Rattle.vx_history.specs.World.{World}
 use Rattle.vx_model.specs.declared.errors.OutOfMemory.{OutOfMemory}
@@ -10,25 +10,35 @@ use Rattle.vx_order.specs.Order.{refusal_of}
 use Rattle.vx_order.specs.declared.facts.SiteFacts.{SiteFacts}
 use Rattle.vx_script.specs.declared.line.ScriptLine.{ScriptLine}
 use Rattle.vx_script.specs.declared.line.ScriptLine.TheVariants.{Deliver}
-use Rattle.vx_events.proofs.Calm.{none_sent}
 use Rattle.vx_events.proofs.Parts.{none_done}
 use Rattle.vx_events.specs.LinkedFacts.{linked_facts, refused_by}
+use Rattle.vx_events.specs.Sent.{sent_between}
 use Rattle.vx_events.specs.Lines.{StepBy}
 use Rattle.vx_events.specs.declared.said.Said.{Said}
 use Rattle.vx_events.specs.declared.said.Said.TheVariants.{Refused}
+use Rattle.vx_node.specs.Carries.{Carries}
 use Rattle.vx_node.specs.Lines.{is_built}
 use Rattle.vx_node.specs.OfSites.{HasCalled}
-use Rattle.vx_node.specs.Replies.{reply_text, text_of}
-use Rattle.vx_node.specs.Standing.{AnswersFor, AnswersIs, Leads, LeadsIs, StandsFor, StaysFor, StepsFor, StopsFor}
+use Rattle.vx_node.specs.Replies.{text_of}
+use Rattle.vx_node.specs.Standing.{AnswersFor, AnswersIs, LeadsIs, StandsFor, StaysFor, StepsFor, StopsFor}
 use Rattle.vx_node.specs.Working.{IsFree}
 use Rattle.vx_node.specs.Yards.{IsTold, count_of, in_files}
 use Rattle.vx_node.specs.declared.yard.Yard.{Yard}
+use Rattle.vx_node.proofs.Carrying.{sent_count}
 use Rattle.vx_node.proofs.ChangeSite.{rose_none}
 
 -- a line that is built is refused by what the tests see of the sites
 tested : (w : World) (files : Bool) (line : ScriptLine) → is_built line ≡ true → refused_by w files line ≡ refusal_of (linked_facts w) files line
 tested w files (Deliver number) built = absurd (cc)
 tested w files other built = refl
+
+-- the packets that a line sent, by how many there were before and are behind it
+sent_as : (w new : World) (before count : ℕ) → before ≡ length w.packets → count ≡ length new.packets → (if nat_lt before count then Some (before + 1, count) else None) ≡ sent_between w new
+sent_as w new before count was now =
+    let next : length w.packets + 1 ≡ suc (length w.packets) = omega arith in
+    ap (λ (k : ℕ). if nat_lt k count then Some (k + 1, count) else None) was
+    ∙ ap (λ (k : ℕ). if nat_lt (length w.packets) k then Some (length w.packets + 1, k) else None) now
+    ∙ ap (λ (k : ℕ). if nat_lt (length w.packets) (length new.packets) then Some (k, length new.packets) else None) next
 
 -- what holds of any answer
 pub if_ok : {T E : Type 0} (P : T → Type 0) (r : Result T E) → ((x : T) → P x) → IfOk r P
@@ -45,8 +55,8 @@ module _ {R : Type 0} {g : Ghosts R} where
         next = work.next;
         fails = work.fails;
         step = subst (λ (o : Option No). StepBy o (IsTold new) d line work.fails said work.next) (sym none) work.done;
-        sent = work.sent;
         stands = work.stands;
+        carries = work.carries;
         rose = work.rose;
       }
   leads_answer d line old new (Err e) built stands free work = work
@@ -60,22 +70,28 @@ module _ {R : Type 0} {g : Ghosts R} where
         next = d;
         fails = [];
         step = subst (λ (o : Option No). StepBy o (IsTold y) d line [] (Refused why) d) (sym some) (record { none = refl; says = refl; stays = refl });
-        sent = refl;
         stands = stands;
+        carries = λ was. was;
         rose = rose_none (count_of y) (count_of y) (λ s u. omega arith);
       }
 
-  -- what it prints
-  pub answer_steps : (d : Doubted) (line : ScriptLine) (old new : Yard R g) (said : Said) → AnswersFor d line said old new → (IsFree old line → HasCalled d.world line said old new) → StepsFor d line old new (reply_text said)
-  answer_steps d line old new said a called = record {
+  -- what it prints, with the numbers of the packets that it sent
+  pub answer_steps : (d : Doubted) (line : ScriptLine) (old new : Yard R g) (said : Said) (before count : ℕ) (sent : Option (ℕ × ℕ)) → Carries d old → before ≡ old.flight.count → count ≡ new.flight.count
+      → sent ≡ (if nat_lt before count then Some (before + 1, count) else None) → AnswersFor d line said old new → (IsFree old line → HasCalled d.world line said old new) → StepsFor d line old new (text_of said sent)
+  answer_steps d line old new said before count sent was first last is a called = record {
     next = a.next;
     fails = a.fails;
-    prints = record { said = said; step = a.step; is = ap (λ sent. text_of said sent) (sym (none_sent d.world a.next.world a.sent)) };
+    prints = record {
+      said = said;
+      step = a.step;
+      is = ap (λ (o : Option (ℕ × ℕ)). text_of said o) (is ∙ sent_as d.world a.next.world before count (first ∙ sent_count d old was) (last ∙ sent_count a.next new (a.carries was)));
+    };
     stands = a.stands;
+    carries = a.carries;
     rose = a.rose;
     called = λ free. called free;
   }
 
   -- of a line for which memory was short nothing is done
   pub stays_short : (d : Doubted) (line : ScriptLine) (old new : Yard R g) → StaysFor d old new → StopsFor d line old new
-  stays_short d line old new stays = record { next = d; part = none_done d line; stands = stays.stands; rose = stays.rose }
+  stays_short d line old new stays = record { next = d; part = none_done d line; stands = stays.stands; carries = stays.carries; rose = stays.rose }

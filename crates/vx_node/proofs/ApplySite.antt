@@ -1,38 +1,34 @@
 -- A line that applies the log of a site that may keep links.
-use Rattle.std.proofs.Common.{◌≡◌, ◌∙◌, ◌+◌, ◌<◌, ◌≤◌, ◌⊎◌, ℕ, Bool, true, false, List, [], ◌∷◌, ◌++◌, length, ap, sym, subst, refl, arith, ⊎_elim, inl, inr}
-use Rattle.std.specs.Prelude.{Option, Some, None, Ok, Err, min, slice_get, slice_set}
+use Rattle.std.proofs.Common.{◌≡◌, ◌∙◌, ◌≤◌, ◌⊎◌, ℕ, Bool, true, false, List, [], ◌∷◌, length, ap, sym, subst, refl, arith, ⊎_elim, inl, inr}
+use Rattle.std.specs.Prelude.{Option, Some, None, Ok, Err, slice_get, slice_set}
 use Rattle.vx_history.proofs.Updates.{at_place}
 use Rattle.vx_history.specs.Doubts.{After, Doubted, happened}
 use Rattle.vx_history.specs.Events.{linked_sites}
 use Rattle.vx_history.specs.Refusals.{Outcome}
-use Rattle.vx_history.specs.Step.{outcome_of, step}
+use Rattle.vx_history.specs.Step.{step}
 use Rattle.vx_history.specs.Steps.{burned, crashed, worked_on}
-use Rattle.vx_history.specs.Stops.{IsFused}
-use Rattle.vx_history.specs.World.{Fuse, Gathering, Link, Node, Packet, World}
+use Rattle.vx_history.specs.World.{Fuse, Gathering, Link, Node, Packet}
 use Rattle.vx_history.specs.declared.event.Event.{Event}
-use Rattle.vx_history.specs.declared.event.Event.TheVariants.{Apply as ApplyAt, Crash as CrashAt, Fault}
+use Rattle.vx_history.specs.declared.event.Event.TheVariants.{Apply as ApplyAt, Fault}
 use Rattle.vx_history.specs.declared.event.Said.{Said as EventSaid}
 use Rattle.vx_history.specs.declared.event.Said.TheVariants.{DoneAt as IsDoneAt}
 use Rattle.vx_model.specs.Sites.{is_origin}
 use Rattle.vx_model.specs.declared.no.No.{No}
 use Rattle.vx_model.specs.declared.no.No.TheVariants.{Device, Down as Off}
 use Rattle.vx_model.specs.declared.site.Role.{Role}
-use Rattle.vx_model.specs.declared.site.Role.TheVariants.{Primary}
 use Rattle.vx_model.specs.declared.site.SiteState.{SiteState}
 use Rattle.vx_model.specs.declared.site.SiteState.TheVariants.{Bare as IsBare, Up as IsUp, Down as IsDown}
 use Rattle.vx_disk.specs.Disks.{Disks}
 use Rattle.vx_disk.specs.declared.shelf.Shelf.{Ghosts}
 use Rattle.vx_order.specs.declared.facts.LinkFacts.{LinkFacts}
-use Rattle.vx_order.specs.declared.facts.RvgFacts.{RvgFacts}
 use Rattle.vx_order.specs.declared.facts.SiteFacts.{SiteFacts}
 use Rattle.vx_script.specs.declared.line.ScriptLine.TheVariants.{Apply}
 use Rattle.vx_diskset.proofs.KeepsFailing.{same_on}
 use Rattle.vx_diskset.specs.Asked.{FailsAs, FusedAs, LeavesFuse, SameFailing, disks_in, size_in}
 use Rattle.vx_diskset.specs.Burning.{Burnt, NoMore}
-use Rattle.vx_diskset.specs.DiskSets.{AppliedAt, CanApply, CrashedAt, halted_at, worked}
-use Rattle.vx_diskset.specs.Fuses.{LeftAs}
-use Rattle.vx_diskset.specs.Holds.{Beside, Kept, beside_of, doubt_of, itself, row_links, sure_of}
-use Rattle.vx_diskset.specs.Stands.{IsToldAt, StandsAt}
+use Rattle.vx_diskset.specs.DiskSets.{AppliedAt, CanApply, halted_at, worked}
+use Rattle.vx_diskset.specs.Holds.{Beside, Kept, beside_of, itself, sure_of}
+use Rattle.vx_diskset.specs.Stands.{StandsAt}
 use Rattle.vx_diskset.specs.declared.disk_set.DiskSet.{DiskSet}
 use Rattle.vx_diskset.specs.declared.disk_set.DiskSet.TheVariants.{Bare, Spoiled, Up, Receives, Down, Gone}
 use Rattle.vx_effects.proofs.Effects.{changes_then}
@@ -43,10 +39,10 @@ use Rattle.vx_events.proofs.Places.{never_some, some_same}
 use Rattle.vx_events.proofs.Refused.{apply_may}
 use Rattle.vx_events.proofs.Steps.{apply_step}
 use Rattle.vx_events.specs.Doubts.{run_as}
-use Rattle.vx_events.specs.Effects.{ChangesNode, EffectAt}
+use Rattle.vx_events.specs.Effects.{EffectAt}
 use Rattle.vx_events.specs.Ends.{AllDone, AppliesFound, DiskFails, Ends, FuseRunsOut, IsLeft}
 use Rattle.vx_events.specs.Facts.{group_by, group_fact, seat_of, site_fact, site_number}
-use Rattle.vx_events.specs.LinkedFacts.{link_facts, linked_fact, links_by}
+use Rattle.vx_events.specs.LinkedFacts.{link_facts, links_by}
 use Rattle.vx_events.specs.LinksFit.{LinksFit}
 use Rattle.vx_events.specs.Lists.{Choice}
 use Rattle.vx_events.specs.Plain.{ArePrimaries}
@@ -54,22 +50,22 @@ use Rattle.vx_events.specs.Sayings.{Repeats, Replies}
 use Rattle.vx_events.specs.declared.said.Said.{Said}
 use Rattle.vx_events.specs.declared.said.Said.TheVariants.{DoneAt, Refused}
 use Rattle.vx_node.specs.Changes.{down_facts, halted_facts}
-use Rattle.vx_node.specs.OfSites.{OfSite}
 use Rattle.vx_node.specs.Standing.{IsSameSite, Leads, StandsFor, crash_of}
-use Rattle.vx_node.specs.Stands.{AreTold, RoseAll}
+use Rattle.vx_node.specs.Stands.{AreTold}
 use Rattle.vx_node.specs.Working.{IsFree}
 use Rattle.vx_node.specs.Writes.{noted_facts}
-use Rattle.vx_node.specs.Yards.{IsTold, count_of, in_files}
+use Rattle.vx_node.specs.Yards.{IsTold, in_files}
 use Rattle.vx_node.specs.declared.yard.Yard.{Yard}
 use Rattle.vx_node.proofs.Alike.{burnt}
 use Rattle.vx_node.proofs.ChangeSite.{told_before}
 use Rattle.vx_node.proofs.CrashLine.{fuse_fact, rose_still, stopped_fact}
-use Rattle.vx_node.proofs.CrashSite.{crash_comes, crash_fact, crash_node, crash_sent, crashed_node}
+use Rattle.vx_node.proofs.CrashSite.{crash_comes, crash_fact, crash_gathering, crash_node, crash_sent, crashed_node, down_up}
+use Rattle.vx_node.proofs.Carrying.{LetsGo, LetsGoBy, SameLoad, carries_let, carries_node}
 use Rattle.vx_node.proofs.FailsStay.{fails_then}
-use Rattle.vx_node.proofs.FuseStays.{device_by, done_by, fused_none, fused_on, left_passed}
-use Rattle.vx_node.proofs.NamedSite.{SiteAt, asks_at, fact_named, site_at}
-use Rattle.vx_node.proofs.NoteSite.{comes_one, with_one}
-use Rattle.vx_node.proofs.OneSite.{Changed, Comes, beside_same, rose_at, stands_at, stands_still}
+use Rattle.vx_node.proofs.FuseStays.{device_by, done_by, fused_on, left_passed}
+use Rattle.vx_node.proofs.NamedSite.{SiteAt, fact_named, site_at}
+use Rattle.vx_node.proofs.NoteSite.{changes_one, comes_one, with_one}
+use Rattle.vx_node.proofs.OneSite.{Changed, Comes, beside_same, rose_at, stands_at, stands_still, told_by}
 use Rattle.vx_node.proofs.Rows.{fact_from, fact_like, fact_same, shown_by}
 use Rattle.vx_node.proofs.SiteEvents.{first_choice, keeps_k}
 
@@ -79,7 +75,7 @@ use Rattle.vx_node.proofs.SiteEvents.{first_choice, keeps_k}
 abbrev pub worked_for : Doubted → (s : ℕ) → Doubted
 worked_for h s = record h { world = worked_on h.world s }
 
-worked_effect : (s : ℕ) (d h : Doubted) (n : Node) (row : ℕ → Link) (many : ℕ) (doubt : Option After) (packets : List Packet) (gathered : Option Gathering) → EffectAt s d h n row many doubt packets gathered
+pub worked_effect : (s : ℕ) (d h : Doubted) (n : Node) (row : ℕ → Link) (many : ℕ) (doubt : Option After) (packets : List Packet) (gathered : Option Gathering) → EffectAt s d h n row many doubt packets gathered
     → EffectAt s d (worked_for h s) (worked n) row many doubt packets gathered
 worked_effect s d h n row many doubt packets gathered eff =
     let note = note_effect h s (worked (h.world.nodes s)) in
@@ -107,7 +103,7 @@ origin_or false = inr refl
 
 module _ {R : Type 0} {g : Ghosts R} where
   -- a running site is what its node says
-  sure_at : (beside : Beside) (n : Node) (e : DiskSet R g) → StandsAt beside n e → n.state ≡ IsUp → n.halted ≡ None → beside.doubt ≡ None
+  pub sure_at : (beside : Beside) (n : Node) (e : DiskSet R g) → StandsAt beside n e → n.state ≡ IsUp → n.halted ≡ None → beside.doubt ≡ None
   sure_at beside n (Bare rack) h up runs = absurd (let e : IsBare ≡ IsUp = sym (ap (λ (k : Node). k.state) h.bare.is) ∙ up in cc)
   sure_at beside n (Spoiled rack) h up runs = absurd (let e : IsBare ≡ IsUp = sym (ap (λ (k : Node). k.state) h.is) ∙ up in cc)
   sure_at beside n (Up rvg) h up runs = h.sure runs
@@ -166,8 +162,8 @@ module _ {R : Type 0} {g : Ghosts R} where
     were told = stands.primaries (told_before old.disk_sets.items s before after changed.there changed.later (subst (λ es. AreTold es) changed.disk_sets told))
 
     -- the log was applied up to this number
-    pub applied : (number : ℕ) → AppliedAt (beside_of d s) n to before after (Ok number) → LeavesFuse NoMore (DoneAt number) before after → new.facts ≡ old.facts → Leads d (Apply name to) (DoneAt number) old new
-    applied number is calls facts = ⊎_elim by_origin by_other (origin_or (is_origin n.role))
+    pub applied : (number : ℕ) → AppliedAt (beside_of d s) n to before after (Ok number) → LeavesFuse NoMore (DoneAt number) before after → new.facts ≡ old.facts → SameLoad old new → Leads d (Apply name to) (DoneAt number) old new
+    applied number is calls facts load = ⊎_elim by_origin by_other (origin_or (is_origin n.role))
       where
         k : ℕ
         k = site_number d.world name
@@ -200,7 +196,7 @@ module _ {R : Type 0} {g : Ghosts R} where
                 works = tt;
                 calls = tt;
               };
-              sent = eff.sent;
+              carries = carries_node s d e (worked n) old new load eff.site eff.sent eff.gathering eff.is.node refl refl refl (told_by old new s before after changed);
               stands = stands_still d e old new s before after stands here.seat.below changed
                   (comes_effect d e s (worked n) d.world.packets (d.world.gathering s) after eff (fit_worked h s (fit_happened d (ApplyAt s to number) false stands.links)) refl refl refl refl refl is.2 fails fuse)
                   (fact_same (worked n) (e.world.nodes s) (d.world.links s) (e.world.links s) d.world.sites e.world.sites eff.is.node (λ j. eff.is.links j) eff.site.sites
@@ -222,9 +218,9 @@ module _ {R : Type 0} {g : Ghosts R} where
                 works = tt;
                 calls = tt;
               };
-              sent = refl;
+              carries = carries_node s d (with_one d s (worked n)) (worked n) old new load (changes_one d s (worked n)) refl refl (at_place d.world.nodes s (worked n)) refl refl refl (told_by old new s before after changed);
               stands = stands_still d (with_one d s (worked n)) old new s before after stands here.seat.below changed
-                  (comes_one d s (worked n) after refl refl refl refl stands.links refl refl refl is.2 fails fuse)
+                  (comes_one d s (worked n) after refl stands.links is.2 fails fuse)
                   (fact_same (worked n) ((with_one d s (worked n)).world.nodes s) (d.world.links s) (d.world.links s) d.world.sites d.world.sites (at_place d.world.nodes s (worked n)) (λ j. refl) refl
                   ∙ fact_like n (worked n) (d.world.links s) d.world.sites (fuse_fact n (burned n.fuse)) (λ j l. refl))
                   (ap (λ fs. fs.items) facts);
@@ -233,8 +229,8 @@ module _ {R : Type 0} {g : Ghosts R} where
 
     -- a disk failed in it, and the site is halted
     halts : (disk : ℕ) (f f' : SiteFacts) → AppliedAt (beside_of d s) n to before after (Err (Device disk)) → LeavesFuse NoMore (Refused (Device disk)) before after → slice_get old.facts.items s ≡ Some f
-        → f' ≡ halted_facts disk f → new.facts.items ≡ slice_set old.facts.items s f' → Leads d (Apply name to) (Refused (Device disk)) old new
-    halts disk f f' is calls at noted facts =
+        → f' ≡ halted_facts disk f → new.facts.items ≡ slice_set old.facts.items s f' → SameLoad old new → Leads d (Apply name to) (Refused (Device disk)) old new
+    halts disk f f' is calls at noted facts load =
         let k : ℕ = site_number d.world name in
         let m : Node = halted_at n disk in
         let h : Doubted = happened d (Fault s disk) false in
@@ -257,7 +253,7 @@ module _ {R : Type 0} {g : Ghosts R} where
             works = tt;
             calls = tt;
           };
-          sent = eff.sent;
+          carries = carries_node s d e m old new load eff.site eff.sent eff.gathering eff.is.node refl refl refl (told_by old new s before after changed);
           stands = stands_at d e old new s f' before after stands here.seat.below changed
               (comes_effect d e s m d.world.packets (d.world.gathering s) after eff (fit_worked h s (fit_happened d (Fault s disk) false stands.links)) refl refl refl refl refl is.0 (fails_still m (Refused (Device disk)) refl calls) fuse)
               (noted ∙ ap (halted_facts disk) (some_same (sym at ∙ here.seat.fact)) ∙ halted_fact n (d.world.links s) d.world.sites disk
@@ -268,8 +264,8 @@ module _ {R : Type 0} {g : Ghosts R} where
 
     -- its fuse ran out, and the site is down
     falls_off : (f f' : SiteFacts) → AppliedAt (beside_of d s) n to before after (Err Off) → LeavesFuse NoMore (Refused Off) before after → slice_get old.facts.items s ≡ Some f
-        → f' ≡ down_facts f → new.facts.items ≡ slice_set old.facts.items s f' → Leads d (Apply name to) (Refused Off) old new
-    falls_off f f' is calls at noted facts = ⊎_elim (λ own. itself_by is.1.kept own is.1.count is.1.least is.1.most is.1.stands) (λ other. absurd (never_some (sym sure ∙ other))) is.1.is
+        → f' ≡ down_facts f → new.facts.items ≡ slice_set old.facts.items s f' → LetsGo old new s → Leads d (Apply name to) (Refused Off) old new
+    falls_off f f' is calls at noted facts lets = ⊎_elim (λ own. itself_by is.1.kept own is.1.count is.1.least is.1.most is.1.stands) (λ other. absurd (never_some (sym sure ∙ other))) is.1.is
       where
         sure : (beside_of d s).doubt ≡ None
         sure = sure_at (beside_of d s) n before (stands.disk_sets.sites s before here.seat.below changed.there) here.can.up here.can.running
@@ -299,7 +295,10 @@ module _ {R : Type 0} {g : Ghosts R} where
                 works = tt;
                 calls = tt;
               };
-              sent = crash_sent d s count false n (d.world.links s) refl (λ j. refl) (λ _. refl) here.seat.below here.can.up least most;
+              carries = carries_let s d e old new lets (omega (arith, here.seat.below, stands.disk_sets.few)) (changes_then s d h e before_noted.changes note.site)
+                  (crash_sent d s count false n (d.world.links s) refl (λ j. refl) (λ _. refl) here.seat.below here.can.up least most)
+                  (crash_gathering d s count false n (d.world.links s) refl (λ j. refl) (λ _. refl) here.seat.below here.can.up least most)
+                  (λ is_up. down_up (sym (ap (λ (q : Node). q.state) node) ∙ is_up)) (told_by old new s before after changed);
               stands = stands_at d e old new s f' before after stands here.seat.below changed
                   (record {
                     changes = changes_then s d h e before_noted.changes note.site;
@@ -318,10 +317,10 @@ module _ {R : Type 0} {g : Ghosts R} where
 
     -- it was refused
     pub apply_refused : (why : No) (said : Said) (f f' : SiteFacts) → said ≡ Refused why → AppliedAt (beside_of d s) n to before after (Err why) → LeavesFuse NoMore (Refused why) before after → slice_get old.facts.items s ≡ Some f
-        → f' ≡ noted_facts why f → new.facts.items ≡ slice_set old.facts.items s f' → Leads d (Apply name to) said old new
-    apply_refused why said f f' says is calls at noted facts = subst (λ (r : Said). Leads d (Apply name to) r old new) (sym says) (by_why why is calls noted)
+        → f' ≡ noted_facts why f → new.facts.items ≡ slice_set old.facts.items s f' → LetsGoBy why old new s → Leads d (Apply name to) said old new
+    apply_refused why said f f' says is calls at noted facts lets = subst (λ (r : Said). Leads d (Apply name to) r old new) (sym says) (by_why why is calls noted lets)
       where
-        by_why : (why : No) → AppliedAt (beside_of d s) n to before after (Err why) → LeavesFuse NoMore (Refused why) before after → f' ≡ noted_facts why f → Leads d (Apply name to) (Refused why) old new
-        by_why (Device disk) is calls noted = halts disk f f' is calls at noted facts
-        by_why Off is calls noted = falls_off f f' is calls at noted facts
-        by_why other is calls noted = absurd is
+        by_why : (why : No) → AppliedAt (beside_of d s) n to before after (Err why) → LeavesFuse NoMore (Refused why) before after → f' ≡ noted_facts why f → LetsGoBy why old new s → Leads d (Apply name to) (Refused why) old new
+        by_why (Device disk) is calls noted lets = halts disk f f' is calls at noted facts (record { flight = lets.flight; assemblies = lets.assemblies; feeders = lets.feeders })
+        by_why Off is calls noted lets = falls_off f f' is calls at noted facts (record { flight = lets.flight; assemblies = lets.assemblies; feeders = lets.feeders })
+        by_why other is calls noted lets = absurd is

@@ -1,5 +1,5 @@
 -- What a yard carries, where its sites change.
-use Rattle.std.proofs.Common.{◌≡◌, ◌∙◌, ◌<◌, ℕ, List, [], length, map, false, ap, sym, subst, arith, ⊎_elim}
+use Rattle.std.proofs.Common.{◌≡◌, ◌∙◌, ◌<◌, ℕ, List, [], length, map, false, ap, sym, subst, arith, ⊎_elim, refl}
 use Rattle.std.specs.Prelude.{Option, Some, None, All, get_or, slice_get, slice_set}
 use Rattle.std.proofs.lemmas.Bool.{cases_eq}
 use Rattle.std.proofs.lemmas.List.{length-map}
@@ -9,18 +9,21 @@ use Rattle.vx_courier.specs.Together.{AssemblyStands}
 use Rattle.vx_courier.specs.UnderWay.{FlightStands, carrier}
 use Rattle.vx_disk.specs.declared.shelf.Shelf.{Ghosts}
 use Rattle.vx_events.specs.Doubts.{sure}
-use Rattle.vx_events.specs.Effects.{ChangesAt, ChangesNode}
+use Rattle.vx_events.specs.Effects.{AddsSite, ChangesAt, ChangesNode}
 use Rattle.vx_events.proofs.Places.{never_some, some_same}
 use Rattle.vx_history.specs.Doubts.{Doubted}
 use Rattle.vx_history.specs.World.{Gathering, Node, Packet, empty_world}
 use Rattle.vx_model.specs.Sites.{is_origin}
 use Rattle.vx_model.specs.declared.limits.TheConstants.{MOST_SITES}
+use Rattle.vx_model.specs.declared.no.No.{No}
+use Rattle.vx_model.specs.declared.site.Role.{Role}
 use Rattle.vx_model.specs.declared.site.SiteState.TheVariants.{Bare, Up}
 use Rattle.vx_net.proofs.Sent.{all-sent}
 use Rattle.vx_net.specs.Flights.{Flying, nothing_sent}
 use Rattle.vx_packet.specs.Assemblies.{Assembled, Held}
 use Rattle.vx_parts.specs.Spelling.{IsTied}
 use Rattle.vx_node.specs.Carries.{Carries}
+use Rattle.vx_node.specs.Loads.{LetGo, LetGoBy}
 use Rattle.vx_node.specs.Yards.{IsTold}
 use Rattle.vx_node.specs.declared.yard.Yard.{Yard}
 use Rattle.vx_node.proofs.Lists.{get-set_other, get-set_same, length-set, set_same}
@@ -54,6 +57,16 @@ feeds_same n m same = record {
     ap (λ (k : Node). k.fed_by) same,
   );
 }
+
+-- one that is up, receives and is fed as another one
+pub feeds_like : (n m : Node) → m.state ≡ n.state → m.role ≡ n.role → m.fed_by ≡ n.fed_by → Feeds n m
+feeds_like n m state role fed = record {
+  each = λ up receives. (sym state ∙ up, ap (λ (r : Role). is_origin r) (sym role) ∙ receives, fed);
+}
+
+-- one that is not up, or does not receive
+pub feeds_none : (n m : Node) → (m.state ≡ Up → is_origin m.role ≡ false → ⊥) → Feeds n m
+feeds_none n m never = record { each = λ up receives. absurd (never up receives) }
 
 module _ {R : Type 0} {g : Ghosts R} where
   -- as many packets are under way as the world has sent
@@ -92,6 +105,27 @@ module _ {R : Type 0} {g : Ghosts R} where
       (λ i. ⊎_elim (λ (same : i ≡ s). subst (λ (k : ℕ). e.world.gathering k ≡ d.world.gathering k) (sym same) changes.gathering) (λ apart. changes.site.gathering i apart) (cases_eq i s))
       (λ i. ⊎_elim (λ (same : i ≡ s). subst (λ (k : ℕ). Feeds (d.world.nodes k) (e.world.nodes k)) (sym same) feeds)
       (λ apart. feeds_same (d.world.nodes i) (e.world.nodes i) (changes.site.nodes i apart)) (cases_eq i s))
+      told
+
+  -- The same where that site is another node, which is up, receives and is fed as the one before.
+  pub carries_node : (s : ℕ) (d e : Doubted) (n : Node) (old new : Yard R g) → SameLoad old new → ChangesNode s d e → e.world.packets ≡ d.world.packets → e.world.gathering s ≡ d.world.gathering s
+      → e.world.nodes s ≡ n → n.state ≡ (d.world.nodes s).state → n.role ≡ (d.world.nodes s).role → n.fed_by ≡ (d.world.nodes s).fed_by → (IsTold new → IsTold old) → Carries d old → Carries e new
+  carries_node s d e n old new load changes packets gathering node state role fed told carries =
+      carries_at s d e old new carries load (record { site = changes; packets = packets; gathering = gathering })
+      (subst (λ (m : Node). Feeds (d.world.nodes s) m) (sym node) (feeds_like (d.world.nodes s) n state role fed)) told
+
+  -- The same where no site changed.
+  pub carries_same : (d : Doubted) (old new : Yard R g) → SameLoad old new → (IsTold new → IsTold old) → Carries d old → Carries d new
+  carries_same d old new load told carries = carries_on d d old new carries load refl (λ i. refl) (λ i. feeds_same (d.world.nodes i) (d.world.nodes i) refl) told
+
+  -- The same where a site that is not up was added.
+  pub carries_more : (d e : Doubted) (n : Node) (old new : Yard R g) → SameLoad old new → AddsSite d e n → (n.state ≡ Up → ⊥) → (IsTold new → IsTold old) → Carries d old → Carries e new
+  carries_more d e n old new load adds down told carries =
+      carries_on d e old new carries load adds.packets adds.gathering
+      (λ i. ⊎_elim
+      (λ (same : i ≡ d.world.sites).
+      feeds_none (d.world.nodes i) (e.world.nodes i) (λ up receives. down (ap (λ (m : Node). m.state) (sym adds.node) ∙ ap (λ (k : ℕ). (e.world.nodes k).state) (sym same) ∙ up)))
+      (λ apart. feeds_same (d.world.nodes i) (e.world.nodes i) (adds.nodes i apart)) (cases_eq i d.world.sites))
       told
 
   -- The same of a site that goes down or comes to a line: what it had in assembly is let go.
@@ -136,6 +170,18 @@ module _ {R : Type 0} {g : Ghosts R} where
       by : (i f : ℕ) → slice_get new.feeders.items i ≡ Some f → slice_get (slice_set old.feeders.items s feeder) i ≡ Some f
       by i f is = sym (ap (λ (fs : List ℕ). slice_get fs i) fed) ∙ is
 
+  -- what a site has in assembly is let go, and nothing else of what the yard carries changes
+  pub record LetsGo (old new : Yard R g) (s : ℕ) : Type 0 where
+    pub flight : new.flight ≡ old.flight
+    pub assemblies : LetGo s old.assemblies.items new.assemblies.items
+    pub feeders : new.feeders.items ≡ old.feeders.items
+
+  -- the same where a refusal says that the site is down
+  pub record LetsGoBy (why : No) (old new : Yard R g) (s : ℕ) : Type 0 where
+    pub flight : new.flight ≡ old.flight
+    pub assemblies : LetGoBy why s old.assemblies.items new.assemblies.items
+    pub feeders : new.feeders.items ≡ old.feeders.items
+
   -- The same of a site that goes down, which the same site goes on feeding.
   pub carries_down : (s : ℕ) (d e : Doubted) (old new : Yard R g) → Carries d old → Cleared old new s → s < MOST_SITES → new.feeders.items ≡ old.feeders.items → ChangesNode s d e → e.world.packets ≡ d.world.packets
       → e.world.gathering s ≡ None → ((e.world.nodes s).state ≡ Up → ⊥) → (IsTold new → IsTold old) → Carries e new
@@ -143,6 +189,12 @@ module _ {R : Type 0} {g : Ghosts R} where
       let feeder : ℕ = get_or old.feeders.items s 0 in
       let there : slice_get old.feeders.items s ≡ Some feeder = slice_get-get_or old.feeders.items s 0 (omega (arith, below, carries.numbers)) in
       carries_cleared s feeder d e old new carries cleared below (fed ∙ sym (set_same old.feeders.items s feeder there)) changes packets empty (λ up receives. absurd (down up)) told
+
+  -- The same, by what is let go.
+  pub carries_let : (s : ℕ) (d e : Doubted) (old new : Yard R g) → LetsGo old new s → s < MOST_SITES → ChangesNode s d e → e.world.packets ≡ d.world.packets → e.world.gathering s ≡ None
+      → ((e.world.nodes s).state ≡ Up → ⊥) → (IsTold new → IsTold old) → Carries d old → Carries e new
+  carries_let s d e old new lets below changes packets empty down told carries =
+      carries_down s d e old new carries (record { flight = lets.flight; assembly = lets.assemblies.assembly; none = lets.assemblies.none; assemblies = lets.assemblies.is }) below lets.feeders changes packets empty down told
 
   -- a yard without sites, where nothing was sent and nothing is in assembly
   pub carries_none : (y : Yard R g) → y.flight ≡ nothing_sent → length y.assemblies.items ≡ MOST_SITES → ((s : ℕ) (a : Assembled) → slice_get y.assemblies.items s ≡ Some a → a.held ≡ None)

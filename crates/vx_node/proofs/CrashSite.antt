@@ -1,17 +1,18 @@
 -- A site that crashes, which may be in doubt.
-use Rattle.std.proofs.Common.{◌≡◌, ◌∙◌, ◌<◌, ◌≤◌, ◌⊎◌, ℕ, Bool, true, false, List, [], ◌∷◌, length, ap, sym, subst, refl, arith, ⊎_elim}
+use Rattle.std.proofs.Common.{◌≡◌, ◌∙◌, ◌<◌, ◌≤◌, ℕ, Bool, true, false, List, [], ◌∷◌, length, ap, sym, subst, refl, arith, ⊎_elim}
 use Rattle.std.specs.Prelude.{Option, Some, None, map, slice_get, slice_set}
 use Rattle.vx_history.proofs.Updates.{at_place}
-use Rattle.vx_history.specs.Doubts.{After, Doubted, happened, resolved, resolved_at, taken_up}
-use Rattle.vx_history.specs.Events.{crash_at, kept_of, lost_touch}
+use Rattle.vx_history.specs.Doubts.{After, Doubted, happened, resolved_at, taken_up}
+use Rattle.vx_history.specs.Events.{kept_of, lost_touch}
 use Rattle.vx_history.specs.Refusals.{Outcome}
-use Rattle.vx_history.specs.Step.{counted, done as is_done, step}
+use Rattle.vx_history.specs.Step.{step}
 use Rattle.vx_history.specs.Steps.{crashed}
-use Rattle.vx_history.specs.World.{Link, Node, NoFuse, Volume, World, with_node}
+use Rattle.vx_history.specs.World.{Link, Node, Volume, World}
 use Rattle.vx_history.specs.declared.event.Event.TheVariants.{Crash as CrashAt}
 use Rattle.vx_history.specs.declared.event.Said.TheVariants.{Done as IsDone}
 use Rattle.vx_model.specs.declared.site.Role.TheVariants.{Primary}
-use Rattle.vx_model.specs.declared.site.SiteState.TheVariants.{Up}
+use Rattle.vx_model.specs.declared.site.SiteState.TheVariants.{Down as IsDown, Up}
+use Rattle.vx_model.specs.declared.limits.TheConstants.{MOST_SITES}
 use Rattle.vx_model.specs.declared.state.KeptLink.{KeptLink}
 use Rattle.vx_disk.specs.declared.shelf.Shelf.{Ghosts}
 use Rattle.vx_order.specs.declared.facts.SiteFacts.{SiteFacts}
@@ -19,7 +20,7 @@ use Rattle.vx_script.specs.declared.line.ScriptLine.TheVariants.{Crash}
 use Rattle.vx_diskset.specs.Asked.{FailsAs, FusedAs, SameFailing}
 use Rattle.vx_diskset.specs.DiskSets.{CrashedAt}
 use Rattle.vx_diskset.specs.Holds.{Beside, Kept, beside_of, doubt_of, itself, row_links, sure_of}
-use Rattle.vx_diskset.specs.Stands.{IsToldAt, StandsAt}
+use Rattle.vx_diskset.specs.Stands.{StandsAt}
 use Rattle.vx_diskset.specs.declared.disk_set.DiskSet.{DiskSet}
 use Rattle.vx_diskset.proofs.FailGroup.{stands_failing}
 use Rattle.vx_effects.proofs.Effects.{changes_same, changes_then, crash_effect, resolved_changes}
@@ -33,7 +34,7 @@ use Rattle.vx_events.proofs.Refused.{crash_may}
 use Rattle.vx_node.specs.OfSites.{OfSite}
 use Rattle.vx_diskset.specs.Asked.{CrashesBy}
 use Rattle.vx_node.specs.Working.{IsFree}
-use Rattle.vx_node.specs.Yards.{IsTold, count_of, in_files}
+use Rattle.vx_node.specs.Yards.{IsTold, in_files}
 use Rattle.vx_node.proofs.CrashLine.{rose_still}
 use Rattle.vx_node.proofs.NamedSite.{fact_named, fact_of, site_at}
 use Rattle.vx_node.proofs.SiteEvents.{keeps_k}
@@ -52,8 +53,9 @@ use Rattle.vx_node.specs.declared.yard.Yard.{Yard}
 use Rattle.vx_node.proofs.Alike.{apart_place}
 use Rattle.vx_node.proofs.FailsStay.{fails_then}
 use Rattle.vx_node.proofs.FuseStays.{fused_none}
-use Rattle.vx_node.proofs.OneSite.{Changed, Comes, stands_at}
-use Rattle.vx_node.proofs.Rows.{fact_from, fact_same, row_links_same}
+use Rattle.vx_node.proofs.OneSite.{Changed, Comes, stands_at, told_by}
+use Rattle.vx_node.proofs.Carrying.{LetsGo, carries_let}
+use Rattle.vx_node.proofs.Rows.{fact_same, row_links_same}
 
 -- the node that it leaves
 abbrev pub crashed_node : (n m : Node) → (count : ℕ) → Node
@@ -78,13 +80,16 @@ same_headers : (b : Bool) (s : ℕ) (w v : World) → (with_disks b s w v).heade
 same_headers false s w v = refl
 same_headers true s w v = refl
 
-same_sites : (b : Bool) (s : ℕ) (w v : World) → (with_disks b s w v).sites ≡ v.sites
-same_sites false s w v = refl
-same_sites true s w v = refl
-
 same_packets : (b : Bool) (s : ℕ) (w v : World) → (with_disks b s w v).packets ≡ v.packets
 same_packets false s w v = refl
 same_packets true s w v = refl
+
+same_gathering : (b : Bool) (s : ℕ) (w v : World) → (with_disks b s w v).gathering s ≡ v.gathering s
+same_gathering false s w v = refl
+same_gathering true s w v = refl
+
+pub down_up : IsDown ≡ Up → ⊥
+down_up e = cc
 
 -- the node, by what it was before
 disks_node : (b : Bool) (s : ℕ) (w v : World) (n : Node) → v.nodes s ≡ n → (b ≡ false → n.failing ≡ (w.nodes s).failing) → (with_disks b s w v).nodes s ≡ record n { failing = (w.nodes s).failing }
@@ -130,6 +135,12 @@ module _ (d : Doubted) (s count : ℕ) (taken : Bool) (m : Node) (row : ℕ → 
 
   pub crash_sent : e.world.packets ≡ d.world.packets
   crash_sent = same_packets taken s d.world h.world ∙ eff.sent
+
+  pub crash_gathering : e.world.gathering s ≡ None
+  crash_gathering = same_gathering taken s d.world h.world ∙ eff.gathering
+
+  pub crash_down : (e.world.nodes s).state ≡ Up → ⊥
+  crash_down is_up = down_up (sym (ap (λ (k : Node). k.state) crash_node) ∙ is_up)
 
   pub crash_beside : beside_of e s ≡ record { links = row_links row d.world.sites; headers = d.world.headers s; doubt = None }
   crash_beside =
@@ -179,8 +190,8 @@ module _ {R : Type 0} {g : Ghosts R} where
 
   -- the same of a yard
   pub falls : (d : Doubted) (old new : Yard R g) (s : ℕ) (f f' : SiteFacts) (before after : DiskSet R g) → StandsFor d old → s < d.world.sites → (d.world.nodes s).state ≡ Up → slice_get old.facts.items s ≡ Some f
-      → Changed old new s before after → CrashedAt (beside_of d s) (d.world.nodes s) after → SameFailing before after → f' ≡ down_facts f → new.facts.items ≡ slice_set old.facts.items s f' → Falls d s old new
-  falls d old new s f f' before after stands below up at changed fell same is facts = ⊎_elim (λ own. itself_by fell.kept own fell.count fell.least fell.most fell.stands) (λ other. doubt_by (d.after s) refl fell.kept other fell.count fell.least fell.most fell.stands) fell.is
+      → Changed old new s before after → CrashedAt (beside_of d s) (d.world.nodes s) after → SameFailing before after → f' ≡ down_facts f → new.facts.items ≡ slice_set old.facts.items s f' → LetsGo old new s → Falls d s old new
+  falls d old new s f f' before after stands below up at changed fell same is facts lets = ⊎_elim (λ own. itself_by fell.kept own fell.count fell.least fell.most fell.stands) (λ other. doubt_by (d.after s) refl fell.kept other fell.count fell.least fell.most fell.stands) fell.is
     where
       n : Node
       n = d.world.nodes s
@@ -191,6 +202,9 @@ module _ {R : Type 0} {g : Ghosts R} where
       never : true ≡ false → ⊥
       never e = cc
 
+      small : s < MOST_SITES
+      small = omega (arith, below, stands.disk_sets.few)
+
       itself_by : (k : Kept) → k ≡ itself (beside_of d s) n → (count : ℕ) → k.node.safe ≤ count → count ≤ length k.node.log → StandsAt (sure_of k) (crashed k.node count) after → Falls d s old new
       itself_by k own =
           subst (λ (x : Kept). (count : ℕ) → x.node.safe ≤ count → count ≤ length x.node.log → StandsAt (sure_of x) (crashed x.node count) after → Falls d s old new) (sym own)
@@ -198,7 +212,12 @@ module _ {R : Type 0} {g : Ghosts R} where
             count = count;
             taken = false;
             said = crash_said d s count false n (d.world.links s) refl (λ j. refl) (λ _. refl) below up least most;
-            sent = crash_sent d s count false n (d.world.links s) refl (λ j. refl) (λ _. refl) below up least most;
+            down = ap (λ (x : Node). x.state) (crash_node d s count false n (d.world.links s) refl (λ j. refl) (λ _. refl) below up least most);
+            blocks = ap (λ (x : Node). x.blocks) (crash_node d s count false n (d.world.links s) refl (λ j. refl) (λ _. refl) below up least most);
+            sites = (crash_changes d s count false n (d.world.links s) refl (λ j. refl) (λ _. refl) below up least most).sites;
+            carries = carries_let s d (crash_of d s count false) old new lets small (crash_changes d s count false n (d.world.links s) refl (λ j. refl) (λ _. refl) below up least most)
+                (crash_sent d s count false n (d.world.links s) refl (λ j. refl) (λ _. refl) below up least most) (crash_gathering d s count false n (d.world.links s) refl (λ j. refl) (λ _. refl) below up least most)
+                (crash_down d s count false n (d.world.links s) refl (λ j. refl) (λ _. refl) below up least most) (told_by old new s before after changed);
             stands = stands_at d (crash_of d s count false) old new s f' before after stands below changed
                 (crash_comes d s count false n (d.world.links s) refl (λ j. refl) (λ _. refl) below up least most before after stands.links (stands.failing s before below changed.there) same here (λ T doubts told primary. primary))
                 (is ∙ was ∙ crash_fact d s count false n (d.world.links s) refl (λ j. refl) (λ _. refl) below up least most refl refl refl refl) facts;
@@ -220,7 +239,13 @@ module _ {R : Type 0} {g : Ghosts R} where
             count = count;
             taken = true;
             said = crash_said d s count true a.node a.row node_is row_is (λ e. absurd (never e)) below fits.up_too least most;
-            sent = crash_sent d s count true a.node a.row node_is row_is (λ e. absurd (never e)) below fits.up_too least most;
+            down = ap (λ (x : Node). x.state) (crash_node d s count true a.node a.row node_is row_is (λ e. absurd (never e)) below fits.up_too least most);
+            blocks = ap (λ (x : Node). x.blocks) (crash_node d s count true a.node a.row node_is row_is (λ e. absurd (never e)) below fits.up_too least most) ∙ same_site.blocks;
+            sites = (crash_changes d s count true a.node a.row node_is row_is (λ e. absurd (never e)) below fits.up_too least most).sites;
+            carries = carries_let s d (crash_of d s count true) old new lets small (crash_changes d s count true a.node a.row node_is row_is (λ e. absurd (never e)) below fits.up_too least most)
+                (crash_sent d s count true a.node a.row node_is row_is (λ e. absurd (never e)) below fits.up_too least most)
+                (crash_gathering d s count true a.node a.row node_is row_is (λ e. absurd (never e)) below fits.up_too least most)
+                (crash_down d s count true a.node a.row node_is row_is (λ e. absurd (never e)) below fits.up_too least most) (told_by old new s before after changed);
             stands = stands_at d (crash_of d s count true) old new s f' before after stands below changed
                 (crash_comes d s count true a.node a.row node_is row_is (λ e. absurd (never e)) below fits.up_too least most before after stands.links (stands.failing s before below changed.there) same here
                 (λ T doubts told primary. (doubts a some).role told))
@@ -254,7 +279,7 @@ module _ {R : Type 0} {g : Ghosts R} where
           works = tt;
           calls = tt;
         };
-        sent = f.sent;
+        carries = f.carries;
         stands = f.stands;
         rose = f.rose;
       }

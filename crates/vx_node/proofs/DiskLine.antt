@@ -1,26 +1,20 @@
 -- What a line that makes a disk fail, or ends that, comes to.
 use Rattle.std.proofs.Common.{◌≡◌, ℕ, Bool, List, [], ap, sym, subst, refl}
-use Rattle.std.specs.Prelude.{Some, slice_get, slice_set}
+use Rattle.std.specs.Prelude.{Some, slice_get}
 use Rattle.vx_history.specs.Doubts.{Doubted}
 use Rattle.vx_history.specs.World.{with_node}
-use Rattle.vx_history.specs.World.{Node, World, updated}
+use Rattle.vx_history.specs.World.{Node, updated}
 use Rattle.vx_disk.specs.declared.shelf.Shelf.{Ghosts}
 use Rattle.vx_script.specs.declared.line.DiskState.{DiskState}
 use Rattle.vx_script.specs.declared.line.ScriptLine.TheVariants.{Disk}
 use Rattle.vx_diskset.specs.declared.disk_set.DiskSet.{DiskSet}
 use Rattle.vx_events.specs.declared.said.Said.TheVariants.{Done}
 use Rattle.vx_node.specs.declared.yard.Yard.{Yard}
-use Rattle.vx_diskset.specs.DiskSets.{Later}
 use Rattle.vx_events.specs.Facts.{seat_of, site_number}
 use Rattle.vx_events.specs.Failing.{is_failing, made_fail}
-use Rattle.vx_diskset.specs.Stands.{StandsAlone}
-use Rattle.vx_node.specs.Works.{Cleanly}
-use Rattle.vx_node.specs.Working.{Worked}
-use Rattle.vx_node.specs.Yards.{YardAgrees}
-use Rattle.vx_node.proofs.CrashLine.{stands_same, rose_still}
+use Rattle.vx_node.proofs.CrashLine.{rose_still}
 use Rattle.vx_node.proofs.FailsStay.{failing_fact}
 use Rattle.vx_diskset.proofs.FailGroup.{stands_failing}
-use Rattle.vx_diskset.specs.Holds.{alone}
 use Rattle.vx_diskset.specs.Asked.{SetsDisk, disks_in, units_in}
 use Rattle.vx_diskset.specs.Holds.{Beside, beside_of}
 use Rattle.vx_diskset.specs.Stands.{StandsAt}
@@ -32,35 +26,16 @@ use Rattle.vx_node.specs.Yards.{IsTold, in_files}
 use Rattle.vx_node.proofs.FailsStay.{set_on}
 use Rattle.vx_node.proofs.FuseStays.{fused_set}
 use Rattle.vx_node.proofs.NamedSite.{asks_at, fact_named, site_at}
-use Rattle.vx_node.proofs.NoteSite.{comes_one, none_left, with_one}
-use Rattle.vx_node.proofs.OneSite.{Changed, stands_still}
+use Rattle.vx_node.proofs.NoteSite.{changes_one, comes_one, none_left, with_one}
+use Rattle.vx_node.proofs.OneSite.{Changed, stands_still, told_by}
 use Rattle.vx_node.proofs.Rows.{fact_like, fact_same}
 use Rattle.vx_history.proofs.Updates.{at_place}
 use Rattle.vx_order.specs.declared.facts.SiteFacts.{SiteFacts}
 use Rattle.vx_diskset.specs.declared.disk_set.DiskSet.TheVariants.{Bare, Spoiled, Up, Receives, Down, Gone}
 use Rattle.std.proofs.Common.{◌<◌, ◌∙◌, arith}
-use Rattle.vx_node.proofs.Seats.{seated}
+use Rattle.vx_node.proofs.Carrying.{SameLoad, carries_node}
 
 module _ {R : Type 0} {g : Ghosts R} where
-  pub disk_done : (w : World) (old new : Yard R g) (name : List ℕ) (disk : ℕ) (state : DiskState) (s : ℕ) (before after : DiskSet R g) → YardAgrees w old → seat_of old.facts.items name ≡ Some s
-      → slice_get old.disk_sets.items s ≡ Some before → Later before after → ((n : Node) → StandsAlone n before → StandsAlone n after)
-      → new.facts ≡ old.facts → new.disk_sets.items ≡ slice_set old.disk_sets.items s after → new.racks ≡ old.racks
-      → Worked w (Disk name disk state) Done old new
-  disk_done w old new name disk state s before after stands is at later still facts disk_sets racks =
-      let seat = seated w old name s stands is in
-      let on : Bool = is_failing state in
-      let failing : ℕ → Bool = updated (w.nodes s).failing disk on in
-      let n : Node = record (w.nodes s) { failing = failing } in
-      record {
-        world = made_fail w s disk on;
-        fails = [];
-        works = subst (λ (k : ℕ). Cleanly [] Done Done (made_fail w s disk on) (made_fail w k disk on)) (sym seat.number) (record { none = refl; says = refl; leads = refl });
-        stands = stands_same w (made_fail w s disk on) old new s n after stands seat.below refl (λ k. refl)
-            (stands_failing alone (w.nodes s) failing after (still (w.nodes s) (stands.disk_sets.sites s before seat.below at)))
-            (failing_fact (w.nodes s) failing) refl (ap (λ fs. fs.items) facts) disk_sets racks;
-        rose = rose_still old new s before after at later disk_sets;
-      }
-
   units_at : (beside : Beside) (n : Node) (e : DiskSet R g) → StandsAt beside n e → units_in e ≡ n.disks
   units_at beside n (Bare rack) h = h.bare.fitted.units
   units_at beside n (Spoiled rack) h = h.fitted.units
@@ -81,8 +56,8 @@ module _ {R : Type 0} {g : Ghosts R} where
 
   pub disk_leads : (d : Doubted) (old new : Yard R g) (name : List ℕ) (disk : ℕ) (state : DiskState) (s : ℕ) (before after : DiskSet R g) → StandsFor d old → seat_of old.facts.items name ≡ Some s
       → Changed old new s before after → ((beside : Beside) (n : Node) → StandsAt beside n before → StandsAt beside n after) → SetsDisk disk (is_failing state) before after
-      → new.facts ≡ old.facts → Leads d (Disk name disk state) Done old new
-  disk_leads d old new name disk state s before after stands is changed keeps sets facts =
+      → new.facts ≡ old.facts → SameLoad old new → Leads d (Disk name disk state) Done old new
+  disk_leads d old new name disk state s before after stands is changed keeps sets facts load =
       let seat = site_at d old name s stands is in
       let on : Bool = is_failing state in
       let m : Node = d.world.nodes s in
@@ -98,9 +73,9 @@ module _ {R : Type 0} {g : Ghosts R} where
           works = tt;
           calls = tt;
         };
-        sent = refl;
+        carries = carries_node s d (with_one d s n) n old new load (changes_one d s n) refl refl (at_place d.world.nodes s n) refl refl refl (told_by old new s before after changed);
         stands = stands_still d (with_one d s n) old new s before after stands seat.below changed
-            (comes_one d s n after refl refl refl refl stands.links refl refl refl (stands_failing (beside_of d s) m failing after (keeps (beside_of d s) m there))
+            (comes_one d s n after refl stands.links (stands_failing (beside_of d s) m failing after (keeps (beside_of d s) m there))
             (record { told = λ x at u fails. set_on disk on (disks_in before) (disks_in after) m.failing (stands.failing s before seat.below changed.there).told sets x at u fails })
             (fused_set m n before after disk on refl sets (stands.fuses s before seat.below changed.there)))
             (fact_same n ((with_one d s n).world.nodes s) (d.world.links s) (d.world.links s) d.world.sites d.world.sites (at_place d.world.nodes s n) (λ k. refl) refl

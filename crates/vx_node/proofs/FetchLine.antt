@@ -1,30 +1,26 @@
 -- A line that reads blocks of a site that may keep links.
-use Rattle.std.proofs.Common.{◌≡◌, ◌∙◌, ◌+◌, ◌*◌, ◌<◌, ◌≤◌, ◌⊎◌, ℕ, false, List, [], ◌∷◌, length, ap, sym, subst, refl, arith, inl, inr, ⊎_elim}
-use Rattle.std.specs.Prelude.{Option, Some, None, Ok, Err, map, slice_get, slice_set, unwrap_or}
+use Rattle.std.proofs.Common.{◌≡◌, ◌∙◌, ◌+◌, ◌*◌, ◌<◌, ◌≤◌, ℕ, List, [], ◌∷◌, length, ap, sym, subst, refl, arith, inl, inr}
+use Rattle.std.specs.Prelude.{Option, Some, Ok, Err, map, slice_get, unwrap_or}
 use Rattle.std.proofs.lemmas.Option.{slice_get_within}
 use Rattle.vx_history.specs.Doubts.{Doubted}
-use Rattle.vx_history.specs.Headers.{headers_by}
 use Rattle.vx_history.specs.Refusals.{Outcome}
-use Rattle.vx_history.specs.Step.{counted, outcome_of, step}
+use Rattle.vx_history.specs.Step.{outcome_of, step}
 use Rattle.vx_history.specs.World.{Node, Volume, World}
 use Rattle.vx_history.specs.declared.event.Event.{Event}
 use Rattle.vx_history.specs.declared.event.Event.TheVariants.{Read as ReadAt}
 use Rattle.vx_history.specs.declared.event.Said.TheVariants.{Got as HasGot}
 use Rattle.vx_model.specs.declared.no.No.{No}
 use Rattle.vx_model.specs.declared.no.No.TheVariants.{Device}
-use Rattle.vx_model.specs.declared.site.Role.TheVariants.{Primary}
 use Rattle.vx_model.specs.declared.site.SiteState.{SiteState}
 use Rattle.vx_model.specs.declared.site.SiteState.TheVariants.{Bare as IsBare, Up as IsUp}
 use Rattle.vx_disk.specs.Disks.{Untouched}
 use Rattle.vx_disk.specs.declared.shelf.Shelf.{Ghosts}
-use Rattle.vx_order.specs.declared.facts.RvgFacts.{RvgFacts}
 use Rattle.vx_order.specs.declared.facts.SiteFacts.{SiteFacts}
-use Rattle.vx_order.specs.declared.facts.VolumeFacts.{VolumeFacts}
 use Rattle.vx_script.specs.declared.line.ScriptLine.{ScriptLine}
 use Rattle.vx_script.specs.declared.line.ScriptLine.TheVariants.{Read, Show}
-use Rattle.vx_diskset.specs.Asked.{LeavesAlone, disks_in}
+use Rattle.vx_diskset.specs.Asked.{LeavesAlone}
 use Rattle.vx_diskset.specs.DiskSets.{CanRead}
-use Rattle.vx_diskset.specs.Fetching.{Gave, GaveAt}
+use Rattle.vx_diskset.specs.Fetching.{GaveAt}
 use Rattle.vx_diskset.specs.Fuses.{LeftAs}
 use Rattle.vx_diskset.specs.Holds.{Beside, beside_of}
 use Rattle.vx_diskset.specs.Stands.{IsToldAt, StandsAt}
@@ -35,26 +31,25 @@ use Rattle.vx_events.proofs.Keeping.{read_stays}
 use Rattle.vx_events.proofs.Places.{some_same}
 use Rattle.vx_events.proofs.RefusedCalls.{CallMay}
 use Rattle.vx_events.proofs.Steps.{read_step}
-use Rattle.vx_events.specs.Doubts.{run_as}
 use Rattle.vx_events.specs.Ends.{Ends, noted}
 use Rattle.vx_events.specs.Fails.{Fails}
 use Rattle.vx_events.specs.Plain.{ArePrimaries}
 use Rattle.vx_events.proofs.Passing.{IsCall}
 use Rattle.vx_rvg.specs.Contents.{Shows}
 use Rattle.vx_events.specs.Facts.{group_by, group_fact, place_of, seat_of, site_number, volume_fact, volume_number}
-use Rattle.vx_events.specs.LinkedFacts.{linked_fact, linked_facts}
+use Rattle.vx_events.specs.LinkedFacts.{linked_fact}
 use Rattle.vx_events.specs.Lines.{IsDone}
 use Rattle.vx_events.specs.LinksFit.{LinksFit}
 use Rattle.vx_events.specs.Lists.{Choice, events_of}
-use Rattle.vx_events.specs.Sayings.{Gives}
 use Rattle.vx_events.specs.declared.said.Said.{Said}
 use Rattle.vx_events.specs.declared.said.Said.TheVariants.{Got, Refused}
-use Rattle.vx_node.specs.Fetching.{IsReadFree, IsReadLine}
-use Rattle.vx_node.specs.OfSites.{OfSite}
+use Rattle.vx_node.specs.Fetching.{IsReadLine}
 use Rattle.vx_node.specs.Stands.{AreTold, RoseAll}
 use Rattle.vx_node.specs.Standing.{Leads, StandsFor}
 use Rattle.vx_node.specs.Yards.{IsTold, count_of}
 use Rattle.vx_node.specs.declared.yard.Yard.{Yard}
+use Rattle.vx_node.specs.Carries.{Carries}
+use Rattle.vx_node.proofs.Carrying.{SameLoad, carries_on, carries_same, feeds_same}
 use Rattle.vx_node.proofs.ChangeSite.{told_before}
 use Rattle.vx_node.proofs.CrashLine.{rose_still}
 use Rattle.vx_node.proofs.FailsStay.{alone_keeps, fails_then}
@@ -62,8 +57,8 @@ use Rattle.vx_node.proofs.FuseStays.{fused_on}
 use Rattle.vx_node.proofs.Lists.{get-set_same}
 use Rattle.vx_node.proofs.NamedSite.{SiteAt, fact_named, site_at}
 use Rattle.vx_node.proofs.NoteSite.{comes_same, one_left, only_left}
-use Rattle.vx_node.proofs.OneSite.{Changed, Comes, beside_same, rose_at, stands_still}
-use Rattle.vx_node.proofs.ReadLine.{may_read, volume_at}
+use Rattle.vx_node.proofs.OneSite.{Changed, Comes, beside_same, rose_at, stands_still, told_by}
+use Rattle.vx_node.proofs.ReadLine.{volume_at}
 use Rattle.vx_node.proofs.SiteEvents.{first_choice}
 
 -- ---- the event
@@ -73,21 +68,26 @@ abbrev behind_read : Doubted → (s volume start count : ℕ) → Doubted
 behind_read d s volume start count = record d { world = (step d.world (ReadAt s volume start count)).world }
 
 -- the same world, with the headers of a read counted, of which there are none
-abbrev recounted : Doubted → World → Doubted
+abbrev pub recounted : Doubted → World → Doubted
 recounted d v = record d { world = record v { headers = λ i. d.world.headers i + 0 } }
 
-no_more : (n : ℕ) → n + 0 ≡ n
+pub no_more : (n : ℕ) → n + 0 ≡ n
 no_more n = omega arith
 
 read_world : (d : Doubted) (s volume start count : ℕ) (P : Doubted → Type 0) → P (recounted d d.world) → P (behind_read d s volume start count)
 read_world d s volume start count P here = subst (λ (v : World). P (recounted d v)) (sym (read_stays d.world s volume start count)) here
 
-recounted_fits : (d : Doubted) → LinksFit d → LinksFit (recounted d d.world)
+pub recounted_fits : (d : Doubted) → LinksFit d → LinksFit (recounted d d.world)
 recounted_fits d fits = record {
   rows = fits.rows;
   later = fits.later;
   bare = λ p bare. let blank = fits.bare p bare in record { links = blank.links; headers = no_more (d.world.headers p) ∙ blank.headers };
-  doubts = λ p a is. let f = fits.doubts p a is in record { up = f.up; halted = f.halted; up_too = f.up_too; halted_too = f.halted_too; row = f.row };
+  doubts = λ p a is.
+      let f = fits.doubts p a is in
+      record { up = f.up; halted = f.halted; up_too = f.up_too; halted_too = f.halted_too; row = f.row; starts = f.starts; quiet = f.quiet };
+  starts = fits.starts;
+  quiet = fits.quiet;
+  rests = fits.rests;
 }
 
 -- a line that reads at this site, by the number of its volume
@@ -192,8 +192,8 @@ module _ {R : Type 0} {g : Ghosts R} where
 
   pub fetch_leads : (d : Doubted) (line : ScriptLine) (old new : Yard R g) (name volume : List ℕ) (start count s place : ℕ) (bytes : List ℕ) (before after : DiskSet R g) → IsReadLine line name volume start count → StandsFor d old
       → Fetching d old name volume start count s place → Changed old new s before after → LeavesAlone before after → GaveAt (beside_of d s) (d.world.nodes s) place start count before after (Ok bytes)
-      → new.facts ≡ old.facts → Leads d line (Got bytes) old new
-  fetch_leads d line old new name volume start count s place bytes before after is stands read changed alone gave facts =
+      → new.facts ≡ old.facts → SameLoad old new → Leads d line (Got bytes) old new
+  fetch_leads d line old new name volume start count s place bytes before after is stands read changed alone gave facts load =
       let k : ℕ = site_number d.world name in
       let v : ℕ = volume_number (d.world.nodes k) volume in
       let can : CanRead (d.world.nodes k) v start count =
@@ -213,7 +213,8 @@ module _ {R : Type 0} {g : Ghosts R} where
             (λ l list still. got_ends (IsTold new) d l k v start count bytes list still gave.size
             (λ told. record { site = omega (arith, read.seat.below, read.seat.number); up = can.up; running = can.running; primary = (were told).each k; known = can.volume_exists; some = read.some; few = read.few; within = can.within })
             (λ told. shows (told.each s after there)));
-        sent = ap (λ (u : World). u.packets) (read_stays d.world k v start count);
+        carries = λ was. read_world d k v start count (λ (e : Doubted). Carries e new)
+            (carries_on d (recounted d d.world) old new was load refl (λ i. refl) (λ i. feeds_same (d.world.nodes i) (d.world.nodes i) refl) (told_by old new s before after changed));
         stands = read_for d old new s before after stands read.seat.below changed alone gave.stands facts k v start count;
         rose = rose_still old new s before after changed.there changed.later changed.disk_sets;
       }
@@ -221,16 +222,16 @@ module _ {R : Type 0} {g : Ghosts R} where
   -- one of its disks failed
   pub fetch_stops : (d : Doubted) (line : ScriptLine) (old new : Yard R g) (name volume : List ℕ) (start count s place : ℕ) (no : No) (before after : DiskSet R g) → IsReadLine line name volume start count → StandsFor d old
       → Fetching d old name volume start count s place → Changed old new s before after → LeavesAlone before after → GaveAt (beside_of d s) (d.world.nodes s) place start count before after (Err no)
-      → new.facts ≡ old.facts → Leads d line (Refused no) old new
-  fetch_stops d line old new name volume start count s place (Device disk) before after is stands read changed alone gave facts =
+      → new.facts ≡ old.facts → SameLoad old new → Leads d line (Refused no) old new
+  fetch_stops d line old new name volume start count s place (Device disk) before after is stands read changed alone gave facts load =
       let k : ℕ = site_number d.world name in
       record {
         next = d;
         fails = (k, disk) ∷ [];
         done = done_by (IsTold new) d line name volume start count ((k, disk) ∷ []) (Refused (Device disk)) d is
             (λ l list still. only_left (IsTold new) d l k (ReadAt k (volume_number (d.world.nodes k) volume) start count) disk (list first_choice) refl (still d.world));
-        sent = refl;
+        carries = carries_same d old new load (told_by old new s before after changed);
         stands = stays_for d old new s before after stands read.seat.below changed alone gave.0 facts;
         rose = subst (λ (i : ℕ). RoseAll ((i, disk) ∷ []) (count_of old) (count_of new)) (sym read.seat.number) (rose_at old new s disk before after changed gave.1);
       }
-  fetch_stops d line old new name volume start count s place other before after is stands read changed alone gave facts = absurd gave
+  fetch_stops d line old new name volume start count s place other before after is stands read changed alone gave facts load = absurd gave

@@ -1,26 +1,19 @@
 -- What a line leaves that sets the fuse of a site.
 use Rattle.std.proofs.Common.{◌≡◌, ◌∙◌, ℕ, List, [], ap, sym, subst, refl, Some}
-use Rattle.std.specs.Prelude.{slice_get, slice_set}
 use Rattle.vx_history.specs.Steps.{fused}
-use Rattle.vx_history.specs.World.{Node, World, FuseSet}
-use Rattle.vx_model.specs.declared.site.SiteState.TheVariants.{Bare as IsBare, Up as IsUp, Down as IsDown}
+use Rattle.vx_history.specs.World.{Node, FuseSet}
+use Rattle.vx_model.specs.declared.site.SiteState.TheVariants.{Up as IsUp}
 use Rattle.vx_disk.specs.declared.shelf.Shelf.{Ghosts}
 use Rattle.vx_order.specs.declared.facts.SiteFacts.{SiteFacts}
 use Rattle.vx_script.specs.declared.line.ScriptLine.TheVariants.{Fuse}
-use Rattle.vx_rvg.specs.declared.group.Rvg.{Rvg}
 use Rattle.vx_diskset.specs.declared.disk_set.DiskSet.{DiskSet}
-use Rattle.vx_diskset.specs.declared.disk_set.DiskSet.TheVariants.{Bare, Spoiled, Up, Receives, Down, Gone}
 use Rattle.vx_events.specs.declared.said.Said.TheVariants.{Done}
 use Rattle.vx_node.specs.declared.yard.Yard.{Yard}
-use Rattle.vx_diskset.specs.DiskSets.{Later}
 use Rattle.vx_events.specs.Facts.{seat_of, site_number}
-use Rattle.vx_diskset.specs.Stands.{StandsAlone}
-use Rattle.vx_node.specs.Works.{Cleanly}
-use Rattle.vx_node.specs.Working.{Worked, IsFree}
-use Rattle.vx_node.specs.Yards.{YardAgrees, in_files}
-use Rattle.vx_node.proofs.CrashLine.{stands_same, rose_still, fuse_fact}
+use Rattle.vx_node.specs.Working.{IsFree}
+use Rattle.vx_node.specs.Yards.{in_files}
+use Rattle.vx_node.proofs.CrashLine.{rose_still, fuse_fact}
 use Rattle.vx_events.proofs.Refused.{fuse_may}
-use Rattle.vx_node.proofs.Seats.{seated, named_fact}
 use Rattle.std.proofs.Common.{arith}
 use Rattle.std.specs.Prelude.{Option}
 use Rattle.vx_history.proofs.Updates.{at_place}
@@ -37,31 +30,12 @@ use Rattle.vx_node.specs.Yards.{IsTold}
 use Rattle.vx_node.proofs.FailsStay.{fails_then, fuse_keeps}
 use Rattle.vx_node.proofs.FuseStays.{fused_on}
 use Rattle.vx_node.proofs.NamedSite.{asks_at, fact_named, site_at}
-use Rattle.vx_node.proofs.NoteSite.{comes_one, none_left, with_one}
-use Rattle.vx_node.proofs.OneSite.{Changed, stands_still}
+use Rattle.vx_node.proofs.NoteSite.{changes_one, comes_one, none_left, with_one}
+use Rattle.vx_node.proofs.OneSite.{Changed, stands_still, told_by}
 use Rattle.vx_node.proofs.Rows.{fact_like, fact_same}
+use Rattle.vx_node.proofs.Carrying.{SameLoad, carries_node}
 
 module _ {R : Type 0} {g : Ghosts R} where
-  -- the line that sets it
-  pub fuse_done : (w : World) (old new : Yard R g) (name : List ℕ) (calls pick s : ℕ) (before after : DiskSet R g) → YardAgrees w old → IsFree old (Fuse name calls pick)
-      → seat_of old.facts.items name ≡ Some s → slice_get old.disk_sets.items s ≡ Some before → Later before after
-      → ((n : Node) → StandsAlone n before → n.state ≡ IsUp → StandsAlone (record n { fuse = FuseSet calls }) after)
-      → new.facts ≡ old.facts → new.disk_sets.items ≡ slice_set old.disk_sets.items s after → new.racks ≡ old.racks → Worked w (Fuse name calls pick) Done old new
-  fuse_done w old new name calls pick s before after stands free seat there later fuses facts disk_sets racks =
-      let here = seated w old name s stands seat in
-      let may = fuse_may old.facts.items (in_files old) name calls pick free in
-      let fact = named_fact w old name s here seat may.0 in
-      let up : (w.nodes s).state ≡ IsUp = ap (λ (f : SiteFacts). f.state) (sym fact) ∙ may.1 in
-      let n : Node = record (w.nodes s) { fuse = FuseSet calls } in
-      record {
-        world = fused w s calls;
-        fails = [];
-        works = subst (λ (k : ℕ). Cleanly [] Done Done (fused w s calls) (fused w k calls)) (sym here.number) (record { none = refl; says = refl; leads = refl });
-        stands = stands_same w (fused w s calls) old new s n after stands here.below refl (λ k. refl) (fuses (w.nodes s) (stands.disk_sets.sites s before here.below there) up)
-            (fuse_fact (w.nodes s) (FuseSet calls)) refl (ap (λ fs. fs.items) facts) disk_sets racks;
-        rose = rose_still old new s before after there later disk_sets;
-      }
-
   -- the site of such a line is up
   pub fuse_up : (d : Doubted) (old : Yard R g) (name : List ℕ) (calls pick s : ℕ) → StandsFor d old → IsFree old (Fuse name calls pick) → seat_of old.facts.items name ≡ Some s → (d.world.nodes s).state ≡ IsUp
   fuse_up d old name calls pick s stands free seat =
@@ -71,8 +45,8 @@ module _ {R : Type 0} {g : Ghosts R} where
   pub fuse_leads : (d : Doubted) (old new : Yard R g) (name : List ℕ) (calls pick s : ℕ) (before after : DiskSet R g) → StandsFor d old → IsFree old (Fuse name calls pick) → seat_of old.facts.items name ≡ Some s
       → Changed old new s before after → ((beside : Beside) (n : Node) → StandsAt beside n before → n.state ≡ IsUp → StandsAt beside (record n { fuse = FuseSet calls }) after)
       → ((beside : Beside) (n : Node) → StandsAt beside n before → n.state ≡ IsUp → SetsFuse calls pick before after)
-      → new.facts ≡ old.facts → Leads d (Fuse name calls pick) Done old new
-  fuse_leads d old new name calls pick s before after stands free is changed fuses asked facts =
+      → new.facts ≡ old.facts → SameLoad old new → Leads d (Fuse name calls pick) Done old new
+  fuse_leads d old new name calls pick s before after stands free is changed fuses asked facts load =
       let seat = site_at d old name s stands is in
       let m : Node = d.world.nodes s in
       let n : Node = record m { fuse = FuseSet calls } in
@@ -88,9 +62,9 @@ module _ {R : Type 0} {g : Ghosts R} where
           works = tt;
           calls = tt;
         };
-        sent = refl;
+        carries = carries_node s d (with_one d s n) n old new load (changes_one d s n) refl refl (at_place d.world.nodes s n) refl refl refl (told_by old new s before after changed);
         stands = stands_still d (with_one d s n) old new s before after stands seat.below changed
-            (comes_one d s n after refl refl refl refl stands.links refl refl refl (fuses (beside_of d s) m there up)
+            (comes_one d s n after refl stands.links (fuses (beside_of d s) m there up)
             (fails_then m n before after refl (fuse_keeps calls pick before after sets) (stands.failing s before seat.below changed.there))
             (fused_on (λ o x. SameBlocks o x × (x.fuse ≡ Some (calls, pick))) m n (FuseSet calls) before after refl
             (λ x y set left. subst (λ (z : Option (ℕ × ℕ)). HasLeft calls z) (sym set.1) (omega arith)) sets (stands.fuses s before seat.below changed.there)))

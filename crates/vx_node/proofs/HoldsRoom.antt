@@ -1,6 +1,6 @@
 -- A write that no test refuses finds room in the log of its site beside what the links of that site need.
-use Rattle.std.proofs.Common.{◌≡◌, ◌∙◌, ⊎_elim, ◌+◌, ◌≤◌, ℕ, zero, suc, List, [], ◌∷◌, length, drop, Bool, true, false, ap, sym, subst, refl, arith}
-use Rattle.std.specs.Prelude.{◌&&◌, Option, Some, None, slice_get, if◌then◌else◌}
+use Rattle.std.proofs.Common.{◌≡◌, ◌∙◌, ⊎_elim, ◌+◌, ◌≤◌, ℕ, zero, suc, List, [], ◌∷◌, length, drop, Bool, true, ap, sym, refl, arith}
+use Rattle.std.specs.Prelude.{◌&&◌, Some, slice_get, if◌then◌else◌}
 use Rattle.std.proofs.lemmas.List.{drop_all}
 use Rattle.vx_model.specs.Content.{Write, blocks_in}
 use Rattle.vx_model.specs.Sites.{is_origin}
@@ -17,13 +17,12 @@ use Rattle.vx_history.specs.Sends.{is_linked}
 use Rattle.vx_history.specs.World.{Link, Node, World}
 use Rattle.vx_history.specs.declared.admission.Change.{Change}
 use Rattle.vx_order.specs.declared.facts.LinkFacts.{LinkFacts}
-use Rattle.vx_order.specs.declared.facts.RvgFacts.{RvgFacts}
 use Rattle.vx_order.specs.declared.facts.SiteFacts.{SiteFacts}
 use Rattle.vx_diskset.specs.Holds.{links_of}
 use Rattle.vx_diskset.specs.Needs.{HasRoom, NoneNeeds, hold_of, is_needing, mode_hold as kept_hold, mode_needs}
 use Rattle.vx_events.proofs.LinkTesting.{AllLinked, all_linked}
 use Rattle.vx_events.proofs.Places.{some_same}
-use Rattle.vx_events.specs.Facts.{group_by, head_of}
+use Rattle.vx_events.specs.Facts.{group_by}
 use Rattle.vx_events.specs.Fuses.{taken}
 use Rattle.vx_events.specs.LinkedFacts.{link_fact, link_facts, linked_fact, links_by}
 use Rattle.vx_events.specs.LinksFit.{RowFits, is_plain_mode}
@@ -32,7 +31,7 @@ use Rattle.vx_linked.specs.Holds.{HeldBy, last_number, least_hold}
 use Rattle.vx_linked.proofs.LeastHolds.{least_by, least_each}
 
 -- the blocks of writes are counted alike
-taken_same : (xs : List Write) → taken xs ≡ log_blocks xs
+pub taken_same : (xs : List Write) → taken xs ≡ log_blocks xs
 taken_same [] = refl
 taken_same (x ∷ xs) = ap (λ (k : ℕ). (blocks_in x.bytes + 1) + k) (taken_same xs)
 

@@ -1,36 +1,31 @@
 -- The racks as they come back from their disk sets.
-use Rattle.std.proofs.Common.{◌≡◌, ◌∙◌, ◌+◌, ◌++◌, ◌≤◌, inl, inr, ℕ, zero, suc, List, [], ◌∷◌, length, ap, append_assoc, sym, subst, refl, arith, IsTrue}
+use Rattle.std.proofs.Common.{◌≡◌, ◌∙◌, ◌++◌, ◌≤◌, inl, ℕ, zero, suc, List, [], ◌∷◌, length, ap, append_assoc, sym, subst, refl, arith, IsTrue}
 use Rattle.std.specs.Prelude.{Option, Some, None, drop, reverse, slice_get, take}
 use Rattle.std.proofs.lemmas.List.{reverse-append}
 use Rattle.std.specs.Option.{option_and_then}
-use Rattle.vx_history.specs.World.{Node, World}
+use Rattle.vx_history.specs.World.{Node}
 use Rattle.vx_model.specs.declared.site.SiteState.TheVariants.{Bare as IsBare, Up as IsUp, Down as IsDown}
 use Rattle.vx_model.specs.declared.site.SiteState.{SiteState}
 use Rattle.vx_model.specs.declared.call.Update.{Update}
-use Rattle.vx_model.specs.declared.state.KeptLink.{KeptLink}
 use Rattle.vx_model.specs.Content.{Content, Write, fold_writes}
-use Rattle.vx_disk.specs.Shelf.{Image, Meaning, Lawful}
+use Rattle.vx_disk.specs.Shelf.{Meaning, Lawful}
 use Rattle.vx_disk.specs.declared.shelf.Shelf.{Ghosts}
 use Rattle.vx_diskset.specs.Lasts.{FoundWith}
 use Rattle.vx_rvg.specs.Views.{Core}
 use Rattle.vx_diskset.specs.declared.disk_set.DiskSet.{DiskSet}
 use Rattle.vx_diskset.specs.declared.disk_set.DiskSet.TheVariants.{Bare, Spoiled, Up, Receives, Down, Gone}
-use Rattle.vx_diskset.specs.Holds.{alone, Beside, HasSite, HasWrites, Holds, most_header, most_with, state_with, links_of, beside_of}
-use Rattle.vx_events.specs.Doubts.{sure}
-use Rattle.vx_events.specs.Stamps.{most_stamp}
+use Rattle.vx_diskset.specs.Holds.{Beside, Holds, most_header, state_with, beside_of}
 use Rattle.vx_history.specs.Doubts.{Doubted}
-use Rattle.vx_node.specs.Holds.{RacksHold, RacksTell, with_links, rack_count, rack_faults}
+use Rattle.vx_node.specs.Holds.{RacksHold, RacksTell, rack_count, rack_faults}
 use Rattle.vx_diskset.specs.Layouts.{units_of}
-use Rattle.vx_events.specs.Plain.{IsUnlinked}
 use Rattle.vx_node.specs.Racks.{rack_in, racks_in}
-use Rattle.vx_node.specs.Stands.{DiskSetsStand, AreTold, fault_count, faults_of}
-use Rattle.vx_diskset.specs.Stands.{StandsAlone, IsUnused, IsBareAt, IsUpAt, IsReceiverAt, IsDownAt, IsToldAt, StandsAt}
+use Rattle.vx_node.specs.Stands.{AreTold, fault_count, faults_of}
+use Rattle.vx_diskset.specs.Stands.{IsUnused, IsBareAt, IsUpAt, IsReceiverAt, IsDownAt, IsToldAt, StandsAt}
 use Rattle.vx_node.specs.Standing.{SitesAgree}
 use Rattle.vx_diskset.proofs.CrashGroup.{left_with}
-use Rattle.vx_diskset.proofs.StaysUp.{all_taken, durable_content, found_below, told_now}
+use Rattle.vx_diskset.proofs.StaysUp.{all_taken, durable_content, told_now}
 use Rattle.std.proofs.lemmas.Bool.{cases_lt}
 use Rattle.std.proofs.Common.{⊎_elim}
-use Rattle.vx_node.proofs.Unlinked.{links_none}
 
 never_both : {x : SiteState} → x ≡ IsUp → x ≡ IsDown → ⊥
 never_both a b = let e : IsUp ≡ IsDown = sym a ∙ b in cc
@@ -66,27 +61,6 @@ bare_holds n m bare = record {
   where
     state : n.state ≡ IsBare
     state = ap (λ (k : Node). k.state) bare.is
-
--- a log of which more headers may have been written
-more_writes : (links : List KeptLink) (headers : ℕ) (n : Node) (i : Image) → HasWrites (with_links links) n i → HasWrites (record { links = links; headers = headers; doubt = None }) n i
-more_writes links headers n i has = record {
-  count = has.count;
-  least = has.least;
-  most = has.most;
-  found = record {
-    held = has.found.held;
-    has = has.found.has;
-    needs = has.found.needs;
-    found = found_below (units_of n) n.ring (state_with n links) n.session (most_with (with_links links) n has.count) (most_stamp (record n { safe = has.count }) + headers) i has.found.held (omega arith) has.found.found;
-  };
-}
-
-more_headers : (links : List KeptLink) (headers : ℕ) (n : Node) (m : Meaning) → Holds (with_links links) n m → Holds (record { links = links; headers = headers; doubt = None }) n m
-more_headers links headers n m holds = record { up = λ up i now. more (holds.up up i now); down = λ down i now. more (holds.down down i now) }
-  where
-    more : {i : Image} → HasSite (with_links links) n i → HasSite (record { links = links; headers = headers; doubt = None }) n i
-    more {i} (inl has) = inl (more_writes links headers n i has)
-    more {i} (inr never) = absurd never
 
 some_same : {A : Type 0} {a b : A} → Some a ≡ Some b → a ≡ b
 some_same e = cc
@@ -140,14 +114,6 @@ module _ {R : Type 0} {g : Ghosts R} where
   length-racks_in (Down rack ∷ es) all = ap suc (length-racks_in es all.1)
   length-racks_in (Gone ∷ es) all = absurd all.0
 
-  stands_there : (n : Node) (e : DiskSet R g) → StandsAlone n e → IsThere e
-  stands_there n (Bare rack) h = tt
-  stands_there n (Spoiled rack) h = tt
-  stands_there n (Up rvg) h = tt
-  stands_there n (Receives s) h = tt
-  stands_there n (Down rack) h = tt
-  stands_there n Gone h = h
-
   unused_there : (e : DiskSet R g) → IsUnused e → IsThere e
   unused_there (Bare rack) h = tt
   unused_there (Spoiled rack) h = tt
@@ -155,9 +121,6 @@ module _ {R : Type 0} {g : Ghosts R} where
   unused_there (Receives s) h = tt
   unused_there (Down rack) h = tt
   unused_there Gone h = h
-
-  pub disk_sets_there : (w : World) (es : List (DiskSet R g)) → DiskSetsStand w es → AllThere es
-  disk_sets_there w es stand = all_there es (λ s e at. ⊎_elim (λ below. stands_there (w.nodes s) e (stand.sites s e below at)) (λ past. unused_there e (stand.others s e past at)) (cases_lt s w.sites))
 
   counts_as : (x : Option (DiskSet R g)) (d : ℕ) → rack_count g.meaning (option_and_then rack_of x) d ≡ fault_count x d
   counts_as None d = refl
@@ -168,37 +131,6 @@ module _ {R : Type 0} {g : Ghosts R} where
   counts_as (Some (Down rack)) d = refl
   counts_as (Some Gone) d = refl
 
-  pub racks_count : (w : World) (es : List (DiskSet R g)) → DiskSetsStand w es → (s d : ℕ) → rack_faults g.meaning (racks_in es) s d ≡ faults_of es s d
-  racks_count w es stand s d = ap (λ (r : Option R). rack_count g.meaning r d) (slice_get-racks_in es (disk_sets_there w es stand) s) ∙ counts_as (slice_get es s) d
-
-  site_holds : (lawful : (r : R) → Lawful (g.meaning r)) (n : Node) (x : Option (DiskSet R g)) (r : R) → ((e : DiskSet R g) → x ≡ Some e → StandsAlone n e) → option_and_then rack_of x ≡ Some r → Holds alone n (g.meaning r)
-  site_holds lawful n None r stands is = absurd (cc)
-  site_holds lawful n (Some (Bare rack)) r stands is =
-      subst (λ (k : R). Holds alone n (g.meaning k)) (some_same is) (bare_holds n (g.meaning rack) (stands (Bare rack) refl).bare)
-  site_holds lawful n (Some (Spoiled rack)) r stands is =
-      subst (λ (k : R). Holds alone n (g.meaning k)) (some_same is) (bare_holds n (g.meaning rack) (stands (Spoiled rack) refl))
-  site_holds lawful n (Some (Up rvg)) r stands is =
-      subst (λ (k : R). Holds alone n (g.meaning k)) (some_same is) (up_holds n rvg.core (g.meaning rvg.shelf) (stands (Up rvg) refl))
-  site_holds lawful n (Some (Receives s)) r stands is =
-      subst (λ (k : R). Holds alone n (g.meaning k)) (some_same is) (receiver_holds n s.rvg.core s.waiting (g.meaning s.rvg.shelf) (stands (Receives s) refl))
-  site_holds lawful n (Some (Down rack)) r stands is =
-      subst (λ (k : R). Holds alone n (g.meaning k)) (some_same is) (down_holds n (g.meaning rack) (lawful rack) (stands (Down rack) refl))
-  site_holds lawful n (Some Gone) r stands is = absurd (cc)
-
-  -- a site without links has those of the world, which are none
-  sites_hold : (lawful : (r : R) → Lawful (g.meaning r)) (w : World) (es : List (DiskSet R g)) → IsUnlinked w → DiskSetsStand w es → RacksHold g.meaning (sure w) (racks_in es)
-  sites_hold lawful w es none stand = record {
-    eight = length-racks_in es (disk_sets_there w es stand) ∙ stand.eight;
-    each = λ s r below at.
-        let held = site_holds lawful (w.nodes s) (slice_get es s) r (λ e is. stand.sites s e below is) (sym (slice_get-racks_in es (disk_sets_there w es stand) s) ∙ at) in
-        let linked : Holds (with_links (links_of w s)) (w.nodes s) (g.meaning r) =
-        subst (λ (links : List KeptLink). Holds (with_links links) (w.nodes s) (g.meaning r)) (sym (links_none w s none)) held in
-        more_headers (links_of w s) (w.headers s) (w.nodes s) (g.meaning r) linked;
-  }
-
-  pub racks_hold : (lawful : (r : R) → Lawful (g.meaning r)) (d : Doubted) (es : List (DiskSet R g)) → d ≡ sure d.world → IsUnlinked d.world → DiskSetsStand d.world es → RacksHold g.meaning d (racks_in es)
-  racks_hold lawful d es calm none stand = subst (λ (e : Doubted). RacksHold g.meaning e (racks_in es)) (sym calm) (sites_hold lawful d.world es none stand)
-
   tells_at : (e : DiskSet R g) → IsThere e → ((r : R) → rack_of e ≡ Some r → IsTrue (g.meaning r).tells) → IsToldAt e
   tells_at (Bare rack) there f = f rack refl
   tells_at (Spoiled rack) there f = f rack refl
@@ -206,13 +138,6 @@ module _ {R : Type 0} {g : Ghosts R} where
   tells_at (Receives s) there f = f s.rvg.shelf refl
   tells_at (Down rack) there f = f rack refl
   tells_at Gone there f = there
-
-  pub racks_tell : (w : World) (es : List (DiskSet R g)) → DiskSetsStand w es → RacksTell g.meaning (racks_in es) → AreTold es
-  racks_tell w es stand tell = record {
-    each = λ s e at. tells_at e
-        (⊎_elim (λ below. stands_there (w.nodes s) e (stand.sites s e below at)) (λ past. unused_there e (stand.others s e past at)) (cases_lt s w.sites))
-        (λ r is. tell.each s r (slice_get-racks_in es (disk_sets_there w es stand) s ∙ ap (λ (x : Option (DiskSet R g)). option_and_then rack_of x) at ∙ is));
-  }
 
   -- ---- sites that may keep links and be in doubt
 

@@ -1,30 +1,28 @@
 -- A yard that stands for a world has sites of shapes that sites may have.
-use Rattle.std.proofs.Common.{◌≡◌, ◌∙◌, ◌+◌, ◌<◌, ◌≤◌, ℕ, zero, suc, List, [], ◌∷◌, length, ap, sym, subst, refl, arith}
+use Rattle.std.proofs.Common.{◌≡◌, ◌∙◌, ◌<◌, ◌≤◌, ℕ, zero, suc, List, [], ◌∷◌, length, ap, sym, refl, arith}
 use Rattle.std.proofs.lemmas.List.{length-map}
-use Rattle.std.specs.Prelude.{Option, Some, None, map, slice_get}
+use Rattle.std.specs.Prelude.{Some, map, slice_get}
 use Rattle.std.specs.Str.{bytes_eq}
 use Rattle.std.proofs.lemmas.Option.{slice_get_within}
 use Rattle.vx_history.specs.Doubts.{Doubted}
-use Rattle.vx_history.specs.World.{Node, World}
+use Rattle.vx_history.specs.World.{Node}
 use Rattle.vx_model.specs.declared.site.SiteState.TheVariants.{Bare as IsBare, Up as IsUp, Deported, Down as IsDown}
 use Rattle.vx_disk.specs.declared.shelf.Shelf.{Ghosts}
 use Rattle.vx_order.specs.declared.facts.SiteFacts.{SiteFacts}
 use Rattle.vx_order.specs.declared.facts.VolumeFacts.{VolumeFacts}
-use Rattle.vx_diskset.specs.Holds.{Beside, alone, beside_of}
+use Rattle.vx_diskset.specs.Holds.{Beside, beside_of}
 use Rattle.vx_diskset.specs.Stands.{StandsAt}
 use Rattle.vx_diskset.specs.declared.disk_set.DiskSet.{DiskSet}
 use Rattle.vx_diskset.specs.declared.disk_set.DiskSet.TheVariants.{Bare, Spoiled, Up, Receives, Down, Gone}
 use Rattle.vx_events.proofs.Places.{position_within, some_same}
-use Rattle.vx_events.specs.Facts.{place_of, site_fact, volume_fact}
+use Rattle.vx_events.specs.Facts.{place_of, volume_fact}
 use Rattle.vx_events.specs.LinkedFacts.{linked_fact}
+use Rattle.vx_node.specs.Carries.{Carries}
 use Rattle.vx_node.specs.Standing.{StandsFor}
-use Rattle.vx_node.specs.Yards.{IsKept, IsShaped, YardAgrees, YardStands}
+use Rattle.vx_node.specs.Yards.{IsKept, IsShaped}
 use Rattle.vx_node.specs.declared.yard.Yard.{Yard}
-use Rattle.vx_node.proofs.CrashLine.{fact_there}
 use Rattle.vx_node.proofs.NamedSite.{fact_of}
-use Rattle.vx_node.proofs.SiteLine.{sites_many}
 use Rattle.vx_node.proofs.SiteMore.{many_sites}
-use Rattle.vx_node.proofs.Unlinked.{stands_plain}
 
 some_at : {A : Type 0} (xs : List A) (i : ℕ) → i < length xs → (x : A) × (slice_get xs i ≡ Some x)
 some_at [] i h = absurd (omega arith)
@@ -84,22 +82,12 @@ module _ {R : Type 0} {g : Ghosts R} where
   }
   shape_at beside n Gone h = absurd h
 
-  pub kept_agrees : (w : World) (y : Yard R g) → YardAgrees w y → IsKept y
-  kept_agrees w y agrees = record {
-    eight = agrees.disk_sets.eight;
-    few = omega (arith, sites_many w y agrees, agrees.disk_sets.few);
-    each = λ s f at.
-        let below : s < w.sites = omega (arith, slice_get_within y.facts.items s f at, sites_many w y agrees) in
-        let e = some_at y.disk_sets.items s (omega (arith, below, agrees.disk_sets.few, agrees.disk_sets.eight)) in
-        let same : f ≡ site_fact (w.nodes s) = some_same (sym at ∙ fact_there w y s agrees below) in
-        shaped_fact (w.nodes s) f (ap (λ (k : SiteFacts). k.volumes) same) (ap (λ (k : SiteFacts). k.state) same) (ap (λ (k : SiteFacts). k.disks) same) (ap (λ (k : SiteFacts). k.blocks) same)
-        (shape_at alone (w.nodes s) e.0 (agrees.disk_sets.sites s e.0 below e.1));
-  }
-
-  pub kept_for : (d : Doubted) (y : Yard R g) → StandsFor d y → IsKept y
-  kept_for d y stands = record {
+  pub kept_for : (d : Doubted) (y : Yard R g) → StandsFor d y → Carries d y → IsKept y
+  kept_for d y stands carries = record {
     eight = stands.disk_sets.eight;
     few = omega (arith, many_sites d y stands, stands.disk_sets.few);
+    places = carries.places;
+    numbers = carries.numbers;
     each = λ s f at.
         let below : s < d.world.sites = omega (arith, slice_get_within y.facts.items s f at, many_sites d y stands) in
         let e = some_at y.disk_sets.items s (omega (arith, below, stands.disk_sets.few, stands.disk_sets.eight)) in
@@ -107,6 +95,3 @@ module _ {R : Type 0} {g : Ghosts R} where
         shaped_fact (d.world.nodes s) f (ap (λ (k : SiteFacts). k.volumes) same) (ap (λ (k : SiteFacts). k.state) same) (ap (λ (k : SiteFacts). k.disks) same) (ap (λ (k : SiteFacts). k.blocks) same)
         (shape_at (beside_of d s) (d.world.nodes s) e.0 (stands.disk_sets.sites s e.0 below e.1));
   }
-
-  pub kept_plain : (d : Doubted) (y : Yard R g) → YardStands d y → IsKept y
-  kept_plain d y stands = kept_agrees d.world y (stands_plain d y stands)

@@ -1,5 +1,5 @@
 -- What a line of links leaves that needs no disk.
-use Rattle.std.proofs.Common.{◌≡◌, ◌∙◌, ◌++◌, ◌⊎◌, ◌<◌, ◌≤◌, ℕ, List, [], length, false, ap, sym, subst, refl, arith, ⊎_elim}
+use Rattle.std.proofs.Common.{◌≡◌, ◌∙◌, ◌++◌, ◌⊎◌, ◌≤◌, ℕ, List, [], length, false, ap, sym, subst, refl, arith, ⊎_elim}
 use Rattle.std.proofs.lemmas.List.{append-nil}
 use Rattle.std.specs.Prelude.{Option, Some, None, Bool, Result, Err, slice_get}
 use Rattle.std.specs.Vec.{vec_capacity}
@@ -13,10 +13,9 @@ use Rattle.vx_diskset.specs.Stands.{StandsAt}
 use Rattle.vx_diskset.specs.declared.disk_set.DiskSet.{DiskSet}
 use Rattle.vx_effects.proofs.Fitting.{fit_happened}
 use Rattle.vx_events.proofs.LinkWaiting.{wait_agrees}
-use Rattle.vx_events.proofs.Values.{length-values_from}
 use Rattle.vx_events.specs.Facts.{seat_of, site_number}
 use Rattle.vx_events.specs.LinkEnds.{LinksDone}
-use Rattle.vx_events.specs.LinkedFacts.{linked_fact, linked_facts, refused_by}
+use Rattle.vx_events.specs.LinkedFacts.{linked_facts, refused_by}
 use Rattle.vx_events.specs.Lines.{IsDone}
 use Rattle.vx_events.specs.LinksFit.{LinksFit}
 use Rattle.vx_events.specs.Sayings.{Repeats}
@@ -42,9 +41,9 @@ use Rattle.vx_order.specs.Order.{refusal_of}
 use Rattle.vx_order.specs.declared.facts.SiteFacts.{SiteFacts}
 use Rattle.vx_script.specs.declared.line.ScriptLine.{ScriptLine}
 use Rattle.vx_script.specs.declared.line.ScriptLine.TheVariants.{Connect, Cut, Pause, Resume, Tick, Wait}
-use Rattle.vx_node.specs.Carries.{Brings, BringsIs, Carries, StaysAsCarried}
+use Rattle.vx_node.specs.Carries.{Carries}
 use Rattle.vx_node.specs.Happenings.{reply_of}
-use Rattle.vx_node.specs.Standing.{SitesAgree, StandsFor}
+use Rattle.vx_node.specs.Standing.{Leads, LeadsIs, SitesAgree, StandsFor, StaysFor}
 use Rattle.vx_node.specs.Stands.{AreTold, RoseAll, faults_of}
 use Rattle.vx_node.specs.Working.{IsFree}
 use Rattle.vx_node.specs.Yards.{IsTold, count_of, in_files}
@@ -215,32 +214,33 @@ module _ {R : Type 0} {g : Ghosts R} where
   -- a line that changes links in memory, and may have sent something
   pub brings_by : (d : Doubted) (v : World) (line : ScriptLine) (said : Said) (old new : Yard R g) (more : List Packet) → StandsFor d old → Carries d old → LeavesDisks d.world v
       → v.packets ≡ d.world.packets ++ more → LinksFit (record d { world = v }) → IsDone (IsTold new) d line [] said (record d { world = v }) → Relinks old new → new.facts.items ≡ linked_facts v
-      → FlightStands v.packets new.flight → Brings d line said old new
+      → FlightStands v.packets new.flight → Leads d line said old new
   brings_by d v line said old new more stands carries left sends fits done relinks facts flight = record {
     next = record d { world = v };
     fails = [];
     done = done;
     stands = stands_kept d v old new stands left fits relinks facts;
-    carries = carries_kept d v old new more carries left sends relinks flight;
+    carries = λ _. carries_kept d v old new more carries left sends relinks flight;
     rose = rose_kept old new relinks;
   }
 
   -- nothing was done
   pub stays_as : (d : Doubted) (old new : Yard R g) (fs : List SiteFacts) (f : Flying) → StandsFor d old → Carries d old → Relinks old new → new.facts.items ≡ fs → fs ≡ old.facts.items → new.flight ≡ f → f ≡ old.flight
-      → StaysAsCarried d old new
+      → StaysFor d old new
   stays_as d old new fs f stands carries relinks facts same flight still =
       let left : LeavesDisks d.world d.world = record { sites = refl; nodes = λ i. refl; kept = λ i. refl; headers = λ i. refl; gathering = λ i. refl } in
       record {
-        stays = record { stands = stands_kept d d.world old new stands left stands.links relinks (facts ∙ same ∙ stands.facts); rose = rose_kept old new relinks };
-        carries = carries_kept d d.world old new [] carries left (sym (append-nil d.world.packets)) relinks
+        stands = stands_kept d d.world old new stands left stands.links relinks (facts ∙ same ∙ stands.facts);
+        rose = rose_kept old new relinks;
+        carries = λ _. carries_kept d d.world old new [] carries left (sym (append-nil d.world.packets)) relinks
             (subst (λ (x : Flying). FlightStands d.world.packets x) (sym (flight ∙ still)) carries.flight);
       }
 
   -- want of memory, and nothing was done
   pub stays_short : (d : Doubted) (line : ScriptLine) (old new : Yard R g) (r : Result Said OutOfMemory) (e : OutOfMemory) (fs : List SiteFacts) (f : Flying) → r ≡ Err e → StandsFor d old → Carries d old → Relinks old new
-      → new.facts.items ≡ fs → fs ≡ old.facts.items → new.flight ≡ f → f ≡ old.flight → BringsIs d line old new r
+      → new.facts.items ≡ fs → fs ≡ old.facts.items → new.flight ≡ f → f ≡ old.flight → LeadsIs d line old new r
   stays_short d line old new r e fs f is stands carries relinks facts same flight still =
-      subst (λ (x : Result Said OutOfMemory). BringsIs d line old new x) (sym is) (stays_as d old new fs f stands carries relinks facts same flight still)
+      subst (λ (x : Result Said OutOfMemory). LeadsIs d line old new x) (sym is) (stays_as d old new fs f stands carries relinks facts same flight still)
 
   -- ---- what the calls of links ask
 
@@ -263,7 +263,7 @@ module _ {R : Type 0} {g : Ghosts R} where
   -- ---- the lines
 
   pub connect_brings : (d : Doubted) (old new : Yard R g) (p s : List ℕ) (fs : List SiteFacts) → StandsFor d old → Carries d old → ComesTo d.world (ConnectAt (site_number d.world p) (site_number d.world s)) fs new.flight
-      → new.facts.items ≡ fs → Relinks old new → Brings d (Connect p s) Done old new
+      → new.facts.items ≡ fs → Relinks old new → Leads d (Connect p s) Done old new
   connect_brings d old new p s fs stands carries comes facts relinks =
       let a : ℕ = site_number d.world p in
       let b : ℕ = site_number d.world s in
@@ -272,7 +272,7 @@ module _ {R : Type 0} {g : Ghosts R} where
       (connect_done (IsTold new) d p s comes.said) relinks (facts ∙ comes.stands.facts) comes.stands.flight
 
   pub cut_brings : (d : Doubted) (old new : Yard R g) (p s : List ℕ) (fs : List SiteFacts) → StandsFor d old → Carries d old → ComesTo d.world (CutAt (site_number d.world p) (site_number d.world s)) fs new.flight
-      → new.facts.items ≡ fs → Relinks old new → Brings d (Cut p s) Done old new
+      → new.facts.items ≡ fs → Relinks old new → Leads d (Cut p s) Done old new
   cut_brings d old new p s fs stands carries comes facts relinks =
       let a : ℕ = site_number d.world p in
       let b : ℕ = site_number d.world s in
@@ -280,7 +280,7 @@ module _ {R : Type 0} {g : Ghosts R} where
       (fit_happened d (CutAt a b) false stands.links) (cut_done (IsTold new) d p s comes.said) relinks (facts ∙ comes.stands.facts) comes.stands.flight
 
   pub pause_brings : (d : Doubted) (old new : Yard R g) (p s : List ℕ) (fs : List SiteFacts) → StandsFor d old → Carries d old → ComesTo d.world (PauseAt (site_number d.world p) (site_number d.world s)) fs new.flight
-      → new.facts.items ≡ fs → Relinks old new → Brings d (Pause p s) Done old new
+      → new.facts.items ≡ fs → Relinks old new → Leads d (Pause p s) Done old new
   pause_brings d old new p s fs stands carries comes facts relinks =
       let a : ℕ = site_number d.world p in
       let b : ℕ = site_number d.world s in
@@ -288,7 +288,7 @@ module _ {R : Type 0} {g : Ghosts R} where
       (fit_happened d (PauseAt a b) false stands.links) (pause_done (IsTold new) d p s comes.said) relinks (facts ∙ comes.stands.facts) comes.stands.flight
 
   pub resume_brings : (d : Doubted) (old new : Yard R g) (p s : List ℕ) (fs : List SiteFacts) → StandsFor d old → Carries d old → ComesTo d.world (ResumeAt (site_number d.world p) (site_number d.world s)) fs new.flight
-      → new.facts.items ≡ fs → Relinks old new → Brings d (Resume p s) Done old new
+      → new.facts.items ≡ fs → Relinks old new → Leads d (Resume p s) Done old new
   resume_brings d old new p s fs stands carries comes facts relinks =
       let a : ℕ = site_number d.world p in
       let b : ℕ = site_number d.world s in
@@ -296,7 +296,7 @@ module _ {R : Type 0} {g : Ghosts R} where
       (fit_happened d (ResumeAt a b) false stands.links) (resume_done (IsTold new) d p s comes.said) relinks (facts ∙ comes.stands.facts) comes.stands.flight
 
   pub tick_brings : (d : Doubted) (old new : Yard R g) (p s : List ℕ) (fs : List SiteFacts) → StandsFor d old → Carries d old → ComesTo d.world (TickAt (site_number d.world p) (site_number d.world s)) fs new.flight
-      → new.facts.items ≡ fs → Relinks old new → Brings d (Tick p s) Done old new
+      → new.facts.items ≡ fs → Relinks old new → Leads d (Tick p s) Done old new
   tick_brings d old new p s fs stands carries comes facts relinks =
       let a : ℕ = site_number d.world p in
       let b : ℕ = site_number d.world s in
@@ -305,12 +305,12 @@ module _ {R : Type 0} {g : Ghosts R} where
 
   pub wait_brings : (d : Doubted) (y : Yard R g) (p : List ℕ) (number : ℕ) (said : Said) (o : EventSaid) (fs : List SiteFacts) → StandsFor d y → Carries d y → (files : Bool) → refused_by d.world files (Wait p number) ≡ None
       → o ≡ (step d.world (WaitAt (site_number d.world p) number)).said → fs ≡ y.facts.items → fs ≡ linked_facts (step d.world (WaitAt (site_number d.world p) number)).world → said ≡ reply_of o
-      → Brings d (Wait p number) said y y
+      → Leads d (Wait p number) said y y
   wait_brings d y p number said o fs stands carries files free is same facts replied =
       let a : ℕ = site_number d.world p in
       let v : World = (step d.world (WaitAt a number)).world in
       let sends : v.packets ≡ d.world.packets = wait_sends d.world a number in
-      subst (λ (x : Said). Brings d (Wait p number) x y y) (sym (replied ∙ ap reply_of is))
+      subst (λ (x : Said). Leads d (Wait p number) x y y) (sym (replied ∙ ap reply_of is))
       (brings_by d v (Wait p number) (reply_of (step d.world (WaitAt a number)).said) y y [] stands carries (wait_leaves d.world a number) (sends ∙ sym (append-nil d.world.packets))
       (fit_happened d (WaitAt a number) false stands.links) (wait_done (IsTold y) files d p number (all_listed d.world (λ k. (stands.links.rows k).places)) free)
       (record { disk_sets = refl; racks = refl; assemblies = refl; feeders = refl }) (sym same ∙ facts) (subst (λ (ps : List Packet). FlightStands ps y.flight) (sym sends) carries.flight))

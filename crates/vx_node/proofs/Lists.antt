@@ -25,6 +25,12 @@ set_twice [] i x y = refl
 set_twice (z ∷ xs) zero x y = refl
 set_twice (z ∷ xs) (suc i) x y = ap (λ ys. z ∷ ys) (set_twice xs i x y)
 
+-- a place past the end
+pub set_past : {A : Type 0} (xs : List A) (i : ℕ) (x : A) → (i < length xs → ⊥) → xs ≡ slice_set xs i x
+set_past [] i x past = refl
+set_past (y ∷ xs) zero x past = absurd (past (omega arith))
+set_past (y ∷ xs) (suc i) x past = ap (λ ys. y ∷ ys) (set_past xs i x (λ below. past (omega (arith, below))))
+
 -- an element in its own place
 pub set_same : {A : Type 0} (xs : List A) (i : ℕ) (x : A) → slice_get xs i ≡ Some x → slice_set xs i x ≡ xs
 set_same [] i x is = refl

@@ -1,13 +1,12 @@
 -- The site that a line names, in a yard whose sites may keep links.
 use Rattle.std.proofs.Common.{◌≡◌, ◌∙◌, ◌+◌, ◌<◌, ℕ, List, [], length, ap, sym, subst, refl, arith}
-use Rattle.std.specs.Prelude.{Option, Some, None, slice_get, slice_set, unwrap_or}
+use Rattle.std.specs.Prelude.{Option, Some, slice_get, slice_set, unwrap_or}
 use Rattle.std.specs.Str.{bytes_eq}
 use Rattle.vx_history.specs.Doubts.{Doubted}
-use Rattle.vx_history.specs.World.{World}
 use Rattle.vx_disk.specs.declared.shelf.Shelf.{Ghosts}
 use Rattle.vx_order.specs.declared.facts.SiteFacts.{SiteFacts}
 use Rattle.vx_diskset.specs.declared.disk_set.DiskSet.{DiskSet}
-use Rattle.vx_events.specs.Facts.{facts_of, seat_of, site_number}
+use Rattle.vx_events.specs.Facts.{seat_of, site_number}
 use Rattle.vx_events.specs.LinkedFacts.{linked_fact, linked_facts}
 use Rattle.vx_events.proofs.LinkTesting.{seats_same}
 use Rattle.vx_events.proofs.Places.{position_within, some_same}
@@ -22,6 +21,7 @@ use Rattle.vx_node.specs.Standing.{LeadsIs, SitesAgree, StandsFor, StaysFor}
 use Rattle.vx_node.specs.Stands.{AreTold, RoseAll, faults_of}
 use Rattle.std.specs.Vec.{vec_capacity}
 use Rattle.vx_node.specs.Yards.{count_of}
+use Rattle.vx_node.proofs.Carrying.{SameLoad, carries_same}
 use Rattle.vx_node.proofs.ChangeSite.{rose_none}
 use Rattle.vx_node.proofs.OfSites.{site_still}
 use Rattle.vx_node.specs.declared.yard.Yard.{Yard}
@@ -66,7 +66,7 @@ module _ {R : Type 0} {g : Ghosts R} where
 
   -- a line for which memory was short
   pub unbegun_for : (d : Doubted) (y : Yard R g) → StandsFor d y → StaysFor d y y
-  unbegun_for d y stands = record { stands = stands; rose = rose_none (count_of y) (count_of y) (λ s u. omega arith) }
+  unbegun_for d y stands = record { stands = stands; carries = λ was. was; rose = rose_none (count_of y) (count_of y) (λ s u. omega arith) }
 
   pub unbegun_site : (Did : DiskSet R g → DiskSet R g → Type 0) (d : Doubted) (y : Yard R g) (name : List ℕ) → ((e : DiskSet R g) → Did e e) → StandsFor d y → Named y.facts.items name → OfSite Did (site_number d.world name) y y
   unbegun_site Did d y name none stands named =
@@ -74,8 +74,8 @@ module _ {R : Type 0} {g : Ghosts R} where
       subst (λ (k : ℕ). OfSite Did k y y) (sym here.number) (site_still Did named.at.place y y none (omega (arith, here.below, stands.disk_sets.eight, stands.disk_sets.few)) refl)
 
   -- a yard of which each part is as it was
-  pub unbegun_by : (d : Doubted) (line : ScriptLine) (y new : Yard R g) (r : Result Said OutOfMemory) (e : OutOfMemory) → r ≡ Err e → new.facts.items ≡ y.facts.items → new.disk_sets ≡ y.disk_sets → new.racks ≡ y.racks → StandsFor d y → LeadsIs d line y new r
-  unbegun_by d line y new r e is facts disk_sets racks stands = subst (λ (x : Result Said OutOfMemory). LeadsIs d line y new x) (sym is) (record {
+  pub unbegun_by : (d : Doubted) (line : ScriptLine) (y new : Yard R g) (r : Result Said OutOfMemory) (e : OutOfMemory) → r ≡ Err e → new.facts.items ≡ y.facts.items → new.disk_sets ≡ y.disk_sets → new.racks ≡ y.racks → SameLoad y new → StandsFor d y → LeadsIs d line y new r
+  unbegun_by d line y new r e is facts disk_sets racks load stands = subst (λ (x : Result Said OutOfMemory). LeadsIs d line y new x) (sym is) (record {
     stands = record {
       facts = facts ∙ stands.facts;
       disk_sets = subst (λ es. SitesAgree d es) (sym sets) stands.disk_sets;
@@ -87,6 +87,7 @@ module _ {R : Type 0} {g : Ghosts R} where
       none = ap (λ rs. rs.items) racks ∙ stands.none;
       room = omega (arith, stands.room, ap (λ rs. vec_capacity rs) racks);
     };
+    carries = carries_same d y new load (λ told. subst (λ es. AreTold es) sets told);
     rose = subst (λ es. RoseAll [] (count_of y) (faults_of es)) (sym sets) (rose_none (count_of y) (count_of y) (λ s u. omega arith));
   })
     where

@@ -8,10 +8,10 @@ use Rattle.vx_diskset.specs.declared.disk_set.DiskSet.TheVariants.{Bare}
 use Rattle.std.specs.Vec.{vec_capacity}
 use Rattle.vx_effects.proofs.Leaving.{fit_empty}
 use Rattle.vx_events.specs.Doubts.{sure}
-use Rattle.vx_node.specs.Standing.{StandsFor}
+use Rattle.vx_node.specs.Standing.{SitesAgree, StandsFor}
 use Rattle.vx_node.specs.declared.yard.Yard.{Yard}
 use Rattle.vx_node.specs.Holds.{AreFresh, rack_faults}
-use Rattle.vx_node.specs.Stands.{DiskSetsStand, faults_of}
+use Rattle.vx_node.specs.Stands.{faults_of}
 use Rattle.vx_diskset.specs.Stands.{IsUnused}
 use Rattle.vx_diskset.proofs.StaysUp.{not_true}
 
@@ -37,7 +37,7 @@ module _ {R : Type 0} {g : Ghosts R} where
   rack_of (r ∷ rs) (suc s) e is = rack_of rs s e is
 
   -- fresh racks are the disk sets of numbers that no site has
-  pub disk_sets_new : (rs : List R) → AreFresh g.meaning rs → DiskSetsStand empty_world (map (λ (r : R). let e : DiskSet R g = Bare r in e) rs)
+  pub disk_sets_new : (rs : List R) → AreFresh g.meaning rs → SitesAgree (sure empty_world) (map (λ (r : R). let e : DiskSet R g = Bare r in e) rs)
   disk_sets_new rs fresh = record {
     eight = length-bare (λ (r : R). let e : DiskSet R g = Bare r in e) rs ∙ fresh.eight;
     few = omega arith;
@@ -50,10 +50,10 @@ module _ {R : Type 0} {g : Ghosts R} where
   }
 
   -- a yard without sites stands for the world without sites
-  pub begins_empty : (y : Yard R g) → y.facts.items ≡ [] → DiskSetsStand empty_world y.disk_sets.items → y.racks.items ≡ [] → 8 ≤ vec_capacity y.racks → StandsFor (sure empty_world) y
+  pub begins_empty : (y : Yard R g) → y.facts.items ≡ [] → SitesAgree (sure empty_world) y.disk_sets.items → y.racks.items ≡ [] → 8 ≤ vec_capacity y.racks → StandsFor (sure empty_world) y
   begins_empty y facts stood none room = record {
     facts = facts;
-    disk_sets = record { eight = stood.eight; few = stood.few; sites = λ s e below is. absurd (omega (arith, below)); others = stood.others };
+    disk_sets = stood;
     links = fit_empty;
     primaries = λ told. record { each = λ i. refl };
     doubts = λ s a is. absurd (never is);

@@ -1,27 +1,24 @@
 -- A site of which a line notes something, and the events of one step, where sites may be in doubt.
-use Rattle.std.proofs.Common.{◌≡◌, ◌∙◌, ◌+◌, ◌<◌, ◌≤◌, ℕ, Bool, false, true, List, [], ◌∷◌, ap, sym, subst, refl, arith, ⊎_elim}
-use Rattle.std.specs.Prelude.{Option, Some, None}
-use Rattle.std.proofs.lemmas.Bool.{cases_eq}
-use Rattle.vx_history.proofs.Updates.{all_updated, at_place}
-use Rattle.vx_history.specs.Doubts.{After, Doubted, crashed_by, resolved_for}
-use Rattle.vx_history.specs.Refusals.{Outcome, is_running}
+use Rattle.std.proofs.Common.{◌≡◌, ◌∙◌, ℕ, false, List, [], ◌∷◌, ap, sym, subst, refl}
+use Rattle.std.specs.Prelude.{Option, None}
+use Rattle.vx_history.proofs.Updates.{at_place}
+use Rattle.vx_history.specs.Doubts.{Doubted, crashed_by, resolved_for}
+use Rattle.vx_history.specs.Refusals.{Outcome}
 use Rattle.vx_history.specs.Step.{counted, outcome_of, run, step}
 use Rattle.vx_history.specs.World.{Node, World, with_node}
 use Rattle.vx_history.specs.declared.event.Event.{Event}
-use Rattle.vx_model.specs.declared.site.Role.TheVariants.{Primary}
-use Rattle.vx_model.specs.declared.site.SiteState.TheVariants.{Bare}
 use Rattle.vx_disk.specs.declared.shelf.Shelf.{Ghosts}
 use Rattle.vx_script.specs.declared.line.ScriptLine.{ScriptLine}
 use Rattle.vx_diskset.specs.Asked.{FailsAs, FusedAs}
 use Rattle.vx_diskset.specs.Holds.{beside_of}
-use Rattle.vx_diskset.specs.Stands.{IsToldAt, StandsAt}
+use Rattle.vx_diskset.specs.Stands.{StandsAt}
 use Rattle.vx_diskset.specs.declared.disk_set.DiskSet.{DiskSet}
 use Rattle.vx_events.proofs.Calm.{chosen_world, run_world}
 use Rattle.vx_events.specs.Doubts.{run_as}
 use Rattle.vx_events.specs.Effects.{ChangesNode}
 use Rattle.vx_events.specs.Ends.{AllDone, DiskFails, Ends, LeavesOf, noted}
-use Rattle.vx_events.specs.Fails.{Fails}
-use Rattle.vx_events.specs.LinksFit.{IsBlank, DoubtFits, LinksFit}
+use Rattle.vx_effects.proofs.Leaving.{fit_note}
+use Rattle.vx_events.specs.LinksFit.{LinksFit}
 use Rattle.vx_events.specs.Lists.{Choice, events_of}
 use Rattle.vx_events.specs.Sayings.{Replies, RepeatsOf}
 use Rattle.vx_events.specs.declared.said.Said.{Said}
@@ -36,7 +33,7 @@ use Rattle.vx_node.proofs.SiteEvents.{first_choice}
 abbrev pub with_one : Doubted → (s : ℕ) → Node → Doubted
 with_one d s n = record d { world = with_node d.world s n }
 
-changes_one : (d : Doubted) (s : ℕ) (n : Node) → ChangesNode s d (with_one d s n)
+pub changes_one : (d : Doubted) (s : ℕ) (n : Node) → ChangesNode s d (with_one d s n)
 changes_one d s n = record {
   sites = refl;
   nodes = λ i apart. apart_place d.world.nodes s n i apart;
@@ -46,22 +43,18 @@ changes_one d s n = record {
   gathering = λ i apart. refl;
 }
 
--- links fit as well where a site is up or not, and halted or not, as it was
-fits_one : (d : Doubted) (s : ℕ) (n : Node) → n.state ≡ (d.world.nodes s).state → n.halted ≡ (d.world.nodes s).halted → LinksFit d → LinksFit (with_one d s n)
-fits_one d s n state halted fits = record {
-  rows = fits.rows;
-  later = λ p past. at_state p ∙ fits.later p past;
-  bare = λ p bare. let blank = fits.bare p (sym (at_state p) ∙ bare) in record { links = blank.links; headers = blank.headers };
-  doubts = λ p a is.
-      let f = fits.doubts p a is in
-      record { up = at_state p ∙ f.up; halted = ap (λ (h : Option ℕ). is_running h) (at_halted p) ∙ f.halted; up_too = f.up_too; halted_too = f.halted_too; row = f.row };
-}
-  where
-    at_state : (p : ℕ) → ((with_one d s n).world.nodes p).state ≡ (d.world.nodes p).state
-    at_state p = all_updated (λ k m. m.state ≡ (d.world.nodes k).state) d.world.nodes s n state (λ k apart. refl) p
+-- a node of which nothing changed but what is noted of its disks
+abbrev pub IsNoted : Node → Node → Type 0
+IsNoted n m = m ≡ record n { fuse = m.fuse; failing = m.failing }
 
-    at_halted : (p : ℕ) → ((with_one d s n).world.nodes p).halted ≡ (d.world.nodes p).halted
-    at_halted p = all_updated (λ k m. m.halted ≡ (d.world.nodes k).halted) d.world.nodes s n halted (λ k apart. refl) p
+-- links fit as well
+fits_one : (d : Doubted) (s : ℕ) (n : Node) → IsNoted (d.world.nodes s) n → LinksFit d → LinksFit (with_one d s n)
+fits_one d s n noted fits =
+    fit_note d s n (ap (λ (m : Node). m.state) noted) (ap (λ (m : Node). m.halted) noted) (ap (λ (m : Node). m.role) noted)
+    (record {
+      quiet = λ e. ap (λ (m : Node). m.phase) noted ∙ e;
+      rests = λ was down. ap (λ (m : Node). m.fed_by) noted ∙ was (sym (ap (λ (m : Node). m.state) noted) ∙ down) ∙ sym (ap (λ (m : Node). m.other) noted);
+    }) fits
 
 -- a line without events is done
 pub none_left : (told : Type 0) (d : Doubted) (line : ScriptLine) (s : ℕ) (said : Said) (v : World) → events_of d.world line first_choice ≡ [] → Replies told line s false d [] said → v ≡ noted s line d.world
@@ -93,21 +86,26 @@ only_left told d line s e disk is leaves still = DiskFails first_choice false []
 
 module _ {R : Type 0} {g : Ghosts R} where
   -- a site whose node is another, with what it has beside it
-  pub comes_one : (d : Doubted) (s : ℕ) (n : Node) (after : DiskSet R g) → n.name ≡ (d.world.nodes s).name → n.disks ≡ (d.world.nodes s).disks → n.blocks ≡ (d.world.nodes s).blocks → n.volumes ≡ (d.world.nodes s).volumes → LinksFit d → n.state ≡ (d.world.nodes s).state → n.halted ≡ (d.world.nodes s).halted → n.role ≡ (d.world.nodes s).role
-      → StandsAt (beside_of d s) n after → FailsAs n after → FusedAs n after → Comes d (with_one d s n) s after
-  comes_one d s n after name disks blocks volumes fits state halted role stands failing fuse =
+  pub comes_one : (d : Doubted) (s : ℕ) (n : Node) (after : DiskSet R g) → IsNoted (d.world.nodes s) n → LinksFit d → StandsAt (beside_of d s) n after → FailsAs n after → FusedAs n after → Comes d (with_one d s n) s after
+  comes_one d s n after noted fits stands failing fuse =
       let here : n ≡ (with_one d s n).world.nodes s = sym (at_place d.world.nodes s n) in
       record {
         changes = changes_one d s n;
-        links = fits_one d s n state halted fits;
+        links = fits_one d s n noted fits;
         stands = subst (λ (m : Node). StandsAt (beside_of d s) m after) here stands;
         failing = subst (λ (m : Node). FailsAs m after) here failing;
         fuse = subst (λ (m : Node). FusedAs m after) here fuse;
-        role = λ T was here_told told primary. ap (λ (m : Node). m.role) (sym here) ∙ role ∙ primary;
+        role = λ T was here_told told primary. ap (λ (m : Node). m.role) (sym here) ∙ ap (λ (m : Node). m.role) noted ∙ primary;
         doubt = λ told was a is.
             let w = was a is in
             subst (λ (m : Node). IsSameSite told m a.node) here
-            (record { name = w.name ∙ sym name; disks = w.disks ∙ sym disks; blocks = w.blocks ∙ sym blocks; volumes = w.volumes ∙ sym volumes; role = w.role });
+            (record {
+              name = w.name ∙ sym (ap (λ (m : Node). m.name) noted);
+              disks = w.disks ∙ sym (ap (λ (m : Node). m.disks) noted);
+              blocks = w.blocks ∙ sym (ap (λ (m : Node). m.blocks) noted);
+              volumes = w.volumes ∙ sym (ap (λ (m : Node). m.volumes) noted);
+              role = w.role;
+            });
       }
 
   -- a site of which nothing is noted

@@ -1,22 +1,17 @@
 -- The disk set of a site within its yard: a line that sets no disk makes none of it fail.
-use Rattle.std.proofs.Common.{◌≡◌, ◌∙◌, ◌<◌, ℕ, List, length, ap, sym, subst, refl, arith}
+use Rattle.std.proofs.Common.{◌≡◌, ◌∙◌, ◌<◌, ℕ, List, length, ap, sym, subst}
 use Rattle.std.specs.Prelude.{Some, slice_get, slice_set}
-use Rattle.vx_history.specs.World.{World}
 use Rattle.vx_disk.specs.Disks.{Disks}
 use Rattle.vx_disk.specs.declared.shelf.Shelf.{Ghosts}
-use Rattle.vx_events.specs.Facts.{seat_of, site_number}
-use Rattle.vx_events.proofs.Refused.{Named}
+use Rattle.vx_events.proofs.Places.{some_same}
 use Rattle.vx_events.specs.declared.said.Said.{Said}
 use Rattle.vx_diskset.specs.Asked.{SameFailing, LeavesFuse, WritesUnder, disks_in, size_in}
 use Rattle.vx_node.specs.OfSites.{OfSite}
 use Rattle.vx_diskset.specs.Burning.{Burnt, IsLogged}
 use Rattle.vx_diskset.specs.declared.disk_set.DiskSet.{DiskSet}
 use Rattle.vx_node.specs.declared.yard.Yard.{Yard}
-use Rattle.vx_node.specs.Yards.{YardAgrees}
 use Rattle.vx_diskset.proofs.KeepsFailing.{failing_then, same_on}
-use Rattle.vx_node.proofs.Lists.{set_same, set_twice, get-set_same}
-use Rattle.vx_events.proofs.Places.{some_same}
-use Rattle.vx_node.proofs.Seats.{seated}
+use Rattle.vx_node.proofs.Lists.{get-set_same, set_same, set_twice}
 use Rattle.vx_node.proofs.WriteLine.{get_there}
 
 module _ {R : Type 0} {g : Ghosts R} where
@@ -65,11 +60,3 @@ module _ {R : Type 0} {g : Ghosts R} where
         did = failing_then one.before one.after two.after one.did
             (subst (λ (e : DiskSet R g). SameFailing e two.after) (some_same (sym two.there ∙ mid)) two.did);
       }
-
-  -- a line for which memory was short
-  pub unbegun : (Did : DiskSet R g → DiskSet R g → Type 0) (w : World) (y : Yard R g) (name : List ℕ) → ((e : DiskSet R g) → Did e e) → YardAgrees w y → Named y.facts.items name → OfSite Did (site_number w name) y y
-  unbegun Did w y name none agrees named =
-      let s : ℕ = named.at.place in
-      let seat : seat_of y.facts.items name ≡ Some s = named.at.is in
-      let here = seated w y name s agrees seat in
-      subst (λ (k : ℕ). OfSite Did k y y) (sym here.number) (site_still Did s y y none (omega (arith, here.below, agrees.disk_sets.eight, agrees.disk_sets.few)) refl)

@@ -74,6 +74,10 @@ module _ {R : Type 0} {g : Ghosts R} where
     pub disk_sets : new.disk_sets.items ≡ slice_set old.disk_sets.items s after
     pub racks : new.racks ≡ old.racks
 
+  -- contents that are told now were told before
+  pub told_by : (old new : Yard R g) (s : ℕ) (before after : DiskSet R g) → Changed old new s before after → IsTold new → IsTold old
+  told_by old new s before after changed told = told_before old.disk_sets.items s before after changed.there changed.later (subst (λ es. AreTold es) changed.disk_sets told)
+
   -- what stands at a place, where one was changed
   pub at_set : (P : ℕ → DiskSet R g → Type 0) (es : List (DiskSet R g)) (s : ℕ) (after : DiskSet R g) → s < length es → P s after → (i : ℕ) (x : DiskSet R g) → slice_get (slice_set es s after) i ≡ Some x
       → ((i ≡ s → ⊥) → slice_get es i ≡ Some x → P i x) → P i x

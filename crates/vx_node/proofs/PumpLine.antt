@@ -46,9 +46,9 @@ use Rattle.vx_order.specs.declared.facts.LinkFacts.{LinkFacts}
 use Rattle.vx_order.specs.declared.facts.SiteFacts.{SiteFacts}
 use Rattle.vx_peers.specs.Senders.{LinkMoved}
 use Rattle.vx_script.specs.declared.line.ScriptLine.TheVariants.{Pump}
-use Rattle.vx_node.specs.Carries.{Brings, BringsIs, Carries, StaysAsCarried}
+use Rattle.vx_node.specs.Carries.{Carries}
 use Rattle.vx_node.specs.Replies.{reply_to}
-use Rattle.vx_node.specs.Standing.{StandsFor}
+use Rattle.vx_node.specs.Standing.{Leads, LeadsIs, StandsFor, StaysFor}
 use Rattle.vx_node.specs.Stands.{RoseAll}
 use Rattle.vx_node.specs.Working.{IsFree}
 use Rattle.vx_node.specs.Yards.{IsTold, count_of, in_files}
@@ -164,7 +164,7 @@ module _ {R : Type 0} {g : Ghosts R} where
     rises = rose_still old new s before after changed.there changed.later changed.disk_sets
 
     -- it was done
-    pub pump_brings : (p q : List ℕ) (fs : List SiteFacts) → ComesTo d.world (PumpAt (site_number d.world p) (site_number d.world q)) fs new.flight → new.facts.items ≡ fs → Brings d (Pump p q) Done old new
+    pub pump_brings : (p q : List ℕ) (fs : List SiteFacts) → ComesTo d.world (PumpAt (site_number d.world p) (site_number d.world q)) fs new.flight → new.facts.items ≡ fs → Leads d (Pump p q) Done old new
     pump_brings p q fs comes facts =
         let a : ℕ = site_number d.world p in
         let b : ℕ = site_number d.world q in
@@ -177,27 +177,27 @@ module _ {R : Type 0} {g : Ghosts R} where
           fails = [];
           done = pump_done (IsTold new) d p q comes.said;
           stands = stands_kept d v (between old new) new middle_stands left (fit_happened d (PumpAt a b) false stands.links) relinks (facts ∙ comes.stands.facts);
-          carries = carries_kept d v (between old new) new sends.0 middle_carries left sends.1 relinks comes.stands.flight;
+          carries = λ _. carries_kept d v (between old new) new sends.0 middle_carries left sends.1 relinks comes.stands.flight;
           rose = rises;
         }
 
     -- it stopped
-    stays : (fs : List SiteFacts) (f : Flying) → new.facts.items ≡ fs → fs ≡ old.facts.items → new.flight ≡ f → f ≡ old.flight → StaysAsCarried d (between old new) new
+    stays : (fs : List SiteFacts) (f : Flying) → new.facts.items ≡ fs → fs ≡ old.facts.items → new.flight ≡ f → f ≡ old.flight → StaysFor d (between old new) new
     stays fs f facts same flight still = stays_as d (between old new) new fs f middle_stands middle_carries (record { disk_sets = refl; racks = refl; assemblies = refl; feeders = refl }) facts same flight still
 
     pub pump_stops : (p q : List ℕ) (link l : PlainLink) (f : Flying) (stop : Stop) (r : Result Said OutOfMemory) → PumpedIs d.world s link.site l f (faults_at before) (faults_at after) (Err stop) → r ≡ reply_to stop
-        → site_number d.world p ≡ s → new.facts.items ≡ old.facts.items → new.flight ≡ f → f ≡ old.flight → BringsIs d (Pump p q) old new r
+        → site_number d.world p ≡ s → new.facts.items ≡ old.facts.items → new.flight ≡ f → f ≡ old.flight → LeadsIs d (Pump p q) old new r
     pump_stops p q link l f MemoryStop r pumped is number facts flight still =
         let stay = stays old.facts.items f facts refl flight still in
-        subst (λ (x : Result Said OutOfMemory). BringsIs d (Pump p q) old new x) (sym is) (record { stays = record { stands = stay.stays.stands; rose = rises }; carries = stay.carries })
+        subst (λ (x : Result Said OutOfMemory). LeadsIs d (Pump p q) old new x) (sym is) (record { stands = stay.stands; carries = λ _. stay.carries middle_carries; rose = rises })
     pump_stops p q link l f (RefusedSo (Device disk)) r pumped is number facts flight still =
         let stay = stays old.facts.items f facts refl flight still in
-        subst (λ (x : Result Said OutOfMemory). BringsIs d (Pump p q) old new x) (sym is) (record {
+        subst (λ (x : Result Said OutOfMemory). LeadsIs d (Pump p q) old new x) (sym is) (record {
           next = d;
           fails = (site_number d.world p, disk) ∷ [];
           done = pump_unread (IsTold new) d p q disk;
-          stands = stay.stays.stands;
-          carries = stay.carries;
+          stands = stay.stands;
+          carries = λ _. stay.carries middle_carries;
           rose = subst (λ (k : ℕ). RoseAll ((k, disk) ∷ []) (count_of old) (count_of new)) (sym number) (rose_at old new s disk before after changed pumped);
         })
     pump_stops p q link l f (RefusedSo other) r pumped is number facts flight still = absurd pumped

@@ -1,5 +1,5 @@
 -- A line that makes a raw set of a bare site, where other sites may keep links.
-use Rattle.std.proofs.Common.{◌≡◌, ◌∙◌, ◌+◌, ◌-◌, ◌<◌, ◌≤◌, ◌⊎◌, ℕ, true, false, List, [], ◌∷◌, length, ap, sym, subst, refl, arith, inl, inr}
+use Rattle.std.proofs.Common.{◌≡◌, ◌∙◌, ◌+◌, ◌-◌, ◌<◌, ℕ, true, false, List, [], ◌∷◌, ap, sym, subst, refl, arith}
 use Rattle.std.specs.Prelude.{Bool, Option, Some, None, Result, Ok, Err, map, not, slice_get, slice_set}
 use Rattle.vx_history.proofs.Updates.{at_place}
 use Rattle.vx_history.specs.Doubts.{After, Doubted}
@@ -7,8 +7,7 @@ use Rattle.vx_history.specs.KeptLinks.{kept_links}
 use Rattle.vx_history.specs.Refusals.{Outcome}
 use Rattle.vx_history.specs.Step.{counted, done as is_done, outcome_of}
 use Rattle.vx_history.specs.Steps.{raw_made, raw_set, raw_volumes}
-use Rattle.vx_history.specs.World.{Link, Node, NoFuse, World}
-use Rattle.vx_history.specs.declared.event.Event.{Event}
+use Rattle.vx_history.specs.World.{Node, NoFuse, World}
 use Rattle.vx_history.specs.declared.event.Event.TheVariants.{Raw as MakeRaw}
 use Rattle.vx_model.specs.Sizes.{is_raw_shape}
 use Rattle.vx_model.specs.declared.errors.OutOfMemory.{OutOfMemory as MemoryError}
@@ -22,13 +21,12 @@ use Rattle.vx_disk.specs.declared.shelf.Shelf.{Ghosts}
 use Rattle.vx_order.specs.Order.{refusal_of}
 use Rattle.vx_order.specs.Shapes.{raw_size, wrong_size}
 use Rattle.vx_order.specs.Subject.{first_name}
-use Rattle.vx_order.specs.Tests.{when}
 use Rattle.vx_order.specs.declared.facts.LinkFacts.{LinkFacts}
 use Rattle.vx_order.specs.declared.facts.SiteFacts.{SiteFacts}
 use Rattle.vx_order.specs.declared.facts.VolumeFacts.{VolumeFacts}
 use Rattle.vx_script.specs.declared.line.ScriptLine.TheVariants.{Raw}
 use Rattle.vx_diskset.specs.Asked.{FailsAs, FusedAs, SameFailing}
-use Rattle.vx_diskset.specs.DiskSets.{Later, MadeIs}
+use Rattle.vx_diskset.specs.DiskSets.{MadeIs}
 use Rattle.vx_diskset.specs.Holds.{Beside, Kept, alone, beside_of, doubt_of, row_links}
 use Rattle.vx_diskset.specs.Layouts.{CanBeRaw}
 use Rattle.vx_diskset.specs.Stands.{StandsAlone, StandsAt}
@@ -39,7 +37,8 @@ use Rattle.vx_events.proofs.Places.{never_some, some_same}
 use Rattle.vx_events.proofs.Refused.{Named, not_false, passes, raw_may, when_none}
 use Rattle.vx_events.proofs.Steps.{no_sites, raw_step}
 use Rattle.vx_events.specs.Ends.{Ends}
-use Rattle.vx_model.specs.Sites.{no_line}
+use Rattle.vx_model.specs.Sites.{is_origin, no_line}
+use Rattle.vx_model.specs.declared.site.Role.TheVariants.{Primary}
 use Rattle.vx_events.specs.Facts.{seat_of, site_fact, site_number, volume_fact}
 use Rattle.vx_events.specs.LinkedFacts.{link_facts, linked_fact, links_by}
 use Rattle.vx_events.specs.LinksFit.{IsBlank, LinksFit}
@@ -47,7 +46,7 @@ use Rattle.vx_events.specs.declared.said.Said.{Said}
 use Rattle.vx_events.specs.declared.said.Said.TheVariants.{Done}
 use Rattle.vx_node.specs.Changes.{raw_facts}
 use Rattle.vx_node.specs.Replies.{reply_to}
-use Rattle.vx_node.specs.Standing.{Leads, LeadsIs, StandsFor, StaysFor}
+use Rattle.vx_node.specs.Standing.{Leads, LeadsIs, StandsFor}
 use Rattle.vx_node.specs.Stands.{RoseAll}
 use Rattle.vx_node.specs.Working.{IsFree}
 use Rattle.vx_node.specs.Yards.{IsTold, count_of, in_files}
@@ -58,7 +57,8 @@ use Rattle.vx_node.proofs.FailsStay.{fails_then}
 use Rattle.vx_node.proofs.FuseStays.{fused_none}
 use Rattle.vx_node.proofs.NamedSite.{SiteAt, fact_named, site_at}
 use Rattle.vx_node.proofs.NoteSite.{comes_same, one_left, only_left}
-use Rattle.vx_node.proofs.OneSite.{Changed, Comes, rose_at, stands_at, stands_still}
+use Rattle.vx_node.proofs.OneSite.{Changed, Comes, rose_at, stands_at, stands_still, told_by}
+use Rattle.vx_node.proofs.Carrying.{Feeds, SameLoad, carries_at, carries_same, feeds_none}
 use Rattle.vx_node.proofs.RawLine.{raw_fact_of}
 use Rattle.vx_node.proofs.Rows.{fact_from, fact_same}
 use Rattle.vx_node.proofs.SiteEvents.{first_choice}
@@ -71,7 +71,7 @@ no_more n = omega arith
 blank_sites : (d : Doubted) (s : ℕ) → IsBlank d.world s → (sites : ℕ) → row_links (d.world.links s) sites ≡ []
 blank_sites d s blank sites = ap (λ (ss : List ℕ). kept_links (d.world.links s) ss) (no_sites (d.world.links s) sites 0 sites blank.links)
 
-bare_sure : (d : Doubted) (s : ℕ) → (d.world.nodes s).state ≡ IsBare → LinksFit d → d.after s ≡ None
+pub bare_sure : (d : Doubted) (s : ℕ) → (d.world.nodes s).state ≡ IsBare → LinksFit d → d.after s ≡ None
 bare_sure d s bare fits = by (d.after s) refl
   where
     never : IsBare ≡ IsUp → ⊥
@@ -90,6 +90,10 @@ beside_blank d s headers links none o sure =
     ∙ ap (λ (x : Option Kept). let b : Beside = record { links = []; headers = 0; doubt = x } in b) sure
 
 -- ---- the event
+
+-- a primary does not receive
+origin_receives : is_origin Primary ≡ false → ⊥
+origin_receives e = cc
 
 abbrev raw_event : Doubted → ℕ → Doubted
 raw_event d s = record d { world = (counted d.world (MakeRaw s) (is_done (raw_made d.world s))).world }
@@ -127,7 +131,7 @@ raw_outcome w files facts name s free below bare named_is =
     raw_step w s below bare (subst (λ (f : SiteFacts). is_raw_shape f.disks f.blocks ≡ true) (named_is may.0) shape)
 
 module _ {R : Type 0} {g : Ghosts R} where
-  bare_at : (beside : Beside) (n : Node) (e : DiskSet R g) → StandsAt beside n e → n.state ≡ IsBare → (n.parent ≡ no_line) × (n.low ≡ 1) × (n.fuse ≡ NoFuse)
+  pub bare_at : (beside : Beside) (n : Node) (e : DiskSet R g) → StandsAt beside n e → n.state ≡ IsBare → (n.parent ≡ no_line) × (n.low ≡ 1) × (n.fuse ≡ NoFuse)
   bare_at beside n (Bare rack) stands is = (ap (λ (k : Node). k.parent) stands.bare.is, ap (λ (k : Node). k.low) stands.bare.is, ap (λ (k : Node). k.fuse) stands.bare.is)
   bare_at beside n (Spoiled rack) stands is = (ap (λ (k : Node). k.parent) stands.is, ap (λ (k : Node). k.low) stands.is, ap (λ (k : Node). k.fuse) stands.is)
   bare_at beside n (Up rvg) stands is = absurd (let e : IsBare ≡ IsUp = sym is ∙ stands.state in cc)
@@ -160,8 +164,8 @@ module _ {R : Type 0} {g : Ghosts R} where
   pub raw_leads : (d : Doubted) (old new : Yard R g) (name : List ℕ) (s : ℕ) (site : SiteFacts) (volumes : List VolumeFacts) (before after : DiskSet R g) (r : Result (Unit {0}) Stop) (done : Unit {0}) → StandsFor d old → IsFree old (Raw name)
       → seat_of old.facts.items name ≡ Some s → slice_get old.facts.items s ≡ Some site → volumes ≡ map volume_fact (raw_volumes 1 (site.disks - 2) site.blocks)
       → Changed old new s before after → SameFailing before after → r ≡ Ok done → ((beside : Beside) (n : Node) → StandsAt beside n before → n.state ≡ IsBare → CanBeRaw n.disks n.blocks → MadeIs s n before after r)
-      → new.facts.items ≡ slice_set old.facts.items s (raw_facts s volumes site) → Leads d (Raw name) Done old new
-  raw_leads d old new name s site volumes before after r done stands free is there table changed same ok made facts =
+      → new.facts.items ≡ slice_set old.facts.items s (raw_facts s volumes site) → SameLoad old new → Leads d (Raw name) Done old new
+  raw_leads d old new name s site volumes before after r done stands free is there table changed same ok made facts load =
       let found = raw_site d old name s site stands free is there in
       let n : Node = d.world.nodes s in
       let e : Doubted = raw_event d s in
@@ -197,7 +201,8 @@ module _ {R : Type 0} {g : Ghosts R} where
           works = tt;
           calls = tt;
         };
-        sent = refl;
+        carries = λ was. carries_at s d e old new was load (record { site = comes.changes; packets = refl; gathering = refl })
+            (subst (λ (m : Node). Feeds (d.world.nodes s) m) here (feeds_none (d.world.nodes s) (raw_set s n) (λ up receives. origin_receives receives))) (told_by old new s before after changed);
         stands = stands_at d e old new s (raw_facts s volumes site) before after stands found.seat.below changed comes
             (raw_fact_of s n site volumes found.fact table parts.0 parts.1 ∙ sym (blank_fact d s (raw_set s n) blank)
             ∙ sym (fact_same (raw_set s n) (e.world.nodes s) (d.world.links s) (e.world.links s) d.world.sites e.world.sites (sym here) (λ j. refl) refl))
@@ -208,8 +213,8 @@ module _ {R : Type 0} {g : Ghosts R} where
   pub raw_stops : (stop : Stop) (said : Result Said MemoryError) (d : Doubted) (old new : Yard R g) (name : List ℕ) (s : ℕ) (site : SiteFacts) (before after : DiskSet R g) (r : Result (Unit {0}) Stop) → said ≡ reply_to stop → StandsFor d old
       → IsFree old (Raw name) → seat_of old.facts.items name ≡ Some s → slice_get old.facts.items s ≡ Some site → Changed old new s before after → SameFailing before after → r ≡ Err stop
       → ((beside : Beside) (n : Node) → StandsAt beside n before → n.state ≡ IsBare → CanBeRaw n.disks n.blocks → MadeIs s n before after r)
-      → new.facts ≡ old.facts → LeadsIs d (Raw name) old new said
-  raw_stops stop said d old new name s site before after r says stands free is there changed same err made facts =
+      → new.facts ≡ old.facts → SameLoad old new → LeadsIs d (Raw name) old new said
+  raw_stops stop said d old new name s site before after r says stands free is there changed same err made facts load =
       subst (λ r. LeadsIs d (Raw name) old new r) (sym says) (by_stop stop (subst (MadeIs s n before after) err (made (beside_of d s) n stood found.bare found.can)))
     where
       n : Node
@@ -227,12 +232,12 @@ module _ {R : Type 0} {g : Ghosts R} where
           (fused_none n after (bare_at (beside_of d s) n before stood found.bare).2)) refl (ap (λ fs. fs.items) facts)
 
       by_stop : (stop : Stop) → MadeIs s n before after (Err stop) → LeadsIs d (Raw name) old new (reply_to stop)
-      by_stop OutOfMemory here = record { stands = stays (here (beside_of d s)); rose = rose_still old new s before after changed.there changed.later changed.disk_sets }
+      by_stop OutOfMemory here = record { stands = stays (here (beside_of d s)); carries = carries_same d old new load (told_by old new s before after changed); rose = rose_still old new s before after changed.there changed.later changed.disk_sets }
       by_stop (Refused (Device disk)) h = record {
         next = d;
         fails = (site_number d.world name, disk) ∷ [];
         done = record { ends = only_left (IsTold new) d (Raw name) (site_number d.world name) (MakeRaw (site_number d.world name)) disk refl refl refl; counts = tt; works = tt; calls = tt };
-        sent = refl;
+        carries = carries_same d old new load (told_by old new s before after changed);
         stands = stays (h.0 (beside_of d s));
         rose = subst (λ (i : ℕ). RoseAll ((i, disk) ∷ []) (count_of old) (count_of new)) (sym found.seat.number) (rose_at old new s disk before after changed h.1);
       }

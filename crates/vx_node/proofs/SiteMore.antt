@@ -1,6 +1,6 @@
 -- A line that makes a site, where other sites may keep links and be in doubt.
 use Rattle.std.proofs.Common.{◌≡◌, ◌∙◌, ◌+◌, ◌<◌, ◌≤◌, ℕ, zero, suc, Bool, true, false, List, [], ◌∷◌, ◌++◌, length, ap, sym, subst, refl, arith, ⊎_elim}
-use Rattle.std.specs.Prelude.{Option, Some, None, Result, Err, bytes_eq, eqb, if◌then◌else◌, is_some, slice_get, slice_set}
+use Rattle.std.specs.Prelude.{Option, Some, None, Result, Err, bytes_eq, if◌then◌else◌, is_some, slice_get, slice_set}
 use Rattle.std.specs.Vec.{vec_capacity}
 use Rattle.std.proofs.lemmas.Bool.{cases_eq}
 use Rattle.std.proofs.lemmas.Option.{slice_get_within}
@@ -9,7 +9,7 @@ use Rattle.vx_history.proofs.Updates.{at_place, eqb_equal}
 use Rattle.vx_history.specs.Doubts.{After, Doubted}
 use Rattle.vx_history.specs.Events.{is_in_place, link_in_place, linked_sites, put_before}
 use Rattle.vx_history.specs.KeptLinks.{kept_links}
-use Rattle.vx_history.specs.Listed.{HasPlaces, links_in}
+use Rattle.vx_history.specs.Listed.{HasPlaces}
 use Rattle.vx_history.specs.Refusals.{Outcome}
 use Rattle.vx_history.specs.Sends.{is_linked, is_made}
 use Rattle.vx_history.specs.Step.{counted, done as is_done, outcome_of}
@@ -27,13 +27,12 @@ use Rattle.vx_order.specs.Shapes.{taken}
 use Rattle.vx_order.specs.Sites.{site_named}
 use Rattle.vx_order.specs.declared.facts.SiteFacts.{SiteFacts}
 use Rattle.vx_script.specs.declared.line.ScriptLine.TheVariants.{Site}
-use Rattle.vx_diskset.specs.Asked.{FailsAs, FusedAs, SameFailing}
-use Rattle.vx_diskset.specs.DiskSets.{FitIs, Later}
+use Rattle.vx_diskset.specs.Asked.{FailsAs, FusedAs}
+use Rattle.vx_diskset.specs.DiskSets.{FitIs}
 use Rattle.vx_diskset.specs.Holds.{Beside, Kept, beside_of, doubt_of, row_links}
-use Rattle.vx_diskset.specs.Stands.{IsToldAt, IsUnused, StandsAt}
+use Rattle.vx_diskset.specs.Stands.{IsUnused, StandsAt}
 use Rattle.vx_diskset.specs.declared.disk_set.DiskSet.{DiskSet}
 use Rattle.vx_effects.proofs.Fitting.{fit_happened}
-use Rattle.vx_events.proofs.Places.{never_some, some_same}
 use Rattle.vx_events.proofs.Refused.{SiteMay, passes, site_may, when_none}
 use Rattle.vx_events.proofs.Steps.{site_step}
 use Rattle.vx_events.proofs.Testing.{absent, none_under}
@@ -49,19 +48,20 @@ use Rattle.vx_events.specs.declared.said.Said.TheVariants.{Done}
 use Rattle.vx_node.specs.Changes.{bare_facts}
 use Rattle.vx_node.specs.Replies.{reply_to}
 use Rattle.vx_model.specs.declared.site.SiteState.TheVariants.{Bare as IsBare, Up as IsUp}
-use Rattle.vx_node.specs.Standing.{IsSameSite, Leads, LeadsIs, SitesAgree, StandsFor, StaysFor}
-use Rattle.vx_node.specs.Stands.{AreTold, RoseAll}
+use Rattle.vx_node.specs.Standing.{IsSameSite, Leads, LeadsIs, SitesAgree, StandsFor}
+use Rattle.vx_node.specs.Stands.{AreTold}
 use Rattle.vx_node.specs.Working.{IsFree}
-use Rattle.vx_node.specs.Yards.{IsTold, count_of, in_files}
+use Rattle.vx_node.specs.Yards.{IsTold, in_files}
 use Rattle.vx_node.specs.declared.yard.Yard.{Yard}
 use Rattle.vx_node.proofs.Alike.{apart_place}
 use Rattle.vx_node.proofs.ChangeSite.{told_before}
 use Rattle.vx_node.proofs.CrashLine.{rose_still}
 use Rattle.vx_node.proofs.FuseStays.{fused_none}
-use Rattle.vx_node.proofs.Lists.{get-set_other, get-set_same, length-set}
+use Rattle.vx_node.proofs.Lists.{get-set_other, length-set}
 use Rattle.vx_node.proofs.NoteSite.{one_left, only_left}
-use Rattle.vx_node.proofs.OneSite.{Changed, at_set, rose_at}
-use Rattle.vx_node.proofs.Rows.{fact_same, linked_same, row_links_same}
+use Rattle.vx_node.proofs.OneSite.{Changed, at_set, rose_at, told_by}
+use Rattle.vx_node.proofs.Carrying.{SameLoad, carries_more, carries_same}
+use Rattle.vx_node.proofs.Rows.{fact_same, row_links_same}
 use Rattle.vx_node.proofs.SiteEvents.{first_choice}
 use Rattle.vx_node.proofs.SiteLine.{most_same}
 
@@ -69,6 +69,9 @@ use Rattle.vx_node.proofs.SiteLine.{most_same}
 
 never_true : false ≡ true → ⊥
 never_true e = cc
+
+bare_up : IsBare ≡ IsUp → ⊥
+bare_up e = cc
 
 not_made : (m : Option ℕ) → (is_made m ≡ true → ⊥) → m ≡ None
 not_made None never = refl
@@ -270,8 +273,8 @@ module _ {R : Type 0} {g : Ghosts R} where
 
   pub site_leads : (d : Doubted) (old new : Yard R g) (name : List ℕ) (disks blocks : ℕ) (before after : DiskSet R g) → StandsFor d old → IsFree old (Site name disks blocks)
       → Changed old new (length old.facts.items) before after → ((beside : Beside) (name : List ℕ) → StandsAt beside (bare_site name disks blocks) after)
-      → new.facts.items ≡ old.facts.items ++ bare_facts name disks blocks ∷ [] → Leads d (Site name disks blocks) Done old new
-  site_leads d old new name disks blocks before after stands free changed fits facts =
+      → new.facts.items ≡ old.facts.items ++ bare_facts name disks blocks ∷ [] → SameLoad old new → Leads d (Site name disks blocks) Done old new
+  site_leads d old new name disks blocks before after stands free changed fits facts load =
       let many = many_sites d old stands in
       let may = site_may old.facts.items (in_files old) name disks blocks free in
       let e : Doubted = site_event d name disks blocks in
@@ -288,7 +291,7 @@ module _ {R : Type 0} {g : Ghosts R} where
           works = tt;
           calls = tt;
         };
-        sent = refl;
+        carries = carries_more d e n old new load adds (λ up. bare_up up) (told_by old new d.world.sites before after changed_there);
         stands = stands_more d e old new n (bare_facts name disks blocks) before after stands (omega (arith, may.few_sites, many)) adds (site_fits d name disks blocks at stands.links) changed_there
             (fits (beside_of e d.world.sites) name) (record { told = λ x at u on. absurd (never_true on) }) (fused_none n after refl) refl
             (sym (fact_same n (e.world.nodes d.world.sites) (d.world.links d.world.sites) (e.world.links d.world.sites) e.world.sites e.world.sites adds.node (λ k. refl) refl)) facts;
@@ -297,8 +300,8 @@ module _ {R : Type 0} {g : Ghosts R} where
 
   pub site_stops : {T : Type 0} (dir : Option T) (stop : Stop) (said : Result Said MemoryError) (d : Doubted) (old new : Yard R g) (name : List ℕ) (disks blocks : ℕ) (before after : DiskSet R g) → said ≡ reply_to stop → StandsFor d old
       → IsFree old (Site name disks blocks) → is_some dir ≡ in_files old → Changed old new (length old.facts.items) before after → FitIs dir disks blocks before after (Err stop)
-      → new.facts.items ≡ old.facts.items → LeadsIs d (Site name disks blocks) old new said
-  site_stops dir stop said d old new name disks blocks before after is stands free files changed fits facts = subst (λ r. LeadsIs d (Site name disks blocks) old new r) (sym is) (by_stop stop fits)
+      → new.facts.items ≡ old.facts.items → SameLoad old new → LeadsIs d (Site name disks blocks) old new said
+  site_stops dir stop said d old new name disks blocks before after is stands free files changed fits facts load = subst (λ r. LeadsIs d (Site name disks blocks) old new r) (sym is) (by_stop stop fits)
     where
       may : SiteMay old.facts.items (in_files old) disks blocks
       may = site_may old.facts.items (in_files old) name disks blocks free
@@ -341,12 +344,12 @@ module _ {R : Type 0} {g : Ghosts R} where
           was i x below at = sym (get-set_other old.disk_sets.items s i after (λ same. omega (arith, below, same))) ∙ sym (ap (λ es. slice_get es i) here.disk_sets) ∙ at
 
       by_stop : (stop : Stop) → FitIs dir disks blocks before after (Err stop) → LeadsIs d (Site name disks blocks) old new (reply_to stop)
-      by_stop OutOfMemory unused = record { stands = stays unused; rose = rose_still old new s before after here.there here.later here.disk_sets }
+      by_stop OutOfMemory unused = record { stands = stays unused; carries = carries_same d old new load (told_by old new s before after here); rose = rose_still old new s before after here.there here.later here.disk_sets }
       by_stop (Refused (Device disk)) h = record {
         next = d;
         fails = (s, disk) ∷ [];
         done = record { ends = only_left (IsTold new) d (Site name disks blocks) s (MakeSite name disks blocks) disk refl refl refl; counts = tt; works = tt; calls = tt };
-        sent = refl;
+        carries = carries_same d old new load (told_by old new s before after here);
         stands = stays h.0;
         rose = rose_at old new s disk before after here h.1;
       }

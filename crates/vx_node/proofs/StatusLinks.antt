@@ -1,11 +1,11 @@
 -- What the status of a site shows of its links.
-use Rattle.std.proofs.Common.{◌≡◌, ◌∙◌, ◌+◌, ◌<◌, ◌≤◌, ℕ, zero, suc, List, [], ◌∷◌, Bool, true, false, ap, sym, subst, refl, arith}
-use Rattle.std.specs.Prelude.{Option, Some, None, if◌then◌else◌, map, nat_lt, slice_get}
+use Rattle.std.proofs.Common.{◌≡◌, ◌∙◌, ◌+◌, ◌<◌, ◌≤◌, ℕ, List, [], ◌∷◌, Bool, true, false, ap, sym, refl, arith}
+use Rattle.std.specs.Prelude.{Option, Some, if◌then◌else◌, nat_lt, slice_get}
 use Rattle.std.proofs.lemmas.Bool.Decides.{nat_tests}
 use Rattle.vx_history.specs.Doubts.{Doubted}
 use Rattle.vx_history.specs.Events.{linked_sites}
 use Rattle.vx_history.specs.Sends.{is_linked}
-use Rattle.vx_history.specs.World.{Link, Node, Regions, Volume, World}
+use Rattle.vx_history.specs.World.{Node, Regions, Volume, World}
 use Rattle.vx_model.specs.Sizes.{regions_of}
 use Rattle.vx_model.specs.declared.no.SiteName.{SiteName}
 use Rattle.vx_model.specs.declared.no.SiteName.TheVariants.{Known, Number}
@@ -26,15 +26,15 @@ use Rattle.vx_events.proofs.LinkTesting.{AllLinked, all_linked}
 use Rattle.vx_events.proofs.Places.{some_same}
 use Rattle.vx_events.proofs.Values.{slice_get-values_from}
 use Rattle.vx_events.specs.Ends.{AllDone}
-use Rattle.vx_events.specs.Facts.{group_by, group_fact, head_of, seat_of, site_number}
+use Rattle.vx_events.specs.Facts.{group_by, group_fact, head_of, seat_of}
 use Rattle.vx_events.specs.LinkViews.{link_view, link_views, linked_view, marked_from, views_by}
 use Rattle.vx_events.specs.LinkedFacts.{link_fact, link_facts, links_by, linked_fact, linked_facts}
-use Rattle.vx_events.specs.LinksFit.{LinksFit, RowFits}
-use Rattle.vx_events.specs.Views.{group_shown, group_view, name_of, view_of}
+use Rattle.vx_events.specs.LinksFit.{LinksFit}
+use Rattle.vx_events.specs.Views.{group_shown, group_view, name_of}
 use Rattle.vx_events.specs.declared.said.Said.TheVariants.{Shown}
 use Rattle.vx_node.specs.Seen.{group_at, group_seen, link_seen, links_seen, name_at, site_seen}
 use Rattle.vx_node.specs.Standing.{Leads, StandsFor}
-use Rattle.vx_node.specs.Yards.{IsTold, count_of}
+use Rattle.vx_node.specs.Yards.{count_of}
 use Rattle.vx_node.specs.declared.yard.Yard.{Yard}
 use Rattle.vx_node.proofs.ChangeSite.{rose_none}
 use Rattle.vx_node.proofs.NamedSite.{fact_of, site_at}
@@ -146,7 +146,7 @@ module _ {R : Type 0} {g : Ghosts R} where
           works = tt;
           calls = tt;
         };
-        sent = refl;
+        carries = λ was. was;
         stands = stands;
         rose = rose_none (count_of y) (count_of y) (λ i u. omega arith);
       }

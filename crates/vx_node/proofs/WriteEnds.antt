@@ -1,5 +1,5 @@
 -- How a line that writes ends, where sites may keep links and be in doubt.
-use Rattle.std.proofs.Common.{◌≡◌, ◌∙◌, inl, ◌+◌, ◌<◌, ◌≤◌, ℕ, Bool, true, false, List, [], ◌∷◌, ap, sym, subst, refl}
+use Rattle.std.proofs.Common.{◌≡◌, inl, ◌+◌, ◌<◌, ◌≤◌, ℕ, Bool, true, false, List, [], ◌∷◌, sym, subst, refl}
 use Rattle.std.specs.Prelude.{Some, None, if◌then◌else◌}
 use Rattle.vx_model.specs.Content.{Write, blocks_in}
 use Rattle.vx_model.specs.declared.limits.TheConstants.{MOST_NUMBER}
@@ -31,7 +31,6 @@ use Rattle.vx_events.specs.declared.said.Said.{Said}
 use Rattle.vx_events.specs.declared.said.Said.TheVariants.{DoneAt, Logged, Refused}
 use Rattle.vx_effects.specs.Writes.{IsLetIn}
 use Rattle.vx_effects.proofs.Writes.{write_said}
-use Rattle.vx_node.proofs.NoteSite.{with_one}
 use Rattle.vx_node.proofs.WriteSite.{cut_for, written_for}
 
 -- what the tests found lets the write in

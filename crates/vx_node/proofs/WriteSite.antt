@@ -1,21 +1,19 @@
 -- A site that may keep links, behind a write of it.
-use Rattle.std.proofs.Common.{◌≡◌, ◌∙◌, ◌+◌, ◌≤◌, ℕ, Bool, true, false, List, [], ◌∷◌, ◌++◌, length, ap, sym, subst, refl}
+use Rattle.std.proofs.Common.{◌≡◌, ◌∙◌, ◌+◌, ◌≤◌, ℕ, true, false, List, [], ◌∷◌, ◌++◌, length, ap, sym, subst, refl}
 use Rattle.std.specs.Prelude.{Option, Some, None}
 use Rattle.vx_model.specs.Content.{Write, blocks_in}
 use Rattle.vx_model.specs.Sites.{is_origin}
 use Rattle.vx_history.specs.Doubts.{After, Doubted, happened}
 use Rattle.vx_history.specs.Events.{lost_touch}
-use Rattle.vx_history.specs.Steps.{burned, crashed, half_begun, logged, worked_on}
+use Rattle.vx_history.specs.Steps.{crashed, half_begun, logged, worked_on}
 use Rattle.vx_history.specs.World.{Gathering, Link, Node, Packet}
 use Rattle.vx_history.specs.declared.event.Event.TheVariants.{Crash as CrashAt, Write as WriteAt}
 use Rattle.vx_disk.specs.declared.shelf.Shelf.{Ghosts}
-use Rattle.vx_order.specs.declared.facts.SiteFacts.{SiteFacts}
 use Rattle.vx_diskset.specs.Asked.{FailsAs, FusedAs}
 use Rattle.vx_diskset.specs.DiskSets.{halted_with}
-use Rattle.vx_diskset.specs.Holds.{Beside, beside_of, itself, row_links, sure_of}
+use Rattle.vx_diskset.specs.Holds.{Beside, beside_of, row_links}
 use Rattle.vx_diskset.specs.Stands.{StandsAt}
 use Rattle.vx_diskset.specs.declared.disk_set.DiskSet.{DiskSet}
-use Rattle.vx_model.specs.declared.state.KeptLink.{KeptLink}
 use Rattle.vx_events.specs.Doubts.{run_as}
 use Rattle.vx_events.specs.Effects.{EffectAt}
 use Rattle.vx_events.specs.LinkedFacts.{linked_fact}

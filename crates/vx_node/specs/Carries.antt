@@ -1,21 +1,14 @@
 -- What a yard carries beside its sites: the packets that are under way, what each site puts together of them, and which site feeds it.
-use Rattle.std.specs.Prelude.{◌≡◌, ℕ, length, slice_get, Some, Result, Ok, Err, false}
+use Rattle.std.specs.Prelude.{◌≡◌, ℕ, length, slice_get, Some, false}
 use Rattle.vx_courier.specs.Together.{AssemblyStands}
 use Rattle.vx_courier.specs.UnderWay.{FlightStands}
 use Rattle.vx_disk.specs.declared.shelf.Shelf.{Ghosts}
-use Rattle.vx_events.specs.Fails.{Fails}
-use Rattle.vx_events.specs.Lines.{IsDone}
-use Rattle.vx_events.specs.declared.said.Said.{Said}
 use Rattle.vx_history.specs.Doubts.{Doubted}
 use Rattle.vx_model.specs.Sites.{is_origin}
-use Rattle.vx_model.specs.declared.errors.OutOfMemory.{OutOfMemory}
 use Rattle.vx_model.specs.declared.limits.TheConstants.{MOST_SITES}
 use Rattle.vx_model.specs.declared.site.SiteState.TheVariants.{Up}
 use Rattle.vx_packet.specs.Assemblies.{Assembled}
-use Rattle.vx_script.specs.declared.line.ScriptLine.{ScriptLine}
-use Rattle.vx_node.specs.Standing.{StandsFor, StaysFor}
-use Rattle.vx_node.specs.Stands.{RoseAll}
-use Rattle.vx_node.specs.Yards.{IsTold, count_of}
+use Rattle.vx_node.specs.Yards.{IsTold}
 use Rattle.vx_node.specs.declared.yard.Yard.{Yard}
 
 module _ {R : Type 0} {g : Ghosts R} where
@@ -27,22 +20,3 @@ module _ {R : Type 0} {g : Ghosts R} where
     pub assemblies : IsTold y → (s : ℕ) (a : Assembled) → slice_get y.assemblies.items s ≡ Some a → AssemblyStands d.world.packets s (d.world.gathering s) a
     pub numbers : length y.feeders.items ≡ MOST_SITES
     pub feeders : (s feeder : ℕ) → slice_get y.feeders.items s ≡ Some feeder → (d.world.nodes s).state ≡ Up → is_origin (d.world.nodes s).role ≡ false → feeder ≡ (d.world.nodes s).fed_by
-
-  -- The line was done and answered so. The yard stands for what it made of the world, and carries it.
-  pub record Brings (d : Doubted) (line : ScriptLine) (said : Said) (old new : Yard R g) : Type 0 where
-    pub next : Doubted
-    pub fails : Fails
-    pub done : IsDone (IsTold new) d line fails said next
-    pub stands : StandsFor next new
-    pub carries : Carries next new
-    pub rose : RoseAll fails (count_of old) (count_of new)
-
-  -- nothing of a line was done
-  pub record StaysAsCarried (d : Doubted) (old new : Yard R g) : Type 0 where
-    pub stays : StaysFor d old new
-    pub carries : Carries d new
-
-  -- the line was done, or memory ran out, and nothing was
-  abbrev pub BringsIs : Doubted → ScriptLine → Yard R g → Yard R g → Result Said OutOfMemory → Type 0
-  BringsIs d line old new (Ok said) = Brings d line said old new
-  BringsIs d line old new (Err e) = StaysAsCarried d old new

@@ -1,17 +1,11 @@
 -- What the yard promises of a line that reads blocks.
 use Rattle.std.specs.Prelude.{◌≡◌, ◌⊎◌, ℕ, ◌*◌, List, length, min}
 use Rattle.vx_model.specs.declared.limits.TheConstants.{MOST_CALL_BLOCKS}
-use Rattle.vx_history.specs.World.{World}
 use Rattle.vx_disk.specs.declared.shelf.Shelf.{Ghosts}
 use Rattle.vx_script.specs.declared.line.ScriptLine.{ScriptLine}
 use Rattle.vx_script.specs.declared.line.ScriptLine.TheVariants.{Read, Show}
-use Rattle.vx_events.specs.declared.said.Said.{Said}
 use Rattle.vx_node.specs.declared.yard.Yard.{Yard}
-use Rattle.vx_node.specs.Stands.{RoseAll}
-use Rattle.vx_node.specs.Works.{Fetches}
-use Rattle.vx_events.specs.Fails.{Fails}
 use Rattle.vx_node.specs.Working.{IsFree}
-use Rattle.vx_node.specs.Yards.{YardAgrees, IsTold, count_of}
 
 -- a place for so many blocks, and for no more than a line may ask
 abbrev pub IsRoom : ℕ → List ℕ → Type 0
@@ -25,11 +19,3 @@ module _ {R : Type 0} {g : Ghosts R} where
   -- blocks that a line may read, whichever of the two it is
   abbrev pub IsReadFree : Yard R g → List ℕ → List ℕ → ℕ → ℕ → Type 0
   IsReadFree y name volume start count = IsFree y (Read name volume start count) ⊎ IsFree y (Show name volume start count)
-
-  -- the blocks were read, or a disk failed
-  pub record Fetched (w : World) (name volume : List ℕ) (start count : ℕ) (said : Said) (old new : Yard R g) : Type 0 where
-    pub world : World
-    pub fails : Fails
-    pub fetches : Fetches (IsTold new) w name volume start count fails said world
-    pub stands : YardAgrees world new
-    pub rose : RoseAll fails (count_of old) (count_of new)

@@ -2,13 +2,8 @@
 use Rattle.std.specs.Prelude.{◌≡◌, ℕ, ◌<◌, List, length, None, Option, Some, slice_get, IsTrue}
 use Rattle.vx_model.specs.declared.limits.TheConstants.{MOST_SITES}
 use Rattle.vx_history.specs.Doubts.{Doubted}
-use Rattle.vx_model.specs.declared.state.KeptLink.{KeptLink}
 use Rattle.vx_disk.specs.Shelf.{Meaning}
-use Rattle.vx_diskset.specs.Holds.{Beside, Holds, beside_of}
-
--- links, where no header was written but those that begin sessions
-abbrev pub with_links : List KeptLink → Beside
-with_links links = record { links = links; headers = 0; doubt = None }
+use Rattle.vx_diskset.specs.Holds.{Holds, beside_of}
 
 module _ {R : Type 0} (meaning : R → Meaning) where
   -- the rack of each site holds it, with what the world has of it beside its node

@@ -1,14 +1,13 @@
 -- What a line asks of the rack of its site, and of no other.
-use Rattle.std.specs.Prelude.{◌≡◌, ◌⊎◌, ℕ, ◌*◌, replicate, Some, slice_get, slice_set}
+use Rattle.std.specs.Prelude.{◌≡◌, ℕ, ◌*◌, replicate, Some, slice_get, slice_set}
 use Rattle.vx_history.specs.World.{World}
 use Rattle.vx_disk.specs.declared.shelf.Shelf.{Ghosts}
 use Rattle.vx_script.specs.declared.line.ScriptLine.{ScriptLine}
-use Rattle.vx_script.specs.declared.line.ScriptLine.TheVariants.{Site, Raw, Disk, Crash, Fuse, Recover, Write, Put, Read, Show, Apply, Status}
+use Rattle.vx_script.specs.declared.line.ScriptLine.TheVariants.{Site, Raw, Disk, Crash, Fuse, Recover, Write, Put, Read, Show, Apply, Status, Link, Set}
 use Rattle.vx_events.specs.declared.said.Said.{Said}
 use Rattle.vx_events.specs.Facts.{site_number}
 use Rattle.vx_events.specs.Failing.{is_failing}
 use Rattle.vx_diskset.specs.declared.disk_set.DiskSet.{DiskSet}
-use Rattle.vx_diskset.specs.declared.disk_set.DiskSet.TheVariants.{Up, Receives}
 use Rattle.vx_node.specs.declared.yard.Yard.{Yard}
 use Rattle.vx_diskset.specs.Asked.{SetsDisk, SetsFuse, CrashesBy, SameFailing, LeavesAlone, LeavesFuse, WritesUnder}
 use Rattle.vx_diskset.specs.Burning.{NoMore}
@@ -21,16 +20,6 @@ module _ {R : Type 0} {g : Ghosts R} where
     pub there : slice_get old.disk_sets.items site ≡ Some before
     pub disk_sets : new.disk_sets.items ≡ slice_set old.disk_sets.items site after
     pub did : Did before after
-
-  -- it is no disk set under a group
-  abbrev pub IsIdle : DiskSet R g → Type 0
-  IsIdle (Up rvg) = ⊥
-  IsIdle (Receives s) = ⊥
-  IsIdle other = Unit {0}
-
-  -- the disks of each site are as they were, or they are those of a site without a group, and are made to fail or not as they were
-  pub record AllAsBefore (old new : Yard R g) : Type 0 where
-    pub each : (s : ℕ) (after : DiskSet R g) → slice_get new.disk_sets.items s ≡ Some after → (before : DiskSet R g) × (slice_get old.disk_sets.items s ≡ Some before) × ((after ≡ before) ⊎ (SameFailing before after × IsIdle after))
 
   -- each disk of each site is made to fail or not as it was before
   pub record AllSameFailing (old new : Yard R g) : Type 0 where
@@ -50,6 +39,8 @@ module _ {R : Type 0} {g : Ghosts R} where
   AsAsked w (Show site volume block count) old new = OfSite LeavesAlone (site_number w site) old new
   AsAsked w (Apply site count) old new = OfSite SameFailing (site_number w site) old new
   AsAsked w (Status site) old new = new.disk_sets.items ≡ old.disk_sets.items
+  AsAsked w (Link p s sync prot) old new = AllSameFailing old new
+  AsAsked w (Set p s sync prot) old new = OfSite SameFailing (site_number w p) old new
   AsAsked w other old new = Unit {0}
 
   -- What the calls of a line that was answered so leave of the fuse of its site.

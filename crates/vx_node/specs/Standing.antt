@@ -1,5 +1,7 @@
--- What a yard stands for, where sites may keep links and be in doubt, and what a line leads it to.
-use Rattle.std.specs.Prelude.{◌≡◌, ◌≢◌, ◌⊎◌, ℕ, Bool, true, false, ◌≤◌, ◌<◌, List, [], ◌++◌, length, Option, Some, None, slice_get, Result, Ok, Err}
+-- What a yard stands for, where sites may keep links and be in doubt, and what a line leads it to. One record serves all lines: a line that
+-- looks at packets, or at what every world keeps, has a promise for those worlds alone that the yard carries (`Carries`), or that are good
+-- where contents are told (`GoodFor`).
+use Rattle.std.specs.Prelude.{◌≡◌, ◌≢◌, ◌⊎◌, ℕ, Bool, ◌≤◌, ◌<◌, List, [], ◌++◌, length, Option, Some, None, slice_get, Result, Ok, Err}
 use Rattle.std.specs.Vec.{vec_capacity}
 use Rattle.vx_model.specs.declared.errors.OutOfMemory.{OutOfMemory}
 use Rattle.vx_model.specs.declared.limits.TheConstants.{MOST_SITES}
@@ -9,12 +11,12 @@ use Rattle.vx_history.specs.World.{Node}
 use Rattle.vx_history.specs.declared.event.Event.TheVariants.{Crash as CrashAt}
 use Rattle.vx_history.specs.declared.event.Said.TheVariants.{Done as IsDone}
 use Rattle.vx_model.specs.declared.site.Role.TheVariants.{Primary}
+use Rattle.vx_model.specs.declared.site.SiteState.TheVariants.{Down as IsDown}
 use Rattle.vx_events.specs.Doubts.{chosen, with_disks}
 use Rattle.vx_disk.specs.declared.shelf.Shelf.{Ghosts}
 use Rattle.std.specs.Io.KnownBytes.{Appends}
 use Rattle.vx_order.specs.Order.{refusal_of}
 use Rattle.vx_script.specs.declared.line.ScriptLine.{ScriptLine}
-use Rattle.vx_script.specs.declared.line.ScriptLine.TheVariants.{Put, Recover, Write}
 use Rattle.vx_diskset.specs.Asked.{FailsAs, FusedAs}
 use Rattle.vx_diskset.specs.Holds.{beside_of}
 use Rattle.vx_diskset.specs.Stands.{IsUnused, StandsAt}
@@ -23,6 +25,8 @@ use Rattle.vx_events.specs.Fails.{Fails}
 use Rattle.vx_events.specs.LinkedFacts.{linked_facts}
 use Rattle.vx_events.specs.Lines.{IsDone as IsDoneLine, LineStep as IsStep}
 use Rattle.vx_events.specs.Parts.{DonePart}
+use Rattle.vx_world.specs.Lines.{GoodDoubted}
+use Rattle.vx_node.specs.Carries.{Carries}
 use Rattle.vx_node.specs.OfSites.{HasCalled}
 use Rattle.vx_node.specs.Steps.{Prints}
 use Rattle.vx_node.specs.declared.errors.LineStop.{LineStop}
@@ -45,13 +49,6 @@ pub record IsSameSite (told : Type 0) (n k : Node) : Type 0 where
 -- what a crash of a site leaves, which keeps so many writes of what it is or of what it may be, with the disks that are made to fail
 abbrev pub crash_of : Doubted → (s count : ℕ) → (taken : Bool) → Doubted
 crash_of d s count taken = let h = happened d (CrashAt s count) taken in record h { world = with_disks taken s d.world h.world }
-
--- the lines that are done where sites may keep links and be in doubt
-abbrev pub goes_with_links : ScriptLine → Bool
-goes_with_links (Recover site) = false
-goes_with_links (Write site volume block count fill) = false
-goes_with_links (Put site volume block bytes) = false
-goes_with_links other = true
 
 module _ {R : Type 0} {g : Ghosts R} where
   -- each site of the world has its disk set, with what the world has of it beside its node, and the disk sets of other numbers are not used
@@ -76,18 +73,29 @@ module _ {R : Type 0} {g : Ghosts R} where
     pub none : y.racks.items ≡ []
     pub room : MOST_SITES ≤ vec_capacity y.racks
 
-  -- the line was done and answered so, and the yard stands for what it made of the world
+  -- what the laws of all worlds say of this one, where contents are told
+  abbrev pub GoodFor : Doubted → Yard R g → Type 0
+  GoodFor d y = IsTold y → GoodDoubted d
+
+  -- The yard stands for this world and carries it, and the world is good where contents are told.
+  pub record Serves (d : Doubted) (y : Yard R g) : Type 0 where
+    pub stands : StandsFor d y
+    pub carries : Carries d y
+    pub good : GoodFor d y
+
+  -- The line was done and answered so, and the yard stands for what it made of the world. It carries that, if it did so before.
   pub record Leads (d : Doubted) (line : ScriptLine) (said : Said) (old new : Yard R g) : Type 0 where
     pub next : Doubted
     pub fails : Fails
     pub done : IsDoneLine (IsTold new) d line fails said next
-    pub sent : next.world.packets ≡ d.world.packets
     pub stands : StandsFor next new
+    pub carries : Carries d old → Carries next new
     pub rose : RoseAll fails (count_of old) (count_of new)
 
   -- nothing of a line was done
   pub record StaysFor (d : Doubted) (old new : Yard R g) : Type 0 where
     pub stands : StandsFor d new
+    pub carries : Carries d old → Carries d new
     pub rose : RoseAll [] (count_of old) (count_of new)
 
   -- the line was done, or memory ran out, and nothing was
@@ -100,8 +108,11 @@ module _ {R : Type 0} {g : Ghosts R} where
     pub count : ℕ
     pub taken : Bool
     pub said : (step (chosen taken d (CrashAt s count)).world (CrashAt s count)).said ≡ IsDone
-    pub sent : (crash_of d s count taken).world.packets ≡ d.world.packets
+    pub down : ((crash_of d s count taken).world.nodes s).state ≡ IsDown
+    pub blocks : ((crash_of d s count taken).world.nodes s).blocks ≡ (d.world.nodes s).blocks
+    pub sites : (crash_of d s count taken).world.sites ≡ d.world.sites
     pub stands : StandsFor (crash_of d s count taken) new
+    pub carries : Carries d old → Carries (crash_of d s count taken) new
     pub rose : RoseAll [] (count_of old) (count_of new)
 
   -- the same of a line that may also be refused
@@ -109,8 +120,8 @@ module _ {R : Type 0} {g : Ghosts R} where
     pub next : Doubted
     pub fails : Fails
     pub step : IsStep (IsTold new) (in_files old) d line fails said next
-    pub sent : next.world.packets ≡ d.world.packets
     pub stands : StandsFor next new
+    pub carries : Carries d old → Carries next new
     pub rose : RoseAll fails (count_of old) (count_of new)
 
   abbrev pub AnswersIs : Doubted → ScriptLine → Yard R g → Yard R g → Result Said OutOfMemory → Type 0
@@ -123,6 +134,7 @@ module _ {R : Type 0} {g : Ghosts R} where
     pub fails : Fails
     pub prints : Prints (IsTold new) (in_files old) d line fails text next
     pub stands : StandsFor next new
+    pub carries : Carries d old → Carries next new
     pub rose : RoseAll fails (count_of old) (count_of new)
     -- where no test refuses the line, the fuse of its site is as its calls leave it
     pub called : refusal_of old.facts.items (in_files old) line ≡ None → HasCalled d.world line prints.said old new
@@ -132,6 +144,7 @@ module _ {R : Type 0} {g : Ghosts R} where
     pub next : Doubted
     pub part : DonePart d line next
     pub stands : StandsFor next new
+    pub carries : Carries d old → Carries next new
     pub rose : RoseAll [] (count_of old) (count_of new)
 
   -- The whole text was written. Or the sink failed, and a part of it is missing. Or memory ran out, and nothing was written.

@@ -1,12 +1,8 @@
--- What a yard stands for: how the disks of each of its sites agree with the world.
-use Rattle.std.specs.Prelude.{◌≡◌, ℕ, ◌+◌, ◌<◌, ◌≤◌, ◌==◌, ◌&&◌, min, List, length, count_by, Option, Some, None, slice_get}
-use Rattle.vx_model.specs.declared.limits.TheConstants.{MOST_SITES}
-use Rattle.vx_history.specs.World.{World}
+-- The disk sets of a yard: whether they tell, and the counts of their faults.
+use Rattle.std.specs.Prelude.{◌≡◌, ℕ, ◌+◌, ◌≤◌, ◌==◌, ◌&&◌, min, List, count_by, Option, Some, None, slice_get}
 use Rattle.vx_disk.specs.declared.shelf.Shelf.{Ghosts}
 use Rattle.vx_diskset.specs.declared.disk_set.DiskSet.{DiskSet}
-use Rattle.vx_diskset.specs.Holds.{links_of}
-use Rattle.vx_node.specs.Holds.{with_links}
-use Rattle.vx_diskset.specs.Stands.{StandsAlone, StandsAt, IsUnused, IsToldAt, faults_at}
+use Rattle.vx_diskset.specs.Stands.{IsToldAt, faults_at}
 use Rattle.vx_events.specs.Fails.{Fails}
 
 module _ {R : Type 0} {g : Ghosts R} where
@@ -20,20 +16,6 @@ module _ {R : Type 0} {g : Ghosts R} where
 
   pub record AreTold (disk_sets : List (DiskSet R g)) : Type 0 where
     pub each : (s : ℕ) (e : DiskSet R g) → slice_get disk_sets s ≡ Some e → IsToldAt e
-
-  -- each site of the world has its disk set, with the links that it keeps, and the disk sets of other numbers are not used
-  pub record SitesStand (w : World) (disk_sets : List (DiskSet R g)) : Type 0 where
-    pub eight : length disk_sets ≡ MOST_SITES
-    pub few : w.sites ≤ MOST_SITES
-    pub sites : (s : ℕ) (e : DiskSet R g) → s < w.sites → slice_get disk_sets s ≡ Some e → StandsAt (with_links (links_of w s)) (w.nodes s) e
-    pub others : (s : ℕ) (e : DiskSet R g) → w.sites ≤ s → slice_get disk_sets s ≡ Some e → IsUnused e
-
-  -- the same of a world of which no site keeps a link
-  pub record DiskSetsStand (w : World) (disk_sets : List (DiskSet R g)) : Type 0 where
-    pub eight : length disk_sets ≡ MOST_SITES
-    pub few : w.sites ≤ MOST_SITES
-    pub sites : (s : ℕ) (e : DiskSet R g) → s < w.sites → slice_get disk_sets s ≡ Some e → StandsAlone (w.nodes s) e
-    pub others : (s : ℕ) (e : DiskSet R g) → w.sites ≤ s → slice_get disk_sets s ≡ Some e → IsUnused e
 
 -- how often a disk of a site is named
 abbrev pub times : Fails → ℕ → ℕ → ℕ

@@ -1,22 +1,17 @@
 -- What the yard promises of a write of blocks.
-use Rattle.std.specs.Prelude.{◌≡◌, ℕ, ◌*◌, List, length, replicate}
-use Rattle.vx_model.specs.Content.{Write}
-use Rattle.vx_history.specs.World.{World}
+use Rattle.std.specs.Prelude.{◌≡◌, ℕ, ◌*◌, Bool, List, length, replicate, if◌then◌else◌}
 use Rattle.vx_model.specs.declared.no.No.{No}
 use Rattle.vx_model.specs.declared.no.No.TheVariants.{Device, Down}
 use Rattle.vx_disk.specs.declared.shelf.Shelf.{Ghosts}
 use Rattle.vx_order.specs.declared.facts.SiteFacts.{SiteFacts}
+use Rattle.vx_script.specs.declared.line.ScriptLine.{ScriptLine}
 use Rattle.vx_script.specs.declared.line.ScriptLine.TheVariants.{Write as WriteLine, Put as PutLine}
 use Rattle.vx_events.specs.declared.said.Said.{Said}
-use Rattle.vx_node.specs.declared.yard.Yard.{Yard}
+use Rattle.vx_events.specs.declared.said.Said.TheVariants.{DoneAt, Logged}
+use Rattle.vx_effects.specs.Facts.{half_fact}
 use Rattle.vx_node.specs.Changes.{halted_facts, down_facts}
-use Rattle.vx_events.specs.Facts.{site_number}
-use Rattle.vx_node.specs.Stands.{RoseAll}
-use Rattle.vx_events.specs.Lines.{write_in}
-use Rattle.vx_node.specs.Works.{Puts}
-use Rattle.vx_events.specs.Fails.{Fails}
 use Rattle.vx_node.specs.Working.{IsFree}
-use Rattle.vx_node.specs.Yards.{YardAgrees, IsTold, count_of}
+use Rattle.vx_node.specs.declared.yard.Yard.{Yard}
 
 -- what the tests see of a site after a write was refused so
 abbrev pub noted_facts : No → SiteFacts → SiteFacts
@@ -24,19 +19,22 @@ noted_facts (Device disk) f = halted_facts disk f
 noted_facts Down f = down_facts f
 noted_facts other f = f
 
+-- what the tests see of a site after a write of this number and so many blocks of the log was refused so: where a disk failed it may stand there
+abbrev pub unwritten_facts : No → (number blocks : ℕ) → SiteFacts → SiteFacts
+unwritten_facts (Device disk) number blocks f = half_fact disk number blocks f
+unwritten_facts Down number blocks f = down_facts f
+unwritten_facts other number blocks f = f
+
+-- a write that a link has to confirm is logged, and else it is done
+abbrev pub answer_by : (waited : Bool) → (number : ℕ) → Said
+answer_by waited number = if waited then Logged number else DoneAt number
+
+-- a line that writes these bytes: a `write` of its fill, or a `put` of one block
+pub data IsWriteLine (line : ScriptLine) (name volume : List ℕ) (start : ℕ) (bytes : List ℕ) : Type 0 where
+  OfWrite : (count fill : ℕ) → line ≡ WriteLine name volume start count fill → bytes ≡ replicate (512 * count) fill → IsWriteLine line name volume start bytes
+  OfPut : line ≡ PutLine name volume start bytes → length bytes ≡ 512 → IsWriteLine line name volume start bytes
+
 module _ {R : Type 0} {g : Ghosts R} where
-  -- no test refuses the line that writes these bytes: a `write` of its fill, or a `put` of one block
-  pub data WriteFree (y : Yard R g) (name volume : List ℕ) (start : ℕ) (bytes : List ℕ) : Type 0 where
-    ByWrite : (count fill : ℕ) → IsFree y (WriteLine name volume start count fill) → bytes ≡ replicate (512 * count) fill → WriteFree y name volume start bytes
-    ByPut : IsFree y (PutLine name volume start bytes) → length bytes ≡ 512 → WriteFree y name volume start bytes
-
-  -- the write of a site was answered so, and the yard stands for what it made of the world
-  pub record PutsAt (w : World) (site : ℕ) (x : Write) (said : Said) (old new : Yard R g) : Type 0 where
-    pub world : World
-    pub fails : Fails
-    pub puts : Puts (IsTold new) w site x fails said world
-    pub stands : YardAgrees world new
-    pub rose : RoseAll fails (count_of old) (count_of new)
-
-  abbrev pub PutsIs : World → List ℕ → List ℕ → ℕ → List ℕ → Said → Yard R g → Yard R g → Type 0
-  PutsIs w name volume start bytes said old new = PutsAt w (site_number w name) (write_in w name volume start bytes) said old new
+  -- bytes that such a line may write, which no test refuses
+  abbrev pub IsWriteFree : Yard R g → List ℕ → List ℕ → ℕ → List ℕ → Type 0
+  IsWriteFree y name volume start bytes = (line : ScriptLine) × IsWriteLine line name volume start bytes × IsFree y line

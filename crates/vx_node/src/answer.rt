@@ -1,13 +1,13 @@
 // What a line is answered.
-ghost use Rattle.std.specs.Prelude.{◌≡◌, ◌*◌, IfOk, IfErr, IsSome, min, replicate, true};
+ghost use Rattle.std.specs.Prelude.{◌≡◌, ◌*◌, IfOk, IsSome, min, replicate, true};
 ghost use Rattle.vx_history.specs.Doubts.{Doubted};
-ghost use Rattle.vx_history.specs.World.{World};
 ghost use Rattle.vx_order.specs.Order.{refusal_of};
-ghost use Rattle.vx_node.specs.OfSites.{AllAsBefore, AsAsked, HasCalled};
+ghost use Rattle.vx_node.specs.Carries.{Carries};
+ghost use Rattle.vx_node.specs.OfSites.{AsAsked, HasCalled};
 ghost use Rattle.vx_node.specs.Lines.{is_built};
-ghost use Rattle.vx_node.specs.Standing.{AnswersIs, LeadsIs, StandsFor, goes_with_links};
-ghost use Rattle.vx_node.specs.Working.{WorkIs, AnswerIs, IsFree};
-ghost use Rattle.vx_node.specs.Yards.{IsKept, YardAgrees, IsTold, in_files};
+ghost use Rattle.vx_node.specs.Standing.{AnswersIs, GoodFor, LeadsIs, StandsFor};
+ghost use Rattle.vx_node.specs.Working.{IsFree};
+ghost use Rattle.vx_node.specs.Yards.{IsKept, IsTold, in_files};
 
 use crate::{Said, Yard};
 use std::alloc::Global;
@@ -30,13 +30,9 @@ impl<R: Rack> Yard<R> {
         requires built { is_built words.now ≡ true }
         requires kept { IsKept self.old }
         requires free { IsFree self.old words.now }
-        ensures works { (w : World) → YardAgrees w self.old → WorkIs w words.now self.old self.new result }
-        ensures asked { (w : World) → YardAgrees w self.old → AsAsked w words.now self.old self.new }
-        ensures called { (w : World) → YardAgrees w self.old → IfOk result (λ said. HasCalled w words.now said self.old self.new) }
-        ensures leads { (d : Doubted) → StandsFor d self.old → goes_with_links words.now ≡ true → LeadsIs d words.now self.old self.new result }
-        ensures asks { (d : Doubted) → StandsFor d self.old → goes_with_links words.now ≡ true → AsAsked d.world words.now self.old self.new }
-        ensures calls { (d : Doubted) → StandsFor d self.old → goes_with_links words.now ≡ true → IfOk result (λ said. HasCalled d.world words.now said self.old self.new) }
-        ensures short { (w : World) → YardAgrees w self.old → IfErr result (λ e. AllAsBefore self.old self.new) }
+        ensures leads { (d : Doubted) → StandsFor d self.old → Carries d self.old → GoodFor d self.old → LeadsIs d words.now self.old self.new result }
+        ensures asked { (d : Doubted) → StandsFor d self.old → AsAsked d.world words.now self.old self.new }
+        ensures called { (d : Doubted) → StandsFor d self.old → IfOk result (λ said. HasCalled d.world words.now said self.old self.new) }
         ensures told { IsTold self.new → IsTold self.old }
         ensures files { in_files self.new ≡ in_files self.old }
     {
@@ -96,14 +92,9 @@ impl<R: Rack> Yard<R> {
     pub(crate) fn answer(&mut self, alloc: Global, words: &ScriptLine) -> Result<Said, OutOfMemory>
         requires built { is_built words.now ≡ true }
         requires kept { IsKept self.old }
-        ensures answers { (w : World) → YardAgrees w self.old → AnswerIs w words.now self.old self.new result }
-        ensures asked { (w : World) → YardAgrees w self.old → IsFree self.old words.now → AsAsked w words.now self.old self.new }
-        ensures called { (w : World) → YardAgrees w self.old → IsFree self.old words.now → IfOk result (λ said. HasCalled w words.now said self.old self.new) }
-        ensures leads { (d : Doubted) → StandsFor d self.old → goes_with_links words.now ≡ true → AnswersIs d words.now self.old self.new result }
-        ensures asks { (d : Doubted) → StandsFor d self.old → goes_with_links words.now ≡ true → IsFree self.old words.now → AsAsked d.world words.now self.old self.new }
-        ensures calls { (d : Doubted) → StandsFor d self.old → goes_with_links words.now ≡ true → IsFree self.old words.now → IfOk result (λ said. HasCalled d.world words.now said self.old self.new) }
-        // For want of memory no disk is made to fail, and no fuse is set.
-        ensures short { (w : World) → YardAgrees w self.old → IfErr result (λ e. AllAsBefore self.old self.new) }
+        ensures leads { (d : Doubted) → StandsFor d self.old → Carries d self.old → GoodFor d self.old → AnswersIs d words.now self.old self.new result }
+        ensures asked { (d : Doubted) → StandsFor d self.old → IsFree self.old words.now → AsAsked d.world words.now self.old self.new }
+        ensures called { (d : Doubted) → StandsFor d self.old → IsFree self.old words.now → IfOk result (λ said. HasCalled d.world words.now said self.old self.new) }
         // A line that is refused leaves all disks as they are.
         ensures still { IsSome (refusal_of self.old.facts.items (in_files self.old) words.now) → self.new.disk_sets ≡ self.old.disk_sets }
         ensures told { IsTold self.new → IsTold self.old }

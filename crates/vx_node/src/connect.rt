@@ -2,8 +2,8 @@
 ghost use Rattle.std.specs.Prelude.{◌≡◌};
 ghost use Rattle.vx_history.specs.Doubts.{Doubted};
 ghost use Rattle.vx_script.specs.declared.line.ScriptLine.TheVariants.{Connect};
-ghost use Rattle.vx_node.specs.Carries.{BringsIs, Carries};
-ghost use Rattle.vx_node.specs.Standing.{StandsFor};
+ghost use Rattle.vx_node.specs.Carries.{Carries};
+ghost use Rattle.vx_node.specs.Standing.{LeadsIs, StandsFor};
 ghost use Rattle.vx_node.specs.Working.{IsFree};
 ghost use Rattle.vx_node.specs.Yards.{IsKept, in_files};
 
@@ -17,7 +17,7 @@ impl<R: Rack> Yard<R> {
     pub(crate) fn connect_line(&mut self, first: &Name, second: &Name) -> Result<Said, OutOfMemory>
         requires kept { IsKept self.old }
         requires free { IsFree self.old (Connect first.now second.now) }
-        ensures brings { (d : Doubted) → StandsFor d self.old → Carries d self.old → BringsIs d (Connect first.now second.now) self.old self.new result }
+        ensures leads { (d : Doubted) → StandsFor d self.old → Carries d self.old → LeadsIs d (Connect first.now second.now) self.old self.new result }
         ensures still { self.new.disk_sets ≡ self.old.disk_sets }
         ensures files { in_files self.new ≡ in_files self.old }
     {

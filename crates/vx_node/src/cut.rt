@@ -2,8 +2,8 @@
 ghost use Rattle.std.specs.Prelude.{◌≡◌};
 ghost use Rattle.vx_history.specs.Doubts.{Doubted};
 ghost use Rattle.vx_script.specs.declared.line.ScriptLine.TheVariants.{Cut};
-ghost use Rattle.vx_node.specs.Carries.{Brings, Carries};
-ghost use Rattle.vx_node.specs.Standing.{StandsFor};
+ghost use Rattle.vx_node.specs.Carries.{Carries};
+ghost use Rattle.vx_node.specs.Standing.{Leads, StandsFor};
 ghost use Rattle.vx_node.specs.Working.{IsFree};
 ghost use Rattle.vx_node.specs.Yards.{in_files};
 
@@ -16,7 +16,7 @@ impl<R: Rack> Yard<R> {
     /// The link of a site to another is not connected any more.
     pub(crate) fn cut_line(&mut self, first: &Name, second: &Name) -> Said
         requires free { IsFree self.old (Cut first.now second.now) }
-        ensures brings { (d : Doubted) → StandsFor d self.old → Carries d self.old → Brings d (Cut first.now second.now) result self.old self.new }
+        ensures leads { (d : Doubted) → StandsFor d self.old → Carries d self.old → Leads d (Cut first.now second.now) result self.old self.new }
         ensures still { self.new.disk_sets ≡ self.old.disk_sets }
         ensures files { in_files self.new ≡ in_files self.old }
     {

@@ -1,9 +1,9 @@
 // The lines that work on links in memory.
 ghost use Rattle.std.specs.Prelude.{◌≡◌, true};
 ghost use Rattle.vx_history.specs.Doubts.{Doubted};
-ghost use Rattle.vx_node.specs.Carries.{BringsIs, Carries};
+ghost use Rattle.vx_node.specs.Carries.{Carries};
 ghost use Rattle.vx_node.specs.LinkLines.{is_on_links};
-ghost use Rattle.vx_node.specs.Standing.{StandsFor};
+ghost use Rattle.vx_node.specs.Standing.{LeadsIs, StandsFor};
 ghost use Rattle.vx_node.specs.Working.{IsFree};
 ghost use Rattle.vx_node.specs.Yards.{IsKept, in_files};
 
@@ -18,7 +18,7 @@ impl<R: Rack> Yard<R> {
         requires kind { is_on_links words.now ≡ true }
         requires kept { IsKept self.old }
         requires free { IsFree self.old words.now }
-        ensures brings { (d : Doubted) → StandsFor d self.old → Carries d self.old → BringsIs d words.now self.old self.new result }
+        ensures leads { (d : Doubted) → StandsFor d self.old → Carries d self.old → LeadsIs d words.now self.old self.new result }
         ensures still { self.new.disk_sets ≡ self.old.disk_sets }
         ensures files { in_files self.new ≡ in_files self.old }
     {

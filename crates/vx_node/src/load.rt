@@ -1,10 +1,11 @@
-// What a yard without sites carries.
+// What a yard carries, where it has no sites and where a site goes down.
 ghost use Rattle.std.specs.Prelude.{◌≡◌, All, IfOk, None, length};
 ghost use Rattle.vx_model.specs.declared.limits.TheConstants.{MOST_SITES};
+ghost use Rattle.vx_node.specs.Loads.{LetGo, LetGoBy};
 
 use std::alloc::Global;
-use vx_model::OutOfMemory;
 use vx_model::limits::{MOST_SITES, NO_SITE};
+use vx_model::{No, OutOfMemory};
 use vx_packet::Assembly;
 
 /// For each site number a place for a message, with nothing in assembly.
@@ -17,6 +18,25 @@ pub fn empty_assemblies(alloc: Global) -> Result<Vec<Assembly>, OutOfMemory>
         assemblies.push(Assembly::new(alloc)?)?;
     }
     Ok(assemblies)
+}
+
+/// What a site had in assembly is let go.
+pub fn let_go(assemblies: &mut Vec<Assembly>, site: usize)
+    ensures { LetGo site assemblies.old.items assemblies.new.items }
+{
+    if let Some(assembly) = assemblies.get_mut(site) {
+        assembly.clear();
+    }
+}
+
+/// The same where a site went down by this refusal.
+pub fn let_go_if_down(assemblies: &mut Vec<Assembly>, site: usize, no: &No)
+    ensures { LetGoBy no.now site assemblies.old.items assemblies.new.items }
+{
+    match no {
+        No::Down => let_go(assemblies, site),
+        _ => {}
+    }
 }
 
 /// For each site number that no site feeds it.

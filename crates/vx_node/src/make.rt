@@ -1,13 +1,12 @@
 // The lines that make a site, and a raw set of its disks.
 ghost use Rattle.std.specs.Prelude.{◌≡◌, ◌≤◌};
 ghost use Rattle.vx_history.specs.Doubts.{Doubted};
-ghost use Rattle.vx_history.specs.World.{World};
 ghost use Rattle.vx_script.specs.declared.line.ScriptLine.TheVariants.{Site, Raw};
 ghost use Rattle.vx_node.specs.OfSites.{AsAsked};
 ghost use Rattle.vx_node.specs.Replies.{reply_to};
 ghost use Rattle.vx_node.specs.Standing.{LeadsIs, StandsFor};
-ghost use Rattle.vx_node.specs.Working.{WorkIs, IsFree};
-ghost use Rattle.vx_node.specs.Yards.{IsKept, YardAgrees, IsTold, in_files};
+ghost use Rattle.vx_node.specs.Working.{IsFree};
+ghost use Rattle.vx_node.specs.Yards.{IsKept, IsTold, in_files};
 
 use crate::folder::folder;
 use crate::{DiskSet, Said, Yard, facts};
@@ -41,10 +40,8 @@ impl<R: Rack> Yard<R> {
         requires large { LEAST_BLOCKS ≤ blocks }
         requires kept { IsKept self.old }
         requires free { IsFree self.old (Site name.now disks blocks) }
-        ensures works { (w : World) → YardAgrees w self.old → WorkIs w (Site name.now disks blocks) self.old self.new result }
-        ensures asked { (w : World) → YardAgrees w self.old → AsAsked w (Site name.now disks blocks) self.old self.new }
         ensures leads { (d : Doubted) → StandsFor d self.old → LeadsIs d (Site name.now disks blocks) self.old self.new result }
-        ensures asks { (d : Doubted) → StandsFor d self.old → AsAsked d.world (Site name.now disks blocks) self.old self.new }
+        ensures asked { (d : Doubted) → StandsFor d self.old → AsAsked d.world (Site name.now disks blocks) self.old self.new }
         ensures told { IsTold self.new → IsTold self.old }
         ensures files { in_files self.new ≡ in_files self.old }
     {
@@ -74,10 +71,8 @@ impl<R: Rack> Yard<R> {
     pub(crate) fn make_raw(&mut self, alloc: Global, name: &Name) -> Result<Said, OutOfMemory>
         requires kept { IsKept self.old }
         requires free { IsFree self.old (Raw name.now) }
-        ensures works { (w : World) → YardAgrees w self.old → WorkIs w (Raw name.now) self.old self.new result }
-        ensures asked { (w : World) → YardAgrees w self.old → AsAsked w (Raw name.now) self.old self.new }
         ensures leads { (d : Doubted) → StandsFor d self.old → LeadsIs d (Raw name.now) self.old self.new result }
-        ensures asks { (d : Doubted) → StandsFor d self.old → AsAsked d.world (Raw name.now) self.old self.new }
+        ensures asked { (d : Doubted) → StandsFor d self.old → AsAsked d.world (Raw name.now) self.old self.new }
         ensures told { IsTold self.new → IsTold self.old }
         ensures files { in_files self.new ≡ in_files self.old }
     {

@@ -2,8 +2,8 @@
 ghost use Rattle.std.specs.Prelude.{◌≡◌};
 ghost use Rattle.vx_history.specs.Doubts.{Doubted};
 ghost use Rattle.vx_script.specs.declared.line.ScriptLine.TheVariants.{Pump};
-ghost use Rattle.vx_node.specs.Carries.{BringsIs, Carries};
-ghost use Rattle.vx_node.specs.Standing.{StandsFor};
+ghost use Rattle.vx_node.specs.Carries.{Carries};
+ghost use Rattle.vx_node.specs.Standing.{LeadsIs, StandsFor};
 ghost use Rattle.vx_node.specs.Working.{IsFree};
 ghost use Rattle.vx_node.specs.Yards.{IsKept, IsTold, in_files};
 
@@ -25,7 +25,7 @@ impl<R: Rack> Yard<R> {
         requires kept { IsKept self.old }
         requires free { IsFree self.old (Pump first.now second.now) }
         // Where contents are told.
-        ensures brings { (d : Doubted) → StandsFor d self.old → Carries d self.old → IsTold self.old → BringsIs d (Pump first.now second.now) self.old self.new result }
+        ensures leads { (d : Doubted) → StandsFor d self.old → Carries d self.old → IsTold self.old → LeadsIs d (Pump first.now second.now) self.old self.new result }
         ensures told { IsTold self.new → IsTold self.old }
         ensures files { in_files self.new ≡ in_files self.old }
     {

@@ -1,16 +1,15 @@
 // The lines that read blocks.
 ghost use Rattle.std.specs.Prelude.{◌≡◌, ◌<◌};
 ghost use Rattle.vx_history.specs.Doubts.{Doubted};
-ghost use Rattle.vx_history.specs.World.{World};
 ghost use Rattle.vx_script.specs.declared.line.ScriptLine.{ScriptLine};
 ghost use Rattle.vx_script.specs.declared.line.ScriptLine.TheVariants.{Read as ReadLine, Show as ShowLine};
 ghost use Rattle.vx_events.specs.Facts.{site_number};
 ghost use Rattle.vx_node.specs.OfSites.{AsAsked, OfSite};
 ghost use Rattle.vx_diskset.specs.Asked.{LeavesAlone};
-ghost use Rattle.vx_node.specs.Fetching.{IsReadFree, IsReadLine, IsRoom, Fetched};
+ghost use Rattle.vx_node.specs.Fetching.{IsReadFree, IsReadLine, IsRoom};
 ghost use Rattle.vx_node.specs.Standing.{Leads, StandsFor};
-ghost use Rattle.vx_node.specs.Working.{Worked, IsFree};
-ghost use Rattle.vx_node.specs.Yards.{IsKept, YardAgrees, IsTold, in_files};
+ghost use Rattle.vx_node.specs.Working.{IsFree};
+ghost use Rattle.vx_node.specs.Yards.{IsKept, IsTold, in_files};
 
 use crate::{Said, Yard};
 use vx_disk::Rack;
@@ -31,10 +30,8 @@ impl<R: Rack> Yard<R> {
         requires room { IsRoom count room.items }
         requires kept { IsKept self.old }
         requires free { IsFree self.old (ReadLine name.now volume.now start count) }
-        ensures works { (w : World) → YardAgrees w self.old → Worked w (ReadLine name.now volume.now start count) result self.old self.new }
-        ensures asked { (w : World) → YardAgrees w self.old → AsAsked w (ReadLine name.now volume.now start count) self.old self.new }
         ensures leads { (d : Doubted) → StandsFor d self.old → Leads d (ReadLine name.now volume.now start count) result self.old self.new }
-        ensures asks { (d : Doubted) → StandsFor d self.old → AsAsked d.world (ReadLine name.now volume.now start count) self.old self.new }
+        ensures asked { (d : Doubted) → StandsFor d self.old → AsAsked d.world (ReadLine name.now volume.now start count) self.old self.new }
         ensures told { IsTold self.new → IsTold self.old }
         ensures files { in_files self.new ≡ in_files self.old }
     {
@@ -53,10 +50,8 @@ impl<R: Rack> Yard<R> {
         requires room { IsRoom count room.items }
         requires kept { IsKept self.old }
         requires free { IsFree self.old (ShowLine name.now volume.now start count) }
-        ensures works { (w : World) → YardAgrees w self.old → Worked w (ShowLine name.now volume.now start count) result self.old self.new }
-        ensures asked { (w : World) → YardAgrees w self.old → AsAsked w (ShowLine name.now volume.now start count) self.old self.new }
         ensures leads { (d : Doubted) → StandsFor d self.old → Leads d (ShowLine name.now volume.now start count) result self.old self.new }
-        ensures asks { (d : Doubted) → StandsFor d self.old → AsAsked d.world (ShowLine name.now volume.now start count) self.old self.new }
+        ensures asked { (d : Doubted) → StandsFor d self.old → AsAsked d.world (ShowLine name.now volume.now start count) self.old self.new }
         ensures told { IsTold self.new → IsTold self.old }
         ensures files { in_files self.new ≡ in_files self.old }
     {
@@ -68,10 +63,8 @@ impl<R: Rack> Yard<R> {
         requires room { IsRoom count room.items }
         requires kept { IsKept self.old }
         requires free { IsReadFree self.old name.now volume.now start count }
-        ensures works { (w : World) → YardAgrees w self.old → Fetched w name.now volume.now start count result self.old self.new }
-        ensures asked { (w : World) → YardAgrees w self.old → OfSite LeavesAlone (site_number w name.now) self.old self.new }
         ensures leads { (d : Doubted) (line : ScriptLine) → StandsFor d self.old → IsReadLine line name.now volume.now start count → Leads d line result self.old self.new }
-        ensures asks { (d : Doubted) → StandsFor d self.old → OfSite LeavesAlone (site_number d.world name.now) self.old self.new }
+        ensures asked { (d : Doubted) → StandsFor d self.old → OfSite LeavesAlone (site_number d.world name.now) self.old self.new }
         ensures told { IsTold self.new → IsTold self.old }
         ensures files { in_files self.new ≡ in_files self.old }
     {

@@ -1,15 +1,13 @@
 // What the status of a site shows.
 ghost use Rattle.std.specs.Prelude.{◌≡◌, ◌<◌, [], IfOk, Some, length, slice_get};
 ghost use Rattle.vx_history.specs.Doubts.{Doubted};
-ghost use Rattle.vx_history.specs.World.{World};
 ghost use Rattle.vx_order.specs.declared.facts.SiteFacts.{SiteFacts};
 ghost use Rattle.vx_script.specs.declared.line.ScriptLine.TheVariants.{Status as StatusLine};
 ghost use Rattle.vx_node.specs.Seen.{name_at, group_seen, group_at, link_seen, links_seen, site_seen};
 ghost use Rattle.vx_node.specs.Standing.{LeadsIs, StandsFor};
 ghost use Rattle.vx_events.specs.LinkViews.{linked_view};
-ghost use Rattle.vx_events.specs.Views.{view_of};
-ghost use Rattle.vx_node.specs.Working.{WorkIs, IsFree};
-ghost use Rattle.vx_node.specs.Yards.{IsKept, YardAgrees};
+ghost use Rattle.vx_node.specs.Working.{IsFree};
+ghost use Rattle.vx_node.specs.Yards.{IsKept};
 
 use crate::{Said, Yard};
 use std::alloc::Global;
@@ -55,8 +53,8 @@ fn shown(sites: &[SiteFacts], session: u64, site: &SiteFacts) -> Option<RvgView>
     }
 }
 
-// A link. It keeps no map, so no region is marked.
-fn link_view(sites: &[SiteFacts], link: &LinkFacts) -> LinkView
+/// A link. It keeps no map, so no region is marked.
+pub(crate) fn link_view(sites: &[SiteFacts], link: &LinkFacts) -> LinkView
     ensures { result ≡ link_seen sites.now link.now }
 {
     LinkView {
@@ -111,7 +109,6 @@ impl<R: Rack> Yard<R> {
     pub(crate) fn view_at(&self, alloc: Global, site: usize, links: LinkViews) -> SiteView
         requires site { site < length self.now.facts.items }
         requires disk_set { site < length self.now.disk_sets.items }
-        ensures alone { (w : World) → YardAgrees w self.now → site < w.sites → links ≡ [] → result ≡ view_of w (w.nodes site) }
         ensures linked { (d : Doubted) (f : SiteFacts) → StandsFor d self.now → site < d.world.sites → slice_get self.now.facts.items site ≡ Some f → links ≡ links_seen self.now.facts.items f.links → result ≡ linked_view d.world site }
     {
         let session = self.disk_sets[site].session();
@@ -122,7 +119,6 @@ impl<R: Rack> Yard<R> {
     pub(crate) fn status_line(&self, alloc: Global, name: &Name) -> Result<Said, OutOfMemory>
         requires kept { IsKept self.now }
         requires free { IsFree self.now (StatusLine name.now) }
-        ensures works { (w : World) → YardAgrees w self.now → WorkIs w (StatusLine name.now) self.now self.now result }
         ensures leads { (d : Doubted) → StandsFor d self.now → LeadsIs d (StatusLine name.now) self.now self.now result }
     {
         let site = self.site_of(name);

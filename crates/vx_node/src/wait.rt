@@ -2,9 +2,9 @@
 ghost use Rattle.std.specs.Prelude.{◌≡◌};
 ghost use Rattle.vx_history.specs.Doubts.{Doubted};
 ghost use Rattle.vx_script.specs.declared.line.ScriptLine.TheVariants.{Wait};
-ghost use Rattle.vx_node.specs.Carries.{Brings, Carries};
+ghost use Rattle.vx_node.specs.Carries.{Carries};
 ghost use Rattle.vx_node.specs.Happenings.{reply_of};
-ghost use Rattle.vx_node.specs.Standing.{StandsFor};
+ghost use Rattle.vx_node.specs.Standing.{Leads, StandsFor};
 ghost use Rattle.vx_node.specs.Working.{IsFree};
 
 use crate::{Said, Yard};
@@ -32,7 +32,7 @@ impl<R: Rack> Yard<R> {
     /// Whether the write of this number is confirmed as the links of its site ask.
     pub(crate) fn wait_line(&self, name: &Name, number: u64) -> Said
         requires free { IsFree self.now (Wait name.now number) }
-        ensures brings { (d : Doubted) → StandsFor d self.now → Carries d self.now → Brings d (Wait name.now number) result self.now self.now }
+        ensures leads { (d : Doubted) → StandsFor d self.now → Carries d self.now → Leads d (Wait name.now number) result self.now self.now }
     {
         reply(wait(&self.facts, name, number))
     }

@@ -9,20 +9,20 @@ ghost use Rattle.vx_node.specs.Carries.{Carries};
 ghost use Rattle.vx_node.specs.OfSites.{AsAsked};
 ghost use Rattle.vx_node.specs.Holds.{AreFresh, RacksHold, RacksTell, rack_faults};
 ghost use Rattle.vx_node.specs.Lines.{is_built};
-ghost use Rattle.vx_node.specs.Standing.{LineFor, StandsFor, goes_with_links};
+ghost use Rattle.vx_node.specs.Standing.{LineFor, Serves, StandsFor};
 ghost use Rattle.vx_node.specs.Working.{IsFree};
-ghost use Rattle.vx_node.specs.Yards.{IsKept, YardStands, LineIs, IsTold, count_of, in_files};
+ghost use Rattle.vx_node.specs.Yards.{IsKept, IsTold, count_of, in_files};
 
 use crate::folder::copied;
 use crate::load::{empty_assemblies, no_feeders};
 use crate::racks::{put_racks, take_racks};
-use crate::text::push_said;
+use crate::sent::{replied, sent_since};
 use crate::{DiskSet, LineStop};
 use std::alloc::Global;
 use vx_disk::Rack;
 use vx_model::OutOfMemory;
 use vx_model::limits::MOST_SITES;
-use vx_net::Flight;
+use vx_net::{Flight, Net};
 use vx_order::SiteFacts;
 use vx_packet::Assembly;
 use vx_script::ScriptLine;
@@ -51,9 +51,8 @@ impl<R: Rack> Yard<R> {
         dir: Option<&str>,
     ) -> Result<Yard<R>, (Vec<R>, OutOfMemory)>
         requires { AreFresh R.meaning racks.items }
-        ensures stands { IfOk result (λ y. YardStands (sure empty_world) y) }
+        ensures stands { IfOk result (λ y. StandsFor (sure empty_world) y) }
         ensures carries { IfOk result (λ y. Carries (sure empty_world) y) }
-        ensures begins { IfOk result (λ y. StandsFor (sure empty_world) y) }
         ensures files { IfOk result (λ y. in_files y ≡ is_some dir.entry) }
         ensures counts { IfOk result (λ y. (s d : ℕ) → count_of y s d ≡ rack_faults R.meaning racks.items s d) }
         ensures back { IfErr result (λ e. e.0 ≡ racks) }
@@ -94,12 +93,9 @@ impl<R: Rack> Yard<R> {
     ) -> Result<(), LineStop>
         requires built { is_built words.now ≡ true }
         requires kept { IsKept self.old }
-        ensures line { (d : Doubted) → YardStands d self.old → LineIs d words.now self.old self.new (O.written out.old) (O.written out.new) result }
+        ensures line { (d : Doubted) → Serves d self.old → LineFor d words.now self.old self.new (O.written out.old) (O.written out.new) result }
         // What the line asks of the rack of its site: a disk, a number of calls or a pick.
-        ensures asked { (d : Doubted) → YardStands d self.old → IsFree self.old words.now → AsAsked d.world words.now self.old self.new }
-        // The same of a line that goes where sites keep links and are in doubt.
-        ensures linked { (d : Doubted) → StandsFor d self.old → goes_with_links words.now ≡ true → LineFor d words.now self.old self.new (O.written out.old) (O.written out.new) result }
-        ensures asks { (d : Doubted) → StandsFor d self.old → goes_with_links words.now ≡ true → IsFree self.old words.now → AsAsked d.world words.now self.old self.new }
+        ensures asked { (d : Doubted) → StandsFor d self.old → IsFree self.old words.now → AsAsked d.world words.now self.old self.new }
         // A line that is refused leaves all disks as they are.
         ensures still { IsSome (refusal_of self.old.facts.items (in_files self.old) words.now) → self.new.disk_sets ≡ self.old.disk_sets }
         ensures told { IsTold self.new → IsTold self.old }
@@ -107,11 +103,11 @@ impl<R: Rack> Yard<R> {
         ensures later { O.faults out.old ≤ O.faults out.new }
         ensures cause { result ≡ Err LineStop.WriteFault → Rose (O.faults out.old) (O.faults out.new) }
     {
+        let before = self.flight.count();
         let Ok(said) = self.answer(alloc, words) else {
             return Err(LineStop::OutOfMemory);
         };
-        let mut text = Vec::new(alloc);
-        let Ok(()) = push_said(&mut text, &said) else {
+        let Ok(text) = replied(alloc, &said, sent_since(before, self.flight.count())) else {
             return Err(LineStop::OutOfMemory);
         };
         match send(out, &text) {
@@ -122,12 +118,9 @@ impl<R: Rack> Yard<R> {
 
     /// The racks, in the order of the sites.
     pub fn into_racks(self) -> Vec<R>
-        ensures holds { (d : Doubted) → YardStands d self → RacksHold R.meaning d result.items }
-        ensures counts { (d : Doubted) → YardStands d self → (s d : ℕ) → rack_faults R.meaning result.items s d ≡ count_of self s d }
-        ensures told { (d : Doubted) → YardStands d self → RacksTell R.meaning result.items → IsTold self }
-        ensures keeps { (d : Doubted) → StandsFor d self → RacksHold R.meaning d result.items }
-        ensures counted { (d : Doubted) → StandsFor d self → (s d : ℕ) → rack_faults R.meaning result.items s d ≡ count_of self s d }
-        ensures tells { (d : Doubted) → StandsFor d self → RacksTell R.meaning result.items → IsTold self }
+        ensures holds { (d : Doubted) → StandsFor d self → RacksHold R.meaning d result.items }
+        ensures counts { (d : Doubted) → StandsFor d self → (s d : ℕ) → rack_faults R.meaning result.items s d ≡ count_of self s d }
+        ensures told { (d : Doubted) → StandsFor d self → RacksTell R.meaning result.items → IsTold self }
     {
         take_racks(self.racks, self.disk_sets)
     }

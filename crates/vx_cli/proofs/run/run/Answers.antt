@@ -1,7 +1,10 @@
 use Rattle.std.proofs.Common.{ap, ◌∙◌}
 use Rattle.vx_node.specs.Holds.{rack_faults}
-use Rattle.vx_cli.proofs.RunLemmas.{run_is, run_stops}
+use Rattle.vx_cli.proofs.RunLemmas.{begins, run_is, run_stops}
 use Rattle.vx_cli.proofs.run.run.Goals as goal
+
+pub answer_all-status-requires-clause-serves : goal.answer_all-status-requires-clause-serves
+answer_all-status-requires-clause-serves g c = λ κs within. begins c.in-Ok.yard c.in-Ok.ensures.stands c.in-Ok.ensures.carries
 
 pub returns-in-Ok-clause-run : goal.returns-in-Ok-clause-run
 returns-in-Ok-clause-run g c =

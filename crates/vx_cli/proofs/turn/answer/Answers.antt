@@ -13,19 +13,19 @@ returns-in-Ok-None-clause-answer g c =
 pub returns-in-Ok-clause-answer : goal.returns-in-Ok-clause-answer
 returns-in-Ok-clause-answer g c =
     let says = c.in-Ok-Some.ensures ∙ ap Ok c.in-Ok-Some.field-0-is in
-    λ w stands. let is = c.in-Ok.ensures.line w stands in (is.0, did_line w c.args.line.now c.in-Ok-Some.words _ _ is.0 says is.1, is.2)
+    λ w stands. let is = c.in-Ok.ensures.line w stands in (is.0, did_line w c.args.line.now c.in-Ok-Some.words _ _ is.0 says stands c.in-Ok.ensures.told is.1, is.2)
 
 pub returns-in-Err-WriteFault-clause-answer : goal.returns-in-Err-WriteFault-clause-answer
 returns-in-Err-WriteFault-clause-answer g c =
     let says = c.in-Ok-Some.ensures ∙ ap Ok c.in-Ok-Some.field-0-is in
     λ w stands. let is = rw c.in-Err-WriteFault.field-0-is at c.in-Err-WriteFault.ensures.line w stands in
-    StopsAtReply is.0 is.1 (did_line w c.args.line.now c.in-Ok-Some.words _ _ is.0 says is.3) (record { unsent = is.2; is = is.4; some = is.5 }) is.6
+    StopsAtReply is.0 is.1 (did_line w c.args.line.now c.in-Ok-Some.words _ _ is.0 says stands c.in-Err-WriteFault.ensures.told is.3) (record { unsent = is.2; is = is.4; some = is.5 }) is.6
 
 pub returns-in-Ok-Some-clause-answer : goal.returns-in-Ok-Some-clause-answer
 returns-in-Ok-Some-clause-answer g c =
     let says = c.in-Ok-Some.ensures ∙ ap Ok c.in-Ok-Some.field-0-is in
     λ w stands. let is = rw c.in-Err-OutOfMemory-line.field-0-is at c.in-Err-OutOfMemory-line.ensures.line w stands in
-    (memory_answer w c.args.line.now c.in-Ok-Some.words _ _ says is.0, is.1)
+    (memory_answer w c.args.line.now c.in-Ok-Some.words _ _ says stands c.in-Err-OutOfMemory-line.ensures.told is.0, is.1)
 
 pub returns-in-Err-Bad-clause-answer : goal.returns-in-Err-Bad-clause-answer
 returns-in-Err-Bad-clause-answer g c =

@@ -1,19 +1,16 @@
 -- Each case of a line that applies the log of a site.
-use Rattle.std.proofs.Common.{◌≡◌, refl, subst, sym, []}
+use Rattle.std.proofs.Common.{◌≡◌, refl, subst, sym}
 use Rattle.std.specs.Prelude.{Some}
 use Rattle.vx_events.specs.Facts.{seat_of}
 use Rattle.vx_node.specs.Yards.{in_files}
 use Rattle.vx_node.proofs.ChangeSite.{told_before}
-use Rattle.vx_node.proofs.CrashLine.{apply_done, apply_failed}
 use Rattle.vx_node.proofs.Lists.{get_at}
 use Rattle.vx_events.proofs.Refused.{apply_may}
 use Rattle.vx_node.proofs.Seats.{named_some}
-use Rattle.vx_events.specs.declared.said.Said.TheVariants.{DoneAt, Refused}
+use Rattle.vx_events.specs.declared.said.Said.TheVariants.{DoneAt}
 use Rattle.vx_diskset.specs.Asked.{LeavesFuse}
 use Rattle.vx_diskset.specs.Burning.{NoMore}
-use Rattle.vx_node.proofs.AskRack.{called_at}
-use Rattle.vx_node.proofs.OfSites.{called_keeps}
-use Rattle.vx_diskset.specs.Holds.{alone, beside_of}
+use Rattle.vx_diskset.specs.Holds.{beside_of}
 use Rattle.vx_diskset.specs.Asked.{SameFailing}
 use Rattle.vx_events.specs.declared.said.Said.{Said}
 use Rattle.vx_node.proofs.ApplySite.{applied, apply_refused, calls_keep, can_apply_at}
@@ -23,52 +20,13 @@ use Rattle.vx_node.proofs.yard.Yard.apply_line.Goals as goal
 pub site_of-site-requires-clause-named : goal.site_of-site-requires-clause-named
 site_of-site-requires-clause-named g c = λ κs within. named_some c.args.self.now c.args.name.now ((apply_may c.args.self.now.facts.items (in_files c.args.self.now) c.args.name.now c.args.to c.requires.free).site)
 
-pub returns-in-Ok-clause-works : goal.returns-in-Ok-clause-works
-returns-in-Ok-clause-works g c = λ w stands.
-    let disk_sets = c.args.self.now.disk_sets.items in
-    let is : seat_of c.args.self.now.facts.items c.args.name.now ≡ Some c.site_of-site.result = c.site_of-site.ensures.seat in
-    let at = get_at disk_sets c.site_of-site.result c.index_mut.result.now c.site_of-site.ensures.disk_set c.index_mut.ensures.value in
-    apply_done w c.args.self.now _ c.args.name.now c.args.to c.site_of-site.result c.in-Ok.number c.index_mut.result.now c.apply.new.self stands c.requires.free is at c.in-Ok.ensures.later (c.in-Ok.ensures.applied alone) refl refl refl
-
 pub returns-in-Ok-clause-told : goal.returns-in-Ok-clause-told
 returns-in-Ok-clause-told g c = told_before c.args.self.now.disk_sets.items c.site_of-site.result c.index_mut.result.now c.apply.new.self
     (get_at c.args.self.now.disk_sets.items c.site_of-site.result c.index_mut.result.now c.site_of-site.ensures.disk_set c.index_mut.ensures.value) c.in-Ok.ensures.later
 
-pub returns-in-Err-clause-works : goal.returns-in-Err-clause-works
-returns-in-Err-clause-works g c = λ w stands.
-    let facts = c.args.self.now.facts.items in
-    let disk_sets = c.args.self.now.disk_sets.items in
-    let is : seat_of c.args.self.now.facts.items c.args.name.now ≡ Some c.site_of-site.result = c.site_of-site.ensures.seat in
-    let at = get_at disk_sets c.site_of-site.result c.index_mut.result.now c.site_of-site.ensures.disk_set c.index_mut.ensures.value in
-    apply_failed w c.args.self.now _ c.args.name.now c.args.to c.site_of-site.result c.in-Err.no c.refused.result c.index_mut-in-Err.result.now c.refused.new.facts c.index_mut.result.now c.apply.new.self
-    stands c.requires.free is (get_at facts c.site_of-site.result c.index_mut-in-Err.result.now (c.site_of-site.ensures.fact) c.index_mut-in-Err.ensures.value) at
-    c.in-Err.ensures.later (c.in-Err.ensures.applied alone) c.refused.ensures.noted c.refused.ensures.said refl refl refl
-
 pub returns-in-Err-clause-told : goal.returns-in-Err-clause-told
 returns-in-Err-clause-told g c = told_before c.args.self.now.disk_sets.items c.site_of-site.result c.index_mut.result.now c.apply.new.self
     (get_at c.args.self.now.disk_sets.items c.site_of-site.result c.index_mut.result.now c.site_of-site.ensures.disk_set c.index_mut.ensures.value) c.in-Err.ensures.later
-
-pub returns-in-Ok-clause-called : goal.returns-in-Ok-clause-called
-returns-in-Ok-clause-called g c = λ w stands.
-    called_at (LeavesFuse NoMore) w c.args.self.now _ c.args.name.now c.site_of-site.result c.index_mut.result.now c.apply.new.self (DoneAt c.in-Ok.number) (DoneAt c.in-Ok.number) refl stands c.site_of-site.ensures.seat
-    (get_at c.args.self.now.disk_sets.items c.site_of-site.result c.index_mut.result.now c.site_of-site.ensures.disk_set c.index_mut.ensures.value) refl (λ n stood. c.in-Ok.ensures.called alone n stood)
-
-pub returns-in-Ok-clause-asked : goal.returns-in-Ok-clause-asked
-returns-in-Ok-clause-asked g c = λ w stands.
-    called_keeps NoMore (DoneAt c.in-Ok.number) _ c.args.self.now _ (
-    called_at (LeavesFuse NoMore) w c.args.self.now _ c.args.name.now c.site_of-site.result c.index_mut.result.now c.apply.new.self (DoneAt c.in-Ok.number) (DoneAt c.in-Ok.number) refl stands c.site_of-site.ensures.seat
-    (get_at c.args.self.now.disk_sets.items c.site_of-site.result c.index_mut.result.now c.site_of-site.ensures.disk_set c.index_mut.ensures.value) refl (λ n stood. c.in-Ok.ensures.called alone n stood))
-
-pub returns-in-Err-clause-called : goal.returns-in-Err-clause-called
-returns-in-Err-clause-called g c = λ w stands.
-    called_at (LeavesFuse NoMore) w c.args.self.now _ c.args.name.now c.site_of-site.result c.index_mut.result.now c.apply.new.self c.refused.result (Refused c.in-Err.no) c.refused.ensures.said stands c.site_of-site.ensures.seat
-    (get_at c.args.self.now.disk_sets.items c.site_of-site.result c.index_mut.result.now c.site_of-site.ensures.disk_set c.index_mut.ensures.value) refl (λ n stood. c.in-Err.ensures.called alone n stood)
-
-pub returns-in-Err-clause-asked : goal.returns-in-Err-clause-asked
-returns-in-Err-clause-asked g c = λ w stands.
-    called_keeps NoMore c.refused.result _ c.args.self.now _ (
-    called_at (LeavesFuse NoMore) w c.args.self.now _ c.args.name.now c.site_of-site.result c.index_mut.result.now c.apply.new.self c.refused.result (Refused c.in-Err.no) c.refused.ensures.said stands c.site_of-site.ensures.seat
-    (get_at c.args.self.now.disk_sets.items c.site_of-site.result c.index_mut.result.now c.site_of-site.ensures.disk_set c.index_mut.ensures.value) refl (λ n stood. c.in-Err.ensures.called alone n stood))
 
 pub returns-in-Ok-clause-leads : goal.returns-in-Ok-clause-leads
 returns-in-Ok-clause-leads g c = λ d stands.
@@ -80,6 +38,7 @@ returns-in-Ok-clause-leads g c = λ d stands.
     let there = stands.disk_sets.sites s c.index_mut.result.now here.seat.below at in
     applied d y _ c.args.name.now c.args.to s c.index_mut.result.now c.apply.new.self stands here (record { there = at; later = c.in-Ok.ensures.later; disk_sets = refl; racks = refl }) c.in-Ok.number
     (c.in-Ok.ensures.applied (beside_of d s) (d.world.nodes s) there here.can) (c.in-Ok.ensures.called (beside_of d s) (d.world.nodes s) there) refl
+    (record { flight = refl; assemblies = refl; feeders = refl })
 
 pub returns-in-Err-clause-leads : goal.returns-in-Err-clause-leads
 returns-in-Err-clause-leads g c = λ d stands.
@@ -92,9 +51,10 @@ returns-in-Err-clause-leads g c = λ d stands.
     apply_refused d y _ c.args.name.now c.args.to s c.index_mut.result.now c.apply.new.self stands here (record { there = at; later = c.in-Err.ensures.later; disk_sets = refl; racks = refl }) c.in-Err.no c.refused.result
     c.index_mut-in-Err.result.now c.refused.new.facts c.refused.ensures.said (c.in-Err.ensures.applied (beside_of d s) (d.world.nodes s) there here.can) (c.in-Err.ensures.called (beside_of d s) (d.world.nodes s) there)
     (get_at y.facts.items s c.index_mut-in-Err.result.now (c.site_of-site.ensures.fact) c.index_mut-in-Err.ensures.value) c.refused.ensures.noted refl
+    (record { flight = refl; assemblies = c.let_go_if_down.ensures; feeders = refl })
 
-pub returns-in-Ok-clause-calls : goal.returns-in-Ok-clause-calls
-returns-in-Ok-clause-calls g c = λ d stands.
+pub returns-in-Ok-clause-called : goal.returns-in-Ok-clause-called
+returns-in-Ok-clause-called g c = λ d stands.
     let y = c.args.self.now in
     let s = c.site_of-site.result in
     let seat : seat_of y.facts.items c.args.name.now ≡ Some c.site_of-site.result = c.site_of-site.ensures.seat in
@@ -104,8 +64,8 @@ returns-in-Ok-clause-calls g c = λ d stands.
     asks_at (LeavesFuse NoMore (DoneAt c.in-Ok.number)) d y _ c.args.name.now s c.index_mut.result.now c.apply.new.self stands seat at refl
     (c.in-Ok.ensures.called (beside_of d s) (d.world.nodes s) there)
 
-pub returns-in-Ok-clause-asks : goal.returns-in-Ok-clause-asks
-returns-in-Ok-clause-asks g c = λ d stands.
+pub returns-in-Ok-clause-asked : goal.returns-in-Ok-clause-asked
+returns-in-Ok-clause-asked g c = λ d stands.
     let y = c.args.self.now in
     let s = c.site_of-site.result in
     let seat : seat_of y.facts.items c.args.name.now ≡ Some c.site_of-site.result = c.site_of-site.ensures.seat in
@@ -115,8 +75,8 @@ returns-in-Ok-clause-asks g c = λ d stands.
     asks_at SameFailing d y _ c.args.name.now s c.index_mut.result.now c.apply.new.self stands seat at refl
     (calls_keep NoMore (DoneAt c.in-Ok.number) c.index_mut.result.now c.apply.new.self (c.in-Ok.ensures.called (beside_of d s) (d.world.nodes s) there))
 
-pub returns-in-Err-clause-calls : goal.returns-in-Err-clause-calls
-returns-in-Err-clause-calls g c = λ d stands.
+pub returns-in-Err-clause-called : goal.returns-in-Err-clause-called
+returns-in-Err-clause-called g c = λ d stands.
     let y = c.args.self.now in
     let s = c.site_of-site.result in
     let seat : seat_of y.facts.items c.args.name.now ≡ Some c.site_of-site.result = c.site_of-site.ensures.seat in
@@ -126,8 +86,8 @@ returns-in-Err-clause-calls g c = λ d stands.
     asks_at (LeavesFuse NoMore c.refused.result) d y _ c.args.name.now s c.index_mut.result.now c.apply.new.self stands seat at refl
     (subst (λ (r : Said). LeavesFuse NoMore r c.index_mut.result.now c.apply.new.self) (sym c.refused.ensures.said) (c.in-Err.ensures.called (beside_of d s) (d.world.nodes s) there))
 
-pub returns-in-Err-clause-asks : goal.returns-in-Err-clause-asks
-returns-in-Err-clause-asks g c = λ d stands.
+pub returns-in-Err-clause-asked : goal.returns-in-Err-clause-asked
+returns-in-Err-clause-asked g c = λ d stands.
     let y = c.args.self.now in
     let s = c.site_of-site.result in
     let seat : seat_of y.facts.items c.args.name.now ≡ Some c.site_of-site.result = c.site_of-site.ensures.seat in

@@ -22,8 +22,8 @@ connect-requires g c = record {
   free = (in_files c.args.self.now, subst (λ fs. refusal_of fs (in_files c.args.self.now) (Connect c.args.first.now c.args.second.now) ≡ None) (sym c.deref_mut.ensures.value) c.requires.free);
 }
 
-pub returns-clause-brings : goal.returns-clause-brings
-returns-clause-brings g c = λ d stands carries.
+pub returns-clause-leads : goal.returns-clause-leads
+returns-clause-leads g c = λ d stands carries.
     let old = c.args.self.now in
     let es = old.disk_sets.items in
     let s = c.site_of-there.result in
@@ -31,11 +31,11 @@ returns-clause-brings g c = λ d stands carries.
     (c.in_ok-connect.ensures.world d.world (subst (λ fs. LinksStand d.world fs old.flight) (sym c.deref_mut.ensures.value) (links_stand d old stands carries))
     (tells d old c.args.second.now s c.session-session.result c.last-stored.result c.index.result.now c.index-2.result.now stands c.site_of-there.ensures.seat
     (get_at es s c.index.result.now c.site_of-there.ensures.disk_set c.index.ensures) (get_at es s c.index-2.result.now c.site_of-there.ensures.disk_set c.index-2.ensures)
-    c.session-session.ensures c.last-stored.ensures))
+    c.session-session.ensures.is c.last-stored.ensures.is))
     (with_items_is old.facts c.connect.new.sites (c.connect.auto.sites ∙ c.deref_mut.ensures.len)) (record { disk_sets = refl; racks = refl; assemblies = refl; feeders = refl })
 
-pub returns-in_err-connect-clause-brings : goal.returns-in_err-connect-clause-brings
-returns-in_err-connect-clause-brings g c = λ d stands carries.
+pub returns-in_err-connect-clause-leads : goal.returns-in_err-connect-clause-leads
+returns-in_err-connect-clause-leads g c = λ d stands carries.
     let old = c.args.self.now in
     let p = err_from_is_err_and c.from_residual.result c.from_residual.ensures.1 in
     stays_short d (Connect c.args.first.now c.args.second.now) old _ c.from_residual.result p.0 c.connect.new.sites c.connect.new.flight p.1 stands carries (record { disk_sets = refl; racks = refl; assemblies = refl; feeders = refl })

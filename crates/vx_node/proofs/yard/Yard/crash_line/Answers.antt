@@ -3,32 +3,20 @@ use Rattle.std.proofs.Common.{◌≡◌}
 use Rattle.std.specs.Prelude.{Some}
 use Rattle.vx_events.specs.Facts.{seat_of}
 use Rattle.vx_node.specs.Yards.{in_files}
-use Rattle.vx_node.proofs.CrashLine.{crash_worked}
 use Rattle.vx_node.proofs.CrashSite.{crash_asks, crash_leads}
 use Rattle.vx_events.proofs.Refused.{crash_may}
 use Rattle.vx_node.proofs.Seats.{named_some}
-use Rattle.vx_node.proofs.AskRack.{crash_asked}
 use Rattle.vx_node.proofs.yard.Yard.crash_line.Goals as goal
 
 pub site_of-site-requires-clause-named : goal.site_of-site-requires-clause-named
 site_of-site-requires-clause-named g c = λ κs within. named_some c.args.self.now c.args.name.now ((crash_may c.args.self.now.facts.items (in_files c.args.self.now) c.args.name.now c.args.pick c.requires.free).0)
-
-pub returns-clause-works : goal.returns-clause-works
-returns-clause-works g c = λ w stands.
-    let is : seat_of c.args.self.now.facts.items c.args.name.now ≡ Some c.site_of-site.result = c.site_of-site.ensures.seat in
-    crash_worked w c.args.self.now c.go_down.new.self c.args.name.now c.args.pick c.site_of-site.result stands c.requires.free is c.go_down.ensures.fell
-
-pub returns-clause-asked : goal.returns-clause-asked
-returns-clause-asked g c = λ w stands.
-    let is : seat_of c.args.self.now.facts.items c.args.name.now ≡ Some c.site_of-site.result = c.site_of-site.ensures.seat in
-    crash_asked w c.args.self.now c.go_down.new.self c.args.name.now c.args.pick c.site_of-site.result stands c.requires.free is c.go_down.ensures.asked
 
 pub returns-clause-leads : goal.returns-clause-leads
 returns-clause-leads g c = λ d stands.
     let is : seat_of c.args.self.now.facts.items c.args.name.now ≡ Some c.site_of-site.result = c.site_of-site.ensures.seat in
     crash_leads d c.args.self.now c.go_down.new.self c.args.name.now c.args.pick c.site_of-site.result stands c.requires.free is c.go_down.ensures.falls
 
-pub returns-clause-asks : goal.returns-clause-asks
-returns-clause-asks g c = λ d stands.
+pub returns-clause-asked : goal.returns-clause-asked
+returns-clause-asked g c = λ d stands.
     let is : seat_of c.args.self.now.facts.items c.args.name.now ≡ Some c.site_of-site.result = c.site_of-site.ensures.seat in
-    crash_asks d c.args.self.now c.go_down.new.self c.args.name.now c.args.pick c.site_of-site.result stands c.requires.free is c.go_down.ensures.asks
+    crash_asks d c.args.self.now c.go_down.new.self c.args.name.now c.args.pick c.site_of-site.result stands c.requires.free is c.go_down.ensures.asked

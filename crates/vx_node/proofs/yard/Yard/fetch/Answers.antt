@@ -1,14 +1,13 @@
-use Rattle.std.proofs.Common.{◌≡◌, arith, refl, []}
+use Rattle.std.proofs.Common.{◌≡◌, arith, refl}
 use Rattle.std.specs.Prelude.{Some}
-use Rattle.vx_events.specs.Facts.{seat_of, site_fact}
+use Rattle.vx_events.specs.Facts.{seat_of}
 use Rattle.vx_node.proofs.ChangeSite.{told_before}
 use Rattle.vx_node.proofs.Lists.{get_at}
-use Rattle.vx_node.proofs.ReadLine.{may_read, reading, fetch_done, fetch_failed}
-use Rattle.vx_node.proofs.Seats.{named_some, volume_there, seated}
+use Rattle.vx_node.proofs.ReadLine.{may_read}
+use Rattle.vx_node.proofs.Seats.{named_some, volume_there}
 use Rattle.vx_node.proofs.yard.Yard.fetch.Goals.{then-count-eq0-via-then-count-eq0, then-count-eq0-via-else-count-eq0+then-count-gt-MOST_CALL_BLOCKS}
 use Rattle.vx_diskset.specs.Asked.{LeavesAlone}
-use Rattle.vx_node.proofs.AskRack.{asked_at}
-use Rattle.vx_diskset.specs.Holds.{alone, beside_of}
+use Rattle.vx_diskset.specs.Holds.{beside_of}
 use Rattle.vx_node.proofs.FetchLine.{fetch_leads, fetch_stops, fetching}
 use Rattle.vx_node.proofs.NamedSite.{asks_at}
 use Rattle.vx_node.proofs.yard.Yard.fetch.Goals as goal
@@ -28,45 +27,13 @@ unreachable-requires g c =
       | then-count-eq0-via-else-count-eq0+then-count-gt-MOST_CALL_BLOCKS w ↦ absurd (omega (arith, w.if-count-gt-MOST_CALL_BLOCKS.true, may.few))
     ]
 
-pub returns-in-Ok-clause-works : goal.returns-in-Ok-clause-works
-returns-in-Ok-clause-works g c = λ w stands.
-    let y = c.args.self.now in
-    let seat : seat_of y.facts.items c.args.name.now ≡ Some c.site_of-site.result = c.site_of-site.ensures.seat in
-    let here = seated w y c.args.name.now c.site_of-site.result stands seat in
-    let read = reading w y c.args.name.now c.args.volume.now c.args.start c.args.count c.site_of-site.result c.volume_of-place.result (site_fact (w.nodes c.site_of-site.result)) stands c.requires.free seat here.fact (c.volume_of-place.ensures.place (site_fact (w.nodes c.site_of-site.result)) here.fact) in
-    let disk_set = get_at y.disk_sets.items c.site_of-site.result c.index_mut.result.now c.site_of-site.ensures.disk_set c.index_mut.ensures.value in
-    let there = stands.disk_sets.sites c.site_of-site.result c.index_mut.result.now read.below disk_set in
-    fetch_done w y _ c.args.name.now c.args.volume.now c.args.start c.args.count c.site_of-site.result c.volume_of-place.result c.in-Ok.blocks c.index_mut.result.now c.blocks_of.new.disk_set stands read disk_set
-    c.in-Ok.ensures.later (c.in-Ok.ensures.read alone (w.nodes c.site_of-site.result) there (read.can c.index_mut.result.now there)) refl refl refl
-
 pub returns-in-Ok-clause-told : goal.returns-in-Ok-clause-told
 returns-in-Ok-clause-told g c = told_before c.args.self.now.disk_sets.items c.site_of-site.result c.index_mut.result.now c.blocks_of.new.disk_set
     (get_at c.args.self.now.disk_sets.items c.site_of-site.result c.index_mut.result.now c.site_of-site.ensures.disk_set c.index_mut.ensures.value) c.in-Ok.ensures.later
 
-pub returns-in-Err-clause-works : goal.returns-in-Err-clause-works
-returns-in-Err-clause-works g c = λ w stands.
-    let y = c.args.self.now in
-    let seat : seat_of y.facts.items c.args.name.now ≡ Some c.site_of-site.result = c.site_of-site.ensures.seat in
-    let here = seated w y c.args.name.now c.site_of-site.result stands seat in
-    let read = reading w y c.args.name.now c.args.volume.now c.args.start c.args.count c.site_of-site.result c.volume_of-place.result (site_fact (w.nodes c.site_of-site.result)) stands c.requires.free seat here.fact (c.volume_of-place.ensures.place (site_fact (w.nodes c.site_of-site.result)) here.fact) in
-    let disk_set = get_at y.disk_sets.items c.site_of-site.result c.index_mut.result.now c.site_of-site.ensures.disk_set c.index_mut.ensures.value in
-    let there = stands.disk_sets.sites c.site_of-site.result c.index_mut.result.now read.below disk_set in
-    fetch_failed w y _ c.args.name.now c.args.volume.now c.args.start c.args.count c.site_of-site.result c.volume_of-place.result c.in-Err.no c.index_mut.result.now c.blocks_of.new.disk_set stands read disk_set
-    c.in-Err.ensures.later (c.in-Err.ensures.read alone (w.nodes c.site_of-site.result) there (read.can c.index_mut.result.now there)) refl refl refl
-
 pub returns-in-Err-clause-told : goal.returns-in-Err-clause-told
 returns-in-Err-clause-told g c = told_before c.args.self.now.disk_sets.items c.site_of-site.result c.index_mut.result.now c.blocks_of.new.disk_set
     (get_at c.args.self.now.disk_sets.items c.site_of-site.result c.index_mut.result.now c.site_of-site.ensures.disk_set c.index_mut.ensures.value) c.in-Err.ensures.later
-
-pub returns-in-Ok-clause-asked : goal.returns-in-Ok-clause-asked
-returns-in-Ok-clause-asked g c = λ w stands.
-    asked_at LeavesAlone w c.args.self.now _ c.args.name.now c.site_of-site.result c.index_mut.result.now c.blocks_of.new.disk_set stands c.site_of-site.ensures.seat
-    (get_at c.args.self.now.disk_sets.items c.site_of-site.result c.index_mut.result.now c.site_of-site.ensures.disk_set c.index_mut.ensures.value) refl c.in-Ok.ensures.still
-
-pub returns-in-Err-clause-asked : goal.returns-in-Err-clause-asked
-returns-in-Err-clause-asked g c = λ w stands.
-    asked_at LeavesAlone w c.args.self.now _ c.args.name.now c.site_of-site.result c.index_mut.result.now c.blocks_of.new.disk_set stands c.site_of-site.ensures.seat
-    (get_at c.args.self.now.disk_sets.items c.site_of-site.result c.index_mut.result.now c.site_of-site.ensures.disk_set c.index_mut.ensures.value) refl c.in-Err.ensures.still
 
 pub returns-in-Ok-clause-leads : goal.returns-in-Ok-clause-leads
 returns-in-Ok-clause-leads g c = λ d line stands is.
@@ -79,6 +46,7 @@ returns-in-Ok-clause-leads g c = λ d line stands is.
     fetch_leads d line y _ c.args.name.now c.args.volume.now c.args.start c.args.count c.site_of-site.result c.volume_of-place.result c.in-Ok.blocks c.index_mut.result.now c.blocks_of.new.disk_set is stands read
     (record { there = disk_set; later = c.in-Ok.ensures.later; disk_sets = refl; racks = refl }) c.in-Ok.ensures.still
     (c.in-Ok.ensures.read (beside_of d c.site_of-site.result) (d.world.nodes c.site_of-site.result) there read.can) refl
+    (record { flight = refl; assemblies = refl; feeders = refl })
 
 pub returns-in-Err-clause-leads : goal.returns-in-Err-clause-leads
 returns-in-Err-clause-leads g c = λ d line stands is.
@@ -91,13 +59,14 @@ returns-in-Err-clause-leads g c = λ d line stands is.
     fetch_stops d line y _ c.args.name.now c.args.volume.now c.args.start c.args.count c.site_of-site.result c.volume_of-place.result c.in-Err.no c.index_mut.result.now c.blocks_of.new.disk_set is stands read
     (record { there = disk_set; later = c.in-Err.ensures.later; disk_sets = refl; racks = refl }) c.in-Err.ensures.still
     (c.in-Err.ensures.read (beside_of d c.site_of-site.result) (d.world.nodes c.site_of-site.result) there read.can) refl
+    (record { flight = refl; assemblies = refl; feeders = refl })
 
-pub returns-in-Ok-clause-asks : goal.returns-in-Ok-clause-asks
-returns-in-Ok-clause-asks g c = λ d stands.
+pub returns-in-Ok-clause-asked : goal.returns-in-Ok-clause-asked
+returns-in-Ok-clause-asked g c = λ d stands.
     asks_at LeavesAlone d c.args.self.now _ c.args.name.now c.site_of-site.result c.index_mut.result.now c.blocks_of.new.disk_set stands c.site_of-site.ensures.seat
     (get_at c.args.self.now.disk_sets.items c.site_of-site.result c.index_mut.result.now c.site_of-site.ensures.disk_set c.index_mut.ensures.value) refl c.in-Ok.ensures.still
 
-pub returns-in-Err-clause-asks : goal.returns-in-Err-clause-asks
-returns-in-Err-clause-asks g c = λ d stands.
+pub returns-in-Err-clause-asked : goal.returns-in-Err-clause-asked
+returns-in-Err-clause-asked g c = λ d stands.
     asks_at LeavesAlone d c.args.self.now _ c.args.name.now c.site_of-site.result c.index_mut.result.now c.blocks_of.new.disk_set stands c.site_of-site.ensures.seat
     (get_at c.args.self.now.disk_sets.items c.site_of-site.result c.index_mut.result.now c.site_of-site.ensures.disk_set c.index_mut.ensures.value) refl c.in-Err.ensures.still

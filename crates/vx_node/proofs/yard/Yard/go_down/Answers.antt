@@ -1,26 +1,12 @@
-use Rattle.std.proofs.Common.{◌∙◌, ap, sym, refl, []}
+use Rattle.std.proofs.Common.{◌∙◌, ap, sym, refl}
 use Rattle.std.specs.Prelude.{Some, slice_set}
-use Rattle.vx_node.proofs.CrashLine.{fell}
 use Rattle.vx_node.proofs.RawLine.{raw_told}
 use Rattle.vx_diskset.specs.declared.disk_set.DiskSet.TheVariants.{Gone}
 use Rattle.vx_node.proofs.Lists.{get_at, set_twice}
 use Rattle.vx_diskset.proofs.KeepsFailing.{failing_stopped}
-use Rattle.vx_diskset.specs.Holds.{alone, beside_of}
+use Rattle.vx_diskset.specs.Holds.{beside_of}
 use Rattle.vx_node.proofs.CrashSite.{falls}
 use Rattle.vx_node.proofs.yard.Yard.go_down.Goals as goal
-
-pub returns-clause-fell : goal.returns-clause-fell
-returns-clause-fell g c = λ w stands below up.
-    let facts = c.args.self.now.facts.items in
-    let disk_sets = c.args.self.now.disk_sets.items in
-    let s = c.args.site in
-    let at = get_at disk_sets s c.index_mut.result.now c.requires.disk_set c.index_mut.ensures.value in
-    fell w c.args.self.now _ s c.index_mut-3.result.now c.go_down.new.facts c.replace-disk_set.result c.crash.result stands below up
-    (get_at facts s c.index_mut-3.result.now c.requires.facts c.index_mut-3.ensures.value)
-    (at ∙ ap (λ e. Some e) (sym c.replace-disk_set.ensures.value))
-    c.crash.ensures.later (c.crash.ensures.crashed alone) c.go_down.ensures refl
-    (ap (λ e. slice_set (slice_set disk_sets s e) s c.crash.result) c.replace-disk_set.ensures.after)
-    refl
 
 pub returns-clause-told : goal.returns-clause-told
 returns-clause-told g c =
@@ -28,20 +14,6 @@ returns-clause-told g c =
     let at = get_at disk_sets c.args.site c.index_mut.result.now c.requires.disk_set c.index_mut.ensures.value in
     raw_told disk_sets _ c.args.site c.replace-disk_set.result c.crash.result (at ∙ ap (λ e. Some e) (sym c.replace-disk_set.ensures.value)) c.crash.ensures.later
     (ap (λ e. slice_set (slice_set disk_sets c.args.site e) c.args.site c.crash.result) c.replace-disk_set.ensures.after)
-
-pub returns-clause-asked : goal.returns-clause-asked
-returns-clause-asked g c = λ w stands below up.
-    let disk_sets = c.args.self.now.disk_sets.items in
-    let s = c.args.site in
-    let at = get_at disk_sets s c.index_mut.result.now c.requires.disk_set c.index_mut.ensures.value in
-    let there = at ∙ ap (λ e. Some e) (sym c.replace-disk_set.ensures.value) in
-    record {
-      before = c.replace-disk_set.result;
-      after = c.crash.result;
-      there = there;
-      disk_sets = ap (λ e. slice_set (slice_set disk_sets s e) s c.crash.result) c.replace-disk_set.ensures.after ∙ set_twice disk_sets s Gone c.crash.result;
-      did = c.crash.ensures.asked alone (w.nodes s) (stands.disk_sets.sites s c.replace-disk_set.result below there) up;
-    }
 
 pub returns-clause-failing : goal.returns-clause-failing
 returns-clause-failing g c =
@@ -74,9 +46,10 @@ returns-clause-falls g c = λ d stands below up.
     })
     (c.crash.ensures.crashed (beside_of d s) (d.world.nodes s) (stands.disk_sets.sites s c.replace-disk_set.result below there) up)
     (failing_stopped c.args.pick c.replace-disk_set.result c.crash.result c.crash.ensures.stopped) c.go_down.ensures refl
+    (record { flight = refl; assemblies = c.let_go.ensures; feeders = refl })
 
-pub returns-clause-asks : goal.returns-clause-asks
-returns-clause-asks g c = λ d stands below up.
+pub returns-clause-asked : goal.returns-clause-asked
+returns-clause-asked g c = λ d stands below up.
     let disk_sets = c.args.self.now.disk_sets.items in
     let s = c.args.site in
     let at = get_at disk_sets s c.index_mut.result.now c.requires.disk_set c.index_mut.ensures.value in

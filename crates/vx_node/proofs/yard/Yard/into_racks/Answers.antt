@@ -1,32 +1,16 @@
 use Rattle.std.proofs.Common.{◌∙◌, ap, sym, subst, arith}
 use Rattle.vx_node.specs.Holds.{RacksHold, RacksTell, rack_faults}
-use Rattle.vx_node.proofs.Unlinked.{stands_plain}
-use Rattle.vx_node.proofs.IntoRacks.{racks_count, racks_counted, racks_hold, racks_keep, racks_tell, racks_told}
+use Rattle.vx_node.proofs.IntoRacks.{racks_counted, racks_keep, racks_told}
 use Rattle.vx_node.proofs.yard.Yard.into_racks.Goals as goal
 
 pub returns-clause-holds : goal.returns-clause-holds
 returns-clause-holds g c = λ d stands.
-    subst (λ rs. RacksHold g.R.Shelf.meaning d rs) (sym (c.take_racks.ensures stands.keeps.none (omega (arith, stands.keeps.room, stands.keeps.disk_sets.eight))))
-    (racks_hold (g.met.R.Shelf g.world.𝓛 g.world.𝓜 g.world.𝓡 ((λ s x. x), (λ x. x), (λ x. x), λ x. x)).lawful d c.args.self.disk_sets.items stands.calm stands.unlinked (stands_plain d c.args.self stands).disk_sets)
-
-pub returns-clause-counts : goal.returns-clause-counts
-returns-clause-counts g c = λ e stands s d.
-    ap (λ rs. rack_faults g.R.Shelf.meaning rs s d) (c.take_racks.ensures stands.keeps.none (omega (arith, stands.keeps.room, stands.keeps.disk_sets.eight)))
-    ∙ racks_count e.world c.args.self.disk_sets.items (stands_plain e c.args.self stands).disk_sets s d
-
-pub returns-clause-told : goal.returns-clause-told
-returns-clause-told g c = λ d stands tell.
-    racks_tell d.world c.args.self.disk_sets.items (stands_plain d c.args.self stands).disk_sets
-    (subst (λ rs. RacksTell g.R.Shelf.meaning rs) (c.take_racks.ensures stands.keeps.none (omega (arith, stands.keeps.room, stands.keeps.disk_sets.eight))) tell)
-
-pub returns-clause-keeps : goal.returns-clause-keeps
-returns-clause-keeps g c = λ d stands.
     subst (λ rs. RacksHold g.R.Shelf.meaning d rs) (sym (c.take_racks.ensures stands.none (omega (arith, stands.room, stands.disk_sets.eight))))
     (racks_keep (g.met.R.Shelf g.world.𝓛 g.world.𝓜 g.world.𝓡 ((λ s x. x), (λ x. x), (λ x. x), λ x. x)).lawful d c.args.self.disk_sets.items stands.disk_sets)
 
-pub returns-clause-counted : goal.returns-clause-counted
-returns-clause-counted g c = λ e stands s u.
+pub returns-clause-counts : goal.returns-clause-counts
+returns-clause-counts g c = λ e stands s u.
     ap (λ rs. rack_faults g.R.Shelf.meaning rs s u) (c.take_racks.ensures stands.none (omega (arith, stands.room, stands.disk_sets.eight))) ∙ racks_counted e c.args.self.disk_sets.items stands.disk_sets s u
 
-pub returns-clause-tells : goal.returns-clause-tells
-returns-clause-tells g c = λ d stands tell. racks_told d c.args.self.disk_sets.items stands.disk_sets (subst (λ rs. RacksTell g.R.Shelf.meaning rs) (c.take_racks.ensures stands.none (omega (arith, stands.room, stands.disk_sets.eight))) tell)
+pub returns-clause-told : goal.returns-clause-told
+returns-clause-told g c = λ d stands tell. racks_told d c.args.self.disk_sets.items stands.disk_sets (subst (λ rs. RacksTell g.R.Shelf.meaning rs) (c.take_racks.ensures stands.none (omega (arith, stands.room, stands.disk_sets.eight))) tell)

@@ -5,14 +5,11 @@ use Rattle.vx_history.specs.Steps.{raw_volumes}
 use Rattle.vx_order.specs.declared.facts.SiteFacts.{SiteFacts}
 use Rattle.vx_events.specs.Facts.{seat_of, volume_fact}
 use Rattle.vx_node.specs.Yards.{in_files}
-use Rattle.vx_diskset.specs.Holds.{alone}
 use Rattle.vx_diskset.specs.Asked.{SameFailing}
 use Rattle.vx_diskset.specs.declared.disk_set.DiskSet.TheVariants.{Gone}
-use Rattle.vx_node.proofs.AskRack.{asked_at}
 use Rattle.vx_diskset.proofs.KeepsFailing.{failing_same}
-use Rattle.vx_node.proofs.OfSites.{unbegun}
 use Rattle.vx_node.proofs.Lists.{get_at, set_twice}
-use Rattle.vx_node.proofs.RawLine.{raw_done, raw_failed, raw_told}
+use Rattle.vx_node.proofs.RawLine.{raw_told}
 use Rattle.vx_events.proofs.Refused.{raw_may}
 use Rattle.vx_events.proofs.Places.{some_same}
 use Rattle.vx_node.proofs.Seats.{named_some}
@@ -43,27 +40,6 @@ unreachable-requires g c =
       | then-disks-lt-LEAST_RAW_DISKS-via-else-disks-lt-LEAST_RAW_DISKS+else-disks-gt-MOST_DISKS+then-blocks-lt-LEAST_BLOCKS w ↦ absurd (omega (arith, w.if-blocks-lt-LEAST_BLOCKS.true, may.3, ap (λ (f : SiteFacts). f.blocks) second))
     ]
 
-pub returns-in-Ok-clause-works : goal.returns-in-Ok-clause-works
-returns-in-Ok-clause-works g c = λ w stands.
-    let facts = c.args.self.now.facts.items in
-    let disk_sets = c.args.self.now.disk_sets.items in
-    let s = c.site_of-site.result in
-    let is : seat_of c.args.self.now.facts.items c.args.name.now ≡ Some c.site_of-site.result = c.site_of-site.ensures.seat in
-    let within = c.site_of-site.ensures.fact in
-    let one = get_at facts s c.index.result.now within c.index.ensures in
-    let two = get_at facts s c.index-2.result.now within c.index-2.ensures in
-    let three = get_at facts s c.index_mut-in-Ok.result.now within c.index_mut-in-Ok.ensures.value in
-    let at = get_at disk_sets s c.index_mut.result.now c.site_of-site.ensures.disk_set c.index_mut.ensures.value in
-    raw_done w c.args.self.now _ c.args.name.now s c.index_mut-in-Ok.result.now c.in_ok-volumes.volumes c.replace-disk_set.result c.make_raw-disk_set.result.0 c.make_raw-disk_set.result.1 c.in-Ok.field-0 stands c.requires.free is three
-    (c.in_ok-volumes.ensures
-    ∙ ap (λ (f : SiteFacts). map volume_fact (raw_volumes 1 (f.disks - 2) c.index-2.result.now.blocks)) (some_same (sym one ∙ three))
-    ∙ ap (λ (f : SiteFacts). map volume_fact (raw_volumes 1 (c.index_mut-in-Ok.result.now.disks - 2) f.blocks)) (some_same (sym two ∙ three)))
-    (at ∙ ap (λ e. Some e) (sym c.replace-disk_set.ensures.value))
-    c.make_raw-disk_set.ensures.later c.in-Ok.is (c.make_raw-disk_set.ensures.made alone)
-    (ap (λ (f : SiteFacts). slice_set facts s f) c.make_raw.ensures)
-    (ap (λ e. slice_set (slice_set disk_sets s e) s c.make_raw-disk_set.result.0) c.replace-disk_set.ensures.after)
-    refl
-
 pub returns-in-Ok-clause-told : goal.returns-in-Ok-clause-told
 returns-in-Ok-clause-told g c =
     let disk_sets = c.args.self.now.disk_sets.items in
@@ -71,51 +47,12 @@ returns-in-Ok-clause-told g c =
     raw_told disk_sets _ c.site_of-site.result c.replace-disk_set.result c.make_raw-disk_set.result.0 (at ∙ ap (λ e. Some e) (sym c.replace-disk_set.ensures.value)) c.make_raw-disk_set.ensures.later
     (ap (λ e. slice_set (slice_set disk_sets c.site_of-site.result e) c.site_of-site.result c.make_raw-disk_set.result.0) c.replace-disk_set.ensures.after)
 
-pub returns-in-Err-clause-works : goal.returns-in-Err-clause-works
-returns-in-Err-clause-works g c = λ w stands.
-    let facts = c.args.self.now.facts.items in
-    let disk_sets = c.args.self.now.disk_sets.items in
-    let s = c.site_of-site.result in
-    let is : seat_of c.args.self.now.facts.items c.args.name.now ≡ Some c.site_of-site.result = c.site_of-site.ensures.seat in
-    let at = get_at disk_sets s c.index_mut.result.now c.site_of-site.ensures.disk_set c.index_mut.ensures.value in
-    raw_failed c.in-Err.stop c.stopped.result w c.args.self.now _ c.args.name.now s c.index.result.now c.replace-disk_set.result c.make_raw-disk_set.result.0 c.make_raw-disk_set.result.1 c.stopped.ensures stands c.requires.free is
-    (get_at facts s c.index.result.now (c.site_of-site.ensures.fact) c.index.ensures)
-    (at ∙ ap (λ e. Some e) (sym c.replace-disk_set.ensures.value))
-    c.make_raw-disk_set.ensures.later c.in-Err.is (c.make_raw-disk_set.ensures.made alone)
-    refl
-    (ap (λ e. slice_set (slice_set disk_sets s e) s c.make_raw-disk_set.result.0) c.replace-disk_set.ensures.after)
-    refl
-
 pub returns-in-Err-clause-told : goal.returns-in-Err-clause-told
 returns-in-Err-clause-told g c =
     let disk_sets = c.args.self.now.disk_sets.items in
     let at = get_at disk_sets c.site_of-site.result c.index_mut.result.now c.site_of-site.ensures.disk_set c.index_mut.ensures.value in
     raw_told disk_sets _ c.site_of-site.result c.replace-disk_set.result c.make_raw-disk_set.result.0 (at ∙ ap (λ e. Some e) (sym c.replace-disk_set.ensures.value)) c.make_raw-disk_set.ensures.later
     (ap (λ e. slice_set (slice_set disk_sets c.site_of-site.result e) c.site_of-site.result c.make_raw-disk_set.result.0) c.replace-disk_set.ensures.after)
-
-pub returns-in-Ok-clause-asked : goal.returns-in-Ok-clause-asked
-returns-in-Ok-clause-asked g c = λ w stands.
-    let disk_sets = c.args.self.now.disk_sets.items in
-    let s = c.site_of-site.result in
-    let at = get_at disk_sets s c.index_mut.result.now c.site_of-site.ensures.disk_set c.index_mut.ensures.value in
-    asked_at SameFailing w c.args.self.now _ c.args.name.now s c.replace-disk_set.result c.make_raw-disk_set.result.0 stands c.site_of-site.ensures.seat
-    (at ∙ ap (λ e. Some e) (sym c.replace-disk_set.ensures.value))
-    (ap (λ e. slice_set (slice_set disk_sets s e) s c.make_raw-disk_set.result.0) c.replace-disk_set.ensures.after ∙ set_twice disk_sets s Gone c.make_raw-disk_set.result.0)
-    c.make_raw-disk_set.ensures.failing
-
-pub returns-in-Err-clause-asked : goal.returns-in-Err-clause-asked
-returns-in-Err-clause-asked g c = λ w stands.
-    let disk_sets = c.args.self.now.disk_sets.items in
-    let s = c.site_of-site.result in
-    let at = get_at disk_sets s c.index_mut.result.now c.site_of-site.ensures.disk_set c.index_mut.ensures.value in
-    asked_at SameFailing w c.args.self.now _ c.args.name.now s c.replace-disk_set.result c.make_raw-disk_set.result.0 stands c.site_of-site.ensures.seat
-    (at ∙ ap (λ e. Some e) (sym c.replace-disk_set.ensures.value))
-    (ap (λ e. slice_set (slice_set disk_sets s e) s c.make_raw-disk_set.result.0) c.replace-disk_set.ensures.after ∙ set_twice disk_sets s Gone c.make_raw-disk_set.result.0)
-    c.make_raw-disk_set.ensures.failing
-
-pub returns-in_err-volumes-clause-asked : goal.returns-in_err-volumes-clause-asked
-returns-in_err-volumes-clause-asked g c = λ w stands.
-    unbegun SameFailing w c.args.self.now c.args.name.now failing_same stands (raw_may c.args.self.now.facts.items (in_files c.args.self.now) c.args.name.now c.requires.free).0
 
 pub returns-in-Ok-clause-leads : goal.returns-in-Ok-clause-leads
 returns-in-Ok-clause-leads g c = λ d stands.
@@ -140,6 +77,7 @@ returns-in-Ok-clause-leads g c = λ d stands.
     })
     c.make_raw-disk_set.ensures.failing c.in-Ok.is c.make_raw-disk_set.ensures.made
     (ap (λ (f : SiteFacts). slice_set facts s f) c.make_raw.ensures)
+    (record { flight = refl; assemblies = refl; feeders = refl })
 
 pub returns-in-Err-clause-leads : goal.returns-in-Err-clause-leads
 returns-in-Err-clause-leads g c = λ d stands.
@@ -157,14 +95,14 @@ returns-in-Err-clause-leads g c = λ d stands.
       racks = refl;
     })
     c.make_raw-disk_set.ensures.failing c.in-Err.is c.make_raw-disk_set.ensures.made
-    refl
+    refl (record { flight = refl; assemblies = refl; feeders = refl })
 
 pub returns-in_err-volumes-clause-leads : goal.returns-in_err-volumes-clause-leads
 returns-in_err-volumes-clause-leads g c = λ d stands.
-    let p = err_from_is_err_and c.from_residual.result c.from_residual.ensures.1 in unbegun_by d (RawLine c.args.name.now) c.args.self.now _ c.from_residual.result p.0 p.1 refl refl refl stands
+    let p = err_from_is_err_and c.from_residual.result c.from_residual.ensures.1 in unbegun_by d (RawLine c.args.name.now) c.args.self.now _ c.from_residual.result p.0 p.1 refl refl refl (record { flight = refl; assemblies = refl; feeders = refl }) stands
 
-pub returns-in-Ok-clause-asks : goal.returns-in-Ok-clause-asks
-returns-in-Ok-clause-asks g c = λ d stands.
+pub returns-in-Ok-clause-asked : goal.returns-in-Ok-clause-asked
+returns-in-Ok-clause-asked g c = λ d stands.
     let disk_sets = c.args.self.now.disk_sets.items in
     let s = c.site_of-site.result in
     let at = get_at disk_sets s c.index_mut.result.now c.site_of-site.ensures.disk_set c.index_mut.ensures.value in
@@ -173,8 +111,8 @@ returns-in-Ok-clause-asks g c = λ d stands.
     (ap (λ e. slice_set (slice_set disk_sets s e) s c.make_raw-disk_set.result.0) c.replace-disk_set.ensures.after ∙ set_twice disk_sets s Gone c.make_raw-disk_set.result.0)
     c.make_raw-disk_set.ensures.failing
 
-pub returns-in-Err-clause-asks : goal.returns-in-Err-clause-asks
-returns-in-Err-clause-asks g c = λ d stands.
+pub returns-in-Err-clause-asked : goal.returns-in-Err-clause-asked
+returns-in-Err-clause-asked g c = λ d stands.
     let disk_sets = c.args.self.now.disk_sets.items in
     let s = c.site_of-site.result in
     let at = get_at disk_sets s c.index_mut.result.now c.site_of-site.ensures.disk_set c.index_mut.ensures.value in
@@ -183,6 +121,6 @@ returns-in-Err-clause-asks g c = λ d stands.
     (ap (λ e. slice_set (slice_set disk_sets s e) s c.make_raw-disk_set.result.0) c.replace-disk_set.ensures.after ∙ set_twice disk_sets s Gone c.make_raw-disk_set.result.0)
     c.make_raw-disk_set.ensures.failing
 
-pub returns-in_err-volumes-clause-asks : goal.returns-in_err-volumes-clause-asks
-returns-in_err-volumes-clause-asks g c = λ d stands.
+pub returns-in_err-volumes-clause-asked : goal.returns-in_err-volumes-clause-asked
+returns-in_err-volumes-clause-asked g c = λ d stands.
     unbegun_site SameFailing d c.args.self.now c.args.name.now failing_same stands (raw_may c.args.self.now.facts.items (in_files c.args.self.now) c.args.name.now c.requires.free).0

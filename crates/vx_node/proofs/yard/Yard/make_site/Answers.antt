@@ -4,44 +4,16 @@ use Rattle.vx_order.specs.declared.facts.SiteFacts.{SiteFacts}
 use Rattle.vx_node.proofs.ChangeSite.{told_before}
 use Rattle.vx_node.proofs.Lists.{get_at, pop_pushed}
 use Rattle.vx_events.proofs.Refused.{site_may}
-use Rattle.vx_node.proofs.SiteLine.{site_done, site_said, sites_many}
 use Rattle.vx_node.specs.Yards.{in_files}
 use Rattle.vx_diskset.specs.Asked.{SameFailing}
 use Rattle.vx_diskset.proofs.KeepsFailing.{failing_same}
 use Rattle.vx_node.proofs.OfSites.{site_kept, site_still}
 use Rattle.vx_node.proofs.yard.Yard.make_site.Goals.{then-site-len-via-then-site-len, then-site-len-via-else-site-len+then-site-ge-MOST_SITES}
-use Rattle.vx_diskset.specs.Holds.{alone}
 use Rattle.vx_node.proofs.NamedSite.{unbegun_by}
 use Rattle.vx_node.proofs.SiteMore.{many_sites, site_leads, site_stops}
 use Rattle.std.proofs.lemmas.Result.{err_from_is_err_and}
 use Rattle.vx_script.specs.declared.line.ScriptLine.TheVariants.{Site as SiteLine}
 use Rattle.vx_node.proofs.yard.Yard.make_site.Goals as goal
-
-pub returns-in-Ok-clause-works : goal.returns-in-Ok-clause-works
-returns-in-Ok-clause-works g c = λ w stands.
-    let many = sites_many w c.args.self.now stands in
-    let site : c.len-site.result ≡ length c.args.self.now.facts.items = omega (arith, c.len-site.ensures, c.args.self.now.facts.ok) in
-    let at = ap (slice_get c.args.self.now.disk_sets.items) (sym site)
-    ∙ get_at c.args.self.now.disk_sets.items c.len-site.result c.index_mut.result.now (omega (arith, c.if-site-len.false, c.len.ensures, c.args.self.now.disk_sets.ok)) c.index_mut.ensures.value in
-    site_done w c.args.self.now _ c.args.name.now c.args.disks c.args.blocks c.index_mut.result.now c.fit-made.new.self stands c.requires.free
-    at c.in-Ok.ensures.later
-    (c.in-Ok.ensures.fits (stands.disk_sets.others (length c.args.self.now.facts.items) c.index_mut.result.now (omega (arith, many)) at) alone)
-    (c.in_ok-push.ensures.items ∙ ap (λ (f : SiteFacts). c.args.self.now.facts.items ++ f ∷ []) c.bare.ensures)
-    (ap (λ (k : ℕ). slice_set c.args.self.now.disk_sets.items k c.fit-made.new.self) site)
-    refl
-
-pub returns-in-Err-clause-works : goal.returns-in-Err-clause-works
-returns-in-Err-clause-works g c = λ w stands.
-    let many = sites_many w c.args.self.now stands in
-    let site : c.len-site.result ≡ length c.args.self.now.facts.items = omega (arith, c.len-site.ensures, c.args.self.now.facts.ok) in
-    let at = ap (slice_get c.args.self.now.disk_sets.items) (sym site)
-    ∙ get_at c.args.self.now.disk_sets.items c.len-site.result c.index_mut.result.now (omega (arith, c.if-site-len.false, c.len.ensures, c.args.self.now.disk_sets.ok)) c.index_mut.ensures.value in
-    site_said c.folder.result c.in-Err.stop c.stopped.result w c.args.self.now _ c.args.name.now c.args.disks c.args.blocks c.index_mut.result.now c.fit-made.new.self c.stopped.ensures stands c.requires.free
-    c.folder.ensures at c.in-Err.ensures.later
-    (c.in-Err.ensures.fits (stands.disk_sets.others (length c.args.self.now.facts.items) c.index_mut.result.now (omega (arith, many)) at))
-    (pop_pushed c.args.self.now.facts.items c.push.new.self.items c.pop.new.self.items c.bare.result (vec_len c.push.new.self) c.in_ok-push.ensures.items (omega (arith, c.push.new.self.ok)) c.pop.ensures.rest)
-    (ap (λ (k : ℕ). slice_set c.args.self.now.disk_sets.items k c.fit-made.new.self) site)
-    refl
 
 pub returns-in-Ok-clause-told : goal.returns-in-Ok-clause-told
 returns-in-Ok-clause-told g c = told_before c.args.self.now.disk_sets.items c.len-site.result c.index_mut.result.now c.fit-made.new.self
@@ -61,25 +33,6 @@ unreachable-requires g c =
       | then-site-len-via-else-site-len+then-site-ge-MOST_SITES w ↦ absurd (omega (arith, w.if-site-ge-MOST_SITES.true, site))
     ]
 
-pub returns-in-Ok-clause-asked : goal.returns-in-Ok-clause-asked
-returns-in-Ok-clause-asked g c = λ w stands.
-    let many = sites_many w c.args.self.now stands in
-    site_kept w.sites c.len-site.result c.args.self.now _ c.index_mut.result.now c.fit-made.new.self (omega (arith, c.len-site.ensures, c.args.self.now.facts.ok, many))
-    (get_at c.args.self.now.disk_sets.items c.len-site.result c.index_mut.result.now (omega (arith, c.if-site-len.false, c.len.ensures, c.args.self.now.disk_sets.ok)) c.index_mut.ensures.value)
-    refl c.fit-made.ensures.failing
-
-pub returns-in-Err-clause-asked : goal.returns-in-Err-clause-asked
-returns-in-Err-clause-asked g c = λ w stands.
-    let many = sites_many w c.args.self.now stands in
-    site_kept w.sites c.len-site.result c.args.self.now _ c.index_mut.result.now c.fit-made.new.self (omega (arith, c.len-site.ensures, c.args.self.now.facts.ok, many))
-    (get_at c.args.self.now.disk_sets.items c.len-site.result c.index_mut.result.now (omega (arith, c.if-site-len.false, c.len.ensures, c.args.self.now.disk_sets.ok)) c.index_mut.ensures.value)
-    refl c.fit-made.ensures.failing
-
-pub returns-in_err-push-clause-asked : goal.returns-in_err-push-clause-asked
-returns-in_err-push-clause-asked g c = λ w stands.
-    let may = site_may c.args.self.now.facts.items (in_files c.args.self.now) c.args.name.now c.args.disks c.args.blocks c.requires.free in
-    site_still SameFailing w.sites c.args.self.now _ failing_same (omega (arith, may.few_sites, sites_many w c.args.self.now stands, stands.disk_sets.eight)) refl
-
 pub returns-in-Ok-clause-leads : goal.returns-in-Ok-clause-leads
 returns-in-Ok-clause-leads g c = λ d stands.
     let many = many_sites d c.args.self.now stands in
@@ -90,6 +43,7 @@ returns-in-Ok-clause-leads g c = λ d stands.
     (record { there = at; later = c.in-Ok.ensures.later; disk_sets = ap (λ (k : ℕ). slice_set c.args.self.now.disk_sets.items k c.fit-made.new.self) site; racks = refl })
     (c.in-Ok.ensures.fits (stands.disk_sets.others (length c.args.self.now.facts.items) c.index_mut.result.now (omega (arith, many)) at))
     (c.in_ok-push.ensures.items ∙ ap (λ (f : SiteFacts). c.args.self.now.facts.items ++ f ∷ []) c.bare.ensures)
+    (record { flight = refl; assemblies = refl; feeders = refl })
 
 pub returns-in-Err-clause-leads : goal.returns-in-Err-clause-leads
 returns-in-Err-clause-leads g c = λ d stands.
@@ -102,27 +56,28 @@ returns-in-Err-clause-leads g c = λ d stands.
     (record { there = at; later = c.in-Err.ensures.later; disk_sets = ap (λ (k : ℕ). slice_set c.args.self.now.disk_sets.items k c.fit-made.new.self) site; racks = refl })
     (c.in-Err.ensures.fits (stands.disk_sets.others (length c.args.self.now.facts.items) c.index_mut.result.now (omega (arith, many)) at))
     (pop_pushed c.args.self.now.facts.items c.push.new.self.items c.pop.new.self.items c.bare.result (vec_len c.push.new.self) c.in_ok-push.ensures.items (omega (arith, c.push.new.self.ok)) c.pop.ensures.rest)
+    (record { flight = refl; assemblies = refl; feeders = refl })
 
 pub returns-in_err-push-clause-leads : goal.returns-in_err-push-clause-leads
 returns-in_err-push-clause-leads g c = λ d stands.
     let p = err_from_is_err_and c.from_residual.result c.from_residual.ensures.1 in
-    unbegun_by d (SiteLine c.args.name.now c.args.disks c.args.blocks) c.args.self.now _ c.from_residual.result p.0 p.1 c.in_err-push.ensures.items refl refl stands
+    unbegun_by d (SiteLine c.args.name.now c.args.disks c.args.blocks) c.args.self.now _ c.from_residual.result p.0 p.1 c.in_err-push.ensures.items refl refl (record { flight = refl; assemblies = refl; feeders = refl }) stands
 
-pub returns-in-Ok-clause-asks : goal.returns-in-Ok-clause-asks
-returns-in-Ok-clause-asks g c = λ d stands.
+pub returns-in-Ok-clause-asked : goal.returns-in-Ok-clause-asked
+returns-in-Ok-clause-asked g c = λ d stands.
     let many = many_sites d c.args.self.now stands in
     site_kept d.world.sites c.len-site.result c.args.self.now _ c.index_mut.result.now c.fit-made.new.self (omega (arith, c.len-site.ensures, c.args.self.now.facts.ok, many))
     (get_at c.args.self.now.disk_sets.items c.len-site.result c.index_mut.result.now (omega (arith, c.if-site-len.false, c.len.ensures, c.args.self.now.disk_sets.ok)) c.index_mut.ensures.value)
     refl c.fit-made.ensures.failing
 
-pub returns-in-Err-clause-asks : goal.returns-in-Err-clause-asks
-returns-in-Err-clause-asks g c = λ d stands.
+pub returns-in-Err-clause-asked : goal.returns-in-Err-clause-asked
+returns-in-Err-clause-asked g c = λ d stands.
     let many = many_sites d c.args.self.now stands in
     site_kept d.world.sites c.len-site.result c.args.self.now _ c.index_mut.result.now c.fit-made.new.self (omega (arith, c.len-site.ensures, c.args.self.now.facts.ok, many))
     (get_at c.args.self.now.disk_sets.items c.len-site.result c.index_mut.result.now (omega (arith, c.if-site-len.false, c.len.ensures, c.args.self.now.disk_sets.ok)) c.index_mut.ensures.value)
     refl c.fit-made.ensures.failing
 
-pub returns-in_err-push-clause-asks : goal.returns-in_err-push-clause-asks
-returns-in_err-push-clause-asks g c = λ d stands.
+pub returns-in_err-push-clause-asked : goal.returns-in_err-push-clause-asked
+returns-in_err-push-clause-asked g c = λ d stands.
     let may = site_may c.args.self.now.facts.items (in_files c.args.self.now) c.args.name.now c.args.disks c.args.blocks c.requires.free in
     site_still SameFailing d.world.sites c.args.self.now _ failing_same (omega (arith, may.few_sites, many_sites d c.args.self.now stands, stands.disk_sets.eight)) refl

@@ -1,20 +1,12 @@
 -- A new yard over fresh racks.
 use Rattle.std.proofs.Common.{◌∙◌, ap, sym, subst, arith}
 use Rattle.vx_history.specs.World.{empty_world}
-use Rattle.vx_node.specs.Stands.{DiskSetsStand, faults_of}
-use Rattle.vx_node.proofs.Alike.{stands_empty}
+use Rattle.vx_events.specs.Doubts.{sure}
+use Rattle.vx_node.specs.Standing.{SitesAgree}
+use Rattle.vx_node.specs.Stands.{faults_of}
 use Rattle.vx_node.proofs.Carrying.{carries_none, none_held}
 use Rattle.vx_node.proofs.NewYard.{begins_empty, disk_sets_new, counts_new}
 use Rattle.vx_node.proofs.yard.Yard.new.Goals as goal
-
-pub returns-clause-stands : goal.returns-clause-stands
-returns-clause-stands g c = stands_empty (record {
-  facts = c.new-2.ensures.items;
-  disk_sets = subst (λ es. DiskSetsStand empty_world es) (sym (c.put_racks-racks.ensures.disk_sets c.in-Ok.ensures.items (omega (arith, c.in-Ok.ensures.capacity, c.args.racks.ok, c.requires.eight))))
-      (disk_sets_new c.args.racks.items c.requires);
-  none = c.put_racks-racks.ensures.none;
-  room = omega (arith, c.put_racks-racks.ensures.room, c.args.racks.ok, c.requires.eight, c.args.racks.small);
-})
 
 pub returns-clause-counts : goal.returns-clause-counts
 returns-clause-counts g c = λ s d.
@@ -25,8 +17,8 @@ pub returns-clause-carries : goal.returns-clause-carries
 returns-clause-carries g c =
     carries_none _ c.in-Ok-new.ensures c.in-Ok-empty_assemblies.ensures.many (none_held c.in-Ok-empty_assemblies.assemblies.items c.in-Ok-empty_assemblies.ensures.none) c.in-Ok-no_feeders.ensures
 
-pub returns-clause-begins : goal.returns-clause-begins
-returns-clause-begins g c =
-    let stood = subst (λ es. DiskSetsStand empty_world es) (sym (c.put_racks-racks.ensures.disk_sets c.in-Ok.ensures.items (omega (arith, c.in-Ok.ensures.capacity, c.args.racks.ok, c.requires.eight))))
+pub returns-clause-stands : goal.returns-clause-stands
+returns-clause-stands g c =
+    let stood = subst (λ es. SitesAgree (sure empty_world) es) (sym (c.put_racks-racks.ensures.disk_sets c.in-Ok.ensures.items (omega (arith, c.in-Ok.ensures.capacity, c.args.racks.ok, c.requires.eight))))
     (disk_sets_new c.args.racks.items c.requires) in
     begins_empty _ c.new-2.ensures.items stood c.put_racks-racks.ensures.none (omega (arith, c.put_racks-racks.ensures.room, c.args.racks.ok, c.requires.eight, c.args.racks.small))

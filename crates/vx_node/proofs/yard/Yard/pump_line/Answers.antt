@@ -40,8 +40,8 @@ returns-in-Err-clause-told g c =
     let s = c.site_of-here.result in
     told_before es s c.index_mut.result.now c.pump.new.self (get_at es s c.index_mut.result.now c.site_of-here.ensures.disk_set c.index_mut.ensures.value) c.in-Err.ensures.later
 
-pub returns-in-Ok-clause-brings : goal.returns-in-Ok-clause-brings
-returns-in-Ok-clause-brings g c = λ d stands carries told.
+pub returns-in-Ok-clause-leads : goal.returns-in-Ok-clause-leads
+returns-in-Ok-clause-leads g c = λ d stands carries told.
     let old = c.args.self.now in
     let es = old.disk_sets.items in
     let s = c.site_of-here.result in
@@ -57,8 +57,8 @@ returns-in-Ok-clause-brings g c = λ d stands carries told.
     (c.keep_pumped.ensures.world d.world c.pump.new.flight (c.deref_mut.ensures.value ∙ stands.facts) moved.link moved.flight)
     (with_items_is old.facts c.keep_pumped.new.sites (c.keep_pumped.auto.sites ∙ c.deref_mut.ensures.len))
 
-pub returns-in-Err-clause-brings : goal.returns-in-Err-clause-brings
-returns-in-Err-clause-brings g c = λ d stands carries told.
+pub returns-in-Err-clause-leads : goal.returns-in-Err-clause-leads
+returns-in-Err-clause-leads g c = λ d stands carries told.
     let old = c.args.self.now in
     let es = old.disk_sets.items in
     let s = c.site_of-here.result in

@@ -5,14 +5,8 @@ use Rattle.vx_node.proofs.yard.Yard.show_line.Goals as goal
 pub fetch-requires-clause-free : goal.fetch-requires-clause-free
 fetch-requires-clause-free g c = λ κs within. inr c.requires.free
 
-pub returns-clause-works : goal.returns-clause-works
-returns-clause-works g c = λ w stands. let f = c.fetch.ensures.works w stands in record { world = f.world; fails = f.fails; works = f.fetches; stands = f.stands; rose = f.rose }
-
-pub returns-clause-asked : goal.returns-clause-asked
-returns-clause-asked g c = λ w stands. c.fetch.ensures.asked w stands
-
 pub returns-clause-leads : goal.returns-clause-leads
 returns-clause-leads g c = λ d stands. c.fetch.ensures.leads d (ShowBlocks c.args.name.now c.args.volume.now c.args.start c.args.count) stands (inr refl)
 
-pub returns-clause-asks : goal.returns-clause-asks
-returns-clause-asks g c = λ d stands. c.fetch.ensures.asks d stands
+pub returns-clause-asked : goal.returns-clause-asked
+returns-clause-asked g c = λ d stands. c.fetch.ensures.asked d stands

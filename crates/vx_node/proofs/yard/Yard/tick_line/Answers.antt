@@ -13,8 +13,8 @@ tick-requires g c = record {
   free = (in_files c.args.self.now, subst (λ fs. refusal_of fs (in_files c.args.self.now) (Tick c.args.first.now c.args.second.now) ≡ None) (sym c.deref_mut.ensures.value) c.requires.free);
 }
 
-pub returns-clause-brings : goal.returns-clause-brings
-returns-clause-brings g c = λ d stands carries.
+pub returns-clause-leads : goal.returns-clause-leads
+returns-clause-leads g c = λ d stands carries.
     let old = c.args.self.now in
     tick_brings d old _ c.args.first.now c.args.second.now c.tick.new.sites stands carries
     (c.tick.ensures.world d.world old.flight (subst (λ fs. LinksStand d.world fs old.flight) (sym c.deref_mut.ensures.value) (links_stand d old stands carries)))

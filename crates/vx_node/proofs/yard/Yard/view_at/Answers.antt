@@ -1,27 +1,17 @@
-use Rattle.std.proofs.Common.{◌∙◌, ap, List, []}
+use Rattle.std.proofs.Common.{◌∙◌, ap, List}
 use Rattle.vx_order.specs.declared.facts.SiteFacts.{SiteFacts}
-use Rattle.vx_report.specs.declared.view.LinkView.{LinkView}
-use Rattle.vx_diskset.specs.Holds.{alone}
 use Rattle.vx_node.specs.Seen.{site_seen}
 use Rattle.vx_node.proofs.Lists.{get_at}
-use Rattle.vx_node.proofs.StatusLine.{view_is}
 use Rattle.vx_node.proofs.StatusLinks.{linked_view_is}
 use Rattle.vx_node.proofs.yard.Yard.view_at.Goals as goal
 
-pub returns-clause-alone : goal.returns-clause-alone
-returns-clause-alone g c = λ w stands below none.
-    view_is w c.args.self.now c.args.site c.session-session.result c.index-2.result.now c.index.result.now c.view.result stands below
-    (get_at c.args.self.now.facts.items c.args.site c.index-2.result.now c.requires.site c.index-2.ensures)
-    (get_at c.args.self.now.disk_sets.items c.args.site c.index.result.now c.requires.disk_set c.index.ensures)
-    (c.session-session.ensures alone)
-    (c.view.ensures ∙ ap (λ (fs : List SiteFacts). site_seen fs c.session-session.result c.index-2.result.now c.args.links) c.deref.ensures.value
-    ∙ ap (λ (ls : List LinkView). site_seen c.args.self.now.facts.items c.session-session.result c.index-2.result.now ls) none)
-
-pub returns-clause-linked : goal.returns-clause-linked
-returns-clause-linked g c = λ d f stands below at links.
-    linked_view_is d c.args.self.now c.args.site c.session-session.result c.index-2.result.now f c.args.links c.index.result.now c.view.result stands below
-    (get_at c.args.self.now.facts.items c.args.site c.index-2.result.now c.requires.site c.index-2.ensures) at
-    (get_at c.args.self.now.disk_sets.items c.args.site c.index.result.now c.requires.disk_set c.index.ensures)
-    c.session-session.ensures
-    (c.view.ensures ∙ ap (λ (fs : List SiteFacts). site_seen fs c.session-session.result c.index-2.result.now c.args.links) c.deref.ensures.value)
-    links
+pub returns : goal.returns
+returns g c = record {
+  linked = λ d f stands below at links.
+      linked_view_is d c.args.self.now c.args.site c.session-session.result c.index-2.result.now f c.args.links c.index.result.now c.view.result stands below
+      (get_at c.args.self.now.facts.items c.args.site c.index-2.result.now c.requires.site c.index-2.ensures) at
+      (get_at c.args.self.now.disk_sets.items c.args.site c.index.result.now c.requires.disk_set c.index.ensures)
+      c.session-session.ensures.is
+      (c.view.ensures ∙ ap (λ (fs : List SiteFacts). site_seen fs c.session-session.result c.index-2.result.now c.args.links) c.deref.ensures.value)
+      links;
+}

@@ -13,7 +13,7 @@ wait-requires g c = record {
 
 pub returns : goal.returns
 returns g c = record {
-  brings = λ d stands carries.
+  leads = λ d stands carries.
       let y = c.args.self.now in
       let facts = c.deref.ensures.value ∙ stands.facts in
       wait_brings d y c.args.name.now c.args.number _ c.wait.result c.deref.result.now stands carries (in_files y) (wait_free d y c.args.name.now c.args.number stands c.requires.free)

@@ -1,21 +1,19 @@
 -- The work of a line that no test refuses.
-use Rattle.std.proofs.Common.{◌≡◌, ◌∙◌, ap, subst, sym, refl, true, false}
+use Rattle.std.proofs.Common.{subst, sym, refl}
 use Rattle.std.proofs.lemmas.Result.{err_from_is_err_and}
 use Rattle.vx_node.proofs.AnswerFor.{if_ok}
 use Rattle.vx_node.proofs.NamedSite.{unbegun_by, unbegun_site}
-use Rattle.vx_node.specs.Standing.{Leads, LeadsIs, goes_with_links}
-use Rattle.vx_order.specs.Order.{refusal_of}
-use Rattle.vx_script.specs.declared.line.ScriptLine.TheVariants.{Raw}
+use Rattle.std.specs.Prelude.{IfOk, Result}
+use Rattle.vx_model.specs.declared.errors.OutOfMemory.{OutOfMemory}
+use Rattle.vx_events.specs.declared.said.Said.{Said}
+use Rattle.vx_node.specs.Standing.{Leads, LeadsIs}
 use Rattle.vx_node.specs.Working.{IsFree}
 use Rattle.vx_node.specs.Yards.{in_files}
 use Rattle.vx_events.proofs.Refused.{site_may}
 use Rattle.vx_node.specs.OfSites.{AsAsked, HasCalled}
-use Rattle.vx_events.proofs.RefusedCalls.{write_may, read_may, show_may}
+use Rattle.vx_events.proofs.RefusedCalls.{read_may, show_may, write_may}
 use Rattle.vx_diskset.specs.Asked.{LeavesAlone, SameFailing}
-use Rattle.vx_node.proofs.FailsStay.{if_err}
-use Rattle.vx_node.proofs.FuseStays.{short_made, short_raw, short_same, short_still}
 use Rattle.vx_diskset.proofs.KeepsFailing.{alone_same, failing_same}
-use Rattle.vx_node.proofs.OfSites.{unbegun}
 use Rattle.vx_node.proofs.yard.Yard.work.Goals as goal
 
 pub make_site-requires-clause-free : goal.make_site-requires-clause-free
@@ -66,201 +64,156 @@ pub make_site-requires-clause-large : goal.make_site-requires-clause-large
 make_site-requires-clause-large g c = λ κs lives.
     (site_may c.args.self.now.facts.items (in_files c.args.self.now) c.in-Site.site c.in-Site.disks c.in-Site.blocks (subst (λ line. IsFree c.args.self.now line) c.in-Site.is c.requires.free)).some_blocks
 
-pub returns-in_err-bytes-in-Write-clause-asked : goal.returns-in_err-bytes-in-Write-clause-asked
-returns-in_err-bytes-in-Write-clause-asked g c = λ w stands.
-    let y = c.args.self.now in
-    let free = subst (λ line. IsFree y line) c.in-Write.is c.requires.free in
-    subst (λ line. AsAsked w line y y) (sym c.in-Write.is)
-    (unbegun SameFailing w y c.in-Write.site failing_same stands (write_may y.facts.items (in_files y) c.in-Write.site c.in-Write.volume c.in-Write.block c.in-Write.count c.in-Write.fill free).call.site)
-
-pub returns-in_err-room-in-Read-clause-asked : goal.returns-in_err-room-in-Read-clause-asked
-returns-in_err-room-in-Read-clause-asked g c = λ w stands.
-    let y = c.args.self.now in
-    let free = subst (λ line. IsFree y line) c.in-Read.is c.requires.free in
-    subst (λ line. AsAsked w line y y) (sym c.in-Read.is)
-    (unbegun LeavesAlone w y c.in-Read.site alone_same stands (read_may y.facts.items (in_files y) c.in-Read.site c.in-Read.volume c.in-Read.block c.in-Read.count free).site)
-
-pub returns-in_err-room-in-Show-clause-asked : goal.returns-in_err-room-in-Show-clause-asked
-returns-in_err-room-in-Show-clause-asked g c = λ w stands.
-    let y = c.args.self.now in
-    let free = subst (λ line. IsFree y line) c.in-Show.is c.requires.free in
-    subst (λ line. AsAsked w line y y) (sym c.in-Show.is)
-    (unbegun LeavesAlone w y c.in-Show.site alone_same stands (show_may y.facts.items (in_files y) c.in-Show.site c.in-Show.volume c.in-Show.block c.in-Show.count free).site)
-
-pub returns-in-Site-clause-short : goal.returns-in-Site-clause-short
-returns-in-Site-clause-short g c = λ w stands.
-    short_made w _ c.args.self.now _ c.make_site.result (c.make_site.ensures.works w stands) (c.make_site.ensures.asked w stands)
-
-pub returns-in-Raw-clause-short : goal.returns-in-Raw-clause-short
-returns-in-Raw-clause-short g c = λ w stands.
-    let y = c.args.self.now in
-    short_raw w (in_files y) c.in-Raw.site y _ c.make_raw.result
-    (ap (λ fs. refusal_of fs (in_files y) (Raw c.in-Raw.site)) (sym stands.facts) ∙ subst (λ line. IsFree y line) c.in-Raw.is c.requires.free)
-    (c.make_raw.ensures.works w stands) (c.make_raw.ensures.asked w stands)
-
-pub returns-in-Recover-clause-short : goal.returns-in-Recover-clause-short
-returns-in-Recover-clause-short g c = λ w stands. short_same c.args.self.now _ c.recover_line.result c.recover_line.ensures.short
-
-pub returns-in-Status-clause-short : goal.returns-in-Status-clause-short
-returns-in-Status-clause-short g c = λ w stands. short_same c.args.self.now c.args.self.now c.status_line.result (if_err c.status_line.result refl)
-
-pub returns-in_err-bytes-in-Write-clause-short : goal.returns-in_err-bytes-in-Write-clause-short
-returns-in_err-bytes-in-Write-clause-short g c = λ w stands. if_err _ (short_still c.args.self.now c.args.self.now refl)
-
-pub returns-in_err-room-in-Read-clause-short : goal.returns-in_err-room-in-Read-clause-short
-returns-in_err-room-in-Read-clause-short g c = λ w stands. if_err _ (short_still c.args.self.now c.args.self.now refl)
-
-pub returns-in_err-room-in-Show-clause-short : goal.returns-in_err-room-in-Show-clause-short
-returns-in_err-room-in-Show-clause-short g c = λ w stands. if_err _ (short_still c.args.self.now c.args.self.now refl)
-
-pub returns-in_ok-room-in-Read-clause-asked : goal.returns-in_ok-room-in-Read-clause-asked
-returns-in_ok-room-in-Read-clause-asked g c = λ w stands. subst (λ line. AsAsked w line c.args.self.now c.read_line.new.self) (sym c.in-Read.is) (c.read_line.ensures.asked w stands)
-
-pub returns-in_ok-room-in-Show-clause-asked : goal.returns-in_ok-room-in-Show-clause-asked
-returns-in_ok-room-in-Show-clause-asked g c = λ w stands. subst (λ line. AsAsked w line c.args.self.now c.show_line.new.self) (sym c.in-Show.is) (c.show_line.ensures.asked w stands)
-
 pub returns-in-Site-clause-leads : goal.returns-in-Site-clause-leads
-returns-in-Site-clause-leads g c = λ d stands goes. subst (λ line. LeadsIs d line c.args.self.now c.make_site.new.self c.make_site.result) (sym c.in-Site.is) (c.make_site.ensures.leads d stands)
+returns-in-Site-clause-leads g c = λ d stands carries good. subst (λ line. LeadsIs d line c.args.self.now c.make_site.new.self c.make_site.result) (sym c.in-Site.is) (c.make_site.ensures.leads d stands)
 
-pub returns-in-Site-clause-asks : goal.returns-in-Site-clause-asks
-returns-in-Site-clause-asks g c = λ d stands goes. subst (λ line. AsAsked d.world line c.args.self.now c.make_site.new.self) (sym c.in-Site.is) (c.make_site.ensures.asks d stands)
+pub returns-in-Site-clause-asked : goal.returns-in-Site-clause-asked
+returns-in-Site-clause-asked g c = λ d stands. subst (λ line. AsAsked d.world line c.args.self.now c.make_site.new.self) (sym c.in-Site.is) (c.make_site.ensures.asked d stands)
 
 pub returns-in-Raw-clause-leads : goal.returns-in-Raw-clause-leads
-returns-in-Raw-clause-leads g c = λ d stands goes. subst (λ line. LeadsIs d line c.args.self.now c.make_raw.new.self c.make_raw.result) (sym c.in-Raw.is) (c.make_raw.ensures.leads d stands)
+returns-in-Raw-clause-leads g c = λ d stands carries good. subst (λ line. LeadsIs d line c.args.self.now c.make_raw.new.self c.make_raw.result) (sym c.in-Raw.is) (c.make_raw.ensures.leads d stands)
 
-pub returns-in-Raw-clause-asks : goal.returns-in-Raw-clause-asks
-returns-in-Raw-clause-asks g c = λ d stands goes. subst (λ line. AsAsked d.world line c.args.self.now c.make_raw.new.self) (sym c.in-Raw.is) (c.make_raw.ensures.asks d stands)
+pub returns-in-Raw-clause-asked : goal.returns-in-Raw-clause-asked
+returns-in-Raw-clause-asked g c = λ d stands. subst (λ line. AsAsked d.world line c.args.self.now c.make_raw.new.self) (sym c.in-Raw.is) (c.make_raw.ensures.asked d stands)
 
 pub returns-in-Disk-clause-leads : goal.returns-in-Disk-clause-leads
-returns-in-Disk-clause-leads g c = λ d stands goes. subst (λ line. Leads d line c.set_disk.result c.args.self.now c.set_disk.new.self) (sym c.in-Disk.is) (c.set_disk.ensures.leads d stands)
+returns-in-Disk-clause-leads g c = λ d stands carries good. subst (λ line. Leads d line c.set_disk.result c.args.self.now c.set_disk.new.self) (sym c.in-Disk.is) (c.set_disk.ensures.leads d stands)
 
-pub returns-in-Disk-clause-asks : goal.returns-in-Disk-clause-asks
-returns-in-Disk-clause-asks g c = λ d stands goes. subst (λ line. AsAsked d.world line c.args.self.now c.set_disk.new.self) (sym c.in-Disk.is) (c.set_disk.ensures.asks d stands)
+pub returns-in-Disk-clause-asked : goal.returns-in-Disk-clause-asked
+returns-in-Disk-clause-asked g c = λ d stands. subst (λ line. AsAsked d.world line c.args.self.now c.set_disk.new.self) (sym c.in-Disk.is) (c.set_disk.ensures.asked d stands)
 
 pub returns-in-Crash-clause-leads : goal.returns-in-Crash-clause-leads
-returns-in-Crash-clause-leads g c = λ d stands goes. subst (λ line. Leads d line c.crash_line.result c.args.self.now c.crash_line.new.self) (sym c.in-Crash.is) (c.crash_line.ensures.leads d stands)
+returns-in-Crash-clause-leads g c = λ d stands carries good. subst (λ line. Leads d line c.crash_line.result c.args.self.now c.crash_line.new.self) (sym c.in-Crash.is) (c.crash_line.ensures.leads d stands)
 
-pub returns-in-Crash-clause-asks : goal.returns-in-Crash-clause-asks
-returns-in-Crash-clause-asks g c = λ d stands goes. subst (λ line. AsAsked d.world line c.args.self.now c.crash_line.new.self) (sym c.in-Crash.is) (c.crash_line.ensures.asks d stands)
+pub returns-in-Crash-clause-asked : goal.returns-in-Crash-clause-asked
+returns-in-Crash-clause-asked g c = λ d stands. subst (λ line. AsAsked d.world line c.args.self.now c.crash_line.new.self) (sym c.in-Crash.is) (c.crash_line.ensures.asked d stands)
 
 pub returns-in-Fuse-clause-leads : goal.returns-in-Fuse-clause-leads
-returns-in-Fuse-clause-leads g c = λ d stands goes. subst (λ line. Leads d line c.fuse_line.result c.args.self.now c.fuse_line.new.self) (sym c.in-Fuse.is) (c.fuse_line.ensures.leads d stands)
+returns-in-Fuse-clause-leads g c = λ d stands carries good. subst (λ line. Leads d line c.fuse_line.result c.args.self.now c.fuse_line.new.self) (sym c.in-Fuse.is) (c.fuse_line.ensures.leads d stands)
 
-pub returns-in-Fuse-clause-asks : goal.returns-in-Fuse-clause-asks
-returns-in-Fuse-clause-asks g c = λ d stands goes. subst (λ line. AsAsked d.world line c.args.self.now c.fuse_line.new.self) (sym c.in-Fuse.is) (c.fuse_line.ensures.asks d stands)
+pub returns-in-Fuse-clause-asked : goal.returns-in-Fuse-clause-asked
+returns-in-Fuse-clause-asked g c = λ d stands. subst (λ line. AsAsked d.world line c.args.self.now c.fuse_line.new.self) (sym c.in-Fuse.is) (c.fuse_line.ensures.asked d stands)
 
 pub returns-in_ok-room-in-Read-clause-leads : goal.returns-in_ok-room-in-Read-clause-leads
-returns-in_ok-room-in-Read-clause-leads g c = λ d stands goes. subst (λ line. Leads d line c.read_line.result c.args.self.now c.read_line.new.self) (sym c.in-Read.is) (c.read_line.ensures.leads d stands)
+returns-in_ok-room-in-Read-clause-leads g c = λ d stands carries good. subst (λ line. Leads d line c.read_line.result c.args.self.now c.read_line.new.self) (sym c.in-Read.is) (c.read_line.ensures.leads d stands)
 
-pub returns-in_ok-room-in-Read-clause-asks : goal.returns-in_ok-room-in-Read-clause-asks
-returns-in_ok-room-in-Read-clause-asks g c = λ d stands goes. subst (λ line. AsAsked d.world line c.args.self.now c.read_line.new.self) (sym c.in-Read.is) (c.read_line.ensures.asks d stands)
+pub returns-in_ok-room-in-Read-clause-asked : goal.returns-in_ok-room-in-Read-clause-asked
+returns-in_ok-room-in-Read-clause-asked g c = λ d stands. subst (λ line. AsAsked d.world line c.args.self.now c.read_line.new.self) (sym c.in-Read.is) (c.read_line.ensures.asked d stands)
 
 pub returns-in_ok-room-in-Show-clause-leads : goal.returns-in_ok-room-in-Show-clause-leads
-returns-in_ok-room-in-Show-clause-leads g c = λ d stands goes. subst (λ line. Leads d line c.show_line.result c.args.self.now c.show_line.new.self) (sym c.in-Show.is) (c.show_line.ensures.leads d stands)
+returns-in_ok-room-in-Show-clause-leads g c = λ d stands carries good. subst (λ line. Leads d line c.show_line.result c.args.self.now c.show_line.new.self) (sym c.in-Show.is) (c.show_line.ensures.leads d stands)
 
-pub returns-in_ok-room-in-Show-clause-asks : goal.returns-in_ok-room-in-Show-clause-asks
-returns-in_ok-room-in-Show-clause-asks g c = λ d stands goes. subst (λ line. AsAsked d.world line c.args.self.now c.show_line.new.self) (sym c.in-Show.is) (c.show_line.ensures.asks d stands)
+pub returns-in_ok-room-in-Show-clause-asked : goal.returns-in_ok-room-in-Show-clause-asked
+returns-in_ok-room-in-Show-clause-asked g c = λ d stands. subst (λ line. AsAsked d.world line c.args.self.now c.show_line.new.self) (sym c.in-Show.is) (c.show_line.ensures.asked d stands)
 
 pub returns-in-Apply-clause-leads : goal.returns-in-Apply-clause-leads
-returns-in-Apply-clause-leads g c = λ d stands goes. subst (λ line. Leads d line c.apply_line.result c.args.self.now c.apply_line.new.self) (sym c.in-Apply.is) (c.apply_line.ensures.leads d stands)
+returns-in-Apply-clause-leads g c = λ d stands carries good. subst (λ line. Leads d line c.apply_line.result c.args.self.now c.apply_line.new.self) (sym c.in-Apply.is) (c.apply_line.ensures.leads d stands)
 
-pub returns-in-Apply-clause-asks : goal.returns-in-Apply-clause-asks
-returns-in-Apply-clause-asks g c = λ d stands goes. subst (λ line. AsAsked d.world line c.args.self.now c.apply_line.new.self) (sym c.in-Apply.is) (c.apply_line.ensures.asks d stands)
+pub returns-in-Apply-clause-asked : goal.returns-in-Apply-clause-asked
+returns-in-Apply-clause-asked g c = λ d stands. subst (λ line. AsAsked d.world line c.args.self.now c.apply_line.new.self) (sym c.in-Apply.is) (c.apply_line.ensures.asked d stands)
 
-pub returns-in-Apply-clause-calls : goal.returns-in-Apply-clause-calls
-returns-in-Apply-clause-calls g c = λ d stands goes. subst (λ line. HasCalled d.world line c.apply_line.result c.args.self.now c.apply_line.new.self) (sym c.in-Apply.is) (c.apply_line.ensures.calls d stands)
+pub returns-in-Apply-clause-called : goal.returns-in-Apply-clause-called
+returns-in-Apply-clause-called g c = λ d stands. subst (λ line. HasCalled d.world line c.apply_line.result c.args.self.now c.apply_line.new.self) (sym c.in-Apply.is) (c.apply_line.ensures.called d stands)
 
 pub returns-in-Status-clause-leads : goal.returns-in-Status-clause-leads
-returns-in-Status-clause-leads g c = λ d stands goes. subst (λ line. LeadsIs d line c.args.self.now c.args.self.now c.status_line.result) (sym c.in-Status.is) (c.status_line.ensures.leads d stands)
+returns-in-Status-clause-leads g c = λ d stands carries good. subst (λ line. LeadsIs d line c.args.self.now c.args.self.now c.status_line.result) (sym c.in-Status.is) (c.status_line.ensures.leads d stands)
 
-pub returns-in-Status-clause-asks : goal.returns-in-Status-clause-asks
-returns-in-Status-clause-asks g c = λ d stands goes. subst (λ line. AsAsked d.world line c.args.self.now c.args.self.now) (sym c.in-Status.is) refl
+pub returns-in-Status-clause-asked : goal.returns-in-Status-clause-asked
+returns-in-Status-clause-asked g c = λ d stands. subst (λ line. AsAsked d.world line c.args.self.now c.args.self.now) (sym c.in-Status.is) refl
 
 pub returns-in-Recover-clause-leads : goal.returns-in-Recover-clause-leads
-returns-in-Recover-clause-leads g c = λ d stands goes. absurd (let e : false ≡ true = subst (λ line. goes_with_links line ≡ true) c.in-Recover.is goes in cc)
+returns-in-Recover-clause-leads g c = λ d stands carries good. subst (λ line. LeadsIs d line c.args.self.now c.recover_line.new.self c.recover_line.result) (sym c.in-Recover.is) (c.recover_line.ensures.leads d stands)
 
-pub returns-in-Recover-clause-asks : goal.returns-in-Recover-clause-asks
-returns-in-Recover-clause-asks g c = λ d stands goes. absurd (let e : false ≡ true = subst (λ line. goes_with_links line ≡ true) c.in-Recover.is goes in cc)
+pub returns-in-Recover-clause-asked : goal.returns-in-Recover-clause-asked
+returns-in-Recover-clause-asked g c = λ d stands. subst (λ line. AsAsked d.world line c.args.self.now c.recover_line.new.self) (sym c.in-Recover.is) (c.recover_line.ensures.asked d stands)
 
-pub returns-in-Recover-clause-calls : goal.returns-in-Recover-clause-calls
-returns-in-Recover-clause-calls g c = λ d stands goes. absurd (let e : false ≡ true = subst (λ line. goes_with_links line ≡ true) c.in-Recover.is goes in cc)
+pub returns-in-Recover-clause-called : goal.returns-in-Recover-clause-called
+returns-in-Recover-clause-called g c = λ d stands. if_ok (λ said. HasCalled d.world c.args.words.now said c.args.self.now c.recover_line.new.self) c.recover_line.result (λ said. subst (λ line. HasCalled d.world line said c.args.self.now c.recover_line.new.self) (sym c.in-Recover.is) tt)
 
 pub returns-in_ok-bytes-in-Write-clause-leads : goal.returns-in_ok-bytes-in-Write-clause-leads
-returns-in_ok-bytes-in-Write-clause-leads g c = λ d stands goes. absurd (let e : false ≡ true = subst (λ line. goes_with_links line ≡ true) c.in-Write.is goes in cc)
+returns-in_ok-bytes-in-Write-clause-leads g c = λ d stands carries good. subst (λ line. Leads d line c.write_line.result c.args.self.now c.write_line.new.self) (sym c.in-Write.is) (c.write_line.ensures.leads d stands)
 
-pub returns-in_ok-bytes-in-Write-clause-asks : goal.returns-in_ok-bytes-in-Write-clause-asks
-returns-in_ok-bytes-in-Write-clause-asks g c = λ d stands goes. absurd (let e : false ≡ true = subst (λ line. goes_with_links line ≡ true) c.in-Write.is goes in cc)
+pub returns-in_ok-bytes-in-Write-clause-asked : goal.returns-in_ok-bytes-in-Write-clause-asked
+returns-in_ok-bytes-in-Write-clause-asked g c = λ d stands. subst (λ line. AsAsked d.world line c.args.self.now c.write_line.new.self) (sym c.in-Write.is) (c.write_line.ensures.asked d stands)
 
-pub returns-in_ok-bytes-in-Write-clause-calls : goal.returns-in_ok-bytes-in-Write-clause-calls
-returns-in_ok-bytes-in-Write-clause-calls g c = λ d stands goes. absurd (let e : false ≡ true = subst (λ line. goes_with_links line ≡ true) c.in-Write.is goes in cc)
+pub returns-in_ok-bytes-in-Write-clause-called : goal.returns-in_ok-bytes-in-Write-clause-called
+returns-in_ok-bytes-in-Write-clause-called g c = λ d stands. subst (λ line. HasCalled d.world line c.write_line.result c.args.self.now c.write_line.new.self) (sym c.in-Write.is) (c.write_line.ensures.called d stands)
 
 pub returns-in_err-bytes-in-Write-clause-leads : goal.returns-in_err-bytes-in-Write-clause-leads
-returns-in_err-bytes-in-Write-clause-leads g c = λ d stands goes. absurd (let e : false ≡ true = subst (λ line. goes_with_links line ≡ true) c.in-Write.is goes in cc)
+returns-in_err-bytes-in-Write-clause-leads g c = λ d stands carries good.
+    let p = err_from_is_err_and c.from_residual.result c.from_residual.ensures.1 in
+    unbegun_by d c.args.words.now c.args.self.now _ c.from_residual.result p.0 p.1 refl refl refl (record { flight = refl; assemblies = refl; feeders = refl }) stands
 
-pub returns-in_err-bytes-in-Write-clause-asks : goal.returns-in_err-bytes-in-Write-clause-asks
-returns-in_err-bytes-in-Write-clause-asks g c = λ d stands goes. absurd (let e : false ≡ true = subst (λ line. goes_with_links line ≡ true) c.in-Write.is goes in cc)
+pub returns-in_err-bytes-in-Write-clause-asked : goal.returns-in_err-bytes-in-Write-clause-asked
+returns-in_err-bytes-in-Write-clause-asked g c = λ d stands.
+    let y = c.args.self.now in
+    let free = subst (λ line. IsFree y line) c.in-Write.is c.requires.free in
+    subst (λ line. AsAsked d.world line y y) (sym c.in-Write.is)
+    (unbegun_site SameFailing d y c.in-Write.site failing_same stands (write_may y.facts.items (in_files y) c.in-Write.site c.in-Write.volume c.in-Write.block c.in-Write.count c.in-Write.fill free).call.site)
 
-pub returns-in_err-bytes-in-Write-clause-calls : goal.returns-in_err-bytes-in-Write-clause-calls
-returns-in_err-bytes-in-Write-clause-calls g c = λ d stands goes. absurd (let e : false ≡ true = subst (λ line. goes_with_links line ≡ true) c.in-Write.is goes in cc)
+pub returns-in_err-bytes-in-Write-clause-called : goal.returns-in_err-bytes-in-Write-clause-called
+returns-in_err-bytes-in-Write-clause-called g c = λ d stands.
+    let p = err_from_is_err_and c.from_residual.result c.from_residual.ensures.1 in
+    subst (λ (r : Result Said OutOfMemory). IfOk r (λ said. HasCalled d.world c.args.words.now said c.args.self.now c.args.self.now)) (sym p.1) tt
 
 pub returns-in-Put-clause-leads : goal.returns-in-Put-clause-leads
-returns-in-Put-clause-leads g c = λ d stands goes. absurd (let e : false ≡ true = subst (λ line. goes_with_links line ≡ true) c.in-Put.is goes in cc)
+returns-in-Put-clause-leads g c = λ d stands carries good. subst (λ line. Leads d line c.put_line.result c.args.self.now c.put_line.new.self) (sym c.in-Put.is) (c.put_line.ensures.leads d stands)
 
-pub returns-in-Put-clause-asks : goal.returns-in-Put-clause-asks
-returns-in-Put-clause-asks g c = λ d stands goes. absurd (let e : false ≡ true = subst (λ line. goes_with_links line ≡ true) c.in-Put.is goes in cc)
+pub returns-in-Put-clause-asked : goal.returns-in-Put-clause-asked
+returns-in-Put-clause-asked g c = λ d stands. subst (λ line. AsAsked d.world line c.args.self.now c.put_line.new.self) (sym c.in-Put.is) (c.put_line.ensures.asked d stands)
 
-pub returns-in-Put-clause-calls : goal.returns-in-Put-clause-calls
-returns-in-Put-clause-calls g c = λ d stands goes. absurd (let e : false ≡ true = subst (λ line. goes_with_links line ≡ true) c.in-Put.is goes in cc)
+pub returns-in-Put-clause-called : goal.returns-in-Put-clause-called
+returns-in-Put-clause-called g c = λ d stands. subst (λ line. HasCalled d.world line c.put_line.result c.args.self.now c.put_line.new.self) (sym c.in-Put.is) (c.put_line.ensures.called d stands)
 
-pub returns-in-Site-clause-calls : goal.returns-in-Site-clause-calls
-returns-in-Site-clause-calls g c = λ d stands goes. if_ok (λ said. HasCalled d.world c.args.words.now said c.args.self.now c.make_site.new.self) c.make_site.result (λ said. subst (λ line. HasCalled d.world line said c.args.self.now c.make_site.new.self) (sym c.in-Site.is) tt)
+pub returns-in-Site-clause-called : goal.returns-in-Site-clause-called
+returns-in-Site-clause-called g c = λ d stands. if_ok (λ said. HasCalled d.world c.args.words.now said c.args.self.now c.make_site.new.self) c.make_site.result (λ said. subst (λ line. HasCalled d.world line said c.args.self.now c.make_site.new.self) (sym c.in-Site.is) tt)
 
-pub returns-in-Raw-clause-calls : goal.returns-in-Raw-clause-calls
-returns-in-Raw-clause-calls g c = λ d stands goes. if_ok (λ said. HasCalled d.world c.args.words.now said c.args.self.now c.make_raw.new.self) c.make_raw.result (λ said. subst (λ line. HasCalled d.world line said c.args.self.now c.make_raw.new.self) (sym c.in-Raw.is) tt)
+pub returns-in-Raw-clause-called : goal.returns-in-Raw-clause-called
+returns-in-Raw-clause-called g c = λ d stands. if_ok (λ said. HasCalled d.world c.args.words.now said c.args.self.now c.make_raw.new.self) c.make_raw.result (λ said. subst (λ line. HasCalled d.world line said c.args.self.now c.make_raw.new.self) (sym c.in-Raw.is) tt)
 
-pub returns-in-Disk-clause-calls : goal.returns-in-Disk-clause-calls
-returns-in-Disk-clause-calls g c = λ d stands goes. subst (λ line. HasCalled d.world line c.set_disk.result c.args.self.now c.set_disk.new.self) (sym c.in-Disk.is) tt
+pub returns-in-Disk-clause-called : goal.returns-in-Disk-clause-called
+returns-in-Disk-clause-called g c = λ d stands. subst (λ line. HasCalled d.world line c.set_disk.result c.args.self.now c.set_disk.new.self) (sym c.in-Disk.is) tt
 
-pub returns-in-Crash-clause-calls : goal.returns-in-Crash-clause-calls
-returns-in-Crash-clause-calls g c = λ d stands goes. subst (λ line. HasCalled d.world line c.crash_line.result c.args.self.now c.crash_line.new.self) (sym c.in-Crash.is) tt
+pub returns-in-Crash-clause-called : goal.returns-in-Crash-clause-called
+returns-in-Crash-clause-called g c = λ d stands. subst (λ line. HasCalled d.world line c.crash_line.result c.args.self.now c.crash_line.new.self) (sym c.in-Crash.is) tt
 
-pub returns-in-Fuse-clause-calls : goal.returns-in-Fuse-clause-calls
-returns-in-Fuse-clause-calls g c = λ d stands goes. subst (λ line. HasCalled d.world line c.fuse_line.result c.args.self.now c.fuse_line.new.self) (sym c.in-Fuse.is) tt
+pub returns-in-Fuse-clause-called : goal.returns-in-Fuse-clause-called
+returns-in-Fuse-clause-called g c = λ d stands. subst (λ line. HasCalled d.world line c.fuse_line.result c.args.self.now c.fuse_line.new.self) (sym c.in-Fuse.is) tt
 
-pub returns-in_ok-room-in-Read-clause-calls : goal.returns-in_ok-room-in-Read-clause-calls
-returns-in_ok-room-in-Read-clause-calls g c = λ d stands goes. subst (λ line. HasCalled d.world line c.read_line.result c.args.self.now c.read_line.new.self) (sym c.in-Read.is) tt
+pub returns-in_ok-room-in-Read-clause-called : goal.returns-in_ok-room-in-Read-clause-called
+returns-in_ok-room-in-Read-clause-called g c = λ d stands. subst (λ line. HasCalled d.world line c.read_line.result c.args.self.now c.read_line.new.self) (sym c.in-Read.is) tt
 
-pub returns-in_ok-room-in-Show-clause-calls : goal.returns-in_ok-room-in-Show-clause-calls
-returns-in_ok-room-in-Show-clause-calls g c = λ d stands goes. subst (λ line. HasCalled d.world line c.show_line.result c.args.self.now c.show_line.new.self) (sym c.in-Show.is) tt
+pub returns-in_ok-room-in-Show-clause-called : goal.returns-in_ok-room-in-Show-clause-called
+returns-in_ok-room-in-Show-clause-called g c = λ d stands. subst (λ line. HasCalled d.world line c.show_line.result c.args.self.now c.show_line.new.self) (sym c.in-Show.is) tt
 
-pub returns-in-Status-clause-calls : goal.returns-in-Status-clause-calls
-returns-in-Status-clause-calls g c = λ d stands goes. if_ok (λ said. HasCalled d.world c.args.words.now said c.args.self.now c.args.self.now) c.status_line.result (λ said. subst (λ line. HasCalled d.world line said c.args.self.now c.args.self.now) (sym c.in-Status.is) tt)
+pub returns-in-Status-clause-called : goal.returns-in-Status-clause-called
+returns-in-Status-clause-called g c = λ d stands. if_ok (λ said. HasCalled d.world c.args.words.now said c.args.self.now c.args.self.now) c.status_line.result (λ said. subst (λ line. HasCalled d.world line said c.args.self.now c.args.self.now) (sym c.in-Status.is) tt)
 
 pub returns-in_err-room-in-Read-clause-leads : goal.returns-in_err-room-in-Read-clause-leads
-returns-in_err-room-in-Read-clause-leads g c = λ d stands goes.
-    let p = err_from_is_err_and c.from_residual-in_err-room-in-Read.result c.from_residual-in_err-room-in-Read.ensures.1 in unbegun_by d c.args.words.now c.args.self.now _ c.from_residual-in_err-room-in-Read.result p.0 p.1 refl refl refl stands
+returns-in_err-room-in-Read-clause-leads g c = λ d stands carries good.
+    let p = err_from_is_err_and c.from_residual-in_err-room-in-Read.result c.from_residual-in_err-room-in-Read.ensures.1 in unbegun_by d c.args.words.now c.args.self.now _ c.from_residual-in_err-room-in-Read.result p.0 p.1 refl refl refl (record { flight = refl; assemblies = refl; feeders = refl }) stands
 
-pub returns-in_err-room-in-Read-clause-calls : goal.returns-in_err-room-in-Read-clause-calls
-returns-in_err-room-in-Read-clause-calls g c = λ d stands goes.
+pub returns-in_err-room-in-Read-clause-called : goal.returns-in_err-room-in-Read-clause-called
+returns-in_err-room-in-Read-clause-called g c = λ d stands.
     if_ok (λ said. HasCalled d.world c.args.words.now said c.args.self.now c.args.self.now) c.from_residual-in_err-room-in-Read.result (λ said. subst (λ line. HasCalled d.world line said c.args.self.now c.args.self.now) (sym c.in-Read.is) tt)
 
-pub returns-in_err-room-in-Read-clause-asks : goal.returns-in_err-room-in-Read-clause-asks
-returns-in_err-room-in-Read-clause-asks g c = λ d stands goes.
+pub returns-in_err-room-in-Read-clause-asked : goal.returns-in_err-room-in-Read-clause-asked
+returns-in_err-room-in-Read-clause-asked g c = λ d stands.
     let y = c.args.self.now in
     let free = subst (λ line. IsFree y line) c.in-Read.is c.requires.free in
     subst (λ line. AsAsked d.world line y y) (sym c.in-Read.is)
     (unbegun_site LeavesAlone d y c.in-Read.site alone_same stands (read_may y.facts.items (in_files y) c.in-Read.site c.in-Read.volume c.in-Read.block c.in-Read.count free).site)
 
 pub returns-in_err-room-in-Show-clause-leads : goal.returns-in_err-room-in-Show-clause-leads
-returns-in_err-room-in-Show-clause-leads g c = λ d stands goes.
-    let p = err_from_is_err_and c.from_residual-in_err-room-in-Show.result c.from_residual-in_err-room-in-Show.ensures.1 in unbegun_by d c.args.words.now c.args.self.now _ c.from_residual-in_err-room-in-Show.result p.0 p.1 refl refl refl stands
+returns-in_err-room-in-Show-clause-leads g c = λ d stands carries good.
+    let p = err_from_is_err_and c.from_residual-in_err-room-in-Show.result c.from_residual-in_err-room-in-Show.ensures.1 in unbegun_by d c.args.words.now c.args.self.now _ c.from_residual-in_err-room-in-Show.result p.0 p.1 refl refl refl (record { flight = refl; assemblies = refl; feeders = refl }) stands
 
-pub returns-in_err-room-in-Show-clause-calls : goal.returns-in_err-room-in-Show-clause-calls
-returns-in_err-room-in-Show-clause-calls g c = λ d stands goes.
+pub returns-in_err-room-in-Show-clause-called : goal.returns-in_err-room-in-Show-clause-called
+returns-in_err-room-in-Show-clause-called g c = λ d stands.
     if_ok (λ said. HasCalled d.world c.args.words.now said c.args.self.now c.args.self.now) c.from_residual-in_err-room-in-Show.result (λ said. subst (λ line. HasCalled d.world line said c.args.self.now c.args.self.now) (sym c.in-Show.is) tt)
 
-pub returns-in_err-room-in-Show-clause-asks : goal.returns-in_err-room-in-Show-clause-asks
-returns-in_err-room-in-Show-clause-asks g c = λ d stands goes.
+pub returns-in_err-room-in-Show-clause-asked : goal.returns-in_err-room-in-Show-clause-asked
+returns-in_err-room-in-Show-clause-asked g c = λ d stands.
     let y = c.args.self.now in
     let free = subst (λ line. IsFree y line) c.in-Show.is c.requires.free in
     subst (λ line. AsAsked d.world line y y) (sym c.in-Show.is)
