@@ -29,7 +29,7 @@ pub fn lets_every_write_in()
 {}
 
 /// Where no test of a line refuses, its event is not refused by the world: so there is one order of refusals. A write has to find a number,
-/// a world without links, and volumes as large as their table says; a read and an apply a site of the role that reads and applies.
+/// a world without links, and volumes as large as their table says; a read such volumes; a show those and a primary; and an apply a site where writes arise.
 pub fn tests_agree()
     ensures site { (w : World) (files : Bool) (name : List ℕ) (disks blocks : ℕ) → refusal_of (facts_of w) files (Site name disks blocks) ≡ None
         → (step w (MakeSite name disks blocks)).said ≡ Done }
@@ -46,7 +46,7 @@ pub fn tests_agree()
         → (step w (WriteAt (site_number w name) (volume_number (w.nodes (site_number w name)) volume) start bytes None)).said
         ≡ DoneAt ((w.nodes (site_number w name)).safe + 1) }
     ensures read { (w : World) (files : Bool) (name volume : List ℕ) (start count : ℕ) → refusal_of (facts_of w) files (Read name volume start count) ≡ None
-        → IsSized (w.nodes (site_number w name)) → (w.nodes (site_number w name)).role ≡ Primary
+        → IsSized (w.nodes (site_number w name))
         → (step w (ReadAt (site_number w name) (volume_number (w.nodes (site_number w name)) volume) start count)).said
         ≡ Got (joined_blocks (blocks_from (w.nodes (site_number w name)).base (volume_number (w.nodes (site_number w name)) volume) start count)) }
     ensures show { (w : World) (files : Bool) (name volume : List ℕ) (start count : ℕ) → refusal_of (facts_of w) files (Show name volume start count) ≡ None
