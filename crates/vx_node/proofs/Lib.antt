@@ -67,3 +67,5 @@ pub mod RiseBare
 pub mod RiseCases
 pub mod RecoverSite
 pub mod RiseNeeds
+pub mod HeardWorld
+pub mod HeardLine

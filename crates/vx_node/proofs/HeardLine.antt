@@ -1,0 +1,278 @@
+-- A greeting or an acknowledgement that a link hears leads a yard to what the event makes of the world.
+use Rattle.std.proofs.Common.{◌≡◌, ◌∙◌, ◌⊎◌, ⊎_elim, ◌<◌, ℕ, Bool, true, false, List, [], ◌∷◌, length, ap, sym, subst, refl, arith}
+use Rattle.std.specs.Prelude.{Option, Some, None, Result, Ok, Err, slice_get, slice_set, ltb, if◌then◌else◌}
+use Rattle.std.proofs.lemmas.Bool.{cases_eq}
+use Rattle.std.proofs.lemmas.Bool.Decides.{nat_tests}
+use Rattle.vx_model.specs.Sites.{is_origin}
+use Rattle.vx_model.specs.declared.errors.Stop.{Stop}
+use Rattle.vx_model.specs.declared.errors.Stop.TheVariants.{No as StoppedBy, OutOfMemory as NoMemory}
+use Rattle.vx_model.specs.declared.limits.TheConstants.{MOST_SITES}
+use Rattle.vx_model.specs.declared.no.No.{No}
+use Rattle.vx_model.specs.declared.no.No.TheVariants.{Device, Limit, Down as IsOff}
+use Rattle.vx_model.specs.declared.state.KeptLink.{KeptLink}
+use Rattle.vx_history.proofs.Updates.{all_updated}
+use Rattle.vx_history.specs.Doubts.{After, Doubted, happened}
+use Rattle.vx_history.specs.Events.{delivered, packet_at}
+use Rattle.vx_history.specs.Refusals.{Outcome, says}
+use Rattle.vx_history.specs.Steps.{burned, worked_on}
+use Rattle.vx_history.specs.Stops.{IsFused, IsOpen}
+use Rattle.vx_history.specs.World.{Fuse, FuseLit, FuseSet, Link, NoFuse, Node, Packet, World}
+use Rattle.vx_history.specs.declared.event.Event.{Event}
+use Rattle.vx_history.specs.declared.event.Event.TheVariants.{Deliver as DeliverAt}
+use Rattle.vx_history.specs.declared.event.Said.{Said as EventSaid}
+use Rattle.vx_history.specs.declared.event.Said.TheVariants.{Ignored as IsIgnored, Taken as IsTaken}
+use Rattle.vx_order.specs.declared.facts.SiteFacts.{SiteFacts}
+use Rattle.vx_script.specs.declared.line.ScriptLine.TheVariants.{Deliver}
+use Rattle.vx_courier.specs.Together.{AssemblyStands}
+use Rattle.vx_courier.specs.UnderWay.{FlightStands}
+use Rattle.vx_disk.specs.Disks.{Disks}
+use Rattle.vx_disk.specs.declared.shelf.Shelf.{Ghosts}
+use Rattle.vx_net.specs.Flights.{Flying}
+use Rattle.vx_packet.specs.Assemblies.{Assembled}
+use Rattle.vx_peers.specs.Answers.{is_answer}
+use Rattle.vx_diskset.proofs.Roles.{role_like}
+use Rattle.vx_diskset.proofs.Worked.{stands_worked}
+use Rattle.vx_diskset.specs.Asked.{FailsAs, FusedAs, LeavesFuse, size_in}
+use Rattle.vx_diskset.specs.Burning.{Burnt, NoMore}
+use Rattle.vx_diskset.specs.DiskSets.{CrashedAt, halted_at, worked}
+use Rattle.vx_diskset.specs.Fuses.{LeftAs}
+use Rattle.vx_diskset.specs.Holds.{Beside, beside_of, doubt_of, links_of, row_links, state_with}
+use Rattle.vx_diskset.specs.Keeps.{KeptAt}
+use Rattle.vx_diskset.specs.Stands.{KeepsRole, RoleIs, StandsAt}
+use Rattle.vx_diskset.specs.declared.disk_set.DiskSet.{DiskSet}
+use Rattle.vx_effects.proofs.Fitting.{fit_happened}
+use Rattle.vx_effects.proofs.Notes.{burned_twice}
+use Rattle.vx_events.proofs.Places.{never_some, some_same}
+use Rattle.vx_events.specs.Effects.{ChangesNode, EffectAt}
+use Rattle.vx_events.specs.LinkEnds.{LinkEnds, link_noted}
+use Rattle.vx_events.specs.LinkedFacts.{linked_facts}
+use Rattle.vx_events.specs.Sayings.{Repeats}
+use Rattle.vx_events.specs.declared.said.Said.{Said}
+use Rattle.vx_events.specs.declared.said.Said.TheVariants.{Done, Refused}
+use Rattle.vx_joins.specs.Hearings.{StoresAt}
+use Rattle.vx_node.specs.Carries.{Carries}
+use Rattle.vx_node.specs.Happenings.{reply_of}
+use Rattle.vx_node.specs.Headed.{NextFor, behind, noted_by}
+use Rattle.vx_node.specs.Standing.{Leads, StandsFor}
+use Rattle.vx_node.specs.Writes.{noted_facts}
+use Rattle.vx_node.specs.Yards.{IsTold}
+use Rattle.vx_node.specs.declared.yard.Yard.{Yard}
+use Rattle.vx_node.proofs.ApplySite.{calls_keep}
+use Rattle.vx_node.proofs.Carrying.{Feeds, LetsGoBy, SameLoad, carries_on, feeds_like, feeds_same}
+use Rattle.vx_node.proofs.CrashLine.{rose_still}
+use Rattle.vx_node.proofs.CrashSite.{beside_sure}
+use Rattle.vx_node.proofs.FailsStay.{fails_then}
+use Rattle.vx_node.proofs.FuseStays.{fused_on, left_passed}
+use Rattle.vx_node.proofs.HeaderCalls.{Answered, IsHeader, answered_keep, in_doubt}
+use Rattle.vx_node.proofs.HeadedEnds.{IsBehind, headed_ends}
+use Rattle.vx_node.proofs.HeadedWorlds.{noted_effect, worked_twice}
+use Rattle.vx_node.proofs.HeardWorld.{answer_says, heard_effect, heard_header, heard_kept, no_update, row}
+use Rattle.vx_node.proofs.Lists.{get-set_other, get-set_same, length-set}
+use Rattle.vx_node.proofs.NotedYard.{note_one, notes_one, stands_noted, sure_open}
+use Rattle.vx_node.proofs.OneSite.{Changed, role_kept, told_by}
+use Rattle.vx_node.proofs.PartLine.{header_done, header_refused}
+use Rattle.vx_node.proofs.Rows.{row_links_same}
+use Rattle.vx_node.proofs.Turned.{stands_turned}
+use Rattle.vx_node.proofs.UpdateLine.{done_as, noted_at}
+
+-- a fuse that may run out may do so behind a note
+burns_too : (f : Fuse) → IsFused f → IsFused (burned f)
+burns_too NoFuse h = h
+burns_too (FuseSet calls) h = tt
+burns_too (FuseLit most) h = tt
+
+-- what is said of an answer is its reply
+says_so : (v : World) (x : EventSaid) → (x ≡ IsTaken) ⊎ (x ≡ IsIgnored) → Repeats v 0 x (reply_of x)
+says_so v x one = ⊎_elim
+    (λ (is : x ≡ IsTaken). subst (λ (y : EventSaid). Repeats v 0 y (reply_of y)) (sym is) refl)
+    (λ (is : x ≡ IsIgnored). subst (λ (y : EventSaid). Repeats v 0 y (reply_of y)) (sym is) refl) one
+
+halted_noted : (n : Node) (disk : ℕ) → halted_at (worked n) disk ≡ halted_at n disk
+halted_noted n disk = ap (λ (f : Fuse). let m : Node = record n { halted = Some disk; fuse = f } in m) (burned_twice n.fuse)
+
+module _ {R : Type 0} {g : Ghosts R} where
+  -- a refusal of a header at a site whose fuse is noted
+  abbrev Off : Beside → Node → DiskSet R g → Type 0
+  Off beside n e = CrashedAt beside n e
+
+  doubted : (P : Beside → Node → DiskSet R g → Type 0) (beside : Beside) (n : Node) (ls : List KeptLink) (disk : ℕ) (e : DiskSet R g) → P (in_doubt beside n ls disk) (halted_at n disk) e
+      → P (in_doubt beside (worked n) ls disk) (halted_at (worked n) disk) e
+  doubted P beside n ls disk e is =
+      subst (λ (k : Node). P (record { links = beside.links; headers = beside.headers + 1; doubt = Some (record { node = k; links = ls; headers = beside.headers + 1 }) }) k e) (sym (halted_noted n disk)) is
+
+  pub refused_noted : (beside : Beside) (n : Node) (ls : List KeptLink) (old new : DiskSet R g) (why : No) → Answered CrashedAt beside n n ls old new (Err why) → Answered CrashedAt beside (worked n) (worked n) ls old new (Err why)
+  refused_noted beside n ls old new (Device disk) is = (doubted (λ b k e. StandsAt b k e) beside n ls disk new is.0, is.1)
+  refused_noted beside n ls old new (Limit what most) is = (is.0, (is.1.0, stands_worked beside n new is.1.1))
+  refused_noted beside n ls old new IsOff is = (burns_too n.fuse is.0, doubted (λ b k e. CrashedAt b k e) beside n ls 0 new is.1)
+  refused_noted beside n ls old new other is = absurd is
+
+  -- ---- what the yard carries
+
+  -- another thing is in assembly at one site
+  pub carries_heard : (d e : Doubted) (s : ℕ) (a : Assembled) (old new : Yard R g) → ChangesNode s d e → e.world.packets ≡ d.world.packets → new.flight ≡ old.flight → (IsTold new → AssemblyStands e.world.packets s (e.world.gathering s) a)
+      → new.assemblies.items ≡ slice_set old.assemblies.items s a → new.feeders.items ≡ old.feeders.items → Feeds (d.world.nodes s) (e.world.nodes s) → s < MOST_SITES → (IsTold new → IsTold old) → Carries d old → Carries e new
+  carries_heard d e s a old new changes packets flight here assemblies feeders feeds below told carries = record {
+    flight = subst (λ (ps : List Packet). FlightStands ps new.flight) (sym packets) (subst (λ (f : Flying). FlightStands d.world.packets f) (sym flight) carries.flight);
+    places = ap (λ (xs : List Assembled). length xs) assemblies ∙ length-set old.assemblies.items s a ∙ carries.places;
+    assemblies = λ tells i b is. ⊎_elim
+        (λ (same : i ≡ s).
+        let found : a ≡ b = some_same (sym (get-set_same old.assemblies.items s a (omega (arith, below, carries.places))) ∙ ap (λ (k : ℕ). slice_get (slice_set old.assemblies.items s a) k) (sym same) ∙ at i b is) in
+        subst (λ (k : ℕ). AssemblyStands e.world.packets k (e.world.gathering k) b) (sym same) (subst (λ (c : Assembled). AssemblyStands e.world.packets s (e.world.gathering s) c) found (here tells)))
+        (λ apart.
+        subst (λ (ps : List Packet). AssemblyStands ps i (e.world.gathering i) b) (sym packets)
+        (subst (λ o. AssemblyStands d.world.packets i o b) (sym (changes.gathering i apart))
+        (carries.assemblies (told tells) i b (sym (get-set_other old.assemblies.items s i a apart) ∙ at i b is))))
+        (cases_eq i s);
+    numbers = ap (λ (fs : List ℕ). length fs) feeders ∙ carries.numbers;
+    feeders = λ i f is up receives.
+        let was = (feeds_at i).each up receives in
+        carries.feeders i f (sym (ap (λ (fs : List ℕ). slice_get fs i) feeders) ∙ is) was.0 was.1 ∙ sym was.2;
+  }
+    where
+      at : (i : ℕ) (b : Assembled) → slice_get new.assemblies.items i ≡ Some b → slice_get (slice_set old.assemblies.items s a) i ≡ Some b
+      at i b is = sym (ap (λ (xs : List Assembled). slice_get xs i) assemblies) ∙ is
+
+      feeds_at : (i : ℕ) → Feeds (d.world.nodes i) (e.world.nodes i)
+      feeds_at i = ⊎_elim (λ (same : i ≡ s). subst (λ (k : ℕ). Feeds (d.world.nodes k) (e.world.nodes k)) (sym same) feeds) (λ apart. feeds_same (d.world.nodes i) (e.world.nodes i) (changes.nodes i apart)) (cases_eq i s)
+
+  -- it does not look at fuses
+  pub carries_noted : (d : Doubted) (s : ℕ) (y : Yard R g) → Carries d y → Carries (noted_by (note_one s) d) y
+  carries_noted d s y carries = carries_on d (noted_by (note_one s) d) y y carries (record { flight = refl; assemblies = refl; feeders = refl }) refl (λ i. refl) feeds_noted (λ told. told)
+    where
+      feeds_noted : (i : ℕ) → Feeds (d.world.nodes i) (note_one s d.world.nodes i)
+      feeds_noted = all_updated (λ (i : ℕ) (m : Node). Feeds (d.world.nodes i) m) d.world.nodes s (worked (d.world.nodes s)) (feeds_like (d.world.nodes s) (worked (d.world.nodes s)) refl refl refl)
+          (λ i apart. feeds_same (d.world.nodes i) (d.world.nodes i) refl)
+
+  -- ---- the yard behind the call
+
+  module _ (d : Doubted) (number : ℕ) (p : Packet) (at : packet_at d.world.packets number ≡ Some p) (answers : is_answer p.message ≡ true) (old new : Yard R g) (before after : DiskSet R g) (stands : StandsFor d old)
+      (below : p.target < d.world.sites) (changed : Changed old new p.target before after) (keeps : KeepsRole before after) (opens : IsOpen (d.world.nodes p.target)) where
+    abbrev s : ℕ
+    s = p.target
+
+    abbrev n : Node
+    n = d.world.nodes s
+
+    abbrev event : Event
+    event = DeliverAt number
+
+    abbrev o : Outcome
+    o = delivered d.world number (packet_at d.world.packets number)
+
+    abbrev ls : List KeptLink
+    ls = links_of o.world s
+
+    abbrev start : Doubted
+    start = noted_by (note_one s) d
+
+    abbrev to : Doubted
+    to = noted_by (note_one s) (behind d event)
+
+    noted : StandsFor start old
+    noted = stands_noted d old s before stands below changed.there
+
+    role : RoleIs n after
+    role = role_kept d old s before after stands below changed.there keeps
+
+    sure : d.after s ≡ None
+    sure = sure_open d s stands.links opens
+
+    leads_by : {e : Doubted} {fails : List (ℕ × ℕ)} {said : Said} → LinkEnds (IsTold new) d (Deliver number) fails said e → NextFor fails start e old new → Leads d (Deliver number) said old new
+    leads_by {e} {fails} ends next = record {
+      next = e;
+      fails = fails;
+      done = record { ends = ends; counts = tt; works = tt; calls = tt };
+      stands = next.stands;
+      carries = λ carries. next.carries (carries_noted d s old carries);
+      rose = next.rose;
+    }
+
+    -- what the yard has of it, where it is heard
+    pub record Heard (a : Assembled) (said : EventSaid) : Type 0 where
+      pub says : said ≡ o.said
+      pub calls : LeavesFuse NoMore Done before after
+      pub facts : new.facts.items ≡ linked_facts (behind d event).world
+      pub flight : new.flight ≡ old.flight
+      pub assemblies : new.assemblies.items ≡ slice_set old.assemblies.items s a
+      pub feeders : new.feeders.items ≡ old.feeders.items
+      pub exact : IsTold new → AssemblyStands o.world.packets s (o.world.gathering s) a
+
+    module _ (a : Assembled) (said : EventSaid) (h : Heard a said) where
+      carried : {many : ℕ} → EffectAt s d (behind d event) n (row d number p at answers) many (d.after s) d.world.packets (o.world.gathering s) → Carries start old → Carries to new
+      carried f carries =
+          let w = noted_effect (note_one s) s (notes_one s) d (behind d event) f in
+          let was : start.world.nodes s ≡ worked n = (notes_one s).here d.world.nodes in
+          carries_heard start to s a old new w.site w.sent h.flight h.exact h.assemblies h.feeders
+          (subst (λ (m : Node). Feeds m (to.world.nodes s)) (sym was) (subst (λ (m : Node). Feeds (worked n) m) (sym w.is.node) (feeds_same (worked n) (worked n) refl)))
+          (omega (arith, below, stands.disk_sets.few)) (λ told. told_by old new s before after changed told) carries
+
+      ends : LinkEnds (IsTold new) d (Deliver number) [] (reply_of said) to
+      ends =
+          done_as (IsTold new) d number p (reply_of said) said at below (sym h.says)
+          (subst (λ (x : EventSaid). Repeats (behind d event).world 0 x (reply_of x)) (sym h.says) (says_so (behind d event).world o.said (answer_says d number p at answers)))
+
+      -- a header was written
+      wrote : ltb (d.world.links s p.source).stored (o.world.links s p.source).stored ≡ true → StoresAt (beside_of d s) n true ls after → NextFor [] start to old new
+      wrote rises stored =
+          let header : IsHeader d event s n ls (o.world.gathering s) = heard_header d number p at answers rises stands.links opens in
+          header_done (note_one s) s (notes_one s) d event n ls (o.world.gathering s) header old before noted below changed.there new after changed role
+          (subst (λ (k : Node). StandsAt (record { links = ls; headers = d.world.headers s + 1; doubt = None }) k after) (sym (worked_twice n)) stored) h.calls h.facts (carried header.effect)
+
+      -- none was
+      kept : ltb (d.world.links s p.source).stored (o.world.links s p.source).stored ≡ false → StoresAt (beside_of d s) n false ls after → NextFor [] start to old new
+      kept stays stored =
+          let f = heard_effect d number p at answers stays in
+          let w = noted_effect (note_one s) s (notes_one s) d (behind d event) f in
+          let there : worked n ≡ to.world.nodes s = sym w.is.node in
+          let beside : beside_of to s ≡ record { links = ls; headers = d.world.headers s; doubt = None } =
+          beside_sure to s ls (d.world.headers s)
+          (row_links_same (row d number p at answers) (to.world.links s) w.is.links to.world.sites ∙ ap (λ (k : ℕ). row_links (row d number p at answers) k) w.site.sites ∙ heard_kept d number p at answers) w.is.headers (w.is.after ∙ sure) in
+          let stood : StandsAt (record { links = ls; headers = d.world.headers s; doubt = None }) n after =
+          subst (λ (x : Option After). StandsAt (record { links = ls; headers = d.world.headers s; doubt = doubt_of d.world s x }) n after) sure stored in
+          record {
+            stands = stands_turned start to old new s before after noted below changed
+                (record {
+                  changes = w.site;
+                  links = (notes_one s).fits (behind d event) (fit_happened d event false stands.links);
+                  stands = subst (λ (k : Node). StandsAt (beside_of to s) k after) there (subst (λ (b : Beside). StandsAt b (worked n) after) (sym beside) (stands_worked (record { links = ls; headers = d.world.headers s; doubt = None }) n after stood));
+                  failing = subst (λ (k : Node). FailsAs k after) there (fails_then n (worked n) before after refl (calls_keep NoMore Done before after h.calls) (stands.failing s before below changed.there));
+                  fuse = subst (λ (k : Node). FusedAs k after) there
+                      (fused_on (Burnt NoMore Done (size_in before)) n (worked n) (burned n.fuse) before after refl (λ x y burns left. left_passed n.fuse x.fuse y.fuse burns.fuse left) h.calls.told
+                      (stands.fuses s before below changed.there));
+                  role = role_like n (to.world.nodes s) after (ap (λ (k : Node). is_origin k.role) (sym there)) role;
+                })
+                (h.facts ∙ sym ((notes_one s).shows (behind d event).world))
+                (λ b is. absurd (never_some (sym (w.is.after ∙ sure) ∙ is)));
+            carries = carried f;
+            rose = rose_still old new s before after changed.there changed.later changed.disk_sets;
+          }
+
+      by_rose : (b : Bool) → ltb (d.world.links s p.source).stored (o.world.links s p.source).stored ≡ b → StoresAt (beside_of d s) n b ls after → NextFor [] start to old new
+      by_rose true rises stored = wrote rises stored
+      by_rose false stays stored = kept stays stored
+
+      -- it was heard
+      pub heard_leads : StoresAt (beside_of d s) n (ltb (d.world.links s p.source).stored (o.world.links s p.source).stored) ls after → Leads d (Deliver number) (reply_of said) old new
+      heard_leads stored = leads_by ends (by_rose (ltb (d.world.links s p.source).stored (o.world.links s p.source).stored) refl stored)
+
+    -- a header of it was refused
+    pub unheard_leads : (why : No) (said : Said) (x x' : SiteFacts) → said ≡ Refused why → ltb (d.world.links s p.source).stored (o.world.links s p.source).stored ≡ true → KeptAt (beside_of d s) n (state_with n ls) before after (Err why)
+        → LeavesFuse NoMore (Refused why) before after → slice_get old.facts.items s ≡ Some x → x' ≡ noted_facts why x → new.facts.items ≡ slice_set old.facts.items s x' → LetsGoBy why old new s → Leads d (Deliver number) said old new
+    unheard_leads why said x x' says rises is calls shown facts_is facts lets =
+        let header : IsHeader d event s n ls (o.world.gathering s) = heard_header d number p at answers rises stands.links opens in
+        let h = header_refused (note_one s) s (notes_one s) d event n ls (o.world.gathering s) header old before noted below changed.there new after changed role why (Refused why) x x' refl
+        (refused_noted (beside_of d s) n ls before after why (answered_keep CrashedAt (beside_of d s) n (state_with n ls) before after (Err why) is)) calls shown facts_is facts lets in
+        let b : IsBehind d (Deliver number) (note_one s) event s d = record {
+          before = [];
+          rest = [];
+          split = refl;
+          runs = refl;
+          none = refl;
+          opens = opens;
+          writes = header.writes;
+          takes = header.writes;
+          notes = λ v. noted_at d number p v at below;
+          fused = λ f. f;
+        } in
+        let e = headed_ends d (Deliver number) (note_one s) event s d b old new h.0 h.2 in
+        subst (λ (r : Said). Leads d (Deliver number) r old new) (sym says) (leads_by e.ends e.goes)
