@@ -6,7 +6,9 @@ use Rattle.vx_history.specs.declared.event.Event.{Event}
 use Rattle.vx_script.specs.declared.line.ScriptLine.{ScriptLine}
 use Rattle.vx_script.specs.declared.line.ScriptLine.TheVariants.{Link, Settle}
 use Rattle.vx_events.specs.Doubts.{run_as}
+use Rattle.vx_events.specs.Facts.{site_number}
 use Rattle.vx_events.specs.LinkEnds.{AreLeft, link_noted}
+use Rattle.vx_events.specs.LinkFinds.{MovesBetween}
 use Rattle.vx_events.specs.LinkLists.{link_events}
 use Rattle.vx_events.specs.Lists.{Choice, events_of}
 
@@ -38,6 +40,13 @@ pub record DonePart (d : Doubted) (line : ScriptLine) (new : Doubted) : Type 0 w
   pub list : all_events d.world line choice ≡ before ++ rest
   pub stops : MayStop (goes_in_parts line) before
   pub leads : PartLeft line d before new
+
+-- What want of memory leaves of a line. Over disks that tell no contents a link may be settled by updates of whatever blocks were read: then some of
+-- them, and of what answers them, was sent and delivered.
+pub data StopsShort (told : Type 0) (d : Doubted) (line : ScriptLine) (new : Doubted) : Type 0 where
+  StopsInPart : DonePart d line new → StopsShort told d line new
+  StopsBetween : (told → ⊥) → (p s : List ℕ) (middle : Doubted) → line ≡ Settle p s → MovesBetween (site_number d.world p) (site_number d.world s) d middle
+      → AreLeft line d middle new → StopsShort told d line new
 
 abbrev pub part_left : ScriptLine → Doubted → List Event → Doubted
 part_left line d [] = d
