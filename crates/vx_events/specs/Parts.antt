@@ -4,7 +4,7 @@ use Rattle.vx_history.specs.Doubts.{Doubted}
 use Rattle.vx_history.specs.World.{World}
 use Rattle.vx_history.specs.declared.event.Event.{Event}
 use Rattle.vx_script.specs.declared.line.ScriptLine.{ScriptLine}
-use Rattle.vx_script.specs.declared.line.ScriptLine.TheVariants.{Link, Settle}
+use Rattle.vx_script.specs.declared.line.ScriptLine.TheVariants.{Settle}
 use Rattle.vx_events.specs.Doubts.{run_as}
 use Rattle.vx_events.specs.Facts.{site_number}
 use Rattle.vx_events.specs.LinkEnds.{AreLeft, link_noted}
@@ -16,9 +16,8 @@ use Rattle.vx_events.specs.Lists.{Choice, events_of}
 abbrev pub all_events : World → ScriptLine → Choice → List Event
 all_events w line c = events_of w line c ++ link_events w line
 
--- a line that takes memory between its events: one that makes a link, or settles it
+-- a line that takes memory between its events: one that settles a link
 abbrev pub goes_in_parts : ScriptLine → Bool
-goes_in_parts (Link p s sync prot) = true
 goes_in_parts (Settle p s) = true
 goes_in_parts other = false
 
