@@ -18,7 +18,7 @@ ghost use Rattle.vx_events.specs.Facts.{facts_of, site_number, volume_number};
 ghost use Rattle.vx_events.specs.Fails.{Fails};
 ghost use Rattle.vx_events.specs.Lines.{LineStep, is_of_links};
 ghost use Rattle.vx_events.specs.Lists.{Choice};
-ghost use Rattle.vx_events.specs.Parts.{DonePart, first_part, goes_in_parts};
+ghost use Rattle.vx_events.specs.Parts.{DonePart, StopsShort, first_part, goes_in_parts};
 ghost use Rattle.vx_events.specs.Plain.{IsUnlinked, IsSized};
 ghost use Rattle.vx_events.specs.Stopping.{StopsBy};
 ghost use Rattle.vx_events.specs.declared.said.Said.{Said};
@@ -65,8 +65,11 @@ pub fn lines_are_events()
         → StopsBy (is_of_links line) d line fails new }
 {}
 
-/// Where memory runs out within a line that does not go in parts nothing is done; of one that does, any first part of its events may be.
+/// Where memory runs out within a line that does not go in parts nothing is done, whether disks tell their contents or not; of one that does, any first
+/// part of its events may be, and where disks tell their contents nothing else.
 pub fn memory_leaves_a_part()
     ensures none { (d : Doubted) (line : ScriptLine) (new : Doubted) → goes_in_parts line ≡ false → DonePart d line new → new ≡ d }
     ensures any { (d : Doubted) (line : ScriptLine) (c : Choice) (k : ℕ) → goes_in_parts line ≡ true → DonePart d line (first_part d line c k) }
+    ensures short { (d : Doubted) (line : ScriptLine) (new : Doubted) → goes_in_parts line ≡ false → StopsShort ⊥ d line new → new ≡ d }
+    ensures told { (d : Doubted) (line : ScriptLine) (new : Doubted) → StopsShort (Unit {0}) d line new → DonePart d line new }
 {}
