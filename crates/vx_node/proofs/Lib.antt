@@ -46,6 +46,7 @@ pub mod ReceiverLine
 pub mod ShownLine
 pub mod WriteEnds
 pub mod Turned
+pub mod HeaderCalls
 pub mod HeadedWorlds
 pub mod Headed
 pub mod SetLink
