@@ -56,6 +56,9 @@ pub mod SetLine
 pub mod SetNames
 pub mod PartLine
 pub mod LinkParts
+pub mod NotedBoth
+pub mod LinkChain
+pub mod LinkEnding
 pub mod WriteCalls
 pub mod WriteLinks
 pub mod WriteTests

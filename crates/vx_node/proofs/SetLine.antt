@@ -1,7 +1,6 @@
 -- A line that gives a link another setting leads a yard to what its event makes of the world.
 use Rattle.std.proofs.Common.{◌≡◌, ◌∙◌, ◌+◌, ℕ, false, List, [], ◌∷◌, ap, sym, subst, refl}
 use Rattle.std.specs.Prelude.{Some, None, not, slice_get, slice_set, Result, Ok, Err}
-use Rattle.vx_history.proofs.Updates.{all_updated}
 use Rattle.vx_history.specs.Doubts.{Doubted, Runs}
 use Rattle.vx_history.specs.Listed.{HasPlaces}
 use Rattle.vx_history.specs.Refusals.{Outcome, at_site, at_work, unless}
@@ -48,17 +47,16 @@ use Rattle.vx_events.specs.Sayings.{Repeats}
 use Rattle.vx_events.specs.declared.said.Said.{Said}
 use Rattle.vx_events.specs.declared.said.Said.TheVariants.{Done, Refused}
 use Rattle.vx_linked.proofs.PartFacts.{sets}
-use Rattle.vx_node.specs.Carries.{Carries}
 use Rattle.vx_node.specs.Headed.{NextFor, behind, noted_by}
 use Rattle.vx_node.specs.Standing.{Leads, StandsFor}
 use Rattle.vx_node.specs.Working.{IsFree}
 use Rattle.vx_node.specs.Writes.{noted_facts}
 use Rattle.vx_node.specs.Yards.{IsTold, in_files}
 use Rattle.vx_node.specs.declared.yard.Yard.{Yard}
-use Rattle.vx_node.proofs.Carrying.{Feeds, LetsGoBy, SameLoad, carries_on, feeds_like, feeds_same}
+use Rattle.vx_node.proofs.Carrying.{LetsGoBy, SameLoad}
 use Rattle.vx_node.proofs.HeadedEnds.{IsBehind, headed_ends}
 use Rattle.vx_node.proofs.NamedSite.{SiteAt, site_at}
-use Rattle.vx_node.proofs.NotedYard.{note_one, notes_one, stands_noted, sure_open}
+use Rattle.vx_node.proofs.NotedYard.{carries_noted, note_one, notes_one, stands_noted, sure_open}
 use Rattle.vx_node.proofs.OneSite.{Changed}
 use Rattle.vx_node.proofs.PartLine.{IsKeptHeader, kept_done, kept_refused}
 use Rattle.vx_node.proofs.Rows.{row_links_same}
@@ -141,15 +139,6 @@ module _ {R : Type 0} {g : Ghosts R} (d : Doubted) (old : Yard R g) (first secon
       ap (λ (k : ℕ). let es : List Event = SetAt k (site_number w second) sync ∷ [] in es) here.number
       ∙ ap (λ (k : ℕ). let es : List Event = SetAt s k sync ∷ [] in es) there.number
 
-  -- what the yard carries does not look at fuses
-  carried : Carries d old → Carries (noted_by (note_one s) d) old
-  carried carries = carries_on d (noted_by (note_one s) d) old old carries (record { flight = refl; assemblies = refl; feeders = refl }) refl (λ i. refl)
-      (λ i. feeds_noted i) (λ told. told)
-    where
-      feeds_noted : (i : ℕ) → Feeds (w.nodes i) (note_one s w.nodes i)
-      feeds_noted = all_updated (λ (i : ℕ) (m : Node). Feeds (w.nodes i) m) w.nodes s (worked (w.nodes s)) (feeds_like (w.nodes s) (worked (w.nodes s)) refl refl refl)
-          (λ i apart. feeds_same (w.nodes i) (w.nodes i) refl)
-
   -- ---- the call on the disks
 
   pub set_stood : StandsAt (beside_of d s) (worked n) before
@@ -180,7 +169,7 @@ module _ {R : Type 0} {g : Ghosts R} (d : Doubted) (old : Yard R g) (first secon
       fails = fails;
       done = record { ends = ends; counts = tt; works = tt; calls = tt };
       stands = next.stands;
-      carries = λ carries. next.carries (carried carries);
+      carries = λ carries. next.carries (carries_noted d old s carries);
       rose = next.rose;
     }
 

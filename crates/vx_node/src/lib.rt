@@ -17,6 +17,7 @@ mod folder;
 mod fuse;
 pub mod laws;
 mod link;
+mod linking;
 mod links;
 mod load;
 mod make;
