@@ -10,7 +10,6 @@ use Rattle.vx_model.specs.declared.limits.TheConstants.{MOST_SITES}
 use Rattle.vx_model.specs.declared.no.Counted.{Counted}
 use Rattle.vx_model.specs.declared.no.No.{No}
 use Rattle.vx_model.specs.declared.no.No.TheVariants.{Device, Limit, Down as Off}
-use Rattle.vx_model.specs.declared.site.Role.TheVariants.{Primary}
 use Rattle.vx_model.specs.declared.site.SiteState.TheVariants.{Up as IsUp}
 use Rattle.vx_model.specs.declared.state.KeptLink.{KeptLink}
 use Rattle.vx_disk.specs.Disks.{Disks}
@@ -23,7 +22,7 @@ use Rattle.vx_diskset.specs.Burning.{Burnt, NoMore}
 use Rattle.vx_diskset.specs.DiskSets.{CrashedAt, halted_at, worked}
 use Rattle.vx_diskset.specs.Fuses.{LeftAs}
 use Rattle.vx_diskset.specs.Holds.{Beside, Kept, beside_of, itself, links_of, row_links, sure_of}
-use Rattle.vx_diskset.specs.Stands.{StandsAt}
+use Rattle.vx_diskset.specs.Stands.{RoleIs, StandsAt}
 use Rattle.vx_diskset.specs.declared.disk_set.DiskSet.{DiskSet}
 use Rattle.vx_events.proofs.Places.{never_some, some_same}
 use Rattle.vx_events.specs.Effects.{ChangesNode}
@@ -36,6 +35,8 @@ use Rattle.vx_effects.proofs.Facts.{fact_same, facts_at, halted_is}
 use Rattle.vx_effects.proofs.Leaving.{fit_crashed_as, fit_halved}
 use Rattle.vx_effects.proofs.Notes.{burned_twice}
 use Rattle.vx_effects.specs.Facts.{fact_of, halted_fact, halted_group as halted_there}
+use Rattle.vx_diskset.proofs.Roles.{role_like}
+use Rattle.vx_model.specs.Sites.{is_origin}
 use Rattle.vx_node.specs.Carries.{Carries}
 use Rattle.vx_node.specs.Changes.{down_facts, halted_facts, halted_group}
 use Rattle.vx_node.specs.Headed.{CutFor, FullFor, HeadedIs, NextFor, NotesAt, behind, noted_by}
@@ -54,7 +55,7 @@ use Rattle.vx_node.proofs.HeaderCalls.{Answered, IsHeader, in_doubt}
 use Rattle.vx_node.proofs.HeadedWorlds as worlds
 use Rattle.vx_node.proofs.HeadedWorlds.{fused_before, stopped_noted, worked_twice}
 use Rattle.vx_node.proofs.Lists.{get-set_same, set_same}
-use Rattle.vx_node.proofs.OneSite.{Changed, rose_at, told_by}
+use Rattle.vx_node.proofs.OneSite.{Changed, role_off, rose_at, told_by}
 use Rattle.vx_node.proofs.Turned.{stands_turned}
 
 group_halted : (disk : ℕ) (o : Option RvgFacts) → halted_group disk o ≡ halted_there disk o
@@ -78,8 +79,7 @@ down_alike n m a b sites name disks blocks volumes =
     ∙ ap (λ (x : List Volume). down_facts (let y : SiteFacts = record (fact_of m b sites) { name = n.name; disks = n.disks; blocks = n.blocks; volumes = map volume_fact x } in y)) volumes
 
 module _ {R : Type 0} {g : Ghosts R} (note : (ℕ → Node) → ℕ → Node) (s : ℕ) (notes : NotesAt s note) (d : Doubted) (e : Event) (m : Node) (ls : List KeptLink) (gathered : Option Gathering)
-    (h : IsHeader d e s m ls gathered) (old new : Yard R g) (before after : DiskSet R g) (stands : StandsFor (noted_by note d) old) (below : s < d.world.sites) (changed : Changed old new s before after)
-    (led : IsTold new → m.role ≡ Primary) where
+    (h : IsHeader d e s m ls gathered) (old new : Yard R g) (before after : DiskSet R g) (stands : StandsFor (noted_by note d) old) (below : s < d.world.sites) (changed : Changed old new s before after) where
   abbrev n : Node
   n = d.world.nodes s
 
@@ -92,8 +92,9 @@ module _ {R : Type 0} {g : Ghosts R} (note : (ℕ → Node) → ℕ → Node) (s
   here : start.world.nodes s ≡ worked n
   here = notes.here d.world.nodes
 
-  primary : IsTold new → n.role ≡ Primary
-  primary told = sym (ap (λ (k : Node). k.role) here) ∙ (stands.primaries (told_then told)).each s
+  -- of a node of the same role
+  kind_of : (k : Node) → k.role ≡ n.role → RoleIs k after
+  kind_of k same = role_like (start.world.nodes s) k after (ap is_origin (same ∙ sym (ap (λ (m : Node). m.role) here))) (role_kept start old s before after stands below changed.there keeps)
 
   stood : StandsAt (beside_of d s) (worked n) before
   stood = subst (λ (k : Node). StandsAt (beside_of d s) k before) here (stands.disk_sets.sites s before below changed.there)
@@ -170,6 +171,7 @@ module _ {R : Type 0} {g : Ghosts R} (note : (ℕ → Node) → ℕ → Node) (s
                   (subst (λ (k : Node). StandsAt (in_doubt (beside_of d s) (worked m) ls disk) k after) (stopped_noted n disk) is.0));
               failing = subst (λ (k : Node). FailsAs k after) there (fails_still (stopped n disk) (Refused (Device disk)) refl calls);
               fuse = subst (λ (k : Node). FusedAs k after) there (fuse_still (stopped n disk) (Refused (Device disk)) refl (λ x y burns. burns) calls);
+              role = subst (λ (k : Node). RoleIs k after) there (kind_of (stopped n disk) refl);
             })
             (noted_there (Device disk) x x' at noted facts
             ∙ ap (λ (o : Option RvgFacts). slice_set (linked_facts start.world) s (let y : SiteFacts = record (linked_fact start.world s) { rvg = o } in y)) (group_halted disk (linked_fact start.world s).rvg)
@@ -177,7 +179,6 @@ module _ {R : Type 0} {g : Ghosts R} (note : (ℕ → Node) → ℕ → Node) (s
             (ap (λ (k : Node). halted_fact disk (fact_of k (d.world.links s) d.world.sites)) here
             ∙ sym (halted_is (worked n) (d.world.links s) d.world.sites disk) ∙ ap (λ (k : Node). fact_of k (d.world.links s) d.world.sites) (stopped_noted n disk))
             ∙ sym (facts_there start to s (stopped n disk) (d.world.links s) w.site below w.is.node w.is.links))
-            (λ told. sym (ap (λ (k : Node). k.role) there) ∙ primary told)
             (λ a some.
             let same : may_be d e s disk ≡ a = some_same (sym w.is.after ∙ some) in
             subst (λ (b : After). IsSameSite (IsTold new) (to.world.nodes s) b.node) same
@@ -203,6 +204,7 @@ module _ {R : Type 0} {g : Ghosts R} (note : (ℕ → Node) → ℕ → Node) (s
                 stands = subst (λ (k : Node). StandsAt (beside_of d s) k after) (sym here) is.2;
                 failing = subst (λ (k : Node). FailsAs k after) (sym here) (fails_still (worked n) (Refused (Limit what most)) refl calls);
                 fuse = subst (λ (k : Node). FusedAs k after) (sym here) (fuse_still (worked n) (Refused (Limit what most)) refl (λ x y burns. burns) calls);
+                role = role_kept start old s before after stands below changed.there keeps;
               })
               (facts ∙ ap (slice_set old.facts.items s) noted ∙ set_same old.facts.items s x at ∙ stands.facts)
               (λ told. (stands.primaries (told_then told)).each s)
@@ -241,6 +243,7 @@ module _ {R : Type 0} {g : Ghosts R} (note : (ℕ → Node) → ℕ → Node) (s
                         (subst (λ (b : Beside). StandsAt b (crashed k count) after) (sym (worlds.fell_beside note s notes d e m h.row ls gathered h.effect h.kept h.sure count taken k links ks node_is row_is links_are least most)) stood_there);
                     failing = subst (λ (q : Node). FailsAs q after) there (fails_still (crashed k count) (Refused Off) failing calls);
                     fuse = subst (λ (q : Node). FusedAs q after) there (fused_none (crashed k count) after refl);
+                    role = role_off (record { links = ls; headers = d.world.headers s + 1; doubt = None }) (crashed k count) (to.world.nodes s) after stood_there (λ is_up. down_up is_up);
                   })
                   (noted_there Off x x' at noted facts
                   ∙ ap (λ (q : Node). slice_set (linked_facts start.world) s (down_facts (fact_of q (d.world.links s) d.world.sites))) here

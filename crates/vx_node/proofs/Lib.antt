@@ -13,6 +13,7 @@ pub mod FuseLine
 pub mod FuseStays
 pub mod IntoRacks
 pub mod Kept
+pub mod Leading
 pub mod LinkLines
 pub mod Lists
 pub mod NamedSite
@@ -27,6 +28,7 @@ pub mod RawTable
 pub mod ReadLine
 pub mod RecoverLine
 pub mod Replies
+pub mod Rooms
 pub mod Rows
 pub mod Seats
 pub mod SentText
