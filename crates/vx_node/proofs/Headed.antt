@@ -92,10 +92,6 @@ module _ {R : Type 0} {g : Ghosts R} (note : (ℕ → Node) → ℕ → Node) (s
   here : start.world.nodes s ≡ worked n
   here = notes.here d.world.nodes
 
-  -- of a node of the same role
-  kind_of : (k : Node) → k.role ≡ n.role → RoleIs k after
-  kind_of k same = role_like (start.world.nodes s) k after (ap is_origin (same ∙ sym (ap (λ (m : Node). m.role) here))) (role_kept start old s before after stands below changed.there keeps)
-
   stood : StandsAt (beside_of d s) (worked n) before
   stood = subst (λ (k : Node). StandsAt (beside_of d s) k before) here (stands.disk_sets.sites s before below changed.there)
 
@@ -118,9 +114,9 @@ module _ {R : Type 0} {g : Ghosts R} (note : (ℕ → Node) → ℕ → Node) (s
 
   -- ---- it is done
 
-  pub headed_done : Answered CrashedAt (beside_of d s) (worked n) (worked m) ls before after (Ok tt) → LeavesFuse NoMore Done before after → new.facts.items ≡ linked_facts (behind d e).world
+  pub headed_done : RoleIs m after → Answered CrashedAt (beside_of d s) (worked n) (worked m) ls before after (Ok tt) → LeavesFuse NoMore Done before after → new.facts.items ≡ linked_facts (behind d e).world
       → (Carries start old → Carries (noted_by note (behind d e)) new) → NextFor [] start (noted_by note (behind d e)) old new
-  headed_done is calls facts carries =
+  headed_done kind is calls facts carries =
       let w = worlds.done_effect note s notes d e m h.row ls gathered h.effect h.kept h.sure in
       let to : Doubted = noted_by note (behind d e) in
       let there : worked m ≡ to.world.nodes s = sym w.is.node in
@@ -134,9 +130,9 @@ module _ {R : Type 0} {g : Ghosts R} (note : (ℕ → Node) → ℕ → Node) (s
                   (subst (λ (k : Node). StandsAt (record { links = ls; headers = d.world.headers s + 1; doubt = None }) k after) (worked_twice m) is));
               failing = subst (λ (k : Node). FailsAs k after) there (fails_still (worked m) Done h.like.failing calls);
               fuse = subst (λ (k : Node). FusedAs k after) there (fuse_still (worked m) Done (ap burned h.like.fuse) (λ x y burns. burns) calls);
+              role = subst (λ (k : Node). RoleIs k after) there (role_like m (worked m) after refl kind);
             })
             (facts ∙ sym (notes.shows (behind d e).world))
-            (λ told. sym (ap (λ (k : Node). k.role) there) ∙ led told)
             (λ a is. absurd (never_some (sym (w.is.after ∙ h.sure) ∙ is)));
         carries = carries;
         rose = rose_still old new s before after changed.there changed.later changed.disk_sets;
@@ -153,10 +149,10 @@ module _ {R : Type 0} {g : Ghosts R} (note : (ℕ → Node) → ℕ → Node) (s
       facts ∙ ap (λ (fs : List SiteFacts). slice_set fs s x') stands.facts ∙ ap (slice_set (linked_facts start.world) s) (is ∙ ap (noted_facts why) same)
 
   -- a disk failed in it
-  pub headed_halts : (disk : ℕ) (x x' : SiteFacts) → Answered CrashedAt (beside_of d s) (worked n) (worked m) ls before after (Err (Device disk)) → LeavesFuse NoMore (Refused (Device disk)) before after
+  pub headed_halts : RoleIs n after → (disk : ℕ) (x x' : SiteFacts) → Answered CrashedAt (beside_of d s) (worked n) (worked m) ls before after (Err (Device disk)) → LeavesFuse NoMore (Refused (Device disk)) before after
       → slice_get old.facts.items s ≡ Some x → x' ≡ halted_facts disk x → new.facts.items ≡ slice_set old.facts.items s x' → SameLoad old new
       → NextFor ((s, disk) ∷ []) start (noted_by note (halved d e s disk)) old new
-  headed_halts disk x x' is calls at noted facts load =
+  headed_halts kind disk x x' is calls at noted facts load =
       let w = worlds.halted_effect note s notes d e m h.row ls gathered h.effect h.kept h.sure disk in
       let to : Doubted = noted_by note (halved d e s disk) in
       let there : stopped n disk ≡ to.world.nodes s = sym w.is.node in
@@ -171,7 +167,7 @@ module _ {R : Type 0} {g : Ghosts R} (note : (ℕ → Node) → ℕ → Node) (s
                   (subst (λ (k : Node). StandsAt (in_doubt (beside_of d s) (worked m) ls disk) k after) (stopped_noted n disk) is.0));
               failing = subst (λ (k : Node). FailsAs k after) there (fails_still (stopped n disk) (Refused (Device disk)) refl calls);
               fuse = subst (λ (k : Node). FusedAs k after) there (fuse_still (stopped n disk) (Refused (Device disk)) refl (λ x y burns. burns) calls);
-              role = subst (λ (k : Node). RoleIs k after) there (kind_of (stopped n disk) refl);
+              role = subst (λ (k : Node). RoleIs k after) there (role_like n (stopped n disk) after refl kind);
             })
             (noted_there (Device disk) x x' at noted facts
             ∙ ap (λ (o : Option RvgFacts). slice_set (linked_facts start.world) s (let y : SiteFacts = record (linked_fact start.world s) { rvg = o } in y)) (group_halted disk (linked_fact start.world s).rvg)
@@ -181,18 +177,18 @@ module _ {R : Type 0} {g : Ghosts R} (note : (ℕ → Node) → ℕ → Node) (s
             ∙ sym (facts_there start to s (stopped n disk) (d.world.links s) w.site below w.is.node w.is.links))
             (λ a some.
             let same : may_be d e s disk ≡ a = some_same (sym w.is.after ∙ some) in
-            subst (λ (b : After). IsSameSite (IsTold new) (to.world.nodes s) b.node) same
-            (subst (λ (k : Node). IsSameSite (IsTold new) k (may_be d e s disk).node) there
-            (subst (λ (k : Node). IsSameSite (IsTold new) (stopped n disk) k) (sym may) (record { name = h.like.name; disks = h.like.disks; blocks = h.like.blocks; volumes = h.like.volumes; role = led }))));
+            subst (λ (b : After). IsSameSite (to.world.nodes s) b.node) same
+            (subst (λ (k : Node). IsSameSite k (may_be d e s disk).node) there
+            (subst (λ (k : Node). IsSameSite (stopped n disk) k) (sym may) (record { name = h.like.name; disks = h.like.disks; blocks = h.like.blocks; volumes = h.like.volumes }))));
         carries = carries_node s start to (stopped n disk) old new load w.site w.sent w.gathering w.is.node (sym (ap (λ (k : Node). k.state) here)) (sym (ap (λ (k : Node). k.role) here))
             (sym (ap (λ (k : Node). k.fed_by) here)) told_then;
         rose = rose_at old new s disk before after changed is.1;
       }
 
   -- no number is left for it
-  pub headed_full : (what : Counted) (most : ℕ) (x x' : SiteFacts) → Answered CrashedAt (beside_of d s) (worked n) (worked m) ls before after (Err (Limit what most)) → LeavesFuse NoMore (Refused (Limit what most)) before after
+  pub headed_full : RoleIs n after → (what : Counted) (most : ℕ) (x x' : SiteFacts) → Answered CrashedAt (beside_of d s) (worked n) (worked m) ls before after (Err (Limit what most)) → LeavesFuse NoMore (Refused (Limit what most)) before after
       → slice_get old.facts.items s ≡ Some x → x' ≡ x → new.facts.items ≡ slice_set old.facts.items s x' → SameLoad old new → FullFor note d s (Limit what most) old new
-  headed_full what most x x' is calls at noted facts load =
+  headed_full kind what most x x' is calls at noted facts load =
       record {
         is = is.0;
         least = λ told. is.1 (told.each s after (ap (λ es. slice_get es s) changed.disk_sets ∙ get-set_same old.disk_sets.items s after (worlds.within old.disk_sets.items s before changed.there)));
@@ -204,10 +200,9 @@ module _ {R : Type 0} {g : Ghosts R} (note : (ℕ → Node) → ℕ → Node) (s
                 stands = subst (λ (k : Node). StandsAt (beside_of d s) k after) (sym here) is.2;
                 failing = subst (λ (k : Node). FailsAs k after) (sym here) (fails_still (worked n) (Refused (Limit what most)) refl calls);
                 fuse = subst (λ (k : Node). FusedAs k after) (sym here) (fuse_still (worked n) (Refused (Limit what most)) refl (λ x y burns. burns) calls);
-                role = role_kept start old s before after stands below changed.there keeps;
+                role = role_like n (start.world.nodes s) after (ap (λ (k : Node). is_origin k.role) here) kind;
               })
               (facts ∙ ap (slice_set old.facts.items s) noted ∙ set_same old.facts.items s x at ∙ stands.facts)
-              (λ told. (stands.primaries (told_then told)).each s)
               (λ a some. absurd (never_some (sym h.sure ∙ some)));
           carries = carries_same start old new load told_then;
           rose = rose_still old new s before after changed.there changed.later changed.disk_sets;
@@ -222,9 +217,9 @@ module _ {R : Type 0} {g : Ghosts R} (note : (ℕ → Node) → ℕ → Node) (s
     where
       by : (count : ℕ) (taken : Bool) (k : Node) (links : ℕ → Link) (ks : List KeptLink) (node_is : (resolved_at (halved d e s 0) s taken).world.nodes s ≡ k)
           (row_is : (j : ℕ) → (resolved_at (halved d e s 0) s taken).world.links s j ≡ links j) (links_are : row_links links d.world.sites ≡ ks) (least : k.safe ≤ count) (most : count ≤ length k.log)
-          → k.state ≡ IsUp → k.failing ≡ n.failing → (IsTold new → k.role ≡ Primary) → down_facts (fact_of k links d.world.sites) ≡ down_facts (fact_of n links d.world.sites)
+          → k.state ≡ IsUp → k.failing ≡ n.failing → down_facts (fact_of k links d.world.sites) ≡ down_facts (fact_of n links d.world.sites)
           → StandsAt (record { links = ks; headers = d.world.headers s + 1; doubt = None }) (crashed k count) after → CutFor note d e s old new
-      by count taken k links ks node_is row_is links_are least most up failing led shown stood_there =
+      by count taken k links ks node_is row_is links_are least most up failing shown stood_there =
           let to : Doubted = noted_by note (crashed_as (halved d e s 0) s count taken) in
           let changes = worlds.fell_changes note s notes d e m h.row ls gathered h.effect h.kept h.sure count taken k links ks node_is row_is links_are least most in
           let node = worlds.fell_node note s notes d e m h.row ls gathered h.effect h.kept h.sure count taken k links ks node_is row_is links_are least most in
@@ -243,13 +238,12 @@ module _ {R : Type 0} {g : Ghosts R} (note : (ℕ → Node) → ℕ → Node) (s
                         (subst (λ (b : Beside). StandsAt b (crashed k count) after) (sym (worlds.fell_beside note s notes d e m h.row ls gathered h.effect h.kept h.sure count taken k links ks node_is row_is links_are least most)) stood_there);
                     failing = subst (λ (q : Node). FailsAs q after) there (fails_still (crashed k count) (Refused Off) failing calls);
                     fuse = subst (λ (q : Node). FusedAs q after) there (fused_none (crashed k count) after refl);
-                    role = role_off (record { links = ls; headers = d.world.headers s + 1; doubt = None }) (crashed k count) (to.world.nodes s) after stood_there (λ is_up. down_up is_up);
+                    role = role_off (record { links = ks; headers = d.world.headers s + 1; doubt = None }) (crashed k count) (to.world.nodes s) after stood_there (λ is_up. down_up is_up);
                   })
                   (noted_there Off x x' at noted facts
                   ∙ ap (λ (q : Node). slice_set (linked_facts start.world) s (down_facts (fact_of q (d.world.links s) d.world.sites))) here
                   ∙ ap (slice_set (linked_facts start.world) s) (sym shown)
                   ∙ sym (facts_there start to s (crashed k count) (to.world.links s) changes below node (λ j. refl)))
-                  (λ told. sym (ap (λ (q : Node). q.role) there) ∙ led told)
                   (λ a some. absurd (never_some (sym (worlds.fell_sure note s notes d e m h.row ls gathered h.effect h.kept h.sure count taken k links ks node_is row_is links_are least most) ∙ some)));
               carries = carries_let s start to old new lets small changes (worlds.fell_sent note s notes d e m h.row ls gathered h.effect h.kept h.sure count taken k links ks node_is row_is links_are least most)
                   (worlds.fell_gathering note s notes d e m h.row ls gathered h.effect h.kept h.sure count taken k links ks node_is row_is links_are least most) (λ is_up. down_up (sym (ap (λ (q : Node). q.state) node) ∙ is_up)) told_then;
@@ -262,21 +256,21 @@ module _ {R : Type 0} {g : Ghosts R} (note : (ℕ → Node) → ℕ → Node) (s
       itself_by q own =
           subst (λ (y : Kept). (count : ℕ) → y.node.safe ≤ count → count ≤ length y.node.log → StandsAt (sure_of y) (crashed y.node count) after → CutFor note d e s old new) (sym own)
           (λ count least most stood_there.
-          by count false (stopped n 0) (d.world.links s) (links_of d.world s) (worlds.own_node note s notes d e m h.row ls gathered h.effect h.kept h.sure) (λ j. refl) refl least most h.opens.0 refl (λ told. primary told) refl stood_there)
+          by count false (stopped n 0) (d.world.links s) (links_of d.world s) (worlds.own_node note s notes d e m h.row ls gathered h.effect h.kept h.sure) (λ j. refl) refl least most h.opens.0 refl refl stood_there)
 
       doubt_by : (q : Kept) → (in_doubt (beside_of d s) (worked m) ls 0).doubt ≡ Some q → (count : ℕ) → q.node.safe ≤ count → count ≤ length q.node.log → StandsAt (sure_of q) (crashed q.node count) after → CutFor note d e s old new
       doubt_by q other =
           subst (λ (y : Kept). (count : ℕ) → y.node.safe ≤ count → count ≤ length y.node.log → StandsAt (sure_of y) (crashed y.node count) after → CutFor note d e s old new) (some_same other)
           (λ count least most stood_there.
-          by count true (stopped m 0) h.row ls (worlds.other_node note s notes d e m h.row ls gathered h.effect h.kept h.sure) (worlds.other_row note s notes d e m h.row ls gathered h.effect h.kept h.sure) h.kept least most (h.like.state ∙ h.opens.0) h.like.failing led
+          by count true (stopped m 0) h.row ls (worlds.other_node note s notes d e m h.row ls gathered h.effect h.kept h.sure) (worlds.other_row note s notes d e m h.row ls gathered h.effect h.kept h.sure) h.kept least most (h.like.state ∙ h.opens.0) h.like.failing
           (down_alike n (stopped m 0) (d.world.links s) h.row d.world.sites h.like.name h.like.disks h.like.blocks h.like.volumes) stood_there)
 
   -- by what was answered
-  pub headed_refused : (why : No) (x x' : SiteFacts) → Answered CrashedAt (beside_of d s) (worked n) (worked m) ls before after (Err why) → LeavesFuse NoMore (Refused why) before after → slice_get old.facts.items s ≡ Some x
+  pub headed_refused : RoleIs n after → (why : No) (x x' : SiteFacts) → Answered CrashedAt (beside_of d s) (worked n) (worked m) ls before after (Err why) → LeavesFuse NoMore (Refused why) before after → slice_get old.facts.items s ≡ Some x
       → x' ≡ noted_facts why x → new.facts.items ≡ slice_set old.facts.items s x' → LetsGoBy why old new s → HeadedIs note d e s old new (Err why)
-  headed_refused (Device disk) x x' is calls at noted facts lets =
-      headed_halts disk x x' is calls at noted facts (record { flight = lets.flight; assemblies = lets.assemblies; feeders = lets.feeders })
-  headed_refused (Limit what most) x x' is calls at noted facts lets =
-      headed_full what most x x' is calls at noted facts (record { flight = lets.flight; assemblies = lets.assemblies; feeders = lets.feeders })
-  headed_refused Off x x' is calls at noted facts lets = headed_cut x x' is calls at noted facts (record { flight = lets.flight; assemblies = lets.assemblies; feeders = lets.feeders })
-  headed_refused other x x' is calls at noted facts lets = absurd is
+  headed_refused kind (Device disk) x x' is calls at noted facts lets =
+      headed_halts kind disk x x' is calls at noted facts (record { flight = lets.flight; assemblies = lets.assemblies; feeders = lets.feeders })
+  headed_refused kind (Limit what most) x x' is calls at noted facts lets =
+      headed_full kind what most x x' is calls at noted facts (record { flight = lets.flight; assemblies = lets.assemblies; feeders = lets.feeders })
+  headed_refused kind Off x x' is calls at noted facts lets = headed_cut x x' is calls at noted facts (record { flight = lets.flight; assemblies = lets.assemblies; feeders = lets.feeders })
+  headed_refused kind other x x' is calls at noted facts lets = absurd is
