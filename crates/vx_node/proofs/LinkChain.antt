@@ -103,28 +103,28 @@ module _ (d : Doubted) (p s : ℕ) (sync : SyncMode) (fit : LinksFit d) (said : 
 
   -- ---- the worlds
 
-  abbrev pub joins : Event
+  abbrev joins : Event
   joins = LinkAt p s sync Joins
 
-  abbrev pub makes : Event
+  abbrev makes : Event
   makes = LinkAt p s sync Made
 
-  abbrev pub marks : Event
+  abbrev marks : Event
   marks = LinkAt p s sync Marked
 
-  abbrev pub opens : Event
+  abbrev opens : Event
   opens = LinkAt p s sync Opened
 
-  abbrev pub one : Doubted
+  abbrev one : Doubted
   one = behind d joins
 
-  abbrev pub two : Doubted
+  abbrev two : Doubted
   two = behind one makes
 
-  abbrev pub three : Doubted
+  abbrev three : Doubted
   three = behind two marks
 
-  abbrev pub four : Doubted
+  abbrev four : Doubted
   four = behind three opens
 
   pub said_two : (step one.world makes).said ≡ IsDone
