@@ -61,6 +61,9 @@ pub mod LinkParts
 pub mod NotedBoth
 pub mod LinkChain
 pub mod LinkEnding
+pub mod StatesAre
+pub mod AllDurable
+pub mod LinkNames
 pub mod WriteCalls
 pub mod WriteLinks
 pub mod WriteTests
