@@ -135,8 +135,8 @@ module _ {R : Type 0} {g : Ghosts R} where
     abbrev marks : Event
     marks = LinkAt p s sync Marked
 
-    abbrev opens : Event
-    opens = LinkAt p s sync Opened
+    abbrev opening : Event
+    opening = LinkAt p s sync Opened
 
     abbrev one : Doubted
     one = behind d joins
@@ -148,7 +148,7 @@ module _ {R : Type 0} {g : Ghosts R} where
     three = behind two marks
 
     abbrev four : Doubted
-    four = behind three opens
+    four = behind three opening
 
     -- the yard stands so far behind the first parts
     abbrev pub Comes : Doubted → Yard R g → Type 0
@@ -167,7 +167,7 @@ module _ {R : Type 0} {g : Ghosts R} where
         ends_by joins s d
         (record {
           before = [];
-          rest = makes ∷ marks ∷ opens ∷ [];
+          rest = makes ∷ marks ∷ opening ∷ [];
           split = numbers;
           runs = refl;
           none = refl;
@@ -195,7 +195,7 @@ module _ {R : Type 0} {g : Ghosts R} where
         ends_by makes p one
         (record {
           before = joins ∷ [];
-          rest = marks ∷ opens ∷ [];
+          rest = marks ∷ opening ∷ [];
           split = numbers;
           runs = (false, refl);
           none = refl;
@@ -222,7 +222,7 @@ module _ {R : Type 0} {g : Ghosts R} where
         ends_by marks s two
         (record {
           before = joins ∷ makes ∷ [];
-          rest = opens ∷ [];
+          rest = opening ∷ [];
           split = numbers;
           runs = (false, (false, refl));
           none = refl;
@@ -236,7 +236,7 @@ module _ {R : Type 0} {g : Ghosts R} where
 
     -- ---- the link goes by the log
 
-    called_four : (mid new : Yard R g) (result : Result (Unit {0}) Said) → Comes three mid → HeadsOpened p s sync states mid new result → HeadedSo note three opens p mid new result
+    called_four : (mid new : Yard R g) (result : Result (Unit {0}) Said) → Comes three mid → HeadsOpened p s sync states mid new result → HeadedSo note three opening p mid new result
     called_four mid new result before call =
         call three note (notes_both p s p (inl refl)) before.stands (chain.fit_three d p s sync fit l.said) (chain.below_three d p s sync fit l.said p l.below)
         (ap (λ (n : Node). n.safe) (chain.first_three d p s sync fit l.said) ∙ sym l.are.last) (chain.said_four d p s sync fit l.said)
@@ -244,7 +244,7 @@ module _ {R : Type 0} {g : Ghosts R} where
 
     pub ends_four : (mid new : Yard R g) (said : Said) → Comes three mid → HeadsOpened p s sync states mid new (Err said) → Leads d line said old new
     ends_four mid new said before call =
-        ends_by opens p three
+        ends_by opening p three
         (record {
           before = joins ∷ makes ∷ marks ∷ [];
           rest = [];
