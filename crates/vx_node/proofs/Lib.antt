@@ -13,6 +13,7 @@ pub mod FuseLine
 pub mod FuseStays
 pub mod IntoRacks
 pub mod Kept
+pub mod Leading
 pub mod LinkLines
 pub mod Lists
 pub mod NamedSite
@@ -27,6 +28,7 @@ pub mod RawTable
 pub mod ReadLine
 pub mod RecoverLine
 pub mod Replies
+pub mod Rooms
 pub mod Rows
 pub mod Seats
 pub mod SentText
@@ -46,6 +48,7 @@ pub mod ReceiverLine
 pub mod ShownLine
 pub mod WriteEnds
 pub mod Turned
+pub mod HeaderCalls
 pub mod HeadedWorlds
 pub mod Headed
 pub mod SetLink
@@ -55,6 +58,12 @@ pub mod SetLine
 pub mod SetNames
 pub mod PartLine
 pub mod LinkParts
+pub mod NotedBoth
+pub mod LinkChain
+pub mod LinkEnding
+pub mod StatesAre
+pub mod AllDurable
+pub mod LinkNames
 pub mod WriteCalls
 pub mod WriteLinks
 pub mod WriteTests

@@ -9,7 +9,7 @@ use Rattle.vx_courier.specs.UnderWay.{FlightStands}
 use Rattle.vx_disk.specs.declared.shelf.Shelf.{Ghosts}
 use Rattle.vx_diskset.specs.Asked.{FailsAs, FusedAs}
 use Rattle.vx_diskset.specs.Holds.{Beside, Kept, beside_of, doubt_of, links_of}
-use Rattle.vx_diskset.specs.Stands.{StandsAt}
+use Rattle.vx_diskset.specs.Stands.{RoleIs, StandsAt}
 use Rattle.vx_diskset.specs.declared.disk_set.DiskSet.{DiskSet}
 use Rattle.vx_effects.proofs.Fitting.{fit_happened}
 use Rattle.vx_events.proofs.LinkWaiting.{wait_agrees}
@@ -163,8 +163,9 @@ module _ {R : Type 0} {g : Ghosts R} where
     facts = facts;
     disk_sets = subst (λ es. SitesAgree (record d { world = v }) es) (sym same) (sites_kept d v old.disk_sets.items stands.disk_sets left);
     links = fits;
-    primaries = λ told. record {
-      each = λ s. ap (λ (n : Node). n.role) (left.nodes s) ∙ (stands.primaries (ap_told told)).each s;
+    roles = record {
+      each = λ s e inside is.
+          subst (λ (n : Node). RoleIs n e) (sym (left.nodes s)) (stands.roles.each s e (omega (arith, inside, left.sites)) (sym (ap (λ es. slice_get es s) same) ∙ is));
     };
     doubts = λ s a is.
         let was = stands.doubts s a is in
@@ -173,7 +174,6 @@ module _ {R : Type 0} {g : Ghosts R} where
           disks = was.disks ∙ ap (λ (n : Node). n.disks) (sym (left.nodes s));
           blocks = was.blocks ∙ ap (λ (n : Node). n.blocks) (sym (left.nodes s));
           volumes = was.volumes ∙ ap (λ (n : Node). n.volumes) (sym (left.nodes s));
-          role = λ told. was.role (ap_told told);
         };
     failing = λ s e inside is.
         subst (λ (n : Node). FailsAs n e) (sym (left.nodes s)) (stands.failing s e (omega (arith, inside, left.sites)) (sym (ap (λ es. slice_get es s) same) ∙ is));
@@ -185,9 +185,6 @@ module _ {R : Type 0} {g : Ghosts R} where
     where
       same : new.disk_sets.items ≡ old.disk_sets.items
       same = ap (λ es. es.items) relinks.disk_sets
-
-      ap_told : IsTold new → IsTold old
-      ap_told told = subst (λ es. AreTold es) same told
 
   relinked_disks : (old new : Yard R g) → Relinks old new → new.disk_sets.items ≡ old.disk_sets.items
   relinked_disks old new relinks = ap (λ es. es.items) relinks.disk_sets

@@ -1,5 +1,5 @@
 -- What a line leaves that sends on a link, of disks that tell their contents.
-use Rattle.std.proofs.Common.{◌≡◌, ◌∙◌, inl, inr, ◌<◌, ℕ, zero, suc, List, [], ◌∷◌, length, false, ap, sym, subst, refl}
+use Rattle.std.proofs.Common.{◌≡◌, ◌∙◌, inl, inr, ◌<◌, ℕ, zero, suc, List, [], ◌∷◌, length, false, true, ap, sym, subst, refl}
 use Rattle.std.specs.Prelude.{Option, Some, None, Result, Err, slice_get}
 use Rattle.vx_disk.specs.Disks.{Untouched}
 use Rattle.vx_disk.specs.declared.shelf.Shelf.{Ghosts}
@@ -7,7 +7,7 @@ use Rattle.vx_diskset.specs.Asked.{LeavesAlone}
 use Rattle.vx_diskset.specs.Fuses.{LeftAs}
 use Rattle.vx_diskset.specs.Holds.{Beside, beside_of, links_of}
 use Rattle.vx_diskset.specs.Pumps.{PumpedIs}
-use Rattle.vx_diskset.specs.Stands.{StandsAt, faults_at}
+use Rattle.vx_diskset.specs.Stands.{KeepsRole, StandsAt, faults_at}
 use Rattle.vx_diskset.specs.declared.disk_set.DiskSet.{DiskSet}
 use Rattle.vx_effects.proofs.Fitting.{fit_happened}
 use Rattle.vx_events.specs.Facts.{seat_of, site_number}
@@ -40,6 +40,7 @@ use Rattle.vx_model.specs.declared.errors.Stop.{Stop}
 use Rattle.vx_model.specs.declared.errors.Stop.TheVariants.{No as RefusedSo, OutOfMemory as MemoryStop}
 use Rattle.vx_model.specs.declared.link.Link.{Link as PlainLink}
 use Rattle.vx_model.specs.declared.no.No.TheVariants.{Device}
+use Rattle.vx_model.specs.Sites.{is_origin}
 use Rattle.vx_model.specs.declared.site.SiteState.TheVariants.{Up}
 use Rattle.vx_net.specs.Flights.{Flying}
 use Rattle.vx_order.specs.declared.facts.LinkFacts.{LinkFacts}
@@ -59,7 +60,7 @@ use Rattle.vx_node.proofs.FuseStays.{fused_on}
 use Rattle.vx_node.proofs.LinkLines.{Relinks, carries_kept, listed, stands_kept, stays_as}
 use Rattle.vx_node.proofs.NamedSite.{SiteAt, site_at}
 use Rattle.vx_node.proofs.NoteSite.{comes_same}
-use Rattle.vx_node.proofs.OneSite.{Changed, rose_at, stands_still}
+use Rattle.vx_node.proofs.OneSite.{Changed, role_kept, rose_at, stands_still}
 
 -- a link that is one stands among those that the header keeps
 among_kept : (row : ℕ → Link) (s : ℕ) (ss : List ℕ) → IsAmong s ss → (k : ℕ) × (slice_get (kept_links row ss) k ≡ Some (kept_link s (row s)))
@@ -96,6 +97,7 @@ module _ {R : Type 0} {g : Ghosts R} where
     pub seat : SiteAt d y p here
     pub up : (d.world.nodes here).state ≡ Up
     pub running : (d.world.nodes here).halted ≡ None
+    pub origin : is_origin (d.world.nodes here).role ≡ true
     pub to : link.site ≡ site_number d.world s
     pub link_is : link ≡ plain_link link.site (d.world.links here link.site)
     pub place : ℕ
@@ -120,6 +122,7 @@ module _ {R : Type 0} {g : Ghosts R} where
         seat = seat;
         up = subst (λ (k : ℕ). (w.nodes k).state ≡ Up) seat.number on.up;
         running = subst (λ (k : ℕ). (w.nodes k).halted ≡ None) seat.number on.running;
+        origin = subst (λ (k : ℕ). is_origin (w.nodes k).role ≡ true) seat.number (stands.links.starts a b on.linked);
         to = to;
         link_is = plain ∙ ap (λ (k : ℕ). plain_link k (w.links a k)) (sym to) ∙ ap (λ (k : ℕ). plain_link l.link.site (w.links k l.link.site)) seat.number;
         place = place.0;
@@ -143,13 +146,14 @@ module _ {R : Type 0} {g : Ghosts R} where
     pub feeders : new.feeders ≡ old.feeders
 
   module _ (d : Doubted) (old new : Yard R g) (s : ℕ) (before after : DiskSet R g) (stands : StandsFor d old) (carries : Carries d old) (below : s < d.world.sites) (changed : Changed old new s before after)
-      (alone : LeavesAlone before after) (on : (beside : Beside) (n : Node) → StandsAt beside n before → StandsAt beside n after) (rests : Rests old new) (told : IsTold new → IsTold old) where
+      (alone : LeavesAlone before after) (on : (beside : Beside) (n : Node) → StandsAt beside n before → StandsAt beside n after) (keeps : KeepsRole before after) (rests : Rests old new) (told : IsTold new → IsTold old) where
     middle_stands : StandsFor d (between old new)
     middle_stands =
         let n : Node = d.world.nodes s in
         stands_still d d old (between old new) s before after stands below (record { there = changed.there; later = changed.later; disk_sets = changed.disk_sets; racks = changed.racks })
         (comes_same d s after stands.links (on (beside_of d s) n (stands.disk_sets.sites s before below changed.there))
-        (fails_then n n before after refl (alone_keeps before after alone) (stands.failing s before below changed.there)) (fused_on Untouched n n n.fuse before after refl (λ x y same left. subst (λ (z : Option (ℕ × ℕ)). LeftAs n.fuse z) (sym same.fuse) left) alone.told (stands.fuses s before below changed.there))) refl refl
+        (fails_then n n before after refl (alone_keeps before after alone) (stands.failing s before below changed.there)) (fused_on Untouched n n n.fuse before after refl (λ x y same left. subst (λ (z : Option (ℕ × ℕ)). LeftAs n.fuse z) (sym same.fuse) left) alone.told (stands.fuses s before below changed.there))
+        (role_kept d old s before after stands below changed.there keeps)) refl refl
 
     middle_carries : Carries d (between old new)
     middle_carries = record {

@@ -17,7 +17,7 @@ use Rattle.vx_courier.specs.UnderWay.{FlightStands}
 use Rattle.vx_disk.specs.declared.shelf.Shelf.{Ghosts}
 use Rattle.vx_diskset.specs.Asked.{FailsAs, FusedAs}
 use Rattle.vx_diskset.specs.Holds.{Beside, beside_of, row_links, state_with}
-use Rattle.vx_diskset.specs.Stands.{IsToldAt, StandsAt}
+use Rattle.vx_diskset.specs.Stands.{IsToldAt, RoleIs, StandsAt}
 use Rattle.vx_diskset.specs.declared.disk_set.DiskSet.{DiskSet}
 use Rattle.vx_history.specs.Doubts.{After, Doubted}
 use Rattle.vx_history.specs.Events.{linked_sites, log_blocks, recovery_greeting}
@@ -161,7 +161,7 @@ module _ {R : Type 0} {g : Ghosts R} where
     pub stands : StandsAt (record { links = row_links row mid.world.sites; headers = mid.world.headers s; doubt = None }) k after
     pub failing : FailsAs k after
     pub fuse : FusedAs k after
-    pub role : IsToldAt after → (mid.world.nodes s).role ≡ Primary → k.role ≡ Primary
+    pub role : RoleIs k after
 
   module _ (mid e : Doubted) (old new : Yard R g) (s ring : ℕ) (k : Node) (row : ℕ → Link) (f : SiteFacts) (state : State) (used : List ℕ) (before after : DiskSet R g)
       (stands : StandsFor mid old) (below : s < mid.world.sites) (changed : Changed old new s before after) (up : ComesUp mid e s ring k row after) (sees : SeesDisks k f)
@@ -179,8 +179,8 @@ module _ {R : Type 0} {g : Ghosts R} where
               up.stands);
           failing = subst (λ (n : Node). FailsAs n after) (sym up.effect.is.node) up.failing;
           fuse = subst (λ (n : Node). FusedAs n after) (sym up.effect.is.node) up.fuse;
-          role = λ T was here_told told primary. ap (λ (n : Node). n.role) up.effect.is.node ∙ up.role (here_told told) primary;
-          doubt = λ T was a there. absurd (never_some (sym up.effect.is.after ∙ there));
+          role = subst (λ (n : Node). RoleIs n after) (sym up.effect.is.node) up.role;
+          doubt = λ was a there. absurd (never_some (sym up.effect.is.after ∙ there));
         }
 
     pub up_stands : new.facts.items ≡ slice_set old.facts.items s (risen_facts state k.safe ring used f) → StandsFor e new

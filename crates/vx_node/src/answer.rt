@@ -81,7 +81,7 @@ impl<R: Rack> Yard<R> {
                 let room = filled(alloc, *count, 0)?;
                 Ok(self.show_line(site, volume, *block, *count, room))
             }
-            ScriptLine::Apply { site, count } => Ok(self.apply_line(alloc, site, *count)),
+            ScriptLine::Apply { site, count } => self.apply_line(alloc, site, *count),
             ScriptLine::Status { site } => self.status_line(alloc, site),
             // A line that is not built.
             _ => unreachable!(),

@@ -18,6 +18,7 @@ mod fuse;
 mod hearing;
 pub mod laws;
 mod link;
+mod linking;
 mod links;
 mod load;
 mod make;

@@ -1,5 +1,5 @@
 -- Each case of a part that marks a site.
-use Rattle.std.proofs.Common.{◌∙◌, ◌<◌, List, refl, subst, sym}
+use Rattle.std.proofs.Common.{◌∙◌, ◌<◌, List, refl, subst, sym, ap}
 use Rattle.std.specs.Prelude.{length}
 use Rattle.std.proofs.lemmas.List.{with_items_is}
 use Rattle.vx_order.specs.declared.facts.SiteFacts.{SiteFacts}
@@ -9,7 +9,7 @@ use Rattle.vx_events.specs.declared.said.Said.TheVariants.{Done, Refused}
 use Rattle.vx_node.proofs.ApplySite.{calls_keep}
 use Rattle.vx_node.proofs.ChangeSite.{told_before}
 use Rattle.vx_node.proofs.LinkParts.{marked_header}
-use Rattle.vx_node.proofs.Lists.{get_at}
+use Rattle.vx_node.proofs.Lists.{get_at, length-set}
 use Rattle.vx_node.proofs.PartLine.{part_done, part_refused}
 use Rattle.vx_node.proofs.yard.Yard.mark_site.Goals as goal
 
@@ -33,7 +33,7 @@ returns-in-Ok-clause-heads g c = λ d note here sync notes stands fit below said
     let before = c.index_mut.result.now in
     let at = get_at old.disk_sets.items s before c.requires.disk_set c.index_mut.ensures.value in
     let shown = c.deref_mut.ensures.value ∙ stands.facts ∙ notes.shows d.world in
-    part_done note s notes d _ _ (marked_header d here c.args.there sync fit said) old before stands below at _ c.keep.new.self (record { there = at; later = c.in-Ok.ensures.later; disk_sets = refl; racks = refl }) c.args.state.now is
+    part_done note s notes d _ _ (marked_header d here c.args.there sync fit said) old before stands below at _ c.keep.new.self (record { there = at; later = c.in-Ok.ensures.later; disk_sets = refl; racks = refl }) c.in-Ok.ensures.role c.args.state.now is
     (λ beside m stood can. c.in-Ok.ensures.kept beside m stood can) (λ beside m stood. c.in-Ok.ensures.called beside m stood)
     (with_items_is old.facts c.keep_marked.new.sites (c.keep_marked.auto.sites ∙ c.deref_mut.ensures.len) ∙ c.keep_marked.ensures.world d.world here sync shown said)
     (record { flight = refl; assemblies = refl; feeders = refl })
@@ -44,7 +44,7 @@ returns-in-Err-clause-heads g c = λ d note here sync notes stands fit below sai
     let s = c.args.there in
     let before = c.index_mut.result.now in
     let at = get_at old.disk_sets.items s before c.requires.disk_set c.index_mut.ensures.value in
-    part_refused note s notes d _ _ (marked_header d here c.args.there sync fit said) old before stands below at _ c.keep.new.self (record { there = at; later = c.in-Err.ensures.later; disk_sets = refl; racks = refl }) c.args.state.now is
+    part_refused note s notes d _ _ (marked_header d here c.args.there sync fit said) old before stands below at _ c.keep.new.self (record { there = at; later = c.in-Err.ensures.later; disk_sets = refl; racks = refl }) c.in-Err.ensures.role c.args.state.now is
     c.in-Err.no c.refused.result c.index_mut-in-Err.result.now c.refused.new.facts c.refused.ensures.said
     (λ beside m stood can. c.in-Err.ensures.kept beside m stood can) (λ beside m stood. c.in-Err.ensures.called beside m stood)
     (get_at old.facts.items s c.index_mut-in-Err.result.now c.requires.facts c.index_mut-in-Err.ensures.value) c.refused.ensures.noted refl
@@ -77,3 +77,17 @@ returns-in-Err-clause-asked g c = λ d stands below.
       disk_sets = refl;
       did = calls_keep NoMore (Refused c.in-Err.no) before c.keep.new.self (c.in-Err.ensures.called (beside_of d s) (d.world.nodes s) (stands.disk_sets.sites s before below at));
     }
+
+pub returns-in-Ok-clause-many : goal.returns-in-Ok-clause-many
+returns-in-Ok-clause-many g c =
+    let same = c.keep_marked.auto.sites ∙ c.deref_mut.ensures.len in
+    ap (λ (fs : List SiteFacts). length fs) (with_items_is c.args.self.now.facts c.keep_marked.new.sites same) ∙ same
+
+pub returns-in-Err-clause-many : goal.returns-in-Err-clause-many
+returns-in-Err-clause-many g c = length-set c.args.self.now.facts.items c.args.there c.refused.new.facts
+
+pub returns-in-Ok-clause-disk_sets : goal.returns-in-Ok-clause-disk_sets
+returns-in-Ok-clause-disk_sets g c = length-set c.args.self.now.disk_sets.items c.args.there c.keep.new.self
+
+pub returns-in-Err-clause-disk_sets : goal.returns-in-Err-clause-disk_sets
+returns-in-Err-clause-disk_sets g c = length-set c.args.self.now.disk_sets.items c.args.there c.keep.new.self

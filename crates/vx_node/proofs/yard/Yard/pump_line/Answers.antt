@@ -1,8 +1,6 @@
-use Rattle.std.proofs.Common.{◌≡◌, ◌∙◌, ap, refl, subst, sym}
+use Rattle.std.proofs.Common.{◌≡◌, ◌∙◌, refl, subst, sym}
 use Rattle.std.specs.Prelude.{None}
 use Rattle.std.proofs.lemmas.List.{with_items_is}
-use Rattle.vx_model.specs.Sites.{is_origin}
-use Rattle.vx_model.specs.declared.site.Role.{Role}
 use Rattle.vx_order.specs.Order.{refusal_of}
 use Rattle.vx_script.specs.declared.line.ScriptLine.TheVariants.{Pump}
 use Rattle.vx_linked.proofs.Finding.{found, pump_tested, seat_found}
@@ -51,8 +49,8 @@ returns-in-Ok-clause-leads g c = λ d stands carries told.
     let p = pumping d old c.args.first.now c.args.second.now s c.deref.result.now c.link_named.result stands c.requires.free c.site_of-here.ensures.seat c.deref.ensures.value c.link_named.ensures.link
     (subst (λ fs. Found fs c.args.first.now c.args.second.now) (sym c.deref.ensures.value) there) in
     let moved = moved_named d old c.args.first.now c.args.second.now s c.link_named.result.link c.pump.new.link c.pump.new.flight p
-    (c.in-Ok.ensures.pumped d p.place (stands.disk_sets.sites s before p.seat.below at) (ap (λ (role : Role). is_origin role) ((stands.primaries told).each s)) p.up p.running (told.each s before at) p.kept p.link_is carries.flight) in
-    pump_brings d old _ s before c.pump.new.self stands carries p.seat.below (record { there = at; later = c.in-Ok.ensures.later; disk_sets = refl; racks = refl }) c.in-Ok.ensures.still c.in-Ok.ensures.stands
+    (c.in-Ok.ensures.pumped d p.place (stands.disk_sets.sites s before p.seat.below at) p.origin p.up p.running (told.each s before at) p.kept p.link_is carries.flight) in
+    pump_brings d old _ s before c.pump.new.self stands carries p.seat.below (record { there = at; later = c.in-Ok.ensures.later; disk_sets = refl; racks = refl }) c.in-Ok.ensures.still c.in-Ok.ensures.stands c.in-Ok.ensures.role
     (record { assemblies = refl; feeders = refl }) (told_before es s before c.pump.new.self at c.in-Ok.ensures.later) c.args.first.now c.args.second.now c.keep_pumped.new.sites
     (c.keep_pumped.ensures.world d.world c.pump.new.flight (c.deref_mut.ensures.value ∙ stands.facts) moved.link moved.flight)
     (with_items_is old.facts c.keep_pumped.new.sites (c.keep_pumped.auto.sites ∙ c.deref_mut.ensures.len))
@@ -67,7 +65,7 @@ returns-in-Err-clause-leads g c = λ d stands carries told.
     let there = found old.facts.items c.args.first.now c.args.second.now (pump_tested old.facts.items c.args.first.now c.args.second.now (in_files old, c.requires.free)) in
     let p = pumping d old c.args.first.now c.args.second.now s c.deref.result.now c.link_named.result stands c.requires.free c.site_of-here.ensures.seat c.deref.ensures.value c.link_named.ensures.link
     (subst (λ fs. Found fs c.args.first.now c.args.second.now) (sym c.deref.ensures.value) there) in
-    pump_stops d old _ s before c.pump.new.self stands carries p.seat.below (record { there = at; later = c.in-Err.ensures.later; disk_sets = refl; racks = refl }) c.in-Err.ensures.still c.in-Err.ensures.stands
+    pump_stops d old _ s before c.pump.new.self stands carries p.seat.below (record { there = at; later = c.in-Err.ensures.later; disk_sets = refl; racks = refl }) c.in-Err.ensures.still c.in-Err.ensures.stands c.in-Err.ensures.role
     (record { assemblies = refl; feeders = refl }) (told_before es s before c.pump.new.self at c.in-Err.ensures.later) c.args.first.now c.args.second.now c.link_named.result.link c.pump.new.link c.pump.new.flight
-    c.in-Err.stop c.stopped.result (c.in-Err.ensures.pumped d p.place (stands.disk_sets.sites s before p.seat.below at) (ap (λ (role : Role). is_origin role) ((stands.primaries told).each s)) p.up p.running (told.each s before at) p.kept p.link_is carries.flight) c.stopped.ensures
+    c.in-Err.stop c.stopped.result (c.in-Err.ensures.pumped d p.place (stands.disk_sets.sites s before p.seat.below at) p.origin p.up p.running (told.each s before at) p.kept p.link_is carries.flight) c.stopped.ensures
     p.seat.number refl refl c.in-Err.ensures.unsent
