@@ -6,6 +6,7 @@ use Rattle.std.specs.List.{find}
 use Rattle.std.specs.Prelude.{Option, Some, None, drop, not, ◌&&◌, ◌||◌, eqb, slice_get, slice_index_or, slice_set, if◌then◌else◌}
 use Rattle.vx_model.specs.Content.{Write}
 use Rattle.vx_model.specs.Sites.{first_line, is_origin, same_line}
+use Rattle.vx_model.specs.declared.history.Line.{Line}
 use Rattle.vx_model.specs.declared.link.Link.{Link as PlainLink}
 use Rattle.vx_model.specs.declared.link.Prot.TheVariants.{Fail}
 use Rattle.vx_model.specs.declared.link.SyncMode.{SyncMode}
@@ -45,7 +46,7 @@ use Rattle.vx_effects.proofs.Tests
 use Rattle.vx_effects.specs.Facts.{fact_of, marked_fact}
 use Rattle.vx_effects.specs.LinkParts.{further_fact, joined_fact}
 use Rattle.vx_linked.specs.Making.{fresh_link, kept_each, opened_link}
-use Rattle.vx_linked.specs.Tables.{fact_between, leads_to, link_of}
+use Rattle.vx_linked.specs.Tables.{HasLinksOf, fact_between, leads_to, link_of}
 use Rattle.vx_linked.proofs.Heard.{among_found, site_shown}
 use Rattle.vx_linked.proofs.Loops.{got}
 
@@ -69,6 +70,17 @@ put_site w sites s d new g facts below inside is =
     ap (λ (fs : List SiteFacts). slice_set fs s new) facts ∙ ap (slice_set (linked_facts w) s) (is ∙ ap g (site_of w sites s d facts below inside))
 
 -- ---- a site that joins
+
+-- the links of all sites stay
+pub joined_links : (line parent : Line) (sites : List SiteFacts) (s : ℕ) (d new : SiteFacts) → s < length sites → new ≡ joined_fact line parent (slice_index_or sites s d)
+    → (k : ℕ) (site : SiteFacts) → slice_get (slice_set sites s new) k ≡ Some site → HasLinksOf sites k site
+joined_links line parent [] s d new inside is k site there = absurd (omega (arith, inside))
+joined_links line parent (f ∷ fs) zero d new inside is zero site there = record { other = f; there = refl; links = ap (λ (x : SiteFacts). x.links) (sym (some_same there) ∙ is) }
+joined_links line parent (f ∷ fs) zero d new inside is (suc k) site there = record { other = site; there = there; links = refl }
+joined_links line parent (f ∷ fs) (suc s) d new inside is zero site there = record { other = site; there = there; links = refl }
+joined_links line parent (f ∷ fs) (suc s) d new inside is (suc k) site there =
+    let rest = joined_links line parent fs s d new (omega (arith, inside)) is k site there in
+    record { other = rest.other; there = rest.there; links = rest.links }
 
 below_none : (n : ℕ) (test : ℕ → Bool) → some_below n test ≡ false → (k : ℕ) → k < n → test k ≡ false
 below_none zero test none k less = absurd (omega (arith, less))

@@ -77,15 +77,16 @@ module _ (w : World) (from to : List ℕ) (free : IsFree (linked_facts w) (PumpL
       let r2 = next live paused up r1 in
       on ∙ up ∙ peel l.paused Paused w o r2
 
-  pub pump_comes : (new : List SiteFacts) (k : PlainLink) (f : Flying) → Relinked from to k (linked_facts w) new → k ≡ plain_link b ((link_event w a b Pump).links a b) → FlightStands (link_event w a b Pump).packets f
-      → ComesTo w (PumpAt a b) new f
-  pump_comes new k f t is flight =
+  pub pump_facts : (new : List SiteFacts) (k : PlainLink) → Relinked from to k (linked_facts w) new → k ≡ plain_link b ((link_event w a b Pump).links a b) → new ≡ linked_facts (link_event w a b Pump)
+  pump_facts new k t is =
       let up = (on_link w from to (pump_tested (linked_facts w) from to free)).up in
       let plain : k ≡ plain_link b next_link = is ∙ ap (plain_link b) link_is in
-      let facts : new ≡ linked_facts (link_event w a b Pump)
-      = t.new_is
+      t.new_is
       ∙ ap (λ (x : LinkFacts). relinked (linked_facts w) t.at.here t.at.site t.at.place (record x { link = k })) (link_there w from to t.at up)
       ∙ ap (λ (j : PlainLink). relinked (linked_facts w) t.at.here t.at.site t.at.place (let x : LinkFacts = record { link = j; used = needed_by n b l } in x)) plain
       ∙ ap (λ (u : ℕ). relinked (linked_facts w) t.at.here t.at.site t.at.place (let x : LinkFacts = record { link = plain_link b next_link; used = u } in x)) (sym used_same)
-      ∙ relinked_is w from to t.at up next_link refl in
-      comes w (PumpAt a b) new f (done (link_event w a b Pump)) outcome_is refl facts flight
+      ∙ relinked_is w from to t.at up next_link refl
+
+  pub pump_comes : (new : List SiteFacts) (k : PlainLink) (f : Flying) → Relinked from to k (linked_facts w) new → k ≡ plain_link b ((link_event w a b Pump).links a b) → FlightStands (link_event w a b Pump).packets f
+      → ComesTo w (PumpAt a b) new f
+  pump_comes new k f t is flight = comes w (PumpAt a b) new f (done (link_event w a b Pump)) outcome_is refl (pump_facts new k t is) flight

@@ -40,6 +40,11 @@ pub fn keep_pumped(sites: &mut [SiteFacts], from: &Name, to: &Name, link: &Link)
         ((link_event w (site_number w from.now) (site_number w to.now) PumpLink).links (site_number w from.now) (site_number w to.now))
         → FlightStands (link_event w (site_number w from.now) (site_number w to.now) PumpLink).packets f
         → ComesTo w (PumpAt (site_number w from.now) (site_number w to.now)) sites.new f }
+    // Whatever was sent.
+    ensures facts { (w : World) → sites.old ≡ linked_facts w
+        → link.now ≡ plain_link (site_number w to.now)
+        ((link_event w (site_number w from.now) (site_number w to.now) PumpLink).links (site_number w from.now) (site_number w to.now))
+        → sites.new ≡ linked_facts (link_event w (site_number w from.now) (site_number w to.now) PumpLink) }
 {
     relink(sites, from, to, link);
 }
