@@ -104,16 +104,20 @@ below_none (suc m) test none k less = by (eqb k m) (λ e. same e) (λ e. below_n
     by b yes_so no_so = ⊎_elim yes_so no_so (cases_eq k m)
 
 module _ (w : World) (p s : ℕ) (sync : SyncMode) where
-  fresh_row : (step w (LinkAt p s sync Joins)).said ≡ Done → (k : ℕ) → k < w.sites → is_linked (w.links s k) ≡ false
-  fresh_row said =
+  -- the second site is a primary that logged nothing and has no links
+  pub joins_fresh : (step w (LinkAt p s sync Joins)).said ≡ Done → is_fresh w s ≡ true
+  joins_fresh said =
       let may : may_link w p s ≡ true = (joins_done w p s sync said).0 in
       let first : Bool = same_line (w.nodes p).line (first_line p) in
       let r1 = and_right (is_primary (w.nodes p).role) (not (eqb s p) && (is_empty (w.nodes p).log && (first && is_fresh w s))) may in
       let r2 = and_right (not (eqb s p)) (is_empty (w.nodes p).log && (first && is_fresh w s)) r1 in
       let r3 = and_right (is_empty (w.nodes p).log) (first && is_fresh w s) r2 in
-      let fresh : is_fresh w s ≡ true = and_right first (is_fresh w s) r3 in
+      and_right first (is_fresh w s) r3
+
+  pub fresh_row : (step w (LinkAt p s sync Joins)).said ≡ Done → (k : ℕ) → k < w.sites → is_linked (w.links s k) ≡ false
+  fresh_row said =
       let none : Bool = not (some_below w.sites (λ k. is_linked (w.links s k))) in
-      let r4 = and_right (is_primary (w.nodes s).role) (is_empty (w.nodes s).log && none) fresh in
+      let r4 = and_right (is_primary (w.nodes s).role) (is_empty (w.nodes s).log && none) (joins_fresh said) in
       let r5 : none ≡ true = and_right (is_empty (w.nodes s).log) none r4 in
       below_none w.sites (λ k. is_linked (w.links s k)) (is_false (some_below w.sites (λ k. is_linked (w.links s k))) r5)
     where
