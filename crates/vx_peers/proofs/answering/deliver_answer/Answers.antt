@@ -10,7 +10,6 @@ use Rattle.vx_peers.proofs.Found.{never_none, never_other, read_so}
 use Rattle.vx_peers.proofs.Hears.{event_for, event_is, ignored_so, message_is, never_empty, not_taken, part_ignored, part_taken, same_value, step_is, taken_so}
 use Rattle.vx_peers.proofs.answering.deliver_answer.Goals as goal
 
-
 pub returns-in_default-clause-exact : goal.returns-in_default-clause-exact
 returns-in_default-clause-exact g c = λ w p site at target answers one flight listens link stands.
     absurd (never_none w.packets c.args.number p at (g.N.Net.flying c.args.flight.now) flight c.in_default.ensures.packet)
