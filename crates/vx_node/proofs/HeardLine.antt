@@ -1,8 +1,9 @@
 -- A greeting or an acknowledgement that a link hears leads a yard to what the event makes of the world.
-use Rattle.std.proofs.Common.{◌≡◌, ◌∙◌, ◌⊎◌, ⊎_elim, ◌<◌, ℕ, Bool, true, false, List, [], ◌∷◌, length, ap, sym, subst, refl, arith}
+use Rattle.std.proofs.Common.{◌≡◌, ◌∙◌, ◌⊎◌, ⊎_elim, ◌+◌, ◌<◌, ◌≤◌, ℕ, Bool, true, false, List, [], ◌∷◌, ◌++◌, length, ap, sym, subst, refl, arith}
 use Rattle.std.specs.Prelude.{Option, Some, None, Result, Ok, Err, slice_get, slice_set, ltb, if◌then◌else◌}
-use Rattle.std.proofs.lemmas.Bool.{cases_eq}
+use Rattle.std.proofs.lemmas.Bool.{cases_eq, cases_lt}
 use Rattle.std.proofs.lemmas.Bool.Decides.{nat_tests}
+use Rattle.std.proofs.lemmas.List.{append-nil}
 use Rattle.vx_model.specs.Sites.{is_origin}
 use Rattle.vx_model.specs.declared.errors.Stop.{Stop}
 use Rattle.vx_model.specs.declared.errors.Stop.TheVariants.{No as StoppedBy, OutOfMemory as NoMemory}
@@ -12,8 +13,10 @@ use Rattle.vx_model.specs.declared.no.No.TheVariants.{Device, Limit, Down as IsO
 use Rattle.vx_model.specs.declared.state.KeptLink.{KeptLink}
 use Rattle.vx_history.proofs.Updates.{all_updated}
 use Rattle.vx_history.specs.Doubts.{After, Doubted, happened}
-use Rattle.vx_history.specs.Events.{delivered, packet_at}
+use Rattle.vx_history.specs.Events.{delivered, handed, packet_at}
+use Rattle.vx_history.specs.Headers.{heard_headers}
 use Rattle.vx_history.specs.Refusals.{Outcome, says}
+use Rattle.vx_history.specs.Step.{counted, step}
 use Rattle.vx_history.specs.Steps.{burned, worked_on}
 use Rattle.vx_history.specs.Stops.{IsFused, IsOpen}
 use Rattle.vx_history.specs.World.{Fuse, FuseLit, FuseSet, Link, NoFuse, Node, Packet, World}
@@ -40,25 +43,31 @@ use Rattle.vx_diskset.specs.Holds.{Beside, beside_of, doubt_of, links_of, row_li
 use Rattle.vx_diskset.specs.Keeps.{KeptAt}
 use Rattle.vx_diskset.specs.Stands.{KeepsRole, RoleIs, StandsAt}
 use Rattle.vx_diskset.specs.declared.disk_set.DiskSet.{DiskSet}
+use Rattle.vx_effects.proofs.Answers.{deaf_stays, source_stays, target_stays}
 use Rattle.vx_effects.proofs.Fitting.{fit_happened}
+use Rattle.vx_effects.proofs.Leaving.{fit_worked}
+use Rattle.vx_effects.proofs.Packets.{no_header}
 use Rattle.vx_effects.proofs.Notes.{burned_twice}
 use Rattle.vx_events.proofs.Places.{never_some, some_same}
 use Rattle.vx_events.specs.Effects.{ChangesNode, EffectAt}
-use Rattle.vx_events.specs.LinkEnds.{LinkEnds, link_noted}
+use Rattle.vx_events.specs.LinkEnds.{LinkEnds, LinksDone, link_noted, target_noted}
 use Rattle.vx_events.specs.LinkedFacts.{linked_facts}
+use Rattle.vx_events.specs.LinksFit.{LinksFit}
 use Rattle.vx_events.specs.Sayings.{Repeats}
 use Rattle.vx_events.specs.declared.said.Said.{Said}
-use Rattle.vx_events.specs.declared.said.Said.TheVariants.{Done, Refused}
+use Rattle.vx_events.specs.declared.said.Said.TheVariants.{Done, Ignored, Refused}
 use Rattle.vx_joins.specs.Hearings.{StoresAt}
+use Rattle.vx_linked.specs.Disks.{LeavesDisks}
 use Rattle.vx_node.specs.Carries.{Carries}
 use Rattle.vx_node.specs.Happenings.{reply_of}
 use Rattle.vx_node.specs.Headed.{NextFor, behind, noted_by}
-use Rattle.vx_node.specs.Standing.{Leads, StandsFor}
+use Rattle.vx_node.specs.Standing.{Leads, StandsFor, StaysFor}
 use Rattle.vx_node.specs.Writes.{noted_facts}
-use Rattle.vx_node.specs.Yards.{IsTold}
+use Rattle.vx_node.specs.Yards.{IsTold, count_of}
 use Rattle.vx_node.specs.declared.yard.Yard.{Yard}
 use Rattle.vx_node.proofs.ApplySite.{calls_keep}
 use Rattle.vx_node.proofs.Carrying.{Feeds, LetsGoBy, SameLoad, carries_on, feeds_like, feeds_same}
+use Rattle.vx_node.proofs.ChangeSite.{rose_none}
 use Rattle.vx_node.proofs.CrashLine.{rose_still}
 use Rattle.vx_node.proofs.CrashSite.{beside_sure}
 use Rattle.vx_node.proofs.FailsStay.{fails_then}
@@ -67,6 +76,7 @@ use Rattle.vx_node.proofs.HeaderCalls.{Answered, IsHeader, answered_keep, in_dou
 use Rattle.vx_node.proofs.HeadedEnds.{IsBehind, headed_ends}
 use Rattle.vx_node.proofs.HeadedWorlds.{noted_effect, worked_twice}
 use Rattle.vx_node.proofs.HeardWorld.{answer_says, heard_effect, heard_header, heard_kept, no_update, row}
+use Rattle.vx_node.proofs.LinkLines.{Relinks, carries_kept, stands_kept}
 use Rattle.vx_node.proofs.Lists.{get-set_other, get-set_same, length-set}
 use Rattle.vx_node.proofs.NotedYard.{note_one, notes_one, stands_noted, sure_open}
 use Rattle.vx_node.proofs.OneSite.{Changed, role_kept, told_by}
@@ -90,11 +100,31 @@ says_so v x one = ⊎_elim
 halted_noted : (n : Node) (disk : ℕ) → halted_at (worked n) disk ≡ halted_at n disk
 halted_noted n disk = ap (λ (f : Fuse). let m : Node = record n { halted = Some disk; fuse = f } in m) (burned_twice n.fuse)
 
+-- no header is written of what nobody hears
+none_heard : (w : World) (i : ℕ) (q : Option Packet) → heard_headers w w i q ≡ 0
+none_heard w i None = refl
+none_heard w i (Some p) = no_header w w i p refl
+
+none_more : (w : World) (i : ℕ) (q : Option Packet) → w.headers i + heard_headers w w i q ≡ w.headers i
+none_more w i q = let zero = none_heard w i q in omega (arith, zero)
+
+-- what is sent to no site notes nothing
+unnoted : (d : Doubted) (number : ℕ) (p : Packet) (v : World) → packet_at d.world.packets number ≡ Some p → d.world.sites ≤ p.target → link_noted d.world (Deliver number) v ≡ v
+unnoted d number p v at past =
+    ap (λ (o : Option Packet). target_noted d.world.sites o v) at ∙ ap (λ (b : Bool). if b then worked_on v p.target else v) (not_below p.target d.world.sites past)
+  where
+    not_below : (a b : ℕ) → b ≤ a → ltb a b ≡ false
+    not_below a b past = grind (arith, nat_tests)
+
+-- no link hears it: its source is no site, or the target does not listen
+pub deaf_to : (d : Doubted) (number : ℕ) (p : Packet) → packet_at d.world.packets number ≡ Some p → is_answer p.message ≡ true → LinksFit d → (p.source < d.world.sites → handed d.world p ≡ says d.world IsIgnored)
+    → delivered d.world number (packet_at d.world.packets number) ≡ says d.world IsIgnored
+deaf_to d number p at answers fits deaf = ⊎_elim
+    (λ (small : p.source < d.world.sites). deaf_stays d.world number p at (deaf small))
+    (λ (past : d.world.sites ≤ p.source). source_stays d number p fits at (no_update d number p at answers) past) (cases_lt p.source d.world.sites)
+
 module _ {R : Type 0} {g : Ghosts R} where
   -- a refusal of a header at a site whose fuse is noted
-  abbrev Off : Beside → Node → DiskSet R g → Type 0
-  Off beside n e = CrashedAt beside n e
-
   doubted : (P : Beside → Node → DiskSet R g → Type 0) (beside : Beside) (n : Node) (ls : List KeptLink) (disk : ℕ) (e : DiskSet R g) → P (in_doubt beside n ls disk) (halted_at n disk) e
       → P (in_doubt beside (worked n) ls disk) (halted_at (worked n) disk) e
   doubted P beside n ls disk e is =
@@ -276,3 +306,114 @@ module _ {R : Type 0} {g : Ghosts R} where
         } in
         let e = headed_ends d (Deliver number) (note_one s) event s d b old new h.0 h.2 in
         subst (λ (r : Said). Leads d (Deliver number) r old new) (sym says) (leads_by e.ends e.goes)
+
+  -- ---- by the number of the site
+
+  -- it was heard
+  pub record HeardBy (d : Doubted) (number : ℕ) (p : Packet) (old new : Yard R g) (before after : DiskSet R g) (a : Assembled) (said : EventSaid) (t : ℕ) : Type 0 where
+    pub below : t < d.world.sites
+    pub changed : Changed old new t before after
+    pub keeps : KeepsRole before after
+    pub opens : IsOpen (d.world.nodes t)
+    pub says : said ≡ (delivered d.world number (packet_at d.world.packets number)).said
+    pub calls : LeavesFuse NoMore Done before after
+    pub facts : new.facts.items ≡ linked_facts (behind d (DeliverAt number)).world
+    pub flight : new.flight ≡ old.flight
+    pub assemblies : new.assemblies.items ≡ slice_set old.assemblies.items t a
+    pub feeders : new.feeders.items ≡ old.feeders.items
+    pub exact : IsTold new → AssemblyStands (delivered d.world number (packet_at d.world.packets number)).world.packets t ((delivered d.world number (packet_at d.world.packets number)).world.gathering t) a
+    pub stored : StoresAt (beside_of d t) (d.world.nodes t) (ltb (d.world.links t p.source).stored ((delivered d.world number (packet_at d.world.packets number)).world.links t p.source).stored)
+        (links_of (delivered d.world number (packet_at d.world.packets number)).world t) after
+
+  pub heard_by : (d : Doubted) (number : ℕ) (p : Packet) (old new : Yard R g) (before after : DiskSet R g) (a : Assembled) (said : EventSaid) (t : ℕ) → packet_at d.world.packets number ≡ Some p → is_answer p.message ≡ true → StandsFor d old
+      → p.target ≡ t → HeardBy d number p old new before after a said t → Leads d (Deliver number) (reply_of said) old new
+  heard_by d number p old new before after a said t at answers stands to there =
+      let h = subst (λ (i : ℕ). HeardBy d number p old new before after a said i) (sym to) there in
+      heard_leads d number p at answers old new before after stands h.below h.changed h.keeps h.opens a said
+      (record { says = h.says; calls = h.calls; facts = h.facts; flight = h.flight; assemblies = h.assemblies; feeders = h.feeders; exact = h.exact }) h.stored
+
+  -- its header was refused
+  pub record RefusedBy (d : Doubted) (number : ℕ) (p : Packet) (old new : Yard R g) (before after : DiskSet R g) (why : No) (x x' : SiteFacts) (t : ℕ) : Type 0 where
+    pub below : t < d.world.sites
+    pub changed : Changed old new t before after
+    pub keeps : KeepsRole before after
+    pub opens : IsOpen (d.world.nodes t)
+    pub rises : (d.world.links t p.source).stored < ((delivered d.world number (packet_at d.world.packets number)).world.links t p.source).stored
+    pub stops : KeptAt (beside_of d t) (d.world.nodes t) (state_with (d.world.nodes t) (links_of (delivered d.world number (packet_at d.world.packets number)).world t)) before after (Err why)
+    pub calls : LeavesFuse NoMore (Refused why) before after
+    pub shown : slice_get old.facts.items t ≡ Some x
+    pub notes : x' ≡ noted_facts why x
+    pub facts : new.facts.items ≡ slice_set old.facts.items t x'
+    pub lets : LetsGoBy why old new t
+
+  less_true : (a b : ℕ) → a < b → ltb a b ≡ true
+  less_true a b less = grind (arith, nat_tests)
+
+  pub refused_by : (d : Doubted) (number : ℕ) (p : Packet) (old new : Yard R g) (before after : DiskSet R g) (why : No) (said : Said) (x x' : SiteFacts) (t : ℕ) → packet_at d.world.packets number ≡ Some p → is_answer p.message ≡ true
+      → StandsFor d old → p.target ≡ t → said ≡ Refused why → RefusedBy d number p old new before after why x x' t → Leads d (Deliver number) said old new
+  refused_by d number p old new before after why said x x' t at answers stands to says there =
+      let h = subst (λ (i : ℕ). RefusedBy d number p old new before after why x x' i) (sym to) there in
+      unheard_leads d number p at answers old new before after stands h.below h.changed h.keeps h.opens why said x x' says
+      (less_true (d.world.links p.target p.source).stored ((delivered d.world number (packet_at d.world.packets number)).world.links p.target p.source).stored h.rises) h.stops h.calls h.shown h.notes h.facts h.lets
+
+  -- ---- nobody hears it
+
+  -- nothing changes but the note of the fuse of its target
+  pub unheard_stays : (d : Doubted) (number : ℕ) (p : Packet) (y : Yard R g) (e : DiskSet R g) → packet_at d.world.packets number ≡ Some p → StandsFor d y → p.target < d.world.sites → slice_get y.disk_sets.items p.target ≡ Some e
+      → delivered d.world number (packet_at d.world.packets number) ≡ says d.world IsIgnored → Leads d (Deliver number) Ignored y y
+  unheard_stays d number p y e at stands below there is =
+      let s : ℕ = p.target in
+      let start : Doubted = noted_by (note_one s) d in
+      let v : World = worked_on (step d.world (DeliverAt number)).world s in
+      let left : LeavesDisks start.world v =
+      subst (λ (o : Outcome). LeavesDisks start.world (worked_on (counted d.world (DeliverAt number) o).world s)) (sym is)
+      (record { sites = refl; nodes = λ i. refl; kept = λ i. refl; headers = λ i. none_more d.world i (packet_at d.world.packets number); gathering = λ i. refl }) in
+      let noted = stands_noted d y s e stands below there in
+      let sent : v.packets ≡ start.world.packets ++ [] = ap (λ (o : Outcome). o.world.packets) is ∙ sym (append-nil d.world.packets) in
+      let same : Relinks y y = record { disk_sets = refl; racks = refl; assemblies = refl; feeders = refl } in
+      record {
+        next = record start { world = v };
+        fails = [];
+        done = record {
+          ends = done_as (IsTold y) d number p Ignored IsIgnored at below (ap (λ (o : Outcome). o.said) is) refl;
+          counts = tt;
+          works = tt;
+          calls = tt;
+        };
+        stands = stands_kept start v y y noted left (fit_worked (behind d (DeliverAt number)) s (fit_happened d (DeliverAt number) false stands.links)) same
+            (noted.facts ∙ subst (λ (o : Outcome). linked_facts start.world ≡ linked_facts (worked_on (counted d.world (DeliverAt number) o).world s)) (sym is) refl);
+        carries = λ carries. carries_kept start v y y [] (carries_noted d s y carries) left sent same
+            (subst (λ (ps : List Packet). FlightStands ps y.flight) (sym (ap (λ (o : Outcome). o.world.packets) is)) carries.flight);
+        rose = rose_none (count_of y) (count_of y) (λ k u. omega arith);
+      }
+
+  -- nor is there such a site
+  pub unsited_stays : (d : Doubted) (number : ℕ) (p : Packet) (y : Yard R g) → packet_at d.world.packets number ≡ Some p → StandsFor d y → d.world.sites ≤ p.target → Leads d (Deliver number) Ignored y y
+  unsited_stays d number p y at stands past =
+      let is = target_stays d number p stands.links at past in
+      let v : World = (step d.world (DeliverAt number)).world in
+      let left : LeavesDisks d.world v =
+      subst (λ (o : Outcome). LeavesDisks d.world (counted d.world (DeliverAt number) o).world) (sym is)
+      (record { sites = refl; nodes = λ i. refl; kept = λ i. refl; headers = λ i. none_more d.world i (packet_at d.world.packets number); gathering = λ i. refl }) in
+      let sent : v.packets ≡ d.world.packets ++ [] = ap (λ (o : Outcome). o.world.packets) is ∙ sym (append-nil d.world.packets) in
+      let same : Relinks y y = record { disk_sets = refl; racks = refl; assemblies = refl; feeders = refl } in
+      record {
+        next = behind d (DeliverAt number);
+        fails = [];
+        done = record {
+          ends = LinksDone (behind d (DeliverAt number)) (false, refl) refl refl
+              (subst (λ (o : Outcome). Repeats (behind d (DeliverAt number)).world 0 o.said Ignored) (sym is) refl)
+              (record { world = sym (unnoted d number p v at past); after = λ i. refl });
+          counts = tt;
+          works = tt;
+          calls = tt;
+        };
+        stands = stands_kept d v y y stands left (fit_happened d (DeliverAt number) false stands.links) same
+            (stands.facts ∙ subst (λ (o : Outcome). linked_facts d.world ≡ linked_facts (counted d.world (DeliverAt number) o).world) (sym is) refl);
+        carries = λ carries. carries_kept d v y y [] carries left sent same (subst (λ (ps : List Packet). FlightStands ps y.flight) (sym (ap (λ (o : Outcome). o.world.packets) is)) carries.flight);
+        rose = rose_none (count_of y) (count_of y) (λ k u. omega arith);
+      }
+
+  -- nothing was done
+  pub stays_same : (d : Doubted) (y : Yard R g) → StandsFor d y → StaysFor d y y
+  stays_same d y stands = record { stands = stands; carries = λ carries. carries; rose = rose_none (count_of y) (count_of y) (λ k u. omega arith) }
