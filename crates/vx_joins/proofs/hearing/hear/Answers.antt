@@ -94,3 +94,6 @@ returns-in-Ok-clause-part g c = λ d p site at target answers flight listening l
     (stored_as d c.args.number p at answers f flight c.last-safe.result c.args.state.now.line listens listening.plain c.args.disks.now c.keep_stored.new.disks c.args.link.now c.heard_link-heard.result (Ok tt) link heard stored)
     answered)
     listening link stands state
+
+pub returns-in-Err-clause-short : goal.returns-in-Err-clause-short
+returns-in-Err-clause-short g c = λ is. c.in-Err.ensures.short is
