@@ -15,6 +15,7 @@ mod errors;
 mod facts;
 mod folder;
 mod fuse;
+mod joins;
 pub mod laws;
 mod link;
 mod linking;
