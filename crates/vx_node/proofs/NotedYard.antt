@@ -24,7 +24,6 @@ use Rattle.vx_diskset.proofs.Roles.{role_like}
 use Rattle.vx_model.specs.Sites.{is_origin}
 use Rattle.vx_node.specs.Headed.{NotesAt, noted_by}
 use Rattle.vx_node.specs.Standing.{IsSameSite, StandsFor}
-use Rattle.vx_node.specs.Yards.{IsTold}
 use Rattle.vx_node.specs.declared.yard.Yard.{Yard}
 use Rattle.vx_node.proofs.Lists.{set_same}
 use Rattle.vx_node.proofs.OneSite.{Changed}
