@@ -1,9 +1,9 @@
 // The lines that work on links.
-ghost use Rattle.std.specs.Prelude.{◌≡◌, true};
+ghost use Rattle.std.specs.Prelude.{◌≡◌, IfOk, true};
 ghost use Rattle.vx_history.specs.Doubts.{Doubted};
 ghost use Rattle.vx_node.specs.Carries.{Carries};
 ghost use Rattle.vx_node.specs.LinkLines.{is_on_links};
-ghost use Rattle.vx_node.specs.OfSites.{AsAsked};
+ghost use Rattle.vx_node.specs.OfSites.{AsAsked, HasCalled};
 ghost use Rattle.vx_node.specs.Standing.{LeadsIs, StandsFor};
 ghost use Rattle.vx_node.specs.Working.{IsFree};
 ghost use Rattle.vx_node.specs.Yards.{IsKept, IsTold, in_files};
@@ -26,6 +26,7 @@ impl<R: Rack> Yard<R> {
         requires free { IsFree self.old words.now }
         ensures leads { (d : Doubted) → StandsFor d self.old → Carries d self.old → LeadsIs d words.now self.old self.new result }
         ensures asked { (d : Doubted) → StandsFor d self.old → AsAsked d.world words.now self.old self.new }
+        ensures called { (d : Doubted) → IfOk result (λ said. HasCalled d.world words.now said self.old self.new) }
         ensures told { IsTold self.new → IsTold self.old }
         ensures files { in_files self.new ≡ in_files self.old }
     {
