@@ -35,6 +35,7 @@ fn is_built(line: &ScriptLine) -> bool
         | ScriptLine::Resume { .. }
         | ScriptLine::Tick { .. }
         | ScriptLine::Wait { .. } => true,
+        ScriptLine::Link { prot, .. } => is_fail(prot),
         ScriptLine::Set { prot, .. } => is_fail(prot),
         _ => false,
     }
