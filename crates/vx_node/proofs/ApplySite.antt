@@ -1,7 +1,6 @@
 -- A line that applies the log of a site that may keep links.
-use Rattle.std.proofs.Common.{◌≡◌, ◌∙◌, ◌≤◌, ◌⊎◌, ℕ, Bool, true, false, List, [], ◌∷◌, length, ap, sym, subst, refl, arith, ⊎_elim, inl, inr}
+use Rattle.std.proofs.Common.{◌≡◌, ◌∙◌, ◌≤◌, ◌⊎◌, ℕ, true, false, List, [], ◌∷◌, length, ap, sym, subst, refl, arith, ⊎_elim}
 use Rattle.std.specs.Prelude.{Option, Some, None, Ok, Err, slice_get, slice_set}
-use Rattle.vx_history.proofs.Updates.{at_place}
 use Rattle.vx_history.specs.Doubts.{After, Doubted, happened}
 use Rattle.vx_history.specs.Events.{linked_sites}
 use Rattle.vx_history.specs.Refusals.{Outcome}

@@ -60,6 +60,7 @@ pub mod PartLine
 pub mod LinkParts
 pub mod NotedBoth
 pub mod LinkChain
+pub mod JoinLine
 pub mod LinkEnding
 pub mod StatesAre
 pub mod AllDurable

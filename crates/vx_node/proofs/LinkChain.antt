@@ -81,7 +81,7 @@ module _ (d : Doubted) (p s : ℕ) (sync : SyncMode) (fit : LinksFit d) (said : 
   pub apart_too : p ≡ s → ⊥
   apart_too e = apart (sym e)
 
-  fresh : is_fresh w s ≡ true
+  pub fresh : is_fresh w s ≡ true
   fresh =
       and_right (same_line (w.nodes p).line (first_line p)) (is_fresh w s)
       (and_right (is_empty (w.nodes p).log) fresh_tests (and_right (not (eqb s p)) (is_empty (w.nodes p).log && fresh_tests) tests))

@@ -1,5 +1,5 @@
 -- What a line of links leaves that needs no disk.
-use Rattle.std.proofs.Common.{◌≡◌, ◌∙◌, ◌++◌, ◌⊎◌, ◌≤◌, ℕ, List, [], length, false, ap, sym, subst, refl, arith, ⊎_elim}
+use Rattle.std.proofs.Common.{◌≡◌, ◌∙◌, ◌++◌, ◌⊎◌, ◌≤◌, ℕ, List, [], length, true, false, ap, sym, subst, refl, arith, ⊎_elim}
 use Rattle.std.proofs.lemmas.List.{append-nil}
 use Rattle.std.specs.Prelude.{Option, Some, None, Bool, Result, Err, slice_get}
 use Rattle.std.specs.Vec.{vec_capacity}
@@ -40,9 +40,11 @@ use Rattle.vx_net.specs.Flights.{Flying}
 use Rattle.vx_order.specs.Order.{refusal_of}
 use Rattle.vx_order.specs.declared.facts.SiteFacts.{SiteFacts}
 use Rattle.vx_script.specs.declared.line.ScriptLine.{ScriptLine}
-use Rattle.vx_script.specs.declared.line.ScriptLine.TheVariants.{Connect, Cut, Pause, Resume, Tick, Wait}
+use Rattle.vx_script.specs.declared.line.ScriptLine.TheVariants.{Write as WriteLine, Put as PutLine, Apply as ApplyLine, Connect, Cut, Pause, Resume, Tick, Wait}
 use Rattle.vx_node.specs.Carries.{Carries}
 use Rattle.vx_node.specs.Happenings.{reply_of}
+use Rattle.vx_node.specs.LinkLines.{is_on_links}
+use Rattle.vx_node.specs.OfSites.{HasCalled}
 use Rattle.vx_node.specs.Standing.{Leads, LeadsIs, SitesAgree, StandsFor, StaysFor}
 use Rattle.vx_node.specs.Stands.{AreTold, RoseAll, faults_of}
 use Rattle.vx_node.specs.Working.{IsFree}
@@ -315,3 +317,10 @@ module _ {R : Type 0} {g : Ghosts R} where
   -- no test of the line refuses it, as the world sees it
   pub wait_free : (d : Doubted) (y : Yard R g) (p : List ℕ) (number : ℕ) → StandsFor d y → IsFree y (Wait p number) → refused_by d.world (in_files y) (Wait p number) ≡ None
   wait_free d y p number stands free = subst (λ (fs : List SiteFacts). refusal_of fs (in_files y) (Wait p number) ≡ None) stands.facts free
+
+  -- no line on links has a word on calls
+  pub links_called : (w : World) (line : ScriptLine) (said : Said) (old new : Yard R g) → is_on_links line ≡ true → HasCalled w line said old new
+  links_called w (WriteLine site volume block count fill) said old new is = absurd (let e : false ≡ true = is in cc)
+  links_called w (PutLine site volume block bytes) said old new is = absurd (let e : false ≡ true = is in cc)
+  links_called w (ApplyLine site count) said old new is = absurd (let e : false ≡ true = is in cc)
+  links_called w other said old new is = tt

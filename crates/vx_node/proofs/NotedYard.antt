@@ -25,7 +25,6 @@ use Rattle.vx_model.specs.Sites.{is_origin}
 use Rattle.vx_node.specs.Carries.{Carries}
 use Rattle.vx_node.specs.Headed.{NotesAt, noted_by}
 use Rattle.vx_node.specs.Standing.{IsSameSite, StandsFor}
-use Rattle.vx_node.specs.Yards.{IsTold}
 use Rattle.vx_node.specs.declared.yard.Yard.{Yard}
 use Rattle.vx_node.proofs.Carrying.{Feeds, carries_on, feeds_like, feeds_same}
 use Rattle.vx_node.proofs.Lists.{set_same}

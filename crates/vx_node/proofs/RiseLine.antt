@@ -7,7 +7,6 @@ use Rattle.vx_model.specs.Sizes.{ring_of}
 use Rattle.vx_model.specs.declared.limits.TheConstants.{MOST_NUMBER}
 use Rattle.vx_model.specs.declared.no.No.{No}
 use Rattle.vx_model.specs.declared.no.No.TheVariants.{Device, Limit, NoConfig}
-use Rattle.vx_model.specs.declared.site.Role.TheVariants.{Primary}
 use Rattle.vx_model.specs.declared.site.SPhase.{SPhase}
 use Rattle.vx_model.specs.declared.site.SPhase.TheVariants.{Quiet, Regions, Log as LogPhase, ForkKept}
 use Rattle.vx_model.specs.declared.site.SiteState.TheVariants.{Bare as IsBare, Up as IsUp, Down as IsDown}

@@ -6,7 +6,6 @@ use Rattle.std.proofs.lemmas.Option.{slice_get_within}
 use Rattle.vx_model.specs.Sites.{is_origin}
 use Rattle.vx_model.specs.declared.link.Mode.{Mode}
 use Rattle.vx_model.specs.declared.link.Mode.TheVariants.{Log, Dcm, Replay, Fork, Stale}
-use Rattle.vx_model.specs.declared.site.Role.TheVariants.{Primary}
 use Rattle.vx_model.specs.declared.site.SiteState.{SiteState}
 use Rattle.vx_model.specs.declared.site.SiteState.TheVariants.{Bare, Up, Deported, Down}
 use Rattle.vx_model.specs.declared.state.KeptLink.{KeptLink}
@@ -17,7 +16,7 @@ use Rattle.vx_courier.specs.UnderWay.{FlightStands}
 use Rattle.vx_disk.specs.declared.shelf.Shelf.{Ghosts}
 use Rattle.vx_diskset.specs.Asked.{FailsAs, FusedAs}
 use Rattle.vx_diskset.specs.Holds.{Beside, beside_of, row_links, state_with}
-use Rattle.vx_diskset.specs.Stands.{IsToldAt, RoleIs, StandsAt}
+use Rattle.vx_diskset.specs.Stands.{RoleIs, StandsAt}
 use Rattle.vx_diskset.specs.declared.disk_set.DiskSet.{DiskSet}
 use Rattle.vx_history.specs.Doubts.{After, Doubted}
 use Rattle.vx_history.specs.Events.{linked_sites, log_blocks, recovery_greeting}
@@ -41,7 +40,7 @@ use Rattle.vx_packet.specs.Assemblies.{Assembled}
 use Rattle.vx_node.specs.Carries.{Carries}
 use Rattle.vx_node.specs.Changes.{up_facts, up_group}
 use Rattle.vx_node.specs.Rises.{AreNeeds, RisesTo, hello_by, need_of, risen_facts}
-use Rattle.vx_node.specs.Standing.{IsSameSite, StandsFor}
+use Rattle.vx_node.specs.Standing.{StandsFor}
 use Rattle.vx_node.specs.Yards.{IsTold}
 use Rattle.vx_node.specs.declared.yard.Yard.{Yard}
 use Rattle.vx_node.proofs.Carrying.{feeds_same}

@@ -16,7 +16,7 @@ use Rattle.vx_history.specs.declared.event.Said.TheVariants.{Got as HasGot}
 use Rattle.vx_disk.specs.declared.shelf.Shelf.{Ghosts}
 use Rattle.vx_rvg.specs.Contents.{Shows}
 use Rattle.vx_events.proofs.Blocks.{shown_are}
-use Rattle.vx_events.specs.Ends.{Ends, ShowsReceived}
+use Rattle.vx_events.specs.Ends.{ShowsReceived}
 use Rattle.vx_events.proofs.RefusedCalls.{read_may}
 use Rattle.vx_events.specs.Facts.{seat_of, site_number, volume_number}
 use Rattle.vx_events.specs.Sayings.{received_content}
@@ -34,7 +34,7 @@ use Rattle.vx_node.specs.Fetching.{IsReadLine}
 use Rattle.vx_node.specs.Shown.{GaveShown, GaveShownAt}
 use Rattle.vx_node.specs.Standing.{Leads, StandsFor}
 use Rattle.vx_node.specs.Working.{IsFree}
-use Rattle.vx_node.specs.Yards.{IsTold, in_files}
+use Rattle.vx_node.specs.Yards.{in_files}
 use Rattle.vx_node.specs.declared.yard.Yard.{Yard}
 use Rattle.vx_node.proofs.Carrying.{SameLoad, carries_same}
 use Rattle.vx_node.proofs.CrashLine.{rose_still}

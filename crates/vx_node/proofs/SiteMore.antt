@@ -39,10 +39,8 @@ use Rattle.vx_events.proofs.Testing.{absent, none_under}
 use Rattle.vx_events.proofs.Values.{length-values_from, values_from-push}
 use Rattle.vx_events.specs.Effects.{AddsSite}
 use Rattle.vx_events.specs.Facts.{site_fact, values_from}
-use Rattle.vx_model.specs.declared.site.Role.TheVariants.{Primary}
 use Rattle.vx_events.specs.LinkedFacts.{link_facts, linked_fact, linked_facts, links_by}
 use Rattle.vx_events.specs.LinksFit.{LinksFit}
-use Rattle.vx_events.specs.Plain.{ArePrimaries}
 use Rattle.vx_events.specs.declared.said.Said.{Said}
 use Rattle.vx_events.specs.declared.said.Said.TheVariants.{Done}
 use Rattle.vx_diskset.proofs.Roles.{role_origin}
@@ -51,12 +49,10 @@ use Rattle.vx_node.specs.Changes.{bare_facts}
 use Rattle.vx_node.specs.Replies.{reply_to}
 use Rattle.vx_model.specs.declared.site.SiteState.TheVariants.{Bare as IsBare, Up as IsUp}
 use Rattle.vx_node.specs.Standing.{IsSameSite, Leads, LeadsIs, SitesAgree, StandsFor}
-use Rattle.vx_node.specs.Stands.{AreTold}
 use Rattle.vx_node.specs.Working.{IsFree}
 use Rattle.vx_node.specs.Yards.{IsTold, in_files}
 use Rattle.vx_node.specs.declared.yard.Yard.{Yard}
 use Rattle.vx_node.proofs.Alike.{apart_place}
-use Rattle.vx_node.proofs.ChangeSite.{told_before}
 use Rattle.vx_node.proofs.CrashLine.{rose_still}
 use Rattle.vx_node.proofs.FuseStays.{fused_none}
 use Rattle.vx_node.proofs.Lists.{get-set_other, length-set}

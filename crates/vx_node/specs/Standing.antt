@@ -14,7 +14,6 @@ use Rattle.vx_model.specs.declared.site.SiteState.TheVariants.{Down as IsDown}
 use Rattle.vx_events.specs.Doubts.{chosen, with_disks}
 use Rattle.vx_disk.specs.declared.shelf.Shelf.{Ghosts}
 use Rattle.std.specs.Io.KnownBytes.{Appends}
-use Rattle.vx_order.specs.Order.{refusal_of}
 use Rattle.vx_script.specs.declared.line.ScriptLine.{ScriptLine}
 use Rattle.vx_diskset.specs.Asked.{FailsAs, FusedAs}
 use Rattle.vx_diskset.specs.Holds.{beside_of}
@@ -28,6 +27,7 @@ use Rattle.vx_world.specs.Lines.{GoodDoubted}
 use Rattle.vx_node.specs.Carries.{Carries}
 use Rattle.vx_node.specs.OfSites.{HasCalled}
 use Rattle.vx_node.specs.Steps.{Prints}
+use Rattle.vx_node.specs.Working.{IsFree}
 use Rattle.vx_node.specs.declared.errors.LineStop.{LineStop}
 use Rattle.vx_node.specs.declared.errors.LineStop.TheVariants.{WriteFault, OutOfMemory as NoMemory}
 use Rattle.vx_events.specs.LinksFit.{LinksFit}
@@ -138,7 +138,7 @@ module _ {R : Type 0} {g : Ghosts R} where
     pub carries : Carries d old → Carries next new
     pub rose : RoseAll fails (count_of old) (count_of new)
     -- where no test refuses the line, the fuse of its site is as its calls leave it
-    pub called : refusal_of old.facts.items (in_files old) line ≡ None → HasCalled d.world line prints.said old new
+    pub called : IsFree old line → HasCalled d.world line prints.said old new
 
   -- Memory ran out within the line: a first part of its events was done, and no call failed.
   pub record StopsFor (d : Doubted) (line : ScriptLine) (old new : Yard R g) : Type 0 where

@@ -16,6 +16,7 @@ mod facts;
 mod folder;
 mod fuse;
 mod hearing;
+mod joins;
 pub mod laws;
 mod link;
 mod linking;

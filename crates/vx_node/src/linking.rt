@@ -1,5 +1,5 @@
 // The line that links a site to another, whose content it becomes a copy of.
-ghost use Rattle.std.specs.Prelude.{◌≡◌, ◌≤◌, ◌<◌, [], IfOk, IfSome, Some, length, slice_get};
+ghost use Rattle.std.specs.Prelude.{◌≡◌, ◌≤◌, ◌<◌, [], ℕ, List, IfSome, Some, length, slice_get};
 ghost use Rattle.vx_model.specs.declared.limits.TheConstants.{LINK_PLACES, MOST_LINKS};
 ghost use Rattle.vx_model.specs.declared.link.Prot.{Prot};
 ghost use Rattle.vx_model.specs.declared.site.SiteState.TheVariants.{Up as UpState};
@@ -106,7 +106,7 @@ impl<R: Rack> Yard<R> {
         requires few { (site : SiteValue) → slice_get self.old.facts.items here ≡ Some site → length site.links < LINK_PLACES }
         ensures leads { (d : Doubted) (first second : List ℕ) (prot : Prot) → StandsFor d self.old → IsLinking d first second here there sync states.now → Leads d (Link first second sync prot) result self.old self.new }
         // It makes no disk fail.
-        ensures asked { (d : Doubted) (first second : List ℕ) → StandsFor d self.old → IsLinking d first second here there sync states.now → AllSameFailing self.old self.new }
+        ensures asked { (d : Doubted) (first second : List ℕ) (prot : Prot) → StandsFor d self.old → IsLinking d first second here there sync states.now → AllSameFailing self.old self.new }
         ensures flight { self.new.flight ≡ self.old.flight }
         ensures told { IsTold self.new → IsTold self.old }
         ensures files { in_files self.new ≡ in_files self.old }

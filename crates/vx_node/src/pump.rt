@@ -3,6 +3,7 @@ ghost use Rattle.std.specs.Prelude.{◌≡◌};
 ghost use Rattle.vx_history.specs.Doubts.{Doubted};
 ghost use Rattle.vx_script.specs.declared.line.ScriptLine.TheVariants.{Pump};
 ghost use Rattle.vx_node.specs.Carries.{Carries};
+ghost use Rattle.vx_node.specs.OfSites.{AsAsked};
 ghost use Rattle.vx_node.specs.Standing.{LeadsIs, StandsFor};
 ghost use Rattle.vx_node.specs.Working.{IsFree};
 ghost use Rattle.vx_node.specs.Yards.{IsKept, IsTold, in_files};
@@ -26,6 +27,7 @@ impl<R: Rack> Yard<R> {
         requires free { IsFree self.old (Pump first.now second.now) }
         // Where contents are told.
         ensures leads { (d : Doubted) → StandsFor d self.old → Carries d self.old → IsTold self.old → LeadsIs d (Pump first.now second.now) self.old self.new result }
+        ensures asked { (d : Doubted) → StandsFor d self.old → AsAsked d.world (Pump first.now second.now) self.old self.new }
         ensures told { IsTold self.new → IsTold self.old }
         ensures files { in_files self.new ≡ in_files self.old }
     {

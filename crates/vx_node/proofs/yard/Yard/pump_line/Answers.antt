@@ -3,11 +3,13 @@ use Rattle.std.specs.Prelude.{None}
 use Rattle.std.proofs.lemmas.List.{with_items_is}
 use Rattle.vx_order.specs.Order.{refusal_of}
 use Rattle.vx_script.specs.declared.line.ScriptLine.TheVariants.{Pump}
+use Rattle.vx_diskset.specs.Asked.{LeavesAlone}
 use Rattle.vx_linked.proofs.Finding.{found, pump_tested, seat_found}
 use Rattle.vx_linked.specs.Tables.{Found}
 use Rattle.vx_node.specs.Yards.{in_files}
 use Rattle.vx_node.proofs.ChangeSite.{told_before}
 use Rattle.vx_node.proofs.Lists.{get_at}
+use Rattle.vx_node.proofs.NamedSite.{asks_at}
 use Rattle.vx_node.proofs.PumpLine.{moved_named, pump_brings, pump_stops, pumping}
 use Rattle.vx_node.proofs.yard.Yard.pump_line.Goals as goal
 
@@ -69,3 +71,17 @@ returns-in-Err-clause-leads g c = λ d stands carries told.
     (record { assemblies = refl; feeders = refl }) (told_before es s before c.pump.new.self at c.in-Err.ensures.later) c.args.first.now c.args.second.now c.link_named.result.link c.pump.new.link c.pump.new.flight
     c.in-Err.stop c.stopped.result (c.in-Err.ensures.pumped d p.place (stands.disk_sets.sites s before p.seat.below at) p.origin p.up p.running (told.each s before at) p.kept p.link_is carries.flight) c.stopped.ensures
     p.seat.number refl refl c.in-Err.ensures.unsent
+
+pub returns-in-Ok-clause-asked : goal.returns-in-Ok-clause-asked
+returns-in-Ok-clause-asked g c = λ d stands.
+    let old = c.args.self.now in
+    let s = c.site_of-here.result in
+    asks_at LeavesAlone d old _ c.args.first.now s c.index_mut.result.now c.pump.new.self stands c.site_of-here.ensures.seat
+    (get_at old.disk_sets.items s c.index_mut.result.now c.site_of-here.ensures.disk_set c.index_mut.ensures.value) refl c.in-Ok.ensures.still
+
+pub returns-in-Err-clause-asked : goal.returns-in-Err-clause-asked
+returns-in-Err-clause-asked g c = λ d stands.
+    let old = c.args.self.now in
+    let s = c.site_of-here.result in
+    asks_at LeavesAlone d old _ c.args.first.now s c.index_mut.result.now c.pump.new.self stands c.site_of-here.ensures.seat
+    (get_at old.disk_sets.items s c.index_mut.result.now c.site_of-here.ensures.disk_set c.index_mut.ensures.value) refl c.in-Err.ensures.still

@@ -218,3 +218,15 @@ returns-in_err-room-in-Show-clause-asked g c = λ d stands.
     let free = subst (λ line. IsFree y line) c.in-Show.is c.requires.free in
     subst (λ line. AsAsked d.world line y y) (sym c.in-Show.is)
     (unbegun_site LeavesAlone d y c.in-Show.site alone_same stands (show_may y.facts.items (in_files y) c.in-Show.site c.in-Show.volume c.in-Show.block c.in-Show.count free).site)
+
+pub work_link-requires-clause-free : goal.work_link-requires-clause-free
+work_link-requires-clause-free g c = λ κs lives. c.requires.free
+
+pub returns-in-Set-clause-leads : goal.returns-in-Set-clause-leads
+returns-in-Set-clause-leads g c = λ d stands carries good. c.work_link.ensures.leads d stands carries
+
+pub returns-in-Set-clause-asked : goal.returns-in-Set-clause-asked
+returns-in-Set-clause-asked g c = λ d stands. c.work_link.ensures.asked d stands
+
+pub returns-in-Set-clause-called : goal.returns-in-Set-clause-called
+returns-in-Set-clause-called g c = λ d stands. c.work_link.ensures.called d
