@@ -61,6 +61,7 @@ use Rattle.vx_linked.specs.Disks.{LeavesDisks}
 use Rattle.vx_node.specs.Carries.{Carries}
 use Rattle.vx_node.specs.Happenings.{reply_of}
 use Rattle.vx_node.specs.Headed.{NextFor, behind, noted_by}
+use Rattle.vx_node.specs.Replies.{no_of}
 use Rattle.vx_node.specs.Standing.{Leads, StandsFor, StaysFor}
 use Rattle.vx_node.specs.Writes.{noted_facts}
 use Rattle.vx_node.specs.Yards.{IsTold, count_of}
@@ -75,7 +76,7 @@ use Rattle.vx_node.proofs.FuseStays.{fused_on, left_passed}
 use Rattle.vx_node.proofs.HeaderCalls.{Answered, IsHeader, answered_keep, in_doubt}
 use Rattle.vx_node.proofs.HeadedEnds.{IsBehind, headed_ends}
 use Rattle.vx_node.proofs.HeadedWorlds.{noted_effect, worked_twice}
-use Rattle.vx_node.proofs.HeardWorld.{answer_says, heard_effect, heard_header, heard_kept, no_update, row}
+use Rattle.vx_node.proofs.HeardWorld.{answer_says, heard_effect, heard_header, heard_kept, heard_rose, no_update, row}
 use Rattle.vx_node.proofs.LinkLines.{Relinks, carries_kept, stands_kept}
 use Rattle.vx_node.proofs.Lists.{get-set_other, get-set_same, length-set}
 use Rattle.vx_node.proofs.NotedYard.{note_one, notes_one, stands_noted, sure_open}
@@ -83,13 +84,30 @@ use Rattle.vx_node.proofs.OneSite.{Changed, role_kept, told_by}
 use Rattle.vx_node.proofs.PartLine.{header_done, header_refused}
 use Rattle.vx_node.proofs.Rows.{row_links_same}
 use Rattle.vx_node.proofs.Turned.{stands_turned}
-use Rattle.vx_node.proofs.UpdateLine.{done_as, noted_at}
+use Rattle.vx_node.proofs.UpdateLine.{done_as}
+
+less_true : (a b : ℕ) → a < b → ltb a b ≡ true
+less_true a b less = grind (arith, nat_tests)
+
+-- what is noted of the target
+noted_for : (d : Doubted) (number : ℕ) (p : Packet) (v : World) → packet_at d.world.packets number ≡ Some p → p.target < d.world.sites → link_noted d.world (Deliver number) v ≡ worked_on v p.target
+noted_for d number p v at below =
+    ap (λ (o : Option Packet). target_noted d.world.sites o v) at ∙ ap (λ (b : Bool). if b then worked_on v p.target else v) (less_true p.target d.world.sites below)
 
 -- a fuse that may run out may do so behind a note
 burns_too : (f : Fuse) → IsFused f → IsFused (burned f)
 burns_too NoFuse h = h
 burns_too (FuseSet calls) h = tt
 burns_too (FuseLit most) h = tt
+
+-- a stop is a refusal, or want of memory
+pub stop_is : (stop : Stop) (why : No) → no_of stop ≡ Some why → stop ≡ StoppedBy why
+stop_is (StoppedBy x) why e = ap (λ (y : No). StoppedBy y) (some_same e)
+stop_is NoMemory why e = absurd (never_some e)
+
+pub stop_none : (stop : Stop) → no_of stop ≡ None → stop ≡ NoMemory
+stop_none (StoppedBy x) e = absurd (never_some (sym e))
+stop_none NoMemory e = refl
 
 -- what is said of an answer is its reply
 says_so : (v : World) (x : EventSaid) → (x ≡ IsTaken) ⊎ (x ≡ IsIgnored) → Repeats v 0 x (reply_of x)
@@ -132,7 +150,7 @@ module _ {R : Type 0} {g : Ghosts R} where
 
   pub refused_noted : (beside : Beside) (n : Node) (ls : List KeptLink) (old new : DiskSet R g) (why : No) → Answered CrashedAt beside n n ls old new (Err why) → Answered CrashedAt beside (worked n) (worked n) ls old new (Err why)
   refused_noted beside n ls old new (Device disk) is = (doubted (λ b k e. StandsAt b k e) beside n ls disk new is.0, is.1)
-  refused_noted beside n ls old new (Limit what most) is = (is.0, (is.1.0, stands_worked beside n new is.1.1))
+  refused_noted beside n ls old new (Limit what most) is = (is.0, is.1, stands_worked beside n new is.2)
   refused_noted beside n ls old new IsOff is = (burns_too n.fuse is.0, doubted (λ b k e. CrashedAt b k e) beside n ls 0 new is.1)
   refused_noted beside n ls old new other is = absurd is
 
@@ -246,7 +264,7 @@ module _ {R : Type 0} {g : Ghosts R} where
       wrote rises stored =
           let header : IsHeader d event s n ls (o.world.gathering s) = heard_header d number p at answers rises stands.links opens in
           header_done (note_one s) s (notes_one s) d event n ls (o.world.gathering s) header old before noted below changed.there new after changed role
-          (subst (λ (k : Node). StandsAt (record { links = ls; headers = d.world.headers s + 1; doubt = None }) k after) (sym (worked_twice n)) stored) h.calls h.facts (carried header.effect)
+          (subst (λ (k : Node). StandsAt (record { links = ls; headers = d.world.headers s + 1; doubt = None }) k after) (sym (worked_twice n)) stored) h.calls h.facts (carried (heard_rose d number p at answers rises))
 
       -- none was
       kept : ltb (d.world.links s p.source).stored (o.world.links s p.source).stored ≡ false → StoresAt (beside_of d s) n false ls after → NextFor [] start to old new
@@ -299,9 +317,9 @@ module _ {R : Type 0} {g : Ghosts R} where
           runs = refl;
           none = refl;
           opens = opens;
-          writes = header.writes;
-          takes = header.writes;
-          notes = λ v. noted_at d number p v at below;
+          writes = (p, at, refl, no_update d number p at answers);
+          takes = (p, at, refl, no_update d number p at answers);
+          notes = λ v. noted_for d number p v at below;
           fused = λ f. f;
         } in
         let e = headed_ends d (Deliver number) (note_one s) event s d b old new h.0 h.2 in
@@ -345,9 +363,6 @@ module _ {R : Type 0} {g : Ghosts R} where
     pub notes : x' ≡ noted_facts why x
     pub facts : new.facts.items ≡ slice_set old.facts.items t x'
     pub lets : LetsGoBy why old new t
-
-  less_true : (a b : ℕ) → a < b → ltb a b ≡ true
-  less_true a b less = grind (arith, nat_tests)
 
   pub refused_by : (d : Doubted) (number : ℕ) (p : Packet) (old new : Yard R g) (before after : DiskSet R g) (why : No) (said : Said) (x x' : SiteFacts) (t : ℕ) → packet_at d.world.packets number ≡ Some p → is_answer p.message ≡ true
       → StandsFor d old → p.target ≡ t → said ≡ Refused why → RefusedBy d number p old new before after why x x' t → Leads d (Deliver number) said old new

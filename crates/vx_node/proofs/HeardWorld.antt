@@ -8,10 +8,11 @@ use Rattle.vx_model.specs.declared.link.Mode.{Mode}
 use Rattle.vx_model.specs.declared.link.Mode.TheVariants.{Log, Dcm, Replay, Fork, Stale}
 use Rattle.vx_history.specs.Admission.{is_log, mode_hold, mode_holds}
 use Rattle.vx_history.specs.Doubts.{Doubted}
-use Rattle.vx_history.specs.Events.{delivered, gathered_if, heard, log_blocks, packet_at, said_of_link, used_above}
-use Rattle.vx_history.specs.LinkForms.{plain_link}
+use Rattle.vx_history.specs.Events.{delivered, facts_of, gathered_if, heard, is_taken, link_heard, log_blocks, packet_at, said_of_link, used_above}
+use Rattle.vx_history.specs.LinkForms.{plain_link, with_plain}
 use Rattle.vx_history.specs.Refusals.{Outcome, is_running, keeps_links, says}
-use Rattle.vx_history.specs.Sends.{is_linked, is_made}
+use Rattle.vx_history.specs.Sending.{Sent, sent_step}
+use Rattle.vx_history.specs.Sends.{is_linked, is_made, with_link}
 use Rattle.vx_history.specs.Stops.{IsOpen}
 use Rattle.vx_history.specs.World.{DataAck, Hello, Link, Message, NetAck, Node, Packet, Update, World, updated}
 use Rattle.vx_history.specs.declared.event.Event.{Event}
@@ -23,14 +24,14 @@ use Rattle.vx_history.specs.declared.sender.Action.TheVariants.{Ignored, Nothing
 use Rattle.vx_courier.specs.UnderWay.{FlightStands}
 use Rattle.vx_net.specs.Flights.{Flying}
 use Rattle.vx_order.specs.declared.facts.LinkFacts.{LinkFacts}
-use Rattle.vx_peers.proofs.Hears.{link_there, outcome_is}
+use Rattle.vx_peers.proofs.Hears.{event_for, link_there, outcome_is}
 use Rattle.vx_peers.specs.Answers.{Listens, is_answer}
 use Rattle.vx_diskset.specs.Holds.{links_of, row_links}
 use Rattle.vx_effects.proofs.Answers.{answer_effect}
 use Rattle.vx_effects.proofs.Fitting.{fit_happened}
 use Rattle.vx_events.specs.Effects.{EffectAt}
 use Rattle.vx_events.specs.Fuses.{taken}
-use Rattle.vx_events.specs.LinkedFacts.{needed_by}
+use Rattle.vx_events.specs.LinkedFacts.{link_fact, needed_by}
 use Rattle.vx_events.specs.LinksFit.{LinksFit, is_plain_mode}
 use Rattle.vx_joins.specs.Hearings.{IsListening, is_plain_mode as goes_plainly}
 use Rattle.vx_linked.specs.Hearings.{Hears}
@@ -81,6 +82,21 @@ module _ (n : Node) (s : ℕ) (l : Link) (link : PlainLink) (is : link ≡ plain
   pub needs_none : (b : Bool) → b ≡ (link.attached && is_log link.mode) → b ≡ false → 0 ≡ needed_by n s l
   needs_none b test no_ = sym (needs_is ∙ ap by (sym test ∙ no_))
 
+-- a link of a site that hears goes by the log or by nothing
+pub listening : (d : Doubted) (t q : ℕ) (f : LinkFacts) → LinksFit d → Hears d.world t q f → IsListening (d.world.nodes t) (d.world.links t q)
+listening d t q f fits h = record {
+  up = h.site.up;
+  running = h.site.running;
+  keeps = h.site.keeps;
+  linked = h.link.linked;
+  plain = plain_too (d.world.links t q).mode ((fits.rows t).plain q h.link.linked).mode;
+}
+
+-- a link as it is shown, by its parts
+pub shown_by : (n : Node) (q : ℕ) (l : Link) (link : PlainLink) (used : ℕ) → link ≡ plain_link q l → used ≡ needed_by n q l → (let x : LinkFacts = record { link = link; used = used } in x) ≡ link_fact n q l
+shown_by n q l link used is needs =
+    ap (λ (k : PlainLink). let x : LinkFacts = record { link = k; used = used } in x) is ∙ ap (λ (k : ℕ). let x : LinkFacts = record { link = plain_link q l; used = k } in x) needs
+
 -- ---- the event
 
 module _ (d : Doubted) (number : ℕ) (p : Packet) (at : packet_at d.world.packets number ≡ Some p) (answers : is_answer p.message ≡ true) where
@@ -113,17 +129,20 @@ module _ (d : Doubted) (number : ℕ) (p : Packet) (at : packet_at d.world.packe
   heard_kept = sym (row_links_same row ((behind d event).world.links s) effect.is.links (behind d event).world.sites ∙ ap (λ (k : ℕ). row_links row k) effect.site.sites)
 
   -- a header was written
+  pub heard_rose : ltb (w.links s p.source).stored (o.world.links s p.source).stored ≡ true → EffectAt s d (behind d event) n row (w.headers s + 1) (d.after s) w.packets (o.world.gathering s)
+  heard_rose rises = subst (λ (b : Bool). EffectAt s d (behind d event) n row (w.headers s + (if b then 1 else 0)) (d.after s) w.packets (o.world.gathering s)) rises effect
+
   pub heard_header : ltb (w.links s p.source).stored (o.world.links s p.source).stored ≡ true → LinksFit d → IsOpen n → IsHeader d event s n (links_of o.world s) (o.world.gathering s)
   heard_header rises fits opens = record {
     row = row;
-    effect = subst (λ (b : Bool). EffectAt s d (behind d event) n row (w.headers s + (if b then 1 else 0)) (d.after s) w.packets (o.world.gathering s)) rises effect;
+    effect = heard_rose rises;
     kept = heard_kept;
     sure = sure_open d s fits opens;
     like = record { state = refl; name = refl; disks = refl; blocks = refl; volumes = refl; failing = refl; fuse = refl };
     fits = fit_happened d event false fits;
     fits_before = fits;
     opens = opens;
-    writes = (p, (at, (refl, no_update)));
+    writes = (p, at, refl, no_update);
   }
 
   -- none was
@@ -163,14 +182,12 @@ module _ (d : Doubted) (number : ℕ) (p : Packet) (at : packet_at d.world.packe
 
   -- ---- the link that hears it
 
-  pub listening : (f : LinkFacts) → LinksFit d → Hears w s p.source f → IsListening n (w.links s p.source)
-  listening f fits h = record {
-    up = h.site.up;
-    running = h.site.running;
-    keeps = h.site.keeps;
-    linked = h.link.linked;
-    plain = plain_too (w.links s p.source).mode ((fits.rows s).plain p.source h.link.linked).mode;
-  }
+  pub hears_as : (m : Message) → is_answer m ≡ true → heard w p m ≡ link_heard w p (event_for m)
+  hears_as (Hello session number stored) e = refl
+  hears_as (Update number x) e = absurd (cc)
+  hears_as (NetAck session number) e = refl
+  hears_as (DataAck number) e = refl
+
 
   module _ (f : Flying) (flight : FlightStands w.packets f) (fits : LinksFit d) (l : IsListening n (w.links s p.source)) where
     pub listens : Listens n (w.links s p.source) n.safe n.line
@@ -180,10 +197,13 @@ module _ (d : Doubted) (number : ℕ) (p : Packet) (at : packet_at d.world.packe
     gathered_links true v = refl
     gathered_links false v = refl
 
+    abbrev rule : Sent
+    rule = sent_step (plain_link p.source (w.links s p.source)) (event_for p.message) (facts_of n p.line)
+
     made : (o.world.links s p.source).made ≡ (w.links s p.source).made
     made =
         ap (λ (r : Outcome). (r.world.links s p.source).made) (outcome_is w number p at answers f flight n.safe n.line listens)
-        ∙ ap (λ (g : ℕ → ℕ → Link). (g s p.source).made) (gathered_links _ _)
+        ∙ ap (λ (g : ℕ → ℕ → Link). (g s p.source).made) (gathered_links (is_taken (said_of_link rule.action)) (with_link w s p.source (with_plain (w.links s p.source) rule.link)))
         ∙ ap (λ (x : Link). x.made) (link_there w number p at answers f flight n.safe n.line listens)
 
     -- it goes by the log or by nothing behind it too

@@ -10,7 +10,7 @@ ghost use Rattle.vx_history.specs.LinkForms.{plain_link};
 ghost use Rattle.vx_history.specs.World.{Link as LinkOf, Node, Packet, World};
 ghost use Rattle.vx_script.specs.declared.line.ScriptLine.TheVariants.{Deliver};
 ghost use Rattle.vx_events.specs.LinkedFacts.{linked_facts, needed_by};
-ghost use Rattle.vx_events.specs.LinksFit.{is_plain_mode};
+ghost use Rattle.vx_events.specs.LinksFit.{LinksFit, is_plain_mode};
 ghost use Rattle.vx_srlfmt.specs.Headers.{CanSpellState};
 ghost use Rattle.vx_peers.specs.Answers.{is_answer};
 ghost use Rattle.vx_diskset.specs.Asked.{SameFailing};
@@ -82,7 +82,7 @@ fn heard_needs<R: Rack>(
     flight: &Flight,
     number: u64,
 ) -> Option<u64>
-    ensures is { (d : Doubted) (p : Packet) → packet_at d.world.packets number ≡ Some p → is_answer p.message ≡ true → FlightStands d.world.packets flight.now
+    ensures is { (d : Doubted) (p : Packet) → LinksFit d → packet_at d.world.packets number ≡ Some p → is_answer p.message ≡ true → FlightStands d.world.packets flight.now
         → IsListening (d.world.nodes p.target) (d.world.links p.target p.source) → link.now ≡ plain_link p.source (d.world.links p.target p.source)
         → StandsAt (beside_of d p.target) (d.world.nodes p.target) disk_set.now → state.now.line ≡ (d.world.nodes p.target).line
         → IfSome result (λ blocks. blocks ≡ needed_by (d.world.nodes p.target) p.source ((behind d.world number).links p.target p.source)) }
@@ -105,6 +105,7 @@ fn refusal(stop: Stop) -> Option<No>
 impl<R: Rack> Yard<R> {
     /// A greeting or an acknowledgement, heard by the link of its target to its source. Where that comes to count more as stored, a header says so
     /// first. Where no link hears it nothing comes of it.
+    #[tactic(none)]
     pub(crate) fn hear_answer(
         &mut self,
         alloc: Global,
