@@ -21,7 +21,7 @@ use Rattle.vx_node.specs.declared.yard.Yard.{Yard}
 use Rattle.vx_node.proofs.Deaf.{room_receives}
 use Rattle.vx_node.proofs.NamedSite.{fact_named, site_at}
 use Rattle.vx_node.proofs.ReadLine.{read_role}
-use Rattle.vx_node.proofs.Rooms.{room_origin}
+use Rattle.vx_node.proofs.RoomOf.{room_origin}
 
 module _ {R : Type 0} {g : Ghosts R} (d : Doubted) (y : Yard R g) (name : List ℕ) (s : ℕ) (stands : StandsFor d y) (seat : seat_of y.facts.items name ≡ Some s) where
   -- a site of which the tests see that it is up

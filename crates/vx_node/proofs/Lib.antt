@@ -28,7 +28,7 @@ pub mod RawTable
 pub mod ReadLine
 pub mod RecoverLine
 pub mod Replies
-pub mod Rooms
+pub mod RoomOf
 pub mod Rows
 pub mod Seats
 pub mod SentText
