@@ -1,14 +1,16 @@
 -- A greeting or an acknowledgement at the disks of a site whose link hears it.
 use Rattle.std.proofs.Common.{◌≡◌, ℕ, ap, subst, refl}
 use Rattle.std.specs.Prelude.{Ok, Err}
+use Rattle.vx_model.specs.declared.errors.Stop.TheVariants.{OutOfMemory}
 use Rattle.vx_model.specs.declared.state.State.{State}
+use Rattle.vx_history.specs.declared.event.Said.{Said}
 use Rattle.vx_history.specs.LinkForms.{plain_link}
 use Rattle.vx_peers.specs.Answers.{Listens}
 use Rattle.vx_courier.specs.Together.{AssemblyStands}
 use Rattle.vx_diskset.specs.Holds.{beside_of, links_of, state_with}
 use Rattle.vx_diskset.specs.Stands.{StandsAt}
 use Rattle.vx_joins.specs.Hearings.{HeardAt, IsListening, PartHeardAt}
-use Rattle.vx_joins.proofs.StoresLink.{heard_not, heard_ok, none_above, part_heard_not, part_heard_ok, stored_as}
+use Rattle.vx_joins.proofs.StoresLink.{heard_not, heard_ok, none_above, part_heard_not, part_heard_ok, stop_under, stored_as}
 use Rattle.vx_joins.proofs.hearing.hear.Goals as goal
 
 pub returns-in-Err-clause-heard : goal.returns-in-Err-clause-heard
@@ -96,4 +98,4 @@ returns-in-Ok-clause-part g c = λ d p site at target answers flight listening l
     listening link stands state
 
 pub returns-in-Err-clause-short : goal.returns-in-Err-clause-short
-returns-in-Err-clause-short g c = λ is. c.in-Err.ensures.short is
+returns-in-Err-clause-short g c = λ is. c.in-Err.ensures.short (stop_under Said (Unit {0}) c.in-Err.stop OutOfMemory is)
