@@ -38,7 +38,6 @@ pub(crate) struct LinkStates {
 }
 
 // They are computed before the first part is done. None where a header has no spelling for them.
-#[tactic(none)]
 fn link_states<R: Rack>(
     first: &DiskSet<R>,
     second: &DiskSet<R>,
@@ -88,7 +87,6 @@ fn link_states<R: Rack>(
 
 impl<R: Rack> Yard<R> {
     // The parts of a line that makes a link, one behind the other.
-    #[tactic(none)]
     fn link_parts(
         &mut self,
         alloc: Global,
@@ -135,7 +133,6 @@ impl<R: Rack> Yard<R> {
     }
 
     /// Links a site to another one, which comes to its line: both are primaries of lines of their own, at which nothing is logged.
-    #[tactic(none)]
     pub(crate) fn link_line(
         &mut self,
         alloc: Global,
