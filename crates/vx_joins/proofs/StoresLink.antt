@@ -326,3 +326,7 @@ none_passed size (Some d) = (record { fuse = loses_none d.fuse; still = λ f fir
 
 pub called_none : {R : Type 0} {g : Ghosts R} (e : DiskSet R g) → LeavesFuse NoMore Done e e
 called_none e = record { told = none_passed (size_in e) (disks_in e) }
+
+-- a stop under any result
+pub stop_under : (T V : Type 0) (x y : Stop) → (let r : Result T Stop = Err x in r ≡ Err y) → (let r : Result V Stop = Err x in r ≡ Err y)
+stop_under T V x y e = let same : x ≡ y = cc in ap (λ (z : Stop). let r : Result V Stop = Err z in r) same
