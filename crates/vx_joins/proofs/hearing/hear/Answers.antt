@@ -1,7 +1,8 @@
 -- A greeting or an acknowledgement at the disks of a site whose link hears it.
-use Rattle.std.proofs.Common.{◌≡◌, ℕ, ap, subst, refl}
+use Rattle.std.proofs.Common.{◌≡◌, ◌<◌, ℕ, ap, subst, refl, arith}
 use Rattle.std.specs.Prelude.{Ok, Err}
-use Rattle.vx_model.specs.declared.errors.Stop.TheVariants.{OutOfMemory}
+use Rattle.vx_model.specs.declared.errors.Stop.TheVariants.{No as StoppedBy, OutOfMemory}
+use Rattle.vx_model.specs.declared.link.Link.{Link as PlainLink}
 use Rattle.vx_model.specs.declared.state.State.{State}
 use Rattle.vx_history.specs.declared.event.Said.{Said}
 use Rattle.vx_history.specs.LinkForms.{plain_link}
@@ -9,7 +10,7 @@ use Rattle.vx_peers.specs.Answers.{Listens}
 use Rattle.vx_courier.specs.Together.{AssemblyStands}
 use Rattle.vx_diskset.specs.Holds.{beside_of, links_of, state_with}
 use Rattle.vx_diskset.specs.Stands.{StandsAt}
-use Rattle.vx_joins.specs.Hearings.{HeardAt, IsListening, PartHeardAt}
+use Rattle.vx_joins.specs.Hearings.{HeardAt, IsListening, PartHeardAt, behind}
 use Rattle.vx_joins.proofs.StoresLink.{heard_not, heard_ok, none_above, part_heard_not, part_heard_ok, stop_under, stored_as}
 use Rattle.vx_joins.proofs.hearing.hear.Goals as goal
 
@@ -99,3 +100,17 @@ returns-in-Ok-clause-part g c = λ d p site at target answers flight listening l
 
 pub returns-in-Err-clause-short : goal.returns-in-Err-clause-short
 returns-in-Err-clause-short g c = λ is. c.in-Err.ensures.short (stop_under Said (Unit {0}) c.in-Err.stop OutOfMemory is)
+
+pub returns-in-Err-clause-rises : goal.returns-in-Err-clause-rises
+returns-in-Err-clause-rises g c = λ d p site why at target answers flight listening link stands state is.
+    subst
+    (λ (t : ℕ). IsListening (d.world.nodes t) (d.world.links t p.source) → c.args.link.now ≡ plain_link p.source (d.world.links t p.source) → StandsAt (beside_of d t) (d.world.nodes t) c.args.disks.now
+    → c.args.state.now ≡ state_with (d.world.nodes t) (links_of d.world t) → (d.world.links t p.source).stored < ((behind d.world c.args.number).links t p.source).stored) target
+    (λ listening link stands state.
+    let safe = c.last-safe.ensures.is (beside_of d p.target) (d.world.nodes p.target) stands listening.up listening.running in
+    let line = ap (λ (s : State). s.line) state in
+    let listens = (let l : Listens (d.world.nodes p.target) (d.world.links p.target p.source) c.last-safe.result c.args.state.now.line =
+    record { up = listening.up; running = listening.running; keeps = listening.keeps; linked = listening.linked; safe_is = safe; line_is = line } in l) in
+    let heard = c.heard_link-heard.ensures d.world p p.target at refl answers flight listens link in
+    omega (arith, c.in-Err.ensures.rises why (stop_under Said (Unit {0}) c.in-Err.stop (StoppedBy why) is), ap (λ (k : PlainLink). k.stored) link, ap (λ (k : PlainLink). k.stored) heard))
+    listening link stands state
