@@ -1,6 +1,7 @@
 -- The part of a line that makes a link in which a site comes to the line of another one, by the call on the disks of the site.
-use Rattle.std.proofs.Common.{◌≡◌, ◌∙◌, ◌+◌, ◌<◌, ℕ, List, [], ◌∷◌, length, Bool, true, false, ap, sym, subst, refl, arith}
+use Rattle.std.proofs.Common.{◌≡◌, ◌∙◌, ◌+◌, ◌<◌, ℕ, suc, List, [], ◌∷◌, length, Bool, true, false, ap, sym, subst, refl, arith}
 use Rattle.std.specs.Prelude.{Option, Some, None, not, ◌&&◌, eqb, slice_get, slice_set, Result, Ok, Err}
+use Rattle.std.proofs.lemmas.Bool.Decides.{nat_tests}
 use Rattle.vx_model.specs.Content.{Write}
 use Rattle.vx_model.specs.Sites.{is_origin}
 use Rattle.vx_model.specs.declared.limits.TheConstants.{MOST_SITES}
@@ -62,7 +63,10 @@ origin_of Bunker is = absurd (cc)
 
 none_logged : (log : List Write) → is_empty log ≡ true → log ≡ []
 none_logged [] is = refl
-none_logged (x ∷ xs) is = absurd (cc)
+none_logged (x ∷ xs) is = absurd (not_zero (length xs) is)
+  where
+    not_zero : (k : ℕ) → eqb (suc k) 0 ≡ true → ⊥
+    not_zero k h = grind (arith, nat_tests)
 
 module _ {R : Type 0} {g : Ghosts R} where
   -- what a join promises, as a header of any node
@@ -136,7 +140,7 @@ module _ {R : Type 0} {g : Ghosts R} (note : (ℕ → Node) → ℕ → Node) (d
     pub join_done : Joined st (Ok tt) → Calls (Ok tt) → new.facts.items ≡ linked_facts (behind d e).world → new.flight ≡ old.flight → LetGo s old.assemblies.items new.assemblies.items
         → new.feeders.items ≡ slice_set old.feeders.items s p → NextFor [] (noted_by note d) (noted_by note (behind d e)) old new
     join_done call calls facts flight lets feeders =
-        let f = done_effect note s notes d e m (w.links s) (links_of w s) None header.effect header.kept header.sure in
+        let f = done_effect note s notes d e m header.row (links_of w s) None header.effect header.kept header.sure in
         let j = joins (Ok tt) call in
         header_done note s notes d e m (links_of w s) None header old before stands below changed.there new after changed (role_like (joined (w.nodes p) p (worked n)) m after refl j.1)
         (answered_join CrashedAt (beside_of d s) (w.nodes p) p (worked n) before after (Ok tt) j) (calls (beside_of d s) (worked n) stood) facts

@@ -154,6 +154,15 @@ module _ {R : Type 0} {g : Ghosts R} where
     abbrev pub Comes : Doubted → Yard R g → Type 0
     Comes middle mid = NextFor [] (noted_by note d) (noted_by note middle) old mid
 
+    pub below_one : (i : ℕ) → i < d.world.sites → i < (noted_by note one).world.sites
+    below_one i below = chain.below_one d p s sync fit l.said i below
+
+    pub below_two : (i : ℕ) → i < d.world.sites → i < (noted_by note two).world.sites
+    below_two i below = chain.below_two d p s sync fit l.said i below
+
+    pub below_three : (i : ℕ) → i < d.world.sites → i < (noted_by note three).world.sites
+    below_three i below = chain.below_three d p s sync fit l.said i below
+
     -- ---- the second site joins
 
     called_one : (new : Yard R g) (result : Result (Unit {0}) Said) → HeadsJoin p s sync states old new result → HeadedSo note d joins s old new result

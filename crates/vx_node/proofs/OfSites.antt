@@ -67,7 +67,7 @@ module _ {R : Type 0} {g : Ghosts R} where
 
   -- nothing was done
   pub all_still : (old new : Yard R g) → new.disk_sets.items ≡ old.disk_sets.items → AllSameFailing old new
-  all_still old new same = record { each = λ s after is. (after, (sym (ap (λ es. slice_get es s) same) ∙ is, failing_same after)) }
+  all_still old new same = record { each = λ s after is. (after, sym (ap (λ es. slice_get es s) same) ∙ is, failing_same after) }
 
   -- one of them did so
   pub all_of_site : (s : ℕ) (old new : Yard R g) → OfSite SameFailing s old new → AllSameFailing old new
@@ -78,8 +78,8 @@ module _ {R : Type 0} {g : Ghosts R} where
         (λ (same : i ≡ s).
         let here : of.after ≡ after = some_same (sym (get-set_same old.disk_sets.items s of.after (slice_get_within old.disk_sets.items s of.before of.there))
         ∙ ap (λ (k : ℕ). slice_get (slice_set old.disk_sets.items s of.after) k) (sym same) ∙ found) in
-        (of.before, (ap (λ (k : ℕ). slice_get old.disk_sets.items k) same ∙ of.there, subst (λ (e : DiskSet R g). SameFailing of.before e) here of.did)))
-        (λ apart. (after, (sym (get-set_other old.disk_sets.items s i of.after apart) ∙ found, failing_same after)))
+        (of.before, ap (λ (k : ℕ). slice_get old.disk_sets.items k) same ∙ of.there, subst (λ (e : DiskSet R g). SameFailing of.before e) here of.did))
+        (λ apart. (after, sym (get-set_other old.disk_sets.items s i of.after apart) ∙ found, failing_same after))
         (cases_eq i s);
   }
 
@@ -89,5 +89,5 @@ module _ {R : Type 0} {g : Ghosts R} where
     each = λ s after is.
         let mid = two.each s after is in
         let first = one.each s mid.0 mid.1 in
-        (first.0, (first.1, failing_then first.0 mid.0 after first.2 mid.2));
+        (first.0, first.1, failing_then first.0 mid.0 after first.2 mid.2);
   }

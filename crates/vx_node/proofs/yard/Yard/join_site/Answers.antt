@@ -5,6 +5,7 @@ use Rattle.std.proofs.lemmas.List.{with_items_is}
 use Rattle.vx_order.specs.declared.facts.SiteFacts.{SiteFacts}
 use Rattle.vx_diskset.specs.Burning.{NoMore}
 use Rattle.vx_diskset.specs.Holds.{beside_of}
+use Rattle.vx_events.proofs.Places.{some_same}
 use Rattle.vx_events.specs.declared.said.Said.TheVariants.{Done, Refused}
 use Rattle.vx_node.proofs.ApplySite.{calls_keep}
 use Rattle.vx_node.proofs.ChangeSite.{told_before}
@@ -82,8 +83,8 @@ returns-in-Err-clause-asked g c = λ d stands below.
 
 pub returns-in-Ok-clause-many : goal.returns-in-Ok-clause-many
 returns-in-Ok-clause-many g c =
-    let same = c.keep_joined.auto.sites ∙ c.deref_mut.ensures.len in
-    ap (λ (fs : List SiteFacts). length fs) (with_items_is c.args.self.now.facts c.keep_joined.new.sites same) ∙ same
+    ap (λ (fs : List SiteFacts). length fs) (with_items_is c.args.self.now.facts c.keep_joined.new.sites (c.keep_joined.auto.sites ∙ c.deref_mut.ensures.len))
+    ∙ c.keep_joined.auto.sites ∙ ap (λ (fs : List SiteFacts). length fs) c.deref_mut.ensures.value
 
 pub returns-in-Err-clause-many : goal.returns-in-Err-clause-many
 returns-in-Err-clause-many g c = length-set c.args.self.now.facts.items c.args.there c.refused.new.facts
@@ -93,3 +94,9 @@ returns-in-Ok-clause-disk_sets g c = length-set c.args.self.now.disk_sets.items 
 
 pub returns-in-Err-clause-disk_sets : goal.returns-in-Err-clause-disk_sets
 returns-in-Err-clause-disk_sets g c = length-set c.args.self.now.disk_sets.items c.args.there c.join.new.disks
+
+pub returns-in-Ok-clause-links : goal.returns-in-Ok-clause-links
+returns-in-Ok-clause-links g c = λ k a b was is.
+    let same = c.keep_joined.auto.sites ∙ c.deref_mut.ensures.len in
+    let had = c.keep_joined.ensures.links k b (sym (ap (λ (fs : List SiteFacts). slice_get fs k) (with_items_is c.args.self.now.facts c.keep_joined.new.sites same)) ∙ is) in
+    had.links ∙ ap (λ (f : SiteFacts). f.links) (some_same (sym had.there ∙ ap (λ (fs : List SiteFacts). slice_get fs k) c.deref_mut.ensures.value ∙ was))

@@ -84,8 +84,8 @@ returns-in-Err-clause-asked g c = λ d stands below.
 
 pub returns-in-Ok-clause-many : goal.returns-in-Ok-clause-many
 returns-in-Ok-clause-many g c =
-    let same = c.keep_made.auto.sites ∙ c.deref_mut.ensures.len in
-    ap (λ (fs : List SiteFacts). length fs) (with_items_is c.args.self.now.facts c.keep_made.new.sites same) ∙ same
+    ap (λ (fs : List SiteFacts). length fs) (with_items_is c.args.self.now.facts c.keep_made.new.sites (c.keep_made.auto.sites ∙ c.deref_mut.ensures.len))
+    ∙ c.keep_made.auto.sites ∙ ap (λ (fs : List SiteFacts). length fs) c.deref_mut.ensures.value
 
 pub returns-in-Err-clause-many : goal.returns-in-Err-clause-many
 returns-in-Err-clause-many g c = length-set c.args.self.now.facts.items c.args.here c.refused.new.facts

@@ -1,5 +1,6 @@
 -- Each line that works on links.
 use Rattle.std.proofs.Common.{ap, refl, subst, sym}
+use Rattle.vx_model.specs.declared.link.Prot.TheVariants.{Fail}
 use Rattle.vx_script.specs.declared.line.ScriptLine.{ScriptLine}
 use Rattle.vx_node.specs.OfSites.{AsAsked, HasCalled}
 use Rattle.vx_node.specs.Standing.{Leads, LeadsIs}
@@ -18,7 +19,7 @@ returns-in-Link-clause-leads g c = λ d stands carries.
 
 pub returns-in-Link-clause-asked : goal.returns-in-Link-clause-asked
 returns-in-Link-clause-asked g c = λ d stands.
-    subst (λ (line : ScriptLine). AsAsked d.world line c.args.self.now c.link_line.new.self) (sym c.in-Link.is) (c.link_line.ensures.asked d _ stands)
+    subst (λ (line : ScriptLine). AsAsked d.world line c.args.self.now c.link_line.new.self) (sym c.in-Link.is) (c.link_line.ensures.asked d Fail stands)
 
 pub returns-in-Link-clause-called : goal.returns-in-Link-clause-called
 returns-in-Link-clause-called g c = λ d.
@@ -33,7 +34,7 @@ returns-in-Set-clause-leads g c = λ d stands carries.
 
 pub returns-in-Set-clause-asked : goal.returns-in-Set-clause-asked
 returns-in-Set-clause-asked g c = λ d stands.
-    subst (λ (line : ScriptLine). AsAsked d.world line c.args.self.now c.set_line.new.self) (sym c.in-Set.is) (c.set_line.ensures.asked d _ stands)
+    subst (λ (line : ScriptLine). AsAsked d.world line c.args.self.now c.set_line.new.self) (sym c.in-Set.is) (c.set_line.ensures.asked d Fail stands)
 
 pub returns-in-Set-clause-called : goal.returns-in-Set-clause-called
 returns-in-Set-clause-called g c = λ d.
@@ -137,3 +138,18 @@ returns-in-Wait-clause-asked g c = λ d stands. subst (λ (line : ScriptLine). A
 
 pub returns-in-Wait-clause-called : goal.returns-in-Wait-clause-called
 returns-in-Wait-clause-called g c = λ d. links_called d.world c.args.words.now c.wait_line.result c.args.self.now c.args.self.now c.requires.kind
+
+pub pump_line-requires-clause-free : goal.pump_line-requires-clause-free
+pump_line-requires-clause-free g c = λ κs lives. subst (λ (line : ScriptLine). IsFree c.args.self.now line) c.in-Pump.is c.requires.free
+
+pub returns-in-Pump-clause-leads : goal.returns-in-Pump-clause-leads
+returns-in-Pump-clause-leads g c = λ d stands carries.
+    subst (λ (line : ScriptLine). LeadsIs d line c.args.self.now c.pump_line.new.self c.pump_line.result) (sym c.in-Pump.is) (c.pump_line.ensures.leads d stands carries)
+
+pub returns-in-Pump-clause-asked : goal.returns-in-Pump-clause-asked
+returns-in-Pump-clause-asked g c = λ d stands.
+    subst (λ (line : ScriptLine). AsAsked d.world line c.args.self.now c.pump_line.new.self) (sym c.in-Pump.is) (c.pump_line.ensures.asked d stands)
+
+pub returns-in-Pump-clause-called : goal.returns-in-Pump-clause-called
+returns-in-Pump-clause-called g c = λ d.
+    if_ok (λ said. HasCalled d.world c.args.words.now said c.args.self.now c.pump_line.new.self) c.pump_line.result (λ said. links_called d.world c.args.words.now said c.args.self.now c.pump_line.new.self c.requires.kind)
