@@ -74,6 +74,7 @@ use Rattle.vx_node.proofs.CrashSite.{beside_sure}
 use Rattle.vx_node.proofs.FailsStay.{fails_then}
 use Rattle.vx_node.proofs.FuseStays.{fused_on, left_passed}
 use Rattle.vx_node.proofs.HeaderCalls.{Answered, IsHeader, answered_keep, in_doubt}
+use Rattle.vx_node.proofs.Headed.{headed_refused}
 use Rattle.vx_node.proofs.HeadedEnds.{IsBehind, headed_ends}
 use Rattle.vx_node.proofs.HeadedWorlds.{noted_effect, worked_twice}
 use Rattle.vx_node.proofs.HeardWorld.{answer_says, heard_effect, heard_header, heard_kept, heard_rose, no_update, row}
@@ -81,7 +82,7 @@ use Rattle.vx_node.proofs.LinkLines.{Relinks, carries_kept, stands_kept}
 use Rattle.vx_node.proofs.Lists.{get-set_other, get-set_same, length-set}
 use Rattle.vx_node.proofs.NotedYard.{note_one, notes_one, stands_noted, sure_open}
 use Rattle.vx_node.proofs.OneSite.{Changed, role_kept, told_by}
-use Rattle.vx_node.proofs.PartLine.{header_done, header_refused}
+use Rattle.vx_node.proofs.PartLine.{header_done}
 use Rattle.vx_node.proofs.Rows.{row_links_same}
 use Rattle.vx_node.proofs.Turned.{stands_turned}
 use Rattle.vx_node.proofs.UpdateLine.{done_as}
@@ -308,7 +309,7 @@ module _ {R : Type 0} {g : Ghosts R} where
         → LeavesFuse NoMore (Refused why) before after → slice_get old.facts.items s ≡ Some x → x' ≡ noted_facts why x → new.facts.items ≡ slice_set old.facts.items s x' → LetsGoBy why old new s → Leads d (Deliver number) said old new
     unheard_leads why said x x' says rises is calls shown facts_is facts lets =
         let header : IsHeader d event s n ls (o.world.gathering s) = heard_header d number p at answers rises stands.links opens in
-        let h = header_refused (note_one s) s (notes_one s) d event n ls (o.world.gathering s) header old before noted below changed.there new after changed role why (Refused why) x x' refl
+        let h = headed_refused (note_one s) s (notes_one s) d event n ls (o.world.gathering s) header old new before after noted below changed role why x x'
         (refused_noted (beside_of d s) n ls before after why (answered_keep CrashedAt (beside_of d s) n (state_with n ls) before after (Err why) is)) calls shown facts_is facts lets in
         let b : IsBehind d (Deliver number) (note_one s) event s d = record {
           before = [];
@@ -322,7 +323,7 @@ module _ {R : Type 0} {g : Ghosts R} where
           notes = λ v. noted_for d number p v at below;
           fused = λ f. f;
         } in
-        let e = headed_ends d (Deliver number) (note_one s) event s d b old new h.0 h.2 in
+        let e = headed_ends d (Deliver number) (note_one s) event s d b old new why h in
         subst (λ (r : Said). Leads d (Deliver number) r old new) (sym says) (leads_by e.ends e.goes)
 
   -- ---- by the number of the site
@@ -343,12 +344,13 @@ module _ {R : Type 0} {g : Ghosts R} where
     pub stored : StoresAt (beside_of d t) (d.world.nodes t) (ltb (d.world.links t p.source).stored ((delivered d.world number (packet_at d.world.packets number)).world.links t p.source).stored)
         (links_of (delivered d.world number (packet_at d.world.packets number)).world t) after
 
-  pub heard_by : (d : Doubted) (number : ℕ) (p : Packet) (old new : Yard R g) (before after : DiskSet R g) (a : Assembled) (said : EventSaid) (t : ℕ) → packet_at d.world.packets number ≡ Some p → is_answer p.message ≡ true → StandsFor d old
-      → p.target ≡ t → HeardBy d number p old new before after a said t → Leads d (Deliver number) (reply_of said) old new
-  heard_by d number p old new before after a said t at answers stands to there =
+  pub heard_by : (d : Doubted) (number : ℕ) (p : Packet) (old new : Yard R g) (before after : DiskSet R g) (a : Assembled) (said : EventSaid) (reply : Said) (t : ℕ) → packet_at d.world.packets number ≡ Some p → is_answer p.message ≡ true → StandsFor d old
+      → p.target ≡ t → reply ≡ reply_of said → HeardBy d number p old new before after a said t → Leads d (Deliver number) reply old new
+  heard_by d number p old new before after a said reply t at answers stands to says there =
       let h = subst (λ (i : ℕ). HeardBy d number p old new before after a said i) (sym to) there in
-      heard_leads d number p at answers old new before after stands h.below h.changed h.keeps h.opens a said
-      (record { says = h.says; calls = h.calls; facts = h.facts; flight = h.flight; assemblies = h.assemblies; feeders = h.feeders; exact = h.exact }) h.stored
+      subst (λ (r : Said). Leads d (Deliver number) r old new) (sym says)
+      (heard_leads d number p at answers old new before after stands h.below h.changed h.keeps h.opens a said
+      (record { says = h.says; calls = h.calls; facts = h.facts; flight = h.flight; assemblies = h.assemblies; feeders = h.feeders; exact = h.exact }) h.stored)
 
   -- its header was refused
   pub record RefusedBy (d : Doubted) (number : ℕ) (p : Packet) (old new : Yard R g) (before after : DiskSet R g) (why : No) (x x' : SiteFacts) (t : ℕ) : Type 0 where

@@ -105,7 +105,6 @@ fn refusal(stop: Stop) -> Option<No>
 impl<R: Rack> Yard<R> {
     /// A greeting or an acknowledgement, heard by the link of its target to its source. Where that comes to count more as stored, a header says so
     /// first. Where no link hears it nothing comes of it.
-    #[tactic(none)]
     pub(crate) fn hear_answer(
         &mut self,
         alloc: Global,

@@ -33,7 +33,7 @@ use Rattle.vx_node.proofs.HeardLine.{deaf_to, heard_by, refused_by, stays_same, 
 use Rattle.vx_node.proofs.HeardWorld.{hears_as, listening, shown_by}
 use Rattle.vx_node.proofs.LinkLines.{listed}
 use Rattle.vx_node.proofs.Lists.{get_at, set_same}
-use Rattle.vx_node.proofs.OfSites.{all_of_site}
+use Rattle.vx_node.proofs.OfSites.{all_of_site, all_still}
 use Rattle.vx_node.proofs.OneSite.{role_kept}
 use Rattle.vx_node.proofs.WriteLine.{get_there}
 use Rattle.vx_node.proofs.yard.Yard.hear_answer.Goals as goal
@@ -47,6 +47,30 @@ returns-in_default-clause-leads g c = λ d p stands carries good at to from belo
     (λ small. c.in_default.ensures.deaf d.world p (event_for p.message) (c.deref.ensures.value ∙ stands.facts) refl to from below (subst (λ (i : ℕ). i < d.world.sites) from small) (listed d stands.links)
     (hears_as d c.args.number p at answers p.message answers)) in
     unheard_stays d c.args.number p y e.0 at stands (subst (λ (i : ℕ). i < d.world.sites) (sym to) below) (subst (λ (i : ℕ). slice_get y.disk_sets.items i ≡ Some e.0) (sym to) e.1) is
+
+pub returns-in_default-clause-told : goal.returns-in_default-clause-told
+returns-in_default-clause-told g c = λ told. told
+
+pub returns-in_default-clause-asked : goal.returns-in_default-clause-asked
+returns-in_default-clause-asked g c = λ d stands below. all_still c.args.self.now _ refl
+
+pub returns-in_default-state_here-clause-leads : goal.returns-in_default-state_here-clause-leads
+returns-in_default-state_here-clause-leads g c = λ d p stands carries good at to from below answers. stays_same d c.args.self.now stands
+
+pub returns-in_default-state_here-clause-asked : goal.returns-in_default-state_here-clause-asked
+returns-in_default-state_here-clause-asked g c = λ d stands below. all_still c.args.self.now _ refl
+
+pub returns-in_default-state_here-clause-told : goal.returns-in_default-state_here-clause-told
+returns-in_default-state_here-clause-told g c = λ told. told
+
+pub returns-in_default-heard_needs-clause-leads : goal.returns-in_default-heard_needs-clause-leads
+returns-in_default-heard_needs-clause-leads g c = λ d p stands carries good at to from below answers. stays_same d c.args.self.now stands
+
+pub returns-in_default-heard_needs-clause-asked : goal.returns-in_default-heard_needs-clause-asked
+returns-in_default-heard_needs-clause-asked g c = λ d stands below. all_still c.args.self.now _ refl
+
+pub returns-in_default-heard_needs-clause-told : goal.returns-in_default-heard_needs-clause-told
+returns-in_default-heard_needs-clause-told g c = λ told. told
 
 pub returns-in-Ok-clause-told : goal.returns-in-Ok-clause-told
 returns-in-Ok-clause-told g c =
@@ -190,8 +214,7 @@ returns-in-Ok-clause-leads g c = λ d p stands carries good at to from below ans
     (ap (λ (x : State). x.line) state ∙ ap (λ (i : ℕ). (d.world.nodes i).line) (sym to)) in
     let used = subst (λ (i : ℕ). c.in-Some-heard_needs.used ≡ needed_by (d.world.nodes i) q ((behind d.world c.args.number).links i q)) to needs in
     let shown = shown_by n q ((behind d.world c.args.number).links t q) c.hear-said.new.link c.in-Some-heard_needs.used part.0.link used in
-    subst (λ (r : Said). Leads d (Deliver c.args.number) r old _) (sym c.reply.ensures)
-    (heard_by d c.args.number p old _ before after a said t at answers stands to (record {
+    heard_by d c.args.number p old _ before after a said c.reply.result t at answers stands to c.reply.ensures (record {
       below = below;
       changed = record { there = there; later = c.hear-said.ensures.later; disk_sets = refl; racks = refl };
       keeps = c.hear-said.ensures.role;
@@ -209,4 +232,4 @@ returns-in-Ok-clause-leads g c = λ d p stands carries good at to from below ans
           (c.in-Ok.ensures.heard d p t at to answers (are_one d.world (world_good d (good told))) carries.flight listens link
           (carries.assemblies told t was (get_at old.assemblies.items t was c.requires.place c.index_mut-2.ensures.value)) here state).0.assembly;
       stored = part.1;
-    }))
+    })
