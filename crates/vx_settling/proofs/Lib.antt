@@ -1,0 +1,5 @@
+pub mod Rules
+pub mod Touching
+pub mod Events
+pub mod Running
+pub mod Unfolding

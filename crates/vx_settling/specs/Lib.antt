@@ -1,0 +1,4 @@
+pub mod Kinds
+pub mod Turning
+pub mod Ending
+pub mod Between
