@@ -1,7 +1,6 @@
 -- What each event of which settling is made changes of a world.
-use Rattle.std.proofs.Common.{length, ◌≡◌, ◌∙◌, ◌+◌, inl, inr, ℕ, List, [], ◌∷◌, ◌++◌, Bool, true, false, refl, ap, sym, subst, arith}
+use Rattle.std.proofs.Common.{length, ◌≡◌, ◌∙◌, ◌+◌, inl, inr, ℕ, List, [], ◌∷◌, Bool, true, false, refl, ap, sym, subst, arith}
 use Rattle.std.proofs.lemmas.Bool.Decides.{nat_tests}
-use Rattle.std.proofs.lemmas.List.{append-nil}
 use Rattle.std.specs.List.{AllByRecursion}
 use Rattle.std.specs.Prelude.{not, ◌&&◌, eqb, leb, ltb, Option, Some, None, if◌then◌else◌}
 use Rattle.vx_model.specs.Content.{Write}
@@ -12,14 +11,14 @@ use Rattle.vx_model.specs.declared.no.No.{No}
 use Rattle.vx_model.specs.declared.no.No.TheVariants.{Down as NotUp, LinkDown, Paused, Role as WrongRole, Unknown}
 use Rattle.vx_model.specs.declared.no.SiteName.TheVariants.{Number as SiteNumber}
 use Rattle.vx_history.proofs.Updates.{by_test}
-use Rattle.vx_history.specs.Events.{acknowledged, applied, applied_by, apply_at, delivered, facts_of, from_memory, gathered_if, greeting_back, greets, handed, heard, is_taken, link_event, link_heard, link_step, packet_at, reached_at, said_of_link, taken_if, ticked_at, ticked_link, update_heard, update_taken, with_write}
+use Rattle.vx_history.specs.Events.{acknowledged, applied, applied_by, apply_at, delivered, facts_of, gathered_if, greeting_back, greets, handed, heard, is_taken, link_event, link_heard, link_step, packet_at, reached_at, said_of_link, taken_if, ticked_at, ticked_link, update_taken, with_write}
 use Rattle.vx_history.specs.Gatherings.{completes}
 use Rattle.vx_history.specs.Headers.{count_at, heard_headers}
 use Rattle.vx_history.specs.LinkForms.{plain_link, plain_receiver, with_plain}
 use Rattle.vx_history.specs.Receiving.{received_step}
 use Rattle.vx_history.specs.Refusals.{Outcome, at_site, at_work, is_running, keeps_links, on_link, says, unless, unless_halted, when_live}
 use Rattle.vx_history.specs.Sending.{Sent, sent_step}
-use Rattle.vx_history.specs.Sends.{greeting, is_linked, packet, packets_of, sending, sent_by, updates, with_link}
+use Rattle.vx_history.specs.Sends.{greeting, is_linked, packets_of, sending, sent_by, updates, with_link}
 use Rattle.vx_history.specs.Step.{done, outcome_of, step}
 use Rattle.vx_history.specs.World.{DataAck, Hello, Link, Message, NetAck, Node, Packet, Update, World, no_regions, updated}
 use Rattle.vx_history.specs.declared.event.Event.TheVariants.{Apply, Connect, Deliver, Pump, Tick}
@@ -32,7 +31,6 @@ use Rattle.vx_history.specs.declared.sender.Action.{Action}
 use Rattle.vx_history.specs.declared.sender.Action.TheVariants.{Ignored, Nothing, Taken, Updates}
 use Rattle.vx_history.specs.declared.sender.SEvent.{SEvent}
 use Rattle.vx_history.specs.declared.sender.SEvent.TheVariants.{Connect as ConnectLink, DataAck as HearDataAck, Hello as HearHello, NetAck as HearNetAck, Pump as PumpLink, Tick as TickLink}
-use Rattle.vx_events.specs.LinkFinds.{TakesOf}
 use Rattle.vx_world.proofs.Links.{each_packet}
 use Rattle.vx_world.proofs.Lists.{each_append}
 use Rattle.vx_settling.specs.Between.{IsSent, is_update}

@@ -1,10 +1,10 @@
 -- What the rule of a link leaves of it in the events of which settling is made.
-use Rattle.std.proofs.Common.{◌≡◌, ◌∙◌, ℕ, Bool, true, false, refl, ap, sym, subst}
-use Rattle.std.specs.Prelude.{◌&&◌, ◌+◌, eqb, ltb, max, min, if◌then◌else◌}
+use Rattle.std.proofs.Common.{◌≡◌, ◌∙◌, ℕ, Bool, true, false, refl, ap, sym}
+use Rattle.std.specs.Prelude.{◌&&◌, ◌+◌, eqb, ltb, max, min}
 use Rattle.vx_history.proofs.Updates.{by_test}
 use Rattle.vx_history.specs.Admission.{is_live}
 use Rattle.vx_history.specs.LinkForms.{plain_link, with_plain}
-use Rattle.vx_history.specs.Sending.{Sent, by_log, greeted, greeted_apart, greeted_by_log, pumped, pumped_up_to, memory_acknowledged, disk_acknowledged, sent_step, with_ignored, with_nothing, with_taken}
+use Rattle.vx_history.specs.Sending.{Sent, by_log, greeted, greeted_apart, greeted_by_log, pumped_up_to, memory_acknowledged, disk_acknowledged, sent_step, with_ignored, with_nothing, with_taken}
 use Rattle.vx_history.specs.World.{Link, Regions}
 use Rattle.vx_history.specs.declared.sender.SEvent.TheVariants.{Connect, DataAck, Hello, NetAck, Pump, Tick}
 use Rattle.vx_history.specs.declared.sender.SFacts.{SFacts}
@@ -87,7 +87,7 @@ goes_then l m n one two = record {
   rest =
       two.rest
       ∙ ap (λ (x : Link). let y : Link = record x { connected = n.connected; session = n.session; net = n.net; stored = n.stored; sent = n.sent; trimmed = n.trimmed; mode = n.mode; since = n.since } in y)
-          one.rest;
+      one.rest;
   connects = λ e. two.connects (one.connects e);
   trims = λ e. two.trims (one.trims e);
   logs = λ e. two.logs (one.logs e);

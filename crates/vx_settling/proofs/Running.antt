@@ -1,20 +1,18 @@
 -- What events of settling leave of a world, one after another.
 use Rattle.std.proofs.Common.{length, suc, zero, ◌+◌, ◌-◌, ◌≡◌, ◌∙◌, ◌++◌, ℕ, List, [], ◌∷◌, Bool, true, false, refl, ap, sym, subst, append_assoc}
 use Rattle.std.proofs.lemmas.List.{append-nil}
-use Rattle.std.specs.List.{AllByRecursion}
 use Rattle.std.specs.Prelude.{eqb, leb, Option, Some, None, if◌then◌else◌}
 use Rattle.vx_model.specs.Sites.{is_origin}
 use Rattle.vx_history.proofs.Updates.{by_test, eqb_apart, eqb_equal}
 use Rattle.vx_history.specs.Doubts.{Doubted, Runs, happened}
 use Rattle.vx_history.specs.Events.{packet_at}
-use Rattle.vx_history.specs.Sends.{is_linked, is_made}
+use Rattle.vx_history.specs.Sends.{is_linked}
 use Rattle.vx_history.specs.Settling.{MaySettle, deliver_between, deliver_new, delivery, greeting_events, is_between, is_stuck, settling, turn, turns}
 use Rattle.vx_history.specs.Step.{run, step}
 use Rattle.vx_history.specs.Stops.{IsFused, all_fails}
-use Rattle.vx_history.specs.World.{DataAck, Fuse, Hello, Link, Message, NetAck, Node, Packet, Update, World}
+use Rattle.vx_history.specs.World.{DataAck, Hello, Link, Message, NetAck, Node, Packet, Update, World}
 use Rattle.vx_history.specs.declared.event.Event.{Event}
 use Rattle.vx_history.specs.declared.event.Event.TheVariants.{Site, Raw, Write, Read, Apply, Pump, Tick, Deliver, Connect, Cut, Pause, Resume, Wait, Link as LinkSites, Set, Crash, Recover, Fault}
-use Rattle.vx_model.specs.declared.link.Mode.TheVariants.{Log}
 use Rattle.vx_events.specs.Doubts.{run_as}
 use Rattle.vx_world.proofs.Lists.{each_append}
 use Rattle.vx_settling.specs.Between.{IsSent, is_update}
@@ -188,7 +186,7 @@ are_turn w p s =
     let last : List Event = if is_stuck (w.links p s).stored (w4.links p s).stored (w4.nodes p).safe then greeting_events w4 p s else [] in
     let stuck : AreSettling last =
     by_test AreSettling (is_stuck (w.links p s).stored (w4.links p s).stored (w4.nodes p).safe) (greeting_events w4 p s) [] (λ _. are_greeting w4 p s) (λ _. tt) in
-    are_both sent (came ++ (applied ++ (heard ++ last))) (refl, refl, tt)
+    are_both sent (came ++ (applied ++ (heard ++ last))) (refl, (refl, tt))
     (are_both came (applied ++ (heard ++ last)) (are_deliveries p s w w1)
     (are_both applied (heard ++ last) (refl, tt) (are_both heard last (are_deliveries p s w2 w3) stuck)))
 

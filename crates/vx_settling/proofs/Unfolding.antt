@@ -5,7 +5,7 @@ use Rattle.std.specs.Prelude.{leb, Option, Some, None, slice_get, if◌then◌el
 use Rattle.vx_model.specs.declared.limits.TheConstants.{MOST_PACKETS}
 use Rattle.vx_history.proofs.Updates.{by_test}
 use Rattle.vx_history.specs.Events.{packet_at}
-use Rattle.vx_history.specs.Settling.{deliver_between, delivery, greeting_events, is_between, is_stuck, turn, turns}
+use Rattle.vx_history.specs.Settling.{deliver_between, delivery, is_between, turn, turns}
 use Rattle.vx_history.specs.Step.{run}
 use Rattle.vx_history.specs.World.{Packet, World}
 use Rattle.vx_history.specs.declared.event.Event.{Event}
@@ -103,10 +103,10 @@ turn_is w p s =
     let second : run w2 (applying_all w2 p s) ≡ w4 = run_append w2 applied heard in
     let first : run w again ≡ w2 = run_append w sent came in
     sym (
-      ap (λ (v : World). again ++ (applying_all v p s ++ greeting_if (w.links p s).stored (run v (applying_all v p s)) p s)) first
-      ∙ ap (λ (v : World). again ++ (applying_all w2 p s ++ greeting_if (w.links p s).stored v p s)) second
-      ∙ append_assoc sent came ((applied ++ heard) ++ last)
-      ∙ ap (λ (es : List Event). sent ++ (came ++ es)) (append_assoc applied heard last)
+    ap (λ (v : World). again ++ (applying_all v p s ++ greeting_if (w.links p s).stored (run v (applying_all v p s)) p s)) first
+    ∙ ap (λ (v : World). again ++ (applying_all w2 p s ++ greeting_if (w.links p s).stored v p s)) second
+    ∙ append_assoc sent came ((applied ++ heard) ++ last)
+    ∙ ap (λ (es : List Event). sent ++ (came ++ es)) (append_assoc applied heard last)
     )
 
 -- ---- turns
