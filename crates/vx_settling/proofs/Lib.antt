@@ -6,3 +6,4 @@ pub mod Unfolding
 pub mod Stopping
 pub mod Ends
 pub mod Moving
+pub mod Working

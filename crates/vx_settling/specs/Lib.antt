@@ -2,3 +2,4 @@ pub mod Kinds
 pub mod Turning
 pub mod Ending
 pub mod Between
+pub mod Works

@@ -4,3 +4,4 @@
 pub mod between_laws;
 pub mod ends_laws;
 pub mod left_laws;
+pub mod works_laws;
