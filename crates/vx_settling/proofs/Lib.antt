@@ -5,5 +5,6 @@ pub mod Running
 pub mod Unfolding
 pub mod Stopping
 pub mod Ends
+pub mod Named
 pub mod Moving
 pub mod Working

@@ -1,6 +1,5 @@
 -- Parts of a line that settles a link, one after another, and how the line ends by them.
 use Rattle.std.proofs.Common.{◌≡◌, ◌∙◌, ◌⊎◌, inl, inr, ◌++◌, ◌+◌, ◌≤◌, ℕ, List, [], ◌∷◌, Bool, true, false, refl, ap, sym, subst, append_assoc}
-use Rattle.std.specs.List.{AllByRecursion}
 use Rattle.std.specs.Prelude.{Option, Some}
 use Rattle.vx_model.specs.Content.{Write}
 use Rattle.vx_model.specs.Sites.{is_origin}
@@ -39,34 +38,34 @@ module _ (told : Type 0) (p s : ℕ) where
 
   module _ (d : Doubted) (may : MayMove p s d.world) where
     pub works_none : Works told p s d [] d
-    works_none = record { exact = λ tells. refl; passes = begins p s d may }
+    works_none = record { exact = λ tells. refl; passes = begins told p s d may }
 
     pub works_connect : Works told p s d (Connect p s ∷ []) (happened d (Connect p s) false)
-    works_connect = record { exact = λ tells. (false, refl); passes = connects p s d may false }
+    works_connect = record { exact = λ tells. (false, refl); passes = connects told p s d may false }
 
     pub works_tick : Works told p s d (Tick p s ∷ []) (happened d (Tick p s) false)
-    works_tick = record { exact = λ tells. (false, refl); passes = ticks p s d may false }
+    works_tick = record { exact = λ tells. (false, refl); passes = ticks told p s d may false }
 
     pub works_pump : Works told p s d (Pump p s ∷ []) (happened d (Pump p s) false)
-    works_pump = record { exact = λ tells. (false, refl); passes = pumps p s d may false }
+    works_pump = record { exact = λ tells. (false, refl); passes = pumps told p s d may false }
 
-    pub works_pump_other : (more : List Packet) → (told → ⊥) → AllByRecursion (IsSent p s) more → Works told p s d (Pump p s ∷ []) (record d { world = pumped_with d.world p s more })
-    works_pump_other more untold all = record { exact = λ tells. absurd (untold tells); passes = pumps_other p s d may more all }
+    pub works_pump_other : (more : List Packet) → (told → ⊥) → Works told p s d (Pump p s ∷ []) (record d { world = pumped_with d.world p s more })
+    works_pump_other more untold = record { exact = λ tells. absurd (untold tells); passes = pumps_other told p s d may more untold }
 
     pub works_apply : (count reached : ℕ) → Works told p s d (Apply s count reached ∷ []) (happened d (Apply s count reached) false)
-    works_apply count reached = record { exact = λ tells. (false, refl); passes = applies p s d may count reached false }
+    works_apply count reached = record { exact = λ tells. (false, refl); passes = applies told p s d may count reached false }
 
     module _ (number : ℕ) (q : Packet) (sent : IsSent p s q) where
       pub works_deliver : packet_at d.world.packets number ≡ Some q → is_between p s q ≡ true → Works told p s d (Deliver number ∷ []) (happened d (Deliver number) false)
-      works_deliver at between = record { exact = λ tells. (false, refl); passes = delivers p s d may number q false at sent between }
+      works_deliver at between = record { exact = λ tells. (false, refl); passes = delivers told p s d may number q false at sent between }
 
-      pub works_take_other : (x : Write) (o : Option Gathering) (more : List Packet) → (told → ⊥) → MayTake d.world number q → AllByRecursion (IsSent p s) more
+      pub works_take_other : (x : Write) (o : Option Gathering) (more : List Packet) → (told → ⊥) → MayTake d.world number q
           → Works told p s d (Deliver number ∷ []) (record d { world = target_with d.world q.target (with_write (d.world.nodes q.target) q.source x) o more })
-      works_take_other x o more untold takes all = record { exact = λ tells. absurd (untold tells); passes = takes_other p s d may number q x o more takes sent all }
+      works_take_other x o more untold takes = record { exact = λ tells. absurd (untold tells); passes = takes_other told p s d may number q x o more takes sent untold }
 
-      pub works_keep_other : (o : Option Gathering) (more : List Packet) → (told → ⊥) → MayTake d.world number q → AllByRecursion (IsSent p s) more
+      pub works_keep_other : (o : Option Gathering) (more : List Packet) → (told → ⊥) → MayTake d.world number q
           → Works told p s d (Deliver number ∷ []) (record d { world = target_with d.world q.target (d.world.nodes q.target) o more })
-      works_keep_other o more untold takes all = record { exact = λ tells. absurd (untold tells); passes = keeps_other p s d may number q o more takes sent all }
+      works_keep_other o more untold takes = record { exact = λ tells. absurd (untold tells); passes = keeps_other told p s d may number q o more takes sent untold }
 
     -- ---- one step that stops
 
@@ -74,7 +73,7 @@ module _ (told : Type 0) (p s : ℕ) where
     pub stops_unread : (disk : ℕ) → Stops told p s d (Pump p s ∷ []) ((p, disk) ∷ []) (Refused (Device disk)) d
     stops_unread disk = record {
       exact = λ tells. IsUnreadIn [] [] (Pump p s) p disk refl refl refl refl refl refl;
-      other = λ untold. record { middle = d; passes = begins p s d may; ends = IsUnread disk refl refl refl };
+      other = λ untold. record { middle = d; passes = begins told p s d may; ends = IsUnread disk refl refl refl };
     }
 
     -- a disk failed in a header of p, or its fuse ran out there
@@ -82,7 +81,7 @@ module _ (told : Type 0) (p s : ℕ) where
         → Stops told p s d (Deliver number ∷ []) ((p, disk) ∷ []) (Refused (Device disk)) (halved d (Deliver number) p disk)
     stops_header number disk opens writes = record {
       exact = λ tells. HaltsIn (Deliver number) p disk d (record { before = []; rest = []; split = refl; runs = refl; fails = refl; opens = opens; writes = writes }) refl refl refl;
-      other = λ untold. record { middle = d; passes = begins p s d may; ends = HeaderHalts number disk opens writes refl refl refl };
+      other = λ untold. record { middle = d; passes = begins told p s d may; ends = HeaderHalts number disk opens writes refl refl refl };
     }
 
     pub cuts_header : (number kept : ℕ) (taken : Bool) → IsOpen (d.world.nodes p) → IsHeardAt d.world number p → IsFused (d.world.nodes p).fuse
@@ -90,7 +89,7 @@ module _ (told : Type 0) (p s : ℕ) where
     cuts_header number kept taken opens writes fused = record {
       exact = λ tells.
           CutsIn (Deliver number) p kept taken d (record { before = []; rest = []; split = refl; runs = refl; fails = refl; opens = opens; writes = writes }) fused refl refl refl;
-      other = λ untold. record { middle = d; passes = begins p s d may; ends = HeaderCut number kept taken opens writes fused refl refl refl };
+      other = λ untold. record { middle = d; passes = begins told p s d may; ends = HeaderCut number kept taken opens writes fused refl refl refl };
     }
 
     -- a disk failed as s applied what waits there, or its fuse ran out
@@ -98,14 +97,14 @@ module _ (told : Type 0) (p s : ℕ) where
         → Stops told p s d (Apply s count reached ∷ []) ((s, disk) ∷ []) (Refused (Device disk)) (happened d (Fault s disk) false)
     stops_apply count reached disk opens = record {
       exact = λ tells. HaltsApplying [] [] s count reached disk refl (false, refl) refl refl refl;
-      other = λ untold. record { middle = d; passes = begins p s d may; ends = ApplyHalts disk opens refl refl refl };
+      other = λ untold. record { middle = d; passes = begins told p s d may; ends = ApplyHalts disk opens refl refl refl };
     }
 
     pub cuts_apply : (count reached kept : ℕ) (taken : Bool) → IsOpen (d.world.nodes s) → IsFused (d.world.nodes s).fuse
         → Stops told p s d (Apply s count reached ∷ []) [] (Refused IsOff) (crashed_as (halved d (Fault s 0) s 0) s kept taken)
     cuts_apply count reached kept taken opens fused = record {
       exact = λ tells. CutsApplying [] [] s count reached kept taken d refl refl refl opens fused refl refl refl;
-      other = λ untold. record { middle = d; passes = begins p s d may; ends = ApplyCut kept taken opens fused refl refl refl };
+      other = λ untold. record { middle = d; passes = begins told p s d may; ends = ApplyCut kept taken opens fused refl refl refl };
     }
 
     -- no number is left for a header of p, or for what waits at s
@@ -113,55 +112,55 @@ module _ (told : Type 0) (p s : ℕ) where
         → Stops told p s d (Deliver number ∷ []) [] (Refused (Limit Number MOST_NUMBER)) d
     lacks_header number writes lacks = record {
       exact = λ tells. LacksNumber [] [] (Deliver number) p refl writes refl refl lacks refl refl;
-      other = λ untold. record { middle = d; passes = begins p s d may; ends = GivesUp (Limit Number MOST_NUMBER) tt refl refl refl };
+      other = λ untold. record { middle = d; passes = begins told p s d may; ends = GivesUp (Limit Number MOST_NUMBER) tt refl refl refl };
     }
 
     pub lacks_apply : (count reached : ℕ) → (told → MOST_NUMBER ≤ most_stamp_at d.world s + stamps_of (Apply s count reached) d.world s)
         → Stops told p s d (Apply s count reached ∷ []) [] (Refused (Limit Number MOST_NUMBER)) d
     lacks_apply count reached lacks = record {
       exact = λ tells. LacksNumber [] [] (Apply s count reached) s refl refl refl refl lacks refl refl;
-      other = λ untold. record { middle = d; passes = begins p s d may; ends = GivesUp (Limit Number MOST_NUMBER) tt refl refl refl };
+      other = λ untold. record { middle = d; passes = begins told p s d may; ends = GivesUp (Limit Number MOST_NUMBER) tt refl refl refl };
     }
 
     -- any other refusal comes of disks that tell no contents
     pub gives_up : (events : List Event) (why : No) → (told → ⊥) → IsNoStop why → Stops told p s d events [] (Refused why) d
     gives_up events why untold other = record {
       exact = λ tells. absurd (untold tells);
-      other = λ _. record { middle = d; passes = begins p s d may; ends = GivesUp why other refl refl refl };
+      other = λ _. record { middle = d; passes = begins told p s d may; ends = GivesUp why other refl refl refl };
     }
 
     -- memory ran out before the first event
     pub short_none : (events : List Event) → Shortens told p s d events d
-    short_none events = record { exact = λ tells. record { before = []; rest = events; split = refl; runs = refl }; passes = begins p s d may }
+    short_none events = record { exact = λ tells. record { before = []; rest = events; split = refl; runs = refl }; passes = begins told p s d may }
 
   -- ---- several
 
   module _ (d m : Doubted) (xs ys : List Event) where
     pub works_then : (n : Doubted) → Works told p s d xs m → Works told p s m ys n → Works told p s d (xs ++ ys) n
-    works_then n one two = record { exact = λ tells. runs_then d m n xs ys (one.exact tells) (two.exact tells); passes = passes_then p s d m n one.passes two.passes }
+    works_then n one two = record { exact = λ tells. runs_then d m n xs ys (one.exact tells) (two.exact tells); passes = passes_then told p s d m n one.passes two.passes }
 
     pub stop_more : (fails : Fails) (said : Said) (last : Doubted) → Stops told p s d xs fails said last → Stops told p s d (xs ++ ys) fails said last
     stop_more fails said last stop = record { exact = λ tells. stops_more told d xs ys fails said last (stop.exact tells); other = stop.other }
 
     -- an end behind more that passed
-    ends_then : (middle : Doubted) (fails : Fails) (said : Said) (last : Doubted) → Passes p s d m → EndsBetween p s m middle fails said last → EndsBetween p s d middle fails said last
+    ends_then : (middle : Doubted) (fails : Fails) (said : Said) (last : Doubted) → Passes told p s d m → EndsBetween p s m middle fails said last → EndsBetween p s d middle fails said last
     ends_then middle fails said last passed (IsStored stored none is leaves) = IsStored stored none is leaves
     ends_then middle fails said last passed (GivesUp why other none is leaves) = GivesUp why other none is leaves
     ends_then middle fails said last passed (IsUnread disk one is leaves) = IsUnread disk one is leaves
     ends_then middle fails said last passed (HeaderHalts number disk opens writes one is leaves) = HeaderHalts number disk opens writes one is leaves
     ends_then middle fails said last passed (ApplyHalts disk opens one is leaves) = ApplyHalts disk opens one is leaves
     ends_then middle fails said last passed (HeaderCut number kept taken opens writes fused none is leaves) =
-        HeaderCut number kept taken opens writes (still_fused p s d m passed p fused) none is leaves
-    ends_then middle fails said last passed (ApplyCut kept taken opens fused none is leaves) = ApplyCut kept taken opens (still_fused p s d m passed s fused) none is leaves
+        HeaderCut number kept taken opens writes (still_fused told p s d m passed p fused) none is leaves
+    ends_then middle fails said last passed (ApplyCut kept taken opens fused none is leaves) = ApplyCut kept taken opens (still_fused told p s d m passed s fused) none is leaves
 
     pub stop_then : (fails : Fails) (said : Said) (last : Doubted) → AreSettling xs → Works told p s d xs m → Stops told p s m ys fails said last → Stops told p s d (xs ++ ys) fails said last
     stop_then fails said last are one stop = record {
-      exact = λ tells. stops_behind told d m xs ys fails said last (one.exact tells) (no_fails xs are) (still_fused p s d m one.passes) (stop.exact tells);
+      exact = λ tells. stops_behind told d m xs ys fails said last (one.exact tells) (no_fails xs are) (still_fused told p s d m one.passes) (stop.exact tells);
       other = λ untold.
           let rest = stop.other untold in
           record {
             middle = rest.middle;
-            passes = passes_then p s d m rest.middle one.passes rest.passes;
+            passes = passes_then told p s d m rest.middle one.passes rest.passes;
             ends = ends_then rest.middle fails said last one.passes rest.ends;
           };
     }
@@ -176,7 +175,7 @@ module _ (told : Type 0) (p s : ℕ) where
             split = ap (λ (es : List Event). xs ++ es) first.split ∙ sym (append_assoc xs first.before first.rest);
             runs = runs_then d m n xs first.before (one.exact tells) first.runs;
           };
-      passes = passes_then p s d m n one.passes short.passes;
+      passes = passes_then told p s d m n one.passes short.passes;
     }
 
   pub short_more : (d n : Doubted) (xs ys : List Event) → Shortens told p s d xs n → Shortens told p s d (xs ++ ys) n

@@ -21,7 +21,7 @@ pub record MayMove (p s : ℕ) (w : World) : Type 0 where
   pub can : CanSettle w p s
   pub trimmed : (w.links p s).trimmed ≡ 0
 
--- between p and s packets were sent and delivered, and all that were sent are such as settling sends
-pub record Passes (p s : ℕ) (d e : Doubted) : Type 0 where
+-- Between p and s packets were sent and delivered. Where contents are told all that were sent are such as settling sends.
+pub record Passes (told : Type 0) (p s : ℕ) (d e : Doubted) : Type 0 where
   pub moves : MovesBetween p s d e
-  pub all : AllByRecursion (IsSent p s) moves.more
+  pub all : told → AllByRecursion (IsSent p s) moves.more

@@ -1,6 +1,5 @@
 // What parts of a line that settles a link come to, one after another, and how the line ends by them.
 ghost use Rattle.std.specs.Prelude.{◌≡◌, ◌⊎◌, ℕ, ◌+◌, ◌≤◌, ◌∷◌, ◌++◌, Bool, true, false, List, [], Option, Some};
-ghost use Rattle.std.specs.List.{AllByRecursion};
 ghost use Rattle.vx_model.specs.Content.{Write};
 ghost use Rattle.vx_model.specs.Sites.{is_origin};
 ghost use Rattle.vx_model.specs.declared.limits.TheConstants.{MOST_NUMBER};
@@ -34,16 +33,16 @@ pub fn settling_works()
     ensures connect { (t : Bool) (p s : ℕ) (d : Doubted) → MayMove p s d.world → Works (t ≡ true) p s d (Connect p s ∷ []) (happened d (Connect p s) false) }
     ensures tick { (t : Bool) (p s : ℕ) (d : Doubted) → MayMove p s d.world → Works (t ≡ true) p s d (Tick p s ∷ []) (happened d (Tick p s) false) }
     ensures pump { (t : Bool) (p s : ℕ) (d : Doubted) → MayMove p s d.world → Works (t ≡ true) p s d (Pump p s ∷ []) (happened d (Pump p s) false) }
-    ensures pump_other { (t : Bool) (p s : ℕ) (d : Doubted) → MayMove p s d.world → (more : List Packet) → (t ≡ true → ⊥) → AllByRecursion (IsSent p s) more
+    ensures pump_other { (t : Bool) (p s : ℕ) (d : Doubted) → MayMove p s d.world → (more : List Packet) → (t ≡ true → ⊥)
         → Works (t ≡ true) p s d (Pump p s ∷ []) (record d { world = pumped_with d.world p s more }) }
     ensures apply { (t : Bool) (p s : ℕ) (d : Doubted) → MayMove p s d.world → (count reached : ℕ) → Works (t ≡ true) p s d (Apply s count reached ∷ []) (happened d (Apply s count reached) false) }
     ensures deliver { (t : Bool) (p s : ℕ) (d : Doubted) → MayMove p s d.world → (number : ℕ) (q : Packet) → IsSent p s q → packet_at d.world.packets number ≡ Some q → is_between p s q ≡ true
         → Works (t ≡ true) p s d (Deliver number ∷ []) (happened d (Deliver number) false) }
     ensures take_other { (t : Bool) (p s : ℕ) (d : Doubted) → MayMove p s d.world → (number : ℕ) (q : Packet) → IsSent p s q → (x : Write) (o : Option Gathering) (more : List Packet)
-        → (t ≡ true → ⊥) → MayTake d.world number q → AllByRecursion (IsSent p s) more
+        → (t ≡ true → ⊥) → MayTake d.world number q
         → Works (t ≡ true) p s d (Deliver number ∷ []) (record d { world = target_with d.world q.target (with_write (d.world.nodes q.target) q.source x) o more }) }
     ensures keep_other { (t : Bool) (p s : ℕ) (d : Doubted) → MayMove p s d.world → (number : ℕ) (q : Packet) → IsSent p s q → (o : Option Gathering) (more : List Packet) → (t ≡ true → ⊥)
-        → MayTake d.world number q → AllByRecursion (IsSent p s) more
+        → MayTake d.world number q
         → Works (t ≡ true) p s d (Deliver number ∷ []) (record d { world = target_with d.world q.target (d.world.nodes q.target) o more }) }
     ensures unread { (t : Bool) (p s : ℕ) (d : Doubted) → MayMove p s d.world → (disk : ℕ) → Stops (t ≡ true) p s d (Pump p s ∷ []) ((p, disk) ∷ []) (Refused (Device disk)) d }
     ensures header { (t : Bool) (p s : ℕ) (d : Doubted) → MayMove p s d.world → (number disk : ℕ) → IsOpen (d.world.nodes p) → IsHeardAt d.world number p

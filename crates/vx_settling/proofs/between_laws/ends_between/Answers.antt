@@ -7,5 +7,5 @@ pub returns : goal.returns
 returns c = record {
   finds = λ told d middle p s passed. line_finds (told ≡ true) d middle p s passed;
   short = λ told d middle p s passed. line_short (told ≡ true) d middle p s passed;
-  fits = passed_fits;
+  fits = λ told. passed_fits (told ≡ true);
 }
