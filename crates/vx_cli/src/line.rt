@@ -1,10 +1,17 @@
 // What a line says, where its kind is built.
 ghost use Rattle.std.specs.Prelude.{◌≡◌};
 ghost use Rattle.vx_script.specs.Parsed.{IsParsed};
-ghost use Rattle.vx_node.specs.Lines.{is_built, script_line};
+ghost use Rattle.vx_node.specs.Lines.{is_built, is_fail, script_line};
 
 use std::alloc::Global;
+use vx_model::Prot;
 use vx_script::{LineErr, ScriptLine, parse};
+
+fn is_fail(prot: &Prot) -> bool
+    ensures { result ≡ is_fail prot.now }
+{
+    matches!(prot, Prot::Fail)
+}
 
 fn is_built(line: &ScriptLine) -> bool
     ensures { result ≡ is_built line.now }
@@ -21,7 +28,15 @@ fn is_built(line: &ScriptLine) -> bool
         | ScriptLine::Read { .. }
         | ScriptLine::Show { .. }
         | ScriptLine::Apply { .. }
-        | ScriptLine::Status { .. } => true,
+        | ScriptLine::Status { .. }
+        | ScriptLine::Connect { .. }
+        | ScriptLine::Cut { .. }
+        | ScriptLine::Pause { .. }
+        | ScriptLine::Resume { .. }
+        | ScriptLine::Pump { .. }
+        | ScriptLine::Tick { .. }
+        | ScriptLine::Wait { .. } => true,
+        ScriptLine::Set { prot, .. } => is_fail(prot),
         _ => false,
     }
 }

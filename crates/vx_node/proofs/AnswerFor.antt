@@ -1,5 +1,5 @@
 -- What a line is answered and prints, where sites may keep links and be in doubt.
-use Rattle.std.proofs.Common.{◌≡◌, ◌∙◌, ◌+◌, Bool, true, List, [], length, ap, sym, subst, refl, arith}
+use Rattle.std.proofs.Common.{◌≡◌, ◌∙◌, ◌+◌, List, [], length, ap, sym, subst, refl, arith}
 use Rattle.std.specs.Prelude.{IfOk, Option, Some, None, Result, Ok, Err, nat_lt, suc, ℕ, if◌then◌else◌}
 use Rattle.vx_history.specs.Doubts.{Doubted}
 use Rattle.vx_history.specs.World.{World}
@@ -7,30 +7,25 @@ use Rattle.vx_model.specs.declared.errors.OutOfMemory.{OutOfMemory}
 use Rattle.vx_model.specs.declared.no.No.{No}
 use Rattle.vx_disk.specs.declared.shelf.Shelf.{Ghosts}
 use Rattle.vx_order.specs.Order.{refusal_of}
+use Rattle.vx_order.specs.Packets.{packet_unknown}
 use Rattle.vx_order.specs.declared.facts.SiteFacts.{SiteFacts}
 use Rattle.vx_script.specs.declared.line.ScriptLine.{ScriptLine}
 use Rattle.vx_script.specs.declared.line.ScriptLine.TheVariants.{Deliver}
 use Rattle.vx_events.proofs.Parts.{none_done}
-use Rattle.vx_events.specs.LinkedFacts.{linked_facts, refused_by}
+use Rattle.vx_events.specs.LinkedFacts.{refused_by}
 use Rattle.vx_events.specs.Sent.{sent_between}
 use Rattle.vx_events.specs.Lines.{StepBy}
 use Rattle.vx_events.specs.declared.said.Said.{Said}
 use Rattle.vx_events.specs.declared.said.Said.TheVariants.{Refused}
 use Rattle.vx_node.specs.Carries.{Carries}
-use Rattle.vx_node.specs.Lines.{is_built}
 use Rattle.vx_node.specs.OfSites.{HasCalled}
 use Rattle.vx_node.specs.Replies.{text_of}
 use Rattle.vx_node.specs.Standing.{AnswersFor, AnswersIs, LeadsIs, StandsFor, StaysFor, StepsFor, StopsFor}
-use Rattle.vx_node.specs.Working.{IsFree}
+use Rattle.vx_node.specs.Working.{IsFree, refused_in}
 use Rattle.vx_node.specs.Yards.{IsTold, count_of, in_files}
 use Rattle.vx_node.specs.declared.yard.Yard.{Yard}
 use Rattle.vx_node.proofs.Carrying.{sent_count}
 use Rattle.vx_node.proofs.ChangeSite.{rose_none}
-
--- a line that is built is refused by what the tests see of the sites
-tested : (w : World) (files : Bool) (line : ScriptLine) → is_built line ≡ true → refused_by w files line ≡ refusal_of (linked_facts w) files line
-tested w files (Deliver number) built = absurd (cc)
-tested w files other built = refl
 
 -- the packets that a line sent, by how many there were before and are behind it
 sent_as : (w new : World) (before count : ℕ) → before ≡ length w.packets → count ≡ length new.packets → (if nat_lt before count then Some (before + 1, count) else None) ≡ sent_between w new
@@ -46,11 +41,20 @@ if_ok P (Ok x) all = all x
 if_ok P (Err e) all = tt
 
 module _ {R : Type 0} {g : Ghosts R} where
+  -- a line is refused by what the tests see of the yard
+  tested : (d : Doubted) (y : Yard R g) (line : ScriptLine) → StandsFor d y → Carries d y → refused_by d.world (in_files y) line ≡ refused_in y line
+  tested d y (Deliver number) stands carries = ap (λ (k : ℕ). packet_unknown k number) (sym (sent_count d y carries))
+  tested d y other stands carries = ap (λ (fs : List SiteFacts). refusal_of fs (in_files y) other) (sym stands.facts)
+
+  -- of one that delivers it is the network
+  pub refused_other : (y : Yard R g) (line : ScriptLine) → ((number : ℕ) → line ≡ Deliver number → ⊥) → refusal_of y.facts.items (in_files y) line ≡ refused_in y line
+  refused_other y (Deliver number) not = absurd (not number refl)
+  refused_other y other not = refl
+
   -- a line that no test refuses is answered what it worked
-  pub leads_answer : (d : Doubted) (line : ScriptLine) (old new : Yard R g) (r : Result Said OutOfMemory) → is_built line ≡ true → StandsFor d old → IsFree old line → LeadsIs d line old new r → AnswersIs d line old new r
-  leads_answer d line old new (Ok said) built stands free work =
-      let none : refused_by d.world (in_files old) line ≡ None =
-      tested d.world (in_files old) line built ∙ ap (λ (fs : List SiteFacts). refusal_of fs (in_files old) line) (sym stands.facts) ∙ free in
+  pub leads_answer : (d : Doubted) (line : ScriptLine) (old new : Yard R g) (r : Result Said OutOfMemory) → StandsFor d old → Carries d old → IsFree old line → LeadsIs d line old new r → AnswersIs d line old new r
+  leads_answer d line old new (Ok said) stands carries free work =
+      let none : refused_by d.world (in_files old) line ≡ None = tested d old line stands carries ∙ free in
       record {
         next = work.next;
         fails = work.fails;
@@ -59,13 +63,12 @@ module _ {R : Type 0} {g : Ghosts R} where
         carries = work.carries;
         rose = work.rose;
       }
-  leads_answer d line old new (Err e) built stands free work = work
+  leads_answer d line old new (Err e) stands carries free work = work
 
   -- one that is refused changes nothing
-  pub refusal_answer : (d : Doubted) (line : ScriptLine) (y : Yard R g) (why : No) → is_built line ≡ true → StandsFor d y → refusal_of y.facts.items (in_files y) line ≡ Some why → AnswersFor d line (Refused why) y y
-  refusal_answer d line y why built stands is =
-      let some : refused_by d.world (in_files y) line ≡ Some why =
-      tested d.world (in_files y) line built ∙ ap (λ (fs : List SiteFacts). refusal_of fs (in_files y) line) (sym stands.facts) ∙ is in
+  pub refusal_answer : (d : Doubted) (line : ScriptLine) (y : Yard R g) (why : No) → StandsFor d y → Carries d y → refused_in y line ≡ Some why → AnswersFor d line (Refused why) y y
+  refusal_answer d line y why stands carries is =
+      let some : refused_by d.world (in_files y) line ≡ Some why = tested d y line stands carries ∙ is in
       record {
         next = d;
         fails = [];

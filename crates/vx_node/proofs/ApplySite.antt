@@ -1,7 +1,6 @@
 -- A line that applies the log of a site that may keep links.
-use Rattle.std.proofs.Common.{◌≡◌, ◌∙◌, ◌≤◌, ◌⊎◌, ℕ, Bool, true, false, List, [], ◌∷◌, length, ap, sym, subst, refl, arith, ⊎_elim, inl, inr}
+use Rattle.std.proofs.Common.{◌≡◌, ◌∙◌, ◌≤◌, ◌⊎◌, ℕ, true, false, List, [], ◌∷◌, length, ap, sym, subst, refl, arith, ⊎_elim}
 use Rattle.std.specs.Prelude.{Option, Some, None, Ok, Err, slice_get, slice_set}
-use Rattle.vx_history.proofs.Updates.{at_place}
 use Rattle.vx_history.specs.Doubts.{After, Doubted, happened}
 use Rattle.vx_history.specs.Events.{linked_sites}
 use Rattle.vx_history.specs.Refusals.{Outcome}
@@ -15,7 +14,6 @@ use Rattle.vx_history.specs.declared.event.Said.TheVariants.{DoneAt as IsDoneAt}
 use Rattle.vx_model.specs.Sites.{is_origin}
 use Rattle.vx_model.specs.declared.no.No.{No}
 use Rattle.vx_model.specs.declared.no.No.TheVariants.{Device, Down as Off}
-use Rattle.vx_model.specs.declared.site.Role.{Role}
 use Rattle.vx_model.specs.declared.site.SiteState.{SiteState}
 use Rattle.vx_model.specs.declared.site.SiteState.TheVariants.{Bare as IsBare, Up as IsUp, Down as IsDown}
 use Rattle.vx_disk.specs.Disks.{Disks}
@@ -28,7 +26,8 @@ use Rattle.vx_diskset.specs.Asked.{FailsAs, FusedAs, LeavesFuse, SameFailing, di
 use Rattle.vx_diskset.specs.Burning.{Burnt, NoMore}
 use Rattle.vx_diskset.specs.DiskSets.{AppliedAt, CanApply, halted_at, worked}
 use Rattle.vx_diskset.specs.Holds.{Beside, Kept, beside_of, itself, sure_of}
-use Rattle.vx_diskset.specs.Stands.{StandsAt}
+use Rattle.vx_diskset.proofs.Roles.{role_like}
+use Rattle.vx_diskset.specs.Stands.{KeepsRole, RoleIs, StandsAt}
 use Rattle.vx_diskset.specs.declared.disk_set.DiskSet.{DiskSet}
 use Rattle.vx_diskset.specs.declared.disk_set.DiskSet.TheVariants.{Bare, Spoiled, Up, Receives, Down, Gone}
 use Rattle.vx_effects.proofs.Effects.{changes_then}
@@ -40,32 +39,28 @@ use Rattle.vx_events.proofs.Refused.{apply_may}
 use Rattle.vx_events.proofs.Steps.{apply_step}
 use Rattle.vx_events.specs.Doubts.{run_as}
 use Rattle.vx_events.specs.Effects.{EffectAt}
-use Rattle.vx_events.specs.Ends.{AllDone, AppliesFound, DiskFails, Ends, FuseRunsOut, IsLeft}
+use Rattle.vx_events.specs.Ends.{AllDone, DiskFails, Ends, FuseRunsOut, IsLeft}
 use Rattle.vx_events.specs.Facts.{group_by, group_fact, seat_of, site_fact, site_number}
 use Rattle.vx_events.specs.LinkedFacts.{link_facts, links_by}
 use Rattle.vx_events.specs.LinksFit.{LinksFit}
 use Rattle.vx_events.specs.Lists.{Choice}
-use Rattle.vx_events.specs.Plain.{ArePrimaries}
 use Rattle.vx_events.specs.Sayings.{Repeats, Replies}
 use Rattle.vx_events.specs.declared.said.Said.{Said}
 use Rattle.vx_events.specs.declared.said.Said.TheVariants.{DoneAt, Refused}
 use Rattle.vx_node.specs.Changes.{down_facts, halted_facts}
 use Rattle.vx_node.specs.Standing.{IsSameSite, Leads, StandsFor, crash_of}
-use Rattle.vx_node.specs.Stands.{AreTold}
 use Rattle.vx_node.specs.Working.{IsFree}
 use Rattle.vx_node.specs.Writes.{noted_facts}
 use Rattle.vx_node.specs.Yards.{IsTold, in_files}
 use Rattle.vx_node.specs.declared.yard.Yard.{Yard}
 use Rattle.vx_node.proofs.Alike.{burnt}
-use Rattle.vx_node.proofs.ChangeSite.{told_before}
 use Rattle.vx_node.proofs.CrashLine.{fuse_fact, rose_still, stopped_fact}
 use Rattle.vx_node.proofs.CrashSite.{crash_comes, crash_fact, crash_gathering, crash_node, crash_sent, crashed_node, down_up}
 use Rattle.vx_node.proofs.Carrying.{LetsGo, LetsGoBy, SameLoad, carries_let, carries_node}
 use Rattle.vx_node.proofs.FailsStay.{fails_then}
 use Rattle.vx_node.proofs.FuseStays.{device_by, done_by, fused_on, left_passed}
 use Rattle.vx_node.proofs.NamedSite.{SiteAt, fact_named, site_at}
-use Rattle.vx_node.proofs.NoteSite.{changes_one, comes_one, with_one}
-use Rattle.vx_node.proofs.OneSite.{Changed, Comes, beside_same, rose_at, stands_at, stands_still, told_by}
+use Rattle.vx_node.proofs.OneSite.{Changed, Comes, beside_same, role_kept, rose_at, stands_at, stands_still, told_by}
 use Rattle.vx_node.proofs.Rows.{fact_from, fact_like, fact_same, shown_by}
 use Rattle.vx_node.proofs.SiteEvents.{first_choice, keeps_k}
 
@@ -97,10 +92,6 @@ halted_fact n row sites disk =
     ap (λ (x : SiteFacts). let f : SiteFacts = record x { links = links_by n.state (link_facts n row ss) } in f) (stopped_fact n disk)
     ∙ ap (λ (ls : List LinkFacts). let f : SiteFacts = record (site_fact (halted_at n disk)) { links = links_by n.state ls } in f) (sym (shown_by n (halted_at n disk) row (λ k l. refl) ss))
 
-origin_or : (b : Bool) → (b ≡ true) ⊎ (b ≡ false)
-origin_or true = inl refl
-origin_or false = inr refl
-
 module _ {R : Type 0} {g : Ghosts R} where
   -- a running site is what its node says
   pub sure_at : (beside : Beside) (n : Node) (e : DiskSet R g) → StandsAt beside n e → n.state ≡ IsUp → n.halted ≡ None → beside.doubt ≡ None
@@ -118,8 +109,8 @@ module _ {R : Type 0} {g : Ghosts R} where
   pub comes_effect : (d e : Doubted) (s : ℕ) (n : Node) (packets : List Packet) (gathered : Option Gathering) (after : DiskSet R g)
       → EffectAt s d e n (d.world.links s) (d.world.headers s) (d.after s) packets gathered → LinksFit e
       → n.name ≡ (d.world.nodes s).name → n.disks ≡ (d.world.nodes s).disks → n.blocks ≡ (d.world.nodes s).blocks → n.volumes ≡ (d.world.nodes s).volumes → n.role ≡ (d.world.nodes s).role
-      → StandsAt (beside_of d s) n after → FailsAs n after → FusedAs n after → Comes d e s after
-  comes_effect d e s n packets gathered after eff fits name disks blocks volumes role stands failing fuse =
+      → StandsAt (beside_of d s) n after → FailsAs n after → FusedAs n after → RoleIs (d.world.nodes s) after → Comes d e s after
+  comes_effect d e s n packets gathered after eff fits name disks blocks volumes role stands failing fuse kind =
       let here : n ≡ e.world.nodes s = sym eff.is.node in
       record {
         changes = eff.site;
@@ -128,11 +119,11 @@ module _ {R : Type 0} {g : Ghosts R} where
             (subst (λ (b : Beside). StandsAt b n after) (sym (beside_same d e s eff.site.sites (λ k. eff.is.links k) eff.is.headers eff.is.after)) stands);
         failing = subst (λ (m : Node). FailsAs m after) here failing;
         fuse = subst (λ (m : Node). FusedAs m after) here fuse;
-        role = λ T was here_told told primary. ap (λ (m : Node). m.role) (sym here) ∙ role ∙ primary;
-        doubt = λ T was a is.
+        role = subst (λ (m : Node). RoleIs m after) here (role_like (d.world.nodes s) n after (ap is_origin role) kind);
+        doubt = λ was a is.
             let w = was a (sym eff.is.after ∙ is) in
-            subst (λ (m : Node). IsSameSite T m a.node) here
-            (record { name = w.name ∙ sym name; disks = w.disks ∙ sym disks; blocks = w.blocks ∙ sym blocks; volumes = w.volumes ∙ sym volumes; role = w.role });
+            subst (λ (m : Node). IsSameSite m a.node) here
+            (record { name = w.name ∙ sym name; disks = w.disks ∙ sym disks; blocks = w.blocks ∙ sym blocks; volumes = w.volumes ∙ sym volumes });
       }
 
   -- ---- the line
@@ -151,81 +142,52 @@ module _ {R : Type 0} {g : Ghosts R} where
       let up : n.state ≡ IsUp = sym (ap (λ (f : SiteFacts). f.state) fact) ∙ may.up in
       record { seat = here; can = record { up = up; running = may.running (group_fact n) (ap (λ (f : SiteFacts). f.rvg) fact ∙ ap (λ (t : SiteState). group_by t n) up) } }
 
-  module _ (d : Doubted) (old new : Yard R g) (name : List ℕ) (to s : ℕ) (before after : DiskSet R g) (stands : StandsFor d old) (here : CanApplyAt d old name s) (changed : Changed old new s before after) where
+  module _ (d : Doubted) (old new : Yard R g) (name : List ℕ) (to s : ℕ) (before after : DiskSet R g) (stands : StandsFor d old) (here : CanApplyAt d old name s) (changed : Changed old new s before after)
+      (keeps : KeepsRole before after) where
     abbrev n : Node
     n = d.world.nodes s
 
     fails_still : (m : Node) (said : Said) → m.failing ≡ n.failing → LeavesFuse NoMore said before after → FailsAs m after
     fails_still m said same calls = fails_then n m before after same (calls_keep NoMore said before after calls) (stands.failing s before here.seat.below changed.there)
 
-    were : IsTold new → ArePrimaries d.world
-    were told = stands.primaries (told_before old.disk_sets.items s before after changed.there changed.later (subst (λ es. AreTold es) changed.disk_sets told))
+    kind : RoleIs n after
+    kind = role_kept d old s before after stands here.seat.below changed.there keeps
 
     -- the log was applied up to this number
-    pub applied : (number : ℕ) → AppliedAt (beside_of d s) n to before after (Ok number) → LeavesFuse NoMore (DoneAt number) before after → new.facts ≡ old.facts → SameLoad old new → Leads d (Apply name to) (DoneAt number) old new
-    applied number is calls facts load = ⊎_elim by_origin by_other (origin_or (is_origin n.role))
-      where
-        k : ℕ
-        k = site_number d.world name
-
-        fuse : FusedAs (worked n) after
-        fuse = fused_on (Burnt NoMore (DoneAt number) (size_in before)) n (worked n) (burned n.fuse) before after refl
-            (λ x y burns left. left_passed n.fuse x.fuse y.fuse (done_by NoMore (size_in before) (DoneAt number) number x y refl burns).0.fuse left) calls.told (stands.fuses s before here.seat.below changed.there)
-
-        fails : FailsAs (worked n) after
-        fails = fails_still (worked n) (DoneAt number) refl calls
-
-        by_origin : is_origin n.role ≡ true → Leads d (Apply name to) (DoneAt number) old new
-        by_origin origin =
-            let c : Choice = record { kept = 0; reached = number } in
-            let h : Doubted = happened d (ApplyAt s to number) false in
-            let e : Doubted = worked_for h s in
-            let eff = worked_effect s d h n (d.world.links s) (d.world.headers s) (d.after s) d.world.packets (d.world.gathering s) (reached_effect d s to number false here.seat.below here.can.up here.can.running origin is.0 is.1) in
-            let ev : (let es : List Event = ApplyAt k to number ∷ [] in es) ≡ ApplyAt s to number ∷ [] = ap (λ (i : ℕ). let es : List Event = ApplyAt i to number ∷ [] in es) here.seat.number in
-            let said : (step d.world (ApplyAt s to number)).said ≡ IsDoneAt number = ap (λ (o : Outcome). o.said) (apply_step d.world s to number here.seat.below here.can.up here.can.running origin is.0 is.1) in
-            record {
-              next = e;
-              fails = [];
-              done = record {
-                ends = subst (λ (i : ℕ). Ends (IsTold new) d (Apply name to) i [] (DoneAt number) e) (sym here.seat.number)
-                    (AllDone c false refl
-                    (subst (λ (es : List Event). Replies (IsTold new) (Apply name to) s false d es (DoneAt number)) (sym ev)
-                    (subst (λ (o : EventSaid). Repeats (step d.world (ApplyAt s to number)).world s o (DoneAt number)) (sym said) refl))
-                    (subst (λ (es : List Event). IsLeft s (Apply name to) false d (run_as false d es) e) (sym ev) (record { world = refl; after = λ i. refl })));
-                counts = tt;
-                works = tt;
-                calls = tt;
-              };
-              carries = carries_node s d e (worked n) old new load eff.site eff.sent eff.gathering eff.is.node refl refl refl (told_by old new s before after changed);
-              stands = stands_still d e old new s before after stands here.seat.below changed
-                  (comes_effect d e s (worked n) d.world.packets (d.world.gathering s) after eff (fit_worked h s (fit_happened d (ApplyAt s to number) false stands.links)) refl refl refl refl refl is.2 fails fuse)
-                  (fact_same (worked n) (e.world.nodes s) (d.world.links s) (e.world.links s) d.world.sites e.world.sites eff.is.node (λ j. eff.is.links j) eff.site.sites
-                  ∙ fact_like n (worked n) (d.world.links s) d.world.sites (fuse_fact n (burned n.fuse)) (λ j l. refl))
-                  (ap (λ fs. fs.items) facts);
-              rose = rose_still old new s before after changed.there changed.later changed.disk_sets;
-            }
-
-        by_other : is_origin n.role ≡ false → Leads d (Apply name to) (DoneAt number) old new
-        by_other other =
-            let never : IsTold new → ⊥ = λ told. let role = (were told).each s in let both : true ≡ false = sym (ap (λ (r : Role). is_origin r) role) ∙ other in absurd (cc) in
-            record {
-              next = with_one d s (worked n);
-              fails = [];
-              done = record {
-                ends = subst (λ (i : ℕ). Ends (IsTold new) d (Apply name to) i [] (DoneAt number) (with_one d s (worked n))) (sym here.seat.number)
-                    (AppliesFound never name to number refl other is.0 is.1 refl refl (record { world = refl; after = λ i. refl }));
-                counts = tt;
-                works = tt;
-                calls = tt;
-              };
-              carries = carries_node s d (with_one d s (worked n)) (worked n) old new load (changes_one d s (worked n)) refl refl (at_place d.world.nodes s (worked n)) refl refl refl (told_by old new s before after changed);
-              stands = stands_still d (with_one d s (worked n)) old new s before after stands here.seat.below changed
-                  (comes_one d s (worked n) after refl stands.links is.2 fails fuse)
-                  (fact_same (worked n) ((with_one d s (worked n)).world.nodes s) (d.world.links s) (d.world.links s) d.world.sites d.world.sites (at_place d.world.nodes s (worked n)) (λ j. refl) refl
-                  ∙ fact_like n (worked n) (d.world.links s) d.world.sites (fuse_fact n (burned n.fuse)) (λ j l. refl))
-                  (ap (λ fs. fs.items) facts);
-              rose = rose_still old new s before after changed.there changed.later changed.disk_sets;
-            }
+    pub applied : (number : ℕ) → is_origin n.role ≡ true → AppliedAt (beside_of d s) n to before after (Ok number) → LeavesFuse NoMore (DoneAt number) before after → new.facts ≡ old.facts → SameLoad old new → Leads d (Apply name to) (DoneAt number) old new
+    applied number origin is calls facts load =
+        let k : ℕ = site_number d.world name in
+        let fuse : FusedAs (worked n) after =
+        fused_on (Burnt NoMore (DoneAt number) (size_in before)) n (worked n) (burned n.fuse) before after refl
+        (λ x y burns left. left_passed n.fuse x.fuse y.fuse (done_by NoMore (size_in before) (DoneAt number) number x y refl burns).0.fuse left) calls.told (stands.fuses s before here.seat.below changed.there) in
+        let fails : FailsAs (worked n) after = fails_still (worked n) (DoneAt number) refl calls in
+        let c : Choice = record { kept = 0; reached = number } in
+        let h : Doubted = happened d (ApplyAt s to number) false in
+        let e : Doubted = worked_for h s in
+        let eff = worked_effect s d h n (d.world.links s) (d.world.headers s) (d.after s) d.world.packets (d.world.gathering s) (reached_effect d s to number false here.seat.below here.can.up here.can.running origin is.0 is.1) in
+        let ev : (let es : List Event = ApplyAt k to number ∷ [] in es) ≡ ApplyAt s to number ∷ [] = ap (λ (i : ℕ). let es : List Event = ApplyAt i to number ∷ [] in es) here.seat.number in
+        let said : (step d.world (ApplyAt s to number)).said ≡ IsDoneAt number = ap (λ (o : Outcome). o.said) (apply_step d.world s to number here.seat.below here.can.up here.can.running origin is.0 is.1) in
+        record {
+          next = e;
+          fails = [];
+          done = record {
+            ends = subst (λ (i : ℕ). Ends (IsTold new) d (Apply name to) i [] (DoneAt number) e) (sym here.seat.number)
+                (AllDone c false refl
+                (subst (λ (es : List Event). Replies (IsTold new) (Apply name to) s false d es (DoneAt number)) (sym ev)
+                (subst (λ (o : EventSaid). Repeats (step d.world (ApplyAt s to number)).world s o (DoneAt number)) (sym said) refl))
+                (subst (λ (es : List Event). IsLeft s (Apply name to) false d (run_as false d es) e) (sym ev) (record { world = refl; after = λ i. refl })));
+            counts = tt;
+            works = tt;
+            calls = tt;
+          };
+          carries = carries_node s d e (worked n) old new load eff.site eff.sent eff.gathering eff.is.node refl refl refl (told_by old new s before after changed);
+          stands = stands_still d e old new s before after stands here.seat.below changed
+              (comes_effect d e s (worked n) d.world.packets (d.world.gathering s) after eff (fit_worked h s (fit_happened d (ApplyAt s to number) false stands.links)) refl refl refl refl refl is.2 fails fuse kind)
+              (fact_same (worked n) (e.world.nodes s) (d.world.links s) (e.world.links s) d.world.sites e.world.sites eff.is.node (λ j. eff.is.links j) eff.site.sites
+              ∙ fact_like n (worked n) (d.world.links s) d.world.sites (fuse_fact n (burned n.fuse)) (λ j l. refl))
+              (ap (λ fs. fs.items) facts);
+          rose = rose_still old new s before after changed.there changed.later changed.disk_sets;
+        }
 
     -- a disk failed in it, and the site is halted
     halts : (disk : ℕ) (f f' : SiteFacts) → AppliedAt (beside_of d s) n to before after (Err (Device disk)) → LeavesFuse NoMore (Refused (Device disk)) before after → slice_get old.facts.items s ≡ Some f
@@ -255,7 +217,7 @@ module _ {R : Type 0} {g : Ghosts R} where
           };
           carries = carries_node s d e m old new load eff.site eff.sent eff.gathering eff.is.node refl refl refl (told_by old new s before after changed);
           stands = stands_at d e old new s f' before after stands here.seat.below changed
-              (comes_effect d e s m d.world.packets (d.world.gathering s) after eff (fit_worked h s (fit_happened d (Fault s disk) false stands.links)) refl refl refl refl refl is.0 (fails_still m (Refused (Device disk)) refl calls) fuse)
+              (comes_effect d e s m d.world.packets (d.world.gathering s) after eff (fit_worked h s (fit_happened d (Fault s disk) false stands.links)) refl refl refl refl refl is.0 (fails_still m (Refused (Device disk)) refl calls) fuse kind)
               (noted ∙ ap (halted_facts disk) (some_same (sym at ∙ here.seat.fact)) ∙ halted_fact n (d.world.links s) d.world.sites disk
               ∙ sym (fact_same m (e.world.nodes s) (d.world.links s) (e.world.links s) d.world.sites e.world.sites eff.is.node (λ j. eff.is.links j) eff.site.sites))
               facts;
@@ -279,7 +241,7 @@ module _ {R : Type 0} {g : Ghosts R} where
             let e : Doubted = worked_for h s in
             let m : Node = crashed_node n n count in
             let before_noted = crash_comes d s count false n (d.world.links s) refl (λ j. refl) (λ _. refl) here.seat.below here.can.up least most before after stands.links (stands.failing s before here.seat.below changed.there)
-            (calls_keep NoMore (Refused Off) before after calls) stood (λ T doubts told primary. primary) in
+            (calls_keep NoMore (Refused Off) before after calls) stood in
             let note = note_effect h s (worked (h.world.nodes s)) in
             let node : e.world.nodes s ≡ m = note.is.node ∙ ap (λ (q : Node). worked q) (crash_node d s count false n (d.world.links s) refl (λ j. refl) (λ _. refl) here.seat.below here.can.up least most) in
             let node_h : h.world.nodes s ≡ m = crash_node d s count false n (d.world.links s) refl (λ j. refl) (λ _. refl) here.seat.below here.can.up least most in
@@ -306,8 +268,8 @@ module _ {R : Type 0} {g : Ghosts R} where
                     stands = subst (λ (q : Node). StandsAt (beside_of h s) q after) same before_noted.stands;
                     failing = subst (λ (q : Node). FailsAs q after) same before_noted.failing;
                     fuse = subst (λ (q : Node). FusedAs q after) same before_noted.fuse;
-                    role = λ T was here_told told primary. ap (λ (q : Node). q.role) (sym same) ∙ before_noted.role T was here_told told primary;
-                    doubt = λ T was a there. subst (λ (q : Node). IsSameSite T q a.node) same (before_noted.doubt T was a there);
+                    role = subst (λ (q : Node). RoleIs q after) same before_noted.role;
+                    doubt = λ was a there. subst (λ (q : Node). IsSameSite q a.node) same (before_noted.doubt was a there);
                   })
                   (noted ∙ ap down_facts (some_same (sym at ∙ here.seat.fact)) ∙ crash_fact d s count false n (d.world.links s) refl (λ j. refl) (λ _. refl) here.seat.below here.can.up least most refl refl refl refl
                   ∙ fact_same (e.world.nodes s) (h.world.nodes s) (h.world.links s) (h.world.links s) h.world.sites h.world.sites same (λ j. refl) refl)

@@ -22,7 +22,7 @@ use Rattle.vx_events.specs.declared.said.Said.{Said}
 use Rattle.vx_script.specs.declared.line.ScriptLine.{ScriptLine}
 use Rattle.vx_diskset.specs.Fuses.{LeftAs}
 use Rattle.vx_diskset.specs.Holds.{Beside, beside_of}
-use Rattle.vx_diskset.specs.Stands.{StandsAt}
+use Rattle.vx_diskset.specs.Stands.{RoleIs, StandsAt}
 use Rattle.vx_diskset.specs.declared.disk_set.DiskSet.{DiskSet}
 use Rattle.vx_joins.proofs.TakesUpdate.{node_behind}
 use Rattle.vx_joins.specs.Deliveries.{DeliveredTo, TookTo}
@@ -46,6 +46,7 @@ module _ {R : Type 0} {g : Ghosts R} where
   pub record IsBehind (d : Doubted) (number : ℕ) (p : Packet) (old new : Yard R g) (before after : DiskSet R g) (feeder : ℕ) (was a : Assembled) (said : EventSaid) (t : ℕ) : Type 0 where
     pub below : t < d.world.sites
     pub changed : Changed old new t before after
+    pub role : RoleIs (d.world.nodes t) after
     pub handed : Handed old new t feeder a
     pub took : TookTo d.world number p (beside_of d t) after feeder was a old.flight new.flight said
     pub exact : IsTold new → DeliveredTo (delivered d.world number (packet_at d.world.packets number)) (beside_of d t) t after feeder a new.flight said
@@ -58,8 +59,8 @@ module _ {R : Type 0} {g : Ghosts R} where
     behind_ignored there facts =
         let here = subst (λ (i : ℕ). IsBehind d number p old new before after feeder was a IsIgnored i) (sym to) there in
         ⊎_elim
-        (λ tells. exact_ignored d number p k x old new before after stands here.below here.changed alone feeder a at message here.handed (here.exact tells) facts)
-        (λ untold. found_ignored d number p k x old new before after stands here.below here.changed alone feeder a at message here.handed untold more was here.took facts)
+        (λ tells. exact_ignored d number p k x old new before after stands here.below here.changed alone here.role feeder a at message here.handed (here.exact tells) facts)
+        (λ untold. found_ignored d number p k x old new before after stands here.below here.changed alone here.role feeder a at message here.handed untold more was here.took facts)
         (all_told new.disk_sets.items)
 
     pub behind_taken : (last : ℕ) → IsBehind d number p old new before after feeder was a IsTaken t → ((m : Node) → StandsAt (beside_of d t) m after → IsOpen m → last ≡ length m.log)
@@ -73,20 +74,20 @@ module _ {R : Type 0} {g : Ghosts R} where
         ⊎_elim
         (λ tells.
         let is = here.exact tells in
-        exact_taken d number p k x old new before after stands here.below here.changed alone feeder a at message here.handed last is here.receives here.none
+        exact_taken d number p k x old new before after stands here.below here.changed alone here.role feeder a at message here.handed last is here.receives here.none
         (many m is.stands (open_behind (d.world.nodes p.target) m p.source x (node_behind d.world p x number k at message) opens)) shown)
-        (λ untold. found_taken d number p k x old new before after stands here.below here.changed alone feeder a at message here.handed untold more last was here.took here.none many shown)
+        (λ untold. found_taken d number p k x old new before after stands here.below here.changed alone here.role feeder a at message here.handed untold more last was here.took here.none many shown)
         (all_told new.disk_sets.items)
 
   -- want of memory: nothing was done
-  pub behind_short : (d : Doubted) (line : ScriptLine) (old new : Yard R g) (before after : DiskSet R g) (t : ℕ) (r : Result Said OutOfMemory) (e : OutOfMemory) → r ≡ Err e → StandsFor d old → t < d.world.sites → Changed old new t before after → LeavesAlone before after
+  pub behind_short : (d : Doubted) (line : ScriptLine) (old new : Yard R g) (before after : DiskSet R g) (t : ℕ) (r : Result Said OutOfMemory) (e : OutOfMemory) → r ≡ Err e → StandsFor d old → t < d.world.sites → Changed old new t before after → LeavesAlone before after → RoleIs (d.world.nodes t) after
       → ((beside : Beside) (n : Node) → StandsAt beside n before → StandsAt beside n after) → new.facts.items ≡ old.facts.items → SameLoad old new → (IsTold new → IsTold old) → LeadsIs d line old new r
-  behind_short d line old new before after t r e is stands below changed alone on facts load told =
+  behind_short d line old new before after t r e is stands below changed alone role on facts load told =
       let n : Node = d.world.nodes t in
       subst (λ (x : Result Said OutOfMemory). LeadsIs d line old new x) (sym is) (record {
         stands = stands_still d d old new t before after stands below changed
             (comes_same d t after stands.links (on (beside_of d t) n (stands.disk_sets.sites t before below changed.there)) (fails_then n n before after refl (alone_keeps before after alone) (stands.failing t before below changed.there))
-            (fused_on Untouched n n n.fuse before after refl (λ a b same left. subst (λ (z : Option (ℕ × ℕ)). LeftAs n.fuse z) (sym same.fuse) left) alone.told (stands.fuses t before below changed.there))) refl facts;
+            (fused_on Untouched n n n.fuse before after refl (λ a b same left. subst (λ (z : Option (ℕ × ℕ)). LeftAs n.fuse z) (sym same.fuse) left) alone.told (stands.fuses t before below changed.there)) role) refl facts;
         carries = carries_same d old new load told;
         rose = rose_still old new t before after changed.there changed.later changed.disk_sets;
       })

@@ -10,7 +10,6 @@ use Rattle.vx_history.specs.Steps.{crashed}
 use Rattle.vx_history.specs.World.{Link, Node, Volume, World}
 use Rattle.vx_history.specs.declared.event.Event.TheVariants.{Crash as CrashAt}
 use Rattle.vx_history.specs.declared.event.Said.TheVariants.{Done as IsDone}
-use Rattle.vx_model.specs.declared.site.Role.TheVariants.{Primary}
 use Rattle.vx_model.specs.declared.site.SiteState.TheVariants.{Down as IsDown, Up}
 use Rattle.vx_model.specs.declared.limits.TheConstants.{MOST_SITES}
 use Rattle.vx_model.specs.declared.state.KeptLink.{KeptLink}
@@ -48,12 +47,12 @@ use Rattle.vx_history.specs.declared.event.Event.{Event}
 use Rattle.vx_history.specs.declared.event.Said.{Said as EventSaid}
 use Rattle.vx_events.specs.LinksFit.{LinksFit}
 use Rattle.vx_node.specs.Changes.{down_facts}
-use Rattle.vx_node.specs.Standing.{Falls, IsSameSite, Leads, StandsFor, crash_of}
+use Rattle.vx_node.specs.Standing.{Falls, Leads, StandsFor, crash_of}
 use Rattle.vx_node.specs.declared.yard.Yard.{Yard}
 use Rattle.vx_node.proofs.Alike.{apart_place}
 use Rattle.vx_node.proofs.FailsStay.{fails_then}
 use Rattle.vx_node.proofs.FuseStays.{fused_none}
-use Rattle.vx_node.proofs.OneSite.{Changed, Comes, stands_at, told_by}
+use Rattle.vx_node.proofs.OneSite.{Changed, Comes, role_off, stands_at, told_by}
 use Rattle.vx_node.proofs.Carrying.{LetsGo, carries_let}
 use Rattle.vx_node.proofs.Rows.{fact_same, row_links_same}
 
@@ -170,8 +169,8 @@ module _ {R : Type 0} {g : Ghosts R} where
   pub crash_comes : (d : Doubted) (s count : ℕ) (taken : Bool) (m : Node) (row : ℕ → Link) (node_is : (resolved_at d s taken).world.nodes s ≡ m) (row_is : (k : ℕ) → (resolved_at d s taken).world.links s k ≡ row k)
       (own : taken ≡ false → m.failing ≡ (d.world.nodes s).failing) (below : s < d.world.sites) (up : m.state ≡ Up) (least : m.safe ≤ count) (most : count ≤ length m.log) (before after : DiskSet R g)
       → LinksFit d → FailsAs (d.world.nodes s) before → SameFailing before after → StandsAt (record { links = row_links row d.world.sites; headers = d.world.headers s; doubt = None }) (crashed m count) after
-      → ((told : Type 0) → ((a : After) → d.after s ≡ Some a → IsSameSite told (d.world.nodes s) a.node) → told → (d.world.nodes s).role ≡ Primary → m.role ≡ Primary) → Comes d (crash_of d s count taken) s after
-  crash_comes d s count taken m row node_is row_is own below up least most before after fits fails same stands role =
+      → Comes d (crash_of d s count taken) s after
+  crash_comes d s count taken m row node_is row_is own below up least most before after fits fails same stands =
       let e : Doubted = crash_of d s count taken in
       let n : Node = crashed_node (d.world.nodes s) m count in
       let here : n ≡ e.world.nodes s = sym (crash_node d s count taken m row node_is row_is own below up least most) in
@@ -184,8 +183,8 @@ module _ {R : Type 0} {g : Ghosts R} where
             (subst (λ (b : Beside). StandsAt b n after) (sym there) (stands_failing (record { links = row_links row d.world.sites; headers = d.world.headers s; doubt = None }) (crashed m count) (d.world.nodes s).failing after stands));
         failing = subst (λ (k : Node). FailsAs k after) here (fails_then (d.world.nodes s) n before after refl same fails);
         fuse = subst (λ (k : Node). FusedAs k after) here (fused_none n after refl);
-        role = λ T was here_told told primary. ap (λ (k : Node). k.role) (sym here) ∙ role T was told primary;
-        doubt = λ T was a is. absurd (never_some (sym (eff d s count taken m row node_is row_is own below up least most).is.after ∙ is));
+        role = role_off (record { links = row_links row d.world.sites; headers = d.world.headers s; doubt = None }) (crashed m count) (e.world.nodes s) after stands (λ is_up. down_up is_up);
+        doubt = λ was a is. absurd (never_some (sym (eff d s count taken m row node_is row_is own below up least most).is.after ∙ is));
       }
 
   -- the same of a yard
@@ -219,7 +218,7 @@ module _ {R : Type 0} {g : Ghosts R} where
                 (crash_sent d s count false n (d.world.links s) refl (λ j. refl) (λ _. refl) below up least most) (crash_gathering d s count false n (d.world.links s) refl (λ j. refl) (λ _. refl) below up least most)
                 (crash_down d s count false n (d.world.links s) refl (λ j. refl) (λ _. refl) below up least most) (told_by old new s before after changed);
             stands = stands_at d (crash_of d s count false) old new s f' before after stands below changed
-                (crash_comes d s count false n (d.world.links s) refl (λ j. refl) (λ _. refl) below up least most before after stands.links (stands.failing s before below changed.there) same here (λ T doubts told primary. primary))
+                (crash_comes d s count false n (d.world.links s) refl (λ j. refl) (λ _. refl) below up least most before after stands.links (stands.failing s before below changed.there) same here)
                 (is ∙ was ∙ crash_fact d s count false n (d.world.links s) refl (λ j. refl) (λ _. refl) below up least most refl refl refl refl) facts;
             rose = rose_still old new s before after changed.there changed.later changed.disk_sets;
           })
@@ -247,8 +246,7 @@ module _ {R : Type 0} {g : Ghosts R} where
                 (crash_gathering d s count true a.node a.row node_is row_is (λ e. absurd (never e)) below fits.up_too least most)
                 (crash_down d s count true a.node a.row node_is row_is (λ e. absurd (never e)) below fits.up_too least most) (told_by old new s before after changed);
             stands = stands_at d (crash_of d s count true) old new s f' before after stands below changed
-                (crash_comes d s count true a.node a.row node_is row_is (λ e. absurd (never e)) below fits.up_too least most before after stands.links (stands.failing s before below changed.there) same here
-                (λ T doubts told primary. (doubts a some).role told))
+                (crash_comes d s count true a.node a.row node_is row_is (λ e. absurd (never e)) below fits.up_too least most before after stands.links (stands.failing s before below changed.there) same here)
                 (is ∙ was ∙ crash_fact d s count true a.node a.row node_is row_is (λ e. absurd (never e)) below fits.up_too least most same_site.name same_site.disks same_site.blocks same_site.volumes) facts;
             rose = rose_still old new s before after changed.there changed.later changed.disk_sets;
           })

@@ -17,7 +17,7 @@ use Rattle.vx_node.proofs.FailsStay.{failing_fact}
 use Rattle.vx_diskset.proofs.FailGroup.{stands_failing}
 use Rattle.vx_diskset.specs.Asked.{SetsDisk, disks_in, units_in}
 use Rattle.vx_diskset.specs.Holds.{Beside, beside_of}
-use Rattle.vx_diskset.specs.Stands.{StandsAt}
+use Rattle.vx_diskset.specs.Stands.{KeepsRole, StandsAt}
 use Rattle.vx_events.proofs.Refused.{disk_may}
 use Rattle.vx_node.specs.OfSites.{OfSite}
 use Rattle.vx_node.specs.Standing.{Leads, StandsFor}
@@ -27,7 +27,7 @@ use Rattle.vx_node.proofs.FailsStay.{set_on}
 use Rattle.vx_node.proofs.FuseStays.{fused_set}
 use Rattle.vx_node.proofs.NamedSite.{asks_at, fact_named, site_at}
 use Rattle.vx_node.proofs.NoteSite.{changes_one, comes_one, none_left, with_one}
-use Rattle.vx_node.proofs.OneSite.{Changed, stands_still, told_by}
+use Rattle.vx_node.proofs.OneSite.{Changed, role_kept, stands_still, told_by}
 use Rattle.vx_node.proofs.Rows.{fact_like, fact_same}
 use Rattle.vx_history.proofs.Updates.{at_place}
 use Rattle.vx_order.specs.declared.facts.SiteFacts.{SiteFacts}
@@ -55,9 +55,9 @@ module _ {R : Type 0} {g : Ghosts R} where
       subst (λ (b : Bool). SetsDisk disk b before after) is (did (omega (arith, may.1, units, ap (λ (f : SiteFacts). f.disks) fact)))
 
   pub disk_leads : (d : Doubted) (old new : Yard R g) (name : List ℕ) (disk : ℕ) (state : DiskState) (s : ℕ) (before after : DiskSet R g) → StandsFor d old → seat_of old.facts.items name ≡ Some s
-      → Changed old new s before after → ((beside : Beside) (n : Node) → StandsAt beside n before → StandsAt beside n after) → SetsDisk disk (is_failing state) before after
+      → Changed old new s before after → KeepsRole before after → ((beside : Beside) (n : Node) → StandsAt beside n before → StandsAt beside n after) → SetsDisk disk (is_failing state) before after
       → new.facts ≡ old.facts → SameLoad old new → Leads d (Disk name disk state) Done old new
-  disk_leads d old new name disk state s before after stands is changed keeps sets facts load =
+  disk_leads d old new name disk state s before after stands is changed role keeps sets facts load =
       let seat = site_at d old name s stands is in
       let on : Bool = is_failing state in
       let m : Node = d.world.nodes s in
@@ -77,7 +77,7 @@ module _ {R : Type 0} {g : Ghosts R} where
         stands = stands_still d (with_one d s n) old new s before after stands seat.below changed
             (comes_one d s n after refl stands.links (stands_failing (beside_of d s) m failing after (keeps (beside_of d s) m there))
             (record { told = λ x at u fails. set_on disk on (disks_in before) (disks_in after) m.failing (stands.failing s before seat.below changed.there).told sets x at u fails })
-            (fused_set m n before after disk on refl sets (stands.fuses s before seat.below changed.there)))
+            (fused_set m n before after disk on refl sets (stands.fuses s before seat.below changed.there)) (role_kept d old s before after stands seat.below changed.there role))
             (fact_same n ((with_one d s n).world.nodes s) (d.world.links s) (d.world.links s) d.world.sites d.world.sites (at_place d.world.nodes s n) (λ k. refl) refl
             ∙ fact_like m n (d.world.links s) d.world.sites (failing_fact m failing) (λ k l. refl))
             (ap (λ fs. fs.items) facts);

@@ -11,6 +11,7 @@ use Rattle.vx_history.specs.declared.event.Event.TheVariants.{Read as ReadAt}
 use Rattle.vx_history.specs.declared.event.Said.TheVariants.{Got as HasGot}
 use Rattle.vx_model.specs.declared.no.No.{No}
 use Rattle.vx_model.specs.declared.no.No.TheVariants.{Device}
+use Rattle.vx_model.specs.declared.site.Role.TheVariants.{Primary}
 use Rattle.vx_model.specs.declared.site.SiteState.{SiteState}
 use Rattle.vx_model.specs.declared.site.SiteState.TheVariants.{Bare as IsBare, Up as IsUp}
 use Rattle.vx_disk.specs.Disks.{Untouched}
@@ -23,7 +24,7 @@ use Rattle.vx_diskset.specs.DiskSets.{CanRead}
 use Rattle.vx_diskset.specs.Fetching.{GaveAt}
 use Rattle.vx_diskset.specs.Fuses.{LeftAs}
 use Rattle.vx_diskset.specs.Holds.{Beside, beside_of}
-use Rattle.vx_diskset.specs.Stands.{IsToldAt, StandsAt}
+use Rattle.vx_diskset.specs.Stands.{IsToldAt, KeepsRole, StandsAt}
 use Rattle.vx_diskset.specs.declared.disk_set.DiskSet.{DiskSet}
 use Rattle.vx_diskset.specs.declared.disk_set.DiskSet.TheVariants.{Bare, Spoiled, Up, Receives, Down, Gone}
 use Rattle.vx_events.proofs.Blocks.{shown_are}
@@ -33,7 +34,6 @@ use Rattle.vx_events.proofs.RefusedCalls.{CallMay}
 use Rattle.vx_events.proofs.Steps.{read_step}
 use Rattle.vx_events.specs.Ends.{Ends, noted}
 use Rattle.vx_events.specs.Fails.{Fails}
-use Rattle.vx_events.specs.Plain.{ArePrimaries}
 use Rattle.vx_events.proofs.Passing.{IsCall}
 use Rattle.vx_rvg.specs.Contents.{Shows}
 use Rattle.vx_events.specs.Facts.{group_by, group_fact, place_of, seat_of, site_number, volume_fact, volume_number}
@@ -44,20 +44,19 @@ use Rattle.vx_events.specs.Lists.{Choice, events_of}
 use Rattle.vx_events.specs.declared.said.Said.{Said}
 use Rattle.vx_events.specs.declared.said.Said.TheVariants.{Got, Refused}
 use Rattle.vx_node.specs.Fetching.{IsReadLine}
-use Rattle.vx_node.specs.Stands.{AreTold, RoseAll}
+use Rattle.vx_node.specs.Stands.{RoseAll}
 use Rattle.vx_node.specs.Standing.{Leads, StandsFor}
 use Rattle.vx_node.specs.Yards.{IsTold, count_of}
 use Rattle.vx_node.specs.declared.yard.Yard.{Yard}
 use Rattle.vx_node.specs.Carries.{Carries}
 use Rattle.vx_node.proofs.Carrying.{SameLoad, carries_on, carries_same, feeds_same}
-use Rattle.vx_node.proofs.ChangeSite.{told_before}
 use Rattle.vx_node.proofs.CrashLine.{rose_still}
 use Rattle.vx_node.proofs.FailsStay.{alone_keeps, fails_then}
 use Rattle.vx_node.proofs.FuseStays.{fused_on}
 use Rattle.vx_node.proofs.Lists.{get-set_same}
 use Rattle.vx_node.proofs.NamedSite.{SiteAt, fact_named, site_at}
 use Rattle.vx_node.proofs.NoteSite.{comes_same, one_left, only_left}
-use Rattle.vx_node.proofs.OneSite.{Changed, Comes, beside_same, rose_at, stands_still, told_by}
+use Rattle.vx_node.proofs.OneSite.{Changed, Comes, beside_same, role_kept, rose_at, stands_still, told_by}
 use Rattle.vx_node.proofs.ReadLine.{volume_at}
 use Rattle.vx_node.proofs.SiteEvents.{first_choice}
 
@@ -163,7 +162,7 @@ module _ {R : Type 0} {g : Ghosts R} where
 
   -- ---- the disk set gave the blocks, or one of its disks failed
 
-  module _ (d : Doubted) (old new : Yard R g) (s : ℕ) (before after : DiskSet R g) (stands : StandsFor d old) (below : s < d.world.sites) (changed : Changed old new s before after) (alone : LeavesAlone before after)
+  module _ (d : Doubted) (old new : Yard R g) (s : ℕ) (before after : DiskSet R g) (stands : StandsFor d old) (below : s < d.world.sites) (changed : Changed old new s before after) (alone : LeavesAlone before after) (keeps : KeepsRole before after)
       (here : StandsAt (beside_of d s) (d.world.nodes s) after) (facts : new.facts ≡ old.facts) where
     -- the disk set of the site, of which nothing changed
     comes : Comes d d s after
@@ -171,6 +170,7 @@ module _ {R : Type 0} {g : Ghosts R} where
         let n : Node = d.world.nodes s in
         comes_same d s after stands.links here (fails_then n n before after refl (alone_keeps before after alone) (stands.failing s before below changed.there))
         (fused_on Untouched n n n.fuse before after refl (λ x y same left. subst (λ (z : Option (ℕ × ℕ)). LeftAs n.fuse z) (sym same.fuse) left) alone.told (stands.fuses s before below changed.there))
+        (role_kept d old s before after stands below changed.there keeps)
 
     comes_recounted : Comes d (recounted d d.world) s after
     comes_recounted = record {
@@ -190,10 +190,11 @@ module _ {R : Type 0} {g : Ghosts R} where
     read_for k volume start count =
         read_world d k volume start count (λ (e : Doubted). StandsFor e new) (stands_still d (recounted d d.world) old new s before after stands below changed comes_recounted refl (ap (λ fs. fs.items) facts))
 
+  -- at a primary
   pub fetch_leads : (d : Doubted) (line : ScriptLine) (old new : Yard R g) (name volume : List ℕ) (start count s place : ℕ) (bytes : List ℕ) (before after : DiskSet R g) → IsReadLine line name volume start count → StandsFor d old
-      → Fetching d old name volume start count s place → Changed old new s before after → LeavesAlone before after → GaveAt (beside_of d s) (d.world.nodes s) place start count before after (Ok bytes)
+      → Fetching d old name volume start count s place → (d.world.nodes s).role ≡ Primary → Changed old new s before after → LeavesAlone before after → KeepsRole before after → GaveAt (beside_of d s) (d.world.nodes s) place start count before after (Ok bytes)
       → new.facts ≡ old.facts → SameLoad old new → Leads d line (Got bytes) old new
-  fetch_leads d line old new name volume start count s place bytes before after is stands read changed alone gave facts load =
+  fetch_leads d line old new name volume start count s place bytes before after is stands read primary changed alone keeps gave facts load =
       let k : ℕ = site_number d.world name in
       let v : ℕ = volume_number (d.world.nodes k) volume in
       let can : CanRead (d.world.nodes k) v start count =
@@ -204,26 +205,25 @@ module _ {R : Type 0} {g : Ghosts R} where
       (subst (λ (p : ℕ). Shows (d.world.nodes s).base p start count bytes) (sym read.volume_is) (gave.shows told)) in
       let there : slice_get new.disk_sets.items s ≡ Some after =
       ap (λ es. slice_get es s) changed.disk_sets ∙ get-set_same old.disk_sets.items s after (slice_get_within old.disk_sets.items s before changed.there) in
-      let were : IsTold new → ArePrimaries d.world =
-      λ told. stands.primaries (told_before old.disk_sets.items s before after changed.there changed.later (subst (λ es. AreTold es) changed.disk_sets told)) in
+      let led : (d.world.nodes k).role ≡ Primary = subst (λ (i : ℕ). (d.world.nodes i).role ≡ Primary) (sym read.seat.number) primary in
       record {
         next = behind_read d k v start count;
         fails = [];
         done = done_by (IsTold new) d line name volume start count [] (Got bytes) (behind_read d k v start count) is
             (λ l list still. got_ends (IsTold new) d l k v start count bytes list still gave.size
-            (λ told. record { site = omega (arith, read.seat.below, read.seat.number); up = can.up; running = can.running; primary = (were told).each k; known = can.volume_exists; some = read.some; few = read.few; within = can.within })
+            (λ told. record { site = omega (arith, read.seat.below, read.seat.number); up = can.up; running = can.running; primary = led; known = can.volume_exists; some = read.some; few = read.few; within = can.within })
             (λ told. shows (told.each s after there)));
         carries = λ was. read_world d k v start count (λ (e : Doubted). Carries e new)
             (carries_on d (recounted d d.world) old new was load refl (λ i. refl) (λ i. feeds_same (d.world.nodes i) (d.world.nodes i) refl) (told_by old new s before after changed));
-        stands = read_for d old new s before after stands read.seat.below changed alone gave.stands facts k v start count;
+        stands = read_for d old new s before after stands read.seat.below changed alone keeps gave.stands facts k v start count;
         rose = rose_still old new s before after changed.there changed.later changed.disk_sets;
       }
 
   -- one of its disks failed
   pub fetch_stops : (d : Doubted) (line : ScriptLine) (old new : Yard R g) (name volume : List ℕ) (start count s place : ℕ) (no : No) (before after : DiskSet R g) → IsReadLine line name volume start count → StandsFor d old
-      → Fetching d old name volume start count s place → Changed old new s before after → LeavesAlone before after → GaveAt (beside_of d s) (d.world.nodes s) place start count before after (Err no)
+      → Fetching d old name volume start count s place → Changed old new s before after → LeavesAlone before after → KeepsRole before after → GaveAt (beside_of d s) (d.world.nodes s) place start count before after (Err no)
       → new.facts ≡ old.facts → SameLoad old new → Leads d line (Refused no) old new
-  fetch_stops d line old new name volume start count s place (Device disk) before after is stands read changed alone gave facts load =
+  fetch_stops d line old new name volume start count s place (Device disk) before after is stands read changed alone keeps gave facts load =
       let k : ℕ = site_number d.world name in
       record {
         next = d;
@@ -231,7 +231,7 @@ module _ {R : Type 0} {g : Ghosts R} where
         done = done_by (IsTold new) d line name volume start count ((k, disk) ∷ []) (Refused (Device disk)) d is
             (λ l list still. only_left (IsTold new) d l k (ReadAt k (volume_number (d.world.nodes k) volume) start count) disk (list first_choice) refl (still d.world));
         carries = carries_same d old new load (told_by old new s before after changed);
-        stands = stays_for d old new s before after stands read.seat.below changed alone gave.0 facts;
+        stands = stays_for d old new s before after stands read.seat.below changed alone keeps gave.0 facts;
         rose = subst (λ (i : ℕ). RoseAll ((i, disk) ∷ []) (count_of old) (count_of new)) (sym read.seat.number) (rose_at old new s disk before after changed gave.1);
       }
-  fetch_stops d line old new name volume start count s place other before after is stands read changed alone gave facts load = absurd gave
+  fetch_stops d line old new name volume start count s place other before after is stands read changed alone keeps gave facts load = absurd gave

@@ -23,7 +23,7 @@ use Rattle.vx_disk.specs.Disks.{SameBlocks}
 use Rattle.vx_diskset.specs.Asked.{SetsFuse}
 use Rattle.vx_diskset.specs.Fuses.{HasLeft}
 use Rattle.vx_diskset.specs.Holds.{Beside, beside_of}
-use Rattle.vx_diskset.specs.Stands.{StandsAt}
+use Rattle.vx_diskset.specs.Stands.{KeepsRole, StandsAt}
 use Rattle.vx_node.specs.OfSites.{OfSite}
 use Rattle.vx_node.specs.Standing.{Leads, StandsFor}
 use Rattle.vx_node.specs.Yards.{IsTold}
@@ -31,7 +31,7 @@ use Rattle.vx_node.proofs.FailsStay.{fails_then, fuse_keeps}
 use Rattle.vx_node.proofs.FuseStays.{fused_on}
 use Rattle.vx_node.proofs.NamedSite.{asks_at, fact_named, site_at}
 use Rattle.vx_node.proofs.NoteSite.{changes_one, comes_one, none_left, with_one}
-use Rattle.vx_node.proofs.OneSite.{Changed, stands_still, told_by}
+use Rattle.vx_node.proofs.OneSite.{Changed, role_kept, stands_still, told_by}
 use Rattle.vx_node.proofs.Rows.{fact_like, fact_same}
 use Rattle.vx_node.proofs.Carrying.{SameLoad, carries_node}
 
@@ -43,10 +43,10 @@ module _ {R : Type 0} {g : Ghosts R} where
       ap (λ (f : SiteFacts). f.state) (sym (fact_named d old name s (site_at d old name s stands seat) seat may.0)) ∙ may.1
 
   pub fuse_leads : (d : Doubted) (old new : Yard R g) (name : List ℕ) (calls pick s : ℕ) (before after : DiskSet R g) → StandsFor d old → IsFree old (Fuse name calls pick) → seat_of old.facts.items name ≡ Some s
-      → Changed old new s before after → ((beside : Beside) (n : Node) → StandsAt beside n before → n.state ≡ IsUp → StandsAt beside (record n { fuse = FuseSet calls }) after)
+      → Changed old new s before after → KeepsRole before after → ((beside : Beside) (n : Node) → StandsAt beside n before → n.state ≡ IsUp → StandsAt beside (record n { fuse = FuseSet calls }) after)
       → ((beside : Beside) (n : Node) → StandsAt beside n before → n.state ≡ IsUp → SetsFuse calls pick before after)
       → new.facts ≡ old.facts → SameLoad old new → Leads d (Fuse name calls pick) Done old new
-  fuse_leads d old new name calls pick s before after stands free is changed fuses asked facts load =
+  fuse_leads d old new name calls pick s before after stands free is changed keeps fuses asked facts load =
       let seat = site_at d old name s stands is in
       let m : Node = d.world.nodes s in
       let n : Node = record m { fuse = FuseSet calls } in
@@ -67,7 +67,8 @@ module _ {R : Type 0} {g : Ghosts R} where
             (comes_one d s n after refl stands.links (fuses (beside_of d s) m there up)
             (fails_then m n before after refl (fuse_keeps calls pick before after sets) (stands.failing s before seat.below changed.there))
             (fused_on (λ o x. SameBlocks o x × (x.fuse ≡ Some (calls, pick))) m n (FuseSet calls) before after refl
-            (λ x y set left. subst (λ (z : Option (ℕ × ℕ)). HasLeft calls z) (sym set.1) (omega arith)) sets (stands.fuses s before seat.below changed.there)))
+            (λ x y set left. subst (λ (z : Option (ℕ × ℕ)). HasLeft calls z) (sym set.1) (omega arith)) sets (stands.fuses s before seat.below changed.there))
+            (role_kept d old s before after stands seat.below changed.there keeps))
             (fact_same n ((with_one d s n).world.nodes s) (d.world.links s) (d.world.links s) d.world.sites d.world.sites (at_place d.world.nodes s n) (λ k. refl) refl
             ∙ fact_like m n (d.world.links s) d.world.sites (fuse_fact m (FuseSet calls)) (λ k l. refl))
             (ap (λ fs. fs.items) facts);

@@ -35,7 +35,7 @@ use Rattle.vx_script.specs.declared.line.ScriptLine.TheVariants.{Deliver}
 use Rattle.vx_diskset.specs.Asked.{LeavesAlone}
 use Rattle.vx_diskset.specs.DiskSets.{worked}
 use Rattle.vx_diskset.specs.Holds.{beside_of}
-use Rattle.vx_diskset.specs.Stands.{StandsAt}
+use Rattle.vx_diskset.specs.Stands.{RoleIs, StandsAt}
 use Rattle.vx_diskset.specs.declared.disk_set.DiskSet.{DiskSet}
 use Rattle.vx_joins.proofs.TakesUpdate.{node_behind}
 use Rattle.vx_joins.specs.Deliveries.{DeliveredTo, IsUnheard, TakesNone, TakesOne, TookTo}
@@ -74,7 +74,7 @@ module _ {R : Type 0} {g : Ghosts R} where
     pub below : s < MOST_SITES
     pub told : IsTold new → IsTold old
 
-  module _ (d : Doubted) (number : ℕ) (p : Packet) (k : ℕ) (x : Write) (old new : Yard R g) (before after : DiskSet R g) (stands : StandsFor d old) (below : p.target < d.world.sites) (changed : Changed old new p.target before after) (alone : LeavesAlone before after)
+  module _ (d : Doubted) (number : ℕ) (p : Packet) (k : ℕ) (x : Write) (old new : Yard R g) (before after : DiskSet R g) (stands : StandsFor d old) (below : p.target < d.world.sites) (changed : Changed old new p.target before after) (alone : LeavesAlone before after) (role : RoleIs (d.world.nodes p.target) after)
       (feeder : ℕ) (a : Assembled) (at : packet_at d.world.packets number ≡ Some p) (message : p.message ≡ Update k x) (handed : Handed old new p.target feeder a) where
     abbrev s : ℕ
     s = p.target
@@ -100,7 +100,7 @@ module _ {R : Type 0} {g : Ghosts R} where
     -- as the world has it, and ignored
     pub exact_ignored : DeliveredTo o (beside_of d s) s after feeder a new.flight IsIgnored → new.facts.items ≡ old.facts.items → Leads d (Deliver number) Ignored old new
     exact_ignored is facts =
-        leads_same d number p old new before after stands below changed alone h (o.world.nodes s) o.world.packets (o.world.gathering s) Ignored effect (fit_worked h s (fit_happened d (DeliverAt number) false stands.links))
+        leads_same d number p old new before after stands below changed alone role h (o.world.nodes s) o.world.packets (o.world.gathering s) Ignored effect (fit_worked h s (fit_happened d (DeliverAt number) false stands.links))
         (done_as (IsTold new) d number p Ignored IsIgnored at below (sym is.says) refl) (stays_ignored d.world p x number k at message (sym is.says)) is.stands facts (carried IsIgnored is)
 
     -- as the world has it, and taken
@@ -108,7 +108,7 @@ module _ {R : Type 0} {g : Ghosts R} where
         → new.facts.items ≡ slice_set old.facts.items s (received_fact last (fact_of n (d.world.links s) d.world.sites)) → Leads d (Deliver number) Taken old new
     exact_taken last is receives none many facts =
         let one = node_behind d.world p x number k at message in
-        leads_new d number p old new before after stands below changed alone h (o.world.nodes s) o.world.packets (o.world.gathering s) Taken (received_fact last (fact_of n (d.world.links s) d.world.sites)) effect
+        leads_new d number p old new before after stands below changed alone role h (o.world.nodes s) o.world.packets (o.world.gathering s) Taken (received_fact last (fact_of n (d.world.links s) d.world.sites)) effect
         (fit_worked h s (fit_happened d (DeliverAt number) false stands.links)) (done_as (IsTold new) d number p Taken IsTaken at below (sym is.says) refl) (either_site n (o.world.nodes s) p.source x one) is.stands
         (last_shown n (o.world.nodes s) (d.world.links s) d.world.sites p.source last x receives none one many) facts (carried IsTaken is)
 
@@ -130,7 +130,7 @@ module _ {R : Type 0} {g : Ghosts R} where
       given_new : (m : Node) (last : ℕ) (y : Write) (said : Said) → FindsOther d (Deliver number) [] said (given m) → feeder ≡ m.fed_by → StandsAt (beside_of d s) m after → is_origin n.role ≡ false → (fact_of n (d.world.links s) d.world.sites).links ≡ []
           → (m ≡ n) ⊎ (m ≡ with_write n p.source y) → last ≡ length m.log → new.facts.items ≡ slice_set old.facts.items s (received_fact last (fact_of n (d.world.links s) d.world.sites)) → Leads d (Deliver number) said old new
       given_new m last y said finds fed here receives none one many facts =
-          leads_new d number p old new before after stands below changed alone (given m) m (d.world.packets ++ more.packets) None said (received_fact last (fact_of n (d.world.links s) d.world.sites)) (given_effect d s m more.packets)
+          leads_new d number p old new before after stands below changed alone role (given m) m (d.world.packets ++ more.packets) None said (received_fact last (fact_of n (d.world.links s) d.world.sites)) (given_effect d s m more.packets)
           (fit_worked (given m) s (fit_finds d (Deliver number) [] said (given m) finds stands.links)) (LinksFind untold (given m) finds (left_at d (given m) number p at below)) (either_site n m p.source y one) here
           (last_shown n m (d.world.links s) d.world.sites p.source last y receives none one many) facts (given_carried m fed)
 
@@ -140,7 +140,7 @@ module _ {R : Type 0} {g : Ghosts R} where
           let node : o.world.nodes s ≡ n = ap (λ (r : Outcome). r.world.nodes s) is in
           let noted = worked_effect s d h (o.world.nodes s) (d.world.links s) (d.world.headers s) (d.after s) o.world.packets (o.world.gathering s) effect in
           let packets : o.world.packets ≡ d.world.packets ++ [] = ap (λ (r : Outcome). r.world.packets) is ∙ sym (append-nil d.world.packets) in
-          leads_same d number p old new before after stands below changed alone h (o.world.nodes s) o.world.packets (o.world.gathering s) Ignored effect (fit_worked h s (fit_happened d (DeliverAt number) false stands.links))
+          leads_same d number p old new before after stands below changed alone role h (o.world.nodes s) o.world.packets (o.world.gathering s) Ignored effect (fit_worked h s (fit_happened d (DeliverAt number) false stands.links))
           (done_as (IsTold new) d number p Ignored IsIgnored at below (ap (λ (r : Outcome). r.said) is) refl) node (subst (λ (m : Node). StandsAt (beside_of d s) m after) (sym node) here) facts
           (λ carries. carries_handed d (worked_for h s) s feeder a [] old new noted.site packets
           (subst (λ (f : Flying). FlightStands o.world.packets f) (sym flight) (subst (λ (ps : List Packet). FlightStands ps old.flight) (sym (ap (λ (r : Outcome). r.world.packets) is)) carries.flight))
@@ -151,7 +151,7 @@ module _ {R : Type 0} {g : Ghosts R} where
       found_ignored a' (TakesOne opens receives y said here fed) facts = absurd (let e : IsIgnored ≡ IsTaken = said in cc)
       found_ignored a' (TakesNone opens receives how here fed) facts =
           let finds : FindsOther d (Deliver number) [] Ignored (given n) = KeepsOther number p None more.packets refl (may opens receives) refl (inr refl) refl in
-          leads_same d number p old new before after stands below changed alone (given n) n (d.world.packets ++ more.packets) None Ignored (given_effect d s n more.packets)
+          leads_same d number p old new before after stands below changed alone role (given n) n (d.world.packets ++ more.packets) None Ignored (given_effect d s n more.packets)
           (fit_worked (given n) s (fit_finds d (Deliver number) [] Ignored (given n) finds stands.links)) (LinksFind untold (given n) finds (left_at d (given n) number p at below)) refl here facts (given_carried n fed)
       found_ignored a' (IsUnheard is said here fed same flight) facts = unheard_leads is here fed flight facts
 

@@ -11,7 +11,6 @@ use Rattle.vx_model.specs.declared.limits.TheConstants.{MOST_SITES}
 use Rattle.vx_model.specs.declared.no.Counted.{Counted}
 use Rattle.vx_model.specs.declared.no.No.{No}
 use Rattle.vx_model.specs.declared.no.No.TheVariants.{Device, Limit, Down as Off}
-use Rattle.vx_model.specs.declared.site.Role.TheVariants.{Primary}
 use Rattle.vx_model.specs.declared.site.SiteState.TheVariants.{Up as IsUp}
 use Rattle.vx_model.specs.declared.state.KeptLink.{KeptLink}
 use Rattle.vx_model.specs.declared.state.State.{State}
@@ -26,7 +25,7 @@ use Rattle.vx_diskset.specs.DiskSets.{halted_at, worked}
 use Rattle.vx_diskset.specs.Fuses.{LeftAs}
 use Rattle.vx_diskset.specs.Holds.{Beside, Kept, beside_of, itself, links_of, row_links, sure_of}
 use Rattle.vx_diskset.specs.Keeps.{KeptAt, doubting, restated}
-use Rattle.vx_diskset.specs.Stands.{StandsAt}
+use Rattle.vx_diskset.specs.Stands.{KeepsRole, RoleIs, StandsAt}
 use Rattle.vx_diskset.specs.declared.disk_set.DiskSet.{DiskSet}
 use Rattle.vx_events.proofs.Places.{never_some, some_same}
 use Rattle.vx_events.specs.Effects.{ChangesNode, EffectAt}
@@ -39,6 +38,8 @@ use Rattle.vx_effects.proofs.Facts.{fact_same, facts_at, halted_is}
 use Rattle.vx_effects.proofs.Leaving.{fit_crashed_as, fit_halved}
 use Rattle.vx_effects.proofs.Notes.{burned_twice}
 use Rattle.vx_effects.specs.Facts.{fact_of, halted_fact, halted_group as halted_there}
+use Rattle.vx_diskset.proofs.Roles.{role_like}
+use Rattle.vx_model.specs.Sites.{is_origin}
 use Rattle.vx_node.specs.Changes.{down_facts, halted_facts, halted_group}
 use Rattle.vx_node.specs.Headed.{CutFor, FullFor, HeadedIs, NextFor, NotesAt, behind, noted_by}
 use Rattle.vx_node.specs.Standing.{IsSameSite, StandsFor}
@@ -55,7 +56,7 @@ use Rattle.vx_effects.proofs.Halves.{may_be, stopped}
 use Rattle.vx_node.proofs.HeadedWorlds as worlds
 use Rattle.vx_node.proofs.HeadedWorlds.{fused_before, stopped_noted, worked_twice}
 use Rattle.vx_node.proofs.Lists.{get-set_same, set_same}
-use Rattle.vx_node.proofs.OneSite.{Changed, rose_at, told_by}
+use Rattle.vx_node.proofs.OneSite.{Changed, role_kept, role_off, rose_at, told_by}
 use Rattle.vx_node.proofs.Turned.{stands_turned}
 
 group_halted : (disk : ℕ) (o : Option RvgFacts) → halted_group disk o ≡ halted_there disk o
@@ -74,7 +75,8 @@ module _ {R : Type 0} {g : Ghosts R} (note : (ℕ → Node) → ℕ → Node) (s
     (f : EffectAt s d (behind d e) (restated (d.world.nodes s) st) row (d.world.headers s + 1) (d.after s) d.world.packets (d.world.gathering s))
     (kept : row_links row d.world.sites ≡ st.links) (sure : d.after s ≡ None) (role : st.role ≡ (d.world.nodes s).role) (fits : LinksFit (behind d e))
     (opens : IsOpen (d.world.nodes s)) (writes : WritesAt d.world e s) (fits_before : LinksFit d)
-    (old new : Yard R g) (before after : DiskSet R g) (stands : StandsFor (noted_by note d) old) (below : s < d.world.sites) (changed : Changed old new s before after) where
+    (old new : Yard R g) (before after : DiskSet R g) (stands : StandsFor (noted_by note d) old) (below : s < d.world.sites) (changed : Changed old new s before after)
+    (keeps : KeepsRole before after) where
   abbrev n : Node
   n = d.world.nodes s
 
@@ -90,8 +92,9 @@ module _ {R : Type 0} {g : Ghosts R} (note : (ℕ → Node) → ℕ → Node) (s
   here : start.world.nodes s ≡ worked n
   here = notes.here d.world.nodes
 
-  primary : IsTold new → n.role ≡ Primary
-  primary told = sym (ap (λ (k : Node). k.role) here) ∙ (stands.primaries (told_then told)).each s
+  -- of a node of the same role
+  kind_of : (k : Node) → k.role ≡ n.role → RoleIs k after
+  kind_of k same = role_like (start.world.nodes s) k after (ap is_origin (same ∙ sym (ap (λ (m : Node). m.role) here))) (role_kept start old s before after stands below changed.there keeps)
 
   stood : StandsAt (beside_of d s) (worked n) before
   stood = subst (λ (k : Node). StandsAt (beside_of d s) k before) here (stands.disk_sets.sites s before below changed.there)
@@ -131,9 +134,9 @@ module _ {R : Type 0} {g : Ghosts R} (note : (ℕ → Node) → ℕ → Node) (s
                   (subst (λ (k : Node). StandsAt (record { links = st.links; headers = d.world.headers s + 1; doubt = None }) k after) (worked_twice m) is));
               failing = subst (λ (k : Node). FailsAs k after) there (fails_still (worked m) Done refl calls);
               fuse = subst (λ (k : Node). FusedAs k after) there (fuse_still (worked m) Done refl (λ x y burns. burns) calls);
+              role = subst (λ (k : Node). RoleIs k after) there (kind_of (worked m) role);
             })
             (facts ∙ sym (notes.shows (behind d e).world))
-            (λ told. sym (ap (λ (k : Node). k.role) there) ∙ role ∙ primary told)
             (λ a is. absurd (never_some (sym (w.is.after ∙ sure) ∙ is)));
         carries = carries_node s start to (worked m) old new load w.site w.sent w.gathering w.is.node (sym (ap (λ (k : Node). k.state) here)) (role ∙ sym (ap (λ (k : Node). k.role) here))
             (sym (ap (λ (k : Node). k.fed_by) here)) told_then;
@@ -169,6 +172,7 @@ module _ {R : Type 0} {g : Ghosts R} (note : (ℕ → Node) → ℕ → Node) (s
                   (subst (λ (k : Node). StandsAt (doubting (beside_of d s) (worked n) st disk) k after) (stopped_noted n disk) is.0));
               failing = subst (λ (k : Node). FailsAs k after) there (fails_still (stopped n disk) (Refused (Device disk)) refl calls);
               fuse = subst (λ (k : Node). FusedAs k after) there (fuse_still (stopped n disk) (Refused (Device disk)) refl (λ x y burns. burns) calls);
+              role = subst (λ (k : Node). RoleIs k after) there (kind_of (stopped n disk) refl);
             })
             (noted_there (Device disk) x x' at noted facts
             ∙ ap (λ (o : Option RvgFacts). slice_set (linked_facts start.world) s (let y : SiteFacts = record (linked_fact start.world s) { rvg = o } in y)) (group_halted disk (linked_fact start.world s).rvg)
@@ -176,12 +180,11 @@ module _ {R : Type 0} {g : Ghosts R} (note : (ℕ → Node) → ℕ → Node) (s
             (ap (λ (k : Node). halted_fact disk (fact_of k (d.world.links s) d.world.sites)) here
             ∙ sym (halted_is (worked n) (d.world.links s) d.world.sites disk) ∙ ap (λ (k : Node). fact_of k (d.world.links s) d.world.sites) (stopped_noted n disk))
             ∙ sym (facts_there start to s (stopped n disk) (d.world.links s) w.site below w.is.node w.is.links))
-            (λ told. sym (ap (λ (k : Node). k.role) there) ∙ primary told)
             (λ a some.
             let same : may_be d e s disk ≡ a = some_same (sym w.is.after ∙ some) in
-            subst (λ (b : After). IsSameSite (IsTold new) (to.world.nodes s) b.node) same
-            (subst (λ (k : Node). IsSameSite (IsTold new) k (may_be d e s disk).node) there
-            (subst (λ (k : Node). IsSameSite (IsTold new) (stopped n disk) k) (sym may) (record { name = refl; disks = refl; blocks = refl; volumes = refl; role = λ told. role ∙ primary told }))));
+            subst (λ (b : After). IsSameSite (to.world.nodes s) b.node) same
+            (subst (λ (k : Node). IsSameSite k (may_be d e s disk).node) there
+            (subst (λ (k : Node). IsSameSite (stopped n disk) k) (sym may) (record { name = refl; disks = refl; blocks = refl; volumes = refl }))));
         carries = carries_node s start to (stopped n disk) old new load w.site w.sent w.gathering w.is.node (sym (ap (λ (k : Node). k.state) here)) (sym (ap (λ (k : Node). k.role) here))
             (sym (ap (λ (k : Node). k.fed_by) here)) told_then;
         rose = rose_at old new s disk before after changed is.1;
@@ -202,9 +205,9 @@ module _ {R : Type 0} {g : Ghosts R} (note : (ℕ → Node) → ℕ → Node) (s
                 stands = subst (λ (k : Node). StandsAt (beside_of d s) k after) (sym here) is.2;
                 failing = subst (λ (k : Node). FailsAs k after) (sym here) (fails_still (worked n) (Refused (Limit what most)) refl calls);
                 fuse = subst (λ (k : Node). FusedAs k after) (sym here) (fuse_still (worked n) (Refused (Limit what most)) refl (λ x y burns. burns) calls);
+                role = role_kept start old s before after stands below changed.there keeps;
               })
               (facts ∙ ap (slice_set old.facts.items s) noted ∙ set_same old.facts.items s x at ∙ stands.facts)
-              (λ told. (stands.primaries (told_then told)).each s)
               (λ a some. absurd (never_some (sym sure ∙ some)));
           carries = carries_same start old new load told_then;
           rose = rose_still old new s before after changed.there changed.later changed.disk_sets;
@@ -219,9 +222,9 @@ module _ {R : Type 0} {g : Ghosts R} (note : (ℕ → Node) → ℕ → Node) (s
     where
       by : (count : ℕ) (taken : Bool) (k : Node) (links : ℕ → Link) (ls : List KeptLink) (node_is : (resolved_at (halved d e s 0) s taken).world.nodes s ≡ k)
           (row_is : (j : ℕ) → (resolved_at (halved d e s 0) s taken).world.links s j ≡ links j) (links_are : row_links links d.world.sites ≡ ls) (least : k.safe ≤ count) (most : count ≤ length k.log)
-          → k.state ≡ IsUp → k.failing ≡ n.failing → (IsTold new → k.role ≡ Primary) → down_facts (fact_of k links d.world.sites) ≡ down_facts (fact_of n links d.world.sites)
+          → k.state ≡ IsUp → k.failing ≡ n.failing → down_facts (fact_of k links d.world.sites) ≡ down_facts (fact_of n links d.world.sites)
           → StandsAt (record { links = ls; headers = d.world.headers s + 1; doubt = None }) (crashed k count) after → CutFor note d e s old new
-      by count taken k links ls node_is row_is links_are least most up failing led shown stood_there =
+      by count taken k links ls node_is row_is links_are least most up failing shown stood_there =
           let to : Doubted = noted_by note (crashed_as (halved d e s 0) s count taken) in
           let changes = worlds.fell_changes note s notes d e st row f kept sure count taken k links ls node_is row_is links_are least most in
           let node = worlds.fell_node note s notes d e st row f kept sure count taken k links ls node_is row_is links_are least most in
@@ -240,12 +243,12 @@ module _ {R : Type 0} {g : Ghosts R} (note : (ℕ → Node) → ℕ → Node) (s
                         (subst (λ (b : Beside). StandsAt b (crashed k count) after) (sym (worlds.fell_beside note s notes d e st row f kept sure count taken k links ls node_is row_is links_are least most)) stood_there);
                     failing = subst (λ (q : Node). FailsAs q after) there (fails_still (crashed k count) (Refused Off) failing calls);
                     fuse = subst (λ (q : Node). FusedAs q after) there (fused_none (crashed k count) after refl);
+                    role = role_off (record { links = ls; headers = d.world.headers s + 1; doubt = None }) (crashed k count) (to.world.nodes s) after stood_there (λ is_up. down_up is_up);
                   })
                   (noted_there Off x x' at noted facts
                   ∙ ap (λ (q : Node). slice_set (linked_facts start.world) s (down_facts (fact_of q (d.world.links s) d.world.sites))) here
                   ∙ ap (slice_set (linked_facts start.world) s) (sym shown)
                   ∙ sym (facts_there start to s (crashed k count) (to.world.links s) changes below node (λ j. refl)))
-                  (λ told. sym (ap (λ (q : Node). q.role) there) ∙ led told)
                   (λ a some. absurd (never_some (sym (worlds.fell_sure note s notes d e st row f kept sure count taken k links ls node_is row_is links_are least most) ∙ some)));
               carries = carries_let s start to old new lets small changes (worlds.fell_sent note s notes d e st row f kept sure count taken k links ls node_is row_is links_are least most)
                   (worlds.fell_gathering note s notes d e st row f kept sure count taken k links ls node_is row_is links_are least most) (λ is_up. down_up (sym (ap (λ (q : Node). q.state) node) ∙ is_up)) told_then;
@@ -258,14 +261,13 @@ module _ {R : Type 0} {g : Ghosts R} (note : (ℕ → Node) → ℕ → Node) (s
       itself_by q own =
           subst (λ (y : Kept). (count : ℕ) → y.node.safe ≤ count → count ≤ length y.node.log → StandsAt (sure_of y) (crashed y.node count) after → CutFor note d e s old new) (sym own)
           (λ count least most stood_there.
-          by count false (stopped n 0) (d.world.links s) (links_of d.world s) (worlds.own_node note s notes d e st row f kept sure) (λ j. refl) refl least most opens.0 refl (λ told. primary told) refl stood_there)
+          by count false (stopped n 0) (d.world.links s) (links_of d.world s) (worlds.own_node note s notes d e st row f kept sure) (λ j. refl) refl least most opens.0 refl refl stood_there)
 
       doubt_by : (q : Kept) → (doubting (beside_of d s) (worked n) st 0).doubt ≡ Some q → (count : ℕ) → q.node.safe ≤ count → count ≤ length q.node.log → StandsAt (sure_of q) (crashed q.node count) after → CutFor note d e s old new
       doubt_by q other =
           subst (λ (y : Kept). (count : ℕ) → y.node.safe ≤ count → count ≤ length y.node.log → StandsAt (sure_of y) (crashed y.node count) after → CutFor note d e s old new) (some_same other)
           (λ count least most stood_there.
-          by count true (stopped m 0) row st.links (worlds.other_node note s notes d e st row f kept sure) (worlds.other_row note s notes d e st row f kept sure) kept least most opens.0 refl (λ told. role ∙ primary told) refl
-          stood_there)
+          by count true (stopped m 0) row st.links (worlds.other_node note s notes d e st row f kept sure) (worlds.other_row note s notes d e st row f kept sure) kept least most opens.0 refl refl stood_there)
 
   -- by what was answered
   pub headed_refused : (why : No) (x x' : SiteFacts) → KeptAt (beside_of d s) (worked n) st before after (Err why) → LeavesFuse NoMore (Refused why) before after → slice_get old.facts.items s ≡ Some x

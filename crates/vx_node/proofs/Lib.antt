@@ -1,3 +1,4 @@
+pub mod AllDurable
 pub mod Alike
 pub mod AnswerFor
 pub mod ApplySite
@@ -13,6 +14,7 @@ pub mod FuseLine
 pub mod FuseStays
 pub mod IntoRacks
 pub mod Kept
+pub mod Leading
 pub mod LinkLines
 pub mod Lists
 pub mod NamedSite
@@ -27,6 +29,7 @@ pub mod RawTable
 pub mod ReadLine
 pub mod RecoverLine
 pub mod Replies
+pub mod Leads
 pub mod Rows
 pub mod Seats
 pub mod SentText

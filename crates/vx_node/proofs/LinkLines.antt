@@ -1,5 +1,5 @@
 -- What a line of links leaves that needs no disk.
-use Rattle.std.proofs.Common.{◌≡◌, ◌∙◌, ◌++◌, ◌⊎◌, ◌≤◌, ℕ, List, [], length, false, ap, sym, subst, refl, arith, ⊎_elim}
+use Rattle.std.proofs.Common.{◌≡◌, ◌∙◌, ◌++◌, ◌⊎◌, ◌≤◌, ℕ, List, [], length, true, false, ap, sym, subst, refl, arith, ⊎_elim}
 use Rattle.std.proofs.lemmas.List.{append-nil}
 use Rattle.std.specs.Prelude.{Option, Some, None, Bool, Result, Err, slice_get}
 use Rattle.std.specs.Vec.{vec_capacity}
@@ -9,7 +9,7 @@ use Rattle.vx_courier.specs.UnderWay.{FlightStands}
 use Rattle.vx_disk.specs.declared.shelf.Shelf.{Ghosts}
 use Rattle.vx_diskset.specs.Asked.{FailsAs, FusedAs}
 use Rattle.vx_diskset.specs.Holds.{Beside, Kept, beside_of, doubt_of, links_of}
-use Rattle.vx_diskset.specs.Stands.{StandsAt}
+use Rattle.vx_diskset.specs.Stands.{RoleIs, StandsAt}
 use Rattle.vx_diskset.specs.declared.disk_set.DiskSet.{DiskSet}
 use Rattle.vx_effects.proofs.Fitting.{fit_happened}
 use Rattle.vx_events.proofs.LinkWaiting.{wait_agrees}
@@ -40,9 +40,11 @@ use Rattle.vx_net.specs.Flights.{Flying}
 use Rattle.vx_order.specs.Order.{refusal_of}
 use Rattle.vx_order.specs.declared.facts.SiteFacts.{SiteFacts}
 use Rattle.vx_script.specs.declared.line.ScriptLine.{ScriptLine}
-use Rattle.vx_script.specs.declared.line.ScriptLine.TheVariants.{Connect, Cut, Pause, Resume, Tick, Wait}
+use Rattle.vx_script.specs.declared.line.ScriptLine.TheVariants.{Write as WriteLine, Put as PutLine, Apply as ApplyLine, Connect, Cut, Pause, Resume, Tick, Wait}
 use Rattle.vx_node.specs.Carries.{Carries}
 use Rattle.vx_node.specs.Happenings.{reply_of}
+use Rattle.vx_node.specs.LinkLines.{is_on_links}
+use Rattle.vx_node.specs.OfSites.{HasCalled}
 use Rattle.vx_node.specs.Standing.{Leads, LeadsIs, SitesAgree, StandsFor, StaysFor}
 use Rattle.vx_node.specs.Stands.{AreTold, RoseAll, faults_of}
 use Rattle.vx_node.specs.Working.{IsFree}
@@ -163,8 +165,9 @@ module _ {R : Type 0} {g : Ghosts R} where
     facts = facts;
     disk_sets = subst (λ es. SitesAgree (record d { world = v }) es) (sym same) (sites_kept d v old.disk_sets.items stands.disk_sets left);
     links = fits;
-    primaries = λ told. record {
-      each = λ s. ap (λ (n : Node). n.role) (left.nodes s) ∙ (stands.primaries (ap_told told)).each s;
+    roles = record {
+      each = λ s e inside is.
+          subst (λ (n : Node). RoleIs n e) (sym (left.nodes s)) (stands.roles.each s e (omega (arith, inside, left.sites)) (sym (ap (λ es. slice_get es s) same) ∙ is));
     };
     doubts = λ s a is.
         let was = stands.doubts s a is in
@@ -173,7 +176,6 @@ module _ {R : Type 0} {g : Ghosts R} where
           disks = was.disks ∙ ap (λ (n : Node). n.disks) (sym (left.nodes s));
           blocks = was.blocks ∙ ap (λ (n : Node). n.blocks) (sym (left.nodes s));
           volumes = was.volumes ∙ ap (λ (n : Node). n.volumes) (sym (left.nodes s));
-          role = λ told. was.role (ap_told told);
         };
     failing = λ s e inside is.
         subst (λ (n : Node). FailsAs n e) (sym (left.nodes s)) (stands.failing s e (omega (arith, inside, left.sites)) (sym (ap (λ es. slice_get es s) same) ∙ is));
@@ -185,9 +187,6 @@ module _ {R : Type 0} {g : Ghosts R} where
     where
       same : new.disk_sets.items ≡ old.disk_sets.items
       same = ap (λ es. es.items) relinks.disk_sets
-
-      ap_told : IsTold new → IsTold old
-      ap_told told = subst (λ es. AreTold es) same told
 
   relinked_disks : (old new : Yard R g) → Relinks old new → new.disk_sets.items ≡ old.disk_sets.items
   relinked_disks old new relinks = ap (λ es. es.items) relinks.disk_sets
@@ -318,3 +317,10 @@ module _ {R : Type 0} {g : Ghosts R} where
   -- no test of the line refuses it, as the world sees it
   pub wait_free : (d : Doubted) (y : Yard R g) (p : List ℕ) (number : ℕ) → StandsFor d y → IsFree y (Wait p number) → refused_by d.world (in_files y) (Wait p number) ≡ None
   wait_free d y p number stands free = subst (λ (fs : List SiteFacts). refusal_of fs (in_files y) (Wait p number) ≡ None) stands.facts free
+
+  -- no line on links has a word on calls
+  pub links_called : (w : World) (line : ScriptLine) (said : Said) (old new : Yard R g) → is_on_links line ≡ true → HasCalled w line said old new
+  links_called w (WriteLine site volume block count fill) said old new is = absurd (let e : false ≡ true = is in cc)
+  links_called w (PutLine site volume block bytes) said old new is = absurd (let e : false ≡ true = is in cc)
+  links_called w (ApplyLine site count) said old new is = absurd (let e : false ≡ true = is in cc)
+  links_called w other said old new is = tt

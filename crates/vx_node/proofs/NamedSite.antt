@@ -80,8 +80,8 @@ module _ {R : Type 0} {g : Ghosts R} where
       facts = facts ∙ stands.facts;
       disk_sets = subst (λ es. SitesAgree d es) (sym sets) stands.disk_sets;
       links = stands.links;
-      primaries = λ told. stands.primaries (subst (λ es. AreTold es) sets told);
-      doubts = λ s a is. let w = stands.doubts s a is in record { name = w.name; disks = w.disks; blocks = w.blocks; volumes = w.volumes; role = λ told. w.role (subst (λ es. AreTold es) sets told) };
+      roles = record { each = λ s x below at. stands.roles.each s x below (sym (ap (λ es. slice_get es s) sets) ∙ at) };
+      doubts = λ s a is. stands.doubts s a is;
       failing = λ s x below at. stands.failing s x below (sym (ap (λ es. slice_get es s) sets) ∙ at);
       fuses = λ s x below at. stands.fuses s x below (sym (ap (λ es. slice_get es s) sets) ∙ at);
       none = ap (λ rs. rs.items) racks ∙ stands.none;

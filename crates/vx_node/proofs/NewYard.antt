@@ -55,7 +55,7 @@ module _ {R : Type 0} {g : Ghosts R} where
     facts = facts;
     disk_sets = stood;
     links = fit_empty;
-    primaries = λ told. record { each = λ i. refl };
+    roles = record { each = λ s e below is. absurd (omega (arith, below)) };
     doubts = λ s a is. absurd (never is);
     failing = λ s e below is. absurd (omega (arith, below));
     fuses = λ s e below is. absurd (omega (arith, below));

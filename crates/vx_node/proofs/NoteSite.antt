@@ -11,7 +11,8 @@ use Rattle.vx_disk.specs.declared.shelf.Shelf.{Ghosts}
 use Rattle.vx_script.specs.declared.line.ScriptLine.{ScriptLine}
 use Rattle.vx_diskset.specs.Asked.{FailsAs, FusedAs}
 use Rattle.vx_diskset.specs.Holds.{beside_of}
-use Rattle.vx_diskset.specs.Stands.{StandsAt}
+use Rattle.vx_diskset.proofs.Roles.{role_like}
+use Rattle.vx_diskset.specs.Stands.{RoleIs, StandsAt}
 use Rattle.vx_diskset.specs.declared.disk_set.DiskSet.{DiskSet}
 use Rattle.vx_events.proofs.Calm.{chosen_world, run_world}
 use Rattle.vx_events.specs.Doubts.{run_as}
@@ -23,6 +24,7 @@ use Rattle.vx_events.specs.Lists.{Choice, events_of}
 use Rattle.vx_events.specs.Sayings.{Replies, RepeatsOf}
 use Rattle.vx_events.specs.declared.said.Said.{Said}
 use Rattle.vx_events.specs.declared.said.Said.TheVariants.{Refused}
+use Rattle.vx_model.specs.Sites.{is_origin}
 use Rattle.vx_model.specs.declared.no.No.TheVariants.{Device}
 use Rattle.vx_node.proofs.Alike.{apart_place}
 use Rattle.vx_node.specs.Standing.{IsSameSite}
@@ -86,8 +88,8 @@ only_left told d line s e disk is leaves still = DiskFails first_choice false []
 
 module _ {R : Type 0} {g : Ghosts R} where
   -- a site whose node is another, with what it has beside it
-  pub comes_one : (d : Doubted) (s : ℕ) (n : Node) (after : DiskSet R g) → IsNoted (d.world.nodes s) n → LinksFit d → StandsAt (beside_of d s) n after → FailsAs n after → FusedAs n after → Comes d (with_one d s n) s after
-  comes_one d s n after noted fits stands failing fuse =
+  pub comes_one : (d : Doubted) (s : ℕ) (n : Node) (after : DiskSet R g) → IsNoted (d.world.nodes s) n → LinksFit d → StandsAt (beside_of d s) n after → FailsAs n after → FusedAs n after → RoleIs (d.world.nodes s) after → Comes d (with_one d s n) s after
+  comes_one d s n after noted fits stands failing fuse role =
       let here : n ≡ (with_one d s n).world.nodes s = sym (at_place d.world.nodes s n) in
       record {
         changes = changes_one d s n;
@@ -95,27 +97,26 @@ module _ {R : Type 0} {g : Ghosts R} where
         stands = subst (λ (m : Node). StandsAt (beside_of d s) m after) here stands;
         failing = subst (λ (m : Node). FailsAs m after) here failing;
         fuse = subst (λ (m : Node). FusedAs m after) here fuse;
-        role = λ T was here_told told primary. ap (λ (m : Node). m.role) (sym here) ∙ ap (λ (m : Node). m.role) noted ∙ primary;
-        doubt = λ told was a is.
+        role = subst (λ (m : Node). RoleIs m after) here (role_like (d.world.nodes s) n after (ap (λ (m : Node). is_origin m.role) noted) role);
+        doubt = λ was a is.
             let w = was a is in
-            subst (λ (m : Node). IsSameSite told m a.node) here
+            subst (λ (m : Node). IsSameSite m a.node) here
             (record {
               name = w.name ∙ sym (ap (λ (m : Node). m.name) noted);
               disks = w.disks ∙ sym (ap (λ (m : Node). m.disks) noted);
               blocks = w.blocks ∙ sym (ap (λ (m : Node). m.blocks) noted);
               volumes = w.volumes ∙ sym (ap (λ (m : Node). m.volumes) noted);
-              role = w.role;
             });
       }
 
   -- a site of which nothing is noted
-  pub comes_same : (d : Doubted) (s : ℕ) (after : DiskSet R g) → LinksFit d → StandsAt (beside_of d s) (d.world.nodes s) after → FailsAs (d.world.nodes s) after → FusedAs (d.world.nodes s) after → Comes d d s after
-  comes_same d s after fits stands failing fuse = record {
+  pub comes_same : (d : Doubted) (s : ℕ) (after : DiskSet R g) → LinksFit d → StandsAt (beside_of d s) (d.world.nodes s) after → FailsAs (d.world.nodes s) after → FusedAs (d.world.nodes s) after → RoleIs (d.world.nodes s) after → Comes d d s after
+  comes_same d s after fits stands failing fuse role = record {
     changes = record { sites = refl; nodes = λ i apart. refl; links = λ i k apart. refl; headers = λ i apart. refl; after = λ i apart. refl; gathering = λ i apart. refl };
     links = fits;
     stands = stands;
     failing = failing;
     fuse = fuse;
-    role = λ T was here_told told primary. primary;
-    doubt = λ told was a is. was a is;
+    role = role;
+    doubt = λ was a is. was a is;
   }

@@ -20,9 +20,10 @@ use Rattle.vx_effects.proofs.Fitting.{updated_other}
 use Rattle.vx_effects.proofs.Leaving.{fit_worked}
 use Rattle.vx_effects.proofs.Notes.{worked_shows}
 use Rattle.vx_events.specs.LinksFit.{LinksFit}
+use Rattle.vx_diskset.proofs.Roles.{role_like}
+use Rattle.vx_model.specs.Sites.{is_origin}
 use Rattle.vx_node.specs.Headed.{NotesAt, noted_by}
 use Rattle.vx_node.specs.Standing.{IsSameSite, StandsFor}
-use Rattle.vx_node.specs.Yards.{IsTold}
 use Rattle.vx_node.specs.declared.yard.Yard.{Yard}
 use Rattle.vx_node.proofs.Lists.{set_same}
 use Rattle.vx_node.proofs.OneSite.{Changed}
@@ -80,8 +81,8 @@ module _ {R : Type 0} {g : Ghosts R} where
         stands = subst (λ (n : Node). StandsAt (beside_of d s) n e) (sym here) (stands_worked (beside_of d s) (d.world.nodes s) e (stands.disk_sets.sites s e below there));
         failing = subst (λ (n : Node). FailsAs n e) (sym here) (record { told = fails.told });
         fuse = subst (λ (n : Node). FusedAs n e) (sym here) (record { told = λ x at. left_burned (d.world.nodes s).fuse x.fuse (lit.told x at) });
+        role = role_like (d.world.nodes s) (to.world.nodes s) e (ap (λ (n : Node). is_origin n.role) here) (stands.roles.each s e below there);
       })
       (stands.facts ∙ sym (worked_shows d.world s))
-      (λ told. ap (λ (n : Node). n.role) here ∙ (stands.primaries told).each s)
-      (λ a is. subst (λ (n : Node). IsSameSite (IsTold y) n a.node) (sym here)
-      (let same = stands.doubts s a is in record { name = same.name; disks = same.disks; blocks = same.blocks; volumes = same.volumes; role = same.role }))
+      (λ a is. subst (λ (n : Node). IsSameSite n a.node) (sym here)
+      (let same = stands.doubts s a is in record { name = same.name; disks = same.disks; blocks = same.blocks; volumes = same.volumes }))

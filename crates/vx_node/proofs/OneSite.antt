@@ -6,20 +6,20 @@ use Rattle.std.proofs.lemmas.Bool.{cases_eq}
 use Rattle.std.proofs.lemmas.Option.{slice_get_within}
 use Rattle.vx_history.specs.Doubts.{After, Doubted}
 use Rattle.vx_history.specs.World.{Node, World}
-use Rattle.vx_model.specs.declared.site.Role.TheVariants.{Primary}
 use Rattle.vx_model.specs.declared.state.KeptLink.{KeptLink}
 use Rattle.vx_disk.specs.declared.shelf.Shelf.{Ghosts}
 use Rattle.vx_order.specs.declared.facts.SiteFacts.{SiteFacts}
 use Rattle.vx_diskset.specs.Asked.{FailsAs, FusedAs}
 use Rattle.vx_diskset.specs.DiskSets.{Later, RoseAt}
 use Rattle.vx_diskset.specs.Holds.{Beside, Kept, beside_of, doubt_of, row_links}
-use Rattle.vx_diskset.specs.Stands.{IsToldAt, StandsAt}
+use Rattle.vx_diskset.specs.Stands.{KeepsRole, RoleIs, StandsAt}
 use Rattle.vx_diskset.specs.declared.disk_set.DiskSet.{DiskSet}
+use Rattle.vx_diskset.specs.declared.disk_set.DiskSet.TheVariants.{Bare, Spoiled, Up, Receives, Down, Gone}
+use Rattle.vx_model.specs.declared.site.SiteState.TheVariants.{Up as IsUp}
 use Rattle.vx_events.specs.Effects.{ChangesNode}
 use Rattle.vx_events.specs.Facts.{values_from}
 use Rattle.vx_events.specs.LinkedFacts.{linked_fact, linked_facts}
 use Rattle.vx_events.specs.LinksFit.{LinksFit}
-use Rattle.vx_events.specs.Plain.{ArePrimaries}
 use Rattle.vx_events.proofs.Places.{some_same}
 use Rattle.vx_events.proofs.Values.{slice_get-values_from}
 use Rattle.vx_node.specs.Stands.{AreTold, RoseAll, faults_of}
@@ -64,8 +64,8 @@ module _ {R : Type 0} {g : Ghosts R} where
     pub stands : StandsAt (beside_of e s) (e.world.nodes s) after
     pub failing : FailsAs (e.world.nodes s) after
     pub fuse : FusedAs (e.world.nodes s) after
-    pub role : (told : Type 0) → ((a : After) → d.after s ≡ Some a → IsSameSite told (d.world.nodes s) a.node) → (told → IsToldAt after) → told → (d.world.nodes s).role ≡ Primary → (e.world.nodes s).role ≡ Primary
-    pub doubt : (told : Type 0) → ((a : After) → d.after s ≡ Some a → IsSameSite told (d.world.nodes s) a.node) → (a : After) → e.after s ≡ Some a → IsSameSite told (e.world.nodes s) a.node
+    pub role : RoleIs (e.world.nodes s) after
+    pub doubt : ((a : After) → d.after s ≡ Some a → IsSameSite (d.world.nodes s) a.node) → (a : After) → e.after s ≡ Some a → IsSameSite (e.world.nodes s) a.node
 
   -- a yard with another disk set of a site
   pub record Changed (old new : Yard R g) (s : ℕ) (before after : DiskSet R g) : Type 0 where
@@ -77,6 +77,19 @@ module _ {R : Type 0} {g : Ghosts R} where
   -- contents that are told now were told before
   pub told_by : (old new : Yard R g) (s : ℕ) (before after : DiskSet R g) → Changed old new s before after → IsTold new → IsTold old
   told_by old new s before after changed told = told_before old.disk_sets.items s before after changed.there changed.later (subst (λ es. AreTold es) changed.disk_sets told)
+
+  -- the group of a site behind a call that keeps what it is
+  pub role_kept : (d : Doubted) (y : Yard R g) (s : ℕ) (before after : DiskSet R g) → StandsFor d y → s < d.world.sites → slice_get y.disk_sets.items s ≡ Some before → KeepsRole before after → RoleIs (d.world.nodes s) after
+  role_kept d y s before after stands below there keeps = keeps.kept (d.world.nodes s) (stands.roles.each s before below there)
+
+  -- a site that is not up has no group
+  pub role_off : (beside : Beside) (n k : Node) (e : DiskSet R g) → StandsAt beside n e → (n.state ≡ IsUp → ⊥) → RoleIs k e
+  role_off beside n k (Bare rack) stands off = tt
+  role_off beside n k (Spoiled rack) stands off = tt
+  role_off beside n k (Up rvg) stands off = absurd (off stands.state)
+  role_off beside n k (Receives site) stands off = tt
+  role_off beside n k (Down rack) stands off = tt
+  role_off beside n k Gone stands off = tt
 
   -- what stands at a place, where one was changed
   pub at_set : (P : ℕ → DiskSet R g → Type 0) (es : List (DiskSet R g)) (s : ℕ) (after : DiskSet R g) → s < length es → P s after → (i : ℕ) (x : DiskSet R g) → slice_get (slice_set es s after) i ≡ Some x
@@ -108,7 +121,10 @@ module _ {R : Type 0} {g : Ghosts R} where
     facts = facts ∙ ap (λ (fs : List SiteFacts). slice_set fs s f) stands.facts ∙ ap (λ (x : SiteFacts). slice_set (linked_facts d.world) s x) fact ∙ sym (facts_set d e s comes.changes);
     disk_sets = subst (λ es. SitesAgree e es) (sym changed.disk_sets) (sites_set d e old.disk_sets.items s after stands.disk_sets below comes);
     links = comes.links;
-    primaries = λ told. primary told;
+    roles = record {
+      each = λ i x inside is. at_set (λ j y. RoleIs (e.world.nodes j) y) old.disk_sets.items s after within comes.role i x (here i x is)
+          (λ apart was. subst (λ (n : Node). RoleIs n x) (sym (comes.changes.nodes i apart)) (stands.roles.each i x (omega (arith, inside, comes.changes.sites)) was));
+    };
     doubts = λ i a is. doubted i a is;
     failing = λ i x inside is. at_set (λ j y. FailsAs (e.world.nodes j) y) old.disk_sets.items s after within comes.failing i x (here i x is)
         (λ apart was. subst (λ (n : Node). FailsAs n x) (sym (comes.changes.nodes i apart)) (stands.failing i x (omega (arith, inside, comes.changes.sites)) was));
@@ -124,30 +140,13 @@ module _ {R : Type 0} {g : Ghosts R} where
       here : (i : ℕ) (x : DiskSet R g) → slice_get new.disk_sets.items i ≡ Some x → slice_get (slice_set old.disk_sets.items s after) i ≡ Some x
       here i x is = sym (ap (λ es. slice_get es i) changed.disk_sets) ∙ is
 
-      before_told : IsTold new → IsTold old
-      before_told told = told_before old.disk_sets.items s before after changed.there changed.later (subst (λ es. AreTold es) changed.disk_sets told)
-
       -- what a site in doubt may be
-      later_told : (n k : Node) → IsSameSite (IsTold old) n k → IsSameSite (IsTold new) n k
-      later_told n k same = record { name = same.name; disks = same.disks; blocks = same.blocks; volumes = same.volumes; role = λ told. same.role (before_told told) }
-
-      doubted : (i : ℕ) (a : After) → e.after i ≡ Some a → IsSameSite (IsTold new) (e.world.nodes i) a.node
+      doubted : (i : ℕ) (a : After) → e.after i ≡ Some a → IsSameSite (e.world.nodes i) a.node
       doubted i a is = ⊎_elim
-          (λ (same : i ≡ s). subst (λ (k : ℕ). IsSameSite (IsTold new) (e.world.nodes k) a.node) (sym same)
-          (comes.doubt (IsTold new) (λ b there. later_told (d.world.nodes s) b.node (stands.doubts s b there)) a (ap (λ (k : ℕ). e.after k) (sym same) ∙ is)))
-          (λ apart. subst (λ (n : Node). IsSameSite (IsTold new) n a.node) (sym (comes.changes.nodes i apart))
-          (later_told (d.world.nodes i) a.node (stands.doubts i a (sym (comes.changes.after i apart) ∙ is))))
+          (λ (same : i ≡ s). subst (λ (k : ℕ). IsSameSite (e.world.nodes k) a.node) (sym same)
+          (comes.doubt (λ b there. stands.doubts s b there) a (ap (λ (k : ℕ). e.after k) (sym same) ∙ is)))
+          (λ apart. subst (λ (n : Node). IsSameSite n a.node) (sym (comes.changes.nodes i apart)) (stands.doubts i a (sym (comes.changes.after i apart) ∙ is)))
           (cases_eq i s)
-
-      primary : IsTold new → ArePrimaries e.world
-      primary told =
-          let were = stands.primaries (told_before old.disk_sets.items s before after changed.there changed.later (subst (λ es. AreTold es) changed.disk_sets told)) in
-          let mine = comes.role (IsTold new) (λ a is. later_told (d.world.nodes s) a.node (stands.doubts s a is))
-          (λ all. all.each s after (ap (λ es. slice_get es s) changed.disk_sets ∙ get-set_same old.disk_sets.items s after within)) told (were.each s) in
-          record {
-            each = λ i. ⊎_elim (λ (same : i ≡ s). ap (λ (k : ℕ). (e.world.nodes k).role) same ∙ mine)
-                (λ apart. ap (λ (n : Node). n.role) (comes.changes.nodes i apart) ∙ were.each i) (cases_eq i s);
-          }
 
   -- the same of a site of which the tests see nothing new
   pub stands_still : (d e : Doubted) (old new : Yard R g) (s : ℕ) (before after : DiskSet R g) → StandsFor d old → s < d.world.sites → Changed old new s before after → Comes d e s after

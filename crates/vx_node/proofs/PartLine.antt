@@ -14,7 +14,7 @@ use Rattle.vx_diskset.specs.Burning.{NoMore}
 use Rattle.vx_diskset.specs.DiskSets.{worked}
 use Rattle.vx_diskset.specs.Holds.{Beside, beside_of, row_links}
 use Rattle.vx_diskset.specs.Keeps.{CanKeep, KeptAt, done_by, restated}
-use Rattle.vx_diskset.specs.Stands.{StandsAt}
+use Rattle.vx_diskset.specs.Stands.{KeepsRole, StandsAt}
 use Rattle.vx_diskset.specs.declared.disk_set.DiskSet.{DiskSet}
 use Rattle.vx_events.specs.Effects.{EffectAt}
 use Rattle.vx_events.specs.LinkedFacts.{linked_facts}
@@ -59,10 +59,10 @@ module _ {R : Type 0} {g : Ghosts R} (note : (ℕ → Node) → ℕ → Node) (s
       subst (λ (y : State). KeptAt (beside_of d s) (worked (d.world.nodes s)) y before after result) is
       (call (beside_of d s) (worked (d.world.nodes s)) stood (subst (λ (y : State). CanKeep (beside_of d s) (worked (d.world.nodes s)) y) (sym is) h.can))
 
-  module _ (new : Yard R g) (after : DiskSet R g) (changed : Changed old new s before after) (x : State) (is : x ≡ st) where
+  module _ (new : Yard R g) (after : DiskSet R g) (changed : Changed old new s before after) (role : KeepsRole before after) (x : State) (is : x ≡ st) where
     pub part_done : Keeps after x (Ok tt) → Calls after (Ok tt) → new.facts.items ≡ linked_facts (behind d e).world → SameLoad old new → NextFor [] (noted_by note d) (noted_by note (behind d e)) old new
     part_done keeps calls facts load =
-        headed_done note s notes d e st h.row h.effect h.kept h.sure h.role h.fits h.opens h.writes h.fits_before old new before after stands below changed (kept after x (Ok tt) is keeps)
+        headed_done note s notes d e st h.row h.effect h.kept h.sure h.role h.fits h.opens h.writes h.fits_before old new before after stands below changed role (kept after x (Ok tt) is keeps)
         (calls (beside_of d s) (worked (d.world.nodes s)) stood) facts load
 
     pub part_refused : (why : No) (said : Said) (f f' : SiteFacts) → said ≡ Refused why → Keeps after x (Err why) → Calls after (Err why) → slice_get old.facts.items s ≡ Some f → f' ≡ noted_facts why f
@@ -70,6 +70,6 @@ module _ {R : Type 0} {g : Ghosts R} (note : (ℕ → Node) → ℕ → Node) (s
     part_refused why said f f' says keeps calls there shown facts lets = (
       why,
       says,
-      headed_refused note s notes d e st h.row h.effect h.kept h.sure h.role h.fits h.opens h.writes h.fits_before old new before after stands below changed why f f' (kept after x (Err why) is keeps)
+      headed_refused note s notes d e st h.row h.effect h.kept h.sure h.role h.fits h.opens h.writes h.fits_before old new before after stands below changed role why f f' (kept after x (Err why) is keeps)
           (calls (beside_of d s) (worked (d.world.nodes s)) stood) there shown facts lets,
     )

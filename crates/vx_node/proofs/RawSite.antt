@@ -29,7 +29,7 @@ use Rattle.vx_diskset.specs.Asked.{FailsAs, FusedAs, SameFailing}
 use Rattle.vx_diskset.specs.DiskSets.{MadeIs}
 use Rattle.vx_diskset.specs.Holds.{Beside, Kept, alone, beside_of, doubt_of, row_links}
 use Rattle.vx_diskset.specs.Layouts.{CanBeRaw}
-use Rattle.vx_diskset.specs.Stands.{StandsAlone, StandsAt}
+use Rattle.vx_diskset.specs.Stands.{RoleIs, StandsAlone, StandsAt}
 use Rattle.vx_diskset.specs.declared.disk_set.DiskSet.{DiskSet}
 use Rattle.vx_diskset.specs.declared.disk_set.DiskSet.TheVariants.{Bare, Spoiled, Up, Receives, Down, Gone}
 use Rattle.vx_effects.proofs.Fitting.{fit_happened}
@@ -44,6 +44,7 @@ use Rattle.vx_events.specs.LinkedFacts.{link_facts, linked_fact, links_by}
 use Rattle.vx_events.specs.LinksFit.{IsBlank, LinksFit}
 use Rattle.vx_events.specs.declared.said.Said.{Said}
 use Rattle.vx_events.specs.declared.said.Said.TheVariants.{Done}
+use Rattle.vx_diskset.proofs.Roles.{role_origin}
 use Rattle.vx_node.specs.Changes.{raw_facts}
 use Rattle.vx_node.specs.Replies.{reply_to}
 use Rattle.vx_node.specs.Standing.{Leads, LeadsIs, StandsFor}
@@ -57,7 +58,7 @@ use Rattle.vx_node.proofs.FailsStay.{fails_then}
 use Rattle.vx_node.proofs.FuseStays.{fused_none}
 use Rattle.vx_node.proofs.NamedSite.{SiteAt, fact_named, site_at}
 use Rattle.vx_node.proofs.NoteSite.{comes_same, one_left, only_left}
-use Rattle.vx_node.proofs.OneSite.{Changed, Comes, rose_at, stands_at, stands_still, told_by}
+use Rattle.vx_node.proofs.OneSite.{Changed, Comes, role_off, rose_at, stands_at, stands_still, told_by}
 use Rattle.vx_node.proofs.Carrying.{Feeds, SameLoad, carries_at, carries_same, feeds_none}
 use Rattle.vx_node.proofs.RawLine.{raw_fact_of}
 use Rattle.vx_node.proofs.Rows.{fact_from, fact_same}
@@ -187,8 +188,8 @@ module _ {R : Type 0} {g : Ghosts R} where
         stands = subst (λ (m : Node). StandsAt (beside_of e s) m after) here (subst (λ (b : Beside). StandsAt b (raw_set s n) after) (sym (raw_beside d s found.bare stands.links)) stands_now);
         failing = subst (λ (m : Node). FailsAs m after) here (fails_then n (raw_set s n) before after refl same (stands.failing s before found.seat.below changed.there));
         fuse = subst (λ (m : Node). FusedAs m after) here (fused_none (raw_set s n) after parts.2);
-        role = λ T was here_told told primary. ap (λ (m : Node). m.role) (sym here);
-        doubt = λ told was a is. absurd (never_some (sym (bare_sure d s found.bare stands.links) ∙ is));
+        role = subst (λ (m : Node). RoleIs m after) here (role_origin (raw_set s n) after refl);
+        doubt = λ was a is. absurd (never_some (sym (bare_sure d s found.bare stands.links) ∙ is));
       } in
       let k : ℕ = site_number d.world name in
       record {
@@ -229,7 +230,8 @@ module _ {R : Type 0} {g : Ghosts R} where
       stays : StandsAt (beside_of d s) n after → StandsFor d new
       stays here = stands_still d d old new s before after stands found.seat.below changed
           (comes_same d s after stands.links here (fails_then n n before after refl same (stands.failing s before found.seat.below changed.there))
-          (fused_none n after (bare_at (beside_of d s) n before stood found.bare).2)) refl (ap (λ fs. fs.items) facts)
+          (fused_none n after (bare_at (beside_of d s) n before stood found.bare).2)
+          (role_off (beside_of d s) n n after here (λ up. let e : IsBare ≡ IsUp = sym found.bare ∙ up in cc))) refl (ap (λ fs. fs.items) facts)
 
       by_stop : (stop : Stop) → MadeIs s n before after (Err stop) → LeadsIs d (Raw name) old new (reply_to stop)
       by_stop OutOfMemory here = record { stands = stays (here (beside_of d s)); carries = carries_same d old new load (told_by old new s before after changed); rose = rose_still old new s before after changed.there changed.later changed.disk_sets }

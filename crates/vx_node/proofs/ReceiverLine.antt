@@ -68,7 +68,7 @@ use Rattle.vx_model.specs.declared.state.KeptLink.{KeptLink}
 use Rattle.vx_history.specs.KeptLinks.{kept_links}
 use Rattle.vx_history.specs.Sends.{is_linked, packets_of}
 use Rattle.vx_events.proofs.Steps.{no_sites}
-use Rattle.vx_diskset.specs.Stands.{StandsAt}
+use Rattle.vx_diskset.specs.Stands.{KeepsRole, StandsAt}
 use Rattle.vx_diskset.specs.declared.disk_set.DiskSet.{DiskSet}
 use Rattle.vx_diskset.specs.declared.receivers.Reached.{Reached}
 use Rattle.vx_node.specs.Carries.{Carries}
@@ -83,7 +83,7 @@ use Rattle.vx_node.proofs.FailsStay.{fails_then}
 use Rattle.vx_node.proofs.FuseStays.{done_by, fused_on, left_passed}
 use Rattle.vx_node.proofs.Lists.{get-set_same, set_same}
 use Rattle.vx_node.proofs.NoteSite.{changes_one, comes_one, with_one}
-use Rattle.vx_node.proofs.OneSite.{Changed, stands_still, told_by}
+use Rattle.vx_node.proofs.OneSite.{Changed, role_kept, stands_still, told_by}
 use Rattle.vx_node.proofs.Rows.{fact_like, fact_same}
 
 -- ---- the world behind an apply
@@ -182,7 +182,7 @@ module _ {R : Type 0} {g : Ghosts R} where
     pub assemblies : new.assemblies.items ≡ old.assemblies.items
     pub feeders : new.feeders.items ≡ old.feeders.items
 
-  module _ (d : Doubted) (old new : Yard R g) (name : List ℕ) (count s : ℕ) (before after : DiskSet R g) (stands : StandsFor d old) (here : CanApplyAt d old name s) (changed : Changed old new s before after) (receives : is_origin (d.world.nodes s).role ≡ false) where
+  module _ (d : Doubted) (old new : Yard R g) (name : List ℕ) (count s : ℕ) (before after : DiskSet R g) (stands : StandsFor d old) (here : CanApplyAt d old name s) (changed : Changed old new s before after) (keeps : KeepsRole before after) (receives : is_origin (d.world.nodes s).role ≡ false) where
     abbrev n : Node
     n = d.world.nodes s
 
@@ -219,7 +219,7 @@ module _ {R : Type 0} {g : Ghosts R} where
               (comes_effect d e s (worked m) packets (d.world.gathering s) after eff (fit_worked h s (fit_happened d (ApplyAt s count number) false stands.links))
               (ap (λ (x : Node). x.name) same) (ap (λ (x : Node). x.disks) same) (ap (λ (x : Node). x.blocks) same) (ap (λ (x : Node). x.volumes) same) (ap (λ (x : Node). x.role) same) stood
               (fails_then n (worked m) before after (ap (λ (x : Node). x.failing) same) (calls_keep NoMore (DoneAt number) before after calls) (stands.failing s before here.seat.below changed.there))
-              (fuse (worked m) number (ap (λ (x : Node). burned x.fuse) same) calls))
+              (fuse (worked m) number (ap (λ (x : Node). burned x.fuse) same) calls) (role_kept d old s before after stands here.seat.below changed.there keeps))
               (fact_same (worked m) (e.world.nodes s) (d.world.links s) (e.world.links s) d.world.sites e.world.sites eff.is.node (λ j. eff.is.links j) eff.site.sites ∙ shown) facts;
           carries = λ carries. carries_sent s d e more old new eff.site eff.gathering (eff.sent ∙ sent)
               (subst (λ (x : Node). Feeds n x) (sym eff.is.node) (feeds_like n (worked m) (ap (λ (x : Node). x.state) same) (ap (λ (x : Node). x.role) same) (ap (λ (x : Node). x.fed_by) same)))
@@ -274,7 +274,7 @@ module _ {R : Type 0} {g : Ghosts R} where
               (comes_one d s (worked n) after refl stands.links (stands_worked (beside_of d s) n after is.2)
               (fails_then n (worked n) before after refl (calls_keep NoMore (Refused (Limit what most)) before after calls) (stands.failing s before here.seat.below changed.there))
               (fused_on (Burnt NoMore (Refused (Limit what most)) (size_in before)) n (worked n) (burned n.fuse) before after refl (λ x y burns left. left_passed n.fuse x.fuse y.fuse burns.fuse left) calls.told
-              (stands.fuses s before here.seat.below changed.there)))
+              (stands.fuses s before here.seat.below changed.there)) (role_kept d old s before after stands here.seat.below changed.there keeps))
               (fact_same (worked n) (e.world.nodes s) (d.world.links s) (d.world.links s) d.world.sites d.world.sites (at_place d.world.nodes s (worked n)) (λ j. refl) refl
               ∙ fact_like n (worked n) (d.world.links s) d.world.sites (fuse_fact n (burned n.fuse)) (λ j l. refl))
               (facts ∙ ap (λ (x : SiteFacts). slice_set old.facts.items s x) noted ∙ set_same old.facts.items s f at);
@@ -289,7 +289,7 @@ module _ {R : Type 0} {g : Ghosts R} where
     received_refused why said f f' says is calls at noted facts lets = subst (λ (r : Said). Leads d (Apply name count) r old new) (sym says) (by_why why is calls noted lets)
       where
         by_why : (why : No) → ReachedAt (beside_of d s) n count before after (Err why) → LeavesFuse NoMore (Refused why) before after → f' ≡ noted_facts why f → LetsGoBy why old new s → Leads d (Apply name count) (Refused why) old new
-        by_why (Device disk) is calls noted lets = apply_refused d old new name count s before after stands here changed (Device disk) (Refused (Device disk)) f f' refl is calls at noted facts lets
+        by_why (Device disk) is calls noted lets = apply_refused d old new name count s before after stands here changed keeps (Device disk) (Refused (Device disk)) f f' refl is calls at noted facts lets
         by_why (Limit what most) is calls noted lets = none_left what most f f' is calls at noted facts lets
-        by_why Off is calls noted lets = apply_refused d old new name count s before after stands here changed Off (Refused Off) f f' refl is calls at noted facts lets
+        by_why Off is calls noted lets = apply_refused d old new name count s before after stands here changed keeps Off (Refused Off) f f' refl is calls at noted facts lets
         by_why other is calls noted lets = absurd is

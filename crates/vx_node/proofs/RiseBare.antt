@@ -16,7 +16,7 @@ use Rattle.vx_courier.specs.UnderWay.{FlightStands}
 use Rattle.vx_diskset.specs.Asked.{SameFailing}
 use Rattle.vx_diskset.specs.DiskSets.{BareUp, BareUpIs, Later, RoseAt}
 use Rattle.vx_diskset.specs.Holds.{Beside, beside_of, row_links, state_with}
-use Rattle.vx_diskset.specs.Stands.{IsToldAt, StandsAt, faults_at}
+use Rattle.vx_diskset.specs.Stands.{IsToldAt, RoleIs, StandsAt, faults_at}
 use Rattle.vx_diskset.specs.declared.disk_set.DiskSet.{DiskSet}
 use Rattle.vx_diskset.proofs.KeepsFailing.{failing_same}
 use Rattle.vx_diskset.proofs.TakenBack.{any_links}
@@ -50,6 +50,7 @@ use Rattle.vx_order.specs.declared.facts.SiteFacts.{SiteFacts}
 use Rattle.vx_order.specs.declared.facts.VolumeFacts.{VolumeFacts}
 use Rattle.vx_report.specs.declared.view.SiteView.{SiteView}
 use Rattle.vx_script.specs.declared.line.ScriptLine.TheVariants.{Recover}
+use Rattle.vx_diskset.proofs.Roles.{role_like}
 use Rattle.vx_node.specs.Carries.{Carries}
 use Rattle.vx_node.specs.Changes.{raw_facts}
 use Rattle.vx_node.specs.Rises.{AreNeeds, IsRisen, RisesTo, can_rise, hello_by, is_none, is_quiet, risen_facts}
@@ -65,7 +66,7 @@ use Rattle.vx_node.proofs.FuseStays.{fused_none}
 use Rattle.vx_node.proofs.Lists.{get-set_same, set_same, set_twice}
 use Rattle.vx_node.proofs.NamedSite.{fact_of}
 use Rattle.vx_node.proofs.NoteSite.{comes_same, one_left}
-use Rattle.vx_node.proofs.OneSite.{Changed, Comes, beside_same, rose_at, stands_still, told_by}
+use Rattle.vx_node.proofs.OneSite.{Changed, Comes, beside_same, role_off, rose_at, stands_still, told_by}
 use Rattle.vx_node.proofs.RawSite.{bare_at, bare_sure}
 use Rattle.vx_node.proofs.RiseLeads.{Replaced, never_told, recover_done}
 use Rattle.vx_node.proofs.RiseLine.{effect_as, plain_of, quiet_is, row_starts, shape_at}
@@ -112,7 +113,9 @@ module _ {R : Type 0} {g : Ghosts R} where
       load = record { flight = replaced.flight; assemblies = ap (λ xs. xs.items) replaced.assemblies; feeders = ap (λ xs. xs.items) replaced.feeders }
 
       still : Comes d d s after
-      still = comes_same d s after stands.links at (fails_then n n before after refl same (stands.failing s before below there)) (fused_none n after unfused)
+      still =
+          comes_same d s after stands.links at (fails_then n n before after refl same (stands.failing s before below there)) (fused_none n after unfused)
+          (role_off (beside_of d s) n n after at (λ up. let e : IsBare ≡ IsUp = sym bare ∙ up in cc))
 
       facts_still : new.facts.items ≡ old.facts.items
       facts_still = ap (λ fs. fs.items) replaced.facts
@@ -169,7 +172,7 @@ module _ {R : Type 0} {g : Ghosts R} where
         (site_at : slice_get old.facts.items s ≡ Some site) (table : volumes ≡ map volume_fact (raw_volumes 1 (site.disks - 2) site.blocks)) (ring_is : ring ≡ ring_of site.blocks)
         (facts : y.facts.items ≡ slice_set old.facts.items s (raw_facts s volumes site)) (disk_sets : y.disk_sets.items ≡ slice_set old.disk_sets.items s after) (racks : y.racks ≡ old.racks)
         (flight : y.flight ≡ old.flight) (assemblies : y.assemblies ≡ old.assemblies) (feeders : y.feeders ≡ old.feeders)
-        (rises : RisesTo s ring state used said y new) (sites_is : sites ≡ d.world.sites) (found : BareUp n after) (risen : IsRisen s sites found.node state used) where
+        (rises : RisesTo s ring state used said y new) (sites_is : sites ≡ d.world.sites) (found : BareUp n after) (role : RoleIs found.node after) (risen : IsRisen s sites found.node state used) where
       abbrev k : Node
       k = record found.node { fed_by = found.node.other }
 
@@ -245,7 +248,7 @@ module _ {R : Type 0} {g : Ghosts R} where
         stands = stands_now;
         failing = fails_then n k before after found.same.failing same (stands.failing s before below there);
         fuse = fused_none k after (found.same.fuse ∙ unfused);
-        role = λ told. absurd (found.untold told);
+        role = role_like found.node k after refl role;
       }
 
       abbrev raw : SiteFacts

@@ -6,7 +6,7 @@ use Rattle.vx_model.specs.Sizes.{ring_of}
 use Rattle.vx_model.specs.declared.limits.TheConstants.{MOST_NUMBER}
 use Rattle.vx_model.specs.declared.no.No.{No}
 use Rattle.vx_model.specs.declared.no.No.TheVariants.{Device, Limit, NoConfig}
-use Rattle.vx_model.specs.declared.site.SiteState.TheVariants.{Down as IsDown}
+use Rattle.vx_model.specs.declared.site.SiteState.TheVariants.{Down as IsDown, Up as IsUp}
 use Rattle.vx_model.specs.declared.state.KeptLink.{KeptLink}
 use Rattle.vx_model.specs.declared.state.State.{State}
 use Rattle.vx_disk.specs.Shelf.{Lawful}
@@ -15,7 +15,7 @@ use Rattle.vx_courier.specs.UnderWay.{FlightStands}
 use Rattle.vx_diskset.specs.Asked.{FailsAs, FusedAs, SameFailing}
 use Rattle.vx_diskset.specs.DiskSets.{CameUp, CameUpIs, CrashedAt, Later, RoseAt, StillDown, no_number}
 use Rattle.vx_diskset.specs.Holds.{Beside, Kept, beside_of, doubt_of, itself, links_of, row_links, state_with, sure_of}
-use Rattle.vx_diskset.specs.Stands.{IsToldAt, StandsAt}
+use Rattle.vx_diskset.specs.Stands.{IsToldAt, RoleIs, StandsAt}
 use Rattle.vx_diskset.specs.declared.disk_set.DiskSet.{DiskSet}
 use Rattle.vx_diskset.specs.declared.disk_set.DiskSet.TheVariants.{Bare, Spoiled, Up, Receives, Down, Gone}
 use Rattle.vx_diskset.proofs.TakenBack.{any_down}
@@ -58,7 +58,7 @@ use Rattle.vx_node.proofs.FuseStays.{fused_none}
 use Rattle.vx_node.proofs.Lists.{get-set_same}
 use Rattle.vx_node.proofs.NamedSite.{fact_of}
 use Rattle.vx_node.proofs.NoteSite.{comes_same}
-use Rattle.vx_node.proofs.OneSite.{Changed, Comes, beside_same, rose_at, stands_still, told_by}
+use Rattle.vx_node.proofs.OneSite.{Changed, Comes, beside_same, role_off, rose_at, stands_still, told_by}
 use Rattle.vx_node.proofs.RecoverLine.{session_fact, told_or}
 use Rattle.vx_node.proofs.RiseEnds.{begun_ends, found_ends, none_ends, refused_ends, rose_ends, unread_ends}
 use Rattle.vx_node.proofs.RiseLine.{down_h, effect_as, fit_h, found_as, free_h, own_at, own_safe, sure, told_comes, told_kept, told_last, unfused_down, untold_comes, untold_kept}
@@ -108,7 +108,7 @@ module _ {R : Type 0} {g : Ghosts R} where
     -- ---- it stands up
 
     module _ (y new : Yard R g) (replaced : Replaced old y s after) (sites : ℕ) (state : State) (used : List ℕ) (said : Said) (rises : RisesTo s ring state used said y new)
-        (sites_is : sites ≡ mid.world.sites) (came : CameUp (beside_of mid s) m after) (risen : IsRisen s sites came.node state used)
+        (sites_is : sites ≡ mid.world.sites) (came : CameUp (beside_of mid s) m after) (role : RoleIs came.node after) (risen : IsRisen s sites came.node state used)
         (links : IsToldAt after → state.links ≡ (beside_of mid s).links) where
       abbrev f : SiteFacts
       f = linked_fact mid.world s
@@ -160,7 +160,7 @@ module _ {R : Type 0} {g : Ghosts R} where
         row = λ j. restarted_link (come_back (h.world.nodes s)) j (h.world.links s j)
 
         up : ComesUp mid next s ring came.node row after
-        up = told_comes lawful d h old s ring c taken from fit_d stands below down ring_is before after there same came told
+        up = told_comes lawful d h old s ring c taken from fit_d stands below down ring_is before after there same came told role
 
         kept : state.links ≡ row_links row mid.world.sites
         kept = links told ∙ sym (told_kept lawful d h old s ring c taken from fit_d stands below down ring_is before after there same came told)
@@ -214,7 +214,7 @@ module _ {R : Type 0} {g : Ghosts R} where
         found_next = own_disks taken s d.world found_last
 
         found_up : ComesUp mid found_next s ring found_node found_row after
-        found_up = untold_comes lawful d h old s ring c taken from fit_d stands below down ring_is before after there same came untold state may risen.kept
+        found_up = untold_comes lawful d h old s ring c taken from fit_d stands below down ring_is before after there same came untold state may risen.kept role
 
         found_is : state ≡ state_with found_node (row_links found_row mid.world.sites)
         found_is =
@@ -274,10 +274,14 @@ module _ {R : Type 0} {g : Ghosts R} where
       fuse_none : (n : Node) → n.fuse ≡ m.fuse → FusedAs n after
       fuse_none n fuse = fused_none n after (fuse ∙ unfused_down (beside_of mid s) m before stood_down down)
 
+      off : m.state ≡ IsUp → ⊥
+      off up = let e : IsDown ≡ IsUp = sym down ∙ up in cc
+
       stays : StandsAt (beside_of mid s) m after → StandsFor mid new
       stays at =
           stands_still mid mid old new s before after stands below_mid changed_down
-          (comes_same mid s after stands.links at (fails_then m m before after refl same (stands.failing s before below_mid there)) (fuse_none m refl)) refl facts_still
+          (comes_same mid s after stands.links at (fails_then m m before after refl same (stands.failing s before below_mid there)) (fuse_none m refl)
+          (role_off (beside_of mid s) m m after at off)) refl facts_still
 
       -- so the line ended, with no change or with failed calls alone
       down_leads : (fails : Fails) (said : Said) → Ends (IsTold new) d (Recover name) s fails said mid → StandsAt (beside_of mid s) m after → RoseAll fails (count_of old) (count_of new)
@@ -343,8 +347,8 @@ module _ {R : Type 0} {g : Ghosts R} where
               (subst (λ (b : Beside). StandsAt b begun after) (sym (beside_same mid begun_next s eff.site.sites links_same eff.is.headers (eff.is.after ∙ sym sure_h))) at);
           failing = subst (λ (n : Node). FailsAs n after) (sym eff.is.node) (fails_then m begun before after refl same (stands.failing s before below_mid there));
           fuse = subst (λ (n : Node). FusedAs n after) (sym eff.is.node) (fuse_none begun refl);
-          role = λ T was here_told told primary. ap (λ (n : Node). n.role) eff.is.node ∙ primary;
-          doubt = λ T was a is. absurd (never_some (sym eff.is.after ∙ is));
+          role = role_off (beside_of mid s) begun (begun_next.world.nodes s) after at off;
+          doubt = λ was a is. absurd (never_some (sym eff.is.after ∙ is));
         }
 
         begun_fact : linked_fact begun_next.world s ≡ linked_fact mid.world s

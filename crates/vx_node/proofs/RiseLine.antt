@@ -7,7 +7,6 @@ use Rattle.vx_model.specs.Sizes.{ring_of}
 use Rattle.vx_model.specs.declared.limits.TheConstants.{MOST_NUMBER}
 use Rattle.vx_model.specs.declared.no.No.{No}
 use Rattle.vx_model.specs.declared.no.No.TheVariants.{Device, Limit, NoConfig}
-use Rattle.vx_model.specs.declared.site.Role.TheVariants.{Primary}
 use Rattle.vx_model.specs.declared.site.SPhase.{SPhase}
 use Rattle.vx_model.specs.declared.site.SPhase.TheVariants.{Quiet, Regions, Log as LogPhase, ForkKept}
 use Rattle.vx_model.specs.declared.site.SiteState.TheVariants.{Bare as IsBare, Up as IsUp, Down as IsDown}
@@ -18,7 +17,7 @@ use Rattle.vx_disk.specs.declared.shelf.Shelf.{Ghosts}
 use Rattle.vx_diskset.specs.Asked.{FailsAs, FusedAs, SameFailing}
 use Rattle.vx_diskset.specs.DiskSets.{CameUp, CameUpIs, CrashedAt, Later, RoseAt, StillDown}
 use Rattle.vx_diskset.specs.Holds.{Beside, beside_of, doubt_of, links_of, row_links, state_with}
-use Rattle.vx_diskset.specs.Stands.{IsToldAt, StandsAt}
+use Rattle.vx_diskset.specs.Stands.{IsToldAt, RoleIs, StandsAt}
 use Rattle.vx_diskset.specs.declared.disk_set.DiskSet.{DiskSet}
 use Rattle.vx_diskset.specs.declared.disk_set.DiskSet.TheVariants.{Bare, Spoiled, Up, Receives, Down, Gone}
 use Rattle.vx_diskset.proofs.TakenBack.{any_down, any_links}
@@ -49,6 +48,7 @@ use Rattle.vx_events.specs.LinksFit.{LinksFit, is_plain_mode}
 use Rattle.vx_events.specs.declared.said.Said.{Said}
 use Rattle.vx_events.specs.declared.said.Said.TheVariants.{Recovered, Refused}
 use Rattle.vx_order.specs.declared.facts.SiteFacts.{SiteFacts}
+use Rattle.vx_diskset.proofs.Roles.{role_like}
 use Rattle.vx_node.specs.Rises.{AreNeeds, IsRisen, RisesFrom, RisesTo, WasDown, WasUp, can_rise, is_none, is_quiet, own_disks}
 use Rattle.vx_node.specs.Standing.{StandsFor}
 use Rattle.vx_node.specs.Yards.{IsTold}
@@ -278,8 +278,8 @@ module _ {R : Type 0} {g : Ghosts R} where
           ap (row_links row) (own_sites s d.world h taken) ∙ restarted_kept (come_back (h.world.nodes s)) s h.world.sites (h.world.links s) (fit_h.rows s)
           ∙ sym (row_links_same (h.world.links s) (mid.world.links s) (own_links s d.world h taken) mid.world.sites ∙ ap (row_links (h.world.links s)) (own_sites s d.world h taken))
 
-      pub told_comes : ComesUp mid (own_disks taken s d.world last) s ring k row after
-      told_comes = record {
+      pub told_comes : RoleIs k after → ComesUp mid (own_disks taken s d.world last) s ring k row after
+      told_comes role = record {
         effect = told_effect;
         fits = told_fits;
         plain = plain_of s (own_disks taken s d.world last) row told_fits told_effect.is.links;
@@ -289,7 +289,7 @@ module _ {R : Type 0} {g : Ghosts R} where
         stands = subst (λ (b : Beside). StandsAt b k after) (beside_is row told_kept) came.stands;
         failing = fails_of k came.same;
         fuse = fuse_of k came.same;
-        role = λ _ primary. ap (λ (n : Node). n.role) (came.is told) ∙ primary;
+        role = role;
       }
 
       -- so many writes came back
@@ -375,8 +375,8 @@ module _ {R : Type 0} {g : Ghosts R} where
       pub untold_kept : row_links row_found mid.world.sites ≡ state.links
       untold_kept = found_kept s mid.world.sites state.links fine
 
-      pub untold_comes : ComesUp mid (own_disks taken s d.world last_found) s ring k_found row_found after
-      untold_comes = record {
+      pub untold_comes : RoleIs came.node after → ComesUp mid (own_disks taken s d.world last_found) s ring k_found row_found after
+      untold_comes role = record {
         effect = untold_effect;
         fits = untold_fits;
         plain = plain_of s (own_disks taken s d.world last_found) row_found untold_fits untold_effect.is.links;
@@ -386,7 +386,7 @@ module _ {R : Type 0} {g : Ghosts R} where
         stands = stands_now;
         failing = fails_of k_found disks_same;
         fuse = fuse_of k_found disks_same;
-        role = λ told. absurd (untold told);
+        role = role_like came.node k_found after refl role;
       }
         where
           stands_now : StandsAt (beside_now row_found) k_found after

@@ -6,7 +6,6 @@ use Rattle.std.proofs.lemmas.Option.{slice_get_within}
 use Rattle.vx_model.specs.Sites.{is_origin}
 use Rattle.vx_model.specs.declared.link.Mode.{Mode}
 use Rattle.vx_model.specs.declared.link.Mode.TheVariants.{Log, Dcm, Replay, Fork, Stale}
-use Rattle.vx_model.specs.declared.site.Role.TheVariants.{Primary}
 use Rattle.vx_model.specs.declared.site.SiteState.{SiteState}
 use Rattle.vx_model.specs.declared.site.SiteState.TheVariants.{Bare, Up, Deported, Down}
 use Rattle.vx_model.specs.declared.state.KeptLink.{KeptLink}
@@ -17,7 +16,7 @@ use Rattle.vx_courier.specs.UnderWay.{FlightStands}
 use Rattle.vx_disk.specs.declared.shelf.Shelf.{Ghosts}
 use Rattle.vx_diskset.specs.Asked.{FailsAs, FusedAs}
 use Rattle.vx_diskset.specs.Holds.{Beside, beside_of, row_links, state_with}
-use Rattle.vx_diskset.specs.Stands.{IsToldAt, StandsAt}
+use Rattle.vx_diskset.specs.Stands.{RoleIs, StandsAt}
 use Rattle.vx_diskset.specs.declared.disk_set.DiskSet.{DiskSet}
 use Rattle.vx_history.specs.Doubts.{After, Doubted}
 use Rattle.vx_history.specs.Events.{linked_sites, log_blocks, recovery_greeting}
@@ -41,7 +40,7 @@ use Rattle.vx_packet.specs.Assemblies.{Assembled}
 use Rattle.vx_node.specs.Carries.{Carries}
 use Rattle.vx_node.specs.Changes.{up_facts, up_group}
 use Rattle.vx_node.specs.Rises.{AreNeeds, RisesTo, hello_by, need_of, risen_facts}
-use Rattle.vx_node.specs.Standing.{IsSameSite, StandsFor}
+use Rattle.vx_node.specs.Standing.{StandsFor}
 use Rattle.vx_node.specs.Yards.{IsTold}
 use Rattle.vx_node.specs.declared.yard.Yard.{Yard}
 use Rattle.vx_node.proofs.Carrying.{feeds_same}
@@ -161,7 +160,7 @@ module _ {R : Type 0} {g : Ghosts R} where
     pub stands : StandsAt (record { links = row_links row mid.world.sites; headers = mid.world.headers s; doubt = None }) k after
     pub failing : FailsAs k after
     pub fuse : FusedAs k after
-    pub role : IsToldAt after → (mid.world.nodes s).role ≡ Primary → k.role ≡ Primary
+    pub role : RoleIs k after
 
   module _ (mid e : Doubted) (old new : Yard R g) (s ring : ℕ) (k : Node) (row : ℕ → Link) (f : SiteFacts) (state : State) (used : List ℕ) (before after : DiskSet R g)
       (stands : StandsFor mid old) (below : s < mid.world.sites) (changed : Changed old new s before after) (up : ComesUp mid e s ring k row after) (sees : SeesDisks k f)
@@ -179,8 +178,8 @@ module _ {R : Type 0} {g : Ghosts R} where
               up.stands);
           failing = subst (λ (n : Node). FailsAs n after) (sym up.effect.is.node) up.failing;
           fuse = subst (λ (n : Node). FusedAs n after) (sym up.effect.is.node) up.fuse;
-          role = λ T was here_told told primary. ap (λ (n : Node). n.role) up.effect.is.node ∙ up.role (here_told told) primary;
-          doubt = λ T was a there. absurd (never_some (sym up.effect.is.after ∙ there));
+          role = subst (λ (n : Node). RoleIs n after) (sym up.effect.is.node) up.role;
+          doubt = λ was a there. absurd (never_some (sym up.effect.is.after ∙ there));
         }
 
     pub up_stands : new.facts.items ≡ slice_set old.facts.items s (risen_facts state k.safe ring used f) → StandsFor e new

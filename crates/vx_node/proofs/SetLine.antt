@@ -33,7 +33,7 @@ use Rattle.vx_diskset.specs.DiskSets.{worked}
 use Rattle.vx_diskset.proofs.Worked.{stands_worked}
 use Rattle.vx_diskset.specs.Holds.{Beside, beside_of, links_of, row_links, state_with}
 use Rattle.vx_diskset.specs.Keeps.{CanKeep, KeptAt}
-use Rattle.vx_diskset.specs.Stands.{StandsAt}
+use Rattle.vx_diskset.specs.Stands.{KeepsRole, StandsAt}
 use Rattle.vx_diskset.specs.declared.disk_set.DiskSet.{DiskSet}
 use Rattle.vx_effects.proofs.Fitting.{fit_happened}
 use Rattle.vx_effects.proofs.Rises.{set_effect}
@@ -153,7 +153,7 @@ module _ {R : Type 0} {g : Ghosts R} (d : Doubted) (old : Yard R g) (first secon
 
   -- ---- the yard behind it
 
-  module _ (new : Yard R g) (after : DiskSet R g) (changed : Changed old new s before after) (prot : Prot) where
+  module _ (new : Yard R g) (after : DiskSet R g) (changed : Changed old new s before after) (keeps : KeepsRole before after) (prot : Prot) where
     abbrev line : ScriptLine
     line = Set first second sync prot
 
@@ -178,14 +178,14 @@ module _ {R : Type 0} {g : Ghosts R} (d : Doubted) (old : Yard R g) (first secon
         (subst (λ (es : List Event). LinkReplies line d (behind d event) es Done) (sym (numbers prot)) (subst (λ (o : EventSaid). Repeats (step w event).world 0 o Done) (sym set_said) refl))
         (record { world = sym (notes (behind d event).world); after = λ i. refl }))
         (headed_done (note_one s) s (notes_one s) d event state row effect kept (sure_open d s stands.links set_opens) refl (fit_happened d event false stands.links) set_opens refl stands.links old new before after noted
-        here.below changed is calls facts load)
+        here.below changed keeps is calls facts load)
 
     -- it was refused
     pub set_refused : (why : No) (said : Said) (x x' : SiteFacts) → said ≡ Refused why → KeptAt (beside_of d s) (worked n) state before after (Err why) → LeavesFuse NoMore (Refused why) before after → slice_get old.facts.items s ≡ Some x
         → x' ≡ noted_facts why x → new.facts.items ≡ slice_set old.facts.items s x' → LetsGoBy why old new s → Leads d line said old new
     set_refused why said x x' says is calls at shown facts lets =
         let h = headed_refused (note_one s) s (notes_one s) d event state row effect kept (sure_open d s stands.links set_opens) refl (fit_happened d event false stands.links) set_opens refl stands.links old new before after noted
-        here.below changed why x x' is calls at shown facts lets in
+        here.below changed keeps why x x' is calls at shown facts lets in
         let b : IsBehind d line (note_one s) event s d = record {
           before = [];
           rest = [];

@@ -1,8 +1,9 @@
 -- What a line leaves that shows blocks of a site that receives.
-use Rattle.std.proofs.Common.{◌≡◌, ◌∙◌, ◌*◌, ◌<◌, inr, ℕ, Bool, true, false, List, [], ◌∷◌, length, ap, sym, subst, refl}
+use Rattle.std.proofs.Common.{◌≡◌, ◌∙◌, ◌*◌, ◌<◌, ◌≤◌, inl, inr, ℕ, Bool, true, false, List, [], ◌∷◌, length, ap, arith, sym, subst, refl}
 use Rattle.std.specs.Prelude.{Result, Ok, Err, slice_get, Some}
+use Rattle.std.proofs.lemmas.List.{drop_all}
 use Rattle.std.proofs.lemmas.Option.{slice_get_within}
-use Rattle.vx_model.specs.Content.{Content}
+use Rattle.vx_model.specs.Content.{Content, Write, fold_writes}
 use Rattle.vx_model.specs.Sites.{is_origin}
 use Rattle.vx_model.specs.declared.no.No.{No}
 use Rattle.vx_model.specs.declared.no.No.TheVariants.{Device}
@@ -15,32 +16,50 @@ use Rattle.vx_history.specs.declared.event.Said.TheVariants.{Got as HasGot}
 use Rattle.vx_disk.specs.declared.shelf.Shelf.{Ghosts}
 use Rattle.vx_rvg.specs.Contents.{Shows}
 use Rattle.vx_events.proofs.Blocks.{shown_are}
-use Rattle.vx_events.specs.Ends.{Ends, ShowsReceived}
-use Rattle.vx_events.specs.Facts.{site_number, volume_number}
+use Rattle.vx_events.specs.Ends.{ShowsReceived}
+use Rattle.vx_events.proofs.Testing.{read_role}
+use Rattle.vx_events.proofs.RefusedCalls.{read_may}
+use Rattle.vx_events.specs.Facts.{seat_of, site_number, volume_number}
 use Rattle.vx_events.specs.Sayings.{received_content}
 use Rattle.vx_events.specs.declared.said.Said.TheVariants.{Got, Refused}
-use Rattle.vx_script.specs.declared.line.ScriptLine.TheVariants.{Show}
+use Rattle.vx_script.specs.declared.line.ScriptLine.{ScriptLine}
+use Rattle.vx_script.specs.declared.line.ScriptLine.TheVariants.{Read, Show}
 use Rattle.vx_diskset.specs.Asked.{LeavesAlone}
 use Rattle.vx_diskset.specs.DiskSets.{CanRead, RoseAt, ReadAt}
+use Rattle.vx_diskset.specs.Fetching.{GaveAt}
 use Rattle.vx_diskset.specs.Holds.{Beside, beside_of}
 use Rattle.vx_diskset.specs.Received.{ShowedAt}
-use Rattle.vx_diskset.specs.Stands.{IsToldAt, StandsAt}
+use Rattle.vx_diskset.specs.Stands.{IsToldAt, KeepsRole, StandsAt}
 use Rattle.vx_diskset.specs.declared.disk_set.DiskSet.{DiskSet}
+use Rattle.vx_node.specs.Fetching.{IsReadLine}
 use Rattle.vx_node.specs.Shown.{GaveShown, GaveShownAt}
 use Rattle.vx_node.specs.Standing.{Leads, StandsFor}
-use Rattle.vx_node.specs.Yards.{IsTold}
+use Rattle.vx_node.specs.Working.{IsFree}
+use Rattle.vx_node.specs.Yards.{in_files}
 use Rattle.vx_node.specs.declared.yard.Yard.{Yard}
 use Rattle.vx_node.proofs.Carrying.{SameLoad, carries_same}
 use Rattle.vx_node.proofs.CrashLine.{rose_still}
-use Rattle.vx_node.proofs.FetchLine.{Fetching, fetch_stops, stays_for}
+use Rattle.vx_node.proofs.FetchLine.{Fetching, fetch_leads, fetch_stops, stays_for}
 use Rattle.vx_node.proofs.Lists.{get-set_same}
+use Rattle.vx_node.proofs.NamedSite.{fact_named}
 use Rattle.vx_node.proofs.OneSite.{Changed, told_by}
+use Rattle.vx_node.proofs.WriteCalls.{whole_log}
 
-not_primary : (r : Role) → is_origin r ≡ false → is_primary r ≡ false
+pub not_primary : (r : Role) → is_origin r ≡ false → is_primary r ≡ false
 not_primary Primary is = absurd (let e : true ≡ false = is in cc)
 not_primary Secondary is = refl
 not_primary (Handing to) is = refl
 not_primary Bunker is = refl
+
+primary_of : (r : Role) → is_primary r ≡ true → r ≡ Primary
+primary_of Primary is = refl
+primary_of Secondary is = absurd (let e : false ≡ true = is in cc)
+primary_of (Handing to) is = absurd (let e : false ≡ true = is in cc)
+primary_of Bunker is = absurd (let e : false ≡ true = is in cc)
+
+-- where all writes are durable it shows the content
+all_shown : (n : Node) → length n.log ≡ n.safe → received_content n ≡ n.base
+all_shown n durable = ap (λ (ws : List Write). fold_writes n.base ws) (drop_all n.safe n.log (omega (arith, durable)))
 
 module _ {R : Type 0} {g : Ghosts R} where
   -- ---- the call
@@ -66,12 +85,12 @@ module _ {R : Type 0} {g : Ghosts R} where
   -- ---- the line
 
   module _ (d : Doubted) (old new : Yard R g) (name volume : List ℕ) (start count s place : ℕ) (before after : DiskSet R g) (stands : StandsFor d old) (read : Fetching d old name volume start count s place) (changed : Changed old new s before after)
-      (alone : LeavesAlone before after) (facts : new.facts ≡ old.facts) (load : SameLoad old new) where
-    pub shown_leads : (bytes : List ℕ) → is_origin (d.world.nodes s).role ≡ false → GaveShown (beside_of d s) (d.world.nodes s) place start count bytes after → Leads d (Show name volume start count) (Got bytes) old new
-    shown_leads bytes receives gave =
+      (alone : LeavesAlone before after) (keeps : KeepsRole before after) (facts : new.facts ≡ old.facts) (load : SameLoad old new) where
+    pub shown_leads : (bytes : List ℕ) → is_primary (d.world.nodes s).role ≡ false → GaveShown (beside_of d s) (d.world.nodes s) place start count bytes after → Leads d (Show name volume start count) (Got bytes) old new
+    shown_leads bytes other gave =
         let k : ℕ = site_number d.world name in
         let v : ℕ = volume_number (d.world.nodes k) volume in
-        let role : is_primary (d.world.nodes k).role ≡ false = subst (λ (i : ℕ). is_primary (d.world.nodes i).role ≡ false) (sym read.seat.number) (not_primary (d.world.nodes s).role receives) in
+        let role : is_primary (d.world.nodes k).role ≡ false = subst (λ (i : ℕ). is_primary (d.world.nodes i).role ≡ false) (sym read.seat.number) other in
         let shows : IsToldAt after → Shows (received_content (d.world.nodes k)) v start count bytes =
         λ told. subst (λ (i : ℕ). Shows (received_content (d.world.nodes i)) (volume_number (d.world.nodes i) volume) start count bytes) (sym read.seat.number)
         (subst (λ (p : ℕ). Shows (received_content (d.world.nodes s)) p start count bytes) (sym read.volume_is) (gave.shows told)) in
@@ -93,11 +112,37 @@ module _ {R : Type 0} {g : Ghosts R} where
             works = tt;
             calls = tt;
           };
-          stands = stays_for d old new s before after stands read.seat.below changed alone gave.stands facts;
+          stands = stays_for d old new s before after stands read.seat.below changed alone keeps gave.stands facts;
           carries = carries_same d old new load (told_by old new s before after changed);
           rose = rose_still old new s before after changed.there changed.later changed.disk_sets;
         }
 
     pub shown_stops : (no : No) → GaveShownAt (beside_of d s) (d.world.nodes s) place start count before after (Err no) → Leads d (Show name volume start count) (Refused no) old new
-    shown_stops (Device disk) gave = fetch_stops d (Show name volume start count) old new name volume start count s place (Device disk) before after (inr refl) stands read changed alone gave facts load
+    shown_stops (Device disk) gave = fetch_stops d (Show name volume start count) old new name volume start count s place (Device disk) before after (inr refl) stands read changed alone keeps gave facts load
     shown_stops other gave = absurd gave
+
+    -- blocks of a site that has all its writes, whichever line reads them
+    pub fetched_leads : (line : ScriptLine) (bytes : List ℕ) → IsReadLine line name volume start count → IsFree old line → seat_of old.facts.items name ≡ Some s → is_origin (d.world.nodes s).role ≡ true
+        → GaveAt (beside_of d s) (d.world.nodes s) place start count before after (Ok bytes) → Leads d line (Got bytes) old new
+    fetched_leads line bytes (inl is) free seat origin gave =
+        let free_read : IsFree old (Read name volume start count) = subst (λ (l : ScriptLine). IsFree old l) is free in
+        let may = read_may old.facts.items (in_files old) name volume start count free_read in
+        fetch_leads d line old new name volume start count s place bytes before after (inl is) stands read
+        (read_role d.world s old.facts.items (in_files old) name volume start count may.site (fact_named d old name s read.seat seat may.site) read.can.up free_read) changed alone keeps gave facts load
+    fetched_leads line bytes (inr is) free seat origin gave = by (is_primary n.role) refl
+      where
+        n : Node
+        n = d.world.nodes s
+
+        durable : length n.log ≡ n.safe
+        durable = whole_log (beside_of d s) n before (stands.disk_sets.sites s before read.seat.below changed.there) read.can.up read.can.running origin
+
+        by : (b : Bool) → is_primary n.role ≡ b → Leads d line (Got bytes) old new
+        by true primary = fetch_leads d line old new name volume start count s place bytes before after (inr is) stands read (primary_of n.role primary) changed alone keeps gave facts load
+        by false other =
+            subst (λ (l : ScriptLine). Leads d l (Got bytes) old new) (sym is)
+            (shown_leads bytes other (record {
+              size = gave.size;
+              shows = λ told. subst (λ (c : Content). Shows c place start count bytes) (sym (all_shown n durable)) (gave.shows told);
+              stands = gave.stands;
+            }))

@@ -30,7 +30,7 @@ use Rattle.vx_script.specs.declared.line.ScriptLine.TheVariants.{Site}
 use Rattle.vx_diskset.specs.Asked.{FailsAs, FusedAs}
 use Rattle.vx_diskset.specs.DiskSets.{FitIs}
 use Rattle.vx_diskset.specs.Holds.{Beside, Kept, beside_of, doubt_of, row_links}
-use Rattle.vx_diskset.specs.Stands.{IsUnused, StandsAt}
+use Rattle.vx_diskset.specs.Stands.{IsUnused, RoleIs, StandsAt}
 use Rattle.vx_diskset.specs.declared.disk_set.DiskSet.{DiskSet}
 use Rattle.vx_effects.proofs.Fitting.{fit_happened}
 use Rattle.vx_events.proofs.Refused.{SiteMay, passes, site_may, when_none}
@@ -39,22 +39,20 @@ use Rattle.vx_events.proofs.Testing.{absent, none_under}
 use Rattle.vx_events.proofs.Values.{length-values_from, values_from-push}
 use Rattle.vx_events.specs.Effects.{AddsSite}
 use Rattle.vx_events.specs.Facts.{site_fact, values_from}
-use Rattle.vx_model.specs.declared.site.Role.TheVariants.{Primary}
 use Rattle.vx_events.specs.LinkedFacts.{link_facts, linked_fact, linked_facts, links_by}
 use Rattle.vx_events.specs.LinksFit.{LinksFit}
-use Rattle.vx_events.specs.Plain.{ArePrimaries}
 use Rattle.vx_events.specs.declared.said.Said.{Said}
 use Rattle.vx_events.specs.declared.said.Said.TheVariants.{Done}
+use Rattle.vx_diskset.proofs.Roles.{role_origin}
+use Rattle.vx_model.specs.Sites.{is_origin}
 use Rattle.vx_node.specs.Changes.{bare_facts}
 use Rattle.vx_node.specs.Replies.{reply_to}
 use Rattle.vx_model.specs.declared.site.SiteState.TheVariants.{Bare as IsBare, Up as IsUp}
 use Rattle.vx_node.specs.Standing.{IsSameSite, Leads, LeadsIs, SitesAgree, StandsFor}
-use Rattle.vx_node.specs.Stands.{AreTold}
 use Rattle.vx_node.specs.Working.{IsFree}
 use Rattle.vx_node.specs.Yards.{IsTold, in_files}
 use Rattle.vx_node.specs.declared.yard.Yard.{Yard}
 use Rattle.vx_node.proofs.Alike.{apart_place}
-use Rattle.vx_node.proofs.ChangeSite.{told_before}
 use Rattle.vx_node.proofs.CrashLine.{rose_still}
 use Rattle.vx_node.proofs.FuseStays.{fused_none}
 use Rattle.vx_node.proofs.Lists.{get-set_other, length-set}
@@ -212,7 +210,7 @@ module _ {R : Type 0} {g : Ghosts R} where
 
   -- the yard with another disk set of a number that no site had
   stands_more : (d e : Doubted) (old new : Yard R g) (n : Node) (f : SiteFacts) (before after : DiskSet R g) → StandsFor d old → d.world.sites < 8 → AddsSite d e n → LinksFit e → Changed old new d.world.sites before after
-      → StandsAt (beside_of e d.world.sites) n after → FailsAs n after → FusedAs n after → n.role ≡ Primary → f ≡ linked_fact e.world d.world.sites → new.facts.items ≡ old.facts.items ++ f ∷ [] → StandsFor e new
+      → StandsAt (beside_of e d.world.sites) n after → FailsAs n after → FusedAs n after → is_origin n.role ≡ true → f ≡ linked_fact e.world d.world.sites → new.facts.items ≡ old.facts.items ++ f ∷ [] → StandsFor e new
   stands_more d e old new n f before after stands few adds links changed here failing fuse role fact facts = record {
     facts = facts ∙ ap (λ (fs : List SiteFacts). fs ++ f ∷ []) stands.facts ∙ ap (λ (x : SiteFacts). linked_facts d.world ++ x ∷ []) fact ∙ sym (facts_more d e n adds stands.links);
     disk_sets = subst (λ es. SitesAgree e es) (sym changed.disk_sets) (record {
@@ -226,7 +224,10 @@ module _ {R : Type 0} {g : Ghosts R} where
       others = λ i x past is. stands.disk_sets.others i x (omega (arith, past, adds.sites)) (sym (get-set_other old.disk_sets.items s i after (λ same. omega (arith, past, same, adds.sites))) ∙ is);
     });
     links = links;
-    primaries = λ told. primary told;
+    roles = record {
+      each = λ i x inside is. at_set (λ j y. RoleIs (e.world.nodes j) y) old.disk_sets.items s after within (subst (λ (m : Node). RoleIs m after) (sym adds.node) (role_origin n after role)) i x (there i x is)
+          (λ apart was. subst (λ (m : Node). RoleIs m x) (sym (adds.nodes i apart)) (stands.roles.each i x (less i apart inside) was));
+    };
     doubts = λ i a is. doubted i a is;
     failing = λ i x inside is. at_set (λ j y. FailsAs (e.world.nodes j) y) old.disk_sets.items s after within (subst (λ (m : Node). FailsAs m after) (sym adds.node) failing) i x (there i x is)
         (λ apart was. subst (λ (m : Node). FailsAs m x) (sym (adds.nodes i apart)) (stands.failing i x (less i apart inside) was));
@@ -248,28 +249,15 @@ module _ {R : Type 0} {g : Ghosts R} where
       there : (i : ℕ) (x : DiskSet R g) → slice_get new.disk_sets.items i ≡ Some x → slice_get (slice_set old.disk_sets.items s after) i ≡ Some x
       there i x is = sym (ap (λ es. slice_get es i) changed.disk_sets) ∙ is
 
-      before_told : IsTold new → IsTold old
-      before_told told = told_before old.disk_sets.items s before after changed.there changed.later (subst (λ es. AreTold es) changed.disk_sets told)
-
-      doubted : (i : ℕ) (a : After) → e.after i ≡ Some a → IsSameSite (IsTold new) (e.world.nodes i) a.node
+      doubted : (i : ℕ) (a : After) → e.after i ≡ Some a → IsSameSite (e.world.nodes i) a.node
       doubted i a is =
           let was = stands.doubts i a (sym (adds.after i) ∙ is) in
-          let same : IsSameSite (IsTold new) (d.world.nodes i) a.node =
-          record { name = was.name; disks = was.disks; blocks = was.blocks; volumes = was.volumes; role = λ told. was.role (before_told told) } in
           ⊎_elim
           (λ (last : i ≡ s). absurd (in_doubt (sym (stands.links.later i (omega (arith, last))) ∙ (stands.links.doubts i a (sym (adds.after i) ∙ is)).up)))
-          (λ apart. subst (λ (m : Node). IsSameSite (IsTold new) m a.node) (sym (adds.nodes i apart)) same) (cases_eq i s)
+          (λ apart. subst (λ (m : Node). IsSameSite m a.node) (sym (adds.nodes i apart)) was) (cases_eq i s)
         where
           in_doubt : IsBare ≡ IsUp → ⊥
           in_doubt e = cc
-
-      primary : IsTold new → ArePrimaries e.world
-      primary told =
-          let were = stands.primaries (told_before old.disk_sets.items s before after changed.there changed.later (subst (λ es. AreTold es) changed.disk_sets told)) in
-          record {
-            each = λ i. ⊎_elim (λ (same : i ≡ s). ap (λ (k : ℕ). (e.world.nodes k).role) same ∙ ap (λ (m : Node). m.role) adds.node ∙ role)
-                (λ apart. ap (λ (m : Node). m.role) (adds.nodes i apart) ∙ were.each i) (cases_eq i s);
-          }
 
   pub site_leads : (d : Doubted) (old new : Yard R g) (name : List ℕ) (disks blocks : ℕ) (before after : DiskSet R g) → StandsFor d old → IsFree old (Site name disks blocks)
       → Changed old new (length old.facts.items) before after → ((beside : Beside) (name : List ℕ) → StandsAt beside (bare_site name disks blocks) after)
@@ -329,17 +317,14 @@ module _ {R : Type 0} {g : Ghosts R} where
           others = λ i x past at. at_set (λ j y. IsUnused y) old.disk_sets.items s after within unused i x at (λ apart was. stands.disk_sets.others i x past was);
         });
         links = stands.links;
-        primaries = λ told. stands.primaries (before_told told);
-        doubts = λ i a is. let w = stands.doubts i a is in record { name = w.name; disks = w.disks; blocks = w.blocks; volumes = w.volumes; role = λ told. w.role (before_told told) };
+        roles = record { each = λ i x below at. stands.roles.each i x below (was i x below at) };
+        doubts = λ i a is. stands.doubts i a is;
         failing = λ i x below at. stands.failing i x below (was i x below at);
         fuses = λ i x below at. stands.fuses i x below (was i x below at);
         none = ap (λ r. r.items) here.racks ∙ stands.none;
         room = omega (arith, stands.room, ap (λ r. vec_capacity r) here.racks);
       }
         where
-          before_told : IsTold new → IsTold old
-          before_told told = told_before old.disk_sets.items s before after here.there here.later (subst (λ es. AreTold es) here.disk_sets told)
-
           was : (i : ℕ) (x : DiskSet R g) → i < s → slice_get new.disk_sets.items i ≡ Some x → slice_get old.disk_sets.items i ≡ Some x
           was i x below at = sym (get-set_other old.disk_sets.items s i after (λ same. omega (arith, below, same))) ∙ sym (ap (λ es. slice_get es i) here.disk_sets) ∙ at
 

@@ -6,20 +6,16 @@ use Rattle.std.proofs.lemmas.Bool.{cases_eq}
 use Rattle.std.proofs.lemmas.Option.{slice_get_within}
 use Rattle.vx_history.specs.Doubts.{After, Doubted}
 use Rattle.vx_history.specs.World.{Node}
-use Rattle.vx_model.specs.declared.site.Role.TheVariants.{Primary}
 use Rattle.vx_disk.specs.declared.shelf.Shelf.{Ghosts}
 use Rattle.vx_diskset.specs.Asked.{FailsAs, FusedAs}
 use Rattle.vx_diskset.specs.Holds.{Beside, beside_of}
-use Rattle.vx_diskset.specs.Stands.{StandsAt}
+use Rattle.vx_diskset.specs.Stands.{RoleIs, StandsAt}
 use Rattle.vx_diskset.specs.declared.disk_set.DiskSet.{DiskSet}
 use Rattle.vx_events.specs.Effects.{ChangesNode}
 use Rattle.vx_events.specs.LinkedFacts.{linked_facts}
 use Rattle.vx_events.specs.LinksFit.{LinksFit}
 use Rattle.vx_node.specs.Standing.{IsSameSite, SitesAgree, StandsFor}
-use Rattle.vx_node.specs.Stands.{AreTold}
-use Rattle.vx_node.specs.Yards.{IsTold}
 use Rattle.vx_node.specs.declared.yard.Yard.{Yard}
-use Rattle.vx_node.proofs.ChangeSite.{told_before}
 use Rattle.vx_node.proofs.Lists.{get-set_other, length-set}
 use Rattle.vx_node.proofs.OneSite.{Changed, at_set, beside_same}
 
@@ -31,11 +27,12 @@ module _ {R : Type 0} {g : Ghosts R} where
     pub stands : StandsAt (beside_of e s) (e.world.nodes s) after
     pub failing : FailsAs (e.world.nodes s) after
     pub fuse : FusedAs (e.world.nodes s) after
+    pub role : RoleIs (e.world.nodes s) after
 
   -- the yard stands for the world that this one comes to
   pub stands_turned : (d e : Doubted) (old new : Yard R g) (s : ℕ) (before after : DiskSet R g) → StandsFor d old → s < d.world.sites → Changed old new s before after → Turned d e s after
-      → new.facts.items ≡ linked_facts e.world → (IsTold new → (e.world.nodes s).role ≡ Primary) → ((a : After) → e.after s ≡ Some a → IsSameSite (IsTold new) (e.world.nodes s) a.node) → StandsFor e new
-  stands_turned d e old new s before after stands below changed turned facts role doubt = record {
+      → new.facts.items ≡ linked_facts e.world → ((a : After) → e.after s ≡ Some a → IsSameSite (e.world.nodes s) a.node) → StandsFor e new
+  stands_turned d e old new s before after stands below changed turned facts doubt = record {
     facts = facts;
     disk_sets = subst (λ es. SitesAgree e es) (sym changed.disk_sets) (record {
       eight = length-set old.disk_sets.items s after ∙ stands.disk_sets.eight;
@@ -50,14 +47,13 @@ module _ {R : Type 0} {g : Ghosts R} where
           (sym (get-set_other old.disk_sets.items s i after (λ same. omega (arith, past, below, same, turned.changes.sites))) ∙ is);
     });
     links = turned.links;
-    primaries = λ told. record {
-      each = λ i. ⊎_elim (λ (same : i ≡ s). ap (λ (k : ℕ). (e.world.nodes k).role) same ∙ role told)
-          (λ apart. ap (λ (n : Node). n.role) (turned.changes.nodes i apart) ∙ (stands.primaries (before_told told)).each i) (cases_eq i s);
+    roles = record {
+      each = λ i x inside is. at_set (λ j y. RoleIs (e.world.nodes j) y) old.disk_sets.items s after within turned.role i x (here i x is)
+          (λ apart was. subst (λ (n : Node). RoleIs n x) (sym (turned.changes.nodes i apart)) (stands.roles.each i x (omega (arith, inside, turned.changes.sites)) was));
     };
     doubts = λ i a is. ⊎_elim
-        (λ (same : i ≡ s). subst (λ (k : ℕ). IsSameSite (IsTold new) (e.world.nodes k) a.node) (sym same) (doubt a (ap (λ (k : ℕ). e.after k) (sym same) ∙ is)))
-        (λ apart. subst (λ (n : Node). IsSameSite (IsTold new) n a.node) (sym (turned.changes.nodes i apart))
-        (later_told (d.world.nodes i) a.node (stands.doubts i a (sym (turned.changes.after i apart) ∙ is))))
+        (λ (same : i ≡ s). subst (λ (k : ℕ). IsSameSite (e.world.nodes k) a.node) (sym same) (doubt a (ap (λ (k : ℕ). e.after k) (sym same) ∙ is)))
+        (λ apart. subst (λ (n : Node). IsSameSite n a.node) (sym (turned.changes.nodes i apart)) (stands.doubts i a (sym (turned.changes.after i apart) ∙ is)))
         (cases_eq i s);
     failing = λ i x inside is. at_set (λ j y. FailsAs (e.world.nodes j) y) old.disk_sets.items s after within turned.failing i x (here i x is)
         (λ apart was. subst (λ (n : Node). FailsAs n x) (sym (turned.changes.nodes i apart)) (stands.failing i x (omega (arith, inside, turned.changes.sites)) was));
@@ -72,9 +68,3 @@ module _ {R : Type 0} {g : Ghosts R} where
 
       here : (i : ℕ) (x : DiskSet R g) → slice_get new.disk_sets.items i ≡ Some x → slice_get (slice_set old.disk_sets.items s after) i ≡ Some x
       here i x is = sym (ap (λ es. slice_get es i) changed.disk_sets) ∙ is
-
-      before_told : IsTold new → IsTold old
-      before_told told = told_before old.disk_sets.items s before after changed.there changed.later (subst (λ es. AreTold es) changed.disk_sets told)
-
-      later_told : (n k : Node) → IsSameSite (IsTold old) n k → IsSameSite (IsTold new) n k
-      later_told n k same = record { name = same.name; disks = same.disks; blocks = same.blocks; volumes = same.volumes; role = λ told. same.role (before_told told) }

@@ -55,7 +55,7 @@ use Rattle.vx_diskset.specs.Asked.{FailsAs, FusedAs, LeavesAlone}
 use Rattle.vx_diskset.specs.DiskSets.{worked}
 use Rattle.vx_diskset.specs.Fuses.{HasLeft, LeftAs}
 use Rattle.vx_diskset.specs.Holds.{beside_of}
-use Rattle.vx_diskset.specs.Stands.{StandsAt}
+use Rattle.vx_diskset.specs.Stands.{RoleIs, StandsAt}
 use Rattle.vx_diskset.specs.declared.disk_set.DiskSet.{DiskSet}
 use Rattle.vx_joins.proofs.TakesUpdate.{node_behind}
 use Rattle.vx_node.specs.Carries.{Carries}
@@ -235,7 +235,8 @@ module _ {R : Type 0} {g : Ghosts R} where
 
   -- ---- the yard
 
-  module _ (d : Doubted) (number : ℕ) (p : Packet) (old new : Yard R g) (before after : DiskSet R g) (stands : StandsFor d old) (below : p.target < d.world.sites) (changed : Changed old new p.target before after) (alone : LeavesAlone before after) where
+  module _ (d : Doubted) (number : ℕ) (p : Packet) (old new : Yard R g) (before after : DiskSet R g) (stands : StandsFor d old) (below : p.target < d.world.sites) (changed : Changed old new p.target before after) (alone : LeavesAlone before after)
+      (role : RoleIs (d.world.nodes p.target) after) where
     abbrev s : ℕ
     s = p.target
 
@@ -249,7 +250,7 @@ module _ {R : Type 0} {g : Ghosts R} where
         (stands_worked (beside_of d s) m after here)
         (fails_then n (worked m) before after same.failing (alone_keeps before after alone) (stands.failing s before below changed.there))
         (fused_on Untouched n (worked m) (burned n.fuse) before after (ap (λ (f : Fuse). burned f) same.fuse) (λ a b still left. left_burned n.fuse b.fuse (subst (λ (z : Option (ℕ × ℕ)). LeftAs n.fuse z) (sym still.fuse) left)) alone.told
-        (stands.fuses s before below changed.there))
+        (stands.fuses s before below changed.there)) role
 
     -- the facts of the target behind it
     shown : (h : Doubted) (m : Node) (packets : List Packet) (gathered : Option Gathering) → EffectAt s d h m (d.world.links s) (d.world.headers s) (d.after s) packets gathered → linked_fact (worked_for h s).world s ≡ fact_of m (d.world.links s) d.world.sites

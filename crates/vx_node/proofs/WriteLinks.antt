@@ -30,7 +30,7 @@ use Rattle.vx_diskset.specs.Burning.{Burnt, IsLogged}
 use Rattle.vx_diskset.specs.DiskSets.{WroteAt, halted_with, worked}
 use Rattle.vx_diskset.specs.Holds.{Kept, beside_of, itself, sure_of}
 use Rattle.vx_diskset.specs.Needs.{HasRoom}
-use Rattle.vx_diskset.specs.Stands.{IsToldAt, StandsAt}
+use Rattle.vx_diskset.specs.Stands.{IsToldAt, KeepsRole, RoleIs, StandsAt}
 use Rattle.vx_diskset.specs.declared.disk_set.DiskSet.{DiskSet}
 use Rattle.vx_events.specs.Ends.{Ends, noted}
 use Rattle.vx_events.specs.Facts.{site_number, volume_number}
@@ -67,7 +67,7 @@ use Rattle.vx_node.proofs.HoldsRoom.{room_beside}
 use Rattle.vx_node.proofs.LinkLines.{listed}
 use Rattle.vx_node.proofs.Lists.{get-set_same}
 use Rattle.vx_node.proofs.NoteSite.{changes_one, comes_one, with_one}
-use Rattle.vx_node.proofs.OneSite.{Changed, rose_at, stands_at, told_by}
+use Rattle.vx_node.proofs.OneSite.{Changed, role_kept, rose_at, stands_at, told_by}
 use Rattle.vx_node.proofs.Rows.{fact_like, fact_same}
 use Rattle.vx_node.proofs.SiteEvents.{first_choice, keeps_k}
 use Rattle.vx_node.proofs.WriteCalls.{calls_pass, fails_behind, fuse_burned, fuse_spent, links_count, log_works, small_ring, whole_log}
@@ -182,7 +182,8 @@ module _ {R : Type 0} {g : Ghosts R} where
       (room_beside d.world s (stands.links.rows s) to.can.up (the_write v start bytes) to.changes to.goes to.can.origin whole to.can.fits)
 
   module _ (racks : (r : R) → IsRack (g.meaning r)) (d : Doubted) (old new : Yard R g) (line : ScriptLine) (name volume : List ℕ) (start : ℕ) (bytes : List ℕ) (s v : ℕ) (before after : DiskSet R g) (stands : StandsFor d old)
-      (is : IsWriteLine line name volume start bytes) (to : Writing d old name volume start bytes s v) (changed : Changed old new s before after) where
+      (is : IsWriteLine line name volume start bytes) (to : Writing d old name volume start bytes s v) (changed : Changed old new s before after)
+      (keeps : KeepsRole before after) where
     abbrev n : Node
     n = d.world.nodes s
 
@@ -209,6 +210,9 @@ module _ {R : Type 0} {g : Ghosts R} where
 
     lit : FusedAs n before
     lit = stands.fuses s before to.seat.below changed.there
+
+    kind : RoleIs n after
+    kind = role_kept d old s before after stands to.seat.below changed.there keeps
 
     leads_by : (fails : Fails) (said : Said) (next : Doubted) → WriteEnding (IsTold new) d s v start bytes fails said next → StandsFor next new → (Carries d old → Carries next new) → RoseAll fails (count_of old) (count_of new)
         → Leads d line said old new
@@ -248,7 +252,7 @@ module _ {R : Type 0} {g : Ghosts R} where
         })
         (stands_at d e old new s f' before after stands to.seat.below changed
         (written_comes d s x after stands.links can wrote.2 (fails_behind (beside_of d s) n before after stood (answer_by waited number) burns n refl fits)
-        (fuse_spent (beside_of d s) n before after stood (answer_by waited number) burns x written lit)) shown facts)
+        (fuse_spent (beside_of d s) n before after stood (answer_by waited number) burns x written lit) kind) shown facts)
         (carries_node s d e (logged n x) old new load eff.site eff.sent eff.gathering eff.is.node refl refl refl (told_by old new s before after changed))
         (rose_still old new s before after changed.there changed.later changed.disk_sets))
 
@@ -274,7 +278,7 @@ module _ {R : Type 0} {g : Ghosts R} where
         })
         (stands_at d e old new s f' before after stands to.seat.below changed
         (half_comes d s x disk after stands.links can wrote.0 (fails_behind (beside_of d s) n before after stood (Refused (Device disk)) under.burns n refl fits)
-        (fuse_burned (beside_of d s) n before after stood (Refused (Device disk)) under.burns (halted_with n x disk) refl (λ a b burnt. device_passes IsLogged (size_in before) disk a b burnt) lit)) shown facts)
+        (fuse_burned (beside_of d s) n before after stood (Refused (Device disk)) under.burns (halted_with n x disk) refl (λ a b burnt. device_passes IsLogged (size_in before) disk a b burnt) lit) kind) shown facts)
         (carries_node s d e (halted_with n x disk) old new load eff.site eff.sent eff.gathering eff.is.node refl refl refl (told_by old new s before after changed))
         (rose_at old new s disk before after changed wrote.1)
 
@@ -299,7 +303,7 @@ module _ {R : Type 0} {g : Ghosts R} where
         (stands_at d e old new s f' before after stands to.seat.below changed
         (comes_one d s (worked n) after refl stands.links wrote.2
         (fails_behind (beside_of d s) n before after stood (Refused (Limit Number MOST_NUMBER)) burns (worked n) refl fits)
-        (fuse_burned (beside_of d s) n before after stood (Refused (Limit Number MOST_NUMBER)) burns (worked n) refl (λ a b burnt. limit_passes IsLogged (size_in before) a b burnt) lit)) shown facts)
+        (fuse_burned (beside_of d s) n before after stood (Refused (Limit Number MOST_NUMBER)) burns (worked n) refl (λ a b burnt. limit_passes IsLogged (size_in before) a b burnt) lit) kind) shown facts)
         (carries_node s d e (worked n) old new load (changes_one d s (worked n)) refl refl (at_place d.world.nodes s (worked n)) refl refl refl (told_by old new s before after changed))
         (rose_still old new s before after changed.there changed.later changed.disk_sets))
 

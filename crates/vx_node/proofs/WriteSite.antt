@@ -12,7 +12,7 @@ use Rattle.vx_disk.specs.declared.shelf.Shelf.{Ghosts}
 use Rattle.vx_diskset.specs.Asked.{FailsAs, FusedAs}
 use Rattle.vx_diskset.specs.DiskSets.{halted_with}
 use Rattle.vx_diskset.specs.Holds.{Beside, beside_of, row_links}
-use Rattle.vx_diskset.specs.Stands.{StandsAt}
+use Rattle.vx_diskset.specs.Stands.{RoleIs, StandsAt}
 use Rattle.vx_diskset.specs.declared.disk_set.DiskSet.{DiskSet}
 use Rattle.vx_events.specs.Doubts.{run_as}
 use Rattle.vx_events.specs.Effects.{EffectAt}
@@ -27,9 +27,9 @@ use Rattle.vx_effects.proofs.Rows.{touch_kept}
 use Rattle.vx_effects.proofs.WriteLines.{line_cut, line_halted, line_written, worked_effect}
 use Rattle.vx_events.proofs.Places.{never_some}
 use Rattle.vx_node.proofs.ApplySite.{comes_effect}
-use Rattle.vx_node.proofs.CrashSite.{beside_sure}
+use Rattle.vx_node.proofs.CrashSite.{beside_sure, down_up}
 use Rattle.vx_node.proofs.FuseStays.{fused_none}
-use Rattle.vx_node.proofs.OneSite.{Comes}
+use Rattle.vx_node.proofs.OneSite.{Comes, role_off}
 use Rattle.vx_node.proofs.Rows.{row_links_same}
 
 -- the world behind a write that is done, and behind one that met a failing disk, with what the line notes
@@ -74,17 +74,17 @@ module _ (d : Doubted) (s : ℕ) (x : Write) (fits : LinksFit d) (can : IsLetIn 
 module _ {R : Type 0} {g : Ghosts R} where
   -- the write is done
   pub written_comes : (d : Doubted) (s : ℕ) (x : Write) (after : DiskSet R g) → LinksFit d → IsLetIn d.world s x → StandsAt (beside_of d s) (logged (d.world.nodes s) x) after
-      → FailsAs (d.world.nodes s) after → FusedAs (logged (d.world.nodes s) x) after → Comes d (written_for d s x None) s after
-  written_comes d s x after fits can stands failing fuse =
+      → FailsAs (d.world.nodes s) after → FusedAs (logged (d.world.nodes s) x) after → RoleIs (d.world.nodes s) after → Comes d (written_for d s x None) s after
+  written_comes d s x after fits can stands failing fuse role =
       comes_effect d (written_for d s x None) s (logged (d.world.nodes s) x) d.world.packets (d.world.gathering s) after (line_written d s x (fits.rows s) can) (written_fits d s x None fits)
-      refl refl refl refl refl stands (record { told = failing.told }) fuse
+      refl refl refl refl refl stands (record { told = failing.told }) fuse role
 
   -- a disk failed in it
   pub half_comes : (d : Doubted) (s : ℕ) (x : Write) (disk : ℕ) (after : DiskSet R g) → LinksFit d → IsLetIn d.world s x → StandsAt (beside_of d s) (halted_with (d.world.nodes s) x disk) after
-      → FailsAs (d.world.nodes s) after → FusedAs (halted_with (d.world.nodes s) x disk) after → Comes d (written_for d s x (Some disk)) s after
-  half_comes d s x disk after fits can stands failing fuse =
+      → FailsAs (d.world.nodes s) after → FusedAs (halted_with (d.world.nodes s) x disk) after → RoleIs (d.world.nodes s) after → Comes d (written_for d s x (Some disk)) s after
+  half_comes d s x disk after fits can stands failing fuse role =
       comes_effect d (written_for d s x (Some disk)) s (halted_with (d.world.nodes s) x disk) d.world.packets (d.world.gathering s) after (line_halted d s x (fits.rows s) can disk)
-      (written_fits d s x (Some disk) fits) refl refl refl refl refl stands (record { told = failing.told }) fuse
+      (written_fits d s x (Some disk) fits) refl refl refl refl refl stands (record { told = failing.told }) fuse role
 
   -- the fuse of its site ran out in it
   pub cut_comes : (d : Doubted) (s : ℕ) (x : Write) (count : ℕ) (after : DiskSet R g) → LinksFit d → IsLetIn d.world s x → (d.world.nodes s).safe ≤ count
@@ -107,6 +107,6 @@ module _ {R : Type 0} {g : Ghosts R} where
         stands = subst (λ (m : Node). StandsAt (beside_of e s) m after) here (subst (λ (b : Beside). StandsAt b n after) (sym there) stands);
         failing = subst (λ (m : Node). FailsAs m after) here (record { told = failing.told });
         fuse = subst (λ (m : Node). FusedAs m after) here (fused_none n after refl);
-        role = λ T was to told primary. ap (λ (m : Node). m.role) (sym here) ∙ primary;
-        doubt = λ T was a is. absurd (never_some (sym eff.is.after ∙ is));
+        role = role_off (record (beside_of d s) { doubt = None }) n (e.world.nodes s) after stands (λ up. down_up up);
+        doubt = λ was a is. absurd (never_some (sym eff.is.after ∙ is));
       }

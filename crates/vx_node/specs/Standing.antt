@@ -10,16 +10,14 @@ use Rattle.vx_history.specs.Step.{step}
 use Rattle.vx_history.specs.World.{Node}
 use Rattle.vx_history.specs.declared.event.Event.TheVariants.{Crash as CrashAt}
 use Rattle.vx_history.specs.declared.event.Said.TheVariants.{Done as IsDone}
-use Rattle.vx_model.specs.declared.site.Role.TheVariants.{Primary}
 use Rattle.vx_model.specs.declared.site.SiteState.TheVariants.{Down as IsDown}
 use Rattle.vx_events.specs.Doubts.{chosen, with_disks}
 use Rattle.vx_disk.specs.declared.shelf.Shelf.{Ghosts}
 use Rattle.std.specs.Io.KnownBytes.{Appends}
-use Rattle.vx_order.specs.Order.{refusal_of}
 use Rattle.vx_script.specs.declared.line.ScriptLine.{ScriptLine}
 use Rattle.vx_diskset.specs.Asked.{FailsAs, FusedAs}
 use Rattle.vx_diskset.specs.Holds.{beside_of}
-use Rattle.vx_diskset.specs.Stands.{IsUnused, StandsAt}
+use Rattle.vx_diskset.specs.Stands.{IsUnused, RoleIs, StandsAt}
 use Rattle.vx_diskset.specs.declared.disk_set.DiskSet.{DiskSet}
 use Rattle.vx_events.specs.Fails.{Fails}
 use Rattle.vx_events.specs.LinkedFacts.{linked_facts}
@@ -29,22 +27,21 @@ use Rattle.vx_world.specs.Lines.{GoodDoubted}
 use Rattle.vx_node.specs.Carries.{Carries}
 use Rattle.vx_node.specs.OfSites.{HasCalled}
 use Rattle.vx_node.specs.Steps.{Prints}
+use Rattle.vx_node.specs.Working.{IsFree}
 use Rattle.vx_node.specs.declared.errors.LineStop.{LineStop}
 use Rattle.vx_node.specs.declared.errors.LineStop.TheVariants.{WriteFault, OutOfMemory as NoMemory}
 use Rattle.vx_events.specs.LinksFit.{LinksFit}
-use Rattle.vx_events.specs.Plain.{ArePrimaries}
 use Rattle.vx_events.specs.declared.said.Said.{Said}
 use Rattle.vx_node.specs.Stands.{RoseAll}
 use Rattle.vx_node.specs.Yards.{IsTold, count_of, in_files}
 use Rattle.vx_node.specs.declared.yard.Yard.{Yard}
 
--- a site that may be another: it has the same name, disks and volumes, and is a primary where contents are told
-pub record IsSameSite (told : Type 0) (n k : Node) : Type 0 where
+-- a site that may be another: it has the same name, disks and volumes
+pub record IsSameSite (n k : Node) : Type 0 where
   pub name : k.name ≡ n.name
   pub disks : k.disks ≡ n.disks
   pub blocks : k.blocks ≡ n.blocks
   pub volumes : k.volumes ≡ n.volumes
-  pub role : told → k.role ≡ Primary
 
 -- what a crash of a site leaves, which keeps so many writes of what it is or of what it may be, with the disks that are made to fail
 abbrev pub crash_of : Doubted → (s count : ℕ) → (taken : Bool) → Doubted
@@ -58,15 +55,19 @@ module _ {R : Type 0} {g : Ghosts R} where
     pub sites : (s : ℕ) (e : DiskSet R g) → s < d.world.sites → slice_get disk_sets s ≡ Some e → StandsAt (beside_of d s) (d.world.nodes s) e
     pub others : (s : ℕ) (e : DiskSet R g) → d.world.sites ≤ s → slice_get disk_sets s ≡ Some e → IsUnused e
 
+  -- the group of each site has the room in which updates wait, or not, as the role of the site has it
+  pub record RolesAre (d : Doubted) (y : Yard R g) : Type 0 where
+    pub each : (s : ℕ) (e : DiskSet R g) → s < d.world.sites → slice_get y.disk_sets.items s ≡ Some e → RoleIs (d.world.nodes s) e
+
   -- The yard stands for this world, in which sites may be in doubt: it has what the tests of a line see of it, and disk sets that agree with it.
-  -- Each site is a primary, where contents are told, and one in doubt is the same site either way. The disks that the world makes fail are made
+  -- Each site has the group that its role asks for, and one in doubt is the same site either way. The disks that the world makes fail are made
   -- to fail, and a fuse that it knows of has no more calls left than it knows.
   pub record StandsFor (d : Doubted) (y : Yard R g) : Type 0 where
     pub facts : y.facts.items ≡ linked_facts d.world
     pub disk_sets : SitesAgree d y.disk_sets.items
     pub links : LinksFit d
-    pub primaries : IsTold y → ArePrimaries d.world
-    pub doubts : (s : ℕ) (a : After) → d.after s ≡ Some a → IsSameSite (IsTold y) (d.world.nodes s) a.node
+    pub roles : RolesAre d y
+    pub doubts : (s : ℕ) (a : After) → d.after s ≡ Some a → IsSameSite (d.world.nodes s) a.node
     pub failing : (s : ℕ) (e : DiskSet R g) → s < d.world.sites → slice_get y.disk_sets.items s ≡ Some e → FailsAs (d.world.nodes s) e
     pub fuses : (s : ℕ) (e : DiskSet R g) → s < d.world.sites → slice_get y.disk_sets.items s ≡ Some e → FusedAs (d.world.nodes s) e
     -- room for the racks as they come back
@@ -137,7 +138,7 @@ module _ {R : Type 0} {g : Ghosts R} where
     pub carries : Carries d old → Carries next new
     pub rose : RoseAll fails (count_of old) (count_of new)
     -- where no test refuses the line, the fuse of its site is as its calls leave it
-    pub called : refusal_of old.facts.items (in_files old) line ≡ None → HasCalled d.world line prints.said old new
+    pub called : IsFree old line → HasCalled d.world line prints.said old new
 
   -- Memory ran out within the line: a first part of its events was done, and no call failed.
   pub record StopsFor (d : Doubted) (line : ScriptLine) (old new : Yard R g) : Type 0 where

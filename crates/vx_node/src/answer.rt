@@ -1,19 +1,20 @@
 // What a line is answered.
 ghost use Rattle.std.specs.Prelude.{◌≡◌, ◌*◌, IfOk, IsSome, min, replicate, true};
 ghost use Rattle.vx_history.specs.Doubts.{Doubted};
-ghost use Rattle.vx_order.specs.Order.{refusal_of};
 ghost use Rattle.vx_node.specs.Carries.{Carries};
 ghost use Rattle.vx_node.specs.OfSites.{AsAsked, HasCalled};
 ghost use Rattle.vx_node.specs.Lines.{is_built};
 ghost use Rattle.vx_node.specs.Standing.{AnswersIs, GoodFor, LeadsIs, StandsFor};
-ghost use Rattle.vx_node.specs.Working.{IsFree};
+ghost use Rattle.vx_node.specs.Working.{IsFree, refused_in};
 ghost use Rattle.vx_node.specs.Yards.{IsKept, IsTold, in_files};
 
 use crate::{Said, Yard};
 use std::alloc::Global;
 use vx_disk::Rack;
-use vx_model::OutOfMemory;
 use vx_model::limits::{BLOCK, MOST_CALL_BLOCKS};
+use vx_model::{No, OutOfMemory};
+use vx_net::Net;
+use vx_order::{refuse, refuse_packet};
 use vx_script::ScriptLine;
 
 // So many blocks, each byte of which is `fill`, and no more than a line may ask.
@@ -81,10 +82,29 @@ impl<R: Rack> Yard<R> {
                 let room = filled(alloc, *count, 0)?;
                 Ok(self.show_line(site, volume, *block, *count, room))
             }
-            ScriptLine::Apply { site, count } => Ok(self.apply_line(alloc, site, *count)),
+            ScriptLine::Apply { site, count } => self.apply_line(alloc, site, *count),
             ScriptLine::Status { site } => self.status_line(alloc, site),
+            ScriptLine::Set { .. }
+            | ScriptLine::Connect { .. }
+            | ScriptLine::Cut { .. }
+            | ScriptLine::Pause { .. }
+            | ScriptLine::Resume { .. }
+            | ScriptLine::Pump { .. }
+            | ScriptLine::Tick { .. }
+            | ScriptLine::Wait { .. } => self.work_link(alloc, words),
             // A line that is not built.
             _ => unreachable!(),
+        }
+    }
+
+    // The first refusal of a line in the one order, if there is one.
+    fn refusal(&self, words: &ScriptLine) -> Option<No>
+        ensures { result ≡ refused_in self.now words.now }
+    {
+        let files = self.dir.is_some();
+        match words {
+            ScriptLine::Deliver { packet } => refuse_packet(self.flight.count(), *packet),
+            _ => refuse(&self.facts, files, words),
         }
     }
 
@@ -96,12 +116,11 @@ impl<R: Rack> Yard<R> {
         ensures asked { (d : Doubted) → StandsFor d self.old → IsFree self.old words.now → AsAsked d.world words.now self.old self.new }
         ensures called { (d : Doubted) → StandsFor d self.old → IsFree self.old words.now → IfOk result (λ said. HasCalled d.world words.now said self.old self.new) }
         // A line that is refused leaves all disks as they are.
-        ensures still { IsSome (refusal_of self.old.facts.items (in_files self.old) words.now) → self.new.disk_sets ≡ self.old.disk_sets }
+        ensures still { IsSome (refused_in self.old words.now) → self.new.disk_sets ≡ self.old.disk_sets }
         ensures told { IsTold self.new → IsTold self.old }
         ensures files { in_files self.new ≡ in_files self.old }
     {
-        let files = self.dir.is_some();
-        match vx_order::refuse(&self.facts, files, words) {
+        match self.refusal(words) {
             Some(no) => Ok(Said::Refused(no)),
             None => self.work(alloc, words),
         }

@@ -7,7 +7,7 @@ ghost use Rattle.vx_history.specs.Events.{packet_at};
 ghost use Rattle.vx_history.specs.World.{Packet, Update};
 ghost use Rattle.vx_script.specs.declared.line.ScriptLine.TheVariants.{Deliver};
 ghost use Rattle.vx_node.specs.Carries.{Carries};
-ghost use Rattle.vx_node.specs.Deliveries.{RolesAre, Receives};
+ghost use Rattle.vx_node.specs.Deliveries.{Receives};
 ghost use Rattle.vx_node.specs.Standing.{GoodFor, LeadsIs, StandsFor};
 ghost use Rattle.vx_node.specs.Yards.{IsTold, in_files};
 
@@ -19,7 +19,7 @@ use vx_joins::deliver_update;
 use vx_model::OutOfMemory;
 
 // Whether the group of a site receives, with room for the updates that wait.
-fn receives<R: Rack>(disk_set: &DiskSet<R>) -> bool
+pub(crate) fn receives<R: Rack>(disk_set: &DiskSet<R>) -> bool
     ensures { Receives disk_set.now result }
 {
     match disk_set {
@@ -37,7 +37,7 @@ impl<R: Rack> Yard<R> {
         requires place { target < length self.old.assemblies.items }
         requires feeder { target < length self.old.feeders.items }
         requires few { target < MOST_SITES }
-        ensures leads { (d : Doubted) (p : Packet) (k : ℕ) (x : LogWrite) → StandsFor d self.old → RolesAre d self.old → Carries d self.old → GoodFor d self.old → packet_at d.world.packets number ≡ Some p → p.target ≡ target
+        ensures leads { (d : Doubted) (p : Packet) (k : ℕ) (x : LogWrite) → StandsFor d self.old → Carries d self.old → GoodFor d self.old → packet_at d.world.packets number ≡ Some p → p.target ≡ target
             → target < d.world.sites → p.message ≡ Update k x → LeadsIs d (Deliver number) self.old self.new result }
         ensures told { IsTold self.new → IsTold self.old }
         ensures files { in_files self.new ≡ in_files self.old }

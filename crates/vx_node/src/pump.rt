@@ -3,6 +3,7 @@ ghost use Rattle.std.specs.Prelude.{◌≡◌};
 ghost use Rattle.vx_history.specs.Doubts.{Doubted};
 ghost use Rattle.vx_script.specs.declared.line.ScriptLine.TheVariants.{Pump};
 ghost use Rattle.vx_node.specs.Carries.{Carries};
+ghost use Rattle.vx_node.specs.OfSites.{AsAsked};
 ghost use Rattle.vx_node.specs.Standing.{LeadsIs, StandsFor};
 ghost use Rattle.vx_node.specs.Working.{IsFree};
 ghost use Rattle.vx_node.specs.Yards.{IsKept, IsTold, in_files};
@@ -16,7 +17,7 @@ use vx_model::{Name, OutOfMemory};
 
 impl<R: Rack> Yard<R> {
     /// Sends on the link of a site to another what its receiver may lack. Where a write cannot be read nothing is sent, and nothing changes.
-    pub fn pump_line(
+    pub(crate) fn pump_line(
         &mut self,
         alloc: Global,
         first: &Name,
@@ -24,8 +25,8 @@ impl<R: Rack> Yard<R> {
     ) -> Result<Said, OutOfMemory>
         requires kept { IsKept self.old }
         requires free { IsFree self.old (Pump first.now second.now) }
-        // Where contents are told.
-        ensures leads { (d : Doubted) → StandsFor d self.old → Carries d self.old → IsTold self.old → LeadsIs d (Pump first.now second.now) self.old self.new result }
+        ensures leads { (d : Doubted) → StandsFor d self.old → Carries d self.old → LeadsIs d (Pump first.now second.now) self.old self.new result }
+        ensures asked { (d : Doubted) → StandsFor d self.old → AsAsked d.world (Pump first.now second.now) self.old self.new }
         ensures told { IsTold self.new → IsTold self.old }
         ensures files { in_files self.new ≡ in_files self.old }
     {

@@ -1,5 +1,5 @@
 // What waits at a site that receives is applied, and acknowledged to the site that feeds it.
-ghost use Rattle.std.specs.Prelude.{◌≡◌, ◌++◌, ◌<◌, ◌≤◌, ℕ, List, IfSome, Some, false, length, true};
+ghost use Rattle.std.specs.Prelude.{◌≡◌, ◌++◌, ◌<◌, ◌≤◌, ℕ, List, IfOk, IfSome, Some, false, true};
 ghost use Rattle.vx_courier.specs.UnderWay.{FlightStands};
 ghost use Rattle.vx_diskset.specs.Holds.{Beside};
 ghost use Rattle.vx_diskset.specs.Stands.{StandsAt};
@@ -8,12 +8,13 @@ ghost use Rattle.vx_history.specs.Doubts.{Doubted};
 ghost use Rattle.vx_history.specs.Sends.{packets_of};
 ghost use Rattle.vx_history.specs.World.{DataAck as AcksFromDisk, Node, Packet};
 ghost use Rattle.vx_model.specs.Sites.{is_origin};
-ghost use Rattle.vx_model.specs.declared.limits.TheConstants.{MOST_NUMBER as MOST, MOST_SITES};
+ghost use Rattle.vx_model.specs.declared.limits.TheConstants.{MOST_NUMBER as MOST};
 ghost use Rattle.vx_model.specs.declared.site.SiteState.TheVariants.{Up};
 ghost use Rattle.vx_net.specs.Flights.{greatest};
 ghost use Rattle.vx_packet.specs.Messages.{IsCounted};
 ghost use Rattle.vx_script.specs.declared.line.ScriptLine.TheVariants.{Apply};
 ghost use Rattle.vx_node.specs.Carries.{Carries};
+ghost use Rattle.vx_node.specs.OfSites.{AsAsked, HasCalled};
 ghost use Rattle.vx_node.specs.Standing.{LeadsIs, StandsFor};
 ghost use Rattle.vx_node.specs.Working.{IsFree};
 ghost use Rattle.vx_node.specs.Yards.{IsKept, IsTold, in_files};
@@ -59,9 +60,9 @@ fn acknowledge<N: Net>(flight: &mut N, acks: bool, from: u32, to: u32, line: &Li
 }
 
 impl<R: Rack> Yard<R> {
-    // Logs the oldest of the updates that wait at a site that receives, so many or all, and brings them into its volumes. Where there are some it
-    // acknowledges that from disk to the site that feeds it. So many packets that no more may be sent are answered as want of memory.
-    fn apply_received(
+    /// Logs the oldest of the updates that wait at a site that receives, so many or all, and brings them into its volumes. Where there are some it
+    /// acknowledges that from disk to the site that feeds it. So many packets that no more may be sent are answered as want of memory.
+    pub(crate) fn apply_received(
         &mut self,
         alloc: Global,
         name: &Name,
@@ -69,9 +70,10 @@ impl<R: Rack> Yard<R> {
     ) -> Result<Said, OutOfMemory>
         requires kept { IsKept self.old }
         requires free { IsFree self.old (Apply name.now count) }
-        requires feeders { length self.old.feeders.items ≡ MOST_SITES }
         ensures leads { (d : Doubted) (s : ℕ) → StandsFor d self.old → Carries d self.old → seat_of self.old.facts.items name.now ≡ Some s → is_origin (d.world.nodes s).role ≡ false
             → LeadsIs d (Apply name.now count) self.old self.new result }
+        ensures asked { (d : Doubted) → StandsFor d self.old → AsAsked d.world (Apply name.now count) self.old self.new }
+        ensures called { (d : Doubted) → StandsFor d self.old → IfOk result (λ said. HasCalled d.world (Apply name.now count) said self.old self.new) }
         ensures told { IsTold self.new → IsTold self.old }
         ensures files { in_files self.new ≡ in_files self.old }
     {

@@ -55,7 +55,7 @@ fn set_state<R: Rack>(
 
 impl<R: Rack> Yard<R> {
     /// Gives the link of a site to another this setting, in the header of the site's log first.
-    pub fn set_line(
+    pub(crate) fn set_line(
         &mut self,
         alloc: Global,
         first: &Name,

@@ -3,13 +3,14 @@ ghost use Rattle.std.specs.Prelude.{◌≡◌, ◌≤◌, ◌<◌, ◌*◌, ℕ,
 ghost use Rattle.vx_diskset.specs.Asked.{LeavesAlone};
 ghost use Rattle.vx_diskset.specs.DiskSets.{CanRead, Later};
 ghost use Rattle.vx_diskset.specs.Holds.{Beside};
-ghost use Rattle.vx_diskset.specs.Stands.{StandsAt};
-ghost use Rattle.vx_events.specs.Facts.{seat_of};
+ghost use Rattle.vx_diskset.specs.Stands.{KeepsRole, StandsAt};
+ghost use Rattle.vx_events.specs.Facts.{seat_of, site_number};
 ghost use Rattle.vx_history.specs.Doubts.{Doubted};
 ghost use Rattle.vx_history.specs.World.{Node};
 ghost use Rattle.vx_model.specs.Sites.{is_origin};
 ghost use Rattle.vx_script.specs.declared.line.ScriptLine.TheVariants.{Show as ShowLine};
 ghost use Rattle.vx_node.specs.Fetching.{IsRoom};
+ghost use Rattle.vx_node.specs.OfSites.{OfSite};
 ghost use Rattle.vx_node.specs.Shown.{GaveShownAt};
 ghost use Rattle.vx_node.specs.Standing.{Leads, StandsFor};
 ghost use Rattle.vx_node.specs.Working.{IsFree};
@@ -32,6 +33,7 @@ fn shown_of<R: Rack>(
     requires few { count ≤ MOST_CALL_BLOCKS }
     requires room { length room.items ≡ 512 * count }
     ensures shows { (beside : Beside) (n : Node) → StandsAt beside n disk_set.old → CanRead n volume start count → GaveShownAt beside n volume start count disk_set.old disk_set.new result }
+    ensures role { KeepsRole disk_set.old disk_set.new }
     ensures still { LeavesAlone disk_set.old disk_set.new }
     ensures later { Later disk_set.old disk_set.new }
 {
@@ -40,8 +42,8 @@ fn shown_of<R: Rack>(
 }
 
 impl<R: Rack> Yard<R> {
-    // Shows blocks of a volume of a site that receives: its content with all writes that came to it, of which some may wait.
-    fn show_received(
+    /// Shows blocks of a volume of a site that receives: its content with all writes that came to it, of which some may wait.
+    pub(crate) fn show_received(
         &mut self,
         name: &Name,
         volume: &Name,
@@ -53,6 +55,7 @@ impl<R: Rack> Yard<R> {
         requires kept { IsKept self.old }
         requires free { IsFree self.old (ShowLine name.now volume.now start count) }
         ensures leads { (d : Doubted) (s : ℕ) → StandsFor d self.old → seat_of self.old.facts.items name.now ≡ Some s → is_origin (d.world.nodes s).role ≡ false → Leads d (ShowLine name.now volume.now start count) result self.old self.new }
+        ensures asked { (d : Doubted) → StandsFor d self.old → OfSite LeavesAlone (site_number d.world name.now) self.old self.new }
         ensures flight { self.new.flight ≡ self.old.flight }
         ensures told { IsTold self.new → IsTold self.old }
         ensures files { in_files self.new ≡ in_files self.old }

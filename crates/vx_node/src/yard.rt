@@ -3,14 +3,13 @@ ghost use Rattle.std.specs.Prelude.{◌≡◌, ◌≤◌, ℕ, IfOk, IfErr, IsSo
 ghost use Rattle.vx_stream.specs.Causes.{Rose};
 ghost use Rattle.vx_history.specs.Doubts.{Doubted};
 ghost use Rattle.vx_history.specs.World.{empty_world};
-ghost use Rattle.vx_order.specs.Order.{refusal_of};
 ghost use Rattle.vx_events.specs.Doubts.{sure};
 ghost use Rattle.vx_node.specs.Carries.{Carries};
 ghost use Rattle.vx_node.specs.OfSites.{AsAsked};
 ghost use Rattle.vx_node.specs.Holds.{AreFresh, RacksHold, RacksTell, rack_faults};
 ghost use Rattle.vx_node.specs.Lines.{is_built};
 ghost use Rattle.vx_node.specs.Standing.{LineFor, Serves, StandsFor};
-ghost use Rattle.vx_node.specs.Working.{IsFree};
+ghost use Rattle.vx_node.specs.Working.{IsFree, refused_in};
 ghost use Rattle.vx_node.specs.Yards.{IsKept, IsTold, count_of, in_files};
 
 use crate::folder::copied;
@@ -97,7 +96,7 @@ impl<R: Rack> Yard<R> {
         // What the line asks of the rack of its site: a disk, a number of calls or a pick.
         ensures asked { (d : Doubted) → StandsFor d self.old → IsFree self.old words.now → AsAsked d.world words.now self.old self.new }
         // A line that is refused leaves all disks as they are.
-        ensures still { IsSome (refusal_of self.old.facts.items (in_files self.old) words.now) → self.new.disk_sets ≡ self.old.disk_sets }
+        ensures still { IsSome (refused_in self.old words.now) → self.new.disk_sets ≡ self.old.disk_sets }
         ensures told { IsTold self.new → IsTold self.old }
         ensures files { in_files self.new ≡ in_files self.old }
         ensures later { O.faults out.old ≤ O.faults out.new }

@@ -40,6 +40,15 @@ fn a_kind_that_is_not_built_is_wrong(rt: HostRuntime) -> Result<(), Fail> {
     Ok(())
 }
 
+// A link's setting is built where a full log fails writes.
+#[test]
+fn a_setting_that_is_not_built_is_wrong(rt: HostRuntime) -> Result<(), Fail> {
+    let script = b"site a 3 64\nset a b synchronous=off srlprot=dcm\n";
+    let answer = answers(&rt, rt.alloc(), script)?;
+    assert!(rt; answer.is(Status::BadLine { line: 2, column: 1 }, "done\nbad 2 1\n"));
+    Ok(())
+}
+
 #[test]
 fn a_long_second_line_is_named(rt: HostRuntime) -> Result<(), Fail> {
     let alloc = rt.alloc();

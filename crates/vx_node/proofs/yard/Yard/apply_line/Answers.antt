@@ -4,6 +4,7 @@ use Rattle.std.specs.Prelude.{Some}
 use Rattle.vx_events.specs.Facts.{seat_of}
 use Rattle.vx_node.specs.Yards.{in_files}
 use Rattle.vx_node.proofs.ChangeSite.{told_before}
+use Rattle.vx_node.proofs.Leading.{room_leads, room_waits}
 use Rattle.vx_node.proofs.Lists.{get_at}
 use Rattle.vx_events.proofs.Refused.{apply_may}
 use Rattle.vx_node.proofs.Seats.{named_some}
@@ -29,26 +30,28 @@ returns-in-Err-clause-told g c = told_before c.args.self.now.disk_sets.items c.s
     (get_at c.args.self.now.disk_sets.items c.site_of-site.result c.index_mut.result.now c.site_of-site.ensures.disk_set c.index_mut.ensures.value) c.in-Err.ensures.later
 
 pub returns-in-Ok-clause-leads : goal.returns-in-Ok-clause-leads
-returns-in-Ok-clause-leads g c = λ d stands.
+returns-in-Ok-clause-leads g c = λ d stands carries.
     let y = c.args.self.now in
     let s = c.site_of-site.result in
     let seat : seat_of y.facts.items c.args.name.now ≡ Some c.site_of-site.result = c.site_of-site.ensures.seat in
     let at = get_at y.disk_sets.items c.site_of-site.result c.index_mut.result.now c.site_of-site.ensures.disk_set c.index_mut.ensures.value in
     let here = can_apply_at d y c.args.name.now c.args.to s stands c.requires.free seat in
     let there = stands.disk_sets.sites s c.index_mut.result.now here.seat.below at in
-    applied d y _ c.args.name.now c.args.to s c.index_mut.result.now c.apply.new.self stands here (record { there = at; later = c.in-Ok.ensures.later; disk_sets = refl; racks = refl }) c.in-Ok.number
+    applied d y _ c.args.name.now c.args.to s c.index_mut.result.now c.apply.new.self stands here (record { there = at; later = c.in-Ok.ensures.later; disk_sets = refl; racks = refl }) c.in-Ok.ensures.role c.in-Ok.number
+    (room_leads d y c.args.name.now s stands seat c.index.result.now c.receives.result (get_at y.disk_sets.items s c.index.result.now c.site_of-site.ensures.disk_set c.index.ensures) c.receives.ensures c.if-receives.false
+    (apply_may y.facts.items (in_files y) c.args.name.now c.args.to c.requires.free).site (apply_may y.facts.items (in_files y) c.args.name.now c.args.to c.requires.free).up s seat)
     (c.in-Ok.ensures.applied (beside_of d s) (d.world.nodes s) there here.can) (c.in-Ok.ensures.called (beside_of d s) (d.world.nodes s) there) refl
     (record { flight = refl; assemblies = refl; feeders = refl })
 
 pub returns-in-Err-clause-leads : goal.returns-in-Err-clause-leads
-returns-in-Err-clause-leads g c = λ d stands.
+returns-in-Err-clause-leads g c = λ d stands carries.
     let y = c.args.self.now in
     let s = c.site_of-site.result in
     let seat : seat_of y.facts.items c.args.name.now ≡ Some c.site_of-site.result = c.site_of-site.ensures.seat in
     let at = get_at y.disk_sets.items c.site_of-site.result c.index_mut.result.now c.site_of-site.ensures.disk_set c.index_mut.ensures.value in
     let here = can_apply_at d y c.args.name.now c.args.to s stands c.requires.free seat in
     let there = stands.disk_sets.sites s c.index_mut.result.now here.seat.below at in
-    apply_refused d y _ c.args.name.now c.args.to s c.index_mut.result.now c.apply.new.self stands here (record { there = at; later = c.in-Err.ensures.later; disk_sets = refl; racks = refl }) c.in-Err.no c.refused.result
+    apply_refused d y _ c.args.name.now c.args.to s c.index_mut.result.now c.apply.new.self stands here (record { there = at; later = c.in-Err.ensures.later; disk_sets = refl; racks = refl }) c.in-Err.ensures.role c.in-Err.no c.refused.result
     c.index_mut-in-Err.result.now c.refused.new.facts c.refused.ensures.said (c.in-Err.ensures.applied (beside_of d s) (d.world.nodes s) there here.can) (c.in-Err.ensures.called (beside_of d s) (d.world.nodes s) there)
     (get_at y.facts.items s c.index_mut-in-Err.result.now (c.site_of-site.ensures.fact) c.index_mut-in-Err.ensures.value) c.refused.ensures.noted refl
     (record { flight = refl; assemblies = c.let_go_if_down.ensures; feeders = refl })
@@ -96,3 +99,17 @@ returns-in-Err-clause-asked g c = λ d stands.
     let there = stands.disk_sets.sites s c.index_mut.result.now here.seat.below at in
     asks_at SameFailing d y _ c.args.name.now s c.index_mut.result.now c.apply.new.self stands seat at refl
     (calls_keep NoMore c.refused.result c.index_mut.result.now c.apply.new.self (subst (λ (r : Said). LeavesFuse NoMore r c.index_mut.result.now c.apply.new.self) (sym c.refused.ensures.said) (c.in-Err.ensures.called (beside_of d s) (d.world.nodes s) there)))
+
+pub returns-then-receives-clause-leads : goal.returns-then-receives-clause-leads
+returns-then-receives-clause-leads g c = λ d stands carries.
+    let y = c.args.self.now in
+    let s = c.site_of-site.result in
+    let there = get_at y.disk_sets.items s c.index.result.now c.site_of-site.ensures.disk_set c.index.ensures in
+    c.apply_received.ensures.leads d s stands carries c.site_of-site.ensures.seat
+    (room_waits d y c.args.name.now s stands c.site_of-site.ensures.seat c.index.result.now c.receives.result there c.receives.ensures c.if-receives.true)
+
+pub returns-then-receives-clause-asked : goal.returns-then-receives-clause-asked
+returns-then-receives-clause-asked g c = λ d stands. c.apply_received.ensures.asked d stands
+
+pub returns-then-receives-clause-called : goal.returns-then-receives-clause-called
+returns-then-receives-clause-called g c = λ d stands. c.apply_received.ensures.called d stands

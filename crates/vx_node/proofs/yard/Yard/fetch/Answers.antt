@@ -5,10 +5,11 @@ use Rattle.vx_node.proofs.ChangeSite.{told_before}
 use Rattle.vx_node.proofs.Lists.{get_at}
 use Rattle.vx_node.proofs.ReadLine.{may_read}
 use Rattle.vx_node.proofs.Seats.{named_some, volume_there}
+use Rattle.vx_node.proofs.ShownLine.{fetched_leads}
 use Rattle.vx_node.proofs.yard.Yard.fetch.Goals.{then-count-eq0-via-then-count-eq0, then-count-eq0-via-else-count-eq0+then-count-gt-MOST_CALL_BLOCKS}
 use Rattle.vx_diskset.specs.Asked.{LeavesAlone}
 use Rattle.vx_diskset.specs.Holds.{beside_of}
-use Rattle.vx_node.proofs.FetchLine.{fetch_leads, fetch_stops, fetching}
+use Rattle.vx_node.proofs.FetchLine.{fetch_stops, fetching}
 use Rattle.vx_node.proofs.NamedSite.{asks_at}
 use Rattle.vx_node.proofs.yard.Yard.fetch.Goals as goal
 
@@ -36,20 +37,20 @@ returns-in-Err-clause-told g c = told_before c.args.self.now.disk_sets.items c.s
     (get_at c.args.self.now.disk_sets.items c.site_of-site.result c.index_mut.result.now c.site_of-site.ensures.disk_set c.index_mut.ensures.value) c.in-Err.ensures.later
 
 pub returns-in-Ok-clause-leads : goal.returns-in-Ok-clause-leads
-returns-in-Ok-clause-leads g c = λ d line stands is.
+returns-in-Ok-clause-leads g c = λ d line stands is free origin.
     let y = c.args.self.now in
     let seat : seat_of y.facts.items c.args.name.now ≡ Some c.site_of-site.result = c.site_of-site.ensures.seat in
     let disk_set = get_at y.disk_sets.items c.site_of-site.result c.index_mut.result.now c.site_of-site.ensures.disk_set c.index_mut.ensures.value in
     let may = may_read y c.args.name.now c.args.volume.now c.args.start c.args.count c.requires.free in
     let read = fetching d y c.args.name.now c.args.volume.now c.args.start c.args.count c.site_of-site.result c.volume_of-place.result c.index_mut.result.now stands may seat disk_set c.volume_of-place.ensures.place in
     let there = stands.disk_sets.sites c.site_of-site.result c.index_mut.result.now read.seat.below disk_set in
-    fetch_leads d line y _ c.args.name.now c.args.volume.now c.args.start c.args.count c.site_of-site.result c.volume_of-place.result c.in-Ok.blocks c.index_mut.result.now c.blocks_of.new.disk_set is stands read
-    (record { there = disk_set; later = c.in-Ok.ensures.later; disk_sets = refl; racks = refl }) c.in-Ok.ensures.still
-    (c.in-Ok.ensures.read (beside_of d c.site_of-site.result) (d.world.nodes c.site_of-site.result) there read.can) refl
-    (record { flight = refl; assemblies = refl; feeders = refl })
+    fetched_leads d y _ c.args.name.now c.args.volume.now c.args.start c.args.count c.site_of-site.result c.volume_of-place.result c.index_mut.result.now c.blocks_of.new.disk_set stands read
+    (record { there = disk_set; later = c.in-Ok.ensures.later; disk_sets = refl; racks = refl }) c.in-Ok.ensures.still c.in-Ok.ensures.role refl (record { flight = refl; assemblies = refl; feeders = refl })
+    line c.in-Ok.blocks is free seat (origin c.site_of-site.result seat)
+    (c.in-Ok.ensures.read (beside_of d c.site_of-site.result) (d.world.nodes c.site_of-site.result) there read.can)
 
 pub returns-in-Err-clause-leads : goal.returns-in-Err-clause-leads
-returns-in-Err-clause-leads g c = λ d line stands is.
+returns-in-Err-clause-leads g c = λ d line stands is free origin.
     let y = c.args.self.now in
     let seat : seat_of y.facts.items c.args.name.now ≡ Some c.site_of-site.result = c.site_of-site.ensures.seat in
     let disk_set = get_at y.disk_sets.items c.site_of-site.result c.index_mut.result.now c.site_of-site.ensures.disk_set c.index_mut.ensures.value in
@@ -57,7 +58,7 @@ returns-in-Err-clause-leads g c = λ d line stands is.
     let read = fetching d y c.args.name.now c.args.volume.now c.args.start c.args.count c.site_of-site.result c.volume_of-place.result c.index_mut.result.now stands may seat disk_set c.volume_of-place.ensures.place in
     let there = stands.disk_sets.sites c.site_of-site.result c.index_mut.result.now read.seat.below disk_set in
     fetch_stops d line y _ c.args.name.now c.args.volume.now c.args.start c.args.count c.site_of-site.result c.volume_of-place.result c.in-Err.no c.index_mut.result.now c.blocks_of.new.disk_set is stands read
-    (record { there = disk_set; later = c.in-Err.ensures.later; disk_sets = refl; racks = refl }) c.in-Err.ensures.still
+    (record { there = disk_set; later = c.in-Err.ensures.later; disk_sets = refl; racks = refl }) c.in-Err.ensures.still c.in-Err.ensures.role
     (c.in-Err.ensures.read (beside_of d c.site_of-site.result) (d.world.nodes c.site_of-site.result) there read.can) refl
     (record { flight = refl; assemblies = refl; feeders = refl })
 

@@ -27,7 +27,7 @@ pub overflow_cast-target : goal.overflow_cast-target
 overflow_cast-target g c = omega (arith, c.requires.few)
 
 pub returns-then-not-receives-clause-leads : goal.returns-then-not-receives-clause-leads
-returns-then-not-receives-clause-leads g c = λ d p k x stands roles carries good at to below message.
+returns-then-not-receives-clause-leads g c = λ d p k x stands carries good at to below message.
     let old = c.args.self.now in
     let t = c.args.target in
     let e = c.index.result.now in
@@ -35,7 +35,7 @@ returns-then-not-receives-clause-leads g c = λ d p k x stands roles carries goo
     let place = subst (λ (i : ℕ). slice_get old.disk_sets.items i ≡ Some e) (sym to) there in
     deaf_leads d c.args.number p k x at message old old e e c.receives.result stands (subst (λ (i : ℕ). i < d.world.sites) (sym to) below)
     (record { there = place; later = later_same e; disk_sets = sym (set_same old.disk_sets.items p.target e place); racks = refl }) (alone_same e) c.receives.ensures c.if-not-receives.true
-    (subst (λ (i : ℕ). RoleIs (d.world.nodes i) e) (sym to) (roles.each t e below there)) (subst (λ (i : ℕ). StandsAt (beside_of d i) (d.world.nodes i) e) (sym to) (stands.disk_sets.sites t e below there)) refl
+    (subst (λ (i : ℕ). RoleIs (d.world.nodes i) e) (sym to) (stands.roles.each t e below there)) (subst (λ (i : ℕ). StandsAt (beside_of d i) (d.world.nodes i) e) (sym to) (stands.disk_sets.sites t e below there)) refl
     (record { flight = refl; assemblies = refl; feeders = refl }) (λ tells. tells)
 
 pub returns-in_err-said-clause-told : goal.returns-in_err-said-clause-told
@@ -49,7 +49,7 @@ returns-in-Taken-clause-told g c =
     told_before es c.args.target c.index_mut.result.now c.deliver_update.new.disks (get_at es c.args.target c.index_mut.result.now c.requires.disk_set c.index_mut.ensures.value) c.deliver_update.ensures.later
 
 pub returns-in_err-said-clause-leads : goal.returns-in_err-said-clause-leads
-returns-in_err-said-clause-leads g c = λ d p k x stands roles carries good at to below message.
+returns-in_err-said-clause-leads g c = λ d p k x stands carries good at to below message.
     let old = c.args.self.now in
     let t = c.args.target in
     let before = c.index_mut.result.now in
@@ -58,7 +58,7 @@ returns-in_err-said-clause-leads g c = λ d p k x stands roles carries good at t
     let fed = get_at old.feeders.items t c.index_mut-2.result.now c.requires.feeder c.index_mut-2.ensures.value in
     let was = get_at old.assemblies.items t c.index_mut-3.result.now c.requires.place c.index_mut-3.ensures.value in
     behind_short d (Deliver c.args.number) old _ before after t c.from_residual.result _ (err_from_is_err_and c.from_residual.result c.from_residual.ensures.1).1 stands below
-    (record { there = there; later = c.deliver_update.ensures.later; disk_sets = refl; racks = refl }) c.deliver_update.ensures.still c.in_err-said.ensures.stands refl
+    (record { there = there; later = c.deliver_update.ensures.later; disk_sets = refl; racks = refl }) c.deliver_update.ensures.still (c.deliver_update.ensures.role.kept (d.world.nodes t) (stands.roles.each t before below there)) c.in_err-said.ensures.stands refl
     (record {
       flight = c.in_err-said.ensures.unsent;
       assemblies = ap (λ b. slice_set old.assemblies.items t b) c.in_err-said.ensures.assembly ∙ set_same old.assemblies.items t c.index_mut-3.result.now was;
@@ -66,7 +66,7 @@ returns-in_err-said-clause-leads g c = λ d p k x stands roles carries good at t
     }) (told_before old.disk_sets.items t before after there c.deliver_update.ensures.later)
 
 pub returns-in-Taken-clause-leads : goal.returns-in-Taken-clause-leads
-returns-in-Taken-clause-leads g c = λ d p k x stands roles carries good at to below message.
+returns-in-Taken-clause-leads g c = λ d p k x stands carries good at to below message.
     let old = c.args.self.now in
     let t = c.args.target in
     let before = c.index_mut.result.now in
@@ -78,7 +78,7 @@ returns-in-Taken-clause-leads g c = λ d p k x stands roles carries good at to b
     let there = get_at old.disk_sets.items t before c.requires.disk_set c.index_mut.ensures.value in
     let same_before = some_same (sym (get_at old.disk_sets.items t c.index.result.now c.requires.disk_set c.index.ensures) ∙ there) in
     let here = stands.disk_sets.sites t before below there in
-    let role = roles.each t before below there in
+    let role = stands.roles.each t before below there in
     let opens = room_receives (beside_of d t) (d.world.nodes t) c.index.result.now c.receives.result c.receives.ensures c.if-not-receives.false (subst (λ e. StandsAt (beside_of d t) (d.world.nodes t) e) (sym same_before) here) in
     let fed = carries.feeders t c.index_mut-2.result.now (get_at old.feeders.items t c.index_mut-2.result.now c.requires.feeder c.index_mut-2.ensures.value) opens.0 opens.1 in
     let told = told_before old.disk_sets.items t before after there c.deliver_update.ensures.later in
@@ -93,6 +93,7 @@ returns-in-Taken-clause-leads g c = λ d p k x stands roles carries good at to b
     (record {
       below = below;
       changed = record { there = there; later = c.deliver_update.ensures.later; disk_sets = refl; racks = refl };
+      role = c.deliver_update.ensures.role.kept (d.world.nodes t) role;
       handed = record { assemblies = refl; feeders = refl; below = c.requires.few; told = told };
       took = subst (λ r. TookTo d.world c.args.number p (beside_of d t) after feeder was a old.flight flight r) c.in-Taken.is took;
       exact = λ tells.
@@ -109,7 +110,7 @@ returns-in-Taken-clause-leads g c = λ d p k x stands roles carries good at to b
 
 pub returns-in_default : goal.returns-in_default
 returns-in_default g c = record {
-  leads = λ d p k x stands roles carries good at to below message.
+  leads = λ d p k x stands carries good at to below message.
       let old = c.args.self.now in
       let t = c.args.target in
       let before = c.index_mut.result.now in
@@ -121,7 +122,7 @@ returns-in_default g c = record {
       let there = get_at old.disk_sets.items t before c.requires.disk_set c.index_mut.ensures.value in
       let same_before = some_same (sym (get_at old.disk_sets.items t c.index.result.now c.requires.disk_set c.index.ensures) ∙ there) in
       let here = stands.disk_sets.sites t before below there in
-      let role = roles.each t before below there in
+      let role = stands.roles.each t before below there in
       let opens = room_receives (beside_of d t) (d.world.nodes t) c.index.result.now c.receives.result c.receives.ensures c.if-not-receives.false (subst (λ e. StandsAt (beside_of d t) (d.world.nodes t) e) (sym same_before) here) in
       let fed = carries.feeders t c.index_mut-2.result.now (get_at old.feeders.items t c.index_mut-2.result.now c.requires.feeder c.index_mut-2.ensures.value) opens.0 opens.1 in
       let told = told_before old.disk_sets.items t before after there c.deliver_update.ensures.later in
@@ -132,6 +133,7 @@ returns-in_default g c = record {
       (record {
         below = below;
         changed = record { there = there; later = c.deliver_update.ensures.later; disk_sets = refl; racks = refl };
+        role = c.deliver_update.ensures.role.kept (d.world.nodes t) role;
         handed = record { assemblies = refl; feeders = refl; below = c.requires.few; told = told };
         took = subst (λ r. TookTo d.world c.args.number p (beside_of d t) after feeder was a old.flight flight r) ignored took;
         exact = λ tells.

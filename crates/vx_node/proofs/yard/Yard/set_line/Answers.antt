@@ -56,7 +56,7 @@ returns-in-Ok-clause-leads g c = λ d prot stands.
     let kept = set_kept d old p r c.args.sync c.requires.free.0 s q before stands c.requires.free.1 seat seat_too at after c.in-Some.state (Ok tt) is (λ beside m stood can. c.in-Ok.ensures.kept beside m stood can) in
     let stood = set_stood d old p r c.args.sync c.requires.free.0 s q before stands c.requires.free.1 seat seat_too at in
     let said = set_said d old p r c.args.sync c.requires.free.0 s q before stands c.requires.free.1 seat seat_too at in
-    set_leads d old p r c.args.sync c.requires.free.0 s q before stands c.requires.free.1 seat seat_too at _ after (record { there = at; later = c.in-Ok.ensures.later; disk_sets = refl; racks = refl }) prot kept (c.in-Ok.ensures.called (beside_of d s) (worked (d.world.nodes s)) stood)
+    set_leads d old p r c.args.sync c.requires.free.0 s q before stands c.requires.free.1 seat seat_too at _ after (record { there = at; later = c.in-Ok.ensures.later; disk_sets = refl; racks = refl }) c.in-Ok.ensures.role prot kept (c.in-Ok.ensures.called (beside_of d s) (worked (d.world.nodes s)) stood)
     (with_items_is old.facts c.keep_set.new.sites (c.keep_set.auto.sites ∙ c.deref_mut.ensures.len)
     ∙ c.keep_set.ensures.world d.world (c.deref_mut.ensures.value ∙ stands.facts) (stands.links.rows s).places said)
     (record { flight = refl; assemblies = refl; feeders = refl })
@@ -79,7 +79,7 @@ returns-in-Err-clause-leads g c = λ d prot stands.
     (λ beside m v stood up facts has said. c.in-Some.ensures.is beside m v stood up (c.deref.ensures.value ∙ facts) has said) in
     let kept = set_kept d old p r c.args.sync c.requires.free.0 s q before stands c.requires.free.1 seat seat_too at after c.in-Some.state (Err c.in-Err.no) is (λ beside m stood can. c.in-Err.ensures.kept beside m stood can) in
     let stood = set_stood d old p r c.args.sync c.requires.free.0 s q before stands c.requires.free.1 seat seat_too at in
-    set_refused d old p r c.args.sync c.requires.free.0 s q before stands c.requires.free.1 seat seat_too at _ after (record { there = at; later = c.in-Err.ensures.later; disk_sets = refl; racks = refl }) prot c.in-Err.no c.refused.result c.index_mut-in-Err.result.now c.refused.new.facts c.refused.ensures.said
+    set_refused d old p r c.args.sync c.requires.free.0 s q before stands c.requires.free.1 seat seat_too at _ after (record { there = at; later = c.in-Err.ensures.later; disk_sets = refl; racks = refl }) c.in-Err.ensures.role prot c.in-Err.no c.refused.result c.index_mut-in-Err.result.now c.refused.new.facts c.refused.ensures.said
     kept (c.in-Err.ensures.called (beside_of d s) (worked (d.world.nodes s)) stood)
     (get_at old.facts.items s c.index_mut-in-Err.result.now c.site_of-here.ensures.fact c.index_mut-in-Err.ensures.value) c.refused.ensures.noted refl
     (record { flight = refl; assemblies = c.let_go_if_down.ensures; feeders = refl })

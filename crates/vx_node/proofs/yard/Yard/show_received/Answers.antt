@@ -1,15 +1,17 @@
 -- Blocks of a site that receives are shown, case by case.
 use Rattle.std.proofs.Common.{◌≡◌, ◌∙◌, arith, false, inr, refl, subst, sym}
 use Rattle.std.specs.Prelude.{Some}
+use Rattle.vx_diskset.specs.Asked.{LeavesAlone}
 use Rattle.vx_diskset.specs.Holds.{beside_of}
 use Rattle.vx_events.proofs.Places.{some_same}
 use Rattle.vx_model.specs.Sites.{is_origin}
 use Rattle.vx_node.proofs.ChangeSite.{told_before}
 use Rattle.vx_node.proofs.FetchLine.{fetching}
 use Rattle.vx_node.proofs.Lists.{get_at}
+use Rattle.vx_node.proofs.NamedSite.{asks_at}
 use Rattle.vx_node.proofs.ReadLine.{may_read}
 use Rattle.vx_node.proofs.Seats.{named_some, volume_there}
-use Rattle.vx_node.proofs.ShownLine.{shown_leads, shown_stops}
+use Rattle.vx_node.proofs.ShownLine.{not_primary, shown_leads, shown_stops}
 use Rattle.vx_node.proofs.yard.Yard.show_received.Goals.{then-count-eq0-via-then-count-eq0, then-count-eq0-via-else-count-eq0+then-count-gt-MOST_CALL_BLOCKS}
 use Rattle.vx_node.proofs.yard.Yard.show_received.Goals as goal
 
@@ -43,8 +45,8 @@ returns-in-Ok-clause-leads g c = λ d s stands seat receives.
     let read = fetching d y c.args.name.now c.args.volume.now c.args.start c.args.count t c.volume_of-place.result before stands may c.site_of-site.ensures.seat disk_set c.volume_of-place.ensures.place in
     let there = stands.disk_sets.sites t before read.seat.below disk_set in
     let other = subst (λ i. is_origin (d.world.nodes i).role ≡ false) (some_same (sym seat ∙ c.site_of-site.ensures.seat)) receives in
-    shown_leads d y _ c.args.name.now c.args.volume.now c.args.start c.args.count t c.volume_of-place.result before after stands read (record { there = disk_set; later = c.in-Ok.ensures.later; disk_sets = refl; racks = refl }) c.in-Ok.ensures.still refl
-    (record { flight = refl; assemblies = refl; feeders = refl }) c.in-Ok.blocks other (c.in-Ok.ensures.shows (beside_of d t) (d.world.nodes t) there read.can)
+    shown_leads d y _ c.args.name.now c.args.volume.now c.args.start c.args.count t c.volume_of-place.result before after stands read (record { there = disk_set; later = c.in-Ok.ensures.later; disk_sets = refl; racks = refl }) c.in-Ok.ensures.still c.in-Ok.ensures.role refl
+    (record { flight = refl; assemblies = refl; feeders = refl }) c.in-Ok.blocks (not_primary (d.world.nodes t).role other) (c.in-Ok.ensures.shows (beside_of d t) (d.world.nodes t) there read.can)
 
 pub returns-in-Err-clause-told : goal.returns-in-Err-clause-told
 returns-in-Err-clause-told g c = told_before c.args.self.now.disk_sets.items c.site_of-site.result c.index_mut.result.now c.shown_of.new.disk_set
@@ -60,5 +62,15 @@ returns-in-Err-clause-leads g c = λ d s stands seat receives.
     let may = may_read y c.args.name.now c.args.volume.now c.args.start c.args.count (inr c.requires.free) in
     let read = fetching d y c.args.name.now c.args.volume.now c.args.start c.args.count t c.volume_of-place.result before stands may c.site_of-site.ensures.seat disk_set c.volume_of-place.ensures.place in
     let there = stands.disk_sets.sites t before read.seat.below disk_set in
-    shown_stops d y _ c.args.name.now c.args.volume.now c.args.start c.args.count t c.volume_of-place.result before after stands read (record { there = disk_set; later = c.in-Err.ensures.later; disk_sets = refl; racks = refl }) c.in-Err.ensures.still refl
+    shown_stops d y _ c.args.name.now c.args.volume.now c.args.start c.args.count t c.volume_of-place.result before after stands read (record { there = disk_set; later = c.in-Err.ensures.later; disk_sets = refl; racks = refl }) c.in-Err.ensures.still c.in-Err.ensures.role refl
     (record { flight = refl; assemblies = refl; feeders = refl }) c.in-Err.no (c.in-Err.ensures.shows (beside_of d t) (d.world.nodes t) there read.can)
+
+pub returns-in-Ok-clause-asked : goal.returns-in-Ok-clause-asked
+returns-in-Ok-clause-asked g c = λ d stands.
+    asks_at LeavesAlone d c.args.self.now _ c.args.name.now c.site_of-site.result c.index_mut.result.now c.shown_of.new.disk_set stands c.site_of-site.ensures.seat
+    (get_at c.args.self.now.disk_sets.items c.site_of-site.result c.index_mut.result.now c.site_of-site.ensures.disk_set c.index_mut.ensures.value) refl c.in-Ok.ensures.still
+
+pub returns-in-Err-clause-asked : goal.returns-in-Err-clause-asked
+returns-in-Err-clause-asked g c = λ d stands.
+    asks_at LeavesAlone d c.args.self.now _ c.args.name.now c.site_of-site.result c.index_mut.result.now c.shown_of.new.disk_set stands c.site_of-site.ensures.seat
+    (get_at c.args.self.now.disk_sets.items c.site_of-site.result c.index_mut.result.now c.site_of-site.ensures.disk_set c.index_mut.ensures.value) refl c.in-Err.ensures.still

@@ -107,13 +107,13 @@ pub returns-in_ok-room-in-Show-clause-asked : goal.returns-in_ok-room-in-Show-cl
 returns-in_ok-room-in-Show-clause-asked g c = λ d stands. subst (λ line. AsAsked d.world line c.args.self.now c.show_line.new.self) (sym c.in-Show.is) (c.show_line.ensures.asked d stands)
 
 pub returns-in-Apply-clause-leads : goal.returns-in-Apply-clause-leads
-returns-in-Apply-clause-leads g c = λ d stands carries good. subst (λ line. Leads d line c.apply_line.result c.args.self.now c.apply_line.new.self) (sym c.in-Apply.is) (c.apply_line.ensures.leads d stands)
+returns-in-Apply-clause-leads g c = λ d stands carries good. subst (λ line. LeadsIs d line c.args.self.now c.apply_line.new.self c.apply_line.result) (sym c.in-Apply.is) (c.apply_line.ensures.leads d stands carries)
 
 pub returns-in-Apply-clause-asked : goal.returns-in-Apply-clause-asked
 returns-in-Apply-clause-asked g c = λ d stands. subst (λ line. AsAsked d.world line c.args.self.now c.apply_line.new.self) (sym c.in-Apply.is) (c.apply_line.ensures.asked d stands)
 
 pub returns-in-Apply-clause-called : goal.returns-in-Apply-clause-called
-returns-in-Apply-clause-called g c = λ d stands. subst (λ line. HasCalled d.world line c.apply_line.result c.args.self.now c.apply_line.new.self) (sym c.in-Apply.is) (c.apply_line.ensures.called d stands)
+returns-in-Apply-clause-called g c = λ d stands. subst (λ line. IfOk c.apply_line.result (λ said. HasCalled d.world line said c.args.self.now c.apply_line.new.self)) (sym c.in-Apply.is) (c.apply_line.ensures.called d stands)
 
 pub returns-in-Status-clause-leads : goal.returns-in-Status-clause-leads
 returns-in-Status-clause-leads g c = λ d stands carries good. subst (λ line. LeadsIs d line c.args.self.now c.args.self.now c.status_line.result) (sym c.in-Status.is) (c.status_line.ensures.leads d stands)
@@ -218,3 +218,15 @@ returns-in_err-room-in-Show-clause-asked g c = λ d stands.
     let free = subst (λ line. IsFree y line) c.in-Show.is c.requires.free in
     subst (λ line. AsAsked d.world line y y) (sym c.in-Show.is)
     (unbegun_site LeavesAlone d y c.in-Show.site alone_same stands (show_may y.facts.items (in_files y) c.in-Show.site c.in-Show.volume c.in-Show.block c.in-Show.count free).site)
+
+pub work_link-requires-clause-free : goal.work_link-requires-clause-free
+work_link-requires-clause-free g c = λ κs lives. c.requires.free
+
+pub returns-in-Set-clause-leads : goal.returns-in-Set-clause-leads
+returns-in-Set-clause-leads g c = λ d stands carries good. c.work_link.ensures.leads d stands carries
+
+pub returns-in-Set-clause-asked : goal.returns-in-Set-clause-asked
+returns-in-Set-clause-asked g c = λ d stands. c.work_link.ensures.asked d stands
+
+pub returns-in-Set-clause-called : goal.returns-in-Set-clause-called
+returns-in-Set-clause-called g c = λ d stands. c.work_link.ensures.called d
