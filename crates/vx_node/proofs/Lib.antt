@@ -80,3 +80,4 @@ pub mod RecoverSite
 pub mod RiseNeeds
 pub mod HeardWorld
 pub mod HeardLine
+pub mod DeliverLine
