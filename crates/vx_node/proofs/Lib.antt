@@ -64,7 +64,6 @@ pub mod LinkChain
 pub mod JoinLine
 pub mod LinkEnding
 pub mod StatesAre
-pub mod AllDurable
 pub mod LinkNames
 pub mod WriteCalls
 pub mod WriteLinks
