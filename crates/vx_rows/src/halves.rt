@@ -44,3 +44,17 @@ fn a_link_is_cut_as_it_is_made(rt: HostRuntime) -> Result<(), Fail> {
     assert!(rt; answer.is(Status::Done, old) || answer.is(Status::Done, new));
     Ok(())
 }
+
+// The site is halted with what waits, and crashes with it. Some first part of that is durable.
+#[test]
+fn a_disk_fails_as_updates_are_applied(rt: HostRuntime) -> Result<(), Fail> {
+    let script =
+        b"site a 3 64\nraw a\nsite b 3 64\nraw b\nlink a b synchronous=off srlprot=fail\nconnect a b\nwrite a d1 0 1 11\npump a b\ndeliver 2\ndisk b 0 fail\napply b 1\nshow b d1 0 1\ndeliver 2\ndisk b 0 ok\nrecover b\n";
+    let answer = answers(&rt, rt.alloc(), script)?;
+    let old =
+        "done\ndone\ndone\ndone\ndone\ndone sent 1 1\ndone 1\ndone sent 2 2\ntaken sent 3 3\ndone\nno 7 device 0\nno 20 halted 0\nignored\ndone\nrecovered 0 sent 4 4\nsite b up\nrvg secondary 1 a head 0 mark consistent session 2\n";
+    let new =
+        "done\ndone\ndone\ndone\ndone\ndone sent 1 1\ndone 1\ndone sent 2 2\ntaken sent 3 3\ndone\nno 7 device 0\nno 20 halted 0\nignored\ndone\nrecovered 1 sent 4 4\nsite b up\nrvg secondary 1 a head 1 mark consistent session 2\n";
+    assert!(rt; answer.is(Status::Done, old) || answer.is(Status::Done, new));
+    Ok(())
+}
