@@ -13,7 +13,7 @@ use Rattle.vx_script.specs.declared.line.ScriptLine.{ScriptLine}
 use Rattle.vx_script.specs.declared.line.ScriptLine.TheVariants.{Write, Put}
 use Rattle.vx_script.proofs.GrammarLemmas.{line_of_long}
 use Rattle.vx_events.specs.Doubts.{chosen}
-use Rattle.vx_events.specs.Ends.{Ends, AllDone, DiskFails, HeaderFails, FuseRunsOut, NoNumber, ShowsReceived, Finds, FindsLinks, FindsNone, AppliesFound, place_of}
+use Rattle.vx_events.specs.Ends.{Ends, AllDone, DiskFails, HeaderFails, FuseRunsOut, NoNumber, ShowsReceived, FindsLinks, FindsNone, place_of}
 use Rattle.vx_events.specs.Fails.{Fails}
 use Rattle.vx_events.specs.LinkEnds.{LinkEnds, LinksDone, LinksHalt, AppliesPart, AppliesCut, LinksCut, LinksFind, LogUnread, NoHeader}
 use Rattle.vx_events.specs.LinkedFacts.{refused_by}
@@ -62,10 +62,8 @@ module _ {T U : Type 0} (f : U → T) where
   ends_told d line s fails said new (NoNumber c taken before e rest list may least none says leads) = NoNumber c taken before e rest list may (λ u. least (f u)) none says leads
   ends_told d line s fails said new (ShowsReceived site volume start count is role gives none leads) =
       ShowsReceived site volume start count is role (record { bytes = gives.bytes; got = gives.got; size = gives.size; is = λ u. gives.is (f u) }) none leads
-  ends_told d line s fails said new (Finds never c taken site mid n k is from same none says leads) = Finds (λ u. never (f u)) c taken site mid n k is from same none says leads
   ends_told d line s fails said new (FindsLinks never c taken site mid n k row is from comes none says leads) = FindsLinks (λ u. never (f u)) c taken site mid n k row is from comes none says leads
   ends_told d line s fails said new (FindsNone never c taken site mid n why is from other none says leads) = FindsNone (λ u. never (f u)) c taken site mid n why is from other none says leads
-  ends_told d line s fails said new (AppliesFound never site to number is role least most none says leads) = AppliesFound (λ u. never (f u)) site to number is role least most none says leads
 
   links_told : (d : Doubted) (line : ScriptLine) (fails : Fails) (said : Said) (new : Doubted) → LinkEnds T d line fails said new → LinkEnds U d line fails said new
   links_told d line fails said new (LinksDone last runs none is says leads) = LinksDone last runs none is says leads

@@ -196,7 +196,7 @@ used_none n c m above up none past = sym (ap (λ (ws : List Write). taken ws) (d
 
 module _ {R : Type 0} {g : Ghosts R} where
   -- what a link needs of a log is there
-  pub low_needed : (beside : Beside) (n : Node) (rvg : Rvg R g) (k above : ℕ) (l : KeptLink) → IsUpAt beside n rvg.core (g.meaning rvg.shelf) → n.halted ≡ None → IsTrue (g.meaning rvg.shelf).tells → slice_get beside.links k ≡ Some l → is_needing l ≡ true → above ≡ hold_of l
+  pub low_needed : (beside : Beside) (n : Node) (rvg : Rvg R g) (k above : ℕ) (l : KeptLink) → IsUpAt beside n rvg.core (g.meaning rvg.shelf) → n.halted ≡ None → IsTrue (g.meaning rvg.shelf).tells → slice_get beside.links k ≡ Some l → is_needing l ≡ true → hold_of l ≤ above
       → rvg.core.log.header.low ≤ above + 1
   low_needed beside n rvg k above l up none told there needing is =
       let stood = up.content none told in

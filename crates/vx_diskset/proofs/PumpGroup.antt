@@ -25,7 +25,7 @@ use Rattle.vx_rvg.specs.Views.{Core}
 use Rattle.vx_rvg.specs.declared.group.Rvg.{Rvg}
 use Rattle.vx_diskset.specs.Holds.{beside_of, links_of}
 use Rattle.vx_diskset.specs.Needs.{hold_of, is_needing, mode_hold, mode_needs}
-use Rattle.vx_diskset.specs.Pumps.{PumpedIs}
+use Rattle.vx_diskset.specs.Pumps.{PumpStop, PumpedIs}
 use Rattle.vx_diskset.specs.Stands.{IsUpAt}
 use Rattle.vx_diskset.proofs.NeedLemmas.{low_needed}
 use Rattle.vx_diskset.proofs.StaysUp.{all_taken, never_both}
@@ -49,7 +49,7 @@ module _ {R : Type 0} {g : Ghosts R} where
   never_lacks d site to k rvg link up none told there is logs attached =
       let l : Link = d.world.links site to in
       let by = needing_by to l (sym (ap (λ (x : PlainLink). by_log x.mode) is) ∙ logs) (sym (ap (λ (x : PlainLink). x.attached) is) ∙ attached) in
-      let low = low_needed (beside_of d site) (d.world.nodes site) rvg k (hold_of (kept_link to l)) (kept_link to l) up none told there by.0 refl in
+      let low = low_needed (beside_of d site) (d.world.nodes site) rvg k (hold_of (kept_link to l)) (kept_link to l) up none told there by.0 (omega arith) in
       omega (arith, low, by.1, ap (λ (x : PlainLink). x.stored) is)
 
 -- ---- the site as the sending end of a link
@@ -77,3 +77,12 @@ pumped_is d site c m new link l f f' (Err (Refused IsOff)) up none told down is 
 pumped_is d site c m new link l f f' (Err (Refused (Damaged unit block stored computed))) up none told down is flight moved cause =
     let stood = up.content none told in absurd (cause stood.held stood.stands told)
 pumped_is d site c m new link l f f' (Err (Refused other)) up none told down is flight moved cause = absurd cause
+
+-- whether contents are told or not
+pub pump_stops : {beside : Beside} (n : Node) (c : Core) (m new : Meaning) (result : Result (Unit {0}) Stop) → IsUpAt beside n c m → new.down ≡ m.down → IfErr result (ReadCause c m new) → IfErr result (PumpStop m.disk_faults new.disk_faults)
+pump_stops n c m new (Ok done) up down cause = tt
+pump_stops n c m new (Err OutOfMemory) up down cause = tt
+pump_stops n c m new (Err (Refused (Device disk))) up down cause = cause
+pump_stops n c m new (Err (Refused IsOff)) up down cause = never_both new.down cause (down ∙ up.up)
+pump_stops n c m new (Err (Refused (Damaged unit block stored computed))) up down cause = tt
+pump_stops n c m new (Err (Refused other)) up down cause = absurd cause

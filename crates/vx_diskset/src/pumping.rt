@@ -1,5 +1,5 @@
 // What a site sends on a link, out of its log.
-ghost use Rattle.std.specs.Prelude.{◌≡◌, ◌≤◌, ◌+◌, ◌&&◌, ℕ, List, None, OnErr, OnOk, Some, IsTrue, slice_get, true};
+ghost use Rattle.std.specs.Prelude.{◌≡◌, ◌≤◌, ◌+◌, ◌&&◌, ℕ, List, None, IfErr, OnErr, OnOk, Some, IsTrue, slice_get, true};
 ghost use Rattle.vx_courier.specs.UnderWay.{FlightStands};
 ghost use Rattle.vx_model.specs.declared.site.SiteState.TheVariants.{Up as UpState};
 ghost use Rattle.vx_model.specs.Sites.{is_origin};
@@ -12,7 +12,7 @@ ghost use Rattle.vx_history.specs.World.{Node};
 ghost use Rattle.vx_diskset.specs.Asked.{LeavesAlone};
 ghost use Rattle.vx_diskset.specs.DiskSets.{Later};
 ghost use Rattle.vx_diskset.specs.Holds.{Beside, beside_of, links_of};
-ghost use Rattle.vx_diskset.specs.Pumps.{PumpedIs};
+ghost use Rattle.vx_diskset.specs.Pumps.{PumpStop, PumpedIs};
 ghost use Rattle.vx_peers.specs.Senders.{SendsMore, pumped_at};
 ghost use Rattle.vx_rvg.specs.Views.{last_of};
 ghost use Rattle.vx_diskset.specs.Stands.{IsToldAt, IsUpAt, KeepsRole, StandsAt, faults_at};
@@ -54,6 +54,7 @@ fn pump_group<R: Rack, N: Net>(
     ensures pumped { (d : Doubted) (k : ℕ) → IsUpAt (beside_of d site) (d.world.nodes site) rvg.old.core (R.meaning rvg.old.shelf) → (d.world.nodes site).halted ≡ None → IsTrue (R.meaning rvg.old.shelf).tells
         → slice_get (links_of d.world site) k ≡ Some (kept_link link.old.site (d.world.links site link.old.site)) → link.old ≡ plain_link link.old.site (d.world.links site link.old.site) → FlightStands d.world.packets (N.flying flight.old)
         → PumpedIs d.world site link.old.site link.new (N.flying flight.new) (R.meaning rvg.old.shelf).disk_faults (R.meaning rvg.new.shelf).disk_faults result }
+    ensures stops { (beside : Beside) (n : Node) → IsUpAt beside n rvg.old.core (R.meaning rvg.old.shelf) → IfErr result (PumpStop (R.meaning rvg.old.shelf).disk_faults (R.meaning rvg.new.shelf).disk_faults) }
     ensures stands { (beside : Beside) (n : Node) → IsUpAt beside n rvg.old.core (R.meaning rvg.old.shelf) → IsUpAt beside n rvg.new.core (R.meaning rvg.new.shelf) }
     ensures more { OnOk result (SendsMore (N.flying flight.old) (N.flying flight.new)) }
     ensures rule { OnOk result (link.new ≡ pumped_at link.old (last_of rvg.old.core)) }
@@ -98,6 +99,7 @@ impl<R: Rack> DiskSet<R> {
         ensures pumped { (d : Doubted) (k : ℕ) → StandsAt (beside_of d site) (d.world.nodes site) self.old → is_origin (d.world.nodes site).role ≡ true → (d.world.nodes site).state ≡ UpState → (d.world.nodes site).halted ≡ None → IsToldAt self.old
             → slice_get (links_of d.world site) k ≡ Some (kept_link link.old.site (d.world.links site link.old.site)) → link.old ≡ plain_link link.old.site (d.world.links site link.old.site) → FlightStands d.world.packets (N.flying flight.old)
             → PumpedIs d.world site link.old.site link.new (N.flying flight.new) (faults_at self.old) (faults_at self.new) result }
+        ensures stops { (beside : Beside) (n : Node) → StandsAt beside n self.old → IfErr result (PumpStop (faults_at self.old) (faults_at self.new)) }
         ensures stands { (beside : Beside) (n : Node) → StandsAt beside n self.old → StandsAt beside n self.new }
         ensures more { OnOk result (SendsMore (N.flying flight.old) (N.flying flight.new)) }
         ensures rule { (beside : Beside) (n : Node) → StandsAt beside n self.old → OnOk result (link.new ≡ pumped_at link.old n.safe) }

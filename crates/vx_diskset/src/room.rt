@@ -31,11 +31,11 @@ fn used_in<R: Rack>(rvg: &Rvg<R>, above: u64) -> Option<u64>
 
 impl<R: Rack> DiskSet<R> {
     /// The blocks of the log that the writes above a number take, at an origin that is up and runs. None for any other site, and where the log
-    /// does not hold all of them any more; where contents are told it does for the hold of each link that needs it.
+    /// does not hold all of them any more; where contents are told it does from the hold of each link on that needs it.
     pub fn used(&self, above: u64) -> Option<u64>
         ensures is { (beside : Beside) (n : Node) → StandsAt beside n self.now → n.state ≡ UpState → n.halted ≡ None → IfSome result (λ blocks. blocks ≡ taken (drop above n.log)) }
         ensures some { (beside : Beside) (n : Node) (k : ℕ) (l : KeptLink) → StandsAt beside n self.now → is_origin n.role ≡ true → n.state ≡ UpState → n.halted ≡ None → IsToldAt self.now
-            → slice_get beside.links k ≡ Some l → is_needing l ≡ true → above ≡ hold_of l → IsSome result }
+            → slice_get beside.links k ≡ Some l → is_needing l ≡ true → hold_of l ≤ above → IsSome result }
     {
         match self {
             DiskSet::Up(rvg) => used_in(rvg, above),

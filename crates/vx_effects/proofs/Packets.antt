@@ -107,7 +107,7 @@ counts_none true = refl
 counts_none false = refl
 
 -- no header is written
-no_header : (w v : World) (i : ℕ) (p : Packet) → v.links p.target p.source ≡ w.links p.target p.source → heard_headers w v i (Some p) ≡ 0
+pub no_header : (w v : World) (i : ℕ) (p : Packet) → v.links p.target p.source ≡ w.links p.target p.source → heard_headers w v i (Some p) ≡ 0
 no_header w v i p same =
     ap (λ (b : Bool). count_at p.target i (if b then 1 else 0)) (less_itself (w.links p.target p.source).stored (v.links p.target p.source).stored (ap (λ (l : Link). l.stored) same))
     ∙ counts_none (eqb p.target i)

@@ -18,7 +18,7 @@ use Rattle.vx_events.specs.Plain.{IsUnlinked, IsSized}
 use Rattle.vx_events.proofs.Refused.{crash_may, apply_may}
 use Rattle.vx_events.proofs.RefusedCalls.{write_may, put_may, read_may, show_may}
 use Rattle.vx_events.proofs.Steps.{crash_step, read_step, write_step, apply_step}
-use Rattle.vx_events.proofs.Testing.{seat_in, up_in, running_in, site_free, raw_free, called, call_of, can_put, write_primary, put_primary, blocks_filled}
+use Rattle.vx_events.proofs.Testing.{seat_in, up_in, running_in, site_free, raw_free, called, call_of, can_put, write_primary, put_primary, read_primary, blocks_filled}
 
 pub site_agrees : (w : World) (files : Bool) (name : List ℕ) (disks blocks : ℕ) → refusal_of (facts_of w) files (Site name disks blocks) ≡ None → (step w (MakeSite name disks blocks)).said ≡ Done
 site_agrees w files name disks blocks free = ap (λ (o : Outcome). o.said) (site_free w files name disks blocks free)
@@ -50,12 +50,12 @@ put_agrees w files name volume start bytes free one none sized below =
     (can_put w name volume start 1 bytes sized none may (omega (arith, one)) (put_primary w files name volume start bytes free) below))
 
 pub read_agrees : (w : World) (files : Bool) (name volume : List ℕ) (start count : ℕ) → refusal_of (facts_of w) files (Read name volume start count) ≡ None
-    → IsSized (w.nodes (site_number w name)) → (w.nodes (site_number w name)).role ≡ Primary
+    → IsSized (w.nodes (site_number w name))
     → (step w (ReadAt (site_number w name) (volume_number (w.nodes (site_number w name)) volume) start count)).said
     ≡ Got (joined_blocks (blocks_from (w.nodes (site_number w name)).base (volume_number (w.nodes (site_number w name)) volume) start count))
-read_agrees w files name volume start count free sized primary =
+read_agrees w files name volume start count free sized =
     ap (λ (o : Outcome). o.said) (read_step w (site_number w name) (volume_number (w.nodes (site_number w name)) volume) start count
-    (call_of w name volume start count (called w name volume start count sized (read_may (facts_of w) files name volume start count free)) primary))
+    (call_of w name volume start count (called w name volume start count sized (read_may (facts_of w) files name volume start count free)) (read_primary w files name volume start count free)))
 
 pub show_agrees : (w : World) (files : Bool) (name volume : List ℕ) (start count : ℕ) → refusal_of (facts_of w) files (Show name volume start count) ≡ None
     → IsSized (w.nodes (site_number w name)) → (w.nodes (site_number w name)).role ≡ Primary

@@ -4,6 +4,7 @@ pub mod Calm
 pub mod Keeping
 pub mod LinkAgreeing
 pub mod LinkJoining
+pub mod LinkSettling
 pub mod LinkSteps
 pub mod LinkStopping
 pub mod LinkTesting

@@ -124,7 +124,7 @@ sizes_same (x ∷ xs) (y ∷ ys) = ap (λ (b : Bool). (x.blocks == y.blocks) && 
 
 -- ---- the tests of the event
 
-first_halt : (one two : Option No) → before one (before two None) ≡ None → (one ≡ None) × (two ≡ None)
+pub first_halt : (one two : Option No) → before one (before two None) ≡ None → (one ≡ None) × (two ≡ None)
 first_halt None None e = (refl, refl)
 first_halt None (Some x) e = absurd (cc)
 first_halt (Some x) two e = absurd (cc)

@@ -5,7 +5,7 @@ use Rattle.vx_history.specs.Doubts.{Doubted}
 use Rattle.vx_history.specs.declared.event.Event.{Event}
 use Rattle.vx_script.specs.declared.line.ScriptLine.{ScriptLine}
 use Rattle.vx_events.specs.Lists.{Choice}
-use Rattle.vx_events.specs.Parts.{DonePart, MayStop, PartLeft, all_events, first_part, goes_in_parts, part_left}
+use Rattle.vx_events.specs.Parts.{DonePart, MayStop, PartLeft, StopsShort, StopsInPart, StopsBetween, all_events, first_part, goes_in_parts, part_left}
 
 -- any line may stop before its first event
 stops_first : (parts : Bool) → MayStop parts []
@@ -43,3 +43,17 @@ part_stops d line c k parts =
       stops = subst (λ (b : Bool). MayStop b (take k es)) (sym parts) tt;
       leads = is_left line d (take k es);
     }
+
+-- so it is over disks that tell no contents
+pub whole_short : (told : Type 0) (d : Doubted) (line : ScriptLine) (new : Doubted) → goes_in_parts line ≡ false → StopsShort told d line new → new ≡ d
+whole_short told d line new whole (StopsInPart part) = whole_stays d line new whole part
+whole_short told d line new whole (StopsBetween untold p s middle is moves left) =
+    absurd (settles (subst (λ (l : ScriptLine). goes_in_parts l ≡ false) is whole))
+  where
+    settles : true ≡ false → ⊥
+    settles e = absurd (cc)
+
+-- over disks that tell their contents it is a first part of the events
+pub told_part : (told : Type 0) (d : Doubted) (line : ScriptLine) (new : Doubted) → told → StopsShort told d line new → DonePart d line new
+told_part told d line new tells (StopsInPart part) = part
+told_part told d line new tells (StopsBetween untold p s middle is moves left) = absurd (untold tells)

@@ -23,7 +23,7 @@ use Rattle.vx_events.proofs.Refused.{Named}
 use Rattle.vx_events.proofs.RefusedCalls.{WriteMay, write_may, put_may}
 use Rattle.vx_events.proofs.StoppingCuts.{cut_like}
 use Rattle.vx_events.specs.Doubts.{run_as}
-use Rattle.vx_events.specs.Ends.{Ends, AllDone, DiskFails, HeaderFails, FuseRunsOut, NoNumber, ShowsReceived, Finds, FindsLinks, FindsNone, AppliesFound, place_of, LeavesOf, BegunOf, WritesAHeader}
+use Rattle.vx_events.specs.Ends.{Ends, AllDone, DiskFails, HeaderFails, FuseRunsOut, NoNumber, ShowsReceived, FindsLinks, FindsNone, place_of, LeavesOf, BegunOf, WritesAHeader}
 use Rattle.vx_events.specs.Facts.{site_number, group_fact, group_by}
 use Rattle.vx_events.specs.Fails.{Fails}
 use Rattle.vx_events.specs.Lines.{LineStep, StepBy, EndsBy, IsRefused, is_of_links}
@@ -292,10 +292,8 @@ module _ (told : Type 0) (is_told : told) (d : Doubted) (files : Bool) (line : S
         came = First (events_of d.world line c) refl;
         stops = all_stop false d [] fails new none (left_like s line false d d new leads);
       })
-  ended fails said new (Finds untold c taken site mid n k is from same none says leads) = absurd (untold is_told)
   ended fails said new (FindsLinks untold c taken site mid n k row is from comes none says leads) = absurd (untold is_told)
   ended fails said new (FindsNone untold c taken site mid n why is from other none says leads) = absurd (untold is_told)
-  ended fails said new (AppliesFound untold site to number is role least most none says leads) = absurd (untold is_told)
 
   -- of any kind
   ended_by_kind : (links : Bool) (fails : Fails) (said : Said) (new : Doubted) → EndsBy links told d line fails said new → StopsBy links d line fails new

@@ -18,8 +18,8 @@ use Rattle.vx_history.specs.Step.{outcome_of, done}
 use Rattle.vx_history.specs.Steps.{site_made, raw_made}
 use Rattle.vx_history.specs.World.{Node, World, Volume}
 use Rattle.vx_history.specs.declared.event.Event.TheVariants.{Site as MakeSite, Raw as MakeRaw}
-use Rattle.vx_script.specs.declared.line.ScriptLine.TheVariants.{Site, Raw, Write, Put}
-use Rattle.vx_order.specs.Calls.{is_primary, takes_calls, call_role, call_unknown, span_role, span_unknown}
+use Rattle.vx_script.specs.declared.line.ScriptLine.TheVariants.{Site, Raw, Write, Put, Read}
+use Rattle.vx_order.specs.Calls.{asks_role, is_primary, takes_calls, call_role, call_unknown, span_role, span_unknown}
 use Rattle.vx_order.specs.Order.{refusal_of}
 use Rattle.vx_order.specs.Shapes.{raw_size, taken, wrong_size}
 use Rattle.vx_order.specs.Sites.{site_named, volume_of, rvg_of}
@@ -31,14 +31,17 @@ use Rattle.vx_order.specs.declared.facts.SiteFacts.{SiteFacts}
 use Rattle.vx_order.specs.declared.facts.VolumeFacts.{VolumeFacts}
 use Rattle.vx_order.specs.declared.facts.VolumeKind.{VolumeKind}
 use Rattle.vx_order.specs.declared.facts.VolumeKind.TheVariants.{Data}
-use Rattle.vx_order.specs.declared.span.Way.TheVariants.{Writes}
+use Rattle.vx_order.specs.declared.span.Span.{Span}
+use Rattle.vx_order.specs.declared.span.Way.{Way}
+use Rattle.vx_order.specs.declared.span.Way.TheVariants.{Writes, Reads}
 use Rattle.vx_events.specs.Facts.{site_fact, facts_of, values_from, site_number, volume_fact, volume_number, place_of, group_by, group_fact}
 use Rattle.vx_events.specs.Lines.{write_in}
+use Rattle.vx_events.specs.LinkedFacts.{linked_fact}
 use Rattle.vx_events.specs.Plain.{IsUnlinked, IsSized}
 use Rattle.vx_events.proofs.Passing.{IsCall, neither}
 use Rattle.vx_events.proofs.Steps.{site_step, raw_step, CanPut}
 use Rattle.vx_events.proofs.Refused.{when_none, not_false, Named, passes, site_may, raw_may}
-use Rattle.vx_events.proofs.RefusedCalls.{CallMay, WriteMay, write_may, put_may}
+use Rattle.vx_events.proofs.RefusedCalls.{CallMay, WriteMay, write_may, put_may, read_may}
 use Rattle.vx_events.proofs.Places.{position_within, some_same}
 use Rattle.vx_events.proofs.Values.{length-values_from, slice_get-values_from}
 
@@ -125,34 +128,41 @@ role_by Bunker e = absurd (cc)
 pub primary_by : (kind : VolumeKind) (rvg : RvgFacts) → kind ≡ Data → when (true && not (takes_calls kind (Some rvg))) WrongRole ≡ None → rvg.role ≡ Primary
 primary_by kind rvg is e = role_by rvg.role (subst (λ (k : VolumeKind). when (true && not (takes_calls k (Some rvg))) WrongRole ≡ None) is e)
 
--- a data volume is written at a primary
-pub writes_primary : (found : Option VolumeFacts) (rvg : RvgFacts) (name : List ℕ) → ((v : VolumeFacts) → found ≡ Some v → v.kind ≡ Data) → call_unknown found name ≡ None → call_role (Some rvg) found Writes ≡ None → rvg.role ≡ Primary
-writes_primary None rvg name kind e role = absurd (cc)
-writes_primary (Some v) rvg name kind e role = primary_by v.kind rvg (kind v refl) role
+-- a data volume is written and read at a primary
+pub asks_primary : (found : Option VolumeFacts) (rvg : RvgFacts) (name : List ℕ) (way : Way) → asks_role way ≡ true → ((v : VolumeFacts) → found ≡ Some v → v.kind ≡ Data) → call_unknown found name ≡ None
+    → call_role (Some rvg) found way ≡ None → rvg.role ≡ Primary
+asks_primary None rvg name way asks kind e role = absurd (cc)
+asks_primary (Some v) rvg name way asks kind e role =
+    primary_by v.kind rvg (kind v refl) (subst (λ (b : Bool). when (b && not (takes_calls v.kind (Some rvg))) WrongRole ≡ None) asks role)
 
-pub primary_at : (n : Node) (volume : List ℕ) (start count : ℕ) → n.state ≡ IsUp
-    → span_unknown (Some (site_fact n)) (Some (record { volume = volume; start = start; count = count; way = Writes })) ≡ None
-    → span_role (Some (site_fact n)) (Some (record { volume = volume; start = start; count = count; way = Writes })) ≡ None → n.role ≡ Primary
-primary_at n volume start count up known role =
+pub led_at : (n : Node) (volume : List ℕ) (start count : ℕ) (way : Way) → asks_role way ≡ true → n.state ≡ IsUp
+    → span_unknown (Some (site_fact n)) (Some (record { volume = volume; start = start; count = count; way = way })) ≡ None
+    → span_role (Some (site_fact n)) (Some (record { volume = volume; start = start; count = count; way = way })) ≡ None → n.role ≡ Primary
+led_at n volume start count way asks up known role =
     let p : VolumeFacts → Bool = λ v. bytes_eq v.name volume in
     let found : Option VolumeFacts = find p (map volume_fact n.volumes) in
     let volume_is : volume_of (Some (site_fact n)) volume ≡ found = ap (λ (s : SiteState). if is_up s then found else None) up in
     let rvg_is : rvg_of (Some (site_fact n)) ≡ Some (group_fact n) = ap (λ (s : SiteState). if is_up s then group_by s n else None) up in
-    let role_led : call_role (Some (group_fact n)) (volume_of (Some (site_fact n)) volume) Writes ≡ None =
-    subst (λ (o : Option RvgFacts). call_role o (volume_of (Some (site_fact n)) volume) Writes ≡ None) rvg_is role in
-    writes_primary found (group_fact n) volume (found_data p n.volumes)
+    let role_led : call_role (Some (group_fact n)) (volume_of (Some (site_fact n)) volume) way ≡ None =
+    subst (λ (o : Option RvgFacts). call_role o (volume_of (Some (site_fact n)) volume) way ≡ None) rvg_is role in
+    asks_primary found (group_fact n) volume way asks (found_data p n.volumes)
     (subst (λ (o : Option VolumeFacts). call_unknown o volume ≡ None) volume_is known)
-    (subst (λ (o : Option VolumeFacts). call_role (Some (group_fact n)) o Writes ≡ None) volume_is role_led)
+    (subst (λ (o : Option VolumeFacts). call_role (Some (group_fact n)) o way ≡ None) volume_is role_led)
 
-pub primary_in : (w : World) (name volume : List ℕ) (start count : ℕ) (n : Named (facts_of w) name) → (w.nodes (site_number w name)).state ≡ IsUp
-    → span_unknown (site_named (facts_of w) name) (Some (record { volume = volume; start = start; count = count; way = Writes })) ≡ None
-    → span_role (site_named (facts_of w) name) (Some (record { volume = volume; start = start; count = count; way = Writes })) ≡ None → (w.nodes (site_number w name)).role ≡ Primary
-primary_in w name volume start count n up known role =
+pub primary_at : (n : Node) (volume : List ℕ) (start count : ℕ) → n.state ≡ IsUp
+    → span_unknown (Some (site_fact n)) (Some (record { volume = volume; start = start; count = count; way = Writes })) ≡ None
+    → span_role (Some (site_fact n)) (Some (record { volume = volume; start = start; count = count; way = Writes })) ≡ None → n.role ≡ Primary
+primary_at n volume start count up known role = led_at n volume start count Writes refl up known role
+
+pub primary_in : (w : World) (name volume : List ℕ) (start count : ℕ) (way : Way) (n : Named (facts_of w) name) → asks_role way ≡ true → (w.nodes (site_number w name)).state ≡ IsUp
+    → span_unknown (site_named (facts_of w) name) (Some (record { volume = volume; start = start; count = count; way = way })) ≡ None
+    → span_role (site_named (facts_of w) name) (Some (record { volume = volume; start = start; count = count; way = way })) ≡ None → (w.nodes (site_number w name)).role ≡ Primary
+primary_in w name volume start count way n asks up known role =
     let m : Node = w.nodes (site_number w name) in
     let site : site_named (facts_of w) name ≡ Some (site_fact m) = n.found ∙ ap (λ (f : SiteFacts). Some f) (seat_in w name n).1 in
-    primary_at m volume start count up
-    (subst (λ (o : Option SiteFacts). span_unknown o (Some (record { volume = volume; start = start; count = count; way = Writes })) ≡ None) site known)
-    (subst (λ (o : Option SiteFacts). span_role o (Some (record { volume = volume; start = start; count = count; way = Writes })) ≡ None) site role)
+    led_at m volume start count way asks up
+    (subst (λ (o : Option SiteFacts). span_unknown o (Some (record { volume = volume; start = start; count = count; way = way })) ≡ None) site known)
+    (subst (λ (o : Option SiteFacts). span_role o (Some (record { volume = volume; start = start; count = count; way = way })) ≡ None) site role)
 
 -- ---- runs of blocks
 
@@ -205,14 +215,32 @@ unfolding first_name span_of
 write_primary w files name volume start count fill free =
     let p = passes (facts_of w) files (Write name volume start count fill) free in
     let may = write_may (facts_of w) files name volume start count fill free in
-    primary_in w name volume start count may.call.site (up_in w name may.call.site may.call.up) p.volume p.call_role
+    primary_in w name volume start count Writes may.call.site refl (up_in w name may.call.site may.call.up) p.volume p.call_role
 
 pub put_primary : (w : World) (files : Bool) (name volume : List ℕ) (start : ℕ) (bytes : List ℕ) → refusal_of (facts_of w) files (Put name volume start bytes) ≡ None → (w.nodes (site_number w name)).role ≡ Primary
 unfolding first_name span_of
 put_primary w files name volume start bytes free =
     let p = passes (facts_of w) files (Put name volume start bytes) free in
     let may = put_may (facts_of w) files name volume start bytes free in
-    primary_in w name volume start 1 may.call.site (up_in w name may.call.site may.call.up) p.volume p.call_role
+    primary_in w name volume start 1 Writes may.call.site refl (up_in w name may.call.site may.call.up) p.volume p.call_role
+
+-- a read that no test refuses is at a primary
+pub read_primary : (w : World) (files : Bool) (name volume : List ℕ) (start count : ℕ) → refusal_of (facts_of w) files (Read name volume start count) ≡ None → (w.nodes (site_number w name)).role ≡ Primary
+unfolding first_name span_of
+read_primary w files name volume start count free =
+    let p = passes (facts_of w) files (Read name volume start count) free in
+    let may = read_may (facts_of w) files name volume start count free in
+    primary_in w name volume start count Reads may.site refl (up_in w name may.site may.up) p.volume p.call_role
+
+-- the same of the site that these facts, among others, are of
+pub read_role : (w : World) (s : ℕ) (sites : List SiteFacts) (files : Bool) (name volume : List ℕ) (start count : ℕ) (n : Named sites name) → n.facts ≡ linked_fact w s → (w.nodes s).state ≡ IsUp
+    → refusal_of sites files (Read name volume start count) ≡ None → (w.nodes s).role ≡ Primary
+unfolding first_name span_of
+read_role w s sites files name volume start count n is up free =
+    let p = passes sites files (Read name volume start count) free in
+    let span : Span = record { volume = volume; start = start; count = count; way = Reads } in
+    let there = n.found ∙ ap (λ (f : SiteFacts). Some f) is in
+    led_at (w.nodes s) volume start count Reads refl up (subst (λ (o : Option SiteFacts). span_unknown o (Some span) ≡ None) there p.volume) (subst (λ (o : Option SiteFacts). span_role o (Some span) ≡ None) there p.call_role)
 
 pub blocks_filled : (count fill : ℕ) → blocks_in (replicate (512 * count) fill) ≡ count
 blocks_filled count fill = let many : length (replicate (512 * count) fill) ≡ 512 * count = length-replicate {A = ℕ} (512 * count) fill in omega (arith, many)

@@ -1,6 +1,6 @@
 -- How the events of a line end where sites may be in doubt: all are done, or one of them is ended by a failing disk, by a fuse or by want of a
 -- number.
-use Rattle.std.specs.Prelude.{◌≡◌, ◌⊎◌, ℕ, ◌+◌, ◌≤◌, ◌<◌, min, Bool, List, [], ◌∷◌, ◌++◌, Some, false}
+use Rattle.std.specs.Prelude.{◌≡◌, ◌⊎◌, ℕ, ◌+◌, ◌≤◌, ◌<◌, Bool, List, [], ◌∷◌, ◌++◌, Some, false}
 use Rattle.vx_model.specs.Content.{blocks_from}
 use Rattle.vx_model.specs.declared.limits.TheConstants.{MOST_NUMBER}
 use Rattle.vx_model.specs.declared.no.Counted.TheVariants.{Number}
@@ -25,14 +25,14 @@ use Rattle.vx_events.specs.Doubts.{IsAs, run_as, with_disks}
 use Rattle.vx_events.specs.Facts.{site_number, volume_number}
 use Rattle.vx_events.specs.Failing.{is_failing, made_fail}
 use Rattle.vx_events.specs.Fails.{Fails, AreBorne}
-use Rattle.vx_events.specs.Found.{ComesUpAs, SameDisks}
+use Rattle.vx_events.specs.Found.{ComesUpAs}
 use Rattle.vx_history.specs.Stops.{IsFused}
 use Rattle.vx_events.specs.Lists.{Choice, events_of}
 use Rattle.vx_events.specs.LinkViews.{linked_view}
 use Rattle.vx_events.specs.Sayings.{Gives, Replies, received_content}
 use Rattle.vx_events.specs.Stamps.{most_stamp_at, waiting_of}
 use Rattle.vx_events.specs.declared.said.Said.{Said}
-use Rattle.vx_events.specs.declared.said.Said.TheVariants.{DoneAt, Recovered, Refused}
+use Rattle.vx_events.specs.declared.said.Said.TheVariants.{Recovered, Refused}
 
 -- the site of a line: of a `site` line the one that it makes
 abbrev pub place_of : World → ScriptLine → ℕ
@@ -116,11 +116,7 @@ pub data Recovering (d : Doubted) (s : ℕ) (c : Choice) (taken : Bool) (mid : D
   FromDown : (d.world.nodes s).state ≡ Down → mid ≡ d → n ≡ mid.world.nodes s → Recovering d s c taken mid n
   FromBare : (d.world.nodes s).state ≡ Bare → mid ≡ d → n ≡ raw_set s (d.world.nodes s) → Recovering d s c taken mid n
 
--- this node of the site came up
-abbrev pub found_up : Doubted → (site : ℕ) → Node → Doubted
-found_up d s k = record d { world = with_node d.world s k }
-
--- the same with these links, which the header of its log keeps; one that receives greets
+-- this node of the site came up with these links, which the header of its log keeps; one that receives greets
 abbrev pub found_linked : Doubted → (site : ℕ) → Node → (row : ℕ → Link) → Doubted
 found_linked d s k row = record d { world = sending (with_links (with_node d.world s k) s row) (recovery_greeting s k) }
 
@@ -148,18 +144,10 @@ pub data Ends (told : Type 0) (d : Doubted) (line : ScriptLine) (s : ℕ) (fails
   ShowsReceived : (site volume : List ℕ) (start count : ℕ) → line ≡ Show site volume start count → is_primary (d.world.nodes s).role ≡ false
       → Gives told count (HasGot (joined_blocks (blocks_from (received_content (d.world.nodes s)) (volume_number (d.world.nodes s) volume) start count))) said
       → fails ≡ [] → IsLeft s line false d d new → Ends told d line s fails said new
-  -- what stood on disks that tell no contents came up, or was refused
-  Finds : (told → ⊥) → (c : Choice) (taken : Bool) (site : List ℕ) (mid : Doubted) (n k : Node) → line ≡ Recover site → Recovering d s c taken mid n
-      → SameDisks n k → fails ≡ [] → said ≡ Recovered k.safe (linked_view (found_up mid s k).world s) → IsLeft s line taken d (found_up mid s k) new
-      → Ends told d line s fails said new
-  -- the same with the links that its header keeps
+  -- what stood on disks that tell no contents came up with the links that its header keeps, or was refused
   FindsLinks : (told → ⊥) → (c : Choice) (taken : Bool) (site : List ℕ) (mid : Doubted) (n k : Node) (row : ℕ → Link) → line ≡ Recover site
       → Recovering d s c taken mid n → ComesUpAs s mid.world.sites n k row → fails ≡ []
       → said ≡ Recovered k.safe (linked_view (found_linked mid s k row).world s) → IsLeft s line taken d (found_linked mid s k row) new
       → Ends told d line s fails said new
   FindsNone : (told → ⊥) → (c : Choice) (taken : Bool) (site : List ℕ) (mid : Doubted) (n : Node) (why : No) → line ≡ Recover site
       → Recovering d s c taken mid n → IsNoDevice why → fails ≡ [] → said ≡ Refused why → IsLeft s line taken d mid new → Ends told d line s fails said new
-  -- a site of another role that was found on them applies its log as a primary does
-  AppliesFound : (told → ⊥) → (site : List ℕ) (to number : ℕ) → line ≡ Apply site to → is_origin (d.world.nodes s).role ≡ false
-      → min to (d.world.nodes s).safe ≤ number → number ≤ (d.world.nodes s).safe → fails ≡ [] → said ≡ DoneAt number → IsLeft s line false d d new
-      → Ends told d line s fails said new

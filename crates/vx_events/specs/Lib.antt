@@ -19,6 +19,7 @@ pub mod Parts
 pub mod Plain
 pub mod Sayings
 pub mod Sent
+pub mod Settles
 pub mod Stamps
 pub mod Stopping
 pub mod Views

@@ -4,9 +4,11 @@ use Rattle.vx_history.specs.Doubts.{Doubted}
 use Rattle.vx_history.specs.World.{World}
 use Rattle.vx_history.specs.declared.event.Event.{Event}
 use Rattle.vx_script.specs.declared.line.ScriptLine.{ScriptLine}
-use Rattle.vx_script.specs.declared.line.ScriptLine.TheVariants.{Link, Settle}
+use Rattle.vx_script.specs.declared.line.ScriptLine.TheVariants.{Settle}
 use Rattle.vx_events.specs.Doubts.{run_as}
+use Rattle.vx_events.specs.Facts.{site_number}
 use Rattle.vx_events.specs.LinkEnds.{AreLeft, link_noted}
+use Rattle.vx_events.specs.LinkFinds.{MovesBetween}
 use Rattle.vx_events.specs.LinkLists.{link_events}
 use Rattle.vx_events.specs.Lists.{Choice, events_of}
 
@@ -14,9 +16,8 @@ use Rattle.vx_events.specs.Lists.{Choice, events_of}
 abbrev pub all_events : World → ScriptLine → Choice → List Event
 all_events w line c = events_of w line c ++ link_events w line
 
--- a line that takes memory between its events: one that makes a link, or settles it
+-- a line that takes memory between its events: one that settles a link
 abbrev pub goes_in_parts : ScriptLine → Bool
-goes_in_parts (Link p s sync prot) = true
 goes_in_parts (Settle p s) = true
 goes_in_parts other = false
 
@@ -38,6 +39,13 @@ pub record DonePart (d : Doubted) (line : ScriptLine) (new : Doubted) : Type 0 w
   pub list : all_events d.world line choice ≡ before ++ rest
   pub stops : MayStop (goes_in_parts line) before
   pub leads : PartLeft line d before new
+
+-- What want of memory leaves of a line. Over disks that tell no contents a link may be settled by updates of whatever blocks were read: then some of
+-- them, and of what answers them, was sent and delivered.
+pub data StopsShort (told : Type 0) (d : Doubted) (line : ScriptLine) (new : Doubted) : Type 0 where
+  StopsInPart : DonePart d line new → StopsShort told d line new
+  StopsBetween : (told → ⊥) → (p s : List ℕ) (middle : Doubted) → line ≡ Settle p s → MovesBetween (site_number d.world p) (site_number d.world s) d middle
+      → AreLeft line d middle new → StopsShort told d line new
 
 abbrev pub part_left : ScriptLine → Doubted → List Event → Doubted
 part_left line d [] = d

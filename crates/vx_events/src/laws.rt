@@ -18,7 +18,7 @@ ghost use Rattle.vx_events.specs.Facts.{facts_of, site_number, volume_number};
 ghost use Rattle.vx_events.specs.Fails.{Fails};
 ghost use Rattle.vx_events.specs.Lines.{LineStep, is_of_links};
 ghost use Rattle.vx_events.specs.Lists.{Choice};
-ghost use Rattle.vx_events.specs.Parts.{DonePart, first_part, goes_in_parts};
+ghost use Rattle.vx_events.specs.Parts.{DonePart, StopsShort, first_part, goes_in_parts};
 ghost use Rattle.vx_events.specs.Plain.{IsUnlinked, IsSized};
 ghost use Rattle.vx_events.specs.Stopping.{StopsBy};
 ghost use Rattle.vx_events.specs.declared.said.Said.{Said};
@@ -29,7 +29,7 @@ pub fn lets_every_write_in()
 {}
 
 /// Where no test of a line refuses, its event is not refused by the world: so there is one order of refusals. A write has to find a number,
-/// a world without links, and volumes as large as their table says; a read and an apply a site of the role that reads and applies.
+/// a world without links, and volumes as large as their table says; a read such volumes; a show those and a primary; and an apply a site where writes arise.
 pub fn tests_agree()
     ensures site { (w : World) (files : Bool) (name : List ℕ) (disks blocks : ℕ) → refusal_of (facts_of w) files (Site name disks blocks) ≡ None
         → (step w (MakeSite name disks blocks)).said ≡ Done }
@@ -46,7 +46,7 @@ pub fn tests_agree()
         → (step w (WriteAt (site_number w name) (volume_number (w.nodes (site_number w name)) volume) start bytes None)).said
         ≡ DoneAt ((w.nodes (site_number w name)).safe + 1) }
     ensures read { (w : World) (files : Bool) (name volume : List ℕ) (start count : ℕ) → refusal_of (facts_of w) files (Read name volume start count) ≡ None
-        → IsSized (w.nodes (site_number w name)) → (w.nodes (site_number w name)).role ≡ Primary
+        → IsSized (w.nodes (site_number w name))
         → (step w (ReadAt (site_number w name) (volume_number (w.nodes (site_number w name)) volume) start count)).said
         ≡ Got (joined_blocks (blocks_from (w.nodes (site_number w name)).base (volume_number (w.nodes (site_number w name)) volume) start count)) }
     ensures show { (w : World) (files : Bool) (name volume : List ℕ) (start count : ℕ) → refusal_of (facts_of w) files (Show name volume start count) ≡ None
@@ -65,8 +65,11 @@ pub fn lines_are_events()
         → StopsBy (is_of_links line) d line fails new }
 {}
 
-/// Where memory runs out within a line that does not go in parts nothing is done; of one that does, any first part of its events may be.
+/// Where memory runs out within a line that does not go in parts nothing is done, whether disks tell their contents or not; of one that does, any first
+/// part of its events may be, and where disks tell their contents nothing else.
 pub fn memory_leaves_a_part()
     ensures none { (d : Doubted) (line : ScriptLine) (new : Doubted) → goes_in_parts line ≡ false → DonePart d line new → new ≡ d }
     ensures any { (d : Doubted) (line : ScriptLine) (c : Choice) (k : ℕ) → goes_in_parts line ≡ true → DonePart d line (first_part d line c k) }
+    ensures short { (d : Doubted) (line : ScriptLine) (new : Doubted) → goes_in_parts line ≡ false → StopsShort ⊥ d line new → new ≡ d }
+    ensures told { (d : Doubted) (line : ScriptLine) (new : Doubted) → StopsShort (Unit {0}) d line new → DonePart d line new }
 {}

@@ -35,7 +35,7 @@ use Rattle.vx_diskset.specs.Asked.{LeavesFuse, disks_in, size_in}
 use Rattle.vx_diskset.specs.Burning.{Burnt, NoMore}
 use Rattle.vx_disk.specs.declared.shelf.Shelf.{Ghosts}
 use Rattle.vx_packet.specs.Assemblies.{Assembled}
-use Rattle.vx_peers.specs.Answers.{AnsweredAt, Listens, is_answer}
+use Rattle.vx_peers.specs.Answers.{AnsweredAt, Listens, PartAnsweredAt, is_answer}
 use Rattle.vx_peers.proofs.Hears.{event_for, outcome_is}
 use Rattle.vx_diskset.specs.DiskSets.{worked}
 use Rattle.vx_diskset.specs.Holds.{Beside, beside_of, links_of, row_links, state_with, sure_of}
@@ -43,7 +43,7 @@ use Rattle.vx_diskset.specs.Keeps.{CanKeep, KeptAt, kept_anew, restated}
 use Rattle.vx_diskset.specs.Needs.{hold_of, is_needing, mode_hold}
 use Rattle.vx_diskset.specs.Stands.{StandsAt}
 use Rattle.vx_diskset.specs.declared.disk_set.DiskSet.{DiskSet}
-use Rattle.vx_joins.specs.Hearings.{HeardAt, StoredIs, StoresAt, behind, is_plain_mode, links_stored, stored_at}
+use Rattle.vx_joins.specs.Hearings.{HeardAt, PartHeardAt, StoredIs, StoresAt, behind, is_plain_mode, links_stored, stored_at}
 
 -- ---- the rule keeps the mode of a link that goes by the log or by nothing, and what is stored does not fall
 
@@ -303,6 +303,14 @@ module _ (d : Doubted) (number : ℕ) (p : Packet) (at : packet_at d.world.packe
     heard_not old new l a (Refused why) stored = subst (λ (ls : List KeptLink). KeptAt (beside_of d s) (d.world.nodes s) (state_with (d.world.nodes s) ls) old new (Err why)) (sym links_now) stored
     heard_not old new l a OutOfMemory stored = stored
 
+    pub part_heard_ok : (old new : DiskSet R g) (l : PlainLink) (said : Said) → StoredIs (beside_of d s) (d.world.nodes s) p.source before now old new (Ok tt) → PartAnsweredAt d.world s p.source number l f said
+        → PartHeardAt d s p.source number old new l f (Ok said)
+    part_heard_ok old new l said stored answered = (answered, by_rose (ltb before now) refl new stored)
+
+    pub part_heard_not : (old new : DiskSet R g) (l : PlainLink) (stop : Stop) → StoredIs (beside_of d s) (d.world.nodes s) p.source before now old new (Err stop) → PartHeardAt d s p.source number old new l f (Err stop)
+    part_heard_not old new l (Refused why) stored = subst (λ (ls : List KeptLink). KeptAt (beside_of d s) (d.world.nodes s) (state_with (d.world.nodes s) ls) old new (Err why)) (sym links_now) stored
+    part_heard_not old new l OutOfMemory stored = stored
+
     -- the link is that of the world
     pub stored_as : (old new : DiskSet R g) (link heard : PlainLink) (result : Result (Unit {0}) Stop) → link ≡ plain_link p.source (d.world.links s p.source) → heard ≡ plain_link p.source ((behind d.world number).links s p.source)
         → StoredIs (beside_of d s) (d.world.nodes s) link.site link.stored heard.stored old new result → StoredIs (beside_of d s) (d.world.nodes s) p.source before now old new result
@@ -318,3 +326,7 @@ none_passed size (Some d) = (record { fuse = loses_none d.fuse; still = λ f fir
 
 pub called_none : {R : Type 0} {g : Ghosts R} (e : DiskSet R g) → LeavesFuse NoMore Done e e
 called_none e = record { told = none_passed (size_in e) (disks_in e) }
+
+-- a stop under any result
+pub stop_under : (T V : Type 0) (x y : Stop) → (let r : Result T Stop = Err x in r ≡ Err y) → (let r : Result V Stop = Err x in r ≡ Err y)
+stop_under T V x y e = let same : x ≡ y = cc in ap (λ (z : Stop). let r : Result V Stop = Err z in r) same

@@ -16,7 +16,7 @@ use Rattle.vx_events.specs.declared.said.Said.TheVariants.{Done, Refused as IsRe
 use Rattle.vx_disk.specs.declared.shelf.Shelf.{Ghosts}
 use Rattle.vx_net.specs.Flights.{Flying}
 use Rattle.vx_packet.specs.Assemblies.{Assembled}
-use Rattle.vx_peers.specs.Answers.{AnsweredAt}
+use Rattle.vx_peers.specs.Answers.{AnsweredAt, PartAnsweredAt}
 use Rattle.vx_diskset.specs.DiskSets.{worked}
 use Rattle.vx_diskset.specs.Holds.{Beside, beside_of, links_of, state_with}
 use Rattle.vx_diskset.specs.Keeps.{KeptAt}
@@ -79,3 +79,12 @@ module _ {R : Type 0} {g : Ghosts R} where
   HeardAt d site source number old new l a f (Err (Refused why)) =
       KeptAt (beside_of d site) (d.world.nodes site) (state_with (d.world.nodes site) (links_of (behind d.world number) site)) old new (Err why)
   HeardAt d site source number old new l a f (Err OutOfMemory) = StandsAt (beside_of d site) (d.world.nodes site) new
+
+  -- the same but for what is in assembly
+  abbrev pub PartHeardAt : (d : Doubted) → (site source number : ℕ) → DiskSet R g → DiskSet R g → PlainLink → Flying → Result Said Stop → Type 0
+  PartHeardAt d site source number old new l f (Ok said) =
+      PartAnsweredAt d.world site source number l f said
+      × StoresAt (beside_of d site) (d.world.nodes site) (ltb (d.world.links site source).stored ((behind d.world number).links site source).stored) (links_of (behind d.world number) site) new
+  PartHeardAt d site source number old new l f (Err (Refused why)) =
+      KeptAt (beside_of d site) (d.world.nodes site) (state_with (d.world.nodes site) (links_of (behind d.world number) site)) old new (Err why)
+  PartHeardAt d site source number old new l f (Err OutOfMemory) = StandsAt (beside_of d site) (d.world.nodes site) new

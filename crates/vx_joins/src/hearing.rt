@@ -1,5 +1,5 @@
 // A greeting or an acknowledgement that a link of a site hears, and the header that it may write.
-ghost use Rattle.std.specs.Prelude.{◌≡◌, ◌<◌, ◌≤◌, ◌^◌, ℕ, Some, None, OnErr, length, slice_get, true};
+ghost use Rattle.std.specs.Prelude.{◌≡◌, ◌<◌, ◌≤◌, ◌^◌, ℕ, Err, Some, None, OnErr, length, slice_get, true};
 ghost use Rattle.vx_model.specs.declared.limits.TheConstants.{LINK_PLACES};
 ghost use Rattle.vx_courier.specs.Together.{AreOne, AssemblyStands};
 ghost use Rattle.vx_courier.specs.UnderWay.{FlightStands};
@@ -7,6 +7,7 @@ ghost use Rattle.vx_history.specs.Doubts.{Doubted};
 ghost use Rattle.vx_history.specs.Events.{packet_at};
 ghost use Rattle.vx_history.specs.LinkForms.{plain_link};
 ghost use Rattle.vx_history.specs.World.{Node, Packet};
+ghost use Rattle.vx_model.specs.declared.no.No.{No as NoValue};
 ghost use Rattle.vx_model.specs.declared.site.SiteState.TheVariants.{Up as UpState};
 ghost use Rattle.vx_model.specs.declared.state.KeptLink.{KeptLink as KeptValue};
 ghost use Rattle.vx_peers.specs.Answers.{is_answer};
@@ -16,7 +17,7 @@ ghost use Rattle.vx_diskset.specs.Burning.{NoMore};
 ghost use Rattle.vx_diskset.specs.DiskSets.{Later};
 ghost use Rattle.vx_diskset.specs.Holds.{Beside, beside_of, links_of, state_with};
 ghost use Rattle.vx_diskset.specs.Stands.{KeepsRole, StandsAt};
-ghost use Rattle.vx_joins.specs.Hearings.{HeardAt, IsListening, StoredIs, links_stored, reply_by};
+ghost use Rattle.vx_joins.specs.Hearings.{HeardAt, IsListening, PartHeardAt, StoredIs, behind, links_stored, reply_by};
 
 use vx_disk::Rack;
 use vx_diskset::DiskSet;
@@ -73,6 +74,8 @@ fn keep_stored<R: Rack>(
     ensures kept { (beside : Beside) (n : Node) → StandsAt beside n disks.old → n.state ≡ UpState → n.halted ≡ None → state.now ≡ state_with n beside.links
         → ((k : ℕ) (x : KeptValue) → slice_get beside.links k ≡ Some x → x.site ≡ to → x.stored ≤ stored) → StoredIs beside n to old stored disks.old disks.new result }
     ensures called { (beside : Beside) (n : Node) → StandsAt beside n disks.old → LeavesFuse NoMore (reply_by result) disks.old disks.new }
+    ensures short { result ≡ Err Stop.OutOfMemory → disks.new ≡ disks.old }
+    ensures rises { (why : NoValue) → result ≡ Err (Stop.No why) → old < stored }
     ensures role { KeepsRole disks.old disks.new }
     ensures later { Later disks.old disks.new }
 {
@@ -110,7 +113,18 @@ pub fn hear<R: Rack, N: Net>(
         → AssemblyStands d.world.packets site (d.world.gathering site) assembly.old → StandsAt (beside_of d site) (d.world.nodes site) disks.old
         → state.now ≡ state_with (d.world.nodes site) (links_of d.world site)
         → HeardAt d site p.source number disks.old disks.new link.new assembly.new (N.flying flight.now) result }
+    // Whatever is in assembly, as where contents are not told.
+    ensures part { (d : Doubted) (p : Packet) (site : ℕ) → packet_at d.world.packets number ≡ Some p → p.target ≡ site → is_answer p.message ≡ true
+        → FlightStands d.world.packets (N.flying flight.now) → IsListening (d.world.nodes site) (d.world.links site p.source) → link.old ≡ plain_link p.source (d.world.links site p.source)
+        → StandsAt (beside_of d site) (d.world.nodes site) disks.old → state.now ≡ state_with (d.world.nodes site) (links_of d.world site)
+        → PartHeardAt d site p.source number disks.old disks.new link.new (N.flying flight.now) result }
     ensures called { (beside : Beside) (n : Node) → StandsAt beside n disks.old → LeavesFuse NoMore (reply_by result) disks.old disks.new }
+    ensures short { result ≡ Err Stop.OutOfMemory → disks.new ≡ disks.old }
+    // A header is refused where the link comes to count more as stored.
+    ensures rises { (d : Doubted) (p : Packet) (site : ℕ) (why : NoValue) → packet_at d.world.packets number ≡ Some p → p.target ≡ site → is_answer p.message ≡ true
+        → FlightStands d.world.packets (N.flying flight.now) → IsListening (d.world.nodes site) (d.world.links site p.source) → link.old ≡ plain_link p.source (d.world.links site p.source)
+        → StandsAt (beside_of d site) (d.world.nodes site) disks.old → state.now ≡ state_with (d.world.nodes site) (links_of d.world site) → result ≡ Err (Stop.No why)
+        → (d.world.links site p.source).stored < ((behind d.world number).links site p.source).stored }
     ensures link { OnErr result (link.new ≡ link.old) }
     ensures assembly { OnErr result (assembly.new ≡ assembly.old) }
     ensures role { KeepsRole disks.old disks.new }

@@ -113,6 +113,9 @@ picks : (b : Bool) (o : Option LinkFacts) (l : LinkFacts) → (if b then o else 
 picks true o l e = (refl, e)
 picks false o l e = absurd (never_some e)
 
+pub between_so : (sites : List SiteFacts) (target source : ℕ) (l : LinkFacts) → hearing sites target source ≡ Some l → fact_between sites target source ≡ Some l
+between_so sites target source l is = (picks (listens (slice_get sites target)) (fact_between sites target source) l is).1
+
 pub site_shown : (w : World) (i : ℕ) → i < w.sites → slice_get (linked_facts w) i ≡ Some (linked_fact w i)
 site_shown w i below = let start : 0 + i ≡ i = omega arith in slice_get-values_from (λ j. linked_fact w j) 0 w.sites i below ∙ ap (λ (j : ℕ). Some (linked_fact w j)) start
 

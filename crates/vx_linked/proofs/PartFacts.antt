@@ -6,6 +6,7 @@ use Rattle.std.specs.List.{find}
 use Rattle.std.specs.Prelude.{Option, Some, None, drop, not, ◌&&◌, ◌||◌, eqb, slice_get, slice_index_or, slice_set, if◌then◌else◌}
 use Rattle.vx_model.specs.Content.{Write}
 use Rattle.vx_model.specs.Sites.{first_line, is_origin, same_line}
+use Rattle.vx_model.specs.declared.history.Line.{Line}
 use Rattle.vx_model.specs.declared.link.Link.{Link as PlainLink}
 use Rattle.vx_model.specs.declared.link.Prot.TheVariants.{Fail}
 use Rattle.vx_model.specs.declared.link.SyncMode.{SyncMode}
@@ -45,7 +46,7 @@ use Rattle.vx_effects.proofs.Tests
 use Rattle.vx_effects.specs.Facts.{fact_of, marked_fact}
 use Rattle.vx_effects.specs.LinkParts.{further_fact, joined_fact}
 use Rattle.vx_linked.specs.Making.{fresh_link, kept_each, opened_link}
-use Rattle.vx_linked.specs.Tables.{fact_between, leads_to, link_of}
+use Rattle.vx_linked.specs.Tables.{HasLinksOf, fact_between, leads_to, link_of}
 use Rattle.vx_linked.proofs.Heard.{among_found, site_shown}
 use Rattle.vx_linked.proofs.Loops.{got}
 
@@ -70,6 +71,17 @@ put_site w sites s d new g facts below inside is =
 
 -- ---- a site that joins
 
+-- the links of all sites stay
+pub joined_links : (line parent : Line) (sites : List SiteFacts) (s : ℕ) (d new : SiteFacts) → s < length sites → new ≡ joined_fact line parent (slice_index_or sites s d)
+    → (k : ℕ) (site : SiteFacts) → slice_get (slice_set sites s new) k ≡ Some site → HasLinksOf sites k site
+joined_links line parent [] s d new inside is k site there = absurd (omega (arith, inside))
+joined_links line parent (f ∷ fs) zero d new inside is zero site there = record { other = f; there = refl; links = ap (λ (x : SiteFacts). x.links) (sym (some_same there) ∙ is) }
+joined_links line parent (f ∷ fs) zero d new inside is (suc k) site there = record { other = site; there = there; links = refl }
+joined_links line parent (f ∷ fs) (suc s) d new inside is zero site there = record { other = site; there = there; links = refl }
+joined_links line parent (f ∷ fs) (suc s) d new inside is (suc k) site there =
+    let rest = joined_links line parent fs s d new (omega (arith, inside)) is k site there in
+    record { other = rest.other; there = rest.there; links = rest.links }
+
 below_none : (n : ℕ) (test : ℕ → Bool) → some_below n test ≡ false → (k : ℕ) → k < n → test k ≡ false
 below_none zero test none k less = absurd (omega (arith, less))
 below_none (suc m) test none k less = by (eqb k m) (λ e. same e) (λ e. below_none m test (rest (test m) (some_below m test) none) k (other e))
@@ -92,16 +104,20 @@ below_none (suc m) test none k less = by (eqb k m) (λ e. same e) (λ e. below_n
     by b yes_so no_so = ⊎_elim yes_so no_so (cases_eq k m)
 
 module _ (w : World) (p s : ℕ) (sync : SyncMode) where
-  fresh_row : (step w (LinkAt p s sync Joins)).said ≡ Done → (k : ℕ) → k < w.sites → is_linked (w.links s k) ≡ false
-  fresh_row said =
+  -- the second site is a primary that logged nothing and has no links
+  pub joins_fresh : (step w (LinkAt p s sync Joins)).said ≡ Done → is_fresh w s ≡ true
+  joins_fresh said =
       let may : may_link w p s ≡ true = (joins_done w p s sync said).0 in
       let first : Bool = same_line (w.nodes p).line (first_line p) in
       let r1 = and_right (is_primary (w.nodes p).role) (not (eqb s p) && (is_empty (w.nodes p).log && (first && is_fresh w s))) may in
       let r2 = and_right (not (eqb s p)) (is_empty (w.nodes p).log && (first && is_fresh w s)) r1 in
       let r3 = and_right (is_empty (w.nodes p).log) (first && is_fresh w s) r2 in
-      let fresh : is_fresh w s ≡ true = and_right first (is_fresh w s) r3 in
+      and_right first (is_fresh w s) r3
+
+  pub fresh_row : (step w (LinkAt p s sync Joins)).said ≡ Done → (k : ℕ) → k < w.sites → is_linked (w.links s k) ≡ false
+  fresh_row said =
       let none : Bool = not (some_below w.sites (λ k. is_linked (w.links s k))) in
-      let r4 = and_right (is_primary (w.nodes s).role) (is_empty (w.nodes s).log && none) fresh in
+      let r4 = and_right (is_primary (w.nodes s).role) (is_empty (w.nodes s).log && none) (joins_fresh said) in
       let r5 : none ≡ true = and_right (is_empty (w.nodes s).log) none r4 in
       below_none w.sites (λ k. is_linked (w.links s k)) (is_false (some_below w.sites (λ k. is_linked (w.links s k))) r5)
     where

@@ -8,7 +8,7 @@ use Rattle.vx_history.specs.Headers.{is_refused}
 use Rattle.vx_history.specs.LinkForms.{plain_link, with_plain}
 use Rattle.vx_history.specs.Refusals.{Outcome, unless, when_live}
 use Rattle.vx_history.specs.Sending.{Sent, by_log, pumped_up_to, with_nothing}
-use Rattle.vx_history.specs.Step.{done, outcome_of}
+use Rattle.vx_history.specs.Step.{done, outcome_of, step}
 use Rattle.vx_history.specs.World.{Link, Node, World, updated}
 use Rattle.vx_history.specs.declared.event.Event.TheVariants.{Pump as PumpAt}
 use Rattle.vx_history.specs.declared.event.Said.{Said}
@@ -77,15 +77,32 @@ module _ (w : World) (from to : List ℕ) (free : IsFree (linked_facts w) (PumpL
       let r2 = next live paused up r1 in
       on ∙ up ∙ peel l.paused Paused w o r2
 
-  pub pump_comes : (new : List SiteFacts) (k : PlainLink) (f : Flying) → Relinked from to k (linked_facts w) new → k ≡ plain_link b ((link_event w a b Pump).links a b) → FlightStands (link_event w a b Pump).packets f
-      → ComesTo w (PumpAt a b) new f
-  pump_comes new k f t is flight =
+  pump_facts : (new : List SiteFacts) (k : PlainLink) → Relinked from to k (linked_facts w) new → k ≡ plain_link b ((link_event w a b Pump).links a b) → new ≡ linked_facts (link_event w a b Pump)
+  pump_facts new k t is =
       let up = (on_link w from to (pump_tested (linked_facts w) from to free)).up in
       let plain : k ≡ plain_link b next_link = is ∙ ap (plain_link b) link_is in
-      let facts : new ≡ linked_facts (link_event w a b Pump)
-      = t.new_is
+      t.new_is
       ∙ ap (λ (x : LinkFacts). relinked (linked_facts w) t.at.here t.at.site t.at.place (record x { link = k })) (link_there w from to t.at up)
       ∙ ap (λ (j : PlainLink). relinked (linked_facts w) t.at.here t.at.site t.at.place (let x : LinkFacts = record { link = j; used = needed_by n b l } in x)) plain
       ∙ ap (λ (u : ℕ). relinked (linked_facts w) t.at.here t.at.site t.at.place (let x : LinkFacts = record { link = plain_link b next_link; used = u } in x)) (sym used_same)
-      ∙ relinked_is w from to t.at up next_link refl in
-      comes w (PumpAt a b) new f (done (link_event w a b Pump)) outcome_is refl facts flight
+      ∙ relinked_is w from to t.at up next_link refl
+
+  -- the link as its rule leaves it
+  again : plain_link b next_link ≡ (link_step w a b Pump).link
+  again =
+      by_test (λ (t : Sent). plain_link b (with_plain l t.link) ≡ t.link) (is_live (plain_link b l) && by_log l.mode)
+      (pumped_up_to (plain_link b l) (max l.sent l.stored) (min n.safe (l.net + MOST_AHEAD))) (with_nothing (plain_link b l))
+      (λ live. up_to (max l.sent l.stored) (min n.safe (l.net + MOST_AHEAD))) (λ dead. refl)
+    where
+      up_to : (low high : ℕ) → (let t : Sent = pumped_up_to (plain_link b l) low high in plain_link b (with_plain l t.link) ≡ t.link)
+      up_to low high =
+          by_test (λ (t : Sent). plain_link b (with_plain l t.link) ≡ t.link) (ltb low high)
+          (let t : Sent = record { link = record (plain_link b l) { sent = high }; action = Updates (low + 1) high } in t) (with_nothing (record (plain_link b l) { sent = low })) (λ more. refl) (λ none. refl)
+
+  pub pump_by_rule : (new : List SiteFacts) (k : PlainLink) → Relinked from to k (linked_facts w) new → k ≡ (link_step w a b Pump).link → new ≡ linked_facts (step w (PumpAt a b)).world
+  pump_by_rule new k t is =
+      pump_facts new k t (is ∙ sym again ∙ ap (plain_link b) (sym link_is)) ∙ ap (λ (o : Outcome). linked_facts o.world) (sym outcome_is)
+
+  pub pump_comes : (new : List SiteFacts) (k : PlainLink) (f : Flying) → Relinked from to k (linked_facts w) new → k ≡ plain_link b ((link_event w a b Pump).links a b) → FlightStands (link_event w a b Pump).packets f
+      → ComesTo w (PumpAt a b) new f
+  pump_comes new k f t is flight = comes w (PumpAt a b) new f (done (link_event w a b Pump)) outcome_is refl (pump_facts new k t is) flight

@@ -62,3 +62,9 @@ pub record HasPlace (sites : List SiteFacts) (from to : ℕ) : Type 0 where
   pub placed : IsSome (place_to to site.links)
   pub found : LinkFacts
   pub found_is : fact_between sites from to ≡ Some found
+
+-- the site in a place has the links of this one
+pub record HasLinksOf (sites : List SiteFacts) (k : ℕ) (site : SiteFacts) : Type 0 where
+  pub other : SiteFacts
+  pub there : slice_get sites k ≡ Some other
+  pub links : site.links ≡ other.links

@@ -53,6 +53,7 @@ fn find_hearing(sites: &[SiteFacts], target: usize, source: u32) -> Option<LinkF
 /// packet.
 pub fn hearing_link(sites: &[SiteFacts], target: usize, source: u32) -> Option<LinkFacts>
     ensures link { result ≡ hearing sites.now target source }
+    ensures between { (l : LinkValue) → result ≡ Some l → fact_between sites.now target source ≡ Some l }
     ensures hears { (w : World) (l : LinkValue) → sites.now ≡ linked_facts w → result ≡ Some l → Hears w target source l }
     ensures deaf { (w : World) (p : Packet) (e : SEvent) → sites.now ≡ linked_facts w → result ≡ None → p.target ≡ target → p.source ≡ source
         → target < w.sites → source < w.sites → AreListed w → heard w p p.message ≡ link_heard w p e → handed w p ≡ says w Ignored }

@@ -12,6 +12,7 @@ ghost use Rattle.vx_order.specs.declared.facts.SiteFacts.{SiteFacts as SiteValue
 ghost use Rattle.vx_events.specs.LinkedFacts.{linked_facts};
 ghost use Rattle.vx_effects.specs.Facts.{marked_fact};
 ghost use Rattle.vx_effects.specs.LinkParts.{further_fact, joined_fact};
+ghost use Rattle.vx_linked.specs.Tables.{HasLinksOf};
 
 use crate::keeping::{link_between, put_link};
 use crate::making::{new_link, opened, with_setting};
@@ -46,6 +47,7 @@ pub fn keep_joined(sites: &mut [SiteFacts], here: usize, there: usize)
     requires second { there < length sites.old }
     ensures world { (w : World) (sync : SyncValue) → sites.old ≡ linked_facts w → (step w (LinkAt here there sync Joins)).said ≡ Done
         → sites.new ≡ linked_facts (step w (LinkAt here there sync Joins)).world }
+    ensures links { (k : ℕ) (site : SiteValue) → slice_get sites.new k ≡ Some site → HasLinksOf sites.old k site }
 {
     if let Some(first) = group_of(&sites[here]) {
         join_site(&mut sites[there], first.line, first.parent);

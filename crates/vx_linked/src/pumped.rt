@@ -3,8 +3,9 @@ ghost use Rattle.std.specs.Prelude.{◌≡◌, ◌<◌, Some, length, slice_get}
 ghost use Rattle.vx_courier.specs.UnderWay.{FlightStands};
 ghost use Rattle.vx_events.specs.Facts.{site_number};
 ghost use Rattle.vx_events.specs.LinkedFacts.{linked_facts};
-ghost use Rattle.vx_history.specs.Events.{link_event};
+ghost use Rattle.vx_history.specs.Events.{link_event, link_step};
 ghost use Rattle.vx_history.specs.LinkForms.{plain_link};
+ghost use Rattle.vx_history.specs.Step.{step};
 ghost use Rattle.vx_history.specs.World.{World};
 ghost use Rattle.vx_history.specs.declared.event.Event.TheVariants.{Pump as PumpAt};
 ghost use Rattle.vx_history.specs.declared.sender.SEvent.TheVariants.{Pump as PumpLink};
@@ -40,6 +41,9 @@ pub fn keep_pumped(sites: &mut [SiteFacts], from: &Name, to: &Name, link: &Link)
         ((link_event w (site_number w from.now) (site_number w to.now) PumpLink).links (site_number w from.now) (site_number w to.now))
         → FlightStands (link_event w (site_number w from.now) (site_number w to.now) PumpLink).packets f
         → ComesTo w (PumpAt (site_number w from.now) (site_number w to.now)) sites.new f }
+    // Whatever was sent: the link is as its rule leaves it.
+    ensures facts { (w : World) → sites.old ≡ linked_facts w → link.now ≡ (link_step w (site_number w from.now) (site_number w to.now) PumpLink).link
+        → sites.new ≡ linked_facts (step w (PumpAt (site_number w from.now) (site_number w to.now))).world }
 {
     relink(sites, from, to, link);
 }

@@ -34,7 +34,7 @@ use Rattle.vx_packet.specs.declared.assembly.Taken.TheVariants as put
 use Rattle.vx_packet.specs.declared.message.Message.{Message as Spelled}
 use Rattle.vx_packet.specs.declared.part.Part.{Part}
 use Rattle.vx_parts.specs.Spelling.{spelled}
-use Rattle.vx_peers.specs.Answers.{LinkStandsFor, Listens, event_in, is_answer}
+use Rattle.vx_peers.specs.Answers.{LinkStandsFor, Listens, PartStandsFor, event_in, is_answer}
 use Rattle.vx_peers.proofs.Found.{ReadSo}
 use Rattle.vx_peers.proofs.Links.{data_again, hello_again, net_again}
 
@@ -132,13 +132,25 @@ module _ (w : World) (number : ℕ) (p : Packet) (at : packet_at w.packets numbe
       link_is k is
       ∙ sym (ap (λ (f : ℕ → ℕ → Link). plain_link p.source (f p.target p.source)) (ap (λ (o : Outcome). o.world.links) outcome_is ∙ gathered_links (is_taken (said_of_link r.action)) after))
 
-  module _ (a : Assembled) (stands : AssemblyStands w.packets p.target (w.gathering p.target) a) where
-    said_ignored : (x : Action) → (x ≡ Taken → ⊥) → said_of_link x ≡ IsIgnored
-    said_ignored Nothing other = refl
-    said_ignored Ignored other = refl
-    said_ignored Taken other = absurd (other refl)
-    said_ignored (Updates from to) other = refl
+  said_ignored : (x : Action) → (x ≡ Taken → ⊥) → said_of_link x ≡ IsIgnored
+  said_ignored Nothing other = refl
+  said_ignored Ignored other = refl
+  said_ignored Taken other = absurd (other refl)
+  said_ignored (Updates from to) other = refl
 
+  -- but for what is in assembly
+
+  pub part_ignored : (k : PlainLink) → k ≡ r.link → (r.action ≡ Taken → ⊥) → PartStandsFor (delivered w number (packet_at w.packets number)) p.target p.source k f IsIgnored
+  part_ignored k is other =
+      subst (λ (o : Outcome). PartStandsFor o p.target p.source k f IsIgnored) (sym (outcome_is ∙ ap (λ (s : Said). gathers p (says after s)) (said_ignored r.action other)))
+      (record { says = refl; link = link_is k is; flight = flight })
+
+  pub part_taken : (k : PlainLink) → k ≡ r.link → r.action ≡ Taken → PartStandsFor (delivered w number (packet_at w.packets number)) p.target p.source k f IsTaken
+  part_taken k is took =
+      subst (λ (o : Outcome). PartStandsFor o p.target p.source k f IsTaken) (sym (outcome_is ∙ ap (λ (x : Action). gathers p (says after (said_of_link x))) took))
+      (record { says = refl; link = link_is k is; flight = flight })
+
+  module _ (a : Assembled) (stands : AssemblyStands w.packets p.target (w.gathering p.target) a) where
     pub ignored_so : (k : PlainLink) → k ≡ r.link → (r.action ≡ Taken → ⊥) → LinkStandsFor (delivered w number (packet_at w.packets number)) p.target p.source k a f IsIgnored
     ignored_so k is other =
         subst (λ (o : Outcome). LinkStandsFor o p.target p.source k a f IsIgnored) (sym (outcome_is ∙ ap (λ (s : Said). gathers p (says after s)) (said_ignored r.action other)))

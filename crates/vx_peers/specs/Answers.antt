@@ -51,3 +51,12 @@ pub record LinkStandsFor (o : Outcome) (site source : ℕ) (l : PlainLink) (a : 
 
 abbrev pub AnsweredAt : World → (site source number : ℕ) → PlainLink → Assembled → Flying → Said → Type 0
 AnsweredAt w site source number l a f said = LinkStandsFor (delivered w number (packet_at w.packets number)) site source l a f said
+
+-- the same but for what is in assembly
+pub record PartStandsFor (o : Outcome) (site source : ℕ) (l : PlainLink) (f : Flying) (said : Said) : Type 0 where
+  pub says : said ≡ o.said
+  pub link : l ≡ plain_link source (o.world.links site source)
+  pub flight : FlightStands o.world.packets f
+
+abbrev pub PartAnsweredAt : World → (site source number : ℕ) → PlainLink → Flying → Said → Type 0
+PartAnsweredAt w site source number l f said = PartStandsFor (delivered w number (packet_at w.packets number)) site source l f said

@@ -5,7 +5,7 @@ ghost use Rattle.vx_courier.specs.UnderWay.{FlightStands};
 ghost use Rattle.vx_history.specs.Events.{delivered, packet_at};
 ghost use Rattle.vx_history.specs.LinkForms.{plain_link};
 ghost use Rattle.vx_history.specs.World.{Packet, World};
-ghost use Rattle.vx_peers.specs.Answers.{AnsweredAt, Listens, event_in, is_answer};
+ghost use Rattle.vx_peers.specs.Answers.{AnsweredAt, Listens, PartAnsweredAt, event_in, is_answer};
 
 use vx_courier::read_one;
 use vx_history::Said;
@@ -47,10 +47,14 @@ pub fn deliver_answer<N: Net>(
     flight: &N,
     number: u64,
 ) -> Said
-    ensures { (w : World) (p : Packet) (site : ℕ) → packet_at w.packets number ≡ Some p → p.target ≡ site → is_answer p.message ≡ true → AreOne w.packets
+    ensures exact { (w : World) (p : Packet) (site : ℕ) → packet_at w.packets number ≡ Some p → p.target ≡ site → is_answer p.message ≡ true → AreOne w.packets
         → FlightStands w.packets (N.flying flight.now) → Listens (w.nodes site) (w.links site p.source) safe line.now → link.old ≡ plain_link p.source (w.links site p.source)
         → AssemblyStands w.packets site (w.gathering site) assembly.old
         → AnsweredAt w site p.source number link.new assembly.new (N.flying flight.now) result }
+    // Whatever is in assembly: it is one part.
+    ensures part { (w : World) (p : Packet) (site : ℕ) → packet_at w.packets number ≡ Some p → p.target ≡ site → is_answer p.message ≡ true
+        → FlightStands w.packets (N.flying flight.now) → Listens (w.nodes site) (w.links site p.source) safe line.now → link.old ≡ plain_link p.source (w.links site p.source)
+        → PartAnsweredAt w site p.source number link.new (N.flying flight.now) result }
 {
     let Some(bytes) = flight.get(number) else {
         return Said::Ignored;

@@ -1,6 +1,7 @@
 -- Each clause is its theorem.
 use Rattle.vx_events.proofs.LinkAgreeing.{set_agrees, connect_agrees, cut_agrees, pause_agrees, resume_agrees, tick_agrees, pump_agrees, packet_agrees}
 use Rattle.vx_events.proofs.LinkJoining.{join_agrees}
+use Rattle.vx_events.proofs.LinkSettling.{may_settle, settle_agrees}
 use Rattle.vx_events.proofs.LinkWaiting.{wait_agrees}
 use Rattle.vx_events.proofs.link_laws.link_tests_agree.Goals as goal
 
@@ -16,4 +17,6 @@ returns c = record {
   link = join_agrees;
   wait = wait_agrees;
   deliver = packet_agrees;
+  settle = settle_agrees;
+  settles = may_settle;
 }

@@ -1,10 +1,13 @@
 use Rattle.std.proofs.Common.{◌∙◌, ◌<◌, ℕ, ap, sym, subst}
 use Rattle.vx_linked.specs.Hearings.{hearing}
-use Rattle.vx_linked.proofs.Heard.{deaf_so, hears_so}
+use Rattle.vx_linked.proofs.Heard.{between_so, deaf_so, hears_so}
 use Rattle.vx_linked.proofs.hearing.hearing_link.Goals as goal
 
 pub returns-clause-hears : goal.returns-clause-hears
 returns-clause-hears c = λ w l is some. hears_so w c.args.sites.now c.args.target c.args.source l is (sym c.find_hearing.ensures ∙ some)
+
+pub returns-clause-between : goal.returns-clause-between
+returns-clause-between c = λ l some. between_so c.args.sites.now c.args.target c.args.source l (sym c.find_hearing.ensures ∙ some)
 
 pub returns-clause-deaf : goal.returns-clause-deaf
 returns-clause-deaf c = λ w p e is none target source below small listed heard.

@@ -1,0 +1,5 @@
+pub mod Kinds
+pub mod Turning
+pub mod Ending
+pub mod Between
+pub mod Works
