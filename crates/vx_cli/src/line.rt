@@ -33,6 +33,7 @@ fn is_built(line: &ScriptLine) -> bool
         | ScriptLine::Cut { .. }
         | ScriptLine::Pause { .. }
         | ScriptLine::Resume { .. }
+        | ScriptLine::Pump { .. }
         | ScriptLine::Tick { .. }
         | ScriptLine::Wait { .. } => true,
         ScriptLine::Set { prot, .. } => is_fail(prot),

@@ -9,6 +9,7 @@ use Rattle.vx_order.specs.declared.facts.SiteFacts.{SiteFacts}
 use Rattle.vx_script.specs.declared.line.ScriptLine.TheVariants.{Read, Show}
 use Rattle.vx_events.proofs.Places.{some_same}
 use Rattle.vx_events.proofs.Refused.{Named}
+use Rattle.vx_events.proofs.Testing.{read_role}
 use Rattle.vx_events.proofs.RefusedCalls.{read_may, show_may}
 use Rattle.vx_events.specs.Facts.{seat_of}
 use Rattle.vx_diskset.specs.Holds.{beside_of}
@@ -20,8 +21,7 @@ use Rattle.vx_node.specs.Yards.{in_files}
 use Rattle.vx_node.specs.declared.yard.Yard.{Yard}
 use Rattle.vx_node.proofs.Deaf.{room_receives}
 use Rattle.vx_node.proofs.NamedSite.{fact_named, site_at}
-use Rattle.vx_node.proofs.ReadLine.{read_role}
-use Rattle.vx_node.proofs.Rooms.{room_origin}
+use Rattle.vx_node.proofs.Leads.{room_origin}
 
 module _ {R : Type 0} {g : Ghosts R} (d : Doubted) (y : Yard R g) (name : List ℕ) (s : ℕ) (stands : StandsFor d y) (seat : seat_of y.facts.items name ≡ Some s) where
   -- a site of which the tests see that it is up

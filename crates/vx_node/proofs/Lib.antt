@@ -1,3 +1,4 @@
+pub mod AllDurable
 pub mod Alike
 pub mod AnswerFor
 pub mod ApplySite
@@ -28,7 +29,7 @@ pub mod RawTable
 pub mod ReadLine
 pub mod RecoverLine
 pub mod Replies
-pub mod Rooms
+pub mod Leads
 pub mod Rows
 pub mod Seats
 pub mod SentText

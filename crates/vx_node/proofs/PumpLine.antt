@@ -1,4 +1,4 @@
--- What a line leaves that sends on a link, of disks that tell their contents.
+-- What a line leaves that sends on a link.
 use Rattle.std.proofs.Common.{◌≡◌, ◌∙◌, inl, inr, ◌<◌, ℕ, zero, suc, List, [], ◌∷◌, length, false, true, ap, sym, subst, refl}
 use Rattle.std.specs.Prelude.{Option, Some, None, Result, Err, slice_get}
 use Rattle.vx_disk.specs.Disks.{Untouched}
@@ -6,12 +6,14 @@ use Rattle.vx_disk.specs.declared.shelf.Shelf.{Ghosts}
 use Rattle.vx_diskset.specs.Asked.{LeavesAlone}
 use Rattle.vx_diskset.specs.Fuses.{LeftAs}
 use Rattle.vx_diskset.specs.Holds.{Beside, beside_of, links_of}
-use Rattle.vx_diskset.specs.Pumps.{PumpedIs}
+use Rattle.vx_diskset.specs.Pumps.{PumpStop, PumpedIs}
 use Rattle.vx_diskset.specs.Stands.{KeepsRole, StandsAt, faults_at}
 use Rattle.vx_diskset.specs.declared.disk_set.DiskSet.{DiskSet}
+use Rattle.vx_effects.proofs.Finding.{fit_finds}
 use Rattle.vx_effects.proofs.Fitting.{fit_happened}
 use Rattle.vx_events.specs.Facts.{seat_of, site_number}
-use Rattle.vx_events.specs.LinkEnds.{LinksDone, LogUnread}
+use Rattle.vx_events.specs.LinkEnds.{LinksDone, LinksFind, LogUnread}
+use Rattle.vx_events.specs.LinkFinds.{FindsOther, IsNoStop, ReadsNone, SendsOther, pumped_with}
 use Rattle.vx_events.specs.LinkedFacts.{link_fact, linked_facts}
 use Rattle.vx_events.specs.Lines.{IsDone}
 use Rattle.vx_events.specs.Sayings.{Repeats}
@@ -19,13 +21,13 @@ use Rattle.vx_events.specs.declared.said.Said.{Said}
 use Rattle.vx_events.specs.declared.said.Said.TheVariants.{Done, Refused}
 use Rattle.vx_events.proofs.LinkTesting.{OnLink}
 use Rattle.vx_history.specs.Doubts.{Doubted}
-use Rattle.vx_history.specs.Events.{linked_sites}
+use Rattle.vx_history.specs.Events.{link_step, linked_sites}
 use Rattle.vx_history.specs.KeptLinks.{kept_link, kept_links}
 use Rattle.vx_history.specs.LinkForms.{plain_link}
 use Rattle.vx_history.specs.Listed.{IsAmong}
 use Rattle.vx_history.specs.Refusals.{keeps_links}
 use Rattle.vx_history.specs.Step.{step}
-use Rattle.vx_history.specs.World.{Link, Node, World}
+use Rattle.vx_history.specs.World.{Link, Node, Packet, World}
 use Rattle.vx_history.specs.declared.event.Event.TheVariants.{Pump as PumpAt}
 use Rattle.vx_history.specs.declared.event.Said.{Said as EventSaid}
 use Rattle.vx_history.specs.declared.event.Said.TheVariants.{Done as IsDoneSo}
@@ -34,18 +36,20 @@ use Rattle.vx_linked.proofs.Finding.{Tested, on_link, pump_tested}
 use Rattle.vx_linked.proofs.Leaving.{pump_leaves, pump_sends}
 use Rattle.vx_linked.proofs.Shown.{link_there}
 use Rattle.vx_linked.specs.Tables.{Found}
+use Rattle.vx_linked.specs.Disks.{LeavesDisks}
 use Rattle.vx_linked.specs.Turns.{ComesTo}
 use Rattle.vx_model.specs.declared.errors.OutOfMemory.{OutOfMemory}
 use Rattle.vx_model.specs.declared.errors.Stop.{Stop}
 use Rattle.vx_model.specs.declared.errors.Stop.TheVariants.{No as RefusedSo, OutOfMemory as MemoryStop}
 use Rattle.vx_model.specs.declared.link.Link.{Link as PlainLink}
+use Rattle.vx_model.specs.declared.no.No.{No}
 use Rattle.vx_model.specs.declared.no.No.TheVariants.{Device}
 use Rattle.vx_model.specs.Sites.{is_origin}
 use Rattle.vx_model.specs.declared.site.SiteState.TheVariants.{Up}
 use Rattle.vx_net.specs.Flights.{Flying}
 use Rattle.vx_order.specs.declared.facts.LinkFacts.{LinkFacts}
 use Rattle.vx_order.specs.declared.facts.SiteFacts.{SiteFacts}
-use Rattle.vx_peers.specs.Senders.{LinkMoved}
+use Rattle.vx_peers.specs.Senders.{LinkMoved, SendsMore, pumped_at}
 use Rattle.vx_script.specs.declared.line.ScriptLine.TheVariants.{Pump}
 use Rattle.vx_node.specs.Carries.{Carries}
 use Rattle.vx_node.specs.Replies.{reply_to}
@@ -79,6 +83,22 @@ pump_done told d p s is =
       works = tt;
       calls = tt;
     }
+
+-- a refusal that is of no disk and no fuse
+abbrev NoDevice : Stop → Type 0
+NoDevice MemoryStop = Unit {0}
+NoDevice (RefusedSo why) = IsNoStop why
+
+-- the same of one over disks that tell nothing, which sent these packets
+pump_other : (told : Type 0) (d : Doubted) (p s : List ℕ) (more : List Packet) → (told → ⊥) → IsDone told d (Pump p s) [] Done (record d { world = pumped_with d.world (site_number d.world p) (site_number d.world s) more })
+pump_other told d p s more untold =
+    let v : World = pumped_with d.world (site_number d.world p) (site_number d.world s) more in
+    record { ends = LinksFind untold (record d { world = v }) (SendsOther p s more refl refl refl refl) (record { world = refl; after = λ i. refl }); counts = tt; works = tt; calls = tt }
+
+-- and of one of which nothing could be read
+pump_none : (told : Type 0) (d : Doubted) (p s : List ℕ) (why : No) → (told → ⊥) → IsNoStop why → IsDone told d (Pump p s) [] (Refused why) d
+pump_none told d p s why untold other =
+    record { ends = LinksFind untold d (ReadsNone p s why refl other refl refl refl) (record { world = refl; after = λ i. refl }); counts = tt; works = tt; calls = tt }
 
 -- one whose log could not be read
 pub pump_unread : (told : Type 0) (d : Doubted) (p s : List ℕ) (disk : ℕ) → IsDone told d (Pump p s) ((site_number d.world p, disk) ∷ []) (Refused (Device disk)) d
@@ -136,6 +156,14 @@ module _ {R : Type 0} {g : Ghosts R} where
   moved_named d y p s here link l f asks moved =
       subst (λ (k : ℕ). LinkMoved d.world k (site_number d.world s) PumpLink l f) (sym asks.seat.number) (subst (λ (k : ℕ). LinkMoved d.world here k PumpLink l f) asks.to moved)
 
+  -- the link as its rule leaves it
+  pub pumped_named : (d : Doubted) (y : Yard R g) (p s : List ℕ) (here : ℕ) (link l : PlainLink) → Pumping d y p s here link → l ≡ pumped_at link (d.world.nodes here).safe
+      → l ≡ (link_step d.world (site_number d.world p) (site_number d.world s) PumpLink).link
+  pumped_named d y p s here link l asks is =
+      let w : World = d.world in
+      is ∙ ap (λ (x : PlainLink). pumped_at x (w.nodes here).safe) asks.link_is ∙ ap (λ (k : ℕ). pumped_at (plain_link k (w.links here k)) (w.nodes here).safe) asks.to
+      ∙ ap (λ (k : ℕ). pumped_at (plain_link (site_number w s) (w.links k (site_number w s))) (w.nodes k).safe) (sym asks.seat.number)
+
   -- the yard with the disk set of the site as it is behind the pump, and all else as it was
   abbrev between : (old new : Yard R g) → Yard R g
   between old new = record new { facts = old.facts; flight = old.flight }
@@ -185,16 +213,36 @@ module _ {R : Type 0} {g : Ghosts R} where
           rose = rises;
         }
 
+    -- it was done over disks that tell nothing
+    pub pump_finds : (p q : List ℕ) (fs : List SiteFacts) → (IsTold new → ⊥) → (more : SendsMore old.flight new.flight) → fs ≡ linked_facts (step d.world (PumpAt (site_number d.world p) (site_number d.world q))).world → new.facts.items ≡ fs
+        → Leads d (Pump p q) Done old new
+    pump_finds p q fs untold more comes facts =
+        let a : ℕ = site_number d.world p in
+        let b : ℕ = site_number d.world q in
+        let v : World = pumped_with d.world a b more.packets in
+        let by = pump_leaves d.world a b in
+        let left : LeavesDisks d.world v = record { sites = by.sites; nodes = by.nodes; kept = by.kept; headers = by.headers; gathering = by.gathering } in
+        let finds : FindsOther d (Pump p q) [] Done (record d { world = v }) = SendsOther p q more.packets refl refl refl refl in
+        let relinks : Relinks (between old new) new = record { disk_sets = refl; racks = refl; assemblies = refl; feeders = refl } in
+        record {
+          next = record d { world = v };
+          fails = [];
+          done = pump_other (IsTold new) d p q more.packets untold;
+          stands = stands_kept d v (between old new) new middle_stands left (fit_finds d (Pump p q) [] Done (record d { world = v }) finds stands.links) relinks (facts ∙ comes);
+          carries = λ _. carries_kept d v (between old new) new more.packets middle_carries left refl relinks (more.flies d.world.packets carries.flight);
+          rose = rises;
+        }
+
     -- it stopped
     stays : (fs : List SiteFacts) (f : Flying) → new.facts.items ≡ fs → fs ≡ old.facts.items → new.flight ≡ f → f ≡ old.flight → StaysFor d (between old new) new
     stays fs f facts same flight still = stays_as d (between old new) new fs f middle_stands middle_carries (record { disk_sets = refl; racks = refl; assemblies = refl; feeders = refl }) facts same flight still
 
-    pub pump_stops : (p q : List ℕ) (link l : PlainLink) (f : Flying) (stop : Stop) (r : Result Said OutOfMemory) → PumpedIs d.world s link.site l f (faults_at before) (faults_at after) (Err stop) → r ≡ reply_to stop
+    pub pump_stops : (p q : List ℕ) (f : Flying) (stop : Stop) (r : Result Said OutOfMemory) → PumpStop (faults_at before) (faults_at after) stop → ((why : No) → stop ≡ RefusedSo why → IsNoStop why → IsTold new → ⊥) → r ≡ reply_to stop
         → site_number d.world p ≡ s → new.facts.items ≡ old.facts.items → new.flight ≡ f → f ≡ old.flight → LeadsIs d (Pump p q) old new r
-    pump_stops p q link l f MemoryStop r pumped is number facts flight still =
+    pump_stops p q f MemoryStop r stopped untold is number facts flight still =
         let stay = stays old.facts.items f facts refl flight still in
         subst (λ (x : Result Said OutOfMemory). LeadsIs d (Pump p q) old new x) (sym is) (record { stands = stay.stands; carries = λ _. stay.carries middle_carries; rose = rises })
-    pump_stops p q link l f (RefusedSo (Device disk)) r pumped is number facts flight still =
+    pump_stops p q f (RefusedSo (Device disk)) r stopped untold is number facts flight still =
         let stay = stays old.facts.items f facts refl flight still in
         subst (λ (x : Result Said OutOfMemory). LeadsIs d (Pump p q) old new x) (sym is) (record {
           next = d;
@@ -202,6 +250,21 @@ module _ {R : Type 0} {g : Ghosts R} where
           done = pump_unread (IsTold new) d p q disk;
           stands = stay.stands;
           carries = λ _. stay.carries middle_carries;
-          rose = subst (λ (k : ℕ). RoseAll ((k, disk) ∷ []) (count_of old) (count_of new)) (sym number) (rose_at old new s disk before after changed pumped);
+          rose = subst (λ (k : ℕ). RoseAll ((k, disk) ∷ []) (count_of old) (count_of new)) (sym number) (rose_at old new s disk before after changed stopped);
         })
-    pump_stops p q link l f (RefusedSo other) r pumped is number facts flight still = absurd pumped
+    pump_stops p q f (RefusedSo other) r stopped untold is number facts flight still =
+        let stay = stays old.facts.items f facts refl flight still in
+        subst (λ (x : Result Said OutOfMemory). LeadsIs d (Pump p q) old new x) (sym is) (record {
+          next = d;
+          fails = [];
+          done = pump_none (IsTold new) d p q other (untold other refl stopped) stopped;
+          stands = stay.stands;
+          carries = λ _. stay.carries middle_carries;
+          rose = rises;
+        })
+
+  -- where contents are told nothing but a disk ends it
+  pub pump_told : (w : World) (s to : ℕ) (l : PlainLink) (f : Flying) (one two : ℕ → ℕ) (stop : Stop) → PumpedIs w s to l f one two (Err stop) → (why : No) → stop ≡ RefusedSo why → IsNoStop why → ⊥
+  pump_told w s to l f one two MemoryStop is why same other = absurd (let e : MemoryStop ≡ RefusedSo why = same in cc)
+  pump_told w s to l f one two (RefusedSo (Device disk)) is why same other = subst (λ (x : Stop). NoDevice x) (sym same) other
+  pump_told w s to l f one two (RefusedSo no) is why same other = absurd is

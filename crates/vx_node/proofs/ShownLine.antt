@@ -17,6 +17,7 @@ use Rattle.vx_disk.specs.declared.shelf.Shelf.{Ghosts}
 use Rattle.vx_rvg.specs.Contents.{Shows}
 use Rattle.vx_events.proofs.Blocks.{shown_are}
 use Rattle.vx_events.specs.Ends.{ShowsReceived}
+use Rattle.vx_events.proofs.Testing.{read_role}
 use Rattle.vx_events.proofs.RefusedCalls.{read_may}
 use Rattle.vx_events.specs.Facts.{seat_of, site_number, volume_number}
 use Rattle.vx_events.specs.Sayings.{received_content}
@@ -42,7 +43,6 @@ use Rattle.vx_node.proofs.FetchLine.{Fetching, fetch_leads, fetch_stops, stays_f
 use Rattle.vx_node.proofs.Lists.{get-set_same}
 use Rattle.vx_node.proofs.NamedSite.{fact_named}
 use Rattle.vx_node.proofs.OneSite.{Changed, told_by}
-use Rattle.vx_node.proofs.ReadLine.{read_role}
 use Rattle.vx_node.proofs.WriteCalls.{whole_log}
 
 pub not_primary : (r : Role) → is_origin r ≡ false → is_primary r ≡ false

@@ -89,6 +89,7 @@ impl<R: Rack> Yard<R> {
             | ScriptLine::Cut { .. }
             | ScriptLine::Pause { .. }
             | ScriptLine::Resume { .. }
+            | ScriptLine::Pump { .. }
             | ScriptLine::Tick { .. }
             | ScriptLine::Wait { .. } => self.work_link(alloc, words),
             // A line that is not built.

@@ -41,6 +41,7 @@ impl<R: Rack> Yard<R> {
             ScriptLine::Cut { primary, secondary } => Ok(self.cut_line(primary, secondary)),
             ScriptLine::Pause { primary, secondary } => Ok(self.pause_line(primary, secondary)),
             ScriptLine::Resume { primary, secondary } => Ok(self.resume_line(primary, secondary)),
+            ScriptLine::Pump { primary, secondary } => self.pump_line(alloc, primary, secondary),
             ScriptLine::Tick { primary, secondary } => Ok(self.tick_line(primary, secondary)),
             ScriptLine::Wait { site, number } => Ok(self.wait_line(site, *number)),
             // A line that is not on links.

@@ -17,7 +17,7 @@ use vx_model::{Name, OutOfMemory};
 
 impl<R: Rack> Yard<R> {
     /// Sends on the link of a site to another what its receiver may lack. Where a write cannot be read nothing is sent, and nothing changes.
-    pub fn pump_line(
+    pub(crate) fn pump_line(
         &mut self,
         alloc: Global,
         first: &Name,
@@ -25,8 +25,7 @@ impl<R: Rack> Yard<R> {
     ) -> Result<Said, OutOfMemory>
         requires kept { IsKept self.old }
         requires free { IsFree self.old (Pump first.now second.now) }
-        // Where contents are told.
-        ensures leads { (d : Doubted) → StandsFor d self.old → Carries d self.old → IsTold self.old → LeadsIs d (Pump first.now second.now) self.old self.new result }
+        ensures leads { (d : Doubted) → StandsFor d self.old → Carries d self.old → LeadsIs d (Pump first.now second.now) self.old self.new result }
         ensures asked { (d : Doubted) → StandsFor d self.old → AsAsked d.world (Pump first.now second.now) self.old self.new }
         ensures told { IsTold self.new → IsTold self.old }
         ensures files { in_files self.new ≡ in_files self.old }

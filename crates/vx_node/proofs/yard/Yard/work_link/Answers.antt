@@ -122,3 +122,18 @@ returns-in-Wait-clause-asked g c = λ d stands. subst (λ (line : ScriptLine). A
 
 pub returns-in-Wait-clause-called : goal.returns-in-Wait-clause-called
 returns-in-Wait-clause-called g c = λ d. links_called d.world c.args.words.now c.wait_line.result c.args.self.now c.args.self.now c.requires.kind
+
+pub pump_line-requires-clause-free : goal.pump_line-requires-clause-free
+pump_line-requires-clause-free g c = λ κs lives. subst (λ (line : ScriptLine). IsFree c.args.self.now line) c.in-Pump.is c.requires.free
+
+pub returns-in-Pump-clause-leads : goal.returns-in-Pump-clause-leads
+returns-in-Pump-clause-leads g c = λ d stands carries.
+    subst (λ (line : ScriptLine). LeadsIs d line c.args.self.now c.pump_line.new.self c.pump_line.result) (sym c.in-Pump.is) (c.pump_line.ensures.leads d stands carries)
+
+pub returns-in-Pump-clause-asked : goal.returns-in-Pump-clause-asked
+returns-in-Pump-clause-asked g c = λ d stands.
+    subst (λ (line : ScriptLine). AsAsked d.world line c.args.self.now c.pump_line.new.self) (sym c.in-Pump.is) (c.pump_line.ensures.asked d stands)
+
+pub returns-in-Pump-clause-called : goal.returns-in-Pump-clause-called
+returns-in-Pump-clause-called g c = λ d.
+    if_ok (λ said. HasCalled d.world c.args.words.now said c.args.self.now c.pump_line.new.self) c.pump_line.result (λ said. links_called d.world c.args.words.now said c.args.self.now c.pump_line.new.self c.requires.kind)
