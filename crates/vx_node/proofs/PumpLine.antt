@@ -89,6 +89,12 @@ abbrev NoDevice : Stop → Type 0
 NoDevice MemoryStop = Unit {0}
 NoDevice (RefusedSo why) = IsNoStop why
 
+-- where contents are told nothing but a disk ends it
+pub pump_told : (w : World) (s to : ℕ) (l : PlainLink) (f : Flying) (one two : ℕ → ℕ) (stop : Stop) → PumpedIs w s to l f one two (Err stop) → (why : No) → stop ≡ RefusedSo why → IsNoStop why → ⊥
+pump_told w s to l f one two MemoryStop is why same other = absurd (let e : MemoryStop ≡ RefusedSo why = same in cc)
+pump_told w s to l f one two (RefusedSo (Device disk)) is why same other = subst (λ (x : Stop). NoDevice x) (sym same) other
+pump_told w s to l f one two (RefusedSo any) is why same other = absurd is
+
 -- the same of one over disks that tell nothing, which sent these packets
 pump_other : (told : Type 0) (d : Doubted) (p s : List ℕ) (more : List Packet) → (told → ⊥) → IsDone told d (Pump p s) [] Done (record d { world = pumped_with d.world (site_number d.world p) (site_number d.world s) more })
 pump_other told d p s more untold =
@@ -262,9 +268,3 @@ module _ {R : Type 0} {g : Ghosts R} where
           carries = λ _. stay.carries middle_carries;
           rose = rises;
         })
-
-  -- where contents are told nothing but a disk ends it
-  pub pump_told : (w : World) (s to : ℕ) (l : PlainLink) (f : Flying) (one two : ℕ → ℕ) (stop : Stop) → PumpedIs w s to l f one two (Err stop) → (why : No) → stop ≡ RefusedSo why → IsNoStop why → ⊥
-  pump_told w s to l f one two MemoryStop is why same other = absurd (let e : MemoryStop ≡ RefusedSo why = same in cc)
-  pump_told w s to l f one two (RefusedSo (Device disk)) is why same other = subst (λ (x : Stop). NoDevice x) (sym same) other
-  pump_told w s to l f one two (RefusedSo no) is why same other = absurd is

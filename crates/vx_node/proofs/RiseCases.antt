@@ -100,8 +100,8 @@ module _ {R : Type 0} {g : Ghosts R} where
           → ((beside : Beside) (n : Node) → StandsAt beside n up → n.state ≡ IsUp → n.halted ≡ None → IsToldAt up → state.links ≡ beside.links)
           → Replaced old y s up → LeadsFrom mid d (Recover name) said old new
       rises_up y new state used said rises risen links replaced =
-          stood_up lawful d h old s ring c taken name number from fit_d stands below down ring_is before up there later same y new replaced sites state used said rises sites_mid came by.role
-          (risen (beside_of mid s) came.node came.stands came.same.up came.same.running) (λ told. links (beside_of mid s) came.node came.stands came.same.up came.same.running told)
+          stood_up lawful d h old s ring c taken name number from fit_d stands below down ring_is before up there later same y new replaced sites state used said rises sites_mid by.came by.role
+          (risen (beside_of mid s) by.came.node by.came.stands by.came.same.up by.came.same.running) (λ told. links (beside_of mid s) by.came.node by.came.stands by.came.same.up by.came.same.running told)
 
       -- and goes down again, as it may not stand up with what its log keeps
       module _ (after : DiskSet R g) (new : Yard R g)
@@ -189,8 +189,8 @@ module _ {R : Type 0} {g : Ghosts R} where
             stands_up_bare d old s name number stands below bare before up there later same lawful y new three volumes ring sites state used said at_three
             (table ∙ ap (λ (f : SiteFacts). map volume_fact (raw_volumes 1 (f.disks - 2) two.blocks)) (some_same (sym at_one ∙ at_three))
             ∙ ap (λ (f : SiteFacts). map volume_fact (raw_volumes 1 (three.disks - 2) f.blocks)) two_three)
-            (ring_is ∙ ap (λ (f : SiteFacts). ring_of f.blocks) two_three) facts disk_sets racks flight assemblies feeders rises (sites_is ∙ many_sites d old stands) rose rose_by.role
-            (risen alone rose.node (rose.stands alone refl) rose.same.up rose.same.running)
+            (ring_is ∙ ap (λ (f : SiteFacts). ring_of f.blocks) two_three) facts disk_sets racks flight assemblies feeders rises (sites_is ∙ many_sites d old stands) rose_by.came rose_by.role
+            (risen alone rose_by.came.node (rose_by.came.stands alone refl) rose_by.came.same.up rose_by.came.same.running)
 
         -- and is bare again, as it may not stand up with what its log keeps
         pub bare_again : (after : DiskSet R g) (new : Yard R g)

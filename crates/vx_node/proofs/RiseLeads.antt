@@ -6,7 +6,7 @@ use Rattle.vx_model.specs.Sizes.{ring_of}
 use Rattle.vx_model.specs.declared.limits.TheConstants.{MOST_NUMBER}
 use Rattle.vx_model.specs.declared.no.No.{No}
 use Rattle.vx_model.specs.declared.no.No.TheVariants.{Device, Limit, NoConfig}
-use Rattle.vx_model.specs.declared.site.SiteState.TheVariants.{Down as IsDown}
+use Rattle.vx_model.specs.declared.site.SiteState.TheVariants.{Down as IsDown, Up as IsUp}
 use Rattle.vx_model.specs.declared.state.KeptLink.{KeptLink}
 use Rattle.vx_model.specs.declared.state.State.{State}
 use Rattle.vx_disk.specs.Shelf.{Lawful}
@@ -274,8 +274,8 @@ module _ {R : Type 0} {g : Ghosts R} where
       fuse_none : (n : Node) → n.fuse ≡ m.fuse → FusedAs n after
       fuse_none n fuse = fused_none n after (fuse ∙ unfused_down (beside_of mid s) m before stood_down down)
 
-      off : m.state ≡ Up → ⊥
-      off up = let e : IsDown ≡ Up = sym down ∙ up in cc
+      off : m.state ≡ IsUp → ⊥
+      off up = let e : IsDown ≡ IsUp = sym down ∙ up in cc
 
       stays : StandsAt (beside_of mid s) m after → StandsFor mid new
       stays at =

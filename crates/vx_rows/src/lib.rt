@@ -21,6 +21,8 @@ mod recovery;
 #[cfg(test)]
 mod statuses;
 #[cfg(test)]
+mod unlinked;
+#[cfg(test)]
 mod wrong;
 
 pub use racks::fresh_racks;

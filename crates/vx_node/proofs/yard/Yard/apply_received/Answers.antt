@@ -17,7 +17,8 @@ use Rattle.vx_model.specs.declared.history.Line.{Line}
 use Rattle.vx_node.specs.Yards.{in_files}
 use Rattle.vx_node.proofs.ApplySite.{calls_keep, can_apply_at}
 use Rattle.vx_node.proofs.ChangeSite.{told_before}
-use Rattle.vx_node.proofs.NamedSite.{asks_at}
+use Rattle.vx_diskset.proofs.KeepsFailing.{failing_same}
+use Rattle.vx_node.proofs.NamedSite.{asks_at, unbegun_site}
 use Rattle.vx_node.proofs.Lists.{get-set_same, get_at, length-set}
 use Rattle.vx_node.proofs.ReceiverLine.{can_receive, received_done, received_refused}
 use Rattle.vx_node.proofs.Seats.{named_some}
@@ -125,3 +126,11 @@ returns-in-Err-clause-asked g c = λ d stands.
     (calls_keep NoMore c.refused.result c.index_mut.result.now c.apply_waiting.new.self
     (subst (λ (r : Said). LeavesFuse NoMore r c.index_mut.result.now c.apply_waiting.new.self) (sym c.refused.ensures.said)
     (c.in-Err.ensures.called (beside_of d s) (d.world.nodes s) (stands.disk_sets.sites s c.index_mut.result.now here.seat.below at))))
+
+pub returns-in_default-clause-asked : goal.returns-in_default-clause-asked
+returns-in_default-clause-asked g c = λ d stands.
+    unbegun_site SameFailing d c.args.self.now c.args.name.now failing_same stands ((apply_may c.args.self.now.facts.items (in_files c.args.self.now) c.args.name.now c.args.count c.requires.free).site)
+
+pub returns-then-count-ge-MOST_NUMBER-clause-asked : goal.returns-then-count-ge-MOST_NUMBER-clause-asked
+returns-then-count-ge-MOST_NUMBER-clause-asked g c = λ d stands.
+    unbegun_site SameFailing d c.args.self.now c.args.name.now failing_same stands ((apply_may c.args.self.now.facts.items (in_files c.args.self.now) c.args.name.now c.args.count c.requires.free).site)

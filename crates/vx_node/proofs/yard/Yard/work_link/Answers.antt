@@ -1,5 +1,6 @@
 -- Each line that works on links.
 use Rattle.std.proofs.Common.{ap, refl, subst, sym}
+use Rattle.vx_model.specs.declared.link.Prot.TheVariants.{Fail}
 use Rattle.vx_script.specs.declared.line.ScriptLine.{ScriptLine}
 use Rattle.vx_node.specs.OfSites.{AsAsked, HasCalled}
 use Rattle.vx_node.specs.Standing.{Leads, LeadsIs}
@@ -18,7 +19,7 @@ returns-in-Set-clause-leads g c = λ d stands carries.
 
 pub returns-in-Set-clause-asked : goal.returns-in-Set-clause-asked
 returns-in-Set-clause-asked g c = λ d stands.
-    subst (λ (line : ScriptLine). AsAsked d.world line c.args.self.now c.set_line.new.self) (sym c.in-Set.is) (c.set_line.ensures.asked d _ stands)
+    subst (λ (line : ScriptLine). AsAsked d.world line c.args.self.now c.set_line.new.self) (sym c.in-Set.is) (c.set_line.ensures.asked d Fail stands)
 
 pub returns-in-Set-clause-called : goal.returns-in-Set-clause-called
 returns-in-Set-clause-called g c = λ d.
