@@ -36,6 +36,7 @@ fn is_built(line: &ScriptLine) -> bool
         | ScriptLine::Pump { .. }
         | ScriptLine::Tick { .. }
         | ScriptLine::Wait { .. } => true,
+        ScriptLine::Link { prot, .. } => is_fail(prot),
         ScriptLine::Set { prot, .. } => is_fail(prot),
         _ => false,
     }
