@@ -70,3 +70,4 @@ pub mod RiseBare
 pub mod RiseCases
 pub mod RecoverSite
 pub mod RiseNeeds
+pub mod StepWent

@@ -20,3 +20,4 @@ pub mod Working
 pub mod Writes
 pub mod Yards
 pub mod Headed
+pub mod Settling

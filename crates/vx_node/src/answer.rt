@@ -98,7 +98,7 @@ impl<R: Rack> Yard<R> {
     }
 
     // The first refusal of a line in the one order, if there is one.
-    fn refusal(&self, words: &ScriptLine) -> Option<No>
+    pub(crate) fn refusal(&self, words: &ScriptLine) -> Option<No>
         ensures { result ≡ refused_in self.now words.now }
     {
         let files = self.dir.is_some();

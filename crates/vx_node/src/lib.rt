@@ -32,11 +32,14 @@ mod resume;
 mod rooms;
 pub mod sent;
 mod set;
+mod settle;
 mod shown;
 mod status;
 mod text;
 mod tick;
 mod wait;
+mod went;
+mod whole;
 mod write;
 mod yard;
 

@@ -8,3 +8,5 @@ pub mod Ends
 pub mod Named
 pub mod Moving
 pub mod Working
+pub mod Burning
+pub mod WithinLines
