@@ -71,3 +71,8 @@ pub mod RiseCases
 pub mod RecoverSite
 pub mod RiseNeeds
 pub mod StepWent
+pub mod WentThen
+pub mod WentOn
+pub mod Handing
+pub mod SettleSent
+pub mod SettleTurns

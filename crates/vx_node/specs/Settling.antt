@@ -18,8 +18,8 @@ use Rattle.vx_node.specs.Standing.{GoodFor, StandsFor}
 use Rattle.vx_node.specs.Stands.{RoseAll}
 use Rattle.vx_node.specs.Yards.{IsTold, count_of}
 use Rattle.vx_node.specs.declared.yard.Yard.{Yard}
-use Rattle.vx_node.specs.declared.went.Went.{Went}
-use Rattle.vx_node.specs.declared.went.Went.TheVariants.{Ended, On, Short}
+use Rattle.vx_node.specs.declared.going.Went.{Went}
+use Rattle.vx_node.specs.declared.going.Went.TheVariants.{Ended, On, Short}
 
 -- how it went, by what a line within it was answered
 abbrev pub went_by : Said → Went

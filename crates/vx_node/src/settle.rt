@@ -9,7 +9,7 @@ ghost use Rattle.vx_node.specs.Working.{IsFree};
 ghost use Rattle.vx_node.specs.Yards.{IsKept, in_files};
 
 use crate::Yard;
-use crate::went::{Went, went};
+use crate::going::{Went, answered};
 use std::alloc::Global;
 use vx_disk::Rack;
 use vx_model::Name;
@@ -17,6 +17,7 @@ use vx_script::ScriptLine;
 
 impl<R: Rack> Yard<R> {
     // Whether the yard is whole, and no test refuses a line.
+    #[tactic(none)]
     fn may(&self, words: &ScriptLine) -> bool
         ensures kept { result ≡ true → IsKept self.now }
         ensures free { result ≡ true → IsFree self.now words.now }
@@ -29,7 +30,7 @@ impl<R: Rack> Yard<R> {
 
     // The link is connected.
     #[tactic(none)]
-    fn connect_step(&mut self, first: &Name, second: &Name) -> Went
+    pub(crate) fn connect_step(&mut self, first: &Name, second: &Name) -> Went
         ensures went { (d : Doubted) (a b : ℕ) → SettlesFor first.now second.now a b d self.old → WentFor first.now second.now a b d (ConnectAt a b ∷ []) self.old self.new result }
         ensures files { in_files self.new ≡ in_files self.old }
     {
@@ -40,12 +41,12 @@ impl<R: Rack> Yard<R> {
         if !self.may(&words) {
             return Went::Short;
         }
-        went(self.connect_line(first, second))
+        answered(self.connect_line(first, second))
     }
 
     // What was sent on it counts as lost.
     #[tactic(none)]
-    fn tick_step(&mut self, first: &Name, second: &Name) -> Went
+    pub(crate) fn tick_step(&mut self, first: &Name, second: &Name) -> Went
         ensures went { (d : Doubted) (a b : ℕ) → SettlesFor first.now second.now a b d self.old → WentFor first.now second.now a b d (TickAt a b ∷ []) self.old self.new result }
         ensures files { in_files self.new ≡ in_files self.old }
     {
@@ -56,12 +57,12 @@ impl<R: Rack> Yard<R> {
         if !self.may(&words) {
             return Went::Short;
         }
-        went(Ok(self.tick_line(first, second)))
+        answered(Ok(self.tick_line(first, second)))
     }
 
     // What its receiver may lack is sent.
     #[tactic(none)]
-    fn pump_step(&mut self, alloc: Global, first: &Name, second: &Name) -> Went
+    pub(crate) fn pump_step(&mut self, alloc: Global, first: &Name, second: &Name) -> Went
         ensures went { (d : Doubted) (a b : ℕ) → SettlesFor first.now second.now a b d self.old → WentFor first.now second.now a b d (PumpAt a b ∷ []) self.old self.new result }
         ensures files { in_files self.new ≡ in_files self.old }
     {
@@ -72,6 +73,6 @@ impl<R: Rack> Yard<R> {
         if !self.may(&words) {
             return Went::Short;
         }
-        went(self.pump_line(alloc, first, second))
+        answered(self.pump_line(alloc, first, second))
     }
 }
