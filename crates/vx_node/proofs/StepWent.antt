@@ -4,7 +4,8 @@ use Rattle.std.specs.Prelude.{Result, Ok, Err}
 use Rattle.vx_model.specs.declared.errors.OutOfMemory.{OutOfMemory}
 use Rattle.vx_model.specs.declared.no.No.{No}
 use Rattle.vx_history.specs.Doubts.{Doubted}
-use Rattle.vx_history.specs.World.{Fuse}
+use Rattle.vx_history.specs.World.{Fuse, Node}
+use Rattle.vx_model.specs.Sites.{is_origin}
 use Rattle.vx_history.specs.declared.event.Event.{Event}
 use Rattle.vx_history.specs.Stops.{IsLikeDoubted}
 use Rattle.vx_disk.specs.declared.shelf.Shelf.{Ghosts}
@@ -68,6 +69,7 @@ module _ {R : Type 0} {g : Ghosts R} where
             serves = record {
               noted = noted_for a b on.next leads.next new on.noted leads.stands (leads.carries serves.noted.carries);
               may = still_may (IsTold new) a b d on.next passes serves.may;
+              receives = ap (λ (n : Node). is_origin n.role) passes.moves.takes.rest ∙ serves.receives;
               good = λ tells. runs_good events d on.next (serves.good (told tells)) (on.works.exact tells);
               from = moved_names a b d on.next first passes.moves ∙ serves.from;
               to = moved_names a b d on.next second passes.moves ∙ serves.to;

@@ -1,5 +1,6 @@
 -- What a part of a line that settles a link makes of a yard.
-use Rattle.std.specs.Prelude.{◌≡◌, ℕ, List, [], Result, Ok, Err}
+use Rattle.std.specs.Prelude.{◌≡◌, ℕ, List, [], false, Result, Ok, Err}
+use Rattle.vx_model.specs.Sites.{is_origin}
 use Rattle.vx_model.specs.declared.errors.OutOfMemory.{OutOfMemory}
 use Rattle.vx_model.specs.declared.no.No.{No}
 use Rattle.vx_history.specs.Doubts.{Doubted}
@@ -18,8 +19,8 @@ use Rattle.vx_node.specs.Standing.{GoodFor, StandsFor}
 use Rattle.vx_node.specs.Stands.{RoseAll}
 use Rattle.vx_node.specs.Yards.{IsTold, count_of}
 use Rattle.vx_node.specs.declared.yard.Yard.{Yard}
-use Rattle.vx_node.specs.declared.went.Went.{Went}
-use Rattle.vx_node.specs.declared.went.Went.TheVariants.{Ended, On, Short}
+use Rattle.vx_node.specs.declared.going.Went.{Went}
+use Rattle.vx_node.specs.declared.going.Went.TheVariants.{Ended, On, Short}
 
 -- how it went, by what a line within it was answered
 abbrev pub went_by : Said → Went
@@ -42,6 +43,8 @@ module _ {R : Type 0} {g : Ghosts R} where
   pub record SettlesFor (first second : List ℕ) (a b : ℕ) (d : Doubted) (y : Yard R g) : Type 0 where
     pub noted : NotedFor a b d y
     pub may : MayMove a b d.world
+    -- updates are taken there
+    pub receives : is_origin (d.world.nodes b).role ≡ false
     pub good : GoodFor d y
     pub from : site_number d.world first ≡ a
     pub to : site_number d.world second ≡ b

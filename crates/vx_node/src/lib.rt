@@ -15,6 +15,7 @@ mod errors;
 mod facts;
 mod folder;
 mod fuse;
+mod going;
 pub mod laws;
 mod link;
 mod links;
@@ -38,7 +39,7 @@ mod status;
 mod text;
 mod tick;
 mod wait;
-mod went;
+
 mod whole;
 mod write;
 mod yard;

@@ -9,7 +9,7 @@ ghost use Rattle.vx_node.specs.Working.{IsFree};
 ghost use Rattle.vx_node.specs.Yards.{IsKept, in_files};
 
 use crate::Yard;
-use crate::went::{Went, went};
+use crate::going::{Went, answered};
 use std::alloc::Global;
 use vx_disk::Rack;
 use vx_model::Name;
@@ -40,7 +40,7 @@ impl<R: Rack> Yard<R> {
         if !self.may(&words) {
             return Went::Short;
         }
-        went(self.connect_line(first, second))
+        answered(self.connect_line(first, second))
     }
 
     // What was sent on it counts as lost.
@@ -56,7 +56,7 @@ impl<R: Rack> Yard<R> {
         if !self.may(&words) {
             return Went::Short;
         }
-        went(Ok(self.tick_line(first, second)))
+        answered(Ok(self.tick_line(first, second)))
     }
 
     // What its receiver may lack is sent.
@@ -72,6 +72,6 @@ impl<R: Rack> Yard<R> {
         if !self.may(&words) {
             return Went::Short;
         }
-        went(self.pump_line(alloc, first, second))
+        answered(self.pump_line(alloc, first, second))
     }
 }

@@ -315,7 +315,7 @@ crashed_burnt fuses d site kept true = by (d.after site)
 -- ---- what may be noted behind that
 
 -- a crash makes another node of its site alone
-crash_nodes : (w : World) (s k : ℕ) → (crash_at w s k).nodes ≡ updated w.nodes s (crashed (w.nodes s) k)
+pub crash_nodes : (w : World) (s k : ℕ) → (crash_at w s k).nodes ≡ updated w.nodes s (crashed (w.nodes s) k)
 crash_nodes w s k = by (is_origin (w.nodes s).role)
   where
     by : (b : Bool) → (if b then crash_left w s k else with_node w s (crashed (w.nodes s) k)).nodes ≡ updated w.nodes s (crashed (w.nodes s) k)

@@ -69,7 +69,7 @@ pub data OneEnds (told : Type 0) (d : Doubted) (line : ScriptLine) (e : Event) (
       → AreLeft line d d new → OneEnds told d line e fails said new
   OneFinds : (told → ⊥) → (last : Doubted) → FindsOther d line fails said last → AreLeft line d last new → OneEnds told d line e fails said new
 
-head_same : (x y : Event) (xs ys : List Event) → x ∷ xs ≡ y ∷ ys → (x ≡ y) × (xs ≡ ys)
+pub head_same : (x y : Event) (xs ys : List Event) → x ∷ xs ≡ y ∷ ys → (x ≡ y) × (xs ≡ ys)
 head_same x y xs ys e = (let f : x ≡ y = cc in f, let f : xs ≡ ys = cc in f)
 
 never_behind : (xs ys : List Event) (e : Event) → [] ≡ xs ++ e ∷ ys → ⊥

@@ -23,7 +23,7 @@ fn by(said: Said) -> Went
 }
 
 /// How it went, by what a line within it was answered.
-pub(crate) fn went(answer: Result<Said, OutOfMemory>) -> Went
+pub(crate) fn answered(answer: Result<Said, OutOfMemory>) -> Went
     ensures { result ≡ went_of answer }
 {
     match answer {
