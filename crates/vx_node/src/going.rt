@@ -16,10 +16,10 @@ pub(crate) enum Went {
 fn by(said: Said) -> Went
     ensures { result ≡ went_by said }
 {
-    match said {
-        Said::Refused(no) => Went::Ended(no),
-        _ => Went::On,
+    if let Said::Refused(no) = said {
+        return Went::Ended(no);
     }
+    Went::On
 }
 
 /// How it went, by what a line within it was answered.
