@@ -49,6 +49,7 @@ pub mod ReceiverLine
 pub mod ShownLine
 pub mod WriteEnds
 pub mod Turned
+pub mod HeaderCalls
 pub mod HeadedWorlds
 pub mod Headed
 pub mod SetLink
@@ -58,6 +59,12 @@ pub mod SetLine
 pub mod SetNames
 pub mod PartLine
 pub mod LinkParts
+pub mod NotedBoth
+pub mod LinkChain
+pub mod JoinLine
+pub mod LinkEnding
+pub mod StatesAre
+pub mod LinkNames
 pub mod WriteCalls
 pub mod WriteLinks
 pub mod WriteTests
@@ -71,3 +78,6 @@ pub mod RiseCases
 pub mod RecoverSite
 pub mod RiseNeeds
 pub mod StepWent
+pub mod HeardWorld
+pub mod HeardLine
+pub mod DeliverLine
