@@ -22,6 +22,7 @@ use Rattle.vx_settling.proofs.Named.{moved_names}
 use Rattle.vx_settling.proofs.Working.{short_none}
 use Rattle.vx_settling.specs.Burnt.{EndTo, GoesTo, NotedAs, OnTo, noted_as}
 use Rattle.vx_node.specs.Carries.{Carries}
+use Rattle.vx_node.specs.OfSites.{AllSameFailing}
 use Rattle.vx_node.specs.Settling.{EndedFor, NotedFor, OnFor, SettlesFor, ShortFor, WentFor, went_by, went_of}
 use Rattle.vx_node.specs.Standing.{GoodFor, Leads, LeadsIs, StandsFor, StaysFor}
 use Rattle.vx_node.specs.Stands.{RoseAll}
@@ -42,7 +43,7 @@ module _ {R : Type 0} {g : Ghosts R} where
     carries = subst (λ (x : Doubted). Carries x y) noted.is carries;
   }
 
-  module _ (first second : List ℕ) (a b : ℕ) (d : Doubted) (events : List Event) (old new : Yard R g) (serves : SettlesFor first second a b d old) (told : IsTold new → IsTold old) where
+  module _ (first second : List ℕ) (a b : ℕ) (d : Doubted) (events : List Event) (old new : Yard R g) (serves : SettlesFor first second a b d old) (told : IsTold new → IsTold old) (asked : AllSameFailing old new) where
     -- nothing was done
     pub step_short : StandsFor (noted_as serves.noted.fuses d) new → Carries (noted_as serves.noted.fuses d) new → RoseAll [] (count_of old) (count_of new) → ShortFor a b d events old new
     step_short stands carries rose = record {
@@ -50,6 +51,7 @@ module _ {R : Type 0} {g : Ghosts R} where
       short = short_none (IsTold new) a b d serves.may events;
       noted = record { fuses = serves.noted.fuses; burns = serves.noted.burns; stands = stands; carries = carries };
       told = told;
+      asked = asked;
       rose = rose;
     }
 
@@ -75,6 +77,7 @@ module _ {R : Type 0} {g : Ghosts R} where
               to = moved_names a b d on.next second passes.moves ∙ serves.to;
             };
             told = told;
+            asked = asked;
             rose = subst (λ (f : Fails). RoseAll f (count_of old) (count_of new)) on.none leads.rose;
           }
 
@@ -85,6 +88,7 @@ module _ {R : Type 0} {g : Ghosts R} where
         stops = off.stops;
         noted = noted_for a b off.last leads.next new off.noted leads.stands (leads.carries serves.noted.carries);
         told = told;
+      asked = asked;
         rose = leads.rose;
       }
 

@@ -15,6 +15,7 @@ use Rattle.vx_settling.specs.Between.{MayMove}
 use Rattle.vx_settling.specs.Works.{Shortens, Stops, Works}
 use Rattle.vx_node.specs.Carries.{Carries}
 use Rattle.vx_settling.specs.Burnt.{MayBurn, noted_as}
+use Rattle.vx_node.specs.OfSites.{AllSameFailing}
 use Rattle.vx_node.specs.Standing.{GoodFor, StandsFor}
 use Rattle.vx_node.specs.Stands.{RoseAll}
 use Rattle.vx_node.specs.Yards.{IsTold, count_of}
@@ -55,6 +56,7 @@ module _ {R : Type 0} {g : Ghosts R} where
     pub works : Works (IsTold new) a b d events next
     pub serves : SettlesFor first second a b next new
     pub told : IsTold new → IsTold old
+    pub asked : AllSameFailing old new
     pub rose : RoseAll [] (count_of old) (count_of new)
 
   -- they are ended by this refusal
@@ -64,6 +66,7 @@ module _ {R : Type 0} {g : Ghosts R} where
     pub stops : Stops (IsTold new) a b d events fails (Refused why) last
     pub noted : NotedFor a b last new
     pub told : IsTold new → IsTold old
+    pub asked : AllSameFailing old new
     pub rose : RoseAll fails (count_of old) (count_of new)
 
   -- memory ran out in them
@@ -72,6 +75,7 @@ module _ {R : Type 0} {g : Ghosts R} where
     pub short : Shortens (IsTold new) a b d events last
     pub noted : NotedFor a b last new
     pub told : IsTold new → IsTold old
+    pub asked : AllSameFailing old new
     pub rose : RoseAll [] (count_of old) (count_of new)
 
   abbrev pub WentFor : (first second : List ℕ) → (a b : ℕ) → (d : Doubted) → (events : List Event) → (old new : Yard R g) → Went → Type 0
