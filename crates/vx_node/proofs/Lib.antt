@@ -81,3 +81,4 @@ pub mod StepWent
 pub mod HeardWorld
 pub mod HeardLine
 pub mod DeliverLine
+pub mod SettleEnds

@@ -86,6 +86,7 @@ module _ {R : Type 0} {g : Ghosts R} where
         last = off.last;
         fails = leads.fails;
         stops = off.stops;
+        sites = off.sites;
         noted = noted_for a b off.last leads.next new off.noted leads.stands (leads.carries serves.noted.carries);
         told = told;
       asked = asked;

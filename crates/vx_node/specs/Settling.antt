@@ -64,6 +64,7 @@ module _ {R : Type 0} {g : Ghosts R} where
     pub last : Doubted
     pub fails : Fails
     pub stops : Stops (IsTold new) a b d events fails (Refused why) last
+    pub sites : last.world.sites ≡ d.world.sites
     pub noted : NotedFor a b last new
     pub told : IsTold new → IsTold old
     pub asked : AllSameFailing old new

@@ -43,7 +43,7 @@ use Rattle.vx_world.proofs.Crashed.{crash_is, not_past}
 use Rattle.vx_settling.specs.Between.{MayMove}
 use Rattle.vx_settling.specs.Burnt.{EndTo, GoesTo, MayBurn, NotedAs, OnTo, burnt_world, noted_as}
 use Rattle.vx_settling.specs.Works.{Stops, Works}
-use Rattle.vx_settling.proofs.Burning.{burns_crashed, burns_kept, crash_burnt, crash_nodes, burns_noted, burns_same, fused_pure, nodes_at, noted_at, own_place, step_burnt, worked_burnt}
+use Rattle.vx_settling.proofs.Burning.{burns_crashed, crashed_sites, burns_kept, crash_burnt, crash_nodes, burns_noted, burns_same, fused_pure, nodes_at, noted_at, own_place, step_burnt, worked_burnt}
 use Rattle.vx_settling.proofs.Running.{event_stays, happens}
 use Rattle.vx_settling.proofs.WithinLines.{head_same, number_burnt, reply_on, single}
 use Rattle.vx_settling.proofs.Working.{cuts_apply, lacks_apply, stops_apply, works_apply}
@@ -220,6 +220,7 @@ module _ (told : Type 0) (a b : ℕ) (d : Doubted) (may : MayMove a b d.world) (
           subst (λ (x : Said). GoesTo told a b d (ApplyAt b count 0 ∷ []) fails new x) (sym says)
           (record {
             last = happened d (Fault b disk) false;
+            sites = ap (λ (x : World). x.sites) (fault_is d.world b disk below up);
             stops = subst (λ (f : Fails). Stops told a b d (ApplyAt b count 0 ∷ []) f (Refused (Device disk)) (happened d (Fault b disk) false)) (sym one) (stops_apply told a b d may count 0 disk (up, runs));
             noted = left_noted (happened d (Fault b disk) false) (noted_at fuses b) (happened (noted_as fuses d) (Fault b disk) taken) new taken (burns_fault disk) (fault_noted disk taken)
                 (ap (λ (x : World). (x.nodes b).failing) (fault_is d.world b disk below up)
@@ -236,6 +237,7 @@ module _ (told : Type 0) (a b : ℕ) (d : Doubted) (may : MayMove a b d.world) (
           subst (λ (x : Said). GoesTo told a b d (ApplyAt b count 0 ∷ []) fails new x) (sym says)
           (record {
             last = crashed_as (halved d (Fault b 0) b 0) b c.kept false;
+            sites = crashed_sites (halved d (Fault b 0) b 0) b c.kept false;
             stops = subst (λ (f : Fails). Stops told a b d (ApplyAt b count 0 ∷ []) f (Refused IsOff) (crashed_as (halved d (Fault b 0) b 0) b c.kept false)) (sym none)
                 (cuts_apply told a b d may count 0 c.kept false (up, runs) (fused_pure a b fuses d.world burns b lit));
             noted = left_noted (crashed_as (halved d (Fault b 0) b 0) b c.kept false) (updated fuses b NoFuse) (happened (noted_as fuses d) (CrashAt b c.kept) false) new false (burns_cut c.kept) (cut_noted c.kept) (cut_fails c.kept) left_so;
@@ -247,6 +249,7 @@ module _ (told : Type 0) (a b : ℕ) (d : Doubted) (may : MayMove a b d.world) (
           subst (λ (x : Said). GoesTo told a b d (ApplyAt b count 0 ∷ []) fails new x) (sym says)
           (record {
             last = d;
+            sites = refl;
             stops = subst (λ (f : Fails). Stops told a b d (ApplyAt b count 0 ∷ []) f (Refused (Limit Number MOST_NUMBER)) d) (sym none) (lacks_apply told a b d may count 0 (λ tells. (lacks tells).1));
             noted = left_noted d fuses (noted_as fuses d) new taken burns refl refl left_so;
           })
