@@ -126,13 +126,13 @@ module _ {R : Type 0} {g : Ghosts R} where
 
     -- memory ran out behind the first event
     module _ (x : Event) (rest : List Event) (m : Doubted) (mid : Yard R g) where
-      short_so : link_events d.world (Settle p s) ≡ x ∷ rest → Works (IsTold new) (site_number d.world p) (site_number d.world s) d (x ∷ []) m → (last : Doubted) → Shortens (IsTold new) (site_number d.world p) (site_number d.world s) m rest last
+      short_so : (IsTold new → link_events d.world (Settle p s) ≡ x ∷ rest) → Works (IsTold new) (site_number d.world p) (site_number d.world s) d (x ∷ []) m → (last : Doubted) → Shortens (IsTold new) (site_number d.world p) (site_number d.world s) m rest last
           → StopsShort (IsTold new) d (Settle p s) (noted_two (site_number d.world p) (site_number d.world s) last)
       short_so split one last short = ⊎_elim
           (λ (tells : IsTold new).
           let first = short.exact tells in
           let runs = runs_then d m last (x ∷ []) first.before (one.exact tells) first.runs in
-          let more : link_events d.world (Settle p s) ≡ (x ∷ first.before) ++ first.rest = split ∙ ap (λ (es : List Event). x ∷ es) first.split in
+          let more : link_events d.world (Settle p s) ≡ (x ∷ first.before) ++ first.rest = split tells ∙ ap (λ (es : List Event). x ∷ es) first.split in
           let are = are_parts (x ∷ first.before) first.rest (subst AreSettling more (are_all d.world (site_number d.world p) (site_number d.world s))) in
           let same = runs_only d last (x ∷ first.before) are.0 runs ∙ sym (run_is d (x ∷ first.before) are.0) in
           StopsInPart (settle_part d p s (x ∷ first.before) first.rest (noted_two a b last) more (subst (λ (q : Doubted). AreLeft (Settle p s) d q (noted_two a b last)) same (record { world = refl; after = λ i. refl }))))
@@ -140,7 +140,7 @@ module _ {R : Type 0} {g : Ghosts R} where
           line_short (IsTold new) d last p s (passes_then (IsTold new) a b d m last one.passes short.passes) (noted_two a b last) untold (record { world = refl; after = λ i. refl }))
           (all_told new.disk_sets.items)
 
-      pub settle_short : link_events d.world (Settle p s) ≡ x ∷ rest → Works (IsTold new) (site_number d.world p) (site_number d.world s) d (x ∷ []) m → RoseAll [] (count_of old) (count_of mid)
+      pub settle_short : (IsTold new → link_events d.world (Settle p s) ≡ x ∷ rest) → Works (IsTold new) (site_number d.world p) (site_number d.world s) d (x ∷ []) m → RoseAll [] (count_of old) (count_of mid)
           → site_number d.world p < d.world.sites → site_number d.world s < d.world.sites → ShortFor (site_number d.world p) (site_number d.world s) m rest mid new → StopsFor d (Settle p s) old new
       settle_short split one rose first second short =
           let e : Doubted = short.last in

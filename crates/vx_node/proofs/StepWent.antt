@@ -22,18 +22,30 @@ use Rattle.vx_settling.proofs.Named.{moved_names}
 use Rattle.vx_settling.proofs.Working.{short_none}
 use Rattle.vx_settling.specs.Burnt.{EndTo, GoesTo, NotedAs, OnTo, noted_as}
 use Rattle.vx_node.specs.Carries.{Carries}
-use Rattle.vx_node.specs.OfSites.{AllSameFailing}
+use Rattle.vx_node.specs.OfSites.{AllSameFailing, OfSite}
 use Rattle.vx_node.specs.Settling.{EndedFor, NotedFor, OnFor, SettlesFor, ShortFor, WentFor, went_by, went_of}
 use Rattle.vx_node.specs.Standing.{GoodFor, Leads, LeadsIs, StandsFor, StaysFor}
-use Rattle.vx_node.specs.Stands.{RoseAll}
+use Rattle.vx_node.specs.Stands.{AreTold, RoseAll}
 use Rattle.vx_node.specs.Yards.{IsTold, count_of}
 use Rattle.vx_node.specs.declared.yard.Yard.{Yard}
+use Rattle.vx_diskset.specs.Asked.{LeavesAlone}
 use Rattle.vx_node.proofs.ChangeSite.{rose_none}
+use Rattle.vx_node.proofs.FailsStay.{alone_keeps}
+use Rattle.vx_node.proofs.OfSites.{all_of_site}
 
 module _ {R : Type 0} {g : Ghosts R} where
   -- the yard's own world is good where the one without notes is
   pub good_noted : (fuses : ℕ → Fuse) (d : Doubted) (y : Yard R g) → GoodFor d y → GoodFor (noted_as fuses d) y
   good_noted fuses d y good = λ tells. like_good d (noted_as fuses d) (good tells) (record { worlds = like_burnt fuses d.world; after = λ i. refl })
+
+  -- with the same disks nothing else is told
+  pub told_same : (old new : Yard R g) → new.disk_sets.items ≡ old.disk_sets.items → IsTold new → IsTold old
+  told_same old new same told = subst (λ es. AreTold es) same told
+
+  -- a site that was left alone
+  pub all_alone : (s : ℕ) (old new : Yard R g) → OfSite LeavesAlone s old new → AllSameFailing old new
+  all_alone s old new of =
+      all_of_site s old new (record { before = of.before; after = of.after; there = of.there; disk_sets = of.disk_sets; did = alone_keeps of.before of.after of.did })
 
   noted_for : (a b : ℕ) (d e : Doubted) (y : Yard R g) → NotedAs a b d e → StandsFor e y → Carries e y → NotedFor a b d y
   noted_for a b d e y noted stands carries = record {

@@ -1,10 +1,12 @@
 -- What a part of a line that settles a link makes of a yard.
-use Rattle.std.specs.Prelude.{◌≡◌, ℕ, List, [], false, Result, Ok, Err}
+use Rattle.std.specs.Prelude.{◌≡◌, ◌++◌, ℕ, List, [], drop, false, Result, Ok, Err}
 use Rattle.vx_model.specs.Sites.{is_origin}
 use Rattle.vx_model.specs.declared.errors.OutOfMemory.{OutOfMemory}
 use Rattle.vx_model.specs.declared.no.No.{No}
 use Rattle.vx_history.specs.Doubts.{Doubted}
-use Rattle.vx_history.specs.World.{Fuse}
+use Rattle.vx_history.specs.Settling.{deliver_between, turns}
+use Rattle.vx_history.specs.Step.{run}
+use Rattle.vx_history.specs.World.{Fuse, World}
 use Rattle.vx_history.specs.declared.event.Event.{Event}
 use Rattle.vx_disk.specs.declared.shelf.Shelf.{Ghosts}
 use Rattle.vx_events.specs.Facts.{site_number}
@@ -31,6 +33,10 @@ went_by other = On
 abbrev pub went_of : Result Said OutOfMemory → Went
 went_of (Ok said) = went_by said
 went_of (Err e) = Short
+
+-- what follows on the receiver's greeting: it is delivered, and turns follow; so many packets were sent before it
+abbrev pub settled_on : (a b before head : ℕ) → World → List Event
+settled_on a b before head w = let came = deliver_between a b before (drop before w.packets) in came ++ turns head (run w came) a b
 
 module _ {R : Type 0} {g : Ghosts R} where
   -- the yard stands for this world and carries it, where the fuses of two sites may have been noted
