@@ -49,6 +49,7 @@ pub mod ReceiverLine
 pub mod ShownLine
 pub mod WriteEnds
 pub mod Turned
+pub mod HeaderCalls
 pub mod HeadedWorlds
 pub mod Headed
 pub mod SetLink
@@ -58,6 +59,12 @@ pub mod SetLine
 pub mod SetNames
 pub mod PartLine
 pub mod LinkParts
+pub mod NotedBoth
+pub mod LinkChain
+pub mod JoinLine
+pub mod LinkEnding
+pub mod StatesAre
+pub mod LinkNames
 pub mod WriteCalls
 pub mod WriteLinks
 pub mod WriteTests
@@ -76,3 +83,7 @@ pub mod WentOn
 pub mod Handing
 pub mod SettleSent
 pub mod SettleTurns
+pub mod HeardWorld
+pub mod HeardLine
+pub mod DeliverLine
+pub mod SettleEnds

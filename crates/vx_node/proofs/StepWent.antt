@@ -4,7 +4,8 @@ use Rattle.std.specs.Prelude.{Result, Ok, Err}
 use Rattle.vx_model.specs.declared.errors.OutOfMemory.{OutOfMemory}
 use Rattle.vx_model.specs.declared.no.No.{No}
 use Rattle.vx_history.specs.Doubts.{Doubted}
-use Rattle.vx_history.specs.World.{Fuse}
+use Rattle.vx_history.specs.World.{Fuse, Node}
+use Rattle.vx_model.specs.Sites.{is_origin}
 use Rattle.vx_history.specs.declared.event.Event.{Event}
 use Rattle.vx_history.specs.Stops.{IsLikeDoubted}
 use Rattle.vx_disk.specs.declared.shelf.Shelf.{Ghosts}
@@ -21,17 +22,30 @@ use Rattle.vx_settling.proofs.Named.{moved_names}
 use Rattle.vx_settling.proofs.Working.{short_none}
 use Rattle.vx_settling.specs.Burnt.{EndTo, GoesTo, NotedAs, OnTo, noted_as}
 use Rattle.vx_node.specs.Carries.{Carries}
+use Rattle.vx_node.specs.OfSites.{AllSameFailing, OfSite}
 use Rattle.vx_node.specs.Settling.{EndedFor, NotedFor, OnFor, SettlesFor, ShortFor, WentFor, went_by, went_of}
 use Rattle.vx_node.specs.Standing.{GoodFor, Leads, LeadsIs, StandsFor, StaysFor}
-use Rattle.vx_node.specs.Stands.{RoseAll}
+use Rattle.vx_node.specs.Stands.{AreTold, RoseAll}
 use Rattle.vx_node.specs.Yards.{IsTold, count_of}
 use Rattle.vx_node.specs.declared.yard.Yard.{Yard}
+use Rattle.vx_diskset.specs.Asked.{LeavesAlone}
 use Rattle.vx_node.proofs.ChangeSite.{rose_none}
+use Rattle.vx_node.proofs.FailsStay.{alone_keeps}
+use Rattle.vx_node.proofs.OfSites.{all_of_site}
 
 module _ {R : Type 0} {g : Ghosts R} where
   -- the yard's own world is good where the one without notes is
   pub good_noted : (fuses : ℕ → Fuse) (d : Doubted) (y : Yard R g) → GoodFor d y → GoodFor (noted_as fuses d) y
   good_noted fuses d y good = λ tells. like_good d (noted_as fuses d) (good tells) (record { worlds = like_burnt fuses d.world; after = λ i. refl })
+
+  -- with the same disks nothing else is told
+  pub told_same : (old new : Yard R g) → new.disk_sets.items ≡ old.disk_sets.items → IsTold new → IsTold old
+  told_same old new same told = subst (λ es. AreTold es) same told
+
+  -- a site that was left alone
+  pub all_alone : (s : ℕ) (old new : Yard R g) → OfSite LeavesAlone s old new → AllSameFailing old new
+  all_alone s old new of =
+      all_of_site s old new (record { before = of.before; after = of.after; there = of.there; disk_sets = of.disk_sets; did = alone_keeps of.before of.after of.did })
 
   noted_for : (a b : ℕ) (d e : Doubted) (y : Yard R g) → NotedAs a b d e → StandsFor e y → Carries e y → NotedFor a b d y
   noted_for a b d e y noted stands carries = record {
@@ -41,7 +55,7 @@ module _ {R : Type 0} {g : Ghosts R} where
     carries = subst (λ (x : Doubted). Carries x y) noted.is carries;
   }
 
-  module _ (first second : List ℕ) (a b : ℕ) (d : Doubted) (events : List Event) (old new : Yard R g) (serves : SettlesFor first second a b d old) (told : IsTold new → IsTold old) where
+  module _ (first second : List ℕ) (a b : ℕ) (d : Doubted) (events : List Event) (old new : Yard R g) (serves : SettlesFor first second a b d old) (told : IsTold new → IsTold old) (asked : AllSameFailing old new) where
     -- nothing was done
     pub step_short : StandsFor (noted_as serves.noted.fuses d) new → Carries (noted_as serves.noted.fuses d) new → RoseAll [] (count_of old) (count_of new) → ShortFor a b d events old new
     step_short stands carries rose = record {
@@ -49,6 +63,7 @@ module _ {R : Type 0} {g : Ghosts R} where
       short = short_none (IsTold new) a b d serves.may events;
       noted = record { fuses = serves.noted.fuses; burns = serves.noted.burns; stands = stands; carries = carries };
       told = told;
+      asked = asked;
       rose = rose;
     }
 
@@ -68,11 +83,13 @@ module _ {R : Type 0} {g : Ghosts R} where
             serves = record {
               noted = noted_for a b on.next leads.next new on.noted leads.stands (leads.carries serves.noted.carries);
               may = still_may (IsTold new) a b d on.next passes serves.may;
+              receives = ap (λ (n : Node). is_origin n.role) passes.moves.takes.rest ∙ serves.receives;
               good = λ tells. runs_good events d on.next (serves.good (told tells)) (on.works.exact tells);
               from = moved_names a b d on.next first passes.moves ∙ serves.from;
               to = moved_names a b d on.next second passes.moves ∙ serves.to;
             };
             told = told;
+            asked = asked;
             rose = subst (λ (f : Fails). RoseAll f (count_of old) (count_of new)) on.none leads.rose;
           }
 
@@ -81,8 +98,10 @@ module _ {R : Type 0} {g : Ghosts R} where
         last = off.last;
         fails = leads.fails;
         stops = off.stops;
+        sites = off.sites;
         noted = noted_for a b off.last leads.next new off.noted leads.stands (leads.carries serves.noted.carries);
         told = told;
+      asked = asked;
         rose = leads.rose;
       }
 

@@ -1,5 +1,5 @@
 -- Parts of a line that settles a link, one after another.
-use Rattle.std.proofs.Common.{◌≡◌, ◌++◌, ℕ, List, [], arith, refl, subst, sym}
+use Rattle.std.proofs.Common.{◌≡◌, ◌∙◌, ◌++◌, ℕ, List, [], arith, refl, subst, sym}
 use Rattle.vx_disk.specs.declared.shelf.Shelf.{Ghosts}
 use Rattle.vx_history.specs.Doubts.{Doubted, Runs}
 use Rattle.vx_history.specs.declared.event.Event.{Event}
@@ -15,6 +15,7 @@ use Rattle.vx_node.specs.declared.going.Went.{Went}
 use Rattle.vx_node.specs.declared.going.Went.TheVariants.{Ended, On, Short}
 use Rattle.vx_node.specs.declared.yard.Yard.{Yard}
 use Rattle.vx_node.proofs.ChangeSite.{rose_none}
+use Rattle.vx_node.proofs.OfSites.{all_still, all_then}
 use Rattle.vx_node.proofs.RecoverLine.{rose_then}
 
 -- what is so where contents were told before is so where they still are
@@ -29,6 +30,7 @@ module _ {R : Type 0} {g : Ghosts R} (first second : List ℕ) (a b : ℕ) where
     works = works_none (IsTold y) a b d serves.may;
     serves = serves;
     told = λ tells. tells;
+    asked = all_still y y refl;
     rose = rose_none (count_of y) (count_of y) (λ s u. omega arith);
   }
 
@@ -39,6 +41,7 @@ module _ {R : Type 0} {g : Ghosts R} (first second : List ℕ) (a b : ℕ) where
     short = short_none (IsTold y) a b d serves.may events;
     noted = serves.noted;
     told = λ tells. tells;
+    asked = all_still y y refl;
     rose = rose_none (count_of y) (count_of y) (λ s u. omega arith);
   }
 
@@ -49,14 +52,17 @@ module _ {R : Type 0} {g : Ghosts R} (first second : List ℕ) (a b : ℕ) where
     works = record { exact = λ tells. subst (λ (es : List Event). Runs d es w.next) (same tells) (w.works.exact tells); passes = w.works.passes };
     serves = w.serves;
     told = w.told;
+    asked = w.asked;
     rose = w.rose;
   }
   went_as d xs ys old new (Ended why) same w = record {
     last = w.last;
     fails = w.fails;
     stops = record { exact = λ tells. subst (λ (es : List Event). StopsAmong (IsTold new) d es w.fails (Refused why) w.last) (same tells) (w.stops.exact tells); other = w.stops.other };
+    sites = w.sites;
     noted = w.noted;
     told = w.told;
+    asked = w.asked;
     rose = w.rose;
   }
   went_as d xs ys old new Short same w = record {
@@ -64,6 +70,7 @@ module _ {R : Type 0} {g : Ghosts R} (first second : List ℕ) (a b : ℕ) where
     short = record { exact = λ tells. subst (λ (es : List Event). FirstOf d es w.last) (same tells) (w.short.exact tells); passes = w.short.passes };
     noted = w.noted;
     told = w.told;
+    asked = w.asked;
     rose = w.rose;
   }
 
@@ -74,11 +81,13 @@ module _ {R : Type 0} {g : Ghosts R} (first second : List ℕ) (a b : ℕ) where
     last = w.last;
     fails = w.fails;
     stops = stop_more (IsTold new) a b d d xs ys w.fails (Refused why) w.last w.stops;
+    sites = w.sites;
     noted = w.noted;
     told = w.told;
+    asked = w.asked;
     rose = w.rose;
   }
-  went_more d xs ys old new Short not w = record { last = w.last; short = short_more (IsTold new) a b d w.last xs ys w.short; noted = w.noted; told = w.told; rose = w.rose }
+  went_more d xs ys old new Short not w = record { last = w.last; short = short_more (IsTold new) a b d w.last xs ys w.short; noted = w.noted; told = w.told; asked = w.asked; rose = w.rose }
 
   -- events that are done, and others behind them
   pub went_then : (d : Doubted) (xs ys : List Event) (old mid new : Yard R g) (r : Went) → AreSettling xs → (one : OnFor first second a b d xs old mid) → WentFor first second a b one.next ys mid new r
@@ -88,14 +97,17 @@ module _ {R : Type 0} {g : Ghosts R} (first second : List ℕ) (a b : ℕ) where
     works = works_then (IsTold new) a b d one.next xs ys two.next (works_later (IsTold mid) (IsTold new) a b d xs one.next two.told one.works) two.works;
     serves = two.serves;
     told = λ tells. one.told (two.told tells);
+    asked = all_then old mid new one.asked two.asked;
     rose = rose_then [] (count_of old) (count_of mid) (count_of new) one.rose two.rose;
   }
   went_then d xs ys old mid new (Ended why) are one two = record {
     last = two.last;
     fails = two.fails;
     stops = stop_then (IsTold new) a b d one.next xs ys two.fails (Refused why) two.last are (works_later (IsTold mid) (IsTold new) a b d xs one.next two.told one.works) two.stops;
+    sites = two.sites ∙ one.works.passes.moves.sites;
     noted = two.noted;
     told = λ tells. one.told (two.told tells);
+    asked = all_then old mid new one.asked two.asked;
     rose = rose_then two.fails (count_of old) (count_of mid) (count_of new) one.rose two.rose;
   }
   went_then d xs ys old mid new Short are one two = record {
@@ -103,5 +115,6 @@ module _ {R : Type 0} {g : Ghosts R} (first second : List ℕ) (a b : ℕ) where
     short = short_then (IsTold new) a b d one.next xs ys two.last (works_later (IsTold mid) (IsTold new) a b d xs one.next two.told one.works) two.short;
     noted = two.noted;
     told = λ tells. one.told (two.told tells);
+    asked = all_then old mid new one.asked two.asked;
     rose = rose_then [] (count_of old) (count_of mid) (count_of new) one.rose two.rose;
   }

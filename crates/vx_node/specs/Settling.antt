@@ -1,9 +1,12 @@
 -- What a part of a line that settles a link makes of a yard.
-use Rattle.std.specs.Prelude.{◌≡◌, ℕ, List, [], Result, Ok, Err}
+use Rattle.std.specs.Prelude.{◌≡◌, ◌++◌, ℕ, List, [], drop, false, Result, Ok, Err}
+use Rattle.vx_model.specs.Sites.{is_origin}
 use Rattle.vx_model.specs.declared.errors.OutOfMemory.{OutOfMemory}
 use Rattle.vx_model.specs.declared.no.No.{No}
 use Rattle.vx_history.specs.Doubts.{Doubted}
-use Rattle.vx_history.specs.World.{Fuse}
+use Rattle.vx_history.specs.Settling.{deliver_between, turns}
+use Rattle.vx_history.specs.Step.{run}
+use Rattle.vx_history.specs.World.{Fuse, World}
 use Rattle.vx_history.specs.declared.event.Event.{Event}
 use Rattle.vx_disk.specs.declared.shelf.Shelf.{Ghosts}
 use Rattle.vx_events.specs.Facts.{site_number}
@@ -14,6 +17,7 @@ use Rattle.vx_settling.specs.Between.{MayMove}
 use Rattle.vx_settling.specs.Works.{Shortens, Stops, Works}
 use Rattle.vx_node.specs.Carries.{Carries}
 use Rattle.vx_settling.specs.Burnt.{MayBurn, noted_as}
+use Rattle.vx_node.specs.OfSites.{AllSameFailing}
 use Rattle.vx_node.specs.Standing.{GoodFor, StandsFor}
 use Rattle.vx_node.specs.Stands.{RoseAll}
 use Rattle.vx_node.specs.Yards.{IsTold, count_of}
@@ -30,6 +34,10 @@ abbrev pub went_of : Result Said OutOfMemory → Went
 went_of (Ok said) = went_by said
 went_of (Err e) = Short
 
+-- what follows on the receiver's greeting: it is delivered, and turns follow; so many packets were sent before it
+abbrev pub settled_on : (a b before head : ℕ) → World → List Event
+settled_on a b before head w = let came = deliver_between a b before (drop before w.packets) in came ++ turns head (run w came) a b
+
 module _ {R : Type 0} {g : Ghosts R} where
   -- the yard stands for this world and carries it, where the fuses of two sites may have been noted
   pub record NotedFor (a b : ℕ) (d : Doubted) (y : Yard R g) : Type 0 where
@@ -42,6 +50,8 @@ module _ {R : Type 0} {g : Ghosts R} where
   pub record SettlesFor (first second : List ℕ) (a b : ℕ) (d : Doubted) (y : Yard R g) : Type 0 where
     pub noted : NotedFor a b d y
     pub may : MayMove a b d.world
+    -- updates are taken there
+    pub receives : is_origin (d.world.nodes b).role ≡ false
     pub good : GoodFor d y
     pub from : site_number d.world first ≡ a
     pub to : site_number d.world second ≡ b
@@ -52,6 +62,7 @@ module _ {R : Type 0} {g : Ghosts R} where
     pub works : Works (IsTold new) a b d events next
     pub serves : SettlesFor first second a b next new
     pub told : IsTold new → IsTold old
+    pub asked : AllSameFailing old new
     pub rose : RoseAll [] (count_of old) (count_of new)
 
   -- they are ended by this refusal
@@ -59,8 +70,10 @@ module _ {R : Type 0} {g : Ghosts R} where
     pub last : Doubted
     pub fails : Fails
     pub stops : Stops (IsTold new) a b d events fails (Refused why) last
+    pub sites : last.world.sites ≡ d.world.sites
     pub noted : NotedFor a b last new
     pub told : IsTold new → IsTold old
+    pub asked : AllSameFailing old new
     pub rose : RoseAll fails (count_of old) (count_of new)
 
   -- memory ran out in them
@@ -69,6 +82,7 @@ module _ {R : Type 0} {g : Ghosts R} where
     pub short : Shortens (IsTold new) a b d events last
     pub noted : NotedFor a b last new
     pub told : IsTold new → IsTold old
+    pub asked : AllSameFailing old new
     pub rose : RoseAll [] (count_of old) (count_of new)
 
   abbrev pub WentFor : (first second : List ℕ) → (a b : ℕ) → (d : Doubted) → (events : List Event) → (old new : Yard R g) → Went → Type 0

@@ -13,20 +13,20 @@ pub(crate) enum Went {
     Short,
 }
 
-fn by(said: &Said) -> Went
-    ensures { result ≡ went_by said.now }
+fn by(said: Said) -> Went
+    ensures { result ≡ went_by said }
 {
-    match said {
-        Said::Refused(no) => Went::Ended(*no),
-        _ => Went::On,
+    if let Said::Refused(no) = said {
+        return Went::Ended(no);
     }
+    Went::On
 }
 
 /// How it went, by what a line within it was answered.
 pub(crate) fn answered(answer: Result<Said, OutOfMemory>) -> Went
     ensures { result ≡ went_of answer }
 {
-    match &answer {
+    match answer {
         Ok(said) => by(said),
         Err(_) => Went::Short,
     }

@@ -1,7 +1,7 @@
 // The turns in which a link is settled.
 ghost use Rattle.std.specs.Prelude.{◌≡◌, ℕ, ◌∷◌, [], IfSome, List};
 ghost use Rattle.vx_history.specs.Doubts.{Doubted};
-ghost use Rattle.vx_history.specs.Settling.{greeting_events, is_stuck as is_stuck_at, settling, turn as turn_events, turns as turns_events};
+ghost use Rattle.vx_history.specs.Settling.{greeting_events, is_stuck as is_stuck_at, turn as turn_events, turns as turns_events};
 ghost use Rattle.vx_history.specs.declared.event.Event.TheVariants.{Pump as PumpAt, Tick as TickAt};
 ghost use Rattle.vx_settling.specs.Turning.{applying_all, greeting_if, sending_again};
 ghost use Rattle.vx_node.specs.Settling.{SettlesFor, WentFor};
@@ -160,8 +160,8 @@ impl<R: Rack> Yard<R> {
         }
     }
 
-    // Turns until what is durable is stored, at most so many.
-    fn turns(
+    /// Turns until what is durable is stored, at most so many.
+    pub(crate) fn turns(
         &mut self,
         alloc: Global,
         first: &Name,
@@ -186,26 +186,5 @@ impl<R: Rack> Yard<R> {
             }
         }
         Went::On
-    }
-
-    /// The events that settling the link of a site to another stands for.
-    pub(crate) fn settle_events(
-        &mut self,
-        alloc: Global,
-        first: &Name,
-        second: &Name,
-        here: u32,
-        there: u32,
-    ) -> Went
-        ensures went { (d : Doubted) → SettlesFor first.now second.now here there d self.old → WentFor first.now second.now here there d (settling d.world here there) self.old self.new result }
-        ensures files { in_files self.new ≡ in_files self.old }
-    {
-        let Some(shown) = self.shown_of(here, there) else {
-            return Went::Short;
-        };
-        match self.greet_anew(alloc, first, second, here, there) {
-            Went::On => self.turns(alloc, first, second, here, there, shown.head),
-            other => other,
-        }
     }
 }

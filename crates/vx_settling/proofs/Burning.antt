@@ -315,12 +315,31 @@ crashed_burnt fuses d site kept true = by (d.after site)
 -- ---- what may be noted behind that
 
 -- a crash makes another node of its site alone
-crash_nodes : (w : World) (s k : ℕ) → (crash_at w s k).nodes ≡ updated w.nodes s (crashed (w.nodes s) k)
+pub crash_nodes : (w : World) (s k : ℕ) → (crash_at w s k).nodes ≡ updated w.nodes s (crashed (w.nodes s) k)
 crash_nodes w s k = by (is_origin (w.nodes s).role)
   where
     by : (b : Bool) → (if b then crash_left w s k else with_node w s (crashed (w.nodes s) k)).nodes ≡ updated w.nodes s (crashed (w.nodes s) k)
     by true = refl
     by false = refl
+
+crash_sites : (w : World) (s k : ℕ) → (crash_at w s k).sites ≡ w.sites
+crash_sites w s k = by (is_origin (w.nodes s).role)
+  where
+    by : (b : Bool) → (if b then crash_left w s k else with_node w s (crashed (w.nodes s) k)).sites ≡ w.sites
+    by true = refl
+    by false = refl
+
+-- no site is made or lost
+pub crashed_sites : (d : Doubted) (site kept : ℕ) (taken : Bool) → (crashed_as d site kept taken).world.sites ≡ d.world.sites
+crashed_sites d site kept taken = crash_sites (resolved_at d site taken).world site (kept_of ((resolved_at d site taken).world.nodes site) kept) ∙ by taken
+  where
+    by_after : (o : Option After) → (taken_up d.world site o).sites ≡ d.world.sites
+    by_after None = refl
+    by_after (Some x) = refl
+
+    by : (t : Bool) → (resolved_at d site t).world.sites ≡ d.world.sites
+    by false = refl
+    by true = by_after (d.after site)
 
 pub burns_halved : (a b : ℕ) (fuses : ℕ → Fuse) (d : Doubted) (e : Event) (site disk : ℕ) → MayBurn a b fuses d.world → MayBurn a b (noted_at fuses site) (halved d e site disk).world
 burns_halved a b fuses d e site disk burns = record { each = λ i. by i (eqb i site) refl }

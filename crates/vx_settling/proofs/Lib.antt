@@ -10,3 +10,4 @@ pub mod Moving
 pub mod Working
 pub mod Burning
 pub mod WithinLines
+pub mod WithinApply

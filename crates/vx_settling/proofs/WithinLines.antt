@@ -50,7 +50,7 @@ use Rattle.vx_settling.specs.Between.{IsSent, MayMove, is_update}
 use Rattle.vx_settling.specs.Burnt.{EndTo, GoesTo, Going, MayBurn, NotedAs, OnTo, burnt_world, noted_as}
 use Rattle.vx_settling.specs.Kinds.{is_settling}
 use Rattle.vx_settling.specs.Works.{Stops, Works}
-use Rattle.vx_settling.proofs.Burning.{burned_twice, burns_kept, burns_noted, burns_same, crashed_burnt, burns_crashed, burns_halved, fused_pure, halved_burnt, like_burnt, noted_at, pumped_burnt, step_burnt, target_burnt, worked_burnt}
+use Rattle.vx_settling.proofs.Burning.{burned_twice, burns_kept, crashed_sites, burns_noted, burns_same, crashed_burnt, burns_crashed, burns_halved, fused_pure, halved_burnt, like_burnt, noted_at, pumped_burnt, step_burnt, target_burnt, worked_burnt}
 use Rattle.vx_settling.proofs.Ends.{connect_done, pump_done, tick_done}
 use Rattle.vx_settling.proofs.Running.{event_stays, happens}
 use Rattle.vx_settling.proofs.Working.{cuts_header, gives_up, lacks_header, stops_header, stops_unread, works_connect, works_deliver, works_keep_other, works_pump, works_pump_other, works_take_other, works_tick}
@@ -69,7 +69,7 @@ pub data OneEnds (told : Type 0) (d : Doubted) (line : ScriptLine) (e : Event) (
       → AreLeft line d d new → OneEnds told d line e fails said new
   OneFinds : (told → ⊥) → (last : Doubted) → FindsOther d line fails said last → AreLeft line d last new → OneEnds told d line e fails said new
 
-head_same : (x y : Event) (xs ys : List Event) → x ∷ xs ≡ y ∷ ys → (x ≡ y) × (xs ≡ ys)
+pub head_same : (x y : Event) (xs ys : List Event) → x ∷ xs ≡ y ∷ ys → (x ≡ y) × (xs ≡ ys)
 head_same x y xs ys e = (let f : x ≡ y = cc in f, let f : xs ≡ ys = cc in f)
 
 never_behind : (xs ys : List Event) (e : Event) → [] ≡ xs ++ e ∷ ys → ⊥
@@ -347,6 +347,7 @@ module _ (told : Type 0) (a b : ℕ) (d : Doubted) (may : MayMove a b d.world) (
           subst (λ (x : Said). GoesTo told a b d (PumpAt a b ∷ []) fails new x) (sym says)
           (record {
             last = d;
+            sites = refl;
             stops = subst (λ (f : Fails). Stops told a b d (PumpAt a b ∷ []) f (Refused why) d) (sym none) (gives_up told a b d may (PumpAt a b ∷ []) why untold other);
             noted = plain_same new (subst (λ (m : Doubted). IsAs m m.world new) leaves left);
           })
@@ -365,6 +366,7 @@ module _ (told : Type 0) (a b : ℕ) (d : Doubted) (may : MayMove a b d.world) (
           subst (λ (x : Said). GoesTo told a b d (PumpAt a b ∷ []) fails new x) (sym says)
           (record {
             last = d;
+            sites = refl;
             stops = subst (λ (f : Fails). Stops told a b d (PumpAt a b ∷ []) f (Refused (Device disk)) d) (ap (λ (i : ℕ). (i, disk) ∷ []) reads ∙ sym one) (stops_unread told a b d may disk);
             noted = plain_same new left;
           })
@@ -465,6 +467,7 @@ module _ (told : Type 0) (a b : ℕ) (d : Doubted) (may : MayMove a b d.world) (
           subst (λ (x : Said). GoesTo told a b d (DeliverAt number ∷ []) fails new x) (sym says)
           (record {
             last = halved d (DeliverAt number) site disk;
+            sites = refl;
             stops = subst (λ (f : Fails). Stops told a b d (DeliverAt number ∷ []) f (Refused (Device disk)) (halved d (DeliverAt number) site disk)) (sym one)
                 (subst (λ (i : ℕ). Stops told a b d (DeliverAt number ∷ []) ((i, disk) ∷ []) (Refused (Device disk)) (halved d (DeliverAt number) i disk)) (sym here)
                 (stops_header told a b d may number disk (subst (λ (i : ℕ). IsOpen (d.world.nodes i)) here opens) (subst (λ (i : ℕ). WritesAt d.world (DeliverAt number) i) here writes)));
@@ -477,6 +480,7 @@ module _ (told : Type 0) (a b : ℕ) (d : Doubted) (may : MayMove a b d.world) (
           subst (λ (x : Said). GoesTo told a b d (DeliverAt number ∷ []) fails new x) (sym says)
           (record {
             last = crashed_as half site kept taken;
+            sites = crashed_sites half site kept taken;
             stops = subst (λ (f : Fails). Stops told a b d (DeliverAt number ∷ []) f (Refused IsOff) (crashed_as half site kept taken)) (sym one)
                 (subst (λ (i : ℕ). Stops told a b d (DeliverAt number ∷ []) [] (Refused IsOff) (crashed_as (halved d (DeliverAt number) i 0) i kept taken)) (sym here)
                 (cuts_header told a b d may number kept taken (subst (λ (i : ℕ). IsOpen (d.world.nodes i)) here opens) (subst (λ (i : ℕ). WritesAt d.world (DeliverAt number) i) here writes)
@@ -491,6 +495,7 @@ module _ (told : Type 0) (a b : ℕ) (d : Doubted) (may : MayMove a b d.world) (
           subst (λ (x : Said). GoesTo told a b d (DeliverAt number ∷ []) fails new x) (sym says)
           (record {
             last = d;
+            sites = refl;
             stops = subst (λ (f : Fails). Stops told a b d (DeliverAt number ∷ []) f (Refused (Limit Number MOST_NUMBER)) d) (sym one)
                 (lacks_header told a b d may number (subst (λ (i : ℕ). WritesAt d.world (DeliverAt number) i) here takes)
                 (subst (λ (i : ℕ). told → MOST_NUMBER ≤ most_stamp_at d.world i + stamps_of (DeliverAt number) d.world i) here lacks));

@@ -38,6 +38,7 @@ pub record OnTo (told : Type 0) (a b : ℕ) (d : Doubted) (events : List Event) 
 pub record EndTo (told : Type 0) (a b : ℕ) (d : Doubted) (events : List Event) (fails : Fails) (why : No) (e : Doubted) : Type 0 where
   pub last : Doubted
   pub stops : Stops told a b d events fails (Refused why) last
+  pub sites : last.world.sites ≡ d.world.sites
   pub noted : NotedAs a b last e
 
 -- by the reply
