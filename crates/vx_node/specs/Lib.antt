@@ -22,3 +22,4 @@ pub mod Writes
 pub mod Yards
 pub mod Headed
 pub mod Settling
+pub mod Handing

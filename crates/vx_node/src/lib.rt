@@ -37,6 +37,8 @@ mod rooms;
 pub mod sent;
 mod set;
 mod settle;
+mod settle_packets;
+mod settle_turns;
 mod shown;
 mod status;
 mod text;
