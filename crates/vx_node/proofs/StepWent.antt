@@ -1,5 +1,5 @@
 -- A line within one that settles a link, as one of its events.
-use Rattle.std.proofs.Common.{◌≡◌, ◌∙◌, ◌+◌, ◌≤◌, ℕ, List, [], ◌∷◌, ap, sym, subst, refl}
+use Rattle.std.proofs.Common.{◌≡◌, ◌∙◌, ◌+◌, ◌≤◌, ℕ, List, [], ◌∷◌, ap, sym, subst, refl, arith}
 use Rattle.std.specs.Prelude.{Result, Ok, Err}
 use Rattle.vx_model.specs.declared.errors.OutOfMemory.{OutOfMemory}
 use Rattle.vx_model.specs.declared.no.No.{No}
@@ -101,7 +101,7 @@ module _ {R : Type 0} {g : Ghosts R} where
         sites = off.sites;
         noted = noted_for a b off.last leads.next new off.noted leads.stands (leads.carries serves.noted.carries);
         told = told;
-      asked = asked;
+        asked = asked;
         rose = leads.rose;
       }
 

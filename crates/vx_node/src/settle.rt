@@ -11,7 +11,7 @@ ghost use Rattle.vx_settling.specs.Between.{IsSent};
 ghost use Rattle.vx_node.specs.Settling.{SettlesFor, WentFor};
 ghost use Rattle.vx_node.specs.Standing.{StandsFor};
 ghost use Rattle.vx_node.specs.Working.{IsFree};
-ghost use Rattle.vx_node.specs.Yards.{IsKept, in_files};
+ghost use Rattle.vx_node.specs.Yards.{IsKept, IsTold, in_files};
 
 use crate::Yard;
 use crate::going::{Went, answered};
@@ -36,6 +36,7 @@ impl<R: Rack> Yard<R> {
     /// The link is connected.
     pub(crate) fn connect_step(&mut self, first: &Name, second: &Name) -> Went
         ensures went { (d : Doubted) (a b : ℕ) → SettlesFor first.now second.now a b d self.old → WentFor first.now second.now a b d (ConnectAt a b ∷ []) self.old self.new result }
+        ensures told { IsTold self.new → IsTold self.old }
         ensures files { in_files self.new ≡ in_files self.old }
     {
         let words = ScriptLine::Connect {
@@ -51,6 +52,7 @@ impl<R: Rack> Yard<R> {
     /// What was sent on it counts as lost.
     pub(crate) fn tick_step(&mut self, first: &Name, second: &Name) -> Went
         ensures went { (d : Doubted) (a b : ℕ) → SettlesFor first.now second.now a b d self.old → WentFor first.now second.now a b d (TickAt a b ∷ []) self.old self.new result }
+        ensures told { IsTold self.new → IsTold self.old }
         ensures files { in_files self.new ≡ in_files self.old }
     {
         let words = ScriptLine::Tick {
@@ -66,6 +68,7 @@ impl<R: Rack> Yard<R> {
     /// What its receiver may lack is sent.
     pub(crate) fn pump_step(&mut self, alloc: Global, first: &Name, second: &Name) -> Went
         ensures went { (d : Doubted) (a b : ℕ) → SettlesFor first.now second.now a b d self.old → WentFor first.now second.now a b d (PumpAt a b ∷ []) self.old self.new result }
+        ensures told { IsTold self.new → IsTold self.old }
         ensures files { in_files self.new ≡ in_files self.old }
     {
         let words = ScriptLine::Pump {
@@ -88,6 +91,7 @@ impl<R: Rack> Yard<R> {
     ) -> Went
         ensures went { (d : Doubted) (a b : ℕ) (q : Packet) → SettlesFor first.now second.now a b d self.old → packet_at d.world.packets number ≡ Some q → IsSent a b q → is_between a b q ≡ true
             → WentFor first.now second.now a b d (DeliverAt number ∷ []) self.old self.new result }
+        ensures told { IsTold self.new → IsTold self.old }
         ensures files { in_files self.new ≡ in_files self.old }
     {
         let words = ScriptLine::Deliver { packet: number };
@@ -101,6 +105,7 @@ impl<R: Rack> Yard<R> {
     pub(crate) fn apply_step(&mut self, alloc: Global, first: &Name, second: &Name) -> Went
         ensures went { (d : Doubted) (a b : ℕ) → SettlesFor first.now second.now a b d self.old
             → WentFor first.now second.now a b d (ApplyAt b (length (d.world.nodes b).log - (d.world.nodes b).safe) 0 ∷ []) self.old self.new result }
+        ensures told { IsTold self.new → IsTold self.old }
         ensures files { in_files self.new ≡ in_files self.old }
     {
         let Some(count) = self.waits_at(second) else {

@@ -44,7 +44,7 @@ use Rattle.vx_events.specs.LinksFit.{LinksFit}
 use Rattle.vx_events.specs.Sayings.{Repeats}
 use Rattle.vx_events.specs.Stamps.{most_stamp_at, stamps_of}
 use Rattle.vx_events.specs.declared.said.Said.{Said}
-use Rattle.vx_events.specs.declared.said.Said.TheVariants.{Ignored, Refused, Taken}
+use Rattle.vx_events.specs.declared.said.Said.TheVariants.{Done, Ignored, Refused, Taken}
 use Rattle.vx_world.proofs.LikeSteps.{said_like}
 use Rattle.vx_settling.specs.Between.{IsSent, MayMove, is_update}
 use Rattle.vx_settling.specs.Burnt.{EndTo, GoesTo, Going, MayBurn, NotedAs, OnTo, burnt_world, noted_as}
@@ -502,3 +502,22 @@ module _ (told : Type 0) (a b : ℕ) (d : Doubted) (may : MayMove a b d.world) (
             noted = left_noted d fuses (noted_as fuses d) burns refl left;
           })
       by (OneFinds untold last finds left) = by_finds untold last finds left
+
+  -- a connect is done
+  pub connect_says : (p s : List ℕ) (fails : Fails) (said : Said) (new : Doubted) → site_number d.world p ≡ a → site_number d.world s ≡ b → LinkEnds told (noted_as fuses d) (Connect p s) fails said new → said ≡ Done
+  connect_says p s fails said new from to ends =
+      by (one_ends told (noted_as fuses d) (Connect p s) (ConnectAt a b) fails said new
+      (ap (λ (i : ℕ). ConnectAt i (site_number (burnt_world fuses d.world) s) ∷ []) (number_burnt fuses d.world p ∙ from) ∙ ap (λ (j : ℕ). ConnectAt a j ∷ []) (number_burnt fuses d.world s ∙ to)) refl refl (λ last reply. reply) ends)
+    where
+      by : OneEnds told (noted_as fuses d) (Connect p s) (ConnectAt a b) fails said new → said ≡ Done
+      by (OneDone none reply left) =
+          subst (λ (x : EventSaid). Repeats (step (burnt_world fuses d.world) (ConnectAt a b)).world 0 x said) (said_same (ConnectAt a b) ∙ connect_done d.world a b may.can) reply
+      by (OneHalts site disk opens writes one says left) = absurd writes
+      by (OneCut site kept taken opens writes fused one says left) = absurd writes
+      by (OneUnread site disk reads one says left) = absurd reads
+      by (OneFull site takes lacks one says left) = absurd takes
+      by (OneFinds untold last (SendsOther q r more is none says leaves) left) = absurd (cc)
+      by (OneFinds untold last (ReadsNone q r why is other none says leaves) left) = absurd (cc)
+      by (OneFinds untold last (TakesOther number q x g more is takes none says leaves) left) = absurd (cc)
+      by (OneFinds untold last (KeepsOther number q g more is takes none says leaves) left) = absurd (cc)
+      by (OneFinds untold last (SettlesOther q r middle is moves finds) left) = absurd (cc)

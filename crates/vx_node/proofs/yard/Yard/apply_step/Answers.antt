@@ -14,10 +14,10 @@ use Rattle.vx_node.proofs.StepWent.{step_same, step_went}
 use Rattle.vx_node.proofs.yard.Yard.apply_step.Goals as goal
 
 pub apply_line-requires-clause-kept : goal.apply_line-requires-clause-kept
-apply_line-requires-clause-kept g c = c.may.ensures.kept c.if-not-may.false
+apply_line-requires-clause-kept g c = λ κs within. c.may.ensures.kept c.if-not-may.false
 
 pub apply_line-requires-clause-free : goal.apply_line-requires-clause-free
-apply_line-requires-clause-free g c = c.may.ensures.free c.if-not-may.false
+apply_line-requires-clause-free g c = λ κs within. c.may.ensures.free c.if-not-may.false
 
 pub returns-in_default-clause-went : goal.returns-in_default-clause-went
 returns-in_default-clause-went g c = λ d a b serves.

@@ -13,10 +13,10 @@ use Rattle.vx_node.proofs.StepWent.{step_same, step_went, told_same}
 use Rattle.vx_node.proofs.yard.Yard.connect_step.Goals as goal
 
 pub connect_line-requires-clause-kept : goal.connect_line-requires-clause-kept
-connect_line-requires-clause-kept g c = c.may.ensures.kept c.if-not-may.false
+connect_line-requires-clause-kept g c = λ κs within. c.may.ensures.kept c.if-not-may.false
 
 pub connect_line-requires-clause-free : goal.connect_line-requires-clause-free
-connect_line-requires-clause-free g c = c.may.ensures.free c.if-not-may.false
+connect_line-requires-clause-free g c = λ κs within. c.may.ensures.free c.if-not-may.false
 
 pub returns-then-not-may-clause-went : goal.returns-then-not-may-clause-went
 returns-then-not-may-clause-went g c = λ d a b serves.
@@ -32,3 +32,6 @@ returns-clause-went g c = λ d a b serves.
     (step_went c.args.first.now c.args.second.now a b d (ConnectAt a b ∷ []) y new serves (told_same y new (ap (λ es. es.items) c.connect_line.ensures.still)) (all_still y new (ap (λ es. es.items) c.connect_line.ensures.still)) (Connect c.args.first.now c.args.second.now)
     (λ fails said e done. connect_goes (IsTold new) a b d serves.may n.fuses n.burns n.stands.links c.args.first.now c.args.second.now fails said e serves.from serves.to done.ends)
     c.connect_line.result (c.connect_line.ensures.leads (noted_as n.fuses d) n.stands n.carries))
+
+pub returns-clause-told : goal.returns-clause-told
+returns-clause-told g c = told_same c.args.self.now c.connect_line.new.self (ap (λ es. es.items) c.connect_line.ensures.still)

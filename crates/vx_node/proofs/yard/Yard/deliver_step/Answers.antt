@@ -13,10 +13,10 @@ use Rattle.vx_node.proofs.StepWent.{good_noted, step_same, step_went}
 use Rattle.vx_node.proofs.yard.Yard.deliver_step.Goals as goal
 
 pub deliver_line-requires-clause-kept : goal.deliver_line-requires-clause-kept
-deliver_line-requires-clause-kept g c = c.may.ensures.kept c.if-not-may.false
+deliver_line-requires-clause-kept g c = λ κs within. c.may.ensures.kept c.if-not-may.false
 
 pub deliver_line-requires-clause-free : goal.deliver_line-requires-clause-free
-deliver_line-requires-clause-free g c = c.may.ensures.free c.if-not-may.false
+deliver_line-requires-clause-free g c = λ κs within. c.may.ensures.free c.if-not-may.false
 
 pub returns-then-not-may-clause-went : goal.returns-then-not-may-clause-went
 returns-then-not-may-clause-went g c = λ d a b q serves at sent between.

@@ -13,10 +13,10 @@ use Rattle.vx_node.proofs.StepWent.{all_alone, step_same, step_went, told_same}
 use Rattle.vx_node.proofs.yard.Yard.pump_step.Goals as goal
 
 pub pump_line-requires-clause-kept : goal.pump_line-requires-clause-kept
-pump_line-requires-clause-kept g c = c.may.ensures.kept c.if-not-may.false
+pump_line-requires-clause-kept g c = λ κs within. c.may.ensures.kept c.if-not-may.false
 
 pub pump_line-requires-clause-free : goal.pump_line-requires-clause-free
-pump_line-requires-clause-free g c = c.may.ensures.free c.if-not-may.false
+pump_line-requires-clause-free g c = λ κs within. c.may.ensures.free c.if-not-may.false
 
 pub returns-then-not-may-clause-went : goal.returns-then-not-may-clause-went
 returns-then-not-may-clause-went g c = λ d a b serves.

@@ -12,8 +12,8 @@ use Rattle.vx_node.proofs.OfSites.{all_still}
 use Rattle.vx_node.proofs.StepWent.{step_same, step_went, told_same}
 use Rattle.vx_node.proofs.yard.Yard.tick_step.Goals as goal
 
-pub tick_line-requires : goal.tick_line-requires
-tick_line-requires g c = record { free = c.may.ensures.free c.if-not-may.false }
+pub tick_line-requires-clause-free : goal.tick_line-requires-clause-free
+tick_line-requires-clause-free g c = λ κs within. c.may.ensures.free c.if-not-may.false
 
 pub returns-then-not-may-clause-went : goal.returns-then-not-may-clause-went
 returns-then-not-may-clause-went g c = λ d a b serves.
@@ -29,3 +29,6 @@ returns-clause-went g c = λ d a b serves.
     (step_went c.args.first.now c.args.second.now a b d (TickAt a b ∷ []) y new serves (told_same y new (ap (λ es. es.items) c.tick_line.ensures.still)) (all_still y new (ap (λ es. es.items) c.tick_line.ensures.still)) (Tick c.args.first.now c.args.second.now)
     (λ fails said e done. tick_goes (IsTold new) a b d serves.may n.fuses n.burns n.stands.links c.args.first.now c.args.second.now fails said e serves.from serves.to done.ends)
     (Ok c.tick_line.result) (c.tick_line.ensures.leads (noted_as n.fuses d) n.stands n.carries))
+
+pub returns-clause-told : goal.returns-clause-told
+returns-clause-told g c = told_same c.args.self.now c.tick_line.new.self (ap (λ es. es.items) c.tick_line.ensures.still)
