@@ -31,7 +31,7 @@ deliver_one a b j zero (q ∷ qs) low = one_by (is_between a b q) (Deliver (suc 
 deliver_one a b j (suc k) (q ∷ qs) low = deliver_one a b j k qs (omega (arith, low))
 
 -- those of so many packets
-pub handed_to : (a b before n : ℕ) → List Packet → List Event
+abbrev pub handed_to : (a b before n : ℕ) → List Packet → List Event
 handed_to a b before zero ps = []
 handed_to a b before (suc n) ps = handed_to a b before n ps ++ handed a b (before + n) ps
 

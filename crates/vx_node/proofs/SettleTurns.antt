@@ -19,7 +19,7 @@ use Rattle.vx_node.specs.declared.going.Went.{Went}
 use Rattle.vx_node.specs.declared.going.Went.TheVariants.{On, Short}
 use Rattle.vx_node.specs.declared.yard.Yard.{Yard}
 use Rattle.vx_node.proofs.WentOn.{went_told, world_is}
-use Rattle.vx_node.proofs.WentThen.{went_as, went_more, went_none, went_short, went_then}
+use Rattle.vx_node.proofs.WentThen.{on_then, went_as, went_more, went_none, went_short, went_then}
 
 pub are_again : (w : World) (a b : ℕ) → AreSettling (sending_again w a b)
 are_again w a b = let sent : List Event = Tick a b ∷ Pump a b ∷ [] in are_both sent (delivery a b w (run w sent)) (refl, (refl, tt)) (are_deliveries a b w (run w sent))
@@ -91,7 +91,7 @@ module _ {R : Type 0} {g : Ghosts R} (first second : List ℕ) (a b : ℕ) where
     turns_more short new one = record {
       events = made.events ++ turn w a b;
       are = are_both made.events (turn w a b) made.are (are_turn w a b);
-      on = went_then first second a b d made.events (turn w a b) old mid new On made.are made.on one;
+      on = on_then first second a b d made.events (turn w a b) old mid new made.on one;
       rest = λ tells.
           turns_on w a b (turns most d.world a b) made.events (most - suc past) short (all_of (one.told tells))
           ∙ ap (λ (v : World). (made.events ++ turn w a b) ++ turns (most - suc past) v a b) (sym (world_is first second a b made.on.next (turn w a b) mid new (are_turn w a b) one tells));
@@ -115,7 +115,7 @@ module _ {R : Type 0} {g : Ghosts R} (first second : List ℕ) (a b : ℕ) where
       (λ tells. sym (turns_none made.on.next.world a b (turns most d.world a b) made.events (made.rest tells ∙ ap (λ (n : ℕ). made.events ++ turns n made.on.next.world a b) none))) made.on
 
   -- want of memory ends them
-  pub turns_short : (d : Doubted) (most past : ℕ) (old mid : Yard R g) → (made : TurnsFor d most past old mid) → ShortFor first second a b d (turns most d.world a b) old mid
+  pub turns_short : (d : Doubted) (most past : ℕ) (old mid : Yard R g) → (made : TurnsFor d most past old mid) → ShortFor a b d (turns most d.world a b) old mid
   turns_short d most past old mid made =
       let rest : List Event = turns (most - past) made.on.next.world a b in
       went_as first second a b d (made.events ++ rest) (turns most d.world a b) old mid Short (λ tells. sym (made.rest tells))

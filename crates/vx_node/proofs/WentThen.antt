@@ -24,7 +24,7 @@ works_later T L a b d xs e told works = record { exact = λ tells. works.exact (
 
 module _ {R : Type 0} {g : Ghosts R} (first second : List ℕ) (a b : ℕ) where
   -- no event is done
-  pub went_none : (d : Doubted) (y : Yard R g) → SettlesFor first second a b d y → OnFor first second a b d [] y y
+  abbrev pub went_none : (d : Doubted) (y : Yard R g) → SettlesFor first second a b d y → OnFor first second a b d [] y y
   went_none d y serves = record {
     next = d;
     works = works_none (IsTold y) a b d serves.may;
@@ -89,10 +89,9 @@ module _ {R : Type 0} {g : Ghosts R} (first second : List ℕ) (a b : ℕ) where
   }
   went_more d xs ys old new Short not w = record { last = w.last; short = short_more (IsTold new) a b d w.last xs ys w.short; noted = w.noted; told = w.told; asked = w.asked; rose = w.rose }
 
-  -- events that are done, and others behind them
-  pub went_then : (d : Doubted) (xs ys : List Event) (old mid new : Yard R g) (r : Went) → AreSettling xs → (one : OnFor first second a b d xs old mid) → WentFor first second a b one.next ys mid new r
-      → WentFor first second a b d (xs ++ ys) old new r
-  went_then d xs ys old mid new On are one two = record {
+  -- events that are done, and others that are
+  abbrev pub on_then : (d : Doubted) (xs ys : List Event) (old mid new : Yard R g) → (one : OnFor first second a b d xs old mid) → OnFor first second a b one.next ys mid new → OnFor first second a b d (xs ++ ys) old new
+  on_then d xs ys old mid new one two = record {
     next = two.next;
     works = works_then (IsTold new) a b d one.next xs ys two.next (works_later (IsTold mid) (IsTold new) a b d xs one.next two.told one.works) two.works;
     serves = two.serves;
@@ -100,6 +99,11 @@ module _ {R : Type 0} {g : Ghosts R} (first second : List ℕ) (a b : ℕ) where
     asked = all_then old mid new one.asked two.asked;
     rose = rose_then [] (count_of old) (count_of mid) (count_of new) one.rose two.rose;
   }
+
+  -- events that are done, and others behind them
+  pub went_then : (d : Doubted) (xs ys : List Event) (old mid new : Yard R g) (r : Went) → AreSettling xs → (one : OnFor first second a b d xs old mid) → WentFor first second a b one.next ys mid new r
+      → WentFor first second a b d (xs ++ ys) old new r
+  went_then d xs ys old mid new On are one two = on_then d xs ys old mid new one two
   went_then d xs ys old mid new (Ended why) are one two = record {
     last = two.last;
     fails = two.fails;
