@@ -1,5 +1,6 @@
 -- Whether all is stored.
-use Rattle.std.proofs.Common.{◌≡◌, ◌≤◌, ℕ, Bool, true, arith, nat_tests}
+use Rattle.std.proofs.Common.{◌≡◌, ◌≤◌, ℕ, Bool, true, arith}
+use Rattle.std.proofs.lemmas.Bool.Decides.{nat_tests}
 use Rattle.std.specs.Prelude.{leb}
 use Rattle.vx_node.proofs.yard.Yard.is_settled.Goals as goal
 
