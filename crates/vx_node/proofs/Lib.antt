@@ -87,3 +87,4 @@ pub mod HeardWorld
 pub mod HeardLine
 pub mod DeliverLine
 pub mod SettleEnds
+pub mod SettleLine

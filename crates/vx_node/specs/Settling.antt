@@ -1,5 +1,5 @@
 -- What a part of a line that settles a link makes of a yard.
-use Rattle.std.specs.Prelude.{◌≡◌, ◌++◌, ℕ, List, [], drop, false, Result, Ok, Err}
+use Rattle.std.specs.Prelude.{◌≡◌, ◌++◌, ℕ, Bool, List, [], drop, false, true, Option, None, Some, Result, Ok, Err}
 use Rattle.vx_model.specs.Sites.{is_origin}
 use Rattle.vx_model.specs.declared.errors.OutOfMemory.{OutOfMemory}
 use Rattle.vx_model.specs.declared.no.No.{No}
@@ -12,7 +12,7 @@ use Rattle.vx_disk.specs.declared.shelf.Shelf.{Ghosts}
 use Rattle.vx_events.specs.Facts.{site_number}
 use Rattle.vx_events.specs.Fails.{Fails}
 use Rattle.vx_events.specs.declared.said.Said.{Said}
-use Rattle.vx_events.specs.declared.said.Said.TheVariants.{Refused}
+use Rattle.vx_events.specs.declared.said.Said.TheVariants.{Refused, Settled}
 use Rattle.vx_settling.specs.Between.{MayMove}
 use Rattle.vx_settling.specs.Works.{Shortens, Stops, Works}
 use Rattle.vx_node.specs.Carries.{Carries}
@@ -33,6 +33,17 @@ went_by other = On
 abbrev pub went_of : Result Said OutOfMemory → Went
 went_of (Ok said) = went_by said
 went_of (Err e) = Short
+
+-- what the line is answered, by how its parts went, and by whether all is stored up to the last number there was
+abbrev pub end_by : Went → Bool → ℕ → Option Said
+end_by (Ended why) settled head = Some (Refused why)
+end_by Short settled head = None
+end_by On true head = Some (Settled head)
+end_by On false head = None
+
+abbrev pub ended_as : Result Said OutOfMemory → Option Said
+ended_as (Ok said) = Some said
+ended_as (Err e) = None
 
 -- what follows on the receiver's greeting: it is delivered, and turns follow; so many packets were sent before it
 abbrev pub settled_on : (a b before head : ℕ) → World → List Event

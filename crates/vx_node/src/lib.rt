@@ -39,6 +39,7 @@ mod set;
 mod settle;
 mod settle_packets;
 mod settle_turns;
+mod settled;
 mod shown;
 mod status;
 mod text;

@@ -23,7 +23,7 @@ use vx_script::ScriptLine;
 
 impl<R: Rack> Yard<R> {
     // Whether the yard is whole, and no test refuses a line.
-    fn may(&self, words: &ScriptLine) -> bool
+    pub(crate) fn may(&self, words: &ScriptLine) -> bool
         ensures kept { result ≡ true → IsKept self.now }
         ensures free { result ≡ true → IsFree self.now words.now }
     {

@@ -6,7 +6,7 @@ ghost use Rattle.vx_history.specs.Settling.{deliver_between, delivery};
 ghost use Rattle.vx_history.specs.World.{World};
 ghost use Rattle.vx_node.specs.Handing.{handed, way_by};
 ghost use Rattle.vx_node.specs.Settling.{SettlesFor, WentFor};
-ghost use Rattle.vx_node.specs.Yards.{in_files};
+ghost use Rattle.vx_node.specs.Yards.{IsTold, in_files};
 
 use crate::Yard;
 use crate::going::Went;
@@ -55,6 +55,7 @@ impl<R: Rack> Yard<R> {
     ) -> Went
         requires small { past < 0xffff_ffff_ffff_ffff }
         ensures went { (d : Doubted) → SettlesFor first.now second.now here there d self.old → past < length d.world.packets → WentFor first.now second.now here there d (handed here there past d.world.packets) self.old self.new result }
+        ensures told { IsTold self.new → IsTold self.old }
         ensures files { in_files self.new ≡ in_files self.old }
     {
         let Some(part) = part_at(&self.flight, past + 1) else {
@@ -81,6 +82,7 @@ impl<R: Rack> Yard<R> {
     ) -> Went
         ensures went { (d : Doubted) → SettlesFor first.now second.now here there d self.old → before ≤ length d.world.packets
             → WentFor first.now second.now here there d (deliver_between here there before (drop before d.world.packets)) self.old self.new result }
+        ensures told { IsTold self.new → IsTold self.old }
         ensures files { in_files self.new ≡ in_files self.old }
     {
         let end = self.flight.count();
@@ -108,6 +110,7 @@ impl<R: Rack> Yard<R> {
     ) -> Went
         ensures went { (d : Doubted) (w : World) → SettlesFor first.now second.now here there d self.old → length w.packets ≡ before → before ≤ length d.world.packets
             → WentFor first.now second.now here there d (delivery here there w d.world) self.old self.new result }
+        ensures told { IsTold self.new → IsTold self.old }
         ensures files { in_files self.new ≡ in_files self.old }
     {
         let sent = self.flight.count();

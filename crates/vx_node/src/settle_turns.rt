@@ -5,7 +5,7 @@ ghost use Rattle.vx_history.specs.Settling.{greeting_events, is_stuck as is_stuc
 ghost use Rattle.vx_history.specs.declared.event.Event.TheVariants.{Pump as PumpAt, Tick as TickAt};
 ghost use Rattle.vx_settling.specs.Turning.{applying_all, greeting_if, sending_again};
 ghost use Rattle.vx_node.specs.Settling.{SettlesFor, WentFor};
-ghost use Rattle.vx_node.specs.Yards.{in_files};
+ghost use Rattle.vx_node.specs.Yards.{IsTold, in_files};
 
 use crate::Yard;
 use crate::going::Went;
@@ -57,6 +57,7 @@ impl<R: Rack> Yard<R> {
         there: u32,
     ) -> Went
         ensures went { (d : Doubted) → SettlesFor first.now second.now here there d self.old → WentFor first.now second.now here there d (greeting_events d.world here there) self.old self.new result }
+        ensures told { IsTold self.new → IsTold self.old }
         ensures files { in_files self.new ≡ in_files self.old }
     {
         let before = self.flight.count();
@@ -69,6 +70,7 @@ impl<R: Rack> Yard<R> {
     // What was sent counts as lost, and what the receiver may lack is sent.
     fn send_lost(&mut self, alloc: Global, first: &Name, second: &Name, here: u32, there: u32) -> Went
         ensures went { (d : Doubted) → SettlesFor first.now second.now here there d self.old → WentFor first.now second.now here there d (TickAt here there ∷ PumpAt here there ∷ []) self.old self.new result }
+        ensures told { IsTold self.new → IsTold self.old }
         ensures files { in_files self.new ≡ in_files self.old }
     {
         match self.tick_step(first, second) {
@@ -87,6 +89,7 @@ impl<R: Rack> Yard<R> {
         there: u32,
     ) -> Went
         ensures went { (d : Doubted) → SettlesFor first.now second.now here there d self.old → WentFor first.now second.now here there d (sending_again d.world here there) self.old self.new result }
+        ensures told { IsTold self.new → IsTold self.old }
         ensures files { in_files self.new ≡ in_files self.old }
     {
         let before = self.flight.count();
@@ -106,6 +109,7 @@ impl<R: Rack> Yard<R> {
         there: u32,
     ) -> Went
         ensures went { (d : Doubted) → SettlesFor first.now second.now here there d self.old → WentFor first.now second.now here there d (applying_all d.world here there) self.old self.new result }
+        ensures told { IsTold self.new → IsTold self.old }
         ensures files { in_files self.new ≡ in_files self.old }
     {
         let before = self.flight.count();
@@ -126,6 +130,7 @@ impl<R: Rack> Yard<R> {
         before: u64,
     ) -> Went
         ensures went { (d : Doubted) → SettlesFor first.now second.now here there d self.old → WentFor first.now second.now here there d (greeting_if before d.world here there) self.old self.new result }
+        ensures told { IsTold self.new → IsTold self.old }
         ensures files { in_files self.new ≡ in_files self.old }
     {
         let Some(shown) = self.shown_of(here, there) else {
@@ -149,6 +154,7 @@ impl<R: Rack> Yard<R> {
     ) -> Went
         ensures went { (d : Doubted) → SettlesFor first.now second.now here there d self.old → before ≡ (d.world.links here there).stored
             → WentFor first.now second.now here there d (turn_events d.world here there) self.old self.new result }
+        ensures told { IsTold self.new → IsTold self.old }
         ensures files { in_files self.new ≡ in_files self.old }
     {
         match self.send_again(alloc, first, second, here, there) {
@@ -171,6 +177,7 @@ impl<R: Rack> Yard<R> {
         most: u64,
     ) -> Went
         ensures went { (d : Doubted) → SettlesFor first.now second.now here there d self.old → WentFor first.now second.now here there d (turns_events most d.world here there) self.old self.new result }
+        ensures told { IsTold self.new → IsTold self.old }
         ensures files { in_files self.new ≡ in_files self.old }
     {
         for past in 0..most {

@@ -35,3 +35,9 @@ returns-in_default-clause-went g c = λ d serves.
     let y = c.args.self.now in
     let xs : List Event = Apply b (length (d.world.nodes b).log - (d.world.nodes b).safe) 0 ∷ [] in
     went_more p q a b d xs (delivery a b d.world (run d.world xs)) y c.apply_step.new.self c.apply_step.result c.in_default.not-On (c.apply_step.ensures.went d a b serves)
+
+pub returns-in-On-clause-told : goal.returns-in-On-clause-told
+returns-in-On-clause-told g c = λ told. c.in-On.ensures.told (c.deliver_all.ensures.told told)
+
+pub returns-in_default-clause-told : goal.returns-in_default-clause-told
+returns-in_default-clause-told g c = λ told. c.apply_step.ensures.told told

@@ -36,3 +36,9 @@ returns-in_default-clause-went g c = λ d w serves many low.
     let first = deliver_new a b w d.world in
     went_more p q a b d first (deliver_new a b d.world (run d.world first)) y mid c.deliver_sent.result c.in_default.not-On
     (new_went p q a b w c.args.before d y mid c.deliver_sent.result (sym many) (c.deliver_sent.ensures.went d serves low))
+
+pub returns-in-On-clause-told : goal.returns-in-On-clause-told
+returns-in-On-clause-told g c = λ told. c.in-On.ensures.told (c.deliver_sent-in-On.ensures.told told)
+
+pub returns-in_default-clause-told : goal.returns-in_default-clause-told
+returns-in_default-clause-told g c = λ told. c.deliver_sent.ensures.told told

@@ -35,3 +35,9 @@ returns-in_default-clause-went g c = λ d serves.
     let y = c.args.self.now in
     let xs : List Event = Connect a b ∷ [] in
     went_more p q a b d xs (deliver_new a b d.world (run d.world xs)) y c.connect_step.new.self c.connect_step.result c.in_default.not-On (c.connect_step.ensures.went d a b serves)
+
+pub returns-in-On-clause-told : goal.returns-in-On-clause-told
+returns-in-On-clause-told g c = λ told. c.in-On.ensures.told (c.deliver_sent.ensures.told told)
+
+pub returns-in_default-clause-told : goal.returns-in_default-clause-told
+returns-in_default-clause-told g c = λ told. c.connect_step.ensures.told told

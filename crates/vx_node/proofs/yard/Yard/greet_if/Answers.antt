@@ -37,3 +37,12 @@ returns-clause-went g c = λ d serves.
     let is = c.in-Some.ensures d p q serves in
     let not = ap (λ k. is_stuck c.args.before k (d.world.nodes a).safe) (sym is.0) ∙ ap (λ k. is_stuck c.args.before c.in-Some.shown.stored k) (sym is.1) ∙ sym c.is_stuck.ensures ∙ c.if-is_stuck.false in
     went_as p q a b d [] (greeting_if c.args.before d.world a b) y y On (λ _. greets_not d.world a b c.args.before not) (went_none p q a b d y serves)
+
+pub returns-in_default-clause-told : goal.returns-in_default-clause-told
+returns-in_default-clause-told g c = λ told. told
+
+pub returns-then-is_stuck-clause-told : goal.returns-then-is_stuck-clause-told
+returns-then-is_stuck-clause-told g c = λ told. c.greet_anew.ensures.told told
+
+pub returns-clause-told : goal.returns-clause-told
+returns-clause-told g c = λ told. told

@@ -42,3 +42,15 @@ returns-clause-went g c = λ d serves low.
     let goes = sym so.is ∙ c.if-not-goes.false in
     went_as p q a b d _ (handed a b c.args.past ps) y c.deliver_step.new.self c.deliver_step.result (λ _. handed_some a b c.args.past (c.args.past + 1) ps c.in-Some.part at goes next)
     (c.deliver_step.ensures.went d a b at.packet serves (ap (packet_at ps) next ∙ at.at) (so.sent c.if-not-goes.false) goes)
+
+pub returns-in_default-clause-told : goal.returns-in_default-clause-told
+returns-in_default-clause-told g c = λ told. told
+
+pub returns-in_default-way_of-clause-told : goal.returns-in_default-way_of-clause-told
+returns-in_default-way_of-clause-told g c = λ told. told
+
+pub returns-then-not-goes-clause-told : goal.returns-then-not-goes-clause-told
+returns-then-not-goes-clause-told g c = λ told. told
+
+pub returns-clause-told : goal.returns-clause-told
+returns-clause-told g c = λ told. c.deliver_step.ensures.told told

@@ -35,3 +35,9 @@ returns-in_default-clause-went g c = λ d serves.
     let y = c.args.self.now in
     let xs : List Event = Tick a b ∷ Pump a b ∷ [] in
     went_more p q a b d xs (delivery a b d.world (run d.world xs)) y c.send_lost.new.self c.send_lost.result c.in_default.not-On (c.send_lost.ensures.went d serves)
+
+pub returns-in-On-clause-told : goal.returns-in-On-clause-told
+returns-in-On-clause-told g c = λ told. c.in-On.ensures.told (c.deliver_all.ensures.told told)
+
+pub returns-in_default-clause-told : goal.returns-in_default-clause-told
+returns-in_default-clause-told g c = λ told. c.send_lost.ensures.told told

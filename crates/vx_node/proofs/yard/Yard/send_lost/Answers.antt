@@ -27,3 +27,9 @@ returns-in_default-clause-went g c = λ d serves.
     let xs : List Event = Tick a b ∷ [] in
     let ys : List Event = Pump a b ∷ [] in
     went_more p q a b d xs ys y c.tick_step.new.self c.tick_step.result c.in_default.not-On (c.tick_step.ensures.went d a b serves)
+
+pub returns-in-On-clause-told : goal.returns-in-On-clause-told
+returns-in-On-clause-told g c = λ told. c.in-On.ensures.told (c.pump_step.ensures.told told)
+
+pub returns-in_default-clause-told : goal.returns-in_default-clause-told
+returns-in_default-clause-told g c = λ told. c.tick_step.ensures.told told

@@ -12,7 +12,7 @@ not_most : (a b : ℕ) → b < a → leb a b ≡ false
 not_most a b low = grind (arith, nat_tests)
 
 pub loop-past-init : goal.loop-past-init
-loop-past-init g c = (λ d serves. turns_begin c.args.first.now c.args.second.now c.args.here c.args.there d c.args.most c.args.self.now serves, refl)
+loop-past-init g c = (λ d serves. turns_begin c.args.first.now c.args.second.now c.args.here c.args.there d c.args.most c.args.self.now serves, refl, λ told. told)
 
 pub returns-in_default-clause-went : goal.returns-in_default-clause-went
 returns-in_default-clause-went g c = λ d serves.
@@ -50,6 +50,7 @@ loop-past-preserved g c = (
       let short = not_most (m.nodes a).safe (m.links a b).stored (omega (arith, is.0, is.1, c.if-shown.false)) in
       turns_more p q a b d c.args.most c.loop-past.past y c.loop-past.self made (omega (arith, c.loop-past-test.true)) (c.loop-past.past + 1) (omega arith) short c.turn_from.new.self (c.in-On.ensures.went made.on.next made.on.serves is.0),
   c.turn_from.ensures.files ∙ c.loop-past.invariant.1,
+  λ told. c.loop-past.invariant.2 (c.turn_from.ensures.told told),
 )
 
 pub returns-in_default-turn_from-clause-went : goal.returns-in_default-turn_from-clause-went
@@ -75,3 +76,15 @@ returns-clause-went g c = λ d serves.
     let y = c.args.self.now in
     let over : c.loop-past.past ≡ c.args.most = omega (arith, c.loop-past-test.false) in
     turns_out p q a b d c.args.most c.loop-past.past y c.loop-past.self over (c.loop-past.invariant.0 d serves)
+
+pub returns-in_default-clause-told : goal.returns-in_default-clause-told
+returns-in_default-clause-told g c = λ told. c.loop-past.invariant.2 told
+
+pub returns-then-shown-clause-told : goal.returns-then-head-le-stored-clause-told
+returns-then-shown-clause-told g c = λ told. c.loop-past.invariant.2 told
+
+pub returns-in_default-turn_from-clause-told : goal.returns-in_default-turn_from-clause-told
+returns-in_default-turn_from-clause-told g c = λ told. c.loop-past.invariant.2 (c.turn_from.ensures.told told)
+
+pub returns-clause-told : goal.returns-clause-told
+returns-clause-told g c = λ told. c.loop-past.invariant.2 told
