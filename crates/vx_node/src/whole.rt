@@ -9,7 +9,6 @@ use vx_model::SiteState;
 use vx_model::limits::{LEAST_BLOCKS, MOST_DISKS, MOST_SITES};
 use vx_order::SiteFacts;
 
-#[tactic(none)]
 fn is_shaped(site: &SiteFacts) -> bool
     ensures { result ≡ true → IsShaped site.now }
 {
@@ -23,7 +22,6 @@ fn is_shaped(site: &SiteFacts) -> bool
     }
 }
 
-#[tactic(none)]
 fn are_shaped(sites: &[SiteFacts]) -> bool
     ensures { result ≡ true → (s : ℕ) (f : SiteValue) → slice_get sites.now s ≡ Some f → IsShaped f }
 {
@@ -37,7 +35,6 @@ fn are_shaped(sites: &[SiteFacts]) -> bool
 
 impl<R: Rack> Yard<R> {
     /// Whether there are as many places as sites may be, and each site has the shape that a site may have.
-    #[tactic(none)]
     pub(crate) fn is_whole(&self) -> bool
         ensures { result ≡ true → IsKept self.now }
     {

@@ -36,8 +36,8 @@ returns-in-Err-clause-asked g c = λ d serves. all_still c.args.self.now c.conne
 pub returns-in-Err-clause-told : goal.returns-in-Err-clause-told
 returns-in-Err-clause-told g c = told_same c.args.self.now c.connect_line.new.self (ap (λ es. es.items) c.in-Err.ensures.still)
 
-pub returns-in-Ok-clause-leads : goal.returns-in-Ok-clause-leads
-returns-in-Ok-clause-leads g c = λ d stands carries serves.
+pub returns-clause-leads : goal.returns-clause-leads
+returns-clause-leads g c = λ d stands carries serves.
     let p = c.args.first.now in
     let q = c.args.second.now in
     let a = c.args.here in
@@ -54,8 +54,8 @@ returns-in-Ok-clause-leads g c = λ d stands carries serves.
     line_by d y mid new p q a b c.count-before.result c.in-Some.shown.head serves one sent durable c.settle_on.result c.is_settled.result c.end_of.result c.end_of.ensures (c.settle_on.ensures.went one.next one.serves low)
     (λ is e so. c.is_settled.ensures is e p q so)
 
-pub returns-in-Ok-clause-asked : goal.returns-in-Ok-clause-asked
-returns-in-Ok-clause-asked g c = λ d serves.
+pub returns-clause-asked : goal.returns-clause-asked
+returns-clause-asked g c = λ d serves.
     let p = c.args.first.now in
     let q = c.args.second.now in
     let a = c.args.here in
@@ -71,5 +71,5 @@ returns-in-Ok-clause-asked g c = λ d serves.
     let low = sent_before d y mid new p q a b c.count-before.result c.in-Some.shown.head serves one sent durable in
     line_asked d y mid new p q a b c.count-before.result c.in-Some.shown.head serves one sent durable c.settle_on.result (c.settle_on.ensures.went one.next one.serves low)
 
-pub returns-in-Ok-clause-told : goal.returns-in-Ok-clause-told
-returns-in-Ok-clause-told g c = λ told. told_same c.args.self.now c.connect_line.new.self (ap (λ es. es.items) c.in-Ok.ensures.still) (c.settle_on.ensures.told told)
+pub returns-clause-told : goal.returns-clause-told
+returns-clause-told g c = λ told. told_same c.args.self.now c.connect_line.new.self (ap (λ es. es.items) c.in-Ok.ensures.still) (c.settle_on.ensures.told told)
