@@ -1,5 +1,5 @@
 -- The packets of a link that is settled, as they are delivered one by one.
-use Rattle.std.proofs.Common.{◌≡◌, ◌∙◌, ◌++◌, ◌+◌, ◌<◌, ◌≤◌, ℕ, suc, List, drop, length, ap, arith, append_assoc, refl, sym}
+use Rattle.std.proofs.Common.{◌≡◌, ◌∙◌, ◌++◌, ◌+◌, ◌<◌, ◌≤◌, ℕ, suc, List, drop, length, ap, arith, append_assoc, refl, subst, sym}
 use Rattle.std.proofs.lemmas.List.{length-append}
 use Rattle.vx_disk.specs.declared.shelf.Shelf.{Ghosts}
 use Rattle.vx_history.specs.Doubts.{Doubted}
@@ -33,10 +33,11 @@ module _ {R : Type 0} {g : Ghosts R} (first second : List ℕ) (a b : ℕ) where
         (λ _. handed_more a b (before + n) d.world.packets one.next.world.packets one.works.passes.moves.more one.works.passes.moves.sent low) (call one.next one.serves more_low)
 
     -- the next of them is done
-    pub sent_more : ((m : Doubted) → SettlesFor first second a b m mid → before + n < length m.world.packets → WentFor first second a b m (handed a b (before + n) m.world.packets) mid new On)
-        → OnFor first second a b d (handed_to a b before (suc n) d.world.packets) old new
-    sent_more call =
-        went_then first second a b d (handed_to a b before n d.world.packets) (handed a b (before + n) d.world.packets) old mid new On (handed_settle a b before n d.world.packets) one (next_of On call)
+    pub sent_more : (next : ℕ) → next ≡ suc n → ((m : Doubted) → SettlesFor first second a b m mid → before + n < length m.world.packets → WentFor first second a b m (handed a b (before + n) m.world.packets) mid new On)
+        → OnFor first second a b d (handed_to a b before next d.world.packets) old new
+    sent_more next is call =
+        subst (λ (k : ℕ). OnFor first second a b d (handed_to a b before k d.world.packets) old new) (sym is)
+        (went_then first second a b d (handed_to a b before n d.world.packets) (handed a b (before + n) d.world.packets) old mid new On (handed_settle a b before n d.world.packets) one (next_of On call))
 
     -- it ends them
     pub sent_ends : (r : Went) → (r ≡ On → ⊥) → ((m : Doubted) → SettlesFor first second a b m mid → before + n < length m.world.packets → WentFor first second a b m (handed a b (before + n) m.world.packets) mid new r)

@@ -87,15 +87,15 @@ module _ {R : Type 0} {g : Ghosts R} (first second : List ℕ) (a b : ℕ) where
         went_as first second a b d made.events (turns most d.world a b) old mid On (λ tells. sym (turns_over w a b (turns most d.world a b) made.events (suc (most - suc past)) over (all_of tells))) made.on
 
     -- a turn is made
-    pub turns_more : leb (w.nodes a).safe (w.links a b).stored ≡ false → (new : Yard R g) → OnFor first second a b made.on.next (turn w a b) mid new → TurnsFor d most (suc past) old new
-    turns_more short new one = record {
+    pub turns_more : (next : ℕ) → next ≡ suc past → leb (w.nodes a).safe (w.links a b).stored ≡ false → (new : Yard R g) → OnFor first second a b made.on.next (turn w a b) mid new → TurnsFor d most next old new
+    turns_more next is short new one = subst (λ (k : ℕ). TurnsFor d most k old new) (sym is) (record {
       events = made.events ++ turn w a b;
       are = are_both made.events (turn w a b) made.are (are_turn w a b);
       on = on_then first second a b d made.events (turn w a b) old mid new made.on one;
       rest = λ tells.
           turns_on w a b (turns most d.world a b) made.events (most - suc past) short (all_of (one.told tells))
           ∙ ap (λ (v : World). (made.events ++ turn w a b) ++ turns (most - suc past) v a b) (sym (world_is first second a b made.on.next (turn w a b) mid new (are_turn w a b) one tells));
-    }
+    })
 
     -- it ended in one
     pub turns_end : leb (w.nodes a).safe (w.links a b).stored ≡ false → (new : Yard R g) (r : Went) → (r ≡ On → ⊥) → WentFor first second a b made.on.next (turn w a b) mid new r → WentFor first second a b d (turns most d.world a b) old new r

@@ -19,7 +19,7 @@ use Rattle.vx_node.proofs.OfSites.{all_still, all_then}
 use Rattle.vx_node.proofs.RecoverLine.{rose_then}
 
 -- what is so where contents were told before is so where they still are
-works_later : (T L : Type 0) (a b : ℕ) (d : Doubted) (xs : List Event) (e : Doubted) → (L → T) → Works T a b d xs e → Works L a b d xs e
+pub works_later : (T L : Type 0) (a b : ℕ) (d : Doubted) (xs : List Event) (e : Doubted) → (L → T) → Works T a b d xs e → Works L a b d xs e
 works_later T L a b d xs e told works = record { exact = λ tells. works.exact (told tells); passes = record { moves = works.passes.moves; all = λ tells. works.passes.all (told tells) } }
 
 module _ {R : Type 0} {g : Ghosts R} (first second : List ℕ) (a b : ℕ) where
