@@ -47,7 +47,7 @@ use Rattle.vx_node.proofs.OfSites.{all_then}
 use Rattle.vx_node.proofs.SettleEnds.{settle_ended, settle_leads, settle_short}
 use Rattle.vx_node.proofs.StepWent.{step_went}
 use Rattle.vx_node.proofs.WentOn.{world_is}
-use Rattle.vx_node.proofs.WentThen.{went_as, went_then}
+use Rattle.vx_node.proofs.WentThen.{on_as, on_then, went_as, went_then}
 
 module _ {R : Type 0} {g : Ghosts R} where
   -- what no test refuses may be settled
@@ -132,8 +132,8 @@ module _ {R : Type 0} {g : Ghosts R} where
     -- all is done, and stored
     pub line_on : (on : OnFor first second a b one.next (settled_on a b before head one.next.world) mid new) → head ≤ (on.next.world.links a b).stored → Leads d (Settle first second) (Settled head) old new
     line_on on stored =
-        let all = went_as first second a b d ((ConnectAt a b ∷ []) ++ settled_on a b before head one.next.world) (settling d.world a b) old new On (λ tells. all_is tells on.told)
-        (went_then first second a b d (ConnectAt a b ∷ []) (settled_on a b before head one.next.world) old mid new On (refl, tt) one on) in
+        let all = on_as first second a b d ((ConnectAt a b ∷ []) ++ settled_on a b before head one.next.world) (settling d.world a b) old new (λ tells. all_is tells on.told)
+        (on_then first second a b d (ConnectAt a b ∷ []) (settled_on a b before head one.next.world) old mid new one on) in
         subst (λ (k : ℕ). Leads d (Settle first second) (Settled k) old new) (sym durable) (lead_at d old new first second a b serves.from serves.to all serves.may.can.sender (omega (arith, stored, durable)))
 
     -- it was refused

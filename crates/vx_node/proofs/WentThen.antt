@@ -45,9 +45,9 @@ module _ {R : Type 0} {g : Ghosts R} (first second : List ℕ) (a b : ℕ) where
     rose = rose_none (count_of y) (count_of y) (λ s u. omega arith);
   }
 
-  -- which events they are is known only where contents are told
-  pub went_as : (d : Doubted) (xs ys : List Event) (old new : Yard R g) (r : Went) → (IsTold new → xs ≡ ys) → WentFor first second a b d xs old new r → WentFor first second a b d ys old new r
-  went_as d xs ys old new On same w = record {
+  -- which events are done is known only where contents are told
+  abbrev pub on_as : (d : Doubted) (xs ys : List Event) (old new : Yard R g) → (IsTold new → xs ≡ ys) → OnFor first second a b d xs old new → OnFor first second a b d ys old new
+  on_as d xs ys old new same w = record {
     next = w.next;
     works = record { exact = λ tells. subst (λ (es : List Event). Runs d es w.next) (same tells) (w.works.exact tells); passes = w.works.passes };
     serves = w.serves;
@@ -55,6 +55,10 @@ module _ {R : Type 0} {g : Ghosts R} (first second : List ℕ) (a b : ℕ) where
     asked = w.asked;
     rose = w.rose;
   }
+
+  -- the same of events that may be ended
+  pub went_as : (d : Doubted) (xs ys : List Event) (old new : Yard R g) (r : Went) → (IsTold new → xs ≡ ys) → WentFor first second a b d xs old new r → WentFor first second a b d ys old new r
+  went_as d xs ys old new On same w = on_as d xs ys old new same w
   went_as d xs ys old new (Ended why) same w = record {
     last = w.last;
     fails = w.fails;

@@ -49,10 +49,10 @@ returns-in_default-clause-went g c = λ d serves is.
     turn_went p q a b d c.args.before y c.send_again.new.self c.send_again.result is
     (went_more p q a b d again (turn_later c.args.before a b (run d.world again)) y c.send_again.new.self c.send_again.result c.in_default.not-On (c.send_again.ensures.went d serves))
 
-pub returns-in-On-apply_all-clause-told : goal.returns-in-On-in-On-clause-told
+pub returns-in-On-apply_all-clause-told : goal.returns-in-On-apply_all-clause-told
 returns-in-On-apply_all-clause-told g c = λ told. c.in-On.ensures.told (c.in-On-in-On.ensures.told (c.greet_if.ensures.told told))
 
-pub returns-in_default-apply_all-clause-told : goal.returns-in-On-in_default-clause-told
+pub returns-in_default-apply_all-clause-told : goal.returns-in_default-apply_all-clause-told
 returns-in_default-apply_all-clause-told g c = λ told. c.in-On.ensures.told (c.apply_all.ensures.told told)
 
 pub returns-in_default-clause-told : goal.returns-in_default-clause-told

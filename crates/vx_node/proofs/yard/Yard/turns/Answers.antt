@@ -80,7 +80,7 @@ returns-clause-went g c = λ d serves.
 pub returns-in_default-clause-told : goal.returns-in_default-clause-told
 returns-in_default-clause-told g c = λ told. c.loop-past.invariant.2 told
 
-pub returns-then-shown-clause-told : goal.returns-then-head-le-stored-clause-told
+pub returns-then-shown-clause-told : goal.returns-then-shown-clause-told
 returns-then-shown-clause-told g c = λ told. c.loop-past.invariant.2 told
 
 pub returns-in_default-turn_from-clause-told : goal.returns-in_default-turn_from-clause-told
