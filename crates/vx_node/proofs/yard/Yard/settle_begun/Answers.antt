@@ -44,15 +44,15 @@ returns-clause-leads g c = λ d stands carries serves.
     let b = c.args.there in
     let y = c.args.self.now in
     let mid = c.connect_line.new.self in
-    let new = c.settle_on.new.self in
+    let new = c.settle_on-went.new.self in
     let n = serves.noted in
     let same = ap (λ es. es.items) c.in-Ok.ensures.still in
     let one = connected d y mid p q a b _ serves (told_same y mid same) (all_still y mid same) (c.in-Ok.ensures.leads (noted_as n.fuses d) n.stands n.carries) in
     let sent = c.count-before.ensures.count ∙ sent_many p q a b d y serves in
     let durable = (c.in-Some.ensures d p q serves).1 in
     let low = sent_before d y mid new p q a b c.count-before.result c.in-Some.shown.head serves one sent durable in
-    line_by d y mid new p q a b c.count-before.result c.in-Some.shown.head serves one sent durable c.settle_on.result c.is_settled.result c.end_of.result c.end_of.ensures (c.settle_on.ensures.went one.next one.serves low)
-    (λ is e so. c.is_settled.ensures is e p q so)
+    line_by d y mid new p q a b c.count-before.result c.in-Some.shown.head serves one sent durable c.settle_on-went.result c.is_settled-settled.result c.end_of.result c.end_of.ensures (c.settle_on-went.ensures.went one.next one.serves low)
+    (λ is e so. c.is_settled-settled.ensures is e p q so)
 
 pub returns-clause-asked : goal.returns-clause-asked
 returns-clause-asked g c = λ d serves.
@@ -62,14 +62,14 @@ returns-clause-asked g c = λ d serves.
     let b = c.args.there in
     let y = c.args.self.now in
     let mid = c.connect_line.new.self in
-    let new = c.settle_on.new.self in
+    let new = c.settle_on-went.new.self in
     let n = serves.noted in
     let same = ap (λ es. es.items) c.in-Ok.ensures.still in
     let one = connected d y mid p q a b _ serves (told_same y mid same) (all_still y mid same) (c.in-Ok.ensures.leads (noted_as n.fuses d) n.stands n.carries) in
     let sent = c.count-before.ensures.count ∙ sent_many p q a b d y serves in
     let durable = (c.in-Some.ensures d p q serves).1 in
     let low = sent_before d y mid new p q a b c.count-before.result c.in-Some.shown.head serves one sent durable in
-    line_asked d y mid new p q a b c.count-before.result c.in-Some.shown.head serves one sent durable c.settle_on.result (c.settle_on.ensures.went one.next one.serves low)
+    line_asked d y mid new p q a b c.count-before.result c.in-Some.shown.head serves one sent durable c.settle_on-went.result (c.settle_on-went.ensures.went one.next one.serves low)
 
 pub returns-clause-told : goal.returns-clause-told
-returns-clause-told g c = λ told. told_same c.args.self.now c.connect_line.new.self (ap (λ es. es.items) c.in-Ok.ensures.still) (c.settle_on.ensures.told told)
+returns-clause-told g c = λ told. told_same c.args.self.now c.connect_line.new.self (ap (λ es. es.items) c.in-Ok.ensures.still) (c.settle_on-went.ensures.told told)
