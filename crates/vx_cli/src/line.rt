@@ -35,6 +35,7 @@ fn is_built(line: &ScriptLine) -> bool
         | ScriptLine::Resume { .. }
         | ScriptLine::Pump { .. }
         | ScriptLine::Tick { .. }
+        | ScriptLine::Settle { .. }
         | ScriptLine::Wait { .. } => true,
         ScriptLine::Set { prot, .. } => is_fail(prot),
         _ => false,
