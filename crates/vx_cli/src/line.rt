@@ -37,6 +37,7 @@ fn is_built(line: &ScriptLine) -> bool
         | ScriptLine::Tick { .. }
         | ScriptLine::Settle { .. }
         | ScriptLine::Wait { .. } => true,
+        ScriptLine::Link { prot, .. } => is_fail(prot),
         ScriptLine::Set { prot, .. } => is_fail(prot),
         _ => false,
     }

@@ -1,5 +1,5 @@
 -- What a world with noted fuses has of a site behind an event that writes one header of its log, or that a disk or a fuse ended.
-use Rattle.std.proofs.Common.{◌≡◌, ◌∙◌, ◌+◌, ◌<◌, ◌≤◌, ℕ, Bool, true, false, List, length, ap, sym, subst, arith}
+use Rattle.std.proofs.Common.{◌≡◌, ◌∙◌, ◌+◌, ◌<◌, ◌≤◌, ℕ, Bool, true, false, List, length, ap, sym, subst, refl, arith}
 use Rattle.std.specs.Prelude.{Option, Some, None, slice_get}
 use Rattle.std.proofs.lemmas.Option.{slice_get_within}
 use Rattle.vx_history.proofs.Updates.{at_place}
@@ -10,10 +10,8 @@ use Rattle.vx_history.specs.Stops.{IsFused}
 use Rattle.vx_history.specs.World.{Fuse, FuseLit, FuseSet, Gathering, Link, NoFuse, Node, Packet, World}
 use Rattle.vx_history.specs.declared.event.Event.{Event}
 use Rattle.vx_model.specs.declared.state.KeptLink.{KeptLink}
-use Rattle.vx_model.specs.declared.state.State.{State}
-use Rattle.vx_diskset.specs.DiskSets.{worked}
+use Rattle.vx_diskset.specs.DiskSets.{halted_at, worked}
 use Rattle.vx_diskset.specs.Holds.{Beside, Kept, beside_of, doubt_of, links_of, row_links}
-use Rattle.vx_diskset.specs.Keeps.{doubting, restated}
 use Rattle.vx_effects.proofs.Effects.{changes_then}
 use Rattle.vx_effects.proofs.Notes.{burned_twice}
 use Rattle.vx_effects.proofs.Rows.{touch_kept}
@@ -59,15 +57,11 @@ noted_effect note s notes d h f = record {
   gathering = f.gathering;
 }
 
-module _ (note : (ℕ → Node) → ℕ → Node) (s : ℕ) (notes : NotesAt s note) (d : Doubted) (e : Event) (st : State) (row : ℕ → Link)
-    (f : EffectAt s d (behind d e) (restated (d.world.nodes s) st) row (d.world.headers s + 1) (d.after s) d.world.packets (d.world.gathering s))
-    (kept : row_links row d.world.sites ≡ st.links) (sure : d.after s ≡ None) where
+module _ (note : (ℕ → Node) → ℕ → Node) (s : ℕ) (notes : NotesAt s note) (d : Doubted) (e : Event) (m : Node) (row : ℕ → Link) (ls : List KeptLink) (gathered : Option Gathering)
+    (f : EffectAt s d (behind d e) m row (d.world.headers s + 1) (d.after s) d.world.packets gathered)
+    (kept : row_links row d.world.sites ≡ ls) (sure : d.after s ≡ None) where
   abbrev n : Node
   n = d.world.nodes s
-
-  -- the site as the event leaves it
-  abbrev m : Node
-  m = restated n st
 
   abbrev before : Doubted
   before = noted_by note d
@@ -77,12 +71,12 @@ module _ (note : (ℕ → Node) → ℕ → Node) (s : ℕ) (notes : NotesAt s n
   abbrev pub done : Doubted
   done = noted_by note (behind d e)
 
-  pub done_effect : EffectAt s before done (worked m) row (d.world.headers s + 1) (d.after s) d.world.packets (d.world.gathering s)
+  pub done_effect : EffectAt s before done (worked m) row (d.world.headers s + 1) (d.after s) d.world.packets gathered
   done_effect = noted_effect note s notes d (behind d e) f
 
-  pub done_beside : beside_of done s ≡ record { links = st.links; headers = d.world.headers s + 1; doubt = None }
+  pub done_beside : beside_of done s ≡ record { links = ls; headers = d.world.headers s + 1; doubt = None }
   done_beside =
-      beside_sure done s st.links (d.world.headers s + 1)
+      beside_sure done s ls (d.world.headers s + 1)
       (row_links_same row (done.world.links s) done_effect.is.links done.world.sites ∙ ap (λ (k : ℕ). row_links row k) done_effect.site.sites ∙ kept) done_effect.is.headers (done_effect.is.after ∙ sure)
 
   -- ---- a disk failed in it
@@ -95,7 +89,7 @@ module _ (note : (ℕ → Node) → ℕ → Node) (s : ℕ) (notes : NotesAt s n
     halted = noted_by note half
 
     pub half_effect : EffectAt s d half (stopped n disk) (d.world.links s) (d.world.headers s + 1) (Some (may_be d e s disk)) d.world.packets (d.world.gathering s)
-    half_effect = halved_effect d e s m row d.world.packets (d.world.gathering s) f disk
+    half_effect = halved_effect d e s m row d.world.packets gathered f disk
 
     pub halted_effect : EffectAt s before halted (stopped n disk) (d.world.links s) (d.world.headers s + 1) (Some (may_be d e s disk)) d.world.packets (d.world.gathering s)
     halted_effect =
@@ -104,37 +98,37 @@ module _ (note : (ℕ → Node) → ℕ → Node) (s : ℕ) (notes : NotesAt s n
 
     -- what it may be besides
     pub may_node : (may_be d e s disk).node ≡ stopped m disk
-    may_node = may_be_node d e s m row d.world.packets (d.world.gathering s) f disk
+    may_node = may_be_node d e s m row d.world.packets gathered f disk
 
     pub may_row : (k : ℕ) → (may_be d e s disk).row k ≡ row k
-    may_row k = may_be_row d e s m row d.world.packets (d.world.gathering s) f disk k
+    may_row k = may_be_row d e s m row d.world.packets gathered f disk k
 
-    may_links : row_links (may_be d e s disk).row halted.world.sites ≡ st.links
+    may_links : row_links (may_be d e s disk).row halted.world.sites ≡ ls
     may_links = row_links_same row (may_be d e s disk).row may_row halted.world.sites ∙ ap (λ (k : ℕ). row_links row k) halted_effect.site.sites ∙ kept
 
     abbrev other : Kept
-    other = record { node = stopped m disk; links = st.links; headers = d.world.headers s + 1 }
+    other = record { node = stopped m disk; links = ls; headers = d.world.headers s + 1 }
 
     pub halted_doubt : doubt_of halted.world s (halted.after s) ≡ Some other
     halted_doubt =
         ap (λ (o : Option After). doubt_of halted.world s o) halted_effect.is.after
         ∙ ap (λ (k : Node). Some (let x : Kept = record { node = k; links = row_links (may_be d e s disk).row halted.world.sites; headers = halted.world.headers s } in x)) may_node
         ∙ ap (λ (ls : List KeptLink). Some (let x : Kept = record { node = stopped m disk; links = ls; headers = halted.world.headers s } in x)) may_links
-        ∙ ap (λ (k : ℕ). Some (let x : Kept = record { node = stopped m disk; links = st.links; headers = k } in x)) halted_effect.is.headers
+        ∙ ap (λ (k : ℕ). Some (let x : Kept = record { node = stopped m disk; links = ls; headers = k } in x)) halted_effect.is.headers
 
-    pub halted_beside : beside_of halted s ≡ doubting (beside_of d s) (worked n) st disk
+    pub halted_beside : beside_of halted s ≡ record { links = links_of d.world s; headers = d.world.headers s + 1; doubt = Some (record { node = stopped (worked m) disk; links = ls; headers = d.world.headers s + 1 }) }
     halted_beside =
         ap (λ (ls : List KeptLink). let b : Beside = record { links = ls; headers = halted.world.headers s; doubt = doubt_of halted.world s (halted.after s) } in b)
         (row_links_same (d.world.links s) (halted.world.links s) halted_effect.is.links halted.world.sites ∙ ap (λ (k : ℕ). row_links (d.world.links s) k) halted_effect.site.sites)
         ∙ ap (λ (k : ℕ). let b : Beside = record { links = links_of d.world s; headers = k; doubt = doubt_of halted.world s (halted.after s) } in b) halted_effect.is.headers
         ∙ ap (λ (o : Option Kept). let b : Beside = record { links = links_of d.world s; headers = d.world.headers s + 1; doubt = o } in b)
-        (halted_doubt ∙ ap (λ (k : Node). Some (let x : Kept = record { node = k; links = st.links; headers = d.world.headers s + 1 } in x)) (sym (stopped_noted m disk)))
+        (halted_doubt ∙ ap (λ (k : Node). Some (let x : Kept = record { node = k; links = ls; headers = d.world.headers s + 1 } in x)) (sym (stopped_noted m disk)))
 
   -- ---- its fuse ran out in it
 
-  module _ (count : ℕ) (taken : Bool) (k : Node) (links : ℕ → Link) (ls : List KeptLink)
+  module _ (count : ℕ) (taken : Bool) (k : Node) (links : ℕ → Link) (ks : List KeptLink)
       (node_is : (resolved_at (halved d e s 0) s taken).world.nodes s ≡ k) (row_is : (j : ℕ) → (resolved_at (halved d e s 0) s taken).world.links s j ≡ links j)
-      (links_are : row_links links d.world.sites ≡ ls) (least : k.safe ≤ count) (most : count ≤ length k.log) where
+      (links_are : row_links links d.world.sites ≡ ks) (least : k.safe ≤ count) (most : count ≤ length k.log) where
     abbrev cut : Doubted
     cut = crashed_as (halved d e s 0) s count taken
 
@@ -172,9 +166,9 @@ module _ (note : (ℕ → Node) → ℕ → Node) (s : ℕ) (notes : NotesAt s n
     pub fell_sure : fell.after s ≡ None
     fell_sure = cut_effect.is.after
 
-    pub fell_beside : beside_of fell s ≡ record { links = ls; headers = d.world.headers s + 1; doubt = None }
+    pub fell_beside : beside_of fell s ≡ record { links = ks; headers = d.world.headers s + 1; doubt = None }
     fell_beside =
-        beside_sure fell s ls (d.world.headers s + 1)
+        beside_sure fell s ks (d.world.headers s + 1)
         (row_links_same (λ j. lost_touch (links j)) (fell.world.links s) (λ j. cut_effect.is.links j ∙ ap lost_touch (row_is j)) fell.world.sites
         ∙ ap (λ (q : ℕ). row_links (λ j. lost_touch (links j)) q) fell_changes.sites ∙ touch_kept links d.world.sites ∙ links_are)
         (cut_effect.is.headers ∙ (half_effect 0).is.headers) cut_effect.is.after

@@ -49,6 +49,7 @@ pub mod ReceiverLine
 pub mod ShownLine
 pub mod WriteEnds
 pub mod Turned
+pub mod HeaderCalls
 pub mod HeadedWorlds
 pub mod Headed
 pub mod SetLink
@@ -58,6 +59,13 @@ pub mod SetLine
 pub mod SetNames
 pub mod PartLine
 pub mod LinkParts
+pub mod NotedBoth
+pub mod LinkChain
+pub mod JoinLine
+pub mod LinkEnding
+pub mod StatesAre
+pub mod AllDurable
+pub mod LinkNames
 pub mod WriteCalls
 pub mod WriteLinks
 pub mod WriteTests

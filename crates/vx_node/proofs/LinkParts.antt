@@ -30,7 +30,7 @@ use Rattle.vx_effects.proofs.Fitting.{fit_happened}
 use Rattle.vx_events.specs.LinksFit.{LinksFit}
 use Rattle.vx_node.specs.Headed.{behind}
 use Rattle.vx_node.proofs.NotedYard.{sure_open}
-use Rattle.vx_node.proofs.PartLine.{IsHeader}
+use Rattle.vx_node.proofs.PartLine.{IsKeptHeader}
 use Rattle.vx_node.proofs.Rows.{row_links_same}
 use Rattle.vx_node.proofs.SetLink.{needs_over}
 
@@ -143,44 +143,53 @@ module _ (d : Doubted) (p s : ℕ) (sync : SyncMode) where
   -- ---- as events that write a header
 
   module _ (fit : LinksFit d) where
-    pub made_header : (step w made).said ≡ IsDone → IsHeader d made p (state_with (w.nodes p) (links_of (step w made).world p))
+    pub made_header : (step w made).said ≡ IsDone → IsKeptHeader d made p (state_with (w.nodes p) (links_of (step w made).world p))
     made_header said = record {
-      row = updated (w.links p) s made_link;
-      effect = made_f said;
-      kept = made_kept said;
-      sure = sure_open d p fit (made_opens said);
+      header = record {
+        row = updated (w.links p) s made_link;
+        effect = made_f said;
+        kept = made_kept said;
+        sure = sure_open d p fit (made_opens said);
+        like = record { state = refl; name = refl; disks = refl; blocks = refl; volumes = refl; failing = refl; fuse = refl };
+        fits = fit_happened d made false fit;
+        fits_before = fit;
+        opens = made_opens said;
+        writes = refl;
+      };
       role = refl;
-      fits = fit_happened d made false fit;
-      fits_before = fit;
-      opens = made_opens said;
-      writes = refl;
       can = made_can said (fit.rows p).places;
     }
 
-    pub marked_header : (step w marked).said ≡ IsDone → IsHeader d marked s (record (state_with (w.nodes s) (links_of w s)) { mark = Consistent })
+    pub marked_header : (step w marked).said ≡ IsDone → IsKeptHeader d marked s (record (state_with (w.nodes s) (links_of w s)) { mark = Consistent })
     marked_header said = record {
-      row = w.links s;
-      effect = marked_f said;
-      kept = refl;
-      sure = sure_open d s fit (marked_opens said);
+      header = record {
+        row = w.links s;
+        effect = marked_f said;
+        kept = refl;
+        sure = sure_open d s fit (marked_opens said);
+        like = record { state = refl; name = refl; disks = refl; blocks = refl; volumes = refl; failing = refl; fuse = refl };
+        fits = fit_happened d marked false fit;
+        fits_before = fit;
+        opens = marked_opens said;
+        writes = refl;
+      };
       role = refl;
-      fits = fit_happened d marked false fit;
-      fits_before = fit;
-      opens = marked_opens said;
-      writes = refl;
       can = marked_can said;
     }
 
-    pub opened_header : (step w opens).said ≡ IsDone → IsHeader d opens p (state_with (w.nodes p) (links_of (step w opens).world p))
+    pub opened_header : (step w opens).said ≡ IsDone → IsKeptHeader d opens p (state_with (w.nodes p) (links_of (step w opens).world p))
     opened_header said = record {
-      row = updated (w.links p) s opened_link;
-      effect = opened_f said;
-      kept = opened_kept said;
-      sure = sure_open d p fit (opened_opens said);
+      header = record {
+        row = updated (w.links p) s opened_link;
+        effect = opened_f said;
+        kept = opened_kept said;
+        sure = sure_open d p fit (opened_opens said);
+        like = record { state = refl; name = refl; disks = refl; blocks = refl; volumes = refl; failing = refl; fuse = refl };
+        fits = fit_happened d opens false fit;
+        fits_before = fit;
+        opens = opened_opens said;
+        writes = refl;
+      };
       role = refl;
-      fits = fit_happened d opens false fit;
-      fits_before = fit;
-      opens = opened_opens said;
-      writes = refl;
       can = opened_can said;
     }

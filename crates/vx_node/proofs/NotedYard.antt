@@ -2,7 +2,7 @@
 use Rattle.std.proofs.Common.{◌≡◌, ◌∙◌, ◌<◌, ℕ, ap, sym, subst, refl, ⊎_elim, arith}
 use Rattle.std.specs.Prelude.{Option, Some, None, slice_get}
 use Rattle.std.proofs.lemmas.Bool.{cases_eq}
-use Rattle.vx_history.proofs.Updates.{at_place}
+use Rattle.vx_history.proofs.Updates.{all_updated, at_place}
 use Rattle.vx_history.specs.Doubts.{After, Doubted}
 use Rattle.vx_history.specs.Refusals.{is_running}
 use Rattle.vx_history.specs.Steps.{burned}
@@ -22,9 +22,11 @@ use Rattle.vx_effects.proofs.Notes.{worked_shows}
 use Rattle.vx_events.specs.LinksFit.{LinksFit}
 use Rattle.vx_diskset.proofs.Roles.{role_like}
 use Rattle.vx_model.specs.Sites.{is_origin}
+use Rattle.vx_node.specs.Carries.{Carries}
 use Rattle.vx_node.specs.Headed.{NotesAt, noted_by}
 use Rattle.vx_node.specs.Standing.{IsSameSite, StandsFor}
 use Rattle.vx_node.specs.declared.yard.Yard.{Yard}
+use Rattle.vx_node.proofs.Carrying.{Feeds, carries_on, feeds_like, feeds_same}
 use Rattle.vx_node.proofs.Lists.{set_same}
 use Rattle.vx_node.proofs.OneSite.{Changed}
 use Rattle.vx_node.proofs.Turned.{stands_turned}
@@ -86,3 +88,11 @@ module _ {R : Type 0} {g : Ghosts R} where
       (stands.facts ∙ sym (worked_shows d.world s))
       (λ a is. subst (λ (n : Node). IsSameSite n a.node) (sym here)
       (let same = stands.doubts s a is in record { name = same.name; disks = same.disks; blocks = same.blocks; volumes = same.volumes }))
+
+  -- what it carries does not look at fuses
+  pub carries_noted : (d : Doubted) (y : Yard R g) (s : ℕ) → Carries d y → Carries (noted_by (note_one s) d) y
+  carries_noted d y s carries = carries_on d (noted_by (note_one s) d) y y carries (record { flight = refl; assemblies = refl; feeders = refl }) refl (λ i. refl) (λ i. feeds_noted i) (λ told. told)
+    where
+      feeds_noted : (i : ℕ) → Feeds (d.world.nodes i) (note_one s d.world.nodes i)
+      feeds_noted = all_updated (λ (i : ℕ) (m : Node). Feeds (d.world.nodes i) m) d.world.nodes s (worked (d.world.nodes s)) (feeds_like (d.world.nodes s) (worked (d.world.nodes s)) refl refl refl)
+          (λ i apart. feeds_same (d.world.nodes i) (d.world.nodes i) refl)

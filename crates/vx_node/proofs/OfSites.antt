@@ -1,17 +1,19 @@
 -- The disk set of a site within its yard: a line that sets no disk makes none of it fail.
-use Rattle.std.proofs.Common.{◌≡◌, ◌∙◌, ◌<◌, ℕ, List, length, ap, sym, subst}
+use Rattle.std.proofs.Common.{◌≡◌, ◌∙◌, ◌<◌, ℕ, List, length, ap, sym, subst, ⊎_elim}
 use Rattle.std.specs.Prelude.{Some, slice_get, slice_set}
+use Rattle.std.proofs.lemmas.Bool.{cases_eq}
+use Rattle.std.proofs.lemmas.Option.{slice_get_within}
 use Rattle.vx_disk.specs.Disks.{Disks}
 use Rattle.vx_disk.specs.declared.shelf.Shelf.{Ghosts}
 use Rattle.vx_events.proofs.Places.{some_same}
 use Rattle.vx_events.specs.declared.said.Said.{Said}
 use Rattle.vx_diskset.specs.Asked.{SameFailing, LeavesFuse, WritesUnder, disks_in, size_in}
-use Rattle.vx_node.specs.OfSites.{OfSite}
+use Rattle.vx_node.specs.OfSites.{AllSameFailing, OfSite}
 use Rattle.vx_diskset.specs.Burning.{Burnt, IsLogged}
 use Rattle.vx_diskset.specs.declared.disk_set.DiskSet.{DiskSet}
 use Rattle.vx_node.specs.declared.yard.Yard.{Yard}
-use Rattle.vx_diskset.proofs.KeepsFailing.{failing_then, same_on}
-use Rattle.vx_node.proofs.Lists.{get-set_same, set_same, set_twice}
+use Rattle.vx_diskset.proofs.KeepsFailing.{failing_same, failing_then, same_on}
+use Rattle.vx_node.proofs.Lists.{get-set_other, get-set_same, set_same, set_twice}
 use Rattle.vx_node.proofs.WriteLine.{get_there}
 
 module _ {R : Type 0} {g : Ghosts R} where
@@ -60,3 +62,32 @@ module _ {R : Type 0} {g : Ghosts R} where
         did = failing_then one.before one.after two.after one.did
             (subst (λ (e : DiskSet R g). SameFailing e two.after) (some_same (sym two.there ∙ mid)) two.did);
       }
+
+  -- ---- of each site
+
+  -- nothing was done
+  pub all_still : (old new : Yard R g) → new.disk_sets.items ≡ old.disk_sets.items → AllSameFailing old new
+  all_still old new same = record { each = λ s after is. (after, sym (ap (λ es. slice_get es s) same) ∙ is, failing_same after) }
+
+  -- one of them did so
+  pub all_of_site : (s : ℕ) (old new : Yard R g) → OfSite SameFailing s old new → AllSameFailing old new
+  all_of_site s old new of = record {
+    each = λ i after is.
+        let found : slice_get (slice_set old.disk_sets.items s of.after) i ≡ Some after = sym (ap (λ es. slice_get es i) of.disk_sets) ∙ is in
+        ⊎_elim
+        (λ (same : i ≡ s).
+        let here : of.after ≡ after = some_same (sym (get-set_same old.disk_sets.items s of.after (slice_get_within old.disk_sets.items s of.before of.there))
+        ∙ ap (λ (k : ℕ). slice_get (slice_set old.disk_sets.items s of.after) k) (sym same) ∙ found) in
+        (of.before, ap (λ (k : ℕ). slice_get old.disk_sets.items k) same ∙ of.there, subst (λ (e : DiskSet R g). SameFailing of.before e) here of.did))
+        (λ apart. (after, sym (get-set_other old.disk_sets.items s i of.after apart) ∙ found, failing_same after))
+        (cases_eq i s);
+  }
+
+  -- two in a row
+  pub all_then : (a b c : Yard R g) → AllSameFailing a b → AllSameFailing b c → AllSameFailing a c
+  all_then a b c one two = record {
+    each = λ s after is.
+        let mid = two.each s after is in
+        let first = one.each s mid.0 mid.1 in
+        (first.0, first.1, failing_then first.0 mid.0 after first.2 mid.2);
+  }

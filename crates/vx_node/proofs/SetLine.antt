@@ -1,7 +1,6 @@
 -- A line that gives a link another setting leads a yard to what its event makes of the world.
 use Rattle.std.proofs.Common.{◌≡◌, ◌∙◌, ◌+◌, ℕ, false, List, [], ◌∷◌, ap, sym, subst, refl}
 use Rattle.std.specs.Prelude.{Some, None, not, slice_get, slice_set, Result, Ok, Err}
-use Rattle.vx_history.proofs.Updates.{all_updated}
 use Rattle.vx_history.specs.Doubts.{Doubted, Runs}
 use Rattle.vx_history.specs.Listed.{HasPlaces}
 use Rattle.vx_history.specs.Refusals.{Outcome, at_site, at_work, unless}
@@ -48,19 +47,18 @@ use Rattle.vx_events.specs.Sayings.{Repeats}
 use Rattle.vx_events.specs.declared.said.Said.{Said}
 use Rattle.vx_events.specs.declared.said.Said.TheVariants.{Done, Refused}
 use Rattle.vx_linked.proofs.PartFacts.{sets}
-use Rattle.vx_node.specs.Carries.{Carries}
 use Rattle.vx_node.specs.Headed.{NextFor, behind, noted_by}
 use Rattle.vx_node.specs.Standing.{Leads, StandsFor}
 use Rattle.vx_node.specs.Working.{IsFree}
 use Rattle.vx_node.specs.Writes.{noted_facts}
 use Rattle.vx_node.specs.Yards.{IsTold, in_files}
 use Rattle.vx_node.specs.declared.yard.Yard.{Yard}
-use Rattle.vx_node.proofs.Carrying.{Feeds, LetsGoBy, SameLoad, carries_on, feeds_like, feeds_same}
-use Rattle.vx_node.proofs.Headed.{headed_done, headed_refused}
+use Rattle.vx_node.proofs.Carrying.{LetsGoBy, SameLoad}
 use Rattle.vx_node.proofs.HeadedEnds.{IsBehind, headed_ends}
 use Rattle.vx_node.proofs.NamedSite.{SiteAt, site_at}
-use Rattle.vx_node.proofs.NotedYard.{note_one, notes_one, stands_noted, sure_open}
+use Rattle.vx_node.proofs.NotedYard.{carries_noted, note_one, notes_one, stands_noted, sure_open}
 use Rattle.vx_node.proofs.OneSite.{Changed}
+use Rattle.vx_node.proofs.PartLine.{IsKeptHeader, kept_done, kept_refused}
 use Rattle.vx_node.proofs.Rows.{row_links_same}
 use Rattle.vx_node.proofs.SetLink.{set_needs}
 
@@ -116,6 +114,23 @@ module _ {R : Type 0} {g : Ghosts R} (d : Doubted) (old : Yard R g) (first secon
   pub set_can : CanKeep (beside_of d s) (worked n) state
   set_can = record { up = set_opens.0; running = set_opens.1; line = refl; role = refl; needs = λ k l is needing. set_needs w s q sync (worked n) set_said k l is needing }
 
+  header : IsKeptHeader d event s state
+  header = record {
+    header = record {
+      row = row;
+      effect = effect;
+      kept = kept;
+      sure = sure_open d s stands.links set_opens;
+      like = record { state = refl; name = refl; disks = refl; blocks = refl; volumes = refl; failing = refl; fuse = refl };
+      fits = fit_happened d event false stands.links;
+      fits_before = stands.links;
+      opens = set_opens;
+      writes = refl;
+    };
+    role = refl;
+    can = set_can;
+  }
+
   noted : StandsFor (noted_by (note_one s) d) old
   noted = stands_noted d old s before stands here.below at
 
@@ -123,15 +138,6 @@ module _ {R : Type 0} {g : Ghosts R} (d : Doubted) (old : Yard R g) (first secon
   numbers prot =
       ap (λ (k : ℕ). let es : List Event = SetAt k (site_number w second) sync ∷ [] in es) here.number
       ∙ ap (λ (k : ℕ). let es : List Event = SetAt s k sync ∷ [] in es) there.number
-
-  -- what the yard carries does not look at fuses
-  carried : Carries d old → Carries (noted_by (note_one s) d) old
-  carried carries = carries_on d (noted_by (note_one s) d) old old carries (record { flight = refl; assemblies = refl; feeders = refl }) refl (λ i. refl)
-      (λ i. feeds_noted i) (λ told. told)
-    where
-      feeds_noted : (i : ℕ) → Feeds (w.nodes i) (note_one s w.nodes i)
-      feeds_noted = all_updated (λ (i : ℕ) (m : Node). Feeds (w.nodes i) m) w.nodes s (worked (w.nodes s)) (feeds_like (w.nodes s) (worked (w.nodes s)) refl refl refl)
-          (λ i apart. feeds_same (w.nodes i) (w.nodes i) refl)
 
   -- ---- the call on the disks
 
@@ -163,7 +169,7 @@ module _ {R : Type 0} {g : Ghosts R} (d : Doubted) (old : Yard R g) (first secon
       fails = fails;
       done = record { ends = ends; counts = tt; works = tt; calls = tt };
       stands = next.stands;
-      carries = λ carries. next.carries (carried carries);
+      carries = λ carries. next.carries (carries_noted d old s carries);
       rose = next.rose;
     }
 
@@ -177,15 +183,13 @@ module _ {R : Type 0} {g : Ghosts R} (d : Doubted) (old : Yard R g) (first secon
         (LinksDone (behind d event) (subst (λ (es : List Event). Runs d es (behind d event)) (sym (numbers prot)) (false, refl)) (ap (λ (es : List Event). all_fails es) (numbers prot)) refl
         (subst (λ (es : List Event). LinkReplies line d (behind d event) es Done) (sym (numbers prot)) (subst (λ (o : EventSaid). Repeats (step w event).world 0 o Done) (sym set_said) refl))
         (record { world = sym (notes (behind d event).world); after = λ i. refl }))
-        (headed_done (note_one s) s (notes_one s) d event state row effect kept (sure_open d s stands.links set_opens) refl (fit_happened d event false stands.links) set_opens refl stands.links old new before after noted
-        here.below changed keeps is calls facts load)
+        (kept_done (note_one s) s (notes_one s) d event state header old before noted here.below at new after changed keeps is calls facts load)
 
     -- it was refused
     pub set_refused : (why : No) (said : Said) (x x' : SiteFacts) → said ≡ Refused why → KeptAt (beside_of d s) (worked n) state before after (Err why) → LeavesFuse NoMore (Refused why) before after → slice_get old.facts.items s ≡ Some x
         → x' ≡ noted_facts why x → new.facts.items ≡ slice_set old.facts.items s x' → LetsGoBy why old new s → Leads d line said old new
-    set_refused why said x x' says is calls at shown facts lets =
-        let h = headed_refused (note_one s) s (notes_one s) d event state row effect kept (sure_open d s stands.links set_opens) refl (fit_happened d event false stands.links) set_opens refl stands.links old new before after noted
-        here.below changed keeps why x x' is calls at shown facts lets in
+    set_refused why said x x' says is calls there_too shown facts lets =
+        let h = kept_refused (note_one s) s (notes_one s) d event state header old before noted here.below at new after changed keeps why said x x' says is calls there_too shown facts lets in
         let b : IsBehind d line (note_one s) event s d = record {
           before = [];
           rest = [];
@@ -198,5 +202,5 @@ module _ {R : Type 0} {g : Ghosts R} (d : Doubted) (old : Yard R g) (first secon
           notes = notes;
           fused = λ f. f;
         } in
-        let e = headed_ends d line (note_one s) event s d b old new why h in
-        subst (λ (r : Said). Leads d line r old new) (sym says) (leads_by e.ends e.goes)
+        let e = headed_ends d line (note_one s) event s d b old new h.0 h.2 in
+        subst (λ (r : Said). Leads d line r old new) (sym h.1) (leads_by e.ends e.goes)

@@ -6,6 +6,7 @@ pub mod Happenings
 pub mod Holds
 pub mod Lines
 pub mod LinkLines
+pub mod Linking
 pub mod Loads
 pub mod OfSites
 pub mod Racks

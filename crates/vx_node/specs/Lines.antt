@@ -2,7 +2,7 @@
 use Rattle.std.specs.Prelude.{ℕ, List, Bool, true, false, Option, Some, None, Result, Ok, Err}
 use Rattle.vx_script.specs.Grammar.{line_of}
 use Rattle.vx_script.specs.declared.line.ScriptLine.{ScriptLine}
-use Rattle.vx_script.specs.declared.line.ScriptLine.TheVariants.{Site, Raw, Disk, Crash, Fuse, Recover, Write, Put, Read, Show, Apply, Status, Set, Connect, Cut, Pause, Resume, Pump, Tick, Settle, Wait}
+use Rattle.vx_script.specs.declared.line.ScriptLine.TheVariants.{Site, Raw, Disk, Crash, Fuse, Recover, Write, Put, Read, Show, Apply, Status, Link, Set, Connect, Cut, Pause, Resume, Pump, Tick, Settle, Wait}
 use Rattle.vx_model.specs.declared.link.Prot.{Prot}
 use Rattle.vx_model.specs.declared.link.Prot.TheVariants.{Fail}
 
@@ -11,7 +11,7 @@ abbrev pub is_fail : Prot → Bool
 is_fail Fail = true
 is_fail _ = false
 
--- whether lines of this kind are built: those that give a link a setting only where a full log fails writes
+-- whether lines of this kind are built: those that make a link, or give it a setting, only where a full log fails writes
 abbrev pub is_built : ScriptLine → Bool
 is_built (Site _ _ _) = true
 is_built (Raw _) = true
@@ -25,6 +25,7 @@ is_built (Read _ _ _ _) = true
 is_built (Show _ _ _ _) = true
 is_built (Apply _ _) = true
 is_built (Status _) = true
+is_built (Link _ _ _ prot) = is_fail prot
 is_built (Set _ _ _ prot) = is_fail prot
 is_built (Connect _ _) = true
 is_built (Cut _ _) = true

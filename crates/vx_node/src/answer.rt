@@ -87,6 +87,7 @@ impl<R: Rack> Yard<R> {
             ScriptLine::Apply { site, count } => self.apply_line(alloc, site, *count),
             ScriptLine::Status { site } => self.status_line(alloc, site),
             ScriptLine::Set { .. }
+            | ScriptLine::Link { .. }
             | ScriptLine::Connect { .. }
             | ScriptLine::Cut { .. }
             | ScriptLine::Pause { .. }

@@ -50,6 +50,8 @@ impl<R: Rack> Yard<R> {
             → state.now ≡ state_with (d.world.nodes here) (links_of (step d.world (LinkAt here there sync Made)).world here)
             → HeadedSo note d (LinkAt here there sync Made) here self.old self.new result }
         ensures asked { (d : Doubted) → StandsFor d self.old → here < d.world.sites → OfSite SameFailing here self.old self.new }
+        ensures many { length self.new.facts.items ≡ length self.old.facts.items }
+        ensures disk_sets { length self.new.disk_sets.items ≡ length self.old.disk_sets.items }
         ensures flight { self.new.flight ≡ self.old.flight }
         ensures told { IsTold self.new → IsTold self.old }
         ensures files { in_files self.new ≡ in_files self.old }
@@ -75,6 +77,8 @@ impl<R: Rack> Yard<R> {
             → (step d.world (LinkAt here there sync Marked)).said ≡ IsDone → state.now ≡ record (state_with (d.world.nodes there) (links_of d.world there)) { mark = Consistent }
             → HeadedSo note d (LinkAt here there sync Marked) there self.old self.new result }
         ensures asked { (d : Doubted) → StandsFor d self.old → there < d.world.sites → OfSite SameFailing there self.old self.new }
+        ensures many { length self.new.facts.items ≡ length self.old.facts.items }
+        ensures disk_sets { length self.new.disk_sets.items ≡ length self.old.disk_sets.items }
         ensures flight { self.new.flight ≡ self.old.flight }
         ensures told { IsTold self.new → IsTold self.old }
         ensures files { in_files self.new ≡ in_files self.old }
@@ -108,6 +112,8 @@ impl<R: Rack> Yard<R> {
             → state.now ≡ state_with (d.world.nodes here) (links_of (step d.world (LinkAt here there sync Opened)).world here)
             → HeadedSo note d (LinkAt here there sync Opened) here self.old self.new result }
         ensures asked { (d : Doubted) → StandsFor d self.old → here < d.world.sites → OfSite SameFailing here self.old self.new }
+        ensures many { length self.new.facts.items ≡ length self.old.facts.items }
+        ensures disk_sets { length self.new.disk_sets.items ≡ length self.old.disk_sets.items }
         ensures flight { self.new.flight ≡ self.old.flight }
         ensures told { IsTold self.new → IsTold self.old }
         ensures files { in_files self.new ≡ in_files self.old }

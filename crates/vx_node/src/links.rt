@@ -31,6 +31,12 @@ impl<R: Rack> Yard<R> {
         ensures files { in_files self.new ≡ in_files self.old }
     {
         match words {
+            ScriptLine::Link {
+                primary,
+                secondary,
+                sync,
+                prot: _,
+            } => self.link_line(alloc, primary, secondary, *sync),
             ScriptLine::Set {
                 primary,
                 secondary,

@@ -14,7 +14,11 @@ mod files;
 #[cfg(test)]
 mod fuses;
 #[cfg(test)]
+mod halves;
+#[cfg(test)]
 mod lines;
+#[cfg(test)]
+mod links;
 mod racks;
 #[cfg(test)]
 mod recovery;

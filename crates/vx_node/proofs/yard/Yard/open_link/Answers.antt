@@ -1,13 +1,15 @@
 -- Each case of a part by which a link goes by the log.
-use Rattle.std.proofs.Common.{◌∙◌, refl}
+use Rattle.std.proofs.Common.{◌∙◌, refl, ap, List}
+use Rattle.std.specs.Prelude.{length}
 use Rattle.std.proofs.lemmas.List.{with_items_is}
 use Rattle.vx_diskset.specs.Burning.{NoMore}
 use Rattle.vx_diskset.specs.Holds.{beside_of}
 use Rattle.vx_events.specs.declared.said.Said.TheVariants.{Done, Refused}
+use Rattle.vx_order.specs.declared.facts.SiteFacts.{SiteFacts}
 use Rattle.vx_node.proofs.ApplySite.{calls_keep}
 use Rattle.vx_node.proofs.ChangeSite.{told_before}
 use Rattle.vx_node.proofs.LinkParts.{opened_header}
-use Rattle.vx_node.proofs.Lists.{get_at}
+use Rattle.vx_node.proofs.Lists.{get_at, length-set}
 use Rattle.vx_node.proofs.PartLine.{part_done, part_refused}
 use Rattle.vx_node.proofs.yard.Yard.open_link.Goals as goal
 
@@ -72,3 +74,17 @@ returns-in-Err-clause-asked g c = λ d stands below.
       disk_sets = refl;
       did = calls_keep NoMore (Refused c.in-Err.no) before c.keep.new.self (c.in-Err.ensures.called (beside_of d s) (d.world.nodes s) (stands.disk_sets.sites s before below at));
     }
+
+pub returns-in-Ok-clause-many : goal.returns-in-Ok-clause-many
+returns-in-Ok-clause-many g c =
+    ap (λ (fs : List SiteFacts). length fs) (with_items_is c.args.self.now.facts c.keep_opened.new.sites (c.keep_opened.auto.sites ∙ c.deref_mut.ensures.len))
+    ∙ c.keep_opened.auto.sites ∙ ap (λ (fs : List SiteFacts). length fs) c.deref_mut.ensures.value
+
+pub returns-in-Err-clause-many : goal.returns-in-Err-clause-many
+returns-in-Err-clause-many g c = length-set c.args.self.now.facts.items c.args.here c.refused.new.facts
+
+pub returns-in-Ok-clause-disk_sets : goal.returns-in-Ok-clause-disk_sets
+returns-in-Ok-clause-disk_sets g c = length-set c.args.self.now.disk_sets.items c.args.here c.keep.new.self
+
+pub returns-in-Err-clause-disk_sets : goal.returns-in-Err-clause-disk_sets
+returns-in-Err-clause-disk_sets g c = length-set c.args.self.now.disk_sets.items c.args.here c.keep.new.self

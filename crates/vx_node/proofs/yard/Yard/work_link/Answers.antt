@@ -10,6 +10,21 @@ use Rattle.vx_node.proofs.AnswerFor.{if_ok}
 use Rattle.vx_node.proofs.LinkLines.{links_called}
 use Rattle.vx_node.proofs.yard.Yard.work_link.Goals as goal
 
+pub link_line-requires-clause-free : goal.link_line-requires-clause-free
+link_line-requires-clause-free g c = λ κs lives. (_, subst (λ (line : ScriptLine). IsFree c.args.self.now line) c.in-Link.is c.requires.free)
+
+pub returns-in-Link-clause-leads : goal.returns-in-Link-clause-leads
+returns-in-Link-clause-leads g c = λ d stands carries.
+    subst (λ (line : ScriptLine). LeadsIs d line c.args.self.now c.link_line.new.self c.link_line.result) (sym c.in-Link.is) (c.link_line.ensures.leads d _ stands)
+
+pub returns-in-Link-clause-asked : goal.returns-in-Link-clause-asked
+returns-in-Link-clause-asked g c = λ d stands.
+    subst (λ (line : ScriptLine). AsAsked d.world line c.args.self.now c.link_line.new.self) (sym c.in-Link.is) (c.link_line.ensures.asked d Fail stands)
+
+pub returns-in-Link-clause-called : goal.returns-in-Link-clause-called
+returns-in-Link-clause-called g c = λ d.
+    if_ok (λ said. HasCalled d.world c.args.words.now said c.args.self.now c.link_line.new.self) c.link_line.result (λ said. links_called d.world c.args.words.now said c.args.self.now c.link_line.new.self c.requires.kind)
+
 pub set_line-requires-clause-free : goal.set_line-requires-clause-free
 set_line-requires-clause-free g c = λ κs lives. (_, subst (λ (line : ScriptLine). IsFree c.args.self.now line) c.in-Set.is c.requires.free)
 
