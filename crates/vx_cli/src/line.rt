@@ -35,8 +35,9 @@ fn is_built(line: &ScriptLine) -> bool
         | ScriptLine::Resume { .. }
         | ScriptLine::Pump { .. }
         | ScriptLine::Tick { .. }
-        | ScriptLine::Settle { .. }
-        | ScriptLine::Wait { .. } => true,
+        | ScriptLine::Wait { .. }
+        | ScriptLine::Deliver { .. }
+        | ScriptLine::Settle { .. } => true,
         ScriptLine::Link { prot, .. } => is_fail(prot),
         ScriptLine::Set { prot, .. } => is_fail(prot),
         _ => false,
