@@ -49,8 +49,12 @@ module _ {R : Type 0} {g : Ghosts R} where
   AsAsked w (Tick p s) old new = new.disk_sets.items ≡ old.disk_sets.items
   AsAsked w (Wait p number) old new = new.disk_sets.items ≡ old.disk_sets.items
   AsAsked w (Deliver number) old new = AllSameFailing old new
-  AsAsked w (Settle p s) old new = AllSameFailing old new
   AsAsked w other old new = Unit {0}
+
+  -- what a line that settles a link asks of the racks of all sites
+  abbrev pub AsSettled : ScriptLine → Yard R g → Yard R g → Type 0
+  AsSettled (Settle p s) old new = AllSameFailing old new
+  AsSettled other old new = Unit {0}
 
   -- What the calls of a line that was answered so leave of the fuse of its site.
   abbrev pub HasCalled : World → ScriptLine → Said → Yard R g → Yard R g → Type 0

@@ -3,7 +3,7 @@ ghost use Rattle.std.specs.Prelude.{◌≡◌, ◌*◌, IfOk, IsSome, min, repli
 ghost use Rattle.vx_history.specs.Doubts.{Doubted};
 ghost use Rattle.vx_events.specs.Parts.{goes_in_parts};
 ghost use Rattle.vx_node.specs.Carries.{Carries};
-ghost use Rattle.vx_node.specs.OfSites.{AsAsked, HasCalled};
+ghost use Rattle.vx_node.specs.OfSites.{AsAsked, AsSettled, HasCalled};
 ghost use Rattle.vx_node.specs.Lines.{is_built};
 ghost use Rattle.vx_node.specs.Standing.{AnswersIs, GoodFor, LeadsIs, LeadsOrStops, StandsFor};
 ghost use Rattle.vx_node.specs.Working.{IsFree, refused_in};
@@ -108,6 +108,7 @@ impl<R: Rack> Yard<R> {
         requires free { IsFree self.old words.now }
         ensures leads { (d : Doubted) → StandsFor d self.old → Carries d self.old → GoodFor d self.old → LeadsOrStops d words.now self.old self.new result }
         ensures asked { (d : Doubted) → StandsFor d self.old → AsAsked d.world words.now self.old self.new }
+        ensures settled { (d : Doubted) → StandsFor d self.old → Carries d self.old → GoodFor d self.old → AsSettled words.now self.old self.new }
         ensures called { (d : Doubted) → StandsFor d self.old → IfOk result (λ said. HasCalled d.world words.now said self.old self.new) }
         ensures told { IsTold self.new → IsTold self.old }
         ensures files { in_files self.new ≡ in_files self.old }
@@ -137,6 +138,7 @@ impl<R: Rack> Yard<R> {
         requires kept { IsKept self.old }
         ensures leads { (d : Doubted) → StandsFor d self.old → Carries d self.old → GoodFor d self.old → AnswersIs d words.now self.old self.new result }
         ensures asked { (d : Doubted) → StandsFor d self.old → IsFree self.old words.now → AsAsked d.world words.now self.old self.new }
+        ensures settled { (d : Doubted) → StandsFor d self.old → Carries d self.old → GoodFor d self.old → IsFree self.old words.now → AsSettled words.now self.old self.new }
         ensures called { (d : Doubted) → StandsFor d self.old → IsFree self.old words.now → IfOk result (λ said. HasCalled d.world words.now said self.old self.new) }
         // A line that is refused leaves all disks as they are.
         ensures still { IsSome (refused_in self.old words.now) → self.new.disk_sets ≡ self.old.disk_sets }

@@ -1,10 +1,10 @@
 -- What a line that no test refuses does.
 use Rattle.std.proofs.Common.{subst, sym}
 use Rattle.std.specs.Prelude.{IfOk}
-use Rattle.vx_node.specs.OfSites.{AsAsked, HasCalled}
+use Rattle.vx_node.specs.OfSites.{AsAsked, AsSettled, HasCalled}
 use Rattle.vx_node.specs.Standing.{LeadsOrStops}
 use Rattle.vx_node.specs.Working.{IsFree}
-use Rattle.vx_node.proofs.AnswerFor.{if_ok, leads_whole}
+use Rattle.vx_node.proofs.AnswerFor.{if_ok, leads_whole, other_settled}
 use Rattle.vx_node.proofs.Built.{goes_whole}
 use Rattle.vx_node.proofs.yard.Yard.perform.Goals as goal
 
@@ -19,7 +19,14 @@ returns-in-Settle-clause-leads g c = λ d stands carries good.
     subst (λ line. LeadsOrStops d line c.args.self.now c.settle_line.new.self c.settle_line.result) (sym c.in-Settle.is) (c.settle_line.ensures.leads d stands carries good)
 
 pub returns-in-Settle-clause-asked : goal.returns-in-Settle-clause-asked
-returns-in-Settle-clause-asked g c = λ d stands. subst (λ line. AsAsked d.world line c.args.self.now c.settle_line.new.self) (sym c.in-Settle.is) (c.settle_line.ensures.asked d stands)
+returns-in-Settle-clause-asked g c = λ d stands. subst (λ line. AsAsked d.world line c.args.self.now c.settle_line.new.self) (sym c.in-Settle.is) tt
+
+pub returns-in-Settle-clause-settled : goal.returns-in-Settle-clause-settled
+returns-in-Settle-clause-settled g c = λ d stands carries good.
+    subst (λ line. AsSettled line c.args.self.now c.settle_line.new.self) (sym c.in-Settle.is) (c.settle_line.ensures.asked d stands carries good)
+
+pub returns-in_default-clause-settled : goal.returns-in_default-clause-settled
+returns-in_default-clause-settled g c = λ d stands carries good. other_settled c.args.words.now c.args.self.now c.work.new.self (λ p s is. c.in_default.not-Settle p s is)
 
 pub returns-in-Settle-clause-called : goal.returns-in-Settle-clause-called
 returns-in-Settle-clause-called g c = λ d stands.
