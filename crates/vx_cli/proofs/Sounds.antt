@@ -14,7 +14,6 @@ use Rattle.vx_events.specs.Stopping.{StopsBy}
 use Rattle.vx_events.proofs.Noting.{links_like}
 use Rattle.vx_events.proofs.Parts.{told_part}
 use Rattle.vx_events.proofs.Stopping.{line_stops, runs_as}
-use Rattle.vx_node.specs.Lines.{script_line}
 use Rattle.vx_node.specs.Steps.{SaidStep}
 
 -- however its events end

@@ -36,7 +36,8 @@ fn is_built(line: &ScriptLine) -> bool
         | ScriptLine::Pump { .. }
         | ScriptLine::Tick { .. }
         | ScriptLine::Wait { .. }
-        | ScriptLine::Deliver { .. } => true,
+        | ScriptLine::Deliver { .. }
+        | ScriptLine::Settle { .. } => true,
         ScriptLine::Link { prot, .. } => is_fail(prot),
         ScriptLine::Set { prot, .. } => is_fail(prot),
         _ => false,

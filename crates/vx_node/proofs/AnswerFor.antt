@@ -10,7 +10,7 @@ use Rattle.vx_order.specs.Order.{refusal_of}
 use Rattle.vx_order.specs.Packets.{packet_unknown}
 use Rattle.vx_order.specs.declared.facts.SiteFacts.{SiteFacts}
 use Rattle.vx_script.specs.declared.line.ScriptLine.{ScriptLine}
-use Rattle.vx_script.specs.declared.line.ScriptLine.TheVariants.{Deliver}
+use Rattle.vx_script.specs.declared.line.ScriptLine.TheVariants.{Deliver, Settle}
 use Rattle.vx_events.specs.Parts.{StopsInPart}
 use Rattle.vx_events.proofs.Parts.{none_done}
 use Rattle.vx_events.specs.LinkedFacts.{refused_by}
@@ -19,7 +19,7 @@ use Rattle.vx_events.specs.Lines.{StepBy}
 use Rattle.vx_events.specs.declared.said.Said.{Said}
 use Rattle.vx_events.specs.declared.said.Said.TheVariants.{Refused}
 use Rattle.vx_node.specs.Carries.{Carries}
-use Rattle.vx_node.specs.OfSites.{HasCalled}
+use Rattle.vx_node.specs.OfSites.{AsSettled, HasCalled}
 use Rattle.vx_node.specs.Replies.{text_of}
 use Rattle.vx_node.specs.Standing.{AnswersFor, AnswersIs, LeadsIs, LeadsOrStops, StandsFor, StaysFor, StepsFor, StopsFor}
 use Rattle.vx_node.specs.Working.{IsFree, refused_in}
@@ -51,6 +51,11 @@ module _ {R : Type 0} {g : Ghosts R} where
   pub refused_other : (y : Yard R g) (line : ScriptLine) → ((number : ℕ) → line ≡ Deliver number → ⊥) → refusal_of y.facts.items (in_files y) line ≡ refused_in y line
   refused_other y (Deliver number) not = absurd (not number refl)
   refused_other y other not = refl
+
+  -- one that settles no link
+  pub other_settled : (line : ScriptLine) (old new : Yard R g) → ((p s : List ℕ) → line ≡ Settle p s → ⊥) → AsSettled line old new
+  other_settled (Settle p s) old new not = absurd (not p s refl)
+  other_settled other old new not = tt
 
   -- of a line for which memory was short before it began nothing is done
   stays_short : (d : Doubted) (line : ScriptLine) (old new : Yard R g) → StaysFor d old new → StopsFor d line old new

@@ -77,6 +77,14 @@ pub mod RiseBare
 pub mod RiseCases
 pub mod RecoverSite
 pub mod RiseNeeds
+pub mod StepWent
+pub mod WentThen
+pub mod WentOn
+pub mod Handing
+pub mod SettleSent
+pub mod SettleTurns
 pub mod HeardWorld
 pub mod HeardLine
 pub mod DeliverLine
+pub mod SettleEnds
+pub mod SettleLine

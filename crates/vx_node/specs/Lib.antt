@@ -21,3 +21,5 @@ pub mod Working
 pub mod Writes
 pub mod Yards
 pub mod Headed
+pub mod Settling
+pub mod Handing

@@ -1,10 +1,11 @@
 // What a line is answered.
-ghost use Rattle.std.specs.Prelude.{◌≡◌, ◌*◌, IfOk, IsSome, min, replicate, true};
+ghost use Rattle.std.specs.Prelude.{◌≡◌, ◌*◌, IfOk, IsSome, min, replicate, false, true};
 ghost use Rattle.vx_history.specs.Doubts.{Doubted};
+ghost use Rattle.vx_events.specs.Parts.{goes_in_parts};
 ghost use Rattle.vx_node.specs.Carries.{Carries};
-ghost use Rattle.vx_node.specs.OfSites.{AsAsked, HasCalled};
+ghost use Rattle.vx_node.specs.OfSites.{AsAsked, AsSettled, HasCalled};
 ghost use Rattle.vx_node.specs.Lines.{is_built};
-ghost use Rattle.vx_node.specs.Standing.{AnswersIs, GoodFor, LeadsIs, StandsFor};
+ghost use Rattle.vx_node.specs.Standing.{AnswersIs, GoodFor, LeadsIs, LeadsOrStops, StandsFor};
 ghost use Rattle.vx_node.specs.Working.{IsFree, refused_in};
 ghost use Rattle.vx_node.specs.Yards.{IsKept, IsTold, in_files};
 
@@ -26,9 +27,10 @@ fn filled(alloc: Global, count: u64, fill: u8) -> Result<Vec<u8>, OutOfMemory>
 }
 
 impl<R: Rack> Yard<R> {
-    // Does a line that no test refuses.
+    // Does a line that no test refuses, whole or not at all.
     fn work(&mut self, alloc: Global, words: &ScriptLine) -> Result<Said, OutOfMemory>
         requires built { is_built words.now ≡ true }
+        requires whole { goes_in_parts words.now ≡ false }
         requires kept { IsKept self.old }
         requires free { IsFree self.old words.now }
         ensures leads { (d : Doubted) → StandsFor d self.old → Carries d self.old → GoodFor d self.old → LeadsIs d words.now self.old self.new result }
@@ -94,13 +96,33 @@ impl<R: Rack> Yard<R> {
             | ScriptLine::Pump { .. }
             | ScriptLine::Tick { .. }
             | ScriptLine::Wait { .. } => self.work_link(alloc, words),
-            // A line that is not built.
+            // A line that goes in parts, or is not built.
             _ => unreachable!(),
         }
     }
 
+    // Does a line that no test refuses. One that goes in parts may be done in part.
+    fn perform(&mut self, alloc: Global, words: &ScriptLine) -> Result<Said, OutOfMemory>
+        requires built { is_built words.now ≡ true }
+        requires kept { IsKept self.old }
+        requires free { IsFree self.old words.now }
+        ensures leads { (d : Doubted) → StandsFor d self.old → Carries d self.old → GoodFor d self.old → LeadsOrStops d words.now self.old self.new result }
+        ensures asked { (d : Doubted) → StandsFor d self.old → AsAsked d.world words.now self.old self.new }
+        ensures settled { (d : Doubted) → StandsFor d self.old → Carries d self.old → GoodFor d self.old → AsSettled words.now self.old self.new }
+        ensures called { (d : Doubted) → StandsFor d self.old → IfOk result (λ said. HasCalled d.world words.now said self.old self.new) }
+        ensures told { IsTold self.new → IsTold self.old }
+        ensures files { in_files self.new ≡ in_files self.old }
+    {
+        match words {
+            ScriptLine::Settle { primary, secondary } => {
+                self.settle_line(alloc, primary, secondary)
+            }
+            _ => self.work(alloc, words),
+        }
+    }
+
     // The first refusal of a line in the one order, if there is one.
-    fn refusal(&self, words: &ScriptLine) -> Option<No>
+    pub(crate) fn refusal(&self, words: &ScriptLine) -> Option<No>
         ensures { result ≡ refused_in self.now words.now }
     {
         let files = self.dir.is_some();
@@ -116,6 +138,7 @@ impl<R: Rack> Yard<R> {
         requires kept { IsKept self.old }
         ensures leads { (d : Doubted) → StandsFor d self.old → Carries d self.old → GoodFor d self.old → AnswersIs d words.now self.old self.new result }
         ensures asked { (d : Doubted) → StandsFor d self.old → IsFree self.old words.now → AsAsked d.world words.now self.old self.new }
+        ensures settled { (d : Doubted) → StandsFor d self.old → Carries d self.old → GoodFor d self.old → IsFree self.old words.now → AsSettled words.now self.old self.new }
         ensures called { (d : Doubted) → StandsFor d self.old → IsFree self.old words.now → IfOk result (λ said. HasCalled d.world words.now said self.old self.new) }
         // A line that is refused leaves all disks as they are.
         ensures still { IsSome (refused_in self.old words.now) → self.new.disk_sets ≡ self.old.disk_sets }
@@ -124,7 +147,7 @@ impl<R: Rack> Yard<R> {
     {
         match self.refusal(words) {
             Some(no) => Ok(Said::Refused(no)),
-            None => self.work(alloc, words),
+            None => self.perform(alloc, words),
         }
     }
 }

@@ -15,6 +15,7 @@ mod errors;
 mod facts;
 mod folder;
 mod fuse;
+mod going;
 mod hearing;
 mod joins;
 pub mod laws;
@@ -35,11 +36,17 @@ mod resume;
 mod rooms;
 pub mod sent;
 mod set;
+mod settle;
+mod settle_packets;
+mod settle_turns;
+mod settled;
 mod shown;
 mod status;
 mod text;
 mod tick;
 mod wait;
+
+mod whole;
 mod write;
 mod yard;
 

@@ -5,7 +5,7 @@ ghost use Rattle.vx_history.specs.Doubts.{Doubted};
 ghost use Rattle.vx_history.specs.World.{empty_world};
 ghost use Rattle.vx_events.specs.Doubts.{sure};
 ghost use Rattle.vx_node.specs.Carries.{Carries};
-ghost use Rattle.vx_node.specs.OfSites.{AsAsked};
+ghost use Rattle.vx_node.specs.OfSites.{AsAsked, AsSettled};
 ghost use Rattle.vx_node.specs.Holds.{AreFresh, RacksHold, RacksTell, rack_faults};
 ghost use Rattle.vx_node.specs.Lines.{is_built};
 ghost use Rattle.vx_node.specs.Standing.{LineFor, Serves, StandsFor};
@@ -95,6 +95,8 @@ impl<R: Rack> Yard<R> {
         ensures line { (d : Doubted) → Serves d self.old → LineFor d words.now self.old self.new (O.written out.old) (O.written out.new) result }
         // What the line asks of the rack of its site: a disk, a number of calls or a pick.
         ensures asked { (d : Doubted) → StandsFor d self.old → IsFree self.old words.now → AsAsked d.world words.now self.old self.new }
+        // One that settles a link asks no disk of any site to fail or to work.
+        ensures settled { (d : Doubted) → Serves d self.old → IsFree self.old words.now → AsSettled words.now self.old self.new }
         // A line that is refused leaves all disks as they are.
         ensures still { IsSome (refused_in self.old words.now) → self.new.disk_sets ≡ self.old.disk_sets }
         ensures told { IsTold self.new → IsTold self.old }

@@ -8,3 +8,6 @@ pub mod Ends
 pub mod Named
 pub mod Moving
 pub mod Working
+pub mod Burning
+pub mod WithinLines
+pub mod WithinApply

@@ -3,3 +3,4 @@ pub mod Turning
 pub mod Ending
 pub mod Between
 pub mod Works
+pub mod Burnt

@@ -36,3 +36,15 @@ returns-clause-line g c = λ d s.
       bytes.3,
       bytes.4,
     )
+
+pub returns-in_default-clause-settled : goal.returns-in_default-clause-settled
+returns-in_default-clause-settled g c = λ d s free. c.in_default.ensures.settled d s.stands s.carries s.good free
+
+pub returns-in_default-replied-clause-settled : goal.returns-in_default-replied-clause-settled
+returns-in_default-replied-clause-settled g c = λ d s free. c.in-Ok.ensures.settled d s.stands s.carries s.good free
+
+pub returns-in-Ok-send-clause-settled : goal.returns-in-Ok-send-clause-settled
+returns-in-Ok-send-clause-settled g c = λ d s free. c.in-Ok.ensures.settled d s.stands s.carries s.good free
+
+pub returns-clause-settled : goal.returns-clause-settled
+returns-clause-settled g c = λ d s free. c.in-Ok.ensures.settled d s.stands s.carries s.good free

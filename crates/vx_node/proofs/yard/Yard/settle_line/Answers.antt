@@ -1,0 +1,45 @@
+-- What is tested before the link is connected.
+use Rattle.std.proofs.Common.{◌≡◌, refl}
+use Rattle.vx_script.specs.declared.line.ScriptLine.TheVariants.{Settle}
+use Rattle.vx_node.proofs.NamedSite.{site_at}
+use Rattle.vx_node.proofs.OfSites.{all_still}
+use Rattle.vx_node.proofs.SettleLine.{begins, still}
+use Rattle.vx_node.proofs.yard.Yard.settle_line.Goals as goal
+
+pub returns-in_default-clause-leads : goal.returns-in_default-clause-leads
+returns-in_default-clause-leads g c = λ d stands carries good. still d (Settle c.args.first.now c.args.second.now) c.args.self.now stands
+
+pub returns-in_default-clause-asked : goal.returns-in_default-clause-asked
+returns-in_default-clause-asked g c = λ d stands carries good. all_still c.args.self.now c.args.self.now refl
+
+pub returns-in_default-number_of-clause-leads : goal.returns-in_default-number_of-clause-leads
+returns-in_default-number_of-clause-leads g c = λ d stands carries good. still d (Settle c.args.first.now c.args.second.now) c.args.self.now stands
+
+pub returns-in_default-number_of-clause-asked : goal.returns-in_default-number_of-clause-asked
+returns-in_default-number_of-clause-asked g c = λ d stands carries good. all_still c.args.self.now c.args.self.now refl
+
+pub returns-then-not-takes-clause-leads : goal.returns-then-not-takes-clause-leads
+returns-then-not-takes-clause-leads g c = λ d stands carries good. still d (Settle c.args.first.now c.args.second.now) c.args.self.now stands
+
+pub returns-then-not-takes-clause-asked : goal.returns-then-not-takes-clause-asked
+returns-then-not-takes-clause-asked g c = λ d stands carries good. all_still c.args.self.now c.args.self.now refl
+
+pub returns-clause-leads : goal.returns-clause-leads
+returns-clause-leads g c = λ d stands carries good.
+    let y = c.args.self.now in
+    let p = c.args.first.now in
+    let q = c.args.second.now in
+    let a = c.in-Some.here in
+    let b = c.in-Some-number_of.there in
+    let seat = c.in-Some-number_of.ensures in
+    c.settle_begun.ensures.leads d stands carries (begins d y p q a b stands carries good c.requires.free c.in-Some.ensures seat (c.takes.ensures d stands (site_at d y q b stands seat).below c.if-not-takes.false))
+
+pub returns-clause-asked : goal.returns-clause-asked
+returns-clause-asked g c = λ d stands carries good.
+    let y = c.args.self.now in
+    let p = c.args.first.now in
+    let q = c.args.second.now in
+    let a = c.in-Some.here in
+    let b = c.in-Some-number_of.there in
+    let seat = c.in-Some-number_of.ensures in
+    c.settle_begun.ensures.asked d (begins d y p q a b stands carries good c.requires.free c.in-Some.ensures seat (c.takes.ensures d stands (site_at d y q b stands seat).below c.if-not-takes.false))

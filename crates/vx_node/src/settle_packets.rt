@@ -1,0 +1,122 @@
+// The packets of a link that is settled, delivered in their order.
+ghost use Rattle.std.specs.Prelude.{◌≡◌, ◌==◌, ◌&&◌, ◌<◌, ◌≤◌, ℕ, IfSome, Some, drop, length};
+ghost use Rattle.vx_courier.specs.UnderWay.{part_carried};
+ghost use Rattle.vx_history.specs.Doubts.{Doubted};
+ghost use Rattle.vx_history.specs.Settling.{deliver_between, delivery};
+ghost use Rattle.vx_history.specs.World.{World};
+ghost use Rattle.vx_node.specs.Handing.{handed, way_by};
+ghost use Rattle.vx_node.specs.Settling.{SettlesFor, WentFor};
+ghost use Rattle.vx_node.specs.Yards.{IsTold, in_files};
+
+use crate::Yard;
+use crate::going::Went;
+use std::alloc::Global;
+use vx_courier::part_at;
+use vx_disk::Rack;
+use vx_model::Name;
+use vx_net::Net;
+use vx_packet::Part;
+
+// The kind of the packets that carry an update.
+const UPDATE: u8 = 2;
+
+// Whether a packet goes between two sites as settling has it: from the first an update, from the second what is none. None where it goes otherwise.
+fn way(forth: bool, back: bool, update: bool) -> Option<bool>
+    ensures { result ≡ way_by forth back update }
+{
+    if forth {
+        return if update { Some(true) } else { None };
+    }
+    if back {
+        return if update { None } else { Some(true) };
+    }
+    Some(false)
+}
+
+fn way_of(part: &Part, here: u32, there: u32) -> Option<bool>
+    ensures { result ≡ way_by ((part.now.source == here) && (part.now.target == there)) ((part.now.source == there) && (part.now.target == here)) (part.now.kind == 2) }
+{
+    let forth = part.source == here && part.target == there;
+    let back = part.source == there && part.target == here;
+    way(forth, back, part.kind == UPDATE)
+}
+
+impl<R: Rack> Yard<R> {
+    // The packet behind so many, delivered where it goes between the two sites. One that the network has let go, or that settling does not send, ends it as
+    // want of memory does.
+    fn hand_next(
+        &mut self,
+        alloc: Global,
+        first: &Name,
+        second: &Name,
+        here: u32,
+        there: u32,
+        past: u64,
+    ) -> Went
+        requires small { past < 0xffff_ffff_ffff_ffff }
+        ensures went { (d : Doubted) → SettlesFor first.now second.now here there d self.old → past < length d.world.packets → WentFor first.now second.now here there d (handed here there past d.world.packets) self.old self.new result }
+        ensures told { IsTold self.new → IsTold self.old }
+        ensures files { in_files self.new ≡ in_files self.old }
+    {
+        let Some(part) = part_at(&self.flight, past + 1) else {
+            return Went::Short;
+        };
+        let Some(goes) = way_of(&part, here, there) else {
+            return Went::Short;
+        };
+        if !goes {
+            return Went::On;
+        }
+        self.deliver_step(alloc, first, second, past + 1)
+    }
+
+    /// The packets behind so many that go between the two sites.
+    pub(crate) fn deliver_sent(
+        &mut self,
+        alloc: Global,
+        first: &Name,
+        second: &Name,
+        here: u32,
+        there: u32,
+        before: u64,
+    ) -> Went
+        ensures went { (d : Doubted) → SettlesFor first.now second.now here there d self.old → before ≤ length d.world.packets
+            → WentFor first.now second.now here there d (deliver_between here there before (drop before d.world.packets)) self.old self.new result }
+        ensures told { IsTold self.new → IsTold self.old }
+        ensures files { in_files self.new ≡ in_files self.old }
+    {
+        let end = self.flight.count();
+        if end < before {
+            return Went::Short;
+        }
+        for done in 0..end - before {
+            match self.hand_next(alloc, first, second, here, there, before + done) {
+                Went::On => {}
+                other => return other,
+            }
+        }
+        Went::On
+    }
+
+    /// Those behind so many, and then what was sent in answer to them.
+    pub(crate) fn deliver_all(
+        &mut self,
+        alloc: Global,
+        first: &Name,
+        second: &Name,
+        here: u32,
+        there: u32,
+        before: u64,
+    ) -> Went
+        ensures went { (d : Doubted) (w : World) → SettlesFor first.now second.now here there d self.old → length w.packets ≡ before → before ≤ length d.world.packets
+            → WentFor first.now second.now here there d (delivery here there w d.world) self.old self.new result }
+        ensures told { IsTold self.new → IsTold self.old }
+        ensures files { in_files self.new ≡ in_files self.old }
+    {
+        let sent = self.flight.count();
+        match self.deliver_sent(alloc, first, second, here, there, before) {
+            Went::On => self.deliver_sent(alloc, first, second, here, there, sent),
+            other => other,
+        }
+    }
+}
